@@ -1,0 +1,9 @@
+pub mod Accepted
+pub mod Fronts
+pub mod Vectors
+pub mod WordLaws
+pub mod BitLaws
+pub mod LayoutLaws
+pub mod BytesLaws
+pub mod RunLaws
+pub mod ZeroLaws

@@ -1,0 +1,16 @@
+pub mod Bytes
+pub mod Rules
+pub mod Spans
+pub mod Answer
+pub mod Elf
+pub mod Image
+pub mod Symbols
+pub mod Word
+pub mod Reading
+pub mod Class
+pub mod Layout
+pub mod Arith
+pub mod State
+pub mod Service
+pub mod Step
+pub mod Run

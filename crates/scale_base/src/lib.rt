@@ -1,0 +1,32 @@
+//! The types that the crates share, with the image of an ELF file, the meaning of a word of RV32IM, and the run of an
+//! image.
+#![tactic(auto)]
+
+ghost use Rattle.std.specs.Prelude.{◌≡◌, ℕ, ◌^◌, ◌<◌, ◌↔◌, Some};
+ghost use Rattle.scale_base.specs.Word.{Encodes};
+ghost use Rattle.scale_base.specs.Reading.{instr_of};
+
+mod headers;
+mod instruction;
+mod names;
+mod ranges;
+mod refusal;
+mod stepping;
+mod summary;
+
+pub use headers::{ProgramHeader, SectionHeader};
+pub use instruction::{BranchOp, ImmOp, Instr, LoadOp, RegOp, StoreOp};
+pub use names::Name;
+pub use ranges::{Keyed, Patch, Range, Span, TextPart};
+pub use refusal::{Field, NoMemory, Refusal, Stop};
+pub use stepping::{Class, Move, StepEnd, Stepped, Trap, TrapKind};
+pub use summary::Summary;
+
+/// A word stands for at most one instruction, an instruction has at most one word, and reading a word by its
+/// fields gives what it stands for.
+pub fn words_and_instructions()
+    ensures one_instruction { (word : ℕ) (i j : Instr) → Encodes word i → Encodes word j → i ≡ j }
+    ensures one_word { (v w : ℕ) (i : Instr) → Encodes v i → Encodes w i → v ≡ w }
+    ensures small { (word : ℕ) (i : Instr) → Encodes word i → word < 2 ^ 32 }
+    ensures read { (word : ℕ) (i : Instr) → word < 2 ^ 32 → (instr_of word ≡ Some i) ↔ Encodes word i }
+{}

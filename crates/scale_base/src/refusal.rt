@@ -1,0 +1,111 @@
+//! Why a call has no answer.
+
+ghost use Rattle.std.specs.Prelude.{◌≡◌};
+ghost use Rattle.scale_base.specs.declared.refusal.Stop.TheVariants.{Memory, Refused};
+
+use crate::names::Name;
+use std::alloc::{AllocError, AllocFailed};
+
+/// The fields of an ELF header that are tested, in the order of the tests (System V ABI, chapter 4, `Elf32_Ehdr`).
+#[derive(Clone, Copy, Debug, PartialEq, Eq)]
+pub enum Field {
+    Class,
+    Encoding,
+    Version,
+    Kind,
+    Machine,
+    Flags,
+    PhEntSize,
+    PhNum,
+    ShEntSize,
+}
+
+/// Memory ran out.
+#[derive(Clone, Copy, Debug, PartialEq, Eq)]
+pub struct NoMemory;
+
+/// Why a call stopped.
+#[derive(Drop)]
+pub enum Stop {
+    Refused(Refusal),
+    Memory,
+}
+
+/// The first thing that is wrong with the files of a command.
+#[derive(Drop)]
+pub enum Refusal {
+    /// The first four bytes aren't those of an ELF file.
+    NotElf,
+    /// A field of the header has a value that isn't supported.
+    UnsupportedElf(Field),
+    /// The header, a table or the file part of a segment passes the end of the file.
+    TruncatedElf,
+    /// There is an entry for a dynamic section or for an interpreter.
+    DynamicImage,
+    /// A rule for segments is broken: the least entry up to which one is.
+    BadSegment(u32),
+    /// A rule for text is broken: the start of the first bad range, or 0 where there is no text.
+    BadText(u32),
+    /// The segment of a text range may be written: the start of the least such range.
+    WritableText(u32),
+    /// The image has a keyed segment.
+    AlreadyScaled,
+    /// The machine file isn't a TOML document.
+    MachineText,
+    /// A key of the machine file is missing or unknown.
+    MachineKey(Name),
+    /// A value of the machine file has another type or range.
+    MachineValue(Name),
+    /// The first level, from 1, whose period isn't below or whose energy isn't above that of the one before.
+    LevelOrder(u32),
+    /// The time units that the worst case needs at the fastest level, and those of the deadline.
+    DeadlineMissed(u128, u64),
+    /// A loaded file is longer than its limit.
+    TooLarge(Name),
+    /// The program isn't of a form that is built by now: the first address at which it isn't.
+    NotYet(u32),
+}
+
+impl From<Refusal> for Stop {
+    ghost from_gives = { λ refusal stop. stop ≡ Refused refusal };
+
+    fn from(refusal: Refusal) -> Stop {
+        Stop::Refused(refusal)
+    }
+}
+
+impl From<AllocError> for Stop {
+    ghost from_gives = { λ _ stop. stop ≡ Memory };
+
+    fn from(_error: AllocError) -> Stop {
+        Stop::Memory
+    }
+}
+
+impl<T: Drop> From<AllocFailed<T>> for Stop {
+    ghost from_gives = { λ _ stop. stop ≡ Memory };
+
+    fn from(_error: AllocFailed<T>) -> Stop {
+        Stop::Memory
+    }
+}
+
+impl From<NoMemory> for Stop {
+    ghost from_gives = { λ _ stop. stop ≡ Memory };
+
+    fn from(_error: NoMemory) -> Stop {
+        Stop::Memory
+    }
+}
+
+impl From<AllocError> for NoMemory {
+    fn from(_error: AllocError) -> NoMemory {
+        NoMemory
+    }
+}
+
+impl<T: Drop> From<AllocFailed<T>> for NoMemory {
+    fn from(_error: AllocFailed<T>) -> NoMemory {
+        NoMemory
+    }
+}
