@@ -1,0 +1,10 @@
+pub mod Booleans
+pub mod Below
+pub mod First
+pub mod LoadedLemmas
+pub mod TextLemmas
+pub mod RangesLemmas
+pub mod Whole
+pub mod SymbolLemmas
+pub mod TextWords
+pub mod AscendingLemmas

@@ -1,0 +1,19 @@
+//! Reads ELF images, borrowed from their bytes.
+#![tactic(auto)]
+
+mod fields;
+mod header;
+mod ranges;
+mod segments;
+mod symbols;
+mod tables;
+mod text;
+mod view;
+
+pub use scale_base::Keyed;
+pub use segments::{end_of, overlaps};
+pub use tables::{program_header_count, read_program_header};
+pub use view::{ImageView, Segment, read_image};
+
+#[cfg(test)]
+mod tests;

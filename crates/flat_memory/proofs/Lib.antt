@@ -1,0 +1,6 @@
+pub mod Chosen
+pub mod BlockLaws
+pub mod OrderLaws
+pub mod ListLaws
+pub mod PlacedLaws
+pub mod LoadLaws

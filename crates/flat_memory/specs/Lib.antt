@@ -1,0 +1,4 @@
+pub mod Blocks
+pub mod Ordered
+pub mod Lists
+pub mod Loaded

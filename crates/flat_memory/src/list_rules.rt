@@ -1,0 +1,77 @@
+//! A memory of lists keeps the laws of a memory.
+
+ghost use Rattle.std.specs.Prelude.{◌≡◌, ◌&&◌, ◌||◌, not, map, IsTrue};
+ghost use Rattle.std.specs.List.{list_any};
+ghost use Rattle.scale_base.specs.Image as image;
+ghost use Rattle.scale_base.specs.Layout as rules;
+ghost use Rattle.flat_memory.specs.Lists.{list_bytes, list_layout};
+
+use crate::block_list;
+use crate::list_memory::ListMemory;
+use crate::memory::Memory;
+use crate::text_ranges::in_text;
+use scale_base::Range;
+
+const PF_W: u32 = 2;
+
+const PF_R: u32 = 4;
+
+const STACK: u32 = 0x7FFC_0000;
+
+fn in_stack(at: u32) -> bool
+    ensures { result ≡ rules.in_stack at }
+{
+    at >= STACK && at < 0x8000_0000
+}
+
+fn is_in(range: &Range, at: u32) -> bool
+    ensures { result ≡ image.is_in at range.now }
+{
+    range.from <= at && at < range.to
+}
+
+impl Memory for ListMemory {
+    ghost bytes = { list_bytes };
+
+    ghost layout = { list_layout };
+
+    #[tactic(auto, unfolding(crate::specs::Lists::memory_byte))]
+    fn byte(&self, at: u32) -> u8 {
+        if in_stack(at) {
+            self.stack[(at - STACK) as usize]
+        } else {
+            block_list::byte_in(&self.blocks, at)
+        }
+    }
+
+    #[tactic(auto, using(crate::proofs::ListLaws::stack_written, crate::proofs::ListLaws::blocks_written, crate::proofs::BlockLaws::whole_again))]
+    fn set_byte(&mut self, at: u32, value: u8) {
+        if in_stack(at) {
+            self.stack[(at - STACK) as usize] = value;
+        } else {
+            block_list::put_in(&mut self.blocks, at, value);
+        }
+    }
+
+    #[tactic(auto, using(crate::proofs::BlockLaws::readable_in_parts), unfolding(scale_base::specs::Layout::may_read))]
+    fn may_read(&self, at: u32) -> bool {
+        in_stack(at) || block_list::allows(&self.blocks, PF_R, at) && !in_text(&self.text, at)
+    }
+
+    #[tactic(auto, using(crate::proofs::BlockLaws::writable_in_parts), unfolding(scale_base::specs::Layout::may_write))]
+    fn may_write(&self, at: u32) -> bool {
+        in_stack(at) || block_list::allows(&self.blocks, PF_W, at) && !in_text(&self.text, at)
+    }
+
+    #[tactic(auto, unfolding(scale_base::specs::Layout::may_fetch))]
+    fn may_fetch(&self, at: u32) -> bool {
+        in_text(&self.text, at)
+    }
+
+    fn is_keyed(&self, at: u32) -> bool {
+        match &self.keyed {
+            Some(range) => is_in(range, at),
+            None => false,
+        }
+    }
+}

@@ -1,0 +1,16 @@
+//! The outside of a program: named files and printed bytes, behind one trait.
+#![tactic(auto)]
+
+mod host;
+mod mem_host;
+mod never_fails;
+mod real_host;
+mod stored;
+#[cfg(test)]
+mod tests;
+
+pub use host::{Host, HostError, Loaded};
+pub use mem_host::MemHost;
+pub use never_fails::NeverFails;
+pub use real_host::RealHost;
+pub use scale_base::NoMemory;

@@ -1,0 +1,32 @@
+//! Reads machine files: the costs, the levels and the deadline of a machine, in TOML.
+#![tactic(auto)]
+
+ghost use Rattle.std.specs.Prelude.{IfOk};
+ghost use Rattle.scale_base.specs.Answer.{Answers};
+ghost use Rattle.power_model.specs.Numbers.{IsPowerModel};
+ghost use Rattle.machine_file.specs.Machine.{read_machine};
+
+mod levels;
+mod place;
+mod reads;
+
+pub use power_model::{Costs, Level, Levels, Power};
+use reads::machine;
+use scale_base::{Refusal, Stop};
+use std::alloc::Global;
+
+/// Reads a machine file. The first thing that is wrong with it is refused: the text, the version, a missing key, an
+/// unknown key, a value, the costs, a level, the order of the levels.
+#[tactic(auto, unfolding(crate::specs::Machine::read_machine))]
+pub fn read_machine(alloc: Global, bytes: &[u8]) -> Result<Power, Stop>
+    ensures answers { Answers (λ power. power) result (read_machine bytes.now) }
+    ensures in_range { IfOk result IsPowerModel }
+{
+    match table_keys::document(alloc, bytes)? {
+        Some(table) => machine(alloc, &table),
+        None => Err(Stop::Refused(Refusal::MachineText)),
+    }
+}
+
+#[cfg(test)]
+mod tests;

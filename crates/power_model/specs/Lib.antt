@@ -1,0 +1,6 @@
+pub mod Levels
+pub mod Numbers
+pub mod Price
+pub mod Slowest
+pub mod Inside
+pub mod MeterInside

@@ -1,0 +1,5 @@
+pub mod Keyless
+pub mod EmptyKey
+pub mod KeylessRuns
+pub mod RegisterLaws
+pub mod StepLaws

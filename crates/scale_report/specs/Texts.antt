@@ -1,0 +1,75 @@
+-- The texts that the program prints, byte for byte. Each line ends with one line feed. Numbers are decimal, without leading zeros;
+-- an address is `0x` and eight lower-case hexadecimal digits.
+use Rattle.std.specs.Prelude.{codes, ℕ, zero, suc, ◌+◌, ◌/◌, ◌%◌, nat_lt, if◌then◌else◌, List, [], ◌∷◌, ◌++◌}
+use Rattle.std.specs.Fmt.{decimal}
+use Rattle.scale_base.specs.declared.summary.Summary.{Summary}
+use Rattle.scale_base.specs.declared.refusal.Field.{Field}
+use Rattle.scale_base.specs.declared.refusal.Field.TheVariants as field
+use Rattle.scale_base.specs.declared.refusal.Refusal.{Refusal}
+use Rattle.scale_base.specs.declared.refusal.Refusal.TheVariants as refusal
+
+-- a line of some words and a number
+unfoldable pub number_line : List ℕ → ℕ → List ℕ
+number_line words n = words ++ decimal n ++ 10 ∷ []
+
+-- the line of the worst time and the deadline
+unfoldable pub times_line : ℕ → ℕ → List ℕ
+times_line time deadline = codes "worst time " ++ decimal time ++ codes " of " ++ decimal deadline ++ 10 ∷ []
+
+-- the summary
+abbrev pub summary_text : Summary → List ℕ
+summary_text s =
+    number_line (codes "start level ") s.start
+    ++ number_line (codes "worst cycles ") s.worst
+    ++ times_line s.time s.deadline
+    ++ number_line (codes "stub cycles at most ") s.stub_cycles
+    ++ number_line (codes "switch edges ") s.switch_edges
+    ++ number_line (codes "exit edges ") s.exit_edges
+    ++ number_line (codes "count edges ") s.count_edges
+    ++ number_line (codes "stub bytes ") s.stub_bytes
+
+-- the hexadecimal digit of a number below 16
+abbrev pub hex_digit : ℕ → ℕ
+hex_digit n = if nat_lt n 10 then 48 + n else 87 + n
+
+-- the last hexadecimal digits of a number, so many
+unfoldable pub hex_digits : ℕ → ℕ → List ℕ
+hex_digits zero n = []
+hex_digits (suc k) n = hex_digits k (n / 16) ++ hex_digit (n % 16) ∷ []
+
+unfoldable pub address : ℕ → List ℕ
+address n = codes "0x" ++ hex_digits 8 n
+
+-- the name of a field of an ELF header
+abbrev pub field_name : Field → List ℕ
+field_name field.Class = codes "class"
+field_name field.Encoding = codes "data"
+field_name field.Version = codes "version"
+field_name field.Kind = codes "type"
+field_name field.Machine = codes "machine"
+field_name field.Flags = codes "flags"
+field_name field.PhEntSize = codes "phentsize"
+field_name field.PhNum = codes "phnum"
+field_name field.ShEntSize = codes "shentsize"
+
+-- what a refusal says, with its number
+abbrev pub refusal_words : Refusal → List ℕ
+refusal_words refusal.NotElf = codes "1 not an ELF file"
+refusal_words (refusal.UnsupportedElf f) = codes "2 unsupported ELF: " ++ field_name f
+refusal_words refusal.TruncatedElf = codes "3 truncated ELF"
+refusal_words refusal.DynamicImage = codes "4 dynamic image"
+refusal_words (refusal.BadSegment k) = codes "5 bad segment: header " ++ decimal k
+refusal_words (refusal.BadText a) = codes "6 bad text at " ++ address a
+refusal_words (refusal.WritableText a) = codes "7 writable text at " ++ address a
+refusal_words refusal.AlreadyScaled = codes "8 already scaled"
+refusal_words refusal.MachineText = codes "10 machine file text"
+refusal_words (refusal.MachineKey name) = codes "11 machine file key " ++ name
+refusal_words (refusal.MachineValue name) = codes "12 machine file value " ++ name
+refusal_words (refusal.LevelOrder k) = codes "13 level order " ++ decimal k
+refusal_words (refusal.DeadlineMissed need have) = codes "41 deadline missed: need " ++ decimal need ++ codes " have " ++ decimal have
+refusal_words (refusal.TooLarge name) = codes "50 too large: " ++ name
+refusal_words (refusal.NotYet a) = codes "60 not yet at " ++ address a
+
+-- the line of a refusal
+abbrev pub refusal_text : Refusal → List ℕ
+refusal_text r = codes "refused " ++ refusal_words r ++ 10 ∷ []

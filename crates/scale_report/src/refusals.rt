@@ -1,0 +1,38 @@
+//! The words of each refusal.
+
+use crate::words::{Address, FieldName};
+use scale_base::Refusal;
+use std::fmt;
+
+/// What a refusal says, with its number.
+#[derive(Clone, Copy)]
+pub struct RefusalWords<'a>(pub &'a Refusal);
+
+impl fmt::Display for RefusalWords<'_> {
+    ghost use Rattle.std.specs.Prelude.{Some};
+    ghost use Rattle.scale_report.specs.Texts.{refusal_words};
+
+    ghost output = { λ words. Some (refusal_words words.0.now) };
+
+    fn fmt<W: fmt::Write>(&self, f: &mut fmt::Formatter<W>) -> fmt::Result {
+        match self.0 {
+            Refusal::NotElf => write!(f, "1 not an ELF file"),
+            Refusal::UnsupportedElf(field) => write!(f, "2 unsupported ELF: {}", FieldName(*field)),
+            Refusal::TruncatedElf => write!(f, "3 truncated ELF"),
+            Refusal::DynamicImage => write!(f, "4 dynamic image"),
+            Refusal::BadSegment(header) => write!(f, "5 bad segment: header {header}"),
+            Refusal::BadText(at) => write!(f, "6 bad text at {}", Address(*at)),
+            Refusal::WritableText(at) => write!(f, "7 writable text at {}", Address(*at)),
+            Refusal::AlreadyScaled => write!(f, "8 already scaled"),
+            Refusal::MachineText => write!(f, "10 machine file text"),
+            Refusal::MachineKey(name) => write!(f, "11 machine file key {}", name.text()),
+            Refusal::MachineValue(name) => write!(f, "12 machine file value {}", name.text()),
+            Refusal::LevelOrder(index) => write!(f, "13 level order {index}"),
+            Refusal::DeadlineMissed(need, have) => {
+                write!(f, "41 deadline missed: need {need} have {have}")
+            }
+            Refusal::TooLarge(name) => write!(f, "50 too large: {}", name.text()),
+            Refusal::NotYet(at) => write!(f, "60 not yet at {}", Address(*at)),
+        }
+    }
+}

@@ -1,0 +1,46 @@
+//! How addresses and field names are printed.
+
+use scale_base::Field;
+use std::fmt;
+
+/// An address: `0x` and eight lower-case hexadecimal digits.
+#[derive(Clone, Copy)]
+pub struct Address(pub u32);
+
+impl fmt::Display for Address {
+    ghost use Rattle.std.specs.Prelude.{Some};
+    ghost use Rattle.scale_report.specs.Texts.{address};
+
+    ghost output = { λ a. Some (address a.0) };
+
+    #[tactic(auto, unfolding(crate::specs::Texts::address), using(crate::proofs::Hex::shown_address))]
+    fn fmt<W: fmt::Write>(&self, f: &mut fmt::Formatter<W>) -> fmt::Result {
+        let at = self.0;
+        write!(f, "0x{at:08x}")
+    }
+}
+
+/// The name of a field of an ELF header.
+#[derive(Clone, Copy)]
+pub struct FieldName(pub Field);
+
+impl fmt::Display for FieldName {
+    ghost use Rattle.std.specs.Prelude.{Some};
+    ghost use Rattle.scale_report.specs.Texts.{field_name};
+
+    ghost output = { λ name. Some (field_name name.0) };
+
+    fn fmt<W: fmt::Write>(&self, f: &mut fmt::Formatter<W>) -> fmt::Result {
+        match self.0 {
+            Field::Class => write!(f, "class"),
+            Field::Encoding => write!(f, "data"),
+            Field::Version => write!(f, "version"),
+            Field::Kind => write!(f, "type"),
+            Field::Machine => write!(f, "machine"),
+            Field::Flags => write!(f, "flags"),
+            Field::PhEntSize => write!(f, "phentsize"),
+            Field::PhNum => write!(f, "phnum"),
+            Field::ShEntSize => write!(f, "shentsize"),
+        }
+    }
+}

@@ -1,0 +1,37 @@
+-- The commands: their words, what each loads, and the statuses that it may answer.
+use Rattle.std.specs.Prelude.{ℕ, List, [], ◌∷◌, map, Option, Some, None, if◌then◌else◌, bytes_eq, codes, String, string_bytes, Bool, true, false, ◌==◌, ◌||◌, ◌&&◌, nat_le}
+use Rattle.std.specs.declared.alloc.Global.{Global}
+
+pub data Command : Type 0 where
+  Hold : (image machine loops out : List ℕ) → Command
+
+-- the words of a command line as texts
+abbrev pub texts : List (String Global) → List (List ℕ)
+texts words = map (λ word. string_bytes word) words
+
+abbrev pub hold_of : List (List ℕ) → Option Command
+hold_of (image ∷ machine ∷ loops ∷ out ∷ []) = Some (Hold image machine loops out)
+hold_of words = None
+
+-- the command that these words are, if they are one
+abbrev pub command_of : List (List ℕ) → Option Command
+command_of [] = None
+command_of (word ∷ words) = if bytes_eq word (codes "hold") then hold_of words else None
+
+-- the files that it loads, in order, each with its limit in bytes
+abbrev pub wants_of : Command → List (List ℕ × ℕ)
+wants_of (Hold image machine loops out) = (image, 4194304) ∷ (machine, 1048576) ∷ (loops, 1048576) ∷ []
+
+-- the statuses that a command gives, but for a fault and want of memory; and that of words that are none
+abbrev pub may_give : Option Command → ℕ → Bool
+may_give None status = status == 2
+may_give (Some (Hold image machine loops out)) status = nat_le status 1
+
+-- it may want memory
+abbrev pub needs_memory : Option Command → Bool
+needs_memory None = false
+needs_memory (Some (Hold image machine loops out)) = true
+
+-- the statuses that a run may end with
+abbrev pub may_answer : Option Command → ℕ → Bool
+may_answer asked status = may_give asked status || (status == 3 || (status == 4 && needs_memory asked))

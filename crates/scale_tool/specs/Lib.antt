@@ -1,0 +1,7 @@
+pub mod Answer
+pub mod Command
+pub mod Loaded
+pub mod Loading
+pub mod Promise
+pub mod Tool
+pub mod Views

@@ -1,0 +1,78 @@
+-- What stands after a run of the tool.
+use Rattle.std.specs.Prelude.{◌≡◌, ◌⊎◌, ℕ, ◌+◌, ◌-◌, ◌≤◌, List, [], ◌∷◌, ◌++◌, length, take, sum_by, Option, Some, option_map, slice_get, IfSome, IsSomeAnd, IsTrue, Result, Ok, Err}
+use Rattle.std.specs.FinMap.{insert}
+use Rattle.host_files.specs.HostState.{Files, Room, HostState, IsUntouched, Rose}
+use Rattle.host_files.specs.Host.{MayHoldAnything, PrintsPrefix}
+use Rattle.host_files.specs.declared.host.HostError.{HostError}
+use Rattle.host_files.specs.declared.host.HostError.TheVariants.{Failed, OutOfMemory}
+use Rattle.scale_tool.specs.Answer.{answer_of}
+use Rattle.scale_tool.specs.Command.{Command, may_give, needs_memory}
+
+abbrev pub Stores : Type 0
+Stores = List (List ℕ × List ℕ)
+
+-- the files after these stores, in order
+abbrev pub with_stores : Stores → Files → Files
+with_stores [] files = files
+with_stores (store ∷ stores) files = with_stores stores (insert files store.0 store.1)
+
+-- All stores were made, and the whole text was printed.
+pub record IsDelivered (stores : Stores) (text : List ℕ) (old new : HostState) : Type 0 where
+  pub files : new.files ≡ option_map (with_stores stores) old.files
+  pub printed : new.printed ≡ option_map (λ printed. printed ++ text) old.printed
+  pub store_faults : new.store_faults ≡ old.store_faults
+
+-- A store failed: those before it stand, its name may hold anything, and nothing was printed.
+pub record FailedInStore (stores : Stores) (old new : HostState) : Type 0 where
+  pub done : ℕ
+  pub store : List ℕ × List ℕ
+  pub is_next : slice_get stores done ≡ Some store
+  pub files : MayHoldAnything store.0 (option_map (with_stores (take done stores)) old.files) new.files
+  pub printed : new.printed ≡ old.printed
+  pub rose : Rose old.store_faults new.store_faults
+
+-- The print failed: all stores stand, and a part of the text from its front was printed.
+pub record FailedInPrint (stores : Stores) (text : List ℕ) (old new : HostState) : Type 0 where
+  pub files : new.files ≡ option_map (with_stores stores) old.files
+  pub printed : PrintsPrefix text old.printed new.printed
+  pub store_faults : new.store_faults ≡ old.store_faults
+
+abbrev pub IsCutShort : Stores → List ℕ → HostState → HostState → Type 0
+IsCutShort stores text old new = FailedInStore stores old new ⊎ FailedInPrint stores text old new
+
+-- the bytes that stores take: of their names and of what they hold
+abbrev pub bytes_of : Stores → ℕ
+bytes_of stores = sum_by (λ store. length store.0 + length store.1) stores
+
+-- what is left after stores
+abbrev pub stores_spent : Stores → Room → Room
+stores_spent stores room = record { stores = room.stores - length stores; bytes = room.bytes - bytes_of stores }
+
+-- a steady host has room for these stores and this text
+abbrev pub HasRoom : Option Room → Stores → ℕ → Type 0
+HasRoom room stores text = IsSomeAnd room (λ left. (length stores ≤ left.stores) × (bytes_of stores + text ≤ left.bytes))
+
+-- The host is steady, holds each file that the command loads, and has room for what it stores and prints.
+abbrev pub IsReadyFor : Option Command → HostState → Type 0
+IsReadyFor asked host = IsSomeAnd host.files (λ files. IsSomeAnd (answer_of asked files) (λ answer. HasRoom host.room answer.stores (length answer.text)))
+
+-- where the files are told, the status is the answer's, and the answer was given
+abbrev pub IsAnswered : Option Command → ℕ → HostState → HostState → Type 0
+IsAnswered asked status old new = IfSome old.files (λ files. IsSomeAnd (answer_of asked files) (λ answer.
+    (status ≡ answer.status) × IsDelivered answer.stores answer.text old new))
+
+-- where the files are told, the command is one that is done, and its stores stand, whether or not its text was printed
+abbrev pub StoresStand : Option Command → HostState → HostState → Type 0
+StoresStand asked old new = IfSome old.files (λ files. IsSomeAnd (answer_of asked files) (λ answer.
+    (answer.status ≡ 0) × (new.files ≡ option_map (with_stores answer.stores) old.files)))
+
+-- where the files are told, a load failed, and nothing was touched, or the answer was cut short
+abbrev pub StopsWithin : Option Command → HostState → HostState → Type 0
+StopsWithin asked old new = IfSome old.files (λ files. IsUntouched old new ⊎
+    IsSomeAnd (answer_of asked files) (λ answer. IsCutShort answer.stores answer.text old new))
+
+-- how a run ends, by what it gives
+abbrev pub Ends : Option Command → Result ℕ HostError → HostState → HostState → Type 0
+Ends asked (Ok status) old new = IsTrue (may_give asked status) × IsAnswered asked status old new
+Ends asked (Err Failed) old new = StopsWithin asked old new × (IsReadyFor asked old → ⊥)
+Ends asked (Err OutOfMemory) old new = IsTrue (needs_memory asked) × IsUntouched old new

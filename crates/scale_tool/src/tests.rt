@@ -1,0 +1,395 @@
+//! Whole runs over hosts in memory.
+
+use crate::tool::run_tool;
+use host_files::{MemHost, NeverFails};
+use std::alloc::Global;
+use std::process::Abort;
+use std::test::Fail;
+
+// addi x10,x0,7; addi x17,x0,93; ecall: exits with the status 7.
+const EXIT_SEVEN: [u32; 3] = [0x00700513, 0x05d00893, 0x00000073];
+
+const NO_LOOPS: &str = "version = 1\n";
+
+const DIV: &str = "div = 10\n";
+
+const ROW_ONE: [&str; 5] = ["hold", "image", "machine", "loops", "out"];
+
+const BAD_COMMAND: &[u8] = b"bad command; try: scale help\n";
+
+// A machine file of three levels: with this deadline, this line on divisions and this period of level 1.
+fn machine_file(alloc: Global, deadline: u32, div: &str, period: u32) -> Result<String, Fail> {
+    Ok(format!(in alloc;
+        "version = 1\ndeadline = {deadline}\nsteps = 1000000\nmin_gain = 20\nswitch_time = 10\nswitch_energy = 20\n\n[cost]\nalu = 1\nload = 2\nstore = 1\ntaken = 2\nuntaken = 1\njump = 2\nmul = 3\n{div}ecall = 5\nfence = 1\n\n[[level]]\nperiod = 4\nenergy = 1\n[[level]]\nperiod = {period}\nenergy = 3\n[[level]]\nperiod = 1\nenergy = 8\n"
+    )?)
+}
+
+fn push_words(bytes: &mut Vec<u8>, words: &[u32]) -> Result<(), Fail> {
+    for word in words {
+        bytes.extend_from_slice(&word.to_le_bytes())?;
+    }
+    Ok(())
+}
+
+// The header of an ELF file: its program headers' offset and number, and its flags.
+fn push_header(bytes: &mut Vec<u8>, offset: u32, number: u32, flags: u32) -> Result<(), Fail> {
+    push_words(
+        bytes,
+        &[
+            0x464c457f, 0x00010101, 0, 0, 0x00f30002, 1, 0x00010000, offset, 0, flags, 0x00200034,
+            number, 0,
+        ],
+    )
+}
+
+// The program header of the words of a plain image.
+fn push_program_header(bytes: &mut Vec<u8>, words: &[u32], flags: u32) -> Result<(), Fail> {
+    let size = u32::try_from(words.len())?.wrapping_mul(4);
+    push_words(
+        bytes,
+        &[1, 84, 0x00010000, 0x00010000, size, size, flags, 4],
+    )
+}
+
+// A file of a header, one program header and the words behind them, which are the text from 0x00010000 on.
+fn plain_image(
+    alloc: Global,
+    words: &[u32],
+    flags: u32,
+    segment_flags: u32,
+) -> Result<Vec<u8>, Fail> {
+    let mut bytes = Vec::new(alloc);
+    push_header(&mut bytes, 52, 1, flags)?;
+    push_program_header(&mut bytes, words, segment_flags)?;
+    push_words(&mut bytes, words)?;
+    Ok(bytes)
+}
+
+// The stored image of a plain one that is held at a level: its table stands behind it, with the entry that tells the level.
+fn held_image(alloc: Global, words: &[u32], level: u32) -> Result<Vec<u8>, Fail> {
+    let mut bytes = Vec::new(alloc);
+    push_header(&mut bytes, 4096, 2, 0)?;
+    push_program_header(&mut bytes, words, 5)?;
+    push_words(&mut bytes, words)?;
+    bytes.resize(4096, 0)?;
+    push_program_header(&mut bytes, words, 5)?;
+    push_words(
+        &mut bytes,
+        &[1, 4096, 0x00011000, level, 0, 0, 0x00100005, 4096],
+    )?;
+    Ok(bytes)
+}
+
+// A file with section headers and a symbol table, whose text begins lui, lbu.
+const IMAGE_WITH_SECTIONS: [u32; 110] = [
+    // The header.
+    0x464c457f, 0x00010101, 0, 0, 0x00f30002, 1, 0x000100b4, 52, 200, 0, 0x00200034, 0x00280004, 5,
+    // The program headers: the stack's flags,
+    0x6474e551, 0, 0, 0, 0, 0, 6, 0,
+    // the text, with what it reads,
+    1, 0, 0x00010000, 0, 200, 200, 5, 0,
+    // 16 bytes that aren't in the file,
+    1, 200, 0x000110c8, 0, 0, 16, 6, 0,
+    // and none.
+    0, 0, 0, 0, 0, 0, 0, 0,
+    // The text.
+    0x000102b7, 0x0c42c503, 0x05d00893, 0x00000073,
+    // What it reads.
+    42,
+    // The section headers: none,
+    0, 0, 0, 0, 0, 0, 0, 0, 0, 0,
+    // the text,
+    0, 1, 6, 0x000100b4, 180, 16, 0, 0, 0, 0,
+    // what it reads,
+    0, 1, 2, 0x000100c4, 196, 4, 0, 0, 0, 0,
+    // the symbols,
+    0, 2, 0, 0, 400, 32, 4, 0, 0, 16,
+    // and their names.
+    0, 3, 0, 0, 432, 8, 0, 0, 0, 0,
+    // The symbols: none,
+    0, 0, 0, 0,
+    // and `_start`, in section 1.
+    1, 0x000100b4, 0, 0x00010000,
+    // The names.
+    0x74735f00, 0x00747261,
+];
+
+fn words_of(alloc: Global, words: &[&str]) -> Result<Vec<String>, Fail> {
+    let mut all = Vec::new(alloc);
+    for word in words {
+        all.push(String::from_str(alloc, word)?)?;
+    }
+    Ok(all)
+}
+
+// A host with the files of a `hold` and with room, whose calls of these numbers fail.
+fn host_of(
+    alloc: Global,
+    fail: &[u64],
+    image: &[u8],
+    machine: &str,
+    loops: &str,
+) -> Result<MemHost, Fail> {
+    let mut host = MemHost::new(alloc, fail.to_vec(alloc)?);
+    host.add_file("image", image)?;
+    host.add_file("machine", machine.as_bytes())?;
+    host.add_file("loops", loops.as_bytes())?;
+    host.reserve(16, 33554432)?;
+    Ok(host)
+}
+
+// `hold` refuses these files with this text, and stores nothing.
+fn check_refused(
+    rt: &impl Abort,
+    alloc: Global,
+    image: &[u8],
+    machine: &str,
+    loops: &str,
+    text: &str,
+) -> Result<(), Fail> {
+    let mut host = host_of(alloc, &[], image, machine, loops)?;
+    let words = words_of(alloc, &ROW_ONE)?;
+    assert_eq!(rt; run_tool(&mut host, alloc, &words), 1, "{text}");
+    assert_eq!(rt; host.printed(), text.as_bytes());
+    assert!(rt; host.file("out").is_none(), "{text}");
+    Ok(())
+}
+
+#[test]
+fn hold_stores_the_image_and_prints_the_summary(rt: HostRuntime) -> Result<(), Fail> {
+    let alloc = rt.alloc();
+    let image = plain_image(alloc, &EXIT_SEVEN, 0, 5)?;
+    let cases = [
+        (
+            28,
+            0,
+            "start level 0\nworst cycles 7\nworst time 28 of 28\nstub cycles at most 0\nswitch edges 0\nexit edges 0\ncount edges 0\nstub bytes 0\n",
+        ),
+        (
+            27,
+            1,
+            "start level 1\nworst cycles 7\nworst time 14 of 27\nstub cycles at most 0\nswitch edges 0\nexit edges 0\ncount edges 0\nstub bytes 0\n",
+        ),
+    ];
+    for (deadline, level, summary) in cases {
+        let machine = machine_file(alloc, deadline, DIV, 2)?;
+        let mut host = host_of(alloc, &[], &image, machine.as_str(), NO_LOOPS)?;
+        let words = words_of(alloc, &ROW_ONE)?;
+        assert_eq!(rt; run_tool(&mut host, alloc, &words), 0);
+        let held = held_image(alloc, &EXIT_SEVEN, level)?;
+        assert_eq!(rt; held.len(), 4160);
+        assert_eq!(rt; host.file("out").ok_or("no file")?, held.as_slice());
+        assert_eq!(rt; host.printed(), summary.as_bytes());
+        assert_eq!(rt; host.fault_count(), 0);
+    }
+    Ok(())
+}
+
+#[test]
+fn files_that_are_no_image_are_refused(rt: HostRuntime) -> Result<(), Fail> {
+    let alloc = rt.alloc();
+    let machine = machine_file(alloc, 28, DIV, 2)?;
+    let cases = [
+        (0, 5, 0, "refused 1 not an ELF file\n"),
+        (0, 5, 80, "refused 3 truncated ELF\n"),
+        (1, 5, 96, "refused 2 unsupported ELF: flags\n"),
+        (0, 7, 96, "refused 7 writable text at 0x00010000\n"),
+    ];
+    for (flags, segment_flags, len, text) in cases {
+        let mut image = plain_image(alloc, &EXIT_SEVEN, flags, segment_flags)?;
+        image.truncate(len);
+        check_refused(&rt, alloc, &image, machine.as_str(), NO_LOOPS, text)?;
+    }
+    let held = held_image(alloc, &EXIT_SEVEN, 0)?;
+    check_refused(
+        &rt,
+        alloc,
+        &held,
+        machine.as_str(),
+        NO_LOOPS,
+        "refused 8 already scaled\n",
+    )?;
+    let mut image = Vec::new(alloc);
+    push_words(&mut image, &IMAGE_WITH_SECTIONS)?;
+    check_refused(
+        &rt,
+        alloc,
+        &image,
+        machine.as_str(),
+        NO_LOOPS,
+        "refused 60 not yet at 0x000100b4\n",
+    )
+}
+
+#[test]
+fn programs_of_another_form_are_refused(rt: HostRuntime) -> Result<(), Fail> {
+    let alloc = rt.alloc();
+    let machine = machine_file(alloc, 500, DIV, 2)?;
+    let mut long = [0x00700513; 18];
+    long[15] = 0x05d00893;
+    long[17] = 0x00000073;
+    let cases: [(&[u32], &str); 4] = [
+        // A call.
+        (
+            &[0x008000ef, 0, 0x05d00893, 0x00000073],
+            "refused 60 not yet at 0x00010000\n",
+        ),
+        // No service is chosen.
+        (
+            &[0x00700513, 0x00700513, 0x00000073],
+            "refused 60 not yet at 0x00010008\n",
+        ),
+        (&long, "refused 60 not yet at 0x00010040\n"),
+        // A branch behind the end.
+        (
+            &[0x00700513, 0x05d00893, 0x00000073, 0x00000263],
+            "refused 60 not yet at 0x0001000c\n",
+        ),
+    ];
+    for (words, text) in cases {
+        let image = plain_image(alloc, words, 0, 5)?;
+        check_refused(&rt, alloc, &image, machine.as_str(), NO_LOOPS, text)?;
+    }
+    Ok(())
+}
+
+#[test]
+fn machine_and_loop_files_are_refused(rt: HostRuntime) -> Result<(), Fail> {
+    let alloc = rt.alloc();
+    let image = plain_image(alloc, &EXIT_SEVEN, 0, 5)?;
+    let cases = [
+        (
+            6,
+            DIV,
+            2,
+            NO_LOOPS,
+            "refused 41 deadline missed: need 7 have 6\n",
+        ),
+        (28, DIV, 4, NO_LOOPS, "refused 13 level order 1\n"),
+        (
+            28,
+            "",
+            2,
+            NO_LOOPS,
+            "refused 11 machine file key cost.div\n",
+        ),
+        (
+            28,
+            "div 10\n",
+            2,
+            NO_LOOPS,
+            "refused 10 machine file text\n",
+        ),
+        (
+            28,
+            DIV,
+            2,
+            "version = 2\n",
+            "refused 60 not yet at 0x00000000\n",
+        ),
+    ];
+    for (deadline, div, period, loops, text) in cases {
+        let machine = machine_file(alloc, deadline, div, period)?;
+        check_refused(&rt, alloc, &image, machine.as_str(), loops, text)?;
+    }
+    Ok(())
+}
+
+#[test]
+fn words_that_are_no_command(rt: HostRuntime) -> Result<(), Fail> {
+    let alloc = rt.alloc();
+    let cases: [&[&str]; 5] = [
+        &["hold", "a", "b"],
+        &[],
+        &["make", "0", "0", "p"],
+        &["help"],
+        &["rewrite", "a", "b", "c", "d"],
+    ];
+    for case in cases {
+        let mut host = host_of(alloc, &[], &[], "", "")?;
+        let words = words_of(alloc, case)?;
+        assert_eq!(rt; run_tool(&mut host, alloc, &words), 2);
+        assert_eq!(rt; host.printed(), BAD_COMMAND);
+    }
+    // The line can't be printed.
+    let mut host = host_of(alloc, &[1], &[], "", "")?;
+    assert_eq!(rt; run_tool(&mut host, alloc, &[]), 3);
+    assert!(rt; host.printed().is_empty());
+    Ok(())
+}
+
+#[test]
+fn a_file_is_too_large(rt: HostRuntime) -> Result<(), Fail> {
+    let alloc = rt.alloc();
+    let mut host = MemHost::new(alloc, Vec::new(alloc));
+    host.add_file("a", &vec![in alloc; 0; 4194305]?)?;
+    host.reserve(16, 33554432)?;
+    let words = words_of(alloc, &["hold", "a", "machine", "loops", "out"])?;
+    assert_eq!(rt; run_tool(&mut host, alloc, &words), 1);
+    assert_eq!(rt; host.printed(), b"refused 50 too large: a\n".as_slice());
+    Ok(())
+}
+
+// Which call fails, the status, how many bytes are stored, and how many are printed.
+#[test]
+fn a_call_fails(rt: HostRuntime) -> Result<(), Fail> {
+    let alloc = rt.alloc();
+    let image = plain_image(alloc, &EXIT_SEVEN, 0, 5)?;
+    let cases = [
+        (28, 1, 3, false, 0, 1),
+        (28, 2, 3, false, 0, 1),
+        (28, 3, 3, false, 0, 1),
+        (28, 4, 3, false, 0, 1),
+        (28, 5, 3, true, 0, 1),
+        (28, 6, 0, true, 126, 0),
+        (6, 4, 3, false, 0, 1),
+    ];
+    for (deadline, call, status, stored, printed, faults) in cases {
+        let machine = machine_file(alloc, deadline, DIV, 2)?;
+        let mut host = host_of(alloc, &[call], &image, machine.as_str(), NO_LOOPS)?;
+        let words = words_of(alloc, &ROW_ONE)?;
+        assert_eq!(rt; run_tool(&mut host, alloc, &words), status, "call {call}");
+        assert_eq!(rt;
+            host.file("out").map(|out| out.len()),
+            if stored { Some(4160) } else { None },
+            "call {call}"
+        );
+        assert_eq!(rt; host.printed().len(), printed, "call {call}");
+        assert_eq!(rt; host.fault_count(), faults, "call {call}");
+    }
+    Ok(())
+}
+
+#[test]
+fn room_for_the_stored_image(rt: HostRuntime) -> Result<(), Fail> {
+    let alloc = rt.alloc();
+    let image = plain_image(alloc, &EXIT_SEVEN, 0, 5)?;
+    let machine = machine_file(alloc, 28, DIV, 2)?;
+    let words = words_of(alloc, &ROW_ONE)?;
+    let mut host = MemHost::new(alloc, Vec::new(alloc));
+    host.add_file("image", &image)?;
+    host.add_file("machine", machine.as_str().as_bytes())?;
+    host.add_file("loops", NO_LOOPS.as_bytes())?;
+    host.reserve(1, 4000)?;
+    assert_eq!(rt; run_tool(&mut host, alloc, &words), 3);
+    assert!(rt; host.file("out").is_none());
+    assert_eq!(rt; host.fault_count(), 1);
+    Ok(())
+}
+
+#[test]
+fn hold_over_a_host_that_never_fails(rt: HostRuntime) -> Result<(), Fail> {
+    let alloc = rt.alloc();
+    let image = plain_image(alloc, &EXIT_SEVEN, 0, 5)?;
+    let machine = machine_file(alloc, 28, DIV, 2)?;
+    let words = words_of(alloc, &ROW_ONE)?;
+    let mut inner = MemHost::new(alloc, Vec::new(alloc));
+    inner.add_file("image", &image)?;
+    inner.add_file("machine", machine.as_str().as_bytes())?;
+    inner.add_file("loops", NO_LOOPS.as_bytes())?;
+    inner.reserve(16, 33554432)?;
+    let mut host = NeverFails::new(inner);
+    assert_eq!(rt; run_tool(&mut host, alloc, &words), 0);
+    assert_eq!(rt; host.inner().fault_count(), 0);
+    Ok(())
+}

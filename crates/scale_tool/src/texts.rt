@@ -1,0 +1,11 @@
+//! The texts of the program itself.
+
+ghost use Rattle.std.specs.Prelude.{◌≡◌};
+ghost use Rattle.scale_tool.specs.Answer.{bad_command_text};
+
+/// What is printed for words that are no command.
+pub fn bad_command() -> &'static str
+    ensures { result.now ≡ bad_command_text }
+{
+    "bad command; try: scale help\n"
+}

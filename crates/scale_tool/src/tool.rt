@@ -1,0 +1,108 @@
+//! The commands over a host.
+
+ghost use Rattle.std.specs.Prelude.{◌≡◌, ◌≢◌, Some, None, IfOk, IfErr, IfSome, IsSome, IsTrue};
+ghost use Rattle.host_files.specs.HostState.{IsUntouched, Rose};
+ghost use Rattle.host_files.specs.Host.{count_if, is_failed};
+ghost use Rattle.scale_tool.specs.Answer.{answer_of, refused};
+ghost use Rattle.scale_tool.specs.Command.{command_of, texts, may_give, may_answer, needs_memory};
+ghost use Rattle.scale_tool.specs.Promise.{Promised};
+ghost use Rattle.scale_tool.specs.Tool.{Ends, IsAnswered, StopsWithin, StoresStand, IsReadyFor};
+ghost use Rattle.scale_tool.specs.Views.{command_view, reply_view};
+ghost use Rattle.scale_base.specs.declared.refusal.Refusal.TheVariants.{TooLarge};
+
+use crate::command::{Command, parse, wants};
+use crate::deliver::deliver;
+use crate::load_all::{AllLoaded, load_all};
+use crate::reply::Reply;
+use crate::texts;
+use host_files::{Host, HostError};
+use scale_base::{Name, NoMemory, Refusal};
+use std::alloc::Global;
+
+fn too_large(alloc: Global, name: &str) -> Result<Reply, NoMemory>
+    ensures { IfOk result (λ reply. reply_view reply ≡ refused (TooLarge name.now)) }
+{
+    let name = Name::new(String::from_str(alloc, name)?);
+    Reply::refused(alloc, &Refusal::TooLarge(name))
+}
+
+/// Loads the files of a command, and makes what it gives.
+fn reply_to<H: Host>(host: &mut H, alloc: Global, command: &Command<'_>) -> Result<Reply, HostError>
+    ensures told { IfOk result (λ reply. IfSome (H.state host.old).files (λ files. answer_of (Some (command_view command.now)) files ≡ Some (reply_view reply))) }
+    ensures status { IfOk result (λ reply. IsTrue (may_give (Some (command_view command.now)) reply.status)) }
+    ensures untouched { IsUntouched (H.state host.old) (H.state host.new) }
+    ensures faults { (H.state host.new).faults ≡ count_if (is_failed result) (H.state host.old).faults }
+    ensures steady { IfErr result (λ error. error ≡ HostError.Failed → IsSome (H.state host.old).room → IfSome (H.state host.old).files (λ files. answer_of (Some (command_view command.now)) files ≡ None)) }
+{
+    let wants = wants(alloc, command)?;
+    match load_all(host, alloc, &wants) {
+        Ok(AllLoaded::Whole(files)) => Ok(Reply::made(alloc, command, &files)?),
+        Ok(AllLoaded::TooLong(number)) => Ok(too_large(alloc, wants[number].name)?),
+        Err(error) => Err(error),
+    }
+}
+
+/// Does a command.
+fn run_command<H: Host>(host: &mut H, alloc: Global, command: &Command<'_>) -> Result<u8, HostError>
+    requires { IsTrue (needs_memory (Some (command_view command.now))) }
+    ensures ends { Ends (Some (command_view command.now)) result (H.state host.old) (H.state host.new) }
+    ensures faults { (H.state host.new).faults ≡ count_if (is_failed result) (H.state host.old).faults }
+{
+    match reply_to(host, alloc, command) {
+        Ok(reply) => match deliver(host, &reply.stores, reply.text.as_bytes()) {
+            Ok(()) => Ok(reply.status),
+            // It takes no memory.
+            Err(_) => Err(HostError::Failed),
+        },
+        Err(error) => Err(error),
+    }
+}
+
+/// Says that words are no command.
+fn refuse_words<H: Host>(host: &mut H) -> Result<u8, HostError>
+    ensures ends { Ends None result (H.state host.old) (H.state host.new) }
+    ensures faults { (H.state host.new).faults ≡ count_if (is_failed result) (H.state host.old).faults }
+{
+    match deliver(host, &[], texts::bad_command().as_bytes()) {
+        Ok(()) => Ok(2),
+        Err(error) => Err(error),
+    }
+}
+
+fn run<H: Host>(host: &mut H, alloc: Global, words: &[String]) -> Result<u8, HostError>
+    ensures ends { Ends (command_of (texts words.now)) result (H.state host.old) (H.state host.new) }
+    ensures faults { (H.state host.new).faults ≡ count_if (is_failed result) (H.state host.old).faults }
+{
+    match parse(words) {
+        Some(command) => run_command(host, alloc, &command),
+        None => refuse_words(host),
+    }
+}
+
+/// Does what the words of a command line say, and answers the status.
+#[tactic(auto, using(crate::proofs::Promises::stored_keep_promise))]
+pub fn run_tool<H: Host>(host: &mut H, alloc: Global, words: &[String]) -> u8
+    // 2 exactly where the words are no command, and 4 for a command that needs memory.
+    ensures statuses { IsTrue (may_answer (command_of (texts words.now)) result) }
+
+    // Any other status: the command's whole answer over the files that are told.
+    ensures answered { result ≢ 3 → result ≢ 4 → IsAnswered (command_of (texts words.now)) result (H.state host.old) (H.state host.new) }
+
+    // What the command's stores promise, also where only the print behind them failed.
+    ensures promise { StoresStand (command_of (texts words.now)) (H.state host.old) (H.state host.new) → Promised (command_of (texts words.now)) (H.state host.old) (H.state host.new) }
+
+    // 3 only where the host failed, and never over a steady host that has what it takes.
+    ensures fault { result ≡ 3 → Rose (H.state host.old).faults (H.state host.new).faults }
+    ensures no_fault { result ≢ 3 → (H.state host.new).faults ≡ (H.state host.old).faults }
+    ensures fault_leaves { result ≡ 3 → StopsWithin (command_of (texts words.now)) (H.state host.old) (H.state host.new) }
+    ensures ready { IsReadyFor (command_of (texts words.now)) (H.state host.old) → result ≢ 3 }
+
+    // 4: nothing has happened.
+    ensures memory { result ≡ 4 → IsUntouched (H.state host.old) (H.state host.new) }
+{
+    match run(host, alloc, words) {
+        Ok(status) => status,
+        Err(HostError::Failed) => 3,
+        Err(HostError::OutOfMemory) => 4,
+    }
+}

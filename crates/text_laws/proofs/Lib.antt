@@ -1,0 +1,6 @@
+pub mod Tests
+pub mod Segments
+pub mod Parts
+pub mod Ranges
+pub mod TextBytes
+pub mod TextWords
