@@ -1,9 +1,9 @@
 //! Reads machine files: the costs, the levels and the deadline of a machine, in TOML.
 #![tactic(auto)]
 
-ghost use Rattle.std.specs.Prelude.{IfOk};
+ghost use Rattle.std.specs.Prelude.{◌≡◌, ℕ, List, Ok, IfOk};
 ghost use Rattle.scale_base.specs.Answer.{Answers};
-ghost use Rattle.power_model.specs.Numbers.{IsPowerModel};
+ghost use Rattle.power_model.specs.Numbers.{PowerModel, IsPowerModel};
 ghost use Rattle.machine_file.specs.Machine.{read_machine};
 
 mod levels;
@@ -27,6 +27,12 @@ pub fn read_machine(alloc: Global, bytes: &[u8]) -> Result<Power, Stop>
         None => Err(Stop::Refused(Refusal::MachineText)),
     }
 }
+
+/// A machine that is read from bytes has 1 to 8 levels in order, each with a time and an energy of at least 1, costs of at least 1,
+/// a deadline from 1 to 2^63 - 1 and 1 to 2^40 steps. The type `Power` keeps these ranges in code; this says the same of the definition.
+pub fn machines_keep_their_ranges()
+    ensures { (bytes : List ℕ) (power : PowerModel) → read_machine bytes ≡ Ok power → IsPowerModel power }
+{}
 
 #[cfg(test)]
 mod tests;

@@ -1,6 +1,7 @@
 -- Each command that was done keeps its promise.
-use Rattle.std.proofs.Common.{◌≡◌, ℕ, List, [], ◌∷◌, refl, sym, ap, subst, ◌∙◌, arith, Bool}
-use Rattle.std.specs.Prelude.{Option, Some, None, option_map, IfSome, IsSomeAnd, cond, Result, Ok, Err}
+use Rattle.std.proofs.Common.{◌≡◌, ℕ, ◌≤◌, List, [], ◌∷◌, length, refl, sym, ap, subst, ◌∙◌, arith, Bool, true, false}
+use Rattle.std.specs.Prelude.{Option, Some, None, option_map, IfSome, IsSomeAnd, cond, Result, Ok, Err, nat_le}
+use Rattle.std.proofs.lemmas.Bool.Decides.{nat_tests}
 use Rattle.std.specs.Cmp.Lexicographic.{nat_list_cmp_total}
 use Rattle.std.specs.FinMap.{get, insert, get-insert}
 use Rattle.std.proofs.lemmas.Slice.Eq.{bytes_eq-Decides}
@@ -8,11 +9,12 @@ use Rattle.std.proofs.lemmas.Map.Text.{is_eq-slice_cmp}
 use Rattle.scale_base.specs.declared.refusal.Refusal.{Refusal}
 use Rattle.scale_base.specs.declared.summary.Summary.{Summary}
 use Rattle.scaler.specs.Held.{held}
+use Rattle.scaler.proofs.Safe.{safe}
 use Rattle.host_files.specs.HostState.{Files, HostState}
 use Rattle.scale_tool.specs.Answer.{made, held_answer, answer_of, answer_to}
 use Rattle.scale_tool.specs.Command.{Command, Hold, wants_of}
-use Rattle.scale_tool.specs.Loading.{Loading, Missing, Long, Whole, loading_of}
-use Rattle.scale_tool.specs.Promise.{Promise, PromisedOf, PromisedBy, Promised}
+use Rattle.scale_tool.specs.Loading.{Loading, Missing, Long, Whole, loading_of, loading_one, and_then}
+use Rattle.scale_tool.specs.Promise.{HoldPromise, Promise, PromisedOf, PromisedBy, Promised}
 use Rattle.scale_tool.specs.Tool.{with_stores, StoresStand}
 
 get_inserted : (files : Files) (name bytes : List ℕ) → get (insert files name bytes) name ≡ Some bytes
@@ -20,23 +22,63 @@ get_inserted files name bytes =
     get-insert nat_list_cmp_total files name bytes name
     ∙ ap (λ (b : Bool). cond b (Some bytes) (get files name)) (is_eq-slice_cmp name name ∙ (bytes_eq-Decides name name).1 refl)
 
+-- ---- the limits of the files that were loaded
+
+-- each file is within the limit of its name
+abbrev EachWithin : List (List ℕ × ℕ) → List (List ℕ) → Type 0
+EachWithin (want ∷ wants) (file ∷ files) = (length file ≤ want.1) × EachWithin wants files
+EachWithin wants files = Unit {0}
+
+abbrev Within : List (List ℕ × ℕ) → Loading → Type 0
+Within wants Missing = Unit {0}
+Within wants (Long name) = Unit {0}
+Within wants (Whole loaded) = EachWithin wants loaded
+
+le_of : (x y : ℕ) → nat_le x y ≡ true → x ≤ y
+le_of x y e = grind (arith, nat_tests)
+
+within_next : (want : List ℕ × ℕ) (wants : List (List ℕ × ℕ)) (bytes : List ℕ) (rest : Loading) → length bytes ≤ want.1 → Within wants rest → Within (want ∷ wants) (and_then bytes rest)
+within_next want wants bytes Missing short h = tt
+within_next want wants bytes (Long name) short h = tt
+within_next want wants bytes (Whole loaded) short h = (short, h)
+
+within_test : (want : List ℕ × ℕ) (wants : List (List ℕ × ℕ)) (bytes : List ℕ) (rest : Loading) (b : Bool) → nat_le (length bytes) want.1 ≡ b → Within wants rest → Within (want ∷ wants) (cond b (and_then bytes rest) (Long want.0))
+within_test want wants bytes rest true e h = within_next want wants bytes rest (le_of (length bytes) want.1 e) h
+within_test want wants bytes rest false e h = tt
+
+within_one : (want : List ℕ × ℕ) (wants : List (List ℕ × ℕ)) (file : Option (List ℕ)) (rest : Loading) → Within wants rest → Within (want ∷ wants) (loading_one want.0 want.1 file rest)
+within_one want wants None rest h = tt
+within_one want wants (Some bytes) rest h = within_test want wants bytes rest (nat_le (length bytes) want.1) refl h
+
+loaded_within : (wants : List (List ℕ × ℕ)) (files : Files) → Within wants (loading_of wants files)
+loaded_within [] files = tt
+loaded_within (want ∷ wants) files = within_one want wants (get files want.0) (loading_of wants files) (loaded_within wants files)
+
+-- ---- what a command promises
+
 -- what was done is what is stored
-hold_kept : (out : List ℕ) (files : Files) (meant : Result (List ℕ × Summary) Refusal) → (held_answer out meant).status ≡ 0 →
-    (given : List ℕ × Summary) × (meant ≡ Ok given) × (get (with_stores (held_answer out meant).stores files) out ≡ Some given.0)
-hold_kept out files (Ok given) zero = (given, refl, get_inserted files out given.0)
-hold_kept out files (Err refusal) zero = absurd (omega arith)
+hold_kept : (i m l out : List ℕ) (files : Files) (meant : Result (List ℕ × Summary) Refusal) → length i ≤ 4194304 → held i m l ≡ meant → (held_answer out meant).status ≡ 0
+    → HoldPromise i m l (get (with_stores (held_answer out meant).stores files) out)
+hold_kept i m l out files (Ok given) short e zero = record {
+  stored = given.0;
+  summary = given.1;
+  stands = get_inserted files out given.0;
+  given = e;
+  safe = safe i m l given.0 given.1 short e;
+}
+hold_kept i m l out files (Err refusal) short e zero = absurd (omega arith)
 
-kept : (command : Command) (loaded : List (List ℕ)) (files : Files) → (made command loaded).status ≡ 0 → Promise command loaded (with_stores (made command loaded).stores files)
-kept (Hold image machine loops out) (i ∷ m ∷ l ∷ []) files zero = hold_kept out files (held i m l) zero
-kept (Hold image machine loops out) loaded files zero = tt
+kept : (command : Command) (loaded : List (List ℕ)) (files : Files) → EachWithin (wants_of command) loaded → (made command loaded).status ≡ 0 → Promise command loaded (with_stores (made command loaded).stores files)
+kept (Hold image machine loops out) (i ∷ m ∷ l ∷ []) files within zero = hold_kept i m l out files (held i m l) within.0 refl zero
+kept (Hold image machine loops out) loaded files within zero = tt
 
-of_loading : (command : Command) (loading : Loading) (files : Files) (new : Option Files) →
+of_loading : (command : Command) (loading : Loading) (files : Files) (new : Option Files) → Within (wants_of command) loading →
     IsSomeAnd (answer_to command loading) (λ answer. (answer.status ≡ 0) × (new ≡ Some (with_stores answer.stores files))) → IfSome new (λ after. PromisedOf command loading after)
-of_loading command Missing files new given = absurd given
-of_loading command (Long name) files None given = tt
-of_loading command (Long name) files (Some after) given = tt
-of_loading command (Whole loaded) files new given =
-    subst (λ (o : Option Files). IfSome o (λ after. Promise command loaded after)) (sym given.1) (kept command loaded files given.0)
+of_loading command Missing files new within given = absurd given
+of_loading command (Long name) files None within given = tt
+of_loading command (Long name) files (Some after) within given = tt
+of_loading command (Whole loaded) files new within given =
+    subst (λ (o : Option Files). IfSome o (λ after. Promise command loaded after)) (sym given.1) (kept command loaded files within given.0)
 
 of_files : (asked : Option Command) (old new : Option Files) →
     IfSome old (λ files. IsSomeAnd (answer_of asked files) (λ answer. (answer.status ≡ 0) × (new ≡ option_map (with_stores answer.stores) old))) →
@@ -44,7 +86,8 @@ of_files : (asked : Option Command) (old new : Option Files) →
 of_files asked None new given = tt
 of_files None (Some files) None given = tt
 of_files None (Some files) (Some after) given = tt
-of_files (Some command) (Some files) new given = of_loading command (loading_of (wants_of command) files) files new given
+of_files (Some command) (Some files) new given =
+    of_loading command (loading_of (wants_of command) files) files new (loaded_within (wants_of command) files) given
 
 -- stores that stand keep their promise, whatever was answered
 pub stored_keep_promise : (asked : Option Command) (old new : HostState) → StoresStand asked old new → Promised asked old new

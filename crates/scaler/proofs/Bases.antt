@@ -1,5 +1,5 @@
 -- The base of an empty block.
-use Rattle.std.proofs.Common.{◌≡◌, ℕ, ◌+◌, ◌*◌, ◌/◌, ◌%◌, ◌≤◌, true, false, not, List, [], ◌∷◌, map, Ok, refl, ap, sym, arith}
+use Rattle.std.proofs.Common.{◌≡◌, ℕ, ◌%◌, false, not, List, [], ◌∷◌, map, Ok, refl, ap, sym, arith}
 use Rattle.std.specs.List.{list_any}
 use Rattle.scale_base.specs.declared.ranges.Span.{Span}
 use Rattle.scale_base.specs.Spans.{overlap}

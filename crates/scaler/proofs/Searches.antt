@@ -1,5 +1,5 @@
 -- Searches through words that are numbered.
-use Rattle.std.proofs.Common.{◌≡◌, ℕ, zero, suc, ◌+◌, ◌-◌, ◌*◌, ◌/◌, ◌<◌, ◌≤◌, Bool, true, false, not, List, [], ◌∷◌, ◌++◌, length, map, Option, Some, None, refl, sym, ap, ◌∙◌, arith, add-one, zero-add}
+use Rattle.std.proofs.Common.{◌≡◌, ℕ, suc, ◌+◌, ◌-◌, ◌*◌, ◌/◌, ◌<◌, ◌≤◌, Bool, true, false, List, ◌∷◌, length, Option, Some, None, refl, sym, ap, ◌∙◌, arith, add-one, zero-add}
 use Rattle.std.specs.Prelude.{find, drop, get_or}
 use Rattle.std.specs.List.{range_with_len, position_or_len, flat_map}
 use Rattle.std.proofs.lemmas.List.Sums.{position_or_len_is}
@@ -8,7 +8,6 @@ use Rattle.std.proofs.Math.Seq.{drop-cons}
 use Rattle.std.proofs.lemmas.List.Folds.{find-append}
 use Rattle.std.proofs.lemmas.List.FromFn.{get_or-range_with_len, length-range_with_len}
 use Rattle.scale_base.specs.declared.ranges.Range.{Range}
-use Rattle.scale_base.specs.declared.instruction.Instr.{Instr}
 use Rattle.scale_base.specs.Image.{Image, text_word}
 use Rattle.scaler.specs.Straight.{last_writer, newer, instr_in, transfer_in, is_transfer, word_addresses}
 

@@ -4,6 +4,7 @@ ghost use Rattle.std.specs.Prelude.{◌≡◌, ◌≤◌, ◌<◌, ◌+◌, ◌*
 ghost use Rattle.scale_base.specs.Answer.{Answers};
 ghost use Rattle.power_model.specs.Price.{time_at};
 ghost use Rattle.scaler.specs.Held as held;
+ghost use Rattle.scaler.specs.Runs.{IsHeldSafely};
 
 use crate::straight::straight_code;
 use elf_patch::{stub_base, write_image};
@@ -99,10 +100,31 @@ fn hold_at(
     }
 }
 
+/// The image at the slowest level that is safe, or the first refusal.
+#[tactic(auto, unfolding(crate::specs::Held::held))]
+fn held_image(
+    alloc: Global,
+    image: &[u8],
+    machine: &[u8],
+    loops: &[u8],
+) -> Result<(Vec<u8>, Summary), Stop>
+    requires { length image.now ≤ 4194304 }
+    ensures { Answers (λ given. (given.0.items, given.1)) result (held.held image.now machine.now loops.now) }
+{
+    let power = read_machine(alloc, machine)?;
+    let view = read_image(alloc, image)?;
+    check_unscaled(view.keyed())?;
+    check_no_loops(loops)?;
+    let n = straight_code(&view)?;
+    hold_at(alloc, &view, &power, worst_cycles(&power, n))
+}
+
 /// The image with an empty keyed segment that starts it at the slowest level at which its worst case is in time, and the
 /// numbers of its summary; or the first refusal: of the machine file, of the image, of a keyed segment, of the loop file,
 /// of code that isn't straight, and of the deadline.
-#[tactic(auto, unfolding(crate::specs::Held::held))]
+///
+/// The files have at most the bytes that the program loads: 4,194,304 of an image, 1,048,576 of each other file. Times are in
+/// the machine file's time units.
 pub fn hold(
     alloc: Global,
     image: &[u8],
@@ -112,12 +134,10 @@ pub fn hold(
     requires image { length image.now ≤ 4194304 }
     requires machine { length machine.now ≤ 1048576 }
     requires loops { length loops.now ≤ 1048576 }
-    ensures { Answers (λ given. (given.0.items, given.1)) result (held.held image.now machine.now loops.now) }
+    ensures given { Answers (λ given. (given.0.items, given.1)) result (held.held image.now machine.now loops.now) }
+
+    // The stored image runs as the original one does, on every input, and its runs that exit take the printed time.
+    ensures safe { IfOk result (λ given. IsHeldSafely image.now machine.now given.0.items given.1) }
 {
-    let power = read_machine(alloc, machine)?;
-    let view = read_image(alloc, image)?;
-    check_unscaled(view.keyed())?;
-    check_no_loops(loops)?;
-    let n = straight_code(&view)?;
-    hold_at(alloc, &view, &power, worst_cycles(&power, n))
+    held_image(alloc, image, machine, loops)
 }

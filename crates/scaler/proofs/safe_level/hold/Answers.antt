@@ -1,5 +1,5 @@
-use Rattle.scaler.proofs.Bases.{file_is}
+use Rattle.scaler.proofs.Safe.{safe_given}
 use Rattle.scaler.proofs.safe_level.hold.Goals as goal
 
-pub hold_at-requires-clause-file : goal.hold_at-requires-clause-file
-hold_at-requires-clause-file c = rw (file_is c.args.image.now c.in_ok-view.view c.in_ok-view.ensures) c.requires.image
+pub returns-clause-safe : goal.returns-clause-safe
+returns-clause-safe c = safe_given c.args.image.now c.args.machine.now c.args.loops.now c.held_image.result c.requires.image c.held_image.ensures

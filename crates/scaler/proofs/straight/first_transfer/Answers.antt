@@ -1,4 +1,4 @@
-use Rattle.std.proofs.Common.{◌≡◌, ap, sym, ◌∙◌}
+use Rattle.std.proofs.Common.{ap, sym, ◌∙◌}
 use Rattle.scaler.specs.Straight.{first_transfer}
 use Rattle.scaler.proofs.Searches.{range_first, range_passed, found_from}
 use Rattle.scaler.proofs.straight.first_transfer.Goals as goal

@@ -1,0 +1,23 @@
+-- An image that is held at one level: it is stored with an empty block and no patch.
+use Rattle.std.specs.Prelude.{◌≡◌, ℕ, ◌≤◌, ◌<◌, ◌^◌, List, [], length, Some, None, Ok}
+use Rattle.scale_base.specs.Image.{Image, image_of, contents, loaded_byte}
+use Rattle.scale_base.specs.Layout.{layout_of}
+use Rattle.elf_patch.specs.Stored.{stored_image, page_at, text_end}
+
+-- `held` is what the file stored with an empty block at the base, and with this starting level, is the image of: it runs the same program
+pub record IsHeldImage (file : List ℕ) (image : Image) (base start : ℕ) (held : Image) : Type 0 where
+  pub accepted : image_of (stored_image file [] base [] start) ≡ Ok held
+  pub entry : held.entry ≡ image.entry
+  pub bytes : loaded_byte held ≡ loaded_byte image
+  pub layout : layout_of held ≡ record (layout_of image) { keyed = Some (record { from = base; to = base }) }
+  pub keyed : held.keyed_segment ≡ Some (record { range = record { from = base; to = base }; start = start })
+  pub text : held.text ≡ image.text
+
+-- where the empty block of an image stands
+abbrev pub held_base : Image → ℕ
+held_base image = page_at (text_end image.text)
+
+abbrev pub HeldImageLaw : Type 0
+HeldImageLaw =
+    (file : List ℕ) (image : Image) (start : ℕ) → image_of file ≡ Ok image → image.keyed_segment ≡ None → length file ≤ 4194304 → start < 2 ^ 32
+    → IsHeldImage file image (held_base image) start (contents (stored_image file [] (held_base image) [] start))
