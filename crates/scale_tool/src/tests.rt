@@ -13,7 +13,7 @@ const NO_LOOPS: &str = "version = 1\n";
 
 const DIV: &str = "div = 10\n";
 
-const ROW_ONE: [&str; 5] = ["hold", "image", "machine", "loops", "out"];
+const HOLD_WORDS: [&str; 5] = ["hold", "image", "machine", "loops", "out"];
 
 const BAD_COMMAND: &[u8] = b"bad command; try: scale help\n";
 
@@ -148,7 +148,7 @@ fn check_refused(
     text: &str,
 ) -> Result<(), Fail> {
     let mut host = host_of(alloc, &[], image, machine, loops)?;
-    let words = words_of(alloc, &ROW_ONE)?;
+    let words = words_of(alloc, &HOLD_WORDS)?;
     assert_eq!(rt; run_tool(&mut host, alloc, &words), 1, "{text}");
     assert_eq!(rt; host.printed(), text.as_bytes());
     assert!(rt; host.file("out").is_none(), "{text}");
@@ -174,7 +174,7 @@ fn hold_stores_the_image_and_prints_the_summary(rt: HostRuntime) -> Result<(), F
     for (deadline, level, summary) in cases {
         let machine = machine_file(alloc, deadline, DIV, 2)?;
         let mut host = host_of(alloc, &[], &image, machine.as_str(), NO_LOOPS)?;
-        let words = words_of(alloc, &ROW_ONE)?;
+        let words = words_of(alloc, &HOLD_WORDS)?;
         assert_eq!(rt; run_tool(&mut host, alloc, &words), 0);
         let held = held_image(alloc, &EXIT_SEVEN, level)?;
         assert_eq!(rt; held.len(), 4160);
@@ -347,7 +347,7 @@ fn a_call_fails(rt: HostRuntime) -> Result<(), Fail> {
     for (deadline, call, status, stored, printed, faults) in cases {
         let machine = machine_file(alloc, deadline, DIV, 2)?;
         let mut host = host_of(alloc, &[call], &image, machine.as_str(), NO_LOOPS)?;
-        let words = words_of(alloc, &ROW_ONE)?;
+        let words = words_of(alloc, &HOLD_WORDS)?;
         assert_eq!(rt; run_tool(&mut host, alloc, &words), status, "call {call}");
         assert_eq!(rt;
             host.file("out").map(|out| out.len()),
@@ -365,7 +365,7 @@ fn room_for_the_stored_image(rt: HostRuntime) -> Result<(), Fail> {
     let alloc = rt.alloc();
     let image = plain_image(alloc, &EXIT_SEVEN, 0, 5)?;
     let machine = machine_file(alloc, 28, DIV, 2)?;
-    let words = words_of(alloc, &ROW_ONE)?;
+    let words = words_of(alloc, &HOLD_WORDS)?;
     let mut host = MemHost::new(alloc, Vec::new(alloc));
     host.add_file("image", &image)?;
     host.add_file("machine", machine.as_str().as_bytes())?;
@@ -382,7 +382,7 @@ fn hold_over_a_host_that_never_fails(rt: HostRuntime) -> Result<(), Fail> {
     let alloc = rt.alloc();
     let image = plain_image(alloc, &EXIT_SEVEN, 0, 5)?;
     let machine = machine_file(alloc, 28, DIV, 2)?;
-    let words = words_of(alloc, &ROW_ONE)?;
+    let words = words_of(alloc, &HOLD_WORDS)?;
     let mut inner = MemHost::new(alloc, Vec::new(alloc));
     inner.add_file("image", &image)?;
     inner.add_file("machine", machine.as_str().as_bytes())?;
