@@ -1,9 +1,2 @@
-pub mod Lists
-pub mod Bytes
-pub mod Table
-pub mod Segments
-pub mod Header
-pub mod Text
 pub mod Contents
-pub mod Held
 pub mod Law

@@ -1,6 +1,6 @@
 -- The runs of a held image are those of the original one, and end as the summary says.
-use Rattle.std.proofs.Common.{◌≡◌, inl, inr, ℕ, ◌+◌, ◌*◌, ◌^◌, ◌<◌, ◌≤◌, Bool, true, false, List, [], ◌∷◌, length, Some, None, refl, sym, ap, subst, ◌∙◌, arith, cond}
-use Rattle.std.specs.Prelude.{All, replicate, slice_set, sum_by, option_map, find, nat_le}
+use Rattle.std.proofs.Common.{◌≡◌, inl, inr, ℕ, ◌+◌, ◌*◌, ◌^◌, ◌<◌, ◌≤◌, true, List, [], ◌∷◌, length, Some, None, sym, ap, subst, ◌∙◌, arith}
+use Rattle.std.specs.Prelude.{All, replicate, slice_set, sum_by, option_map, nat_le}
 use Rattle.std.specs.List.{range_with_len}
 use Rattle.std.proofs.Math.Nat.{suc-mul}
 use Rattle.std.proofs.lemmas.Bool.{cases_lt}
@@ -12,6 +12,7 @@ use Rattle.scale_base.specs.declared.stepping.Class.TheVariants as classes
 use Rattle.scale_base.specs.Image.{Image, loaded_byte}
 use Rattle.scale_base.specs.Layout.{layout_of}
 use Rattle.scale_base.specs.Run.{Run, GoesOn, HasExited, Standing, run, run_of, setting_of, start_of, start, starting_level}
+use Rattle.text_laws.proofs.Tests.{found_passes}
 use Rattle.run_laws.specs.Keys.{setting, with_empty_key, with_window, run_with_window}
 use Rattle.run_laws.proofs.EmptyKey.{run_same}
 use Rattle.run_laws.proofs.KeylessRuns.{run_without_port}
@@ -86,14 +87,6 @@ has_ended status s goes ended = absurd (cc (goes, ended))
 no_ports : (image : Image) (levels : ℕ) (input : List ℕ) (m : ℕ) → image.keyed_segment ≡ None → All (λ x. x.port ≡ None) (run_of image levels input m).steps
 unfolding run_of
 no_ports image levels input m none = run_without_port (setting_of image levels input) (start_of image levels) m (no_key image none)
-
-found_passes : (p : ℕ → Bool) (xs : List ℕ) (x : ℕ) → find p xs ≡ Some x → p x ≡ true
-found_passes p [] x e = absurd cc
-found_passes p (y ∷ ys) x e = found_step (p y) refl e (found_passes p ys x)
-  where
-    found_step : (b : Bool) → p y ≡ b → cond b (Some y) (find p ys) ≡ Some x → (find p ys ≡ Some x → p x ≡ true) → p x ≡ true
-    found_step true h e go = let same : y ≡ x = cc in ap p (sym same) ∙ h
-    found_step false h e go = go e
 
 le_of : (x y : ℕ) → nat_le x y ≡ true → x ≤ y
 le_of x y e = grind (arith, nat_tests)

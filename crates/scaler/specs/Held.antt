@@ -12,7 +12,8 @@ use Rattle.power_model.specs.Price.{cycles_of, time_at}
 use Rattle.power_model.specs.Slowest.{slowest_of, fastest}
 use Rattle.table_keys.specs.Keys.{◌>>=◌}
 use Rattle.machine_file.specs.Machine.{read_machine}
-use Rattle.elf_patch.specs.Stored.{stored_image, page_at, text_end}
+use Rattle.elf_patch.specs.Stored.{stored_image}
+use Rattle.image_laws.specs.Laws.{held_base}
 use Rattle.scaler.specs.Straight.{straight_code}
 
 -- the image has no keyed segment yet
@@ -28,13 +29,9 @@ no_loops loops = if bytes_eq loops (codes "version = 1\n") then Ok tt else Err (
 abbrev pub worst_cycles : PowerModel → ℕ → ℕ
 worst_cycles power n = n * cycles_of power.costs Alu + cycles_of power.costs Ecall
 
--- where an empty block stands: at the first multiple of 4,096 from the end of the text on
-abbrev pub empty_base : Image → ℕ
-empty_base image = page_at (text_end image.text)
-
 -- the image with an empty keyed segment and a starting level
 abbrev pub held_file : Image → ℕ → List ℕ
-held_file image start = stored_image image.file [] (empty_base image) [] start
+held_file image start = stored_image image.file [] (held_base image) [] start
 
 abbrev pub held_summary : PowerModel → ℕ → ℕ → Summary
 held_summary power worst start = record {

@@ -1,0 +1,9 @@
+pub mod Graph
+pub mod Worst
+pub mod Accepted
+pub mod Steps
+pub mod Least
+pub mod LeastTurns
+pub mod Reached
+pub mod Lists
+pub mod Laws

@@ -1,0 +1,9 @@
+pub mod Text
+pub mod TextStates
+pub mod ReturnAddresses
+pub mod KeptSteps
+pub mod EdgeCosts
+pub mod RunMoves
+pub mod KeptRuns
+pub mod Laws
+pub mod Met

@@ -1,0 +1,56 @@
+//! Runs of the machine over the graph of the reached code of a text: each completed step is a move over an edge that costs what
+//! the step costs. Costs are cycles, by the class of the instruction. RISC-V Unprivileged ISA, RV32I; the worst cycles are those of
+//! WCET analysis, the greatest cost of a walk that keeps the loops' bounds.
+#![tactic(auto)]
+
+ghost use Rattle.graph_runs.specs.Met.{HypothesesAreMet};
+ghost use Rattle.graph_runs.specs.Laws.{KindsAreOfStoredWords, InstructionsAreOfStoredWords, KnownNumbersArePut, ImageNumbersArePut, RunsAreMoves, KeptRunsAreKeptMoves, KeptRunsAreBelow, KeptRunsEnd, CyclesLeftAreBelow, ImagesStartOver, ImageRunsAreKeptMoves, ImageRunsAreBelow, ImageRunsEnd};
+
+/// The service number that is known at an address is the one that the nearest `addi x17,x0,k` before it puts into x17, at most
+/// 16 words away and in the same range, with no way in between. The ranges of an image share no address.
+pub fn known_numbers_are_put()
+    ensures text { KnownNumbersArePut }
+    ensures image { ImageNumbersArePut }
+{}
+
+/// The words of the text of an image are those that are read from its file: an address where none is read is refused.
+pub fn words_are_stored()
+    ensures kind { KindsAreOfStoredWords }
+    ensures instruction { InstructionsAreOfStoredWords }
+{}
+
+/// A run over a text whose returns go back to their calls is a list of moves over the graph of its reached code, at the cost of
+/// its steps. A run that keeps the loops' bounds too is a list of kept moves. The run of an image starts over its text, so both
+/// hold of it.
+pub fn runs_follow_the_graph()
+    ensures moves { RunsAreMoves }
+    ensures kept { KeptRunsAreKeptMoves }
+    ensures start { ImagesStartOver }
+    ensures image { ImageRunsAreKeptMoves }
+{}
+
+/// A kept run costs at most the worst cycles of the program's entry, whatever the costs of the classes, the machine's levels and
+/// the input.
+pub fn kept_runs_are_below()
+    ensures run { KeptRunsAreBelow }
+    ensures image { ImageRunsAreBelow }
+{}
+
+/// After a kept run, its cycles and those that are left, at the node and with the calls and counts to which it leads, are at most
+/// the worst cycles of the program's entry.
+pub fn cycles_left_are_below()
+    ensures { CyclesLeftAreBelow }
+{}
+
+/// Where each class costs a cycle at least, a kept run goes on for at most as many steps as the worst cycles of the program's
+/// entry are.
+pub fn kept_runs_end()
+    ensures run { KeptRunsEnd }
+    ensures image { ImageRunsEnd }
+{}
+
+/// The hypotheses of these laws are met together: by the image of a file of three instructions, the first of which branches to
+/// itself.
+pub fn hypotheses_are_met()
+    ensures { HypothesesAreMet }
+{}
