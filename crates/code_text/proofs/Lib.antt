@@ -1,0 +1,5 @@
+pub mod Searches
+pub mod Walks
+pub mod KnownRows
+pub mod Rising
+pub mod Rows
