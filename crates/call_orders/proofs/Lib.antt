@@ -1,0 +1,3 @@
+mod SearchLaws
+mod OrderLaws
+mod ChainLaws

@@ -1,0 +1,4 @@
+pub mod FlowLaws
+pub mod ChainLaws
+pub mod LinkLaws
+pub mod MarkLaws
