@@ -1,3 +1,4 @@
 mod SearchLaws
 mod OrderLaws
 mod ChainLaws
+pub mod CycleLaws

@@ -9,7 +9,7 @@ use Rattle.call_orders.specs.Arcs.{arc_at, number_at, AreNumbered, AreDistinct, 
 use Rattle.call_orders.specs.Arcs.Leads.{along, onward}
 use Rattle.call_orders.specs.Search.{mark, IsMet, IsDone, IsSearch, IsBack}
 
-same_place : (numbers : List ℕ) (i j : ℕ) → AreDistinct numbers → i < length numbers → j < length numbers → number_at numbers i ≡ number_at numbers j → i ≡ j
+pub same_place : (numbers : List ℕ) (i j : ℕ) → AreDistinct numbers → i < length numbers → j < length numbers → number_at numbers i ≡ number_at numbers j → i ≡ j
 same_place numbers i j distinct il jl e = ⊎_elim (λ (k : i ≡ j). k)
     (λ (ne : i ≡ j → ⊥). ⊎_elim
     (λ (lt : i < j). absurd (distinct i j lt jl e))

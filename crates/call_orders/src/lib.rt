@@ -6,10 +6,12 @@ ghost use Rattle.std.specs.Prelude.{◌≡◌, ℕ, ◌^◌, ◌<◌, ◌↔◌,
 ghost use Rattle.call_orders.specs.Arcs.{AreNumbered, HasNoCycle, IsAnswer, is_sorted};
 
 mod chains;
+mod cycles;
 mod search;
 #[cfg(test)]
 mod tests;
 
+pub use cycles::least_first;
 use scale_base::NoMemory;
 use search::Search;
 use std::alloc::Global;

@@ -101,3 +101,12 @@ fn orders_a_long_chain(rt: HostRuntime) -> Result<(), Fail> {
     assert_eq!(rt; cycle.len(), 2000);
     Ok(())
 }
+
+#[test]
+fn turns_a_cycle_to_its_least_number(rt: HostRuntime) -> Result<(), Fail> {
+    let turned = least_first(vec![in rt.alloc(); 20, 12, 16]?);
+    assert_eq!(rt; turned.as_slice(), [12, 16, 20].as_slice());
+    let one = least_first(vec![in rt.alloc(); 8]?);
+    assert_eq!(rt; one.as_slice(), [8].as_slice());
+    Ok(())
+}

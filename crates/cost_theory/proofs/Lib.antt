@@ -19,6 +19,7 @@ pub mod Contexts
 pub mod Least
 pub mod Reaching
 pub mod Programs
+pub mod Agreeing
 pub mod Acyclic
 pub mod Orders
 pub mod OrdersExist

@@ -6,7 +6,7 @@ use Rattle.cost_theory.specs.Accepted.{IsNode, IsCall, AreCalls, IsProgram}
 use Rattle.cost_theory.specs.declared.edges.Word.{Word}
 use Rattle.cost_theory.specs.declared.edges.EdgeKind.{EdgeKind}
 use Rattle.cost_theory.specs.declared.edges.Edge.{Edge}
-use Rattle.cost_theory.specs.Reached.{LeadsTo, Reached, DoesReturn, edges_of, Code, place_after, edge_at, edge_to, number_at, owner_of, returns_of, call_returns, callee_of, is_back, is_exit, edge_exits, graph_of, IsCodeOf, HasNoBadWord}
+use Rattle.cost_theory.specs.Reached.{LeadsTo, Reached, DoesReturn, edges_of, Code, place_after, edge_at, edge_to, number_at, owner_of, returns_of, call_returns, callee_of, edge_callee, is_back, edge_returns, is_exit, edge_exits, graph_of, IsCodeOf, HasNoBadWord}
 use Rattle.cost_theory.specs.declared.edges.Word.TheVariants.{Branch, Goto, CallOf, Back, Ends, MayEnd, Breaks, Straight, Bad}
 use Rattle.cost_theory.specs.declared.edges.EdgeKind.TheVariants.{Taken, Jump, Next, CallNext, End}
 use Rattle.cost_theory.specs.Reached.Reached.{main, onward, back, called}
@@ -86,7 +86,20 @@ exit-kind w k e = let bad : ⊥ = cc in absurd bad
 pub back_ends : (v : ℕ) (b : Bool) (x : Edge) → Within x (edges_of Back v b) → x.kind ≡ End
 back_ends v b x h = ⊎_elim (λ q. sym (ap (λ y. y.kind) q)) (λ n. absurd n) h
 
+-- the number of an edge has the callee of the edge's word, and returns where the word does
+pub callee_word : (word : ℕ → Word) (fs : List ℕ) (es : List Edge) (e : ℕ) → e < length es → edge_callee word fs (slice_get es e) ≡ callee_of fs (word (edge_at (slice_get es e)))
+callee_word word fs es e lt = let x : (x : Edge) × (slice_get es e ≡ Some x) = some_get es e lt in ap (edge_callee word fs) x.1 ∙ sym (ap (λ o. callee_of fs (word (edge_at o))) x.1)
+
+pub returns_word : (word : ℕ → Word) (es : List Edge) (e : ℕ) → e < length es → edge_returns word (slice_get es e) ≡ is_back (word (edge_at (slice_get es e)))
+returns_word word es e lt = let x : (x : Edge) × (slice_get es e ≡ Some x) = some_get es e lt in ap (edge_returns word) x.1 ∙ sym (ap (λ o. is_back (word (edge_at o))) x.1)
+
 module _ (word : ℕ → Word) (first : ℕ) (code : Code) (is : IsCodeOf word first code) (fine : HasNoBadWord word first) where
+  callee_at : (e : ℕ) → e < length code.edges → edge_callee word code.functions (slice_get code.edges e) ≡ callee_of code.functions (word (edge_at (slice_get code.edges e)))
+  callee_at e lt = callee_word word code.functions code.edges e lt
+
+  returns_at : (e : ℕ) → e < length code.edges → edge_returns word (slice_get code.edges e) ≡ is_back (word (edge_at (slice_get code.edges e)))
+  returns_at e lt = returns_word word code.edges e lt
+
   -- the function of an edge's node
   pub source_reached : (e : ℕ) → e < length code.edges → (f : ℕ) × Reached word first f (edge_at (slice_get code.edges e))
   source_reached e lt =
@@ -169,14 +182,14 @@ module _ (word : ℕ → Word) (first : ℕ) (code : Code) (is : IsCodeOf word f
       let r : (v : ℕ) × ((f : ℕ) × Reached word first f v) × Within x.0 (edges_of (word v) v (call_returns code (word v))) × (x.0.at ≡ v) = edge_of_word word first code is e x.0 x.1 in
       (x.0, x.1, subst (λ v. Within x.0 (edges_of (word v) v (call_returns code (word v)))) (sym (ap edge_at x.1 ∙ r.3)) r.2)
 
-  pub comes_back_edge : (u f r : ℕ) → IsCall (graph_of word code) u f → r < length code.edges → is_back (word (edge_at (slice_get code.edges r))) ≡ true → owner_of code (edge_at (slice_get code.edges r)) ≡ f →
-      (e : ℕ) × (v : ℕ) × (e < length code.edges) × (edge_at (slice_get code.edges e) ≡ u) × (callee_of code.functions (word (edge_at (slice_get code.edges e))) ≡ Some f) × (edge_to (slice_get code.edges e) ≡ Some v)
+  pub comes_back_edge : (u f r : ℕ) → IsCall (graph_of word code) u f → r < length code.edges → edge_returns word (slice_get code.edges r) ≡ true → owner_of code (edge_at (slice_get code.edges r)) ≡ f →
+      (e : ℕ) × (v : ℕ) × (e < length code.edges) × (edge_at (slice_get code.edges e) ≡ u) × (edge_callee word code.functions (slice_get code.edges e) ≡ Some f) × (edge_to (slice_get code.edges e) ≡ Some v)
   comes_back_edge u f r call rl returns owner =
-      let c : (h : ℕ) × (word (edge_at (slice_get code.edges call.0)) ≡ CallOf h) × (f < length code.functions) × (number_at (slice_get code.functions f) ≡ h) = callee-call code.functions (word (edge_at (slice_get code.edges call.0))) f call.3 in
+      let c : (h : ℕ) × (word (edge_at (slice_get code.edges call.0)) ≡ CallOf h) × (f < length code.functions) × (number_at (slice_get code.functions f) ≡ h) = callee-call code.functions (word (edge_at (slice_get code.edges call.0))) f (sym (callee_at call.0 call.1) ∙ call.3) in
       let fh : slice_get code.functions f ≡ Some c.0 = function_at f c.0 c.2 c.3 in
       let sr : (f : ℕ) × Reached word first f (edge_at (slice_get code.edges r)) = source_reached r rl in
       let same : sr.0 ≡ c.0 = some_same _ _ (sym (is.owner sr.0 (edge_at (slice_get code.edges r)) sr.1) ∙ ap (slice_get code.functions) owner ∙ fh) in
-      let does : DoesReturn word first c.0 = (edge_at (slice_get code.edges r), subst (λ h. Reached word first h (edge_at (slice_get code.edges r))) same sr.1, back-word (word (edge_at (slice_get code.edges r))) returns) in
+      let does : DoesReturn word first c.0 = (edge_at (slice_get code.edges r), subst (λ h. Reached word first h (edge_at (slice_get code.edges r))) same sr.1, back-word (word (edge_at (slice_get code.edges r))) (sym (returns_at r rl) ∙ returns)) in
       let yes_it : returns_of code c.0 ≡ true = (is.returns c.0).1 does in
       let su : (f : ℕ) × Reached word first f (edge_at (slice_get code.edges call.0)) = source_reached call.0 call.1 in
       let at : ℕ = edge_at (slice_get code.edges call.0) in
@@ -185,12 +198,12 @@ module _ (word : ℕ → Word) (first : ℕ) (code : Code) (is : IsCodeOf word f
       let here : Within x (edges_of (word (edge_at (slice_get code.edges call.0))) (edge_at (slice_get code.edges call.0)) (call_returns code (word (edge_at (slice_get code.edges call.0))))) =
       subst (λ t. Within x (edges_of (word (edge_at (slice_get code.edges call.0))) (edge_at (slice_get code.edges call.0)) t)) (sym b) (subst (λ w. Within x (edges_of w (edge_at (slice_get code.edges call.0)) true)) (sym c.1) (inl refl)) in
       let e : (e : ℕ) × (e < length code.edges) × (slice_get code.edges e ≡ Some x) = word_edge word first code is su.0 (edge_at (slice_get code.edges call.0)) x su.1 here in
-      (e.0, edge_at (slice_get code.edges call.0) + 4, e.1, ap edge_at e.2 ∙ call.2, ap (λ o. callee_of code.functions (word (edge_at o))) e.2 ∙ call.3, ap edge_to e.2)
+      (e.0, edge_at (slice_get code.edges call.0) + 4, e.1, ap edge_at e.2 ∙ call.2, ap (edge_callee word code.functions) e.2 ∙ (sym (callee_at call.0 call.1) ∙ call.3), ap edge_to e.2)
 
-  pub returns_only : (e f v : ℕ) → e < length code.edges → callee_of code.functions (word (edge_at (slice_get code.edges e))) ≡ Some f → edge_to (slice_get code.edges e) ≡ Some v →
-      (r : ℕ) × (r < length code.edges) × (is_back (word (edge_at (slice_get code.edges r))) ≡ true) × (owner_of code (edge_at (slice_get code.edges r)) ≡ f)
+  pub returns_only : (e f v : ℕ) → e < length code.edges → edge_callee word code.functions (slice_get code.edges e) ≡ Some f → edge_to (slice_get code.edges e) ≡ Some v →
+      (r : ℕ) × (r < length code.edges) × (edge_returns word (slice_get code.edges r) ≡ true) × (owner_of code (edge_at (slice_get code.edges r)) ≡ f)
   returns_only e f v lt calls to =
-      let c : (h : ℕ) × (word (edge_at (slice_get code.edges e)) ≡ CallOf h) × (f < length code.functions) × (number_at (slice_get code.functions f) ≡ h) = callee-call code.functions (word (edge_at (slice_get code.edges e))) f calls in
+      let c : (h : ℕ) × (word (edge_at (slice_get code.edges e)) ≡ CallOf h) × (f < length code.functions) × (number_at (slice_get code.functions f) ≡ h) = callee-call code.functions (word (edge_at (slice_get code.edges e))) f (sym (callee_at e lt) ∙ calls) in
       let x : (x : Edge) × (slice_get code.edges e ≡ Some x) ×
       Within x (edges_of (word (edge_at (slice_get code.edges e))) (edge_at (slice_get code.edges e)) (call_returns code (word (edge_at (slice_get code.edges e))))) = edge_word e lt in
       ⊎_elim
@@ -203,24 +216,24 @@ module _ (word : ℕ → Word) (first : ℕ) (code : Code) (is : IsCodeOf word f
       let r : (r : ℕ) × (r < length code.edges) × (slice_get code.edges r ≡ Some y) = word_edge word first code is c.0 d.0 y d.1 here in (
         r.0,
         r.1,
-        ap (λ o. is_back (word (edge_at o))) r.2 ∙ ap is_back d.2,
+        ap (edge_returns word) r.2 ∙ ap is_back d.2,
         ap (λ o. owner_of code (edge_at o)) r.2 ∙ is.once (owner_of code d.0) f c.0 (is.owner c.0 d.0 d.1) (function_at f c.0 c.2 c.3),
       ))
       (edge_leads (word (edge_at (slice_get code.edges e))) (edge_at (slice_get code.edges e)) (call_returns code (word (edge_at (slice_get code.edges e)))) x.0 v x.2 (sym (ap edge_to x.1) ∙ to))
 
-  pub return_ends : (e : ℕ) → e < length code.edges → is_back (word (edge_at (slice_get code.edges e))) ≡ true → (edge_to (slice_get code.edges e) ≡ None) × (callee_of code.functions (word (edge_at (slice_get code.edges e))) ≡ None)
+  pub return_ends : (e : ℕ) → e < length code.edges → edge_returns word (slice_get code.edges e) ≡ true → (edge_to (slice_get code.edges e) ≡ None) × (edge_callee word code.functions (slice_get code.edges e) ≡ None)
   return_ends e lt returns =
-      let w : word (edge_at (slice_get code.edges e)) ≡ Back = back-word (word (edge_at (slice_get code.edges e))) returns in
+      let w : word (edge_at (slice_get code.edges e)) ≡ Back = back-word (word (edge_at (slice_get code.edges e))) (sym (returns_at e lt) ∙ returns) in
       let x : (x : Edge) × (slice_get code.edges e ≡ Some x) ×
       Within x (edges_of (word (edge_at (slice_get code.edges e))) (edge_at (slice_get code.edges e)) (call_returns code (word (edge_at (slice_get code.edges e))))) = edge_word e lt in
       let k : x.0.kind ≡ End = back_ends (edge_at (slice_get code.edges e)) (call_returns code Back) x.0 (subst (λ v. Within x.0 (edges_of v (edge_at (slice_get code.edges e)) (call_returns code v))) w x.2) in
-      (ap edge_to x.1 ∙ ap (λ k. place_after k x.0.to) k, ap (callee_of code.functions) w)
+      (ap edge_to x.1 ∙ ap (λ k. place_after k x.0.to) k, callee_at e lt ∙ ap (callee_of code.functions) w)
 
-  pub exit_ends : (e : ℕ) → e < length code.edges → edge_exits word (slice_get code.edges e) ≡ true → (edge_to (slice_get code.edges e) ≡ None) × (callee_of code.functions (word (edge_at (slice_get code.edges e))) ≡ None)
+  pub exit_ends : (e : ℕ) → e < length code.edges → edge_exits word (slice_get code.edges e) ≡ true → (edge_to (slice_get code.edges e) ≡ None) × (edge_callee word code.functions (slice_get code.edges e) ≡ None)
   exit_ends e lt exits =
       let x : (x : Edge) × (slice_get code.edges e ≡ Some x) = some_get code.edges e lt in
       let k : (x.0.kind ≡ End) × ((fs : List ℕ) → callee_of fs (word x.0.at) ≡ None) = exit-kind (word x.0.at) x.0.kind (sym (ap (edge_exits word) x.1) ∙ exits) in
-      (ap edge_to x.1 ∙ ap (λ k. place_after k x.0.to) k.0, ap (λ o. callee_of code.functions (word (edge_at o))) x.1 ∙ k.1 code.functions)
+      (ap edge_to x.1 ∙ ap (λ k. place_after k x.0.to) k.0, ap (edge_callee word code.functions) x.1 ∙ k.1 code.functions)
 
   pub is_program : ((f next : ℕ) (fs : List ℕ) → AreCalls (graph_of word code) f (next ∷ fs) f → ⊥) → IsProgram (graph_of word code)
   is_program no_recursion = record {
@@ -238,12 +251,12 @@ module _ (word : ℕ → Word) (first : ℕ) (code : Code) (is : IsCodeOf word f
         (reached_node r.0 v r.2, same_owner r.0 v (edge_at (slice_get code.edges e)) r.2 r.1));
     entry_node = λ f fl. (let h : (h : ℕ) × (slice_get code.functions f ≡ Some h) = some_get code.functions f fl in
         subst (λ v. IsNode (graph_of word code) v) (sym (ap number_at h.1)) (reached_node h.0 h.0 ((is.functions h.0).0 (f, h.1))));
-    callee_function = λ e f lt calls. (callee-call code.functions (word (edge_at (slice_get code.edges e))) f calls).2;
-    one_callee = λ d e dl el same. ap (λ v. callee_of code.functions (word v)) same;
-    call_end = λ u f call. (let c : (h : ℕ) × (word (edge_at (slice_get code.edges call.0)) ≡ CallOf h) × (f < length code.functions) × (number_at (slice_get code.functions f) ≡ h) = callee-call code.functions (word (edge_at (slice_get code.edges call.0))) f call.3 in
+    callee_function = λ e f lt calls. (callee-call code.functions (word (edge_at (slice_get code.edges e))) f (sym (callee_at e lt) ∙ calls)).2;
+    one_callee = λ d e dl el same. callee_at d dl ∙ (ap (λ v. callee_of code.functions (word v)) same ∙ sym (callee_at e el));
+    call_end = λ u f call. (let c : (h : ℕ) × (word (edge_at (slice_get code.edges call.0)) ≡ CallOf h) × (f < length code.functions) × (number_at (slice_get code.functions f) ≡ h) = callee-call code.functions (word (edge_at (slice_get code.edges call.0))) f (sym (callee_at call.0 call.1) ∙ call.3) in
         let r : (g : ℕ) × Reached word first g (edge_at (slice_get code.edges call.0)) = source_reached call.0 call.1 in
         let e : (e : ℕ) × (e < length code.edges) × (edge_at (slice_get code.edges e) ≡ edge_at (slice_get code.edges call.0)) × (edge_to (slice_get code.edges e) ≡ None) = end_edge r.0 (edge_at (slice_get code.edges call.0)) c.0 r.1 c.1 in
-        (e.0, e.1, e.2 ∙ call.2, ap (λ v. callee_of code.functions (word v)) e.2 ∙ call.3, e.3));
+        (e.0, e.1, e.2 ∙ call.2, callee_at e.0 e.1 ∙ (ap (λ v. callee_of code.functions (word v)) e.2 ∙ (sym (callee_at call.0 call.1) ∙ call.3)), e.3));
     comes_back = λ u f r call rl returns owner. comes_back_edge u f r call rl returns owner;
     comes_back_only = λ e f v lt calls to. returns_only e f v lt calls to;
     called = λ f fl ne. (let h : (h : ℕ) × (slice_get code.functions f ≡ Some h) = some_get code.functions f fl in
@@ -251,7 +264,7 @@ module _ (word : ℕ → Word) (first : ℕ) (code : Code) (is : IsCodeOf word f
         (λ q. absurd (ne (is.once f 0 first (h.1 ∙ ap Some q) is.first_function)))
         (λ (m : (g : ℕ) × (u : ℕ) × Reached word first g u × (word u ≡ CallOf h.0)).
         let e : (e : ℕ) × (e < length code.edges) × (edge_at (slice_get code.edges e) ≡ m.1) × (edge_to (slice_get code.edges e) ≡ None) = end_edge m.0 m.1 h.0 m.2 m.3 in
-        (m.1, (e.0, e.1, e.2, ap (λ v. callee_of code.functions (word v)) e.2 ∙ ap (callee_of code.functions) m.3 ∙ callee-is f h.0 h.1)))
+        (m.1, (e.0, e.1, e.2, callee_at e.0 e.1 ∙ ap (λ v. callee_of code.functions (word v)) e.2 ∙ ap (callee_of code.functions) m.3 ∙ callee-is f h.0 h.1)))
         (caller ((is.functions h.0).0 (f, h.1))));
     return_end = λ e lt returns. return_ends e lt returns;
     exit_end = λ e lt exits. exit_ends e lt exits;

@@ -1,5 +1,6 @@
 -- The laws of the numbers of a program, as statements for the contracts of functions.
-use Rattle.std.specs.Prelude.{◌≡◌, ℕ, ◌+◌, ◌<◌, ◌≤◌, Bool, true, false, List, ◌∷◌, Option, Some, None, IsSome}
+use Rattle.std.specs.Prelude.{◌≡◌, ℕ, ◌+◌, ◌<◌, ◌≤◌, Bool, true, false, List, ◌∷◌, slice_get, Option, Some, None, IsSome}
+use Rattle.cost_theory.specs.declared.edges.Edge.{Edge}
 use Rattle.cost_theory.specs.declared.edges.Word.{Word}
 use Rattle.cost_theory.specs.Graph.{Graph, Loops, total, next_edge}
 use Rattle.cost_theory.specs.Worst.{Numbers, AreNumbers, cost, charged, left_at, turn_back, slack, left_behind, turns_round, all_of, rest}
@@ -36,6 +37,16 @@ ReachedCodeIsProgram = (word : ℕ → Word) (first : ℕ) (code : Code) →
 -- Where reached code has lists of nodes with one owner each, no node is reached in two functions.
 abbrev pub ReachedCodeIsNotShared : Type 0
 ReachedCodeIsNotShared = (word : ℕ → Word) (first : ℕ) (code : Code) → IsCodeOf word first code → HasNoSharedCode word first
+
+-- Words that agree at the nodes of edges give one graph.
+abbrev pub GraphsAgree : Type 0
+GraphsAgree = (word word' : ℕ → Word) (code : Code) → ((i : ℕ) (e : Edge) → slice_get code.edges i ≡ Some e → word e.at ≡ word' e.at) →
+    graph_of word code ≡ graph_of word' code
+
+-- The edges of reached code start at its nodes.
+abbrev pub EdgesStartAtNodes : Type 0
+EdgesStartAtNodes = (word : ℕ → Word) (first : ℕ) (code : Code) → IsCodeOf word first code →
+    (i : ℕ) (e : Edge) → slice_get code.edges i ≡ Some e → (k : ℕ) × (slice_get code.nodes k ≡ Some e.at)
 
 -- An order of the functions, callees first, shows that there is no recursion.
 abbrev pub CallOrderShows : Type 0

@@ -131,6 +131,16 @@ is_back Breaks = false
 is_back Straight = false
 is_back Bad = false
 
+-- the function that an edge's word calls
+abbrev pub edge_callee : (ℕ → Word) → List ℕ → Option Edge → Option ℕ
+edge_callee word functions None = None
+edge_callee word functions (Some e) = callee_of functions (word e.at)
+
+-- an edge of a return
+abbrev pub edge_returns : (ℕ → Word) → Option Edge → Bool
+edge_returns word None = false
+edge_returns word (Some e) = is_back (word e.at)
+
 -- an exit is the End edge of a word that ends the run or may end it
 abbrev pub is_exit : Word → EdgeKind → Bool
 is_exit Ends End = true
@@ -146,8 +156,8 @@ graph_of word code = record {
   edges = length code.edges;
   source = λ e. edge_at (slice_get code.edges e);
   target = λ e. edge_to (slice_get code.edges e);
-  callee = λ e. callee_of code.functions (word (edge_at (slice_get code.edges e)));
-  returns = λ e. is_back (word (edge_at (slice_get code.edges e)));
+  callee = λ e. edge_callee word code.functions (slice_get code.edges e);
+  returns = λ e. edge_returns word (slice_get code.edges e);
   exits = λ e. edge_exits word (slice_get code.edges e);
   functions = length code.functions;
   entry = λ f. number_at (slice_get code.functions f);

@@ -21,5 +21,6 @@ pub use numbers::{
     slack_is_not_negative, worst_equation,
 };
 pub use reached::{
-    no_loops_are_accepted, orders_exist, orders_show_no_cycle, reached_code_is_a_program,
+    edges_start_at_nodes, graphs_agree, no_loops_are_accepted, orders_exist, orders_show_no_cycle,
+    reached_code_is_a_program,
 };

@@ -1,15 +1,20 @@
 -- Ranges in ascending order: where one more belongs, and what lies in them.
-use Rattle.std.proofs.Common.{◌≡◌, ℕ, zero, suc, ◌+◌, ◌-◌, ◌<◌, ◌≤◌, Bool, true, false, ◌&&◌, ◌||◌, not, cond, List, [], ◌∷◌, ◌++◌, length, map, fold, take, drop, get_or, refl, sym, ap, ◌∙◌, arith}
-use Rattle.std.specs.Prelude.{nat_lt, nat_le}
+use Rattle.std.proofs.Common.{◌≡◌, ℕ, zero, suc, ◌+◌, ◌-◌, ◌<◌, ◌≤◌, Bool, true, false, ◌&&◌, ◌||◌, not, cond, List, [], ◌∷◌, ◌++◌, length, map, fold, get_or, refl, sym, ap, ◌∙◌, arith}
+use Rattle.std.specs.Prelude.{nat_lt, nat_le, ◌==◌}
 use Rattle.std.specs.List.{list_any, list_all}
 use Rattle.std.specs.List.Sorted.{IsNonDecreasingBy}
 use Rattle.std.proofs.lemmas.Bool.{lt-ltb, le-leb}
 use Rattle.std.proofs.lemmas.Bool.Decides.{nat_tests}
+use Rattle.std.specs.BTreeMap.{insert_entry}
+use Rattle.std.specs.BTreeMap.Range.{entries_between}
+use Rattle.std.specs.Ordering.{nat_cmp, is_le, match_ordering}
+use Rattle.std.specs.declared.cmp.Ordering.TheVariants.{Less, Equal, Greater}
+use Rattle.std.specs.declared.ops.Bound.TheVariants.{Unbounded, Excluded}
 use Rattle.scale_base.specs.declared.ranges.Range.{Range}
 use Rattle.scale_base.specs.declared.ranges.TextPart.{TextPart}
 use Rattle.scale_base.specs.Image.{insert_range, range_of, is_in, are_apart}
 use Rattle.elf_view.proofs.Booleans.{both_true, le_of}
-use Rattle.elf_view.specs.Ascending.{AscendFrom, are_separate}
+use Rattle.elf_view.specs.Ascending.{AscendFrom, are_separate, range_between}
 
 not_lt : (x y : ℕ) → y ≤ x → nat_lt x y ≡ false
 not_lt x y le = grind (arith, nat_tests)
@@ -44,65 +49,110 @@ ascend-insert low (x ∷ rs) r h le some e =
     let a = both_true (are_separate x r) (list_all (λ x. are_separate x r) rs) e in
     insert_step low x r rs (nat_lt r.from x.from) refl h le some a.0 (λ end. ascend-insert x.to rs r h.2 end some a.1)
 
--- those that begin at or above the end of a range are separate from it
-above : (low : ℕ) (rs : List Range) (r : Range) → AscendFrom low rs → r.to ≤ low → list_all (λ x. are_separate x r) rs ≡ true
-above low [] r h le = refl
-above low (x ∷ rs) r h le =
-    let one : are_separate x r ≡ true = let first = h.0 in grind (arith, nat_tests) in
-    rw (one, above x.to rs r h.2 (omega (arith, h.0, h.1))) refl
+-- ---- the ranges of a map from their starts to their ends
 
-and_true : (a b : Bool) → (a ≡ true → b ≡ true) → (a && b) ≡ a
-and_true true b go = rw (go refl) refl
-and_true false b go = refl
+-- the entries that begin below an address, as a look-up up to it has them
+abbrev pub begun : ℕ → List (ℕ × ℕ) → List (ℕ × ℕ)
+begun to es = entries_between nat_cmp Unbounded (Excluded to) es
 
--- the first of them decides, where all begin above the range's start
-neighbor_above : (low : ℕ) (rs : List Range) (r d : Range) → AscendFrom low rs → r.from < r.to → (0 < length rs → r.from < (get_or rs 0 d).from)
-    → list_all (λ x. are_separate x r) rs ≡ (nat_le (length rs) 0 || nat_le r.to (get_or rs 0 d).from)
-neighbor_above low [] r d h some here = refl
-neighbor_above low (x ∷ rs) r d h some here =
-    let start : r.from < x.from = here (omega arith) in
-    let one : nat_le x.to r.from ≡ false = not_le x.to r.from (omega (arith, h.1, start)) in
-    let none : nat_le (length (x ∷ rs)) 0 ≡ false = not_le (length (x ∷ rs)) 0 (omega arith) in
-    rw (one, none) (and_true (nat_le r.to x.from) (list_all (λ x. are_separate x r) rs) (λ e. above x.to rs r h.2 (omega (arith, le_of _ _ e, h.1))))
+le_step : (b c d : Bool) → (b ≡ true → d ≡ true) → (c ≡ true → d ≡ true) → (b ≡ false → c ≡ false → d ≡ false) → is_le (cond b Less (cond c Equal Greater)) ≡ d
+le_step true c d one two none = sym (one refl)
+le_step false true d one two none = sym (two refl)
+le_step false false d one two none = sym (none refl refl)
 
-le-suc : (n i : ℕ) → nat_le (suc n) (suc i) ≡ nat_le n i
-le-suc n i = grind (arith, nat_tests)
+is_le-nat : (x y : ℕ) → is_le (nat_cmp x y) ≡ nat_le x y
+is_le-nat x y = le_step (nat_lt x y) (x == y) (nat_le x y) (λ e. grind (arith, nat_tests)) (λ e. grind (arith, nat_tests)) (λ e f. grind (arith, nat_tests))
 
-or_false : (b : Bool) → (b || false) ≡ b
-or_false true = refl
-or_false false = refl
+-- whether the first entry is among those that begin below an address
+begun-cons : (to : ℕ) (e : ℕ × ℕ) (es : List (ℕ × ℕ)) → begun to (e ∷ es) ≡ cond (nat_le to e.0) (begun to es) (e ∷ begun to es)
+begun-cons to e es = rw (is_le-nat to e.0) (flip (nat_le to e.0))
+  where
+    flip : (b : Bool) → cond (not b) (e ∷ begun to es) (begun to es) ≡ cond b (begun to es) (e ∷ begun to es)
+    flip true = refl
+    flip false = refl
 
--- a range is separate from each of those below it where it is from the last of them
-neighbors : (low : ℕ) (rs : List Range) (r d : Range) (i : ℕ) → AscendFrom low rs → r.from < r.to → i < length rs → ((j : ℕ) → j ≤ i → (get_or rs j d).from ≤ r.from)
-    → (suc i < length rs → r.from < (get_or rs (suc i) d).from)
-    → list_all (λ x. are_separate x r) rs ≡ (nat_le (get_or rs i d).to r.from && (nat_le (length rs) (suc i) || nat_le r.to (get_or rs (suc i) d).from))
-neighbors low [] r d i h some lt before here = absurd (omega arith)
-neighbors low (x ∷ rs) r d zero h some lt before here =
-    let start : x.from ≤ r.from = before 0 (omega arith) in
-    let off : nat_le r.to x.from ≡ false = not_le r.to x.from (omega arith) in
-    let rest = neighbor_above x.to rs r d h.2 some (λ l. here (omega arith)) in
-    let one : are_separate x r ≡ nat_le x.to r.from = rw off (or_false (nat_le x.to r.from)) in
-    rw (one, rest, ← le-suc (length rs) 0) refl
-neighbors low (x ∷ rs) r d (suc i) h some lt before here =
-    let on : nat_le x.to r.from ≡ true = le-leb x.to r.from (omega (arith, from_low x.to rs i d h.2 (omega arith), before (suc i) (omega arith))) in
-    let rest = neighbors x.to rs r d i h.2 some (omega arith) (λ j le. before (suc j) (omega arith)) (λ l. here (omega arith)) in
-    rw (on, rest, ← le-suc (length rs) (suc i)) refl
+-- a range is separate from those that begin at or above its end
+none_step : (b : Bool) (x r : Range) (rest : Bool) (e : ℕ × ℕ) (es : List (ℕ × ℕ)) → nat_le r.to x.from ≡ b → cond b es (e ∷ es) ≡ [] → (es ≡ [] → rest ≡ true) → (are_separate x r && rest) ≡ true
+none_step true x r rest e es is none go = rw (is, go none) (or_true (nat_le x.to r.from))
+  where
+    or_true : (b : Bool) → ((b || true) && true) ≡ true
+    or_true true = refl
+    or_true false = refl
+none_step false x r rest e es is none go = absurd cc
+
+pub none-begun : (es : List (ℕ × ℕ)) (r : Range) → begun r.to es ≡ [] → list_all (λ x. are_separate x r) (map range_between es) ≡ true
+none-begun [] r none = refl
+none-begun (e ∷ es) r none =
+    none_step (nat_le r.to e.0) (range_between e) r (list_all (λ x. are_separate x r) (map range_between es)) e (begun r.to es) refl (sym (begun-cons r.to e es) ∙ none) (none-begun es r)
+
+-- the last of them ends above where they begin
+last_above : (low to : ℕ) (es front : List (ℕ × ℕ)) (last : ℕ × ℕ) → AscendFrom low (map range_between es) → begun to es ≡ front ++ last ∷ [] → low < last.1
+last_above low to [] [] last h are = absurd cc
+last_above low to [] (f ∷ front) last h are = absurd cc
+last_above low to (e ∷ es) front last h are = above_step low to e last (begun to es) (nat_le to e.0) front (sym (begun-cons to e es) ∙ are) h.0 h.1 (λ ys rest. last_above e.1 to es ys last h.2 rest)
+  where
+    above_step : (low to : ℕ) (e last : ℕ × ℕ) (bs : List (ℕ × ℕ)) (b : Bool) (front : List (ℕ × ℕ)) → cond b bs (e ∷ bs) ≡ front ++ last ∷ [] → low ≤ e.0 → e.0 < e.1 → ((ys : List (ℕ × ℕ)) → bs ≡ ys ++ last ∷ [] → e.1 < last.1) → low < last.1
+    above_step low to e last bs true front are from some go = omega (arith, go front are, from, some)
+    above_step low to e last bs false [] are from some go = (let same : e ≡ last = cc in let end : e.1 ≡ last.1 = ap (λ (p : ℕ × ℕ). p.1) same in omega (arith, end, from, some))
+    above_step low to e last bs false (f ∷ front) are from some go = (let rest : bs ≡ front ++ last ∷ [] = cc in omega (arith, go front rest, from, some))
+
+below_true : (a b : Bool) → (b ≡ true → a ≡ true) → (a && b) ≡ b
+below_true a true go = rw (go refl) refl
+below_true true false go = refl
+below_true false false go = refl
+
+-- whether the last of them is separate decides
+some_step : (b : Bool) (e last : ℕ × ℕ) (r : Range) (rest : Bool) (bs front : List (ℕ × ℕ)) → nat_le r.to e.0 ≡ b → cond b bs (e ∷ bs) ≡ front ++ last ∷ [] → (bs ≡ [] → rest ≡ true)
+    → ((ys : List (ℕ × ℕ)) → bs ≡ ys ++ last ∷ [] → (rest ≡ nat_le last.1 r.from) × (e.1 < last.1)) → (are_separate (range_between e) r && rest) ≡ nat_le last.1 r.from
+some_step true e last r rest bs front is are none go = rw (is, (go front are).0) (or_true (nat_le e.1 r.from) (nat_le last.1 r.from))
+  where
+    or_true : (a b : Bool) → ((a || true) && b) ≡ b
+    or_true true b = refl
+    or_true false b = refl
+some_step false e last r rest bs [] is are none go =
+    let same : e ≡ last = cc in
+    let end : bs ≡ [] = cc in
+    let ends : e.1 ≡ last.1 = ap (λ (p : ℕ × ℕ). p.1) same in
+    rw (is, none end, ← ends) (or_and (nat_le e.1 r.from))
+  where
+    or_and : (a : Bool) → ((a || false) && true) ≡ a
+    or_and true = refl
+    or_and false = refl
+some_step false e last r rest bs (f ∷ front) is are none go =
+    let more : bs ≡ front ++ last ∷ [] = cc in
+    let g = go front more in
+    rw (is, g.0) (below_true (nat_le e.1 r.from || false) (nat_le last.1 r.from) (λ on. rw (le-leb e.1 r.from (omega (arith, g.1, le_of _ _ on))) refl))
+
+pub some-begun : (low : ℕ) (es front : List (ℕ × ℕ)) (last : ℕ × ℕ) (r : Range) → AscendFrom low (map range_between es) → begun r.to es ≡ front ++ last ∷ [] → list_all (λ x. are_separate x r) (map range_between es) ≡ nat_le last.1 r.from
+some-begun low [] [] last r h are = absurd cc
+some-begun low [] (f ∷ front) last r h are = absurd cc
+some-begun low (e ∷ es) front last r h are =
+    some_step (nat_le r.to e.0) e last r (list_all (λ x. are_separate x r) (map range_between es)) (begun r.to es) front refl (sym (begun-cons r.to e es) ∙ are) (none-begun es r)
+    (λ ys more. (some-begun e.1 es ys last r h.2 more, last_above e.1 r.to es ys last h.2 more))
+
+-- a new entry stands in its place among the ranges
+insert_ranges_step : (b c : Bool) (e : ℕ × ℕ) (es : List (ℕ × ℕ)) (r : Range) → c ≡ false → map range_between (insert_entry nat_cmp es r.from r.to) ≡ insert_range (map range_between es) r
+    → map range_between (match_ordering (cond b Less (cond c Equal Greater)) ((r.from, r.to) ∷ e ∷ es) ((e.0, r.to) ∷ es) (e ∷ insert_entry nat_cmp es r.from r.to))
+    ≡ cond b (r ∷ range_between e ∷ map range_between es) (range_between e ∷ insert_range (map range_between es) r)
+insert_ranges_step true c e es r off go = refl
+insert_ranges_step false true e es r off go = absurd cc
+insert_ranges_step false false e es r off go = ap (λ (ys : List Range). range_between e ∷ ys) go
+
+pub insert-ranges : (low : ℕ) (es : List (ℕ × ℕ)) (r : Range) → AscendFrom low (map range_between es) → r.from < r.to → list_all (λ x. are_separate x r) (map range_between es) ≡ true
+    → map range_between (insert_entry nat_cmp es r.from r.to) ≡ insert_range (map range_between es) r
+insert-ranges low [] r h some apart = refl
+insert-ranges low (e ∷ es) r h some apart =
+    let a = both_true (are_separate (range_between e) r) (list_all (λ x. are_separate x r) (map range_between es)) apart in
+    insert_ranges_step (nat_lt r.from e.0) (r.from == e.0) e es r (other e.0 e.1 r.from r.to h.1 some a.0) (insert-ranges e.1 es r h.2 some a.1)
+  where
+    other : (f g from to : ℕ) → f < g → from < to → (nat_le g from || nat_le to f) ≡ true → (from == f) ≡ false
+    other f g from to some one e = grind (arith, nat_tests)
 
 -- so many of the ranges begin at or below an address
 pub record IsPlaceOf (rs : List Range) (at p : ℕ) : Type 0 where
   pub bound : p ≤ length rs
   pub below : (k : ℕ) (d : Range) → k < p → (get_or rs k d).from ≤ at
   pub above : (k : ℕ) (d : Range) → p ≤ k → k < length rs → at < (get_or rs k d).from
-
--- a range is separate from all where it is from the next one, and begins at or above the end of the one before
-pub separate-at : (rs : List Range) (r d : Range) (p : ℕ) → AscendFrom 0 rs → r.from < r.to → IsPlaceOf rs r.from p → (0 < p → (get_or rs (p - 1) d).to ≤ r.from)
-    → list_all (λ x. are_separate x r) rs ≡ (nat_le (length rs) p || nat_le r.to (get_or rs p d).from)
-separate-at rs r d zero h some at before = neighbor_above 0 rs r d h some (λ lt. at.above 0 d (omega arith) lt)
-separate-at rs r d (suc i) h some at before =
-    let last : suc i - 1 ≡ i = omega arith in
-    let end : (get_or rs i d).to ≤ r.from = rw last at (before (omega arith)) in
-    let all = neighbors 0 rs r d i h some (omega (arith, at.bound)) (λ j le. at.below j d (omega arith)) (λ lt. at.above (suc i) d (omega arith) lt) in
-    rw (le-leb (get_or rs i d).to r.from end) at all
 
 -- ---- an address in some of them
 
@@ -138,15 +188,6 @@ in-at rs d at (suc i) h place some =
 
 pub in-none : (rs : List Range) (d : Range) (at p : ℕ) → AscendFrom 0 rs → IsPlaceOf rs at p → p ≡ 0 → list_any (is_in at) rs ≡ false
 in-none rs d at p h place none = in_none 0 rs d at h (λ lt. place.above 0 d (omega arith) lt)
-
--- putting a range in its place
-pub insert_range-at : (xs : List Range) (r : Range) (i : ℕ) → IsPlaceOf xs r.from i → insert_range xs r ≡ take i xs ++ r ∷ drop i xs
-insert_range-at [] r zero at = refl
-insert_range-at [] r (suc i) at = absurd (omega (arith, at.bound))
-insert_range-at (x ∷ xs) r zero at = rw (lt-ltb r.from x.from (at.above 0 x (omega arith) (omega arith))) refl
-insert_range-at (x ∷ xs) r (suc i) at =
-    let rest : IsPlaceOf xs r.from i = record { bound = omega (arith, at.bound); below = λ k d lt. at.below (suc k) d (omega arith); above = λ k d le lt. at.above (suc k) d (omega arith) (omega arith) } in
-    rw (not_lt r.from x.from (at.below 0 x (omega arith))) (ap (λ (ys : List Range). x ∷ ys) (insert_range-at xs r i rest))
 
 -- ---- parts that share no address
 

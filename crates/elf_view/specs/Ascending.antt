@@ -1,5 +1,6 @@
 -- Ranges in ascending order, and one more part of the text beside them.
-use Rattle.std.specs.Prelude.{ℕ, ◌+◌, ◌<◌, ◌≤◌, List, [], ◌∷◌, Bool, ◌&&◌, ◌||◌, nat_le, ⊤, Option, Some, None}
+use Rattle.std.specs.Prelude.{ℕ, ◌+◌, ◌<◌, ◌≤◌, List, [], ◌∷◌, map, Bool, ◌&&◌, ◌||◌, nat_le, ⊤, Option, Some, None}
+use Rattle.std.specs.BTreeMap.{BTreeMap}
 use Rattle.std.specs.List.{list_all}
 use Rattle.scale_base.specs.declared.ranges.Range.{Range}
 use Rattle.scale_base.specs.declared.ranges.TextPart.{TextPart}
@@ -12,6 +13,14 @@ use Rattle.scale_base.specs.Image.{range_of, is_text_place}
 abbrev pub AscendFrom : ℕ → List Range → Type 0
 AscendFrom low [] = ⊤
 AscendFrom low (r ∷ ranges) = (low ≤ r.from) × (r.from < r.to) × AscendFrom r.to ranges
+
+-- a range of its start and its end
+abbrev pub range_between : ℕ × ℕ → Range
+range_between e = record { from = e.0; to = e.1 }
+
+-- the ranges of a map from their starts to their ends, in the order of their starts
+abbrev pub ranges_by : BTreeMap ℕ ℕ → List Range
+ranges_by ends = map range_between ends.entries
 
 -- one ends at or below the start of the other
 abbrev pub are_separate : Range → Range → Bool

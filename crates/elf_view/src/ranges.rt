@@ -6,10 +6,12 @@ ghost use Rattle.std.specs.Bool.{OnTrue};
 ghost use Rattle.scale_base.specs.declared.ranges.Range.{Range};
 ghost use Rattle.scale_base.specs.Rules.{first_broken, refusal_in};
 ghost use Rattle.scale_base.specs.Image as image;
-ghost use Rattle.elf_view.specs.Ascending.{AscendFrom, are_separate};
+ghost use Rattle.elf_view.specs.Ascending.{AscendFrom, are_separate, ranges_by};
 
 use crate::segments::has_key;
 use scale_base::{ProgramHeader, Range, Refusal, Stop, TextPart};
+use std::alloc::{AllocError, Global};
+use std::collections::BTreeMap;
 
 const PF_W: u32 = 2;
 
@@ -34,39 +36,44 @@ fn place_of(ranges: &[Range], at: u32) -> usize
     ranges.partition_point(|range| range.from <= at)
 }
 
-/// The range shares no address with these ranges, of which the first `place` begin at or below its start.
-fn is_separate_at(ranges: &[Range], place: usize, range: Range) -> bool
-    requires ascending { AscendFrom 0 ranges.now }
+/// The range shares no address with these ranges, given as the end of each by its start. The last that begins below its end decides.
+fn is_separate(ends: &BTreeMap<u32, u32>, range: Range) -> bool
+    requires ascending { AscendFrom 0 (ranges_by ends.now) }
     requires some { range.from < range.to }
-    requires bound { place ≤ length ranges.now }
-    requires below { (k : ℕ) (d : Range) → k < place → (slice_index_or ranges.now k d).from ≤ range.from }
-    requires above { (k : ℕ) (d : Range) → place ≤ k → k < length ranges.now → range.from < (slice_index_or ranges.now k d).from }
-    ensures { result ≡ list_all (λ r. are_separate r range) ranges.now }
+    ensures { result ≡ list_all (λ r. are_separate r range) (ranges_by ends.now) }
 {
-    if place > 0 && ranges[place - 1].to > range.from {
-        return false;
+    match ends.range(..range.to).next_back() {
+        Some((_, end)) => *end <= range.from,
+        None => true,
     }
-    if place == ranges.len() {
-        return true;
-    }
-    range.to <= ranges[place].from
 }
 
-/// Puts a range in its place, if it shares no address with the others. The answer says whether it did.
-pub fn insert_range(ranges: &mut Vec<Range>, range: Range) -> Result<bool, Stop>
-    requires ascending { AscendFrom 0 ranges.old.items }
+/// Adds a range to these, given as the end of each by its start, if it shares no address with them. The answer says whether it did.
+pub fn insert_range(ends: &mut BTreeMap<u32, u32>, range: Range) -> Result<bool, Stop>
+    requires ascending { AscendFrom 0 (ranges_by ends.old) }
     requires some { range.from < range.to }
-    ensures separate { IfOk result (λ separate. separate ≡ list_all (λ r. are_separate r range) ranges.old.items) }
-    ensures ranges { IfOk result (λ separate. OnTrue separate (ranges.new.items ≡ image.insert_range ranges.old.items range)) }
-    ensures kept { IfOk result (λ separate. OnTrue separate (AscendFrom 0 ranges.new.items)) }
+    ensures separate { IfOk result (λ separate. separate ≡ list_all (λ r. are_separate r range) (ranges_by ends.old)) }
+    ensures ranges { IfOk result (λ separate. OnTrue separate (ranges_by ends.new ≡ image.insert_range (ranges_by ends.old) range)) }
+    ensures kept { IfOk result (λ separate. OnTrue separate (AscendFrom 0 (ranges_by ends.new))) }
     ensures err { IfErr result (λ stop. stop ≡ Stop.Memory) }
 {
-    let place = place_of(ranges, range.from);
-    if !is_separate_at(ranges, place, range) {
+    if !is_separate(ends, range) {
         return Ok(false);
     }
-    ranges.insert(place, range)?;
+    ends.insert(range.from, range.to)?;
     Ok(true)
+}
+
+/// The ranges, given as the end of each by its start, in ascending order.
+pub fn list_ranges(alloc: Global, ends: &BTreeMap<u32, u32>) -> Result<Vec<Range>, AllocError>
+    ensures { IfOk result (λ ranges. ranges.items ≡ ranges_by ends.now) }
+{
+    ends.iter()
+        .map(|(from, to)| Range {
+            from: *from,
+            to: *to,
+        })
+        .collect(alloc)
 }
 
 /// The address lies in some range.

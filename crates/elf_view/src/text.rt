@@ -5,16 +5,17 @@ ghost use Rattle.std.specs.Bool.{OnTrue};
 ghost use Rattle.std.specs.Option.{ForSome};
 ghost use Rattle.std.specs.List.{list_any, filter_map, cons_option};
 ghost use Rattle.scale_base.specs.Rules.{rule, first_broken, refusal_in, AllHold, IsStop};
-ghost use Rattle.elf_view.specs.Ascending.{AscendFrom, fits_beside, next_rules};
+ghost use Rattle.elf_view.specs.Ascending.{AscendFrom, fits_beside, next_rules, ranges_by};
 ghost use Rattle.scale_base.specs.Elf as elf;
 ghost use Rattle.scale_base.specs.Image as image;
 
 use crate::fields::word;
-use crate::ranges::{check_not_writable, insert_range, range_of};
+use crate::ranges::{check_not_writable, insert_range, list_ranges, range_of};
 use crate::segments::{end_of, has_key};
 use crate::tables::{has_section_headers, read_section_header, section_header_count};
 use scale_base::{ProgramHeader, Range, Refusal, SectionHeader, Span, Stop, TextPart};
 use std::alloc::Global;
+use std::collections::BTreeMap;
 
 const SHT_PROGBITS: u32 = 1;
 
@@ -118,20 +119,20 @@ fn is_held(segments: &[ProgramHeader], part: &TextPart) -> bool
     segments.iter().any(|h| holds_part(part, h))
 }
 
-/// The ranges of the parts so far, in ascending order, and how many bytes they have.
+/// The ranges of the parts so far, as the end of each by its start, and how many bytes they have.
 #[derive(Drop)]
 struct TextSoFar {
-    ranges: Vec<Range>,
+    ends: BTreeMap<u32, u32>,
     bytes: u64,
 }
 
 impl TextSoFar {
     fn new(alloc: Global) -> TextSoFar
-        ensures ranges { result.ranges.items ≡ [] }
+        ensures ranges { ranges_by result.ends ≡ [] }
         ensures bytes { result.bytes ≡ 0 }
     {
         TextSoFar {
-            ranges: Vec::new(alloc),
+            ends: BTreeMap::new(alloc),
             bytes: 0,
         }
     }
@@ -146,12 +147,12 @@ impl TextSoFar {
         requires header { 52 ≤ length bytes.now }
         requires low { All (λ h. h.p_vaddr + h.p_filesz < 2 ^ 32) segments.now }
         requires some { 0 < part.now.span.len }
-        requires ascending { AscendFrom 0 self.old.ranges.items }
+        requires ascending { AscendFrom 0 (ranges_by self.old.ends) }
         requires few { self.old.bytes ≤ 524288 }
-        ensures fits { IfOk result (λ fits. fits ≡ fits_beside bytes.now segments.now self.old.ranges.items self.old.bytes part.now) }
-        ensures ranges { IfOk result (λ fits. OnTrue fits (self.new.ranges.items ≡ image.insert_range self.old.ranges.items (image.range_of part.now))) }
+        ensures fits { IfOk result (λ fits. fits ≡ fits_beside bytes.now segments.now (ranges_by self.old.ends) self.old.bytes part.now) }
+        ensures ranges { IfOk result (λ fits. OnTrue fits (ranges_by self.new.ends ≡ image.insert_range (ranges_by self.old.ends) (image.range_of part.now))) }
         ensures bytes { IfOk result (λ fits. OnTrue fits (self.new.bytes ≡ self.old.bytes + part.now.span.len)) }
-        ensures kept { IfOk result (λ fits. OnTrue fits (AscendFrom 0 self.new.ranges.items)) }
+        ensures kept { IfOk result (λ fits. OnTrue fits (AscendFrom 0 (ranges_by self.new.ends))) }
         ensures err { IfErr result (λ stop. stop ≡ Stop.Memory) }
     {
         let total = self.bytes + u64::from(part.span.len);
@@ -161,7 +162,7 @@ impl TextSoFar {
         if total > MAX_TEXT {
             return Ok(false);
         }
-        if !insert_range(&mut self.ranges, range_of(part))? {
+        if !insert_range(&mut self.ends, range_of(part))? {
             return Ok(false);
         }
         self.bytes = total;
@@ -178,14 +179,14 @@ impl TextSoFar {
         requires header { 52 ≤ length bytes.now }
         requires low { All (λ h. h.p_vaddr + h.p_filesz < 2 ^ 32) segments.now }
         requires some { ForSome part (λ p. 0 < p.span.len) }
-        requires ascending { AscendFrom 0 self.old.ranges.items }
+        requires ascending { AscendFrom 0 (ranges_by self.old.ends) }
         requires few { self.old.bytes ≤ 524288 }
         ensures rules { MatchResult result
-            (λ _. AllHold (next_rules bytes.now segments.now self.old.ranges.items self.old.bytes part))
-            (IsStop (next_rules bytes.now segments.now self.old.ranges.items self.old.bytes part)) }
-        ensures ranges { OnOk result (self.new.ranges.items ≡ fold image.insert_range self.old.ranges.items (map image.range_of (cons_option part []))) }
+            (λ _. AllHold (next_rules bytes.now segments.now (ranges_by self.old.ends) self.old.bytes part))
+            (IsStop (next_rules bytes.now segments.now (ranges_by self.old.ends) self.old.bytes part)) }
+        ensures ranges { OnOk result (ranges_by self.new.ends ≡ fold image.insert_range (ranges_by self.old.ends) (map image.range_of (cons_option part []))) }
         ensures bytes { OnOk result (self.new.bytes ≡ self.old.bytes + sum_by (λ p. p.span.len) (cons_option part [])) }
-        ensures kept { OnOk result (AscendFrom 0 self.new.ranges.items) }
+        ensures kept { OnOk result (AscendFrom 0 (ranges_by self.new.ends)) }
     {
         let Some(part) = part else {
             return Ok(());
@@ -197,63 +198,67 @@ impl TextSoFar {
     }
 }
 
-/// The ranges of the sections that hold code, where each keeps the rules.
-fn section_ranges(
+/// The ranges of the sections that hold code, as the end of each by its start, where each keeps the rules.
+fn section_ends(
     alloc: Global,
     bytes: &[u8],
     segments: &[ProgramHeader],
-) -> Result<Vec<Range>, Stop>
+) -> Result<BTreeMap<u32, u32>, Stop>
     requires header { 52 ≤ length bytes.now }
     requires table { elf.e_shoff bytes.now + 40 * elf.e_shnum bytes.now ≤ length bytes.now }
     requires low { All (λ h. h.p_vaddr + h.p_filesz < 2 ^ 32) segments.now }
     ensures rules { let parts = filter_map image.text_of_section (elf.section_headers bytes.now) in
         MatchResult result (λ _. AllHold (image.part_rules bytes.now segments.now parts)) (IsStop (image.part_rules bytes.now segments.now parts)) }
-    ensures ranges { IfOk result (λ ranges. ranges.items ≡ image.ranges_of (filter_map image.text_of_section (elf.section_headers bytes.now))) }
-    ensures ascending { IfOk result (λ ranges. AscendFrom 0 ranges.items) }
+    ensures ranges { IfOk result (λ ends. ranges_by ends ≡ image.ranges_of (filter_map image.text_of_section (elf.section_headers bytes.now))) }
+    ensures ascending { IfOk result (λ ends. AscendFrom 0 (ranges_by ends)) }
 {
     let mut text = TextSoFar::new(alloc);
     for k in 0..section_header_count(bytes) {
         let part = text_of_section(&read_section_header(bytes, k));
         text.add_next(bytes, segments, part)?;
     }
-    Ok(text.ranges)
+    Ok(text.ends)
 }
 
-/// The ranges of the segments that hold code, where each keeps the rules.
-fn segment_ranges(
+/// The ranges of the segments that hold code, as the end of each by its start, where each keeps the rules.
+fn segment_ends(
     alloc: Global,
     bytes: &[u8],
     segments: &[ProgramHeader],
-) -> Result<Vec<Range>, Stop>
+) -> Result<BTreeMap<u32, u32>, Stop>
     requires header { 52 ≤ length bytes.now }
     requires low { All (λ h. h.p_vaddr + h.p_filesz < 2 ^ 32) segments.now }
     ensures rules { let parts = filter_map image.text_of_segment segments.now in
         MatchResult result (λ _. AllHold (image.part_rules bytes.now segments.now parts)) (IsStop (image.part_rules bytes.now segments.now parts)) }
-    ensures ranges { IfOk result (λ ranges. ranges.items ≡ image.ranges_of (filter_map image.text_of_segment segments.now)) }
-    ensures ascending { IfOk result (λ ranges. AscendFrom 0 ranges.items) }
+    ensures ranges { IfOk result (λ ends. ranges_by ends ≡ image.ranges_of (filter_map image.text_of_segment segments.now)) }
+    ensures ascending { IfOk result (λ ends. AscendFrom 0 (ranges_by ends)) }
 {
     let mut text = TextSoFar::new(alloc);
     for header in segments {
         text.add_next(bytes, segments, text_of_segment(header))?;
     }
-    Ok(text.ranges)
+    Ok(text.ends)
 }
 
-/// The ranges of the parts of the text, where each keeps the rules.
+/// The ranges of the parts of the text, as the end of each by its start, where each keeps the rules.
 #[tactic(auto, unfolding(scale_base::specs::Image::text_parts))]
-fn part_ranges(alloc: Global, bytes: &[u8], segments: &[ProgramHeader]) -> Result<Vec<Range>, Stop>
+fn part_ends(
+    alloc: Global,
+    bytes: &[u8],
+    segments: &[ProgramHeader],
+) -> Result<BTreeMap<u32, u32>, Stop>
     requires header { 52 ≤ length bytes.now }
     requires table { IsTrue (elf.has_sections bytes.now) → elf.e_shoff bytes.now + 40 * elf.e_shnum bytes.now ≤ length bytes.now }
     requires low { All (λ h. h.p_vaddr + h.p_filesz < 2 ^ 32) segments.now }
     ensures rules { let parts = image.text_parts bytes.now segments.now in
         MatchResult result (λ _. AllHold (image.part_rules bytes.now segments.now parts)) (IsStop (image.part_rules bytes.now segments.now parts)) }
-    ensures ranges { IfOk result (λ ranges. ranges.items ≡ image.ranges_of (image.text_parts bytes.now segments.now)) }
-    ensures ascending { IfOk result (λ ranges. AscendFrom 0 ranges.items) }
+    ensures ranges { IfOk result (λ ends. ranges_by ends ≡ image.ranges_of (image.text_parts bytes.now segments.now)) }
+    ensures ascending { IfOk result (λ ends. AscendFrom 0 (ranges_by ends)) }
 {
     if has_section_headers(bytes) {
-        section_ranges(alloc, bytes, segments)
+        section_ends(alloc, bytes, segments)
     } else {
-        segment_ranges(alloc, bytes, segments)
+        segment_ends(alloc, bytes, segments)
     }
 }
 
@@ -281,7 +286,8 @@ pub fn read_text(
     ensures ranges { IfOk result (λ ranges. ranges.items ≡ image.ranges_of (image.text_parts bytes.now segments.now)) }
     ensures ascending { IfOk result (λ ranges. AscendFrom 0 ranges.items) }
 {
-    let ranges = part_ranges(alloc, bytes, segments)?;
+    let ends = part_ends(alloc, bytes, segments)?;
+    let ranges = list_ranges(alloc, &ends)?;
     check_some(&ranges)?;
     check_not_writable(segments, &ranges)?;
     Ok(ranges)

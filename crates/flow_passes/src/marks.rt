@@ -251,6 +251,7 @@ pub fn mark_words(
     requires within { entry < length steps.now }
     requires room { length steps.now < 2 ^ 32 }
     ensures size { IfOk result (λ marking. length marking.marks.items ≡ length steps.now) }
+    ensures numbers_size { IfOk result (λ marking. length marking.numbers.items ≡ length steps.now) }
     ensures owner { IfOk result (λ marking. (v f : ℕ) → (mark_at marking.marks.items v ≡ Owner f) ↔ (ReachedAt steps.now returning.now entry f v × ((g : ℕ) → ReachedAt steps.now returning.now entry g v → g ≡ f))) }
     ensures shared { IfOk result (λ marking. (v : ℕ) → (mark_at marking.marks.items v ≡ Shared) ↔ IsReachedTwice steps.now returning.now entry v) }
     ensures unreached { IfOk result (λ marking. (v : ℕ) → (mark_at marking.marks.items v ≡ Unreached) ↔ ((f : ℕ) → ReachedAt steps.now returning.now entry f v → ⊥)) }

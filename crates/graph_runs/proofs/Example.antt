@@ -5,7 +5,7 @@ use Rattle.cost_theory.specs.declared.edges.Word.{Word}
 use Rattle.cost_theory.specs.declared.edges.Word.TheVariants.{Branch, CallOf, Back, Ends, Straight, Bad}
 use Rattle.cost_theory.specs.Graph.{Graph, Loops, IsPlain}
 use Rattle.cost_theory.specs.Accepted.{IsInBody, AreAccepted, HasNoRecursion, IsCallOrder, IsPlainOrder}
-use Rattle.cost_theory.specs.Reached.{if_true, LeadsTo, Reached, DoesReturn, Code, owner_of, returns_of, edge_at, edge_to, callee_of, graph_of, IsCodeOf, HasNoBadWord}
+use Rattle.cost_theory.specs.Reached.{if_true, LeadsTo, Reached, DoesReturn, Code, owner_of, returns_of, edge_at, edge_to, callee_of, edge_callee, graph_of, IsCodeOf, HasNoBadWord}
 use Rattle.cost_theory.specs.Reached.Reached.{main, onward, back, called}
 use Rattle.cost_theory.proofs.Nesting.{some_same}
 use Rattle.cost_theory.proofs.Orders.{order-no_cycle}
@@ -128,7 +128,7 @@ module _ (w : ℕ → Word) (branch : w 0x10000 ≡ Branch 0x10000) (addi : w 0x
   abbrev small_graph : Graph
   small_graph = graph_of w small_code
 
-  pub no_callee : (e f : ℕ) → e < 4 → callee_of small_code.functions (w (edge_at (slice_get small_code.edges e))) ≡ Some f → ⊥
+  pub no_callee : (e f : ℕ) → e < 4 → edge_callee w small_code.functions (slice_get small_code.edges e) ≡ Some f → ⊥
   no_callee zero f lt h = no_number f (ap (callee_of small_code.functions) (sym branch) ∙ h)
   no_callee (suc zero) f lt h = no_number f (ap (callee_of small_code.functions) (sym branch) ∙ h)
   no_callee (suc (suc zero)) f lt h = no_number f (ap (callee_of small_code.functions) (sym addi) ∙ h)

@@ -1,5 +1,5 @@
 -- A kept run costs at most the worst cycles of the program's entry.
-use Rattle.std.proofs.Common.{◌≡◌, ℕ, zero, suc, ◌+◌, ◌≤◌, Bool, List, [], ◌∷◌, ◌++◌, refl, sym, ap, ◌∙◌, subst, arith, Option, Some, None, ⊎_elim}
+use Rattle.std.proofs.Common.{◌≡◌, ℕ, zero, suc, ◌+◌, ◌≤◌, Bool, List, [], ◌∷◌, ◌++◌, refl, sym, ap, ◌∙◌, subst, arith, Option, Some, None}
 use Rattle.std.specs.List.{sum_by}
 use Rattle.scale_base.specs.declared.stepping.Class.{Class}
 use Rattle.scale_base.specs.declared.stepping.Stepped.{Stepped}
@@ -26,21 +26,14 @@ use Rattle.graph_runs.specs.KeptSteps.{by_extents, Carried, counts_after, kept_m
 use Rattle.graph_runs.specs.EdgeCosts.{weights}
 use Rattle.graph_runs.specs.KeptRuns.{watched, kept_at, KeptAt, IsKeptRun}
 use Rattle.graph_runs.proofs.TextFacts.{word_bound}
-use Rattle.graph_runs.proofs.StepFacts.{IsTrap, IsStep, step_done, EndsBy, IsDone}
 use Rattle.graph_runs.proofs.MoveLaws.{Goes, went, exited, kind_facts}
-use Rattle.graph_runs.proofs.RunLaws.{after-append, place_is, costs_more}
+use Rattle.graph_runs.proofs.RunLaws.{after-append, place_is, went_at, exited_at, places_more, classes_more, costs_more}
 use Rattle.graph_runs.proofs.WeightLaws.{weights_are}
 use Rattle.graph_runs.proofs.KeptLaws.{kept_parts, kept_move}
 
 kept-append : (g : Graph) (l : Loops) (s : steps.State) (ms : List steps.Move) (m : steps.Move) → steps.AreKept g l s ms → steps.IsKept g l (steps.after_all g l s ms) m → steps.AreKept g l s (ms ++ m ∷ [])
 kept-append g l s [] m kept one = (one, tt)
 kept-append g l s (k ∷ ks) m kept one = (kept.0, kept-append g l (steps.after g l s k) ks m kept.1 one)
-
--- the addresses of a step that went on
-went_at : (env : Setting) (s : State) (x : Stepped) → (step env s).end ≡ Went x → (x.pc ≡ s.pc) × ((step env s).state.pc ≡ x.next)
-went_at env s x end = ⊎_elim
-    (λ (trap : IsTrap (step env s).end). absurd (subst IsTrap end trap))
-    (λ (d : (i : _) × IsDone env s i (step env s).end (step env s).state). let p : IsStep d.0 s x (step env s).state = subst (λ e. EndsBy d.0 s e (step env s).state) end d.1.ends in (p.at, p.next)) (step_done env s)
 
 module _ (t : Text) (env : Setting) (ok : IsTextOf t env) (code : Code) (is : IsCodeOf (kind_at t) t.entry code) (fine : HasNoBadWord (kind_at t) t.entry)
     (order : HasNoRecursion (graph_of (kind_at t) code))
@@ -83,6 +76,8 @@ module _ (t : Text) (env : Setting) (ok : IsTextOf t env) (code : Code) (is : Is
           subst (λ q. IsKeptRun t code l costs (ended r.steps q (step env r.state).state) d) (sym e) (record {
             moves = run.moves ++ next.move ∷ [];
             kept = kept-append g l (steps.start g) run.moves next.move run.kept (subst (λ q. steps.IsKept g l q next.move) (sym same) k.0);
+            places = places_more t env ok code is fine l costs r x run.moves next.move a.calls next.calls_after (Some (step env r.state).state.pc) run.places next.is w.0;
+            classes = classes_more t env ok code is fine l costs r x run.moves next.move run.classes next.is.cost;
             cost = costs_more t env ok code is fine l costs r x run.moves next.move run.cost next.is.cost;
             stands = record {
               function = next.function;
@@ -108,12 +103,14 @@ module _ (t : Text) (env : Setting) (ok : IsTextOf t env) (code : Code) (is : Is
           subst (λ q. IsKeptRun t code l costs (ended r.steps q (step env r.state).state) d) (sym e) (record {
             moves = run.moves ++ Exit next.0 ∷ [];
             kept = kept-append g l (steps.start g) run.moves (Exit next.0) run.kept (subst (λ q. steps.IsKept g l q (Exit next.0)) (sym same) one);
+            places = places_more t env ok code is fine l costs r x run.moves (Exit next.0) a.calls a.calls None run.places next.1 (exited_at env r.state x status e);
+            classes = classes_more t env ok code is fine l costs r x run.moves (Exit next.0) run.classes next.1.cost;
             cost = costs_more t env ok code is fine l costs r x run.moves (Exit next.0) run.cost next.1.cost;
             stands = tt;
           })
       by_end (Trapped trap) e h =
           let run : IsKeptRun t code l costs r d = ih d (subst (λ q. watched (by_extents l extent) o GoesOn q ≡ Some d) e h) in
-          subst (λ q. IsKeptRun t code l costs (ended r.steps q (step env r.state).state) d) (sym e) (record { moves = run.moves; kept = run.kept; cost = run.cost; stands = tt })
+          subst (λ q. IsKeptRun t code l costs (ended r.steps q (step env r.state).state) d) (sym e) (record { moves = run.moves; kept = run.kept; places = run.places; classes = run.classes; cost = run.cost; stands = tt })
 
   module _ (s : State) (over : IsOver t s) (at_entry : s.pc ≡ t.entry) where
     -- a kept run is a kept list of moves
@@ -122,6 +119,8 @@ module _ (t : Text) (env : Setting) (ok : IsTextOf t env) (code : Code) (is : Is
     kept_run zero c h = let e : record { returns = []; counts = λ k. 0 } ≡ c = cc in subst (λ c. IsKeptRun t code l costs (run env s 0) c) e (record {
       moves = [];
       kept = tt;
+      places = refl;
+      classes = refl;
       cost = refl;
       stands = record {
         function = t.entry;

@@ -21,7 +21,7 @@ use Rattle.cost_theory.specs.Steps.Move.{Along, Call, Return, Exit}
 use Rattle.cost_theory.specs.declared.edges.Word.{Word}
 use Rattle.cost_theory.specs.declared.edges.EdgeKind.{EdgeKind}
 use Rattle.cost_theory.specs.declared.edges.Edge.{Edge}
-use Rattle.cost_theory.specs.Reached.{LeadsTo, Reached, edges_of, Code, place_after, edge_at, edge_to, number_at, call_returns, callee_of, is_back, is_exit, edge_exits, graph_of, IsCodeOf, HasNoBadWord}
+use Rattle.cost_theory.specs.Reached.{LeadsTo, Reached, edges_of, Code, place_after, edge_at, edge_to, number_at, call_returns, callee_of, edge_callee, is_back, edge_returns, is_exit, edge_exits, graph_of, IsCodeOf, HasNoBadWord}
 use Rattle.cost_theory.specs.declared.edges.Word.TheVariants.{Branch, Goto, CallOf, Back, Ends, MayEnd, Straight, Bad}
 use Rattle.cost_theory.specs.declared.edges.EdgeKind.TheVariants.{Taken, Untaken, Jump, Next, CallNext, End}
 use Rattle.cost_theory.specs.Reached.Reached.{onward as reach_onward, back as reach_back, called as reach_called}
@@ -112,17 +112,17 @@ module _ (t : Text) (env : Setting) (ok : IsTextOf t env) (code : Code) (is : Is
       let within : Within x (edges_of (kind_at t u) u (call_returns code (kind_at t u))) = subst (λ c. Within x (edges_of (kind_at t u) u c)) (sym b) (subst (λ w. Within x (edges_of w u true)) (sym call) (inl refl)) in
       let e : (e : ℕ) × (e < length code.edges) × (slice_get code.edges e ≡ Some x) = word_edge (kind_at t) t.entry code is h u x at within in
       let k : (k : ℕ) × (callee_of code.functions (CallOf f) ≡ Some k) × (number_at (slice_get code.functions k) ≡ f) = function_of f (reach_called f at call) in
-      let p : ℕ → Bool = λ j. nat_eq (edge_at (slice_get code.edges j)) u && (is_some (callee_of code.functions (kind_at t (edge_at (slice_get code.edges j)))) && is_some (edge_to (slice_get code.edges j))) in
+      let p : ℕ → Bool = λ j. nat_eq (edge_at (slice_get code.edges j)) u && (is_some (edge_callee (kind_at t) code.functions (slice_get code.edges j)) && is_some (edge_to (slice_get code.edges j))) in
       let source : edge_at (slice_get code.edges e.0) ≡ u = ap edge_at e.2 in
-      let callee : is_some (callee_of code.functions (kind_at t (edge_at (slice_get code.edges e.0)))) ≡ true = ap (λ v. is_some (callee_of code.functions (kind_at t v))) source ∙ (ap (λ w. is_some (callee_of code.functions w)) call ∙ ap is_some k.1) in
+      let callee : is_some (edge_callee (kind_at t) code.functions (slice_get code.edges e.0)) ≡ true = ap (λ o. is_some (edge_callee (kind_at t) code.functions o)) e.2 ∙ (ap (λ w. is_some (callee_of code.functions w)) call ∙ ap is_some k.1) in
       let target : is_some (edge_to (slice_get code.edges e.0)) ≡ true = ap (λ o. is_some (edge_to o)) e.2 in
       let here : p e.0 ≡ true = and_from _ _ (eq-eqb (edge_at (slice_get code.edges e.0)) u source) (and_from _ _ callee target) in
       let some : is_some (find_below (length code.edges) p) ≡ true = find-some (length code.edges) p e.0 e.1 here in
       let d : (d : ℕ) × (find_below (length code.edges) p ≡ Some d) = some_value (find_below (length code.edges) p) some in
       let holds : (d.0 < length code.edges) × (p d.0 ≡ true) = find-holds (length code.edges) p d.0 d.1 in
       let parts = and_parts (nat_eq (edge_at (slice_get code.edges d.0)) u)
-      (is_some (callee_of code.functions (kind_at t (edge_at (slice_get code.edges d.0)))) && is_some (edge_to (slice_get code.edges d.0))) holds.1 in
-      let more = and_parts (is_some (callee_of code.functions (kind_at t (edge_at (slice_get code.edges d.0))))) (is_some (edge_to (slice_get code.edges d.0))) parts.1 in
+      (is_some (edge_callee (kind_at t) code.functions (slice_get code.edges d.0)) && is_some (edge_to (slice_get code.edges d.0))) holds.1 in
+      let more = and_parts (is_some (edge_callee (kind_at t) code.functions (slice_get code.edges d.0))) (is_some (edge_to (slice_get code.edges d.0))) parts.1 in
       (d.0, d.1, leads d.0 (slice_get code.edges d.0) (refl {a = slice_get code.edges d.0}) (eqb-true (edge_at (slice_get code.edges d.0)) u parts.0) more.1)
     where
       leads : (d : ℕ) (o : Option Edge) → slice_get code.edges d ≡ o → edge_at (slice_get code.edges d) ≡ u → is_some (edge_to (slice_get code.edges d)) ≡ true → edge_to (slice_get code.edges d) ≡ Some (u + 4)
@@ -151,7 +151,7 @@ module _ (t : Text) (env : Setting) (ok : IsTextOf t env) (code : Code) (is : Is
         let e : (e : ℕ) × (e < length code.edges) × (slice_get code.edges e ≡ Some y) = word_edge (kind_at t) t.entry code is f s.pc y reached within in
         let source : edge_at (slice_get code.edges e.0) ≡ s.pc = ap edge_at e.2 in
         let target : edge_to (slice_get code.edges e.0) ≡ Some (step env s).state.pc = ap edge_to e.2 ∙ leads in
-        let callee : callee_of code.functions (kind_at t (edge_at (slice_get code.edges e.0))) ≡ None = ap (λ v. callee_of code.functions (kind_at t v)) source ∙ (ap (callee_of code.functions) is_kind ∙ no_call) in
+        let callee : edge_callee (kind_at t) code.functions (slice_get code.edges e.0) ≡ None = ap (edge_callee (kind_at t) code.functions) e.2 ∙ (ap (callee_of code.functions) is_kind ∙ no_call) in
         let r : Some (map after_call calls) ≡ Some rs = sym (ap (λ m. returns_by m (map after_call calls) x) local) ∙ returns in
         record {
           move = Along e.0;
@@ -197,7 +197,7 @@ module _ (t : Text) (env : Setting) (ok : IsTextOf t env) (code : Code) (is : Is
         let target : edge_to (slice_get code.edges e.0) ≡ None = ap edge_to e.2 in
         let entry : Reached (kind_at t) t.entry to to = reach_called to reached is_kind in
         let k : (k : ℕ) × (callee_of code.functions (CallOf to) ≡ Some k) × (number_at (slice_get code.functions k) ≡ to) = function_of to entry in
-        let callee : callee_of code.functions (kind_at t (edge_at (slice_get code.edges e.0))) ≡ Some k.0 = ap (λ v. callee_of code.functions (kind_at t v)) source ∙ (ap (callee_of code.functions) is_kind ∙ k.1) in
+        let callee : edge_callee (kind_at t) code.functions (slice_get code.edges e.0) ≡ Some k.0 = ap (edge_callee (kind_at t) code.functions) e.2 ∙ (ap (callee_of code.functions) is_kind ∙ k.1) in
         let r : Some (plus x.pc 4 ∷ map after_call calls) ≡ Some rs = sym (ap (λ m. returns_by m (map after_call calls) x) call) ∙ returns in
         let q : rs ≡ plus x.pc 4 ∷ map after_call calls = cc in
         record {
@@ -237,7 +237,7 @@ module _ (t : Text) (env : Setting) (ok : IsTextOf t env) (code : Code) (is : Is
             let within : Within y (edges_of (kind_at t s.pc) s.pc (call_returns code (kind_at t s.pc))) = subst (λ k. Within y (edges_of k s.pc (call_returns code (kind_at t s.pc)))) (sym is_kind) (inl refl) in
             let e : (e : ℕ) × (e < length code.edges) × (slice_get code.edges e ≡ Some y) = word_edge (kind_at t) t.entry code is f s.pc y reached within in
             let source : edge_at (slice_get code.edges e.0) ≡ s.pc = ap edge_at e.2 in
-            let back : is_back (kind_at t (edge_at (slice_get code.edges e.0))) ≡ true = ap (λ v. is_back (kind_at t v)) source ∙ ap is_back is_kind in
+            let back : edge_returns (kind_at t) (slice_get code.edges e.0) ≡ true = ap (edge_returns (kind_at t)) e.2 ∙ ap is_back is_kind in
             let c17 = call_17 t u f facts.2.0 (sym facts.2.2 ∙ st.1) in
             record {
               move = Return e.0;

@@ -1,6 +1,7 @@
 -- A run that keeps the rules on returns is a list of moves of the graph, at the cost of its steps.
-use Rattle.std.proofs.Common.{◌≡◌, ℕ, zero, suc, ◌+◌, ◌<◌, List, [], ◌∷◌, ◌++◌, slice_get, refl, sym, ap, ◌∙◌, subst, arith, Option, Some, None}
+use Rattle.std.proofs.Common.{◌≡◌, ℕ, zero, suc, ◌+◌, ◌<◌, List, [], ◌∷◌, ◌++◌, map, slice_get, refl, sym, ap, ◌∙◌, subst, arith, Option, Some, None, ⊎_elim}
 use Rattle.std.specs.List.{sum_by}
+use Rattle.std.proofs.lemmas.List.{map-append}
 use Rattle.std.proofs.lemmas.List.Sums.{fold-append, sum_by-append}
 use Rattle.scale_base.specs.declared.stepping.Class.{Class}
 use Rattle.scale_base.specs.declared.stepping.Stepped.{Stepped}
@@ -18,7 +19,8 @@ use Rattle.graph_runs.specs.Text.{Text, kind_at}
 use Rattle.graph_runs.specs.TextStates.{IsTextOf, IsOver}
 use Rattle.graph_runs.specs.ReturnAddresses.{returns_after}
 use Rattle.graph_runs.specs.EdgeCosts.{edge_class, cost_of, weights}
-use Rattle.graph_runs.specs.RunMoves.{returns_more, returns_so, AreMoves, StandsAt, StandsBy, IsRunOf}
+use Rattle.graph_runs.specs.RunMoves.{places_of, classes_of, returns_more, returns_so, AreMoves, StandsAt, StandsBy, IsRunOf}
+use Rattle.graph_runs.proofs.StepFacts.{IsTrap, IsStep, IsExit, EndsBy, IsDone, step_done}
 use Rattle.graph_runs.proofs.StepMoves.{place, IsMoveOf}
 use Rattle.graph_runs.proofs.MoveLaws.{Goes, went, exited}
 
@@ -34,6 +36,22 @@ after-append g l s (k ∷ ks) m = after-append g l (steps.after g l s k) ks m
 pub cycles-append : (w : ℕ → ℕ) (ms : List steps.Move) (m : steps.Move) → steps.cycles w (ms ++ m ∷ []) ≡ steps.cycles w ms + w (steps.edge_of m)
 cycles-append w [] m = omega arith
 cycles-append w (k ∷ ks) m = let ih = cycles-append w ks m in omega arith
+
+-- two lists that agree by what is read of each element, and an element more in both
+agree-append : {M X A : Type 0} (f : M → A) (h : X → A) (ms : List M) (xs : List X) (m : M) (x : X) → map f ms ≡ map h xs → f m ≡ h x → map f (ms ++ m ∷ []) ≡ map h (xs ++ x ∷ [])
+agree-append f h ms xs m x all one = map-append f ms (m ∷ []) ∙ (ap (λ q. q ++ f m ∷ []) all ∙ (ap (λ a. map h xs ++ a ∷ []) one ∙ sym (map-append h xs (x ∷ []))))
+
+-- the addresses of a step that went on
+pub went_at : (env : Setting) (s : State) (x : Stepped) → (step env s).end ≡ Went x → (x.pc ≡ s.pc) × ((step env s).state.pc ≡ x.next)
+went_at env s x end = ⊎_elim
+    (λ (trap : IsTrap (step env s).end). absurd (subst IsTrap end trap))
+    (λ (d : (i : _) × IsDone env s i (step env s).end (step env s).state). let p : IsStep d.0 s x (step env s).state = subst (λ e. EndsBy d.0 s e (step env s).state) end d.1.ends in (p.at, p.next)) (step_done env s)
+
+-- the address of a step that exited
+pub exited_at : (env : Setting) (s : State) (x : Stepped) (status : ℕ) → (step env s).end ≡ Exited x status → x.pc ≡ s.pc
+exited_at env s x status end = ⊎_elim
+    (λ (trap : IsTrap (step env s).end). absurd (subst IsTrap end trap))
+    (λ (d : (i : _) × IsDone env s i (step env s).end (step env s).state). let p : IsExit d.0 s x = subst (λ e. EndsBy d.0 s e (step env s).state) end d.1.ends in p.at) (step_done env s)
 
 -- a place is its node, its calls and its counts
 pub place_is : (s : steps.State) (v : ℕ) (calls : List ℕ) → s.node ≡ Some v → s.calls ≡ calls → s ≡ place v calls s.counts
@@ -66,6 +84,14 @@ module _ (t : Text) (env : Setting) (ok : IsTextOf t env) (code : Code) (is : Is
       let d : sum_by (λ y. costs y.class) (x ∷ []) ≡ costs x.class = omega arith in
       omega arith
 
+  pub places_more : (r : Run) (x : Stepped) (ms : List steps.Move) (m : steps.Move) (calls calls_after : List ℕ) (to : Option ℕ) → places_of t code ms ≡ map (λ y. y.pc) r.steps →
+      IsMoveOf t code r.state.pc calls x.class m to calls_after → x.pc ≡ r.state.pc → places_of t code (ms ++ m ∷ []) ≡ map (λ y. y.pc) (r.steps ++ x ∷ [])
+  places_more r x ms m calls calls_after to places move at = agree-append (λ k. (graph_of (kind_at t) code).source (steps.edge_of k)) (λ (y : Stepped). y.pc) ms r.steps m x places (move.from ∙ sym at)
+
+  pub classes_more : (r : Run) (x : Stepped) (ms : List steps.Move) (m : steps.Move) → classes_of t code ms ≡ map (λ y. Some y.class) r.steps → edge_class t (slice_get code.edges (steps.edge_of m)) ≡ Some x.class →
+      classes_of t code (ms ++ m ∷ []) ≡ map (λ y. Some y.class) (r.steps ++ x ∷ [])
+  classes_more r x ms m classes class = agree-append (λ k. edge_class t (slice_get code.edges (steps.edge_of k))) (λ (y : Stepped). Some y.class) ms r.steps m x classes class
+
   -- one step more
   one_step : (r : Run) (rs : List ℕ) → r.standing ≡ GoesOn → ((rs : List ℕ) → returns_so r.steps ≡ Some rs → IsRunOf t code l costs r rs) →
       returns_so (one_more env r).steps ≡ Some rs → IsRunOf t code l costs (one_more env r) rs
@@ -90,6 +116,8 @@ module _ (t : Text) (env : Setting) (ok : IsTextOf t env) (code : Code) (is : Is
           subst (λ q. IsRunOf t code l costs (ended r.steps q (step env r.state).state) rs) (sym e) (record {
             moves = run.moves ++ next.move ∷ [];
             are = m.0;
+            places = places_more r x run.moves next.move a.calls next.calls_after (Some (step env r.state).state.pc) run.places next.is (went_at env r.state x e).0;
+            classes = classes_more r x run.moves next.move run.classes next.is.cost;
             cost = costs_more r x run.moves next.move run.cost next.is.cost;
             stands = record { function = next.function; calls = next.calls_after; node = m.1; suspended = m.2; returns = next.returns; reached = next.reached; stack = next.stack; over = next.over };
           })
@@ -102,12 +130,14 @@ module _ (t : Text) (env : Setting) (ok : IsTextOf t env) (code : Code) (is : Is
           subst (λ q. IsRunOf t code l costs (ended r.steps q (step env r.state).state) rs) (sym e) (record {
             moves = run.moves ++ Exit next.0 ∷ [];
             are = m.0;
+            places = places_more r x run.moves (Exit next.0) a.calls a.calls None run.places next.1 (exited_at env r.state x status e);
+            classes = classes_more r x run.moves (Exit next.0) run.classes next.1.cost;
             cost = costs_more r x run.moves (Exit next.0) run.cost next.1.cost;
             stands = tt;
           })
       by_end (Trapped trap) e h =
           let run : IsRunOf t code l costs r rs = ih rs (subst (λ q. returns_so (ended r.steps q (step env r.state).state).steps ≡ Some rs) e h) in
-          subst (λ q. IsRunOf t code l costs (ended r.steps q (step env r.state).state) rs) (sym e) (record { moves = run.moves; are = run.are; cost = run.cost; stands = tt })
+          subst (λ q. IsRunOf t code l costs (ended r.steps q (step env r.state).state) rs) (sym e) (record { moves = run.moves; are = run.are; places = run.places; classes = run.classes; cost = run.cost; stands = tt })
 
   module _ (s : State) (over : IsOver t s) (at_entry : s.pc ≡ t.entry) where
     -- each run from the entry
@@ -116,6 +146,8 @@ module _ (t : Text) (env : Setting) (ok : IsTextOf t env) (code : Code) (is : Is
     run_moves zero rs h = record {
       moves = [];
       are = tt;
+      places = refl;
+      classes = refl;
       cost = refl;
       stands = record {
         function = t.entry;

@@ -8,7 +8,7 @@ use Rattle.cost_theory.specs.declared.edges.Edge.{Edge}
 use Rattle.cost_theory.specs.declared.edges.EdgeKind.{EdgeKind}
 use Rattle.cost_theory.specs.Reached.{Code, graph_of, edge_at}
 use Rattle.cost_theory.specs.declared.edges.Word.TheVariants.{CallOf, Bad}
-use Rattle.cost_theory.proofs.Programs.{some_get, callee-call}
+use Rattle.cost_theory.proofs.Programs.{some_get, callee-call, callee_word}
 use Rattle.graph_runs.specs.Text.{Text, instr_at, instr_kind, kind_at}
 use Rattle.graph_runs.specs.EdgeCosts.{class_by, edge_class, cost_of, weights}
 use Rattle.graph_runs.proofs.MoveLaws.{kind_facts}
@@ -36,7 +36,7 @@ pub weights_are : (t : Text) (code : Code) (costs : Class → ℕ) → AreWeight
 weights_are t code costs d e f dl el same callee =
     let x : (x : Edge) × (slice_get code.edges d ≡ Some x) = some_get code.edges d dl in
     let y : (y : Edge) × (slice_get code.edges e ≡ Some y) = some_get code.edges e el in
-    let c : (h : ℕ) × (kind_at t (edge_at (slice_get code.edges d)) ≡ CallOf h) × (f < length code.functions) × _ = callee-call code.functions (kind_at t (edge_at (slice_get code.edges d))) f callee in
+    let c : (h : ℕ) × (kind_at t (edge_at (slice_get code.edges d)) ≡ CallOf h) × (f < length code.functions) × _ = callee-call code.functions (kind_at t (edge_at (slice_get code.edges d))) f (sym (callee_word (kind_at t) code.functions code.edges d dl) ∙ callee) in
     let at : edge_at (slice_get code.edges d) ≡ x.0.at = ap edge_at x.1 in
     let to : x.0.at ≡ y.0.at = sym at ∙ (same ∙ ap edge_at y.1) in
     let k : kind_at t x.0.at ≡ CallOf c.0 = sym (ap (kind_at t) at) ∙ c.1 in

@@ -14,7 +14,7 @@ use Rattle.cost_theory.specs.Reached.{Reached, Code}
 use Rattle.graph_runs.specs.Text.{Text, kind_at}
 use Rattle.graph_runs.specs.TextStates.{IsOver}
 use Rattle.graph_runs.specs.EdgeCosts.{weights}
-use Rattle.graph_runs.specs.RunMoves.{text_graph, after_moves, after_call, IsStack, StandsBy}
+use Rattle.graph_runs.specs.RunMoves.{text_graph, after_moves, places_of, classes_of, after_call, IsStack, StandsBy}
 use Rattle.graph_runs.specs.KeptSteps.{Carried, carried_first, kept_more}
 
 -- A step that exits has no target, so it changes nothing.
@@ -50,9 +50,12 @@ pub record KeptAt (t : Text) (code : Code) (l : Loops) (r : Run) (c : Carried) (
   pub stack : IsStack (kind_at t) t.entry function calls
   pub over : IsOver t r.state
 
--- the run is a list of kept moves over the graph, which cost what its steps cost
+-- the run is a list of kept moves over the graph, one for each step, which cost what its steps cost
 pub record IsKeptRun (t : Text) (code : Code) (l : Loops) (costs : Class → ℕ) (r : Run) (c : Carried) : Type 0 where
   pub moves : List steps.Move
   pub kept : steps.AreKept (text_graph t code) l (steps.start (text_graph t code)) moves
+  -- the moves start where the steps do, one by one, and go over edges of their classes
+  pub places : places_of t code moves ≡ map (λ x. x.pc) r.steps
+  pub classes : classes_of t code moves ≡ map (λ x. Some x.class) r.steps
   pub cost : steps.cycles (weights t code costs) moves ≡ sum_by (λ x. costs x.class) r.steps
   pub stands : StandsBy r.standing (KeptAt t code l r c moves)

@@ -1,5 +1,5 @@
 -- A run of the machine as moves over the graph of its code.
-use Rattle.std.specs.Prelude.{◌≡◌, ℕ, ◌<◌, List, [], ◌∷◌, map, Option, Some, None}
+use Rattle.std.specs.Prelude.{◌≡◌, ℕ, ◌<◌, List, [], ◌∷◌, map, slice_get, Option, Some, None}
 use Rattle.std.specs.List.{fold, sum_by}
 use Rattle.scale_base.specs.declared.stepping.Class.{Class}
 use Rattle.scale_base.specs.declared.stepping.Stepped.{Stepped}
@@ -13,7 +13,7 @@ use Rattle.cost_theory.specs.declared.edges.Word.TheVariants.{CallOf}
 use Rattle.graph_runs.specs.Text.{Text, kind_at}
 use Rattle.graph_runs.specs.TextStates.{IsOver}
 use Rattle.graph_runs.specs.ReturnAddresses.{returns_after}
-use Rattle.graph_runs.specs.EdgeCosts.{weights}
+use Rattle.graph_runs.specs.EdgeCosts.{edge_class, weights}
 
 -- ---- the graph, and where a run over it stands
 
@@ -23,6 +23,14 @@ text_graph t code = graph_of (kind_at t) code
 -- the node, the sites of the suspended calls and the counts to which moves from the entry lead
 abbrev pub after_moves : Text → Code → Loops → List steps.Move → steps.State
 after_moves t code l moves = steps.state_after (text_graph t code) l moves
+
+-- where each move starts
+abbrev pub places_of : Text → Code → List steps.Move → List ℕ
+places_of t code moves = map (λ m. (text_graph t code).source (steps.edge_of m)) moves
+
+-- the class of the edge that each move goes over
+abbrev pub classes_of : Text → Code → List steps.Move → List (Option Class)
+classes_of t code moves = map (λ m. edge_class t (slice_get code.edges (steps.edge_of m))) moves
 
 -- the return address of a call at u
 abbrev pub after_call : ℕ → ℕ
@@ -65,9 +73,12 @@ pub record StandsAt (t : Text) (code : Code) (l : Loops) (r : Run) (rs : List �
   pub stack : IsStack (kind_at t) t.entry function calls
   pub over : IsOver t r.state
 
--- the run is a list of moves over the graph, which cost what its steps cost
+-- the run is a list of moves over the graph, one for each step, which cost what its steps cost
 pub record IsRunOf (t : Text) (code : Code) (l : Loops) (costs : Class → ℕ) (r : Run) (rs : List ℕ) : Type 0 where
   pub moves : List steps.Move
   pub are : AreMoves (text_graph t code) l (steps.start (text_graph t code)) moves
+  -- the moves start where the steps do, one by one, and go over edges of their classes
+  pub places : places_of t code moves ≡ map (λ x. x.pc) r.steps
+  pub classes : classes_of t code moves ≡ map (λ x. Some x.class) r.steps
   pub cost : steps.cycles (weights t code costs) moves ≡ sum_by (λ x. costs x.class) r.steps
   pub stands : StandsBy r.standing (StandsAt t code l r rs moves)

@@ -16,7 +16,7 @@ mod summary;
 
 pub use headers::{ProgramHeader, SectionHeader};
 pub use instruction::{BranchOp, ImmOp, Instr, LoadOp, RegOp, StoreOp};
-pub use names::Name;
+pub use names::{Cycle, Name};
 pub use ranges::{Keyed, Patch, Range, Span, TextPart};
 pub use refusal::{Field, NoMemory, Refusal, Stop};
 pub use stepping::{Class, Move, StepEnd, Stepped, Trap, TrapKind};

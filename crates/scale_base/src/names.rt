@@ -1,6 +1,6 @@
-//! The names that refusals tell.
+//! The names and the cycles that refusals tell.
 
-ghost use Rattle.std.specs.Prelude.{◌≡◌, string_bytes};
+ghost use Rattle.std.specs.Prelude.{◌≡◌, ◌<◌, length, slice_index, string_bytes};
 
 use std::marker::Model;
 
@@ -31,5 +31,44 @@ impl Name {
         ensures { result.now ≡ self.now }
     {
         self.text.as_str()
+    }
+}
+
+/// A cycle in a refusal: addresses, each followed by the next and the last by the first, the least of them first.
+/// Contracts see their list.
+#[derive(Drop)]
+pub struct Cycle {
+    items: Vec<u32>,
+}
+
+impl Model for Cycle {
+    ghost use Rattle.std.specs.Prelude.{List, ℕ};
+
+    ghost Value = { List ℕ };
+
+    ghost view = { λ c. c.items.items };
+}
+
+impl Cycle {
+    /// The cycle of these addresses.
+    pub fn from_vec(items: Vec<u32>) -> Cycle
+        ensures { result ≡ items.items }
+    {
+        Cycle { items }
+    }
+
+    /// How many addresses there are.
+    pub fn count(&self) -> usize
+        ensures { result ≡ length self.now }
+    {
+        self.items.len()
+    }
+
+    /// Address `k`.
+    pub fn get(&self, k: usize) -> &u32
+        requires { k < length self.now }
+        ensures { result.now ≡ slice_index self.now k }
+    {
+        &self.items[k]
     }
 }

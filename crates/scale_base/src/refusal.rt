@@ -3,7 +3,7 @@
 ghost use Rattle.std.specs.Prelude.{◌≡◌};
 ghost use Rattle.scale_base.specs.declared.refusal.Stop.TheVariants.{Memory, Refused};
 
-use crate::names::Name;
+use crate::names::{Cycle, Name};
 use std::alloc::{AllocError, AllocFailed};
 
 /// The fields of an ELF header that are tested, in the order of the tests (System V ABI, chapter 4, `Elf32_Ehdr`).
@@ -58,6 +58,30 @@ pub enum Refusal {
     MachineValue(Name),
     /// The first level, from 1, whose period isn't below or whose energy isn't above that of the one before.
     LevelOrder(u32),
+    /// The loop file isn't a TOML document.
+    LoopText,
+    /// A key of the loop file is missing or unknown: the loop, 0 for the file itself, and the key.
+    LoopKey(u32, Name),
+    /// A value of the loop file has another form or range: the loop, 0 for the file itself, and the key.
+    LoopValue(u32, Name),
+    /// A reached word stands for no instruction.
+    IllegalWord(u32),
+    /// A reached address is in no text range.
+    OutsideText(u32),
+    /// A reached address is no multiple of 4.
+    MisalignedTarget(u32),
+    /// A reached JAL links another register than x0 and x1.
+    OddLink(u32),
+    /// A reached JALR isn't `jalr x0,0(x1)`.
+    IndirectJump(u32),
+    /// The least address that is reached in two functions.
+    SharedCode(u32),
+    /// Calls form a cycle: the entries of its functions.
+    Recursion(Cycle),
+    /// Edges within a function form a cycle that no loop bounds: its addresses.
+    UnboundedCycle(Cycle),
+    /// The worst cycles are over 2^48.
+    TooLong,
     /// The time units that the worst case needs at the fastest level, and those of the deadline.
     DeadlineMissed(u128, u64),
     /// A loaded file is longer than its limit.

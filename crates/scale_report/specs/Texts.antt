@@ -1,6 +1,6 @@
 -- The texts that the program prints, byte for byte. Each line ends with one line feed. Numbers are decimal, without leading zeros;
 -- an address is `0x` and eight lower-case hexadecimal digits.
-use Rattle.std.specs.Prelude.{codes, ℕ, zero, suc, ◌+◌, ◌/◌, ◌%◌, nat_lt, if◌then◌else◌, List, [], ◌∷◌, ◌++◌}
+use Rattle.std.specs.Prelude.{codes, ℕ, zero, suc, ◌+◌, ◌/◌, ◌%◌, nat_lt, if◌then◌else◌, List, [], ◌∷◌, ◌++◌, flat_map}
 use Rattle.std.specs.Fmt.{decimal}
 use Rattle.scale_base.specs.declared.summary.Summary.{Summary}
 use Rattle.scale_base.specs.declared.refusal.Field.{Field}
@@ -52,6 +52,10 @@ field_name field.PhEntSize = codes "phentsize"
 field_name field.PhNum = codes "phnum"
 field_name field.ShEntSize = codes "shentsize"
 
+-- the addresses of a cycle, with a space before each
+abbrev pub spaced : List ℕ → List ℕ
+spaced addresses = flat_map (λ a. 32 ∷ address a) addresses
+
 -- what a refusal says, with its number
 abbrev pub refusal_words : Refusal → List ℕ
 refusal_words refusal.NotElf = codes "1 not an ELF file"
@@ -66,6 +70,18 @@ refusal_words refusal.MachineText = codes "10 machine file text"
 refusal_words (refusal.MachineKey name) = codes "11 machine file key " ++ name
 refusal_words (refusal.MachineValue name) = codes "12 machine file value " ++ name
 refusal_words (refusal.LevelOrder k) = codes "13 level order " ++ decimal k
+refusal_words refusal.LoopText = codes "14 loop file text"
+refusal_words (refusal.LoopKey k name) = codes "15 loop " ++ decimal k ++ codes " key " ++ name
+refusal_words (refusal.LoopValue k name) = codes "16 loop " ++ decimal k ++ codes " value " ++ name
+refusal_words (refusal.IllegalWord a) = codes "20 illegal word at " ++ address a
+refusal_words (refusal.OutsideText a) = codes "21 outside text at " ++ address a
+refusal_words (refusal.MisalignedTarget a) = codes "22 misaligned target at " ++ address a
+refusal_words (refusal.OddLink a) = codes "23 odd link at " ++ address a
+refusal_words (refusal.IndirectJump a) = codes "24 indirect jump at " ++ address a
+refusal_words (refusal.SharedCode a) = codes "25 shared code at " ++ address a
+refusal_words (refusal.Recursion cycle) = codes "26 recursion:" ++ spaced cycle
+refusal_words (refusal.UnboundedCycle cycle) = codes "36 unbounded cycle:" ++ spaced cycle
+refusal_words refusal.TooLong = codes "40 worst cycles over 281474976710656"
 refusal_words (refusal.DeadlineMissed need have) = codes "41 deadline missed: need " ++ decimal need ++ codes " have " ++ decimal have
 refusal_words (refusal.TooLarge name) = codes "50 too large: " ++ name
 refusal_words (refusal.NotYet a) = codes "60 not yet at " ++ address a

@@ -1,6 +1,6 @@
 //! The words of each refusal.
 
-use crate::words::{Address, FieldName};
+use crate::words::{Address, FieldName, Spaced};
 use scale_base::Refusal;
 use std::fmt;
 
@@ -28,6 +28,18 @@ impl fmt::Display for RefusalWords<'_> {
             Refusal::MachineKey(name) => write!(f, "11 machine file key {}", name.text()),
             Refusal::MachineValue(name) => write!(f, "12 machine file value {}", name.text()),
             Refusal::LevelOrder(index) => write!(f, "13 level order {index}"),
+            Refusal::LoopText => write!(f, "14 loop file text"),
+            Refusal::LoopKey(no, name) => write!(f, "15 loop {no} key {}", name.text()),
+            Refusal::LoopValue(no, name) => write!(f, "16 loop {no} value {}", name.text()),
+            Refusal::IllegalWord(at) => write!(f, "20 illegal word at {}", Address(*at)),
+            Refusal::OutsideText(at) => write!(f, "21 outside text at {}", Address(*at)),
+            Refusal::MisalignedTarget(at) => write!(f, "22 misaligned target at {}", Address(*at)),
+            Refusal::OddLink(at) => write!(f, "23 odd link at {}", Address(*at)),
+            Refusal::IndirectJump(at) => write!(f, "24 indirect jump at {}", Address(*at)),
+            Refusal::SharedCode(at) => write!(f, "25 shared code at {}", Address(*at)),
+            Refusal::Recursion(cycle) => write!(f, "26 recursion:{}", Spaced(cycle)),
+            Refusal::UnboundedCycle(cycle) => write!(f, "36 unbounded cycle:{}", Spaced(cycle)),
+            Refusal::TooLong => write!(f, "40 worst cycles over 281474976710656"),
             Refusal::DeadlineMissed(need, have) => {
                 write!(f, "41 deadline missed: need {need} have {have}")
             }

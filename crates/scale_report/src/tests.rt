@@ -1,5 +1,5 @@
 use super::*;
-use scale_base::{Field, Name};
+use scale_base::{Cycle, Field, Name};
 use std::test::Fail;
 
 #[test]
@@ -43,5 +43,14 @@ fn prints_refusals(rt: HostRuntime) -> Result<(), Fail> {
     );
     let not_yet = line(&rt, Refusal::NotYet(0x1_0000))?;
     assert_eq!(rt; not_yet.as_str(), "refused 60 not yet at 0x00010000\n");
+    let version = Name::new(String::from_str(rt.alloc(), "version")?);
+    let value = line(&rt, Refusal::LoopValue(0, version))?;
+    assert_eq!(rt; value.as_str(), "refused 16 loop 0 value version\n");
+    let cycle = Cycle::from_vec(vec![in rt.alloc(); 0x10008, 0x1000c]?);
+    let unbounded = line(&rt, Refusal::UnboundedCycle(cycle))?;
+    assert_eq!(rt;
+        unbounded.as_str(),
+        "refused 36 unbounded cycle: 0x00010008 0x0001000c\n"
+    );
     Ok(())
 }

@@ -1,6 +1,6 @@
-//! How addresses and field names are printed.
+//! How addresses, cycles and field names are printed.
 
-use scale_base::Field;
+use scale_base::{Cycle, Field};
 use std::fmt;
 
 /// An address: `0x` and eight lower-case hexadecimal digits.
@@ -42,5 +42,24 @@ impl fmt::Display for FieldName {
             Field::PhNum => write!(f, "phnum"),
             Field::ShEntSize => write!(f, "shentsize"),
         }
+    }
+}
+
+/// The addresses of a cycle, with a space before each.
+#[derive(Clone, Copy)]
+pub struct Spaced<'a>(pub &'a Cycle);
+
+impl fmt::Display for Spaced<'_> {
+    ghost use Rattle.std.specs.Prelude.{Some};
+    ghost use Rattle.scale_report.specs.Texts.{spaced};
+
+    ghost output = { λ s. Some (spaced s.0.now) };
+
+    fn fmt<W: fmt::Write>(&self, f: &mut fmt::Formatter<W>) -> fmt::Result {
+        for k in 0..self.0.count() {
+            let at = Address(*self.0.get(k));
+            write!(f, " {at}")?;
+        }
+        Ok(())
     }
 }

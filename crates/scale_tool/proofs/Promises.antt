@@ -1,6 +1,6 @@
 -- Each command that was done keeps its promise.
 use Rattle.std.proofs.Common.{◌≡◌, ℕ, ◌≤◌, List, [], ◌∷◌, length, refl, sym, ap, subst, ◌∙◌, arith, Bool, true, false}
-use Rattle.std.specs.Prelude.{Option, Some, None, option_map, IfSome, IsSomeAnd, cond, Result, Ok, Err, nat_le}
+use Rattle.std.specs.Prelude.{Option, Some, None, option_map, IfSome, cond, Result, Ok, Err, nat_le}
 use Rattle.std.proofs.lemmas.Bool.Decides.{nat_tests}
 use Rattle.std.specs.Cmp.Lexicographic.{nat_list_cmp_total}
 use Rattle.std.specs.FinMap.{get, insert, get-insert}
@@ -8,10 +8,10 @@ use Rattle.std.proofs.lemmas.Slice.Eq.{bytes_eq-Decides}
 use Rattle.std.proofs.lemmas.Map.Text.{is_eq-slice_cmp}
 use Rattle.scale_base.specs.declared.refusal.Refusal.{Refusal}
 use Rattle.scale_base.specs.declared.summary.Summary.{Summary}
-use Rattle.scaler.specs.Held.{held}
+use Rattle.scaler.specs.Held.{IsHeld}
 use Rattle.scaler.proofs.Safe.{safe}
 use Rattle.host_files.specs.HostState.{Files, HostState}
-use Rattle.scale_tool.specs.Answer.{made, held_answer, answer_of, answer_to}
+use Rattle.scale_tool.specs.Answer.{Answer, Makes, AnswersTo, HasAnswer, held_answer}
 use Rattle.scale_tool.specs.Command.{Command, Hold, wants_of}
 use Rattle.scale_tool.specs.Loading.{Loading, Missing, Long, Whole, loading_of, loading_one, and_then}
 use Rattle.scale_tool.specs.Promise.{HoldPromise, Promise, PromisedOf, PromisedBy, Promised}
@@ -57,37 +57,41 @@ loaded_within (want ∷ wants) files = within_one want wants (get files want.0) 
 -- ---- what a command promises
 
 -- what was done is what is stored
-hold_kept : (i m l out : List ℕ) (files : Files) (meant : Result (List ℕ × Summary) Refusal) → length i ≤ 4194304 → held i m l ≡ meant → (held_answer out meant).status ≡ 0
-    → HoldPromise i m l (get (with_stores (held_answer out meant).stores files) out)
-hold_kept i m l out files (Ok given) short e zero = record {
+hold_kept : (i m l out : List ℕ) (files : Files) (given : Result (List ℕ × Summary) Refusal) → length i ≤ 4194304 → length m ≤ 1048576 → length l ≤ 1048576 → IsHeld i m l given → (held_answer out given).status ≡ 0
+    → HoldPromise i m l (get (with_stores (held_answer out given).stores files) out)
+hold_kept i m l out files (Ok given) image_short machine_short loops_short is zero = record {
   stored = given.0;
   summary = given.1;
   stands = get_inserted files out given.0;
-  given = e;
-  safe = safe i m l given.0 given.1 short e;
+  given = is;
+  safe = safe i m l given.0 given.1 image_short machine_short loops_short is;
 }
-hold_kept i m l out files (Err refusal) short e zero = absurd (omega arith)
+hold_kept i m l out files (Err refusal) image_short machine_short loops_short is zero = absurd (omega arith)
 
-kept : (command : Command) (loaded : List (List ℕ)) (files : Files) → EachWithin (wants_of command) loaded → (made command loaded).status ≡ 0 → Promise command loaded (with_stores (made command loaded).stores files)
-kept (Hold image machine loops out) (i ∷ m ∷ l ∷ []) files within zero = hold_kept i m l out files (held i m l) within.0 refl zero
-kept (Hold image machine loops out) loaded files within zero = tt
+kept : (command : Command) (loaded : List (List ℕ)) (files : Files) (answer : Answer) → EachWithin (wants_of command) loaded → Makes command loaded answer → answer.status ≡ 0 →
+    Promise command loaded (with_stores answer.stores files)
+kept (Hold image machine loops out) (i ∷ m ∷ l ∷ []) files answer within made zero =
+    let told = sym made.told in
+    subst (λ (a : Answer). HoldPromise i m l (get (with_stores a.stores files) out)) told
+    (hold_kept i m l out files made.given within.0 within.1.0 within.1.1.0 made.is_held (ap (λ (a : Answer). a.status) told ∙ zero))
+kept (Hold image machine loops out) loaded files answer within made zero = absurd made
 
-of_loading : (command : Command) (loading : Loading) (files : Files) (new : Option Files) → Within (wants_of command) loading →
-    IsSomeAnd (answer_to command loading) (λ answer. (answer.status ≡ 0) × (new ≡ Some (with_stores answer.stores files))) → IfSome new (λ after. PromisedOf command loading after)
-of_loading command Missing files new within given = absurd given
-of_loading command (Long name) files None within given = tt
-of_loading command (Long name) files (Some after) within given = tt
-of_loading command (Whole loaded) files new within given =
-    subst (λ (o : Option Files). IfSome o (λ after. Promise command loaded after)) (sym given.1) (kept command loaded files within given.0)
+of_loading : (command : Command) (loading : Loading) (files : Files) (new : Option Files) (answer : Answer) → Within (wants_of command) loading → AnswersTo command loading answer → answer.status ≡ 0 →
+    new ≡ Some (with_stores answer.stores files) → IfSome new (λ after. PromisedOf command loading after)
+of_loading command Missing files new answer within is zero stand = absurd is
+of_loading command (Long name) files None answer within is zero stand = tt
+of_loading command (Long name) files (Some after) answer within is zero stand = tt
+of_loading command (Whole loaded) files new answer within is zero stand =
+    subst (λ (o : Option Files). IfSome o (λ after. Promise command loaded after)) (sym stand) (kept command loaded files answer within is zero)
 
 of_files : (asked : Option Command) (old new : Option Files) →
-    IfSome old (λ files. IsSomeAnd (answer_of asked files) (λ answer. (answer.status ≡ 0) × (new ≡ option_map (with_stores answer.stores) old))) →
+    IfSome old (λ files. HasAnswer asked files (λ answer. (answer.status ≡ 0) × (new ≡ option_map (with_stores answer.stores) old))) →
     IfSome old (λ files. IfSome new (λ after. PromisedBy asked files after))
 of_files asked None new given = tt
 of_files None (Some files) None given = tt
 of_files None (Some files) (Some after) given = tt
 of_files (Some command) (Some files) new given =
-    of_loading command (loading_of (wants_of command) files) files new (loaded_within (wants_of command) files) given
+    of_loading command (loading_of (wants_of command) files) files new given.0 (loaded_within (wants_of command) files) given.1 given.2.0 given.2.1
 
 -- stores that stand keep their promise, whatever was answered
 pub stored_keep_promise : (asked : Option Command) (old new : HostState) → StoresStand asked old new → Promised asked old new

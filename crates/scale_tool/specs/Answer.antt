@@ -1,10 +1,10 @@
--- What a command answers: its stores in order, the text that it prints, and its status.
-use Rattle.std.specs.Prelude.{ℕ, List, [], ◌∷◌, Option, Some, None, Result, Ok, Err, codes}
+-- What a command may answer: its stores in order, the text that it prints, and its status.
+use Rattle.std.specs.Prelude.{◌≡◌, ℕ, List, [], ◌∷◌, Option, Some, None, Result, Ok, Err, codes}
 use Rattle.scale_base.specs.declared.refusal.Refusal.{Refusal}
 use Rattle.scale_base.specs.declared.refusal.Refusal.TheVariants.{TooLarge}
 use Rattle.scale_base.specs.declared.summary.Summary.{Summary}
 use Rattle.scale_report.specs.Texts.{summary_text, refusal_text}
-use Rattle.scaler.specs.Held.{held}
+use Rattle.scaler.specs.Held.{IsHeld}
 use Rattle.host_files.specs.HostState.{Files}
 use Rattle.scale_tool.specs.Command.{Command, Hold, wants_of}
 use Rattle.scale_tool.specs.Loading.{Loading, Missing, Long, Whole, loading_of}
@@ -30,18 +30,28 @@ abbrev pub held_answer : List ℕ → Result (List ℕ × Summary) Refusal → A
 held_answer out (Ok given) = record { stores = (out, given.0) ∷ []; text = summary_text given.1; status = 0 }
 held_answer out (Err refusal) = refused refusal
 
--- what the command makes of its files, as many as it loads
-abbrev pub made : Command → List (List ℕ) → Answer
-made (Hold image machine loops out) (i ∷ m ∷ l ∷ []) = held_answer out (held i m l)
-made command files = bad_command
+-- The answer to `hold` with this name of OUT, by the bytes of its image, machine file and loop file: it tells what they are held as.
+pub record MakesHeld (image machine loops out : List ℕ) (answer : Answer) : Type 0 where
+  pub given : Result (List ℕ × Summary) Refusal
+  pub is_held : IsHeld image machine loops given
+  pub told : answer ≡ held_answer out given
 
--- and of how they were loaded: no answer where a file is missing
-abbrev pub answer_to : Command → Loading → Option Answer
-answer_to command Missing = None
-answer_to command (Long name) = Some (refused (TooLarge name))
-answer_to command (Whole files) = Some (made command files)
+-- what the command may make of its files, as many as it loads
+abbrev pub Makes : Command → List (List ℕ) → Answer → Type 0
+Makes (Hold image machine loops out) (i ∷ m ∷ l ∷ []) answer = MakesHeld i m l out answer
+Makes command files answer = ⊥
 
--- the answer to a command over these files, or to words that are none; there is none where a file that it loads is missing
-abbrev pub answer_of : Option Command → Files → Option Answer
-answer_of None files = Some bad_command
-answer_of (Some command) files = answer_to command (loading_of (wants_of command) files)
+-- and of how they were loaded: nothing where a file is missing
+abbrev pub AnswersTo : Command → Loading → Answer → Type 0
+AnswersTo command Missing answer = ⊥
+AnswersTo command (Long name) answer = answer ≡ refused (TooLarge name)
+AnswersTo command (Whole files) answer = Makes command files answer
+
+-- the answer is one to a command over these files, or the one to words that are none; there is none where a file that the command loads is missing
+abbrev pub IsAnswerOf : Option Command → Files → Answer → Type 0
+IsAnswerOf None files answer = answer ≡ bad_command
+IsAnswerOf (Some command) files answer = AnswersTo command (loading_of (wants_of command) files) answer
+
+-- there is an answer of which this holds
+abbrev pub HasAnswer : Option Command → Files → (Answer → Type 0) → Type 0
+HasAnswer asked files P = (answer : Answer) × IsAnswerOf asked files answer × P answer

@@ -5,3 +5,4 @@ pub mod Loading
 pub mod Promise
 pub mod Tool
 pub mod Views
+pub mod Words

@@ -2,20 +2,21 @@
 use Rattle.std.specs.Prelude.{◌≡◌, ℕ, List, [], ◌∷◌, Option, Some, None, IfSome, Ok}
 use Rattle.std.specs.FinMap.{get}
 use Rattle.scale_base.specs.declared.summary.Summary.{Summary}
-use Rattle.scaler.specs.Held.{held}
+use Rattle.scaler.specs.Held.{IsHeld}
 use Rattle.scaler.specs.Runs.{IsHeldSafely}
 use Rattle.host_files.specs.HostState.{Files, HostState}
 use Rattle.scale_tool.specs.Command.{Command, Hold, wants_of}
 use Rattle.scale_tool.specs.Loading.{Loading, Whole, loading_of}
 
--- of `hold`, by the bytes of its image, machine file and loop file, and by what OUT holds afterwards: OUT is the image that holding gives, and on
--- every input that image runs as the original one does, and where its run exits it has taken the time of the summary, at most the deadline
+-- of `hold`, by the bytes of its image, machine file and loop file, and by what OUT holds afterwards: OUT is an image that holding gives, and on
+-- every input that image runs as the original one does, and as long as its run keeps the loops' bounds and the return addresses it takes at most
+-- the time of the summary, which is at most the deadline, and it ends
 pub record HoldPromise (image machine loops : List ℕ) (out : Option (List ℕ)) : Type 0 where
   pub stored : List ℕ
   pub summary : Summary
   pub stands : out ≡ Some stored
-  pub given : held image machine loops ≡ Ok ((stored, summary))
-  pub safe : IsHeldSafely image machine stored summary
+  pub given : IsHeld image machine loops (Ok ((stored, summary)))
+  pub safe : IsHeldSafely image machine loops stored summary
 
 -- what a command promises, by the files that it loaded and those that stand afterwards
 abbrev pub Promise : Command → List (List ℕ) → Files → Type 0

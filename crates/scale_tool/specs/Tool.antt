@@ -1,12 +1,13 @@
 -- What stands after a run of the tool.
-use Rattle.std.specs.Prelude.{◌≡◌, ◌⊎◌, ℕ, ◌+◌, ◌-◌, ◌≤◌, List, [], ◌∷◌, ◌++◌, length, take, sum_by, Option, Some, option_map, slice_get, IfSome, IsSomeAnd, IsTrue, Result, Ok, Err}
+use Rattle.std.specs.Prelude.{◌≡◌, ◌≢◌, ◌⊎◌, ℕ, ◌+◌, ◌-◌, ◌≤◌, List, [], ◌∷◌, ◌++◌, length, take, sum_by, Option, Some, None, option_map, slice_get, IfSome, IsSome, IsSomeAnd, IsTrue, Result, Ok, Err}
 use Rattle.std.specs.FinMap.{insert}
 use Rattle.host_files.specs.HostState.{Files, Room, HostState, IsUntouched, Rose}
 use Rattle.host_files.specs.Host.{MayHoldAnything, PrintsPrefix}
 use Rattle.host_files.specs.declared.host.HostError.{HostError}
 use Rattle.host_files.specs.declared.host.HostError.TheVariants.{Failed, OutOfMemory}
-use Rattle.scale_tool.specs.Answer.{answer_of}
-use Rattle.scale_tool.specs.Command.{Command, may_give, needs_memory}
+use Rattle.scale_tool.specs.Answer.{IsAnswerOf, HasAnswer, Answer}
+use Rattle.scale_tool.specs.Command.{Command, may_give, needs_memory, wants_of}
+use Rattle.scale_tool.specs.Loading.{Missing, loading_of}
 
 abbrev pub Stores : Type 0
 Stores = List (List ℕ × List ℕ)
@@ -52,24 +53,33 @@ stores_spent stores room = record { stores = room.stores - length stores; bytes 
 abbrev pub HasRoom : Option Room → Stores → ℕ → Type 0
 HasRoom room stores text = IsSomeAnd room (λ left. (length stores ≤ left.stores) × (bytes_of stores + text ≤ left.bytes))
 
--- The host is steady, holds each file that the command loads, and has room for what it stores and prints.
-abbrev pub IsReadyFor : Option Command → HostState → Type 0
-IsReadyFor asked host = IsSomeAnd host.files (λ files. IsSomeAnd (answer_of asked files) (λ answer. HasRoom host.room answer.stores (length answer.text)))
+-- each file that the command loads is there, up to the first that is too long
+abbrev pub HasFiles : Option Command → Files → Type 0
+HasFiles None files = Unit {0}
+HasFiles (Some command) files = loading_of (wants_of command) files ≢ Missing
 
--- where the files are told, the status is the answer's, and the answer was given
+-- a steady host has room for whatever may be stored and printed in answer
+abbrev pub HasRoomForAll : Option Command → Files → Option Room → Type 0
+HasRoomForAll asked files room = (answer : Answer) → IsAnswerOf asked files answer → HasRoom room answer.stores (length answer.text)
+
+-- The host is steady, holds each file that the command loads, and has room for whatever it may store and print.
+abbrev pub IsReadyFor : Option Command → HostState → Type 0
+IsReadyFor asked host = IsSome host.room × IsSomeAnd host.files (λ files. HasFiles asked files × HasRoomForAll asked files host.room)
+
+-- where the files are told, the status is that of an answer, and that answer was given
 abbrev pub IsAnswered : Option Command → ℕ → HostState → HostState → Type 0
-IsAnswered asked status old new = IfSome old.files (λ files. IsSomeAnd (answer_of asked files) (λ answer.
+IsAnswered asked status old new = IfSome old.files (λ files. HasAnswer asked files (λ answer.
     (status ≡ answer.status) × IsDelivered answer.stores answer.text old new))
 
--- where the files are told, the command is one that is done, and its stores stand, whether or not its text was printed
+-- where the files are told, an answer says that the command was done, and its stores stand, whether or not its text was printed
 abbrev pub StoresStand : Option Command → HostState → HostState → Type 0
-StoresStand asked old new = IfSome old.files (λ files. IsSomeAnd (answer_of asked files) (λ answer.
+StoresStand asked old new = IfSome old.files (λ files. HasAnswer asked files (λ answer.
     (answer.status ≡ 0) × (new.files ≡ option_map (with_stores answer.stores) old.files)))
 
--- where the files are told, a load failed, and nothing was touched, or the answer was cut short
+-- where the files are told, a load failed, and nothing was touched, or an answer was cut short
 abbrev pub StopsWithin : Option Command → HostState → HostState → Type 0
 StopsWithin asked old new = IfSome old.files (λ files. IsUntouched old new ⊎
-    IsSomeAnd (answer_of asked files) (λ answer. IsCutShort answer.stores answer.text old new))
+    HasAnswer asked files (λ answer. IsCutShort answer.stores answer.text old new))
 
 -- how a run ends, by what it gives
 abbrev pub Ends : Option Command → Result ℕ HostError → HostState → HostState → Type 0

@@ -2,8 +2,7 @@
 
 ghost use Rattle.std.specs.Prelude.{◌≡◌, ◌≤◌, length, IfOk, IsTrue, Some};
 ghost use Rattle.std.specs.List.{AllZip};
-ghost use Rattle.scaler.specs.Held.{held};
-ghost use Rattle.scale_tool.specs.Answer.{refused, held_answer, made};
+ghost use Rattle.scale_tool.specs.Answer.{refused, MakesHeld, Makes};
 
 use crate::command::Command;
 use scale_base::{NoMemory, Refusal, Stop};
@@ -51,7 +50,7 @@ impl Reply {
         requires image { length image.now ≤ 4194304 }
         requires machine { length machine.now ≤ 1048576 }
         requires loops { length loops.now ≤ 1048576 }
-        ensures { IfOk result (λ reply. reply_view reply ≡ held_answer out.now (held image.now machine.now loops.now)) }
+        ensures { IfOk result (λ reply. MakesHeld image.now machine.now loops.now out.now (reply_view reply)) }
     {
         match scaler::hold(alloc, image, machine, loops) {
             Ok((bytes, summary)) => {
@@ -73,7 +72,7 @@ impl Reply {
     /// What a command makes of its files.
     pub fn made(alloc: Global, command: &Command<'_>, files: &[Vec<u8>]) -> Result<Reply, NoMemory>
         requires { AllZip (λ want file. length file ≤ want.1) (wants_of (command_view command.now)) (files_view files.now) }
-        ensures answer { IfOk result (λ reply. reply_view reply ≡ made (command_view command.now) (files_view files.now)) }
+        ensures answer { IfOk result (λ reply. Makes (command_view command.now) (files_view files.now) (reply_view reply)) }
         ensures status { IfOk result (λ reply. IsTrue (may_give (Some (command_view command.now)) reply.status)) }
     {
         match *command {

@@ -208,42 +208,133 @@ fn files_that_are_no_image_are_refused(rt: HostRuntime) -> Result<(), Fail> {
         machine.as_str(),
         NO_LOOPS,
         "refused 8 already scaled\n",
-    )?;
-    let mut image = Vec::new(alloc);
-    push_words(&mut image, &IMAGE_WITH_SECTIONS)?;
-    check_refused(
-        &rt,
-        alloc,
-        &image,
-        machine.as_str(),
-        NO_LOOPS,
-        "refused 60 not yet at 0x000100b4\n",
     )
 }
 
+// `hold` stores this file and prints the summary of so many worst cycles at level 0, of period 4.
+fn check_held(
+    rt: &impl Abort,
+    alloc: Global,
+    image: &[u8],
+    deadline: u32,
+    worst: u32,
+    stored: &[u8],
+) -> Result<(), Fail> {
+    let machine = machine_file(alloc, deadline, DIV, 2)?;
+    let mut host = host_of(alloc, &[], image, machine.as_str(), NO_LOOPS)?;
+    let words = words_of(alloc, &HOLD_WORDS)?;
+    let time = u64::from(worst) * 4;
+    let summary = format!(in alloc;
+        "start level 0\nworst cycles {worst}\nworst time {time} of {deadline}\nstub cycles at most 0\nswitch edges 0\nexit edges 0\ncount edges 0\nstub bytes 0\n"
+    )?;
+    assert_eq!(rt; run_tool(&mut host, alloc, &words), 0, "{worst}");
+    assert_eq!(rt; host.printed(), summary.as_str().as_bytes());
+    assert_eq!(rt; host.file("out").ok_or("no file")?, stored);
+    Ok(())
+}
+
 #[test]
-fn programs_of_another_form_are_refused(rt: HostRuntime) -> Result<(), Fail> {
+fn programs_with_branches_and_calls_are_held(rt: HostRuntime) -> Result<(), Fail> {
+    let alloc = rt.alloc();
+    let cases: [(&[u32], u32, u32); 5] = [
+        // A branch to the next word.
+        (&[0x00000263, 0x05d00893, 0x00000073], 32, 8),
+        // A function that is called twice, and divides and multiplies.
+        (
+            &[
+                0x014000ef, 0x010000ef, 0x0262c2b3, 0x05d00893, 0x00000073, 0x026282b3, 0x00008067,
+            ],
+            120,
+            30,
+        ),
+        // A call of a function that only exits: the word behind it isn't reached.
+        (&[0x008000ef, 0, 0x05d00893, 0x00000073], 32, 8),
+        // The service number of the first ECALL is known, so it goes on; a branch skips six divisions.
+        (
+            &[
+                0x03f00893, 0x00010593, 0x00100613, 0x00000073, 0x00050e63, 0x0262c2b3, 0x0262c2b3,
+                0x0262c2b3, 0x0262c2b3, 0x0262c2b3, 0x0262c2b3, 0x05d00893, 0x00000073,
+            ],
+            300,
+            75,
+        ),
+        // An EBREAK costs nothing.
+        (&[0x00700513, 0x00100073], 4, 1),
+    ];
+    for (words, deadline, worst) in cases {
+        let image = plain_image(alloc, words, 0, 5)?;
+        let stored = held_image(alloc, words, 0)?;
+        check_held(&rt, alloc, &image, deadline, worst, &stored)?;
+    }
+    Ok(())
+}
+
+#[test]
+fn an_image_with_sections_is_held(rt: HostRuntime) -> Result<(), Fail> {
+    let alloc = rt.alloc();
+    let mut image = Vec::new(alloc);
+    push_words(&mut image, &IMAGE_WITH_SECTIONS)?;
+    let mut changed = IMAGE_WITH_SECTIONS;
+    changed[7] = 4096;
+    changed[11] = 0x00280005;
+    let mut stored = Vec::new(alloc);
+    push_words(&mut stored, &changed)?;
+    stored.resize(4096, 0)?;
+    push_words(&mut stored, &IMAGE_WITH_SECTIONS[13..29])?;
+    push_words(
+        &mut stored,
+        &[1, 4096, 0x00011000, 0, 0, 0, 0x00100005, 4096],
+    )?;
+    push_words(&mut stored, &IMAGE_WITH_SECTIONS[29..45])?;
+    assert_eq!(rt; stored.len(), 4256);
+    check_held(&rt, alloc, &image, 36, 9, &stored)
+}
+
+#[test]
+fn code_is_refused(rt: HostRuntime) -> Result<(), Fail> {
     let alloc = rt.alloc();
     let machine = machine_file(alloc, 500, DIV, 2)?;
-    let mut long = [0x00700513; 18];
-    long[15] = 0x05d00893;
-    long[17] = 0x00000073;
-    let cases: [(&[u32], &str); 4] = [
-        // A call.
+    let cases: [(&[u32], &str); 11] = [
+        (&[0], "refused 20 illegal word at 0x00010000\n"),
+        (&[0x00700513], "refused 21 outside text at 0x00010004\n"),
         (
-            &[0x008000ef, 0, 0x05d00893, 0x00000073],
-            "refused 60 not yet at 0x00010000\n",
+            &[0x00000163],
+            "refused 22 misaligned target at 0x00010002\n",
         ),
-        // No service is chosen.
+        (&[0x000002ef], "refused 23 odd link at 0x00010000\n"),
+        (&[0x00028067], "refused 24 indirect jump at 0x00010000\n"),
         (
-            &[0x00700513, 0x00700513, 0x00000073],
-            "refused 60 not yet at 0x00010008\n",
+            &[0x008000ef, 0x0040006f, 0x00008067],
+            "refused 25 shared code at 0x00010008\n",
         ),
-        (&long, "refused 60 not yet at 0x00010040\n"),
-        // A branch behind the end.
+        // Two functions that call each other.
         (
-            &[0x00700513, 0x05d00893, 0x00000073, 0x00000263],
-            "refused 60 not yet at 0x0001000c\n",
+            &[
+                0x00c000ef, 0x05d00893, 0x00000073, 0x008000ef, 0x00008067, 0xff9ff0ef, 0x00008067,
+            ],
+            "refused 26 recursion: 0x0001000c 0x00010014\n",
+        ),
+        // Three functions, each of which calls the next.
+        (
+            &[
+                0x00c000ef, 0x05d00893, 0x00000073, 0x008000ef, 0x00008067, 0x008000ef, 0x00008067,
+                0xff1ff0ef, 0x00008067,
+            ],
+            "refused 26 recursion: 0x0001000c 0x00010014 0x0001001c\n",
+        ),
+        (&[0x0000006f], "refused 36 unbounded cycle: 0x00010000\n"),
+        // It reads bytes until there are none.
+        (
+            &[
+                0x00010593, 0x00100613, 0x03f00893, 0x00000513, 0x00000073, 0xfe051ae3, 0x05d00893,
+                0x00000073,
+            ],
+            "refused 36 unbounded cycle: 0x00010008 0x0001000c 0x00010010 0x00010014\n",
+        ),
+        // The least address decides: an illegal word before a jump out of the text.
+        (
+            &[0x00000463, 0, 0x4000006f],
+            "refused 20 illegal word at 0x00010004\n",
         ),
     ];
     for (words, text) in cases {
@@ -251,6 +342,28 @@ fn programs_of_another_form_are_refused(rt: HostRuntime) -> Result<(), Fail> {
         check_refused(&rt, alloc, &image, machine.as_str(), NO_LOOPS, text)?;
     }
     Ok(())
+}
+
+// Each function calls the next one twice, so the worst cycles double from function to function.
+#[test]
+fn too_many_worst_cycles_are_refused(rt: HostRuntime) -> Result<(), Fail> {
+    let alloc = rt.alloc();
+    let machine = machine_file(alloc, 500, DIV, 2)?;
+    let mut words = Vec::new(alloc);
+    words.extend_from_slice(&[0x00c000ef, 0x05d00893, 0x00000073])?;
+    for _ in 0..50 {
+        words.extend_from_slice(&[0x00c000ef, 0x008000ef, 0x00008067])?;
+    }
+    words.push(0x00008067)?;
+    let image = plain_image(alloc, &words, 0, 5)?;
+    check_refused(
+        &rt,
+        alloc,
+        &image,
+        machine.as_str(),
+        NO_LOOPS,
+        "refused 40 worst cycles over 281474976710656\n",
+    )
 }
 
 #[test]
@@ -280,11 +393,27 @@ fn machine_and_loop_files_are_refused(rt: HostRuntime) -> Result<(), Fail> {
             NO_LOOPS,
             "refused 10 machine file text\n",
         ),
+        (28, DIV, 2, "version 1\n", "refused 14 loop file text\n"),
+        (28, DIV, 2, "", "refused 15 loop 0 key version\n"),
+        (
+            28,
+            DIV,
+            2,
+            "version = 1\nloops = 0\n",
+            "refused 15 loop 0 key loops\n",
+        ),
         (
             28,
             DIV,
             2,
             "version = 2\n",
+            "refused 16 loop 0 value version\n",
+        ),
+        (
+            28,
+            DIV,
+            2,
+            "version = 1\nloop = 0\n",
             "refused 60 not yet at 0x00000000\n",
         ),
     ];

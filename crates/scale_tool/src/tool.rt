@@ -3,8 +3,9 @@
 ghost use Rattle.std.specs.Prelude.{◌≡◌, ◌≢◌, Some, None, IfOk, IfErr, IfSome, IsSome, IsTrue};
 ghost use Rattle.host_files.specs.HostState.{IsUntouched, Rose};
 ghost use Rattle.host_files.specs.Host.{count_if, is_failed};
-ghost use Rattle.scale_tool.specs.Answer.{answer_of, refused};
-ghost use Rattle.scale_tool.specs.Command.{command_of, texts, may_give, may_answer, needs_memory};
+ghost use Rattle.scale_tool.specs.Answer.{IsAnswerOf, refused};
+ghost use Rattle.scale_tool.specs.Command.{command_of, texts, may_give, may_answer, needs_memory, wants_of};
+ghost use Rattle.scale_tool.specs.Loading.{Missing, loading_of};
 ghost use Rattle.scale_tool.specs.Promise.{Promised};
 ghost use Rattle.scale_tool.specs.Tool.{Ends, IsAnswered, StopsWithin, StoresStand, IsReadyFor};
 ghost use Rattle.scale_tool.specs.Views.{command_view, reply_view};
@@ -28,11 +29,11 @@ fn too_large(alloc: Global, name: &str) -> Result<Reply, NoMemory>
 
 /// Loads the files of a command, and makes what it gives.
 fn reply_to<H: Host>(host: &mut H, alloc: Global, command: &Command<'_>) -> Result<Reply, HostError>
-    ensures told { IfOk result (λ reply. IfSome (H.state host.old).files (λ files. answer_of (Some (command_view command.now)) files ≡ Some (reply_view reply))) }
+    ensures told { IfOk result (λ reply. IfSome (H.state host.old).files (λ files. IsAnswerOf (Some (command_view command.now)) files (reply_view reply))) }
     ensures status { IfOk result (λ reply. IsTrue (may_give (Some (command_view command.now)) reply.status)) }
     ensures untouched { IsUntouched (H.state host.old) (H.state host.new) }
     ensures faults { (H.state host.new).faults ≡ count_if (is_failed result) (H.state host.old).faults }
-    ensures steady { IfErr result (λ error. error ≡ HostError.Failed → IsSome (H.state host.old).room → IfSome (H.state host.old).files (λ files. answer_of (Some (command_view command.now)) files ≡ None)) }
+    ensures steady { IfErr result (λ error. error ≡ HostError.Failed → IsSome (H.state host.old).room → IfSome (H.state host.old).files (λ files. loading_of (wants_of (command_view command.now)) files ≡ Missing)) }
 {
     let wants = wants(alloc, command)?;
     match load_all(host, alloc, &wants) {
@@ -59,6 +60,7 @@ fn run_command<H: Host>(host: &mut H, alloc: Global, command: &Command<'_>) -> R
 }
 
 /// Says that words are no command.
+#[tactic(auto, using(crate::proofs::Ready::room_for_words))]
 fn refuse_words<H: Host>(host: &mut H) -> Result<u8, HostError>
     ensures ends { Ends None result (H.state host.old) (H.state host.new) }
     ensures faults { (H.state host.new).faults ≡ count_if (is_failed result) (H.state host.old).faults }

@@ -1,6 +1,6 @@
-pub mod Searches
+pub mod Programs
+pub mod Files
+pub mod Answering
 pub mod Bases
-pub mod StraightSteps
-pub mod StraightRun
 pub mod HeldRuns
 pub mod Safe

@@ -1,33 +1,29 @@
 -- What `hold` gives: the image with an empty keyed segment, which starts it at the slowest level at which its worst case is in time.
-use Rattle.std.specs.Prelude.{ℕ, ◌+◌, ◌*◌, codes, if◌then◌else◌, List, [], Option, Some, None, Result, Ok, Err}
-use Rattle.std.specs.Str.{bytes_eq}
+-- It is a relation, since a refusal may name any of several cycles.
+use Rattle.std.specs.Prelude.{◌≡◌, ◌⊎◌, ℕ, nat_lt, if◌then◌else◌, List, [], Option, Some, None, Result, Ok, Err}
 use Rattle.scale_base.specs.declared.ranges.Keyed.{Keyed}
 use Rattle.scale_base.specs.declared.refusal.Refusal.{Refusal}
-use Rattle.scale_base.specs.declared.refusal.Refusal.TheVariants.{AlreadyScaled, DeadlineMissed, NotYet}
-use Rattle.scale_base.specs.declared.stepping.Class.TheVariants.{Alu, Ecall}
+use Rattle.scale_base.specs.declared.refusal.Refusal.TheVariants.{AlreadyScaled, DeadlineMissed, TooLong}
 use Rattle.scale_base.specs.declared.summary.Summary.{Summary}
 use Rattle.scale_base.specs.Image.{Image, image_of}
 use Rattle.power_model.specs.Numbers.{PowerModel}
 use Rattle.power_model.specs.Price.{cycles_of, time_at}
 use Rattle.power_model.specs.Slowest.{slowest_of, fastest}
-use Rattle.table_keys.specs.Keys.{◌>>=◌}
 use Rattle.machine_file.specs.Machine.{read_machine}
+use Rattle.loop_file.specs.declared.notes.LoopNote.{LoopNote}
+use Rattle.loop_file.specs.Loops.{read_loops}
 use Rattle.elf_patch.specs.Stored.{stored_image}
 use Rattle.image_laws.specs.Laws.{held_base}
-use Rattle.scaler.specs.Straight.{straight_code}
+use Rattle.cost_theory.specs.Lists.{loops_of}
+use Rattle.cost_theory.specs.Worst.{Numbers, AreNumbers}
+use Rattle.graph_runs.specs.Text.{text_of}
+use Rattle.graph_runs.specs.EdgeCosts.{weights}
+use Rattle.graph_runs.specs.RunMoves.{text_graph}
+use Rattle.code_graph.specs.FlowGraph.{FlowGraph, IsGraphOf}
+use Rattle.code_graph.specs.Refused.{IsRefusedBy}
+use Rattle.loop_tree.specs.Tree.{LoopView, IsTreeOf, IsTreeRefusal}
 
--- the image has no keyed segment yet
-abbrev pub unscaled : Option Keyed → Result (Unit {0}) Refusal
-unscaled None = Ok tt
-unscaled (Some keyed) = Err AlreadyScaled
-
--- the loop file has no loops
-abbrev pub no_loops : List ℕ → Result (Unit {0}) Refusal
-no_loops loops = if bytes_eq loops (codes "version = 1\n") then Ok tt else Err (NotYet 0)
-
--- the worst cycles of straight code: so many `addi` and an ECALL
-abbrev pub worst_cycles : PowerModel → ℕ → ℕ
-worst_cycles power n = n * cycles_of power.costs Alu + cycles_of power.costs Ecall
+-- ---- what is stored at a number of worst cycles
 
 -- the image with an empty keyed segment and a starting level
 abbrev pub held_file : Image → ℕ → List ℕ
@@ -51,17 +47,60 @@ abbrev pub held_from : PowerModel → Image → ℕ → Option ℕ → Result (L
 held_from power image worst None = Err (DeadlineMissed (time_at power (fastest power) worst) power.deadline)
 held_from power image worst (Some start) = Ok ((held_file image start, held_summary power worst start))
 
--- a program of so many worst cycles
 unfoldable pub held_at : PowerModel → Image → ℕ → Result (List ℕ × Summary) Refusal
 held_at power image worst = held_from power image worst (slowest_of power worst)
 
+-- at most 2^48 worst cycles are held
+abbrev pub held_within : PowerModel → Image → ℕ → Result (List ℕ × Summary) Refusal
+held_within power image worst = if nat_lt 281474976710656 worst then Err TooLong else held_at power image worst
+
+-- ---- what the program of an image and its loops give
+
+-- the reached code is refused
+pub record IsCodeRefused (image : Image) (answer : Result (List ℕ × Summary) Refusal) : Type 0 where
+  pub refusal : Refusal
+  pub why : IsRefusedBy (text_of image) refusal
+  pub answer_is : answer ≡ Err refusal
+
+-- the loops of its graph are refused
+pub record IsLoopRefused (image : Image) (notes : List LoopNote) (answer : Result (List ℕ × Summary) Refusal) : Type 0 where
+  pub code : FlowGraph
+  pub refusal : Refusal
+  pub code_is : IsGraphOf (text_of image) code
+  pub why : IsTreeRefusal code notes refusal
+  pub answer_is : answer ≡ Err refusal
+
+-- it is a program with loops, under the costs of its instructions, and its worst cycles decide
+pub record IsProgramHeld (power : PowerModel) (image : Image) (notes : List LoopNote) (answer : Result (List ℕ × Summary) Refusal) : Type 0 where
+  pub code : FlowGraph
+  pub loops : LoopView
+  pub numbers : Numbers
+  pub code_is : IsGraphOf (text_of image) code
+  pub loops_are : IsTreeOf code notes loops
+  pub numbers_are : AreNumbers (text_graph (text_of image) code.code) (loops_of loops.tree) (weights (text_of image) code.code (cycles_of power.costs)) numbers
+  pub answer_is : answer ≡ held_within power image (numbers.worst 0)
+
+abbrev pub IsHeldProgram : PowerModel → Image → List LoopNote → Result (List ℕ × Summary) Refusal → Type 0
+IsHeldProgram power image notes answer = IsCodeRefused image answer ⊎ (IsLoopRefused image notes answer ⊎ IsProgramHeld power image notes answer)
+
+-- ---- what the files give
+
+-- the image has no keyed segment yet
+abbrev pub unscaled : Option Keyed → Result (Unit {0}) Refusal
+unscaled None = Ok tt
+unscaled (Some keyed) = Err AlreadyScaled
+
+-- a part that may refuse, and what follows it
+abbrev pub Then : {A B : Type 0} → Result A Refusal → (A → Result B Refusal → Type 0) → Result B Refusal → Type 0
+Then (Err refusal) next answer = answer ≡ Err refusal
+Then (Ok part) next answer = next part answer
+
 -- The stored bytes and the summary, or the first refusal: of the machine file, of the image, of a keyed segment, of the loop file, of the
--- code, and of the deadline.
-unfoldable pub held : List ℕ → List ℕ → List ℕ → Result (List ℕ × Summary) Refusal
-held image machine loops = do
-  power ← read_machine machine
-  view ← image_of image
-  _ ← unscaled view.keyed_segment
-  _ ← no_loops loops
-  n ← straight_code view
-  held_at power view (worst_cycles power n)
+-- code, of its loops, of too many worst cycles, and of the deadline.
+unfoldable pub IsHeld : List ℕ → List ℕ → List ℕ → Result (List ℕ × Summary) Refusal → Type 0
+IsHeld image machine loops answer =
+    Then (read_machine machine) (λ power.
+    Then (image_of image) (λ original.
+    Then (unscaled original.keyed_segment) (λ _.
+    Then (read_loops loops) (λ notes.
+    IsHeldProgram power original notes)))) answer

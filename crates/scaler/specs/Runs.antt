@@ -1,11 +1,15 @@
--- What a held image promises: its runs are those of the original image, at one level, and in time.
+-- What a held image promises: its runs are those of the original image, at one level, and those that keep the loops' bounds and the return
+-- addresses end in time.
 use Rattle.std.specs.Prelude.{◌≡◌, ℕ, ◌≤◌, List, length, Ok}
 use Rattle.scale_base.specs.declared.summary.Summary.{Summary}
 use Rattle.scale_base.specs.Image.{Image, image_of}
-use Rattle.scale_base.specs.Run.{Run, HasExited, run_of, starting_level}
+use Rattle.scale_base.specs.Run.{Run, GoesOn, run_of, starting_level}
 use Rattle.power_model.specs.Numbers.{PowerModel, Numbers}
-use Rattle.power_model.specs.Price.{price, held_energy}
+use Rattle.power_model.specs.Price.{price, IsHeld}
 use Rattle.machine_file.specs.Machine.{read_machine}
+use Rattle.loop_file.specs.declared.notes.LoopNote.{LoopNote}
+use Rattle.loop_file.specs.Loops.{read_loops}
+use Rattle.loop_file.specs.Kept.{IsKeptUpTo}
 
 -- the same steps, which led to states that differ in the window at most, and stand alike
 pub record IsSameRun (one other : Run) : Type 0 where
@@ -25,25 +29,35 @@ RunAlike original held levels = (input : List ℕ) (n : ℕ) → IsSameRun (run_
 abbrev pub price_of : PowerModel → Image → List ℕ → ℕ → Numbers
 price_of power image input n = price power (starting_level (length power.levels) image.keyed_segment) (run_of image (length power.levels) input n).steps
 
--- the printed time, at most the deadline, and no more energy than the starting level asks for
+-- a run that stays at the starting level, so that its time and its energy are those of its cycles there, with at most the printed cycles and the
+-- printed time, which is in time
 pub record IsAsPrinted (power : PowerModel) (summary : Summary) (paid : Numbers) : Type 0 where
-  pub time : paid.time ≡ summary.time
-  pub in_time : paid.time ≤ power.deadline
-  pub energy : paid.energy ≡ held_energy power paid
+  pub cycles : paid.cycles ≤ summary.worst
+  pub time : paid.time ≤ summary.time
+  pub in_time : summary.time ≤ power.deadline
+  pub at_start : IsHeld power summary.start paid
 
--- where a run has exited
-abbrev pub ExitsAsPrinted : PowerModel → Image → Summary → Type 0
-ExitsAsPrinted power held summary = (input : List ℕ) (n status : ℕ)
-    → (run_of held (length power.levels) input n).standing ≡ HasExited status → IsAsPrinted power summary (price_of power held input n)
+-- as long as the run is kept
+abbrev pub KeptAsPrinted : PowerModel → Image → List LoopNote → Image → Summary → Type 0
+KeptAsPrinted power original notes held summary = (input : List ℕ) (n : ℕ)
+    → IsKeptUpTo original (length power.levels) input notes n → IsAsPrinted power summary (price_of power held input n)
 
--- The bytes of an image, of a machine file and of the stored image: the machine and the two images that they are, whose runs are alike, and end
--- as the summary says.
-pub record IsHeldSafely (image machine stored : List ℕ) (summary : Summary) : Type 0 where
+-- A kept run that goes on has taken at most as many steps as the printed cycles are, so each run that stays kept ends.
+abbrev pub KeptRunsEnd : PowerModel → Image → List LoopNote → Image → Summary → Type 0
+KeptRunsEnd power original notes held summary = (input : List ℕ) (n : ℕ)
+    → IsKeptUpTo original (length power.levels) input notes n → (run_of held (length power.levels) input n).standing ≡ GoesOn → n ≤ summary.worst
+
+-- The bytes of an image, of a machine file, of a loop file and of the stored image: the machine, the notes and the two images that they are.
+-- The images' runs are alike, and those that are kept end in time.
+pub record IsHeldSafely (image machine loops stored : List ℕ) (summary : Summary) : Type 0 where
   pub power : PowerModel
   pub original : Image
+  pub notes : List LoopNote
   pub held : Image
   pub power_is : read_machine machine ≡ Ok power
   pub original_is : image_of image ≡ Ok original
+  pub notes_are : read_loops loops ≡ Ok notes
   pub held_is : image_of stored ≡ Ok held
   pub runs : RunAlike original held (length power.levels)
-  pub ends : ExitsAsPrinted power held summary
+  pub kept : KeptAsPrinted power original notes held summary
+  pub ends : KeptRunsEnd power original notes held summary

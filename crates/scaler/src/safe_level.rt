@@ -1,20 +1,22 @@
 //! A program that runs at one level, the slowest that is safe.
 
-ghost use Rattle.std.specs.Prelude.{◌≡◌, ◌≤◌, ◌<◌, ◌+◌, ◌*◌, ◌^◌, length, None, Ok, IfOk};
-ghost use Rattle.scale_base.specs.Answer.{Answers};
-ghost use Rattle.power_model.specs.Price.{time_at};
+ghost use Rattle.std.specs.Prelude.{◌≡◌, ◌≤◌, ◌<◌, ◌+◌, ◌*◌, ◌^◌, [], map, length, None, Ok, IfOk};
+ghost use Rattle.scale_base.specs.Answer.{Answers, AnswersBy};
+ghost use Rattle.power_model.specs.Price.{cycles_of, time_at};
+ghost use Rattle.graph_runs.specs.EdgeCosts.{cost_of};
 ghost use Rattle.scaler.specs.Held as held;
 ghost use Rattle.scaler.specs.Runs.{IsHeldSafely};
 
-use crate::straight::straight_code;
+use code_graph::{CodeGraph, Weights, build_graph};
 use elf_patch::{stub_base, write_image};
 use elf_view::{ImageView, read_image};
+use loop_file::{LoopNotes, read_loops};
+use loop_tree::build_loops;
 use machine_file::read_machine;
 use power_model::{Power, slowest};
-use scale_base::{Class, Keyed, NoMemory, Refusal, Stop, Summary};
+use scale_base::{Keyed, NoMemory, Refusal, Stop, Summary};
 use std::alloc::Global;
-
-const NO_LOOPS: &[u8] = b"version = 1\n";
+use worst_cycles::worst;
 
 fn check_unscaled(keyed: Option<Keyed>) -> Result<(), Refusal>
     ensures { result ≡ held.unscaled keyed }
@@ -23,25 +25,6 @@ fn check_unscaled(keyed: Option<Keyed>) -> Result<(), Refusal>
         Some(_) => Err(Refusal::AlreadyScaled),
         None => Ok(()),
     }
-}
-
-fn check_no_loops(loops: &[u8]) -> Result<(), Refusal>
-    ensures { result ≡ held.no_loops loops.now }
-{
-    if loops == NO_LOOPS {
-        Ok(())
-    } else {
-        Err(Refusal::NotYet(0))
-    }
-}
-
-/// The cycles of so many `addi` and an ECALL.
-fn worst_cycles(power: &Power, n: u32) -> u64
-    requires { n ≤ 16 }
-    ensures worst { result ≡ held.worst_cycles power.now n }
-    ensures small { result ≤ 2 ^ 48 }
-{
-    u64::from(n) * u64::from(power.costs.of(Class::Alu)) + u64::from(power.costs.of(Class::Ecall))
 }
 
 /// So many cycles in time units at a level.
@@ -100,28 +83,52 @@ fn hold_at(
     }
 }
 
+/// The costs of the edges of a graph on a machine, in cycles.
+fn weights_of(alloc: Global, graph: &CodeGraph, power: &Power) -> Result<Weights, NoMemory>
+    ensures { IfOk result (λ weights. weights ≡ map (cost_of (cycles_of power.now.costs)) graph.now.classes) }
+{
+    graph.base_weights(alloc, &power.costs)
+}
+
+/// The program of an image, with the loops of its notes, at the slowest level that is safe.
+fn hold_program(
+    alloc: Global,
+    view: &ImageView<'_>,
+    power: &Power,
+    notes: &LoopNotes,
+) -> Result<(Vec<u8>, Summary), Stop>
+    requires file { length view.now.file ≤ 4194304 }
+    requires no_key { view.now.keyed_segment ≡ None }
+    requires no_notes { notes.now ≡ [] }
+    ensures { AnswersBy (λ given. (given.0.items, given.1)) result (held.IsHeldProgram power.now view.now notes.now) }
+{
+    let graph = build_graph(alloc, view)?;
+    let tree = build_loops(alloc, &graph, notes)?;
+    let weights = weights_of(alloc, &graph, power)?;
+    let numbers = worst(alloc, &graph, &tree, &weights)?;
+    hold_at(alloc, view, power, numbers.total())
+}
+
 /// The image at the slowest level that is safe, or the first refusal.
-#[tactic(auto, unfolding(crate::specs::Held::held))]
-fn held_image(
+fn hold_files(
     alloc: Global,
     image: &[u8],
     machine: &[u8],
     loops: &[u8],
 ) -> Result<(Vec<u8>, Summary), Stop>
     requires { length image.now ≤ 4194304 }
-    ensures { Answers (λ given. (given.0.items, given.1)) result (held.held image.now machine.now loops.now) }
+    ensures { AnswersBy (λ given. (given.0.items, given.1)) result (held.IsHeld image.now machine.now loops.now) }
 {
     let power = read_machine(alloc, machine)?;
     let view = read_image(alloc, image)?;
     check_unscaled(view.keyed())?;
-    check_no_loops(loops)?;
-    let n = straight_code(&view)?;
-    hold_at(alloc, &view, &power, worst_cycles(&power, n))
+    let notes = read_loops(alloc, loops, &view)?;
+    hold_program(alloc, &view, &power, &notes)
 }
 
 /// The image with an empty keyed segment that starts it at the slowest level at which its worst case is in time, and the
 /// numbers of its summary; or the first refusal: of the machine file, of the image, of a keyed segment, of the loop file,
-/// of code that isn't straight, and of the deadline.
+/// of the reached code, of its loops, of more than 2^48 worst cycles, and of the deadline.
 ///
 /// The files have at most the bytes that the program loads: 4,194,304 of an image, 1,048,576 of each other file. Times are in
 /// the machine file's time units.
@@ -134,10 +141,10 @@ pub fn hold(
     requires image { length image.now ≤ 4194304 }
     requires machine { length machine.now ≤ 1048576 }
     requires loops { length loops.now ≤ 1048576 }
-    ensures given { Answers (λ given. (given.0.items, given.1)) result (held.held image.now machine.now loops.now) }
+    ensures given { AnswersBy (λ given. (given.0.items, given.1)) result (held.IsHeld image.now machine.now loops.now) }
 
-    // The stored image runs as the original one does, on every input, and its runs that exit take the printed time.
-    ensures safe { IfOk result (λ given. IsHeldSafely image.now machine.now given.0.items given.1) }
+    // The stored image runs as the original one does, on every input, and its kept runs end within the printed time.
+    ensures safe { IfOk result (λ given. IsHeldSafely image.now machine.now loops.now given.0.items given.1) }
 {
-    held_image(alloc, image, machine, loops)
+    hold_files(alloc, image, machine, loops)
 }

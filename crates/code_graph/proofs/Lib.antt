@@ -1,0 +1,11 @@
+pub mod Lists
+pub mod Graphs
+pub mod Causes
+pub mod Reaching
+pub mod NodeLaws
+pub mod EdgeLaws
+pub mod CallLaws
+pub mod Parts
+pub mod Calls
+pub mod FewWords
+pub mod Whole

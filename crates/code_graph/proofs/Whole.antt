@@ -1,0 +1,154 @@
+-- The lists together: the graph of a text, and what is kept of it.
+use Rattle.std.proofs.Common.{◌≡◌, ℕ, ◌+◌, ◌*◌, ◌<◌, ◌≤◌, ◌%◌, Bool, true, List, length, get_or, map, Option, Some, Result, Ok, Err, inr, refl, sym, ap, ◌∙◌, subst, arith, eq-eqb}
+use Rattle.std.specs.Prelude.{slice_get, slice_index, ◌==◌, ◌&&◌, IsErrAnd}
+use Rattle.std.specs.List.{list_any}
+use Rattle.std.proofs.lemmas.List.{length-map}
+use Rattle.std.proofs.lemmas.Option.{slice_get_within, slice_get-get_or, slice_get-map}
+use Rattle.scale_base.specs.declared.stepping.Class.{Class}
+use Rattle.scale_base.specs.declared.refusal.Refusal.{Refusal}
+use Rattle.scale_base.specs.declared.refusal.Stop.{Stop}
+use Rattle.scale_base.specs.declared.refusal.Stop.TheVariants.{Refused, Memory}
+use Rattle.scale_base.specs.Answer.{AnswersBy}
+use Rattle.scale_base.specs.Image.{Image, is_in, is_word_address}
+use Rattle.cost_theory.specs.declared.edges.Edge.{Edge}
+use Rattle.cost_theory.specs.declared.edges.Word.{Word}
+use Rattle.cost_theory.specs.Accepted.{IsNode, IsProgram}
+use Rattle.cost_theory.specs.Reached.{IsCodeOf, graph_of, callee_of}
+use Rattle.cost_theory.proofs.Programs.{some_get}
+use Rattle.cost_theory.proofs.Programs as programs
+use Rattle.cost_theory.proofs.Agreeing.{one_graph, edge_node}
+use Rattle.call_orders.specs.declared.Arc.{Arc}
+use Rattle.call_orders.specs.Arcs.{HasNoCycle, IsSorted}
+use Rattle.graph_runs.specs.Text.{Text, kind_at}
+use Rattle.graph_runs.specs.EdgeCosts.{edge_class}
+use Rattle.graph_runs.specs.RunMoves.{text_graph}
+use Rattle.graph_runs.proofs.MoveLaws.{kind_facts}
+use Rattle.code_reach.specs.Reach.{Reach}
+use Rattle.code_graph.specs.FlowGraph.{word_beside, IsFlowGraph, IsGraphOf, AreCalleesFirst}
+use Rattle.code_graph.specs.Stored.{AreFirsts, IsStored}
+use Rattle.code_graph.specs.Assembling.{AreEdgesOf, AreCallArcs, IsOrdered, entry_addresses}
+use Rattle.code_graph.specs.Refused.{IsRefusedBy}
+use Rattle.code_graph.proofs.Lists.{some_is, word_beside-get, ascending_once}
+use Rattle.code_graph.proofs.Parts.{AreParts, node_reached, kinds_are, is_code, callee_entry, returning_size}
+use Rattle.code_graph.proofs.Calls.{program, callees_first, calls_within, named_cycle}
+use Rattle.code_graph.proofs.CallLaws.{arcs_numbered, cycle_numbered}
+use Rattle.code_graph.proofs.FewWords.{few_once}
+
+module _ (t : Text) (r : Reach) (nodes : List ℕ) (kinds : List Word) (owners entries : List ℕ) (returning : List Bool) (callees : List (Option ℕ)) (are : AreParts t r nodes kinds owners entries returning callees) where
+  -- an address that is a node is one of the text
+  pub node_word : (j a : ℕ) → slice_get nodes j ≡ Some a → (a % 4 ≡ 0) × (list_any (is_in a) t.ranges ≡ true)
+  node_word j a at = let f = node_reached t r nodes kinds owners entries returning callees are j a at in let is = kind_facts t a (are.fine f.0 a f.1) in (is.0, is.1)
+
+  pub low_nodes : (j : ℕ) → j < length nodes → get_or nodes j 0 + 4 < 4294967296
+  low_nodes j lt =
+      let e = are.nodes_are.each j (get_or nodes j 0) (slice_get-get_or nodes j 0 lt) in
+      let low = are.reach.table.low e.k (get_or nodes j 0) e.address in
+      omega arith
+
+  pub few_entries : length entries ≤ length r.words.addresses
+  few_entries =
+      let long : length entries ≡ length r.functions = ap length are.entries_are ∙ length-map r.functions (slice_index r.words.addresses) in
+      let few : length r.functions ≤ length r.words.addresses = few_once r.functions (length r.words.addresses)
+      (λ i j k at_i at_j. some_is i j (some_is (Some i) (Some j) (sym ((are.reach.reach.numbers k i).1 at_i) ∙ (are.reach.reach.numbers k j).1 at_j)))
+      (λ i k at. let w = are.reach.reach.functions_within i k at in slice_get_within r.words.addresses k w.0 w.1) in
+      omega arith
+
+  module _ (edges : List Edge) (edges_are : AreEdgesOf (length nodes) nodes kinds callees returning edges) where
+    pub code_is : IsCodeOf (kind_at t) t.entry (record { nodes = nodes; edges = edges; functions = entries; owners = owners; returning = returning })
+    code_is = is_code t r nodes kinds owners entries returning callees are edges edges_are
+
+    pub edge_word : (e : ℕ) (x : Edge) → slice_get edges e ≡ Some x → (x.at % 4 ≡ 0) × (list_any (is_in x.at) t.ranges ≡ true)
+    edge_word e x at = let n = edge_node (kind_at t) t.entry (record { nodes = nodes; edges = edges; functions = entries; owners = owners; returning = returning }) code_is e x at in node_word n.0 x.at n.1
+
+    module _ (classes : List (Option Class)) (order firsts : List ℕ) (arcs : List Arc) (arcs_are : AreCallArcs (length owners) owners callees arcs) (sorted : IsSorted (length entries) arcs order) (none : HasNoCycle arcs)
+        (classes_are : classes ≡ map (λ e. edge_class t (Some e)) edges) where
+      -- the kinds beside the nodes are those of the text
+      beside_is : (j a : ℕ) → slice_get nodes j ≡ Some a → kind_at t a ≡ word_beside nodes kinds a
+      beside_is j a at = sym (word_beside-get nodes kinds j a (kind_at t a) (ascending_once nodes are.nodes_are.ascending) at
+          (ap (λ xs. slice_get xs j) (kinds_are t r nodes kinds owners entries returning callees are) ∙ slice_get-map (kind_at t) nodes j ∙ rw at refl))
+
+      same_graph : text_graph t (record { nodes = nodes; edges = edges; functions = entries; owners = owners; returning = returning }) ≡
+          graph_of (word_beside nodes kinds) (record { nodes = nodes; edges = edges; functions = entries; owners = owners; returning = returning })
+      same_graph = one_graph (kind_at t) (word_beside nodes kinds) (record { nodes = nodes; edges = edges; functions = entries; owners = owners; returning = returning })
+          (λ i e at. let n = edge_node (kind_at t) t.entry (record { nodes = nodes; edges = edges; functions = entries; owners = owners; returning = returning }) code_is i e at in beside_is n.0 e.at n.1)
+
+      node_is : (a : ℕ) → (k : ℕ) × (slice_get nodes k ≡ Some a) → IsNode (graph_of (kind_at t) (record { nodes = nodes; edges = edges; functions = entries; owners = owners; returning = returning })) a
+      node_is a at =
+          let f = node_reached t r nodes kinds owners entries returning callees are at.0 a at.1 in
+          programs.reached_node (kind_at t) t.entry (record { nodes = nodes; edges = edges; functions = entries; owners = owners; returning = returning }) code_is are.fine f.0 a f.1
+
+      is_node : (a : ℕ) → IsNode (graph_of (kind_at t) (record { nodes = nodes; edges = edges; functions = entries; owners = owners; returning = returning })) a → (k : ℕ) × (slice_get nodes k ≡ Some a)
+      is_node a node =
+          let f = programs.source_reached (kind_at t) t.entry (record { nodes = nodes; edges = edges; functions = entries; owners = owners; returning = returning }) code_is are.fine node.0 node.1 in
+          subst (λ v. (k : ℕ) × (slice_get nodes k ≡ Some v)) node.2 ((code_is.nodes _).1 (f.0, f.1))
+
+      pub flow_is : IsFlowGraph (record { code = record { nodes = nodes; edges = edges; functions = entries; owners = owners; returning = returning }; kinds = kinds; classes = classes; order = order })
+      flow_is = record {
+        program = subst IsProgram same_graph (program t r nodes kinds owners entries returning callees are arcs arcs_are edges edges_are none);
+        ascending = are.nodes_are.ascending;
+        nodes = λ a. (λ at. subst (λ g. IsNode g a) same_graph (node_is a at), λ node. is_node a (subst (λ g. IsNode g a) (sym same_graph) node));
+        order = subst (λ g. AreCalleesFirst g order) same_graph (callees_first t r nodes kinds owners entries returning callees are arcs arcs_are edges edges_are order sorted);
+      }
+
+      pub graph_is : IsGraphOf t (record { code = record { nodes = nodes; edges = edges; functions = entries; owners = owners; returning = returning }; kinds = kinds; classes = classes; order = order })
+      graph_is = record {
+        reached = record { lists = code_is; words = are.fine };
+        kinds = kinds_are t r nodes kinds owners entries returning callees are;
+        classes = classes_are;
+        graph_is = same_graph;
+        flow = flow_is;
+      }
+
+      pub stored_is : length r.words.addresses ≤ 131072 → length edges ≤ 2 * length nodes → AreFirsts (length nodes) nodes edges firsts →
+          IsStored (record { code = record { nodes = nodes; edges = edges; functions = entries; owners = owners; returning = returning }; kinds = kinds; classes = classes; order = order }) callees firsts
+      stored_is few few_edges firsts_are =
+          let most = are.nodes_are.few in
+          let functions = few_entries in
+          record {
+            flow = flow_is;
+            few_nodes = omega arith;
+            few_edges = omega arith;
+            few_functions = omega arith;
+            kinds = are.nodes_are.kinds_size;
+            owners = are.nodes_are.owners_size;
+            callees_are = are.callees_are ∙ ap (λ xs. map (callee_of xs) kinds) (sym are.entries_are);
+            firsts_are = firsts_are;
+          }
+
+  -- a function that is called has a flag
+  pub callee_within : (k f : ℕ) → slice_get callees k ≡ Some (Some f) → f < length returning
+  callee_within k f at =
+      let size : length callees ≡ length kinds = ap length are.callees_are ∙ length-map kinds (callee_of (entry_addresses r)) in
+      let within = slice_get_within callees k (Some f) at in
+      let w = some_get kinds k (omega arith) in
+      let stands : slice_get callees k ≡ Some (callee_of entries w.0) =
+      ap (λ xs. slice_get xs k) (are.callees_are ∙ ap (λ xs. map (callee_of xs) kinds) (sym are.entries_are)) ∙ slice_get-map (callee_of entries) kinds k ∙ rw w.1 refl in
+      let c = callee_entry t r nodes kinds owners entries returning callees are w.0 f (some_is (callee_of entries w.0) (Some f) (sym stands ∙ at)) in
+      let lt = slice_get_within entries f c.0 c.2 in
+      let flags = returning_size t r nodes kinds owners entries returning callees are in
+      omega arith
+
+-- an aligned address of the text is that of a word
+pub word_test : (image : Image) (a : ℕ) → (a % 4 ≡ 0) × (list_any (is_in a) image.text ≡ true) → is_word_address image a ≡ true
+word_test image a here = both (a % 4 == 0) (list_any (is_in a) image.text) (eq-eqb (a % 4) 0 here.0) here.1
+  where
+    both : (x y : Bool) → x ≡ true → y ≡ true → (x && y) ≡ true
+    both x y p q = grind arith
+
+-- what stops a part stops the whole
+pub refused_part : {X Y Z W : Type 0} (seen : Z → W) (shown : X → Y) (answer : Result X Stop) (stop : Stop) (P : Result Y Refusal → Type 0) (Q : Result W Refusal → Type 0) →
+    IsErrAnd answer (λ e. e ≡ stop) → AnswersBy seen (Err stop) Q → ((refusal : Refusal) → Q (Err refusal) → P (Err refusal)) → AnswersBy shown answer P
+refused_part seen shown (Ok x) stop P Q same part on = absurd same
+refused_part seen shown (Err e) (Refused refusal) P Q same part on = subst (λ s. AnswersBy shown (Err s) P) (sym same) (on refusal part)
+refused_part seen shown (Err e) Memory P Q same part on = subst (λ s. AnswersBy shown (Err s) P) (sym same) tt
+
+module _ (t : Text) (r : Reach) (nodes : List ℕ) (kinds : List Word) (owners entries : List ℕ) (returning : List Bool) (callees : List (Option ℕ)) (are : AreParts t r nodes kinds owners entries returning callees) where
+  pub round_refused : (refusal : Refusal) → IsOrdered entries owners callees (Err refusal) → IsRefusedBy t refusal
+  round_refused refusal (arcs, arcs_are, cycle, is, named, e, turned) = inr (inr (record {
+    cycle = named;
+    named = e;
+    no_bad_word = are.fine;
+    no_shared_code = are.apart;
+    calls = named_cycle t r nodes kinds owners entries returning callees are arcs arcs_are cycle is
+        (cycle_numbered (length entries) arcs cycle (arcs_numbered (length entries) owners callees arcs arcs_are (calls_within t r nodes kinds owners entries returning callees are)) is) named turned;
+  }))

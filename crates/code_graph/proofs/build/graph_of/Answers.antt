@@ -1,0 +1,143 @@
+use Rattle.std.proofs.Common.{Vec, Global, ◌≡◌, ◌+◌, ◌*◌, ◌<◌, ◌≤◌, ℕ, length, get_or, map, Some, Ok, Err, ap, sym, ◌∙◌, subst, arith}
+use Rattle.std.specs.Prelude.{slice_get}
+use Rattle.cost_theory.specs.Reached.{callee_of}
+use Rattle.graph_runs.specs.Text.{text_of}
+use Rattle.graph_runs.specs.EdgeCosts.{edge_class}
+use Rattle.scale_base.specs.Answer.{AnswersBy}
+use Rattle.code_graph.specs.Building.{IsBuilt}
+use Rattle.code_graph.specs.Finding.{reach_of}
+use Rattle.code_graph.specs.Stored.{AreFirsts}
+use Rattle.code_graph.specs.Assembling.{AreEdgesOf, AreCallsWithin, IsOrdered, entry_addresses}
+use Rattle.code_graph.proofs.Parts.{AreParts}
+use Rattle.code_graph.proofs.Calls.{calls_within}
+use Rattle.code_graph.proofs.Whole.{few_entries, low_nodes, edge_word, word_test, callee_within, refused_part, round_refused, stored_is, graph_is}
+use Rattle.code_graph.proofs.build.graph_of.Goals as goal
+
+pub call_order_of-requires-clause-entries : goal.call_order_of-requires-clause-entries
+call_order_of-requires-clause-entries c =
+    let parts : AreParts (text_of c.args.view.now) (reach_of c.args.reach.now) c.in_ok-nodes.nodes.addresses.items c.in_ok-nodes.nodes.kinds.items c.in_ok-nodes.nodes.owners.items c.in_ok-functions.functions.items c.in_ok-returning.returning.items c.in_ok-callees.callees.items = record {
+      reach = c.requires.reach;
+      fine = c.requires.words;
+      apart = c.requires.apart;
+      nodes_are = c.in_ok-nodes.ensures;
+      entries_are = c.in_ok-functions.ensures;
+      returning_are = c.in_ok-returning.ensures;
+      callees_are = c.in_ok-callees.ensures ∙ ap (map (callee_of (entry_addresses (reach_of c.args.reach.now)))) c.deref.ensures.value;
+    } in
+    let few = few_entries (text_of c.args.view.now) (reach_of c.args.reach.now) c.in_ok-nodes.nodes.addresses.items c.in_ok-nodes.nodes.kinds.items c.in_ok-nodes.nodes.owners.items c.in_ok-functions.functions.items c.in_ok-returning.returning.items c.in_ok-callees.callees.items parts in
+    let most = c.requires.few in
+    let same : length c.deref-2.result.now ≡ length c.in_ok-functions.functions.items = ap length c.deref-2.ensures.value in
+    omega arith
+
+pub call_order_of-requires-clause-within : goal.call_order_of-requires-clause-within
+call_order_of-requires-clause-within c =
+    let parts : AreParts (text_of c.args.view.now) (reach_of c.args.reach.now) c.in_ok-nodes.nodes.addresses.items c.in_ok-nodes.nodes.kinds.items c.in_ok-nodes.nodes.owners.items c.in_ok-functions.functions.items c.in_ok-returning.returning.items c.in_ok-callees.callees.items = record {
+      reach = c.requires.reach;
+      fine = c.requires.words;
+      apart = c.requires.apart;
+      nodes_are = c.in_ok-nodes.ensures;
+      entries_are = c.in_ok-functions.ensures;
+      returning_are = c.in_ok-returning.ensures;
+      callees_are = c.in_ok-callees.ensures ∙ ap (map (callee_of (entry_addresses (reach_of c.args.reach.now)))) c.deref.ensures.value;
+    } in
+    let within : AreCallsWithin (length c.deref-2.result.now) c.deref-3.result.now c.deref-4.result.now =
+    subst (λ xs. AreCallsWithin (length xs) c.deref-3.result.now c.deref-4.result.now) (sym c.deref-2.ensures.value) (subst (λ xs. AreCallsWithin (length c.in_ok-functions.functions.items) xs c.deref-4.result.now) (sym c.deref-3.ensures.value) (subst (λ xs. AreCallsWithin (length c.in_ok-functions.functions.items) c.in_ok-nodes.nodes.owners.items xs) (sym c.deref-4.ensures.value) (calls_within (text_of c.args.view.now) (reach_of c.args.reach.now) c.in_ok-nodes.nodes.addresses.items c.in_ok-nodes.nodes.kinds.items c.in_ok-nodes.nodes.owners.items c.in_ok-functions.functions.items c.in_ok-returning.returning.items c.in_ok-callees.callees.items parts))) in
+    within
+
+pub edges_of-requires-clause-low : goal.edges_of-requires-clause-low
+edges_of-requires-clause-low c =
+    let parts : AreParts (text_of c.args.view.now) (reach_of c.args.reach.now) c.in_ok-nodes.nodes.addresses.items c.in_ok-nodes.nodes.kinds.items c.in_ok-nodes.nodes.owners.items c.in_ok-functions.functions.items c.in_ok-returning.returning.items c.in_ok-callees.callees.items = record {
+      reach = c.requires.reach;
+      fine = c.requires.words;
+      apart = c.requires.apart;
+      nodes_are = c.in_ok-nodes.ensures;
+      entries_are = c.in_ok-functions.ensures;
+      returning_are = c.in_ok-returning.ensures;
+      callees_are = c.in_ok-callees.ensures ∙ ap (map (callee_of (entry_addresses (reach_of c.args.reach.now)))) c.deref.ensures.value;
+    } in
+    subst (λ xs. (k : ℕ) → k < length xs → get_or xs k 0 + 4 < 4294967296) (sym c.deref-5.ensures.value) (low_nodes (text_of c.args.view.now) (reach_of c.args.reach.now) c.in_ok-nodes.nodes.addresses.items c.in_ok-nodes.nodes.kinds.items c.in_ok-nodes.nodes.owners.items c.in_ok-functions.functions.items c.in_ok-returning.returning.items c.in_ok-callees.callees.items parts)
+
+pub edges_of-requires-clause-functions : goal.edges_of-requires-clause-functions
+edges_of-requires-clause-functions c =
+    let parts : AreParts (text_of c.args.view.now) (reach_of c.args.reach.now) c.in_ok-nodes.nodes.addresses.items c.in_ok-nodes.nodes.kinds.items c.in_ok-nodes.nodes.owners.items c.in_ok-functions.functions.items c.in_ok-returning.returning.items c.in_ok-callees.callees.items = record {
+      reach = c.requires.reach;
+      fine = c.requires.words;
+      apart = c.requires.apart;
+      nodes_are = c.in_ok-nodes.ensures;
+      entries_are = c.in_ok-functions.ensures;
+      returning_are = c.in_ok-returning.ensures;
+      callees_are = c.in_ok-callees.ensures ∙ ap (map (callee_of (entry_addresses (reach_of c.args.reach.now)))) c.deref.ensures.value;
+    } in
+    subst (λ cs. (k f : ℕ) → slice_get cs k ≡ Some (Some f) → f < length c.deref-8.result.now) (sym c.deref-7.ensures.value)
+    (subst (λ rs. (k f : ℕ) → slice_get c.in_ok-callees.callees.items k ≡ Some (Some f) → f < length rs) (sym c.deref-8.ensures.value) (callee_within (text_of c.args.view.now) (reach_of c.args.reach.now) c.in_ok-nodes.nodes.addresses.items c.in_ok-nodes.nodes.kinds.items c.in_ok-nodes.nodes.owners.items c.in_ok-functions.functions.items c.in_ok-returning.returning.items c.in_ok-callees.callees.items parts))
+
+pub classes_of-requires-clause-words : goal.classes_of-requires-clause-words
+classes_of-requires-clause-words c =
+    let parts : AreParts (text_of c.args.view.now) (reach_of c.args.reach.now) c.in_ok-nodes.nodes.addresses.items c.in_ok-nodes.nodes.kinds.items c.in_ok-nodes.nodes.owners.items c.in_ok-functions.functions.items c.in_ok-returning.returning.items c.in_ok-callees.callees.items = record {
+      reach = c.requires.reach;
+      fine = c.requires.words;
+      apart = c.requires.apart;
+      nodes_are = c.in_ok-nodes.ensures;
+      entries_are = c.in_ok-functions.ensures;
+      returning_are = c.in_ok-returning.ensures;
+      callees_are = c.in_ok-callees.ensures ∙ ap (map (callee_of (entry_addresses (reach_of c.args.reach.now)))) c.deref.ensures.value;
+    } in
+    let edges_are : AreEdgesOf (length c.in_ok-nodes.nodes.addresses.items) c.in_ok-nodes.nodes.addresses.items c.in_ok-nodes.nodes.kinds.items c.in_ok-callees.callees.items c.in_ok-returning.returning.items c.in_ok-lists.lists.edges.items =
+    subst (λ xs. AreEdgesOf (length xs) xs c.in_ok-nodes.nodes.kinds.items c.in_ok-callees.callees.items c.in_ok-returning.returning.items c.in_ok-lists.lists.edges.items) c.deref-5.ensures.value (subst (λ xs. AreEdgesOf (length c.deref-5.result.now) c.deref-5.result.now xs c.in_ok-callees.callees.items c.in_ok-returning.returning.items c.in_ok-lists.lists.edges.items) c.deref-6.ensures.value (subst (λ xs. AreEdgesOf (length c.deref-5.result.now) c.deref-5.result.now c.deref-6.result.now xs c.in_ok-returning.returning.items c.in_ok-lists.lists.edges.items) c.deref-7.ensures.value (subst (λ xs. AreEdgesOf (length c.deref-5.result.now) c.deref-5.result.now c.deref-6.result.now c.deref-7.result.now xs c.in_ok-lists.lists.edges.items) c.deref-8.ensures.value c.in_ok-lists.ensures.edges))) in
+    λ e x at. word_test c.args.view.now x.at (edge_word (text_of c.args.view.now) (reach_of c.args.reach.now) c.in_ok-nodes.nodes.addresses.items c.in_ok-nodes.nodes.kinds.items c.in_ok-nodes.nodes.owners.items c.in_ok-functions.functions.items c.in_ok-returning.returning.items c.in_ok-callees.callees.items parts c.in_ok-lists.lists.edges.items edges_are e x (sym (ap (λ xs. slice_get xs e) c.deref-9.ensures.value) ∙ at))
+
+pub invariant_of-result : goal.invariant_of-result
+invariant_of-result c =
+    let parts : AreParts (text_of c.args.view.now) (reach_of c.args.reach.now) c.in_ok-nodes.nodes.addresses.items c.in_ok-nodes.nodes.kinds.items c.in_ok-nodes.nodes.owners.items c.in_ok-functions.functions.items c.in_ok-returning.returning.items c.in_ok-callees.callees.items = record {
+      reach = c.requires.reach;
+      fine = c.requires.words;
+      apart = c.requires.apart;
+      nodes_are = c.in_ok-nodes.ensures;
+      entries_are = c.in_ok-functions.ensures;
+      returning_are = c.in_ok-returning.ensures;
+      callees_are = c.in_ok-callees.ensures ∙ ap (map (callee_of (entry_addresses (reach_of c.args.reach.now)))) c.deref.ensures.value;
+    } in
+    let edges_are : AreEdgesOf (length c.in_ok-nodes.nodes.addresses.items) c.in_ok-nodes.nodes.addresses.items c.in_ok-nodes.nodes.kinds.items c.in_ok-callees.callees.items c.in_ok-returning.returning.items c.in_ok-lists.lists.edges.items =
+    subst (λ xs. AreEdgesOf (length xs) xs c.in_ok-nodes.nodes.kinds.items c.in_ok-callees.callees.items c.in_ok-returning.returning.items c.in_ok-lists.lists.edges.items) c.deref-5.ensures.value (subst (λ xs. AreEdgesOf (length c.deref-5.result.now) c.deref-5.result.now xs c.in_ok-callees.callees.items c.in_ok-returning.returning.items c.in_ok-lists.lists.edges.items) c.deref-6.ensures.value (subst (λ xs. AreEdgesOf (length c.deref-5.result.now) c.deref-5.result.now c.deref-6.result.now xs c.in_ok-returning.returning.items c.in_ok-lists.lists.edges.items) c.deref-7.ensures.value (subst (λ xs. AreEdgesOf (length c.deref-5.result.now) c.deref-5.result.now c.deref-6.result.now c.deref-7.result.now xs c.in_ok-lists.lists.edges.items) c.deref-8.ensures.value c.in_ok-lists.ensures.edges))) in
+    let firsts : AreFirsts (length c.in_ok-nodes.nodes.addresses.items) c.in_ok-nodes.nodes.addresses.items c.in_ok-lists.lists.edges.items c.in_ok-lists.lists.firsts.items = subst (λ xs. AreFirsts (length xs) xs c.in_ok-lists.lists.edges.items c.in_ok-lists.lists.firsts.items) c.deref-5.ensures.value c.in_ok-lists.ensures.firsts in
+    let few : length c.in_ok-lists.lists.edges.items ≤ 2 * length c.in_ok-nodes.nodes.addresses.items = subst (λ xs. length c.in_ok-lists.lists.edges.items ≤ 2 * length xs) c.deref-5.ensures.value c.in_ok-lists.ensures.few in
+    let ordered : IsOrdered c.in_ok-functions.functions.items c.in_ok-nodes.nodes.owners.items c.in_ok-callees.callees.items (Ok c.in_ok-order.order.items) =
+    subst (λ xs. IsOrdered xs c.in_ok-nodes.nodes.owners.items c.in_ok-callees.callees.items (Ok c.in_ok-order.order.items)) c.deref-2.ensures.value (subst (λ xs. IsOrdered c.deref-2.result.now xs c.in_ok-callees.callees.items (Ok c.in_ok-order.order.items)) c.deref-3.ensures.value (subst (λ xs. IsOrdered c.deref-2.result.now c.deref-3.result.now xs (Ok c.in_ok-order.order.items)) c.deref-4.ensures.value c.in_ok-order.ensures)) in
+    let classes : c.in_ok-classes.classes.items ≡ map (λ e. edge_class (text_of c.args.view.now) (Some e)) c.in_ok-lists.lists.edges.items = c.in_ok-classes.ensures ∙ ap (map (λ e. edge_class (text_of c.args.view.now) (Some e))) c.deref-9.ensures.value in
+    stored_is (text_of c.args.view.now) (reach_of c.args.reach.now) c.in_ok-nodes.nodes.addresses.items c.in_ok-nodes.nodes.kinds.items c.in_ok-nodes.nodes.owners.items c.in_ok-functions.functions.items c.in_ok-returning.returning.items c.in_ok-callees.callees.items parts c.in_ok-lists.lists.edges.items edges_are c.in_ok-classes.classes.items c.in_ok-order.order.items c.in_ok-lists.lists.firsts.items ordered.0 ordered.1 ordered.2 ordered.3 classes c.requires.few few firsts
+
+pub returns : goal.returns
+returns c =
+    let parts : AreParts (text_of c.args.view.now) (reach_of c.args.reach.now) c.in_ok-nodes.nodes.addresses.items c.in_ok-nodes.nodes.kinds.items c.in_ok-nodes.nodes.owners.items c.in_ok-functions.functions.items c.in_ok-returning.returning.items c.in_ok-callees.callees.items = record {
+      reach = c.requires.reach;
+      fine = c.requires.words;
+      apart = c.requires.apart;
+      nodes_are = c.in_ok-nodes.ensures;
+      entries_are = c.in_ok-functions.ensures;
+      returning_are = c.in_ok-returning.ensures;
+      callees_are = c.in_ok-callees.ensures ∙ ap (map (callee_of (entry_addresses (reach_of c.args.reach.now)))) c.deref.ensures.value;
+    } in
+    let edges_are : AreEdgesOf (length c.in_ok-nodes.nodes.addresses.items) c.in_ok-nodes.nodes.addresses.items c.in_ok-nodes.nodes.kinds.items c.in_ok-callees.callees.items c.in_ok-returning.returning.items c.in_ok-lists.lists.edges.items =
+    subst (λ xs. AreEdgesOf (length xs) xs c.in_ok-nodes.nodes.kinds.items c.in_ok-callees.callees.items c.in_ok-returning.returning.items c.in_ok-lists.lists.edges.items) c.deref-5.ensures.value (subst (λ xs. AreEdgesOf (length c.deref-5.result.now) c.deref-5.result.now xs c.in_ok-callees.callees.items c.in_ok-returning.returning.items c.in_ok-lists.lists.edges.items) c.deref-6.ensures.value (subst (λ xs. AreEdgesOf (length c.deref-5.result.now) c.deref-5.result.now c.deref-6.result.now xs c.in_ok-returning.returning.items c.in_ok-lists.lists.edges.items) c.deref-7.ensures.value (subst (λ xs. AreEdgesOf (length c.deref-5.result.now) c.deref-5.result.now c.deref-6.result.now c.deref-7.result.now xs c.in_ok-lists.lists.edges.items) c.deref-8.ensures.value c.in_ok-lists.ensures.edges))) in
+    let ordered : IsOrdered c.in_ok-functions.functions.items c.in_ok-nodes.nodes.owners.items c.in_ok-callees.callees.items (Ok c.in_ok-order.order.items) =
+    subst (λ xs. IsOrdered xs c.in_ok-nodes.nodes.owners.items c.in_ok-callees.callees.items (Ok c.in_ok-order.order.items)) c.deref-2.ensures.value (subst (λ xs. IsOrdered c.deref-2.result.now xs c.in_ok-callees.callees.items (Ok c.in_ok-order.order.items)) c.deref-3.ensures.value (subst (λ xs. IsOrdered c.deref-2.result.now c.deref-3.result.now xs (Ok c.in_ok-order.order.items)) c.deref-4.ensures.value c.in_ok-order.ensures)) in
+    let classes : c.in_ok-classes.classes.items ≡ map (λ e. edge_class (text_of c.args.view.now) (Some e)) c.in_ok-lists.lists.edges.items = c.in_ok-classes.ensures ∙ ap (map (λ e. edge_class (text_of c.args.view.now) (Some e))) c.deref-9.ensures.value in
+    graph_is (text_of c.args.view.now) (reach_of c.args.reach.now) c.in_ok-nodes.nodes.addresses.items c.in_ok-nodes.nodes.kinds.items c.in_ok-nodes.nodes.owners.items c.in_ok-functions.functions.items c.in_ok-returning.returning.items c.in_ok-callees.callees.items parts c.in_ok-lists.lists.edges.items edges_are c.in_ok-classes.classes.items c.in_ok-order.order.items c.in_ok-lists.lists.firsts.items ordered.0 ordered.1 ordered.2 ordered.3 classes
+
+pub returns-in_err-order : goal.returns-in_err-order
+returns-in_err-order c =
+    let parts : AreParts (text_of c.args.view.now) (reach_of c.args.reach.now) c.in_ok-nodes.nodes.addresses.items c.in_ok-nodes.nodes.kinds.items c.in_ok-nodes.nodes.owners.items c.in_ok-functions.functions.items c.in_ok-returning.returning.items c.in_ok-callees.callees.items = record {
+      reach = c.requires.reach;
+      fine = c.requires.words;
+      apart = c.requires.apart;
+      nodes_are = c.in_ok-nodes.ensures;
+      entries_are = c.in_ok-functions.ensures;
+      returning_are = c.in_ok-returning.ensures;
+      callees_are = c.in_ok-callees.ensures ∙ ap (map (callee_of (entry_addresses (reach_of c.args.reach.now)))) c.deref.ensures.value;
+    } in
+    let part : AnswersBy (λ (order : Vec ℕ Global). order.items) (Err c.in_err-order.field-0.0) (IsOrdered c.in_ok-functions.functions.items c.in_ok-nodes.nodes.owners.items c.in_ok-callees.callees.items) =
+    subst (λ xs. AnswersBy (λ (order : Vec ℕ Global). order.items) (Err c.in_err-order.field-0.0) (IsOrdered xs c.in_ok-nodes.nodes.owners.items c.in_ok-callees.callees.items)) c.deref-2.ensures.value
+    (subst (λ xs. AnswersBy (λ (order : Vec ℕ Global). order.items) (Err c.in_err-order.field-0.0) (IsOrdered c.deref-2.result.now xs c.in_ok-callees.callees.items)) c.deref-3.ensures.value
+    (subst (λ xs. AnswersBy (λ (order : Vec ℕ Global). order.items) (Err c.in_err-order.field-0.0) (IsOrdered c.deref-2.result.now c.deref-3.result.now xs)) c.deref-4.ensures.value c.in_err-order.ensures)) in
+    refused_part (λ (order : Vec ℕ Global). order.items) (λ graph. graph) c.from_residual-in_err-order.result c.in_err-order.field-0.0 (IsBuilt (text_of c.args.view.now)) (IsOrdered c.in_ok-functions.functions.items c.in_ok-nodes.nodes.owners.items c.in_ok-callees.callees.items)
+    c.from_residual-in_err-order.ensures.1 part (round_refused (text_of c.args.view.now) (reach_of c.args.reach.now) c.in_ok-nodes.nodes.addresses.items c.in_ok-nodes.nodes.kinds.items c.in_ok-nodes.nodes.owners.items c.in_ok-functions.functions.items c.in_ok-returning.returning.items c.in_ok-callees.callees.items parts)

@@ -1,0 +1,7 @@
+use Rattle.std.proofs.Common.{◌≡◌, map, take, Some}
+use Rattle.graph_runs.specs.Text.{text_of}
+use Rattle.graph_runs.specs.EdgeCosts.{edge_class}
+use Rattle.code_graph.proofs.edges.classes_of.Given as goal
+
+abbrev pub invariant-loop-edge : goal.invariant-loop-edge
+invariant-loop-edge l = l.classes.items ≡ map (λ e. edge_class (text_of l.view) (Some e)) (take l.edge-index l.edges)

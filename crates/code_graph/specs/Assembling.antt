@@ -1,0 +1,103 @@
+-- The lists of a graph, and what they are made of.
+use Rattle.std.specs.Prelude.{◌≡◌, ℕ, ◌<◌, ◌≤◌, Bool, false, List, [], ◌∷◌, ◌++◌, length, map, take, drop, slice_get, slice_index, slice_index_or, Option, Some, None, Result, Ok, Err}
+use Rattle.std.specs.List.{flat_map}
+use Rattle.cost_theory.specs.declared.edges.Edge.{Edge}
+use Rattle.cost_theory.specs.declared.edges.Word.{Word}
+use Rattle.cost_theory.specs.Reached.{edges_of}
+use Rattle.flow_passes.specs.declared.marks.Mark.{Mark}
+use Rattle.flow_passes.specs.declared.marks.Mark.TheVariants.{Unreached, Owner, Shared}
+use Rattle.call_orders.specs.declared.Arc.{Arc}
+use Rattle.call_orders.specs.Arcs.{HasArc, HasNoCycle, IsSorted, IsCycle}
+use Rattle.scale_base.specs.declared.refusal.Refusal.{Refusal}
+use Rattle.scale_base.specs.declared.refusal.Refusal.TheVariants.{Recursion}
+use Rattle.code_reach.specs.Reach.{Reach}
+
+-- ---- nodes and functions
+
+-- the number of the function that begins at word k
+abbrev pub number_in : List (Option ℕ) → ℕ → Option ℕ
+number_in numbers k = slice_index_or numbers k None
+
+abbrev pub number_by : List (Option ℕ) → Mark → Option ℕ
+number_by numbers Unreached = None
+number_by numbers (Owner first) = number_in numbers first
+number_by numbers Shared = None
+
+-- the number of the function in which alone word k is reached
+abbrev pub owner_number : Reach → ℕ → Option ℕ
+owner_number r k = number_by r.numbers (slice_index_or r.marks k Unreached)
+
+-- node j is word k, one of the first n
+pub record IsNodeOf (r : Reach) (n : ℕ) (nodes : List ℕ) (kinds : List Word) (owners : List ℕ) (j a : ℕ) : Type 0 where
+  pub k : ℕ
+  pub below : k < n
+  pub kind : Word
+  pub owner : ℕ
+  pub address : slice_get r.words.addresses k ≡ Some a
+  pub word : slice_get r.words.kinds k ≡ Some kind
+  pub number : owner_number r k ≡ Some owner
+  pub kind_beside : slice_get kinds j ≡ Some kind
+  pub owner_beside : slice_get owners j ≡ Some owner
+
+-- the nodes are those of the first n words that are reached in one function, in their order
+pub record AreNodes (r : Reach) (n : ℕ) (nodes : List ℕ) (kinds : List Word) (owners : List ℕ) : Type 0 where
+  pub kinds_size : length kinds ≡ length nodes
+  pub owners_size : length owners ≡ length nodes
+  pub few : length nodes ≤ n
+  pub each : (j a : ℕ) → slice_get nodes j ≡ Some a → IsNodeOf r n nodes kinds owners j a
+  pub whole : (k i a : ℕ) → k < n → owner_number r k ≡ Some i → slice_get r.words.addresses k ≡ Some a → (j : ℕ) × (slice_get nodes j ≡ Some a)
+  pub ascending : (i j a b : ℕ) → i < j → slice_get nodes i ≡ Some a → slice_get nodes j ≡ Some b → a < b
+
+-- the flag of word k
+abbrev pub flag_of : List Bool → ℕ → Bool
+flag_of flags k = slice_index_or flags k false
+
+-- the first addresses of the functions
+abbrev pub entry_addresses : Reach → List ℕ
+entry_addresses r = map (slice_index r.words.addresses) r.functions
+
+-- ---- edges
+
+-- the edges of an option, none or one
+abbrev pub listed : Option Edge → List Edge
+listed None = []
+listed (Some e) = e ∷ []
+
+-- the flag of a function that is called, if one is
+abbrev pub flag_at : List Bool → Option ℕ → Bool
+flag_at returning None = false
+flag_at returning (Some f) = slice_index_or returning f false
+
+-- The edges of the first n nodes, one node after another. Whatever the nodes' words are, as the kinds say, and whatever functions they call,
+-- as the callees say, each node has the edges of its word, by the flag of the function that it calls.
+pub record AreEdgesOf (n : ℕ) (nodes : List ℕ) (kinds : List Word) (callees : List (Option ℕ)) (returning : List Bool) (edges : List Edge) : Type 0 where
+  pub edges_are : (word : ℕ → Word) → kinds ≡ map word nodes → (callee : Word → Option ℕ) → callees ≡ map callee kinds →
+      edges ≡ flat_map (λ v. edges_of (word v) v (flag_at returning (callee (word v)))) (take n nodes)
+
+-- ---- calls
+
+-- a node among the first n of function f calls function h
+abbrev pub HasCall : ℕ → List ℕ → List (Option ℕ) → ℕ → ℕ → Type 0
+HasCall n owners callees f h = (k : ℕ) × (k < n) × (slice_get owners k ≡ Some f) × (slice_get callees k ≡ Some (Some h))
+
+-- the arcs are these calls
+pub record AreCallArcs (n : ℕ) (owners : List ℕ) (callees : List (Option ℕ)) (arcs : List Arc) : Type 0 where
+  pub called : (f h : ℕ) → HasArc arcs f h → HasCall n owners callees f h
+  pub arc : (f h : ℕ) → HasCall n owners callees f h → HasArc arcs f h
+
+-- the calls are among the functions
+abbrev pub AreCallsWithin : ℕ → List ℕ → List (Option ℕ) → Type 0
+AreCallsWithin count owners callees = (f h : ℕ) → HasCall (length owners) owners callees f h → (f < count) × (h < count)
+
+-- a list is another one, turned so that its least number stands first
+pub record IsTurned (numbers turned : List ℕ) : Type 0 where
+  pub at : ℕ
+  pub within : at < length numbers
+  pub turned_is : turned ≡ drop at numbers ++ take at numbers
+  pub least : (i : ℕ) → i < length turned → slice_index turned 0 ≤ slice_index turned i
+
+-- an order of the functions, callees first, where no calls lead round; or functions that call each other round
+abbrev pub IsOrdered : List ℕ → List ℕ → List (Option ℕ) → Result (List ℕ) Refusal → Type 0
+IsOrdered entries owners callees (Ok order) = (arcs : List Arc) × AreCallArcs (length owners) owners callees arcs × IsSorted (length entries) arcs order × HasNoCycle arcs
+IsOrdered entries owners callees (Err refusal) =
+    (arcs : List Arc) × AreCallArcs (length owners) owners callees arcs × (cycle : List ℕ) × IsCycle arcs cycle × (named : List ℕ) × (refusal ≡ Recursion named) × IsTurned (map (slice_index entries) cycle) named

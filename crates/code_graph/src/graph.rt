@@ -1,0 +1,215 @@
+//! The graph of reached code.
+
+ghost use Rattle.std.specs.Prelude.{◌≡◌, ◌<◌, ◌≤◌, ◌↔◌, ℕ, Some, None, length, map, slice_get, slice_index, IfOk};
+ghost use Rattle.power_model.specs.Price.{cycles_of};
+ghost use Rattle.cost_theory.specs.Reached as reached;
+ghost use Rattle.cost_theory.specs.Reached.{edge_at};
+ghost use Rattle.graph_runs.specs.EdgeCosts.{cost_of};
+ghost use Rattle.code_graph.specs.FlowGraph.{graph, word_beside, IsFlowGraph};
+
+use crate::weights::{Weights, weights_of};
+use cost_theory::{Edge, EdgeKind, Word};
+use power_model::Costs;
+use scale_base::{Class, NoMemory};
+use std::alloc::Global;
+use std::marker::Model;
+
+/// The graph of reached code.
+#[derive(Drop)]
+pub struct CodeGraph {
+    pub(crate) nodes: Vec<u32>,
+    pub(crate) kinds: Vec<Word>,
+    pub(crate) owners: Vec<usize>,
+    /// By node the number of the function that is called.
+    pub(crate) callees: Vec<Option<usize>>,
+    /// By node the number of its first edge, and at last how many edges there are.
+    pub(crate) firsts: Vec<usize>,
+    pub(crate) edges: Vec<Edge>,
+    pub(crate) classes: Vec<Option<Class>>,
+    pub(crate) functions: Vec<u32>,
+    pub(crate) returning: Vec<bool>,
+    pub(crate) order: Vec<usize>,
+}
+
+impl Model for CodeGraph {
+    ghost use Rattle.code_graph.specs.FlowGraph.{FlowGraph};
+    ghost use Rattle.code_graph.specs.Stored.{IsStored};
+
+    ghost Value = { FlowGraph };
+
+    ghost view = { λ g. record { code = record { nodes = g.nodes.items; edges = g.edges.items; functions = g.functions.items; owners = g.owners.items; returning = g.returning.items }; kinds = g.kinds.items; classes = g.classes.items; order = g.order.items } };
+
+    ghost invariant = { λ g. IsStored (record { code = record { nodes = g.nodes.items; edges = g.edges.items; functions = g.functions.items; owners = g.owners.items; returning = g.returning.items }; kinds = g.kinds.items; classes = g.classes.items; order = g.order.items }) g.callees.items g.firsts.items };
+}
+
+/// The address to which an edge leads.
+fn place_after(edge: Edge) -> Option<u32>
+    ensures { result ≡ reached.edge_to (Some edge) }
+{
+    match edge.kind {
+        EdgeKind::End => None,
+        _ => Some(edge.to),
+    }
+}
+
+fn is_back(word: Word) -> bool
+    ensures { result ≡ reached.is_back word }
+{
+    matches!(word, Word::Back)
+}
+
+/// Whether the step over an edge is an exit, by the word at which it starts.
+fn is_exit(word: Word, kind: EdgeKind) -> bool
+    ensures { result ≡ reached.is_exit word kind }
+{
+    match word {
+        Word::Ends | Word::MayEnd => matches!(kind, EdgeKind::End),
+        _ => false,
+    }
+}
+
+impl CodeGraph {
+    ghost use Rattle.code_graph.specs.FlowGraph.{FlowGraph};
+
+    /// How many nodes there are. They are numbered by their addresses, which ascend.
+    pub fn node_count(&self) -> usize
+        ensures count { result ≡ length self.now.code.nodes }
+        ensures few { result ≤ 131072 }
+        ensures graph { IsFlowGraph self.now }
+    {
+        self.nodes.len()
+    }
+
+    /// The address of node `k`.
+    pub fn node(&self, k: usize) -> u32
+        requires { k < length self.now.code.nodes }
+        ensures { slice_get self.now.code.nodes k ≡ Some result }
+    {
+        self.nodes[k]
+    }
+
+    /// The number of the node at an address. None exactly where no node is there.
+    pub fn find(&self, at: u32) -> Option<usize>
+        ensures { (k : ℕ) → (result ≡ Some k) ↔ (slice_get self.now.code.nodes k ≡ Some at) }
+    {
+        self.nodes.binary_search(&at).ok()
+    }
+
+    /// The number of the node at which edge `e` starts.
+    fn source(&self, e: usize) -> usize
+        requires { e < length self.now.code.edges }
+        ensures { slice_get self.now.code.nodes result ≡ Some ((graph self.now).source e) }
+    {
+        self.find(self.edges[e].at).unwrap()
+    }
+
+    /// What the word at which edge `e` starts says of the way on.
+    fn word(&self, e: usize) -> Word
+        requires { e < length self.now.code.edges }
+        ensures { result ≡ word_beside self.now.code.nodes self.now.kinds ((graph self.now).source e) }
+    {
+        self.kinds[self.source(e)]
+    }
+
+    /// How many edges there are. They ascend by the address at which they start; those of one node stand in the order of `EdgeKind`.
+    pub fn edge_count(&self) -> usize
+        ensures count { result ≡ length self.now.code.edges }
+        ensures few { result ≤ 262144 }
+    {
+        self.edges.len()
+    }
+
+    /// Edge `e`.
+    pub fn edge(&self, e: usize) -> Edge
+        requires { e < length self.now.code.edges }
+        ensures { slice_get self.now.code.edges e ≡ Some result }
+    {
+        self.edges[e]
+    }
+
+    /// The number of node `k`'s first edge, and one past that of its last.
+    pub fn edges_of(&self, k: usize) -> (usize, usize)
+        requires { k < length self.now.code.nodes }
+        ensures within { (result.0 < result.1) × (result.1 ≤ length self.now.code.edges) }
+        ensures edges { (e : ℕ) → e < length self.now.code.edges → (edge_at (slice_get self.now.code.edges e) ≡ slice_index self.now.code.nodes k) ↔ ((result.0 ≤ e) × (e < result.1)) }
+    {
+        (self.firsts[k], self.firsts[k + 1])
+    }
+
+    /// The number of the node to which edge `e` leads. None exactly for an `End` edge.
+    pub fn target(&self, e: usize) -> Option<usize>
+        requires { e < length self.now.code.edges }
+        ensures some { (k : ℕ) → result ≡ Some k → (graph self.now).target e ≡ slice_get self.now.code.nodes k }
+        ensures within { (k : ℕ) → result ≡ Some k → k < length self.now.code.nodes }
+        ensures none { result ≡ None → (graph self.now).target e ≡ None }
+    {
+        match place_after(self.edges[e]) {
+            Some(at) => self.find(at),
+            None => None,
+        }
+    }
+
+    /// The number of the function that edge `e` calls. Some exactly for the edges of a call.
+    pub fn callee(&self, e: usize) -> Option<usize>
+        requires { e < length self.now.code.edges }
+        ensures { result ≡ (graph self.now).callee e }
+    {
+        self.callees[self.source(e)]
+    }
+
+    /// Whether edge `e` is an `End` edge of a return.
+    pub fn is_return(&self, e: usize) -> bool
+        requires { e < length self.now.code.edges }
+        ensures { result ≡ (graph self.now).returns e }
+    {
+        is_back(self.word(e))
+    }
+
+    /// Whether edge `e` is an `End` edge of an exit.
+    pub fn is_exit(&self, e: usize) -> bool
+        requires { e < length self.now.code.edges }
+        ensures { result ≡ (graph self.now).exits e }
+    {
+        is_exit(self.word(e), self.edge(e).kind)
+    }
+
+    /// How many functions there are.
+    pub fn function_count(&self) -> usize
+        ensures count { result ≡ length self.now.code.functions }
+        ensures few { result ≤ 131072 }
+        ensures some { 0 < result }
+    {
+        self.functions.len()
+    }
+
+    /// The entry of function `f`. Function 0 is the program's.
+    pub fn function(&self, f: usize) -> u32
+        requires { f < length self.now.code.functions }
+        ensures { slice_get self.now.code.functions f ≡ Some result }
+    {
+        self.functions[f]
+    }
+
+    /// The number of the function of node `k`.
+    pub fn owner(&self, k: usize) -> usize
+        requires { k < length self.now.code.nodes }
+        ensures owner { result ≡ (graph self.now).owner (slice_index self.now.code.nodes k) }
+        ensures within { result < length self.now.code.functions }
+    {
+        self.owners[k]
+    }
+
+    /// The numbers of the functions, each called function before those that call it.
+    pub fn call_order(&self) -> &[usize]
+        ensures { result.now ≡ self.now.order }
+    {
+        &self.order
+    }
+
+    /// The cost of each edge in cycles: that of the class of its step, and 0 for an EBREAK, whose step isn't completed.
+    pub fn base_weights(&self, alloc: Global, costs: &Costs) -> Result<Weights, NoMemory>
+        ensures { IfOk result (λ weights. weights ≡ map (cost_of (cycles_of costs.now)) self.now.classes) }
+    {
+        weights_of(alloc, costs, &self.classes)
+    }
+}

@@ -1,0 +1,17 @@
+//! The control-flow graph of a program's reached code: nodes by address, edges, functions, calls and the weights of edges.
+#![tactic(auto)]
+
+mod build;
+mod edges;
+mod graph;
+mod nodes;
+mod recursion;
+mod refusals;
+#[cfg(test)]
+mod tests;
+mod weights;
+
+pub use build::build_graph;
+pub use cost_theory::{Edge, EdgeKind};
+pub use graph::CodeGraph;
+pub use weights::Weights;

@@ -1,0 +1,71 @@
+-- Where the words of a text go on by their numbers, and in which functions they are reached by their numbers.
+use Rattle.std.specs.Prelude.{◌≡◌, ◌≢◌, ℕ, ◌+◌, ◌%◌, ◌<◌, ◌↔◌, ◌⊎◌, Bool, true, false, List, length, slice_get, Option, Some, None}
+use Rattle.cost_theory.specs.declared.edges.Word.{Word}
+use Rattle.cost_theory.specs.declared.edges.Word.TheVariants.{Branch, Goto, CallOf, Back, Ends, MayEnd, Breaks, Straight, Bad}
+use Rattle.code_text.specs.Table.{WordTable}
+use Rattle.code_text.specs.Walk.{RiseStrictly}
+use Rattle.flow_passes.specs.declared.step.Step.{Step}
+use Rattle.flow_passes.specs.declared.step.Step.TheVariants.{Return, Stop, On, Call}
+use Rattle.flow_passes.specs.declared.marks.Mark.{Mark}
+use Rattle.flow_passes.specs.declared.marks.Mark.TheVariants.{Unreached, Owner, Shared}
+use Rattle.flow_passes.specs.Flow.{step_at}
+use Rattle.flow_passes.specs.Marks.{ReachedAt}
+use Rattle.code_reach.specs.Reach.{StandsAt}
+
+-- no word stands where four more would wrap
+abbrev pub AreLow : List ℕ → Type 0
+AreLow addresses = (k v : ℕ) → slice_get addresses k ≡ Some v → v < 0xFF000000
+
+-- The table has the words of a text, of which `word` says the way on: they ascend, stand at multiples of 4, and each address that is not refused is one of theirs.
+pub record IsTableOf (word : ℕ → Word) (words : WordTable) : Type 0 where
+  pub rising : RiseStrictly words.addresses
+  pub aligned : (k v : ℕ) → StandsAt words k v → v % 4 ≡ 0
+  pub low : AreLow words.addresses
+  pub kinds : (k v : ℕ) → StandsAt words k v → slice_get words.kinds k ≡ Some (word v)
+  pub whole : (v : ℕ) → (word v ≡ Bad) ⊎ ((k : ℕ) × StandsAt words k v)
+
+-- o is the number of the word at v, if one stands there
+abbrev pub IsWordAt : WordTable → ℕ → Option ℕ → Type 0
+IsWordAt words v o = (k : ℕ) → (o ≡ Some k) ↔ StandsAt words k v
+
+-- whether word k + 1 stands right behind word k, which stands at v
+abbrev pub IsFollowed : WordTable → ℕ → ℕ → Bool → Type 0
+IsFollowed words k v b = (b ≡ true) ↔ StandsAt words (k + 1) (v + 4)
+
+-- the step of word k at v, by what it says of the way on
+abbrev pub IsStepOf : WordTable → ℕ → ℕ → Word → Step → Type 0
+IsStepOf words k v (Branch to) s = (o : Option ℕ) × (b : Bool) × (s ≡ On o b) × IsWordAt words to o × IsFollowed words k v b
+IsStepOf words k v (Goto to) s = (o : Option ℕ) × (s ≡ On o false) × IsWordAt words to o
+IsStepOf words k v (CallOf to) s = (o : Option ℕ) × (b : Bool) × (s ≡ Call o b) × IsWordAt words to o × IsFollowed words k v b
+IsStepOf words k v Back s = s ≡ Return
+IsStepOf words k v Ends s = s ≡ Stop
+IsStepOf words k v MayEnd s = (b : Bool) × (s ≡ On None b) × IsFollowed words k v b
+IsStepOf words k v Breaks s = s ≡ Stop
+IsStepOf words k v Straight s = (b : Bool) × (s ≡ On None b) × IsFollowed words k v b
+IsStepOf words k v Bad s = s ≡ Stop
+
+-- the step of word k
+abbrev pub IsStepAt : WordTable → ℕ → Step → Type 0
+IsStepAt words k s = (v : ℕ) (w : Word) → StandsAt words k v → slice_get words.kinds k ≡ Some w → IsStepOf words k v w s
+
+-- each word's step
+pub record AreSteps (words : WordTable) (steps : List Step) : Type 0 where
+  pub size : length steps ≡ length words.addresses
+  pub each : (k : ℕ) → k < length words.addresses → IsStepAt words k (step_at steps k)
+
+-- Word v is reached in function f from the word where the program begins, if it is one.
+abbrev pub ReachedFrom : List Step → List Bool → Option ℕ → ℕ → ℕ → Type 0
+ReachedFrom steps returns None f v = ⊥
+ReachedFrom steps returns (Some first) f v = ReachedAt steps returns first f v
+
+-- the functions in which words are reached from there, and the place of each function in the list of functions
+pub record IsMarked (steps : List Step) (returns : List Bool) (entry : Option ℕ) (marks : List Mark) (functions : List ℕ) (numbers : List (Option ℕ)) : Type 0 where
+  pub marks_size : length marks ≡ length steps
+  pub numbers_size : length numbers ≡ length steps
+  pub unreached : (v f : ℕ) → slice_get marks v ≡ Some Unreached → ReachedFrom steps returns entry f v → ⊥
+  pub owner : (v f : ℕ) → slice_get marks v ≡ Some (Owner f) → ReachedFrom steps returns entry f v × ((g : ℕ) → ReachedFrom steps returns entry g v → g ≡ f)
+  pub shared : (v : ℕ) → slice_get marks v ≡ Some Shared → (f : ℕ) × (g : ℕ) × (f ≢ g) × ReachedFrom steps returns entry f v × ReachedFrom steps returns entry g v
+  pub listed : (h : ℕ) → ((i : ℕ) × (slice_get functions i ≡ Some h)) ↔ ReachedFrom steps returns entry h h
+  pub listed_within : (h i : ℕ) → slice_get functions i ≡ Some h → h < length steps
+  pub first : (e : ℕ) → entry ≡ Some e → slice_get functions 0 ≡ Some e
+  pub placed : (h i : ℕ) → (slice_get numbers h ≡ Some (Some i)) ↔ (slice_get functions i ≡ Some h)

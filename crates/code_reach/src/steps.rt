@@ -1,0 +1,48 @@
+//! Where each word of a text goes on, by the numbers of words.
+
+ghost use Rattle.std.specs.Prelude.{ℕ, ◌<◌, IfOk, length};
+ghost use Rattle.code_reach.specs.Reach.{StandsAt};
+ghost use Rattle.code_reach.specs.Steps.{AreLow, IsFollowed, IsStepAt, AreSteps};
+
+use code_text::TextWords;
+use cost_theory::Word;
+use flow_passes::Step;
+use scale_base::NoMemory;
+use std::alloc::Global;
+
+/// Whether the word behind a word stands right behind it, and not behind a gap.
+fn has_next(words: &TextWords, k: usize) -> bool
+    requires within { k < length words.now.addresses }
+    requires low { AreLow words.now.addresses }
+    ensures { (v : ℕ) → StandsAt words.now k v → IsFollowed words.now k v result }
+{
+    words.count() > k + 1 && words.address(k + 1) == words.address(k) + 4
+}
+
+/// Where a word goes on.
+fn step_of(words: &TextWords, k: usize) -> Step
+    requires within { k < length words.now.addresses }
+    requires low { AreLow words.now.addresses }
+    ensures { IsStepAt words.now k result }
+{
+    match words.kind(k) {
+        Word::Branch(to) => Step::On(words.find(to), has_next(words, k)),
+        Word::Goto(to) => Step::On(words.find(to), false),
+        Word::CallOf(to) => Step::Call(words.find(to), has_next(words, k)),
+        Word::Back => Step::Return,
+        Word::MayEnd | Word::Straight => Step::On(None, has_next(words, k)),
+        Word::Ends | Word::Breaks | Word::Bad => Step::Stop,
+    }
+}
+
+/// Where each word goes on.
+pub fn steps_of(alloc: Global, words: &TextWords) -> Result<Vec<Step>, NoMemory>
+    requires { AreLow words.now.addresses }
+    ensures { IfOk result (λ steps. AreSteps words.now steps.items) }
+{
+    let mut steps = Vec::new(alloc);
+    for k in 0..words.count() {
+        steps.push(step_of(words, k))?;
+    }
+    Ok(steps)
+}

@@ -1,0 +1,13 @@
+use Rattle.std.proofs.Common.{take}
+use Rattle.std.specs.List.{filter_map}
+use Rattle.scale_base.specs.Elf.{section_headers}
+use Rattle.scale_base.specs.Image.{text_of_section}
+use Rattle.elf_view.specs.Ascending.{AscendFrom, ranges_by}
+use Rattle.elf_view.proofs.TextLemmas.{IsTextOf}
+use Rattle.elf_view.proofs.text.section_ends.Given as goal
+
+abbrev pub invariant-loop-k : goal.invariant-loop-k
+invariant-loop-k l = record {
+  parts : IsTextOf l.bytes l.segments (filter_map text_of_section (take l.k (section_headers l.bytes))) (ranges_by l.text.ends) l.text.bytes;
+  ascending : AscendFrom 0 (ranges_by l.text.ends);
+}

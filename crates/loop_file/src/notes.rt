@@ -1,0 +1,104 @@
+//! The notes of a program's loops.
+
+ghost use Rattle.std.specs.Prelude.{◌≡◌, ◌<◌, [], length, slice_get, Some};
+ghost use Rattle.loop_file.specs.Notes.{IsLoopNote, AreLoopNotes};
+
+use scale_base::Range;
+use std::alloc::Global;
+use std::marker::Model;
+
+/// Ranges of addresses. Contracts see their list.
+#[derive(Drop)]
+pub struct RangeList {
+    items: Vec<Range>,
+}
+
+impl Model for RangeList {
+    ghost use Rattle.std.specs.Prelude.{List};
+    ghost use Rattle.scale_base.specs.declared.ranges.Range.{Range};
+
+    ghost Value = { List Range };
+
+    ghost view = { λ r. r.items.items };
+}
+
+impl RangeList {
+    /// The list of these ranges.
+    pub fn from_vec(items: Vec<Range>) -> RangeList
+        ensures { result ≡ items.items }
+    {
+        RangeList { items }
+    }
+
+    /// How many ranges there are.
+    pub fn count(&self) -> usize
+        ensures { result ≡ length self.now }
+    {
+        self.items.len()
+    }
+
+    /// Range `k`.
+    pub fn get(&self, k: usize) -> &Range
+        requires { k < length self.now }
+        ensures { slice_get self.now k ≡ Some result.now }
+    {
+        &self.items[k]
+    }
+}
+
+/// What is noted of a loop: the address of its header, the ranges of addresses that it lies in, how many back edges one
+/// entry of the loop may take, and whether a shadow counter counts them.
+#[derive(Drop)]
+pub struct LoopNote {
+    pub header: u32,
+    pub ranges: RangeList,
+    pub bound: u32,
+    pub counted: bool,
+}
+
+/// The notes of the loops of a file, in its order: at most 4,096, each with 1 to 16 ranges and a bound of at most
+/// 1,000,000,000. Contracts see their list.
+#[derive(Drop)]
+pub struct LoopNotes {
+    items: Vec<LoopNote>,
+}
+
+impl Model for LoopNotes {
+    ghost use Rattle.std.specs.Prelude.{List};
+    ghost use Rattle.loop_file.specs.declared.notes.LoopNote.{LoopNote};
+    ghost use Rattle.loop_file.specs.Notes.{AreLoopNotes};
+
+    ghost Value = { List LoopNote };
+
+    ghost view = { λ n. n.items.items };
+
+    ghost invariant = { λ n. AreLoopNotes n.items.items };
+}
+
+impl LoopNotes {
+    /// No notes.
+    pub(crate) fn new(alloc: Global) -> LoopNotes
+        ensures { result ≡ [] }
+    {
+        LoopNotes {
+            items: Vec::new(alloc),
+        }
+    }
+
+    /// How many notes there are.
+    pub fn count(&self) -> usize
+        ensures count { result ≡ length self.now }
+        ensures in_range { AreLoopNotes self.now }
+    {
+        self.items.len()
+    }
+
+    /// Note `k`.
+    pub fn note(&self, k: usize) -> &LoopNote
+        requires { k < length self.now }
+        ensures note { slice_get self.now k ≡ Some result.now }
+        ensures in_range { IsLoopNote result.now }
+    {
+        &self.items[k]
+    }
+}

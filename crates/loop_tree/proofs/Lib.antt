@@ -1,0 +1,4 @@
+pub mod NodeLaws
+mod ArcLaws
+pub mod OrderLaws
+mod RoundLaws

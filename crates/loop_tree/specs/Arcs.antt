@@ -1,0 +1,33 @@
+-- The edges between nodes, as arcs between their numbers.
+use Rattle.std.specs.Prelude.{◌≡◌, ℕ, ◌+◌, ◌<◌, ◌≤◌, List, length, slice_get, Some, IsSome}
+use Rattle.call_orders.specs.declared.Arc.{Arc}
+use Rattle.call_orders.specs.Arcs.{arc_at, number_at, AreDistinct}
+use Rattle.code_graph.specs.FlowGraph.{FlowGraph, graph}
+
+-- edge e leads from the node of one number to that of another
+pub record IsEdgeBetween (v : FlowGraph) (e a b : ℕ) : Type 0 where
+  pub source : slice_get v.code.nodes a ≡ Some ((graph v).source e)
+  pub target : (graph v).target e ≡ slice_get v.code.nodes b
+  pub within : b < length v.code.nodes
+
+-- an arc for each of the first n edges that leads to a node, and no others
+pub record AreEdgeArcs (v : FlowGraph) (n : ℕ) (arcs : List Arc) : Type 0 where
+  pub few : length arcs ≤ n
+  pub edge : (s : ℕ) → s < length arcs → (e : ℕ) × (e < n) × IsEdgeBetween v e (arc_at arcs s).from (arc_at arcs s).to
+  pub whole : (e : ℕ) → e < n → IsSome ((graph v).target e) → (s : ℕ) × (s < length arcs) × IsEdgeBetween v e (arc_at arcs s).from (arc_at arcs s).to
+
+abbrev pub HasEdge : FlowGraph → ℕ → ℕ → Type 0
+HasEdge v a b = (e : ℕ) × (e < (graph v).edges) × IsEdgeBetween v e a b
+
+-- numbers of nodes, at least one, all different, each with an edge to the next and the last with an edge to the first
+pub record IsRoundOfNodes (v : FlowGraph) (numbers : List ℕ) : Type 0 where
+  pub some : 0 < length numbers
+  pub within : (i : ℕ) → i < length numbers → number_at numbers i < length v.code.nodes
+  pub distinct : AreDistinct numbers
+  pub onward : (i : ℕ) → i + 1 < length numbers → HasEdge v (number_at numbers i) (number_at numbers (i + 1))
+  pub round : (i : ℕ) → i + 1 ≡ length numbers → HasEdge v (number_at numbers i) (number_at numbers 0)
+
+-- the addresses of the nodes of these numbers
+pub record AreAddressesOf (v : FlowGraph) (numbers addresses : List ℕ) : Type 0 where
+  pub size : length addresses ≡ length numbers
+  pub each : (i : ℕ) → i < length numbers → slice_get v.code.nodes (number_at numbers i) ≡ Some (number_at addresses i)

@@ -1,0 +1,91 @@
+-- The weights of a program as a list and as costs of its edges, and the numbers that they give.
+use Rattle.std.proofs.Common.{◌≡◌, ℕ, zero, suc, List, [], ◌∷◌, length, map, slice_get, Some, refl, sym, ap, ◌∙◌, subst}
+use Rattle.std.specs.Prelude.{slice_index, slice_index_or}
+use Rattle.std.proofs.Math.Path.{fun_ext}
+use Rattle.scale_base.specs.declared.stepping.Class.{Class}
+use Rattle.cost_theory.specs.declared.edges.Edge.{Edge}
+use Rattle.cost_theory.specs.Graph.{Graph, Loops}
+use Rattle.cost_theory.specs.Accepted.{AreWeights}
+use Rattle.cost_theory.specs.Lists.{loops_of}
+use Rattle.cost_theory.specs.Worst.{Numbers, AreNumbers}
+use Rattle.graph_runs.specs.Text.{Text}
+use Rattle.graph_runs.specs.EdgeCosts.{edge_class, cost_of, weights}
+use Rattle.graph_runs.specs.RunMoves.{text_graph}
+use Rattle.graph_runs.specs.KeptSteps.{by_extents}
+use Rattle.graph_runs.specs.Laws.{IsProgramOf}
+use Rattle.graph_runs.proofs.WeightLaws.{weights_are}
+use Rattle.cost_theory.specs.Accepted.{AreAccepted, HasNoRecursion}
+use Rattle.loop_file.specs.declared.notes.LoopNote.{LoopNote}
+use Rattle.loop_file.specs.Kept.{noted_loops, note_at}
+use Rattle.code_graph.specs.FlowGraph.{FlowGraph, graph, IsGraphOf}
+use Rattle.loop_tree.specs.Tree.{LoopView, IsTreeOf}
+use Rattle.worst_cycles.specs.Worst.{by_edge}
+
+-- ---- weights
+
+-- the weights as a list
+abbrev pub listed_weights : FlowGraph → (Class → ℕ) → List ℕ
+listed_weights v costs = map (cost_of costs) v.classes
+
+at_edge : (t : Text) (costs : Class → ℕ) (edges : List Edge) (e : ℕ) →
+    slice_index_or (map (cost_of costs) (map (λ x. edge_class t (Some x)) edges)) e 0 ≡ cost_of costs (edge_class t (slice_get edges e))
+at_edge t costs [] e = refl
+at_edge t costs (x ∷ xs) zero = refl
+at_edge t costs (x ∷ xs) (suc e) = at_edge t costs xs e
+
+-- are those of the text
+pub weights_listed : (t : Text) (v : FlowGraph) (costs : Class → ℕ) → IsGraphOf t v → by_edge (listed_weights v costs) ≡ weights t v.code costs
+weights_listed t v costs is = fun_ext (λ e. ap (λ cs. slice_index_or (map (cost_of costs) cs) e 0) is.classes ∙ at_edge t costs v.code.edges e)
+
+pub weights_hold : (t : Text) (v : FlowGraph) (costs : Class → ℕ) → IsGraphOf t v → AreWeights (graph v) (by_edge (listed_weights v costs))
+weights_hold t v costs is =
+    subst (λ (g : Graph). AreWeights g (by_edge (listed_weights v costs))) is.graph_is
+    (subst (λ (w : ℕ → ℕ). AreWeights (text_graph t v.code) w) (sym (weights_listed t v costs is)) (weights_are t v.code costs))
+
+pub weights_count : (t : Text) (v : FlowGraph) (costs : Class → ℕ) → IsGraphOf t v → length (listed_weights v costs) ≡ length v.code.edges
+weights_count t v costs is = ap (λ cs. length (map (cost_of costs) cs)) is.classes ∙ go v.code.edges
+  where
+    go : (edges : List Edge) → length (map (cost_of costs) (map (λ x. edge_class t (Some x)) edges)) ≡ length edges
+    go [] = refl
+    go (x ∷ xs) = ap suc (go xs)
+
+-- the numbers under the list are those under the costs
+pub numbers_listed : (t : Text) (v : FlowGraph) (costs : Class → ℕ) (l : Loops) (n : Numbers) → IsGraphOf t v →
+    AreNumbers (graph v) l (by_edge (listed_weights v costs)) n → AreNumbers (text_graph t v.code) l (weights t v.code costs) n
+numbers_listed t v costs l n is h =
+    subst (λ (g : Graph). AreNumbers g l (weights t v.code costs) n) (sym is.graph_is)
+    (subst (λ (w : ℕ → ℕ). AreNumbers (graph v) l w n) (weights_listed t v costs is) h)
+
+-- ---- loops
+
+-- the loops of the notes, in both forms
+count_noted : (notes : List LoopNote) → length (map (λ n. n.header) notes) ≡ length notes
+count_noted [] = refl
+count_noted (n ∷ ns) = ap suc (count_noted ns)
+
+header_noted : (notes : List LoopNote) (k : ℕ) → slice_index (map (λ n. n.header) notes) k ≡ (note_at notes k).header
+header_noted [] k = refl
+header_noted (n ∷ ns) zero = refl
+header_noted (n ∷ ns) (suc k) = header_noted ns k
+
+bound_noted : (notes : List LoopNote) (k : ℕ) → slice_index (map (λ n. n.bound) notes) k ≡ (note_at notes k).bound
+bound_noted [] k = refl
+bound_noted (n ∷ ns) zero = refl
+bound_noted (n ∷ ns) (suc k) = bound_noted ns k
+
+abbrev noted : List LoopNote → ℕ → (ℕ → ℕ) → (ℕ → ℕ) → Loops
+noted notes count header bound = record { loops = count; header = header; bound = bound; inside = (noted_loops notes).inside }
+
+pub loops_noted : (v : FlowGraph) (notes : List LoopNote) (t : LoopView) → IsTreeOf v notes t → by_extents (loops_of t.tree) (noted_loops notes).inside ≡ noted_loops notes
+loops_noted v notes t is =
+    ap (λ n. noted notes n (λ k. slice_index t.tree.headers k) (λ k. slice_index t.tree.bounds k)) (ap length is.headers ∙ count_noted notes)
+    ∙ (ap (λ f. noted notes (length notes) f (λ k. slice_index t.tree.bounds k)) (fun_ext (λ k. ap (λ hs. slice_index hs k) is.headers ∙ header_noted notes k))
+    ∙ ap (λ f. noted notes (length notes) (noted_loops notes).header f) (fun_ext (λ k. ap (λ bs. slice_index bs k) is.bounds ∙ bound_noted notes k)))
+
+-- the program that the laws of runs speak of
+pub program_of : (t : Text) (v : FlowGraph) (notes : List LoopNote) (tree : LoopView) → IsGraphOf t v → IsTreeOf v notes tree → IsProgramOf t v.code (loops_of tree.tree) (noted_loops notes).inside
+program_of t v notes tree is built = record {
+  reached = is.reached;
+  calls = subst (λ (g : Graph). HasNoRecursion g) (sym is.graph_is) is.flow.program.no_recursion;
+  loops = subst (λ (g : Graph). AreAccepted g (loops_of tree.tree) (noted_loops notes).inside) (sym is.graph_is) built.loops.accepted;
+}

@@ -1,0 +1,6 @@
+mod MostLaws
+mod LeftLaws
+mod NeedLaws
+mod FallLaws
+mod PassLaws
+mod WorstLaws

@@ -1,0 +1,3 @@
+pub mod Worst
+pub mod Needs
+pub mod Lefts

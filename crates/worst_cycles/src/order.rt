@@ -1,0 +1,54 @@
+//! An order of nodes in which each stands behind those whose numbers its own is made of.
+
+ghost use Rattle.std.specs.Prelude.{◌≡◌, ◌≤◌, length, OnOk, IfOk};
+ghost use Rattle.code_graph.specs.FlowGraph.{IsFlowGraph};
+ghost use Rattle.loop_tree.specs.Arcs.{AreEdgeArcs};
+ghost use Rattle.worst_cycles.specs.Needs.{AreEntries, AreNeeds, NeedsNoLoop, IsNeededFirst};
+
+use call_orders::{Arc, Order, sort};
+use code_graph::CodeGraph;
+use loop_tree::{node_at, plain_arcs};
+use scale_base::NoMemory;
+use std::alloc::Global;
+
+/// To arcs for the edges that lead to a node adds one for each edge of a call, to the entry of the called function.
+fn add_calls(graph: &CodeGraph, entries: &[usize], arcs: &mut Vec<Arc>) -> Result<(), NoMemory>
+    requires flow { IsFlowGraph graph.now }
+    requires entries { AreEntries graph.now entries.now }
+    requires arcs { AreEdgeArcs graph.now (length graph.now.code.edges) arcs.old.items }
+    ensures few { OnOk result (length arcs.new.items ≤ 524288) }
+    ensures needs { OnOk result (AreNeeds graph.now entries.now (length graph.now.code.edges) arcs.new.items) }
+{
+    for e in 0..graph.edge_count() {
+        if let Some(f) = graph.callee(e) {
+            let from = node_at(graph, graph.edge(e).at);
+            arcs.push(Arc {
+                from,
+                to: entries[f],
+            })?;
+        }
+    }
+    Ok(())
+}
+
+/// The numbers of the nodes, each behind those to which its edges lead and the entry of the function that it calls.
+pub fn needed_first(
+    alloc: Global,
+    graph: &CodeGraph,
+    count: usize,
+    entries: &[usize],
+) -> Result<Vec<usize>, NoMemory>
+    requires count { count ≡ length graph.now.code.nodes }
+    requires few { count ≤ 131072 }
+    requires flow { IsFlowGraph graph.now }
+    requires entries { AreEntries graph.now entries.now }
+    requires no_loop { NeedsNoLoop graph.now }
+    ensures { IfOk result (λ order. IsNeededFirst graph.now entries.now order.items) }
+{
+    let mut arcs = plain_arcs(alloc, graph)?;
+    add_calls(graph, entries, &mut arcs)?;
+    match sort(alloc, count, &arcs)? {
+        Order::Sorted(order) => Ok(order),
+        Order::Cycle(_) => unreachable!(),
+    }
+}
