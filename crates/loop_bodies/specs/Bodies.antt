@@ -1,0 +1,28 @@
+-- Bodies of natural loops (Aho, Lam, Sethi and Ullman, Compilers, section 9.6).
+use Rattle.std.specs.Prelude.{◌≡◌, ℕ, Bool, true, ◌&&◌, ◌↔◌, nat_le, nat_lt, List, slice_get, Option, Some}
+use Rattle.std.specs.List.{list_any}
+use Rattle.loop_bodies.specs.declared.extent.NodeRange.{NodeRange}
+
+-- an edge leads from node v to node u
+abbrev pub HasEdge : List ℕ → List (Option ℕ) → ℕ → ℕ → Type 0
+HasEdge sources targets v u = (e : ℕ) × (slice_get sources e ≡ Some v) × (slice_get targets e ≡ Some (Some u))
+
+-- Edges lead from a node to the header, one or more, of which each starts within the extent.
+pub data LeadsWithin (sources : List ℕ) (targets : List (Option ℕ)) (extent : ℕ → Bool) (header : ℕ) : ℕ → Type 0 where
+  at_once : {v : ℕ} → HasEdge sources targets v header → extent v ≡ true → LeadsWithin sources targets extent header v
+  onward : {v : ℕ} (u : ℕ) → HasEdge sources targets v u → extent v ≡ true → LeadsWithin sources targets extent header u → LeadsWithin sources targets extent header v
+
+abbrev pub IsIn : List ℕ → ℕ → Type 0
+IsIn nodes v = (p : ℕ) × (slice_get nodes p ≡ Some v)
+
+-- The nodes that lead to the header within the extent, each once. Where the extent doesn't have the header, there are none.
+pub record IsBody (sources : List ℕ) (targets : List (Option ℕ)) (extent : ℕ → Bool) (header : ℕ) (body : List ℕ) : Type 0 where
+  pub nodes : (v : ℕ) → IsIn body v ↔ ((extent header ≡ true) × LeadsWithin sources targets extent header v)
+  pub once : (i j v : ℕ) → slice_get body i ≡ Some v → slice_get body j ≡ Some v → i ≡ j
+
+-- a node lies in a range, and in one of some ranges
+abbrev pub is_in : ℕ → NodeRange → Bool
+is_in v range = nat_le range.from v && nat_lt v range.to
+
+abbrev pub in_extent : List NodeRange → ℕ → Bool
+in_extent ranges v = list_any (is_in v) ranges

@@ -1,0 +1,3 @@
+pub mod Edges
+pub mod Bodies
+pub mod Search

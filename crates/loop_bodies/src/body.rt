@@ -1,0 +1,75 @@
+//! The bodies of loops.
+
+ghost use Rattle.std.specs.Prelude.{◌≡◌, ◌<◌, IfOk};
+ghost use Rattle.loop_bodies.specs.Edges.{EdgeView, AreEdges};
+ghost use Rattle.loop_bodies.specs.Bodies.{in_extent, IsBody};
+
+use crate::edges::IncomingEdges;
+use crate::extent::{NodeRange, is_in_extent};
+use crate::visit::{clear_marks, fill_body};
+use scale_base::NoMemory;
+use std::alloc::Global;
+use std::marker::Model;
+
+/// A search for the bodies of loops in one graph. The edges are chained by their targets once for all loops. The search of
+/// a body then looks only at the edges into its nodes and its header, and compares the source of each with the ranges of
+/// the extent, which should be few. Contracts see the edges.
+#[derive(Drop)]
+pub struct BodySearch<'a> {
+    edges: IncomingEdges<'a>,
+    // By node, whether the search that runs has found it; between searches none is.
+    found: Vec<bool>,
+}
+
+impl<'a> Model for BodySearch<'a> {
+    ghost use Rattle.std.specs.Prelude.{◌≡◌, length};
+    ghost use Rattle.loop_bodies.specs.Edges.{EdgeView};
+    ghost use Rattle.loop_bodies.specs.Search.{AreUnmarked};
+
+    ghost Value = { EdgeView };
+
+    ghost view = { λ s. s.edges };
+
+    ghost invariant = { λ s. (length s.found.items ≡ s.edges.count) × AreUnmarked s.found.items };
+}
+
+impl<'a> BodySearch<'a> {
+    /// A search among the edges that start at `sources` and lead to `targets`, by the number of the edge; None is where an
+    /// edge leads nowhere. The nodes are the numbers below `count`.
+    pub fn new(
+        alloc: Global,
+        sources: &'a [usize],
+        targets: &'a [Option<usize>],
+        count: usize,
+    ) -> Result<BodySearch<'a>, NoMemory>
+        requires { AreEdges sources.now targets.now count }
+        ensures { IfOk result (λ search. search ≡ record { sources = sources.now; targets = targets.now; count = count }) }
+    {
+        let edges = IncomingEdges::new(alloc, sources, targets, count)?;
+        let found = vec![in alloc; false; count]?;
+        Ok(BodySearch { edges, found })
+    }
+
+    /// The body of the loop with this header and extent: the nodes of the extent from which a nonempty walk within it
+    /// leads to the header, in no order. There is none if the header isn't in the extent. The error is want of memory,
+    /// after which the search can be used again.
+    pub fn body(
+        &mut self,
+        alloc: Global,
+        header: usize,
+        extent: &[NodeRange],
+    ) -> Result<Vec<usize>, NoMemory>
+        requires { header < self.old.count }
+        ensures body { IfOk result (λ body. IsBody self.old.sources self.old.targets (in_extent extent.now) header body.items) }
+        ensures same { self.new ≡ self.old }
+    {
+        let mut body = Vec::new(alloc);
+        if !is_in_extent(extent, header) {
+            return Ok(body);
+        }
+        let filled = fill_body(&self.edges, extent, &mut self.found, &mut body, header);
+        clear_marks(&mut self.found, &body);
+        filled?;
+        Ok(body)
+    }
+}

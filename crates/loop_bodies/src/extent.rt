@@ -1,0 +1,20 @@
+//! The extent of a loop, as ranges of nodes.
+
+ghost use Rattle.std.specs.Prelude.{◌≡◌};
+ghost use Rattle.loop_bodies.specs.Bodies.{in_extent};
+
+/// The nodes from `from` up to `to`, which is left out.
+#[derive(Clone, Copy, Debug, PartialEq, Eq)]
+pub struct NodeRange {
+    pub from: usize,
+    pub to: usize,
+}
+
+/// Whether a node lies in one of the ranges.
+pub fn is_in_extent(extent: &[NodeRange], node: usize) -> bool
+    ensures { result ≡ in_extent extent.now node }
+{
+    extent
+        .iter()
+        .any(|range| range.from <= node && node < range.to)
+}

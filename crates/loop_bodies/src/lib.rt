@@ -1,0 +1,14 @@
+//! Bodies of natural loops: the nodes from which a loop's header is reached within the loop's extent (Aho, Lam, Sethi and
+//! Ullman, Compilers, section 9.6). They are found backwards from the header, over the edges into the body's nodes alone.
+#![tactic(auto)]
+
+mod body;
+mod edges;
+mod extent;
+mod visit;
+
+pub use body::BodySearch;
+pub use extent::NodeRange;
+
+#[cfg(test)]
+mod tests;
