@@ -1,0 +1,4 @@
+pub mod NestingLaws
+pub mod PassLaws
+pub mod RankLaws
+pub mod Checks
