@@ -12,14 +12,10 @@ The times should double with the size. Run it from anywhere; it builds the progr
 
 import os
 import struct
-import subprocess
 import sys
 import tempfile
-import time
 
-TOP = os.path.dirname(os.path.dirname(os.path.abspath(__file__)))
-SCALE = os.path.join(TOP, "scale")
-DATA = os.path.join(TOP, "crates", "scale_tool", "data")
+from runs import DATA, build, hold
 
 ENTRY = 0x00010000
 NOP = 0x00000013
@@ -73,30 +69,13 @@ def image(text):
 
 
 def run(folder, name, text):
-    path = os.path.join(folder, "image.elf")
-    with open(path, "wb") as file:
-        file.write(image(text))
-    command = [
-        SCALE,
-        "hold",
-        path,
-        os.path.join(folder, "machine.toml"),
-        os.path.join(DATA, "loops.toml"),
-        os.path.join(folder, "out.elf"),
-    ]
-    best = None
-    for _ in range(3):
-        begin = time.perf_counter()
-        done = subprocess.run(command, capture_output=True)
-        took = time.perf_counter() - begin
-        best = took if best is None else min(best, took)
-    lines = done.stdout.decode().splitlines()
-    told = lines[1] if done.returncode == 0 else lines[0][:40] if lines else ""
-    print("%-10s %7d words %8.3f s   status %d %s" % (name, len(text), best, done.returncode, told))
+    took, status, lines = hold(folder, image(text), os.path.join(folder, "machine.toml"))
+    told = lines[1] if status == 0 else lines[0][:40] if lines else ""
+    print("%-10s %7d words %8.3f s   status %d %s" % (name, len(text), took, status, told))
 
 
 def main():
-    subprocess.run([SCALE], capture_output=True)
+    build()
     with tempfile.TemporaryDirectory() as folder:
         with open(os.path.join(DATA, "m.toml")) as file:
             machine = file.read().replace("deadline = 28", "deadline = 1000000000000")

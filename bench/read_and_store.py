@@ -11,14 +11,10 @@ Run it from anywhere; it builds the program first where that isn't built yet.
 
 import os
 import struct
-import subprocess
 import sys
 import tempfile
-import time
 
-TOP = os.path.dirname(os.path.dirname(os.path.abspath(__file__)))
-SCALE = os.path.join(TOP, "scale")
-DATA = os.path.join(TOP, "crates", "scale_tool", "data")
+from runs import DATA, build, hold
 
 EXIT_SEVEN = [0x00700513, 0x05D00893, 0x00000073]
 NOP = 0x00000013
@@ -67,29 +63,12 @@ def many_sections(descending):
 
 
 def run(folder, name, image):
-    path = os.path.join(folder, "image.elf")
-    with open(path, "wb") as file:
-        file.write(image)
-    command = [
-        SCALE,
-        "hold",
-        path,
-        os.path.join(DATA, "m.toml"),
-        os.path.join(DATA, "loops.toml"),
-        os.path.join(folder, "out.elf"),
-    ]
-    best = None
-    for _ in range(3):
-        begin = time.perf_counter()
-        done = subprocess.run(command, capture_output=True)
-        took = time.perf_counter() - begin
-        best = took if best is None else min(best, took)
-    first = done.stdout.decode().splitlines()[:1]
-    print("%-28s %9d bytes %8.3f s   status %d %s" % (name, len(image), best, done.returncode, first))
+    took, status, lines = hold(folder, image, os.path.join(DATA, "m.toml"))
+    print("%-28s %9d bytes %8.3f s   status %d %s" % (name, len(image), took, status, lines[:1]))
 
 
 def main():
-    subprocess.run([SCALE], capture_output=True)
+    build()
     with tempfile.TemporaryDirectory() as folder:
         run(folder, "largest text", largest_text())
         run(folder, "many sections", many_sections(False))
