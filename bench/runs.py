@@ -14,12 +14,11 @@ def build():
     subprocess.run([SCALE], capture_output=True)
 
 
-def hold(folder, image, machine):
+def hold(folder, image, machine, loops=os.path.join(DATA, "loops.toml")):
     """Holds an image three times; the best time in seconds, the status, and what was printed, by lines."""
     path = os.path.join(folder, "image.elf")
     with open(path, "wb") as file:
         file.write(image)
-    loops = os.path.join(DATA, "loops.toml")
     command = [SCALE, "hold", path, machine, loops, os.path.join(folder, "out.elf")]
     best = None
     for _ in range(3):

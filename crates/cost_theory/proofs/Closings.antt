@@ -4,7 +4,7 @@ use Rattle.cost_theory.specs.Graph.{Graph, Loops, IsWalk, end_of, is_round, is_h
 use Rattle.cost_theory.specs.Accepted.{IsProgram, IsInBody, AreAccepted, StaysWithin}
 use Rattle.cost_theory.proofs.Basics.{search_below, and_left, and_both}
 use Rattle.cost_theory.proofs.Append.{leads_to_header}
-use Rattle.cost_theory.proofs.Nesting.{some_same, header_held, headers_meet, one_holds, IsAtHeader, step_at_header, entry_at_header}
+use Rattle.cost_theory.proofs.Nesting.{some_same, header_held, one_loop, IsAtHeader, step_at_header, accepted_entered}
 
 -- a plain path within loop k
 abbrev pub IsPlainWithin : Graph → Loops → ℕ → Option ℕ → List ℕ → Type 0
@@ -31,7 +31,7 @@ module _ (g : Graph) (l : Loops) (extent : ℕ → ℕ → Bool) (prog : IsProgr
       let r : is_round l j p ≡ true = subst (λ o. is_round l j o ≡ true) (sym ends) in_v in
       ([], tt, at r)
   within_to_header k j jl (e ∷ es) p v at path ends in_v = go (is_round l j p) refl
-      (λ out. within_to_header k j jl es (g.target e) v (step_at_header g l extent prog acc e j path.0 jl out) path.4 ends in_v)
+      (λ out. within_to_header k j jl es (g.target e) v (step_at_header g l extent prog (accepted_entered acc) e j path.0 jl out) path.4 ends in_v)
     where
       go : (b : Bool) → is_round l j p ≡ b →
           (l.inside j (g.source e) ≡ false → (xs : List ℕ) × IsPlainWithin g l k (g.target e) xs × (end_of g (g.target e) xs ≡ Some (l.header j))) →
@@ -41,22 +41,9 @@ module _ (g : Graph) (l : Loops) (extent : ℕ → ℕ → Bool) (prog : IsProgr
           let more : (xs : List ℕ) × IsPlainWithin g l k (g.target e) xs × (end_of g (g.target e) xs ≡ Some (l.header j)) = ih (subst (λ o. is_round l j o ≡ false) path.1 r) in
           (e ∷ more.0, (path.0, path.1, path.2, path.3, more.1), more.2)
 
-  -- the header of k is in the body of j, which shares a node with k, only as j's header
-  pub header_at_header : (k j e : ℕ) → k < l.loops → j < l.loops → e < g.edges → l.inside k (g.source e) ≡ true → l.inside j (g.source e) ≡ true → l.inside k (l.header j) ≡ true →
-      IsAtHeader l j (Some (l.header k))
-  header_at_header k j e kl jl lt in_k in_j j_in_k k_in_j = ap Some (⊎_elim
-      (λ sub. sym (headers_meet g l extent prog acc j k jl kl sub k_in_j way.0 (Some (g.entry f)) (g.source e) (entry_at_header g l extent prog acc f j fl jl) (entry_at_header g l extent prog acc f k fl kl) way.1 way.2 in_k))
-      (λ sub. headers_meet g l extent prog acc k j kl jl sub j_in_k way.0 (Some (g.entry f)) (g.source e) (entry_at_header g l extent prog acc f k fl kl) (entry_at_header g l extent prog acc f j fl jl) way.1 way.2 in_j)
-      (one_holds g l extent prog acc j k (g.source e) jl kl in_j in_k))
-    where
-      f : ℕ
-      f = g.owner (g.source e)
-
-      fl : g.owner (g.source e) < g.functions
-      fl = prog.owner_function e lt
-
-      way : (es : List ℕ) × IsWalk g (Some (g.entry (g.owner (g.source e)))) es × (end_of g (Some (g.entry (g.owner (g.source e)))) es ≡ Some (g.source e))
-      way = prog.reached e lt
+  -- the header of k is in the body of j, whose header is in k, only as j's header
+  pub header_at_header : (k j : ℕ) → k < l.loops → j < l.loops → l.inside k (l.header j) ≡ true → IsAtHeader l j (Some (l.header k))
+  header_at_header k j kl jl j_in_k k_in_j = ap (λ i. Some (l.header i)) (one_loop g l extent prog (accepted_entered acc) k j kl jl j_in_k k_in_j)
 
   -- a nonempty walk within the extent from a node that a plain path within k reaches, to the header
   pub close_walk : (k : ℕ) → k < l.loops → extent k (l.header k) ≡ true → (es : List ℕ) (e : ℕ) (xs : List ℕ) →
@@ -75,7 +62,7 @@ module _ (g : Graph) (l : Loops) (extent : ℕ → ℕ → Bool) (prog : IsProgr
       let same : g.source d ≡ l.header b.0 = some_same _ _ (sym walk.2.1 ∙ to_j) in
       let j_in_k : l.inside k (l.header b.0) ≡ true = subst (λ u. l.inside k u ≡ true) same in_v in
       let ys : (xs : List ℕ) × IsPlainWithin g l k (Some (l.header k)) xs × (end_of g (Some (l.header k)) xs ≡ Some (l.header b.0)) =
-      within_to_header k b.0 b.1 xs (Some (l.header k)) (g.source e) (header_at_header k b.0 e kl b.1 walk.0 in_u in_j j_in_k) path ends in_j in
+      within_to_header k b.0 b.1 xs (Some (l.header k)) (g.source e) (header_at_header k b.0 kl b.1 j_in_k) path ends in_j in
       close_walk k kl eh es d ys.0 owner_d ys.1 (ys.2 ∙ ap Some (sym same)) onward to stays.1)
       (λ (plain : IsPlain g l e).
       let more : IsPlainWithin g l k (Some (l.header k)) (xs ++ e ∷ []) × (end_of g (Some (l.header k)) (xs ++ e ∷ []) ≡ g.target e) =
@@ -96,7 +83,7 @@ module _ (g : Graph) (l : Loops) (extent : ℕ → ℕ → Bool) (prog : IsProgr
       in_v = (acc.bodies k (g.source d) kl).1 (owner_d, eh, (d, es, onward, to, stays.1))
 
   pub header_closes : (k : ℕ) → k < l.loops → (zs : List ℕ) × IsClosing g l k (Some (l.header k)) zs
-  header_closes k kl = go ((acc.bodies k (l.header k) kl).0 (header_held g l extent prog acc k kl))
+  header_closes k kl = go ((acc.bodies k (l.header k) kl).0 (header_held g l extent prog (accepted_entered acc) k kl))
     where
       go : IsInBody g (l.header k) (extent k) (l.header k) → (zs : List ℕ) × IsClosing g l k (Some (l.header k)) zs
       go b =

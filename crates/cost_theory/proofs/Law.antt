@@ -9,7 +9,7 @@ use Rattle.cost_theory.proofs.Append.{count_same, count_anew}
 use Rattle.cost_theory.proofs.Slack.{AreEnteredAtHeaders, plain-left}
 use Rattle.cost_theory.proofs.Potential.{left_step, end-plain}
 use Rattle.cost_theory.proofs.Equation.{worst_is}
-use Rattle.cost_theory.proofs.Nesting.{nested, entered_at_headers, entry_header}
+use Rattle.cost_theory.proofs.Nesting.{nested, entered_at_headers, entry_header, accepted_entered}
 
 pub greatest_same : {A : Type 0} (P : A → Type 0) (value : A → ℕ) (a b : ℕ) → IsGreatest P value a → IsGreatest P value b → a ≡ b
 greatest_same P value a b one two =
@@ -44,12 +44,12 @@ pub record IsSound (g : Graph) (l : Loops) (s : State) : Type 0 where
 module _ (g : Graph) (l : Loops) (extent : ℕ → ℕ → Bool) (w : ℕ → ℕ) (n : Numbers)
     (prog : IsProgram g) (acc : AreAccepted g l extent) (weights : AreWeights g w) (nums : AreNumbers g l w n) where
   ways : AreEnteredAtHeaders g l
-  ways = entered_at_headers g l extent prog acc
+  ways = entered_at_headers g l extent prog (accepted_entered acc)
 
   -- the equation of the worst cycles
   pub worst_equation : (f : ℕ) → f < g.functions → n.worst f ≡ n.left (g.entry f) + turns_round l n (Some (g.entry f))
   worst_equation f fl = greatest_same _ _ _ _ (nums.worst f fl)
-      (worst_is g l (cost g n w) n (nested g l extent prog acc) nums.loops (g.entry f) (λ k kl r. entry_header g l extent prog acc f k fl kl r))
+      (worst_is g l (cost g n w) n (nested g l extent prog (accepted_entered acc)) nums.loops (g.entry f) (λ k kl r. entry_header g l extent prog (accepted_entered acc) f k fl kl r))
 
   -- a step to a node of one function leaves the loops round the nodes of another alone
   pub other_count : (k u v : ℕ) (from : Option ℕ) (counts : ℕ → ℕ) → k < l.loops → l.inside k u ≡ true → (g.owner u ≡ g.owner v → ⊥) →
@@ -112,7 +112,7 @@ module _ (g : Graph) (l : Loops) (extent : ℕ → ℕ → Bool) (w : ℕ → �
       each : (k : ℕ) → k < l.loops → (b : Bool) → l.inside k (g.entry f) ≡ b → only b (turns l n (count_step l None (Some (g.entry f)) counts) k) ≡ only b (all_of l n k)
       each k kl false is = refl
       each k kl true is =
-          let at : is_header l k (Some (g.entry f)) ≡ true = eq-eqb (g.entry f) (l.header k) (entry_header g l extent prog acc f k fl kl is) in
+          let at : is_header l k (Some (g.entry f)) ≡ true = eq-eqb (g.entry f) (l.header k) (entry_header g l extent prog (accepted_entered acc) f k fl kl is) in
           let z : count_step l None (Some (g.entry f)) counts k ≡ 0 = count_anew g l k None (Some (g.entry f)) counts at refl in
           ap (λ x. (l.bound k - x) * n.iteration k) z ∙ ap (λ x. x * n.iteration k) (let m : l.bound k - 0 ≡ l.bound k = omega arith in m)
 

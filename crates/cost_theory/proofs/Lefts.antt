@@ -1,10 +1,10 @@
 -- What is left exists, from the outermost loop inwards; so all numbers of accepted loops do.
-use Rattle.std.proofs.Common.{◌≡◌, ◌≢◌, ℕ, zero, suc, ◌+◌, ◌-◌, ◌<◌, ◌≤◌, Bool, true, false, cond, not, ◌&&◌, ◌⊎◌, inl, inr, nat_eq, ltb, List, Option, Some, None, refl, sym, ap, ◌∙◌, subst, arith, eq-eqb, ne_eqb, ⊎_elim, le_refl, lt-ltb, ltb-true}
-use Rattle.cost_theory.specs.Graph.{Graph, Loops, IsWalk, end_of, sum_below, only}
+use Rattle.std.proofs.Common.{◌≡◌, ◌≢◌, ℕ, zero, suc, ◌+◌, ◌-◌, ◌<◌, ◌≤◌, Bool, true, false, cond, not, ◌&&◌, ◌⊎◌, inl, inr, nat_eq, ltb, Option, Some, None, refl, sym, ap, ◌∙◌, subst, arith, eq-eqb, ne_eqb, ⊎_elim, le_refl, lt-ltb, ltb-true}
+use Rattle.cost_theory.specs.Graph.{Graph, Loops, sum_below, only}
 use Rattle.cost_theory.specs.Worst.{Numbers, charged, AreLoopNumbers, IsLeft}
-use Rattle.cost_theory.specs.Accepted.{IsNode, IsProgram, AreAccepted, IsPlainOrder}
+use Rattle.cost_theory.specs.Accepted.{IsProgram, IsWithin, AreAccepted, IsPlainOrder}
 use Rattle.cost_theory.proofs.Basics.{below_suc, and_left, and_right, and_both, not_true, only_true, only_false, sum-lt, term-le-sum, ones-le}
-use Rattle.cost_theory.proofs.Nesting.{body_node, header_held, headers_meet, one_holds, size, entry_at_header}
+use Rattle.cost_theory.proofs.Nesting.{accepted_entered, held_within, size}
 use Rattle.cost_theory.proofs.Exists.{best_plain, best_closing}
 use Rattle.cost_theory.proofs.Tables.{table, iteration_below, IsTableBelow}
 
@@ -144,17 +144,6 @@ module _ (g : Graph) (l : Loops) (extent : ℕ → ℕ → Bool) (prog : IsProgr
   pub depth : ℕ → ℕ
   depth v = sum_below l.loops (λ k. only (outer v k) 1)
 
-  pub heads_apart : (j k v : ℕ) → j < l.loops → k < l.loops → ((u : ℕ) → l.inside j u ≡ true → l.inside k u ≡ true) → l.inside j (l.header k) ≡ true → l.inside k v ≡ true → l.header j ≡ l.header k
-  heads_apart j k v jl kl sub in_j in_k = go (body_node g l extent prog acc k v kl in_k)
-    where
-      go : IsNode g v → l.header j ≡ l.header k
-      go node =
-          let way : (es : List ℕ) × IsWalk g (Some (g.entry (g.owner (g.source node.0)))) es × (end_of g (Some (g.entry (g.owner (g.source node.0)))) es ≡ Some (g.source node.0)) = prog.reached node.0 node.1 in
-          let fl : g.owner (g.source node.0) < g.functions = prog.owner_function node.0 node.1 in
-          headers_meet g l extent prog acc j k jl kl sub in_j way.0 (Some (g.entry (g.owner (g.source node.0)))) (g.source node.0)
-          (entry_at_header g l extent prog acc (g.owner (g.source node.0)) j fl jl) (entry_at_header g l extent prog acc (g.owner (g.source node.0)) k fl kl) way.1 way.2
-          (subst (λ u. l.inside k u ≡ true) (sym node.2) in_k)
-
   -- a loop round the header of k, but for k's own, is round each node of k
   pub outer_header : (j k v : ℕ) → j < l.loops → k < l.loops → l.inside k v ≡ true → l.header k ≢ v → outer (l.header k) j ≡ true → outer v j ≡ true
   unfolding outer
@@ -167,17 +156,15 @@ module _ (g : Graph) (l : Loops) (extent : ℕ → ℕ → Bool) (prog : IsProgr
       other e = let f : nat_eq (l.header j) (l.header k) ≡ false = not_true (nat_eq (l.header j) (l.header k)) (and_right (l.inside j (l.header k)) (not (nat_eq (l.header j) (l.header k))) out) in
           let t : nat_eq (l.header j) (l.header k) ≡ true = eq-eqb (l.header j) (l.header k) e in let bad : ⊥ = cc in bad
 
-      held : l.inside k (l.header k) ≡ true
-      held = header_held g l extent prog acc k kl
-
-      holds : (u : ℕ) → l.inside k u ≡ true → l.inside j u ≡ true
-      holds = ⊎_elim (λ sub. absurd (other (heads_apart j k v jl kl sub in_h in_k))) (λ sub. sub) (one_holds g l extent prog acc j k (l.header k) jl kl in_h held)
+      within : IsWithin l k j
+      within = held_within g l extent prog (accepted_entered acc) k j kl jl (λ e. other (ap l.header (sym e))) in_h
 
       in_v : l.inside j v ≡ true
-      in_v = holds v in_k
+      in_v = within.holds v in_k
 
       apart : not (nat_eq (l.header j) v) ≡ true
-      apart = ap not (ne_eqb (l.header j) v (λ e. other (sym (heads_apart k j v kl jl holds (subst (λ u. l.inside k u ≡ true) (sym e) in_k) in_v))))
+      apart = ap not (ne_eqb (l.header j) v (λ e. let t : l.inside k (l.header j) ≡ true = subst (λ u. l.inside k u ≡ true) (sym e) in_k in
+          let f : l.inside k (l.header j) ≡ false = within.header in let bad : ⊥ = cc in bad))
 
   pub depth-lt : (k v : ℕ) → k < l.loops → l.inside k v ≡ true → l.header k ≢ v → depth (l.header k) < depth v
   unfolding depth outer
@@ -245,7 +232,7 @@ module _ (g : Graph) (l : Loops) (extent : ℕ → ℕ → Bool) (prog : IsProgr
     loop_numbers c w k = (
       numbers,
       record {
-        iteration = λ k kl. turned.1 k kl (let t : size g l extent prog acc k ≤ sum_below l.loops (size g l extent prog acc) = term-le-sum l.loops (size g l extent prog acc) k kl in omega arith);
+        iteration = λ k kl. turned.1 k kl (let t : size g l k ≤ sum_below l.loops (size g l) = term-le-sum l.loops (size g l) k kl in omega arith);
         plain = λ v. (best_plain g l prog count place order (charged g l (table turned.0) c) v).1;
         closing = λ k v kl in_v. (best_closing g l prog count place order (charged g l (table turned.0) c) k v).1;
         left = λ v. lefts.1 v (let t : depth v ≤ l.loops = depth-le v in omega arith);
@@ -254,8 +241,8 @@ module _ (g : Graph) (l : Loops) (extent : ℕ → ℕ → Bool) (prog : IsProgr
       refl,
     )
       where
-        turned : (i : ℕ → ℕ) × IsTableBelow g l extent prog acc count place order c (suc (sum_below l.loops (size g l extent prog acc))) i
-        turned = iteration_below g l extent prog acc count place order c (suc (sum_below l.loops (size g l extent prog acc)))
+        turned : (i : ℕ → ℕ) × IsTableBelow g l extent prog acc count place order c (suc (sum_below l.loops (size g l))) i
+        turned = iteration_below g l extent prog acc count place order c (suc (sum_below l.loops (size g l)))
 
         first : Numbers
         first = record {

@@ -2,10 +2,10 @@
 use Rattle.std.proofs.Common.{◌≡◌, ℕ, ◌+◌, ◌*◌, ◌<◌, ◌≤◌, Bool, true, List, [], ◌∷◌, Option, Some, None, is_some, refl, sym, ap, ◌∙◌, subst, arith, ⊎_elim}
 use Rattle.cost_theory.specs.Graph.{Graph, Loops, end_of, total, only, IsPlainPath}
 use Rattle.cost_theory.specs.Worst.{Numbers, AreNumbers, all_of, turns_round}
-use Rattle.cost_theory.specs.Accepted.{IsNode, AreCalls, IsProgram, AreWeights, AreAccepted, IsCallOrder, IsPlainOrder, IsPlainCycle}
+use Rattle.cost_theory.specs.Accepted.{IsNode, AreCalls, IsProgram, AreWeights, IsTooDeep, AreEntered, AreAccepted, IsCallOrder, IsPlainOrder, IsPlainCycle}
 use Rattle.cost_theory.specs.Least.{IsLeastIfAny, EndsWith}
 use Rattle.cost_theory.proofs.Basics.{term-le-sum, only_true}
-use Rattle.cost_theory.proofs.Nesting.{some_same, header_held, body_node}
+use Rattle.cost_theory.proofs.Nesting.{some_same, header_held, body_node, no_crossing, accepted_entered}
 use Rattle.cost_theory.proofs.Rest.{node-worst, context-worst}
 
 -- a call order leaves no recursion
@@ -72,6 +72,20 @@ stable_least g last c t reached ends steps v = go (t v) refl
       least = λ es walk. (let r : (x : ℕ) × (t v ≡ Some x) × (x ≤ total c es) = up_to es v walk in let q : Some x ≡ Some r.0 = sym is ∙ r.1 in let eq : x ≡ r.0 = cc in let le : r.0 ≤ total c es = r.2 in let w : x ≤ total c es = omega arith in w);
     }
 
+-- loops that are entered at their headers alone are accepted where none is too deep and the nodes have an order along plain edges
+pub entered-accepted : (g : Graph) (l : Loops) (extent : ℕ → ℕ → Bool) → IsProgram g → AreEntered g l extent → ((k : ℕ) → k < l.loops → IsTooDeep l k → ⊥) →
+    (count : ℕ) (place : ℕ → ℕ) → IsPlainOrder g l count place → AreAccepted g l extent
+entered-accepted g l extent prog ent shallow count place rises = record {
+  bodies = ent.bodies;
+  header_reached = ent.header_reached;
+  distinct = ent.distinct;
+  back_edge = ent.back_edge;
+  no_side = ent.no_side;
+  no_crossing = λ j k jl kl cross. no_crossing g l extent prog ent j k jl kl cross;
+  not_deep = shallow;
+  no_cycle = λ v es cycle. order-no_cycle g l count place rises v es cycle;
+}
+
 -- without loops nothing else is asked
 pub no_loops-accepted : (g : Graph) (l : Loops) (extent : ℕ → ℕ → Bool) (count : ℕ) (place : ℕ → ℕ) → l.loops ≡ 0 → IsPlainOrder g l count place → AreAccepted g l extent
 no_loops-accepted g l extent count place none rises = record {
@@ -103,8 +117,8 @@ module _ (g : Graph) (l : Loops) (extent : ℕ → ℕ → Bool) (w : ℕ → �
 
   pub turns-worst : (k : ℕ) → k < l.loops → l.bound k * n.iteration k ≤ n.worst 0
   turns-worst k kl =
-      let held : l.inside k (l.header k) ≡ true = header_held g l extent prog acc k kl in
-      let a : n.left (l.header k) + turns_round l n (Some (l.header k)) ≤ n.worst 0 = left-worst (l.header k) (body_node g l extent prog acc k (l.header k) kl held) in
+      let held : l.inside k (l.header k) ≡ true = header_held g l extent prog (accepted_entered acc) k kl in
+      let a : n.left (l.header k) + turns_round l n (Some (l.header k)) ≤ n.worst 0 = left-worst (l.header k) (body_node g l extent prog (accepted_entered acc) k (l.header k) kl held) in
       let t : only (l.inside k (l.header k)) (all_of l n k) ≤ turns_round l n (Some (l.header k)) = term-le-sum l.loops (λ j. only (l.inside j (l.header k)) (all_of l n j)) k kl in
       let q : only (l.inside k (l.header k)) (all_of l n k) ≡ all_of l n k = only_true (l.inside k (l.header k)) (all_of l n k) held in
       omega arith

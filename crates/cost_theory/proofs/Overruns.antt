@@ -4,7 +4,7 @@ use Rattle.cost_theory.specs.Graph.{Graph, Loops, total, is_round, is_back, IsPl
 use Rattle.cost_theory.specs.Worst.{Numbers, IsGreatest, IsGreatestIfAny, at_some, cost, charged, turns_round}
 use Rattle.cost_theory.specs.Accepted.{IsNode, IsCallOrder}
 use Rattle.cost_theory.specs.Laws.{IsAnalyzed}
-use Rattle.cost_theory.proofs.Nesting.{nested, entered_at_headers, body_node, header_held}
+use Rattle.cost_theory.proofs.Nesting.{nested, entered_at_headers, body_node, header_held, accepted_entered}
 use Rattle.cost_theory.proofs.Turns.{back_charged}
 use Rattle.cost_theory.proofs.Potential.{end-plain}
 use Rattle.cost_theory.proofs.Law.{same_cost}
@@ -27,7 +27,7 @@ module _ (g : Graph) (l : Loops) (extent : ℕ → ℕ → Bool) (w : ℕ → �
   last-plain e k lt kl back = go (g.callee e) refl
     where
       same : charged g l n (cost g n w) e ≡ cost g n w e
-      same = back_charged g l (cost g n w) n (nested g l extent is.program is.accepted) e k lt kl back
+      same = back_charged g l (cost g n w) n (nested g l extent is.program (accepted_entered is.accepted)) e k lt kl back
 
       go : (o : Option ℕ) → g.callee e ≡ o → charged g l n (cost g n w) e ≤ n.plain (g.source e) + m
       go None no_call =
@@ -39,7 +39,7 @@ module _ (g : Graph) (l : Loops) (extent : ℕ → ℕ → Bool) (w : ℕ → �
           let ended : (x : ℕ) × (x < g.edges) × (g.source x ≡ g.source e) × (g.callee x ≡ Some f) × (g.target x ≡ None) = is.program.call_end (g.source e) f (e, lt, refl, calls) in
           let one : cost g n w ended.0 ≡ cost g n w e = same_cost g l extent w n is.program is.accepted is.weights is.numbers ended.0 e f ended.1 lt ended.2 ended.3 in
           let most : charged g l n (cost g n w) ended.0 + 0 ≤ n.plain (g.source ended.0) =
-          (is.numbers.loops.plain (g.source ended.0)).most (ended.0 ∷ []) (ended.1, refl, end-plain g l (cost g n w) n is.numbers.loops (entered_at_headers g l extent is.program is.accepted) ended.0 ended.4, tt) in
+          (is.numbers.loops.plain (g.source ended.0)).most (ended.0 ∷ []) (ended.1, refl, end-plain g l (cost g n w) n is.numbers.loops (entered_at_headers g l extent is.program (accepted_entered is.accepted)) ended.0 ended.4, tt) in
           let at : n.plain (g.source ended.0) ≡ n.plain (g.source e) = ap n.plain ended.2 in
           let q : charged g l n (cost g n w) e ≡ cost g n w e = same in
           omega arith
@@ -82,7 +82,7 @@ module _ (g : Graph) (l : Loops) (extent : ℕ → ℕ → Bool) (w : ℕ → �
         let best : IsGreatest (IsClosing g l k (Some (l.header k))) (total (charged g l n (cost g n w))) (n.iteration k) = is.numbers.loops.iteration k kl in
         let a : total (charged g l n (cost g n w)) best.reached.0 ≤ n.plain (l.header k) + m = closing-plain k kl best.reached.0 (l.header k) best.reached.1 in
         let q : total (charged g l n (cost g n w)) best.reached.0 ≡ n.iteration k = best.reached.2 in
-        let b : n.plain (l.header k) ≤ n.worst 0 = plain-worst (l.header k) (body_node g l extent is.program is.accepted k (l.header k) kl (header_held g l extent is.program is.accepted k kl)) in
+        let b : n.plain (l.header k) ≤ n.worst 0 = plain-worst (l.header k) (body_node g l extent is.program (accepted_entered is.accepted) k (l.header k) kl (header_held g l extent is.program (accepted_entered is.accepted) k kl)) in
         omega arith
 
     pub closing-worst : (k v b : ℕ) → k < l.loops → l.inside k v ≡ true → n.closing k v ≡ Some b → b ≤ n.worst 0 + m
@@ -91,5 +91,5 @@ module _ (g : Graph) (l : Loops) (extent : ℕ → ℕ → Bool) (w : ℕ → �
         subst (λ o. IsGreatestIfAny (IsClosing g l k (Some v)) (total (charged g l n (cost g n w))) o) at (is.numbers.loops.closing k v kl in_v) in
         let a : total (charged g l n (cost g n w)) best.reached.0 ≤ n.plain v + m = closing-plain k kl best.reached.0 v best.reached.1 in
         let q : total (charged g l n (cost g n w)) best.reached.0 ≡ b = best.reached.2 in
-        let c : n.plain v ≤ n.worst 0 = plain-worst v (body_node g l extent is.program is.accepted k v kl in_v) in
+        let c : n.plain v ≤ n.worst 0 = plain-worst v (body_node g l extent is.program (accepted_entered is.accepted) k v kl in_v) in
         omega arith

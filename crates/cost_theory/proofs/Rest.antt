@@ -8,7 +8,7 @@ use Rattle.cost_theory.specs.Steps.{add_call, left_calls, left_at_node}
 use Rattle.cost_theory.proofs.Basics.{search_below, only-turns, sum-add, sum-le, and_left}
 use Rattle.cost_theory.proofs.Slack.{slack_plain}
 use Rattle.cost_theory.proofs.Append.{leads_to_header}
-use Rattle.cost_theory.proofs.Nesting.{entered_at_headers, IsAtHeader, step_at_header, entry_at_header}
+use Rattle.cost_theory.proofs.Nesting.{entered_at_headers, IsAtHeader, step_at_header, entry_at_header, accepted_entered}
 use Rattle.cost_theory.proofs.Law.{IsChain, worst_equation, next-is, cost-le, same_cost}
 
 module _ (g : Graph) (l : Loops) (extent : ℕ → ℕ → Bool) (prog : IsProgram g) (acc : AreAccepted g l extent) where
@@ -26,7 +26,7 @@ module _ (g : Graph) (l : Loops) (extent : ℕ → ℕ → Bool) (prog : IsProgr
       let r : is_round l k p ≡ true = subst (λ o. is_round l k o ≡ true) (sym ends) in_v in
       ([], tt, at r)
   path_to_header k kl (e ∷ es) p v at path ends in_v = go (is_round l k p) refl
-      (λ out. path_to_header k kl es (g.target e) v (step_at_header g l extent prog acc e k path.0 kl out) path.3 ends in_v)
+      (λ out. path_to_header k kl es (g.target e) v (step_at_header g l extent prog (accepted_entered acc) e k path.0 kl out) path.3 ends in_v)
     where
       go : (b : Bool) → is_round l k p ≡ b →
           (l.inside k (g.source e) ≡ false → (xs : List ℕ) × IsPlainPath g l (g.target e) xs × (end_of g (g.target e) xs ≡ Some (l.header k))) →
@@ -59,7 +59,7 @@ module _ (g : Graph) (l : Loops) (extent : ℕ → ℕ → Bool) (prog : IsProgr
       (xs : List ℕ) × IsPlainPath g l (Some (g.entry (g.owner (g.source e)))) xs × (end_of g (Some (g.entry (g.owner (g.source e)))) xs ≡ Some (g.source e))
   plain_from_entry e lt =
       let way : (es : List ℕ) × IsWalk g (Some (g.entry (g.owner (g.source e)))) es × (end_of g (Some (g.entry (g.owner (g.source e)))) es ≡ Some (g.source e)) = prog.reached e lt in
-      plain_reach (Some (g.entry (g.owner (g.source e)))) (λ k kl. entry_at_header g l extent prog acc (g.owner (g.source e)) k (prog.owner_function e lt) kl) way.0 []
+      plain_reach (Some (g.entry (g.owner (g.source e)))) (λ k kl. entry_at_header g l extent prog (accepted_entered acc) (g.owner (g.source e)) k (prog.owner_function e lt) kl) way.0 []
       (Some (g.entry (g.owner (g.source e)))) (g.source e) tt refl way.1 way.2
 
 module _ (g : Graph) (l : Loops) (extent : ℕ → ℕ → Bool) (w : ℕ → ℕ) (n : Numbers)
@@ -69,7 +69,7 @@ module _ (g : Graph) (l : Loops) (extent : ℕ → ℕ → Bool) (w : ℕ → �
       cost g n w e + left_at n (g.target e) + turns_round l n (g.target e) ≤ n.left (g.source e) + turns_round l n (Some (g.source e))
   edge-rest e lt plain =
       let a : charged g l n (cost g n w) e + left_at n (g.target e) ≤ n.left (g.source e) =
-      slack_plain g l (cost g n w) n nums.loops (entered_at_headers g l extent prog acc) e lt plain in
+      slack_plain g l (cost g n w) n nums.loops (entered_at_headers g l extent prog (accepted_entered acc)) e lt plain in
       let t : turns_round l n (g.target e) ≤ sum_below l.loops (λ k. only (l.inside k (g.source e)) (all_of l n k) + only (enters l k (g.source e) (g.target e)) (all_of l n k)) =
       sum-le l.loops (λ k. only (is_round l k (g.target e)) (all_of l n k)) (λ k. only (l.inside k (g.source e)) (all_of l n k) + only (enters l k (g.source e) (g.target e)) (all_of l n k))
       (λ k kl. each (l.inside k (g.source e)) (is_round l k (g.target e)) (all_of l n k)) in

@@ -4,7 +4,7 @@ use Rattle.cost_theory.specs.Graph.{Graph, Loops, IsWalk, total, sum_below, only
 use Rattle.cost_theory.specs.Worst.{Numbers, IsGreatestIfAny, at_some, cost, all_of, charged, AreLoopNumbers, AreNumbers, IsBoundedWalk, IsLeft, IsReturningCall, turns_round, context_of, IsContext}
 use Rattle.cost_theory.specs.Accepted.{IsCall, IsProgram, AreAccepted, IsCallOrder}
 use Rattle.cost_theory.specs.Laws.{AreSame}
-use Rattle.cost_theory.proofs.Nesting.{some_same, header_held, size}
+use Rattle.cost_theory.proofs.Nesting.{some_same, header_held, size, accepted_entered}
 use Rattle.cost_theory.proofs.Law.{greatest_same}
 use Rattle.cost_theory.proofs.Tables.{charged_same, greatest_value}
 use Rattle.cost_theory.proofs.Lefts.{depth, depth-lt}
@@ -67,17 +67,17 @@ module _ (g : Graph) (l : Loops) (extent : ℕ → ℕ → Bool) (prog : IsProgr
     charged_costs e lt = ap (λ x. x + sum_below l.loops (λ k. only (enters l k (g.source e) (g.target e)) (all_of l n' k))) (same e lt)
 
     -- iterations
-    pub iteration-same : (m k : ℕ) → k < l.loops → size g l extent prog acc k < m → n.iteration k ≡ n'.iteration k
+    pub iteration-same : (m k : ℕ) → k < l.loops → size g l k < m → n.iteration k ≡ n'.iteration k
     iteration-same zero k kl low = let bad : ⊥ = omega arith in absurd bad
     iteration-same (suc m) k kl low = greatest_same (IsClosing g l k (Some (l.header k))) (total (charged g l n' c')) (n.iteration k) (n'.iteration k)
         (greatest_value (IsClosing g l k (Some (l.header k))) (total (charged g l n c)) (total (charged g l n' c')) (n.iteration k)
-        (λ es closes. charged_same g l extent prog acc c n.iteration n'.iteration k kl (λ j jl less. iteration-same m j jl (omega arith)) es (Some (l.header k)) (header_held g l extent prog acc k kl) closes ∙
+        (λ es closes. charged_same g l extent prog acc c n.iteration n'.iteration k kl (λ j jl less. iteration-same m j jl (omega arith)) es (Some (l.header k)) (header_held g l extent prog (accepted_entered acc) k kl) closes ∙
         closing_costs (charged g l n' c) (charged g l n' c') charged_costs k es (Some (l.header k)) closes)
         (nums.iteration k kl))
         (nums'.iteration k kl)
 
     pub iteration_is : (k : ℕ) → k < l.loops → n.iteration k ≡ n'.iteration k
-    iteration_is k kl = iteration-same (suc (size g l extent prog acc k)) k kl (omega arith)
+    iteration_is k kl = iteration-same (suc (size g l k)) k kl (omega arith)
 
     pub charged_is : (e : ℕ) → e < g.edges → charged g l n c e ≡ charged g l n' c' e
     charged_is e lt =

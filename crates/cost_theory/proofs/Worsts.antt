@@ -3,7 +3,7 @@ use Rattle.std.proofs.Common.{◌≡◌, ℕ, zero, suc, ◌+◌, ◌<◌, Bool,
 use Rattle.cost_theory.specs.Graph.{Graph, Loops, IsWalk, total, sum_below, only}
 use Rattle.cost_theory.specs.Worst.{Numbers, IsGreatest, at_some, cost, all_of, AreLoopNumbers, AreWorst, IsBoundedWalk}
 use Rattle.cost_theory.specs.Accepted.{IsProgram, AreAccepted, IsPlainOrder, IsCallOrder}
-use Rattle.cost_theory.proofs.Nesting.{some_same, nested, entry_header}
+use Rattle.cost_theory.proofs.Nesting.{some_same, nested, entry_header, accepted_entered}
 use Rattle.cost_theory.proofs.Equation.{worst_is}
 use Rattle.cost_theory.proofs.Tables.{greatest_value}
 use Rattle.cost_theory.proofs.Lefts.{loop_numbers}
@@ -72,7 +72,7 @@ module _ (g : Graph) (l : Loops) (extent : ℕ → ℕ → Bool) (prog : IsProgr
               pick true is = greatest_value (IsBoundedWalk g l (g.entry f)) (total (cost g (worst_table before.0) w)) (total (cost g (worst_table new) w)) (before.0 f) (same f fl low)
                   (before.1 f fl (ltb-true (order f) m is))
               pick false is = greatest_value (IsBoundedWalk g l (g.entry f)) (total (cost g (worst_table before.0) w)) (total (cost g (worst_table new) w)) (value f) (same f fl low)
-                  (worst_is g l (cost g (worst_table before.0) w) found.0 (nested g l extent prog acc) found.1 (g.entry f) (λ k kl r. entry_header g l extent prog acc f k fl kl r))
+                  (worst_is g l (cost g (worst_table before.0) w) found.0 (nested g l extent prog (accepted_entered acc)) found.1 (g.entry f) (λ k kl r. entry_header g l extent prog (accepted_entered acc) f k fl kl r))
 
   -- the worst cycles and the numbers of all loops
   pub worst_numbers : (context : ℕ → ℕ) → (n : Numbers) × AreLoopNumbers g l (cost g n w) n × AreWorst g l w n × (n.context ≡ context)

@@ -96,6 +96,19 @@ IsTooDeep l k = 16 < sum_below l.loops (λ j. only (l.inside j (l.header k)) 1)
 abbrev pub IsPlainCycle : Graph → Loops → ℕ → List ℕ → Type 0
 IsPlainCycle g l v es = (es ≢ []) × IsPlainPath g l (Some v) es × (end_of g (Some v) es ≡ Some v)
 
+-- Loops with these bodies, each of which has a back edge and is entered at its header alone.
+pub record AreEntered (g : Graph) (l : Loops) (extent : ℕ → ℕ → Bool) : Type 0 where
+  pub bodies : (k v : ℕ) → k < l.loops → (l.inside k v ≡ true) ↔ IsInBody g (l.header k) (extent k) v
+  pub header_reached : (k : ℕ) → k < l.loops → IsUnreachedHeader g l k → ⊥
+  pub distinct : (j k : ℕ) → k < l.loops → HaveSameHeader l j k → ⊥
+  pub back_edge : (k : ℕ) → k < l.loops → HasNoBackEdge g l k → ⊥
+  pub no_side : (k from to : ℕ) → k < l.loops → IsSideEntry g l k from to → ⊥
+
+-- loop j lies within loop k: its nodes are nodes of the other, whose header is none of them
+pub record IsWithin (l : Loops) (j k : ℕ) : Type 0 where
+  pub holds : (v : ℕ) → l.inside j v ≡ true → l.inside k v ≡ true
+  pub header : l.inside j (l.header k) ≡ false
+
 -- loops with these bodies, of which none of that is true
 pub record AreAccepted (g : Graph) (l : Loops) (extent : ℕ → ℕ → Bool) : Type 0 where
   pub bodies : (k v : ℕ) → k < l.loops → (l.inside k v ≡ true) ↔ IsInBody g (l.header k) (extent k) v

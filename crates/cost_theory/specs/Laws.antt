@@ -1,10 +1,10 @@
 -- The laws of the numbers of a program, as statements for the contracts of functions.
-use Rattle.std.specs.Prelude.{◌≡◌, ℕ, ◌+◌, ◌<◌, ◌≤◌, Bool, true, false, List, ◌∷◌, slice_get, Option, Some, None, IsSome}
+use Rattle.std.specs.Prelude.{◌≡◌, ◌≢◌, ℕ, ◌+◌, ◌<◌, ◌≤◌, Bool, true, false, ◌⊎◌, List, ◌∷◌, slice_get, Option, Some, None, IsSome}
 use Rattle.cost_theory.specs.declared.edges.Edge.{Edge}
 use Rattle.cost_theory.specs.declared.edges.Word.{Word}
 use Rattle.cost_theory.specs.Graph.{Graph, Loops, total, next_edge}
 use Rattle.cost_theory.specs.Worst.{Numbers, AreNumbers, cost, charged, left_at, turn_back, slack, left_behind, turns_round, all_of, rest}
-use Rattle.cost_theory.specs.Accepted.{IsNode, IsProgram, AreAccepted, AreWeights, HasNoRecursion, IsCallOrder, IsPlainOrder, IsPlainCycle}
+use Rattle.cost_theory.specs.Accepted.{IsNode, IsProgram, AreCrossing, IsTooDeep, AreEntered, IsWithin, AreAccepted, AreWeights, HasNoRecursion, IsCallOrder, IsPlainOrder, IsPlainCycle}
 use Rattle.cost_theory.specs.Reached.{Code, IsCodeOf, HasNoBadWord, HasNoSharedCode, graph_of}
 use Rattle.cost_theory.specs.Steps.{Move, IsKept, AreKept, EndsByExit, start, state_after, after, edge_of, cycles, cycles_left}
 use Rattle.cost_theory.specs.Steps.Move.{Along, Call, Return}
@@ -70,6 +70,33 @@ PlainOrderExists = (g : Graph) (l : Loops) (extent : ℕ → ℕ → Bool) → I
 abbrev pub NoLoopsAccepted : Type 0
 NoLoopsAccepted = (g : Graph) (l : Loops) (extent : ℕ → ℕ → Bool) (count : ℕ) (place : ℕ → ℕ) →
     l.loops ≡ 0 → IsPlainOrder g l count place → AreAccepted g l extent
+
+-- LOOPS
+
+-- Loops that are entered at their headers alone have their headers in their bodies,
+abbrev pub HeadersAreInside : Type 0
+HeadersAreInside = (g : Graph) (l : Loops) (extent : ℕ → ℕ → Bool) → IsProgram g → AreEntered g l extent →
+    (k : ℕ) → k < l.loops → l.inside k (l.header k) ≡ true
+
+-- and none of them cross:
+abbrev pub EnteredLoopsDoNotCross : Type 0
+EnteredLoopsDoNotCross = (g : Graph) (l : Loops) (extent : ℕ → ℕ → Bool) → IsProgram g → AreEntered g l extent →
+    (j k : ℕ) → j < l.loops → k < l.loops → AreCrossing l j k → ⊥
+
+-- of two that share a node one lies within the other,
+abbrev pub EnteredLoopsAreNested : Type 0
+EnteredLoopsAreNested = (g : Graph) (l : Loops) (extent : ℕ → ℕ → Bool) → IsProgram g → AreEntered g l extent →
+    (j k v : ℕ) → j < l.loops → k < l.loops → j ≢ k → l.inside j v ≡ true → l.inside k v ≡ true → IsWithin l j k ⊎ IsWithin l k j
+
+-- and a loop that has the header of another has that other within it.
+abbrev pub HeadersAreHeld : Type 0
+HeadersAreHeld = (g : Graph) (l : Loops) (extent : ℕ → ℕ → Bool) → IsProgram g → AreEntered g l extent →
+    (j k : ℕ) → j < l.loops → k < l.loops → j ≢ k → l.inside k (l.header j) ≡ true → IsWithin l j k
+
+-- They are accepted where none is too deep and the nodes have an order along plain edges.
+abbrev pub EnteredLoopsAreAccepted : Type 0
+EnteredLoopsAreAccepted = (g : Graph) (l : Loops) (extent : ℕ → ℕ → Bool) → IsProgram g → AreEntered g l extent →
+    ((k : ℕ) → k < l.loops → IsTooDeep l k → ⊥) → (count : ℕ) (place : ℕ → ℕ) → IsPlainOrder g l count place → AreAccepted g l extent
 
 -- NUMBERS
 

@@ -10,12 +10,14 @@
 mod edges;
 mod kept_runs;
 mod least_cycles;
+mod loops;
 mod numbers;
 mod reached;
 
 pub use edges::{Edge, EdgeKind, Word};
 pub use kept_runs::{left_within_the_rest, run_law, step_law};
 pub use least_cycles::{exits_take_the_least, turns_take_the_least};
+pub use loops::entered_loops_are_nested;
 pub use numbers::{
     iterations_near_the_worst, numbers_are_determined, numbers_exist, parts_within_the_worst,
     slack_is_not_negative, worst_equation,

@@ -8,7 +8,7 @@ use Rattle.cost_theory.specs.Accepted.{IsProgram, AreAccepted}
 use Rattle.cost_theory.specs.Steps as steps
 use Rattle.cost_theory.specs.Steps.Move.{Along as MoveAlong, Call as MoveCall, Return as MoveReturn, Exit as MoveExit}
 use Rattle.cost_theory.specs.Reached.{Code, graph_of}
-use Rattle.cost_theory.proofs.Nesting.{extent-body}
+use Rattle.cost_theory.proofs.Nesting.{extent-body, accepted_entered}
 use Rattle.cost_theory.proofs.Law.{next-is}
 use Rattle.graph_runs.specs.Text.{Text, kind_at}
 use Rattle.graph_runs.specs.KeptRuns.{AreSameBelow}
@@ -20,7 +20,7 @@ module _ (g : Graph) (l : Loops) (extent : ℕ → ℕ → Bool) (prog : IsProgr
   edge_counts : (e v : ℕ) → e < g.edges → g.target e ≡ Some v → AreSameBelow l.loops (count_step l (Some (g.source e)) (Some v) one) (count_step (by_extents l extent) (Some (g.source e)) (Some v) other)
   edge_counts e v lt to k kl = ⊎_elim
       (λ (h : nat_eq v (l.header k) ≡ true).
-      let body : extent k (g.source e) ≡ l.inside k (g.source e) = extent-body g l extent prog acc e k v lt kl to (eqb-true v (l.header k) h) in
+      let body : extent k (g.source e) ≡ l.inside k (g.source e) = extent-body g l extent prog (accepted_entered acc) e k v lt kl to (eqb-true v (l.header k) h) in
       cond-true (nat_eq v (l.header k)) _ _ h ∙ (ap (λ b. cond b (one k + 1) 0) (sym body) ∙ (ap (λ c. cond (extent k (g.source e)) (c + 1) 0) (same k kl) ∙ sym (cond-true (nat_eq v (l.header k)) _ _ h))))
       (λ h. cond-false (nat_eq v (l.header k)) _ _ h ∙ (same k kl ∙ sym (cond-false (nat_eq v (l.header k)) _ _ h))) (cases_Bool (nat_eq v (l.header k)))
 

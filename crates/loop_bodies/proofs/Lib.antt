@@ -1,2 +1,3 @@
 pub mod EdgeLaws
 pub mod BodyLaws
+pub mod EntryLaws

@@ -1,5 +1,5 @@
 -- Bodies of natural loops (Aho, Lam, Sethi and Ullman, Compilers, section 9.6).
-use Rattle.std.specs.Prelude.{◌≡◌, ℕ, Bool, true, ◌&&◌, ◌↔◌, nat_le, nat_lt, List, slice_get, Option, Some}
+use Rattle.std.specs.Prelude.{◌≡◌, ◌≢◌, ℕ, ◌<◌, ◌≤◌, Bool, true, ◌&&◌, ◌↔◌, ◌⊎◌, nat_le, nat_lt, List, slice_get, Option, Some, None}
 use Rattle.std.specs.List.{list_any}
 use Rattle.loop_bodies.specs.declared.extent.NodeRange.{NodeRange}
 
@@ -26,3 +26,31 @@ is_in v range = nat_le range.from v && nat_lt v range.to
 
 abbrev pub in_extent : List NodeRange → ℕ → Bool
 in_extent ranges v = list_any (is_in v) ranges
+
+-- an edge leads from the extent to the header
+abbrev pub HasBackEdge : List ℕ → List (Option ℕ) → (ℕ → Bool) → ℕ → Type 0
+HasBackEdge sources targets extent header = (v : ℕ) × HasEdge sources targets v header × (extent v ≡ true)
+
+-- nodes below a count, each once
+pub record AreNodes (count : ℕ) (nodes : List ℕ) : Type 0 where
+  pub within : (p v : ℕ) → slice_get nodes p ≡ Some v → v < count
+  pub once : (i j v : ℕ) → slice_get nodes i ≡ Some v → slice_get nodes j ≡ Some v → i ≡ j
+
+-- an edge leads from outside a body to a node of it that isn't the header
+abbrev pub IsSideEdge : List ℕ → List (Option ℕ) → ℕ → List ℕ → ℕ → ℕ → Type 0
+IsSideEdge sources targets header body from to = HasEdge sources targets from to × IsIn body to × (to ≢ header) × (IsIn body from → ⊥)
+
+-- one pair of numbers isn't above the other, by the first numbers and then by the second
+abbrev pub IsUpTo : ℕ → ℕ → ℕ → ℕ → Type 0
+IsUpTo a b c d = (a < c) ⊎ ((a ≡ c) × (b ≤ d))
+
+-- the least of some pairs, if there are any
+abbrev pub IsLeastPair : (ℕ → ℕ → Type 0) → Option (ℕ × ℕ) → Type 0
+IsLeastPair P None = (a b : ℕ) → P a b → ⊥
+IsLeastPair P (Some least) = P least.0 least.1 × ((a b : ℕ) → P a b → IsUpTo least.0 least.1 a b)
+
+-- the lesser of a pair and of one that may be missing
+pub record IsLesserPair (least : Option (ℕ × ℕ)) (pair result : ℕ × ℕ) : Type 0 where
+  pub up_to_pair : IsUpTo result.0 result.1 pair.0 pair.1
+  pub up_to_least : (other : ℕ × ℕ) → least ≡ Some other → IsUpTo result.0 result.1 other.0 other.1
+  pub one_of_them : (result ≡ pair) ⊎ (least ≡ Some result)

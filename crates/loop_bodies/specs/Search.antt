@@ -1,5 +1,5 @@
 -- What the search of a body keeps.
-use Rattle.std.specs.Prelude.{◌≡◌, ℕ, ◌+◌, ◌<◌, ◌≤◌, Bool, true, false, List, [], ◌∷◌, length, slice_get, slice_index_or, Option, Some, if◌then◌else◌}
+use Rattle.std.specs.Prelude.{◌≡◌, ℕ, ◌+◌, ◌<◌, ◌≤◌, Bool, true, false, List, [], ◌∷◌, length, slice_get, slice_index_or, Option, Some, None, if◌then◌else◌}
 use Rattle.loop_bodies.specs.Bodies.{HasEdge, IsIn}
 
 abbrev pub flag : List Bool → ℕ → Bool
@@ -28,3 +28,8 @@ pub record Grows (found : List Bool) (body : List ℕ) (found_then : List Bool) 
 -- each node of the extent from which an edge leads to this one is marked
 abbrev pub IsSettled : List ℕ → List (Option ℕ) → (ℕ → Bool) → List Bool → ℕ → Type 0
 IsSettled sources targets extent found u = (v : ℕ) → HasEdge sources targets v u → extent v ≡ true → flag found v ≡ true
+
+-- the least unmarked node from which an edge leads to node u, if there is one
+abbrev pub IsLeastUnmarked : List ℕ → List (Option ℕ) → List Bool → ℕ → Option ℕ → Type 0
+IsLeastUnmarked sources targets found u None = (v : ℕ) → HasEdge sources targets v u → flag found v ≡ true
+IsLeastUnmarked sources targets found u (Some w) = HasEdge sources targets w u × (flag found w ≡ false) × ((v : ℕ) → HasEdge sources targets v u → flag found v ≡ false → w ≤ v)

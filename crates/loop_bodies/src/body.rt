@@ -1,10 +1,11 @@
 //! The bodies of loops.
 
-ghost use Rattle.std.specs.Prelude.{◌≡◌, ◌<◌, IfOk};
+ghost use Rattle.std.specs.Prelude.{◌≡◌, ◌<◌, ◌↔◌, true, IfOk};
 ghost use Rattle.loop_bodies.specs.Edges.{EdgeView, AreEdges};
-ghost use Rattle.loop_bodies.specs.Bodies.{in_extent, IsBody};
+ghost use Rattle.loop_bodies.specs.Bodies.{in_extent, IsBody, HasBackEdge, AreNodes, IsSideEdge, IsLeastPair};
 
 use crate::edges::IncomingEdges;
+use crate::entries::{has_back_edge, least_side, mark_nodes};
 use crate::extent::{NodeRange, is_in_extent};
 use crate::visit::{clear_marks, fill_body};
 use scale_base::NoMemory;
@@ -71,5 +72,26 @@ impl<'a> BodySearch<'a> {
         clear_marks(&mut self.found, &body);
         filled?;
         Ok(body)
+    }
+
+    /// Whether an edge leads from the extent to the header. It looks at the edges to the header alone.
+    pub fn has_back_edge(&self, header: usize, extent: &[NodeRange]) -> bool
+        requires { header < self.now.count }
+        ensures { (result ≡ true) ↔ HasBackEdge self.now.sources self.now.targets (in_extent extent.now) header }
+    {
+        has_back_edge(&self.edges, header, extent)
+    }
+
+    /// Of the edges from a node outside the body to a node of it that isn't the header, the least by the numbers of the
+    /// nodes where they start and then of those to which they lead. It looks at the edges to the body's nodes alone.
+    pub fn side_entry(&mut self, header: usize, body: &[usize]) -> Option<(usize, usize)>
+        requires { AreNodes self.old.count body.now }
+        ensures entry { IsLeastPair (IsSideEdge self.old.sources self.old.targets header body.now) result }
+        ensures same { self.new ≡ self.old }
+    {
+        mark_nodes(&mut self.found, body);
+        let least = least_side(&self.edges, &self.found, header, body);
+        clear_marks(&mut self.found, body);
+        least
     }
 }

@@ -4,10 +4,12 @@
 
 mod body;
 mod edges;
+mod entries;
 mod extent;
 mod visit;
 
 pub use body::BodySearch;
+pub use entries::lesser_pair;
 pub use extent::NodeRange;
 
 #[cfg(test)]

@@ -76,3 +76,26 @@ fn a_header_that_no_edge_leads_back_to_has_no_body(rt: HostRuntime) -> Result<()
     assert_eq!(rt; body.len(), 0);
     Ok(())
 }
+
+#[test]
+fn an_edge_turns_back_from_the_extent(rt: HostRuntime) -> Result<(), Fail> {
+    let search = BodySearch::new(rt.alloc(), &SOURCES, &TARGETS, 6)
+        .ok()
+        .ok_or("memory")?;
+    assert!(rt; search.has_back_edge(1, &[NodeRange { from: 3, to: 4 }]));
+    assert!(rt; !search.has_back_edge(1, &[NodeRange { from: 1, to: 3 }]));
+    assert!(rt; !search.has_back_edge(0, &[NodeRange { from: 0, to: 6 }]));
+    Ok(())
+}
+
+#[test]
+fn the_least_edge_past_the_header_is_found(rt: HostRuntime) -> Result<(), Fail> {
+    let mut search = BodySearch::new(rt.alloc(), &SOURCES, &TARGETS, 6)
+        .ok()
+        .ok_or("memory")?;
+    assert_eq!(rt; search.side_entry(1, &[3, 2, 1]), Some((5, 2)));
+    assert_eq!(rt; search.side_entry(3, &[3, 2]), Some((1, 2)));
+    assert_eq!(rt; search.side_entry(1, &[3, 2, 1, 5, 4]), None);
+    assert_eq!(rt; search.side_entry(5, &[5]), None);
+    Ok(())
+}

@@ -1,3 +1,4 @@
 pub mod Notes
+pub mod Addresses
 pub mod Loops
 pub mod Kept

@@ -1,16 +1,29 @@
 -- The loop file: a TOML document (toml.io, version 1.0) with a version and a list of loops. The first refusal decides, in this
 -- order: the text; the version, first where it is missing and then where it isn't the integer 1; the unknown key of the file that
--- is least by bytes; the loops. Where a refusal names a loop, the file itself is 0.
-use Rattle.std.specs.Prelude.{codes, ℕ, List, [], ◌∷◌, Option, Some, None, Result, Ok, Err}
-use Rattle.toml.specs.Data.{Data, Members, get_member}
+-- is least by bytes; the list of loops, and how many they are; then loop by loop the keys that are missing, the unknown key that is
+-- least by bytes, and the values. Where a refusal names a loop, loops are numbered from 1, and the file itself is 0.
+use Rattle.std.specs.Prelude.{codes, ℕ, ◌+◌, ◌-◌, ◌^◌, nat_le, min, if◌then◌else◌, Bool, false, List, [], ◌∷◌, length, Option, Some, None, Result, Ok, Err}
+use Rattle.toml.specs.Data.{Data, Members, get_member, as_bool}
+use Rattle.scale_base.specs.declared.ranges.Range.{Range}
 use Rattle.scale_base.specs.declared.refusal.Refusal.{Refusal}
-use Rattle.scale_base.specs.declared.refusal.Refusal.TheVariants.{LoopText, LoopKey, LoopValue, NotYet}
-use Rattle.table_keys.specs.Keys.{document_of, first_missing, least_unknown, number_at, or_refuse, none_or_refuse, ◌>>=◌}
+use Rattle.scale_base.specs.declared.refusal.Refusal.TheVariants.{LoopText, LoopKey, LoopValue, UnknownSymbol, TooManyLoops}
+use Rattle.scale_base.specs.Image.{Image}
+use Rattle.table_keys.specs.Keys.{document_of, first_missing, least_unknown, number_at, tables_of, or_refuse, none_or_refuse, checked_keys, ◌>>=◌}
+use Rattle.loop_file.specs.declared.address.Fault.{Fault}
+use Rattle.loop_file.specs.declared.address.Fault.TheVariants.{Absent, Bad}
 use Rattle.loop_file.specs.declared.notes.LoopNote.{LoopNote}
+use Rattle.loop_file.specs.Addresses.{or_bad, address_of, ranges_of}
 
 -- the keys of the file
 abbrev pub file_keys : List (List ℕ)
 file_keys = codes "version" ∷ codes "loop" ∷ []
+
+-- the keys of a loop: those that are required, in their order, and all
+abbrev pub required_keys : List (List ℕ)
+required_keys = codes "header" ∷ codes "ranges" ∷ codes "bound" ∷ []
+
+abbrev pub loop_keys : List (List ℕ)
+loop_keys = codes "header" ∷ codes "ranges" ∷ codes "bound" ∷ codes "counted" ∷ []
 
 -- the version is there and is 1
 abbrev pub checked_version : Members → Result (Unit {0}) Refusal
@@ -19,18 +32,75 @@ checked_version table = do
   _ ← or_refuse (LoopValue 0 (codes "version")) (number_at 1 1 (codes "version") table)
   Ok tt
 
--- No loops where the key isn't there. Loops aren't read yet, so any value is refused.
-abbrev pub loops_at : Option Data → Result (List LoopNote) Refusal
-loops_at None = Ok []
-loops_at (Some loops) = Err (NotYet 0)
+-- the tables of the loops: none where the key isn't there
+abbrev pub loop_list : Option Data → Option (List Members)
+loop_list None = Some []
+loop_list (Some d) = tables_of d
 
--- the notes of a table
-unfoldable pub notes_of : Members → Result (List LoopNote) Refusal
-notes_of table = do
-  _ ← checked_version table
-  _ ← none_or_refuse (LoopKey 0) (least_unknown file_keys table)
-  loops_at (get_member (codes "loop") table)
+abbrev pub loop_tables : Members → Result (List Members) Refusal
+loop_tables table = or_refuse (LoopValue 0 (codes "loop")) (loop_list (get_member (codes "loop") table))
 
--- what reading the bytes of a loop file gives
-unfoldable pub read_loops : List ℕ → Result (List LoopNote) Refusal
-read_loops bytes = or_refuse LoopText (document_of bytes) >>= notes_of
+-- at most 4,096 loops; the refusal tells how many there are, or 2^32 - 1 where there are more
+abbrev pub few_loops : List Members → Result (Unit {0}) Refusal
+few_loops tables = if nat_le (length tables) 4096 then Ok tt else Err (TooManyLoops (min (length tables) (2 ^ 32 - 1)))
+
+-- the refusal of a fault at a key of loop k
+abbrev pub fault_refusal : ℕ → List ℕ → Fault → Refusal
+fault_refusal k key Bad = LoopValue k key
+fault_refusal k key Absent = UnknownSymbol k
+
+-- what a key of loop k gives, or the refusal of its fault
+abbrev pub refused : {A : Type 0} → ℕ → List ℕ → Result A Fault → Result A Refusal
+refused k key (Ok x) = Ok x
+refused k key (Err fault) = Err (fault_refusal k key fault)
+
+-- a value at a key that is there
+abbrev pub at_key : {A : Type 0} → (Data → Result A Fault) → List ℕ → Members → Result A Fault
+at_key read key table = or_bad (get_member key table) >>= read
+
+-- the bound of loop k
+abbrev pub bound_of : ℕ → Members → Result ℕ Refusal
+bound_of k table = or_refuse (LoopValue k (codes "bound")) (number_at 0 1000000000 (codes "bound") table)
+
+-- whether a loop is counted: not where nothing is said
+abbrev pub counted_of : Option Data → Option Bool
+counted_of None = Some false
+counted_of (Some d) = as_bool d
+
+abbrev pub counted_at : ℕ → Members → Result Bool Refusal
+counted_at k table = or_refuse (LoopValue k (codes "counted")) (counted_of (get_member (codes "counted") table))
+
+module _ (image : Image) where
+  abbrev pub header_at : ℕ → Members → Result ℕ Refusal
+  header_at k table = refused k (codes "header") (at_key (address_of image) (codes "header") table)
+
+  abbrev pub ranges_at : ℕ → Members → Result (List Range) Refusal
+  ranges_at k table = refused k (codes "ranges") (at_key (ranges_of image) (codes "ranges") table)
+
+  -- the note of loop k
+  unfoldable pub note_of : ℕ → Members → Result LoopNote Refusal
+  note_of k table = do
+    _ ← checked_keys (LoopKey k) required_keys loop_keys table
+    header ← header_at k table
+    ranges ← ranges_at k table
+    bound ← bound_of k table
+    counted ← counted_at k table
+    Ok (record { header = header; ranges = ranges; bound = bound; counted = counted })
+
+  -- the notes of loops, numbered from k on
+  abbrev pub notes_from : ℕ → List Members → Result (List LoopNote) Refusal
+  notes_from k [] = Ok []
+  notes_from k (table ∷ tables) = note_of k table >>= λ first. notes_from (k + 1) tables >>= λ others. Ok (first ∷ others)
+
+  -- the notes of a table
+  unfoldable pub notes_of : Members → Result (List LoopNote) Refusal
+  notes_of table = do
+    _ ← checked_version table
+    _ ← none_or_refuse (LoopKey 0) (least_unknown file_keys table)
+    tables ← loop_tables table
+    _ ← few_loops tables
+    notes_from 1 tables
+
+  -- what reading the bytes of a loop file of the image gives
+  unfoldable pub read_loops : List ℕ → Result (List LoopNote) Refusal
+  read_loops bytes = or_refuse LoopText (document_of bytes) >>= notes_of

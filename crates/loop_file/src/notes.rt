@@ -1,10 +1,10 @@
 //! The notes of a program's loops.
 
-ghost use Rattle.std.specs.Prelude.{◌≡◌, ◌<◌, [], length, slice_get, Some};
+ghost use Rattle.std.specs.Prelude.{◌≡◌, ◌<◌, ◌++◌, ◌∷◌, [], length, slice_get, Some, OnOk, OnErr};
 ghost use Rattle.loop_file.specs.Notes.{IsLoopNote, AreLoopNotes};
 
 use scale_base::Range;
-use std::alloc::Global;
+use std::alloc::{AllocError, Global};
 use std::marker::Model;
 
 /// Ranges of addresses. Contracts see their list.
@@ -77,12 +77,23 @@ impl Model for LoopNotes {
 
 impl LoopNotes {
     /// No notes.
-    pub(crate) fn new(alloc: Global) -> LoopNotes
+    pub fn new(alloc: Global) -> LoopNotes
         ensures { result ≡ [] }
     {
         LoopNotes {
             items: Vec::new(alloc),
         }
+    }
+
+    /// Appends a note. An error says that memory ran out, and leaves the notes as they were.
+    pub fn push(&mut self, note: LoopNote) -> Result<(), AllocError>
+        requires few { length self.old < 4096 }
+        requires note { IsLoopNote note }
+        ensures pushed { OnOk result (self.new ≡ self.old ++ note ∷ []) }
+        ensures unchanged { OnErr result (self.new ≡ self.old) }
+    {
+        self.items.push(note)?;
+        Ok(())
     }
 
     /// How many notes there are.

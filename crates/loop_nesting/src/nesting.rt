@@ -44,4 +44,12 @@ impl Nesting {
     {
         self.parent[number]
     }
+
+    /// The innermost loop by node, and the next loop round each by loop.
+    pub fn into_parts(self) -> (Vec<Option<usize>>, Vec<Option<usize>>)
+        ensures innermost { result.0.items ≡ self.innermost }
+        ensures parent { result.1.items ≡ self.parent }
+    {
+        (self.innermost, self.parent)
+    }
 }

@@ -24,5 +24,8 @@ fn takes_no_loops(rt: HostRuntime) -> Result<(), Fail> {
     let nesting = nest_loops(rt.alloc(), &[], &[], 2)?;
     assert_eq!(rt; nesting.innermost(0), None);
     assert_eq!(rt; nesting.innermost(1), None);
+    let (innermost, parent) = nesting.into_parts();
+    assert_eq!(rt; innermost.len(), 2);
+    assert_eq!(rt; parent.len(), 0);
     Ok(())
 }

@@ -1,26 +1,27 @@
--- Arcs for the edges between nodes.
-use Rattle.std.proofs.Common.{◌≡◌, ℕ, ◌+◌, ◌-◌, ◌<◌, ◌≤◌, List, [], ◌∷◌, ◌++◌, length, length-append, None, is_some, refl, sym, ap, ◌∙◌, subst, arith, ⊎_elim, true, false}
+-- Arcs for the plain edges between nodes.
+use Rattle.std.proofs.Common.{◌≡◌, ℕ, ◌+◌, ◌-◌, ◌<◌, ◌≤◌, List, [], ◌∷◌, ◌++◌, length, length-append, Option, None, is_some, refl, sym, ap, ◌∙◌, subst, arith, ⊎_elim, true, false}
 use Rattle.std.proofs.lemmas.Bool.{cases_lt}
 use Rattle.std.proofs.lemmas.List.{get_or_append_left, get_or-append_right}
 use Rattle.std.proofs.lemmas.Option.{slice_get_within}
 use Rattle.call_orders.specs.declared.Arc.{Arc}
 use Rattle.call_orders.specs.Arcs.{arc_at, number_at, AreNumbered, HasArc, IsCycle}
 use Rattle.code_graph.specs.FlowGraph.{FlowGraph, graph}
-use Rattle.loop_tree.specs.Arcs.{IsEdgeBetween, AreEdgeArcs, HasEdge, IsRoundOfNodes}
+use Rattle.loop_tree.specs.Arcs.{IsPlainBy, IsEdgeBetween, ArePlainArcs, HasPlainEdge, IsRoundOfNodes}
 
--- edge n leads to no node
-pub arc_skipped : (v : FlowGraph) (n : ℕ) (arcs : List Arc) → AreEdgeArcs v n arcs → (graph v).target n ≡ None → AreEdgeArcs v (n + 1) arcs
-arc_skipped v n arcs are none = record {
+-- edge n has no arc
+pub arc_skipped : (v : FlowGraph) (backs : List (Option ℕ)) (n : ℕ) (arcs : List Arc) → ArePlainArcs v backs n arcs → (IsPlainBy backs n → (graph v).target n ≡ None) → ArePlainArcs v backs (n + 1) arcs
+arc_skipped v backs n arcs are none = record {
   few = let few = are.few in omega arith;
-  edge = λ s lt. let h = are.edge s lt in (h.0, (let below = h.1 in omega arith), h.2);
-  whole = λ e lt some. ⊎_elim (λ (low : e < n). are.whole e low some)
-      (λ (high : n ≤ e). let same : e ≡ n = omega arith in let bad : true ≡ false = sym some ∙ ap is_some (ap (graph v).target same ∙ none) in let no_way : ⊥ = cc in absurd no_way)
+  edge = λ s lt. let h = are.edge s lt in (h.0, (let below = h.1 in omega arith), h.2, h.3);
+  whole = λ e lt plain some. ⊎_elim (λ (low : e < n). are.whole e low plain some)
+      (λ (high : n ≤ e). let same : e ≡ n = omega arith in
+      let bad : true ≡ false = sym some ∙ ap is_some (ap (graph v).target same ∙ none (subst (IsPlainBy backs) same plain)) in let no_way : ⊥ = cc in absurd no_way)
       (cases_lt e n);
 }
 
 -- edge n leads from the node of one number to that of another
-pub arc_added : (v : FlowGraph) (n : ℕ) (arcs : List Arc) (arc : Arc) → AreEdgeArcs v n arcs → IsEdgeBetween v n arc.from arc.to → AreEdgeArcs v (n + 1) (arcs ++ arc ∷ [])
-arc_added v n arcs arc are is =
+pub arc_added : (v : FlowGraph) (backs : List (Option ℕ)) (n : ℕ) (arcs : List Arc) (arc : Arc) → ArePlainArcs v backs n arcs → IsPlainBy backs n → IsEdgeBetween v n arc.from arc.to → ArePlainArcs v backs (n + 1) (arcs ++ arc ∷ [])
+arc_added v backs n arcs arc are plain_n is =
     let size : length (arcs ++ arc ∷ []) ≡ length arcs + 1 = length-append arcs (arc ∷ []) in
     let left : (s : ℕ) → s < length arcs → arc_at arcs s ≡ arc_at (arcs ++ arc ∷ []) s = λ s lt. sym (get_or_append_left arcs (arc ∷ []) _ s lt) in
     let last : (s : ℕ) → s ≡ length arcs → arc ≡ arc_at (arcs ++ arc ∷ []) s = λ s e. sym (get_or-append_right arcs (arc ∷ []) s s _ (sym e) (omega arith) ∙ ap (arc_at (arc ∷ [])) (let z : s - s ≡ 0 = omega arith in z)) in
@@ -28,36 +29,36 @@ arc_added v n arcs arc are is =
     record {
       few = let few = are.few in omega arith;
       edge = λ s lt. ⊎_elim
-          (λ (low : s < length arcs). let h = are.edge s low in (h.0, (let below = h.1 in omega arith), subst (P h.0) (left s low) h.2))
-          (λ (high : length arcs ≤ s). (n, (let l : n < n + 1 = omega arith in l), subst (P n) (last s (omega arith)) is))
+          (λ (low : s < length arcs). let h = are.edge s low in (h.0, (let below = h.1 in omega arith), h.2, subst (P h.0) (left s low) h.3))
+          (λ (high : length arcs ≤ s). (n, (let l : n < n + 1 = omega arith in l), plain_n, subst (P n) (last s (omega arith)) is))
           (cases_lt s (length arcs));
-      whole = λ e lt some. ⊎_elim
-          (λ (low : e < n). let h = are.whole e low some in (h.0, (let below = h.1 in omega arith), subst (P e) (left h.0 h.1) h.2))
+      whole = λ e lt plain some. ⊎_elim
+          (λ (low : e < n). let h = are.whole e low plain some in (h.0, (let below = h.1 in omega arith), subst (P e) (left h.0 h.1) h.2))
           (λ (high : n ≤ e). let same : n ≡ e = omega arith in (length arcs, omega arith, subst (λ d. P d (arc_at (arcs ++ arc ∷ []) (length arcs))) same (subst (P n) (last (length arcs) refl) is)))
           (cases_lt e n);
     }
 
-pub arcs_numbered : (v : FlowGraph) (n : ℕ) (arcs : List Arc) → AreEdgeArcs v n arcs → AreNumbered (length v.code.nodes) arcs
-arcs_numbered v n arcs are s lt = let h = (are.edge s lt).2 in (slice_get_within v.code.nodes (arc_at arcs s).from _ h.source, h.within)
+pub arcs_numbered : (v : FlowGraph) (backs : List (Option ℕ)) (n : ℕ) (arcs : List Arc) → ArePlainArcs v backs n arcs → AreNumbered (length v.code.nodes) arcs
+arcs_numbered v backs n arcs are s lt = let h = (are.edge s lt).3 in (slice_get_within v.code.nodes (arc_at arcs s).from _ h.source, h.within)
 
--- an arc is an edge
-arc_edge : (v : FlowGraph) (arcs : List Arc) (a b : ℕ) → AreEdgeArcs v (length v.code.edges) arcs → HasArc arcs a b → HasEdge v a b
-arc_edge v arcs a b are h =
+-- an arc is a plain edge
+arc_edge : (v : FlowGraph) (backs : List (Option ℕ)) (arcs : List Arc) (a b : ℕ) → ArePlainArcs v backs (length v.code.edges) arcs → HasArc arcs a b → HasPlainEdge v backs a b
+arc_edge v backs arcs a b are h =
     let edge = are.edge h.0 h.1 in
-    (edge.0, edge.1, subst (λ x. IsEdgeBetween v edge.0 x b) h.2 (subst (λ y. IsEdgeBetween v edge.0 (arc_at arcs h.0).from y) h.3 edge.2))
+    (edge.0, edge.1, edge.2, subst (λ x. IsEdgeBetween v edge.0 x b) h.2 (subst (λ y. IsEdgeBetween v edge.0 (arc_at arcs h.0).from y) h.3 edge.3))
 
-edge_within : (v : FlowGraph) (a b : ℕ) → HasEdge v a b → a < length v.code.nodes
-edge_within v a b h = slice_get_within v.code.nodes a _ h.2.source
+edge_within : (v : FlowGraph) (backs : List (Option ℕ)) (a b : ℕ) → HasPlainEdge v backs a b → a < length v.code.nodes
+edge_within v backs a b h = slice_get_within v.code.nodes a _ h.3.source
 
--- a cycle of arcs is one of edges
-pub round_of_arcs : (v : FlowGraph) (arcs : List Arc) (numbers : List ℕ) → AreEdgeArcs v (length v.code.edges) arcs → IsCycle arcs numbers → IsRoundOfNodes v numbers
-round_of_arcs v arcs numbers are is = record {
+-- a cycle of arcs is one of plain edges
+pub round_of_arcs : (v : FlowGraph) (backs : List (Option ℕ)) (arcs : List Arc) (numbers : List ℕ) → ArePlainArcs v backs (length v.code.edges) arcs → IsCycle arcs numbers → IsRoundOfNodes v backs numbers
+round_of_arcs v backs arcs numbers are is = record {
   some = is.some;
   within = λ i lt. ⊎_elim
-      (λ (low : i + 1 < length numbers). edge_within v (number_at numbers i) (number_at numbers (i + 1)) (arc_edge v arcs _ _ are (is.onward i low)))
-      (λ (high : length numbers ≤ i + 1). edge_within v (number_at numbers i) (number_at numbers 0) (arc_edge v arcs _ _ are (is.round i (omega arith))))
+      (λ (low : i + 1 < length numbers). edge_within v backs (number_at numbers i) (number_at numbers (i + 1)) (arc_edge v backs arcs _ _ are (is.onward i low)))
+      (λ (high : length numbers ≤ i + 1). edge_within v backs (number_at numbers i) (number_at numbers 0) (arc_edge v backs arcs _ _ are (is.round i (omega arith))))
       (cases_lt (i + 1) (length numbers));
   distinct = is.distinct;
-  onward = λ i lt. arc_edge v arcs _ _ are (is.onward i lt);
-  round = λ i e. arc_edge v arcs _ _ are (is.round i e);
+  onward = λ i lt. arc_edge v backs arcs _ _ are (is.onward i lt);
+  round = λ i e. arc_edge v backs arcs _ _ are (is.round i e);
 }

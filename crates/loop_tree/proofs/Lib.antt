@@ -1,4 +1,7 @@
-pub mod NodeLaws
+mod Lists
 mod ArcLaws
-pub mod OrderLaws
+mod BackLaws
 mod RoundLaws
+pub mod OrderLaws
+mod NestLaws
+mod TreeLaws

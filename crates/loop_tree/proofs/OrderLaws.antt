@@ -1,18 +1,16 @@
--- An order of arcs, turned round, is an order of the nodes along their edges; and it shows that no loop is needed.
+-- An order of arcs, turned round, is an order of the nodes along plain edges.
 use Rattle.std.proofs.Common.{◌≡◌, ℕ, ◌-◌, ◌<◌, ◌≤◌, Bool, true, nat_eq, List, length, slice_get, slice_index, Option, Some, None, is_some, IsSome, refl, sym, ap, ◌∙◌, arith, ⊎_elim, eqb-true, eq-eqb, unwrap_or, false}
 use Rattle.std.proofs.lemmas.Bool.{cases_lt}
 use Rattle.std.proofs.lemmas.Option.{slice_get_within, slice_get-get_or, get_or_from_slice_get}
 use Rattle.call_orders.specs.declared.Arc.{Arc}
 use Rattle.call_orders.specs.Arcs.{arc_at, number_at, AreDistinct, IsSorted}
-use Rattle.cost_theory.specs.Graph.{Loops, find_below}
+use Rattle.cost_theory.specs.Graph.{Loops, IsPlain, find_below}
 use Rattle.cost_theory.specs.Accepted.{IsNode, IsPlainOrder}
-use Rattle.cost_theory.specs.Lists.{loops_of}
 use Rattle.cost_theory.proofs.Basics.{find-holds, find-some}
-use Rattle.cost_theory.proofs.Orders.{no_loops-accepted}
 use Rattle.code_graph.specs.FlowGraph.{FlowGraph, graph, IsFlowGraph}
-use Rattle.loop_tree.specs.Tree.{LoopView, IsAtPlace, ArePlainOrdered, IsLoopTree}
-use Rattle.loop_tree.specs.Arcs.{AreEdgeArcs}
-use Rattle.loop_tree.proofs.NodeLaws.{one_number}
+use Rattle.loop_tree.specs.Tree.{IsAtPlace, ArePlainOrdered}
+use Rattle.loop_tree.specs.Arcs.{IsPlainBy, ArePlainArcs}
+use Rattle.natural_loops.proofs.NodeLaws.{one_number}
 
 -- a list from its end to its beginning
 pub record IsTurned (numbers turned : List ℕ) : Type 0 where
@@ -40,8 +38,8 @@ turned_place numbers turned i k is e =
 some_is : (o : Option ℕ) (x : ℕ) → o ≡ Some x → IsSome o
 some_is o x e = ap is_some e
 
-pub ordered : (v : FlowGraph) (l : Loops) (arcs : List Arc) (order turned : List ℕ) → IsFlowGraph v → AreEdgeArcs v (length v.code.edges) arcs → IsSorted (length v.code.nodes) arcs order → IsTurned order turned → ArePlainOrdered v l turned
-ordered v l arcs order turned flow are sorted is =
+pub ordered : (v : FlowGraph) (l : Loops) (backs : List (Option ℕ)) (arcs : List Arc) (order turned : List ℕ) → IsFlowGraph v → ((e : ℕ) → e < length v.code.edges → IsPlain (graph v) l e → IsPlainBy backs e) → ArePlainArcs v backs (length v.code.edges) arcs → IsSorted (length v.code.nodes) arcs order → IsTurned order turned → ArePlainOrdered v l turned
+ordered v l backs arcs order turned flow by_plain are sorted is =
     let size = is.size in
     record {
       within = λ i k e. let p = turned_place order turned i k is e in
@@ -55,7 +53,7 @@ ordered v l arcs order turned flow are sorted is =
           let same : length order - 1 - i ≡ length order - 1 - j = one_place order sorted.distinct (length order - 1 - i) (length order - 1 - j) (omega arith) (omega arith) (a.1 ∙ sym b.1) in
           let one : i ≡ j = omega arith in one;
       before = λ e i j a lt plain to p q.
-          let s = are.whole e lt (some_is ((graph v).target e) a to) in
+          let s = are.whole e lt (by_plain e lt plain) (some_is ((graph v).target e) a to) in
           let o = sorted.before s.0 s.1 in
           let from_is : p.0 ≡ (arc_at arcs s.0).from = one_number v flow p.0 (arc_at arcs s.0).from ((graph v).source e) p.2 s.2.source in
           let to_is : q.0 ≡ (arc_at arcs s.0).to = one_number v flow q.0 (arc_at arcs s.0).to a q.2 (sym s.2.target ∙ to) in
@@ -72,7 +70,7 @@ ordered v l arcs order turned flow are sorted is =
 is_at : FlowGraph → List ℕ → ℕ → ℕ → Bool
 is_at v order at i = nat_eq (slice_index v.code.nodes (slice_index order i)) at
 
-place_of : FlowGraph → List ℕ → ℕ → ℕ
+pub place_of : FlowGraph → List ℕ → ℕ → ℕ
 place_of v order at = unwrap_or (find_below (length order) (is_at v order at)) 0
 
 at_place : (v : FlowGraph) (l : Loops) (order : List ℕ) (at : ℕ) → ArePlainOrdered v l order → IsNode (graph v) at → IsFlowGraph v → (place_of v order at < length order) × IsAtPlace v order (place_of v order at) at
@@ -97,17 +95,10 @@ at_place v l order at are node flow = go (find_below (length order) (is_at v ord
         let here : slice_get order j ≡ Some (slice_index order j) = slice_get-get_or order j 0 h.0 in
         (h.0, (slice_index order j, here, slice_get-get_or v.code.nodes (slice_index order j) 0 (are.within j (slice_index order j) here) ∙ ap Some (eqb-true _ _ h.1)))
 
-plain_order : (v : FlowGraph) (l : Loops) (order : List ℕ) → IsFlowGraph v → ArePlainOrdered v l order → IsPlainOrder (graph v) l (length order) (place_of v order)
+pub plain_order : (v : FlowGraph) (l : Loops) (order : List ℕ) → IsFlowGraph v → ArePlainOrdered v l order → IsPlainOrder (graph v) l (length order) (place_of v order)
 plain_order v l order flow are = record {
   below = λ at node. (at_place v l order at are node flow).0;
   rises = λ e a lt plain to. are.before e (place_of v order ((graph v).source e)) (place_of v order a) a lt plain to
       (at_place v l order ((graph v).source e) are (e, lt, refl) flow).1
       (at_place v l order a are (flow.program.stays e a lt to).0 flow).1;
-}
-
--- without loops, such an order shows that none is needed
-pub tree_without_loops : (v : FlowGraph) (extent : ℕ → ℕ → Bool) (t : LoopView) → IsFlowGraph v → (loops_of t.tree).loops ≡ 0 → ArePlainOrdered v (loops_of t.tree) t.order → IsLoopTree v extent t
-tree_without_loops v extent t flow none are = record {
-  accepted = no_loops-accepted (graph v) (loops_of t.tree) extent (length t.order) (place_of v t.order) none (plain_order v (loops_of t.tree) t.order flow are);
-  order = are;
 }

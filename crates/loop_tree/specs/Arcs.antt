@@ -1,5 +1,5 @@
 -- The edges between nodes, as arcs between their numbers.
-use Rattle.std.specs.Prelude.{◌≡◌, ℕ, ◌+◌, ◌<◌, ◌≤◌, List, length, slice_get, Some, IsSome}
+use Rattle.std.specs.Prelude.{◌≡◌, ℕ, ◌+◌, ◌<◌, ◌≤◌, List, length, slice_get, Option, Some, None, IsSome}
 use Rattle.call_orders.specs.declared.Arc.{Arc}
 use Rattle.call_orders.specs.Arcs.{arc_at, number_at, AreDistinct}
 use Rattle.code_graph.specs.FlowGraph.{FlowGraph, graph}
@@ -10,22 +10,26 @@ pub record IsEdgeBetween (v : FlowGraph) (e a b : ℕ) : Type 0 where
   pub target : (graph v).target e ≡ slice_get v.code.nodes b
   pub within : b < length v.code.nodes
 
--- an arc for each of the first n edges that leads to a node, and no others
-pub record AreEdgeArcs (v : FlowGraph) (n : ℕ) (arcs : List Arc) : Type 0 where
+-- edge e is no back edge of a loop, by a list of the loops of which edges are back edges
+abbrev pub IsPlainBy : List (Option ℕ) → ℕ → Type 0
+IsPlainBy backs e = slice_get backs e ≡ Some None
+
+-- an arc for each of the first n edges that leads to a node and is no back edge, and no others
+pub record ArePlainArcs (v : FlowGraph) (backs : List (Option ℕ)) (n : ℕ) (arcs : List Arc) : Type 0 where
   pub few : length arcs ≤ n
-  pub edge : (s : ℕ) → s < length arcs → (e : ℕ) × (e < n) × IsEdgeBetween v e (arc_at arcs s).from (arc_at arcs s).to
-  pub whole : (e : ℕ) → e < n → IsSome ((graph v).target e) → (s : ℕ) × (s < length arcs) × IsEdgeBetween v e (arc_at arcs s).from (arc_at arcs s).to
+  pub edge : (s : ℕ) → s < length arcs → (e : ℕ) × (e < n) × IsPlainBy backs e × IsEdgeBetween v e (arc_at arcs s).from (arc_at arcs s).to
+  pub whole : (e : ℕ) → e < n → IsPlainBy backs e → IsSome ((graph v).target e) → (s : ℕ) × (s < length arcs) × IsEdgeBetween v e (arc_at arcs s).from (arc_at arcs s).to
 
-abbrev pub HasEdge : FlowGraph → ℕ → ℕ → Type 0
-HasEdge v a b = (e : ℕ) × (e < (graph v).edges) × IsEdgeBetween v e a b
+abbrev pub HasPlainEdge : FlowGraph → List (Option ℕ) → ℕ → ℕ → Type 0
+HasPlainEdge v backs a b = (e : ℕ) × (e < (graph v).edges) × IsPlainBy backs e × IsEdgeBetween v e a b
 
--- numbers of nodes, at least one, all different, each with an edge to the next and the last with an edge to the first
-pub record IsRoundOfNodes (v : FlowGraph) (numbers : List ℕ) : Type 0 where
+-- numbers of nodes, at least one, all different, each with a plain edge to the next and the last with one to the first
+pub record IsRoundOfNodes (v : FlowGraph) (backs : List (Option ℕ)) (numbers : List ℕ) : Type 0 where
   pub some : 0 < length numbers
   pub within : (i : ℕ) → i < length numbers → number_at numbers i < length v.code.nodes
   pub distinct : AreDistinct numbers
-  pub onward : (i : ℕ) → i + 1 < length numbers → HasEdge v (number_at numbers i) (number_at numbers (i + 1))
-  pub round : (i : ℕ) → i + 1 ≡ length numbers → HasEdge v (number_at numbers i) (number_at numbers 0)
+  pub onward : (i : ℕ) → i + 1 < length numbers → HasPlainEdge v backs (number_at numbers i) (number_at numbers (i + 1))
+  pub round : (i : ℕ) → i + 1 ≡ length numbers → HasPlainEdge v backs (number_at numbers i) (number_at numbers 0)
 
 -- the addresses of the nodes of these numbers
 pub record AreAddressesOf (v : FlowGraph) (numbers addresses : List ℕ) : Type 0 where

@@ -1,2 +1,4 @@
 pub mod Tree
+pub mod Stored
 pub mod Arcs
+pub mod Backs

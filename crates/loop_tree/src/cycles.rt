@@ -1,11 +1,11 @@
-//! Cycles of edges, as refusals name them.
+//! Cycles of plain edges, as refusals name them.
 
-ghost use Rattle.std.specs.Prelude.{ℕ, ◌<◌, length, IfOk};
+ghost use Rattle.std.specs.Prelude.{ℕ, ◌<◌, List, length, Option, IfOk};
 ghost use Rattle.code_graph.specs.FlowGraph.{IsFlowGraph};
 ghost use Rattle.call_orders.specs.Arcs.{number_at};
 ghost use Rattle.call_orders.specs.Cycles.{IsCycleBy};
-ghost use Rattle.loop_tree.specs.Tree.{IsPlainStep, without_loops};
 ghost use Rattle.loop_tree.specs.Arcs.{AreAddressesOf, IsRoundOfNodes};
+ghost use Rattle.loop_tree.specs.Backs.{IsStepBy};
 
 use call_orders::least_first;
 use code_graph::CodeGraph;
@@ -24,11 +24,13 @@ fn addresses_of(alloc: Global, graph: &CodeGraph, numbers: &[usize]) -> Result<V
     Ok(addresses)
 }
 
-/// The cycle of nodes, each with an edge to the next and the last with an edge to the first.
+/// The cycle of nodes, from its least address. Where each has a plain edge to the next and the last to the first, by any
+/// list of the loops of which edges are back edges, that is so of the cycle.
 pub fn cycle_of(alloc: Global, graph: &CodeGraph, numbers: &[usize]) -> Result<Cycle, NoMemory>
     requires flow { IsFlowGraph graph.now }
-    requires round { IsRoundOfNodes graph.now numbers.now }
-    ensures { IfOk result (λ cycle. IsCycleBy (IsPlainStep graph.now without_loops) cycle) }
+    requires some { 0 < length numbers.now }
+    requires within { (i : ℕ) → i < length numbers.now → number_at numbers.now i < length graph.now.code.nodes }
+    ensures { (backs : List (Option ℕ)) → IsRoundOfNodes graph.now backs numbers.now → IfOk result (λ cycle. IsCycleBy (IsStepBy graph.now backs) cycle) }
 {
     let addresses = addresses_of(alloc, graph, numbers)?;
     let cycle = least_first(addresses);

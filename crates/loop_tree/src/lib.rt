@@ -1,37 +1,40 @@
 //! The loops of a program's graph, and an order of its nodes along the edges that are no back edges.
 #![tactic(auto)]
 
-ghost use Rattle.std.specs.Prelude.{◌≡◌, []};
 ghost use Rattle.scale_base.specs.Answer.{AnswersBy};
 ghost use Rattle.loop_tree.specs.Tree.{IsTreeBuilt};
 
 mod arcs;
+mod assembling;
+mod backs;
 mod cycles;
-mod nodes;
 mod tree;
 
 pub use arcs::plain_arcs;
+use assembling::assemble;
+use backs::back_loops;
 use call_orders::{Order, sort};
 use code_graph::CodeGraph;
 use cycles::cycle_of;
 use loop_file::LoopNotes;
-pub use nodes::node_at;
+use natural_loops::find_loops;
 use scale_base::{Refusal, Stop};
 use std::alloc::Global;
 pub use tree::LoopTree;
 
-/// The loops of a graph by their notes; or why they are refused: by a cycle of edges that no loop bounds. Takes no notes yet.
+/// The loops of a graph by their notes, in the notes' order, with an order of the nodes along plain edges; or why they are
+/// refused: by what `find_loops` refuses, or else by a cycle of plain edges, from its least address.
 pub fn build_loops(alloc: Global, graph: &CodeGraph, notes: &LoopNotes) -> Result<LoopTree, Stop>
-    requires no_notes { notes.now ≡ [] }
     ensures { AnswersBy (λ t. t) result (IsTreeBuilt graph.now notes.now) }
 {
-    prove!(notes.count() == 0);
+    let found = find_loops(alloc, graph, notes)?;
     let count = graph.node_count();
-    let arcs = plain_arcs(alloc, graph)?;
+    let backs = back_loops(alloc, graph, &found.headers, &found.bodies)?;
+    let arcs = plain_arcs(alloc, graph, &backs)?;
     match sort(alloc, count, &arcs)? {
         Order::Sorted(mut order) => {
             order.reverse();
-            Ok(LoopTree::without_loops(alloc, order))
+            Ok(assemble(alloc, graph, notes, found, backs, order)?)
         }
         Order::Cycle(numbers) => {
             let cycle = cycle_of(alloc, graph, &numbers)?;

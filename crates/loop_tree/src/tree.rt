@@ -1,50 +1,129 @@
 //! The loops of a graph.
 
-ghost use Rattle.std.specs.Prelude.{◌≡◌, [], length};
+ghost use Rattle.std.specs.Prelude.{◌≡◌, ◌<◌, ◌≤◌, ◌↔◌, true, Some, length, slice_get};
+ghost use Rattle.cost_theory.specs.Lists.{body_of, is_among};
 ghost use Rattle.loop_tree.specs.Tree.{LoopView};
 
-use std::alloc::Global;
+use crate::backs::has;
 use std::marker::Model;
 
-/// The loops of a graph by number, and the numbers of its nodes, each before those to which its plain edges lead.
+/// The loops of a graph by number, with their nesting, and the numbers of its nodes in an order along plain edges. A loop is
+/// round a node where the node is in its body. Contracts see the loops as lists over the numbers of nodes and edges.
 #[derive(Drop)]
 pub struct LoopTree {
-    /// The address of each loop's header.
-    headers: Vec<u32>,
-    /// How many back edges one entry of each loop may take.
-    bounds: Vec<u32>,
-    /// The addresses of the nodes in each loop.
-    bodies: Vec<Vec<u32>>,
-    order: Vec<usize>,
+    pub(crate) headers: Vec<usize>,
+    pub(crate) bounds: Vec<u32>,
+    pub(crate) counted: Vec<bool>,
+    /// Each ascending.
+    pub(crate) bodies: Vec<Vec<usize>>,
+    /// By edge, the loop of which it is a back edge.
+    pub(crate) backs: Vec<Option<usize>>,
+    /// By node.
+    pub(crate) innermost: Vec<Option<usize>>,
+    /// By loop.
+    pub(crate) parent: Vec<Option<usize>>,
+    pub(crate) order: Vec<usize>,
 }
 
 impl Model for LoopTree {
     ghost use Rattle.std.specs.Prelude.{map};
     ghost use Rattle.loop_tree.specs.Tree.{LoopView};
+    ghost use Rattle.loop_tree.specs.Stored.{IsStored};
 
     ghost Value = { LoopView };
 
-    ghost view = { λ t. record { tree = record { headers = t.headers.items; bounds = t.bounds.items; bodies = map (λ body. body.items) t.bodies.items }; order = t.order.items } };
+    ghost view = { λ t. record { headers = t.headers.items; bounds = t.bounds.items; counted = t.counted.items; bodies = map (λ body. body.items) t.bodies.items; backs = t.backs.items; innermost = t.innermost.items; parent = t.parent.items; order = t.order.items } };
+
+    ghost invariant = { λ t. IsStored (record { headers = t.headers.items; bounds = t.bounds.items; counted = t.counted.items; bodies = map (λ body. body.items) t.bodies.items; backs = t.backs.items; innermost = t.innermost.items; parent = t.parent.items; order = t.order.items }) };
 }
 
 impl LoopTree {
-    /// No loops, and an order of the nodes.
-    pub(crate) fn without_loops(alloc: Global, order: Vec<usize>) -> LoopTree
-        ensures { result ≡ record { tree = record { headers = []; bounds = []; bodies = [] }; order = order.items } }
-    {
-        LoopTree {
-            headers: Vec::new(alloc),
-            bounds: Vec::new(alloc),
-            bodies: Vec::new(alloc),
-            order,
-        }
-    }
-
-    /// How many loops there are.
+    /// How many loops there are: at most 4,096.
     pub fn loop_count(&self) -> usize
-        ensures { result ≡ length self.now.tree.headers }
+        ensures count { result ≡ length self.now.headers }
+        ensures few { result ≤ 4096 }
     {
         self.headers.len()
+    }
+
+    /// The number of the node that is the header of loop `l`.
+    pub fn header(&self, l: usize) -> usize
+        requires { l < length self.now.headers }
+        ensures { slice_get self.now.headers l ≡ Some result }
+    {
+        self.headers[l]
+    }
+
+    /// How many back edges one entry of loop `l` may take, as its note says.
+    pub fn bound(&self, l: usize) -> u32
+        requires { l < length self.now.headers }
+        ensures { slice_get self.now.bounds l ≡ Some result }
+    {
+        self.bounds[l]
+    }
+
+    /// Whether the back edges of loop `l` are counted, as its note says.
+    pub fn counted(&self, l: usize) -> bool
+        requires { l < length self.now.headers }
+        ensures { slice_get self.now.counted l ≡ Some result }
+    {
+        self.counted[l]
+    }
+
+    /// The numbers of the nodes in the body of loop `l`, ascending.
+    pub fn body(&self, l: usize) -> &[usize]
+        requires { l < length self.now.headers }
+        ensures { result.now ≡ body_of self.now.bodies l }
+    {
+        &self.bodies[l]
+    }
+
+    /// Whether node `k` is in the body of loop `l`.
+    pub fn in_body(&self, l: usize, k: usize) -> bool
+        requires { l < length self.now.headers }
+        ensures { result ≡ is_among k (body_of self.now.bodies l) }
+    {
+        has(&self.bodies[l], k)
+    }
+
+    /// The loop of which edge `e` is a back edge. None exactly for a plain edge. An edge is a back edge of one loop at most,
+    /// since no two loops have one header.
+    pub fn back_loop(&self, e: usize) -> Option<usize>
+        requires { e < length self.now.backs }
+        ensures { slice_get self.now.backs e ≡ Some result }
+    {
+        self.backs[e]
+    }
+
+    /// By edge, the loop of which it is a back edge.
+    pub fn backs(&self) -> &[Option<usize>]
+        ensures { result.now ≡ self.now.backs }
+    {
+        &self.backs
+    }
+
+    /// Whether edge `e` is a back edge of loop `l`.
+    pub fn is_back_edge(&self, l: usize, e: usize) -> bool
+        requires { e < length self.now.backs }
+        ensures { (result ≡ true) ↔ (slice_get self.now.backs e ≡ Some (Some l)) }
+    {
+        self.backs[e] == Some(l)
+    }
+
+    /// The loop with the least body of those round node `k`. None exactly where no loop is round it.
+    pub fn innermost(&self, k: usize) -> Option<usize>
+        requires { k < length self.now.innermost }
+        ensures { slice_get self.now.innermost k ≡ Some result }
+    {
+        self.innermost[k]
+    }
+
+    /// The loop with the least body of those round the header of loop `l`, `l` left out. None exactly where there is none.
+    pub fn parent(&self, l: usize) -> Option<usize>
+        requires { l < length self.now.headers }
+        ensures { slice_get self.now.parent l ≡ Some result }
+    {
+        self.parent[l]
     }
 
     /// The numbers of the nodes, each before those to which its plain edges lead.

@@ -1,6 +1,7 @@
 pub mod Levels
 pub mod Numbers
 pub mod Price
+pub mod Report
 pub mod Slowest
 pub mod Inside
 pub mod MeterInside

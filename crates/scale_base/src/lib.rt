@@ -6,6 +6,7 @@ ghost use Rattle.std.specs.Prelude.{◌≡◌, ℕ, ◌^◌, ◌<◌, ◌↔◌,
 ghost use Rattle.scale_base.specs.Word.{Encodes};
 ghost use Rattle.scale_base.specs.Reading.{instr_of};
 
+mod endings;
 mod headers;
 mod instruction;
 mod names;
@@ -14,6 +15,7 @@ mod refusal;
 mod stepping;
 mod summary;
 
+pub use endings::{End, Kept};
 pub use headers::{ProgramHeader, SectionHeader};
 pub use instruction::{BranchOp, ImmOp, Instr, LoadOp, RegOp, StoreOp};
 pub use names::{Cycle, Name};

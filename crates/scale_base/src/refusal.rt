@@ -50,6 +50,8 @@ pub enum Refusal {
     WritableText(u32),
     /// The image has a keyed segment.
     AlreadyScaled,
+    /// The starting level of a keyed segment isn't below the number of levels: the level, and that number.
+    StartLevel(u32, u32),
     /// The machine file isn't a TOML document.
     MachineText,
     /// A key of the machine file is missing or unknown.
@@ -64,6 +66,10 @@ pub enum Refusal {
     LoopKey(u32, Name),
     /// A value of the loop file has another form or range: the loop, 0 for the file itself, and the key.
     LoopValue(u32, Name),
+    /// An address of a loop names a symbol that the image doesn't have: the loop.
+    UnknownSymbol(u32),
+    /// There are more than 4,096 loops: how many.
+    TooManyLoops(u32),
     /// A reached word stands for no instruction.
     IllegalWord(u32),
     /// A reached address is in no text range.
@@ -78,12 +84,31 @@ pub enum Refusal {
     SharedCode(u32),
     /// Calls form a cycle: the entries of its functions.
     Recursion(Cycle),
+    /// The header of a loop isn't reached: the loop.
+    HeaderNotReached(u32),
+    /// Two loops have one header: the first of them, and the next.
+    SameHeader(u32, u32),
+    /// No edge leads from the body of a loop to its header: the loop.
+    NoBackEdge(u32),
+    /// An edge leads into the body of a loop from outside, past its header: the loop, and where the edge starts and leads
+    /// to. Both are the entry of a function where that is a node of the body and not the header.
+    SideEntry(u32, u32, u32),
+    /// The bodies of two loops share a node, and neither holds the other: the two loops.
+    CrossingLoops(u32, u32),
+    /// The header of a loop is in the bodies of more than 16: the loop.
+    TooDeep(u32),
     /// Edges within a function form a cycle that no loop bounds: its addresses.
     UnboundedCycle(Cycle),
     /// The worst cycles are over 2^48.
     TooLong,
     /// The time units that the worst case needs at the fastest level, and those of the deadline.
     DeadlineMissed(u128, u64),
+    /// A counted loop has a back edge that can't be counted: the loop, and where the edge starts.
+    Uncountable(u32, u32),
+    /// There are more than 509 counted loops: how many.
+    TooManyCounters(u32),
+    /// A jump to or from a stub is too far: the address of its instruction.
+    StubOutOfReach(u32),
     /// A loaded file is longer than its limit.
     TooLarge(Name),
     /// The program isn't of a form that is built by now: the first address at which it isn't.

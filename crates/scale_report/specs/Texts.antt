@@ -52,6 +52,14 @@ field_name field.PhEntSize = codes "phentsize"
 field_name field.PhNum = codes "phnum"
 field_name field.ShEntSize = codes "shentsize"
 
+-- where an edge starts and leads to
+unfoldable pub from_to : ℕ → ℕ → List ℕ
+from_to a b = address a ++ codes " to " ++ address b
+
+-- a side entry of a loop
+unfoldable pub side_entry : ℕ → ℕ → ℕ → List ℕ
+side_entry k a b = codes "33 loop " ++ decimal k ++ codes " side entry " ++ from_to a b
+
 -- the addresses of a cycle, with a space before each
 abbrev pub spaced : List ℕ → List ℕ
 spaced addresses = flat_map (λ a. 32 ∷ address a) addresses
@@ -66,6 +74,7 @@ refusal_words (refusal.BadSegment k) = codes "5 bad segment: header " ++ decimal
 refusal_words (refusal.BadText a) = codes "6 bad text at " ++ address a
 refusal_words (refusal.WritableText a) = codes "7 writable text at " ++ address a
 refusal_words refusal.AlreadyScaled = codes "8 already scaled"
+refusal_words (refusal.StartLevel level levels) = codes "9 start level " ++ decimal level ++ codes " of " ++ decimal levels
 refusal_words refusal.MachineText = codes "10 machine file text"
 refusal_words (refusal.MachineKey name) = codes "11 machine file key " ++ name
 refusal_words (refusal.MachineValue name) = codes "12 machine file value " ++ name
@@ -73,6 +82,8 @@ refusal_words (refusal.LevelOrder k) = codes "13 level order " ++ decimal k
 refusal_words refusal.LoopText = codes "14 loop file text"
 refusal_words (refusal.LoopKey k name) = codes "15 loop " ++ decimal k ++ codes " key " ++ name
 refusal_words (refusal.LoopValue k name) = codes "16 loop " ++ decimal k ++ codes " value " ++ name
+refusal_words (refusal.UnknownSymbol k) = codes "17 loop " ++ decimal k ++ codes " symbol"
+refusal_words (refusal.TooManyLoops n) = codes "18 too many loops: " ++ decimal n
 refusal_words (refusal.IllegalWord a) = codes "20 illegal word at " ++ address a
 refusal_words (refusal.OutsideText a) = codes "21 outside text at " ++ address a
 refusal_words (refusal.MisalignedTarget a) = codes "22 misaligned target at " ++ address a
@@ -80,9 +91,18 @@ refusal_words (refusal.OddLink a) = codes "23 odd link at " ++ address a
 refusal_words (refusal.IndirectJump a) = codes "24 indirect jump at " ++ address a
 refusal_words (refusal.SharedCode a) = codes "25 shared code at " ++ address a
 refusal_words (refusal.Recursion cycle) = codes "26 recursion:" ++ spaced cycle
+refusal_words (refusal.HeaderNotReached k) = codes "30 loop " ++ decimal k ++ codes " header not reached"
+refusal_words (refusal.SameHeader j k) = codes "31 loops " ++ decimal j ++ codes " " ++ decimal k ++ codes " same header"
+refusal_words (refusal.NoBackEdge k) = codes "32 loop " ++ decimal k ++ codes " no back edge"
+refusal_words (refusal.SideEntry k a b) = side_entry k a b
+refusal_words (refusal.CrossingLoops j k) = codes "34 loops " ++ decimal j ++ codes " " ++ decimal k ++ codes " cross"
+refusal_words (refusal.TooDeep k) = codes "35 loop " ++ decimal k ++ codes " too deep"
 refusal_words (refusal.UnboundedCycle cycle) = codes "36 unbounded cycle:" ++ spaced cycle
 refusal_words refusal.TooLong = codes "40 worst cycles over 281474976710656"
 refusal_words (refusal.DeadlineMissed need have) = codes "41 deadline missed: need " ++ decimal need ++ codes " have " ++ decimal have
+refusal_words (refusal.Uncountable k a) = codes "42 loop " ++ decimal k ++ codes " uncountable at " ++ address a
+refusal_words (refusal.TooManyCounters n) = codes "43 too many counters: " ++ decimal n
+refusal_words (refusal.StubOutOfReach a) = codes "44 stub out of reach at " ++ address a
 refusal_words (refusal.TooLarge name) = codes "50 too large: " ++ name
 refusal_words (refusal.NotYet a) = codes "60 not yet at " ++ address a
 

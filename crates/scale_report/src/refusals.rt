@@ -1,6 +1,6 @@
 //! The words of each refusal.
 
-use crate::words::{Address, FieldName, Spaced};
+use crate::words::{Address, FieldName, SideEntry, Spaced};
 use scale_base::Refusal;
 use std::fmt;
 
@@ -24,6 +24,7 @@ impl fmt::Display for RefusalWords<'_> {
             Refusal::BadText(at) => write!(f, "6 bad text at {}", Address(*at)),
             Refusal::WritableText(at) => write!(f, "7 writable text at {}", Address(*at)),
             Refusal::AlreadyScaled => write!(f, "8 already scaled"),
+            Refusal::StartLevel(level, levels) => write!(f, "9 start level {level} of {levels}"),
             Refusal::MachineText => write!(f, "10 machine file text"),
             Refusal::MachineKey(name) => write!(f, "11 machine file key {}", name.text()),
             Refusal::MachineValue(name) => write!(f, "12 machine file value {}", name.text()),
@@ -31,6 +32,8 @@ impl fmt::Display for RefusalWords<'_> {
             Refusal::LoopText => write!(f, "14 loop file text"),
             Refusal::LoopKey(no, name) => write!(f, "15 loop {no} key {}", name.text()),
             Refusal::LoopValue(no, name) => write!(f, "16 loop {no} value {}", name.text()),
+            Refusal::UnknownSymbol(no) => write!(f, "17 loop {no} symbol"),
+            Refusal::TooManyLoops(count) => write!(f, "18 too many loops: {count}"),
             Refusal::IllegalWord(at) => write!(f, "20 illegal word at {}", Address(*at)),
             Refusal::OutsideText(at) => write!(f, "21 outside text at {}", Address(*at)),
             Refusal::MisalignedTarget(at) => write!(f, "22 misaligned target at {}", Address(*at)),
@@ -38,11 +41,24 @@ impl fmt::Display for RefusalWords<'_> {
             Refusal::IndirectJump(at) => write!(f, "24 indirect jump at {}", Address(*at)),
             Refusal::SharedCode(at) => write!(f, "25 shared code at {}", Address(*at)),
             Refusal::Recursion(cycle) => write!(f, "26 recursion:{}", Spaced(cycle)),
+            Refusal::HeaderNotReached(no) => write!(f, "30 loop {no} header not reached"),
+            Refusal::SameHeader(one, two) => write!(f, "31 loops {one} {two} same header"),
+            Refusal::NoBackEdge(no) => write!(f, "32 loop {no} no back edge"),
+            Refusal::SideEntry(no, from, to) => write!(f, "{}", SideEntry(*no, *from, *to)),
+            Refusal::CrossingLoops(one, two) => write!(f, "34 loops {one} {two} cross"),
+            Refusal::TooDeep(no) => write!(f, "35 loop {no} too deep"),
             Refusal::UnboundedCycle(cycle) => write!(f, "36 unbounded cycle:{}", Spaced(cycle)),
             Refusal::TooLong => write!(f, "40 worst cycles over 281474976710656"),
             Refusal::DeadlineMissed(need, have) => {
                 write!(f, "41 deadline missed: need {need} have {have}")
             }
+            Refusal::Uncountable(no, at) => write!(
+                f,
+                "42 loop {no} uncountable at {}",
+                Address(*at)
+            ),
+            Refusal::TooManyCounters(count) => write!(f, "43 too many counters: {count}"),
+            Refusal::StubOutOfReach(at) => write!(f, "44 stub out of reach at {}", Address(*at)),
             Refusal::TooLarge(name) => write!(f, "50 too large: {}", name.text()),
             Refusal::NotYet(at) => write!(f, "60 not yet at {}", Address(*at)),
         }

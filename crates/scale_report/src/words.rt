@@ -20,6 +20,42 @@ impl fmt::Display for Address {
     }
 }
 
+/// Where an edge starts and leads to.
+#[derive(Clone, Copy)]
+pub struct FromTo(pub u32, pub u32);
+
+impl fmt::Display for FromTo {
+    ghost use Rattle.std.specs.Prelude.{Some};
+    ghost use Rattle.scale_report.specs.Texts.{from_to};
+
+    ghost output = { λ pair. Some (from_to pair.0 pair.1) };
+
+    #[tactic(auto, unfolding(crate::specs::Texts::from_to))]
+    fn fmt<W: fmt::Write>(&self, f: &mut fmt::Formatter<W>) -> fmt::Result {
+        let from = Address(self.0);
+        let to = Address(self.1);
+        write!(f, "{from} to {to}")
+    }
+}
+
+/// A side entry: the loop, and the ends of the edge.
+#[derive(Clone, Copy)]
+pub struct SideEntry(pub u32, pub u32, pub u32);
+
+impl fmt::Display for SideEntry {
+    ghost use Rattle.std.specs.Prelude.{Some};
+    ghost use Rattle.scale_report.specs.Texts.{side_entry};
+
+    ghost output = { λ e. Some (side_entry e.0 e.1 e.2) };
+
+    #[tactic(auto, unfolding(crate::specs::Texts::side_entry))]
+    fn fmt<W: fmt::Write>(&self, f: &mut fmt::Formatter<W>) -> fmt::Result {
+        let loop_no = self.0;
+        let pair = FromTo(self.1, self.2);
+        write!(f, "33 loop {loop_no} side entry {pair}")
+    }
+}
+
 /// The name of a field of an ELF header.
 #[derive(Clone, Copy)]
 pub struct FieldName(pub Field);

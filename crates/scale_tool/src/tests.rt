@@ -1,5 +1,7 @@
 //! Whole runs over hosts in memory.
 
+mod loops;
+
 use crate::tool::run_tool;
 use host_files::{MemHost, NeverFails};
 use std::alloc::Global;
@@ -414,7 +416,7 @@ fn machine_and_loop_files_are_refused(rt: HostRuntime) -> Result<(), Fail> {
             DIV,
             2,
             "version = 1\nloop = 0\n",
-            "refused 60 not yet at 0x00000000\n",
+            "refused 16 loop 0 value loop\n",
         ),
     ];
     for (deadline, div, period, loops, text) in cases {

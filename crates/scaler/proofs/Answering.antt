@@ -13,12 +13,11 @@ use Rattle.scale_base.specs.Answer.{Answers, AnswersBy}
 use Rattle.scale_base.specs.Image.{Image}
 use Rattle.power_model.specs.Numbers.{PowerModel}
 use Rattle.power_model.specs.Price.{cycles_of}
-use Rattle.cost_theory.specs.Lists.{loops_of}
 use Rattle.cost_theory.specs.Worst.{Numbers}
 use Rattle.graph_runs.specs.Text.{text_of}
 use Rattle.code_graph.specs.FlowGraph.{FlowGraph, graph, IsGraphOf}
 use Rattle.loop_file.specs.declared.notes.LoopNote.{LoopNote}
-use Rattle.loop_tree.specs.Tree.{LoopView, IsTreeOf}
+use Rattle.loop_tree.specs.Tree.{LoopView, loops, IsTreeOf}
 use Rattle.worst_cycles.specs.Worst.{WorstView, by_edge, IsWorstFound}
 use Rattle.scaler.specs.Held.{IsHeldProgram, held_at, held_within}
 use Rattle.scaler.proofs.Files.{HoldAnswers}
@@ -43,15 +42,15 @@ within_true w h = grind (arith, nat_tests)
 -- too many worst cycles are refused
 pub too_long : (power : PowerModel) (image : Image) (notes : List LoopNote) (v : FlowGraph) (tree : LoopView) (ws : List ℕ) (refusal : Refusal) →
     IsGraphOf (text_of image) v → IsTreeOf v notes tree → ws ≡ listed_weights v (cycles_of power.costs) →
-    IsWorstFound (graph v) (loops_of tree.tree) (by_edge ws) (Err refusal) → IsHeldProgram power image notes (Err refusal)
+    IsWorstFound (graph v) (loops v tree) (by_edge ws) (Err refusal) → IsHeldProgram power image notes (Err refusal)
 too_long power image notes v tree ws refusal is built e h = inr (inr (record {
   code = v;
-  loops = tree;
+  tree = tree;
   numbers = h.1.0;
   code_is = is;
-  loops_are = built;
-  numbers_are = numbers_listed (text_of image) v (cycles_of power.costs) (loops_of tree.tree) h.1.0 is
-      (subst (λ (l : List ℕ). Rattle.cost_theory.specs.Worst.AreNumbers (graph v) (loops_of tree.tree) (by_edge l) h.1.0) e h.1.1);
+  tree_is = built;
+  numbers_are = numbers_listed (text_of image) v (cycles_of power.costs) (loops v tree) h.1.0 is
+      (subst (λ (l : List ℕ). Rattle.cost_theory.specs.Worst.AreNumbers (graph v) (loops v tree) (by_edge l) h.1.0) e h.1.1);
   answer_is = ap (λ r. Err r) h.0 ∙ sym (ap (λ b. cond b (Err TooLong) (held_at power image (h.1.0.worst 0))) (within_true (h.1.0.worst 0) h.1.2));
 }))
 
@@ -61,7 +60,7 @@ some_same e = cc
 -- the worst cycles decide
 pub held_by_worst : (power : PowerModel) (image : Image) (notes : List LoopNote) (v : FlowGraph) (tree : LoopView) (ws : List ℕ) (found : WorstView) (worst : ℕ) →
     IsGraphOf (text_of image) v → IsTreeOf v notes tree → ws ≡ listed_weights v (cycles_of power.costs) →
-    IsWorstFound (graph v) (loops_of tree.tree) (by_edge ws) (Ok found) → slice_get found.worst 0 ≡ Some worst →
+    IsWorstFound (graph v) (loops v tree) (by_edge ws) (Ok found) → slice_get found.worst 0 ≡ Some worst →
     (result : Result (Vec ℕ Global × Summary) Stop) → Answers (λ given. (given.0.items, given.1)) result (held_at power image worst) → AnswersBy (λ given. (given.0.items, given.1)) result (IsHeldProgram power image notes)
 held_by_worst power image notes v tree ws found worst is built e h total result given = answer result given
   where
@@ -77,12 +76,12 @@ held_by_worst power image notes v tree ws found worst is built e h total result 
     whole : (y : Result (List ℕ × Summary) Refusal) → held_at power image worst ≡ y → IsHeldProgram power image notes y
     whole y a = inr (inr (record {
       code = v;
-      loops = tree;
+      tree = tree;
       numbers = n;
       code_is = is;
-      loops_are = built;
-      numbers_are = numbers_listed (text_of image) v (cycles_of power.costs) (loops_of tree.tree) n is
-          (subst (λ (l : List ℕ). Rattle.cost_theory.specs.Worst.AreNumbers (graph v) (loops_of tree.tree) (by_edge l) n) e h.numbers.1);
+      tree_is = built;
+      numbers_are = numbers_listed (text_of image) v (cycles_of power.costs) (loops v tree) n is
+          (subst (λ (l : List ℕ). Rattle.cost_theory.specs.Worst.AreNumbers (graph v) (loops v tree) (by_edge l) n) e h.numbers.1);
       answer_is = sym (within ∙ a);
     }))
 

@@ -1,44 +1,18 @@
 -- From the files to the program: what stops, and what goes on.
-use Rattle.std.proofs.Common.{◌≡◌, ℕ, List, [], Option, Some, None, Result, Ok, Err, refl, sym, subst, codes}
+use Rattle.std.proofs.Common.{◌≡◌, ℕ, List, Result, Ok, Err, refl, sym, subst}
 use Rattle.std.specs.Prelude.{Vec}
 use Rattle.std.specs.declared.alloc.Global.{Global}
-use Rattle.toml.specs.Data.{Data, Members, get_member}
 use Rattle.scale_base.specs.declared.refusal.Refusal.{Refusal}
-use Rattle.scale_base.specs.declared.refusal.Refusal.TheVariants.{LoopText, LoopKey}
 use Rattle.scale_base.specs.declared.refusal.Stop.{Stop}
 use Rattle.scale_base.specs.declared.refusal.Stop.TheVariants.{Refused, Memory}
 use Rattle.scale_base.specs.declared.summary.Summary.{Summary}
 use Rattle.scale_base.specs.Answer.{AnswersBy, Stops}
 use Rattle.scale_base.specs.Image.{Image, image_of}
 use Rattle.power_model.specs.Numbers.{PowerModel}
-use Rattle.table_keys.specs.Keys.{document_of, least_unknown, or_refuse, none_or_refuse, ◌>>=◌}
 use Rattle.machine_file.specs.Machine.{read_machine}
 use Rattle.loop_file.specs.declared.notes.LoopNote.{LoopNote}
-use Rattle.loop_file.specs.Loops.{read_loops, notes_of, loops_at, checked_version, file_keys}
+use Rattle.loop_file.specs.Loops.{read_loops}
 use Rattle.scaler.specs.Held.{IsHeld, IsHeldProgram, Then, unscaled}
-
--- ---- loop files name no loops
-
-bound : {A B E : Type 0} (r : Result A E) (f : A → Result B E) (y : B) → (r >>= f) ≡ Ok y → (x : A) × (r ≡ Ok x) × (f x ≡ Ok y)
-bound (Ok x) f y e = (x, refl, e)
-bound (Err z) f y e = absurd cc
-
-none_at : (loops : Option Data) (notes : List LoopNote) → loops_at loops ≡ Ok notes → notes ≡ []
-none_at None notes e = cc
-none_at (Some loops) notes e = absurd cc
-
-none_of : (table : Members) (notes : List LoopNote) → notes_of table ≡ Ok notes → notes ≡ []
-unfolding notes_of
-none_of table notes e =
-    let a = bound (checked_version table) _ notes e in
-    let b = bound (none_or_refuse (LoopKey 0) (least_unknown file_keys table)) _ notes a.2 in
-    none_at (get_member (codes "loop") table) notes b.2
-
-pub none_read : (loops : List ℕ) (notes : List LoopNote) → read_loops loops ≡ Ok notes → notes ≡ []
-unfolding read_loops
-none_read loops notes e =
-    let a = bound (or_refuse LoopText (document_of loops)) notes_of notes e in
-    none_of a.0 notes a.2
 
 -- ---- the parts in their order
 
@@ -70,13 +44,13 @@ key_stops image machine loops power original refusal a b h =
     then_goes (read_machine machine) power _ (Err (Refused refusal)) a (then_goes (image_of image) original _ (Err (Refused refusal)) b (then_stops (unscaled original.keyed_segment) _ (Refused refusal) h))
 
 pub loops_stop : (image machine loops : List ℕ) (power : PowerModel) (original : Image) (stop : Stop) → read_machine machine ≡ Ok power → image_of image ≡ Ok original → unscaled original.keyed_segment ≡ Ok tt →
-    Stops stop (read_loops loops) → HoldAnswers (Err stop) (IsHeld image machine loops)
+    Stops stop (read_loops original loops) → HoldAnswers (Err stop) (IsHeld image machine loops)
 unfolding IsHeld
 loops_stop image machine loops power original stop a b c h =
-    then_goes (read_machine machine) power _ (Err stop) a (then_goes (image_of image) original _ (Err stop) b (then_goes (unscaled original.keyed_segment) tt _ (Err stop) c (then_stops (read_loops loops) _ stop h)))
+    then_goes (read_machine machine) power _ (Err stop) a (then_goes (image_of image) original _ (Err stop) b (then_goes (unscaled original.keyed_segment) tt _ (Err stop) c (then_stops (read_loops original loops) _ stop h)))
 
 pub program_answers : (image machine loops : List ℕ) (power : PowerModel) (original : Image) (notes : List LoopNote) (result : Result (Vec ℕ Global × Summary) Stop) → read_machine machine ≡ Ok power → image_of image ≡ Ok original →
-    unscaled original.keyed_segment ≡ Ok tt → read_loops loops ≡ Ok notes → HoldAnswers result (IsHeldProgram power original notes) → HoldAnswers result (IsHeld image machine loops)
+    unscaled original.keyed_segment ≡ Ok tt → read_loops original loops ≡ Ok notes → HoldAnswers result (IsHeldProgram power original notes) → HoldAnswers result (IsHeld image machine loops)
 unfolding IsHeld
 program_answers image machine loops power original notes result a b c d h =
-    then_goes (read_machine machine) power _ result a (then_goes (image_of image) original _ result b (then_goes (unscaled original.keyed_segment) tt _ result c (then_goes (read_loops loops) notes _ result d h)))
+    then_goes (read_machine machine) power _ result a (then_goes (image_of image) original _ result b (then_goes (unscaled original.keyed_segment) tt _ result c (then_goes (read_loops original loops) notes _ result d h)))

@@ -6,7 +6,6 @@ use Rattle.scale_base.specs.declared.stepping.Class.{Class}
 use Rattle.cost_theory.specs.declared.edges.Edge.{Edge}
 use Rattle.cost_theory.specs.Graph.{Graph, Loops}
 use Rattle.cost_theory.specs.Accepted.{AreWeights}
-use Rattle.cost_theory.specs.Lists.{loops_of}
 use Rattle.cost_theory.specs.Worst.{Numbers, AreNumbers}
 use Rattle.graph_runs.specs.Text.{Text}
 use Rattle.graph_runs.specs.EdgeCosts.{edge_class, cost_of, weights}
@@ -18,7 +17,8 @@ use Rattle.cost_theory.specs.Accepted.{AreAccepted, HasNoRecursion}
 use Rattle.loop_file.specs.declared.notes.LoopNote.{LoopNote}
 use Rattle.loop_file.specs.Kept.{noted_loops, note_at}
 use Rattle.code_graph.specs.FlowGraph.{FlowGraph, graph, IsGraphOf}
-use Rattle.loop_tree.specs.Tree.{LoopView, IsTreeOf}
+use Rattle.natural_loops.specs.Noted.{node_address}
+use Rattle.loop_tree.specs.Tree.{LoopView, loops, IsTreeOf}
 use Rattle.worst_cycles.specs.Worst.{by_edge}
 
 -- ---- weights
@@ -76,16 +76,16 @@ bound_noted (n ∷ ns) (suc k) = bound_noted ns k
 abbrev noted : List LoopNote → ℕ → (ℕ → ℕ) → (ℕ → ℕ) → Loops
 noted notes count header bound = record { loops = count; header = header; bound = bound; inside = (noted_loops notes).inside }
 
-pub loops_noted : (v : FlowGraph) (notes : List LoopNote) (t : LoopView) → IsTreeOf v notes t → by_extents (loops_of t.tree) (noted_loops notes).inside ≡ noted_loops notes
+pub loops_noted : (v : FlowGraph) (notes : List LoopNote) (t : LoopView) → IsTreeOf v notes t → by_extents (loops v t) (noted_loops notes).inside ≡ noted_loops notes
 loops_noted v notes t is =
-    ap (λ n. noted notes n (λ k. slice_index t.tree.headers k) (λ k. slice_index t.tree.bounds k)) (ap length is.headers ∙ count_noted notes)
-    ∙ (ap (λ f. noted notes (length notes) f (λ k. slice_index t.tree.bounds k)) (fun_ext (λ k. ap (λ hs. slice_index hs k) is.headers ∙ header_noted notes k))
+    ap (λ n. noted notes n (λ k. slice_index (map (node_address v) t.headers) k) (λ k. slice_index t.bounds k)) (ap length is.headers ∙ count_noted notes)
+    ∙ (ap (λ f. noted notes (length notes) f (λ k. slice_index t.bounds k)) (fun_ext (λ k. ap (λ hs. slice_index hs k) is.headers ∙ header_noted notes k))
     ∙ ap (λ f. noted notes (length notes) (noted_loops notes).header f) (fun_ext (λ k. ap (λ bs. slice_index bs k) is.bounds ∙ bound_noted notes k)))
 
 -- the program that the laws of runs speak of
-pub program_of : (t : Text) (v : FlowGraph) (notes : List LoopNote) (tree : LoopView) → IsGraphOf t v → IsTreeOf v notes tree → IsProgramOf t v.code (loops_of tree.tree) (noted_loops notes).inside
+pub program_of : (t : Text) (v : FlowGraph) (notes : List LoopNote) (tree : LoopView) → IsGraphOf t v → IsTreeOf v notes tree → IsProgramOf t v.code (loops v tree) (noted_loops notes).inside
 program_of t v notes tree is built = record {
   reached = is.reached;
   calls = subst (λ (g : Graph). HasNoRecursion g) (sym is.graph_is) is.flow.program.no_recursion;
-  loops = subst (λ (g : Graph). AreAccepted g (loops_of tree.tree) (noted_loops notes).inside) (sym is.graph_is) built.loops.accepted;
+  loops = subst (λ (g : Graph). AreAccepted g (loops v tree) (noted_loops notes).inside) (sym is.graph_is) built.tree.accepted;
 }

@@ -22,7 +22,7 @@ use Rattle.elf_patch.specs.Stored.{stored_image}
 use Rattle.image_laws.specs.Laws.{held_base}
 use Rattle.image_laws.proofs.Law.{a_held_image}
 use Rattle.text_laws.proofs.Tests.{found_in}
-use Rattle.cost_theory.specs.Lists.{loops_of}
+use Rattle.loop_tree.specs.Tree.{loops as tree_loops}
 use Rattle.graph_runs.specs.Text.{text_of}
 use Rattle.graph_runs.specs.KeptSteps.{Carried}
 use Rattle.graph_runs.specs.KeptRuns.{kept_of}
@@ -53,7 +53,7 @@ pub record WentThrough (image machine loops : List ℕ) (given : List ℕ × Sum
   pub power_is : read_machine machine ≡ Ok power
   pub original_is : image_of image ≡ Ok original
   pub no_key : original.keyed_segment ≡ None
-  pub notes_are : read_loops loops ≡ Ok notes
+  pub notes_are : read_loops original loops ≡ Ok notes
   pub program : IsProgramHeld power original notes (Ok given)
 
 held_program : (power : PowerModel) (original : Image) (notes : List LoopNote) (given : List ℕ × Summary) → IsHeldProgram power original notes (Ok given) → IsProgramHeld power original notes (Ok given)
@@ -67,7 +67,7 @@ went_through image machine loops given h =
     let a = then_ok (read_machine machine) _ given h in
     let b = then_ok (image_of image) _ given a.2 in
     let c = then_ok (unscaled b.0.keyed_segment) _ given b.2 in
-    let d = then_ok (read_loops loops) _ given c.2 in
+    let d = then_ok (read_loops b.0 loops) _ given c.2 in
     record {
       power = a.0;
       original = b.0;
@@ -141,16 +141,16 @@ safe image machine loops stored summary short _ _ h =
     ap (λ (g : List ℕ × Summary). g.0) started.given_is ∙ ap (λ f. stored_image f [] base [] level) (file_is image original went.original_is) in
     let numbers : summary ≡ held_summary power worst level = ap (λ (g : List ℕ × Summary). g.1) started.given_is in
     let alike = runs_alike image original held base level levels went.no_key lawful in
-    let program = program_of (text_of original) p.code notes p.loops p.code_is p.loops_are in
+    let program = program_of (text_of original) p.code notes p.tree p.code_is p.tree_is in
     let carried = λ (input : List ℕ) (n : ℕ) (c : Carried) (k : kept_of original levels input (noted_loops notes) n ≡ Some c).
-    ap (λ l. kept_of original levels input l n) (loops_noted p.code notes p.loops p.loops_are) ∙ k in
+    ap (λ l. kept_of original levels input l n) (loops_noted p.code notes p.tree p.tree_is) ∙ k in
     let below = λ (input : List ℕ) (n : ℕ) (k : IsKeptUpTo original levels input notes n).
-    image_runs_are_below image original levels input p.code.code (loops_of p.loops.tree) (noted_loops notes).inside (cycles_of power.costs) p.numbers went.original_is program p.numbers_are
+    image_runs_are_below image original levels input p.code.code (tree_loops p.code p.tree) (noted_loops notes).inside (cycles_of power.costs) p.numbers went.original_is program p.numbers_are
     n k.carried (carried input n k.carried k.kept) in
     let kept : KeptAsPrinted power original notes held (held_summary power worst level) = λ input n k.
     printed power image original held base level worst input n went.no_key lawful started.slow (below input n k) in
     let ends : KeptRunsEnd power original notes held (held_summary power worst level) = λ input n k goes.
-    image_runs_end image original levels input p.code.code (loops_of p.loops.tree) (noted_loops notes).inside (cycles_of power.costs) p.numbers went.original_is program p.numbers_are
+    image_runs_end image original levels input p.code.code (tree_loops p.code p.tree) (noted_loops notes).inside (cycles_of power.costs) p.numbers went.original_is program p.numbers_are
     (each_positive power.costs model.costs) n k.carried (carried input n k.carried k.kept) (sym (alike input n).standing ∙ goes) in
     let P : Summary → Type 0 = λ s. KeptAsPrinted power original notes held s × KeptRunsEnd power original notes held s in
     let both : P summary = subst P (sym numbers) (kept, ends) in

@@ -14,14 +14,13 @@ use Rattle.loop_file.specs.declared.notes.LoopNote.{LoopNote}
 use Rattle.loop_file.specs.Loops.{read_loops}
 use Rattle.elf_patch.specs.Stored.{stored_image}
 use Rattle.image_laws.specs.Laws.{held_base}
-use Rattle.cost_theory.specs.Lists.{loops_of}
 use Rattle.cost_theory.specs.Worst.{Numbers, AreNumbers}
 use Rattle.graph_runs.specs.Text.{text_of}
 use Rattle.graph_runs.specs.EdgeCosts.{weights}
 use Rattle.graph_runs.specs.RunMoves.{text_graph}
 use Rattle.code_graph.specs.FlowGraph.{FlowGraph, IsGraphOf}
 use Rattle.code_graph.specs.Refused.{IsRefusedBy}
-use Rattle.loop_tree.specs.Tree.{LoopView, IsTreeOf, IsTreeRefusal}
+use Rattle.loop_tree.specs.Tree.{LoopView, loops, IsTreeOf, IsTreeRefusal}
 
 -- ---- what is stored at a number of worst cycles
 
@@ -73,11 +72,11 @@ pub record IsLoopRefused (image : Image) (notes : List LoopNote) (answer : Resul
 -- it is a program with loops, under the costs of its instructions, and its worst cycles decide
 pub record IsProgramHeld (power : PowerModel) (image : Image) (notes : List LoopNote) (answer : Result (List ℕ × Summary) Refusal) : Type 0 where
   pub code : FlowGraph
-  pub loops : LoopView
+  pub tree : LoopView
   pub numbers : Numbers
   pub code_is : IsGraphOf (text_of image) code
-  pub loops_are : IsTreeOf code notes loops
-  pub numbers_are : AreNumbers (text_graph (text_of image) code.code) (loops_of loops.tree) (weights (text_of image) code.code (cycles_of power.costs)) numbers
+  pub tree_is : IsTreeOf code notes tree
+  pub numbers_are : AreNumbers (text_graph (text_of image) code.code) (loops code tree) (weights (text_of image) code.code (cycles_of power.costs)) numbers
   pub answer_is : answer ≡ held_within power image (numbers.worst 0)
 
 abbrev pub IsHeldProgram : PowerModel → Image → List LoopNote → Result (List ℕ × Summary) Refusal → Type 0
@@ -102,5 +101,5 @@ IsHeld image machine loops answer =
     Then (read_machine machine) (λ power.
     Then (image_of image) (λ original.
     Then (unscaled original.keyed_segment) (λ _.
-    Then (read_loops loops) (λ notes.
+    Then (read_loops original loops) (λ notes.
     IsHeldProgram power original notes)))) answer

@@ -56,7 +56,7 @@ pub record IsHeldSafely (image machine loops stored : List ℕ) (summary : Summa
   pub held : Image
   pub power_is : read_machine machine ≡ Ok power
   pub original_is : image_of image ≡ Ok original
-  pub notes_are : read_loops loops ≡ Ok notes
+  pub notes_are : read_loops original loops ≡ Ok notes
   pub held_is : image_of stored ≡ Ok held
   pub runs : RunAlike original held (length power.levels)
   pub kept : KeptAsPrinted power original notes held summary

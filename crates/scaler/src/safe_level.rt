@@ -99,7 +99,6 @@ fn hold_program(
 ) -> Result<(Vec<u8>, Summary), Stop>
     requires file { length view.now.file ≤ 4194304 }
     requires no_key { view.now.keyed_segment ≡ None }
-    requires no_notes { notes.now ≡ [] }
     ensures { AnswersBy (λ given. (given.0.items, given.1)) result (held.IsHeldProgram power.now view.now notes.now) }
 {
     let graph = build_graph(alloc, view)?;

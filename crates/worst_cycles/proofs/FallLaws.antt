@@ -1,24 +1,28 @@
 -- What is needed for an edge lies below its node: so the arcs of needs have no cycle.
-use Rattle.std.proofs.Common.{◌≡◌, ℕ, ◌+◌, ◌-◌, ◌*◌, ◌<◌, ◌≤◌, List, length, slice_index, Some, refl, sym, ap, ◌∙◌, subst, arith, ⊎_elim, mul-le-mul_right}
+use Rattle.std.proofs.lemmas.List.{length-map}
+use Rattle.std.proofs.Common.{Bool, true, false, map, slice_get, ◌≡◌, ℕ, ◌+◌, ◌-◌, ◌*◌, ◌<◌, ◌≤◌, List, length, slice_index, Some, refl, sym, ap, ◌∙◌, subst, arith, ⊎_elim, mul-le-mul_right}
 use Rattle.std.proofs.lemmas.Option.{slice_get-get_or, get_or_from_slice_get}
 use Rattle.call_orders.specs.declared.Arc.{Arc}
 use Rattle.call_orders.specs.Arcs.{arc_at, number_at, HasArc, Leads, HasNoCycle}
 use Rattle.call_orders.specs.Arcs.Leads.{along, onward}
-use Rattle.cost_theory.specs.Graph.{Graph, Loops}
+use Rattle.cost_theory.specs.Graph.{Graph, Loops, IsPlain, is_back}
 use Rattle.cost_theory.specs.Accepted.{IsProgram, IsCallOrder, IsPlainOrder}
 use Rattle.cost_theory.proofs.OrdersExist as exist
 use Rattle.code_graph.specs.FlowGraph.{FlowGraph, graph, IsFlowGraph}
-use Rattle.worst_cycles.specs.Needs.{AreEntries, LeadsToNode, CallsNode, IsNeeded, AreNeeds, NeedsNoLoop}
+use Rattle.natural_loops.specs.Noted.{node_address}
+use Rattle.loop_tree.specs.Arcs.{IsPlainBy}
+use Rattle.loop_tree.specs.Tree.{LoopView, loops, IsLoopTree}
+use Rattle.worst_cycles.specs.Needs.{AreEntries, LeadsPlainly, CallsNode, IsNeeded, AreNeeds, HasTree}
 
 -- by the place of its function first, and by its own place then
 abbrev height : Graph → (ℕ → ℕ) → ℕ → (ℕ → ℕ) → ℕ → ℕ
 height g rank count place at = rank (g.owner at) * count + (count - place at)
 
-led_falls : (g : Graph) (l : Loops) (rank : ℕ → ℕ) (count : ℕ) (place : ℕ → ℕ) → IsProgram g → l.loops ≡ 0 → IsPlainOrder g l count place →
-    (e to : ℕ) → e < g.edges → g.target e ≡ Some to → height g rank count place to < height g rank count place (g.source e)
-led_falls g l rank count place prog none is e to lt leads =
+led_falls : (g : Graph) (l : Loops) (rank : ℕ → ℕ) (count : ℕ) (place : ℕ → ℕ) → IsProgram g → IsPlainOrder g l count place →
+    (e to : ℕ) → e < g.edges → IsPlain g l e → g.target e ≡ Some to → height g rank count place to < height g rank count place (g.source e)
+led_falls g l rank count place prog is e to lt plain leads =
     let stays = prog.stays e to lt leads in
-    let rises : place (g.source e) < place to = is.rises e to lt (λ k kl. let bad : ⊥ = omega arith in absurd bad) leads in
+    let rises : place (g.source e) < place to = is.rises e to lt (plain) leads in
     let below : place to < count = is.below to stays.0 in
     let same : rank (g.owner to) * count ≡ rank (g.owner (g.source e)) * count = ap (λ f. rank f * count) stays.1 in
     omega arith
@@ -36,26 +40,37 @@ leads_falls : (arcs : List Arc) (at : ℕ → ℕ) → ((a b : ℕ) → HasArc a
 leads_falls arcs at falls a b (along h) = falls a b h
 leads_falls arcs at falls a c (onward b h leads) = let low : at b < at a = falls a b h in let more : at c < at b = leads_falls arcs at falls b c leads in omega arith
 
-need_falls : (v : FlowGraph) (entries : List ℕ) (l : Loops) (rank : ℕ → ℕ) (count : ℕ) (place : ℕ → ℕ) → IsFlowGraph v → AreEntries v entries → l.loops ≡ 0 → IsPlainOrder (graph v) l count place → IsCallOrder (graph v) rank →
-    (e t : ℕ) → e < length v.code.edges → IsNeeded v entries e t → height (graph v) rank count place (slice_index v.code.nodes t) < height (graph v) rank count place ((graph v).source e)
-need_falls v entries l rank count place flow are none is calls e t lt need = ⊎_elim
-    (λ (led : LeadsToNode v e t). led_falls (graph v) l rank count place flow.program none is e (slice_index v.code.nodes t) lt (led.0 ∙ slice_get-get_or v.code.nodes t 0 led.1))
-    (λ (called : CallsNode v entries e t).
-    let at : (graph v).entry called.0 ≡ slice_index v.code.nodes t =
+-- an edge that a list has as no back edge is plain
+pub plain_by : (v : FlowGraph) (t : LoopView) (extent : ℕ → ℕ → Bool) → IsLoopTree v extent t → (e : ℕ) → e < length v.code.edges → IsPlainBy t.backs e → IsPlain (graph v) (loops v t) e
+plain_by v t extent is e lt plain k kl = go (is_back (graph v) (loops v t) k e) refl
+  where
+    go : (b : Bool) → is_back (graph v) (loops v t) k e ≡ b → is_back (graph v) (loops v t) k e ≡ false
+    go true back = let size : length (map (node_address v) t.headers) ≡ length t.headers = length-map t.headers (node_address v) in
+        let low : k < length t.headers = omega arith in
+        let here : slice_get t.backs e ≡ Some (Some k) = (is.backs e k).1 (lt, low, back) in
+        let bad : ⊥ = cc in absurd bad
+    go false back = back
+
+need_falls : (v : FlowGraph) (t : LoopView) (extent : ℕ → ℕ → Bool) (entries : List ℕ) (rank : ℕ → ℕ) (count : ℕ) (place : ℕ → ℕ) → IsFlowGraph v → AreEntries v entries → IsLoopTree v extent t → IsPlainOrder (graph v) (loops v t) count place → IsCallOrder (graph v) rank →
+    (e n : ℕ) → e < length v.code.edges → IsNeeded v t.backs entries e n → height (graph v) rank count place (slice_index v.code.nodes n) < height (graph v) rank count place ((graph v).source e)
+need_falls v t extent entries rank count place flow are tree is calls e n lt need = ⊎_elim
+    (λ (led : LeadsPlainly v t.backs e n). led_falls (graph v) (loops v t) rank count place flow.program is e (slice_index v.code.nodes n) lt (plain_by v t extent tree e lt led.0) (led.1.0 ∙ slice_get-get_or v.code.nodes n 0 led.1.1))
+    (λ (called : CallsNode v entries e n).
+    let at : (graph v).entry called.0 ≡ slice_index v.code.nodes n =
     sym (get_or_from_slice_get v.code.nodes (number_at entries called.0) _ 0 (are.each called.0 (flow.program.callee_function e called.0 lt called.1))) ∙ ap (slice_index v.code.nodes) (sym called.2) in
     subst (λ x. height (graph v) rank count place x < height (graph v) rank count place ((graph v).source e)) at
-    (called_falls (graph v) l rank count place flow.program is calls e called.0 lt called.1))
+    (called_falls (graph v) (loops v t) rank count place flow.program is calls e called.0 lt called.1))
     need
 
-pub no_needs_round : (v : FlowGraph) (entries : List ℕ) (n : ℕ) (arcs : List Arc) → IsFlowGraph v → AreEntries v entries → NeedsNoLoop v → AreNeeds v entries n arcs → HasNoCycle arcs
-no_needs_round v entries n arcs flow are loopless needs a leads =
-    let plain = exist.plain_order (graph v) flow.program loopless.0 loopless.1 loopless.3 in
+pub no_needs_round : (v : FlowGraph) (t : LoopView) (entries : List ℕ) (n : ℕ) (arcs : List Arc) → IsFlowGraph v → AreEntries v entries → HasTree v t → AreNeeds v t.backs entries n arcs → HasNoCycle arcs
+no_needs_round v t entries n arcs flow are tree needs a leads =
+    let plain = exist.plain_order (graph v) flow.program (loops v t) tree.0 tree.1.accepted in
     let calls = exist.call_order (graph v) flow.program in
     let at : ℕ → ℕ = λ k. height (graph v) calls.0 plain.0 plain.1.0 (slice_index v.code.nodes k) in
     let falls : (a b : ℕ) → HasArc arcs a b → at b < at a = λ a b h.
     let s = needs.each h.0 h.1 in
     let from_is : (graph v).source s.0 ≡ slice_index v.code.nodes a = sym (get_or_from_slice_get v.code.nodes (arc_at arcs h.0).from _ 0 s.2) ∙ ap (slice_index v.code.nodes) h.2 in
-    let low : at (arc_at arcs h.0).to < height (graph v) calls.0 plain.0 plain.1.0 ((graph v).source s.0) = need_falls v entries loopless.0 calls.0 plain.0 plain.1.0 flow are loopless.2 plain.1.1 calls.1 s.0 (arc_at arcs h.0).to s.1 s.3 in
+    let low : at (arc_at arcs h.0).to < height (graph v) calls.0 plain.0 plain.1.0 ((graph v).source s.0) = need_falls v t tree.0 entries calls.0 plain.0 plain.1.0 flow are tree.1 plain.1.1 calls.1 s.0 (arc_at arcs h.0).to s.1 s.3 in
     subst (λ x. at b < height (graph v) calls.0 plain.0 plain.1.0 x) from_is (subst (λ y. at y < height (graph v) calls.0 plain.0 plain.1.0 ((graph v).source s.0)) h.3 low) in
     let bad : at a < at a = leads_falls arcs at falls a a leads in
     let no_way : ⊥ = omega arith in no_way

@@ -1,6 +1,11 @@
-mod MostLaws
-mod LeftLaws
 mod NeedLaws
 mod FallLaws
-mod PassLaws
+mod HeaderLaws
+mod BodyLaws
+mod PlanLaws
+mod OverLaws
+mod RestLaws
+mod SearchLaws
+mod IterationLaws
+mod VisitLaws
 mod WorstLaws

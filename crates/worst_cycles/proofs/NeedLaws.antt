@@ -1,34 +1,43 @@
 -- Arcs from the nodes of edges to what is needed for these.
-use Rattle.std.proofs.Common.{◌≡◌, ℕ, ◌+◌, ◌-◌, ◌<◌, ◌≤◌, inl, inr, List, [], ◌∷◌, ◌++◌, length, length-append, slice_get, Some, None, is_some, refl, sym, ap, ◌∙◌, subst, arith, ⊎_elim, true}
+use Rattle.std.proofs.Common.{◌≡◌, ℕ, ◌+◌, ◌-◌, ◌<◌, ◌≤◌, inl, inr, Option, List, [], ◌∷◌, ◌++◌, length, length-append, slice_get, Some, None, is_some, refl, sym, ap, ◌∙◌, subst, arith, ⊎_elim, true}
 use Rattle.std.proofs.lemmas.Bool.{cases_lt}
 use Rattle.std.proofs.lemmas.List.{get_or_append_left, get_or-append_right}
 use Rattle.std.proofs.lemmas.Option.{slice_get_within, slice_get-get_or, same_Some, none-some}
 use Rattle.call_orders.specs.declared.Arc.{Arc}
-use Rattle.call_orders.specs.Arcs.{arc_at, number_at, AreNumbered, IsSorted}
+use Rattle.call_orders.specs.Arcs.{arc_at, number_at, AreDistinct, AreNumbered, IsSorted}
 use Rattle.code_graph.specs.FlowGraph.{FlowGraph, graph, IsFlowGraph}
-use Rattle.loop_tree.specs.Arcs.{AreEdgeArcs}
-use Rattle.loop_tree.proofs.NodeLaws.{one_number}
-use Rattle.loop_tree.proofs.OrderLaws.{one_place}
-use Rattle.worst_cycles.specs.Needs.{AreEntries, LeadsToNode, CallsNode, IsNeeded, StartsAtNode, AreNeeds, IsNeededFirst}
+use Rattle.loop_tree.specs.Arcs.{ArePlainArcs}
+use Rattle.natural_loops.proofs.NodeLaws.{one_number}
+use Rattle.worst_cycles.specs.Needs.{AreEntries, LeadsToNode, LeadsPlainly, CallsNode, IsNeeded, StartsAtNode, AreNeeds, IsNeededFirst}
+
+-- a number has one place
+pub one_place : (order : List ℕ) → AreDistinct order → (i j : ℕ) → i < length order → j < length order → number_at order i ≡ number_at order j → i ≡ j
+one_place order distinct i j il jl same = ⊎_elim
+    (λ (lt : i < j). absurd (distinct i j lt jl same))
+    (λ (le : j ≤ i). ⊎_elim
+    (λ (lt : j < i). absurd (distinct j i lt il (sym same)))
+    (λ (ge : i ≤ j). let e : i ≡ j = omega arith in e)
+    (cases_lt j i))
+    (cases_lt i j)
 
 -- a node to which an edge leads makes its target one
 is_led : (v : FlowGraph) (e t : ℕ) → LeadsToNode v e t → is_some ((graph v).target e) ≡ true
 is_led v e t led = ap is_some (led.0 ∙ slice_get-get_or v.code.nodes t 0 led.1)
 
-pub edges_needed : (v : FlowGraph) (entries : List ℕ) (arcs : List Arc) → IsFlowGraph v → AreEdgeArcs v (length v.code.edges) arcs → AreNeeds v entries 0 arcs
-edges_needed v entries arcs flow are = record {
+pub edges_needed : (v : FlowGraph) (backs : List (Option ℕ)) (entries : List ℕ) (arcs : List Arc) → IsFlowGraph v → ArePlainArcs v backs (length v.code.edges) arcs → AreNeeds v backs entries 0 arcs
+edges_needed v backs entries arcs flow are = record {
   few = let few = are.few in omega arith;
-  each = λ s lt. let h = are.edge s lt in (h.0, h.1, h.2.source, inl (h.2.target, h.2.within));
+  each = λ s lt. let h = are.edge s lt in (h.0, h.1, h.3.source, inl (h.2, (h.3.target, h.3.within)));
   led = λ e t lt led.
-      let s = are.whole e lt (is_led v e t led) in
-      let here : slice_get v.code.nodes t ≡ Some _ = slice_get-get_or v.code.nodes t 0 led.1 in
-      (s.0, s.1, s.2.source, one_number v flow (arc_at arcs s.0).to t _ (sym s.2.target ∙ led.0 ∙ here) here);
+      let s = are.whole e lt led.0 (is_led v e t led.1) in
+      let here : slice_get v.code.nodes t ≡ Some _ = slice_get-get_or v.code.nodes t 0 led.1.1 in
+      (s.0, s.1, s.2.source, one_number v flow (arc_at arcs s.0).to t _ (sym s.2.target ∙ led.1.0 ∙ here) here);
   called = λ e t lt called. let bad : ⊥ = omega arith in absurd bad;
 }
 
 -- edge n calls no function
-pub need_skipped : (v : FlowGraph) (entries : List ℕ) (n : ℕ) (arcs : List Arc) → AreNeeds v entries n arcs → (graph v).callee n ≡ None → AreNeeds v entries (n + 1) arcs
-need_skipped v entries n arcs are none = record {
+pub need_skipped : (v : FlowGraph) (backs : List (Option ℕ)) (entries : List ℕ) (n : ℕ) (arcs : List Arc) → AreNeeds v backs entries n arcs → (graph v).callee n ≡ None → AreNeeds v backs entries (n + 1) arcs
+need_skipped v backs entries n arcs are none = record {
   few = let few = are.few in omega arith;
   each = are.each;
   led = are.led;
@@ -38,13 +47,13 @@ need_skipped v entries n arcs are none = record {
 }
 
 -- edge n calls function f
-pub need_added : (v : FlowGraph) (entries : List ℕ) (n : ℕ) (arcs : List Arc) (arc : Arc) (f : ℕ) → AreNeeds v entries n arcs → n < length v.code.edges → StartsAtNode v n arc.from → (graph v).callee n ≡ Some f → arc.to ≡ number_at entries f →
-    AreNeeds v entries (n + 1) (arcs ++ arc ∷ [])
-need_added v entries n arcs arc f are below starts calls to =
+pub need_added : (v : FlowGraph) (backs : List (Option ℕ)) (entries : List ℕ) (n : ℕ) (arcs : List Arc) (arc : Arc) (f : ℕ) → AreNeeds v backs entries n arcs → n < length v.code.edges → StartsAtNode v n arc.from → (graph v).callee n ≡ Some f → arc.to ≡ number_at entries f →
+    AreNeeds v backs entries (n + 1) (arcs ++ arc ∷ [])
+need_added v backs entries n arcs arc f are below starts calls to =
     let size : length (arcs ++ arc ∷ []) ≡ length arcs + 1 = length-append arcs (arc ∷ []) in
     let left : (s : ℕ) → s < length arcs → arc_at arcs s ≡ arc_at (arcs ++ arc ∷ []) s = λ s lt. sym (get_or_append_left arcs (arc ∷ []) _ s lt) in
     let last : (s : ℕ) → s ≡ length arcs → arc ≡ arc_at (arcs ++ arc ∷ []) s = λ s e. sym (get_or-append_right arcs (arc ∷ []) s s _ (sym e) (omega arith) ∙ ap (arc_at (arc ∷ [])) (let z : s - s ≡ 0 = omega arith in z)) in
-    let P : ℕ → Arc → Type 0 = λ e a. StartsAtNode v e a.from × IsNeeded v entries e a.to in
+    let P : ℕ → Arc → Type 0 = λ e a. StartsAtNode v e a.from × IsNeeded v backs entries e a.to in
     let Q : ℕ → ℕ → Arc → Type 0 = λ e t a. StartsAtNode v e a.from × (a.to ≡ t) in
     record {
       few = let few = are.few in omega arith;
@@ -63,26 +72,27 @@ need_added v entries n arcs arc f are below starts calls to =
           (cases_lt e n);
     }
 
-needed_within : (v : FlowGraph) (entries : List ℕ) (e t : ℕ) → IsFlowGraph v → AreEntries v entries → e < length v.code.edges → IsNeeded v entries e t → t < length v.code.nodes
-needed_within v entries e t flow are lt need = ⊎_elim
-    (λ (led : LeadsToNode v e t). led.1)
+needed_within : (v : FlowGraph) (backs : List (Option ℕ)) (entries : List ℕ) (e t : ℕ) → IsFlowGraph v → AreEntries v entries → e < length v.code.edges → IsNeeded v backs entries e t → t < length v.code.nodes
+needed_within v backs entries e t flow are lt need = ⊎_elim
+    (λ (led : LeadsPlainly v backs e t). led.1.1)
     (λ (called : CallsNode v entries e t).
     let f = flow.program.callee_function e called.0 lt called.1 in
     let within : number_at entries called.0 < length v.code.nodes = slice_get_within v.code.nodes (number_at entries called.0) _ (are.each called.0 f) in
     let same = called.2 in let r : t < length v.code.nodes = omega arith in r)
     need
 
-pub needs_numbered : (v : FlowGraph) (entries : List ℕ) (n : ℕ) (arcs : List Arc) → IsFlowGraph v → AreEntries v entries → AreNeeds v entries n arcs → AreNumbered (length v.code.nodes) arcs
-needs_numbered v entries n arcs flow entry are s lt =
+pub needs_numbered : (v : FlowGraph) (backs : List (Option ℕ)) (entries : List ℕ) (n : ℕ) (arcs : List Arc) → IsFlowGraph v → AreEntries v entries → AreNeeds v backs entries n arcs → AreNumbered (length v.code.nodes) arcs
+needs_numbered v backs entries n arcs flow entry are s lt =
     let h = are.each s lt in
-    (slice_get_within v.code.nodes (arc_at arcs s).from _ h.2, needed_within v entries h.0 (arc_at arcs s).to flow entry h.1 h.3)
+    (slice_get_within v.code.nodes (arc_at arcs s).from _ h.2, needed_within v backs entries h.0 (arc_at arcs s).to flow entry h.1 h.3)
 
-pub sorted_needed : (v : FlowGraph) (entries : List ℕ) (arcs : List Arc) (order : List ℕ) → IsFlowGraph v → AreNeeds v entries (length v.code.edges) arcs → IsSorted (length v.code.nodes) arcs order → IsNeededFirst v entries order
-sorted_needed v entries arcs order flow are sorted = record {
+pub sorted_needed : (v : FlowGraph) (backs : List (Option ℕ)) (entries : List ℕ) (arcs : List Arc) (order : List ℕ) → IsFlowGraph v → AreNeeds v backs entries (length v.code.edges) arcs → IsSorted (length v.code.nodes) arcs order → IsNeededFirst v backs entries order
+sorted_needed v backs entries arcs order flow are sorted = record {
   within = sorted.within;
   whole = sorted.whole;
+  distinct = sorted.distinct;
   ready = λ i e t il lt starts need.
-      let s : (s : ℕ) × (s < length arcs) × StartsAtNode v e (arc_at arcs s).from × ((arc_at arcs s).to ≡ t) = ⊎_elim (λ (led : LeadsToNode v e t). are.led e t lt led) (λ (called : CallsNode v entries e t). are.called e t lt called) need in
+      let s : (s : ℕ) × (s < length arcs) × StartsAtNode v e (arc_at arcs s).from × ((arc_at arcs s).to ≡ t) = ⊎_elim (λ (led : LeadsPlainly v backs e t). are.led e t lt led) (λ (called : CallsNode v entries e t). are.called e t lt called) need in
       let o = sorted.before s.0 s.1 in
       let from_is : (arc_at arcs s.0).from ≡ number_at order i = one_number v flow (arc_at arcs s.0).from (number_at order i) ((graph v).source e) s.2 starts in
       let same : o.1 ≡ i = one_place order sorted.distinct o.1 i o.3 il (o.5 ∙ from_is) in

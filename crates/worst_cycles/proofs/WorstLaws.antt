@@ -1,68 +1,114 @@
--- The worst cycles of functions, by what is left at nodes.
+-- The numbers of an accepted program, as a pass over its nodes needs them and finds them.
 use Rattle.std.proofs.Common.{◌≡◌, ℕ, Bool, ◌+◌, ◌^◌, ◌<◌, ◌≤◌, List, length, Err, Some, sym, ap, ◌∙◌, arith}
-use Rattle.std.proofs.lemmas.Option.{slice_get-get_or, slice_get_within}
+use Rattle.std.proofs.lemmas.Option.{slice_get-get_or}
 use Rattle.scale_base.specs.declared.refusal.Stop.{Stop}
 use Rattle.scale_base.specs.declared.refusal.Stop.TheVariants.{Refused, Memory}
 use Rattle.scale_base.specs.Answer.{AnswersBy}
 use Rattle.call_orders.specs.Arcs.{number_at}
 use Rattle.cost_theory.specs.Graph.{Graph, Loops}
-use Rattle.cost_theory.specs.Worst.{Numbers, AreNumbers, turns_round}
+use Rattle.cost_theory.specs.Worst.{Numbers, AreNumbers}
 use Rattle.cost_theory.specs.Accepted.{IsProgram, AreAccepted, AreWeights}
+use Rattle.cost_theory.specs.Laws.{IsAnalyzed}
 use Rattle.cost_theory.proofs.Contexts as contexts
 use Rattle.cost_theory.proofs.OrdersExist.{call_order, plain_order}
-use Rattle.cost_theory.proofs.Orders.{left-worst}
-use Rattle.code_graph.specs.FlowGraph.{FlowGraph, graph}
+use Rattle.cost_theory.proofs.Orders.{turns-worst}
+use Rattle.cost_theory.proofs.Overruns.{closing-worst}
+use Rattle.cost_theory.proofs.Nesting.{accepted_entered, header_held}
+use Rattle.pass_laws.proofs.Charges.{charged_on, charged_back, charged_into}
+use Rattle.pass_laws.proofs.Headers.{headers_different}
+use Rattle.pass_laws.proofs.Iterations.{iteration_closing, closing_over}
+use Rattle.pass_laws.proofs.PlainPaths.{worst_plain, plain_within_worst, plain_over}
+use Rattle.code_graph.specs.FlowGraph.{FlowGraph, graph, IsFlowGraph}
+use Rattle.natural_loops.specs.Noted.{node_address}
+use Rattle.loop_tree.specs.Tree.{LoopView, loops}
+use Rattle.worst_cycles.specs.declared.visits.Visit.{Visit}
 use Rattle.worst_cycles.specs.Worst.{WorstView, IsWorstFound, IsWorstInRange, IsWorstTooLong}
-use Rattle.worst_cycles.specs.Needs.{AreEntries}
-use Rattle.worst_cycles.specs.Lefts.{AreLefts, AreLeftsInRange, IsLeftTooLong, AreLeftsFound}
-use Rattle.worst_cycles.proofs.LeftLaws.{are_lefts}
+use Rattle.worst_cycles.specs.Needs.{AreEntries, HasTree}
+use Rattle.worst_cycles.specs.Solved.{AreSolved}
+use Rattle.worst_cycles.specs.Visits.{visit_at, IsVisit, AreSolvedBy, IsTooLong, AreAllVisited, AreVisitsFound}
+use Rattle.worst_cycles.proofs.BodyLaws.{node_here, loop_count, header_number, header_address}
+use Rattle.worst_cycles.proofs.VisitLaws.{worst_at}
 
--- a program that is accepted without loops, and weights of its edges
-pub record IsLoopless (g : Graph) (l : Loops) (extent : ℕ → ℕ → Bool) (w : ℕ → ℕ) : Type 0 where
+-- an accepted program with weights
+pub record IsWeighted (g : Graph) (l : Loops) (extent : ℕ → ℕ → Bool) (w : ℕ → ℕ) : Type 0 where
   pub program : IsProgram g
   pub accepted : AreAccepted g l extent
-  pub none : l.loops ≡ 0
   pub weights : AreWeights g w
 
-numbers : (g : Graph) (l : Loops) (extent : ℕ → ℕ → Bool) (w : ℕ → ℕ) → IsLoopless g l extent w → (n : Numbers) × AreNumbers g l w n × AreLefts g w n
+solved : (g : Graph) (l : Loops) (extent : ℕ → ℕ → Bool) (w : ℕ → ℕ) (n : Numbers) → IsAnalyzed g l extent w n → AreSolved g l w n
+solved g l extent w n is =
+    let calls = call_order g is.program in
+    record {
+      on = charged_on g l extent w n is;
+      back = charged_back g l extent w n is;
+      into = charged_into g l extent w n is;
+      plain = plain_over g l extent w n is;
+      closing = closing_over g l extent w n is;
+      iteration = iteration_closing g l extent w n is;
+      worst = worst_plain g l extent w n is;
+      plain_within = plain_within_worst g l extent w n is;
+      turns_within = turns-worst g l extent w n is.program is.accepted is.weights is.numbers calls.0 calls.1;
+      closing_near = λ most light. closing-worst g l extent w n is most light calls.0 calls.1;
+      different = headers_different g l extent w n is;
+      held = header_held g l extent is.program (accepted_entered is.accepted);
+    }
+
+pub numbers : (g : Graph) (l : Loops) (extent : ℕ → ℕ → Bool) (w : ℕ → ℕ) → IsWeighted g l extent w → (n : Numbers) × AreNumbers g l w n × AreSolved g l w n
 numbers g l extent w is =
     let plain = plain_order g is.program l extent is.accepted in
     let calls = call_order g is.program in
     let n = contexts.numbers_exist g l extent w is.program is.accepted plain.0 plain.1.0 plain.1.1 calls.0 calls.1 in
-    (n.0, n.1, are_lefts g l extent w n.0 is.none is.program is.accepted is.weights n.1)
+    let analyzed : IsAnalyzed g l extent w n.0 = record { program = is.program; accepted = is.accepted; weights = is.weights; numbers = n.1 } in
+    (n.0, n.1, solved g l extent w n.0 analyzed)
 
-pub worst_in_range : (v : FlowGraph) (l : Loops) (extent : ℕ → ℕ → Bool) (w : ℕ → ℕ) (entries left worst : List ℕ) → IsLoopless (graph v) l extent w → AreEntries v entries → AreLeftsInRange v w left →
-    length worst ≡ length v.code.functions → ((f : ℕ) → f < length v.code.functions → number_at worst f ≡ number_at left (number_at entries f)) → IsWorstInRange (graph v) l w (record { worst = worst })
-worst_in_range v l extent w entries left worst is are found size each =
-    let n = numbers (graph v) l extent w is in
+pub too_long : (v : FlowGraph) (t : LoopView) (extent : ℕ → ℕ → Bool) (w : ℕ → ℕ) → IsWeighted (graph v) (loops v t) extent w → IsTooLong v t w → IsWorstTooLong (graph v) (loops v t) w
+too_long v t extent w is long = let n = numbers (graph v) (loops v t) extent w is in (n.0, n.1, long n.0 n.2)
+
+pub stops_so : {X : Type 0} (v : FlowGraph) (t : LoopView) (extent : ℕ → ℕ → Bool) (w : ℕ → ℕ) (view : X → List Visit) (stop : Stop) → IsWeighted (graph v) (loops v t) extent w → AnswersBy view (Err stop) (AreVisitsFound v t w) →
+    AnswersBy (λ (n : WorstView). n) (Err stop) (IsWorstFound (graph v) (loops v t) w)
+stops_so v t extent w view (Refused e) is found = (found.0, too_long v t extent w is found.1)
+stops_so v t extent w view Memory is found = tt
+
+-- what the table has at an entry
+pub entry_worst : (v : FlowGraph) (t : LoopView) (w : ℕ → ℕ) (entries : List ℕ) (visits : List Visit) (n : Numbers) (f : ℕ) → AreEntries v entries → AreAllVisited v t w visits → AreSolvedBy v t w n → f < length v.code.functions →
+    (visit_at visits (number_at entries f)).plain + (visit_at visits (number_at entries f)).turns ≡ n.worst f
+entry_worst v t w entries visits n f are found s fl =
+    worst_at (graph v) (loops v t) w n f (visit_at visits (number_at entries f)) s fl (found.each n s (number_at entries f) ((graph v).entry f) (are.each f fl))
+
+-- what it has at the header of a loop
+header_iteration : (v : FlowGraph) (t : LoopView) (w : ℕ → ℕ) (visits : List Visit) (n : Numbers) (k : ℕ) → HasTree v t → AreAllVisited v t w visits → AreSolvedBy v t w n → k < length t.headers → (visit_at visits (number_at t.headers k)).iteration ≡ n.iteration k
+header_iteration v t w visits n k tree found s kl =
+    let count = loop_count v t in
+    let within : k < (loops v t).loops = omega arith in
+    let visit : IsVisit (loops v t) n (node_address v (number_at t.headers k)) (visit_at visits (number_at t.headers k)) =
+    found.each n s (number_at t.headers k) (node_address v (number_at t.headers k)) (node_here v (number_at t.headers k) (header_number v t tree.0 tree.1 k kl)) in
+    visit.iteration k within (header_address v t k kl)
+
+pub worst_in_range : (v : FlowGraph) (t : LoopView) (w : ℕ → ℕ) (entries worst iteration : List ℕ) (visits others : List Visit) → (tree : HasTree v t) → IsFlowGraph v → IsWeighted (graph v) (loops v t) tree.0 w → AreEntries v entries → AreAllVisited v t w visits → AreAllVisited v t w others →
+    length worst ≡ length v.code.functions → ((f : ℕ) → f < length v.code.functions → number_at worst f ≡ (visit_at visits (number_at entries f)).plain + (visit_at visits (number_at entries f)).turns) →
+    length iteration ≡ length t.headers → ((k : ℕ) → k < length t.headers → number_at iteration k ≡ (visit_at others (number_at t.headers k)).iteration) →
+    number_at worst 0 ≤ 2 ^ 48 → IsWorstInRange (graph v) (loops v t) w (record { worst = worst; iteration = iteration })
+worst_in_range v t w entries worst iteration visits others tree flow is are found others_found size each loops_size loops_each small =
+    let n = numbers (graph v) (loops v t) tree.0 w is in
+    let count = loop_count v t in
     record {
       numbers = (
         n.0,
         n.1,
-        λ f lt.
-            let e : number_at worst f ≡ n.0.worst f = each f lt ∙ found.each n.0 n.2 (number_at entries f) ((graph v).entry f) (are.each f lt) ∙ sym (n.2.worst f lt) in
-            slice_get-get_or worst f 0 (let low : f < length worst = omega arith in low) ∙ ap Some e,
+        λ f lt. slice_get-get_or worst f 0 (let low : f < length worst = omega arith in low) ∙ ap Some (each f lt ∙ entry_worst v t w entries visits n.0 f are found n.2 lt),
+        λ k lt.
+            let kl : k < length t.headers = omega arith in
+            slice_get-get_or iteration k 0 (let low : k < length iteration = omega arith in low) ∙ ap Some (loops_each k kl ∙ header_iteration v t w others n.0 k tree others_found n.2 kl),
       );
       size = size;
-      small = let e : number_at worst 0 ≡ number_at left (number_at entries 0) = each 0 is.program.main in let s : number_at left (number_at entries 0) ≤ 2 ^ 48 = found.small (number_at entries 0) in omega arith;
+      loops_size = loops_size ∙ sym (loop_count v t);
+      small = small;
     }
 
-pub worst_too_long : (v : FlowGraph) (l : Loops) (extent : ℕ → ℕ → Bool) (w : ℕ → ℕ) → IsLoopless (graph v) l extent w → IsLeftTooLong v w → IsWorstTooLong (graph v) l w
-worst_too_long v l extent w is long =
-    let n = numbers (graph v) l extent w is in
-    let calls = call_order (graph v) is.program in
-    let within : n.0.left long.0 + turns_round l n.0 (Some long.0) ≤ n.0.worst 0 = left-worst (graph v) l extent w n.0 is.program is.accepted is.weights n.1 calls.0 calls.1 long.0 long.1 in
-    let more : 2 ^ 48 < n.0.left long.0 = long.2 n.0 n.2 in
+-- those of the program are over the limit
+pub total_too_long : (v : FlowGraph) (t : LoopView) (extent : ℕ → ℕ → Bool) (w : ℕ → ℕ) (entries worst : List ℕ) (visits : List Visit) → IsFlowGraph v → IsWeighted (graph v) (loops v t) extent w → AreEntries v entries → AreAllVisited v t w visits →
+    ((f : ℕ) → f < length v.code.functions → number_at worst f ≡ (visit_at visits (number_at entries f)).plain + (visit_at visits (number_at entries f)).turns) → 2 ^ 48 < number_at worst 0 → IsWorstTooLong (graph v) (loops v t) w
+total_too_long v t extent w entries worst visits flow is are found each more =
+    let n = numbers (graph v) (loops v t) extent w is in
+    let first : number_at worst 0 ≡ n.0.worst 0 = each 0 flow.program.main ∙ entry_worst v t w entries visits n.0 0 are found n.2 flow.program.main in
     (n.0, n.1, (let r : 2 ^ 48 < n.0.worst 0 = omega arith in r))
-
-pub stops_so : {X : Type 0} (v : FlowGraph) (l : Loops) (extent : ℕ → ℕ → Bool) (w : ℕ → ℕ) (view : X → List ℕ) (stop : Stop) → IsLoopless (graph v) l extent w → AnswersBy view (Err stop) (AreLeftsFound v w) →
-    AnswersBy (λ (n : WorstView). n) (Err stop) (IsWorstFound (graph v) l w)
-stops_so v l extent w view (Refused e) is found = (found.0, worst_too_long v l extent w is found.1)
-stops_so v l extent w view Memory is found = tt
-
--- a table by node has a value at each entry
-pub entries_within : (v : FlowGraph) (entries table : List ℕ) → AreEntries v entries → length table ≡ length v.code.nodes → (f : ℕ) → f < length entries → number_at entries f < length table
-entries_within v entries table are size f lt =
-    let count = are.size in
-    let low : number_at entries f < length v.code.nodes = slice_get_within v.code.nodes (number_at entries f) _ (are.each f (omega arith)) in
-    omega arith

@@ -1,3 +1,5 @@
 pub mod Worst
 pub mod Needs
-pub mod Lefts
+pub mod Solved
+pub mod Visits
+pub mod Rests

@@ -2,22 +2,28 @@
 
 ghost use Rattle.std.specs.Prelude.{◌≡◌, ◌≤◌, length, OnOk, IfOk};
 ghost use Rattle.code_graph.specs.FlowGraph.{IsFlowGraph};
-ghost use Rattle.loop_tree.specs.Arcs.{AreEdgeArcs};
-ghost use Rattle.worst_cycles.specs.Needs.{AreEntries, AreNeeds, NeedsNoLoop, IsNeededFirst};
+ghost use Rattle.loop_tree.specs.Arcs.{ArePlainArcs};
+ghost use Rattle.worst_cycles.specs.Needs.{AreEntries, AreNeeds, HasTree, IsNeededFirst};
 
 use call_orders::{Arc, Order, sort};
 use code_graph::CodeGraph;
-use loop_tree::{node_at, plain_arcs};
+use loop_tree::{LoopTree, plain_arcs};
+use natural_loops::node_at;
 use scale_base::NoMemory;
 use std::alloc::Global;
 
-/// To arcs for the edges that lead to a node adds one for each edge of a call, to the entry of the called function.
-fn add_calls(graph: &CodeGraph, entries: &[usize], arcs: &mut Vec<Arc>) -> Result<(), NoMemory>
+/// To arcs for the plain edges that lead to a node adds one for each edge of a call, to the entry of the called function.
+fn add_calls(
+    graph: &CodeGraph,
+    tree: &LoopTree,
+    entries: &[usize],
+    arcs: &mut Vec<Arc>,
+) -> Result<(), NoMemory>
     requires flow { IsFlowGraph graph.now }
     requires entries { AreEntries graph.now entries.now }
-    requires arcs { AreEdgeArcs graph.now (length graph.now.code.edges) arcs.old.items }
+    requires arcs { ArePlainArcs graph.now tree.now.backs (length graph.now.code.edges) arcs.old.items }
     ensures few { OnOk result (length arcs.new.items ≤ 524288) }
-    ensures needs { OnOk result (AreNeeds graph.now entries.now (length graph.now.code.edges) arcs.new.items) }
+    ensures needs { OnOk result (AreNeeds graph.now tree.now.backs entries.now (length graph.now.code.edges) arcs.new.items) }
 {
     for e in 0..graph.edge_count() {
         if let Some(f) = graph.callee(e) {
@@ -31,22 +37,23 @@ fn add_calls(graph: &CodeGraph, entries: &[usize], arcs: &mut Vec<Arc>) -> Resul
     Ok(())
 }
 
-/// The numbers of the nodes, each behind those to which its edges lead and the entry of the function that it calls.
+/// The numbers of the nodes, each behind those to which its plain edges lead and the entry of the function that it calls.
 pub fn needed_first(
     alloc: Global,
     graph: &CodeGraph,
+    tree: &LoopTree,
     count: usize,
     entries: &[usize],
 ) -> Result<Vec<usize>, NoMemory>
     requires count { count ≡ length graph.now.code.nodes }
     requires few { count ≤ 131072 }
     requires flow { IsFlowGraph graph.now }
+    requires tree { HasTree graph.now tree.now }
     requires entries { AreEntries graph.now entries.now }
-    requires no_loop { NeedsNoLoop graph.now }
-    ensures { IfOk result (λ order. IsNeededFirst graph.now entries.now order.items) }
+    ensures { IfOk result (λ order. IsNeededFirst graph.now tree.now.backs entries.now order.items) }
 {
-    let mut arcs = plain_arcs(alloc, graph)?;
-    add_calls(graph, entries, &mut arcs)?;
+    let mut arcs = plain_arcs(alloc, graph, tree.backs())?;
+    add_calls(graph, tree, entries, &mut arcs)?;
     match sort(alloc, count, &arcs)? {
         Order::Sorted(order) => Ok(order),
         Order::Cycle(_) => unreachable!(),

@@ -24,6 +24,11 @@ const ECALL: u32 = 0x73;
 
 const RETURN: u32 = 0x0000_8067;
 
+/// A branch back by one word, and one by three.
+const BACK_1: u32 = 0xFE00_0EE3;
+
+const BACK_3: u32 = 0xFE00_0AE3;
+
 /// A file whose text is some words, at most 63.
 fn file_of(alloc: Global, words: &[u32]) -> Result<Vec<u8>, NoMemory> {
     let len = u32::try_from(4 * (words.len() % 64)).unwrap_or(0);
@@ -37,15 +42,14 @@ fn file_of(alloc: Global, words: &[u32]) -> Result<Vec<u8>, NoMemory> {
     Ok(file)
 }
 
-/// The worst cycles under one weight of all edges, by function.
-fn by_function(
+/// The numbers under one weight of all edges: the worst cycles of the program, those by function, and iterations by loop.
+fn all_numbers(
     alloc: Global,
     graph: &CodeGraph,
     tree: &LoopTree,
     weight: u32,
 ) -> Result<Result<Vec<u64>, Refusal>, Stop>
     requires tree { (extent : ℕ → ℕ → Bool) × IsLoopTree graph.now extent tree.now }
-    requires no_loops { length tree.now.tree.headers ≡ 0 }
 {
     let weights = Weights::from_vec(vec![in alloc; weight; graph.edge_count()]?);
     let found = match worst(alloc, graph, tree, &weights) {
@@ -57,33 +61,41 @@ fn by_function(
     for f in 0..graph.function_count() {
         all.push(found.function(f))?;
     }
+    for l in 0..tree.loop_count() {
+        all.push(found.iteration(l))?;
+    }
     Ok(Ok(all))
 }
 
-/// The worst cycles of the program with some words: in all, and by function.
-fn worst_of(alloc: Global, words: &[u32], weight: u32) -> Result<Result<Vec<u64>, Refusal>, Fail> {
+/// The numbers of the program with some words and loops.
+fn numbers_of(
+    alloc: Global,
+    words: &[u32],
+    loops: &str,
+    weight: u32,
+) -> Result<Result<Vec<u64>, Refusal>, Fail> {
     let file = file_of(alloc, words).ok().ok_or("there is memory")?;
     let view = read_image(alloc, &file).ok().ok_or("the file is an image")?;
     let graph = build_graph(alloc, &view)
         .ok()
         .ok_or("the code is accepted")?;
-    let notes = read_loops(alloc, b"version = 1\n", &view)
+    let text = format!(in alloc; "version = 1\nloop = [{loops}]\n")
+        .ok()
+        .ok_or("there is memory")?;
+    let notes = read_loops(alloc, text.as_bytes(), &view)
         .ok()
         .ok_or("the loop file is read")?;
-    if notes.count() != 0 {
-        return Err("there are no notes".into());
-    }
     let Ok(tree) = build_loops(alloc, &graph, &notes) else {
-        return Err("no cycle needs a loop".into());
+        return Err("the loops are accepted".into());
     };
-    let found = by_function(alloc, &graph, &tree, weight);
+    let found = all_numbers(alloc, &graph, &tree, weight);
     Ok(found.ok().ok_or("there is memory")?)
 }
 
 #[test]
 fn takes_the_greater_branch(rt: HostRuntime) -> Result<(), Fail> {
     let words = [0x0000_0663, NO_OPERATION, NO_OPERATION, EXIT, ECALL];
-    let Ok(all) = worst_of(rt.alloc(), &words, 1)? else {
+    let Ok(all) = numbers_of(rt.alloc(), &words, "", 1)? else {
         return Err("no numbers".into());
     };
     assert_eq!(rt; all.as_slice(), [5, 5].as_slice());
@@ -93,16 +105,81 @@ fn takes_the_greater_branch(rt: HostRuntime) -> Result<(), Fail> {
 #[test]
 fn adds_what_is_called(rt: HostRuntime) -> Result<(), Fail> {
     let words = [0x00C0_00EF, EXIT, ECALL, NO_OPERATION, RETURN];
-    let Ok(all) = worst_of(rt.alloc(), &words, 1)? else {
+    let Ok(all) = numbers_of(rt.alloc(), &words, "", 1)? else {
         return Err("no numbers".into());
     };
     assert_eq!(rt; all.as_slice(), [5, 5, 2].as_slice());
     Ok(())
 }
 
-/// Functions that each call the next twice.
-fn doubling(alloc: Global, levels: usize) -> Result<Vec<u32>, NoMemory> {
-    let mut words = Vec::new(alloc);
+#[test]
+fn adds_all_turns_where_a_loop_is_entered(rt: HostRuntime) -> Result<(), Fail> {
+    let words = [NO_OPERATION, NO_OPERATION, BACK_1, EXIT, ECALL];
+    let loops = "{header = 0x10004, ranges = [[0x10004, 0x1000c]], bound = 10}";
+    let Ok(all) = numbers_of(rt.alloc(), &words, loops, 3)? else {
+        return Err("no numbers".into());
+    };
+    // Ten turns of two instructions, and each of the five once, at 3 cycles.
+    assert_eq!(rt; all.as_slice(), [75, 75, 6].as_slice());
+    Ok(())
+}
+
+#[test]
+fn adds_turns_of_loops_at_entries(rt: HostRuntime) -> Result<(), Fail> {
+    let words = [NO_OPERATION, BACK_1, EXIT, ECALL];
+    let loops = "{header = 0x10000, ranges = [[0x10000, 0x10008]], bound = 10}";
+    let Ok(all) = numbers_of(rt.alloc(), &words, loops, 1)? else {
+        return Err("no numbers".into());
+    };
+    assert_eq!(rt; all.as_slice(), [24, 24, 2].as_slice());
+    // The called function begins with a loop.
+    let words = [0x00C0_00EF, EXIT, ECALL, NO_OPERATION, BACK_1, RETURN];
+    let loops = "{header = 0x1000c, ranges = [[0x1000c, 0x10014]], bound = 3}";
+    let Ok(all) = numbers_of(rt.alloc(), &words, loops, 1)? else {
+        return Err("no numbers".into());
+    };
+    assert_eq!(rt; all.as_slice(), [12, 12, 9, 2].as_slice());
+    Ok(())
+}
+
+#[test]
+fn adds_what_a_back_edge_calls(rt: HostRuntime) -> Result<(), Fail> {
+    // The second word calls, and comes back to the third, the header.
+    let words = [0x0080_006F, 0x0100_00EF, BACK_1, EXIT, ECALL, RETURN];
+    let loops = "{header = 0x10008, ranges = [[0x10004, 0x1000c]], bound = 5}";
+    let Ok(all) = numbers_of(rt.alloc(), &words, loops, 1)? else {
+        return Err("no numbers".into());
+    };
+    assert_eq!(rt; all.as_slice(), [19, 19, 1, 3].as_slice());
+    Ok(())
+}
+
+#[test]
+fn adds_turns_of_an_inner_loop_to_each_of_the_outer(rt: HostRuntime) -> Result<(), Fail> {
+    // The third and the fourth word are a loop within one of the second to the fifth, which is noted first.
+    let words = [
+        NO_OPERATION,
+        NO_OPERATION,
+        NO_OPERATION,
+        BACK_1,
+        BACK_3,
+        NO_OPERATION,
+        EXIT,
+        ECALL,
+    ];
+    let loops =
+        "{header = 0x10004, ranges = [[0x10004, 0x10014]], bound = 3}, {header = 0x10008, ranges = [[0x10008, 0x10010]], bound = 4}";
+    let Ok(all) = numbers_of(rt.alloc(), &words, loops, 1)? else {
+        return Err("no numbers".into());
+    };
+    // 4 and 8 in each outer turn; 8, 8 and 3 such turns in all.
+    assert_eq!(rt; all.as_slice(), [52, 52, 12, 2].as_slice());
+    Ok(())
+}
+
+/// Functions that each call the next twice, behind some words.
+fn doubling(alloc: Global, first: &[u32], levels: usize) -> Result<Vec<u32>, NoMemory> {
+    let mut words = first.to_vec(alloc)?;
     for _ in 0..levels {
         words.extend_from_slice(&[0x00C0_00EF, 0x0080_00EF, RETURN])?;
     }
@@ -112,14 +189,41 @@ fn doubling(alloc: Global, levels: usize) -> Result<Vec<u32>, NoMemory> {
 
 #[test]
 fn refuses_programs_over_the_limit(rt: HostRuntime) -> Result<(), Fail> {
-    let words = doubling(rt.alloc(), 14).ok().ok_or("there is memory")?;
-    let Ok(all) = worst_of(rt.alloc(), &words, u32::MAX)? else {
+    let words = doubling(rt.alloc(), &[], 14).ok().ok_or("there is memory")?;
+    let Ok(all) = numbers_of(rt.alloc(), &words, "", u32::MAX)? else {
         return Err("no numbers".into());
     };
     // 65,533 steps.
     assert_eq!(rt; all.first(), Some(&281_462_091_743_235));
-    let words = doubling(rt.alloc(), 15).ok().ok_or("there is memory")?;
-    let found = worst_of(rt.alloc(), &words, u32::MAX)?;
+    let words = doubling(rt.alloc(), &[], 15).ok().ok_or("there is memory")?;
+    let found = numbers_of(rt.alloc(), &words, "", u32::MAX)?;
+    assert!(rt; matches!(found, Err(Refusal::TooLong)));
+    Ok(())
+}
+
+#[test]
+fn accepts_iterations_over_the_limit_where_none_is_taken(rt: HostRuntime) -> Result<(), Fail> {
+    // A branch to the end, or a call of 65,533 steps and a jump back.
+    let first = [
+        NO_OPERATION,
+        0x0000_0663,
+        0x0100_00EF,
+        0xFF5F_F06F,
+        EXIT,
+        ECALL,
+    ];
+    let words = doubling(rt.alloc(), &first, 14)
+        .ok()
+        .ok_or("there is memory")?;
+    let loops = "{header = 0x10000, ranges = [[0x10000, 0x10010]], bound = 0}";
+    let Ok(all) = numbers_of(rt.alloc(), &words, loops, u32::MAX)? else {
+        return Err("no numbers".into());
+    };
+    // 65,536 steps, and one more in an iteration.
+    assert_eq!(rt; all.first(), Some(&281_474_976_645_120));
+    assert_eq!(rt; all.last(), Some(&281_479_271_612_415));
+    let loops = "{header = 0x10000, ranges = [[0x10000, 0x10010]], bound = 1}";
+    let found = numbers_of(rt.alloc(), &words, loops, u32::MAX)?;
     assert!(rt; matches!(found, Err(Refusal::TooLong)));
     Ok(())
 }

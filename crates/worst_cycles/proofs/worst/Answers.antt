@@ -1,41 +1,60 @@
-use Rattle.std.proofs.Common.{◌≡◌, ℕ, length, List, Vec, Global, arith, sym, ◌∙◌, subst}
+use Rattle.std.proofs.Common.{◌≡◌, ◌^◌, ◌<◌, ◌≤◌, length, Vec, Global, arith, refl, sym, ap, ◌∙◌, subst}
 use Rattle.std.proofs.lemmas.Result.{err_from_is_err_and}
-use Rattle.cost_theory.specs.Lists.{loops_of}
+use Rattle.call_orders.specs.Arcs.{number_at}
 use Rattle.code_graph.specs.FlowGraph.{graph}
+use Rattle.loop_tree.specs.Tree.{loops}
+use Rattle.worst_cycles.specs.declared.visits.Visit.{Visit}
 use Rattle.worst_cycles.specs.Worst.{by_edge}
 use Rattle.worst_cycles.specs.Needs.{AreEntries}
-use Rattle.worst_cycles.specs.Lefts.{AreLeftsInRange}
-use Rattle.worst_cycles.proofs.WorstLaws.{IsLoopless, worst_in_range, stops_so, entries_within}
+use Rattle.worst_cycles.specs.Visits.{AreAllVisited}
+use Rattle.worst_cycles.proofs.SearchLaws.{value_at}
+use Rattle.worst_cycles.proofs.BodyLaws.{header_number}
+use Rattle.worst_cycles.proofs.WorstLaws.{IsWeighted, stops_so, worst_in_range, total_too_long}
 use Rattle.worst_cycles.proofs.worst.Goals as goal
 
-pub returns-in_err-left : goal.returns-in_err-left
-returns-in_err-left c =
-    let p = err_from_is_err_and c.from_residual-in_err-left.result c.from_residual-in_err-left.ensures.1 in
-    let is : IsLoopless (graph c.args.graph.now) (loops_of c.args.tree.now.tree) c.requires.tree.0 (by_edge c.args.weights.now) = record {
-      program = c.node_count-count.ensures.graph.program;
-      accepted = c.requires.tree.1.accepted;
-      none = c.requires.no_loops;
-      weights = c.requires.calls;
-    } in
-    rw (p.1, p.2) (stops_so c.args.graph.now (loops_of c.args.tree.now.tree) c.requires.tree.0 (by_edge c.args.weights.now) (λ (left : Vec ℕ Global). left.items) c.in_err-left.field-0.0 is c.in_err-left.ensures)
+pub returns-in_err-visits : goal.returns-in_err-visits
+returns-in_err-visits c =
+    let p = err_from_is_err_and c.from_residual-in_err-visits.result c.from_residual-in_err-visits.ensures.1 in
+    let is : IsWeighted (graph c.args.graph.now) (loops c.args.graph.now c.args.tree.now) c.requires.tree.0 (by_edge c.args.weights.now) =
+    record { program = c.in_ok-plan.ensures.flow.program; accepted = c.requires.tree.1.accepted; weights = c.requires.calls } in
+    rw (p.1, p.2) (stops_so c.args.graph.now c.args.tree.now c.requires.tree.0 (by_edge c.args.weights.now) (λ (visits : Vec Visit Global). visits.items) c.in_err-visits.field-0.0 is c.in_err-visits.ensures)
 
-pub at_entries-requires : goal.at_entries-requires
-at_entries-requires c =
-    let left = subst (λ (xs : List ℕ). length xs ≡ length c.args.graph.now.code.nodes) (sym c.deref-5.ensures.value) c.in_ok-left.ensures.size in
-    let entries = subst (AreEntries c.args.graph.now) (sym c.deref-4.ensures.value) c.in_ok-entries.ensures in
-    record { within = entries_within c.args.graph.now c.deref-4.result.now c.deref-5.result.now entries left }
+pub returns-then-index-gt-LIMIT : goal.returns-then-index-gt-LIMIT
+returns-then-index-gt-LIMIT c =
+    let is : IsWeighted (graph c.args.graph.now) (loops c.args.graph.now c.args.tree.now) c.requires.tree.0 (by_edge c.args.weights.now) =
+    record { program = c.in_ok-plan.ensures.flow.program; accepted = c.requires.tree.1.accepted; weights = c.requires.calls } in
+    let entries = subst (AreEntries c.args.graph.now) (sym c.deref.ensures.value) c.in_ok-plan.ensures.plan.entries in
+    let found = subst (AreAllVisited c.args.graph.now c.args.tree.now (by_edge c.args.weights.now)) (sym c.deref-2.ensures.value) c.in_ok-visits.ensures in
+    let main : 0 < length c.args.graph.now.code.functions = c.in_ok-plan.ensures.flow.program.main in
+    let count = entries.size in
+    let size = c.in_ok-worst.ensures.size in
+    let some : 0 < length c.in_ok-worst.worst.items = omega arith in
+    let first : number_at c.in_ok-worst.worst.items 0 ≡ c.index.result.now = value_at c.in_ok-worst.worst.items 0 c.index.result.now 0 some c.index.ensures in
+    let more : 2 ^ 48 < number_at c.in_ok-worst.worst.items 0 = omega arith in (
+      refl,
+      total_too_long c.args.graph.now c.args.tree.now c.requires.tree.0 (by_edge c.args.weights.now) c.deref.result.now c.in_ok-worst.worst.items c.deref-2.result.now c.in_ok-plan.ensures.flow is entries found
+          (λ f lt. c.in_ok-worst.ensures.each f (omega arith)) more,
+    )
+
+pub iterations_of-requires : goal.iterations_of-requires
+iterations_of-requires c =
+    let value = c.deref-3.ensures.len in
+    let size = c.in_ok-visits.ensures.table.size in
+    let same : length c.deref-3.result.now ≡ length c.in_ok-visits.visits.items = ap length c.deref-3.ensures.value in
+    record { within = λ k kl. let h : number_at c.args.tree.now.headers k < length c.args.graph.now.code.nodes = header_number c.args.graph.now c.args.tree.now c.requires.tree.0 c.requires.tree.1 k kl in omega arith }
 
 pub returns : goal.returns
 returns c =
-    let is : IsLoopless (graph c.args.graph.now) (loops_of c.args.tree.now.tree) c.requires.tree.0 (by_edge c.args.weights.now) = record {
-      program = c.node_count-count.ensures.graph.program;
-      accepted = c.requires.tree.1.accepted;
-      none = c.requires.no_loops;
-      weights = c.requires.calls;
-    } in
-    let left = subst (AreLeftsInRange c.args.graph.now (by_edge c.args.weights.now)) (sym c.deref-5.ensures.value) c.in_ok-left.ensures in
-    let entries = subst (AreEntries c.args.graph.now) (sym c.deref-4.ensures.value) c.in_ok-entries.ensures in
-    let size : length c.in_ok-at_entries.field-0.items ≡ length c.args.graph.now.code.functions = c.in_ok-at_entries.ensures.size ∙ entries.size in
+    let is : IsWeighted (graph c.args.graph.now) (loops c.args.graph.now c.args.tree.now) c.requires.tree.0 (by_edge c.args.weights.now) =
+    record { program = c.in_ok-plan.ensures.flow.program; accepted = c.requires.tree.1.accepted; weights = c.requires.calls } in
+    let entries = subst (AreEntries c.args.graph.now) (sym c.deref.ensures.value) c.in_ok-plan.ensures.plan.entries in
+    let found = subst (AreAllVisited c.args.graph.now c.args.tree.now (by_edge c.args.weights.now)) (sym c.deref-2.ensures.value) c.in_ok-visits.ensures in
+    let others = subst (AreAllVisited c.args.graph.now c.args.tree.now (by_edge c.args.weights.now)) (sym c.deref-3.ensures.value) c.in_ok-visits.ensures in
+    let main : 0 < length c.args.graph.now.code.functions = c.in_ok-plan.ensures.flow.program.main in
     let count = entries.size in
-    rw c.from_vec.ensures (worst_in_range c.args.graph.now (loops_of c.args.tree.now.tree) c.requires.tree.0 (by_edge c.args.weights.now) c.deref-4.result.now c.deref-5.result.now c.in_ok-at_entries.field-0.items is entries left size
-    (λ f lt. c.in_ok-at_entries.ensures.each f (omega arith)))
+    let size = c.in_ok-worst.ensures.size in
+    let some : 0 < length c.in_ok-worst.worst.items = omega arith in
+    let first : number_at c.in_ok-worst.worst.items 0 ≡ c.index.result.now = value_at c.in_ok-worst.worst.items 0 c.index.result.now 0 some c.index.ensures in
+    let small : number_at c.in_ok-worst.worst.items 0 ≤ 2 ^ 48 = omega arith in
+    rw c.from_vecs.ensures (worst_in_range c.args.graph.now c.args.tree.now (by_edge c.args.weights.now) c.deref.result.now c.in_ok-worst.worst.items c.in_ok-iterations_of.field-0.items c.deref-2.result.now c.deref-3.result.now c.requires.tree c.in_ok-plan.ensures.flow is entries found others
+    (c.in_ok-worst.ensures.size ∙ entries.size) (λ f lt. c.in_ok-worst.ensures.each f (omega arith)) c.in_ok-iterations_of.ensures.size c.in_ok-iterations_of.ensures.each small)

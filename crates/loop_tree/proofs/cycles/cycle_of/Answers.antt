@@ -1,14 +1,13 @@
 use Rattle.std.proofs.Common.{sym, subst}
 use Rattle.call_orders.specs.Cycles.{IsCycleBy}
 use Rattle.call_orders.proofs.CycleLaws.{cycle_turned}
-use Rattle.loop_tree.specs.Tree.{IsPlainStep, without_loops}
+use Rattle.loop_tree.specs.Backs.{IsStepBy}
 use Rattle.loop_tree.proofs.RoundLaws.{round_of_addresses}
 use Rattle.loop_tree.proofs.cycles.cycle_of.Goals as goal
 
 pub returns : goal.returns
-returns c =
-    let v = c.args.graph.now in
+returns c = λ backs is.
     let t = c.least_first-cycle.ensures.turned in
-    let round = round_of_addresses c.args.graph.now c.args.numbers.now c.in_ok-addresses.addresses.items c.requires.flow c.requires.round c.in_ok-addresses.ensures in
-    subst (IsCycleBy (IsPlainStep c.args.graph.now without_loops)) (sym c.from_vec.ensures)
-    (cycle_turned (IsPlainStep c.args.graph.now without_loops) c.in_ok-addresses.addresses.items c.least_first-cycle.result.items t.0 round t.1 t.2 c.least_first-cycle.ensures.least)
+    let round = round_of_addresses c.args.graph.now backs c.args.numbers.now c.in_ok-addresses.addresses.items c.requires.flow is c.in_ok-addresses.ensures in
+    subst (IsCycleBy (IsStepBy c.args.graph.now backs)) (sym c.from_vec.ensures)
+    (cycle_turned (IsStepBy c.args.graph.now backs) c.in_ok-addresses.addresses.items c.least_first-cycle.result.items t.0 round t.1 t.2 c.least_first-cycle.ensures.least)

@@ -1,14 +1,11 @@
 use Rattle.std.proofs.Common.{rules}
 use Rattle.std.proofs.lemmas.Result.{err_from_is_err_and}
 use Rattle.scaler.proofs.Bases.{file_is}
-use Rattle.scaler.proofs.Files.{none_read, machine_stops, image_stops, key_stops, loops_stop, program_answers}
+use Rattle.scaler.proofs.Files.{machine_stops, image_stops, key_stops, loops_stop, program_answers}
 use Rattle.scaler.proofs.safe_level.hold_files.Goals as goal
 
 pub hold_program-requires-clause-file : goal.hold_program-requires-clause-file
 hold_program-requires-clause-file c = rw (file_is c.args.image.now c.in_ok-view.view c.in_ok-view.ensures) c.requires
-
-pub hold_program-requires-clause-no_notes : goal.hold_program-requires-clause-no_notes
-hold_program-requires-clause-no_notes c = none_read c.args.loops.now c.in_ok-notes.notes c.in_ok-notes.ensures
 
 pub returns-in_err-power : goal.returns-in_err-power
 returns-in_err-power c =

@@ -1,0 +1,4 @@
+pub mod HeaderLaws
+pub mod CountLaws
+pub mod StepLaws
+pub mod RunLaws

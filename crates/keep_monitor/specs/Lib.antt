@@ -1,0 +1,4 @@
+pub mod Watch
+pub mod Headers
+pub mod Steps
+pub mod Laws

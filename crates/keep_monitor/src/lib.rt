@@ -1,0 +1,18 @@
+//! Watches the steps of a run: whether it keeps the bounds of its loops and its return addresses, and what it broke first.
+#![tactic(auto)]
+
+ghost use Rattle.keep_monitor.specs.Laws.{WatchedRunsAreKept};
+
+mod headers;
+mod monitor;
+mod steps;
+
+pub use monitor::Monitor;
+
+/// Watching the run of an image finds nothing broken exactly as long as the run is kept.
+pub fn watched_runs_are_kept()
+    ensures { WatchedRunsAreKept }
+{}
+
+#[cfg(test)]
+mod tests;

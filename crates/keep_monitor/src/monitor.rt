@@ -1,0 +1,102 @@
+//! The monitor of a run.
+
+ghost use Rattle.std.specs.Prelude.{◌≡◌, reverse, IfOk, vec_len, vec_capacity};
+ghost use Rattle.scale_base.specs.declared.endings.Kept.TheVariants as kinds;
+ghost use Rattle.graph_runs.specs.ReturnAddresses.{returns_after};
+ghost use Rattle.keep_monitor.specs.Watch.{watched_first, watch, watch_returns};
+ghost use Rattle.keep_monitor.specs.Steps.{IsMonitor};
+
+use crate::headers::{Header, headers_at, sorted_headers};
+use crate::steps::{
+    MOST_RETURNS, broken_bound, broken_return, count_step, move_returns, source_of,
+};
+use loop_file::LoopNotes;
+use scale_base::{Kept, NoMemory, Stepped};
+use std::alloc::Global;
+use std::marker::Model;
+
+/// Watches the completed steps of a run, one after another, but for one that exits. All the memory that it needs is taken
+/// before the first step: 512 KiB for the return addresses, and 20 bytes for each loop besides its note. A step takes
+/// logarithmic time in the loops, besides those that have its target for their header. Contracts see the notes, the return
+/// addresses, the last one first, a count for each loop, and what was broken.
+#[derive(Drop)]
+pub struct Monitor {
+    notes: LoopNotes,
+    headers: Vec<Header>,
+    // The last one last.
+    returns: Vec<u32>,
+    // By loop.
+    counts: Vec<u32>,
+    kept: Kept,
+}
+
+impl Model for Monitor {
+    ghost use Rattle.std.specs.Prelude.{reverse, vec_len, vec_capacity};
+    ghost use Rattle.keep_monitor.specs.Watch.{Watched};
+    ghost use Rattle.keep_monitor.specs.Steps.{IsMonitor};
+
+    ghost Value = { Watched };
+
+    ghost view = { λ m. record { notes = m.notes; returns = reverse m.returns.items; counts = m.counts.items; kept = m.kept } };
+
+    ghost invariant = { λ m. IsMonitor m.notes m.headers.items (vec_len m.returns) (vec_capacity m.returns) m.counts.items };
+}
+
+// Watches a step of a run that has broken nothing.
+fn watch_step(
+    notes: &LoopNotes,
+    headers: &[Header],
+    returns: &mut Vec<u32>,
+    counts: &mut Vec<u32>,
+    step: &Stepped,
+) -> Kept
+    requires { IsMonitor notes.now headers.now (vec_len returns.old) (vec_capacity returns.old) counts.old.items }
+    ensures watched { record { notes = notes.now; returns = reverse returns.new.items; counts = counts.new.items; kept = result } ≡ watch_returns (record { notes = notes.now; returns = reverse returns.old.items; counts = counts.old.items; kept = kinds.Kept }) step.now (returns_after (reverse returns.old.items) step.now) }
+    ensures fits { IsMonitor notes.now headers.now (vec_len returns.new) (vec_capacity returns.new) counts.new.items }
+{
+    let source = source_of(step, returns);
+    let group = headers_at(headers, step.next);
+    let of_returns = broken_return(step, returns);
+    let of_loops = broken_bound(notes, group, counts, source);
+    if let Some(broken) = of_returns.or(of_loops) {
+        return broken;
+    }
+    move_returns(returns, step);
+    count_step(notes, group, counts, source);
+    Kept::Kept
+}
+
+impl Monitor {
+    /// A monitor of a run before its first step, by the notes of the program's loops.
+    pub fn new(alloc: Global, notes: LoopNotes) -> Result<Monitor, NoMemory>
+        ensures { IfOk result (λ m. m ≡ watched_first notes) }
+    {
+        let headers = sorted_headers(alloc, &notes)?;
+        let returns = Vec::with_capacity(alloc, MOST_RETURNS)?;
+        let counts = vec![in alloc; 0; notes.count()]?;
+        Ok(Monitor {
+            notes,
+            headers,
+            returns,
+            counts,
+            kept: Kept::Kept,
+        })
+    }
+
+    /// Watches the next step, and says whether the run is kept up to it; after a break, what was broken first.
+    pub fn see(&mut self, step: &Stepped) -> Kept
+        ensures new { self.new ≡ watch self.old step.now }
+        ensures answer { result ≡ self.new.kept }
+    {
+        if let Kept::Kept = self.kept {
+            self.kept = watch_step(
+                &self.notes,
+                &self.headers,
+                &mut self.returns,
+                &mut self.counts,
+                step,
+            );
+        }
+        self.kept
+    }
+}

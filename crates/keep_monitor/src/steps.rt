@@ -1,0 +1,157 @@
+//! What a step does to the return addresses and the counts, and what it breaks.
+
+ghost use Rattle.std.specs.Prelude.{◌≡◌, ◌≢◌, ℕ, ◌+◌, ◌<◌, ◌≤◌, ◌^◌, length, reverse, slice_index, IfSome, IfNone, None, Some, vec_len, vec_capacity};
+ghost use Rattle.scale_base.specs.Image as image;
+ghost use Rattle.graph_runs.specs.ReturnAddresses.{returns_after};
+ghost use Rattle.graph_runs.specs.KeptSteps as rules;
+ghost use Rattle.loop_file.specs.Notes.{AreLoopNotes};
+ghost use Rattle.loop_file.specs.Kept as kept;
+ghost use Rattle.keep_monitor.specs.Headers.{AreLoops, header_at};
+ghost use Rattle.keep_monitor.specs.Steps.{first_of, broken_by, counted, counted_at, IsFirstOver, IsNoneOver, AreCounts};
+
+use crate::headers::Header;
+use loop_file::{LoopNote, LoopNotes};
+use scale_base::{Kept, Move, Range, Stepped};
+
+/// How many return addresses a kept run has at most.
+pub const MOST_RETURNS: usize = 131_072;
+
+fn last_of(returns: &[u32]) -> Option<u32>
+    ensures { result ≡ first_of (reverse returns.now) }
+{
+    returns.last().copied()
+}
+
+/// The source of a step: its own address, of a return that of its call, and of a call none.
+pub fn source_of(step: &Stepped, returns: &[u32]) -> Option<u32>
+    ensures { result ≡ rules.source_of step.now.moved step.now.pc (reverse returns.now) }
+{
+    match step.moved {
+        Move::Local => Some(step.pc),
+        Move::Call => None,
+        Move::Return => match last_of(returns) {
+            Some(to) => Some(to.saturating_sub(4)),
+            None => None,
+        },
+    }
+}
+
+/// What a step breaks of the rules on calls and returns.
+pub fn broken_return(step: &Stepped, returns: &[u32]) -> Option<Kept>
+    requires { length returns.now ≤ kept.most_returns }
+    ensures { result ≡ broken_by step.now (returns_after (reverse returns.now) step.now) }
+{
+    match step.moved {
+        Move::Local => None,
+        Move::Call => {
+            if returns.len() == MOST_RETURNS {
+                Some(Kept::BrokeDepth { at: step.pc })
+            } else {
+                None
+            }
+        }
+        Move::Return => {
+            if last_of(returns) == Some(step.next) {
+                None
+            } else {
+                Some(Kept::BrokeReturn {
+                    at: step.pc,
+                    to: step.next,
+                })
+            }
+        }
+    }
+}
+
+/// Puts the return address of a call on the list, and takes that of a return off. There is room for it.
+pub fn move_returns(returns: &mut Vec<u32>, step: &Stepped)
+    requires unbroken { broken_by step.now (returns_after (reverse returns.old.items) step.now) ≡ None }
+    requires shallow { vec_len returns.old ≤ kept.most_returns }
+    requires spare { kept.most_returns ≤ vec_capacity returns.old }
+    ensures moved { returns_after (reverse returns.old.items) step.now ≡ Some (reverse returns.new.items) }
+    ensures shallow { vec_len returns.new ≤ kept.most_returns }
+    ensures spare { kept.most_returns ≤ vec_capacity returns.new }
+{
+    match step.moved {
+        Move::Local => {}
+        Move::Call => {
+            let _ = returns.push(step.pc.wrapping_add(4));
+        }
+        Move::Return => {
+            let _ = returns.pop();
+        }
+    }
+}
+
+fn is_in(range: &Range, at: u32) -> bool
+    ensures { result ≡ image.is_in at range.now }
+{
+    range.from <= at && at < range.to
+}
+
+// Whether an address is a loop's header or lies in its ranges.
+fn in_extent(note: &LoopNote, at: u32) -> bool
+    ensures { result ≡ kept.in_extent note.now at }
+{
+    if at == note.header {
+        return true;
+    }
+    for k in 0..note.ranges.count() {
+        if is_in(note.ranges.get(k), at) {
+            return true;
+        }
+    }
+    false
+}
+
+// The count of a loop after a step to its header.
+fn next_count(note: &LoopNote, source: Option<u32>, count: u32) -> u32
+    requires { count < 2 ^ 31 }
+    ensures { result ≡ counted note.now source count }
+{
+    match source {
+        Some(at) => { if in_extent(note, at) { count + 1 } else { 0 } }
+        None => 0,
+    }
+}
+
+/// The bound that a step to the header of these loops breaks: that of the first one whose count it would take above its bound.
+pub fn broken_bound(
+    notes: &LoopNotes,
+    group: &[Header],
+    counts: &[u32],
+    source: Option<u32>,
+) -> Option<Kept>
+    requires notes { AreLoopNotes notes.now }
+    requires counts { AreCounts notes.now counts.now }
+    requires loops { AreLoops (length notes.now) group.now }
+    ensures none { IfNone result (IsNoneOver notes.now group.now counts.now source) }
+    ensures first { IfSome result (λ broken. IsFirstOver notes.now group.now counts.now source broken) }
+{
+    for header in group {
+        let note = notes.note(header.number);
+        let count = next_count(note, source, counts[header.number]);
+        if count > note.bound {
+            return Some(Kept::BrokeBound {
+                loop_no: header.number as u32 + 1,
+                count,
+            });
+        }
+    }
+    None
+}
+
+/// Counts a step to the header of these loops, none of whose bounds it breaks.
+pub fn count_step(notes: &LoopNotes, group: &[Header], counts: &mut [u32], source: Option<u32>)
+    requires notes { AreLoopNotes notes.now }
+    requires counts { AreCounts notes.now counts.old }
+    requires loops { AreLoops (length notes.now) group.now }
+    ensures size { length counts.new ≡ length counts.old }
+    ensures each { (j : ℕ) → j < length group.now → slice_index counts.new (header_at group.now j).number ≡ counted_at notes.now group.now counts.old source j }
+    ensures others { (k : ℕ) → ((j : ℕ) → j < length group.now → (header_at group.now j).number ≢ k) → slice_index counts.new k ≡ slice_index counts.old k }
+{
+    for header in group {
+        let note = notes.note(header.number);
+        counts[header.number] = next_count(note, source, counts[header.number]);
+    }
+}

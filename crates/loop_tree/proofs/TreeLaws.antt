@@ -1,0 +1,165 @@
+-- The tree of the loops of notes.
+use Rattle.std.proofs.Common.{◌≡◌, ℕ, zero, suc, ◌<◌, ◌≤◌, Bool, false, List, [], ◌∷◌, map, length, slice_get, slice_index, Option, Some, None, option_map, refl, sym, ap, ◌∙◌, subst, arith, ⊎_elim}
+use Rattle.std.specs.Prelude.{slice_index_or}
+use Rattle.std.proofs.lemmas.Bool.{cases_lt}
+use Rattle.std.proofs.lemmas.List.{length-map, get_or-map}
+use Rattle.std.proofs.lemmas.Option.{slice_get_within, slice_get-get_or, get_or_from_slice_get, slice_get-map}
+use Rattle.cost_theory.specs.Lists.{body_of}
+use Rattle.cost_theory.proofs.Orders.{entered-accepted}
+use Rattle.code_graph.specs.FlowGraph.{FlowGraph, graph, IsFlowGraph}
+use Rattle.code_graph.proofs.Parts.{map_is}
+use Rattle.loop_file.specs.declared.notes.LoopNote.{LoopNote}
+use Rattle.loop_file.specs.Kept.{noted_loops}
+use Rattle.loop_file.specs.Notes.{IsLoopNote, AreLoopNotes}
+use Rattle.natural_loops.specs.Noted.{node_address, header_of}
+use Rattle.natural_loops.specs.Found.{LoopsView, AreNaturalLoops, loops_seen}
+use Rattle.natural_loops.specs.Refused.{AreNoted}
+use Rattle.loop_nesting.specs.Nesting.{IsNesting, IsNextAtHeader}
+use Rattle.loop_nesting.specs.Nesting.{IsInnermost as IsShortest}
+use Rattle.loop_tree.proofs.Lists.{image_some}
+use Rattle.loop_tree.specs.Tree.{LoopView, ArePlainOrdered, IsTreeOf, IsPlainStep, IsCycleRefused}
+use Rattle.loop_tree.specs.Stored.{IsStored}
+use Rattle.loop_tree.specs.Backs.{AreLoopLists, AreBacks, IsStepBy}
+use Rattle.call_orders.specs.declared.Arc.{Arc}
+use Rattle.call_orders.specs.Arcs.{IsSorted}
+use Rattle.call_orders.specs.Cycles.{IsCycleBy}
+use Rattle.scale_base.specs.declared.refusal.Refusal.TheVariants.{UnboundedCycle}
+use Rattle.loop_tree.specs.Arcs.{ArePlainArcs}
+use Rattle.loop_tree.proofs.BackLaws.{back_as, back_from, by_plain, step_as}
+use Rattle.loop_tree.proofs.RoundLaws.{cycle_as}
+use Rattle.loop_tree.proofs.OrderLaws.{IsTurned, ordered, plain_order, place_of}
+use Rattle.loop_tree.proofs.NestLaws.{AreSeen, innermost_as, parent_as, headers_outer}
+
+abbrev pub bounds_in : List LoopNote → List ℕ
+bounds_in notes = map (λ (note : LoopNote). note.bound) notes
+
+-- the lists of natural loops
+pub lists_of : (v : FlowGraph) (notes : List LoopNote) (t : LoopsView) → AreNaturalLoops v notes t → AreLoopLists v t.headers t.bodies
+lists_of v notes t are = record {
+  size = are.bodies_size ∙ sym are.headers_size;
+  headers_are = record {
+    within = λ k kl. slice_get_within v.code.nodes (slice_index t.headers k) _ (are.header k (of_notes k kl));
+    distinct = λ i j ij jl same.
+        are.entered.distinct i j (subst (λ n. j < n) (sym (length-map t.headers (node_address v))) jl)
+        (ij, get_or-map (node_address v) t.headers i 0 0 (omega arith) ∙ ap (node_address v) same ∙ sym (get_or-map (node_address v) t.headers j 0 0 jl));
+  };
+  body = λ k kl. are.body k (of_notes k kl);
+}
+  where
+    of_notes : (k : ℕ) → k < length t.headers → k < length notes
+    of_notes k kl = subst (λ n. k < n) are.headers_size kl
+
+pub seen : (v : FlowGraph) (notes : List LoopNote) (t : LoopsView) → IsFlowGraph v → AreNaturalLoops v notes t → AreSeen v t.headers (bounds_in notes) t.bodies (noted_loops notes).inside
+seen v notes t flow are = record { flow = flow; lists = lists_of v notes t are; entered = are.entered }
+
+-- they are the loops of the notes
+pub noted : (v : FlowGraph) (notes : List LoopNote) (t : LoopsView) → AreNaturalLoops v notes t → AreNoted notes (loops_seen v notes t)
+noted v notes t are = record {
+  count = length-map t.headers (node_address v) ∙ are.headers_size;
+  header = λ k kl.
+      get_or-map (node_address v) t.headers k 0 0 (subst (λ n. k < n) (sym are.headers_size) kl) ∙ get_or_from_slice_get v.code.nodes (slice_index t.headers k) (header_of notes k) 0 (are.header k kl);
+  bound = λ k kl. get_or-map (λ (note : LoopNote). note.bound) notes k (record { header = 0; ranges = []; bound = 0; counted = false }) 0 kl;
+}
+
+-- what a tree of these parts keeps
+pub stored : (v : FlowGraph) (notes : List LoopNote) (t : LoopsView) (backs innermost parent : List (Option ℕ)) (order : List ℕ) → AreLoopNotes notes → AreNaturalLoops v notes t → length parent ≡ length t.bodies →
+    IsStored (record { headers = t.headers; bounds = bounds_in notes; counted = map (λ (note : LoopNote). note.counted) notes; bodies = t.bodies; backs = backs; innermost = innermost; parent = parent; order = order })
+stored v notes t backs innermost parent order in_range are size = record {
+  few = subst (λ n. n ≤ 4096) (sym are.headers_size) in_range.few;
+  bounds = length-map notes (λ (note : LoopNote). note.bound) ∙ sym are.headers_size;
+  counted = length-map notes (λ (note : LoopNote). note.counted) ∙ sym are.headers_size;
+  bodies = are.bodies_size ∙ sym are.headers_size;
+  parent = size ∙ are.bodies_size ∙ sym are.headers_size;
+  ascending = λ k i j x y ij at_i at_j. ⊎_elim
+      (λ (low : k < length notes). (are.body k low).ascending i j x y ij at_i at_j)
+      (λ (high : length notes ≤ k).
+      let none : body_of t.bodies k ≡ [] = no_body t.bodies k (subst (λ n. n ≤ k) (sym are.bodies_size) high) in
+      let clash : None ≡ Some x = sym (ap (λ xs. slice_get xs i) none) ∙ at_i in
+      let bad : ⊥ = cc in absurd bad)
+      (cases_lt k (length notes));
+}
+  where
+    no_body : (bodies : List (List ℕ)) (k : ℕ) → length bodies ≤ k → body_of bodies k ≡ []
+    no_body [] k le = refl
+    no_body (b ∷ bs) zero le = let bad : ⊥ = omega arith in absurd bad
+    no_body (b ∷ bs) (suc k) le = no_body bs k (omega arith)
+
+-- the parts are the tree of the notes
+pub tree_of : (v : FlowGraph) (notes : List LoopNote) (t : LoopsView) (backs innermost parent : List (Option ℕ)) (order : List ℕ) → IsFlowGraph v → AreLoopNotes notes → AreNaturalLoops v notes t →
+    AreBacks v t.headers t.bodies (length v.code.edges) backs → ArePlainOrdered v (loops_seen v notes t) order → IsNesting t.bodies t.headers (length v.code.nodes) (record { innermost = innermost; parent = parent }) →
+    IsTreeOf v notes (record { headers = t.headers; bounds = bounds_in notes; counted = map (λ (note : LoopNote). note.counted) notes; bodies = t.bodies; backs = backs; innermost = innermost; parent = parent; order = order })
+tree_of v notes t backs innermost parent order flow in_range are all along nesting =
+    let lists = lists_of v notes t are in
+    let see : AreSeen v t.headers (bounds_in notes) t.bodies (noted_loops notes).inside = seen v notes t flow are in
+    let parent_size : length parent ≡ length t.headers = nesting.loops ∙ lists.size in
+    record {
+      tree = record {
+        accepted = entered-accepted (graph v) (loops_seen v notes t) (noted_loops notes).inside flow.program are.entered
+            (λ k kl. are.not_deep k (subst (λ n. k < n) (length-map t.headers (node_address v) ∙ are.headers_size) kl))
+            (length order) (place_of v order) (plain_order v (loops_seen v notes t) order flow along);
+        order = along;
+        bounds_size = length-map notes (λ (note : LoopNote). note.bound) ∙ sym are.headers_size;
+        counted_size = length-map notes (λ (note : LoopNote). note.counted) ∙ sym are.headers_size;
+        bodies_size = lists.size;
+        parent_size = parent_size;
+        header = λ k h at. subst (λ x. x < length v.code.nodes) (get_or_from_slice_get t.headers k h 0 at) (lists.headers_are.within k (slice_get_within t.headers k h at));
+        bound = λ k n at.
+            let note = image_some (λ (note : LoopNote). note.bound) (slice_get notes k) n (sym (slice_get-map (λ (note : LoopNote). note.bound) notes k) ∙ at) in
+            let is : IsLoopNote note.0 = subst IsLoopNote (get_or_from_slice_get notes k note.0 note.0 note.1) (in_range.each k note.0 (slice_get_within notes k note.0 note.1)) in
+            subst (λ x. x ≤ 1000000000) note.2 is.bound;
+        body = lists.body;
+        parents = λ k o at.
+            let kl : k < length t.headers = subst (λ n. k < n) parent_size (slice_get_within parent k o at) in
+            let found : slice_index_or parent k None ≡ o = get_or_from_slice_get parent k o None at in
+            parent_as v t.headers (bounds_in notes) t.bodies (noted_loops notes).inside see k kl o
+            (subst (IsNextAtHeader t.bodies t.headers k) found (nesting.at_header (headers_outer v t.headers (bounds_in notes) t.bodies (noted_loops notes).inside see) k (subst (λ n. k < n) (sym lists.size) kl)));
+        backs_size = all.size;
+        backs = λ e k. (
+          λ at.
+              let el : e < length v.code.edges = subst (λ n. e < n) all.size (slice_get_within backs e (Some k) at) in
+              let is = (all.back e k el).0 at in
+              (el, is.within, back_as v t.headers (bounds_in notes) t.bodies e k lists is),
+          λ h. (all.back e k h.0).1 (back_from v t.headers (bounds_in notes) t.bodies e k lists h.1 h.2),
+        );
+        innermost_size = nesting.nodes;
+        innermost = λ k o at.
+            let kl : k < length v.code.nodes = subst (λ n. k < n) nesting.nodes (slice_get_within innermost k o at) in
+            let found : slice_index_or innermost k None ≡ o = get_or_from_slice_get innermost k o None at in
+            innermost_as v t.headers (bounds_in notes) t.bodies (noted_loops notes).inside see k kl o (subst (IsShortest t.bodies k) found (nesting.innermost k kl));
+      };
+      headers = map_is (λ (note : LoopNote). note.header) notes (map (node_address v) t.headers) (length-map t.headers (node_address v) ∙ are.headers_size)
+          (λ j note at.
+          let jl : j < length notes = slice_get_within notes j note at in
+          let low : j < length t.headers = subst (λ n. j < n) (sym are.headers_size) jl in
+          let is : header_of notes j ≡ note.header = ap (λ (n : LoopNote). n.header) (get_or_from_slice_get notes j note (record { header = 0; ranges = []; bound = 0; counted = false }) at) in
+          slice_get-map (node_address v) t.headers j ∙ ap (option_map (node_address v)) (slice_get-get_or t.headers j 0 low) ∙
+          ap Some (get_or_from_slice_get v.code.nodes (slice_index t.headers j) (header_of notes j) 0 (are.header j jl) ∙ is));
+      bounds = refl;
+      counted = refl;
+    }
+
+-- an order of arcs for the plain edges, turned round
+pub plain_ordered : (v : FlowGraph) (notes : List LoopNote) (t : LoopsView) (backs : List (Option ℕ)) (arcs : List Arc) (order turned : List ℕ) → IsFlowGraph v → AreNaturalLoops v notes t →
+    AreBacks v t.headers t.bodies (length v.code.edges) backs → ArePlainArcs v backs (length v.code.edges) arcs → IsSorted (length v.code.nodes) arcs order → IsTurned order turned → ArePlainOrdered v (loops_seen v notes t) turned
+plain_ordered v notes t backs arcs order turned flow are all arcs_are sorted is =
+    ordered v (loops_seen v notes t) backs arcs order turned flow (by_plain v t.headers (bounds_in notes) t.bodies backs (lists_of v notes t are) all) arcs_are sorted is
+
+-- a cycle of plain edges
+pub cycle_refused : (v : FlowGraph) (notes : List LoopNote) (t : LoopsView) (backs : List (Option ℕ)) (cycle : List ℕ) → AreNaturalLoops v notes t → AreBacks v t.headers t.bodies (length v.code.edges) backs →
+    IsCycleBy (IsStepBy v backs) cycle → IsCycleRefused v notes (UnboundedCycle cycle)
+cycle_refused v notes t backs cycle are all is = record {
+  loops = loops_seen v notes t;
+  noted = noted v notes t are;
+  entered = are.entered;
+  not_deep = are.not_deep;
+  cycle = cycle;
+  is_cycle = cycle_as (IsStepBy v backs) (IsPlainStep v (loops_seen v notes t)) cycle (step_as v t.headers (bounds_in notes) t.bodies backs (lists_of v notes t are) all) is;
+  refusal_is = refl;
+}
+
+-- parts that are the same make the same tree
+pub same_view : (backs : List (Option ℕ)) (order : List ℕ) (headers headers' bounds bounds' : List ℕ) (counted counted' : List Bool) (bodies bodies' : List (List ℕ)) (innermost innermost' parent parent' : List (Option ℕ)) →
+    headers ≡ headers' → bounds ≡ bounds' → counted ≡ counted' → bodies ≡ bodies' → innermost ≡ innermost' → parent ≡ parent' →
+    ◌≡◌ {A = LoopView} (record { headers = headers; bounds = bounds; counted = counted; bodies = bodies; backs = backs; innermost = innermost; parent = parent; order = order })
+    (record { headers = headers'; bounds = bounds'; counted = counted'; bodies = bodies'; backs = backs; innermost = innermost'; parent = parent'; order = order })
+same_view backs order headers headers' bounds bounds' counted counted' bodies bodies' innermost innermost' parent parent' p q r s t u = cc

@@ -1,0 +1,70 @@
+//! A tree of loops from its parts.
+
+ghost use Rattle.std.specs.Prelude.{◌≡◌, length, map, IfOk};
+ghost use Rattle.code_graph.specs.FlowGraph.{IsFlowGraph};
+ghost use Rattle.loop_file.specs.Notes.{AreLoopNotes};
+ghost use Rattle.natural_loops.specs.Found.{loops_seen, AreNaturalLoops};
+ghost use Rattle.loop_tree.specs.Tree.{ArePlainOrdered, IsTreeOf};
+ghost use Rattle.loop_tree.specs.Backs.{AreBacks};
+
+use crate::tree::LoopTree;
+use code_graph::CodeGraph;
+use loop_file::LoopNotes;
+use loop_nesting::nest_loops;
+use natural_loops::NaturalLoops;
+use scale_base::NoMemory;
+use std::alloc::Global;
+
+/// The bounds of loops.
+fn bounds_of(alloc: Global, notes: &LoopNotes) -> Result<Vec<u32>, NoMemory>
+    ensures in_range { AreLoopNotes notes.now }
+    ensures bounds { IfOk result (λ bounds. bounds.items ≡ map (λ note. note.bound) notes.now) }
+{
+    let mut bounds = Vec::new(alloc);
+    for k in 0..notes.count() {
+        bounds.push(notes.note(k).bound)?;
+    }
+    Ok(bounds)
+}
+
+/// Whether the back edges of loops are counted.
+fn counted_of(alloc: Global, notes: &LoopNotes) -> Result<Vec<bool>, NoMemory>
+    ensures { IfOk result (λ counted. counted.items ≡ map (λ note. note.counted) notes.now) }
+{
+    let mut counted = Vec::new(alloc);
+    for k in 0..notes.count() {
+        counted.push(notes.note(k).counted)?;
+    }
+    Ok(counted)
+}
+
+/// The tree of the loops of notes, with their back edges and an order along plain edges.
+pub fn assemble(
+    alloc: Global,
+    graph: &CodeGraph,
+    notes: &LoopNotes,
+    found: NaturalLoops,
+    backs: Vec<Option<usize>>,
+    order: Vec<usize>,
+) -> Result<LoopTree, NoMemory>
+    requires flow { IsFlowGraph graph.now }
+    requires loops { AreNaturalLoops graph.now notes.now found }
+    requires backs { AreBacks graph.now found.headers found.bodies (length graph.now.code.edges) backs.items }
+    requires order { ArePlainOrdered graph.now (loops_seen graph.now notes.now found) order.items }
+    ensures { IfOk result (λ tree. IsTreeOf graph.now notes.now tree) }
+{
+    let nesting = nest_loops(alloc, &found.bodies, &found.headers, graph.node_count())?;
+    let (innermost, parent) = nesting.into_parts();
+    let bounds = bounds_of(alloc, notes)?;
+    let counted = counted_of(alloc, notes)?;
+    Ok(LoopTree {
+        headers: found.headers,
+        bounds,
+        counted,
+        bodies: found.bodies,
+        backs,
+        innermost,
+        parent,
+        order,
+    })
+}

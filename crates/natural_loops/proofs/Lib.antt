@@ -1,0 +1,11 @@
+pub mod NodeLaws
+pub mod BodyLaws
+pub mod EndLaws
+pub mod ExtentLaws
+pub mod WalkLaws
+pub mod HeaderLaws
+pub mod SortLaws
+pub mod EntryLaws
+pub mod AddLaws
+pub mod ReadyLaws
+pub mod FoundLaws

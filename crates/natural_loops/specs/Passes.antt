@@ -1,0 +1,125 @@
+-- What the passes over the notes of a program's loops find.
+use Rattle.std.specs.Prelude.{◌≡◌, ◌≢◌, ℕ, ◌+◌, ◌<◌, ◌≤◌, ◌↔◌, ◌⊎◌, Bool, true, List, length, slice_get, slice_index, Result, Ok, Err, Some}
+use Rattle.scale_base.specs.declared.refusal.Refusal.{Refusal}
+use Rattle.scale_base.specs.declared.refusal.Refusal.TheVariants.{TooDeep}
+use Rattle.cost_theory.specs.Graph.{sum_below, only}
+use Rattle.cost_theory.specs.Accepted.{IsInBody}
+use Rattle.cost_theory.specs.Lists.{body_of}
+use Rattle.code_graph.specs.FlowGraph.{FlowGraph, graph, IsFlowGraph}
+use Rattle.loop_bodies.specs.declared.extent.NodeRange.{NodeRange}
+use Rattle.loop_bodies.specs.Bodies as bodies
+use Rattle.loop_bodies.specs.Bodies.{IsIn, AreNodes, IsSideEdge}
+use Rattle.loop_bodies.specs.Edges.{EdgeView}
+use Rattle.loop_file.specs.declared.notes.LoopNote.{LoopNote}
+use Rattle.loop_file.specs.Kept as kept
+use Rattle.loop_file.specs.Kept.{note_at}
+use Rattle.natural_loops.specs.Ends.{AreEdgeEnds}
+use Rattle.natural_loops.specs.Noted.{header_of, IsBodyNode, HasBackEdge, IsEnteredAside}
+use Rattle.natural_loops.specs.Found.{IsAscending}
+use Rattle.natural_loops.specs.Refused.{IsHeaderRefused, AreHeaders, IsTurnRefused, IsEntryRefused}
+
+-- so many numbers below a count have addresses below one
+pub record IsCountBelow (nodes : List ℕ) (at n : ℕ) : Type 0 where
+  pub below : (k a : ℕ) → k < n → slice_get nodes k ≡ Some a → a < at
+  pub above : (k a : ℕ) → n ≤ k → slice_get nodes k ≡ Some a → at ≤ a
+
+-- what is so of the graph of a program
+pub record IsSmallGraph (v : FlowGraph) : Type 0 where
+  pub flow : IsFlowGraph v
+  pub few : length v.code.nodes ≤ 131072
+
+-- by loop, the number of its header's node
+pub record AreHeaderNumbers (v : FlowGraph) (notes : List LoopNote) (headers : List ℕ) : Type 0 where
+  pub few : length notes ≤ 4096
+  pub size : length headers ≡ length notes
+  pub at : (k : ℕ) → k < length notes → slice_get v.code.nodes (slice_index headers k) ≡ Some (header_of notes k)
+
+abbrev pub AreHeadersFound : FlowGraph → List LoopNote → Result (List ℕ) Refusal → Type 0
+AreHeadersFound v notes (Ok headers) = AreHeaderNumbers v notes headers
+AreHeadersFound v notes (Err refusal) = IsHeaderRefused v notes refusal
+
+-- loops j and k, numbered in this order, have one header
+abbrev pub HaveOneNumber : List ℕ → ℕ → ℕ → Type 0
+HaveOneNumber headers j k = (j < k) × (k < length headers) × (slice_index headers j ≡ slice_index headers k)
+
+-- the ends of the edges of a program's graph
+pub record AreEdgesOf (v : FlowGraph) (edges : EdgeView) : Type 0 where
+  pub graph : IsSmallGraph v
+  pub ends : AreEdgeEnds v edges.sources edges.targets
+  pub count : edges.count ≡ length v.code.nodes
+
+-- the same, and notes of loops with different headers, which are at these nodes
+pub record IsReady (v : FlowGraph) (search : EdgeView) (notes : List LoopNote) (headers : List ℕ) : Type 0 where
+  pub edges : AreEdgesOf v search
+  pub few : length notes ≤ 4096
+  pub numbers : AreHeaderNumbers v notes headers
+  pub apart : AreHeaders v notes
+
+-- the ranges of nodes have those in a note's extent
+abbrev pub IsExtent : FlowGraph → LoopNote → List NodeRange → Type 0
+IsExtent v note extent = (k at : ℕ) → slice_get v.code.nodes k ≡ Some at → bodies.in_extent extent k ≡ kept.in_extent note at
+
+-- a node is in the body of a note's loop
+abbrev pub IsNodeOf : FlowGraph → LoopNote → ℕ → Type 0
+IsNodeOf v note at = IsInBody (graph v) note.header (kept.in_extent note) at
+
+-- an edge leads from its body to its header
+abbrev pub HasTurn : FlowGraph → LoopNote → Type 0
+HasTurn v note = (e : ℕ) × (e < (graph v).edges) × IsNodeOf v note ((graph v).source e) × ((graph v).target e ≡ Some note.header)
+
+-- the numbers of the nodes in the body of a note's loop
+pub record IsNumberedBody (v : FlowGraph) (note : LoopNote) (body : List ℕ) : Type 0 where
+  pub nodes : AreNodes (length v.code.nodes) body
+  pub exact : (i at : ℕ) → slice_get v.code.nodes i ≡ Some at → IsIn body i ↔ IsNodeOf v note at
+
+-- the nodes of a body are of its header's function
+abbrev pub AreOwned : FlowGraph → ℕ → List ℕ → Type 0
+AreOwned v header body = (i at : ℕ) → IsIn body i → slice_get v.code.nodes i ≡ Some at → (graph v).owner at ≡ (graph v).owner (slice_index v.code.nodes header)
+
+abbrev pub IsEntryNode : FlowGraph → ℕ → Type 0
+IsEntryNode v i = (f : ℕ) × (f < (graph v).functions) × (slice_get v.code.nodes i ≡ Some ((graph v).entry f))
+
+-- an edge leads into a body past its header; or the entry of a function lies there, and stands for both ends
+abbrev pub IsSidePair : FlowGraph → EdgeView → ℕ → List ℕ → ℕ → ℕ → Type 0
+IsSidePair v edges header body from to = IsSideEdge edges.sources edges.targets header body from to ⊎
+    ((from ≡ to) × IsIn body to × (to ≢ header) × IsEntryNode v to)
+
+abbrev pub AreTurnsFound : FlowGraph → List LoopNote → Result Unit Refusal → Type 0
+AreTurnsFound v notes (Ok x) = (k : ℕ) → k < length notes → HasBackEdge v notes k
+AreTurnsFound v notes (Err refusal) = IsTurnRefused v notes refusal
+
+-- by node, in how many of the first n bodies it is
+pub record AreDepths (v : FlowGraph) (notes : List LoopNote) (n : ℕ) (depths : List ℕ) : Type 0 where
+  pub size : length depths ≡ length v.code.nodes
+  pub inside : ℕ → ℕ → Bool
+  pub bodies : (k at : ℕ) → k < n → (inside k at ≡ true) ↔ IsBodyNode v notes k at
+  pub counted : (i at : ℕ) → slice_get v.code.nodes i ≡ Some at → slice_index depths i ≡ sum_below n (λ k. only (inside k at) 1)
+
+-- no body is entered aside
+pub record AreEntriesFound (v : FlowGraph) (notes : List LoopNote) (depths : List ℕ) : Type 0 where
+  pub none : (k from to : ℕ) → k < length notes → IsEnteredAside v notes k from to → ⊥
+  pub counts : AreDepths v notes (length notes) depths
+
+abbrev pub AreEntries : FlowGraph → List LoopNote → Result (List ℕ) Refusal → Type 0
+AreEntries v notes (Ok depths) = AreEntriesFound v notes depths
+AreEntries v notes (Err refusal) = IsEntryRefused v notes refusal
+
+-- the first header that is in more than 16 bodies is refused
+abbrev pub depth_at : List ℕ → List ℕ → ℕ → ℕ
+depth_at headers depths k = slice_index depths (slice_index headers k)
+
+pub record IsDeepest (headers depths : List ℕ) (refusal : Refusal) : Type 0 where
+  pub k : ℕ
+  pub within : k < length headers
+  pub deep : 16 < depth_at headers depths k
+  pub first : (j : ℕ) → j < k → depth_at headers depths j ≤ 16
+  pub refusal_is : refusal ≡ TooDeep (k + 1)
+
+abbrev pub AreShallow : List ℕ → List ℕ → Result Unit Refusal → Type 0
+AreShallow headers depths (Ok x) = (k : ℕ) → k < length headers → depth_at headers depths k ≤ 16
+AreShallow headers depths (Err refusal) = IsDeepest headers depths refusal
+
+-- by loop, its body, whose nodes ascend
+pub record AreBodies (v : FlowGraph) (notes : List LoopNote) (n : ℕ) (bodies : List (List ℕ)) : Type 0 where
+  pub size : length bodies ≡ n
+  pub body : (k : ℕ) → k < n → IsNumberedBody v (note_at notes k) (body_of bodies k) × IsAscending (length v.code.nodes) (body_of bodies k)

@@ -1,0 +1,117 @@
+//! How the bodies of loops are entered, and how deep they lie.
+
+ghost use Rattle.std.specs.Prelude.{◌≡◌, ◌+◌, ◌<◌, ◌≤◌, ◌↔◌, ℕ, true, length, slice_get, slice_index, Some};
+ghost use Rattle.scale_base.specs.Answer.{AnswersBy};
+ghost use Rattle.code_graph.specs.FlowGraph as flow;
+ghost use Rattle.loop_bodies.specs.Bodies.{IsIn, AreNodes, IsLeastPair};
+ghost use Rattle.natural_loops.specs.Passes.{IsSmallGraph, AreEdgesOf, IsReady, AreOwned, IsSidePair, AreTurnsFound, AreEntries, AreShallow};
+ghost use Rattle.natural_loops.specs.Noted.{HasBackEdge};
+
+use crate::headers::number_of;
+use crate::nodes::node_at;
+use crate::turns::loop_body;
+use code_graph::CodeGraph;
+use loop_bodies::{BodySearch, lesser_pair};
+use loop_file::LoopNotes;
+use scale_base::{Refusal, Stop};
+use std::alloc::Global;
+
+// Loops may be nested so deep.
+const MOST_DEPTH: usize = 16;
+
+fn is_among(nodes: &[usize], node: usize) -> bool
+    ensures { (result ≡ true) ↔ IsIn nodes.now node }
+{
+    for other in nodes {
+        if *other == node {
+            return true;
+        }
+    }
+    false
+}
+
+// The node at the entry of a node's function.
+fn entry_of(graph: &CodeGraph, node: usize) -> usize
+    requires graph { IsSmallGraph graph.now }
+    requires node { node < length graph.now.code.nodes }
+    ensures { slice_get graph.now.code.nodes result ≡ Some ((flow.graph graph.now).entry ((flow.graph graph.now).owner (slice_index graph.now.code.nodes node))) }
+{
+    node_at(graph, graph.function(graph.owner(node)))
+}
+
+// How the body of a loop is entered past its header: the least two nodes, of which the entry of the function stands for both.
+fn side_entry(
+    search: &mut BodySearch<'_>,
+    graph: &CodeGraph,
+    header: usize,
+    body: &[usize],
+) -> Option<(usize, usize)>
+    requires edges { AreEdgesOf graph.now search.old }
+    requires header { header < length graph.now.code.nodes }
+    requires nodes { AreNodes (length graph.now.code.nodes) body.now }
+    requires owned { AreOwned graph.now header body.now }
+    ensures entry { IsLeastPair (IsSidePair graph.now search.old header body.now) result }
+    ensures same { search.new ≡ search.old }
+{
+    let least = search.side_entry(header, body);
+    let entry = entry_of(graph, header);
+    if entry != header && is_among(body, entry) {
+        return Some(lesser_pair(least, (entry, entry)));
+    }
+    least
+}
+
+// Counts one body more at each of its nodes.
+fn add_body(depths: &mut [usize], body: &[usize])
+    requires nodes { AreNodes (length depths.old) body.now }
+    requires small { (i : ℕ) → i < length depths.old → slice_index depths.old i < 4096 }
+    ensures size { length depths.new ≡ length depths.old }
+    ensures inside { (i : ℕ) → IsIn body.now i → slice_index depths.new i ≡ slice_index depths.old i + 1 }
+    ensures outside { (i : ℕ) → (IsIn body.now i → ⊥) → slice_index depths.new i ≡ slice_index depths.old i }
+{
+    for node in body {
+        depths[*node] += 1;
+    }
+}
+
+/// By node, in how many bodies it is. A loop whose body is entered past its header is refused.
+pub fn check_entries(
+    alloc: Global,
+    search: &mut BodySearch<'_>,
+    graph: &CodeGraph,
+    notes: &LoopNotes,
+    headers: &[usize],
+) -> Result<Vec<usize>, Stop>
+    requires ready { IsReady graph.now search.old notes.now headers.now }
+    requires turns { (k : ℕ) → k < length notes.now → HasBackEdge graph.now notes.now k }
+    ensures entries { AnswersBy (λ depths. depths.items) result (AreEntries graph.now notes.now) }
+    ensures same { search.new ≡ search.old }
+{
+    let mut depths = vec![in alloc; 0; graph.node_count()]?;
+    for k in 0..notes.count() {
+        let body = loop_body(alloc, search, graph, notes.note(k), headers[k])?;
+        if let Some((from, to)) = side_entry(search, graph, headers[k], &body) {
+            return Err(Stop::Refused(Refusal::SideEntry(
+                number_of(k),
+                graph.node(from),
+                graph.node(to),
+            )));
+        }
+        add_body(&mut depths, &body);
+    }
+    Ok(depths)
+}
+
+/// Refuses a loop whose header is in too many bodies.
+pub fn check_depths(headers: &[usize], depths: &[usize]) -> Result<(), Stop>
+    requires few { length headers.now ≤ 4096 }
+    requires within { (k : ℕ) → k < length headers.now → slice_index headers.now k < length depths.now }
+    ensures { AnswersBy (λ x. x) result (AreShallow headers.now depths.now) }
+{
+    for (k, header) in headers.iter().enumerate() {
+        if depths[*header] > MOST_DEPTH {
+            return Err(Stop::Refused(Refusal::TooDeep(number_of(k))));
+        }
+    }
+    Ok(())
+}

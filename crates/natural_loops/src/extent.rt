@@ -1,0 +1,54 @@
+//! The extents of loops by the numbers of nodes.
+
+ghost use Rattle.std.specs.Prelude.{◌≡◌, ◌≤◌, length, slice_get, Some, IfOk};
+ghost use Rattle.natural_loops.specs.Passes.{IsSmallGraph, IsCountBelow, IsExtent};
+
+use code_graph::CodeGraph;
+use loop_bodies::NodeRange;
+use loop_file::LoopNote;
+use scale_base::NoMemory;
+use std::alloc::Global;
+
+// How many nodes have addresses below one.
+fn nodes_below(graph: &CodeGraph, at: u32) -> usize
+    requires { IsSmallGraph graph.now }
+    ensures { IsCountBelow graph.now.code.nodes at result }
+{
+    let mut from = 0;
+    let mut to = graph.node_count();
+    while from < to {
+        let middle = from + (to - from) / 2;
+        if graph.node(middle) < at {
+            from = middle + 1;
+        } else {
+            to = middle;
+        }
+    }
+    from
+}
+
+/// The extent of a loop: the node of its header, and those with addresses in the ranges of its note.
+pub fn extent_of(
+    alloc: Global,
+    graph: &CodeGraph,
+    note: &LoopNote,
+    header: usize,
+) -> Result<Vec<NodeRange>, NoMemory>
+    requires graph { IsSmallGraph graph.now }
+    requires header { slice_get graph.now.code.nodes header ≡ Some note.now.header }
+    ensures { IfOk result (λ extent. IsExtent graph.now note.now extent.items) }
+{
+    let mut extent = Vec::new(alloc);
+    extent.push(NodeRange {
+        from: header,
+        to: header + 1,
+    })?;
+    for k in 0..note.ranges.count() {
+        let range = note.ranges.get(k);
+        extent.push(NodeRange {
+            from: nodes_below(graph, range.from),
+            to: nodes_below(graph, range.to),
+        })?;
+    }
+    Ok(extent)
+}

@@ -1,0 +1,48 @@
+//! The natural loops of a program's graph by their notes: the nodes of each body, and which loops are refused.
+#![tactic(auto)]
+
+ghost use Rattle.scale_base.specs.Answer.{AnswersBy};
+ghost use Rattle.natural_loops.specs.Refused.{AreLoopsFound};
+
+mod bodies;
+mod ends;
+mod entries;
+mod extent;
+mod headers;
+mod loops;
+mod nodes;
+#[cfg(test)]
+mod tests;
+mod turns;
+
+use bodies::keep_bodies;
+use code_graph::CodeGraph;
+pub use ends::{EdgeEnds, edge_ends};
+use entries::{check_depths, check_entries};
+use headers::{find_headers, least_pair, number_of};
+use loop_bodies::BodySearch;
+use loop_file::LoopNotes;
+pub use loops::NaturalLoops;
+pub use nodes::node_at;
+use scale_base::{Refusal, Stop};
+use std::alloc::Global;
+use turns::check_turns;
+
+/// The natural loops of a graph by their notes, in the notes' order; or why they are refused. The body of each loop is found
+/// twice, so that no bodies are kept of loops that are refused.
+pub fn find_loops(alloc: Global, graph: &CodeGraph, notes: &LoopNotes) -> Result<NaturalLoops, Stop>
+    ensures { AnswersBy (λ t. t) result (AreLoopsFound graph.now notes.now) }
+{
+    let count = graph.node_count();
+    let headers = find_headers(alloc, graph, notes)?;
+    if let Some((one, two)) = least_pair(alloc, &headers, count)? {
+        return Err(Stop::Refused(Refusal::SameHeader(number_of(one), number_of(two))));
+    }
+    let ends = edge_ends(alloc, graph)?;
+    let mut search = BodySearch::new(alloc, &ends.sources, &ends.targets, count)?;
+    check_turns(alloc, &search, graph, notes, &headers)?;
+    let depths = check_entries(alloc, &mut search, graph, notes, &headers)?;
+    check_depths(&headers, &depths)?;
+    let bodies = keep_bodies(alloc, &mut search, graph, notes, &headers)?;
+    Ok(NaturalLoops { headers, bodies })
+}

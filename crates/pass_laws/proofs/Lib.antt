@@ -1,0 +1,4 @@
+pub mod Headers
+pub mod Charges
+pub mod PlainPaths
+pub mod Iterations

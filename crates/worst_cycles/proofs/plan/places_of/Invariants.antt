@@ -1,0 +1,9 @@
+use Rattle.std.proofs.Common.{◌≡◌, ℕ, ◌<◌, length}
+use Rattle.call_orders.specs.Arcs.{number_at}
+use Rattle.worst_cycles.proofs.plan.places_of.Given as goal
+
+abbrev pub invariant-loop-i : goal.invariant-loop-i
+invariant-loop-i l = record {
+  size : length l.places.items ≡ l.count;
+  each : (j : ℕ) → j < l.i → number_at l.places.items (number_at l.order j) ≡ j;
+}

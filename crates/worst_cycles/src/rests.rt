@@ -1,0 +1,160 @@
+//! The rests of an iteration of a loop.
+
+ghost use Rattle.std.specs.Prelude.{◌≡◌, ℕ, ◌+◌, ◌^◌, ◌<◌, ◌≤◌, true, length, slice_index, Some};
+ghost use Rattle.call_orders.specs.Arcs.{number_at};
+ghost use Rattle.cost_theory.specs.Graph.{IsPlain};
+ghost use Rattle.cost_theory.specs.Worst.{Numbers};
+ghost use Rattle.code_graph.specs.FlowGraph.{graph as graph_seen, IsFlowGraph};
+ghost use Rattle.loop_tree.specs.Tree.{loops};
+ghost use Rattle.worst_cycles.specs.Worst.{by_edge};
+ghost use Rattle.worst_cycles.specs.Needs.{AreEntries, HasTree};
+ghost use Rattle.worst_cycles.specs.Visits.{AreVisits, AreSolvedBy, IsKnown, AreKnownAt};
+ghost use Rattle.worst_cycles.specs.Rests.{AreRests, IsRestOf, IsRestKnown, AreRestsKnownAt, IsRestFor, IsRestPast, IsGreaterOf};
+
+use crate::plan::Plan;
+use crate::visits::{Visit, cost_of};
+use code_graph::{CodeGraph, Weights};
+use loop_tree::LoopTree;
+
+/// The rests of an iteration of a loop from the nodes of its body, each the greatest cost of a plain path within the body
+/// and a back edge of the loop.
+#[derive(Drop)]
+pub struct Rests {
+    /// The places of the body's nodes, ascending.
+    pub steps: Vec<usize>,
+    /// The rests from the first of these nodes, where there are any.
+    pub found: Vec<Option<u64>>,
+}
+
+impl Rests {
+    /// The rest from the node at a place, if it is found.
+    pub fn at(&self, place: usize) -> Option<u64>
+        requires rests { AreRests self.now }
+        ensures rest { IsRestOf self.now place result }
+        ensures small { (b : ℕ) → result ≡ Some b → b ≤ 2 ^ 48 + 2 ^ 32 }
+    {
+        match self.steps.binary_search(&place) {
+            Ok(m) => {
+                if m < self.found.len() {
+                    self.found[m]
+                } else {
+                    None
+                }
+            }
+            Err(_) => None,
+        }
+    }
+}
+
+/// The rest over edge `e`, which is plain.
+fn rest_past(
+    graph: &CodeGraph,
+    weights: &Weights,
+    plan: &Plan,
+    visits: &[Visit],
+    rests: &Rests,
+    e: usize,
+) -> Option<u64>
+    requires flow { IsFlowGraph graph.now }
+    requires entries { AreEntries graph.now plan.now.entries.items }
+    requires places { length plan.now.places.items ≡ length graph.now.code.nodes }
+    requires weights { length weights.now ≡ length graph.now.code.edges }
+    requires visits { AreVisits graph.now visits.now }
+    requires rests { AreRests rests.now }
+    requires edge { e < length graph.now.code.edges }
+    ensures rest { IsRestPast graph.now plan.now (by_edge weights.now) visits.now rests.now e result }
+    ensures small { (b : ℕ) → result ≡ Some b → b ≤ 2 ^ 51 }
+{
+    match graph.target(e) {
+        Some(k) => match rests.at(plan.places[k]) {
+            Some(rest) => {
+                let cost = cost_of(graph, weights, plan, visits, e);
+                Some(cost + visits[k].turns + rest)
+            }
+            None => None,
+        },
+        None => None,
+    }
+}
+
+/// The rest over edge `e` of an iteration of loop `l`.
+fn rest_over(
+    graph: &CodeGraph,
+    tree: &LoopTree,
+    weights: &Weights,
+    plan: &Plan,
+    visits: &[Visit],
+    rests: &Rests,
+    l: usize,
+    e: usize,
+) -> Option<u64>
+    requires flow { IsFlowGraph graph.now }
+    requires tree { HasTree graph.now tree.now }
+    requires entries { AreEntries graph.now plan.now.entries.items }
+    requires places { length plan.now.places.items ≡ length graph.now.code.nodes }
+    requires weights { length weights.now ≡ length graph.now.code.edges }
+    requires visits { AreVisits graph.now visits.now }
+    requires rests { AreRests rests.now }
+    requires within { l < length tree.now.headers }
+    requires edge { e < length graph.now.code.edges }
+    ensures rest { (n : Numbers) → AreSolvedBy graph.now tree.now (by_edge weights.now) n → IsKnown graph.now tree.now plan.now visits.now n e → IsRestKnown graph.now tree.now plan.now rests.now n l e → IsRestFor graph.now tree.now (by_edge weights.now) n l e result }
+    ensures small { (b : ℕ) → result ≡ Some b → b ≤ 2 ^ 51 }
+{
+    match tree.back_loop(e) {
+        Some(j) => {
+            if j == l {
+                Some(cost_of(graph, weights, plan, visits, e))
+            } else {
+                None
+            }
+        }
+        None => rest_past(graph, weights, plan, visits, rests, e),
+    }
+}
+
+/// The greater of two numbers, if any.
+fn greater(one: Option<u64>, other: Option<u64>) -> Option<u64>
+    ensures { IsGreaterOf one other result }
+{
+    match one {
+        Some(a) => match other {
+            Some(b) => { if a < b { other } else { one } }
+            None => one,
+        },
+        None => other,
+    }
+}
+
+/// The rest from node `k` of an iteration of loop `l`, in whose body the node is.
+pub fn rest_at_node(
+    graph: &CodeGraph,
+    tree: &LoopTree,
+    weights: &Weights,
+    plan: &Plan,
+    visits: &[Visit],
+    rests: &Rests,
+    l: usize,
+    k: usize,
+) -> Option<u64>
+    requires flow { IsFlowGraph graph.now }
+    requires tree { HasTree graph.now tree.now }
+    requires entries { AreEntries graph.now plan.now.entries.items }
+    requires places { length plan.now.places.items ≡ length graph.now.code.nodes }
+    requires weights { length weights.now ≡ length graph.now.code.edges }
+    requires visits { AreVisits graph.now visits.now }
+    requires rests { AreRests rests.now }
+    requires within { l < length tree.now.headers }
+    requires node { k < length graph.now.code.nodes }
+    requires inside { (loops graph.now tree.now).inside l (slice_index graph.now.code.nodes k) ≡ true }
+    ensures { (n : Numbers) → AreSolvedBy graph.now tree.now (by_edge weights.now) n → AreKnownAt graph.now tree.now plan.now visits.now n (slice_index graph.now.code.nodes k) → AreRestsKnownAt graph.now tree.now plan.now rests.now n l (slice_index graph.now.code.nodes k) → result ≡ n.closing l (slice_index graph.now.code.nodes k) }
+{
+    let (first, end) = graph.edges_of(k);
+    let mut most = None;
+    for e in first..end {
+        most = greater(
+            most,
+            rest_over(graph, tree, weights, plan, visits, rests, l, e),
+        );
+    }
+    most
+}
