@@ -5,7 +5,8 @@ It makes files in a temporary folder and runs the program on each, three times:
 - nested: groups of 16 loops, one within the other, over the whole text: 1,024 loops in 32,768 words, 2,048 in 65,536, and
   4,096 in 131,072;
 - flat: the same number of loops, one behind the other;
-- deep: loops that are all nested, which is refused: 256, 512 and 1,024 of them over 131,072 words.
+- deep: loops that are all nested, which is refused: 1,024 and 4,096 of them over 131,072 words;
+- ranges: 4,096 such loops, each with 16 ranges, of which the last alone has its nodes.
 
 The first two should double with the size. Run it from anywhere; it builds the program first where that isn't built yet.
 """
@@ -29,8 +30,10 @@ def branch(offset):
     )
 
 
-def note(header, end):
-    return "[[loop]]\nheader = %d\nranges = [[%d, %d]]\nbound = 1\n" % (header, header, end)
+def note(header, end, before=0):
+    """The note of a loop, with some ranges before its own that have no node."""
+    ranges = "".join("[%d, %d], " % (k, k + 1) for k in range(before)) + "[%d, %d]" % (header, end)
+    return "[[loop]]\nheader = %d\nranges = [%s]\nbound = 1\n" % (header, ranges)
 
 
 def nest(at, size, depth):
@@ -55,7 +58,7 @@ def groups(size, words_each, depth):
     return text + [NOP] * (size - 2 - len(text)) + EXIT, notes
 
 
-def deep(size, depth):
+def deep(size, depth, before=0):
     # The back edges are jumps, since a branch doesn't reach so far: a branch steps over each.
     body = size - 2 - 2 * depth
     text, notes = [NOP] * body, []
@@ -64,7 +67,7 @@ def deep(size, depth):
         place = len(text)
         header = depth - 1 - k
         text.append(jump(0, 4 * (header - place)))
-        notes.append(note(ENTRY + 4 * header, ENTRY + 4 * (place + 1)))
+        notes.append(note(ENTRY + 4 * header, ENTRY + 4 * (place + 1), before))
     return text + EXIT, notes[::-1]
 
 
@@ -89,8 +92,9 @@ def main():
             run(folder, "nested", groups(size, 511, 16))
         for size in [32768, 65536, 131072]:
             run(folder, "flat", groups(size, 31, 1))
-        for depth in [256, 512, 1024]:
+        for depth in [1024, 4096]:
             run(folder, "deep", deep(131072, depth))
+        run(folder, "ranges", deep(131072, 4096, 15))
 
 
 if __name__ == "__main__":

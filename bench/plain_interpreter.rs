@@ -729,8 +729,56 @@ const WORDS: [u32; 8] = [
     0x0000_0073,
 ];
 
+/// What the steps of a run cost, as the meter of power_model adds it up.
+#[derive(Default, Debug)]
+struct Meter {
+    level: u8,
+    steps: u64,
+    cycles: u64,
+    time: u128,
+    energy: u128,
+    switches: u64,
+    keyed: u64,
+}
+
+// Cycles by class, and the periods and energies by level, of the machine file of crates/scale_tool/data.
+const PERIODS: [u32; 3] = [4, 2, 1];
+const ENERGIES: [u32; 3] = [1, 3, 8];
+
+fn cost_of(class: Class) -> u16 {
+    match class {
+        Class::Alu | Class::Store | Class::Untaken | Class::Fence => 1,
+        Class::Load | Class::Taken | Class::Jump => 2,
+        Class::Mul => 3,
+        Class::Div => 10,
+        Class::Ecall => 5,
+    }
+}
+
+impl Meter {
+    fn add(&mut self, step: &Stepped) {
+        let cost = cost_of(step.class);
+        let before = self.level;
+        let after = step.port.unwrap_or(before);
+        let switch = u64::from(after != before);
+        self.steps += 1;
+        self.cycles += u64::from(cost);
+        self.time += u128::from(u64::from(cost) * u64::from(PERIODS[before as usize]) + 10 * switch);
+        self.energy += u128::from(u64::from(cost) * u64::from(ENERGIES[before as usize]) + 20 * switch);
+        self.switches += switch;
+        self.keyed += if step.keyed { u64::from(cost) } else { 0 };
+        self.level = after;
+    }
+}
+
+/// With a number, counts down from as many times 4,096, and prices the steps; else from 2,097,152, and counts them alone.
 fn main() {
-    let bytes = WORDS.iter().flat_map(|word| word.to_le_bytes()).collect();
+    let priced: Option<u32> = std::env::args().nth(1).and_then(|word| word.parse().ok());
+    let mut words = WORDS;
+    if let Some(number) = priced {
+        words[0] = number << 12 | 0x2B7;
+    }
+    let bytes = words.iter().flat_map(|word| word.to_le_bytes()).collect();
     let memory = ListMemory {
         stack: vec![0; 0x4_0000],
         blocks: vec![Block {
@@ -756,9 +804,27 @@ fn main() {
     };
     machine.regs[2] = 0x7FFF_FFF0;
     machine.window[511] = 2;
-    let mut steps = 0_u64;
-    while let StepEnd::Went(_) = step(&mut machine) {
-        steps += 1;
+    if priced.is_some() {
+        let mut meter = Meter {
+            level: 2,
+            ..Meter::default()
+        };
+        loop {
+            match step(&mut machine) {
+                StepEnd::Went(done) => meter.add(&done),
+                StepEnd::Exited(done, _) => {
+                    meter.add(&done);
+                    break;
+                }
+                StepEnd::Trapped(..) => break,
+            }
+        }
+        println!("{meter:?}");
+    } else {
+        let mut steps = 0_u64;
+        while let StepEnd::Went(_) = step(&mut machine) {
+            steps += 1;
+        }
+        println!("{steps}");
     }
-    println!("{steps}");
 }

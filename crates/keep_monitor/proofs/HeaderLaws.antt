@@ -11,7 +11,7 @@ use Rattle.std.specs.List.Sorted.{IsStableBy, ties}
 use Rattle.loop_file.specs.declared.notes.LoopNote.{LoopNote}
 use Rattle.loop_file.specs.Kept.{note_at}
 use Rattle.keep_monitor.specs.declared.headers.Header.{Header}
-use Rattle.keep_monitor.specs.Headers.{header_of, headers_of, is_of, header_at, AreLoopsOf}
+use Rattle.keep_monitor.specs.Headers.{header_by_number, headers_of, is_of, header_at, AreLoopsOf}
 
 abbrev no_header : Header
 no_header = record { at = 0; number = 0 }
@@ -100,7 +100,7 @@ loops_from_filter notes at group e = subst (AreLoopsOf notes at) (sym e) record 
   };
   header = λ j jl. let here = (each j no_header jl).1 in let of = eqb-true _ _ (passes j no_header jl) in sym here ∙ of;
   whole = λ k kl h.
-      let spot : header_at heads k ≡ header_of notes k = here k no_header kl in
+      let spot : header_at heads k ≡ header_by_number notes k = here k no_header kl in
       let found = kept_in at heads k (omega (arith, size)) (eq-eqb _ _ (ap (λ x. x.at) spot ∙ h)) in
       (found.0, found.1, ap (λ x. x.number) (found.2 ∙ spot));
 }
@@ -109,10 +109,10 @@ loops_from_filter notes at group e = subst (AreLoopsOf notes at) (sym e) record 
     heads = headers_of notes (length notes)
 
     size : length heads ≡ length notes
-    size = length-map-range_with_len (header_of notes) 0 (length notes)
+    size = length-map-range_with_len (header_by_number notes) 0 (length notes)
 
-    here : (k : ℕ) (d : Header) → k < length notes → get_or heads k d ≡ header_of notes k
-    here k d kl = get_or-map-range_with_len (header_of notes) 0 (length notes) k k d kl (omega arith)
+    here : (k : ℕ) (d : Header) → k < length notes → get_or heads k d ≡ header_by_number notes k
+    here k d kl = get_or-map-range_with_len (header_by_number notes) 0 (length notes) k k d kl (omega arith)
 
     each : All (λ h. (h.number < length notes) × (h.at ≡ (note_at notes h.number).header)) (filter (is_of at) heads)
     each = All-filter (is_of at) (λ h. (h.number < length notes) × (h.at ≡ (note_at notes h.number).header)) heads (λ k d kl.
@@ -134,6 +134,6 @@ pub headers_more : (notes : List LoopNote) (xs ys : List Header) (k : ℕ) (note
     ys ≡ xs ++ (record { at = note.header; number = k }) ∷ [] → ys ≡ headers_of notes (k + 1)
 headers_more notes xs ys k note before at more =
     let same : note_at notes k ≡ note = get_or_from_slice_get notes k note _ at in
-    let head : header_of notes k ≡ record { at = note.header; number = k } = ap (λ (n : LoopNote). record { at = n.header; number = k }) same in
-    let next : headers_of notes (k + 1) ≡ headers_of notes k ++ header_of notes k ∷ [] = map-range_with_len_more (header_of notes) 0 k k (omega arith) in
+    let head : header_by_number notes k ≡ record { at = note.header; number = k } = ap (λ (n : LoopNote). record { at = n.header; number = k }) same in
+    let next : headers_of notes (k + 1) ≡ headers_of notes k ++ header_by_number notes k ∷ [] = map-range_with_len_more (header_by_number notes) 0 k k (omega arith) in
     more ∙ ap (λ zs. zs ++ (record { at = note.header; number = k }) ∷ []) before ∙ sym (ap (λ h. headers_of notes k ++ h ∷ []) head) ∙ sym next

@@ -6,18 +6,18 @@ use Rattle.loop_file.specs.declared.notes.LoopNote.{LoopNote}
 use Rattle.loop_file.specs.Kept.{note_at}
 use Rattle.keep_monitor.specs.declared.headers.Header.{Header}
 
-abbrev pub header_of : List LoopNote → ℕ → Header
-header_of notes k = record { at = (note_at notes k).header; number = k }
+abbrev pub header_by_number : List LoopNote → ℕ → Header
+header_by_number notes k = record { at = (note_at notes k).header; number = k }
 
 -- the headers of the first n loops, by loop
 abbrev pub headers_of : List LoopNote → ℕ → List Header
-headers_of notes n = map (header_of notes) (range_with_len 0 n)
+headers_of notes n = map (header_by_number notes) (range_with_len 0 n)
 
 abbrev pub is_of : ℕ → Header → Bool
 is_of at h = h.at == at
 
 -- The headers of all loops by their addresses. Loops of one header are in their order.
-pub record AreHeaders (notes : List LoopNote) (headers : List Header) : Type 0 where
+pub record AreSortedHeaders (notes : List LoopNote) (headers : List Header) : Type 0 where
   pub rise : IsNonDecreasingBy (λ h. h.at) headers
   pub same : (at : ℕ) → filter (is_of at) headers ≡ filter (is_of at) (headers_of notes (length notes))
 
@@ -26,12 +26,12 @@ abbrev pub header_at : List Header → ℕ → Header
 header_at headers j = slice_index_or headers j (record { at = 0; number = 0 })
 
 -- loops among the first n, each once, in their order
-pub record AreLoops (n : ℕ) (group : List Header) : Type 0 where
+pub record AreLoopNumbers (n : ℕ) (group : List Header) : Type 0 where
   pub within : (j : ℕ) → j < length group → (header_at group j).number < n
   pub rise : (i j : ℕ) → i < j → j < length group → (header_at group i).number < (header_at group j).number
 
 -- all loops of one header
 pub record AreLoopsOf (notes : List LoopNote) (at : ℕ) (group : List Header) : Type 0 where
-  pub loops : AreLoops (length notes) group
+  pub loops : AreLoopNumbers (length notes) group
   pub header : (j : ℕ) → j < length group → (note_at notes (header_at group j).number).header ≡ at
   pub whole : (k : ℕ) → k < length notes → (note_at notes k).header ≡ at → (j : ℕ) × (j < length group) × ((header_at group j).number ≡ k)

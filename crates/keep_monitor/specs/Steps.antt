@@ -7,7 +7,7 @@ use Rattle.loop_file.specs.declared.notes.LoopNote.{LoopNote}
 use Rattle.loop_file.specs.Notes.{AreLoopNotes}
 use Rattle.loop_file.specs.Kept.{note_at, in_extent, most_returns}
 use Rattle.keep_monitor.specs.declared.headers.Header.{Header}
-use Rattle.keep_monitor.specs.Headers.{AreHeaders, header_at}
+use Rattle.keep_monitor.specs.Headers.{AreSortedHeaders, header_at}
 
 abbrev pub first_of : List ℕ → Option ℕ
 first_of [] = None
@@ -51,7 +51,7 @@ pub record AreCounts (notes : List LoopNote) (counts : List ℕ) : Type 0 where
 -- what a monitor keeps: the list of return addresses has room for as many as may be
 pub record IsMonitor (notes : List LoopNote) (headers : List Header) (depth room : ℕ) (counts : List ℕ) : Type 0 where
   pub notes_fit : AreLoopNotes notes
-  pub headers_fit : AreHeaders notes headers
+  pub headers_fit : AreSortedHeaders notes headers
   pub counts_fit : AreCounts notes counts
   pub shallow : depth ≤ most_returns
   pub spare : most_returns ≤ room

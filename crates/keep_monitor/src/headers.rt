@@ -3,7 +3,7 @@
 ghost use Rattle.std.specs.Prelude.{◌≡◌, ℕ, ◌≤◌, ◌<◌, length, filter, IfOk, slice_index_or};
 ghost use Rattle.std.specs.List.Sorted.{IsNonDecreasingBy};
 ghost use Rattle.keep_monitor.specs.declared.headers.Header.{Header};
-ghost use Rattle.keep_monitor.specs.Headers.{AreHeaders, headers_of, is_of};
+ghost use Rattle.keep_monitor.specs.Headers.{AreSortedHeaders, headers_of, is_of};
 
 use loop_file::LoopNotes;
 use scale_base::NoMemory;
@@ -31,7 +31,7 @@ fn list_headers(alloc: Global, notes: &LoopNotes) -> Result<Vec<Header>, NoMemor
 
 /// The headers of all loops by their addresses; loops of one header in their order.
 pub fn sorted_headers(alloc: Global, notes: &LoopNotes) -> Result<Vec<Header>, NoMemory>
-    ensures { IfOk result (λ headers. AreHeaders notes.now headers.items) }
+    ensures { IfOk result (λ headers. AreSortedHeaders notes.now headers.items) }
 {
     let mut headers = list_headers(alloc, notes)?;
     headers.sort_by(|a, b| a.at.cmp(&b.at))?;

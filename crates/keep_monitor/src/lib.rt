@@ -8,6 +8,7 @@ mod monitor;
 mod steps;
 
 pub use monitor::Monitor;
+pub use scale_base::Kept;
 
 /// Watching the run of an image finds nothing broken exactly as long as the run is kept.
 pub fn watched_runs_are_kept()

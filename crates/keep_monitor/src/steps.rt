@@ -6,7 +6,7 @@ ghost use Rattle.graph_runs.specs.ReturnAddresses.{returns_after};
 ghost use Rattle.graph_runs.specs.KeptSteps as rules;
 ghost use Rattle.loop_file.specs.Notes.{AreLoopNotes};
 ghost use Rattle.loop_file.specs.Kept as kept;
-ghost use Rattle.keep_monitor.specs.Headers.{AreLoops, header_at};
+ghost use Rattle.keep_monitor.specs.Headers.{AreLoopNumbers, header_at};
 ghost use Rattle.keep_monitor.specs.Steps.{first_of, broken_by, counted, counted_at, IsFirstOver, IsNoneOver, AreCounts};
 
 use crate::headers::Header;
@@ -124,7 +124,7 @@ pub fn broken_bound(
 ) -> Option<Kept>
     requires notes { AreLoopNotes notes.now }
     requires counts { AreCounts notes.now counts.now }
-    requires loops { AreLoops (length notes.now) group.now }
+    requires loops { AreLoopNumbers (length notes.now) group.now }
     ensures none { IfNone result (IsNoneOver notes.now group.now counts.now source) }
     ensures first { IfSome result (λ broken. IsFirstOver notes.now group.now counts.now source broken) }
 {
@@ -145,7 +145,7 @@ pub fn broken_bound(
 pub fn count_step(notes: &LoopNotes, group: &[Header], counts: &mut [u32], source: Option<u32>)
     requires notes { AreLoopNotes notes.now }
     requires counts { AreCounts notes.now counts.old }
-    requires loops { AreLoops (length notes.now) group.now }
+    requires loops { AreLoopNumbers (length notes.now) group.now }
     ensures size { length counts.new ≡ length counts.old }
     ensures each { (j : ℕ) → j < length group.now → slice_index counts.new (header_at group.now j).number ≡ counted_at notes.now group.now counts.old source j }
     ensures others { (k : ℕ) → ((j : ℕ) → j < length group.now → (header_at group.now j).number ≢ k) → slice_index counts.new k ≡ slice_index counts.old k }

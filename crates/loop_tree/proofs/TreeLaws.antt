@@ -11,7 +11,7 @@ use Rattle.code_graph.proofs.Parts.{map_is}
 use Rattle.loop_file.specs.declared.notes.LoopNote.{LoopNote}
 use Rattle.loop_file.specs.Kept.{noted_loops}
 use Rattle.loop_file.specs.Notes.{IsLoopNote, AreLoopNotes}
-use Rattle.natural_loops.specs.Noted.{node_address, header_of}
+use Rattle.natural_loops.specs.Noted.{node_address, header_address}
 use Rattle.natural_loops.specs.Found.{LoopsView, AreNaturalLoops, loops_seen}
 use Rattle.natural_loops.specs.Refused.{AreNoted}
 use Rattle.loop_nesting.specs.Nesting.{IsNesting, IsNextAtHeader}
@@ -57,7 +57,7 @@ pub noted : (v : FlowGraph) (notes : List LoopNote) (t : LoopsView) → AreNatur
 noted v notes t are = record {
   count = length-map t.headers (node_address v) ∙ are.headers_size;
   header = λ k kl.
-      get_or-map (node_address v) t.headers k 0 0 (subst (λ n. k < n) (sym are.headers_size) kl) ∙ get_or_from_slice_get v.code.nodes (slice_index t.headers k) (header_of notes k) 0 (are.header k kl);
+      get_or-map (node_address v) t.headers k 0 0 (subst (λ n. k < n) (sym are.headers_size) kl) ∙ get_or_from_slice_get v.code.nodes (slice_index t.headers k) (header_address notes k) 0 (are.header k kl);
   bound = λ k kl. get_or-map (λ (note : LoopNote). note.bound) notes k (record { header = 0; ranges = []; bound = 0; counted = false }) 0 kl;
 }
 
@@ -131,9 +131,9 @@ tree_of v notes t backs innermost parent order flow in_range are all along nesti
           (λ j note at.
           let jl : j < length notes = slice_get_within notes j note at in
           let low : j < length t.headers = subst (λ n. j < n) (sym are.headers_size) jl in
-          let is : header_of notes j ≡ note.header = ap (λ (n : LoopNote). n.header) (get_or_from_slice_get notes j note (record { header = 0; ranges = []; bound = 0; counted = false }) at) in
+          let is : header_address notes j ≡ note.header = ap (λ (n : LoopNote). n.header) (get_or_from_slice_get notes j note (record { header = 0; ranges = []; bound = 0; counted = false }) at) in
           slice_get-map (node_address v) t.headers j ∙ ap (option_map (node_address v)) (slice_get-get_or t.headers j 0 low) ∙
-          ap Some (get_or_from_slice_get v.code.nodes (slice_index t.headers j) (header_of notes j) 0 (are.header j jl) ∙ is));
+          ap Some (get_or_from_slice_get v.code.nodes (slice_index t.headers j) (header_address notes j) 0 (are.header j jl) ∙ is));
       bounds = refl;
       counted = refl;
     }

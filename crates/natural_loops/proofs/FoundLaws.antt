@@ -20,7 +20,7 @@ use Rattle.loop_bodies.specs.Bodies.{IsIn, IsLeastPair}
 use Rattle.loop_file.specs.declared.notes.LoopNote.{LoopNote}
 use Rattle.loop_file.specs.Kept.{note_at, noted_loops}
 use Rattle.natural_loops.specs.Ends.{AreEdgeEnds}
-use Rattle.natural_loops.specs.Noted.{header_of, IsBodyNode, HasBackEdge, HaveOneHeader, IsEnteredAside, node_address}
+use Rattle.natural_loops.specs.Noted.{header_address, IsBodyNode, HasBackEdge, HaveOneHeader, IsNotedSideEntry, node_address}
 use Rattle.natural_loops.specs.Found.{loops_seen, AreNaturalLoops}
 use Rattle.natural_loops.specs.Refused.{AreHeaders, AreNoted, IsPairRefused, IsDepthRefused, AreHeadersReached}
 use Rattle.natural_loops.specs.Passes.{AreEdgesOf, IsReady, AreHeaderNumbers, HaveOneNumber, IsNumberedBody, AreDepths, AreEntriesFound, AreBodies, IsDeepest, depth_at}
@@ -29,12 +29,12 @@ use Rattle.natural_loops.proofs.NodeLaws.{one_number, source_number}
 -- ---- headers
 module _ (v : FlowGraph) (is : IsFlowGraph v) (notes : List LoopNote) (headers : List ℕ) (numbers : AreHeaderNumbers v notes headers) where
   pub reached : AreHeadersReached v notes
-  reached k lt = (is.nodes (header_of notes k)).0 (get_or headers k 0, numbers.at k lt)
+  reached k lt = (is.nodes (header_address notes k)).0 (get_or headers k 0, numbers.at k lt)
 
   pub number_below : (k x : ℕ) → slice_get headers k ≡ Some x → x < length v.code.nodes
   number_below k x h =
       let lt = slice_get_within headers k x h in
-      let within = slice_get_within v.code.nodes (get_or headers k 0) (header_of notes k) (numbers.at k (let s = numbers.size in omega arith)) in
+      let within = slice_get_within v.code.nodes (get_or headers k 0) (header_address notes k) (numbers.at k (let s = numbers.size in omega arith)) in
       subst (λ y. y < length v.code.nodes) (get_or_from_slice_get headers k x 0 h) within
 
   -- one header, by address and by number
@@ -44,7 +44,7 @@ module _ (v : FlowGraph) (is : IsFlowGraph v) (notes : List LoopNote) (headers :
       let at_j = numbers.at j (let q : j < length notes = omega arith in q) in (
         h.0,
         (let s = numbers.size in let q : k < length headers = omega arith in q),
-        one_number v is (get_or headers j 0) (get_or headers k 0) (header_of notes j) at_j (numbers.at k lt ∙ ap Some (sym h.1)),
+        one_number v is (get_or headers j 0) (get_or headers k 0) (header_address notes j) at_j (numbers.at k lt ∙ ap Some (sym h.1)),
       )
 
   to_header : (j k : ℕ) → HaveOneNumber headers j k → HaveOneHeader notes j k
@@ -55,7 +55,7 @@ module _ (v : FlowGraph) (is : IsFlowGraph v) (notes : List LoopNote) (headers :
       let at_j = numbers.at j (let q : j < length notes = omega arith in q) in
       let at_k = numbers.at k (let q : k < length notes = omega arith in q) in
       let e : slice_get v.code.nodes (get_or headers j 0) ≡ slice_get v.code.nodes (get_or headers k 0) = ap (slice_get v.code.nodes) h.2 in
-      let same : header_of notes j ≡ header_of notes k = cc in
+      let same : header_address notes j ≡ header_address notes k = cc in
       (h.0, same)
 
   pub headers_apart : IsLeastPair (HaveOneNumber headers) None → AreHeaders v notes
@@ -119,24 +119,24 @@ back_edge : (v : FlowGraph) (l : Loops) (k e at : ℕ) → l.inside k ((graph v)
 back_edge v l k e at inside to same =
     ap (λ b. b && is_header l k ((graph v).target e)) inside ∙ (ap (is_header l k) to ∙ eq-eqb at (l.header k) same)
 
-pub entered : (v : FlowGraph) (notes : List LoopNote) (l : Loops) → AreHeaders v notes → ((k : ℕ) → k < length notes → HasBackEdge v notes k) → ((k a b : ℕ) → k < length notes → IsEnteredAside v notes k a b → ⊥) →
+pub entered : (v : FlowGraph) (notes : List LoopNote) (l : Loops) → AreHeaders v notes → ((k : ℕ) → k < length notes → HasBackEdge v notes k) → ((k a b : ℕ) → k < length notes → IsNotedSideEntry v notes k a b → ⊥) →
     AreNoted notes l → AreBodiesOf v notes l → AreEntered (graph v) l (noted_loops notes).inside
-entered v notes l headers turns none noted bodies = record {
+entered v notes l headers back_edges none noted bodies = record {
   bodies = λ k at lt. subst (λ h. (l.inside k at ≡ true) ↔ IsInBody (graph v) h ((noted_loops notes).inside k) at) (sym (noted.header k (low k lt))) (bodies k at (low k lt));
   header_reached = λ k lt un. un (subst (IsNode (graph v)) (sym (noted.header k (low k lt))) (headers.reached k (low k lt)));
   distinct = λ j k lt same.
       let below = same.0 in
       headers.distinct j k (low k lt) (same.0, sym (noted.header j (let q = low k lt in let r : j < length notes = omega arith in r)) ∙ (same.1 ∙ noted.header k (low k lt)));
   back_edge = λ k lt no.
-      let t = turns k (low k lt) in
-      both_ways (is_back (graph v) l k t.0) (no t.0 t.1) (back_edge v l k t.0 (header_of notes k) ((bodies k ((graph v).source t.0) (low k lt)).1 t.2) t.3 (sym (noted.header k (low k lt))));
+      let t = back_edges k (low k lt) in
+      both_ways (is_back (graph v) l k t.0) (no t.0 t.1) (back_edge v l k t.0 (header_address notes k) ((bodies k ((graph v).source t.0) (low k lt)).1 t.2) t.3 (sym (noted.header k (low k lt))));
   no_side = λ k from to lt side. none k from to (low k lt) (aside k from to (low k lt) side);
 }
   where
     low : (k : ℕ) → k < l.loops → k < length notes
     low k lt = let c = noted.count in omega arith
 
-    aside : (k from to : ℕ) → k < length notes → IsSideEntry (graph v) l k from to → IsEnteredAside v notes k from to
+    aside : (k from to : ℕ) → k < length notes → IsSideEntry (graph v) l k from to → IsNotedSideEntry v notes k from to
     aside k from to lt side = (
       (bodies k to lt).0 side.0,
       λ e. side.1 (e ∙ sym (noted.header k lt)),
@@ -157,17 +157,17 @@ same_test false false P p q = refl
 pub depth_is : (v : FlowGraph) (search : EdgeView) (notes : List LoopNote) (headers depths : List ℕ) → IsReady v search notes headers → AreDepths v notes (length notes) depths → (l : Loops) → AreNoted notes l → AreBodiesOf v notes l →
     (k : ℕ) → k < length notes → depth_at headers depths k ≡ sum_below l.loops (λ j. only (l.inside j (l.header k)) 1)
 depth_is v search notes headers depths is counts l noted bodies k lt =
-    counts.counted (get_or headers k 0) (header_of notes k) (is.numbers.at k lt) ∙
-    (sum-same (length notes) (λ j. only (counts.inside j (header_of notes k)) 1) (λ j. only (l.inside j (l.header k)) 1)
-    (λ j jl. ap (λ b. only b 1) (same_test (counts.inside j (header_of notes k)) (l.inside j (header_of notes k)) (IsBodyNode v notes j (header_of notes k)) (counts.bodies j (header_of notes k) jl) (bodies j (header_of notes k) jl) ∙
+    counts.counted (get_or headers k 0) (header_address notes k) (is.numbers.at k lt) ∙
+    (sum-same (length notes) (λ j. only (counts.inside j (header_address notes k)) 1) (λ j. only (l.inside j (l.header k)) 1)
+    (λ j jl. ap (λ b. only b 1) (same_test (counts.inside j (header_address notes k)) (l.inside j (header_address notes k)) (IsBodyNode v notes j (header_address notes k)) (counts.bodies j (header_address notes k) jl) (bodies j (header_address notes k) jl) ∙
     ap (l.inside j) (sym (noted.header k lt)))) ∙
     ap (λ n. sum_below n (λ j. only (l.inside j (l.header k)) 1)) (sym noted.count))
 
 pub depth_refused : (v : FlowGraph) (search : EdgeView) (notes : List LoopNote) (headers depths : List ℕ) (refusal : Refusal) → IsReady v search notes headers → ((k : ℕ) → k < length notes → HasBackEdge v notes k) → AreEntriesFound v notes depths → IsDeepest headers depths refusal → IsDepthRefused v notes refusal
-depth_refused v search notes headers depths refusal is turns entries deep = record {
+depth_refused v search notes headers depths refusal is back_edges entries deep = record {
   loops = l;
   noted = noted;
-  entered = entered v notes l is.apart turns (λ k a b lt h. entries.none k a b lt h) noted bodies;
+  entered = entered v notes l is.apart back_edges (λ k a b lt h. entries.none k a b lt h) noted bodies;
   k = deep.k;
   within = within;
   deep = (let d = depth_is v search notes headers depths is entries.counts l noted bodies deep.k within in let h = deep.deep in omega arith);
@@ -230,7 +230,7 @@ module _ (v : FlowGraph) (search : EdgeView) (notes : List LoopNote) (headers : 
   noted : AreNoted notes seen
   noted = record {
     count = length-map headers (node_address v) ∙ is.numbers.size;
-    header = λ k lt. map_at (node_address v) headers k (let s = is.numbers.size in omega arith) ∙ get_or_from_slice_get v.code.nodes (get_or headers k 0) (header_of notes k) 0 (is.numbers.at k lt);
+    header = λ k lt. map_at (node_address v) headers k (let s = is.numbers.size in omega arith) ∙ get_or_from_slice_get v.code.nodes (get_or headers k 0) (header_address notes k) 0 (is.numbers.at k lt);
     bound = λ k lt. bound_at notes k lt;
   }
 
@@ -251,12 +251,12 @@ module _ (v : FlowGraph) (search : EdgeView) (notes : List LoopNote) (headers : 
       )
 
   pub natural : (depths : List ℕ) → ((k : ℕ) → k < length notes → HasBackEdge v notes k) → AreEntriesFound v notes depths → ((k : ℕ) → k < length headers → depth_at headers depths k ≤ 16) → AreNaturalLoops v notes (record { headers = headers; bodies = bodies })
-  natural depths turns entries shallow = record {
+  natural depths back_edges entries shallow = record {
     headers_size = is.numbers.size;
     bodies_size = kept.size;
     header = is.numbers.at;
     body = λ k lt. (kept.body k lt).1;
-    entered = entered v notes seen is.apart turns (λ k a b lt h. entries.none k a b lt h) noted seen_bodies;
+    entered = entered v notes seen is.apart back_edges (λ k a b lt h. entries.none k a b lt h) noted seen_bodies;
     not_deep = λ k lt deep.
         let d = depth_is v search notes headers depths is entries.counts seen noted seen_bodies k lt in
         let u = shallow k (let s = is.numbers.size in omega arith) in

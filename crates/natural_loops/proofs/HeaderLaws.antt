@@ -12,7 +12,7 @@ use Rattle.loop_file.specs.declared.notes.LoopNote.{LoopNote}
 use Rattle.loop_file.specs.Kept.{note_at}
 use Rattle.scale_base.specs.declared.refusal.Refusal.{Refusal}
 use Rattle.scale_base.specs.declared.refusal.Refusal.TheVariants.{HeaderNotReached}
-use Rattle.natural_loops.specs.Noted.{header_of, IsHeaderReached}
+use Rattle.natural_loops.specs.Noted.{header_address, IsHeaderReached}
 use Rattle.natural_loops.specs.Refused.{IsHeaderRefused}
 use Rattle.natural_loops.specs.Passes.{AreHeaderNumbers, HaveOneNumber}
 
@@ -23,7 +23,7 @@ note_is notes k note h = get_or_from_slice_get notes k note (record { header = 0
 -- ---- the nodes of the headers
 pub record AreFirstHeaders (v : FlowGraph) (notes : List LoopNote) (n : ℕ) (headers : List ℕ) : Type 0 where
   pub size : length headers ≡ n
-  pub at : (k : ℕ) → k < n → slice_get v.code.nodes (get_or headers k 0) ≡ Some (header_of notes k)
+  pub at : (k : ℕ) → k < n → slice_get v.code.nodes (get_or headers k 0) ≡ Some (header_address notes k)
 
 pub headers_start : (v : FlowGraph) (notes : List LoopNote) → AreFirstHeaders v notes 0 []
 headers_start v notes = record { size = refl; at = λ k lt. let bad : ⊥ = omega arith in absurd bad }
@@ -35,7 +35,7 @@ headers_next v notes n header note headers longer e at_note at was = record {
   at = λ k lt. ⊎_elim
       (λ (here : k ≡ n).
       ap (slice_get v.code.nodes) (ap (λ xs. get_or xs k 0) e ∙ get_or_at headers header [] 0 k (was.size ∙ sym here)) ∙
-      (at ∙ ap Some (sym (ap (header_of notes) here ∙ ap (λ x. x.header) (note_is notes n note at_note)))))
+      (at ∙ ap Some (sym (ap (header_address notes) here ∙ ap (λ x. x.header) (note_is notes n note at_note)))))
       (λ (ne : k ≡ n → ⊥).
       let d : k ≢ n = ne in
       let below : k < n = omega arith in
@@ -48,7 +48,7 @@ headers_end v notes n headers few e was = record { few = few; size = was.size �
 
 -- the headers up to one are reached
 pub reached_below : (v : FlowGraph) (notes : List LoopNote) (n : ℕ) (headers : List ℕ) → IsFlowGraph v → AreFirstHeaders v notes n headers → (k : ℕ) → k < n → IsHeaderReached v notes k
-reached_below v notes n headers is was k lt = (is.nodes (header_of notes k)).0 (get_or headers k 0, was.at k lt)
+reached_below v notes n headers is was k lt = (is.nodes (header_address notes k)).0 (get_or headers k 0, was.at k lt)
 
 -- the next one isn't a node
 pub unreached : (v : FlowGraph) (notes : List LoopNote) (n : ℕ) (headers : List ℕ) (note : LoopNote) (refusal : Refusal) → IsFlowGraph v → AreFirstHeaders v notes n headers → slice_get notes n ≡ Some note →
@@ -56,7 +56,7 @@ pub unreached : (v : FlowGraph) (notes : List LoopNote) (n : ℕ) (headers : Lis
 unreached v notes n headers note refusal is was at none e = record {
   k = n;
   within = slice_get_within notes n note at;
-  unreached = λ node. let w = (is.nodes (header_of notes n)).1 node in none w.0 (w.1 ∙ ap (λ x. Some x.header) (note_is notes n note at));
+  unreached = λ node. let w = (is.nodes (header_address notes n)).1 node in none w.0 (w.1 ∙ ap (λ x. Some x.header) (note_is notes n note at));
   first = reached_below v notes n headers is was;
   refusal_is = e;
 }

@@ -11,10 +11,10 @@ use Rattle.loop_bodies.specs.Edges.{EdgeView}
 use Rattle.loop_bodies.specs.Bodies.{IsIn, IsLeastPair}
 use Rattle.loop_file.specs.declared.notes.LoopNote.{LoopNote}
 use Rattle.loop_file.specs.Kept.{note_at}
-use Rattle.natural_loops.specs.Noted.{header_of, HasBackEdge, IsEnteredAside}
-use Rattle.natural_loops.specs.Refused.{AreHeaders, IsTurnRefused, IsEntryRefused}
+use Rattle.natural_loops.specs.Noted.{header_address, HasBackEdge, IsNotedSideEntry}
+use Rattle.natural_loops.specs.Refused.{AreHeaders, IsBackEdgeRefused, IsEntryRefused}
 use Rattle.natural_loops.specs.Found.{IsAscending}
-use Rattle.natural_loops.specs.Passes.{IsReady, HasTurn, IsNumberedBody, IsSidePair, AreBodies, AreDepths, AreEntriesFound, IsDeepest, depth_at}
+use Rattle.natural_loops.specs.Passes.{IsReady, GoesBack, IsNumberedBody, IsSidePair, AreBodies, AreDepths, AreEntriesFound, IsDeepest, depth_at}
 use Rattle.natural_loops.proofs.HeaderLaws.{note_is}
 use Rattle.natural_loops.proofs.EntryLaws.{IsAside, none_aside, least_aside, depths_start, depths_next}
 
@@ -23,31 +23,31 @@ pub header_at : (v : FlowGraph) (search : EdgeView) (notes : List LoopNote) (hea
 header_at v search notes headers is k note at = is.numbers.at k (slice_get_within notes k note at) ∙ ap (λ x. Some x.header) (note_is notes k note at)
 
 pub header_within : (v : FlowGraph) (search : EdgeView) (notes : List LoopNote) (headers : List ℕ) → IsReady v search notes headers → (k : ℕ) → k < length notes → get_or headers k 0 < length v.code.nodes
-header_within v search notes headers is k lt = slice_get_within v.code.nodes (get_or headers k 0) (header_of notes k) (is.numbers.at k lt)
+header_within v search notes headers is k lt = slice_get_within v.code.nodes (get_or headers k 0) (header_address notes k) (is.numbers.at k lt)
 
 -- ---- edges that turn back
-abbrev pub HaveTurns : FlowGraph → List LoopNote → ℕ → Type 0
-HaveTurns v notes n = (k : ℕ) → k < n → HasBackEdge v notes k
+abbrev pub HaveBackEdges : FlowGraph → List LoopNote → ℕ → Type 0
+HaveBackEdges v notes n = (k : ℕ) → k < n → HasBackEdge v notes k
 
-pub turns_next : (v : FlowGraph) (notes : List LoopNote) (n : ℕ) (note : LoopNote) → slice_get notes n ≡ Some note → HasTurn v note → HaveTurns v notes n → HaveTurns v notes (n + 1)
-turns_next v notes n note at turn was k lt = ⊎_elim
-    (λ (e : k ≡ n). subst (λ j. HasBackEdge v notes j) (sym e) (subst (HasTurn v) (sym (note_is notes n note at)) turn))
+pub back_edges_next : (v : FlowGraph) (notes : List LoopNote) (n : ℕ) (note : LoopNote) → slice_get notes n ≡ Some note → GoesBack v note → HaveBackEdges v notes n → HaveBackEdges v notes (n + 1)
+back_edges_next v notes n note at turn was k lt = ⊎_elim
+    (λ (e : k ≡ n). subst (λ j. HasBackEdge v notes j) (sym e) (subst (GoesBack v) (sym (note_is notes n note at)) turn))
     (λ (ne : k ≡ n → ⊥). let d : k ≢ n = ne in was k (omega arith))
     (cases_eq k n)
 
-pub turn_refused : (v : FlowGraph) (notes : List LoopNote) (n : ℕ) (note : LoopNote) (refusal : Refusal) → AreHeaders v notes → slice_get notes n ≡ Some note → (HasTurn v note → ⊥) → HaveTurns v notes n → refusal ≡ NoBackEdge (n + 1) → IsTurnRefused v notes refusal
-turn_refused v notes n note refusal headers at none was e = record {
+pub back_edge_refused : (v : FlowGraph) (notes : List LoopNote) (n : ℕ) (note : LoopNote) (refusal : Refusal) → AreHeaders v notes → slice_get notes n ≡ Some note → (GoesBack v note → ⊥) → HaveBackEdges v notes n → refusal ≡ NoBackEdge (n + 1) → IsBackEdgeRefused v notes refusal
+back_edge_refused v notes n note refusal headers at none was e = record {
   headers = headers;
   k = n;
   within = slice_get_within notes n note at;
-  none = λ turn. none (subst (HasTurn v) (note_is notes n note at) turn);
+  none = λ turn. none (subst (GoesBack v) (note_is notes n note at) turn);
   first = was;
   refusal_is = e;
 }
 
 -- ---- side entries
 pub record AreEnteredBelow (v : FlowGraph) (notes : List LoopNote) (n : ℕ) (depths : List ℕ) : Type 0 where
-  pub none : (k a b : ℕ) → k < n → IsEnteredAside v notes k a b → ⊥
+  pub none : (k a b : ℕ) → k < n → IsNotedSideEntry v notes k a b → ⊥
   pub counts : AreDepths v notes n depths
 
 pub entered_start : (v : FlowGraph) (notes : List LoopNote) (count : ℕ) (depths : List ℕ) → count ≡ length v.code.nodes → depths ≡ replicate {A = ℕ} count 0 → AreEnteredBelow v notes 0 depths
@@ -66,7 +66,7 @@ module _ (v : FlowGraph) (search : EdgeView) (notes : List LoopNote) (headers : 
   entered_next deeper none size added kept = record {
     none = λ k a b lt h. ⊎_elim
         (λ (e : k ≡ n). none_aside v search is.edges note (get_or headers n 0) body at_header numbers none a b
-        (subst (λ x. IsAside v x a b) (note_is notes n note at) (subst (λ j. IsEnteredAside v notes j a b) e h)))
+        (subst (λ x. IsAside v x a b) (note_is notes n note at) (subst (λ j. IsNotedSideEntry v notes j a b) e h)))
         (λ (ne : k ≡ n → ⊥). let d : k ≢ n = ne in was.none k a b (omega arith) h)
         (cases_eq k n);
     counts = depths_next v is.edges.graph.flow notes n depths deeper body was.counts (subst (λ x. IsNumberedBody v x body) (sym (note_is notes n note at)) numbers) size added kept;
@@ -74,11 +74,11 @@ module _ (v : FlowGraph) (search : EdgeView) (notes : List LoopNote) (headers : 
 
   pub entry_refused : (p : ℕ × ℕ) (a b : ℕ) (refusal : Refusal) → ((k : ℕ) → k < length notes → HasBackEdge v notes k) → IsLeastPair (IsSidePair v search (get_or headers n 0) body) (Some p) →
       slice_get v.code.nodes p.0 ≡ Some a → slice_get v.code.nodes p.1 ≡ Some b → refusal ≡ SideEntry (n + 1) a b → IsEntryRefused v notes refusal
-  entry_refused p a b refusal turns least at_a at_b e =
+  entry_refused p a b refusal back_edges least at_a at_b e =
       let aside = least_aside v search is.edges note (get_or headers n 0) body at_header numbers p a b least at_a at_b in
       record {
         headers = is.apart;
-        turns = turns;
+        back_edges = back_edges;
         k = n;
         from = a;
         to = b;

@@ -15,7 +15,7 @@ use Rattle.loop_bodies.specs.Bodies.LeadsWithin.{at_once, onward}
 use Rattle.loop_bodies.specs.Edges.{EdgeView, AreEdges}
 use Rattle.loop_file.specs.declared.notes.LoopNote.{LoopNote}
 use Rattle.loop_file.specs.Kept as kept
-use Rattle.natural_loops.specs.Passes.{AreEdgesOf, IsExtent, HasTurn, IsNumberedBody}
+use Rattle.natural_loops.specs.Passes.{AreEdgesOf, IsExtent, GoesBack, IsNumberedBody}
 use Rattle.natural_loops.proofs.NodeLaws.{one_number, source_number}
 
 pub some_same : {A : Type 0} (a b : A) (o : Option A) → o ≡ Some a → o ≡ Some b → a ≡ b
@@ -146,7 +146,7 @@ module _ (v : FlowGraph) (edges : EdgeView) (is : AreEdgesOf v edges) where
     header_is = or_left (note.header == note.header) (list_any (image.is_in note.header) note.ranges) (eq-eqb note.header note.header refl)
 
     -- an edge from the extent to the header turns the loop back
-    pub turn : HasBackEdge edges.sources edges.targets (bodies.in_extent ranges) header ↔ HasTurn v note
+    pub turn : HasBackEdge edges.sources edges.targets (bodies.in_extent ranges) header ↔ GoesBack v note
     turn = (
       λ h.
           let edge = h.1 in

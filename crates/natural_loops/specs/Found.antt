@@ -6,7 +6,7 @@ use Rattle.cost_theory.specs.Lists.{body_of}
 use Rattle.code_graph.specs.FlowGraph.{FlowGraph, graph}
 use Rattle.loop_file.specs.declared.notes.LoopNote.{LoopNote}
 use Rattle.loop_file.specs.Kept.{noted_loops}
-use Rattle.natural_loops.specs.Noted.{header_of, loops_by}
+use Rattle.natural_loops.specs.Noted.{header_address, loops_by}
 
 -- by number of the loop: the number of its header's node, and those of the nodes in its body
 pub record LoopsView : Type 0 where
@@ -26,7 +26,7 @@ pub record IsAscending (count : ℕ) (body : List ℕ) : Type 0 where
 pub record AreNaturalLoops (v : FlowGraph) (notes : List LoopNote) (t : LoopsView) : Type 0 where
   pub headers_size : length t.headers ≡ length notes
   pub bodies_size : length t.bodies ≡ length notes
-  pub header : (k : ℕ) → k < length notes → slice_get v.code.nodes (slice_index t.headers k) ≡ Some (header_of notes k)
+  pub header : (k : ℕ) → k < length notes → slice_get v.code.nodes (slice_index t.headers k) ≡ Some (header_address notes k)
   pub body : (k : ℕ) → k < length notes → IsAscending (length v.code.nodes) (body_of t.bodies k)
   pub entered : AreEntered (graph v) (loops_seen v notes t) (noted_loops notes).inside
   pub not_deep : (k : ℕ) → k < length notes → IsTooDeep (loops_seen v notes t) k → ⊥

@@ -10,29 +10,29 @@ use Rattle.loop_file.specs.Kept.{in_extent, note_at}
 
 -- ---- by the notes alone
 
-abbrev pub header_of : List LoopNote → ℕ → ℕ
-header_of notes k = (note_at notes k).header
+abbrev pub header_address : List LoopNote → ℕ → ℕ
+header_address notes k = (note_at notes k).header
 
 -- a node is in the body of loop k
 abbrev pub IsBodyNode : FlowGraph → List LoopNote → ℕ → ℕ → Type 0
-IsBodyNode v notes k at = IsInBody (graph v) (header_of notes k) (in_extent (note_at notes k)) at
+IsBodyNode v notes k at = IsInBody (graph v) (header_address notes k) (in_extent (note_at notes k)) at
 
 -- its header is a node
 abbrev pub IsHeaderReached : FlowGraph → List LoopNote → ℕ → Type 0
-IsHeaderReached v notes k = IsNode (graph v) (header_of notes k)
+IsHeaderReached v notes k = IsNode (graph v) (header_address notes k)
 
 -- loops j and k, numbered in this order, have one header
 abbrev pub HaveOneHeader : List LoopNote → ℕ → ℕ → Type 0
-HaveOneHeader notes j k = (j < k) × (header_of notes j ≡ header_of notes k)
+HaveOneHeader notes j k = (j < k) × (header_address notes j ≡ header_address notes k)
 
 -- an edge leads from its body to its header
 abbrev pub HasBackEdge : FlowGraph → List LoopNote → ℕ → Type 0
-HasBackEdge v notes k = (e : ℕ) × (e < (graph v).edges) × IsBodyNode v notes k ((graph v).source e) × ((graph v).target e ≡ Some (header_of notes k))
+HasBackEdge v notes k = (e : ℕ) × (e < (graph v).edges) × IsBodyNode v notes k ((graph v).source e) × ((graph v).target e ≡ Some (header_address notes k))
 
 -- An edge from outside its body leads to a node of the body that isn't its header; or such a node is the entry of a function, which stands for
 -- both ends then.
-abbrev pub IsEnteredAside : FlowGraph → List LoopNote → ℕ → ℕ → ℕ → Type 0
-IsEnteredAside v notes k from to = IsBodyNode v notes k to × (to ≢ header_of notes k) ×
+abbrev pub IsNotedSideEntry : FlowGraph → List LoopNote → ℕ → ℕ → ℕ → Type 0
+IsNotedSideEntry v notes k from to = IsBodyNode v notes k to × (to ≢ header_address notes k) ×
     (((e : ℕ) × (e < (graph v).edges) × ((graph v).source e ≡ from) × ((graph v).target e ≡ Some to) × (IsBodyNode v notes k from → ⊥)) ⊎
     ((from ≡ to) × ((f : ℕ) × (f < (graph v).functions) × ((graph v).entry f ≡ to))))
 

@@ -14,9 +14,9 @@ use Rattle.loop_file.specs.declared.notes.LoopNote.{LoopNote}
 use Rattle.loop_file.specs.Kept as kept
 use Rattle.loop_file.specs.Kept.{note_at}
 use Rattle.natural_loops.specs.Ends.{AreEdgeEnds}
-use Rattle.natural_loops.specs.Noted.{header_of, IsBodyNode, HasBackEdge, IsEnteredAside}
+use Rattle.natural_loops.specs.Noted.{header_address, IsBodyNode, HasBackEdge, IsNotedSideEntry}
 use Rattle.natural_loops.specs.Found.{IsAscending}
-use Rattle.natural_loops.specs.Refused.{IsHeaderRefused, AreHeaders, IsTurnRefused, IsEntryRefused}
+use Rattle.natural_loops.specs.Refused.{IsHeaderRefused, AreHeaders, IsBackEdgeRefused, IsEntryRefused}
 
 -- so many numbers below a count have addresses below one
 pub record IsCountBelow (nodes : List ℕ) (at n : ℕ) : Type 0 where
@@ -32,7 +32,7 @@ pub record IsSmallGraph (v : FlowGraph) : Type 0 where
 pub record AreHeaderNumbers (v : FlowGraph) (notes : List LoopNote) (headers : List ℕ) : Type 0 where
   pub few : length notes ≤ 4096
   pub size : length headers ≡ length notes
-  pub at : (k : ℕ) → k < length notes → slice_get v.code.nodes (slice_index headers k) ≡ Some (header_of notes k)
+  pub at : (k : ℕ) → k < length notes → slice_get v.code.nodes (slice_index headers k) ≡ Some (header_address notes k)
 
 abbrev pub AreHeadersFound : FlowGraph → List LoopNote → Result (List ℕ) Refusal → Type 0
 AreHeadersFound v notes (Ok headers) = AreHeaderNumbers v notes headers
@@ -64,8 +64,8 @@ abbrev pub IsNodeOf : FlowGraph → LoopNote → ℕ → Type 0
 IsNodeOf v note at = IsInBody (graph v) note.header (kept.in_extent note) at
 
 -- an edge leads from its body to its header
-abbrev pub HasTurn : FlowGraph → LoopNote → Type 0
-HasTurn v note = (e : ℕ) × (e < (graph v).edges) × IsNodeOf v note ((graph v).source e) × ((graph v).target e ≡ Some note.header)
+abbrev pub GoesBack : FlowGraph → LoopNote → Type 0
+GoesBack v note = (e : ℕ) × (e < (graph v).edges) × IsNodeOf v note ((graph v).source e) × ((graph v).target e ≡ Some note.header)
 
 -- the numbers of the nodes in the body of a note's loop
 pub record IsNumberedBody (v : FlowGraph) (note : LoopNote) (body : List ℕ) : Type 0 where
@@ -84,9 +84,9 @@ abbrev pub IsSidePair : FlowGraph → EdgeView → ℕ → List ℕ → ℕ → 
 IsSidePair v edges header body from to = IsSideEdge edges.sources edges.targets header body from to ⊎
     ((from ≡ to) × IsIn body to × (to ≢ header) × IsEntryNode v to)
 
-abbrev pub AreTurnsFound : FlowGraph → List LoopNote → Result Unit Refusal → Type 0
-AreTurnsFound v notes (Ok x) = (k : ℕ) → k < length notes → HasBackEdge v notes k
-AreTurnsFound v notes (Err refusal) = IsTurnRefused v notes refusal
+abbrev pub AreBackEdgesFound : FlowGraph → List LoopNote → Result Unit Refusal → Type 0
+AreBackEdgesFound v notes (Ok x) = (k : ℕ) → k < length notes → HasBackEdge v notes k
+AreBackEdgesFound v notes (Err refusal) = IsBackEdgeRefused v notes refusal
 
 -- by node, in how many of the first n bodies it is
 pub record AreDepths (v : FlowGraph) (notes : List LoopNote) (n : ℕ) (depths : List ℕ) : Type 0 where
@@ -97,7 +97,7 @@ pub record AreDepths (v : FlowGraph) (notes : List LoopNote) (n : ℕ) (depths :
 
 -- no body is entered aside
 pub record AreEntriesFound (v : FlowGraph) (notes : List LoopNote) (depths : List ℕ) : Type 0 where
-  pub none : (k from to : ℕ) → k < length notes → IsEnteredAside v notes k from to → ⊥
+  pub none : (k from to : ℕ) → k < length notes → IsNotedSideEntry v notes k from to → ⊥
   pub counts : AreDepths v notes (length notes) depths
 
 abbrev pub AreEntries : FlowGraph → List LoopNote → Result (List ℕ) Refusal → Type 0

@@ -8,7 +8,7 @@ use Rattle.cost_theory.specs.Accepted.{AreEntered, IsTooDeep}
 use Rattle.code_graph.specs.FlowGraph.{FlowGraph, graph}
 use Rattle.loop_file.specs.declared.notes.LoopNote.{LoopNote}
 use Rattle.loop_file.specs.Kept.{noted_loops}
-use Rattle.natural_loops.specs.Noted.{IsHeaderReached, HaveOneHeader, HasBackEdge, IsEnteredAside}
+use Rattle.natural_loops.specs.Noted.{IsHeaderReached, HaveOneHeader, HasBackEdge, IsNotedSideEntry}
 use Rattle.natural_loops.specs.Found.{LoopsView, AreNaturalLoops}
 
 -- the header of loop k isn't reached, and those of the loops before it are
@@ -38,7 +38,7 @@ pub record AreHeaders (v : FlowGraph) (notes : List LoopNote) : Type 0 where
   pub distinct : (j k : ℕ) → k < length notes → HaveOneHeader notes j k → ⊥
 
 -- loop k has no back edge, and the loops before it have one
-pub record IsTurnRefused (v : FlowGraph) (notes : List LoopNote) (refusal : Refusal) : Type 0 where
+pub record IsBackEdgeRefused (v : FlowGraph) (notes : List LoopNote) (refusal : Refusal) : Type 0 where
   pub headers : AreHeaders v notes
   pub k : ℕ
   pub within : k < length notes
@@ -49,14 +49,14 @@ pub record IsTurnRefused (v : FlowGraph) (notes : List LoopNote) (refusal : Refu
 -- loop k is entered aside by the least such pair of addresses, and the loops before it are entered at their headers alone
 pub record IsEntryRefused (v : FlowGraph) (notes : List LoopNote) (refusal : Refusal) : Type 0 where
   pub headers : AreHeaders v notes
-  pub turns : (j : ℕ) → j < length notes → HasBackEdge v notes j
+  pub back_edges : (j : ℕ) → j < length notes → HasBackEdge v notes j
   pub k : ℕ
   pub from : ℕ
   pub to : ℕ
   pub within : k < length notes
-  pub entered : IsEnteredAside v notes k from to
-  pub least : (a b : ℕ) → IsEnteredAside v notes k a b → (from < a) ⊎ ((from ≡ a) × (to ≤ b))
-  pub first : (j a b : ℕ) → j < k → IsEnteredAside v notes j a b → ⊥
+  pub entered : IsNotedSideEntry v notes k from to
+  pub least : (a b : ℕ) → IsNotedSideEntry v notes k a b → (from < a) ⊎ ((from ≡ a) × (to ≤ b))
+  pub first : (j a b : ℕ) → j < k → IsNotedSideEntry v notes j a b → ⊥
   pub refusal_is : refusal ≡ SideEntry (k + 1) from to
 
 -- the loops of notes, with these bodies
@@ -77,7 +77,7 @@ pub record IsDepthRefused (v : FlowGraph) (notes : List LoopNote) (refusal : Ref
   pub refusal_is : refusal ≡ TooDeep (k + 1)
 
 abbrev pub AreLoopsRefused : FlowGraph → List LoopNote → Refusal → Type 0
-AreLoopsRefused v notes refusal = IsHeaderRefused v notes refusal ⊎ (IsPairRefused v notes refusal ⊎ (IsTurnRefused v notes refusal ⊎
+AreLoopsRefused v notes refusal = IsHeaderRefused v notes refusal ⊎ (IsPairRefused v notes refusal ⊎ (IsBackEdgeRefused v notes refusal ⊎
     (IsEntryRefused v notes refusal ⊎ IsDepthRefused v notes refusal)))
 
 -- what finding the loops of notes answers

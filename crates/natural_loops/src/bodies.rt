@@ -4,7 +4,7 @@ ghost use Rattle.std.specs.Prelude.{◌≡◌, length, map, slice_get, Some, IfO
 ghost use Rattle.natural_loops.specs.Found.{IsAscending};
 ghost use Rattle.natural_loops.specs.Passes.{AreEdgesOf, IsReady, IsNumberedBody, AreBodies};
 
-use crate::turns::loop_body;
+use crate::back_edges::loop_body;
 use code_graph::CodeGraph;
 use loop_bodies::BodySearch;
 use loop_file::{LoopNote, LoopNotes};

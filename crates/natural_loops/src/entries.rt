@@ -4,12 +4,12 @@ ghost use Rattle.std.specs.Prelude.{◌≡◌, ◌+◌, ◌<◌, ◌≤◌, ◌�
 ghost use Rattle.scale_base.specs.Answer.{AnswersBy};
 ghost use Rattle.code_graph.specs.FlowGraph as flow;
 ghost use Rattle.loop_bodies.specs.Bodies.{IsIn, AreNodes, IsLeastPair};
-ghost use Rattle.natural_loops.specs.Passes.{IsSmallGraph, AreEdgesOf, IsReady, AreOwned, IsSidePair, AreTurnsFound, AreEntries, AreShallow};
+ghost use Rattle.natural_loops.specs.Passes.{IsSmallGraph, AreEdgesOf, IsReady, AreOwned, IsSidePair, AreBackEdgesFound, AreEntries, AreShallow};
 ghost use Rattle.natural_loops.specs.Noted.{HasBackEdge};
 
+use crate::back_edges::loop_body;
 use crate::headers::number_of;
 use crate::nodes::node_at;
-use crate::turns::loop_body;
 use code_graph::CodeGraph;
 use loop_bodies::{BodySearch, lesser_pair};
 use loop_file::LoopNotes;
@@ -83,7 +83,7 @@ pub fn check_entries(
     headers: &[usize],
 ) -> Result<Vec<usize>, Stop>
     requires ready { IsReady graph.now search.old notes.now headers.now }
-    requires turns { (k : ℕ) → k < length notes.now → HasBackEdge graph.now notes.now k }
+    requires back_edges { (k : ℕ) → k < length notes.now → HasBackEdge graph.now notes.now k }
     ensures entries { AnswersBy (λ depths. depths.items) result (AreEntries graph.now notes.now) }
     ensures same { search.new ≡ search.old }
 {

@@ -4,6 +4,7 @@
 ghost use Rattle.scale_base.specs.Answer.{AnswersBy};
 ghost use Rattle.natural_loops.specs.Refused.{AreLoopsFound};
 
+mod back_edges;
 mod bodies;
 mod ends;
 mod entries;
@@ -13,8 +14,8 @@ mod loops;
 mod nodes;
 #[cfg(test)]
 mod tests;
-mod turns;
 
+use back_edges::check_back_edges;
 use bodies::keep_bodies;
 use code_graph::CodeGraph;
 pub use ends::{EdgeEnds, edge_ends};
@@ -26,7 +27,6 @@ pub use loops::NaturalLoops;
 pub use nodes::node_at;
 use scale_base::{Refusal, Stop};
 use std::alloc::Global;
-use turns::check_turns;
 
 /// The natural loops of a graph by their notes, in the notes' order; or why they are refused. The body of each loop is found
 /// twice, so that no bodies are kept of loops that are refused.
@@ -40,7 +40,7 @@ pub fn find_loops(alloc: Global, graph: &CodeGraph, notes: &LoopNotes) -> Result
     }
     let ends = edge_ends(alloc, graph)?;
     let mut search = BodySearch::new(alloc, &ends.sources, &ends.targets, count)?;
-    check_turns(alloc, &search, graph, notes, &headers)?;
+    check_back_edges(alloc, &search, graph, notes, &headers)?;
     let depths = check_entries(alloc, &mut search, graph, notes, &headers)?;
     check_depths(&headers, &depths)?;
     let bodies = keep_bodies(alloc, &mut search, graph, notes, &headers)?;

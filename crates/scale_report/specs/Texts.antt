@@ -1,12 +1,19 @@
 -- The texts that the program prints, byte for byte. Each line ends with one line feed. Numbers are decimal, without leading zeros;
 -- an address is `0x` and eight lower-case hexadecimal digits.
-use Rattle.std.specs.Prelude.{codes, ℕ, zero, suc, ◌+◌, ◌/◌, ◌%◌, nat_lt, if◌then◌else◌, List, [], ◌∷◌, ◌++◌, flat_map}
+use Rattle.std.specs.Prelude.{codes, ℕ, zero, suc, ◌+◌, ◌/◌, ◌%◌, nat_lt, if◌then◌else◌, List, [], ◌∷◌, ◌++◌, length, flat_map, Option, Some, None}
 use Rattle.std.specs.Fmt.{decimal}
 use Rattle.scale_base.specs.declared.summary.Summary.{Summary}
 use Rattle.scale_base.specs.declared.refusal.Field.{Field}
 use Rattle.scale_base.specs.declared.refusal.Field.TheVariants as field
 use Rattle.scale_base.specs.declared.refusal.Refusal.{Refusal}
 use Rattle.scale_base.specs.declared.refusal.Refusal.TheVariants as refusal
+use Rattle.scale_base.specs.declared.endings.End.{End}
+use Rattle.scale_base.specs.declared.endings.End.TheVariants.{Exited, Trapped, OutOfSteps}
+use Rattle.scale_base.specs.declared.endings.Kept.{Kept}
+use Rattle.scale_base.specs.declared.endings.Kept.TheVariants as kept
+use Rattle.scale_base.specs.declared.stepping.TrapKind.{TrapKind}
+use Rattle.scale_base.specs.declared.stepping.TrapKind.TheVariants as trap
+use Rattle.power_model.specs.Report.{Report}
 
 -- a line of some words and a number
 unfoldable pub number_line : List ℕ → ℕ → List ℕ
@@ -109,3 +116,49 @@ refusal_words (refusal.NotYet a) = codes "60 not yet at " ++ address a
 -- the line of a refusal
 abbrev pub refusal_text : Refusal → List ℕ
 refusal_text r = codes "refused " ++ refusal_words r ++ 10 ∷ []
+
+-- the name of a kind of trap
+abbrev pub trap_name : TrapKind → List ℕ
+trap_name trap.Breakpoint = codes "breakpoint"
+trap_name trap.IllegalWord = codes "illegal-word"
+trap_name trap.FetchFault = codes "fetch-fault"
+trap_name trap.MisalignedTarget = codes "misaligned-target"
+trap_name trap.LoadMisaligned = codes "load-misaligned"
+trap_name trap.StoreMisaligned = codes "store-misaligned"
+trap_name trap.LoadFault = codes "load-fault"
+trap_name trap.StoreFault = codes "store-fault"
+
+-- how a run ended
+abbrev pub end_words : End → List ℕ
+end_words (Exited status) = codes "exit " ++ decimal status
+end_words (Trapped t) = codes "trap " ++ trap_name t.kind ++ codes " " ++ address t.at
+end_words OutOfSteps = codes "steps"
+
+-- whether a run was kept, or what it broke first
+abbrev pub kept_words : Option Kept → List ℕ
+kept_words None = codes "unchecked"
+kept_words (Some kept.Kept) = codes "yes"
+kept_words (Some (kept.BrokeBound k n)) = codes "no bound " ++ decimal k ++ codes " " ++ decimal n
+kept_words (Some (kept.BrokeReturn a b)) = codes "no return " ++ address a ++ codes " " ++ address b
+kept_words (Some (kept.BrokeDepth a)) = codes "no depth " ++ address a
+
+unfoldable pub end_line : End → List ℕ
+end_line end = codes "end " ++ end_words end ++ 10 ∷ []
+
+unfoldable pub kept_line : Option Kept → List ℕ
+kept_line k = codes "kept " ++ kept_words k ++ 10 ∷ []
+
+-- the report of a simulated run: how it ended, what it cost, how many bytes it wrote, and whether it was kept
+abbrev pub run_text : Report → List ℕ
+run_text r =
+    end_line r.end
+    ++ number_line (codes "steps ") r.paid.steps
+    ++ number_line (codes "cycles ") r.paid.cycles
+    ++ number_line (codes "time ") r.paid.time
+    ++ number_line (codes "energy ") r.paid.energy
+    ++ number_line (codes "held ") r.held
+    ++ number_line (codes "switches ") r.paid.switches
+    ++ number_line (codes "level ") r.paid.level
+    ++ number_line (codes "keyed ") r.paid.keyed
+    ++ number_line (codes "output ") (length r.output)
+    ++ kept_line r.kept

@@ -1,5 +1,7 @@
 use super::*;
-use scale_base::{Cycle, Field, Name};
+use power_model::Meter;
+use scale_base::{Cycle, Field, Name, Trap, TrapKind};
+use std::process::Abort;
 use std::test::Fail;
 
 #[test]
@@ -52,5 +54,175 @@ fn prints_refusals(rt: HostRuntime) -> Result<(), Fail> {
         unbounded.as_str(),
         "refused 36 unbounded cycle: 0x00010008 0x0001000c\n"
     );
+    Ok(())
+}
+
+#[test]
+fn prints_refusals_of_loops(rt: HostRuntime) -> Result<(), Fail> {
+    let scaled = line(&rt, Refusal::AlreadyScaled)?;
+    assert_eq!(rt; scaled.as_str(), "refused 8 already scaled\n");
+    let level = line(&rt, Refusal::StartLevel(4, 3))?;
+    assert_eq!(rt; level.as_str(), "refused 9 start level 4 of 3\n");
+    let symbol = line(&rt, Refusal::UnknownSymbol(4096))?;
+    assert_eq!(rt; symbol.as_str(), "refused 17 loop 4096 symbol\n");
+    let many = line(&rt, Refusal::TooManyLoops(4097))?;
+    assert_eq!(rt; many.as_str(), "refused 18 too many loops: 4097\n");
+    let header = line(&rt, Refusal::HeaderNotReached(1))?;
+    assert_eq!(rt; header.as_str(), "refused 30 loop 1 header not reached\n");
+    let same = line(&rt, Refusal::SameHeader(1, 2))?;
+    assert_eq!(rt; same.as_str(), "refused 31 loops 1 2 same header\n");
+    let back = line(&rt, Refusal::NoBackEdge(3))?;
+    assert_eq!(rt; back.as_str(), "refused 32 loop 3 no back edge\n");
+    let side = line(&rt, Refusal::SideEntry(2, 0x1_0004, 0x1_00a0))?;
+    assert_eq!(rt;
+        side.as_str(),
+        "refused 33 loop 2 side entry 0x00010004 to 0x000100a0\n"
+    );
+    let cross = line(&rt, Refusal::CrossingLoops(5, 7))?;
+    assert_eq!(rt; cross.as_str(), "refused 34 loops 5 7 cross\n");
+    let deep = line(&rt, Refusal::TooDeep(33))?;
+    assert_eq!(rt; deep.as_str(), "refused 35 loop 33 too deep\n");
+    let uncountable = line(&rt, Refusal::Uncountable(6, 0x1_0010))?;
+    assert_eq!(rt;
+        uncountable.as_str(),
+        "refused 42 loop 6 uncountable at 0x00010010\n"
+    );
+    let counters = line(&rt, Refusal::TooManyCounters(65))?;
+    assert_eq!(rt; counters.as_str(), "refused 43 too many counters: 65\n");
+    let stub = line(&rt, Refusal::StubOutOfReach(0x1_0000))?;
+    assert_eq!(rt;
+        stub.as_str(),
+        "refused 44 stub out of reach at 0x00010000\n"
+    );
+    Ok(())
+}
+
+// A run of two steps that changed to level 2, and wrote three bytes.
+fn report_of(alloc: Global, end: End, kept: Option<Kept>) -> Result<RunReport, Fail> {
+    let meter = Meter {
+        start: 1,
+        level: 2,
+        steps: 2,
+        cycles: 7,
+        time: 600_000_000_000,
+        energy: 19,
+        switches: 1,
+        keyed: 5,
+    };
+    Ok(RunReport {
+        end,
+        meter,
+        held: 21,
+        output: vec![in alloc; 104, 105, 10]?,
+        kept,
+    })
+}
+
+const NUMBERS: &str =
+    "steps 2\ncycles 7\ntime 600000000000\nenergy 19\nheld 21\nswitches 1\nlevel 2\nkeyed 5\noutput 3\n";
+
+fn check_run(
+    rt: &impl Abort,
+    alloc: Global,
+    end: End,
+    kept: Option<Kept>,
+    first: &str,
+    last: &str,
+) -> Result<(), Fail> {
+    let report = report_of(alloc, end, kept)?;
+    let text = run_text(alloc, &report).ok().ok_or("memory")?;
+    let wanted = format!(in alloc; "{first}\n{NUMBERS}{last}\n")?;
+    assert_eq!(rt; text.as_str(), wanted.as_str());
+    Ok(())
+}
+
+#[test]
+fn prints_ends_of_runs(rt: HostRuntime) -> Result<(), Fail> {
+    check_run(
+        &rt,
+        rt.alloc(),
+        End::Exited(0),
+        None,
+        "end exit 0",
+        "kept unchecked",
+    )?;
+    check_run(
+        &rt,
+        rt.alloc(),
+        End::Exited(255),
+        None,
+        "end exit 255",
+        "kept unchecked",
+    )?;
+    check_run(
+        &rt,
+        rt.alloc(),
+        End::OutOfSteps,
+        None,
+        "end steps",
+        "kept unchecked",
+    )?;
+    let kinds = [
+        (TrapKind::Breakpoint, "end trap breakpoint 0xfffffffe"),
+        (TrapKind::IllegalWord, "end trap illegal-word 0xfffffffe"),
+        (TrapKind::FetchFault, "end trap fetch-fault 0xfffffffe"),
+        (
+            TrapKind::MisalignedTarget,
+            "end trap misaligned-target 0xfffffffe",
+        ),
+        (
+            TrapKind::LoadMisaligned,
+            "end trap load-misaligned 0xfffffffe",
+        ),
+        (
+            TrapKind::StoreMisaligned,
+            "end trap store-misaligned 0xfffffffe",
+        ),
+        (TrapKind::LoadFault, "end trap load-fault 0xfffffffe"),
+        (TrapKind::StoreFault, "end trap store-fault 0xfffffffe"),
+    ];
+    for (kind, first) in kinds {
+        let end = End::Trapped(Trap {
+            kind,
+            at: 0xffff_fffe,
+        });
+        check_run(&rt, rt.alloc(), end, None, first, "kept unchecked")?;
+    }
+    Ok(())
+}
+
+#[test]
+fn prints_whether_runs_were_kept(rt: HostRuntime) -> Result<(), Fail> {
+    let cases = [
+        (Kept::Kept, "kept yes"),
+        (
+            Kept::BrokeBound {
+                loop_no: 3,
+                count: 4_294_967_295,
+            },
+            "kept no bound 3 4294967295",
+        ),
+        (
+            Kept::BrokeReturn {
+                at: 0x1_0004,
+                to: 0x1_0abc,
+            },
+            "kept no return 0x00010004 0x00010abc",
+        ),
+        (
+            Kept::BrokeDepth { at: 0x1_0008 },
+            "kept no depth 0x00010008",
+        ),
+    ];
+    for (kept, last) in cases {
+        check_run(
+            &rt,
+            rt.alloc(),
+            End::Exited(7),
+            Some(kept),
+            "end exit 7",
+            last,
+        )?;
+    }
     Ok(())
 }

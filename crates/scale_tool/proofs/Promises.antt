@@ -12,7 +12,7 @@ use Rattle.scaler.specs.Held.{IsHeld}
 use Rattle.scaler.proofs.Safe.{safe}
 use Rattle.host_files.specs.HostState.{Files, HostState}
 use Rattle.scale_tool.specs.Answer.{Answer, Makes, AnswersTo, HasAnswer, held_answer}
-use Rattle.scale_tool.specs.Command.{Command, Hold, wants_of}
+use Rattle.scale_tool.specs.Command.{Command, Help, Hold, Simulate, wants_of}
 use Rattle.scale_tool.specs.Loading.{Loading, Missing, Long, Whole, loading_of, loading_one, and_then}
 use Rattle.scale_tool.specs.Promise.{HoldPromise, Promise, PromisedOf, PromisedBy, Promised}
 use Rattle.scale_tool.specs.Tool.{with_stores, StoresStand}
@@ -70,11 +70,13 @@ hold_kept i m l out files (Err refusal) image_short machine_short loops_short is
 
 kept : (command : Command) (loaded : List (List ℕ)) (files : Files) (answer : Answer) → EachWithin (wants_of command) loaded → Makes command loaded answer → answer.status ≡ 0 →
     Promise command loaded (with_stores answer.stores files)
+kept Help loaded files answer within made zero = tt
 kept (Hold image machine loops out) (i ∷ m ∷ l ∷ []) files answer within made zero =
     let told = sym made.told in
     subst (λ (a : Answer). HoldPromise i m l (get (with_stores a.stores files) out)) told
     (hold_kept i m l out files made.given within.0 within.1.0 within.1.1.0 made.is_held (ap (λ (a : Answer). a.status) told ∙ zero))
 kept (Hold image machine loops out) loaded files answer within made zero = absurd made
+kept (Simulate image machine input out loops) loaded files answer within made zero = tt
 
 of_loading : (command : Command) (loading : Loading) (files : Files) (new : Option Files) (answer : Answer) → Within (wants_of command) loading → AnswersTo command loading answer → answer.status ≡ 0 →
     new ≡ Some (with_stores answer.stores files) → IfSome new (λ after. PromisedOf command loading after)

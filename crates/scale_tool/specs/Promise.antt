@@ -18,7 +18,7 @@ pub record HoldPromise (image machine loops : List ℕ) (out : Option (List ℕ)
   pub given : IsHeld image machine loops (Ok ((stored, summary)))
   pub safe : IsHeldSafely image machine loops stored summary
 
--- what a command promises, by the files that it loaded and those that stand afterwards
+-- what a command promises beside its answer, by the files that it loaded and those that stand afterwards
 abbrev pub Promise : Command → List (List ℕ) → Files → Type 0
 Promise (Hold image machine loops out) (i ∷ m ∷ l ∷ []) after = HoldPromise i m l (get after out)
 Promise command files after = Unit {0}

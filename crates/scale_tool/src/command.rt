@@ -1,21 +1,38 @@
 //! The words of a command line.
 
 ghost use Rattle.std.specs.Prelude.{◌≡◌, IfOk, option_map};
-ghost use Rattle.scale_tool.specs.Command.{command_of, hold_of, texts, wants_of};
-ghost use Rattle.scale_tool.specs.Views.{command_view, want_views};
+ghost use Rattle.scale_tool.specs.Command.{command_of, help_of, hold_of, simulate_of, texts, wants_of};
+ghost use Rattle.scale_tool.specs.Views.{command_view, work_view, want_views};
 
 use crate::load_all::Want;
 use std::alloc::{AllocError, Global};
 
-/// A command, with the names of its files.
+/// A command.
 #[derive(Clone, Copy)]
 pub enum Command<'a> {
+    /// Tells how the commands are called.
+    Help,
+    /// Makes a file of others.
+    Work(Work<'a>),
+}
+
+/// What is made of files, with their names.
+#[derive(Clone, Copy)]
+pub enum Work<'a> {
     /// Keeps the whole program at the slowest level that is safe.
     Hold {
         image: &'a str,
         machine: &'a str,
         loops: &'a str,
         out: &'a str,
+    },
+    /// Runs the program, and tells what the run costs and whether it keeps the notes of its loops, if any are given.
+    Simulate {
+        image: &'a str,
+        machine: &'a str,
+        input: &'a str,
+        out: &'a str,
+        loops: Option<&'a str>,
     },
 }
 
@@ -25,7 +42,18 @@ pub fn parse(words: &[String]) -> Option<Command<'_>>
 {
     let (word, words) = words.split_first()?;
     match word.as_str() {
+        "help" => parse_help(words),
         "hold" => parse_hold(words),
+        "simulate" => parse_simulate(words),
+        _ => None,
+    }
+}
+
+fn parse_help(words: &[String]) -> Option<Command<'_>>
+    ensures { option_map command_view result ≡ help_of (texts words.now) }
+{
+    match words {
+        [] => Some(Command::Help),
         _ => None,
     }
 }
@@ -34,27 +62,51 @@ fn parse_hold(words: &[String]) -> Option<Command<'_>>
     ensures { option_map command_view result ≡ hold_of (texts words.now) }
 {
     match words {
-        [image, machine, loops, out] => Some(Command::Hold {
+        [image, machine, loops, out] => Some(Command::Work(Work::Hold {
             image: image.as_str(),
             machine: machine.as_str(),
             loops: loops.as_str(),
             out: out.as_str(),
-        }),
+        })),
         _ => None,
     }
 }
 
-// How many bytes an image may have, and how many a machine file or a loop file.
+fn parse_simulate(words: &[String]) -> Option<Command<'_>>
+    ensures { option_map command_view result ≡ simulate_of (texts words.now) }
+{
+    match words {
+        [image, machine, input, out] => Some(Command::Work(Work::Simulate {
+            image: image.as_str(),
+            machine: machine.as_str(),
+            input: input.as_str(),
+            out: out.as_str(),
+            loops: None,
+        })),
+        [image, machine, input, out, loops] => Some(Command::Work(Work::Simulate {
+            image: image.as_str(),
+            machine: machine.as_str(),
+            input: input.as_str(),
+            out: out.as_str(),
+            loops: Some(loops.as_str()),
+        })),
+        _ => None,
+    }
+}
+
+// How many bytes an image may have, how many an image that is only run, and how many any other file.
 const IMAGE_LIMIT: u64 = 4194304;
+
+const RUN_LIMIT: u64 = 8388608;
 
 const TEXT_LIMIT: u64 = 1048576;
 
-/// The files that a command loads, in order.
-pub fn wants<'a>(alloc: Global, command: &Command<'a>) -> Result<Vec<Want<'a>>, AllocError>
-    ensures { IfOk result (λ wants. want_views wants.items ≡ wants_of (command_view command.now)) }
+/// The files that are loaded, in order.
+pub fn wants<'a>(alloc: Global, work: &Work<'a>) -> Result<Vec<Want<'a>>, AllocError>
+    ensures { IfOk result (λ wants. want_views wants.items ≡ wants_of (work_view work.now)) }
 {
-    match *command {
-        Command::Hold {
+    match *work {
+        Work::Hold {
             image,
             machine,
             loops,
@@ -64,6 +116,23 @@ pub fn wants<'a>(alloc: Global, command: &Command<'a>) -> Result<Vec<Want<'a>>, 
             want(machine, TEXT_LIMIT),
             want(loops, TEXT_LIMIT),
         ]?),
+        Work::Simulate {
+            image,
+            machine,
+            input,
+            loops,
+            ..
+        } => {
+            let mut wants = vec![in alloc;
+                want(image, RUN_LIMIT),
+                want(machine, TEXT_LIMIT),
+                want(input, TEXT_LIMIT),
+            ]?;
+            if let Some(loops) = loops {
+                wants.push(want(loops, TEXT_LIMIT))?;
+            }
+            Ok(wants)
+        }
     }
 }
 

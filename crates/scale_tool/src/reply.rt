@@ -1,12 +1,14 @@
 //! What a command gives, made whole before the first of it is stored or printed.
 
-ghost use Rattle.std.specs.Prelude.{◌≡◌, ◌≤◌, length, IfOk, IsTrue, Some};
+ghost use Rattle.std.specs.Prelude.{◌≡◌, ◌≤◌, length, option_map, IfOk, IsTrue, Some, Ok};
 ghost use Rattle.std.specs.List.{AllZip};
-ghost use Rattle.scale_tool.specs.Answer.{refused, MakesHeld, Makes};
+ghost use Rattle.power_model.specs.Report.{report_view};
+ghost use Rattle.scale_tool.specs.Answer.{refused, run_answer, run_status, MakesHeld, MakesRun, Makes};
 
-use crate::command::Command;
-use scale_base::{NoMemory, Refusal, Stop};
-use scale_report::{refusal_text, summary_text};
+use crate::command::Work;
+use power_model::RunReport;
+use scale_base::{End, NoMemory, Refusal, Stop};
+use scale_report::{refusal_text, run_text, summary_text};
 use std::alloc::Global;
 
 /// A file to store.
@@ -24,8 +26,19 @@ pub struct Reply {
     pub status: u8,
 }
 
+// The status of a run.
+fn status_of(end: End) -> u8
+    ensures { result ≡ run_status end }
+{
+    match end {
+        End::Exited(_) => 0,
+        End::Trapped(_) => 5,
+        End::OutOfSteps => 6,
+    }
+}
+
 impl Reply {
-    ghost use Rattle.scale_tool.specs.Views.{reply_view, command_view, files_view};
+    ghost use Rattle.scale_tool.specs.Views.{reply_view, work_view, files_view};
     ghost use Rattle.scale_tool.specs.Command.{wants_of, may_give};
 
     /// A refusal, and nothing to store.
@@ -69,14 +82,53 @@ impl Reply {
         }
     }
 
-    /// What a command makes of its files.
-    pub fn made(alloc: Global, command: &Command<'_>, files: &[Vec<u8>]) -> Result<Reply, NoMemory>
-        requires { AllZip (λ want file. length file ≤ want.1) (wants_of (command_view command.now)) (files_view files.now) }
-        ensures answer { IfOk result (λ reply. Makes (command_view command.now) (files_view files.now) (reply_view reply)) }
-        ensures status { IfOk result (λ reply. IsTrue (may_give (Some (command_view command.now)) reply.status)) }
+    // What a run gives, with the name under which its output is stored.
+    fn told(alloc: Global, out: &str, report: RunReport) -> Result<Reply, NoMemory>
+        ensures { IfOk result (λ reply. reply_view reply ≡ run_answer out.now (Ok (report_view report))) }
     {
-        match *command {
-            Command::Hold { out, .. } => Reply::held(alloc, out, &files[0], &files[1], &files[2]),
+        let status = status_of(report.end);
+        let name = String::from_str(alloc, out)?;
+        let text = run_text(alloc, &report)?;
+        let bytes = report.output;
+        let mut stores = Vec::new(alloc);
+        stores.push(Store { name, bytes })?;
+        Ok(Reply {
+            stores,
+            text,
+            status,
+        })
+    }
+
+    /// What `simulate` gives for its files.
+    pub fn run(
+        alloc: Global,
+        out: &str,
+        image: &[u8],
+        machine: &[u8],
+        input: &[u8],
+        loops: Option<&[u8]>,
+    ) -> Result<Reply, NoMemory>
+        ensures { IfOk result (λ reply. MakesRun image.now machine.now input.now (option_map (λ l. l.now) loops.entry) out.now (reply_view reply)) }
+    {
+        match speed_sim::simulate(alloc, image, machine, input, loops) {
+            Ok(report) => Reply::told(alloc, out, report),
+            Err(Stop::Refused(refusal)) => Reply::refused(alloc, &refusal),
+            Err(Stop::Memory) => Err(NoMemory),
+        }
+    }
+
+    /// What is made of the files that were loaded.
+    pub fn made(alloc: Global, work: &Work<'_>, files: &[Vec<u8>]) -> Result<Reply, NoMemory>
+        requires { AllZip (λ want file. length file ≤ want.1) (wants_of (work_view work.now)) (files_view files.now) }
+        ensures answer { IfOk result (λ reply. Makes (work_view work.now) (files_view files.now) (reply_view reply)) }
+        ensures status { IfOk result (λ reply. IsTrue (may_give (Some (work_view work.now)) reply.status)) }
+    {
+        match *work {
+            Work::Hold { out, .. } => Reply::held(alloc, out, &files[0], &files[1], &files[2]),
+            Work::Simulate { out, loops, .. } => match loops {
+                None => Reply::run(alloc, out, &files[0], &files[1], &files[2], None),
+                Some(_) => Reply::run(alloc, out, &files[0], &files[1], &files[2], Some(&files[3])),
+            },
         }
     }
 }

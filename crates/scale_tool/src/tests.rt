@@ -1,6 +1,8 @@
 //! Whole runs over hosts in memory.
 
 mod loops;
+mod rows;
+mod runs;
 
 use crate::tool::run_tool;
 use host_files::{MemHost, NeverFails};
@@ -21,8 +23,19 @@ const BAD_COMMAND: &[u8] = b"bad command; try: scale help\n";
 
 // A machine file of three levels: with this deadline, this line on divisions and this period of level 1.
 fn machine_file(alloc: Global, deadline: u32, div: &str, period: u32) -> Result<String, Fail> {
+    machine_of_steps(alloc, 1000000, deadline, div, period)
+}
+
+// The same, and so many steps of a run at most.
+fn machine_of_steps(
+    alloc: Global,
+    steps: u32,
+    deadline: u32,
+    div: &str,
+    period: u32,
+) -> Result<String, Fail> {
     Ok(format!(in alloc;
-        "version = 1\ndeadline = {deadline}\nsteps = 1000000\nmin_gain = 20\nswitch_time = 10\nswitch_energy = 20\n\n[cost]\nalu = 1\nload = 2\nstore = 1\ntaken = 2\nuntaken = 1\njump = 2\nmul = 3\n{div}ecall = 5\nfence = 1\n\n[[level]]\nperiod = 4\nenergy = 1\n[[level]]\nperiod = {period}\nenergy = 3\n[[level]]\nperiod = 1\nenergy = 8\n"
+        "version = 1\ndeadline = {deadline}\nsteps = {steps}\nmin_gain = 20\nswitch_time = 10\nswitch_energy = 20\n\n[cost]\nalu = 1\nload = 2\nstore = 1\ntaken = 2\nuntaken = 1\njump = 2\nmul = 3\n{div}ecall = 5\nfence = 1\n\n[[level]]\nperiod = 4\nenergy = 1\n[[level]]\nperiod = {period}\nenergy = 3\n[[level]]\nperiod = 1\nenergy = 8\n"
     )?)
 }
 
@@ -429,11 +442,15 @@ fn machine_and_loop_files_are_refused(rt: HostRuntime) -> Result<(), Fail> {
 #[test]
 fn words_that_are_no_command(rt: HostRuntime) -> Result<(), Fail> {
     let alloc = rt.alloc();
-    let cases: [&[&str]; 5] = [
+    let cases: [&[&str]; 9] = [
         &["hold", "a", "b"],
         &[],
         &["make", "0", "0", "p"],
-        &["help"],
+        &["help", "hold"],
+        &["Help"],
+        &["simulate"],
+        &["simulate", "a", "b", "c"],
+        &["simulate", "a", "b", "c", "d", "e", "f"],
         &["rewrite", "a", "b", "c", "d"],
     ];
     for case in cases {
@@ -522,5 +539,23 @@ fn hold_over_a_host_that_never_fails(rt: HostRuntime) -> Result<(), Fail> {
     let mut host = NeverFails::new(inner);
     assert_eq!(rt; run_tool(&mut host, alloc, &words), 0);
     assert_eq!(rt; host.inner().fault_count(), 0);
+    Ok(())
+}
+
+// It needs no room but for its text, and it can't be printed where the host fails.
+#[test]
+fn help_is_printed(rt: HostRuntime) -> Result<(), Fail> {
+    let alloc = rt.alloc();
+    let words = words_of(alloc, &["help"])?;
+    let mut host = MemHost::new(alloc, Vec::new(alloc));
+    host.reserve(0, 93)?;
+    assert_eq!(rt; run_tool(&mut host, alloc, &words), 0);
+    assert_eq!(rt;
+        host.printed(),
+        b"scale hold IMAGE MACHINE LOOPS OUT\nscale simulate IMAGE MACHINE INPUT OUT [LOOPS]\nscale help\n".as_slice()
+    );
+    let mut failing = host_of(alloc, &[1], &[], "", "")?;
+    assert_eq!(rt; run_tool(&mut failing, alloc, &words), 3);
+    assert!(rt; failing.printed().is_empty());
     Ok(())
 }

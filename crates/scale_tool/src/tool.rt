@@ -4,14 +4,14 @@ ghost use Rattle.std.specs.Prelude.{◌≡◌, ◌≢◌, Some, None, IfOk, IfEr
 ghost use Rattle.host_files.specs.HostState.{IsUntouched, Rose};
 ghost use Rattle.host_files.specs.Host.{count_if, is_failed};
 ghost use Rattle.scale_tool.specs.Answer.{IsAnswerOf, refused};
-ghost use Rattle.scale_tool.specs.Command.{command_of, texts, may_give, may_answer, needs_memory, wants_of};
+ghost use Rattle.scale_tool.specs.Command.{Help, command_of, texts, may_give, may_answer, needs_memory, wants_of};
 ghost use Rattle.scale_tool.specs.Loading.{Missing, loading_of};
 ghost use Rattle.scale_tool.specs.Promise.{Promised};
 ghost use Rattle.scale_tool.specs.Tool.{Ends, IsAnswered, StopsWithin, StoresStand, IsReadyFor};
-ghost use Rattle.scale_tool.specs.Views.{command_view, reply_view};
+ghost use Rattle.scale_tool.specs.Views.{work_view, reply_view};
 ghost use Rattle.scale_base.specs.declared.refusal.Refusal.TheVariants.{TooLarge};
 
-use crate::command::{Command, parse, wants};
+use crate::command::{Command, Work, parse, wants};
 use crate::deliver::deliver;
 use crate::load_all::{AllLoaded, load_all};
 use crate::reply::Reply;
@@ -27,34 +27,46 @@ fn too_large(alloc: Global, name: &str) -> Result<Reply, NoMemory>
     Reply::refused(alloc, &Refusal::TooLarge(name))
 }
 
-/// Loads the files of a command, and makes what it gives.
-fn reply_to<H: Host>(host: &mut H, alloc: Global, command: &Command<'_>) -> Result<Reply, HostError>
-    ensures told { IfOk result (λ reply. IfSome (H.state host.old).files (λ files. IsAnswerOf (Some (command_view command.now)) files (reply_view reply))) }
-    ensures status { IfOk result (λ reply. IsTrue (may_give (Some (command_view command.now)) reply.status)) }
+/// Loads the files, and makes what is made of them.
+fn reply_to<H: Host>(host: &mut H, alloc: Global, work: &Work<'_>) -> Result<Reply, HostError>
+    ensures told { IfOk result (λ reply. IfSome (H.state host.old).files (λ files. IsAnswerOf (Some (work_view work.now)) files (reply_view reply))) }
+    ensures status { IfOk result (λ reply. IsTrue (may_give (Some (work_view work.now)) reply.status)) }
     ensures untouched { IsUntouched (H.state host.old) (H.state host.new) }
     ensures faults { (H.state host.new).faults ≡ count_if (is_failed result) (H.state host.old).faults }
-    ensures steady { IfErr result (λ error. error ≡ HostError.Failed → IsSome (H.state host.old).room → IfSome (H.state host.old).files (λ files. loading_of (wants_of (command_view command.now)) files ≡ Missing)) }
+    ensures steady { IfErr result (λ error. error ≡ HostError.Failed → IsSome (H.state host.old).room → IfSome (H.state host.old).files (λ files. loading_of (wants_of (work_view work.now)) files ≡ Missing)) }
 {
-    let wants = wants(alloc, command)?;
+    let wants = wants(alloc, work)?;
     match load_all(host, alloc, &wants) {
-        Ok(AllLoaded::Whole(files)) => Ok(Reply::made(alloc, command, &files)?),
+        Ok(AllLoaded::Whole(files)) => Ok(Reply::made(alloc, work, &files)?),
         Ok(AllLoaded::TooLong(number)) => Ok(too_large(alloc, wants[number].name)?),
         Err(error) => Err(error),
     }
 }
 
-/// Does a command.
-fn run_command<H: Host>(host: &mut H, alloc: Global, command: &Command<'_>) -> Result<u8, HostError>
-    requires { IsTrue (needs_memory (Some (command_view command.now))) }
-    ensures ends { Ends (Some (command_view command.now)) result (H.state host.old) (H.state host.new) }
+/// Loads the files, and stores and prints what is made of them.
+fn run_work<H: Host>(host: &mut H, alloc: Global, work: &Work<'_>) -> Result<u8, HostError>
+    requires { IsTrue (needs_memory (Some (work_view work.now))) }
+    ensures ends { Ends (Some (work_view work.now)) result (H.state host.old) (H.state host.new) }
     ensures faults { (H.state host.new).faults ≡ count_if (is_failed result) (H.state host.old).faults }
 {
-    match reply_to(host, alloc, command) {
+    match reply_to(host, alloc, work) {
         Ok(reply) => match deliver(host, &reply.stores, reply.text.as_bytes()) {
             Ok(()) => Ok(reply.status),
             // It takes no memory.
             Err(_) => Err(HostError::Failed),
         },
+        Err(error) => Err(error),
+    }
+}
+
+/// Tells how the commands are called.
+#[tactic(auto, using(crate::proofs::Ready::room_for_help))]
+fn print_help<H: Host>(host: &mut H) -> Result<u8, HostError>
+    ensures ends { Ends (Some Help) result (H.state host.old) (H.state host.new) }
+    ensures faults { (H.state host.new).faults ≡ count_if (is_failed result) (H.state host.old).faults }
+{
+    match deliver(host, &[], texts::help().as_bytes()) {
+        Ok(()) => Ok(0),
         Err(error) => Err(error),
     }
 }
@@ -76,7 +88,8 @@ fn run<H: Host>(host: &mut H, alloc: Global, words: &[String]) -> Result<u8, Hos
     ensures faults { (H.state host.new).faults ≡ count_if (is_failed result) (H.state host.old).faults }
 {
     match parse(words) {
-        Some(command) => run_command(host, alloc, &command),
+        Some(Command::Help) => print_help(host),
+        Some(Command::Work(work)) => run_work(host, alloc, &work),
         None => refuse_words(host),
     }
 }

@@ -26,8 +26,8 @@ pub new-requires : goal.new-requires
 new-requires c = ends_edges c.args.graph.now (record { sources = c.deref-2.result.now; targets = c.deref-3.result.now; count = c.node_count-count.result })
     (edges_at c.args.graph.now c.in_ok-ends.ends.sources.items c.deref-2.result.now c.in_ok-ends.ends.targets.items c.deref-3.result.now c.node_count-count.result (record { sources = c.deref-2.result.now; targets = c.deref-3.result.now; count = c.node_count-count.result }) c.node_count-count.ensures.graph c.node_count-count.ensures.count c.node_count-count.ensures.few c.in_ok-ends.ensures c.deref-2.ensures.value c.deref-3.ensures.value refl)
 
-pub check_turns-requires : goal.check_turns-requires
-check_turns-requires c =
+pub check_back_edges-requires : goal.check_back_edges-requires
+check_back_edges-requires c =
     let none : c.in_ok-one.field-0 ≡ None = search rules in
     ready_at c.args.graph.now c.in_ok-search.search c.args.notes.now c.in_ok-headers.headers.items c.deref.result.now c.deref-4.result.now c.in_ok-one.field-0
     (edges_at c.args.graph.now c.in_ok-ends.ends.sources.items c.deref-2.result.now c.in_ok-ends.ends.targets.items c.deref-3.result.now c.node_count-count.result c.in_ok-search.search c.node_count-count.ensures.graph c.node_count-count.ensures.count c.node_count-count.ensures.few c.in_ok-ends.ensures c.deref-2.ensures.value c.deref-3.ensures.value c.in_ok-search.ensures)
@@ -66,7 +66,7 @@ returns-in_err-check_depths c =
     (edges_at c.args.graph.now c.in_ok-ends.ends.sources.items c.deref-2.result.now c.in_ok-ends.ends.targets.items c.deref-3.result.now c.node_count-count.result c.in_ok-search.search c.node_count-count.ensures.graph c.node_count-count.ensures.count c.node_count-count.ensures.few c.in_ok-ends.ensures c.deref-2.ensures.value c.deref-3.ensures.value c.in_ok-search.ensures)
     c.in_ok-headers.ensures c.deref.ensures.value c.in_ok-one.ensures none c.deref-6.ensures.value in
     passed_on (λ t. t) c.from_residual-in_err-check_depths.result c.in_err-check_depths.field-0.0 (AreShallow c.deref-6.result.now c.deref-7.result.now) (AreLoopsFound c.args.graph.now c.args.notes.now)
-    (λ e deep. inr (inr (inr (inr (depth_refused c.args.graph.now c.in_ok-search.search c.args.notes.now c.deref-6.result.now c.deref-7.result.now e is c.in_ok-check_turns.ensures
+    (λ e deep. inr (inr (inr (inr (depth_refused c.args.graph.now c.in_ok-search.search c.args.notes.now c.deref-6.result.now c.deref-7.result.now e is c.in_ok-check_back_edges.ensures
     (subst (AreEntriesFound c.args.graph.now c.args.notes.now) (sym c.deref-7.ensures.value) c.in_ok-depths.ensures.entries) deep))))) c.from_residual-in_err-check_depths.ensures.1 c.in_err-check_depths.ensures
 
 pub keep_bodies-requires : goal.keep_bodies-requires
@@ -83,5 +83,5 @@ returns c =
     let is = ready_at c.args.graph.now c.in_ok-search.search c.args.notes.now c.in_ok-headers.headers.items c.deref.result.now c.in_ok-headers.headers.items c.in_ok-one.field-0
     (edges_at c.args.graph.now c.in_ok-ends.ends.sources.items c.deref-2.result.now c.in_ok-ends.ends.targets.items c.deref-3.result.now c.node_count-count.result c.in_ok-search.search c.node_count-count.ensures.graph c.node_count-count.ensures.count c.node_count-count.ensures.few c.in_ok-ends.ensures c.deref-2.ensures.value c.deref-3.ensures.value c.in_ok-search.ensures)
     c.in_ok-headers.ensures c.deref.ensures.value c.in_ok-one.ensures none refl in
-    natural c.args.graph.now c.in_ok-search.search c.args.notes.now c.in_ok-headers.headers.items _ is c.in_ok-bodies.ensures.bodies c.in_ok-depths.depths.items c.in_ok-check_turns.ensures c.in_ok-depths.ensures.entries
+    natural c.args.graph.now c.in_ok-search.search c.args.notes.now c.in_ok-headers.headers.items _ is c.in_ok-bodies.ensures.bodies c.in_ok-depths.depths.items c.in_ok-check_back_edges.ensures c.in_ok-depths.ensures.entries
     (subst (λ xs. IsShallow xs c.in_ok-depths.depths.items) c.deref-6.ensures.value (subst (IsShallow c.deref-6.result.now) c.deref-7.ensures.value c.in_ok-check_depths.ensures))

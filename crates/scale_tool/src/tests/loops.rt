@@ -3,7 +3,7 @@
 use super::*;
 
 // Counts from 10 down to 0, and exits.
-const COUNT_DOWN: [u32; 5] = [0x00a00293, 0xfff28293, 0xfe029ee3, 0x05d00893, 0x00000073];
+pub const COUNT_DOWN: [u32; 5] = [0x00a00293, 0xfff28293, 0xfe029ee3, 0x05d00893, 0x00000073];
 
 // The loop of that count.
 const COUNT_LOOP: (&str, &str) = ("0x10004", "[[0x10004, 0x1000c]]");
@@ -159,7 +159,13 @@ fn loops_are_refused(rt: HostRuntime) -> Result<(), Fail> {
         &[0xfff28293, 0xfff28293, 0xfe029ce3, 0x05d00893, 0x00000073],
         &[("0x10004", "[[0x10000, 0x1000c]]", 5)],
         "refused 33 loop 1 side entry 0x00010000 to 0x00010000\n",
-    )?;
+    )
+}
+
+#[test]
+fn notes_of_loops_are_refused(rt: HostRuntime) -> Result<(), Fail> {
+    let alloc = rt.alloc();
+    let (header, ranges) = COUNT_LOOP;
     check_loops_refused(
         &rt,
         alloc,
@@ -203,8 +209,9 @@ fn nested(alloc: Global, depth: u32) -> Result<Vec<u32>, Fail> {
 fn nested_file(alloc: Global, depth: u32, bound: u32) -> Result<String, Fail> {
     let mut text = String::from_str(alloc, "version = 1\n")?;
     for k in 0..depth {
-        let header = 0x10000 + 4 * (k % 100);
-        let end = 0x10000 + 4 * (2 * (depth % 100) - k % 100);
+        let header = k.wrapping_mul(4).wrapping_add(0x10000);
+        let last = depth.wrapping_mul(2).wrapping_sub(k);
+        let end = last.wrapping_mul(4).wrapping_add(0x10000);
         text.push_str(format!(in alloc;
             "[[loop]]\nheader = {header}\nranges = [[{header}, {end}]]\nbound = {bound}\n"
         )?.as_str())?;

@@ -45,7 +45,7 @@ returns-in-Some-clause-entries c =
     let least = pair_found c.args.graph.now c.loop_body.new.search c.args.search.now (slice_index_or c.args.headers.now c.loop-k.k 0) c.deref.result.now c.in_ok-body.body.items (Some (c.in-Some.from, c.in-Some.to))
     (c.in_ok-body.ensures.same ∙ c.loop-k.invariant.same) c.deref.ensures.value (c.in-Some.ensures.entry) in
     entry_refused c.args.graph.now c.args.search.now c.args.notes.now c.args.headers.now c.requires.ready c.loop-k.k c.note.result.now c.note.ensures.note c.in_ok-body.body.items c.loop-k.depths.items
-    c.in_ok-body.ensures.body c.loop-k.invariant.entered (c.in-Some.from, c.in-Some.to) c.node.result c.node-in-Some.result _ c.requires.turns least c.node.ensures c.node-in-Some.ensures
+    c.in_ok-body.ensures.body c.loop-k.invariant.entered (c.in-Some.from, c.in-Some.to) c.node.result c.node-in-Some.result _ c.requires.back_edges least c.node.ensures c.node-in-Some.ensures
     (ap (λ k. SideEntry k c.node.result c.node-in-Some.result) c.number_of.ensures)
 
 pub add_body-requires-clause-small : goal.add_body-requires-clause-small

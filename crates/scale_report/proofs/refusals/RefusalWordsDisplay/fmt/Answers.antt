@@ -1,6 +1,5 @@
-use Rattle.std.proofs.Common.{append_assoc, ap, ◌∙◌, sym}
+use Rattle.std.proofs.Common.{append_assoc}
 use Rattle.std.proofs.Output.{has_written_of_eq}
-use Rattle.scale_report.specs.Texts.{refusal_words}
 use Rattle.scale_report.proofs.refusals.RefusalWordsDisplay.fmt.Goals as goal
 
 pub returns-in-SameHeader-clause-writes : goal.returns-in-SameHeader-clause-writes

@@ -1,0 +1,3 @@
+pub mod WatchLaws
+pub mod ProgressLaws
+pub mod ReportLaws

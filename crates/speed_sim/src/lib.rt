@@ -1,0 +1,46 @@
+//! Simulated runs of images: how they end, what they cost, what they write, and whether they keep the notes of their loops.
+#![tactic(auto)]
+
+ghost use Rattle.std.specs.Prelude.{option_map};
+ghost use Rattle.scale_base.specs.Answer.{Answers};
+ghost use Rattle.power_model.specs.Report.{report_view};
+ghost use Rattle.speed_sim.specs.Simulated.{simulated};
+
+mod allowed;
+mod reporting;
+mod running;
+mod watcher;
+
+use elf_view::read_image;
+use machine_file::read_machine;
+pub use power_model::RunReport;
+pub use scale_base::End;
+use scale_base::Stop;
+use std::alloc::Global;
+
+/// The run of an image on a machine, with an input: at most as many steps as the machine file says. Refused are, in this
+/// order, what is wrong with the machine file, with the image, a loop file given with an image that has a keyed segment, a
+/// starting level that the machine hasn't got, and what is wrong with the loop file.
+///
+/// All the memory that the run needs is taken before its first step.
+#[tactic(auto, unfolding(crate::specs::Simulated::simulated))]
+pub fn simulate(
+    alloc: Global,
+    image: &[u8],
+    machine: &[u8],
+    input: &[u8],
+    loops: Option<&[u8]>,
+) -> Result<RunReport, Stop>
+    ensures { Answers report_view result (simulated image.now machine.now input.now (option_map (λ l. l.now) loops.entry)) }
+{
+    let power = read_machine(alloc, machine)?;
+    let view = read_image(alloc, image)?;
+    let keyed = view.keyed();
+    allowed::check_loops(loops, keyed)?;
+    let start = allowed::start_of(power.levels.count(), keyed)?;
+    let notes = allowed::read_notes(alloc, &view, loops)?;
+    Ok(reporting::report(alloc, &view, &power, start, input, notes)?)
+}
+
+#[cfg(test)]
+mod tests;

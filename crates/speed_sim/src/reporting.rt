@@ -1,0 +1,45 @@
+//! The report of a run.
+
+ghost use Rattle.std.specs.Prelude.{◌≡◌, ◌<◌, length, IfOk};
+ghost use Rattle.scale_base.specs.Run.{starting_level};
+ghost use Rattle.power_model.specs.Report.{report_view};
+ghost use Rattle.speed_sim.specs.Simulated.{report_of};
+
+use crate::running::run_machine;
+use crate::watcher::{kept_of, watcher_of};
+use elf_view::ImageView;
+use flat_memory::load_list;
+use loop_file::LoopNotes;
+use power_model::{Power, RunReport};
+use rv_machine::Machine;
+use scale_base::NoMemory;
+use std::alloc::Global;
+
+/// The report of the run of an image from a level, with an input. Where there are notes of loops, it says whether they are kept.
+pub fn report(
+    alloc: Global,
+    view: &ImageView<'_>,
+    power: &Power,
+    start: u8,
+    input: &[u8],
+    notes: Option<LoopNotes>,
+) -> Result<RunReport, NoMemory>
+    requires start { start ≡ starting_level (length power.now.levels) view.now.keyed_segment }
+    requires is_level { start < length power.now.levels }
+    ensures { IfOk result (λ r. report_view r ≡ report_of power.now view.now input.now notes) }
+{
+    let memory = load_list(alloc, view)?;
+    let input = Vec::from_slice(alloc, input)?;
+    let levels = power.levels.count();
+    let mut machine = Machine::start(alloc, memory, view.entry(), levels, start, input)?;
+    let mut watcher = watcher_of(alloc, notes)?;
+    let (end, meter) = run_machine(&mut machine, power, start, &mut watcher);
+    let world = machine.world;
+    Ok(RunReport {
+        end,
+        held: meter.held(power),
+        meter,
+        output: world.output,
+        kept: kept_of(&watcher),
+    })
+}
