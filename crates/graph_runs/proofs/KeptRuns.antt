@@ -35,6 +35,12 @@ kept-append : (g : Graph) (l : Loops) (s : steps.State) (ms : List steps.Move) (
 kept-append g l s [] m kept one = (one, tt)
 kept-append g l s (k ∷ ks) m kept one = (kept.0, kept-append g l (steps.after g l s k) ks m kept.1 one)
 
+-- an exit ends the moves
+exit_last : (ms : List steps.Move) (e : ℕ) → steps.EndsByExit (ms ++ Exit e ∷ [])
+exit_last [] e = (e, refl)
+exit_last (m ∷ []) e = (e, refl)
+exit_last (m ∷ k ∷ ms) e = exit_last (k ∷ ms) e
+
 module _ (t : Text) (env : Setting) (ok : IsTextOf t env) (code : Code) (is : IsCodeOf (kind_at t) t.entry code) (fine : HasNoBadWord (kind_at t) t.entry)
     (order : HasNoRecursion (graph_of (kind_at t) code))
     (l : Loops) (extent : ℕ → ℕ → Bool) (acc : AreAccepted (graph_of (kind_at t) code) l extent) (costs : Class → ℕ) where
@@ -91,6 +97,7 @@ module _ (t : Text) (env : Setting) (ok : IsTextOf t env) (code : Code) (is : Is
               stack = next.stack;
               over = next.over;
             };
+            exits = tt;
           })
       by_end (Exited x status) e h =
           let g : Graph = graph_of (kind_at t) code in
@@ -107,10 +114,11 @@ module _ (t : Text) (env : Setting) (ok : IsTextOf t env) (code : Code) (is : Is
             classes = classes_more t env ok code is fine l costs r x run.moves (Exit next.0) run.classes next.1.cost;
             cost = costs_more t env ok code is fine l costs r x run.moves (Exit next.0) run.cost next.1.cost;
             stands = tt;
+            exits = exit_last run.moves next.0;
           })
       by_end (Trapped trap) e h =
           let run : IsKeptRun t code l costs r d = ih d (subst (λ q. watched (by_extents l extent) o GoesOn q ≡ Some d) e h) in
-          subst (λ q. IsKeptRun t code l costs (ended r.steps q (step env r.state).state) d) (sym e) (record { moves = run.moves; kept = run.kept; places = run.places; classes = run.classes; cost = run.cost; stands = tt })
+          subst (λ q. IsKeptRun t code l costs (ended r.steps q (step env r.state).state) d) (sym e) (record { moves = run.moves; kept = run.kept; places = run.places; classes = run.classes; cost = run.cost; stands = tt; exits = tt })
 
   module _ (s : State) (over : IsOver t s) (at_entry : s.pc ≡ t.entry) where
     -- a kept run is a kept list of moves
@@ -134,6 +142,7 @@ module _ (t : Text) (env : Setting) (ok : IsTextOf t env) (code : Code) (is : Is
         stack = refl;
         over = over;
       };
+      exits = tt;
     })
     kept_run (suc n) c h = by_standing (λ d q. kept_run n d q) (run env s n).standing refl
       where

@@ -50,6 +50,12 @@ pub record KeptAt (t : Text) (code : Code) (l : Loops) (r : Run) (c : Carried) (
   pub stack : IsStack (kind_at t) t.entry function calls
   pub over : IsOver t r.state
 
+-- The moves of a run that has exited end by an exit.
+abbrev pub ExitsBy : Standing → List steps.Move → Type 0
+ExitsBy GoesOn moves = Unit {0}
+ExitsBy (HasExited status) moves = steps.EndsByExit moves
+ExitsBy (HasTrapped trap) moves = Unit {0}
+
 -- the run is a list of kept moves over the graph, one for each step, which cost what its steps cost
 pub record IsKeptRun (t : Text) (code : Code) (l : Loops) (costs : Class → ℕ) (r : Run) (c : Carried) : Type 0 where
   pub moves : List steps.Move
@@ -59,3 +65,4 @@ pub record IsKeptRun (t : Text) (code : Code) (l : Loops) (costs : Class → ℕ
   pub classes : classes_of t code moves ≡ map (λ x. Some x.class) r.steps
   pub cost : steps.cycles (weights t code costs) moves ≡ sum_by (λ x. costs x.class) r.steps
   pub stands : StandsBy r.standing (KeptAt t code l r c moves)
+  pub exits : ExitsBy r.standing moves

@@ -23,6 +23,7 @@ pub record IsStored (file stored table block : List ℕ) (patches : List Patch) 
   pub size : length stored ≡ at + length table
   pub at_is : at ≡ block_start file + length block
   pub above : length file ≤ block_start file
+  pub same : (i : ℕ) → i < length file → (i < 28) ⊎ (32 ≤ i) → (i < 44) ⊎ (46 ≤ i) → get_or stored i 0 ≡ get_or (patched file patches) i 0
   pub low : (i : ℕ) → i < length file → (i < 28) ⊎ (32 ≤ i) → (i < 44) ⊎ (46 ≤ i) → All (Away file i) patches → get_or stored i 0 ≡ get_or file i 0
   pub phoff : e_phoff stored ≡ at
   pub phnum : e_phnum stored ≡ e_phnum file + 1
@@ -77,6 +78,7 @@ stored-is file patches base start block long short few small places =
       size = length-append (front ++ zeros ++ block) table ∙ ap (λ (n : ℕ). n + length table) whole;
       at_is = refl;
       above = above;
+      same = λ i lt a b. in_front i lt ∙ c.low i a b;
       low = λ i lt a b away. in_front i lt ∙ c.low i a b ∙ patched-away file patches i away;
       phoff = word-from (front ++ zeros ++ block ++ table) 28 at limit (λ j lt. in_front (28 + j) (omega arith) ∙ c.phoff j lt);
       phnum = half-from (front ++ zeros ++ block ++ table) 44 (e_phnum file + 1) (omega arith) (in_front 44 (omega arith) ∙ c.phnum 0 (omega arith)) (in_front 45 (omega arith) ∙ c.phnum 1 (omega arith));

@@ -23,11 +23,11 @@ use Rattle.stored_laws.proofs.Known.{known}
 abbrev pub Away : List ℕ → ℕ → Patch → Type 0
 Away file i patch = (q : ℕ) → file_place file patch.at ≡ Some q → (q + 4 ≤ length file) × ((i < q) ⊎ (q + 4 ≤ i))
 
-length-put_at : (acc bytes : List ℕ) (o : Option ℕ) → ((q : ℕ) → o ≡ Some q → q + length bytes ≤ length acc) → length (put_at acc o bytes) ≡ length acc
+pub length-put_at : (acc bytes : List ℕ) (o : Option ℕ) → ((q : ℕ) → o ≡ Some q → q + length bytes ≤ length acc) → length (put_at acc o bytes) ≡ length acc
 length-put_at acc bytes None h = refl
 length-put_at acc bytes (Some q) h = length-put acc bytes q (h q refl)
 
-put_at-away : (acc bytes : List ℕ) (o : Option ℕ) (i : ℕ) → ((q : ℕ) → o ≡ Some q → (q + length bytes ≤ length acc) × ((i < q) ⊎ (q + length bytes ≤ i))) → get_or (put_at acc o bytes) i 0 ≡ get_or acc i 0
+pub put_at-away : (acc bytes : List ℕ) (o : Option ℕ) (i : ℕ) → ((q : ℕ) → o ≡ Some q → (q + length bytes ≤ length acc) × ((i < q) ⊎ (q + length bytes ≤ i))) → get_or (put_at acc o bytes) i 0 ≡ get_or acc i 0
 put_at-away acc bytes None i h = refl
 put_at-away acc bytes (Some q) i h = put-outside acc bytes q i (h q refl).0 (h q refl).1
 
@@ -40,7 +40,7 @@ length-fold file acc (p ∷ patches) len h =
 pub length-patched : (file : List ℕ) (patches : List Patch) → All (λ p. (q : ℕ) → file_place file p.at ≡ Some q → q + 4 ≤ length file) patches → length (patched file patches) ≡ length file
 length-patched file patches h = length-fold file file patches refl h
 
-fold-away : (file acc : List ℕ) (patches : List Patch) (i : ℕ) → length acc ≡ length file → All (Away file i) patches → get_or (fold (put_patch file) acc patches) i 0 ≡ get_or acc i 0
+pub fold-away : (file acc : List ℕ) (patches : List Patch) (i : ℕ) → length acc ≡ length file → All (Away file i) patches → get_or (fold (put_patch file) acc patches) i 0 ≡ get_or acc i 0
 fold-away file acc [] i len h = refl
 fold-away file acc (p ∷ patches) i len h =
     let here = h 0 p (omega arith) in

@@ -1,0 +1,2 @@
+pub mod LegPrice
+pub mod Energies

@@ -1,0 +1,5 @@
+pub mod Aligned
+pub mod Kept
+pub mod Graphs
+pub mod ChosenMarks
+pub mod Example

@@ -1,0 +1,61 @@
+-- The laws of stored images of kept runs, as statements for the contracts of functions.
+use Rattle.std.specs.Prelude.{◌≡◌, ℕ, ◌%◌, ◌<◌, Bool, true, false, List, All, Some, Ok}
+use Rattle.std.specs.List.{sum_by}
+use Rattle.scale_base.specs.declared.stepping.Class.{Class}
+use Rattle.scale_base.specs.Image.{Image, image_of}
+use Rattle.scale_base.specs.Run.{Run}
+use Rattle.cost_theory.specs.Graph.{Loops, is_back}
+use Rattle.cost_theory.specs.Accepted.{AreWeights}
+use Rattle.cost_theory.specs.Reached.{Reached, LeadsTo, Code}
+use Rattle.cost_theory.specs.Steps as steps
+use Rattle.graph_runs.specs.Text.{Text, text_of, in_text, kind_at}
+use Rattle.graph_runs.specs.RunMoves.{text_graph}
+use Rattle.graph_runs.specs.KeptSteps.{Carried, by_extents}
+use Rattle.graph_runs.specs.KeptRuns.{kept_of, IsKeptRun}
+use Rattle.graph_runs.specs.Laws.{IsProgramOf}
+use Rattle.stub_writer.specs.Stubs.{Site}
+use Rattle.stored_runs.specs.Marks.{extra_cycles, stored_cycles}
+use Rattle.stored_runs.specs.Stubbed.{IsSafeSite, IsStubbed, StaysInText}
+use Rattle.shadow_counts.specs.Shadows.{AreCountable}
+use Rattle.marked_runs.specs.Chosen.{AreChosen}
+use Rattle.marked_runs.specs.Marked.{stored_weights, extra_weights, AreMarked, AreLimits, IsKeptFollowed}
+
+-- A kept run stays in the text.
+abbrev pub KeptRunsStayInText : Type 0
+KeptRunsStayInText = (file : List ℕ) (image : Image) (levels : ℕ) (input : List ℕ) (code : Code) (l : Loops) (extent : ℕ → ℕ → Bool) → image_of file ≡ Ok image → IsProgramOf (text_of image) code l extent →
+    (n : ℕ) (c : Carried) → kept_of image levels input (by_extents l extent) n ≡ Some c → StaysInText image levels input n
+
+-- The stored image follows each kept run of a program whose edges are marked, and its counters hold the counts of the loops that the run is in.
+abbrev pub KeptRunsAreFollowed : Type 0
+KeptRunsAreFollowed = (file : List ℕ) (image : Image) (levels : ℕ) (limits : ℕ → ℕ) (sites : List Site) (base start : ℕ) (stored : Image) → IsStubbed file image levels limits sites base start stored →
+    (code : Code) (l : Loops) (extent : ℕ → ℕ → Bool) (counted : ℕ → Bool) (word : ℕ → ℕ) (costs : Class → ℕ) → IsProgramOf (text_of image) code l extent → AreCountable (text_graph (text_of image) code) l counted →
+    AreMarked (text_of image) code l sites counted word → AreLimits l counted word limits →
+    (input : List ℕ) (n : ℕ) (c : Carried) → kept_of image levels input (by_extents l extent) n ≡ Some c → IsKeptFollowed image stored levels sites start input code l counted word costs n c
+
+-- The moves of a kept run cost under the stored weights what its steps cost with their stubs, and under the extra weights what the stubs add.
+abbrev pub MovesCostStoredWeights : Type 0
+MovesCostStoredWeights = (t : Text) (code : Code) (l : Loops) (sites : List Site) (r : Run) (c : Carried) (costs : Class → ℕ) (kept : IsKeptRun t code l costs r c) →
+    steps.cycles (stored_weights t code costs sites) kept.moves ≡ sum_by (stored_cycles costs sites) r.steps
+
+abbrev pub MovesCostExtraWeights : Type 0
+MovesCostExtraWeights = (t : Text) (code : Code) (l : Loops) (sites : List Site) (r : Run) (c : Carried) (costs : Class → ℕ) (kept : IsKeptRun t code l costs r c) →
+    steps.cycles (extra_weights t code costs sites) kept.moves ≡ sum_by (extra_cycles costs sites) r.steps
+
+-- What a reached word leads to is a word of the text, at a multiple of 4.
+abbrev pub TargetsAreWords : Type 0
+TargetsAreWords = (t : Text) (code : Code) (l : Loops) (extent : ℕ → ℕ → Bool) → IsProgramOf t code l extent → (f v to : ℕ) → Reached (kind_at t) t.entry f v → LeadsTo (kind_at t v) v to → (to % 4 ≡ 0) × (in_text t to ≡ true)
+
+-- Loops can be counted where no edge by which a call comes back is a back edge of one.
+abbrev pub LoopsAreCountable : Type 0
+LoopsAreCountable = (t : Text) (code : Code) (l : Loops) (extent : ℕ → ℕ → Bool) (counted : ℕ → Bool) → IsProgramOf t code l extent →
+    ((k e f v : ℕ) → k < l.loops → counted k ≡ true → e < (text_graph t code).edges → (text_graph t code).callee e ≡ Some f → (text_graph t code).target e ≡ Some v → is_back (text_graph t code) l k e ≡ false) → AreCountable (text_graph t code) l counted
+
+-- The stored weights and the extra weights give all edges of one call the same, since no marked instruction is a call.
+abbrev pub StoredWeightsAreWeights : Type 0
+StoredWeightsAreWeights = (image : Image) (levels : ℕ) (limits : ℕ → ℕ) (sites : List Site) (code : Code) (costs : Class → ℕ) → All (IsSafeSite image levels limits) sites →
+    AreWeights (text_graph (text_of image) code) (stored_weights (text_of image) code costs sites) × AreWeights (text_graph (text_of image) code) (extra_weights (text_of image) code costs sites)
+
+-- Marks by the loops that edges leave and turn back do to the counters what the edges do to the loops' counts, where each counted loop has a word of its own.
+abbrev pub MarksCount : Type 0
+MarksCount = (t : Text) (code : Code) (l : Loops) (extent : ℕ → ℕ → Bool) (sites : List Site) (counted : ℕ → Bool) (word : ℕ → ℕ) → IsProgramOf t code l extent →
+    ((j k : ℕ) → j < l.loops → counted j ≡ true → k < l.loops → counted k ≡ true → word j ≡ word k → j ≡ k) → AreChosen t code l sites counted word → AreMarked t code l sites counted word

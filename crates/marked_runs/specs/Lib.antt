@@ -1,0 +1,4 @@
+pub mod Marked
+pub mod Chosen
+pub mod Laws
+pub mod Met

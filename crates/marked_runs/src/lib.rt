@@ -1,0 +1,36 @@
+//! Stored images of programs whose edges are marked: they follow each kept run of the original, step by step, and their shadow counters
+//! hold the counts of the loops that the run is in.
+#![tactic(auto)]
+
+ghost use Rattle.marked_runs.specs.Met.{HypothesesAreMet};
+ghost use Rattle.marked_runs.specs.Laws.{KeptRunsAreFollowed, KeptRunsStayInText, LoopsAreCountable, MarksCount, MovesCostExtraWeights, MovesCostStoredWeights, StoredWeightsAreWeights, TargetsAreWords};
+
+/// The stored image follows each kept run, which stays in the text.
+pub fn kept_runs_are_followed()
+    ensures followed { KeptRunsAreFollowed }
+    ensures text { KeptRunsStayInText }
+{}
+
+/// A kept run costs under the stored weights of its edges what its steps cost with their stubs.
+pub fn moves_cost_stored_weights()
+    ensures stored { MovesCostStoredWeights }
+    ensures extra { MovesCostExtraWeights }
+{}
+
+/// What the other laws ask of marked graphs: the words to which reached words lead, the loops that can be counted, and the weights.
+pub fn graphs_can_be_marked()
+    ensures targets { TargetsAreWords }
+    ensures countable { LoopsAreCountable }
+    ensures weights { StoredWeightsAreWeights }
+{}
+
+/// The hypotheses of these laws are met together: by the image of a file of three instructions, the first of which branches to itself and is
+/// marked, so that behind its loop a table leads to a lower level.
+pub fn hypotheses_are_met()
+    ensures { HypothesesAreMet }
+{}
+
+/// Marks by the loops that edges leave and turn back count these loops.
+pub fn marks_count()
+    ensures { MarksCount }
+{}

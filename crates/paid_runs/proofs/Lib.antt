@@ -1,0 +1,5 @@
+pub mod Edges
+pub mod Walk
+pub mod Tables
+pub mod Scaled
+pub mod Paid

@@ -1,0 +1,102 @@
+-- Stored runs of kept runs, as they are paid.
+use Rattle.std.proofs.Common.{◌≡◌, ℕ, ◌+◌, ◌*◌, ◌≤◌, List, [], ◌∷◌, map, length, refl, sym, ap, ◌∙◌, subst, arith, Some}
+use Rattle.std.specs.List.{sum_by}
+use Rattle.std.proofs.lemmas.List.{length-map}
+use Rattle.std.proofs.lemmas.List.Sums.{sum_by-cons}
+use Rattle.scale_base.specs.declared.stepping.Class.{Class}
+use Rattle.scale_base.specs.declared.stepping.Class.TheVariants as classes
+use Rattle.scale_base.specs.declared.stepping.Stepped.{Stepped}
+use Rattle.scale_base.specs.Run.{run_of}
+use Rattle.power_model.specs.Numbers.{PowerModel, IsPowerModel}
+use Rattle.power_model.specs.Price.{price, unstarted}
+use Rattle.cost_theory.specs.Graph.{Graph}
+use Rattle.cost_theory.specs.Steps as steps
+use Rattle.cost_theory.proofs.Runs.{left_start, run-worst}
+use Rattle.graph_runs.specs.Text.{text_of}
+use Rattle.graph_runs.specs.RunMoves.{text_graph}
+use Rattle.graph_runs.specs.KeptRuns.{ExitsBy}
+use Rattle.stub_writer.specs.Stubs.{Site}
+use Rattle.stub_runs.specs.Cycles.{cycles}
+use Rattle.stored_runs.specs.Marks.{stored_cycles, extra_cycles, shadow_first}
+use Rattle.stored_runs.specs.Legs.{originals, all_steps}
+use Rattle.stored_runs.proofs.LegLaws.{cost_of_legs, short_legs, long_legs}
+use Rattle.marked_runs.specs.Marked.{extra_weights}
+use Rattle.marked_runs.proofs.Aligned.{AreAligned, extra_sum}
+use Rattle.leg_prices.specs.Paid.{period, costs_of}
+use Rattle.leg_prices.proofs.Energies.{cycles_from, switches_save}
+use Rattle.paid_runs.specs.Timely.{weights_of, IsPaidRun}
+use Rattle.paid_runs.specs.Laws.{StoredRunsArePaid, StoredRunsSaveEnergy, StubsAreBounded}
+use Rattle.paid_runs.proofs.Walk.{walk, cycles_later}
+
+pub runs_paid : StoredRunsArePaid
+runs_paid = λ power ok image stored sites start code l extent counted word prog able marked n least is are tables low worst input count c f.
+    let t = text_of image in
+    let g : Graph = text_graph t code in
+    let w = weights_of power t code sites in
+    let moves = f.kept.moves in
+    let legs = f.followed.legs in
+    let aligned : AreAligned t code moves (originals legs) = record {
+      places = f.kept.places ∙ ap (map (λ x. x.pc)) (sym f.followed.originals_are);
+      classes = f.kept.classes ∙ ap (map (λ x. Some x.class)) (sym f.followed.originals_are);
+    } in
+    let first : n.worst 0 ≡ steps.cycles_left g l w n (steps.start g) = sym (left_start g l extent w n is.program is.accepted is.weights is.numbers) in
+    let safe : 0 + steps.cycles_left g l w n (steps.start g) * period power start ≤ power.deadline = subst (λ x. 0 + x * period power start ≤ power.deadline) first (omega (arith, worst)) in
+    let walked = walk power t code l extent sites counted word n least ok.ranked able marked is are tables [] moves legs (shadow_first start) (unstarted start)
+    (record { kept = tt; counters = λ k kl ck. refl; is_level = low }) f.kept.kept aligned f.followed.are refl safe in
+    let later = cycles_later power t code l extent sites counted word n least ok.ranked able marked is are tables moves legs (shadow_first start) f.followed.are aligned in
+    let same = f.followed.steps in
+    let total : (price power start (all_steps legs)).cycles ≡ steps.cycles w moves = cycles_from power (unstarted start) (all_steps legs) ∙ omega (arith, later) in
+    subst (λ xs. IsPaidRun power t code l sites start n moves xs) (sym same) (record {
+      cycles = total;
+      is_level = walked.is_level;
+      falls = walked.falls;
+      in_time = walked.safe;
+      pays = walked.pays;
+    })
+
+pub energy_saved : StoredRunsSaveEnergy
+energy_saved = λ power ok image stored sites start code l extent counted word prog able marked n least is are tables low worst input count status c f exited.
+    let paid = runs_paid power ok image stored sites start code l extent counted word prog able marked n least is are tables low worst input count c f in
+    let exits : steps.EndsByExit f.kept.moves = subst (λ st. ExitsBy st f.kept.moves) exited f.kept.exits in
+    switches_save power start (run_of stored (length power.levels) input f.followed.after).steps ok.ranked low paid.falls (paid.pays exits)
+
+-- ---- what the stubs add
+
+each_positive : (power : PowerModel) → IsPowerModel power → (class : Class) → 1 ≤ costs_of power class
+each_positive power ok classes.Alu = ok.costs.alu
+each_positive power ok classes.Load = ok.costs.load
+each_positive power ok classes.Store = ok.costs.store
+each_positive power ok classes.Taken = ok.costs.taken
+each_positive power ok classes.Untaken = ok.costs.untaken
+each_positive power ok classes.Jump = ok.costs.jump
+each_positive power ok classes.Mul = ok.costs.mul
+each_positive power ok classes.Div = ok.costs.div
+each_positive power ok classes.Ecall = ok.costs.ecall
+each_positive power ok classes.Fence = ok.costs.fence
+
+both_sums : (costs : Class → ℕ) (sites : List Site) (xs : List Stepped) → sum_by (stored_cycles costs sites) xs ≡ sum_by (λ x. costs x.class) xs + sum_by (extra_cycles costs sites) xs
+both_sums costs sites [] = refl
+both_sums costs sites (x ∷ xs) =
+    let rest = both_sums costs sites xs in
+    omega (arith, rest, sum_by-cons (stored_cycles costs sites) x xs, sum_by-cons (λ y. costs y.class) x xs, sum_by-cons (extra_cycles costs sites) x xs)
+
+pub stubs_bounded : StubsAreBounded
+stubs_bounded = λ power ok image stored sites start code l extent counted word n is input count c f.
+    let t = text_of image in
+    let g : Graph = text_graph t code in
+    let costs = costs_of power in
+    let moves = f.kept.moves in
+    let legs = f.followed.legs in
+    let original = (run_of image (length power.levels) input count).steps in
+    let run = (run_of stored (length power.levels) input f.followed.after).steps in
+    let aligned : AreAligned t code moves original = record { places = f.kept.places; classes = f.kept.classes } in
+    let extra : sum_by (extra_cycles costs sites) original ≤ n.worst 0 =
+    subst (λ x. x ≤ n.worst 0) (extra_sum t code costs sites moves original aligned) (run-worst g l extent (extra_weights t code costs sites) n is.program is.accepted is.weights is.numbers moves f.kept.kept) in
+    let many : length legs ≡ length original = sym (length-map legs (λ l. l.step)) ∙ ap (λ (xs : List Stepped). length xs) f.followed.originals_are in
+    let extra_legs : sum_by (extra_cycles costs sites) (originals legs) ≡ sum_by (extra_cycles costs sites) original = ap (sum_by (extra_cycles costs sites)) f.followed.originals_are in
+    let taken : length run ≡ length (all_steps legs) = ap (λ (xs : List Stepped). length xs) f.followed.steps in
+    let short = short_legs sites (shadow_first start) legs f.followed.are costs (each_positive power ok) in
+    let long = long_legs sites (shadow_first start) legs f.followed.are in
+    let cost : cycles costs run ≡ sum_by (stored_cycles costs sites) original = ap (cycles costs) f.followed.steps ∙ (cost_of_legs sites (shadow_first start) legs f.followed.are costs ∙ ap (sum_by (stored_cycles costs sites)) f.followed.originals_are) in
+    let split = both_sums costs sites original in
+    (omega (arith, many, taken, long), omega (arith, many, taken, short, extra, extra_legs), omega (arith, cost, split, extra))

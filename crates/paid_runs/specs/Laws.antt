@@ -1,0 +1,62 @@
+-- The laws of paid runs, as statements for the contracts of functions.
+use Rattle.std.specs.Prelude.{◌≡◌, Some, ℕ, ◌+◌, ◌*◌, ◌<◌, ◌≤◌, Bool, List, length}
+use Rattle.std.specs.List.{sum_by}
+use Rattle.scale_base.specs.Image.{Image}
+use Rattle.scale_base.specs.Run.{HasExited, run_of}
+use Rattle.power_model.specs.Numbers.{PowerModel, IsPowerModel}
+use Rattle.power_model.specs.Price.{price, held_energy}
+use Rattle.cost_theory.specs.Graph.{Loops}
+use Rattle.cost_theory.specs.Laws.{IsAnalyzed}
+use Rattle.cost_theory.specs.Worst.{Numbers}
+use Rattle.cost_theory.specs.Least.{Least, AreLeast}
+use Rattle.cost_theory.specs.Reached.{Code}
+use Rattle.graph_runs.specs.Text.{text_of}
+use Rattle.graph_runs.specs.RunMoves.{text_graph}
+use Rattle.graph_runs.specs.KeptSteps.{Carried}
+use Rattle.graph_runs.specs.Laws.{IsProgramOf}
+use Rattle.stub_writer.specs.Stubs.{Site}
+use Rattle.shadow_counts.specs.Shadows.{AreCountable}
+use Rattle.marked_runs.specs.Marked.{extra_weights, AreMarked, IsKeptFollowed}
+use Rattle.leg_prices.specs.Paid.{period, costs_of}
+use Rattle.paid_runs.specs.Timely.{weights_of, AreTables, IsPaidRun}
+use Rattle.paid_runs.specs.Scaled.{IsScaled, IsSafeRun}
+use Rattle.paid_runs.specs.Tabled.{AreTabled}
+use Rattle.graph_runs.specs.KeptSteps.{by_extents}
+use Rattle.graph_runs.specs.KeptRuns.{kept_of}
+use Rattle.graph_runs.specs.Text.{Text}
+
+-- The stored run of each kept run is paid, where the worst cycles at the starting level are in time.
+abbrev pub StoredRunsArePaid : Type 0
+StoredRunsArePaid = (power : PowerModel) → IsPowerModel power → (image stored : Image) (sites : List Site) (start : ℕ) (code : Code) (l : Loops) (extent : ℕ → ℕ → Bool) (counted : ℕ → Bool) (word : ℕ → ℕ) → IsProgramOf (text_of image) code l extent →
+    AreCountable (text_graph (text_of image) code) l counted → AreMarked (text_of image) code l sites counted word → (n : Numbers) (least : Least) → IsAnalyzed (text_graph (text_of image) code) l extent (weights_of power (text_of image) code sites) n →
+    AreLeast (text_graph (text_of image) code) (weights_of power (text_of image) code sites) least → AreTables power (text_of image) code l sites counted word n least → start < length power.levels → n.worst 0 * period power start ≤ power.deadline →
+    (input : List ℕ) (steps : ℕ) (c : Carried) (f : IsKeptFollowed image stored (length power.levels) sites start input code l counted word (costs_of power) steps c) →
+    IsPaidRun power (text_of image) code l sites start n f.kept.moves (run_of stored (length power.levels) input f.followed.after).steps
+
+-- An exited run takes no more energy than its own cycles at the starting level.
+abbrev pub StoredRunsSaveEnergy : Type 0
+StoredRunsSaveEnergy = (power : PowerModel) → IsPowerModel power → (image stored : Image) (sites : List Site) (start : ℕ) (code : Code) (l : Loops) (extent : ℕ → ℕ → Bool) (counted : ℕ → Bool) (word : ℕ → ℕ) → IsProgramOf (text_of image) code l extent →
+    AreCountable (text_graph (text_of image) code) l counted → AreMarked (text_of image) code l sites counted word → (n : Numbers) (least : Least) → IsAnalyzed (text_graph (text_of image) code) l extent (weights_of power (text_of image) code sites) n →
+    AreLeast (text_graph (text_of image) code) (weights_of power (text_of image) code sites) least → AreTables power (text_of image) code l sites counted word n least → start < length power.levels → n.worst 0 * period power start ≤ power.deadline →
+    (input : List ℕ) (steps status : ℕ) (c : Carried) (f : IsKeptFollowed image stored (length power.levels) sites start input code l counted word (costs_of power) steps c) → (run_of image (length power.levels) input steps).standing ≡ HasExited status →
+    let paid = price power start (run_of stored (length power.levels) input f.followed.after).steps in paid.energy ≤ held_energy power paid
+
+-- The stored run takes at most so many cycles and steps more than the original as the worst cycles are under the extra weights.
+abbrev pub StubsAreBounded : Type 0
+StubsAreBounded = (power : PowerModel) → IsPowerModel power → (image stored : Image) (sites : List Site) (start : ℕ) (code : Code) (l : Loops) (extent : ℕ → ℕ → Bool) (counted : ℕ → Bool) (word : ℕ → ℕ) (n : Numbers) →
+    IsAnalyzed (text_graph (text_of image) code) l extent (extra_weights (text_of image) code (costs_of power) sites) n →
+    (input : List ℕ) (steps : ℕ) (c : Carried) (f : IsKeptFollowed image stored (length power.levels) sites start input code l counted word (costs_of power) steps c) →
+    let original = (run_of image (length power.levels) input steps).steps in
+    let run = (run_of stored (length power.levels) input f.followed.after).steps in
+    (length original ≤ length run) × (length run ≤ length original + n.worst 0) × (sum_by (λ x. costs_of power x.class) run ≤ sum_by (λ x. costs_of power x.class) original + n.worst 0)
+
+-- Tables whose entries meet their tests keep a run in time and pay.
+abbrev pub TablesKeepTime : Type 0
+TablesKeepTime = (power : PowerModel) (t : Text) (code : Code) (l : Loops) (sites : List Site) (counted : ℕ → Bool) (word : ℕ → ℕ) (n : Numbers) (least : Least) →
+    AreTabled power t code l sites counted word n least → AreTables power t code l sites counted word n least
+
+-- Every kept run of a scaled image is safe.
+abbrev pub ScaledRunsAreSafe : Type 0
+ScaledRunsAreSafe = (power : PowerModel) (file : List ℕ) (image : Image) (limits : ℕ → ℕ) (sites : List Site) (base start : ℕ) (stored : Image)
+    (code : Code) (l : Loops) (extent : ℕ → ℕ → Bool) (counted : ℕ → Bool) (word : ℕ → ℕ) (n : Numbers) (least : Least) (more : Numbers) → IsScaled power file image limits sites base start stored code l extent counted word n least more →
+    (input : List ℕ) (steps : ℕ) (c : Carried) → kept_of image (length power.levels) input (by_extents l extent) steps ≡ Some c → IsSafeRun power image stored sites start code l counted word n more input steps c

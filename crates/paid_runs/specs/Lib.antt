@@ -1,0 +1,4 @@
+pub mod Timely
+pub mod Tabled
+pub mod Scaled
+pub mod Laws

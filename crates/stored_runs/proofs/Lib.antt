@@ -1,0 +1,12 @@
+pub mod LaidBytes
+pub mod SameStep
+pub mod StoredBytes
+pub mod Frame
+pub mod Windows
+pub mod LegSteps
+pub mod SiteAt
+pub mod Block
+pub mod Passing
+pub mod Follow
+pub mod LegLaws
+pub mod Meetings

@@ -1,0 +1,4 @@
+pub mod Marks
+pub mod Legs
+pub mod Stubbed
+pub mod Laws

@@ -1,0 +1,64 @@
+-- From a patched instruction through its stub; the closing jump that traps; the rows that an Exit reads.
+use Rattle.std.proofs.Common.{◌≡◌, ℕ, suc, zero, ◌+◌, ◌*◌, ◌%◌, ◌^◌, ◌<◌, ◌≤◌, true, false, List, [], ◌∷◌, length, get_or, arith, ◌∙◌, ap}
+use Rattle.std.specs.Prelude.{◌==◌, ◌&&◌}
+use Rattle.std.proofs.lemmas.Bool.{cond-false, or_right, and_from}
+use Rattle.scale_base.specs.declared.instruction.BranchOp.{BranchOp}
+use Rattle.scale_base.specs.declared.stepping.TrapKind.TheVariants as traps
+use Rattle.scale_base.specs.Arith.{is_taken}
+use Rattle.scale_base.specs.Layout.{is_keyed, may_read, reads_byte}
+use Rattle.scale_base.specs.State.{Setting, State, reg, word_at}
+use Rattle.scale_base.specs.Step.{step, jumps, stops}
+use Rattle.scale_base.proofs.LayoutLaws.{each_byte_none, each_byte_more}
+use Rattle.stub_writer.specs.Stubs.{Way, Forked, Straight, way_len, way_rows, jump, taken_at, stub_code_of}
+use Rattle.stub_runs.specs.Meaning.{StandsAt, Stand, Leads, IsSound, IsRowAt}
+use Rattle.stub_runs.specs.Ways.{WayFits, behind_way, way_steps, taken_steps, untaken_steps}
+use Rattle.stub_runs.specs.Held.{IsPatched, text_turn, KeyedFrom, Lie}
+use Rattle.stub_runs.proofs.Steps.{performed, leads_first}
+use Rattle.stub_runs.proofs.Ways.{reaches_to, sound_at, patch_does, way_does, taken_does, untaken_does}
+
+pub passes_taken : (env : Setting) (s : State) (stub table : ℕ) (op : BranchOp) (rs1 rs2 : ℕ) (untaken taken : Way) → IsSound env s → IsPatched env s stub → Stand env s.bytes stub (stub_code_of stub table (Forked op rs1 rs2 untaken taken)) → is_taken op (reg s.regs rs1) (reg s.regs rs2) ≡ true → 4 + 4 * way_len untaken < 2 ^ 12 → taken_at stub untaken < 2 ^ 32 → WayFits env s (table + 4 * length (way_rows untaken)) (taken_at stub untaken) taken → Leads env s (text_turn s.pc stub ∷ taken_steps (record s { pc = stub }) table untaken taken) (behind_way s (table + 4 * length (way_rows untaken)) taken)
+passes_taken env s stub table op rs1 rs2 untaken taken sound patched stand is near room fits =
+    let t : State = record s { pc = stub } in
+    leads_first env s t _ _ _ (patch_does env s stub patched.there patched.pc patched.small patched.even)
+    (taken_does env t table op rs1 rs2 untaken taken (sound_at env s stub sound) stand is near room fits)
+
+pub passes_untaken : (env : Setting) (s : State) (stub table : ℕ) (op : BranchOp) (rs1 rs2 : ℕ) (untaken taken : Way) → IsSound env s → IsPatched env s stub → Stand env s.bytes stub (stub_code_of stub table (Forked op rs1 rs2 untaken taken)) → is_taken op (reg s.regs rs1) (reg s.regs rs2) ≡ false → WayFits env s table (stub + 4) untaken → Leads env s (text_turn s.pc stub ∷ untaken_steps (record s { pc = stub }) table untaken) (behind_way s table untaken)
+passes_untaken env s stub table op rs1 rs2 untaken taken sound patched stand is fits =
+    let t : State = record s { pc = stub } in
+    leads_first env s t _ _ _ (patch_does env s stub patched.there patched.pc patched.small patched.even)
+    (untaken_does env t table op rs1 rs2 untaken taken (sound_at env s stub sound) stand is fits)
+
+pub passes_jump : (env : Setting) (s : State) (stub table : ℕ) (way : Way) → IsSound env s → IsPatched env s stub → Stand env s.bytes stub (stub_code_of stub table (Straight way)) → WayFits env s table stub way → Leads env s (text_turn s.pc stub ∷ way_steps (record s { pc = stub }) table stub way) (behind_way s table way)
+passes_jump env s stub table way sound patched stand fits =
+    let t : State = record s { pc = stub } in
+    leads_first env s t _ _ _ (patch_does env s stub patched.there patched.pc patched.small patched.even)
+    (way_does env t table way (sound_at env s stub sound) fits stand)
+
+-- the closing jump to a target that is no multiple of 4 traps, with the target
+pub jump_traps : (env : Setting) (s : State) (to : ℕ) → StandsAt env s.bytes s.pc (jump s.pc to) → to < 2 ^ 32 → (to % 4 == 0) ≡ false → step env s ≡ stops s traps.MisalignedTarget to
+jump_traps env s to h small odd =
+    let from : s.pc < 2 ^ 32 = omega (arith, h.room) in
+    performed env s (jump s.pc to) h
+    ∙ (ap (λ target. jumps env s (jump s.pc to) 0 target) (reaches_to s.pc to from small) ∙ cond-false (to % 4 == 0) _ _ odd)
+
+-- an instruction of the keyed segment may read a row of it
+pub row_is_there : (env : Setting) (base to pc at : ℕ) → KeyedFrom env base to → is_keyed env.layout pc ≡ true → base ≤ at → at + 4 ≤ to → at % 4 ≡ 0 → to ≤ 0xFFFFF800 → IsRowAt env pc at
+row_is_there env base to pc at keyed here low high even below =
+    let test = reads_byte env.layout pc in
+    let byte : (k : ℕ) → k < 4 → test (at + k) ≡ true = λ k lt.
+    or_right (may_read env.layout (at + k)) (is_keyed env.layout pc && is_keyed env.layout (at + k))
+    (and_from (is_keyed env.layout pc) (is_keyed env.layout (at + k)) here (keyed.keyed (at + k) (omega arith) (omega arith))) in
+    let none = each_byte_none test at in
+    let one = each_byte_more test at 0 none (byte 0 (omega arith)) in
+    let two = each_byte_more test at 1 one (byte 1 (omega arith)) in
+    let three = each_byte_more test at 2 two (byte 2 (omega arith)) in
+    let four = each_byte_more test at 3 three (byte 3 (omega arith)) in
+    record { aligned = even; outside = omega arith; allowed = four }
+
+-- and finds the word that lies there
+pub word_lies : (env : Setting) (bytes : ℕ → ℕ) (at j : ℕ) (ws : List ℕ) → j < length ws → Lie env bytes at ws → word_at bytes (at + 4 * j) ≡ get_or ws j 0
+word_lies env bytes at j [] h lie = absurd (omega arith)
+word_lies env bytes at zero (w ∷ ws) h lie = let e : at + 4 * 0 ≡ at = omega arith in ap (word_at bytes) e ∙ lie.0.same
+word_lies env bytes at (suc j) (w ∷ ws) h lie =
+    let e : at + 4 * suc j ≡ at + 4 + 4 * j = omega arith in
+    ap (word_at bytes) e ∙ word_lies env bytes (at + 4) j ws (omega arith) lie.1

@@ -1,0 +1,17 @@
+-- What the steps of fragments and of ways cost.
+use Rattle.std.specs.Prelude.{ℕ, ◌+◌, ◌*◌, List}
+use Rattle.std.specs.List.{sum_by}
+use Rattle.scale_base.specs.declared.stepping.Stepped.{Stepped}
+use Rattle.scale_base.specs.declared.stepping.Class.{Class}
+use Rattle.scale_base.specs.declared.stepping.Class.TheVariants as classes
+use Rattle.scale_base.specs.declared.fragments.Fragment.{Fragment}
+use Rattle.scale_base.specs.declared.fragments.Fragment.TheVariants.{Switch, Exit, Reset, Count}
+
+abbrev pub cycles : (Class → ℕ) → List Stepped → ℕ
+cycles cost xs = sum_by (λ x. cost x.class) xs
+
+abbrev pub fragment_cost : (Class → ℕ) → Fragment → ℕ
+fragment_cost cost (Switch word) = 3 * cost classes.Store + 3 * cost classes.Load + 5 * cost classes.Alu
+fragment_cost cost (Exit counter shift rows) = 4 * cost classes.Store + 5 * cost classes.Load + 7 * cost classes.Alu
+fragment_cost cost (Reset counter) = cost classes.Store
+fragment_cost cost (Count counter) = 2 * cost classes.Store + 2 * cost classes.Load + cost classes.Alu

@@ -1,0 +1,4 @@
+pub mod Meaning
+pub mod Ways
+pub mod Held
+pub mod Cycles

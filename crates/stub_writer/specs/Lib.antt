@@ -1,0 +1,4 @@
+pub mod Fragments
+pub mod Stubs
+pub mod Sites
+pub mod Block

@@ -1,0 +1,15 @@
+//! Writes the code of stubs: for each marked branch or jump its fragments, the way on, and the jump that takes its place.
+#![tactic(auto)]
+
+mod block;
+mod codes;
+mod site;
+mod stubs;
+mod ways;
+mod words;
+
+pub use block::{block_len, emit};
+pub use site::{EdgeList, FragmentList, StubBlock, StubEdge, StubSite};
+
+#[cfg(test)]
+mod tests;
