@@ -1,9 +1,8 @@
 use Rattle.std.proofs.Common.{◌≡◌, ℕ, ◌+◌, ◌^◌, ◌≤◌, Some, length}
 use Rattle.cost_theory.specs.Lists.{body_of}
 use Rattle.worst_cycles.specs.Worst.{by_edge}
-use Rattle.worst_cycles.specs.Rests.{AreBodyPlaces, rest_at}
-use Rattle.worst_cycles.proofs.IterationLaws.{AreFoundTo}
-use Rattle.worst_cycles.proofs.iteration.iteration_of.Given as goal
+use Rattle.worst_cycles.specs.Rests.{AreBodyPlaces, rest_at, AreFoundTo}
+use Rattle.worst_cycles.proofs.iteration.rests_of.Given as goal
 
 abbrev pub invariant-loop-m : goal.invariant-loop-m
 invariant-loop-m l = record {

@@ -1,0 +1,4 @@
+pub mod Relaxing
+pub mod Transfer
+mod FunctionLaws
+mod Bounds

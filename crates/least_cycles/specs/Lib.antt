@@ -1,0 +1,4 @@
+pub mod Hops
+pub mod Local
+pub mod Functions
+pub mod Charged

@@ -1,0 +1,4 @@
+mod Costing
+mod OneExit
+mod CounterLaws
+mod SiteLaws
