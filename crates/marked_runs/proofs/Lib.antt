@@ -1,5 +1,3 @@
 pub mod Aligned
 pub mod Kept
 pub mod Graphs
-pub mod ChosenMarks
-pub mod Example

@@ -17,7 +17,6 @@ use Rattle.stub_writer.specs.Stubs.{Site}
 use Rattle.stored_runs.specs.Marks.{extra_cycles, stored_cycles}
 use Rattle.stored_runs.specs.Stubbed.{IsSafeSite, IsStubbed, StaysInText}
 use Rattle.shadow_counts.specs.Shadows.{AreCountable}
-use Rattle.marked_runs.specs.Chosen.{AreChosen}
 use Rattle.marked_runs.specs.Marked.{stored_weights, extra_weights, AreMarked, AreLimits, IsKeptFollowed}
 
 -- A kept run stays in the text.
@@ -54,8 +53,3 @@ LoopsAreCountable = (t : Text) (code : Code) (l : Loops) (extent : ℕ → ℕ �
 abbrev pub StoredWeightsAreWeights : Type 0
 StoredWeightsAreWeights = (image : Image) (levels : ℕ) (limits : ℕ → ℕ) (sites : List Site) (code : Code) (costs : Class → ℕ) → All (IsSafeSite image levels limits) sites →
     AreWeights (text_graph (text_of image) code) (stored_weights (text_of image) code costs sites) × AreWeights (text_graph (text_of image) code) (extra_weights (text_of image) code costs sites)
-
--- Marks by the loops that edges leave and turn back do to the counters what the edges do to the loops' counts, where each counted loop has a word of its own.
-abbrev pub MarksCount : Type 0
-MarksCount = (t : Text) (code : Code) (l : Loops) (extent : ℕ → ℕ → Bool) (sites : List Site) (counted : ℕ → Bool) (word : ℕ → ℕ) → IsProgramOf t code l extent →
-    ((j k : ℕ) → j < l.loops → counted j ≡ true → k < l.loops → counted k ≡ true → word j ≡ word k → j ≡ k) → AreChosen t code l sites counted word → AreMarked t code l sites counted word

@@ -1,4 +1,2 @@
 pub mod Marked
-pub mod Chosen
 pub mod Laws
-pub mod Met

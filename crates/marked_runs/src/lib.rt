@@ -2,8 +2,7 @@
 //! hold the counts of the loops that the run is in.
 #![tactic(auto)]
 
-ghost use Rattle.marked_runs.specs.Met.{HypothesesAreMet};
-ghost use Rattle.marked_runs.specs.Laws.{KeptRunsAreFollowed, KeptRunsStayInText, LoopsAreCountable, MarksCount, MovesCostExtraWeights, MovesCostStoredWeights, StoredWeightsAreWeights, TargetsAreWords};
+ghost use Rattle.marked_runs.specs.Laws.{KeptRunsAreFollowed, KeptRunsStayInText, LoopsAreCountable, MovesCostExtraWeights, MovesCostStoredWeights, StoredWeightsAreWeights, TargetsAreWords};
 
 /// The stored image follows each kept run, which stays in the text.
 pub fn kept_runs_are_followed()
@@ -22,15 +21,4 @@ pub fn graphs_can_be_marked()
     ensures targets { TargetsAreWords }
     ensures countable { LoopsAreCountable }
     ensures weights { StoredWeightsAreWeights }
-{}
-
-/// The hypotheses of these laws are met together: by the image of a file of three instructions, the first of which branches to itself and is
-/// marked, so that behind its loop a table leads to a lower level.
-pub fn hypotheses_are_met()
-    ensures { HypothesesAreMet }
-{}
-
-/// Marks by the loops that edges leave and turn back count these loops.
-pub fn marks_count()
-    ensures { MarksCount }
 {}

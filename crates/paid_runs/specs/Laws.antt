@@ -1,5 +1,5 @@
 -- The laws of paid runs, as statements for the contracts of functions.
-use Rattle.std.specs.Prelude.{◌≡◌, Some, ℕ, ◌+◌, ◌*◌, ◌<◌, ◌≤◌, Bool, List, length}
+use Rattle.std.specs.Prelude.{◌≡◌, ℕ, ◌+◌, ◌*◌, ◌<◌, ◌≤◌, Bool, List, length}
 use Rattle.std.specs.List.{sum_by}
 use Rattle.scale_base.specs.Image.{Image}
 use Rattle.scale_base.specs.Run.{HasExited, run_of}
@@ -19,11 +19,6 @@ use Rattle.shadow_counts.specs.Shadows.{AreCountable}
 use Rattle.marked_runs.specs.Marked.{extra_weights, AreMarked, IsKeptFollowed}
 use Rattle.leg_prices.specs.Paid.{period, costs_of}
 use Rattle.paid_runs.specs.Timely.{weights_of, AreTables, IsPaidRun}
-use Rattle.paid_runs.specs.Scaled.{IsScaled, IsSafeRun}
-use Rattle.paid_runs.specs.Tabled.{AreTabled}
-use Rattle.graph_runs.specs.KeptSteps.{by_extents}
-use Rattle.graph_runs.specs.KeptRuns.{kept_of}
-use Rattle.graph_runs.specs.Text.{Text}
 
 -- The stored run of each kept run is paid, where the worst cycles at the starting level are in time.
 abbrev pub StoredRunsArePaid : Type 0
@@ -49,14 +44,3 @@ StubsAreBounded = (power : PowerModel) → IsPowerModel power → (image stored 
     let original = (run_of image (length power.levels) input steps).steps in
     let run = (run_of stored (length power.levels) input f.followed.after).steps in
     (length original ≤ length run) × (length run ≤ length original + n.worst 0) × (sum_by (λ x. costs_of power x.class) run ≤ sum_by (λ x. costs_of power x.class) original + n.worst 0)
-
--- Tables whose entries meet their tests keep a run in time and pay.
-abbrev pub TablesKeepTime : Type 0
-TablesKeepTime = (power : PowerModel) (t : Text) (code : Code) (l : Loops) (sites : List Site) (counted : ℕ → Bool) (word : ℕ → ℕ) (n : Numbers) (least : Least) →
-    AreTabled power t code l sites counted word n least → AreTables power t code l sites counted word n least
-
--- Every kept run of a scaled image is safe.
-abbrev pub ScaledRunsAreSafe : Type 0
-ScaledRunsAreSafe = (power : PowerModel) (file : List ℕ) (image : Image) (limits : ℕ → ℕ) (sites : List Site) (base start : ℕ) (stored : Image)
-    (code : Code) (l : Loops) (extent : ℕ → ℕ → Bool) (counted : ℕ → Bool) (word : ℕ → ℕ) (n : Numbers) (least : Least) (more : Numbers) → IsScaled power file image limits sites base start stored code l extent counted word n least more →
-    (input : List ℕ) (steps : ℕ) (c : Carried) → kept_of image (length power.levels) input (by_extents l extent) steps ≡ Some c → IsSafeRun power image stored sites start code l counted word n more input steps c

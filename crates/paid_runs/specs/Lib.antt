@@ -1,4 +1,2 @@
 pub mod Timely
-pub mod Tabled
-pub mod Scaled
 pub mod Laws

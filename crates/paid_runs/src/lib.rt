@@ -2,7 +2,7 @@
 //! left is in time, and that the least cycles to an end pay for the switch.
 #![tactic(auto)]
 
-ghost use Rattle.paid_runs.specs.Laws.{ScaledRunsAreSafe, StoredRunsArePaid, StoredRunsSaveEnergy, StubsAreBounded, TablesKeepTime};
+ghost use Rattle.paid_runs.specs.Laws.{StoredRunsArePaid, StoredRunsSaveEnergy, StubsAreBounded};
 
 /// The stored run of a kept run is in time at every step of the original, and no step of it leaves a higher level; and one that exits takes
 /// no more energy than its own cycles at the starting level.
@@ -14,16 +14,4 @@ pub fn stored_runs_are_paid()
 /// The stubs add at most as many cycles, and as many steps, as the worst cycles are under the extra weights.
 pub fn stubs_are_bounded()
     ensures { StubsAreBounded }
-{}
-
-/// Tables whose entries meet the two tests keep a run in time and pay: an edge's slack is left behind it, and a row of a table behind a loop
-/// counts on no more turns than the loop's count leaves.
-pub fn tables_keep_time()
-    ensures { TablesKeepTime }
-{}
-
-/// Every kept run of a scaled image ends as the original's does, with the same output, in time, at no higher level than before, with no more
-/// energy than its own cycles at the starting level, and with at most so many cycles and steps more.
-pub fn scaled_runs_are_safe()
-    ensures { ScaledRunsAreSafe }
 {}

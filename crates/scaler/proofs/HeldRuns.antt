@@ -17,7 +17,8 @@ use Rattle.power_model.specs.Slowest.{slowest_of, is_in_time}
 use Rattle.power_model.proofs.PriceLaws.{cycles-price, held-price}
 use Rattle.image_laws.specs.Laws.{IsHeldImage}
 use Rattle.scaler.specs.Held.{held_summary}
-use Rattle.scaler.specs.Runs.{RunAlike, IsAsPrinted, price_of}
+use Rattle.rewritten_runs.specs.Prices.{price_of}
+use Rattle.scaler.specs.Runs.{RunAlike, IsAsPrinted}
 
 -- ---- the runs are alike
 

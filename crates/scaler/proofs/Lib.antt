@@ -1,6 +1,9 @@
-pub mod Programs
 pub mod Files
 pub mod Answering
 pub mod Bases
 pub mod HeldRuns
 pub mod Safe
+pub mod SafeRewritten
+pub mod MarkingLaws
+pub mod SiteFacts
+pub mod ExtraFacts

@@ -34,15 +34,15 @@ use Rattle.scaler.specs.Held.{IsHeld, IsProgramHeld, IsHeldProgram, Then, held_a
 use Rattle.scaler.specs.Runs.{IsHeldSafely, KeptAsPrinted, KeptRunsEnd}
 use Rattle.scaler.proofs.Bases.{file_is}
 use Rattle.scaler.proofs.HeldRuns.{runs_alike, printed}
-use Rattle.scaler.proofs.Programs.{loops_noted, program_of}
+use Rattle.rewritten_runs.proofs.Programs.{loops_noted, program_of}
 
 -- ---- what `hold` went through
 
-then_ok : {A B : Type 0} (part : Result A Refusal) (next : A → Result B Refusal → Type 0) (y : B) → Then part next (Ok y) → (x : A) × (part ≡ Ok x) × next x (Ok y)
+pub then_ok : {A B : Type 0} (part : Result A Refusal) (next : A → Result B Refusal → Type 0) (y : B) → Then part next (Ok y) → (x : A) × (part ≡ Ok x) × next x (Ok y)
 then_ok (Ok x) next y h = (x, refl, h)
 then_ok (Err refusal) next y h = let bad : ⊥ = cc in absurd bad
 
-is_unscaled : (keyed : Option Keyed) → unscaled keyed ≡ Ok tt → keyed ≡ None
+pub is_unscaled : (keyed : Option Keyed) → unscaled keyed ≡ Ok tt → keyed ≡ None
 is_unscaled None e = refl
 is_unscaled (Some keyed) e = absurd cc
 

@@ -1,2 +1,7 @@
 pub mod Held
 pub mod Runs
+pub mod Rewritten
+pub mod RewrittenRuns
+pub mod StandIn
+pub mod Markings
+pub mod Scalings

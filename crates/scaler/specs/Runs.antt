@@ -3,13 +3,14 @@
 use Rattle.std.specs.Prelude.{◌≡◌, ℕ, ◌≤◌, List, length, Ok}
 use Rattle.scale_base.specs.declared.summary.Summary.{Summary}
 use Rattle.scale_base.specs.Image.{Image, image_of}
-use Rattle.scale_base.specs.Run.{Run, GoesOn, run_of, starting_level}
+use Rattle.scale_base.specs.Run.{Run, GoesOn, run_of}
 use Rattle.power_model.specs.Numbers.{PowerModel, Numbers}
-use Rattle.power_model.specs.Price.{price, IsHeld}
+use Rattle.power_model.specs.Price.{IsHeld}
 use Rattle.machine_file.specs.Machine.{read_machine}
 use Rattle.loop_file.specs.declared.notes.LoopNote.{LoopNote}
 use Rattle.loop_file.specs.Loops.{read_loops}
 use Rattle.loop_file.specs.Kept.{IsKeptUpTo}
+use Rattle.rewritten_runs.specs.Prices.{price_of}
 
 -- the same steps, which led to states that differ in the window at most, and stand alike
 pub record IsSameRun (one other : Run) : Type 0 where
@@ -24,10 +25,6 @@ pub record IsSameRun (one other : Run) : Type 0 where
 -- on a machine of so many levels, on every input, after every number of steps
 abbrev pub RunAlike : Image → Image → ℕ → Type 0
 RunAlike original held levels = (input : List ℕ) (n : ℕ) → IsSameRun (run_of original levels input n) (run_of held levels input n)
-
--- what the first n steps of an image cost
-abbrev pub price_of : PowerModel → Image → List ℕ → ℕ → Numbers
-price_of power image input n = price power (starting_level (length power.levels) image.keyed_segment) (run_of image (length power.levels) input n).steps
 
 -- a run that stays at the starting level, so that its time and its energy are those of its cycles there, with at most the printed cycles and the
 -- printed time, which is in time

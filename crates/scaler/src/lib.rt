@@ -4,10 +4,18 @@
 ghost use Rattle.std.specs.Prelude.{◌≡◌, ◌≤◌, ℕ, List, length, Ok};
 ghost use Rattle.scale_base.specs.declared.summary.Summary.{Summary};
 ghost use Rattle.scaler.specs.Held.{IsHeld};
+ghost use Rattle.scaler.specs.Rewritten.{IsRewritten};
+ghost use Rattle.scaler.specs.RewrittenRuns.{IsRewrittenSafely};
 ghost use Rattle.scaler.specs.Runs.{IsHeldSafely};
 
+mod rewriting;
 mod safe_level;
+mod stand_in;
+mod stubs;
+#[cfg(test)]
+mod tests;
 
+pub use rewriting::rewrite;
 pub use safe_level::hold;
 
 /// What `hold` stores is safe: on every input and after every number of steps its run is that of the original image, and as long
@@ -15,4 +23,11 @@ pub use safe_level::hold;
 /// which is at most the deadline, and its held energy; and it ends.
 pub fn held_images_are_safe()
     ensures { (image machine loops stored : List ℕ) (summary : Summary) → length image ≤ 4194304 → length machine ≤ 1048576 → length loops ≤ 1048576 → IsHeld image machine loops (Ok ((stored, summary))) → IsHeldSafely image machine loops stored summary }
+{}
+
+/// What `rewrite` stores is safe: on every input on which the original run exits and keeps the loops' bounds and the return addresses,
+/// its run gives the same output and the same status, ends by the deadline, never raises its level, takes no more energy than its own
+/// cycles at its starting level, and adds at most the printed number of cycles; and it follows the original run in time, step by step.
+pub fn rewritten_images_are_safe()
+    ensures { (image machine loops stored : List ℕ) (summary : Summary) → length image ≤ 4194304 → length machine ≤ 1048576 → length loops ≤ 1048576 → IsRewritten image machine loops (Ok ((stored, summary))) → IsRewrittenSafely image machine loops stored summary }
 {}

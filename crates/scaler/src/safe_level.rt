@@ -18,7 +18,8 @@ use scale_base::{Keyed, NoMemory, Refusal, Stop, Summary};
 use std::alloc::Global;
 use worst_cycles::worst;
 
-fn check_unscaled(keyed: Option<Keyed>) -> Result<(), Refusal>
+/// No keyed segment is there yet.
+pub fn check_unscaled(keyed: Option<Keyed>) -> Result<(), Refusal>
     ensures { result ≡ held.unscaled keyed }
 {
     match keyed {
@@ -28,7 +29,7 @@ fn check_unscaled(keyed: Option<Keyed>) -> Result<(), Refusal>
 }
 
 /// So many cycles in time units at a level.
-fn time_at(power: &Power, worst: u64, i: u8) -> u128
+pub fn time_at(power: &Power, worst: u64, i: u8) -> u128
     requires { i < length power.now.levels }
     ensures { result ≡ time_at power.now i worst }
 {
@@ -84,7 +85,7 @@ fn hold_at(
 }
 
 /// The costs of the edges of a graph on a machine, in cycles.
-fn weights_of(alloc: Global, graph: &CodeGraph, power: &Power) -> Result<Weights, NoMemory>
+pub fn weights_of(alloc: Global, graph: &CodeGraph, power: &Power) -> Result<Weights, NoMemory>
     ensures { IfOk result (λ weights. weights ≡ map (cost_of (cycles_of power.now.costs)) graph.now.classes) }
 {
     graph.base_weights(alloc, &power.costs)

@@ -15,19 +15,11 @@ use Rattle.worst_cycles.specs.declared.rests.Rests.{Rests}
 use Rattle.worst_cycles.specs.Needs.{StartsAtNode, HasTree}
 use Rattle.worst_cycles.specs.declared.visits.Visit.{Visit}
 use Rattle.worst_cycles.specs.Visits.{IsPlan, AreKnownAt, AreSolvedBy, AreVisitedTo, IsTooLong}
-use Rattle.worst_cycles.specs.Rests.{AreBodyPlaces, rest_at, IsRestOf, held, closing_at, AreRestsKnownAt}
+use Rattle.worst_cycles.specs.Rests.{AreBodyPlaces, rest_at, IsRestOf, held, closing_at, AreRestsKnownAt, address_at, AreFoundTo}
 use Rattle.worst_cycles.proofs.BodyLaws.{inside_at, number_inside, node_here, same_node, by_plain, loop_count, header_number, header_address}
 use Rattle.worst_cycles.proofs.PlanLaws.{at_place, body_before}
 use Rattle.worst_cycles.proofs.SearchLaws.{value_at}
 use Rattle.worst_cycles.proofs.VisitLaws.{known_before}
-
--- the address of the node at place m of a list of places
-abbrev pub address_at : FlowGraph → Plan → List ℕ → ℕ → ℕ
-address_at v plan steps m = node_address v (number_at plan.order.items (number_at steps m))
-
--- the rests of the first m of these nodes are found
-abbrev pub AreFoundTo : FlowGraph → LoopView → (ℕ → ℕ) → Plan → ℕ → List ℕ → ℕ → List (Option ℕ) → Type 0
-AreFoundTo v t w plan l steps m found = (n : Numbers) → AreSolvedBy v t w n → (q : ℕ) → q < m → rest_at found q ≡ n.closing l (address_at v plan steps q)
 
 -- numbers of a body are numbers of nodes
 pub body_within : (v : FlowGraph) (t : LoopView) (extent : ℕ → ℕ → Bool) → IsLoopTree v extent t → (l i : ℕ) → l < length t.headers → i < length (body_of t.bodies l) → number_at (body_of t.bodies l) i < length v.code.nodes
@@ -46,7 +38,7 @@ step_inside v t plan l i steps flow tree is ll il header places m ml =
     (low, inside, body_before v t plan flow tree is l i (number_at steps m) ll il low header inside)
 
 -- a node of the body is at one of its places
-step_of : (v : FlowGraph) (t : LoopView) (plan : Plan) (l : ℕ) (steps : List ℕ) → IsFlowGraph v → HasTree v t → IsPlan v t plan → l < length t.headers → AreBodyPlaces (body_of t.bodies l) plan.places.items steps →
+pub step_of : (v : FlowGraph) (t : LoopView) (plan : Plan) (l : ℕ) (steps : List ℕ) → IsFlowGraph v → HasTree v t → IsPlan v t plan → l < length t.headers → AreBodyPlaces (body_of t.bodies l) plan.places.items steps →
     (u : ℕ) → u < length v.code.nodes → (loops v t).inside l (node_address v u) ≡ true → (q : ℕ) × (q < length steps) × (number_at steps q ≡ number_at plan.places.items u)
 step_of v t plan l steps flow tree is ll places u ul inside =
     let b = number_inside v t l (node_address v u) inside in
@@ -55,7 +47,7 @@ step_of v t plan l steps flow tree is ll places u ul inside =
     (q.0, q.1, q.2 ∙ ap (number_at plan.places.items) (sym same))
 
 -- what stands at the place of a node is this node
-address_of : (v : FlowGraph) (t : LoopView) (plan : Plan) (steps : List ℕ) → IsPlan v t plan → (u q : ℕ) → u < length v.code.nodes → number_at steps q ≡ number_at plan.places.items u → address_at v plan steps q ≡ node_address v u
+pub address_of : (v : FlowGraph) (t : LoopView) (plan : Plan) (steps : List ℕ) → IsPlan v t plan → (u q : ℕ) → u < length v.code.nodes → number_at steps q ≡ number_at plan.places.items u → address_at v plan steps q ≡ node_address v u
 address_of v t plan steps is u q ul at = ap (λ p. node_address v (number_at plan.order.items p)) at ∙ ap (node_address v) (at_place v t plan is u ul).1
 
 -- the rests that the edges of the next node need are found

@@ -8,4 +8,8 @@ mod RestLaws
 mod SearchLaws
 mod IterationLaws
 mod VisitLaws
+mod ContextLaws
+mod AroundLaws
+mod SlackLaws
 mod WorstLaws
+mod LeftLaws

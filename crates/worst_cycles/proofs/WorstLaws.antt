@@ -1,19 +1,21 @@
 -- The numbers of an accepted program, as a pass over its nodes needs them and finds them.
-use Rattle.std.proofs.Common.{◌≡◌, ℕ, Bool, ◌+◌, ◌^◌, ◌<◌, ◌≤◌, List, length, Err, Some, sym, ap, ◌∙◌, arith}
+use Rattle.std.proofs.Common.{◌≡◌, ℕ, Bool, ◌+◌, ◌^◌, ◌<◌, ◌≤◌, List, length, Err, Some, refl, sym, ap, ◌∙◌, arith}
 use Rattle.std.proofs.lemmas.Option.{slice_get-get_or}
 use Rattle.scale_base.specs.declared.refusal.Stop.{Stop}
 use Rattle.scale_base.specs.declared.refusal.Stop.TheVariants.{Refused, Memory}
 use Rattle.scale_base.specs.Answer.{AnswersBy}
 use Rattle.call_orders.specs.Arcs.{number_at}
 use Rattle.cost_theory.specs.Graph.{Graph, Loops}
-use Rattle.cost_theory.specs.Worst.{Numbers, AreNumbers}
+use Rattle.cost_theory.specs.Worst.{Numbers, AreNumbers, cost}
 use Rattle.cost_theory.specs.Accepted.{IsProgram, AreAccepted, AreWeights}
 use Rattle.cost_theory.specs.Laws.{IsAnalyzed}
 use Rattle.cost_theory.proofs.Contexts as contexts
 use Rattle.cost_theory.proofs.OrdersExist.{call_order, plain_order}
-use Rattle.cost_theory.proofs.Orders.{turns-worst}
+use Rattle.cost_theory.proofs.Orders.{turns-worst, left-worst, function-worst}
 use Rattle.cost_theory.proofs.Overruns.{closing-worst}
-use Rattle.cost_theory.proofs.Nesting.{accepted_entered, header_held}
+use Rattle.cost_theory.proofs.Nesting.{accepted_entered, header_held, entered_at_headers}
+use Rattle.cost_theory.proofs.Rest.{first_uncalled}
+use Rattle.cost_theory.proofs.Slack.{slack-le}
 use Rattle.pass_laws.proofs.Charges.{charged_on, charged_back, charged_into}
 use Rattle.pass_laws.proofs.Headers.{headers_different}
 use Rattle.pass_laws.proofs.Iterations.{iteration_closing, closing_over}
@@ -22,12 +24,15 @@ use Rattle.code_graph.specs.FlowGraph.{FlowGraph, graph, IsFlowGraph}
 use Rattle.natural_loops.specs.Noted.{node_address}
 use Rattle.loop_tree.specs.Tree.{LoopView, loops}
 use Rattle.worst_cycles.specs.declared.visits.Visit.{Visit}
-use Rattle.worst_cycles.specs.Worst.{WorstView, IsWorstFound, IsWorstInRange, IsWorstTooLong}
+use Rattle.worst_cycles.specs.declared.parts.LeftParts.{LeftParts}
+use Rattle.worst_cycles.specs.Worst.{WorstView, IsWorstFound, IsWorstInRange, IsWorstTooLong, IsLeftOf}
+use Rattle.worst_cycles.specs.Lefts.{HasSolved, AreParts}
 use Rattle.worst_cycles.specs.Needs.{AreEntries, HasTree}
 use Rattle.worst_cycles.specs.Solved.{AreSolved}
 use Rattle.worst_cycles.specs.Visits.{visit_at, IsVisit, AreSolvedBy, IsTooLong, AreAllVisited, AreVisitsFound}
 use Rattle.worst_cycles.proofs.BodyLaws.{node_here, loop_count, header_number, header_address}
 use Rattle.worst_cycles.proofs.VisitLaws.{worst_at}
+use Rattle.worst_cycles.proofs.SlackLaws.{holds_left}
 
 -- an accepted program with weights
 pub record IsWeighted (g : Graph) (l : Loops) (extent : ℕ → ℕ → Bool) (w : ℕ → ℕ) : Type 0 where
@@ -49,6 +54,14 @@ solved g l extent w n is =
       plain_within = plain_within_worst g l extent w n is;
       turns_within = turns-worst g l extent w n is.program is.accepted is.weights is.numbers calls.0 calls.1;
       closing_near = λ most light. closing-worst g l extent w n is most light calls.0 calls.1;
+      left_within = left-worst g l extent w n is.program is.accepted is.weights is.numbers calls.0 calls.1;
+      context_within = λ f fl.
+          let both : n.worst f + n.context f ≤ n.worst 0 = function-worst g l extent w n is.program is.accepted is.weights is.numbers calls.0 calls.1 f fl in
+          let r : n.context f ≤ n.worst 0 = omega arith in r;
+      left = is.numbers.loops.left;
+      over_edge = slack-le g l (cost g n w) n is.numbers.loops (entered_at_headers g l extent is.program (accepted_entered is.accepted));
+      context = is.numbers.context;
+      uncalled = λ e f lt calls_f. first_uncalled g l extent w n is.program is.accepted is.weights is.numbers calls.0 calls.1 (g.source e) f (e, lt, refl, calls_f);
       different = headers_different g l extent w n is;
       held = header_held g l extent is.program (accepted_entered is.accepted);
     }
@@ -76,7 +89,7 @@ entry_worst v t w entries visits n f are found s fl =
     worst_at (graph v) (loops v t) w n f (visit_at visits (number_at entries f)) s fl (found.each n s (number_at entries f) ((graph v).entry f) (are.each f fl))
 
 -- what it has at the header of a loop
-header_iteration : (v : FlowGraph) (t : LoopView) (w : ℕ → ℕ) (visits : List Visit) (n : Numbers) (k : ℕ) → HasTree v t → AreAllVisited v t w visits → AreSolvedBy v t w n → k < length t.headers → (visit_at visits (number_at t.headers k)).iteration ≡ n.iteration k
+pub header_iteration : (v : FlowGraph) (t : LoopView) (w : ℕ → ℕ) (visits : List Visit) (n : Numbers) (k : ℕ) → HasTree v t → AreAllVisited v t w visits → AreSolvedBy v t w n → k < length t.headers → (visit_at visits (number_at t.headers k)).iteration ≡ n.iteration k
 header_iteration v t w visits n k tree found s kl =
     let count = loop_count v t in
     let within : k < (loops v t).loops = omega arith in
@@ -84,11 +97,11 @@ header_iteration v t w visits n k tree found s kl =
     found.each n s (number_at t.headers k) (node_address v (number_at t.headers k)) (node_here v (number_at t.headers k) (header_number v t tree.0 tree.1 k kl)) in
     visit.iteration k within (header_address v t k kl)
 
-pub worst_in_range : (v : FlowGraph) (t : LoopView) (w : ℕ → ℕ) (entries worst iteration : List ℕ) (visits others : List Visit) → (tree : HasTree v t) → IsFlowGraph v → IsWeighted (graph v) (loops v t) tree.0 w → AreEntries v entries → AreAllVisited v t w visits → AreAllVisited v t w others →
+pub worst_in_range : (v : FlowGraph) (t : LoopView) (w : ℕ → ℕ) (entries worst iteration left context slacks rests : List ℕ) (visits others : List Visit) → (tree : HasTree v t) → IsFlowGraph v → IsWeighted (graph v) (loops v t) tree.0 w → AreEntries v entries → AreAllVisited v t w visits → AreAllVisited v t w others →
     length worst ≡ length v.code.functions → ((f : ℕ) → f < length v.code.functions → number_at worst f ≡ (visit_at visits (number_at entries f)).plain + (visit_at visits (number_at entries f)).turns) →
     length iteration ≡ length t.headers → ((k : ℕ) → k < length t.headers → number_at iteration k ≡ (visit_at others (number_at t.headers k)).iteration) →
-    number_at worst 0 ≤ 2 ^ 48 → IsWorstInRange (graph v) (loops v t) w (record { worst = worst; iteration = iteration })
-worst_in_range v t w entries worst iteration visits others tree flow is are found others_found size each loops_size loops_each small =
+    number_at worst 0 ≤ 2 ^ 48 → IsWorstInRange (graph v) (loops v t) w (record { worst = worst; iteration = iteration; left = left; context = context; slacks = slacks; rests = rests })
+worst_in_range v t w entries worst iteration left context slacks rests visits others tree flow is are found others_found size each loops_size loops_each small =
     let n = numbers (graph v) (loops v t) tree.0 w is in
     let count = loop_count v t in
     record {
@@ -112,3 +125,16 @@ total_too_long v t extent w entries worst visits flow is are found each more =
     let n = numbers (graph v) (loops v t) extent w is in
     let first : number_at worst 0 ≡ n.0.worst 0 = each 0 flow.program.main ∙ entry_worst v t w entries visits n.0 0 are found n.2 flow.program.main in
     (n.0, n.1, (let r : 2 ^ 48 < n.0.worst 0 = omega arith in r))
+
+-- its numbers are in range
+pub has_solved : (v : FlowGraph) (t : LoopView) (extent : ℕ → ℕ → Bool) (w : ℕ → ℕ) (entries worst : List ℕ) (visits : List Visit) → IsFlowGraph v → IsWeighted (graph v) (loops v t) extent w → AreEntries v entries → AreAllVisited v t w visits →
+    ((f : ℕ) → f < length v.code.functions → number_at worst f ≡ (visit_at visits (number_at entries f)).plain + (visit_at visits (number_at entries f)).turns) → number_at worst 0 ≤ 2 ^ 48 → HasSolved v t w
+has_solved v t extent w entries worst visits flow is are found each small =
+    let n = numbers (graph v) (loops v t) extent w is in
+    let first : number_at worst 0 ≡ n.0.worst 0 = each 0 flow.program.main ∙ entry_worst v t w entries visits n.0 0 are found n.2 flow.program.main in
+    (n.0, n.2, (let r : n.0.worst 0 ≤ 2 ^ 48 = omega arith in r))
+
+pub left_of : (v : FlowGraph) (t : LoopView) (extent : ℕ → ℕ → Bool) (w : ℕ → ℕ) (parts : LeftParts) (worst iteration : List ℕ) → IsWeighted (graph v) (loops v t) extent w → AreParts v t w parts →
+    IsLeftOf v (loops v t) w (record { worst = worst; iteration = iteration; left = parts.left.items; context = parts.context.items; slacks = parts.slacks.items; rests = parts.rests.items })
+left_of v t extent w parts worst iteration is are n nums =
+    holds_left v t w parts worst iteration n are (solved (graph v) (loops v t) extent w n (record { program = is.program; accepted = is.accepted; weights = is.weights; numbers = nums }))

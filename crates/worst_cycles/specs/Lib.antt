@@ -3,3 +3,4 @@ pub mod Needs
 pub mod Solved
 pub mod Visits
 pub mod Rests
+pub mod Lefts

@@ -5,7 +5,9 @@ use Rattle.scale_base.specs.declared.refusal.Refusal.TheVariants.{TooLong}
 use Rattle.call_orders.specs.Arcs.{number_at}
 use Rattle.cost_theory.specs.Graph.{Loops, IsPlain}
 use Rattle.cost_theory.specs.Worst.{Numbers, cost}
+use Rattle.cost_theory.specs.Lists.{body_of}
 use Rattle.code_graph.specs.FlowGraph.{FlowGraph, graph}
+use Rattle.natural_loops.specs.Noted.{node_address}
 use Rattle.loop_tree.specs.Tree.{LoopView, loops}
 use Rattle.pass_laws.specs.Passes.{IsRestOver}
 use Rattle.worst_cycles.specs.declared.plan.Plan.{Plan}
@@ -74,8 +76,29 @@ pub record IsGreaterOf (one other most : Option ℕ) : Type 0 where
   pub above : (b : ℕ) → (one ≡ Some b) ⊎ (other ≡ Some b) → (m : ℕ) × (most ≡ Some m) × (b ≤ m)
   pub either : (most ≡ one) ⊎ (most ≡ other)
 
+-- ---- the rests of a loop
+
+-- the address of the node at place m of a list of places
+abbrev pub address_at : FlowGraph → Plan → List ℕ → ℕ → ℕ
+address_at v plan steps m = node_address v (number_at plan.order.items (number_at steps m))
+
+-- the rests of the first m of these nodes are found
+abbrev pub AreFoundTo : FlowGraph → LoopView → (ℕ → ℕ) → Plan → ℕ → List ℕ → ℕ → List (Option ℕ) → Type 0
+AreFoundTo v t w plan l steps m found = (n : Numbers) → AreSolvedBy v t w n → (q : ℕ) → q < m → rest_at found q ≡ n.closing l (address_at v plan steps q)
+
+-- they are the rests of an iteration of loop l from all nodes of its body
+pub record AreRestsOf (v : FlowGraph) (t : LoopView) (w : ℕ → ℕ) (plan : Plan) (l : ℕ) (rests : Rests) : Type 0 where
+  pub places : AreBodyPlaces (body_of t.bodies l) plan.places.items rests.steps.items
+  pub sizes : length rests.found.items ≡ length rests.steps.items
+  pub table : AreRests rests
+  pub found : AreFoundTo v t w plan l rests.steps.items (length rests.steps.items) rests.found.items
+
+abbrev pub AreRestsFound : FlowGraph → LoopView → (ℕ → ℕ) → Plan → ℕ → Result Rests Refusal → Type 0
+AreRestsFound v t w plan l (Ok rests) = AreRestsOf v t w plan l rests
+AreRestsFound v t w plan l (Err refusal) = (refusal ≡ TooLong) × IsTooLong v t w
+
 -- ---- iterations
 
 abbrev pub IsIterationFound : FlowGraph → LoopView → (ℕ → ℕ) → ℕ → Result ℕ Refusal → Type 0
-IsIterationFound v t w k (Ok x) = (n : Numbers) → AreSolvedBy v t w n → x ≡ n.iteration k
+IsIterationFound v t w k (Ok x) = (x ≤ 2 ^ 48 + 2 ^ 32) × ((n : Numbers) → AreSolvedBy v t w n → x ≡ n.iteration k)
 IsIterationFound v t w k (Err refusal) = (refusal ≡ TooLong) × IsTooLong v t w

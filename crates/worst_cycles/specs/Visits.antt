@@ -48,6 +48,7 @@ pub record IsVisit (l : Loops) (n : Numbers) (at : ℕ) (x : Visit) : Type 0 whe
 pub record IsSmallVisit (x : Visit) : Type 0 where
   pub plain : x.plain ≤ 2 ^ 48
   pub turns : x.turns ≤ 2 ^ 48
+  pub iteration : x.iteration ≤ 2 ^ 48 + 2 ^ 32
 
 -- a table by node, with numbers in range
 pub record AreVisits (v : FlowGraph) (visits : List Visit) : Type 0 where
@@ -96,7 +97,7 @@ AreVisitedTo v t w order i visits = (n : Numbers) → AreSolvedBy v t w n → (j
 -- what finding all turns and one iteration of the loop whose header node k is answers
 abbrev pub AreTurnsFound : FlowGraph → LoopView → (ℕ → ℕ) → ℕ → Result (ℕ × ℕ) Refusal → Type 0
 AreTurnsFound v t w k (Ok x) = (x.0 ≤ 2 ^ 48) × ((n : Numbers) → AreSolvedBy v t w n →
-    IsTurnsAt (loops v t) n (slice_index v.code.nodes k) x.0 × ((j : ℕ) → j < (loops v t).loops → (loops v t).header j ≡ slice_index v.code.nodes k → x.1 ≡ n.iteration j))
+    IsTurnsAt (loops v t) n (slice_index v.code.nodes k) x.0 × ((j : ℕ) → j < (loops v t).loops → (loops v t).header j ≡ slice_index v.code.nodes k → x.1 ≡ n.iteration j)) × (x.1 ≤ 2 ^ 48 + 2 ^ 32)
 AreTurnsFound v t w k (Err refusal) = (refusal ≡ TooLong) × IsTooLong v t w
 
 -- what finding the numbers of a node answers

@@ -1,15 +1,23 @@
 -- The worst cycles of a program's functions, as lists: what WorstNumbers are seen as, and what finding them answers.
-use Rattle.std.specs.Prelude.{◌≡◌, ℕ, ◌^◌, ◌<◌, ◌≤◌, List, length, slice_get, slice_index, slice_index_or, Result, Ok, Err, Some}
+use Rattle.std.specs.Prelude.{◌≡◌, ℕ, ◌^◌, ◌<◌, ◌≤◌, List, length, slice_get, slice_index, slice_index_or, Option, Result, Ok, Err, Some, is_some}
 use Rattle.scale_base.specs.declared.refusal.Refusal.{Refusal}
 use Rattle.scale_base.specs.declared.refusal.Refusal.TheVariants.{TooLong}
-use Rattle.cost_theory.specs.Graph.{Graph, Loops}
-use Rattle.cost_theory.specs.Worst.{Numbers, AreNumbers}
+use Rattle.cost_theory.specs.Graph.{Graph, Loops, only}
+use Rattle.cost_theory.specs.Worst.{Numbers, AreNumbers, cost, slack, rest}
+use Rattle.code_graph.specs.FlowGraph.{FlowGraph, graph}
 
 pub record WorstView : Type 0 where
   -- by function, its worst cycles
   pub worst : List ℕ
   -- by loop, the greatest cost of one iteration
   pub iteration : List ℕ
+  -- by node, what is left there of its function, without the turns that the loops round it have left
+  pub left : List ℕ
+  -- by function, what is left of its callers behind a call of it
+  pub context : List ℕ
+  -- by edge, its slack, and the rest behind it; 0 for an edge that leads to no node
+  pub slacks : List ℕ
+  pub rests : List ℕ
 
 -- a list of weights, by edge
 abbrev pub by_edge : List ℕ → ℕ → ℕ
@@ -39,3 +47,29 @@ IsWorstTooLong g l w = (n : Numbers) × AreNumbers g l w n × (2 ^ 48 < n.worst 
 abbrev pub IsWorstFound : Graph → Loops → (ℕ → ℕ) → Result WorstView Refusal → Type 0
 IsWorstFound g l w (Ok v) = IsWorstInRange g l w v
 IsWorstFound g l w (Err refusal) = (refusal ≡ TooLong) × IsWorstTooLong g l w
+
+-- ---- what is left
+
+-- the slack of an edge, and the rest behind it; 0 for one that leads to no node
+abbrev pub slack_at : Graph → Loops → (ℕ → ℕ) → Numbers → ℕ → ℕ
+slack_at g l w n e = only (is_some (g.target e)) (slack g l n (cost g n w) e)
+
+abbrev pub rest_at : Graph → Loops → Numbers → ℕ → ℕ
+rest_at g l n e = only (is_some (g.target e)) (rest g l n e)
+
+-- the view holds what is left at the nodes, the contexts of the functions, and the slacks of the edges and the rests behind them
+pub record HoldsLeft (v : FlowGraph) (l : Loops) (w : ℕ → ℕ) (n : Numbers) (x : WorstView) : Type 0 where
+  pub left : (k at : ℕ) → slice_get v.code.nodes k ≡ Some at → slice_get x.left k ≡ Some (n.left at)
+  pub context : (f : ℕ) → f < length v.code.functions → slice_get x.context f ≡ Some (n.context f)
+  pub slack : (e : ℕ) → e < length v.code.edges → slice_get x.slacks e ≡ Some (slack_at (graph v) l w n e)
+  pub rest : (e : ℕ) → e < length v.code.edges → slice_get x.rests e ≡ Some (rest_at (graph v) l n e)
+
+-- one number for each node, function and edge
+pub record HasLeftSizes (v : FlowGraph) (x : WorstView) : Type 0 where
+  pub left : length x.left ≡ length v.code.nodes
+  pub context : length x.context ≡ length v.code.functions
+  pub slacks : length x.slacks ≡ length v.code.edges
+  pub rests : length x.rests ≡ length v.code.edges
+
+abbrev pub IsLeftOf : FlowGraph → Loops → (ℕ → ℕ) → WorstView → Type 0
+IsLeftOf v l w x = (n : Numbers) → AreNumbers (graph v) l w n → HoldsLeft v l w n x

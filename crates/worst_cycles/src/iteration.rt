@@ -7,7 +7,7 @@ ghost use Rattle.code_graph.specs.FlowGraph.{IsFlowGraph};
 ghost use Rattle.worst_cycles.specs.Worst.{by_edge, AreUpTo};
 ghost use Rattle.worst_cycles.specs.Needs.{HasTree};
 ghost use Rattle.worst_cycles.specs.Visits.{IsPlan, AreVisits, AreVisitedTo};
-ghost use Rattle.worst_cycles.specs.Rests.{AreBodyPlaces, IsIterationFound};
+ghost use Rattle.worst_cycles.specs.Rests.{AreBodyPlaces, AreRestsFound, IsIterationFound};
 
 use crate::pass::LIMIT;
 use crate::plan::Plan;
@@ -43,6 +43,45 @@ fn is_over(rest: Option<u64>, weight: u32) -> bool
     }
 }
 
+/// The rests of an iteration of loop `l` from the nodes of its body, once all nodes are visited before that of its header, which
+/// stands at place `i` of the order.
+pub fn rests_of(
+    alloc: Global,
+    graph: &CodeGraph,
+    tree: &LoopTree,
+    weights: &Weights,
+    plan: &Plan,
+    visits: &[Visit],
+    l: usize,
+    i: usize,
+) -> Result<Rests, Stop>
+    requires flow { IsFlowGraph graph.now }
+    requires tree { HasTree graph.now tree.now }
+    requires plan { IsPlan graph.now tree.now plan.now }
+    requires weights { length weights.now ≡ length graph.now.code.edges }
+    requires heaviest { AreUpTo weights.now plan.now.heaviest }
+    requires visits { AreVisits graph.now visits.now }
+    requires within { l < length tree.now.headers }
+    requires place { i < length plan.now.order.items }
+    requires header { number_at tree.now.headers l ≡ number_at plan.now.order.items i }
+    requires visited { AreVisitedTo graph.now tree.now (by_edge weights.now) plan.now.order.items i visits.now }
+    ensures { AnswersBy (λ x. x) result (AreRestsFound graph.now tree.now (by_edge weights.now) plan.now l) }
+{
+    let mut rests = Rests {
+        steps: body_places(alloc, tree.body(l), plan)?,
+        found: Vec::new(alloc),
+    };
+    for m in 0..rests.steps.len() {
+        let k = plan.order[rests.steps[m]];
+        let rest = rest_at_node(graph, tree, weights, plan, visits, &rests, l, k);
+        if is_over(rest, plan.heaviest) {
+            return Err(Stop::Refused(Refusal::TooLong));
+        }
+        rests.found.push(rest)?;
+    }
+    Ok(rests)
+}
+
 /// The greatest cost of one iteration of loop `l`, once all nodes are visited before that of its header, which stands at
 /// place `i` of the order.
 pub fn iteration_of(
@@ -67,18 +106,7 @@ pub fn iteration_of(
     requires visited { AreVisitedTo graph.now tree.now (by_edge weights.now) plan.now.order.items i visits.now }
     ensures { AnswersBy (λ x. x) result (IsIterationFound graph.now tree.now (by_edge weights.now) l) }
 {
-    let mut rests = Rests {
-        steps: body_places(alloc, tree.body(l), plan)?,
-        found: Vec::new(alloc),
-    };
-    for m in 0..rests.steps.len() {
-        let k = plan.order[rests.steps[m]];
-        let rest = rest_at_node(graph, tree, weights, plan, visits, &rests, l, k);
-        if is_over(rest, plan.heaviest) {
-            return Err(Stop::Refused(Refusal::TooLong));
-        }
-        rests.found.push(rest)?;
-    }
+    let rests = rests_of(alloc, graph, tree, weights, plan, visits, l, i)?;
     match rests.at(plan.places[tree.header(l)]) {
         Some(cycles) => Ok(cycles),
         None => Ok(0),

@@ -1,34 +1,40 @@
 //! The worst cycles of a program's functions, and the greatest cost of an iteration of each of its loops.
 #![tactic(auto)]
 
-ghost use Rattle.std.specs.Prelude.{◌≡◌, ℕ, Bool, length};
+ghost use Rattle.std.specs.Prelude.{◌≡◌, ℕ, Bool, length, IfOk};
 ghost use Rattle.scale_base.specs.Answer.{AnswersBy};
 ghost use Rattle.cost_theory.specs.Accepted.{AreWeights};
 ghost use Rattle.code_graph.specs.FlowGraph.{graph as graph_seen};
 ghost use Rattle.loop_tree.specs.Tree.{loops, IsLoopTree};
-ghost use Rattle.worst_cycles.specs.Worst.{by_edge, IsWorstFound};
+ghost use Rattle.worst_cycles.specs.Worst.{by_edge, IsWorstFound, HasLeftSizes, IsLeftOf};
 
+mod around;
+mod contexts;
 mod entries;
 mod found;
 mod iteration;
+mod lefts;
 mod numbers;
 mod order;
+mod parts;
 mod pass;
 mod plan;
 mod rests;
+mod slacks;
 mod visits;
 
 use code_graph::{CodeGraph, Weights};
 use found::{iterations_of, worst_of};
 use loop_tree::LoopTree;
 pub use numbers::WorstNumbers;
+use parts::parts_of;
 use pass::{LIMIT, visit_nodes};
 use plan::make_plan;
 use scale_base::{Refusal, Stop};
 use std::alloc::Global;
 
-/// The worst cycles of a graph's functions and an iteration of each of its loops, under weights of its edges; or the refusal where
-/// the worst cycles of the program are over 2^48.
+/// The worst cycles of a graph's functions, an iteration of each of its loops, and what is left at its nodes and behind its edges,
+/// under weights of its edges; or the refusal where the worst cycles of the program are over 2^48.
 pub fn worst(
     alloc: Global,
     graph: &CodeGraph,
@@ -38,7 +44,9 @@ pub fn worst(
     requires tree { (extent : ℕ → ℕ → Bool) × IsLoopTree graph.now extent tree.now }
     requires weights { length weights.now ≡ length graph.now.code.edges }
     requires calls { AreWeights (graph_seen graph.now) (by_edge weights.now) }
-    ensures { AnswersBy (λ n. n) result (IsWorstFound (graph_seen graph.now) (loops graph.now tree.now) (by_edge weights.now)) }
+    ensures found { AnswersBy (λ n. n) result (IsWorstFound (graph_seen graph.now) (loops graph.now tree.now) (by_edge weights.now)) }
+    ensures sizes { IfOk result (λ x. HasLeftSizes graph.now x) }
+    ensures left { IfOk result (λ x. IsLeftOf graph.now (loops graph.now tree.now) (by_edge weights.now) x) }
 {
     let plan = make_plan(alloc, graph, tree, weights)?;
     let visits = visit_nodes(alloc, graph, tree, weights, &plan)?;
@@ -46,7 +54,9 @@ pub fn worst(
     if worst[0] > LIMIT {
         return Err(Stop::Refused(Refusal::TooLong));
     }
-    Ok(WorstNumbers::from_vecs(worst, iterations_of(alloc, tree, &visits)?))
+    let iteration = iterations_of(alloc, tree, &visits)?;
+    let parts = parts_of(alloc, graph, tree, weights, &plan, &visits)?;
+    Ok(WorstNumbers::from_parts(worst, iteration, parts))
 }
 
 #[cfg(test)]

@@ -92,6 +92,90 @@ fn numbers_of(
     Ok(found.ok().ok_or("there is memory")?)
 }
 
+/// What is left at the nodes, the contexts of the functions, and the slacks and rests of the edges, under one weight of all edges.
+fn all_left(alloc: Global, graph: &CodeGraph, tree: &LoopTree) -> Result<[Vec<u64>; 4], Stop>
+    requires tree { (extent : ℕ → ℕ → Bool) × IsLoopTree graph.now extent tree.now }
+{
+    let weights = Weights::from_vec(vec![in alloc; 1; graph.edge_count()]?);
+    let found = worst(alloc, graph, tree, &weights)?;
+    let mut left = Vec::new(alloc);
+    for k in 0..graph.node_count() {
+        left.push(found.left(k))?;
+    }
+    let mut context = Vec::new(alloc);
+    for f in 0..graph.function_count() {
+        context.push(found.context(f))?;
+    }
+    let mut rests = Vec::new(alloc);
+    let mut slacks = Vec::new(alloc);
+    for e in 0..graph.edge_count() {
+        rests.push(found.rest(e))?;
+        slacks.push(found.slack(e))?;
+    }
+    Ok([left, context, slacks, rests])
+}
+
+fn left_of(alloc: Global, words: &[u32], loops: &str) -> Result<[Vec<u64>; 4], Fail> {
+    let file = file_of(alloc, words).ok().ok_or("there is memory")?;
+    let view = read_image(alloc, &file).ok().ok_or("the file is an image")?;
+    let graph = build_graph(alloc, &view)
+        .ok()
+        .ok_or("the code is accepted")?;
+    let text = format!(in alloc; "version = 1\nloop = [{loops}]\n")
+        .ok()
+        .ok_or("there is memory")?;
+    let notes = read_loops(alloc, text.as_bytes(), &view)
+        .ok()
+        .ok_or("the loop file is read")?;
+    let Ok(tree) = build_loops(alloc, &graph, &notes) else {
+        return Err("the loops are accepted".into());
+    };
+    let found = all_left(alloc, &graph, &tree);
+    Ok(found.ok().ok_or("there are numbers")?)
+}
+
+#[test]
+fn leaves_the_shorter_branch_slack(rt: HostRuntime) -> Result<(), Fail> {
+    let words = [0x0000_0663, NO_OPERATION, NO_OPERATION, EXIT, ECALL];
+    let [left, context, slacks, rests] = left_of(rt.alloc(), &words, "")?;
+    assert_eq!(rt; left.as_slice(), [5, 4, 3, 2, 1].as_slice());
+    assert_eq!(rt; context.as_slice(), [0].as_slice());
+    assert_eq!(rt; slacks.as_slice(), [2, 0, 0, 0, 0, 0].as_slice());
+    assert_eq!(rt; rests.as_slice(), [2, 4, 3, 2, 1, 0].as_slice());
+    Ok(())
+}
+
+#[test]
+fn leaves_a_called_function_the_most_of_its_callers(rt: HostRuntime) -> Result<(), Fail> {
+    // The sixth and the seventh word are called by the first and the second: what is left behind the first call is more.
+    let words = [
+        0x0140_00EF,
+        0x0100_00EF,
+        NO_OPERATION,
+        EXIT,
+        ECALL,
+        NO_OPERATION,
+        RETURN,
+    ];
+    let [left, context, slacks, rests] = left_of(rt.alloc(), &words, "")?;
+    assert_eq!(rt; left.as_slice(), [9, 6, 3, 2, 1, 2, 1].as_slice());
+    assert_eq!(rt; context.as_slice(), [0, 6].as_slice());
+    assert_eq!(rt; slacks.as_slice(), [0; 9].as_slice());
+    assert_eq!(rt; rests.as_slice(), [6, 0, 3, 0, 2, 1, 0, 7, 0].as_slice());
+    Ok(())
+}
+
+#[test]
+fn leaves_all_turns_behind_an_edge_into_a_loop(rt: HostRuntime) -> Result<(), Fail> {
+    let words = [NO_OPERATION, NO_OPERATION, BACK_1, EXIT, ECALL];
+    let loops = "{header = 0x10004, ranges = [[0x10004, 0x1000c]], bound = 10}";
+    let [left, _, slacks, rests] = left_of(rt.alloc(), &words, loops)?;
+    assert_eq!(rt; left.as_slice(), [25, 4, 3, 2, 1].as_slice());
+    assert_eq!(rt; slacks.as_slice(), [0, 0, 0, 0, 0, 0].as_slice());
+    assert_eq!(rt; rests.as_slice(), [24, 23, 24, 2, 1, 0].as_slice());
+    Ok(())
+}
+
 #[test]
 fn takes_the_greater_branch(rt: HostRuntime) -> Result<(), Fail> {
     let words = [0x0000_0663, NO_OPERATION, NO_OPERATION, EXIT, ECALL];

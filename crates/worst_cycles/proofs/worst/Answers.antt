@@ -9,7 +9,7 @@ use Rattle.worst_cycles.specs.Needs.{AreEntries}
 use Rattle.worst_cycles.specs.Visits.{AreAllVisited}
 use Rattle.worst_cycles.proofs.SearchLaws.{value_at}
 use Rattle.worst_cycles.proofs.BodyLaws.{header_number}
-use Rattle.worst_cycles.proofs.WorstLaws.{IsWeighted, stops_so, worst_in_range, total_too_long}
+use Rattle.worst_cycles.proofs.WorstLaws.{IsWeighted, stops_so, worst_in_range, total_too_long, has_solved, left_of}
 use Rattle.worst_cycles.proofs.worst.Goals as goal
 
 pub returns-in_err-visits : goal.returns-in_err-visits
@@ -17,7 +17,7 @@ returns-in_err-visits c =
     let p = err_from_is_err_and c.from_residual-in_err-visits.result c.from_residual-in_err-visits.ensures.1 in
     let is : IsWeighted (graph c.args.graph.now) (loops c.args.graph.now c.args.tree.now) c.requires.tree.0 (by_edge c.args.weights.now) =
     record { program = c.in_ok-plan.ensures.flow.program; accepted = c.requires.tree.1.accepted; weights = c.requires.calls } in
-    rw (p.1, p.2) (stops_so c.args.graph.now c.args.tree.now c.requires.tree.0 (by_edge c.args.weights.now) (λ (visits : Vec Visit Global). visits.items) c.in_err-visits.field-0.0 is c.in_err-visits.ensures)
+    rw (p.1, p.2) (record { found = stops_so c.args.graph.now c.args.tree.now c.requires.tree.0 (by_edge c.args.weights.now) (λ (visits : Vec Visit Global). visits.items) c.in_err-visits.field-0.0 is c.in_err-visits.ensures; sizes = tt; left = tt })
 
 pub returns-then-index-gt-LIMIT : goal.returns-then-index-gt-LIMIT
 returns-then-index-gt-LIMIT c =
@@ -30,11 +30,15 @@ returns-then-index-gt-LIMIT c =
     let size = c.in_ok-worst.ensures.size in
     let some : 0 < length c.in_ok-worst.worst.items = omega arith in
     let first : number_at c.in_ok-worst.worst.items 0 ≡ c.index.result.now = value_at c.in_ok-worst.worst.items 0 c.index.result.now 0 some c.index.ensures in
-    let more : 2 ^ 48 < number_at c.in_ok-worst.worst.items 0 = omega arith in (
-      refl,
-      total_too_long c.args.graph.now c.args.tree.now c.requires.tree.0 (by_edge c.args.weights.now) c.deref.result.now c.in_ok-worst.worst.items c.deref-2.result.now c.in_ok-plan.ensures.flow is entries found
-          (λ f lt. c.in_ok-worst.ensures.each f (omega arith)) more,
-    )
+    let more : 2 ^ 48 < number_at c.in_ok-worst.worst.items 0 = omega arith in
+    record {
+      found = (
+        refl,
+        total_too_long c.args.graph.now c.args.tree.now c.requires.tree.0 (by_edge c.args.weights.now) c.deref.result.now c.in_ok-worst.worst.items c.deref-2.result.now c.in_ok-plan.ensures.flow is entries found (λ f lt. c.in_ok-worst.ensures.each f (omega arith)) more,
+      );
+      sizes = tt;
+      left = tt;
+    }
 
 pub iterations_of-requires : goal.iterations_of-requires
 iterations_of-requires c =
@@ -56,5 +60,27 @@ returns c =
     let some : 0 < length c.in_ok-worst.worst.items = omega arith in
     let first : number_at c.in_ok-worst.worst.items 0 ≡ c.index.result.now = value_at c.in_ok-worst.worst.items 0 c.index.result.now 0 some c.index.ensures in
     let small : number_at c.in_ok-worst.worst.items 0 ≤ 2 ^ 48 = omega arith in
-    rw c.from_vecs.ensures (worst_in_range c.args.graph.now c.args.tree.now (by_edge c.args.weights.now) c.deref.result.now c.in_ok-worst.worst.items c.in_ok-iterations_of.field-0.items c.deref-2.result.now c.deref-3.result.now c.requires.tree c.in_ok-plan.ensures.flow is entries found others
-    (c.in_ok-worst.ensures.size ∙ entries.size) (λ f lt. c.in_ok-worst.ensures.each f (omega arith)) c.in_ok-iterations_of.ensures.size c.in_ok-iterations_of.ensures.each small)
+    rw c.from_parts.ensures (record {
+      found = worst_in_range c.args.graph.now c.args.tree.now (by_edge c.args.weights.now) c.deref.result.now c.in_ok-worst.worst.items c.in_ok-iteration.iteration.items c.in_ok-parts.parts.left.items c.in_ok-parts.parts.context.items c.in_ok-parts.parts.slacks.items c.in_ok-parts.parts.rests.items
+          c.deref-2.result.now c.deref-3.result.now c.requires.tree c.in_ok-plan.ensures.flow is entries found others
+          (c.in_ok-worst.ensures.size ∙ entries.size) (λ f lt. c.in_ok-worst.ensures.each f (omega arith)) c.in_ok-iteration.ensures.size c.in_ok-iteration.ensures.each small;
+      sizes = record { left = c.in_ok-parts.ensures.left.size; context = c.in_ok-parts.ensures.context.size; slacks = c.in_ok-parts.ensures.slacks.size; rests = c.in_ok-parts.ensures.rests.size };
+      left = left_of c.args.graph.now c.args.tree.now c.requires.tree.0 (by_edge c.args.weights.now) c.in_ok-parts.parts c.in_ok-worst.worst.items c.in_ok-iteration.iteration.items is c.in_ok-parts.ensures;
+    })
+
+pub parts_of-requires-clause-visits : goal.parts_of-requires-clause-visits
+parts_of-requires-clause-visits c = subst (AreAllVisited c.args.graph.now c.args.tree.now (by_edge c.args.weights.now)) (sym c.deref-4.ensures.value) c.in_ok-visits.ensures
+
+pub parts_of-requires-clause-solved : goal.parts_of-requires-clause-solved
+parts_of-requires-clause-solved c =
+    let is : IsWeighted (graph c.args.graph.now) (loops c.args.graph.now c.args.tree.now) c.requires.tree.0 (by_edge c.args.weights.now) =
+    record { program = c.in_ok-plan.ensures.flow.program; accepted = c.requires.tree.1.accepted; weights = c.requires.calls } in
+    let entries = subst (AreEntries c.args.graph.now) (sym c.deref.ensures.value) c.in_ok-plan.ensures.plan.entries in
+    let found = subst (AreAllVisited c.args.graph.now c.args.tree.now (by_edge c.args.weights.now)) (sym c.deref-2.ensures.value) c.in_ok-visits.ensures in
+    let main : 0 < length c.args.graph.now.code.functions = c.in_ok-plan.ensures.flow.program.main in
+    let count = entries.size in
+    let size = c.in_ok-worst.ensures.size in
+    let some : 0 < length c.in_ok-worst.worst.items = omega arith in
+    let first : number_at c.in_ok-worst.worst.items 0 ≡ c.index.result.now = value_at c.in_ok-worst.worst.items 0 c.index.result.now 0 some c.index.ensures in
+    let small : number_at c.in_ok-worst.worst.items 0 ≤ 2 ^ 48 = omega arith in
+    has_solved c.args.graph.now c.args.tree.now c.requires.tree.0 (by_edge c.args.weights.now) c.deref.result.now c.in_ok-worst.worst.items c.deref-2.result.now c.in_ok-plan.ensures.flow is entries found (λ f lt. c.in_ok-worst.ensures.each f (omega arith)) small

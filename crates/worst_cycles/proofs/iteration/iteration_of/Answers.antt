@@ -1,101 +1,34 @@
-use Rattle.std.proofs.Common.{◌≡◌, ℕ, ◌+◌, ◌^◌, ◌<◌, ◌≤◌, true, List, [], ◌∷◌, ◌++◌, length, length-append, slice_index, Option, Some, None, arith, refl, sym, ap, subst}
+use Rattle.std.proofs.Common.{◌≡◌, ◌+◌, ◌^◌, ◌<◌, ◌≤◌, length, Some, None, refl, arith, subst}
 use Rattle.std.proofs.lemmas.Option.{none-some, same_Some}
-use Rattle.call_orders.specs.Arcs.{number_at}
-use Rattle.loop_tree.specs.Tree.{loops}
 use Rattle.worst_cycles.specs.Worst.{by_edge}
-use Rattle.worst_cycles.specs.Rests.{rest_at, IsRestOf}
-use Rattle.worst_cycles.proofs.SearchLaws.{value_at}
-use Rattle.worst_cycles.proofs.IterationLaws.{AreFoundTo, address_at, step_inside, step_node, next_rest, found_more, rests_small, rest_too_long, header_rest, header_place}
+use Rattle.worst_cycles.specs.Rests.{IsRestOf}
+use Rattle.worst_cycles.proofs.IterationLaws.{header_rest, header_place}
 use Rattle.worst_cycles.proofs.iteration.iteration_of.Goals as goal
 
-pub index-k-requires : goal.index-k-requires
-index-k-requires c =
-    let same = c.loop-m.invariant.same in
-    let ml : c.loop-m.m < length c.loop-m.rests.steps.items = omega arith in
-    let here : number_at c.loop-m.rests.steps.items c.loop-m.m ≡ c.index.result.now = value_at c.loop-m.rests.steps.items c.loop-m.m c.index.result.now 0 ml c.index.ensures in
-    let low : number_at c.loop-m.rests.steps.items c.loop-m.m < length c.args.plan.now.order.items =
-    (step_inside c.args.graph.now c.args.tree.now c.args.plan.now c.args.l c.args.i c.loop-m.rests.steps.items c.requires.flow c.requires.tree c.requires.plan c.requires.within c.requires.place c.requires.header c.loop-m.invariant.places c.loop-m.m ml).0 in
-    omega arith
-
-pub rest_at_node-rest-requires-clause-node : goal.rest_at_node-rest-requires-clause-node
-rest_at_node-rest-requires-clause-node c =
-    let same = c.loop-m.invariant.same in
-    let ml : c.loop-m.m < length c.loop-m.rests.steps.items = omega arith in
-    let step = step_inside c.args.graph.now c.args.tree.now c.args.plan.now c.args.l c.args.i c.loop-m.rests.steps.items c.requires.flow c.requires.tree c.requires.plan c.requires.within c.requires.place c.requires.header c.loop-m.invariant.places c.loop-m.m ml in
-    let node = step_node c.args.plan.now c.loop-m.rests.steps.items c.loop-m.m c.index.result.now c.index-k.result.now ml step.0 c.index.ensures c.index-k.ensures in
-    subst (λ x. x < length c.args.graph.now.code.nodes) (sym node) (c.requires.plan.order.within (number_at c.loop-m.rests.steps.items c.loop-m.m) step.0)
-
-pub rest_at_node-rest-requires-clause-inside : goal.rest_at_node-rest-requires-clause-inside
-rest_at_node-rest-requires-clause-inside c =
-    let same = c.loop-m.invariant.same in
-    let ml : c.loop-m.m < length c.loop-m.rests.steps.items = omega arith in
-    let step = step_inside c.args.graph.now c.args.tree.now c.args.plan.now c.args.l c.args.i c.loop-m.rests.steps.items c.requires.flow c.requires.tree c.requires.plan c.requires.within c.requires.place c.requires.header c.loop-m.invariant.places c.loop-m.m ml in
-    let node = step_node c.args.plan.now c.loop-m.rests.steps.items c.loop-m.m c.index.result.now c.index-k.result.now ml step.0 c.index.ensures c.index-k.ensures in
-    subst (λ x. (loops c.args.graph.now c.args.tree.now).inside c.args.l (slice_index c.args.graph.now.code.nodes x) ≡ true) (sym node) step.1
-
-pub returns-then-is_over : goal.returns-then-is_over
-returns-then-is_over c =
-    let same = c.loop-m.invariant.same in
-    let ml : c.loop-m.m < length c.loop-m.rests.steps.items = omega arith in
-    let step = step_inside c.args.graph.now c.args.tree.now c.args.plan.now c.args.l c.args.i c.loop-m.rests.steps.items c.requires.flow c.requires.tree c.requires.plan c.requires.within c.requires.place c.requires.header c.loop-m.invariant.places c.loop-m.m ml in
-    let node = step_node c.args.plan.now c.loop-m.rests.steps.items c.loop-m.m c.index.result.now c.index-k.result.now ml step.0 c.index.ensures c.index-k.ensures in
-    let over = c.is_over.ensures.over c.if-is_over.true in
-    let edges = c.requires.weights in (
-      refl,
-      rest_too_long c.args.graph.now c.args.tree.now (by_edge c.args.weights.now) c.args.l (address_at c.args.graph.now c.args.plan.now c.loop-m.rests.steps.items c.loop-m.m) over.0 c.rest_at_node-rest.result c.requires.within step.1
-          (next_rest c.args.graph.now c.args.tree.now (by_edge c.args.weights.now) c.args.plan.now c.args.visits.now c.args.l c.args.i c.loop-m.m c.index-k.result.now c.loop-m.rests c.rest_at_node-rest.result c.requires.flow c.requires.tree c.requires.plan c.requires.visited
-          c.requires.within c.requires.place c.requires.header c.loop-m.invariant.places ml c.loop-m.invariant.size c.loop-m.invariant.found node c.rest_at_node-rest.ensures)
-          c.args.plan.now.heaviest (λ e el. c.requires.heaviest e (omega arith)) over.1 over.2,
-    )
-
-pub loop-m-preserved : goal.loop-m-preserved
-loop-m-preserved c =
-    let same = c.loop-m.invariant.same in
-    let ml : c.loop-m.m < length c.loop-m.rests.steps.items = omega arith in
-    let step = step_inside c.args.graph.now c.args.tree.now c.args.plan.now c.args.l c.args.i c.loop-m.rests.steps.items c.requires.flow c.requires.tree c.requires.plan c.requires.within c.requires.place c.requires.header c.loop-m.invariant.places c.loop-m.m ml in
-    let node = step_node c.args.plan.now c.loop-m.rests.steps.items c.loop-m.m c.index.result.now c.index-k.result.now ml step.0 c.index.ensures c.index-k.ensures in
-    let items : c.push.new.self.items ≡ c.loop-m.rests.found.items ++ c.rest_at_node-rest.result ∷ [] = c.in_ok-push.ensures.items in
-    let longer : length c.push.new.self.items ≡ length (c.loop-m.rests.found.items ++ c.rest_at_node-rest.result ∷ []) = ap length items in
-    let more : length (c.loop-m.rests.found.items ++ c.rest_at_node-rest.result ∷ []) ≡ length c.loop-m.rests.found.items + 1 = length-append c.loop-m.rests.found.items (c.rest_at_node-rest.result ∷ []) in
-    let size = c.loop-m.invariant.size in
-    record {
-      places = c.loop-m.invariant.places;
-      same = c.loop-m.invariant.same;
-      size = let r : length c.push.new.self.items ≡ c.loop-m.m + 1 = omega arith in r;
-      small = subst (λ (xs : List (Option ℕ)). (q b : ℕ) → rest_at xs q ≡ Some b → b ≤ 2 ^ 48 + 2 ^ 32) (sym items)
-          (rests_small c.loop-m.rests.found.items c.rest_at_node-rest.result c.loop-m.invariant.small (c.is_over.ensures.within c.if-is_over.false));
-      found = subst (AreFoundTo c.args.graph.now c.args.tree.now (by_edge c.args.weights.now) c.args.plan.now c.args.l c.loop-m.rests.steps.items (c.loop-m.m + 1)) (sym items)
-          (found_more c.args.graph.now c.args.tree.now (by_edge c.args.weights.now) c.args.plan.now c.args.l c.loop-m.m c.loop-m.rests.steps.items c.loop-m.rests.found.items c.rest_at_node-rest.result c.loop-m.invariant.size c.loop-m.invariant.found
-          (next_rest c.args.graph.now c.args.tree.now (by_edge c.args.weights.now) c.args.plan.now c.args.visits.now c.args.l c.args.i c.loop-m.m c.index-k.result.now c.loop-m.rests c.rest_at_node-rest.result c.requires.flow c.requires.tree c.requires.plan c.requires.visited
-          c.requires.within c.requires.place c.requires.header c.loop-m.invariant.places ml c.loop-m.invariant.size c.loop-m.invariant.found node c.rest_at_node-rest.ensures));
-    }
-
 pub returns-in-Some : goal.returns-in-Some
-returns-in-Some c = λ n s.
-    let same = c.loop-m.invariant.same in
-    let size = c.loop-m.invariant.size in
-    let last : c.loop-m.m ≡ length c.loop-m.rests.steps.items = omega arith in
-    let whole : length c.loop-m.rests.found.items ≡ length c.loop-m.rests.steps.items = omega arith in
-    let sizes = c.requires.plan.places_size in
-    let h : c.header.result < length c.args.graph.now.code.nodes = c.requires.tree.1.header c.args.l c.header.result c.header.ensures in
-    let low : c.header.result < length c.args.plan.now.places.items = omega arith in
-    let place = header_place c.args.tree.now c.args.plan.now.places.items c.args.l c.header.result c.index-2.result.now c.header.ensures low c.index-2.ensures in
-    let rest = subst (λ p. IsRestOf c.loop-m.rests p (Some c.in-Some.cycles)) place c.in-Some.ensures.rest in
-    same_Some c.in-Some.cycles (n.iteration c.args.l)
-    (header_rest c.args.graph.now c.args.tree.now (by_edge c.args.weights.now) c.args.plan.now c.args.l c.loop-m.rests (Some c.in-Some.cycles) c.requires.flow c.requires.tree c.requires.plan c.requires.within c.loop-m.invariant.places whole
-    (subst (λ m. AreFoundTo c.args.graph.now c.args.tree.now (by_edge c.args.weights.now) c.args.plan.now c.args.l c.loop-m.rests.steps.items m c.loop-m.rests.found.items) last c.loop-m.invariant.found) rest n s)
+returns-in-Some c = (
+  c.in-Some.ensures.small c.in-Some.cycles refl,
+  λ n s.
+      let sizes = c.requires.plan.places_size in
+      let h : c.header.result < length c.args.graph.now.code.nodes = c.requires.tree.1.header c.args.l c.header.result c.header.ensures in
+      let low : c.header.result < length c.args.plan.now.places.items = omega arith in
+      let place = header_place c.args.tree.now c.args.plan.now.places.items c.args.l c.header.result c.index.result.now c.header.ensures low c.index.ensures in
+      let rest = subst (λ p. IsRestOf c.in_ok-rests.rests p (Some c.in-Some.cycles)) place c.in-Some.ensures.rest in
+      same_Some c.in-Some.cycles (n.iteration c.args.l)
+      (header_rest c.args.graph.now c.args.tree.now (by_edge c.args.weights.now) c.args.plan.now c.args.l c.in_ok-rests.rests (Some c.in-Some.cycles) c.requires.flow c.requires.tree c.requires.plan c.requires.within c.in_ok-rests.ensures.places c.in_ok-rests.ensures.sizes
+      c.in_ok-rests.ensures.found rest n s),
+)
 
 pub returns : goal.returns
-returns c = λ n s.
-    let same = c.loop-m.invariant.same in
-    let size = c.loop-m.invariant.size in
-    let last : c.loop-m.m ≡ length c.loop-m.rests.steps.items = omega arith in
-    let whole : length c.loop-m.rests.found.items ≡ length c.loop-m.rests.steps.items = omega arith in
-    let sizes = c.requires.plan.places_size in
-    let h : c.header.result < length c.args.graph.now.code.nodes = c.requires.tree.1.header c.args.l c.header.result c.header.ensures in
-    let low : c.header.result < length c.args.plan.now.places.items = omega arith in
-    let place = header_place c.args.tree.now c.args.plan.now.places.items c.args.l c.header.result c.index-2.result.now c.header.ensures low c.index-2.ensures in
-    let rest = subst (λ p. IsRestOf c.loop-m.rests p None) place c.in-None.ensures.rest in
-    absurd (none-some (n.iteration c.args.l)
-    (header_rest c.args.graph.now c.args.tree.now (by_edge c.args.weights.now) c.args.plan.now c.args.l c.loop-m.rests None c.requires.flow c.requires.tree c.requires.plan c.requires.within c.loop-m.invariant.places whole
-    (subst (λ m. AreFoundTo c.args.graph.now c.args.tree.now (by_edge c.args.weights.now) c.args.plan.now c.args.l c.loop-m.rests.steps.items m c.loop-m.rests.found.items) last c.loop-m.invariant.found) rest n s))
+returns c = (
+  (let r : 0 ≤ 2 ^ 48 + 2 ^ 32 = omega arith in r),
+  λ n s.
+      let sizes = c.requires.plan.places_size in
+      let h : c.header.result < length c.args.graph.now.code.nodes = c.requires.tree.1.header c.args.l c.header.result c.header.ensures in
+      let low : c.header.result < length c.args.plan.now.places.items = omega arith in
+      let place = header_place c.args.tree.now c.args.plan.now.places.items c.args.l c.header.result c.index.result.now c.header.ensures low c.index.ensures in
+      let rest = subst (λ p. IsRestOf c.in_ok-rests.rests p None) place c.in-None.ensures.rest in
+      absurd (none-some (n.iteration c.args.l)
+      (header_rest c.args.graph.now c.args.tree.now (by_edge c.args.weights.now) c.args.plan.now c.args.l c.in_ok-rests.rests None c.requires.flow c.requires.tree c.requires.plan c.requires.within c.in_ok-rests.ensures.places c.in_ok-rests.ensures.sizes
+      c.in_ok-rests.ensures.found rest n s)),
+)

@@ -1,4 +1,4 @@
-use Rattle.std.proofs.Common.{◌≡◌, ◌^◌, ◌≤◌, inr, None, arith, refl, ◌∙◌}
+use Rattle.std.proofs.Common.{◌≡◌, ◌+◌, ◌^◌, ◌≤◌, inr, None, arith, refl, ◌∙◌}
 use Rattle.std.proofs.lemmas.Option.{slice_get_within, get_or_from_slice_get}
 use Rattle.call_orders.specs.Arcs.{number_at}
 use Rattle.worst_cycles.specs.Worst.{by_edge}
@@ -15,6 +15,7 @@ returns-in_default c =
         inr (no_turns c.args.graph.now c.args.tree.now c.args.plan.now n (number_at c.args.plan.now.order.items c.args.i) c.requires.flow c.requires.tree c.requires.plan (c.requires.plan.order.within c.args.i c.requires.place) none, refl),
         λ j jl same. absurd (no_turns c.args.graph.now c.args.tree.now c.args.plan.now n (number_at c.args.plan.now.order.items c.args.i) c.requires.flow c.requires.tree c.requires.plan (c.requires.plan.order.within c.args.i c.requires.place) none j jl same),
       ),
+      (let r : 0 ≤ 2 ^ 48 + 2 ^ 32 = omega arith in r),
     )
 
 pub iteration_of-requires-clause-within : goal.iteration_of-requires-clause-within
@@ -38,7 +39,8 @@ returns-in-Some-all_turns c =
     let header = c.requires.plan.headed.some (number_at c.args.plan.now.order.items c.args.i) c.in-Some.l
     (headed_is c.args.graph.now c.args.tree.now c.args.plan.now c.args.i c.index.result.now c.index-2.result.now c.requires.plan c.requires.place c.index.ensures c.index-2.ensures ∙ c.in-Some.is) in (
       turns.1,
-      turns_found c.args.graph.now c.args.tree.now (by_edge c.args.weights.now) c.in-Some.l (number_at c.args.plan.now.order.items c.args.i) c.bound.result c.in_ok-iteration.iteration c.in-Some-all_turns.turns header c.bound.ensures turns.0 c.in_ok-iteration.ensures,
+      turns_found c.args.graph.now c.args.tree.now (by_edge c.args.weights.now) c.in-Some.l (number_at c.args.plan.now.order.items c.args.i) c.bound.result c.in_ok-iteration.iteration c.in-Some-all_turns.turns header c.bound.ensures turns.0 c.in_ok-iteration.ensures.1,
+      c.in_ok-iteration.ensures.0,
     )
 
 pub returns-in-None : goal.returns-in-None
@@ -47,5 +49,5 @@ returns-in-None c =
     let within = slice_get_within c.args.tree.now.headers c.in-Some.l (number_at c.args.plan.now.order.items c.args.i) (c.requires.plan.headed.some (number_at c.args.plan.now.order.items c.args.i) c.in-Some.l
     (headed_is c.args.graph.now c.args.tree.now c.args.plan.now c.args.i c.index.result.now c.index-2.result.now c.requires.plan c.requires.place c.index.ensures c.index-2.ensures ∙ c.in-Some.is)) in (
       refl,
-      turns_too_long c.args.graph.now c.args.tree.now (by_edge c.args.weights.now) c.in-Some.l c.bound.result c.in_ok-iteration.iteration within c.bound.ensures c.in_ok-iteration.ensures more,
+      turns_too_long c.args.graph.now c.args.tree.now (by_edge c.args.weights.now) c.in-Some.l c.bound.result c.in_ok-iteration.iteration within c.bound.ensures c.in_ok-iteration.ensures.1 more,
     )

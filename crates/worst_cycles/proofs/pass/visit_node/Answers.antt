@@ -14,7 +14,7 @@ returns-then-plain-gt-LIMIT c = (
 
 pub returns : goal.returns
 returns c = (
-  record { plain = c.if-plain-gt-LIMIT.false; turns = c.in_ok-turns.ensures.0 },
+  record { plain = c.if-plain-gt-LIMIT.false; turns = c.in_ok-turns.ensures.0; iteration = c.in_ok-turns.ensures.2 },
   λ n s.
       let turns = c.in_ok-turns.ensures.1 n s in
       record {

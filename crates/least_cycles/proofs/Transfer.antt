@@ -1,0 +1,261 @@
+-- Least costs by number are least costs in the graph; and the least way to the end of a run.
+use Rattle.std.proofs.Common.{◌≡◌, ℕ, ◌+◌, ◌<◌, ◌≤◌, Bool, true, false, cond, ◌⊎◌, inl, inr, nat_le, List, [], ◌∷◌, length, slice_get, Option, Some, None, is_some, unwrap_or, refl, sym, ap, ◌∙◌, subst, arith, ⊎_elim}
+use Rattle.std.proofs.lemmas.Bool.Decides.{nat_tests}
+use Rattle.cost_theory.specs.Graph.{Graph, total}
+use Rattle.cost_theory.specs.Least.{IsLeastIfAny, EndsWith, Least, IsReturnTo, end_after, Way as EndWay, least_cost, IsReturn, IsExit, AreLeast, IsWay, way_cost}
+use Rattle.cost_theory.specs.Least.Way.{Exits, Returns}
+use Rattle.least_cycles.specs.declared.Hop.{Hop}
+use Rattle.least_cycles.specs.declared.Way.{Way}
+use Rattle.least_cycles.specs.declared.Way.TheVariants.{Last, To, Stop}
+use Rattle.least_cycles.specs.Hops.{place_of, is_last, tail_of, head_of, last_of, cost_of, graph_of, IsLast, costs, IsWalkFrom}
+use Rattle.least_cycles.specs.Local.{IsWayOf, IsHopOf, AreLocal, lesser, both}
+use Rattle.least_cycles.proofs.Relaxing.{some-below}
+
+none_some : (o : Option ℕ) → o ≡ None → is_some o ≡ true → ⊥
+none_some None is h = let bad : ⊥ = cc in bad
+none_some (Some x) is h = let bad : ⊥ = cc in bad
+
+some_eq : (a b : ℕ) → Some a ≡ Some b → a ≡ b
+some_eq a b e = let r : a ≡ b = cc in r
+
+hop_eq : (a b : Hop) → Some a ≡ Some b → a ≡ b
+hop_eq a b e = let r : a ≡ b = cc in r
+
+module _ (g : Graph) (last : ℕ → Type 0) (c : ℕ → ℕ) (nodes edges : List ℕ) (hops : List Hop) (local : AreLocal g last c nodes edges hops) where
+  -- a walk in the graph, by hops
+  down : (es : List ℕ) (v i : ℕ) → slice_get nodes i ≡ Some v → EndsWith g last (Some v) es → (xs : List ℕ) × IsWalkFrom hops i xs × (total (costs hops) xs ≡ total c es)
+  down [] v i at walk = absurd walk
+  down (e ∷ es) v i at walk = by_way hop.0.way refl walk.2 (λ u j to. down es u j to)
+    where
+      v_source : v ≡ g.source e
+      v_source = some_eq _ _ walk.1
+
+      place : (k : ℕ) × (slice_get edges k ≡ Some e)
+      place = local.all e i walk.0 (at ∙ ap (λ x. Some x) v_source)
+
+      hop : (h : Hop) × (slice_get hops place.0 ≡ Some h) × IsHopOf g last c nodes h e
+      hop = local.hop place.0 e place.1
+
+      below : place.0 < length hops
+      below = some-below hops place.0 hop.0 hop.1
+
+      here : i ≡ hop.0.tail
+      here = local.once i hop.0.tail v at (hop.2.tail ∙ ap (λ x. Some x) (sym v_source))
+
+      from : Some i ≡ Some (tail_of (slice_get hops place.0))
+      from = ap (λ x. Some x) here ∙ ap (λ o. Some (tail_of o)) (sym hop.1)
+
+      price : cost_of (slice_get hops place.0) ≡ c e
+      price = ap cost_of hop.1 ∙ hop.2.cost
+
+      way_is : (w : Way) → hop.0.way ≡ w → IsWayOf g last nodes w e
+      way_is w is = subst (λ x. IsWayOf g last nodes x e) is hop.2.way
+
+      by_way : (w : Way) → hop.0.way ≡ w → ((es ≡ []) × last e) ⊎ ((is_some (g.target e) ≡ true) × EndsWith g last (g.target e) es)
+          → ((u j : ℕ) → slice_get nodes j ≡ Some u → EndsWith g last (Some u) es → (xs : List ℕ) × IsWalkFrom hops j xs × (total (costs hops) xs ≡ total c es))
+          → (xs : List ℕ) × IsWalkFrom hops i xs × (total (costs hops) xs ≡ c e + total c es)
+      by_way Last is (inl b) ih =
+          let ends : last_of (slice_get hops place.0) ≡ true = ap last_of hop.1 ∙ ap is_last is in
+          let none : total c es ≡ 0 = ap (total c) b.0 in
+          (place.0 ∷ [], (below, from, inl (refl, ends)), (let t : cost_of (slice_get hops place.0) + 0 ≡ c e + total c es = omega (arith, price) in t))
+      by_way Last is (inr b) ih =
+          let w : last e × (g.target e ≡ None) = way_is Last is in
+          absurd (none_some _ w.1 b.0)
+      by_way (To j) is (inl b) ih = let w : (last e → ⊥) × ((u : ℕ) × (g.target e ≡ Some u) × (slice_get nodes j ≡ Some u)) = way_is (To j) is in absurd (w.0 b.1)
+      by_way (To j) is (inr b) ih =
+          let w : (last e → ⊥) × ((u : ℕ) × (g.target e ≡ Some u) × (slice_get nodes j ≡ Some u)) = way_is (To j) is in
+          let behind : (xs : List ℕ) × IsWalkFrom hops j xs × (total (costs hops) xs ≡ total c es) = ih w.1.0 j w.1.2 (subst (λ o. EndsWith g last o es) w.1.1 b.1) in
+          let to : head_of (slice_get hops place.0) ≡ Some j = ap head_of hop.1 ∙ ap place_of is in
+          let rest : EndsWith (graph_of hops) (IsLast hops) (head_of (slice_get hops place.0)) behind.0 = subst (λ o. EndsWith (graph_of hops) (IsLast hops) o behind.0) (sym to) behind.1 in
+          let same : total (costs hops) behind.0 ≡ total c es = behind.2 in
+          (place.0 ∷ behind.0, (below, from, inr (ap is_some to, rest)), (let t : cost_of (slice_get hops place.0) + total (costs hops) behind.0 ≡ c e + total c es = omega (arith, price) in t))
+      by_way Stop is (inl b) ih = let w : (last e → ⊥) × (g.target e ≡ None) = way_is Stop is in absurd (w.0 b.1)
+      by_way Stop is (inr b) ih =
+          let w : (last e → ⊥) × (g.target e ≡ None) = way_is Stop is in
+          absurd (none_some _ w.1 b.0)
+
+  -- and back
+  up : (xs : List ℕ) (v i : ℕ) → slice_get nodes i ≡ Some v → IsWalkFrom hops i xs → (es : List ℕ) × EndsWith g last (Some v) es × (total c es ≡ total (costs hops) xs)
+  up [] v i at walk = absurd walk
+  up (x ∷ xs) v i at walk = by_way hop.0.way refl walk.2 (λ u j to w. up xs u j to w)
+    where
+      edge : (e : ℕ) × (slice_get edges x ≡ Some e)
+      edge = local.no_more x walk.0
+
+      hop : (h : Hop) × (slice_get hops x ≡ Some h) × IsHopOf g last c nodes h edge.0
+      hop = local.hop x edge.0 edge.1
+
+      tail : i ≡ hop.0.tail
+      tail = some_eq _ _ walk.1 ∙ ap tail_of hop.1
+
+      from : Some v ≡ Some (g.source edge.0)
+      from = sym at ∙ ap (slice_get nodes) tail ∙ hop.2.tail
+
+      price : cost_of (slice_get hops x) ≡ c edge.0
+      price = ap cost_of hop.1 ∙ hop.2.cost
+
+      below : edge.0 < g.edges
+      below = local.edge x edge.0 edge.1
+
+      way_is : (w : Way) → hop.0.way ≡ w → IsWayOf g last nodes w edge.0
+      way_is w is = subst (λ y. IsWayOf g last nodes y edge.0) is hop.2.way
+
+      by_way : (w : Way) → hop.0.way ≡ w → ((xs ≡ []) × (last_of (slice_get hops x) ≡ true)) ⊎ ((is_some (head_of (slice_get hops x)) ≡ true) × EndsWith (graph_of hops) (IsLast hops) (head_of (slice_get hops x)) xs)
+          → ((u j : ℕ) → slice_get nodes j ≡ Some u → IsWalkFrom hops j xs → (es : List ℕ) × EndsWith g last (Some u) es × (total c es ≡ total (costs hops) xs))
+          → (es : List ℕ) × EndsWith g last (Some v) es × (total c es ≡ cost_of (slice_get hops x) + total (costs hops) xs)
+      by_way Last is (inl b) ih =
+          let w : last edge.0 × (g.target edge.0 ≡ None) = way_is Last is in
+          let none : total (costs hops) xs ≡ 0 = ap (total (costs hops)) b.0 in
+          (edge.0 ∷ [], (below, from, inl (refl, w.0)), (let t : c edge.0 + 0 ≡ cost_of (slice_get hops x) + total (costs hops) xs = omega (arith, price) in t))
+      by_way Last is (inr b) ih =
+          let h : head_of (slice_get hops x) ≡ None = ap head_of hop.1 ∙ ap place_of is in
+          absurd (none_some _ h b.0)
+      by_way (To j) is (inl b) ih =
+          let l : last_of (slice_get hops x) ≡ false = ap last_of hop.1 ∙ ap is_last is in
+          let s : true ≡ false = sym b.1 ∙ l in let bad : ⊥ = cc in absurd bad
+      by_way (To j) is (inr b) ih =
+          let w : (last edge.0 → ⊥) × ((u : ℕ) × (g.target edge.0 ≡ Some u) × (slice_get nodes j ≡ Some u)) = way_is (To j) is in
+          let to : head_of (slice_get hops x) ≡ Some j = ap head_of hop.1 ∙ ap place_of is in
+          let behind : (es : List ℕ) × EndsWith g last (Some w.1.0) es × (total c es ≡ total (costs hops) xs) = ih w.1.0 j w.1.2 (subst (λ o. EndsWith (graph_of hops) (IsLast hops) o xs) to b.1) in
+          let rest : EndsWith g last (g.target edge.0) behind.0 = subst (λ o. EndsWith g last o behind.0) (sym w.1.1) behind.1 in
+          let same : total c behind.0 ≡ total (costs hops) xs = behind.2 in
+          (edge.0 ∷ behind.0, (below, from, inr (ap is_some w.1.1, rest)), (let t : c edge.0 + total c behind.0 ≡ cost_of (slice_get hops x) + total (costs hops) xs = omega (arith, price) in t))
+      by_way Stop is (inl b) ih =
+          let l : last_of (slice_get hops x) ≡ false = ap last_of hop.1 ∙ ap is_last is in
+          let s : true ≡ false = sym b.1 ∙ l in let bad : ⊥ = cc in absurd bad
+      by_way Stop is (inr b) ih =
+          let h : head_of (slice_get hops x) ≡ None = ap head_of hop.1 ∙ ap place_of is in
+          absurd (none_some _ h b.0)
+
+  -- the least by hops is the least in the graph
+  pub local-least : (v i : ℕ) (o : Option ℕ) → slice_get nodes i ≡ Some v → IsLeastIfAny (IsWalkFrom hops i) (total (costs hops)) o → IsLeastIfAny (EndsWith g last (Some v)) (total c) o
+  local-least v i None at least = λ es walk. (let d : (xs : List ℕ) × IsWalkFrom hops i xs × (total (costs hops) xs ≡ total c es) = down es v i at walk in least d.0 d.1)
+  local-least v i (Some m) at least =
+      let u : (es : List ℕ) × EndsWith g last (Some v) es × (total c es ≡ total (costs hops) least.reached.0) = up least.reached.0 v i at least.reached.1 in
+      record {
+        reached = (u.0, u.1, u.2 ∙ least.reached.2);
+        least = λ es walk. (let d : (xs : List ℕ) × IsWalkFrom hops i xs × (total (costs hops) xs ≡ total c es) = down es v i at walk in
+            let le : m ≤ total (costs hops) d.0 = least.least d.0 d.1 in
+            let same : total (costs hops) d.0 ≡ total c es = d.2 in
+            let r : m ≤ total c es = omega arith in r);
+      }
+
+-- the least of two kinds of things
+pub least-lesser : {A : Type 0} (P Q R : A → Type 0) (value : A → ℕ) (p q : Option ℕ) → IsLeastIfAny P value p → IsLeastIfAny Q value q
+    → ((a : A) → P a → R a) → ((a : A) → Q a → R a) → ((a : A) → R a → P a ⊎ Q a) → IsLeastIfAny R value (lesser p q)
+least-lesser P Q R value None None lp lq pr qr rpq = λ a r. ⊎_elim (λ h. lp a h) (λ h. lq a h) (rpq a r)
+least-lesser P Q R value None (Some y) lp lq pr qr rpq = record {
+  reached = (lq.reached.0, qr lq.reached.0 lq.reached.1, lq.reached.2);
+  least = λ a r. ⊎_elim (λ h. absurd (lp a h)) (λ h. lq.least a h) (rpq a r);
+}
+least-lesser P Q R value (Some x) None lp lq pr qr rpq = record {
+  reached = (lp.reached.0, pr lp.reached.0 lp.reached.1, lp.reached.2);
+  least = λ a r. ⊎_elim (λ h. lp.least a h) (λ h. absurd (lq a h)) (rpq a r);
+}
+least-lesser P Q R value (Some x) (Some y) lp lq pr qr rpq = by_test (nat_le x y) refl
+  where
+    le-true : (x y : ℕ) → nat_le x y ≡ true → x ≤ y
+    le-true x y h = grind (arith, nat_tests)
+
+    le-false : (x y : ℕ) → nat_le x y ≡ false → y ≤ x
+    le-false x y h = grind (arith, nat_tests)
+
+    by_test : (b : Bool) → nat_le x y ≡ b → IsLeastIfAny R value (cond b (Some x) (Some y))
+    by_test true is = record {
+      reached = (lp.reached.0, pr lp.reached.0 lp.reached.1, lp.reached.2);
+      least = λ a r. ⊎_elim (λ h. lp.least a h) (λ h. (let le : y ≤ value a = lq.least a h in let xy : x ≤ y = le-true x y is in let r : x ≤ value a = omega arith in r)) (rpq a r);
+    }
+    by_test false is = record {
+      reached = (lq.reached.0, qr lq.reached.0 lq.reached.1, lq.reached.2);
+      least = λ a r. ⊎_elim (λ h. (let le : x ≤ value a = lp.least a h in let yx : y ≤ x = le-false x y is in let r : y ≤ value a = omega arith in r)) (λ h. lq.least a h) (rpq a r);
+    }
+
+abbrev pub IsExitWay : Graph → Least → ℕ → EndWay → Type 0
+IsExitWay g n v Exits = is_some (n.to_exit v) ≡ true
+IsExitWay g n v (Returns e) = ⊥
+
+abbrev pub IsReturnWay : Graph → Least → ℕ → EndWay → Type 0
+IsReturnWay g n v Exits = ⊥
+IsReturnWay g n v (Returns e) = (is_some (n.to_return v) ≡ true) × IsReturnTo g n v e
+
+exit-least : (g : Graph) (n : Least) (v : ℕ) (x : Option ℕ) → n.to_exit v ≡ x → IsLeastIfAny (IsExitWay g n v) (way_cost g n v) x
+exit-least g n v None is = none
+  where
+    none : (way : EndWay) → IsExitWay g n v way → ⊥
+    none Exits h = none_some _ is h
+    none (Returns e) h = h
+exit-least g n v (Some x) is = record { reached = (Exits, ap is_some is, same); least = least }
+  where
+    same : unwrap_or (n.to_exit v) 0 ≡ x
+    same = ap (λ (o : Option ℕ). unwrap_or o 0) is
+
+    least : (way : EndWay) → IsExitWay g n v way → x ≤ way_cost g n v way
+    least Exits h = omega (arith, same)
+    least (Returns e) h = absurd h
+
+return-least : (g : Graph) (n : Least) (v : ℕ) (r a : Option ℕ) → n.to_return v ≡ r → IsLeastIfAny (IsReturnTo g n v) (end_after g n) a → IsLeastIfAny (IsReturnWay g n v) (way_cost g n v) (both r a)
+return-least g n v None a is least = none
+  where
+    none : (way : EndWay) → IsReturnWay g n v way → ⊥
+    none Exits h = h
+    none (Returns e) h = none_some _ is h.0
+return-least g n v (Some r) None is least = none
+  where
+    none : (way : EndWay) → IsReturnWay g n v way → ⊥
+    none Exits h = h
+    none (Returns e) h = least e h.1
+return-least g n v (Some r) (Some m) is least = record {
+  reached = (Returns least.reached.0, (ap is_some is, least.reached.1), (let e : end_after g n least.reached.0 ≡ m = least.reached.2 in let t : unwrap_or (n.to_return v) 0 + end_after g n least.reached.0 ≡ r + m = omega (arith, same) in t));
+  least = at_least;
+}
+  where
+    same : unwrap_or (n.to_return v) 0 ≡ r
+    same = ap (λ (o : Option ℕ). unwrap_or o 0) is
+
+    at_least : (way : EndWay) → IsReturnWay g n v way → r + m ≤ way_cost g n v way
+    at_least Exits h = absurd h
+    at_least (Returns e) h = let le : m ≤ end_after g n e = least.least e h.1 in omega (arith, same)
+
+-- Z of a node, from the least Z behind the calls of its function that come back
+pub end-least : (g : Graph) (n : Least) (v : ℕ) (behind : Option ℕ) → IsLeastIfAny (IsReturnTo g n v) (end_after g n) behind
+    → n.to_end v ≡ lesser (n.to_exit v) (both (n.to_return v) behind) → IsLeastIfAny (IsWay g n v) (way_cost g n v) (n.to_end v)
+end-least g n v behind least is = subst (λ o. IsLeastIfAny (IsWay g n v) (way_cost g n v) o) (sym is)
+    (least-lesser (IsExitWay g n v) (IsReturnWay g n v) (IsWay g n v) (way_cost g n v) (n.to_exit v) (both (n.to_return v) behind)
+    (exit-least g n v (n.to_exit v) refl) (return-least g n v (n.to_return v) behind refl least) exits returns either)
+  where
+    exits : (way : EndWay) → IsExitWay g n v way → IsWay g n v way
+    exits Exits h = h
+    exits (Returns e) h = absurd h
+
+    returns : (way : EndWay) → IsReturnWay g n v way → IsWay g n v way
+    returns Exits h = absurd h
+    returns (Returns e) h = h
+
+    either : (way : EndWay) → IsWay g n v way → IsExitWay g n v way ⊎ IsReturnWay g n v way
+    either Exits h = inl h
+    either (Returns e) h = inr h
+
+-- A number of a node that was found by hops, or of an address at which no edge starts.
+abbrev pub IsFound : Graph → (ℕ → Type 0) → (ℕ → ℕ) → ℕ → Option ℕ → Type 0
+IsFound g last c v o =
+    ((nodes : List ℕ) × (edges : List ℕ) × (hops : List Hop) × (i : ℕ) × AreLocal g last c nodes edges hops × (slice_get nodes i ≡ Some v) × IsLeastIfAny (IsWalkFrom hops i) (total (costs hops)) o)
+    ⊎ (((e : ℕ) → e < g.edges → g.source e ≡ v → ⊥) × (o ≡ None))
+
+found-least : (g : Graph) (last : ℕ → Type 0) (c : ℕ → ℕ) (v : ℕ) (o : Option ℕ) → IsFound g last c v o → IsLeastIfAny (EndsWith g last (Some v)) (total c) o
+found-least g last c v o (inl (nodes, edges, hops, i, local, at, least)) = local-least g last c nodes edges hops local v i o at least
+found-least g last c v o (inr (none, is)) = subst (λ x. IsLeastIfAny (EndsWith g last (Some v)) (total c) x) (sym is) nothing
+  where
+    nothing : (es : List ℕ) → EndsWith g last (Some v) es → ⊥
+    nothing [] walk = walk
+    nothing (e ∷ es) walk = none e walk.0 (sym (some_eq _ _ walk.1))
+
+-- The tables of R, Zx and Z, each found by hops or from the calls, are the least numbers.
+pub are-least : (g : Graph) (w : ℕ → ℕ) (n : Least) → ((v : ℕ) → IsFound g (IsReturn g) (least_cost g w n) v (n.to_return v))
+    → ((v : ℕ) → IsFound g (IsExit g n) (least_cost g w n) v (n.to_exit v))
+    → ((v : ℕ) → (behind : Option ℕ) × IsLeastIfAny (IsReturnTo g n v) (end_after g n) behind × (n.to_end v ≡ lesser (n.to_exit v) (both (n.to_return v) behind)))
+    → AreLeast g w n
+are-least g w n returns exits ends = record {
+  to_return = λ v. found-least g (IsReturn g) (least_cost g w n) v (n.to_return v) (returns v);
+  to_exit = λ v. found-least g (IsExit g n) (least_cost g w n) v (n.to_exit v) (exits v);
+  to_end = λ v. end-least g n v (ends v).0 (ends v).1 (ends v).2;
+}

@@ -1,0 +1,221 @@
+-- A rewritten image follows the original in time, and keeps the promise.
+use Rattle.std.proofs.Common.{◌≡◌, ◌≢◌, ℕ, zero, suc, ◌+◌, ◌*◌, ◌^◌, ◌<◌, ◌≤◌, ◌⊎◌, inl, inr, Bool, true, false, List, [], ◌∷◌, map, length, slice_get, Option, Some, None, Ok, refl, sym, ap, ◌∙◌, subst, arith}
+use Rattle.std.specs.Prelude.{All, IsTrue, min, find, nat_le}
+use Rattle.std.specs.List.{range_with_len, list_any}
+use Rattle.std.proofs.lemmas.Bool.{cases_lt}
+use Rattle.std.proofs.lemmas.List.{length-map}
+use Rattle.std.proofs.lemmas.List.Elements.{All-nil, All-cons}
+use Rattle.std.proofs.lemmas.Option.{get_or_from_slice_get}
+use Rattle.scale_base.specs.declared.ranges.Patch.{Patch}
+use Rattle.scale_base.specs.Image.{Image, image_of, contents, is_in, is_word_address}
+use Rattle.scale_base.specs.Layout.{layout_of, is_keyed}
+use Rattle.scale_base.specs.Word.{word_of}
+use Rattle.scale_base.proofs.Accepted.{contents-are}
+use Rattle.power_model.specs.Numbers.{PowerModel, IsPowerModel}
+use Rattle.power_model.specs.Price.{time_at}
+use Rattle.power_model.specs.Slowest.{slowest_of, is_in_time}
+use Rattle.elf_patch.specs.Stored.{stored_image, IsStubBase}
+use Rattle.stored_laws.specs.StoredView.{IsStorable, stored_view}
+use Rattle.stored_laws.proofs.Whole.{law}
+use Rattle.text_laws.proofs.Tests.{found_in, found_passes}
+use Rattle.cost_theory.specs.Graph.{Graph, Loops, sum_below, only}
+use Rattle.cost_theory.specs.Laws.{IsAnalyzed}
+use Rattle.cost_theory.specs.Least.{Least, AreLeast}
+use Rattle.cost_theory.specs.Worst.{Numbers, AreNumbers}
+use Rattle.cost_theory.specs.Reached.{edge_at}
+use Rattle.cost_theory.proofs.Programs.{source_reached, some_get}
+use Rattle.graph_runs.specs.EdgeCosts.{weights}
+use Rattle.graph_runs.specs.RunMoves.{text_graph}
+use Rattle.graph_runs.specs.Text.{text_of, kind_at}
+use Rattle.code_graph.specs.FlowGraph.{FlowGraph, graph}
+use Rattle.loop_file.specs.declared.notes.LoopNote.{LoopNote}
+use Rattle.loop_file.specs.Kept.{noted_loops}
+use Rattle.natural_loops.specs.Noted.{node_address}
+use Rattle.loop_tree.specs.Tree.{LoopView, loops, IsInnermost}
+use Rattle.scale_sites.specs.Counters.{counted_loops, set_from}
+use Rattle.scale_sites.specs.Marks.{AreLoops}
+use Rattle.scale_sites.specs.Sites.{is_branch}
+use Rattle.stub_writer.specs.Stubs.{Site, block_size, block_bytes, patches_from, stub_len, jump, out_of_reach}
+use Rattle.stored_runs.specs.Stubbed.{IsStubbed, IsSafeSite}
+use Rattle.stored_runs.proofs.Frame.{frame}
+use Rattle.marked_runs.specs.Marked as marked_specs
+use Rattle.marked_runs.proofs.Graphs.{weights_of_calls}
+use Rattle.leg_prices.specs.Paid.{period, costs_of}
+use Rattle.paid_runs.specs.Timely.{weights_of}
+use Rattle.rewritten_runs.specs.Laws.{IsSafelyRewritten, RewrittenImagesFollow}
+use Rattle.rewritten_runs.specs.Stubs.{IsWeighed, HasStubs, marks_by_slack, stored_weights, extra_weights, rewritten_file, loop_of}
+use Rattle.rewritten_runs.proofs.Programs.{loops_noted}
+use Rattle.rewritten_runs.proofs.Supplied.{IsSupplied}
+use Rattle.rewritten_runs.proofs.Follows.{follows, keeps}
+use Rattle.rewritten_runs.proofs.Marked.{program_is, graph_program, countable, are_marked, limited, shadows, loop_count, counted_is}
+use Rattle.rewritten_runs.proofs.MarkOrder.{in_get, set_distinct}
+use Rattle.rewritten_runs.proofs.FewMarks.{depth, few_marks}
+use Rattle.rewritten_runs.proofs.SafeSites.{safe_sites, bound_small}
+use Rattle.rewritten_runs.proofs.Short.{block_short, block_bytes_len}
+use Rattle.rewritten_runs.proofs.Tabled.{are_tables}
+use Rattle.rewritten_runs.proofs.Weighed.{stored_same, extra_same}
+
+-- the file of an image is the one that it was read from
+contents_file : (file : List ℕ) → (contents file).file ≡ file
+unfolding contents
+contents_file file = refl
+
+pub file_is : (file : List ℕ) (image : Image) → image_of file ≡ Ok image → image.file ≡ file
+file_is file image e = sym (ap (λ (i : Image). i.file) (contents-are file image e)) ∙ contents_file file
+
+-- the patches are on words of the text
+patched_words : (image : Image) (at : ℕ) (sites : List Site) → All (λ s. is_word_address image s.at ≡ true) sites → All (λ p. IsTrue (is_word_address image p.at)) (patches_from at sites)
+patched_words image at [] h = All-nil (λ p. IsTrue (is_word_address image p.at))
+patched_words image at (site ∷ sites) h =
+    All-cons (λ p. IsTrue (is_word_address image p.at)) (record { at = site.at; word = word_of (jump site.at at) }) (patches_from (at + 4 * stub_len site) sites) (h 0 site (omega arith)) (patched_words image (at + 4 * stub_len site) sites (λ k d lt. h (suc k) d (omega arith)))
+
+found_below : (p : ℕ → Bool) (a n x : ℕ) → find p (range_with_len a n) ≡ Some x → x < a + n
+found_below p a zero x e = absurd cc
+found_below p a (suc n) x e =
+    elim (found_in (p a) x a (find p (range_with_len (a + 1) n)) e) [
+      | inl h ↦ omega (arith, h.1)
+      | inr h ↦ omega (arith, found_below p (a + 1) n x h.1)
+    ]
+
+module _ (power : PowerModel) (ok : IsPowerModel power) (file : List ℕ) (image : Image) (notes : List LoopNote) (v : FlowGraph) (tree : LoopView) (plain stored extra : Numbers) (least : Least) (sites : List Site) (base start : ℕ)
+    (read : image_of file ≡ Ok image) (no_key : image.keyed_segment ≡ None) (short_file : length file ≤ 4194304) (weighed : IsWeighed power image notes v tree plain stored) (slow : slowest_of power (stored.worst 0) ≡ Some start)
+    (stubs : HasStubs power image v tree plain stored extra least sites base) (near : out_of_reach base sites ≡ None) where
+  abbrev l : Loops
+  l = loops v tree
+
+  abbrev g : Graph
+  g = text_graph (text_of image) v.code
+
+  abbrev extent : ℕ → ℕ → Bool
+  extent = (noted_loops notes).inside
+
+  abbrev levels : ℕ
+  levels = length power.levels
+
+  abbrev limits : ℕ → ℕ
+  limits w = l.bound (loop_of (counted_loops tree) w)
+
+  prog : Rattle.graph_runs.specs.Laws.IsProgramOf (text_of image) v.code l extent
+  prog = program_is power image notes v tree plain stored weighed
+
+  -- ---- marks are few
+
+  innermost_of : (u : ℕ) (o : Option ℕ) → IsInnermost l u o → ((o ≡ None) × ((k : ℕ) → k < l.loops → l.inside k u ≡ true → ⊥)) ⊎ ((j : ℕ) × (j < l.loops) × (l.inside j u ≡ true) × ((k w : ℕ) → k < l.loops → l.inside k u ≡ true → l.inside j w ≡ true → l.inside k w ≡ true))
+  innermost_of u None h = inl (refl, h)
+  innermost_of u (Some j) h = inr (j, h.0, h.1, λ k w kl on there. h.2 k w kl on there)
+
+  flag_count : length tree.counted ≡ l.loops
+  flag_count = let a = weighed.tree_is.tree.counted_size in let b = loop_count power image notes v tree plain stored weighed in omega (arith, a, b)
+
+  are_loops : AreLoops l (counted_loops tree)
+  are_loops k h = let at = in_get k (counted_loops tree) h in (counted_is power image notes v tree plain stored weighed at.0 k at.1).loop
+
+  few : (e : ℕ) → e < length v.code.edges → length (marks_by_slack power image v tree plain e) ≤ 17
+  few e lt =
+      let r = source_reached (kind_at (text_of image)) image.entry v.code prog.reached.lists prog.reached.words e lt in
+      let node = (prog.reached.lists.nodes (edge_at (slice_get v.code.edges e))).1 r in
+      let size = weighed.tree_is.tree.innermost_size in
+      let within = Rattle.std.proofs.lemmas.Option.slice_get_within v.code.nodes node.0 (edge_at (slice_get v.code.edges e)) node.1 in
+      let o = some_get tree.innermost node.0 (omega (arith, size, within)) in
+      let address : node_address v node.0 ≡ edge_at (slice_get v.code.edges e) = get_or_from_slice_get v.code.nodes node.0 (edge_at (slice_get v.code.edges e)) 0 node.1 in
+      let is = weighed.tree_is.tree.innermost node.0 o.0 o.1 in
+      let gp = graph_program power image notes v tree plain stored weighed in
+      let d = depth g l extent gp prog.loops tree.counted flag_count are_loops (set_distinct 0 tree.counted) (edge_at (slice_get v.code.edges e)) o.0 (innermost_of (edge_at (slice_get v.code.edges e)) o.0 (subst (λ a. IsInnermost l a o.0) address is)) in
+      few_marks g l extent gp prog.loops tree.counted flag_count are_loops (set_distinct 0 tree.counted) e (is_branch v e) _ power.min_gain lt d
+
+  -- ---- the stored image
+
+  safe : All (IsSafeSite image levels limits) sites
+  safe = safe_sites power ok image notes v tree plain stored weighed least sites stubs.sites_are few
+
+  size_small : block_size sites ≤ 4194304
+  size_small = block_short file image levels limits sites base (min (block_size sites) 4194304) read (omega arith) stubs.base_is safe near
+
+  same_len : min (block_size sites) 4194304 ≡ length (block_bytes base sites)
+  same_len = let n = block_bytes_len base sites in omega (arith, n, size_small)
+
+  start_low : start < levels
+  start_low = let lt = found_below (is_in_time power (stored.worst 0)) 0 levels start slow in omega (arith, lt)
+
+  storable : IsStorable image (patches_from base sites) base (block_bytes base sites) start
+  storable = record {
+    file = (let n = ap length (file_is file image read) in omega (arith, n, short_file));
+    no_key = no_key;
+    words = patched_words image base sites (λ k d lt. (stubs.sites_are.words k d lt).0);
+    place = subst (λ n. IsStubBase image n base) same_len stubs.base_is;
+    block_short = (let n = block_bytes_len base sites in omega (arith, n, size_small));
+    start_small = (let few = ok.few in omega (arith, start_low, few));
+  }
+
+  abbrev rewritten : Image
+  rewritten = stored_view image (stored_image file (patches_from base sites) base (block_bytes base sites) start) base (block_bytes base sites) start
+
+  stubbed : IsStubbed file image levels limits sites base start rewritten
+  stubbed = record {
+    read = read;
+    storable = storable;
+    stored_is = law file image (patches_from base sites) base (block_bytes base sites) start read storable;
+    near = near;
+    ascending = stubs.sites_are.ascending;
+    safe = safe;
+    start_is_level = start_low;
+    few_levels = ok.few;
+    small_limits = λ k. let b = bound_small power ok image notes v tree plain stored weighed least sites stubs.sites_are few (loop_of (counted_loops tree) k) in omega (arith, b);
+  }
+
+  -- ---- what the laws ask
+
+  same_stored : weights_of power (text_of image) v.code sites ≡ stored_weights power image v (marks_by_slack power image v tree plain)
+  same_stored = stored_same power image notes v tree plain stored weighed least sites stubs.sites_are
+
+  same_extra : marked_specs.extra_weights (text_of image) v.code (costs_of power) sites ≡ extra_weights power v (marks_by_slack power image v tree plain)
+  same_extra = extra_same power image notes v tree plain stored weighed least sites stubs.sites_are
+
+  in_time_is : (w i deadline : ℕ) → nat_le w deadline ≡ true → w ≤ deadline
+  in_time_is w i deadline h = Rattle.rewritten_runs.proofs.TableLaws.leb-le w deadline h
+
+  supplied : IsSupplied power file image notes v tree plain stored extra least sites base start rewritten
+  supplied = record {
+    limits = limits;
+    ok = ok;
+    graph_is = weighed.code_is.graph_is;
+    same_loops = loops_noted v notes tree weighed.tree_is;
+    stubbed = stubbed;
+    program = prog;
+    countable = countable power image notes v tree plain stored weighed;
+    marked = are_marked power image notes v tree plain stored weighed sites least stubs.sites_are.ways;
+    limited = limited power image notes v tree plain stored weighed;
+    shadows = shadows power image notes v tree plain stored weighed;
+    analyzed = record {
+      program = graph_program power image notes v tree plain stored weighed;
+      accepted = prog.loops;
+      weights = (weights_of_calls image levels limits sites v.code (costs_of power) safe).0;
+      numbers = subst (λ (q : Graph). AreNumbers q l (weights_of power (text_of image) v.code sites) stored) (sym weighed.code_is.graph_is) (subst (λ (w : ℕ → ℕ). AreNumbers (graph v) l w stored) (sym same_stored) weighed.stored_are);
+    };
+    extra_analyzed = record {
+      program = graph_program power image notes v tree plain stored weighed;
+      accepted = prog.loops;
+      weights = (weights_of_calls image levels limits sites v.code (costs_of power) safe).1;
+      numbers = subst (λ (q : Graph). AreNumbers q l (marked_specs.extra_weights (text_of image) v.code (costs_of power) sites) extra) (sym weighed.code_is.graph_is) (subst (λ (w : ℕ → ℕ). AreNumbers (graph v) l w extra) (sym same_extra) stubs.extra_are);
+    };
+    least_are = subst (λ (q : Graph). AreLeast q (weights_of power (text_of image) v.code sites) least) (sym weighed.code_is.graph_is) (subst (λ (w : ℕ → ℕ). AreLeast (graph v) w least) (sym same_stored) stubs.least_are);
+    tables = are_tables power ok image notes v tree plain stored weighed least sites stubs.sites_are;
+    plain_are = subst (λ (q : Graph). AreNumbers q l (weights (text_of image) v.code (costs_of power)) plain) (sym weighed.code_is.graph_is) weighed.plain_are;
+    in_time = in_time_is (time_at power start (stored.worst 0)) start power.deadline (found_passes (is_in_time power (stored.worst 0)) (range_with_len 0 levels) start slow);
+    weights_are = same_stored;
+  }
+
+  off_key : (a : ℕ) → list_any (is_in a) image.text ≡ true → is_keyed (layout_of rewritten) a ≡ false
+  off_key a on = ((frame file image rewritten sites base start levels [] read storable stubbed.stored_is stubs.sites_are.ascending).alike a on).right
+
+  pub rewritten_is_safe : IsSafelyRewritten power image notes v tree plain stored (extra.worst 0) (rewritten_file image sites base start)
+  rewritten_is_safe = record {
+    rewritten = rewritten;
+    is = ap (λ f. image_of (stored_image f (patches_from base sites) base (block_bytes base sites) start)) (file_is file image read) ∙ stubbed.stored_is;
+    promise = keeps power file image notes v tree plain stored extra least sites base start rewritten supplied off_key;
+    follows = follows power file image notes v tree plain stored extra least sites base start rewritten supplied off_key;
+  }
+
+pub rewritten_follow : RewrittenImagesFollow
+rewritten_follow = λ power ok file image notes v t plain stored extra least sites base start read no_key short weighed _ slow stubs near.
+    rewritten_is_safe power ok file image notes v t plain stored extra least sites base start read no_key short weighed slow stubs near

@@ -1,0 +1,17 @@
+pub mod Programs
+pub mod MarkLists
+pub mod TableLaws
+pub mod Edges
+pub mod Marked
+pub mod Weighed
+pub mod MarkOrder
+pub mod SafeSites
+pub mod Tabled
+pub mod Short
+pub mod FewMarks
+pub mod Supplied
+pub mod Places
+pub mod Follows
+pub mod Law
+pub mod Grows
+pub mod CallWeights

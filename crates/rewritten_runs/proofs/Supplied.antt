@@ -1,0 +1,43 @@
+-- What the laws of stored runs ask of a rewritten program, all together.
+use Rattle.std.proofs.Common.{◌≡◌, ℕ, ◌*◌, ◌<◌, ◌≤◌, true, List, length}
+use Rattle.scale_base.specs.Image.{Image}
+use Rattle.power_model.specs.Numbers.{PowerModel, IsPowerModel}
+use Rattle.cost_theory.specs.Laws.{IsAnalyzed}
+use Rattle.cost_theory.specs.Least.{Least, AreLeast}
+use Rattle.cost_theory.specs.Worst.{Numbers, AreNumbers}
+use Rattle.graph_runs.specs.EdgeCosts.{weights}
+use Rattle.graph_runs.specs.KeptSteps.{by_extents}
+use Rattle.graph_runs.specs.Laws.{IsProgramOf}
+use Rattle.graph_runs.specs.RunMoves.{text_graph}
+use Rattle.graph_runs.specs.Text.{text_of}
+use Rattle.code_graph.specs.FlowGraph.{FlowGraph, graph}
+use Rattle.loop_file.specs.declared.notes.LoopNote.{LoopNote}
+use Rattle.loop_file.specs.Kept.{noted_loops}
+use Rattle.loop_tree.specs.Tree.{LoopView, loops}
+use Rattle.stub_writer.specs.Fragments.{IsShadow}
+use Rattle.stub_writer.specs.Stubs.{Site}
+use Rattle.stored_runs.specs.Stubbed.{IsStubbed}
+use Rattle.shadow_counts.specs.Shadows.{AreCountable}
+use Rattle.marked_runs.specs.Marked as marked_specs
+use Rattle.leg_prices.specs.Paid.{period, costs_of}
+use Rattle.paid_runs.specs.Timely.{weights_of, AreTables}
+use Rattle.rewritten_runs.specs.Stubs.{stored_weights, marks_by_slack, is_counted, counter_of}
+
+pub record IsSupplied (power : PowerModel) (file : List ℕ) (image : Image) (notes : List LoopNote) (v : FlowGraph) (tree : LoopView) (plain stored extra : Numbers) (least : Least) (sites : List Site) (base start : ℕ) (rewritten : Image) : Type 0 where
+  pub limits : ℕ → ℕ
+  pub ok : IsPowerModel power
+  pub graph_is : text_graph (text_of image) v.code ≡ graph v
+  pub same_loops : by_extents (loops v tree) (noted_loops notes).inside ≡ noted_loops notes
+  pub stubbed : IsStubbed file image (length power.levels) limits sites base start rewritten
+  pub program : IsProgramOf (text_of image) v.code (loops v tree) (noted_loops notes).inside
+  pub countable : AreCountable (text_graph (text_of image) v.code) (loops v tree) (is_counted tree)
+  pub marked : marked_specs.AreMarked (text_of image) v.code (loops v tree) sites (is_counted tree) (counter_of tree)
+  pub limited : marked_specs.AreLimits (loops v tree) (is_counted tree) (counter_of tree) limits
+  pub shadows : (k : ℕ) → k < (loops v tree).loops → is_counted tree k ≡ true → IsShadow (counter_of tree k)
+  pub analyzed : IsAnalyzed (text_graph (text_of image) v.code) (loops v tree) (noted_loops notes).inside (weights_of power (text_of image) v.code sites) stored
+  pub extra_analyzed : IsAnalyzed (text_graph (text_of image) v.code) (loops v tree) (noted_loops notes).inside (marked_specs.extra_weights (text_of image) v.code (costs_of power) sites) extra
+  pub least_are : AreLeast (text_graph (text_of image) v.code) (weights_of power (text_of image) v.code sites) least
+  pub tables : AreTables power (text_of image) v.code (loops v tree) sites (is_counted tree) (counter_of tree) stored least
+  pub plain_are : AreNumbers (text_graph (text_of image) v.code) (loops v tree) (weights (text_of image) v.code (costs_of power)) plain
+  pub in_time : stored.worst 0 * period power start ≤ power.deadline
+  pub weights_are : weights_of power (text_of image) v.code sites ≡ stored_weights power image v (marks_by_slack power image v tree plain)

@@ -1,0 +1,5 @@
+pub mod Prices
+pub mod Stubs
+pub mod Promise
+pub mod Followed
+pub mod Laws

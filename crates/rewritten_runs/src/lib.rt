@@ -1,0 +1,9 @@
+//! Runs of rewritten images: they follow those of the original, in time, and never faster than before.
+#![tactic(auto)]
+
+ghost use Rattle.rewritten_runs.specs.Laws.{RewrittenImagesFollow};
+
+/// The file that is stored of a program with its stubs is an image, which keeps the promise and follows the original in time.
+pub fn rewritten_images_follow()
+    ensures { RewrittenImagesFollow }
+{}

@@ -1,0 +1,4 @@
+mod Costing
+pub mod OneExit
+mod CounterLaws
+mod SiteLaws

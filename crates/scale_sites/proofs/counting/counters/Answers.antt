@@ -1,0 +1,10 @@
+use Rattle.std.proofs.Common.{◌≡◌, ◌+◌, ◌≤◌, inl, inr, sym, ap, ◌∙◌, refl}
+use Rattle.cost_theory.specs.Reached.{edge_at}
+use Rattle.scale_base.specs.declared.refusal.Refusal.TheVariants.{Uncountable}
+use Rattle.scale_sites.proofs.counting.counters.Goals as goal
+
+pub edge-at-requires : goal.edge-at-requires
+edge-at-requires c = (c.first_uncountable.ensures.some c.in-Some.b c.in-Some.is).is.edge
+
+pub loop_number-requires : goal.loop_number-requires
+loop_number-requires c = (c.first_uncountable.ensures.some c.in-Some.b c.in-Some.is).is.within

@@ -1,0 +1,7 @@
+use Rattle.std.proofs.Common.{map, Vec, Global}
+use Rattle.scale_sites.specs.declared.mark.Mark.{Mark}
+use Rattle.scale_sites.specs.Sites.{AreMarks}
+use Rattle.scale_sites.proofs.sites.all_marks.Given as goal
+
+abbrev pub invariant-loop-e : goal.invariant-loop-e
+invariant-loop-e l = AreMarks l.graph l.tree l.counted l.slacks l.min_gain l.e (map (λ (m : Vec Mark Global). m.items) l.marks.items)

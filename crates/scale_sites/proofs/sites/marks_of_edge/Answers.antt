@@ -1,0 +1,27 @@
+use Rattle.std.proofs.Common.{◌≡◌, ◌<◌, ◌≤◌, List, length, slice_get, sym, ap, ◌∙◌, Some, None, ℕ, subst}
+use Rattle.std.proofs.lemmas.Option.{slice_get_within, slice_get-get_or, get_or_from_slice_get}
+use Rattle.code_graph.specs.FlowGraph.{graph}
+use Rattle.natural_loops.specs.Noted.{node_address}
+use Rattle.loop_tree.specs.Tree.{loops}
+use Rattle.scale_sites.specs.declared.mark.Mark.{Mark}
+use Rattle.scale_sites.specs.Marks.{numbered, marks_at}
+use Rattle.scale_sites.specs.Sites.{edge_branches, is_branch}
+use Rattle.scale_sites.proofs.SiteLaws.{marks_same, marks_few}
+use Rattle.scale_sites.proofs.sites.marks_of_edge.Goals as goal
+
+pub returns-clause-marks : goal.returns-clause-marks
+returns-clause-marks c =
+    let v = c.args.graph.now in
+    let t = c.args.tree.now in
+    let branch : c.is_branch-branch.result ≡ is_branch v c.args.e = c.is_branch-branch.ensures ∙ sym (ap edge_branches c.edge.ensures) in
+    let from : node_address v c.source_of.result ≡ (graph v).source c.args.e = get_or_from_slice_get v.code.nodes c.source_of.result _ 0 c.source_of.ensures in
+    let within : c.source_of.result < length v.code.nodes = slice_get_within v.code.nodes c.source_of.result _ c.source_of.ensures in
+    c.in_ok-marks.ensures
+    ∙ ap (λ b. marks_at (numbered t) c.args.counted.now b c.args.slack c.args.min_gain c.source_of.result c.target.result) branch
+    ∙ marks_same v t c.requires.tree.0 c.requires.flow c.requires.tree.1 c.source_of.result c.target.result within c.target.ensures.within ((graph v).target c.args.e) c.target.ensures.none
+    (λ m is. c.target.ensures.some m is ∙ slice_get-get_or v.code.nodes m 0 (c.target.ensures.within m is)) c.args.counted.now (is_branch v c.args.e) c.args.slack c.args.min_gain c.requires.below
+    ∙ ap (λ u. marks_at (loops v t) c.args.counted.now (is_branch v c.args.e) c.args.slack c.args.min_gain u ((graph v).target c.args.e)) from
+
+pub returns-clause-few : goal.returns-clause-few
+returns-clause-few c =
+    subst (λ (ms : List Mark). length ms ≤ 1600) (sym c.in_ok-marks.ensures) (marks_few (numbered c.args.tree.now) c.args.counted.now c.is_branch-branch.result c.args.slack c.args.min_gain c.source_of.result c.target.result c.requires.counters)

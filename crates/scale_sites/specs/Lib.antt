@@ -1,0 +1,4 @@
+pub mod Marks
+pub mod Weights
+pub mod Counters
+pub mod Sites

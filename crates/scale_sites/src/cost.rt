@@ -1,0 +1,55 @@
+//! What marks cost.
+
+ghost use Rattle.std.specs.Prelude.{◌≡◌, ◌≤◌, ◌*◌, ◌+◌, length, true};
+ghost use Rattle.scale_sites.specs.Weights.{mark_cost, marks_cost, switches, tail_of, extra_of};
+
+use crate::mark::Mark;
+use power_model::Costs;
+
+/// The cost of a mark's fragment.
+fn mark_cost(mark: &Mark, costs: &Costs) -> u32
+    ensures cost { result ≡ mark_cost costs.now mark.now }
+    ensures small { result ≤ 16 * 65535 }
+{
+    let (stores, loads, alus) = match *mark {
+        Mark::Switch => (3, 3, 5),
+        Mark::Exit(_) => (4, 5, 7),
+        Mark::Reset(_) => (1, 0, 0),
+        Mark::Count(_) => (2, 2, 1),
+    };
+    stores * u32::from(costs.store) + loads * u32::from(costs.load) + alus * u32::from(costs.alu)
+}
+
+/// The cost of the fragments of a list of marks.
+fn marks_cost(marks: &[Mark], costs: &Costs) -> u32
+    requires few { length marks.now ≤ 1600 }
+    ensures cost { result ≡ marks_cost costs.now marks.now }
+    ensures small { result ≤ 1600 * (16 * 65535) }
+{
+    let mut total = 0;
+    let mut k = marks.len();
+    while k > 0 {
+        k -= 1;
+        total += mark_cost(&marks[k], costs);
+    }
+    total
+}
+
+/// What an edge costs besides its own cycles: its jumps and its marks.
+pub fn extra_of(marks: &[Mark], jumps: u8, costs: &Costs) -> u32
+    requires few { length marks.now ≤ 1600 }
+    requires jumps { jumps ≤ 2 }
+    ensures extra { result ≡ extra_of costs.now jumps marks.now }
+    ensures small { result ≤ 2 * 65535 + 1600 * (16 * 65535) }
+{
+    u32::from(jumps) * u32::from(costs.jump) + marks_cost(marks, costs)
+}
+
+/// The cycles of an edge behind its port store: two loads, the marks behind the first, and the closing jump.
+pub fn tail_of(marks: &[Mark], costs: &Costs) -> u32
+    requires few { length marks.now ≤ 1600 }
+    requires switches { switches marks.now ≡ true }
+    ensures { result ≡ tail_of costs.now marks.now }
+{
+    2 * u32::from(costs.load) + marks_cost(&marks[1..], costs) + u32::from(costs.jump)
+}

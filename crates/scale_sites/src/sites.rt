@@ -1,0 +1,265 @@
+//! The marks and the jumps of all edges.
+
+ghost use Rattle.std.specs.Prelude.{◌≡◌, ◌+◌, ◌*◌, ◌<◌, ◌≤◌, ℕ, Bool, true, [], length, map, slice_get, slice_index, slice_index_or, Some, IfOk};
+ghost use Rattle.scale_base.specs.declared.stepping.Class.{Class};
+ghost use Rattle.power_model.specs.Price.{cycles_of};
+ghost use Rattle.cost_theory.specs.Graph.{any_below};
+ghost use Rattle.graph_runs.specs.EdgeCosts.{cost_of};
+ghost use Rattle.code_graph.specs.FlowGraph.{graph as graph_seen, IsFlowGraph};
+ghost use Rattle.loop_tree.specs.Tree.{loops, IsLoopTree};
+ghost use Rattle.scale_sites.specs.Counters.{counted_loops};
+ghost use Rattle.scale_sites.specs.Marks.{AreBelow, marks_of};
+ghost use Rattle.scale_sites.specs.Weights.{switches, tail_of, extra_of, is_patched, jumps_of};
+ghost use Rattle.scale_sites.specs.Sites.{SitesView, is_branch, is_branch_kind, marks_in, marks_at_edge, AreMarks, AreJumps, AreSites};
+
+use crate::cost;
+use crate::counting::CounterList;
+use crate::edge_marks::{Way, edge_marks};
+use crate::mark::Mark;
+use code_graph::{CodeGraph, Weights};
+use cost_theory::EdgeKind;
+use loop_tree::LoopTree;
+use natural_loops::node_at;
+use power_model::Costs;
+use scale_base::{Class, NoMemory};
+use std::alloc::Global;
+use std::marker::Model;
+
+/// By edge, its marks, and the jumps of its stub: none where no edge of its instruction has a mark.
+#[derive(Drop)]
+pub struct Sites {
+    marks: Vec<Vec<Mark>>,
+    jumps: Vec<u8>,
+}
+
+impl Model for Sites {
+    ghost use Rattle.std.specs.Prelude.{map};
+    ghost use Rattle.scale_sites.specs.Sites.{SitesView, IsSites};
+
+    ghost Value = { SitesView };
+
+    ghost view = { λ s. record { marks = map (λ m. m.items) s.marks.items; jumps = s.jumps.items } };
+
+    ghost invariant = { λ s. IsSites (record { marks = map (λ m. m.items) s.marks.items; jumps = s.jumps.items }) };
+}
+
+impl Sites {
+    /// The marks of edge `e`, in their order.
+    pub fn marks(&self, e: usize) -> &[Mark]
+        requires { e < length self.now.marks }
+        ensures { result.now ≡ marks_at_edge self.now e }
+    {
+        &self.marks[e]
+    }
+
+    /// The cycles that edge `e` costs besides its own.
+    pub fn extra(&self, e: usize, costs: &Costs) -> u32
+        requires { e < length self.now.marks }
+        ensures extra { result ≡ extra_of costs.now (slice_index self.now.jumps e) (marks_at_edge self.now e) }
+        ensures small { result ≤ 2 * 65535 + 1600 * (16 * 65535) }
+    {
+        cost::extra_of(&self.marks[e], self.jumps[e], costs)
+    }
+
+    /// The cycles of edge `e` behind its port store. The edge has a Switch or an Exit.
+    pub fn tail(&self, e: usize, costs: &Costs) -> u32
+        requires edge { e < length self.now.marks }
+        requires switches { switches (marks_at_edge self.now e) ≡ true }
+        ensures { result ≡ tail_of costs.now (marks_at_edge self.now e) }
+    {
+        cost::tail_of(&self.marks[e], costs)
+    }
+}
+
+/// Whether an edge is one of a branch.
+fn is_branch(kind: EdgeKind) -> bool
+    ensures { result ≡ is_branch_kind kind }
+{
+    matches!(kind, EdgeKind::Taken | EdgeKind::Untaken)
+}
+
+/// The number of the node at which edge `e` starts.
+fn source_of(graph: &CodeGraph, e: usize) -> usize
+    requires flow { IsFlowGraph graph.now }
+    requires edge { e < length graph.now.code.edges }
+    ensures { slice_get graph.now.code.nodes result ≡ Some ((graph_seen graph.now).source e) }
+{
+    node_at(graph, graph.edge(e).at)
+}
+
+/// The marks of edge `e`, of so much slack.
+fn marks_of_edge(
+    alloc: Global,
+    graph: &CodeGraph,
+    tree: &LoopTree,
+    counted: &[usize],
+    slack: u64,
+    min_gain: u32,
+    e: usize,
+) -> Result<Vec<Mark>, NoMemory>
+    requires flow { IsFlowGraph graph.now }
+    requires tree { (extent : ℕ → ℕ → Bool) × IsLoopTree graph.now extent tree.now }
+    requires counters { length counted.now ≤ 509 }
+    requires below { AreBelow (length tree.now.headers) counted.now }
+    requires edge { e < length graph.now.code.edges }
+    ensures marks { IfOk result (λ m. m.items ≡ marks_of (graph_seen graph.now) (loops graph.now tree.now) counted.now (is_branch graph.now e) slack min_gain e) }
+    ensures few { IfOk result (λ m. length m.items ≤ 1600) }
+{
+    let way = Way {
+        from: source_of(graph, e),
+        to: graph.target(e),
+    };
+    let branch = is_branch(graph.edge(e).kind);
+    let marks = edge_marks(alloc, tree, counted, branch, slack, min_gain, way)?;
+    Ok(marks)
+}
+
+/// By edge, its marks.
+fn all_marks(
+    alloc: Global,
+    graph: &CodeGraph,
+    tree: &LoopTree,
+    counted: &[usize],
+    slacks: &[u64],
+    min_gain: u32,
+) -> Result<Vec<Vec<Mark>>, NoMemory>
+    requires flow { IsFlowGraph graph.now }
+    requires tree { (extent : ℕ → ℕ → Bool) × IsLoopTree graph.now extent tree.now }
+    requires counters { length counted.now ≤ 509 }
+    requires below { AreBelow (length tree.now.headers) counted.now }
+    requires slacks { length slacks.now ≡ length graph.now.code.edges }
+    ensures { IfOk result (λ marks. AreMarks graph.now tree.now counted.now slacks.now min_gain (length graph.now.code.edges) (map (λ m. m.items) marks.items)) }
+{
+    let mut marks = Vec::new(alloc);
+    for e in 0..graph.edge_count() {
+        marks.push(marks_of_edge(alloc, graph, tree, counted, slacks[e], min_gain, e)?)?;
+    }
+    Ok(marks)
+}
+
+/// Whether an edge of the instruction of edge `e` has a mark.
+fn is_patched(graph: &CodeGraph, marks: &[Vec<Mark>], e: usize) -> bool
+    requires flow { IsFlowGraph graph.now }
+    requires size { length marks.now ≡ length graph.now.code.edges }
+    requires edge { e < length graph.now.code.edges }
+    ensures { result ≡ is_patched (graph_seen graph.now) (marks_in (map (λ m. m.items) marks.now)) ((graph_seen graph.now).source e) }
+{
+    let (first, end) = graph.edges_of(source_of(graph, e));
+    for d in first..end {
+        if !marks[d].is_empty() {
+            return true;
+        }
+    }
+    false
+}
+
+/// The jumps of the stub over edge `e`: two for a branch and one for another instruction, where an edge of it has a mark.
+fn jumps_over(graph: &CodeGraph, marks: &[Vec<Mark>], e: usize) -> u8
+    requires flow { IsFlowGraph graph.now }
+    requires size { length marks.now ≡ length graph.now.code.edges }
+    requires edge { e < length graph.now.code.edges }
+    ensures jumps { result ≡ jumps_of (graph_seen graph.now) (is_branch graph.now) (marks_in (map (λ m. m.items) marks.now)) e }
+    ensures few { result ≤ 2 }
+{
+    let branch = is_branch(graph.edge(e).kind);
+    if is_patched(graph, marks, e) {
+        if branch { 2 } else { 1 }
+    } else {
+        0
+    }
+}
+
+/// By edge, the jumps of its stub.
+fn all_jumps(alloc: Global, graph: &CodeGraph, marks: &[Vec<Mark>]) -> Result<Vec<u8>, NoMemory>
+    requires flow { IsFlowGraph graph.now }
+    requires size { length marks.now ≡ length graph.now.code.edges }
+    ensures { IfOk result (λ jumps. AreJumps graph.now (map (λ m. m.items) marks.now) (length graph.now.code.edges) jumps.items) }
+{
+    let mut jumps = Vec::new(alloc);
+    for e in 0..graph.edge_count() {
+        jumps.push(jumps_over(graph, marks, e))?;
+    }
+    Ok(jumps)
+}
+
+/// The marks of all edges, by the slacks that are handed in: a Switch where a branch's edge leaves no counted loop and has at least
+/// `min_gain` cycles of slack.
+pub fn choose(
+    alloc: Global,
+    graph: &CodeGraph,
+    tree: &LoopTree,
+    counters: &CounterList,
+    slacks: &[u64],
+    min_gain: u32,
+) -> Result<Sites, NoMemory>
+    requires flow { IsFlowGraph graph.now }
+    requires tree { (extent : ℕ → ℕ → Bool) × IsLoopTree graph.now extent tree.now }
+    requires counters { counters.now ≡ counted_loops tree.now }
+    requires few { length counters.now ≤ 509 }
+    requires slacks { length slacks.now ≡ length graph.now.code.edges }
+    ensures { IfOk result (λ s. AreSites graph.now tree.now counters.now slacks.now min_gain s) }
+{
+    let marks = all_marks(alloc, graph, tree, counters.as_slice(), slacks, min_gain)?;
+    let jumps = all_jumps(alloc, graph, &marks)?;
+    Ok(Sites { marks, jumps })
+}
+
+/// No class costs more than 65,535 cycles.
+fn small_costs(costs: &Costs)
+    ensures { (class : Class) → cycles_of costs.now class ≤ 65535 }
+{
+    let alu = costs.of(Class::Alu);
+    let load = costs.of(Class::Load);
+    let store = costs.of(Class::Store);
+    let taken = costs.of(Class::Taken);
+    let untaken = costs.of(Class::Untaken);
+    let jump = costs.of(Class::Jump);
+    let mul = costs.of(Class::Mul);
+    let div = costs.of(Class::Div);
+    let ecall = costs.of(Class::Ecall);
+    let fence = costs.of(Class::Fence);
+    let _all = [
+        alu, load, store, taken, untaken, jump, mul, div, ecall, fence,
+    ];
+}
+
+impl Sites {
+    /// The extra weights: by edge, the cycles that it costs besides its own.
+    pub fn extra_weights(
+        &self,
+        alloc: Global,
+        graph: &CodeGraph,
+        costs: &Costs,
+    ) -> Result<Weights, NoMemory>
+        requires { length self.now.marks ≡ length graph.now.code.edges }
+        ensures size { IfOk result (λ w. length w ≡ length graph.now.code.edges) }
+        ensures each { IfOk result (λ w. (e : ℕ) → e < length graph.now.code.edges → slice_index w e ≡ extra_of costs.now (slice_index self.now.jumps e) (marks_at_edge self.now e)) }
+    {
+        let mut weights = Vec::new(alloc);
+        for e in 0..graph.edge_count() {
+            weights.push(self.extra(e, costs))?;
+        }
+        Ok(Weights::from_vec(weights))
+    }
+
+    /// The stored weights: by edge, the cycles of its step and those that it costs besides.
+    pub fn stored_weights(
+        &self,
+        alloc: Global,
+        graph: &CodeGraph,
+        costs: &Costs,
+    ) -> Result<Weights, NoMemory>
+        requires edges { length self.now.marks ≡ length graph.now.code.edges }
+        requires classes { length graph.now.classes ≡ length graph.now.code.edges }
+        ensures size { IfOk result (λ w. length w ≡ length graph.now.code.edges) }
+        ensures each { IfOk result (λ w. (e : ℕ) → e < length graph.now.code.edges → slice_index w e ≡ slice_index (map (cost_of (cycles_of costs.now)) graph.now.classes) e + extra_of costs.now (slice_index self.now.jumps e) (marks_at_edge self.now e)) }
+    {
+        small_costs(costs);
+        let base = graph.base_weights(alloc, costs)?;
+        let mut weights = Vec::new(alloc);
+        for e in 0..graph.edge_count() {
+            weights.push(*base.get(e) + self.extra(e, costs))?;
+        }
+        Ok(Weights::from_vec(weights))
+    }
+}

@@ -1,0 +1,113 @@
+-- What `rewrite` gives is safe.
+use Rattle.std.proofs.Common.{◌≡◌, ℕ, ◌≤◌, List, length, Option, Some, None, Result, Ok, Err, refl, sym, ap, ◌∙◌, subst, arith, inl, inr}
+use Rattle.std.specs.Prelude.{IfOk, Vec}
+use Rattle.std.specs.declared.alloc.Global.{Global}
+use Rattle.scale_base.specs.declared.refusal.Refusal.{Refusal}
+use Rattle.scale_base.specs.declared.refusal.Stop.{Stop}
+use Rattle.scale_base.specs.declared.summary.Summary.{Summary}
+use Rattle.scale_base.specs.Answer.{AnswersBy}
+use Rattle.scale_base.specs.Image.{Image, image_of}
+use Rattle.power_model.specs.Numbers.{PowerModel}
+use Rattle.machine_file.specs.Machine.{read_machine}
+use Rattle.machine_file.proofs.RangeLaws.{model-from_bytes}
+use Rattle.loop_file.specs.declared.notes.LoopNote.{LoopNote}
+use Rattle.loop_file.specs.Loops.{read_loops}
+use Rattle.stub_writer.specs.Stubs.{out_of_reach}
+use Rattle.rewritten_runs.specs.Laws.{IsSafelyRewritten}
+use Rattle.rewritten_runs.specs.Stubs.{rewritten_file, marks_by_slack, stored_weights}
+use Rattle.rewritten_runs.specs.Promise.{KeepsThePromise}
+use Rattle.rewritten_runs.specs.Followed.{FollowsInTime}
+use Rattle.rewritten_runs.proofs.Law.{rewritten_follow}
+use Rattle.scaler.specs.Held.{Then, unscaled}
+use Rattle.scaler.specs.Rewritten.{IsRewritten, IsRewrittenProgram, IsProgramRewritten, rewritten_summary, unless_far}
+use Rattle.scaler.specs.RewrittenRuns.{IsRewrittenSafely}
+use Rattle.scaler.proofs.Safe.{then_ok, is_unscaled}
+
+-- ---- what `rewrite` went through
+
+record WentThrough (image machine loops : List ℕ) (given : List ℕ × Summary) : Type 0 where
+  power : PowerModel
+  original : Image
+  notes : List LoopNote
+  power_is : read_machine machine ≡ Ok power
+  original_is : image_of image ≡ Ok original
+  no_key : original.keyed_segment ≡ None
+  notes_are : read_loops original loops ≡ Ok notes
+  program : IsProgramRewritten power original notes (Ok given)
+
+rewritten_program : (power : PowerModel) (original : Image) (notes : List LoopNote) (given : List ℕ × Summary) → IsRewrittenProgram power original notes (Ok given) → IsProgramRewritten power original notes (Ok given)
+rewritten_program power original notes given (inl h) = let e : Ok given ≡ Err h.refusal = h.answer_is in absurd cc
+rewritten_program power original notes given (inr (inl h)) = let e : Ok given ≡ Err h.refusal = h.answer_is in absurd cc
+rewritten_program power original notes given (inr (inr (inl h))) = let e : Ok given ≡ Err h.refusal = h.answer_is in absurd cc
+rewritten_program power original notes given (inr (inr (inr (inl h)))) = let e = h.answer_is in absurd cc
+rewritten_program power original notes given (inr (inr (inr (inr (inl h))))) = let e = h.answer_is in absurd cc
+rewritten_program power original notes given (inr (inr (inr (inr (inr h))))) = h
+
+went_through : (image machine loops : List ℕ) (given : List ℕ × Summary) → IsRewritten image machine loops (Ok given) → WentThrough image machine loops given
+unfolding IsRewritten
+went_through image machine loops given h =
+    let a = then_ok (read_machine machine) _ given h in
+    let b = then_ok (image_of image) _ given a.2 in
+    let c = then_ok (unscaled b.0.keyed_segment) _ given b.2 in
+    let d = then_ok (read_loops b.0 loops) _ given c.2 in
+    record {
+      power = a.0;
+      original = b.0;
+      notes = d.0;
+      power_is = a.1;
+      original_is = b.1;
+      no_key = is_unscaled b.0.keyed_segment c.1;
+      notes_are = d.1;
+      program = rewritten_program a.0 b.0 d.0 given d.2;
+    }
+
+-- ---- the law
+
+record IsNear (o : Option ℕ) (given made : List ℕ × Summary) : Type 0 where
+  near : o ≡ None
+  same : given ≡ made
+
+near_of : (o : Option ℕ) (given made : List ℕ × Summary) → Ok given ≡ unless_far o made → IsNear o given made
+near_of None given made e = record { near = refl; same = cc }
+near_of (Some at) given made e = absurd cc
+
+pub safe : (image machine loops stored : List ℕ) (summary : Summary) → length image ≤ 4194304 → length machine ≤ 1048576 → length loops ≤ 1048576 → IsRewritten image machine loops (Ok ((stored, summary))) → IsRewrittenSafely image machine loops stored summary
+safe image machine loops stored summary short _ _ h =
+    let went = went_through image machine loops (stored, summary) h in
+    let p = went.program in
+    let near = near_of (out_of_reach p.base p.sites) (stored, summary) (rewritten_file went.original p.sites p.base p.start, rewritten_summary went.power p.code (marks_by_slack went.power went.original p.code p.tree p.plain) p.start (p.stored.worst 0) (p.extra.worst 0) p.sites) p.answer_is in
+    let bytes : stored ≡ rewritten_file went.original p.sites p.base p.start = ap (λ (g : List ℕ × Summary). g.0) near.same in
+    let numbers = ap (λ (g : List ℕ × Summary). g.1) near.same in
+    let model = model-from_bytes machine went.power went.power_is in
+    let made = rewritten_follow went.power model image went.original went.notes p.code p.tree p.plain p.stored p.extra p.least p.sites p.base p.start went.original_is went.no_key short p.weighed p.short p.slow p.stubs near.near in
+    let bound : summary.stub_cycles ≡ p.extra.worst 0 = ap (λ (s : Summary). s.stub_cycles) numbers in
+    let worst : summary.worst ≡ p.stored.worst 0 = ap (λ (s : Summary). s.worst) numbers in
+    record {
+      power = went.power;
+      original = went.original;
+      notes = went.notes;
+      rewritten = made.rewritten;
+      power_is = went.power_is;
+      original_is = went.original_is;
+      notes_are = went.notes_are;
+      rewritten_is = ap image_of bytes ∙ made.is;
+      promise = subst (λ b. KeepsThePromise went.power went.original went.notes made.rewritten b) (sym bound) made.promise;
+      code = p.code;
+      tree = p.tree;
+      plain = p.plain;
+      numbers = p.stored;
+      extra = p.extra;
+      least = p.least;
+      sites = p.sites;
+      base = p.base;
+      weighed = p.weighed;
+      stubs = p.stubs;
+      printed = (worst, bound);
+      follows = subst (λ b. FollowsInTime went.power went.original made.rewritten went.notes p.code p.tree (stored_weights went.power went.original p.code (marks_by_slack went.power went.original p.code p.tree p.plain)) p.plain p.stored b) (sym bound) made.follows;
+    }
+
+-- what a call of `rewrite` gives
+pub safe_given : (image machine loops : List ℕ) (result : Result (Vec ℕ Global × Summary) Stop) → length image ≤ 4194304 → length machine ≤ 1048576 → length loops ≤ 1048576
+    → AnswersBy (λ given. (given.0.items, given.1)) result (IsRewritten image machine loops) → IfOk result (λ given. IsRewrittenSafely image machine loops given.0.items given.1)
+safe_given image machine loops (Ok given) si sm sl h = safe image machine loops given.0.items given.1 si sm sl h
+safe_given image machine loops (Err stop) si sm sl h = tt

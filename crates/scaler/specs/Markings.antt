@@ -1,0 +1,57 @@
+-- The marks of a program's edges, and its numbers under the stored weights, as the code keeps them.
+use Rattle.std.specs.Prelude.{◌≡◌, ℕ, ◌*◌, ◌^◌, ◌<◌, ◌≤◌, Bool, List, length, All, slice_get, Some}
+use Rattle.scale_base.specs.declared.fragments.Fragment.{Fragment}
+use Rattle.scale_base.specs.Image.{Image}
+use Rattle.power_model.specs.Numbers.{PowerModel}
+use Rattle.cost_theory.specs.Least.{Least}
+use Rattle.cost_theory.specs.Worst.{Numbers}
+use Rattle.code_graph.specs.FlowGraph.{FlowGraph, graph, IsGraphOf}
+use Rattle.graph_runs.specs.Text.{text_of}
+use Rattle.level_tables.specs.Tables as tables
+use Rattle.loop_tree.specs.Tree.{LoopView, loops, IsLoopTree}
+use Rattle.scale_sites.specs.declared.mark.Mark.{Mark}
+use Rattle.scale_sites.specs.Counters.{counted_loops}
+use Rattle.scale_sites.specs.Sites.{marks_at_edge}
+use Rattle.worst_cycles.specs.Worst.{HoldsLeft, slack_at, rest_at}
+use Rattle.rewritten_runs.specs.Stubs.{marks_by_slack, stored_weights, told_at, fragment_of, fragments_at}
+use Rattle.scaler.specs.declared.stubs.Marking.{Marking}
+use Rattle.scaler.specs.declared.stubs.Told.{Told}
+
+-- the marks by the plain numbers, the numbers under the stored weights, and the least cycles, all in range
+pub record IsMarking (power : PowerModel) (image : Image) (v : FlowGraph) (t : LoopView) (plain stored : Numbers) (least : Least) (m : Marking) : Type 0 where
+  pub code : IsGraphOf (text_of image) v
+  pub tree : (extent : ℕ → ℕ → Bool) × IsLoopTree v extent t
+  pub counters : m.counters ≡ counted_loops t
+  pub few : length (counted_loops t) ≤ 509
+  pub size : length m.sites.marks ≡ length v.code.edges
+  pub marks : (e : ℕ) → e < length v.code.edges → marks_at_edge m.sites e ≡ marks_by_slack power image v t plain e
+  pub slacks_size : length m.worst.slacks ≡ length v.code.edges
+  pub rests_size : length m.worst.rests ≡ length v.code.edges
+  pub iterations_size : length m.worst.iteration ≡ length t.headers
+  pub left : HoldsLeft v (loops v t) (stored_weights power image v (marks_by_slack power image v t plain)) stored m.worst
+  pub iteration : (k : ℕ) → k < length t.headers → slice_get m.worst.iteration k ≡ Some (stored.iteration k)
+  pub ends_size : length m.least ≡ length v.code.nodes
+  pub ends : (k at : ℕ) → slice_get v.code.nodes k ≡ Some at → slice_get m.least k ≡ Some (least.to_end at)
+  pub slack_small : (e : ℕ) → e < length v.code.edges → slack_at (graph v) (loops v t) (stored_weights power image v (marks_by_slack power image v t plain)) stored e ≤ 2 ^ 50
+  pub rest_small : (e : ℕ) → e < length v.code.edges → rest_at (graph v) (loops v t) stored e ≤ 2 ^ 48
+  pub turns_small : (k : ℕ) → k < length t.headers → (loops v t).bound k * stored.iteration k ≤ 2 ^ 48
+  pub ends_small : (at z : ℕ) → least.to_end at ≡ Some z → z < 2 ^ 89
+
+abbrev pub HasMarking : PowerModel → FlowGraph → LoopView → Marking → Type 0
+HasMarking power v t m = (image : Image) × (plain : Numbers) × (stored : Numbers) × (least : Least) × IsMarking power image v t plain stored least m
+
+-- what is found, whatever the numbers of the marking
+abbrev pub Whichever : PowerModel → FlowGraph → LoopView → Marking → (Image → Numbers → Numbers → Least → Type 0) → Type 0
+Whichever power v t m P = (image : Image) (plain stored : Numbers) (least : Least) → IsMarking power image v t plain stored least m → P image plain stored least
+
+abbrev pub told_view : Told → tables.Site
+told_view x = record { slack = x.slack; left = x.left; least = x.least }
+
+abbrev pub IsToldAt : PowerModel → FlowGraph → LoopView → Marking → ℕ → Told → Type 0
+IsToldAt power v t m e x = Whichever power v t m (λ image plain stored least. told_view x ≡ told_at power image v t (marks_by_slack power image v t plain) stored least e)
+
+abbrev pub IsFragmentAt : PowerModel → FlowGraph → LoopView → Marking → ℕ → Mark → Fragment → Type 0
+IsFragmentAt power v t m e mark f = Whichever power v t m (λ image plain stored least. f ≡ fragment_of power (loops v t) (counted_loops t) stored (told_at power image v t (marks_by_slack power image v t plain) stored least e) mark)
+
+abbrev pub AreFragmentsAt : PowerModel → FlowGraph → LoopView → Marking → ℕ → List Fragment → Type 0
+AreFragmentsAt power v t m e fs = Whichever power v t m (λ image plain stored least. fs ≡ fragments_at power image v t (marks_by_slack power image v t plain) stored least e)

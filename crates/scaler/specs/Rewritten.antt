@@ -1,0 +1,112 @@
+-- What `rewrite` gives: the image with stubs, which lower its level where what is left of the worst case allows it, and which starts at the slowest level at
+-- which its worst case, stubs and all, is in time.
+-- It is a relation, as what `hold` gives.
+use Rattle.std.specs.Prelude.{◌≡◌, ◌⊎◌, ℕ, ◌<◌, ◌≤◌, List, Option, Some, None, Result, Ok, Err}
+use Rattle.scale_base.specs.declared.refusal.Refusal.{Refusal}
+use Rattle.scale_base.specs.declared.refusal.Refusal.TheVariants.{DeadlineMissed, StubOutOfReach, TooLong}
+use Rattle.scale_base.specs.declared.summary.Summary.{Summary}
+use Rattle.scale_base.specs.Image.{Image, image_of}
+use Rattle.power_model.specs.Numbers.{PowerModel}
+use Rattle.power_model.specs.Price.{time_at}
+use Rattle.power_model.specs.Slowest.{slowest_of, fastest}
+use Rattle.machine_file.specs.Machine.{read_machine}
+use Rattle.loop_file.specs.declared.notes.LoopNote.{LoopNote}
+use Rattle.loop_file.specs.Loops.{read_loops}
+use Rattle.cost_theory.specs.Worst.{Numbers}
+use Rattle.cost_theory.specs.Least.{Least}
+use Rattle.graph_runs.specs.Text.{text_of}
+use Rattle.code_graph.specs.FlowGraph.{FlowGraph, IsGraphOf}
+use Rattle.loop_tree.specs.Tree.{LoopView, IsTreeOf}
+use Rattle.scale_sites.specs.declared.mark.Mark.{Mark}
+use Rattle.scale_sites.specs.Counters.{AreCounters}
+use Rattle.stub_writer.specs.Stubs.{Site, block_size, out_of_reach}
+use Rattle.scaler.specs.Held.{IsCodeRefused, IsLoopRefused, Then, unscaled}
+use Rattle.rewritten_runs.specs.Stubs.{IsWeighed, HasStubs, rewritten_file, marks_by_slack, is_switch, is_exit, is_count, edges_with}
+
+-- ---- what is stored
+
+abbrev pub rewritten_summary : PowerModel → FlowGraph → (ℕ → List Mark) → (start worst stubs : ℕ) → List Site → Summary
+rewritten_summary power v marked start worst stubs sites = record {
+  start = start;
+  worst = worst;
+  time = time_at power start worst;
+  deadline = power.deadline;
+  stub_cycles = stubs;
+  switch_edges = edges_with is_switch v marked;
+  exit_edges = edges_with is_exit v marked;
+  count_edges = edges_with is_count v marked;
+  stub_bytes = block_size sites;
+}
+
+-- unless a jump to or from the stub of an instruction is too far
+abbrev pub unless_far : Option ℕ → List ℕ × Summary → Result (List ℕ × Summary) Refusal
+unless_far None given = Ok given
+unless_far (Some at) given = Err (StubOutOfReach at)
+
+-- ---- what the program of an image and its loops give
+
+-- a counted loop can't be counted, or there are too many
+pub record IsCounterRefused (image : Image) (notes : List LoopNote) (answer : Result (List ℕ × Summary) Refusal) : Type 0 where
+  pub code : FlowGraph
+  pub tree : LoopView
+  pub refusal : Refusal
+  pub code_is : IsGraphOf (text_of image) code
+  pub tree_is : IsTreeOf code notes tree
+  pub why : AreCounters code tree (Err refusal)
+  pub answer_is : answer ≡ Err refusal
+
+-- the worst cycles under the stored weights are more than 2^48
+pub record IsTooLong (power : PowerModel) (image : Image) (notes : List LoopNote) (answer : Result (List ℕ × Summary) Refusal) : Type 0 where
+  pub code : FlowGraph
+  pub tree : LoopView
+  pub plain : Numbers
+  pub stored : Numbers
+  pub weighed : IsWeighed power image notes code tree plain stored
+  pub long : 281474976710656 < stored.worst 0
+  pub answer_is : answer ≡ Err TooLong
+
+-- they are in range, and even at the fastest level too late
+pub record IsTooLate (power : PowerModel) (image : Image) (notes : List LoopNote) (answer : Result (List ℕ × Summary) Refusal) : Type 0 where
+  pub code : FlowGraph
+  pub tree : LoopView
+  pub plain : Numbers
+  pub stored : Numbers
+  pub weighed : IsWeighed power image notes code tree plain stored
+  pub short : stored.worst 0 ≤ 281474976710656
+  pub late : slowest_of power (stored.worst 0) ≡ None
+  pub answer_is : answer ≡ Err (DeadlineMissed (time_at power (fastest power) (stored.worst 0)) power.deadline)
+
+-- they are in time from a starting level on: the program is rewritten, unless a stub is out of reach
+pub record IsProgramRewritten (power : PowerModel) (image : Image) (notes : List LoopNote) (answer : Result (List ℕ × Summary) Refusal) : Type 0 where
+  pub code : FlowGraph
+  pub tree : LoopView
+  pub plain : Numbers
+  pub stored : Numbers
+  pub extra : Numbers
+  pub least : Least
+  pub sites : List Site
+  pub base : ℕ
+  pub start : ℕ
+  pub weighed : IsWeighed power image notes code tree plain stored
+  pub short : stored.worst 0 ≤ 281474976710656
+  pub slow : slowest_of power (stored.worst 0) ≡ Some start
+  pub stubs : HasStubs power image code tree plain stored extra least sites base
+  pub answer_is : answer ≡ unless_far (out_of_reach base sites)
+      (rewritten_file image sites base start, rewritten_summary power code (marks_by_slack power image code tree plain) start (stored.worst 0) (extra.worst 0) sites)
+
+abbrev pub IsRewrittenProgram : PowerModel → Image → List LoopNote → Result (List ℕ × Summary) Refusal → Type 0
+IsRewrittenProgram power image notes answer =
+    IsCodeRefused image answer ⊎ (IsLoopRefused image notes answer ⊎ (IsCounterRefused image notes answer
+    ⊎ (IsTooLong power image notes answer ⊎ (IsTooLate power image notes answer ⊎ IsProgramRewritten power image notes answer))))
+
+-- ---- what the files give
+
+-- The stored bytes and the summary, or the first refusal: of the machine file, of the image, of a keyed segment, of the loop file, of the code, of its loops, of
+-- loops that can't be counted, of too many of them, of too many worst cycles, of the deadline, and of a stub that is out of reach.
+unfoldable pub IsRewritten : List ℕ → List ℕ → List ℕ → Result (List ℕ × Summary) Refusal → Type 0
+IsRewritten image machine loops answer =
+    Then (read_machine machine) (λ power.
+    Then (image_of image) (λ original.
+    Then (unscaled original.keyed_segment) (λ _.
+    Then (read_loops original loops) (λ notes.
+    IsRewrittenProgram power original notes)))) answer

@@ -1,0 +1,90 @@
+-- What the parts of `rewrite` find, on the way to what it gives.
+use Rattle.std.specs.Prelude.{◌≡◌, ◌⊎◌, ℕ, ◌<◌, ◌≤◌, min, List, length, map, All, slice_get, slice_index, Option, Some, None, Result, Ok, Err}
+use Rattle.scale_base.specs.declared.refusal.Refusal.{Refusal}
+use Rattle.scale_base.specs.declared.refusal.Refusal.TheVariants.{DeadlineMissed, TooLong}
+use Rattle.scale_base.specs.Image.{Image}
+use Rattle.power_model.specs.Numbers.{PowerModel}
+use Rattle.power_model.specs.Price.{time_at}
+use Rattle.power_model.specs.Slowest.{slowest_of, fastest}
+use Rattle.elf_patch.specs.Stored.{IsStubBase}
+use Rattle.cost_theory.specs.Worst.{Numbers, AreNumbers}
+use Rattle.cost_theory.specs.Least.{Least, AreLeast}
+use Rattle.code_graph.specs.FlowGraph.{FlowGraph, graph}
+use Rattle.loop_tree.specs.Tree.{LoopView, loops}
+use Rattle.scale_sites.specs.Sites.{SitesView, is_branch, marks_at_edge}
+use Rattle.scale_sites.specs.Weights.{jumps_of}
+use Rattle.stub_writer.specs.declared.site.StubBlock.{StubBlock}
+use Rattle.stub_writer.specs.declared.site.StubSite.{StubSite}
+use Rattle.stub_writer.specs.Block.{block_view, emitted}
+use Rattle.stub_writer.specs.Sites.{IsSite, site_of}
+use Rattle.stub_writer.specs.Stubs.{block_size}
+use Rattle.loop_file.specs.declared.notes.LoopNote.{LoopNote}
+use Rattle.rewritten_runs.specs.Stubs.{IsWeighed, plain_weights, extra_weights, stored_weights, marks_by_slack, fragments_at, AreSitesOf}
+use Rattle.scaler.specs.declared.stubs.Marking.{Marking}
+use Rattle.scaler.specs.Markings.{IsMarking}
+
+-- ---- the marks
+
+pub record HasMarks (power : PowerModel) (image : Image) (v : FlowGraph) (t : LoopView) (plain : Numbers) (s : SitesView) : Type 0 where
+  pub size : length s.marks ≡ length v.code.edges
+  pub marks : (e : ℕ) → e < length v.code.edges → marks_at_edge s e ≡ marks_by_slack power image v t plain e
+  pub jumps : (e : ℕ) → e < length v.code.edges → slice_index s.jumps e ≡ jumps_of (graph v) (is_branch v) (marks_by_slack power image v t plain) e
+
+abbrev pub AreSitesFound : PowerModel → Image → FlowGraph → LoopView → Result SitesView Refusal → Type 0
+AreSitesFound power image v t (Ok s) = (plain : Numbers) × AreNumbers (graph v) (loops v t) (plain_weights power image v) plain × HasMarks power image v t plain s
+AreSitesFound power image v t (Err refusal) = (refusal ≡ TooLong) × ((plain : Numbers) × AreNumbers (graph v) (loops v t) (plain_weights power image v) plain × (281474976710656 < plain.worst 0))
+
+-- ---- the starting level
+
+abbrev pub starting_of : PowerModel → ℕ → Option ℕ → Result ℕ Refusal
+starting_of power worst None = Err (DeadlineMissed (time_at power (fastest power) worst) power.deadline)
+starting_of power worst (Some start) = Ok start
+
+abbrev pub starting_level : PowerModel → ℕ → Result ℕ Refusal
+starting_level power worst = starting_of power worst (slowest_of power worst)
+
+-- ---- the numbers
+
+pub record IsMarkedAt (power : PowerModel) (image : Image) (v : FlowGraph) (t : LoopView) (plain stored : Numbers) (least : Least) (m : Marking) (start : ℕ) : Type 0 where
+  pub plain_are : AreNumbers (graph v) (loops v t) (plain_weights power image v) plain
+  pub stored_are : AreNumbers (graph v) (loops v t) (stored_weights power image v (marks_by_slack power image v t plain)) stored
+  pub least_are : AreLeast (graph v) (stored_weights power image v (marks_by_slack power image v t plain)) least
+  pub marks : HasMarks power image v t plain m.sites
+  pub marking : IsMarking power image v t plain stored least m
+  pub short : stored.worst 0 ≤ 281474976710656
+  pub worst : slice_get m.worst.worst 0 ≡ Some (stored.worst 0)
+  pub slow : slowest_of power (stored.worst 0) ≡ Some start
+
+-- too many cycles under the stored weights, or too late
+pub record IsUnfit (power : PowerModel) (image : Image) (v : FlowGraph) (t : LoopView) (plain stored : Numbers) (refusal : Refusal) : Type 0 where
+  pub plain_are : AreNumbers (graph v) (loops v t) (plain_weights power image v) plain
+  pub stored_are : AreNumbers (graph v) (loops v t) (stored_weights power image v (marks_by_slack power image v t plain)) stored
+  pub why : ((281474976710656 < stored.worst 0) × (refusal ≡ TooLong)) ⊎
+      ((stored.worst 0 ≤ 281474976710656) × (slowest_of power (stored.worst 0) ≡ None) × (refusal ≡ DeadlineMissed (time_at power (fastest power) (stored.worst 0)) power.deadline))
+
+abbrev pub IsMarkingFound : PowerModel → Image → FlowGraph → LoopView → Result (Marking × ℕ) Refusal → Type 0
+IsMarkingFound power image v t (Ok x) = (plain : Numbers) × (stored : Numbers) × (least : Least) × IsMarkedAt power image v t plain stored least x.0 x.1
+IsMarkingFound power image v t (Err refusal) = (plain : Numbers) × (stored : Numbers) × IsUnfit power image v t plain stored refusal
+
+-- ---- the stubs
+
+-- the marked instructions, in the form that their code is written from
+pub record AreStubsOf (power : PowerModel) (image : Image) (v : FlowGraph) (t : LoopView) (plain stored : Numbers) (least : Least) (stubs : List StubSite) : Type 0 where
+  pub few : length stubs ≤ 131072
+  pub each : All IsSite stubs
+  pub are : AreSitesOf image v.code (fragments_at power image v t (marks_by_slack power image v t plain) stored least) (map site_of stubs)
+
+-- the block at its base, or that it is out of reach there
+abbrev pub IsBlockGiven : Image → List StubSite → Result (StubBlock × ℕ) Refusal → Type 0
+IsBlockGiven image stubs (Ok x) = IsStubBase image (min (block_size (map site_of stubs)) 4194304) x.1 × (emitted x.1 (map site_of stubs) ≡ Ok (block_view x.0))
+IsBlockGiven image stubs (Err refusal) = (base : ℕ) × IsStubBase image (min (block_size (map site_of stubs)) 4194304) base × (emitted base (map site_of stubs) ≡ Err refusal)
+
+-- ---- what stubs add
+
+-- the marks are those of a program whose worst cycles are in range under the stored weights
+abbrev pub IsInRange : PowerModel → FlowGraph → LoopView → SitesView → Type 0
+IsInRange power v t s = (image : Image) × (notes : List LoopNote) × (plain : Numbers) × (stored : Numbers) × IsWeighed power image notes v t plain stored × HasMarks power image v t plain s × (stored.worst 0 ≤ 281474976710656)
+
+abbrev pub IsExtraFound : PowerModel → Image → FlowGraph → LoopView → Numbers → Result ℕ Refusal → Type 0
+IsExtraFound power image v t plain (Ok x) = (extra : Numbers) × AreNumbers (graph v) (loops v t) (extra_weights power v (marks_by_slack power image v t plain)) extra × (x ≡ extra.worst 0)
+IsExtraFound power image v t plain (Err refusal) = ⊥

@@ -1,0 +1,50 @@
+//! The turns of the loops round each node.
+
+ghost use Rattle.std.specs.Prelude.{◌≡◌, ◌≢◌, ℕ, ◌+◌, ◌*◌, ◌^◌, ◌<◌, ◌≤◌, length, IfOk};
+ghost use Rattle.call_orders.specs.Arcs.{number_at, AreDistinct};
+ghost use Rattle.code_graph.specs.FlowGraph.{IsFlowGraph};
+ghost use Rattle.worst_cycles.specs.Worst.{by_edge};
+ghost use Rattle.worst_cycles.specs.Needs.{HasTree};
+ghost use Rattle.worst_cycles.specs.Visits.{AreAllVisited};
+ghost use Rattle.worst_cycles.specs.Lefts.{AreTurnsRound};
+
+use crate::visits::Visit;
+use code_graph::{CodeGraph, Weights};
+use loop_tree::LoopTree;
+use scale_base::NoMemory;
+use std::alloc::Global;
+
+/// Adds turns at the nodes of a body.
+fn add_turns(body: &[usize], turns: u64, around: &mut Vec<u64>)
+    requires within { (i : ℕ) → i < length body.now → number_at body.now i < length around.old.items }
+    requires distinct { AreDistinct body.now }
+    requires turns { turns ≤ 2 ^ 48 }
+    requires small { (k : ℕ) → number_at around.old.items k ≤ 4096 * 2 ^ 48 }
+    ensures size { length around.new.items ≡ length around.old.items }
+    ensures inside { (i : ℕ) → i < length body.now → number_at around.new.items (number_at body.now i) ≡ number_at around.old.items (number_at body.now i) + turns }
+    ensures outside { (k : ℕ) → ((i : ℕ) → i < length body.now → number_at body.now i ≢ k) → number_at around.new.items k ≡ number_at around.old.items k }
+{
+    for k in body {
+        around[*k] += turns;
+    }
+}
+
+/// By node, all turns of the loops round it.
+pub fn turns_around(
+    alloc: Global,
+    graph: &CodeGraph,
+    tree: &LoopTree,
+    weights: &Weights,
+    visits: &[Visit],
+) -> Result<Vec<u64>, NoMemory>
+    requires flow { IsFlowGraph graph.now }
+    requires tree { HasTree graph.now tree.now }
+    requires visits { AreAllVisited graph.now tree.now (by_edge weights.now) visits.now }
+    ensures { IfOk result (λ around. AreTurnsRound graph.now tree.now (by_edge weights.now) around.items) }
+{
+    let mut around = vec![in alloc; 0; graph.node_count()]?;
+    for l in 0..tree.loop_count() {
+        add_turns(tree.body(l), visits[tree.header(l)].turns, &mut around);
+    }
+    Ok(around)
+}

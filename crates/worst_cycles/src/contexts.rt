@@ -1,0 +1,122 @@
+//! What is left of the callers of each function.
+
+ghost use Rattle.std.specs.Prelude.{◌≡◌, ◌≢◌, ℕ, ◌+◌, ◌*◌, ◌^◌, ◌<◌, ◌≤◌, ◌⊎◌, length, slice_index, Some, IfOk};
+ghost use Rattle.call_orders.specs.Arcs.{number_at, AreDistinct};
+ghost use Rattle.cost_theory.specs.Worst.{Numbers, IsReturningCall, context_of};
+ghost use Rattle.code_graph.specs.FlowGraph.{graph as graph_seen, IsFlowGraph};
+ghost use Rattle.natural_loops.specs.Noted.{node_address};
+ghost use Rattle.loop_tree.specs.Tree.{loops};
+ghost use Rattle.worst_cycles.specs.Worst.{by_edge};
+ghost use Rattle.worst_cycles.specs.Needs.{HasTree};
+ghost use Rattle.worst_cycles.specs.Visits.{IsPlan, AreSolvedBy, AreAllVisited};
+ghost use Rattle.worst_cycles.specs.Lefts.{HasSolved, AreLefts, AreTurnsRound, AreContexts, AreContextsRaised};
+
+use crate::plan::Plan;
+use crate::visits::{Visit, cost_of};
+use code_graph::{CodeGraph, Weights};
+use loop_tree::LoopTree;
+use scale_base::NoMemory;
+use std::alloc::Global;
+
+/// The function that edge `e` calls, if the edge is the call's way back.
+fn comes_back(graph: &CodeGraph, e: usize) -> Option<usize>
+    requires edge { e < length graph.now.code.edges }
+    ensures some { (f : ℕ) → result ≡ Some f → IsReturningCall (graph_seen graph.now) f e }
+    ensures whole { (f : ℕ) → IsReturningCall (graph_seen graph.now) f e → result ≡ Some f }
+{
+    match graph.target(e) {
+        Some(_) => graph.callee(e),
+        None => None,
+    }
+}
+
+/// Raises an entry of a table to some cycles.
+fn raise(table: &mut Vec<u64>, f: usize, cycles: u64)
+    requires { f < length table.old.items }
+    ensures size { length table.new.items ≡ length table.old.items }
+    ensures higher { number_at table.old.items f ≤ number_at table.new.items f }
+    ensures over { cycles ≤ number_at table.new.items f }
+    ensures either { (number_at table.new.items f ≡ number_at table.old.items f) ⊎ (number_at table.new.items f ≡ cycles) }
+    ensures others { (g : ℕ) → g ≢ f → number_at table.new.items g ≡ number_at table.old.items g }
+{
+    if cycles > table[f] {
+        table[f] = cycles;
+    }
+}
+
+/// Raises the contexts of the functions that node `k` calls to what is left behind these calls.
+fn raise_contexts(
+    graph: &CodeGraph,
+    tree: &LoopTree,
+    weights: &Weights,
+    plan: &Plan,
+    visits: &[Visit],
+    left: &[u64],
+    around: &[u64],
+    k: usize,
+    context: &mut Vec<u64>,
+)
+    requires flow { IsFlowGraph graph.now }
+    requires plan { IsPlan graph.now tree.now plan.now }
+    requires weights { length weights.now ≡ length graph.now.code.edges }
+    requires visits { AreAllVisited graph.now tree.now (by_edge weights.now) visits.now }
+    requires solved { HasSolved graph.now tree.now (by_edge weights.now) }
+    requires left { AreLefts graph.now tree.now (by_edge weights.now) left.now }
+    requires around { AreTurnsRound graph.now tree.now (by_edge weights.now) around.now }
+    requires node { k < length graph.now.code.nodes }
+    requires size { length context.old.items ≡ length graph.now.code.functions }
+    requires own { (n : Numbers) → AreSolvedBy graph.now tree.now (by_edge weights.now) n → number_at context.old.items ((graph_seen graph.now).owner (node_address graph.now k)) ≡ n.context ((graph_seen graph.now).owner (node_address graph.now k)) }
+    ensures size { length context.new.items ≡ length context.old.items }
+    ensures raised { (n : Numbers) → AreSolvedBy graph.now tree.now (by_edge weights.now) n → AreContextsRaised (graph_seen graph.now) (loops graph.now tree.now) (by_edge weights.now) n (node_address graph.now k) context.old.items context.new.items }
+{
+    let own = context[graph.owner(k)];
+    let (first, end) = graph.edges_of(k);
+    for e in first..end {
+        if let Some(f) = comes_back(graph, e) {
+            let cost = cost_of(graph, weights, plan, visits, e);
+            let behind = left[k].saturating_sub(cost) + around[k] + own;
+            raise(context, f, behind);
+        }
+    }
+}
+
+/// By function, what is left of its callers behind a call of it: the greatest over its calls. Callers are taken before those that
+/// they call.
+pub fn contexts_of(
+    alloc: Global,
+    graph: &CodeGraph,
+    tree: &LoopTree,
+    weights: &Weights,
+    plan: &Plan,
+    visits: &[Visit],
+    left: &[u64],
+    around: &[u64],
+) -> Result<Vec<u64>, NoMemory>
+    requires flow { IsFlowGraph graph.now }
+    requires tree { HasTree graph.now tree.now }
+    requires plan { IsPlan graph.now tree.now plan.now }
+    requires weights { length weights.now ≡ length graph.now.code.edges }
+    requires visits { AreAllVisited graph.now tree.now (by_edge weights.now) visits.now }
+    requires solved { HasSolved graph.now tree.now (by_edge weights.now) }
+    requires left { AreLefts graph.now tree.now (by_edge weights.now) left.now }
+    requires around { AreTurnsRound graph.now tree.now (by_edge weights.now) around.now }
+    ensures { IfOk result (λ context. AreContexts graph.now tree.now (by_edge weights.now) context.items) }
+{
+    let mut context = vec![in alloc; 0; graph.function_count()]?;
+    let mut i = plan.order.len();
+    while i > 0 {
+        i -= 1;
+        raise_contexts(
+            graph,
+            tree,
+            weights,
+            plan,
+            visits,
+            left,
+            around,
+            plan.order[i],
+            &mut context,
+        );
+    }
+    Ok(context)
+}
