@@ -7,6 +7,7 @@ ghost use Rattle.scale_base.specs.Word.{Encodes};
 ghost use Rattle.scale_base.specs.Reading.{instr_of};
 
 mod endings;
+mod fragments;
 mod headers;
 mod instruction;
 mod names;
@@ -16,6 +17,7 @@ mod stepping;
 mod summary;
 
 pub use endings::{End, Kept};
+pub use fragments::{Fragment, Mark, Rows};
 pub use headers::{ProgramHeader, SectionHeader};
 pub use instruction::{BranchOp, ImmOp, Instr, LoadOp, RegOp, StoreOp};
 pub use names::{Cycle, Name};
