@@ -1,6 +1,7 @@
+use Rattle.rv_machine.specs.Code.{IsCodeOf}
 use Rattle.rv_machine.specs.Machine.{state_of, setting_of}
 use Rattle.speed_sim.specs.Progress.{Job, Progress}
-use Rattle.speed_sim.proofs.running.run_machine.Given as goal
+use Rattle.speed_sim.proofs.running.run_watched.Given as goal
 
 abbrev pub invariant-loop-step : goal.invariant-loop-step
 invariant-loop-step g l =
@@ -11,4 +12,7 @@ invariant-loop-step g l =
       start = l.start;
       unwatched = l.initial.watcher;
     } in
-    Progress job l._step (setting_of g.M.Memory.layout l.machine) (state_of g.M.Memory.bytes l.machine) l.meter l.watcher
+    record {
+      progress : Progress job l._step (setting_of g.M.Memory.layout l.machine) (state_of g.M.Memory.bytes l.machine) l.meter l.watcher;
+      code : IsCodeOf (g.M.Memory.layout l.machine.memory) (g.M.Memory.bytes l.machine.memory) l.code;
+    }
