@@ -7,18 +7,23 @@ ghost use Rattle.scale_base.specs.Word.{Encodes};
 ghost use Rattle.scale_base.specs.Reading.{instr_of};
 
 mod endings;
+mod fragments;
 mod headers;
 mod instruction;
 mod names;
+mod plan;
 mod ranges;
 mod refusal;
 mod stepping;
 mod summary;
 
+pub use cost_theory::{Edge, EdgeKind};
 pub use endings::{End, Kept};
+pub use fragments::{Fragment, Mark, Rows};
 pub use headers::{ProgramHeader, SectionHeader};
 pub use instruction::{BranchOp, ImmOp, Instr, LoadOp, RegOp, StoreOp};
 pub use names::{Cycle, Name};
+pub use plan::{ScalePlan, SiteLine};
 pub use ranges::{Keyed, Patch, Range, Span, TextPart};
 pub use refusal::{Field, NoMemory, Refusal, Stop};
 pub use stepping::{Class, Move, StepEnd, Stepped, Trap, TrapKind};
