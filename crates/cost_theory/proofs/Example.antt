@@ -36,7 +36,7 @@ small = record {
 }
 
 abbrev pub small_loop : Loops
-small_loop = record { loops = 1; header = λ k. 0; bound = λ k. 3; inside = λ k v. nat_eq v 0 }
+small_loop = record { loops = 1; header = λ k. 0; bound = λ k. 3; least_trips = λ k. 2; inside = λ k v. nat_eq v 0 }
 
 abbrev pub small_extent : ℕ → ℕ → Bool
 small_extent k v = nat_eq v 0

@@ -1,7 +1,7 @@
 -- Loops that are entered at their headers alone are nested or apart.
 use Rattle.std.proofs.Common.{◌≡◌, ◌≢◌, ℕ, ◌<◌, ◌≤◌, Bool, true, false, ◌⊎◌, inl, inr, List, [], ◌∷◌, Option, Some, None, refl, sym, ap, ◌∙◌, subst, arith, le_refl, ⊎_elim}
 use native.Mathlib.Decide.{ℕ_discrete}
-use Rattle.cost_theory.specs.Graph.{Graph, Loops, IsWalk, end_of, sum_below, only, is_round, is_header, is_back}
+use Rattle.cost_theory.specs.Graph.{Graph, Loops, with_trips, IsWalk, end_of, sum_below, only, is_round, is_header, is_back}
 use Rattle.cost_theory.specs.Accepted.{IsNode, IsProgram, StaysWithin, IsInBody, AreCrossing, AreEntered, IsWithin, AreAccepted}
 use Rattle.cost_theory.proofs.Basics.{search_below, and_left, only_true, only_false, sum-lt}
 use Rattle.cost_theory.proofs.Slack.{AreEnteredAtHeaders}
@@ -18,6 +18,19 @@ accepted_entered acc = record {
   distinct = acc.distinct;
   back_edge = acc.back_edge;
   no_side = acc.no_side;
+}
+
+-- whatever so often they have to turn
+pub accepted_with : {g : Graph} {l : Loops} {extent : ℕ → ℕ → Bool} (trips : ℕ → ℕ) → AreAccepted g l extent → AreAccepted g (with_trips l trips) extent
+accepted_with trips acc = record {
+  bodies = acc.bodies;
+  header_reached = acc.header_reached;
+  distinct = acc.distinct;
+  back_edge = acc.back_edge;
+  no_side = acc.no_side;
+  no_crossing = acc.no_crossing;
+  not_deep = acc.not_deep;
+  no_cycle = acc.no_cycle;
 }
 
 -- a place that is in a loop's body only as its header

@@ -11,7 +11,7 @@ use Rattle.cost_theory.specs.Reached.Reached.{main, onward, back, called}
 use Rattle.cost_theory.proofs.Append.{walk-append, end_of-append}
 
 abbrev pub no_loops : Loops
-no_loops = record { loops = 0; header = λ k. 0; bound = λ k. 0; inside = λ k v. false }
+no_loops = record { loops = 0; header = λ k. 0; bound = λ k. 0; least_trips = λ k. 0; inside = λ k v. false }
 
 -- an element of a list
 abbrev pub Within : {X : Type 0} → X → List X → Type 0

@@ -120,6 +120,10 @@ pub record AreAccepted (g : Graph) (l : Loops) (extent : ℕ → ℕ → Bool) :
   pub not_deep : (k : ℕ) → k < l.loops → IsTooDeep l k → ⊥
   pub no_cycle : (v : ℕ) (es : List ℕ) → IsPlainCycle g l v es → ⊥
 
+-- a loop that has to turn has no nodes in its extent but those of its body
+abbrev pub HaveWholeExtents : Graph → Loops → (ℕ → ℕ → Bool) → Type 0
+HaveWholeExtents g l extent = (k v : ℕ) → k < l.loops → 0 < l.least_trips k → IsNode g v → extent k v ≡ true → l.inside k v ≡ true
+
 -- an order of the functions, in which a called function stands before its callers
 pub record IsCallOrder (g : Graph) (rank : ℕ → ℕ) : Type 0 where
   pub below : (f : ℕ) → f < g.functions → rank f < g.functions

@@ -27,8 +27,14 @@ pub record Loops : Type 0 where
   pub header : ℕ → ℕ
   -- how often a back edge may be taken between two entries from outside
   pub bound : ℕ → ℕ
+  -- how often it is taken at least between an entry from outside and a step that leaves the loop
+  pub least_trips : ℕ → ℕ
   -- whether a node is in a loop's body
   pub inside : ℕ → ℕ → Bool
+
+-- the same loops, which have to turn so often
+abbrev pub with_trips : Loops → (ℕ → ℕ) → Loops
+with_trips l trips = record { loops = l.loops; header = l.header; bound = l.bound; least_trips = trips; inside = l.inside }
 
 -- A walk is a list of edges, each from the place to which the one before leads.
 -- A place is a node, or none behind an End edge, from which no edge starts.

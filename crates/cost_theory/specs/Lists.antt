@@ -5,7 +5,7 @@ use Rattle.cost_theory.specs.Worst.{Numbers, AreNumbers}
 use Rattle.cost_theory.specs.declared.edges.Word.{Word}
 use Rattle.cost_theory.specs.Reached.{Code, number_beside, graph_of}
 
--- by number of the loop: its header, its bound, and the addresses of its body
+-- by number of the loop: its header, its bound, and the addresses of its body. That it has to turn is not told here.
 pub record Tree : Type 0 where
   pub headers : List ℕ
   pub bounds : List ℕ
@@ -29,6 +29,7 @@ loops_of tree = record {
   loops = length tree.headers;
   header = λ k. slice_index tree.headers k;
   bound = λ k. slice_index tree.bounds k;
+  least_trips = λ k. 0;
   inside = λ k v. is_among v (body_of tree.bodies k);
 }
 

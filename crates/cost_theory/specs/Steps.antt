@@ -1,8 +1,8 @@
 -- Runs of a program over its graph: the kept steps, and the cycles that are left after them.
 -- The cycles left are the remaining worst-case cycles of intra-task voltage scheduling (Shin, Kim and Lee, IEEE Design &
 -- Test of Computers, 2001), at a state of the run: they know the loops' counts and the calls that the run is in.
-use Rattle.std.specs.Prelude.{◌≡◌, ℕ, ◌+◌, ◌-◌, ◌<◌, true, List, [], ◌∷◌, Option, Some, None, IsSome}
-use Rattle.cost_theory.specs.Graph.{Graph, Loops, sum_below, only, count_step, AreWithin, next_edge}
+use Rattle.std.specs.Prelude.{◌≡◌, ℕ, ◌+◌, ◌-◌, ◌<◌, ◌≤◌, Bool, true, false, List, [], ◌∷◌, Option, Some, None, IsSome}
+use Rattle.cost_theory.specs.Graph.{Graph, Loops, sum_below, only, leaves, count_step, AreWithin, next_edge}
 use Rattle.cost_theory.specs.Worst.{Numbers, cost, left_from, turns}
 
 -- Where a run stands: its node, or none where it has exited; the sites of the calls that it is in, the innermost first;
@@ -55,12 +55,24 @@ IsMove g s (Call e f) = (g.callee e ≡ Some f) × (g.target e ≡ None)
 IsMove g s (Return e) = (g.returns e ≡ true) × ComesBack g s.calls
 IsMove g s (Exit e) = g.exits e ≡ true
 
--- a step that breaks no bound
+-- Whether a step leaves a loop. Only a step within a function does: a call goes on at its site, and a return comes back there.
+abbrev pub is_left_by : Graph → Loops → Move → ℕ → Bool
+is_left_by g l (Along e) k = leaves l k (g.source e) (g.target e)
+is_left_by g l (Call e f) k = false
+is_left_by g l (Return e) k = false
+is_left_by g l (Exit e) k = false
+
+-- no loop is left before its least number of back edges
+abbrev pub AreLeftLate : Graph → Loops → Move → (ℕ → ℕ) → Type 0
+AreLeftLate g l m counts = (k : ℕ) → k < l.loops → is_left_by g l m k ≡ true → l.least_trips k ≤ counts k
+
+-- a step that breaks no bound, above or below
 pub record IsKept (g : Graph) (l : Loops) (s : State) (m : Move) : Type 0 where
   pub edge : edge_of m < g.edges
   pub from : s.node ≡ Some (g.source (edge_of m))
   pub move : IsMove g s m
   pub within : AreWithin l (after g l s m).counts
+  pub late : AreLeftLate g l m (after g l s m).counts
 
 -- each of these steps breaks no bound
 abbrev pub AreKept : Graph → Loops → State → List Move → Type 0

@@ -4,3 +4,5 @@ pub mod OrderLaws
 pub mod ListLaws
 pub mod PlacedLaws
 pub mod LoadLaws
+pub mod PageLaws
+pub mod WholeLaws

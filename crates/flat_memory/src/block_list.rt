@@ -1,13 +1,19 @@
 //! Blocks in ascending order, of which at most one has an address.
 
-ghost use Rattle.std.specs.Prelude.{◌≡◌, ℕ, map, IsTrue, IfSome, IfNone, false};
+ghost use Rattle.std.specs.Prelude.{◌≡◌, ℕ, ◌≤◌, ◌<◌, length, map, IsTrue, IfSome, IfNone, false};
 ghost use Rattle.std.specs.List.{list_any};
 ghost use Rattle.scale_base.specs.State.{with_byte};
 ghost use Rattle.flat_memory.specs.Blocks.{span_of, holds, parts_of, may_be_used};
 ghost use Rattle.flat_memory.specs.Blocks as words;
 ghost use Rattle.flat_memory.specs.Ordered.{are_ordered, IsPlaceOf, HasBlock};
+ghost use Rattle.flat_memory.specs.Wholes.{BlocksAllow};
 
 use crate::block::Block;
+use crate::page::PageUse;
+
+const PF_W: u32 = 2;
+
+const PF_R: u32 = 4;
 
 /// How many of the blocks begin at or below an address.
 fn place_of(blocks: &[Block], at: u32) -> usize
@@ -68,5 +74,34 @@ pub fn allows(blocks: &[Block], flag: u32, at: u32) -> bool
     match find_block(blocks, at) {
         Some(k) => blocks[k].allows(flag),
         None => false,
+    }
+}
+
+/// The number of the block that has each address from one to another.
+fn block_over(blocks: &[Block], from: u32, last: u32) -> Option<usize>
+    requires { IsTrue (are_ordered blocks.now) }
+    ensures inside { IfSome result (λ k. k < length blocks.now) }
+    ensures has { IfSome result (λ k. (at : ℕ) → from ≤ at → at ≤ last → HasBlock blocks.now at k) }
+{
+    match find_block(blocks, from) {
+        Some(k) if blocks[k].holds(last) => Some(k),
+        _ => None,
+    }
+}
+
+/// Who may use each address from one to another, as far as the blocks decide.
+pub fn block_use(blocks: &[Block], from: u32, last: u32) -> PageUse
+    requires { IsTrue (are_ordered blocks.now) }
+    ensures { (at : ℕ) → from ≤ at → at ≤ last → BlocksAllow blocks.now at result }
+{
+    let Some(k) = block_over(blocks, from, last) else {
+        return PageUse::Mixed;
+    };
+    if !blocks[k].allows(PF_R) {
+        PageUse::Mixed
+    } else if blocks[k].allows(PF_W) {
+        PageUse::Writable
+    } else {
+        PageUse::Readable
     }
 }

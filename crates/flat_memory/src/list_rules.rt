@@ -18,7 +18,7 @@ const PF_R: u32 = 4;
 
 const STACK: u32 = 0x7FFC_0000;
 
-fn in_stack(at: u32) -> bool
+pub fn in_stack(at: u32) -> bool
     ensures { result ≡ rules.in_stack at }
 {
     at >= STACK && at < 0x8000_0000

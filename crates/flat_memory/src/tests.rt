@@ -98,3 +98,5 @@ fn a_loaded_header(rt: HostRuntime) {
         assert!(rt; !memory.may_write(at));
     }
 }
+
+mod pages;

@@ -24,7 +24,7 @@ abbrev pub small_extent : ℕ → ℕ → Bool
 small_extent k v = nat_eq v 0x10000
 
 abbrev pub small_loop : Loops
-small_loop = record { loops = 1; header = λ k. 0x10000; bound = λ k. 3; inside = small_extent }
+small_loop = record { loops = 1; header = λ k. 0x10000; bound = λ k. 3; least_trips = λ k. 0; inside = small_extent }
 
 -- one of the three addresses
 abbrev IsSmall : ℕ → Type 0

@@ -55,6 +55,7 @@ small_program = record {
   reached = record { lists = small_lists (kind_at small_text) branch addi exit; words = small_words (kind_at small_text) branch addi exit };
   calls = small_calls (kind_at small_text) branch addi exit;
   loops = small_accepted (kind_at small_text) branch addi exit;
+  whole = λ k v kl turns node held. held;
 }
 
 small_numbers : (costs : Class → ℕ) → (nums : Numbers) × AreNumbers (text_graph small_text small_code) small_loop (weights small_text small_code costs) nums

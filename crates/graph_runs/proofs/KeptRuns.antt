@@ -1,5 +1,5 @@
 -- A kept run costs at most the worst cycles of the program's entry.
-use Rattle.std.proofs.Common.{◌≡◌, ℕ, zero, suc, ◌+◌, ◌≤◌, Bool, List, [], ◌∷◌, ◌++◌, refl, sym, ap, ◌∙◌, subst, arith, Option, Some, None}
+use Rattle.std.proofs.Common.{◌≡◌, ℕ, zero, suc, ◌^◌, ◌<◌, ◌≤◌, Bool, List, [], ◌∷◌, ◌++◌, refl, sym, ap, ◌∙◌, subst, arith, Option, Some, None}
 use Rattle.std.specs.List.{sum_by}
 use Rattle.scale_base.specs.declared.stepping.Class.{Class}
 use Rattle.scale_base.specs.declared.stepping.Stepped.{Stepped}
@@ -9,7 +9,7 @@ use Rattle.scale_base.specs.State.{Setting, State}
 use Rattle.scale_base.specs.Step.{step}
 use Rattle.scale_base.specs.Run.{Run, Standing, GoesOn, HasExited, HasTrapped, one_more, one_more_by, ended, run}
 use Rattle.cost_theory.specs.Graph.{Graph, Loops}
-use Rattle.cost_theory.specs.Accepted.{AreAccepted, HasNoRecursion}
+use Rattle.cost_theory.specs.Accepted.{AreAccepted, HasNoRecursion, HaveWholeExtents}
 use Rattle.cost_theory.specs.Worst.{Numbers, AreNumbers}
 use Rattle.cost_theory.specs.Steps as steps
 use Rattle.cost_theory.specs.Steps.Move.{Exit}
@@ -20,7 +20,7 @@ use Rattle.cost_theory.proofs.Runs.{run-worst}
 use Rattle.graph_runs.specs.Text.{Text, kind_at}
 use Rattle.graph_runs.specs.TextStates.{IsTextOf, IsOver}
 use Rattle.graph_runs.specs.ReturnAddresses.{returns_after}
-use Rattle.graph_runs.specs.RunMoves.{after_call, IsStack, StandsBy}
+use Rattle.graph_runs.specs.RunMoves.{IsStack, StandsBy}
 use Rattle.graph_runs.proofs.StepMoves.{place, IsMoveOf, first_site}
 use Rattle.graph_runs.specs.KeptSteps.{by_extents, Carried, counts_after, kept_more}
 use Rattle.graph_runs.specs.EdgeCosts.{weights}
@@ -43,8 +43,8 @@ exit_last (m ∷ k ∷ ms) e = exit_last (k ∷ ms) e
 
 module _ (t : Text) (env : Setting) (ok : IsTextOf t env) (code : Code) (is : IsCodeOf (kind_at t) t.entry code) (fine : HasNoBadWord (kind_at t) t.entry)
     (order : HasNoRecursion (graph_of (kind_at t) code))
-    (l : Loops) (extent : ℕ → ℕ → Bool) (acc : AreAccepted (graph_of (kind_at t) code) l extent) (costs : Class → ℕ) where
-  first_small : (f : ℕ) (calls : List ℕ) → IsStack (kind_at t) t.entry f calls → (u : ℕ) → first_site calls ≡ Some u → after_call u ≡ u + 4
+    (l : Loops) (extent : ℕ → ℕ → Bool) (acc : AreAccepted (graph_of (kind_at t) code) l extent) (whole : HaveWholeExtents (graph_of (kind_at t) code) l extent) (costs : Class → ℕ) where
+  first_small : (f : ℕ) (calls : List ℕ) → IsStack (kind_at t) t.entry f calls → (u : ℕ) → first_site calls ≡ Some u → u < 2 ^ 32
   first_small f [] st u h = let bad : ⊥ = cc in absurd bad
   first_small f (v ∷ vs) st u h =
       let e : v ≡ u = cc in
@@ -70,13 +70,13 @@ module _ (t : Text) (env : Setting) (ok : IsTextOf t env) (code : Code) (is : Is
           let b = before x o (subst (λ q. watched (by_extents l extent) o GoesOn q ≡ Some d) e h) in
           let run : IsKeptRun t code l costs r b.0 = ih b.0 b.1 in
           let a : KeptAt t code l r b.0 run.moves = at b.0 run in
-          let p = kept_parts (by_extents l extent) (counts_after (by_extents l extent) b.0 x) (returns_after b.0.returns x) d b.2 in
+          let p = kept_parts (by_extents l extent) (counts_after (by_extents l extent) b.0 x) x (returns_after b.0.returns x) d b.2 in
           let next : Goes t env code r.state (step env r.state).state a.calls d.returns x.class x.moved = went t env ok code is fine r.state a.function a.calls d.returns a.over a.reached a.stack x e (subst (λ ss. returns_after ss x ≡ Some d.returns) a.returns p.0) in
           let w = went_at env r.state x e in
           let s : steps.State = steps.after_all g l (steps.start g) run.moves in
           let same : s ≡ place r.state.pc a.calls s.counts = place_is s r.state.pc a.calls a.node a.suspended in
           let moved : IsMoveOf t code r.state.pc a.calls x.class next.move (Some x.next) next.calls_after = subst (λ v. IsMoveOf t code r.state.pc a.calls x.class next.move (Some v) next.calls_after) w.1 next.is in
-          let k = kept_move t code l extent (is_program (kind_at t) t.entry code is fine order) acc s.counts b.0 d a.calls next.calls_after x r.state.pc next.move a.counted a.returns (first_small a.function a.calls a.stack) w.0 b.2 moved next.kind in
+          let k = kept_move t code l extent (is_program (kind_at t) t.entry code is fine order) acc whole s.counts b.0 d a.calls next.calls_after x r.state.pc next.move a.counted a.returns (first_small a.function a.calls a.stack) w.0 b.2 moved next.kind in
           let ap1 : steps.after_all g l (steps.start g) (run.moves ++ next.move ∷ []) ≡ steps.after g l s next.move = after-append g l (steps.start g) run.moves next.move in
           let ap2 : steps.after_all g l (steps.start g) (run.moves ++ next.move ∷ []) ≡ steps.after g l (place r.state.pc a.calls s.counts) next.move = ap1 ∙ ap (λ q. steps.after g l q next.move) same in
           subst (λ q. IsKeptRun t code l costs (ended r.steps q (step env r.state).state) d) (sym e) (record {
@@ -106,7 +106,7 @@ module _ (t : Text) (env : Setting) (ok : IsTextOf t env) (code : Code) (is : Is
           let next : (e : ℕ) × IsMoveOf t code r.state.pc a.calls x.class (Exit e) None a.calls = exited t env ok code is fine r.state a.function a.calls [] a.over a.reached a.stack x status e in
           let s : steps.State = steps.after_all g l (steps.start g) run.moves in
           let same : s ≡ place r.state.pc a.calls s.counts = place_is s r.state.pc a.calls a.node a.suspended in
-          let one : steps.IsKept g l (place r.state.pc a.calls s.counts) (Exit next.0) = record { edge = next.1.edge; from = ap Some (sym next.1.from); move = next.1.move s.counts; within = a.bounded } in
+          let one : steps.IsKept g l (place r.state.pc a.calls s.counts) (Exit next.0) = record { edge = next.1.edge; from = ap Some (sym next.1.from); move = next.1.move s.counts; within = a.bounded; late = λ k kl left. (let bad : ⊥ = cc in absurd bad) } in
           subst (λ q. IsKeptRun t code l costs (ended r.steps q (step env r.state).state) d) (sym e) (record {
             moves = run.moves ++ Exit next.0 ∷ [];
             kept = kept-append g l (steps.start g) run.moves (Exit next.0) run.kept (subst (λ q. steps.IsKept g l q (Exit next.0)) (sym same) one);

@@ -10,6 +10,7 @@ pub mod CountLaws
 pub mod WeightLaws
 pub mod KeptLaws
 pub mod KeptRuns
+pub mod LessKept
 pub mod Lengths
 pub mod RangesApart
 pub mod Images

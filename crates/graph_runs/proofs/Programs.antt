@@ -18,11 +18,11 @@ runs_are_moves t env s code l costs at is n rs h = run_moves t env at.text code 
 
 pub runs_are_kept_moves : KeptRunsAreKeptMoves
 runs_are_kept_moves t env s code l extent costs at is n c h =
-    kept_run t env at.text code is.reached.lists is.reached.words is.calls l extent is.loops costs s at.state at.entry n c h
+    kept_run t env at.text code is.reached.lists is.reached.words is.calls l extent is.loops is.whole costs s at.state at.entry n c h
 
 pub runs_are_below : KeptRunsAreBelow
 runs_are_below t env s code l extent costs nums at is are n c h =
-    kept_worst t env at.text code is.reached.lists is.reached.words is.calls l extent is.loops costs s at.state at.entry nums are n c h
+    kept_worst t env at.text code is.reached.lists is.reached.words is.calls l extent is.loops is.whole costs s at.state at.entry nums are n c h
 
 pub cycles_left_are_below : CyclesLeftAreBelow
 cycles_left_are_below t code l extent costs nums is are r c kept =

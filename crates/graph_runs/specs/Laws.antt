@@ -1,13 +1,13 @@
 -- The laws of runs over the graph of reached code, as statements for the contracts of functions.
-use Rattle.std.specs.Prelude.{◌≡◌, ◌↔◌, ℕ, ◌+◌, ◌≤◌, Bool, List, Some, Ok, option_and_then}
+use Rattle.std.specs.Prelude.{◌≡◌, ◌↔◌, ℕ, ◌+◌, ◌<◌, ◌≤◌, Bool, List, Some, Ok, option_and_then}
 use Rattle.std.specs.List.{sum_by}
 use Rattle.scale_base.specs.declared.stepping.Class.{Class}
 use Rattle.scale_base.specs.Image.{Image, image_of, text_word}
 use Rattle.scale_base.specs.Reading.{instr_of}
 use Rattle.scale_base.specs.State.{Setting, State}
 use Rattle.scale_base.specs.Run.{Run, GoesOn, run, run_of, setting_of, start_of}
-use Rattle.cost_theory.specs.Graph.{Loops}
-use Rattle.cost_theory.specs.Accepted.{AreAccepted, HasNoRecursion}
+use Rattle.cost_theory.specs.Graph.{Loops, with_trips}
+use Rattle.cost_theory.specs.Accepted.{AreAccepted, HasNoRecursion, HaveWholeExtents}
 use Rattle.cost_theory.specs.Worst.{Numbers, AreNumbers}
 use Rattle.cost_theory.specs.Steps.{cycles_left}
 use Rattle.cost_theory.specs.Reached.{Code, IsCodeOf, HasNoBadWord}
@@ -25,11 +25,13 @@ pub record IsReachedCode (t : Text) (code : Code) : Type 0 where
   pub lists : IsCodeOf (kind_at t) t.entry code
   pub words : HasNoBadWord (kind_at t) t.entry
 
--- a program: its reached code calls no function from within itself, and its loops are accepted
+-- A program: its reached code calls no function from within itself, its loops are accepted, and one that has to turn has no nodes in its
+-- extent but those of its body.
 pub record IsProgramOf (t : Text) (code : Code) (l : Loops) (extent : ℕ → ℕ → Bool) : Type 0 where
   pub reached : IsReachedCode t code
   pub calls : HasNoRecursion (text_graph t code)
   pub loops : AreAccepted (text_graph t code) l extent
+  pub whole : HaveWholeExtents (text_graph t code) l extent
 
 -- a state at the entry of the text, on the machine of the setting
 pub record IsStartOver (t : Text) (env : Setting) (s : State) : Type 0 where
@@ -52,6 +54,11 @@ RunsAreMoves = (t : Text) (env : Setting) (s : State) (code : Code) (l : Loops) 
 abbrev pub KeptRunsAreKeptMoves : Type 0
 KeptRunsAreKeptMoves = (t : Text) (env : Setting) (s : State) (code : Code) (l : Loops) (extent : ℕ → ℕ → Bool) (costs : Class → ℕ) → IsStartOver t env s → IsProgramOf t code l extent →
     (n : ℕ) (c : Carried) → kept_at env s (by_extents l extent) n ≡ Some c → IsKeptRun t code l costs (run env s n) c
+
+-- A run that is kept where loops have to turn so often is kept, with the same counts, where they have to turn less often.
+abbrev pub KeptRunsAreKeptByLess : Type 0
+KeptRunsAreKeptByLess = (env : Setting) (s : State) (l : Loops) (trips : ℕ → ℕ) → ((k : ℕ) → k < l.loops → trips k ≤ l.least_trips k) →
+    (n : ℕ) (c : Carried) → kept_at env s l n ≡ Some c → kept_at env s (with_trips l trips) n ≡ Some c
 
 -- So it costs at most the worst cycles of the program's entry, whatever the costs of the classes.
 abbrev pub KeptRunsAreBelow : Type 0

@@ -4,7 +4,7 @@
 #![tactic(auto)]
 
 ghost use Rattle.graph_runs.specs.Met.{HypothesesAreMet};
-ghost use Rattle.graph_runs.specs.Laws.{KindsAreOfStoredWords, InstructionsAreOfStoredWords, KnownNumbersArePut, ImageNumbersArePut, RunsAreMoves, KeptRunsAreKeptMoves, KeptRunsAreBelow, KeptRunsEnd, CyclesLeftAreBelow, ImagesStartOver, ImageRunsAreKeptMoves, ImageRunsAreBelow, ImageRunsEnd};
+ghost use Rattle.graph_runs.specs.Laws.{KindsAreOfStoredWords, InstructionsAreOfStoredWords, KnownNumbersArePut, ImageNumbersArePut, RunsAreMoves, KeptRunsAreKeptMoves, KeptRunsAreKeptByLess, KeptRunsAreBelow, KeptRunsEnd, CyclesLeftAreBelow, ImagesStartOver, ImageRunsAreKeptMoves, ImageRunsAreBelow, ImageRunsEnd};
 
 /// The service number that is known at an address is the one that the nearest `addi x17,x0,k` before it puts into x17, at most
 /// 16 words away and in the same range, with no way in between. The ranges of an image share no address.
@@ -27,6 +27,11 @@ pub fn runs_follow_the_graph()
     ensures kept { KeptRunsAreKeptMoves }
     ensures start { ImagesStartOver }
     ensures image { ImageRunsAreKeptMoves }
+{}
+
+/// A run that is kept where loops have to turn so often before they are left is kept where they have to turn less often.
+pub fn kept_runs_are_kept_by_less()
+    ensures { KeptRunsAreKeptByLess }
 {}
 
 /// A kept run costs at most the worst cycles of the program's entry, whatever the costs of the classes, the machine's levels and

@@ -1,4 +1,5 @@
 pub mod HeaderLaws
 pub mod CountLaws
+pub mod BreakLaws
 pub mod StepLaws
 pub mod RunLaws

@@ -1,7 +1,7 @@
 -- Watching a run finds nothing broken exactly where the run is kept.
-use Rattle.std.proofs.Common.{◌≡◌, ◌↔◌, ℕ, zero, suc, ◌+◌, ◌<◌, ◌≤◌, Bool, true, false, nat_lt, cond, ◌⊎◌, inl, inr, ⊎_elim, List, length, map, replicate, get_or, Option, Some, None, is_some, refl, sym, ap, ◌∙◌, subst, arith}
+use Rattle.std.proofs.Common.{◌≡◌, ◌↔◌, ℕ, zero, suc, ◌+◌, ◌<◌, ◌≤◌, Bool, true, false, ◌&&◌, ◌||◌, nat_lt, cond, ◌⊎◌, inl, inr, ⊎_elim, List, length, map, replicate, get_or, Option, Some, None, refl, sym, ap, ◌∙◌, subst, arith}
 use Rattle.std.proofs.lemmas.List.{get_or-replicate}
-use Rattle.std.proofs.lemmas.Bool.{cond-true, cond-false, ltb-true, ltb-false, cases_Bool}
+use Rattle.std.proofs.lemmas.Bool.{cond-true, cond-false, ltb-true, ltb-false}
 use Rattle.std.proofs.lemmas.List.FromFn.{get_or-map-range_with_len}
 use Rattle.std.specs.List.{range_with_len}
 use Rattle.scale_base.specs.declared.endings.Kept.TheVariants as kinds
@@ -12,17 +12,18 @@ use Rattle.scale_base.specs.Image.{Image}
 use Rattle.scale_base.specs.State.{Setting, State}
 use Rattle.scale_base.specs.Step.{step}
 use Rattle.scale_base.specs.Run.{Standing, GoesOn, HasExited, HasTrapped, run, setting_of, start_of}
-use Rattle.cost_theory.specs.Graph.{Loops, is_header, is_round, find_below}
-use Rattle.cost_theory.proofs.Basics.{find-holds, find-some}
+use Rattle.cost_theory.specs.Graph.{Loops, is_header, is_round}
+use Rattle.cost_theory.proofs.Basics.{find-holds}
 use Rattle.cost_theory.proofs.Exists.{none-any}
 use Rattle.cost_theory.proofs.Acyclic.{any-some}
 use Rattle.graph_runs.specs.ReturnAddresses.{returns_after}
-use Rattle.graph_runs.specs.KeptSteps.{Carried, carried_first, source_of, counts_after, is_over, keeps_counts, kept_more}
+use Rattle.graph_runs.specs.KeptSteps.{Carried, carried_first, source_of, counts_after, leaves_by, breaks, is_broken, keeps_counts, kept_more}
 use Rattle.graph_runs.specs.KeptRuns.{watched, kept_at, kept_of}
 use Rattle.graph_runs.proofs.KeptLaws.{kept_parts}
 use Rattle.loop_file.specs.declared.notes.LoopNote.{LoopNote}
 use Rattle.loop_file.specs.Kept.{note_at, noted_loops, most_returns, IsKeptUpTo}
-use Rattle.keep_monitor.specs.Watch.{Watched, watch, watch_returns, watch_loops, watch_end, watched_from, watched_at, next_counts, loop_over}
+use Rattle.keep_monitor.specs.Watch.{Watched, watch, watch_returns, watch_loops, watch_end, watched_from, watched_at, next_counts, loop_broken}
+use Rattle.keep_monitor.proofs.BreakLaws.{not_found}
 use Rattle.keep_monitor.proofs.StepLaws.{watch_stays}
 
 abbrev at_work : List LoopNote → List ℕ → List ℕ → Watched
@@ -48,13 +49,6 @@ record Stops (w : Watched) (o : Option Carried) : Type 0 where
 abbrev Told : List LoopNote → Watched → Option Carried → Type 0
 Told notes w o = Goes notes w o ⊎ Stops w o
 
-not_found : (n : ℕ) (p : ℕ → Bool) → find_below n p ≡ None → (k : ℕ) → k < n → p k ≡ false
-not_found n p none k kl = ⊎_elim
-    (λ (h : p k ≡ true). let some : is_some (find_below n p) ≡ true = find-some n p k kl h in
-    let bad : false ≡ true = subst (λ (o : Option ℕ). is_some o ≡ true) none some in let no : ⊥ = cc in absurd no)
-    (λ (h : p k ≡ false). h)
-    (cases_Bool (p k))
-
 -- a step from the same numbers gives the same
 step_told : (notes : List LoopNote) (c : Carried) (counts : List ℕ) (x : Stepped) → AreSame notes c counts →
     Told notes (watch (at_work notes c.returns counts) x) (kept_more (noted_loops notes) (Some c) x)
@@ -74,12 +68,15 @@ step_told notes c counts x same = go (returns_after c.returns x)
     agree k kl = ap (λ (v : ℕ). cond (is_header (noted_loops notes) k (Some x.next)) (cond (is_round (noted_loops notes) k (source_of x.moved x.pc c.returns)) (v + 1) 0) v) (same k kl)
 
     test : ℕ → Bool
-    test k = nat_lt (note_at notes k).bound (next_counts (at_work notes c.returns counts) x k)
+    test k = breaks (noted_loops notes) (next_counts (at_work notes c.returns counts) x) x k
 
-    by_loop : (rs : List ℕ) → length rs ≤ most_returns → (f : Option ℕ) → loop_over notes (next_counts w x) ≡ f →
-        Told notes (watch_loops w x rs f) (keeps_counts l after (Some rs))
+    alike : (k : ℕ) → k < length notes → breaks (noted_loops notes) after x k ≡ test k
+    alike k kl = ap (λ n. nat_lt (note_at notes k).bound n || (leaves_by x.moved (noted_loops notes) x.pc x.next k && nat_lt n (note_at notes k).at_least)) (agree k kl)
+
+    by_loop : (rs : List ℕ) → length rs ≤ most_returns → (f : Option ℕ) → loop_broken notes (next_counts w x) x ≡ f →
+        Told notes (watch_loops w x rs f) (keeps_counts l after x (Some rs))
     by_loop rs low None e =
-        let none : is_over l after ≡ false = none-any (length notes) _ (λ k kl. ap (nat_lt (note_at notes k).bound) (agree k kl) ∙ not_found (length notes) test e k kl) in
+        let none : is_broken l after x ≡ false = none-any (length notes) _ (λ k kl. alike k kl ∙ not_found (length notes) test e k kl) in
         inl (record {
           carried = record { returns = rs; counts = after };
           counts = map (next_counts w x) (range_with_len 0 (length notes));
@@ -90,18 +87,18 @@ step_told notes c counts x same = go (returns_after c.returns x)
         })
     by_loop rs low (Some k) e =
         let held = find-holds (length notes) test k e in
-        let some : is_over l after ≡ true = any-some (length notes) _ k held.0 (ap (nat_lt (note_at notes k).bound) (agree k held.0) ∙ held.1) in
-        let none : keeps_counts l after (Some rs) ≡ None = cond-true _ _ _ some in
+        let some : is_broken l after x ≡ true = any-some (length notes) _ k held.0 (alike k held.0 ∙ held.1) in
+        let none : keeps_counts l after x (Some rs) ≡ None = cond-true _ _ _ some in
         inr (record {
           broken = λ h. let bad : ⊥ = cc in bad;
           never = λ d h less. let bad : ⊥ = cc in bad;
         })
 
-    by_depth : (rs : List ℕ) (t : Bool) → nat_lt most_returns (length rs) ≡ t → Told notes (watch_returns w x (Some rs)) (keeps_counts l after (Some rs))
-    by_depth rs true e = subst (λ (v : Watched). Told notes v (keeps_counts l after (Some rs))) (sym (cond-true _ _ _ e)) (inr (record {
+    by_depth : (rs : List ℕ) (t : Bool) → nat_lt most_returns (length rs) ≡ t → Told notes (watch_returns w x (Some rs)) (keeps_counts l after x (Some rs))
+    by_depth rs true e = subst (λ (v : Watched). Told notes v (keeps_counts l after x (Some rs))) (sym (cond-true _ _ _ e)) (inr (record {
       broken = λ h. let bad : ⊥ = cc in bad;
       never = λ d h less.
-          let p = kept_parts l after (Some rs) d h in
+          let p = kept_parts l after x (Some rs) d h in
           let r : rs ≡ d.returns = some_list rs d.returns p.0 in
           let size : length rs ≡ length d.returns = ap length r in
           let deep : most_returns < length rs = ltb-true _ _ e in
@@ -110,10 +107,10 @@ step_told notes c counts x same = go (returns_after c.returns x)
       where
         some_list : (a b : List ℕ) → Some a ≡ Some b → a ≡ b
         some_list a b e = let r : a ≡ b = cc in r
-    by_depth rs false e = subst (λ (v : Watched). Told notes v (keeps_counts l after (Some rs))) (sym (cond-false _ _ _ e))
-        (by_loop rs (ltb-false _ _ e) (loop_over notes (next_counts w x)) refl)
+    by_depth rs false e = subst (λ (v : Watched). Told notes v (keeps_counts l after x (Some rs))) (sym (cond-false _ _ _ e))
+        (by_loop rs (ltb-false _ _ e) (loop_broken notes (next_counts w x) x) refl)
 
-    go : (r : Option (List ℕ)) → Told notes (watch_returns w x r) (keeps_counts l after r)
+    go : (r : Option (List ℕ)) → Told notes (watch_returns w x r) (keeps_counts l after x r)
     go None = inr (record {
       broken = λ h. let bad : ⊥ = cc in bad;
       never = λ d h less. let bad : ⊥ = cc in bad;

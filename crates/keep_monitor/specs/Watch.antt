@@ -13,9 +13,9 @@ use Rattle.scale_base.specs.Step.{step}
 use Rattle.scale_base.specs.Run.{Standing, GoesOn, HasExited, HasTrapped, run, setting_of, start_of}
 use Rattle.cost_theory.specs.Graph.{find_below}
 use Rattle.graph_runs.specs.ReturnAddresses.{returns_after}
-use Rattle.graph_runs.specs.KeptSteps.{counts_after}
+use Rattle.graph_runs.specs.KeptSteps.{counts_after, breaks}
 use Rattle.loop_file.specs.declared.notes.LoopNote.{LoopNote}
-use Rattle.loop_file.specs.Kept.{note_at, noted_loops, most_returns}
+use Rattle.loop_file.specs.Kept.{noted_loops, most_returns}
 
 -- what is carried along: the return addresses, the last one first, a count for each loop, and what was broken
 pub record Watched : Type 0 where
@@ -32,9 +32,10 @@ watched_first notes = record { notes = notes; returns = []; counts = replicate (
 abbrev pub next_counts : Watched → Stepped → ℕ → ℕ
 next_counts w x = counts_after (noted_loops w.notes) (record { returns = w.returns; counts = λ k. slice_index w.counts k }) x
 
--- the least loop whose count is above its bound
-abbrev pub loop_over : List LoopNote → (ℕ → ℕ) → Option ℕ
-loop_over notes counts = find_below (length notes) (λ k. nat_lt (note_at notes k).bound (counts k))
+-- The least loop whose bounds a step breaks, after which these are the counts: the count is above the bound, or the step leaves the loop's
+-- extent and the count is below the least.
+abbrev pub loop_broken : List LoopNote → (ℕ → ℕ) → Stepped → Option ℕ
+loop_broken notes counts x = find_below (length notes) (breaks (noted_loops notes) counts x)
 
 -- A step that keeps the rules on calls and returns, after which these are the return addresses. In what is told, loops are
 -- numbered from 1.
@@ -46,7 +47,7 @@ watch_loops w x returns (Some k) = record w { kept = BrokeBound (k + 1) (next_co
 abbrev pub watch_returns : Watched → Stepped → Option (List ℕ) → Watched
 watch_returns w x None = record w { kept = BrokeReturn x.pc x.next }
 watch_returns w x (Some returns) =
-    if nat_lt most_returns (length returns) then record w { kept = BrokeDepth x.pc } else watch_loops w x returns (loop_over w.notes (next_counts w x))
+    if nat_lt most_returns (length returns) then record w { kept = BrokeDepth x.pc } else watch_loops w x returns (loop_broken w.notes (next_counts w x) x)
 
 -- a step after what was kept or broken so far: nothing changes after a break
 abbrev pub watch_after : Kept → Watched → Stepped → Watched

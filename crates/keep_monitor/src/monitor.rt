@@ -8,7 +8,7 @@ ghost use Rattle.keep_monitor.specs.Steps.{IsMonitor};
 
 use crate::headers::{Header, headers_at, sorted_headers};
 use crate::steps::{
-    MOST_RETURNS, broken_bound, broken_return, count_step, move_returns, source_of,
+    MOST_RETURNS, broken_loop, broken_return, count_step, move_returns, source_of, turning_loops,
 };
 use loop_file::LoopNotes;
 use scale_base::{Kept, NoMemory, Stepped};
@@ -16,13 +16,16 @@ use std::alloc::Global;
 use std::marker::Model;
 
 /// Watches the completed steps of a run, one after another, but for one that exits. All the memory that it needs is taken
-/// before the first step: 512 KiB for the return addresses, and 20 bytes for each loop besides its note. A step takes
-/// logarithmic time in the loops, besides those that have its target for their header. Contracts see the notes, the return
+/// before the first step: 512 KiB for the return addresses, and at most 28 bytes for each loop besides its note. A step takes
+/// logarithmic time in the loops, besides those that have its target for their header and those that have to turn before they
+/// are left. Contracts see the notes, the return
 /// addresses, the last one first, a count for each loop, and what was broken.
 #[derive(Drop)]
 pub struct Monitor {
     notes: LoopNotes,
     headers: Vec<Header>,
+    // The loops that have to turn before they are left, ascending.
+    turning: Vec<usize>,
     // The last one last.
     returns: Vec<u32>,
     // By loop.
@@ -39,25 +42,26 @@ impl Model for Monitor {
 
     ghost view = { λ m. record { notes = m.notes; returns = reverse m.returns.items; counts = m.counts.items; kept = m.kept } };
 
-    ghost invariant = { λ m. IsMonitor m.notes m.headers.items (vec_len m.returns) (vec_capacity m.returns) m.counts.items };
+    ghost invariant = { λ m. IsMonitor m.notes m.headers.items m.turning.items (vec_len m.returns) (vec_capacity m.returns) m.counts.items };
 }
 
 // Watches a step of a run that has broken nothing.
 fn watch_step(
     notes: &LoopNotes,
     headers: &[Header],
+    turning: &[usize],
     returns: &mut Vec<u32>,
     counts: &mut Vec<u32>,
     step: &Stepped,
 ) -> Kept
-    requires { IsMonitor notes.now headers.now (vec_len returns.old) (vec_capacity returns.old) counts.old.items }
+    requires { IsMonitor notes.now headers.now turning.now (vec_len returns.old) (vec_capacity returns.old) counts.old.items }
     ensures watched { record { notes = notes.now; returns = reverse returns.new.items; counts = counts.new.items; kept = result } ≡ watch_returns (record { notes = notes.now; returns = reverse returns.old.items; counts = counts.old.items; kept = kinds.Kept }) step.now (returns_after (reverse returns.old.items) step.now) }
-    ensures fits { IsMonitor notes.now headers.now (vec_len returns.new) (vec_capacity returns.new) counts.new.items }
+    ensures fits { IsMonitor notes.now headers.now turning.now (vec_len returns.new) (vec_capacity returns.new) counts.new.items }
 {
     let source = source_of(step, returns);
     let group = headers_at(headers, step.next);
     let of_returns = broken_return(step, returns);
-    let of_loops = broken_bound(notes, group, counts, source);
+    let of_loops = broken_loop(notes, group, turning, counts, source, step);
     if let Some(broken) = of_returns.or(of_loops) {
         return broken;
     }
@@ -72,11 +76,13 @@ impl Monitor {
         ensures { IfOk result (λ m. m ≡ watched_first notes) }
     {
         let headers = sorted_headers(alloc, &notes)?;
+        let turning = turning_loops(alloc, &notes)?;
         let returns = Vec::with_capacity(alloc, MOST_RETURNS)?;
         let counts = vec![in alloc; 0; notes.count()]?;
         Ok(Monitor {
             notes,
             headers,
+            turning,
             returns,
             counts,
             kept: Kept::Kept,
@@ -92,6 +98,7 @@ impl Monitor {
             self.kept = watch_step(
                 &self.notes,
                 &self.headers,
+                &self.turning,
                 &mut self.returns,
                 &mut self.counts,
                 step,

@@ -1,17 +1,18 @@
 //! What a step does to the return addresses and the counts, and what it breaks.
 
-ghost use Rattle.std.specs.Prelude.{◌≡◌, ◌≢◌, ℕ, ◌+◌, ◌<◌, ◌≤◌, ◌^◌, length, reverse, slice_index, IfSome, IfNone, None, Some, vec_len, vec_capacity};
+ghost use Rattle.std.specs.Prelude.{◌≡◌, ◌≢◌, ◌==◌, ℕ, ◌+◌, ◌<◌, ◌≤◌, ◌^◌, if◌then◌else◌, length, reverse, slice_index, IfSome, IfOk, None, Some, vec_len, vec_capacity};
 ghost use Rattle.scale_base.specs.Image as image;
 ghost use Rattle.graph_runs.specs.ReturnAddresses.{returns_after};
 ghost use Rattle.graph_runs.specs.KeptSteps as rules;
 ghost use Rattle.loop_file.specs.Notes.{AreLoopNotes};
 ghost use Rattle.loop_file.specs.Kept as kept;
-ghost use Rattle.keep_monitor.specs.Headers.{AreLoopNumbers, header_at};
-ghost use Rattle.keep_monitor.specs.Steps.{first_of, broken_by, counted, counted_at, IsFirstOver, IsNoneOver, AreCounts};
+ghost use Rattle.keep_monitor.specs.Headers.{AreLoopNumbers, AreLoopsOf, header_at};
+ghost use Rattle.keep_monitor.specs.Steps.{first_of, broken_by, loop_over, leaves_note, is_left_early, loop_left, lesser, broken_loop, counted, counted_at, AreTurning, AreCounts};
 
 use crate::headers::Header;
 use loop_file::{LoopNote, LoopNotes};
-use scale_base::{Kept, Move, Range, Stepped};
+use scale_base::{Kept, Move, NoMemory, Range, Stepped};
+use std::alloc::Global;
 
 /// How many return addresses a kept run has at most.
 pub const MOST_RETURNS: usize = 131_072;
@@ -30,7 +31,7 @@ pub fn source_of(step: &Stepped, returns: &[u32]) -> Option<u32>
         Move::Local => Some(step.pc),
         Move::Call => None,
         Move::Return => match last_of(returns) {
-            Some(to) => Some(to.saturating_sub(4)),
+            Some(to) => Some(to.wrapping_sub(4)),
             None => None,
         },
     }
@@ -115,30 +116,125 @@ fn next_count(note: &LoopNote, source: Option<u32>, count: u32) -> u32
     }
 }
 
-/// The bound that a step to the header of these loops breaks: that of the first one whose count it would take above its bound.
-pub fn broken_bound(
+// The least of these loops of one header whose count a step to it takes above its bound.
+fn first_over(
     notes: &LoopNotes,
     group: &[Header],
     counts: &[u32],
     source: Option<u32>,
-) -> Option<Kept>
+    next: u32,
+) -> Option<usize>
     requires notes { AreLoopNotes notes.now }
     requires counts { AreCounts notes.now counts.now }
-    requires loops { AreLoopNumbers (length notes.now) group.now }
-    ensures none { IfNone result (IsNoneOver notes.now group.now counts.now source) }
-    ensures first { IfSome result (λ broken. IsFirstOver notes.now group.now counts.now source broken) }
+    requires loops { AreLoopsOf notes.now next group.now }
+    ensures over { result ≡ loop_over notes.now counts.now source next }
+    ensures within { IfSome result (λ k. k < length notes.now) }
 {
     for header in group {
         let note = notes.note(header.number);
         let count = next_count(note, source, counts[header.number]);
         if count > note.bound {
-            return Some(Kept::BrokeBound {
-                loop_no: header.number as u32 + 1,
-                count,
-            });
+            return Some(header.number);
         }
     }
     None
+}
+
+// Whether a step leaves a loop's extent. A return never does.
+fn leaves(note: &LoopNote, step: &Stepped) -> bool
+    ensures { result ≡ leaves_note step.now.moved note.now step.now.pc step.now.next }
+{
+    match step.moved {
+        Move::Local => in_extent(note, step.pc) && !in_extent(note, step.next),
+        Move::Call => false,
+        Move::Return => false,
+    }
+}
+
+// Whether a step leaves a loop with this count, below its least number.
+fn is_left_early(note: &LoopNote, step: &Stepped, count: u32) -> bool
+    ensures { result ≡ is_left_early note.now step.now count }
+{
+    count < note.at_least && leaves(note, step)
+}
+
+// The least loop that a step leaves with a count below its least number, among those that have one.
+fn first_left(notes: &LoopNotes, turning: &[usize], counts: &[u32], step: &Stepped) -> Option<usize>
+    requires notes { AreLoopNotes notes.now }
+    requires counts { AreCounts notes.now counts.now }
+    requires turning { AreTurning notes.now (length notes.now) turning.now }
+    ensures left { result ≡ loop_left notes.now counts.now step.now }
+    ensures within { IfSome result (λ k. k < length notes.now) }
+{
+    for &k in turning {
+        if is_left_early(notes.note(k), step, counts[k]) {
+            return Some(k);
+        }
+    }
+    None
+}
+
+fn lesser(one: Option<usize>, other: Option<usize>) -> Option<usize>
+    ensures lesser { result ≡ lesser one other }
+    ensures within { (n : ℕ) → IfSome one (λ a. a < n) → IfSome other (λ b. b < n) → IfSome result (λ k. k < n) }
+{
+    match (one, other) {
+        (Some(a), Some(b)) => Some(if a < b { a } else { b }),
+        (Some(a), None) => Some(a),
+        (None, other) => other,
+    }
+}
+
+// The count of a loop after a step.
+fn count_after(note: &LoopNote, source: Option<u32>, next: u32, count: u32) -> u32
+    requires { count < 2 ^ 31 }
+    ensures { result ≡ (if next == note.now.header then counted note.now source count else count) }
+{
+    if next == note.header {
+        next_count(note, source, count)
+    } else {
+        count
+    }
+}
+
+/// What a step breaks of the rules on loops, where these are the loops of its target: it takes a count above its bound, or
+/// leaves a loop with a count below its least. Of several loops the least is named.
+pub fn broken_loop(
+    notes: &LoopNotes,
+    group: &[Header],
+    turning: &[usize],
+    counts: &[u32],
+    source: Option<u32>,
+    step: &Stepped,
+) -> Option<Kept>
+    requires notes { AreLoopNotes notes.now }
+    requires counts { AreCounts notes.now counts.now }
+    requires loops { AreLoopsOf notes.now step.now.next group.now }
+    requires turning { AreTurning notes.now (length notes.now) turning.now }
+    ensures { result ≡ broken_loop notes.now counts.now source step.now }
+{
+    let over = first_over(notes, group, counts, source, step.next);
+    let left = first_left(notes, turning, counts, step);
+    match lesser(over, left) {
+        None => None,
+        Some(k) => Some(Kept::BrokeBound {
+            loop_no: k as u32 + 1,
+            count: count_after(notes.note(k), source, step.next, counts[k]),
+        }),
+    }
+}
+
+/// The loops that have to turn before they are left, in their order.
+pub fn turning_loops(alloc: Global, notes: &LoopNotes) -> Result<Vec<usize>, NoMemory>
+    ensures { IfOk result (λ turning. AreTurning notes.now (length notes.now) turning.items) }
+{
+    let mut turning = Vec::new(alloc);
+    for k in 0..notes.count() {
+        if notes.note(k).at_least > 0 {
+            turning.push(k)?;
+        }
+    }
+    Ok(turning)
 }
 
 /// Counts a step to the header of these loops, none of whose bounds it breaks.

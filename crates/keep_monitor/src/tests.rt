@@ -6,7 +6,8 @@ use std::test::Fail;
 // A loop at 8 to 24, one inside it at 16 whose extent has a second part, and a second note of the header 8.
 const LOOPS: [(u32, u32, u32, u32); 3] = [(8, 8, 24, 2), (16, 12, 20, 1), (8, 100, 104, 1)];
 
-fn noted(rt: &HostRuntime, loops: &[(u32, u32, u32, u32)]) -> Result<LoopNotes, Fail> {
+// Notes of loops: header, range and bound, and one number of back edges, or the bound where that is less, before they are left.
+fn noted(rt: &HostRuntime, loops: &[(u32, u32, u32, u32)], least: u32) -> Result<LoopNotes, Fail> {
     let mut notes = LoopNotes::new(rt.alloc());
     for (header, from, to, bound) in loops {
         if notes.count() < 4096 && *bound <= 1_000_000_000 {
@@ -20,6 +21,7 @@ fn noted(rt: &HostRuntime, loops: &[(u32, u32, u32, u32)]) -> Result<LoopNotes, 
                 ranges: RangeList::from_vec(items),
                 bound: *bound,
                 counted: false,
+                at_least: if least <= *bound { least } else { *bound },
             })?;
         }
     }
@@ -27,7 +29,15 @@ fn noted(rt: &HostRuntime, loops: &[(u32, u32, u32, u32)]) -> Result<LoopNotes, 
 }
 
 fn monitor(rt: &HostRuntime, loops: &[(u32, u32, u32, u32)]) -> Result<Monitor, Fail> {
-    let notes = noted(rt, loops)?;
+    turning_monitor(rt, loops, 0)
+}
+
+fn turning_monitor(
+    rt: &HostRuntime,
+    loops: &[(u32, u32, u32, u32)],
+    least: u32,
+) -> Result<Monitor, Fail> {
+    let notes = noted(rt, loops, least)?;
     Ok(Monitor::new(rt.alloc(), notes).ok().ok_or("memory")?)
 }
 
@@ -230,6 +240,120 @@ fn a_list_of_131073_addresses_breaks(rt: HostRuntime) -> Result<(), Fail> {
     assert_eq!(rt;
         watch.see(&step(44, Move::Call, 40)),
         Kept::BrokeDepth { at: 44 }
+    );
+    Ok(())
+}
+
+#[test]
+fn a_loop_that_is_left_early_breaks(rt: HostRuntime) -> Result<(), Fail> {
+    let enter = (4, Move::Local, 8);
+    let back = (20, Move::Local, 8);
+    let leave = (20, Move::Local, 24);
+    let mut watch = turning_monitor(&rt, &LOOPS[..1], 2)?;
+    assert_eq!(rt; seen(&mut watch, &[enter, back]), Kept::Kept);
+    assert_eq!(rt;
+        seen(&mut watch, &[leave]),
+        Kept::BrokeBound {
+            loop_no: 1,
+            count: 1
+        }
+    );
+    let mut other = turning_monitor(&rt, &LOOPS[..1], 2)?;
+    let turns = [enter, back, back, leave, (24, Move::Local, 28)];
+    assert_eq!(rt; seen(&mut other, &turns), Kept::Kept);
+    assert_eq!(rt;
+        seen(&mut other, &[enter, leave]),
+        Kept::BrokeBound {
+            loop_no: 1,
+            count: 0
+        }
+    );
+    Ok(())
+}
+
+#[test]
+fn nine_of_ten_turns_are_too_few(rt: HostRuntime) -> Result<(), Fail> {
+    let mut watch = turning_monitor(&rt, &[(4, 4, 12, 10)], 10)?;
+    assert_eq!(rt; seen(&mut watch, &[(0, Move::Local, 4)]), Kept::Kept);
+    for _ in 0..9 {
+        assert_eq!(rt;
+            seen(&mut watch, &[(4, Move::Local, 8), (8, Move::Local, 4)]),
+            Kept::Kept
+        );
+    }
+    assert_eq!(rt;
+        seen(&mut watch, &[(4, Move::Local, 8), (8, Move::Local, 12)]),
+        Kept::BrokeBound {
+            loop_no: 1,
+            count: 9
+        }
+    );
+    Ok(())
+}
+
+#[test]
+fn calls_and_returns_leave_no_loop(rt: HostRuntime) -> Result<(), Fail> {
+    let mut watch = turning_monitor(&rt, &LOOPS[..1], 2)?;
+    let steps = [
+        (4, Move::Local, 8),
+        (20, Move::Call, 200),
+        (200, Move::Local, 204),
+        (204, Move::Return, 24),
+        (24, Move::Local, 28),
+    ];
+    assert_eq!(rt; seen(&mut watch, &steps), Kept::Kept);
+    let mut other = turning_monitor(&rt, &[(8, 8, 208, 2)], 2)?;
+    let steps = [
+        (300, Move::Call, 200),
+        (200, Move::Local, 204),
+        (204, Move::Return, 304),
+    ];
+    assert_eq!(rt; seen(&mut other, &steps), Kept::Kept);
+    Ok(())
+}
+
+#[test]
+fn the_least_of_both_kinds_is_named(rt: HostRuntime) -> Result<(), Fail> {
+    let left = (8, 8, 24, 9);
+    let over = (40, 20, 24, 0);
+    let step = [(20, Move::Local, 40)];
+    let mut watch = turning_monitor(&rt, &[left, over], 1)?;
+    assert_eq!(rt;
+        seen(&mut watch, &step),
+        Kept::BrokeBound {
+            loop_no: 1,
+            count: 0
+        }
+    );
+    let mut other = turning_monitor(&rt, &[over, left], 1)?;
+    assert_eq!(rt;
+        seen(&mut other, &step),
+        Kept::BrokeBound {
+            loop_no: 1,
+            count: 1
+        }
+    );
+    let mut twice = turning_monitor(&rt, &[(100, 0, 4, 9), left, left], 1)?;
+    assert_eq!(rt;
+        seen(&mut twice, &step),
+        Kept::BrokeBound {
+            loop_no: 2,
+            count: 0
+        }
+    );
+    Ok(())
+}
+
+#[test]
+fn a_return_to_0_comes_from_the_last_word(rt: HostRuntime) -> Result<(), Fail> {
+    let mut watch = monitor(&rt, &[(0, 0xFFFF_FFF0, 0xFFFF_FFFF, 0)])?;
+    let call = (0xFFFF_FFFC, Move::Call, 200);
+    assert_eq!(rt;
+        seen(&mut watch, &[call, (200, Move::Return, 0)]),
+        Kept::BrokeBound {
+            loop_no: 1,
+            count: 1
+        }
     );
     Ok(())
 }

@@ -9,6 +9,7 @@ use Rattle.scale_base.specs.declared.stepping.Stepped.{Stepped}
 use Rattle.power_model.specs.declared.power.Level.{Level}
 use Rattle.power_model.specs.Levels.{level, AreRanked}
 use Rattle.power_model.specs.Numbers.{PowerModel, Numbers}
+use Rattle.power_model.specs.Pairs.{pair_at}
 use Rattle.power_model.specs.Price.{level_after, metered, price, unstarted, switch_energy, held_energy}
 use Rattle.stub_runs.specs.Cycles.{cycles}
 use Rattle.leg_prices.specs.Paid.{energy, costs_of, NeverRises, Switch, switches_from, saved, fee, AllPay}
@@ -63,7 +64,7 @@ step_sum : (power : PowerModel) (n : Numbers) (x : Stepped) (xs : List Stepped) 
     ≡ n.energy + (costs_of power x.class + cycles (costs_of power) xs) * energy power n.level
     + sum_by (fee power) (cond b (switches_from power (level_after n.level x) xs) (record { from = n.level; to = level_after n.level x; cycles = cycles (costs_of power) xs } ∷ switches_from power (level_after n.level x) xs))
 step_sum power n x xs final ranked low falls ih true is =
-    let none : switch_energy power n.level (level_after n.level x) ≡ 0 = ap (λ (b : Bool). if b then 0 else power.switch_energy) is in
+    let none : switch_energy power n.level (level_after n.level x) ≡ 0 = ap (λ (b : Bool). if b then 0 else pair_at power.switch_energy n.level (level_after n.level x)) is in
     let same : n.level ≡ level_after n.level x = eqb-true n.level (level_after n.level x) is in
     let rate : cycles (costs_of power) xs * energy power n.level ≡ cycles (costs_of power) xs * energy power (level_after n.level x) = ap (λ i. cycles (costs_of power) xs * energy power i) same in
     let both = add-mul (costs_of power x.class) (cycles (costs_of power) xs) (energy power n.level) in

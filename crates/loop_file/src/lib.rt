@@ -15,9 +15,10 @@ use reads::notes_of;
 use scale_base::{Refusal, Stop};
 use std::alloc::Global;
 
-/// Reads the loop file of an image, a TOML document: `version = 1`, and for each loop a table `[[loop]]` with the address of its
-/// `header`, 1 to 16 `ranges` of two addresses, the `bound` of its back edges for an entry, at most 1,000,000,000, and maybe `counted`,
-/// a boolean. An address is an integer below 2^32, or names a symbol of the image, with an offset or without: `"main"`, `"main+16"`,
+/// Reads the loop file of an image, a TOML document: `version`, which is 1 or 2, and for each loop a table `[[loop]]` with the
+/// address of its `header`, 1 to 16 `ranges` of two addresses, the `bound` of its back edges for an entry, at most 1,000,000,000,
+/// maybe `counted`, a boolean, and in version 2 maybe `at_least`, the least number of back edges of an entry that leaves the loop,
+/// at most the bound. An address is an integer below 2^32, or names a symbol of the image, with an offset or without: `"main"`, `"main+16"`,
 /// `"main+0x1f"`. The first thing that is wrong is refused, in the order of `specs/Loops.antt`.
 #[tactic(auto, unfolding(crate::specs::Loops::read_loops))]
 pub fn read_loops(alloc: Global, bytes: &[u8], view: &ImageView<'_>) -> Result<LoopNotes, Stop>

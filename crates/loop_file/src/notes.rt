@@ -47,17 +47,19 @@ impl RangeList {
 }
 
 /// What is noted of a loop: the address of its header, the ranges of addresses that it lies in, how many back edges one
-/// entry of the loop may take, and whether a shadow counter counts them.
+/// entry of the loop may take, whether a shadow counter counts them, and how many of them an entry takes at least before the
+/// loop is left.
 #[derive(Drop)]
 pub struct LoopNote {
     pub header: u32,
     pub ranges: RangeList,
     pub bound: u32,
     pub counted: bool,
+    pub at_least: u32,
 }
 
 /// The notes of the loops of a file, in its order: at most 4,096, each with 1 to 16 ranges and a bound of at most
-/// 1,000,000,000. Contracts see their list.
+/// 1,000,000,000, which `at_least` doesn't pass. Contracts see their list.
 #[derive(Drop)]
 pub struct LoopNotes {
     items: Vec<LoopNote>,

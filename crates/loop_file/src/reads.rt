@@ -1,12 +1,12 @@
 //! Reads the table of a loop file, and those of its loops.
 
-ghost use Rattle.std.specs.Prelude.{◌≡◌, ◌≤◌, length, map, IfOk};
+ghost use Rattle.std.specs.Prelude.{◌≡◌, ◌≤◌, length, map, option_map, IfOk};
 ghost use Rattle.toml.specs.View.{table_view};
 ghost use Rattle.scale_base.specs.Answer.{Answers, Refuses};
 ghost use Rattle.scale_base.specs.declared.refusal.Refusal.TheVariants.{LoopKey, LoopValue};
-ghost use Rattle.table_keys.specs.Keys.{checked_keys};
+ghost use Rattle.table_keys.specs.Keys.{checked_keys, least_unknown};
 ghost use Rattle.loop_file.specs.Notes.{IsLoopNote};
-ghost use Rattle.loop_file.specs.Loops.{checked_version, loop_tables, fault_refusal, required_keys, loop_keys, header_at, ranges_at, bound_of, counted_at, note_of, notes_from, notes_of};
+ghost use Rattle.loop_file.specs.Loops.{version_of, loop_tables, fault_refusal, required_keys, loop_keys, header_at, ranges_at, bound_of, counted_at, least_at, note_of, notes_from, notes_of};
 
 use crate::address::{Fault, address};
 use crate::notes::{LoopNote, LoopNotes, RangeList};
@@ -14,7 +14,7 @@ use crate::ranges::ranges_of;
 use elf_view::ImageView;
 use scale_base::{Name, Refusal, Stop};
 use std::alloc::Global;
-use table_keys::{find, first_missing, least_unknown, number_at, tables};
+use table_keys::{find, first_missing, least_unknown, number_at, number_of, tables};
 use toml::Table;
 
 // The number that stands for the file itself where a refusal names a loop.
@@ -24,7 +24,9 @@ const FILE_KEYS: [&str; 2] = ["version", "loop"];
 
 const REQUIRED_KEYS: [&str; 3] = ["header", "ranges", "bound"];
 
-const LOOP_KEYS: [&str; 4] = ["header", "ranges", "bound", "counted"];
+const FIRST_LOOP_KEYS: [&str; 4] = ["header", "ranges", "bound", "counted"];
+
+const LOOP_KEYS: [&str; 5] = ["header", "ranges", "bound", "counted", "at_least"];
 
 const MOST_LOOPS: usize = 4096;
 
@@ -58,14 +60,14 @@ fn faulty(alloc: Global, number: u32, key: &str, fault: Fault) -> Stop
     }
 }
 
-fn check_version(alloc: Global, table: &Table) -> Result<(), Stop>
-    ensures { Answers (λ x. x) result (checked_version (table_view table.now)) }
+fn version(alloc: Global, table: &Table) -> Result<u32, Stop>
+    ensures { Answers (λ n. n) result (version_of (table_view table.now)) }
 {
     if find(table, "version").is_none() {
         return Err(bad_key(alloc, FILE, "version"));
     }
-    match number_at(table, "version", 1, 1) {
-        Some(_) => Ok(()),
+    match number_at(table, "version", 1, 2) {
+        Some(n) => Ok(n as u32),
         None => Err(bad_value(alloc, FILE, "version")),
     }
 }
@@ -82,13 +84,24 @@ fn loop_tables<'t>(alloc: Global, table: &'t Table) -> Result<Vec<&'t Table>, St
     }
 }
 
-fn check_keys(alloc: Global, number: u32, table: &Table) -> Result<(), Stop>
-    ensures { Answers (λ x. x) result (checked_keys (LoopKey number) required_keys loop_keys (table_view table.now)) }
+// The least key of a loop that a file of this version doesn't know.
+fn unknown_key<'t>(version: u32, table: &'t Table) -> Option<&'t str>
+    ensures { option_map (λ k. k.now) result ≡ least_unknown (loop_keys version) (table_view table.now) }
+{
+    if version == 2 {
+        least_unknown(table, &LOOP_KEYS)
+    } else {
+        least_unknown(table, &FIRST_LOOP_KEYS)
+    }
+}
+
+fn check_keys(alloc: Global, version: u32, number: u32, table: &Table) -> Result<(), Stop>
+    ensures { Answers (λ x. x) result (checked_keys (LoopKey number) required_keys (loop_keys version) (table_view table.now)) }
 {
     if let Some(key) = first_missing(table, &REQUIRED_KEYS) {
         return Err(bad_key(alloc, number, key));
     }
-    if let Some(key) = least_unknown(table, &LOOP_KEYS) {
+    if let Some(key) = unknown_key(version, table) {
         return Err(bad_key(alloc, number, key));
     }
     Ok(())
@@ -146,27 +159,55 @@ fn counted(alloc: Global, number: u32, table: &Table) -> Result<bool, Stop>
     }
 }
 
+fn at_least(alloc: Global, number: u32, bound: u32, table: &Table) -> Result<u32, Stop>
+    ensures least { Answers (λ n. n) result (least_at number bound (table_view table.now)) }
+    ensures within { IfOk result (λ n. n ≤ bound) }
+{
+    match find(table, "at_least") {
+        None => Ok(0),
+        Some(value) => match number_of(value, 0, bound as u64) {
+            Some(n) => Ok(n as u32),
+            None => Err(bad_value(alloc, number, "at_least")),
+        },
+    }
+}
+
 #[tactic(auto, unfolding(crate::specs::Loops::note_of))]
-fn note(alloc: Global, image: &ImageView<'_>, number: u32, table: &Table) -> Result<LoopNote, Stop>
-    ensures note { Answers (λ note. note) result (note_of image.now number (table_view table.now)) }
+fn note(
+    alloc: Global,
+    image: &ImageView<'_>,
+    version: u32,
+    number: u32,
+    table: &Table,
+) -> Result<LoopNote, Stop>
+    ensures note { Answers (λ note. note) result (note_of image.now version number (table_view table.now)) }
     ensures kept { IfOk result IsLoopNote }
 {
-    check_keys(alloc, number, table)?;
+    check_keys(alloc, version, number, table)?;
+    let header = header(alloc, image, number, table)?;
+    let ranges = ranges(alloc, image, number, table)?;
+    let bound = bound(alloc, number, table)?;
     Ok(LoopNote {
-        header: header(alloc, image, number, table)?,
-        ranges: ranges(alloc, image, number, table)?,
-        bound: bound(alloc, number, table)?,
+        header,
+        ranges,
+        bound,
         counted: counted(alloc, number, table)?,
+        at_least: at_least(alloc, number, bound, table)?,
     })
 }
 
-fn notes(alloc: Global, image: &ImageView<'_>, tables: &[&Table]) -> Result<LoopNotes, Stop>
+fn notes(
+    alloc: Global,
+    image: &ImageView<'_>,
+    version: u32,
+    tables: &[&Table],
+) -> Result<LoopNotes, Stop>
     requires { length tables.now ≤ 4096 }
-    ensures { Answers (λ notes. notes) result (notes_from image.now 1 (map (λ t. table_view t.now) tables.now)) }
+    ensures { Answers (λ notes. notes) result (notes_from image.now version 1 (map (λ t. table_view t.now) tables.now)) }
 {
     let mut notes = LoopNotes::new(alloc);
     for (i, table) in tables.iter().enumerate() {
-        notes.push(note(alloc, image, i as u32 + 1, table)?)?;
+        notes.push(note(alloc, image, version, i as u32 + 1, table)?)?;
     }
     Ok(notes)
 }
@@ -176,7 +217,7 @@ fn notes(alloc: Global, image: &ImageView<'_>, tables: &[&Table]) -> Result<Loop
 pub fn notes_of(alloc: Global, image: &ImageView<'_>, table: &Table) -> Result<LoopNotes, Stop>
     ensures { Answers (λ notes. notes) result (notes_of image.now (table_view table.now)) }
 {
-    check_version(alloc, table)?;
+    let version = version(alloc, table)?;
     if let Some(key) = least_unknown(table, &FILE_KEYS) {
         return Err(bad_key(alloc, FILE, key));
     }
@@ -185,5 +226,5 @@ pub fn notes_of(alloc: Global, image: &ImageView<'_>, table: &Table) -> Result<L
         let count = tables.len().min(0xFFFF_FFFF) as u32;
         return Err(Stop::Refused(Refusal::TooManyLoops(count)));
     }
-    notes(alloc, image, &tables)
+    notes(alloc, image, version, &tables)
 }

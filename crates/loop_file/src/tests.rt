@@ -25,7 +25,7 @@ static IMAGE: [u8; 501] = [
 ];
 
 // Loop files, and what is answered.
-static FILES: [(&str, &str); 19] = [
+static FILES: [(&str, &str); 23] = [
     ("version = 1\n", "read 0"),
     ("# no loops\nversion = 0x1", "read 0"),
     ("version = 1\nloop = []\n", "read 0"),
@@ -38,7 +38,11 @@ static FILES: [(&str, &str); 19] = [
     ("", "key 0 version"),
     ("loop = 5\n", "key 0 version"),
     ("odd = 1\n", "key 0 version"),
-    ("version = 2\n", "value 0 version"),
+    ("version = 2\n", "read 0"),
+    ("version = 2\nloop = []\n", "read 0"),
+    ("version = 2\nodd = 1\n", "key 0 odd"),
+    ("version = 3\n", "value 0 version"),
+    ("version = 2.0\n", "value 0 version"),
     ("version = 0\nodd = 1\n", "value 0 version"),
     ("version = 1.0\n", "value 0 version"),
     ("version = \"1\"\nloop = 5\n", "value 0 version"),
@@ -112,6 +116,43 @@ static LOOPS: [(&str, &str); 18] = [
         "header = 1\nranges = [[1, 2]]\nbound = 1\n[[loop]]\nheader = 1\nranges = [[1, 2]]\nbound = 1\n",
         "read 2 at 1",
     ),
+];
+
+// What stands in the table of the first loop of version 2, whose header is 1 and whose range is 1 to 2, and what is answered.
+static LEAST: [(&str, &str); 16] = [
+    ("bound = 10\n", "read 1 at 1 least 0"),
+    ("bound = 10\nat_least = 0\n", "read 1 at 1 least 0"),
+    ("bound = 10\nat_least = 10\n", "read 1 at 1 least 10"),
+    ("at_least = 0x9\nbound = 10\n", "read 1 at 1 least 9"),
+    ("bound = 0\nat_least = 0\n", "read 1 at 1 least 0"),
+    (
+        "bound = 1000000000\nat_least = 1_000_000_000\n",
+        "read 1 at 1 least 1000000000",
+    ),
+    ("bound = 10\nat_least = 11\n", "value 1 at_least"),
+    ("bound = 0\nat_least = 1\n", "value 1 at_least"),
+    ("bound = 10\nat_least = -1\n", "value 1 at_least"),
+    ("bound = 10\nat_least = 1.0\n", "value 1 at_least"),
+    ("bound = 10\nat_least = \"1\"\n", "value 1 at_least"),
+    ("bound = 10\nat_least = true\n", "value 1 at_least"),
+    (
+        "bound = 10\nat_least = 11\ncounted = 1\n",
+        "value 1 counted",
+    ),
+    ("bound = -1\nat_least = 11\n", "value 1 bound"),
+    ("at_least = 11\n", "key 1 bound"),
+    (
+        "bound = 10\nat_least = 11\nat_most = 1\natleast = 1\n",
+        "key 1 at_most",
+    ),
+];
+
+// The same of version 1, which doesn't know the key.
+static UNKNOWN: [(&str, &str); 4] = [
+    ("bound = 10\nat_least = 0\n", "key 1 at_least"),
+    ("bound = -1\nat_least = 11\n", "key 1 at_least"),
+    ("at_least = 1\n", "key 1 bound"),
+    ("bound = 10\nat_least = 0\nagain = 1\n", "key 1 again"),
 ];
 
 // Headers of a loop, and what is answered.
@@ -210,7 +251,13 @@ fn told(rt: &HostRuntime, stop: Stop) -> Result<String, Fail> {
     }
 }
 
-fn answer(rt: &HostRuntime, view: &ImageView<'_>, bytes: &[u8]) -> Result<String, Fail> {
+// What is read, with the least number of back edges of the first loop where that is asked.
+fn answer(
+    rt: &HostRuntime,
+    view: &ImageView<'_>,
+    bytes: &[u8],
+    with_least: bool,
+) -> Result<String, Fail> {
     let notes = match read_loops(rt.alloc(), bytes, view) {
         Ok(notes) => notes,
         Err(stop) => return told(rt, stop),
@@ -220,6 +267,10 @@ fn answer(rt: &HostRuntime, view: &ImageView<'_>, bytes: &[u8]) -> Result<String
         return Ok(String::from_str(rt.alloc(), "read 0")?);
     }
     let at = notes.note(0).header;
+    if with_least {
+        let least = notes.note(0).at_least;
+        return Ok(format!(in rt.alloc(); "read {count} at {at} least {least}")?);
+    }
     Ok(format!(in rt.alloc(); "read {count} at {at}")?)
 }
 
@@ -236,11 +287,12 @@ fn first_wrong(
     cases: &[(&str, &str)],
     before: &str,
     after: &str,
+    with_least: bool,
 ) -> Result<String, Fail> {
     let view = view_of(rt)?;
     for (case, expected) in cases {
         let text = format!(in rt.alloc(); "{before}{case}{after}")?;
-        let got = answer(rt, &view, text.as_bytes())?;
+        let got = answer(rt, &view, text.as_bytes(), with_least)?;
         if got.as_str() != *expected {
             return Ok(format!(in rt.alloc(); "{case}: {got}")?);
         }
@@ -250,15 +302,29 @@ fn first_wrong(
 
 #[test]
 fn answers_files_in_order(rt: HostRuntime) -> Result<(), Fail> {
-    assert_eq!(rt; first_wrong(&rt, &FILES, "", "")?.as_str(), "");
-    let got = answer(&rt, &view_of(&rt)?, b"version = 1 # \xff")?;
+    assert_eq!(rt; first_wrong(&rt, &FILES, "", "", false)?.as_str(), "");
+    let got = answer(&rt, &view_of(&rt)?, b"version = 1 # \xff", false)?;
     assert_eq!(rt; got.as_str(), "text");
     Ok(())
 }
 
 #[test]
 fn answers_loops_in_order(rt: HostRuntime) -> Result<(), Fail> {
-    let wrong = first_wrong(&rt, &LOOPS, "version = 1\n[[loop]]\n", "")?;
+    let wrong = first_wrong(&rt, &LOOPS, "version = 1\n[[loop]]\n", "", false)?;
+    assert_eq!(rt; wrong.as_str(), "");
+    Ok(())
+}
+
+#[test]
+fn answers_least_numbers_of_version_2(rt: HostRuntime) -> Result<(), Fail> {
+    let before = "version = 2\n[[loop]]\nheader = 1\nranges = [[1, 2]]\n";
+    let wrong = first_wrong(&rt, &LEAST, before, "", true)?;
+    assert_eq!(rt; wrong.as_str(), "");
+    let before = "version = 1\n[[loop]]\nheader = 1\nranges = [[1, 2]]\n";
+    let wrong = first_wrong(&rt, &UNKNOWN, before, "", true)?;
+    assert_eq!(rt; wrong.as_str(), "");
+    let unread = "version = 2\n[[loop]]\nheader = \"none\"\nranges = [[1, 2]]\nbound = 1\n";
+    let wrong = first_wrong(&rt, &[("at_least = 2\n", "symbol 1")], unread, "", true)?;
     assert_eq!(rt; wrong.as_str(), "");
     Ok(())
 }
@@ -266,10 +332,10 @@ fn answers_loops_in_order(rt: HostRuntime) -> Result<(), Fail> {
 #[test]
 fn takes_addresses_and_ranges(rt: HostRuntime) -> Result<(), Fail> {
     let before = "version = 1\n[[loop]]\nbound = 1\nranges = [[1, 2]]\nheader = ";
-    let wrong = first_wrong(&rt, &ADDRESSES, before, "\n")?;
+    let wrong = first_wrong(&rt, &ADDRESSES, before, "\n", false)?;
     assert_eq!(rt; wrong.as_str(), "");
     let before = "version = 1\n[[loop]]\nheader = 1\nbound = 1\nranges = ";
-    let wrong = first_wrong(&rt, &RANGES, before, "\n")?;
+    let wrong = first_wrong(&rt, &RANGES, before, "\n", false)?;
     assert_eq!(rt; wrong.as_str(), "");
     Ok(())
 }
@@ -281,10 +347,10 @@ fn takes_4096_loops(rt: HostRuntime) -> Result<(), Fail> {
     for _ in 0..4096 {
         text.push_str("[[loop]]\nheader = 1\nranges = [[1, 2]]\nbound = 1\n")?;
     }
-    let got = answer(&rt, &view, text.as_bytes())?;
+    let got = answer(&rt, &view, text.as_bytes(), false)?;
     assert_eq!(rt; got.as_str(), "read 4096 at 1");
     text.push_str("[[loop]]\n")?;
-    let got = answer(&rt, &view, text.as_bytes())?;
+    let got = answer(&rt, &view, text.as_bytes(), false)?;
     assert_eq!(rt; got.as_str(), "loops 4097");
     Ok(())
 }
@@ -329,6 +395,7 @@ fn keeps_notes_in_their_order(rt: HostRuntime) -> Result<(), Fail> {
         ranges: RangeList::from_vec(items),
         bound: 1_000_000_000,
         counted: true,
+        at_least: 1_000_000_000,
     };
     notes.push(note)?;
     assert_eq!(rt; notes.count(), 1);

@@ -5,3 +5,4 @@ mod RoundLaws
 pub mod OrderLaws
 mod NestLaws
 mod TreeLaws
+pub mod TripLaws

@@ -5,11 +5,12 @@ use Rattle.std.proofs.lemmas.Bool.{cases_lt}
 use Rattle.std.proofs.lemmas.List.{length-map, get_or-map}
 use Rattle.std.proofs.lemmas.Option.{slice_get_within, slice_get-get_or, get_or_from_slice_get, slice_get-map}
 use Rattle.cost_theory.specs.Lists.{body_of}
+use Rattle.cost_theory.proofs.Nesting.{accepted_with}
 use Rattle.cost_theory.proofs.Orders.{entered-accepted}
 use Rattle.code_graph.specs.FlowGraph.{FlowGraph, graph, IsFlowGraph}
 use Rattle.code_graph.proofs.Parts.{map_is}
 use Rattle.loop_file.specs.declared.notes.LoopNote.{LoopNote}
-use Rattle.loop_file.specs.Kept.{noted_loops}
+use Rattle.loop_file.specs.Kept.{noted_loops, note_at}
 use Rattle.loop_file.specs.Notes.{IsLoopNote, AreLoopNotes}
 use Rattle.natural_loops.specs.Noted.{node_address, header_address}
 use Rattle.natural_loops.specs.Found.{LoopsView, AreNaturalLoops, loops_seen}
@@ -17,16 +18,18 @@ use Rattle.natural_loops.specs.Refused.{AreNoted}
 use Rattle.loop_nesting.specs.Nesting.{IsNesting, IsNextAtHeader}
 use Rattle.loop_nesting.specs.Nesting.{IsInnermost as IsShortest}
 use Rattle.loop_tree.proofs.Lists.{image_some}
-use Rattle.loop_tree.specs.Tree.{LoopView, ArePlainOrdered, IsTreeOf, IsPlainStep, IsCycleRefused}
+use Rattle.loop_tree.specs.Tree.{LoopView, ArePlainOrdered, HasWholeExtent, IsTreeOf, IsPlainStep, IsCycleRefused}
 use Rattle.loop_tree.specs.Stored.{IsStored}
 use Rattle.loop_tree.specs.Backs.{AreLoopLists, AreBacks, IsStepBy}
+use Rattle.loop_tree.specs.Trips.{IsWholeBody, AreTrips}
 use Rattle.call_orders.specs.declared.Arc.{Arc}
 use Rattle.call_orders.specs.Arcs.{IsSorted}
 use Rattle.call_orders.specs.Cycles.{IsCycleBy}
 use Rattle.scale_base.specs.declared.refusal.Refusal.TheVariants.{UnboundedCycle}
 use Rattle.loop_tree.specs.Arcs.{ArePlainArcs}
-use Rattle.loop_tree.proofs.BackLaws.{back_as, back_from, by_plain, step_as}
+use Rattle.loop_tree.proofs.BackLaws.{inside_at, inside_here, back_as, back_from, by_plain, step_as}
 use Rattle.loop_tree.proofs.RoundLaws.{cycle_as}
+use Rattle.loop_tree.proofs.TripLaws.{trips_le}
 use Rattle.loop_tree.proofs.OrderLaws.{IsTurned, ordered, plain_order, place_of}
 use Rattle.loop_tree.proofs.NestLaws.{AreSeen, innermost_as, parent_as, headers_outer}
 
@@ -58,16 +61,51 @@ noted v notes t are = record {
   count = length-map t.headers (node_address v) ∙ are.headers_size;
   header = λ k kl.
       get_or-map (node_address v) t.headers k 0 0 (subst (λ n. k < n) (sym are.headers_size) kl) ∙ get_or_from_slice_get v.code.nodes (slice_index t.headers k) (header_address notes k) 0 (are.header k kl);
-  bound = λ k kl. get_or-map (λ (note : LoopNote). note.bound) notes k (record { header = 0; ranges = []; bound = 0; counted = false }) 0 kl;
+  bound = λ k kl. get_or-map (λ (note : LoopNote). note.bound) notes k (record { header = 0; ranges = []; bound = 0; counted = false; at_least = 0 }) 0 kl;
 }
 
+-- ---- how often loops turn at least
+
+-- never more often than their bounds allow
+trips_fit : (v : FlowGraph) (notes : List LoopNote) (bodies : List (List ℕ)) (trips : List ℕ) → AreLoopNotes notes → AreTrips v notes bodies (length notes) trips → (k : ℕ) → slice_index trips k ≤ slice_index (bounds_in notes) k
+trips_fit v notes bodies trips in_range are k = ⊎_elim
+    (λ (low : k < length notes).
+    let is : IsLoopNote (note_at notes k) = in_range.each k (record { header = 0; ranges = []; bound = 0; counted = false; at_least = 0 }) low in
+    let least : (note_at notes k).at_least ≤ (note_at notes k).bound = is.least in
+    let up : slice_index trips k ≤ (note_at notes k).at_least = trips_le v (note_at notes k) (body_of bodies k) (slice_index trips k) (are.each k low) in
+    let bound : slice_index (bounds_in notes) k ≡ (note_at notes k).bound = get_or-map (λ (note : LoopNote). note.bound) notes k (record { header = 0; ranges = []; bound = 0; counted = false; at_least = 0 }) 0 low in
+    omega arith)
+    (λ (high : length notes ≤ k).
+    let z : slice_index trips k ≡ 0 = beyond trips k (subst (λ n. n ≤ k) (sym are.size) high) in
+    omega arith)
+    (cases_lt k (length notes))
+  where
+    beyond : (xs : List ℕ) (k : ℕ) → length xs ≤ k → slice_index xs k ≡ 0
+    beyond [] k le = refl
+    beyond (x ∷ xs) zero le = let bad : ⊥ = omega arith in absurd bad
+    beyond (x ∷ xs) (suc k) le = beyond xs k (omega arith)
+
+-- a body has the nodes of its extent, by their numbers and by their addresses
+module _ (v : FlowGraph) (notes : List LoopNote) (t : LoopsView) (flow : IsFlowGraph v) (are : AreNaturalLoops v notes t) (k : ℕ) (kl : k < length notes) where
+  whole_here : IsWholeBody v (note_at notes k) (body_of t.bodies k) → HasWholeExtent v (loops_seen v notes t) (noted_loops notes).inside k
+  whole_here w at node held =
+      let x = (flow.nodes at).1 node in
+      inside_at v t.headers (bounds_in notes) t.bodies k x.0 at x.1 (w x.0 at x.1 held)
+
+  whole_back : HasWholeExtent v (loops_seen v notes t) (noted_loops notes).inside k → IsWholeBody v (note_at notes k) (body_of t.bodies k)
+  whole_back w i at g held =
+      inside_here v t.headers (bounds_in notes) t.bodies k i at flow (lists_of v notes t are) (subst (λ n. k < n) (sym are.headers_size) kl) g (w at ((flow.nodes at).0 (i, g)) held)
+
 -- what a tree of these parts keeps
-pub stored : (v : FlowGraph) (notes : List LoopNote) (t : LoopsView) (backs innermost parent : List (Option ℕ)) (order : List ℕ) → AreLoopNotes notes → AreNaturalLoops v notes t → length parent ≡ length t.bodies →
-    IsStored (record { headers = t.headers; bounds = bounds_in notes; counted = map (λ (note : LoopNote). note.counted) notes; bodies = t.bodies; backs = backs; innermost = innermost; parent = parent; order = order })
-stored v notes t backs innermost parent order in_range are size = record {
+pub stored : (v : FlowGraph) (notes : List LoopNote) (t : LoopsView) (trips : List ℕ) (backs innermost parent : List (Option ℕ)) (order : List ℕ) → AreLoopNotes notes → AreNaturalLoops v notes t → AreTrips v notes t.bodies (length notes) trips →
+    length parent ≡ length t.bodies →
+    IsStored (record { headers = t.headers; bounds = bounds_in notes; counted = map (λ (note : LoopNote). note.counted) notes; least_trips = trips; bodies = t.bodies; backs = backs; innermost = innermost; parent = parent; order = order })
+stored v notes t trips backs innermost parent order in_range are turn size = record {
   few = subst (λ n. n ≤ 4096) (sym are.headers_size) in_range.few;
   bounds = length-map notes (λ (note : LoopNote). note.bound) ∙ sym are.headers_size;
   counted = length-map notes (λ (note : LoopNote). note.counted) ∙ sym are.headers_size;
+  trips = turn.size ∙ sym are.headers_size;
+  trips_fit = trips_fit v notes t.bodies trips in_range turn;
   bodies = are.bodies_size ∙ sym are.headers_size;
   parent = size ∙ are.bodies_size ∙ sym are.headers_size;
   ascending = λ k i j x y ij at_i at_j. ⊎_elim
@@ -85,21 +123,26 @@ stored v notes t backs innermost parent order in_range are size = record {
     no_body (b ∷ bs) (suc k) le = no_body bs k (omega arith)
 
 -- the parts are the tree of the notes
-pub tree_of : (v : FlowGraph) (notes : List LoopNote) (t : LoopsView) (backs innermost parent : List (Option ℕ)) (order : List ℕ) → IsFlowGraph v → AreLoopNotes notes → AreNaturalLoops v notes t →
+pub tree_of : (v : FlowGraph) (notes : List LoopNote) (t : LoopsView) (trips : List ℕ) (backs innermost parent : List (Option ℕ)) (order : List ℕ) → IsFlowGraph v → AreLoopNotes notes → AreNaturalLoops v notes t → AreTrips v notes t.bodies (length notes) trips →
     AreBacks v t.headers t.bodies (length v.code.edges) backs → ArePlainOrdered v (loops_seen v notes t) order → IsNesting t.bodies t.headers (length v.code.nodes) (record { innermost = innermost; parent = parent }) →
-    IsTreeOf v notes (record { headers = t.headers; bounds = bounds_in notes; counted = map (λ (note : LoopNote). note.counted) notes; bodies = t.bodies; backs = backs; innermost = innermost; parent = parent; order = order })
-tree_of v notes t backs innermost parent order flow in_range are all along nesting =
+    IsTreeOf v notes (record { headers = t.headers; bounds = bounds_in notes; counted = map (λ (note : LoopNote). note.counted) notes; least_trips = trips; bodies = t.bodies; backs = backs; innermost = innermost; parent = parent; order = order })
+tree_of v notes t trips backs innermost parent order flow in_range are turn all along nesting =
     let lists = lists_of v notes t are in
     let see : AreSeen v t.headers (bounds_in notes) t.bodies (noted_loops notes).inside = seen v notes t flow are in
     let parent_size : length parent ≡ length t.headers = nesting.loops ∙ lists.size in
     record {
       tree = record {
-        accepted = entered-accepted (graph v) (loops_seen v notes t) (noted_loops notes).inside flow.program are.entered
+        accepted = accepted_with (λ k. slice_index trips k) (entered-accepted (graph v) (loops_seen v notes t) (noted_loops notes).inside flow.program are.entered
             (λ k kl. are.not_deep k (subst (λ n. k < n) (length-map t.headers (node_address v) ∙ are.headers_size) kl))
-            (length order) (place_of v order) (plain_order v (loops_seen v notes t) order flow along);
-        order = along;
+            (length order) (place_of v order) (plain_order v (loops_seen v notes t) order flow along));
+        whole = λ k at kl some node held.
+            let low : k < length notes = subst (λ n. k < n) (length-map t.headers (node_address v) ∙ are.headers_size) kl in
+            whole_here v notes t flow are k low ((turn.each k low).turns some) at node held;
+        order = record { within = along.within; whole = along.whole; once = along.once; before = along.before };
         bounds_size = length-map notes (λ (note : LoopNote). note.bound) ∙ sym are.headers_size;
         counted_size = length-map notes (λ (note : LoopNote). note.counted) ∙ sym are.headers_size;
+        trips_size = turn.size ∙ sym are.headers_size;
+        trips = trips_fit v notes t.bodies trips in_range turn;
         bodies_size = lists.size;
         parent_size = parent_size;
         header = λ k h at. subst (λ x. x < length v.code.nodes) (get_or_from_slice_get t.headers k h 0 at) (lists.headers_are.within k (slice_get_within t.headers k h at));
@@ -131,11 +174,18 @@ tree_of v notes t backs innermost parent order flow in_range are all along nesti
           (λ j note at.
           let jl : j < length notes = slice_get_within notes j note at in
           let low : j < length t.headers = subst (λ n. j < n) (sym are.headers_size) jl in
-          let is : header_address notes j ≡ note.header = ap (λ (n : LoopNote). n.header) (get_or_from_slice_get notes j note (record { header = 0; ranges = []; bound = 0; counted = false }) at) in
+          let is : header_address notes j ≡ note.header = ap (λ (n : LoopNote). n.header) (get_or_from_slice_get notes j note (record { header = 0; ranges = []; bound = 0; counted = false; at_least = 0 }) at) in
           slice_get-map (node_address v) t.headers j ∙ ap (option_map (node_address v)) (slice_get-get_or t.headers j 0 low) ∙
           ap Some (get_or_from_slice_get v.code.nodes (slice_index t.headers j) (header_address notes j) 0 (are.header j jl) ∙ is));
       bounds = refl;
       counted = refl;
+      trips = λ k kl.
+          let here = turn.each k kl in
+          record {
+            whole = λ w. here.whole (whole_back v notes t flow are k kl w);
+            more = λ no. here.more (λ w. no (whole_here v notes t flow are k kl w));
+            turns = λ some. whole_here v notes t flow are k kl (here.turns some);
+          };
     }
 
 -- an order of arcs for the plain edges, turned round
@@ -158,8 +208,8 @@ cycle_refused v notes t backs cycle are all is = record {
 }
 
 -- parts that are the same make the same tree
-pub same_view : (backs : List (Option ℕ)) (order : List ℕ) (headers headers' bounds bounds' : List ℕ) (counted counted' : List Bool) (bodies bodies' : List (List ℕ)) (innermost innermost' parent parent' : List (Option ℕ)) →
+pub same_view : (backs : List (Option ℕ)) (order trips : List ℕ) (headers headers' bounds bounds' : List ℕ) (counted counted' : List Bool) (bodies bodies' : List (List ℕ)) (innermost innermost' parent parent' : List (Option ℕ)) →
     headers ≡ headers' → bounds ≡ bounds' → counted ≡ counted' → bodies ≡ bodies' → innermost ≡ innermost' → parent ≡ parent' →
-    ◌≡◌ {A = LoopView} (record { headers = headers; bounds = bounds; counted = counted; bodies = bodies; backs = backs; innermost = innermost; parent = parent; order = order })
-    (record { headers = headers'; bounds = bounds'; counted = counted'; bodies = bodies'; backs = backs; innermost = innermost'; parent = parent'; order = order })
-same_view backs order headers headers' bounds bounds' counted counted' bodies bodies' innermost innermost' parent parent' p q r s t u = cc
+    ◌≡◌ {A = LoopView} (record { headers = headers; bounds = bounds; counted = counted; least_trips = trips; bodies = bodies; backs = backs; innermost = innermost; parent = parent; order = order })
+    (record { headers = headers'; bounds = bounds'; counted = counted'; least_trips = trips; bodies = bodies'; backs = backs; innermost = innermost'; parent = parent'; order = order })
+same_view backs order trips headers headers' bounds bounds' counted counted' bodies bodies' innermost innermost' parent parent' p q r s t u = cc

@@ -1,24 +1,26 @@
 -- The loops of a graph, as lists: what a LoopTree is seen as.
 -- A topological order: Knuth, The Art of Computer Programming, 2.2.3.
-use Rattle.std.specs.Prelude.{◌≡◌, ◌≢◌, ℕ, ◌<◌, ◌≤◌, ◌↔◌, ◌⊎◌, Bool, true, List, map, length, slice_get, Option, Some, None, Result, Ok, Err}
+use Rattle.std.specs.Prelude.{◌≡◌, ◌≢◌, ℕ, ◌<◌, ◌≤◌, ◌↔◌, ◌⊎◌, Bool, true, List, map, length, slice_get, slice_index, Option, Some, None, Result, Ok, Err}
 use Rattle.scale_base.specs.declared.refusal.Refusal.{Refusal}
 use Rattle.scale_base.specs.declared.refusal.Refusal.TheVariants.{UnboundedCycle}
-use Rattle.cost_theory.specs.Graph.{Loops, IsPlain, is_back}
-use Rattle.cost_theory.specs.Accepted.{AreEntered, AreAccepted, IsTooDeep}
+use Rattle.cost_theory.specs.Graph.{Loops, with_trips, IsPlain, is_back}
+use Rattle.cost_theory.specs.Accepted.{IsNode, AreEntered, AreAccepted, IsTooDeep, HaveWholeExtents}
 use Rattle.cost_theory.specs.Lists.{body_of}
 use Rattle.call_orders.specs.Cycles.{IsCycleBy}
 use Rattle.code_graph.specs.FlowGraph.{FlowGraph, graph}
 use Rattle.loop_file.specs.declared.notes.LoopNote.{LoopNote}
-use Rattle.loop_file.specs.Kept.{noted_loops}
+use Rattle.loop_file.specs.Kept.{noted_loops, note_at}
 use Rattle.natural_loops.specs.Noted.{node_address, loops_by}
 use Rattle.natural_loops.specs.Found.{IsAscending}
 use Rattle.natural_loops.specs.Refused.{AreNoted, AreLoopsRefused}
 
 pub record LoopView : Type 0 where
-  -- by loop: the number of its header's node, how many back edges one entry may take, whether it is counted, and the numbers of its nodes
+  -- by loop: the number of its header's node, how many back edges one entry may take, whether it is counted, how many back edges an entry
+  -- takes at least before the loop is left, and the numbers of its nodes
   pub headers : List ℕ
   pub bounds : List ℕ
   pub counted : List Bool
+  pub least_trips : List ℕ
   pub bodies : List (List ℕ)
   -- by edge: the loop of which it is a back edge
   pub backs : List (Option ℕ)
@@ -30,7 +32,7 @@ pub record LoopView : Type 0 where
 
 -- the loops that the lists stand for
 abbrev pub loops : FlowGraph → LoopView → Loops
-loops v t = loops_by v t.headers t.bounds t.bodies
+loops v t = with_trips (loops_by v t.headers t.bounds t.bodies) (λ k. slice_index t.least_trips k)
 
 -- place i of an order holds the number of the node at an address
 abbrev pub IsAtPlace : FlowGraph → List ℕ → ℕ → ℕ → Type 0
@@ -56,17 +58,31 @@ IsInnermost l at = IsLeastLoop l (λ k. l.inside k at ≡ true)
 abbrev pub IsParent : Loops → ℕ → Option ℕ → Type 0
 IsParent l j = IsLeastLoop l (λ k. (k ≢ j) × (l.inside k (l.header j) ≡ true))
 
+-- each node of the extent of loop k is in its body
+abbrev pub HasWholeExtent : FlowGraph → Loops → (ℕ → ℕ → Bool) → ℕ → Type 0
+HasWholeExtent v l extent k = (at : ℕ) → IsNode (graph v) at → extent k at ≡ true → l.inside k at ≡ true
+
+-- How many back edges loop k takes at least before it is left, by what its note says of that: so many where its extent has no nodes but those of
+-- its body, and else 0.
+pub record IsLeastTrips (v : FlowGraph) (l : Loops) (extent : ℕ → ℕ → Bool) (k at_least trips : ℕ) : Type 0 where
+  pub whole : HasWholeExtent v l extent k → trips ≡ at_least
+  pub more : (HasWholeExtent v l extent k → ⊥) → trips ≡ 0
+  pub turns : 0 < trips → HasWholeExtent v l extent k
+
 -- loops of a graph, accepted with these extents
 pub record IsLoopTree (v : FlowGraph) (extent : ℕ → ℕ → Bool) (t : LoopView) : Type 0 where
   pub accepted : AreAccepted (graph v) (loops v t) extent
+  pub whole : HaveWholeExtents (graph v) (loops v t) extent
   pub order : ArePlainOrdered v (loops v t) t.order
   -- one of each for each loop
   pub bounds_size : length t.bounds ≡ length t.headers
   pub counted_size : length t.counted ≡ length t.headers
+  pub trips_size : length t.least_trips ≡ length t.headers
   pub bodies_size : length t.bodies ≡ length t.headers
   pub parent_size : length t.parent ≡ length t.headers
   pub header : (k h : ℕ) → slice_get t.headers k ≡ Some h → h < length v.code.nodes
   pub bound : (k n : ℕ) → slice_get t.bounds k ≡ Some n → n ≤ 1000000000
+  pub trips : (k : ℕ) → slice_index t.least_trips k ≤ slice_index t.bounds k
   pub body : (k : ℕ) → k < length t.headers → IsAscending (length v.code.nodes) (body_of t.bodies k)
   pub parents : (k : ℕ) (o : Option ℕ) → slice_get t.parent k ≡ Some o → IsParent (loops v t) k o
   -- one for each edge, and for each node
@@ -81,6 +97,7 @@ pub record IsTreeOf (v : FlowGraph) (notes : List LoopNote) (t : LoopView) : Typ
   pub headers : map (node_address v) t.headers ≡ map (λ note. note.header) notes
   pub bounds : t.bounds ≡ map (λ note. note.bound) notes
   pub counted : t.counted ≡ map (λ note. note.counted) notes
+  pub trips : (k : ℕ) → k < length notes → IsLeastTrips v (loops v t) (noted_loops notes).inside k (note_at notes k).at_least (slice_index t.least_trips k)
 
 -- an edge that is no back edge leads from one address to the other
 abbrev pub IsPlainStep : FlowGraph → Loops → ℕ → ℕ → Type 0

@@ -8,6 +8,7 @@ ghost use Rattle.loop_tree.specs.Tree.{ArePlainOrdered, IsTreeOf};
 ghost use Rattle.loop_tree.specs.Backs.{AreBacks};
 
 use crate::tree::LoopTree;
+use crate::trips::trips_of;
 use code_graph::CodeGraph;
 use loop_file::LoopNotes;
 use loop_nesting::nest_loops;
@@ -57,10 +58,12 @@ pub fn assemble(
     let (innermost, parent) = nesting.into_parts();
     let bounds = bounds_of(alloc, notes)?;
     let counted = counted_of(alloc, notes)?;
+    let least_trips = trips_of(alloc, graph, notes, &found)?;
     Ok(LoopTree {
         headers: found.headers,
         bounds,
         counted,
+        least_trips,
         bodies: found.bodies,
         backs,
         innermost,

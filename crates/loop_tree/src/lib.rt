@@ -9,6 +9,7 @@ mod assembling;
 mod backs;
 mod cycles;
 mod tree;
+mod trips;
 
 pub use arcs::plain_arcs;
 use assembling::assemble;

@@ -74,6 +74,7 @@ fn notes_of(alloc: Global, loops: &[Range]) -> Result<LoopNotes, NoMemory> {
             ranges: RangeList::from_vec(ranges),
             bound: 5,
             counted: notes.count() == 1,
+            at_least: 3,
         };
         if notes.count() < 4096 {
             notes.push(note)?;
@@ -147,6 +148,25 @@ fn nests_loops_with_their_back_edges(rt: HostRuntime) -> Result<(), Fail> {
         None,
     ];
     assert_eq!(rt; tree.backs(), backs.as_slice());
+    Ok(())
+}
+
+#[test]
+fn trips_are_those_of_whole_extents(rt: HostRuntime) -> Result<(), Fail> {
+    let Ok(tree) = tree_of(rt.alloc(), &NESTED, &[INNER, OUTER])? else {
+        return Err("no tree".into());
+    };
+    assert_eq!(rt; (tree.least_trips(0), tree.least_trips(1)), (3, 3));
+    // The word behind the loop is in its range, and not in its body.
+    let wider = Range {
+        from: 0x10004,
+        to: 0x10018,
+    };
+    let Ok(tree) = tree_of(rt.alloc(), &NESTED, &[INNER, wider])? else {
+        return Err("no tree".into());
+    };
+    assert_eq!(rt; tree.body(1), [1, 2, 3, 4].as_slice());
+    assert_eq!(rt; (tree.least_trips(0), tree.least_trips(1)), (3, 0));
     Ok(())
 }
 

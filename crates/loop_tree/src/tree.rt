@@ -1,6 +1,6 @@
 //! The loops of a graph.
 
-ghost use Rattle.std.specs.Prelude.{◌≡◌, ◌<◌, ◌≤◌, ◌↔◌, true, Some, length, slice_get};
+ghost use Rattle.std.specs.Prelude.{◌≡◌, ◌<◌, ◌≤◌, ◌↔◌, true, Some, length, slice_get, slice_index};
 ghost use Rattle.cost_theory.specs.Lists.{body_of, is_among};
 ghost use Rattle.loop_tree.specs.Tree.{LoopView};
 
@@ -14,6 +14,7 @@ pub struct LoopTree {
     pub(crate) headers: Vec<usize>,
     pub(crate) bounds: Vec<u32>,
     pub(crate) counted: Vec<bool>,
+    pub(crate) least_trips: Vec<u32>,
     /// Each ascending.
     pub(crate) bodies: Vec<Vec<usize>>,
     /// By edge, the loop of which it is a back edge.
@@ -32,9 +33,9 @@ impl Model for LoopTree {
 
     ghost Value = { LoopView };
 
-    ghost view = { λ t. record { headers = t.headers.items; bounds = t.bounds.items; counted = t.counted.items; bodies = map (λ body. body.items) t.bodies.items; backs = t.backs.items; innermost = t.innermost.items; parent = t.parent.items; order = t.order.items } };
+    ghost view = { λ t. record { headers = t.headers.items; bounds = t.bounds.items; counted = t.counted.items; least_trips = t.least_trips.items; bodies = map (λ body. body.items) t.bodies.items; backs = t.backs.items; innermost = t.innermost.items; parent = t.parent.items; order = t.order.items } };
 
-    ghost invariant = { λ t. IsStored (record { headers = t.headers.items; bounds = t.bounds.items; counted = t.counted.items; bodies = map (λ body. body.items) t.bodies.items; backs = t.backs.items; innermost = t.innermost.items; parent = t.parent.items; order = t.order.items }) };
+    ghost invariant = { λ t. IsStored (record { headers = t.headers.items; bounds = t.bounds.items; counted = t.counted.items; least_trips = t.least_trips.items; bodies = map (λ body. body.items) t.bodies.items; backs = t.backs.items; innermost = t.innermost.items; parent = t.parent.items; order = t.order.items }) };
 }
 
 impl LoopTree {
@@ -68,6 +69,16 @@ impl LoopTree {
         ensures { slice_get self.now.counted l ≡ Some result }
     {
         self.counted[l]
+    }
+
+    /// How many back edges an entry of loop `l` takes at least before the loop is left: what its note says of that, where each
+    /// node of its extent is in its body, and else 0. At most its bound.
+    pub fn least_trips(&self, l: usize) -> u32
+        requires { l < length self.now.headers }
+        ensures trips { slice_get self.now.least_trips l ≡ Some result }
+        ensures within { result ≤ slice_index self.now.bounds l }
+    {
+        self.least_trips[l]
     }
 
     /// The numbers of the nodes in the body of loop `l`, ascending.

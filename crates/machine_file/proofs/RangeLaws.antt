@@ -12,7 +12,7 @@ use Rattle.power_model.specs.declared.power.Costs.{Costs}
 use Rattle.power_model.specs.Levels.{IsSlower, AreRanked, ArePositive}
 use Rattle.power_model.specs.Numbers.{PowerModel, CostsArePositive, IsPowerModel}
 use Rattle.table_keys.specs.Keys.{document_of, number_within, number_of, number_at, tables_of, or_refuse, checked_keys, ◌>>=◌}
-use Rattle.machine_file.specs.Machine.{in_file, in_cost, in_level, bad_key, bad_value, number, cost, cost_keys, cost_table, level_keys, few_tables, level_tables, level_of, levels_from, first_unranked, ranked, costs_of, FileNumbers, top_numbers, top_keys, checked_version, machine_of, read_machine}
+use Rattle.machine_file.specs.Machine.{in_file, in_cost, in_level, bad_key, bad_value, number, cost, cost_keys, cost_table, level_keys, few_tables, level_tables, level_of, levels_from, first_unranked, ranked, costs_of, FileNumbers, top_numbers, top_keys, version_of, machine_of, read_machine, switch_cost, pair_table}
 
 -- a range of a number, both ends in it
 pub record IsWithin (low high n : ℕ) : Type 0 where
@@ -147,26 +147,28 @@ top_number : (P : FileNumbers → Type 0) (table : Members) (low high : ℕ) (ke
     → ((n : ℕ) → IsWithin low high n → IfOk (f n) P) → IfOk (number in_file table low high key >>= f) P
 top_number P table low high key f k = kept-then (IsWithin low high) P (number in_file table low high key) f (within-number in_file table low high key) k
 
-within-top_numbers : (table : Members) → IfOk (top_numbers table) TopIsWithin
+within-top_numbers : (version : ℕ) (table : Members) → IfOk (top_numbers version table) TopIsWithin
 unfolding top_numbers
-within-top_numbers table =
+within-top_numbers version table =
     top_number TopIsWithin table 1 (2 ^ 63 - 1) (codes "deadline") _ (λ deadline d.
     top_number TopIsWithin table 1 (2 ^ 40) (codes "steps") _ (λ steps s.
     top_number TopIsWithin table 0 (2 ^ 32 - 1) (codes "min_gain") _ (λ min_gain _.
-    top_number TopIsWithin table 0 (2 ^ 32 - 1) (codes "switch_time") _ (λ switch_time _.
-    top_number TopIsWithin table 0 (2 ^ 32 - 1) (codes "switch_energy") _ (λ switch_energy _.
+    any-then TopIsWithin (switch_cost version table (codes "switch_time")) _ (λ switch_time.
+    any-then TopIsWithin (switch_cost version table (codes "switch_energy")) _ (λ switch_energy.
     record { deadline = d; steps = s })))))
 
 model-machine_of : (table : Members) → IfOk (machine_of table) IsPowerModel
 unfolding machine_of
 model-machine_of table =
-    any-then IsPowerModel (checked_version table) _ (λ _.
+    any-then IsPowerModel (version_of table) _ (λ version.
     any-then IsPowerModel (checked_keys (bad_key in_file) top_keys top_keys table) _ (λ _.
-    kept-then TopIsWithin IsPowerModel (top_numbers table) _ (within-top_numbers table) (λ top t.
+    kept-then TopIsWithin IsPowerModel (top_numbers version table) _ (within-top_numbers version table) (λ top t.
     any-then IsPowerModel (cost_table table) _ (λ in_costs.
     kept-then (λ ts. IsWithin 1 8 (length ts)) IsPowerModel (level_tables table) _ (few-level_tables table) (λ in_levels few.
     kept-then CostsArePositive IsPowerModel (costs_of in_costs) _ (positive-costs_of in_costs) (λ costs c.
     kept-then (AreLevelsOf (length in_levels)) IsPowerModel (levels_from 0 in_levels) _ (positive-levels_from 0 in_levels) (λ levels l.
+    any-then IsPowerModel (pair_table (codes "switch_time") (length levels) top.switch_time) _ (λ switch_time.
+    any-then IsPowerModel (pair_table (codes "switch_energy") (length levels) top.switch_energy) _ (λ switch_energy.
     kept-then (λ _. AreRanked levels) IsPowerModel (ranked (first_unranked 1 levels)) _ (ranked-first_unranked 1 levels) (λ _ r.
     record {
       some = omega (arith, few.from, l.count);
@@ -178,7 +180,7 @@ model-machine_of table =
       deadline_to = omega (arith, t.deadline.to);
       steps_from = t.steps.from;
       steps_to = t.steps.to;
-    }))))))))
+    }))))))))))
 
 model-read_machine : (bytes : List ℕ) → IfOk (read_machine bytes) IsPowerModel
 unfolding read_machine

@@ -1,3 +1,4 @@
 pub mod Machine
+pub mod Pairs
 pub mod Place
 pub mod Top

@@ -1,7 +1,9 @@
--- The machine file: a TOML document (toml.io, version 1.0) whose values are integers. The first refusal decides, in this order:
--- the text; the version; the keys of the file, first the missing and then the unknown; its values; the costs; each level, from the
--- slowest on; the order of the levels. Of the costs and of each level the missing keys come first, then the unknown, then the values.
-use Rattle.std.specs.Prelude.{codes, ℕ, ◌+◌, ◌-◌, ◌^◌, ◌&&◌, nat_le, nat_lt, if◌then◌else◌, List, [], ◌∷◌, ◌++◌, length, Option, Some, None, option_and_then, Result, Ok, Err}
+-- The machine file: a TOML document (toml.io, version 1.0) whose values are integers, but for the costs of switches in version 2, which are
+-- arrays of arrays of integers. The first refusal decides, in this order: the text; the version; the keys of the file, first the missing and
+-- then the unknown; its values; the costs; each level, from the slowest on; in version 2 the shape of the times of switches, then that of their
+-- energies; the order of the levels. Of the costs and of each level the missing keys come first, then the unknown, then the values.
+use Rattle.std.specs.Prelude.{codes, ℕ, ◌+◌, ◌-◌, ◌^◌, ◌==◌, ◌&&◌, nat_le, nat_lt, Bool, if◌then◌else◌, List, [], ◌∷◌, ◌++◌, length, slice_index, slice_index_or, Option, Some, None, option_and_then, Result, Ok, Err}
+use Rattle.std.specs.List.{list_all, range_with_len}
 use Rattle.std.specs.Fmt.{decimal}
 use Rattle.toml.specs.Data.{Members, get_member, as_table}
 use Rattle.scale_base.specs.declared.refusal.Refusal.{Refusal}
@@ -9,7 +11,9 @@ use Rattle.scale_base.specs.declared.refusal.Refusal.TheVariants.{MachineText, M
 use Rattle.power_model.specs.declared.power.Level.{Level}
 use Rattle.power_model.specs.declared.power.Costs.{Costs}
 use Rattle.power_model.specs.Numbers.{PowerModel}
-use Rattle.table_keys.specs.Keys.{document_of, first_missing, number_at, tables_of, or_refuse, none_or_refuse, checked_keys, ◌>>=◌}
+use Rattle.power_model.specs.declared.power.PairTable.{PairTable}
+use Rattle.power_model.specs.Pairs.{pairs_by, uniform}
+use Rattle.table_keys.specs.Keys.{document_of, first_missing, number_at, number_rows_of, tables_of, or_refuse, none_or_refuse, checked_keys, ◌>>=◌}
 
 -- the keys, in their order
 abbrev pub top_keys : List (List ℕ)
@@ -46,12 +50,42 @@ bad_value path key = MachineValue (path ++ key)
 abbrev pub number : List ℕ → Members → ℕ → ℕ → List ℕ → Result ℕ Refusal
 number path table low high key = or_refuse (bad_value path key) (number_at low high key table)
 
--- the version is there and is 1
-abbrev pub checked_version : Members → Result (Unit {0}) Refusal
-checked_version table = do
+-- the version is there and is 1 or 2
+abbrev pub version_of : Members → Result ℕ Refusal
+version_of table = do
   _ ← none_or_refuse (bad_key in_file) (first_missing (codes "version" ∷ []) table)
-  _ ← number in_file table 1 1 (codes "version")
-  Ok tt
+  number in_file table 1 2 (codes "version")
+
+-- what a file says of the time or of the energy of switches: one number for all, or rows of numbers
+pub data SwitchCost : Type 0 where
+  same : ℕ → SwitchCost
+  by_pair : List (List ℕ) → SwitchCost
+
+-- version 1 has one number
+abbrev pub same_cost : Members → List ℕ → Result SwitchCost Refusal
+same_cost table key = number in_file table 0 (2 ^ 32 - 1) key >>= λ n. Ok (same n)
+
+-- version 2 has an array of arrays of numbers
+abbrev pub pair_costs : Members → List ℕ → Result SwitchCost Refusal
+pair_costs table key =
+    or_refuse (bad_value in_file key) (option_and_then (number_rows_of 0 (2 ^ 32 - 1)) (get_member key table)) >>= λ rows. Ok (by_pair rows)
+
+abbrev pub switch_cost : ℕ → Members → List ℕ → Result SwitchCost Refusal
+switch_cost version table key = if version == 1 then same_cost table key else pair_costs table key
+
+-- the number in a row and a column, 0 where there is none
+abbrev pub cell : List (List ℕ) → ℕ → ℕ → ℕ
+cell rows i l = slice_index (slice_index_or rows i []) l
+
+-- one row per level, in it one number per level, and zeros on the diagonal
+abbrev pub has_shape : ℕ → List (List ℕ) → Bool
+has_shape n rows =
+    (length rows == n) && list_all (λ row. length row == n) rows && list_all (λ i. cell rows i i == 0) (range_with_len 0 n)
+
+-- the numbers by pair of so many levels: those of the rows, and 0 in each row and column behind the last level
+abbrev pub pair_table : List ℕ → ℕ → SwitchCost → Result PairTable Refusal
+pair_table key n (same cost) = Ok (uniform cost)
+pair_table key n (by_pair rows) = if has_shape n rows then Ok (pairs_by (cell rows)) else Err (bad_value in_file key)
 
 -- the table of the costs
 abbrev pub cost_table : Members → Result Members Refusal
@@ -124,34 +158,36 @@ pub record FileNumbers : Type 0 where
   pub deadline : ℕ
   pub steps : ℕ
   pub min_gain : ℕ
-  pub switch_time : ℕ
-  pub switch_energy : ℕ
+  pub switch_time : SwitchCost
+  pub switch_energy : SwitchCost
 
-unfoldable pub top_numbers : Members → Result FileNumbers Refusal
-top_numbers table = do
+unfoldable pub top_numbers : ℕ → Members → Result FileNumbers Refusal
+top_numbers version table = do
   deadline ← number in_file table 1 (2 ^ 63 - 1) (codes "deadline")
   steps ← number in_file table 1 (2 ^ 40) (codes "steps")
   min_gain ← number in_file table 0 (2 ^ 32 - 1) (codes "min_gain")
-  switch_time ← number in_file table 0 (2 ^ 32 - 1) (codes "switch_time")
-  switch_energy ← number in_file table 0 (2 ^ 32 - 1) (codes "switch_energy")
+  switch_time ← switch_cost version table (codes "switch_time")
+  switch_energy ← switch_cost version table (codes "switch_energy")
   Ok (record { deadline = deadline; steps = steps; min_gain = min_gain; switch_time = switch_time; switch_energy = switch_energy })
 
 -- the machine of a table
 unfoldable pub machine_of : Members → Result PowerModel Refusal
 machine_of table = do
-  _ ← checked_version table
+  version ← version_of table
   _ ← checked_keys (bad_key in_file) top_keys top_keys table
-  top ← top_numbers table
+  top ← top_numbers version table
   in_costs ← cost_table table
   in_levels ← level_tables table
   costs ← costs_of in_costs
   levels ← levels_from 0 in_levels
+  switch_time ← pair_table (codes "switch_time") (length levels) top.switch_time
+  switch_energy ← pair_table (codes "switch_energy") (length levels) top.switch_energy
   _ ← ranked (first_unranked 1 levels)
   Ok (record {
     levels = levels;
     costs = costs;
-    switch_time = top.switch_time;
-    switch_energy = top.switch_energy;
+    switch_time = switch_time;
+    switch_energy = switch_energy;
     deadline = top.deadline;
     min_gain = top.min_gain;
     steps = top.steps;

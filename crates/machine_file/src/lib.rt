@@ -7,16 +7,17 @@ ghost use Rattle.power_model.specs.Numbers.{PowerModel, IsPowerModel};
 ghost use Rattle.machine_file.specs.Machine.{read_machine};
 
 mod levels;
+mod pairs;
 mod place;
 mod reads;
 
-pub use power_model::{Costs, Level, Levels, Power};
+pub use power_model::{Costs, Level, Levels, PairTable, Power};
 use reads::machine;
 use scale_base::{Refusal, Stop};
 use std::alloc::Global;
 
 /// Reads a machine file. The first thing that is wrong with it is refused: the text, the version, a missing key, an
-/// unknown key, a value, the costs, a level, the order of the levels.
+/// unknown key, a value, the costs, a level, the shape of a table of switches, the order of the levels.
 #[tactic(auto, unfolding(crate::specs::Machine::read_machine))]
 pub fn read_machine(alloc: Global, bytes: &[u8]) -> Result<Power, Stop>
     ensures answers { Answers (λ power. power) result (read_machine bytes.now) }

@@ -5,11 +5,12 @@ ghost use Rattle.toml.specs.View.{table_view};
 ghost use Rattle.scale_base.specs.Answer.{Answers};
 ghost use Rattle.power_model.specs.Numbers.{CostsArePositive, IsPowerModel};
 ghost use Rattle.table_keys.specs.Keys.{checked_keys};
-ghost use Rattle.machine_file.specs.Machine.{bad_key, number, checked_version, cost, costs_of, cost_table, level_tables, top_numbers, machine_of};
+ghost use Rattle.machine_file.specs.Machine.{bad_key, number, version_of, cost, costs_of, cost_table, level_tables, top_numbers, machine_of};
 ghost use Rattle.machine_file.specs.Place.{path};
 ghost use Rattle.machine_file.specs.Top.{file_numbers};
 
 use crate::levels::{first_unranked, read_levels};
+use crate::pairs::{SwitchCost, pair_table, switch_cost};
 use crate::place::Place;
 use power_model::{Costs, Power};
 use scale_base::{Refusal, Stop};
@@ -78,14 +79,13 @@ pub fn small_number(
     Ok(number(alloc, place, table, key, u64::from(low), 0xFFFF_FFFF)? as u32)
 }
 
-fn check_version(alloc: Global, table: &Table) -> Result<(), Stop>
-    ensures { Answers (λ x. x) result (checked_version (table_view table.now)) }
+fn version(alloc: Global, table: &Table) -> Result<u64, Stop>
+    ensures { Answers (λ n. n) result (version_of (table_view table.now)) }
 {
     if find(table, "version").is_none() {
         return Err(Place::File.bad_key(alloc, "version"));
     }
-    number(alloc, Place::File, table, "version", 1, 1)?;
-    Ok(())
+    number(alloc, Place::File, table, "version", 1, 2)
 }
 
 fn cost(alloc: Global, table: &Table, key: &str) -> Result<u16, Stop>
@@ -139,18 +139,18 @@ fn level_tables<'t>(alloc: Global, table: &'t Table) -> Result<Vec<&'t Table>, S
 }
 
 // The numbers at the top of the file.
-#[derive(Clone, Copy)]
+#[derive(Drop)]
 struct TopNumbers {
     deadline: u64,
     steps: u64,
     min_gain: u32,
-    switch_time: u32,
-    switch_energy: u32,
+    switch_time: SwitchCost,
+    switch_energy: SwitchCost,
 }
 
 #[tactic(auto, unfolding(crate::specs::Machine::top_numbers))]
-fn top_numbers(alloc: Global, table: &Table) -> Result<TopNumbers, Stop>
-    ensures numbers { Answers file_numbers result (top_numbers (table_view table.now)) }
+fn top_numbers(alloc: Global, version: u64, table: &Table) -> Result<TopNumbers, Stop>
+    ensures numbers { Answers file_numbers result (top_numbers version (table_view table.now)) }
     ensures deadline { IfOk result (λ n. (1 ≤ n.deadline) × (n.deadline < 2 ^ 63)) }
     ensures steps { IfOk result (λ n. (1 ≤ n.steps) × (n.steps ≤ 2 ^ 40)) }
 {
@@ -165,8 +165,8 @@ fn top_numbers(alloc: Global, table: &Table) -> Result<TopNumbers, Stop>
         )?,
         steps: number(alloc, Place::File, table, "steps", 1, 1 << 40)?,
         min_gain: small_number(alloc, Place::File, table, "min_gain", 0)?,
-        switch_time: small_number(alloc, Place::File, table, "switch_time", 0)?,
-        switch_energy: small_number(alloc, Place::File, table, "switch_energy", 0)?,
+        switch_time: switch_cost(alloc, version, table, "switch_time")?,
+        switch_energy: switch_cost(alloc, version, table, "switch_energy")?,
     })
 }
 
@@ -176,21 +176,24 @@ pub fn machine(alloc: Global, table: &Table) -> Result<Power, Stop>
     ensures answers { Answers (λ power. power) result (machine_of (table_view table.now)) }
     ensures in_range { IfOk result IsPowerModel }
 {
-    check_version(alloc, table)?;
+    let version = version(alloc, table)?;
     check_keys(alloc, Place::File, table, &TOP_KEYS)?;
-    let top = top_numbers(alloc, table)?;
+    let top = top_numbers(alloc, version, table)?;
     let in_costs = cost_table(alloc, table)?;
     let in_levels = level_tables(alloc, table)?;
     let costs = read_costs(alloc, in_costs)?;
     let levels = read_levels(alloc, &in_levels)?;
+    let count = levels.count();
+    let switch_time = pair_table(alloc, "switch_time", count, &top.switch_time)?;
+    let switch_energy = pair_table(alloc, "switch_energy", count, &top.switch_energy)?;
     if let Some(i) = first_unranked(&levels) {
         return Err(Stop::Refused(Refusal::LevelOrder(u32::from(i))));
     }
     Ok(Power {
         levels,
         costs,
-        switch_time: top.switch_time,
-        switch_energy: top.switch_energy,
+        switch_time,
+        switch_energy,
         deadline: top.deadline,
         min_gain: top.min_gain,
         steps: top.steps,

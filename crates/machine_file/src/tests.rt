@@ -12,17 +12,19 @@ const LEVELS: &str =
     "\n[[level]]\nperiod = 4\nenergy = 1\n[[level]]\nperiod = 2\nenergy = 3\n[[level]]\nperiod = 1\nenergy = 8\n";
 
 // A text that stands in the machine file, what is put in its place, and the answer: the number of the refusal and what it tells.
-const CASES: [(&str, &str, &str); 38] = [
+const CASES: [(&str, &str, &str); 40] = [
     ("version = 1", "version = ", "10"),
     ("steps = 1000000", "deadline = 28", "10"),
     ("deadline = 28", "deadline = 9223372036854775808", "10"),
     ("version = 1\ndeadline = 28\n", "", "11 version"),
     (
         "version = 1\ndeadline = 28\n",
-        "version = 2\n",
+        "version = 3\n",
         "12 version",
     ),
+    ("version = 1", "version = 0", "12 version"),
     ("version = 1", "version = 1.0", "12 version"),
+    ("switch_time = 10", "switch_time = [[0]]", "12 switch_time"),
     (
         "deadline = 28\nsteps = 1000000\nmin_gain = 20\n",
         "deadline = 0\nunknown = 1\n",
@@ -85,6 +87,67 @@ const CASES: [(&str, &str, &str); 38] = [
     ("energy = 8\n", "energy = 8\n[cost.more]\n", "11 cost.more"),
 ];
 
+const PAIRS_TOP: &str =
+    "version = 2\ndeadline = 28\nsteps = 1000000\nmin_gain = 20\nswitch_time = [[0, 4, 14], [4, 0, 10], [14, 10, 0]]\nswitch_energy = [[0, 20, 20], [20, 0, 20], [20, 20, 0]]\n";
+
+const TIMES: &str = "switch_time = [[0, 4, 14], [4, 0, 10], [14, 10, 0]]";
+
+// The same over a machine file of version 2: each refusal of a value that is no array of arrays of numbers, before the costs, and
+// each of a wrong shape, between the levels and their order.
+const PAIR_CASES: [(&str, &str, &str); 23] = [
+    ("version = 2", "version = 1", "12 switch_time"),
+    (TIMES, "switch_time = 10", "12 switch_time"),
+    (TIMES, "", "11 switch_time"),
+    ("[4, 0, 10]", "[4, 1, 10]", "12 switch_time"),
+    ("[4, 0, 10]", "[4, 0]", "12 switch_time"),
+    ("[4, 0, 10]", "[4, 0, 10, 0]", "12 switch_time"),
+    ("[4, 0, 10]", "10", "12 switch_time"),
+    ("[4, 0, 10]", "[4, 0, -1]", "12 switch_time"),
+    ("[4, 0, 10]", "[4, 0, 4294967295]", "read"),
+    ("[4, 0, 10]", "[4, 0, 4294967296]", "12 switch_time"),
+    ("[4, 0, 10]", "[4, 0, 10.0]", "12 switch_time"),
+    (", [14, 10, 0]", "", "12 switch_time"),
+    (
+        ", [14, 10, 0]",
+        ", [14, 10, 0], [0, 0, 0]",
+        "12 switch_time",
+    ),
+    ("[20, 20, 0]", "[20, 20, 20]", "12 switch_energy"),
+    ("[20, 20, 0]]", "[20, 20, 0]", "10"),
+    (
+        "10, 0]]\nswitch_energy = [[0,",
+        "10, 1]]\nswitch_energy = [[1,",
+        "12 switch_time",
+    ),
+    (
+        "10, 0]]\nswitch_energy = [[0,",
+        "10, 1]]\nswitch_energy = [[-1,",
+        "12 switch_energy",
+    ),
+    (
+        "20, 0]]\n\n[cost]\nalu = 1\n",
+        "20, -1]]\n\n[cost]\n",
+        "12 switch_energy",
+    ),
+    (
+        "20, 0]]\n\n[cost]\nalu = 1\n",
+        "20, 1]]\n\n[cost]\n",
+        "11 cost.alu",
+    ),
+    (
+        "fence = 1\n\n[[level]]\nperiod = 4",
+        "fence = 1\n\n[[level]]\nperiod = 0",
+        "12 level.0.period",
+    ),
+    ("period = 2", "period = 4", "13 1"),
+    ("[[level]]\nperiod = 1\nenergy = 8\n", "", "12 switch_time"),
+    (
+        "energy = 8\n",
+        "energy = 8\n[[level]]\nperiod = 1\nenergy = 9\n",
+        "12 switch_time",
+    ),
+];
+
 // What the bytes are answered with: the number of the refusal and the name or index.
 fn answer(rt: &HostRuntime, bytes: &[u8]) -> Result<String, Fail> {
     match read_machine(rt.alloc(), bytes) {
@@ -118,8 +181,9 @@ fn reads_a_machine(rt: HostRuntime) -> Result<(), Fail> {
     assert_eq!(rt; power.deadline, 28);
     assert_eq!(rt; power.steps, 1_000_000);
     assert_eq!(rt; power.min_gain, 20);
-    assert_eq!(rt; power.switch_time, 10);
-    assert_eq!(rt; power.switch_energy, 20);
+    assert_eq!(rt; power.switch_time.at(0, 7), 10);
+    assert_eq!(rt; power.switch_energy.at(2, 1), 20);
+    assert_eq!(rt; power.switch_energy.at(1, 1), 0);
     assert_eq!(rt; power.costs.div, 10);
     assert_eq!(rt; power.levels.count(), 3);
     assert_eq!(rt;
@@ -136,6 +200,33 @@ fn reads_a_machine(rt: HostRuntime) -> Result<(), Fail> {
 fn refuses_in_order(rt: HostRuntime) -> Result<(), Fail> {
     let text = whole(&rt)?;
     for (old, new, expected) in CASES {
+        let changed = text.as_str().replace(rt.alloc(), old, new)?;
+        let got = answer(&rt, changed.as_bytes())?;
+        assert_eq!(rt; got.as_str(), expected, "{new} in place of {old}");
+    }
+    Ok(())
+}
+
+#[test]
+fn reads_costs_of_pairs(rt: HostRuntime) -> Result<(), Fail> {
+    let text = format!(in rt.alloc(); "{PAIRS_TOP}{COST}{LEVELS}")?;
+    let power = read_machine(rt.alloc(), text.as_bytes())
+        .ok()
+        .ok_or("refused")?;
+    for (from, to, time, energy) in [
+        (0, 1, 4, 20),
+        (0, 2, 14, 20),
+        (1, 2, 10, 20),
+        (2, 1, 10, 20),
+        (1, 1, 0, 0),
+        (1, 3, 0, 0),
+        (3, 1, 0, 0),
+        (7, 7, 0, 0),
+    ] {
+        assert_eq!(rt; power.switch_time.at(from, to), time);
+        assert_eq!(rt; power.switch_energy.at(from, to), energy);
+    }
+    for (old, new, expected) in PAIR_CASES {
         let changed = text.as_str().replace(rt.alloc(), old, new)?;
         let got = answer(&rt, changed.as_bytes())?;
         assert_eq!(rt; got.as_str(), expected, "{new} in place of {old}");

@@ -176,7 +176,7 @@ depth_refused v search notes headers depths refusal is back_edges entries deep =
 }
   where
     l : Loops
-    l = record { loops = length notes; header = λ k. (note_at notes k).header; bound = λ k. (note_at notes k).bound; inside = entries.counts.inside }
+    l = record { loops = length notes; header = λ k. (note_at notes k).header; bound = λ k. (note_at notes k).bound; least_trips = λ k. 0; inside = entries.counts.inside }
 
     noted : AreNoted notes l
     noted = record { count = refl; header = λ k lt. refl; bound = λ k lt. refl }

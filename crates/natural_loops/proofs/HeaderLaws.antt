@@ -18,7 +18,7 @@ use Rattle.natural_loops.specs.Passes.{AreHeaderNumbers, HaveOneNumber}
 
 -- the note of a number
 pub note_is : (notes : List LoopNote) (k : ℕ) (note : LoopNote) → slice_get notes k ≡ Some note → note_at notes k ≡ note
-note_is notes k note h = get_or_from_slice_get notes k note (record { header = 0; ranges = []; bound = 0; counted = false }) h
+note_is notes k note h = get_or_from_slice_get notes k note (record { header = 0; ranges = []; bound = 0; counted = false; at_least = 0 }) h
 
 -- ---- the nodes of the headers
 pub record AreFirstHeaders (v : FlowGraph) (notes : List LoopNote) (n : ℕ) (headers : List ℕ) : Type 0 where

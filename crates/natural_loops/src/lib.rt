@@ -20,6 +20,7 @@ use bodies::keep_bodies;
 use code_graph::CodeGraph;
 pub use ends::{EdgeEnds, edge_ends};
 use entries::{check_depths, check_entries};
+pub use extent::extent_of;
 use headers::{find_headers, least_pair, number_of};
 use loop_bodies::BodySearch;
 use loop_file::LoopNotes;

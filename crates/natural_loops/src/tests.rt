@@ -167,6 +167,7 @@ fn notes_of(alloc: Global, loops: &[(u8, u8, u8)]) -> Result<LoopNotes, Fail> {
             ranges: RangeList::from_vec(items),
             bound: 10,
             counted: false,
+            at_least: 0,
         };
         if notes.count() >= 4096 {
             return Err("there are few loops".into());

@@ -1,4 +1,5 @@
 pub mod Levels
+pub mod Pairs
 pub mod Numbers
 pub mod Price
 pub mod Report

@@ -1,5 +1,5 @@
 -- The price of a run: folds over its completed steps. An instruction is priced at the level before it, and a change of level
--- adds its own time and energy once.
+-- adds the time and the energy of its pair of levels once.
 use Rattle.std.specs.Prelude.{◌≡◌, ℕ, ◌+◌, ◌*◌, ◌==◌, if◌then◌else◌, List, fold, unwrap_or}
 use Rattle.scale_base.specs.declared.stepping.Class.{Class}
 use Rattle.scale_base.specs.declared.stepping.Class.TheVariants.{Alu, Load, Store, Taken, Untaken, Jump, Mul, Div, Ecall, Fence}
@@ -7,6 +7,7 @@ use Rattle.scale_base.specs.declared.stepping.Stepped.{Stepped}
 use Rattle.power_model.specs.declared.power.Costs.{Costs}
 use Rattle.power_model.specs.Levels.{level}
 use Rattle.power_model.specs.Numbers.{PowerModel, Numbers}
+use Rattle.power_model.specs.Pairs.{pair_at}
 
 -- the cycles of a class
 abbrev pub cycles_of : Costs → Class → ℕ
@@ -23,10 +24,10 @@ cycles_of costs Fence = costs.fence
 
 -- the time and the energy of a change from one level to another: nothing where they are the same
 abbrev pub switch_time : PowerModel → ℕ → ℕ → ℕ
-switch_time power i l = if i == l then 0 else power.switch_time
+switch_time power i l = if i == l then 0 else pair_at power.switch_time i l
 
 abbrev pub switch_energy : PowerModel → ℕ → ℕ → ℕ
-switch_energy power i l = if i == l then 0 else power.switch_energy
+switch_energy power i l = if i == l then 0 else pair_at power.switch_energy i l
 
 -- 1 where the level changes
 abbrev pub one_switch : ℕ → ℕ → ℕ

@@ -11,7 +11,7 @@ ghost use Rattle.power_model.specs.Numbers.{PowerModel};
 ghost use Rattle.power_model.specs.Price.{price, metered, step_cycles, keyed_cycles, IsHeld};
 
 pub use meter::Meter;
-pub use power::{Costs, Level, Levels, Power, slowest};
+pub use power::{Costs, Level, Levels, PairTable, Power, slowest};
 pub use report::RunReport;
 
 /// A run with one more step has the price of the run and one step of the meter, so a meter to which the steps of a run were added

@@ -2,6 +2,7 @@
 
 ghost use Rattle.std.specs.Prelude.{◌≡◌, ◌≤◌, ◌<◌, ◌↔◌, [], ◌∷◌, ◌++◌, length, IfSome, IsNone, OnSome, MatchBool};
 ghost use Rattle.power_model.specs.Levels.{level, AreRanked};
+ghost use Rattle.power_model.specs.Pairs.{pair_at, pairs_by, uniform};
 ghost use Rattle.power_model.specs.Price.{cycles_of, switch_time, switch_energy};
 ghost use Rattle.power_model.specs.Slowest.{IsSlowest, IsTooSlow, IsInTime, fastest, slowest_of};
 
@@ -110,15 +111,50 @@ impl Costs {
     }
 }
 
+/// A number for each pair of levels: row i has that of a change from level i, its column l that of one to level l.
+#[derive(Clone, Copy, Debug, PartialEq, Eq)]
+pub struct PairTable {
+    pub rows: [[u32; 8]; 8],
+}
+
+impl PairTable {
+    /// The same number for each change of level, and 0 where the level stays.
+    pub fn uniform(n: u32) -> PairTable
+        ensures { result ≡ uniform n }
+    {
+        PairTable {
+            rows: [
+                [0, n, n, n, n, n, n, n],
+                [n, 0, n, n, n, n, n, n],
+                [n, n, 0, n, n, n, n, n],
+                [n, n, n, 0, n, n, n, n],
+                [n, n, n, n, 0, n, n, n],
+                [n, n, n, n, n, 0, n, n],
+                [n, n, n, n, n, n, 0, n],
+                [n, n, n, n, n, n, n, 0],
+            ],
+        }
+    }
+
+    /// The number of a pair.
+    pub fn at(&self, from: u8, to: u8) -> u32
+        requires from { from < 8 }
+        requires to { to < 8 }
+        ensures { result ≡ pair_at self.now from to }
+    {
+        self.rows[usize::from(from)][usize::from(to)]
+    }
+}
+
 /// A machine: its speeds, its costs, and what is asked of a job.
 #[derive(Drop)]
 pub struct Power {
     pub levels: Levels,
     pub costs: Costs,
-    /// Time units of a change of level.
-    pub switch_time: u32,
-    /// Energy units of a change of level.
-    pub switch_energy: u32,
+    /// Time units of a change from one level to another.
+    pub switch_time: PairTable,
+    /// Energy units of a change from one level to another.
+    pub switch_energy: PairTable,
     /// Time units that a job may take.
     pub deadline: u64,
     /// Cycles of slack from which on an edge gets a switch.
@@ -142,16 +178,28 @@ impl Model for Power {
 impl Power {
     /// The time units of a change from one level to another: 0 where they are the same.
     pub fn switch_time_of(&self, from: u8, to: u8) -> u32
+        requires from { from < 8 }
+        requires to { to < 8 }
         ensures { result ≡ switch_time self.now from to }
     {
-        if from == to { 0 } else { self.switch_time }
+        if from == to {
+            0
+        } else {
+            self.switch_time.at(from, to)
+        }
     }
 
     /// The energy units of a change from one level to another: 0 where they are the same.
     pub fn switch_energy_of(&self, from: u8, to: u8) -> u32
+        requires from { from < 8 }
+        requires to { to < 8 }
         ensures { result ≡ switch_energy self.now from to }
     {
-        if from == to { 0 } else { self.switch_energy }
+        if from == to {
+            0
+        } else {
+            self.switch_energy.at(from, to)
+        }
     }
 }
 

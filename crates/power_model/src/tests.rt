@@ -42,8 +42,19 @@ fn machine(deadline: u64) -> Power
             ecall: 5,
             fence: 1,
         },
-        switch_time: 10,
-        switch_energy: 20,
+        switch_time: PairTable {
+            rows: [
+                [0, 4, 14, 0, 0, 0, 0, 0],
+                [4, 0, 10, 0, 0, 0, 0, 0],
+                [14, 10, 0, 0, 0, 0, 0, 0],
+                [0; 8],
+                [0; 8],
+                [0; 8],
+                [0; 8],
+                [0; 8],
+            ],
+        },
+        switch_energy: PairTable::uniform(20),
         deadline,
         min_gain: 20,
         steps: 1_000_000,
@@ -64,7 +75,7 @@ fn step(class: Class, keyed: bool, port: Option<u8>) -> Stepped
 }
 
 // A division of 10 cycles at level 2, a store of 1 cycle that changes to level 0, a load of 2 cycles there, and a store that
-// keeps level 0: 10 + (1 + 10) + 8 + 4 time units, and 80 + (8 + 20) + 2 + 1 energy units.
+// changes to level 1: 10 + (1 + 14) + 8 + (4 + 4) time units, and 80 + (8 + 20) + 2 + (1 + 20) energy units.
 #[test]
 fn prices_at_the_level_before(rt: HostRuntime) {
     let power = machine(28);
@@ -72,15 +83,29 @@ fn prices_at_the_level_before(rt: HostRuntime) {
     meter.add(&power, &step(Class::Div, false, None));
     meter.add(&power, &step(Class::Store, true, Some(0)));
     meter.add(&power, &step(Class::Load, true, None));
-    meter.add(&power, &step(Class::Store, false, Some(0)));
+    meter.add(&power, &step(Class::Store, false, Some(1)));
     assert_eq!(rt; meter.steps, 4);
     assert_eq!(rt; meter.cycles, 14);
-    assert_eq!(rt; meter.time, 33);
-    assert_eq!(rt; meter.energy, 111);
-    assert_eq!(rt; meter.switches, 1);
-    assert_eq!(rt; meter.level, 0);
+    assert_eq!(rt; meter.time, 41);
+    assert_eq!(rt; meter.energy, 131);
+    assert_eq!(rt; meter.switches, 2);
+    assert_eq!(rt; meter.level, 1);
     assert_eq!(rt; meter.keyed, 3);
     assert_eq!(rt; meter.held(&power), 112);
+}
+
+#[test]
+fn same_number_for_each_change(rt: HostRuntime) {
+    let table = PairTable::uniform(20);
+    for i in 0..8u8 {
+        for l in 0..8u8 {
+            assert_eq!(rt;
+                table.at(i, l),
+                if i == l { 0 } else { 20 },
+                "from {i} to {l}"
+            );
+        }
+    }
 }
 
 #[test]

@@ -90,7 +90,7 @@ module _ (power : PowerModel) (file : List ℕ) (image : Image) (notes : List Lo
   Followed input n c = IsKeptFollowed image rewritten levels sites start input v.code l (is_counted tree) (counter_of tree) (costs_of power) n c
 
   by_tree : (input : List ℕ) (n : ℕ) (c : Carried) → kept_of image levels input (noted_loops notes) n ≡ Some c → kept_of image levels input (by_extents l extent) n ≡ Some c
-  by_tree input n c k = ap (λ q. kept_of image levels input q n) s.same_loops ∙ k
+  by_tree input n c k = s.kept_by_tree input n c k
 
   followed : (input : List ℕ) (n : ℕ) (c : Carried) → kept_of image levels input (noted_loops notes) n ≡ Some c → Followed input n c
   followed input n c k =

@@ -44,7 +44,7 @@ use Rattle.leg_prices.specs.Paid.{period, costs_of}
 use Rattle.paid_runs.specs.Timely.{weights_of}
 use Rattle.rewritten_runs.specs.Laws.{IsSafelyRewritten, RewrittenImagesFollow}
 use Rattle.rewritten_runs.specs.Stubs.{IsWeighed, HasStubs, marks_by_slack, stored_weights, extra_weights, rewritten_file, loop_of}
-use Rattle.rewritten_runs.proofs.Programs.{loops_noted}
+use Rattle.rewritten_runs.proofs.Programs.{kept_by_tree}
 use Rattle.rewritten_runs.proofs.Supplied.{IsSupplied}
 use Rattle.rewritten_runs.proofs.Follows.{follows, keeps}
 use Rattle.rewritten_runs.proofs.Marked.{program_is, graph_program, countable, are_marked, limited, shadows, loop_count, counted_is}
@@ -179,7 +179,7 @@ module _ (power : PowerModel) (ok : IsPowerModel power) (file : List ℕ) (image
     limits = limits;
     ok = ok;
     graph_is = weighed.code_is.graph_is;
-    same_loops = loops_noted v notes tree weighed.tree_is;
+    kept_by_tree = λ input n c kept. kept_by_tree v notes tree weighed.tree_is image levels input n c kept;
     stubbed = stubbed;
     program = prog;
     countable = countable power image notes v tree plain stored weighed;

@@ -42,22 +42,22 @@ IsQuietMark (marks.Exit c) = ⊥
 IsQuietMark (marks.Reset c) = Unit {0}
 IsQuietMark (marks.Count c) = Unit {0}
 
-quiet_fragment : (power : PowerModel) (l : Loops) (counted : List ℕ) (n : Numbers) (told : tables.Site) (m : Mark) → IsQuietMark m → IsQuiet (fragment_of power l counted n told m)
+quiet_fragment : (power : PowerModel) (l : Loops) (counted : List ℕ) (n : Numbers) (told : tables.EdgeNumbers) (m : Mark) → IsQuietMark m → IsQuiet (fragment_of power l counted n told m)
 quiet_fragment power l counted n told marks.Switch h = absurd h
 quiet_fragment power l counted n told (marks.Exit c) h = absurd h
 quiet_fragment power l counted n told (marks.Reset c) h = tt
 quiet_fragment power l counted n told (marks.Count c) h = tt
 
-all_quiet : (power : PowerModel) (l : Loops) (counted : List ℕ) (n : Numbers) (told : tables.Site) (ms : List Mark) → All IsQuietMark ms → All IsQuiet (map (fragment_of power l counted n told) ms)
+all_quiet : (power : PowerModel) (l : Loops) (counted : List ℕ) (n : Numbers) (told : tables.EdgeNumbers) (ms : List Mark) → All IsQuietMark ms → All IsQuiet (map (fragment_of power l counted n told) ms)
 all_quiet power l counted n told ms h = All-map IsQuiet (fragment_of power l counted n told) ms (λ k d lt. quiet_fragment power l counted n told _ (h k d lt))
 
-ordered_by : (power : PowerModel) (l : Loops) (counted : List ℕ) (n : Numbers) (told : tables.Site) (first rest : List Mark) → length first ≤ 1 → All IsQuietMark rest → AreOrdered (map (fragment_of power l counted n told) (first ++ rest))
+ordered_by : (power : PowerModel) (l : Loops) (counted : List ℕ) (n : Numbers) (told : tables.EdgeNumbers) (first rest : List Mark) → length first ≤ 1 → All IsQuietMark rest → AreOrdered (map (fragment_of power l counted n told) (first ++ rest))
 ordered_by power l counted n told [] [] few h = tt
 ordered_by power l counted n told [] (m ∷ rest) few h = all_quiet power l counted n told rest (λ k d lt. h (suc k) d (omega arith))
 ordered_by power l counted n told (m ∷ []) rest few h = all_quiet power l counted n told rest h
 ordered_by power l counted n told (m ∷ q ∷ first) rest few h = let bad : ⊥ = omega arith in absurd bad
 
-pub marks_ordered : (power : PowerModel) (g : Graph) (l : Loops) (extent : ℕ → ℕ → Bool) (counted : List ℕ) (n : Numbers) (told : tables.Site) → IsProgram g → AreAccepted g l extent → AreLoops l counted → AreDistinct counted
+pub marks_ordered : (power : PowerModel) (g : Graph) (l : Loops) (extent : ℕ → ℕ → Bool) (counted : List ℕ) (n : Numbers) (told : tables.EdgeNumbers) → IsProgram g → AreAccepted g l extent → AreLoops l counted → AreDistinct counted
     → (e : ℕ) (branch : Bool) (slack min_gain : ℕ) → e < g.edges → AreOrdered (map (fragment_of power l counted n told) (marks_at l counted branch slack min_gain (g.source e) (g.target e)))
 marks_ordered power g l extent counted n told prog acc are distinct e branch slack min_gain lt =
     let u = g.source e in

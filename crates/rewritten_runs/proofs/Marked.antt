@@ -44,13 +44,13 @@ use Rattle.rewritten_runs.proofs.MarkLists.{set_at, at_set, effect, through, mar
 
 -- ---- fragments act as their marks do
 
-acts : (power : PowerModel) (l : Loops) (counted : List ℕ) (n : Numbers) (told : tables.Site) (m : Mark) (c : ℕ → ℕ) (w : ℕ) → counters_after (fragment_of power l counted n told m) c w ≡ effect m w (c w)
+acts : (power : PowerModel) (l : Loops) (counted : List ℕ) (n : Numbers) (told : tables.EdgeNumbers) (m : Mark) (c : ℕ → ℕ) (w : ℕ) → counters_after (fragment_of power l counted n told m) c w ≡ effect m w (c w)
 acts power l counted n told marks.Switch c w = refl
 acts power l counted n told (marks.Exit i) c w = refl
 acts power l counted n told (marks.Reset i) c w = refl
 acts power l counted n told (marks.Count i) c w = refl
 
-pub all_act : (power : PowerModel) (l : Loops) (counted : List ℕ) (n : Numbers) (told : tables.Site) (ms : List Mark) (c : ℕ → ℕ) (w : ℕ) → counters_behind (map (fragment_of power l counted n told) ms) c w ≡ through w ms (c w)
+pub all_act : (power : PowerModel) (l : Loops) (counted : List ℕ) (n : Numbers) (told : tables.EdgeNumbers) (ms : List Mark) (c : ℕ → ℕ) (w : ℕ) → counters_behind (map (fragment_of power l counted n told) ms) c w ≡ through w ms (c w)
 all_act power l counted n told [] c w = refl
 all_act power l counted n told (m ∷ ms) c w = all_act power l counted n told ms (counters_after (fragment_of power l counted n told m) c) w ∙ ap (through w ms) (acts power l counted n told m c w)
 

@@ -1,19 +1,23 @@
 -- The weights of a program as a list and as costs of its edges, and the numbers that they give.
-use Rattle.std.proofs.Common.{◌≡◌, ℕ, zero, suc, List, [], ◌∷◌, length, map, slice_get, Some, refl, sym, ap, ◌∙◌, subst}
+use Rattle.std.proofs.Common.{◌≡◌, ℕ, zero, suc, ◌<◌, ◌≤◌, ◌⊎◌, ⊎_elim, arith, List, [], ◌∷◌, length, map, slice_get, Some, refl, sym, ap, ◌∙◌, subst}
 use Rattle.std.specs.Prelude.{slice_index, slice_index_or}
 use Rattle.std.proofs.Math.Path.{fun_ext}
 use Rattle.scale_base.specs.declared.stepping.Class.{Class}
 use Rattle.cost_theory.specs.declared.edges.Edge.{Edge}
-use Rattle.cost_theory.specs.Graph.{Graph, Loops}
+use Rattle.cost_theory.specs.Graph.{Graph, Loops, with_trips}
 use Rattle.cost_theory.specs.Accepted.{AreWeights}
 use Rattle.cost_theory.specs.Worst.{Numbers, AreNumbers}
 use Rattle.graph_runs.specs.Text.{Text}
 use Rattle.graph_runs.specs.EdgeCosts.{edge_class, cost_of, weights}
 use Rattle.graph_runs.specs.RunMoves.{text_graph}
-use Rattle.graph_runs.specs.KeptSteps.{by_extents}
+use Rattle.scale_base.specs.Image.{Image}
+use Rattle.scale_base.specs.Run.{setting_of, start_of}
+use Rattle.graph_runs.specs.KeptSteps.{Carried, by_extents}
+use Rattle.graph_runs.specs.KeptRuns.{kept_of}
+use Rattle.graph_runs.proofs.LessKept.{kept_by_less}
 use Rattle.graph_runs.specs.Laws.{IsProgramOf}
 use Rattle.graph_runs.proofs.WeightLaws.{weights_are}
-use Rattle.cost_theory.specs.Accepted.{AreAccepted, HasNoRecursion}
+use Rattle.cost_theory.specs.Accepted.{AreAccepted, HasNoRecursion, HaveWholeExtents}
 use Rattle.loop_file.specs.declared.notes.LoopNote.{LoopNote}
 use Rattle.loop_file.specs.Kept.{noted_loops, note_at}
 use Rattle.code_graph.specs.FlowGraph.{FlowGraph, graph, IsGraphOf}
@@ -73,14 +77,35 @@ bound_noted [] k = refl
 bound_noted (n ∷ ns) zero = refl
 bound_noted (n ∷ ns) (suc k) = bound_noted ns k
 
-abbrev noted : List LoopNote → ℕ → (ℕ → ℕ) → (ℕ → ℕ) → Loops
-noted notes count header bound = record { loops = count; header = header; bound = bound; inside = (noted_loops notes).inside }
+abbrev noted : List LoopNote → (ℕ → ℕ) → ℕ → (ℕ → ℕ) → (ℕ → ℕ) → Loops
+noted notes trips count header bound = record { loops = count; header = header; bound = bound; least_trips = trips; inside = (noted_loops notes).inside }
 
-pub loops_noted : (v : FlowGraph) (notes : List LoopNote) (t : LoopView) → IsTreeOf v notes t → by_extents (loops v t) (noted_loops notes).inside ≡ noted_loops notes
+loops_noted : (v : FlowGraph) (notes : List LoopNote) (t : LoopView) → IsTreeOf v notes t → by_extents (loops v t) (noted_loops notes).inside ≡ with_trips (noted_loops notes) (λ k. slice_index t.least_trips k)
 loops_noted v notes t is =
-    ap (λ n. noted notes n (λ k. slice_index (map (node_address v) t.headers) k) (λ k. slice_index t.bounds k)) (ap length is.headers ∙ count_noted notes)
-    ∙ (ap (λ f. noted notes (length notes) f (λ k. slice_index t.bounds k)) (fun_ext (λ k. ap (λ hs. slice_index hs k) is.headers ∙ header_noted notes k))
-    ∙ ap (λ f. noted notes (length notes) (noted_loops notes).header f) (fun_ext (λ k. ap (λ bs. slice_index bs k) is.bounds ∙ bound_noted notes k)))
+    let trips : ℕ → ℕ = λ k. slice_index t.least_trips k in
+    ap (λ n. noted notes trips n (λ k. slice_index (map (node_address v) t.headers) k) (λ k. slice_index t.bounds k)) (ap length is.headers ∙ count_noted notes)
+    ∙ (ap (λ f. noted notes trips (length notes) f (λ k. slice_index t.bounds k)) (fun_ext (λ k. ap (λ hs. slice_index hs k) is.headers ∙ header_noted notes k))
+    ∙ ap (λ f. noted notes trips (length notes) (noted_loops notes).header f) (fun_ext (λ k. ap (λ bs. slice_index bs k) is.bounds ∙ bound_noted notes k)))
+
+-- a loop of the tree has to turn no more often than its note says
+few_trips : (v : FlowGraph) (notes : List LoopNote) (t : LoopView) → IsTreeOf v notes t → (k : ℕ) → k < length notes → slice_index t.least_trips k ≤ (note_at notes k).at_least
+few_trips v notes t is k kl = ⊎_elim
+    (λ (none : slice_index t.least_trips k ≡ 0). let r : slice_index t.least_trips k ≤ (note_at notes k).at_least = omega arith in r)
+    (λ (some : 0 < slice_index t.least_trips k).
+    let here = is.trips k kl in
+    let e : slice_index t.least_trips k ≡ (note_at notes k).at_least = here.whole (here.turns some) in
+    let r : slice_index t.least_trips k ≤ (note_at notes k).at_least = omega arith in r)
+    (some_or_none (slice_index t.least_trips k))
+  where
+    some_or_none : (n : ℕ) → (n ≡ 0) ⊎ (0 < n)
+    some_or_none n = grind arith
+
+-- so a run that is kept by the notes is kept by the tree
+pub kept_by_tree : (v : FlowGraph) (notes : List LoopNote) (t : LoopView) → IsTreeOf v notes t → (image : Image) (levels : ℕ) (input : List ℕ) (n : ℕ) (c : Carried) →
+    kept_of image levels input (noted_loops notes) n ≡ Some c → kept_of image levels input (by_extents (loops v t) (noted_loops notes).inside) n ≡ Some c
+kept_by_tree v notes t is image levels input n c kept =
+    ap (λ l. kept_of image levels input l n) (loops_noted v notes t is)
+    ∙ kept_by_less (setting_of image levels input) (start_of image levels) (noted_loops notes) (λ k. slice_index t.least_trips k) (few_trips v notes t is) n c kept
 
 -- the program that the laws of runs speak of
 pub program_of : (t : Text) (v : FlowGraph) (notes : List LoopNote) (tree : LoopView) → IsGraphOf t v → IsTreeOf v notes tree → IsProgramOf t v.code (loops v tree) (noted_loops notes).inside
@@ -88,4 +113,5 @@ program_of t v notes tree is built = record {
   reached = is.reached;
   calls = subst (λ (g : Graph). HasNoRecursion g) (sym is.graph_is) is.flow.program.no_recursion;
   loops = subst (λ (g : Graph). AreAccepted g (loops v tree) (noted_loops notes).inside) (sym is.graph_is) built.tree.accepted;
+  whole = subst (λ (g : Graph). HaveWholeExtents g (loops v tree) (noted_loops notes).inside) (sym is.graph_is) built.tree.whole;
 }

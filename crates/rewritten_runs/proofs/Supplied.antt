@@ -1,12 +1,13 @@
 -- What the laws of stored runs ask of a rewritten program, all together.
-use Rattle.std.proofs.Common.{◌≡◌, ℕ, ◌*◌, ◌<◌, ◌≤◌, true, List, length}
+use Rattle.std.proofs.Common.{◌≡◌, ℕ, ◌*◌, ◌<◌, ◌≤◌, true, Some, List, length}
 use Rattle.scale_base.specs.Image.{Image}
 use Rattle.power_model.specs.Numbers.{PowerModel, IsPowerModel}
 use Rattle.cost_theory.specs.Laws.{IsAnalyzed}
 use Rattle.cost_theory.specs.Least.{Least, AreLeast}
 use Rattle.cost_theory.specs.Worst.{Numbers, AreNumbers}
 use Rattle.graph_runs.specs.EdgeCosts.{weights}
-use Rattle.graph_runs.specs.KeptSteps.{by_extents}
+use Rattle.graph_runs.specs.KeptSteps.{Carried, by_extents}
+use Rattle.graph_runs.specs.KeptRuns.{kept_of}
 use Rattle.graph_runs.specs.Laws.{IsProgramOf}
 use Rattle.graph_runs.specs.RunMoves.{text_graph}
 use Rattle.graph_runs.specs.Text.{text_of}
@@ -27,7 +28,8 @@ pub record IsSupplied (power : PowerModel) (file : List ℕ) (image : Image) (no
   pub limits : ℕ → ℕ
   pub ok : IsPowerModel power
   pub graph_is : text_graph (text_of image) v.code ≡ graph v
-  pub same_loops : by_extents (loops v tree) (noted_loops notes).inside ≡ noted_loops notes
+  pub kept_by_tree : (input : List ℕ) (n : ℕ) (c : Carried) → kept_of image (length power.levels) input (noted_loops notes) n ≡ Some c
+      → kept_of image (length power.levels) input (by_extents (loops v tree) (noted_loops notes).inside) n ≡ Some c
   pub stubbed : IsStubbed file image (length power.levels) limits sites base start rewritten
   pub program : IsProgramOf (text_of image) v.code (loops v tree) (noted_loops notes).inside
   pub countable : AreCountable (text_graph (text_of image) v.code) (loops v tree) (is_counted tree)

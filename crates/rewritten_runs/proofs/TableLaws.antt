@@ -12,11 +12,11 @@ use Rattle.power_model.specs.Levels.{level}
 use Rattle.power_model.specs.Numbers.{PowerModel}
 use Rattle.power_model.specs.Price.{switch_time, switch_energy}
 use Rattle.level_tables.specs.Search.{least_below}
-use Rattle.level_tables.specs.Tables.{Site, is_in_time, pays, pays_for, meets_both, entry_of, IsEntry, nibbles, nibble, word_of, shift_of, turns_left, at_row, row_of, rows_of}
+use Rattle.level_tables.specs.Tables.{EdgeNumbers, is_in_time, pays, pays_for, meets_both, entry_of, IsEntry, nibbles, nibble, word_of, shift_of, trips_left, at_row, row_of, rows_of}
 use Rattle.level_tables.proofs.Searching.{IsFound, least-is}
 use Rattle.level_tables.proofs.Words.{nibbles-fit}
 use Rattle.level_tables.proofs.Entries.{entry-is, entries-small, word-at, row-at}
-use Rattle.level_tables.proofs.Shifts.{turns_left-le}
+use Rattle.level_tables.proofs.Shifts.{trips_left-le}
 use Rattle.stored_runs.specs.Stubbed.{IsTable}
 
 pub leb-le : (x y : ℕ) → nat_le x y ≡ true → x ≤ y
@@ -24,7 +24,7 @@ leb-le x y e = grind (arith, nat_tests)
 
 -- ---- words and rows are tables of levels
 
-pub word_is_table : (power : PowerModel) (site : Site) → length power.levels ≤ 8 → IsTable (length power.levels) (word_of power site)
+pub word_is_table : (power : PowerModel) (site : EdgeNumbers) → length power.levels ≤ 8 → IsTable (length power.levels) (word_of power site)
 word_is_table power site few = (
   nibbles-fit (entry_of power site) 0 (length power.levels) few (λ k h. entries-small power site k (length power.levels) few (omega arith)),
   λ i h. let e = word-at power site i few h in let up = (entry-is power site i).up_to in omega (arith, e, up, h),
@@ -40,10 +40,10 @@ shift_found bound small (Some s) found = (found.0, leb-le (bound / 2 ^ s) 15 fou
 pub shift_fits : (bound : ℕ) → bound < 2 ^ 32 → (shift_of bound < 32) × (bound / 2 ^ shift_of bound ≤ 15)
 shift_fits bound small = shift_found bound small (least_below 32 (λ s. nat_le (bound / 2 ^ s) 15)) (least-is 32 (λ s. nat_le (bound / 2 ^ s) 15))
 
-pub rows_count : (power : PowerModel) (bound iteration : ℕ) (site : Site) → length (rows_of power bound iteration site) ≡ bound / 2 ^ shift_of bound + 1
+pub rows_count : (power : PowerModel) (bound iteration : ℕ) (site : EdgeNumbers) → length (rows_of power bound iteration site) ≡ bound / 2 ^ shift_of bound + 1
 rows_count power bound iteration site = length-map-range_with_len (row_of power bound iteration site) 0 (bound / 2 ^ shift_of bound + 1)
 
-pub rows_are_tables : (power : PowerModel) (bound iteration : ℕ) (site : Site) → length power.levels ≤ 8 → All (IsTable (length power.levels)) (rows_of power bound iteration site)
+pub rows_are_tables : (power : PowerModel) (bound iteration : ℕ) (site : EdgeNumbers) → length power.levels ≤ 8 → All (IsTable (length power.levels)) (rows_of power bound iteration site)
 rows_are_tables power bound iteration site few =
     All-map (IsTable (length power.levels)) (row_of power bound iteration site) (range_with_len 0 (bound / 2 ^ shift_of bound + 1)) (λ k d lt. word_is_table power _ few)
 
@@ -56,13 +56,13 @@ in_time_with left slack more p q s h le =
     let big : (left + slack) * q ≤ (left + more) * q = mul-le-mul_right q (omega arith) in
     omega (arith, small, big)
 
-pub record IsMet (power : PowerModel) (site : Site) (i j : ℕ) : Type 0 where
+pub record IsMet (power : PowerModel) (site : EdgeNumbers) (i j : ℕ) : Type 0 where
   pub lower : j < i
   pub in_time : nat_le (site.left * (level power.levels j).period + switch_time power i j) ((site.left + site.slack) * (level power.levels i).period) ≡ true
   pub pays : pays power site.least i j ≡ true
 
 -- an entry is the level itself, or a lower one that has met the tests
-pub entry_met : (power : PowerModel) (site : Site) (i j : ℕ) → entry_of power site i ≡ j → (j ≡ i) ⊎ IsMet power site i j
+pub entry_met : (power : PowerModel) (site : EdgeNumbers) (i j : ℕ) → entry_of power site i ≡ j → (j ≡ i) ⊎ IsMet power site i j
 entry_met power site i j e =
     let is = entry-is power site i in
     by (Rattle.std.proofs.lemmas.Bool.cases_lt j i)
@@ -74,14 +74,14 @@ entry_met power site i j e =
         inr (record { lower = lt; in_time = parts.0; pays = parts.1 })
     by (inr ge) = let up = (entry-is power site i).up_to in inl (omega (arith, e, up, ge))
 
-pub word_met : (power : PowerModel) (site : Site) (i j : ℕ) → length power.levels ≤ 8 → i < length power.levels → nibble (word_of power site) i ≡ j → (j ≡ i) ⊎ IsMet power site i j
+pub word_met : (power : PowerModel) (site : EdgeNumbers) (i j : ℕ) → length power.levels ≤ 8 → i < length power.levels → nibble (word_of power site) i ≡ j → (j ≡ i) ⊎ IsMet power site i j
 word_met power site i j few lt e = entry_met power site i j (sym (word-at power site i few lt) ∙ e)
 
 -- the row of a count within the bound is the word of the edge with the slack of some of the turns that are left
-pub row_met : (power : PowerModel) (bound iteration : ℕ) (site : Site) (count i j : ℕ) → count ≤ bound → length power.levels ≤ 8 → i < length power.levels → nibble (slice_index (rows_of power bound iteration site) (count / 2 ^ shift_of bound)) i ≡ j
+pub row_met : (power : PowerModel) (bound iteration : ℕ) (site : EdgeNumbers) (count i j : ℕ) → count ≤ bound → length power.levels ≤ 8 → i < length power.levels → nibble (slice_index (rows_of power bound iteration site) (count / 2 ^ shift_of bound)) i ≡ j
     → (j ≡ i) ⊎ IsMet power (at_row bound iteration (shift_of bound) site (count / 2 ^ shift_of bound)) i j
 row_met power bound iteration site count i j most few lt e =
     word_met power (at_row bound iteration (shift_of bound) site (count / 2 ^ shift_of bound)) i j few lt (ap (λ w. nibble w i) (sym (row-at power bound iteration site count most)) ∙ e)
 
-pub row_turns : (bound iteration count : ℕ) → turns_left bound (shift_of bound) (count / 2 ^ shift_of bound) * iteration ≤ (bound - count) * iteration
-row_turns bound iteration count = mul-le-mul_right iteration (turns_left-le bound (shift_of bound) count)
+pub row_turns : (bound iteration count : ℕ) → trips_left bound (shift_of bound) (count / 2 ^ shift_of bound) * iteration ≤ (bound - count) * iteration
+row_turns bound iteration count = mul-le-mul_right iteration (trips_left-le bound (shift_of bound) count)

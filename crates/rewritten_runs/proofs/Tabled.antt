@@ -78,7 +78,7 @@ module _ (power : PowerModel) (ok : IsPowerModel power) (image : Image) (notes :
   abbrev w : ℕ → ℕ
   w = weights_of power (text_of image) v.code sites
 
-  abbrev told : ℕ → tables.Site
+  abbrev told : ℕ → tables.EdgeNumbers
   told e = told_at power image v tree marked stored least e
 
   -- an edge with a switch or an exit in front is no call
@@ -145,7 +145,7 @@ module _ (power : PowerModel) (ok : IsPowerModel power) (image : Image) (notes :
         paying = (paid.z, sym to_end ∙ paid.is, subst (λ x. switch_energy power i j ≤ (paid.z + x) * (energy power i - energy power j)) (sym tail) paid.pays);
       }
 
-  no_more : (told : tables.Site) → record told { slack = told.slack + 0 } ≡ told
+  no_more : (told : tables.EdgeNumbers) → record told { slack = told.slack + 0 } ≡ told
   no_more told = let z : told.slack + 0 ≡ told.slack = omega arith in ap (λ x. record told { slack = x }) z
 
   -- what is left of a loop that an edge leaves
@@ -192,7 +192,7 @@ module _ (power : PowerModel) (ok : IsPowerModel power) (image : Image) (notes :
       let read_too : tables.nibble (slice_index (tables.rows_of power b it (told e)) (counts k / 2 ^ tables.shift_of b)) h.level ≡ j =
           subst (λ n. tables.nibble (slice_index (tables.rows_of power b it (told e)) (n / 2 ^ tables.shift_of b)) h.level ≡ j) count
           (subst (λ q. tables.nibble (slice_index (tables.rows_of power (l.bound q) (stored.iteration q) (told e)) (h.counters c / 2 ^ tables.shift_of (l.bound q))) h.level ≡ j) here read_so) in
-      let more = tables.turns_left b (tables.shift_of b) (counts k / 2 ^ tables.shift_of b) * it in
+      let more = tables.trips_left b (tables.shift_of b) (counts k / 2 ^ tables.shift_of b) * it in
       let few = row_turns b it (counts k) in
       let behind = left_of e k counts kc.loop m.holds in
       Rattle.std.proofs.Common.⊎_elim (λ same. inl same)

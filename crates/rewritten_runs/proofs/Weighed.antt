@@ -44,13 +44,13 @@ use Rattle.rewritten_runs.proofs.Marked.{program_is, marked_led}
 
 -- ---- fragments cost what their marks do
 
-one_cost : (power : PowerModel) (l : Loops) (counted : List ℕ) (n : Numbers) (told : tables.Site) (m : Mark) → fragment_cost (cycles_of power.costs) (fragment_of power l counted n told m) ≡ Rattle.scale_sites.specs.Weights.mark_cost power.costs m
+one_cost : (power : PowerModel) (l : Loops) (counted : List ℕ) (n : Numbers) (told : tables.EdgeNumbers) (m : Mark) → fragment_cost (cycles_of power.costs) (fragment_of power l counted n told m) ≡ Rattle.scale_sites.specs.Weights.mark_cost power.costs m
 one_cost power l counted n told marks.Switch = omega arith
 one_cost power l counted n told (marks.Exit i) = omega arith
 one_cost power l counted n told (marks.Reset i) = omega arith
 one_cost power l counted n told (marks.Count i) = omega arith
 
-pub marks_cost_is : (power : PowerModel) (l : Loops) (counted : List ℕ) (n : Numbers) (told : tables.Site) (ms : List Mark) → sum_by (fragment_cost (cycles_of power.costs)) (map (fragment_of power l counted n told) ms) ≡ marks_cost power.costs ms
+pub marks_cost_is : (power : PowerModel) (l : Loops) (counted : List ℕ) (n : Numbers) (told : tables.EdgeNumbers) (ms : List Mark) → sum_by (fragment_cost (cycles_of power.costs)) (map (fragment_of power l counted n told) ms) ≡ marks_cost power.costs ms
 marks_cost_is power l counted n told [] = refl
 marks_cost_is power l counted n told (m ∷ ms) =
     let one = one_cost power l counted n told m in
@@ -59,7 +59,7 @@ marks_cost_is power l counted n told (m ∷ ms) =
     omega (arith, one, rest, sum)
 
 -- the cycles behind the store, where there are marks
-pub tail_is : (power : PowerModel) (l : Loops) (counted : List ℕ) (n : Numbers) (told : tables.Site) (m : Mark) (ms : List Mark) → tail_cycles (cycles_of power.costs) (map (fragment_of power l counted n told) (m ∷ ms)) ≡ tail_of power.costs (m ∷ ms)
+pub tail_is : (power : PowerModel) (l : Loops) (counted : List ℕ) (n : Numbers) (told : tables.EdgeNumbers) (m : Mark) (ms : List Mark) → tail_cycles (cycles_of power.costs) (map (fragment_of power l counted n told) (m ∷ ms)) ≡ tail_of power.costs (m ∷ ms)
 tail_is power l counted n told m ms = let rest = marks_cost_is power l counted n told ms in omega (arith, rest)
 
 -- ---- marked instructions

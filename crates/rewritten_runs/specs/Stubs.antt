@@ -56,7 +56,7 @@ abbrev pub tail_at : PowerModel → (ℕ → List Mark) → ℕ → ℕ
 tail_at power marked e = tail_of power.costs (marked e)
 
 -- what an edge tells its switch, by the numbers and the least cycles under the stored weights
-abbrev pub told_at : PowerModel → Image → FlowGraph → LoopView → (ℕ → List Mark) → Numbers → Least → ℕ → tables.Site
+abbrev pub told_at : PowerModel → Image → FlowGraph → LoopView → (ℕ → List Mark) → Numbers → Least → ℕ → tables.EdgeNumbers
 told_at power image v t marked n least e = record {
   slack = slack_at (graph v) (loops v t) (stored_weights power image v marked) n e;
   left = rest_at (graph v) (loops v t) n e + tail_at power marked e;
@@ -68,7 +68,7 @@ abbrev pub loop_of : List ℕ → ℕ → ℕ
 loop_of counted counter = slice_index counted (counter - first_counter)
 
 -- the fragment of a mark on an edge that tells its switch this
-abbrev pub fragment_of : PowerModel → Loops → List ℕ → Numbers → tables.Site → Mark → Fragment
+abbrev pub fragment_of : PowerModel → Loops → List ℕ → Numbers → tables.EdgeNumbers → Mark → Fragment
 fragment_of power l counted n told marks.Switch = fragments.Switch (tables.word_of power told)
 fragment_of power l counted n told (marks.Exit counter) =
     fragments.Exit counter (tables.shift_of (l.bound (loop_of counted counter))) (tables.rows_of power (l.bound (loop_of counted counter)) (n.iteration (loop_of counted counter)) told)

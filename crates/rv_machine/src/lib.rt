@@ -4,13 +4,17 @@
 
 mod access;
 mod arith;
+mod code;
+mod decoding;
 mod machine;
 mod services;
 mod stepping;
 
+pub use code::Code;
+pub use decoding::{Places, decode_code};
 pub use machine::{Machine, World};
 pub use scale_base::StepEnd;
-pub use stepping::step;
+pub use stepping::{step, step_by};
 
 #[cfg(test)]
 mod tests;

@@ -7,8 +7,10 @@ ghost use Rattle.scale_base.specs.Arith as ops;
 ghost use Rattle.scale_base.specs.Layout as rules;
 ghost use Rattle.scale_base.specs.State.{reg, with_reg};
 ghost use Rattle.scale_base.specs.Step.{PortBelow};
+ghost use Rattle.rv_machine.specs.Code.{IsCodeOf};
 ghost use Rattle.rv_machine.specs.Machine.{state_of, setting_of, outcome_of};
 
+use crate::code::Code;
 use crate::machine::Machine;
 use crate::services::service;
 use crate::{access, arith};
@@ -30,6 +32,23 @@ pub fn step<M: Memory>(machine: &mut Machine<M>) -> StepEnd
     match decode(access::word_at(&machine.memory, at)) {
         Some(instr) => perform(machine, &instr),
         None => trap(TrapKind::IllegalWord, at),
+    }
+}
+
+/// One step of the machine, whose instruction is taken from the code where it is known.
+pub fn step_by<M: Memory>(machine: &mut Machine<M>, code: &Code) -> StepEnd
+    requires { IsCodeOf (M.layout machine.old.memory) (M.bytes machine.old.memory) code.now }
+    ensures outcome { outcome_of M.bytes result machine.new ≡ steps.step (setting_of M.layout machine.old) (state_of M.bytes machine.old) }
+    ensures setting { setting_of M.layout machine.new ≡ setting_of M.layout machine.old }
+    ensures port { PortBelow result machine.old.levels }
+{
+    let pc = machine.pc;
+    if pc % 4 != 0 {
+        return step(machine);
+    }
+    match code.instr(pc) {
+        Some(instr) => perform(machine, instr),
+        None => step(machine),
     }
 }
 
@@ -204,6 +223,10 @@ fn put<M: Memory>(memory: &mut M, op: StoreOp, at: u32, value: u32)
     ensures bytes { M.bytes memory.new ≡ ops.stored op (M.bytes memory.old) at value }
     ensures layout { M.layout memory.new ≡ M.layout memory.old }
 {
+    if op == StoreOp::Sw && at % 4 == 0 {
+        memory.set_word(at, value);
+        return;
+    }
     let [first, second, third, fourth] = value.to_le_bytes();
     memory.set_byte(at, first);
     if op != StoreOp::Sb {
@@ -278,6 +301,7 @@ fn pass<M: Memory>(machine: &mut Machine<M>, instr: &Instr) -> StepEnd
     StepEnd::Went(done)
 }
 
+#[inline(never)]
 fn perform<M: Memory>(machine: &mut Machine<M>, instr: &Instr) -> StepEnd
     requires { FieldsInRange instr.now }
     ensures outcome { outcome_of M.bytes result machine.new ≡ steps.performs (setting_of M.layout machine.old) (state_of M.bytes machine.old) instr.now instr.now }

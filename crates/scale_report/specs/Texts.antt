@@ -3,6 +3,12 @@
 use Rattle.std.specs.Prelude.{codes, ℕ, zero, suc, ◌+◌, ◌/◌, ◌%◌, nat_lt, if◌then◌else◌, List, [], ◌∷◌, ◌++◌, length, flat_map, Option, Some, None}
 use Rattle.std.specs.Fmt.{decimal}
 use Rattle.scale_base.specs.declared.summary.Summary.{Summary}
+use Rattle.cost_theory.specs.declared.edges.EdgeKind.{EdgeKind}
+use Rattle.cost_theory.specs.declared.edges.EdgeKind.TheVariants as edge
+use Rattle.scale_base.specs.declared.fragments.Fragment.{Fragment}
+use Rattle.scale_base.specs.declared.fragments.Fragment.TheVariants as fragment
+use Rattle.scale_base.specs.declared.plan.SiteLine.{SiteLine}
+use Rattle.scale_base.specs.declared.plan.ScalePlan.{ScalePlan}
 use Rattle.scale_base.specs.declared.refusal.Field.{Field}
 use Rattle.scale_base.specs.declared.refusal.Field.TheVariants as field
 use Rattle.scale_base.specs.declared.refusal.Refusal.{Refusal}
@@ -162,3 +168,47 @@ run_text r =
     ++ number_line (codes "keyed ") r.paid.keyed
     ++ number_line (codes "output ") (length r.output)
     ++ kept_line r.kept
+
+-- ---- the plan of a rewriting
+
+-- a word in eight hexadecimal digits
+unfoldable pub word_digits : ℕ → List ℕ
+word_digits word = hex_digits 8 word
+
+-- the edges that may have fragments
+abbrev pub IsSite : EdgeKind → Type 0
+IsSite edge.Taken = Unit {0}
+IsSite edge.Untaken = Unit {0}
+IsSite edge.Jump = Unit {0}
+IsSite edge.Next = ⊥
+IsSite edge.CallNext = ⊥
+IsSite edge.End = ⊥
+
+-- the name of the kind of such an edge
+abbrev pub kind_name : EdgeKind → List ℕ
+kind_name edge.Taken = codes "taken"
+kind_name edge.Untaken = codes "untaken"
+kind_name edge.Jump = codes "jump"
+kind_name edge.Next = []
+kind_name edge.CallNext = []
+kind_name edge.End = []
+
+-- the words of rows, with a space before each
+abbrev pub spaced_words : List ℕ → List ℕ
+spaced_words rows = flat_map (λ word. 32 ∷ word_digits word) rows
+
+-- a fragment, with the number of its loop
+abbrev pub fragment_words : ℕ → Fragment → List ℕ
+fragment_words loop_no (fragment.Switch word) = codes "switch " ++ word_digits word
+fragment_words loop_no (fragment.Exit counter shift rows) = codes "exit " ++ decimal loop_no ++ codes " " ++ decimal shift ++ spaced_words rows
+fragment_words loop_no (fragment.Reset counter) = codes "reset " ++ decimal loop_no
+fragment_words loop_no (fragment.Count counter) = codes "count " ++ decimal loop_no
+
+-- the line of a fragment
+unfoldable pub site_line : SiteLine → List ℕ
+site_line l =
+    codes "site " ++ address l.edge.at ++ codes " " ++ kind_name l.edge.kind ++ codes " " ++ fragment_words l.loop_no l.fragment ++ 10 ∷ []
+
+-- the summary, and a line for each fragment
+abbrev pub plan_text : ScalePlan → List ℕ
+plan_text p = summary_text p.summary ++ flat_map site_line p.lines.items

@@ -1,6 +1,10 @@
+ghost use Rattle.std.specs.Prelude.{◌≡◌};
+
 use super::*;
 use power_model::Meter;
-use scale_base::{Cycle, Field, Name, Trap, TrapKind};
+use scale_base::{
+    Cycle, Edge, EdgeKind, Field, Fragment, Name, Rows, ScalePlan, SiteLine, Trap, TrapKind,
+};
 use std::process::Abort;
 use std::test::Fail;
 
@@ -224,5 +228,65 @@ fn prints_whether_runs_were_kept(rt: HostRuntime) -> Result<(), Fail> {
             last,
         )?;
     }
+    Ok(())
+}
+
+fn site(at: u32, kind: EdgeKind, loop_no: u32, fragment: Fragment) -> SiteLine
+    ensures { result.edge.kind ≡ kind }
+{
+    SiteLine {
+        edge: Edge { at, kind, to: at },
+        loop_no,
+        fragment,
+    }
+}
+
+/// A branch over nothing with two levels to choose from, and a loop of 31 instructions with all its rows.
+#[test]
+fn prints_plans(rt: HostRuntime) -> Result<(), Fail> {
+    let summary = Summary {
+        start: 0,
+        worst: 25,
+        time: 100,
+        deadline: 100,
+        stub_cycles: 18,
+        switch_edges: 1,
+        exit_edges: 1,
+        count_edges: 1,
+        stub_bytes: 180,
+    };
+    let mut rows = Rows::new();
+    rows.push(0x100);
+    rows.push(0xfedc_ba98);
+    let exit = Fragment::Exit {
+        counter: 2,
+        shift: 3,
+        rows,
+    };
+    let lines = vec![in rt.alloc();
+        site(
+            0x1_0000,
+            EdgeKind::Untaken,
+            0,
+            Fragment::Switch { word: 0x210 }
+        ),
+        site(0x1_0014, EdgeKind::Taken, 1, Fragment::Count { counter: 2 }),
+        site(0x1_0014, EdgeKind::Untaken, 1, exit),
+        site(
+            0xffff_fffc,
+            EdgeKind::Jump,
+            4096,
+            Fragment::Reset { counter: 510 }
+        ),
+    ]?;
+    let plan = ScalePlan { summary, lines };
+    let numbers = summary_text(rt.alloc(), &plan.summary)
+        .ok()
+        .ok_or("memory")?;
+    let text = plan_text(rt.alloc(), &plan).ok().ok_or("memory")?;
+    let wanted = format!(in rt.alloc();
+        "{numbers}site 0x00010000 untaken switch 00000210\nsite 0x00010014 taken count 1\nsite 0x00010014 untaken exit 1 3 00000100 fedcba98\nsite 0xfffffffc jump reset 4096\n"
+    )?;
+    assert_eq!(rt; text.as_str(), wanted.as_str());
     Ok(())
 }

@@ -1,6 +1,6 @@
 //! How addresses, cycles and field names are printed.
 
-use scale_base::{Cycle, Field};
+use scale_base::{Cycle, Field, Rows};
 use std::fmt;
 
 /// An address: `0x` and eight lower-case hexadecimal digits.
@@ -95,6 +95,42 @@ impl fmt::Display for Spaced<'_> {
         for k in 0..self.0.count() {
             let at = Address(*self.0.get(k));
             write!(f, " {at}")?;
+        }
+        Ok(())
+    }
+}
+
+/// A word in eight lower-case hexadecimal digits.
+#[derive(Clone, Copy)]
+pub struct WordDigits(pub u32);
+
+impl fmt::Display for WordDigits {
+    ghost use Rattle.std.specs.Prelude.{Some};
+    ghost use Rattle.scale_report.specs.Texts.{word_digits};
+
+    ghost output = { λ w. Some (word_digits w.0) };
+
+    #[tactic(auto, unfolding(crate::specs::Texts::word_digits), using(crate::proofs::Hex::shown_address))]
+    fn fmt<W: fmt::Write>(&self, f: &mut fmt::Formatter<W>) -> fmt::Result {
+        let word = self.0;
+        write!(f, "{word:08x}")
+    }
+}
+
+/// The words of rows, with a space before each.
+#[derive(Clone, Copy)]
+pub struct SpacedWords<'a>(pub &'a Rows);
+
+impl fmt::Display for SpacedWords<'_> {
+    ghost use Rattle.std.specs.Prelude.{Some};
+    ghost use Rattle.scale_report.specs.Texts.{spaced_words};
+
+    ghost output = { λ s. Some (spaced_words s.0.now) };
+
+    fn fmt<W: fmt::Write>(&self, f: &mut fmt::Formatter<W>) -> fmt::Result {
+        for row in 0..self.0.count() {
+            let word = WordDigits(self.0.get(row));
+            write!(f, " {word}")?;
         }
         Ok(())
     }

@@ -13,6 +13,7 @@ numbered t = record {
   loops = length t.headers;
   header = λ k. slice_index t.headers k;
   bound = λ k. slice_index t.bounds k;
+  least_trips = λ k. slice_index t.least_trips k;
   inside = λ k n. is_among n (body_of t.bodies k);
 }
 

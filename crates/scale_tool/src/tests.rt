@@ -421,7 +421,7 @@ fn machine_and_loop_files_are_refused(rt: HostRuntime) -> Result<(), Fail> {
             28,
             DIV,
             2,
-            "version = 2\n",
+            "version = 3\n",
             "refused 16 loop 0 value version\n",
         ),
         (

@@ -135,7 +135,7 @@ module _ (power : PowerModel) (image : Image) (v : FlowGraph) (t : LoopView) (pl
       let small = is.turns_small k lt in
       subst (λ x. x * iteration ≤ 2 ^ 48) one (subst (λ x. (loops v t).bound k * x ≤ 2 ^ 48) two small)
 
-  pub exit_fragment : (e counter k bound iteration shift : ℕ) (rows : List ℕ) (told : tables.Site) → k < length t.headers → loop_of (counted_loops t) counter ≡ k → slice_get t.bounds k ≡ Some bound → slice_get m.worst.iteration k ≡ Some iteration
+  pub exit_fragment : (e counter k bound iteration shift : ℕ) (rows : List ℕ) (told : tables.EdgeNumbers) → k < length t.headers → loop_of (counted_loops t) counter ≡ k → slice_get t.bounds k ≡ Some bound → slice_get m.worst.iteration k ≡ Some iteration
       → shift ≡ tables.shift_of bound → rows ≡ tables.rows_of power bound iteration told → told ≡ told_at power image v t (marks_by_slack power image v t plain) stored least e
       → fragments.Exit counter shift rows ≡ fragment_of power (loops v t) (counted_loops t) stored (told_at power image v t (marks_by_slack power image v t plain) stored least e) (marks.Exit counter)
   exit_fragment e counter k bound iteration shift rows told lt here b i s r tl =

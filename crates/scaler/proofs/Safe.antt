@@ -34,7 +34,7 @@ use Rattle.scaler.specs.Held.{IsHeld, IsProgramHeld, IsHeldProgram, Then, held_a
 use Rattle.scaler.specs.Runs.{IsHeldSafely, KeptAsPrinted, KeptRunsEnd}
 use Rattle.scaler.proofs.Bases.{file_is}
 use Rattle.scaler.proofs.HeldRuns.{runs_alike, printed}
-use Rattle.rewritten_runs.proofs.Programs.{loops_noted, program_of}
+use Rattle.rewritten_runs.proofs.Programs.{kept_by_tree, program_of}
 
 -- ---- what `hold` went through
 
@@ -143,7 +143,7 @@ safe image machine loops stored summary short _ _ h =
     let alike = runs_alike image original held base level levels went.no_key lawful in
     let program = program_of (text_of original) p.code notes p.tree p.code_is p.tree_is in
     let carried = λ (input : List ℕ) (n : ℕ) (c : Carried) (k : kept_of original levels input (noted_loops notes) n ≡ Some c).
-    ap (λ l. kept_of original levels input l n) (loops_noted p.code notes p.tree p.tree_is) ∙ k in
+    kept_by_tree p.code notes p.tree p.tree_is original levels input n c k in
     let below = λ (input : List ℕ) (n : ℕ) (k : IsKeptUpTo original levels input notes n).
     image_runs_are_below image original levels input p.code.code (tree_loops p.code p.tree) (noted_loops notes).inside (cycles_of power.costs) p.numbers went.original_is program p.numbers_are
     n k.carried (carried input n k.carried k.kept) in

@@ -44,7 +44,7 @@ HasMarking power v t m = (image : Image) × (plain : Numbers) × (stored : Numbe
 abbrev pub Whichever : PowerModel → FlowGraph → LoopView → Marking → (Image → Numbers → Numbers → Least → Type 0) → Type 0
 Whichever power v t m P = (image : Image) (plain stored : Numbers) (least : Least) → IsMarking power image v t plain stored least m → P image plain stored least
 
-abbrev pub told_view : Told → tables.Site
+abbrev pub told_view : Told → tables.EdgeNumbers
 told_view x = record { slack = x.slack; left = x.left; least = x.least }
 
 abbrev pub IsToldAt : PowerModel → FlowGraph → LoopView → Marking → ℕ → Told → Type 0

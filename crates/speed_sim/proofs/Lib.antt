@@ -1,3 +1,4 @@
+pub mod CodeLaws
 pub mod WatchLaws
 pub mod ProgressLaws
 pub mod ReportLaws

@@ -9,6 +9,7 @@ ghost use Rattle.speed_sim.specs.Simulated.{simulated};
 mod allowed;
 mod reporting;
 mod running;
+mod unwatched;
 mod watcher;
 
 use elf_view::read_image;

@@ -8,12 +8,20 @@ ghost use Rattle.speed_sim.specs.Simulated.{report_of};
 use crate::running::run_machine;
 use crate::watcher::{kept_of, watcher_of};
 use elf_view::ImageView;
-use flat_memory::load_list;
+use flat_memory::load_pages;
 use loop_file::LoopNotes;
 use power_model::{Power, RunReport};
-use rv_machine::Machine;
-use scale_base::NoMemory;
+use rv_machine::{Machine, Places, decode_code};
+use scale_base::{NoMemory, Range};
 use std::alloc::Global;
+
+/// Where the keyed segment lies, if there is one.
+fn keyed_range(view: &ImageView<'_>) -> Option<Range> {
+    match view.keyed() {
+        Some(keyed) => Some(keyed.range),
+        None => None,
+    }
+}
 
 /// The report of the run of an image from a level, with an input. Where there are notes of loops, it says whether they are kept.
 pub fn report(
@@ -28,12 +36,18 @@ pub fn report(
     requires is_level { start < length power.now.levels }
     ensures { IfOk result (λ r. report_view r ≡ report_of power.now view.now input.now notes) }
 {
-    let memory = load_list(alloc, view)?;
+    let memory = load_pages(alloc, view)?;
+    let keyed = keyed_range(view);
+    let places = Places {
+        text: view.text(),
+        keyed,
+    };
+    let code = decode_code(alloc, &memory, &places)?;
     let input = Vec::from_slice(alloc, input)?;
     let levels = power.levels.count();
     let mut machine = Machine::start(alloc, memory, view.entry(), levels, start, input)?;
     let mut watcher = watcher_of(alloc, notes)?;
-    let (end, meter) = run_machine(&mut machine, power, start, &mut watcher);
+    let (end, meter) = run_machine(&mut machine, &code, power, start, &mut watcher);
     let world = machine.world;
     Ok(RunReport {
         end,

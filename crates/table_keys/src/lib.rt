@@ -6,6 +6,9 @@ ghost use Rattle.toml.specs.Data.{get_member};
 ghost use Rattle.toml.specs.View.{items_view, table_view, view};
 ghost use Rattle.table_keys.specs.Keys.{document_of, first_missing, is_known, least_unknown, number_at, number_of, all_tables, tables_of};
 
+mod rows;
+
+pub use rows::number_rows;
 use std::alloc::{AllocError, Global};
 use toml::{Table, Value};
 

@@ -24,6 +24,29 @@ fn reads_the_keys_of_a_file(rt: HostRuntime) -> Result<(), Fail> {
 }
 
 #[test]
+fn reads_rows_of_numbers(rt: HostRuntime) -> Result<(), Fail> {
+    for (text, expected) in [
+        ("a = [[0, 4, 9], [], [4294967295]]", "[[0, 4, 9], [], [4294967295]]"),
+        ("a = []", "[]"),
+        ("a = [[1], 2]", "none"),
+        ("a = [[1], [2.0]]", "none"),
+        ("a = [[1], [-1]]", "none"),
+        ("a = [[4294967296]]", "none"),
+        ("a = [[[1]]]", "none"),
+        ("a = 1", "none"),
+    ] {
+        let table = document(rt.alloc(), text.as_bytes())?.ok_or("no document")?;
+        let value = find(&table, "a").ok_or("no value")?;
+        let got = match number_rows(rt.alloc(), value, 0, 0xFFFF_FFFF)? {
+            Some(rows) => format!(in rt.alloc(); "{rows:?}")?,
+            None => String::from_str(rt.alloc(), "none")?,
+        };
+        assert_eq!(rt; got.as_str(), expected, "{text}");
+    }
+    Ok(())
+}
+
+#[test]
 fn refuses_what_is_no_document(rt: HostRuntime) -> Result<(), Fail> {
     assert!(rt; document(rt.alloc(), b"one = ")?.is_none());
     assert!(rt; document(rt.alloc(), b"one = 1 # \xff")?.is_none());

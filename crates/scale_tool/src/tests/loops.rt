@@ -79,6 +79,23 @@ fn bounded_loops_are_held(rt: HostRuntime) -> Result<(), Fail> {
 }
 
 #[test]
+fn least_numbers_of_iterations_stay_within_bounds(rt: HostRuntime) -> Result<(), Fail> {
+    let alloc = rt.alloc();
+    let image = plain_image(alloc, &COUNT_DOWN, 0, 5)?;
+    let machine = machine_file(alloc, 500, DIV, 2)?;
+    let over =
+        "version = 2\n[[loop]]\nheader = 0x10004\nranges = [[0x10004, 0x1000c]]\nbound = 10\nat_least = 11\n";
+    check_refused(
+        &rt,
+        alloc,
+        &image,
+        machine.as_str(),
+        over,
+        "refused 16 loop 1 value at_least\n",
+    )
+}
+
+#[test]
 fn loops_lie_in_each_others_ranges(rt: HostRuntime) -> Result<(), Fail> {
     let alloc = rt.alloc();
     // The entry is the header.

@@ -21,6 +21,13 @@ const READ_LOOP: &str =
 const COUNT_LOOP: &str =
     "version = 1\n[[loop]]\nheader = 0x10004\nranges = [[0x10004, 0x1000c]]\nbound = 10\n";
 
+// The same loop, which turns at least so often.
+const COUNT_NINE: &str =
+    "version = 2\n[[loop]]\nheader = 0x10004\nranges = [[0x10004, 0x1000c]]\nbound = 10\nat_least = 9\n";
+
+const COUNT_TEN: &str =
+    "version = 2\n[[loop]]\nheader = 0x10004\nranges = [[0x10004, 0x1000c]]\nbound = 10\nat_least = 10\n";
+
 // Writes one byte.
 const WRITE_ONE: [u32; 10] = [
     0x04100293, 0x00510023, 0x00100513, 0x00010593, 0x00100613, 0x04000893, 0x00000073, 0x00000513,
@@ -156,7 +163,19 @@ fn original_images_run_at_the_fastest_level(rt: HostRuntime) -> Result<(), Fail>
 fn runs_are_watched_by_the_notes_of_loops(rt: HostRuntime) -> Result<(), Fail> {
     let alloc = rt.alloc();
     let machine = machine_of(alloc, 1000000)?;
-    let cases: [(&[u32], &str, &str, &str); 3] = [
+    let cases: [(&[u32], &str, &str, &str); 5] = [
+        (
+            &COUNT_DOWN,
+            "",
+            COUNT_NINE,
+            "end exit 0\nsteps 23\ncycles 36\ntime 36\nenergy 288\nheld 288\nswitches 0\nlevel 2\nkeyed 0\noutput 0\nkept yes\n",
+        ),
+        (
+            &COUNT_DOWN,
+            "",
+            COUNT_TEN,
+            "end exit 0\nsteps 23\ncycles 36\ntime 36\nenergy 288\nheld 288\nswitches 0\nlevel 2\nkeyed 0\noutput 0\nkept no bound 1 9\n",
+        ),
         (
             &COUNT_DOWN,
             "",

@@ -34,8 +34,8 @@ iteration-iteration-requires c = let h = c.requires.marking in
     let loop : c.get-l.result.now ≡ x.loop = c.get-l.ensures ∙ (ap (slice_index c.args.marking.now.counters) place ∙ x.get) in
     let small = x.small in let size = h.4.iterations_size in omega (arith, loop, small, size)
 
-pub exit_rows-requires-clause-turns : goal.exit_rows-requires-clause-turns
-exit_rows-requires-clause-turns c = let h = c.requires.marking in
+pub exit_rows-requires-clause-trips : goal.exit_rows-requires-clause-trips
+exit_rows-requires-clause-trips c = let h = c.requires.marking in
     let x = exit_is c.args.power.now h.0 c.args.graph.now c.args.tree.now h.1 h.2 h.3 c.args.marking.now h.4 c.args.e c.requires.mark.0 c.args.counter c.requires.edge c.requires.mark.1 in
     let e = x.counter_is in let f = c.from.ensures in
     let place : c.from.result ≡ x.place = omega (arith, e, f) in

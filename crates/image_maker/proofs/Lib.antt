@@ -1,0 +1,6 @@
+pub mod LabelLaws
+pub mod WordLaws
+pub mod MadeLaws
+pub mod MadeFits
+pub mod PlainFacts
+pub mod PlainLaw

@@ -1,0 +1,20 @@
+//! Assembles lines, makes plain images of words, and makes images to try the scaler on.
+#![tactic(auto)]
+
+mod assembler;
+mod draws;
+mod labels;
+mod line;
+mod maker;
+mod plain;
+mod program;
+mod texts;
+mod words;
+
+pub use assembler::assemble;
+pub use line::{AsmError, Line};
+pub use maker::{Made, make};
+pub use plain::plain_image;
+
+#[cfg(test)]
+mod tests;

@@ -1,0 +1,10 @@
+pub mod WalkKinds
+pub mod KeptWalks
+pub mod OneEdge
+pub mod PlainReturns
+pub mod Alike
+pub mod Example
+pub mod LeastRuns
+pub mod Exist
+pub mod Within
+pub mod Ends

@@ -1,0 +1,3 @@
+pub mod Charged
+pub mod Laws
+pub mod Met

@@ -1,0 +1,5 @@
+pub mod Periods
+pub mod InTime
+pub mod Saved
+pub mod Entering
+pub mod Pairs

@@ -1,0 +1,4 @@
+pub mod Legs
+pub mod Switches
+pub mod Entries
+pub mod PairLaws

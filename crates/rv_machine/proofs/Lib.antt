@@ -1,0 +1,2 @@
+pub mod AccessLaws
+pub mod CodeLaws

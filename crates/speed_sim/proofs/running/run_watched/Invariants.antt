@@ -1,0 +1,18 @@
+use Rattle.rv_machine.specs.Code.{IsCodeOf}
+use Rattle.rv_machine.specs.Machine.{state_of, setting_of}
+use Rattle.speed_sim.specs.Progress.{Job, Progress}
+use Rattle.speed_sim.proofs.running.run_watched.Given as goal
+
+abbrev pub invariant-loop-step : goal.invariant-loop-step
+invariant-loop-step g l =
+    let job : Job = record {
+      power = l.fn.power;
+      env = setting_of g.M.Memory.layout l.initial.machine;
+      first = state_of g.M.Memory.bytes l.initial.machine;
+      start = l.start;
+      unwatched = l.initial.watcher;
+    } in
+    record {
+      progress : Progress job l._step (setting_of g.M.Memory.layout l.machine) (state_of g.M.Memory.bytes l.machine) l.meter l.watcher;
+      code : IsCodeOf (g.M.Memory.layout l.machine.memory) (g.M.Memory.bytes l.machine.memory) l.code;
+    }
