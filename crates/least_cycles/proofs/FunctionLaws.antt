@@ -1,10 +1,9 @@
 -- The hops of one function, node by node, and the least costs by them.
-use Rattle.std.proofs.Common.{◌≡◌, ◌≢◌, ℕ, zero, suc, ◌+◌, ◌*◌, ◌^◌, ◌<◌, ◌≤◌, ◌⊎◌, inl, inr, Bool, true, false, List, [], ◌∷◌, ◌++◌, map, length, length-append, get_or, slice_get, option_map, Option, Some, None, IfSome, refl, sym, ap, ◌∙◌, subst, arith, ⊎_elim}
+use Rattle.std.proofs.Common.{◌≡◌, ℕ, zero, suc, ◌+◌, ◌<◌, ◌≤◌, ◌⊎◌, inl, inr, Bool, false, List, [], ◌∷◌, ◌++◌, length, length-append, get_or, slice_get, option_map, Option, Some, None, IfSome, refl, sym, ap, ◌∙◌, subst, arith, ⊎_elim}
 use Rattle.std.proofs.lemmas.Bool.{cases_lt}
 use Rattle.std.proofs.lemmas.List.{length-map}
 use Rattle.std.proofs.lemmas.Option.{slice_get_within, slice_get-get_or, get_or_from_slice_get, slice_get-map, same_Some, none-some}
-use Rattle.call_orders.specs.Arcs.{number_at, AreDistinct}
-use Rattle.cost_theory.specs.Graph.{Graph}
+use Rattle.call_orders.specs.Arcs.{number_at}
 use Rattle.code_graph.specs.FlowGraph.{FlowGraph, graph, IsFlowGraph}
 use Rattle.natural_loops.specs.Noted.{node_address}
 use Rattle.natural_loops.proofs.NodeLaws.{one_number}
@@ -13,7 +12,7 @@ use Rattle.least_cycles.specs.declared.Way.{Way}
 use Rattle.least_cycles.specs.declared.Way.TheVariants.{Last, To, Stop}
 use Rattle.least_cycles.specs.Hops.{HeadBelow, IsHop, AreHops, AreLeastCosts, least_at}
 use Rattle.least_cycles.specs.Local.{IsWayOf, IsHopOf, AreLocal}
-use Rattle.least_cycles.specs.Functions.{IsBucket, ArePlacesIn, addresses, is_marked, IsMarked, AreLasts, AreHopsOf, IsFromFirst, IsFromNext, AreLeastIn}
+use Rattle.least_cycles.specs.Functions.{IsBucket, ArePlacesIn, addresses, is_marked, IsMarked, AreHopsOf, IsFromFirst, IsFromNext, AreLeastIn}
 use Rattle.least_cycles.proofs.Transfer.{local-least}
 
 value_at : {X : Type 0} (xs : List X) (i : ℕ) (x d : X) → i < length xs → x ≡ get_or xs i x → get_or xs i d ≡ x

@@ -1,7 +1,6 @@
 -- The least cycles with the turns that closed loops take at least, as charges of the edges that enter them.
-use Rattle.std.specs.Prelude.{◌≡◌, ℕ, ◌+◌, ◌*◌, ◌<◌, true, Bool, false, cond, ◌⊎◌, List, Option, Some, None, IsSome, unwrap_or}
+use Rattle.std.specs.Prelude.{◌≡◌, ℕ, ◌+◌, ◌*◌, ◌<◌, true, Bool, false, Option, Some, None, unwrap_or}
 use Rattle.cost_theory.specs.Graph.{Graph, Loops, total, sum_below, only, enters}
-use Rattle.cost_theory.specs.Worst.{at_some}
 use Rattle.cost_theory.specs.Accepted.{IsNode}
 use Rattle.cost_theory.specs.Least.{Least, IsLeastIfAny, EndsWith, IsReturn, IsExit, IsWay, way_cost, least_cost}
 use Rattle.cost_theory.specs.LeastTurns.{IsRun, turn_step, turn_last}

@@ -1,7 +1,7 @@
 -- The nodes of one function, by their numbers, and its edges as hops between them.
-use Rattle.std.specs.Prelude.{◌≡◌, ℕ, ◌+◌, ◌<◌, ◌≤◌, true, Bool, false, List, map, length, slice_get, slice_index_or, Option, Some, None}
+use Rattle.std.specs.Prelude.{◌≡◌, ℕ, ◌<◌, ◌≤◌, true, Bool, false, List, map, length, slice_get, slice_index_or, Option, Some, None}
 use Rattle.call_orders.specs.Arcs.{number_at, AreDistinct}
-use Rattle.cost_theory.specs.Graph.{Graph, total}
+use Rattle.cost_theory.specs.Graph.{total}
 use Rattle.cost_theory.specs.Least.{IsLeastIfAny, EndsWith}
 use Rattle.code_graph.specs.FlowGraph.{FlowGraph, graph}
 use Rattle.natural_loops.specs.Noted.{node_address}

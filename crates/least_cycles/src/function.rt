@@ -4,7 +4,7 @@ ghost use Rattle.std.specs.Prelude.{◌≡◌, ◌⊎◌, ℕ, ◌*◌, ◌+◌,
 ghost use Rattle.call_orders.specs.Arcs.{number_at};
 ghost use Rattle.code_graph.specs.FlowGraph.{graph as graph_seen, IsFlowGraph};
 ghost use Rattle.natural_loops.specs.Noted.{node_address};
-ghost use Rattle.least_cycles.specs.Hops.{AreHops};
+ghost use Rattle.least_cycles.specs.Hops.{AreHops, least_at};
 ghost use Rattle.least_cycles.specs.Local.{IsWayOf, IsHopOf};
 ghost use Rattle.least_cycles.specs.Functions.{IsBucket, ArePlacesIn, addresses, IsMarked, AreLasts, AreCosts, AreHopsOf, IsFromFirst, IsFromNext, AreLeastIn};
 
@@ -106,7 +106,9 @@ pub fn least_in_function(
     requires costs { length costs.now ≡ length graph.now.code.edges }
     requires most { (e : ℕ) → number_at costs.now e ≤ most }
     requires small { length bucket.now * most ≤ 2 ^ 126 }
-    ensures { IfOk result (λ table. AreLeastIn graph.now lasts.now costs.now bucket.now table.items) }
+    ensures least { IfOk result (λ table. AreLeastIn graph.now lasts.now costs.now bucket.now table.items) }
+    ensures size { IfOk result (λ table. length table.items ≡ length bucket.now) }
+    ensures low { IfOk result (λ table. (i x : ℕ) → least_at table.items i ≡ Some x → x ≤ length bucket.now * most) }
 {
     let hops = hops_of(alloc, graph, bucket, places, lasts, costs)?;
     let table = least_costs(alloc, bucket.len(), &hops, most)?;

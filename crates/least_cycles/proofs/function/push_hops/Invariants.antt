@@ -1,4 +1,4 @@
-use Rattle.std.proofs.Common.{◌≡◌, ◌⊎◌, ℕ, List}
+use Rattle.std.proofs.Common.{◌⊎◌, ℕ, List}
 use Rattle.least_cycles.specs.Functions.{addresses, AreHopsOf, IsFromFirst, IsFromNext}
 use Rattle.least_cycles.proofs.function.push_hops.Given as goal
 
