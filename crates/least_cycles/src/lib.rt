@@ -2,9 +2,30 @@
 #![tactic(auto)]
 
 ghost use Rattle.std.specs.Prelude.{◌≡◌, ℕ, ◌*◌, ◌+◌, ◌<◌, ◌≤◌, ◌^◌, true, false, length, Some, None, slice_get, IfOk, OnOk};
+ghost use Rattle.std.specs.Prelude.{Bool};
+ghost use Rattle.call_orders.specs.Arcs.{number_at};
+ghost use Rattle.cost_theory.specs.Accepted.{AreWeights};
+ghost use Rattle.code_graph.specs.FlowGraph.{graph as graph_seen};
+ghost use Rattle.loop_tree.specs.Tree.{loops, IsLoopTree};
+ghost use Rattle.least_cycles.specs.Found.{IsInRange, IsLeastOf, AreSmallLeast, no_charge};
 ghost use Rattle.least_cycles.specs.Hops.{least_at, offered, improves, relaxed, IsHop, HeadBelow, AreHops, IsTable, AreLeastCosts, fall};
 
-use std::alloc::{AllocError, Global};
+mod buckets;
+mod ends;
+mod function;
+mod numbers;
+mod prices;
+mod walks;
+
+use code_graph::{CodeGraph, Weights};
+use ends::behinds_of;
+pub use function::least_in_function;
+use loop_tree::LoopTree;
+pub use numbers::LeastNumbers;
+use numbers::{after_of, ends_of, own_costs};
+use scale_base::NoMemory;
+use std::alloc::Global;
+use walks::walks_of;
 
 /// Where an edge leads: it is the last of a walk, or it leads to a node, or to neither.
 #[derive(Clone, Copy, Drop)]
@@ -83,12 +104,43 @@ pub fn least_costs(
     count: usize,
     hops: &[Hop],
     most: u64,
-) -> Result<Vec<Option<u128>>, AllocError>
+) -> Result<Vec<Option<u128>>, NoMemory>
     requires hops { AreHops count most hops.now }
     requires small { count * most ≤ 2 ^ 126 }
     ensures least { IfOk result (λ t. AreLeastCosts hops.now t.items) }
+    ensures size { IfOk result (λ t. length t.items ≡ count) }
+    ensures low { IfOk result (λ t. (v x : ℕ) → least_at t.items v ≡ Some x → x ≤ count * most) }
 {
     let mut table: Vec<Option<u128>> = vec![in alloc; None; count]?;
     while pass(&mut table, hops, most) {}
     Ok(table)
 }
+
+/// The least cycles from each node of a graph to a return of its function and to an end of the run, and behind each edge to an end
+/// of the run, under weights of its edges. The program's worst cycles are at most 2^48.
+pub fn least(
+    alloc: Global,
+    graph: &CodeGraph,
+    tree: &LoopTree,
+    weights: &Weights,
+) -> Result<LeastNumbers, NoMemory>
+    requires tree { (extent : ℕ → ℕ → Bool) × IsLoopTree graph.now extent tree.now }
+    requires weights { length weights.now ≡ length graph.now.code.edges }
+    requires calls { AreWeights (graph_seen graph.now) (number_at weights.now) }
+    requires worst { IsInRange graph.now (loops graph.now tree.now) (number_at weights.now) }
+    ensures least { IfOk result (λ x. IsLeastOf graph.now (number_at weights.now) no_charge x) }
+    ensures small { IfOk result (λ x. AreSmallLeast graph.now x) }
+{
+    // Its contract says what is so of the graph.
+    let _nodes = graph.node_count();
+    let _functions = graph.function_count();
+    let own = own_costs(alloc, graph, weights)?;
+    let walks = walks_of(alloc, graph, &own)?;
+    let behind = behinds_of(alloc, graph, &walks)?;
+    let ends = ends_of(alloc, graph, &walks, &behind)?;
+    let after = after_of(alloc, graph, &walks, &behind)?;
+    Ok(LeastNumbers::from_parts(walks.returns, ends, after))
+}
+
+#[cfg(test)]
+mod tests;

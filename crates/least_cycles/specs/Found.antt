@@ -1,0 +1,57 @@
+-- The least costs to a return and to an end, by node, and to an end after each edge: what LeastNumbers are seen as.
+use Rattle.std.specs.Prelude.{◌≡◌, ℕ, ◌+◌, ◌^◌, ◌<◌, ◌≤◌, List, length, slice_get, Option, Some}
+use Rattle.call_orders.specs.Arcs.{number_at}
+use Rattle.cost_theory.specs.Graph.{Loops}
+use Rattle.cost_theory.specs.Worst.{Numbers, AreNumbers}
+use Rattle.cost_theory.specs.Least.{Least, AreLeast}
+use Rattle.code_graph.specs.FlowGraph.{FlowGraph, graph}
+use Rattle.least_cycles.specs.Charged.{end_at}
+
+pub record LeastView : Type 0 where
+  -- by node, the least cost to a return of its function, and to an end of the run
+  pub returns : List (Option ℕ)
+  pub ends : List (Option ℕ)
+  -- by edge, the least cost to an end behind it with the edge's charge; none for an edge that leads to no node
+  pub after : List (Option ℕ)
+
+-- the program has its worst numbers under these weights, and its worst cycles are in range
+abbrev pub IsInRange : FlowGraph → Loops → (ℕ → ℕ) → Type 0
+IsInRange v l w = (n : Numbers) × AreNumbers (graph v) l w n × (n.worst 0 ≤ 2 ^ 48)
+
+-- the view holds the numbers of nodes, and those behind edges with these charges
+pub record HoldsLeast (v : FlowGraph) (charge : ℕ → ℕ) (n : Least) (x : LeastView) : Type 0 where
+  pub to_return : (k at : ℕ) → slice_get v.code.nodes k ≡ Some at → slice_get x.returns k ≡ Some (n.to_return at)
+  pub to_end : (k at : ℕ) → slice_get v.code.nodes k ≡ Some at → slice_get x.ends k ≡ Some (n.to_end at)
+  pub after : (e : ℕ) → e < length v.code.edges → slice_get x.after e ≡ Some (end_at n.to_end (charge e) ((graph v).target e))
+
+-- the least numbers under weights, where each edge has a charge besides
+abbrev pub IsLeastOf : FlowGraph → (ℕ → ℕ) → (ℕ → ℕ) → LeastView → Type 0
+IsLeastOf v w charge x = (n : Least) × AreLeast (graph v) (λ e. w e + charge e) n × HoldsLeast v charge n x
+
+-- no edge has a charge
+abbrev pub no_charge : ℕ → ℕ
+no_charge e = 0
+
+-- one of each for each node and edge, and those that are there below 2^89
+pub record AreSmallLeast (v : FlowGraph) (x : LeastView) : Type 0 where
+  pub returns_size : length x.returns ≡ length v.code.nodes
+  pub ends_size : length x.ends ≡ length v.code.nodes
+  pub after_size : length x.after ≡ length v.code.edges
+  pub returns : (k z : ℕ) → slice_get x.returns k ≡ Some (Some z) → z < 2 ^ 89
+  pub ends : (k z : ℕ) → slice_get x.ends k ≡ Some (Some z) → z < 2 ^ 89
+  pub after : (e z : ℕ) → slice_get x.after e ≡ Some (Some z) → z < 2 ^ 89
+
+-- weights as costs of edges
+pub record AreOwn (n : ℕ) (weights own : List ℕ) : Type 0 where
+  pub size : length own ≡ n
+  pub each : (e : ℕ) → e < n → number_at own e ≡ number_at weights e
+  pub low : (e : ℕ) → number_at own e ≤ 2 ^ 48
+
+-- the ends of the first n nodes, and behind the first n edges
+pub record AreEndsTo (v : FlowGraph) (n : Least) (k : ℕ) (ends : List (Option ℕ)) : Type 0 where
+  pub size : length ends ≡ k
+  pub each : (j at : ℕ) → j < k → slice_get v.code.nodes j ≡ Some at → slice_get ends j ≡ Some (n.to_end at)
+
+pub record AreAfterTo (v : FlowGraph) (n : Least) (k : ℕ) (after : List (Option ℕ)) : Type 0 where
+  pub size : length after ≡ k
+  pub each : (e : ℕ) → e < k → slice_get after e ≡ Some (end_at n.to_end 0 ((graph v).target e))

@@ -1,0 +1,135 @@
+-- Least costs by node, as lists, and what stands in them while functions are done one after the other.
+use Rattle.std.specs.Prelude.{◌≡◌, ◌≢◌, ℕ, ◌+◌, ◌^◌, ◌<◌, ◌≤◌, ◌↔◌, Bool, true, List, [], ◌∷◌, length, slice_get, nat_eq, if◌then◌else◌, Option, Some, None}
+use Rattle.call_orders.specs.Arcs.{number_at}
+use Rattle.cost_theory.specs.Graph.{Graph, total}
+use Rattle.cost_theory.specs.Worst.{at_some}
+use Rattle.cost_theory.specs.Least.{Least, IsLeastIfAny, EndsWith, IsReturn, IsExit, least_cost}
+use Rattle.code_graph.specs.FlowGraph.{FlowGraph, graph}
+use Rattle.natural_loops.specs.Noted.{node_address}
+use Rattle.key_chains.specs.Keys.{ChainView, option_at, AreChains}
+use Rattle.least_cycles.specs.Hops.{least_at}
+use Rattle.least_cycles.specs.Local.{lesser, both}
+use Rattle.least_cycles.specs.Functions.{IsMarked}
+
+-- ---- nodes by function
+
+pub record AreOwners (v : FlowGraph) (n : ℕ) (keys : List (Option ℕ)) : Type 0 where
+  pub size : length keys ≡ n
+  pub each : (k : ℕ) → k < n → option_at keys k ≡ Some ((graph v).owner (node_address v k))
+
+-- the chains of the nodes by their functions
+abbrev pub AreNodeChains : FlowGraph → ChainView → Type 0
+AreNodeChains v chains = (keys : List (Option ℕ)) × AreOwners v (length v.code.nodes) keys × AreChains keys (length v.code.functions) chains
+
+-- the function that each edge calls, where the call comes back over this edge
+abbrev pub back_from : Option ℕ → Option ℕ → Option ℕ
+back_from None callee = None
+back_from (Some u) callee = callee
+
+pub record AreBackKeys (v : FlowGraph) (n : ℕ) (keys : List (Option ℕ)) : Type 0 where
+  pub size : length keys ≡ n
+  pub each : (e : ℕ) → e < n → option_at keys e ≡ back_from ((graph v).target e) ((graph v).callee e)
+
+-- the chains of the edges by which calls come back, by the functions that are called
+abbrev pub AreBackChains : FlowGraph → ChainView → Type 0
+AreBackChains v chains = (keys : List (Option ℕ)) × AreBackKeys v (length v.code.edges) keys × AreChains keys (length v.code.functions) chains
+
+-- ---- tables by node
+
+-- what stands beside an address
+abbrev pub value_beside : List ℕ → List (Option ℕ) → ℕ → Option ℕ
+value_beside [] table a = None
+value_beside (u ∷ us) [] a = None
+value_beside (u ∷ us) (o ∷ os) a = if nat_eq u a then o else value_beside us os a
+
+-- What tables by node say of addresses, with the least costs behind the calls of each function.
+abbrev pub least_by : FlowGraph → List (Option ℕ) → List (Option ℕ) → List (Option ℕ) → Least
+least_by v returns exits behind = record {
+  to_return = value_beside v.code.nodes returns;
+  to_exit = value_beside v.code.nodes exits;
+  to_end = λ a. lesser (value_beside v.code.nodes exits a) (both (value_beside v.code.nodes returns a) (least_at behind ((graph v).owner a)));
+}
+
+-- Costs of edges, and limits of functions: a walk from its entry to each End edge of a function stays within its limit.
+pub record AreLimits (g : Graph) (own limit : ℕ → ℕ) : Type 0 where
+  pub edge : (e : ℕ) → e < g.edges → own e ≤ 2 ^ 48
+  pub small : (f : ℕ) → f < g.functions → limit f ≤ 2 ^ 48
+  pub way : (e : ℕ) → e < g.edges → g.target e ≡ None →
+      (es : List ℕ) × EndsWith g (λ d. d ≡ e) (Some (g.entry (g.owner (g.source e)))) es × (total (λ d. own d + at_some (g.callee d) limit) es ≤ limit (g.owner (g.source e)))
+
+-- the numbers at entries are within the limits
+abbrev pub AreLow : FlowGraph → (ℕ → ℕ) → List (Option ℕ) → Type 0
+AreLow v limit table = (f x : ℕ) → f < length v.code.functions → value_beside v.code.nodes table ((graph v).entry f) ≡ Some x → x ≤ limit f
+
+-- and small
+abbrev pub AreSmallAtEntries : FlowGraph → List (Option ℕ) → Type 0
+AreSmallAtEntries v table = (f x : ℕ) → f < length v.code.functions → value_beside v.code.nodes table ((graph v).entry f) ≡ Some x → x ≤ 2 ^ 48
+
+-- tables by node, with small numbers at the entries of functions
+pub record AreTables (v : FlowGraph) (returns exits : List (Option ℕ)) : Type 0 where
+  pub returns_size : length returns ≡ length v.code.nodes
+  pub exits_size : length exits ≡ length v.code.nodes
+  pub small_return : AreSmallAtEntries v returns
+  pub small_exit : AreSmallAtEntries v exits
+
+-- an edge's cost with that of the function that it calls, and whether it is the last of a walk to an exit
+pub record IsPrice (v : FlowGraph) (own : ℕ → ℕ) (returns exits : List (Option ℕ)) (e cost : ℕ) (last : Bool) : Type 0 where
+  pub cost_is : cost ≡ least_cost (graph v) own (least_by v returns exits []) e
+  pub last_is : (last ≡ true) ↔ IsExit (graph v) (least_by v returns exits []) e
+  pub end : last ≡ true → (graph v).target e ≡ None
+  pub within : cost ≤ 2 ^ 49
+
+-- the same for the edges of a set
+pub record ArePriced (v : FlowGraph) (own : ℕ → ℕ) (returns exits : List (Option ℕ)) (Set : ℕ → Type 0) (costs : List ℕ) (lasts : List Bool) : Type 0 where
+  pub costs_size : length costs ≡ length v.code.edges
+  pub lasts_size : length lasts ≡ length v.code.edges
+  pub cost : (e : ℕ) → e < length v.code.edges → Set e → number_at costs e ≡ least_cost (graph v) own (least_by v returns exits []) e
+  pub last : (e : ℕ) → e < length v.code.edges → Set e → IsMarked lasts e ↔ IsExit (graph v) (least_by v returns exits []) e
+  pub ends : (e : ℕ) → e < length v.code.edges → IsMarked lasts e → (graph v).target e ≡ None
+  pub within : (e : ℕ) → number_at costs e ≤ 2 ^ 49
+
+-- the edges of a function
+abbrev pub IsEdgeOf : FlowGraph → ℕ → ℕ → Type 0
+IsEdgeOf v f e = (graph v).owner ((graph v).source e) ≡ f
+
+-- flags of the returns
+pub record AreReturns (v : FlowGraph) (n : ℕ) (flags : List Bool) : Type 0 where
+  pub size : length flags ≡ n
+  pub each : (e : ℕ) → e < n → IsMarked flags e ↔ IsReturn (graph v) e
+
+-- The tables have the least costs to a return and to an exit of the nodes of the functions that are done.
+pub record AreWalksOf (v : FlowGraph) (own limit : ℕ → ℕ) (Done : ℕ → Type 0) (returns exits : List (Option ℕ)) : Type 0 where
+  pub returns_size : length returns ≡ length v.code.nodes
+  pub exits_size : length exits ≡ length v.code.nodes
+  pub to_return : (k : ℕ) → k < length v.code.nodes → Done ((graph v).owner (node_address v k)) →
+      IsLeastIfAny (EndsWith (graph v) (IsReturn (graph v)) (Some (node_address v k))) (total (least_cost (graph v) own (least_by v returns exits []))) (least_at returns k)
+  pub to_exit : (k : ℕ) → k < length v.code.nodes → Done ((graph v).owner (node_address v k)) →
+      IsLeastIfAny (EndsWith (graph v) (IsExit (graph v) (least_by v returns exits [])) (Some (node_address v k))) (total (least_cost (graph v) own (least_by v returns exits []))) (least_at exits k)
+  pub low_return : AreLow v limit returns
+  pub low_exit : AreLow v limit exits
+  pub small_return : (k x : ℕ) → least_at returns k ≡ Some x → x ≤ 2 ^ 66
+  pub small_exit : (k x : ℕ) → least_at exits k ≡ Some x → x ≤ 2 ^ 66
+
+-- the functions at the first places of the order of calls, callees first
+abbrev pub IsBefore : FlowGraph → ℕ → ℕ → Type 0
+IsBefore v i f = (j : ℕ) × (j < i) × (slice_get v.order j ≡ Some f)
+
+abbrev pub IsAnyFunction : ℕ → Type 0
+IsAnyFunction f = Unit {0}
+
+-- the numbers of the first n of some nodes are written into a table by node
+pub record AreWritten (n : ℕ) (bucket : List ℕ) (found old new : List (Option ℕ)) : Type 0 where
+  pub size : length new ≡ length old
+  pub each : (i : ℕ) → i < n → least_at new (number_at bucket i) ≡ least_at found i
+  pub others : (k : ℕ) → ((i : ℕ) → i < n → number_at bucket i ≢ k) → least_at new k ≡ least_at old k
+
+-- costs and flags by edge, of which some may be priced for a function
+pub record AreScratch (v : FlowGraph) (costs : List ℕ) (lasts : List Bool) : Type 0 where
+  pub costs_size : length costs ≡ length v.code.edges
+  pub lasts_size : length lasts ≡ length v.code.edges
+  pub ends : (e : ℕ) → e < length v.code.edges → IsMarked lasts e → (graph v).target e ≡ None
+  pub within : (e : ℕ) → number_at costs e ≤ 2 ^ 49
+
+-- and limits of functions hold them in range
+abbrev pub HasWalks : FlowGraph → (ℕ → ℕ) → (ℕ → Type 0) → List (Option ℕ) → List (Option ℕ) → Type 0
+HasWalks v own Done returns exits = (limit : ℕ → ℕ) × AreLimits (graph v) own limit × AreWalksOf v own limit Done returns exits

@@ -1,0 +1,141 @@
+//! What edges cost with the functions that they call.
+
+ghost use Rattle.std.specs.Prelude.{◌≡◌, ◌⊎◌, ◌↔◌, ℕ, ◌+◌, ◌^◌, ◌<◌, ◌≤◌, true, [], length, Some, None, IsSome, unwrap_or, IfOk};
+ghost use Rattle.call_orders.specs.Arcs.{number_at};
+ghost use Rattle.cost_theory.specs.Least.{least_call};
+ghost use Rattle.code_graph.specs.FlowGraph.{graph as graph_seen, IsFlowGraph};
+ghost use Rattle.least_cycles.specs.Functions.{IsBucket, IsFromFirst};
+ghost use Rattle.least_cycles.specs.Tables.{value_beside, least_by, AreTables, IsPrice, ArePriced};
+
+use code_graph::CodeGraph;
+use natural_loops::node_at;
+
+/// What a table has at the entry of function `f`.
+fn at_entry(graph: &CodeGraph, table: &[Option<u128>], f: usize) -> Option<u128>
+    requires flow { IsFlowGraph graph.now }
+    requires function { f < length graph.now.code.functions }
+    requires size { length table.now ≡ length graph.now.code.nodes }
+    ensures { result ≡ value_beside graph.now.code.nodes table.now ((graph_seen graph.now).entry f) }
+{
+    let _count = graph.node_count();
+    let k = node_at(graph, graph.function(f));
+    table[k]
+}
+
+/// The least cycles in the function that edge `e` calls: to its return, or to an exit in it where the call doesn't come back.
+fn called(
+    graph: &CodeGraph,
+    returns: &[Option<u128>],
+    exits: &[Option<u128>],
+    e: usize,
+) -> Option<u128>
+    requires flow { IsFlowGraph graph.now }
+    requires edge { e < length graph.now.code.edges }
+    requires returns { length returns.now ≡ length graph.now.code.nodes }
+    requires exits { length exits.now ≡ length graph.now.code.nodes }
+    ensures cost { unwrap_or result 0 ≡ least_call (graph_seen graph.now) (least_by graph.now returns.now exits.now []) e ((graph_seen graph.now).target e) }
+    ensures exit { (graph_seen graph.now).target e ≡ None → IsSome result → (f : ℕ) × ((graph_seen graph.now).callee e ≡ Some f) × IsSome (value_beside graph.now.code.nodes exits.now ((graph_seen graph.now).entry f)) }
+    ensures whole { (f : ℕ) → (graph_seen graph.now).target e ≡ None → (graph_seen graph.now).callee e ≡ Some f → IsSome (value_beside graph.now.code.nodes exits.now ((graph_seen graph.now).entry f)) → IsSome result }
+{
+    let f = graph.callee(e)?;
+    match graph.target(e) {
+        Some(_) => at_entry(graph, returns, f),
+        None => at_entry(graph, exits, f),
+    }
+}
+
+/// A number of at most 2^48, and 0 where there is none.
+fn small(number: Option<u128>) -> u64
+    requires { (x : ℕ) → number ≡ Some x → x ≤ 2 ^ 48 }
+    ensures { result ≡ unwrap_or number 0 }
+{
+    match number {
+        Some(x) => x as u64,
+        None => 0,
+    }
+}
+
+/// Whether edge `e` is the last of a walk to an exit: an exit, or the end of a call in which there is one.
+fn is_last(graph: &CodeGraph, e: usize, exits_in_call: bool) -> bool
+    requires edge { e < length graph.now.code.edges }
+    ensures { (result ≡ true) ↔ (((graph_seen graph.now).exits e ≡ true) ⊎ (((graph_seen graph.now).target e ≡ None) × (exits_in_call ≡ true))) }
+{
+    if graph.is_exit(e) {
+        return true;
+    }
+    match graph.target(e) {
+        Some(_) => false,
+        None => exits_in_call,
+    }
+}
+
+/// What edge `e` costs with the function that it calls, and whether it is the last of a walk to an exit.
+fn price(
+    graph: &CodeGraph,
+    own: &[u64],
+    returns: &[Option<u128>],
+    exits: &[Option<u128>],
+    e: usize,
+) -> (u64, bool)
+    requires flow { IsFlowGraph graph.now }
+    requires edge { e < length graph.now.code.edges }
+    requires own { length own.now ≡ length graph.now.code.edges }
+    requires low { (d : ℕ) → number_at own.now d ≤ 2 ^ 48 }
+    requires tables { AreTables graph.now returns.now exits.now }
+    ensures { IsPrice graph.now (number_at own.now) returns.now exits.now e result.0 result.1 }
+{
+    let more = called(graph, returns, exits, e);
+    let last = is_last(graph, e, more.is_some());
+    (own[e] + small(more), last)
+}
+
+/// Prices the edges of the node at place `i` of a function.
+fn price_node(
+    graph: &CodeGraph,
+    own: &[u64],
+    returns: &[Option<u128>],
+    exits: &[Option<u128>],
+    bucket: &[usize],
+    i: usize,
+    costs: &mut Vec<u64>,
+    lasts: &mut Vec<bool>,
+)
+    requires flow { IsFlowGraph graph.now }
+    requires bucket { (f : ℕ) × IsBucket graph.now f bucket.now }
+    requires place { i < length bucket.now }
+    requires own { length own.now ≡ length graph.now.code.edges }
+    requires low { (d : ℕ) → number_at own.now d ≤ 2 ^ 48 }
+    requires tables { AreTables graph.now returns.now exits.now }
+    requires priced { ArePriced graph.now (number_at own.now) returns.now exits.now (IsFromFirst graph.now bucket.now i) costs.old.items lasts.old.items }
+    ensures { ArePriced graph.now (number_at own.now) returns.now exits.now (IsFromFirst graph.now bucket.now (i + 1)) costs.new.items lasts.new.items }
+{
+    let (first, end) = graph.edges_of(bucket[i]);
+    for e in first..end {
+        let (cost, last) = price(graph, own, returns, exits, e);
+        costs[e] = cost;
+        lasts[e] = last;
+    }
+}
+
+/// Prices the edges of the nodes of a function.
+pub fn price_function(
+    graph: &CodeGraph,
+    own: &[u64],
+    returns: &[Option<u128>],
+    exits: &[Option<u128>],
+    bucket: &[usize],
+    costs: &mut Vec<u64>,
+    lasts: &mut Vec<bool>,
+)
+    requires flow { IsFlowGraph graph.now }
+    requires bucket { (f : ℕ) × IsBucket graph.now f bucket.now }
+    requires own { length own.now ≡ length graph.now.code.edges }
+    requires low { (d : ℕ) → number_at own.now d ≤ 2 ^ 48 }
+    requires tables { AreTables graph.now returns.now exits.now }
+    requires priced { ArePriced graph.now (number_at own.now) returns.now exits.now (IsFromFirst graph.now bucket.now 0) costs.old.items lasts.old.items }
+    ensures { ArePriced graph.now (number_at own.now) returns.now exits.now (IsFromFirst graph.now bucket.now (length bucket.now)) costs.new.items lasts.new.items }
+{
+    for i in 0..bucket.len() {
+        price_node(graph, own, returns, exits, bucket, i, costs, lasts);
+    }
+}

@@ -1,0 +1,137 @@
+ghost use Rattle.std.specs.Prelude.{◌≡◌, ℕ, Bool, length};
+ghost use Rattle.loop_tree.specs.Tree.{IsLoopTree};
+
+use super::*;
+use code_graph::build_graph;
+use elf_view::read_image;
+use loop_file::read_loops;
+use loop_tree::build_loops;
+use scale_base::Stop;
+use std::test::*;
+use worst_cycles::worst;
+
+/// The file's header, and its program header up to the length: words at 0x10000, where the program begins.
+const HEAD: [u8; 68] = [
+    127, 69, 76, 70, 1, 1, 1, 0, 0, 0, 0, 0, 0, 0, 0, 0, 2, 0, 243, 0, 1, 0, 0, 0, 0, 0, 1, 0, 52,
+    0, 0, 0, 0, 0, 0, 0, 0, 0, 0, 0, 52, 0, 32, 0, 1, 0, 0, 0, 0, 0, 0, 0, 1, 0, 0, 0, 84, 0, 0, 0,
+    0, 0, 1, 0, 0, 0, 1, 0,
+];
+
+const NO_OPERATION: u32 = 0x13;
+
+const EXIT: u32 = 0x05D0_0893;
+
+const ECALL: u32 = 0x73;
+
+const RETURN: u32 = 0x0000_8067;
+
+/// A branch back by one word.
+const BACK_1: u32 = 0xFE00_0EE3;
+
+/// A file whose text is some words, at most 63.
+fn file_of(alloc: Global, words: &[u32]) -> Result<Vec<u8>, NoMemory> {
+    let len = u32::try_from(4 * (words.len() % 64)).unwrap_or(0);
+    let mut file = HEAD.to_vec(alloc)?;
+    for number in [len, len, 5, 4] {
+        file.extend_from_slice(&number.to_le_bytes())?;
+    }
+    for word in words {
+        file.extend_from_slice(&word.to_le_bytes())?;
+    }
+    Ok(file)
+}
+
+/// The least numbers under one weight of all edges: by node to a return and to an end, and by edge.
+fn all_least(
+    alloc: Global,
+    graph: &CodeGraph,
+    tree: &LoopTree,
+) -> Result<[Vec<Option<u128>>; 3], Stop>
+    requires tree { (extent : ℕ → ℕ → Bool) × IsLoopTree graph.now extent tree.now }
+{
+    let _functions = graph.function_count();
+    let weights = Weights::from_vec(vec![in alloc; 1; graph.edge_count()]?);
+    let _worst = worst(alloc, graph, tree, &weights)?;
+    let found = least(alloc, graph, tree, &weights)?;
+    let mut returns = Vec::new(alloc);
+    let mut ends = Vec::new(alloc);
+    for k in 0..graph.node_count() {
+        returns.push(found.to_return(k))?;
+        ends.push(found.to_end(k))?;
+    }
+    let mut after = Vec::new(alloc);
+    for e in 0..graph.edge_count() {
+        after.push(found.to_end_after(e))?;
+    }
+    Ok([returns, ends, after])
+}
+
+fn least_of(alloc: Global, words: &[u32], loops: &str) -> Result<[Vec<Option<u128>>; 3], Fail> {
+    let file = file_of(alloc, words).ok().ok_or("there is memory")?;
+    let view = read_image(alloc, &file).ok().ok_or("the file is an image")?;
+    let graph = build_graph(alloc, &view)
+        .ok()
+        .ok_or("the code is accepted")?;
+    let text = format!(in alloc; "version = 1\nloop = [{loops}]\n")
+        .ok()
+        .ok_or("there is memory")?;
+    let notes = read_loops(alloc, text.as_bytes(), &view)
+        .ok()
+        .ok_or("the loop file is read")?;
+    let Ok(tree) = build_loops(alloc, &graph, &notes) else {
+        return Err("the loops are accepted".into());
+    };
+    let found = all_least(alloc, &graph, &tree);
+    Ok(found.ok().ok_or("there are numbers")?)
+}
+
+#[test]
+fn ends_of_a_function_are_behind_the_call_that_is_next_to_the_exit(
+    rt: HostRuntime,
+) -> Result<(), Fail> {
+    // The sixth and the seventh word are called by the first and the second.
+    let words = [
+        0x0140_00EF,
+        0x0100_00EF,
+        NO_OPERATION,
+        EXIT,
+        ECALL,
+        NO_OPERATION,
+        RETURN,
+    ];
+    let [returns, ends, _] = least_of(rt.alloc(), &words, "")?;
+    assert_eq!(rt;
+        ends.as_slice(),
+        [
+            Some(9),
+            Some(6),
+            Some(3),
+            Some(2),
+            Some(1),
+            Some(5),
+            Some(4)
+        ]
+        .as_slice()
+    );
+    assert_eq!(rt;
+        returns.as_slice(),
+        [None, None, None, None, None, Some(2), Some(1)].as_slice()
+    );
+    Ok(())
+}
+
+#[test]
+fn a_loop_may_be_left_at_once(rt: HostRuntime) -> Result<(), Fail> {
+    let words = [NO_OPERATION, NO_OPERATION, BACK_1, EXIT, ECALL];
+    let loops = "{header = 0x10004, ranges = [[0x10004, 0x1000c]], bound = 10}";
+    let [_, ends, after] = least_of(rt.alloc(), &words, loops)?;
+    assert_eq!(rt;
+        ends.as_slice(),
+        [Some(5), Some(4), Some(3), Some(2), Some(1)].as_slice()
+    );
+    assert_eq!(rt;
+        after.as_slice(),
+        [Some(4), Some(3), Some(4), Some(2), Some(1), None].as_slice()
+    );
+    Ok(())
+}
