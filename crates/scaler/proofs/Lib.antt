@@ -7,3 +7,6 @@ pub mod SafeRewritten
 pub mod MarkingLaws
 pub mod SiteFacts
 pub mod ExtraFacts
+pub mod EdgeBlocks
+pub mod MarkedKinds
+pub mod SiteLists

@@ -1,9 +1,8 @@
 -- What a marking says of the marks of an edge, and of the loops of their counters.
 use Rattle.std.proofs.Common.{◌≡◌, ◌≢◌, ℕ, zero, suc, ◌+◌, ◌-◌, ◌*◌, ◌^◌, ◌<◌, ◌≤◌, Bool, true, false, not, ◌&&◌, List, [], ◌∷◌, ◌++◌, map, length, slice_get, Option, Some, None, refl, sym, ap, ◌∙◌, subst, arith, append_assoc}
-use Rattle.std.specs.Prelude.{All, slice_index, option_and_then, option_map, IfSome}
+use Rattle.std.specs.Prelude.{All, slice_index, option_and_then, IfSome}
 use Rattle.std.proofs.lemmas.List.Elements.{All-append}
 use Rattle.std.proofs.lemmas.Option.{slice_get_within, get_or_from_slice_get}
-use Rattle.scale_base.specs.declared.fragments.Fragment.{Fragment}
 use Rattle.scale_base.specs.declared.fragments.Fragment.TheVariants as fragments
 use Rattle.scale_base.specs.Image.{Image}
 use Rattle.power_model.specs.Numbers.{PowerModel}
@@ -21,13 +20,12 @@ use Rattle.scale_sites.specs.Sites.{is_branch, marks_at_edge}
 use Rattle.scale_sites.specs.Weights.{switches}
 use Rattle.scale_sites.proofs.OneExit.{switches-one}
 use Rattle.worst_cycles.specs.Worst.{slack_at}
-use Rattle.rewritten_runs.specs.Stubs.{marks_by_slack, stored_weights, plain_weights, told_at, fragment_of, loop_of}
+use Rattle.rewritten_runs.specs.Stubs.{marks_by_slack, plain_weights, told_at, fragment_of, loop_of}
 use Rattle.rewritten_runs.proofs.MarkLists.{marks_all, resets_are, counts_are, at_set}
 use Rattle.rewritten_runs.proofs.Marked.{IsMarkOf, marks_are}
 use Rattle.rewritten_runs.proofs.MarkOrder.{IsQuietMark, in_get, set_distinct}
 use Rattle.scaler.specs.declared.stubs.Marking.{Marking}
-use Rattle.scaler.specs.declared.stubs.Told.{Told}
-use Rattle.scaler.specs.Markings.{IsMarking, HasMarking, told_view}
+use Rattle.scaler.specs.Markings.{IsMarking}
 
 -- ---- the first mark
 

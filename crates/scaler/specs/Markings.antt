@@ -1,9 +1,10 @@
 -- The marks of a program's edges, and its numbers under the stored weights, as the code keeps them.
-use Rattle.std.specs.Prelude.{◌≡◌, ℕ, ◌*◌, ◌^◌, ◌<◌, ◌≤◌, Bool, List, length, All, slice_get, Some}
+use Rattle.std.specs.Prelude.{◌≡◌, ◌≢◌, ℕ, ◌*◌, ◌^◌, ◌<◌, ◌≤◌, Bool, List, [], length, All, slice_get, slice_index, Some}
 use Rattle.scale_base.specs.declared.fragments.Fragment.{Fragment}
 use Rattle.scale_base.specs.Image.{Image}
 use Rattle.power_model.specs.Numbers.{PowerModel}
 use Rattle.cost_theory.specs.Least.{Least}
+use Rattle.cost_theory.specs.declared.edges.Edge.{Edge}
 use Rattle.cost_theory.specs.Worst.{Numbers}
 use Rattle.code_graph.specs.FlowGraph.{FlowGraph, graph, IsGraphOf}
 use Rattle.graph_runs.specs.Text.{text_of}
@@ -14,6 +15,8 @@ use Rattle.scale_sites.specs.Counters.{counted_loops}
 use Rattle.scale_sites.specs.Sites.{marks_at_edge}
 use Rattle.worst_cycles.specs.Worst.{HoldsLeft, slack_at, rest_at}
 use Rattle.rewritten_runs.specs.Stubs.{marks_by_slack, stored_weights, told_at, fragment_of, fragments_at}
+use Rattle.stub_writer.specs.declared.site.StubEdge.{StubEdge}
+use Rattle.stub_writer.specs.Sites.{kind_number, fragments_by}
 use Rattle.scaler.specs.declared.stubs.Marking.{Marking}
 use Rattle.scaler.specs.declared.stubs.Told.{Told}
 
@@ -55,3 +58,26 @@ IsFragmentAt power v t m e mark f = Whichever power v t m (λ image plain stored
 
 abbrev pub AreFragmentsAt : PowerModel → FlowGraph → LoopView → Marking → ℕ → List Fragment → Type 0
 AreFragmentsAt power v t m e fs = Whichever power v t m (λ image plain stored least. fs ≡ fragments_at power image v t (marks_by_slack power image v t plain) stored least e)
+
+-- ---- the marked edges of a node
+
+-- an edge of the graph, below a number, that starts at the address and has fragments: those
+pub record IsMarkedEdge (v : FlowGraph) (frags : ℕ → List Fragment) (at n : ℕ) (s : StubEdge) : Type 0 where
+  pub number : ℕ
+  pub below : number < n
+  pub get : slice_get v.code.edges number ≡ Some s.edge
+  pub starts : s.edge.at ≡ at
+  pub has : s.fragments ≡ frags number
+  pub some : frags number ≢ []
+
+-- the marked ones of the edges below a number that start at the address
+pub record AreMarkedEdges (v : FlowGraph) (frags : ℕ → List Fragment) (at n : ℕ) (es : List StubEdge) : Type 0 where
+  pub each : All (IsMarkedEdge v frags at n) es
+  pub whole : (e : ℕ) (x : Edge) → e < n → slice_get v.code.edges e ≡ Some x → x.at ≡ at → fragments_by (kind_number x.kind) es ≡ frags e
+
+pub record AreEdgesOfNode (v : FlowGraph) (frags : ℕ → List Fragment) (at : ℕ) (es : List StubEdge) : Type 0 where
+  pub few : length es ≤ 2
+  pub are : AreMarkedEdges v frags at (length v.code.edges) es
+
+abbrev pub AreEdgesAt : PowerModel → FlowGraph → LoopView → Marking → ℕ → List StubEdge → Type 0
+AreEdgesAt power v t m k es = Whichever power v t m (λ image plain stored least. AreEdgesOfNode v (fragments_at power image v t (marks_by_slack power image v t plain) stored least) (slice_index v.code.nodes k) es)

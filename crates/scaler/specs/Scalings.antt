@@ -88,3 +88,11 @@ IsInRange power v t s = (image : Image) × (notes : List LoopNote) × (plain : N
 abbrev pub IsExtraFound : PowerModel → Image → FlowGraph → LoopView → Numbers → Result ℕ Refusal → Type 0
 IsExtraFound power image v t plain (Ok x) = (extra : Numbers) × AreNumbers (graph v) (loops v t) (extra_weights power v (marks_by_slack power image v t plain)) extra × (x ≡ extra.worst 0)
 IsExtraFound power image v t plain (Err refusal) = ⊥
+
+-- the numbers of a program and of its marking
+abbrev pub HasNumbers : PowerModel → Image → FlowGraph → LoopView → Marking → Type 0
+HasNumbers power image v t m = (notes : List LoopNote) × (plain : Numbers) × (stored : Numbers) × (least : Least) × IsWeighed power image notes v t plain stored × IsMarking power image v t plain stored least m
+
+-- its stubs, whatever these numbers
+abbrev pub AreStubsFound : PowerModel → Image → FlowGraph → LoopView → Marking → List StubSite → Type 0
+AreStubsFound power image v t m stubs = (notes : List LoopNote) (plain stored : Numbers) (least : Least) → IsWeighed power image notes v t plain stored → IsMarking power image v t plain stored least m → AreStubsOf power image v t plain stored least stubs

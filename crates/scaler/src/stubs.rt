@@ -1,11 +1,15 @@
 //! The stubs of a program: its marked instructions with the fragments of their edges.
 
-ghost use Rattle.std.specs.Prelude.{◌≡◌, ◌<◌, ◌≤◌, ◌^◌, ℕ, true, length, slice_get, option_and_then, option_map, ◌+◌, Some, IfSome, IfOk};
+ghost use Rattle.std.specs.Prelude.{◌≡◌, ◌<◌, ◌≤◌, ◌^◌, ℕ, true, length, slice_get, option_and_then, option_map, ◌+◌, None, Some, Ok, IfSome, IfOk};
+ghost use Rattle.scale_base.specs.Image.{image_of, is_word_address};
+ghost use Rattle.scale_base.specs.Word.{FieldsInRange};
+ghost use Rattle.graph_runs.specs.Text.{text_of, instr_at as instruction_at};
+ghost use Rattle.scaler.specs.Scalings.{HasNumbers, AreStubsFound};
 ghost use Rattle.code_graph.specs.FlowGraph.{graph as graph_seen};
 ghost use Rattle.scale_sites.specs.declared.mark.Mark.TheVariants as marks;
 ghost use Rattle.scale_sites.specs.Sites.{marks_at_edge};
 ghost use Rattle.scale_sites.specs.Weights.{switches};
-ghost use Rattle.scaler.specs.Markings.{HasMarking, Whichever, IsToldAt, IsFragmentAt, AreFragmentsAt};
+ghost use Rattle.scaler.specs.Markings.{HasMarking, Whichever, IsToldAt, IsFragmentAt, AreFragmentsAt, AreEdgesAt};
 
 use crate::stand_in::LeastNumbers;
 use code_graph::CodeGraph;
@@ -169,7 +173,11 @@ fn stub_edges(
     tree: &LoopTree,
     marking: &Marking,
     k: usize,
-) -> Result<Vec<StubEdge>, NoMemory> {
+) -> Result<Vec<StubEdge>, NoMemory>
+    requires marking { HasMarking power.now graph.now tree.now marking.now }
+    requires node { k < length graph.now.code.nodes }
+    ensures { IfOk result (λ es. AreEdgesAt power.now graph.now tree.now marking.now k es.items) }
+{
     let (first, end) = graph.edges_of(k);
     let mut edges = Vec::new(alloc);
     for e in first..end {
@@ -183,7 +191,11 @@ fn stub_edges(
 }
 
 /// The instruction of the word at an address.
-fn instr_at(view: &ImageView<'_>, at: u32) -> Option<Instr> {
+fn instr_at(view: &ImageView<'_>, at: u32) -> Option<Instr>
+    requires { image_of view.now.file ≡ Ok view.now }
+    ensures some { IfSome result (λ i. (is_word_address view.now at ≡ true) × (instruction_at (text_of view.now) at ≡ Some i) × FieldsInRange i) }
+    ensures none { result ≡ None → is_word_address view.now at ≡ true → instruction_at (text_of view.now) at ≡ None }
+{
     let word = view.word_at(at)?;
     decode(word)
 }
@@ -196,7 +208,11 @@ pub fn stub_sites(
     graph: &CodeGraph,
     tree: &LoopTree,
     marking: &Marking,
-) -> Result<Vec<StubSite>, NoMemory> {
+) -> Result<Vec<StubSite>, NoMemory>
+    requires image { image_of view.now.file ≡ Ok view.now }
+    requires numbers { HasNumbers power.now view.now graph.now tree.now marking.now }
+    ensures { IfOk result (λ stubs. AreStubsFound power.now view.now graph.now tree.now marking.now stubs.items) }
+{
     let mut stubs = Vec::new(alloc);
     for k in 0..graph.node_count() {
         let edges = stub_edges(alloc, power, graph, tree, marking, k)?;

@@ -1,6 +1,6 @@
-use Rattle.std.proofs.Common.{◌≡◌, ◌+◌, ◌-◌, ◌<◌, ◌≤◌, ℕ, length, slice_get, Some, arith, sym, ap, ◌∙◌, subst}
+use Rattle.std.proofs.Common.{◌≡◌, arith, sym, ap, ◌∙◌}
 use Rattle.std.specs.Prelude.{slice_index}
-use Rattle.scaler.proofs.MarkingLaws.{IsExitOf, marking_switches, exit_is, turns_fit, exit_fragment}
+use Rattle.scaler.proofs.MarkingLaws.{marking_switches, exit_is, turns_fit, exit_fragment}
 use Rattle.scale_sites.specs.declared.mark.Mark.TheVariants as marks
 use Rattle.scaler.proofs.stubs.exit_of.Goals as goal
 

@@ -1,4 +1,4 @@
-use Rattle.std.proofs.Common.{◌≡◌, ℕ, slice_get, Some, sym, ap, ◌∙◌, subst}
+use Rattle.std.proofs.Common.{Some, sym, ap, ◌∙◌, subst}
 use Rattle.scaler.proofs.MarkingLaws.{marking_switches}
 use Rattle.scale_sites.specs.declared.mark.Mark.TheVariants as marks
 use Rattle.scaler.specs.Markings.{IsFragmentAt}

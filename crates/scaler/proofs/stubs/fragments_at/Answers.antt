@@ -1,4 +1,4 @@
-use Rattle.std.proofs.Common.{◌≡◌, ◌<◌, ◌≤◌, ◌+◌, ◌++◌, ◌∷◌, [], ℕ, map, take, length, slice_get, get_or, Some, arith, sym, ap, ◌∙◌}
+use Rattle.std.proofs.Common.{◌≤◌, ◌+◌, ◌++◌, ◌∷◌, [], map, take, length, slice_get, get_or, arith, sym, ap, ◌∙◌}
 use Rattle.scale_sites.specs.Sites.{marks_at_edge}
 use Rattle.scale_sites.specs.Counters.{counted_loops}
 use Rattle.scale_sites.specs.declared.mark.Mark.TheVariants as marks

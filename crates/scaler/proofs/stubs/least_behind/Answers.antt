@@ -1,5 +1,3 @@
-use Rattle.std.proofs.Common.{◌≡◌, ℕ, List, length, slice_get, option_and_then, Option, Some, None, sym, ap, ◌∙◌, subst}
-use Rattle.std.specs.Prelude.{IfSome}
 use Rattle.scaler.proofs.MarkingLaws.{end_behind, end_small}
 use Rattle.scaler.proofs.stubs.least_behind.Goals as goal
 

@@ -1,0 +1,315 @@
+-- Marks stand on the edges of branches and of jumps alone: the one way on of another instruction leaves no loop, and is no back edge of a counted one.
+use Rattle.std.proofs.Common.{◌≡◌, ◌≢◌, ℕ, zero, suc, ◌≤◌, ◌+◌, ◌<◌, ◌==◌, ◌⊎◌, inl, inr, Bool, true, false, cond, not, ◌&&◌, List, [], ◌∷◌, length, slice_get, Option, Some, None, refl, sym, ap, ◌∙◌, subst, arith, ⊎_elim}
+use Rattle.std.specs.Prelude.{All, slice_index, ◌||◌}
+use Rattle.std.proofs.lemmas.List.{length-map}
+use Rattle.std.proofs.lemmas.List.Elements.{All-map}
+use Rattle.std.proofs.lemmas.Option.{slice_get_within, get_or_from_slice_get}
+use Rattle.scale_base.specs.declared.fragments.Fragment.{Fragment}
+use Rattle.cost_theory.specs.Least.{Least}
+use Rattle.natural_loops.specs.Noted.{node_address}
+use Rattle.stub_writer.specs.Fragments.{IsFragment, IsShadow}
+use Rattle.rewritten_runs.proofs.MarkOrder.{in_get, set_distinct}
+use Rattle.rewritten_runs.proofs.TableLaws.{shift_fits, rows_count}
+use Rattle.rewritten_runs.proofs.FewMarks.{depth, few_marks}
+use Rattle.scaler.proofs.EdgeBlocks.{map_none}
+use Rattle.std.proofs.lemmas.Bool.{eqb-true}
+use Rattle.scale_base.specs.declared.instruction.Instr.{Instr}
+use Rattle.scale_base.specs.declared.instruction.Instr.TheVariants as instr
+use Rattle.scale_base.specs.Image.{Image}
+use Rattle.scale_base.specs.Arith.{moved_by}
+use Rattle.power_model.specs.Numbers.{PowerModel}
+use Rattle.cost_theory.specs.Graph.{Graph, Loops, IsWalk, end_of, leaves}
+use Rattle.cost_theory.specs.Accepted.{IsInBody, StaysWithin}
+use Rattle.cost_theory.specs.Worst.{Numbers}
+use Rattle.cost_theory.specs.declared.edges.Edge.{Edge}
+use Rattle.cost_theory.specs.declared.edges.EdgeKind.{EdgeKind}
+use Rattle.cost_theory.specs.declared.edges.EdgeKind.TheVariants.{Taken, Untaken, Jump, Next, CallNext, End}
+use Rattle.cost_theory.specs.declared.edges.Word.{Word}
+use Rattle.cost_theory.specs.declared.edges.Word.TheVariants.{Branch, Goto, CallOf, Back, Ends, MayEnd, Breaks, Straight, Bad}
+use Rattle.cost_theory.specs.Reached.{Code, place_after, edge_at, edge_to, edges_of, call_returns}
+use Rattle.cost_theory.proofs.Programs.{edge_word, source_reached, some_get}
+use Rattle.cost_theory.proofs.Reaching.{Within}
+use Rattle.cost_theory.proofs.Nesting.{accepted_entered, header_held}
+use Rattle.graph_runs.specs.Text.{Text, text_of, instr_at, instr_kind, kind_at, known, ecall_kind}
+use Rattle.graph_runs.specs.RunMoves.{text_graph}
+use Rattle.code_graph.specs.FlowGraph.{FlowGraph}
+use Rattle.loop_file.specs.declared.notes.LoopNote.{LoopNote}
+use Rattle.loop_file.specs.Kept.{noted_loops}
+use Rattle.loop_tree.specs.Tree.{LoopView, loops, IsInnermost}
+use Rattle.scale_sites.specs.declared.mark.Mark.{Mark}
+use Rattle.scale_sites.specs.declared.mark.Mark.TheVariants as marks
+use Rattle.scale_sites.specs.Counters.{counted_loops, goes_on, edge_goes_on, IsUncountable}
+use Rattle.scale_sites.specs.Marks.{AreLoops}
+use Rattle.scale_sites.specs.Sites.{is_branch, is_branch_kind, edge_branches}
+use Rattle.rewritten_runs.specs.Stubs.{IsWeighed, marks_by_slack, told_at, fragment_of, fragments_at, loop_of}
+use Rattle.rewritten_runs.proofs.Edges.{edge_is}
+use Rattle.rewritten_runs.proofs.Marked.{IsMarkOf, program_is, graph_program, marks_of_edge, marked_led, counted_is, loop_count, shadow_of}
+
+-- ---- the way on
+
+-- a word with an edge that goes on leads to the next word alone
+one_way : (w : Word) (u : ℕ) (r : Bool) (x y : Edge) (b : ℕ) → Within x (edges_of w u r) → goes_on x.kind ≡ true → Within y (edges_of w u r) → place_after y.kind y.to ≡ Some b → b ≡ u + 4
+one_way (Branch to) u r x y b h on k e = ⊎_elim (λ q. let f : false ≡ true = ap (λ (z : Edge). goes_on z.kind) q ∙ on in let bad : ⊥ = cc in absurd bad)
+    (λ m. ⊎_elim (λ q. let f : false ≡ true = ap (λ (z : Edge). goes_on z.kind) q ∙ on in let bad : ⊥ = cc in absurd bad) (λ n. absurd n) m) h
+one_way (Goto to) u r x y b h on k e = ⊎_elim (λ q. let f : false ≡ true = ap (λ (z : Edge). goes_on z.kind) q ∙ on in let bad : ⊥ = cc in absurd bad) (λ n. absurd n) h
+one_way (CallOf to) u true x y b h on k e = ⊎_elim (λ q. let f : Some (u + 4) ≡ Some b = ap (λ (z : Edge). place_after z.kind z.to) q ∙ e in cc)
+    (λ m. ⊎_elim (λ q. let f : None ≡ Some b = ap (λ (z : Edge). place_after z.kind z.to) q ∙ e in let bad : ⊥ = cc in absurd bad) (λ n. absurd n) m) k
+one_way (CallOf to) u false x y b h on k e = ⊎_elim (λ q. let f : false ≡ true = ap (λ (z : Edge). goes_on z.kind) q ∙ on in let bad : ⊥ = cc in absurd bad) (λ n. absurd n) h
+one_way Back u r x y b h on k e = ⊎_elim (λ q. let f : false ≡ true = ap (λ (z : Edge). goes_on z.kind) q ∙ on in let bad : ⊥ = cc in absurd bad) (λ n. absurd n) h
+one_way Ends u r x y b h on k e = ⊎_elim (λ q. let f : false ≡ true = ap (λ (z : Edge). goes_on z.kind) q ∙ on in let bad : ⊥ = cc in absurd bad) (λ n. absurd n) h
+one_way MayEnd u r x y b h on k e = ⊎_elim (λ q. let f : Some (u + 4) ≡ Some b = ap (λ (z : Edge). place_after z.kind z.to) q ∙ e in cc)
+    (λ m. ⊎_elim (λ q. let f : None ≡ Some b = ap (λ (z : Edge). place_after z.kind z.to) q ∙ e in let bad : ⊥ = cc in absurd bad) (λ n. absurd n) m) k
+one_way Breaks u r x y b h on k e = ⊎_elim (λ q. let f : false ≡ true = ap (λ (z : Edge). goes_on z.kind) q ∙ on in let bad : ⊥ = cc in absurd bad) (λ n. absurd n) h
+one_way Straight u r x y b h on k e = ⊎_elim (λ q. let f : Some (u + 4) ≡ Some b = ap (λ (z : Edge). place_after z.kind z.to) q ∙ e in cc) (λ n. absurd n) k
+one_way Bad u r x y b h on k e = absurd h
+
+-- ---- words of the edges that are marked
+
+abbrev pub IsSitesKind : EdgeKind → Type 0
+IsSitesKind Taken = Unit {0}
+IsSitesKind Untaken = Unit {0}
+IsSitesKind Jump = Unit {0}
+IsSitesKind Next = ⊥
+IsSitesKind CallNext = ⊥
+IsSitesKind End = ⊥
+
+-- an instruction of marked edges
+abbrev pub IsMarkable : Instr → Type 0
+IsMarkable (instr.Branch op rs1 rs2 offset) = Unit {0}
+IsMarkable (instr.Jal rd offset) = rd ≡ 0
+IsMarkable i = ⊥
+
+straight_off : (u : ℕ) (r : Bool) (x : Edge) → Within x (edges_of Straight u r) → IsSitesKind x.kind → ⊥
+straight_off u r x h k = ⊎_elim (λ q. subst (λ (z : Edge). IsSitesKind z.kind) (sym q) k) (λ n. n) h
+
+end_off : (u : ℕ) (x : Edge) → Within x (record { at = u; kind = End; to = u } ∷ []) → IsSitesKind x.kind → ⊥
+end_off u x h k = ⊎_elim (λ q. subst (λ (z : Edge). IsSitesKind z.kind) (sym q) k) (λ n. n) h
+
+may_off : (u : ℕ) (r : Bool) (x : Edge) → Within x (edges_of MayEnd u r) → IsSitesKind x.kind → ⊥
+may_off u r x h k = ⊎_elim (λ q. subst (λ (z : Edge). IsSitesKind z.kind) (sym q) k) (λ m. ⊎_elim (λ q. subst (λ (z : Edge). IsSitesKind z.kind) (sym q) k) (λ n. n) m) h
+
+call_off : (to u : ℕ) (r : Bool) (x : Edge) → Within x (edges_of (CallOf to) u r) → IsSitesKind x.kind → ⊥
+call_off to u true x h k = ⊎_elim (λ q. subst (λ (z : Edge). IsSitesKind z.kind) (sym q) k) (λ m. ⊎_elim (λ q. subst (λ (z : Edge). IsSitesKind z.kind) (sym q) k) (λ n. n) m) h
+call_off to u false x h k = end_off u x h k
+
+pub markable : (t : Text) (u : ℕ) (i : Instr) (r : Bool) (x : Edge) → Within x (edges_of (instr_kind t u i) u r) → IsSitesKind x.kind → IsMarkable i
+markable t u (instr.Lui rd imm) r x h k = straight_off u r x h k
+markable t u (instr.Auipc rd imm) r x h k = straight_off u r x h k
+markable t u (instr.Jal rd offset) r x h k = by (rd == 0) refl (rd == 1) refl
+  where
+    by : (a : Bool) → (rd == 0) ≡ a → (b : Bool) → (rd == 1) ≡ b → rd ≡ 0
+    by true is b other = eqb-true rd 0 is
+    by false is true other = absurd (call_off (moved_by u offset) u r x
+        (subst (λ b. Within x (edges_of (cond b (CallOf (moved_by u offset)) Bad) u r)) other (subst (λ a. Within x (edges_of (cond a (Goto (moved_by u offset)) (cond (rd == 1) (CallOf (moved_by u offset)) Bad)) u r)) is h)) k)
+    by false is false other = absurd
+        (subst (λ b. Within x (edges_of (cond b (CallOf (moved_by u offset)) Bad) u r)) other (subst (λ a. Within x (edges_of (cond a (Goto (moved_by u offset)) (cond (rd == 1) (CallOf (moved_by u offset)) Bad)) u r)) is h))
+markable t u (instr.Jalr rd rs1 offset) r x h k = by ((rd == 0) && (rs1 == 1) && Rattle.std.specs.Ordering.int_eq offset (Rattle.std.specs.Prelude.pos 0)) h
+  where
+    by : (b : Bool) → Within x (edges_of (cond b Back Bad) u r) → ⊥
+    by true w = end_off u x w k
+    by false w = w
+markable t u (instr.Branch op rs1 rs2 offset) r x h k = tt
+markable t u (instr.Load op rd rs1 offset) r x h k = straight_off u r x h k
+markable t u (instr.Store op rs1 rs2 offset) r x h k = straight_off u r x h k
+markable t u (instr.Imm op rd rs1 imm) r x h k = straight_off u r x h k
+markable t u (instr.Reg op rd rs1 rs2) r x h k = straight_off u r x h k
+markable t u (instr.Fence rd rs1 imm) r x h k = straight_off u r x h k
+markable t u instr.Ecall r x h k = by (known t u) h
+  where
+    by_number : (b : Bool) → Within x (edges_of (cond b Ends Straight) u r) → ⊥
+    by_number true w = end_off u x w k
+    by_number false w = straight_off u r x w k
+
+    by : (o : Option ℕ) → Within x (edges_of (ecall_kind o) u r) → ⊥
+    by None w = may_off u r x w k
+    by (Some n) w = by_number ((n == 93) || (n == 94)) w
+markable t u instr.Ebreak r x h k = end_off u x h k
+
+-- ---- a program
+
+-- no walk starts behind an end
+no_way : (g : Graph) (es : List ℕ) (v : ℕ) → IsWalk g None es → end_of g None es ≡ Some v → ⊥
+no_way g [] v walk ends = cc
+no_way g (e ∷ es) v walk ends = let bad = walk.1 in cc
+
+some_same : (a b : ℕ) → Some a ≡ Some b → a ≡ b
+some_same a b e = cc
+
+module _ (power : PowerModel) (image : Image) (notes : List LoopNote) (v : FlowGraph) (tree : LoopView) (plain stored : Numbers) (weighed : IsWeighed power image notes v tree plain stored) where
+  abbrev t : Text
+  t = text_of image
+
+  abbrev code : Code
+  code = v.code
+
+  abbrev l : Loops
+  l = loops v tree
+
+  abbrev g : Graph
+  g = text_graph (text_of image) v.code
+
+  abbrev extent : ℕ → ℕ → Bool
+  extent = (noted_loops notes).inside
+
+  prog : Rattle.graph_runs.specs.Laws.IsProgramOf t code l extent
+  prog = program_is power image notes v tree plain stored weighed
+
+  program : Rattle.cost_theory.specs.Accepted.IsProgram g
+  program = graph_program power image notes v tree plain stored weighed
+
+  leads_on : (e a : ℕ) → e < length code.edges → edge_goes_on (slice_get code.edges e) ≡ true → (d b : ℕ) → d < length code.edges → g.source e ≡ g.source d → g.target d ≡ Some b → b ≡ g.source e + 4
+  leads_on e a lt on d b dl same to =
+      let x = edge_word (kind_at t) t.entry code prog.reached.lists prog.reached.words e lt in
+      let y = edge_word (kind_at t) t.entry code prog.reached.lists prog.reached.words d dl in
+      let r = call_returns code (kind_at t (g.source e)) in
+      one_way (kind_at t (g.source e)) (g.source e) r x.0 y.0 b x.2 (sym (ap edge_goes_on x.1) ∙ on)
+      (subst (λ u. Within y.0 (edges_of (kind_at t u) u (call_returns code (kind_at t u)))) (sym same) y.2) (sym (ap edge_to y.1) ∙ to)
+
+  -- a way on stays within the loops round it
+  stays_on : (k e a : ℕ) → k < l.loops → e < length code.edges → edge_goes_on (slice_get code.edges e) ≡ true → g.target e ≡ Some a → l.inside k (g.source e) ≡ true → l.inside k a ≡ true
+  stays_on k e a kl lt on to in_u = by_walk ((prog.loops.bodies k (g.source e) kl).0 in_u)
+    where
+      held : l.inside k (l.header k) ≡ true
+      held = header_held g l extent program (accepted_entered prog.loops) k kl
+
+      by_rest : IsInBody g (l.header k) (extent k) (g.source e) → (es : List ℕ) → IsWalk g (Some a) es → end_of g (Some a) es ≡ Some (l.header k) → StaysWithin g (extent k) es → l.inside k a ≡ true
+      by_rest body [] walk ends within = ap (l.inside k) (some_same a (l.header k) ends) ∙ held
+      by_rest body (c ∷ cs) walk ends within = (prog.loops.bodies k a kl).1 ((program.stays e a lt to).1 ∙ body.0, body.1, (c, cs, walk, ends, within))
+
+      by_target : IsInBody g (l.header k) (extent k) (g.source e) → (d : ℕ) (es : List ℕ) → d < g.edges → g.source e ≡ g.source d → (o : Option ℕ) → g.target d ≡ o → IsWalk g o es → end_of g o es ≡ Some (l.header k) → StaysWithin g (extent k) es → l.inside k a ≡ true
+      by_target body d es dl same None to2 walk ends within = absurd (no_way g es (l.header k) walk ends)
+      by_target body d es dl same (Some x) to2 walk ends within =
+          let there : x ≡ a = leads_on e a lt on d x dl same to2 ∙ sym (leads_on e a lt on e a lt refl to) in
+          by_rest body es (subst (λ y. IsWalk g (Some y) es) there walk) (subst (λ y. end_of g (Some y) es ≡ Some (l.header k)) there ends) within
+
+      by_walk : IsInBody g (l.header k) (extent k) (g.source e) → l.inside k a ≡ true
+      by_walk body = by_target body body.2.0 body.2.1 body.2.2.0 (some_same (g.source e) (g.source body.2.0) body.2.2.1) (g.target body.2.0) refl body.2.2.2 body.2.3 body.2.4.1
+
+  -- a way on isn't marked
+  way_on_bare : (e : ℕ) → e < length code.edges → edge_goes_on (slice_get code.edges e) ≡ true → marks_by_slack power image v tree plain e ≢ [] → ⊥
+  way_on_bare e lt on some =
+      let led = marked_led power image notes v tree plain stored weighed e lt some in
+      by led.0 led.1 (marks_by_slack power image v tree plain e) some (marks_of_edge power image notes v tree plain stored weighed e)
+    where
+      kinds : (o : Option Edge) → edge_goes_on o ≡ true → edge_branches o ≡ true → ⊥
+      kinds None a b = cc
+      kinds (Some x) a b = by_kind x.kind a b
+        where
+          by_kind : (k : EdgeKind) → goes_on k ≡ true → is_branch_kind k ≡ true → ⊥
+          by_kind Taken a b = cc
+          by_kind Untaken a b = cc
+          by_kind Jump a b = cc
+          by_kind Next a b = cc
+          by_kind CallNext a b = cc
+          by_kind End a b = cc
+
+      not_left : (a : ℕ) → g.target e ≡ Some a → (k : ℕ) → k < l.loops → leaves l k (g.source e) (g.target e) ≡ true → ⊥
+      not_left a to k kl h = by_in (l.inside k (g.source e)) refl (l.inside k a) refl (sym (ap (leaves l k (g.source e)) to) ∙ h)
+        where
+          by_in : (p : Bool) → l.inside k (g.source e) ≡ p → (q : Bool) → l.inside k a ≡ q → (l.inside k (g.source e) && not (l.inside k a)) ≡ true → ⊥
+          by_in true is q iq both = let there = stays_on k e a kl lt on to is in let bad : (true && not true) ≡ true = sym (ap (λ b. b && not (l.inside k a)) is ∙ ap (λ b. true && not b) there) ∙ both in cc
+          by_in false is q iq both = let bad : (false && not (l.inside k a)) ≡ true = sym (ap (λ b. b && not (l.inside k a)) is) ∙ both in cc
+
+      by_mark : (a : ℕ) → g.target e ≡ Some a → (m : Mark) → IsMarkOf l (counted_loops tree) (is_branch v e) (g.source e) (g.target e) m → ⊥
+      by_mark a to marks.Switch is = kinds (slice_get code.edges e) on is
+      by_mark a to (marks.Exit c) is = not_left a to is.loop (counted_is power image notes v tree plain stored weighed is.place is.loop is.get).loop is.holds
+      by_mark a to (marks.Reset c) is = not_left a to is.loop (counted_is power image notes v tree plain stored weighed is.place is.loop is.get).loop is.holds
+      by_mark a to (marks.Count c) is =
+          let k = counted_is power image notes v tree plain stored weighed is.place is.loop is.get in
+          let size = loop_count power image notes v tree plain stored weighed in
+          let kl = k.loop in
+          let bad : IsUncountable v tree is.loop e = record { edge = lt; within = omega (arith, kl, size); back = is.holds; counted = flag_set tree.counted is.loop k.flag; on = on } in
+          weighed.counters.0 is.loop e bad
+        where
+          flag_set : (flags : List Bool) (k : ℕ) → Rattle.std.specs.Prelude.slice_index_or flags k false ≡ true → slice_get flags k ≡ Some true
+          flag_set [] k h = let never : ⊥ = cc in absurd never
+          flag_set (b ∷ flags) zero h = ap Some h
+          flag_set (b ∷ flags) (suc k) h = flag_set flags k h
+
+      by : (a : ℕ) → g.target e ≡ Some a → (ms : List Mark) → ms ≢ [] → All (IsMarkOf l (counted_loops tree) (is_branch v e) (g.source e) (g.target e)) ms → ⊥
+      by a to [] ne all = ne refl
+      by a to (m ∷ ms) ne all = by_mark a to m (all 0 m (omega arith))
+
+  -- a marked edge is of a branch or of a jump
+  pub marked_kind : (e : ℕ) (x : Edge) → slice_get code.edges e ≡ Some x → marks_by_slack power image v tree plain e ≢ [] → IsSitesKind x.kind
+  marked_kind e x get some = by x.kind refl
+    where
+      lt : e < length code.edges
+      lt = Rattle.std.proofs.lemmas.Option.slice_get_within code.edges e x get
+
+      by : (k : EdgeKind) → x.kind ≡ k → IsSitesKind k
+      by Taken is = tt
+      by Untaken is = tt
+      by Jump is = tt
+      by Next is = way_on_bare e lt (ap edge_goes_on get ∙ ap goes_on is) some
+      by CallNext is = way_on_bare e lt (ap edge_goes_on get ∙ ap goes_on is) some
+      by End is =
+          let led = marked_led power image notes v tree plain stored weighed e lt some in
+          let none : g.target e ≡ None = ap edge_to get ∙ ap (λ k. place_after k x.to) is in let bad : ⊥ = (let to = led.1 in cc) in bad
+
+  pub marked_instr : (e : ℕ) (x : Edge) (i : Instr) → slice_get code.edges e ≡ Some x → marks_by_slack power image v tree plain e ≢ [] → instr_at t x.at ≡ Some i → IsMarkable i
+  marked_instr e x i get some at =
+      let lt = Rattle.std.proofs.lemmas.Option.slice_get_within code.edges e x get in
+      let here = edge_is t code prog.reached e lt in
+      let u = edge_at (slice_get code.edges e) in
+      let eq : here.edge ≡ x = (let a = here.get in cc) in
+      let same : here.instr ≡ i = (let a = here.at in let b = ap (instr_at t) (ap edge_at get) ∙ at in cc) in
+      subst IsMarkable same (markable t u here.instr (call_returns code (kind_at t u)) here.edge here.within (subst (λ (z : Edge). IsSitesKind z.kind) (sym eq) (marked_kind e x get some)))
+
+  -- ---- fragments
+
+  abbrev frags : Least → ℕ → List Fragment
+  frags least = fragments_at power image v tree (marks_by_slack power image v tree plain) stored least
+
+  bound_small : (k : ℕ) → l.bound k ≤ 1000000000
+  bound_small k = by (slice_get tree.bounds k) refl
+    where
+      none_index : (xs : List ℕ) (i : ℕ) → slice_get xs i ≡ None → slice_index xs i ≡ 0
+      none_index [] i q = refl
+      none_index (x ∷ xs) zero q = let never : ⊥ = cc in absurd never
+      none_index (x ∷ xs) (suc i) q = none_index xs i q
+
+      by : (o : Option ℕ) → slice_get tree.bounds k ≡ o → l.bound k ≤ 1000000000
+      by None e = let z : slice_index tree.bounds k ≡ 0 = none_index tree.bounds k e in omega (arith, z)
+      by (Some n) e = let z = get_or_from_slice_get tree.bounds k n 0 e in let small = weighed.tree_is.tree.bound k n e in omega (arith, z, small)
+
+  fragment_is : (least : Least) (e : ℕ) (m : Mark) → IsMarkOf l (counted_loops tree) (is_branch v e) (g.source e) (g.target e) m → IsFragment (fragment_of power l (counted_loops tree) stored (told_at power image v tree (marks_by_slack power image v tree plain) stored least e) m)
+  fragment_is least e marks.Switch is = tt
+  fragment_is least e (marks.Exit c) is =
+      let k = loop_of (counted_loops tree) c in
+      let small = bound_small k in
+      let fits = shift_fits (l.bound k) (omega (arith, small)) in
+      let rows = rows_count power (l.bound k) (stored.iteration k) (told_at power image v tree (marks_by_slack power image v tree plain) stored least e) in
+      (subst IsShadow (sym is.is) (shadow_of power image notes v tree plain stored weighed is.place is.loop is.get), fits.0, omega (arith, rows, fits.1))
+  fragment_is least e (marks.Reset c) is = subst IsShadow (sym is.is) (shadow_of power image notes v tree plain stored weighed is.place is.loop is.get)
+  fragment_is least e (marks.Count c) is = subst IsShadow (sym is.is) (shadow_of power image notes v tree plain stored weighed is.place is.loop is.get)
+
+  innermost_of : (u : ℕ) (o : Option ℕ) → IsInnermost l u o → ((o ≡ None) × ((k : ℕ) → k < l.loops → l.inside k u ≡ true → ⊥)) ⊎ ((j : ℕ) × (j < l.loops) × (l.inside j u ≡ true) × ((k w : ℕ) → k < l.loops → l.inside k u ≡ true → l.inside j w ≡ true → l.inside k w ≡ true))
+  innermost_of u None h = inl (refl, h)
+  innermost_of u (Some j) h = inr (j, h.0, h.1, λ k w kl on there. h.2 k w kl on there)
+
+  are_loops : AreLoops l (counted_loops tree)
+  are_loops k h = let at = in_get k (counted_loops tree) h in (counted_is power image notes v tree plain stored weighed at.0 k at.1).loop
+
+  few : (e : ℕ) → e < length v.code.edges → length (marks_by_slack power image v tree plain e) ≤ 17
+  few e lt =
+      let flag_count : length tree.counted ≡ l.loops = (let a = weighed.tree_is.tree.counted_size in let b = loop_count power image notes v tree plain stored weighed in omega (arith, a, b)) in
+      let r = source_reached (kind_at (text_of image)) image.entry v.code prog.reached.lists prog.reached.words e lt in
+      let node = (prog.reached.lists.nodes (edge_at (slice_get v.code.edges e))).1 r in
+      let size = weighed.tree_is.tree.innermost_size in
+      let within = slice_get_within v.code.nodes node.0 (edge_at (slice_get v.code.edges e)) node.1 in
+      let o = some_get tree.innermost node.0 (omega (arith, size, within)) in
+      let address : node_address v node.0 ≡ edge_at (slice_get v.code.edges e) = get_or_from_slice_get v.code.nodes node.0 (edge_at (slice_get v.code.edges e)) 0 node.1 in
+      let is = weighed.tree_is.tree.innermost node.0 o.0 o.1 in
+      let d = depth g l extent program prog.loops tree.counted flag_count are_loops (set_distinct 0 tree.counted) (edge_at (slice_get v.code.edges e)) o.0 (innermost_of (edge_at (slice_get v.code.edges e)) o.0 (subst (λ a. IsInnermost l a o.0) address is)) in
+      few_marks g l extent program prog.loops tree.counted flag_count are_loops (set_distinct 0 tree.counted) e (is_branch v e) _ power.min_gain lt d
+
+  pub good_fragments : (least : Least) (e : ℕ) → e < length v.code.edges → (length (frags least e) ≤ 17) × All IsFragment (frags least e)
+  good_fragments least e lt =
+      let f = fragment_of power l (counted_loops tree) stored (told_at power image v tree (marks_by_slack power image v tree plain) stored least e) in
+      let same = length-map (marks_by_slack power image v tree plain e) f in
+      let small = few e lt in
+      (omega (arith, same, small), All-map IsFragment f (marks_by_slack power image v tree plain e) (λ k d q. fragment_is least e _ (marks_of_edge power image notes v tree plain stored weighed e k d q)))
+
+  pub fragments_mark : (least : Least) (e : ℕ) (x : Edge) (i : Instr) → slice_get code.edges e ≡ Some x → frags least e ≢ [] → instr_at t x.at ≡ Some i → IsMarkable i
+  fragments_mark least e x i get some at = marked_instr e x i get (λ none. some (map_none _ _ none)) at
