@@ -7,3 +7,5 @@ pub mod SafeRewritten
 pub mod MarkingLaws
 pub mod SiteFacts
 pub mod ExtraFacts
+pub mod MarkingFacts
+pub mod ScalingFacts

@@ -5,7 +5,11 @@ ghost use Rattle.code_graph.specs.FlowGraph.{graph as graph_seen};
 ghost use Rattle.scale_sites.specs.declared.mark.Mark.TheVariants as marks;
 ghost use Rattle.scale_sites.specs.Sites.{marks_at_edge};
 ghost use Rattle.scale_sites.specs.Weights.{switches};
-ghost use Rattle.scaler.specs.Markings.{HasMarking, Whichever, IsToldAt, IsFragmentAt, AreFragmentsAt};
+ghost use Rattle.power_model.specs.Numbers.{IsPowerModel};
+ghost use Rattle.cost_theory.specs.Least.{Least};
+ghost use Rattle.cost_theory.specs.Worst.{Numbers};
+ghost use Rattle.scaler.specs.Scalings.{IsMarkedProgram, AreStubsOf};
+ghost use Rattle.scaler.specs.Markings.{IsMarking, HasMarking, Whichever, IsToldAt, IsFragmentAt, AreFragmentsAt};
 
 use crate::stand_in::LeastNumbers;
 use code_graph::CodeGraph;
@@ -196,7 +200,11 @@ pub fn stub_sites(
     graph: &CodeGraph,
     tree: &LoopTree,
     marking: &Marking,
-) -> Result<Vec<StubSite>, NoMemory> {
+) -> Result<Vec<StubSite>, NoMemory>
+    requires power { IsPowerModel power.now }
+    requires program { IsMarkedProgram power.now view.now graph.now tree.now marking.now }
+    ensures { IfOk result (λ stubs. (plain stored : Numbers) (least : Least) → IsMarking power.now view.now graph.now tree.now plain stored least marking.now → AreStubsOf power.now view.now graph.now tree.now plain stored least stubs.items) }
+{
     let mut stubs = Vec::new(alloc);
     for k in 0..graph.node_count() {
         let edges = stub_edges(alloc, power, graph, tree, marking, k)?;
