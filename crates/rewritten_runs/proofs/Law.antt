@@ -137,7 +137,7 @@ module _ (power : PowerModel) (ok : IsPowerModel power) (file : List ℕ) (image
   start_low : start < levels
   start_low = let lt = found_below (is_in_time power (stored.worst 0)) 0 levels start slow in omega (arith, lt)
 
-  storable : IsStorable image (patches_from base sites) base (block_bytes base sites) start
+  pub storable : IsStorable image (patches_from base sites) base (block_bytes base sites) start
   storable = record {
     file = (let n = ap length (file_is file image read) in omega (arith, n, short_file));
     no_key = no_key;

@@ -253,6 +253,7 @@ impl Sites {
         requires classes { length graph.now.classes ≡ length graph.now.code.edges }
         ensures size { IfOk result (λ w. length w ≡ length graph.now.code.edges) }
         ensures each { IfOk result (λ w. (e : ℕ) → e < length graph.now.code.edges → slice_index w e ≡ slice_index (map (cost_of (cycles_of costs.now)) graph.now.classes) e + extra_of costs.now (slice_index self.now.jumps e) (marks_at_edge self.now e)) }
+        ensures small { IfOk result (λ w. (e : ℕ) → e < length graph.now.code.edges → slice_index w e ≤ 4294967295) }
     {
         small_costs(costs);
         let base = graph.base_weights(alloc, costs)?;

@@ -24,7 +24,7 @@ use Rattle.rewritten_runs.proofs.CallWeights.{extra_are_weights}
 use Rattle.rewritten_runs.proofs.Grows.{worst_grows}
 use Rattle.scaler.specs.Scalings.{HasMarks, IsInRange, IsExtraFound}
 
-past_end : (xs : List ℕ) (e : ℕ) → length xs ≤ e → by_edge xs e ≡ 0
+pub past_end : (xs : List ℕ) (e : ℕ) → length xs ≤ e → by_edge xs e ≡ 0
 past_end [] e h = refl
 past_end (x ∷ xs) zero h = let bad : ⊥ = omega arith in absurd bad
 past_end (x ∷ xs) (suc e) h = past_end xs e (omega arith)

@@ -20,11 +20,11 @@ use Rattle.scaler.specs.Held.{IsHeld, IsHeldProgram, Then, unscaled}
 abbrev pub HoldAnswers : Result (Vec ℕ Global × Summary) Stop → (Result (List ℕ × Summary) Refusal → Type 0) → Type 0
 HoldAnswers result meant = AnswersBy (λ given. (given.0.items, given.1)) result meant
 
-then_stops : {Y : Type 0} (part : Result Y Refusal) (next : Y → Result (List ℕ × Summary) Refusal → Type 0) → (stop : Stop) → Stops stop part → HoldAnswers (Err stop) (Then part next)
+pub then_stops : {Y : Type 0} (part : Result Y Refusal) (next : Y → Result (List ℕ × Summary) Refusal → Type 0) → (stop : Stop) → Stops stop part → HoldAnswers (Err stop) (Then part next)
 then_stops part next (Refused refusal) h = subst (λ p. Then p next (Err refusal)) (sym h) refl
 then_stops part next Memory h = tt
 
-then_goes : {Y : Type 0} (part : Result Y Refusal) (x : Y) (next : Y → Result (List ℕ × Summary) Refusal → Type 0) → (result : Result (Vec ℕ Global × Summary) Stop) → part ≡ Ok x → HoldAnswers result (next x) → HoldAnswers result (Then part next)
+pub then_goes : {Y : Type 0} (part : Result Y Refusal) (x : Y) (next : Y → Result (List ℕ × Summary) Refusal → Type 0) → (result : Result (Vec ℕ Global × Summary) Stop) → part ≡ Ok x → HoldAnswers result (next x) → HoldAnswers result (Then part next)
 then_goes part x next (Ok given) e h = subst (λ p. Then p next (Ok (given.0.items, given.1))) (sym e) h
 then_goes part x next (Err (Refused refusal)) e h = subst (λ p. Then p next (Err refusal)) (sym e) h
 then_goes part x next (Err Memory) e h = tt

@@ -10,3 +10,5 @@ pub mod ExtraFacts
 pub mod EdgeBlocks
 pub mod MarkedKinds
 pub mod SiteLists
+pub mod MarkingFacts
+pub mod ScalingFacts

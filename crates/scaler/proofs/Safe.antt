@@ -95,7 +95,7 @@ unfolding held_at
 starts_within power image worst given true e = absurd cc
 starts_within power image worst given false e = starts_from power image worst (slowest_of power worst) given refl e
 
-found_below : (p : ℕ → Bool) (a n x : ℕ) → find p (range_with_len a n) ≡ Some x → x < a + n
+pub found_below : (p : ℕ → Bool) (a n x : ℕ) → find p (range_with_len a n) ≡ Some x → x < a + n
 found_below p a zero x e = absurd cc
 found_below p a (suc n) x e =
     elim (found_in (p a) x a (find p (range_with_len (a + 1) n)) e) [

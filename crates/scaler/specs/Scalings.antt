@@ -17,11 +17,13 @@ use Rattle.stub_writer.specs.declared.site.StubBlock.{StubBlock}
 use Rattle.stub_writer.specs.declared.site.StubSite.{StubSite}
 use Rattle.stub_writer.specs.Block.{block_view, emitted}
 use Rattle.stub_writer.specs.Sites.{IsSite, site_of}
-use Rattle.stub_writer.specs.Stubs.{block_size}
+use Rattle.stub_writer.specs.Stubs.{block_size, block_bytes, patches_from, out_of_reach}
 use Rattle.loop_file.specs.declared.notes.LoopNote.{LoopNote}
-use Rattle.rewritten_runs.specs.Stubs.{IsWeighed, plain_weights, extra_weights, stored_weights, marks_by_slack, fragments_at, AreSitesOf}
+use Rattle.rewritten_runs.specs.Stubs.{IsWeighed, HasStubs, plain_weights, extra_weights, stored_weights, marks_by_slack, fragments_at, AreSitesOf}
 use Rattle.scaler.specs.declared.stubs.Marking.{Marking}
 use Rattle.scaler.specs.Markings.{IsMarking}
+use Rattle.scaler.specs.declared.rewriting.Scaling.{Scaling}
+use Rattle.scaler.specs.Rewritten.{IsRewrittenProgram, rewritten_summary}
 
 -- ---- the marks
 
@@ -89,10 +91,33 @@ abbrev pub IsExtraFound : PowerModel → Image → FlowGraph → LoopView → Nu
 IsExtraFound power image v t plain (Ok x) = (extra : Numbers) × AreNumbers (graph v) (loops v t) (extra_weights power v (marks_by_slack power image v t plain)) extra × (x ≡ extra.worst 0)
 IsExtraFound power image v t plain (Err refusal) = ⊥
 
--- the numbers of a program and of its marking
-abbrev pub HasNumbers : PowerModel → Image → FlowGraph → LoopView → Marking → Type 0
-HasNumbers power image v t m = (notes : List LoopNote) × (plain : Numbers) × (stored : Numbers) × (least : Least) × IsWeighed power image notes v t plain stored × IsMarking power image v t plain stored least m
+-- ---- together
 
--- its stubs, whatever these numbers
+-- the marking of the program of an image
+abbrev pub IsMarkedProgram : PowerModel → Image → FlowGraph → LoopView → Marking → Type 0
+IsMarkedProgram power image v t m = (notes : List LoopNote) × (plain : Numbers) × (stored : Numbers) × (least : Least) × IsWeighed power image notes v t plain stored × IsMarking power image v t plain stored least m
+
+-- what is stored of the program of an image besides its file
+pub record IsScaled (power : PowerModel) (image : Image) (notes : List LoopNote) (s : Scaling) : Type 0 where
+  pub code : FlowGraph
+  pub tree : LoopView
+  pub plain : Numbers
+  pub stored : Numbers
+  pub extra : Numbers
+  pub least : Least
+  pub weighed : IsWeighed power image notes code tree plain stored
+  pub short : stored.worst 0 ≤ 281474976710656
+  pub slow : slowest_of power (stored.worst 0) ≡ Some s.summary.start
+  pub stubs : HasStubs power image code tree plain stored extra least (map site_of s.stubs.items) s.base
+  pub near : out_of_reach s.base (map site_of s.stubs.items) ≡ None
+  pub bytes : s.block.bytes.items ≡ block_bytes s.base (map site_of s.stubs.items)
+  pub patches : s.block.patches.items ≡ patches_from s.base (map site_of s.stubs.items)
+  pub summary : s.summary ≡ rewritten_summary power code (marks_by_slack power image code tree plain) s.summary.start (stored.worst 0) (extra.worst 0) (map site_of s.stubs.items)
+
+abbrev pub IsScalingFound : PowerModel → Image → List LoopNote → Result Scaling Refusal → Type 0
+IsScalingFound power image notes (Ok s) = IsScaled power image notes s
+IsScalingFound power image notes (Err refusal) = IsRewrittenProgram power image notes (Err refusal)
+
+-- its stubs, whatever its numbers
 abbrev pub AreStubsFound : PowerModel → Image → FlowGraph → LoopView → Marking → List StubSite → Type 0
 AreStubsFound power image v t m stubs = (notes : List LoopNote) (plain stored : Numbers) (least : Least) → IsWeighed power image notes v t plain stored → IsMarking power image v t plain stored least m → AreStubsOf power image v t plain stored least stubs

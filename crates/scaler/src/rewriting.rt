@@ -1,17 +1,19 @@
 //! A program that lowers its speed as soon as what is left of its worst case allows it.
 
-ghost use Rattle.std.specs.Prelude.{◌≡◌, ◌≤◌, ◌<◌, ◌+◌, ℕ, Bool, length, map, None, Some, Ok, IfOk, slice_get};
+ghost use Rattle.std.specs.Prelude.{◌≡◌, ◌≤◌, ◌<◌, ◌+◌, ℕ, Bool, List, length, map, None, Some, Ok, IfOk, slice_get};
 ghost use Rattle.std.specs.List.{All, list_any};
 ghost use Rattle.scale_base.specs.Answer.{Answers, AnswersBy};
-ghost use Rattle.scale_base.specs.Image.{Image};
-ghost use Rattle.scale_sites.specs.Counters.{counted_loops};
+ghost use Rattle.scale_base.specs.Image.{Image, image_of};
+ghost use Rattle.power_model.specs.Numbers.{PowerModel, IsPowerModel};
+ghost use Rattle.scale_sites.specs.Counters.{counted_loops, AreCounters};
 ghost use Rattle.cost_theory.specs.Worst.{Numbers};
 ghost use Rattle.graph_runs.specs.Text.{text_of};
 ghost use Rattle.code_graph.specs.FlowGraph.{IsGraphOf};
-ghost use Rattle.loop_tree.specs.Tree.{IsLoopTree};
+ghost use Rattle.loop_file.specs.declared.notes.LoopNote.{LoopNote};
+ghost use Rattle.loop_tree.specs.Tree.{IsLoopTree, IsTreeOf};
 ghost use Rattle.scale_sites.specs.Sites.{marks_at_edge};
-ghost use Rattle.stub_writer.specs.Sites.{IsSite};
-ghost use Rattle.rewritten_runs.specs.Stubs.{edges_with, is_switch, is_exit, is_count};
+ghost use Rattle.stub_writer.specs.Sites.{IsSite, site_of};
+ghost use Rattle.rewritten_runs.specs.Stubs.{edges_with, is_switch, is_exit, is_count, rewritten_file as stored_bytes};
 ghost use Rattle.scaler.specs.Rewritten as rewritten;
 ghost use Rattle.scaler.specs.RewrittenRuns.{IsRewrittenSafely};
 ghost use Rattle.scaler.specs.Scalings as scalings;
@@ -75,10 +77,8 @@ fn marking_of(
     counters: CounterList,
     power: &Power,
 ) -> Result<(Marking, u8), Stop>
-    requires code { (image : Image) × IsGraphOf (text_of image) graph.now }
-    requires tree { (extent : ℕ → ℕ → Bool) × IsLoopTree graph.now extent tree.now }
-    requires counters { counters ≡ counted_loops tree.now }
-    requires few { length counters ≤ 509 }
+    requires program { (image : Image) × (notes : List LoopNote) × IsGraphOf (text_of image) graph.now × IsTreeOf graph.now notes tree.now }
+    requires counters { AreCounters graph.now tree.now (Ok counters) }
     ensures { (image : Image) → IsGraphOf (text_of image) graph.now → AnswersBy (λ x. x) result (scalings.IsMarkingFound power.now image graph.now tree.now) }
 {
     let sites = sites_of(alloc, graph, tree, &counters, power)?;
@@ -191,7 +191,10 @@ fn scaling_of(
     view: &ImageView<'_>,
     power: &Power,
     notes: &LoopNotes,
-) -> Result<Scaling, Stop> {
+) -> Result<Scaling, Stop>
+    requires power { IsPowerModel power.now }
+    ensures { AnswersBy (λ s. s) result (scalings.IsScalingFound power.now view.now notes.now) }
+{
     let graph = build_graph(alloc, view)?;
     let tree = build_loops(alloc, &graph, notes)?;
     let counters = counters(alloc, &graph, &tree)?;
@@ -225,7 +228,13 @@ fn rewritten_file(
     alloc: Global,
     view: &ImageView<'_>,
     scaling: &Scaling,
-) -> Result<Vec<u8>, NoMemory> {
+) -> Result<Vec<u8>, NoMemory>
+    requires read { image_of view.now.file ≡ Ok view.now }
+    requires file { length view.now.file ≤ 4194304 }
+    requires no_key { view.now.keyed_segment ≡ None }
+    requires scaled { (power : PowerModel) × (notes : List LoopNote) × IsPowerModel power × scalings.IsScaled power view.now notes scaling.now }
+    ensures { IfOk result (λ out. out.items ≡ stored_bytes view.now (map site_of scaling.now.stubs.items) scaling.now.base scaling.now.summary.start) }
+{
     let block = &scaling.block;
     write_image(
         alloc,
@@ -235,6 +244,25 @@ fn rewritten_file(
         &block.bytes,
         scaling.summary.start,
     )
+}
+
+/// The image with its stubs, or the first refusal.
+fn rewrite_files(
+    alloc: Global,
+    image: &[u8],
+    machine: &[u8],
+    loops: &[u8],
+) -> Result<(Vec<u8>, Summary), Stop>
+    requires { length image.now ≤ 4194304 }
+    ensures { AnswersBy (λ given. (given.0.items, given.1)) result (rewritten.IsRewritten image.now machine.now loops.now) }
+{
+    let power = read_machine(alloc, machine)?;
+    let view = read_image(alloc, image)?;
+    check_unscaled(view.keyed())?;
+    let notes = read_loops(alloc, loops, &view)?;
+    let scaling = scaling_of(alloc, &view, &power, &notes)?;
+    let bytes = rewritten_file(alloc, &view, &scaling)?;
+    Ok((bytes, scaling.summary))
 }
 
 /// The image with stubs that lower its level where what is left of the worst case allows it, started at the slowest level at which its
@@ -258,11 +286,5 @@ pub fn rewrite(
     // On each input on which the original run exits and is kept, the stored run keeps the promise; and it follows the original in time.
     ensures safe { IfOk result (λ given. IsRewrittenSafely image.now machine.now loops.now given.0.items given.1) }
 {
-    let power = read_machine(alloc, machine)?;
-    let view = read_image(alloc, image)?;
-    check_unscaled(view.keyed())?;
-    let notes = read_loops(alloc, loops, &view)?;
-    let scaling = scaling_of(alloc, &view, &power, &notes)?;
-    let bytes = rewritten_file(alloc, &view, &scaling)?;
-    Ok((bytes, scaling.summary))
+    rewrite_files(alloc, image, machine, loops)
 }

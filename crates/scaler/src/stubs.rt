@@ -4,11 +4,11 @@ ghost use Rattle.std.specs.Prelude.{◌≡◌, ◌<◌, ◌≤◌, ◌^◌, ℕ,
 ghost use Rattle.scale_base.specs.Image.{image_of, is_word_address};
 ghost use Rattle.scale_base.specs.Word.{FieldsInRange};
 ghost use Rattle.graph_runs.specs.Text.{text_of, instr_at as instruction_at};
-ghost use Rattle.scaler.specs.Scalings.{HasNumbers, AreStubsFound};
 ghost use Rattle.code_graph.specs.FlowGraph.{graph as graph_seen};
 ghost use Rattle.scale_sites.specs.declared.mark.Mark.TheVariants as marks;
 ghost use Rattle.scale_sites.specs.Sites.{marks_at_edge};
 ghost use Rattle.scale_sites.specs.Weights.{switches};
+ghost use Rattle.scaler.specs.Scalings.{IsMarkedProgram, AreStubsFound};
 ghost use Rattle.scaler.specs.Markings.{HasMarking, Whichever, IsToldAt, IsFragmentAt, AreFragmentsAt, AreEdgesAt};
 
 use crate::stand_in::LeastNumbers;
@@ -210,7 +210,7 @@ pub fn stub_sites(
     marking: &Marking,
 ) -> Result<Vec<StubSite>, NoMemory>
     requires image { image_of view.now.file ≡ Ok view.now }
-    requires numbers { HasNumbers power.now view.now graph.now tree.now marking.now }
+    requires program { IsMarkedProgram power.now view.now graph.now tree.now marking.now }
     ensures { IfOk result (λ stubs. AreStubsFound power.now view.now graph.now tree.now marking.now stubs.items) }
 {
     let mut stubs = Vec::new(alloc);

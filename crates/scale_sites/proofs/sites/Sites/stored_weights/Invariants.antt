@@ -1,4 +1,4 @@
-use Rattle.std.proofs.Common.{◌≡◌, ℕ, ◌+◌, ◌<◌, length, slice_index, map}
+use Rattle.std.proofs.Common.{◌≡◌, ℕ, ◌+◌, ◌<◌, ◌≤◌, length, slice_index, map}
 use Rattle.power_model.specs.Price.{cycles_of}
 use Rattle.graph_runs.specs.EdgeCosts.{cost_of}
 use Rattle.scale_sites.specs.Weights.{extra_of}
@@ -9,4 +9,5 @@ abbrev pub invariant-loop-e : goal.invariant-loop-e
 invariant-loop-e l = record {
   size : length l.weights.items ≡ l.e;
   each : (d : ℕ) → d < l.e → slice_index l.weights.items d ≡ slice_index (map (cost_of (cycles_of l.costs)) l.graph.classes) d + extra_of l.costs (slice_index l.self.jumps d) (marks_at_edge l.self d);
+  small : (d : ℕ) → d < l.e → slice_index l.weights.items d ≤ 4294967295;
 }

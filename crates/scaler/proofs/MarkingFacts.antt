@@ -1,0 +1,307 @@
+-- The numbers of a program under the stored weights, and their ranges.
+use Rattle.std.proofs.Common.{◌≡◌, ℕ, zero, suc, ◌+◌, ◌-◌, ◌*◌, ◌<◌, ◌≤◌, ◌^◌, Bool, true, false, List, [], ◌∷◌, length, map, slice_get, nat_eq, Option, Some, None, is_some, Result, Ok, Err, refl, sym, ap, ◌∙◌, subst, arith, ⊎_elim, inl, inr, eqb-true}
+use Rattle.std.specs.Prelude.{slice_index, slice_index_or, nat_lt, ◌&&◌}
+use Rattle.std.proofs.Math.Path.{fun_ext}
+use Rattle.std.proofs.lemmas.Bool.{cases_lt, and_parts}
+use Rattle.std.proofs.lemmas.Bool.Decides.{nat_tests}
+use Rattle.std.proofs.lemmas.List.{length-map}
+use Rattle.std.proofs.lemmas.Option.{get_or_from_slice_get}
+use Rattle.scale_base.specs.declared.refusal.Refusal.{Refusal}
+use Rattle.scale_base.specs.declared.refusal.Refusal.TheVariants.{TooLong}
+use Rattle.scale_base.specs.declared.refusal.Stop.{Stop}
+use Rattle.scale_base.specs.declared.refusal.Stop.TheVariants.{Refused, Memory}
+use Rattle.scale_base.specs.Answer.{AnswersBy}
+use Rattle.scale_base.specs.Image.{Image}
+use Rattle.power_model.specs.declared.power.Costs.{Costs}
+use Rattle.power_model.specs.Numbers.{PowerModel}
+use Rattle.power_model.specs.Price.{cycles_of}
+use Rattle.power_model.specs.Slowest.{slowest_of}
+use Rattle.cost_theory.specs.Accepted.{IsProgram, IsNode, AreAccepted, AreWeights}
+use Rattle.cost_theory.specs.Graph.{Graph, Loops, only, sum_below, is_back, is_header}
+use Rattle.cost_theory.specs.Laws.{IsAnalyzed}
+use Rattle.cost_theory.specs.Least.{Least, AreLeast, IsLeastIfAny, EndsWith, IsReturn, IsExit, IsWay, Way}
+use Rattle.cost_theory.specs.Worst.{Numbers, AreNumbers, cost, turn_back, turns_round, slack, rest}
+use Rattle.cost_theory.proofs.Basics.{sum-none}
+use Rattle.cost_theory.proofs.Contexts as contexts
+use Rattle.cost_theory.proofs.Nesting.{headers-distinct, accepted_entered}
+use Rattle.cost_theory.proofs.Orders.{left-worst, turns-worst}
+use Rattle.cost_theory.proofs.OrdersExist.{call_order, plain_order}
+use Rattle.cost_theory.proofs.Overruns.{iteration-worst}
+use Rattle.cost_theory.proofs.Rest.{rest-worst}
+use Rattle.cost_theory.proofs.Unique.{same_numbers}
+use Rattle.graph_runs.specs.EdgeCosts.{cost_of}
+use Rattle.graph_runs.specs.Text.{text_of}
+use Rattle.code_graph.specs.FlowGraph.{FlowGraph, graph, IsGraphOf}
+use Rattle.loop_file.specs.declared.notes.LoopNote.{LoopNote}
+use Rattle.loop_file.specs.Kept.{noted_loops}
+use Rattle.natural_loops.specs.Noted.{node_address}
+use Rattle.loop_tree.specs.Tree.{LoopView, loops, IsTreeOf}
+use Rattle.worst_cycles.specs.Worst.{WorstView, by_edge, slack_at, rest_at, HoldsLeft, HasLeftSizes, IsLeftOf, IsWorstFound}
+use Rattle.scale_sites.specs.Counters.{AreCounters, counted_loops}
+use Rattle.scale_sites.specs.Sites.{SitesView, is_branch, marks_at_edge}
+use Rattle.scale_sites.specs.Weights.{extra_of, extra_weight, jumps_of}
+use Rattle.rewritten_runs.specs.Stubs.{IsWeighed, marks_by_slack, plain_weights, extra_weights, stored_weights}
+use Rattle.rewritten_runs.proofs.CallWeights.{stored_are_weights}
+use Rattle.rewritten_runs.proofs.Grows.{worst_grows}
+use Rattle.rewritten_runs.proofs.Programs.{listed_weights, weights_listed, weights_count}
+use Rattle.scaler.specs.declared.stubs.Marking.{Marking}
+use Rattle.scaler.specs.Markings.{IsMarking}
+use Rattle.scaler.specs.Scalings.{HasMarks, AreSitesFound, IsMarkedAt, IsUnfit, IsMarkingFound, starting_level, starting_of}
+use Rattle.scaler.specs.StandIn.{HoldsLeast}
+use Rattle.scaler.proofs.ExtraFacts.{past_end}
+
+-- ---- of what holds once at most
+
+one_at_most : (n most : ℕ) (b : ℕ → Bool) (x : ℕ → ℕ) → ((j k : ℕ) → j < n → k < n → b j ≡ true → b k ≡ true → j ≡ k) → ((k : ℕ) → k < n → x k ≤ most) → sum_below n (λ k. only (b k) (x k)) ≤ most
+one_at_most zero most b x once small = omega arith
+one_at_most (suc n) most b x once small = last (one_at_most n most b x (λ j k jl kl. once j k (omega arith) (omega arith)) (λ k kl. small k (omega arith))) (b n) refl
+  where
+    off : b n ≡ true → (k : ℕ) → k < n → (c : Bool) → b k ≡ c → only (b k) (x k) ≡ 0
+    off on k kl false is = ap (λ c. only c (x k)) is
+    off on k kl true is = let same = once k n (omega arith) (omega arith) is on in let bad : ⊥ = omega (arith, same, kl) in absurd bad
+
+    last : sum_below n (λ k. only (b k) (x k)) ≤ most → (c : Bool) → b n ≡ c → sum_below n (λ k. only (b k) (x k)) + only (b n) (x n) ≤ most
+    last s false is = let z : only (b n) (x n) ≡ 0 = ap (λ c. only c (x n)) is in omega (arith, z, s)
+    last s true is =
+        let z : only (b n) (x n) ≡ x n = ap (λ c. only c (x n)) is in
+        let none = sum-none n (λ k. only (b k) (x k)) (λ k kl. off is k kl (b k) refl) in
+        let q = small n (omega arith) in omega (arith, z, none, q)
+
+-- ---- the numbers of an accepted program are in range
+
+module _ (g : Graph) (l : Loops) (extent : ℕ → ℕ → Bool) (w : ℕ → ℕ) (n : Numbers) (is : IsAnalyzed g l extent w n) where
+  header_at : (k : ℕ) (o : Option ℕ) → is_header l k o ≡ true → o ≡ Some (l.header k)
+  header_at k None h = let never : ⊥ = cc in absurd never
+  header_at k (Some v) h = ap Some (eqb-true v (l.header k) h)
+
+  back_header : (k e : ℕ) → is_back g l k e ≡ true → g.target e ≡ Some (l.header k)
+  back_header k e h = header_at k (g.target e) (and_parts (l.inside k (g.source e)) (is_header l k (g.target e)) h).1
+
+  some_is : {a b : ℕ} → Some a ≡ Some b → a ≡ b
+  some_is e = cc
+
+  turned_back : (most : ℕ) → ((e : ℕ) → e < g.edges → w e ≤ most) → (e : ℕ) → turn_back g l n e ≤ n.worst 0 + most
+  turned_back most light e =
+      let o = call_order g is.program in
+      one_at_most l.loops (n.worst 0 + most) (λ k. is_back g l k e) n.iteration
+      (λ j k jl kl bj bk. headers-distinct g l extent is.program (accepted_entered is.accepted) j k jl kl (some_is (sym (back_header j e bj) ∙ back_header k e bk)))
+      (λ k kl. iteration-worst g l extent w n is most (λ d dl none. light d dl) o.0 o.1 k kl)
+
+  pub slack_in_range : (most : ℕ) → ((e : ℕ) → e < g.edges → w e ≤ most) → (e : ℕ) → e < g.edges → slack_at g l w n e ≤ n.worst 0 + n.worst 0 + most
+  slack_in_range most light e lt =
+      let o = call_order g is.program in
+      let node = left-worst g l extent w n is.program is.accepted is.weights is.numbers o.0 o.1 (g.source e) (e, lt, refl) in
+      let back = turned_back most light e in
+      let whole : slack g l n (cost g n w) e ≤ n.left (g.source e) + turn_back g l n e = omega arith in
+      by (is_some (g.target e)) (omega (arith, node, back, whole))
+    where
+      by : (b : Bool) → slack g l n (cost g n w) e ≤ n.worst 0 + n.worst 0 + most → only b (slack g l n (cost g n w) e) ≤ n.worst 0 + n.worst 0 + most
+      by true h = h
+      by false h = omega arith
+
+  pub rest_in_range : (e : ℕ) → e < g.edges → rest_at g l n e ≤ n.worst 0
+  rest_in_range e lt = by (g.target e) refl
+    where
+      by : (o : Option ℕ) → g.target e ≡ o → rest_at g l n e ≤ n.worst 0
+      by None to = let z : rest_at g l n e ≡ 0 = ap (λ q. only (is_some q) (rest g l n e)) to in omega (arith, z)
+      by (Some v) to =
+          let o = call_order g is.program in
+          let z : rest_at g l n e ≡ rest g l n e = ap (λ q. only (is_some q) (rest g l n e)) to in
+          let r = rest-worst g l extent w n is.program is.accepted is.weights is.numbers o.0 o.1 e v lt to in omega (arith, z, r)
+
+  pub turns_in_range : (k : ℕ) → k < l.loops → l.bound k * n.iteration k ≤ n.worst 0
+  turns_in_range k kl = let o = call_order g is.program in turns-worst g l extent w n is.program is.accepted is.weights is.numbers o.0 o.1 k kl
+
+-- an end of the run is behind nodes alone
+module _ (g : Graph) (w : ℕ → ℕ) (least : Least) (are : AreLeast g w least) where
+  starts : (last : ℕ → Type 0) (v : ℕ) (es : List ℕ) → EndsWith g last (Some v) es → IsNode g v
+  starts last v [] h = absurd h
+  starts last v (e ∷ es) h = (e, h.0, (let q = h.1 in let s : g.source e ≡ v = cc in s))
+
+  from_node : (last : ℕ → Type 0) (value : List ℕ → ℕ) (v z : ℕ) (o : Option ℕ) → IsLeastIfAny (EndsWith g last (Some v)) value o → Rattle.std.specs.Prelude.IsSome o → IsNode g v
+  from_node last value v z None h some = let never : ⊥ = cc in absurd never
+  from_node last value v z (Some m) h some = starts last v h.reached.0 h.reached.1
+
+  of_way : (v : ℕ) (way : Way) → IsWay g least v way → IsNode g v
+  of_way v Way.Exits h = from_node (IsExit g least) _ v 0 (least.to_exit v) (are.to_exit v) h
+  of_way v (Way.Returns e) h = from_node (IsReturn g) _ v 0 (least.to_return v) (are.to_return v) h.0
+
+  by_end : (v z : ℕ) (o : Option ℕ) → least.to_end v ≡ o → IsLeastIfAny (IsWay g least v) (Rattle.cost_theory.specs.Least.way_cost g least v) o → o ≡ Some z → IsNode g v
+  by_end v z None is h e = let never : ⊥ = cc in absurd never
+  by_end v z (Some m) is h e = of_way v h.reached.0 h.reached.1
+
+  pub end_of_node : (v z : ℕ) → least.to_end v ≡ Some z → IsNode g v
+  end_of_node v z e = by_end v z (least.to_end v) refl (are.to_end v) e
+
+-- ---- the program
+
+module _ (power : PowerModel) (image : Image) (notes : List LoopNote) (v : FlowGraph) (t : LoopView) (is : IsGraphOf (text_of image) v) (tree : IsTreeOf v notes t) (counts : AreCounters v t (Ok (counted_loops t))) where
+  abbrev marked : Numbers → ℕ → List Rattle.scale_sites.specs.declared.mark.Mark.Mark
+  marked plain = marks_by_slack power image v t plain
+
+  pub numbers_of : (w : ℕ → ℕ) → (n : Numbers) × AreNumbers (graph v) (loops v t) w n
+  numbers_of w =
+      let prog = is.flow.program in
+      let acc = tree.tree.accepted in
+      let p = plain_order (graph v) prog (loops v t) (noted_loops notes).inside acc in
+      let o = call_order (graph v) prog in
+      contexts.numbers_exist (graph v) (loops v t) (noted_loops notes).inside w prog acc p.0 p.1.0 p.1.1 o.0 o.1
+
+  pub weighed_by : (plain stored : Numbers) → AreNumbers (graph v) (loops v t) (plain_weights power image v) plain → AreNumbers (graph v) (loops v t) (stored_weights power image v (marked plain)) stored → IsWeighed power image notes v t plain stored
+  weighed_by plain stored p s = record { code_is = is; tree_is = tree; counters = counts; plain_are = p; stored_are = s }
+
+  pub calls_alike : (plain : Numbers) → AreNumbers (graph v) (loops v t) (plain_weights power image v) plain → AreWeights (graph v) (stored_weights power image v (marked plain))
+  calls_alike plain p =
+      let s = numbers_of (stored_weights power image v (marked plain)) in
+      subst (λ (q : Graph). AreWeights q (stored_weights power image v (marked plain))) is.graph_is
+      (stored_are_weights power image notes v t plain s.0 (weighed_by plain s.0 p s.1))
+
+  -- too long under the plain weights is too long under the stored ones
+  pub long_before : (refusal : Refusal) → AreSitesFound power image v t (Err refusal) → IsMarkingFound power image v t (Err refusal)
+  long_before refusal h =
+      let plain = h.1.0 in
+      let s = numbers_of (stored_weights power image v (marked plain)) in
+      let le = worst_grows (graph v) (loops v t) is.flow.program (plain_weights power image v) (stored_weights power image v (marked plain)) plain s.0 h.1.1.worst s.1.worst (λ e lt. omega arith) 0 is.flow.program.main in
+      let long = h.1.2 in
+      (plain, s.0, record { plain_are = h.1.1; stored_are = s.1; why = inl ((omega (arith, le, long)), h.0) })
+
+  pub sites_stopped : (stop : Stop) → AnswersBy {X = SitesView} {Y = SitesView} (λ s. s) (Err stop) (AreSitesFound power image v t) → AnswersBy {X = Marking × ℕ} {Y = Marking × ℕ} (λ x. x) (Err stop) (IsMarkingFound power image v t)
+  sites_stopped Memory h = tt
+  sites_stopped (Refused refusal) h = long_before refusal h
+
+  -- ---- the weights
+
+  module _ (s : SitesView) (plain : Numbers) (plain_are : AreNumbers (graph v) (loops v t) (plain_weights power image v) plain) (has : HasMarks power image v t plain s) (ws : List ℕ) (size : length ws ≡ length v.code.edges) (costs : Costs) (same_costs : costs ≡ power.costs)
+      (given : (e : ℕ) → e < length v.code.edges → slice_index ws e ≡ slice_index (map (cost_of (cycles_of costs)) v.classes) e + extra_of costs (slice_index s.jumps e) (marks_at_edge s e))
+      (small : (e : ℕ) → e < length v.code.edges → slice_index ws e ≤ 4294967295) where
+    abbrev w : ℕ → ℕ
+    w = stored_weights power image v (marked plain)
+
+    each : (e : ℕ) → e < length v.code.edges → slice_index ws e ≡ slice_index (map (cost_of (cycles_of power.costs)) v.classes) e + extra_of power.costs (slice_index s.jumps e) (marks_at_edge s e)
+    each e lt = given e lt ∙ ap (λ (k : Costs). slice_index (map (cost_of (cycles_of k)) v.classes) e + extra_of k (slice_index s.jumps e) (marks_at_edge s e)) same_costs
+
+    listed : (e : ℕ) → by_edge (listed_weights v (cycles_of power.costs)) e ≡ plain_weights power image v e
+    listed e = ap (λ (f : ℕ → ℕ). f e) (weights_listed (text_of image) v (cycles_of power.costs) is)
+
+    extra_at : (e : ℕ) → e < length v.code.edges → extra_of power.costs (slice_index s.jumps e) (marks_at_edge s e) ≡ extra_weights power v (marked plain) e
+    extra_at e lt =
+        let test : nat_lt e (length v.code.edges) ≡ true = grind (arith, nat_tests) in
+        ap (λ n. extra_of power.costs n (marks_at_edge s e)) (has.jumps e lt)
+        ∙ (ap (extra_of power.costs (jumps_of (graph v) (is_branch v) (marked plain) e)) (has.marks e lt)
+        ∙ sym (ap (λ b. only b (extra_weight (graph v) power.costs (is_branch v) (marked plain) e)) test))
+
+    at_edge : (e : ℕ) → e < length v.code.edges → by_edge ws e ≡ w e
+    at_edge e lt = let a = each e lt in let b = listed e in let c = extra_at e lt in omega (arith, a, b, c)
+
+    behind_edges : (e : ℕ) → length v.code.edges ≤ e → by_edge ws e ≡ w e
+    behind_edges e ge =
+        let test : nat_lt e (length v.code.edges) ≡ false = grind (arith, nat_tests) in
+        let none : extra_weights power v (marked plain) e ≡ 0 = ap (λ b. only b (extra_weight (graph v) power.costs (is_branch v) (marked plain) e)) test in
+        let count = weights_count (text_of image) v (cycles_of power.costs) is in
+        let a = past_end ws e (omega (arith, size, ge)) in
+        let b = past_end (listed_weights v (cycles_of power.costs)) e (omega (arith, count, ge)) in
+        let c = listed e in omega (arith, none, a, b, c)
+
+    pub stored_is : by_edge ws ≡ w
+    stored_is = fun_ext (λ e. ⊎_elim (λ (lt : e < length v.code.edges). at_edge e lt) (λ (ge : length v.code.edges ≤ e). behind_edges e ge) (cases_lt e (length v.code.edges)))
+
+    pub stored_calls : AreWeights (graph v) (by_edge ws)
+    stored_calls = subst (λ (x : ℕ → ℕ). AreWeights (graph v) x) (sym stored_is) (calls_alike plain plain_are)
+
+    stored_numbers : (n : Numbers) → AreNumbers (graph v) (loops v t) (by_edge ws) n → AreNumbers (graph v) (loops v t) w n
+    stored_numbers n h = subst (λ (x : ℕ → ℕ). AreNumbers (graph v) (loops v t) x n) stored_is h
+
+    light : (e : ℕ) → e < (graph v).edges → w e ≤ 4294967295
+    light e lt = let a = at_edge e lt in let b = small e lt in omega (arith, a, b)
+
+    pub worst_stopped : (stop : Stop) → AnswersBy {X = WorstView} {Y = WorstView} (λ n. n) (Err stop) (IsWorstFound (graph v) (loops v t) (by_edge ws)) → AnswersBy {X = Marking × ℕ} {Y = Marking × ℕ} (λ x. x) (Err stop) (IsMarkingFound power image v t)
+    worst_stopped Memory h = tt
+    worst_stopped (Refused refusal) h = (plain, h.1.0, record { plain_are = plain_are; stored_are = stored_numbers h.1.0 h.1.1; why = inl ((omega (arith, h.1.2)), h.0) })
+
+    -- ---- the numbers
+
+    module _ (x : WorstView) (total : ℕ) (found : IsWorstFound (graph v) (loops v t) (by_edge ws) (Ok x)) (total_is : slice_get x.worst 0 ≡ Some total) where
+      abbrev n : Numbers
+      n = found.numbers.0
+
+      are : AreNumbers (graph v) (loops v t) w n
+      are = stored_numbers n found.numbers.1
+
+      here : slice_get x.worst 0 ≡ Some (n.worst 0)
+      here = found.numbers.2 0 is.flow.program.main
+
+      total_worst : total ≡ n.worst 0
+      total_worst = let a = here in let b = total_is in cc
+
+      short : n.worst 0 ≤ 281474976710656
+      short = let e = get_or_from_slice_get x.worst 0 (n.worst 0) 0 here in let s = found.small in omega (arith, e, s)
+
+      pub all_short : (m : Numbers) → AreNumbers (graph v) (loops v t) (by_edge ws) m → m.worst 0 ≤ 281474976710656
+      all_short m h =
+          let o = call_order (graph v) is.flow.program in
+          let same = same_numbers (graph v) (loops v t) (noted_loops notes).inside is.flow.program tree.tree.accepted (by_edge ws) o.0 o.1 m n h found.numbers.1 in
+          let q = same.worst 0 is.flow.program.main in let s = short in omega (arith, q, s)
+
+      late_by : (o : Option ℕ) → slowest_of power total ≡ o → (refusal : Refusal) → Err refusal ≡ starting_of power total o → IsMarkingFound power image v t (Err refusal)
+      late_by None slow refusal e =
+          (plain, n, record { plain_are = plain_are; stored_are = are; why = inr (short, subst (λ k. slowest_of power k ≡ None) total_worst slow, (let q : refusal ≡ Rattle.scale_base.specs.declared.refusal.Refusal.TheVariants.DeadlineMissed (Rattle.power_model.specs.Price.time_at power (Rattle.power_model.specs.Slowest.fastest power) total) power.deadline = cc in subst (λ k. refusal ≡ Rattle.scale_base.specs.declared.refusal.Refusal.TheVariants.DeadlineMissed (Rattle.power_model.specs.Price.time_at power (Rattle.power_model.specs.Slowest.fastest power) k) power.deadline) total_worst q)) })
+      late_by (Some start) slow refusal e = let never : ⊥ = cc in absurd never
+
+      pub late : (refusal : Refusal) → Err refusal ≡ starting_level power total → IsMarkingFound power image v t (Err refusal)
+      late refusal e = late_by (slowest_of power total) refl refusal e
+
+      slow_by : (o : Option ℕ) → slowest_of power total ≡ o → (start : ℕ) → Ok start ≡ starting_of power total o → slowest_of power (n.worst 0) ≡ Some start
+      slow_by None slow start e = let never : ⊥ = cc in absurd never
+      slow_by (Some i) slow start e = let q : start ≡ i = cc in subst (λ k. slowest_of power k ≡ Some start) total_worst (slow ∙ ap Some (sym q))
+
+      analyzed : IsAnalyzed (graph v) (loops v t) (noted_loops notes).inside w n
+      analyzed = record { program = is.flow.program; accepted = tree.tree.accepted; weights = calls_alike plain plain_are; numbers = are }
+
+      pub marking_found : (start : ℕ) → Ok start ≡ starting_level power total → HasLeftSizes v x → IsLeftOf v (loops v t) (by_edge ws) x → (counted : List ℕ) → counted ≡ counted_loops t → (ends : List (Option ℕ)) → HoldsLeast v (by_edge ws) ends
+          → (m : Marking) → m ≡ record { counters = counted; sites = s; worst = x; least = ends } → IsMarkingFound power image v t (Ok (m, start))
+      marking_found start started sizes left counted counted_is ends holds m m_is =
+          (plain, n, holds.least, subst (λ (q : Marking). IsMarkedAt power image v t plain n holds.least q start) (sym m_is) whole)
+        where
+          least_are : AreLeast (graph v) w holds.least
+          least_are = subst (λ (f : ℕ → ℕ). AreLeast (graph v) f holds.least) stored_is holds.are
+
+          count : (loops v t).loops ≡ length t.headers
+          count = length-map t.headers (node_address v)
+
+          ends_small : (at z : ℕ) → holds.least.to_end at ≡ Some z → z < 2 ^ 89
+          ends_small at z e =
+              let node = (is.flow.nodes at).1 (end_of_node (graph v) w holds.least least_are at z e) in
+              holds.small node.0 z (holds.to_end node.0 at node.1 ∙ ap Some e)
+
+          marking : IsMarking power image v t plain n holds.least (record { counters = counted; sites = s; worst = x; least = ends })
+          marking = record {
+            code = is;
+            tree = ((noted_loops notes).inside, tree.tree);
+            counters = counted_is;
+            few = counts.2;
+            size = has.size;
+            marks = has.marks;
+            slacks_size = sizes.slacks;
+            rests_size = sizes.rests;
+            iterations_size = found.loops_size ∙ count;
+            left = subst (λ (f : ℕ → ℕ). HoldsLeft v (loops v t) f n x) stored_is (left n found.numbers.1);
+            iteration = λ k kl. found.numbers.3 k (let c = count in omega (arith, c, kl));
+            ends_size = holds.size;
+            ends = holds.to_end;
+            slack_small = λ e lt. (let r = slack_in_range (graph v) (loops v t) (noted_loops notes).inside w n analyzed 4294967295 light e lt in let c = short in omega (arith, r, c));
+            rest_small = λ e lt. (let r = rest_in_range (graph v) (loops v t) (noted_loops notes).inside w n analyzed e lt in let c = short in omega (arith, r, c));
+            turns_small = λ k kl. (let c = count in let r = turns_in_range (graph v) (loops v t) (noted_loops notes).inside w n analyzed k (omega (arith, c, kl)) in let d = short in omega (arith, r, d));
+            ends_small = ends_small;
+          }
+
+          whole : IsMarkedAt power image v t plain n holds.least (record { counters = counted; sites = s; worst = x; least = ends }) start
+          whole = record {
+            plain_are = plain_are;
+            stored_are = are;
+            least_are = least_are;
+            marks = has;
+            marking = marking;
+            short = short;
+            worst = here;
+            slow = slow_by (slowest_of power total) refl start started;
+          }
