@@ -87,10 +87,10 @@ module _ (power : PowerModel) (image : Image) (notes : List LoopNote) (v : FlowG
   calls_unpatched : (e f : ℕ) → e < length v.code.edges → g.callee e ≡ Some f → is_patched g marked (g.source e) ≡ false
   calls_unpatched e f lt callee = none_below g.edges (λ d. nat_eq (g.source d) (g.source e) && some_mark (marked d))
       (λ d dl. false_from_ne_true (nat_eq (g.source d) (g.source e) && some_mark (marked d)) (λ on.
-          let parts = and_parts (nat_eq (g.source d) (g.source e)) (some_mark (marked d)) on in
-          let same = (graph_program power image notes v tree plain stored weighed).one_callee d e dl lt (eqb-true (g.source d) (g.source e) parts.0) in
-          let none = calls_unmarked d f dl (same ∙ callee) in
-          let off : some_mark (marked d) ≡ false = ap some_mark none in let two = parts.1 in let never : ⊥ = cc in never))
+      let parts = and_parts (nat_eq (g.source d) (g.source e)) (some_mark (marked d)) on in
+      let same = (graph_program power image notes v tree plain stored weighed).one_callee d e dl lt (eqb-true (g.source d) (g.source e) parts.0) in
+      let none = calls_unmarked d f dl (same ∙ callee) in
+      let off : some_mark (marked d) ≡ false = ap some_mark none in let two = parts.1 in let never : ⊥ = cc in never))
 
   call_extra : (e f : ℕ) → e < length v.code.edges → g.callee e ≡ Some f → extra_weights power v marked e ≡ 0
   call_extra e f lt callee =

@@ -62,13 +62,13 @@ set_count test i (true ∷ flags) =
     let front = front_sum (length flags) (λ k. only (test (i + k)) 1) in
     let z : only (test (i + 0)) 1 ≡ only (test i) 1 = (let e : i + 0 ≡ i = omega arith in ap (λ x. only (test x) 1) e) in
     let s : sum_below (length flags) (λ k. only (test (i + 1 + k)) 1) ≤ sum_below (length flags) (λ k. only (test (i + suc k)) 1) =
-        sum-le (length flags) (λ k. only (test (i + 1 + k)) 1) (λ k. only (test (i + suc k)) 1) (λ k kl. let e : i + 1 + k ≡ i + suc k = omega arith in let q = ap (λ x. only (test x) 1) e in omega (arith, q)) in
+    sum-le (length flags) (λ k. only (test (i + 1 + k)) 1) (λ k. only (test (i + suc k)) 1) (λ k kl. let e : i + 1 + k ≡ i + suc k = omega arith in let q = ap (λ x. only (test x) 1) e in omega (arith, q)) in
     omega (arith, rest, front, z, s)
 set_count test i (false ∷ flags) =
     let rest = set_count test (i + 1) flags in
     let front = front_sum (length flags) (λ k. only (test (i + k)) 1) in
     let s : sum_below (length flags) (λ k. only (test (i + 1 + k)) 1) ≤ sum_below (length flags) (λ k. only (test (i + suc k)) 1) =
-        sum-le (length flags) (λ k. only (test (i + 1 + k)) 1) (λ k. only (test (i + suc k)) 1) (λ k kl. let e : i + 1 + k ≡ i + suc k = omega arith in let q = ap (λ x. only (test x) 1) e in omega (arith, q)) in
+    sum-le (length flags) (λ k. only (test (i + 1 + k)) 1) (λ k. only (test (i + suc k)) 1) (λ k kl. let e : i + 1 + k ≡ i + suc k = omega arith in let q = ap (λ x. only (test x) 1) e in omega (arith, q)) in
     omega (arith, rest, front, s)
 
 only_le : (a b : Bool) → (a ≡ true → b ≡ true) → only a 1 ≤ only b 1
@@ -148,7 +148,7 @@ module _ (g : Graph) (l : Loops) (extent : ℕ → ℕ → Bool) (prog : IsProgr
           let rl : length r ≡ count (λ k. leaves l k (g.source e) (g.target e) && not (is_outermost l (g.source e) (g.target e) k counted)) counted = ap length (resets_are l (g.source e) (g.target e) counted first_counter counted) ∙ from_length (λ k. leaves l k (g.source e) (g.target e) && not (is_outermost l (g.source e) (g.target e) k counted)) marks.Reset first_counter counted in
           let cl : length c ≡ count (λ k. goes_back l k (g.source e) (g.target e)) counted = ap length (counts_are l (g.source e) (g.target e) first_counter counted) ∙ from_length (λ k. goes_back l k (g.source e) (g.target e)) marks.Count first_counter counted in
           let both = both_count (λ k. is_outermost l (g.source e) (g.target e) k counted) (λ k. leaves l k (g.source e) (g.target e) && not (is_outermost l (g.source e) (g.target e) k counted)) (λ k. leaves l k (g.source e) (g.target e)) counted
-              (λ k. split (leaves l k (g.source e) (g.target e)) (holds_left l (g.source e) (g.target e) k counted)) in
+          (λ k. split (leaves l k (g.source e) (g.target e)) (holds_left l (g.source e) (g.target e) k counted)) in
           let left = left_few (g.source e) (g.target e) depth_is in
           let back = back_one (g.source e) (g.target e) in
           let one = switches-one g l extent prog acc counted are e branch slack min_gain first_counter lt distinct in

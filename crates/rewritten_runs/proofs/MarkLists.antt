@@ -71,8 +71,8 @@ if_on make false i x = refl
 pub marks_off : (test : ℕ → Bool) (make : ℕ → Mark) → ActsAlone make → (i w x : ℕ) (ks : List ℕ) → (w < i) ⊎ (i + length ks ≤ w) → through w (marks_from test make i ks) x ≡ x
 marks_off test make alone i w x [] h = refl
 marks_off test make alone i w x (k ∷ ks) h =
-    let ne : w ≢ i = elim h [ | inl lt ↦ (λ e. omega (arith, lt, e)) | inr ge ↦ (λ e. omega (arith, ge, e)) ] in
-    let next : (w < i + 1) ⊎ (i + 1 + length ks ≤ w) = elim h [ | inl lt ↦ inl (omega (arith, lt)) | inr ge ↦ inr (omega (arith, ge)) ] in
+    let ne : w ≢ i = elim h [ inl lt ↦ (λ e. omega (arith, lt, e)) | inr ge ↦ (λ e. omega (arith, ge, e)) ] in
+    let next : (w < i + 1) ⊎ (i + 1 + length ks ≤ w) = elim h [ inl lt ↦ inl (omega (arith, lt)) | inr ge ↦ inr (omega (arith, ge)) ] in
     through_append w (mark_if (test k) (make i)) (marks_from test make (i + 1) ks) x
     ∙ (ap (through w (marks_from test make (i + 1) ks)) (if_off make alone (test k) i w x (ne_eqb w i ne)) ∙ marks_off test make alone (i + 1) w x ks next)
 
@@ -154,11 +154,11 @@ pub counter_through : (l : Loops) (counted : List ℕ) (branch : Bool) (slack mi
 counter_through l counted branch slack min_gain u p j k x at apart =
     let w = first_counter + j in
     let one : through w (exits_from l u p counted first_counter counted) x ≡ cond (is_outermost l u p k counted) 0 x =
-        ap (λ ms. through w ms x) (exits_are l u p counted first_counter counted) ∙ (marks_on (λ q. is_outermost l u p q counted) marks.Exit exit_alone first_counter j k x counted at ∙ ap (λ y. cond (is_outermost l u p k counted) y x) (on_if 0 x w)) in
+    ap (λ ms. through w ms x) (exits_are l u p counted first_counter counted) ∙ (marks_on (λ q. is_outermost l u p q counted) marks.Exit exit_alone first_counter j k x counted at ∙ ap (λ y. cond (is_outermost l u p k counted) y x) (on_if 0 x w)) in
     let two : (y : ℕ) → through w (resets_from l u p counted first_counter counted) y ≡ cond (leaves l k u p && not (is_outermost l u p k counted)) 0 y = λ y.
-        ap (λ ms. through w ms y) (resets_are l u p counted first_counter counted) ∙ (marks_on (λ q. leaves l q u p && not (is_outermost l u p q counted)) marks.Reset reset_alone first_counter j k y counted at ∙ ap (λ z. cond (leaves l k u p && not (is_outermost l u p k counted)) z y) (on_if 0 y w)) in
+    ap (λ ms. through w ms y) (resets_are l u p counted first_counter counted) ∙ (marks_on (λ q. leaves l q u p && not (is_outermost l u p q counted)) marks.Reset reset_alone first_counter j k y counted at ∙ ap (λ z. cond (leaves l k u p && not (is_outermost l u p k counted)) z y) (on_if 0 y w)) in
     let three : (y : ℕ) → through w (counts_from l u p first_counter counted) y ≡ cond (goes_back l k u p) (y + 1) y = λ y.
-        ap (λ ms. through w ms y) (counts_are l u p first_counter counted) ∙ (marks_on (λ q. goes_back l q u p) marks.Count count_alone first_counter j k y counted at ∙ ap (λ z. cond (goes_back l k u p) z y) (on_if (y + 1) y w)) in
+    ap (λ ms. through w ms y) (counts_are l u p first_counter counted) ∙ (marks_on (λ q. goes_back l q u p) marks.Count count_alone first_counter j k y counted at ∙ ap (λ z. cond (goes_back l k u p) z y) (on_if (y + 1) y w)) in
     parts_through w l counted branch slack min_gain u p x
     ∙ (ap (λ y. through w (counts_from l u p first_counter counted) (through w (resets_from l u p counted first_counter counted) y)) one
     ∙ (ap (through w (counts_from l u p first_counter counted)) (two (cond (is_outermost l u p k counted) 0 x))

@@ -83,11 +83,11 @@ marks_are l counted branch slack min_gain u p =
     let c = counts_from l u p first_counter counted in
     let one : All P s = switch_marks P (branch && (not (leaves_any l u p counted) && nat_le min_gain slack)) (λ on. (and_parts branch (not (leaves_any l u p counted) && nat_le min_gain slack) on).0) in
     let two : All P e = subst (All P) (sym (exits_are l u p counted first_counter counted)) (marks_all P (λ k. is_outermost l u p k counted) marks.Exit first_counter counted
-        (λ j k at on. record { place = j; loop = k; get = at; is = refl; holds = (and_parts (leaves l k u p) (holds_left l u p k counted) on).0 })) in
+    (λ j k at on. record { place = j; loop = k; get = at; is = refl; holds = (and_parts (leaves l k u p) (holds_left l u p k counted) on).0 })) in
     let three : All P r = subst (All P) (sym (resets_are l u p counted first_counter counted)) (marks_all P (λ k. leaves l k u p && not (is_outermost l u p k counted)) marks.Reset first_counter counted
-        (λ j k at on. record { place = j; loop = k; get = at; is = refl; holds = (and_parts (leaves l k u p) (not (is_outermost l u p k counted)) on).0 })) in
+    (λ j k at on. record { place = j; loop = k; get = at; is = refl; holds = (and_parts (leaves l k u p) (not (is_outermost l u p k counted)) on).0 })) in
     let four : All P c = subst (All P) (sym (counts_are l u p first_counter counted)) (marks_all P (λ k. goes_back l k u p) marks.Count first_counter counted
-        (λ j k at on. record { place = j; loop = k; get = at; is = refl; holds = on })) in
+    (λ j k at on. record { place = j; loop = k; get = at; is = refl; holds = on })) in
     All-append P s (e ++ (r ++ c)) one (All-append P e (r ++ c) two (All-append P r c three four))
 
 -- ---- a program

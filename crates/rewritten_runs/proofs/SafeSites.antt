@@ -141,9 +141,13 @@ module _ (power : PowerModel) (ok : IsPowerModel power) (image : Image) (notes :
       let k = loop_of counted c in
       let small = bound_small k in
       let fits = shift_fits (l.bound k) (omega (arith, small)) in
-      let rows = rows_count power (l.bound k) (stored.iteration k) (told_at power image v tree marked stored least e) in
-      (subst IsShadow (sym is.is) (shadow_of power image notes v tree plain stored weighed is.place is.loop is.get), fits.0, omega (arith, rows, fits.1), omega (arith, rows),
-      rows_are_tables power (l.bound k) (stored.iteration k) (told_at power image v tree marked stored least e) ok.few)
+      let rows = rows_count power (l.bound k) (stored.iteration k) (told_at power image v tree marked stored least e) in (
+        subst IsShadow (sym is.is) (shadow_of power image notes v tree plain stored weighed is.place is.loop is.get),
+        fits.0,
+        omega (arith, rows, fits.1),
+        omega (arith, rows),
+        rows_are_tables power (l.bound k) (stored.iteration k) (told_at power image v tree marked stored least e) ok.few,
+      )
   safe_mark e (marks.Reset c) is = subst IsShadow (sym is.is) (shadow_of power image notes v tree plain stored weighed is.place is.loop is.get)
   safe_mark e (marks.Count c) is = subst IsShadow (sym is.is) (shadow_of power image notes v tree plain stored weighed is.place is.loop is.get)
 

@@ -115,9 +115,9 @@ inserted_sorted : (rs : List Range) (r : Range) → Sorted rs → Sorted (insert
 inserted_sorted [] r h = (All-nil (λ q. r.from ≤ q.from), tt)
 inserted_sorted (x ∷ rs) r h = cond_both (nat_lt r.from x.from) _ _ Sorted
     (λ e. let lt : r.from < x.from = grind (arith, nat_tests) in
-        (All-cons (λ q. r.from ≤ q.from) x rs (omega arith) (λ k d q. let up = h.0 k d q in omega (arith, up, lt)), h))
+    (All-cons (λ q. r.from ≤ q.from) x rs (omega arith) (λ k d q. let up = h.0 k d q in omega (arith, up, lt)), h))
     (λ e. let ge : x.from ≤ r.from = grind (arith, nat_tests) in
-        (inserted_all (λ q. x.from ≤ q.from) rs r h.0 ge, inserted_sorted rs r h.1))
+    (inserted_all (λ q. x.from ≤ q.from) rs r h.0 ge, inserted_sorted rs r h.1))
 
 fold_sorted : (rs xs : List Range) → Sorted rs → Sorted (fold insert_range rs xs)
 fold_sorted rs [] h = h
@@ -149,11 +149,11 @@ ends_below (r ∷ q ∷ rs) s apart some =
     let up = s.0 0 q (omega arith) in
     let qs = some 1 q (omega arith) in
     let first : r.to ≤ text_end (q ∷ rs) = ⊎_elim
-        (λ (over : q.from < r.to).
-            let same : r ≡ q = apart 0 r (omega arith) 1 q (omega arith) q.from (in_of q.from r up over) (in_of q.from q (omega arith) qs) in
-            let t : r.to ≡ q.to = ap (λ (x : Range). x.to) same in omega (arith, t, qe))
-        (λ (under : r.to ≤ q.from). omega (arith, under, qs, qe))
-        (cases_lt q.from r.to) in
+    (λ (over : q.from < r.to).
+    let same : r ≡ q = apart 0 r (omega arith) 1 q (omega arith) q.from (in_of q.from r up over) (in_of q.from q (omega arith) qs) in
+    let t : r.to ≡ q.to = ap (λ (x : Range). x.to) same in omega (arith, t, qe))
+    (λ (under : r.to ≤ q.from). omega (arith, under, qs, qe))
+    (cases_lt q.from r.to) in
     subst (λ n. All (λ x. x.to ≤ n) (r ∷ q ∷ rs)) (sym e) (All-cons (λ x. x.to ≤ text_end (q ∷ rs)) r (q ∷ rs) first rest)
 
 any_below_end : (a n : ℕ) (rs : List Range) → All (λ r. r.to ≤ n) rs → list_any (is_in a) rs ≡ true → a < n
@@ -177,9 +177,9 @@ block_short file image levels limits sites base len e short is safe near =
     let low = is.least place.0 place.1 in
     let behind = is.place.behind in
     let below : All (λ s. s.at < base) sites = λ k d lt.
-        let s = safe k d lt in
-        let on = (and_parts (_ == 0) (list_any (is_in _) image.text) s.word).1 in
-        let t = text_below file image _ e on in omega (arith, t, behind) in
+    let s = safe k d lt in
+    let on = (and_parts (_ == 0) (list_any (is_in _) image.text) s.word).1 in
+    let t = text_below file image _ e on in omega (arith, t, behind) in
     let all : All (λ s. (length (stub_rows s) ≤ stub_len s) × (stub_len s ≤ 547)) sites = λ k d lt. short_place levels limits _ (safe k d lt).ways in
     let r = near_len base base sites below all (omega arith) (omega arith) (omega (arith, low, place.2)) near in
     omega (arith, r.0, r.1)

@@ -116,7 +116,7 @@ module _ (power : PowerModel) (ok : IsPowerModel power) (image : Image) (notes :
   slack_is : (e u : ℕ) → g.target e ≡ Some u → (told e).slack ≡ slack g l stored (cost g stored w) e
   slack_is e u to =
       let on : only (is_some (g.target e)) (slack (graph v) l stored (cost (graph v) stored (stored_weights power image v marked)) e) ≡ slack (graph v) l stored (cost (graph v) stored (stored_weights power image v marked)) e =
-          ap (λ o. only (is_some o) (slack (graph v) l stored (cost (graph v) stored (stored_weights power image v marked)) e)) to in
+      ap (λ o. only (is_some o) (slack (graph v) l stored (cost (graph v) stored (stored_weights power image v marked)) e)) to in
       on ∙ (ap (λ q. slack (graph v) l stored (cost (graph v) stored q) e) (sym (stored_same power image notes v tree plain stored weighed least sites are))
       ∙ ap (λ q. slack q l stored (cost q stored w) e) (sym weighed.code_is.graph_is))
 
@@ -129,7 +129,7 @@ module _ (power : PowerModel) (ok : IsPowerModel power) (image : Image) (notes :
       → IsChosen power g l w stored least counts e (tail_cycles (costs_of power) (fragments_at power image v tree marked stored least e)) i j
   chosen_by e u i j more counts m ms lt are_m no_call to small met =
       let tail : tail_cycles (costs_of power) (fragments_at power image v tree marked stored least e) ≡ tail_at power marked e =
-          ap (λ q. tail_cycles (costs_of power) (map (fragment_of power l counted stored (told e)) q)) are_m ∙ (tail_is power l counted stored (told e) m ms ∙ ap (tail_of power.costs) (sym are_m)) in
+      ap (λ q. tail_cycles (costs_of power) (map (fragment_of power l counted stored (told e)) q)) are_m ∙ (tail_is power l counted stored (told e) m ms ∙ ap (tail_of power.costs) (sym are_m)) in
       let s = slack_is e u to in
       let r = rest_is e u to in
       let grown = time_grows (told e).left ((told e).slack + more) (slack g l stored (cost g stored w) e + left_behind g l stored counts e) (period power j) (period power i) (switch_time power i j) met.in_time (omega (arith, s, small)) in
@@ -190,8 +190,8 @@ module _ (power : PowerModel) (ok : IsPowerModel power) (image : Image) (notes :
       let it = stored.iteration k in
       let read_so : tables.nibble (slice_index (tables.rows_of power (l.bound (loop_of counted c)) (stored.iteration (loop_of counted c)) (told e)) (h.counters c / 2 ^ tables.shift_of (l.bound (loop_of counted c)))) h.level ≡ j = cc in
       let read_too : tables.nibble (slice_index (tables.rows_of power b it (told e)) (counts k / 2 ^ tables.shift_of b)) h.level ≡ j =
-          subst (λ n. tables.nibble (slice_index (tables.rows_of power b it (told e)) (n / 2 ^ tables.shift_of b)) h.level ≡ j) count
-          (subst (λ q. tables.nibble (slice_index (tables.rows_of power (l.bound q) (stored.iteration q) (told e)) (h.counters c / 2 ^ tables.shift_of (l.bound q))) h.level ≡ j) here read_so) in
+      subst (λ n. tables.nibble (slice_index (tables.rows_of power b it (told e)) (n / 2 ^ tables.shift_of b)) h.level ≡ j) count
+      (subst (λ q. tables.nibble (slice_index (tables.rows_of power (l.bound q) (stored.iteration q) (told e)) (h.counters c / 2 ^ tables.shift_of (l.bound q))) h.level ≡ j) here read_so) in
       let more = tables.trips_left b (tables.shift_of b) (counts k / 2 ^ tables.shift_of b) * it in
       let few = row_turns b it (counts k) in
       let behind = left_of e k counts kc.loop m.holds in

@@ -156,19 +156,19 @@ module _ (power : PowerModel) (image : Image) (notes : List LoopNote) (v : FlowG
     where
       not_patched : is_patched g marked (at_edge e) ≡ true → ⊥
       not_patched on = elim (search_below g.edges (λ d. nat_eq (g.source d) (at_edge e) && some_mark (marked d))) [
-          | inl found ↦
-              let d = found.0 in
-              let parts = and_parts (nat_eq (g.source d) (at_edge e)) (some_mark (marked d)) found.2 in
-              let same : at_edge d ≡ at_edge e = eqb-true (g.source d) (at_edge e) parts.0 in
-              place_of_marked d found.1 (is_some_mark (marked d) parts.1) (ap (place_at sites) same ∙ none)
-          | inr fails ↦ both_ways (is_patched g marked (at_edge e)) (none_below g.edges (λ d. nat_eq (g.source d) (at_edge e) && some_mark (marked d)) fails) on
-        ]
+        | inl found ↦
+            let d = found.0 in
+            let parts = and_parts (nat_eq (g.source d) (at_edge e)) (some_mark (marked d)) found.2 in
+            let same : at_edge d ≡ at_edge e = eqb-true (g.source d) (at_edge e) parts.0 in
+            place_of_marked d found.1 (is_some_mark (marked d) parts.1) (ap (place_at sites) same ∙ none)
+        | inr fails ↦ both_ways (is_patched g marked (at_edge e)) (none_below g.edges (λ d. nat_eq (g.source d) (at_edge e) && some_mark (marked d)) fails) on
+      ]
   patched_by e (Some p) lt place =
       let is = placed image HasMark sites (at_edge e) p are.words are.some place in
       let d = is.holds.0 in
       let some : marked d ≢ [] = no_map (fragment_of power l (counted_loops tree) stored (told_at power image v tree marked stored least d)) (marked d) is.holds.3 in
       let on : is_patched g marked (at_edge e) ≡ true = any_from g.edges (λ q. nat_eq (g.source q) (at_edge e) && some_mark (marked q)) d is.holds.1
-          (and_from (nat_eq (g.source d) (at_edge e)) (some_mark (marked d)) (eq-eqb (g.source d) (at_edge e) is.holds.2) (has_some_mark (marked d) some)) in
+      (and_from (nat_eq (g.source d) (at_edge e)) (some_mark (marked d)) (eq-eqb (g.source d) (at_edge e) is.holds.2) (has_some_mark (marked d) some)) in
       ap (λ b. cond b (cond (is_branch v e) 2 1) 0) on ∙ by p is.of
     where
       by : (p : Place) → IsOfImage image (at_edge e) p → cond (is_branch v e) 2 1 ≡ jumps_by (Some p)
@@ -193,7 +193,7 @@ module _ (power : PowerModel) (image : Image) (notes : List LoopNote) (v : FlowG
       let is = placed image HasMark sites (at_edge e) p are.words are.some at in
       let x = edge_is t code reached e lt in
       let bare : Rattle.graph_runs.specs.EdgeCosts.class_by (Some x.instr) x.edge.kind ≡ None =
-          ap (λ q. Rattle.graph_runs.specs.EdgeCosts.class_by q x.edge.kind) (sym (ap (instr_at t) (sym (ap edge_at x.get)) ∙ x.at)) ∙ (sym (ap (edge_class t) x.get) ∙ none) in
+      ap (λ q. Rattle.graph_runs.specs.EdgeCosts.class_by q x.edge.kind) (sym (ap (instr_at t) (sym (ap edge_at x.get)) ∙ x.at)) ∙ (sym (ap (edge_class t) x.get) ∙ none) in
       absurd (by p is.of x.instr x.edge.kind x.at bare)
     where
       by : (p : Place) → IsOfImage image (at_edge e) p → (i : Rattle.scale_base.specs.declared.instruction.Instr.Instr) (kind : Rattle.cost_theory.specs.declared.edges.EdgeKind.EdgeKind) → instr_at t (at_edge e) ≡ Some i → Rattle.graph_runs.specs.EdgeCosts.class_by (Some i) kind ≡ None → ⊥
@@ -234,8 +234,8 @@ module _ (power : PowerModel) (image : Image) (notes : List LoopNote) (v : FlowG
   extra_is e = ⊎_elim
       (λ (lt : e < length code.edges). extra_some e (edge_class t (slice_get code.edges e)) lt refl ∙ sym (ap (λ b. only b (extra_weight (graph v) power.costs (is_branch v) marked e)) (lt_true e (length code.edges) lt)))
       (λ (ge : length code.edges ≤ e).
-          ap (λ o. marked_specs.extra_by (costs_of power) sites (edge_at o) (edge_class t o)) (no_edge code.edges e ge)
-          ∙ sym (ap (λ b. only b (extra_weight (graph v) power.costs (is_branch v) marked e)) (lt_false e (length code.edges) ge)))
+      ap (λ o. marked_specs.extra_by (costs_of power) sites (edge_at o) (edge_class t o)) (no_edge code.edges e ge)
+      ∙ sym (ap (λ b. only b (extra_weight (graph v) power.costs (is_branch v) marked e)) (lt_false e (length code.edges) ge)))
       (cases_lt e (length code.edges))
 
   pub extra_same : marked_specs.extra_weights t code (costs_of power) sites ≡ extra_weights power v marked

@@ -167,8 +167,17 @@ module _ (power : PowerModel) (image : Image) (notes : List LoopNote) (v : FlowG
       edges_same kind = sum_same (length v.code.edges) _ _ (λ e lt. ap (λ ms. only (list_any kind ms) 1) (at.marks.marks e lt))
 
       pub scaled : (s : Scaling) → s.stubs.items ≡ stubs → IsBlockGiven image stubs (Ok (s.block, s.base)) → s.summary.start ≡ start → (worst : ℕ) → slice_get m.worst.worst 0 ≡ Some worst
-          → s.summary ≡ record { start = start; worst = worst; time = Rattle.power_model.specs.Price.time_at power start worst; deadline = power.deadline; stub_cycles = cycles; switch_edges = edges_with Rattle.rewritten_runs.specs.Stubs.is_switch v (marks_at_edge m.sites);
-            exit_edges = edges_with Rattle.rewritten_runs.specs.Stubs.is_exit v (marks_at_edge m.sites); count_edges = edges_with Rattle.rewritten_runs.specs.Stubs.is_count v (marks_at_edge m.sites); stub_bytes = block_size (map site_of stubs) }
+          → s.summary ≡ record {
+            start = start;
+            worst = worst;
+            time = Rattle.power_model.specs.Price.time_at power start worst;
+            deadline = power.deadline;
+            stub_cycles = cycles;
+            switch_edges = edges_with Rattle.rewritten_runs.specs.Stubs.is_switch v (marks_at_edge m.sites);
+            exit_edges = edges_with Rattle.rewritten_runs.specs.Stubs.is_exit v (marks_at_edge m.sites);
+            count_edges = edges_with Rattle.rewritten_runs.specs.Stubs.is_count v (marks_at_edge m.sites);
+            stub_bytes = block_size (map site_of stubs);
+          }
           → IsScaled power image notes s
       scaled s same given started worst total summary = record {
         code = v;
@@ -194,8 +203,17 @@ module _ (power : PowerModel) (image : Image) (notes : List LoopNote) (v : FlowG
           worst_is = let a = at.worst in let b = total in cc
 
           made : Summary
-          made = record { start = start; worst = worst; time = Rattle.power_model.specs.Price.time_at power start worst; deadline = power.deadline; stub_cycles = cycles; switch_edges = edges_with Rattle.rewritten_runs.specs.Stubs.is_switch v (marks_at_edge m.sites);
-            exit_edges = edges_with Rattle.rewritten_runs.specs.Stubs.is_exit v (marks_at_edge m.sites); count_edges = edges_with Rattle.rewritten_runs.specs.Stubs.is_count v (marks_at_edge m.sites); stub_bytes = block_size (map site_of stubs) }
+          made = record {
+            start = start;
+            worst = worst;
+            time = Rattle.power_model.specs.Price.time_at power start worst;
+            deadline = power.deadline;
+            stub_cycles = cycles;
+            switch_edges = edges_with Rattle.rewritten_runs.specs.Stubs.is_switch v (marks_at_edge m.sites);
+            exit_edges = edges_with Rattle.rewritten_runs.specs.Stubs.is_exit v (marks_at_edge m.sites);
+            count_edges = edges_with Rattle.rewritten_runs.specs.Stubs.is_count v (marks_at_edge m.sites);
+            stub_bytes = block_size (map site_of stubs);
+          }
 
           rest : made ≡ rewritten_summary power v (marks_by_slack power image v t plain) s.summary.start (stored.worst 0) (extra.worst 0) (map site_of s.stubs.items)
           rest = rw (same, started, sym worst_is, sym cycles_are, sym (edges_same Rattle.rewritten_runs.specs.Stubs.is_switch), sym (edges_same Rattle.rewritten_runs.specs.Stubs.is_exit), sym (edges_same Rattle.rewritten_runs.specs.Stubs.is_count)) refl

@@ -9,7 +9,12 @@ use std::alloc::{AllocError, Global};
 use toml::Value;
 
 /// The rows of an array of arrays of numbers from `low` to `high`. None where the value is none.
-pub fn number_rows(alloc: Global, value: &Value, low: u32, high: u32) -> Result<Option<Vec<Vec<u32>>>, AllocError>
+pub fn number_rows(
+    alloc: Global,
+    value: &Value,
+    low: u32,
+    high: u32,
+) -> Result<Option<Vec<Vec<u32>>>, AllocError>
     ensures { IfOk result (λ found. option_map (λ v. map (λ row. row.items) v.items) found ≡ number_rows_of low high (view value.now)) }
 {
     match value.as_array() {
@@ -18,7 +23,12 @@ pub fn number_rows(alloc: Global, value: &Value, low: u32, high: u32) -> Result<
     }
 }
 
-fn all_rows(alloc: Global, items: &[Value], low: u32, high: u32) -> Result<Option<Vec<Vec<u32>>>, AllocError>
+fn all_rows(
+    alloc: Global,
+    items: &[Value],
+    low: u32,
+    high: u32,
+) -> Result<Option<Vec<Vec<u32>>>, AllocError>
     ensures { IfOk result (λ found. option_map (λ v. map (λ row. row.items) v.items) found ≡ all_rows low high (items_view items.now)) }
 {
     let mut rows = Vec::new(alloc);
@@ -32,7 +42,12 @@ fn all_rows(alloc: Global, items: &[Value], low: u32, high: u32) -> Result<Optio
 }
 
 // The numbers of an array of numbers from `low` to `high`. None where the value is none.
-fn numbers(alloc: Global, value: &Value, low: u32, high: u32) -> Result<Option<Vec<u32>>, AllocError>
+fn numbers(
+    alloc: Global,
+    value: &Value,
+    low: u32,
+    high: u32,
+) -> Result<Option<Vec<u32>>, AllocError>
     ensures { IfOk result (λ found. option_map (λ v. v.items) found ≡ numbers_of low high (view value.now)) }
 {
     match value.as_array() {
@@ -41,7 +56,12 @@ fn numbers(alloc: Global, value: &Value, low: u32, high: u32) -> Result<Option<V
     }
 }
 
-fn all_numbers(alloc: Global, items: &[Value], low: u32, high: u32) -> Result<Option<Vec<u32>>, AllocError>
+fn all_numbers(
+    alloc: Global,
+    items: &[Value],
+    low: u32,
+    high: u32,
+) -> Result<Option<Vec<u32>>, AllocError>
     ensures { IfOk result (λ found. option_map (λ v. v.items) found ≡ all_numbers low high (items_view items.now)) }
 {
     let mut numbers = Vec::new(alloc);

@@ -26,7 +26,10 @@ fn reads_the_keys_of_a_file(rt: HostRuntime) -> Result<(), Fail> {
 #[test]
 fn reads_rows_of_numbers(rt: HostRuntime) -> Result<(), Fail> {
     for (text, expected) in [
-        ("a = [[0, 4, 9], [], [4294967295]]", "[[0, 4, 9], [], [4294967295]]"),
+        (
+            "a = [[0, 4, 9], [], [4294967295]]",
+            "[[0, 4, 9], [], [4294967295]]",
+        ),
         ("a = []", "[]"),
         ("a = [[1], 2]", "none"),
         ("a = [[1], [2.0]]", "none"),
