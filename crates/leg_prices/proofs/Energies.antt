@@ -12,7 +12,7 @@ use Rattle.power_model.specs.Numbers.{PowerModel, Numbers}
 use Rattle.power_model.specs.Pairs.{pair_at}
 use Rattle.power_model.specs.Price.{level_after, metered, price, unstarted, switch_energy, held_energy}
 use Rattle.stub_runs.specs.Cycles.{cycles}
-use Rattle.leg_prices.specs.Paid.{energy, costs_of, NeverRises, Switch, switches_from, saved, fee, AllPay}
+use Rattle.power_model.specs.Switches.{energy, costs_of, NeverRises, Switch, switches_from, saved, fee, AllPay}
 
 -- ---- the order of levels
 

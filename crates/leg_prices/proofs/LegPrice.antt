@@ -12,7 +12,8 @@ use Rattle.stub_writer.specs.Stubs.{Site}
 use Rattle.stub_runs.specs.Cycles.{cycles}
 use Rattle.stored_runs.specs.Marks.{Shadow, fragments_over, tail_cycles, level_stored}
 use Rattle.stored_runs.specs.Legs.{Leg, Stores, IsLeg}
-use Rattle.leg_prices.specs.Paid.{period, costs_of, tail_if, IsPaidLeg}
+use Rattle.power_model.specs.Switches.{period, costs_of}
+use Rattle.leg_prices.specs.Paid.{tail_if, IsPaidLeg}
 
 -- no change of level takes no time
 pub no_switch : (power : PowerModel) (i : ℕ) → switch_time power i i ≡ 0

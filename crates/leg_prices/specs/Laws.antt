@@ -8,7 +8,8 @@ use Rattle.power_model.specs.Price.{price, metered, held_energy}
 use Rattle.stub_writer.specs.Stubs.{Site}
 use Rattle.stored_runs.specs.Marks.{Shadow}
 use Rattle.stored_runs.specs.Legs.{Leg, IsLeg}
-use Rattle.leg_prices.specs.Paid.{IsPaidLeg, NeverRises, switches_from, saved, fee, AllPay}
+use Rattle.power_model.specs.Switches.{NeverRises, switches_from, saved, fee, AllPay}
+use Rattle.leg_prices.specs.Paid.{IsPaidLeg}
 
 -- The steps of a leg cost what its edge and its marks say.
 abbrev pub LegsArePaid : Type 0

@@ -22,7 +22,7 @@ use Rattle.stored_runs.specs.Legs.{originals, all_steps}
 use Rattle.stored_runs.proofs.LegLaws.{cost_of_legs, short_legs, long_legs}
 use Rattle.marked_runs.specs.Marked.{extra_weights}
 use Rattle.marked_runs.proofs.Aligned.{AreAligned, extra_sum}
-use Rattle.leg_prices.specs.Paid.{period, costs_of}
+use Rattle.power_model.specs.Switches.{period, costs_of}
 use Rattle.leg_prices.proofs.Energies.{cycles_from, switches_save}
 use Rattle.paid_runs.specs.Timely.{weights_of, IsPaidRun}
 use Rattle.paid_runs.specs.Laws.{StoredRunsArePaid, StoredRunsSaveEnergy, StubsAreBounded}

@@ -34,7 +34,8 @@ use Rattle.shadow_counts.specs.Shadows.{AreCountable, counted_move, counted_move
 use Rattle.shadow_counts.proofs.Shown.{counts_shown}
 use Rattle.marked_runs.specs.Marked.{AreMarked}
 use Rattle.marked_runs.proofs.Aligned.{AreAligned, IsFirst, first_of_both, stored_at, stored_sum, counted_after}
-use Rattle.leg_prices.specs.Paid.{period, costs_of, tail_if, IsPaidLeg, NeverRises, switches_from, AllPay}
+use Rattle.power_model.specs.Switches.{period, costs_of, NeverRises, switches_from, AllPay}
+use Rattle.leg_prices.specs.Paid.{tail_if, IsPaidLeg}
 use Rattle.leg_prices.proofs.LegPrice.{leg_paid, no_switch}
 use Rattle.leg_prices.proofs.Energies.{period_le}
 use Rattle.paid_runs.specs.Timely.{weights_of, IsChosen, AreTables}

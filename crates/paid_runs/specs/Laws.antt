@@ -17,7 +17,7 @@ use Rattle.graph_runs.specs.Laws.{IsProgramOf}
 use Rattle.stub_writer.specs.Stubs.{Site}
 use Rattle.shadow_counts.specs.Shadows.{AreCountable}
 use Rattle.marked_runs.specs.Marked.{extra_weights, AreMarked, IsKeptFollowed}
-use Rattle.leg_prices.specs.Paid.{period, costs_of}
+use Rattle.power_model.specs.Switches.{period, costs_of}
 use Rattle.paid_runs.specs.Timely.{weights_of, AreTables, IsPaidRun}
 
 -- The stored run of each kept run is paid, where the worst cycles at the starting level are in time.

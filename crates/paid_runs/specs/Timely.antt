@@ -16,7 +16,7 @@ use Rattle.graph_runs.specs.RunMoves.{text_graph, after_moves}
 use Rattle.stub_writer.specs.Stubs.{Site}
 use Rattle.stored_runs.specs.Marks.{Shadow, place_at, fragments_by, tail_cycles, level_stored}
 use Rattle.marked_runs.specs.Marked.{stored_weights}
-use Rattle.leg_prices.specs.Paid.{period, energy, costs_of, NeverRises, switches_from, AllPay}
+use Rattle.power_model.specs.Switches.{period, energy, costs_of, NeverRises, switches_from, AllPay}
 
 abbrev pub weights_of : PowerModel → Text → Code → List Site → ℕ → ℕ
 weights_of power t code sites = stored_weights t code (costs_of power) sites

@@ -4,5 +4,7 @@ pub mod Numbers
 pub mod Price
 pub mod Report
 pub mod Slowest
+pub mod Switches
+pub mod PairLaws
 pub mod Inside
 pub mod MeterInside

@@ -8,6 +8,7 @@ mod report;
 ghost use Rattle.std.specs.Prelude.{◌≡◌, ℕ, List, [], ◌∷◌, ◌++◌, None, length, sum_by, All};
 ghost use Rattle.scale_base.specs.declared.stepping.Stepped.{Stepped};
 ghost use Rattle.power_model.specs.Numbers.{PowerModel};
+ghost use Rattle.power_model.specs.PairLaws.{PairsHoldNumbers, EachChangeTakesOne};
 ghost use Rattle.power_model.specs.Price.{price, metered, step_cycles, keyed_cycles, IsHeld};
 
 pub use meter::Meter;
@@ -27,6 +28,13 @@ pub fn price_laws()
         → (price power start steps).keyed ≡ sum_by (keyed_cycles power) steps }
     ensures held { (power : PowerModel) (start : ℕ) (steps : List Stepped)
         → All (λ s. s.port ≡ None) steps → IsHeld power start (price power start steps) }
+{}
+
+/// A table by pair of levels holds the numbers that it is made from, each in its row and column, and where there is one number for each
+/// change of level, a switch between two levels takes it.
+pub fn pair_law()
+    ensures pairs { PairsHoldNumbers }
+    ensures one { EachChangeTakesOne }
 {}
 
 #[cfg(test)]

@@ -20,8 +20,8 @@ use Rattle.graph_runs.proofs.WeightLaws.{weights_are}
 use Rattle.code_graph.specs.FlowGraph.{FlowGraph, graph}
 use Rattle.loop_file.specs.declared.notes.LoopNote.{LoopNote}
 use Rattle.loop_tree.specs.Tree.{LoopView, loops}
-use Rattle.scale_sites.specs.declared.mark.Mark.{Mark}
-use Rattle.scale_sites.specs.declared.mark.Mark.TheVariants as marks
+use Rattle.scale_base.specs.declared.fragments.Mark.{Mark}
+use Rattle.scale_base.specs.declared.fragments.Mark.TheVariants as marks
 use Rattle.scale_sites.specs.Counters.{counted_loops, edge_goes_on, goes_on}
 use Rattle.scale_sites.specs.Sites.{is_branch, edge_branches, is_branch_kind}
 use Rattle.scale_sites.specs.Weights.{some_mark, is_patched, jumps_of, extra_of, extra_weight}

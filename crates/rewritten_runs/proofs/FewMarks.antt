@@ -6,8 +6,8 @@ use Rattle.cost_theory.specs.Graph.{Graph, Loops, sum_below, only, is_header, le
 use Rattle.cost_theory.specs.Accepted.{IsProgram, AreAccepted}
 use Rattle.cost_theory.proofs.Basics.{sum-le, sum-none, search_below}
 use Rattle.cost_theory.proofs.Nesting.{accepted_entered, header_held}
-use Rattle.scale_sites.specs.declared.mark.Mark.{Mark}
-use Rattle.scale_sites.specs.declared.mark.Mark.TheVariants as marks
+use Rattle.scale_base.specs.declared.fragments.Mark.{Mark}
+use Rattle.scale_base.specs.declared.fragments.Mark.TheVariants as marks
 use Rattle.scale_sites.specs.Counters.{set_from}
 use Rattle.scale_sites.specs.Marks.{first_counter, mark_if, leaves_any, holds_left, is_outermost, switch_of, exits_from, resets_from, counts_from, marks_at, IsIn, AreLoops, AreDistinct}
 use Rattle.scale_sites.proofs.OneExit.{switches-one}

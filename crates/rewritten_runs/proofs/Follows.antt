@@ -41,7 +41,7 @@ use Rattle.stored_runs.proofs.LegLaws.{text_of_legs}
 use Rattle.stored_runs.proofs.Meetings.{meetings_once}
 use Rattle.marked_runs.specs.Marked.{IsKeptFollowed, AreHeld}
 use Rattle.marked_runs.proofs.Kept.{kept_followed}
-use Rattle.leg_prices.specs.Paid.{period, costs_of, NeverRises, switches_from, AllPay}
+use Rattle.power_model.specs.Switches.{period, costs_of, NeverRises, switches_from, AllPay}
 use Rattle.leg_prices.proofs.Energies.{energy_sum, switches_save}
 use Rattle.paid_runs.specs.Timely.{weights_of, IsPaidRun}
 use Rattle.paid_runs.proofs.Paid.{runs_paid, stubs_bounded}
@@ -132,7 +132,7 @@ module _ (power : PowerModel) (file : List ℕ) (image : Image) (notes : List Lo
       let xs = (stored_run input n c f).steps in
       let sum = energy_sum power start xs s.ok.ranked s.stubbed.start_is_level p.falls in
       record {
-        sum = subst (λ i. held_energy power (price power i xs) + sum_by (Rattle.leg_prices.specs.Paid.fee power) (switches_from power i xs) ≡ (price power i xs).energy + sum_by (Rattle.leg_prices.specs.Paid.saved power) (switches_from power i xs)) (sym start_is) sum;
+        sum = subst (λ i. held_energy power (price power i xs) + sum_by (Rattle.power_model.specs.Switches.fee power) (switches_from power i xs) ≡ (price power i xs).energy + sum_by (Rattle.power_model.specs.Switches.saved power) (switches_from power i xs)) (sym start_is) sum;
         terms = subst (λ i. AllPay power (switches_from power i xs)) (sym start_is) (p.pays (exits_by input n status c f exited));
       }
 

@@ -40,7 +40,7 @@ use Rattle.stored_runs.specs.Stubbed.{IsStubbed, IsSafeSite}
 use Rattle.stored_runs.proofs.Frame.{frame}
 use Rattle.marked_runs.specs.Marked as marked_specs
 use Rattle.marked_runs.proofs.Graphs.{weights_of_calls}
-use Rattle.leg_prices.specs.Paid.{period, costs_of}
+use Rattle.power_model.specs.Switches.{period, costs_of}
 use Rattle.paid_runs.specs.Timely.{weights_of}
 use Rattle.rewritten_runs.specs.Laws.{IsSafelyRewritten, RewrittenImagesFollow}
 use Rattle.rewritten_runs.specs.Stubs.{IsWeighed, HasStubs, marks_by_slack, stored_weights, extra_weights, rewritten_file, loop_of}

@@ -3,8 +3,8 @@ use Rattle.std.proofs.Common.{◌≡◌, ◌≢◌, ℕ, zero, suc, ◌+◌, ◌
 use Rattle.std.specs.Prelude.{All, ◌==◌, if◌then◌else◌}
 use Rattle.std.proofs.lemmas.List.Elements.{All-nil, All-cons, All-append}
 use Rattle.cost_theory.specs.Graph.{Loops, leaves, goes_back}
-use Rattle.scale_sites.specs.declared.mark.Mark.{Mark}
-use Rattle.scale_sites.specs.declared.mark.Mark.TheVariants as marks
+use Rattle.scale_base.specs.declared.fragments.Mark.{Mark}
+use Rattle.scale_base.specs.declared.fragments.Mark.TheVariants as marks
 use Rattle.scale_sites.specs.Counters.{set_from}
 use Rattle.scale_sites.specs.Marks.{mark_if, is_outermost, exits_from, resets_from, counts_from, switch_of, marks_at, first_counter}
 use Rattle.rewritten_runs.specs.Stubs.{set_before}

@@ -7,8 +7,8 @@ use Rattle.cost_theory.specs.Accepted.{IsProgram, AreAccepted}
 use Rattle.cost_theory.specs.Worst.{Numbers}
 use Rattle.power_model.specs.Numbers.{PowerModel}
 use Rattle.level_tables.specs.Tables as tables
-use Rattle.scale_sites.specs.declared.mark.Mark.{Mark}
-use Rattle.scale_sites.specs.declared.mark.Mark.TheVariants as marks
+use Rattle.scale_base.specs.declared.fragments.Mark.{Mark}
+use Rattle.scale_base.specs.declared.fragments.Mark.TheVariants as marks
 use Rattle.scale_sites.specs.Counters.{set_from}
 use Rattle.scale_sites.specs.Marks.{first_counter, is_outermost, switch_of, exits_from, resets_from, counts_from, marks_at, IsIn, AreLoops, AreDistinct}
 use Rattle.scale_sites.proofs.OneExit.{switches-one}

@@ -25,8 +25,8 @@ use Rattle.loop_file.specs.declared.notes.LoopNote.{LoopNote}
 use Rattle.loop_file.specs.Kept.{noted_loops}
 use Rattle.natural_loops.specs.Noted.{node_address}
 use Rattle.loop_tree.specs.Tree.{LoopView, loops}
-use Rattle.scale_sites.specs.declared.mark.Mark.{Mark}
-use Rattle.scale_sites.specs.declared.mark.Mark.TheVariants as marks
+use Rattle.scale_base.specs.declared.fragments.Mark.{Mark}
+use Rattle.scale_base.specs.declared.fragments.Mark.TheVariants as marks
 use Rattle.scale_sites.specs.Counters.{counted_loops, edge_goes_on, IsUncountable}
 use Rattle.scale_sites.specs.Marks.{first_counter, leaves_any, holds_left, is_outermost, mark_if, switch_of, exits_from, resets_from, counts_from, marks_at}
 use Rattle.scale_sites.specs.Sites.{is_branch}

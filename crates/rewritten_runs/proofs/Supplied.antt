@@ -20,7 +20,7 @@ use Rattle.stub_writer.specs.Stubs.{Site}
 use Rattle.stored_runs.specs.Stubbed.{IsStubbed}
 use Rattle.shadow_counts.specs.Shadows.{AreCountable}
 use Rattle.marked_runs.specs.Marked as marked_specs
-use Rattle.leg_prices.specs.Paid.{period, costs_of}
+use Rattle.power_model.specs.Switches.{period, costs_of}
 use Rattle.paid_runs.specs.Timely.{weights_of, AreTables}
 use Rattle.rewritten_runs.specs.Stubs.{stored_weights, marks_by_slack, is_counted, counter_of}
 

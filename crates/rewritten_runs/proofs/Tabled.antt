@@ -21,8 +21,8 @@ use Rattle.code_graph.specs.FlowGraph.{FlowGraph, graph}
 use Rattle.loop_file.specs.declared.notes.LoopNote.{LoopNote}
 use Rattle.loop_tree.specs.Tree.{LoopView, loops}
 use Rattle.worst_cycles.specs.Worst.{slack_at, rest_at}
-use Rattle.scale_sites.specs.declared.mark.Mark.{Mark}
-use Rattle.scale_sites.specs.declared.mark.Mark.TheVariants as marks
+use Rattle.scale_base.specs.declared.fragments.Mark.{Mark}
+use Rattle.scale_base.specs.declared.fragments.Mark.TheVariants as marks
 use Rattle.scale_sites.specs.Counters.{counted_loops, edge_goes_on}
 use Rattle.scale_sites.specs.Sites.{is_branch, edge_branches}
 use Rattle.scale_sites.specs.Weights.{tail_of}
@@ -30,7 +30,7 @@ use Rattle.level_tables.specs.Tables as tables
 use Rattle.stub_writer.specs.Stubs.{Site}
 use Rattle.stored_runs.specs.Marks.{Shadow, place_at, fragments_by, tail_cycles, level_stored}
 use Rattle.shadow_counts.specs.Shadows.{AreCountable}
-use Rattle.leg_prices.specs.Paid.{period, energy, costs_of}
+use Rattle.power_model.specs.Switches.{period, energy, costs_of}
 use Rattle.paid_runs.specs.Timely.{weights_of, IsInTime, IsPaying, IsChosen, AreTables}
 use Rattle.rewritten_runs.specs.Stubs.{IsWeighed, AreSitesOf, marks_by_slack, told_at, tail_at, fragment_of, fragments_at, loop_of, is_counted, counter_of, stored_weights}
 use Rattle.rewritten_runs.proofs.Edges.{call_goes_on}

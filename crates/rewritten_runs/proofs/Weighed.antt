@@ -25,8 +25,8 @@ use Rattle.graph_runs.specs.Text.{Text, text_of, instr_at}
 use Rattle.code_graph.specs.FlowGraph.{FlowGraph, graph}
 use Rattle.loop_file.specs.declared.notes.LoopNote.{LoopNote}
 use Rattle.loop_tree.specs.Tree.{LoopView, loops}
-use Rattle.scale_sites.specs.declared.mark.Mark.{Mark}
-use Rattle.scale_sites.specs.declared.mark.Mark.TheVariants as marks
+use Rattle.scale_base.specs.declared.fragments.Mark.{Mark}
+use Rattle.scale_base.specs.declared.fragments.Mark.TheVariants as marks
 use Rattle.scale_sites.specs.Counters.{counted_loops}
 use Rattle.scale_sites.specs.Sites.{is_branch}
 use Rattle.scale_sites.specs.Weights.{marks_cost, some_mark, is_patched, jumps_of, extra_of, extra_weight, tail_of}
@@ -36,7 +36,7 @@ use Rattle.stub_runs.specs.Cycles.{fragment_cost}
 use Rattle.stored_runs.specs.Marks.{place_at, fragments_by, jumps_by, tail_cycles}
 use Rattle.stored_runs.specs.Stubbed.{IsOfImage}
 use Rattle.marked_runs.specs.Marked as marked_specs
-use Rattle.leg_prices.specs.Paid.{costs_of}
+use Rattle.power_model.specs.Switches.{costs_of}
 use Rattle.paid_runs.specs.Timely.{weights_of}
 use Rattle.rewritten_runs.specs.Stubs.{IsWeighed, HasStubs, AreSitesOf, marks_by_slack, told_at, fragment_of, fragments_at, plain_weights, extra_weights, stored_weights}
 use Rattle.rewritten_runs.proofs.Edges.{edge_is, led_class, branch_kind, jump_kind}

@@ -9,7 +9,7 @@ use Rattle.power_model.specs.Numbers.{PowerModel}
 use Rattle.power_model.specs.Price.{held_energy}
 use Rattle.loop_file.specs.declared.notes.LoopNote.{LoopNote}
 use Rattle.loop_file.specs.Kept.{IsKeptUpTo}
-use Rattle.leg_prices.specs.Paid.{NeverRises}
+use Rattle.power_model.specs.Switches.{NeverRises}
 use Rattle.rewritten_runs.specs.Prices.{price_of}
 
 -- The original run on an input has exited with a status after n steps; the stored run so exits too, at most so many steps later.

@@ -20,8 +20,8 @@ use Rattle.graph_runs.specs.EdgeCosts.{edge_class, weights}
 use Rattle.code_graph.specs.FlowGraph.{FlowGraph, graph, IsGraphOf}
 use Rattle.loop_tree.specs.Tree.{LoopView, loops, IsTreeOf}
 use Rattle.worst_cycles.specs.Worst.{slack_at, rest_at}
-use Rattle.scale_sites.specs.declared.mark.Mark.{Mark}
-use Rattle.scale_sites.specs.declared.mark.Mark.TheVariants as marks
+use Rattle.scale_base.specs.declared.fragments.Mark.{Mark}
+use Rattle.scale_base.specs.declared.fragments.Mark.TheVariants as marks
 use Rattle.scale_sites.specs.Counters.{counted_loops, AreCounters}
 use Rattle.scale_sites.specs.Marks.{marks_of, first_counter}
 use Rattle.scale_sites.specs.Sites.{is_branch}

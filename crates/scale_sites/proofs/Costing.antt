@@ -1,8 +1,8 @@
 -- Costs of lists of marks.
 use Rattle.std.proofs.Common.{◌≡◌, ℕ, zero, suc, ◌+◌, ◌<◌, true, List, [], ◌∷◌, length, drop, slice_index_or, refl, arith}
 use Rattle.power_model.specs.declared.power.Costs.{Costs}
-use Rattle.scale_sites.specs.declared.mark.Mark.{Mark}
-use Rattle.scale_sites.specs.declared.mark.Mark.TheVariants.{Switch, Exit, Reset, Count}
+use Rattle.scale_base.specs.declared.fragments.Mark.{Mark}
+use Rattle.scale_base.specs.declared.fragments.Mark.TheVariants.{Switch, Exit, Reset, Count}
 use Rattle.scale_sites.specs.Weights.{mark_cost, marks_cost, switches, tail_of, extra_of, first_store}
 
 -- one mark more, in front

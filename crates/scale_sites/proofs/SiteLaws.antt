@@ -14,8 +14,8 @@ use Rattle.code_graph.specs.FlowGraph.{FlowGraph, graph, IsFlowGraph}
 use Rattle.natural_loops.specs.Noted.{node_address}
 use Rattle.natural_loops.proofs.NodeLaws.{one_number}
 use Rattle.loop_tree.specs.Tree.{LoopView, loops, IsLoopTree}
-use Rattle.scale_sites.specs.declared.mark.Mark.{Mark}
-use Rattle.scale_sites.specs.declared.mark.Mark.TheVariants.{Switch, Exit, Reset, Count}
+use Rattle.scale_base.specs.declared.fragments.Mark.{Mark}
+use Rattle.scale_base.specs.declared.fragments.Mark.TheVariants.{Switch, Exit, Reset, Count}
 use Rattle.scale_sites.specs.Marks.{numbered, AreBelow, first_counter, leaves_any, holds_left, is_outermost, mark_if, exits_from, resets_from, counts_from, switch_of, marks_at}
 use Rattle.scale_sites.specs.Weights.{some_mark, is_patched, jumps_of}
 use Rattle.scale_sites.specs.Counters.{set_from}

@@ -4,8 +4,8 @@ use Rattle.cost_theory.specs.Graph.{Graph, Loops, leaves, goes_back}
 use Rattle.cost_theory.specs.Accepted.{IsProgram, AreAccepted}
 use Rattle.cost_theory.specs.Lists.{is_among, body_of}
 use Rattle.loop_tree.specs.Tree.{LoopView}
-use Rattle.scale_sites.specs.declared.mark.Mark.{Mark}
-use Rattle.scale_sites.specs.declared.mark.Mark.TheVariants.{Switch, Exit, Reset, Count}
+use Rattle.scale_base.specs.declared.fragments.Mark.{Mark}
+use Rattle.scale_base.specs.declared.fragments.Mark.TheVariants.{Switch, Exit, Reset, Count}
 
 -- the loops of a tree, by the numbers of nodes
 abbrev pub numbered : LoopView → Loops

@@ -9,7 +9,7 @@ use Rattle.graph_runs.specs.EdgeCosts.{cost_of}
 use Rattle.code_graph.specs.FlowGraph.{FlowGraph, graph}
 use Rattle.natural_loops.specs.Noted.{node_address}
 use Rattle.loop_tree.specs.Tree.{LoopView, loops}
-use Rattle.scale_sites.specs.declared.mark.Mark.{Mark}
+use Rattle.scale_base.specs.declared.fragments.Mark.{Mark}
 use Rattle.scale_sites.specs.Marks.{marks_of}
 use Rattle.scale_sites.specs.Weights.{jumps_of, extra_weight, stored_weight}
 

@@ -2,8 +2,8 @@
 use Rattle.std.specs.Prelude.{◌≡◌, ℕ, ◌+◌, ◌*◌, Bool, true, false, cond, ◌&&◌, nat_eq, List, [], ◌∷◌}
 use Rattle.power_model.specs.declared.power.Costs.{Costs}
 use Rattle.cost_theory.specs.Graph.{Graph, any_below}
-use Rattle.scale_sites.specs.declared.mark.Mark.{Mark}
-use Rattle.scale_sites.specs.declared.mark.Mark.TheVariants.{Switch, Exit, Reset, Count}
+use Rattle.scale_base.specs.declared.fragments.Mark.{Mark}
+use Rattle.scale_base.specs.declared.fragments.Mark.TheVariants.{Switch, Exit, Reset, Count}
 
 -- the cost of so many stores, loads and alu instructions
 abbrev pub bill : Costs → ℕ → ℕ → ℕ → ℕ

@@ -3,7 +3,7 @@
 ghost use Rattle.std.specs.Prelude.{◌≡◌, ◌≤◌, ◌*◌, ◌+◌, length, true};
 ghost use Rattle.scale_sites.specs.Weights.{mark_cost, marks_cost, switches, tail_of, extra_of};
 
-use crate::mark::Mark;
+use scale_base::Mark;
 use power_model::Costs;
 
 /// The cost of a mark's fragment.

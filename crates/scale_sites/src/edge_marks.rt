@@ -4,7 +4,7 @@ ghost use Rattle.std.specs.Prelude.{◌≡◌, ◌≤◌, ◌<◌, ◌+◌, ◌+
 ghost use Rattle.cost_theory.specs.Graph.{leaves, goes_back};
 ghost use Rattle.scale_sites.specs.Marks.{AreBelow, numbered, leaves_any, holds_left, is_outermost, marks_at, exits_from, resets_from, counts_from};
 
-use crate::mark::Mark;
+use scale_base::Mark;
 use loop_tree::LoopTree;
 use scale_base::NoMemory;
 use std::alloc::Global;

@@ -15,7 +15,7 @@ ghost use Rattle.scale_sites.specs.Sites.{SitesView, is_branch, is_branch_kind, 
 use crate::cost;
 use crate::counting::CounterList;
 use crate::edge_marks::{Way, edge_marks};
-use crate::mark::Mark;
+use scale_base::Mark;
 use code_graph::{CodeGraph, Weights};
 use cost_theory::EdgeKind;
 use loop_tree::LoopTree;

@@ -36,8 +36,8 @@ use Rattle.code_graph.specs.FlowGraph.{FlowGraph}
 use Rattle.loop_file.specs.declared.notes.LoopNote.{LoopNote}
 use Rattle.loop_file.specs.Kept.{noted_loops}
 use Rattle.loop_tree.specs.Tree.{LoopView, loops, IsInnermost}
-use Rattle.scale_sites.specs.declared.mark.Mark.{Mark}
-use Rattle.scale_sites.specs.declared.mark.Mark.TheVariants as marks
+use Rattle.scale_base.specs.declared.fragments.Mark.{Mark}
+use Rattle.scale_base.specs.declared.fragments.Mark.TheVariants as marks
 use Rattle.scale_sites.specs.Counters.{counted_loops, goes_on, edge_goes_on, IsUncountable}
 use Rattle.scale_sites.specs.Marks.{AreLoops}
 use Rattle.scale_sites.specs.Sites.{is_branch, is_branch_kind, edge_branches}

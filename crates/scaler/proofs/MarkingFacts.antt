@@ -136,7 +136,7 @@ module _ (g : Graph) (w : ℕ → ℕ) (least : Least) (are : AreLeast g w least
 -- ---- the program
 
 module _ (power : PowerModel) (image : Image) (notes : List LoopNote) (v : FlowGraph) (t : LoopView) (is : IsGraphOf (text_of image) v) (tree : IsTreeOf v notes t) (counts : AreCounters v t (Ok (counted_loops t))) where
-  abbrev marked : Numbers → ℕ → List Rattle.scale_sites.specs.declared.mark.Mark.Mark
+  abbrev marked : Numbers → ℕ → List Rattle.scale_base.specs.declared.fragments.Mark.Mark
   marked plain = marks_by_slack power image v t plain
 
   pub numbers_of : (w : ℕ → ℕ) → (n : Numbers) × AreNumbers (graph v) (loops v t) w n

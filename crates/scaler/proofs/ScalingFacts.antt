@@ -23,7 +23,7 @@ use Rattle.code_graph.specs.FlowGraph.{FlowGraph, graph, IsGraphOf}
 use Rattle.code_graph.specs.Building.{IsBuilt}
 use Rattle.loop_file.specs.declared.notes.LoopNote.{LoopNote}
 use Rattle.loop_tree.specs.Tree.{LoopView, loops, IsTreeOf, IsTreeBuilt}
-use Rattle.scale_sites.specs.declared.mark.Mark.{Mark}
+use Rattle.scale_base.specs.declared.fragments.Mark.{Mark}
 use Rattle.scale_sites.specs.Counters.{AreCounters, counted_loops}
 use Rattle.scale_sites.specs.Sites.{marks_at_edge}
 use Rattle.stub_writer.specs.declared.site.StubBlock.{StubBlock}

@@ -10,7 +10,7 @@ use Rattle.code_graph.specs.FlowGraph.{FlowGraph, graph, IsGraphOf}
 use Rattle.graph_runs.specs.Text.{text_of}
 use Rattle.level_tables.specs.Tables as tables
 use Rattle.loop_tree.specs.Tree.{LoopView, loops, IsLoopTree}
-use Rattle.scale_sites.specs.declared.mark.Mark.{Mark}
+use Rattle.scale_base.specs.declared.fragments.Mark.{Mark}
 use Rattle.scale_sites.specs.Counters.{counted_loops}
 use Rattle.scale_sites.specs.Sites.{marks_at_edge}
 use Rattle.worst_cycles.specs.Worst.{HoldsLeft, slack_at, rest_at}

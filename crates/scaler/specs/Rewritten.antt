@@ -17,7 +17,7 @@ use Rattle.cost_theory.specs.Least.{Least}
 use Rattle.graph_runs.specs.Text.{text_of}
 use Rattle.code_graph.specs.FlowGraph.{FlowGraph, IsGraphOf}
 use Rattle.loop_tree.specs.Tree.{LoopView, IsTreeOf}
-use Rattle.scale_sites.specs.declared.mark.Mark.{Mark}
+use Rattle.scale_base.specs.declared.fragments.Mark.{Mark}
 use Rattle.scale_sites.specs.Counters.{AreCounters}
 use Rattle.stub_writer.specs.Stubs.{Site, block_size, out_of_reach}
 use Rattle.scaler.specs.Held.{IsCodeRefused, IsLoopRefused, Then, unscaled}

@@ -1,5 +1,5 @@
 use Rattle.std.proofs.Common.{map, Vec, Global}
-use Rattle.scale_sites.specs.declared.mark.Mark.{Mark}
+use Rattle.scale_base.specs.declared.fragments.Mark.{Mark}
 use Rattle.scale_sites.proofs.SiteLaws.{jumps_push}
 use Rattle.scale_sites.proofs.sites.all_jumps.Goals as goal
 

@@ -1,5 +1,5 @@
 use Rattle.std.proofs.Common.{◌≡◌, ℕ, ◌<◌, ◌≤◌, false, map, Vec, Global}
-use Rattle.scale_sites.specs.declared.mark.Mark.{Mark}
+use Rattle.scale_base.specs.declared.fragments.Mark.{Mark}
 use Rattle.scale_sites.specs.Sites.{marks_in}
 use Rattle.scale_sites.specs.Weights.{some_mark}
 use Rattle.scale_sites.proofs.sites.is_patched.Given as goal

@@ -3,7 +3,7 @@ use Rattle.std.proofs.lemmas.Option.{slice_get_within, slice_get-get_or, get_or_
 use Rattle.code_graph.specs.FlowGraph.{graph}
 use Rattle.natural_loops.specs.Noted.{node_address}
 use Rattle.loop_tree.specs.Tree.{loops}
-use Rattle.scale_sites.specs.declared.mark.Mark.{Mark}
+use Rattle.scale_base.specs.declared.fragments.Mark.{Mark}
 use Rattle.scale_sites.specs.Marks.{numbered, marks_at}
 use Rattle.scale_sites.specs.Sites.{edge_branches, is_branch}
 use Rattle.scale_sites.proofs.SiteLaws.{marks_same, marks_few}

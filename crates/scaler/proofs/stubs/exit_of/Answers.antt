@@ -1,7 +1,7 @@
 use Rattle.std.proofs.Common.{◌≡◌, arith, sym, ap, ◌∙◌}
 use Rattle.std.specs.Prelude.{slice_index}
 use Rattle.scaler.proofs.MarkingLaws.{marking_switches, exit_is, turns_fit, exit_fragment}
-use Rattle.scale_sites.specs.declared.mark.Mark.TheVariants as marks
+use Rattle.scale_base.specs.declared.fragments.Mark.TheVariants as marks
 use Rattle.scaler.proofs.stubs.exit_of.Goals as goal
 
 pub told_at-told-requires-clause-switches : goal.told_at-told-requires-clause-switches

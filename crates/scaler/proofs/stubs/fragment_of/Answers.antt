@@ -1,6 +1,6 @@
 use Rattle.std.proofs.Common.{Some, sym, ap, ◌∙◌, subst}
 use Rattle.scaler.proofs.MarkingLaws.{marking_switches}
-use Rattle.scale_sites.specs.declared.mark.Mark.TheVariants as marks
+use Rattle.scale_base.specs.declared.fragments.Mark.TheVariants as marks
 use Rattle.scaler.specs.Markings.{IsFragmentAt}
 use Rattle.scaler.proofs.stubs.fragment_of.Goals as goal
 

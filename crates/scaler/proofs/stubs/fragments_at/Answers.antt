@@ -1,7 +1,7 @@
 use Rattle.std.proofs.Common.{◌≤◌, ◌+◌, ◌++◌, ◌∷◌, [], map, take, length, slice_get, get_or, arith, sym, ap, ◌∙◌}
 use Rattle.scale_sites.specs.Sites.{marks_at_edge}
 use Rattle.scale_sites.specs.Counters.{counted_loops}
-use Rattle.scale_sites.specs.declared.mark.Mark.TheVariants as marks
+use Rattle.scale_base.specs.declared.fragments.Mark.TheVariants as marks
 use Rattle.loop_tree.specs.Tree.{loops}
 use Rattle.rewritten_runs.specs.Stubs.{marks_by_slack, told_at, fragment_of}
 use Rattle.scaler.proofs.MarkingLaws.{get_some, map_take_more, take_all, step_is}

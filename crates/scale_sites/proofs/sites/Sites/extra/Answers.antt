@@ -1,6 +1,6 @@
 use Rattle.std.proofs.Common.{◌≡◌, ◌<◌, ◌≤◌, List, [], map, length, slice_index_or, Vec, Global, sym, ap, ◌∙◌, subst, arith}
 use Rattle.std.proofs.lemmas.List.{length-map}
-use Rattle.scale_sites.specs.declared.mark.Mark.{Mark}
+use Rattle.scale_base.specs.declared.fragments.Mark.{Mark}
 use Rattle.scale_sites.specs.Sites.{SitesView, marks_in}
 use Rattle.scale_sites.proofs.SiteLaws.{marks_seen}
 use Rattle.scale_sites.proofs.sites.Sites.extra.Goals as goal

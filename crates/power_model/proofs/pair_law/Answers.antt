@@ -1,5 +1,5 @@
-use Rattle.level_laws.proofs.Pairs.{pairs-hold, one-taken}
-use Rattle.level_laws.proofs.pair_law.Goals as goal
+use Rattle.power_model.proofs.PairTables.{pairs-hold, one-taken}
+use Rattle.power_model.proofs.pair_law.Goals as goal
 
 pub returns-clause-pairs : goal.returns-clause-pairs
 returns-clause-pairs c = λ f i l row column. pairs-hold f i l row column

@@ -1,4 +1,0 @@
-pub mod Legs
-pub mod Switches
-pub mod Entries
-pub mod PairLaws
