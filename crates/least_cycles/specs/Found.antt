@@ -3,8 +3,9 @@ use Rattle.std.specs.Prelude.{◌≡◌, ℕ, ◌+◌, ◌^◌, ◌<◌, ◌≤�
 use Rattle.call_orders.specs.Arcs.{number_at}
 use Rattle.cost_theory.specs.Graph.{Loops}
 use Rattle.cost_theory.specs.Worst.{Numbers, AreNumbers}
-use Rattle.cost_theory.specs.Least.{Least, AreLeast}
+use Rattle.cost_theory.specs.Least.{Least}
 use Rattle.code_graph.specs.FlowGraph.{FlowGraph, graph}
+use Rattle.least_laws.specs.Charged.{Charged, AreCharged, to_end_after}
 use Rattle.least_cycles.specs.Charged.{end_at}
 
 pub record LeastView : Type 0 where
@@ -18,19 +19,15 @@ pub record LeastView : Type 0 where
 abbrev pub IsInRange : FlowGraph → Loops → (ℕ → ℕ) → Type 0
 IsInRange v l w = (n : Numbers) × AreNumbers (graph v) l w n × (n.worst 0 ≤ 2 ^ 48)
 
--- the view holds the numbers of nodes, and those behind edges with these charges
-pub record HoldsLeast (v : FlowGraph) (charge : ℕ → ℕ) (n : Least) (x : LeastView) : Type 0 where
-  pub to_return : (k at : ℕ) → slice_get v.code.nodes k ≡ Some at → slice_get x.returns k ≡ Some (n.to_return at)
-  pub to_end : (k at : ℕ) → slice_get v.code.nodes k ≡ Some at → slice_get x.ends k ≡ Some (n.to_end at)
-  pub after : (e : ℕ) → e < length v.code.edges → slice_get x.after e ≡ Some (end_at n.to_end (charge e) ((graph v).target e))
+-- the view holds the numbers of nodes, and those behind edges
+pub record HoldsLeast (v : FlowGraph) (l : Loops) (n : Charged) (x : LeastView) : Type 0 where
+  pub to_return : (k at : ℕ) → slice_get v.code.nodes k ≡ Some at → slice_get x.returns k ≡ Some (n.least.to_return at)
+  pub to_end : (k at : ℕ) → slice_get v.code.nodes k ≡ Some at → slice_get x.ends k ≡ Some (n.least.to_end at)
+  pub after : (e : ℕ) → e < length v.code.edges → slice_get x.after e ≡ Some (to_end_after (graph v) l n e)
 
--- the least numbers under weights, where each edge has a charge besides
-abbrev pub IsLeastOf : FlowGraph → (ℕ → ℕ) → (ℕ → ℕ) → LeastView → Type 0
-IsLeastOf v w charge x = (n : Least) × AreLeast (graph v) (λ e. w e + charge e) n × HoldsLeast v charge n x
-
--- no edge has a charge
-abbrev pub no_charge : ℕ → ℕ
-no_charge e = 0
+-- the least cycles under weights, where closed loops turn at least so often as they have to
+abbrev pub IsLeastOf : FlowGraph → Loops → (ℕ → ℕ) → LeastView → Type 0
+IsLeastOf v l w x = (n : Charged) × AreCharged (graph v) l w n × HoldsLeast v l n x
 
 -- one of each for each node and edge, and those that are there below 2^89
 pub record AreSmallLeast (v : FlowGraph) (x : LeastView) : Type 0 where

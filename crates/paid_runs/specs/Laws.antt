@@ -8,7 +8,7 @@ use Rattle.power_model.specs.Price.{price, held_energy}
 use Rattle.cost_theory.specs.Graph.{Loops}
 use Rattle.cost_theory.specs.Laws.{IsAnalyzed}
 use Rattle.cost_theory.specs.Worst.{Numbers}
-use Rattle.cost_theory.specs.Least.{Least, AreLeast}
+use Rattle.least_laws.specs.Charged.{Charged, AreCharged}
 use Rattle.cost_theory.specs.Reached.{Code}
 use Rattle.graph_runs.specs.Text.{text_of}
 use Rattle.graph_runs.specs.RunMoves.{text_graph}
@@ -23,16 +23,16 @@ use Rattle.paid_runs.specs.Timely.{weights_of, AreTables, IsPaidRun}
 -- The stored run of each kept run is paid, where the worst cycles at the starting level are in time.
 abbrev pub StoredRunsArePaid : Type 0
 StoredRunsArePaid = (power : PowerModel) → IsPowerModel power → (image stored : Image) (sites : List Site) (start : ℕ) (code : Code) (l : Loops) (extent : ℕ → ℕ → Bool) (counted : ℕ → Bool) (word : ℕ → ℕ) → IsProgramOf (text_of image) code l extent →
-    AreCountable (text_graph (text_of image) code) l counted → AreMarked (text_of image) code l sites counted word → (n : Numbers) (least : Least) → IsAnalyzed (text_graph (text_of image) code) l extent (weights_of power (text_of image) code sites) n →
-    AreLeast (text_graph (text_of image) code) (weights_of power (text_of image) code sites) least → AreTables power (text_of image) code l sites counted word n least → start < length power.levels → n.worst 0 * period power start ≤ power.deadline →
+    AreCountable (text_graph (text_of image) code) l counted → AreMarked (text_of image) code l sites counted word → (n : Numbers) (least : Charged) → IsAnalyzed (text_graph (text_of image) code) l extent (weights_of power (text_of image) code sites) n →
+    AreCharged (text_graph (text_of image) code) l (weights_of power (text_of image) code sites) least → AreTables power (text_of image) code l sites counted word n least → start < length power.levels → n.worst 0 * period power start ≤ power.deadline →
     (input : List ℕ) (steps : ℕ) (c : Carried) (f : IsKeptFollowed image stored (length power.levels) sites start input code l counted word (costs_of power) steps c) →
     IsPaidRun power (text_of image) code l sites start n f.kept.moves (run_of stored (length power.levels) input f.followed.after).steps
 
 -- An exited run takes no more energy than its own cycles at the starting level.
 abbrev pub StoredRunsSaveEnergy : Type 0
 StoredRunsSaveEnergy = (power : PowerModel) → IsPowerModel power → (image stored : Image) (sites : List Site) (start : ℕ) (code : Code) (l : Loops) (extent : ℕ → ℕ → Bool) (counted : ℕ → Bool) (word : ℕ → ℕ) → IsProgramOf (text_of image) code l extent →
-    AreCountable (text_graph (text_of image) code) l counted → AreMarked (text_of image) code l sites counted word → (n : Numbers) (least : Least) → IsAnalyzed (text_graph (text_of image) code) l extent (weights_of power (text_of image) code sites) n →
-    AreLeast (text_graph (text_of image) code) (weights_of power (text_of image) code sites) least → AreTables power (text_of image) code l sites counted word n least → start < length power.levels → n.worst 0 * period power start ≤ power.deadline →
+    AreCountable (text_graph (text_of image) code) l counted → AreMarked (text_of image) code l sites counted word → (n : Numbers) (least : Charged) → IsAnalyzed (text_graph (text_of image) code) l extent (weights_of power (text_of image) code sites) n →
+    AreCharged (text_graph (text_of image) code) l (weights_of power (text_of image) code sites) least → AreTables power (text_of image) code l sites counted word n least → start < length power.levels → n.worst 0 * period power start ≤ power.deadline →
     (input : List ℕ) (steps status : ℕ) (c : Carried) (f : IsKeptFollowed image stored (length power.levels) sites start input code l counted word (costs_of power) steps c) → (run_of image (length power.levels) input steps).standing ≡ HasExited status →
     let paid = price power start (run_of stored (length power.levels) input f.followed.after).steps in paid.energy ≤ held_energy power paid
 

@@ -7,9 +7,9 @@ use Rattle.power_model.specs.Numbers.{PowerModel}
 use Rattle.power_model.specs.Price.{price, switch_time, switch_energy}
 use Rattle.cost_theory.specs.Graph.{Graph, Loops, AreWithin}
 use Rattle.cost_theory.specs.Worst.{Numbers, cost, slack, rest, left_behind}
-use Rattle.cost_theory.specs.Least.{Least}
 use Rattle.cost_theory.specs.Steps as steps
 use Rattle.cost_theory.specs.Reached.{Code, edge_at}
+use Rattle.least_laws.specs.Charged.{Charged, to_end_after}
 use Rattle.graph_runs.specs.Text.{Text}
 use Rattle.graph_runs.specs.EdgeCosts.{edge_class}
 use Rattle.graph_runs.specs.RunMoves.{text_graph, after_moves}
@@ -27,22 +27,22 @@ abbrev pub IsInTime : PowerModel → Graph → Loops → (ℕ → ℕ) → Numbe
 IsInTime power g l w n counts e tail i j =
     (rest g l n e + tail) * period power j + switch_time power i j ≤ (rest g l n e + tail + (slack g l n (cost g n w) e + left_behind g l n counts e)) * period power i
 
--- The least cycles behind the store pay for the switch.
-abbrev pub IsPaying : PowerModel → Least → (v tail i j : ℕ) → Type 0
-IsPaying power least v tail i j = (z : ℕ) × (least.to_end v ≡ Some z) × (switch_energy power i j ≤ (z + tail) * (energy power i - energy power j))
+-- The least cycles behind the store, to an end of the run behind the edge, pay for the switch.
+abbrev pub IsPaying : PowerModel → Graph → Loops → Charged → (e tail i j : ℕ) → Type 0
+IsPaying power g l least e tail i j = (z : ℕ) × (to_end_after g l least e ≡ Some z) × (switch_energy power i j ≤ (z + tail) * (energy power i - energy power j))
 
 -- a lower level that an edge within a function may lead to
-pub record IsChosen (power : PowerModel) (g : Graph) (l : Loops) (w : ℕ → ℕ) (n : Numbers) (least : Least) (counts : ℕ → ℕ) (e tail i j : ℕ) : Type 0 where
+pub record IsChosen (power : PowerModel) (g : Graph) (l : Loops) (w : ℕ → ℕ) (n : Numbers) (least : Charged) (counts : ℕ → ℕ) (e tail i j : ℕ) : Type 0 where
   pub lower : j < i
   pub inside : g.callee e ≡ None
   pub target : ℕ
   pub leads : g.target e ≡ Some target
   pub in_time : IsInTime power g l w n counts e tail i j
-  pub paying : IsPaying power least target tail i j
+  pub paying : IsPaying power g l least e tail i j
 
 -- The marks on each edge store the level that was there, or one that may be chosen, as long as the counters of the loops round the edge's source hold
 -- their counts, within the bounds.
-pub record AreTables (power : PowerModel) (t : Text) (code : Code) (l : Loops) (sites : List Site) (counted : ℕ → Bool) (word : ℕ → ℕ) (n : Numbers) (least : Least) : Type 0 where
+pub record AreTables (power : PowerModel) (t : Text) (code : Code) (l : Loops) (sites : List Site) (counted : ℕ → Bool) (word : ℕ → ℕ) (n : Numbers) (least : Charged) : Type 0 where
   pub chosen : (e : ℕ) (class : Class) → e < (text_graph t code).edges → edge_class t (slice_get code.edges e) ≡ Some class → (h : Shadow) (counts : ℕ → ℕ) (j : ℕ) → h.level < length power.levels → AreWithin l counts
       → ((k : ℕ) → k < l.loops → counted k ≡ true → l.inside k ((text_graph t code).source e) ≡ true → h.counters (word k) ≡ counts k)
       → level_stored (fragments_by (place_at sites (edge_at (slice_get code.edges e))) class) h ≡ Some j

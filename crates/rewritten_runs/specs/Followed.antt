@@ -75,6 +75,8 @@ pub record SwitchesPay (power : PowerModel) (stored : Image) (input : List ℕ) 
 -- step of it leaves a higher level than was there before it; and where it exits its switches pay.
 pub record EndsInTime (power : PowerModel) (original stored : Image) (bound : ℕ) (input : List ℕ) (n : ℕ) : Type 0 where
   pub after : ℕ
+  pub from : n ≤ after
+  pub to : after ≤ n + bound
   pub standing : (run_of stored (length power.levels) input after).standing ≡ (run_of original (length power.levels) input n).standing
   pub output : (run_of stored (length power.levels) input after).state.output ≡ (run_of original (length power.levels) input n).state.output
   pub steps_from : length (run_of original (length power.levels) input n).steps ≤ length (run_of stored (length power.levels) input after).steps

@@ -15,9 +15,11 @@ use Rattle.rewritten_runs.specs.Prices.{price_of}
 -- The original run on an input has exited with a status after n steps; the stored run so exits too, at most so many steps later.
 pub record EndsAsPromised (power : PowerModel) (original stored : Image) (bound : ℕ) (input : List ℕ) (n status : ℕ) : Type 0 where
   pub after : ℕ
+  pub from : n ≤ after
+  pub to : after ≤ n + bound
   pub exits : (run_of stored (length power.levels) input after).standing ≡ HasExited status
   pub output : (run_of stored (length power.levels) input after).state.output ≡ (run_of original (length power.levels) input n).state.output
-  -- its steps, and its cycles, are those of the original run and at most so many more
+  -- its completed steps, and its cycles, are as many as those of the original run and at most so many more
   pub steps_from : length (run_of original (length power.levels) input n).steps ≤ length (run_of stored (length power.levels) input after).steps
   pub steps_to : length (run_of stored (length power.levels) input after).steps ≤ length (run_of original (length power.levels) input n).steps + bound
   pub cycles : (price_of power stored input after).cycles ≤ (price_of power original input n).cycles + bound

@@ -13,7 +13,7 @@ use Rattle.power_model.specs.Numbers.{PowerModel}
 use Rattle.power_model.specs.Price.{cycles_of}
 use Rattle.cost_theory.specs.Graph.{Loops, sum_below, only}
 use Rattle.cost_theory.specs.Worst.{Numbers, AreNumbers}
-use Rattle.cost_theory.specs.Least.{Least, AreLeast}
+use Rattle.least_laws.specs.Charged.{Charged, AreCharged, to_end_after}
 use Rattle.cost_theory.specs.Reached.{Code, edge_at}
 use Rattle.graph_runs.specs.Text.{text_of}
 use Rattle.graph_runs.specs.EdgeCosts.{edge_class, weights}
@@ -56,11 +56,11 @@ abbrev pub tail_at : PowerModel → (ℕ → List Mark) → ℕ → ℕ
 tail_at power marked e = tail_of power.costs (marked e)
 
 -- what an edge tells its switch, by the numbers and the least cycles under the stored weights
-abbrev pub told_at : PowerModel → Image → FlowGraph → LoopView → (ℕ → List Mark) → Numbers → Least → ℕ → tables.EdgeNumbers
+abbrev pub told_at : PowerModel → Image → FlowGraph → LoopView → (ℕ → List Mark) → Numbers → Charged → ℕ → tables.EdgeNumbers
 told_at power image v t marked n least e = record {
   slack = slack_at (graph v) (loops v t) (stored_weights power image v marked) n e;
   left = rest_at (graph v) (loops v t) n e + tail_at power marked e;
-  least = option_map (λ z. z + tail_at power marked e) (option_and_then least.to_end ((graph v).target e));
+  least = option_map (λ z. z + tail_at power marked e) (to_end_after (graph v) (loops v t) least e);
 }
 
 -- the loop of a shadow counter
@@ -76,7 +76,7 @@ fragment_of power l counted n told (marks.Reset counter) = fragments.Reset count
 fragment_of power l counted n told (marks.Count counter) = fragments.Count counter
 
 -- by edge, its fragments
-abbrev pub fragments_at : PowerModel → Image → FlowGraph → LoopView → (ℕ → List Mark) → Numbers → Least → ℕ → List Fragment
+abbrev pub fragments_at : PowerModel → Image → FlowGraph → LoopView → (ℕ → List Mark) → Numbers → Charged → ℕ → List Fragment
 fragments_at power image v t marked n least e =
     map (fragment_of power (loops v t) (counted_loops t) n (told_at power image v t marked n least e)) (marked e)
 
@@ -143,8 +143,8 @@ pub record IsWeighed (power : PowerModel) (image : Image) (notes : List LoopNote
 
 -- Its stubs, too: the least cycles under the stored weights, which the tables need, the numbers under the extra weights, and the marked instructions with the
 -- place of their block. A block that is too long for any place is looked for one of 4,194,304 bytes: its last stub is out of reach.
-pub record HasStubs (power : PowerModel) (image : Image) (v : FlowGraph) (t : LoopView) (plain stored extra : Numbers) (least : Least) (sites : List Site) (base : ℕ) : Type 0 where
-  pub least_are : AreLeast (graph v) (stored_weights power image v (marks_by_slack power image v t plain)) least
+pub record HasStubs (power : PowerModel) (image : Image) (v : FlowGraph) (t : LoopView) (plain stored extra : Numbers) (least : Charged) (sites : List Site) (base : ℕ) : Type 0 where
+  pub least_are : AreCharged (graph v) (loops v t) (stored_weights power image v (marks_by_slack power image v t plain)) least
   pub extra_are : AreNumbers (graph v) (loops v t) (extra_weights power v (marks_by_slack power image v t plain)) extra
   pub sites_are : AreSitesOf image v.code (fragments_at power image v t (marks_by_slack power image v t plain) stored least) sites
   pub base_is : IsStubBase image (min (block_size sites) 4194304) base

@@ -3,7 +3,7 @@ use Rattle.std.specs.Prelude.{◌≡◌, ◌≢◌, ℕ, ◌*◌, ◌^◌, ◌<�
 use Rattle.scale_base.specs.declared.fragments.Fragment.{Fragment}
 use Rattle.scale_base.specs.Image.{Image}
 use Rattle.power_model.specs.Numbers.{PowerModel}
-use Rattle.cost_theory.specs.Least.{Least}
+use Rattle.least_laws.specs.Charged.{Charged, to_end_after}
 use Rattle.cost_theory.specs.declared.edges.Edge.{Edge}
 use Rattle.cost_theory.specs.Worst.{Numbers}
 use Rattle.code_graph.specs.FlowGraph.{FlowGraph, graph, IsGraphOf}
@@ -21,7 +21,7 @@ use Rattle.scaler.specs.declared.stubs.Marking.{Marking}
 use Rattle.scaler.specs.declared.stubs.Told.{Told}
 
 -- the marks by the plain numbers, the numbers under the stored weights, and the least cycles, all in range
-pub record IsMarking (power : PowerModel) (image : Image) (v : FlowGraph) (t : LoopView) (plain stored : Numbers) (least : Least) (m : Marking) : Type 0 where
+pub record IsMarking (power : PowerModel) (image : Image) (v : FlowGraph) (t : LoopView) (plain stored : Numbers) (least : Charged) (m : Marking) : Type 0 where
   pub code : IsGraphOf (text_of image) v
   pub tree : (extent : ℕ → ℕ → Bool) × IsLoopTree v extent t
   pub counters : m.counters ≡ counted_loops t
@@ -33,19 +33,19 @@ pub record IsMarking (power : PowerModel) (image : Image) (v : FlowGraph) (t : L
   pub iterations_size : length m.worst.iteration ≡ length t.headers
   pub left : HoldsLeft v (loops v t) (stored_weights power image v (marks_by_slack power image v t plain)) stored m.worst
   pub iteration : (k : ℕ) → k < length t.headers → slice_get m.worst.iteration k ≡ Some (stored.iteration k)
-  pub ends_size : length m.least ≡ length v.code.nodes
-  pub ends : (k at : ℕ) → slice_get v.code.nodes k ≡ Some at → slice_get m.least k ≡ Some (least.to_end at)
+  pub after_size : length m.least.after ≡ length v.code.edges
+  pub after : (e : ℕ) → e < length v.code.edges → slice_get m.least.after e ≡ Some (to_end_after (graph v) (loops v t) least e)
   pub slack_small : (e : ℕ) → e < length v.code.edges → slack_at (graph v) (loops v t) (stored_weights power image v (marks_by_slack power image v t plain)) stored e ≤ 2 ^ 50
   pub rest_small : (e : ℕ) → e < length v.code.edges → rest_at (graph v) (loops v t) stored e ≤ 2 ^ 48
   pub turns_small : (k : ℕ) → k < length t.headers → (loops v t).bound k * stored.iteration k ≤ 2 ^ 48
-  pub ends_small : (at z : ℕ) → least.to_end at ≡ Some z → z < 2 ^ 89
+  pub after_small : (e z : ℕ) → e < length v.code.edges → to_end_after (graph v) (loops v t) least e ≡ Some z → z < 2 ^ 89
 
 abbrev pub HasMarking : PowerModel → FlowGraph → LoopView → Marking → Type 0
-HasMarking power v t m = (image : Image) × (plain : Numbers) × (stored : Numbers) × (least : Least) × IsMarking power image v t plain stored least m
+HasMarking power v t m = (image : Image) × (plain : Numbers) × (stored : Numbers) × (least : Charged) × IsMarking power image v t plain stored least m
 
 -- what is found, whatever the numbers of the marking
-abbrev pub Whichever : PowerModel → FlowGraph → LoopView → Marking → (Image → Numbers → Numbers → Least → Type 0) → Type 0
-Whichever power v t m P = (image : Image) (plain stored : Numbers) (least : Least) → IsMarking power image v t plain stored least m → P image plain stored least
+abbrev pub Whichever : PowerModel → FlowGraph → LoopView → Marking → (Image → Numbers → Numbers → Charged → Type 0) → Type 0
+Whichever power v t m P = (image : Image) (plain stored : Numbers) (least : Charged) → IsMarking power image v t plain stored least m → P image plain stored least
 
 abbrev pub told_view : Told → tables.EdgeNumbers
 told_view x = record { slack = x.slack; left = x.left; least = x.least }

@@ -13,7 +13,7 @@ use Rattle.machine_file.specs.Machine.{read_machine}
 use Rattle.loop_file.specs.declared.notes.LoopNote.{LoopNote}
 use Rattle.loop_file.specs.Loops.{read_loops}
 use Rattle.cost_theory.specs.Worst.{Numbers}
-use Rattle.cost_theory.specs.Least.{Least}
+use Rattle.least_laws.specs.Charged.{Charged}
 use Rattle.graph_runs.specs.Text.{text_of}
 use Rattle.code_graph.specs.FlowGraph.{FlowGraph, IsGraphOf}
 use Rattle.loop_tree.specs.Tree.{LoopView, IsTreeOf}
@@ -83,7 +83,7 @@ pub record IsProgramRewritten (power : PowerModel) (image : Image) (notes : List
   pub plain : Numbers
   pub stored : Numbers
   pub extra : Numbers
-  pub least : Least
+  pub least : Charged
   pub sites : List Site
   pub base : ℕ
   pub start : ℕ

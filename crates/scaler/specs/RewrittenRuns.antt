@@ -1,13 +1,15 @@
 -- What a rewritten image promises, over the bytes of files.
-use Rattle.std.specs.Prelude.{◌≡◌, ℕ, List, length, Ok}
+use Rattle.std.specs.Prelude.{◌≡◌, ℕ, ◌≤◌, List, length, Some, Ok}
+use Rattle.scale_base.specs.declared.ranges.Keyed.{Keyed}
 use Rattle.scale_base.specs.declared.summary.Summary.{Summary}
 use Rattle.scale_base.specs.Image.{Image, image_of}
 use Rattle.power_model.specs.Numbers.{PowerModel}
+use Rattle.power_model.specs.Price.{time_at}
 use Rattle.machine_file.specs.Machine.{read_machine}
 use Rattle.loop_file.specs.declared.notes.LoopNote.{LoopNote}
 use Rattle.loop_file.specs.Loops.{read_loops}
 use Rattle.cost_theory.specs.Worst.{Numbers}
-use Rattle.cost_theory.specs.Least.{Least}
+use Rattle.least_laws.specs.Charged.{Charged}
 use Rattle.code_graph.specs.FlowGraph.{FlowGraph}
 use Rattle.loop_tree.specs.Tree.{LoopView}
 use Rattle.stub_writer.specs.Stubs.{Site}
@@ -26,13 +28,20 @@ pub record IsRewrittenSafely (image machine loop_file stored : List ℕ) (summar
   pub original_is : image_of image ≡ Ok original
   pub notes_are : read_loops original loop_file ≡ Ok notes
   pub rewritten_is : image_of stored ≡ Ok rewritten
+  -- the stored image has the original's text ranges, and its key starts it at the printed level, at which the printed cycles take the printed time
+  pub same_text : rewritten.text ≡ original.text
+  pub key : Keyed
+  pub keyed : rewritten.keyed_segment ≡ Some key
+  pub starts : key.start ≡ summary.start
+  pub time : summary.time ≡ time_at power summary.start summary.worst
+  pub in_time : summary.time ≤ power.deadline
   pub promise : KeepsThePromise power original notes rewritten summary.stub_cycles
   pub code : FlowGraph
   pub tree : LoopView
   pub plain : Numbers
   pub numbers : Numbers
   pub extra : Numbers
-  pub least : Least
+  pub least : Charged
   pub sites : List Site
   pub base : ℕ
   pub weighed : IsWeighed power original notes code tree plain numbers

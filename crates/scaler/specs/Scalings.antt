@@ -8,7 +8,7 @@ use Rattle.power_model.specs.Price.{time_at}
 use Rattle.power_model.specs.Slowest.{slowest_of, fastest}
 use Rattle.elf_patch.specs.Stored.{IsStubBase}
 use Rattle.cost_theory.specs.Worst.{Numbers, AreNumbers}
-use Rattle.cost_theory.specs.Least.{Least, AreLeast}
+use Rattle.least_laws.specs.Charged.{Charged, AreCharged}
 use Rattle.code_graph.specs.FlowGraph.{FlowGraph, graph}
 use Rattle.loop_tree.specs.Tree.{LoopView, loops}
 use Rattle.scale_sites.specs.Sites.{SitesView, is_branch, marks_at_edge}
@@ -47,10 +47,10 @@ starting_level power worst = starting_of power worst (slowest_of power worst)
 
 -- ---- the numbers
 
-pub record IsMarkedAt (power : PowerModel) (image : Image) (v : FlowGraph) (t : LoopView) (plain stored : Numbers) (least : Least) (m : Marking) (start : ℕ) : Type 0 where
+pub record IsMarkedAt (power : PowerModel) (image : Image) (v : FlowGraph) (t : LoopView) (plain stored : Numbers) (least : Charged) (m : Marking) (start : ℕ) : Type 0 where
   pub plain_are : AreNumbers (graph v) (loops v t) (plain_weights power image v) plain
   pub stored_are : AreNumbers (graph v) (loops v t) (stored_weights power image v (marks_by_slack power image v t plain)) stored
-  pub least_are : AreLeast (graph v) (stored_weights power image v (marks_by_slack power image v t plain)) least
+  pub least_are : AreCharged (graph v) (loops v t) (stored_weights power image v (marks_by_slack power image v t plain)) least
   pub marks : HasMarks power image v t plain m.sites
   pub marking : IsMarking power image v t plain stored least m
   pub short : stored.worst 0 ≤ 281474976710656
@@ -65,13 +65,13 @@ pub record IsUnfit (power : PowerModel) (image : Image) (v : FlowGraph) (t : Loo
       ((stored.worst 0 ≤ 281474976710656) × (slowest_of power (stored.worst 0) ≡ None) × (refusal ≡ DeadlineMissed (time_at power (fastest power) (stored.worst 0)) power.deadline))
 
 abbrev pub IsMarkingFound : PowerModel → Image → FlowGraph → LoopView → Result (Marking × ℕ) Refusal → Type 0
-IsMarkingFound power image v t (Ok x) = (plain : Numbers) × (stored : Numbers) × (least : Least) × IsMarkedAt power image v t plain stored least x.0 x.1
+IsMarkingFound power image v t (Ok x) = (plain : Numbers) × (stored : Numbers) × (least : Charged) × IsMarkedAt power image v t plain stored least x.0 x.1
 IsMarkingFound power image v t (Err refusal) = (plain : Numbers) × (stored : Numbers) × IsUnfit power image v t plain stored refusal
 
 -- ---- the stubs
 
 -- the marked instructions, in the form that their code is written from
-pub record AreStubsOf (power : PowerModel) (image : Image) (v : FlowGraph) (t : LoopView) (plain stored : Numbers) (least : Least) (stubs : List StubSite) : Type 0 where
+pub record AreStubsOf (power : PowerModel) (image : Image) (v : FlowGraph) (t : LoopView) (plain stored : Numbers) (least : Charged) (stubs : List StubSite) : Type 0 where
   pub few : length stubs ≤ 131072
   pub each : All IsSite stubs
   pub are : AreSitesOf image v.code (fragments_at power image v t (marks_by_slack power image v t plain) stored least) (map site_of stubs)
@@ -95,7 +95,7 @@ IsExtraFound power image v t plain (Err refusal) = ⊥
 
 -- the marking of the program of an image
 abbrev pub IsMarkedProgram : PowerModel → Image → FlowGraph → LoopView → Marking → Type 0
-IsMarkedProgram power image v t m = (notes : List LoopNote) × (plain : Numbers) × (stored : Numbers) × (least : Least) × IsWeighed power image notes v t plain stored × IsMarking power image v t plain stored least m
+IsMarkedProgram power image v t m = (notes : List LoopNote) × (plain : Numbers) × (stored : Numbers) × (least : Charged) × IsWeighed power image notes v t plain stored × IsMarking power image v t plain stored least m
 
 -- what is stored of the program of an image besides its file
 pub record IsScaled (power : PowerModel) (image : Image) (notes : List LoopNote) (s : Scaling) : Type 0 where
@@ -104,7 +104,7 @@ pub record IsScaled (power : PowerModel) (image : Image) (notes : List LoopNote)
   pub plain : Numbers
   pub stored : Numbers
   pub extra : Numbers
-  pub least : Least
+  pub least : Charged
   pub weighed : IsWeighed power image notes code tree plain stored
   pub short : stored.worst 0 ≤ 281474976710656
   pub slow : slowest_of power (stored.worst 0) ≡ Some s.summary.start
@@ -120,4 +120,4 @@ IsScalingFound power image notes (Err refusal) = IsRewrittenProgram power image 
 
 -- its stubs, whatever its numbers
 abbrev pub AreStubsFound : PowerModel → Image → FlowGraph → LoopView → Marking → List StubSite → Type 0
-AreStubsFound power image v t m stubs = (notes : List LoopNote) (plain stored : Numbers) (least : Least) → IsWeighed power image notes v t plain stored → IsMarking power image v t plain stored least m → AreStubsOf power image v t plain stored least stubs
+AreStubsFound power image v t m stubs = (notes : List LoopNote) (plain stored : Numbers) (least : Charged) → IsWeighed power image notes v t plain stored → IsMarking power image v t plain stored least m → AreStubsOf power image v t plain stored least stubs
