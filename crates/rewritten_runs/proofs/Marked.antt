@@ -11,7 +11,7 @@ use Rattle.scale_base.specs.Image.{Image, image_of}
 use Rattle.power_model.specs.Numbers.{PowerModel}
 use Rattle.cost_theory.specs.Graph.{Graph, Loops, is_back, is_header, leaves, goes_back}
 use Rattle.cost_theory.specs.Accepted.{IsProgram}
-use Rattle.cost_theory.specs.Least.{Least}
+use Rattle.least_laws.specs.Charged.{Charged}
 use Rattle.cost_theory.specs.Worst.{Numbers}
 use Rattle.cost_theory.specs.Reached.{Code, edge_at}
 use Rattle.cost_theory.proofs.Nesting.{accepted_entered, header_held}
@@ -223,7 +223,7 @@ module _ (power : PowerModel) (image : Image) (notes : List LoopNote) (v : FlowG
 
   -- ---- what the fragments do to the counters
 
-  module _ (sites : List Site) (least : Least) (ways : (e : ℕ) (class : Class) → e < length code.edges → edge_class t (slice_get code.edges e) ≡ Some class → fragments_by (place_at sites (edge_at (slice_get code.edges e))) class ≡ fragments_at power image v tree marked stored least e) where
+  module _ (sites : List Site) (least : Charged) (ways : (e : ℕ) (class : Class) → e < length code.edges → edge_class t (slice_get code.edges e) ≡ Some class → fragments_by (place_at sites (edge_at (slice_get code.edges e))) class ≡ fragments_at power image v tree marked stored least e) where
     behind : (e : ℕ) (class : Class) → e < length code.edges → edge_class t (slice_get code.edges e) ≡ Some class → (c : ℕ → ℕ) (w : ℕ) → counters_behind (fragments_by (place_at sites (edge_at (slice_get code.edges e))) class) c w ≡ through w (marked e) (c w)
     behind e class lt is c w = ap (λ fs. counters_behind fs c w) (ways e class lt is) ∙ all_act power l counted stored (told_at power image v tree marked stored least e) (marked e) c w
 

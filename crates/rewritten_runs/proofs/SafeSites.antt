@@ -19,7 +19,7 @@ use Rattle.cost_theory.specs.declared.edges.Edge.{Edge}
 use Rattle.cost_theory.specs.declared.edges.EdgeKind.TheVariants.{Taken, Untaken, Jump}
 use Rattle.cost_theory.specs.declared.edges.Word.TheVariants as words
 use Rattle.cost_theory.specs.Graph.{Graph, Loops}
-use Rattle.cost_theory.specs.Least.{Least}
+use Rattle.least_laws.specs.Charged.{Charged}
 use Rattle.cost_theory.specs.Worst.{Numbers}
 use Rattle.cost_theory.specs.Reached.{Code, Reached, LeadsTo, edges_of, call_returns, edge_at}
 use Rattle.cost_theory.proofs.Programs.{source_reached}
@@ -89,7 +89,7 @@ place_of_site (s ∷ sites) up (suc k) d lt =
     ap (λ b. cond b (Some s.place) (place_at sites site.at)) off ∙ place_of_site sites up.1 k d (omega arith)
 
 module _ (power : PowerModel) (ok : IsPowerModel power) (image : Image) (notes : List LoopNote) (v : FlowGraph) (tree : LoopView) (plain stored : Numbers) (weighed : IsWeighed power image notes v tree plain stored)
-    (least : Least) (sites : List Site) (are : AreSitesOf image v.code (fragments_at power image v tree (marks_by_slack power image v tree plain) stored least) sites)
+    (least : Charged) (sites : List Site) (are : AreSitesOf image v.code (fragments_at power image v tree (marks_by_slack power image v tree plain) stored least) sites)
     (few_marks : (e : ℕ) → e < length v.code.edges → length (marks_by_slack power image v tree plain e) ≤ 17) where
   abbrev t : Text
   t = text_of image

@@ -15,7 +15,7 @@ use Rattle.power_model.specs.declared.power.Costs.{Costs}
 use Rattle.power_model.specs.Numbers.{PowerModel}
 use Rattle.power_model.specs.Price.{cycles_of}
 use Rattle.cost_theory.specs.Graph.{Graph, Loops, any_below, only}
-use Rattle.cost_theory.specs.Least.{Least}
+use Rattle.least_laws.specs.Charged.{Charged}
 use Rattle.cost_theory.specs.Worst.{Numbers}
 use Rattle.cost_theory.specs.Reached.{Code, edge_at}
 use Rattle.cost_theory.proofs.Basics.{search_below}
@@ -98,7 +98,7 @@ any_from (suc n) q k lt2 h = ⊎_elim
     (cases_lt k n)
 
 module _ (power : PowerModel) (image : Image) (notes : List LoopNote) (v : FlowGraph) (tree : LoopView) (plain stored : Numbers) (weighed : IsWeighed power image notes v tree plain stored)
-    (least : Least) (sites : List Site) (are : AreSitesOf image v.code (fragments_at power image v tree (marks_by_slack power image v tree plain) stored least) sites) where
+    (least : Charged) (sites : List Site) (are : AreSitesOf image v.code (fragments_at power image v tree (marks_by_slack power image v tree plain) stored least) sites) where
   abbrev t : Text
   t = text_of image
 
