@@ -16,7 +16,6 @@ use Rattle.cost_theory.specs.Laws.{IsAnalyzed}
 use Rattle.cost_theory.specs.Reached.{Code, edge_at}
 use Rattle.cost_theory.specs.Steps as steps
 use Rattle.cost_theory.specs.Steps.Move.{Along, Call, Return, Exit}
-use Rattle.cost_theory.proofs.Law.{IsSound}
 use Rattle.cost_theory.proofs.Runs.{sound_run, sound_after, step_law}
 use Rattle.cost_theory.proofs.StepLaws.{along_at, behind-rest}
 use Rattle.cost_theory.proofs.OrdersExist.{call_order}

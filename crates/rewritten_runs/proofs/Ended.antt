@@ -1,5 +1,5 @@
 -- Runs that have ended: they stay as they are, and have completed their steps by then.
-use Rattle.std.proofs.Common.{◌≡◌, ℕ, zero, suc, ◌+◌, ◌≤◌, List, [], ◌∷◌, ◌++◌, length, length-append, refl, sym, ap, subst, arith}
+use Rattle.std.proofs.Common.{◌≡◌, ℕ, zero, suc, ◌+◌, ◌≤◌, List, [], ◌∷◌, length, length-append, refl, sym, ap, subst, arith}
 use Rattle.scale_base.specs.declared.stepping.Stepped.{Stepped}
 use Rattle.scale_base.specs.declared.stepping.StepEnd.{StepEnd}
 use Rattle.scale_base.specs.declared.stepping.StepEnd.TheVariants.{Went, Exited, Trapped}

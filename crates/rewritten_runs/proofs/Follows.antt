@@ -1,15 +1,14 @@
 -- What is supplied makes the stored run follow the original, and keep the promise.
-use Rattle.std.proofs.Common.{◌≡◌, ◌≢◌, ℕ, zero, suc, ◌+◌, ◌-◌, ◌*◌, ◌<◌, ◌≤◌, Bool, true, false, ◌&&◌, List, [], length, map, slice_index, refl, sym, ap, ◌∙◌, subst, arith, Option, Some, None, inl, inr, eqb-true, eq-eqb}
+use Rattle.std.proofs.Common.{◌≡◌, ◌≢◌, ℕ, ◌+◌, ◌-◌, ◌*◌, ◌<◌, ◌≤◌, Bool, true, false, ◌&&◌, List, [], length, map, slice_index, sym, ap, ◌∙◌, subst, arith, Some, inl, inr, eqb-true, eq-eqb}
 use Rattle.std.specs.Prelude.{nat_eq}
 use Rattle.std.specs.List.{sum_by, list_any}
 use Rattle.std.proofs.lemmas.Bool.{and_from, and_parts, both_ways, false_from_ne_true}
 use Rattle.std.proofs.lemmas.List.{length-map}
 use Rattle.scale_base.specs.declared.stepping.Class.{Class}
 use Rattle.scale_base.specs.declared.stepping.Class.TheVariants as class
-use Rattle.scale_base.specs.declared.stepping.Stepped.{Stepped}
-use Rattle.scale_base.specs.Image.{Image, image_of, is_in as in_range}
+use Rattle.scale_base.specs.Image.{Image, is_in as in_range}
 use Rattle.scale_base.specs.Layout.{layout_of, is_keyed}
-use Rattle.scale_base.specs.Run.{Run, Standing, GoesOn, HasExited, HasTrapped, run, run_of, setting_of, start_of, starting_level}
+use Rattle.scale_base.specs.Run.{Run, GoesOn, HasExited, run_of, setting_of, start_of, starting_level}
 use Rattle.scale_base.proofs.RunLaws.{run_stays}
 use Rattle.power_model.specs.Numbers.{PowerModel, IsPowerModel}
 use Rattle.power_model.specs.Numbers.{Numbers as Metered}
@@ -20,24 +19,24 @@ use Rattle.least_laws.specs.Charged.{Charged}
 use Rattle.cost_theory.specs.Worst.{Numbers}
 use Rattle.cost_theory.specs.Steps as steps
 use Rattle.cost_theory.proofs.Basics.{search_below}
-use Rattle.graph_runs.specs.Text.{Text, text_of, kind_at}
-use Rattle.graph_runs.specs.RunMoves.{text_graph, after_moves, after_call, StandsBy}
+use Rattle.graph_runs.specs.Text.{Text, text_of}
+use Rattle.graph_runs.specs.RunMoves.{text_graph, after_moves, StandsBy}
 use Rattle.graph_runs.specs.KeptSteps.{Carried, by_extents}
-use Rattle.graph_runs.specs.KeptRuns.{kept_of, KeptAt, IsKeptRun, ExitsBy}
+use Rattle.graph_runs.specs.KeptRuns.{kept_of, KeptAt, ExitsBy}
 use Rattle.graph_runs.proofs.Images.{text_of_layout}
 use Rattle.graph_runs.proofs.Lengths.{going_length}
 use Rattle.graph_runs.proofs.MoveLaws.{kind_facts}
 use Rattle.graph_runs.proofs.Programs.{image_runs_are_below, image_runs_end}
 use Rattle.code_graph.specs.FlowGraph.{FlowGraph, graph}
 use Rattle.loop_file.specs.declared.notes.LoopNote.{LoopNote}
-use Rattle.loop_file.specs.Kept.{noted_loops, IsKeptUpTo}
+use Rattle.loop_file.specs.Kept.{noted_loops}
 use Rattle.loop_tree.specs.Tree.{LoopView, loops}
 use Rattle.stub_writer.specs.Fragments.{IsShadow}
 use Rattle.stub_writer.specs.Stubs.{Site}
 use Rattle.stored_runs.specs.Marks.{shadow_first, shadow_after}
-use Rattle.stored_runs.specs.Legs.{Leg, originals, all_steps, steps_to, Meets, Holds}
+use Rattle.stored_runs.specs.Legs.{Leg, originals, steps_to}
 use Rattle.stored_runs.specs.Laws.{text_steps}
-use Rattle.stored_runs.proofs.Frame.{IsFrame, frame}
+use Rattle.stored_runs.proofs.Frame.{frame}
 use Rattle.stored_runs.proofs.LegLaws.{text_of_legs}
 use Rattle.stored_runs.proofs.Meetings.{meetings_once}
 use Rattle.marked_runs.specs.Marked.{IsKeptFollowed, AreHeld}
@@ -48,7 +47,7 @@ use Rattle.paid_runs.specs.Timely.{weights_of, IsPaidRun}
 use Rattle.paid_runs.proofs.Paid.{runs_paid, stubs_bounded}
 use Rattle.rewritten_runs.specs.Prices.{price_of}
 use Rattle.rewritten_runs.specs.Stubs.{stored_weights, marks_by_slack, is_counted, counter_of}
-use Rattle.rewritten_runs.specs.Promise.{EndsAsPromised, KeepsThePromise}
+use Rattle.rewritten_runs.specs.Promise.{KeepsThePromise}
 use Rattle.rewritten_runs.specs.Followed.{place_of, ShowsCounts, IsMeeting, MeetsInTime, HasEnded, SwitchesPay, EndsInTime, FollowsInTime}
 use Rattle.rewritten_runs.proofs.Ended.{over_stays, taken, taken_within}
 use Rattle.rewritten_runs.proofs.Supplied.{IsSupplied}

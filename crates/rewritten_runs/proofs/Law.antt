@@ -1,13 +1,10 @@
 -- A rewritten image follows the original in time, and keeps the promise.
-use Rattle.std.proofs.Common.{◌≡◌, ◌≢◌, ℕ, zero, suc, ◌+◌, ◌*◌, ◌^◌, ◌<◌, ◌≤◌, ◌⊎◌, inl, inr, Bool, true, false, List, [], ◌∷◌, map, length, slice_get, Option, Some, None, Ok, refl, sym, ap, ◌∙◌, subst, arith}
+use Rattle.std.proofs.Common.{◌≡◌, ℕ, zero, suc, ◌+◌, ◌*◌, ◌<◌, ◌≤◌, ◌⊎◌, inl, inr, Bool, true, false, List, [], ◌∷◌, length, slice_get, Option, Some, None, Ok, refl, sym, ap, ◌∙◌, subst, arith}
 use Rattle.std.specs.Prelude.{All, IsTrue, min, find, nat_le}
 use Rattle.std.specs.List.{range_with_len, list_any}
-use Rattle.std.proofs.lemmas.Bool.{cases_lt}
-use Rattle.std.proofs.lemmas.List.{length-map}
 use Rattle.std.proofs.lemmas.List.Elements.{All-nil, All-cons}
 use Rattle.std.proofs.lemmas.Option.{get_or_from_slice_get}
 use Rattle.scale_base.specs.declared.ranges.Keyed.{Keyed}
-use Rattle.scale_base.specs.declared.ranges.Patch.{Patch}
 use Rattle.scale_base.specs.Image.{Image, image_of, contents, is_in, is_word_address}
 use Rattle.scale_base.specs.Layout.{layout_of, is_keyed}
 use Rattle.scale_base.specs.Word.{word_of}
@@ -19,8 +16,7 @@ use Rattle.elf_patch.specs.Stored.{stored_image, IsStubBase}
 use Rattle.stored_laws.specs.StoredView.{IsStorable, stored_view}
 use Rattle.stored_laws.proofs.Whole.{law}
 use Rattle.text_laws.proofs.Tests.{found_in, found_passes}
-use Rattle.cost_theory.specs.Graph.{Graph, Loops, sum_below, only}
-use Rattle.cost_theory.specs.Laws.{IsAnalyzed}
+use Rattle.cost_theory.specs.Graph.{Graph, Loops}
 use Rattle.least_laws.specs.Charged.{Charged, AreCharged}
 use Rattle.cost_theory.specs.Worst.{Numbers, AreNumbers}
 use Rattle.cost_theory.specs.Reached.{edge_at}
@@ -33,7 +29,7 @@ use Rattle.loop_file.specs.declared.notes.LoopNote.{LoopNote}
 use Rattle.loop_file.specs.Kept.{noted_loops}
 use Rattle.natural_loops.specs.Noted.{node_address}
 use Rattle.loop_tree.specs.Tree.{LoopView, loops, IsInnermost}
-use Rattle.scale_sites.specs.Counters.{counted_loops, set_from}
+use Rattle.scale_sites.specs.Counters.{counted_loops}
 use Rattle.scale_sites.specs.Marks.{AreLoops}
 use Rattle.scale_sites.specs.Sites.{is_branch}
 use Rattle.stub_writer.specs.Stubs.{Site, block_size, block_bytes, patches_from, stub_len, jump, out_of_reach}
@@ -41,7 +37,7 @@ use Rattle.stored_runs.specs.Stubbed.{IsStubbed, IsSafeSite}
 use Rattle.stored_runs.proofs.Frame.{frame}
 use Rattle.marked_runs.specs.Marked as marked_specs
 use Rattle.marked_runs.proofs.Graphs.{weights_of_calls}
-use Rattle.power_model.specs.Switches.{period, costs_of}
+use Rattle.power_model.specs.Switches.{costs_of}
 use Rattle.paid_runs.specs.Timely.{weights_of}
 use Rattle.rewritten_runs.specs.Laws.{IsSafelyRewritten, RewrittenImagesFollow}
 use Rattle.rewritten_runs.specs.Stubs.{IsWeighed, HasStubs, marks_by_slack, stored_weights, extra_weights, rewritten_file, loop_of}

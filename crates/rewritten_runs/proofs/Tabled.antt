@@ -1,26 +1,22 @@
 -- The levels in the tables of a program meet the tests of time and of payment.
 use Rattle.std.proofs.Common.{◌≡◌, ◌≢◌, ℕ, zero, suc, ◌+◌, ◌-◌, ◌*◌, ◌/◌, ◌^◌, ◌<◌, ◌≤◌, ◌⊎◌, inl, inr, Bool, true, false, nat_le, List, [], ◌∷◌, map, length, slice_get, Option, Some, None, refl, sym, ap, ◌∙◌, subst, arith}
 use Rattle.std.specs.Prelude.{All, slice_index, option_map, is_some}
-use Rattle.std.proofs.lemmas.Bool.Decides.{nat_tests}
 use Rattle.std.proofs.Math.Nat.{mul-le-mul_right}
-use Rattle.scale_base.specs.declared.fragments.Fragment.{Fragment}
-use Rattle.scale_base.specs.declared.stepping.Class.{Class}
-use Rattle.scale_base.specs.Image.{Image, image_of}
+use Rattle.scale_base.specs.Image.{Image}
 use Rattle.power_model.specs.Numbers.{PowerModel, IsPowerModel}
-use Rattle.power_model.specs.Price.{switch_time, switch_energy, cycles_of}
+use Rattle.power_model.specs.Price.{switch_time, switch_energy}
 use Rattle.cost_theory.specs.declared.edges.EdgeKind.TheVariants as kind
 use Rattle.cost_theory.specs.Graph.{Graph, Loops, AreWithin, only, leaves}
 use Rattle.least_laws.specs.Charged.{Charged, to_end_after}
 use Rattle.cost_theory.specs.Worst.{Numbers, cost, slack, rest, turns, left_behind}
-use Rattle.cost_theory.specs.Reached.{Code, edge_at}
+use Rattle.cost_theory.specs.Reached.{Code}
 use Rattle.cost_theory.proofs.Basics.{term-le-sum}
-use Rattle.graph_runs.specs.EdgeCosts.{edge_class}
 use Rattle.graph_runs.specs.RunMoves.{text_graph}
 use Rattle.graph_runs.specs.Text.{Text, text_of}
 use Rattle.code_graph.specs.FlowGraph.{FlowGraph, graph}
 use Rattle.loop_file.specs.declared.notes.LoopNote.{LoopNote}
 use Rattle.loop_tree.specs.Tree.{LoopView, loops}
-use Rattle.worst_cycles.specs.Worst.{slack_at, rest_at}
+use Rattle.worst_cycles.specs.Worst.{rest_at}
 use Rattle.scale_base.specs.declared.fragments.Mark.{Mark}
 use Rattle.scale_base.specs.declared.fragments.Mark.TheVariants as marks
 use Rattle.scale_sites.specs.Counters.{counted_loops, edge_goes_on}
@@ -28,10 +24,9 @@ use Rattle.scale_sites.specs.Sites.{is_branch, edge_branches}
 use Rattle.scale_sites.specs.Weights.{tail_of}
 use Rattle.level_tables.specs.Tables as tables
 use Rattle.stub_writer.specs.Stubs.{Site}
-use Rattle.stored_runs.specs.Marks.{Shadow, place_at, fragments_by, tail_cycles, level_stored}
-use Rattle.shadow_counts.specs.Shadows.{AreCountable}
+use Rattle.stored_runs.specs.Marks.{Shadow, tail_cycles, level_stored}
 use Rattle.power_model.specs.Switches.{period, energy, costs_of}
-use Rattle.paid_runs.specs.Timely.{weights_of, IsInTime, IsPaying, IsChosen, AreTables}
+use Rattle.paid_runs.specs.Timely.{weights_of, IsChosen, AreTables}
 use Rattle.rewritten_runs.specs.Stubs.{IsWeighed, AreSitesOf, marks_by_slack, told_at, tail_at, fragment_of, fragments_at, loop_of, is_counted, counter_of, stored_weights}
 use Rattle.rewritten_runs.proofs.Edges.{call_goes_on}
 use Rattle.rewritten_runs.proofs.Marked.{IsMarkOf, program_is, countable, marked_led, marks_of_edge, counted_is, loop_is}
