@@ -235,6 +235,7 @@ module _ (power : PowerModel) (file : List ℕ) (image : Image) (notes : List Lo
         steps_from = e.from;
         steps_to = e.to;
         cycles = e.cycles;
+        is_level = subst (λ i. i < levels) (sym start_is) s.stubbed.start_is_level;
         in_time = e.in_time;
         falls = e.falls;
         energy = e.energy status exited;
