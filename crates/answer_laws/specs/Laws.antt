@@ -1,0 +1,33 @@
+-- The laws that the answers about one program agree, as statements for the contracts of functions.
+use Rattle.std.specs.Prelude.{◌≡◌, ℕ, List}
+use Rattle.scale_base.specs.declared.refusal.Refusal.{Refusal}
+use Rattle.scale_base.specs.declared.stepping.Class.{Class}
+use Rattle.cost_theory.specs.Worst.{Numbers, AreNumbers}
+use Rattle.cost_theory.specs.Accepted.{AreWeights}
+use Rattle.least_laws.specs.Charged.{Charged, AreCharged}
+use Rattle.graph_runs.specs.Text.{Text}
+use Rattle.graph_runs.specs.EdgeCosts.{weights}
+use Rattle.code_graph.specs.FlowGraph.{FlowGraph, graph, IsFlowGraph, IsGraphOf}
+use Rattle.code_graph.specs.Refused.{IsRefusedBy}
+use Rattle.loop_file.specs.declared.notes.LoopNote.{LoopNote}
+use Rattle.loop_tree.specs.Tree.{LoopView, loops, IsTreeOf, IsTreeRefusal}
+use Rattle.answer_laws.specs.Renumbered.{IsRenumbered}
+use Rattle.answer_laws.specs.Alike.{AreAlikeRefusals, AreAlikeTrees, AreAlikeNumbers, AreAlikeCharged}
+
+-- ---- code
+
+-- a text whose code has a graph is not refused,
+abbrev pub GraphIsNotRefused : Type 0
+GraphIsNotRefused = (t : Text) (v : FlowGraph) (refusal : Refusal) → IsGraphOf t v → IsRefusedBy t refusal → ⊥
+
+-- two refusals of a text are alike,
+abbrev pub CodeRefusalsAgree : Type 0
+CodeRefusalsAgree = (t : Text) (refusal refusal' : Refusal) → IsRefusedBy t refusal → IsRefusedBy t refusal' → AreAlikeRefusals refusal refusal'
+
+-- and two graphs of it differ in the numbers of functions alone,
+abbrev pub GraphsAreRenumbered : Type 0
+GraphsAreRenumbered = (t : Text) (v v' : FlowGraph) → IsGraphOf t v → IsGraphOf t v' → IsRenumbered v v'
+
+-- so that their edges cost the same.
+abbrev pub WeightsAgree : Type 0
+WeightsAgree = (t : Text) (v v' : FlowGraph) (costs : Class → ℕ) → IsRenumbered v v' → weights t v.code costs ≡ weights t v'.code costs
