@@ -31,3 +31,20 @@ GraphsAreRenumbered = (t : Text) (v v' : FlowGraph) → IsGraphOf t v → IsGrap
 -- so that their edges cost the same.
 abbrev pub WeightsAgree : Type 0
 WeightsAgree = (t : Text) (v v' : FlowGraph) (costs : Class → ℕ) → IsRenumbered v v' → weights t v.code costs ≡ weights t v'.code costs
+
+-- ---- loops, over two such graphs
+
+-- loops that have a tree over one graph are not refused over the other,
+abbrev pub TreeIsNotRefused : Type 0
+TreeIsNotRefused = (v v' : FlowGraph) (notes : List LoopNote) (t : LoopView) (refusal : Refusal) → IsRenumbered v v' → IsFlowGraph v →
+    IsTreeOf v notes t → IsTreeRefusal v' notes refusal → ⊥
+
+-- two refusals are alike,
+abbrev pub LoopRefusalsAgree : Type 0
+LoopRefusalsAgree = (v v' : FlowGraph) (notes : List LoopNote) (refusal refusal' : Refusal) → IsRenumbered v v' →
+    IsTreeRefusal v notes refusal → IsTreeRefusal v' notes refusal' → AreAlikeRefusals refusal refusal'
+
+-- and two trees list the same loops.
+abbrev pub TreesAgree : Type 0
+TreesAgree = (v v' : FlowGraph) (notes : List LoopNote) (t t' : LoopView) → IsRenumbered v v' → IsFlowGraph v →
+    IsTreeOf v notes t → IsTreeOf v' notes t' → AreAlikeTrees v v' t t'

@@ -3,7 +3,7 @@
 //! The definitions stand in `specs/`. The laws are the contracts of functions with empty bodies.
 #![tactic(auto)]
 
-ghost use Rattle.answer_laws.specs.Laws.{GraphIsNotRefused, CodeRefusalsAgree, GraphsAreRenumbered, WeightsAgree};
+ghost use Rattle.answer_laws.specs.Laws.{GraphIsNotRefused, CodeRefusalsAgree, GraphsAreRenumbered, WeightsAgree, TreeIsNotRefused, LoopRefusalsAgree, TreesAgree};
 
 /// A text has graphs or refusals of its code, and not both. Two refusals are the same but for the cycle of a recursion; two graphs
 /// are the same but for the numbers of functions.
@@ -12,4 +12,12 @@ pub fn codes_agree()
     ensures refusals { CodeRefusalsAgree }
     ensures graphs { GraphsAreRenumbered }
     ensures weights { WeightsAgree }
+{}
+
+/// Over two such graphs the loops of notes have trees or refusals, and not both. Two refusals are the same but for the cycle that no
+/// loop bounds; two trees list the same loops.
+pub fn loops_agree()
+    ensures not_both { TreeIsNotRefused }
+    ensures refusals { LoopRefusalsAgree }
+    ensures trees { TreesAgree }
 {}
