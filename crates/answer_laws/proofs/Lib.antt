@@ -5,3 +5,5 @@ pub mod SameEdges
 pub mod SameLoops
 pub mod LoopRefusals
 pub mod Trees
+pub mod SameNumbers
+pub mod Alike

@@ -48,3 +48,10 @@ LoopRefusalsAgree = (v v' : FlowGraph) (notes : List LoopNote) (refusal refusal'
 abbrev pub TreesAgree : Type 0
 TreesAgree = (v v' : FlowGraph) (notes : List LoopNote) (t t' : LoopView) → IsRenumbered v v' → IsFlowGraph v →
     IsTreeOf v notes t → IsTreeOf v' notes t' → AreAlikeTrees v v' t t'
+
+-- ---- numbers, over two such graphs, with the loops of notes, under the same weights
+
+-- Two records of numbers hold the same.
+abbrev pub NumbersAreAlike : Type 0
+NumbersAreAlike = (v v' : FlowGraph) (notes : List LoopNote) (t t' : LoopView) (w : ℕ → ℕ) (n n' : Numbers) → (same : IsRenumbered v v') → IsFlowGraph v →
+    IsTreeOf v notes t → IsTreeOf v' notes t' → AreNumbers (graph v) (loops v t) w n → AreNumbers (graph v') (loops v' t') w n' → AreAlikeNumbers v v' t t' same w n n'

@@ -3,7 +3,7 @@
 //! The definitions stand in `specs/`. The laws are the contracts of functions with empty bodies.
 #![tactic(auto)]
 
-ghost use Rattle.answer_laws.specs.Laws.{GraphIsNotRefused, CodeRefusalsAgree, GraphsAreRenumbered, WeightsAgree, TreeIsNotRefused, LoopRefusalsAgree, TreesAgree};
+ghost use Rattle.answer_laws.specs.Laws.{GraphIsNotRefused, CodeRefusalsAgree, GraphsAreRenumbered, WeightsAgree, TreeIsNotRefused, LoopRefusalsAgree, TreesAgree, NumbersAreAlike};
 
 /// A text has graphs or refusals of its code, and not both. Two refusals are the same but for the cycle of a recursion; two graphs
 /// are the same but for the numbers of functions.
@@ -20,4 +20,9 @@ pub fn loops_agree()
     ensures not_both { TreeIsNotRefused }
     ensures refusals { LoopRefusalsAgree }
     ensures trees { TreesAgree }
+{}
+
+/// Under the same weights of edges, programs with such loops have the same worst cycles, iterations, slacks and rests.
+pub fn numbers_agree()
+    ensures { NumbersAreAlike }
 {}
