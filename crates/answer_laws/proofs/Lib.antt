@@ -7,3 +7,4 @@ pub mod LoopRefusals
 pub mod Trees
 pub mod SameNumbers
 pub mod Alike
+pub mod SameCharged

@@ -55,3 +55,8 @@ TreesAgree = (v v' : FlowGraph) (notes : List LoopNote) (t t' : LoopView) → Is
 abbrev pub NumbersAreAlike : Type 0
 NumbersAreAlike = (v v' : FlowGraph) (notes : List LoopNote) (t t' : LoopView) (w : ℕ → ℕ) (n n' : Numbers) → (same : IsRenumbered v v') → IsFlowGraph v →
     IsTreeOf v notes t → IsTreeOf v' notes t' → AreNumbers (graph v) (loops v t) w n → AreNumbers (graph v') (loops v' t') w n' → AreAlikeNumbers v v' t t' same w n n'
+
+-- So do two records of least cycles.
+abbrev pub ChargedAreAlike : Type 0
+ChargedAreAlike = (t : Text) (v v' : FlowGraph) (notes : List LoopNote) (tree tree' : LoopView) (w : ℕ → ℕ) (n n' : Charged) → IsGraphOf t v → IsRenumbered v v' →
+    IsTreeOf v notes tree → IsTreeOf v' notes tree' → AreWeights (graph v) w → AreCharged (graph v) (loops v tree) w n → AreCharged (graph v') (loops v' tree') w n' → AreAlikeCharged v v' tree tree' n n'

@@ -3,7 +3,7 @@
 //! The definitions stand in `specs/`. The laws are the contracts of functions with empty bodies.
 #![tactic(auto)]
 
-ghost use Rattle.answer_laws.specs.Laws.{GraphIsNotRefused, CodeRefusalsAgree, GraphsAreRenumbered, WeightsAgree, TreeIsNotRefused, LoopRefusalsAgree, TreesAgree, NumbersAreAlike};
+ghost use Rattle.answer_laws.specs.Laws.{GraphIsNotRefused, CodeRefusalsAgree, GraphsAreRenumbered, WeightsAgree, TreeIsNotRefused, LoopRefusalsAgree, TreesAgree, NumbersAreAlike, ChargedAreAlike};
 
 /// A text has graphs or refusals of its code, and not both. Two refusals are the same but for the cycle of a recursion; two graphs
 /// are the same but for the numbers of functions.
@@ -25,4 +25,9 @@ pub fn loops_agree()
 /// Under the same weights of edges, programs with such loops have the same worst cycles, iterations, slacks and rests.
 pub fn numbers_agree()
     ensures { NumbersAreAlike }
+{}
+
+/// They have the same least cycles, at each node and behind each edge.
+pub fn least_cycles_agree()
+    ensures { ChargedAreAlike }
 {}
