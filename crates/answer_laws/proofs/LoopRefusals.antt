@@ -1,10 +1,10 @@
 -- The loops of notes over one graph: they are listed or refused, and two refusals are alike.
-use Rattle.std.proofs.Common.{◌≡◌, ◌≢◌, ℕ, ◌+◌, ◌<◌, ◌≤◌, Bool, true, false, ◌&&◌, List, map, length, Option, Some, None, refl, sym, ap, ◌∙◌, subst, arith, ⊎_elim, ◌⊎◌, inl, inr, nat_eq, eqb-true}
+use Rattle.std.proofs.Common.{◌≡◌, ℕ, ◌+◌, ◌<◌, ◌≤◌, Bool, true, false, ◌&&◌, List, length, Option, Some, None, refl, sym, ap, ◌∙◌, subst, arith, ⊎_elim, ◌⊎◌, inl, inr, nat_eq, eqb-true}
 use Rattle.std.specs.Prelude.{slice_index}
 use Rattle.std.proofs.lemmas.List.{length-map, get_or-map}
 use Rattle.scale_base.specs.declared.refusal.Refusal.{Refusal}
 use Rattle.scale_base.specs.declared.refusal.Refusal.TheVariants.{HeaderNotReached, SameHeader, NoBackEdge, SideEntry, TooDeep}
-use Rattle.cost_theory.specs.Graph.{Graph, Loops, sum_below, only, is_header, is_back, IsPlain}
+use Rattle.cost_theory.specs.Graph.{Loops, sum_below, only, is_header, is_back, IsPlain}
 use Rattle.cost_theory.specs.Accepted.{IsNode, IsInBody, AreEntered, IsTooDeep, IsPlainOrder}
 use Rattle.cost_theory.proofs.Basics.{and_left, and_right, sum-same}
 use Rattle.cost_theory.proofs.Nesting.{accepted_entered}
@@ -13,8 +13,8 @@ use Rattle.code_graph.specs.FlowGraph.{FlowGraph, graph, IsFlowGraph}
 use Rattle.code_graph.proofs.Lists.{less_same_more}
 use Rattle.loop_file.specs.declared.notes.LoopNote.{LoopNote}
 use Rattle.loop_file.specs.Kept.{noted_loops, in_extent, note_at}
-use Rattle.natural_loops.specs.Noted.{header_address, IsBodyNode, HasBackEdge, IsNotedSideEntry, node_address}
-use Rattle.natural_loops.specs.Refused.{IsHeaderRefused, IsPairRefused, AreHeaders, IsBackEdgeRefused, IsEntryRefused, AreNoted, IsDepthRefused, AreLoopsRefused}
+use Rattle.natural_loops.specs.Noted.{header_address, IsBodyNode, IsNotedSideEntry}
+use Rattle.natural_loops.specs.Refused.{IsHeaderRefused, IsPairRefused, IsBackEdgeRefused, IsEntryRefused, AreNoted, IsDepthRefused}
 use Rattle.loop_tree.specs.Tree.{LoopView, loops, IsTreeOf, IsPlainStep, IsCycleRefused, IsTreeRefusal}
 use Rattle.answer_laws.specs.Alike.{AreAlikeRefusals}
 use Rattle.answer_laws.proofs.Numbers.{both_ways, no_cycle}

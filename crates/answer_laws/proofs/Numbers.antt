@@ -1,11 +1,10 @@
 -- Lists of numbers, tests and cycles.
 use Rattle.std.proofs.Common.{◌≡◌, ℕ, zero, suc, ◌+◌, ◌<◌, ◌≤◌, Bool, true, false, List, [], ◌∷◌, map, length, Option, Some, None, option_map, slice_get, refl, sym, ap, ◌∙◌, subst, arith, ⊎_elim, ◌⊎◌, inl, inr}
-use Rattle.std.proofs.lemmas.Option.{slice_get_within, slice_get-map}
+use Rattle.std.proofs.lemmas.Option.{slice_get-map}
 use Rattle.std.proofs.lemmas.List.{length-map}
-use Rattle.std.proofs.lemmas.Bool.{cases_lt}
 use Rattle.call_orders.specs.Arcs.{number_at}
 use Rattle.call_orders.specs.Cycles.{IsCycleBy}
-use Rattle.code_graph.proofs.Lists.{Once, Ascend, some_is}
+use Rattle.code_graph.proofs.Lists.{Ascend, some_is}
 use Rattle.code_graph.proofs.FewWords.{few_once}
 
 -- tests that hold together are the same

@@ -1,24 +1,23 @@
 -- Refusals of code: there is none where it has a graph, and two are alike.
-use Rattle.std.proofs.Common.{◌≡◌, ◌≢◌, ℕ, ◌<◌, ◌≤◌, List, length, slice_get, Option, Some, None, refl, sym, ap, ◌∙◌, subst, arith, ⊎_elim, ◌⊎◌, inl, inr}
+use Rattle.std.proofs.Common.{◌≡◌, ℕ, ◌<◌, ◌≤◌, Some, None, sym, ap, ◌∙◌, subst, arith, ⊎_elim, ◌⊎◌, inl, inr}
 use Rattle.scale_base.specs.declared.refusal.Refusal.{Refusal}
-use Rattle.scale_base.specs.declared.refusal.Refusal.TheVariants.{SharedCode, Recursion}
-use Rattle.cost_theory.specs.Graph.{Graph}
+use Rattle.scale_base.specs.declared.refusal.Refusal.TheVariants.{SharedCode}
 use Rattle.cost_theory.specs.Accepted.{IsCall, IsProgram, IsCallOrder}
-use Rattle.cost_theory.specs.declared.edges.Word.TheVariants.{CallOf, Bad}
-use Rattle.cost_theory.specs.Reached.{Reached, owner_of, edge_at, callee_of, edge_callee, IsCodeOf, HasNoBadWord, HasNoSharedCode}
+use Rattle.cost_theory.specs.declared.edges.Word.TheVariants.{CallOf}
+use Rattle.cost_theory.specs.Reached.{Reached, owner_of, callee_of, HasNoBadWord, HasNoSharedCode}
 use Rattle.cost_theory.specs.Reached.Reached.{called}
 use Rattle.cost_theory.proofs.Nesting.{some_same}
 use Rattle.cost_theory.proofs.OrdersExist as orders
 use Rattle.cost_theory.proofs.Programs.{end_edge, callee_word, callee-is, same_owner}
 use Rattle.graph_runs.specs.Text.{Text, kind_at}
 use Rattle.graph_runs.specs.RunMoves.{text_graph}
-use Rattle.code_graph.specs.FlowGraph.{FlowGraph, graph, IsGraphOf}
+use Rattle.code_graph.specs.FlowGraph.{FlowGraph, IsGraphOf}
 use Rattle.code_graph.specs.Refused.{cause_at, IsLeastRefused, IsLeastShared, Calls, IsRecursion, IsRefusedBy}
 use Rattle.code_graph.proofs.Causes.{fine_cause}
 use Rattle.code_graph.proofs.Lists.{less_same_more, some_is}
 use Rattle.code_graph.proofs.Reaching.{entry_reached}
 use Rattle.answer_laws.specs.Laws.{GraphIsNotRefused, CodeRefusalsAgree}
-use Rattle.answer_laws.specs.Alike.{NameCycles, AreAlikeRefusals}
+use Rattle.answer_laws.specs.Alike.{AreAlikeRefusals}
 use Rattle.answer_laws.proofs.Numbers.{no_cycle}
 
 -- ---- one cause excludes another

@@ -1,20 +1,19 @@
 -- The least cycles of a program over a graph are those over the graph that is numbered anew.
-use Rattle.std.proofs.Common.{◌≡◌, ℕ, ◌+◌, ◌*◌, ◌<◌, ◌≤◌, Bool, true, false, not, ◌&&◌, ◌||◌, List, Option, Some, None, is_some, option_map, unwrap_or, refl, sym, ap, ◌∙◌, subst, ⊎_elim}
+use Rattle.std.proofs.Common.{◌≡◌, ℕ, ◌+◌, ◌*◌, ◌<◌, Bool, false, not, ◌&&◌, ◌||◌, Option, Some, None, is_some, option_map, unwrap_or, refl, sym, ap, ◌∙◌, subst}
 use Rattle.std.proofs.Math.Path.{fun_ext}
 use Rattle.cost_theory.specs.Graph.{Graph, Loops, total, only, any_below, enters}
 use Rattle.cost_theory.specs.Worst.{at_some}
-use Rattle.cost_theory.specs.Accepted.{IsProgram, AreAccepted}
-use Rattle.cost_theory.specs.Least.{IsLeastIfAny, Least, callee_value, least_call, least_cost, IsReturnTo, IsWay, way_cost}
+use Rattle.cost_theory.specs.Least.{IsLeastIfAny, Least, callee_value, least_call, least_cost, IsWay, way_cost}
 use Rattle.cost_theory.specs.Least.{Way}
 use Rattle.cost_theory.specs.Least.Way.{Exits, Returns}
 use Rattle.cost_theory.specs.LeastTurns.{IsRun, turn_step, turn_last, charge}
 use Rattle.cost_theory.proofs.Basics.{sum-same}
-use Rattle.least_laws.specs.Charged.{Charged, calls_so, calls_exit, is_closed, charged_trips, charge_of, charged_cost, leads_on, ends_exit, AreCharged, end_behind, to_end_after, HasPlainReturns}
+use Rattle.least_laws.specs.Charged.{Charged, calls_so, calls_exit, charged_trips, charge_of, charged_cost, leads_on, ends_exit, AreCharged, end_behind, to_end_after, HasPlainReturns}
 use Rattle.least_laws.specs.Laws.{IsCharged, AreAlike}
 use Rattle.least_laws.proofs.Alike.{charged_agree}
 use Rattle.least_laws.proofs.PlainReturns.{plain_returns}
-use Rattle.graph_runs.specs.Text.{Text, kind_at}
-use Rattle.code_graph.specs.FlowGraph.{FlowGraph, graph, IsGraphOf}
+use Rattle.graph_runs.specs.Text.{kind_at}
+use Rattle.code_graph.specs.FlowGraph.{graph}
 use Rattle.loop_file.specs.Kept.{noted_loops}
 use Rattle.loop_tree.specs.Tree.{loops}
 use Rattle.answer_laws.specs.Renumbered.{IsRenumberedGraph}

@@ -1,5 +1,5 @@
 -- A graph that is numbered anew, by the edges of the first: what doesn't go by numbers of functions is then the same by computation.
-use Rattle.std.proofs.Common.{◌≡◌, ◌≢◌, ℕ, ◌<◌, Bool, true, false, List, Option, Some, refl, sym, ap, ◌∙◌, subst, ⊎_elim, ◌⊎◌, inl, inr}
+use Rattle.std.proofs.Common.{◌≡◌, ℕ, ◌<◌, Bool, false, List, Option, Some, sym, ap, ◌∙◌, subst, ⊎_elim, inl, inr}
 use Rattle.cost_theory.specs.Graph.{Graph, Loops}
 use Rattle.cost_theory.specs.declared.edges.Edge.{Edge}
 use Rattle.cost_theory.specs.declared.edges.Word.{Word}

@@ -1,13 +1,12 @@
 -- What is so of the loops of notes over a graph is so of them over the graph that is numbered anew.
-use Rattle.std.proofs.Common.{◌≡◌, ◌≢◌, ℕ, ◌<◌, List, Option, Some, refl, ap, ⊎_elim, ◌⊎◌, inl, inr}
+use Rattle.std.proofs.Common.{◌≡◌, ℕ, ◌<◌, List, Some, refl, ⊎_elim, inl, inr}
 use Rattle.scale_base.specs.declared.refusal.Refusal.{Refusal}
-use Rattle.cost_theory.specs.Graph.{Loops}
 use Rattle.code_graph.specs.FlowGraph.{FlowGraph, graph}
 use Rattle.loop_file.specs.declared.notes.LoopNote.{LoopNote}
 use Rattle.loop_file.specs.Kept.{noted_loops, in_extent, note_at}
 use Rattle.natural_loops.specs.Noted.{header_address, IsBodyNode, HasBackEdge, IsNotedSideEntry}
-use Rattle.natural_loops.specs.Refused.{IsHeaderRefused, IsPairRefused, AreHeaders, IsBackEdgeRefused, IsEntryRefused, IsDepthRefused, AreLoopsRefused}
-use Rattle.loop_tree.specs.Tree.{LoopView, loops, ArePlainOrdered, IsLoopTree, IsLeastTrips, IsTreeOf, IsCycleRefused, IsTreeRefusal}
+use Rattle.natural_loops.specs.Refused.{AreHeaders}
+use Rattle.loop_tree.specs.Tree.{LoopView, loops, IsTreeOf, IsTreeRefusal}
 use Rattle.answer_laws.specs.Renumbered.{IsRenumberedGraph, IsRenumbered}
 use Rattle.answer_laws.proofs.SameEdges.{with_lists, by_lists, body_from, body_to, entry_from, entry_to, entered_from, accepted_from}
 

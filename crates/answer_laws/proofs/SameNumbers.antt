@@ -1,12 +1,11 @@
 -- The numbers of a program over a graph are those over the graph that is numbered anew.
-use Rattle.std.proofs.Common.{◌≡◌, ◌≢◌, ℕ, ◌+◌, ◌-◌, ◌*◌, ◌<◌, ◌≤◌, Bool, true, List, Option, Some, None, is_some, option_map, unwrap_or, refl, sym, ap, ◌∙◌, subst, arith, ⊎_elim, ◌⊎◌, inl, inr}
+use Rattle.std.proofs.Common.{◌≡◌, ℕ, ◌+◌, ◌-◌, ◌*◌, ◌<◌, ◌≤◌, Bool, Option, Some, None, is_some, option_map, refl, sym, ap, ◌∙◌, subst, ⊎_elim, ◌⊎◌, inl, inr}
 use Rattle.std.proofs.Math.Path.{fun_ext}
 use Rattle.cost_theory.specs.Graph.{Graph, Loops, total, sum_below, only, is_round, enters, is_back}
 use Rattle.cost_theory.specs.Worst.{IsGreatest, IsGreatestIfAny, at_some, Numbers, cost, all_of, charged, IsLeft, AreLoopNumbers, IsBoundedWalk, left_at, turn_back, slack, IsReturningCall, turns_round, context_of, IsContext, rest, AreNumbers}
 use Rattle.cost_theory.specs.Accepted.{IsProgram, AreAccepted}
 use Rattle.cost_theory.specs.Laws.{AreSame}
 use Rattle.cost_theory.proofs.Basics.{sum-same}
-use Rattle.cost_theory.proofs.Tables.{greatest_value}
 use Rattle.worst_cycles.specs.Worst.{slack_at, rest_at}
 use Rattle.answer_laws.specs.Renumbered.{IsRenumberedGraph}
 use Rattle.answer_laws.proofs.SameEdges.{with_edges}

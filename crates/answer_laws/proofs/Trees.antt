@@ -1,21 +1,18 @@
 -- The trees of notes list the same loops.
-use Rattle.std.proofs.Common.{◌≡◌, ◌≢◌, ℕ, zero, suc, ◌+◌, ◌<◌, ◌≤◌, Bool, true, false, List, [], ◌∷◌, map, length, Option, Some, None, slice_get, refl, sym, ap, ◌∙◌, subst, arith, ⊎_elim, ◌⊎◌, inl, inr}
+use Rattle.std.proofs.Common.{◌≡◌, ℕ, zero, suc, ◌<◌, ◌≤◌, Bool, List, [], ◌∷◌, map, length, Some, slice_get, refl, sym, ap, ◌∙◌, arith, ⊎_elim}
 use Rattle.std.specs.Prelude.{slice_index}
 use Rattle.std.proofs.Math.Path.{fun_ext}
 use Rattle.std.proofs.lemmas.Bool.{cases_lt, cases_eq}
 use Rattle.std.proofs.lemmas.List.{length-map, ext_get_or}
 use Rattle.std.proofs.lemmas.Option.{slice_get-get_or}
-use Rattle.scale_base.specs.declared.refusal.Refusal.{Refusal}
 use Rattle.cost_theory.specs.Graph.{Loops}
 use Rattle.cost_theory.specs.Lists.{body_of, is_among}
-use Rattle.code_graph.specs.FlowGraph.{FlowGraph, graph, IsFlowGraph}
+use Rattle.code_graph.specs.FlowGraph.{FlowGraph, IsFlowGraph}
 use Rattle.loop_file.specs.declared.notes.LoopNote.{LoopNote}
-use Rattle.loop_file.specs.Kept.{noted_loops, note_at}
+use Rattle.loop_file.specs.Kept.{noted_loops}
 use Rattle.natural_loops.specs.Noted.{node_address}
 use Rattle.natural_loops.proofs.NodeLaws.{one_number}
-use Rattle.loop_tree.specs.Tree.{LoopView, loops, HasWholeExtent, IsLeastTrips, IsTreeOf, IsTreeRefusal}
-use Rattle.answer_laws.specs.Renumbered.{IsRenumbered}
-use Rattle.answer_laws.specs.Alike.{AreAlikeTrees}
+use Rattle.loop_tree.specs.Tree.{LoopView, loops, HasWholeExtent, IsTreeOf}
 use Rattle.answer_laws.specs.Laws.{TreeIsNotRefused, LoopRefusalsAgree, TreesAgree}
 use Rattle.answer_laws.proofs.SameLoops.{tree_moved, refusal_moved, loops_moved}
 use Rattle.answer_laws.proofs.LoopRefusals.{tree_noted, tree_entered, inside_same, tree_not_refused, loop_refusals_alike}
