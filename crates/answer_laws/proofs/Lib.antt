@@ -1,0 +1,10 @@
+pub mod Numbers
+pub mod Codes
+pub mod Refusals
+pub mod SameEdges
+pub mod SameLoops
+pub mod LoopRefusals
+pub mod Trees
+pub mod SameNumbers
+pub mod Alike
+pub mod SameCharged
