@@ -1,5 +1,5 @@
 -- What a leg of a stored run costs.
-use Rattle.std.specs.Prelude.{◌≡◌, ℕ, ◌+◌, Option, Some, None}
+use Rattle.std.specs.Prelude.{◌≡◌, ℕ, ◌+◌, List, Option, Some, None}
 use Rattle.power_model.specs.Numbers.{PowerModel, Numbers}
 use Rattle.power_model.specs.Price.{switch_time, time_at}
 use Rattle.power_model.specs.Switches.{costs_of}

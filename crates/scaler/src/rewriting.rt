@@ -28,8 +28,7 @@ use loop_file::{LoopNotes, read_loops};
 use loop_tree::{LoopTree, build_loops};
 use machine_file::read_machine;
 use power_model::{Power, slowest};
-use scale_base::{NoMemory, Refusal, Stop, Summary};
-use scale_base::Mark;
+use scale_base::{Mark, NoMemory, Refusal, Stop, Summary};
 use scale_sites::{CounterList, Sites, choose, counters};
 use std::alloc::Global;
 use stub_writer::{StubBlock, StubSite, block_len, emit};
@@ -193,6 +192,7 @@ fn scaling_of(
     power: &Power,
     notes: &LoopNotes,
 ) -> Result<Scaling, Stop>
+    requires image { image_of view.now.file ≡ Ok view.now }
     requires power { IsPowerModel power.now }
     ensures { AnswersBy (λ s. s) result (scalings.IsScalingFound power.now view.now notes.now) }
 {
