@@ -16,7 +16,7 @@ use Rattle.power_model.specs.Numbers.{PowerModel, IsPowerModel}
 use Rattle.power_model.specs.Price.{time_at}
 use Rattle.power_model.specs.Slowest.{slowest_of, is_in_time}
 use Rattle.cost_theory.specs.Graph.{sum_below, only}
-use Rattle.cost_theory.specs.Least.{Least}
+use Rattle.least_laws.specs.Charged.{Charged}
 use Rattle.cost_theory.specs.Worst.{Numbers, AreNumbers}
 use Rattle.elf_patch.specs.Stored.{IsStubBase}
 use Rattle.graph_runs.specs.Text.{text_of}
@@ -86,7 +86,7 @@ module _ (power : PowerModel) (image : Image) (notes : List LoopNote) (v : FlowG
     abbrev stored : Numbers
     stored = found.1
 
-    abbrev least : Least
+    abbrev least : Charged
     least = found.2
 
     abbrev at : IsMarkedAt power image v t plain stored least m start

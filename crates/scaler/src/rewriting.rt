@@ -19,11 +19,11 @@ ghost use Rattle.scaler.specs.RewrittenRuns.{IsRewrittenSafely};
 ghost use Rattle.scaler.specs.Scalings as scalings;
 
 use crate::safe_level::{check_unscaled, time_at, weights_of};
-use crate::stand_in::least;
 use crate::stubs::{Marking, stub_sites};
 use code_graph::{CodeGraph, build_graph};
 use elf_patch::{stub_base, write_image};
 use elf_view::{ImageView, read_image};
+use least_cycles::least;
 use loop_file::{LoopNotes, read_loops};
 use loop_tree::{LoopTree, build_loops};
 use machine_file::read_machine;
