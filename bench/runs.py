@@ -1,4 +1,4 @@
-"""What the scripts of this folder share: the program, its files, and a run of `scale hold` with its time."""
+"""What the scripts of this folder share: the program, its files, and a run of a command that stores an image, with its time."""
 
 import os
 import subprocess
@@ -14,12 +14,12 @@ def build():
     subprocess.run([SCALE], capture_output=True)
 
 
-def hold(folder, image, machine, loops=os.path.join(DATA, "loops.toml")):
-    """Holds an image three times; the best time in seconds, the status, and what was printed, by lines."""
+def store(word, folder, image, machine, loops=os.path.join(DATA, "loops.toml")):
+    """Has the command of a word make an image three times; the best time in seconds, the status, and what was printed, by lines."""
     path = os.path.join(folder, "image.elf")
     with open(path, "wb") as file:
         file.write(image)
-    command = [SCALE, "hold", path, machine, loops, os.path.join(folder, "out.elf")]
+    command = [SCALE, word, path, machine, loops, os.path.join(folder, "out.elf")]
     best = None
     for _ in range(3):
         begin = time.perf_counter()
@@ -27,3 +27,8 @@ def hold(folder, image, machine, loops=os.path.join(DATA, "loops.toml")):
         took = time.perf_counter() - begin
         best = took if best is None else min(best, took)
     return best, done.returncode, done.stdout.decode().splitlines()
+
+
+def hold(folder, image, machine, loops=os.path.join(DATA, "loops.toml")):
+    """The same for `hold`."""
+    return store("hold", folder, image, machine, loops)

@@ -9,3 +9,4 @@ pub mod Parts
 pub mod Calls
 pub mod FewWords
 pub mod Whole
+pub mod WeightLists

@@ -5,7 +5,10 @@ ghost use Rattle.power_model.specs.Price.{cycles_of};
 ghost use Rattle.cost_theory.specs.Reached as reached;
 ghost use Rattle.cost_theory.specs.Reached.{edge_at};
 ghost use Rattle.graph_runs.specs.EdgeCosts.{cost_of};
-ghost use Rattle.code_graph.specs.FlowGraph.{graph, word_beside, IsFlowGraph};
+ghost use Rattle.graph_runs.specs.Text.{Text};
+ghost use Rattle.cost_theory.specs.Accepted.{AreWeights};
+ghost use Rattle.call_orders.specs.Arcs.{number_at};
+ghost use Rattle.code_graph.specs.FlowGraph.{graph, word_beside, IsFlowGraph, IsGraphOf};
 
 use crate::weights::{Weights, weights_of};
 use cost_theory::{Edge, EdgeKind, Word};
@@ -206,9 +209,12 @@ impl CodeGraph {
         &self.order
     }
 
-    /// The cost of each edge in cycles: that of the class of its step, and 0 for an EBREAK, whose step isn't completed.
+    /// The cost of each edge in cycles: that of the class of its step, and 0 for an EBREAK, whose step isn't completed. In the graph of
+    /// a text there is one for each edge, and the edges of a call cost the same.
     pub fn base_weights(&self, alloc: Global, costs: &Costs) -> Result<Weights, NoMemory>
-        ensures { IfOk result (λ weights. weights ≡ map (cost_of (cycles_of costs.now)) self.now.classes) }
+        ensures weights { IfOk result (λ weights. weights ≡ map (cost_of (cycles_of costs.now)) self.now.classes) }
+        ensures size { (t : Text) → IsGraphOf t self.now → IfOk result (λ weights. length weights ≡ length self.now.code.edges) }
+        ensures calls { (t : Text) → IsGraphOf t self.now → IfOk result (λ weights. AreWeights (graph self.now) (number_at weights)) }
     {
         weights_of(alloc, costs, &self.classes)
     }

@@ -12,7 +12,9 @@ use Rattle.power_model.specs.Price.{price, unstarted}
 use Rattle.cost_theory.specs.Graph.{Graph}
 use Rattle.cost_theory.specs.Steps as steps
 use Rattle.cost_theory.proofs.Runs.{left_start, run-worst}
-use Rattle.graph_runs.specs.Text.{text_of}
+use Rattle.least_laws.specs.Laws.{IsCharged}
+use Rattle.least_laws.proofs.PlainReturns.{plain_returns}
+use Rattle.graph_runs.specs.Text.{text_of, kind_at}
 use Rattle.graph_runs.specs.RunMoves.{text_graph}
 use Rattle.graph_runs.specs.KeptRuns.{ExitsBy}
 use Rattle.stub_writer.specs.Stubs.{Site}
@@ -41,9 +43,16 @@ runs_paid = λ power ok image stored sites start code l extent counted word prog
     } in
     let first : n.worst 0 ≡ steps.cycles_left g l w n (steps.start g) = sym (left_start g l extent w n is.program is.accepted is.weights is.numbers) in
     let safe : 0 + steps.cycles_left g l w n (steps.start g) * period power start ≤ power.deadline = subst (λ x. 0 + x * period power start ≤ power.deadline) first (omega (arith, worst)) in
-    let walked = walk power t code l extent sites counted word n least ok.ranked able marked is are tables [] moves legs (shadow_first start) (unstarted start)
+    let charged : IsCharged g l extent w least = record {
+      program = is.program;
+      returns = plain_returns (kind_at t) t.entry code prog.reached.lists prog.reached.words;
+      accepted = is.accepted;
+      weights = is.weights;
+      numbers = are;
+    } in
+    let walked = walk power t code l extent sites counted word n least ok.ranked able marked is charged tables [] moves legs (shadow_first start) (unstarted start)
     (record { kept = tt; counters = λ k kl ck. refl; is_level = low }) f.kept.kept aligned f.followed.are refl safe in
-    let later = cycles_later power t code l extent sites counted word n least ok.ranked able marked is are tables moves legs (shadow_first start) f.followed.are aligned in
+    let later = cycles_later power t code l extent sites counted word n least ok.ranked able marked is charged tables moves legs (shadow_first start) f.followed.are aligned in
     let same = f.followed.steps in
     let total : (price power start (all_steps legs)).cycles ≡ steps.cycles w moves = cycles_from power (unstarted start) (all_steps legs) ∙ omega (arith, later) in
     subst (λ xs. IsPaidRun power t code l sites start n moves xs) (sym same) (record {

@@ -12,16 +12,16 @@ use Rattle.power_model.specs.Numbers.{PowerModel}
 use Rattle.power_model.specs.Price.{metered, switch_time, time_at}
 use Rattle.cost_theory.specs.Graph.{Graph, Loops, is_round}
 use Rattle.cost_theory.specs.Worst.{Numbers, cost, slack, rest, left_behind}
-use Rattle.cost_theory.specs.Least.{Least, AreLeast}
 use Rattle.cost_theory.specs.Laws.{IsAnalyzed}
 use Rattle.cost_theory.specs.Reached.{Code, edge_at}
 use Rattle.cost_theory.specs.Steps as steps
 use Rattle.cost_theory.specs.Steps.Move.{Along, Call, Return, Exit}
-use Rattle.cost_theory.proofs.Law.{IsSound}
 use Rattle.cost_theory.proofs.Runs.{sound_run, sound_after, step_law}
 use Rattle.cost_theory.proofs.StepLaws.{along_at, behind-rest}
 use Rattle.cost_theory.proofs.OrdersExist.{call_order}
-use Rattle.cost_theory.proofs.Least.{run-least}
+use Rattle.least_laws.specs.Charged.{Charged, to_end_after}
+use Rattle.least_laws.specs.Laws.{IsCharged}
+use Rattle.least_laws.proofs.KeptWalks.{exit_behind}
 use Rattle.graph_runs.specs.Text.{Text}
 use Rattle.graph_runs.specs.RunMoves.{text_graph}
 use Rattle.graph_runs.proofs.RunLaws.{after-append}
@@ -55,9 +55,9 @@ counted_more g l counts (k ∷ ks) m = counted_more g l (counted_move g l counts
 exits_later : (m : steps.Move) (k : steps.Move) (ms : List steps.Move) → steps.EndsByExit (m ∷ k ∷ ms) → steps.EndsByExit (k ∷ ms)
 exits_later m k ms e = e
 
-module _ (power : PowerModel) (t : Text) (code : Code) (l : Loops) (extent : ℕ → ℕ → Bool) (sites : List Site) (counted : ℕ → Bool) (word : ℕ → ℕ) (n : Numbers) (least : Least)
+module _ (power : PowerModel) (t : Text) (code : Code) (l : Loops) (extent : ℕ → ℕ → Bool) (sites : List Site) (counted : ℕ → Bool) (word : ℕ → ℕ) (n : Numbers) (least : Charged)
     (ranked : AreRanked power.levels) (able : AreCountable (text_graph t code) l counted) (marked : AreMarked t code l sites counted word)
-    (is : IsAnalyzed (text_graph t code) l extent (weights_of power t code sites) n) (are : AreLeast (text_graph t code) (weights_of power t code sites) least)
+    (is : IsAnalyzed (text_graph t code) l extent (weights_of power t code sites) n) (are : IsCharged (text_graph t code) l extent (weights_of power t code sites) least)
     (tables : AreTables power t code l sites counted word n least) where
   abbrev g : Graph
   g = text_graph t code
@@ -185,17 +185,16 @@ module _ (power : PowerModel) (t : Text) (code : Code) (l : Loops) (extent : ℕ
   leg_saves pre h m (k ∷ ms) x rest_cycles at kept later exits rest_is j (inr c) = inr
       (pays_more power h.level j (c.paying.0 + tail_cycles (costs_of power) (fragments_over sites x)) (tail_cycles (costs_of power) (fragments_over sites x) + rest_cycles) (omega (arith, enough, rest_is)) c.paying.2)
     where
-      sound : IsSound g l (steps.after g l (at_start pre) m)
-      sound = sound_after g l extent is.program (at_start pre) m (sound_run g l extent is.program pre at.kept) kept
+      -- a move over an edge within a function is a local step
+      behind : (m : steps.Move) → steps.IsKept g l (at_start pre) m → steps.AreKept g l (steps.after g l (at_start pre) m) (k ∷ ms) → g.callee (steps.edge_of m) ≡ None → g.target (steps.edge_of m) ≡ Some c.target
+          → (z : ℕ) × (to_end_after g l least (steps.edge_of m) ≡ Some z) × (z ≤ steps.cycles w (k ∷ ms))
+      behind (Along e) kept2 later2 inside leads = exit_behind g l extent w least are pre (k ∷ ms) e at.kept kept2 later2 exits
+      behind (Call e f) kept2 later2 inside leads = let a = kept2.move.0 in absurd cc
+      behind (Return e) kept2 later2 inside leads = let a = (is.program.return_end e kept2.edge kept2.move.0).0 in absurd cc
+      behind (Exit e) kept2 later2 inside leads = let a = (is.program.exit_end e kept2.edge kept2.move).0 in absurd cc
 
-      stands : (m : steps.Move) → steps.IsKept g l (at_start pre) m → g.callee (steps.edge_of m) ≡ None → g.target (steps.edge_of m) ≡ Some c.target → (steps.after g l (at_start pre) m).node ≡ Some c.target
-      stands (Along e) kept2 inside leads = leads
-      stands (Call e f) kept2 inside leads = let a = kept2.move.0 in absurd cc
-      stands (Return e) kept2 inside leads = let a = (is.program.return_end e kept2.edge kept2.move.0).0 in absurd cc
-      stands (Exit e) kept2 inside leads = let a = (is.program.exit_end e kept2.edge kept2.move).0 in absurd cc
-
-      up_to : (z : ℕ) × (least.to_end c.target ≡ Some z) × (z ≤ steps.cycles w (k ∷ ms))
-      up_to = run-least g l extent w least is.program is.weights are (k ∷ ms) (steps.after g l (at_start pre) m) c.target (stands m kept c.inside c.leads) sound later exits
+      up_to : (z : ℕ) × (to_end_after g l least (steps.edge_of m) ≡ Some z) × (z ≤ steps.cycles w (k ∷ ms))
+      up_to = behind m kept later c.inside c.leads
 
       enough : c.paying.0 ≤ steps.cycles w (k ∷ ms)
       enough = let same : c.paying.0 ≡ up_to.0 = (let a = c.paying.1 in let b = up_to.1 in cc) in let more = up_to.2 in omega (arith, same, more)

@@ -1,21 +1,19 @@
 -- The edges of the graph of reached code: their instructions, their classes and their kinds.
-use Rattle.std.proofs.Common.{◌≡◌, ◌≢◌, ℕ, ℤ, ◌+◌, ◌%◌, ◌<◌, Bool, true, false, ◌⊎◌, inl, inr, List, [], ◌∷◌, length, slice_get, Option, Some, None, refl, sym, ap, ◌∙◌, subst, arith, ⊎_elim}
+use Rattle.std.proofs.Common.{◌≡◌, ◌≢◌, ℕ, ℤ, ◌%◌, ◌<◌, Bool, true, false, length, slice_get, Option, Some, None, refl, sym, ap, ◌∙◌, subst, ⊎_elim}
 use Rattle.scale_base.specs.declared.instruction.Instr.{Instr}
 use Rattle.scale_base.specs.declared.instruction.Instr.TheVariants as instr
 use Rattle.scale_base.specs.declared.stepping.Class.{Class}
-use Rattle.scale_base.specs.declared.stepping.Class.TheVariants as classes
 use Rattle.scale_base.specs.Class.{class_of}
 use Rattle.scale_base.specs.Arith.{moved_by}
 use Rattle.cost_theory.specs.declared.edges.Edge.{Edge}
 use Rattle.cost_theory.specs.declared.edges.EdgeKind.{EdgeKind}
 use Rattle.cost_theory.specs.declared.edges.EdgeKind.TheVariants.{Taken, Untaken, Jump, Next, CallNext, End}
-use Rattle.cost_theory.specs.declared.edges.Word.{Word}
-use Rattle.cost_theory.specs.declared.edges.Word.TheVariants.{Branch, Goto, CallOf, Back, Ends, MayEnd, Breaks, Straight, Bad}
+use Rattle.cost_theory.specs.declared.edges.Word.TheVariants.{Branch, Goto, CallOf, Bad}
 use Rattle.cost_theory.specs.Graph.{Graph}
-use Rattle.cost_theory.specs.Reached.{Code, edge_at, edge_to, place_after, edges_of, call_returns, IsCodeOf, HasNoBadWord}
+use Rattle.cost_theory.specs.Reached.{Code, edge_at, edge_to, place_after, edges_of, call_returns}
 use Rattle.cost_theory.proofs.Programs.{callee-call, callee_word, edge_word}
-use Rattle.cost_theory.proofs.Reaching.{Within, within_get}
-use Rattle.graph_runs.specs.Text.{Text, instr_at, instr_kind, ecall_kind, jal_kind, jalr_kind, kind_at, in_text}
+use Rattle.cost_theory.proofs.Reaching.{Within}
+use Rattle.graph_runs.specs.Text.{Text, instr_at, instr_kind, kind_at, in_text}
 use Rattle.graph_runs.specs.EdgeCosts.{class_by, edge_class, is_taken_kind}
 use Rattle.graph_runs.specs.RunMoves.{text_graph}
 use Rattle.graph_runs.specs.Laws.{IsReachedCode}

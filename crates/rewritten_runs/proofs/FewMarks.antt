@@ -1,10 +1,10 @@
 -- An edge has at most 17 marks, since no loop is in more than 16 bodies: an Exit or a Reset of each counted loop that it leaves, and a Count.
-use Rattle.std.proofs.Common.{◌≡◌, ◌≢◌, ℕ, zero, suc, ◌+◌, ◌<◌, ◌≤◌, ◌⊎◌, inl, inr, Bool, true, false, not, ◌&&◌, ◌||◌, nat_le, List, [], ◌∷◌, ◌++◌, length, slice_get, Option, Some, None, refl, sym, ap, ◌∙◌, subst, arith, ⊎_elim, eqb-true}
-use Rattle.std.proofs.lemmas.Bool.{cases_lt, cases_eq, and_parts, false_from_ne_true}
+use Rattle.std.proofs.Common.{◌≡◌, ℕ, zero, suc, ◌+◌, ◌<◌, ◌≤◌, ◌⊎◌, inl, inr, Bool, true, false, not, ◌&&◌, ◌||◌, nat_le, List, [], ◌∷◌, ◌++◌, length, Option, Some, None, refl, sym, ap, ◌∙◌, subst, arith, ⊎_elim, eqb-true}
+use Rattle.std.proofs.lemmas.Bool.{cases_lt, and_parts, false_from_ne_true}
 use Rattle.std.proofs.lemmas.List.{length-append}
 use Rattle.cost_theory.specs.Graph.{Graph, Loops, sum_below, only, is_header, leaves, goes_back}
 use Rattle.cost_theory.specs.Accepted.{IsProgram, AreAccepted}
-use Rattle.cost_theory.proofs.Basics.{sum-le, sum-none, search_below}
+use Rattle.cost_theory.proofs.Basics.{sum-le, sum-none}
 use Rattle.cost_theory.proofs.Nesting.{accepted_entered, header_held}
 use Rattle.scale_base.specs.declared.fragments.Mark.{Mark}
 use Rattle.scale_base.specs.declared.fragments.Mark.TheVariants as marks

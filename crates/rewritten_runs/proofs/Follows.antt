@@ -1,54 +1,55 @@
 -- What is supplied makes the stored run follow the original, and keep the promise.
-use Rattle.std.proofs.Common.{◌≡◌, ◌≢◌, ℕ, zero, suc, ◌+◌, ◌-◌, ◌*◌, ◌<◌, ◌≤◌, Bool, true, false, ◌&&◌, List, [], length, map, slice_index, refl, sym, ap, ◌∙◌, subst, arith, Option, Some, None, inl, inr, eqb-true, eq-eqb}
+use Rattle.std.proofs.Common.{◌≡◌, ◌≢◌, ℕ, ◌+◌, ◌-◌, ◌*◌, ◌<◌, ◌≤◌, Bool, true, false, ◌&&◌, List, [], length, map, slice_index, sym, ap, ◌∙◌, subst, arith, Some, inl, inr, eqb-true, eq-eqb}
 use Rattle.std.specs.Prelude.{nat_eq}
 use Rattle.std.specs.List.{sum_by, list_any}
 use Rattle.std.proofs.lemmas.Bool.{and_from, and_parts, both_ways, false_from_ne_true}
 use Rattle.std.proofs.lemmas.List.{length-map}
 use Rattle.scale_base.specs.declared.stepping.Class.{Class}
 use Rattle.scale_base.specs.declared.stepping.Class.TheVariants as class
-use Rattle.scale_base.specs.declared.stepping.Stepped.{Stepped}
-use Rattle.scale_base.specs.Image.{Image, image_of, is_in as in_range}
+use Rattle.scale_base.specs.Image.{Image, is_in as in_range}
 use Rattle.scale_base.specs.Layout.{layout_of, is_keyed}
-use Rattle.scale_base.specs.Run.{Run, Standing, GoesOn, HasExited, HasTrapped, run, run_of, setting_of, start_of, starting_level}
+use Rattle.scale_base.specs.Run.{Run, GoesOn, HasExited, run_of, setting_of, start_of, starting_level}
+use Rattle.scale_base.proofs.RunLaws.{run_stays}
 use Rattle.power_model.specs.Numbers.{PowerModel, IsPowerModel}
 use Rattle.power_model.specs.Numbers.{Numbers as Metered}
 use Rattle.power_model.specs.Price.{price, held_energy}
 use Rattle.power_model.proofs.PriceLaws.{cycles-price}
 use Rattle.cost_theory.specs.Graph.{Graph, Loops}
-use Rattle.cost_theory.specs.Least.{Least}
+use Rattle.least_laws.specs.Charged.{Charged}
 use Rattle.cost_theory.specs.Worst.{Numbers}
 use Rattle.cost_theory.specs.Steps as steps
 use Rattle.cost_theory.proofs.Basics.{search_below}
-use Rattle.graph_runs.specs.Text.{Text, text_of, kind_at}
-use Rattle.graph_runs.specs.RunMoves.{text_graph, after_moves, after_call, StandsBy}
+use Rattle.graph_runs.specs.Text.{Text, text_of}
+use Rattle.graph_runs.specs.RunMoves.{text_graph, after_moves, StandsBy}
 use Rattle.graph_runs.specs.KeptSteps.{Carried, by_extents}
-use Rattle.graph_runs.specs.KeptRuns.{kept_of, KeptAt, IsKeptRun, ExitsBy}
+use Rattle.graph_runs.specs.KeptRuns.{kept_of, KeptAt, ExitsBy}
 use Rattle.graph_runs.proofs.Images.{text_of_layout}
 use Rattle.graph_runs.proofs.Lengths.{going_length}
 use Rattle.graph_runs.proofs.MoveLaws.{kind_facts}
 use Rattle.graph_runs.proofs.Programs.{image_runs_are_below, image_runs_end}
 use Rattle.code_graph.specs.FlowGraph.{FlowGraph, graph}
 use Rattle.loop_file.specs.declared.notes.LoopNote.{LoopNote}
-use Rattle.loop_file.specs.Kept.{noted_loops, IsKeptUpTo}
+use Rattle.loop_file.specs.Kept.{noted_loops}
 use Rattle.loop_tree.specs.Tree.{LoopView, loops}
 use Rattle.stub_writer.specs.Fragments.{IsShadow}
 use Rattle.stub_writer.specs.Stubs.{Site}
 use Rattle.stored_runs.specs.Marks.{shadow_first, shadow_after}
-use Rattle.stored_runs.specs.Legs.{Leg, originals, all_steps, steps_to, Meets, Holds}
+use Rattle.stored_runs.specs.Legs.{Leg, originals, steps_to}
 use Rattle.stored_runs.specs.Laws.{text_steps}
-use Rattle.stored_runs.proofs.Frame.{IsFrame, frame}
+use Rattle.stored_runs.proofs.Frame.{frame}
 use Rattle.stored_runs.proofs.LegLaws.{text_of_legs}
 use Rattle.stored_runs.proofs.Meetings.{meetings_once}
 use Rattle.marked_runs.specs.Marked.{IsKeptFollowed, AreHeld}
 use Rattle.marked_runs.proofs.Kept.{kept_followed}
-use Rattle.power_model.specs.Switches.{period, costs_of, NeverRises, switches_from, AllPay}
+use Rattle.power_model.specs.Switches.{period, costs_of, NeverRises, switches_from, saved, fee, AllPay}
 use Rattle.leg_prices.proofs.Energies.{energy_sum, switches_save}
 use Rattle.paid_runs.specs.Timely.{weights_of, IsPaidRun}
 use Rattle.paid_runs.proofs.Paid.{runs_paid, stubs_bounded}
 use Rattle.rewritten_runs.specs.Prices.{price_of}
 use Rattle.rewritten_runs.specs.Stubs.{stored_weights, marks_by_slack, is_counted, counter_of}
-use Rattle.rewritten_runs.specs.Promise.{EndsAsPromised, KeepsThePromise}
+use Rattle.rewritten_runs.specs.Promise.{KeepsThePromise}
 use Rattle.rewritten_runs.specs.Followed.{place_of, ShowsCounts, IsMeeting, MeetsInTime, HasEnded, SwitchesPay, EndsInTime, FollowsInTime}
+use Rattle.rewritten_runs.proofs.Ended.{over_stays, taken, taken_within}
 use Rattle.rewritten_runs.proofs.Supplied.{IsSupplied}
 use Rattle.rewritten_runs.proofs.Places.{calls_back, left_same, in_same}
 
@@ -65,7 +66,7 @@ each_cost power ok class.Div = ok.costs.div
 each_cost power ok class.Ecall = ok.costs.ecall
 each_cost power ok class.Fence = ok.costs.fence
 
-module _ (power : PowerModel) (file : List ℕ) (image : Image) (notes : List LoopNote) (v : FlowGraph) (tree : LoopView) (plain stored extra : Numbers) (least : Least) (sites : List Site) (base start : ℕ) (rewritten : Image)
+module _ (power : PowerModel) (file : List ℕ) (image : Image) (notes : List LoopNote) (v : FlowGraph) (tree : LoopView) (plain stored extra : Numbers) (least : Charged) (sites : List Site) (base start : ℕ) (rewritten : Image)
     (s : IsSupplied power file image notes v tree plain stored extra least sites base start rewritten)
     (off_key : (a : ℕ) → list_any (in_range a) image.text ≡ true → is_keyed (layout_of rewritten) a ≡ false) where
   abbrev levels : ℕ
@@ -82,6 +83,9 @@ module _ (power : PowerModel) (file : List ℕ) (image : Image) (notes : List Lo
 
   abbrev extent : ℕ → ℕ → Bool
   extent = (noted_loops notes).inside
+
+  abbrev first_level : ℕ
+  first_level = starting_level levels rewritten.keyed_segment
 
   start_is : starting_level levels rewritten.keyed_segment ≡ start
   start_is = (frame file image rewritten sites base start levels [] s.stubbed.read s.stubbed.storable s.stubbed.stored_is s.stubbed.ascending).start_is
@@ -132,48 +136,109 @@ module _ (power : PowerModel) (file : List ℕ) (image : Image) (notes : List Lo
       let xs = (stored_run input n c f).steps in
       let sum = energy_sum power start xs s.ok.ranked s.stubbed.start_is_level p.falls in
       record {
-        sum = subst (λ i. held_energy power (price power i xs) + sum_by (Rattle.power_model.specs.Switches.fee power) (switches_from power i xs) ≡ (price power i xs).energy + sum_by (Rattle.power_model.specs.Switches.saved power) (switches_from power i xs)) (sym start_is) sum;
+        sum = subst (λ i. held_energy power (price power i xs) + sum_by (fee power) (switches_from power i xs) ≡ (price power i xs).energy + sum_by (saved power) (switches_from power i xs)) (sym start_is) sum;
         terms = subst (λ i. AllPay power (switches_from power i xs)) (sym start_is) (p.pays (exits_by input n status c f exited));
       }
 
   in_time_of : (time left period deadline : ℕ) → time + left * period ≤ deadline → time ≤ deadline
   in_time_of time left period deadline h = omega (arith, h)
 
-  ended : (input : List ℕ) (n : ℕ) (c : Carried) → kept_of image levels input (noted_loops notes) n ≡ Some c → EndsInTime power image rewritten (extra.worst 0) input n
-  ended input n c k =
-      let f = followed input n c k in
+  -- ---- the end of the stored run, also where the number of steps of the original is past its end
+
+  -- what is so of the stored run
+  record IsEnd (input : List ℕ) (n : ℕ) (r : Run) : Type 0 where
+    standing : r.standing ≡ (run_of image levels input n).standing
+    output : r.state.output ≡ (run_of image levels input n).state.output
+    from : length (run_of image levels input n).steps ≤ length r.steps
+    to : length r.steps ≤ length (run_of image levels input n).steps + extra.worst 0
+    cycles : (price power first_level r.steps).cycles ≤ (price_of power image input n).cycles + extra.worst 0
+    in_time : (price power first_level r.steps).time ≤ power.deadline
+    falls : NeverRises first_level r.steps
+    sum : (status : ℕ) → (run_of image levels input n).standing ≡ HasExited status → held_energy power (price power first_level r.steps) + sum_by (fee power) (switches_from power first_level r.steps) ≡ (price power first_level r.steps).energy + sum_by (saved power) (switches_from power first_level r.steps)
+    terms : (status : ℕ) → (run_of image levels input n).standing ≡ HasExited status → AllPay power (switches_from power first_level r.steps)
+    energy : (status : ℕ) → (run_of image levels input n).standing ≡ HasExited status → (price power first_level r.steps).energy ≤ held_energy power (price power first_level r.steps)
+
+  end_is : (input : List ℕ) (n : ℕ) (c : Carried) (f : Followed input n c) → IsEnd input n (stored_run input n c f)
+  end_is input n c f =
       let p = paid input n c f in
       let b = bounded input n c f in
+      let pays = λ (status : ℕ) (exited : (run_of image levels input n).standing ≡ HasExited status). switches_pay input n status c f exited in
       record {
-        after = f.followed.after;
         standing = f.followed.standing;
         output = f.followed.meets.output;
-        steps_from = b.from;
-        steps_to = b.to;
+        from = b.from;
+        to = b.to;
         cycles = b.cycles;
         in_time = from_start input n c f (λ m. m.time ≤ power.deadline) (in_time_of _ _ _ _ p.in_time);
         falls = subst (λ i. NeverRises i (stored_run input n c f).steps) (sym start_is) p.falls;
-        pays = λ status exited. switches_pay input n status c f exited;
+        sum = λ status exited. (pays status exited).sum;
+        terms = λ status exited. (pays status exited).terms;
+        energy = λ status exited. from_start input n c f (λ m. m.energy ≤ held_energy power m)
+            (switches_save power start (stored_run input n c f).steps s.ok.ranked s.stubbed.start_is_level p.falls (p.pays (exits_by input n status c f exited)));
+      }
+
+  -- the greater of the two numbers of steps
+  abbrev last : (input : List ℕ) (n : ℕ) (c : Carried) → Followed input n c → ℕ
+  last input n c f = n + (f.followed.after - n)
+
+  stays_ended : (input : List ℕ) (n : ℕ) (c : Carried) (f : Followed input n c) → HasEnded (run_of image levels input n).standing → run_of rewritten levels input (last input n c f) ≡ stored_run input n c f
+  unfolding run_of
+  stays_ended input n c f over =
+      let a = f.followed.after in
+      let most : last input n c f ≡ (n - a) + a = omega arith in
+      let here : HasEnded (run_of rewritten levels input a).standing = subst HasEnded (sym f.followed.standing) over in
+      ap (run_of rewritten levels input) most ∙ run_stays (setting_of rewritten levels input) (start_of rewritten levels) a (n - a) (over_stays (setting_of rewritten levels input) (stored_run input n c f) here)
+
+  taken_by : (input : List ℕ) (n : ℕ) → taken (run_of image levels input n) ≤ n
+  unfolding run_of
+  taken_by input n = taken_within (setting_of image levels input) (start_of image levels) n
+
+  -- the stored run has come to its end by then
+  last_within : (input : List ℕ) (n : ℕ) (c : Carried) (f : Followed input n c) → last input n c f ≤ n + extra.worst 0
+  last_within input n c f =
+      let b = bounded input n c f in
+      let all = ap length f.followed.steps in
+      let asked = taken_by input n in
+      omega (arith, f.followed.after_is, all, b.to, asked)
+
+  last_is : (input : List ℕ) (n : ℕ) (c : Carried) (f : Followed input n c) → HasEnded (run_of image levels input n).standing → IsEnd input n (run_of rewritten levels input (last input n c f))
+  last_is input n c f over = subst (IsEnd input n) (sym (stays_ended input n c f over)) (end_is input n c f)
+
+  ended : (input : List ℕ) (n : ℕ) (c : Carried) → kept_of image levels input (noted_loops notes) n ≡ Some c → HasEnded (run_of image levels input n).standing → EndsInTime power image rewritten (extra.worst 0) input n
+  ended input n c k over =
+      let f = followed input n c k in
+      let e = last_is input n c f over in
+      record {
+        after = last input n c f;
+        from = omega arith;
+        to = last_within input n c f;
+        standing = e.standing;
+        output = e.output;
+        steps_from = e.from;
+        steps_to = e.to;
+        cycles = e.cycles;
+        in_time = e.in_time;
+        falls = e.falls;
+        pays = λ status exited. record { sum = e.sum status exited; terms = e.terms status exited };
       }
 
   promise : KeepsThePromise power image notes rewritten (extra.worst 0)
-  unfolding followed ended
   promise = λ input n status kept exited.
       let f = followed input n kept.carried kept.kept in
-      let p = paid input n kept.carried f in
-      let b = bounded input n kept.carried f in
-      let e = ended input n kept.carried kept.kept in
+      let e = last_is input n kept.carried f (subst HasEnded (sym exited) tt) in
       record {
-        after = f.followed.after;
-        exits = f.followed.standing ∙ exited;
-        output = f.followed.meets.output;
-        steps_from = b.from;
-        steps_to = b.to;
-        cycles = b.cycles;
+        after = last input n kept.carried f;
+        from = omega arith;
+        to = last_within input n kept.carried f;
+        exits = e.standing ∙ exited;
+        output = e.output;
+        steps_from = e.from;
+        steps_to = e.to;
+        cycles = e.cycles;
+        is_level = subst (λ i. i < levels) (sym start_is) s.stubbed.start_is_level;
         in_time = e.in_time;
         falls = e.falls;
-        energy = from_start input n kept.carried f (λ m. m.energy ≤ held_energy power m)
-            (switches_save power start (stored_run input n kept.carried f).steps s.ok.ranked s.stubbed.start_is_level p.falls (p.pays (exits_by input n status kept.carried f exited)));
+        energy = e.energy status exited;
       }
 
   -- ---- meetings
@@ -287,7 +352,7 @@ module _ (power : PowerModel) (file : List ℕ) (image : Image) (notes : List Lo
     ends = λ input n kept goes.
         image_runs_end file image levels input v.code l extent (costs_of power) plain s.stubbed.read s.program s.plain_are (each_cost power s.ok) n kept.carried (by_tree input n kept.carried kept.kept) goes;
     meets = meets;
-    ended = λ input n kept over. ended input n kept.carried kept.kept;
+    ended = λ input n kept over. ended input n kept.carried kept.kept over;
   }
 
   pub keeps : KeepsThePromise power image notes rewritten (extra.worst 0)

@@ -1,7 +1,7 @@
 -- Worst cycles grow with the weights.
-use Rattle.std.proofs.Common.{◌≡◌, ℕ, zero, suc, ◌+◌, ◌<◌, ◌≤◌, Bool, List, [], ◌∷◌, Option, Some, None, refl, sym, ap, ◌∙◌, subst, arith}
+use Rattle.std.proofs.Common.{◌≡◌, ℕ, zero, suc, ◌<◌, ◌≤◌, List, [], ◌∷◌, Option, Some, None, refl, ap, ◌∙◌, subst, arith}
 use Rattle.cost_theory.specs.Graph.{Graph, Loops, IsWalk, total}
-use Rattle.cost_theory.specs.Accepted.{IsProgram, AreAccepted, IsCallOrder}
+use Rattle.cost_theory.specs.Accepted.{IsProgram, IsCallOrder}
 use Rattle.cost_theory.specs.Worst.{Numbers, AreWorst, cost, at_some}
 use Rattle.cost_theory.proofs.OrdersExist.{call_order}
 

@@ -1,12 +1,10 @@
 -- A rewritten image follows the original in time, and keeps the promise.
-use Rattle.std.proofs.Common.{◌≡◌, ◌≢◌, ℕ, zero, suc, ◌+◌, ◌*◌, ◌^◌, ◌<◌, ◌≤◌, ◌⊎◌, inl, inr, Bool, true, false, List, [], ◌∷◌, map, length, slice_get, Option, Some, None, Ok, refl, sym, ap, ◌∙◌, subst, arith}
+use Rattle.std.proofs.Common.{◌≡◌, ℕ, zero, suc, ◌+◌, ◌*◌, ◌<◌, ◌≤◌, ◌⊎◌, inl, inr, Bool, true, false, List, [], ◌∷◌, length, slice_get, Option, Some, None, Ok, refl, sym, ap, ◌∙◌, subst, arith}
 use Rattle.std.specs.Prelude.{All, IsTrue, min, find, nat_le}
 use Rattle.std.specs.List.{range_with_len, list_any}
-use Rattle.std.proofs.lemmas.Bool.{cases_lt}
-use Rattle.std.proofs.lemmas.List.{length-map}
 use Rattle.std.proofs.lemmas.List.Elements.{All-nil, All-cons}
 use Rattle.std.proofs.lemmas.Option.{get_or_from_slice_get}
-use Rattle.scale_base.specs.declared.ranges.Patch.{Patch}
+use Rattle.scale_base.specs.declared.ranges.Keyed.{Keyed}
 use Rattle.scale_base.specs.Image.{Image, image_of, contents, is_in, is_word_address}
 use Rattle.scale_base.specs.Layout.{layout_of, is_keyed}
 use Rattle.scale_base.specs.Word.{word_of}
@@ -18,9 +16,8 @@ use Rattle.elf_patch.specs.Stored.{stored_image, IsStubBase}
 use Rattle.stored_laws.specs.StoredView.{IsStorable, stored_view}
 use Rattle.stored_laws.proofs.Whole.{law}
 use Rattle.text_laws.proofs.Tests.{found_in, found_passes}
-use Rattle.cost_theory.specs.Graph.{Graph, Loops, sum_below, only}
-use Rattle.cost_theory.specs.Laws.{IsAnalyzed}
-use Rattle.cost_theory.specs.Least.{Least, AreLeast}
+use Rattle.cost_theory.specs.Graph.{Graph, Loops}
+use Rattle.least_laws.specs.Charged.{Charged, AreCharged}
 use Rattle.cost_theory.specs.Worst.{Numbers, AreNumbers}
 use Rattle.cost_theory.specs.Reached.{edge_at}
 use Rattle.cost_theory.proofs.Programs.{source_reached, some_get}
@@ -32,7 +29,7 @@ use Rattle.loop_file.specs.declared.notes.LoopNote.{LoopNote}
 use Rattle.loop_file.specs.Kept.{noted_loops}
 use Rattle.natural_loops.specs.Noted.{node_address}
 use Rattle.loop_tree.specs.Tree.{LoopView, loops, IsInnermost}
-use Rattle.scale_sites.specs.Counters.{counted_loops, set_from}
+use Rattle.scale_sites.specs.Counters.{counted_loops}
 use Rattle.scale_sites.specs.Marks.{AreLoops}
 use Rattle.scale_sites.specs.Sites.{is_branch}
 use Rattle.stub_writer.specs.Stubs.{Site, block_size, block_bytes, patches_from, stub_len, jump, out_of_reach}
@@ -40,7 +37,7 @@ use Rattle.stored_runs.specs.Stubbed.{IsStubbed, IsSafeSite}
 use Rattle.stored_runs.proofs.Frame.{frame}
 use Rattle.marked_runs.specs.Marked as marked_specs
 use Rattle.marked_runs.proofs.Graphs.{weights_of_calls}
-use Rattle.power_model.specs.Switches.{period, costs_of}
+use Rattle.power_model.specs.Switches.{costs_of}
 use Rattle.paid_runs.specs.Timely.{weights_of}
 use Rattle.rewritten_runs.specs.Laws.{IsSafelyRewritten, RewrittenImagesFollow}
 use Rattle.rewritten_runs.specs.Stubs.{IsWeighed, HasStubs, marks_by_slack, stored_weights, extra_weights, rewritten_file, loop_of}
@@ -63,6 +60,19 @@ contents_file file = refl
 pub file_is : (file : List ℕ) (image : Image) → image_of file ≡ Ok image → image.file ≡ file
 file_is file image e = sym (ap (λ (i : Image). i.file) (contents-are file image e)) ∙ contents_file file
 
+-- what a stored image is read as has the original's text
+view_text : (image : Image) (file : List ℕ) (base : ℕ) (block : List ℕ) (start : ℕ) → (stored_view image file base block start).text ≡ image.text
+unfolding stored_view
+view_text image file base block start = refl
+
+-- and the block as its keyed segment
+abbrev key_of : ℕ → List ℕ → ℕ → Keyed
+key_of base block start = record { range = record { from = base; to = base + length block }; start = start }
+
+view_key : (image : Image) (file : List ℕ) (base : ℕ) (block : List ℕ) (start : ℕ) → (stored_view image file base block start).keyed_segment ≡ Some (key_of base block start)
+unfolding stored_view
+view_key image file base block start = refl
+
 -- the patches are on words of the text
 patched_words : (image : Image) (at : ℕ) (sites : List Site) → All (λ s. is_word_address image s.at ≡ true) sites → All (λ p. IsTrue (is_word_address image p.at)) (patches_from at sites)
 patched_words image at [] h = All-nil (λ p. IsTrue (is_word_address image p.at))
@@ -77,7 +87,7 @@ found_below p a (suc n) x e =
       | inr h ↦ omega (arith, found_below p (a + 1) n x h.1)
     ]
 
-module _ (power : PowerModel) (ok : IsPowerModel power) (file : List ℕ) (image : Image) (notes : List LoopNote) (v : FlowGraph) (tree : LoopView) (plain stored extra : Numbers) (least : Least) (sites : List Site) (base start : ℕ)
+module _ (power : PowerModel) (ok : IsPowerModel power) (file : List ℕ) (image : Image) (notes : List LoopNote) (v : FlowGraph) (tree : LoopView) (plain stored extra : Numbers) (least : Charged) (sites : List Site) (base start : ℕ)
     (read : image_of file ≡ Ok image) (no_key : image.keyed_segment ≡ None) (short_file : length file ≤ 4194304) (weighed : IsWeighed power image notes v tree plain stored) (slow : slowest_of power (stored.worst 0) ≡ Some start)
     (stubs : HasStubs power image v tree plain stored extra least sites base) (near : out_of_reach base sites ≡ None) where
   abbrev l : Loops
@@ -198,7 +208,7 @@ module _ (power : PowerModel) (ok : IsPowerModel power) (file : List ℕ) (image
       weights = (weights_of_calls image levels limits sites v.code (costs_of power) safe).1;
       numbers = subst (λ (q : Graph). AreNumbers q l (marked_specs.extra_weights (text_of image) v.code (costs_of power) sites) extra) (sym weighed.code_is.graph_is) (subst (λ (w : ℕ → ℕ). AreNumbers (graph v) l w extra) (sym same_extra) stubs.extra_are);
     };
-    least_are = subst (λ (q : Graph). AreLeast q (weights_of power (text_of image) v.code sites) least) (sym weighed.code_is.graph_is) (subst (λ (w : ℕ → ℕ). AreLeast (graph v) w least) (sym same_stored) stubs.least_are);
+    least_are = subst (λ (q : Graph). AreCharged q l (weights_of power (text_of image) v.code sites) least) (sym weighed.code_is.graph_is) (subst (λ (w : ℕ → ℕ). AreCharged (graph v) l w least) (sym same_stored) stubs.least_are);
     tables = are_tables power ok image notes v tree plain stored weighed least sites stubs.sites_are;
     plain_are = subst (λ (q : Graph). AreNumbers q l (weights (text_of image) v.code (costs_of power)) plain) (sym weighed.code_is.graph_is) weighed.plain_are;
     in_time = in_time_is (time_at power start (stored.worst 0)) start power.deadline (found_passes (is_in_time power (stored.worst 0)) (range_with_len 0 levels) start slow);
@@ -208,10 +218,14 @@ module _ (power : PowerModel) (ok : IsPowerModel power) (file : List ℕ) (image
   off_key : (a : ℕ) → list_any (is_in a) image.text ≡ true → is_keyed (layout_of rewritten) a ≡ false
   off_key a on = ((frame file image rewritten sites base start levels [] read storable stubbed.stored_is stubs.sites_are.ascending).alike a on).right
 
-  pub rewritten_is_safe : IsSafelyRewritten power image notes v tree plain stored (extra.worst 0) (rewritten_file image sites base start)
+  pub rewritten_is_safe : IsSafelyRewritten power image notes v tree plain stored (extra.worst 0) start (rewritten_file image sites base start)
   rewritten_is_safe = record {
     rewritten = rewritten;
     is = ap (λ f. image_of (stored_image f (patches_from base sites) base (block_bytes base sites) start)) (file_is file image read) ∙ stubbed.stored_is;
+    same_text = view_text image (stored_image file (patches_from base sites) base (block_bytes base sites) start) base (block_bytes base sites) start;
+    key = key_of base (block_bytes base sites) start;
+    keyed = view_key image (stored_image file (patches_from base sites) base (block_bytes base sites) start) base (block_bytes base sites) start;
+    starts = refl;
     promise = keeps power file image notes v tree plain stored extra least sites base start rewritten supplied off_key;
     follows = follows power file image notes v tree plain stored extra least sites base start rewritten supplied off_key;
   }

@@ -11,6 +11,7 @@ pub mod Short
 pub mod FewMarks
 pub mod Supplied
 pub mod Places
+pub mod Ended
 pub mod Follows
 pub mod Law
 pub mod Grows

@@ -1,7 +1,7 @@
 -- The first mark of an edge may be a switch, and no other is.
-use Rattle.std.proofs.Common.{◌≡◌, ◌≢◌, ℕ, zero, suc, ◌+◌, ◌<◌, ◌≤◌, ◌⊎◌, inl, inr, Bool, true, false, not, ◌&&◌, List, [], ◌∷◌, ◌++◌, map, length, slice_get, Option, Some, None, refl, sym, ap, ◌∙◌, subst, arith, ⊎_elim, append_assoc}
+use Rattle.std.proofs.Common.{◌≡◌, ℕ, suc, ◌+◌, ◌<◌, ◌≤◌, inl, inr, Bool, true, false, not, ◌&&◌, List, [], ◌∷◌, ◌++◌, map, length, slice_get, Some, sym, ap, subst, arith, append_assoc}
 use Rattle.std.specs.Prelude.{All}
-use Rattle.std.proofs.lemmas.List.Elements.{All-nil, All-cons, All-append, All-map}
+use Rattle.std.proofs.lemmas.List.Elements.{All-append, All-map}
 use Rattle.cost_theory.specs.Graph.{Graph, Loops, leaves, goes_back}
 use Rattle.cost_theory.specs.Accepted.{IsProgram, AreAccepted}
 use Rattle.cost_theory.specs.Worst.{Numbers}

@@ -5,13 +5,12 @@ use Rattle.std.proofs.lemmas.Bool.{cases_lt, and_parts}
 use Rattle.std.proofs.lemmas.List.{length-map}
 use Rattle.std.proofs.lemmas.List.Elements.{All-nil, All-cons, All-append}
 use Rattle.std.proofs.lemmas.Option.{slice_get_within, get_or_from_slice_get}
-use Rattle.scale_base.specs.declared.fragments.Fragment.{Fragment}
 use Rattle.scale_base.specs.declared.stepping.Class.{Class}
-use Rattle.scale_base.specs.Image.{Image, image_of}
+use Rattle.scale_base.specs.Image.{Image}
 use Rattle.power_model.specs.Numbers.{PowerModel}
 use Rattle.cost_theory.specs.Graph.{Graph, Loops, is_back, is_header, leaves, goes_back}
 use Rattle.cost_theory.specs.Accepted.{IsProgram}
-use Rattle.cost_theory.specs.Least.{Least}
+use Rattle.least_laws.specs.Charged.{Charged}
 use Rattle.cost_theory.specs.Worst.{Numbers}
 use Rattle.cost_theory.specs.Reached.{Code, edge_at}
 use Rattle.cost_theory.proofs.Nesting.{accepted_entered, header_held}
@@ -20,7 +19,7 @@ use Rattle.graph_runs.specs.EdgeCosts.{edge_class}
 use Rattle.graph_runs.specs.Laws.{IsProgramOf}
 use Rattle.graph_runs.specs.RunMoves.{text_graph}
 use Rattle.graph_runs.specs.Text.{Text, text_of, kind_at}
-use Rattle.code_graph.specs.FlowGraph.{FlowGraph, graph}
+use Rattle.code_graph.specs.FlowGraph.{FlowGraph}
 use Rattle.loop_file.specs.declared.notes.LoopNote.{LoopNote}
 use Rattle.loop_file.specs.Kept.{noted_loops}
 use Rattle.natural_loops.specs.Noted.{node_address}
@@ -34,12 +33,12 @@ use Rattle.level_tables.specs.Tables as tables
 use Rattle.stub_writer.specs.Fragments.{IsShadow}
 use Rattle.stub_writer.specs.Stubs.{Site}
 use Rattle.stored_runs.specs.Marks.{place_at, fragments_by, counters_after, counters_behind}
-use Rattle.shadow_counts.specs.Shadows.{AreCountable, count_over}
+use Rattle.shadow_counts.specs.Shadows.{AreCountable}
 use Rattle.marked_runs.specs.Marked as marked_specs
 use Rattle.marked_runs.proofs.Graphs.{loops_are_countable}
-use Rattle.rewritten_runs.specs.Stubs.{IsWeighed, HasStubs, marks_by_slack, told_at, fragment_of, fragments_at, loop_of, is_counted, counter_of, set_before}
+use Rattle.rewritten_runs.specs.Stubs.{IsWeighed, marks_by_slack, told_at, fragment_of, fragments_at, loop_of, is_counted, counter_of, set_before}
 use Rattle.rewritten_runs.proofs.Programs.{program_of}
-use Rattle.rewritten_runs.proofs.Edges.{branch_led, led_class, call_goes_on}
+use Rattle.rewritten_runs.proofs.Edges.{branch_led, call_goes_on}
 use Rattle.rewritten_runs.proofs.MarkLists.{set_at, at_set, effect, through, marks_all, exits_are, resets_are, counts_are, counter_through, others_through}
 
 -- ---- fragments act as their marks do
@@ -223,7 +222,7 @@ module _ (power : PowerModel) (image : Image) (notes : List LoopNote) (v : FlowG
 
   -- ---- what the fragments do to the counters
 
-  module _ (sites : List Site) (least : Least) (ways : (e : ℕ) (class : Class) → e < length code.edges → edge_class t (slice_get code.edges e) ≡ Some class → fragments_by (place_at sites (edge_at (slice_get code.edges e))) class ≡ fragments_at power image v tree marked stored least e) where
+  module _ (sites : List Site) (least : Charged) (ways : (e : ℕ) (class : Class) → e < length code.edges → edge_class t (slice_get code.edges e) ≡ Some class → fragments_by (place_at sites (edge_at (slice_get code.edges e))) class ≡ fragments_at power image v tree marked stored least e) where
     behind : (e : ℕ) (class : Class) → e < length code.edges → edge_class t (slice_get code.edges e) ≡ Some class → (c : ℕ → ℕ) (w : ℕ) → counters_behind (fragments_by (place_at sites (edge_at (slice_get code.edges e))) class) c w ≡ through w (marked e) (c w)
     behind e class lt is c w = ap (λ fs. counters_behind fs c w) (ways e class lt is) ∙ all_act power l counted stored (told_at power image v tree marked stored least e) (marked e) c w
 

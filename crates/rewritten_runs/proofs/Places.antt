@@ -1,10 +1,10 @@
 -- Where a kept run stands in the graph: by its moves, and by what it carries.
-use Rattle.std.proofs.Common.{◌≡◌, ℕ, ◌+◌, ◌-◌, ◌<◌, Bool, List, [], ◌∷◌, map, Option, Some, None, refl, sym, ap, ◌∙◌, subst, arith}
+use Rattle.std.proofs.Common.{◌≡◌, ℕ, ◌-◌, Bool, List, [], ◌∷◌, map, Option, Some, None, refl, ap, ◌∙◌, arith}
 use Rattle.std.specs.Prelude.{◌||◌}
 use Rattle.std.specs.List.{list_any}
 use Rattle.scale_base.specs.State.{Setting}
 use Rattle.cost_theory.specs.Graph.{Graph, Loops, sum_below, only, is_round, next_edge}
-use Rattle.cost_theory.specs.Worst.{Numbers, left_at, turns}
+use Rattle.cost_theory.specs.Worst.{Numbers, turns}
 use Rattle.cost_theory.specs.Steps as steps
 use Rattle.cost_theory.specs.Steps.{left_call, add_call, left_calls, left_at_node, cycles_left}
 use Rattle.cost_theory.specs.Reached.{HasNoBadWord}

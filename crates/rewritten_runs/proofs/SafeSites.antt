@@ -1,5 +1,5 @@
 -- The marked instructions of a program are safe: their tables hold levels, they have a row for each count, and their ways lead to words of the text.
-use Rattle.std.proofs.Common.{◌≡◌, ◌≢◌, ℕ, ℤ, zero, suc, ◌+◌, ◌*◌, ◌/◌, ◌%◌, ◌^◌, ◌<◌, ◌≤◌, ◌⊎◌, inl, inr, Bool, true, false, cond, List, [], ◌∷◌, map, length, slice_get, Option, Some, None, refl, sym, ap, ◌∙◌, subst, arith, eqb-true, eq-eqb, ne_eqb}
+use Rattle.std.proofs.Common.{◌≡◌, ◌≢◌, ℕ, ℤ, zero, suc, ◌+◌, ◌%◌, ◌^◌, ◌<◌, ◌≤◌, inl, inr, true, false, cond, List, [], ◌∷◌, length, slice_get, Option, Some, None, refl, sym, ap, ◌∙◌, subst, arith, eqb-true, eq-eqb, ne_eqb}
 use Rattle.std.specs.Prelude.{All, ◌==◌, slice_index, option_and_then, IfSome}
 use Rattle.std.proofs.lemmas.Bool.{cond_both, and_parts}
 use Rattle.std.proofs.lemmas.List.{length-map}
@@ -11,15 +11,14 @@ use Rattle.scale_base.specs.declared.instruction.Instr.TheVariants as instr
 use Rattle.scale_base.specs.declared.instruction.BranchOp.{BranchOp}
 use Rattle.scale_base.specs.declared.stepping.Class.{Class}
 use Rattle.scale_base.specs.declared.stepping.Class.TheVariants as classes
-use Rattle.scale_base.specs.Arith.{moved_by, plus}
-use Rattle.scale_base.specs.Image.{Image, image_of, is_word_address}
+use Rattle.scale_base.specs.Arith.{moved_by}
+use Rattle.scale_base.specs.Image.{Image, is_word_address}
 use Rattle.scale_base.specs.Reading.{instr_of, row_of, opcode_of, funct3_of, funct7_of, branch_of, branch_op_of, load_of, load_op_of, store_of, store_op_of, immediate_of, imm_op_of, register_of, reg_op_of}
 use Rattle.power_model.specs.Numbers.{PowerModel, IsPowerModel}
 use Rattle.cost_theory.specs.declared.edges.Edge.{Edge}
 use Rattle.cost_theory.specs.declared.edges.EdgeKind.TheVariants.{Taken, Untaken, Jump}
-use Rattle.cost_theory.specs.declared.edges.Word.TheVariants as words
 use Rattle.cost_theory.specs.Graph.{Graph, Loops}
-use Rattle.cost_theory.specs.Least.{Least}
+use Rattle.least_laws.specs.Charged.{Charged}
 use Rattle.cost_theory.specs.Worst.{Numbers}
 use Rattle.cost_theory.specs.Reached.{Code, Reached, LeadsTo, edges_of, call_returns, edge_at}
 use Rattle.cost_theory.proofs.Programs.{source_reached}
@@ -27,7 +26,7 @@ use Rattle.cost_theory.proofs.Reaching.{Within, word_edge}
 use Rattle.graph_runs.specs.EdgeCosts.{edge_class}
 use Rattle.graph_runs.specs.RunMoves.{text_graph}
 use Rattle.graph_runs.specs.Text.{Text, text_of, instr_at, instr_kind, kind_at}
-use Rattle.code_graph.specs.FlowGraph.{FlowGraph, graph}
+use Rattle.code_graph.specs.FlowGraph.{FlowGraph}
 use Rattle.loop_file.specs.declared.notes.LoopNote.{LoopNote}
 use Rattle.loop_file.specs.Kept.{noted_loops}
 use Rattle.loop_tree.specs.Tree.{LoopView, loops}
@@ -35,7 +34,6 @@ use Rattle.scale_base.specs.declared.fragments.Mark.{Mark}
 use Rattle.scale_base.specs.declared.fragments.Mark.TheVariants as marks
 use Rattle.scale_sites.specs.Counters.{counted_loops}
 use Rattle.scale_sites.specs.Sites.{is_branch}
-use Rattle.level_tables.specs.Tables as tables
 use Rattle.stub_writer.specs.Fragments.{IsShadow}
 use Rattle.stub_writer.specs.Stubs.{Site, Way, Place, Forked, Straight}
 use Rattle.stored_runs.specs.Marks.{place_at, fragments_by}
@@ -89,7 +87,7 @@ place_of_site (s ∷ sites) up (suc k) d lt =
     ap (λ b. cond b (Some s.place) (place_at sites site.at)) off ∙ place_of_site sites up.1 k d (omega arith)
 
 module _ (power : PowerModel) (ok : IsPowerModel power) (image : Image) (notes : List LoopNote) (v : FlowGraph) (tree : LoopView) (plain stored : Numbers) (weighed : IsWeighed power image notes v tree plain stored)
-    (least : Least) (sites : List Site) (are : AreSitesOf image v.code (fragments_at power image v tree (marks_by_slack power image v tree plain) stored least) sites)
+    (least : Charged) (sites : List Site) (are : AreSitesOf image v.code (fragments_at power image v tree (marks_by_slack power image v tree plain) stored least) sites)
     (few_marks : (e : ℕ) → e < length v.code.edges → length (marks_by_slack power image v tree plain e) ≤ 17) where
   abbrev t : Text
   t = text_of image

@@ -1,8 +1,8 @@
 -- A block whose stubs are in reach is short, and the text lies before it.
-use Rattle.std.proofs.Common.{◌≡◌, ◌≢◌, ℕ, ℤ, pos, negsuc, zero, suc, ◌+◌, ◌-◌, ◌*◌, ◌/◌, ◌%◌, ◌^◌, ◌<◌, ◌≤◌, ◌⊎◌, inl, inr, Bool, true, false, cond, List, [], ◌∷◌, ◌++◌, map, length, slice_get, Option, Some, None, Ok, refl, sym, ap, ◌∙◌, subst, arith, ⊎_elim}
-use Rattle.std.specs.Prelude.{All, ◌==◌, ◌&&◌, nat_lt, nat_le, fold}
+use Rattle.std.proofs.Common.{◌≡◌, ℕ, pos, negsuc, suc, ◌+◌, ◌-◌, ◌*◌, ◌%◌, ◌^◌, ◌<◌, ◌≤◌, ◌⊎◌, inl, inr, Bool, true, false, cond, List, [], ◌∷◌, ◌++◌, map, length, slice_get, Option, Some, None, Ok, refl, sym, ap, ◌∙◌, subst, arith, ⊎_elim}
+use Rattle.std.specs.Prelude.{All, ◌==◌, nat_lt, nat_le, fold}
 use Rattle.std.specs.Int.{w32, cast_signed}
-use Rattle.std.specs.List.{sum_by, list_any, flat_map}
+use Rattle.std.specs.List.{sum_by, list_any}
 use Rattle.std.proofs.lemmas.Bool.{cond_both, and_parts, and_from, cases_lt, or_cases}
 use Rattle.std.proofs.lemmas.Bool.Decides.{nat_tests}
 use Rattle.std.proofs.lemmas.List.{length-append}
@@ -12,18 +12,18 @@ use Rattle.std.proofs.lemmas.List.Concat.{flat_map-cons}
 use Rattle.scale_base.specs.declared.ranges.Range.{Range}
 use Rattle.scale_base.specs.declared.fragments.Fragment.{Fragment}
 use Rattle.scale_base.specs.declared.fragments.Fragment.TheVariants as fragments
-use Rattle.scale_base.specs.Image.{Image, image_of, contents, is_in, is_word_address, insert_range, ascending, text_ranges, range_of, text_parts, loaded_headers}
+use Rattle.scale_base.specs.Image.{Image, image_of, contents, is_in, insert_range, ascending, text_ranges, range_of, text_parts, loaded_headers}
 use Rattle.scale_base.proofs.Accepted.{contents-are}
-use Rattle.elf_patch.specs.Stored.{IsStubBase, IsPlace, text_end, end_in}
+use Rattle.elf_patch.specs.Stored.{IsStubBase, text_end, end_in}
 use Rattle.elf_patch.proofs.Room.{some_place}
 use Rattle.text_laws.proofs.Ranges.{text_ranges_kept}
 use Rattle.graph_runs.specs.Text.{AreApart}
 use Rattle.graph_runs.proofs.RangesApart.{ranges_apart}
 use Rattle.rv_encode.specs.Jumps.{distance}
 use Rattle.stub_writer.specs.Fragments.{code_len, rows_of}
-use Rattle.stub_writer.specs.Stubs.{Site, Way, Place, Forked, Straight, way_len, way_rows, rows_by, stub_len, stub_len_of, stub_rows, stub_rows_of, stubs_len, block_rows, block_size, block_bytes, block_words, is_even, is_field, reaches, is_near, out_of_reach, stub_reaches_of}
+use Rattle.stub_writer.specs.Stubs.{Site, Place, Forked, Straight, way_rows, rows_by, stub_len, stub_len_of, stub_rows, stub_rows_of, stubs_len, block_rows, block_size, block_bytes, is_even, is_field, reaches, is_near, out_of_reach, stub_reaches_of}
 use Rattle.stub_runs.proofs.BlockLaws.{codes_small, block_length, words_length}
-use Rattle.stored_runs.specs.Stubbed.{IsSafe, IsSafeWay, AreSafeWays, IsSafeSite}
+use Rattle.stored_runs.specs.Stubbed.{IsSafe, AreSafeWays, IsSafeSite}
 
 -- ---- reach
 

@@ -3,7 +3,7 @@ use Rattle.std.proofs.Common.{◌≡◌, ℕ, ◌*◌, ◌<◌, ◌≤◌, true,
 use Rattle.scale_base.specs.Image.{Image}
 use Rattle.power_model.specs.Numbers.{PowerModel, IsPowerModel}
 use Rattle.cost_theory.specs.Laws.{IsAnalyzed}
-use Rattle.cost_theory.specs.Least.{Least, AreLeast}
+use Rattle.least_laws.specs.Charged.{Charged, AreCharged}
 use Rattle.cost_theory.specs.Worst.{Numbers, AreNumbers}
 use Rattle.graph_runs.specs.EdgeCosts.{weights}
 use Rattle.graph_runs.specs.KeptSteps.{Carried, by_extents}
@@ -24,7 +24,7 @@ use Rattle.power_model.specs.Switches.{period, costs_of}
 use Rattle.paid_runs.specs.Timely.{weights_of, AreTables}
 use Rattle.rewritten_runs.specs.Stubs.{stored_weights, marks_by_slack, is_counted, counter_of}
 
-pub record IsSupplied (power : PowerModel) (file : List ℕ) (image : Image) (notes : List LoopNote) (v : FlowGraph) (tree : LoopView) (plain stored extra : Numbers) (least : Least) (sites : List Site) (base start : ℕ) (rewritten : Image) : Type 0 where
+pub record IsSupplied (power : PowerModel) (file : List ℕ) (image : Image) (notes : List LoopNote) (v : FlowGraph) (tree : LoopView) (plain stored extra : Numbers) (least : Charged) (sites : List Site) (base start : ℕ) (rewritten : Image) : Type 0 where
   pub limits : ℕ → ℕ
   pub ok : IsPowerModel power
   pub graph_is : text_graph (text_of image) v.code ≡ graph v
@@ -38,7 +38,7 @@ pub record IsSupplied (power : PowerModel) (file : List ℕ) (image : Image) (no
   pub shadows : (k : ℕ) → k < (loops v tree).loops → is_counted tree k ≡ true → IsShadow (counter_of tree k)
   pub analyzed : IsAnalyzed (text_graph (text_of image) v.code) (loops v tree) (noted_loops notes).inside (weights_of power (text_of image) v.code sites) stored
   pub extra_analyzed : IsAnalyzed (text_graph (text_of image) v.code) (loops v tree) (noted_loops notes).inside (marked_specs.extra_weights (text_of image) v.code (costs_of power) sites) extra
-  pub least_are : AreLeast (text_graph (text_of image) v.code) (weights_of power (text_of image) v.code sites) least
+  pub least_are : AreCharged (text_graph (text_of image) v.code) (loops v tree) (weights_of power (text_of image) v.code sites) least
   pub tables : AreTables power (text_of image) v.code (loops v tree) sites (is_counted tree) (counter_of tree) stored least
   pub plain_are : AreNumbers (text_graph (text_of image) v.code) (loops v tree) (weights (text_of image) v.code (costs_of power)) plain
   pub in_time : stored.worst 0 * period power start ≤ power.deadline

@@ -1,18 +1,17 @@
 -- The tables of switches and exits: their words, their rows, and what a level that they name has met.
-use Rattle.std.proofs.Common.{◌≡◌, ◌≢◌, ℕ, zero, suc, ◌+◌, ◌-◌, ◌*◌, ◌/◌, ◌%◌, ◌^◌, ◌<◌, ◌≤◌, ◌⊎◌, inl, inr, Bool, true, false, ◌&&◌, nat_le, List, map, length, slice_index, Option, Some, None, unwrap_or, refl, sym, ap, ◌∙◌, subst, arith}
-use Rattle.std.specs.Prelude.{All, option_map}
+use Rattle.std.proofs.Common.{◌≡◌, ℕ, ◌+◌, ◌-◌, ◌*◌, ◌/◌, ◌^◌, ◌<◌, ◌≤◌, ◌⊎◌, inl, inr, true, false, nat_le, length, slice_index, Option, Some, None, unwrap_or, sym, ap, ◌∙◌, subst, arith}
+use Rattle.std.specs.Prelude.{All}
 use Rattle.std.specs.List.{range_with_len}
 use Rattle.std.proofs.Math.Nat.{mul-le-mul_right}
 use Rattle.std.proofs.lemmas.Bool.{and_parts}
 use Rattle.std.proofs.lemmas.Bool.Decides.{nat_tests}
-use Rattle.std.proofs.lemmas.List.{length-map}
 use Rattle.std.proofs.lemmas.List.Elements.{All-map}
 use Rattle.std.proofs.lemmas.List.FromFn.{length-map-range_with_len}
 use Rattle.power_model.specs.Levels.{level}
 use Rattle.power_model.specs.Numbers.{PowerModel}
-use Rattle.power_model.specs.Price.{switch_time, switch_energy}
+use Rattle.power_model.specs.Price.{switch_time}
 use Rattle.level_tables.specs.Search.{least_below}
-use Rattle.level_tables.specs.Tables.{EdgeNumbers, is_in_time, pays, pays_for, meets_both, entry_of, IsEntry, nibbles, nibble, word_of, shift_of, trips_left, at_row, row_of, rows_of}
+use Rattle.level_tables.specs.Tables.{EdgeNumbers, is_in_time, pays, meets_both, entry_of, nibble, word_of, shift_of, trips_left, at_row, row_of, rows_of}
 use Rattle.level_tables.proofs.Searching.{IsFound, least-is}
 use Rattle.level_tables.proofs.Words.{nibbles-fit}
 use Rattle.level_tables.proofs.Entries.{entry-is, entries-small, word-at, row-at}

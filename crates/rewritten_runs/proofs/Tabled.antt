@@ -1,26 +1,22 @@
 -- The levels in the tables of a program meet the tests of time and of payment.
 use Rattle.std.proofs.Common.{◌≡◌, ◌≢◌, ℕ, zero, suc, ◌+◌, ◌-◌, ◌*◌, ◌/◌, ◌^◌, ◌<◌, ◌≤◌, ◌⊎◌, inl, inr, Bool, true, false, nat_le, List, [], ◌∷◌, map, length, slice_get, Option, Some, None, refl, sym, ap, ◌∙◌, subst, arith}
-use Rattle.std.specs.Prelude.{All, slice_index, option_map, option_and_then, is_some}
-use Rattle.std.proofs.lemmas.Bool.Decides.{nat_tests}
+use Rattle.std.specs.Prelude.{All, slice_index, option_map, is_some}
 use Rattle.std.proofs.Math.Nat.{mul-le-mul_right}
-use Rattle.scale_base.specs.declared.fragments.Fragment.{Fragment}
-use Rattle.scale_base.specs.declared.stepping.Class.{Class}
-use Rattle.scale_base.specs.Image.{Image, image_of}
+use Rattle.scale_base.specs.Image.{Image}
 use Rattle.power_model.specs.Numbers.{PowerModel, IsPowerModel}
-use Rattle.power_model.specs.Price.{switch_time, switch_energy, cycles_of}
+use Rattle.power_model.specs.Price.{switch_time, switch_energy}
 use Rattle.cost_theory.specs.declared.edges.EdgeKind.TheVariants as kind
 use Rattle.cost_theory.specs.Graph.{Graph, Loops, AreWithin, only, leaves}
-use Rattle.cost_theory.specs.Least.{Least}
+use Rattle.least_laws.specs.Charged.{Charged, to_end_after}
 use Rattle.cost_theory.specs.Worst.{Numbers, cost, slack, rest, turns, left_behind}
-use Rattle.cost_theory.specs.Reached.{Code, edge_at}
+use Rattle.cost_theory.specs.Reached.{Code}
 use Rattle.cost_theory.proofs.Basics.{term-le-sum}
-use Rattle.graph_runs.specs.EdgeCosts.{edge_class}
 use Rattle.graph_runs.specs.RunMoves.{text_graph}
 use Rattle.graph_runs.specs.Text.{Text, text_of}
 use Rattle.code_graph.specs.FlowGraph.{FlowGraph, graph}
 use Rattle.loop_file.specs.declared.notes.LoopNote.{LoopNote}
 use Rattle.loop_tree.specs.Tree.{LoopView, loops}
-use Rattle.worst_cycles.specs.Worst.{slack_at, rest_at}
+use Rattle.worst_cycles.specs.Worst.{rest_at}
 use Rattle.scale_base.specs.declared.fragments.Mark.{Mark}
 use Rattle.scale_base.specs.declared.fragments.Mark.TheVariants as marks
 use Rattle.scale_sites.specs.Counters.{counted_loops, edge_goes_on}
@@ -28,10 +24,9 @@ use Rattle.scale_sites.specs.Sites.{is_branch, edge_branches}
 use Rattle.scale_sites.specs.Weights.{tail_of}
 use Rattle.level_tables.specs.Tables as tables
 use Rattle.stub_writer.specs.Stubs.{Site}
-use Rattle.stored_runs.specs.Marks.{Shadow, place_at, fragments_by, tail_cycles, level_stored}
-use Rattle.shadow_counts.specs.Shadows.{AreCountable}
+use Rattle.stored_runs.specs.Marks.{Shadow, tail_cycles, level_stored}
 use Rattle.power_model.specs.Switches.{period, energy, costs_of}
-use Rattle.paid_runs.specs.Timely.{weights_of, IsInTime, IsPaying, IsChosen, AreTables}
+use Rattle.paid_runs.specs.Timely.{weights_of, IsChosen, AreTables}
 use Rattle.rewritten_runs.specs.Stubs.{IsWeighed, AreSitesOf, marks_by_slack, told_at, tail_at, fragment_of, fragments_at, loop_of, is_counted, counter_of, stored_weights}
 use Rattle.rewritten_runs.proofs.Edges.{call_goes_on}
 use Rattle.rewritten_runs.proofs.Marked.{IsMarkOf, program_is, countable, marked_led, marks_of_edge, counted_is, loop_is}
@@ -56,7 +51,7 @@ paid_by power None tail i j h = let never : ⊥ = cc in absurd never
 paid_by power (Some z) tail i j h = record { z = z; is = refl; pays = leb-le (switch_energy power i j) ((z + tail) * (energy power i - energy power j)) h }
 
 module _ (power : PowerModel) (ok : IsPowerModel power) (image : Image) (notes : List LoopNote) (v : FlowGraph) (tree : LoopView) (plain stored : Numbers) (weighed : IsWeighed power image notes v tree plain stored)
-    (least : Least) (sites : List Site) (are : AreSitesOf image v.code (fragments_at power image v tree (marks_by_slack power image v tree plain) stored least) sites) where
+    (least : Charged) (sites : List Site) (are : AreSitesOf image v.code (fragments_at power image v tree (marks_by_slack power image v tree plain) stored least) sites) where
   abbrev t : Text
   t = text_of image
 
@@ -134,15 +129,15 @@ module _ (power : PowerModel) (ok : IsPowerModel power) (image : Image) (notes :
       let r = rest_is e u to in
       let grown = time_grows (told e).left ((told e).slack + more) (slack g l stored (cost g stored w) e + left_behind g l stored counts e) (period power j) (period power i) (switch_time power i j) met.in_time (omega (arith, s, small)) in
       let left : rest g l stored e + tail_cycles (costs_of power) (fragments_at power image v tree marked stored least e) ≡ (told e).left = omega (arith, r, tail) in
-      let to_end : option_and_then least.to_end ((graph v).target e) ≡ least.to_end u = ap (option_and_then least.to_end) to in
-      let paid = paid_by power (option_and_then least.to_end ((graph v).target e)) (tail_at power marked e) i j met.pays in
+      let to_end : to_end_after g l least e ≡ to_end_after (graph v) l least e = ap (λ q. to_end_after q l least e) weighed.code_is.graph_is in
+      let paid = paid_by power (to_end_after (graph v) l least e) (tail_at power marked e) i j met.pays in
       record {
         lower = met.lower;
         inside = no_call;
         target = u;
         leads = to;
         in_time = subst (λ x. x * period power j + switch_time power i j ≤ (x + (slack g l stored (cost g stored w) e + left_behind g l stored counts e)) * period power i) (sym left) grown;
-        paying = (paid.z, sym to_end ∙ paid.is, subst (λ x. switch_energy power i j ≤ (paid.z + x) * (energy power i - energy power j)) (sym tail) paid.pays);
+        paying = (paid.z, to_end ∙ paid.is, subst (λ x. switch_energy power i j ≤ (paid.z + x) * (energy power i - energy power j)) (sym tail) paid.pays);
       }
 
   no_more : (told : tables.EdgeNumbers) → record told { slack = told.slack + 0 } ≡ told

@@ -1,5 +1,5 @@
 -- The weights of marked edges, by their marks and by the marked instructions.
-use Rattle.std.proofs.Common.{◌≡◌, ◌≢◌, ℕ, zero, suc, ◌+◌, ◌*◌, ◌<◌, ◌≤◌, ◌⊎◌, inl, inr, Bool, true, false, cond, ◌&&◌, nat_eq, List, [], ◌∷◌, map, length, slice_get, Option, Some, None, refl, sym, ap, ◌∙◌, subst, arith, eqb-true, eq-eqb, ⊎_elim}
+use Rattle.std.proofs.Common.{◌≡◌, ◌≢◌, ℕ, zero, suc, ◌+◌, ◌*◌, ◌<◌, ◌≤◌, inl, inr, Bool, true, false, cond, ◌&&◌, nat_eq, List, [], ◌∷◌, map, length, slice_get, Option, Some, None, refl, sym, ap, ◌∙◌, subst, arith, eqb-true, eq-eqb, ⊎_elim}
 use Rattle.std.specs.Prelude.{All, nat_lt, ◌==◌}
 use Rattle.std.specs.List.{sum_by}
 use Rattle.std.proofs.Math.Path.{fun_ext}
@@ -9,13 +9,11 @@ use Rattle.std.proofs.lemmas.List.Sums.{sum_by-cons}
 use Rattle.scale_base.specs.declared.fragments.Fragment.{Fragment}
 use Rattle.scale_base.specs.declared.instruction.Instr.TheVariants as instr
 use Rattle.scale_base.specs.declared.stepping.Class.{Class}
-use Rattle.scale_base.specs.declared.stepping.Class.TheVariants as classes
-use Rattle.scale_base.specs.Image.{Image, image_of, is_word_address}
-use Rattle.power_model.specs.declared.power.Costs.{Costs}
+use Rattle.scale_base.specs.Image.{Image, is_word_address}
 use Rattle.power_model.specs.Numbers.{PowerModel}
 use Rattle.power_model.specs.Price.{cycles_of}
 use Rattle.cost_theory.specs.Graph.{Graph, Loops, any_below, only}
-use Rattle.cost_theory.specs.Least.{Least}
+use Rattle.least_laws.specs.Charged.{Charged}
 use Rattle.cost_theory.specs.Worst.{Numbers}
 use Rattle.cost_theory.specs.Reached.{Code, edge_at}
 use Rattle.cost_theory.proofs.Basics.{search_below}
@@ -38,7 +36,7 @@ use Rattle.stored_runs.specs.Stubbed.{IsOfImage}
 use Rattle.marked_runs.specs.Marked as marked_specs
 use Rattle.power_model.specs.Switches.{costs_of}
 use Rattle.paid_runs.specs.Timely.{weights_of}
-use Rattle.rewritten_runs.specs.Stubs.{IsWeighed, HasStubs, AreSitesOf, marks_by_slack, told_at, fragment_of, fragments_at, plain_weights, extra_weights, stored_weights}
+use Rattle.rewritten_runs.specs.Stubs.{IsWeighed, AreSitesOf, marks_by_slack, told_at, fragment_of, fragments_at, extra_weights, stored_weights}
 use Rattle.rewritten_runs.proofs.Edges.{edge_is, led_class, branch_kind, jump_kind}
 use Rattle.rewritten_runs.proofs.Marked.{program_is, marked_led}
 
@@ -98,7 +96,7 @@ any_from (suc n) q k lt2 h = ⊎_elim
     (cases_lt k n)
 
 module _ (power : PowerModel) (image : Image) (notes : List LoopNote) (v : FlowGraph) (tree : LoopView) (plain stored : Numbers) (weighed : IsWeighed power image notes v tree plain stored)
-    (least : Least) (sites : List Site) (are : AreSitesOf image v.code (fragments_at power image v tree (marks_by_slack power image v tree plain) stored least) sites) where
+    (least : Charged) (sites : List Site) (are : AreSitesOf image v.code (fragments_at power image v tree (marks_by_slack power image v tree plain) stored least) sites) where
   abbrev t : Text
   t = text_of image
 

@@ -1,6 +1,6 @@
 -- How the run of a rewritten image follows that of the original, on every input: it meets it behind each step that is kept, it ends as it does, and it is in time
 -- and never faster than before all along.
-use Rattle.std.specs.Prelude.{◌≡◌, ◌≢◌, ℕ, ◌+◌, ◌-◌, ◌*◌, ◌<◌, ◌≤◌, Bool, true, false, List, map, length, slice_index, Some}
+use Rattle.std.specs.Prelude.{◌≡◌, ◌≢◌, ℕ, ◌+◌, ◌-◌, ◌*◌, ◌<◌, ◌≤◌, true, List, map, length, slice_index, Some}
 use Rattle.std.specs.List.{sum_by}
 use Rattle.scale_base.specs.Image.{Image}
 use Rattle.scale_base.specs.Layout.{layout_of}

@@ -1,7 +1,7 @@
 -- The stubs of a program: the marks that the slacks of its edges give them, what the marked edges cost, the levels that their switches go to, and the marked
 -- instructions with their fragments.
 -- The marks are chosen under the plain weights of the edges; all numbers behind the tables are those under the stored weights.
-use Rattle.std.specs.Prelude.{◌≡◌, ◌≢◌, ℕ, zero, suc, ◌+◌, ◌-◌, ◌<◌, min, nat_lt, Bool, true, false, List, [], ◌∷◌, map, length, All, slice_get, slice_index, slice_index_or, Option, Some, None, option_map, option_and_then, Result, Ok}
+use Rattle.std.specs.Prelude.{◌≡◌, ◌≢◌, ℕ, zero, suc, ◌+◌, ◌-◌, ◌<◌, min, nat_lt, Bool, true, false, List, [], ◌∷◌, map, length, All, slice_get, slice_index, slice_index_or, Some, option_map, Ok}
 use Rattle.std.specs.List.{list_any}
 use Rattle.scale_base.specs.declared.fragments.Fragment.{Fragment}
 use Rattle.scale_base.specs.declared.fragments.Fragment.TheVariants as fragments

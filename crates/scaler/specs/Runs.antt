@@ -1,11 +1,12 @@
 -- What a held image promises: its runs are those of the original image, at one level, and those that keep the loops' bounds and the return
 -- addresses end in time.
-use Rattle.std.specs.Prelude.{◌≡◌, ℕ, ◌≤◌, List, length, Ok}
+use Rattle.std.specs.Prelude.{◌≡◌, ℕ, ◌≤◌, List, length, Some, Ok}
 use Rattle.scale_base.specs.declared.summary.Summary.{Summary}
 use Rattle.scale_base.specs.Image.{Image, image_of}
 use Rattle.scale_base.specs.Run.{Run, GoesOn, run_of}
 use Rattle.power_model.specs.Numbers.{PowerModel, Numbers}
 use Rattle.power_model.specs.Price.{IsHeld}
+use Rattle.power_model.specs.Slowest.{slowest_of}
 use Rattle.machine_file.specs.Machine.{read_machine}
 use Rattle.loop_file.specs.declared.notes.LoopNote.{LoopNote}
 use Rattle.loop_file.specs.Loops.{read_loops}
@@ -55,6 +56,8 @@ pub record IsHeldSafely (image machine loops stored : List ℕ) (summary : Summa
   pub original_is : image_of image ≡ Ok original
   pub notes_are : read_loops original loops ≡ Ok notes
   pub held_is : image_of stored ≡ Ok held
+  -- the printed level is the slowest at which the printed cycles are in time
+  pub slow : slowest_of power summary.worst ≡ Some summary.start
   pub runs : RunAlike original held (length power.levels)
   pub kept : KeptAsPrinted power original notes held summary
   pub ends : KeptRunsEnd power original notes held summary

@@ -1,0 +1,12 @@
+use Rattle.std.proofs.Common.{rules}
+use Rattle.std.specs.Prelude.{IfOk}
+use Rattle.cost_theory.specs.Accepted.{AreWeights}
+use Rattle.call_orders.specs.Arcs.{number_at}
+use Rattle.power_model.specs.Price.{cycles_of}
+use Rattle.graph_runs.specs.EdgeCosts.{cost_of}
+use Rattle.code_graph.specs.FlowGraph.{graph}
+use Rattle.code_graph.proofs.WeightLists.{weights_hold, listed_weights}
+use Rattle.code_graph.proofs.graph.CodeGraph.base_weights.Goals as goal
+
+pub returns-clause-calls : goal.returns-clause-calls
+returns-clause-calls c = λ t is. let hold = weights_hold t c.args.self.now (cycles_of c.args.costs.now) is in search rules
