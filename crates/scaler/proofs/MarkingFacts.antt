@@ -236,21 +236,18 @@ module _ (power : PowerModel) (image : Image) (notes : List LoopNote) (v : FlowG
       pub marking_found : (start : ℕ) → Ok start ≡ starting_level power total → HasLeftSizes v x → IsLeftOf v (loops v t) (by_edge ws) x → (counted : List ℕ) → counted ≡ counted_loops t → (ends : LeastView) → IsLeastOf v (loops v t) (number_at ws) ends → AreSmallLeast v ends
           → (m : Marking) → m ≡ record { counters = counted; sites = s; worst = x; least = ends } → IsMarkingFound power image v t (Ok (m, start))
       marking_found start started sizes left counted counted_is ends found_least ends_small m m_is =
-          (plain, n, least, subst (λ (q : Marking). IsMarkedAt power image v t plain n least q start) (sym m_is) whole)
+          (plain, n, found_least.0, subst (λ (q : Marking). IsMarkedAt power image v t plain n found_least.0 q start) (sym m_is) whole)
         where
-          abbrev least : Charged
-          least = found_least.0
-
-          holds : HoldsLeast v (loops v t) least ends
+          holds : HoldsLeast v (loops v t) found_least.0 ends
           holds = found_least.2
 
-          least_are : AreCharged (graph v) (loops v t) w least
-          least_are = subst (λ (f : ℕ → ℕ). AreCharged (graph v) (loops v t) f least) stored_is found_least.1
+          least_are : AreCharged (graph v) (loops v t) w found_least.0
+          least_are = subst (λ (f : ℕ → ℕ). AreCharged (graph v) (loops v t) f found_least.0) stored_is found_least.1
 
           count : (loops v t).loops ≡ length t.headers
           count = length-map t.headers (node_address v)
 
-          marking : IsMarking power image v t plain n least (record { counters = counted; sites = s; worst = x; least = ends })
+          marking : IsMarking power image v t plain n found_least.0 (record { counters = counted; sites = s; worst = x; least = ends })
           marking = record {
             code = is;
             tree = ((noted_loops notes).inside, tree.tree);
@@ -271,7 +268,7 @@ module _ (power : PowerModel) (image : Image) (notes : List LoopNote) (v : FlowG
             after_small = λ e z lt to. ends_small.after e z (holds.after e lt ∙ ap Some to);
           }
 
-          whole : IsMarkedAt power image v t plain n least (record { counters = counted; sites = s; worst = x; least = ends }) start
+          whole : IsMarkedAt power image v t plain n found_least.0 (record { counters = counted; sites = s; worst = x; least = ends }) start
           whole = record {
             plain_are = plain_are;
             stored_are = are;

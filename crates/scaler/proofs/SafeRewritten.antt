@@ -9,6 +9,7 @@ use Rattle.scale_base.specs.Answer.{AnswersBy}
 use Rattle.scale_base.specs.Image.{Image, image_of}
 use Rattle.power_model.specs.Numbers.{PowerModel}
 use Rattle.power_model.specs.Price.{time_at}
+use Rattle.power_model.specs.Slowest.{slowest_of}
 use Rattle.machine_file.specs.Machine.{read_machine}
 use Rattle.machine_file.proofs.RangeLaws.{model-from_bytes}
 use Rattle.loop_file.specs.declared.notes.LoopNote.{LoopNote}
@@ -99,6 +100,7 @@ safe image machine loops stored summary short _ _ h =
       key = made.key;
       keyed = made.keyed;
       starts = made.starts ∙ sym start;
+      slow = subst (λ (s : Summary). slowest_of went.power s.worst ≡ Some s.start) (sym numbers) p.slow;
       time = time ∙ (ap (λ i. time_at went.power i (p.stored.worst 0)) (sym start) ∙ ap (time_at went.power summary.start) (sym worst));
       in_time = subst (λ t. t ≤ went.power.deadline) (sym time) (found_in_time went.power (p.stored.worst 0) p.start p.slow);
       promise = subst (λ b. KeepsThePromise went.power went.original went.notes made.rewritten b) (sym bound) made.promise;
@@ -112,6 +114,7 @@ safe image machine loops stored summary short _ _ h =
       base = p.base;
       weighed = p.weighed;
       stubs = p.stubs;
+      file_is = bytes ∙ ap (rewritten_file went.original p.sites p.base) (sym start);
       printed = (worst, bound);
       follows = subst (λ b. FollowsInTime went.power went.original made.rewritten went.notes p.code p.tree (stored_weights went.power went.original p.code (marks_by_slack went.power went.original p.code p.tree p.plain)) p.plain p.stored b) (sym bound) made.follows;
     }
