@@ -1,6 +1,6 @@
 -- The numbers of a program under the stored weights, and their ranges.
-use Rattle.std.proofs.Common.{◌≡◌, ℕ, zero, suc, ◌+◌, ◌-◌, ◌*◌, ◌<◌, ◌≤◌, ◌^◌, Bool, true, false, List, [], ◌∷◌, length, map, slice_get, nat_eq, Option, Some, None, is_some, Result, Ok, Err, refl, sym, ap, ◌∙◌, subst, arith, ⊎_elim, inl, inr, eqb-true}
-use Rattle.std.specs.Prelude.{slice_index, slice_index_or, nat_lt, ◌&&◌}
+use Rattle.std.proofs.Common.{◌≡◌, ℕ, zero, suc, ◌+◌, ◌*◌, ◌<◌, ◌≤◌, Bool, true, false, List, length, map, slice_get, Option, Some, None, is_some, Ok, Err, refl, sym, ap, ◌∙◌, subst, arith, ⊎_elim, inl, inr, eqb-true}
+use Rattle.std.specs.Prelude.{slice_index, nat_lt}
 use Rattle.std.proofs.Math.Path.{fun_ext}
 use Rattle.std.proofs.lemmas.Bool.{cases_lt, and_parts}
 use Rattle.std.proofs.lemmas.Bool.Decides.{nat_tests}
@@ -16,13 +16,13 @@ use Rattle.power_model.specs.declared.power.Costs.{Costs}
 use Rattle.power_model.specs.Numbers.{PowerModel}
 use Rattle.power_model.specs.Price.{cycles_of}
 use Rattle.power_model.specs.Slowest.{slowest_of}
-use Rattle.cost_theory.specs.Accepted.{IsProgram, IsNode, AreAccepted, AreWeights}
+use Rattle.cost_theory.specs.Accepted.{AreWeights}
 use Rattle.cost_theory.specs.Graph.{Graph, Loops, only, sum_below, is_back, is_header}
 use Rattle.cost_theory.specs.Laws.{IsAnalyzed}
 use Rattle.call_orders.specs.Arcs.{number_at}
-use Rattle.least_laws.specs.Charged.{Charged, AreCharged}
+use Rattle.least_laws.specs.Charged.{AreCharged}
 use Rattle.least_cycles.specs.Found.{LeastView, IsInRange, IsLeastOf, AreSmallLeast, HoldsLeast}
-use Rattle.cost_theory.specs.Worst.{Numbers, AreNumbers, cost, turn_back, turns_round, slack, rest}
+use Rattle.cost_theory.specs.Worst.{Numbers, AreNumbers, cost, turn_back, slack, rest}
 use Rattle.cost_theory.proofs.Basics.{sum-none}
 use Rattle.cost_theory.proofs.Contexts as contexts
 use Rattle.cost_theory.proofs.Nesting.{headers-distinct, accepted_entered}
@@ -47,7 +47,7 @@ use Rattle.rewritten_runs.proofs.Grows.{worst_grows}
 use Rattle.rewritten_runs.proofs.Programs.{listed_weights, weights_listed, weights_count}
 use Rattle.scaler.specs.declared.stubs.Marking.{Marking}
 use Rattle.scaler.specs.Markings.{IsMarking}
-use Rattle.scaler.specs.Scalings.{HasMarks, AreSitesFound, IsMarkedAt, IsUnfit, IsMarkingFound, starting_level, starting_of}
+use Rattle.scaler.specs.Scalings.{HasMarks, AreSitesFound, IsMarkedAt, IsMarkingFound, starting_level, starting_of}
 use Rattle.scaler.proofs.ExtraFacts.{past_end}
 
 -- ---- of what holds once at most

@@ -1,8 +1,7 @@
 -- What `rewrite` gives is safe.
-use Rattle.std.proofs.Common.{◌≡◌, ℕ, ◌≤◌, List, length, Option, Some, None, Result, Ok, Err, refl, sym, ap, ◌∙◌, subst, arith, inl, inr}
+use Rattle.std.proofs.Common.{◌≡◌, ℕ, ◌≤◌, List, length, Option, Some, None, Result, Ok, Err, refl, sym, ap, ◌∙◌, subst, inl, inr}
 use Rattle.std.specs.Prelude.{IfOk, Vec}
 use Rattle.std.specs.declared.alloc.Global.{Global}
-use Rattle.scale_base.specs.declared.refusal.Refusal.{Refusal}
 use Rattle.scale_base.specs.declared.refusal.Stop.{Stop}
 use Rattle.scale_base.specs.declared.summary.Summary.{Summary}
 use Rattle.scale_base.specs.Answer.{AnswersBy}
@@ -15,12 +14,11 @@ use Rattle.machine_file.proofs.RangeLaws.{model-from_bytes}
 use Rattle.loop_file.specs.declared.notes.LoopNote.{LoopNote}
 use Rattle.loop_file.specs.Loops.{read_loops}
 use Rattle.stub_writer.specs.Stubs.{out_of_reach}
-use Rattle.rewritten_runs.specs.Laws.{IsSafelyRewritten}
 use Rattle.rewritten_runs.specs.Stubs.{rewritten_file, marks_by_slack, stored_weights}
 use Rattle.rewritten_runs.specs.Promise.{KeepsThePromise}
 use Rattle.rewritten_runs.specs.Followed.{FollowsInTime}
 use Rattle.rewritten_runs.proofs.Law.{rewritten_follow}
-use Rattle.scaler.specs.Held.{Then, unscaled}
+use Rattle.scaler.specs.Held.{unscaled}
 use Rattle.scaler.specs.Rewritten.{IsRewritten, IsRewrittenProgram, IsProgramRewritten, rewritten_summary, unless_far}
 use Rattle.scaler.specs.RewrittenRuns.{IsRewrittenSafely}
 use Rattle.scaler.proofs.HeldRuns.{found_in_time}

@@ -1,12 +1,10 @@
 -- From the parts of a program's scaling to what is stored of it.
-use Rattle.std.proofs.Common.{◌≡◌, ℕ, zero, suc, ◌+◌, ◌*◌, ◌<◌, ◌≤◌, ◌%◌, Bool, true, false, List, [], ◌∷◌, length, map, slice_get, Option, Some, None, Result, Ok, Err, refl, sym, ap, ◌∙◌, subst, arith, inl, inr, ⊎_elim}
-use Rattle.std.specs.Prelude.{slice_index, slice_index_or, All, min, Vec, IfOk}
+use Rattle.std.proofs.Common.{◌≡◌, ℕ, zero, suc, ◌+◌, ◌*◌, ◌<◌, ◌≤◌, ◌%◌, Bool, List, [], ◌∷◌, length, map, slice_get, Option, Some, None, Ok, Err, refl, sym, ap, ◌∙◌, subst, arith, inl, inr, ⊎_elim}
+use Rattle.std.specs.Prelude.{slice_index, All, min}
 use Rattle.std.specs.List.{list_any}
 use Rattle.std.specs.List.Sorted.{IsStrictlyIncreasing}
-use Rattle.std.specs.declared.alloc.Global.{Global}
 use Rattle.scale_base.specs.declared.ranges.Patch.{Patch}
 use Rattle.scale_base.specs.declared.refusal.Refusal.{Refusal}
-use Rattle.scale_base.specs.declared.refusal.Refusal.TheVariants.{StubOutOfReach}
 use Rattle.scale_base.specs.declared.refusal.Stop.{Stop}
 use Rattle.scale_base.specs.declared.refusal.Stop.TheVariants.{Refused, Memory}
 use Rattle.scale_base.specs.declared.summary.Summary.{Summary}
@@ -14,33 +12,32 @@ use Rattle.scale_base.specs.Answer.{AnswersBy}
 use Rattle.scale_base.specs.Image.{Image, image_of}
 use Rattle.power_model.specs.Numbers.{PowerModel, IsPowerModel}
 use Rattle.power_model.specs.Price.{time_at}
-use Rattle.power_model.specs.Slowest.{slowest_of, is_in_time}
+use Rattle.power_model.specs.Slowest.{is_in_time}
 use Rattle.cost_theory.specs.Graph.{sum_below, only}
 use Rattle.least_laws.specs.Charged.{Charged}
-use Rattle.cost_theory.specs.Worst.{Numbers, AreNumbers}
+use Rattle.cost_theory.specs.Worst.{Numbers}
 use Rattle.elf_patch.specs.Stored.{IsStubBase}
 use Rattle.graph_runs.specs.Text.{text_of}
-use Rattle.code_graph.specs.FlowGraph.{FlowGraph, graph, IsGraphOf}
+use Rattle.code_graph.specs.FlowGraph.{FlowGraph, IsGraphOf}
 use Rattle.code_graph.specs.Building.{IsBuilt}
 use Rattle.loop_file.specs.declared.notes.LoopNote.{LoopNote}
-use Rattle.loop_tree.specs.Tree.{LoopView, loops, IsTreeOf, IsTreeBuilt}
+use Rattle.loop_tree.specs.Tree.{LoopView, IsTreeOf, IsTreeBuilt}
 use Rattle.scale_base.specs.declared.fragments.Mark.{Mark}
 use Rattle.scale_sites.specs.Counters.{AreCounters, counted_loops}
 use Rattle.scale_sites.specs.Sites.{marks_at_edge}
 use Rattle.stub_writer.specs.declared.site.StubBlock.{StubBlock}
 use Rattle.stub_writer.specs.declared.site.StubSite.{StubSite}
-use Rattle.stub_writer.specs.Block.{Block, block_view, block_of, emitted, unless_far as block_unless_far}
+use Rattle.stub_writer.specs.Block.{Block, block_view, block_of, unless_far as block_unless_far}
 use Rattle.stub_writer.specs.Sites.{site_of}
-use Rattle.stub_writer.specs.Stubs.{Site, block_size, block_bytes, patches_from, out_of_reach, stub_len, jump}
+use Rattle.stub_writer.specs.Stubs.{Site, block_size, block_bytes, patches_from, out_of_reach, stub_len}
 use Rattle.stored_runs.specs.Stubbed.{AreAscending}
-use Rattle.rewritten_runs.specs.Stubs.{IsWeighed, HasStubs, marks_by_slack, extra_weights, edges_with, is_switch, is_exit, is_count, rewritten_file}
+use Rattle.rewritten_runs.specs.Stubs.{IsWeighed, HasStubs, marks_by_slack, edges_with, is_switch, is_exit, is_count}
 use Rattle.rewritten_runs.proofs.Short.{block_bytes_len}
 use Rattle.rewritten_runs.proofs.Law.{storable}
 use Rattle.stored_laws.specs.StoredView.{IsStorable}
 use Rattle.scaler.specs.declared.rewriting.Scaling.{Scaling}
 use Rattle.scaler.specs.declared.stubs.Marking.{Marking}
-use Rattle.scaler.specs.Markings.{IsMarking}
-use Rattle.scaler.specs.Rewritten.{IsRewrittenProgram, IsProgramRewritten, rewritten_summary, unless_far}
+use Rattle.scaler.specs.Rewritten.{IsRewrittenProgram, rewritten_summary, unless_far}
 use Rattle.scaler.specs.Scalings.{IsMarkedAt, IsMarkingFound, IsUnfit, IsExtraFound, IsInRange, AreStubsOf, IsBlockGiven, IsMarkedProgram, IsScaled, IsScalingFound, HasMarks, AreStubsFound}
 use Rattle.scaler.proofs.Safe.{found_below}
 

@@ -1,4 +1,4 @@
-use Rattle.std.proofs.Common.{rules, ◌≡◌, ◌≤◌, ℕ, List, length, refl, sym, ap, subst}
+use Rattle.std.proofs.Common.{◌≤◌, ℕ, List, length, refl, ap, subst}
 use Rattle.std.proofs.lemmas.Result.{err_from_is_err_and}
 use Rattle.power_model.specs.Numbers.{PowerModel}
 use Rattle.scaler.proofs.MarkingFacts.{sites_stopped, stored_calls, worst_stopped, late, least_in_range, marking_found}

@@ -1,4 +1,4 @@
-use Rattle.std.proofs.Common.{rules, ◌≡◌, ◌≤◌, ℕ, List, [], length, map, Option, Some, None, Result, Ok, Err, refl, sym, ap, subst, ◌∙◌, inl, inr}
+use Rattle.std.proofs.Common.{rules, ◌≡◌, ℕ, List, map, Option, Some, None, Result, Ok, Err, ap, ◌∙◌, inr}
 use Rattle.std.specs.Prelude.{Vec}
 use Rattle.std.specs.declared.alloc.Global.{Global}
 use Rattle.std.proofs.lemmas.Result.{err_from_is_err_and}
@@ -16,7 +16,7 @@ use Rattle.stub_writer.specs.Stubs.{out_of_reach}
 use Rattle.stub_writer.specs.Sites.{site_of}
 use Rattle.rewritten_runs.specs.Stubs.{rewritten_file as stored_bytes, marks_by_slack}
 use Rattle.scaler.specs.declared.rewriting.Scaling.{Scaling}
-use Rattle.scaler.specs.Held.{Then, unscaled}
+use Rattle.scaler.specs.Held.{unscaled}
 use Rattle.scaler.specs.Rewritten.{IsRewritten, IsRewrittenProgram, rewritten_summary, unless_far}
 use Rattle.scaler.specs.Scalings.{IsScaled, IsScalingFound}
 use Rattle.scaler.proofs.Bases.{file_is}

@@ -1,4 +1,4 @@
-use Rattle.std.proofs.Common.{rules, ◌≡◌, ◌≤◌, ℕ, List, length, map, Ok, Err, ◌∙◌, refl, sym, ap, subst}
+use Rattle.std.proofs.Common.{◌≤◌, ℕ, List, length, map, Ok, Err, ◌∙◌, refl, sym, ap, subst}
 use Rattle.std.specs.Prelude.{All}
 use Rattle.std.proofs.lemmas.Result.{err_from_is_err_and}
 use Rattle.stub_writer.specs.declared.site.StubSite.{StubSite}
