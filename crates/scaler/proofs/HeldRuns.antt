@@ -63,6 +63,10 @@ no_ports image levels input m none = run_without_port (setting_of image levels i
 le_of : (x y : ℕ) → nat_le x y ≡ true → x ≤ y
 le_of x y e = grind (arith, nat_tests)
 
+-- at the slowest level that is found they are in time
+pub found_in_time : (power : PowerModel) (worst level : ℕ) → slowest_of power worst ≡ Some level → time_at power level worst ≤ power.deadline
+found_in_time power worst level slow = le_of (time_at power level worst) power.deadline (found_passes (is_in_time power worst) (range_with_len 0 (length power.levels)) level slow)
+
 -- a run of at most so many cycles costs at most the printed time
 pub printed : (power : PowerModel) (file : List ℕ) (image held : Image) (base level worst : ℕ) (input : List ℕ) (m : ℕ) → image.keyed_segment ≡ None → IsHeldImage file image base level held
     → slowest_of power worst ≡ Some level → sum_by (step_cycles power) (run_of image (length power.levels) input m).steps ≤ worst → IsAsPrinted power (held_summary power worst level) (price_of power held input m)
@@ -77,7 +81,7 @@ printed power file image held base level worst input m none h slow below =
     let one = held-price power level steps (no_ports image levels input m none) in
     let less : paid.cycles ≤ worst = omega (arith, cycles, below) in
     let time : time_at power level paid.cycles ≤ time_at power level worst = times_more paid.cycles worst (Rattle.power_model.specs.Levels.level power.levels level).period less in
-    let in_time : time_at power level worst ≤ power.deadline = le_of (time_at power level worst) power.deadline (found_passes (is_in_time power worst) (range_with_len 0 (length power.levels)) level slow) in
+    let in_time : time_at power level worst ≤ power.deadline = found_in_time power worst level slow in
     let all : IsAsPrinted power (held_summary power worst level) paid = record { cycles = less; time = omega (arith, one.time, time); in_time = in_time; at_start = one } in
     let P : Numbers → Type 0 = λ q. IsAsPrinted power (held_summary power worst level) q in
     subst P (sym e) all

@@ -5,7 +5,7 @@ use Rattle.std.proofs.lemmas.List.{length-map}
 use Rattle.std.proofs.lemmas.List.Elements.{All-map}
 use Rattle.std.proofs.lemmas.Option.{slice_get_within, get_or_from_slice_get}
 use Rattle.scale_base.specs.declared.fragments.Fragment.{Fragment}
-use Rattle.cost_theory.specs.Least.{Least}
+use Rattle.least_laws.specs.Charged.{Charged}
 use Rattle.natural_loops.specs.Noted.{node_address}
 use Rattle.stub_writer.specs.Fragments.{IsFragment, IsShadow}
 use Rattle.rewritten_runs.proofs.MarkOrder.{in_get, set_distinct}
@@ -258,7 +258,7 @@ module _ (power : PowerModel) (image : Image) (notes : List LoopNote) (v : FlowG
 
   -- ---- fragments
 
-  abbrev frags : Least → ℕ → List Fragment
+  abbrev frags : Charged → ℕ → List Fragment
   frags least = fragments_at power image v tree (marks_by_slack power image v tree plain) stored least
 
   bound_small : (k : ℕ) → l.bound k ≤ 1000000000
@@ -273,7 +273,7 @@ module _ (power : PowerModel) (image : Image) (notes : List LoopNote) (v : FlowG
       by None e = let z : slice_index tree.bounds k ≡ 0 = none_index tree.bounds k e in omega (arith, z)
       by (Some n) e = let z = get_or_from_slice_get tree.bounds k n 0 e in let small = weighed.tree_is.tree.bound k n e in omega (arith, z, small)
 
-  fragment_is : (least : Least) (e : ℕ) (m : Mark) → IsMarkOf l (counted_loops tree) (is_branch v e) (g.source e) (g.target e) m → IsFragment (fragment_of power l (counted_loops tree) stored (told_at power image v tree (marks_by_slack power image v tree plain) stored least e) m)
+  fragment_is : (least : Charged) (e : ℕ) (m : Mark) → IsMarkOf l (counted_loops tree) (is_branch v e) (g.source e) (g.target e) m → IsFragment (fragment_of power l (counted_loops tree) stored (told_at power image v tree (marks_by_slack power image v tree plain) stored least e) m)
   fragment_is least e marks.Switch is = tt
   fragment_is least e (marks.Exit c) is =
       let k = loop_of (counted_loops tree) c in
@@ -304,12 +304,12 @@ module _ (power : PowerModel) (image : Image) (notes : List LoopNote) (v : FlowG
       let d = depth g l extent program prog.loops tree.counted flag_count are_loops (set_distinct 0 tree.counted) (edge_at (slice_get v.code.edges e)) o.0 (innermost_of (edge_at (slice_get v.code.edges e)) o.0 (subst (λ a. IsInnermost l a o.0) address is)) in
       few_marks g l extent program prog.loops tree.counted flag_count are_loops (set_distinct 0 tree.counted) e (is_branch v e) _ power.min_gain lt d
 
-  pub good_fragments : (least : Least) (e : ℕ) → e < length v.code.edges → (length (frags least e) ≤ 17) × All IsFragment (frags least e)
+  pub good_fragments : (least : Charged) (e : ℕ) → e < length v.code.edges → (length (frags least e) ≤ 17) × All IsFragment (frags least e)
   good_fragments least e lt =
       let f = fragment_of power l (counted_loops tree) stored (told_at power image v tree (marks_by_slack power image v tree plain) stored least e) in
       let same = length-map (marks_by_slack power image v tree plain e) f in
       let small = few e lt in
       (omega (arith, same, small), All-map IsFragment f (marks_by_slack power image v tree plain e) (λ k d q. fragment_is least e _ (marks_of_edge power image notes v tree plain stored weighed e k d q)))
 
-  pub fragments_mark : (least : Least) (e : ℕ) (x : Edge) (i : Instr) → slice_get code.edges e ≡ Some x → frags least e ≢ [] → instr_at t x.at ≡ Some i → IsMarkable i
+  pub fragments_mark : (least : Charged) (e : ℕ) (x : Edge) (i : Instr) → slice_get code.edges e ≡ Some x → frags least e ≢ [] → instr_at t x.at ≡ Some i → IsMarkable i
   fragments_mark least e x i get some at = marked_instr e x i get (λ none. some (map_none _ _ none)) at

@@ -1,6 +1,6 @@
 -- The numbers of a program under the stored weights, and their ranges.
-use Rattle.std.proofs.Common.{◌≡◌, ℕ, zero, suc, ◌+◌, ◌-◌, ◌*◌, ◌<◌, ◌≤◌, ◌^◌, Bool, true, false, List, [], ◌∷◌, length, map, slice_get, nat_eq, Option, Some, None, is_some, Result, Ok, Err, refl, sym, ap, ◌∙◌, subst, arith, ⊎_elim, inl, inr, eqb-true}
-use Rattle.std.specs.Prelude.{slice_index, slice_index_or, nat_lt, ◌&&◌}
+use Rattle.std.proofs.Common.{◌≡◌, ℕ, zero, suc, ◌+◌, ◌*◌, ◌<◌, ◌≤◌, Bool, true, false, List, length, map, slice_get, Option, Some, None, is_some, Ok, Err, refl, sym, ap, ◌∙◌, subst, arith, ⊎_elim, inl, inr, eqb-true}
+use Rattle.std.specs.Prelude.{slice_index, nat_lt}
 use Rattle.std.proofs.Math.Path.{fun_ext}
 use Rattle.std.proofs.lemmas.Bool.{cases_lt, and_parts}
 use Rattle.std.proofs.lemmas.Bool.Decides.{nat_tests}
@@ -16,11 +16,13 @@ use Rattle.power_model.specs.declared.power.Costs.{Costs}
 use Rattle.power_model.specs.Numbers.{PowerModel}
 use Rattle.power_model.specs.Price.{cycles_of}
 use Rattle.power_model.specs.Slowest.{slowest_of}
-use Rattle.cost_theory.specs.Accepted.{IsProgram, IsNode, AreAccepted, AreWeights}
+use Rattle.cost_theory.specs.Accepted.{AreWeights}
 use Rattle.cost_theory.specs.Graph.{Graph, Loops, only, sum_below, is_back, is_header}
 use Rattle.cost_theory.specs.Laws.{IsAnalyzed}
-use Rattle.cost_theory.specs.Least.{Least, AreLeast, IsLeastIfAny, EndsWith, IsReturn, IsExit, IsWay, Way}
-use Rattle.cost_theory.specs.Worst.{Numbers, AreNumbers, cost, turn_back, turns_round, slack, rest}
+use Rattle.call_orders.specs.Arcs.{number_at}
+use Rattle.least_laws.specs.Charged.{AreCharged}
+use Rattle.least_cycles.specs.Found.{LeastView, IsInRange, IsLeastOf, AreSmallLeast, HoldsLeast}
+use Rattle.cost_theory.specs.Worst.{Numbers, AreNumbers, cost, turn_back, slack, rest}
 use Rattle.cost_theory.proofs.Basics.{sum-none}
 use Rattle.cost_theory.proofs.Contexts as contexts
 use Rattle.cost_theory.proofs.Nesting.{headers-distinct, accepted_entered}
@@ -28,7 +30,6 @@ use Rattle.cost_theory.proofs.Orders.{left-worst, turns-worst}
 use Rattle.cost_theory.proofs.OrdersExist.{call_order, plain_order}
 use Rattle.cost_theory.proofs.Overruns.{iteration-worst}
 use Rattle.cost_theory.proofs.Rest.{rest-worst}
-use Rattle.cost_theory.proofs.Unique.{same_numbers}
 use Rattle.graph_runs.specs.EdgeCosts.{cost_of}
 use Rattle.graph_runs.specs.Text.{text_of}
 use Rattle.code_graph.specs.FlowGraph.{FlowGraph, graph, IsGraphOf}
@@ -46,8 +47,7 @@ use Rattle.rewritten_runs.proofs.Grows.{worst_grows}
 use Rattle.rewritten_runs.proofs.Programs.{listed_weights, weights_listed, weights_count}
 use Rattle.scaler.specs.declared.stubs.Marking.{Marking}
 use Rattle.scaler.specs.Markings.{IsMarking}
-use Rattle.scaler.specs.Scalings.{HasMarks, AreSitesFound, IsMarkedAt, IsUnfit, IsMarkingFound, starting_level, starting_of}
-use Rattle.scaler.specs.StandIn.{HoldsLeast}
+use Rattle.scaler.specs.Scalings.{HasMarks, AreSitesFound, IsMarkedAt, IsMarkingFound, starting_level, starting_of}
 use Rattle.scaler.proofs.ExtraFacts.{past_end}
 
 -- ---- of what holds once at most
@@ -111,27 +111,6 @@ module _ (g : Graph) (l : Loops) (extent : ℕ → ℕ → Bool) (w : ℕ → �
 
   pub turns_in_range : (k : ℕ) → k < l.loops → l.bound k * n.iteration k ≤ n.worst 0
   turns_in_range k kl = let o = call_order g is.program in turns-worst g l extent w n is.program is.accepted is.weights is.numbers o.0 o.1 k kl
-
--- an end of the run is behind nodes alone
-module _ (g : Graph) (w : ℕ → ℕ) (least : Least) (are : AreLeast g w least) where
-  starts : (last : ℕ → Type 0) (v : ℕ) (es : List ℕ) → EndsWith g last (Some v) es → IsNode g v
-  starts last v [] h = absurd h
-  starts last v (e ∷ es) h = (e, h.0, (let q = h.1 in let s : g.source e ≡ v = cc in s))
-
-  from_node : (last : ℕ → Type 0) (value : List ℕ → ℕ) (v z : ℕ) (o : Option ℕ) → IsLeastIfAny (EndsWith g last (Some v)) value o → Rattle.std.specs.Prelude.IsSome o → IsNode g v
-  from_node last value v z None h some = let never : ⊥ = cc in absurd never
-  from_node last value v z (Some m) h some = starts last v h.reached.0 h.reached.1
-
-  of_way : (v : ℕ) (way : Way) → IsWay g least v way → IsNode g v
-  of_way v Way.Exits h = from_node (IsExit g least) _ v 0 (least.to_exit v) (are.to_exit v) h
-  of_way v (Way.Returns e) h = from_node (IsReturn g) _ v 0 (least.to_return v) (are.to_return v) h.0
-
-  by_end : (v z : ℕ) (o : Option ℕ) → least.to_end v ≡ o → IsLeastIfAny (IsWay g least v) (Rattle.cost_theory.specs.Least.way_cost g least v) o → o ≡ Some z → IsNode g v
-  by_end v z None is h e = let never : ⊥ = cc in absurd never
-  by_end v z (Some m) is h e = of_way v h.reached.0 h.reached.1
-
-  pub end_of_node : (v z : ℕ) → least.to_end v ≡ Some z → IsNode g v
-  end_of_node v z e = by_end v z (least.to_end v) refl (are.to_end v) e
 
 -- ---- the program
 
@@ -236,11 +215,8 @@ module _ (power : PowerModel) (image : Image) (notes : List LoopNote) (v : FlowG
       short : n.worst 0 ≤ 281474976710656
       short = let e = get_or_from_slice_get x.worst 0 (n.worst 0) 0 here in let s = found.small in omega (arith, e, s)
 
-      pub all_short : (m : Numbers) → AreNumbers (graph v) (loops v t) (by_edge ws) m → m.worst 0 ≤ 281474976710656
-      all_short m h =
-          let o = call_order (graph v) is.flow.program in
-          let same = same_numbers (graph v) (loops v t) (noted_loops notes).inside is.flow.program tree.tree.accepted (by_edge ws) o.0 o.1 m n h found.numbers.1 in
-          let q = same.worst 0 is.flow.program.main in let s = short in omega (arith, q, s)
+      pub least_in_range : IsInRange v (loops v t) (number_at ws)
+      least_in_range = (n, found.numbers.1, short)
 
       late_by : (o : Option ℕ) → slowest_of power total ≡ o → (refusal : Refusal) → Err refusal ≡ starting_of power total o → IsMarkingFound power image v t (Err refusal)
       late_by None slow refusal e =
@@ -257,23 +233,21 @@ module _ (power : PowerModel) (image : Image) (notes : List LoopNote) (v : FlowG
       analyzed : IsAnalyzed (graph v) (loops v t) (noted_loops notes).inside w n
       analyzed = record { program = is.flow.program; accepted = tree.tree.accepted; weights = calls_alike plain plain_are; numbers = are }
 
-      pub marking_found : (start : ℕ) → Ok start ≡ starting_level power total → HasLeftSizes v x → IsLeftOf v (loops v t) (by_edge ws) x → (counted : List ℕ) → counted ≡ counted_loops t → (ends : List (Option ℕ)) → HoldsLeast v (by_edge ws) ends
+      pub marking_found : (start : ℕ) → Ok start ≡ starting_level power total → HasLeftSizes v x → IsLeftOf v (loops v t) (by_edge ws) x → (counted : List ℕ) → counted ≡ counted_loops t → (ends : LeastView) → IsLeastOf v (loops v t) (number_at ws) ends → AreSmallLeast v ends
           → (m : Marking) → m ≡ record { counters = counted; sites = s; worst = x; least = ends } → IsMarkingFound power image v t (Ok (m, start))
-      marking_found start started sizes left counted counted_is ends holds m m_is =
-          (plain, n, holds.least, subst (λ (q : Marking). IsMarkedAt power image v t plain n holds.least q start) (sym m_is) whole)
+      marking_found start started sizes left counted counted_is ends found_least ends_small m m_is =
+          (plain, n, found_least.0, subst (λ (q : Marking). IsMarkedAt power image v t plain n found_least.0 q start) (sym m_is) whole)
         where
-          least_are : AreLeast (graph v) w holds.least
-          least_are = subst (λ (f : ℕ → ℕ). AreLeast (graph v) f holds.least) stored_is holds.are
+          holds : HoldsLeast v (loops v t) found_least.0 ends
+          holds = found_least.2
+
+          least_are : AreCharged (graph v) (loops v t) w found_least.0
+          least_are = subst (λ (f : ℕ → ℕ). AreCharged (graph v) (loops v t) f found_least.0) stored_is found_least.1
 
           count : (loops v t).loops ≡ length t.headers
           count = length-map t.headers (node_address v)
 
-          ends_small : (at z : ℕ) → holds.least.to_end at ≡ Some z → z < 2 ^ 89
-          ends_small at z e =
-              let node = (is.flow.nodes at).1 (end_of_node (graph v) w holds.least least_are at z e) in
-              holds.small node.0 z (holds.to_end node.0 at node.1 ∙ ap Some e)
-
-          marking : IsMarking power image v t plain n holds.least (record { counters = counted; sites = s; worst = x; least = ends })
+          marking : IsMarking power image v t plain n found_least.0 (record { counters = counted; sites = s; worst = x; least = ends })
           marking = record {
             code = is;
             tree = ((noted_loops notes).inside, tree.tree);
@@ -286,15 +260,15 @@ module _ (power : PowerModel) (image : Image) (notes : List LoopNote) (v : FlowG
             iterations_size = found.loops_size ∙ count;
             left = subst (λ (f : ℕ → ℕ). HoldsLeft v (loops v t) f n x) stored_is (left n found.numbers.1);
             iteration = λ k kl. found.numbers.3 k (let c = count in omega (arith, c, kl));
-            ends_size = holds.size;
-            ends = holds.to_end;
+            after_size = ends_small.after_size;
+            after = holds.after;
             slack_small = λ e lt. (let r = slack_in_range (graph v) (loops v t) (noted_loops notes).inside w n analyzed 4294967295 light e lt in let c = short in omega (arith, r, c));
             rest_small = λ e lt. (let r = rest_in_range (graph v) (loops v t) (noted_loops notes).inside w n analyzed e lt in let c = short in omega (arith, r, c));
             turns_small = λ k kl. (let c = count in let r = turns_in_range (graph v) (loops v t) (noted_loops notes).inside w n analyzed k (omega (arith, c, kl)) in let d = short in omega (arith, r, d));
-            ends_small = ends_small;
+            after_small = λ e z lt to. ends_small.after e z (holds.after e lt ∙ ap Some to);
           }
 
-          whole : IsMarkedAt power image v t plain n holds.least (record { counters = counted; sites = s; worst = x; least = ends }) start
+          whole : IsMarkedAt power image v t plain n found_least.0 (record { counters = counted; sites = s; worst = x; least = ends }) start
           whole = record {
             plain_are = plain_are;
             stored_are = are;

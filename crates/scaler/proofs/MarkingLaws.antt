@@ -1,13 +1,13 @@
 -- What a marking says of the marks of an edge, and of the loops of their counters.
 use Rattle.std.proofs.Common.{◌≡◌, ◌≢◌, ℕ, zero, suc, ◌+◌, ◌-◌, ◌*◌, ◌^◌, ◌<◌, ◌≤◌, Bool, true, false, not, ◌&&◌, List, [], ◌∷◌, ◌++◌, map, length, slice_get, Option, Some, None, refl, sym, ap, ◌∙◌, subst, arith, append_assoc}
-use Rattle.std.specs.Prelude.{All, slice_index, option_and_then, IfSome}
+use Rattle.std.specs.Prelude.{All, slice_index, IfSome}
 use Rattle.std.proofs.lemmas.List.Elements.{All-append}
 use Rattle.std.proofs.lemmas.Option.{slice_get_within, get_or_from_slice_get}
 use Rattle.scale_base.specs.declared.fragments.Fragment.TheVariants as fragments
 use Rattle.scale_base.specs.Image.{Image}
 use Rattle.power_model.specs.Numbers.{PowerModel}
 use Rattle.cost_theory.specs.Graph.{leaves, goes_back}
-use Rattle.cost_theory.specs.Least.{Least}
+use Rattle.least_laws.specs.Charged.{Charged, to_end_after}
 use Rattle.cost_theory.specs.Worst.{Numbers}
 use Rattle.code_graph.specs.FlowGraph.{FlowGraph, graph}
 use Rattle.level_tables.specs.Tables as tables
@@ -65,7 +65,7 @@ counted_loop v t extent j k tree at =
     let size = tree.counted_size in
     let is = r.is in omega (arith, lt, size, is)
 
-module _ (power : PowerModel) (image : Image) (v : FlowGraph) (t : LoopView) (plain stored : Numbers) (least : Least) (m : Marking) (is : IsMarking power image v t plain stored least m) where
+module _ (power : PowerModel) (image : Image) (v : FlowGraph) (t : LoopView) (plain stored : Numbers) (least : Charged) (m : Marking) (is : IsMarking power image v t plain stored least m) where
   abbrev at_slack : ℕ → ℕ
   at_slack e = slack_at (graph v) (loops v t) (plain_weights power image v) plain e
 
@@ -144,24 +144,16 @@ module _ (power : PowerModel) (image : Image) (v : FlowGraph) (t : LoopView) (pl
       ∙ ap (tables.rows_of power ((loops v t).bound (loop_of (counted_loops t) counter)) (stored.iteration (loop_of (counted_loops t) counter))) tl)) in
       ap (λ x. fragments.Exit counter x rows) three ∙ ap (fragments.Exit counter (tables.shift_of ((loops v t).bound (loop_of (counted_loops t) counter)))) four
 
-  -- the least cycles at a node
-  pub ends_are : (k at : ℕ) (o : Option ℕ) → slice_get v.code.nodes k ≡ Some at → slice_get m.least k ≡ Some o → o ≡ least.to_end at
-  ends_are k at o node here = let e = is.ends k at node in cc
+  -- the least cycles behind an edge
+  pub after_is : (e : ℕ) (o : Option ℕ) → e < length v.code.edges → slice_get m.least.after e ≡ Some o → o ≡ to_end_after (graph v) (loops v t) least e
+  after_is e o lt here = let q = is.after e lt in cc
 
-  pub end_behind : (e k : ℕ) (o : Option ℕ) → (graph v).target e ≡ slice_get v.code.nodes k → k < length v.code.nodes → slice_get m.least k ≡ Some o → o ≡ option_and_then least.to_end ((graph v).target e)
-  end_behind e k o to lt here =
-      let node = Rattle.cost_theory.proofs.Programs.some_get v.code.nodes k lt in
-      ends_are k node.0 o node.1 here ∙ sym (ap (option_and_then least.to_end) (to ∙ node.1))
-
-  pub end_small : (k : ℕ) (o : Option ℕ) → k < length v.code.nodes → slice_get m.least k ≡ Some o → IfSome o (λ z. z < 2 ^ 89)
-  end_small k o lt here = by o (ends_are k node.0 o node.1 here)
+  pub after_small : (e : ℕ) (o : Option ℕ) → e < length v.code.edges → slice_get m.least.after e ≡ Some o → IfSome o (λ z. z < 2 ^ 89)
+  after_small e o lt here = by o (after_is e o lt here)
     where
-      node : (x : ℕ) × (slice_get v.code.nodes k ≡ Some x)
-      node = Rattle.cost_theory.proofs.Programs.some_get v.code.nodes k lt
-
-      by : (o : Option ℕ) → o ≡ least.to_end node.0 → IfSome o (λ z. z < 2 ^ 89)
-      by None e = tt
-      by (Some z) e = is.ends_small node.0 z (sym e)
+      by : (o : Option ℕ) → o ≡ to_end_after (graph v) (loops v t) least e → IfSome o (λ z. z < 2 ^ 89)
+      by None same = tt
+      by (Some z) same = is.after_small e z lt (sym same)
 
 -- ---- lists, one element more
 

@@ -163,6 +163,7 @@ safe image machine loops stored summary short _ _ h =
       original_is = went.original_is;
       notes_are = went.notes_are;
       held_is = ap image_of bytes ∙ lawful.accepted;
+      slow = subst (λ (s : Summary). slowest_of power s.worst ≡ Some s.start) (sym numbers) started.slow;
       runs = alike;
       kept = both.0;
       ends = both.1;

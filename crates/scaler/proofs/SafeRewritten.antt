@@ -1,26 +1,27 @@
 -- What `rewrite` gives is safe.
-use Rattle.std.proofs.Common.{◌≡◌, ℕ, ◌≤◌, List, length, Option, Some, None, Result, Ok, Err, refl, sym, ap, ◌∙◌, subst, arith, inl, inr}
+use Rattle.std.proofs.Common.{◌≡◌, ℕ, ◌≤◌, List, length, Option, Some, None, Result, Ok, Err, refl, sym, ap, ◌∙◌, subst, inl, inr}
 use Rattle.std.specs.Prelude.{IfOk, Vec}
 use Rattle.std.specs.declared.alloc.Global.{Global}
-use Rattle.scale_base.specs.declared.refusal.Refusal.{Refusal}
 use Rattle.scale_base.specs.declared.refusal.Stop.{Stop}
 use Rattle.scale_base.specs.declared.summary.Summary.{Summary}
 use Rattle.scale_base.specs.Answer.{AnswersBy}
 use Rattle.scale_base.specs.Image.{Image, image_of}
 use Rattle.power_model.specs.Numbers.{PowerModel}
+use Rattle.power_model.specs.Price.{time_at}
+use Rattle.power_model.specs.Slowest.{slowest_of}
 use Rattle.machine_file.specs.Machine.{read_machine}
 use Rattle.machine_file.proofs.RangeLaws.{model-from_bytes}
 use Rattle.loop_file.specs.declared.notes.LoopNote.{LoopNote}
 use Rattle.loop_file.specs.Loops.{read_loops}
 use Rattle.stub_writer.specs.Stubs.{out_of_reach}
-use Rattle.rewritten_runs.specs.Laws.{IsSafelyRewritten}
 use Rattle.rewritten_runs.specs.Stubs.{rewritten_file, marks_by_slack, stored_weights}
 use Rattle.rewritten_runs.specs.Promise.{KeepsThePromise}
 use Rattle.rewritten_runs.specs.Followed.{FollowsInTime}
 use Rattle.rewritten_runs.proofs.Law.{rewritten_follow}
-use Rattle.scaler.specs.Held.{Then, unscaled}
+use Rattle.scaler.specs.Held.{unscaled}
 use Rattle.scaler.specs.Rewritten.{IsRewritten, IsRewrittenProgram, IsProgramRewritten, rewritten_summary, unless_far}
 use Rattle.scaler.specs.RewrittenRuns.{IsRewrittenSafely}
+use Rattle.scaler.proofs.HeldRuns.{found_in_time}
 use Rattle.scaler.proofs.Safe.{then_ok, is_unscaled}
 
 -- ---- what `rewrite` went through
@@ -82,6 +83,8 @@ safe image machine loops stored summary short _ _ h =
     let made = rewritten_follow went.power model image went.original went.notes p.code p.tree p.plain p.stored p.extra p.least p.sites p.base p.start went.original_is went.no_key short p.weighed p.short p.slow p.stubs near.near in
     let bound : summary.stub_cycles ≡ p.extra.worst 0 = ap (λ (s : Summary). s.stub_cycles) numbers in
     let worst : summary.worst ≡ p.stored.worst 0 = ap (λ (s : Summary). s.worst) numbers in
+    let start : summary.start ≡ p.start = ap (λ (s : Summary). s.start) numbers in
+    let time : summary.time ≡ time_at went.power p.start (p.stored.worst 0) = ap (λ (s : Summary). s.time) numbers in
     record {
       power = went.power;
       original = went.original;
@@ -91,6 +94,13 @@ safe image machine loops stored summary short _ _ h =
       original_is = went.original_is;
       notes_are = went.notes_are;
       rewritten_is = ap image_of bytes ∙ made.is;
+      same_text = made.same_text;
+      key = made.key;
+      keyed = made.keyed;
+      starts = made.starts ∙ sym start;
+      slow = subst (λ (s : Summary). slowest_of went.power s.worst ≡ Some s.start) (sym numbers) p.slow;
+      time = time ∙ (ap (λ i. time_at went.power i (p.stored.worst 0)) (sym start) ∙ ap (time_at went.power summary.start) (sym worst));
+      in_time = subst (λ t. t ≤ went.power.deadline) (sym time) (found_in_time went.power (p.stored.worst 0) p.start p.slow);
       promise = subst (λ b. KeepsThePromise went.power went.original went.notes made.rewritten b) (sym bound) made.promise;
       code = p.code;
       tree = p.tree;
@@ -102,6 +112,7 @@ safe image machine loops stored summary short _ _ h =
       base = p.base;
       weighed = p.weighed;
       stubs = p.stubs;
+      file_is = bytes ∙ ap (rewritten_file went.original p.sites p.base) (sym start);
       printed = (worst, bound);
       follows = subst (λ b. FollowsInTime went.power went.original made.rewritten went.notes p.code p.tree (stored_weights went.power went.original p.code (marks_by_slack went.power went.original p.code p.tree p.plain)) p.plain p.stored b) (sym bound) made.follows;
     }

@@ -1,46 +1,44 @@
 -- From the parts of a program's scaling to what is stored of it.
-use Rattle.std.proofs.Common.{◌≡◌, ℕ, zero, suc, ◌+◌, ◌*◌, ◌<◌, ◌≤◌, ◌%◌, Bool, true, false, List, [], ◌∷◌, length, map, slice_get, Option, Some, None, Result, Ok, Err, refl, sym, ap, ◌∙◌, subst, arith, inl, inr, ⊎_elim}
-use Rattle.std.specs.Prelude.{slice_index, slice_index_or, All, min, Vec, IfOk}
+use Rattle.std.proofs.Common.{◌≡◌, ℕ, zero, suc, ◌+◌, ◌*◌, ◌<◌, ◌≤◌, ◌%◌, Bool, List, [], ◌∷◌, length, map, slice_get, Option, Some, None, Ok, Err, refl, sym, ap, ◌∙◌, subst, arith, inl, inr, ⊎_elim}
+use Rattle.std.specs.Prelude.{slice_index, All, min}
 use Rattle.std.specs.List.{list_any}
 use Rattle.std.specs.List.Sorted.{IsStrictlyIncreasing}
-use Rattle.std.specs.declared.alloc.Global.{Global}
 use Rattle.scale_base.specs.declared.ranges.Patch.{Patch}
 use Rattle.scale_base.specs.declared.refusal.Refusal.{Refusal}
-use Rattle.scale_base.specs.declared.refusal.Refusal.TheVariants.{StubOutOfReach}
 use Rattle.scale_base.specs.declared.refusal.Stop.{Stop}
 use Rattle.scale_base.specs.declared.refusal.Stop.TheVariants.{Refused, Memory}
 use Rattle.scale_base.specs.declared.summary.Summary.{Summary}
 use Rattle.scale_base.specs.Answer.{AnswersBy}
 use Rattle.scale_base.specs.Image.{Image, image_of}
 use Rattle.power_model.specs.Numbers.{PowerModel, IsPowerModel}
-use Rattle.power_model.specs.Slowest.{slowest_of, is_in_time}
+use Rattle.power_model.specs.Price.{time_at}
+use Rattle.power_model.specs.Slowest.{is_in_time}
 use Rattle.cost_theory.specs.Graph.{sum_below, only}
-use Rattle.cost_theory.specs.Least.{Least}
-use Rattle.cost_theory.specs.Worst.{Numbers, AreNumbers}
+use Rattle.least_laws.specs.Charged.{Charged}
+use Rattle.cost_theory.specs.Worst.{Numbers}
 use Rattle.elf_patch.specs.Stored.{IsStubBase}
 use Rattle.graph_runs.specs.Text.{text_of}
-use Rattle.code_graph.specs.FlowGraph.{FlowGraph, graph, IsGraphOf}
+use Rattle.code_graph.specs.FlowGraph.{FlowGraph, IsGraphOf}
 use Rattle.code_graph.specs.Building.{IsBuilt}
 use Rattle.loop_file.specs.declared.notes.LoopNote.{LoopNote}
-use Rattle.loop_tree.specs.Tree.{LoopView, loops, IsTreeOf, IsTreeBuilt}
+use Rattle.loop_tree.specs.Tree.{LoopView, IsTreeOf, IsTreeBuilt}
 use Rattle.scale_base.specs.declared.fragments.Mark.{Mark}
 use Rattle.scale_sites.specs.Counters.{AreCounters, counted_loops}
 use Rattle.scale_sites.specs.Sites.{marks_at_edge}
 use Rattle.stub_writer.specs.declared.site.StubBlock.{StubBlock}
 use Rattle.stub_writer.specs.declared.site.StubSite.{StubSite}
-use Rattle.stub_writer.specs.Block.{Block, block_view, block_of, emitted, unless_far as block_unless_far}
+use Rattle.stub_writer.specs.Block.{Block, block_view, block_of, unless_far as block_unless_far}
 use Rattle.stub_writer.specs.Sites.{site_of}
-use Rattle.stub_writer.specs.Stubs.{Site, block_size, block_bytes, patches_from, out_of_reach, stub_len, jump}
+use Rattle.stub_writer.specs.Stubs.{Site, block_size, block_bytes, patches_from, out_of_reach, stub_len}
 use Rattle.stored_runs.specs.Stubbed.{AreAscending}
-use Rattle.rewritten_runs.specs.Stubs.{IsWeighed, HasStubs, marks_by_slack, extra_weights, edges_with, rewritten_file}
+use Rattle.rewritten_runs.specs.Stubs.{IsWeighed, HasStubs, marks_by_slack, edges_with, is_switch, is_exit, is_count}
 use Rattle.rewritten_runs.proofs.Short.{block_bytes_len}
 use Rattle.rewritten_runs.proofs.Law.{storable}
 use Rattle.stored_laws.specs.StoredView.{IsStorable}
 use Rattle.scaler.specs.declared.rewriting.Scaling.{Scaling}
 use Rattle.scaler.specs.declared.stubs.Marking.{Marking}
-use Rattle.scaler.specs.Markings.{IsMarking}
-use Rattle.scaler.specs.Rewritten.{IsRewrittenProgram, IsProgramRewritten, rewritten_summary, unless_far}
-use Rattle.scaler.specs.Scalings.{IsMarkedAt, IsMarkingFound, IsUnfit, IsExtraFound, IsInRange, AreStubsOf, IsBlockGiven, IsMarkedProgram, IsScaled, IsScalingFound, HasMarks}
+use Rattle.scaler.specs.Rewritten.{IsRewrittenProgram, rewritten_summary, unless_far}
+use Rattle.scaler.specs.Scalings.{IsMarkedAt, IsMarkingFound, IsUnfit, IsExtraFound, IsInRange, AreStubsOf, IsBlockGiven, IsMarkedProgram, IsScaled, IsScalingFound, HasMarks, AreStubsFound}
 use Rattle.scaler.proofs.Safe.{found_below}
 
 -- ---- stops
@@ -85,7 +83,7 @@ module _ (power : PowerModel) (image : Image) (notes : List LoopNote) (v : FlowG
     abbrev stored : Numbers
     stored = found.1
 
-    abbrev least : Least
+    abbrev least : Charged
     least = found.2
 
     abbrev at : IsMarkedAt power image v t plain stored least m start
@@ -113,7 +111,7 @@ module _ (power : PowerModel) (image : Image) (notes : List LoopNote) (v : FlowG
     -- ---- and the stubs
 
     module _ (cycles : ℕ) (extra_is : (image : Image) (plain : Numbers) → HasMarks power image v t plain m.sites → IsExtraFound power image v t plain (Ok cycles))
-        (stubs : List StubSite) (stubs_are : (plain stored : Numbers) (least : Least) → IsMarking power image v t plain stored least m → AreStubsOf power image v t plain stored least stubs) where
+        (stubs : List StubSite) (stubs_are : AreStubsFound power image v t m stubs) where
       abbrev extra : Numbers
       extra = (extra_is image plain at.marks).0
 
@@ -121,7 +119,7 @@ module _ (power : PowerModel) (image : Image) (notes : List LoopNote) (v : FlowG
       cycles_are = (extra_is image plain at.marks).2
 
       are : AreStubsOf power image v t plain stored least stubs
-      are = stubs_are plain stored least at.marking
+      are = stubs_are notes plain stored least weighed at.marking
 
       pub few_stubs : length stubs ≤ 131072
       few_stubs = are.few
@@ -166,20 +164,11 @@ module _ (power : PowerModel) (image : Image) (notes : List LoopNote) (v : FlowG
       pub edges_same : (kind : Mark → Bool) → edges_with kind v (marks_at_edge m.sites) ≡ edges_with kind v (marks_by_slack power image v t plain)
       edges_same kind = sum_same (length v.code.edges) _ _ (λ e lt. ap (λ ms. only (list_any kind ms) 1) (at.marks.marks e lt))
 
-      pub scaled : (s : Scaling) → s.stubs.items ≡ stubs → IsBlockGiven image stubs (Ok (s.block, s.base)) → s.summary.start ≡ start → (worst : ℕ) → slice_get m.worst.worst 0 ≡ Some worst
-          → s.summary ≡ record {
-            start = start;
-            worst = worst;
-            time = Rattle.power_model.specs.Price.time_at power start worst;
-            deadline = power.deadline;
-            stub_cycles = cycles;
-            switch_edges = edges_with Rattle.rewritten_runs.specs.Stubs.is_switch v (marks_at_edge m.sites);
-            exit_edges = edges_with Rattle.rewritten_runs.specs.Stubs.is_exit v (marks_at_edge m.sites);
-            count_edges = edges_with Rattle.rewritten_runs.specs.Stubs.is_count v (marks_at_edge m.sites);
-            stub_bytes = block_size (map site_of stubs);
-          }
-          → IsScaled power image notes s
-      scaled s same given started worst total summary = record {
+      pub scaled : (s : Scaling) → s.stubs.items ≡ stubs → IsBlockGiven image stubs (Ok (s.block, s.base)) → s.summary.start ≡ start → slice_get m.worst.worst 0 ≡ Some s.summary.worst
+          → s.summary.time ≡ time_at power s.summary.start s.summary.worst → s.summary.deadline ≡ power.deadline → s.summary.stub_cycles ≡ cycles
+          → s.summary.switch_edges ≡ edges_with is_switch v (marks_at_edge m.sites) → s.summary.exit_edges ≡ edges_with is_exit v (marks_at_edge m.sites) → s.summary.count_edges ≡ edges_with is_count v (marks_at_edge m.sites)
+          → s.summary.stub_bytes ≡ block_size (map site_of stubs) → IsScaled power image notes s
+      scaled s same given started total time deadline added switch exit count size = record {
         code = v;
         tree = t;
         plain = plain;
@@ -199,27 +188,21 @@ module _ (power : PowerModel) (image : Image) (notes : List LoopNote) (v : FlowG
           near : (out_of_reach s.base (map site_of stubs) ≡ None) × (block_view s.block ≡ block_of s.base (map site_of stubs))
           near = near_by (out_of_reach s.base (map site_of stubs)) (block_of s.base (map site_of stubs)) (block_view s.block) given.1
 
-          worst_is : worst ≡ stored.worst 0
+          worst_is : s.summary.worst ≡ stored.worst 0
           worst_is = let a = at.worst in let b = total in cc
 
-          made : Summary
-          made = record {
-            start = start;
-            worst = worst;
-            time = Rattle.power_model.specs.Price.time_at power start worst;
-            deadline = power.deadline;
-            stub_cycles = cycles;
-            switch_edges = edges_with Rattle.rewritten_runs.specs.Stubs.is_switch v (marks_at_edge m.sites);
-            exit_edges = edges_with Rattle.rewritten_runs.specs.Stubs.is_exit v (marks_at_edge m.sites);
-            count_edges = edges_with Rattle.rewritten_runs.specs.Stubs.is_count v (marks_at_edge m.sites);
-            stub_bytes = block_size (map site_of stubs);
-          }
-
-          rest : made ≡ rewritten_summary power v (marks_by_slack power image v t plain) s.summary.start (stored.worst 0) (extra.worst 0) (map site_of s.stubs.items)
-          rest = rw (same, started, sym worst_is, sym cycles_are, sym (edges_same Rattle.rewritten_runs.specs.Stubs.is_switch), sym (edges_same Rattle.rewritten_runs.specs.Stubs.is_exit), sym (edges_same Rattle.rewritten_runs.specs.Stubs.is_count)) refl
-
-          whole : s.summary ≡ rewritten_summary power v (marks_by_slack power image v t plain) s.summary.start (stored.worst 0) (extra.worst 0) (map site_of s.stubs.items)
-          whole = summary ∙ rest
+          whole : record {
+            start = s.summary.start;
+            worst = s.summary.worst;
+            time = s.summary.time;
+            deadline = s.summary.deadline;
+            stub_cycles = s.summary.stub_cycles;
+            switch_edges = s.summary.switch_edges;
+            exit_edges = s.summary.exit_edges;
+            count_edges = s.summary.count_edges;
+            stub_bytes = s.summary.stub_bytes;
+          } ≡ rewritten_summary power v (marks_by_slack power image v t plain) s.summary.start (stored.worst 0) (extra.worst 0) (map site_of s.stubs.items)
+          whole = rw (time, worst_is, deadline, added ∙ cycles_are, switch ∙ edges_same is_switch, exit ∙ edges_same is_exit, count ∙ edges_same is_count, size ∙ ap (λ l. block_size (map site_of l)) (sym same)) refl
 
 -- ---- what is asked where the file is written
 

@@ -1,8 +1,7 @@
 -- The marks of a program, from the slacks under the plain weights.
-use Rattle.std.proofs.Common.{◌≡◌, ℕ, zero, suc, ◌+◌, ◌<◌, ◌≤◌, ◌^◌, Bool, true, false, cond, List, [], ◌∷◌, length, slice_get, Option, Some, None, Result, Ok, Err, refl, sym, ap, ◌∙◌, subst, arith}
-use Rattle.std.specs.Prelude.{slice_index, slice_index_or, ◌&&◌, ◌||◌, nat_eq}
+use Rattle.std.proofs.Common.{◌≡◌, ℕ, zero, suc, ◌<◌, Bool, cond, List, [], length, Ok, Err, refl, ap, ◌∙◌, subst, arith}
+use Rattle.std.specs.Prelude.{slice_index, ◌&&◌, ◌||◌, nat_eq}
 use Rattle.std.proofs.lemmas.Option.{get_or_from_slice_get}
-use Rattle.scale_base.specs.declared.refusal.Refusal.{Refusal}
 use Rattle.scale_base.specs.declared.refusal.Stop.{Stop}
 use Rattle.scale_base.specs.declared.refusal.Stop.TheVariants.{Refused, Memory}
 use Rattle.scale_base.specs.Answer.{AnswersBy}
@@ -19,10 +18,10 @@ use Rattle.scale_base.specs.declared.fragments.Mark.{Mark}
 use Rattle.scale_sites.specs.Counters.{counted_loops}
 use Rattle.scale_sites.specs.Marks.{marks_of}
 use Rattle.scale_sites.specs.Sites.{SitesView, AreSites, is_branch, marks_at_edge, marks_by}
-use Rattle.scale_sites.specs.Weights.{some_mark, is_patched, jumps_of}
+use Rattle.scale_sites.specs.Weights.{some_mark, jumps_of}
 use Rattle.rewritten_runs.specs.Stubs.{plain_weights, marks_by_slack}
 use Rattle.rewritten_runs.proofs.Programs.{listed_weights, weights_listed}
-use Rattle.scaler.specs.Scalings.{HasMarks, AreSitesFound}
+use Rattle.scaler.specs.Scalings.{AreSitesFound}
 
 any_same : (n : ℕ) (p q : ℕ → Bool) → ((k : ℕ) → k < n → p k ≡ q k) → any_below n p ≡ any_below n q
 any_same zero p q h = refl

@@ -2,6 +2,5 @@ pub mod Held
 pub mod Runs
 pub mod Rewritten
 pub mod RewrittenRuns
-pub mod StandIn
 pub mod Markings
 pub mod Scalings

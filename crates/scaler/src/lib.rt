@@ -10,7 +10,6 @@ ghost use Rattle.scaler.specs.Runs.{IsHeldSafely};
 
 mod rewriting;
 mod safe_level;
-mod stand_in;
 mod stubs;
 #[cfg(test)]
 mod tests;

@@ -19,17 +19,16 @@ ghost use Rattle.scaler.specs.RewrittenRuns.{IsRewrittenSafely};
 ghost use Rattle.scaler.specs.Scalings as scalings;
 
 use crate::safe_level::{check_unscaled, time_at, weights_of};
-use crate::stand_in::least;
 use crate::stubs::{Marking, stub_sites};
 use code_graph::{CodeGraph, build_graph};
 use elf_patch::{stub_base, write_image};
 use elf_view::{ImageView, read_image};
+use least_cycles::least;
 use loop_file::{LoopNotes, read_loops};
 use loop_tree::{LoopTree, build_loops};
 use machine_file::read_machine;
 use power_model::{Power, slowest};
-use scale_base::{NoMemory, Refusal, Stop, Summary};
-use scale_base::Mark;
+use scale_base::{Mark, NoMemory, Refusal, Stop, Summary};
 use scale_sites::{CounterList, Sites, choose, counters};
 use std::alloc::Global;
 use stub_writer::{StubBlock, StubSite, block_len, emit};
@@ -193,6 +192,7 @@ fn scaling_of(
     power: &Power,
     notes: &LoopNotes,
 ) -> Result<Scaling, Stop>
+    requires image { image_of view.now.file ≡ Ok view.now }
     requires power { IsPowerModel power.now }
     ensures { AnswersBy (λ s. s) result (scalings.IsScalingFound power.now view.now notes.now) }
 {

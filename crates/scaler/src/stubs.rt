@@ -1,19 +1,18 @@
 //! The stubs of a program: its marked instructions with the fragments of their edges.
 
-ghost use Rattle.std.specs.Prelude.{◌≡◌, ◌<◌, ◌≤◌, ◌^◌, ℕ, true, length, slice_get, option_and_then, option_map, ◌+◌, None, Some, Ok, IfSome, IfOk};
+ghost use Rattle.std.specs.Prelude.{◌≡◌, ◌<◌, ◌≤◌, ◌^◌, ℕ, true, length, slice_get, option_map, ◌+◌, None, Some, Ok, IfSome, IfOk};
 ghost use Rattle.scale_base.specs.Image.{image_of, is_word_address};
 ghost use Rattle.scale_base.specs.Word.{FieldsInRange};
 ghost use Rattle.graph_runs.specs.Text.{text_of, instr_at as instruction_at};
-ghost use Rattle.code_graph.specs.FlowGraph.{graph as graph_seen};
 ghost use Rattle.scale_base.specs.declared.fragments.Mark.TheVariants as marks;
 ghost use Rattle.scale_sites.specs.Sites.{marks_at_edge};
 ghost use Rattle.scale_sites.specs.Weights.{switches};
 ghost use Rattle.scaler.specs.Scalings.{IsMarkedProgram, AreStubsFound};
 ghost use Rattle.scaler.specs.Markings.{HasMarking, Whichever, IsToldAt, IsFragmentAt, AreFragmentsAt, AreEdgesAt};
 
-use crate::stand_in::LeastNumbers;
 use code_graph::CodeGraph;
 use elf_view::ImageView;
+use least_cycles::LeastNumbers;
 use level_tables::{exit_rows, shift, word};
 use loop_tree::LoopTree;
 use power_model::Power;
@@ -42,25 +41,6 @@ struct Told {
     least: Option<u128>,
 }
 
-/// The least cycles behind edge `e`.
-fn least_behind(
-    graph: &CodeGraph,
-    tree: &LoopTree,
-    power: &Power,
-    marking: &Marking,
-    e: usize,
-) -> Option<u128>
-    requires marking { HasMarking power.now graph.now tree.now marking.now }
-    requires edge { e < length graph.now.code.edges }
-    ensures least { Whichever power.now graph.now tree.now marking.now (λ image plain stored least. result ≡ option_and_then least.to_end ((graph_seen graph.now).target e)) }
-    ensures small { IfSome result (λ z. z < 2 ^ 89) }
-{
-    match graph.target(e) {
-        Some(k) => marking.least.to_end(k),
-        None => None,
-    }
-}
-
 /// What edge `e`, which has a Switch or an Exit, tells its switch.
 fn told_at(power: &Power, graph: &CodeGraph, tree: &LoopTree, marking: &Marking, e: usize) -> Told
     requires marking { HasMarking power.now graph.now tree.now marking.now }
@@ -73,7 +53,7 @@ fn told_at(power: &Power, graph: &CodeGraph, tree: &LoopTree, marking: &Marking,
     let tail = marking.sites.tail(e, &power.costs);
     let slack = marking.worst.slack(e);
     let rest = marking.worst.rest(e);
-    let least = plus(least_behind(graph, tree, power, marking, e), tail);
+    let least = plus(marking.least.to_end_after(e), tail);
     Told {
         slack,
         left: rest + u64::from(tail),

@@ -5,7 +5,8 @@ use std::test::Fail;
 
 /// A file of one segment of words at 0x10000.
 fn plain_image(alloc: Global, words: &[u32]) -> Result<Vec<u8>, Fail> {
-    let len = 4 * words.len() as u32;
+    let count = u16::try_from(words.len()).ok().ok_or("words of an image")?;
+    let len = 4 * u32::from(count);
     let header: [u32; 21] = [
         0x464C457F, 0x00010101, 0, 0, 0x00F30002, 1, 0x10000, 52, 0, 0, 0x00200034, 1, 0, 1, 84,
         0x10000, 0x10000, len, len, 5, 4,
@@ -26,6 +27,19 @@ fn machine(alloc: Global, deadline: u32, min_gain: u32) -> Result<String, Fail> 
     )?)
 }
 
+/// What `rewrite` makes of files that the program would load.
+fn rewritten(
+    alloc: Global,
+    image: &[u8],
+    machine: &str,
+    loops: &str,
+) -> Result<Result<(Vec<u8>, Summary), Stop>, Fail> {
+    if image.len() > 4_194_304 || machine.len() > 1_048_576 || loops.len() > 1_048_576 {
+        return Err(Fail::from("files that are too long"));
+    }
+    Ok(rewrite(alloc, image, machine.as_bytes(), loops.as_bytes()))
+}
+
 const NO_LOOPS: &str = "version = 1\n";
 
 const L3: &str =
@@ -42,7 +56,11 @@ const V3: [u32; 8] = [
 
 const V16: [u32; 3] = [0x00000263, 0x05D00893, 0x00000073];
 
+/// The word at a place of a file; 0 where the file has none.
 fn word_at(bytes: &[u8], at: usize) -> u32 {
+    if at >= bytes.len() || bytes.len() - at < 4 {
+        return 0;
+    }
     u32::from_le_bytes([bytes[at], bytes[at + 1], bytes[at + 2], bytes[at + 3]])
 }
 
@@ -51,7 +69,7 @@ fn a_branch_that_saves_divisions(rt: HostRuntime) -> Result<(), Fail> {
     let alloc = rt.alloc();
     let image = plain_image(alloc, &V2)?;
     let machine = machine(alloc, 160, 20)?;
-    let (bytes, summary) = rewrite(alloc, &image, machine.as_bytes(), NO_LOOPS.as_bytes())
+    let (bytes, summary) = rewritten(alloc, &image, machine.as_str(), NO_LOOPS)?
         .ok()
         .ok_or("rewritten")?;
     let expected = Summary {
@@ -76,7 +94,7 @@ fn a_branch_that_saves_divisions(rt: HostRuntime) -> Result<(), Fail> {
         assert_eq!(rt; word_at(&bytes, 4096 + 4 * k), block[k]);
     }
     // the rewritten image is refused
-    let again = rewrite(alloc, &bytes, machine.as_bytes(), NO_LOOPS.as_bytes());
+    let again = rewritten(alloc, &bytes, machine.as_str(), NO_LOOPS)?;
     assert!(rt; matches!(&again, Err(Stop::Refused(Refusal::AlreadyScaled))));
     Ok(())
 }
@@ -86,7 +104,7 @@ fn a_counted_loop(rt: HostRuntime) -> Result<(), Fail> {
     let alloc = rt.alloc();
     let image = plain_image(alloc, &V3)?;
     let first = machine(alloc, 500, 20)?;
-    let (bytes, summary) = rewrite(alloc, &image, first.as_bytes(), L3.as_bytes())
+    let (bytes, summary) = rewritten(alloc, &image, first.as_str(), L3)?
         .ok()
         .ok_or("rewritten")?;
     let expected = Summary {
@@ -107,14 +125,14 @@ fn a_counted_loop(rt: HostRuntime) -> Result<(), Fail> {
         assert_eq!(rt; word_at(&bytes, 4096 + 0x60 + 4 * k), rows[k]);
     }
     let second = machine(alloc, 481, 20)?;
-    let (_, late) = rewrite(alloc, &image, second.as_bytes(), L3.as_bytes())
+    let (_, late) = rewritten(alloc, &image, second.as_str(), L3)?
         .ok()
         .ok_or("rewritten")?;
     assert_eq!(rt;
         (late.start, late.worst, late.time, late.deadline),
         (2, 241, 241, 481)
     );
-    let unbounded = rewrite(alloc, &image, second.as_bytes(), NO_LOOPS.as_bytes());
+    let unbounded = rewritten(alloc, &image, second.as_str(), NO_LOOPS)?;
     assert!(rt; matches!(&unbounded, Err(Stop::Refused(Refusal::UnboundedCycle(_)))));
     Ok(())
 }
@@ -124,7 +142,7 @@ fn a_branch_of_little_slack(rt: HostRuntime) -> Result<(), Fail> {
     let alloc = rt.alloc();
     let image = plain_image(alloc, &V16)?;
     let machine = machine(alloc, 100, 1)?;
-    let (bytes, summary) = rewrite(alloc, &image, machine.as_bytes(), NO_LOOPS.as_bytes())
+    let (bytes, summary) = rewritten(alloc, &image, machine.as_str(), NO_LOOPS)?
         .ok()
         .ok_or("rewritten")?;
     let expected = Summary {
@@ -155,7 +173,7 @@ fn loops_that_are_not_counted(rt: HostRuntime) -> Result<(), Fail> {
     )?;
     let loops =
         "version = 1\n[[loop]]\nheader = 0x10008\nranges = [[0x10004, 0x1000C]]\nbound = 5\ncounted = true\n";
-    let refused = rewrite(alloc, &next, machine.as_bytes(), loops.as_bytes());
+    let refused = rewritten(alloc, &next, machine.as_str(), loops)?;
     assert!(rt;
         matches!(
             &refused,
@@ -164,7 +182,7 @@ fn loops_that_are_not_counted(rt: HostRuntime) -> Result<(), Fail> {
     );
     let mut words = Vec::new(alloc);
     let mut many = String::from_str(alloc, "version = 1\n")?;
-    for k in 0..510 {
+    for k in 0..510_u32 {
         words.push(0x00029063)?;
         let from = 0x10000 + 4 * k;
         let to = from + 4;
@@ -175,7 +193,7 @@ fn loops_that_are_not_counted(rt: HostRuntime) -> Result<(), Fail> {
     words.push(0x05D00893)?;
     words.push(0x00000073)?;
     let image = plain_image(alloc, &words)?;
-    let refused = rewrite(alloc, &image, machine.as_bytes(), many.as_bytes());
+    let refused = rewritten(alloc, &image, machine.as_str(), many.as_str())?;
     assert!(rt; matches!(&refused, Err(Stop::Refused(Refusal::TooManyCounters(510)))));
     Ok(())
 }
@@ -195,7 +213,7 @@ fn a_stub_that_is_too_far(rt: HostRuntime) -> Result<(), Fail> {
     for word in V16.iter() {
         bytes.extend_from_slice(&word.to_le_bytes())?;
     }
-    let refused = rewrite(alloc, &bytes, machine.as_bytes(), NO_LOOPS.as_bytes());
+    let refused = rewritten(alloc, &bytes, machine.as_str(), NO_LOOPS)?;
     assert!(rt;
         matches!(
             &refused,

@@ -1,4 +1,4 @@
-use Rattle.std.proofs.Common.{◌≡◌, sym, ap, subst, List, ℕ}
+use Rattle.std.proofs.Common.{sym, ap, subst, List, ℕ}
 use Rattle.std.proofs.lemmas.Result.{err_from_is_err_and}
 use Rattle.cost_theory.specs.Accepted.{AreWeights}
 use Rattle.graph_runs.specs.Text.{text_of}

@@ -1,4 +1,4 @@
-use Rattle.std.proofs.Common.{◌≡◌, sym, ap, subst, List, ℕ}
+use Rattle.std.proofs.Common.{ap}
 use Rattle.std.proofs.lemmas.Result.{err_from_is_err_and}
 use Rattle.power_model.specs.Numbers.{PowerModel}
 use Rattle.scaler.proofs.ExtraFacts.{extra_calls, extra_stop, extra_found}

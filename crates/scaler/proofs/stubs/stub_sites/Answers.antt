@@ -11,7 +11,7 @@ use Rattle.scaler.proofs.stubs.stub_sites.Goals as goal
 use Rattle.scaler.proofs.stubs.stub_sites.Goals.{then-not-is_empty+in-Some+in_ok-push, then-not-is_empty+in_default, else-not-is_empty}
 
 pub stub_edges-requires-clause-marking : goal.stub_edges-requires-clause-marking
-stub_edges-requires-clause-marking c = let h = c.requires.numbers in (c.args.view.now, h.1, h.2, h.3, h.5)
+stub_edges-requires-clause-marking c = let h = c.requires.program in (c.args.view.now, h.1, h.2, h.3, h.5)
 
 pub loop-k-init : goal.loop-k-init
 loop-k-init c =
@@ -51,7 +51,7 @@ loop-k-preserved c =
                 (decoded_some c.args.view.now at w.instr_at.result w.in-Some.instr w.instr_at.ensures.some w.in-Some.is)),
           )
       | then-not-is_empty+in_default w ↦
-          let h = c.requires.numbers in
+          let h = c.requires.program in
           let frags = fragments_at c.args.power.now c.args.view.now c.args.graph.now c.args.tree.now (marks_by_slack c.args.power.now c.args.view.now c.args.graph.now c.args.tree.now h.1) h.2 h.3 in
           let edges : AreEdgesOfNode c.args.graph.now frags at es = subst (λ a. AreEdgesOfNode c.args.graph.now frags a es) here (c.in_ok-edges.ensures c.args.view.now h.1 h.2 h.3 h.5) in
           let some = some_edge c.args.graph.now frags at (length c.args.graph.now.code.edges) es
