@@ -5,3 +5,4 @@ pub mod RewrittenRuns
 pub mod StandIn
 pub mod Markings
 pub mod Scalings
+pub mod Agree
