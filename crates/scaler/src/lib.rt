@@ -3,7 +3,7 @@
 
 ghost use Rattle.std.specs.Prelude.{◌≡◌, ◌≤◌, ℕ, List, length, Ok};
 ghost use Rattle.scale_base.specs.declared.summary.Summary.{Summary};
-ghost use Rattle.scaler.specs.Agree.{HeldAnswersAgree};
+ghost use Rattle.scaler.specs.Agree.{HeldAnswersAgree, RewrittenAnswersAgree};
 ghost use Rattle.scaler.specs.Held.{IsHeld};
 ghost use Rattle.scaler.specs.Rewritten.{IsRewritten};
 ghost use Rattle.scaler.specs.RewrittenRuns.{IsRewrittenSafely};
@@ -36,4 +36,9 @@ pub fn rewritten_images_are_safe()
 /// Two answers that `hold` may give for the same files are the same, but for the cycle that a refusal names.
 pub fn held_answers_agree()
     ensures { HeldAnswersAgree }
+{}
+
+/// Two answers that `rewrite` may give for the same files are the same, but for the cycle that a refusal names.
+pub fn rewritten_answers_agree()
+    ensures { RewrittenAnswersAgree }
 {}
