@@ -12,3 +12,4 @@ pub mod MarkedKinds
 pub mod SiteLists
 pub mod MarkingFacts
 pub mod ScalingFacts
+pub mod agree

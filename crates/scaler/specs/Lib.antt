@@ -4,3 +4,4 @@ pub mod Rewritten
 pub mod RewrittenRuns
 pub mod Markings
 pub mod Scalings
+pub mod Agree

@@ -3,6 +3,7 @@
 
 ghost use Rattle.std.specs.Prelude.{◌≡◌, ◌≤◌, ℕ, List, length, Ok};
 ghost use Rattle.scale_base.specs.declared.summary.Summary.{Summary};
+ghost use Rattle.scaler.specs.Agree.{HeldAnswersAgree, RewrittenAnswersAgree};
 ghost use Rattle.scaler.specs.Held.{IsHeld};
 ghost use Rattle.scaler.specs.Rewritten.{IsRewritten};
 ghost use Rattle.scaler.specs.RewrittenRuns.{IsRewrittenSafely};
@@ -29,4 +30,14 @@ pub fn held_images_are_safe()
 /// cycles at its starting level, and adds at most the printed number of cycles; and it follows the original run in time, step by step.
 pub fn rewritten_images_are_safe()
     ensures { (image machine loops stored : List ℕ) (summary : Summary) → length image ≤ 4194304 → length machine ≤ 1048576 → length loops ≤ 1048576 → IsRewritten image machine loops (Ok ((stored, summary))) → IsRewrittenSafely image machine loops stored summary }
+{}
+
+/// Two answers that `hold` may give for the same files are the same, but for the cycle that a refusal names.
+pub fn held_answers_agree()
+    ensures { HeldAnswersAgree }
+{}
+
+/// Two answers that `rewrite` may give for the same files are the same, but for the cycle that a refusal names.
+pub fn rewritten_answers_agree()
+    ensures { RewrittenAnswersAgree }
 {}
