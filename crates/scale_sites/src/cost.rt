@@ -3,8 +3,8 @@
 ghost use Rattle.std.specs.Prelude.{◌≡◌, ◌≤◌, ◌*◌, ◌+◌, length, true};
 ghost use Rattle.scale_sites.specs.Weights.{mark_cost, marks_cost, switches, tail_of, extra_of};
 
-use scale_base::Mark;
 use power_model::Costs;
+use scale_base::Mark;
 
 /// The cost of a mark's fragment.
 fn mark_cost(mark: &Mark, costs: &Costs) -> u32

@@ -4,9 +4,8 @@ ghost use Rattle.std.specs.Prelude.{◌≡◌, ◌≤◌, ◌<◌, ◌+◌, ◌+
 ghost use Rattle.cost_theory.specs.Graph.{leaves, goes_back};
 ghost use Rattle.scale_sites.specs.Marks.{AreBelow, numbered, leaves_any, holds_left, is_outermost, marks_at, exits_from, resets_from, counts_from};
 
-use scale_base::Mark;
 use loop_tree::LoopTree;
-use scale_base::NoMemory;
+use scale_base::{Mark, NoMemory};
 use std::alloc::Global;
 
 /// A step from a node to another, if it leads to one, by their numbers.

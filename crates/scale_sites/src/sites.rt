@@ -15,13 +15,12 @@ ghost use Rattle.scale_sites.specs.Sites.{SitesView, is_branch, is_branch_kind, 
 use crate::cost;
 use crate::counting::CounterList;
 use crate::edge_marks::{Way, edge_marks};
-use scale_base::Mark;
 use code_graph::{CodeGraph, Weights};
 use cost_theory::EdgeKind;
 use loop_tree::LoopTree;
 use natural_loops::node_at;
 use power_model::Costs;
-use scale_base::{Class, NoMemory};
+use scale_base::{Class, Mark, NoMemory};
 use std::alloc::Global;
 use std::marker::Model;
 
