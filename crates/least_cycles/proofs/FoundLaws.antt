@@ -101,6 +101,12 @@ has_charging v t extent weights own flow tree size calls solved mine = subst (λ
       charges = λ k kl. let low = trips_within (graph v) (loops v t) extent (number_at weights) exist.0 solved.0 numbered solved.1 few k (loop_below v t k kl) in let top = solved.2 in omega arith;
     }
 
+-- small numbers, of which there is one for each node
+pub small_found : (v : FlowGraph) (t : LoopView) (w : ℕ → ℕ) (returns exits : List (Option ℕ)) → HasCharging v t w → HasWalks v t w IsAnyFunction returns exits → AreSmallWalks v returns exits
+small_found v t w returns exits exist walks =
+    let are = walks exist.0 exist.1 in
+    record { returns_size = are.returns_size; exits_size = are.exits_size; small_return = are.small_return; small_exit = are.small_exit }
+
 -- ---- and are found
 
 module _ (v : FlowGraph) (t : LoopView) (w : ℕ → ℕ) (charges : Charges) (returns exits behind ends after : List (Option ℕ)) (n : Charged) (is : IsCharging v t w n) (few : length v.code.functions ≤ 131072)

@@ -26,8 +26,9 @@ use Rattle.least_cycles.specs.Charging.{own_by, loop_charge, IsCharging, AreHead
 use Rattle.least_cycles.proofs.ChargedLaws.{charged_on, charged_back, charged_into}
 use Rattle.least_cycles.proofs.AgreeLaws.{calls_so_at, calls_one}
 use Rattle.least_cycles.proofs.TurnLaws.{same_node, loop_count, loop_below, header_number, header_address, header_is, address_of_header, one_header, same_bool, key_is, key_of}
-use Rattle.least_cycles.specs.Tables.{least_by, ArePriced, IsBefore}
-use Rattle.least_cycles.proofs.WalkLaws.{address_is, from_first, not_before, next_before}
+use Rattle.least_cycles.specs.Tables.{least_by, ArePriced, IsBefore, IsAnyFunction}
+use Rattle.least_cycles.proofs.PriceLaws.{owner_below}
+use Rattle.least_cycles.proofs.WalkLaws.{address_is, from_first, not_before, next_before, all_before}
 
 same_or : (a b : ℕ) → (a ≡ b) ⊎ (a ≢ b)
 same_or a b = grind arith
@@ -513,3 +514,8 @@ module _ (v : FlowGraph) (t : LoopView) (w : ℕ → ℕ) (n : Charged) (is : Is
       (λ (early : IsBefore v i (loop_owner v t k)). others k kl (λ same. not_before v i f is.flow at (subst (IsBefore v i) same early)) ∙ before k kl early)
       (λ (same : loop_owner v t k ≡ f). now k kl same)
       (next_before v i f (loop_owner v t k) at done)
+
+-- all loops are those of functions
+pub charged_whole : (v : FlowGraph) (t : LoopView) (w : ℕ → ℕ) (n : Charged) → IsCharging v t w n → (found : List ℕ) → AreChargedTo v t n (λ k. IsBefore v (length v.order) (loop_owner v t k)) found → AreChargedTo v t n (λ k. IsAnyFunction k) found
+charged_whole v t w n is found charged k kl any =
+    charged k kl (all_before v (loop_owner v t k) is.flow (subst (λ a. (graph v).owner a < length v.code.functions) (sym (header_address v t k kl)) (owner_below v (number_at t.headers k) is.flow (header_number v t is.extent is.tree k kl))))

@@ -279,11 +279,6 @@ zero_at zero k = refl
 zero_at (suc n) zero = refl
 zero_at (suc n) (suc k) = zero_at n k
 
-unmarked_at : (n k : ℕ) → slice_index_or (replicate n false) k false ≡ false
-unmarked_at zero k = refl
-unmarked_at (suc n) zero = refl
-unmarked_at (suc n) (suc k) = unmarked_at n k
-
 not_some : (o : Option ℕ) (x : ℕ) → o ≡ None → o ≡ Some x → ⊥
 not_some o x none some = let bad : ⊥ = cc in bad
 
@@ -299,13 +294,11 @@ walks_first v own limit n returns exits size one two = record {
   small_exit = λ k x at. absurd (not_some (least_at exits k) x (ap (λ (t : List (Option ℕ)). least_at t k) two ∙ none_at n k) at);
 }
 
-pub scratch_first : (v : FlowGraph) (n : ℕ) (costs : List ℕ) (lasts : List Bool) → n ≡ length v.code.edges → costs ≡ replicate n 0 → lasts ≡ replicate n false → AreScratch v costs lasts
-scratch_first v n costs lasts size one two = record {
-  costs_size = ap length one ∙ length-replicate n 0 ∙ size;
-  lasts_size = ap length two ∙ length-replicate n false ∙ size;
-  ends = λ e el yes. let bad_flag : true ≡ false = sym yes ∙ ap (λ (t : List Bool). slice_index_or t e false) two ∙ unmarked_at n e in let bad : ⊥ = cc in absurd bad;
-  within = λ e. let value : number_at costs e ≡ 0 = ap (λ (t : List ℕ). number_at t e) one ∙ zero_at n e in omega arith;
-}
+pub none_before : {A : Type 0} (v : FlowGraph) (f : ℕ) → IsBefore v 0 f → A
+none_before v f done = let lt : done.0 < 0 = done.1 in let bad : ⊥ = omega arith in absurd bad
+
+pub zero_low : (found : List ℕ) (n : ℕ) → found ≡ replicate n 0 → (k : ℕ) → number_at found k ≤ 2 ^ 48
+zero_low found n is k = let value : number_at found k ≡ 0 = ap (λ (t : List ℕ). number_at t k) is ∙ zero_at n k in omega arith
 
 pub walks_whole : (v : FlowGraph) (own limit : ℕ → ℕ) (returns exits : List (Option ℕ)) → IsFlowGraph v → AreWalksOf v own limit (IsBefore v (length v.order)) returns exits → AreWalksOf v own limit IsAnyFunction returns exits
 walks_whole v own limit returns exits flow are = record {
