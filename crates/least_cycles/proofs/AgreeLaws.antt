@@ -216,7 +216,8 @@ module _ (v : FlowGraph) (t : LoopView) (w : ℕ → ℕ) (n : Charged) (is : Is
       let r : (value_beside v.code.nodes returns a ≡ n.least.to_return a) × (value_beside v.code.nodes exits a ≡ n.least.to_exit a) =
       (at_number v is.flow returns node.0 a node.1 ∙ same.0 ∙ ap n.least.to_return address, at_number v is.flow exits node.0 a node.1 ∙ same.1 ∙ ap n.least.to_exit address) in r)
       (λ (none : (k : ℕ) → slice_get v.code.nodes k ≡ Some a → ⊥).
-      let r : (value_beside v.code.nodes returns a ≡ n.least.to_return a) × (value_beside v.code.nodes exits a ≡ n.least.to_exit a) =
-      (beside_none v.code.nodes returns a none ∙ absent (graph v).returns (leads_on (graph v)) (charged_cost (graph v) (loops v t) w n) a none (n.least.to_return a) (is.numbers.to_return a),
-      beside_none v.code.nodes exits a none ∙ absent (ends_exit (graph v) n.least) (leads_on (graph v)) (charged_cost (graph v) (loops v t) w n) a none (n.least.to_exit a) (is.numbers.to_exit a)) in r)
+      let r : (value_beside v.code.nodes returns a ≡ n.least.to_return a) × (value_beside v.code.nodes exits a ≡ n.least.to_exit a) = (
+        beside_none v.code.nodes returns a none ∙ absent (graph v).returns (leads_on (graph v)) (charged_cost (graph v) (loops v t) w n) a none (n.least.to_return a) (is.numbers.to_return a),
+        beside_none v.code.nodes exits a none ∙ absent (ends_exit (graph v) n.least) (leads_on (graph v)) (charged_cost (graph v) (loops v t) w n) a none (n.least.to_exit a) (is.numbers.to_exit a),
+      ) in r)
       (in_or_not v.code.nodes a)

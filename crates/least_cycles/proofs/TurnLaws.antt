@@ -7,6 +7,7 @@ use Rattle.call_orders.specs.Arcs.{number_at, AreDistinct}
 use Rattle.cost_theory.specs.Graph.{Graph, Loops, is_round, is_header, is_back}
 use Rattle.cost_theory.specs.LeastTurns.{turn_step, turn_last}
 use Rattle.cost_theory.specs.Lists.{or_true, is_among, body_of}
+use Rattle.cost_theory.proofs.Append.{leads_to_header}
 use Rattle.cost_theory.proofs.Nesting.{headers-distinct, accepted_entered}
 use Rattle.code_graph.specs.FlowGraph.{FlowGraph, graph, IsFlowGraph}
 use Rattle.code_graph.proofs.FewWords.{few_once}
@@ -113,14 +114,15 @@ no_head_entered v t extent heads e k flow tree are kl to none = record {
   none = λ l at into. are.none k l none (header_is v t extent k l flow tree kl into.0 (same_Some ((loops v t).header l) (node_address v k) (sym into.1 ∙ to)));
 }
 
-pub back_entered : (v : FlowGraph) (t : LoopView) (extent : ℕ → ℕ → Bool) (heads : List (Option ℕ)) (e k l : ℕ) → IsFlowGraph v → IsLoopTree v extent t → AreHeads t heads → k < length v.code.nodes → (graph v).target e ≡ Some (node_address v k) → option_at heads k ≡ Some l → slice_get t.backs e ≡ Some (Some l) → IsEntered v t e None
-back_entered v t extent heads e k l flow tree are kl to head back = record {
-  some = λ j at. absurd (none-some j at);
-  none = λ j at into.
-      let here = are.some k l head in
-      let same : j ≡ l = one_header v t extent j l flow tree into.0 (slice_get_within t.headers l k here) (same_Some ((loops v t).header j) ((loops v t).header l) (sym into.1 ∙ to ∙ ap Some (sym (address_of_header v t k l here)))) in
-      let yes_back : is_back (graph v) (loops v t) l e ≡ true = ((tree.backs e l).0 back).2 in
-      let no_back : is_back (graph v) (loops v t) l e ≡ false = ap (λ i. is_back (graph v) (loops v t) i e) (sym same) ∙ into.2 in
+pub back_entered : (v : FlowGraph) (t : LoopView) (extent : ℕ → ℕ → Bool) (e j : ℕ) → IsFlowGraph v → IsLoopTree v extent t → slice_get t.backs e ≡ Some (Some j) → IsEntered v t e None
+back_entered v t extent e j flow tree back = record {
+  some = λ m at. absurd (none-some m at);
+  none = λ m at into.
+      let is = (tree.backs e j).0 back in
+      let to : (graph v).target e ≡ Some ((loops v t).header j) = leads_to_header (graph v) (loops v t) e j is.2 in
+      let same : m ≡ j = one_header v t extent m j flow tree into.0 is.1 (same_Some ((loops v t).header m) ((loops v t).header j) (sym into.1 ∙ to)) in
+      let yes_back : is_back (graph v) (loops v t) j e ≡ true = is.2 in
+      let no_back : is_back (graph v) (loops v t) j e ≡ false = ap (λ i. is_back (graph v) (loops v t) i e) (sym same) ∙ into.2 in
       let bad : ⊥ = cc in bad;
 }
 

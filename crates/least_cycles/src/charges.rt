@@ -36,12 +36,7 @@ impl Charges {
 }
 
 /// The loop that edge `e` enters from outside, by the loops whose headers nodes are.
-fn entered(
-    graph: &CodeGraph,
-    tree: &LoopTree,
-    heads: &[Option<usize>],
-    e: usize,
-) -> Option<usize>
+fn entered(graph: &CodeGraph, tree: &LoopTree, heads: &[Option<usize>], e: usize) -> Option<usize>
     requires flow { IsFlowGraph graph.now }
     requires tree { (extent : ℕ → ℕ → Bool) × IsLoopTree graph.now extent tree.now }
     requires heads { AreHeads tree.now heads.now }
@@ -55,7 +50,10 @@ fn entered(
     let Some(l) = heads[k] else {
         return None;
     };
-    if tree.is_back_edge(l, e) { None } else { Some(l) }
+    match tree.back_loop(e) {
+        Some(_) => None,
+        None => Some(l),
+    }
 }
 
 /// By edge, the loop that it enters from outside.

@@ -139,9 +139,7 @@ pub fn least_in(
     ensures size { IfOk result (λ table. length table.items ≡ length nodes.now) }
     ensures low { IfOk result (λ table. (i x : ℕ) → least_at table.items i ≡ Some x → x ≤ 2 ^ 67) }
 {
-    let hops = hops_of(
-        alloc, graph, nodes, places, lasts, steps, costs, charges,
-    )?;
+    let hops = hops_of(alloc, graph, nodes, places, lasts, steps, costs, charges)?;
     let table = least_costs(alloc, nodes.len(), &hops, MOST)?;
     Ok(table)
 }

@@ -196,8 +196,7 @@ fn a_call_adds_what_its_function_takes(rt: HostRuntime) -> Result<(), Fail> {
 #[test]
 fn an_edge_into_a_loop_is_charged_its_turns(rt: HostRuntime) -> Result<(), Fail> {
     let words = [0x00A0_0293, NO_OPERATION, BACK_1, EXIT, ECALL];
-    let loops =
-        "{header = 0x10004, ranges = [[0x10004, 0x1000c]], bound = 10, at_least = 9}";
+    let loops = "{header = 0x10004, ranges = [[0x10004, 0x1000c]], bound = 10, at_least = 9}";
     let weights = [1, 1, 2, 1, 1, 5];
     let [_, ends, after] = least_of(rt.alloc(), &words, loops, &weights)?;
     assert_eq!(rt;
@@ -215,19 +214,12 @@ fn an_edge_into_a_loop_is_charged_its_turns(rt: HostRuntime) -> Result<(), Fail>
 fn a_turn_is_charged_the_loop_within(rt: HostRuntime) -> Result<(), Fail> {
     // The branches lead to the second and to the first word.
     let words = [NO_OPERATION, NO_OPERATION, BACK_1, BACK_3, EXIT, ECALL];
-    let loops = "{header = 0x10000, ranges = [[0x10000, 0x10010]], bound = 5, at_least = 3}, {header = 0x10004, ranges = [[0x10004, 0x1000c]], bound = 5, at_least = 2}";
+    let loops =
+        "{header = 0x10000, ranges = [[0x10000, 0x10010]], bound = 5, at_least = 3}, {header = 0x10004, ranges = [[0x10004, 0x1000c]], bound = 5, at_least = 2}";
     let [_, ends, after] = least_of(rt.alloc(), &words, loops, &[])?;
     assert_eq!(rt;
         ends.as_slice(),
-        [
-            Some(10),
-            Some(5),
-            Some(4),
-            Some(3),
-            Some(2),
-            Some(1)
-        ]
-        .as_slice()
+        [Some(10), Some(5), Some(4), Some(3), Some(2), Some(1)].as_slice()
     );
     assert_eq!(rt;
         after.as_slice(),
@@ -260,7 +252,8 @@ fn a_loop_within_a_loop_that_is_entered_is_charged_in_each_turn(
         EXIT,
         ECALL,
     ];
-    let loops = "{header = 0x10004, ranges = [[0x10004, 0x10014]], bound = 5, at_least = 3}, {header = 0x10008, ranges = [[0x10008, 0x10010]], bound = 5, at_least = 2}";
+    let loops =
+        "{header = 0x10004, ranges = [[0x10004, 0x10014]], bound = 5, at_least = 3}, {header = 0x10008, ranges = [[0x10008, 0x10010]], bound = 5, at_least = 2}";
     let [_, ends, _] = least_of(rt.alloc(), &words, loops, &[])?;
     // One turn of the outer loop takes 4 cycles and 2 turns of the inner one, which take 2 cycles each.
     assert_eq!(rt; ends[0], Some(1 + 3 * 8 + 10));
@@ -271,8 +264,7 @@ fn a_loop_within_a_loop_that_is_entered_is_charged_in_each_turn(
 fn a_loop_in_which_a_run_may_exit_is_not_charged(rt: HostRuntime) -> Result<(), Fail> {
     // The ECALL in the loop may exit.
     let words = [NO_OPERATION, NO_OPERATION, ECALL, BACK_2, EXIT, ECALL];
-    let loops =
-        "{header = 0x10004, ranges = [[0x10004, 0x10010]], bound = 10, at_least = 9}";
+    let loops = "{header = 0x10004, ranges = [[0x10004, 0x10010]], bound = 10, at_least = 9}";
     let [_, ends, after] = least_of(rt.alloc(), &words, loops, &[])?;
     assert_eq!(rt; ends[0], Some(3));
     assert_eq!(rt; after[0], Some(2));
@@ -292,8 +284,7 @@ fn a_loop_with_a_call_that_may_exit_is_not_charged(rt: HostRuntime) -> Result<()
         ECALL,
         RETURN,
     ];
-    let loops =
-        "{header = 0x10004, ranges = [[0x10004, 0x1000c]], bound = 10, at_least = 9}";
+    let loops = "{header = 0x10004, ranges = [[0x10004, 0x1000c]], bound = 10, at_least = 9}";
     let [_, ends, _] = least_of(rt.alloc(), &words, loops, &[])?;
     assert_eq!(rt; ends[0], Some(4));
     Ok(())
