@@ -1,13 +1,12 @@
--- The least cycles from a function's entry are there where the function has such a last edge, and at most its worst cycles.
+-- The worst cycles of functions hold walks from their entries in range.
 use Rattle.std.proofs.Common.{◌≡◌, ℕ, ◌+◌, ◌^◌, ◌<◌, ◌≤◌, Bool, true, false, ◌&&◌, inl, inr, List, [], ◌∷◌, ◌++◌, Option, Some, None, is_some, refl, ap, ◌∙◌, subst, arith}
 use Rattle.cost_theory.specs.Graph.{Graph, Loops, total, end_of, IsPlain, IsPlainPath, goes_back}
-use Rattle.cost_theory.specs.Worst.{Numbers, AreNumbers, at_some, cost, charged}
-use Rattle.cost_theory.specs.Accepted.{IsProgram, AreAccepted, AreWeights}
+use Rattle.cost_theory.specs.Worst.{Numbers, at_some, cost, charged}
 use Rattle.cost_theory.proofs.Law.{worst_equation}
 use Rattle.cost_theory.proofs.Orders.{function-worst}
 use Rattle.cost_theory.proofs.OrdersExist.{call_order}
 use Rattle.least_cycles.specs.Tables.{AreLimits}
-use Rattle.cost_theory.specs.Least.{IsLeastIfAny, EndsWith, IsUpTo}
+use Rattle.cost_theory.specs.Least.{EndsWith}
 use Rattle.cost_theory.specs.Laws.{IsAnalyzed}
 use Rattle.cost_theory.proofs.Rest.{plain_from_entry}
 
@@ -33,57 +32,23 @@ module _ (g : Graph) (l : Loops) (last : ℕ → Type 0) (e : ℕ) (lt : e < g.e
   as_path [] p path ends = (lt, ends, plain, tt)
   as_path (x ∷ xs) p path ends = (path.0, path.1, path.2, as_path xs (g.target x) path.3 ends)
 
-pub total_le : (c d : ℕ → ℕ) → ((e : ℕ) → c e ≤ d e) → (es : List ℕ) → total c es ≤ total d es
-total_le c d less [] = omega arith
-total_le c d less (e ∷ es) = let a = less e in let b = total_le c d less es in omega arith
-
-pub entry_bound : (g : Graph) (l : Loops) (extent : ℕ → ℕ → Bool) (w : ℕ → ℕ) (n : Numbers) → IsAnalyzed g l extent w n → (last : ℕ → Type 0) (c : ℕ → ℕ) → ((e : ℕ) → c e ≤ charged g l n (cost g n w) e) →
-    (f e : ℕ) → e < g.edges → last e → g.target e ≡ None → g.owner (g.source e) ≡ f → (o : Option ℕ) → IsLeastIfAny (EndsWith g last (Some (g.entry f))) (total c) o → IsUpTo o (n.plain (g.entry f))
-entry_bound g l extent w n is last c less f e lt is_last none own o least = go o least
-  where
-    way : (xs : List ℕ) × IsPlainPath g l (Some (g.entry (g.owner (g.source e)))) xs × (end_of g (Some (g.entry (g.owner (g.source e)))) xs ≡ Some (g.source e))
-    way = plain_from_entry g l extent is.program is.accepted e lt
-
-    start : Some (g.entry (g.owner (g.source e))) ≡ Some (g.entry f)
-    start = ap (λ h. Some (g.entry h)) own
-
-    path : IsPlainPath g l (Some (g.entry f)) way.0
-    path = subst (λ p. IsPlainPath g l p way.0) start way.1
-
-    ends : end_of g (Some (g.entry f)) way.0 ≡ Some (g.source e)
-    ends = subst (λ p. end_of g p way.0 ≡ Some (g.source e)) start way.2
-
-    walk : EndsWith g last (Some (g.entry f)) (way.0 ++ e ∷ [])
-    walk = as_walk g l last e lt is_last (end_plain g l e none) way.0 (Some (g.entry f)) path ends
-
-    within : total c (way.0 ++ e ∷ []) ≤ n.plain (g.entry f)
-    within =
-        let a = total_le c (charged g l n (cost g n w)) less (way.0 ++ e ∷ []) in
-        let b = (is.numbers.loops.plain (g.entry f)).most (way.0 ++ e ∷ []) (as_path g l last e lt is_last (end_plain g l e none) way.0 (Some (g.entry f)) path ends) in
-        omega arith
-
-    go : (o : Option ℕ) → IsLeastIfAny (EndsWith g last (Some (g.entry f))) (total c) o → IsUpTo o (n.plain (g.entry f))
-    go None nothing = absurd (nothing (way.0 ++ e ∷ []) walk)
-    go (Some m) some = (m, refl, (let a = some.least (way.0 ++ e ∷ []) walk in let b = within in omega arith))
+path_le : (g : Graph) (l : Loops) (c d : ℕ → ℕ) → ((e : ℕ) → e < g.edges → c e ≤ d e) → (es : List ℕ) (p : Option ℕ) → IsPlainPath g l p es → total c es ≤ total d es
+path_le g l c d less [] p path = omega arith
+path_le g l c d less (e ∷ es) p path = let a = less e path.0 in let b = path_le g l c d less es (g.target e) path.3 in omega arith
 
 -- The worst cycles of functions are limits, where no edge costs more than it is charged there.
-pub limits_hold : (g : Graph) (l : Loops) (extent : ℕ → ℕ → Bool) (w : ℕ → ℕ) (n : Numbers) → IsAnalyzed g l extent w n → n.worst 0 ≤ 2 ^ 48 → (own : ℕ → ℕ) → ((e : ℕ) → e < g.edges → own e ≤ 2 ^ 48) →
-    ((e : ℕ) → own e + at_some (g.callee e) n.worst ≤ charged g l n (cost g n w) e) → AreLimits g own n.worst
-limits_hold g l extent w n is few own small less = record {
-  edge = small;
+pub limits_hold : (g : Graph) (l : Loops) (extent : ℕ → ℕ → Bool) (w : ℕ → ℕ) (n : Numbers) → IsAnalyzed g l extent w n → n.worst 0 ≤ 2 ^ 48 → (own : ℕ → ℕ) →
+    ((e : ℕ) → e < g.edges → own e + at_some (g.callee e) n.worst ≤ charged g l n (cost g n w) e) → AreLimits g own n.worst
+limits_hold g l extent w n is few own less = record {
   small = λ f fl. let a = function-worst g l extent w n is.program is.accepted is.weights is.numbers (call_order g is.program).0 (call_order g is.program).1 f fl in omega arith;
   way = λ e lt none.
       let way = plain_from_entry g l extent is.program is.accepted e lt in
       let start = Some (g.entry (g.owner (g.source e))) in
       let fl = is.program.owner_function e lt in
-      let a = total_le (λ d. own d + at_some (g.callee d) n.worst) (charged g l n (cost g n w)) less (way.0 ++ e ∷ []) in
-      let b = (is.numbers.loops.plain (g.entry (g.owner (g.source e)))).most (way.0 ++ e ∷ []) (as_path g l (λ d. d ≡ e) e lt refl (end_plain g l e none) way.0 start way.1 way.2) in
+      let path = as_path g l (λ d. d ≡ e) e lt refl (end_plain g l e none) way.0 start way.1 way.2 in
+      let a = path_le g l (λ d. own d + at_some (g.callee d) n.worst) (charged g l n (cost g n w)) less (way.0 ++ e ∷ []) start path in
+      let b = (is.numbers.loops.plain (g.entry (g.owner (g.source e)))).most (way.0 ++ e ∷ []) path in
       let c = (is.numbers.loops.left (g.entry (g.owner (g.source e)))).over_plain in
       let d = worst_equation g l extent w n is.program is.accepted is.weights is.numbers (g.owner (g.source e)) fl in
       (way.0 ++ e ∷ [], as_walk g l (λ d. d ≡ e) e lt refl (end_plain g l e none) way.0 start way.1 way.2, omega arith);
 }
-
--- the plain weights do
-pub weights_limits : (g : Graph) (l : Loops) (extent : ℕ → ℕ → Bool) (w : ℕ → ℕ) (n : Numbers) → IsProgram g → AreAccepted g l extent → AreWeights g w → AreNumbers g l w n → n.worst 0 ≤ 2 ^ 48 → ((e : ℕ) → e < g.edges → w e ≤ 2 ^ 48) → AreLimits g w n.worst
-weights_limits g l extent w n program accepted weights numbers few small =
-    limits_hold g l extent w n (record { program = program; accepted = accepted; weights = weights; numbers = numbers }) few w small (λ e. omega arith)

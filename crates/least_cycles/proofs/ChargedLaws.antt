@@ -1,59 +1,63 @@
--- Least numbers under weights and charges are charged least numbers, and the other way round; and where no loop turns at least
--- once, there are no charges.
-use Rattle.std.proofs.Common.{◌≡◌, ℕ, zero, suc, ◌+◌, ◌*◌, ◌<◌, Bool, true, false, List, [], ◌∷◌, Option, Some, None, unwrap_or, refl, sym, ap, ◌∙◌, arith}
-use Rattle.cost_theory.specs.Graph.{Graph, Loops, total, sum_below, only, enters}
-use Rattle.cost_theory.specs.Least.{Least, IsLeastIfAny, EndsWith, IsReturn, IsExit, AreLeast, least_call, least_cost}
-use Rattle.cost_theory.specs.LeastTurns.{IsRun, turn_step, turn_last}
-use Rattle.least_cycles.specs.Charged.{charge_of, charged_cost, AreChargedLeast}
+-- What an edge is charged, by the header that it leads to.
+use Rattle.std.proofs.Common.{◌≡◌, ◌≢◌, ℕ, ◌*◌, ◌<◌, Bool, true, false, not, ◌&&◌, nat_lt, Option, Some, None, refl, sym, ap, ◌∙◌, subst, eqb-true, eq-eqb}
+use Rattle.cost_theory.specs.Graph.{Graph, Loops, is_round, is_header, is_back, enters}
+use Rattle.cost_theory.specs.Accepted.{IsProgram, AreAccepted, AreWeights}
+use Rattle.cost_theory.proofs.Basics.{and_left, and_right, and_both, not_true}
+use Rattle.cost_theory.proofs.Nesting.{some_same}
+use Rattle.cost_theory.proofs.Turns.{entered-header}
+use Rattle.cost_theory.proofs.AtLeast.{no_numbers, charge_none, charge_one}
+use Rattle.least_laws.specs.Charged.{Charged, charged_trips, charge_of, AreCharged}
+use Rattle.least_laws.proofs.Exist.{nest}
 
-total_same : (c d : ℕ → ℕ) → ((e : ℕ) → c e ≡ d e) → (es : List ℕ) → total c es ≡ total d es
-total_same c d same [] = refl
-total_same c d same (e ∷ es) = let one = same e in let rest = total_same c d same es in let r : c e + total c es ≡ d e + total d es = omega arith in r
+-- an accepted program with weights and its least cycles
+pub record IsNumbered (g : Graph) (l : Loops) (extent : ℕ → ℕ → Bool) (w : ℕ → ℕ) (n : Charged) : Type 0 where
+  pub program : IsProgram g
+  pub accepted : AreAccepted g l extent
+  pub weights : AreWeights g w
+  pub numbers : AreCharged g l w n
 
-value_same : (P : List ℕ → Type 0) (p q : List ℕ → ℕ) → ((es : List ℕ) → p es ≡ q es) → (o : Option ℕ) → IsLeastIfAny P p o → IsLeastIfAny P q o
-value_same P p q same None none = none
-value_same P p q same (Some m) some = record {
-  reached = (some.reached.0, some.reached.1, sym (same some.reached.0) ∙ some.reached.2);
-  least = λ es is. let low = some.least es is in let eq = same es in omega arith;
-}
+module _ (g : Graph) (l : Loops) (extent : ℕ → ℕ → Bool) (w : ℕ → ℕ) (n : Charged) (prog : IsProgram g) (acc : AreAccepted g l extent) where
+  abbrev trips : ℕ → ℕ
+  trips = charged_trips g l n.least
 
-module _ (g : Graph) (l : Loops) (w trips : ℕ → ℕ) (n : Least) (turn : ℕ → Option ℕ) where
-  cost_same : (e : ℕ) → least_cost g (λ d. w d + charge_of g l trips turn d) n e ≡ charged_cost g l w trips n turn e
-  cost_same e = add_last (w e) (charge_of g l trips turn e) (least_call g n e (g.target e))
+  to_header : (k d : ℕ) → is_back g l k d ≡ true → g.target d ≡ Some (l.header k)
+  to_header k d back = go (g.target d) (and_right (l.inside k (g.source d)) (is_header l k (g.target d)) back)
     where
-      add_last : (a b c : ℕ) → a + b + c ≡ a + c + b
-      add_last a b c = omega arith
+      go : (o : Option ℕ) → is_header l k o ≡ true → o ≡ Some (l.header k)
+      go None at = let bad : ⊥ = cc in absurd bad
+      go (Some v) at = ap Some (eqb-true v (l.header k) at)
 
-  costs : (es : List ℕ) → total (least_cost g (λ d. w d + charge_of g l trips turn d) n) es ≡ total (charged_cost g l w trips n turn) es
-  costs es = total_same (least_cost g (λ d. w d + charge_of g l trips turn d) n) (charged_cost g l w trips n turn) cost_same es
+  entered : (e j : ℕ) → e < g.edges → j < l.loops → enters l j (g.source e) (g.target e) ≡ true → g.target e ≡ Some (l.header j)
+  entered e j el jl en = entered-header g l w no_numbers (nest g l extent w prog acc) e j el jl en
 
-  pub charged_least : AreLeast g (λ d. w d + charge_of g l trips turn d) n →
-      ((k : ℕ) → k < l.loops → IsLeastIfAny (IsRun g false (turn_last g l k) (turn_step g l k) (Some (l.header k))) (total (charged_cost g l w trips n turn)) (turn k)) → AreChargedLeast g l w trips n turn
-  charged_least are turns = record {
-    turns = turns;
-    to_return = λ v. value_same (EndsWith g (IsReturn g) (Some v)) (total (least_cost g (λ d. w d + charge_of g l trips turn d) n)) (total (charged_cost g l w trips n turn)) costs (n.to_return v) (are.to_return v);
-    to_exit = λ v. value_same (EndsWith g (IsExit g n) (Some v)) (total (least_cost g (λ d. w d + charge_of g l trips turn d) n)) (total (charged_cost g l w trips n turn)) costs (n.to_exit v) (are.to_exit v);
-    to_end = are.to_end;
-  }
+  pub charged_on : (e : ℕ) → e < g.edges → ((k : ℕ) → k < l.loops → g.target e ≢ Some (l.header k)) → charge_of g l n e ≡ 0
+  charged_on e el away = charge_none g l w trips n.turn (nest g l extent w prog acc) e (λ j jl. each j jl (enters l j (g.source e) (g.target e)) refl)
+    where
+      each : (j : ℕ) → j < l.loops → (b : Bool) → enters l j (g.source e) (g.target e) ≡ b → (enters l j (g.source e) (g.target e) && nat_lt 0 (trips j)) ≡ false
+      each j jl false h = ap (λ b. b && nat_lt 0 (trips j)) h
+      each j jl true h = absurd (away j jl (entered e j el jl h))
 
-  pub least_charged : AreChargedLeast g l w trips n turn → AreLeast g (λ d. w d + charge_of g l trips turn d) n
-  least_charged are = record {
-    to_return = λ v. value_same (EndsWith g (IsReturn g) (Some v)) (total (charged_cost g l w trips n turn)) (total (least_cost g (λ d. w d + charge_of g l trips turn d) n)) (λ es. sym (costs es)) (n.to_return v) (are.to_return v);
-    to_exit = λ v. value_same (EndsWith g (IsExit g n) (Some v)) (total (charged_cost g l w trips n turn)) (total (least_cost g (λ d. w d + charge_of g l trips turn d) n)) (λ es. sym (costs es)) (n.to_exit v) (are.to_exit v);
-    to_end = are.to_end;
-  }
+  pub charged_back : (e k : ℕ) → e < g.edges → k < l.loops → is_back g l k e ≡ true → charge_of g l n e ≡ 0
+  charged_back e k el kl back = charge_none g l w trips n.turn (nest g l extent w prog acc) e (λ j jl. each j jl (enters l j (g.source e) (g.target e)) refl)
+    where
+      each : (j : ℕ) → j < l.loops → (b : Bool) → enters l j (g.source e) (g.target e) ≡ b → (enters l j (g.source e) (g.target e) && nat_lt 0 (trips j)) ≡ false
+      each j jl false h = ap (λ b. b && nat_lt 0 (trips j)) h
+      each j jl true h =
+          let same : j ≡ k = (nest g l extent w prog acc).distinct j k jl kl (some_same _ _ (sym (entered e j el jl h) ∙ to_header k e back)) in
+          let inn : l.inside j (g.source e) ≡ true = subst (λ i. l.inside i (g.source e) ≡ true) (sym same) (and_left (l.inside k (g.source e)) (is_header l k (g.target e)) back) in
+          let out : l.inside j (g.source e) ≡ false = not_true (l.inside j (g.source e)) (and_left (not (l.inside j (g.source e))) (is_round l j (g.target e)) h) in
+          let bad : ⊥ = cc in absurd bad
 
--- no turns, no charge
-pub no_turns : (g : Graph) (l : Loops) (trips : ℕ → ℕ) (turn : ℕ → Option ℕ) (e : ℕ) → ((k : ℕ) → k < l.loops → trips k ≡ 0) → charge_of g l trips turn e ≡ 0
-no_turns g l trips turn e none = sum l.loops (λ k kl. none k kl)
-  where
-    term : (b : Bool) (t x : ℕ) → t ≡ 0 → only b (t * x) ≡ 0
-    term true t x zero_is = let none : 0 * x ≡ 0 = omega arith in ap (λ y. y * x) zero_is ∙ none
-    term false t x zero_is = refl
+  pub charged_into : (e k : ℕ) → e < g.edges → k < l.loops → g.target e ≡ Some (l.header k) → is_back g l k e ≡ false → charge_of g l n e ≡ trips k * n.turn k
+  charged_into e k el kl to no_back = charge_one g l w trips n.turn (nest g l extent w prog acc) e k el kl
+      (and_both (not (l.inside k (g.source e))) (is_round l k (g.target e)) (ap not out) (subst (λ o. is_round l k o ≡ true) (sym to) ((nest g l extent w prog acc).ways.holds_header k kl)))
+    where
+      at : is_header l k (g.target e) ≡ true
+      at = subst (λ o. is_header l k o ≡ true) (sym to) (eq-eqb (l.header k) (l.header k) refl)
 
-    sum : (m : ℕ) → ((k : ℕ) → k < m → trips k ≡ 0) → sum_below m (λ k. only (enters l k (g.source e) (g.target e)) (trips k * unwrap_or (turn k) 0)) ≡ 0
-    sum zero all = refl
-    sum (suc m) all =
-        let rest = sum m (λ k km. all k (omega arith)) in
-        let last = term (enters l m (g.source e) (g.target e)) (trips m) (unwrap_or (turn m) 0) (all m (omega arith)) in
-        omega arith
+      out : l.inside k (g.source e) ≡ false
+      out = go (l.inside k (g.source e)) refl
+        where
+          go : (b : Bool) → l.inside k (g.source e) ≡ b → l.inside k (g.source e) ≡ false
+          go false h = h
+          go true h = let clash : is_back g l k e ≡ true = and_both (l.inside k (g.source e)) (is_header l k (g.target e)) h at in let bad : ⊥ = cc in absurd bad

@@ -51,11 +51,11 @@ both_low m n (Some a) (Some b) x low_p low_q at =
     let same : a + b ≡ x = same_Some (a + b) x at in
     omega arith
 
-pub end_low : (v : FlowGraph) (returns exits behind : List (Option ℕ)) (most a x : ℕ) → AreSmallWalks v returns exits → ((h y : ℕ) → least_at behind h ≡ Some y → y ≤ most) → (least_by v returns exits behind).to_end a ≡ Some x → x ≤ 2 ^ 66 + most
+pub end_low : (v : FlowGraph) (returns exits behind : List (Option ℕ)) (most a x : ℕ) → AreSmallWalks v returns exits → ((h y : ℕ) → least_at behind h ≡ Some y → y ≤ most) → (least_by v returns exits behind).to_end a ≡ Some x → x ≤ 2 ^ 67 + most
 end_low v returns exits behind most a x small low at =
-    lesser_low (2 ^ 66 + most) (value_beside v.code.nodes exits a) (both (value_beside v.code.nodes returns a) (least_at behind ((graph v).owner a))) x
-    (λ y is. let r = beside_low (2 ^ 66) v.code.nodes exits a y small.small_exit is in omega arith)
-    (λ y is. both_low (2 ^ 66) most (value_beside v.code.nodes returns a) (least_at behind ((graph v).owner a)) y (λ z e. beside_low (2 ^ 66) v.code.nodes returns a z small.small_return e) (λ z e. low ((graph v).owner a) z e) is)
+    lesser_low (2 ^ 67 + most) (value_beside v.code.nodes exits a) (both (value_beside v.code.nodes returns a) (least_at behind ((graph v).owner a))) x
+    (λ y is. let r = beside_low (2 ^ 67) v.code.nodes exits a y small.small_exit is in omega arith)
+    (λ y is. both_low (2 ^ 67) most (value_beside v.code.nodes returns a) (least_at behind ((graph v).owner a)) y (λ z e. beside_low (2 ^ 67) v.code.nodes returns a z small.small_return e) (λ z e. low ((graph v).owner a) z e) is)
     at
 
 back_value : (g : Graph) (n : Least) (f e m : ℕ) → IsBackTo g n f e → end_after g n e ≡ m → (u : ℕ) × (n.to_end u ≡ Some m)
@@ -69,7 +69,7 @@ back_value g n f e m back is = (back.2.0, value (n.to_end back.2.0) refl back.2.
     value (Some y) eq some = let same : y ≡ m = sym (ap (λ (o : Option ℕ). unwrap_or o 0) eq) ∙ sym after ∙ is in ap Some same
 
 pub behind_low : (v : FlowGraph) (returns exits behind : List (Option ℕ)) (most f : ℕ) (o : Option ℕ) → AreSmallWalks v returns exits → ((h y : ℕ) → least_at behind h ≡ Some y → y ≤ most) →
-    IsLeastIfAny (IsBackTo (graph v) (least_by v returns exits behind) f) (end_after (graph v) (least_by v returns exits behind)) o → (x : ℕ) → o ≡ Some x → x ≤ 2 ^ 66 + most
+    IsLeastIfAny (IsBackTo (graph v) (least_by v returns exits behind) f) (end_after (graph v) (least_by v returns exits behind)) o → (x : ℕ) → o ≡ Some x → x ≤ 2 ^ 67 + most
 behind_low v returns exits behind most f None small low least x at = let bad : ⊥ = cc in absurd bad
 behind_low v returns exits behind most f (Some m) small low least x at =
     let r = least.reached in
@@ -161,7 +161,7 @@ least_same P Q p q to back (Some m) some = record {
   least = λ d is. let w = back d is in let low = some.least d w.0 in let same = w.1 in omega arith;
 }
 
-pub behind_next : (v : FlowGraph) (returns exits behind : List (Option ℕ)) (i f : ℕ) (least : Option ℕ) → IsFlowGraph v → slice_get v.order i ≡ Some f → AreBehind v returns exits (i + 1) behind → ((x : ℕ) → least ≡ Some x → x + i * 2 ^ 66 ≤ length v.order * 2 ^ 66) →
+pub behind_next : (v : FlowGraph) (returns exits behind : List (Option ℕ)) (i f : ℕ) (least : Option ℕ) → IsFlowGraph v → slice_get v.order i ≡ Some f → AreBehind v returns exits (i + 1) behind → ((x : ℕ) → least ≡ Some x → x + i * 2 ^ 67 ≤ length v.order * 2 ^ 67) →
     IsLeastIfAny (IsBackTo (graph v) (least_by v returns exits behind) f) (end_after (graph v) (least_by v returns exits behind)) least → AreBehind v returns exits i (slice_set behind f least)
 behind_next v returns exits behind i f least flow at are low is = record {
   size = length-set behind f least ∙ are.size;
@@ -174,7 +174,7 @@ behind_next v returns exits behind i f least flow at are low is = record {
       (same_or h f);
   low = λ h x value. ⊎_elim
       (λ (same : h ≡ f). low x (sym here ∙ ap (least_at (slice_set behind f least)) (sym same) ∙ value))
-      (λ (other : h ≢ f). let old = are.low h x (sym (get_or-set_other behind f h least None other) ∙ value) in let r : x + i * 2 ^ 66 ≤ length v.order * 2 ^ 66 = omega arith in r)
+      (λ (other : h ≢ f). let old = are.low h x (sym (get_or-set_other behind f h least None other) ∙ value) in let r : x + i * 2 ^ 67 ≤ length v.order * 2 ^ 67 = omega arith in r)
       (same_or h f);
 }
   where
@@ -247,40 +247,41 @@ behind_none v returns exits behind n size is = record {
     not_some : (o : Option ℕ) (x : ℕ) → o ≡ None → o ≡ Some x → ⊥
     not_some o x none some = let bad : ⊥ = cc in bad
 
-pub low_behind : (v : FlowGraph) (returns exits behind : List (Option ℕ)) (i : ℕ) → IsFlowGraph v → length v.code.functions ≤ 131072 → AreBehind v returns exits i behind → (h x : ℕ) → least_at behind h ≡ Some x → x ≤ 2 ^ 83
+pub low_behind : (v : FlowGraph) (returns exits behind : List (Option ℕ)) (i : ℕ) → IsFlowGraph v → length v.code.functions ≤ 131072 → AreBehind v returns exits i behind → (h x : ℕ) → least_at behind h ≡ Some x → x ≤ 2 ^ 84
 low_behind v returns exits behind i flow few are h x at =
     let low = are.low h x at in
     let order = few_functions v flow in
     omega arith
 
 pub next_low : (v : FlowGraph) (returns exits behind : List (Option ℕ)) (i f : ℕ) (o : Option ℕ) → i < length v.order → AreSmallWalks v returns exits → AreBehind v returns exits (i + 1) behind →
-    IsLeastIfAny (IsBackTo (graph v) (least_by v returns exits behind) f) (end_after (graph v) (least_by v returns exits behind)) o → (x : ℕ) → o ≡ Some x → x + i * 2 ^ 66 ≤ length v.order * 2 ^ 66
+    IsLeastIfAny (IsBackTo (graph v) (least_by v returns exits behind) f) (end_after (graph v) (least_by v returns exits behind)) o → (x : ℕ) → o ≡ Some x → x + i * 2 ^ 67 ≤ length v.order * 2 ^ 67
 next_low v returns exits behind i f o il small are least x at =
-    let low = behind_low v returns exits behind ((length v.order - (i + 1)) * 2 ^ 66) f o small (λ h y is. let old = are.low h y is in let r : y ≤ (length v.order - (i + 1)) * 2 ^ 66 = omega arith in r) least x at in
+    let low = behind_low v returns exits behind ((length v.order - (i + 1)) * 2 ^ 67) f o small (λ h y is. let old = are.low h y is in let r : y ≤ (length v.order - (i + 1)) * 2 ^ 67 = omega arith in r) least x at in
     omega arith
 
 pub small_walks : (v : FlowGraph) (own limit : ℕ → ℕ) (Done : ℕ → Type 0) (returns exits : List (Option ℕ)) → AreWalksOf v own limit Done returns exits → AreSmallWalks v returns exits
 small_walks v own limit Done returns exits are = record { returns_size = are.returns_size; exits_size = are.exits_size; small_return = are.small_return; small_exit = are.small_exit }
+
+-- an address is that of a node, or it is not
+pub in_or_not : (nodes : List ℕ) (a : ℕ) → ((k : ℕ) × (slice_get nodes k ≡ Some a)) ⊎ ((k : ℕ) → slice_get nodes k ≡ Some a → ⊥)
+in_or_not [] a = inr (λ k at. let bad : ⊥ = cc in bad)
+in_or_not (u ∷ us) a = ⊎_elim
+    (λ (same : u ≡ a). let r : ((k : ℕ) × (slice_get (u ∷ us) k ≡ Some a)) ⊎ ((k : ℕ) → slice_get (u ∷ us) k ≡ Some a → ⊥) = inl (0, ap Some same) in r)
+    (λ (other : u ≢ a). ⊎_elim
+    (λ (there : (k : ℕ) × (slice_get us k ≡ Some a)). let r : ((k : ℕ) × (slice_get (u ∷ us) k ≡ Some a)) ⊎ ((k : ℕ) → slice_get (u ∷ us) k ≡ Some a → ⊥) = inl (suc there.0, there.1) in r)
+    (λ (none : (k : ℕ) → slice_get us k ≡ Some a → ⊥). let r : ((k : ℕ) × (slice_get (u ∷ us) k ≡ Some a)) ⊎ ((k : ℕ) → slice_get (u ∷ us) k ≡ Some a → ⊥) = inr (nowhere other none) in r)
+    (in_or_not us a))
+    (same_or u a)
+  where
+    nowhere : u ≢ a → ((k : ℕ) → slice_get us k ≡ Some a → ⊥) → (k : ℕ) → slice_get (u ∷ us) k ≡ Some a → ⊥
+    nowhere other none zero at = other (same_Some u a at)
+    nowhere other none (suc k) at = none k at
 
 -- ---- the least numbers
 
 module _ (v : FlowGraph) (own limit : ℕ → ℕ) (returns exits behind : List (Option ℕ)) (flow : IsFlowGraph v) (are : AreWalksOf v own limit IsAnyFunction returns exits) (done : AreBehind v returns exits 0 behind) where
   abbrev numbers : Least
   numbers = least_by v returns exits behind
-
-  in_or_not : (nodes : List ℕ) (a : ℕ) → ((k : ℕ) × (slice_get nodes k ≡ Some a)) ⊎ ((k : ℕ) → slice_get nodes k ≡ Some a → ⊥)
-  in_or_not [] a = inr (λ k at. let bad : ⊥ = cc in bad)
-  in_or_not (u ∷ us) a = ⊎_elim
-      (λ (same : u ≡ a). let r : ((k : ℕ) × (slice_get (u ∷ us) k ≡ Some a)) ⊎ ((k : ℕ) → slice_get (u ∷ us) k ≡ Some a → ⊥) = inl (0, ap Some same) in r)
-      (λ (other : u ≢ a). ⊎_elim
-      (λ (there : (k : ℕ) × (slice_get us k ≡ Some a)). let r : ((k : ℕ) × (slice_get (u ∷ us) k ≡ Some a)) ⊎ ((k : ℕ) → slice_get (u ∷ us) k ≡ Some a → ⊥) = inl (suc there.0, there.1) in r)
-      (λ (none : (k : ℕ) → slice_get us k ≡ Some a → ⊥). let r : ((k : ℕ) × (slice_get (u ∷ us) k ≡ Some a)) ⊎ ((k : ℕ) → slice_get (u ∷ us) k ≡ Some a → ⊥) = inr (nowhere other none) in r)
-      (in_or_not us a))
-      (same_or u a)
-    where
-      nowhere : u ≢ a → ((k : ℕ) → slice_get us k ≡ Some a → ⊥) → (k : ℕ) → slice_get (u ∷ us) k ≡ Some a → ⊥
-      nowhere other none zero at = other (same_Some u a at)
-      nowhere other none (suc k) at = none k at
 
   no_walk : (last : ℕ → Type 0) (a : ℕ) → ((k : ℕ) → slice_get v.code.nodes k ≡ Some a → ⊥) → (es : List ℕ) → EndsWith (graph v) last (Some a) es → ⊥
   no_walk last a none [] walk = walk

@@ -1,9 +1,12 @@
--- The hops of one function, node by node, and the least costs by them.
-use Rattle.std.proofs.Common.{◌≡◌, ℕ, zero, suc, ◌+◌, ◌<◌, ◌≤◌, ◌⊎◌, inl, inr, Bool, false, List, [], ◌∷◌, ◌++◌, length, length-append, get_or, slice_get, option_map, Option, Some, None, IfSome, refl, sym, ap, ◌∙◌, subst, arith, ⊎_elim}
+-- The hops of some nodes, node by node, and the least costs by them.
+use Rattle.std.proofs.Common.{◌≡◌, ℕ, zero, suc, ◌+◌, ◌<◌, ◌≤◌, ◌⊎◌, inl, inr, Bool, true, false, List, [], ◌∷◌, ◌++◌, length, length-append, get_or, slice_get, option_map, Option, Some, None, is_some, IsSome, IfSome, refl, sym, ap, ◌∙◌, subst, arith, ⊎_elim}
 use Rattle.std.proofs.lemmas.Bool.{cases_lt}
 use Rattle.std.proofs.lemmas.List.{length-map}
 use Rattle.std.proofs.lemmas.Option.{slice_get_within, slice_get-get_or, get_or_from_slice_get, slice_get-map, same_Some, none-some}
 use Rattle.call_orders.specs.Arcs.{number_at}
+use Rattle.cost_theory.specs.Graph.{Graph, total}
+use Rattle.cost_theory.specs.Least.{IsLeastIfAny, EndsWith}
+use Rattle.cost_theory.specs.LeastTurns.{IsRun}
 use Rattle.code_graph.specs.FlowGraph.{FlowGraph, graph, IsFlowGraph}
 use Rattle.natural_loops.specs.Noted.{node_address}
 use Rattle.natural_loops.proofs.NodeLaws.{one_number}
@@ -12,7 +15,8 @@ use Rattle.least_cycles.specs.declared.Way.{Way}
 use Rattle.least_cycles.specs.declared.Way.TheVariants.{Last, To, Stop}
 use Rattle.least_cycles.specs.Hops.{HeadBelow, IsHop, AreHops, AreLeastCosts, least_at}
 use Rattle.least_cycles.specs.Local.{IsWayOf, IsHopOf, AreLocal}
-use Rattle.least_cycles.specs.Functions.{IsBucket, ArePlacesIn, addresses, is_marked, IsMarked, AreHopsOf, IsFromFirst, IsFromNext, AreLeastIn}
+use Rattle.least_cycles.specs.Functions.{IsBucket, AreNodes, ArePlacesIn, AreKinds, addresses, is_marked, IsMarked, AreHopsOf, IsFromFirst, IsFromNext, AreLeastRuns, AreLeastIn}
+use Rattle.least_cycles.specs.Tables.{AreLeading}
 use Rattle.least_cycles.proofs.Transfer.{local-least}
 
 value_at : {X : Type 0} (xs : List X) (i : ℕ) (x d : X) → i < length xs → x ≡ get_or xs i x → get_or xs i d ≡ x
@@ -26,30 +30,27 @@ address_at v bucket i lt = slice_get-map (node_address v) bucket i ∙ ap (optio
 
 -- ---- where an edge leads
 
-pub not_marked : (lasts : List Bool) (e : ℕ) → is_marked lasts e ≡ false → IsMarked lasts e → ⊥
-not_marked lasts e is marked = let bad : ⊥ = cc in bad
-
-pub way_to : (v : FlowGraph) (bucket places : List ℕ) (lasts : List Bool) (f e k : ℕ) → IsFlowGraph v → IsBucket v f bucket → (graph v).owner ((graph v).source e) ≡ f → ArePlacesIn bucket places → length places ≡ length v.code.nodes → e < length v.code.edges →
-    (IsMarked lasts e → ⊥) → (graph v).target e ≡ slice_get v.code.nodes k → k < length v.code.nodes → IsWayOf (graph v) (IsMarked lasts) (addresses v bucket) (To (number_at places k)) e
-way_to v bucket places lasts f e k flow is own are size lt not to kl =
+pub way_to : (v : FlowGraph) (nodes places : List ℕ) (lasts steps : List Bool) (e k : ℕ) → IsFlowGraph v → AreNodes v nodes → ArePlacesIn nodes places → AreKinds v nodes lasts steps → e < length v.code.edges → IsFromFirst v nodes (length nodes) e →
+    is_marked lasts e ≡ false → is_marked steps e ≡ true → (graph v).target e ≡ slice_get v.code.nodes k → k < length v.code.nodes → IsWayOf (graph v) (is_marked lasts) (is_marked steps) (addresses v nodes) (To (number_at places k)) e
+way_to v nodes places lasts steps e k flow is are kinds lt from no_last a_step to kl =
     let target : (graph v).target e ≡ Some (node_address v k) = to ∙ node_here v k kl in
-    let owner : (graph v).owner (node_address v k) ≡ f = (flow.program.stays e (node_address v k) lt target).1 ∙ own in
-    let i = is.whole k kl owner in
-    let here : number_at places k ≡ i.0 = ap (number_at places) (sym i.2) ∙ are.each i.0 i.1 in
-    (not, (node_address v k, target, ap (slice_get (addresses v bucket)) here ∙ address_at v bucket i.0 i.1 ∙ ap (λ m. Some (node_address v m)) i.2))
+    let j = kinds.stays e lt from a_step in
+    let same : number_at nodes j.0 ≡ k = one_number v flow (number_at nodes j.0) k (node_address v k) (node_here v (number_at nodes j.0) (is.within j.0 j.1) ∙ sym j.2 ∙ target) (node_here v k kl) in
+    let here : number_at places k ≡ j.0 = ap (number_at places) (sym same) ∙ are.each j.0 j.1 in
+    (no_last, a_step, (node_address v k, target, ap (slice_get (addresses v nodes)) here ∙ address_at v nodes j.0 j.1 ∙ ap (λ m. Some (node_address v m)) same))
 
 -- ---- hops
 
-pub hops_none : (v : FlowGraph) (lasts : List Bool) (costs nodes bucket : List ℕ) → AreHopsOf v lasts costs nodes (IsFromFirst v bucket 0) [] []
-hops_none v lasts costs nodes bucket = record {
+pub hops_none : (v : FlowGraph) (lasts steps : List Bool) (c : ℕ → ℕ) (addressed nodes : List ℕ) → AreHopsOf v lasts steps c addressed (IsFromFirst v nodes 0) [] []
+hops_none v lasts steps c addressed nodes = record {
   size = refl;
   edge = λ i e at. absurd (none-some e at);
   all = λ e lt done. let low : done.0 < 0 = done.1 in let bad : ⊥ = omega arith in absurd bad;
   hop = λ i e at. absurd (none-some e at);
 }
 
-pub hops_for : (v : FlowGraph) (lasts : List Bool) (costs nodes : List ℕ) (Done Other : ℕ → Type 0) (edges : List ℕ) (hops : List Hop) → AreHopsOf v lasts costs nodes Done edges hops → ((e : ℕ) → e < length v.code.edges → Other e → Done e) → AreHopsOf v lasts costs nodes Other edges hops
-hops_for v lasts costs nodes Done Other edges hops are less = record { size = are.size; edge = are.edge; all = λ e lt done. are.all e lt (less e lt done); hop = are.hop }
+pub hops_for : (v : FlowGraph) (lasts steps : List Bool) (c : ℕ → ℕ) (nodes : List ℕ) (Done Other : ℕ → Type 0) (edges : List ℕ) (hops : List Hop) → AreHopsOf v lasts steps c nodes Done edges hops → ((e : ℕ) → e < length v.code.edges → Other e → Done e) → AreHopsOf v lasts steps c nodes Other edges hops
+hops_for v lasts steps c nodes Done Other edges hops are less = record { size = are.size; edge = are.edge; all = λ e lt done. are.all e lt (less e lt done); hop = are.hop }
 
 push_before : {A : Type 0} (xs : List A) (x : A) (i : ℕ) → i < length xs → slice_get (xs ++ x ∷ []) i ≡ slice_get xs i
 push_before [] x i lt = let bad : ⊥ = omega arith in absurd bad
@@ -60,9 +61,9 @@ push_last : {A : Type 0} (xs : List A) (x : A) → slice_get (xs ++ x ∷ []) (l
 push_last [] x = refl
 push_last (y ∷ ys) x = push_last ys x
 
-pub hops_push : (v : FlowGraph) (lasts : List Bool) (costs nodes : List ℕ) (Done Next : ℕ → Type 0) (edges : List ℕ) (hops : List Hop) (e : ℕ) (h : Hop) → AreHopsOf v lasts costs nodes Done edges hops → e < length v.code.edges → IsHopOf (graph v) (IsMarked lasts) (number_at costs) nodes h e →
-    ((d : ℕ) → d < length v.code.edges → Next d → Done d ⊎ (d ≡ e)) → AreHopsOf v lasts costs nodes Next (edges ++ e ∷ []) (hops ++ h ∷ [])
-hops_push v lasts costs nodes Done Next edges hops e h are el is next =
+pub hops_push : (v : FlowGraph) (lasts steps : List Bool) (c : ℕ → ℕ) (nodes : List ℕ) (Done Next : ℕ → Type 0) (edges : List ℕ) (hops : List Hop) (e : ℕ) (h : Hop) → AreHopsOf v lasts steps c nodes Done edges hops → e < length v.code.edges → IsHopOf (graph v) (is_marked lasts) (is_marked steps) c nodes h e →
+    ((d : ℕ) → d < length v.code.edges → Next d → Done d ⊎ (d ≡ e)) → AreHopsOf v lasts steps c nodes Next (edges ++ e ∷ []) (hops ++ h ∷ [])
+hops_push v lasts steps c nodes Done Next edges hops e h are el is next =
     let size : length edges ≡ length hops = are.size in
     let more : length (edges ++ e ∷ []) ≡ length edges + 1 = length-append edges (e ∷ []) in
     let also : length (hops ++ h ∷ []) ≡ length hops + 1 = length-append hops (h ∷ []) in
@@ -83,7 +84,7 @@ hops_push v lasts costs nodes Done Next edges hops e h are el is next =
           (λ (high : length edges ≤ i).
           let same : e ≡ d = last i d high at in
           let place : i ≡ length hops = (let w : i < length (edges ++ e ∷ []) = slice_get_within (edges ++ e ∷ []) i d at in omega arith) in
-          (h, ap (slice_get (hops ++ h ∷ [])) place ∙ push_last hops h, subst (IsHopOf (graph v) (IsMarked lasts) (number_at costs) nodes h) same is))
+          (h, ap (slice_get (hops ++ h ∷ [])) place ∙ push_last hops h, subst (IsHopOf (graph v) (is_marked lasts) (is_marked steps) c nodes h) same is))
           (cases_lt i (length edges));
     }
   where
@@ -95,9 +96,9 @@ hops_push v lasts costs nodes Done Next edges hops e h are el is next =
         same_Some e d (sym (push_last edges e) ∙ ap (slice_get (edges ++ e ∷ [])) (sym place) ∙ at)
 
 -- the hop of an edge of the node at a place
-pub hop_of : (v : FlowGraph) (lasts : List Bool) (costs bucket : List ℕ) (i e : ℕ) (way : Way) (cost : ℕ) → i < length bucket → (graph v).source e ≡ node_address v (number_at bucket i) → IsWayOf (graph v) (IsMarked lasts) (addresses v bucket) way e → cost ≡ number_at costs e →
-    IsHopOf (graph v) (IsMarked lasts) (number_at costs) (addresses v bucket) (record { tail = i; way = way; cost = cost }) e
-hop_of v lasts costs bucket i e way cost il from is price = record { tail = address_at v bucket i il ∙ ap Some (sym from); way = is; cost = price }
+pub hop_of : (v : FlowGraph) (lasts steps : List Bool) (c : ℕ → ℕ) (nodes : List ℕ) (i e : ℕ) (way : Way) (cost : ℕ) → i < length nodes → (graph v).source e ≡ node_address v (number_at nodes i) → IsWayOf (graph v) (is_marked lasts) (is_marked steps) (addresses v nodes) way e → cost ≡ c e →
+    IsHopOf (graph v) (is_marked lasts) (is_marked steps) c (addresses v nodes) (record { tail = i; way = way; cost = cost }) e
+hop_of v lasts steps c nodes i e way cost il from is price = record { tail = address_at v nodes i il ∙ ap Some (sym from); way = is; cost = price }
 
 pub next_start : (v : FlowGraph) (bucket : List ℕ) (i first e : ℕ) → ((graph v).source e ≡ node_address v (number_at bucket i) → first ≤ e) → IsFromFirst v bucket i e ⊎ IsFromNext v bucket i first e → IsFromFirst v bucket i e
 next_start v bucket i first e from done = ⊎_elim
@@ -124,20 +125,20 @@ next_end v bucket i end e below done = ⊎_elim
     inr (from, below from))
     (cases_lt done.0 i)
 
--- ---- the whole function
+-- ---- all of the nodes
 
-pub are_hops : (v : FlowGraph) (lasts : List Bool) (costs bucket : List ℕ) (most : ℕ) (edges : List ℕ) (hops : List Hop) → AreHopsOf v lasts costs (addresses v bucket) (IsFromFirst v bucket (length bucket)) edges hops → ((e : ℕ) → number_at costs e ≤ most) → AreHops (length bucket) most hops
-are_hops v lasts costs bucket most edges hops are small i = go (slice_get hops i) refl
+pub are_hops : (v : FlowGraph) (lasts steps : List Bool) (c : ℕ → ℕ) (nodes : List ℕ) (most : ℕ) (edges : List ℕ) (hops : List Hop) → AreHopsOf v lasts steps c (addresses v nodes) (IsFromFirst v nodes (length nodes)) edges hops → ((e : ℕ) → c e ≤ most) → AreHops (length nodes) most hops
+are_hops v lasts steps c nodes most edges hops are small i = go (slice_get hops i) refl
   where
-    size : length (addresses v bucket) ≡ length bucket
-    size = length-map bucket (node_address v)
+    size : length (addresses v nodes) ≡ length nodes
+    size = length-map nodes (node_address v)
 
-    head : (w : Way) (e : ℕ) → IsWayOf (graph v) (IsMarked lasts) (addresses v bucket) w e → HeadBelow (length bucket) w
+    head : (w : Way) (e : ℕ) → IsWayOf (graph v) (is_marked lasts) (is_marked steps) (addresses v nodes) w e → HeadBelow (length nodes) w
     head Last e is = tt
-    head (To j) e is = let low : j < length (addresses v bucket) = slice_get_within (addresses v bucket) j is.1.0 is.1.2 in let s = size in omega arith
+    head (To j) e is = let low : j < length (addresses v nodes) = slice_get_within (addresses v nodes) j is.2.0 is.2.2 in let s = size in omega arith
     head Stop e is = tt
 
-    go : (o : Option Hop) → slice_get hops i ≡ o → IfSome o (IsHop (length bucket) most)
+    go : (o : Option Hop) → slice_get hops i ≡ o → IfSome o (IsHop (length nodes) most)
     go None at = tt
     go (Some h) at =
         let sizes : length edges ≡ length hops = are.size in
@@ -145,31 +146,31 @@ are_hops v lasts costs bucket most edges hops are small i = go (slice_get hops i
         let edge : slice_get edges i ≡ Some (number_at edges i) = slice_get-get_or edges i 0 (let r : i < length edges = omega arith in r) in
         let p = are.hop i (number_at edges i) edge in
         let same : p.0 ≡ h = same_hop p.0 h (sym p.1 ∙ at) in
-        subst (IsHop (length bucket) most) same (record {
-          tail = let low : p.0.tail < length (addresses v bucket) = slice_get_within (addresses v bucket) p.0.tail _ p.2.tail in let s = size in let r : p.0.tail < length bucket = omega arith in r;
+        subst (IsHop (length nodes) most) same (record {
+          tail = let low : p.0.tail < length (addresses v nodes) = slice_get_within (addresses v nodes) p.0.tail _ p.2.tail in let s = size in let r : p.0.tail < length nodes = omega arith in r;
           head = head p.0.way (number_at edges i) p.2.way;
-          cost = let price : p.0.cost ≡ number_at costs (number_at edges i) = p.2.cost in let low = small (number_at edges i) in let r : p.0.cost ≤ most = omega arith in r;
+          cost = let price : p.0.cost ≡ c (number_at edges i) = p.2.cost in let low = small (number_at edges i) in let r : p.0.cost ≤ most = omega arith in r;
         })
       where
         same_hop : (a b : Hop) → Some a ≡ Some b → a ≡ b
         same_hop a b e = let r : a ≡ b = cc in r
 
-pub least_in : (v : FlowGraph) (lasts : List Bool) (costs bucket : List ℕ) (f : ℕ) (edges : List ℕ) (hops : List Hop) (table : List (Option ℕ)) → IsFlowGraph v → IsBucket v f bucket → AreHopsOf v lasts costs (addresses v bucket) (IsFromFirst v bucket (length bucket)) edges hops → AreLeastCosts hops table →
-    AreLeastIn v lasts costs bucket table
-least_in v lasts costs bucket f edges hops table flow is are least i il =
-    local-least (graph v) (IsMarked lasts) (number_at costs) (addresses v bucket) edges hops local (node_address v (number_at bucket i)) i (least_at table i) (address_at v bucket i il) (least i)
+pub least_in : (v : FlowGraph) (lasts steps : List Bool) (c : ℕ → ℕ) (nodes : List ℕ) (edges : List ℕ) (hops : List Hop) (table : List (Option ℕ)) → IsFlowGraph v → AreNodes v nodes → AreHopsOf v lasts steps c (addresses v nodes) (IsFromFirst v nodes (length nodes)) edges hops → AreLeastCosts hops table →
+    AreLeastRuns v lasts steps c nodes table
+least_in v lasts steps c nodes edges hops table flow is are least i il =
+    local-least (graph v) (is_marked lasts) (is_marked steps) c (addresses v nodes) edges hops local (node_address v (number_at nodes i)) i (least_at table i) (address_at v nodes i il) (least i)
   where
-    size : length (addresses v bucket) ≡ length bucket
-    size = length-map bucket (node_address v)
+    size : length (addresses v nodes) ≡ length nodes
+    size = length-map nodes (node_address v)
 
-    place : (j u : ℕ) → slice_get (addresses v bucket) j ≡ Some u → (j < length bucket) × (u ≡ node_address v (number_at bucket j))
+    place : (j u : ℕ) → slice_get (addresses v nodes) j ≡ Some u → (j < length nodes) × (u ≡ node_address v (number_at nodes j))
     place j u at =
         let s = size in
-        let low : j < length (addresses v bucket) = slice_get_within (addresses v bucket) j u at in
-        let jl : j < length bucket = omega arith in
-        (jl, same_Some u (node_address v (number_at bucket j)) (sym at ∙ address_at v bucket j jl))
+        let low : j < length (addresses v nodes) = slice_get_within (addresses v nodes) j u at in
+        let jl : j < length nodes = omega arith in
+        (jl, same_Some u (node_address v (number_at nodes j)) (sym at ∙ address_at v nodes j jl))
 
-    one_place : (j k : ℕ) → j < length bucket → k < length bucket → number_at bucket j ≡ number_at bucket k → j ≡ k
+    one_place : (j k : ℕ) → j < length nodes → k < length nodes → number_at nodes j ≡ number_at nodes k → j ≡ k
     one_place j k jl kl same = ⊎_elim
         (λ (lt : j < k). absurd (is.once j k lt kl same))
         (λ (le : k ≤ j). ⊎_elim
@@ -178,15 +179,106 @@ least_in v lasts costs bucket f edges hops table flow is are least i il =
         (cases_lt k j))
         (cases_lt j k)
 
-    local : AreLocal (graph v) (IsMarked lasts) (number_at costs) (addresses v bucket) edges hops
+    local : AreLocal (graph v) (is_marked lasts) (is_marked steps) c (addresses v nodes) edges hops
     local = record {
       once = λ j k u at_j at_k.
           let a = place j u at_j in
           let b = place k u at_k in
-          let same : number_at bucket j ≡ number_at bucket k = one_number v flow (number_at bucket j) (number_at bucket k) u (node_here v (number_at bucket j) (is.within j a.0) ∙ ap Some (sym a.1)) (node_here v (number_at bucket k) (is.within k b.0) ∙ ap Some (sym b.1)) in
+          let same : number_at nodes j ≡ number_at nodes k = one_number v flow (number_at nodes j) (number_at nodes k) u (node_here v (number_at nodes j) (is.within j a.0) ∙ ap Some (sym a.1)) (node_here v (number_at nodes k) (is.within k b.0) ∙ ap Some (sym b.1)) in
           one_place j k a.0 b.0 same;
       edge = are.edge;
       all = λ e j lt at. let p = place j ((graph v).source e) at in are.all e lt (j, p.0, p.1);
       hop = are.hop;
       no_more = λ j jl. let s : length edges ≡ length hops = are.size in (number_at edges j, slice_get-get_or edges j 0 (let r : j < length edges = omega arith in r));
     }
+
+-- ---- where all edges that lead to a node are steps
+
+module _ (g : Graph) (lasts steps : List Bool) (c : ℕ → ℕ) (lead : (e : ℕ) → e < g.edges → is_marked steps e ≡ is_some (g.target e)) where
+  as_walk : (es : List ℕ) (p : Option ℕ) → IsRun g false (is_marked lasts) (is_marked steps) p es → EndsWith g (IsMarked lasts) p es
+  as_walk [] p run = let q : false ≡ true = run in let bad : ⊥ = cc in absurd bad
+  as_walk (e ∷ es) p run = (
+    run.0,
+    run.1,
+    ⊎_elim
+        (λ (b : (is_marked lasts e ≡ true) × (es ≡ [])). inl (b.1, b.0))
+        (λ (b : (is_marked steps e ≡ true) × IsRun g false (is_marked lasts) (is_marked steps) (g.target e) es). inr (sym (lead e run.0) ∙ b.0, as_walk es (g.target e) b.1))
+        run.2,
+  )
+
+  as_run : (es : List ℕ) (p : Option ℕ) → EndsWith g (IsMarked lasts) p es → IsRun g false (is_marked lasts) (is_marked steps) p es
+  as_run [] p walk = absurd walk
+  as_run (e ∷ es) p walk = (
+    walk.0,
+    walk.1,
+    ⊎_elim
+        (λ (b : (es ≡ []) × IsMarked lasts e). inl (b.1, b.0))
+        (λ (b : IsSome (g.target e) × EndsWith g (IsMarked lasts) (g.target e) es). inr (lead e walk.0 ∙ b.0, as_run es (g.target e) b.1))
+        walk.2,
+  )
+
+  least_walk : (p : Option ℕ) (o : Option ℕ) → IsLeastIfAny (IsRun g false (is_marked lasts) (is_marked steps) p) (total c) o → IsLeastIfAny (EndsWith g (IsMarked lasts) p) (total c) o
+  least_walk p None none = λ es walk. none es (as_run es p walk)
+  least_walk p (Some m) some = record {
+    reached = (some.reached.0, as_walk some.reached.0 p some.reached.1, some.reached.2);
+    least = λ es walk. some.least es (as_run es p walk);
+  }
+
+pub least_walks : (v : FlowGraph) (lasts steps : List Bool) (c : ℕ → ℕ) (nodes : List ℕ) (table : List (Option ℕ)) → AreLeading v (length v.code.edges) steps → AreLeastRuns v lasts steps c nodes table → AreLeastIn v lasts c nodes table
+least_walks v lasts steps c nodes table leading least i il =
+    least_walk (graph v) lasts steps c leading.each (Some (node_address v (number_at nodes i))) (least_at table i) (least i il)
+
+-- ---- the nodes of a function
+
+pub bucket_nodes : (v : FlowGraph) (f : ℕ) (bucket : List ℕ) → IsBucket v f bucket → AreNodes v bucket
+bucket_nodes v f bucket is = record { within = is.within; once = is.once }
+
+pub bucket_kinds : (v : FlowGraph) (f : ℕ) (bucket : List ℕ) (lasts steps : List Bool) → IsFlowGraph v → IsBucket v f bucket → AreLeading v (length v.code.edges) steps → length lasts ≡ length v.code.edges →
+    ((e : ℕ) → e < length v.code.edges → IsMarked lasts e → (graph v).target e ≡ None) → AreKinds v bucket lasts steps
+bucket_kinds v f bucket lasts steps flow is leading size ends = record {
+  lasts_size = size;
+  steps_size = leading.size;
+  apart = λ e el from marked. leading.each e el ∙ ap is_some (ends e el marked);
+  stays = λ e el from marked. to e el from ((graph v).target e) refl (sym (leading.each e el) ∙ marked);
+}
+  where
+    to : (e : ℕ) → e < length v.code.edges → IsFromFirst v bucket (length bucket) e → (o : Option ℕ) → (graph v).target e ≡ o → is_some o ≡ true →
+        (j : ℕ) × (j < length bucket) × ((graph v).target e ≡ Some (node_address v (number_at bucket j)))
+    to e el from None at some = let bad : ⊥ = cc in absurd bad
+    to e el from (Some u) at some =
+        let stay = flow.program.stays e u el at in
+        let k = (flow.nodes u).1 stay.0 in
+        let kl = slice_get_within v.code.nodes k.0 u k.1 in
+        let here : node_address v k.0 ≡ u = same_Some (node_address v k.0) u (sym (node_here v k.0 kl) ∙ k.1) in
+        let own : (graph v).owner (node_address v k.0) ≡ f = ap (graph v).owner here ∙ stay.1 ∙ ap (graph v).owner from.2 ∙ is.own from.0 from.1 in
+        let i = is.whole k.0 kl own in
+        (i.0, i.1, at ∙ ap Some (sym here ∙ ap (node_address v) (sym i.2)))
+
+-- ---- flags of the edges that lead to a node
+
+pub leading_more : (v : FlowGraph) (e : ℕ) (flags : List Bool) (b : Bool) (o : Option ℕ) → AreLeading v e flags → e < length v.code.edges → b ≡ is_some o → ((k : ℕ) → o ≡ Some k → (graph v).target e ≡ slice_get v.code.nodes k) → ((k : ℕ) → o ≡ Some k → k < length v.code.nodes) → (o ≡ None → (graph v).target e ≡ None) →
+    AreLeading v (e + 1) (flags ++ b ∷ [])
+leading_more v e flags b o are el is some within none = record {
+  size = let s = are.size in let a : length (flags ++ b ∷ []) ≡ length flags + 1 = length-append flags (b ∷ []) in omega arith;
+  each = λ d dl. ⊎_elim
+      (λ (low : d < e). before flags b d (let s = are.size in omega arith) ∙ are.each d low)
+      (λ (high : e ≤ d).
+      let s = are.size in
+      let last : d ≡ length flags = omega arith in
+      let same : d ≡ e = omega arith in
+      ap (is_marked (flags ++ b ∷ [])) last ∙ at flags b ∙ is ∙ leads o refl ∙ ap (λ x. is_some ((graph v).target x)) (sym same))
+      (cases_lt d e);
+}
+  where
+    before : (xs : List Bool) (x : Bool) (i : ℕ) → i < length xs → is_marked (xs ++ x ∷ []) i ≡ is_marked xs i
+    before [] x i lt = let bad : ⊥ = omega arith in absurd bad
+    before (y ∷ ys) x zero lt = refl
+    before (y ∷ ys) x (suc i) lt = before ys x i (omega arith)
+
+    at : (xs : List Bool) (x : Bool) → is_marked (xs ++ x ∷ []) (length xs) ≡ x
+    at [] x = refl
+    at (y ∷ ys) x = at ys x
+
+    leads : (p : Option ℕ) → o ≡ p → is_some o ≡ is_some ((graph v).target e)
+    leads None eq = ap is_some eq ∙ sym (ap is_some (none eq))
+    leads (Some k) eq = ap is_some eq ∙ sym (ap is_some (some k eq ∙ node_here v k (within k eq)))

@@ -2,7 +2,8 @@
 use Rattle.std.proofs.Common.{◌≡◌, ℕ, ◌+◌, ◌<◌, ◌≤◌, Bool, true, false, cond, ◌⊎◌, inl, inr, nat_le, List, [], ◌∷◌, length, slice_get, Option, Some, None, is_some, unwrap_or, refl, sym, ap, ◌∙◌, subst, arith, ⊎_elim}
 use Rattle.std.proofs.lemmas.Bool.Decides.{nat_tests}
 use Rattle.cost_theory.specs.Graph.{Graph, total}
-use Rattle.cost_theory.specs.Least.{IsLeastIfAny, EndsWith, Least, IsReturnTo, end_after, Way as EndWay, least_cost, IsReturn, IsExit, AreLeast, IsWay, way_cost}
+use Rattle.cost_theory.specs.Least.{IsLeastIfAny, EndsWith, Least, IsReturnTo, end_after, Way as EndWay, IsWay, way_cost}
+use Rattle.cost_theory.specs.LeastTurns.{IsRun}
 use Rattle.cost_theory.specs.Least.Way.{Exits, Returns}
 use Rattle.least_cycles.specs.declared.Hop.{Hop}
 use Rattle.least_cycles.specs.declared.Way.{Way}
@@ -21,19 +22,29 @@ some_eq a b e = let r : a ≡ b = cc in r
 hop_eq : (a b : Hop) → Some a ≡ Some b → a ≡ b
 hop_eq a b e = let r : a ≡ b = cc in r
 
-module _ (g : Graph) (last : ℕ → Type 0) (c : ℕ → ℕ) (nodes edges : List ℕ) (hops : List Hop) (local : AreLocal g last c nodes edges hops) where
-  -- a walk in the graph, by hops
-  down : (es : List ℕ) (v i : ℕ) → slice_get nodes i ≡ Some v → EndsWith g last (Some v) es → (xs : List ℕ) × IsWalkFrom hops i xs × (total (costs hops) xs ≡ total c es)
-  down [] v i at walk = absurd walk
-  down (e ∷ es) v i at walk = by_way hop.0.way refl walk.2 (λ u j to. down es u j to)
+module _ (g : Graph) (last step : ℕ → Bool) (c : ℕ → ℕ) (nodes edges : List ℕ) (hops : List Hop) (local : AreLocal g last step c nodes edges hops) where
+  abbrev Run : Option ℕ → List ℕ → Type 0
+  Run p es = IsRun g false last step p es
+
+  clash : (b : Bool) → b ≡ false → b ≡ true → ⊥
+  clash b no_way yes_way = let bad : ⊥ = cc in bad
+
+  nowhere : (es : List ℕ) → Run None es → ⊥
+  nowhere [] run = let q : false ≡ true = run in let bad : ⊥ = cc in bad
+  nowhere (x ∷ xs) run = let q : None ≡ Some (g.source x) = run.1 in let bad : ⊥ = cc in bad
+
+  -- a run in the graph, by hops
+  down : (es : List ℕ) (v i : ℕ) → slice_get nodes i ≡ Some v → Run (Some v) es → (xs : List ℕ) × IsWalkFrom hops i xs × (total (costs hops) xs ≡ total c es)
+  down [] v i at run = let q : false ≡ true = run in let bad : ⊥ = cc in absurd bad
+  down (e ∷ es) v i at run = by_way hop.0.way refl run.2 (λ u j to. down es u j to)
     where
       v_source : v ≡ g.source e
-      v_source = some_eq _ _ walk.1
+      v_source = some_eq _ _ run.1
 
       place : (k : ℕ) × (slice_get edges k ≡ Some e)
-      place = local.all e i walk.0 (at ∙ ap (λ x. Some x) v_source)
+      place = local.all e i run.0 (at ∙ ap (λ x. Some x) v_source)
 
-      hop : (h : Hop) × (slice_get hops place.0 ≡ Some h) × IsHopOf g last c nodes h e
+      hop : (h : Hop) × (slice_get hops place.0 ≡ Some h) × IsHopOf g last step c nodes h e
       hop = local.hop place.0 e place.1
 
       below : place.0 < length hops
@@ -48,41 +59,39 @@ module _ (g : Graph) (last : ℕ → Type 0) (c : ℕ → ℕ) (nodes edges : Li
       price : cost_of (slice_get hops place.0) ≡ c e
       price = ap cost_of hop.1 ∙ hop.2.cost
 
-      way_is : (w : Way) → hop.0.way ≡ w → IsWayOf g last nodes w e
-      way_is w is = subst (λ x. IsWayOf g last nodes x e) is hop.2.way
+      way_is : (w : Way) → hop.0.way ≡ w → IsWayOf g last step nodes w e
+      way_is w is = subst (λ x. IsWayOf g last step nodes x e) is hop.2.way
 
-      by_way : (w : Way) → hop.0.way ≡ w → ((es ≡ []) × last e) ⊎ ((is_some (g.target e) ≡ true) × EndsWith g last (g.target e) es)
-          → ((u j : ℕ) → slice_get nodes j ≡ Some u → EndsWith g last (Some u) es → (xs : List ℕ) × IsWalkFrom hops j xs × (total (costs hops) xs ≡ total c es))
+      by_way : (w : Way) → hop.0.way ≡ w → ((last e ≡ true) × (es ≡ [])) ⊎ ((step e ≡ true) × Run (g.target e) es)
+          → ((u j : ℕ) → slice_get nodes j ≡ Some u → Run (Some u) es → (xs : List ℕ) × IsWalkFrom hops j xs × (total (costs hops) xs ≡ total c es))
           → (xs : List ℕ) × IsWalkFrom hops i xs × (total (costs hops) xs ≡ c e + total c es)
       by_way Last is (inl b) ih =
           let ends : last_of (slice_get hops place.0) ≡ true = ap last_of hop.1 ∙ ap is_last is in
-          let none : total c es ≡ 0 = ap (total c) b.0 in
+          let none : total c es ≡ 0 = ap (total c) b.1 in
           (place.0 ∷ [], (below, from, inl (refl, ends)), (let t : cost_of (slice_get hops place.0) + 0 ≡ c e + total c es = omega (arith, price) in t))
-      by_way Last is (inr b) ih =
-          let w : last e × (g.target e ≡ None) = way_is Last is in
-          absurd (none_some _ w.1 b.0)
-      by_way (To j) is (inl b) ih = let w : (last e → ⊥) × ((u : ℕ) × (g.target e ≡ Some u) × (slice_get nodes j ≡ Some u)) = way_is (To j) is in absurd (w.0 b.1)
+      by_way Last is (inr b) ih = let w : (last e ≡ true) × (step e ≡ false) = way_is Last is in absurd (clash (step e) w.1 b.0)
+      by_way (To j) is (inl b) ih = let w : (last e ≡ false) × (step e ≡ true) × ((u : ℕ) × (g.target e ≡ Some u) × (slice_get nodes j ≡ Some u)) = way_is (To j) is in absurd (clash (last e) w.0 b.0)
       by_way (To j) is (inr b) ih =
-          let w : (last e → ⊥) × ((u : ℕ) × (g.target e ≡ Some u) × (slice_get nodes j ≡ Some u)) = way_is (To j) is in
-          let behind : (xs : List ℕ) × IsWalkFrom hops j xs × (total (costs hops) xs ≡ total c es) = ih w.1.0 j w.1.2 (subst (λ o. EndsWith g last o es) w.1.1 b.1) in
+          let w : (last e ≡ false) × (step e ≡ true) × ((u : ℕ) × (g.target e ≡ Some u) × (slice_get nodes j ≡ Some u)) = way_is (To j) is in
+          let behind : (xs : List ℕ) × IsWalkFrom hops j xs × (total (costs hops) xs ≡ total c es) = ih w.2.0 j w.2.2 (subst (λ o. Run o es) w.2.1 b.1) in
           let to : head_of (slice_get hops place.0) ≡ Some j = ap head_of hop.1 ∙ ap place_of is in
           let rest : EndsWith (graph_of hops) (IsLast hops) (head_of (slice_get hops place.0)) behind.0 = subst (λ o. EndsWith (graph_of hops) (IsLast hops) o behind.0) (sym to) behind.1 in
           let same : total (costs hops) behind.0 ≡ total c es = behind.2 in
           (place.0 ∷ behind.0, (below, from, inr (ap is_some to, rest)), (let t : cost_of (slice_get hops place.0) + total (costs hops) behind.0 ≡ c e + total c es = omega (arith, price) in t))
-      by_way Stop is (inl b) ih = let w : (last e → ⊥) × (g.target e ≡ None) = way_is Stop is in absurd (w.0 b.1)
+      by_way Stop is (inl b) ih = let w : (last e ≡ false) × ((step e ≡ false) ⊎ (g.target e ≡ None)) = way_is Stop is in absurd (clash (last e) w.0 b.0)
       by_way Stop is (inr b) ih =
-          let w : (last e → ⊥) × (g.target e ≡ None) = way_is Stop is in
-          absurd (none_some _ w.1 b.0)
+          let w : (last e ≡ false) × ((step e ≡ false) ⊎ (g.target e ≡ None)) = way_is Stop is in
+          absurd (⊎_elim (λ stays. clash (step e) stays b.0) (λ none. nowhere es (subst (λ o. Run o es) none b.1)) w.1)
 
   -- and back
-  up : (xs : List ℕ) (v i : ℕ) → slice_get nodes i ≡ Some v → IsWalkFrom hops i xs → (es : List ℕ) × EndsWith g last (Some v) es × (total c es ≡ total (costs hops) xs)
+  up : (xs : List ℕ) (v i : ℕ) → slice_get nodes i ≡ Some v → IsWalkFrom hops i xs → (es : List ℕ) × Run (Some v) es × (total c es ≡ total (costs hops) xs)
   up [] v i at walk = absurd walk
   up (x ∷ xs) v i at walk = by_way hop.0.way refl walk.2 (λ u j to w. up xs u j to w)
     where
       edge : (e : ℕ) × (slice_get edges x ≡ Some e)
       edge = local.no_more x walk.0
 
-      hop : (h : Hop) × (slice_get hops x ≡ Some h) × IsHopOf g last c nodes h edge.0
+      hop : (h : Hop) × (slice_get hops x ≡ Some h) × IsHopOf g last step c nodes h edge.0
       hop = local.hop x edge.0 edge.1
 
       tail : i ≡ hop.0.tail
@@ -97,16 +106,16 @@ module _ (g : Graph) (last : ℕ → Type 0) (c : ℕ → ℕ) (nodes edges : Li
       below : edge.0 < g.edges
       below = local.edge x edge.0 edge.1
 
-      way_is : (w : Way) → hop.0.way ≡ w → IsWayOf g last nodes w edge.0
-      way_is w is = subst (λ y. IsWayOf g last nodes y edge.0) is hop.2.way
+      way_is : (w : Way) → hop.0.way ≡ w → IsWayOf g last step nodes w edge.0
+      way_is w is = subst (λ y. IsWayOf g last step nodes y edge.0) is hop.2.way
 
       by_way : (w : Way) → hop.0.way ≡ w → ((xs ≡ []) × (last_of (slice_get hops x) ≡ true)) ⊎ ((is_some (head_of (slice_get hops x)) ≡ true) × EndsWith (graph_of hops) (IsLast hops) (head_of (slice_get hops x)) xs)
-          → ((u j : ℕ) → slice_get nodes j ≡ Some u → IsWalkFrom hops j xs → (es : List ℕ) × EndsWith g last (Some u) es × (total c es ≡ total (costs hops) xs))
-          → (es : List ℕ) × EndsWith g last (Some v) es × (total c es ≡ cost_of (slice_get hops x) + total (costs hops) xs)
+          → ((u j : ℕ) → slice_get nodes j ≡ Some u → IsWalkFrom hops j xs → (es : List ℕ) × Run (Some u) es × (total c es ≡ total (costs hops) xs))
+          → (es : List ℕ) × Run (Some v) es × (total c es ≡ cost_of (slice_get hops x) + total (costs hops) xs)
       by_way Last is (inl b) ih =
-          let w : last edge.0 × (g.target edge.0 ≡ None) = way_is Last is in
+          let w : (last edge.0 ≡ true) × (step edge.0 ≡ false) = way_is Last is in
           let none : total (costs hops) xs ≡ 0 = ap (total (costs hops)) b.0 in
-          (edge.0 ∷ [], (below, from, inl (refl, w.0)), (let t : c edge.0 + 0 ≡ cost_of (slice_get hops x) + total (costs hops) xs = omega (arith, price) in t))
+          (edge.0 ∷ [], (below, from, inl (w.0, refl)), (let t : c edge.0 + 0 ≡ cost_of (slice_get hops x) + total (costs hops) xs = omega (arith, price) in t))
       by_way Last is (inr b) ih =
           let h : head_of (slice_get hops x) ≡ None = ap head_of hop.1 ∙ ap place_of is in
           absurd (none_some _ h b.0)
@@ -114,12 +123,12 @@ module _ (g : Graph) (last : ℕ → Type 0) (c : ℕ → ℕ) (nodes edges : Li
           let l : last_of (slice_get hops x) ≡ false = ap last_of hop.1 ∙ ap is_last is in
           let s : true ≡ false = sym b.1 ∙ l in let bad : ⊥ = cc in absurd bad
       by_way (To j) is (inr b) ih =
-          let w : (last edge.0 → ⊥) × ((u : ℕ) × (g.target edge.0 ≡ Some u) × (slice_get nodes j ≡ Some u)) = way_is (To j) is in
+          let w : (last edge.0 ≡ false) × (step edge.0 ≡ true) × ((u : ℕ) × (g.target edge.0 ≡ Some u) × (slice_get nodes j ≡ Some u)) = way_is (To j) is in
           let to : head_of (slice_get hops x) ≡ Some j = ap head_of hop.1 ∙ ap place_of is in
-          let behind : (es : List ℕ) × EndsWith g last (Some w.1.0) es × (total c es ≡ total (costs hops) xs) = ih w.1.0 j w.1.2 (subst (λ o. EndsWith (graph_of hops) (IsLast hops) o xs) to b.1) in
-          let rest : EndsWith g last (g.target edge.0) behind.0 = subst (λ o. EndsWith g last o behind.0) (sym w.1.1) behind.1 in
+          let behind : (es : List ℕ) × Run (Some w.2.0) es × (total c es ≡ total (costs hops) xs) = ih w.2.0 j w.2.2 (subst (λ o. EndsWith (graph_of hops) (IsLast hops) o xs) to b.1) in
+          let rest : Run (g.target edge.0) behind.0 = subst (λ o. Run o behind.0) (sym w.2.1) behind.1 in
           let same : total c behind.0 ≡ total (costs hops) xs = behind.2 in
-          (edge.0 ∷ behind.0, (below, from, inr (ap is_some w.1.1, rest)), (let t : c edge.0 + total c behind.0 ≡ cost_of (slice_get hops x) + total (costs hops) xs = omega (arith, price) in t))
+          (edge.0 ∷ behind.0, (below, from, inr (w.1, rest)), (let t : c edge.0 + total c behind.0 ≡ cost_of (slice_get hops x) + total (costs hops) xs = omega (arith, price) in t))
       by_way Stop is (inl b) ih =
           let l : last_of (slice_get hops x) ≡ false = ap last_of hop.1 ∙ ap is_last is in
           let s : true ≡ false = sym b.1 ∙ l in let bad : ⊥ = cc in absurd bad
@@ -128,13 +137,13 @@ module _ (g : Graph) (last : ℕ → Type 0) (c : ℕ → ℕ) (nodes edges : Li
           absurd (none_some _ h b.0)
 
   -- the least by hops is the least in the graph
-  pub local-least : (v i : ℕ) (o : Option ℕ) → slice_get nodes i ≡ Some v → IsLeastIfAny (IsWalkFrom hops i) (total (costs hops)) o → IsLeastIfAny (EndsWith g last (Some v)) (total c) o
-  local-least v i None at least = λ es walk. (let d : (xs : List ℕ) × IsWalkFrom hops i xs × (total (costs hops) xs ≡ total c es) = down es v i at walk in least d.0 d.1)
+  pub local-least : (v i : ℕ) (o : Option ℕ) → slice_get nodes i ≡ Some v → IsLeastIfAny (IsWalkFrom hops i) (total (costs hops)) o → IsLeastIfAny (IsRun g false last step (Some v)) (total c) o
+  local-least v i None at least = λ es run. (let d : (xs : List ℕ) × IsWalkFrom hops i xs × (total (costs hops) xs ≡ total c es) = down es v i at run in least d.0 d.1)
   local-least v i (Some m) at least =
-      let u : (es : List ℕ) × EndsWith g last (Some v) es × (total c es ≡ total (costs hops) least.reached.0) = up least.reached.0 v i at least.reached.1 in
+      let u : (es : List ℕ) × Run (Some v) es × (total c es ≡ total (costs hops) least.reached.0) = up least.reached.0 v i at least.reached.1 in
       record {
         reached = (u.0, u.1, u.2 ∙ least.reached.2);
-        least = λ es walk. (let d : (xs : List ℕ) × IsWalkFrom hops i xs × (total (costs hops) xs ≡ total c es) = down es v i at walk in
+        least = λ es run. (let d : (xs : List ℕ) × IsWalkFrom hops i xs × (total (costs hops) xs ≡ total c es) = down es v i at run in
             let le : m ≤ total (costs hops) d.0 = least.least d.0 d.1 in
             let same : total (costs hops) d.0 ≡ total c es = d.2 in
             let r : m ≤ total c es = omega arith in r);
@@ -234,28 +243,3 @@ end-least g n v behind least is = subst (λ o. IsLeastIfAny (IsWay g n v) (way_c
     either : (way : EndWay) → IsWay g n v way → IsExitWay g n v way ⊎ IsReturnWay g n v way
     either Exits h = inl h
     either (Returns e) h = inr h
-
--- A number of a node that was found by hops, or of an address at which no edge starts.
-abbrev pub IsFound : Graph → (ℕ → Type 0) → (ℕ → ℕ) → ℕ → Option ℕ → Type 0
-IsFound g last c v o =
-    ((nodes : List ℕ) × (edges : List ℕ) × (hops : List Hop) × (i : ℕ) × AreLocal g last c nodes edges hops × (slice_get nodes i ≡ Some v) × IsLeastIfAny (IsWalkFrom hops i) (total (costs hops)) o)
-    ⊎ (((e : ℕ) → e < g.edges → g.source e ≡ v → ⊥) × (o ≡ None))
-
-found-least : (g : Graph) (last : ℕ → Type 0) (c : ℕ → ℕ) (v : ℕ) (o : Option ℕ) → IsFound g last c v o → IsLeastIfAny (EndsWith g last (Some v)) (total c) o
-found-least g last c v o (inl (nodes, edges, hops, i, local, at, least)) = local-least g last c nodes edges hops local v i o at least
-found-least g last c v o (inr (none, is)) = subst (λ x. IsLeastIfAny (EndsWith g last (Some v)) (total c) x) (sym is) nothing
-  where
-    nothing : (es : List ℕ) → EndsWith g last (Some v) es → ⊥
-    nothing [] walk = walk
-    nothing (e ∷ es) walk = none e walk.0 (sym (some_eq _ _ walk.1))
-
--- The tables of R, Zx and Z, each found by hops or from the calls, are the least numbers.
-pub are-least : (g : Graph) (w : ℕ → ℕ) (n : Least) → ((v : ℕ) → IsFound g (IsReturn g) (least_cost g w n) v (n.to_return v))
-    → ((v : ℕ) → IsFound g (IsExit g n) (least_cost g w n) v (n.to_exit v))
-    → ((v : ℕ) → (behind : Option ℕ) × IsLeastIfAny (IsReturnTo g n v) (end_after g n) behind × (n.to_end v ≡ lesser (n.to_exit v) (both (n.to_return v) behind)))
-    → AreLeast g w n
-are-least g w n returns exits ends = record {
-  to_return = λ v. found-least g (IsReturn g) (least_cost g w n) v (n.to_return v) (returns v);
-  to_exit = λ v. found-least g (IsExit g n) (least_cost g w n) v (n.to_exit v) (exits v);
-  to_end = λ v. end-least g n v (ends v).0 (ends v).1 (ends v).2;
-}

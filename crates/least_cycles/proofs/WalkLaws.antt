@@ -1,5 +1,5 @@
 -- Functions that are done one after the other, callees first: what stands for them in the tables stays.
-use Rattle.std.proofs.Common.{◌≡◌, ◌≢◌, ℕ, zero, suc, ◌+◌, ◌^◌, ◌<◌, ◌≤◌, ◌⊎◌, inl, inr, Bool, true, false, nat_eq, if◌then◌else◌, replicate, List, [], ◌∷◌, length, slice_get, slice_index_or, Option, Some, None, IsSome, unwrap_or, refl, sym, ap, ◌∙◌, subst, arith, ⊎_elim}
+use Rattle.std.proofs.Common.{◌≡◌, ◌≢◌, ℕ, zero, suc, ◌+◌, ◌^◌, ◌<◌, ◌≤◌, ◌⊎◌, ◌↔◌, inl, inr, Bool, true, false, nat_eq, if◌then◌else◌, replicate, List, [], ◌∷◌, length, slice_get, slice_index_or, Option, Some, None, IsSome, unwrap_or, refl, sym, ap, ◌∙◌, subst, arith, ⊎_elim}
 use Rattle.std.proofs.lemmas.Bool.{cases_lt}
 use Rattle.std.proofs.lemmas.List.{length-replicate}
 use Rattle.std.proofs.lemmas.Option.{slice_get_within, slice_get-get_or, same_Some}
@@ -82,14 +82,25 @@ pub exit_at_end : (v : FlowGraph) (n : Least) → IsFlowGraph v → (e : ℕ) �
 exit_at_end v n flow e el (inl exit) = (flow.program.exit_end e el exit).0
 exit_at_end v n flow e el (inr call) = call.0
 
+-- an edge of a function starts at one of its nodes
+pub from_first : (v : FlowGraph) (f : ℕ) (bucket : List ℕ) (e : ℕ) → IsFlowGraph v → IsBucket v f bucket → e < length v.code.edges → (graph v).owner ((graph v).source e) ≡ f → IsFromFirst v bucket (length bucket) e
+from_first v f bucket e flow is el here =
+    let k = source_number v flow e el in
+    let address : node_address v k.0 ≡ (graph v).source e = address_is v k.0 ((graph v).source e) k.1 in
+    let i = is.whole k.0 (slice_get_within v.code.nodes k.0 ((graph v).source e) k.1) (ap (graph v).owner address ∙ here) in
+    (i.0, i.1, sym (ap (node_address v) i.2 ∙ address))
+
 -- ---- one function more
 
-module _ (v : FlowGraph) (own limit : ℕ → ℕ) (Done Next : ℕ → Type 0) (f : ℕ) (bucket : List ℕ) (returns exits found_r found_x returns' exits' : List (Option ℕ)) (costs : List ℕ) (lasts returning : List Bool)
+module _ (v : FlowGraph) (own limit : ℕ → ℕ) (Done Next : ℕ → Type 0) (f : ℕ) (bucket : List ℕ) (returns exits found_r found_x returns' exits' : List (Option ℕ)) (c : ℕ → ℕ) (lasts returning : List Bool)
     (flow : IsFlowGraph v) (limits : AreLimits (graph v) own limit) (are : AreWalksOf v own limit Done returns exits) (fl : f < length v.code.functions) (fresh : Done f → ⊥) (next : (h : ℕ) → Next h → Done h ⊎ (h ≡ f))
     (closed : (e h : ℕ) → e < length v.code.edges → Done ((graph v).owner ((graph v).source e)) ⊎ ((graph v).owner ((graph v).source e) ≡ f) → (graph v).callee e ≡ Some h → Done h)
-    (is : IsBucket v f bucket) (priced : ArePriced v own returns exits (IsFromFirst v bucket (length bucket)) costs lasts) (flags : AreReturns v (length v.code.edges) returning)
-    (least_r : AreLeastIn v returning costs bucket found_r) (least_x : AreLeastIn v lasts costs bucket found_x)
-    (low_r : (i x : ℕ) → least_at found_r i ≡ Some x → x ≤ 2 ^ 66) (low_x : (i x : ℕ) → least_at found_x i ≡ Some x → x ≤ 2 ^ 66)
+    (is : IsBucket v f bucket)
+    (cost_is : (e : ℕ) → e < length v.code.edges → (graph v).owner ((graph v).source e) ≡ f → c e ≡ least_cost (graph v) own (least_by v returns exits []) e)
+    (last_is : (e : ℕ) → e < length v.code.edges → (graph v).owner ((graph v).source e) ≡ f → IsMarked lasts e ↔ IsExit (graph v) (least_by v returns exits []) e)
+    (flags : AreReturns v (length v.code.edges) returning)
+    (least_r : AreLeastIn v returning c bucket found_r) (least_x : AreLeastIn v lasts c bucket found_x)
+    (low_r : (i x : ℕ) → least_at found_r i ≡ Some x → x ≤ 2 ^ 67) (low_x : (i x : ℕ) → least_at found_x i ≡ Some x → x ≤ 2 ^ 67)
     (wr : AreWritten (length bucket) bucket found_r returns returns') (wx : AreWritten (length bucket) bucket found_x exits exits') where
   abbrev before : Least
   before = least_by v returns exits []
@@ -117,27 +128,20 @@ module _ (v : FlowGraph) (own limit : ℕ → ℕ) (Done Next : ℕ → Type 0) 
   last_back e el done (inl exit) = inl exit
   last_back e el done (inr call) = inr (call.0, (call.1.0, call.1.1, subst (λ (o : Option ℕ). IsSome o) (sym (exit_kept e call.1.0 el done call.1.1)) call.1.2))
 
-  from_first : (e : ℕ) → e < length v.code.edges → (graph v).owner ((graph v).source e) ≡ f → IsFromFirst v bucket (length bucket) e
-  from_first e el here =
-      let k = source_number v flow e el in
-      let address : node_address v k.0 ≡ (graph v).source e = address_is v k.0 ((graph v).source e) k.1 in
-      let i = is.whole k.0 (slice_get_within v.code.nodes k.0 ((graph v).source e) k.1) (ap (graph v).owner address ∙ here) in
-      (i.0, i.1, sym (ap (node_address v) i.2 ∙ address))
-
   -- by the costs before
   solved_return : (k : ℕ) → k < length v.code.nodes → (graph v).owner (node_address v k) ≡ f → IsLeastIfAny (EndsWith (graph v) (IsReturn (graph v)) (Some (node_address v k))) (total (least_cost (graph v) own before)) (least_at returns' k)
   solved_return k kl here =
       let i = written_in v f bucket found_r returns returns' flow is wr k kl here in
       subst (λ (o : Option ℕ). IsLeastIfAny (EndsWith (graph v) (IsReturn (graph v)) (Some (node_address v k))) (total (least_cost (graph v) own before)) o) (sym i.3)
-      (least_moved (graph v) flow.program f (IsMarked returning) (IsReturn (graph v)) (number_at costs) (least_cost (graph v) own before) (λ e el at. priced.cost e el (from_first e el at)) (λ e el at yes. (flags.each e el).0 yes) (λ e el at yes. (flags.each e el).1 yes) (node_address v k) (least_at found_r i.0) here
-      (subst (λ j. IsLeastIfAny (EndsWith (graph v) (IsMarked returning) (Some (node_address v j))) (total (number_at costs)) (least_at found_r i.0)) i.2 (least_r i.0 i.1)))
+      (least_moved (graph v) flow.program f (IsMarked returning) (IsReturn (graph v)) c (least_cost (graph v) own before) cost_is (λ e el at yes. (flags.each e el).0 yes) (λ e el at yes. (flags.each e el).1 yes) (node_address v k) (least_at found_r i.0) here
+      (subst (λ j. IsLeastIfAny (EndsWith (graph v) (IsMarked returning) (Some (node_address v j))) (total c) (least_at found_r i.0)) i.2 (least_r i.0 i.1)))
 
   solved_exit : (k : ℕ) → k < length v.code.nodes → (graph v).owner (node_address v k) ≡ f → IsLeastIfAny (EndsWith (graph v) (IsExit (graph v) before) (Some (node_address v k))) (total (least_cost (graph v) own before)) (least_at exits' k)
   solved_exit k kl here =
       let i = written_in v f bucket found_x exits exits' flow is wx k kl here in
       subst (λ (o : Option ℕ). IsLeastIfAny (EndsWith (graph v) (IsExit (graph v) before) (Some (node_address v k))) (total (least_cost (graph v) own before)) o) (sym i.3)
-      (least_moved (graph v) flow.program f (IsMarked lasts) (IsExit (graph v) before) (number_at costs) (least_cost (graph v) own before) (λ e el at. priced.cost e el (from_first e el at)) (λ e el at yes. (priced.last e el (from_first e el at)).0 yes) (λ e el at yes. (priced.last e el (from_first e el at)).1 yes) (node_address v k) (least_at found_x i.0) here
-      (subst (λ j. IsLeastIfAny (EndsWith (graph v) (IsMarked lasts) (Some (node_address v j))) (total (number_at costs)) (least_at found_x i.0)) i.2 (least_x i.0 i.1)))
+      (least_moved (graph v) flow.program f (IsMarked lasts) (IsExit (graph v) before) c (least_cost (graph v) own before) cost_is (λ e el at yes. (last_is e el at).0 yes) (λ e el at yes. (last_is e el at).1 yes) (node_address v k) (least_at found_x i.0) here
+      (subst (λ j. IsLeastIfAny (EndsWith (graph v) (IsMarked lasts) (Some (node_address v j))) (total c) (least_at found_x i.0)) i.2 (least_x i.0 i.1)))
 
   next_return : (k : ℕ) → k < length v.code.nodes → Next ((graph v).owner (node_address v k)) → IsLeastIfAny (EndsWith (graph v) (IsReturn (graph v)) (Some (node_address v k))) (total (least_cost (graph v) own now)) (least_at returns' k)
   next_return k kl done = ⊎_elim
@@ -196,8 +200,8 @@ module _ (v : FlowGraph) (own limit : ℕ → ℕ) (Done Next : ℕ → Type 0) 
     to_exit = next_exit;
     low_return = low_return;
     low_exit = low_exit;
-    small_return = small_kept v f bucket found_r returns returns' flow is wr (2 ^ 66) low_r are.small_return;
-    small_exit = small_kept v f bucket found_x exits exits' flow is wx (2 ^ 66) low_x are.small_exit;
+    small_return = small_kept v f bucket found_r returns returns' flow is wr (2 ^ 67) low_r are.small_return;
+    small_exit = small_kept v f bucket found_x exits exits' flow is wx (2 ^ 67) low_x are.small_exit;
   }
 
 -- ---- the order of calls
@@ -275,11 +279,6 @@ zero_at zero k = refl
 zero_at (suc n) zero = refl
 zero_at (suc n) (suc k) = zero_at n k
 
-unmarked_at : (n k : ℕ) → slice_index_or (replicate n false) k false ≡ false
-unmarked_at zero k = refl
-unmarked_at (suc n) zero = refl
-unmarked_at (suc n) (suc k) = unmarked_at n k
-
 not_some : (o : Option ℕ) (x : ℕ) → o ≡ None → o ≡ Some x → ⊥
 not_some o x none some = let bad : ⊥ = cc in bad
 
@@ -295,13 +294,11 @@ walks_first v own limit n returns exits size one two = record {
   small_exit = λ k x at. absurd (not_some (least_at exits k) x (ap (λ (t : List (Option ℕ)). least_at t k) two ∙ none_at n k) at);
 }
 
-pub scratch_first : (v : FlowGraph) (n : ℕ) (costs : List ℕ) (lasts : List Bool) → n ≡ length v.code.edges → costs ≡ replicate n 0 → lasts ≡ replicate n false → AreScratch v costs lasts
-scratch_first v n costs lasts size one two = record {
-  costs_size = ap length one ∙ length-replicate n 0 ∙ size;
-  lasts_size = ap length two ∙ length-replicate n false ∙ size;
-  ends = λ e el yes. let bad_flag : true ≡ false = sym yes ∙ ap (λ (t : List Bool). slice_index_or t e false) two ∙ unmarked_at n e in let bad : ⊥ = cc in absurd bad;
-  within = λ e. let value : number_at costs e ≡ 0 = ap (λ (t : List ℕ). number_at t e) one ∙ zero_at n e in omega arith;
-}
+pub none_before : {A : Type 0} (v : FlowGraph) (f : ℕ) → IsBefore v 0 f → A
+none_before v f done = let lt : done.0 < 0 = done.1 in let bad : ⊥ = omega arith in absurd bad
+
+pub zero_low : (found : List ℕ) (n : ℕ) → found ≡ replicate n 0 → (k : ℕ) → number_at found k ≤ 2 ^ 48
+zero_low found n is k = let value : number_at found k ≡ 0 = ap (λ (t : List ℕ). number_at t k) is ∙ zero_at n k in omega arith
 
 pub walks_whole : (v : FlowGraph) (own limit : ℕ → ℕ) (returns exits : List (Option ℕ)) → IsFlowGraph v → AreWalksOf v own limit (IsBefore v (length v.order)) returns exits → AreWalksOf v own limit IsAnyFunction returns exits
 walks_whole v own limit returns exits flow are = record {

@@ -19,8 +19,8 @@ end_place n (Some u) = n.to_end u
 pub record AreSmallWalks (v : FlowGraph) (returns exits : List (Option ℕ)) : Type 0 where
   pub returns_size : length returns ≡ length v.code.nodes
   pub exits_size : length exits ≡ length v.code.nodes
-  pub small_return : (k x : ℕ) → least_at returns k ≡ Some x → x ≤ 2 ^ 66
-  pub small_exit : (k x : ℕ) → least_at exits k ≡ Some x → x ≤ 2 ^ 66
+  pub small_return : (k x : ℕ) → least_at returns k ≡ Some x → x ≤ 2 ^ 67
+  pub small_exit : (k x : ℕ) → least_at exits k ≡ Some x → x ≤ 2 ^ 67
 
 -- the least of those over the edges from a number on
 abbrev pub AreBehindFrom : FlowGraph → Least → ℕ → ℕ → Option ℕ → Type 0
@@ -31,4 +31,4 @@ pub record AreBehind (v : FlowGraph) (returns exits : List (Option ℕ)) (i : �
   pub size : length behind ≡ length v.code.functions
   pub done : (h j : ℕ) → i ≤ j → slice_get v.order j ≡ Some h →
       IsLeastIfAny (IsBackTo (graph v) (least_by v returns exits behind) h) (end_after (graph v) (least_by v returns exits behind)) (least_at behind h)
-  pub low : (h x : ℕ) → least_at behind h ≡ Some x → x + i * 2 ^ 66 ≤ length v.order * 2 ^ 66
+  pub low : (h x : ℕ) → least_at behind h ≡ Some x → x + i * 2 ^ 67 ≤ length v.order * 2 ^ 67

@@ -1,12 +1,12 @@
 -- The least costs to a return and to an end, by node, and to an end after each edge: what LeastNumbers are seen as.
-use Rattle.std.specs.Prelude.{◌≡◌, ℕ, ◌+◌, ◌^◌, ◌<◌, ◌≤◌, List, length, slice_get, Option, Some}
+use Rattle.std.specs.Prelude.{◌≡◌, ℕ, ◌+◌, ◌^◌, ◌<◌, ◌≤◌, List, length, slice_get, Option, Some, None}
 use Rattle.call_orders.specs.Arcs.{number_at}
 use Rattle.cost_theory.specs.Graph.{Loops}
 use Rattle.cost_theory.specs.Worst.{Numbers, AreNumbers}
 use Rattle.cost_theory.specs.Least.{Least}
 use Rattle.code_graph.specs.FlowGraph.{FlowGraph, graph}
 use Rattle.least_laws.specs.Charged.{Charged, AreCharged, to_end_after}
-use Rattle.least_cycles.specs.Charged.{end_at}
+use Rattle.least_cycles.specs.Ends.{end_place}
 
 pub record LeastView : Type 0 where
   -- by node, the least cost to a return of its function, and to an end of the run
@@ -49,6 +49,11 @@ pub record AreEndsTo (v : FlowGraph) (n : Least) (k : ℕ) (ends : List (Option 
   pub size : length ends ≡ k
   pub each : (j at : ℕ) → j < k → slice_get v.code.nodes j ≡ Some at → slice_get ends j ≡ Some (n.to_end at)
 
-pub record AreAfterTo (v : FlowGraph) (n : Least) (k : ℕ) (after : List (Option ℕ)) : Type 0 where
+-- a number that may be absent, with a charge
+abbrev pub plus_charge : ℕ → Option ℕ → Option ℕ
+plus_charge charge None = None
+plus_charge charge (Some z) = Some (z + charge)
+
+pub record AreAfterTo (v : FlowGraph) (n : Least) (charge : ℕ → ℕ) (k : ℕ) (after : List (Option ℕ)) : Type 0 where
   pub size : length after ≡ k
-  pub each : (e : ℕ) → e < k → slice_get after e ≡ Some (end_at n.to_end 0 ((graph v).target e))
+  pub each : (e : ℕ) → e < k → slice_get after e ≡ Some (plus_charge (charge e) (end_place n ((graph v).target e)))

@@ -1,5 +1,5 @@
 -- Least costs by node, as lists, and what stands in them while functions are done one after the other.
-use Rattle.std.specs.Prelude.{◌≡◌, ◌≢◌, ℕ, ◌+◌, ◌^◌, ◌<◌, ◌≤◌, ◌↔◌, Bool, true, List, [], ◌∷◌, length, slice_get, nat_eq, if◌then◌else◌, Option, Some, None}
+use Rattle.std.specs.Prelude.{◌≡◌, ◌≢◌, ℕ, ◌+◌, ◌^◌, ◌<◌, ◌≤◌, ◌↔◌, Bool, true, List, [], ◌∷◌, length, slice_get, nat_eq, if◌then◌else◌, Option, Some, None, is_some}
 use Rattle.call_orders.specs.Arcs.{number_at}
 use Rattle.cost_theory.specs.Graph.{Graph, total}
 use Rattle.cost_theory.specs.Worst.{at_some}
@@ -9,7 +9,7 @@ use Rattle.natural_loops.specs.Noted.{node_address}
 use Rattle.key_chains.specs.Keys.{ChainView, option_at, AreChains}
 use Rattle.least_cycles.specs.Hops.{least_at}
 use Rattle.least_cycles.specs.Local.{lesser, both}
-use Rattle.least_cycles.specs.Functions.{IsMarked}
+use Rattle.least_cycles.specs.Functions.{is_marked, IsMarked}
 
 -- ---- nodes by function
 
@@ -52,7 +52,6 @@ least_by v returns exits behind = record {
 
 -- Costs of edges, and limits of functions: a walk from its entry to each End edge of a function stays within its limit.
 pub record AreLimits (g : Graph) (own limit : ℕ → ℕ) : Type 0 where
-  pub edge : (e : ℕ) → e < g.edges → own e ≤ 2 ^ 48
   pub small : (f : ℕ) → f < g.functions → limit f ≤ 2 ^ 48
   pub way : (e : ℕ) → e < g.edges → g.target e ≡ None →
       (es : List ℕ) × EndsWith g (λ d. d ≡ e) (Some (g.entry (g.owner (g.source e)))) es × (total (λ d. own d + at_some (g.callee d) limit) es ≤ limit (g.owner (g.source e)))
@@ -97,6 +96,11 @@ pub record AreReturns (v : FlowGraph) (n : ℕ) (flags : List Bool) : Type 0 whe
   pub size : length flags ≡ n
   pub each : (e : ℕ) → e < n → IsMarked flags e ↔ IsReturn (graph v) e
 
+-- flags of the edges that lead to a node
+pub record AreLeading (v : FlowGraph) (n : ℕ) (flags : List Bool) : Type 0 where
+  pub size : length flags ≡ n
+  pub each : (e : ℕ) → e < n → is_marked flags e ≡ is_some ((graph v).target e)
+
 -- The tables have the least costs to a return and to an exit of the nodes of the functions that are done.
 pub record AreWalksOf (v : FlowGraph) (own limit : ℕ → ℕ) (Done : ℕ → Type 0) (returns exits : List (Option ℕ)) : Type 0 where
   pub returns_size : length returns ≡ length v.code.nodes
@@ -107,8 +111,8 @@ pub record AreWalksOf (v : FlowGraph) (own limit : ℕ → ℕ) (Done : ℕ → 
       IsLeastIfAny (EndsWith (graph v) (IsExit (graph v) (least_by v returns exits [])) (Some (node_address v k))) (total (least_cost (graph v) own (least_by v returns exits []))) (least_at exits k)
   pub low_return : AreLow v limit returns
   pub low_exit : AreLow v limit exits
-  pub small_return : (k x : ℕ) → least_at returns k ≡ Some x → x ≤ 2 ^ 66
-  pub small_exit : (k x : ℕ) → least_at exits k ≡ Some x → x ≤ 2 ^ 66
+  pub small_return : (k x : ℕ) → least_at returns k ≡ Some x → x ≤ 2 ^ 67
+  pub small_exit : (k x : ℕ) → least_at exits k ≡ Some x → x ≤ 2 ^ 67
 
 -- the functions at the first places of the order of calls, callees first
 abbrev pub IsBefore : FlowGraph → ℕ → ℕ → Type 0
@@ -129,7 +133,3 @@ pub record AreScratch (v : FlowGraph) (costs : List ℕ) (lasts : List Bool) : T
   pub lasts_size : length lasts ≡ length v.code.edges
   pub ends : (e : ℕ) → e < length v.code.edges → IsMarked lasts e → (graph v).target e ≡ None
   pub within : (e : ℕ) → number_at costs e ≤ 2 ^ 49
-
--- and limits of functions hold them in range
-abbrev pub HasWalks : FlowGraph → (ℕ → ℕ) → (ℕ → Type 0) → List (Option ℕ) → List (Option ℕ) → Type 0
-HasWalks v own Done returns exits = (limit : ℕ → ℕ) × AreLimits (graph v) own limit × AreWalksOf v own limit Done returns exits

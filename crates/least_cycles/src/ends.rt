@@ -62,7 +62,7 @@ fn lesser(one: Option<u128>, other: Option<u128>) -> Option<u128>
 
 /// The sum of two numbers, absent where one of them is.
 fn both(one: Option<u128>, other: Option<u128>) -> Option<u128>
-    requires one { (x : ℕ) → one ≡ Some x → x ≤ 2 ^ 66 }
+    requires one { (x : ℕ) → one ≡ Some x → x ≤ 2 ^ 67 }
     requires other { (x : ℕ) → other ≡ Some x → x ≤ 2 ^ 84 }
     ensures { result ≡ both one other }
 {

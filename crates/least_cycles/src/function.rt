@@ -1,30 +1,45 @@
-//! The least costs of walks in one function.
+//! The least costs of runs over the edges of some nodes.
 
 ghost use Rattle.std.specs.Prelude.{◌≡◌, ◌⊎◌, ℕ, ◌*◌, ◌+◌, ◌^◌, ◌<◌, ◌≤◌, List, length, slice_get, Some, IfOk, OnOk};
 ghost use Rattle.call_orders.specs.Arcs.{number_at};
 ghost use Rattle.code_graph.specs.FlowGraph.{graph as graph_seen, IsFlowGraph};
-ghost use Rattle.natural_loops.specs.Noted.{node_address};
-ghost use Rattle.least_cycles.specs.Hops.{AreHops, least_at};
-ghost use Rattle.least_cycles.specs.Local.{IsWayOf, IsHopOf};
-ghost use Rattle.least_cycles.specs.Functions.{IsBucket, ArePlacesIn, addresses, IsMarked, AreLasts, AreCosts, AreHopsOf, IsFromFirst, IsFromNext, AreLeastIn};
+ghost use Rattle.least_cycles.specs.Hops.{least_at};
+ghost use Rattle.least_cycles.specs.Local.{IsWayOf};
+ghost use Rattle.least_cycles.specs.Functions.{AreNodes, ArePlacesIn, addresses, is_marked, AreKinds, AreHopsOf, IsFromFirst, AreLeastRuns};
+ghost use Rattle.least_cycles.specs.Charging.{AreSmallCharges, cost_with};
 
+use crate::charges::Charges;
 use crate::{Hop, Way, least_costs};
 use code_graph::CodeGraph;
 use scale_base::NoMemory;
 use std::alloc::Global;
 
-/// Where edge `e` leads, by the places of nodes in their function.
-fn way_of(graph: &CodeGraph, bucket: &[usize], places: &[usize], lasts: &[bool], e: usize) -> Way
+/// No edge costs more with its charge and the function that it calls.
+const MOST: u64 = 1 << 50;
+
+/// Where edge `e` leads, by the places of some nodes.
+fn way_of(
+    graph: &CodeGraph,
+    nodes: &[usize],
+    places: &[usize],
+    lasts: &[bool],
+    steps: &[bool],
+    e: usize,
+) -> Way
     requires flow { IsFlowGraph graph.now }
-    requires bucket { (f : ℕ) × IsBucket graph.now f bucket.now × ((graph_seen graph.now).owner ((graph_seen graph.now).source e) ≡ f) }
-    requires places { ArePlacesIn bucket.now places.now }
+    requires nodes { AreNodes graph.now nodes.now }
+    requires places { ArePlacesIn nodes.now places.now }
     requires size { length places.now ≡ length graph.now.code.nodes }
-    requires lasts { AreLasts graph.now lasts.now }
+    requires kinds { AreKinds graph.now nodes.now lasts.now steps.now }
     requires edge { e < length graph.now.code.edges }
-    ensures { IsWayOf (graph_seen graph.now) (IsMarked lasts.now) (addresses graph.now bucket.now) result e }
+    requires from { IsFromFirst graph.now nodes.now (length nodes.now) e }
+    ensures { IsWayOf (graph_seen graph.now) (is_marked lasts.now) (is_marked steps.now) (addresses graph.now nodes.now) result e }
 {
     if lasts[e] {
         return Way::Last;
+    }
+    if !steps[e] {
+        return Way::Stop;
     }
     match graph.target(e) {
         Some(k) => Way::To(places[k]),
@@ -35,82 +50,96 @@ fn way_of(graph: &CodeGraph, bucket: &[usize], places: &[usize], lasts: &[bool],
 /// Adds the hops of the edges of the node at place `i`.
 fn push_hops(
     graph: &CodeGraph,
-    bucket: &[usize],
+    nodes: &[usize],
     places: &[usize],
     lasts: &[bool],
+    steps: &[bool],
     costs: &[u64],
+    charges: &Charges,
     i: usize,
     hops: &mut Vec<Hop>,
 ) -> Result<(), NoMemory>
     requires flow { IsFlowGraph graph.now }
-    requires bucket { (f : ℕ) × IsBucket graph.now f bucket.now }
-    requires places { ArePlacesIn bucket.now places.now }
+    requires nodes { AreNodes graph.now nodes.now }
+    requires places { ArePlacesIn nodes.now places.now }
     requires size { length places.now ≡ length graph.now.code.nodes }
-    requires lasts { AreLasts graph.now lasts.now }
+    requires kinds { AreKinds graph.now nodes.now lasts.now steps.now }
     requires costs { length costs.now ≡ length graph.now.code.edges }
-    requires place { i < length bucket.now }
-    requires done { (edges : List ℕ) × AreHopsOf graph.now lasts.now costs.now (addresses graph.now bucket.now) (IsFromFirst graph.now bucket.now i) edges hops.old.items }
-    ensures { OnOk result ((edges : List ℕ) × AreHopsOf graph.now lasts.now costs.now (addresses graph.now bucket.now) (IsFromFirst graph.now bucket.now (i + 1)) edges hops.new.items) }
+    requires low { (e : ℕ) → number_at costs.now e ≤ 2 ^ 49 }
+    requires charges { AreSmallCharges graph.now charges.now }
+    requires place { i < length nodes.now }
+    requires done { (edges : List ℕ) × AreHopsOf graph.now lasts.now steps.now (cost_with costs.now charges.now) (addresses graph.now nodes.now) (IsFromFirst graph.now nodes.now i) edges hops.old.items }
+    ensures { OnOk result ((edges : List ℕ) × AreHopsOf graph.now lasts.now steps.now (cost_with costs.now charges.now) (addresses graph.now nodes.now) (IsFromFirst graph.now nodes.now (i + 1)) edges hops.new.items) }
 {
-    let (first, end) = graph.edges_of(bucket[i]);
+    let (first, end) = graph.edges_of(nodes[i]);
     for e in first..end {
-        let way = way_of(graph, bucket, places, lasts, e);
+        let way = way_of(graph, nodes, places, lasts, steps, e);
+        let charge = charges.over(e);
         hops.push(Hop {
             tail: i,
             way,
-            cost: costs[e],
+            cost: costs[e] + charge,
         })?;
     }
     Ok(())
 }
 
-/// The hops of the edges of a function's nodes.
+/// The hops of the edges of some nodes.
 fn hops_of(
     alloc: Global,
     graph: &CodeGraph,
-    bucket: &[usize],
+    nodes: &[usize],
     places: &[usize],
     lasts: &[bool],
+    steps: &[bool],
     costs: &[u64],
+    charges: &Charges,
 ) -> Result<Vec<Hop>, NoMemory>
     requires flow { IsFlowGraph graph.now }
-    requires bucket { (f : ℕ) × IsBucket graph.now f bucket.now }
-    requires places { ArePlacesIn bucket.now places.now }
+    requires nodes { AreNodes graph.now nodes.now }
+    requires places { ArePlacesIn nodes.now places.now }
     requires size { length places.now ≡ length graph.now.code.nodes }
-    requires lasts { AreLasts graph.now lasts.now }
+    requires kinds { AreKinds graph.now nodes.now lasts.now steps.now }
     requires costs { length costs.now ≡ length graph.now.code.edges }
-    ensures { IfOk result (λ hops. (edges : List ℕ) × AreHopsOf graph.now lasts.now costs.now (addresses graph.now bucket.now) (IsFromFirst graph.now bucket.now (length bucket.now)) edges hops.items) }
+    requires low { (e : ℕ) → number_at costs.now e ≤ 2 ^ 49 }
+    requires charges { AreSmallCharges graph.now charges.now }
+    ensures { IfOk result (λ hops. (edges : List ℕ) × AreHopsOf graph.now lasts.now steps.now (cost_with costs.now charges.now) (addresses graph.now nodes.now) (IsFromFirst graph.now nodes.now (length nodes.now)) edges hops.items) }
 {
     let mut hops = Vec::new(alloc);
-    for i in 0..bucket.len() {
-        push_hops(graph, bucket, places, lasts, costs, i, &mut hops)?;
+    for i in 0..nodes.len() {
+        push_hops(
+            graph, nodes, places, lasts, steps, costs, charges, i, &mut hops,
+        )?;
     }
     Ok(hops)
 }
 
-/// By place of the node in its function, the least cost of a walk over one of the last edges. No edge costs more than `most`.
-pub fn least_in_function(
+/// By place among some nodes, the least cost of a run over one of the last edges, which leads there over steps. An edge costs what
+/// it is charged more.
+pub fn least_in(
     alloc: Global,
     graph: &CodeGraph,
-    bucket: &[usize],
+    nodes: &[usize],
     places: &[usize],
     lasts: &[bool],
+    steps: &[bool],
     costs: &[u64],
-    most: u64,
+    charges: &Charges,
 ) -> Result<Vec<Option<u128>>, NoMemory>
     requires flow { IsFlowGraph graph.now }
-    requires bucket { (f : ℕ) × IsBucket graph.now f bucket.now }
-    requires places { ArePlacesIn bucket.now places.now }
+    requires nodes { AreNodes graph.now nodes.now }
+    requires few { length nodes.now ≤ 131072 }
+    requires places { ArePlacesIn nodes.now places.now }
     requires size { length places.now ≡ length graph.now.code.nodes }
-    requires lasts { AreLasts graph.now lasts.now }
+    requires kinds { AreKinds graph.now nodes.now lasts.now steps.now }
     requires costs { length costs.now ≡ length graph.now.code.edges }
-    requires most { (e : ℕ) → number_at costs.now e ≤ most }
-    requires small { length bucket.now * most ≤ 2 ^ 126 }
-    ensures least { IfOk result (λ table. AreLeastIn graph.now lasts.now costs.now bucket.now table.items) }
-    ensures size { IfOk result (λ table. length table.items ≡ length bucket.now) }
-    ensures low { IfOk result (λ table. (i x : ℕ) → least_at table.items i ≡ Some x → x ≤ length bucket.now * most) }
+    requires low { (e : ℕ) → number_at costs.now e ≤ 2 ^ 49 }
+    requires charges { AreSmallCharges graph.now charges.now }
+    ensures least { IfOk result (λ table. AreLeastRuns graph.now lasts.now steps.now (cost_with costs.now charges.now) nodes.now table.items) }
+    ensures size { IfOk result (λ table. length table.items ≡ length nodes.now) }
+    ensures low { IfOk result (λ table. (i x : ℕ) → least_at table.items i ≡ Some x → x ≤ 2 ^ 67) }
 {
-    let hops = hops_of(alloc, graph, bucket, places, lasts, costs)?;
-    let table = least_costs(alloc, bucket.len(), &hops, most)?;
+    let hops = hops_of(alloc, graph, nodes, places, lasts, steps, costs, charges)?;
+    let table = least_costs(alloc, nodes.len(), &hops, MOST)?;
     Ok(table)
 }

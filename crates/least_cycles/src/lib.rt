@@ -7,22 +7,25 @@ ghost use Rattle.call_orders.specs.Arcs.{number_at};
 ghost use Rattle.cost_theory.specs.Accepted.{AreWeights};
 ghost use Rattle.code_graph.specs.FlowGraph.{graph as graph_seen};
 ghost use Rattle.loop_tree.specs.Tree.{loops, IsLoopTree};
-ghost use Rattle.least_cycles.specs.Found.{IsInRange, IsLeastOf, AreSmallLeast, no_charge};
+ghost use Rattle.least_cycles.specs.Found.{IsInRange, IsLeastOf, AreSmallLeast};
 ghost use Rattle.least_cycles.specs.Hops.{least_at, offered, improves, relaxed, IsHop, HeadBelow, AreHops, IsTable, AreLeastCosts, fall};
 
 mod buckets;
+mod charges;
 mod ends;
 mod function;
 mod numbers;
+mod plan;
 mod prices;
+mod turns;
 mod walks;
 
 use code_graph::{CodeGraph, Weights};
 use ends::behinds_of;
-pub use function::least_in_function;
 use loop_tree::LoopTree;
 pub use numbers::LeastNumbers;
-use numbers::{after_of, ends_of, own_costs};
+use numbers::{after_of, ends_of};
+use plan::make_plan;
 use scale_base::NoMemory;
 use std::alloc::Global;
 use walks::walks_of;
@@ -117,7 +120,8 @@ pub fn least_costs(
 }
 
 /// The least cycles from each node of a graph to a return of its function and to an end of the run, and behind each edge to an end
-/// of the run, under weights of its edges. The program's worst cycles are at most 2^48.
+/// of the run, under weights of its edges. A closed loop is charged to the edges that enter it with the turns that it has to take.
+/// The program's worst cycles are at most 2^48.
 pub fn least(
     alloc: Global,
     graph: &CodeGraph,
@@ -128,17 +132,17 @@ pub fn least(
     requires weights { length weights.now ≡ length graph.now.code.edges }
     requires calls { AreWeights (graph_seen graph.now) (number_at weights.now) }
     requires worst { IsInRange graph.now (loops graph.now tree.now) (number_at weights.now) }
-    ensures least { IfOk result (λ x. IsLeastOf graph.now (number_at weights.now) no_charge x) }
+    ensures least { IfOk result (λ x. IsLeastOf graph.now (loops graph.now tree.now) (number_at weights.now) x) }
     ensures small { IfOk result (λ x. AreSmallLeast graph.now x) }
 {
     // Its contract says what is so of the graph.
     let _nodes = graph.node_count();
     let _functions = graph.function_count();
-    let own = own_costs(alloc, graph, weights)?;
-    let walks = walks_of(alloc, graph, &own)?;
+    let plan = make_plan(alloc, graph, tree, weights)?;
+    let (walks, charges) = walks_of(alloc, graph, tree, &plan)?;
     let behind = behinds_of(alloc, graph, &walks)?;
     let ends = ends_of(alloc, graph, &walks, &behind)?;
-    let after = after_of(alloc, graph, &walks, &behind)?;
+    let after = after_of(alloc, graph, &walks, &behind, &charges)?;
     Ok(LeastNumbers::from_parts(walks.returns, ends, after))
 }
 

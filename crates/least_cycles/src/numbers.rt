@@ -1,16 +1,17 @@
 //! The least costs from the nodes of a program, and behind its edges.
 
 ghost use Rattle.std.specs.Prelude.{◌≡◌, ℕ, ◌^◌, ◌<◌, ◌≤◌, length, slice_get, Some, IfOk};
-ghost use Rattle.call_orders.specs.Arcs.{number_at};
 ghost use Rattle.code_graph.specs.FlowGraph.{IsFlowGraph};
 ghost use Rattle.least_cycles.specs.Hops.{least_at};
 ghost use Rattle.least_cycles.specs.Tables.{least_by};
 ghost use Rattle.least_cycles.specs.Ends.{AreSmallWalks};
-ghost use Rattle.least_cycles.specs.Found.{LeastView, AreOwn, AreEndsTo, AreAfterTo};
+ghost use Rattle.least_cycles.specs.Found.{LeastView, AreEndsTo, AreAfterTo, plus_charge};
+ghost use Rattle.least_cycles.specs.Charging.{AreSmallCharges, charge_by};
 
+use crate::charges::Charges;
 use crate::ends::{end_at, end_over};
 use crate::walks::Walks;
-use code_graph::{CodeGraph, Weights};
+use code_graph::CodeGraph;
 use scale_base::NoMemory;
 use std::alloc::Global;
 use std::marker::Model;
@@ -72,22 +73,6 @@ impl LeastNumbers {
     }
 }
 
-/// The weights as costs.
-pub(crate) fn own_costs(
-    alloc: Global,
-    graph: &CodeGraph,
-    weights: &Weights,
-) -> Result<Vec<u64>, NoMemory>
-    requires { length weights.now ≡ length graph.now.code.edges }
-    ensures { IfOk result (λ own. AreOwn (length graph.now.code.edges) weights.now own.items) }
-{
-    let mut own = Vec::new(alloc);
-    for e in 0..graph.edge_count() {
-        own.push(u64::from(*weights.get(e)))?;
-    }
-    Ok(own)
-}
-
 /// By node, the least cost to an end.
 pub(crate) fn ends_of(
     alloc: Global,
@@ -108,22 +93,36 @@ pub(crate) fn ends_of(
     Ok(ends)
 }
 
-/// By edge, the least cost to an end behind it.
+/// A number that may be absent, with a charge.
+fn charged(number: Option<u128>, charge: u64) -> Option<u128>
+    requires { (x : ℕ) → number ≡ Some x → x ≤ 2 ^ 85 }
+    ensures { result ≡ plus_charge charge number }
+{
+    match number {
+        Some(x) => Some(x + u128::from(charge)),
+        None => None,
+    }
+}
+
+/// By edge, the least cost to an end behind it, with its charge.
 pub(crate) fn after_of(
     alloc: Global,
     graph: &CodeGraph,
     walks: &Walks,
     behind: &[Option<u128>],
+    charges: &Charges,
 ) -> Result<Vec<Option<u128>>, NoMemory>
     requires flow { IsFlowGraph graph.now }
     requires walks { AreSmallWalks graph.now walks.now.returns.items walks.now.exits.items }
     requires size { length behind.now ≡ length graph.now.code.functions }
     requires low { (f x : ℕ) → least_at behind.now f ≡ Some x → x ≤ 2 ^ 84 }
-    ensures { IfOk result (λ after. AreAfterTo graph.now (least_by graph.now walks.now.returns.items walks.now.exits.items behind.now) (length graph.now.code.edges) after.items) }
+    requires charges { AreSmallCharges graph.now charges.now }
+    ensures { IfOk result (λ after. AreAfterTo graph.now (least_by graph.now walks.now.returns.items walks.now.exits.items behind.now) (charge_by charges.now.entries.items charges.now.found.items) (length graph.now.code.edges) after.items) }
 {
     let mut after = Vec::new(alloc);
     for e in 0..graph.edge_count() {
-        after.push(end_over(graph, walks, behind, e))?;
+        let end = end_over(graph, walks, behind, e);
+        after.push(charged(end, charges.over(e)))?;
     }
     Ok(after)
 }

@@ -45,7 +45,7 @@ fn called(
 }
 
 /// A number of at most 2^48, and 0 where there is none.
-fn small(number: Option<u128>) -> u64
+pub(crate) fn small(number: Option<u128>) -> u64
     requires { (x : ℕ) → number ≡ Some x → x ≤ 2 ^ 48 }
     ensures { result ≡ unwrap_or number 0 }
 {

@@ -1,4 +1,7 @@
-ghost use Rattle.std.specs.Prelude.{◌≡◌, ℕ, Bool, length};
+ghost use Rattle.std.specs.Prelude.{◌≡◌, ℕ, Bool, ◌<◌, Some, length, IfOk};
+ghost use Rattle.call_orders.specs.Arcs.{number_at};
+ghost use Rattle.cost_theory.specs.Accepted.{AreWeights};
+ghost use Rattle.code_graph.specs.FlowGraph.{graph as graph_seen};
 ghost use Rattle.loop_tree.specs.Tree.{IsLoopTree};
 
 use super::*;
@@ -28,6 +31,11 @@ const RETURN: u32 = 0x0000_8067;
 /// A branch back by one word.
 const BACK_1: u32 = 0xFE00_0EE3;
 
+/// A branch back by two words, and by three.
+const BACK_2: u32 = 0xFE00_0CE3;
+
+const BACK_3: u32 = 0xFE00_0AE3;
+
 /// A file whose text is some words, at most 63.
 fn file_of(alloc: Global, words: &[u32]) -> Result<Vec<u8>, NoMemory> {
     let len = u32::try_from(4 * (words.len() % 64)).unwrap_or(0);
@@ -41,16 +49,42 @@ fn file_of(alloc: Global, words: &[u32]) -> Result<Vec<u8>, NoMemory> {
     Ok(file)
 }
 
-/// The least numbers under one weight of all edges: by node to a return and to an end, and by edge.
+/// Weights by edge, but 1 for the edges of calls.
+fn weights_of(alloc: Global, graph: &CodeGraph, list: &[u32]) -> Result<Weights, NoMemory>
+    ensures size { IfOk result (λ weights. length weights ≡ length graph.now.code.edges) }
+    ensures calls { IfOk result (λ weights. AreWeights (graph_seen graph.now) (number_at weights)) }
+{
+    let _count = graph.node_count();
+    let mut weights = Vec::new(alloc);
+    for e in 0..graph.edge_count() {
+        weights.push(weight_of(graph, list, e))?;
+    }
+    Ok(Weights::from_vec(weights))
+}
+
+/// The weight of edge `e`, which is 1 where the list has none and where it is that of a call.
+fn weight_of(graph: &CodeGraph, list: &[u32], e: usize) -> u32
+    requires { e < length graph.now.code.edges }
+    ensures { (f : ℕ) → (graph_seen graph.now).callee e ≡ Some f → result ≡ 1 }
+{
+    if graph.callee(e).is_some() || e >= list.len() {
+        1
+    } else {
+        list[e]
+    }
+}
+
+/// The least numbers under weights of the edges: by node to a return and to an end, and by edge.
 fn all_least(
     alloc: Global,
     graph: &CodeGraph,
     tree: &LoopTree,
+    list: &[u32],
 ) -> Result<[Vec<Option<u128>>; 3], Stop>
     requires tree { (extent : ℕ → ℕ → Bool) × IsLoopTree graph.now extent tree.now }
 {
     let _functions = graph.function_count();
-    let weights = Weights::from_vec(vec![in alloc; 1; graph.edge_count()]?);
+    let weights = weights_of(alloc, graph, list)?;
     let _worst = worst(alloc, graph, tree, &weights)?;
     let found = least(alloc, graph, tree, &weights)?;
     let mut returns = Vec::new(alloc);
@@ -66,13 +100,18 @@ fn all_least(
     Ok([returns, ends, after])
 }
 
-fn least_of(alloc: Global, words: &[u32], loops: &str) -> Result<[Vec<Option<u128>>; 3], Fail> {
+fn least_of(
+    alloc: Global,
+    words: &[u32],
+    loops: &str,
+    list: &[u32],
+) -> Result<[Vec<Option<u128>>; 3], Fail> {
     let file = file_of(alloc, words).ok().ok_or("there is memory")?;
     let view = read_image(alloc, &file).ok().ok_or("the file is an image")?;
     let graph = build_graph(alloc, &view)
         .ok()
         .ok_or("the code is accepted")?;
-    let text = format!(in alloc; "version = 1\nloop = [{loops}]\n")
+    let text = format!(in alloc; "version = 2\nloop = [{loops}]\n")
         .ok()
         .ok_or("there is memory")?;
     let notes = read_loops(alloc, text.as_bytes(), &view)
@@ -81,7 +120,7 @@ fn least_of(alloc: Global, words: &[u32], loops: &str) -> Result<[Vec<Option<u12
     let Ok(tree) = build_loops(alloc, &graph, &notes) else {
         return Err("the loops are accepted".into());
     };
-    let found = all_least(alloc, &graph, &tree);
+    let found = all_least(alloc, &graph, &tree, list);
     Ok(found.ok().ok_or("there are numbers")?)
 }
 
@@ -99,7 +138,7 @@ fn ends_of_a_function_are_behind_the_call_that_is_next_to_the_exit(
         NO_OPERATION,
         RETURN,
     ];
-    let [returns, ends, _] = least_of(rt.alloc(), &words, "")?;
+    let [returns, ends, _] = least_of(rt.alloc(), &words, "", &[])?;
     assert_eq!(rt;
         ends.as_slice(),
         [
@@ -124,7 +163,7 @@ fn ends_of_a_function_are_behind_the_call_that_is_next_to_the_exit(
 fn a_loop_may_be_left_at_once(rt: HostRuntime) -> Result<(), Fail> {
     let words = [NO_OPERATION, NO_OPERATION, BACK_1, EXIT, ECALL];
     let loops = "{header = 0x10004, ranges = [[0x10004, 0x1000c]], bound = 10}";
-    let [_, ends, after] = least_of(rt.alloc(), &words, loops)?;
+    let [_, ends, after] = least_of(rt.alloc(), &words, loops, &[])?;
     assert_eq!(rt;
         ends.as_slice(),
         [Some(5), Some(4), Some(3), Some(2), Some(1)].as_slice()
@@ -133,5 +172,120 @@ fn a_loop_may_be_left_at_once(rt: HostRuntime) -> Result<(), Fail> {
         after.as_slice(),
         [Some(4), Some(3), Some(4), Some(2), Some(1), None].as_slice()
     );
+    Ok(())
+}
+
+#[test]
+fn a_call_adds_what_its_function_takes(rt: HostRuntime) -> Result<(), Fail> {
+    // A division follows the calls, and the function multiplies and returns.
+    let words = [
+        0x0140_00EF,
+        0x0100_00EF,
+        0x0262_C2B3,
+        EXIT,
+        ECALL,
+        0x0262_82B3,
+        RETURN,
+    ];
+    let weights = [1, 1, 1, 1, 10, 1, 5, 3, 2];
+    let [_, ends, _] = least_of(rt.alloc(), &words, "", &weights)?;
+    assert_eq!(rt; ends[5], Some(21));
+    Ok(())
+}
+
+#[test]
+fn an_edge_into_a_loop_is_charged_its_turns(rt: HostRuntime) -> Result<(), Fail> {
+    let words = [0x00A0_0293, NO_OPERATION, BACK_1, EXIT, ECALL];
+    let loops = "{header = 0x10004, ranges = [[0x10004, 0x1000c]], bound = 10, at_least = 9}";
+    let weights = [1, 1, 2, 1, 1, 5];
+    let [_, ends, after] = least_of(rt.alloc(), &words, loops, &weights)?;
+    assert_eq!(rt;
+        ends.as_slice(),
+        [Some(36), Some(8), Some(7), Some(6), Some(5)].as_slice()
+    );
+    assert_eq!(rt;
+        after.as_slice(),
+        [Some(35), Some(7), Some(8), Some(6), Some(5), None].as_slice()
+    );
+    Ok(())
+}
+
+#[test]
+fn a_turn_is_charged_the_loop_within(rt: HostRuntime) -> Result<(), Fail> {
+    // The branches lead to the second and to the first word.
+    let words = [NO_OPERATION, NO_OPERATION, BACK_1, BACK_3, EXIT, ECALL];
+    let loops =
+        "{header = 0x10000, ranges = [[0x10000, 0x10010]], bound = 5, at_least = 3}, {header = 0x10004, ranges = [[0x10004, 0x1000c]], bound = 5, at_least = 2}";
+    let [_, ends, after] = least_of(rt.alloc(), &words, loops, &[])?;
+    assert_eq!(rt;
+        ends.as_slice(),
+        [Some(10), Some(5), Some(4), Some(3), Some(2), Some(1)].as_slice()
+    );
+    assert_eq!(rt;
+        after.as_slice(),
+        [
+            Some(9),
+            Some(4),
+            Some(5),
+            Some(3),
+            Some(10),
+            Some(2),
+            Some(1),
+            None
+        ]
+        .as_slice()
+    );
+    Ok(())
+}
+
+#[test]
+fn a_loop_within_a_loop_that_is_entered_is_charged_in_each_turn(
+    rt: HostRuntime,
+) -> Result<(), Fail> {
+    // As before, behind a word more.
+    let words = [
+        NO_OPERATION,
+        NO_OPERATION,
+        NO_OPERATION,
+        BACK_1,
+        BACK_3,
+        EXIT,
+        ECALL,
+    ];
+    let loops =
+        "{header = 0x10004, ranges = [[0x10004, 0x10014]], bound = 5, at_least = 3}, {header = 0x10008, ranges = [[0x10008, 0x10010]], bound = 5, at_least = 2}";
+    let [_, ends, _] = least_of(rt.alloc(), &words, loops, &[])?;
+    // One turn of the outer loop takes 4 cycles and 2 turns of the inner one, which take 2 cycles each.
+    assert_eq!(rt; ends[0], Some(1 + 3 * 8 + 10));
+    Ok(())
+}
+
+#[test]
+fn a_loop_in_which_a_run_may_exit_is_not_charged(rt: HostRuntime) -> Result<(), Fail> {
+    // The ECALL in the loop may exit.
+    let words = [NO_OPERATION, NO_OPERATION, ECALL, BACK_2, EXIT, ECALL];
+    let loops = "{header = 0x10004, ranges = [[0x10004, 0x10010]], bound = 10, at_least = 9}";
+    let [_, ends, after] = least_of(rt.alloc(), &words, loops, &[])?;
+    assert_eq!(rt; ends[0], Some(3));
+    assert_eq!(rt; after[0], Some(2));
+    Ok(())
+}
+
+#[test]
+fn a_loop_with_a_call_that_may_exit_is_not_charged(rt: HostRuntime) -> Result<(), Fail> {
+    // The loop calls a function in which the run may exit.
+    let words = [
+        NO_OPERATION,
+        0x0100_00EF,
+        BACK_1,
+        EXIT,
+        ECALL,
+        NO_OPERATION,
+        ECALL,
+        RETURN,
+    ];
+    let loops = "{header = 0x10004, ranges = [[0x10004, 0x1000c]], bound = 10, at_least = 9}";
+    let [_, ends, _] = least_of(rt.alloc(), &words, loops, &[])?;
+    assert_eq!(rt; ends[0], Some(4));
     Ok(())
 }

@@ -1,20 +1,23 @@
 //! The least costs of walks to a return and to an exit, function by function, callees first.
 
-ghost use Rattle.std.specs.Prelude.{◌≡◌, ◌⊎◌, ℕ, ◌+◌, ◌^◌, ◌<◌, ◌≤◌, length, IfOk, OnOk, slice_get, Some};
+ghost use Rattle.std.specs.Prelude.{◌≡◌, ◌≢◌, ℕ, Bool, ◌+◌, ◌^◌, ◌<◌, ◌≤◌, length, IfOk, OnOk};
 ghost use Rattle.call_orders.specs.Arcs.{number_at, AreDistinct};
-ghost use Rattle.code_graph.specs.FlowGraph.{graph as graph_seen, IsFlowGraph};
-ghost use Rattle.least_cycles.specs.Tables.{AreNodeChains, AreLimits, AreReturns, AreWritten, AreScratch, IsBefore, IsAnyFunction, HasWalks};
+ghost use Rattle.code_graph.specs.FlowGraph.{IsFlowGraph};
+ghost use Rattle.loop_tree.specs.Tree.{IsLoopTree};
+ghost use Rattle.least_laws.specs.Charged.{Charged};
+ghost use Rattle.least_cycles.specs.Tables.{AreWritten, IsBefore, IsAnyFunction};
+ghost use Rattle.least_cycles.specs.Charging.{IsCharging, HasCharging, HasWalks, AreMarks, AreCharges, AreChargedTo, ArePricedAt, loop_owner, IsPlan, IsScratch};
 
-use crate::buckets::{bucket_of, node_chains};
-use crate::function::least_in_function;
+use crate::buckets::bucket_of;
+use crate::charges::{Charges, entries_of};
+use crate::function::least_in;
+use crate::plan::Plan;
 use crate::prices::price_function;
+use crate::turns::{Marks, charge_of_loop};
 use code_graph::CodeGraph;
-use key_chains::Chains;
+use loop_tree::LoopTree;
 use scale_base::NoMemory;
 use std::alloc::Global;
-
-/// No edge costs more with the function that it calls.
-const MOST: u64 = 1 << 49;
 
 /// By node, the least costs of walks to a return and to an exit before that return.
 #[derive(Drop)]
@@ -23,13 +26,14 @@ pub struct Walks {
     pub exits: Vec<Option<u128>>,
 }
 
-/// What is used for one function after the other: the place of each node in its function, and by edge its cost and whether it is
-/// the last of a walk to an exit.
+/// What is used for one function after the other: the place of each node in its function, and by edge its cost without a charge and
+/// whether it is the last of a walk to an exit.
 #[derive(Drop)]
-struct Scratch {
-    places: Vec<usize>,
-    costs: Vec<u64>,
-    lasts: Vec<bool>,
+pub struct Scratch {
+    pub places: Vec<usize>,
+    pub costs: Vec<u64>,
+    pub lasts: Vec<bool>,
+    pub marks: Marks,
 }
 
 /// Writes the numbers of some nodes into a table by node.
@@ -44,92 +48,157 @@ fn write_back(bucket: &[usize], found: &[Option<u128>], table: &mut Vec<Option<u
     }
 }
 
-/// Flags of the edges that are returns.
-fn returns_of(alloc: Global, graph: &CodeGraph) -> Result<Vec<bool>, NoMemory>
-    ensures { IfOk result (λ flags. AreReturns graph.now (length graph.now.code.edges) flags.items) }
+/// Finds what the loops of function `f` are charged with, those within others first.
+fn charge_loops(
+    alloc: Global,
+    graph: &CodeGraph,
+    tree: &LoopTree,
+    plan: &Plan,
+    f: usize,
+    costs: &[u64],
+    lasts: &[bool],
+    marks: &mut Marks,
+    charges: &mut Charges,
+) -> Result<(), NoMemory>
+    requires flow { IsFlowGraph graph.now }
+    requires tree { (extent : ℕ → ℕ → Bool) × IsLoopTree graph.now extent tree.now }
+    requires plan { IsPlan graph.now tree.now plan.now }
+    requires function { f < length graph.now.code.functions }
+    requires costs { length costs.now ≡ length graph.now.code.edges }
+    requires lasts { length lasts.now ≡ length graph.now.code.edges }
+    requires low { (e : ℕ) → number_at costs.now e ≤ 2 ^ 49 }
+    requires marks { AreMarks graph.now marks.old }
+    requires charges { AreCharges graph.now tree.now charges.old }
+    requires known { (w : ℕ → ℕ) × (n : Charged) × IsCharging graph.now tree.now w n × ArePricedAt graph.now w n f costs.now lasts.now }
+    ensures charged { OnOk result ((w : ℕ → ℕ) (n : Charged) → IsCharging graph.now tree.now w n → ArePricedAt graph.now w n f costs.now lasts.now → AreChargedTo graph.now tree.now n (λ k. loop_owner graph.now tree.now k ≡ f) charges.new.found.items) }
+    ensures others { OnOk result ((k : ℕ) → k < length tree.now.headers → loop_owner graph.now tree.now k ≢ f → number_at charges.new.found.items k ≡ number_at charges.old.found.items k) }
+    ensures charges { OnOk result (AreCharges graph.now tree.now charges.new) }
+    ensures marks { OnOk result (AreMarks graph.now marks.new) }
 {
-    let mut flags = Vec::new(alloc);
-    for e in 0..graph.edge_count() {
-        flags.push(graph.is_return(e))?;
+    let _count = graph.node_count();
+    let order = tree.plain_order();
+    let mut next = plan.headers.last(f);
+    while let Some(i) = next {
+        let Some(l) = plan.heads[order[i]] else {
+            unreachable!()
+        };
+        let charge = charge_of_loop(alloc, graph, tree, l, costs, lasts, marks, charges)?;
+        charges.found[l] = charge;
+        next = plan.headers.before(i);
     }
-    Ok(flags)
+    Ok(())
 }
 
 /// Finds the least costs in the function at place `i` of the order of calls.
 fn solve_function(
     alloc: Global,
     graph: &CodeGraph,
-    chains: &Chains,
-    own: &[u64],
-    returning: &[bool],
+    tree: &LoopTree,
+    plan: &Plan,
     i: usize,
     scratch: &mut Scratch,
+    charges: &mut Charges,
     walks: &mut Walks,
 ) -> Result<(), NoMemory>
     requires flow { IsFlowGraph graph.now }
-    requires chains { AreNodeChains graph.now chains.now }
-    requires own { length own.now ≡ length graph.now.code.edges }
-    requires low { (d : ℕ) → number_at own.now d ≤ 2 ^ 48 }
-    requires returning { AreReturns graph.now (length graph.now.code.edges) returning.now }
+    requires tree { (extent : ℕ → ℕ → Bool) × IsLoopTree graph.now extent tree.now }
+    requires plan { IsPlan graph.now tree.now plan.now }
     requires place { i < length graph.now.order }
-    requires places { length scratch.old.places.items ≡ length graph.now.code.nodes }
-    requires scratch { AreScratch graph.now scratch.old.costs.items scratch.old.lasts.items }
-    requires walks { HasWalks graph.now (number_at own.now) (IsBefore graph.now i) walks.old.returns.items walks.old.exits.items }
-    ensures places { OnOk result (length scratch.new.places.items ≡ length graph.now.code.nodes) }
-    ensures scratch { OnOk result (AreScratch graph.now scratch.new.costs.items scratch.new.lasts.items) }
-    ensures walks { OnOk result (HasWalks graph.now (number_at own.now) (IsBefore graph.now (i + 1)) walks.new.returns.items walks.new.exits.items) }
+    requires charging { HasCharging graph.now tree.now (number_at plan.now.own.items) }
+    requires scratch { IsScratch graph.now scratch.old }
+    requires charges { AreCharges graph.now tree.now charges.old }
+    requires charged { (n : Charged) → IsCharging graph.now tree.now (number_at plan.now.own.items) n → AreChargedTo graph.now tree.now n (λ k. IsBefore graph.now i (loop_owner graph.now tree.now k)) charges.old.found.items }
+    requires walks { HasWalks graph.now tree.now (number_at plan.now.own.items) (IsBefore graph.now i) walks.old.returns.items walks.old.exits.items }
+    ensures scratch { OnOk result (IsScratch graph.now scratch.new) }
+    ensures charges { OnOk result (AreCharges graph.now tree.now charges.new) }
+    ensures charged { OnOk result ((n : Charged) → IsCharging graph.now tree.now (number_at plan.now.own.items) n → AreChargedTo graph.now tree.now n (λ k. IsBefore graph.now (i + 1) (loop_owner graph.now tree.now k)) charges.new.found.items) }
+    ensures walks { OnOk result (HasWalks graph.now tree.now (number_at plan.now.own.items) (IsBefore graph.now (i + 1)) walks.new.returns.items walks.new.exits.items) }
 {
     let f = graph.call_order()[i];
     let _count = graph.node_count();
-    let bucket = bucket_of(alloc, graph, chains, f, &mut scratch.places)?;
+    let bucket = bucket_of(alloc, graph, &plan.nodes, f, &mut scratch.places)?;
     price_function(
         graph,
-        own,
+        &plan.own,
         &walks.returns,
         &walks.exits,
         &bucket,
         &mut scratch.costs,
         &mut scratch.lasts,
     );
-    let returns = least_in_function(
+    charge_loops(
+        alloc,
+        graph,
+        tree,
+        plan,
+        f,
+        &scratch.costs,
+        &scratch.lasts,
+        &mut scratch.marks,
+        charges,
+    )?;
+    let returns = least_in(
         alloc,
         graph,
         &bucket,
         &scratch.places,
-        returning,
+        &plan.returning,
+        &plan.leading,
         &scratch.costs,
-        MOST,
+        charges,
     )?;
-    let exits = least_in_function(
+    let exits = least_in(
         alloc,
         graph,
         &bucket,
         &scratch.places,
         &scratch.lasts,
+        &plan.leading,
         &scratch.costs,
-        MOST,
+        charges,
     )?;
     write_back(&bucket, &returns, &mut walks.returns);
     write_back(&bucket, &exits, &mut walks.exits);
     Ok(())
 }
 
-/// The least costs of walks to a return and to an exit, under costs of the edges.
-pub fn walks_of(alloc: Global, graph: &CodeGraph, own: &[u64]) -> Result<Walks, NoMemory>
-    requires flow { IsFlowGraph graph.now }
-    requires own { length own.now ≡ length graph.now.code.edges }
-    requires low { (d : ℕ) → number_at own.now d ≤ 2 ^ 48 }
-    requires limits { (limit : ℕ → ℕ) × AreLimits (graph_seen graph.now) (number_at own.now) limit }
-    ensures { IfOk result (λ walks. HasWalks graph.now (number_at own.now) IsAnyFunction walks.returns.items walks.exits.items) }
+/// No numbers yet.
+fn empty_scratch(alloc: Global, graph: &CodeGraph) -> Result<Scratch, NoMemory>
+    ensures { IfOk result (λ scratch. IsScratch graph.now scratch) }
 {
-    let chains = node_chains(alloc, graph)?;
-    let returning = returns_of(alloc, graph)?;
     let nodes = graph.node_count();
     let edges = graph.edge_count();
-    let mut scratch = Scratch {
+    Ok(Scratch {
         places: vec![in alloc; 0; nodes]?,
         costs: vec![in alloc; 0; edges]?,
         lasts: vec![in alloc; false; edges]?,
+        marks: Marks {
+            spots: vec![in alloc; 0; nodes]?,
+            turns: vec![in alloc; false; edges]?,
+            stays: vec![in alloc; false; edges]?,
+        },
+    })
+}
+
+/// The least costs of walks to a return and to an exit, and what loops are charged with.
+pub fn walks_of(
+    alloc: Global,
+    graph: &CodeGraph,
+    tree: &LoopTree,
+    plan: &Plan,
+) -> Result<(Walks, Charges), NoMemory>
+    requires tree { (extent : ℕ → ℕ → Bool) × IsLoopTree graph.now extent tree.now }
+    requires plan { IsPlan graph.now tree.now plan.now }
+    requires charging { HasCharging graph.now tree.now (number_at plan.now.own.items) }
+    ensures walks { IfOk result (λ found. HasWalks graph.now tree.now (number_at plan.now.own.items) IsAnyFunction found.0.returns.items found.0.exits.items) }
+    ensures charges { IfOk result (λ found. AreCharges graph.now tree.now found.1) }
+    ensures charged { IfOk result (λ found. (n : Charged) → IsCharging graph.now tree.now (number_at plan.now.own.items) n → AreChargedTo graph.now tree.now n (λ k. IsAnyFunction k) found.1.found.items) }
+{
+    let nodes = graph.node_count();
+    let mut scratch = empty_scratch(alloc, graph)?;
+    let mut charges = Charges {
+        entries: entries_of(alloc, graph, tree, &plan.heads)?,
+        found: vec![in alloc; 0; tree.loop_count()]?,
     };
     let mut walks = Walks {
         returns: vec![in alloc; None; nodes]?,
@@ -139,13 +208,13 @@ pub fn walks_of(alloc: Global, graph: &CodeGraph, own: &[u64]) -> Result<Walks, 
         solve_function(
             alloc,
             graph,
-            &chains,
-            own,
-            &returning,
+            tree,
+            plan,
             i,
             &mut scratch,
+            &mut charges,
             &mut walks,
         )?;
     }
-    Ok(walks)
+    Ok((walks, charges))
 }

@@ -1,11 +1,14 @@
-use Rattle.std.proofs.Common.{◌≡◌, length}
+use Rattle.std.proofs.Common.{ℕ}
 use Rattle.call_orders.specs.Arcs.{number_at}
-use Rattle.least_cycles.specs.Tables.{AreScratch, IsBefore, HasWalks}
+use Rattle.least_laws.specs.Charged.{Charged}
+use Rattle.least_cycles.specs.Tables.{IsBefore}
+use Rattle.least_cycles.specs.Charging.{IsCharging, HasWalks, AreCharges, AreChargedTo, loop_owner, IsScratch}
 use Rattle.least_cycles.proofs.walks.walks_of.Given as goal
 
 abbrev pub invariant-loop-i : goal.invariant-loop-i
 invariant-loop-i l = record {
-  places : length l.scratch.places.items ≡ length l.graph.code.nodes;
-  scratch : AreScratch l.graph l.scratch.costs.items l.scratch.lasts.items;
-  walks : HasWalks l.graph (number_at l.own) (IsBefore l.graph l.i) l.walks.returns.items l.walks.exits.items;
+  scratch : IsScratch l.graph l.scratch;
+  charges : AreCharges l.graph l.tree l.charges;
+  charged : (n : Charged) → IsCharging l.graph l.tree (number_at l.plan.own.items) n → AreChargedTo l.graph l.tree n (λ k. IsBefore l.graph l.i (loop_owner l.graph l.tree k)) l.charges.found.items;
+  walks : HasWalks l.graph l.tree (number_at l.plan.own.items) (IsBefore l.graph l.i) l.walks.returns.items l.walks.exits.items;
 }

@@ -1,0 +1,406 @@
+-- The bodies of loops by the numbers of nodes, the edges of a turn, and the edges that enter loops.
+use Rattle.std.proofs.Common.{◌≡◌, ◌≢◌, ℕ, zero, suc, ◌+◌, ◌-◌, ◌<◌, ◌≤◌, ◌⊎◌, ◌↔◌, inl, inr, Bool, true, false, not, ◌&&◌, nat_eq, List, [], ◌∷◌, ◌++◌, map, length, length-append, slice_get, slice_set, slice_index_or, option_map, Option, Some, None, refl, sym, ap, ◌∙◌, subst, arith, ⊎_elim, get_or-set_other, get_or-set_same, length-set}
+use Rattle.std.proofs.lemmas.Bool.{cases_lt, eqb-true, eq-eqb, ne_eqb}
+use Rattle.std.proofs.lemmas.List.{length-map}
+use Rattle.std.proofs.lemmas.Option.{slice_get-get_or, slice_get_within, get_or_from_slice_get, slice_get-map, same_Some, none-some}
+use Rattle.call_orders.specs.Arcs.{number_at, AreDistinct}
+use Rattle.cost_theory.specs.Graph.{Graph, Loops, is_round, is_header, is_back}
+use Rattle.cost_theory.specs.LeastTurns.{turn_step, turn_last}
+use Rattle.cost_theory.specs.Lists.{or_true, is_among, body_of}
+use Rattle.cost_theory.proofs.Append.{leads_to_header}
+use Rattle.cost_theory.proofs.Nesting.{headers-distinct, accepted_entered}
+use Rattle.code_graph.specs.FlowGraph.{FlowGraph, graph, IsFlowGraph}
+use Rattle.code_graph.proofs.FewWords.{few_once}
+use Rattle.natural_loops.specs.Noted.{node_address}
+use Rattle.natural_loops.specs.Found.{IsAscending}
+use Rattle.natural_loops.proofs.NodeLaws.{one_number, source_number}
+use Rattle.loop_tree.specs.Tree.{LoopView, loops, IsLoopTree}
+use Rattle.key_chains.specs.Keys.{HasKey, AreKeys, option_at}
+use Rattle.least_cycles.specs.Functions.{AreNodes, ArePlacesIn, is_marked, IsMarked, IsFromFirst}
+use Rattle.least_cycles.specs.Charging.{AreHeads, IsInto, IsEntered, IsBodyOf, AreTurnKinds, header_key, AreHeaderKeys}
+use Rattle.least_cycles.proofs.PriceLaws.{owner_below}
+
+same_or : (a b : ℕ) → (a ≡ b) ⊎ (a ≢ b)
+same_or a b = grind arith
+
+-- ---- elements
+
+or_any : (b c : Bool) → c ≡ true → or_true b c ≡ true
+or_any true c e = refl
+or_any false c e = e
+
+among_at : (xs : List ℕ) (i x : ℕ) → slice_get xs i ≡ Some x → is_among x xs ≡ true
+among_at [] i x e = let bad : ⊥ = cc in absurd bad
+among_at (u ∷ us) zero x e = let same : u ≡ x = same_Some u x e in ap (λ b. or_true b (is_among x us)) (eq-eqb u x same)
+among_at (u ∷ us) (suc i) x e = or_any (nat_eq u x) (is_among x us) (among_at us i x e)
+
+at_among : (x : ℕ) (xs : List ℕ) → is_among x xs ≡ true → (i : ℕ) × (slice_get xs i ≡ Some x)
+at_among x [] e = let bad : ⊥ = cc in absurd bad
+at_among x (u ∷ us) e = go (nat_eq u x) refl (at_among x us)
+  where
+    go : (b : Bool) → nat_eq u x ≡ b → (is_among x us ≡ true → (i : ℕ) × (slice_get us i ≡ Some x)) → (i : ℕ) × (slice_get (u ∷ us) i ≡ Some x)
+    go true here more = (zero, ap Some (eqb-true u x here))
+    go false here more = let rest = more (subst (λ b. or_true b (is_among x us) ≡ true) here e) in (suc rest.0, rest.1)
+
+body_map : (f : ℕ → ℕ) (bodies : List (List ℕ)) (k : ℕ) → body_of (map (λ body. map f body) bodies) k ≡ map f (body_of bodies k)
+body_map f [] k = refl
+body_map f (b ∷ bs) zero = refl
+body_map f (b ∷ bs) (suc k) = body_map f bs k
+
+pub inside_at : (v : FlowGraph) (t : LoopView) (k i : ℕ) → i < length (body_of t.bodies k) → (loops v t).inside k (node_address v (number_at (body_of t.bodies k) i)) ≡ true
+inside_at v t k i lt =
+    let at : slice_get (map (node_address v) (body_of t.bodies k)) i ≡ Some (node_address v (number_at (body_of t.bodies k) i)) =
+    slice_get-map (node_address v) (body_of t.bodies k) i ∙ ap (option_map (node_address v)) (slice_get-get_or (body_of t.bodies k) i 0 lt) in
+    subst (λ (xs : List ℕ). is_among (node_address v (number_at (body_of t.bodies k) i)) xs ≡ true) (sym (body_map (node_address v) t.bodies k)) (among_at (map (node_address v) (body_of t.bodies k)) i _ at)
+
+pub number_inside : (v : FlowGraph) (t : LoopView) (k at : ℕ) → (loops v t).inside k at ≡ true → (i : ℕ) × (i < length (body_of t.bodies k)) × (at ≡ node_address v (number_at (body_of t.bodies k) i))
+number_inside v t k at in_k =
+    let among : is_among at (map (node_address v) (body_of t.bodies k)) ≡ true = subst (λ (xs : List ℕ). is_among at xs ≡ true) (body_map (node_address v) t.bodies k) in_k in
+    let i = at_among at (map (node_address v) (body_of t.bodies k)) among in
+    let within : i.0 < length (map (node_address v) (body_of t.bodies k)) = slice_get_within (map (node_address v) (body_of t.bodies k)) i.0 at i.1 in
+    let size : length (map (node_address v) (body_of t.bodies k)) ≡ length (body_of t.bodies k) = length-map (body_of t.bodies k) (node_address v) in
+    let low : i.0 < length (body_of t.bodies k) = omega arith in
+    let here : slice_get (map (node_address v) (body_of t.bodies k)) i.0 ≡ Some (node_address v (number_at (body_of t.bodies k) i.0)) =
+    slice_get-map (node_address v) (body_of t.bodies k) i.0 ∙ ap (option_map (node_address v)) (slice_get-get_or (body_of t.bodies k) i.0 0 low) in
+    (i.0, low, same_Some at _ (sym i.1 ∙ here))
+
+-- ---- nodes and headers
+
+node_here : (v : FlowGraph) (k : ℕ) → k < length v.code.nodes → slice_get v.code.nodes k ≡ Some (node_address v k)
+node_here v k lt = slice_get-get_or v.code.nodes k 0 lt
+
+pub same_node : (v : FlowGraph) → IsFlowGraph v → (i j : ℕ) → i < length v.code.nodes → j < length v.code.nodes → node_address v i ≡ node_address v j → i ≡ j
+same_node v flow i j il jl same = one_number v flow i j (node_address v j) (node_here v i il ∙ ap Some same) (node_here v j jl)
+
+pub loop_count : (v : FlowGraph) (t : LoopView) → (loops v t).loops ≡ length t.headers
+loop_count v t = length-map t.headers (node_address v)
+
+pub loop_below : (v : FlowGraph) (t : LoopView) (k : ℕ) → k < length t.headers → k < (loops v t).loops
+loop_below v t k lt = let count = loop_count v t in omega arith
+
+pub header_number : (v : FlowGraph) (t : LoopView) (extent : ℕ → ℕ → Bool) → IsLoopTree v extent t → (k : ℕ) → k < length t.headers → number_at t.headers k < length v.code.nodes
+header_number v t extent is k lt = is.header k (number_at t.headers k) (slice_get-get_or t.headers k 0 lt)
+
+pub header_address : (v : FlowGraph) (t : LoopView) (k : ℕ) → k < length t.headers → (loops v t).header k ≡ node_address v (number_at t.headers k)
+header_address v t k lt = get_or_from_slice_get (map (node_address v) t.headers) k _ 0 (slice_get-map (node_address v) t.headers k ∙ ap (option_map (node_address v)) (slice_get-get_or t.headers k 0 lt))
+
+-- the loop whose header a node is, by address
+pub header_is : (v : FlowGraph) (t : LoopView) (extent : ℕ → ℕ → Bool) (k l : ℕ) → IsFlowGraph v → IsLoopTree v extent t → k < length v.code.nodes → l < length t.headers → (loops v t).header l ≡ node_address v k → slice_get t.headers l ≡ Some k
+header_is v t extent k l flow tree kl ll at =
+    slice_get-get_or t.headers l 0 ll ∙ ap Some (same_node v flow (number_at t.headers l) k (header_number v t extent tree l ll) kl (sym (header_address v t l ll) ∙ at))
+
+pub address_of_header : (v : FlowGraph) (t : LoopView) (k l : ℕ) → slice_get t.headers l ≡ Some k → (loops v t).header l ≡ node_address v k
+address_of_header v t k l at =
+    let ll = slice_get_within t.headers l k at in
+    header_address v t l ll ∙ ap (node_address v) (get_or_from_slice_get t.headers l k 0 at)
+
+pub one_header : (v : FlowGraph) (t : LoopView) (extent : ℕ → ℕ → Bool) (j l : ℕ) → IsFlowGraph v → IsLoopTree v extent t → j < length t.headers → l < length t.headers → (loops v t).header j ≡ (loops v t).header l → j ≡ l
+one_header v t extent j l flow tree jl ll same = headers-distinct (graph v) (loops v t) extent flow.program (accepted_entered tree.accepted) j l (loop_below v t j jl) (loop_below v t l ll) same
+
+pub value_here : (xs : List (Option ℕ)) (i : ℕ) (x : Option ℕ) → i < length xs → x ≡ slice_index_or xs i x → option_at xs i ≡ x
+value_here xs i x lt is = get_or_from_slice_get xs i x None (slice_get-get_or xs i x lt ∙ ap Some (sym is))
+
+-- ---- edges that enter loops
+
+pub nothing_entered : (v : FlowGraph) (t : LoopView) (e : ℕ) → (graph v).target e ≡ None → IsEntered v t e None
+nothing_entered v t e none = record {
+  some = λ l at. absurd (none-some l at);
+  none = λ l at into. absurd (none-some ((loops v t).header l) (sym none ∙ into.1));
+}
+
+pub no_head_entered : (v : FlowGraph) (t : LoopView) (extent : ℕ → ℕ → Bool) (heads : List (Option ℕ)) (e k : ℕ) → IsFlowGraph v → IsLoopTree v extent t → AreHeads t heads → k < length v.code.nodes → (graph v).target e ≡ Some (node_address v k) → option_at heads k ≡ None → IsEntered v t e None
+no_head_entered v t extent heads e k flow tree are kl to none = record {
+  some = λ l at. absurd (none-some l at);
+  none = λ l at into. are.none k l none (header_is v t extent k l flow tree kl into.0 (same_Some ((loops v t).header l) (node_address v k) (sym into.1 ∙ to)));
+}
+
+pub back_entered : (v : FlowGraph) (t : LoopView) (extent : ℕ → ℕ → Bool) (e j : ℕ) → IsFlowGraph v → IsLoopTree v extent t → slice_get t.backs e ≡ Some (Some j) → IsEntered v t e None
+back_entered v t extent e j flow tree back = record {
+  some = λ m at. absurd (none-some m at);
+  none = λ m at into.
+      let is = (tree.backs e j).0 back in
+      let to : (graph v).target e ≡ Some ((loops v t).header j) = leads_to_header (graph v) (loops v t) e j is.2 in
+      let same : m ≡ j = one_header v t extent m j flow tree into.0 is.1 (same_Some ((loops v t).header m) ((loops v t).header j) (sym into.1 ∙ to)) in
+      let yes_back : is_back (graph v) (loops v t) j e ≡ true = is.2 in
+      let no_back : is_back (graph v) (loops v t) j e ≡ false = ap (λ i. is_back (graph v) (loops v t) i e) (sym same) ∙ into.2 in
+      let bad : ⊥ = cc in bad;
+}
+
+pub head_entered : (v : FlowGraph) (t : LoopView) (extent : ℕ → ℕ → Bool) (heads : List (Option ℕ)) (e k l : ℕ) → IsFlowGraph v → IsLoopTree v extent t → AreHeads t heads → k < length v.code.nodes → e < length v.code.edges → (graph v).target e ≡ Some (node_address v k) → option_at heads k ≡ Some l → (slice_get t.backs e ≡ Some (Some l) → ⊥) → IsEntered v t e (Some l)
+head_entered v t extent heads e k l flow tree are kl el to head not_back = record {
+  some = λ j at.
+      let here = are.some k l head in
+      let ll = slice_get_within t.headers l k here in
+      subst (λ i. IsInto v t e i) (same_Some l j at) (ll, to ∙ ap Some (sym (address_of_header v t k l here)), outside ll (is_back (graph v) (loops v t) l e) refl);
+  none = λ j at into. absurd (none-some l (sym at));
+}
+  where
+    outside : l < length t.headers → (b : Bool) → is_back (graph v) (loops v t) l e ≡ b → is_back (graph v) (loops v t) l e ≡ false
+    outside ll false is = is
+    outside ll true is = absurd (not_back ((tree.backs e l).1 (el, ll, is)))
+
+-- ---- places of headers by functions
+
+pub header_keys_more : (v : FlowGraph) (order : List ℕ) (heads : List (Option ℕ)) (i : ℕ) (keys : List (Option ℕ)) (o : Option ℕ) → AreHeaderKeys v order heads i keys → o ≡ header_key (option_at heads (number_at order i)) ((graph v).owner (node_address v (number_at order i))) → AreHeaderKeys v order heads (i + 1) (keys ++ o ∷ [])
+header_keys_more v order heads i keys o are is = record {
+  size = let s = are.size in let a : length (keys ++ o ∷ []) ≡ length keys + 1 = length-append keys (o ∷ []) in omega arith;
+  each = λ d dl. ⊎_elim
+      (λ (low : d < i). before_push keys o d (let s = are.size in omega arith) ∙ are.each d low)
+      (λ (high : i ≤ d).
+      let s = are.size in
+      let last : d ≡ length keys = omega arith in
+      let same : d ≡ i = omega arith in
+      ap (option_at (keys ++ o ∷ [])) last ∙ at_push keys o ∙ is ∙ ap (λ x. header_key (option_at heads (number_at order x)) ((graph v).owner (node_address v (number_at order x)))) (sym same))
+      (cases_lt d i);
+}
+  where
+    before_push : (xs : List (Option ℕ)) (x : Option ℕ) (i : ℕ) → i < length xs → option_at (xs ++ x ∷ []) i ≡ option_at xs i
+    before_push [] x i lt = let bad : ⊥ = omega arith in absurd bad
+    before_push (y ∷ ys) x zero lt = refl
+    before_push (y ∷ ys) x (suc i) lt = before_push ys x i (omega arith)
+
+    at_push : (xs : List (Option ℕ)) (x : Option ℕ) → option_at (xs ++ x ∷ []) (length xs) ≡ x
+    at_push [] x = refl
+    at_push (y ∷ ys) x = at_push ys x
+
+some_within : (xs : List (Option ℕ)) (i k : ℕ) → option_at xs i ≡ Some k → i < length xs
+some_within [] i k at = let bad : ⊥ = cc in absurd bad
+some_within (x ∷ xs) zero k at = omega arith
+some_within (x ∷ xs) (suc i) k at = let r = some_within xs i k at in omega arith
+
+-- what a key says
+pub key_is : (v : FlowGraph) (order : List ℕ) (heads keys : List (Option ℕ)) (i f : ℕ) → AreHeaderKeys v order heads (length order) keys → HasKey keys i f →
+    (l : ℕ) × (i < length order) × (option_at heads (number_at order i) ≡ Some l) × ((graph v).owner (node_address v (number_at order i)) ≡ f)
+key_is v order heads keys i f are has =
+    let size = are.size in
+    let il : i < length keys = some_within keys i f has in
+    let ol : i < length order = omega arith in
+    go ol (option_at heads (number_at order i)) refl (sym (are.each i ol) ∙ has)
+  where
+    go : i < length order → (o : Option ℕ) → option_at heads (number_at order i) ≡ o → header_key (option_at heads (number_at order i)) ((graph v).owner (node_address v (number_at order i))) ≡ Some f →
+        (l : ℕ) × (i < length order) × (option_at heads (number_at order i) ≡ Some l) × ((graph v).owner (node_address v (number_at order i)) ≡ f)
+    go ol None at key = absurd (none-some f (sym (ap (λ (o : Option ℕ). header_key o ((graph v).owner (node_address v (number_at order i)))) at) ∙ key))
+    go ol (Some l) at key = (l, ol, at, same_Some ((graph v).owner (node_address v (number_at order i))) f (sym (ap (λ (o : Option ℕ). header_key o ((graph v).owner (node_address v (number_at order i)))) at) ∙ key))
+
+pub key_of : (v : FlowGraph) (order : List ℕ) (heads keys : List (Option ℕ)) (i l f : ℕ) → AreHeaderKeys v order heads (length order) keys → i < length order → option_at heads (number_at order i) ≡ Some l → (graph v).owner (node_address v (number_at order i)) ≡ f → HasKey keys i f
+key_of v order heads keys i l f are il head own = are.each i il ∙ ap (λ (o : Option ℕ). header_key o ((graph v).owner (node_address v (number_at order i)))) head ∙ ap Some own
+
+pub header_keys_below : (v : FlowGraph) (t : LoopView) (extent : ℕ → ℕ → Bool) (heads keys : List (Option ℕ)) → IsFlowGraph v → IsLoopTree v extent t → AreHeaderKeys v t.order heads (length t.order) keys → AreKeys keys (length v.code.functions)
+header_keys_below v t extent heads keys flow tree are s k has =
+    let is = key_is v t.order heads keys s k are has in
+    subst (λ f. f < length v.code.functions) is.3 (owner_below v (number_at t.order s) flow (tree.order.within s (number_at t.order s) (slice_get-get_or t.order s 0 is.1)))
+
+-- ---- edges of a turn
+
+pub same_bool : (a b : Bool) → (a ≡ true → b ≡ true) → (b ≡ true → a ≡ true) → a ≡ b
+same_bool true b to back = sym (to refl)
+same_bool false true to back = back refl
+same_bool false false to back = refl
+
+module _ (v : FlowGraph) (t : LoopView) (extent : ℕ → ℕ → Bool) (l e : ℕ) (flow : IsFlowGraph v) (tree : IsLoopTree v extent t) (ll : l < length t.headers) (from : (loops v t).inside l ((graph v).source e) ≡ true) where
+  last_is : (o : Option ℕ) → (graph v).target e ≡ o → turn_last (graph v) (loops v t) l e ≡ is_header (loops v t) l o
+  last_is o to = ap (λ b. b && is_header (loops v t) l ((graph v).target e)) from ∙ ap (λ p. is_header (loops v t) l p) to
+
+  step_is : (o : Option ℕ) → (graph v).target e ≡ o → turn_step (graph v) (loops v t) l e ≡ (is_round (loops v t) l o && not (is_header (loops v t) l o))
+  step_is o to = ap (λ b. b && (is_round (loops v t) l ((graph v).target e) && not (is_header (loops v t) l ((graph v).target e)))) from ∙ ap (λ p. is_round (loops v t) l p && not (is_header (loops v t) l p)) to
+
+  pub no_turn : (graph v).target e ≡ None → false ≡ turn_last (graph v) (loops v t) l e
+  no_turn to = sym (last_is None to)
+
+  pub no_stay : (graph v).target e ≡ None → false ≡ turn_step (graph v) (loops v t) l e
+  no_stay to = sym (step_is None to)
+
+  module _ (k : ℕ) (kl : k < length v.code.nodes) (to : (graph v).target e ≡ Some (node_address v k)) where
+    at_header : k ≡ number_at t.headers l → nat_eq (node_address v k) ((loops v t).header l) ≡ true
+    at_header same = eq-eqb (node_address v k) ((loops v t).header l) (ap (node_address v) same ∙ sym (header_address v t l ll))
+
+    off_header : k ≢ number_at t.headers l → nat_eq (node_address v k) ((loops v t).header l) ≡ false
+    off_header other = ne_eqb (node_address v k) ((loops v t).header l) (λ same. other (same_node v flow k (number_at t.headers l) kl (header_number v t extent tree l ll) (same ∙ header_address v t l ll)))
+
+    pub turn_at : k ≡ number_at t.headers l → true ≡ turn_last (graph v) (loops v t) l e
+    turn_at same = sym (last_is (Some (node_address v k)) to ∙ at_header same)
+
+    pub stay_at : k ≡ number_at t.headers l → false ≡ turn_step (graph v) (loops v t) l e
+    stay_at same = sym (step_is (Some (node_address v k)) to ∙ ap (λ b. (loops v t).inside l (node_address v k) && not b) (at_header same) ∙ never ((loops v t).inside l (node_address v k)))
+      where
+        never : (b : Bool) → (b && false) ≡ false
+        never true = refl
+        never false = refl
+
+    pub turn_off : k ≢ number_at t.headers l → false ≡ turn_last (graph v) (loops v t) l e
+    turn_off other = sym (last_is (Some (node_address v k)) to ∙ off_header other)
+
+    pub stay_off : (nodes : List ℕ) (b : Bool) → IsBodyOf v t l nodes → k ≢ number_at t.headers l → ((b ≡ true) ↔ ((i : ℕ) × (i < length nodes) × (number_at nodes i ≡ k))) → b ≡ turn_step (graph v) (loops v t) l e
+    stay_off nodes b is other means =
+        sym (step_is (Some (node_address v k)) to ∙ ap (λ c. (loops v t).inside l (node_address v k) && not c) (off_header other) ∙ with_true ((loops v t).inside l (node_address v k)) ∙ inside)
+      where
+        with_true : (c : Bool) → (c && true) ≡ c
+        with_true true = refl
+        with_true false = refl
+
+        inside : (loops v t).inside l (node_address v k) ≡ b
+        inside = same_bool ((loops v t).inside l (node_address v k)) b (λ in_l. means.1 (is.whole k kl in_l))
+            (λ yes_in. let i = means.0 yes_in in subst (λ x. (loops v t).inside l (node_address v x) ≡ true) i.2 (is.inside i.0 i.1))
+
+-- ---- marks
+
+pub kinds_more : (v : FlowGraph) (t : LoopView) (l e : ℕ) (Set Next : ℕ → Type 0) (turns stays : List Bool) (turn stay : Bool) → AreTurnKinds v t l Set turns stays → e < length v.code.edges → turn ≡ turn_last (graph v) (loops v t) l e → stay ≡ turn_step (graph v) (loops v t) l e →
+    ((d : ℕ) → d < length v.code.edges → Next d → Set d ⊎ (d ≡ e)) → AreTurnKinds v t l Next (slice_set turns e turn) (slice_set stays e stay)
+kinds_more v t l e Set Next turns stays turn stay are el is_turn is_stay next = record {
+  turns_size = length-set turns e turn ∙ are.turns_size;
+  stays_size = length-set stays e stay ∙ are.stays_size;
+  turn = λ d dl done. ⊎_elim
+      (λ (same : d ≡ e). subst (λ x. is_marked (slice_set turns e turn) x ≡ turn_last (graph v) (loops v t) l x) (sym same) (get_or-set_same turns e turn false (let s = are.turns_size in omega arith) ∙ is_turn))
+      (λ (other : d ≢ e). get_or-set_other turns e d turn false other ∙ are.turn d dl (old d dl other done))
+      (same_or d e);
+  stay = λ d dl done. ⊎_elim
+      (λ (same : d ≡ e). subst (λ x. is_marked (slice_set stays e stay) x ≡ turn_step (graph v) (loops v t) l x) (sym same) (get_or-set_same stays e stay false (let s = are.stays_size in omega arith) ∙ is_stay))
+      (λ (other : d ≢ e). get_or-set_other stays e d stay false other ∙ are.stay d dl (old d dl other done))
+      (same_or d e);
+}
+  where
+    old : (d : ℕ) → d < length v.code.edges → d ≢ e → Next d → Set d
+    old d dl other done = ⊎_elim (λ (s : Set d). s) (λ (same : d ≡ e). absurd (other same)) (next d dl done)
+
+pub kinds_for : (v : FlowGraph) (t : LoopView) (l : ℕ) (Set Next : ℕ → Type 0) (turns stays : List Bool) → AreTurnKinds v t l Set turns stays → ((d : ℕ) → d < length v.code.edges → Next d → Set d) → AreTurnKinds v t l Next turns stays
+kinds_for v t l Set Next turns stays are less = record {
+  turns_size = are.turns_size;
+  stays_size = are.stays_size;
+  turn = λ d dl done. are.turn d dl (less d dl done);
+  stay = λ d dl done. are.stay d dl (less d dl done);
+}
+
+pub kinds_first : (v : FlowGraph) (t : LoopView) (l : ℕ) (nodes : List ℕ) (turns stays : List Bool) → length turns ≡ length v.code.edges → length stays ≡ length v.code.edges → AreTurnKinds v t l (IsFromFirst v nodes 0) turns stays
+kinds_first v t l nodes turns stays one two = record {
+  turns_size = one;
+  stays_size = two;
+  turn = λ d dl done. let lt : done.0 < 0 = done.1 in let bad : ⊥ = omega arith in absurd bad;
+  stay = λ d dl done. let lt : done.0 < 0 = done.1 in let bad : ⊥ = omega arith in absurd bad;
+}
+
+-- ---- a body, the last first
+
+-- the numbers of a list from place i on, the last first, and the place of each
+pub record IsReversedTo (body : List ℕ) (i : ℕ) (nodes spots : List ℕ) (count : ℕ) : Type 0 where
+  pub size : length nodes + i ≡ length body
+  pub each : (j m : ℕ) → j < length nodes → j + m + 1 ≡ length body → number_at nodes j ≡ number_at body m
+  pub spot : (j : ℕ) → j < length nodes → number_at spots (number_at nodes j) ≡ j
+  pub spots_size : length spots ≡ count
+
+pub reversed_first : (body spots : List ℕ) (count : ℕ) → length spots ≡ count → IsReversedTo body (length body) [] spots count
+reversed_first body spots count size = record {
+  size = omega arith;
+  each = λ j m jl sum. let bad : ⊥ = omega arith in absurd bad;
+  spot = λ j jl. let bad : ⊥ = omega arith in absurd bad;
+  spots_size = size;
+}
+
+pub reversed_more : (body : List ℕ) (i n : ℕ) (nodes spots : List ℕ) (count : ℕ) → IsAscending count body → n ≡ length nodes → IsReversedTo body (i + 1) nodes spots count → IsReversedTo body i (nodes ++ number_at body i ∷ []) (slice_set spots (number_at body i) n) count
+reversed_more body i n nodes spots count ascends is_n is = record {
+  size = let s = size in let old = is.size in omega arith;
+  each = λ j m jl sum. ⊎_elim
+      (λ (low : j < length nodes). before_push nodes x j low ∙ is.each j m low sum)
+      (λ (high : length nodes ≤ j).
+      let s = size in let old = is.size in
+      let here : j ≡ length nodes = omega arith in
+      let place : i ≡ m = omega arith in
+      ap (number_at (nodes ++ x ∷ [])) here ∙ at_push nodes x ∙ ap (number_at body) place)
+      (cases_lt j (length nodes));
+  spot = λ j jl. ⊎_elim
+      (λ (low : j < length nodes).
+      ap (number_at (slice_set spots x n)) (before_push nodes x j low) ∙ get_or-set_other spots x (number_at nodes j) n 0 (other j low) ∙ is.spot j low)
+      (λ (high : length nodes ≤ j).
+      let s = size in
+      let here : j ≡ length nodes = omega arith in
+      ap (number_at (slice_set spots x n)) (ap (number_at (nodes ++ x ∷ [])) here ∙ at_push nodes x) ∙ get_or-set_same spots x n 0 (let c = is.spots_size in let w = within in omega arith) ∙ is_n ∙ sym here)
+      (cases_lt j (length nodes));
+  spots_size = length-set spots x n ∙ is.spots_size;
+}
+  where
+    x : ℕ
+    x = number_at body i
+
+    size : length (nodes ++ x ∷ []) ≡ length nodes + 1
+    size = length-append nodes (x ∷ [])
+
+    il : i < length body
+    il = let old = is.size in omega arith
+
+    within : x < count
+    within = ascends.within i x (slice_get-get_or body i 0 il)
+
+    before_push : (xs : List ℕ) (y j : ℕ) → j < length xs → number_at (xs ++ y ∷ []) j ≡ number_at xs j
+    before_push [] y j lt = let bad : ⊥ = omega arith in absurd bad
+    before_push (u ∷ us) y zero lt = refl
+    before_push (u ∷ us) y (suc j) lt = before_push us y j (omega arith)
+
+    at_push : (xs : List ℕ) (y : ℕ) → number_at (xs ++ y ∷ []) (length xs) ≡ y
+    at_push [] y = refl
+    at_push (u ∷ us) y = at_push us y
+
+    other : (j : ℕ) → j < length nodes → number_at nodes j ≢ x
+    other j low same =
+        let old = is.size in
+        let m = length body - (j + 1) in
+        let sum : j + m + 1 ≡ length body = omega arith in
+        let at : number_at nodes j ≡ number_at body m = is.each j m low sum in
+        let ml : m < length body = omega arith in
+        let rises : x < number_at body m = ascends.ascending i m x (number_at body m) (omega arith) (slice_get-get_or body i 0 il) (slice_get-get_or body m 0 ml) in
+        let bad : ⊥ = omega arith in bad
+
+module _ (v : FlowGraph) (t : LoopView) (extent : ℕ → ℕ → Bool) (l : ℕ) (nodes spots : List ℕ) (flow : IsFlowGraph v) (tree : IsLoopTree v extent t) (ll : l < length t.headers) (is : IsReversedTo (body_of t.bodies l) 0 nodes spots (length v.code.nodes)) where
+  abbrev body : List ℕ
+  body = body_of t.bodies l
+
+  ascends : IsAscending (length v.code.nodes) body
+  ascends = tree.body l ll
+
+  place : (j : ℕ) → j < length nodes → (m : ℕ) × (j + m + 1 ≡ length body) × (m < length body) × (number_at nodes j ≡ number_at body m)
+  place j jl =
+      let size = is.size in
+      let m = length body - (j + 1) in
+      let sum : j + m + 1 ≡ length body = omega arith in
+      (m, sum, omega arith, is.each j m jl sum)
+
+  pub body_is : IsBodyOf v t l nodes
+  body_is = record {
+    within = λ j jl. let p = place j jl in let w = ascends.within p.0 (number_at body p.0) (slice_get-get_or body p.0 0 p.2) in let same = p.3 in omega arith;
+    inside = λ j jl. let p = place j jl in subst (λ x. (loops v t).inside l (node_address v x) ≡ true) (sym p.3) (inside_at v t l p.0 p.2);
+    whole = λ k kl in_l.
+        let m = number_inside v t l (node_address v k) in_l in
+        let ml = m.1 in
+        let size = is.size in
+        let w = ascends.within m.0 (number_at body m.0) (slice_get-get_or body m.0 0 m.1) in
+        let same : k ≡ number_at body m.0 = same_node v flow k (number_at body m.0) kl w m.2 in
+        let j = length body - (m.0 + 1) in
+        let sum : j + m.0 + 1 ≡ length body = omega arith in
+        let jl : j < length nodes = omega arith in
+        (j, jl, is.each j m.0 jl sum ∙ sym same);
+    once = λ i j lt jl same.
+        let size = is.size in
+        let il : i < length nodes = omega arith in
+        let a = place i il in
+        let b = place j jl in
+        let sum_a = a.1 in let sum_b = b.1 in
+        let rises = ascends.ascending b.0 a.0 (number_at body b.0) (number_at body a.0) (omega arith) (slice_get-get_or body b.0 0 b.2) (slice_get-get_or body a.0 0 a.2) in
+        let at_a = a.3 in let at_b = b.3 in
+        let bad : ⊥ = omega arith in bad;
+  }
+
+  pub body_places : ArePlacesIn nodes spots
+  body_places = record { each = is.spot }
+
+  pub body_few : length v.code.nodes ≤ 131072 → length nodes ≤ 131072
+  body_few few =
+      let size = is.size in
+      let low : length body ≤ length v.code.nodes = few_once body (length v.code.nodes) one (λ i x at. ascends.within i x at) in
+      omega arith
+    where
+      one : (i j x : ℕ) → slice_get body i ≡ Some x → slice_get body j ≡ Some x → i ≡ j
+      one i j x p q = ⊎_elim
+          (λ (lt : i < j). let rises = ascends.ascending i j x x lt p q in let bad : ⊥ = omega arith in absurd bad)
+          (λ (ge : j ≤ i). ⊎_elim
+          (λ (lt : j < i). let rises = ascends.ascending j i x x lt q p in let bad : ⊥ = omega arith in absurd bad)
+          (λ (le : i ≤ j). let r : i ≡ j = omega arith in r)
+          (cases_lt j i))
+          (cases_lt i j)
