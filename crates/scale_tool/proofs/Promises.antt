@@ -9,12 +9,16 @@ use Rattle.std.proofs.lemmas.Map.Text.{is_eq-slice_cmp}
 use Rattle.scale_base.specs.declared.refusal.Refusal.{Refusal}
 use Rattle.scale_base.specs.declared.summary.Summary.{Summary}
 use Rattle.scaler.specs.Held.{IsHeld}
-use Rattle.scaler.proofs.Safe.{safe}
+use Rattle.scaler.specs.Rewritten.{IsRewritten}
+use Rattle.scaler.specs.Runs.{IsHeldSafely}
+use Rattle.scaler.specs.RewrittenRuns.{IsRewrittenSafely}
+use Rattle.scaler.proofs.Safe.{safe as held_safe}
+use Rattle.scaler.proofs.SafeRewritten.{safe as rewritten_safe}
 use Rattle.host_files.specs.HostState.{Files, HostState}
-use Rattle.scale_tool.specs.Answer.{Answer, Makes, AnswersTo, HasAnswer, held_answer}
-use Rattle.scale_tool.specs.Command.{Command, Help, Hold, Simulate, wants_of}
+use Rattle.scale_tool.specs.Answer.{Answer, Giving, Makes, MakesStored, AnswersTo, HasAnswer, stored_answer}
+use Rattle.scale_tool.specs.Command.{Command, Help, Hold, Rewrite, Simulate, wants_of}
 use Rattle.scale_tool.specs.Loading.{Loading, Missing, Long, Whole, loading_of, loading_one, and_then}
-use Rattle.scale_tool.specs.Promise.{HoldPromise, Promise, PromisedOf, PromisedBy, Promised}
+use Rattle.scale_tool.specs.Promise.{Keeping, StoredPromise, Promise, PromisedOf, PromisedBy, Promised}
 use Rattle.scale_tool.specs.Tool.{with_stores, StoresStand}
 
 get_inserted : (files : Files) (name bytes : List ℕ) → get (insert files name bytes) name ≡ Some bytes
@@ -56,26 +60,39 @@ loaded_within (want ∷ wants) files = within_one want wants (get files want.0) 
 
 -- ---- what a command promises
 
--- what was done is what is stored
-hold_kept : (i m l out : List ℕ) (files : Files) (given : Result (List ℕ × Summary) Refusal) → length i ≤ 4194304 → length m ≤ 1048576 → length l ≤ 1048576 → IsHeld i m l given → (held_answer out given).status ≡ 0
-    → HoldPromise i m l (get (with_stores (held_answer out given).stores files) out)
-hold_kept i m l out files (Ok given) image_short machine_short loops_short is zero = record {
-  stored = given.0;
-  summary = given.1;
-  stands = get_inserted files out given.0;
-  given = is;
-  safe = safe i m l given.0 given.1 image_short machine_short loops_short is;
-}
-hold_kept i m l out files (Err refusal) image_short machine_short loops_short is zero = absurd (omega arith)
+-- what is given is safe, for files within their limits
+abbrev AreSafe : Giving → Keeping → Type 0
+AreSafe Gives Safe = (image machine loops stored : List ℕ) (summary : Summary) → length image ≤ 4194304 → length machine ≤ 1048576 → length loops ≤ 1048576
+    → Gives image machine loops (Ok ((stored, summary))) → Safe image machine loops stored summary
+
+module _ (Gives : Giving) (Safe : Keeping) (are_safe : AreSafe Gives Safe) (i m l out : List ℕ) (files : Files) (image_short : length i ≤ 4194304) (machine_short : length m ≤ 1048576) (loops_short : length l ≤ 1048576) where
+  -- what was done is what is stored
+  given_kept : (given : Result (List ℕ × Summary) Refusal) → Gives i m l given → (stored_answer out given).status ≡ 0
+      → StoredPromise Gives Safe i m l (get (with_stores (stored_answer out given).stores files) out)
+  given_kept (Ok given) is zero = record {
+    stored = given.0;
+    stands = get_inserted files out given.0;
+    summary = given.1;
+    given = is;
+    safe = λ printed again. are_safe i m l given.0 printed image_short machine_short loops_short again;
+  }
+  given_kept (Err refusal) is zero = absurd (omega arith)
+
+  made_kept : (answer : Answer) → MakesStored Gives i m l out answer → answer.status ≡ 0 → StoredPromise Gives Safe i m l (get (with_stores answer.stores files) out)
+  made_kept answer made zero =
+      let told = sym made.told in
+      subst (λ (a : Answer). StoredPromise Gives Safe i m l (get (with_stores a.stores files) out)) told
+      (given_kept made.given made.is_given (ap (λ (a : Answer). a.status) told ∙ zero))
 
 kept : (command : Command) (loaded : List (List ℕ)) (files : Files) (answer : Answer) → EachWithin (wants_of command) loaded → Makes command loaded answer → answer.status ≡ 0 →
     Promise command loaded (with_stores answer.stores files)
 kept Help loaded files answer within made zero = tt
 kept (Hold image machine loops out) (i ∷ m ∷ l ∷ []) files answer within made zero =
-    let told = sym made.told in
-    subst (λ (a : Answer). HoldPromise i m l (get (with_stores a.stores files) out)) told
-    (hold_kept i m l out files made.given within.0 within.1.0 within.1.1.0 made.is_held (ap (λ (a : Answer). a.status) told ∙ zero))
+    made_kept IsHeld IsHeldSafely held_safe i m l out files within.0 within.1.0 within.1.1.0 answer made zero
 kept (Hold image machine loops out) loaded files answer within made zero = absurd made
+kept (Rewrite image machine loops out) (i ∷ m ∷ l ∷ []) files answer within made zero =
+    made_kept IsRewritten IsRewrittenSafely rewritten_safe i m l out files within.0 within.1.0 within.1.1.0 answer made zero
+kept (Rewrite image machine loops out) loaded files answer within made zero = absurd made
 kept (Simulate image machine input out loops) loaded files answer within made zero = tt
 
 of_loading : (command : Command) (loading : Loading) (files : Files) (new : Option Files) (answer : Answer) → Within (wants_of command) loading → AnswersTo command loading answer → answer.status ≡ 0 →

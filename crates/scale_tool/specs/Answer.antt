@@ -8,9 +8,10 @@ use Rattle.scale_base.specs.declared.endings.End.TheVariants.{Exited, Trapped, O
 use Rattle.power_model.specs.Report.{Report}
 use Rattle.scale_report.specs.Texts.{summary_text, refusal_text, run_text}
 use Rattle.scaler.specs.Held.{IsHeld}
+use Rattle.scaler.specs.Rewritten.{IsRewritten}
 use Rattle.speed_sim.specs.Simulated.{simulated}
 use Rattle.host_files.specs.HostState.{Files}
-use Rattle.scale_tool.specs.Command.{Command, Help, Hold, Simulate, wants_of}
+use Rattle.scale_tool.specs.Command.{Command, Help, Hold, Rewrite, Simulate, wants_of}
 use Rattle.scale_tool.specs.Loading.{Loading, Missing, Long, Whole, loading_of}
 
 pub record Answer : Type 0 where
@@ -28,7 +29,7 @@ bad_command = record { stores = []; text = bad_command_text; status = 2 }
 
 -- how the commands are called
 abbrev pub help_text : List ℕ
-help_text = codes "scale hold IMAGE MACHINE LOOPS OUT\nscale simulate IMAGE MACHINE INPUT OUT [LOOPS]\nscale help\n"
+help_text = codes "scale hold IMAGE MACHINE LOOPS OUT\nscale rewrite IMAGE MACHINE LOOPS OUT\nscale simulate IMAGE MACHINE INPUT OUT [LOOPS]\nscale help\n"
 
 -- the answer to `help`
 abbrev pub help : Answer
@@ -38,15 +39,19 @@ abbrev pub refused : Refusal → Answer
 refused refusal = record { stores = []; text = refusal_text refusal; status = 1 }
 
 -- one file and the summary, or the refusal
-abbrev pub held_answer : List ℕ → Result (List ℕ × Summary) Refusal → Answer
-held_answer out (Ok given) = record { stores = (out, given.0) ∷ []; text = summary_text given.1; status = 0 }
-held_answer out (Err refusal) = refused refusal
+abbrev pub stored_answer : List ℕ → Result (List ℕ × Summary) Refusal → Answer
+stored_answer out (Ok given) = record { stores = (out, given.0) ∷ []; text = summary_text given.1; status = 0 }
+stored_answer out (Err refusal) = refused refusal
 
--- The answer to `hold` with this name of OUT, by the bytes of its image, machine file and loop file: it tells what they are held as.
-pub record MakesHeld (image machine loops out : List ℕ) (answer : Answer) : Type 0 where
+-- what a command gives for its three files: a file and its summary, or the first refusal
+abbrev pub Giving : Type 1
+Giving = List ℕ → List ℕ → List ℕ → Result (List ℕ × Summary) Refusal → Type 0
+
+-- The answer to `hold` or `rewrite` with this name of OUT, by the bytes of its image, machine file and loop file: it tells what the command gives for them.
+pub record MakesStored (Gives : Giving) (image machine loops out : List ℕ) (answer : Answer) : Type 0 where
   pub given : Result (List ℕ × Summary) Refusal
-  pub is_held : IsHeld image machine loops given
-  pub told : answer ≡ held_answer out given
+  pub is_given : Gives image machine loops given
+  pub told : answer ≡ stored_answer out given
 
 -- the status of a simulated run, by how it ended: it exited, whatever its own status is, or it trapped, or it was out of steps
 abbrev pub run_status : End → ℕ
@@ -66,7 +71,8 @@ MakesRun image machine input loops out answer = answer ≡ run_answer out (simul
 -- what the command may make of its files, as many as it loads
 abbrev pub Makes : Command → List (List ℕ) → Answer → Type 0
 Makes Help [] answer = answer ≡ help
-Makes (Hold image machine loops out) (i ∷ m ∷ l ∷ []) answer = MakesHeld i m l out answer
+Makes (Hold image machine loops out) (i ∷ m ∷ l ∷ []) answer = MakesStored IsHeld i m l out answer
+Makes (Rewrite image machine loops out) (i ∷ m ∷ l ∷ []) answer = MakesStored IsRewritten i m l out answer
 Makes (Simulate image machine input out None) (i ∷ m ∷ n ∷ []) answer = MakesRun i m n None out answer
 Makes (Simulate image machine input out (Some loops)) (i ∷ m ∷ n ∷ l ∷ []) answer = MakesRun i m n (Some l) out answer
 Makes command files answer = ⊥

@@ -5,6 +5,7 @@ use Rattle.std.specs.declared.alloc.Global.{Global}
 pub data Command : Type 0 where
   Help : Command
   Hold : (image machine loops out : List ℕ) → Command
+  Rewrite : (image machine loops out : List ℕ) → Command
   Simulate : (image machine input out : List ℕ) (loops : Option (List ℕ)) → Command
 
 -- the words of a command line as texts
@@ -19,6 +20,10 @@ abbrev pub hold_of : List (List ℕ) → Option Command
 hold_of (image ∷ machine ∷ loops ∷ out ∷ []) = Some (Hold image machine loops out)
 hold_of words = None
 
+abbrev pub rewrite_of : List (List ℕ) → Option Command
+rewrite_of (image ∷ machine ∷ loops ∷ out ∷ []) = Some (Rewrite image machine loops out)
+rewrite_of words = None
+
 abbrev pub simulate_of : List (List ℕ) → Option Command
 simulate_of (image ∷ machine ∷ input ∷ out ∷ []) = Some (Simulate image machine input out None)
 simulate_of (image ∷ machine ∷ input ∷ out ∷ loops ∷ []) = Some (Simulate image machine input out (Some loops))
@@ -30,6 +35,7 @@ command_of [] = None
 command_of (word ∷ words) =
     if bytes_eq word (codes "help") then help_of words
     else if bytes_eq word (codes "hold") then hold_of words
+    else if bytes_eq word (codes "rewrite") then rewrite_of words
     else if bytes_eq word (codes "simulate") then simulate_of words
     else None
 
@@ -37,6 +43,7 @@ command_of (word ∷ words) =
 abbrev pub wants_of : Command → List (List ℕ × ℕ)
 wants_of Help = []
 wants_of (Hold image machine loops out) = (image, 4194304) ∷ (machine, 1048576) ∷ (loops, 1048576) ∷ []
+wants_of (Rewrite image machine loops out) = (image, 4194304) ∷ (machine, 1048576) ∷ (loops, 1048576) ∷ []
 wants_of (Simulate image machine input out None) = (image, 8388608) ∷ (machine, 1048576) ∷ (input, 1048576) ∷ []
 wants_of (Simulate image machine input out (Some loops)) = (image, 8388608) ∷ (machine, 1048576) ∷ (input, 1048576) ∷ (loops, 1048576) ∷ []
 
@@ -45,6 +52,7 @@ abbrev pub may_give : Option Command → ℕ → Bool
 may_give None status = status == 2
 may_give (Some Help) status = status == 0
 may_give (Some (Hold image machine loops out)) status = nat_le status 1
+may_give (Some (Rewrite image machine loops out)) status = nat_le status 1
 may_give (Some (Simulate image machine input out loops)) status = nat_le status 1 || (status == 5 || status == 6)
 
 -- it may want memory
@@ -52,6 +60,7 @@ abbrev pub needs_memory : Option Command → Bool
 needs_memory None = false
 needs_memory (Some Help) = false
 needs_memory (Some (Hold image machine loops out)) = true
+needs_memory (Some (Rewrite image machine loops out)) = true
 needs_memory (Some (Simulate image machine input out loops)) = true
 
 -- the statuses that a run may end with

@@ -3,24 +3,35 @@ use Rattle.std.specs.Prelude.{◌≡◌, ℕ, List, [], ◌∷◌, Option, Some,
 use Rattle.std.specs.FinMap.{get}
 use Rattle.scale_base.specs.declared.summary.Summary.{Summary}
 use Rattle.scaler.specs.Held.{IsHeld}
+use Rattle.scaler.specs.Rewritten.{IsRewritten}
+use Rattle.scaler.specs.RewrittenRuns.{IsRewrittenSafely}
 use Rattle.scaler.specs.Runs.{IsHeldSafely}
 use Rattle.host_files.specs.HostState.{Files, HostState}
-use Rattle.scale_tool.specs.Command.{Command, Hold, wants_of}
+use Rattle.scale_tool.specs.Answer.{Giving}
+use Rattle.scale_tool.specs.Command.{Command, Hold, Rewrite, wants_of}
 use Rattle.scale_tool.specs.Loading.{Loading, Whole, loading_of}
 
--- of `hold`, by the bytes of its image, machine file and loop file, and by what OUT holds afterwards: OUT is an image that holding gives, and on
--- every input that image runs as the original one does, and as long as its run keeps the loops' bounds and the return addresses it takes at most
--- the time of the summary, which is at most the deadline, and it ends
-pub record HoldPromise (image machine loops : List ℕ) (out : Option (List ℕ)) : Type 0 where
-  pub stored : List ℕ
-  pub summary : Summary
-  pub stands : out ≡ Some stored
-  pub given : IsHeld image machine loops (Ok ((stored, summary)))
-  pub safe : IsHeldSafely image machine loops stored summary
+-- what a stored image with the printed summary keeps to, by the bytes of the image, machine file and loop file that it was made of
+abbrev pub Keeping : Type 1
+Keeping = (image machine loops stored : List ℕ) (summary : Summary) → Type 0
 
--- what a command promises beside its answer, by the files that it loaded and those that stand afterwards
+-- of a command that stored what it gives for its files: what OUT holds afterwards is given, with some summary, and is safe with every summary that it is given with,
+-- the printed one among them
+pub record StoredPromise (Gives : Giving) (Safe : Keeping) (image machine loops : List ℕ) (out : Option (List ℕ)) : Type 0 where
+  pub stored : List ℕ
+  pub stands : out ≡ Some stored
+  pub summary : Summary
+  pub given : Gives image machine loops (Ok ((stored, summary)))
+  pub safe : (printed : Summary) → Gives image machine loops (Ok ((stored, printed))) → Safe image machine loops stored printed
+
+-- What a command promises beside its answer, by the files that it loaded and those that stand afterwards. Of `hold`: on every input the stored image runs as the
+-- original one does, and as long as its run keeps the loops' bounds and the return addresses it takes at most the printed time, which is at most the deadline, and it
+-- ends. Of `rewrite`: on every input on which the original run exits and keeps the loops' bounds and the return addresses, the stored image gives the same output and
+-- the same exit status, ends by the deadline, never raises its level, takes no more energy than its own cycles at its starting level would, and adds at most the printed
+-- number of cycles.
 abbrev pub Promise : Command → List (List ℕ) → Files → Type 0
-Promise (Hold image machine loops out) (i ∷ m ∷ l ∷ []) after = HoldPromise i m l (get after out)
+Promise (Hold image machine loops out) (i ∷ m ∷ l ∷ []) after = StoredPromise IsHeld IsHeldSafely i m l (get after out)
+Promise (Rewrite image machine loops out) (i ∷ m ∷ l ∷ []) after = StoredPromise IsRewritten IsRewrittenSafely i m l (get after out)
 Promise command files after = Unit {0}
 
 abbrev pub PromisedOf : Command → Loading → Files → Type 0

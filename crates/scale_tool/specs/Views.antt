@@ -1,19 +1,24 @@
 -- What the program's values stand for.
-use Rattle.std.specs.Prelude.{ℕ, List, map, option_map, string_bytes, Vec}
+use Rattle.std.specs.Prelude.{ℕ, List, map, Option, Some, None, option_map, Result, Ok, Err, string_bytes, Vec}
 use Rattle.std.specs.declared.alloc.Global.{Global}
+use Rattle.scale_base.specs.declared.refusal.Refusal.{Refusal}
+use Rattle.scale_base.specs.declared.refusal.Stop.{Stop}
+use Rattle.scale_base.specs.declared.refusal.Stop.TheVariants.{Refused, Memory}
+use Rattle.scale_base.specs.declared.summary.Summary.{Summary}
 use Rattle.scale_tool.specs.declared.command.Command.{Command as Parsed}
 use Rattle.scale_tool.specs.declared.command.Command.TheVariants.{Help as ParsedHelp, Work as ParsedWork}
 use Rattle.scale_tool.specs.declared.command.Work.{Work}
-use Rattle.scale_tool.specs.declared.command.Work.TheVariants.{Hold as ParsedHold, Simulate as ParsedSimulate}
+use Rattle.scale_tool.specs.declared.command.Work.TheVariants.{Hold as ParsedHold, Rewrite as ParsedRewrite, Simulate as ParsedSimulate}
 use Rattle.scale_tool.specs.declared.load_all.Want.{Want}
 use Rattle.scale_tool.specs.declared.reply.Reply.{Reply}
 use Rattle.scale_tool.specs.declared.reply.Store.{Store}
 use Rattle.scale_tool.specs.Answer.{Answer}
-use Rattle.scale_tool.specs.Command.{Command, Help, Hold, Simulate}
+use Rattle.scale_tool.specs.Command.{Command, Help, Hold, Rewrite, Simulate}
 use Rattle.scale_tool.specs.Tool.{Stores}
 
 abbrev pub work_view : Work → Command
 work_view (ParsedHold image machine loops out) = Hold image.now machine.now loops.now out.now
+work_view (ParsedRewrite image machine loops out) = Rewrite image.now machine.now loops.now out.now
 work_view (ParsedSimulate image machine input out loops) = Simulate image.now machine.now input.now out.now (option_map (λ l. l.now) loops)
 
 abbrev pub command_view : Parsed → Command
@@ -25,6 +30,12 @@ want_views wants = map (λ want. (want.name.now, want.limit)) wants
 
 abbrev pub files_view : List (Vec ℕ Global) → List (List ℕ)
 files_view files = map (λ file. file.items) files
+
+-- a file and its summary, or the refusal; none where memory ran out
+abbrev pub given_view : Result (Vec ℕ Global × Summary) Stop → Option (Result (List ℕ × Summary) Refusal)
+given_view (Ok given) = Some (Ok ((given.0.items, given.1)))
+given_view (Err (Refused refusal)) = Some (Err refusal)
+given_view (Err Memory) = None
 
 abbrev pub store_views : List Store → Stores
 store_views stores = map (λ store. (string_bytes store.name, store.bytes.items)) stores

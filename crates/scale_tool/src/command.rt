@@ -1,7 +1,7 @@
 //! The words of a command line.
 
 ghost use Rattle.std.specs.Prelude.{◌≡◌, IfOk, option_map};
-ghost use Rattle.scale_tool.specs.Command.{command_of, help_of, hold_of, simulate_of, texts, wants_of};
+ghost use Rattle.scale_tool.specs.Command.{command_of, help_of, hold_of, rewrite_of, simulate_of, texts, wants_of};
 ghost use Rattle.scale_tool.specs.Views.{command_view, work_view, want_views};
 
 use crate::load_all::Want;
@@ -26,6 +26,13 @@ pub enum Work<'a> {
         loops: &'a str,
         out: &'a str,
     },
+    /// Lowers the program's level where what is left of its worst case allows it.
+    Rewrite {
+        image: &'a str,
+        machine: &'a str,
+        loops: &'a str,
+        out: &'a str,
+    },
     /// Runs the program, and tells what the run costs and whether it keeps the notes of its loops, if any are given.
     Simulate {
         image: &'a str,
@@ -44,6 +51,7 @@ pub fn parse(words: &[String]) -> Option<Command<'_>>
     match word.as_str() {
         "help" => parse_help(words),
         "hold" => parse_hold(words),
+        "rewrite" => parse_rewrite(words),
         "simulate" => parse_simulate(words),
         _ => None,
     }
@@ -63,6 +71,20 @@ fn parse_hold(words: &[String]) -> Option<Command<'_>>
 {
     match words {
         [image, machine, loops, out] => Some(Command::Work(Work::Hold {
+            image: image.as_str(),
+            machine: machine.as_str(),
+            loops: loops.as_str(),
+            out: out.as_str(),
+        })),
+        _ => None,
+    }
+}
+
+fn parse_rewrite(words: &[String]) -> Option<Command<'_>>
+    ensures { option_map command_view result ≡ rewrite_of (texts words.now) }
+{
+    match words {
+        [image, machine, loops, out] => Some(Command::Work(Work::Rewrite {
             image: image.as_str(),
             machine: machine.as_str(),
             loops: loops.as_str(),
@@ -107,6 +129,12 @@ pub fn wants<'a>(alloc: Global, work: &Work<'a>) -> Result<Vec<Want<'a>>, AllocE
 {
     match *work {
         Work::Hold {
+            image,
+            machine,
+            loops,
+            ..
+        }
+        | Work::Rewrite {
             image,
             machine,
             loops,

@@ -3,11 +3,13 @@
 ghost use Rattle.std.specs.Prelude.{◌≡◌, ◌≤◌, length, option_map, IfOk, IsTrue, Some, Ok};
 ghost use Rattle.std.specs.List.{AllZip};
 ghost use Rattle.power_model.specs.Report.{report_view};
-ghost use Rattle.scale_tool.specs.Answer.{refused, run_answer, run_status, MakesHeld, MakesRun, Makes};
+ghost use Rattle.scaler.specs.Held.{IsHeld};
+ghost use Rattle.scaler.specs.Rewritten.{IsRewritten};
+ghost use Rattle.scale_tool.specs.Answer.{refused, run_answer, run_status, stored_answer, MakesRun, MakesStored, Makes};
 
 use crate::command::Work;
 use power_model::RunReport;
-use scale_base::{End, NoMemory, Refusal, Stop};
+use scale_base::{End, NoMemory, Refusal, Stop, Summary};
 use scale_report::{refusal_text, run_text, summary_text};
 use std::alloc::Global;
 
@@ -38,7 +40,7 @@ fn status_of(end: End) -> u8
 }
 
 impl Reply {
-    ghost use Rattle.scale_tool.specs.Views.{reply_view, work_view, files_view};
+    ghost use Rattle.scale_tool.specs.Views.{reply_view, work_view, files_view, given_view};
     ghost use Rattle.scale_tool.specs.Command.{wants_of, may_give};
 
     /// A refusal, and nothing to store.
@@ -52,20 +54,15 @@ impl Reply {
         })
     }
 
-    /// What `hold` gives for its three files.
-    pub fn held(
+    // A file that a command gives, with its summary and the name under which it is stored; or the refusal.
+    fn stored(
         alloc: Global,
         out: &str,
-        image: &[u8],
-        machine: &[u8],
-        loops: &[u8],
+        given: Result<(Vec<u8>, Summary), Stop>,
     ) -> Result<Reply, NoMemory>
-        requires image { length image.now ≤ 4194304 }
-        requires machine { length machine.now ≤ 1048576 }
-        requires loops { length loops.now ≤ 1048576 }
-        ensures { IfOk result (λ reply. MakesHeld image.now machine.now loops.now out.now (reply_view reply)) }
+        ensures { IfOk result (λ reply. option_map (stored_answer out.now) (given_view given) ≡ Some (reply_view reply)) }
     {
-        match scaler::hold(alloc, image, machine, loops) {
+        match given {
             Ok((bytes, summary)) => {
                 let name = String::from_str(alloc, out)?;
                 let text = summary_text(alloc, &summary)?;
@@ -80,6 +77,38 @@ impl Reply {
             Err(Stop::Refused(refusal)) => Reply::refused(alloc, &refusal),
             Err(Stop::Memory) => Err(NoMemory),
         }
+    }
+
+    /// What `hold` gives for its three files.
+    pub fn held(
+        alloc: Global,
+        out: &str,
+        image: &[u8],
+        machine: &[u8],
+        loops: &[u8],
+    ) -> Result<Reply, NoMemory>
+        requires image { length image.now ≤ 4194304 }
+        requires machine { length machine.now ≤ 1048576 }
+        requires loops { length loops.now ≤ 1048576 }
+        ensures { IfOk result (λ reply. MakesStored IsHeld image.now machine.now loops.now out.now (reply_view reply)) }
+    {
+        Reply::stored(alloc, out, scaler::hold(alloc, image, machine, loops))
+    }
+
+    /// What `rewrite` gives for its three files.
+    pub fn rewritten(
+        alloc: Global,
+        out: &str,
+        image: &[u8],
+        machine: &[u8],
+        loops: &[u8],
+    ) -> Result<Reply, NoMemory>
+        requires image { length image.now ≤ 4194304 }
+        requires machine { length machine.now ≤ 1048576 }
+        requires loops { length loops.now ≤ 1048576 }
+        ensures { IfOk result (λ reply. MakesStored IsRewritten image.now machine.now loops.now out.now (reply_view reply)) }
+    {
+        Reply::stored(alloc, out, scaler::rewrite(alloc, image, machine, loops))
     }
 
     // What a run gives, with the name under which its output is stored.
@@ -125,6 +154,9 @@ impl Reply {
     {
         match *work {
             Work::Hold { out, .. } => Reply::held(alloc, out, &files[0], &files[1], &files[2]),
+            Work::Rewrite { out, .. } => {
+                Reply::rewritten(alloc, out, &files[0], &files[1], &files[2])
+            }
             Work::Simulate { out, loops, .. } => match loops {
                 None => Reply::run(alloc, out, &files[0], &files[1], &files[2], None),
                 Some(_) => Reply::run(alloc, out, &files[0], &files[1], &files[2], Some(&files[3])),

@@ -1,6 +1,7 @@
 //! Whole runs over hosts in memory.
 
 mod loops;
+mod rewrites;
 mod rows;
 mod runs;
 
@@ -80,19 +81,26 @@ fn plain_image(
     Ok(bytes)
 }
 
-// The stored image of a plain one that is held at a level: its table stands behind it, with the entry that tells the level.
-fn held_image(alloc: Global, words: &[u32], level: u32) -> Result<Vec<u8>, Fail> {
+// The stored image of a plain one whose words are these now: a block of stubs, and its table behind it, with the entry that tells the level.
+fn stored_image(alloc: Global, words: &[u32], block: &[u32], level: u32) -> Result<Vec<u8>, Fail> {
+    let len = u32::try_from(block.len())?.wrapping_mul(4);
     let mut bytes = Vec::new(alloc);
-    push_header(&mut bytes, 4096, 2, 0)?;
+    push_header(&mut bytes, len.wrapping_add(4096), 2, 0)?;
     push_program_header(&mut bytes, words, 5)?;
     push_words(&mut bytes, words)?;
     bytes.resize(4096, 0)?;
+    push_words(&mut bytes, block)?;
     push_program_header(&mut bytes, words, 5)?;
     push_words(
         &mut bytes,
-        &[1, 4096, 0x00011000, level, 0, 0, 0x00100005, 4096],
+        &[1, 4096, 0x00011000, level, len, len, 0x00100005, 4096],
     )?;
     Ok(bytes)
+}
+
+// The stored image of a plain one that is held at a level, which has no stubs.
+fn held_image(alloc: Global, words: &[u32], level: u32) -> Result<Vec<u8>, Fail> {
+    stored_image(alloc, words, &[], level)
 }
 
 // A file with section headers and a symbol table, whose text begins lui, lbu.
@@ -442,7 +450,7 @@ fn machine_and_loop_files_are_refused(rt: HostRuntime) -> Result<(), Fail> {
 #[test]
 fn words_that_are_no_command(rt: HostRuntime) -> Result<(), Fail> {
     let alloc = rt.alloc();
-    let cases: [&[&str]; 9] = [
+    let cases: [&[&str]; 10] = [
         &["hold", "a", "b"],
         &[],
         &["make", "0", "0", "p"],
@@ -451,7 +459,8 @@ fn words_that_are_no_command(rt: HostRuntime) -> Result<(), Fail> {
         &["simulate"],
         &["simulate", "a", "b", "c"],
         &["simulate", "a", "b", "c", "d", "e", "f"],
-        &["rewrite", "a", "b", "c", "d"],
+        &["rewrite", "a", "b", "c"],
+        &["rewrite", "a", "b", "c", "d", "e"],
     ];
     for case in cases {
         let mut host = host_of(alloc, &[], &[], "", "")?;
@@ -548,11 +557,11 @@ fn help_is_printed(rt: HostRuntime) -> Result<(), Fail> {
     let alloc = rt.alloc();
     let words = words_of(alloc, &["help"])?;
     let mut host = MemHost::new(alloc, Vec::new(alloc));
-    host.reserve(0, 93)?;
+    host.reserve(0, 131)?;
     assert_eq!(rt; run_tool(&mut host, alloc, &words), 0);
     assert_eq!(rt;
         host.printed(),
-        b"scale hold IMAGE MACHINE LOOPS OUT\nscale simulate IMAGE MACHINE INPUT OUT [LOOPS]\nscale help\n".as_slice()
+        b"scale hold IMAGE MACHINE LOOPS OUT\nscale rewrite IMAGE MACHINE LOOPS OUT\nscale simulate IMAGE MACHINE INPUT OUT [LOOPS]\nscale help\n".as_slice()
     );
     let mut failing = host_of(alloc, &[1], &[], "", "")?;
     assert_eq!(rt; run_tool(&mut failing, alloc, &words), 3);

@@ -5,17 +5,17 @@ use super::runs::{run_host, run_words};
 use super::*;
 
 // Reads a byte, and divides six times where there is one.
-const READ_ONE: [u32; 13] = [
+pub const READ_ONE: [u32; 13] = [
     0x03f00893, 0x00010593, 0x00100613, 0x00000073, 0x00050e63, 0x0262c2b3, 0x0262c2b3, 0x0262c2b3,
     0x0262c2b3, 0x0262c2b3, 0x0262c2b3, 0x05d00893, 0x00000073,
 ];
 
 // Reads bytes until there are none.
-const READ_ALL: [u32; 8] = [
+pub const READ_ALL: [u32; 8] = [
     0x00010593, 0x00100613, 0x03f00893, 0x00000513, 0x00000073, 0xfe051ae3, 0x05d00893, 0x00000073,
 ];
 
-const READ_LOOP: &str =
+pub const READ_LOOP: &str =
     "version = 1\n[[loop]]\nheader = 0x10008\nranges = [[0x10008, 0x10018]]\nbound = 10\ncounted = true\n";
 
 const COUNT_LOOP: &str =
