@@ -1,6 +1,6 @@
 -- From what a command was given to its answer.
-use Rattle.std.proofs.Common.{◌≡◌, ℕ, List, refl, sym, ap, ◌∙◌}
-use Rattle.std.specs.Prelude.{Option, Some, None, option_map, IfOk, Result, Ok, Err, Vec}
+use Rattle.std.proofs.Common.{◌≡◌, ℕ, List}
+use Rattle.std.specs.Prelude.{Some, None, option_map, IfOk, Result, Ok, Err, Vec}
 use Rattle.std.specs.declared.alloc.Global.{Global}
 use Rattle.scale_base.specs.declared.refusal.NoMemory.{NoMemory}
 use Rattle.scale_base.specs.declared.refusal.Refusal.{Refusal}

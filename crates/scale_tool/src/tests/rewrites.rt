@@ -352,11 +352,12 @@ fn a_stub_is_out_of_reach(rt: HostRuntime) -> Result<(), Fail> {
     check_not_rewritten(&rt, alloc, &image, machine.as_str(), NO_LOOPS, text)
 }
 
-// Which call fails, the status, whether the image is stored, and what is printed.
+// The deadline, which call fails, the status, whether the image is stored, what is printed, and the faults.
 #[test]
 fn a_call_of_rewrite_fails(rt: HostRuntime) -> Result<(), Fail> {
     let alloc = rt.alloc();
     let image = plain_image(alloc, &READ_ONE, 0, 5)?;
+    let expected = stored_image(alloc, &STORED_WORDS, &STUB, 1)?;
     let words = words_of(alloc, &REWRITE_WORDS)?;
     let cases = [
         (160, 1, 3, false, "", 1),
@@ -371,11 +372,12 @@ fn a_call_of_rewrite_fails(rt: HostRuntime) -> Result<(), Fail> {
         let machine = machine_file(alloc, deadline, DIV, 2)?;
         let mut host = host_of(alloc, &[call], &image, machine.as_str(), NO_LOOPS)?;
         assert_eq!(rt; run_tool(&mut host, alloc, &words), status, "call {call}");
-        assert_eq!(rt;
-            host.file("out").map(|out| out.len()),
-            if stored { Some(4216) } else { None },
-            "call {call}"
-        );
+        let out = if stored {
+            Some(expected.as_slice())
+        } else {
+            None
+        };
+        assert_eq!(rt; host.file("out"), out, "call {call}");
         assert_eq!(rt; host.printed(), printed.as_bytes());
         assert_eq!(rt; host.fault_count(), faults, "call {call}");
     }
