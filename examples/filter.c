@@ -1,12 +1,13 @@
-/* Smooths samples of a sensor: reads up to 64 samples, one byte each, and writes for each the mean of itself and the
-   seven before it, weighted. Freestanding: the machine has the services read (63), write (64) and exit (93). */
+/* Smooths samples of a sensor: reads up to 64 samples, one byte each, and writes a frame of 66 bytes: for each sample the mean of
+   itself and the seven before it, weighted, zeros behind them, and a check sum over the 64 (CRC-16/CCITT).
+   Freestanding: the machine has the services read (63), write (64) and exit (93). */
 
 #define SAMPLES 64
 #define TAPS 8
 
 static const unsigned char weights[TAPS] = {1, 3, 7, 11, 11, 7, 3, 1};
 static unsigned char samples[SAMPLES];
-static unsigned char smooth[SAMPLES];
+static unsigned char frame[SAMPLES + 2];
 
 static int read_bytes(void *to, int most) {
     register int count asm("a0") = 0;
@@ -39,13 +40,26 @@ static __attribute__((noinline)) int weighted(int last) {
     return sum / 44;
 }
 
+static __attribute__((noinline)) unsigned check_sum(void) {
+    unsigned sum = 0xffff;
+    for (int k = 0; k < SAMPLES; k++) {
+        sum ^= frame[k] << 8;
+        for (int bit = 0; bit < 8; bit++)
+            sum = (sum << 1) ^ (0x1021 & -(sum >> 15 & 1));
+    }
+    return sum & 0xffff;
+}
+
 /* The entry sets the global pointer, by which the linker reaches the samples. */
 asm(".globl _start\n_start:\n\t.option push\n\t.option norelax\n\tla gp, __global_pointer$\n\t.option pop\n\tj job");
 
 __attribute__((noreturn)) void job(void) {
     int count = read_bytes(samples, SAMPLES);
     for (int k = 0; k < count; k++)
-        smooth[k] = weighted(k);
-    write_bytes(smooth, count);
+        frame[k] = weighted(k);
+    unsigned sum = check_sum();
+    frame[SAMPLES] = sum >> 8;
+    frame[SAMPLES + 1] = sum;
+    write_bytes(frame, SAMPLES + 2);
     leave(0);
 }
