@@ -1,21 +1,21 @@
 -- What stands in the tables for the functions that are done are the least cycles with charges.
-use Rattle.std.proofs.Common.{◌≡◌, ◌≢◌, ℕ, zero, suc, ◌+◌, ◌<◌, ◌≤◌, ◌⊎◌, ◌↔◌, inl, inr, Bool, true, false, not, ◌&&◌, ◌||◌, List, [], ◌∷◌, length, slice_get, Option, Some, None, is_some, IsSome, refl, sym, ap, ◌∙◌, subst, arith, ⊎_elim}
+use Rattle.std.proofs.Common.{◌≡◌, ℕ, zero, suc, ◌+◌, ◌<◌, ◌≤◌, ◌⊎◌, inl, inr, Bool, true, false, not, ◌&&◌, ◌||◌, List, [], ◌∷◌, length, slice_get, Option, Some, None, is_some, IsSome, refl, sym, ap, ◌∙◌, subst, arith, ⊎_elim}
 use Rattle.std.proofs.lemmas.Option.{slice_get_within, same_Some}
 use Rattle.cost_theory.specs.Graph.{Graph, total}
 use Rattle.cost_theory.specs.Least.{Least, IsLeastIfAny, EndsWith, IsReturn, IsExit, least_call, least_cost}
 use Rattle.cost_theory.specs.LeastTurns.{IsRun}
 use Rattle.cost_theory.proofs.Basics.{and_left, and_right, and_both}
-use Rattle.code_graph.specs.FlowGraph.{FlowGraph, graph, IsFlowGraph}
+use Rattle.code_graph.specs.FlowGraph.{FlowGraph, graph}
 use Rattle.natural_loops.specs.Noted.{node_address}
 use Rattle.natural_loops.proofs.NodeLaws.{source_number}
 use Rattle.loop_tree.specs.Tree.{LoopView, loops}
-use Rattle.least_laws.specs.Charged.{Charged, calls_so, calls_exit, charge_of, charged_cost, leads_on, ends_exit}
+use Rattle.least_laws.specs.Charged.{Charged, calls_so, calls_exit, charged_cost, leads_on, ends_exit}
 use Rattle.least_laws.proofs.Alike.{least_same}
 use Rattle.least_cycles.specs.Hops.{least_at}
-use Rattle.least_cycles.specs.Functions.{IsMarked, IsBucket, IsFromFirst}
-use Rattle.least_cycles.specs.Tables.{value_beside, least_by, AreWalksOf, ArePriced, IsBefore, IsAnyFunction}
+use Rattle.least_cycles.specs.Functions.{IsBucket, IsFromFirst}
+use Rattle.least_cycles.specs.Tables.{value_beside, least_by, AreWalksOf, ArePriced, IsBefore}
 use Rattle.least_cycles.specs.Charging.{own_by, IsCharging, ArePricedAt}
-use Rattle.least_cycles.proofs.TableLaws.{at_number, at_node, beside_none, moved}
+use Rattle.least_cycles.proofs.TableLaws.{at_number, beside_none, moved}
 use Rattle.least_cycles.proofs.WalkLaws.{address_is, call_kept, callees_before, from_first}
 use Rattle.least_cycles.proofs.EndLaws.{in_or_not}
 

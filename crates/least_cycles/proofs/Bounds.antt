@@ -1,5 +1,5 @@
 -- The worst cycles of functions hold walks from their entries in range.
-use Rattle.std.proofs.Common.{◌≡◌, ℕ, ◌+◌, ◌^◌, ◌<◌, ◌≤◌, Bool, true, false, ◌&&◌, inl, inr, List, [], ◌∷◌, ◌++◌, Option, Some, None, is_some, refl, ap, ◌∙◌, subst, arith}
+use Rattle.std.proofs.Common.{◌≡◌, ℕ, ◌+◌, ◌^◌, ◌<◌, ◌≤◌, Bool, true, false, ◌&&◌, inl, inr, List, [], ◌∷◌, ◌++◌, Option, Some, None, is_some, refl, ap, ◌∙◌, arith}
 use Rattle.cost_theory.specs.Graph.{Graph, Loops, total, end_of, IsPlain, IsPlainPath, goes_back}
 use Rattle.cost_theory.specs.Worst.{Numbers, at_some, cost, charged}
 use Rattle.cost_theory.proofs.Law.{worst_equation}

@@ -1,11 +1,11 @@
 -- What edges are charged by the loops that they enter.
-use Rattle.std.proofs.Common.{◌≡◌, ◌≢◌, ℕ, zero, suc, ◌+◌, ◌^◌, ◌<◌, ◌≤◌, ◌⊎◌, inl, inr, Bool, true, false, List, [], ◌∷◌, ◌++◌, length, length-append, slice_get, slice_set, slice_index_or, Option, Some, None, refl, sym, ap, ◌∙◌, subst, arith, ⊎_elim, get_or-set_other, get_or-set_same, length-set}
+use Rattle.std.proofs.Common.{◌≡◌, ◌≢◌, ℕ, zero, suc, ◌+◌, ◌^◌, ◌<◌, ◌≤◌, ◌⊎◌, List, [], ◌∷◌, ◌++◌, length, length-append, slice_set, Option, Some, None, refl, sym, ap, ◌∙◌, subst, arith, ⊎_elim, get_or-set_other, get_or-set_same, length-set}
 use Rattle.std.proofs.lemmas.Bool.{cases_lt}
 use Rattle.std.proofs.lemmas.List.{get_or_past}
 use Rattle.call_orders.specs.Arcs.{number_at}
 use Rattle.cost_theory.specs.Worst.{at_some}
-use Rattle.code_graph.specs.FlowGraph.{FlowGraph, graph}
-use Rattle.loop_tree.specs.Tree.{LoopView, loops}
+use Rattle.code_graph.specs.FlowGraph.{FlowGraph}
+use Rattle.loop_tree.specs.Tree.{LoopView}
 use Rattle.key_chains.specs.Keys.{option_at}
 use Rattle.least_cycles.specs.declared.charges.Charges.{Charges}
 use Rattle.least_cycles.specs.Charging.{IsEntered, AreEntered, charge_by, cost_with, AreSmallCharges, AreCharges}

@@ -259,9 +259,6 @@ next_low v returns exits behind i f o il small are least x at =
     let low = behind_low v returns exits behind ((length v.order - (i + 1)) * 2 ^ 67) f o small (λ h y is. let old = are.low h y is in let r : y ≤ (length v.order - (i + 1)) * 2 ^ 67 = omega arith in r) least x at in
     omega arith
 
-pub small_walks : (v : FlowGraph) (own limit : ℕ → ℕ) (Done : ℕ → Type 0) (returns exits : List (Option ℕ)) → AreWalksOf v own limit Done returns exits → AreSmallWalks v returns exits
-small_walks v own limit Done returns exits are = record { returns_size = are.returns_size; exits_size = are.exits_size; small_return = are.small_return; small_exit = are.small_exit }
-
 -- an address is that of a node, or it is not
 pub in_or_not : (nodes : List ℕ) (a : ℕ) → ((k : ℕ) × (slice_get nodes k ≡ Some a)) ⊎ ((k : ℕ) → slice_get nodes k ≡ Some a → ⊥)
 in_or_not [] a = inr (λ k at. let bad : ⊥ = cc in bad)

@@ -230,9 +230,6 @@ least_walks v lasts steps c nodes table leading least i il =
 
 -- ---- the nodes of a function
 
-pub bucket_nodes : (v : FlowGraph) (f : ℕ) (bucket : List ℕ) → IsBucket v f bucket → AreNodes v bucket
-bucket_nodes v f bucket is = record { within = is.within; once = is.once }
-
 pub bucket_kinds : (v : FlowGraph) (f : ℕ) (bucket : List ℕ) (lasts steps : List Bool) → IsFlowGraph v → IsBucket v f bucket → AreLeading v (length v.code.edges) steps → length lasts ≡ length v.code.edges →
     ((e : ℕ) → e < length v.code.edges → IsMarked lasts e → (graph v).target e ≡ None) → AreKinds v bucket lasts steps
 bucket_kinds v f bucket lasts steps flow is leading size ends = record {

@@ -1,31 +1,30 @@
 -- The turns and the charges of loops, where the costs in their functions and the charges of the loops within them are known.
-use Rattle.std.proofs.Common.{◌≡◌, ◌≢◌, ℕ, zero, suc, ◌+◌, ◌*◌, ◌^◌, ◌<◌, ◌≤◌, ◌⊎◌, ◌↔◌, inl, inr, Bool, true, false, not, ◌&&◌, ◌||◌, nat_eq, List, [], ◌∷◌, length, slice_get, slice_set, slice_index, slice_index_or, Option, Some, None, IsSome, is_some, refl, sym, ap, ◌∙◌, subst, arith, ⊎_elim, get_or-set_other, get_or-set_same, eqb-true, eq-eqb}
+use Rattle.std.proofs.Common.{◌≡◌, ◌≢◌, ℕ, ◌+◌, ◌*◌, ◌<◌, ◌≤◌, ◌⊎◌, ◌↔◌, inl, inr, Bool, true, false, not, ◌&&◌, ◌||◌, nat_eq, List, [], ◌∷◌, length, slice_get, slice_set, slice_index, slice_index_or, Option, Some, None, refl, sym, ap, ◌∙◌, subst, arith, ⊎_elim, get_or-set_other, get_or-set_same, eqb-true, eq-eqb}
 use Rattle.std.proofs.lemmas.Bool.{cases_lt}
 use Rattle.std.proofs.lemmas.Option.{slice_get-get_or, slice_get_within, get_or_from_slice_get, same_Some, none-some}
 use Rattle.call_orders.specs.Arcs.{number_at}
 use Rattle.cost_theory.specs.Graph.{Graph, Loops, total, only, is_round, is_header, is_back, any_below, end_of, IsPlainPath}
 use Rattle.cost_theory.specs.Worst.{at_some}
-use Rattle.cost_theory.specs.Accepted.{IsInBody}
 use Rattle.cost_theory.specs.Least.{IsLeastIfAny, IsExit, least_cost}
 use Rattle.cost_theory.specs.LeastTurns.{IsRun, turn_step, turn_last}
-use Rattle.cost_theory.proofs.Basics.{search_below, and_left, and_right, and_both}
+use Rattle.cost_theory.proofs.Basics.{search_below, and_left, and_right}
 use Rattle.cost_theory.proofs.Exists.{any-none, none-any}
-use Rattle.cost_theory.proofs.Nesting.{accepted_entered, header_held, body_node, IsAtHeader, step_at_header, entry_at_header, some_same}
+use Rattle.cost_theory.proofs.Nesting.{accepted_entered, header_held, body_node, IsAtHeader, step_at_header, entry_at_header}
 use Rattle.cost_theory.proofs.Rest.{plain_from_entry}
 use Rattle.code_graph.specs.FlowGraph.{FlowGraph, graph, IsFlowGraph}
 use Rattle.natural_loops.specs.Noted.{node_address}
 use Rattle.natural_loops.proofs.NodeLaws.{one_number, source_number}
-use Rattle.loop_tree.specs.Tree.{LoopView, loops, IsLoopTree, IsAtPlace}
+use Rattle.loop_tree.specs.Tree.{LoopView, loops, IsAtPlace}
 use Rattle.key_chains.specs.Keys.{option_at, HasKey, IsLastBelow}
-use Rattle.least_laws.specs.Charged.{Charged, calls_exit, is_closed, charged_trips, charge_of, charged_cost}
+use Rattle.least_laws.specs.Charged.{Charged, calls_exit, is_closed, charge_of, charged_cost}
 use Rattle.least_laws.proofs.Alike.{least_same}
 use Rattle.least_cycles.specs.declared.charges.Charges.{Charges}
 use Rattle.least_cycles.specs.Hops.{least_at}
-use Rattle.least_cycles.specs.Functions.{IsBucket, AreNodes, AreKinds, ArePlacesIn, is_marked, IsMarked, IsFromFirst, AreLeastRuns}
-use Rattle.least_cycles.specs.Charging.{own_by, loop_charge, IsCharging, AreHeads, IsInto, AreEntered, charge_by, cost_with, AreCharges, AreChargedTo, loop_owner, ArePricedAt, IsInner, IsKnown, IsBodyOf, AreTurnKinds, AreHeaderKeys, IsHeaderFrom}
+use Rattle.least_cycles.specs.Functions.{IsBucket, AreKinds, ArePlacesIn, is_marked, IsMarked, IsFromFirst, AreLeastRuns}
+use Rattle.least_cycles.specs.Charging.{own_by, loop_charge, IsCharging, AreHeads, IsInto, AreEntered, charge_by, cost_with, AreChargedTo, loop_owner, ArePricedAt, IsInner, IsBodyOf, AreTurnKinds, AreHeaderKeys, IsHeaderFrom}
 use Rattle.least_cycles.proofs.ChargedLaws.{charged_on, charged_back, charged_into}
 use Rattle.least_cycles.proofs.AgreeLaws.{calls_so_at, calls_one}
-use Rattle.least_cycles.proofs.TurnLaws.{same_node, loop_count, loop_below, header_number, header_address, header_is, address_of_header, one_header, same_bool, key_is, key_of}
+use Rattle.least_cycles.proofs.TurnLaws.{loop_count, loop_below, header_number, header_address, address_of_header, one_header, same_bool, key_is, key_of}
 use Rattle.least_cycles.specs.Tables.{least_by, ArePriced, IsBefore, IsAnyFunction}
 use Rattle.least_cycles.proofs.PriceLaws.{owner_below}
 use Rattle.least_cycles.proofs.WalkLaws.{address_is, from_first, not_before, next_before, all_before}
@@ -37,9 +36,6 @@ number_below : (v : FlowGraph) (t : LoopView) (k : ℕ) → k < (loops v t).loop
 number_below v t k lt = let count = loop_count v t in omega arith
 
 -- ---- the edges of a turn
-
-pub body_nodes_are : (v : FlowGraph) (t : LoopView) (k : ℕ) (nodes : List ℕ) → IsBodyOf v t k nodes → AreNodes v nodes
-body_nodes_are v t k nodes body = record { within = body.within; once = body.once }
 
 pub body_kinds : (v : FlowGraph) (t : LoopView) (k : ℕ) (nodes : List ℕ) (turns stays : List Bool) → IsFlowGraph v → IsBodyOf v t k nodes → AreTurnKinds v t k (IsFromFirst v nodes (length nodes)) turns stays → AreKinds v nodes turns stays
 body_kinds v t k nodes turns stays flow body kinds = record {
@@ -185,15 +181,6 @@ module _ (v : FlowGraph) (t : LoopView) (w : ℕ → ℕ) (n : Charged) (is : Is
 
   pub charge_closed : (k : ℕ) → is_closed g l n.least k ≡ true → loop_charge v t n k ≡ slice_index t.least_trips k * n.turn k
   charge_closed k closed = ap (λ b. only b (l.least_trips k) * n.turn k) closed
-
-  only_zero : (b : Bool) (x : ℕ) → x ≡ 0 → only b x ≡ 0
-  only_zero true x is_zero = is_zero
-  only_zero false x is_zero = refl
-
-  pub charge_idle : (k : ℕ) → slice_index t.least_trips k ≡ 0 → loop_charge v t n k ≡ 0
-  charge_idle k idle =
-      let none : 0 * n.turn k ≡ 0 = omega arith in
-      ap (λ x. x * n.turn k) (only_zero (is_closed g l n.least k) (l.least_trips k) idle) ∙ none
 
   -- ---- a turn
 

@@ -1,10 +1,10 @@
 -- The bodies of loops by the numbers of nodes, the edges of a turn, and the edges that enter loops.
-use Rattle.std.proofs.Common.{◌≡◌, ◌≢◌, ℕ, zero, suc, ◌+◌, ◌-◌, ◌<◌, ◌≤◌, ◌⊎◌, ◌↔◌, inl, inr, Bool, true, false, not, ◌&&◌, nat_eq, List, [], ◌∷◌, ◌++◌, map, length, length-append, slice_get, slice_set, slice_index_or, option_map, Option, Some, None, refl, sym, ap, ◌∙◌, subst, arith, ⊎_elim, get_or-set_other, get_or-set_same, length-set}
+use Rattle.std.proofs.Common.{◌≡◌, ◌≢◌, ℕ, zero, suc, ◌+◌, ◌-◌, ◌<◌, ◌≤◌, ◌⊎◌, ◌↔◌, Bool, true, false, not, ◌&&◌, nat_eq, List, [], ◌∷◌, ◌++◌, map, length, length-append, slice_get, slice_set, option_map, Option, Some, None, refl, sym, ap, ◌∙◌, subst, arith, ⊎_elim, get_or-set_other, get_or-set_same, length-set}
 use Rattle.std.proofs.lemmas.Bool.{cases_lt, eqb-true, eq-eqb, ne_eqb}
 use Rattle.std.proofs.lemmas.List.{length-map}
 use Rattle.std.proofs.lemmas.Option.{slice_get-get_or, slice_get_within, get_or_from_slice_get, slice_get-map, same_Some, none-some}
-use Rattle.call_orders.specs.Arcs.{number_at, AreDistinct}
-use Rattle.cost_theory.specs.Graph.{Graph, Loops, is_round, is_header, is_back}
+use Rattle.call_orders.specs.Arcs.{number_at}
+use Rattle.cost_theory.specs.Graph.{is_round, is_header, is_back}
 use Rattle.cost_theory.specs.LeastTurns.{turn_step, turn_last}
 use Rattle.cost_theory.specs.Lists.{or_true, is_among, body_of}
 use Rattle.cost_theory.proofs.Append.{leads_to_header}
@@ -13,10 +13,10 @@ use Rattle.code_graph.specs.FlowGraph.{FlowGraph, graph, IsFlowGraph}
 use Rattle.code_graph.proofs.FewWords.{few_once}
 use Rattle.natural_loops.specs.Noted.{node_address}
 use Rattle.natural_loops.specs.Found.{IsAscending}
-use Rattle.natural_loops.proofs.NodeLaws.{one_number, source_number}
+use Rattle.natural_loops.proofs.NodeLaws.{one_number}
 use Rattle.loop_tree.specs.Tree.{LoopView, loops, IsLoopTree}
 use Rattle.key_chains.specs.Keys.{HasKey, AreKeys, option_at}
-use Rattle.least_cycles.specs.Functions.{AreNodes, ArePlacesIn, is_marked, IsMarked, IsFromFirst}
+use Rattle.least_cycles.specs.Functions.{is_marked, IsFromFirst}
 use Rattle.least_cycles.specs.Charging.{AreHeads, IsInto, IsEntered, IsBodyOf, AreTurnKinds, header_key, AreHeaderKeys}
 use Rattle.least_cycles.proofs.PriceLaws.{owner_below}
 
@@ -97,16 +97,7 @@ address_of_header v t k l at =
 pub one_header : (v : FlowGraph) (t : LoopView) (extent : ℕ → ℕ → Bool) (j l : ℕ) → IsFlowGraph v → IsLoopTree v extent t → j < length t.headers → l < length t.headers → (loops v t).header j ≡ (loops v t).header l → j ≡ l
 one_header v t extent j l flow tree jl ll same = headers-distinct (graph v) (loops v t) extent flow.program (accepted_entered tree.accepted) j l (loop_below v t j jl) (loop_below v t l ll) same
 
-pub value_here : (xs : List (Option ℕ)) (i : ℕ) (x : Option ℕ) → i < length xs → x ≡ slice_index_or xs i x → option_at xs i ≡ x
-value_here xs i x lt is = get_or_from_slice_get xs i x None (slice_get-get_or xs i x lt ∙ ap Some (sym is))
-
 -- ---- edges that enter loops
-
-pub nothing_entered : (v : FlowGraph) (t : LoopView) (e : ℕ) → (graph v).target e ≡ None → IsEntered v t e None
-nothing_entered v t e none = record {
-  some = λ l at. absurd (none-some l at);
-  none = λ l at into. absurd (none-some ((loops v t).header l) (sym none ∙ into.1));
-}
 
 pub no_head_entered : (v : FlowGraph) (t : LoopView) (extent : ℕ → ℕ → Bool) (heads : List (Option ℕ)) (e k : ℕ) → IsFlowGraph v → IsLoopTree v extent t → AreHeads t heads → k < length v.code.nodes → (graph v).target e ≡ Some (node_address v k) → option_at heads k ≡ None → IsEntered v t e None
 no_head_entered v t extent heads e k flow tree are kl to none = record {
@@ -140,28 +131,6 @@ head_entered v t extent heads e k l flow tree are kl el to head not_back = recor
     outside ll true is = absurd (not_back ((tree.backs e l).1 (el, ll, is)))
 
 -- ---- places of headers by functions
-
-pub header_keys_more : (v : FlowGraph) (order : List ℕ) (heads : List (Option ℕ)) (i : ℕ) (keys : List (Option ℕ)) (o : Option ℕ) → AreHeaderKeys v order heads i keys → o ≡ header_key (option_at heads (number_at order i)) ((graph v).owner (node_address v (number_at order i))) → AreHeaderKeys v order heads (i + 1) (keys ++ o ∷ [])
-header_keys_more v order heads i keys o are is = record {
-  size = let s = are.size in let a : length (keys ++ o ∷ []) ≡ length keys + 1 = length-append keys (o ∷ []) in omega arith;
-  each = λ d dl. ⊎_elim
-      (λ (low : d < i). before_push keys o d (let s = are.size in omega arith) ∙ are.each d low)
-      (λ (high : i ≤ d).
-      let s = are.size in
-      let last : d ≡ length keys = omega arith in
-      let same : d ≡ i = omega arith in
-      ap (option_at (keys ++ o ∷ [])) last ∙ at_push keys o ∙ is ∙ ap (λ x. header_key (option_at heads (number_at order x)) ((graph v).owner (node_address v (number_at order x)))) (sym same))
-      (cases_lt d i);
-}
-  where
-    before_push : (xs : List (Option ℕ)) (x : Option ℕ) (i : ℕ) → i < length xs → option_at (xs ++ x ∷ []) i ≡ option_at xs i
-    before_push [] x i lt = let bad : ⊥ = omega arith in absurd bad
-    before_push (y ∷ ys) x zero lt = refl
-    before_push (y ∷ ys) x (suc i) lt = before_push ys x i (omega arith)
-
-    at_push : (xs : List (Option ℕ)) (x : Option ℕ) → option_at (xs ++ x ∷ []) (length xs) ≡ x
-    at_push [] x = refl
-    at_push (y ∷ ys) x = at_push ys x
 
 some_within : (xs : List (Option ℕ)) (i k : ℕ) → option_at xs i ≡ Some k → i < length xs
 some_within [] i k at = let bad : ⊥ = cc in absurd bad
@@ -204,28 +173,9 @@ module _ (v : FlowGraph) (t : LoopView) (extent : ℕ → ℕ → Bool) (l e : �
   step_is : (o : Option ℕ) → (graph v).target e ≡ o → turn_step (graph v) (loops v t) l e ≡ (is_round (loops v t) l o && not (is_header (loops v t) l o))
   step_is o to = ap (λ b. b && (is_round (loops v t) l ((graph v).target e) && not (is_header (loops v t) l ((graph v).target e)))) from ∙ ap (λ p. is_round (loops v t) l p && not (is_header (loops v t) l p)) to
 
-  pub no_turn : (graph v).target e ≡ None → false ≡ turn_last (graph v) (loops v t) l e
-  no_turn to = sym (last_is None to)
-
-  pub no_stay : (graph v).target e ≡ None → false ≡ turn_step (graph v) (loops v t) l e
-  no_stay to = sym (step_is None to)
-
   module _ (k : ℕ) (kl : k < length v.code.nodes) (to : (graph v).target e ≡ Some (node_address v k)) where
-    at_header : k ≡ number_at t.headers l → nat_eq (node_address v k) ((loops v t).header l) ≡ true
-    at_header same = eq-eqb (node_address v k) ((loops v t).header l) (ap (node_address v) same ∙ sym (header_address v t l ll))
-
     off_header : k ≢ number_at t.headers l → nat_eq (node_address v k) ((loops v t).header l) ≡ false
     off_header other = ne_eqb (node_address v k) ((loops v t).header l) (λ same. other (same_node v flow k (number_at t.headers l) kl (header_number v t extent tree l ll) (same ∙ header_address v t l ll)))
-
-    pub turn_at : k ≡ number_at t.headers l → true ≡ turn_last (graph v) (loops v t) l e
-    turn_at same = sym (last_is (Some (node_address v k)) to ∙ at_header same)
-
-    pub stay_at : k ≡ number_at t.headers l → false ≡ turn_step (graph v) (loops v t) l e
-    stay_at same = sym (step_is (Some (node_address v k)) to ∙ ap (λ b. (loops v t).inside l (node_address v k) && not b) (at_header same) ∙ never ((loops v t).inside l (node_address v k)))
-      where
-        never : (b : Bool) → (b && false) ≡ false
-        never true = refl
-        never false = refl
 
     pub turn_off : k ≢ number_at t.headers l → false ≡ turn_last (graph v) (loops v t) l e
     turn_off other = sym (last_is (Some (node_address v k)) to ∙ off_header other)
@@ -386,9 +336,6 @@ module _ (v : FlowGraph) (t : LoopView) (extent : ℕ → ℕ → Bool) (l : ℕ
         let at_a = a.3 in let at_b = b.3 in
         let bad : ⊥ = omega arith in bad;
   }
-
-  pub body_places : ArePlacesIn nodes spots
-  body_places = record { each = is.spot }
 
   pub body_few : length v.code.nodes ≤ 131072 → length nodes ≤ 131072
   body_few few =

@@ -1,12 +1,12 @@
 -- Where no loop has to turn more often than it may, the least turns and what edges are charged are within the worst numbers, whatever
 -- the calls come back to.
-use Rattle.std.proofs.Common.{◌≡◌, ◌≢◌, ℕ, zero, suc, ◌+◌, ◌*◌, ◌<◌, ◌≤◌, Bool, true, false, not, ◌&&◌, ◌⊎◌, inl, inr, ⊎_elim, List, [], ◌∷◌, ◌++◌, Option, Some, None, is_some, unwrap_or, refl, sym, ap, ◌∙◌, subst, arith, eqb-true, mul-le-mul_right}
+use Rattle.std.proofs.Common.{◌≡◌, ℕ, zero, suc, ◌+◌, ◌*◌, ◌<◌, ◌≤◌, Bool, true, false, not, ◌&&◌, ◌⊎◌, inl, inr, ⊎_elim, List, [], ◌∷◌, ◌++◌, Option, Some, None, is_some, unwrap_or, refl, sym, ap, ◌∙◌, subst, arith, eqb-true, mul-le-mul_right}
 use Rattle.cost_theory.specs.Graph.{Graph, Loops, end_of, IsPlain, IsPlainPath, IsClosing, total, sum_below, only, is_round, is_header, is_back, enters}
 use Rattle.cost_theory.specs.Worst.{Numbers, AreNumbers, at_some, cost, charged, all_of, turns_round}
 use Rattle.cost_theory.specs.Accepted.{IsCallOrder}
 use Rattle.cost_theory.specs.Least.{IsLeast, IsLeastIfAny, IsUpTo, callee_value, least_call, least_cost}
 use Rattle.cost_theory.specs.LeastTurns.{IsRun, turn_step}
-use Rattle.cost_theory.proofs.Basics.{sum-le, sum-one, sum-none, search_below, and_right, and_both, and_false}
+use Rattle.cost_theory.proofs.Basics.{sum-le, and_right, and_both, and_false}
 use Rattle.cost_theory.proofs.Nesting.{some_same, accepted_entered, header_held}
 use Rattle.cost_theory.proofs.Closings.{header_closes}
 use Rattle.cost_theory.proofs.Turns.{entered-header}

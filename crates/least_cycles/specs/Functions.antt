@@ -1,5 +1,5 @@
 -- Nodes by their numbers, and their edges as hops between them.
-use Rattle.std.specs.Prelude.{◌≡◌, ℕ, ◌<◌, ◌≤◌, true, Bool, false, List, map, length, slice_get, slice_index_or, Option, Some, None}
+use Rattle.std.specs.Prelude.{◌≡◌, ℕ, ◌<◌, true, Bool, false, List, map, length, slice_get, slice_index_or, Option, Some}
 use Rattle.call_orders.specs.Arcs.{number_at, AreDistinct}
 use Rattle.cost_theory.specs.Graph.{total}
 use Rattle.cost_theory.specs.Least.{IsLeastIfAny, EndsWith}

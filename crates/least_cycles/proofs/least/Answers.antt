@@ -1,4 +1,4 @@
-use Rattle.std.proofs.Common.{◌≡◌, ◌<◌, ◌≤◌, ◌^◌, List, Option, Some, ℕ, length, sym, ap, ◌∙◌, subst, arith}
+use Rattle.std.proofs.Common.{List, Option, ℕ, length, sym, ap, ◌∙◌, subst, arith}
 use Rattle.call_orders.specs.Arcs.{number_at}
 use Rattle.loop_tree.specs.Tree.{loops}
 use Rattle.least_cycles.specs.Hops.{least_at}

@@ -1,4 +1,4 @@
-use Rattle.std.proofs.Common.{◌≡◌, ℕ, Option, Some, None, sym, ◌∙◌}
+use Rattle.std.proofs.Common.{◌≡◌, Some, None, sym, ◌∙◌}
 use Rattle.least_cycles.proofs.PriceLaws.{led_to}
 use Rattle.least_cycles.proofs.TurnLaws.{no_head_entered, back_entered, head_entered}
 use Rattle.least_cycles.proofs.charges.entered.Goals as goal

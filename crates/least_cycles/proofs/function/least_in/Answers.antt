@@ -1,4 +1,4 @@
-use Rattle.std.proofs.Common.{List, length, ◌+◌, ◌≤◌, ◌^◌, ◌*◌, sym, subst, arith}
+use Rattle.std.proofs.Common.{List, length, ◌^◌, sym, subst, arith}
 use Rattle.least_cycles.specs.declared.Hop.{Hop}
 use Rattle.least_cycles.specs.Hops.{AreHops, AreLeastCosts}
 use Rattle.least_cycles.specs.Charging.{cost_with}

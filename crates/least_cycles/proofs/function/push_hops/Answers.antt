@@ -1,4 +1,4 @@
-use Rattle.std.proofs.Common.{◌≡◌, ◌⊎◌, ◌+◌, ◌<◌, ◌≤◌, ◌++◌, ◌^◌, [], ◌∷◌, length, arith, ap, subst}
+use Rattle.std.proofs.Common.{◌≡◌, ◌⊎◌, ◌+◌, ◌<◌, ◌≤◌, ◌++◌, [], ◌∷◌, length, arith, ap, subst}
 use Rattle.call_orders.specs.Arcs.{number_at}
 use Rattle.code_graph.specs.FlowGraph.{graph}
 use Rattle.natural_loops.specs.Noted.{node_address}
@@ -6,7 +6,6 @@ use Rattle.least_cycles.specs.declared.Hop.{Hop}
 use Rattle.least_cycles.specs.Charging.{cost_with}
 use Rattle.least_cycles.specs.Functions.{addresses, AreHopsOf, IsFromFirst, IsFromNext}
 use Rattle.least_cycles.proofs.FunctionLaws.{hops_for, hops_push, hop_of, next_start, next_step, next_end}
-use Rattle.least_cycles.proofs.ChargeLaws.{charge_low}
 use Rattle.least_cycles.proofs.function.push_hops.Goals as goal
 
 pub loop-e-init : goal.loop-e-init

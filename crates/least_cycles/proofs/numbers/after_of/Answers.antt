@@ -1,7 +1,6 @@
-use Rattle.std.proofs.Common.{◌+◌, ◌≤◌, ◌^◌, List, Option, ℕ, sym, ap, ◌∙◌, subst, arith}
+use Rattle.std.proofs.Common.{◌+◌, ◌^◌, List, Option, ℕ, sym, ap, ◌∙◌, subst, arith}
 use Rattle.code_graph.specs.FlowGraph.{graph}
 use Rattle.least_cycles.specs.Tables.{least_by}
-use Rattle.least_cycles.specs.Ends.{end_place}
 use Rattle.least_cycles.specs.Charging.{charge_by}
 use Rattle.least_cycles.specs.Found.{AreAfterTo, plus_charge}
 use Rattle.least_cycles.proofs.EndLaws.{end_low}

@@ -1,4 +1,4 @@
-use Rattle.std.proofs.Common.{◌≡◌, length}
+use Rattle.std.proofs.Common.{length}
 use Rattle.least_cycles.proofs.TurnLaws.{IsReversedTo}
 use Rattle.least_cycles.proofs.turns.body_nodes.Given as goal
 

@@ -1,11 +1,7 @@
-use Rattle.std.proofs.Common.{◌≡◌, ◌<◌, ◌≤◌, ◌*◌, ◌^◌, ◌↔◌, ℕ, Bool, true, false, List, length, slice_index, refl, sym, ap, ◌∙◌, subst, arith}
+use Rattle.std.proofs.Common.{◌≡◌, ◌*◌, ℕ, List, slice_index, sym, ap, ◌∙◌, subst, arith}
 use Rattle.std.proofs.lemmas.Option.{get_or_from_slice_get}
-use Rattle.least_laws.specs.Charged.{is_closed}
-use Rattle.code_graph.specs.FlowGraph.{graph}
-use Rattle.loop_tree.specs.Tree.{loops}
-use Rattle.least_cycles.specs.Functions.{IsMarked, IsFromFirst}
 use Rattle.least_cycles.specs.Charging.{IsBodyOf, loop_charge}
-use Rattle.least_cycles.proofs.LoopLaws.{closed_is, charge_open, charge_closed, charge_idle}
+use Rattle.least_cycles.proofs.LoopLaws.{closed_is, charge_open, charge_closed}
 use Rattle.least_cycles.proofs.turns.charge_of_loop.Goals as goal
 
 pub returns-then-not-are_shut-clause-charge : goal.returns-then-not-are_shut-clause-charge

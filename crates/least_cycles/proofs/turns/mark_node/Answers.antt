@@ -1,7 +1,4 @@
 use Rattle.std.proofs.Common.{◌≡◌, ◌⊎◌, ◌+◌, ◌<◌, ◌≤◌, true, length, arith, subst, sym}
-use Rattle.call_orders.specs.Arcs.{number_at}
-use Rattle.code_graph.specs.FlowGraph.{graph}
-use Rattle.natural_loops.specs.Noted.{node_address}
 use Rattle.loop_tree.specs.Tree.{loops}
 use Rattle.least_cycles.specs.Functions.{IsFromFirst, IsFromNext}
 use Rattle.least_cycles.specs.Charging.{AreTurnKinds}

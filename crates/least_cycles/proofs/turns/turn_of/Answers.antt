@@ -1,9 +1,7 @@
-use Rattle.std.proofs.Common.{◌≡◌, ◌<◌, ◌≤◌, ◌^◌, ℕ, Bool, List, Option, Some, length, unwrap_or, refl, sym, ap, ◌∙◌, subst, arith}
-use Rattle.std.proofs.lemmas.Option.{get_or_from_slice_get, slice_get-get_or, same_Some}
-use Rattle.call_orders.specs.Arcs.{number_at}
-use Rattle.least_cycles.specs.Hops.{least_at}
-use Rattle.least_cycles.specs.Functions.{AreKinds, AreLeastRuns, IsFromFirst}
-use Rattle.least_cycles.specs.Charging.{AreTurnKinds, cost_with}
+use Rattle.std.proofs.Common.{◌≡◌, ◌<◌, ℕ, Bool, List, Option, length, unwrap_or, sym, ap, ◌∙◌, subst, arith}
+use Rattle.std.proofs.lemmas.Option.{same_Some}
+use Rattle.least_cycles.specs.Functions.{AreKinds, AreLeastRuns}
+use Rattle.least_cycles.specs.Charging.{cost_with}
 use Rattle.least_cycles.proofs.EndLaws.{value_at}
 use Rattle.least_cycles.proofs.ChargeLaws.{small_charges}
 use Rattle.least_cycles.proofs.LoopLaws.{body_kinds, header_spot, turn_found}

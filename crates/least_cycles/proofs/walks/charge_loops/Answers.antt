@@ -1,5 +1,4 @@
-use Rattle.std.proofs.Common.{◌≡◌, ◌≢◌, ◌+◌, ◌*◌, ◌<◌, ◌≤◌, ◌^◌, ℕ, List, Option, Some, length, slice_get, slice_set, sym, ap, ◌∙◌, subst, arith, get_or-set_other, get_or-set_same, length-set}
-use Rattle.call_orders.specs.Arcs.{number_at}
+use Rattle.std.proofs.Common.{◌≡◌, ◌<◌, ◌≤◌, ◌^◌, ℕ, Option, length, slice_set, sym, ap, ◌∙◌, subst, arith, get_or-set_other, length-set}
 use Rattle.code_graph.proofs.FewWords.{few_once}
 use Rattle.key_chains.specs.Keys.{IsLastBelow}
 use Rattle.loop_bodies.proofs.EdgeLaws.{place, place_less}

@@ -1,7 +1,6 @@
-use Rattle.std.proofs.Common.{◌≡◌, ◌≢◌, ℕ, ◌+◌, ◌<◌, ◌≤◌, ◌^◌, Bool, List, Option, Some, length, slice_get, ap, sym, ◌∙◌, subst, arith}
+use Rattle.std.proofs.Common.{◌≡◌, ℕ, ◌+◌, ◌<◌, Bool, List, Option, Some, length, slice_get, ap, sym, ◌∙◌, subst, arith}
 use Rattle.std.proofs.lemmas.Option.{slice_get-get_or}
 use Rattle.call_orders.specs.Arcs.{number_at}
-use Rattle.code_graph.specs.FlowGraph.{graph}
 use Rattle.least_cycles.specs.Functions.{IsBucket, AreKinds, IsFromFirst, AreLeastRuns}
 use Rattle.least_cycles.specs.Tables.{AreTables, ArePriced, AreWritten, IsBefore}
 use Rattle.least_cycles.specs.Charging.{own_by, cost_with, ArePricedAt, AreChargedTo, loop_owner}

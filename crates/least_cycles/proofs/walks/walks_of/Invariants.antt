@@ -1,4 +1,3 @@
-use Rattle.std.proofs.Common.{ℕ}
 use Rattle.call_orders.specs.Arcs.{number_at}
 use Rattle.least_laws.specs.Charged.{Charged}
 use Rattle.least_cycles.specs.Tables.{IsBefore}
