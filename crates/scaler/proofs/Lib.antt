@@ -5,6 +5,7 @@ pub mod HeldRuns
 pub mod Safe
 pub mod SafeRewritten
 pub mod MarkingLaws
+pub mod LineFacts
 pub mod SiteFacts
 pub mod ExtraFacts
 pub mod EdgeBlocks
@@ -12,4 +13,5 @@ pub mod MarkedKinds
 pub mod SiteLists
 pub mod MarkingFacts
 pub mod ScalingFacts
+pub mod ProgramFacts
 pub mod agree

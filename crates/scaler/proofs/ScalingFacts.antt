@@ -19,9 +19,8 @@ use Rattle.cost_theory.specs.Worst.{Numbers}
 use Rattle.elf_patch.specs.Stored.{IsStubBase}
 use Rattle.graph_runs.specs.Text.{text_of}
 use Rattle.code_graph.specs.FlowGraph.{FlowGraph, IsGraphOf}
-use Rattle.code_graph.specs.Building.{IsBuilt}
 use Rattle.loop_file.specs.declared.notes.LoopNote.{LoopNote}
-use Rattle.loop_tree.specs.Tree.{LoopView, IsTreeOf, IsTreeBuilt}
+use Rattle.loop_tree.specs.Tree.{LoopView, IsTreeOf}
 use Rattle.scale_base.specs.declared.fragments.Mark.{Mark}
 use Rattle.scale_sites.specs.Counters.{AreCounters, counted_loops}
 use Rattle.scale_sites.specs.Sites.{marks_at_edge}
@@ -35,10 +34,11 @@ use Rattle.rewritten_runs.specs.Stubs.{IsWeighed, HasStubs, marks_by_slack, edge
 use Rattle.rewritten_runs.proofs.Short.{block_bytes_len}
 use Rattle.rewritten_runs.proofs.Law.{storable}
 use Rattle.stored_laws.specs.StoredView.{IsStorable}
+use Rattle.scaler.specs.declared.rewriting.Marked.{Marked}
 use Rattle.scaler.specs.declared.rewriting.Scaling.{Scaling}
 use Rattle.scaler.specs.declared.stubs.Marking.{Marking}
 use Rattle.scaler.specs.Rewritten.{IsRewrittenProgram, rewritten_summary, unless_far}
-use Rattle.scaler.specs.Scalings.{IsMarkedAt, IsMarkingFound, IsUnfit, IsExtraFound, IsInRange, AreStubsOf, IsBlockGiven, IsMarkedProgram, IsScaled, IsScalingFound, HasMarks, AreStubsFound}
+use Rattle.scaler.specs.Scalings.{IsMarkedAt, IsMarkingFound, IsUnfit, IsExtraFound, IsInRange, AreStubsOf, IsBlockGiven, IsMarkedProgram, IsScaled, IsScalingFound, IsMarkedFound, HasMarks, AreStubsFound}
 use Rattle.scaler.proofs.Safe.{found_below}
 
 -- ---- stops
@@ -46,15 +46,10 @@ use Rattle.scaler.proofs.Safe.{found_below}
 abbrev Stopped : PowerModel → Image → List LoopNote → Stop → Type 0
 Stopped power image notes stop = AnswersBy {X = Scaling} {Y = Scaling} (λ s. s) (Err stop) (IsScalingFound power image notes)
 
-pub code_stops : (power : PowerModel) (image : Image) (notes : List LoopNote) (stop : Stop) → AnswersBy {X = FlowGraph} {Y = FlowGraph} (λ g. g) (Err stop) (IsBuilt (text_of image)) → Stopped power image notes stop
-code_stops power image notes Memory h = tt
-code_stops power image notes (Refused refusal) h = inl (record { refusal = refusal; why = h; answer_is = refl })
+abbrev IsUnmarked : PowerModel → Image → List LoopNote → Stop → Type 0
+IsUnmarked power image notes stop = AnswersBy {X = Marked} {Y = Marked} (λ m. m) (Err stop) (IsMarkedFound power image notes)
 
-pub tree_stops : (power : PowerModel) (image : Image) (notes : List LoopNote) (v : FlowGraph) (stop : Stop) → IsGraphOf (text_of image) v → AnswersBy {X = LoopView} {Y = LoopView} (λ t. t) (Err stop) (IsTreeBuilt v notes) → Stopped power image notes stop
-tree_stops power image notes v Memory is h = tt
-tree_stops power image notes v (Refused refusal) is h = inr (inl (record { code = v; refusal = refusal; code_is = is; why = h; answer_is = refl }))
-
-pub counters_stop : (power : PowerModel) (image : Image) (notes : List LoopNote) (v : FlowGraph) (t : LoopView) (stop : Stop) → IsGraphOf (text_of image) v → IsTreeOf v notes t → AnswersBy {X = List ℕ} {Y = List ℕ} (λ c. c) (Err stop) (AreCounters v t) → Stopped power image notes stop
+pub counters_stop : (power : PowerModel) (image : Image) (notes : List LoopNote) (v : FlowGraph) (t : LoopView) (stop : Stop) → IsGraphOf (text_of image) v → IsTreeOf v notes t → AnswersBy {X = List ℕ} {Y = List ℕ} (λ c. c) (Err stop) (AreCounters v t) → IsUnmarked power image notes stop
 counters_stop power image notes v t Memory is tree h = tt
 counters_stop power image notes v t (Refused refusal) is tree h = inr (inr (inl (record { code = v; tree = t; refusal = refusal; code_is = is; tree_is = tree; why = h; answer_is = refl })))
 
@@ -70,7 +65,7 @@ module _ (power : PowerModel) (image : Image) (notes : List LoopNote) (v : FlowG
       (λ late. inr (inr (inr (inr (inl (record { code = v; tree = t; plain = plain; stored = stored; weighed = weighed; short = late.0; late = late.1; answer_is = ap (λ r. Err r) late.2 }))))))
       u.why
 
-  pub marking_stops : (stop : Stop) → AnswersBy {X = Marking × ℕ} {Y = Marking × ℕ} (λ x. x) (Err stop) (IsMarkingFound power image v t) → Stopped power image notes stop
+  pub marking_stops : (stop : Stop) → AnswersBy {X = Marking × ℕ} {Y = Marking × ℕ} (λ x. x) (Err stop) (IsMarkingFound power image v t) → IsUnmarked power image notes stop
   marking_stops Memory h = tt
   marking_stops (Refused refusal) h = unfit refusal h.0 h.1 h.2
 

@@ -1,6 +1,8 @@
 -- The marks of a program's edges, and its numbers under the stored weights, as the code keeps them.
-use Rattle.std.specs.Prelude.{◌≡◌, ◌≢◌, ℕ, ◌*◌, ◌^◌, ◌<◌, ◌≤◌, Bool, List, [], length, All, slice_get, slice_index, Some}
+use Rattle.std.specs.Prelude.{◌≡◌, ◌≢◌, ℕ, ◌-◌, ◌*◌, ◌^◌, ◌<◌, ◌≤◌, Bool, List, [], ◌++◌, map, length, All, slice_get, slice_index, Some}
 use Rattle.scale_base.specs.declared.fragments.Fragment.{Fragment}
+use Rattle.scale_base.specs.declared.fragments.Fragment.TheVariants as fragments
+use Rattle.scale_base.specs.declared.plan.SiteLine.{SiteLine}
 use Rattle.scale_base.specs.Image.{Image}
 use Rattle.power_model.specs.Numbers.{PowerModel}
 use Rattle.least_laws.specs.Charged.{Charged, to_end_after}
@@ -12,13 +14,15 @@ use Rattle.level_tables.specs.Tables as tables
 use Rattle.loop_tree.specs.Tree.{LoopView, loops, IsLoopTree}
 use Rattle.scale_base.specs.declared.fragments.Mark.{Mark}
 use Rattle.scale_sites.specs.Counters.{counted_loops}
+use Rattle.scale_sites.specs.Marks.{first_counter}
 use Rattle.scale_sites.specs.Sites.{marks_at_edge}
 use Rattle.worst_cycles.specs.Worst.{HoldsLeft, slack_at, rest_at}
-use Rattle.rewritten_runs.specs.Stubs.{marks_by_slack, stored_weights, told_at, fragment_of, fragments_at}
+use Rattle.rewritten_runs.specs.Stubs.{marks_by_slack, stored_weights, told_at, fragment_of, fragments_at, loop_of}
 use Rattle.stub_writer.specs.declared.site.StubEdge.{StubEdge}
 use Rattle.stub_writer.specs.Sites.{kind_number, fragments_by}
 use Rattle.scaler.specs.declared.stubs.Marking.{Marking}
 use Rattle.scaler.specs.declared.stubs.Told.{Told}
+use Rattle.scaler.specs.Planned.{line_of, plan_lines}
 
 -- the marks by the plain numbers, the numbers under the stored weights, and the least cycles, all in range
 pub record IsMarking (power : PowerModel) (image : Image) (v : FlowGraph) (t : LoopView) (plain stored : Numbers) (least : Charged) (m : Marking) : Type 0 where
@@ -81,3 +85,23 @@ pub record AreEdgesOfNode (v : FlowGraph) (frags : ℕ → List Fragment) (at : 
 
 abbrev pub AreEdgesAt : PowerModel → FlowGraph → LoopView → Marking → ℕ → List StubEdge → Type 0
 AreEdgesAt power v t m k es = Whichever power v t m (λ image plain stored least. AreEdgesOfNode v (fragments_at power image v t (marks_by_slack power image v t plain) stored least) (slice_index v.code.nodes k) es)
+
+-- ---- the lines of an edge, and of all
+
+-- the counter of a fragment is one of a counted loop, which has a number of a loop file
+abbrev pub IsCounterOf : List ℕ → ℕ → Type 0
+IsCounterOf counted counter = (first_counter ≤ counter) × (counter - first_counter < length counted) × (loop_of counted counter < 4096)
+
+abbrev pub IsOfLoop : List ℕ → Fragment → Type 0
+IsOfLoop counted (fragments.Switch word) = Unit {0}
+IsOfLoop counted (fragments.Exit counter shift rows) = IsCounterOf counted counter
+IsOfLoop counted (fragments.Reset counter) = IsCounterOf counted counter
+IsOfLoop counted (fragments.Count counter) = IsCounterOf counted counter
+
+-- the lines of an edge's fragments behind some lines
+abbrev pub ArePushedAt : PowerModel → FlowGraph → LoopView → Marking → ℕ → List SiteLine → List SiteLine → Type 0
+ArePushedAt power v t m e old new = Whichever power v t m (λ image plain stored least. (edge : Edge) → slice_get v.code.edges e ≡ Some edge
+    → new ≡ old ++ map (line_of (counted_loops t) edge) (fragments_at power image v t (marks_by_slack power image v t plain) stored least e))
+
+abbrev pub AreLinesOf : PowerModel → FlowGraph → LoopView → Marking → List SiteLine → Type 0
+AreLinesOf power v t m lines = Whichever power v t m (λ image plain stored least. lines ≡ plan_lines power image v t plain stored least)

@@ -2,15 +2,19 @@
 use Rattle.std.specs.Prelude.{◌≡◌, ◌⊎◌, ℕ, ◌<◌, ◌≤◌, min, List, length, map, All, slice_get, slice_index, Option, Some, None, Result, Ok, Err}
 use Rattle.scale_base.specs.declared.refusal.Refusal.{Refusal}
 use Rattle.scale_base.specs.declared.refusal.Refusal.TheVariants.{DeadlineMissed, TooLong}
-use Rattle.scale_base.specs.Image.{Image}
-use Rattle.power_model.specs.Numbers.{PowerModel}
+use Rattle.scale_base.specs.Image.{Image, image_of}
+use Rattle.power_model.specs.Numbers.{PowerModel, IsPowerModel}
 use Rattle.power_model.specs.Price.{time_at}
 use Rattle.power_model.specs.Slowest.{slowest_of, fastest}
 use Rattle.elf_patch.specs.Stored.{IsStubBase}
 use Rattle.cost_theory.specs.Worst.{Numbers, AreNumbers}
 use Rattle.least_laws.specs.Charged.{Charged, AreCharged}
-use Rattle.code_graph.specs.FlowGraph.{FlowGraph, graph}
-use Rattle.loop_tree.specs.Tree.{LoopView, loops}
+use Rattle.code_graph.specs.FlowGraph.{FlowGraph, graph, IsGraphOf}
+use Rattle.graph_runs.specs.Text.{text_of}
+use Rattle.loop_file.specs.Loops.{read_loops}
+use Rattle.loop_tree.specs.Tree.{LoopView, loops, IsTreeOf}
+use Rattle.machine_file.specs.Machine.{read_machine}
+use Rattle.scale_sites.specs.Counters.{AreCounters, counted_loops}
 use Rattle.scale_sites.specs.Sites.{SitesView, is_branch, marks_at_edge}
 use Rattle.scale_sites.specs.Weights.{jumps_of}
 use Rattle.stub_writer.specs.declared.site.StubBlock.{StubBlock}
@@ -22,8 +26,11 @@ use Rattle.loop_file.specs.declared.notes.LoopNote.{LoopNote}
 use Rattle.rewritten_runs.specs.Stubs.{IsWeighed, HasStubs, plain_weights, extra_weights, stored_weights, marks_by_slack, fragments_at, AreSitesOf}
 use Rattle.scaler.specs.declared.stubs.Marking.{Marking}
 use Rattle.scaler.specs.Markings.{IsMarking}
+use Rattle.scaler.specs.declared.rewriting.Marked.{Marked}
 use Rattle.scaler.specs.declared.rewriting.Scaling.{Scaling}
-use Rattle.scaler.specs.Rewritten.{IsRewrittenProgram, rewritten_summary}
+use Rattle.scaler.specs.declared.rewriting.Program.{Program}
+use Rattle.scaler.specs.Held.{unscaled}
+use Rattle.scaler.specs.Rewritten.{IsRewritten, IsRewrittenProgram, rewritten_summary}
 
 -- ---- the marks
 
@@ -121,3 +128,31 @@ IsScalingFound power image notes (Err refusal) = IsRewrittenProgram power image 
 -- its stubs, whatever its numbers
 abbrev pub AreStubsFound : PowerModel → Image → FlowGraph → LoopView → Marking → List StubSite → Type 0
 AreStubsFound power image v t m stubs = (notes : List LoopNote) (plain stored : Numbers) (least : Charged) → IsWeighed power image notes v t plain stored → IsMarking power image v t plain stored least m → AreStubsOf power image v t plain stored least stubs
+
+-- ---- the program of three files
+
+-- the graph and the loops of an image, whose counted loops can be counted, with its marking and its starting level
+pub record IsMarked (power : PowerModel) (image : Image) (notes : List LoopNote) (m : Marked) : Type 0 where
+  pub code_is : IsGraphOf (text_of image) m.graph
+  pub tree_is : IsTreeOf m.graph notes m.tree
+  pub counters : AreCounters m.graph m.tree (Ok (counted_loops m.tree))
+  pub found : IsMarkingFound power image m.graph m.tree (Ok (m.marking, m.start))
+
+abbrev pub IsMarkedFound : PowerModel → Image → List LoopNote → Result Marked Refusal → Type 0
+IsMarkedFound power image notes (Ok m) = IsMarked power image notes m
+IsMarkedFound power image notes (Err refusal) = IsRewrittenProgram power image notes (Err refusal)
+
+-- what the bytes of an image, of a machine file and of a loop file are, with the marks and the stubs of the program
+pub record IsProgramOf (image machine loop_file : List ℕ) (p : Program) : Type 0 where
+  pub power_is : read_machine machine ≡ Ok p.power
+  pub in_range : IsPowerModel p.power
+  pub view_is : image_of image ≡ Ok p.view
+  pub unscaled : unscaled p.view.keyed_segment ≡ Ok tt
+  pub notes : List LoopNote
+  pub notes_are : read_loops p.view loop_file ≡ Ok notes
+  pub marked : IsMarked p.power p.view notes p.marked
+  pub scaled : IsScaled p.power p.view notes p.scaling
+
+abbrev pub IsProgramFound : List ℕ → List ℕ → List ℕ → Result Program Refusal → Type 0
+IsProgramFound image machine loop_file (Ok p) = IsProgramOf image machine loop_file p
+IsProgramFound image machine loop_file (Err refusal) = IsRewritten image machine loop_file (Err refusal)

@@ -9,12 +9,15 @@ ghost use Rattle.scaler.specs.Rewritten.{IsRewritten};
 ghost use Rattle.scaler.specs.RewrittenRuns.{IsRewrittenSafely};
 ghost use Rattle.scaler.specs.Runs.{IsHeldSafely};
 
+mod lines;
+mod planning;
 mod rewriting;
 mod safe_level;
 mod stubs;
 #[cfg(test)]
 mod tests;
 
+pub use planning::plan;
 pub use rewriting::rewrite;
 pub use safe_level::hold;
 

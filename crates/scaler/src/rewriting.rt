@@ -185,25 +185,58 @@ pub struct Scaling {
     pub summary: Summary,
 }
 
-/// The stubs of a program, and the numbers of its summary.
-fn scaling_of(
+/// The graph and the loops of a program, the marks of its edges with its numbers under the stored weights, and its starting level.
+#[derive(Drop)]
+pub struct Marked {
+    pub graph: CodeGraph,
+    pub tree: LoopTree,
+    pub marking: Marking,
+    pub start: u8,
+}
+
+/// The marks of the program of an image, if it is in time with them.
+fn marked_of(
     alloc: Global,
     view: &ImageView<'_>,
     power: &Power,
     notes: &LoopNotes,
-) -> Result<Scaling, Stop>
+) -> Result<Marked, Stop>
     requires image { image_of view.now.file ≡ Ok view.now }
     requires power { IsPowerModel power.now }
-    ensures { AnswersBy (λ s. s) result (scalings.IsScalingFound power.now view.now notes.now) }
+    ensures { AnswersBy (λ m. m) result (scalings.IsMarkedFound power.now view.now notes.now) }
 {
     let graph = build_graph(alloc, view)?;
     let tree = build_loops(alloc, &graph, notes)?;
     let counters = counters(alloc, &graph, &tree)?;
     let (marking, start) = marking_of(alloc, &graph, &tree, counters, power)?;
-    let stub_cycles = stub_cycles(alloc, &graph, &tree, &marking.sites, power)?;
-    let stubs = stub_sites(alloc, view, power, &graph, &tree, &marking)?;
+    Ok(Marked {
+        graph,
+        tree,
+        marking,
+        start,
+    })
+}
+
+/// The stubs of a marked program, and the numbers of its summary.
+fn scaling_of(
+    alloc: Global,
+    view: &ImageView<'_>,
+    power: &Power,
+    marked: &Marked,
+) -> Result<Scaling, Stop>
+    requires image { image_of view.now.file ≡ Ok view.now }
+    requires power { IsPowerModel power.now }
+    requires marked { (notes : List LoopNote) × scalings.IsMarked power.now view.now notes marked.now }
+    ensures { (notes : List LoopNote) → scalings.IsMarked power.now view.now notes marked.now → AnswersBy (λ s. s) result (scalings.IsScalingFound power.now view.now notes) }
+{
+    let graph = &marked.graph;
+    let tree = &marked.tree;
+    let marking = &marked.marking;
+    let start = marked.start;
+    let stub_cycles = stub_cycles(alloc, graph, tree, &marking.sites, power)?;
+    let stubs = stub_sites(alloc, view, power, graph, tree, marking)?;
     let (block, base) = block_of(alloc, view, &stubs)?;
-    let edges = count_edges(&graph, &marking.sites);
+    let edges = count_edges(graph, &marking.sites);
     let worst = marking.worst.total();
     let summary = Summary {
         start,
@@ -247,6 +280,38 @@ fn rewritten_file(
     )
 }
 
+/// The program of three files: its machine, its image, its marks and its stubs.
+#[derive(Drop)]
+pub struct Program<'a> {
+    pub power: Power,
+    pub view: ImageView<'a>,
+    pub marked: Marked,
+    pub scaling: Scaling,
+}
+
+/// The program of three files, or the first refusal.
+pub fn program_of<'a>(
+    alloc: Global,
+    image: &'a [u8],
+    machine: &[u8],
+    loops: &[u8],
+) -> Result<Program<'a>, Stop>
+    ensures { AnswersBy (λ p. p) result (scalings.IsProgramFound image.now machine.now loops.now) }
+{
+    let power = read_machine(alloc, machine)?;
+    let view = read_image(alloc, image)?;
+    check_unscaled(view.keyed())?;
+    let notes = read_loops(alloc, loops, &view)?;
+    let marked = marked_of(alloc, &view, &power, &notes)?;
+    let scaling = scaling_of(alloc, &view, &power, &marked)?;
+    Ok(Program {
+        power,
+        view,
+        marked,
+        scaling,
+    })
+}
+
 /// The image with its stubs, or the first refusal.
 fn rewrite_files(
     alloc: Global,
@@ -257,13 +322,9 @@ fn rewrite_files(
     requires { length image.now ≤ 4194304 }
     ensures { AnswersBy (λ given. (given.0.items, given.1)) result (rewritten.IsRewritten image.now machine.now loops.now) }
 {
-    let power = read_machine(alloc, machine)?;
-    let view = read_image(alloc, image)?;
-    check_unscaled(view.keyed())?;
-    let notes = read_loops(alloc, loops, &view)?;
-    let scaling = scaling_of(alloc, &view, &power, &notes)?;
-    let bytes = rewritten_file(alloc, &view, &scaling)?;
-    Ok((bytes, scaling.summary))
+    let program = program_of(alloc, image, machine, loops)?;
+    let bytes = rewritten_file(alloc, &program.view, &program.scaling)?;
+    Ok((bytes, program.scaling.summary))
 }
 
 /// The image with stubs that lower its level where what is left of the worst case allows it, started at the slowest level at which its

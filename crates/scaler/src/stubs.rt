@@ -99,7 +99,7 @@ fn exit_of(
 }
 
 /// The code of a mark on edge `e`.
-fn fragment_of(
+pub fn fragment_of(
     power: &Power,
     graph: &CodeGraph,
     tree: &LoopTree,

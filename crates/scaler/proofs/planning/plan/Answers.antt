@@ -1,0 +1,68 @@
+use Rattle.std.proofs.Common.{ℕ, List, map, Err, refl}
+use Rattle.std.proofs.lemmas.Result.{err_from_is_err_and}
+use Rattle.scale_base.specs.declared.plan.ScalePlan.{ScalePlan}
+use Rattle.scale_base.specs.declared.plan.SiteLine.{SiteLine}
+use Rattle.scale_base.specs.declared.refusal.Stop.{Stop}
+use Rattle.scale_base.specs.declared.refusal.Stop.TheVariants.{Refused, Memory}
+use Rattle.scale_base.specs.declared.summary.Summary.{Summary}
+use Rattle.scale_base.specs.Answer.{AnswersBy}
+use Rattle.stub_writer.specs.Sites.{site_of}
+use Rattle.rewritten_runs.specs.Stubs.{rewritten_file}
+use Rattle.scaler.specs.declared.rewriting.Program.{Program}
+use Rattle.scaler.specs.Markings.{HasMarking, AreLinesOf}
+use Rattle.scaler.specs.Planned.{IsPlanned, HasLines}
+use Rattle.scaler.specs.Scalings.{IsProgramOf, IsProgramFound}
+use Rattle.scaler.proofs.LineFacts.{few_headers}
+use Rattle.scaler.proofs.ProgramFacts.{files_given}
+use Rattle.scaler.proofs.planning.plan.Goals as goal
+
+program_stops : (image machine loops : List ℕ) (stop : Stop) → AnswersBy {X = Program} {Y = Program} (λ p. p) (Err stop) (IsProgramFound image machine loops)
+    → AnswersBy {X = ScalePlan} {Y = Summary × List SiteLine} (λ p. (p.summary, p.lines.items)) (Err stop) (IsPlanned image machine loops)
+program_stops image machine loops (Refused refusal) h = h
+program_stops image machine loops Memory h = tt
+
+has_marking : (image machine loops : List ℕ) (p : Program) → IsProgramOf image machine loops p → HasMarking p.power p.marked.graph p.marked.tree p.marked.marking
+has_marking image machine loops p h = let m = h.marked.found in (p.view, m.0, m.1, m.2, m.3.marking)
+
+has_lines : (image machine loops : List ℕ) (p : Program) (lines : List SiteLine) → IsProgramOf image machine loops p → AreLinesOf p.power p.marked.graph p.marked.tree p.marked.marking lines → HasLines image machine loops lines
+has_lines image machine loops p lines h are =
+    let m = h.marked.found in
+    record {
+      power = p.power;
+      original = p.view;
+      notes = h.notes;
+      power_is = h.power_is;
+      original_is = h.view_is;
+      notes_are = h.notes_are;
+      code = p.marked.graph;
+      tree = p.marked.tree;
+      plain = m.0;
+      stored = m.1;
+      least = m.2;
+      weighed = record { code_is = h.marked.code_is; tree_is = h.marked.tree_is; counters = h.marked.counters; plain_are = m.3.plain_are; stored_are = m.3.stored_are };
+      least_are = m.3.least_are;
+      lines_are = are p.view m.0 m.1 m.2 m.3.marking;
+    }
+
+pub site_lines-requires-clause-marking : goal.site_lines-requires-clause-marking
+site_lines-requires-clause-marking c = has_marking c.args.image.now c.args.machine.now c.args.loops.now c.in_ok-program.program c.in_ok-program.ensures
+
+pub site_lines-requires-clause-few : goal.site_lines-requires-clause-few
+site_lines-requires-clause-few c =
+    let p = c.in_ok-program.program in
+    let h = c.in_ok-program.ensures in
+    few_headers p.view c.args.loops.now h.notes p.marked.graph p.marked.tree h.notes_are h.marked.tree_is
+
+pub returns-in_err-program : goal.returns-in_err-program
+returns-in_err-program c =
+    let p = err_from_is_err_and c.from_residual.result c.from_residual.ensures.1 in
+    rw (p.1, p.2) (program_stops c.args.image.now c.args.machine.now c.args.loops.now c.in_err-program.field-0.0 c.in_err-program.ensures)
+
+pub returns : goal.returns
+returns c =
+    let p = c.in_ok-program.program in
+    let bytes = rewritten_file p.view (map site_of p.scaling.stubs.items) p.scaling.base p.scaling.summary.start in (
+      bytes,
+      files_given c.args.image.now c.args.machine.now c.args.loops.now p bytes c.in_ok-program.ensures refl,
+      has_lines c.args.image.now c.args.machine.now c.args.loops.now p c.in_ok-lines.lines.items c.in_ok-program.ensures c.in_ok-lines.ensures,
+    )

@@ -1,0 +1,113 @@
+use Rattle.std.proofs.Common.{rules, ◌≡◌, ℕ, List, Ok, Err}
+use Rattle.std.proofs.lemmas.Result.{err_from_is_err_and}
+use Rattle.scale_base.specs.declared.refusal.Refusal.{Refusal}
+use Rattle.scale_base.specs.declared.refusal.Stop.{Stop}
+use Rattle.scale_base.specs.declared.refusal.Stop.TheVariants.{Refused, Memory}
+use Rattle.scale_base.specs.Answer.{AnswersBy, Stops}
+use Rattle.scale_base.specs.Image.{Image, image_of}
+use Rattle.power_model.specs.Numbers.{PowerModel}
+use Rattle.machine_file.specs.Machine.{read_machine}
+use Rattle.loop_file.specs.declared.notes.LoopNote.{LoopNote}
+use Rattle.loop_file.specs.Loops.{read_loops}
+use Rattle.scaler.specs.declared.rewriting.Marked.{Marked}
+use Rattle.scaler.specs.declared.rewriting.Program.{Program}
+use Rattle.scaler.specs.declared.rewriting.Scaling.{Scaling}
+use Rattle.scaler.specs.Held.{unscaled}
+use Rattle.scaler.specs.Rewritten.{IsRewritten}
+use Rattle.scaler.specs.Scalings.{IsMarkedFound, IsScalingFound, IsProgramFound}
+use Rattle.scaler.proofs.Files.{HoldAnswers, then_stops, then_goes}
+use Rattle.scaler.proofs.ProgramFacts.{files_answer, read_again}
+use Rattle.scaler.proofs.rewriting.program_of.Goals as goal
+
+-- ---- the parts in their order
+
+machine_stops : (image machine loops : List ℕ) (stop : Stop) → Stops stop (read_machine machine) → HoldAnswers (Err stop) (IsRewritten image machine loops)
+unfolding IsRewritten
+machine_stops image machine loops stop h = then_stops (read_machine machine) _ stop h
+
+image_stops : (image machine loops : List ℕ) (power : PowerModel) (stop : Stop) → read_machine machine ≡ Ok power → Stops stop (image_of image) → HoldAnswers (Err stop) (IsRewritten image machine loops)
+unfolding IsRewritten
+image_stops image machine loops power stop a h = then_goes (read_machine machine) power _ (Err stop) a (then_stops (image_of image) _ stop h)
+
+key_stops : (image machine loops : List ℕ) (power : PowerModel) (original : Image) (refusal : Refusal) → read_machine machine ≡ Ok power → image_of image ≡ Ok original → unscaled original.keyed_segment ≡ Err refusal →
+    HoldAnswers (Err (Refused refusal)) (IsRewritten image machine loops)
+unfolding IsRewritten
+key_stops image machine loops power original refusal a b h =
+    then_goes (read_machine machine) power _ (Err (Refused refusal)) a (then_goes (image_of image) original _ (Err (Refused refusal)) b (then_stops (unscaled original.keyed_segment) _ (Refused refusal) h))
+
+loops_stop : (image machine loops : List ℕ) (power : PowerModel) (original : Image) (stop : Stop) → read_machine machine ≡ Ok power → image_of image ≡ Ok original → unscaled original.keyed_segment ≡ Ok tt →
+    Stops stop (read_loops original loops) → HoldAnswers (Err stop) (IsRewritten image machine loops)
+unfolding IsRewritten
+loops_stop image machine loops power original stop a b c h =
+    then_goes (read_machine machine) power _ (Err stop) a (then_goes (image_of image) original _ (Err stop) b (then_goes (unscaled original.keyed_segment) tt _ (Err stop) c (then_stops (read_loops original loops) _ stop h)))
+
+-- ---- the program
+
+-- what is refused of the files is refused of their program
+stopped : (image machine loops : List ℕ) (stop : Stop) → HoldAnswers (Err stop) (IsRewritten image machine loops) → AnswersBy {X = Program} {Y = Program} (λ p. p) (Err stop) (IsProgramFound image machine loops)
+stopped image machine loops (Refused refusal) h = h
+stopped image machine loops Memory h = tt
+
+marked_stops : (image machine loops : List ℕ) (power : PowerModel) (original : Image) (notes : List LoopNote) (stop : Stop) → read_machine machine ≡ Ok power → image_of image ≡ Ok original → unscaled original.keyed_segment ≡ Ok tt →
+    read_loops original loops ≡ Ok notes → AnswersBy {X = Marked} {Y = Marked} (λ m. m) (Err stop) (IsMarkedFound power original notes) → AnswersBy {X = Program} {Y = Program} (λ p. p) (Err stop) (IsProgramFound image machine loops)
+marked_stops image machine loops power original notes (Refused refusal) a b c d h = files_answer image machine loops power original notes (Err refusal) a b c d h
+marked_stops image machine loops power original notes Memory a b c d h = tt
+
+scaling_stops : (image machine loops : List ℕ) (power : PowerModel) (original : Image) (notes : List LoopNote) (stop : Stop) → read_machine machine ≡ Ok power → image_of image ≡ Ok original → unscaled original.keyed_segment ≡ Ok tt →
+    read_loops original loops ≡ Ok notes → AnswersBy {X = Scaling} {Y = Scaling} (λ s. s) (Err stop) (IsScalingFound power original notes) → AnswersBy {X = Program} {Y = Program} (λ p. p) (Err stop) (IsProgramFound image machine loops)
+scaling_stops image machine loops power original notes (Refused refusal) a b c d h = files_answer image machine loops power original notes (Err refusal) a b c d h
+scaling_stops image machine loops power original notes Memory a b c d h = tt
+
+-- ---- the calls
+
+pub scaling_of-requires-clause-image : goal.scaling_of-requires-clause-image
+scaling_of-requires-clause-image c = read_again c.args.image.now c.in_ok-view.view c.in_ok-view.ensures
+
+pub marked_of-requires-clause-image : goal.marked_of-requires-clause-image
+marked_of-requires-clause-image c = read_again c.args.image.now c.in_ok-view.view c.in_ok-view.ensures
+
+pub scaling_of-requires-clause-marked : goal.scaling_of-requires-clause-marked
+scaling_of-requires-clause-marked c = (c.in_ok-notes.notes, c.in_ok-marked.ensures)
+
+pub returns-in_err-power : goal.returns-in_err-power
+returns-in_err-power c =
+    let p = err_from_is_err_and c.from_residual.result c.from_residual.ensures.1 in
+    rw (p.1, p.2) (stopped c.args.image.now c.args.machine.now c.args.loops.now c.in_err-power.field-0.0 (machine_stops c.args.image.now c.args.machine.now c.args.loops.now c.in_err-power.field-0.0 c.in_err-power.ensures.answers))
+
+pub returns-in_err-view : goal.returns-in_err-view
+returns-in_err-view c =
+    let p = err_from_is_err_and c.from_residual-in_err-view.result c.from_residual-in_err-view.ensures.1 in
+    rw (p.1, p.2) (stopped c.args.image.now c.args.machine.now c.args.loops.now c.in_err-view.field-0.0 (image_stops c.args.image.now c.args.machine.now c.args.loops.now c.in_ok-power.power c.in_err-view.field-0.0 c.in_ok-power.ensures.answers c.in_err-view.ensures))
+
+pub returns-in_err-check_unscaled : goal.returns-in_err-check_unscaled
+returns-in_err-check_unscaled c =
+    let p = err_from_is_err_and c.from_residual-in_err-check_unscaled.result c.from_residual-in_err-check_unscaled.ensures.1 in
+    rw (p.1, p.2) (key_stops c.args.image.now c.args.machine.now c.args.loops.now c.in_ok-power.power c.in_ok-view.view c.in_err-check_unscaled.field-0.0 c.in_ok-power.ensures.answers c.in_ok-view.ensures
+    (search rules))
+
+pub returns-in_err-notes : goal.returns-in_err-notes
+returns-in_err-notes c =
+    let p = err_from_is_err_and c.from_residual-in_err-notes.result c.from_residual-in_err-notes.ensures.1 in
+    rw (p.1, p.2) (stopped c.args.image.now c.args.machine.now c.args.loops.now c.in_err-notes.field-0.0 (loops_stop c.args.image.now c.args.machine.now c.args.loops.now c.in_ok-power.power c.in_ok-view.view c.in_err-notes.field-0.0 c.in_ok-power.ensures.answers c.in_ok-view.ensures (search rules) c.in_err-notes.ensures))
+
+pub returns-in_err-marked : goal.returns-in_err-marked
+returns-in_err-marked c =
+    let p = err_from_is_err_and c.from_residual-in_err-marked.result c.from_residual-in_err-marked.ensures.1 in
+    rw (p.1, p.2) (marked_stops c.args.image.now c.args.machine.now c.args.loops.now c.in_ok-power.power c.in_ok-view.view c.in_ok-notes.notes c.in_err-marked.field-0.0 c.in_ok-power.ensures.answers c.in_ok-view.ensures (search rules) c.in_ok-notes.ensures c.in_err-marked.ensures)
+
+pub returns-in_err-scaling : goal.returns-in_err-scaling
+returns-in_err-scaling c =
+    let p = err_from_is_err_and c.from_residual-in_err-scaling.result c.from_residual-in_err-scaling.ensures.1 in
+    rw (p.1, p.2) (scaling_stops c.args.image.now c.args.machine.now c.args.loops.now c.in_ok-power.power c.in_ok-view.view c.in_ok-notes.notes c.in_err-scaling.field-0.0 c.in_ok-power.ensures.answers c.in_ok-view.ensures (search rules) c.in_ok-notes.ensures (c.in_err-scaling.ensures c.in_ok-notes.notes c.in_ok-marked.ensures))
+
+pub returns : goal.returns
+returns c = record {
+  power_is = c.in_ok-power.ensures.answers;
+  in_range = c.in_ok-power.ensures.in_range;
+  view_is = c.in_ok-view.ensures;
+  unscaled = search rules;
+  notes = c.in_ok-notes.notes;
+  notes_are = c.in_ok-notes.ensures;
+  marked = c.in_ok-marked.ensures;
+  scaled = c.in_ok-scaling.ensures c.in_ok-notes.notes c.in_ok-marked.ensures;
+}

@@ -1,0 +1,73 @@
+//! The lines of a plan: a line for each fragment of each edge.
+
+ghost use Rattle.std.specs.Prelude.{◌≡◌, ◌<◌, ◌≤◌, length, IfOk, OnOk};
+ghost use Rattle.scale_sites.specs.Counters.{counted_loops};
+ghost use Rattle.scaler.specs.Planned.{loop_number};
+ghost use Rattle.scaler.specs.Markings.{HasMarking, IsOfLoop, ArePushedAt, AreLinesOf};
+
+use crate::stubs::{Marking, fragment_of};
+use code_graph::CodeGraph;
+use loop_tree::LoopTree;
+use power_model::Power;
+use scale_base::{Fragment, NoMemory, SiteLine};
+use scale_sites::CounterList;
+use std::alloc::Global;
+
+/// The number of the loop of a fragment, from 1 on; 0 for a switch.
+fn loop_number(counters: &CounterList, fragment: &Fragment) -> u32
+    requires { IsOfLoop counters.now fragment.now }
+    ensures { result ≡ loop_number counters.now fragment.now }
+{
+    let counter = match fragment {
+        Fragment::Switch { .. } => return 0,
+        Fragment::Exit { counter, .. } => *counter,
+        Fragment::Reset { counter } => *counter,
+        Fragment::Count { counter } => *counter,
+    };
+    *counters.get(usize::from(counter - 2)) as u32 + 1
+}
+
+/// A line for each fragment of edge `e`.
+fn push_lines(
+    lines: &mut Vec<SiteLine>,
+    power: &Power,
+    graph: &CodeGraph,
+    tree: &LoopTree,
+    marking: &Marking,
+    e: usize,
+) -> Result<(), NoMemory>
+    requires marking { HasMarking power.now graph.now tree.now marking.now }
+    requires few { length tree.now.headers ≤ 4096 }
+    requires edge { e < length graph.now.code.edges }
+    ensures { OnOk result (ArePushedAt power.now graph.now tree.now marking.now e lines.old.items lines.new.items) }
+{
+    let edge = graph.edge(e);
+    for mark in marking.sites.marks(e) {
+        let fragment = fragment_of(power, graph, tree, marking, e, *mark);
+        lines.push(SiteLine {
+            edge,
+            loop_no: loop_number(&marking.counters, &fragment),
+            fragment,
+        })?;
+    }
+    Ok(())
+}
+
+/// A line for each fragment of each edge, in the edges' order.
+pub fn site_lines(
+    alloc: Global,
+    power: &Power,
+    graph: &CodeGraph,
+    tree: &LoopTree,
+    marking: &Marking,
+) -> Result<Vec<SiteLine>, NoMemory>
+    requires marking { HasMarking power.now graph.now tree.now marking.now }
+    requires few { length tree.now.headers ≤ 4096 }
+    ensures { IfOk result (λ lines. AreLinesOf power.now graph.now tree.now marking.now lines.items) }
+{
+    let mut lines = Vec::new(alloc);
+    for e in 0..graph.edge_count() {
+        push_lines(&mut lines, power, graph, tree, marking, e)?;
+    }
+    Ok(lines)
+}

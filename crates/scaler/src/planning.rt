@@ -1,0 +1,35 @@
+//! What a rewriting finds, without its file.
+
+ghost use Rattle.std.specs.Prelude.{◌≤◌, length};
+ghost use Rattle.scale_base.specs.Answer.{AnswersBy};
+ghost use Rattle.scaler.specs.Planned.{IsPlanned};
+
+use crate::lines::site_lines;
+use crate::rewriting::program_of;
+use scale_base::{ScalePlan, Stop};
+use std::alloc::Global;
+
+/// All that `rewrite` finds, without the file: the summary, and a line for each fragment of each marked edge, in ascending order of the
+/// edges' addresses, Taken before Untaken, and on an edge in their order; or the first refusal, as `rewrite` has it.
+///
+/// The files have at most the bytes that the program loads, as with `rewrite`.
+pub fn plan(alloc: Global, image: &[u8], machine: &[u8], loops: &[u8]) -> Result<ScalePlan, Stop>
+    requires image { length image.now ≤ 4194304 }
+    requires machine { length machine.now ≤ 1048576 }
+    requires loops { length loops.now ≤ 1048576 }
+    ensures { AnswersBy (λ p. (p.summary, p.lines.items)) result (IsPlanned image.now machine.now loops.now) }
+{
+    let program = program_of(alloc, image, machine, loops)?;
+    let marked = &program.marked;
+    let lines = site_lines(
+        alloc,
+        &program.power,
+        &marked.graph,
+        &marked.tree,
+        &marked.marking,
+    )?;
+    Ok(ScalePlan {
+        summary: program.scaling.summary,
+        lines,
+    })
+}
