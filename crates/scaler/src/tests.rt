@@ -1,5 +1,6 @@
-use crate::rewrite;
-use scale_base::{Refusal, Stop, Summary};
+use crate::{plan, rewrite};
+use cost_theory::EdgeKind;
+use scale_base::{Fragment, Refusal, ScalePlan, Stop, Summary};
 use std::alloc::Global;
 use std::test::Fail;
 
@@ -38,6 +39,19 @@ fn rewritten(
         return Err(Fail::from("files that are too long"));
     }
     Ok(rewrite(alloc, image, machine.as_bytes(), loops.as_bytes()))
+}
+
+/// What `plan` makes of files that the program would load.
+fn planned(
+    alloc: Global,
+    image: &[u8],
+    machine: &str,
+    loops: &str,
+) -> Result<Result<ScalePlan, Stop>, Fail> {
+    if image.len() > 4_194_304 || machine.len() > 1_048_576 || loops.len() > 1_048_576 {
+        return Err(Fail::from("files that are too long"));
+    }
+    Ok(plan(alloc, image, machine.as_bytes(), loops.as_bytes()))
 }
 
 const NO_LOOPS: &str = "version = 1\n";
@@ -220,5 +234,67 @@ fn a_stub_that_is_too_far(rt: HostRuntime) -> Result<(), Fail> {
             Err(Stop::Refused(Refusal::StubOutOfReach(0x10000)))
         )
     );
+    Ok(())
+}
+
+#[test]
+fn the_plan_of_a_switch(rt: HostRuntime) -> Result<(), Fail> {
+    let alloc = rt.alloc();
+    let image = plain_image(alloc, &V16)?;
+    let machine = machine(alloc, 100, 1)?;
+    let found = planned(alloc, &image, machine.as_str(), NO_LOOPS)?
+        .ok()
+        .ok_or("planned")?;
+    let summary = found.summary;
+    assert_eq!(rt;
+        (summary.start, summary.worst, summary.stub_cycles),
+        (0, 25, 18)
+    );
+    assert_eq!(rt; found.lines.len(), 1);
+    let line = found.lines.first().ok_or("a line")?;
+    assert_eq!(rt;
+        (line.edge.at, line.edge.kind),
+        (0x10000, EdgeKind::Untaken)
+    );
+    assert_eq!(rt; line.loop_no, 0);
+    assert!(rt; matches!(&line.fragment, Fragment::Switch { word: 0x210 }));
+    Ok(())
+}
+
+#[test]
+fn the_plan_of_a_counted_loop(rt: HostRuntime) -> Result<(), Fail> {
+    let alloc = rt.alloc();
+    let image = plain_image(alloc, &V3)?;
+    let machine = machine(alloc, 500, 20)?;
+    let found = planned(alloc, &image, machine.as_str(), L3)?
+        .ok()
+        .ok_or("planned")?;
+    assert_eq!(rt; found.lines.len(), 2);
+    let first = found.lines.first().ok_or("a first line")?;
+    assert_eq!(rt;
+        (first.edge.at, first.edge.kind),
+        (0x10014, EdgeKind::Taken)
+    );
+    assert_eq!(rt; first.loop_no, 1);
+    assert!(rt; matches!(&first.fragment, Fragment::Count { counter: 2 }));
+    let last = found.lines.last().ok_or("a last line")?;
+    assert_eq!(rt;
+        (last.edge.at, last.edge.kind),
+        (0x10014, EdgeKind::Untaken)
+    );
+    assert_eq!(rt; last.loop_no, 1);
+    assert!(rt;
+        matches!(
+            &last.fragment,
+            Fragment::Exit {
+                counter: 2,
+                shift: 0,
+                ..
+            }
+        )
+    );
+    // what is refused of the files is refused of their plan
+    let unbounded = planned(alloc, &image, machine.as_str(), NO_LOOPS)?;
+    assert!(rt; matches!(&unbounded, Err(Stop::Refused(Refusal::UnboundedCycle(_)))));
     Ok(())
 }
