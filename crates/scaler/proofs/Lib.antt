@@ -6,6 +6,7 @@ pub mod Safe
 pub mod SafeRewritten
 pub mod MarkingLaws
 pub mod LineFacts
+pub mod LineKinds
 pub mod SiteFacts
 pub mod ExtraFacts
 pub mod EdgeBlocks
