@@ -156,6 +156,7 @@ fn trips_are_those_of_whole_extents(rt: HostRuntime) -> Result<(), Fail> {
     let Ok(tree) = tree_of(rt.alloc(), &NESTED, &[INNER, OUTER])? else {
         return Err("no tree".into());
     };
+    assert_eq!(rt; tree.loop_count(), 2);
     assert_eq!(rt; (tree.least_trips(0), tree.least_trips(1)), (3, 3));
     // The word behind the loop is in its range, and not in its body.
     let wider = Range {
@@ -165,6 +166,7 @@ fn trips_are_those_of_whole_extents(rt: HostRuntime) -> Result<(), Fail> {
     let Ok(tree) = tree_of(rt.alloc(), &NESTED, &[INNER, wider])? else {
         return Err("no tree".into());
     };
+    assert_eq!(rt; tree.loop_count(), 2);
     assert_eq!(rt; tree.body(1), [1, 2, 3, 4].as_slice());
     assert_eq!(rt; (tree.least_trips(0), tree.least_trips(1)), (3, 0));
     Ok(())
