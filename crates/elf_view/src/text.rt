@@ -27,6 +27,9 @@ const PF_X: u32 = 1;
 
 const HEADER_LEN: u32 = 52;
 
+/// Behind the bytes of the file's header that a rewriting changes.
+const CHANGED_END: u32 = 46;
+
 const MAX_TEXT: u64 = 524_288;
 
 /// The text of a section, if it holds any.
@@ -97,7 +100,7 @@ fn is_off_table(bytes: &[u8], part: &TextPart) -> bool
     let table = u64::from(word(bytes, 32));
     let end = table + 40 * section_header_count(bytes) as u64;
     !has_section_headers(bytes)
-        || u64::from(HEADER_LEN) <= table
+        || u64::from(CHANGED_END) <= table
             && (u128::from(part.place) + u128::from(part.span.len) <= u128::from(table)
                 || end <= part.place)
 }

@@ -10,7 +10,7 @@ use Rattle.elf_patch.proofs.PlaceLemmas.{page_at-mod, page_at-le, page_at-least}
 use Rattle.stored_laws.specs.StoredView.{IsStorable, stored_view}
 use Rattle.stored_laws.proofs.Whole.{law}
 use Rattle.stored_laws.proofs.Fields.{stored-is}
-use Rattle.image_laws.specs.Laws.{IsHeldImage, held_base, HeldImageLaw}
+use Rattle.image_laws.specs.Laws.{IsHeldImage, held_base, OfHeldImages}
 use Rattle.image_laws.proofs.Contents.{off_phoff, off_phnum, HasBytes, bytes_same, layout_is}
 
 -- ---- the base
@@ -67,7 +67,7 @@ held_view file image base start are e short is =
       text = refl;
     }
 
-pub a_held_image : HeldImageLaw
+pub a_held_image : OfHeldImages IsHeldImage
 a_held_image = λ file image start e none short small.
     let base = held_base image in
     let s = stored_image file [] base [] start in

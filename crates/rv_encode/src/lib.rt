@@ -11,7 +11,6 @@ mod forms;
 
 use fields::{bits_12, bits_13, bits_21, fits_12, fits_13, fits_21, is_even, is_shift};
 use forms::{b_form, i_form, j_form, r_form, s_form, u_form};
-use rv_decode::decode;
 use scale_base::{BranchOp, ImmOp, Instr, LoadOp, RegOp, StoreOp};
 
 /// The word of the instruction. None exactly where a field is out of its range.
@@ -214,26 +213,6 @@ pub fn jal_fits(from: u32, to: u32) -> bool
 {
     let distance = to.wrapping_sub(from).cast_signed();
     is_even(distance) && fits_21(distance)
-}
-
-/// What decodes encodes to the same word. The answer is always true.
-pub fn encode_decoded(word: u32) -> bool
-    ensures { IsTrue result }
-{
-    match decode(word) {
-        Some(instr) => encode(&instr) == Some(word),
-        None => true,
-    }
-}
-
-/// What encodes decodes to the same instruction. The answer is always true.
-pub fn decode_encoded(instr: &Instr) -> bool
-    ensures { IsTrue result }
-{
-    match encode(instr) {
-        Some(word) => decode(word) == Some(*instr),
-        None => true,
-    }
 }
 
 #[cfg(test)]

@@ -128,7 +128,6 @@ fn a_stub_both_ways(rt: HostRuntime) {
     ] {
         assert_eq!(rt; decode(word), Some(instr), "at {word}");
         assert_eq!(rt; encode(&instr), Some(word), "at {word}");
-        assert!(rt; encode_decoded(word) && decode_encoded(&instr));
     }
 }
 

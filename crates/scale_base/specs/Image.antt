@@ -178,12 +178,12 @@ holds_part part h =
     is_code_segment h && nat_le h.p_vaddr part.span.from && nat_le (part.span.from + part.span.len) (h.p_vaddr + h.p_filesz)
     && (part.place + h.p_vaddr == h.p_offset + part.span.from)
 
--- The section header table begins behind the file's header, of which a rewriting changes some bytes, and the file bytes of the part share
--- none with it.
+-- The section header table begins behind the bytes of the file's header that a rewriting changes (28 to 31, 44 and 45), and the file bytes
+-- of the part share none with it.
 abbrev pub is_off_table : List ℕ → TextPart → Bool
 is_off_table file part =
     not (has_sections file)
-    || (nat_le 52 (e_shoff file) && (nat_le (part.place + part.span.len) (e_shoff file) || nat_le (e_shoff file + 40 * e_shnum file) part.place))
+    || (nat_le 46 (e_shoff file) && (nat_le (part.place + part.span.len) (e_shoff file) || nat_le (e_shoff file + 40 * e_shnum file) part.place))
 
 abbrev pub is_text_place : List ℕ → List ProgramHeader → TextPart → Bool
 is_text_place file segments part =

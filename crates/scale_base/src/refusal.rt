@@ -111,8 +111,6 @@ pub enum Refusal {
     StubOutOfReach(u32),
     /// A loaded file is longer than its limit.
     TooLarge(Name),
-    /// The program isn't of a form that is built by now: the first address at which it isn't.
-    NotYet(u32),
 }
 
 impl From<Refusal> for Stop {

@@ -117,7 +117,6 @@ refusal_words (refusal.Uncountable k a) = codes "42 loop " ++ decimal k ++ codes
 refusal_words (refusal.TooManyCounters n) = codes "43 too many counters: " ++ decimal n
 refusal_words (refusal.StubOutOfReach a) = codes "44 stub out of reach at " ++ address a
 refusal_words (refusal.TooLarge name) = codes "50 too large: " ++ name
-refusal_words (refusal.NotYet a) = codes "60 not yet at " ++ address a
 
 -- the line of a refusal
 abbrev pub refusal_text : Refusal → List ℕ

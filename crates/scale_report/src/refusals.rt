@@ -60,7 +60,6 @@ impl fmt::Display for RefusalWords<'_> {
             Refusal::TooManyCounters(count) => write!(f, "43 too many counters: {count}"),
             Refusal::StubOutOfReach(at) => write!(f, "44 stub out of reach at {}", Address(*at)),
             Refusal::TooLarge(name) => write!(f, "50 too large: {}", name.text()),
-            Refusal::NotYet(at) => write!(f, "60 not yet at {}", Address(*at)),
         }
     }
 }

@@ -47,8 +47,6 @@ fn prints_refusals(rt: HostRuntime) -> Result<(), Fail> {
         deadline.as_str(),
         "refused 41 deadline missed: need 7 have 6\n"
     );
-    let not_yet = line(&rt, Refusal::NotYet(0x1_0000))?;
-    assert_eq!(rt; not_yet.as_str(), "refused 60 not yet at 0x00010000\n");
     let version = Name::new(String::from_str(rt.alloc(), "version")?);
     let value = line(&rt, Refusal::LoopValue(0, version))?;
     assert_eq!(rt; value.as_str(), "refused 16 loop 0 value version\n");

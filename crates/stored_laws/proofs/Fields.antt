@@ -136,9 +136,9 @@ same_header file stored table block patches at s long places =
 
 -- ---- the section headers
 
--- the section header table lies behind the file's header, in the file, and no patched word is in it
+-- the section header table lies behind the changed bytes of the file's header, in the file, and no patched word is in it
 pub record HasTable (file : List ℕ) : Type 0 where
-  pub behind : 52 ≤ e_shoff file
+  pub behind : 46 ≤ e_shoff file
   pub within : e_shoff file + 40 * e_shnum file ≤ length file
 
 away-table : (file : List ℕ) (patches : List Patch) (i : ℕ) → Places file patches → has_sections file ≡ true → e_shoff file ≤ i → i < e_shoff file + 40 * e_shnum file → All (Away file i) patches

@@ -205,12 +205,12 @@ part_at file hs (part ∷ parts) at placed e =
 pub record TextPlace (file : List ℕ) (q : ℕ) : Type 0 where
   pub behind : 52 ≤ q
   pub within : q + 4 ≤ length file
-  pub off_table : has_sections file ≡ true → (52 ≤ e_shoff file) × ((q + 4 ≤ e_shoff file) ⊎ (e_shoff file + 40 * e_shnum file ≤ q))
+  pub off_table : has_sections file ≡ true → (46 ≤ e_shoff file) × ((q + 4 ≤ e_shoff file) ⊎ (e_shoff file + 40 * e_shnum file ≤ q))
 
-off : (s : Bool) (a x y z w : ℕ) → (not s || (nat_le 52 a && (nat_le x y || nat_le z w))) ≡ true → s ≡ true → (52 ≤ a) × ((x ≤ y) ⊎ (z ≤ w))
+off : (s : Bool) (a x y z w : ℕ) → (not s || (nat_le 46 a && (nat_le x y || nat_le z w))) ≡ true → s ≡ true → (46 ≤ a) × ((x ≤ y) ⊎ (z ≤ w))
 off false a x y z w e f = absurd cc
 off true a x y z w e f =
-    let p = both_true (nat_le 52 a) (nat_le x y || nat_le z w) e in
+    let p = both_true (nat_le 46 a) (nat_le x y || nat_le z w) e in
     (le_of _ _ p.0, elim (or_cases (nat_le x y) (nat_le z w) p.1) [ inl l ↦ inl (le_of _ _ l) | inr r ↦ inr (le_of _ _ r) ])
 
 ends : (len : ℕ) (hs : List ProgramHeader) (at : ℕ) (g : ProgramHeader) → list_all (λ h. ends_by len (file_part h)) hs ≡ true → find (header_has_word at) hs ≡ Some g → g.p_offset + g.p_filesz ≤ len

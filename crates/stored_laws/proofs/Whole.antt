@@ -143,13 +143,13 @@ has_table file tables text placed on =
     let some = (rule_kept (nat_lt 0 (length parts)) (BadText 0) (part_rules file hs parts) (kept-split (text_rules file hs parts) (write_rules hs (ranges_of parts)) text).0).0 in
     record { behind = first parts some placed; within = le_of _ _ (rw on at b1) }
   where
-    first : (parts : List TextPart) → nat_lt 0 (length parts) ≡ true → list_all (is_text_place file (loaded_headers file)) parts ≡ true → 52 ≤ e_shoff file
+    first : (parts : List TextPart) → nat_lt 0 (length parts) ≡ true → list_all (is_text_place file (loaded_headers file)) parts ≡ true → 46 ≤ e_shoff file
     first [] some placed = absurd cc
     first (part ∷ parts) some placed =
         let a = both_true (is_text_place file (loaded_headers file) part) (list_all (is_text_place file (loaded_headers file)) parts) placed in
         let b = both_true ((part.span.from % 4 == 0) && (part.span.len % 4 == 0) && list_any (holds_part part) (loaded_headers file) && nat_le 52 part.place) (is_off_table file part) a.0 in
         let c = rw on at b.1 in
-        le_of _ _ (both_true (nat_le 52 (e_shoff file)) (nat_le (part.place + part.span.len) (e_shoff file) || nat_le (e_shoff file + 40 * e_shnum file) part.place) c).0
+        le_of _ _ (both_true (nat_le 46 (e_shoff file)) (nat_le (part.place + part.span.len) (e_shoff file) || nat_le (e_shoff file + 40 * e_shnum file) part.place) c).0
 
 -- ---- what the stored file holds
 
