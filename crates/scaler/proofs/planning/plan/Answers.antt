@@ -13,6 +13,7 @@ use Rattle.scaler.specs.Markings.{HasMarking, AreLinesOf}
 use Rattle.scaler.specs.Planned.{IsPlanned, HasLines}
 use Rattle.scaler.specs.Scalings.{IsProgramOf, IsProgramFound}
 use Rattle.scaler.proofs.LineFacts.{few_headers}
+use Rattle.scaler.proofs.LineKinds.{lines_of_sites}
 use Rattle.scaler.proofs.ProgramFacts.{files_given}
 use Rattle.scaler.proofs.planning.plan.Goals as goal
 
@@ -56,13 +57,17 @@ site_lines-requires-clause-few c =
 pub returns-in_err-program : goal.returns-in_err-program
 returns-in_err-program c =
     let p = err_from_is_err_and c.from_residual.result c.from_residual.ensures.1 in
-    rw (p.1, p.2) (program_stops c.args.image.now c.args.machine.now c.args.loops.now c.in_err-program.field-0.0 c.in_err-program.ensures)
+    rw (p.1, p.2) (record { plan = program_stops c.args.image.now c.args.machine.now c.args.loops.now c.in_err-program.field-0.0 c.in_err-program.ensures; sites = tt })
 
 pub returns : goal.returns
 returns c =
+    let image = c.args.image.now in
+    let machine = c.args.machine.now in
+    let loops = c.args.loops.now in
     let p = c.in_ok-program.program in
-    let bytes = rewritten_file p.view (map site_of p.scaling.stubs.items) p.scaling.base p.scaling.summary.start in (
-      bytes,
-      files_given c.args.image.now c.args.machine.now c.args.loops.now p bytes c.in_ok-program.ensures refl,
-      has_lines c.args.image.now c.args.machine.now c.args.loops.now p c.in_ok-lines.lines.items c.in_ok-program.ensures c.in_ok-lines.ensures,
-    )
+    let bytes = rewritten_file p.view (map site_of p.scaling.stubs.items) p.scaling.base p.scaling.summary.start in
+    let lines = has_lines image machine loops p c.in_ok-lines.lines.items c.in_ok-program.ensures c.in_ok-lines.ensures in
+    record {
+      plan = (bytes, files_given image machine loops p bytes c.in_ok-program.ensures refl, lines);
+      sites = lines_of_sites image machine loops c.in_ok-lines.lines.items lines;
+    }
