@@ -119,32 +119,32 @@ def files():
     }
 
 
-# Words of a command line, the status, and what is printed; then the name of what is stored and that of a file with the same bytes,
-# where something is stored. No other file may be made or changed.
+# Words of a command line, the status, and what is printed; then, where something is stored, the name of each stored file with that
+# of one of the files above that has the same bytes. No other file may be made or changed.
 LINES = [
     ("help", 0, HELP),
     ("", 2, BAD_COMMAND),
     ("hold a b", 2, BAD_COMMAND),
     ("help me", 2, BAD_COMMAND),
-    ("hold seven m loops out", 0, summary(0, 7, 28, 28), "out", "held-0"),
-    ("hold seven m-27 loops out", 0, summary(1, 7, 14, 27), "out", "held-1"),
-    ("hold own m loops own", 0, summary(0, 7, 28, 28), "own", "held-0"),
+    ("hold seven m loops out", 0, summary(0, 7, 28, 28), {"out": "held-0"}),
+    ("hold seven m-27 loops out", 0, summary(1, 7, 14, 27), {"out": "held-1"}),
+    ("hold own m loops own", 0, summary(0, 7, 28, 28), {"own": "held-0"}),
     ("hold seven m-6 loops out", 1, "refused 41 deadline missed: need 7 have 6\n"),
     ("hold none m loops out", 1, "refused 1 not an ELF file\n"),
     ("hold long m loops out", 1, "refused 50 too large: long\n"),
     ("hold missing m loops out", 3, ""),
     ("hold seven m missing out", 3, ""),
     ("hold seven m loops folder/out", 3, ""),
-    ("rewrite read-one m-160 loops out", 0, summary(1, 79, 158, 160, 18, 1, 56), "out", "rewritten"),
+    ("rewrite read-one m-160 loops out", 0, summary(1, 79, 158, 160, 18, 1, 56), {"out": "rewritten"}),
     ("rewrite rewritten m-160 loops out", 1, "refused 8 already scaled\n"),
     ("rewrite read-all m loops out", 1, "refused 36 unbounded cycle: 0x00010008 0x0001000c 0x00010010 0x00010014\n"),
-    ("simulate held-0 m none out", 0, report("exit 7", 3, 7, 28, 7, 7, 0, 0, 0, 0), "out", "none"),
-    ("simulate rewritten m-160 none out", 0, report("exit 0", 20, 34, 102, 98, 102, 1, 0, 18, 0), "out", "none"),
-    ("simulate rewritten m-160 one out", 0, report("exit 1", 15, 79, 158, 237, 237, 0, 1, 3, 0), "out", "none"),
-    ("simulate write-one m none out", 0, report("exit 0", 10, 18, 18, 144, 144, 0, 2, 0, 1), "out", "A"),
-    ("simulate read-all m eleven out read-loop", 0, report("exit 0", 52, 115, 115, 920, 920, 0, 2, 0, 0, "no bound 1 11"), "out", "none"),
-    ("simulate load-text m none out", 5, report("trap load-fault 0x00010000", 1, 1, 1, 8, 8, 0, 2, 0, 0), "out", "none"),
-    ("simulate held-0 m-2-steps none out", 6, report("steps", 2, 2, 8, 2, 2, 0, 0, 0, 0), "out", "none"),
+    ("simulate held-0 m none out", 0, report("exit 7", 3, 7, 28, 7, 7, 0, 0, 0, 0), {"out": "none"}),
+    ("simulate rewritten m-160 none out", 0, report("exit 0", 20, 34, 102, 98, 102, 1, 0, 18, 0), {"out": "none"}),
+    ("simulate rewritten m-160 one out", 0, report("exit 1", 15, 79, 158, 237, 237, 0, 1, 3, 0), {"out": "none"}),
+    ("simulate write-one m none out", 0, report("exit 0", 10, 18, 18, 144, 144, 0, 2, 0, 1), {"out": "A"}),
+    ("simulate read-all m eleven out read-loop", 0, report("exit 0", 52, 115, 115, 920, 920, 0, 2, 0, 0, "no bound 1 11"), {"out": "none"}),
+    ("simulate load-text m none out", 5, report("trap load-fault 0x00010000", 1, 1, 1, 8, 8, 0, 2, 0, 0), {"out": "none"}),
+    ("simulate held-0 m-2-steps none out", 6, report("steps", 2, 2, 8, 2, 2, 0, 0, 0, 0), {"out": "none"}),
     ("simulate seven m none folder/out", 3, ""),
 ]
 
@@ -171,10 +171,11 @@ def differs(one, other):
     return next((k for k, (a, b) in enumerate(zip(one, other)) if a != b), min(len(one), len(other)))
 
 
-def check(program, given, line, status, text, out=None, like=None, words=None, **how):
+def check(program, given, line, status, text, stored=None, words=None, **how):
     """Runs one command line over these files."""
+    present = {name: content for name, content in given.items() if name in line.split()}
     with tempfile.TemporaryDirectory(prefix="scale-commands-") as folder:
-        for name, content in given.items():
+        for name, content in present.items():
             with open(os.path.join(folder, name), "wb") as file:
                 file.write(content)
         done = run(program, folder, line.split() if words is None else words, **how)
@@ -185,7 +186,7 @@ def check(program, given, line, status, text, out=None, like=None, words=None, *
         fail(line, "standard output", text.encode(), done.stdout)
     if done.stderr:
         fail(line, "standard error", b"", done.stderr)
-    wanted = {**given, **({out: given[like]} if out else {})}
+    wanted = {**present, **{name: given[like] for name, like in (stored or {}).items()}}
     if sorted(found) != sorted(wanted):
         fail(line, "files", sorted(wanted), sorted(found))
     for name, content in wanted.items():
@@ -199,10 +200,10 @@ def check_all(program):
     for line in LINES:
         check(program, given, *line)
     # A word that isn't UTF-8, and a text that can't be printed, once without a store and once behind it.
-    check(program, given, "hold \\xff", 8, "", words=["hold", b"\xff", "m", "loops", "out"])
+    check(program, given, "hold \\xff m loops out", 8, "", words=["hold", b"\xff", "m", "loops", "out"])
     with open("/dev/full", "wb") as full:
         check(program, given, "help >/dev/full", 3, "", words=["help"], stdout=full)
-        check(program, given, "hold seven m loops out >/dev/full", 3, "", "out", "held-0", ["hold", "seven", "m", "loops", "out"], stdout=full)
+        check(program, given, "hold seven m loops out >/dev/full", 3, "", {"out": "held-0"}, ["hold", "seven", "m", "loops", "out"], stdout=full)
     return len(LINES) + 3
 
 

@@ -190,8 +190,9 @@ fn writes_the_deadline(rt: HostRuntime) -> Result<(), Fail> {
     let made = make(rt.alloc(), 1, 30).ok().ok_or("memory")?;
     assert_eq!(rt; made.machine.len(), 296);
     assert!(rt;
-        made.machine
-            .starts_with(b"version = 1\ndeadline = 15200\nsteps = 10000000\nmin_gain = 20\n")
+        made.machine.starts_with(
+            b"version = 1\ndeadline = 15200\nsteps = 10000000\nmin_gain = 20\n"
+        )
     );
     Ok(())
 }
