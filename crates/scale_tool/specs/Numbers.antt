@@ -8,7 +8,7 @@ is_digit c = nat_le 48 c && nat_le c 57
 
 -- the value of decimal digits, highest first
 abbrev pub digits_value : List ℕ → ℕ
-digits_value digits = fold (λ value digit. 10 * value + (digit - 48)) 0 digits
+digits_value digits = fold (λ value digit. value * 10 + (digit - 48)) 0 digits
 
 -- the number that a word of decimal digits writes, from one digit up to so many
 abbrev pub number_of : ℕ → List ℕ → Option ℕ

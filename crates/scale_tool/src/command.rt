@@ -13,11 +13,11 @@ use std::alloc::{AllocError, Global};
 pub enum Command<'a> {
     /// Tells how the commands are called.
     Help,
-    /// Works on files.
+    /// Makes files, a text or both.
     Work(Work<'a>),
 }
 
-/// What is made of files, with their names, or of a number.
+/// What is made of files, with their names, or of a number with a size.
 #[derive(Clone, Copy)]
 pub enum Work<'a> {
     /// Keeps the whole program at the slowest level that is safe.

@@ -1,7 +1,8 @@
 //! Numbers in the words of a command.
 
 ghost use Rattle.std.specs.Prelude.{◌≡◌, ◌≤◌, option_map};
-ghost use Rattle.scale_tool.specs.Numbers.{number_of, number_within};
+ghost use Rattle.std.specs.List.{list_all};
+ghost use Rattle.scale_tool.specs.Numbers.{is_digit, number_of, number_within};
 
 /// How many blocks a made program has.
 #[derive(Clone, Copy)]
@@ -10,13 +11,22 @@ pub struct Size {
     ghost in_range: { blocks ≤ 2000 },
 }
 
+fn are_digits(word: &str) -> bool
+    ensures { result ≡ list_all is_digit word.now }
+{
+    word.bytes().all(|byte| byte.is_ascii_digit())
+}
+
 /// The number that a word of decimal digits writes, from one digit up to so many.
 fn number_of(most: usize, word: &str) -> Option<u128>
     requires { most ≤ 38 }
     ensures { result ≡ number_of most word.now }
 {
-    let is_number = (1..=most).contains(&word.len()) && word.bytes().all(|b| b.is_ascii_digit());
-    if is_number { word.parse().ok() } else { None }
+    // A sign is no digit, though `parse` takes one.
+    if word.is_empty() || most < word.len() || !are_digits(word) {
+        return None;
+    }
+    word.parse().ok()
 }
 
 /// A program's number: up to 20 digits and 64 bits.
