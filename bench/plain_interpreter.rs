@@ -273,6 +273,8 @@ fn decode(word: u32) -> Option<Instr> {
     );
     let (funct3, funct7) = (bits(word, 12, 3), bits(word, 25, 7));
     let i_offset = signed(bits(word, 20, 12), 1 << 11);
+    let imm = |op, imm| Some(Instr::Imm { op, rd, rs1, imm });
+    let reg = |op| Some(Instr::Reg { op, rd, rs1, rs2 });
     match bits(word, 0, 7) {
         0x37 => Some(Instr::Lui {
             rd,
@@ -321,57 +323,17 @@ fn decode(word: u32) -> Option<Instr> {
             })
         }
         0x13 => match (funct3, funct7) {
-            (1, 0) => Some(Instr::Imm {
-                op: Op::Sll,
-                rd,
-                rs1,
-                imm: i32::from(rs2),
-            }),
-            (5, 0) => Some(Instr::Imm {
-                op: Op::Srl,
-                rd,
-                rs1,
-                imm: i32::from(rs2),
-            }),
-            (5, 0x20) => Some(Instr::Imm {
-                op: Op::Sra,
-                rd,
-                rs1,
-                imm: i32::from(rs2),
-            }),
+            (1, 0) => imm(Op::Sll, i32::from(rs2)),
+            (5, 0) => imm(Op::Srl, i32::from(rs2)),
+            (5, 0x20) => imm(Op::Sra, i32::from(rs2)),
             (1 | 5, _) => None,
-            _ => Some(Instr::Imm {
-                op: PLAIN[funct3 as usize],
-                rd,
-                rs1,
-                imm: i_offset,
-            }),
+            _ => imm(PLAIN[funct3 as usize], i_offset),
         },
         0x33 => match (funct7, funct3) {
-            (0, _) => Some(Instr::Reg {
-                op: PLAIN[funct3 as usize],
-                rd,
-                rs1,
-                rs2,
-            }),
-            (0x20, 0) => Some(Instr::Reg {
-                op: Op::Sub,
-                rd,
-                rs1,
-                rs2,
-            }),
-            (0x20, 5) => Some(Instr::Reg {
-                op: Op::Sra,
-                rd,
-                rs1,
-                rs2,
-            }),
-            (1, _) => Some(Instr::Reg {
-                op: PRODUCT[funct3 as usize],
-                rd,
-                rs1,
-                rs2,
-            }),
+            (0, _) => reg(PLAIN[funct3 as usize]),
+            (0x20, 0) => reg(Op::Sub),
+            (0x20, 5) => reg(Op::Sra),
+            (1, _) => reg(PRODUCT[funct3 as usize]),
             _ => None,
         },
         0x0F if funct3 == 0 => Some(Instr::Fence),
@@ -414,34 +376,12 @@ fn result(op: Op, a: u32, b: u32) -> u32 {
         Op::Mulh => ((i64::from(x) * i64::from(y)) >> 32) as u32,
         Op::Mulhsu => ((i64::from(x) * i64::from(b)) >> 32) as u32,
         Op::Mulhu => ((u64::from(a) * u64::from(b)) >> 32) as u32,
-        Op::Div => {
-            if b == 0 {
-                u32::MAX
-            } else {
-                x.wrapping_div(y) as u32
-            }
-        }
-        Op::Divu => {
-            if b == 0 {
-                u32::MAX
-            } else {
-                a / b
-            }
-        }
-        Op::Rem => {
-            if b == 0 {
-                a
-            } else {
-                x.wrapping_rem(y) as u32
-            }
-        }
-        Op::Remu => {
-            if b == 0 {
-                a
-            } else {
-                a % b
-            }
-        }
+        Op::Div | Op::Divu if b == 0 => u32::MAX,
+        Op::Rem | Op::Remu if b == 0 => a,
+        Op::Div => x.wrapping_div(y) as u32,
+        Op::Divu => a / b,
+        Op::Rem => x.wrapping_rem(y) as u32,
+        Op::Remu => a % b,
     }
 }
 
@@ -763,8 +703,10 @@ impl Meter {
         let switch = u64::from(after != before);
         self.steps += 1;
         self.cycles += u64::from(cost);
-        self.time += u128::from(u64::from(cost) * u64::from(PERIODS[before as usize]) + 10 * switch);
-        self.energy += u128::from(u64::from(cost) * u64::from(ENERGIES[before as usize]) + 20 * switch);
+        self.time +=
+            u128::from(u64::from(cost) * u64::from(PERIODS[before as usize]) + 10 * switch);
+        self.energy +=
+            u128::from(u64::from(cost) * u64::from(ENERGIES[before as usize]) + 20 * switch);
         self.switches += switch;
         self.keyed += if step.keyed { u64::from(cost) } else { 0 };
         self.level = after;

@@ -91,11 +91,25 @@ impl CodeGraph {
         self.nodes[k]
     }
 
+    /// The number of the node at an address, by halving.
+    fn search(&self, at: u32) -> Option<usize>
+        ensures { (k : ℕ) → (result ≡ Some k) ↔ (slice_get self.now.code.nodes k ≡ Some at) }
+    {
+        self.nodes.binary_search(&at).ok()
+    }
+
     /// The number of the node at an address. None exactly where no node is there.
     pub fn find(&self, at: u32) -> Option<usize>
         ensures { (k : ℕ) → (result ≡ Some k) ↔ (slice_get self.now.code.nodes k ≡ Some at) }
     {
-        self.nodes.binary_search(&at).ok()
+        // Where each word of the text is reached, the nodes stand without gaps.
+        let first = self.nodes.first().copied().unwrap_or(0);
+        let place = (at.wrapping_sub(first) / 4) as usize;
+        if place < self.nodes.len() && self.nodes[place] == at {
+            Some(place)
+        } else {
+            self.search(at)
+        }
     }
 
     /// The number of the node at which edge `e` starts.

@@ -4,3 +4,5 @@ pub mod MadeLaws
 pub mod MadeFits
 pub mod PlainFacts
 pub mod PlainLaw
+pub mod SmallFiles
+pub mod OneImage

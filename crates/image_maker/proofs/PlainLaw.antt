@@ -45,7 +45,7 @@ word-byte (x ∷ xs) (suc k) i h low =
 abbrev front : List ℕ → List ℕ
 front text = file_header ++ plain.program_header (4 * length text)
 
-file-length : (text : List ℕ) → length (plain_image text) ≡ 84 + 4 * length text
+pub file-length : (text : List ℕ) → length (plain_image text) ≡ 84 + 4 * length text
 file-length text = let both = length-append (front text) (words text) in let rest = length-words text in omega arith
 
 facts : (text : List ℕ) → 4 * length text < 2 ^ 32 → Facts (plain_image text) (4 * length text)

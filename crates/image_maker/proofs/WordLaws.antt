@@ -39,7 +39,7 @@ count_at p lines j k x here passes h =
     let grows = count_grows p lines (j + 1) k (omega arith) in
     omega arith
 
-some_at : (p : Line → Bool) (lines : List Line) (j : ℕ) (x : Line) → slice_get lines j ≡ Some x → p x ≡ true → 0 < count_by p lines
+pub some_at : (p : Line → Bool) (lines : List Line) (j : ℕ) (x : Line) → slice_get lines j ≡ Some x → p x ≡ true → 0 < count_by p lines
 some_at p lines j x here passes =
     let one = count_at p lines j (j + 1) x here passes (omega arith) in
     let front = count_front p lines (j + 1) in

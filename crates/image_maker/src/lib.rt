@@ -4,6 +4,7 @@
 mod assembler;
 mod draws;
 mod labels;
+mod laws;
 mod line;
 mod maker;
 mod plain;
@@ -12,6 +13,7 @@ mod texts;
 mod words;
 
 pub use assembler::assemble;
+pub use laws::images_of_lines_agree;
 pub use line::{AsmError, Line};
 pub use maker::{Made, make};
 pub use plain::plain_image;

@@ -46,7 +46,8 @@ fn make_image(alloc: Global, lines: &[Line]) -> Result<Vec<u8>, NoMemory>
     }
 }
 
-/// The program made from a number, with so many blocks: the same files for the same number and size. Its file is an image.
+/// The program made from a number, with so many blocks: the same files for the same number and size. Its file is an image. Each
+/// file is small: an image of at most 4,194,304 bytes, and texts of at most 1,048,576.
 pub fn make(alloc: Global, number: u64, size: u32) -> Result<Made, NoMemory>
     requires { size ≤ 2000 }
     ensures program { IfOk result (λ it. made.IsImageOf (making.program number size) it.image.items) }
@@ -54,6 +55,7 @@ pub fn make(alloc: Global, number: u64, size: u32) -> Result<Made, NoMemory>
     ensures machine { IfOk result (λ it. it.machine.items ≡ texts.machine_text size) }
     ensures loops { IfOk result (λ it. it.loops.items ≡ texts.loops_text (making.headers number size)) }
     ensures input { IfOk result (λ it. it.input.items ≡ texts.drawn_bytes (making.state_at number size) 256) }
+    ensures small { IfOk result (λ it. (length it.image.items ≤ 4194304) × (length it.machine.items ≤ 1048576) × (length it.loops.items ≤ 1048576)) }
 {
     let mut program = make_program(alloc, number, size)?;
     let image = make_image(alloc, &program.lines)?;

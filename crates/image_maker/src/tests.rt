@@ -183,3 +183,15 @@ fn makes_files(rt: HostRuntime) -> Result<(), Fail> {
     assert_eq!(rt; sums(&most.input), (256, 1_963_900_192));
     Ok(())
 }
+
+/// The deadline is 500 time units for each block, and 200 more.
+#[test]
+fn writes_the_deadline(rt: HostRuntime) -> Result<(), Fail> {
+    let made = make(rt.alloc(), 1, 30).ok().ok_or("memory")?;
+    assert_eq!(rt; made.machine.len(), 296);
+    assert!(rt;
+        made.machine
+            .starts_with(b"version = 1\ndeadline = 15200\nsteps = 10000000\nmin_gain = 20\n")
+    );
+    Ok(())
+}

@@ -1,4 +1,5 @@
 use super::*;
+use rv_decode::decode;
 
 /// The words of a stub that switches the level, as an assembler writes them.
 #[test]

@@ -7,9 +7,9 @@ use Rattle.scale_base.specs.declared.plan.SiteLine.{SiteLine}
 use Rattle.cost_theory.specs.declared.edges.Edge.{Edge}
 use Rattle.scale_sites.specs.Counters.{counted_loops}
 use Rattle.rewritten_runs.specs.Stubs.{marks_by_slack, fragments_at}
-use Rattle.scaler.specs.Planned.{HasLines, line_of, lines_from}
+use Rattle.scaler.specs.Planned.{HasLines, IsSitesKind, line_of, lines_from}
 use Rattle.scaler.proofs.EdgeBlocks.{map_none}
-use Rattle.scaler.proofs.MarkedKinds.{IsSitesKind, marked_kind}
+use Rattle.scaler.proofs.MarkedKinds.{marked_kind}
 
 abbrev IsOfSite : SiteLine → Type 0
 IsOfSite line = IsSitesKind line.edge.kind

@@ -44,6 +44,7 @@ use Rattle.scale_sites.specs.Sites.{is_branch, is_branch_kind, edge_branches}
 use Rattle.rewritten_runs.specs.Stubs.{IsWeighed, marks_by_slack, told_at, fragment_of, fragments_at, loop_of}
 use Rattle.rewritten_runs.proofs.Edges.{edge_is}
 use Rattle.rewritten_runs.proofs.Marked.{IsMarkOf, program_is, graph_program, marks_of_edge, marked_led, counted_is, loop_count, shadow_of}
+use Rattle.scaler.specs.Planned.{IsSitesKind}
 
 -- ---- the way on
 
@@ -64,14 +65,6 @@ one_way Straight u r x y b h on k e = ⊎_elim (λ q. let f : Some (u + 4) ≡ S
 one_way Bad u r x y b h on k e = absurd h
 
 -- ---- words of the edges that are marked
-
-abbrev pub IsSitesKind : EdgeKind → Type 0
-IsSitesKind Taken = Unit {0}
-IsSitesKind Untaken = Unit {0}
-IsSitesKind Jump = Unit {0}
-IsSitesKind Next = ⊥
-IsSitesKind CallNext = ⊥
-IsSitesKind End = ⊥
 
 -- an instruction of marked edges
 abbrev pub IsMarkable : Instr → Type 0

@@ -1,8 +1,8 @@
 //! What a rewriting finds, without its file.
 
-ghost use Rattle.std.specs.Prelude.{◌≤◌, length};
+ghost use Rattle.std.specs.Prelude.{◌≤◌, length, All, IfOk};
 ghost use Rattle.scale_base.specs.Answer.{AnswersBy};
-ghost use Rattle.scaler.specs.Planned.{IsPlanned};
+ghost use Rattle.scaler.specs.Planned.{IsPlanned, IsSitesKind};
 
 use crate::lines::site_lines;
 use crate::rewriting::program_of;
@@ -17,7 +17,8 @@ pub fn plan(alloc: Global, image: &[u8], machine: &[u8], loops: &[u8]) -> Result
     requires image { length image.now ≤ 4194304 }
     requires machine { length machine.now ≤ 1048576 }
     requires loops { length loops.now ≤ 1048576 }
-    ensures { AnswersBy (λ p. (p.summary, p.lines.items)) result (IsPlanned image.now machine.now loops.now) }
+    ensures plan { AnswersBy (λ p. (p.summary, p.lines.items)) result (IsPlanned image.now machine.now loops.now) }
+    ensures sites { IfOk result (λ p. All (λ line. IsSitesKind line.edge.kind) p.lines.items) }
 {
     let program = program_of(alloc, image, machine, loops)?;
     let marked = &program.marked;

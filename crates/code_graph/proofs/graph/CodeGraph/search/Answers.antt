@@ -2,7 +2,7 @@ use Rattle.std.proofs.Common.{sym, ap, subst, ◌∙◌}
 use Rattle.code_text.specs.Walk.{RiseStrictly}
 use Rattle.code_text.proofs.Searches.{found_in}
 use Rattle.code_graph.proofs.Graphs.{rising_nodes}
-use Rattle.code_graph.proofs.graph.CodeGraph.find.Goals as goal
+use Rattle.code_graph.proofs.graph.CodeGraph.search.Goals as goal
 
 pub returns : goal.returns
 returns c =

@@ -1,0 +1,226 @@
+#!/usr/bin/env python3
+"""Runs the program `scale` itself on command lines, and compares the status, all that it prints and all that it stores.
+
+    commands.py PROGRAM ..   these programs; with none, the one that `./scale` builds
+
+The files are made here, by the layouts of ELF, in a temporary folder, in which each command line is run. At the first difference it
+is told, and the status is 1.
+"""
+
+import os
+import shutil
+import struct
+import subprocess
+import sys
+import tempfile
+
+TOP = os.path.dirname(os.path.dirname(os.path.abspath(__file__)))
+DATA = os.path.join(TOP, "crates", "scale_tool", "data")
+ENTRY = 0x00010000
+SECONDS = 60
+
+# Exits with the status 7.
+SEVEN = [0x00700513, 0x05D00893, 0x00000073]
+# Reads a byte, and divides six times where there is one.
+READ_ONE = [0x03F00893, 0x00010593, 0x00100613, 0x00000073, 0x00050E63] + [0x0262C2B3] * 6 + [0x05D00893, 0x00000073]
+# Reads bytes until there are none.
+READ_ALL = [0x00010593, 0x00100613, 0x03F00893, 0x00000513, 0x00000073, 0xFE051AE3, 0x05D00893, 0x00000073]
+# Writes the byte A.
+WRITE_ONE = [0x04100293, 0x00510023, 0x00100513, 0x00010593, 0x00100613, 0x04000893, 0x00000073, 0x00000513, 0x05D00893, 0x00000073]
+# Loads from its own text, which is a fault.
+LOAD_TEXT = [0x00000297, 0x0002A303, 0x05D00893, 0x00000073]
+# The stub of the branch of READ_ONE, for a deadline of 160, and the jump to it that stands in place of the branch.
+STUB = [
+    0x00050463, 0x810FF06F, 0x80502023, 0x80602223, 0xFFC02283, 0x00229293, 0x00000337,
+    0x10030313, 0x00535333, 0x00F37313, 0xFE602E23, 0x80402303, 0x80002283, 0xFF9FE06F,
+]  # fmt: skip
+TO_STUB = 0x7F10006F
+
+LOOPS = "version = 1\n"
+READ_LOOP = LOOPS + "[[loop]]\nheader = 0x10008\nranges = [[0x10008, 0x10018]]\nbound = 10\ncounted = true\n"
+HELP = """\
+scale hold IMAGE MACHINE LOOPS OUT
+scale rewrite IMAGE MACHINE LOOPS OUT
+scale simulate IMAGE MACHINE INPUT OUT [LOOPS]
+scale help
+"""
+BAD_COMMAND = "bad command; try: scale help\n"
+
+
+def words_of(numbers):
+    return struct.pack("<%dI" % len(numbers), *numbers)
+
+
+def header(phoff, phnum):
+    ident = b"\x7fELF\x01\x01\x01" + bytes(9)
+    return ident + struct.pack("<HHIIIIIHHHHHH", 2, 243, 1, ENTRY, phoff, 0, 0, 52, 32, phnum, 0, 0, 0)
+
+
+def segment(words):
+    return words_of([1, 84, ENTRY, ENTRY, 4 * len(words), 4 * len(words), 5, 4])
+
+
+def plain_image(words):
+    return header(52, 1) + segment(words) + words_of(words)
+
+
+def stored_image(words, level, block=()):
+    """The words in place of the original's, then the block of stubs, and behind it the table with the segment that names the level."""
+    front = header(4096 + 4 * len(block), 2) + segment(words) + words_of(words)
+    keyed = words_of([1, 4096, 0x00011000, level, 4 * len(block), 4 * len(block), 0x00100005, 4096])
+    return front.ljust(4096, b"\0") + words_of(block) + segment(words) + keyed
+
+
+def summary(level, worst, time, deadline, added=0, switches=0, size=0):
+    return (
+        "start level %d\nworst cycles %d\nworst time %d of %d\nstub cycles at most %d\n" % (level, worst, time, deadline, added)
+        + "switch edges %d\nexit edges 0\ncount edges 0\nstub bytes %d\n" % (switches, size)
+    )
+
+
+def report(end, steps, cycles, time, energy, held, switches, level, keyed, output, kept="unchecked"):
+    return (
+        "end %s\nsteps %d\ncycles %d\ntime %d\nenergy %d\nheld %d\n" % (end, steps, cycles, time, energy, held)
+        + "switches %d\nlevel %d\nkeyed %d\noutput %d\nkept %s\n" % (switches, level, keyed, output, kept)
+    )
+
+
+def machine(deadline=28, steps=1000000):
+    with open(os.path.join(DATA, "m.toml")) as file:
+        text = file.read()
+    return text.replace("deadline = 28\n", "deadline = %d\n" % deadline).replace("steps = 1000000\n", "steps = %d\n" % steps)
+
+
+def files():
+    """The files of all command lines, by name."""
+    rewritten = [TO_STUB if word == 0x00050E63 else word for word in READ_ONE]
+    return {
+        "seven": plain_image(SEVEN),
+        "own": plain_image(SEVEN),
+        "read-one": plain_image(READ_ONE),
+        "read-all": plain_image(READ_ALL),
+        "write-one": plain_image(WRITE_ONE),
+        "load-text": plain_image(LOAD_TEXT),
+        "held-0": stored_image(SEVEN, 0),
+        "held-1": stored_image(SEVEN, 1),
+        "rewritten": stored_image(rewritten, 1, STUB),
+        "long": bytes(4194305),
+        "m": machine().encode(),
+        "m-27": machine(27).encode(),
+        "m-6": machine(6).encode(),
+        "m-160": machine(160).encode(),
+        "m-2-steps": machine(steps=2).encode(),
+        "loops": LOOPS.encode(),
+        "read-loop": READ_LOOP.encode(),
+        "none": b"",
+        "one": b"x",
+        "eleven": b"hello world",
+        "A": b"A",
+    }
+
+
+# Words of a command line, the status, and what is printed; then the name of what is stored and that of a file with the same bytes,
+# where something is stored. No other file may be made or changed.
+LINES = [
+    ("help", 0, HELP),
+    ("", 2, BAD_COMMAND),
+    ("hold a b", 2, BAD_COMMAND),
+    ("help me", 2, BAD_COMMAND),
+    ("hold seven m loops out", 0, summary(0, 7, 28, 28), "out", "held-0"),
+    ("hold seven m-27 loops out", 0, summary(1, 7, 14, 27), "out", "held-1"),
+    ("hold own m loops own", 0, summary(0, 7, 28, 28), "own", "held-0"),
+    ("hold seven m-6 loops out", 1, "refused 41 deadline missed: need 7 have 6\n"),
+    ("hold none m loops out", 1, "refused 1 not an ELF file\n"),
+    ("hold long m loops out", 1, "refused 50 too large: long\n"),
+    ("hold missing m loops out", 3, ""),
+    ("hold seven m missing out", 3, ""),
+    ("hold seven m loops folder/out", 3, ""),
+    ("rewrite read-one m-160 loops out", 0, summary(1, 79, 158, 160, 18, 1, 56), "out", "rewritten"),
+    ("rewrite rewritten m-160 loops out", 1, "refused 8 already scaled\n"),
+    ("rewrite read-all m loops out", 1, "refused 36 unbounded cycle: 0x00010008 0x0001000c 0x00010010 0x00010014\n"),
+    ("simulate held-0 m none out", 0, report("exit 7", 3, 7, 28, 7, 7, 0, 0, 0, 0), "out", "none"),
+    ("simulate rewritten m-160 none out", 0, report("exit 0", 20, 34, 102, 98, 102, 1, 0, 18, 0), "out", "none"),
+    ("simulate rewritten m-160 one out", 0, report("exit 1", 15, 79, 158, 237, 237, 0, 1, 3, 0), "out", "none"),
+    ("simulate write-one m none out", 0, report("exit 0", 10, 18, 18, 144, 144, 0, 2, 0, 1), "out", "A"),
+    ("simulate read-all m eleven out read-loop", 0, report("exit 0", 52, 115, 115, 920, 920, 0, 2, 0, 0, "no bound 1 11"), "out", "none"),
+    ("simulate load-text m none out", 5, report("trap load-fault 0x00010000", 1, 1, 1, 8, 8, 0, 2, 0, 0), "out", "none"),
+    ("simulate held-0 m-2-steps none out", 6, report("steps", 2, 2, 8, 2, 2, 0, 0, 0, 0), "out", "none"),
+    ("simulate seven m none folder/out", 3, ""),
+]
+
+
+def fail(line, what, wanted, got):
+    sys.exit("scale %s: the %s: wanted %r, got %r" % (line, what, wanted, got))
+
+
+def made_in(folder):
+    found = {}
+    for name in os.listdir(folder):
+        with open(os.path.join(folder, name), "rb") as file:
+            found[name] = file.read()
+    return found
+
+
+def run(program, folder, words, **how):
+    how = {"stdout": subprocess.PIPE, **how}
+    return subprocess.run([program] + words, cwd=folder, stdin=subprocess.DEVNULL, stderr=subprocess.PIPE, timeout=SECONDS, **how)
+
+
+def differs(one, other):
+    """Where two files first differ, of these names."""
+    return next((k for k, (a, b) in enumerate(zip(one, other)) if a != b), min(len(one), len(other)))
+
+
+def check(program, given, line, status, text, out=None, like=None, words=None, **how):
+    """Runs one command line over these files."""
+    with tempfile.TemporaryDirectory(prefix="scale-commands-") as folder:
+        for name, content in given.items():
+            with open(os.path.join(folder, name), "wb") as file:
+                file.write(content)
+        done = run(program, folder, line.split() if words is None else words, **how)
+        found = made_in(folder)
+    if done.returncode != status:
+        fail(line, "status", status, done.returncode)
+    if done.stdout is not None and done.stdout != text.encode():
+        fail(line, "standard output", text.encode(), done.stdout)
+    if done.stderr:
+        fail(line, "standard error", b"", done.stderr)
+    wanted = {**given, **({out: given[like]} if out else {})}
+    if sorted(found) != sorted(wanted):
+        fail(line, "files", sorted(wanted), sorted(found))
+    for name, content in wanted.items():
+        if found[name] != content:
+            at = differs(content, found[name])
+            fail(line, "bytes of %s from %d on" % (name, at), content[at : at + 16], found[name][at : at + 16])
+
+
+def check_all(program):
+    given = files()
+    for line in LINES:
+        check(program, given, *line)
+    # A word that isn't UTF-8, and a text that can't be printed, once without a store and once behind it.
+    check(program, given, "hold \\xff", 8, "", words=["hold", b"\xff", "m", "loops", "out"])
+    with open("/dev/full", "wb") as full:
+        check(program, given, "help >/dev/full", 3, "", words=["help"], stdout=full)
+        check(program, given, "hold seven m loops out >/dev/full", 3, "", "out", "held-0", ["hold", "seven", "m", "loops", "out"], stdout=full)
+    return len(LINES) + 3
+
+
+def main():
+    programs = sys.argv[1:]
+    if not programs:
+        subprocess.run([os.path.join(TOP, "scale"), "help"], stdout=subprocess.DEVNULL, check=True)
+        programs = [os.path.join(TOP, "crates", "scale_tool", "out", "scale_tool")]
+    count = 0
+    with tempfile.TemporaryDirectory(prefix="scale-program-") as folder:
+        for number, built in enumerate(programs):
+            # A copy of its own, so that it can be run whatever its mode.
+            program = os.path.join(folder, "scale-%d" % number)
+            shutil.copyfile(built, program)
+            os.chmod(program, 0o755)
+            count += check_all(program)
+    print("%d command lines as expected" % count)
+
+
+if __name__ == "__main__":
+    main()
