@@ -6,11 +6,14 @@ use Rattle.scale_base.specs.declared.refusal.NoMemory.{NoMemory}
 use Rattle.scale_base.specs.declared.refusal.Refusal.{Refusal}
 use Rattle.scale_base.specs.declared.refusal.Stop.{Stop}
 use Rattle.scale_base.specs.declared.refusal.Stop.TheVariants.{Refused, Memory}
+use Rattle.scale_base.specs.declared.plan.ScalePlan.{ScalePlan}
+use Rattle.scale_base.specs.declared.plan.SiteLine.{SiteLine}
 use Rattle.scale_base.specs.declared.summary.Summary.{Summary}
+use Rattle.scaler.specs.Planned.{IsPlanned}
 use Rattle.scale_base.specs.Answer.{AnswersBy}
 use Rattle.scale_tool.specs.declared.reply.Reply.{Reply}
-use Rattle.scale_tool.specs.Answer.{Answer, Giving, MakesStored, stored_answer}
-use Rattle.scale_tool.specs.Views.{given_view, reply_view}
+use Rattle.scale_tool.specs.Answer.{Answer, Giving, MakesReport, MakesStored, plan_answer, stored_answer}
+use Rattle.scale_tool.specs.Views.{given_view, plan_view, reply_view}
 
 module _ (Gives : Giving) (i m l out : List ℕ) where
   -- an answer that tells this
@@ -24,3 +27,15 @@ module _ (Gives : Giving) (i m l out : List ℕ) where
   made_of_given (Ok given) (Ok reply) is told = told_as (Ok ((given.0.items, given.1))) (reply_view reply) is told
   made_of_given (Err (Refused refusal)) (Ok reply) is told = told_as (Err refusal) (reply_view reply) is told
   made_of_given (Err Memory) (Ok reply) is told = let bad : None ≡ Some (reply_view reply) = told in absurd cc
+
+module _ (i m l : List ℕ) where
+  reported_as : (given : Result (Summary × List SiteLine) Refusal) (answer : Answer) → IsPlanned i m l given → Some (plan_answer given) ≡ Some answer → MakesReport i m l answer
+  reported_as given answer is told = record { given = given; is_given = is; told = cc }
+
+  -- a reply to a plan is an answer of `report`
+  pub made_of_plan : (given : Result ScalePlan Stop) (result : Result Reply NoMemory) → AnswersBy (λ p. (p.summary, p.lines.items)) given (IsPlanned i m l)
+      → IfOk result (λ reply. option_map plan_answer (plan_view given) ≡ Some (reply_view reply)) → IfOk result (λ reply. MakesReport i m l (reply_view reply))
+  made_of_plan given (Err no_memory) is told = tt
+  made_of_plan (Ok plan) (Ok reply) is told = reported_as (Ok ((plan.summary, plan.lines.items))) (reply_view reply) is told
+  made_of_plan (Err (Refused refusal)) (Ok reply) is told = reported_as (Err refusal) (reply_view reply) is told
+  made_of_plan (Err Memory) (Ok reply) is told = let bad : None ≡ Some (reply_view reply) = told in absurd cc

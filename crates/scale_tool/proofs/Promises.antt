@@ -1,9 +1,11 @@
 -- Each command that was done keeps its promise.
-use Rattle.std.proofs.Common.{◌≡◌, ℕ, ◌≤◌, List, [], ◌∷◌, length, refl, sym, ap, subst, ◌∙◌, arith, Bool, true, false}
-use Rattle.std.specs.Prelude.{Option, Some, None, option_map, IfSome, cond, Result, Ok, Err, nat_le}
+use Rattle.std.proofs.Common.{◌≡◌, ◌≢◌, ℕ, ◌≤◌, List, [], ◌∷◌, ◌++◌, length, refl, sym, ap, subst, ◌∙◌, arith, Bool, true, false}
+use Rattle.std.specs.Prelude.{Option, Some, None, option_map, IfSome, cond, Result, Ok, Err, nat_le, bytes_eq, codes, String}
 use Rattle.std.proofs.lemmas.Bool.Decides.{nat_tests}
+use Rattle.std.specs.declared.alloc.Global.{Global}
 use Rattle.std.specs.Cmp.Lexicographic.{nat_list_cmp_total}
 use Rattle.std.specs.FinMap.{get, insert, get-insert}
+use Rattle.std.proofs.lemmas.List.{append_cancel_left}
 use Rattle.std.proofs.lemmas.Slice.Eq.{bytes_eq-Decides}
 use Rattle.std.proofs.lemmas.Map.Text.{is_eq-slice_cmp}
 use Rattle.scale_base.specs.declared.refusal.Refusal.{Refusal}
@@ -14,17 +16,37 @@ use Rattle.scaler.specs.Runs.{IsHeldSafely}
 use Rattle.scaler.specs.RewrittenRuns.{IsRewrittenSafely}
 use Rattle.scaler.proofs.Safe.{safe as held_safe}
 use Rattle.scaler.proofs.SafeRewritten.{safe as rewritten_safe}
+use Rattle.speed_sim.specs.Simulated.{simulated}
+use Rattle.image_maker.specs.Making.{headers}
+use Rattle.image_maker.proofs.SmallFiles.{small_image, small_machine, small_loops}
 use Rattle.host_files.specs.HostState.{Files, HostState}
-use Rattle.scale_tool.specs.Answer.{Answer, Giving, Makes, MakesStored, AnswersTo, HasAnswer, stored_answer}
-use Rattle.scale_tool.specs.Command.{Command, Help, Hold, Rewrite, Simulate, wants_of}
+use Rattle.scale_tool.specs.Answer.{Answer, Giving, AreMade, MadeFiles, Makes, MakesMade, MakesStored, AnswersTo, HasAnswer, made_answer, refused, stored_answer, unless_refused}
+use Rattle.scale_tool.specs.Command.{Command, Help, Hold, Rewrite, Report, Simulate, Make, command_of, texts, wants_of}
 use Rattle.scale_tool.specs.Loading.{Loading, Missing, Long, Whole, loading_of, loading_one, and_then}
-use Rattle.scale_tool.specs.Promise.{Keeping, StoredPromise, Promise, PromisedOf, PromisedBy, Promised}
+use Rattle.scale_tool.specs.Promise.{Keeping, StoredPromise, MadePromise, Promise, PromisedOf, PromisedBy, Promised}
 use Rattle.scale_tool.specs.Tool.{with_stores, StoresStand}
+use Rattle.scale_tool.proofs.Sizes.{HasSize, command_size}
 
 get_inserted : (files : Files) (name bytes : List ℕ) → get (insert files name bytes) name ≡ Some bytes
 get_inserted files name bytes =
     get-insert nat_list_cmp_total files name bytes name
     ∙ ap (λ (b : Bool). cond b (Some bytes) (get files name)) (is_eq-slice_cmp name name ∙ (bytes_eq-Decides name name).1 refl)
+
+-- another name
+get_beside : (files : Files) (name bytes other : List ℕ) → bytes_eq other name ≡ false → get (insert files name bytes) other ≡ get files other
+get_beside files name bytes other differ =
+    get-insert nat_list_cmp_total files name bytes other
+    ∙ ap (λ (b : Bool). cond b (Some bytes) (get files other)) (is_eq-slice_cmp other name ∙ differ)
+
+-- names that begin alike differ by their ends
+differ_behind : (prefix a b : List ℕ) → bytes_eq a b ≡ false → bytes_eq (prefix ++ a) (prefix ++ b) ≡ false
+differ_behind prefix a b differ = not_true (bytes_eq (prefix ++ a) (prefix ++ b)) refl
+  where
+    not_true : (t : Bool) → bytes_eq (prefix ++ a) (prefix ++ b) ≡ t → t ≡ false
+    not_true false e = refl
+    not_true true e =
+        let same : a ≡ b = append_cancel_left prefix a b ((bytes_eq-Decides (prefix ++ a) (prefix ++ b)).0 e) in
+        absurd (cc ((bytes_eq-Decides a b).1 same))
 
 -- ---- the limits of the files that were loaded
 
@@ -67,51 +89,148 @@ AreSafe Gives Safe = (image machine loops stored : List ℕ) (summary : Summary)
 
 module _ (Gives : Giving) (Safe : Keeping) (are_safe : AreSafe Gives Safe) (i m l out : List ℕ) (files : Files) (image_short : length i ≤ 4194304) (machine_short : length m ≤ 1048576) (loops_short : length l ≤ 1048576) where
   -- what was done is what is stored
-  given_kept : (given : Result (List ℕ × Summary) Refusal) → Gives i m l given → (stored_answer out given).status ≡ 0
+  given_kept : (given : Result (List ℕ × Summary) Refusal) → Gives i m l given → (stored_answer out given).status ≢ 1
       → StoredPromise Gives Safe i m l (get (with_stores (stored_answer out given).stores files) out)
-  given_kept (Ok given) is zero = record {
+  given_kept (Ok given) is done = record {
     stored = given.0;
     stands = get_inserted files out given.0;
     summary = given.1;
     given = is;
     safe = λ printed again. are_safe i m l given.0 printed image_short machine_short loops_short again;
   }
-  given_kept (Err refusal) is zero = absurd (omega arith)
+  given_kept (Err refusal) is done = absurd (done refl)
 
-  made_kept : (answer : Answer) → MakesStored Gives i m l out answer → answer.status ≡ 0 → StoredPromise Gives Safe i m l (get (with_stores answer.stores files) out)
-  made_kept answer made zero =
+  stored_kept : (answer : Answer) → MakesStored Gives i m l out answer → answer.status ≢ 1 → StoredPromise Gives Safe i m l (get (with_stores answer.stores files) out)
+  stored_kept answer made done =
       let told = sym made.told in
       subst (λ (a : Answer). StoredPromise Gives Safe i m l (get (with_stores a.stores files) out)) told
-      (given_kept made.given made.is_given (ap (λ (a : Answer). a.status) told ∙ zero))
+      (given_kept made.given made.is_given (λ e. done (ap (λ (a : Answer). a.status) made.told ∙ e)))
 
-kept : (command : Command) (loaded : List (List ℕ)) (files : Files) (answer : Answer) → EachWithin (wants_of command) loaded → Makes command loaded answer → answer.status ≡ 0 →
+-- an answer whose parts may be refused
+by_part : {A : Type 0} (part : Result A Refusal) (next : A → Answer) (P : Answer → Type 0) → ((e : Refusal) → P (refused e)) → ((a : A) → part ≡ Ok a → P (next a)) → P (unless_refused part next)
+by_part (Ok a) next P refusal rest = rest a refl
+by_part (Err e) next P refusal rest = refusal e
+
+module _ (number size : ℕ) (prefix : List ℕ) (files : Files) (few : size ≤ 2000) (made : MadeFiles) (are : AreMade number size made) where
+  -- the promise of the files that stand after an answer that is no refusal
+  abbrev Kept : Answer → Type 0
+  Kept answer = answer.status ≢ 1 → MadePromise number size prefix (with_stores answer.stores files)
+
+  none_refused : (e : Refusal) → Kept (refused e)
+  none_refused e done = absurd (done refl)
+
+  abbrev name : List ℕ → List ℕ
+  name ending = prefix ++ ending
+
+  beside : (f : Files) (a b bytes : List ℕ) → bytes_eq b a ≡ false → get (insert f (name a) bytes) (name b) ≡ get f (name b)
+  beside f a b bytes differ = get_beside f (name a) bytes (name b) (differ_behind prefix b a differ)
+
+  module _ (scaled : List ℕ) where
+    abbrev files_1 : Files
+    files_1 = insert files (name (codes ".elf")) made.image
+
+    abbrev files_2 : Files
+    files_2 = insert files_1 (name (codes ".machine")) made.machine
+
+    abbrev files_3 : Files
+    files_3 = insert files_2 (name (codes ".loops")) made.loops
+
+    abbrev files_4 : Files
+    files_4 = insert files_3 (name (codes ".input")) made.input
+
+    abbrev files_5 : Files
+    files_5 = insert files_4 (name (codes ".scaled")) scaled
+
+    image_stands : get files_5 (name (codes ".elf")) ≡ Some made.image
+    image_stands =
+        beside files_4 (codes ".scaled") (codes ".elf") scaled refl
+        ∙ beside files_3 (codes ".input") (codes ".elf") made.input refl
+        ∙ beside files_2 (codes ".loops") (codes ".elf") made.loops refl
+        ∙ beside files_1 (codes ".machine") (codes ".elf") made.machine refl
+        ∙ get_inserted files (name (codes ".elf")) made.image
+
+    machine_stands : get files_5 (name (codes ".machine")) ≡ Some made.machine
+    machine_stands =
+        beside files_4 (codes ".scaled") (codes ".machine") scaled refl
+        ∙ beside files_3 (codes ".input") (codes ".machine") made.input refl
+        ∙ beside files_2 (codes ".loops") (codes ".machine") made.loops refl
+        ∙ get_inserted files_1 (name (codes ".machine")) made.machine
+
+    loops_stand : get files_5 (name (codes ".loops")) ≡ Some made.loops
+    loops_stand =
+        beside files_4 (codes ".scaled") (codes ".loops") scaled refl
+        ∙ beside files_3 (codes ".input") (codes ".loops") made.input refl
+        ∙ get_inserted files_2 (name (codes ".loops")) made.loops
+
+    input_stands : get files_5 (name (codes ".input")) ≡ Some made.input
+    input_stands =
+        beside files_4 (codes ".scaled") (codes ".input") scaled refl
+        ∙ get_inserted files_3 (name (codes ".input")) made.input
+
+    promised : (summary : Summary) → IsRewritten made.image made.machine made.loops (Ok ((scaled, summary))) → MadePromise number size prefix files_5
+    promised summary is = record {
+      made = made;
+      are_made = are;
+      image = image_stands;
+      machine = machine_stands;
+      loops = loops_stand;
+      input = input_stands;
+      promise = record {
+        stored = scaled;
+        stands = get_inserted files_4 (name (codes ".scaled")) scaled;
+        summary = summary;
+        given = is;
+        safe = λ printed again. rewritten_safe made.image made.machine made.loops scaled printed
+            (small_image number size made.image few are.image)
+            (subst (λ (m : List ℕ). length m ≤ 1048576) (sym are.machine) (small_machine size few))
+            (small_loops number size (headers number size) made.loops few are.loops refl) again;
+      };
+    }
+
+  program_kept : (given : Result (List ℕ × Summary) Refusal) → IsRewritten made.image made.machine made.loops given → Kept (made_answer prefix made given)
+  program_kept (Err e) is = none_refused e
+  program_kept (Ok scaled) is =
+      by_part (simulated made.image made.machine made.input (Some made.loops)) _ Kept none_refused (λ first _.
+      by_part (simulated scaled.0 made.machine made.input None) _ Kept none_refused (λ second _ done.
+      promised scaled.0 scaled.1 is))
+
+made_kept : (number size : ℕ) (prefix : List ℕ) (files : Files) (answer : Answer) → size ≤ 2000 → MakesMade number size prefix answer → answer.status ≢ 1 →
+    MadePromise number size prefix (with_stores answer.stores files)
+made_kept number size prefix files answer few makes =
+    subst (λ (a : Answer). a.status ≢ 1 → MadePromise number size prefix (with_stores a.stores files)) (sym makes.told)
+    (program_kept number size prefix files few makes.made makes.are_made makes.given makes.is_given)
+
+kept : (command : Command) (loaded : List (List ℕ)) (files : Files) (answer : Answer) → HasSize command → EachWithin (wants_of command) loaded → Makes command loaded answer → answer.status ≢ 1 →
     Promise command loaded (with_stores answer.stores files)
-kept Help loaded files answer within made zero = tt
-kept (Hold image machine loops out) (i ∷ m ∷ l ∷ []) files answer within made zero =
-    made_kept IsHeld IsHeldSafely held_safe i m l out files within.0 within.1.0 within.1.1.0 answer made zero
-kept (Hold image machine loops out) loaded files answer within made zero = absurd made
-kept (Rewrite image machine loops out) (i ∷ m ∷ l ∷ []) files answer within made zero =
-    made_kept IsRewritten IsRewrittenSafely rewritten_safe i m l out files within.0 within.1.0 within.1.1.0 answer made zero
-kept (Rewrite image machine loops out) loaded files answer within made zero = absurd made
-kept (Simulate image machine input out loops) loaded files answer within made zero = tt
+kept Help loaded files answer size within made done = tt
+kept (Hold image machine loops out) (i ∷ m ∷ l ∷ []) files answer size within made done =
+    stored_kept IsHeld IsHeldSafely held_safe i m l out files within.0 within.1.0 within.1.1.0 answer made done
+kept (Hold image machine loops out) loaded files answer size within made done = absurd made
+kept (Rewrite image machine loops out) (i ∷ m ∷ l ∷ []) files answer size within made done =
+    stored_kept IsRewritten IsRewrittenSafely rewritten_safe i m l out files within.0 within.1.0 within.1.1.0 answer made done
+kept (Rewrite image machine loops out) loaded files answer size within made done = absurd made
+kept (Report image machine loops) loaded files answer size within made done = tt
+kept (Simulate image machine input out loops) loaded files answer size within made done = tt
+kept (Make number blocks prefix) [] files answer size within made done = made_kept number blocks prefix files answer size made done
+kept (Make number blocks prefix) (file ∷ loaded) files answer size within made done = absurd made
 
-of_loading : (command : Command) (loading : Loading) (files : Files) (new : Option Files) (answer : Answer) → Within (wants_of command) loading → AnswersTo command loading answer → answer.status ≡ 0 →
-    new ≡ Some (with_stores answer.stores files) → IfSome new (λ after. PromisedOf command loading after)
-of_loading command Missing files new answer within is zero stand = absurd is
-of_loading command (Long name) files None answer within is zero stand = tt
-of_loading command (Long name) files (Some after) answer within is zero stand = tt
-of_loading command (Whole loaded) files new answer within is zero stand =
-    subst (λ (o : Option Files). IfSome o (λ after. Promise command loaded after)) (sym stand) (kept command loaded files answer within is zero)
+of_loading : (command : Command) (loading : Loading) (files : Files) (new : Option Files) (answer : Answer) → HasSize command → Within (wants_of command) loading → AnswersTo command loading answer →
+    answer.status ≢ 1 → new ≡ Some (with_stores answer.stores files) → IfSome new (λ after. PromisedOf command loading after)
+of_loading command Missing files new answer size within is done stand = absurd is
+of_loading command (Long name) files None answer size within is done stand = tt
+of_loading command (Long name) files (Some after) answer size within is done stand = tt
+of_loading command (Whole loaded) files new answer size within is done stand =
+    subst (λ (o : Option Files). IfSome o (λ after. Promise command loaded after)) (sym stand) (kept command loaded files answer size within is done)
 
-of_files : (asked : Option Command) (old new : Option Files) →
-    IfSome old (λ files. HasAnswer asked files (λ answer. (answer.status ≡ 0) × (new ≡ option_map (with_stores answer.stores) old))) →
+of_files : (asked : Option Command) (old new : Option Files) → IfSome asked HasSize →
+    IfSome old (λ files. HasAnswer asked files (λ answer. (answer.status ≢ 1) × (new ≡ option_map (with_stores answer.stores) old))) →
     IfSome old (λ files. IfSome new (λ after. PromisedBy asked files after))
-of_files asked None new given = tt
-of_files None (Some files) None given = tt
-of_files None (Some files) (Some after) given = tt
-of_files (Some command) (Some files) new given =
-    of_loading command (loading_of (wants_of command) files) files new given.0 (loaded_within (wants_of command) files) given.1 given.2.0 given.2.1
+of_files asked None new size given = tt
+of_files None (Some files) None size given = tt
+of_files None (Some files) (Some after) size given = tt
+of_files (Some command) (Some files) new size given =
+    of_loading command (loading_of (wants_of command) files) files new given.0 size (loaded_within (wants_of command) files) given.1 given.2.0 given.2.1
 
 -- stores that stand keep their promise, whatever was answered
-pub stored_keep_promise : (asked : Option Command) (old new : HostState) → StoresStand asked old new → Promised asked old new
-stored_keep_promise asked old new stand = of_files asked old.files new.files stand
+pub stored_keep_promise : (words : List (String Global)) (old new : HostState) → StoresStand (command_of (texts words)) old new → Promised (command_of (texts words)) old new
+stored_keep_promise words old new stand = of_files (command_of (texts words)) old.files new.files (command_size (texts words)) stand

@@ -1,21 +1,30 @@
 -- What a command may answer: its stores in order, the text that it prints, and its status.
-use Rattle.std.specs.Prelude.{◌≡◌, ℕ, List, [], ◌∷◌, Option, Some, None, Result, Ok, Err, codes}
+use Rattle.std.specs.Prelude.{◌≡◌, ℕ, List, [], ◌∷◌, ◌++◌, flat_map, Option, Some, None, Result, Ok, Err, codes}
 use Rattle.scale_base.specs.declared.refusal.Refusal.{Refusal}
 use Rattle.scale_base.specs.declared.refusal.Refusal.TheVariants.{TooLarge}
+use Rattle.scale_base.specs.declared.plan.SiteLine.{SiteLine}
 use Rattle.scale_base.specs.declared.summary.Summary.{Summary}
 use Rattle.scale_base.specs.declared.endings.End.{End}
 use Rattle.scale_base.specs.declared.endings.End.TheVariants.{Exited, Trapped, OutOfSteps}
-use Rattle.power_model.specs.Report.{Report}
-use Rattle.scale_report.specs.Texts.{summary_text, refusal_text, run_text}
+use Rattle.power_model.specs.Report.{Report as RunReport}
+use Rattle.scale_report.specs.Texts.{summary_text, refusal_text, run_text, site_line}
 use Rattle.scaler.specs.Held.{IsHeld}
+use Rattle.scaler.specs.Planned.{IsPlanned}
 use Rattle.scaler.specs.Rewritten.{IsRewritten}
 use Rattle.speed_sim.specs.Simulated.{simulated}
+use Rattle.image_maker.specs.Made.{IsImageOf}
+use Rattle.image_maker.specs.MadeTexts.{machine_text, loops_text, drawn_bytes}
+use Rattle.image_maker.specs.Making.{program, headers, state_at}
 use Rattle.host_files.specs.HostState.{Files}
-use Rattle.scale_tool.specs.Command.{Command, Help, Hold, Rewrite, Simulate, wants_of}
+use Rattle.scale_tool.specs.Command.{Command, Help, Hold, Rewrite, Report, Simulate, Make, wants_of}
 use Rattle.scale_tool.specs.Loading.{Loading, Missing, Long, Whole, loading_of}
 
+-- names, each with what is stored under it
+abbrev pub Stores : Type 0
+Stores = List (List ℕ × List ℕ)
+
 pub record Answer : Type 0 where
-  pub stores : List (List ℕ × List ℕ)
+  pub stores : Stores
   pub text : List ℕ
   pub status : ℕ
 
@@ -29,7 +38,7 @@ bad_command = record { stores = []; text = bad_command_text; status = 2 }
 
 -- how the commands are called
 abbrev pub help_text : List ℕ
-help_text = codes "scale hold IMAGE MACHINE LOOPS OUT\nscale rewrite IMAGE MACHINE LOOPS OUT\nscale simulate IMAGE MACHINE INPUT OUT [LOOPS]\nscale help\n"
+help_text = codes "scale hold IMAGE MACHINE LOOPS OUT\nscale rewrite IMAGE MACHINE LOOPS OUT\nscale report IMAGE MACHINE LOOPS\nscale simulate IMAGE MACHINE INPUT OUT [LOOPS]\nscale make NUMBER SIZE PREFIX\nscale help\n"
 
 -- the answer to `help`
 abbrev pub help : Answer
@@ -53,6 +62,17 @@ pub record MakesStored (Gives : Giving) (image machine loops out : List ℕ) (an
   pub is_given : Gives image machine loops given
   pub told : answer ≡ stored_answer out given
 
+-- the plan, or the refusal
+abbrev pub plan_answer : Result (Summary × List SiteLine) Refusal → Answer
+plan_answer (Ok plan) = record { stores = []; text = summary_text plan.0 ++ flat_map site_line plan.1; status = 0 }
+plan_answer (Err refusal) = refused refusal
+
+-- The answer to `report`, by the bytes of its image, machine file and loop file: it tells all that `rewrite` finds for them.
+pub record MakesReport (image machine loops : List ℕ) (answer : Answer) : Type 0 where
+  pub given : Result (Summary × List SiteLine) Refusal
+  pub is_given : IsPlanned image machine loops given
+  pub told : answer ≡ plan_answer given
+
 -- the status of a simulated run, by how it ended: it exited, whatever its own status is, or it trapped, or it was out of steps
 abbrev pub run_status : End → ℕ
 run_status (Exited status) = 0
@@ -60,7 +80,7 @@ run_status (Trapped trap) = 5
 run_status OutOfSteps = 6
 
 -- what the run wrote, and its report, or the refusal
-abbrev pub run_answer : List ℕ → Result Report Refusal → Answer
+abbrev pub run_answer : List ℕ → Result RunReport Refusal → Answer
 run_answer out (Ok report) = record { stores = (out, report.output) ∷ []; text = run_text report; status = run_status report.end }
 run_answer out (Err refusal) = refused refusal
 
@@ -68,13 +88,56 @@ run_answer out (Err refusal) = refused refusal
 abbrev pub MakesRun : (image machine input : List ℕ) → (loops : Option (List ℕ)) → (out : List ℕ) → Answer → Type 0
 MakesRun image machine input loops out answer = answer ≡ run_answer out (simulated image machine input loops)
 
+-- a made program's image, and the files that go with it
+pub record MadeFiles : Type 0 where
+  pub image : List ℕ
+  pub machine : List ℕ
+  pub loops : List ℕ
+  pub input : List ℕ
+
+-- they are those of the program of this number and with so many blocks
+pub record AreMade (number size : ℕ) (made : MadeFiles) : Type 0 where
+  pub image : IsImageOf (program number size) made.image
+  pub machine : made.machine ≡ machine_text size
+  pub loops : made.loops ≡ loops_text (headers number size)
+  pub input : made.input ≡ drawn_bytes (state_at number size) 256
+
+-- the files of a made program and its scaled image, under names that begin alike
+abbrev pub made_stores : List ℕ → MadeFiles → List ℕ → Stores
+made_stores prefix made scaled =
+    (prefix ++ codes ".elf", made.image) ∷ (prefix ++ codes ".machine", made.machine) ∷ (prefix ++ codes ".loops", made.loops)
+    ∷ (prefix ++ codes ".input", made.input) ∷ (prefix ++ codes ".scaled", scaled) ∷ []
+
+-- what follows a part, unless that is refused
+abbrev pub unless_refused : {A : Type 0} → Result A Refusal → (A → Answer) → Answer
+unless_refused (Ok part) next = next part
+unless_refused (Err refusal) next = refused refusal
+
+-- all files, the summary, and the reports of the run of the made image with its loop file and of that of the scaled image without one; or the first refusal
+abbrev pub made_answer : List ℕ → MadeFiles → Result (List ℕ × Summary) Refusal → Answer
+made_answer prefix made given =
+    unless_refused given (λ scaled.
+    unless_refused (simulated made.image made.machine made.input (Some made.loops)) (λ first.
+    unless_refused (simulated scaled.0 made.machine made.input None) (λ second.
+    record { stores = made_stores prefix made scaled.0; text = summary_text scaled.1 ++ run_text first ++ run_text second; status = run_status second.end })))
+
+-- The answer to `make`: it tells what is made of the number and the size, what `rewrite` gives for that, and how both images run.
+pub record MakesMade (number size : ℕ) (prefix : List ℕ) (answer : Answer) : Type 0 where
+  pub made : MadeFiles
+  pub are_made : AreMade number size made
+  pub given : Result (List ℕ × Summary) Refusal
+  pub is_given : IsRewritten made.image made.machine made.loops given
+  pub told : answer ≡ made_answer prefix made given
+
 -- what the command may make of its files, as many as it loads
 abbrev pub Makes : Command → List (List ℕ) → Answer → Type 0
 Makes Help [] answer = answer ≡ help
 Makes (Hold image machine loops out) (i ∷ m ∷ l ∷ []) answer = MakesStored IsHeld i m l out answer
 Makes (Rewrite image machine loops out) (i ∷ m ∷ l ∷ []) answer = MakesStored IsRewritten i m l out answer
+Makes (Report image machine loops) (i ∷ m ∷ l ∷ []) answer = MakesReport i m l answer
 Makes (Simulate image machine input out None) (i ∷ m ∷ n ∷ []) answer = MakesRun i m n None out answer
 Makes (Simulate image machine input out (Some loops)) (i ∷ m ∷ n ∷ l ∷ []) answer = MakesRun i m n (Some l) out answer
+Makes (Make number size prefix) [] answer = MakesMade number size prefix answer
 Makes command files answer = ⊥
 
 -- and of how they were loaded: nothing where a file is missing

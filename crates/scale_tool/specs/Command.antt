@@ -1,12 +1,15 @@
 -- The commands: their words, what each loads, and the statuses that it may answer.
-use Rattle.std.specs.Prelude.{ℕ, List, [], ◌∷◌, map, Option, Some, None, if◌then◌else◌, bytes_eq, codes, String, string_bytes, Bool, true, false, ◌==◌, ◌||◌, ◌&&◌, nat_le}
+use Rattle.std.specs.Prelude.{ℕ, List, [], ◌∷◌, map, Option, Some, None, if◌then◌else◌, bytes_eq, codes, String, string_bytes, option_and_then, option_map, Bool, true, false, ◌==◌, ◌||◌, ◌&&◌, nat_le}
 use Rattle.std.specs.declared.alloc.Global.{Global}
+use Rattle.scale_tool.specs.Numbers.{number_within}
 
 pub data Command : Type 0 where
   Help : Command
   Hold : (image machine loops out : List ℕ) → Command
   Rewrite : (image machine loops out : List ℕ) → Command
+  Report : (image machine loops : List ℕ) → Command
   Simulate : (image machine input out : List ℕ) (loops : Option (List ℕ)) → Command
+  Make : (number size : ℕ) (prefix : List ℕ) → Command
 
 -- the words of a command line as texts
 abbrev pub texts : List (String Global) → List (List ℕ)
@@ -24,10 +27,20 @@ abbrev pub rewrite_of : List (List ℕ) → Option Command
 rewrite_of (image ∷ machine ∷ loops ∷ out ∷ []) = Some (Rewrite image machine loops out)
 rewrite_of words = None
 
+abbrev pub report_of : List (List ℕ) → Option Command
+report_of (image ∷ machine ∷ loops ∷ []) = Some (Report image machine loops)
+report_of words = None
+
 abbrev pub simulate_of : List (List ℕ) → Option Command
 simulate_of (image ∷ machine ∷ input ∷ out ∷ []) = Some (Simulate image machine input out None)
 simulate_of (image ∷ machine ∷ input ∷ out ∷ loops ∷ []) = Some (Simulate image machine input out (Some loops))
 simulate_of words = None
+
+-- a program's number has up to 20 digits and 64 bits; its size has up to 4 digits, and is 1 to 2,000
+abbrev pub make_of : List (List ℕ) → Option Command
+make_of (number ∷ size ∷ prefix ∷ []) =
+    option_and_then (λ n. option_map (λ s. Make n s prefix) (number_within 4 1 2000 size)) (number_within 20 0 18446744073709551615 number)
+make_of words = None
 
 -- the command that these words are, if they are one
 abbrev pub command_of : List (List ℕ) → Option Command
@@ -36,7 +49,9 @@ command_of (word ∷ words) =
     if bytes_eq word (codes "help") then help_of words
     else if bytes_eq word (codes "hold") then hold_of words
     else if bytes_eq word (codes "rewrite") then rewrite_of words
+    else if bytes_eq word (codes "report") then report_of words
     else if bytes_eq word (codes "simulate") then simulate_of words
+    else if bytes_eq word (codes "make") then make_of words
     else None
 
 -- the files that it loads, in order, each with its limit in bytes
@@ -44,8 +59,10 @@ abbrev pub wants_of : Command → List (List ℕ × ℕ)
 wants_of Help = []
 wants_of (Hold image machine loops out) = (image, 4194304) ∷ (machine, 1048576) ∷ (loops, 1048576) ∷ []
 wants_of (Rewrite image machine loops out) = (image, 4194304) ∷ (machine, 1048576) ∷ (loops, 1048576) ∷ []
+wants_of (Report image machine loops) = (image, 4194304) ∷ (machine, 1048576) ∷ (loops, 1048576) ∷ []
 wants_of (Simulate image machine input out None) = (image, 8388608) ∷ (machine, 1048576) ∷ (input, 1048576) ∷ []
 wants_of (Simulate image machine input out (Some loops)) = (image, 8388608) ∷ (machine, 1048576) ∷ (input, 1048576) ∷ (loops, 1048576) ∷ []
+wants_of (Make number size prefix) = []
 
 -- the statuses that a command gives, but for a fault and want of memory; and that of words that are none
 abbrev pub may_give : Option Command → ℕ → Bool
@@ -53,7 +70,9 @@ may_give None status = status == 2
 may_give (Some Help) status = status == 0
 may_give (Some (Hold image machine loops out)) status = nat_le status 1
 may_give (Some (Rewrite image machine loops out)) status = nat_le status 1
+may_give (Some (Report image machine loops)) status = nat_le status 1
 may_give (Some (Simulate image machine input out loops)) status = nat_le status 1 || (status == 5 || status == 6)
+may_give (Some (Make number size prefix)) status = nat_le status 1 || (status == 5 || status == 6)
 
 -- it may want memory
 abbrev pub needs_memory : Option Command → Bool
@@ -61,7 +80,9 @@ needs_memory None = false
 needs_memory (Some Help) = false
 needs_memory (Some (Hold image machine loops out)) = true
 needs_memory (Some (Rewrite image machine loops out)) = true
+needs_memory (Some (Report image machine loops)) = true
 needs_memory (Some (Simulate image machine input out loops)) = true
+needs_memory (Some (Make number size prefix)) = true
 
 -- the statuses that a run may end with
 abbrev pub may_answer : Option Command → ℕ → Bool

@@ -2,7 +2,9 @@ pub mod Answer
 pub mod Command
 pub mod Loaded
 pub mod Loading
+pub mod Numbers
 pub mod Promise
+pub mod Scaled
 pub mod Tool
 pub mod Views
 pub mod Words

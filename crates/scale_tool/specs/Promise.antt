@@ -1,5 +1,5 @@
 -- What the files that a command has stored promise to whoever runs them.
-use Rattle.std.specs.Prelude.{◌≡◌, ℕ, List, [], ◌∷◌, Option, Some, None, IfSome, Ok}
+use Rattle.std.specs.Prelude.{◌≡◌, ℕ, List, [], ◌∷◌, ◌++◌, Option, Some, None, IfSome, Ok, codes}
 use Rattle.std.specs.FinMap.{get}
 use Rattle.scale_base.specs.declared.summary.Summary.{Summary}
 use Rattle.scaler.specs.Held.{IsHeld}
@@ -7,8 +7,8 @@ use Rattle.scaler.specs.Rewritten.{IsRewritten}
 use Rattle.scaler.specs.RewrittenRuns.{IsRewrittenSafely}
 use Rattle.scaler.specs.Runs.{IsHeldSafely}
 use Rattle.host_files.specs.HostState.{Files, HostState}
-use Rattle.scale_tool.specs.Answer.{Giving}
-use Rattle.scale_tool.specs.Command.{Command, Hold, Rewrite, wants_of}
+use Rattle.scale_tool.specs.Answer.{Giving, MadeFiles, AreMade}
+use Rattle.scale_tool.specs.Command.{Command, Hold, Rewrite, Make, wants_of}
 use Rattle.scale_tool.specs.Loading.{Loading, Whole, loading_of}
 
 -- what a stored image with the printed summary keeps to, by the bytes of the image, machine file and loop file that it was made of
@@ -24,14 +24,25 @@ pub record StoredPromise (Gives : Giving) (Safe : Keeping) (image machine loops 
   pub given : Gives image machine loops (Ok ((stored, summary)))
   pub safe : (printed : Summary) → Gives image machine loops (Ok ((stored, printed))) → Safe image machine loops stored printed
 
+-- of `make`: the files of the program of this number and size stand, and beside them what `rewrite` gives for them
+pub record MadePromise (number size : ℕ) (prefix : List ℕ) (after : Files) : Type 0 where
+  pub made : MadeFiles
+  pub are_made : AreMade number size made
+  pub image : get after (prefix ++ codes ".elf") ≡ Some made.image
+  pub machine : get after (prefix ++ codes ".machine") ≡ Some made.machine
+  pub loops : get after (prefix ++ codes ".loops") ≡ Some made.loops
+  pub input : get after (prefix ++ codes ".input") ≡ Some made.input
+  pub promise : StoredPromise IsRewritten IsRewrittenSafely made.image made.machine made.loops (get after (prefix ++ codes ".scaled"))
+
 -- What a command promises beside its answer, by the files that it loaded and those that stand afterwards. Of `hold`: on every input the stored image runs as the
 -- original one does, and as long as its run keeps the loops' bounds and the return addresses it takes at most the printed time, which is at most the deadline, and it
 -- ends. Of `rewrite`: on every input on which the original run exits and keeps the loops' bounds and the return addresses, the stored image gives the same output and
 -- the same exit status, ends by the deadline, never raises its level, takes no more energy than its own cycles at its starting level would, and adds at most the printed
--- number of cycles.
+-- number of cycles. Of `make`: its scaled image keeps what `rewrite` promises of the program, machine file and loop file that stand beside it.
 abbrev pub Promise : Command → List (List ℕ) → Files → Type 0
 Promise (Hold image machine loops out) (i ∷ m ∷ l ∷ []) after = StoredPromise IsHeld IsHeldSafely i m l (get after out)
 Promise (Rewrite image machine loops out) (i ∷ m ∷ l ∷ []) after = StoredPromise IsRewritten IsRewrittenSafely i m l (get after out)
+Promise (Make number size prefix) [] after = MadePromise number size prefix after
 Promise command files after = Unit {0}
 
 abbrev pub PromisedOf : Command → Loading → Files → Type 0

@@ -5,12 +5,9 @@ use Rattle.host_files.specs.HostState.{Files, Room, HostState, IsUntouched, Rose
 use Rattle.host_files.specs.Host.{MayHoldAnything, PrintsPrefix}
 use Rattle.host_files.specs.declared.host.HostError.{HostError}
 use Rattle.host_files.specs.declared.host.HostError.TheVariants.{Failed, OutOfMemory}
-use Rattle.scale_tool.specs.Answer.{IsAnswerOf, HasAnswer, Answer}
+use Rattle.scale_tool.specs.Answer.{IsAnswerOf, HasAnswer, Answer, Stores}
 use Rattle.scale_tool.specs.Command.{Command, may_give, needs_memory, wants_of}
 use Rattle.scale_tool.specs.Loading.{Missing, loading_of}
-
-abbrev pub Stores : Type 0
-Stores = List (List ℕ × List ℕ)
 
 -- the files after these stores, in order
 abbrev pub with_stores : Stores → Files → Files
@@ -71,10 +68,14 @@ abbrev pub IsAnswered : Option Command → ℕ → HostState → HostState → T
 IsAnswered asked status old new = IfSome old.files (λ files. HasAnswer asked files (λ answer.
     (status ≡ answer.status) × IsDelivered answer.stores answer.text old new))
 
--- where the files are told, an answer says that the command was done, and its stores stand, whether or not its text was printed
+-- where the files are told, every answer that may be given has this status
+abbrev pub IsStatusOfAll : Option Command → ℕ → HostState → Type 0
+IsStatusOfAll asked status old = IfSome old.files (λ files. (answer : Answer) → IsAnswerOf asked files answer → status ≡ answer.status)
+
+-- where the files are told, the stores of an answer that is no refusal stand, whether or not its text was printed
 abbrev pub StoresStand : Option Command → HostState → HostState → Type 0
 StoresStand asked old new = IfSome old.files (λ files. HasAnswer asked files (λ answer.
-    (answer.status ≡ 0) × (new.files ≡ option_map (with_stores answer.stores) old.files)))
+    (answer.status ≢ 1) × (new.files ≡ option_map (with_stores answer.stores) old.files)))
 
 -- where the files are told, a load failed, and nothing was touched, or an answer was cut short
 abbrev pub StopsWithin : Option Command → HostState → HostState → Type 0

@@ -4,22 +4,26 @@ use Rattle.std.specs.declared.alloc.Global.{Global}
 use Rattle.scale_base.specs.declared.refusal.Refusal.{Refusal}
 use Rattle.scale_base.specs.declared.refusal.Stop.{Stop}
 use Rattle.scale_base.specs.declared.refusal.Stop.TheVariants.{Refused, Memory}
+use Rattle.scale_base.specs.declared.plan.ScalePlan.{ScalePlan}
+use Rattle.scale_base.specs.declared.plan.SiteLine.{SiteLine}
 use Rattle.scale_base.specs.declared.summary.Summary.{Summary}
+use Rattle.image_maker.specs.declared.maker.Made.{Made}
 use Rattle.scale_tool.specs.declared.command.Command.{Command as Parsed}
 use Rattle.scale_tool.specs.declared.command.Command.TheVariants.{Help as ParsedHelp, Work as ParsedWork}
 use Rattle.scale_tool.specs.declared.command.Work.{Work}
-use Rattle.scale_tool.specs.declared.command.Work.TheVariants.{Hold as ParsedHold, Rewrite as ParsedRewrite, Simulate as ParsedSimulate}
+use Rattle.scale_tool.specs.declared.command.Work.TheVariants.{Hold as ParsedHold, Rewrite as ParsedRewrite, Report as ParsedReport, Simulate as ParsedSimulate, Make as ParsedMake}
 use Rattle.scale_tool.specs.declared.load_all.Want.{Want}
 use Rattle.scale_tool.specs.declared.reply.Reply.{Reply}
 use Rattle.scale_tool.specs.declared.reply.Store.{Store}
-use Rattle.scale_tool.specs.Answer.{Answer}
-use Rattle.scale_tool.specs.Command.{Command, Help, Hold, Rewrite, Simulate}
-use Rattle.scale_tool.specs.Tool.{Stores}
+use Rattle.scale_tool.specs.Answer.{Answer, MadeFiles, Stores}
+use Rattle.scale_tool.specs.Command.{Command, Help, Hold, Rewrite, Report, Simulate, Make}
 
 abbrev pub work_view : Work → Command
 work_view (ParsedHold image machine loops out) = Hold image.now machine.now loops.now out.now
 work_view (ParsedRewrite image machine loops out) = Rewrite image.now machine.now loops.now out.now
+work_view (ParsedReport image machine loops) = Report image.now machine.now loops.now
 work_view (ParsedSimulate image machine input out loops) = Simulate image.now machine.now input.now out.now (option_map (λ l. l.now) loops)
+work_view (ParsedMake number size prefix) = Make number size.blocks prefix.now
 
 abbrev pub command_view : Parsed → Command
 command_view ParsedHelp = Help
@@ -37,8 +41,20 @@ given_view (Ok given) = Some (Ok ((given.0.items, given.1)))
 given_view (Err (Refused refusal)) = Some (Err refusal)
 given_view (Err Memory) = None
 
+-- a summary and its lines, or the refusal; none where memory ran out
+abbrev pub plan_view : Result ScalePlan Stop → Option (Result (Summary × List SiteLine) Refusal)
+plan_view (Ok plan) = Some (Ok ((plan.summary, plan.lines.items)))
+plan_view (Err (Refused refusal)) = Some (Err refusal)
+plan_view (Err Memory) = None
+
+abbrev pub made_view : Made → MadeFiles
+made_view made = record { image = made.image.items; machine = made.machine.items; loops = made.loops.items; input = made.input.items }
+
+abbrev pub store_view : Store → List ℕ × List ℕ
+store_view store = (string_bytes store.name, store.bytes.items)
+
 abbrev pub store_views : List Store → Stores
-store_views stores = map (λ store. (string_bytes store.name, store.bytes.items)) stores
+store_views stores = map store_view stores
 
 abbrev pub reply_view : Reply → Answer
 reply_view reply = record { stores = store_views reply.stores.items; text = string_bytes reply.text; status = reply.status }

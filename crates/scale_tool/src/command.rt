@@ -1,10 +1,11 @@
 //! The words of a command line.
 
 ghost use Rattle.std.specs.Prelude.{◌≡◌, IfOk, option_map};
-ghost use Rattle.scale_tool.specs.Command.{command_of, help_of, hold_of, rewrite_of, simulate_of, texts, wants_of};
+ghost use Rattle.scale_tool.specs.Command.{command_of, help_of, hold_of, rewrite_of, report_of, simulate_of, make_of, texts, wants_of};
 ghost use Rattle.scale_tool.specs.Views.{command_view, work_view, want_views};
 
 use crate::load_all::Want;
+use crate::numbers::{Size, program_number, program_size};
 use std::alloc::{AllocError, Global};
 
 /// A command.
@@ -12,11 +13,11 @@ use std::alloc::{AllocError, Global};
 pub enum Command<'a> {
     /// Tells how the commands are called.
     Help,
-    /// Makes a file of others.
+    /// Makes files, a text or both.
     Work(Work<'a>),
 }
 
-/// What is made of files, with their names.
+/// What is made of files, with their names, or of a number with a size.
 #[derive(Clone, Copy)]
 pub enum Work<'a> {
     /// Keeps the whole program at the slowest level that is safe.
@@ -33,6 +34,12 @@ pub enum Work<'a> {
         loops: &'a str,
         out: &'a str,
     },
+    /// Tells all that a rewriting finds.
+    Report {
+        image: &'a str,
+        machine: &'a str,
+        loops: &'a str,
+    },
     /// Runs the program, and tells what the run costs and whether it keeps the notes of its loops, if any are given.
     Simulate {
         image: &'a str,
@@ -40,6 +47,12 @@ pub enum Work<'a> {
         input: &'a str,
         out: &'a str,
         loops: Option<&'a str>,
+    },
+    /// Makes a program, rewrites it, and runs both.
+    Make {
+        number: u64,
+        size: Size,
+        prefix: &'a str,
     },
 }
 
@@ -52,7 +65,9 @@ pub fn parse(words: &[String]) -> Option<Command<'_>>
         "help" => parse_help(words),
         "hold" => parse_hold(words),
         "rewrite" => parse_rewrite(words),
+        "report" => parse_report(words),
         "simulate" => parse_simulate(words),
+        "make" => parse_make(words),
         _ => None,
     }
 }
@@ -94,6 +109,19 @@ fn parse_rewrite(words: &[String]) -> Option<Command<'_>>
     }
 }
 
+fn parse_report(words: &[String]) -> Option<Command<'_>>
+    ensures { option_map command_view result ≡ report_of (texts words.now) }
+{
+    match words {
+        [image, machine, loops] => Some(Command::Work(Work::Report {
+            image: image.as_str(),
+            machine: machine.as_str(),
+            loops: loops.as_str(),
+        })),
+        _ => None,
+    }
+}
+
 fn parse_simulate(words: &[String]) -> Option<Command<'_>>
     ensures { option_map command_view result ≡ simulate_of (texts words.now) }
 {
@@ -111,6 +139,19 @@ fn parse_simulate(words: &[String]) -> Option<Command<'_>>
             input: input.as_str(),
             out: out.as_str(),
             loops: Some(loops.as_str()),
+        })),
+        _ => None,
+    }
+}
+
+fn parse_make(words: &[String]) -> Option<Command<'_>>
+    ensures { option_map command_view result ≡ make_of (texts words.now) }
+{
+    match words {
+        [number, size, prefix] => Some(Command::Work(Work::Make {
+            number: program_number(number.as_str())?,
+            size: program_size(size.as_str())?,
+            prefix: prefix.as_str(),
         })),
         _ => None,
     }
@@ -139,6 +180,11 @@ pub fn wants<'a>(alloc: Global, work: &Work<'a>) -> Result<Vec<Want<'a>>, AllocE
             machine,
             loops,
             ..
+        }
+        | Work::Report {
+            image,
+            machine,
+            loops,
         } => Ok(vec![in alloc;
             want(image, IMAGE_LIMIT),
             want(machine, TEXT_LIMIT),
@@ -161,6 +207,7 @@ pub fn wants<'a>(alloc: Global, work: &Work<'a>) -> Result<Vec<Want<'a>>, AllocE
             }
             Ok(wants)
         }
+        Work::Make { .. } => Ok(Vec::new(alloc)),
     }
 }
 

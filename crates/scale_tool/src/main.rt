@@ -4,6 +4,8 @@
 mod command;
 mod deliver;
 mod load_all;
+mod making;
+mod numbers;
 mod reply;
 #[cfg(test)]
 mod tests;

@@ -1,16 +1,20 @@
 //! What a command gives, made whole before the first of it is stored or printed.
 
-ghost use Rattle.std.specs.Prelude.{◌≡◌, ◌≤◌, length, option_map, IfOk, IsTrue, Some, Ok};
+ghost use Rattle.std.specs.Prelude.{◌≡◌, ◌≤◌, length, option_map, All, IfOk, IsTrue, Some, Ok};
 ghost use Rattle.std.specs.List.{AllZip};
+ghost use Rattle.std.specs.Result.{ForOk};
 ghost use Rattle.power_model.specs.Report.{report_view};
+ghost use Rattle.scale_report.specs.Texts.{IsSite};
 ghost use Rattle.scaler.specs.Held.{IsHeld};
 ghost use Rattle.scaler.specs.Rewritten.{IsRewritten};
-ghost use Rattle.scale_tool.specs.Answer.{refused, run_answer, run_status, stored_answer, MakesRun, MakesStored, Makes};
+ghost use Rattle.scale_tool.specs.Answer.{plan_answer, refused, run_answer, run_status, stored_answer, MakesMade, MakesReport, MakesRun, MakesStored, Makes};
 
 use crate::command::Work;
+use crate::making::made_reply;
+use crate::numbers::Size;
 use power_model::RunReport;
-use scale_base::{End, NoMemory, Refusal, Stop, Summary};
-use scale_report::{refusal_text, run_text, summary_text};
+use scale_base::{End, NoMemory, Refusal, ScalePlan, Stop, Summary};
+use scale_report::{plan_text, refusal_text, run_text, summary_text};
 use std::alloc::Global;
 
 /// A file to store.
@@ -28,8 +32,8 @@ pub struct Reply {
     pub status: u8,
 }
 
-// The status of a run.
-fn status_of(end: End) -> u8
+/// The status of a run.
+pub fn status_of(end: End) -> u8
     ensures { result ≡ run_status end }
 {
     match end {
@@ -40,7 +44,7 @@ fn status_of(end: End) -> u8
 }
 
 impl Reply {
-    ghost use Rattle.scale_tool.specs.Views.{reply_view, work_view, files_view, given_view};
+    ghost use Rattle.scale_tool.specs.Views.{plan_view, reply_view, work_view, files_view, given_view};
     ghost use Rattle.scale_tool.specs.Command.{wants_of, may_give};
 
     /// A refusal, and nothing to store.
@@ -111,6 +115,37 @@ impl Reply {
         Reply::stored(alloc, out, scaler::rewrite(alloc, image, machine, loops))
     }
 
+    // All that a rewriting finds, or the refusal.
+    fn planned(alloc: Global, given: Result<ScalePlan, Stop>) -> Result<Reply, NoMemory>
+        requires { ForOk given (λ plan. All (λ line. IsSite line.edge.kind) plan.lines.items) }
+        ensures { IfOk result (λ reply. option_map plan_answer (plan_view given) ≡ Some (reply_view reply)) }
+    {
+        match given {
+            Ok(plan) => Ok(Reply {
+                stores: Vec::new(alloc),
+                text: plan_text(alloc, &plan)?,
+                status: 0,
+            }),
+            Err(Stop::Refused(refusal)) => Reply::refused(alloc, &refusal),
+            Err(Stop::Memory) => Err(NoMemory),
+        }
+    }
+
+    /// What `report` gives for its three files.
+    pub fn reported(
+        alloc: Global,
+        image: &[u8],
+        machine: &[u8],
+        loops: &[u8],
+    ) -> Result<Reply, NoMemory>
+        requires image { length image.now ≤ 4194304 }
+        requires machine { length machine.now ≤ 1048576 }
+        requires loops { length loops.now ≤ 1048576 }
+        ensures { IfOk result (λ reply. MakesReport image.now machine.now loops.now (reply_view reply)) }
+    {
+        Reply::planned(alloc, scaler::plan(alloc, image, machine, loops))
+    }
+
     // What a run gives, with the name under which its output is stored.
     fn told(alloc: Global, out: &str, report: RunReport) -> Result<Reply, NoMemory>
         ensures { IfOk result (λ reply. reply_view reply ≡ run_answer out.now (Ok (report_view report))) }
@@ -146,6 +181,23 @@ impl Reply {
         }
     }
 
+    /// What `make` gives for a number and a size, with the names of its files beginning alike.
+    pub fn of_number(
+        alloc: Global,
+        number: u64,
+        size: Size,
+        prefix: &str,
+    ) -> Result<Reply, NoMemory>
+        ensures { IfOk result (λ reply. MakesMade number size.blocks prefix.now (reply_view reply)) }
+    {
+        let made = image_maker::make(alloc, number, size.blocks)?;
+        match made_reply(alloc, prefix, made) {
+            Ok(reply) => Ok(reply),
+            Err(Stop::Refused(refusal)) => Reply::refused(alloc, &refusal),
+            Err(Stop::Memory) => Err(NoMemory),
+        }
+    }
+
     /// What is made of the files that were loaded.
     pub fn made(alloc: Global, work: &Work<'_>, files: &[Vec<u8>]) -> Result<Reply, NoMemory>
         requires { AllZip (λ want file. length file ≤ want.1) (wants_of (work_view work.now)) (files_view files.now) }
@@ -157,10 +209,16 @@ impl Reply {
             Work::Rewrite { out, .. } => {
                 Reply::rewritten(alloc, out, &files[0], &files[1], &files[2])
             }
+            Work::Report { .. } => Reply::reported(alloc, &files[0], &files[1], &files[2]),
             Work::Simulate { out, loops, .. } => match loops {
                 None => Reply::run(alloc, out, &files[0], &files[1], &files[2], None),
                 Some(_) => Reply::run(alloc, out, &files[0], &files[1], &files[2], Some(&files[3])),
             },
+            Work::Make {
+                number,
+                size,
+                prefix,
+            } => Reply::of_number(alloc, number, size, prefix),
         }
     }
 }

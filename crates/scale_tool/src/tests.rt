@@ -1,6 +1,8 @@
 //! Whole runs over hosts in memory.
 
 mod loops;
+mod made;
+mod plans;
 mod rewrites;
 mod rows;
 mod runs;
@@ -450,10 +452,10 @@ fn machine_and_loop_files_are_refused(rt: HostRuntime) -> Result<(), Fail> {
 #[test]
 fn words_that_are_no_command(rt: HostRuntime) -> Result<(), Fail> {
     let alloc = rt.alloc();
-    let cases: [&[&str]; 10] = [
+    let cases: [&[&str]; 12] = [
         &["hold", "a", "b"],
         &[],
-        &["make", "0", "0", "p"],
+        &["make", "0", "1"],
         &["help", "hold"],
         &["Help"],
         &["simulate"],
@@ -461,6 +463,8 @@ fn words_that_are_no_command(rt: HostRuntime) -> Result<(), Fail> {
         &["simulate", "a", "b", "c", "d", "e", "f"],
         &["rewrite", "a", "b", "c"],
         &["rewrite", "a", "b", "c", "d", "e"],
+        &["report", "a", "b"],
+        &["report", "a", "b", "c", "d"],
     ];
     for case in cases {
         let mut host = host_of(alloc, &[], &[], "", "")?;
@@ -557,11 +561,11 @@ fn help_is_printed(rt: HostRuntime) -> Result<(), Fail> {
     let alloc = rt.alloc();
     let words = words_of(alloc, &["help"])?;
     let mut host = MemHost::new(alloc, Vec::new(alloc));
-    host.reserve(0, 131)?;
+    host.reserve(0, 194)?;
     assert_eq!(rt; run_tool(&mut host, alloc, &words), 0);
     assert_eq!(rt;
         host.printed(),
-        b"scale hold IMAGE MACHINE LOOPS OUT\nscale rewrite IMAGE MACHINE LOOPS OUT\nscale simulate IMAGE MACHINE INPUT OUT [LOOPS]\nscale help\n".as_slice()
+        b"scale hold IMAGE MACHINE LOOPS OUT\nscale rewrite IMAGE MACHINE LOOPS OUT\nscale report IMAGE MACHINE LOOPS\nscale simulate IMAGE MACHINE INPUT OUT [LOOPS]\nscale make NUMBER SIZE PREFIX\nscale help\n".as_slice()
     );
     let mut failing = host_of(alloc, &[1], &[], "", "")?;
     assert_eq!(rt; run_tool(&mut failing, alloc, &words), 3);

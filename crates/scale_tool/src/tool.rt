@@ -7,7 +7,7 @@ ghost use Rattle.scale_tool.specs.Answer.{IsAnswerOf, refused};
 ghost use Rattle.scale_tool.specs.Command.{Help, command_of, texts, may_give, may_answer, needs_memory, wants_of};
 ghost use Rattle.scale_tool.specs.Loading.{Missing, loading_of};
 ghost use Rattle.scale_tool.specs.Promise.{Promised};
-ghost use Rattle.scale_tool.specs.Tool.{Ends, IsAnswered, StopsWithin, StoresStand, IsReadyFor};
+ghost use Rattle.scale_tool.specs.Tool.{Ends, IsAnswered, IsStatusOfAll, StopsWithin, StoresStand, IsReadyFor};
 ghost use Rattle.scale_tool.specs.Views.{work_view, reply_view};
 ghost use Rattle.scale_base.specs.declared.refusal.Refusal.TheVariants.{TooLarge};
 
@@ -95,13 +95,16 @@ fn run<H: Host>(host: &mut H, alloc: Global, words: &[String]) -> Result<u8, Hos
 }
 
 /// Does what the words of a command line say, and answers the status.
-#[tactic(auto, using(crate::proofs::Promises::stored_keep_promise))]
+#[tactic(auto, using(crate::proofs::Promises::stored_keep_promise, crate::proofs::OneStatus::status_of_all))]
 pub fn run_tool<H: Host>(host: &mut H, alloc: Global, words: &[String]) -> u8
     // 2 exactly where the words are no command, and 4 for a command that needs memory.
     ensures statuses { IsTrue (may_answer (command_of (texts words.now)) result) }
 
     // Any other status: the command's whole answer over the files that are told.
     ensures answered { result ≢ 3 → result ≢ 4 → IsAnswered (command_of (texts words.now)) result (H.state host.old) (H.state host.new) }
+
+    // Every answer that may be given has the same status: where the files are refused it is 1, and else it isn't.
+    ensures complete { result ≢ 3 → result ≢ 4 → IsStatusOfAll (command_of (texts words.now)) result (H.state host.old) }
 
     // What the command's stores promise, also where only the print behind them failed.
     ensures promise { StoresStand (command_of (texts words.now)) (H.state host.old) (H.state host.new) → Promised (command_of (texts words.now)) (H.state host.old) (H.state host.new) }

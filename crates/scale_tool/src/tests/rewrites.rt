@@ -9,7 +9,7 @@ const REWRITE_WORDS: [&str; 5] = ["rewrite", "image", "machine", "loops", "out"]
 const GAIN: &str = "min_gain = 20\n";
 
 // A branch to the next word.
-const BRANCH: [u32; 3] = [0x00000263, 0x05d00893, 0x00000073];
+pub const BRANCH: [u32; 3] = [0x00000263, 0x05d00893, 0x00000073];
 
 // A branch that skips six divisions, and then counts from 3 down to 0.
 const SKIP_AND_COUNT: [u32; 12] = [
@@ -47,7 +47,7 @@ fn changed(alloc: Global, text: &str, part: &str, other: &str) -> Result<String,
 }
 
 // The machine file of this deadline, with another least gain.
-fn machine_of_gain(alloc: Global, deadline: u32, gain: &str) -> Result<String, Fail> {
+pub fn machine_of_gain(alloc: Global, deadline: u32, gain: &str) -> Result<String, Fail> {
     let machine = machine_file(alloc, deadline, DIV, 2)?;
     changed(alloc, machine.as_str(), GAIN, gain)
 }

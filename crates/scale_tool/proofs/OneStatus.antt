@@ -1,0 +1,109 @@
+-- All answers that may be given have one status.
+use Rattle.std.proofs.Common.{◌≡◌, ◌≢◌, ℕ, List, [], ◌∷◌, refl, sym, ap, subst, ◌∙◌}
+use Rattle.std.specs.Prelude.{Option, Some, None, IfSome, Result, Ok, Err}
+use Rattle.scale_base.specs.declared.plan.SiteLine.{SiteLine}
+use Rattle.scale_base.specs.declared.refusal.Refusal.{Refusal}
+use Rattle.scale_base.specs.declared.summary.Summary.{Summary}
+use Rattle.scaler.specs.Agree.{AreAlikeAnswers}
+use Rattle.scaler.specs.Held.{IsHeld}
+use Rattle.scaler.specs.Planned.{IsPlanned}
+use Rattle.scaler.specs.Rewritten.{IsRewritten}
+use Rattle.scaler.proofs.agree.Helds.{held_answers}
+use Rattle.scaler.proofs.agree.Rewrites.{rewritten_answers}
+use Rattle.speed_sim.specs.Simulated.{simulated}
+use Rattle.image_maker.specs.Making.{program}
+use Rattle.image_maker.proofs.OneImage.{one_image}
+use Rattle.host_files.specs.HostState.{Files, HostState}
+use Rattle.scale_tool.specs.Answer.{Answer, AnswersTo, Giving, HasAnswer, IsAnswerOf, AreMade, MadeFiles, Makes, MakesMade, MakesReport, MakesStored, made_answer, plan_answer, stored_answer}
+use Rattle.scale_tool.specs.Command.{Command, Help, Hold, Rewrite, Report, Simulate, Make, wants_of}
+use Rattle.scale_tool.specs.Loading.{Loading, Missing, Long, Whole, loading_of}
+use Rattle.scale_tool.specs.Tool.{IsAnswered, IsDelivered, IsStatusOfAll}
+
+-- ---- commands that give a file
+
+stored_status : (out : List ℕ) (one other : Result (List ℕ × Summary) Refusal) → AreAlikeAnswers one other → (stored_answer out one).status ≡ (stored_answer out other).status
+stored_status out (Ok one) (Ok other) alike = refl
+stored_status out (Err one) (Err other) alike = refl
+stored_status out (Ok one) (Err other) alike = absurd alike
+stored_status out (Err one) (Ok other) alike = absurd alike
+
+-- two answers that may be given for the same files are alike
+abbrev Agree : Giving → Type 0
+Agree Gives = (image machine loops : List ℕ) (one other : Result (List ℕ × Summary) Refusal) → Gives image machine loops one → Gives image machine loops other → AreAlikeAnswers one other
+
+one_stored : (Gives : Giving) → Agree Gives → (i m l out : List ℕ) (one other : Answer) → MakesStored Gives i m l out one → MakesStored Gives i m l out other → one.status ≡ other.status
+one_stored Gives agree i m l out one other x y =
+    ap (λ (a : Answer). a.status) x.told
+    ∙ stored_status out x.given y.given (agree i m l x.given y.given x.is_given y.is_given)
+    ∙ sym (ap (λ (a : Answer). a.status) y.told)
+
+-- ---- plans
+
+plan_status : (i m l : List ℕ) (one other : Result (Summary × List SiteLine) Refusal) → IsPlanned i m l one → IsPlanned i m l other → (plan_answer one).status ≡ (plan_answer other).status
+plan_status i m l (Ok one) (Ok other) x y = refl
+plan_status i m l (Err one) (Err other) x y = refl
+plan_status i m l (Ok one) (Err other) x y = absurd (rewritten_answers i m l (Ok ((x.0, one.0))) (Err other) x.1 y)
+plan_status i m l (Err one) (Ok other) x y = absurd (rewritten_answers i m l (Err one) (Ok ((y.0, other.0))) x y.1)
+
+one_report : (i m l : List ℕ) (one other : Answer) → MakesReport i m l one → MakesReport i m l other → one.status ≡ other.status
+one_report i m l one other x y =
+    ap (λ (a : Answer). a.status) x.told
+    ∙ plan_status i m l x.given y.given x.is_given y.is_given
+    ∙ sym (ap (λ (a : Answer). a.status) y.told)
+
+-- ---- made programs
+
+-- there is one program of a number and a size, and one file of each kind that goes with it
+same_made : (number size : ℕ) (one other : MadeFiles) → AreMade number size one → AreMade number size other → one ≡ other
+same_made number size one other x y =
+    let image : one.image ≡ other.image = one_image (program number size) one.image other.image x.image y.image in
+    let machine : one.machine ≡ other.machine = x.machine ∙ sym y.machine in
+    let loops : one.loops ≡ other.loops = x.loops ∙ sym y.loops in
+    let input : one.input ≡ other.input = x.input ∙ sym y.input in
+    λ i. record { image = image i; machine = machine i; loops = loops i; input = input i }
+
+made_status : (prefix : List ℕ) (made : MadeFiles) (one other : Result (List ℕ × Summary) Refusal) → AreAlikeAnswers one other →
+    (made_answer prefix made one).status ≡ (made_answer prefix made other).status
+made_status prefix made (Ok one) (Ok other) alike = ap (λ (g : List ℕ × Summary). (made_answer prefix made (Ok g)).status) alike
+made_status prefix made (Err one) (Err other) alike = refl
+made_status prefix made (Ok one) (Err other) alike = absurd alike
+made_status prefix made (Err one) (Ok other) alike = absurd alike
+
+one_made : (number size : ℕ) (prefix : List ℕ) (one other : Answer) → MakesMade number size prefix one → MakesMade number size prefix other → one.status ≡ other.status
+one_made number size prefix one other x y =
+    let same : x.made ≡ y.made = same_made number size x.made y.made x.are_made y.are_made in
+    let given : IsRewritten y.made.image y.made.machine y.made.loops x.given = subst (λ (m : MadeFiles). IsRewritten m.image m.machine m.loops x.given) same x.is_given in
+    ap (λ (a : Answer). a.status) x.told
+    ∙ ap (λ (m : MadeFiles). (made_answer prefix m x.given).status) same
+    ∙ made_status prefix y.made x.given y.given (rewritten_answers y.made.image y.made.machine y.made.loops x.given y.given given y.is_given)
+    ∙ sym (ap (λ (a : Answer). a.status) y.told)
+
+-- ---- all commands
+
+one_made_of_files : (command : Command) (files : List (List ℕ)) (one other : Answer) → Makes command files one → Makes command files other → one.status ≡ other.status
+one_made_of_files Help [] one other x y = ap (λ (a : Answer). a.status) (x ∙ sym y)
+one_made_of_files (Hold image machine loops out) (i ∷ m ∷ l ∷ []) one other x y = one_stored IsHeld held_answers i m l out one other x y
+one_made_of_files (Rewrite image machine loops out) (i ∷ m ∷ l ∷ []) one other x y = one_stored IsRewritten rewritten_answers i m l out one other x y
+one_made_of_files (Report image machine loops) (i ∷ m ∷ l ∷ []) one other x y = one_report i m l one other x y
+one_made_of_files (Simulate image machine input out None) (i ∷ m ∷ n ∷ []) one other x y = ap (λ (a : Answer). a.status) (x ∙ sym y)
+one_made_of_files (Simulate image machine input out (Some loops)) (i ∷ m ∷ n ∷ l ∷ []) one other x y = ap (λ (a : Answer). a.status) (x ∙ sym y)
+one_made_of_files (Make number size prefix) [] one other x y = one_made number size prefix one other x y
+one_made_of_files command files one other x y = absurd x
+
+one_of_loading : (command : Command) (loading : Loading) (one other : Answer) → AnswersTo command loading one → AnswersTo command loading other → one.status ≡ other.status
+one_of_loading command Missing one other x y = absurd x
+one_of_loading command (Long name) one other x y = ap (λ (a : Answer). a.status) (x ∙ sym y)
+one_of_loading command (Whole files) one other x y = one_made_of_files command files one other x y
+
+one_status : (asked : Option Command) (files : Files) (one other : Answer) → IsAnswerOf asked files one → IsAnswerOf asked files other → one.status ≡ other.status
+one_status None files one other x y = ap (λ (a : Answer). a.status) (x ∙ sym y)
+one_status (Some command) files one other x y = one_of_loading command (loading_of (wants_of command) files) one other x y
+
+-- a status that was answered is that of every answer
+pub status_of_all : (asked : Option Command) (status : ℕ) (old new : HostState) → IsAnswered asked status old new → IsStatusOfAll asked status old
+status_of_all asked status old new answered = of_files old.files answered
+  where
+    of_files : (o : Option Files) → IfSome o (λ files. HasAnswer asked files (λ answer. (status ≡ answer.status) × IsDelivered answer.stores answer.text old new)) →
+        IfSome o (λ files. (answer : Answer) → IsAnswerOf asked files answer → status ≡ answer.status)
+    of_files None given = tt
+    of_files (Some files) given = λ answer is. given.2.0 ∙ one_status asked files given.0 answer given.1 is

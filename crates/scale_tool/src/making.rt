@@ -1,0 +1,81 @@
+//! A program that is made of a number, rewritten, and run.
+
+ghost use Rattle.std.specs.Prelude.{◌≡◌, ◌≤◌, ◌++◌, length, string_bytes, IfOk};
+ghost use Rattle.power_model.specs.Report.{report_view};
+ghost use Rattle.scale_base.specs.Answer.{AnswersBy};
+ghost use Rattle.scale_report.specs.Texts.{run_text, summary_text};
+ghost use Rattle.scale_tool.specs.Answer.{made_stores};
+ghost use Rattle.scale_tool.specs.Views.{made_view, reply_view, store_view, store_views};
+ghost use Rattle.scale_tool.specs.Scaled.{IsMadeReply};
+
+use crate::reply::{Reply, Store, status_of};
+use image_maker::Made;
+use power_model::RunReport;
+use scale_base::{NoMemory, Stop, Summary};
+use scale_report::{run_text, summary_text};
+use scaler::rewrite;
+use speed_sim::simulate;
+use std::alloc::{AllocError, Global};
+
+fn store_of(alloc: Global, prefix: &str, ending: &str, bytes: Vec<u8>) -> Result<Store, AllocError>
+    ensures { IfOk result (λ store. store_view store ≡ (prefix.now ++ ending.now, bytes.items)) }
+{
+    let name = format!(in alloc; "{prefix}{ending}")?;
+    Ok(Store { name, bytes })
+}
+
+fn stores_of(
+    alloc: Global,
+    prefix: &str,
+    made: Made,
+    scaled: Vec<u8>,
+) -> Result<Vec<Store>, AllocError>
+    ensures { IfOk result (λ stores. store_views stores.items ≡ made_stores prefix.now (made_view made) scaled.items) }
+{
+    Ok(vec![in alloc;
+        store_of(alloc, prefix, ".elf", made.image)?,
+        store_of(alloc, prefix, ".machine", made.machine)?,
+        store_of(alloc, prefix, ".loops", made.loops)?,
+        store_of(alloc, prefix, ".input", made.input)?,
+        store_of(alloc, prefix, ".scaled", scaled)?,
+    ]?)
+}
+
+// The summary, and the reports of both runs.
+fn text_of(
+    alloc: Global,
+    summary: &Summary,
+    first: &RunReport,
+    second: &RunReport,
+) -> Result<String, NoMemory>
+    ensures { IfOk result (λ text. string_bytes text ≡ summary_text summary.now ++ run_text (report_view first.now) ++ run_text (report_view second.now)) }
+{
+    let mut text = summary_text(alloc, summary)?;
+    text.push_str(run_text(alloc, first)?.as_str())?;
+    text.push_str(run_text(alloc, second)?.as_str())?;
+    Ok(text)
+}
+
+/// What is told of a made program: its image runs with its loop file, and what it is rewritten to without one.
+pub fn made_reply(alloc: Global, prefix: &str, made: Made) -> Result<Reply, Stop>
+    requires image { length made.image.items ≤ 4194304 }
+    requires machine { length made.machine.items ≤ 1048576 }
+    requires loops { length made.loops.items ≤ 1048576 }
+    ensures { AnswersBy reply_view result (IsMadeReply prefix.now (made_view made)) }
+{
+    let (scaled, summary) = rewrite(alloc, &made.image, &made.machine, &made.loops)?;
+    let first = simulate(
+        alloc,
+        &made.image,
+        &made.machine,
+        &made.input,
+        Some(&made.loops),
+    )?;
+    let second = simulate(alloc, &scaled, &made.machine, &made.input, None)?;
+    let text = text_of(alloc, &summary, &first, &second)?;
+    Ok(Reply {
+        stores: stores_of(alloc, prefix, made, scaled)?,
+        text,
+        status: status_of(second.end),
+    })
+}
