@@ -25,9 +25,9 @@ const COUNT_AGAIN: [u32; 6] = [
 const LONG_LOOPS: &str =
     "version = 1\n[[loop]]\nheader = 0x10004\nranges = [[0x10004, 0x1000c]]\nbound = 1000000000\n[[loop]]\nheader = 0x10000\nranges = [[0x10000, 0x10010]]\nbound = 1000000000\n";
 
-const EXIT_ZERO: [u32; 2] = [0x05d00893, 0x00000073];
-
 const NOTHING: u32 = 0x00000013;
+
+const EXIT_ZERO: [u32; 2] = [0x05d00893, 0x00000073];
 
 // A text of as many words as there may be ends here, at a multiple of 4,096, and so does its file behind it.
 const LONGEST_TEXT_END: u32 = 0x00090000;
@@ -40,11 +40,15 @@ const SKIP: [u32; 14] = [
     NOTHING, NOTHING, NOTHING, NOTHING, NOTHING, NOTHING,
 ];
 
-// Its stub 524,288 bytes behind it, which has as many words: the branch, a jump back, and a switch before the jump to the branch's target.
+// The stub of its branch, as far behind it as the longest text is long: the branch, a jump back, and a switch before the jump to the branch's
+// target. Neither changes in place of the other, since both are as long.
 const SKIP_STUB: [u32; 14] = [
     0x00050463, 0x8008006f, 0x80502023, 0x80602223, 0xffc02283, 0x00229293, 0x00000337, 0x21030313,
     0x00535333, 0x00f37313, 0xfe602e23, 0x80402303, 0x80002283, 0xfe97f06f,
 ];
+
+// What stands behind 9,362 such blocks in a text of 131,072 words.
+const LAST: [u32; 4] = [NOTHING, NOTHING, 0x05d00893, 0x00000073];
 
 // `hold` of these files prints this text, and stores this image or nothing.
 fn check_hold(
@@ -102,6 +106,12 @@ fn check_prefixes(rt: &impl Abort, alloc: Global) -> Result<(), Fail> {
     Ok(())
 }
 
+// The plain image of these words.
+fn image_of(rt: &impl Abort, alloc: Global, words: &[u32]) -> Result<Vec<u8>, Fail> {
+    assert!(rt; words.len() <= 131072);
+    Ok(image_maker::plain_image(alloc, words)?)
+}
+
 // The file of `EXIT_SEVEN` with another offset, address or size of its segment.
 fn spoilt(alloc: Global, offset: u32, address: u32, size: u32) -> Result<Vec<u8>, Fail> {
     let mut bytes = Vec::new(alloc);
@@ -114,14 +124,31 @@ fn spoilt(alloc: Global, offset: u32, address: u32, size: u32) -> Result<Vec<u8>
     Ok(bytes)
 }
 
-// So many words that do nothing, and an exit.
-fn straight(alloc: Global, count: u32) -> Result<Vec<u32>, Fail> {
-    let mut words = Vec::new(alloc);
+// So many times these words, and then those.
+fn repeated(alloc: Global, count: u32, words: &[u32], last: &[u32]) -> Result<Vec<u32>, Fail> {
+    let mut all = Vec::new(alloc);
     for _ in 0..count {
-        words.push(NOTHING)?;
+        all.extend_from_slice(words)?;
     }
-    words.extend_from_slice(&EXIT_ZERO)?;
-    Ok(words)
+    all.extend_from_slice(last)?;
+    Ok(all)
+}
+
+// The image that is stored of a text of as many words as there may be.
+fn longest_stored(
+    alloc: Global,
+    words: &[u32],
+    block: &[u32],
+    level: u32,
+) -> Result<Vec<u8>, Fail> {
+    stored_at(
+        alloc,
+        words,
+        block,
+        level,
+        LONGEST_FILE_END,
+        LONGEST_TEXT_END,
+    )
 }
 
 fn addi(rd: u8, imm: i32) -> Line {
@@ -177,10 +204,15 @@ fn hostile_images_are_held_or_refused(rt: HostRuntime) -> Result<(), Fail> {
     let sized = spoilt(alloc, 84, 0x00010000, 0xffffffff)?;
     let outside = spoilt(alloc, 0xffffffff, 0x00010000, 12)?;
     let shifted = spoilt(alloc, 84, 0x00010002, 12)?;
-    let words = straight(alloc, 131070)?;
-    let longest = image_of(&rt, alloc, &words)?;
-    let longest_held = stored_at(alloc, &words, &[], 0, LONGEST_FILE_END, LONGEST_TEXT_END)?;
-    let longer = plain_image(alloc, &straight(alloc, 131071)?, 0, 5)?;
+    let words = repeated(alloc, 131070, &[NOTHING], &EXIT_ZERO)?;
+    let straight = image_of(&rt, alloc, &words)?;
+    let straight_held = longest_stored(alloc, &words, &[], 0)?;
+    let longer = plain_image(
+        alloc,
+        &repeated(alloc, 131071, &[NOTHING], &EXIT_ZERO)?,
+        0,
+        5,
+    )?;
     let words = nested(&rt, alloc, 16)?;
     let deep = image_of(&rt, alloc, &words)?;
     let deep_loops = nested_file(alloc, 16)?;
@@ -189,21 +221,57 @@ fn hostile_images_are_held_or_refused(rt: HostRuntime) -> Result<(), Fail> {
     let deeper_loops = nested_file(alloc, 17)?;
     let counts = image_of(&rt, alloc, &COUNT_AGAIN)?;
     let cases: [(&[u8], u32, &str, Option<&[u8]>, &str); 11] = [
-        (&no_symbols, 36, LOOP_AT_SYMBOL, None, "refused 17 loop 1 symbol\n"),
-        (&no_name, 36, LOOP_AT_SYMBOL, None, "refused 17 loop 1 symbol\n"),
-        (&whole, 36, LOOP_AT_SYMBOL, None, "refused 32 loop 1 no back edge\n"),
-        (&sized, 28, NO_LOOPS, None, "refused 5 bad segment: header 0\n"),
+        (
+            &no_symbols,
+            36,
+            LOOP_AT_SYMBOL,
+            None,
+            "refused 17 loop 1 symbol\n",
+        ),
+        (
+            &no_name,
+            36,
+            LOOP_AT_SYMBOL,
+            None,
+            "refused 17 loop 1 symbol\n",
+        ),
+        (
+            &whole,
+            36,
+            LOOP_AT_SYMBOL,
+            None,
+            "refused 32 loop 1 no back edge\n",
+        ),
+        (
+            &sized,
+            28,
+            NO_LOOPS,
+            None,
+            "refused 5 bad segment: header 0\n",
+        ),
         (&outside, 28, NO_LOOPS, None, TRUNCATED),
         // Its text begins at the next multiple of 4, behind the entry.
-        (&shifted, 28, NO_LOOPS, None, "refused 21 outside text at 0x00010000\n"),
         (
-            &longest,
+            &shifted,
+            28,
+            NO_LOOPS,
+            None,
+            "refused 21 outside text at 0x00010000\n",
+        ),
+        (
+            &straight,
             524304,
             NO_LOOPS,
-            Some(&longest_held),
+            Some(&straight_held),
             "start level 0\nworst cycles 131076\nworst time 524304 of 524304\nstub cycles at most 0\nswitch edges 0\nexit edges 0\ncount edges 0\nstub bytes 0\n",
         ),
-        (&longer, 524304, NO_LOOPS, None, "refused 6 bad text at 0x00010000\n"),
+        (
+            &longer,
+            524304,
+            NO_LOOPS,
+            None,
+            "refused 6 bad text at 0x00010000\n",
+        ),
         // The way through the innermost loop takes 2 cycles, and a turn of each loop one more than the way through it. A way
         // through the loop round it takes 3 cycles and twice as many.
         (
@@ -213,8 +281,20 @@ fn hostile_images_are_held_or_refused(rt: HostRuntime) -> Result<(), Fail> {
             Some(&deep_held),
             "start level 0\nworst cycles 327681\nworst time 1310724 of 10000000\nstub cycles at most 0\nswitch edges 0\nexit edges 0\ncount edges 0\nstub bytes 0\n",
         ),
-        (&deeper, 10000000, deeper_loops.as_str(), None, "refused 35 loop 17 too deep\n"),
-        (&counts, 500, LONG_LOOPS, None, "refused 40 worst cycles over 281474976710656\n"),
+        (
+            &deeper,
+            10000000,
+            deeper_loops.as_str(),
+            None,
+            "refused 35 loop 17 too deep\n",
+        ),
+        (
+            &counts,
+            500,
+            LONG_LOOPS,
+            None,
+            "refused 40 worst cycles over 281474976710656\n",
+        ),
     ];
     for (image, deadline, loops, stored, text) in cases {
         check_hold(&rt, alloc, image, deadline, loops, stored, text)?;
@@ -222,33 +302,14 @@ fn hostile_images_are_held_or_refused(rt: HostRuntime) -> Result<(), Fail> {
     Ok(())
 }
 
-// The plain image of these words.
-fn image_of(rt: &impl Abort, alloc: Global, words: &[u32]) -> Result<Vec<u8>, Fail> {
-    assert!(rt; words.len() <= 131072);
-    Ok(image_maker::plain_image(alloc, words)?)
-}
-
-// So many times these words, and then those.
-fn repeated(alloc: Global, count: u32, words: &[u32], last: &[u32]) -> Result<Vec<u32>, Fail> {
-    let mut all = Vec::new(alloc);
-    for _ in 0..count {
-        all.extend_from_slice(words)?;
-    }
-    all.extend_from_slice(last)?;
-    Ok(all)
-}
-
-// Two words that do nothing, and an exit.
-const LAST: [u32; 4] = [NOTHING, NOTHING, 0x05d00893, 0x00000073];
-
-// A text of 131,072 words with 9,362 branches. Each block takes 68 cycles at most, and 72 with a stub; what comes behind them takes 8.
-// Only the last switch lowers the level.
+// A text of as many words as there may be, with 9,362 branches. Each of these and what it skips takes 68 cycles at most, and the rest 8.
 #[test]
-fn the_longest_text_is_held_rewritten_and_run(rt: HostRuntime) -> Result<(), Fail> {
+fn the_longest_text_is_held(rt: HostRuntime) -> Result<(), Fail> {
     let alloc = rt.alloc();
     let words = repeated(alloc, 9362, &SKIP, &LAST)?;
     let image = image_of(&rt, alloc, &words)?;
-    let held = stored_at(alloc, &words, &[], 1, LONGEST_FILE_END, LONGEST_TEXT_END)?;
+    let held = longest_stored(alloc, &words, &[], 1)?;
+    assert_eq!(rt; (image.len(), held.len()), (524372, 528448));
     check_hold(
         &rt,
         alloc,
@@ -257,20 +318,25 @@ fn the_longest_text_is_held_rewritten_and_run(rt: HostRuntime) -> Result<(), Fai
         NO_LOOPS,
         Some(&held),
         "start level 1\nworst cycles 636624\nworst time 1273248 of 1348144\nstub cycles at most 0\nswitch edges 0\nexit edges 0\ncount edges 0\nstub bytes 0\n",
-    )?;
+    )
+}
+
+// What is stored of 9,362 branches, each with a stub: only the last switch lowers the level.
+fn skips_scaled(alloc: Global) -> Result<Vec<u8>, Fail> {
     let mut patched = SKIP;
     patched[0] = 0x0008006f;
     let mut last = SKIP_STUB;
     last[7] = 0x10030313;
-    let scaled = stored_at(
-        alloc,
-        &repeated(alloc, 9362, &patched, &LAST)?,
-        &repeated(alloc, 9361, &SKIP_STUB, &last)?,
-        1,
-        LONGEST_FILE_END,
-        LONGEST_TEXT_END,
-    )?;
-    assert_eq!(rt; (held.len(), scaled.len()), (528448, 1052720));
+    let words = repeated(alloc, 9362, &patched, &LAST)?;
+    let block = repeated(alloc, 9361, &SKIP_STUB, &last)?;
+    longest_stored(alloc, &words, &block, 1)
+}
+
+// With its stub each branch takes 72 cycles at most.
+#[test]
+fn the_longest_text_is_rewritten(rt: HostRuntime) -> Result<(), Fail> {
+    let alloc = rt.alloc();
+    let image = image_of(&rt, alloc, &repeated(alloc, 9362, &SKIP, &LAST)?)?;
     let machine = machine_file(alloc, 1348144, DIV, 2)?;
     let mut host = host_of(alloc, &[], &image, machine.as_str(), NO_LOOPS)?;
     let words = words_of(alloc, &REWRITE_WORDS)?;
@@ -279,7 +345,18 @@ fn the_longest_text_is_held_rewritten_and_run(rt: HostRuntime) -> Result<(), Fai
         host.printed(),
         b"start level 1\nworst cycles 674072\nworst time 1348144 of 1348144\nstub cycles at most 168516\nswitch edges 9362\nexit edges 0\ncount edges 0\nstub bytes 524272\n".as_slice()
     );
+    let scaled = skips_scaled(alloc)?;
+    assert_eq!(rt; scaled.len(), 1052720);
     assert!(rt; host.file("out") == Some(scaled.as_slice()));
+    Ok(())
+}
+
+// Every branch is taken. Behind the last switch it takes 21 cycles, and 252,761 before.
+#[test]
+fn the_longest_text_runs(rt: HostRuntime) -> Result<(), Fail> {
+    let alloc = rt.alloc();
+    let machine = machine_file(alloc, 1348144, DIV, 2)?;
+    let scaled = skips_scaled(alloc)?;
     let mut host = run_host(alloc, &scaled, machine.as_str(), "", None)?;
     let words = run_words(alloc, None)?;
     assert_eq!(rt; run_tool(&mut host, alloc, &words), 0);
