@@ -40,15 +40,15 @@ const SKIP: [u32; 14] = [
     NOTHING, NOTHING, NOTHING, NOTHING, NOTHING, NOTHING,
 ];
 
-// The stub of its branch, as far behind it as the longest text is long: the branch, a jump back, and a switch before the jump to the branch's
-// target. Neither changes in place of the other, since both are as long.
+// The stub of its branch: the branch, a jump back, and a switch before the jump to the branch's target. It is as long as the block, so that
+// each block's stub stands 524,288 bytes behind it.
 const SKIP_STUB: [u32; 14] = [
     0x00050463, 0x8008006f, 0x80502023, 0x80602223, 0xffc02283, 0x00229293, 0x00000337, 0x21030313,
     0x00535333, 0x00f37313, 0xfe602e23, 0x80402303, 0x80002283, 0xfe97f06f,
 ];
 
 // What stands behind 9,362 such blocks in a text of 131,072 words.
-const LAST: [u32; 4] = [NOTHING, NOTHING, 0x05d00893, 0x00000073];
+const LAST: [u32; 4] = [NOTHING, NOTHING, EXIT_ZERO[0], EXIT_ZERO[1]];
 
 // `hold` of these files prints this text, and stores this image or nothing.
 fn check_hold(
@@ -302,7 +302,7 @@ fn hostile_images_are_held_or_refused(rt: HostRuntime) -> Result<(), Fail> {
     Ok(())
 }
 
-// A text of as many words as there may be, with 9,362 branches. Each of these and what it skips takes 68 cycles at most, and the rest 8.
+// A text of as many words as there may be, of 9,362 blocks. Each of these takes 68 cycles at most, and the rest 8.
 #[test]
 fn the_longest_text_is_held(rt: HostRuntime) -> Result<(), Fail> {
     let alloc = rt.alloc();
@@ -321,7 +321,7 @@ fn the_longest_text_is_held(rt: HostRuntime) -> Result<(), Fail> {
     )
 }
 
-// What is stored of 9,362 branches, each with a stub: only the last switch lowers the level.
+// What `rewrite` stores of the same text: each branch has a stub, and only the last switch lowers the level.
 fn skips_scaled(alloc: Global) -> Result<Vec<u8>, Fail> {
     let mut patched = SKIP;
     patched[0] = 0x0008006f;
@@ -332,7 +332,7 @@ fn skips_scaled(alloc: Global) -> Result<Vec<u8>, Fail> {
     longest_stored(alloc, &words, &block, 1)
 }
 
-// With its stub each branch takes 72 cycles at most.
+// With its stub a block takes 72 cycles at most.
 #[test]
 fn the_longest_text_is_rewritten(rt: HostRuntime) -> Result<(), Fail> {
     let alloc = rt.alloc();
