@@ -1,5 +1,7 @@
 //! Whole runs over hosts in memory.
 
+mod faults;
+mod hostile;
 mod loops;
 mod made;
 mod plans;
@@ -83,21 +85,34 @@ fn plain_image(
     Ok(bytes)
 }
 
-// The stored image of a plain one whose words are these now: a block of stubs, and its table behind it, with the entry that tells the level.
-fn stored_image(alloc: Global, words: &[u32], block: &[u32], level: u32) -> Result<Vec<u8>, Fail> {
+// The stored image of a plain one whose words are these now: a block of stubs at this offset and address, and its table behind it, with
+// the entry that tells the level.
+fn stored_at(
+    alloc: Global,
+    words: &[u32],
+    block: &[u32],
+    level: u32,
+    offset: u32,
+    address: u32,
+) -> Result<Vec<u8>, Fail> {
     let len = u32::try_from(block.len())?.wrapping_mul(4);
     let mut bytes = Vec::new(alloc);
-    push_header(&mut bytes, len.wrapping_add(4096), 2, 0)?;
+    push_header(&mut bytes, len.wrapping_add(offset), 2, 0)?;
     push_program_header(&mut bytes, words, 5)?;
     push_words(&mut bytes, words)?;
-    bytes.resize(4096, 0)?;
+    bytes.resize(offset as usize, 0)?;
     push_words(&mut bytes, block)?;
     push_program_header(&mut bytes, words, 5)?;
     push_words(
         &mut bytes,
-        &[1, 4096, 0x00011000, level, len, len, 0x00100005, 4096],
+        &[1, offset, address, level, len, len, 0x00100005, 4096],
     )?;
     Ok(bytes)
+}
+
+// The same where the words are fewer than 1,000.
+fn stored_image(alloc: Global, words: &[u32], block: &[u32], level: u32) -> Result<Vec<u8>, Fail> {
+    stored_at(alloc, words, block, level, 4096, 0x00011000)
 }
 
 // The stored image of a plain one that is held at a level, which has no stubs.
@@ -295,27 +310,6 @@ fn programs_with_branches_and_calls_are_held(rt: HostRuntime) -> Result<(), Fail
 }
 
 #[test]
-fn an_image_with_sections_is_held(rt: HostRuntime) -> Result<(), Fail> {
-    let alloc = rt.alloc();
-    let mut image = Vec::new(alloc);
-    push_words(&mut image, &IMAGE_WITH_SECTIONS)?;
-    let mut changed = IMAGE_WITH_SECTIONS;
-    changed[7] = 4096;
-    changed[11] = 0x00280005;
-    let mut stored = Vec::new(alloc);
-    push_words(&mut stored, &changed)?;
-    stored.resize(4096, 0)?;
-    push_words(&mut stored, &IMAGE_WITH_SECTIONS[13..29])?;
-    push_words(
-        &mut stored,
-        &[1, 4096, 0x00011000, 0, 0, 0, 0x00100005, 4096],
-    )?;
-    push_words(&mut stored, &IMAGE_WITH_SECTIONS[29..45])?;
-    assert_eq!(rt; stored.len(), 4256);
-    check_held(&rt, alloc, &image, 36, 9, &stored)
-}
-
-#[test]
 fn code_is_refused(rt: HostRuntime) -> Result<(), Fail> {
     let alloc = rt.alloc();
     let machine = machine_file(alloc, 500, DIV, 2)?;
@@ -472,10 +466,6 @@ fn words_that_are_no_command(rt: HostRuntime) -> Result<(), Fail> {
         assert_eq!(rt; run_tool(&mut host, alloc, &words), 2);
         assert_eq!(rt; host.printed(), BAD_COMMAND);
     }
-    // The line can't be printed.
-    let mut host = host_of(alloc, &[1], &[], "", "")?;
-    assert_eq!(rt; run_tool(&mut host, alloc, &[]), 3);
-    assert!(rt; host.printed().is_empty());
     Ok(())
 }
 
@@ -488,70 +478,6 @@ fn a_file_is_too_large(rt: HostRuntime) -> Result<(), Fail> {
     let words = words_of(alloc, &["hold", "a", "machine", "loops", "out"])?;
     assert_eq!(rt; run_tool(&mut host, alloc, &words), 1);
     assert_eq!(rt; host.printed(), b"refused 50 too large: a\n".as_slice());
-    Ok(())
-}
-
-// Which call fails, the status, how many bytes are stored, and how many are printed.
-#[test]
-fn a_call_fails(rt: HostRuntime) -> Result<(), Fail> {
-    let alloc = rt.alloc();
-    let image = plain_image(alloc, &EXIT_SEVEN, 0, 5)?;
-    let cases = [
-        (28, 1, 3, false, 0, 1),
-        (28, 2, 3, false, 0, 1),
-        (28, 3, 3, false, 0, 1),
-        (28, 4, 3, false, 0, 1),
-        (28, 5, 3, true, 0, 1),
-        (28, 6, 0, true, 126, 0),
-        (6, 4, 3, false, 0, 1),
-    ];
-    for (deadline, call, status, stored, printed, faults) in cases {
-        let machine = machine_file(alloc, deadline, DIV, 2)?;
-        let mut host = host_of(alloc, &[call], &image, machine.as_str(), NO_LOOPS)?;
-        let words = words_of(alloc, &HOLD_WORDS)?;
-        assert_eq!(rt; run_tool(&mut host, alloc, &words), status, "call {call}");
-        assert_eq!(rt;
-            host.file("out").map(|out| out.len()),
-            if stored { Some(4160) } else { None },
-            "call {call}"
-        );
-        assert_eq!(rt; host.printed().len(), printed, "call {call}");
-        assert_eq!(rt; host.fault_count(), faults, "call {call}");
-    }
-    Ok(())
-}
-
-#[test]
-fn room_for_the_stored_image(rt: HostRuntime) -> Result<(), Fail> {
-    let alloc = rt.alloc();
-    let image = plain_image(alloc, &EXIT_SEVEN, 0, 5)?;
-    let machine = machine_file(alloc, 28, DIV, 2)?;
-    let words = words_of(alloc, &HOLD_WORDS)?;
-    let mut host = MemHost::new(alloc, Vec::new(alloc));
-    host.add_file("image", &image)?;
-    host.add_file("machine", machine.as_str().as_bytes())?;
-    host.add_file("loops", NO_LOOPS.as_bytes())?;
-    host.reserve(1, 4000)?;
-    assert_eq!(rt; run_tool(&mut host, alloc, &words), 3);
-    assert!(rt; host.file("out").is_none());
-    assert_eq!(rt; host.fault_count(), 1);
-    Ok(())
-}
-
-#[test]
-fn hold_over_a_host_that_never_fails(rt: HostRuntime) -> Result<(), Fail> {
-    let alloc = rt.alloc();
-    let image = plain_image(alloc, &EXIT_SEVEN, 0, 5)?;
-    let machine = machine_file(alloc, 28, DIV, 2)?;
-    let words = words_of(alloc, &HOLD_WORDS)?;
-    let mut inner = MemHost::new(alloc, Vec::new(alloc));
-    inner.add_file("image", &image)?;
-    inner.add_file("machine", machine.as_str().as_bytes())?;
-    inner.add_file("loops", NO_LOOPS.as_bytes())?;
-    inner.reserve(16, 33554432)?;
-    let mut host = NeverFails::new(inner);
-    assert_eq!(rt; run_tool(&mut host, alloc, &words), 0);
-    assert_eq!(rt; host.inner().fault_count(), 0);
     Ok(())
 }
 

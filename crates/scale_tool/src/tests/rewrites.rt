@@ -4,7 +4,7 @@ use super::rows::{READ_ALL, READ_LOOP, READ_ONE};
 use super::runs::{run_host, run_words};
 use super::*;
 
-const REWRITE_WORDS: [&str; 5] = ["rewrite", "image", "machine", "loops", "out"];
+pub const REWRITE_WORDS: [&str; 5] = ["rewrite", "image", "machine", "loops", "out"];
 
 const GAIN: &str = "min_gain = 20\n";
 
@@ -26,18 +26,18 @@ const FALLS_BACK_WITHIN: [u32; 6] = [
 ];
 
 // What `READ_ONE` is rewritten to, in time for a deadline of 160: its branch is a jump to the stub,
-const STORED_WORDS: [u32; 13] = [
+pub const STORED_WORDS: [u32; 13] = [
     0x03f00893, 0x00010593, 0x00100613, 0x00000073, 0x7f10006f, 0x0262c2b3, 0x0262c2b3, 0x0262c2b3,
     0x0262c2b3, 0x0262c2b3, 0x0262c2b3, 0x05d00893, 0x00000073,
 ];
 
 // which has the branch, a jump back, and a switch before the jump to the branch's target.
-const STUB: [u32; 14] = [
+pub const STUB: [u32; 14] = [
     0x00050463, 0x810ff06f, 0x80502023, 0x80602223, 0xffc02283, 0x00229293, 0x00000337, 0x10030313,
     0x00535333, 0x00f37313, 0xfe602e23, 0x80402303, 0x80002283, 0xff9fe06f,
 ];
 
-const SUMMARY: &str =
+pub const SUMMARY: &str =
     "start level 1\nworst cycles 79\nworst time 158 of 160\nstub cycles at most 18\nswitch edges 1\nexit edges 0\ncount edges 0\nstub bytes 56\n";
 
 // A text with other text in place of a part of it.
@@ -350,56 +350,6 @@ fn a_stub_is_out_of_reach(rt: HostRuntime) -> Result<(), Fail> {
     push_words(&mut image, &BRANCH)?;
     let text = "refused 44 stub out of reach at 0x00010000\n";
     check_not_rewritten(&rt, alloc, &image, machine.as_str(), NO_LOOPS, text)
-}
-
-// The deadline, which call fails, the status, whether the image is stored, what is printed, and the faults.
-#[test]
-fn a_call_of_rewrite_fails(rt: HostRuntime) -> Result<(), Fail> {
-    let alloc = rt.alloc();
-    let image = plain_image(alloc, &READ_ONE, 0, 5)?;
-    let expected = stored_image(alloc, &STORED_WORDS, &STUB, 1)?;
-    let words = words_of(alloc, &REWRITE_WORDS)?;
-    let cases = [
-        (160, 1, 3, false, "", 1),
-        (160, 2, 3, false, "", 1),
-        (160, 3, 3, false, "", 1),
-        (160, 4, 3, false, "", 1),
-        (160, 5, 3, true, "", 1),
-        (160, 6, 0, true, SUMMARY, 0),
-        (78, 4, 3, false, "", 1),
-    ];
-    for (deadline, call, status, stored, printed, faults) in cases {
-        let machine = machine_file(alloc, deadline, DIV, 2)?;
-        let mut host = host_of(alloc, &[call], &image, machine.as_str(), NO_LOOPS)?;
-        assert_eq!(rt; run_tool(&mut host, alloc, &words), status, "call {call}");
-        let out = if stored {
-            Some(expected.as_slice())
-        } else {
-            None
-        };
-        assert_eq!(rt; host.file("out"), out, "call {call}");
-        assert_eq!(rt; host.printed(), printed.as_bytes());
-        assert_eq!(rt; host.fault_count(), faults, "call {call}");
-    }
-    Ok(())
-}
-
-#[test]
-fn rewrite_over_a_host_that_never_fails(rt: HostRuntime) -> Result<(), Fail> {
-    let alloc = rt.alloc();
-    let image = plain_image(alloc, &READ_ONE, 0, 5)?;
-    let machine = machine_file(alloc, 160, DIV, 2)?;
-    let words = words_of(alloc, &REWRITE_WORDS)?;
-    let mut inner = MemHost::new(alloc, Vec::new(alloc));
-    inner.add_file("image", &image)?;
-    inner.add_file("machine", machine.as_str().as_bytes())?;
-    inner.add_file("loops", NO_LOOPS.as_bytes())?;
-    inner.reserve(16, 33554432)?;
-    let mut host = NeverFails::new(inner);
-    assert_eq!(rt; run_tool(&mut host, alloc, &words), 0);
-    assert_eq!(rt; host.inner().fault_count(), 0);
-    assert_eq!(rt; host.inner().printed(), SUMMARY.as_bytes());
-    Ok(())
 }
 
 // The machine file of version 2 with this energy of a switch from level 1 to level 0.

@@ -91,33 +91,38 @@ fn check_watched(
     Ok(())
 }
 
+// The words, the deadline for which they are held, and the status and the text of the run.
 #[test]
 fn held_images_run_at_their_level(rt: HostRuntime) -> Result<(), Fail> {
     let alloc = rt.alloc();
-    let machine = machine_of(alloc, 1000000)?;
     let cases: [(&[u32], u32, u8, &str); 3] = [
         (
             &EXIT_SEVEN,
-            0,
+            28,
             0,
             "end exit 7\nsteps 3\ncycles 7\ntime 28\nenergy 7\nheld 7\nswitches 0\nlevel 0\nkeyed 0\noutput 0\nkept unchecked\n",
         ),
         (
             &EXIT_SEVEN,
-            1,
+            27,
             0,
             "end exit 7\nsteps 3\ncycles 7\ntime 14\nenergy 21\nheld 21\nswitches 0\nlevel 1\nkeyed 0\noutput 0\nkept unchecked\n",
         ),
         (
             &LOAD_TEXT,
-            0,
+            36,
             5,
             "end trap load-fault 0x00010000\nsteps 1\ncycles 1\ntime 4\nenergy 1\nheld 1\nswitches 0\nlevel 0\nkeyed 0\noutput 0\nkept unchecked\n",
         ),
     ];
-    for (words, level, status, text) in cases {
-        let image = held_image(alloc, words, level)?;
-        check_run(&rt, alloc, &image, machine.as_str(), status, text, b"")?;
+    for (words, deadline, status, text) in cases {
+        let image = plain_image(alloc, words, 0, 5)?;
+        let machine = machine_file(alloc, deadline, DIV, 2)?;
+        let mut host = host_of(alloc, &[], &image, machine.as_str(), NO_LOOPS)?;
+        let given = words_of(alloc, &HOLD_WORDS)?;
+        assert_eq!(rt; run_tool(&mut host, alloc, &given), 0, "{text}");
+        let held = host.file("out").ok_or("no file")?;
+        check_run(&rt, alloc, held, machine.as_str(), status, text, b"")?;
     }
     Ok(())
 }
