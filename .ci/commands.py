@@ -29,6 +29,15 @@ READ_ALL = [0x00010593, 0x00100613, 0x03F00893, 0x00000513, 0x00000073, 0xFE051A
 WRITE_ONE = [0x04100293, 0x00510023, 0x00100513, 0x00010593, 0x00100613, 0x04000893, 0x00000073, 0x00000513, 0x05D00893, 0x00000073]
 # Loads from its own text, which is a fault.
 LOAD_TEXT = [0x00000297, 0x0002A303, 0x05D00893, 0x00000073]
+# Branches to the next word.
+BRANCH = [0x00000263, 0x05D00893, 0x00000073]
+# The program that `make 0 1` makes: it reads 256 bytes, calls the first of four functions, and writes four bytes.
+MADE = [
+    0x00300413, 0x00100493, 0xC0010913, 0x00000513, 0x00090593, 0x10000613, 0x03F00893, 0x00000073,
+    0x028000EF, 0x00992023, 0x00100513, 0x00090593, 0x00400613, 0x04000893, 0x00000073, 0x00000513,
+    0x05D00893, 0x00000073,
+]  # fmt: skip
+MADE += [word for count in range(1, 5) for word in [0x028484B3] * count + [0x00008067]]
 # The stub of the branch of READ_ONE, for a deadline of 160, and the jump to it that stands in place of the branch.
 STUB = [
     0x00050463, 0x810FF06F, 0x80502023, 0x80602223, 0xFFC02283, 0x00229293, 0x00000337,
@@ -41,7 +50,9 @@ READ_LOOP = LOOPS + "[[loop]]\nheader = 0x10008\nranges = [[0x10008, 0x10018]]\n
 HELP = """\
 scale hold IMAGE MACHINE LOOPS OUT
 scale rewrite IMAGE MACHINE LOOPS OUT
+scale report IMAGE MACHINE LOOPS
 scale simulate IMAGE MACHINE INPUT OUT [LOOPS]
+scale make NUMBER SIZE PREFIX
 scale help
 """
 BAD_COMMAND = "bad command; try: scale help\n"
@@ -85,10 +96,21 @@ def report(end, steps, cycles, time, energy, held, switches, level, keyed, outpu
     )
 
 
-def machine(deadline=28, steps=1000000):
+def machine(deadline=28, steps=1000000, min_gain=20):
     with open(os.path.join(DATA, "m.toml")) as file:
         text = file.read()
-    return text.replace("deadline = 28\n", "deadline = %d\n" % deadline).replace("steps = 1000000\n", "steps = %d\n" % steps)
+    for key, before, value in [("deadline", 28, deadline), ("steps", 1000000, steps), ("min_gain", 20, min_gain)]:
+        text = text.replace("%s = %d\n" % (key, before), "%s = %d\n" % (key, value))
+    return text
+
+
+def drawn(number, before, count):
+    """The lowest bytes of so many numbers of the linear congruential sequence that begins at a number, behind those before."""
+    drawn = []
+    for _ in range(before + count):
+        number = (number * 6364136223846793005 + 1442695040888963407) % 2**64
+        drawn.append((number >> 33) % 256)
+    return bytes(drawn[before:])
 
 
 def files():
@@ -101,6 +123,9 @@ def files():
         "read-all": plain_image(READ_ALL),
         "write-one": plain_image(WRITE_ONE),
         "load-text": plain_image(LOAD_TEXT),
+        "branch": plain_image(BRANCH),
+        "made": plain_image(MADE),
+        "made-held": stored_image(MADE, 0),
         "held-0": stored_image(SEVEN, 0),
         "held-1": stored_image(SEVEN, 1),
         "rewritten": stored_image(rewritten, 1, STUB),
@@ -110,14 +135,24 @@ def files():
         "m-6": machine(6).encode(),
         "m-160": machine(160).encode(),
         "m-2-steps": machine(steps=2).encode(),
+        "m-100-1": machine(100, min_gain=1).encode(),
+        "m-made": machine(700, 10000000).encode(),
         "loops": LOOPS.encode(),
         "read-loop": READ_LOOP.encode(),
         "none": b"",
         "one": b"x",
         "eleven": b"hello world",
         "A": b"A",
+        # One block takes two numbers.
+        "drawn": drawn(0, 2, 256),
     }
 
+
+MADE_TEXT = (
+    summary(0, 36, 144, 700)
+    + report("exit 0", 20, 36, 36, 288, 288, 0, 2, 0, 4, "yes")
+    + report("exit 0", 20, 36, 144, 36, 36, 0, 0, 0, 4)
+)
 
 # Words of a command line, the status, and what is printed; then, where something is stored, the name of each stored file with that
 # of one of the files above that has the same bytes. No other file may be made or changed.
@@ -126,6 +161,10 @@ LINES = [
     ("", 2, BAD_COMMAND),
     ("hold a b", 2, BAD_COMMAND),
     ("help me", 2, BAD_COMMAND),
+    ("report seven m loops out", 2, BAD_COMMAND),
+    ("make 0 0 p", 2, BAD_COMMAND),
+    ("make 0 2001 p", 2, BAD_COMMAND),
+    ("make 18446744073709551616 1 p", 2, BAD_COMMAND),
     ("hold seven m loops out", 0, summary(0, 7, 28, 28), {"out": "held-0"}),
     ("hold seven m-27 loops out", 0, summary(1, 7, 14, 27), {"out": "held-1"}),
     ("hold own m loops own", 0, summary(0, 7, 28, 28), {"own": "held-0"}),
@@ -138,6 +177,11 @@ LINES = [
     ("rewrite read-one m-160 loops out", 0, summary(1, 79, 158, 160, 18, 1, 56), {"out": "rewritten"}),
     ("rewrite rewritten m-160 loops out", 1, "refused 8 already scaled\n"),
     ("rewrite read-all m loops out", 1, "refused 36 unbounded cycle: 0x00010008 0x0001000c 0x00010010 0x00010014\n"),
+    ("report branch m-100-1 loops", 0, summary(0, 25, 100, 100, 18, 1, 56) + "site 0x00010000 untaken switch 00000210\n"),
+    ("report seven m-6 loops", 1, "refused 41 deadline missed: need 7 have 6\n"),
+    ("report seven m missing", 3, ""),
+    ("make 0 1 p", 0, MADE_TEXT, {"p.elf": "made", "p.machine": "m-made", "p.loops": "loops", "p.input": "drawn", "p.scaled": "made-held"}),
+    ("make 0 1 folder/p", 3, ""),
     ("simulate held-0 m none out", 0, report("exit 7", 3, 7, 28, 7, 7, 0, 0, 0, 0), {"out": "none"}),
     ("simulate rewritten m-160 none out", 0, report("exit 0", 20, 34, 102, 98, 102, 1, 0, 18, 0), {"out": "none"}),
     ("simulate rewritten m-160 one out", 0, report("exit 1", 15, 79, 158, 237, 237, 0, 1, 3, 0), {"out": "none"}),
