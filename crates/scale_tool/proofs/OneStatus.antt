@@ -1,5 +1,5 @@
 -- All answers that may be given have one status.
-use Rattle.std.proofs.Common.{◌≡◌, ◌≢◌, ℕ, List, [], ◌∷◌, refl, sym, ap, subst, ◌∙◌}
+use Rattle.std.proofs.Common.{◌≡◌, ℕ, List, [], ◌∷◌, refl, sym, ap, subst, ◌∙◌}
 use Rattle.std.specs.Prelude.{Option, Some, None, IfSome, Result, Ok, Err}
 use Rattle.scale_base.specs.declared.plan.SiteLine.{SiteLine}
 use Rattle.scale_base.specs.declared.refusal.Refusal.{Refusal}
@@ -10,7 +10,6 @@ use Rattle.scaler.specs.Planned.{IsPlanned}
 use Rattle.scaler.specs.Rewritten.{IsRewritten}
 use Rattle.scaler.proofs.agree.Helds.{held_answers}
 use Rattle.scaler.proofs.agree.Rewrites.{rewritten_answers}
-use Rattle.speed_sim.specs.Simulated.{simulated}
 use Rattle.image_maker.specs.Making.{program}
 use Rattle.image_maker.proofs.OneImage.{one_image}
 use Rattle.host_files.specs.HostState.{Files, HostState}
