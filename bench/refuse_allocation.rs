@@ -1,5 +1,5 @@
-//! A library that is loaded before the C library: it refuses one allocation of a program, the one whose number stands in the
-//! variable REFUSE, counted from 1, and says so on standard error.
+//! A library that is loaded before the C library: it refuses the allocation of a program whose number stands in the variable
+//! REFUSE, counted from 1, and all behind it where FOLLOWING is set too. It says so once on standard error.
 #![no_std]
 
 use core::ptr::null_mut;
@@ -20,15 +20,18 @@ static COUNT: AtomicI32 = AtomicI32::new(0);
 
 fn is_refused() -> bool {
     let number = COUNT.fetch_add(1, Relaxed) + 1;
-    // SAFETY: both texts end with a zero byte, and so many bytes are there to be written.
+    // SAFETY: all texts end with a zero byte, and so many bytes are there to be written.
     unsafe {
         let wanted = getenv(c"REFUSE".as_ptr().cast());
-        if wanted.is_null() || atoi(wanted) != number {
+        if wanted.is_null() {
             return false;
         }
-        write(2, TOLD.as_ptr(), TOLD.len());
+        let first = atoi(wanted);
+        if number == first {
+            write(2, TOLD.as_ptr(), TOLD.len());
+        }
+        number == first || number > first && !getenv(c"FOLLOWING".as_ptr().cast()).is_null()
     }
-    true
 }
 
 #[unsafe(no_mangle)]

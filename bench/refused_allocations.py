@@ -1,10 +1,12 @@
 #!/usr/bin/env python3
-"""Refuses each allocation of `scale` in turn, on a few commands: each run must end with status 4, print nothing and store nothing.
+"""Refuses each allocation of `scale` in turn, on a few commands.
 
     refused_allocations.py [PROGRAM]   this program; without one, that which `./scale` builds
 
-A command is run again and again, and in run N its Nth allocation is refused, up to the first run that makes fewer: this one must
-end with status 0. `refuse_allocation.rs` does the refusing, as a library that is loaded before the C library, since
+A command is run again and again, and in run N its Nth allocation is refused, up to the first run that makes fewer, which must end
+with status 0. A run whose Nth allocation and all behind it are refused must end with status 4, print nothing and store nothing. Where
+the Nth alone is refused, it must do the same, or else all that the command does with its memory: a list that grows
+asks for more than it needs, and then for just that much. `refuse_allocation.rs` does the refusing, as a library that is loaded before the C library, since
 `rt try --fail-alloc N` builds the program anew for each N, which takes a minute. Wants rustc. Works in a temporary folder.
 """
 
@@ -37,29 +39,42 @@ def compiled(folder):
     return library
 
 
-def run(program, folder, command, library, number):
+def run(program, files, command, library, number, following):
+    """The status of the command, what it printed, whether an allocation was refused, and the files that it made."""
     env = {"LD_PRELOAD": library, "REFUSE": str(number)}
-    return subprocess.run([program] + command.split(), cwd=folder, env=env, capture_output=True, timeout=60)
+    if following:
+        env["FOLLOWING"] = "1"
+    with tempfile.TemporaryDirectory(prefix="scale-refused-") as folder:
+        for name, content in files.items():
+            with open(os.path.join(folder, name), "wb") as file:
+                file.write(content)
+        done = subprocess.run([program] + command.split(), cwd=folder, env=env, capture_output=True, timeout=60)
+        made = {}
+        for name in set(os.listdir(folder)) - set(files):
+            with open(os.path.join(folder, name), "rb") as file:
+                made[name] = file.read()
+    return done.returncode, done.stdout, done.stderr, made
 
 
 def refuse_each(program, files, command, library):
-    """How many allocations of the command were refused."""
+    """How many allocations of the command were refused, and how many of them it could do without."""
+    status, text, told, made = run(program, files, command, library, 0, False)
+    if (status, told) != (0, b"") or not made:
+        sys.exit("scale %s: with all its memory: status %d, made %s" % (command, status, sorted(made)))
+    whole, wanted = (0, text, b"refused\n", made), (4, b"", b"refused\n", {})
+    spared = 0
     for number in itertools.count(1):
-        with tempfile.TemporaryDirectory(prefix="scale-refused-") as folder:
-            for name, content in files.items():
-                with open(os.path.join(folder, name), "wb") as file:
-                    file.write(content)
-            done = run(program, folder, command, library, number)
-            made = sorted(set(os.listdir(folder)) - set(files))
-        if not done.stderr:
+        alone = run(program, files, command, library, number, False)
+        if not alone[2]:
             if number == 1:
                 sys.exit("scale %s: no allocation was refused: is this a build whose allocator is its own?" % command)
-            if done.returncode != 0 or not made:
-                sys.exit("scale %s: with all its memory: status %d, made %s" % (command, done.returncode, made))
-            return number - 1
-        if (done.returncode, done.stdout, done.stderr, made) != (4, b"", b"refused\n", []):
-            told = (command, number, done.returncode, done.stdout[:80], done.stderr[:80], made)
+            return number - 1, spared
+        following = run(program, files, command, library, number, True)
+        if alone not in (whole, wanted) or following != wanted:
+            bad = following if alone in (whole, wanted) else alone
+            told = (command, number, bad[0], bad[1][:80], bad[2][:80], sorted(bad[3]))
             sys.exit("scale %s: allocation %d refused: status %d, printed %r and %r, made %s" % told)
+        spared += alone == whole
 
 
 def main():
@@ -86,10 +101,10 @@ def main():
             if "scale %s " % command.split()[0] not in told:
                 print("%-36s is no command of this program" % command)
                 continue
-            count = refuse_each(program, files, command, library)
+            count, spared = refuse_each(program, files, command, library)
             whole += count
-            print("%-36s %6d allocations" % (command, count), flush=True)
-    print("%d allocations refused, each answered by status 4, with nothing printed and nothing stored" % whole)
+            print("%-36s %6d allocations, without %d of which it does all" % (command, count, spared), flush=True)
+    print("%d allocations refused: status 4 with nothing printed and nothing stored, or all that the command does" % whole)
 
 
 if __name__ == "__main__":
