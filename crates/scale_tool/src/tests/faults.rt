@@ -104,7 +104,9 @@ fn hosts_that_never_fail(rt: HostRuntime) -> Result<(), Fail> {
         let image = plain_image(alloc, words, 0, 5)?;
         let machine = machine_file(alloc, deadline, DIV, 2)?;
         let mut inner = MemHost::new(alloc, Vec::new(alloc));
-        add_files(&mut inner, &image, machine.as_str())?;
+        inner.add_file("image", &image)?;
+        inner.add_file("machine", machine.as_str().as_bytes())?;
+        inner.add_file("loops", NO_LOOPS.as_bytes())?;
         inner.reserve(16, 33554432)?;
         let mut host = NeverFails::new(inner);
         let words = words_of(alloc, given)?;
