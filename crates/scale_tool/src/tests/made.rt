@@ -35,6 +35,25 @@ fn make_stores_five_files_and_prints_both_runs(rt: HostRuntime) -> Result<(), Fa
     Ok(())
 }
 
+// The first call that fails, and how many of the files stand then: the sixth call prints.
+#[test]
+fn a_call_of_make_fails(rt: HostRuntime) -> Result<(), Fail> {
+    let alloc = rt.alloc();
+    let words = words_of(alloc, &["make", "0", "1", "p"])?;
+    for (call, stand) in [(1, 0), (3, 2), (5, 4), (6, 5)] {
+        let mut host = MemHost::new(alloc, vec![in alloc; call]?);
+        host.reserve(16, 33554432)?;
+        assert_eq!(rt; run_tool(&mut host, alloc, &words), 3, "{call}");
+        for (place, ending) in ENDINGS.iter().enumerate() {
+            let name = format!(in alloc; "p{ending}")?;
+            assert_eq!(rt; host.file(name.as_str()).is_some(), place < stand, "{name}");
+        }
+        assert!(rt; host.printed().is_empty());
+        assert_eq!(rt; host.fault_count(), 1);
+    }
+    Ok(())
+}
+
 // The number in the line that begins by this word.
 fn number_after(text: &str, word: &str) -> Result<u64, Fail> {
     let (_, rest) = text.split_once(word).ok_or("no such line")?;
