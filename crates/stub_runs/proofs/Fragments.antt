@@ -13,7 +13,7 @@ use Rattle.scale_base.specs.Arith.{moved_by, plus, unsigned, imm_result, reg_res
 use Rattle.scale_base.specs.State.{Setting, State, reg, word_at}
 use Rattle.stub_writer.specs.Fragments.{hi, lo, switch_code, exit_code, count_code, reset_code}
 use Rattle.stub_runs.specs.Meaning.{Stand, Leads, along, along_storing, IsSound, IsRowAt, IsCounter, nibble, level_in, row_place, switched, exited, counted, cleared}
-use Rattle.stub_runs.proofs.Points.{T0, T1, Save0, Save1, Counter, Port, point_of, at_point, own_point, regs_same, window_at}
+use Rattle.stub_runs.proofs.Points.{X5, X6, Save0, Save1, Counter, Port, point_of, at_point, own_point, regs_same, window_at}
 use Rattle.stub_runs.proofs.Moves.{Move, Put, Clear, Get, Work, Join, Upper, Row, IsWhole, moves, AllowsAll, steps_of, run_moves}
 
 -- ---- arithmetic
@@ -81,8 +81,8 @@ count_window w k a v c =
 
 abbrev switch_moves : ℕ → List Move
 switch_moves word =
-    Put Save0 T0 ∷ Put Save1 T1 ∷ Get T0 Port ∷ Work Slli T0 (pos 2) ∷ Upper T1 (hi word) ∷ Work Addi T1 (lo word)
-    ∷ Join Srl T1 T0 ∷ Work Andi T1 (pos 15) ∷ Put Port T1 ∷ Get T1 Save1 ∷ Get T0 Save0 ∷ []
+    Put Save0 X5 ∷ Put Save1 X6 ∷ Get X5 Port ∷ Work Slli X5 (pos 2) ∷ Upper X6 (hi word) ∷ Work Addi X6 (lo word)
+    ∷ Join Srl X6 X5 ∷ Work Andi X6 (pos 15) ∷ Put Port X6 ∷ Get X6 Save1 ∷ Get X5 Save0 ∷ []
 
 -- counter 2 stays as it is
 switch_window : (w : List ℕ) (a b level : ℕ) → slice_set (slice_set (slice_set (slice_set w 0 a) 1 b) 2 (slice_index w 2)) 511 level ≡ slice_set (slice_set (slice_set w 0 a) 1 b) 511 level
@@ -129,7 +129,7 @@ reset_does env s k sound c stand =
 -- ---- Count
 
 abbrev count_moves : List Move
-count_moves = Put Save0 T0 ∷ Get T0 Counter ∷ Work Addi T0 (pos 1) ∷ Put Counter T0 ∷ Get T0 Save0 ∷ []
+count_moves = Put Save0 X5 ∷ Get X5 Counter ∷ Work Addi X5 (pos 1) ∷ Put Counter X5 ∷ Get X5 Save0 ∷ []
 
 pub count_does : (env : Setting) (s : State) (k : ℕ) → IsSound env s → IsCounter k → Stand env s.bytes s.pc (count_code k) → Leads env s (along s.pc (count_code k)) (counted s k)
 count_does env s k sound c stand =
@@ -146,9 +146,9 @@ count_does env s k sound c stand =
 
 abbrev exit_moves : (shift table : ℕ) → List Move
 exit_moves shift table =
-    Put Save0 T0 ∷ Put Save1 T1 ∷ Get T0 Counter ∷ Work Srli T0 (pos shift) ∷ Work Slli T0 (pos 2) ∷ Upper T1 (hi table)
-    ∷ Join Add T0 T1 ∷ Row (lo table) ∷ Get T0 Port ∷ Work Slli T0 (pos 2) ∷ Join Srl T1 T0 ∷ Work Andi T1 (pos 15)
-    ∷ Clear ∷ Put Port T1 ∷ Get T1 Save1 ∷ Get T0 Save0 ∷ []
+    Put Save0 X5 ∷ Put Save1 X6 ∷ Get X5 Counter ∷ Work Srli X5 (pos shift) ∷ Work Slli X5 (pos 2) ∷ Upper X6 (hi table)
+    ∷ Join Add X5 X6 ∷ Row (lo table) ∷ Get X5 Port ∷ Work Slli X5 (pos 2) ∷ Join Srl X6 X5 ∷ Work Andi X6 (pos 15)
+    ∷ Clear ∷ Put Port X6 ∷ Get X6 Save1 ∷ Get X5 Save0 ∷ []
 
 -- the address that the Exit reads, as the machine has it
 abbrev row_sum : (count shift table : ℕ) → ℕ

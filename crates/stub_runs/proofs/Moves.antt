@@ -19,7 +19,7 @@ use Rattle.scale_base.specs.Step.{Outcome, step, goes, sets, stores, stores_word
 use Rattle.stub_writer.specs.Fragments.{sw, lw, slot}
 use Rattle.stub_runs.specs.Meaning.{StandsAt, Stand, Leads, keyed_step, IsRowAt, IsCounter}
 use Rattle.stub_runs.proofs.Steps.{performed, leads_none, leads_first}
-use Rattle.stub_runs.proofs.Points.{Temp, T0, T1, Slot, Save0, Save1, Counter, Port, Point, temp_reg, value, with_value, slot_index, held_in, with_held, regs_at, window_at, at_point, read_temp, read_zero, write_temp, read_slot, write_slot}
+use Rattle.stub_runs.proofs.Points.{Temp, X5, X6, Slot, Save0, Save1, Counter, Port, Point, temp_reg, value, with_value, slot_index, held_in, with_held, regs_at, window_at, at_point, read_temp, read_zero, write_temp, read_slot, write_slot}
 
 pub data Move : Type 0 where
   Put : Slot → Temp → Move
@@ -47,7 +47,7 @@ change bytes p (Get t slot) = with_value p t (held_in p slot)
 change bytes p (Work op t z) = with_value p t (imm_result op (value p t) z)
 change bytes p (Join op t u) = with_value p t (reg_result op (value p t) (value p u))
 change bytes p (Upper t imm) = with_value p t imm
-change bytes p (Row z) = with_value p T1 (word_at bytes (moved_by p.t0 z))
+change bytes p (Row z) = with_value p X6 (word_at bytes (moved_by p.t0 z))
 
 abbrev pub forward : ℕ → Point → Point
 forward pc p = record p { pc = pc + 4 }
@@ -129,12 +129,12 @@ put_state s pc regs window pc2 regs2 window2 a b c =
     ∙ (ap (λ x. record s { pc = pc2; regs = x; window = window }) b ∙ ap (λ x. record s { pc = pc2; regs = regs2; window = x }) c)
 
 temp_set : (env : Setting) (s : State) (k : ℕ) (p : Point) (i : Instr) (t : Temp) (v : ℕ) → StandsAt env s.bytes p.pc i → sets env (at_point s k p) i (temp_reg t) v ≡ goes (keyed_step p.pc i None) (at_point s k (forward p.pc (with_value p t v)))
-temp_set env s k p i T0 v h =
+temp_set env s k p i X5 v h =
     gone_on p.pc i None (plus p.pc 4) (is_keyed env.layout p.pc) _ _ (next_is p.pc h.room) h.keyed
-    (put_state s _ _ _ _ _ _ (next_is p.pc h.room) (write_temp s.regs p T0 v) refl)
-temp_set env s k p i T1 v h =
+    (put_state s _ _ _ _ _ _ (next_is p.pc h.room) (write_temp s.regs p X5 v) refl)
+temp_set env s k p i X6 v h =
     gone_on p.pc i None (plus p.pc 4) (is_keyed env.layout p.pc) _ _ (next_is p.pc h.room) h.keyed
-    (put_state s _ _ _ _ _ _ (next_is p.pc h.room) (write_temp s.regs p T1 v) refl)
+    (put_state s _ _ _ _ _ _ (next_is p.pc h.room) (write_temp s.regs p X6 v) refl)
 
 slot_same : (s : State) (k pc : ℕ) (p : Point) (slot : Slot) (v : ℕ) → IsCounter k → plus pc 4 ≡ pc + 4 → record (at_point s k p) { pc = plus pc 4; window = slice_set (window_at s.window k p) (slot_index k slot) v } ≡ at_point s k (forward pc (with_held p slot v))
 slot_same s k pc p Save0 v c e = put_state s _ _ _ _ _ _ e refl (write_slot s.window k p Save0 v c)
@@ -206,9 +206,9 @@ performed_move env s k p (Join op t u) w a h =
 performed_move env s k p (Upper t imm) w a h = temp_set env s k p _ t imm h
 performed_move env s k p (Row z) w a h =
     let i = instr_for k (Row z) in
-    ap (λ x. loads env (at_point s k p) i Lw 6 (moved_by x z)) (read_temp s.regs p T0 w.regs)
+    ap (λ x. loads env (at_point s k p) i Lw 6 (moved_by x z)) (read_temp s.regs p X5 w.regs)
     ∙ (row_seen env (at_point s k p) i 6 (moved_by p.t0 z) a
-    ∙ temp_set env s k p i T1 (word_at s.bytes (moved_by p.t0 z)) h)
+    ∙ temp_set env s k p i X6 (word_at s.bytes (moved_by p.t0 z)) h)
 
 pub move_step : (env : Setting) (s : State) (k : ℕ) (p : Point) (m : Move) → IsWhole s k → Allows env p m → StandsAt env s.bytes p.pc (instr_for k m) → step env (at_point s k p) ≡ goes (keyed_step p.pc (instr_for k m) (port_of p m)) (at_point s k (move s.bytes p m))
 move_step env s k p m w a h = performed env (at_point s k p) (instr_for k m) h ∙ performed_move env s k p m w a h

@@ -6,8 +6,8 @@ use Rattle.scale_base.specs.State.{State, reg, with_reg}
 use Rattle.stub_runs.specs.Meaning.{IsCounter}
 
 pub data Temp : Type 0 where
-  T0 : Temp
-  T1 : Temp
+  X5 : Temp
+  X6 : Temp
 
 pub data Slot : Type 0 where
   Save0 : Slot
@@ -25,16 +25,16 @@ pub record Point : Type 0 where
   pub level : ℕ
 
 abbrev pub temp_reg : Temp → ℕ
-temp_reg T0 = 5
-temp_reg T1 = 6
+temp_reg X5 = 5
+temp_reg X6 = 6
 
 abbrev pub value : Point → Temp → ℕ
-value p T0 = p.t0
-value p T1 = p.t1
+value p X5 = p.t0
+value p X6 = p.t1
 
 abbrev pub with_value : Point → Temp → ℕ → Point
-with_value p T0 v = record p { t0 = v }
-with_value p T1 v = record p { t1 = v }
+with_value p X5 v = record p { t0 = v }
+with_value p X6 v = record p { t1 = v }
 
 abbrev pub slot_index : ℕ → Slot → ℕ
 slot_index k Save0 = 0
@@ -77,17 +77,17 @@ point_of s k = record {
 }
 
 pub read_temp : (regs : List ℕ) (p : Point) (t : Temp) → length regs ≡ 32 → reg (regs_at regs p) (temp_reg t) ≡ value p t
-read_temp regs p T0 h = get_or-set_other (slice_set regs 5 p.t0) 6 5 p.t1 0 (omega arith) ∙ get_or-set_same regs 5 p.t0 0 (omega arith)
-read_temp regs p T1 h = get_or-set_same (slice_set regs 5 p.t0) 6 p.t1 0 (omega (arith, length-set {A = ℕ}))
+read_temp regs p X5 h = get_or-set_other (slice_set regs 5 p.t0) 6 5 p.t1 0 (omega arith) ∙ get_or-set_same regs 5 p.t0 0 (omega arith)
+read_temp regs p X6 h = get_or-set_same (slice_set regs 5 p.t0) 6 p.t1 0 (omega (arith, length-set {A = ℕ}))
 
 pub read_zero : (regs : List ℕ) (p : Point) → reg regs 0 ≡ 0 → reg (regs_at regs p) 0 ≡ 0
 read_zero regs p h =
     get_or-set_other (slice_set regs 5 p.t0) 6 0 p.t1 0 (omega arith) ∙ (get_or-set_other regs 5 0 p.t0 0 (omega arith) ∙ h)
 
 pub write_temp : (regs : List ℕ) (p : Point) (t : Temp) (v : ℕ) → with_reg (regs_at regs p) (temp_reg t) v ≡ regs_at regs (with_value p t v)
-write_temp regs p T0 v =
+write_temp regs p X5 v =
     set_comm (slice_set regs 5 p.t0) 6 5 p.t1 v (omega arith) ∙ ap (λ l. slice_set l 6 p.t1) (set-set regs 5 p.t0 v)
-write_temp regs p T1 v = set-set (slice_set regs 5 p.t0) 6 p.t1 v
+write_temp regs p X6 v = set-set (slice_set regs 5 p.t0) 6 p.t1 v
 
 pub read_slot : (window : List ℕ) (k : ℕ) (p : Point) (slot : Slot) → length window ≡ 512 → IsCounter k → slice_index (window_at window k p) (slot_index k slot) ≡ held_in p slot
 read_slot w k p Save0 h c =
