@@ -178,7 +178,25 @@ fn host_of(
     Ok(host)
 }
 
-// `hold` refuses these files with this text, and stores nothing.
+// The command of these words refuses these files with this text, and stores nothing.
+fn check_refused_by(
+    rt: &impl Abort,
+    alloc: Global,
+    words: &[&str],
+    image: &[u8],
+    machine: &str,
+    loops: &str,
+    text: &str,
+) -> Result<(), Fail> {
+    let mut host = host_of(alloc, &[], image, machine, loops)?;
+    let words = words_of(alloc, words)?;
+    assert_eq!(rt; run_tool(&mut host, alloc, &words), 1, "{text}");
+    assert_eq!(rt; host.printed(), text.as_bytes());
+    assert!(rt; host.file("out").is_none(), "{text}");
+    Ok(())
+}
+
+// `hold` does.
 fn check_refused(
     rt: &impl Abort,
     alloc: Global,
@@ -187,12 +205,7 @@ fn check_refused(
     loops: &str,
     text: &str,
 ) -> Result<(), Fail> {
-    let mut host = host_of(alloc, &[], image, machine, loops)?;
-    let words = words_of(alloc, &HOLD_WORDS)?;
-    assert_eq!(rt; run_tool(&mut host, alloc, &words), 1, "{text}");
-    assert_eq!(rt; host.printed(), text.as_bytes());
-    assert!(rt; host.file("out").is_none(), "{text}");
-    Ok(())
+    check_refused_by(rt, alloc, &HOLD_WORDS, image, machine, loops, text)
 }
 
 #[test]

@@ -78,12 +78,7 @@ fn check_not_rewritten(
     loops: &str,
     text: &str,
 ) -> Result<(), Fail> {
-    let mut host = host_of(alloc, &[], image, machine, loops)?;
-    let words = words_of(alloc, &REWRITE_WORDS)?;
-    assert_eq!(rt; run_tool(&mut host, alloc, &words), 1, "{text}");
-    assert_eq!(rt; host.printed(), text.as_bytes());
-    assert!(rt; host.file("out").is_none(), "{text}");
-    Ok(())
+    check_refused_by(rt, alloc, &REWRITE_WORDS, image, machine, loops, text)
 }
 
 // A run over this input exits, writes nothing and prints this text.
