@@ -8,3 +8,4 @@ pub mod Whole
 pub mod SymbolLemmas
 pub mod TextWords
 pub mod AscendingLemmas
+pub mod StemLaws

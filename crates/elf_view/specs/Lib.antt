@@ -1,3 +1,4 @@
 pub mod View
 pub mod Segment
 pub mod Ascending
+pub mod Stems

@@ -5,6 +5,8 @@ mod fields;
 mod header;
 mod ranges;
 mod segments;
+mod sorted_symbols;
+mod stems;
 mod symbols;
 mod tables;
 mod text;
@@ -12,6 +14,7 @@ mod view;
 
 pub use scale_base::Keyed;
 pub use segments::{end_of, overlaps};
+pub use sorted_symbols::SortedSymbols;
 pub use tables::{program_header_count, read_program_header};
 pub use view::{ImageView, Segment, read_image};
 

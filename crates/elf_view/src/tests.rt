@@ -31,6 +31,58 @@ const SECTIONS: [u8; 440] = [
     0, 1, 0, 0, 0, 0, 0, 0, 0, 1, 0, 0, 95, 115, 116, 97, 114, 116, 0,
 ];
 
+/// Ten symbols after entry 0 over one string table: `twice` undefined and then twice defined, two names that share their first 64 bytes,
+/// the end of `twice`, the empty name, `only` undefined, `end` without a zero behind it, and a name outside of the table.
+const SYMBOLS: [u8; 579] = [
+    127, 69, 76, 70, 1, 1, 1, 0, 0, 0, 0, 0, 0, 0, 0, 0, 2, 0, 243, 0, 1, 0, 0, 0, 0, 0, 1, 0, 52,
+    0, 0, 0, 163, 1, 0, 0, 0, 0, 0, 0, 52, 0, 32, 0, 1, 0, 40, 0, 4, 0, 0, 0, 1, 0, 0, 0, 84, 0, 0,
+    0, 0, 0, 1, 0, 0, 0, 1, 0, 12, 0, 0, 0, 12, 0, 0, 0, 5, 0, 0, 0, 4, 0, 0, 0, 19, 5, 112, 0,
+    147, 8, 208, 5, 115, 0, 0, 0, 0, 0, 0, 0, 0, 0, 0, 0, 0, 0, 0, 0, 0, 0, 0, 0, 1, 0, 0, 0, 1, 0,
+    0, 0, 0, 0, 0, 0, 0, 0, 0, 0, 1, 0, 0, 0, 2, 0, 0, 0, 0, 0, 0, 0, 0, 0, 1, 0, 1, 0, 0, 0, 3, 0,
+    0, 0, 0, 0, 0, 0, 0, 0, 1, 0, 7, 0, 0, 0, 4, 0, 0, 0, 0, 0, 0, 0, 0, 0, 1, 0, 73, 0, 0, 0, 5,
+    0, 0, 0, 0, 0, 0, 0, 0, 0, 1, 0, 3, 0, 0, 0, 6, 0, 0, 0, 0, 0, 0, 0, 0, 0, 1, 0, 0, 0, 0, 0, 7,
+    0, 0, 0, 0, 0, 0, 0, 0, 0, 1, 0, 139, 0, 0, 0, 8, 0, 0, 0, 0, 0, 0, 0, 0, 0, 0, 0, 144, 0, 0,
+    0, 9, 0, 0, 0, 0, 0, 0, 0, 0, 0, 1, 0, 255, 255, 255, 255, 10, 0, 0, 0, 0, 0, 0, 0, 0, 0, 1, 0,
+    0, 116, 119, 105, 99, 101, 0, 108, 108, 108, 108, 108, 108, 108, 108, 108, 108, 108, 108, 108,
+    108, 108, 108, 108, 108, 108, 108, 108, 108, 108, 108, 108, 108, 108, 108, 108, 108, 108, 108,
+    108, 108, 108, 108, 108, 108, 108, 108, 108, 108, 108, 108, 108, 108, 108, 108, 108, 108, 108,
+    108, 108, 108, 108, 108, 108, 108, 108, 108, 108, 108, 108, 108, 120, 0, 108, 108, 108, 108,
+    108, 108, 108, 108, 108, 108, 108, 108, 108, 108, 108, 108, 108, 108, 108, 108, 108, 108, 108,
+    108, 108, 108, 108, 108, 108, 108, 108, 108, 108, 108, 108, 108, 108, 108, 108, 108, 108, 108,
+    108, 108, 108, 108, 108, 108, 108, 108, 108, 108, 108, 108, 108, 108, 108, 108, 108, 108, 108,
+    108, 108, 108, 121, 0, 111, 110, 108, 121, 0, 101, 110, 100, 0, 0, 0, 0, 0, 0, 0, 0, 0, 0, 0,
+    0, 0, 0, 0, 0, 0, 0, 0, 0, 0, 0, 0, 0, 0, 0, 0, 0, 0, 0, 0, 0, 0, 0, 0, 0, 0, 0, 0, 0, 0, 0, 0,
+    0, 1, 0, 0, 0, 6, 0, 0, 0, 0, 0, 1, 0, 84, 0, 0, 0, 12, 0, 0, 0, 0, 0, 0, 0, 0, 0, 0, 0, 0, 0,
+    0, 0, 0, 0, 0, 0, 0, 0, 0, 0, 2, 0, 0, 0, 0, 0, 0, 0, 0, 0, 0, 0, 96, 0, 0, 0, 176, 0, 0, 0, 3,
+    0, 0, 0, 0, 0, 0, 0, 0, 0, 0, 0, 0, 0, 0, 0, 0, 0, 0, 0, 3, 0, 0, 0, 0, 0, 0, 0, 0, 0, 0, 0,
+    16, 1, 0, 0, 147, 0, 0, 0, 0, 0, 0, 0, 0, 0, 0, 0, 0, 0, 0, 0, 0, 0, 0, 0,
+];
+
+/// Names, and the values of their symbols in `SYMBOLS`.
+static NAMES: [(&str, Option<u32>); 12] = [
+    ("twice", Some(2)),
+    (
+        "llllllllllllllllllllllllllllllllllllllllllllllllllllllllllllllllx",
+        Some(4),
+    ),
+    (
+        "lllllllllllllllllllllllllllllllllllllllllllllllllllllllllllllllly",
+        Some(5),
+    ),
+    (
+        "llllllllllllllllllllllllllllllllllllllllllllllllllllllllllllllll",
+        None,
+    ),
+    ("ice", Some(6)),
+    ("", Some(7)),
+    ("only", None),
+    ("end", None),
+    ("none", None),
+    ("twic", None),
+    ("twice\0", None),
+    ("\0", None),
+];
+
 /// The plain image with four bytes replaced.
 fn with_word(at: usize, word: [u8; 4]) -> [u8; 96]
     requires { at < 93 }
@@ -157,4 +209,34 @@ fn spans_that_touch_do_not_overlap(rt: HostRuntime) {
     assert_eq!(rt; end_of(low), 4);
     assert!(rt; !overlaps(low, next));
     assert!(rt; overlaps(low, Span { from: 3, len: 4 }));
+}
+
+#[test]
+fn sorted_symbols_answer_as_the_table_does(rt: HostRuntime) -> Result<(), Fail> {
+    let view = read_image(rt.alloc(), &SYMBOLS)
+        .ok()
+        .ok_or("the file is an image")?;
+    let sorted = view
+        .sorted_symbols(rt.alloc())
+        .ok()
+        .ok_or("the symbols are sorted")?;
+    for (name, value) in &NAMES {
+        assert_eq!(rt; view.symbol(name), *value, "{name}");
+        assert_eq!(rt; sorted.value(name), *value, "{name} among the sorted");
+    }
+    Ok(())
+}
+
+#[test]
+fn an_image_without_sections_has_no_sorted_symbols(rt: HostRuntime) -> Result<(), Fail> {
+    let view = read_image(rt.alloc(), &PLAIN)
+        .ok()
+        .ok_or("the file is an image")?;
+    let sorted = view
+        .sorted_symbols(rt.alloc())
+        .ok()
+        .ok_or("the symbols are sorted")?;
+    assert_eq!(rt; sorted.value("_start"), None);
+    assert_eq!(rt; sorted.value(""), None);
+    Ok(())
 }

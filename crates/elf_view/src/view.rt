@@ -1,6 +1,6 @@
 //! The image of a file, borrowed from its bytes.
 
-ghost use Rattle.std.specs.Prelude.{◌≡◌, ◌<◌, ◌≤◌, ◌+◌, ◌-◌, ◌^◌, length, Ok, Some, IfSome, is_some, slice_get, All, find, option_map, if◌then◌else◌, ◌&&◌, ◌%◌, ◌==◌};
+ghost use Rattle.std.specs.Prelude.{◌≡◌, ◌<◌, ◌≤◌, ◌+◌, ◌-◌, ◌^◌, length, Ok, Some, IfOk, IfSome, is_some, slice_get, All, find, option_map, if◌then◌else◌, ◌&&◌, ◌%◌, ◌==◌};
 ghost use Rattle.std.specs.List.{list_any};
 ghost use Rattle.scale_base.specs.Answer.{Answers};
 ghost use Rattle.scale_base.specs.Bytes.{word_at};
@@ -14,10 +14,11 @@ use crate::fields::word;
 use crate::header::check_header;
 use crate::ranges::is_in_some;
 use crate::segments::{has_key, read_segments};
+use crate::sorted_symbols::{SortedSymbols, sort_symbols};
 use crate::symbols;
 use crate::tables::check_tables;
 use crate::text::read_text;
-use scale_base::{Keyed, ProgramHeader, Range, Stop};
+use scale_base::{Keyed, NoMemory, ProgramHeader, Range, Stop};
 use std::alloc::Global;
 use std::marker::Model;
 
@@ -197,6 +198,13 @@ impl<'a> ImageView<'a> {
         ensures { result ≡ symbol_value self.now.file name.now }
     {
         symbols::symbol_value(self.bytes, name.as_bytes())
+    }
+
+    /// The symbols, sorted for many look-ups. An error says that memory ran out.
+    pub fn sorted_symbols(&self, alloc: Global) -> Result<SortedSymbols<'a>, NoMemory>
+        ensures { IfOk result (λ symbols. symbols ≡ self.now) }
+    {
+        sort_symbols(alloc, self.bytes)
     }
 
     /// The address is a multiple of 4 in a text range.

@@ -4,7 +4,7 @@ ghost use Rattle.std.specs.Prelude.{◌≡◌, ◌≤◌, IfSome, option_map, op
 ghost use Rattle.toml.specs.View.{view};
 ghost use Rattle.loop_file.specs.Addresses.{HasNoPlus, numeral, address_within, offset_of, split_last, name_and_offset, symbol_address, address_of};
 
-use elf_view::ImageView;
+use elf_view::SortedSymbols;
 use table_keys::number_of;
 use toml::Value;
 
@@ -52,13 +52,13 @@ fn name_and_offset(text: &str) -> Option<(&str, u32)>
     }
 }
 
-fn symbol_address(image: &ImageView<'_>, name: &str, offset: u32) -> Result<u32, Fault>
-    ensures { result ≡ symbol_address image.now (name.now, offset) }
+fn symbol_address(symbols: &SortedSymbols<'_>, name: &str, offset: u32) -> Result<u32, Fault>
+    ensures { result ≡ symbol_address symbols.now (name.now, offset) }
 {
     if name.is_empty() {
         return Err(Fault::Bad);
     }
-    match image.symbol(name) {
+    match symbols.value(name) {
         Some(value) => value.checked_add(offset).ok_or(Fault::Bad),
         None => Err(Fault::Absent),
     }
@@ -66,8 +66,8 @@ fn symbol_address(image: &ImageView<'_>, name: &str, offset: u32) -> Result<u32,
 
 /// The address that a value gives.
 #[tactic(auto, unfolding(crate::specs::Addresses::address_of))]
-pub fn address(image: &ImageView<'_>, value: &Value) -> Result<u32, Fault>
-    ensures { result ≡ address_of image.now (view value.now) }
+pub fn address(symbols: &SortedSymbols<'_>, value: &Value) -> Result<u32, Fault>
+    ensures { result ≡ address_of symbols.now (view value.now) }
 {
     match value {
         Value::Integer(_) => match number_of(value, 0, 0xFFFF_FFFF) {
@@ -75,7 +75,7 @@ pub fn address(image: &ImageView<'_>, value: &Value) -> Result<u32, Fault>
             None => Err(Fault::Bad),
         },
         Value::String(text) => match name_and_offset(text.as_str()) {
-            Some((name, offset)) => symbol_address(image, name, offset),
+            Some((name, offset)) => symbol_address(symbols, name, offset),
             None => Err(Fault::Bad),
         },
         _ => Err(Fault::Bad),

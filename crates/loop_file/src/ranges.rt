@@ -6,7 +6,7 @@ ghost use Rattle.loop_file.specs.Addresses.{worse, both, in_order, pair_of, rang
 
 use crate::address::{Fault, address};
 use crate::notes::RangeList;
-use elf_view::ImageView;
+use elf_view::SortedSymbols;
 use scale_base::Range;
 use std::alloc::{AllocError, Global};
 use toml::Value;
@@ -56,8 +56,8 @@ fn pair_of(items: &[Value]) -> Option<(&Value, &Value)>
 }
 
 #[tactic(auto, unfolding(crate::specs::Addresses::range_of))]
-fn range(image: &ImageView<'_>, value: &Value) -> Result<Range, Fault>
-    ensures { result ≡ range_of image.now (view value.now) }
+fn range(symbols: &SortedSymbols<'_>, value: &Value) -> Result<Range, Fault>
+    ensures { result ≡ range_of symbols.now (view value.now) }
 {
     let Some(items) = value.as_array() else {
         return Err(Fault::Bad);
@@ -65,22 +65,22 @@ fn range(image: &ImageView<'_>, value: &Value) -> Result<Range, Fault>
     let Some((from, to)) = pair_of(items.as_slice()) else {
         return Err(Fault::Bad);
     };
-    in_order(both(address(image, from), address(image, to))?)
+    in_order(both(address(symbols, from), address(symbols, to))?)
 }
 
 // A fault ends nothing: a worse one may follow.
 fn all_ranges(
     alloc: Global,
-    image: &ImageView<'_>,
+    symbols: &SortedSymbols<'_>,
     items: &[Value],
 ) -> Result<Result<RangeList, Fault>, AllocError>
-    ensures ranges { IfOk result (λ r. r ≡ all_ranges image.now (items_view items.now)) }
+    ensures ranges { IfOk result (λ r. r ≡ all_ranges symbols.now (items_view items.now)) }
     ensures count { IfOk result (λ r. IfOk r (λ ranges. length ranges ≡ length items.now)) }
 {
     let mut ranges = Vec::new(alloc);
     let mut fault: Option<Fault> = None;
     for item in items {
-        match (range(image, item), fault) {
+        match (range(symbols, item), fault) {
             (Ok(range), None) => ranges.push(range)?,
             (Ok(_), Some(_)) => {}
             (Err(found), None) => fault = Some(found),
@@ -97,10 +97,10 @@ fn all_ranges(
 #[tactic(auto, unfolding(crate::specs::Addresses::ranges_of), using(crate::proofs::Counts::items_count_view))]
 pub fn ranges_of(
     alloc: Global,
-    image: &ImageView<'_>,
+    symbols: &SortedSymbols<'_>,
     value: &Value,
 ) -> Result<Result<RangeList, Fault>, AllocError>
-    ensures ranges { IfOk result (λ r. r ≡ ranges_of image.now (view value.now)) }
+    ensures ranges { IfOk result (λ r. r ≡ ranges_of symbols.now (view value.now)) }
     ensures few { IfOk result (λ r. IfOk r (λ ranges. (1 ≤ length ranges) × (length ranges ≤ 16))) }
 {
     let Some(items) = value.as_array() else {
@@ -109,5 +109,5 @@ pub fn ranges_of(
     if items.is_empty() || 16 < items.len() {
         return Ok(Err(Fault::Bad));
     }
-    all_ranges(alloc, image, items.as_slice())
+    all_ranges(alloc, symbols, items.as_slice())
 }

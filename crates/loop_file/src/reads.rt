@@ -11,7 +11,7 @@ ghost use Rattle.loop_file.specs.Loops.{version_of, loop_tables, fault_refusal, 
 use crate::address::{Fault, address};
 use crate::notes::{LoopNote, LoopNotes, RangeList};
 use crate::ranges::ranges_of;
-use elf_view::ImageView;
+use elf_view::{ImageView, SortedSymbols};
 use scale_base::{Name, Refusal, Stop};
 use std::alloc::Global;
 use table_keys::{find, first_missing, least_unknown, number_at, number_of, tables};
@@ -107,13 +107,18 @@ fn check_keys(alloc: Global, version: u32, number: u32, table: &Table) -> Result
     Ok(())
 }
 
-fn header(alloc: Global, image: &ImageView<'_>, number: u32, table: &Table) -> Result<u32, Stop>
-    ensures { Answers (λ at. at) result (header_at image.now number (table_view table.now)) }
+fn header(
+    alloc: Global,
+    symbols: &SortedSymbols<'_>,
+    number: u32,
+    table: &Table,
+) -> Result<u32, Stop>
+    ensures { Answers (λ at. at) result (header_at symbols.now number (table_view table.now)) }
 {
     let Some(value) = find(table, "header") else {
         return Err(bad_value(alloc, number, "header"));
     };
-    match address(image, value) {
+    match address(symbols, value) {
         Ok(at) => Ok(at),
         Err(fault) => Err(faulty(alloc, number, "header", fault)),
     }
@@ -121,17 +126,17 @@ fn header(alloc: Global, image: &ImageView<'_>, number: u32, table: &Table) -> R
 
 fn ranges(
     alloc: Global,
-    image: &ImageView<'_>,
+    symbols: &SortedSymbols<'_>,
     number: u32,
     table: &Table,
 ) -> Result<RangeList, Stop>
-    ensures ranges { Answers (λ ranges. ranges) result (ranges_at image.now number (table_view table.now)) }
+    ensures ranges { Answers (λ ranges. ranges) result (ranges_at symbols.now number (table_view table.now)) }
     ensures few { IfOk result (λ ranges. (1 ≤ length ranges) × (length ranges ≤ 16)) }
 {
     let Some(value) = find(table, "ranges") else {
         return Err(bad_value(alloc, number, "ranges"));
     };
-    match ranges_of(alloc, image, value)? {
+    match ranges_of(alloc, symbols, value)? {
         Ok(ranges) => Ok(ranges),
         Err(fault) => Err(faulty(alloc, number, "ranges", fault)),
     }
@@ -175,17 +180,17 @@ fn at_least(alloc: Global, number: u32, bound: u32, table: &Table) -> Result<u32
 #[tactic(auto, unfolding(crate::specs::Loops::note_of))]
 fn note(
     alloc: Global,
-    image: &ImageView<'_>,
+    symbols: &SortedSymbols<'_>,
     version: u32,
     number: u32,
     table: &Table,
 ) -> Result<LoopNote, Stop>
-    ensures note { Answers (λ note. note) result (note_of image.now version number (table_view table.now)) }
+    ensures note { Answers (λ note. note) result (note_of symbols.now version number (table_view table.now)) }
     ensures kept { IfOk result IsLoopNote }
 {
     check_keys(alloc, version, number, table)?;
-    let header = header(alloc, image, number, table)?;
-    let ranges = ranges(alloc, image, number, table)?;
+    let header = header(alloc, symbols, number, table)?;
+    let ranges = ranges(alloc, symbols, number, table)?;
     let bound = bound(alloc, number, table)?;
     Ok(LoopNote {
         header,
@@ -198,16 +203,16 @@ fn note(
 
 fn notes(
     alloc: Global,
-    image: &ImageView<'_>,
+    symbols: &SortedSymbols<'_>,
     version: u32,
     tables: &[&Table],
 ) -> Result<LoopNotes, Stop>
     requires { length tables.now ≤ 4096 }
-    ensures { Answers (λ notes. notes) result (notes_from image.now version 1 (map (λ t. table_view t.now) tables.now)) }
+    ensures { Answers (λ notes. notes) result (notes_from symbols.now version 1 (map (λ t. table_view t.now) tables.now)) }
 {
     let mut notes = LoopNotes::new(alloc);
     for (i, table) in tables.iter().enumerate() {
-        notes.push(note(alloc, image, version, i as u32 + 1, table)?)?;
+        notes.push(note(alloc, symbols, version, i as u32 + 1, table)?)?;
     }
     Ok(notes)
 }
@@ -226,5 +231,9 @@ pub fn notes_of(alloc: Global, image: &ImageView<'_>, table: &Table) -> Result<L
         let count = tables.len().min(0xFFFF_FFFF) as u32;
         return Err(Stop::Refused(Refusal::TooManyLoops(count)));
     }
-    notes(alloc, image, version, &tables)
+    if tables.is_empty() {
+        return Ok(LoopNotes::new(alloc));
+    }
+    let symbols = image.sorted_symbols(alloc)?;
+    notes(alloc, &symbols, version, &tables)
 }

@@ -8,6 +8,6 @@ use Rattle.loop_file.proofs.reads.notes.Given as goal
 abbrev pub invariant-loop-i : goal.invariant-loop-i
 invariant-loop-i l = record {
   count : length l.notes ≡ l.i;
-  notes : (notes_from l.image l.version (l.i + 1) (map (λ t. table_view t.now) (drop l.i l.tables)) >>= λ ns. Ok (l.notes ++ ns))
-      ≡ notes_from l.image l.version 1 (map (λ t. table_view t.now) l.tables);
+  notes : (notes_from l.symbols l.version (l.i + 1) (map (λ t. table_view t.now) (drop l.i l.tables)) >>= λ ns. Ok (l.notes ++ ns))
+      ≡ notes_from l.symbols l.version 1 (map (λ t. table_view t.now) l.tables);
 }

@@ -1,0 +1,74 @@
+//! The symbols of an image in an order that finds them fast.
+
+ghost use Rattle.std.specs.Prelude.{◌≡◌, ◌≤◌, ◌+◌, ◌*◌, length, find, option_map, All, IfOk, IsTrue};
+ghost use Rattle.scale_base.specs.Bytes.{word_at};
+ghost use Rattle.scale_base.specs.Elf as elf;
+ghost use Rattle.scale_base.specs.Image.{Image, contents};
+ghost use Rattle.scale_base.specs.Symbols.{symbol_value, value_in, is_named};
+ghost use Rattle.elf_view.specs.Stems.{AreSortedKeys, IsInTable};
+
+use crate::fields::word;
+use crate::stems::{SymbolKey, keys_with, sorted_keys, stem_of};
+use crate::symbols::{SymbolTable, is_named, table_of};
+use scale_base::NoMemory;
+use std::alloc::Global;
+use std::marker::Model;
+
+/// The symbols of an image, sorted, for many look-ups: each takes about as many steps as the number of symbols has bits.
+#[derive(Drop)]
+pub struct SortedSymbols<'a> {
+    bytes: &'a [u8],
+    table: SymbolTable<'a>,
+    keys: Vec<SymbolKey>,
+}
+
+impl<'a> Model for SortedSymbols<'a> {
+    ghost use Rattle.scale_base.specs.Image.{Image, contents};
+    ghost use Rattle.elf_view.specs.Stems.{AreSymbolsOf};
+
+    ghost Value = { Image };
+
+    ghost view = { λ s. contents s.bytes.now };
+
+    ghost invariant = { λ s. AreSymbolsOf s.bytes.now s.table.strings.now s.table.entries.now s.keys.items };
+}
+
+/// The value of the first of these symbols that has the name.
+fn value_among(name: &[u8], table: &SymbolTable<'_>, keys: &[SymbolKey]) -> Option<u32>
+    requires { All (IsInTable (length table.now.entries.now)) keys.now }
+    ensures { result ≡ option_map (λ key. word_at table.now.entries.now (16 * key.number + 4)) (find (λ key. is_named name.now table.now.strings.now table.now.entries.now key.number) keys.now) }
+{
+    for key in keys {
+        if is_named(name, table.strings, table.entries, key.number) {
+            return Some(word(table.entries, 16 * key.number + 4));
+        }
+    }
+    None
+}
+
+fn value_by(name: &[u8], table: &SymbolTable<'_>, keys: &[SymbolKey]) -> Option<u32>
+    requires { AreSortedKeys table.now.strings.now table.now.entries.now keys.now }
+    ensures { result ≡ value_in name.now table.now.strings.now table.now.entries.now }
+{
+    value_among(name, table, keys_with(keys, stem_of(name)))
+}
+
+/// Sorts the symbols of an image of these bytes.
+pub fn sort_symbols(alloc: Global, bytes: &[u8]) -> Result<SortedSymbols<'_>, NoMemory>
+    requires header { 52 ≤ length bytes.now }
+    requires table { IsTrue (elf.has_sections bytes.now) → elf.e_shoff bytes.now + 40 * elf.e_shnum bytes.now ≤ length bytes.now }
+    ensures { IfOk result (λ symbols. symbols ≡ contents bytes.now) }
+{
+    let table = table_of(bytes);
+    let keys = sorted_keys(alloc, &table)?;
+    Ok(SortedSymbols { bytes, table, keys })
+}
+
+impl<'a> SortedSymbols<'a> {
+    /// The value of a symbol, if the image has it: the same as of `ImageView::symbol`.
+    pub fn value(&self, name: &str) -> Option<u32>
+        ensures { result ≡ symbol_value self.now.file name.now }
+    {
+        value_by(name.as_bytes(), &self.table, &self.keys)
+    }
+}
