@@ -1,5 +1,8 @@
 pub mod Lists
 pub mod Graphs
+pub mod StepLaws
+pub mod HeadLaws
+pub mod BlockLaws
 pub mod Causes
 pub mod Reaching
 pub mod NodeLaws

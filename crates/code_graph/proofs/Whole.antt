@@ -1,9 +1,11 @@
 -- The lists together: the graph of a text, and what is kept of it.
-use Rattle.std.proofs.Common.{◌≡◌, ℕ, ◌+◌, ◌*◌, ◌<◌, ◌≤◌, ◌%◌, Bool, true, List, length, get_or, map, Option, Some, Result, Ok, Err, inr, refl, sym, ap, ◌∙◌, subst, arith, eq-eqb}
+use Rattle.std.proofs.Common.{◌≡◌, ℕ, ◌+◌, ◌*◌, ◌<◌, ◌≤◌, ◌%◌, Bool, true, false, List, length, get_or, map, Option, Some, None, Result, Ok, Err, inr, ⊎_elim, refl, sym, ap, ◌∙◌, subst, arith, eq-eqb}
 use Rattle.std.specs.Prelude.{slice_get, slice_index, ◌==◌, ◌&&◌, IsErrAnd}
 use Rattle.std.specs.List.{list_any}
 use Rattle.std.proofs.lemmas.List.{length-map}
-use Rattle.std.proofs.lemmas.Option.{slice_get_within, slice_get-get_or, slice_get-map}
+use Rattle.std.proofs.lemmas.Bool.{cases_lt}
+use Rattle.std.proofs.lemmas.Option.{slice_get_within, slice_get-get_or, slice_get-map, slice_get_past}
+use Rattle.scale_base.specs.declared.ranges.Range.{Range}
 use Rattle.scale_base.specs.declared.stepping.Class.{Class}
 use Rattle.scale_base.specs.declared.refusal.Refusal.{Refusal}
 use Rattle.scale_base.specs.declared.refusal.Stop.{Stop}
@@ -11,9 +13,13 @@ use Rattle.scale_base.specs.declared.refusal.Stop.TheVariants.{Refused, Memory}
 use Rattle.scale_base.specs.Answer.{AnswersBy}
 use Rattle.scale_base.specs.Image.{Image, is_in, is_word_address}
 use Rattle.cost_theory.specs.declared.edges.Edge.{Edge}
+use Rattle.cost_theory.specs.declared.edges.EdgeKind.{EdgeKind}
+use Rattle.cost_theory.specs.declared.edges.EdgeKind.TheVariants.{Taken, Untaken, Jump, Next, CallNext, End}
 use Rattle.cost_theory.specs.declared.edges.Word.{Word}
+use Rattle.cost_theory.specs.declared.edges.Word.TheVariants.{Branch, Goto, CallOf, Back, Ends, MayEnd, Breaks, Straight, Bad}
 use Rattle.cost_theory.specs.Accepted.{IsNode, IsProgram}
-use Rattle.cost_theory.specs.Reached.{IsCodeOf, graph_of, callee_of}
+use Rattle.cost_theory.specs.Reached.{IsCodeOf, graph_of, callee_of, call_returns, edges_of, edge_to}
+use Rattle.cost_theory.proofs.Reaching.{Within, get_within, within_flat}
 use Rattle.cost_theory.proofs.Programs.{some_get}
 use Rattle.cost_theory.proofs.Programs as programs
 use Rattle.cost_theory.proofs.Agreeing.{one_graph, edge_node}
@@ -24,15 +30,51 @@ use Rattle.graph_runs.specs.EdgeCosts.{edge_class}
 use Rattle.graph_runs.specs.RunMoves.{text_graph}
 use Rattle.graph_runs.proofs.MoveLaws.{kind_facts}
 use Rattle.code_reach.specs.Reach.{Reach}
-use Rattle.code_graph.specs.FlowGraph.{word_beside, IsFlowGraph, IsGraphOf, AreCalleesFirst}
+use Rattle.code_graph.specs.FlowGraph.{FlowGraph, word_beside, IsFlowGraph, IsGraphOf, AreCalleesFirst}
 use Rattle.code_graph.specs.Stored.{AreFirsts, IsStored}
-use Rattle.code_graph.specs.Assembling.{AreEdgesOf, AreCallArcs, IsOrdered, entry_addresses}
+use Rattle.code_graph.specs.Assembling.{AreEdgesOf, AreCallArcs, AreBlocksBy, IsOrdered, entry_addresses}
+use Rattle.code_graph.specs.Ends.{AreEdgeEnds, AreEnds}
 use Rattle.code_graph.specs.Refused.{IsRefusedBy}
-use Rattle.code_graph.proofs.Lists.{some_is, word_beside-get, ascending_once}
-use Rattle.code_graph.proofs.Parts.{AreParts, node_reached, kinds_are, is_code, callee_entry, returning_size}
+use Rattle.code_graph.proofs.Lists.{some_is, word_beside-get, ascending_once, ascending_rise}
+use Rattle.code_graph.proofs.Parts.{AreParts, node_reached, number_reached, kinds_are, is_code, callee_entry, returning_size}
 use Rattle.code_graph.proofs.Calls.{program, callees_first, calls_within, named_cycle}
 use Rattle.code_graph.proofs.CallLaws.{arcs_numbered, cycle_numbered}
 use Rattle.code_graph.proofs.FewWords.{few_once}
+use Rattle.code_graph.proofs.BlockLaws.{blocks_by}
+use Rattle.code_text.specs.Walk.{RiseStrictly}
+
+-- the ends of a graph's edges are those of its lists
+edge_ends : (v : FlowGraph) (sources : List ℕ) (targets : List (Option ℕ)) → AreEnds (length v.code.edges) v.code.nodes v.code.edges sources targets → AreEdgeEnds v sources targets
+edge_ends v sources targets ends = record {
+  sources_size = ends.sources_size;
+  targets_size = ends.targets_size;
+  source = ends.source;
+  target = ends.target;
+  end = ends.end;
+}
+
+-- multiples of 4 are 4 apart
+four_apart : (a b : ℕ) → a < b → a % 4 ≡ 0 → b % 4 ≡ 0 → a + 4 ≤ b
+four_apart a b lt left right = omega arith
+
+other : (x : Edge) (k : EdgeKind) (v to : ℕ) → record { at = v; kind = k; to = to } ≡ x → x.kind ≡ Next → (k ≡ Next → ⊥) → x.to ≡ x.at + 4
+other x k v to e kind apart = absurd (apart (ap (λ (y : Edge). y.kind) e ∙ kind))
+
+onward : (x : Edge) (v : ℕ) → record { at = v; kind = Next; to = v + 4 } ≡ x → x.to ≡ x.at + 4
+onward x v e = subst (λ (y : Edge). y.to ≡ y.at + 4) e refl
+
+-- an edge of kind Next
+next_leads : (w : Word) (v : ℕ) (b : Bool) (x : Edge) → Within x (edges_of w v b) → x.kind ≡ Next → x.to ≡ x.at + 4
+next_leads (Branch to) v b x h kind = ⊎_elim (λ e. other x Taken v to e kind (λ q. let bad : ⊥ = cc in bad)) (λ r. ⊎_elim (λ e. other x Untaken v (v + 4) e kind (λ q. let bad : ⊥ = cc in bad)) (λ n. absurd n) r) h
+next_leads (Goto to) v b x h kind = ⊎_elim (λ e. other x Jump v to e kind (λ q. let bad : ⊥ = cc in bad)) (λ n. absurd n) h
+next_leads (CallOf to) v true x h kind = ⊎_elim (λ e. other x CallNext v (v + 4) e kind (λ q. let bad : ⊥ = cc in bad)) (λ r. ⊎_elim (λ e. other x End v v e kind (λ q. let bad : ⊥ = cc in bad)) (λ n. absurd n) r) h
+next_leads (CallOf to) v false x h kind = ⊎_elim (λ e. other x End v v e kind (λ q. let bad : ⊥ = cc in bad)) (λ n. absurd n) h
+next_leads Back v b x h kind = ⊎_elim (λ e. other x End v v e kind (λ q. let bad : ⊥ = cc in bad)) (λ n. absurd n) h
+next_leads Ends v b x h kind = ⊎_elim (λ e. other x End v v e kind (λ q. let bad : ⊥ = cc in bad)) (λ n. absurd n) h
+next_leads MayEnd v b x h kind = ⊎_elim (λ e. onward x v e) (λ r. ⊎_elim (λ e. other x End v v e kind (λ q. let bad : ⊥ = cc in bad)) (λ n. absurd n) r) h
+next_leads Breaks v b x h kind = ⊎_elim (λ e. other x End v v e kind (λ q. let bad : ⊥ = cc in bad)) (λ n. absurd n) h
+next_leads Straight v b x h kind = ⊎_elim (λ e. onward x v e) (λ n. absurd n) h
+next_leads Bad v b x h kind = absurd h
 
 module _ (t : Text) (r : Reach) (nodes : List ℕ) (kinds : List Word) (owners entries : List ℕ) (returning : List Bool) (callees : List (Option ℕ)) (are : AreParts t r nodes kinds owners entries returning callees) where
   -- an address that is a node is one of the text
@@ -44,6 +86,22 @@ module _ (t : Text) (r : Reach) (nodes : List ℕ) (kinds : List Word) (owners e
       let e = are.nodes_are.each j (get_or nodes j 0) (slice_get-get_or nodes j 0 lt) in
       let low = are.reach.table.low e.k (get_or nodes j 0) e.address in
       omega arith
+
+  -- nodes are 4 apart
+  spaced : (i j a b : ℕ) → i < j → slice_get nodes i ≡ Some a → slice_get nodes j ≡ Some b → a + 4 ≤ b
+  spaced i j a b ij at_i at_j = four_apart a b (are.nodes_are.ascending i j a b ij at_i at_j) (node_word i a at_i).0 (node_word j b at_j).0
+
+  pub rising : RiseStrictly nodes
+  rising = ascending_rise nodes are.nodes_are.ascending
+
+  -- the function of a node is one
+  pub owner_function : (j o : ℕ) → slice_get owners j ≡ Some o → o < length entries
+  owner_function j o at =
+      let jl : j < length nodes = (let lt = slice_get_within owners j o at in let s = are.nodes_are.owners_size in omega arith) in
+      let node = some_get nodes j jl in
+      let e = are.nodes_are.each j node.0 node.1 in
+      let n = number_reached t r nodes kinds owners entries returning callees are e.k node.0 e.owner e.address e.number in
+      subst (λ i. i < length entries) (some_is e.owner o (sym e.owner_beside ∙ at)) (slice_get_within entries e.owner n.0 n.1)
 
   pub few_entries : length entries ≤ length r.words.addresses
   few_entries =
@@ -60,7 +118,18 @@ module _ (t : Text) (r : Reach) (nodes : List ℕ) (kinds : List Word) (owners e
     pub edge_word : (e : ℕ) (x : Edge) → slice_get edges e ≡ Some x → (x.at % 4 ≡ 0) × (list_any (is_in x.at) t.ranges ≡ true)
     edge_word e x at = let n = edge_node (kind_at t) t.entry (record { nodes = nodes; edges = edges; functions = entries; owners = owners; returning = returning }) code_is e x at in node_word n.0 x.at n.1
 
-    module _ (classes : List (Option Class)) (order firsts : List ℕ) (arcs : List Arc) (arcs_are : AreCallArcs (length owners) owners callees arcs) (sorted : IsSorted (length entries) arcs order) (none : HasNoCycle arcs)
+    -- where an edge starts is a node
+    pub source_is : (e : ℕ) (x : Edge) → slice_get edges e ≡ Some x → (k : ℕ) × (slice_get nodes k ≡ Some x.at)
+    source_is e x at = edge_node (kind_at t) t.entry (record { nodes = nodes; edges = edges; functions = entries; owners = owners; returning = returning }) code_is e x at
+
+    -- an edge of kind Next leads to the word behind
+    next_to : (e : ℕ) (x : Edge) → slice_get edges e ≡ Some x → x.kind ≡ Next → x.to ≡ x.at + 4
+    next_to e x at kind =
+        let f = λ (a : ℕ). edges_of (kind_at t a) a (call_returns (record { nodes = nodes; edges = edges; functions = entries; owners = owners; returning = returning }) (kind_at t a)) in
+        let w = within_flat f nodes x (subst (λ es. Within x es) code_is.edges (get_within edges e x at)) in
+        next_leads (kind_at t w.0) w.0 (call_returns (record { nodes = nodes; edges = edges; functions = entries; owners = owners; returning = returning }) (kind_at t w.0)) x w.2 kind
+
+    module _ (classes : List (Option Class)) (order firsts : List ℕ) (blocks : List Range) (arcs : List Arc) (arcs_are : AreCallArcs (length owners) owners callees arcs) (sorted : IsSorted (length entries) arcs order) (none : HasNoCycle arcs)
         (classes_are : classes ≡ map (λ e. edge_class t (Some e)) edges) where
       -- the kinds beside the nodes are those of the text
       beside_is : (j a : ℕ) → slice_get nodes j ≡ Some a → kind_at t a ≡ word_beside nodes kinds a
@@ -82,7 +151,7 @@ module _ (t : Text) (r : Reach) (nodes : List ℕ) (kinds : List Word) (owners e
           let f = programs.source_reached (kind_at t) t.entry (record { nodes = nodes; edges = edges; functions = entries; owners = owners; returning = returning }) code_is are.fine node.0 node.1 in
           subst (λ v. (k : ℕ) × (slice_get nodes k ≡ Some v)) node.2 ((code_is.nodes _).1 (f.0, f.1))
 
-      pub flow_is : IsFlowGraph (record { code = record { nodes = nodes; edges = edges; functions = entries; owners = owners; returning = returning }; kinds = kinds; classes = classes; order = order })
+      pub flow_is : IsFlowGraph (record { code = record { nodes = nodes; edges = edges; functions = entries; owners = owners; returning = returning }; kinds = kinds; classes = classes; order = order; blocks = blocks })
       flow_is = record {
         program = subst IsProgram same_graph (program t r nodes kinds owners entries returning callees are arcs arcs_are edges edges_are none);
         ascending = are.nodes_are.ascending;
@@ -90,7 +159,7 @@ module _ (t : Text) (r : Reach) (nodes : List ℕ) (kinds : List Word) (owners e
         order = subst (λ g. AreCalleesFirst g order) same_graph (callees_first t r nodes kinds owners entries returning callees are arcs arcs_are edges edges_are order sorted);
       }
 
-      pub graph_is : IsGraphOf t (record { code = record { nodes = nodes; edges = edges; functions = entries; owners = owners; returning = returning }; kinds = kinds; classes = classes; order = order })
+      pub graph_is : IsGraphOf t (record { code = record { nodes = nodes; edges = edges; functions = entries; owners = owners; returning = returning }; kinds = kinds; classes = classes; order = order; blocks = blocks })
       graph_is = record {
         reached = record { lists = code_is; words = are.fine };
         kinds = kinds_are t r nodes kinds owners entries returning callees are;
@@ -99,11 +168,14 @@ module _ (t : Text) (r : Reach) (nodes : List ℕ) (kinds : List Word) (owners e
         flow = flow_is;
       }
 
-      pub stored_is : length r.words.addresses ≤ 131072 → length edges ≤ 2 * length nodes → AreFirsts (length nodes) nodes edges firsts →
-          IsStored (record { code = record { nodes = nodes; edges = edges; functions = entries; owners = owners; returning = returning }; kinds = kinds; classes = classes; order = order }) callees firsts
-      stored_is few few_edges firsts_are =
+      pub stored_is : length r.words.addresses ≤ 131072 → length edges ≤ 2 * length nodes → AreFirsts (length nodes) nodes edges firsts → (sources : List ℕ) (targets : List (Option ℕ)) →
+          AreEnds (length edges) nodes edges sources targets → AreBlocksBy nodes owners entries edges firsts sources targets blocks →
+          IsStored (record { code = record { nodes = nodes; edges = edges; functions = entries; owners = owners; returning = returning }; kinds = kinds; classes = classes; order = order; blocks = blocks }) callees firsts sources targets
+      stored_is few few_edges firsts_are sources targets ends by =
           let most = are.nodes_are.few in
           let functions = few_entries in
+          let blocks_are = blocks_by (record { code = record { nodes = nodes; edges = edges; functions = entries; owners = owners; returning = returning }; kinds = kinds; classes = classes; order = order; blocks = blocks }) firsts sources targets blocks
+          (record { flow = flow_is; owners = are.nodes_are.owners_size; firsts_are = firsts_are; ends = ends; next = next_to; spaced = spaced }) by in
           record {
             flow = flow_is;
             few_nodes = omega arith;
@@ -113,7 +185,19 @@ module _ (t : Text) (r : Reach) (nodes : List ℕ) (kinds : List Word) (owners e
             owners = are.nodes_are.owners_size;
             callees_are = are.callees_are ∙ ap (λ xs. map (callee_of xs) kinds) (sym are.entries_are);
             firsts_are = firsts_are;
+            ends_are = edge_ends (record { code = record { nodes = nodes; edges = edges; functions = entries; owners = owners; returning = returning }; kinds = kinds; classes = classes; order = order; blocks = blocks }) sources targets ends;
+            few_blocks = blocks_are.1;
+            blocks_are = blocks_are.0;
           }
+
+      -- where an edge leads is a node
+      pub target_is : (e a : ℕ) → edge_to (slice_get edges e) ≡ Some a → (k : ℕ) × (slice_get nodes k ≡ Some a)
+      target_is e a to = (flow_is.nodes a).1 (flow_is.program.stays e a (within e a to) to).0
+        where
+          within : (e a : ℕ) → edge_to (slice_get edges e) ≡ Some a → e < length edges
+          within e a to = ⊎_elim (λ (lt : e < length edges). lt)
+              (λ (le : length edges ≤ e). let none : slice_get edges e ≡ None = slice_get_past edges e le in let clash = ap edge_to none in let bad : ⊥ = cc in absurd bad)
+              (cases_lt e (length edges))
 
   -- a function that is called has a flag
   pub callee_within : (k f : ℕ) → slice_get callees k ≡ Some (Some f) → f < length returning

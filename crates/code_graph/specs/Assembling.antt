@@ -1,13 +1,15 @@
 -- The lists of a graph, and what they are made of.
-use Rattle.std.specs.Prelude.{◌≡◌, ℕ, ◌<◌, ◌≤◌, Bool, false, List, [], ◌∷◌, ◌++◌, length, map, take, drop, slice_get, slice_index, slice_index_or, Option, Some, None, Result, Ok, Err}
+use Rattle.std.specs.Prelude.{◌≡◌, ℕ, ◌+◌, ◌-◌, ◌<◌, ◌≤◌, ◌⊎◌, Bool, true, false, List, [], ◌∷◌, ◌++◌, length, map, take, drop, slice_get, slice_index, slice_index_or, Option, Some, None, Result, Ok, Err}
 use Rattle.std.specs.List.{flat_map}
 use Rattle.cost_theory.specs.declared.edges.Edge.{Edge}
+use Rattle.cost_theory.specs.declared.edges.EdgeKind.TheVariants.{Next}
 use Rattle.cost_theory.specs.declared.edges.Word.{Word}
 use Rattle.cost_theory.specs.Reached.{edges_of}
 use Rattle.flow_passes.specs.declared.marks.Mark.{Mark}
 use Rattle.flow_passes.specs.declared.marks.Mark.TheVariants.{Unreached, Owner, Shared}
 use Rattle.call_orders.specs.declared.Arc.{Arc}
 use Rattle.call_orders.specs.Arcs.{HasArc, HasNoCycle, IsSorted, IsCycle}
+use Rattle.scale_base.specs.declared.ranges.Range.{Range}
 use Rattle.scale_base.specs.declared.refusal.Refusal.{Refusal}
 use Rattle.scale_base.specs.declared.refusal.Refusal.TheVariants.{Recursion}
 use Rattle.code_reach.specs.Reach.{Reach}
@@ -101,3 +103,55 @@ abbrev pub IsOrdered : List ℕ → List ℕ → List (Option ℕ) → Result (L
 IsOrdered entries owners callees (Ok order) = (arcs : List Arc) × AreCallArcs (length owners) owners callees arcs × IsSorted (length entries) arcs order × HasNoCycle arcs
 IsOrdered entries owners callees (Err refusal) =
     (arcs : List Arc) × AreCallArcs (length owners) owners callees arcs × (cycle : List ℕ) × IsCycle arcs cycle × (named : List ℕ) × (refusal ≡ Recursion named) × IsTurned (map (slice_index entries) cycle) named
+
+-- ---- blocks
+
+-- an edge of kind Next, by its number, that is the only one of the node where it starts, by that node's number
+pub record IsOnlyNext (edges : List Edge) (firsts : List ℕ) (source e : ℕ) : Type 0 where
+  pub edge : Edge
+  pub here : slice_get edges e ≡ Some edge
+  pub kind : edge.kind ≡ Next
+  pub first : slice_index firsts source ≡ e
+  pub next : slice_index firsts (source + 1) ≡ e + 1
+
+-- node k is the entry of its function
+abbrev pub IsEntryNode : List ℕ → List ℕ → List ℕ → ℕ → Type 0
+IsEntryNode nodes owners functions k = slice_index nodes k ≡ slice_index functions (slice_index owners k)
+
+-- an edge leads to node k that is not the only one of its node, of kind Next
+abbrev pub LeadsApart : List Edge → List ℕ → List ℕ → List (Option ℕ) → ℕ → ℕ → Type 0
+LeadsApart edges firsts sources targets e k = (slice_get targets e ≡ Some (Some k)) × (IsOnlyNext edges firsts (slice_index sources e) e → ⊥)
+
+-- by node whether it begins a block: the entries of functions do, and the nodes to which one of the first n edges leads apart
+pub record AreHeads (n : ℕ) (nodes owners functions : List ℕ) (edges : List Edge) (firsts sources : List ℕ) (targets : List (Option ℕ)) (heads : List Bool) : Type 0 where
+  pub size : length heads ≡ length nodes
+  pub entry : (k : ℕ) → k < length nodes → IsEntryNode nodes owners functions k → slice_get heads k ≡ Some true
+  pub apart : (e k : ℕ) → e < n → LeadsApart edges firsts sources targets e k → slice_get heads k ≡ Some true
+  pub only : (k : ℕ) → slice_get heads k ≡ Some true → IsEntryNode nodes owners functions k ⊎ ((e : ℕ) × (e < n) × LeadsApart edges firsts sources targets e k)
+
+-- the numbers below n of the flags that are up, ascending
+pub record AreUp (n : ℕ) (flags : List Bool) (numbers : List ℕ) : Type 0 where
+  pub few : length numbers ≤ n
+  pub up : (b k : ℕ) → slice_get numbers b ≡ Some k → (k < n) × (slice_get flags k ≡ Some true)
+  pub whole : (k : ℕ) → k < n → slice_get flags k ≡ Some true → (b : ℕ) × (slice_get numbers b ≡ Some k)
+  pub ascending : (b c j k : ℕ) → b < c → slice_get numbers b ≡ Some j → slice_get numbers c ≡ Some k → j < k
+
+-- the addresses from the node that begins block b up to the node before the next block's first
+abbrev pub stretch : List ℕ → List ℕ → ℕ → Range
+stretch nodes starts b = record {
+  from = slice_index nodes (slice_index starts b);
+  to = slice_index nodes (slice_index_or starts (b + 1) (length nodes) - 1) + 4;
+}
+
+-- the first n of these
+pub record AreStretches (n : ℕ) (nodes starts : List ℕ) (blocks : List Range) : Type 0 where
+  pub size : length blocks ≡ n
+  pub each : (b : ℕ) (block : Range) → slice_get blocks b ≡ Some block → block ≡ stretch nodes starts b
+
+-- the stretches between nodes that begin blocks
+pub record AreBlocksBy (nodes owners functions : List ℕ) (edges : List Edge) (firsts sources : List ℕ) (targets : List (Option ℕ)) (blocks : List Range) : Type 0 where
+  pub heads : List Bool
+  pub starts : List ℕ
+  pub heads_are : AreHeads (length edges) nodes owners functions edges firsts sources targets heads
+  pub starts_are : AreUp (length nodes) heads starts
+  pub blocks_are : AreStretches (length starts) nodes starts blocks

@@ -1,6 +1,7 @@
 -- The control-flow graph of a program's reached code, as lists: what a CodeGraph is seen as.
 -- Control-flow graphs and call graphs: Aho, Lam, Sethi and Ullman, Compilers, sections 8.4 and 12.1.
 use Rattle.std.specs.Prelude.{◌≡◌, ℕ, ◌<◌, ◌↔◌, List, [], ◌∷◌, map, slice_get, nat_eq, if◌then◌else◌, Option, Some}
+use Rattle.scale_base.specs.declared.ranges.Range.{Range}
 use Rattle.scale_base.specs.declared.stepping.Class.{Class}
 use Rattle.cost_theory.specs.declared.edges.Word.{Word}
 use Rattle.cost_theory.specs.declared.edges.Word.TheVariants.{Bad}
@@ -21,6 +22,8 @@ pub record FlowGraph : Type 0 where
   pub classes : List (Option Class)
   -- the numbers of the functions, callees first
   pub order : List ℕ
+  -- the basic blocks, ascending
+  pub blocks : List Range
 
 -- what stands beside an address, and a refused word at what is no node
 abbrev pub word_beside : List ℕ → List Word → ℕ → Word

@@ -4,3 +4,5 @@ pub mod Building
 pub mod Stored
 pub mod Finding
 pub mod Assembling
+pub mod Blocks
+pub mod Ends

@@ -3,6 +3,8 @@ use Rattle.std.specs.Prelude.{◌≡◌, ℕ, ◌+◌, ◌<◌, ◌≤◌, List,
 use Rattle.cost_theory.specs.declared.edges.Edge.{Edge}
 use Rattle.cost_theory.specs.Reached.{edge_at, callee_of}
 use Rattle.code_graph.specs.FlowGraph.{FlowGraph, IsFlowGraph}
+use Rattle.code_graph.specs.Blocks.{AreBlocks}
+use Rattle.code_graph.specs.Ends.{AreEdgeEnds}
 
 -- by number of the first n nodes the number of its first edge, and at last how many edges there are
 pub record AreFirsts (n : ℕ) (nodes : List ℕ) (edges : List Edge) (firsts : List ℕ) : Type 0 where
@@ -12,8 +14,8 @@ pub record AreFirsts (n : ℕ) (nodes : List ℕ) (edges : List Edge) (firsts : 
   pub own : (k e : ℕ) → k < n → slice_index firsts k ≤ e → e < slice_index firsts (k + 1) → edge_at (slice_get edges e) ≡ slice_index nodes k
   pub whole : (e : ℕ) → e < length edges → (k : ℕ) × (k < n) × (slice_index firsts k ≤ e) × (e < slice_index firsts (k + 1))
 
--- a graph of limited size, by node the function that is called, and the numbers of the nodes' first edges
-pub record IsStored (v : FlowGraph) (callees : List (Option ℕ)) (firsts : List ℕ) : Type 0 where
+-- a graph of limited size, by node the function that is called, the numbers of the nodes' first edges, and the ends of edges
+pub record IsStored (v : FlowGraph) (callees : List (Option ℕ)) (firsts sources : List ℕ) (targets : List (Option ℕ)) : Type 0 where
   pub flow : IsFlowGraph v
   pub few_nodes : length v.code.nodes ≤ 131072
   pub few_edges : length v.code.edges ≤ 262144
@@ -22,3 +24,6 @@ pub record IsStored (v : FlowGraph) (callees : List (Option ℕ)) (firsts : List
   pub owners : length v.code.owners ≡ length v.code.nodes
   pub callees_are : callees ≡ map (callee_of v.code.functions) v.kinds
   pub firsts_are : AreFirsts (length v.code.nodes) v.code.nodes v.code.edges firsts
+  pub ends_are : AreEdgeEnds v sources targets
+  pub few_blocks : length v.blocks ≤ length v.code.nodes
+  pub blocks_are : AreBlocks v v.blocks

@@ -8,7 +8,9 @@ ghost use Rattle.graph_runs.specs.Text.{text_of, kind_at};
 ghost use Rattle.code_graph.specs.Building.{IsBuilt};
 ghost use Rattle.code_graph.specs.Finding.{IsReachIn, reach_of};
 
+use crate::blocks::blocks_of;
 use crate::edges::{classes_of, edges_of};
+use crate::ends::ends_of;
 use crate::graph::CodeGraph;
 use crate::nodes::{callees_of, entries_of, nodes_of, returning_of};
 use crate::recursion::call_order_of;
@@ -45,6 +47,8 @@ fn graph_of(alloc: Global, view: &ImageView<'_>, reach: &TextReach) -> Result<Co
     let order = call_order_of(alloc, &functions, &nodes.owners, &callees)?;
     let lists = edges_of(alloc, &nodes.addresses, &nodes.kinds, &callees, &returning)?;
     let classes = classes_of(alloc, view, &lists.edges)?;
+    let ends = ends_of(alloc, &nodes.addresses, &lists.edges)?;
+    let blocks = blocks_of(alloc, &nodes, &functions, &lists, &ends)?;
     Ok(CodeGraph {
         nodes: nodes.addresses,
         kinds: nodes.kinds,
@@ -52,10 +56,12 @@ fn graph_of(alloc: Global, view: &ImageView<'_>, reach: &TextReach) -> Result<Co
         callees,
         firsts: lists.firsts,
         edges: lists.edges,
+        ends,
         classes,
         functions,
         returning,
         order,
+        blocks,
     })
 }
 

@@ -1,6 +1,6 @@
 //! The graph of reached code.
 
-ghost use Rattle.std.specs.Prelude.{◌≡◌, ◌<◌, ◌≤◌, ◌↔◌, ℕ, Some, None, length, map, slice_get, slice_index, IfOk};
+ghost use Rattle.std.specs.Prelude.{◌≡◌, ◌<◌, ◌≤◌, ◌↔◌, ℕ, List, Option, Some, None, length, map, slice_get, slice_index, IfOk};
 ghost use Rattle.power_model.specs.Price.{cycles_of};
 ghost use Rattle.cost_theory.specs.Reached as reached;
 ghost use Rattle.cost_theory.specs.Reached.{edge_at};
@@ -8,12 +8,15 @@ ghost use Rattle.graph_runs.specs.EdgeCosts.{cost_of};
 ghost use Rattle.graph_runs.specs.Text.{Text};
 ghost use Rattle.cost_theory.specs.Accepted.{AreWeights};
 ghost use Rattle.call_orders.specs.Arcs.{number_at};
+ghost use Rattle.code_graph.specs.Blocks.{AreBlocks};
+ghost use Rattle.code_graph.specs.Ends.{AreEdgeEnds};
 ghost use Rattle.code_graph.specs.FlowGraph.{graph, word_beside, IsFlowGraph, IsGraphOf};
 
+use crate::ends::{EdgeEnds, number_of};
 use crate::weights::{Weights, weights_of};
 use cost_theory::{Edge, EdgeKind, Word};
 use power_model::Costs;
-use scale_base::{Class, NoMemory};
+use scale_base::{Class, NoMemory, Range};
 use std::alloc::Global;
 use std::marker::Model;
 
@@ -28,10 +31,13 @@ pub struct CodeGraph {
     /// By node the number of its first edge, and at last how many edges there are.
     pub(crate) firsts: Vec<usize>,
     pub(crate) edges: Vec<Edge>,
+    /// By edge the numbers of the nodes where it starts and to which it leads.
+    pub(crate) ends: EdgeEnds,
     pub(crate) classes: Vec<Option<Class>>,
     pub(crate) functions: Vec<u32>,
     pub(crate) returning: Vec<bool>,
     pub(crate) order: Vec<usize>,
+    pub(crate) blocks: Vec<Range>,
 }
 
 impl Model for CodeGraph {
@@ -40,19 +46,9 @@ impl Model for CodeGraph {
 
     ghost Value = { FlowGraph };
 
-    ghost view = { λ g. record { code = record { nodes = g.nodes.items; edges = g.edges.items; functions = g.functions.items; owners = g.owners.items; returning = g.returning.items }; kinds = g.kinds.items; classes = g.classes.items; order = g.order.items } };
+    ghost view = { λ g. record { code = record { nodes = g.nodes.items; edges = g.edges.items; functions = g.functions.items; owners = g.owners.items; returning = g.returning.items }; kinds = g.kinds.items; classes = g.classes.items; order = g.order.items; blocks = g.blocks.items } };
 
-    ghost invariant = { λ g. IsStored (record { code = record { nodes = g.nodes.items; edges = g.edges.items; functions = g.functions.items; owners = g.owners.items; returning = g.returning.items }; kinds = g.kinds.items; classes = g.classes.items; order = g.order.items }) g.callees.items g.firsts.items };
-}
-
-/// The address to which an edge leads.
-fn place_after(edge: Edge) -> Option<u32>
-    ensures { result ≡ reached.edge_to (Some edge) }
-{
-    match edge.kind {
-        EdgeKind::End => None,
-        _ => Some(edge.to),
-    }
+    ghost invariant = { λ g. IsStored (record { code = record { nodes = g.nodes.items; edges = g.edges.items; functions = g.functions.items; owners = g.owners.items; returning = g.returning.items }; kinds = g.kinds.items; classes = g.classes.items; order = g.order.items; blocks = g.blocks.items }) g.callees.items g.firsts.items g.ends.sources.items g.ends.targets.items };
 }
 
 fn is_back(word: Word) -> bool
@@ -91,33 +87,20 @@ impl CodeGraph {
         self.nodes[k]
     }
 
-    /// The number of the node at an address, by halving.
-    fn search(&self, at: u32) -> Option<usize>
-        ensures { (k : ℕ) → (result ≡ Some k) ↔ (slice_get self.now.code.nodes k ≡ Some at) }
-    {
-        self.nodes.binary_search(&at).ok()
-    }
-
     /// The number of the node at an address. None exactly where no node is there.
     pub fn find(&self, at: u32) -> Option<usize>
         ensures { (k : ℕ) → (result ≡ Some k) ↔ (slice_get self.now.code.nodes k ≡ Some at) }
     {
-        // Where each word of the text is reached, the nodes stand without gaps.
-        let first = self.nodes.first().copied().unwrap_or(0);
-        let place = (at.wrapping_sub(first) / 4) as usize;
-        if place < self.nodes.len() && self.nodes[place] == at {
-            Some(place)
-        } else {
-            self.search(at)
-        }
+        number_of(&self.nodes, at)
     }
 
     /// The number of the node at which edge `e` starts.
-    fn source(&self, e: usize) -> usize
+    pub fn source(&self, e: usize) -> usize
         requires { e < length self.now.code.edges }
-        ensures { slice_get self.now.code.nodes result ≡ Some ((graph self.now).source e) }
+        ensures node { slice_get self.now.code.nodes result ≡ Some ((graph self.now).source e) }
+        ensures within { result < length self.now.code.nodes }
     {
-        self.find(self.edges[e].at).unwrap()
+        self.ends.sources[e]
     }
 
     /// What the word at which edge `e` starts says of the way on.
@@ -160,10 +143,21 @@ impl CodeGraph {
         ensures within { (k : ℕ) → result ≡ Some k → k < length self.now.code.nodes }
         ensures none { result ≡ None → (graph self.now).target e ≡ None }
     {
-        match place_after(self.edges[e]) {
-            Some(at) => self.find(at),
-            None => None,
-        }
+        self.ends.targets[e]
+    }
+
+    /// By edge, the number of the node at which it starts.
+    pub fn sources(&self) -> &[usize]
+        ensures { (targets : List (Option ℕ)) × AreEdgeEnds self.now result.now targets }
+    {
+        &self.ends.sources
+    }
+
+    /// By edge, the number of the node to which it leads. None for an `End` edge.
+    pub fn targets(&self) -> &[Option<usize>]
+        ensures { (sources : List ℕ) × AreEdgeEnds self.now sources result.now }
+    {
+        &self.ends.targets
     }
 
     /// The number of the function that edge `e` calls. Some exactly for the edges of a call.
@@ -221,6 +215,23 @@ impl CodeGraph {
         ensures { result.now ≡ self.now.order }
     {
         &self.order
+    }
+
+    /// How many basic blocks there are. They ascend by their addresses.
+    pub fn block_count(&self) -> usize
+        ensures count { result ≡ length self.now.blocks }
+        ensures few { result ≤ 131072 }
+        ensures blocks { AreBlocks self.now self.now.blocks }
+    {
+        self.blocks.len()
+    }
+
+    /// The addresses of basic block `b`.
+    pub fn block(&self, b: usize) -> Range
+        requires { b < length self.now.blocks }
+        ensures { slice_get self.now.blocks b ≡ Some result }
+    {
+        self.blocks[b]
     }
 
     /// The cost of each edge in cycles: that of the class of its step, and 0 for an EBREAK, whose step isn't completed. In the graph of

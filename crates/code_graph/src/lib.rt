@@ -1,8 +1,10 @@
 //! The control-flow graph of a program's reached code: nodes by address, edges, functions, calls and the weights of edges.
 #![tactic(auto)]
 
+mod blocks;
 mod build;
 mod edges;
+mod ends;
 mod graph;
 mod nodes;
 mod recursion;

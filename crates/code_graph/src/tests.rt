@@ -173,3 +173,131 @@ fn weighs_edges_by_their_steps(rt: HostRuntime) -> Result<(), Fail> {
     assert_eq!(rt; sum, 4_566_196);
     Ok(())
 }
+
+/// The blocks of the program of some words, told one after another.
+fn blocks_of_words(alloc: Global, words: &[u32]) -> Result<Vec<(u32, u32)>, Fail> {
+    let file = file_of(alloc, words).ok().ok_or("there is memory")?;
+    let view = read_image(alloc, &file).ok().ok_or("the file is an image")?;
+    let graph = build_graph(alloc, &view).ok().ok_or("it is a program")?;
+    let mut told = Vec::new(alloc);
+    for b in 0..graph.block_count() {
+        let block = graph.block(b);
+        told.push((block.from, block.to))
+            .ok()
+            .ok_or("there is memory")?;
+    }
+    Ok(told)
+}
+
+#[test]
+fn a_straight_text_is_one_block(rt: HostRuntime) -> Result<(), Fail> {
+    let blocks = blocks_of_words(rt.alloc(), &[0x0000_0513, EXIT, ECALL])?;
+    assert_eq!(rt; blocks.as_slice(), &[(0x10000, 0x1000C)][..]);
+    Ok(())
+}
+
+/// A branch over two words.
+#[test]
+fn a_branch_ends_a_block(rt: HostRuntime) -> Result<(), Fail> {
+    let words = [0x0000_0663, 0x0000_0513, 0x0000_0513, EXIT, ECALL];
+    let blocks = blocks_of_words(rt.alloc(), &words)?;
+    assert_eq!(rt;
+        blocks.as_slice(),
+        &[(0x10000, 0x10004), (0x10004, 0x1000C), (0x1000C, 0x10014)][..]
+    );
+    Ok(())
+}
+
+/// It reads bytes until there are none.
+#[test]
+fn a_loop_begins_a_block(rt: HostRuntime) -> Result<(), Fail> {
+    let words = [
+        0x0001_0593,
+        0x0010_0613,
+        0x03F0_0893,
+        0x0000_0513,
+        ECALL,
+        0xFE05_1AE3,
+        EXIT,
+        ECALL,
+    ];
+    let blocks = blocks_of_words(rt.alloc(), &words)?;
+    assert_eq!(rt;
+        blocks.as_slice(),
+        &[(0x10000, 0x10008), (0x10008, 0x10018), (0x10018, 0x10020)][..]
+    );
+    Ok(())
+}
+
+/// A call of the last word, which returns.
+#[test]
+fn a_call_ends_a_block(rt: HostRuntime) -> Result<(), Fail> {
+    let words = [0x0000_0513, 0x00C0_00EF, EXIT, ECALL, 0x0000_0513, RETURN];
+    let blocks = blocks_of_words(rt.alloc(), &words)?;
+    assert_eq!(rt;
+        blocks.as_slice(),
+        &[(0x10000, 0x10008), (0x10008, 0x10010), (0x10010, 0x10018)][..]
+    );
+    Ok(())
+}
+
+/// Register 17 is loaded with 93 or with 63, so that the service may exit or not.
+#[test]
+fn a_service_that_may_exit_ends_a_block(rt: HostRuntime) -> Result<(), Fail> {
+    let words = [0x0000_0463, 0x03F0_0893, ECALL, 0x0000_0513, EXIT, ECALL];
+    let blocks = blocks_of_words(rt.alloc(), &words)?;
+    assert_eq!(rt;
+        blocks.as_slice(),
+        &[
+            (0x10000, 0x10004),
+            (0x10004, 0x10008),
+            (0x10008, 0x1000C),
+            (0x1000C, 0x10018)
+        ][..]
+    );
+    Ok(())
+}
+
+/// A function at 0x10010 that goes back to the word before its entry.
+#[test]
+fn an_entry_begins_a_block(rt: HostRuntime) -> Result<(), Fail> {
+    let words = [0x0100_00EF, EXIT, ECALL, 0x0000_0513, 0xFE05_0EE3, RETURN];
+    let blocks = blocks_of_words(rt.alloc(), &words)?;
+    assert_eq!(rt;
+        blocks.as_slice(),
+        &[
+            (0x10000, 0x10004),
+            (0x10004, 0x1000C),
+            (0x1000C, 0x10010),
+            (0x10010, 0x10014),
+            (0x10014, 0x10018)
+        ][..]
+    );
+    Ok(())
+}
+
+/// The second function stands right behind the first, and each is one block.
+#[test]
+fn functions_have_blocks_of_their_own(rt: HostRuntime) -> Result<(), Fail> {
+    let words = [
+        0x00C0_00EF,
+        0x0100_00EF,
+        0x0000_006F,
+        0x0000_0513,
+        RETURN,
+        0x0000_0513,
+        RETURN,
+    ];
+    let blocks = blocks_of_words(rt.alloc(), &words)?;
+    assert_eq!(rt;
+        blocks.as_slice(),
+        &[
+            (0x10000, 0x10004),
+            (0x10004, 0x10008),
+            (0x10008, 0x1000C),
+            (0x1000C, 0x10014),
+            (0x10014, 0x1001C)
+        ][..]
+    );
+    Ok(())
+}

@@ -1,11 +1,6 @@
 use Rattle.std.proofs.Common.{rules}
-use Rattle.std.specs.Prelude.{IfOk}
-use Rattle.cost_theory.specs.Accepted.{AreWeights}
-use Rattle.call_orders.specs.Arcs.{number_at}
 use Rattle.power_model.specs.Price.{cycles_of}
-use Rattle.graph_runs.specs.EdgeCosts.{cost_of}
-use Rattle.code_graph.specs.FlowGraph.{graph}
-use Rattle.code_graph.proofs.WeightLists.{weights_hold, listed_weights}
+use Rattle.code_graph.proofs.WeightLists.{weights_hold}
 use Rattle.code_graph.proofs.graph.CodeGraph.base_weights.Goals as goal
 
 pub returns-clause-calls : goal.returns-clause-calls

@@ -1,19 +1,15 @@
-use Rattle.std.proofs.Common.{◌≡◌, ℕ, Some, sym, ap, ◌∙◌, subst}
-use Rattle.std.specs.Prelude.{slice_get, is_some}
-use Rattle.cost_theory.specs.Reached.{edge_at}
-use Rattle.code_graph.specs.FlowGraph.{FlowGraph, IsFlowGraph}
-use Rattle.code_graph.proofs.Graphs.{source_node, edge_read}
+use Rattle.std.proofs.Common.{◌<◌, length, refl, subst, arith}
+use Rattle.std.proofs.lemmas.Option.{slice_get_read, slice_get_within}
+use Rattle.code_graph.specs.FlowGraph.{FlowGraph}
+use Rattle.code_graph.specs.Stored.{IsStored}
 use Rattle.code_graph.proofs.graph.CodeGraph.source.Goals as goal
 
-pub unwrap-requires : goal.unwrap-requires
-unwrap-requires c =
+pub returns-clause-node : goal.returns-clause-node
+returns-clause-node c =
     let v : FlowGraph = c.args.self.now in
-    let flow : IsFlowGraph v = subst IsFlowGraph c.self.view_is c.self.invariant.flow in
-    let node : (k : ℕ) × (slice_get v.code.nodes k ≡ Some (edge_at (slice_get v.code.edges c.args.e))) = source_node v c.args.e flow c.requires in
-    let edge = edge_read v.code.edges c.self.inside.edges.items c.args.e c.index.result.now (ap (λ g. g.code.edges) c.self.view_is) c.requires c.index.ensures in
-    ap is_some ((c.find.ensures node.0).1 (node.1 ∙ ap (λ o. Some (edge_at o)) edge))
+    let is : IsStored v c.self.inside.callees.items c.self.inside.firsts.items c.self.inside.ends.sources.items c.self.inside.ends.targets.items = subst (λ w. IsStored w c.self.inside.callees.items c.self.inside.firsts.items c.self.inside.ends.sources.items c.self.inside.ends.targets.items) c.self.view_is c.self.invariant in
+    let within : c.args.e < length c.self.inside.ends.sources.items = (let e = c.requires in let s = is.ends_are.sources_size in omega arith) in
+    is.ends_are.source c.args.e c.index.result.now (slice_get_read c.self.inside.ends.sources.items _ c.args.e c.index.result.now refl within c.index.ensures)
 
-pub returns : goal.returns
-returns c =
-    let edge = edge_read c.args.self.now.code.edges c.self.inside.edges.items c.args.e c.index.result.now (ap (λ g. g.code.edges) c.self.view_is) c.requires c.index.ensures in
-    (c.find.ensures c.unwrap.result).0 c.unwrap.ensures ∙ sym (ap (λ o. Some (edge_at o)) edge)
+pub returns-clause-within : goal.returns-clause-within
+returns-clause-within c = slice_get_within c.args.self.now.code.nodes c.index.result.now _ (returns-clause-node c)

@@ -9,8 +9,8 @@ use Rattle.code_graph.proofs.graph.CodeGraph.word.Goals as goal
 pub returns : goal.returns
 returns c =
     let v : FlowGraph = c.args.self.now in
-    let is : IsStored v c.self.inside.callees.items c.self.inside.firsts.items = subst (λ w. IsStored w c.self.inside.callees.items c.self.inside.firsts.items) c.self.view_is c.self.invariant in
+    let is : IsStored v c.self.inside.callees.items c.self.inside.firsts.items c.self.inside.ends.sources.items c.self.inside.ends.targets.items = subst (λ w. IsStored w c.self.inside.callees.items c.self.inside.firsts.items c.self.inside.ends.sources.items c.self.inside.ends.targets.items) c.self.view_is c.self.invariant in
     let kinds : c.self.inside.kinds.items ≡ v.kinds = ap (λ g. g.kinds) c.self.view_is in
-    let within : c.source.result < length c.self.inside.kinds.items = (let k = slice_get_within v.code.nodes c.source.result _ c.source.ensures in let s = is.kinds in let t = ap length kinds in omega arith) in
-    stored_word v _ _ is c.source.result _ c.index.result.now c.source.ensures
+    let within : c.source.result < length c.self.inside.kinds.items = (let k = slice_get_within v.code.nodes c.source.result _ c.source.ensures.node in let s = is.kinds in let t = ap length kinds in omega arith) in
+    stored_word v _ _ _ _ is c.source.result _ c.index.result.now c.source.ensures.node
     (ap (λ xs. slice_get xs c.source.result) (sym kinds) ∙ slice_get_read c.self.inside.kinds.items _ c.source.result c.index.result.now refl within c.index.ensures)
