@@ -1,4 +1,5 @@
 pub mod Aligned
+pub mod Words
 pub mod Kept
 pub mod Graphs
 pub mod ChosenMarks

@@ -3,12 +3,17 @@
 #![tactic(auto)]
 
 ghost use Rattle.marked_runs.specs.Met.{HypothesesAreMet};
-ghost use Rattle.marked_runs.specs.Laws.{KeptRunsAreFollowed, KeptRunsStayInText, LoopsAreCountable, MarksCount, MovesCostExtraWeights, MovesCostStoredWeights, StoredWeightsAreWeights, TargetsAreWords};
+ghost use Rattle.marked_runs.specs.Laws.{KeptRunsAreFollowed, KeptRunsArePatched, KeptRunsStayInText, LoopsAreCountable, MarksCount, MovesCostExtraWeights, MovesCostStoredWeights, PatchedWeightsAreWeights, StoredWeightsAreWeights, TargetsAreWords};
 
 /// The stored image follows each kept run, which stays in the text.
 pub fn kept_runs_are_followed()
     ensures followed { KeptRunsAreFollowed }
     ensures text { KeptRunsStayInText }
+{}
+
+/// So does every image of which some instructions are patched, wherever their stubs stand, and where a loop may have several counters.
+pub fn kept_runs_are_patched()
+    ensures { KeptRunsArePatched }
 {}
 
 /// A kept run costs under the stored weights of its edges what its steps cost with their stubs.
@@ -22,6 +27,7 @@ pub fn graphs_can_be_marked()
     ensures targets { TargetsAreWords }
     ensures countable { LoopsAreCountable }
     ensures weights { StoredWeightsAreWeights }
+    ensures patched { PatchedWeightsAreWeights }
 {}
 
 /// The hypotheses of these laws are met together: by the image of a file of three instructions, the first of which branches to itself and is

@@ -18,9 +18,10 @@ use Rattle.stub_writer.specs.Stubs.{Site}
 use Rattle.shadow_counts.specs.Shadows.{AreCountable}
 use Rattle.marked_runs.specs.Marked.{extra_weights, AreMarked, IsKeptFollowed}
 use Rattle.leg_prices.specs.Paid.{period, costs_of}
-use Rattle.paid_runs.specs.Timely.{weights_of, AreTables, IsPaidRun}
+use Rattle.paid_runs.specs.Timely.{weights_of, AreTables, AreTablesOf, IsPaidRun}
 use Rattle.paid_runs.specs.Scaled.{IsScaled, IsSafeRun}
-use Rattle.paid_runs.specs.Tabled.{AreTabled}
+use Rattle.paid_runs.specs.Patched.{IsTuned, IsTunedRun}
+use Rattle.paid_runs.specs.Tabled.{AreTabled, AreTabledOf}
 use Rattle.graph_runs.specs.KeptSteps.{by_extents}
 use Rattle.graph_runs.specs.KeptRuns.{kept_of}
 use Rattle.graph_runs.specs.Text.{Text}
@@ -60,3 +61,14 @@ abbrev pub ScaledRunsAreSafe : Type 0
 ScaledRunsAreSafe = (power : PowerModel) (file : List ℕ) (image : Image) (limits : ℕ → ℕ) (sites : List Site) (base start : ℕ) (stored : Image)
     (code : Code) (l : Loops) (extent : ℕ → ℕ → Bool) (counted : ℕ → Bool) (word : ℕ → ℕ) (n : Numbers) (least : Least) (more : Numbers) → IsScaled power file image limits sites base start stored code l extent counted word n least more →
     (input : List ℕ) (steps : ℕ) (c : Carried) → kept_of image (length power.levels) input (by_extents l extent) steps ≡ Some c → IsSafeRun power image stored sites start code l counted word n more input steps c
+
+-- Every kept run of a tuned image is safe.
+abbrev pub TunedRunsAreSafe : Type 0
+TunedRunsAreSafe = (power : PowerModel) (image patched : Image) (limits : ℕ → ℕ) (sites : List Site) (start : ℕ)
+    (code : Code) (l : Loops) (extent : ℕ → ℕ → Bool) (is_of : ℕ → ℕ → Bool) (n : Numbers) (least : Least) (more : Numbers) → IsTuned power image patched limits sites start code l extent is_of n least more →
+    (input : List ℕ) (steps : ℕ) (c : Carried) → kept_of image (length power.levels) input (by_extents l extent) steps ≡ Some c → IsTunedRun power image patched sites start code l is_of n more input steps c
+
+-- Tables whose entries meet their tests keep a run in time and pay, where a loop may have several counters.
+abbrev pub TablesOfKeepTime : Type 0
+TablesOfKeepTime = (power : PowerModel) (t : Text) (code : Code) (l : Loops) (sites : List Site) (is_of : ℕ → ℕ → Bool) (n : Numbers) (least : Least) →
+    AreTabledOf power t code l sites is_of n least → AreTablesOf power t code l sites is_of n least

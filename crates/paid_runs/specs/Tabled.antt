@@ -73,3 +73,37 @@ IsTabledBy power g l w n least counted word e (Count counter ∷ fs) = Unit {0}
 abbrev pub AreTabled : PowerModel → Text → Code → Loops → List Site → (ℕ → Bool) → (ℕ → ℕ) → Numbers → Least → Type 0
 AreTabled power t code l sites counted word n least = (e : ℕ) (class : Class) → e < (text_graph t code).edges → edge_class t (slice_get code.edges e) ≡ Some class
     → IsTabledBy power (text_graph t code) l (weights_of power t code sites) n least counted word e (fragments_by (place_at sites (edge_at (slice_get code.edges e))) class)
+
+-- ---- the same where a loop may have several counters: `is_of w k` tells that the word w counts loop k
+
+pub record AreRowsOf (power : PowerModel) (g : Graph) (l : Loops) (w : ℕ → ℕ) (n : Numbers) (least : Option ℕ) (is_of : ℕ → ℕ → Bool) (e tail counter shift : ℕ) (rows : List ℕ) : Type 0 where
+  pub loop : ℕ
+  pub low : loop < l.loops
+  pub counts : is_of counter loop ≡ true
+  pub left : leaves l loop (g.source e) (g.target e) ≡ true
+  pub enough : l.bound loop / 2 ^ shift < length rows
+  pub entries : (j i : ℕ) → j < length rows → i < length power.levels
+      → IsEntry power (rest g l n e + tail) (slack g l n (cost g n w) e + turns_left (l.bound loop) shift j * n.iteration loop) (with_tail tail least) i (nibble (slice_index rows j) i)
+
+abbrev pub IsTableOf : PowerModel → Graph → Loops → (ℕ → ℕ) → Numbers → Option ℕ → (ℕ → ℕ → Bool) → (e tail : ℕ) → Fragment → Type 0
+IsTableOf power g l w n least is_of e tail (Switch table) = (i : ℕ) → i < length power.levels → IsEntry power (rest g l n e + tail) (slack g l n (cost g n w) e) (with_tail tail least) i (nibble table i)
+IsTableOf power g l w n least is_of e tail (Exit counter shift rows) = AreRowsOf power g l w n least is_of e tail counter shift rows
+IsTableOf power g l w n least is_of e tail (Reset counter) = ⊥
+IsTableOf power g l w n least is_of e tail (Count counter) = ⊥
+
+pub record IsEdgeTabled (power : PowerModel) (g : Graph) (l : Loops) (w : ℕ → ℕ) (n : Numbers) (least : Least) (is_of : ℕ → ℕ → Bool) (e tail : ℕ) (f : Fragment) : Type 0 where
+  pub inside : g.callee e ≡ None
+  pub target : ℕ
+  pub leads : g.target e ≡ Some target
+  pub table : IsTableOf power g l w n (least.to_end target) is_of e tail f
+
+abbrev pub IsEdgeTabledBy : PowerModel → Graph → Loops → (ℕ → ℕ) → Numbers → Least → (ℕ → ℕ → Bool) → ℕ → List Fragment → Type 0
+IsEdgeTabledBy power g l w n least is_of e [] = Unit {0}
+IsEdgeTabledBy power g l w n least is_of e (Switch table ∷ fs) = IsEdgeTabled power g l w n least is_of e (tail_cycles (costs_of power) (Switch table ∷ fs)) (Switch table)
+IsEdgeTabledBy power g l w n least is_of e (Exit counter shift rows ∷ fs) = IsEdgeTabled power g l w n least is_of e (tail_cycles (costs_of power) (Exit counter shift rows ∷ fs)) (Exit counter shift rows)
+IsEdgeTabledBy power g l w n least is_of e (Reset counter ∷ fs) = Unit {0}
+IsEdgeTabledBy power g l w n least is_of e (Count counter ∷ fs) = Unit {0}
+
+abbrev pub AreTabledOf : PowerModel → Text → Code → Loops → List Site → (ℕ → ℕ → Bool) → Numbers → Least → Type 0
+AreTabledOf power t code l sites is_of n least = (e : ℕ) (class : Class) → e < (text_graph t code).edges → edge_class t (slice_get code.edges e) ≡ Some class
+    → IsEdgeTabledBy power (text_graph t code) l (weights_of power t code sites) n least is_of e (fragments_by (place_at sites (edge_at (slice_get code.edges e))) class)
