@@ -24,18 +24,21 @@ pub enum Why {
     Layout,
     /// The byte loaded at the address is not the original's.
     Byte(u32),
-    /// The word at the address is neither the original's nor a jump into the keyed segment in place of a branch or jump of the graph.
+    /// The word at the address of the text isn't the original's, and isn't a jump to a multiple of 4 in the keyed segment in place of a
+    /// reached branch or jump that links no register.
     Patch(u32),
     /// The stub of the instruction at the address is not in its form.
     Stub(u32),
-    /// The counter counts no loop.
+    /// The counter is used, and counts no loop: its count doesn't stand once on each back edge of a loop and nowhere else, or its exit or
+    /// reset not once on each edge that leaves the loop and nowhere else.
     Counter(u16),
-    /// The worst cycles are over the limit.
+    /// The worst cycles with the stubs are over 2^48.
     TooLong,
-    /// The starting level, and how many levels the machine has.
+    /// The level of the keyed segment is none of the machine's: it, and how many levels there are.
     Start(u32, u32),
-    /// The time that is needed, and the deadline.
+    /// The worst time at the level of the keyed segment, which is over the deadline, and the deadline, in time units.
     TooSlow(u128, u64),
-    /// A fragment at the address leads from the level to one that is higher, or too low.
+    /// A table on an edge of the instruction at the address leads from the level to a higher one, or to a lower one that isn't in time or
+    /// doesn't pay.
     Level(u32, u8),
 }

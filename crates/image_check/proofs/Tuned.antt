@@ -195,7 +195,7 @@ module _ (power : PowerModel) (original foreign : Image) (code : Code) (l : Loop
           let r = call_returns code (kind_at t edge.at) in
           let within = subst (λ v. Within edge (edges_of (kind_at t v) v (call_returns code (kind_at t v)))) (sym source.3) source.2 in
           let local = local_by e edge p.old_instr r p.can_be kind (subst (λ k. Within edge (edges_of k edge.at r)) kind within) in
-          let target : g.target e ≡ Some local.1.0 = ap edge_to there ∙ local.1.1 in
+          let target : g.target e ≡ Some local.1.0 = ◌∙◌ {c = Some local.1.0} (ap edge_to there) local.1.1 in
           let inside : g.callee e ≡ None = callee_word (kind_at t) code.functions code.edges e lt ∙ (ap (λ o. callee_of code.functions (kind_at t (edge_at o))) there ∙ local.0) in
           tabled power foreign l owner n bytes g w least e local.1.0 inside target (found edge.at edge.kind) (own_of e edge lt there) (safe_words e edge lt there local.1.0 target)
 
