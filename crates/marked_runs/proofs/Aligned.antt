@@ -1,5 +1,5 @@
 -- A run's moves beside its steps: what they cost, and what they do to the counters.
-use Rattle.std.proofs.Common.{◌≡◌, ℕ, ◌+◌, ◌<◌, Bool, true, false, cond, ◌&&◌, List, [], ◌∷◌, map, refl, sym, ap, ◌∙◌, subst, arith, Some, None}
+use Rattle.std.proofs.Common.{◌≡◌, ℕ, ◌+◌, Bool, true, false, cond, ◌&&◌, List, [], ◌∷◌, map, refl, sym, ap, ◌∙◌, subst, arith, Some, None}
 use Rattle.std.specs.Prelude.{slice_get}
 use Rattle.std.specs.List.{sum_by}
 use Rattle.std.proofs.lemmas.List.Sums.{sum_by-cons}
@@ -16,7 +16,8 @@ use Rattle.graph_runs.specs.RunMoves.{text_graph, places_of, classes_of}
 use Rattle.stub_writer.specs.Stubs.{Site}
 use Rattle.stored_runs.specs.Marks.{Shadow, place_at, fragments_by, counters_behind, extra_cycles, stored_cycles, shadow_more, shadow_after}
 use Rattle.shadow_counts.specs.Shadows.{count_over, counted_move, counted_moves}
-use Rattle.marked_runs.specs.Marked.{extra_by, extra_weights, stored_weights, AreMarked}
+use Rattle.marked_runs.specs.Marked.{extra_by, extra_weights, stored_weights}
+use Rattle.marked_runs.specs.Counters.{AreCounted}
 
 -- the moves start where the steps do, and go over edges of their classes
 pub record AreAligned (t : Text) (code : Code) (ms : List steps.Move) (xs : List Stepped) : Type 0 where
@@ -85,7 +86,7 @@ no_count g l k e n to =
     by_source true = refl
     by_source false = refl
 
-module _ (t : Text) (code : Code) (l : Loops) (sites : List Site) (counted : ℕ → Bool) (word : ℕ → ℕ) (prog : IsProgram (text_graph t code)) (marked : AreMarked t code l sites counted word) where
+module _ (t : Text) (code : Code) (l : Loops) (sites : List Site) (is_of : ℕ → ℕ → Bool) (prog : IsProgram (text_graph t code)) (marked : AreCounted t code l sites is_of) where
   moved : (s : steps.State) (m : steps.Move) (counts : ℕ → ℕ) (k : ℕ) → steps.IsKept (text_graph t code) l s m → count_over (text_graph t code) l k (steps.edge_of m) (counts k) ≡ counted_move (text_graph t code) l counts m k
   moved s (Along e) counts k kept = refl
   moved s (Call e f) counts k kept = no_count (text_graph t code) l k e (counts k) kept.move.1
@@ -94,24 +95,24 @@ module _ (t : Text) (code : Code) (l : Loops) (sites : List Site) (counted : ℕ
 
   -- behind one move
   pub counted_after : (m : steps.Move) (ms : List steps.Move) (x : Stepped) (xs : List Stepped) (s : steps.State) (h : Shadow) (counts : ℕ → ℕ) → steps.IsKept (text_graph t code) l s m → IsFirst t code m ms x xs
-      → ((k : ℕ) → k < l.loops → counted k ≡ true → h.counters (word k) ≡ counts k) → (k : ℕ) → k < l.loops → counted k ≡ true → (shadow_more sites h x).counters (word k) ≡ counted_move (text_graph t code) l counts m k
-  counted_after m ms x xs s h counts kept f same k kl ck =
-      sym (ap (λ at. counters_behind (fragments_by (place_at sites at) x.class) h.counters (word k)) f.place)
-      ∙ (marked.loops (steps.edge_of m) x.class kept.edge f.class k kl ck h.counters
-      ∙ (ap (count_over (text_graph t code) l k (steps.edge_of m)) (same k kl ck) ∙ moved s m counts k kept))
+      → (w k : ℕ) → is_of w k ≡ true → h.counters w ≡ counts k → (shadow_more sites h x).counters w ≡ counted_move (text_graph t code) l counts m k
+  counted_after m ms x xs s h counts kept f w k is same =
+      sym (ap (λ at. counters_behind (fragments_by (place_at sites at) x.class) h.counters w) f.place)
+      ∙ (marked.counts (steps.edge_of m) x.class kept.edge f.class w k is h.counters
+      ∙ (ap (count_over (text_graph t code) l k (steps.edge_of m)) same ∙ moved s m counts k kept))
 
-  pub counters_are : (ms : List steps.Move) (xs : List Stepped) (s : steps.State) (h : Shadow) (counts : ℕ → ℕ) → steps.AreKept (text_graph t code) l s ms → AreAligned t code ms xs
-      → ((k : ℕ) → k < l.loops → counted k ≡ true → h.counters (word k) ≡ counts k) → (k : ℕ) → k < l.loops → counted k ≡ true → (shadow_after sites h xs).counters (word k) ≡ counted_moves (text_graph t code) l counts ms k
-  counters_are [] [] s h counts kept aligned same k kl c = same k kl c
-  counters_are [] (x ∷ xs) s h counts kept aligned same k kl c = let bad = aligned.places in absurd cc
-  counters_are (m ∷ ms) [] s h counts kept aligned same k kl c = let bad = aligned.places in absurd cc
-  counters_are (m ∷ ms) (x ∷ xs) s h counts kept aligned same k kl c =
+  pub counters_are : (w k : ℕ) → is_of w k ≡ true → (ms : List steps.Move) (xs : List Stepped) (s : steps.State) (h : Shadow) (counts : ℕ → ℕ) → steps.AreKept (text_graph t code) l s ms → AreAligned t code ms xs
+      → h.counters w ≡ counts k → (shadow_after sites h xs).counters w ≡ counted_moves (text_graph t code) l counts ms k
+  counters_are w k is [] [] s h counts kept aligned same = same
+  counters_are w k is [] (x ∷ xs) s h counts kept aligned same = let bad = aligned.places in absurd cc
+  counters_are w k is (m ∷ ms) [] s h counts kept aligned same = let bad = aligned.places in absurd cc
+  counters_are w k is (m ∷ ms) (x ∷ xs) s h counts kept aligned same =
       let f = first_of_both t code m ms x xs aligned in
-      counters_are ms xs (steps.after (text_graph t code) l s m) (shadow_more sites h x) (counted_move (text_graph t code) l counts m) kept.1 f.rest
-      (counted_after m ms x xs s h counts kept.0 f same) k kl c
+      counters_are w k is ms xs (steps.after (text_graph t code) l s m) (shadow_more sites h x) (counted_move (text_graph t code) l counts m) kept.1 f.rest
+      (counted_after m ms x xs s h counts kept.0 f w k is same)
 
   -- a word that is no loop's stays as it is
-  pub others_are : (w : ℕ) → ((k : ℕ) → k < l.loops → counted k ≡ true → word k ≡ w → ⊥) → (ms : List steps.Move) (xs : List Stepped) (s : steps.State) (h : Shadow) → steps.AreKept (text_graph t code) l s ms → AreAligned t code ms xs
+  pub others_are : (w : ℕ) → ((k : ℕ) → is_of w k ≡ true → ⊥) → (ms : List steps.Move) (xs : List Stepped) (s : steps.State) (h : Shadow) → steps.AreKept (text_graph t code) l s ms → AreAligned t code ms xs
       → (shadow_after sites h xs).counters w ≡ h.counters w
   others_are w none [] [] s h kept aligned = refl
   others_are w none [] (x ∷ xs) s h kept aligned = let bad = aligned.places in absurd cc

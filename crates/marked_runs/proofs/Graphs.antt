@@ -1,13 +1,13 @@
 -- What is so of the graph of a text's reached code, for its marks.
-use Rattle.std.proofs.Common.{◌≡◌, ℕ, suc, ◌+◌, ◌*◌, ◌<◌, Bool, true, false, cond, not, ◌&&◌, List, [], ◌∷◌, refl, sym, ap, ◌∙◌, subst, arith, Option, Some, None, ⊎_elim, slice_get}
+use Rattle.std.proofs.Common.{◌≡◌, ℕ, suc, ◌+◌, ◌*◌, ◌<◌, Bool, true, false, cond, not, ◌&&◌, ◌%◌, List, [], ◌∷◌, refl, sym, ap, ◌∙◌, subst, arith, Option, Some, None, ⊎_elim, slice_get}
 use Rattle.std.specs.Prelude.{All, ◌==◌}
-use Rattle.std.specs.List.{sum_by}
-use Rattle.std.proofs.lemmas.Bool.{eqb-true, false_from_ne_true}
+use Rattle.std.specs.List.{sum_by, list_any}
+use Rattle.std.proofs.lemmas.Bool.{eqb-true, false_from_ne_true, and_from, eq-eqb}
 use Rattle.scale_base.specs.declared.instruction.Instr.{Instr}
 use Rattle.scale_base.specs.declared.instruction.Instr.TheVariants as instr
 use Rattle.scale_base.specs.declared.stepping.Class.{Class}
 use Rattle.scale_base.specs.declared.stepping.Class.TheVariants as classes
-use Rattle.scale_base.specs.Image.{Image}
+use Rattle.scale_base.specs.Image.{Image, is_in, is_word_address}
 use Rattle.cost_theory.specs.Graph.{Graph, Loops, IsWalk, end_of}
 use Rattle.cost_theory.specs.Accepted.{IsProgram, IsInBody, StaysWithin, AreWeights}
 use Rattle.cost_theory.specs.declared.edges.EdgeKind.TheVariants.{End}
@@ -27,8 +27,9 @@ use Rattle.stub_writer.specs.Stubs.{Site, Place, Forked, Straight}
 use Rattle.stub_runs.specs.Cycles.{fragment_cost}
 use Rattle.stored_runs.specs.Marks.{place_at, fragments_by, jumps_by}
 use Rattle.stored_runs.specs.Stubbed.{IsSafeSite, IsOfImage}
-use Rattle.marked_runs.specs.Marked.{extra_by, extra_weights}
-use Rattle.marked_runs.specs.Laws.{TargetsAreWords, LoopsAreCountable, StoredWeightsAreWeights}
+use Rattle.stored_runs.specs.Patched.{IsPatched}
+use Rattle.marked_runs.specs.Marked.{extra_by, extra_weights, stored_weights}
+use Rattle.marked_runs.specs.Laws.{TargetsAreWords, LoopsAreCountable, StoredWeightsAreWeights, PatchedWeightsAreWeights}
 
 pub targets_are_words : TargetsAreWords
 targets_are_words = λ t code l extent prog f v to reached leads.
@@ -151,16 +152,25 @@ no_extra : (costs : Class → ℕ) (sites : List Site) (at : ℕ) (o : Option Cl
 no_extra costs sites at None none = refl
 no_extra costs sites at (Some class) none = subst (λ p. jumps_by p * costs classes.Jump + sum_by (fragment_cost costs) (fragments_by p class) ≡ 0) (sym none) (omega arith)
 
-pub weights_of_calls : StoredWeightsAreWeights
-weights_of_calls = λ image levels limits sites code costs safe.
+-- where no call is marked
+weights_by : (image : Image) (sites : List Site) (code : Code) (costs : Class → ℕ) → ((v h : ℕ) → kind_at (text_of image) v ≡ CallOf h → place_at sites v ≡ None)
+    → AreWeights (text_graph (text_of image) code) (stored_weights (text_of image) code costs sites) × AreWeights (text_graph (text_of image) code) (extra_weights (text_of image) code costs sites)
+weights_by image sites code costs unmarked =
     let t = text_of image in
     let g : Graph = text_graph t code in
     let zero : (e f : ℕ) → e < g.edges → g.callee e ≡ Some f → extra_weights t code costs sites e ≡ 0 = λ e f lt callee.
     let c = callee-call code.functions (kind_at t (g.source e)) f (sym (callee_word (kind_at t) code.functions code.edges e lt) ∙ callee) in
-    no_extra costs sites (g.source e) (edge_class t (slice_get code.edges e)) (unmarked image levels limits sites (g.source e) c.0 safe c.1 (place_at sites (g.source e)) refl) in
+    no_extra costs sites (g.source e) (edge_class t (slice_get code.edges e)) (unmarked (g.source e) c.0 c.1) in
     let extra : AreWeights g (extra_weights t code costs sites) = λ d e f dl el same callee.
     let other : g.callee e ≡ Some f = sym (same_callee t code d e dl el same) ∙ callee in zero d f dl callee ∙ sym (zero e f el other) in
     (λ d e f dl el same callee. let a = weights_are t code costs d e f dl el same callee in let b = extra d e f dl el same callee in omega (arith, a, b), extra)
+  where
+    same_callee : (t : Text) (code : Code) (d e : ℕ) → d < (text_graph t code).edges → e < (text_graph t code).edges → edge_at (slice_get code.edges d) ≡ edge_at (slice_get code.edges e) → (text_graph t code).callee d ≡ (text_graph t code).callee e
+    same_callee t code d e dl el same =
+        callee_word (kind_at t) code.functions code.edges d dl ∙ (ap (λ v. callee_of code.functions (kind_at t v)) same ∙ sym (callee_word (kind_at t) code.functions code.edges e el))
+
+pub weights_of_calls : StoredWeightsAreWeights
+weights_of_calls = λ image levels limits sites code costs safe. weights_by image sites code costs (λ v h calls. unmarked image levels limits sites v h safe calls (place_at sites v) refl)
   where
     unmarked : (image : Image) (levels : ℕ) (limits : ℕ → ℕ) (sites : List Site) (v h : ℕ) → All (IsSafeSite image levels limits) sites → kind_at (text_of image) v ≡ CallOf h → (o : Option Place) → place_at sites v ≡ o → place_at sites v ≡ None
     unmarked image levels limits sites v h safe calls None e = e
@@ -168,6 +178,12 @@ weights_of_calls = λ image levels limits sites code costs safe.
         let s = site_at image levels limits v p sites safe e in
         absurd (no_site_calls image v h p (subst (λ a. IsOfImage image a p) s.at_is (subst (IsOfImage image s.site.at) s.place_is s.safe.place)) calls)
 
-    same_callee : (t : Text) (code : Code) (d e : ℕ) → d < (text_graph t code).edges → e < (text_graph t code).edges → edge_at (slice_get code.edges d) ≡ edge_at (slice_get code.edges e) → (text_graph t code).callee d ≡ (text_graph t code).callee e
-    same_callee t code d e dl el same =
-        callee_word (kind_at t) code.functions code.edges d dl ∙ (ap (λ v. callee_of code.functions (kind_at t v)) same ∙ sym (callee_word (kind_at t) code.functions code.edges e el))
+pub patched_weights : PatchedWeightsAreWeights
+patched_weights = λ image patched levels limits sites start p code costs. weights_by image sites code costs (λ v h calls. unmarked image patched levels limits sites start p v h calls (place_at sites v) refl)
+  where
+    unmarked : (image patched : Image) (levels : ℕ) (limits : ℕ → ℕ) (sites : List Site) (start : ℕ) → IsPatched image patched levels limits sites start → (v h : ℕ) → kind_at (text_of image) v ≡ CallOf h → (o : Option Place) → place_at sites v ≡ o → place_at sites v ≡ None
+    unmarked image patched levels limits sites start p v h calls None e = e
+    unmarked image patched levels limits sites start p v h calls (Some q) e =
+        let facts = kind_facts (text_of image) v (λ bad. let never : ⊥ = cc in never) in
+        let word : is_word_address image v ≡ true = and_from (v % 4 == 0) (list_any (is_in v) image.text) (eq-eqb (v % 4) 0 facts.0) facts.1 in
+        absurd (no_site_calls image v h q (p.stubs [] v q word e).of_image calls)

@@ -1,8 +1,8 @@
 -- The stored image follows kept runs.
-use Rattle.std.proofs.Common.{◌≡◌, ℕ, zero, suc, ◌+◌, ◌-◌, ◌%◌, ◌≤◌, Bool, ◌&&◌, List, refl, sym, ap, ◌∙◌, subst, arith, Option, Some, None, inl, inr, eqb-true, eq-eqb}
-use Rattle.std.specs.Prelude.{◌==◌, nat_eq}
+use Rattle.std.proofs.Common.{◌≡◌, ℕ, zero, suc, ◌+◌, ◌-◌, ◌%◌, ◌≤◌, Bool, true, List, refl, sym, ap, ◌∙◌, subst, arith, Option, Some, None, inl, inr, eqb-true, eq-eqb}
+use Rattle.std.specs.Prelude.{◌==◌}
 use Rattle.std.specs.List.{list_any}
-use Rattle.std.proofs.lemmas.Bool.{and_from, and_parts, both_ways}
+use Rattle.std.proofs.lemmas.Bool.{and_from, both_ways}
 use Rattle.scale_base.specs.declared.stepping.Class.{Class}
 use Rattle.scale_base.specs.declared.stepping.StepEnd.{StepEnd}
 use Rattle.scale_base.specs.declared.stepping.StepEnd.TheVariants.{Went, Exited, Trapped}
@@ -26,12 +26,13 @@ use Rattle.graph_runs.proofs.Programs.{image_runs_are_kept_moves}
 use Rattle.stub_writer.specs.Stubs.{Site}
 use Rattle.stored_runs.specs.Marks.{shadow_first, shadow_after}
 use Rattle.stored_runs.specs.Stubbed.{KeepsLimits}
-use Rattle.stored_runs.proofs.Follow.{stored_runs}
-use Rattle.shadow_counts.specs.Shadows.{AreCountable}
+use Rattle.stored_runs.proofs.Follow.{patched_runs, stubbed_patched}
+use Rattle.shadow_counts.specs.Shadows.{counted_moves}
 use Rattle.shadow_counts.proofs.Shown.{counts_shown, counts_within}
-use Rattle.marked_runs.specs.Marked.{AreMarked, AreLimits, AreHeld}
-use Rattle.marked_runs.specs.Laws.{KeptRunsStayInText, KeptRunsAreFollowed, MovesCostStoredWeights, MovesCostExtraWeights}
+use Rattle.marked_runs.specs.Counters.{AreCounters, AreCounted, AreCounting, by_words}
+use Rattle.marked_runs.specs.Laws.{KeptRunsStayInText, KeptRunsAreFollowed, KeptRunsArePatched, MovesCostStoredWeights, MovesCostExtraWeights}
 use Rattle.marked_runs.proofs.Aligned.{AreAligned, stored_sum, extra_sum, counters_are, others_are}
+use Rattle.marked_runs.proofs.Words.{word_of_loop, is_word, counters_of, counted_of}
 
 -- ---- a part of a kept run is kept
 
@@ -70,59 +71,89 @@ stays_in_text = λ file image levels input code l extent e prog n c kept m lt go
     let facts = kind_facts t pc (prog.reached.words at.function pc at.reached) in
     and_from (pc % 4 == 0) (list_any (is_in pc) image.text) (eq-eqb (pc % 4) 0 facts.0) facts.1
 
-module _ (image : Image) (sites : List Site) (start : ℕ) (code : Code) (l : Loops) (extent : ℕ → ℕ → Bool) (counted : ℕ → Bool) (word : ℕ → ℕ) (prog : IsProgramOf (text_of image) code l extent)
-    (able : AreCountable (text_graph (text_of image) code) l counted) (marked : AreMarked (text_of image) code l sites counted word) where
+module _ (image : Image) (sites : List Site) (start : ℕ) (code : Code) (l : Loops) (extent : ℕ → ℕ → Bool) (limits : ℕ → ℕ) (is_of : ℕ → ℕ → Bool) (prog : IsProgramOf (text_of image) code l extent)
+    (able : AreCounters (text_graph (text_of image) code) l limits is_of) (marked : AreCounted (text_of image) code l sites is_of) where
   abbrev t : Text
   t = text_of image
 
   program : IsProgram (text_graph t code)
   program = is_program (kind_at t) t.entry code prog.reached.lists prog.reached.words prog.calls
 
-  held : (costs : Class → ℕ) (r : Run) (c : Carried) (kept : IsKeptRun t code l costs r c) → r.standing ≡ GoesOn → AreHeld t code l counted word sites start r kept.moves
-  held costs r c kept goes =
-      let at = stands_so t code l costs r c kept goes in
-      let aligned : AreAligned t code kept.moves r.steps = record { places = kept.places; classes = kept.classes } in
-      let shown = counts_shown (text_graph t code) l extent counted program prog.loops able kept.moves kept.kept r.state.pc at.node in
-      let same = counters_are t code l sites counted word program marked kept.moves r.steps (steps.start (text_graph t code)) (shadow_first start) (λ k. 0) kept.kept aligned (λ k kl ck. refl) in
-      record {
-        shown = record {
-          within = λ k kl ck e. same k kl ck ∙ shown.within k kl ck e;
-          outside = λ k kl ck e. same k kl ck ∙ shown.outside k kl ck e;
-        };
-        others = λ w none. others_are t code l sites counted word program marked w none kept.moves r.steps (steps.start (text_graph t code)) (shadow_first start) kept.kept aligned;
-      }
+  -- the loop itself
+  own : (k : ℕ) → (k == k) ≡ true
+  own k = eq-eqb k k refl
 
-  -- each counter keeps its limit
-  limited : (limits : ℕ → ℕ) → AreLimits l counted word limits → (costs : Class → ℕ) (r : Run) (c : Carried) (kept : IsKeptRun t code l costs r c) → r.standing ≡ GoesOn → (w : ℕ) → (shadow_after sites (shadow_first start) r.steps).counters w ≤ limits w
-  limited limits within costs r c kept goes w =
-      let at = stands_so t code l costs r c kept goes in
-      let aligned : AreAligned t code kept.moves r.steps = record { places = kept.places; classes = kept.classes } in
-      let all = held costs r c kept goes in
-      elim (search_below l.loops (λ k. counted k && nat_eq (word k) w)) [
-        | inl found ↦
-            let k = found.0 in
-            let parts = and_parts (counted k) (nat_eq (word k) w) found.2 in
-            let same = counters_are t code l sites counted word program marked kept.moves r.steps (steps.start (text_graph t code)) (shadow_first start) (λ j. 0) kept.kept aligned (λ j jl cj. refl) k found.1 parts.0 in
-            let bound = counts_within (text_graph t code) l extent counted program prog.loops able kept.moves kept.kept r.state.pc at.node k found.1 parts.0 in
-            let limit = within k found.1 parts.0 in
-            subst (λ v. (shadow_after sites (shadow_first start) r.steps).counters v ≤ limits v) (eqb-true (word k) w parts.1) (omega (arith, same, bound, limit))
-        | inr none ↦
-            let zero_is = all.others w (λ k kl ck is. both_ways (counted k && nat_eq (word k) w) (none k kl) (and_from (counted k) (nat_eq (word k) w) ck (eq-eqb (word k) w is))) in
-            omega (arith, zero_is)
-      ]
+  module _ (costs : Class → ℕ) (r : Run) (c : Carried) (kept : IsKeptRun t code l costs r c) (goes : r.standing ≡ GoesOn) where
+    at : KeptAt t code l r c kept.moves
+    at = stands_so t code l costs r c kept goes
 
+    aligned : AreAligned t code kept.moves r.steps
+    aligned = record { places = kept.places; classes = kept.classes }
+
+    same : (w k : ℕ) → is_of w k ≡ true → (shadow_after sites (shadow_first start) r.steps).counters w ≡ counted_moves (text_graph t code) l (λ j. 0) kept.moves k
+    same w k is = counters_are t code l sites is_of program marked w k is kept.moves r.steps (steps.start (text_graph t code)) (shadow_first start) (λ j. 0) kept.kept aligned refl
+
+    counting : AreCounting t code l is_of sites start r kept.moves
+    counting = record {
+      shown = λ w k is.
+          let shown = counts_shown (text_graph t code) l extent (λ j. j == k) program prog.loops (able.countable w k is) kept.moves kept.kept r.state.pc at.node in
+          let here = λ (j : ℕ) (on : (j == k) ≡ true). same w k is ∙ ap (counted_moves (text_graph t code) l (λ j. 0) kept.moves) (sym (eqb-true j k on)) in
+          record {
+            within = λ j low on e. here j on ∙ shown.within j low on e;
+            outside = λ j low on e. here j on ∙ shown.outside j low on e;
+          };
+      others = λ w none. others_are t code l sites is_of program marked w none kept.moves r.steps (steps.start (text_graph t code)) (shadow_first start) kept.kept aligned;
+    }
+
+    -- each counter keeps its limit
+    limited : (w : ℕ) → (shadow_after sites (shadow_first start) r.steps).counters w ≤ limits w
+    limited w =
+        elim (search_below l.loops (is_of w)) [
+          | inl found ↦
+              let k = found.0 in
+              let is = found.2 in
+              let bound = counts_within (text_graph t code) l extent (λ j. j == k) program prog.loops (able.countable w k is) kept.moves kept.kept r.state.pc at.node k found.1 (own k) in
+              let limit = able.limited w k is in
+              let here = same w k is in
+              omega (arith, here, bound, limit)
+          | inr none ↦
+              let zero_is = counting.others w (λ k is. both_ways (is_of w k) (none k (able.loops w k is)) is) in
+              omega (arith, zero_is)
+        ]
+
+pub kept_patched : KeptRunsArePatched
+kept_patched = λ image patched levels limits sites start p code l extent is_of costs prog able marked input n c kept.
+    let file = p.original_file in
+    let run_kept = image_runs_are_kept_moves file image levels input code l extent costs p.original_is prog n c kept in
+    let keeps : KeepsLimits image levels limits sites start input n = λ m lt goes w.
+    let d = kept_before (setting_of image levels input) (start_of image levels) (by_extents l extent) m n c (omega arith) kept in
+    let moves = image_runs_are_kept_moves file image levels input code l extent costs p.original_is prog m d.0 d.1 in
+    limited image sites start code l extent limits is_of prog able marked costs (run_of image levels input m) d.0 moves goes w in
+    record {
+      kept = run_kept;
+      followed = patched_runs image patched levels limits sites start p input n (stays_in_text file image levels input code l extent p.original_is prog n c kept) keeps;
+      counting = λ goes. counting image sites start code l extent limits is_of prog able marked costs (run_of image levels input n) c run_kept goes;
+    }
+
+-- where each counted loop has one word
 pub kept_followed : KeptRunsAreFollowed
 kept_followed = λ file image levels limits sites base start stored h code l extent counted word costs prog able marked within input n c kept.
     let t = text_of image in
-    let run_kept = image_runs_are_kept_moves file image levels input code l extent costs h.read prog n c kept in
-    let keeps : KeepsLimits image levels limits sites start input n = λ m lt goes w.
-    let d = kept_before (setting_of image levels input) (start_of image levels) (by_extents l extent) m n c (omega arith) kept in
-    let moves = image_runs_are_kept_moves file image levels input code l extent costs h.read prog m d.0 d.1 in
-    limited image sites start code l extent counted word prog able marked limits within costs (run_of image levels input m) d.0 moves goes w in
+    let is_of = by_words l counted word in
+    let p = stubbed_patched file image levels limits sites base start stored h in
+    let f = kept_patched image stored levels limits sites start p code l extent is_of costs prog (counters_of l counted word (text_graph t code) limits able within) (counted_of l counted word t code sites marked) input n c kept in
     record {
-      kept = run_kept;
-      followed = stored_runs file image levels limits sites base start stored h input n (stays_in_text file image levels input code l extent h.read prog n c kept) keeps;
-      held = λ goes. held image sites start code l extent counted word prog able marked costs (run_of image levels input n) c run_kept goes;
+      kept = f.kept;
+      followed = f.followed;
+      held = λ goes.
+          let all = f.counting goes in
+          record {
+            shown = record {
+              within = λ k low on e. (all.shown (word k) k (is_word l counted word k low on)).within k low (eq-eqb k k refl) e;
+              outside = λ k low on e. (all.shown (word k) k (is_word l counted word k low on)).outside k low (eq-eqb k k refl) e;
+            };
+            others = λ w none. all.others w (λ k is. let q = word_of_loop l counted word w k is in none k q.0 q.1 q.2);
+          };
     }
 
 pub stored_cost : MovesCostStoredWeights

@@ -1,3 +1,4 @@
 pub mod Aligned
+pub mod Words
 pub mod Kept
 pub mod Graphs

@@ -16,7 +16,9 @@ use Rattle.graph_runs.specs.Laws.{IsProgramOf}
 use Rattle.stub_writer.specs.Stubs.{Site}
 use Rattle.stored_runs.specs.Marks.{extra_cycles, stored_cycles}
 use Rattle.stored_runs.specs.Stubbed.{IsSafeSite, IsStubbed, StaysInText}
+use Rattle.stored_runs.specs.Patched.{IsPatched}
 use Rattle.shadow_counts.specs.Shadows.{AreCountable}
+use Rattle.marked_runs.specs.Counters.{AreCounters, AreCounted, IsKeptPatched}
 use Rattle.marked_runs.specs.Marked.{stored_weights, extra_weights, AreMarked, AreLimits, IsKeptFollowed}
 
 -- A kept run stays in the text.
@@ -30,6 +32,13 @@ KeptRunsAreFollowed = (file : List ℕ) (image : Image) (levels : ℕ) (limits :
     (code : Code) (l : Loops) (extent : ℕ → ℕ → Bool) (counted : ℕ → Bool) (word : ℕ → ℕ) (costs : Class → ℕ) → IsProgramOf (text_of image) code l extent → AreCountable (text_graph (text_of image) code) l counted →
     AreMarked (text_of image) code l sites counted word → AreLimits l counted word limits →
     (input : List ℕ) (n : ℕ) (c : Carried) → kept_of image levels input (by_extents l extent) n ≡ Some c → IsKeptFollowed image stored levels sites start input code l counted word costs n c
+
+-- The same of a patched image, whose stubs may stand anywhere and whose loops may have several counters.
+abbrev pub KeptRunsArePatched : Type 0
+KeptRunsArePatched = (image patched : Image) (levels : ℕ) (limits : ℕ → ℕ) (sites : List Site) (start : ℕ) → IsPatched image patched levels limits sites start →
+    (code : Code) (l : Loops) (extent : ℕ → ℕ → Bool) (is_of : ℕ → ℕ → Bool) (costs : Class → ℕ) → IsProgramOf (text_of image) code l extent → AreCounters (text_graph (text_of image) code) l limits is_of →
+    AreCounted (text_of image) code l sites is_of →
+    (input : List ℕ) (n : ℕ) (c : Carried) → kept_of image levels input (by_extents l extent) n ≡ Some c → IsKeptPatched image patched levels sites start input code l is_of costs n c
 
 -- The moves of a kept run cost under the stored weights what its steps cost with their stubs, and under the extra weights what the stubs add.
 abbrev pub MovesCostStoredWeights : Type 0
@@ -52,4 +61,9 @@ LoopsAreCountable = (t : Text) (code : Code) (l : Loops) (extent : ℕ → ℕ �
 -- The stored weights and the extra weights give all edges of one call the same, since no marked instruction is a call.
 abbrev pub StoredWeightsAreWeights : Type 0
 StoredWeightsAreWeights = (image : Image) (levels : ℕ) (limits : ℕ → ℕ) (sites : List Site) (code : Code) (costs : Class → ℕ) → All (IsSafeSite image levels limits) sites →
+    AreWeights (text_graph (text_of image) code) (stored_weights (text_of image) code costs sites) × AreWeights (text_graph (text_of image) code) (extra_weights (text_of image) code costs sites)
+
+-- The same of a patched image.
+abbrev pub PatchedWeightsAreWeights : Type 0
+PatchedWeightsAreWeights = (image patched : Image) (levels : ℕ) (limits : ℕ → ℕ) (sites : List Site) (start : ℕ) → IsPatched image patched levels limits sites start → (code : Code) (costs : Class → ℕ) →
     AreWeights (text_graph (text_of image) code) (stored_weights (text_of image) code costs sites) × AreWeights (text_graph (text_of image) code) (extra_weights (text_of image) code costs sites)

@@ -2,12 +2,17 @@
 //! hold the counts of the loops that the run is in.
 #![tactic(auto)]
 
-ghost use Rattle.marked_runs.specs.Laws.{KeptRunsAreFollowed, KeptRunsStayInText, LoopsAreCountable, MovesCostExtraWeights, MovesCostStoredWeights, StoredWeightsAreWeights, TargetsAreWords};
+ghost use Rattle.marked_runs.specs.Laws.{KeptRunsAreFollowed, KeptRunsArePatched, KeptRunsStayInText, LoopsAreCountable, MovesCostExtraWeights, MovesCostStoredWeights, PatchedWeightsAreWeights, StoredWeightsAreWeights, TargetsAreWords};
 
 /// The stored image follows each kept run, which stays in the text.
 pub fn kept_runs_are_followed()
     ensures followed { KeptRunsAreFollowed }
     ensures text { KeptRunsStayInText }
+{}
+
+/// So does every image of which some instructions are patched, wherever their stubs stand, and where a loop may have several counters.
+pub fn kept_runs_are_patched()
+    ensures { KeptRunsArePatched }
 {}
 
 /// A kept run costs under the stored weights of its edges what its steps cost with their stubs.
@@ -21,4 +26,5 @@ pub fn graphs_can_be_marked()
     ensures targets { TargetsAreWords }
     ensures countable { LoopsAreCountable }
     ensures weights { StoredWeightsAreWeights }
+    ensures patched { PatchedWeightsAreWeights }
 {}

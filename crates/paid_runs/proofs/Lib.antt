@@ -1,3 +1,5 @@
 pub mod Edges
 pub mod Walk
 pub mod Paid
+pub mod Tables
+pub mod Tuned

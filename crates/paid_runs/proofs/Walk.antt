@@ -1,8 +1,8 @@
 -- Along the moves of a kept run and their legs: level, time and switches.
 use Rattle.std.proofs.Common.{◌≡◌, ℕ, ◌+◌, ◌*◌, ◌<◌, ◌≤◌, Bool, true, List, [], ◌∷◌, ◌++◌, length, refl, sym, ap, ◌∙◌, subst, arith, Option, Some, None, ◌⊎◌, inl, inr}
-use Rattle.std.specs.Prelude.{unwrap_or, fold, slice_get}
+use Rattle.std.specs.Prelude.{unwrap_or, fold, slice_get, ◌==◌}
 use Rattle.std.specs.List.{list_any}
-use Rattle.std.proofs.lemmas.Bool.{or_left}
+use Rattle.std.proofs.lemmas.Bool.{or_left, eq-eqb}
 use Rattle.std.proofs.lemmas.List.Sums.{fold-append}
 use Rattle.std.proofs.lemmas.List.Concat.{flat_map-cons}
 use Rattle.scale_base.specs.declared.stepping.Stepped.{Stepped}
@@ -32,13 +32,13 @@ use Rattle.stored_runs.specs.Legs.{Leg, IsLeg, AreLegs, originals, all_steps}
 use Rattle.stored_runs.proofs.LegLaws.{cost_of_legs}
 use Rattle.shadow_counts.specs.Shadows.{AreCountable, counted_move, counted_moves}
 use Rattle.shadow_counts.proofs.Shown.{counts_shown}
-use Rattle.marked_runs.specs.Marked.{AreMarked}
+use Rattle.marked_runs.specs.Counters.{AreCounted}
 use Rattle.marked_runs.proofs.Aligned.{AreAligned, IsFirst, first_of_both, stored_at, stored_sum, counted_after}
 use Rattle.power_model.specs.Switches.{period, costs_of, NeverRises, switches_from, AllPay}
 use Rattle.leg_prices.specs.Paid.{tail_if, IsPaidLeg}
 use Rattle.leg_prices.proofs.LegPrice.{leg_paid, no_switch}
 use Rattle.leg_prices.proofs.Energies.{period_le}
-use Rattle.paid_runs.specs.Timely.{weights_of, IsChosen, AreTables}
+use Rattle.paid_runs.specs.Timely.{weights_of, IsChosen, AreTablesOf}
 use Rattle.paid_runs.proofs.Edges.{leg_rise, leg_pays, PaysBehind, one_switch, no_switch_safe, pays_more}
 
 -- ---- one move more
@@ -55,10 +55,10 @@ counted_more g l counts (k ∷ ks) m = counted_more g l (counted_move g l counts
 exits_later : (m : steps.Move) (k : steps.Move) (ms : List steps.Move) → steps.EndsByExit (m ∷ k ∷ ms) → steps.EndsByExit (k ∷ ms)
 exits_later m k ms e = e
 
-module _ (power : PowerModel) (t : Text) (code : Code) (l : Loops) (extent : ℕ → ℕ → Bool) (sites : List Site) (counted : ℕ → Bool) (word : ℕ → ℕ) (n : Numbers) (least : Charged)
-    (ranked : AreRanked power.levels) (able : AreCountable (text_graph t code) l counted) (marked : AreMarked t code l sites counted word)
+module _ (power : PowerModel) (t : Text) (code : Code) (l : Loops) (extent : ℕ → ℕ → Bool) (sites : List Site) (is_of : ℕ → ℕ → Bool) (n : Numbers) (least : Charged)
+    (ranked : AreRanked power.levels) (loops : (v k : ℕ) → is_of v k ≡ true → k < l.loops) (able : (v k : ℕ) → is_of v k ≡ true → AreCountable (text_graph t code) l (λ j. j == k)) (marked : AreCounted t code l sites is_of)
     (is : IsAnalyzed (text_graph t code) l extent (weights_of power t code sites) n) (are : IsCharged (text_graph t code) l extent (weights_of power t code sites) least)
-    (tables : AreTables power t code l sites counted word n least) where
+    (tables : AreTablesOf power t code l sites is_of n least) where
   abbrev g : Graph
   g = text_graph t code
 
@@ -71,7 +71,7 @@ module _ (power : PowerModel) (t : Text) (code : Code) (l : Loops) (extent : ℕ
   -- where a run stands: the moves so far are kept, and the shadow is theirs
   pub record IsAt (pre : List steps.Move) (h : Shadow) : Type 0 where
     pub kept : steps.AreKept g l (steps.start g) pre
-    pub counters : (k : ℕ) → k < l.loops → counted k ≡ true → h.counters (word k) ≡ counted_moves g l (λ j. 0) pre k
+    pub counters : (v k : ℕ) → is_of v k ≡ true → h.counters v ≡ counted_moves g l (λ j. 0) pre k
     pub is_level : h.level < length power.levels
 
   -- in time with what is left at the level
@@ -89,11 +89,11 @@ module _ (power : PowerModel) (t : Text) (code : Code) (l : Loops) (extent : ℕ
   choice : (pre : List steps.Move) (h : Shadow) (m : steps.Move) (ms : List steps.Move) (x : Stepped) (xs : List Stepped) → IsAt pre h → steps.IsKept g l (at_start pre) m → IsFirst t code m ms x xs → (j : ℕ) → level_stored (fragments_over sites x) h ≡ Some j → Chosen pre h m x j
   choice pre h m ms x xs at kept first j stored =
       let e = steps.edge_of m in
-      let shown = counts_shown g l extent counted is.program is.accepted able pre at.kept (g.source e) kept.from in
+      let shown = λ (v k : ℕ) (on : is_of v k ≡ true). counts_shown g l extent (λ j. j == k) is.program is.accepted (able v k on) pre at.kept (g.source e) kept.from in
       let sound = sound_run g l extent is.program pre at.kept in
       let here : level_stored (fragments_by (place_at sites (edge_at (slice_get code.edges e))) x.class) h ≡ Some j = ap (λ a. level_stored (fragments_by (place_at sites a) x.class) h) first.place ∙ stored in
       let got = tables.chosen e x.class kept.edge first.class h (at_start pre).counts j at.is_level sound.within
-      (λ k kl ck inside. at.counters k kl ck ∙ shown.within k kl ck (or_left (is_round l k (at_start pre).node) (list_any (l.inside k) (at_start pre).calls) (ap (is_round l k) kept.from ∙ inside))) here in
+      (λ v k on inside. at.counters v k on ∙ (shown v k on).within k (loops v k on) (eq-eqb k k refl) (or_left (is_round l k (at_start pre).node) (list_any (l.inside k) (at_start pre).calls) (ap (is_round l k) kept.from ∙ inside))) here in
       subst (λ a. (j ≡ h.level) ⊎ IsChosen power g l w n least (at_start pre).counts e (tail_cycles (costs_of power) (fragments_by (place_at sites a) x.class)) h.level j) first.place got
 
   -- it is no higher level
@@ -108,7 +108,7 @@ module _ (power : PowerModel) (t : Text) (code : Code) (l : Loops) (extent : ℕ
   next_at : (pre : List steps.Move) (h : Shadow) (m : steps.Move) (ms : List steps.Move) (x : Stepped) (xs : List Stepped) → IsAt pre h → steps.IsKept g l (at_start pre) m → IsFirst t code m ms x xs → IsAt (pre ++ m ∷ []) (shadow_more sites h x)
   next_at pre h m ms x xs at kept first = record {
     kept = kept_more g l (steps.start g) pre m at.kept kept;
-    counters = λ k kl ck. counted_after t code l sites counted word is.program marked m ms x xs (at_start pre) h (counted_moves g l (λ j. 0) pre) kept first at.counters k kl ck ∙ sym (ap (λ f. f k) (counted_more g l (λ j. 0) pre m));
+    counters = λ v k on. counted_after t code l sites is_of is.program marked m ms x xs (at_start pre) h (counted_moves g l (λ j. 0) pre) kept first v k on (at.counters v k on) ∙ sym (ap (λ f. f k) (counted_more g l (λ j. 0) pre m));
     is_level = let low = level_below pre h m x (level_stored (fragments_over sites x) h) (choice pre h m ms x xs at kept first) in omega (arith, low, at.is_level);
   }
 

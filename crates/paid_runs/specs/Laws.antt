@@ -1,5 +1,5 @@
 -- The laws of paid runs, as statements for the contracts of functions.
-use Rattle.std.specs.Prelude.{◌≡◌, ℕ, ◌+◌, ◌*◌, ◌<◌, ◌≤◌, Bool, List, length}
+use Rattle.std.specs.Prelude.{◌≡◌, ℕ, ◌+◌, ◌*◌, ◌<◌, ◌≤◌, Bool, List, length, Some}
 use Rattle.std.specs.List.{sum_by}
 use Rattle.scale_base.specs.Image.{Image}
 use Rattle.scale_base.specs.Run.{HasExited, run_of}
@@ -10,15 +10,18 @@ use Rattle.cost_theory.specs.Laws.{IsAnalyzed}
 use Rattle.cost_theory.specs.Worst.{Numbers}
 use Rattle.least_laws.specs.Charged.{Charged, AreCharged}
 use Rattle.cost_theory.specs.Reached.{Code}
-use Rattle.graph_runs.specs.Text.{text_of}
+use Rattle.graph_runs.specs.Text.{Text, text_of}
 use Rattle.graph_runs.specs.RunMoves.{text_graph}
-use Rattle.graph_runs.specs.KeptSteps.{Carried}
+use Rattle.graph_runs.specs.KeptSteps.{Carried, by_extents}
 use Rattle.graph_runs.specs.Laws.{IsProgramOf}
 use Rattle.stub_writer.specs.Stubs.{Site}
 use Rattle.shadow_counts.specs.Shadows.{AreCountable}
 use Rattle.marked_runs.specs.Marked.{extra_weights, AreMarked, IsKeptFollowed}
+use Rattle.graph_runs.specs.KeptRuns.{kept_of}
 use Rattle.power_model.specs.Switches.{period, costs_of}
-use Rattle.paid_runs.specs.Timely.{weights_of, AreTables, IsPaidRun}
+use Rattle.paid_runs.specs.Timely.{weights_of, AreTables, AreTablesOf, IsPaidRun}
+use Rattle.paid_runs.specs.Tabled.{AreTabledOf}
+use Rattle.paid_runs.specs.Patched.{IsTuned, IsTunedRun}
 
 -- The stored run of each kept run is paid, where the worst cycles at the starting level are in time.
 abbrev pub StoredRunsArePaid : Type 0
@@ -44,3 +47,14 @@ StubsAreBounded = (power : PowerModel) → IsPowerModel power → (image stored 
     let original = (run_of image (length power.levels) input steps).steps in
     let run = (run_of stored (length power.levels) input f.followed.after).steps in
     (length original ≤ length run) × (length run ≤ length original + n.worst 0) × (sum_by (λ x. costs_of power x.class) run ≤ sum_by (λ x. costs_of power x.class) original + n.worst 0)
+
+-- Every kept run of a tuned image is safe.
+abbrev pub TunedRunsAreSafe : Type 0
+TunedRunsAreSafe = (power : PowerModel) (image patched : Image) (limits : ℕ → ℕ) (sites : List Site) (start : ℕ)
+    (code : Code) (l : Loops) (extent : ℕ → ℕ → Bool) (is_of : ℕ → ℕ → Bool) (n : Numbers) (least : Charged) (more : Numbers) → IsTuned power image patched limits sites start code l extent is_of n least more →
+    (input : List ℕ) (steps : ℕ) (c : Carried) → kept_of image (length power.levels) input (by_extents l extent) steps ≡ Some c → IsTunedRun power image patched sites start code l is_of n more input steps c
+
+-- Tables whose entries meet their tests keep a run in time and pay.
+abbrev pub TablesOfKeepTime : Type 0
+TablesOfKeepTime = (power : PowerModel) (t : Text) (code : Code) (l : Loops) (sites : List Site) (is_of : ℕ → ℕ → Bool) (n : Numbers) (least : Charged) →
+    AreTabledOf power t code l sites is_of n least → AreTablesOf power t code l sites is_of n least

@@ -1,2 +1,4 @@
 pub mod Timely
+pub mod Tabled
+pub mod Patched
 pub mod Laws

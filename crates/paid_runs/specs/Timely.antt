@@ -48,6 +48,13 @@ pub record AreTables (power : PowerModel) (t : Text) (code : Code) (l : Loops) (
       → level_stored (fragments_by (place_at sites (edge_at (slice_get code.edges e))) class) h ≡ Some j
       → (j ≡ h.level) ⊎ IsChosen power (text_graph t code) l (weights_of power t code sites) n least counts e (tail_cycles (costs_of power) (fragments_by (place_at sites (edge_at (slice_get code.edges e))) class)) h.level j
 
+-- The same where a loop may have several counters: `is_of w k` tells that the word w counts loop k.
+pub record AreTablesOf (power : PowerModel) (t : Text) (code : Code) (l : Loops) (sites : List Site) (is_of : ℕ → ℕ → Bool) (n : Numbers) (least : Charged) : Type 0 where
+  pub chosen : (e : ℕ) (class : Class) → e < (text_graph t code).edges → edge_class t (slice_get code.edges e) ≡ Some class → (h : Shadow) (counts : ℕ → ℕ) (j : ℕ) → h.level < length power.levels → AreWithin l counts
+      → ((w k : ℕ) → is_of w k ≡ true → l.inside k ((text_graph t code).source e) ≡ true → h.counters w ≡ counts k)
+      → level_stored (fragments_by (place_at sites (edge_at (slice_get code.edges e))) class) h ≡ Some j
+      → (j ≡ h.level) ⊎ IsChosen power (text_graph t code) l (weights_of power t code sites) n least counts e (tail_cycles (costs_of power) (fragments_by (place_at sites (edge_at (slice_get code.edges e))) class)) h.level j
+
 -- What the steps of a stored run cost, whose moves are those of the original: its cycles are those under the stored weights; no step leaves a higher level; the
 -- time so far, and the cycles left at the level that it has, are in time; and after an exit each switch has saved what it took.
 pub record IsPaidRun (power : PowerModel) (t : Text) (code : Code) (l : Loops) (sites : List Site) (start : ℕ) (n : Numbers) (moves : List steps.Move) (run : List Stepped) : Type 0 where

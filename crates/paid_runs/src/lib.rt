@@ -2,7 +2,7 @@
 //! left is in time, and that the least cycles to an end pay for the switch.
 #![tactic(auto)]
 
-ghost use Rattle.paid_runs.specs.Laws.{StoredRunsArePaid, StoredRunsSaveEnergy, StubsAreBounded};
+ghost use Rattle.paid_runs.specs.Laws.{StoredRunsArePaid, StoredRunsSaveEnergy, StubsAreBounded, TablesOfKeepTime, TunedRunsAreSafe};
 
 /// The stored run of a kept run is in time at every step of the original, and no step of it leaves a higher level; and one that exits takes
 /// no more energy than its own cycles at the starting level.
@@ -14,4 +14,17 @@ pub fn stored_runs_are_paid()
 /// The stubs add at most as many cycles, and as many steps, as the worst cycles are under the extra weights.
 pub fn stubs_are_bounded()
     ensures { StubsAreBounded }
+{}
+
+/// Tables whose entries meet the two tests keep a run in time and pay: an edge's slack is left behind it, and a row of a table behind a loop
+/// counts on no more turns than the loop's count leaves.
+pub fn tables_keep_time()
+    ensures { TablesOfKeepTime }
+{}
+
+/// Every kept run of a tuned image, whose stubs may stand anywhere in its keyed segment and whose loops may have several counters, ends as the
+/// original's does, with the same output, in time, at no higher level than before, with no more energy than its own cycles at the starting
+/// level, and with at most so many cycles and steps more.
+pub fn tuned_runs_are_safe()
+    ensures { TunedRunsAreSafe }
 {}

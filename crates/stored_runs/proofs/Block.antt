@@ -24,7 +24,7 @@ safe_fragments levels limits (f ∷ fs) h = All-cons IsFragment f fs (safe_fragm
 safe_way : (levels : ℕ) (limits : ℕ → ℕ) (w : Way) → IsSafeWay levels limits w → IsFineWay w
 safe_way levels limits w h = (h.few, safe_fragments levels limits w.fragments h.safe)
 
-safe_place : (levels : ℕ) (limits : ℕ → ℕ) (p : Place) → AreSafeWays levels limits p → IsFine p
+pub safe_place : (levels : ℕ) (limits : ℕ → ℕ) (p : Place) → AreSafeWays levels limits p → IsFine p
 safe_place levels limits (Forked op rs1 rs2 untaken taken) h = (h.0, h.1, safe_way levels limits untaken h.2, safe_way levels limits taken h.3)
 safe_place levels limits (Straight w) h = safe_way levels limits w h
 

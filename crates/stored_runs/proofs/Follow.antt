@@ -25,16 +25,20 @@ use Rattle.run_laws.proofs.RegisterLaws.{step_length}
 use Rattle.graph_runs.specs.Text.{text_of}
 use Rattle.graph_runs.proofs.TextFacts.{not_written}
 use Rattle.graph_runs.proofs.StepFacts.{IsTrap, step_done}
-use Rattle.stub_writer.specs.Stubs.{Site, Place, out_of_reach}
+use Rattle.elf_patch.specs.Stored.{stored_image}
+use Rattle.stub_writer.specs.Stubs.{Site, Place, patches_from, block_bytes}
 use Rattle.stub_runs.specs.Meaning.{Leads}
 use Rattle.stub_runs.specs.Cycles.{cycles, fragment_cost}
 use Rattle.stub_runs.proofs.Steps.{leads_none, leads_on}
 use Rattle.stored_runs.specs.Marks.{Shadow, place_at, fragments_by, jumps_by, tail_cycles, level_stored, shadow_first, shadow_behind, shadow_more, shadow_after}
 use Rattle.stored_runs.specs.Legs.{Leg, Stores, IsLeg, AreLegs, originals, all_steps, Meets, Holds, steps_to}
-use Rattle.stored_runs.specs.Stubbed.{IsStubbed, IsSafeSite, StaysInText, KeepsLimits, IsFollowed}
+use Rattle.stored_runs.specs.Stubbed.{IsStubbed, StaysInText, KeepsLimits, IsFollowed}
+use Rattle.stored_runs.specs.Laws.{PatchedRunsFollow, StubbedArePatched}
 use Rattle.stored_runs.proofs.LaidBytes.{laid, byte_seen}
 use Rattle.stored_runs.proofs.SameStep.{over}
-use Rattle.stored_runs.proofs.Frame.{IsFrame, hidden, frame}
+use Rattle.stored_runs.proofs.Frame.{hidden, frame}
+use Rattle.stored_runs.proofs.Placed.{IsFrame, of_block}
+use Rattle.stored_runs.proofs.PatchedFrame.{of_patched}
 use Rattle.stored_runs.proofs.Windows.{IsWindow}
 use Rattle.stored_runs.proofs.LegSteps.{IsKeyed, IsSilent}
 use Rattle.stored_runs.proofs.Passing as passing
@@ -55,8 +59,8 @@ steps_more legs l = flat_map-append (λ k. k.steps) legs (l ∷ []) ∙ ap (λ y
 shadow_step : (sites : List Site) (h : Shadow) (xs : List Stepped) (x : Stepped) → shadow_after sites h (xs ++ x ∷ []) ≡ shadow_more sites (shadow_after sites h xs) x
 shadow_step sites h xs x = fold-append (shadow_more sites) h xs (x ∷ [])
 
-module _ (image stored : Image) (levels : ℕ) (limits : ℕ → ℕ) (sites : List Site) (base start : ℕ) (input : List ℕ) (f : IsFrame image stored levels input sites base start)
-    (safe : All (IsSafeSite image levels limits) sites) (near : out_of_reach base sites ≡ None) (few : levels ≤ 8) (small : (k : ℕ) → limits k ≤ 2 ^ 31) (none : (layout_of image).keyed ≡ None) where
+module _ (image stored : Image) (levels : ℕ) (limits : ℕ → ℕ) (sites : List Site) (start : ℕ) (input : List ℕ) (f : IsFrame image stored levels limits input sites start)
+    (few : levels ≤ 8) (small : (k : ℕ) → limits k ≤ 2 ^ 31) (none : (layout_of image).keyed ≡ None) where
   abbrev one : Setting
   one = setting_of image levels input
 
@@ -175,10 +179,10 @@ module _ (image stored : Image) (levels : ℕ) (limits : ℕ → ℕ) (sites : L
   window_more xs x h w e window = subst (λ g. IsWindow levels g.level g.counters w) e window
 
   abbrev Passed : Shadow → List ℕ → State → Option Place → Type 0
-  Passed h w s p = passing.IsPassed image stored levels limits sites base start input f safe near few small h w s p
+  Passed h w s p = passing.IsPassed image stored levels limits sites start input f few small h w s p
 
   abbrev Ended : List ℕ → State → Type 0
-  Ended w s = passing.IsEnded image stored levels limits sites base start input f safe near few small w s
+  Ended w s = passing.IsEnded image stored levels limits sites start input f few small w s
 
   went_on : (r : Run) (g : IsGoing r) → Passed (shadow r.steps) g.w r.state (place_at sites r.state.pc) → IsGoing (ended r.steps (step one r.state).end (step one r.state).state)
   went_on r g p =
@@ -238,9 +242,9 @@ module _ (image stored : Image) (levels : ℕ) (limits : ℕ → ℕ) (sites : L
   more : (r : Run) (g : IsGoing r) → is_word_address image r.state.pc ≡ true → Within r → IsGoing (one_more one r) ⊎ IsOver (one_more one r)
   more r g place within =
       let next : one_more one r ≡ ended r.steps (step one r.state).end (step one r.state).state = ap (one_more_by one r) g.goes_on in
-      let is : passing.IsState image stored levels limits sites base start input f safe near few small (shadow r.steps) g.w r.state =
+      let is : passing.IsState image stored levels limits sites start input f few small (shadow r.steps) g.w r.state =
       record { text = g.text; regs = g.regs; zero = g.zero; window = g.window; within = within; place = place } in
-      elim (passing.passes image stored levels limits sites base start input f safe near few small (shadow r.steps) g.w r.state none is) [
+      elim (passing.passes image stored levels limits sites start input f few small (shadow r.steps) g.w r.state none is) [
         | inl p ↦ inl (subst IsGoing (sym next) (went_on r g p))
         | inr e ↦ inr (subst IsOver (sym next) (ended_now r g e))
       ]
@@ -275,12 +279,12 @@ no_key : (image : Image) → image.keyed_segment ≡ None → (layout_of image).
 unfolding layout_of
 no_key image e = ap (option_map (λ k. k.range)) e
 
-pub stored_runs : (file : List ℕ) (image : Image) (levels : ℕ) (limits : ℕ → ℕ) (sites : List Site) (base start : ℕ) (stored : Image) → IsStubbed file image levels limits sites base start stored →
-    (input : List ℕ) (n : ℕ) → StaysInText image levels input n → KeepsLimits image levels limits sites start input n → IsFollowed image stored levels sites start input n
+-- every run of the original that stays in the text and keeps the limits is followed
+pub frames_follow : (image stored : Image) (levels : ℕ) (limits : ℕ → ℕ) (sites : List Site) (start : ℕ) (input : List ℕ) (f : IsFrame image stored levels limits input sites start) → levels ≤ 8 → ((k : ℕ) → limits k ≤ 2 ^ 31) → image.keyed_segment ≡ None → start < levels →
+    (n : ℕ) → StaysInText image levels input n → KeepsLimits image levels limits sites start input n → IsFollowed image stored levels sites start input n
 unfolding run_of
-stored_runs file image levels limits sites base start stored h input n stays keeps =
-    let f = frame file image stored sites base start levels input h.read h.storable h.stored_is h.ascending in
-    elim (follows image stored levels limits sites base start input f h.safe h.near h.few_levels h.small_limits (no_key image h.storable.no_key) h.start_is_level n stays keeps) [
+frames_follow image stored levels limits sites start input f few small keyless low n stays keeps =
+    elim (follows image stored levels limits sites start input f few small (no_key image keyless) low n stays keeps) [
       | inl g ↦ record {
         legs = g.legs;
         are = g.are;
@@ -304,3 +308,36 @@ stored_runs file image levels limits sites base start stored h input n stays kee
         holds = subst (Holds (shadow_after sites (shadow_first start) (run_of image levels input n).steps)) (sym (ap (λ (r : Run). r.state.window) o.ran)) (holds_of levels (shadow_after sites (shadow_first start) (run_of image levels input n).steps) o.w o.window);
       }
     ]
+
+pub patched_runs : PatchedRunsFollow
+patched_runs = λ image patched levels limits sites start p input n stays keeps.
+    frames_follow image patched levels limits sites start input (of_patched image patched levels limits sites start input p) p.few_levels p.small_limits p.no_key p.start_is_level n stays keeps
+
+-- a block of stubs is an instance
+pub stubbed_patched : StubbedArePatched
+unfolding layout_of
+stubbed_patched = λ file image levels limits sites base start stored h.
+    let f = λ (input : List ℕ). of_block image stored levels limits sites base start input (frame file image stored sites base start levels input h.read h.storable h.stored_is h.ascending) h.safe h.near in
+    let one = f [] in
+    record {
+      original_file = file;
+      original_is = h.read;
+      file = stored_image file (patches_from base sites) base (block_bytes base sites) start;
+      patched_is = h.stored_is;
+      no_key = h.storable.no_key;
+      entry = one.entry;
+      text = one.same_text;
+      segments = one.parts;
+      bytes = λ a text key. one.outside a (or_from (in_text (layout_of stored) a) (is_keyed (layout_of stored) a) text key);
+      words = one.plain;
+      stubs = λ input. (f input).stubs;
+      start_is = one.start_is;
+      start_is_level = h.start_is_level;
+      few_levels = h.few_levels;
+      small_limits = h.small_limits;
+    }
+
+pub stored_runs : (file : List ℕ) (image : Image) (levels : ℕ) (limits : ℕ → ℕ) (sites : List Site) (base start : ℕ) (stored : Image) → IsStubbed file image levels limits sites base start stored →
+    (input : List ℕ) (n : ℕ) → StaysInText image levels input n → KeepsLimits image levels limits sites start input n → IsFollowed image stored levels sites start input n
+stored_runs file image levels limits sites base start stored h input n stays keeps =
+    patched_runs image stored levels limits sites start (stubbed_patched file image levels limits sites base start stored h) input n stays keeps

@@ -40,9 +40,11 @@ use Rattle.stored_runs.proofs.StoredBytes.{IsOff, word_for, ArePatchesApart}
 abbrev pub hidden : Image → ℕ → Bool
 hidden stored a = in_text (layout_of stored) a || is_keyed (layout_of stored) a
 
-pub record IsFrame (image stored : Image) (levels : ℕ) (input : List ℕ) (sites : List Site) (base start : ℕ) : Type 0 where
+-- what a stored image with a block of stubs is
+pub record IsBlockFrame (image stored : Image) (levels : ℕ) (input : List ℕ) (sites : List Site) (base start : ℕ) : Type 0 where
   pub text : IsTextOf (text_of image) (setting_of image levels input)
   pub same_text : (layout_of stored).text ≡ image.text
+  pub parts : (layout_of stored).parts ≡ (layout_of image).parts
   pub alike : (pc : ℕ) → list_any (is_in pc) image.text ≡ true → SeeAlike (layout_of image) (layout_of stored) (hidden stored) pc
   pub fetched : (pc : ℕ) → is_word_address image pc ≡ true → can_fetch (layout_of image) pc ≡ true
   pub fetched_too : (pc : ℕ) → is_word_address image pc ≡ true → can_fetch (layout_of stored) pc ≡ true
@@ -291,11 +293,12 @@ module _ (file : List ℕ) (sites : List Site) (base start levels : ℕ) (input 
         ]
       ]
 
-  pub frame_of : IsFrame (contents file) stored levels input sites base start
+  pub frame_of : IsBlockFrame (contents file) stored levels input sites base start
   unfolding layout_of stored_view
   frame_of = record {
     text = layout_text;
     same_text = ap (λ (l : Layout). l.text) l_is;
+    parts = ap (λ (l : Layout). l.parts) l_is;
     alike = λ pc on. record {
       reads = reads_same pc on;
       writes = writes_same;
@@ -321,13 +324,13 @@ module _ (file : List ℕ) (sites : List Site) (base start levels : ℕ) (input 
   }
 
 pub frame : (file : List ℕ) (image stored : Image) (sites : List Site) (base start levels : ℕ) (input : List ℕ) → image_of file ≡ Ok image → IsStorable image (patches_from base sites) base (block_bytes base sites) start
-    → image_of (stored_image file (patches_from base sites) base (block_bytes base sites) start) ≡ Ok stored → AreAscending sites → IsFrame image stored levels input sites base start
+    → image_of (stored_image file (patches_from base sites) base (block_bytes base sites) start) ≡ Ok stored → AreAscending sites → IsBlockFrame image stored levels input sites base start
 frame file image stored sites base start levels input e h is ascending =
-    let P : Image → Type 0 = λ i. image_of file ≡ Ok i → IsStorable i (patches_from base sites) base (block_bytes base sites) start → IsFrame i stored levels input sites base start in
+    let P : Image → Type 0 = λ i. image_of file ≡ Ok i → IsStorable i (patches_from base sites) base (block_bytes base sites) start → IsBlockFrame i stored levels input sites base start in
     subst P (contents-are file image e)
     (λ e2 h2.
     let view = stored_view (contents file) (stored_image file (patches_from base sites) base (block_bytes base sites) start) base (block_bytes base sites) start in
     let made = law file (contents file) (patches_from base sites) base (block_bytes base sites) start e2 h2 in
     let same : view ≡ stored = cc in
-    subst (λ i. IsFrame (contents file) i levels input sites base start) same (frame_of file sites base start levels input e2 h2 ascending))
+    subst (λ i. IsBlockFrame (contents file) i levels input sites base start) same (frame_of file sites base start levels input e2 h2 ascending))
     e h

@@ -6,6 +6,8 @@ pub mod Windows
 pub mod LegSteps
 pub mod SiteAt
 pub mod Block
+pub mod Placed
+pub mod PatchedFrame
 pub mod Passing
 pub mod Follow
 pub mod LegLaws

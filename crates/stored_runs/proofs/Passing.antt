@@ -1,8 +1,8 @@
 -- One step of the original, and what the stored image makes of it.
-use Rattle.std.proofs.Common.{◌≡◌, ℕ, ℤ, ◌+◌, ◌*◌, ◌%◌, ◌^◌, ◌<◌, ◌≤◌, Bool, true, false, List, [], ◌∷◌, length, get_or, refl, arith, sym, ◌∙◌, ap, subst, Option, Some, None, ◌⊎◌, inl, inr, add-zero, length-append}
+use Rattle.std.proofs.Common.{◌≡◌, ℕ, ℤ, ◌+◌, ◌*◌, ◌%◌, ◌^◌, ◌<◌, ◌≤◌, Bool, true, false, List, [], ◌∷◌, length, refl, arith, sym, ◌∙◌, ap, subst, Option, Some, None, ◌⊎◌, inl, inr}
 use Rattle.std.specs.Prelude.{◌==◌, All}
 use Rattle.std.specs.List.{sum_by, list_any}
-use Rattle.std.proofs.lemmas.Bool.{cond-true, and_parts, or_left, or_right, eqb-true, eq-eqb}
+use Rattle.std.proofs.lemmas.Bool.{cond-true, and_parts, or_left, eqb-true, eq-eqb}
 use Rattle.std.proofs.lemmas.List.Elements.{All-nil, All-cons}
 use Rattle.std.proofs.lemmas.List.Sums.{sum_by-cons}
 use Rattle.scale_base.specs.declared.instruction.BranchOp.{BranchOp}
@@ -18,36 +18,31 @@ use Rattle.scale_base.specs.Image.{Image, loaded_byte, is_word_address, is_in}
 use Rattle.scale_base.specs.Layout.{layout_of, is_keyed, can_fetch, in_text}
 use Rattle.scale_base.specs.Reading.{instr_of}
 use Rattle.scale_base.specs.Arith.{plus, moved_by, is_taken}
-use Rattle.scale_base.specs.Word.{word_of}
 use Rattle.scale_base.specs.State.{Setting, State, reg, word_at}
 use Rattle.scale_base.specs.Step.{Outcome, step, goes, executes, performs, branches, jumps}
 use Rattle.scale_base.specs.Run.{setting_of}
-use Rattle.scale_base.proofs.WordLaws.{word_small}
-use Rattle.elf_patch.specs.Stored.{little}
 use Rattle.run_laws.proofs.KeylessRuns.{step_keyless, EndsKeyless}
 use Rattle.graph_runs.specs.Text.{text_of}
 use Rattle.graph_runs.proofs.TextFacts.{word_within, word_bound, word_same}
 use Rattle.graph_runs.proofs.RunLaws.{went_at, exited_at}
-use Rattle.stub_writer.specs.Stubs.{Site, Way, Place, Forked, Straight, way_rows, jump, taken_at, stubs_len, block_words, block_bytes, patches_from, out_of_reach}
-use Rattle.stub_writer.proofs.Reach.{jump_fits}
+use Rattle.stub_writer.specs.Stubs.{Site, Way, Place, Forked, Straight, fragments_code}
 use Rattle.stub_runs.specs.Meaning.{Leads, IsSound}
 use Rattle.stub_runs.specs.Ways.{turn, way_steps, windows_behind}
-use Rattle.stub_runs.specs.Held.{BytesLie, IsPatched, text_turn}
+use Rattle.stub_runs.specs.Held.{IsPatched, text_turn, WayStands, StubStands}
 use Rattle.stub_runs.specs.Cycles.{cycles, fragment_cost}
 use Rattle.stub_runs.proofs.Steps.{leads_none, leads_first}
-use Rattle.stub_runs.proofs.BlockLaws.{block_stands, rows_lie, words_length, block_length, codes_small, lie_left, lie_right}
-use Rattle.stub_runs.proofs.Passage.{passes_taken, passes_untaken, passes_jump}
+use Rattle.stub_runs.proofs.Ways.{stand_left}
+use Rattle.stub_runs.proofs.Passage.{goes_taken, goes_untaken, goes_on}
 use Rattle.stub_runs.proofs.Cycles.{way_cycles}
 use Rattle.stored_runs.specs.Marks.{Shadow, place_at, fragments_by, jumps_by, tail_cycles, level_stored, shadow_behind}
 use Rattle.stored_runs.specs.Legs.{Stores}
-use Rattle.stored_runs.specs.Stubbed.{IsSafeWay, IsSafeSite, IsOfImage, AreSafeWays}
+use Rattle.stored_runs.specs.Patched.{IsSafeEdge, HasStub}
 use Rattle.stored_runs.proofs.LaidBytes.{laid}
 use Rattle.stored_runs.proofs.SameStep.{over, seen, step_alike}
-use Rattle.stored_runs.proofs.Frame.{IsFrame, hidden}
-use Rattle.stored_runs.proofs.Windows.{IsWindow, IsInBlock, IsEdge, edge_fits}
+use Rattle.stored_runs.proofs.Frame.{hidden}
+use Rattle.stored_runs.proofs.Placed.{IsFrame, word_by, stub_stays}
+use Rattle.stored_runs.proofs.Windows.{IsWindow, IsEdge, edge_fits}
 use Rattle.stored_runs.proofs.LegSteps.{IsKeyed, IsSilent, way_keyed, way_stores, stores_first}
-use Rattle.stored_runs.proofs.SiteAt.{HasStub, has_stub}
-use Rattle.stored_runs.proofs.Block.{are_fine, rows_words}
 
 -- a step that doesn't go on; where it exits, it is one of the text, which stores nothing at the port
 abbrev pub IsStop : StepEnd → State → Type 0
@@ -55,8 +50,8 @@ IsStop (Went x) s = ⊥
 IsStop (Exited x status) s = (x.pc ≡ s.pc) × (x.keyed ≡ false) × (x.port ≡ None)
 IsStop (Trapped trap) s = Unit {0}
 
-module _ (image stored : Image) (levels : ℕ) (limits : ℕ → ℕ) (sites : List Site) (base start : ℕ) (input : List ℕ) (f : IsFrame image stored levels input sites base start)
-    (safe : All (IsSafeSite image levels limits) sites) (near : out_of_reach base sites ≡ None) (few : levels ≤ 8) (small : (k : ℕ) → limits k ≤ 2 ^ 31) where
+module _ (image stored : Image) (levels : ℕ) (limits : ℕ → ℕ) (sites : List Site) (start : ℕ) (input : List ℕ) (f : IsFrame image stored levels limits input sites start)
+    (few : levels ≤ 8) (small : (k : ℕ) → limits k ≤ 2 ^ 31) where
   abbrev pub one : Setting
   one = setting_of image levels input
 
@@ -109,25 +104,8 @@ module _ (image stored : Image) (levels : ℕ) (limits : ℕ → ℕ) (sites : L
   laid_byte : (bytes : ℕ → ℕ) (pc j : ℕ) → is_word_address image pc ≡ true → j < 4 → laid (hidden stored) (loaded_byte stored) bytes (pc + j) ≡ loaded_byte stored (pc + j)
   laid_byte bytes pc j word lt = cond-true (hidden stored (pc + j)) (loaded_byte stored (pc + j)) (bytes (pc + j)) (hidden_byte pc j word lt)
 
-  -- the numbers of four bytes that agree
-  word_by : (one other : ℕ → ℕ) (pc : ℕ) → ((j : ℕ) → j < 4 → one (pc + j) ≡ other (pc + j)) → word_at one pc ≡ word_at other pc
-  word_by x y pc h =
-      let e0 : x pc ≡ y pc = ap x (sym (add-zero pc)) ∙ (h 0 (omega arith) ∙ ap y (add-zero pc)) in
-      let e1 = h 1 (omega arith) in
-      let e2 = h 2 (omega arith) in
-      let e3 = h 3 (omega arith) in
-      cc
-
   laid_word : (bytes : ℕ → ℕ) (pc : ℕ) → is_word_address image pc ≡ true → word_at (laid (hidden stored) (loaded_byte stored) bytes) pc ≡ word_at (loaded_byte stored) pc
   laid_word bytes pc word = word_by (laid (hidden stored) (loaded_byte stored) bytes) (loaded_byte stored) pc (λ j lt. laid_byte bytes pc j word lt)
-
-  patched_word : (pc v : ℕ) → ((j : ℕ) → j < 4 → loaded_byte stored (pc + j) ≡ get_or (little 4 v) j 0) → v < 2 ^ 32 → word_at (loaded_byte stored) pc ≡ v
-  patched_word pc v h lt =
-      let e0 : loaded_byte stored pc ≡ get_or (little 4 v) 0 0 = ap (loaded_byte stored) (sym (add-zero pc)) ∙ h 0 (omega arith) in
-      let e1 : loaded_byte stored (pc + 1) ≡ get_or (little 4 v) 1 0 = h 1 (omega arith) in
-      let e2 : loaded_byte stored (pc + 2) ≡ get_or (little 4 v) 2 0 = h 2 (omega arith) in
-      let e3 : loaded_byte stored (pc + 3) ≡ get_or (little 4 v) 3 0 = h 3 (omega arith) in
-      omega (arith, e0, e1, e2, e3, lt)
 
   -- ---- an instruction that isn't marked
 
@@ -136,7 +114,7 @@ module _ (image stored : Image) (levels : ℕ) (limits : ℕ → ℕ) (sites : L
       let a = in_word s.pc is.place in
       step_alike (layout_of image) (layout_of stored) levels input w (hidden stored) (loaded_byte stored) s (f.alike s.pc a.1) (f.fetched s.pc is.place) (f.fetched_too s.pc is.place)
       (laid_word s.bytes s.pc is.place
-      ∙ (word_by (loaded_byte stored) (loaded_byte image) s.pc (λ j lt. f.plain s.pc j is.place none lt)
+      ∙ (f.plain s.pc is.place none
       ∙ sym (word_kept s is.text is.place)))
 
   -- how a step ended that doesn't go on: the stored image's ends so too
@@ -180,32 +158,10 @@ module _ (image stored : Image) (levels : ℕ) (limits : ℕ → ℕ) (sites : L
   plain_passes : (h : Shadow) (w : List ℕ) (s : State) → (layout_of image).keyed ≡ None → IsState h w s → place_at sites s.pc ≡ None → IsPassed h w s None ⊎ IsEnded w s
   plain_passes h w s none is off = plain_by h w s none (step one s).end (step one s).state refl (plain_step h w s is off) is.window off
 
-  -- ---- the block in the stored run's memory
+  -- ---- the stub in the stored run's memory
 
-  abbrev to : ℕ
-  to = base + length (block_bytes base sites)
-
-  abbrev table : ℕ
-  table = base + 4 * stubs_len sites
-
-  block_lies : (w : List ℕ) (s : State) → BytesLie (up w s).bytes base (block_bytes base sites)
-  block_lies w s = λ j lt.
-      cond-true (hidden stored (base + j)) (loaded_byte stored (base + j)) (s.bytes (base + j))
-      (or_right (in_text (layout_of stored) (base + j)) (is_keyed (layout_of stored) (base + j)) (f.keyed.keyed (base + j) (omega arith) (omega arith)))
-      ∙ f.block j lt
-
-  stub_of : (w : List ℕ) (s : State) (p : Place) → place_at sites s.pc ≡ Some p → HasStub other (up w s).bytes base to image limits s.pc p (patches_from base sites)
-  stub_of w s p found =
-      let fine = are_fine image levels limits sites safe in
-      let words = rows_words image levels limits sites safe in
-      let long = words_length base sites in
-      let bytes = block_length base sites in
-      let fits : base + 4 * length (block_words base sites) ≤ to = omega (arith, bytes) in
-      let even = f.keyed.even in
-      has_stub other (up w s).bytes base to image limits base table s.pc sites p found
-      (block_stands other (up w s).bytes base to sites f.keyed fits fine words near (block_lies w s))
-      (rows_lie other (up w s).bytes base to sites f.keyed fits fine words near (block_lies w s))
-      near even (omega (arith, even)) (omega arith) (omega arith) (omega (arith, bytes, long)) (omega (arith, bytes, long)) safe
+  abbrev StubAt : State → Place → Type 0
+  StubAt s p = HasStub image other (loaded_byte stored) limits s.pc p
 
   -- the state is a machine's
   sound : (h : Shadow) (w : List ℕ) (s : State) → IsState h w s → IsSound other (up w s)
@@ -217,18 +173,19 @@ module _ (image stored : Image) (levels : ℕ) (limits : ℕ → ℕ) (sites : L
     levels = few;
   }
 
-  patched : (h : Shadow) (w : List ℕ) (s : State) (p : Place) (stub : HasStub other (up w s).bytes base to image limits s.pc p (patches_from base sites)) → IsState h w s → IsPatched other (up w s) stub.at
-  patched h w s p stub is =
+  patched : (h : Shadow) (w : List ℕ) (s : State) (p : Place) (b : StubAt s p) → IsState h w s → IsPatched other (up w s) b.stub
+  patched h w s p b is =
       let a = in_word s.pc is.place in
-      let fields = jump_fits s.pc stub.at stub.near in
-      let v = word_of (jump s.pc stub.at) in
-      let word = patched_word s.pc v (λ j lt. f.patched s.pc v j is.place stub.word lt) (word_small v (jump s.pc stub.at) (fields, refl)) in
       record {
-        there = record { keyed = (f.alike s.pc a.1).right; fetched = f.fetched_too s.pc is.place; encodes = (fields, laid_word s.bytes s.pc is.place ∙ word) };
+        there = record { keyed = (f.alike s.pc a.1).right; fetched = f.fetched_too s.pc is.place; encodes = (b.patch.0, laid_word s.bytes s.pc is.place ∙ b.patch.1) };
         pc = omega (arith, word_bound (text_of image) one f.text s.pc a.1);
-        small = omega (arith, stub.ends, f.keyed.room);
-        even = stub.even;
+        small = b.small;
+        even = b.even;
       }
+
+  -- the stub stands in the stored run's memory
+  stands : (w : List ℕ) (s : State) (p : Place) (b : StubAt s p) → StubStands other (up w s).bytes b.stub p
+  stands w s p b = stub_stays stored levels input s.bytes b.stub p b.stands
 
   -- ---- the original's step
 
@@ -274,134 +231,105 @@ module _ (image stored : Image) (levels : ℕ) (limits : ℕ → ℕ) (sites : L
 
   -- ---- passages
 
-  edge_of : (h : Shadow) (w : List ℕ) (s : State) (rows at : ℕ) (way : Way) → IsState h w s → IsSafeWay levels limits way → IsInBlock other (up w s).bytes base to at rows way.fragments → IsEdge other (up w s).bytes s.regs rows at way.fragments h w
-  edge_of h w s rows at way is good block =
-      edge_fits other (up w s).bytes s.regs limits base to rows at way.fragments h w good.ordered good.safe good.few is.within small is.window block
+  edge_of : (h : Shadow) (w : List ℕ) (s : State) (at : ℕ) (way : Way) → IsState h w s → IsSafeEdge levels limits way → (v : WayStands other (up w s).bytes at way) → IsEdge other (up w s).bytes s.regs v.table at way.fragments h w
+  edge_of h w s at way is good v =
+      edge_fits other (up w s).bytes s.regs limits v.table at way.fragments h w good.ordered good.safe good.few is.within small is.window
+      (record { code = stand_left other (up w s).bytes at (fragments_code v.table way.fragments) _ v.code; even = v.even; rows = v.rows; high = v.high })
 
-  pass_taken : (h : Shadow) (w : List ℕ) (s : State) (op : BranchOp) (rs1 rs2 : ℕ) (untaken taken : Way) → IsState h w s → place_at sites s.pc ≡ Some (Forked op rs1 rs2 untaken taken) → IsOfImage image s.pc (Forked op rs1 rs2 untaken taken) → AreSafeWays levels limits (Forked op rs1 rs2 untaken taken)
+  pass_taken : (h : Shadow) (w : List ℕ) (s : State) (op : BranchOp) (rs1 rs2 : ℕ) (untaken taken : Way) → IsState h w s → StubAt s (Forked op rs1 rs2 untaken taken)
       → is_taken op (reg s.regs rs1) (reg s.regs rs2) ≡ true → IsPassed h w s (Some (Forked op rs1 rs2 untaken taken))
-  pass_taken h w s op rs1 rs2 untaken taken is found of_image good took =
+  pass_taken h w s op rs1 rs2 untaken taken is b took =
       let p = Forked op rs1 rs2 untaken taken in
-      let stub = stub_of w s p found in
-      let later = stub.table + 4 * length (way_rows untaken) in
-      let at = taken_at stub.at untaken in
-      let rows_long = length-append (way_rows untaken) (way_rows taken) in
-      let high = f.high in
-      let short = codes_small untaken.fragments in
-      let few_untaken = good.2.few in
-      let block : IsInBlock other (up w s).bytes base to at later taken.fragments = record {
-        keyed = f.keyed;
-        high = f.high;
-        low = omega (arith, stub.low);
-        last = omega (arith, stub.ends);
-        low_rows = omega (arith, stub.low_rows);
-        even = omega (arith, stub.even_rows);
-        rows = lie_right other (up w s).bytes stub.table (way_rows untaken) (way_rows taken) stub.rows;
-        rows_to = omega (arith, stub.rows_to, rows_long);
-      } in
-      let edge = edge_of h w s later at taken is good.3 block in
-      let u : State = record (up w s) { pc = stub.at } in
-      let steps = way_steps u later at taken in
-      let ran = passes_taken other (up w s) stub.at stub.table op rs1 rs2 untaken taken (sound h w s is) (patched h w s p stub is) stub.stand took (omega (arith, short, few_untaken)) (omega (arith, stub.ends, f.keyed.room)) (edge.fit, good.3.small, good.3.even) in
+      let stub = stands w s p b in
+      let good = b.edges.1 in
+      let at = stub.to in
+      let rows = stub.taken_way.table in
+      let edge = edge_of h w s at taken is good stub.taken_way in
+      let u : State = record (up w s) { pc = b.stub } in
+      let steps = way_steps u rows at taken in
+      let ran = goes_taken other (up w s) b.stub op rs1 rs2 untaken taken (sound h w s is) (patched h w s p b is) stub took (edge.fit, good.small, good.even) in
       record {
         x = went_over s taken.to classes.Taken;
         t = record s { pc = taken.to };
-        first = text_turn s.pc stub.at;
-        others = turn stub.at at classes.Taken ∷ steps;
-        after = windows_behind (up w s).bytes s.regs later taken.fragments w;
-        step_is = orig_taken h w s op rs1 rs2 taken.to of_image.0 is of_image.1 of_image.3 good.3.even took;
+        first = text_turn s.pc b.stub;
+        others = turn b.stub at classes.Taken ∷ steps;
+        after = windows_behind (up w s).bytes s.regs rows taken.fragments w;
+        step_is = orig_taken h w s op rs1 rs2 taken.to b.of_image.0 is b.of_image.1 b.of_image.3 good.even took;
         at_is = refl;
         text = refl;
-        keyed = All-cons IsKeyed (turn stub.at at classes.Taken) steps refl (way_keyed u later at taken);
-        cost = λ costs. omega (arith, way_cycles costs u later at taken, sum_by-cons (λ y. costs y.class) (text_turn s.pc stub.at) (turn stub.at at classes.Taken ∷ steps), sum_by-cons (λ y. costs y.class) (turn stub.at at classes.Taken) steps);
-        stores = stores_first (level_stored taken.fragments h) (λ costs. tail_cycles costs taken.fragments) (text_turn s.pc stub.at) (turn stub.at at classes.Taken ∷ steps) refl
-            (stores_first (level_stored taken.fragments h) (λ costs. tail_cycles costs taken.fragments) (turn stub.at at classes.Taken) steps refl
-            (subst (λ o. Stores o (λ costs. tail_cycles costs taken.fragments) steps) edge.stored (way_stores u later at taken good.3.ordered)));
+        keyed = All-cons IsKeyed (turn b.stub at classes.Taken) steps refl (way_keyed u rows at taken);
+        cost = λ costs. omega (arith, way_cycles costs u rows at taken, sum_by-cons (λ y. costs y.class) (text_turn s.pc b.stub) (turn b.stub at classes.Taken ∷ steps), sum_by-cons (λ y. costs y.class) (turn b.stub at classes.Taken) steps);
+        stores = stores_first (level_stored taken.fragments h) (λ costs. tail_cycles costs taken.fragments) (text_turn s.pc b.stub) (turn b.stub at classes.Taken ∷ steps) refl
+            (stores_first (level_stored taken.fragments h) (λ costs. tail_cycles costs taken.fragments) (turn b.stub at classes.Taken) steps refl
+            (subst (λ o. Stores o (λ costs. tail_cycles costs taken.fragments) steps) edge.stored (way_stores u rows at taken good.ordered)));
         leads = ran;
         window = edge.window;
       }
 
-  pass_untaken : (h : Shadow) (w : List ℕ) (s : State) (op : BranchOp) (rs1 rs2 : ℕ) (untaken taken : Way) → IsState h w s → place_at sites s.pc ≡ Some (Forked op rs1 rs2 untaken taken) → IsOfImage image s.pc (Forked op rs1 rs2 untaken taken) → AreSafeWays levels limits (Forked op rs1 rs2 untaken taken)
+  pass_untaken : (h : Shadow) (w : List ℕ) (s : State) (op : BranchOp) (rs1 rs2 : ℕ) (untaken taken : Way) → IsState h w s → StubAt s (Forked op rs1 rs2 untaken taken)
       → is_taken op (reg s.regs rs1) (reg s.regs rs2) ≡ false → IsPassed h w s (Some (Forked op rs1 rs2 untaken taken))
-  pass_untaken h w s op rs1 rs2 untaken taken is found of_image good went_on =
+  pass_untaken h w s op rs1 rs2 untaken taken is b went_on =
       let p = Forked op rs1 rs2 untaken taken in
-      let stub = stub_of w s p found in
-      let at = stub.at + 4 in
-      let rows_long = length-append (way_rows untaken) (way_rows taken) in
-      let block : IsInBlock other (up w s).bytes base to at stub.table untaken.fragments = record {
-        keyed = f.keyed;
-        high = f.high;
-        low = omega (arith, stub.low);
-        last = omega (arith, stub.ends);
-        low_rows = stub.low_rows;
-        even = stub.even_rows;
-        rows = lie_left other (up w s).bytes stub.table (way_rows untaken) (way_rows taken) stub.rows;
-        rows_to = omega (arith, stub.rows_to, rows_long);
-      } in
-      let edge = edge_of h w s stub.table at untaken is good.2 block in
-      let u : State = record (up w s) { pc = stub.at } in
-      let steps = way_steps u stub.table at untaken in
-      let ran = passes_untaken other (up w s) stub.at stub.table op rs1 rs2 untaken taken (sound h w s is) (patched h w s p stub is) stub.stand went_on (edge.fit, good.2.small, good.2.even) in
+      let stub = stands w s p b in
+      let good = b.edges.0 in
+      let at = b.stub + 4 in
+      let rows = stub.untaken_way.table in
+      let edge = edge_of h w s at untaken is good stub.untaken_way in
+      let u : State = record (up w s) { pc = b.stub } in
+      let steps = way_steps u rows at untaken in
+      let ran = goes_untaken other (up w s) b.stub op rs1 rs2 untaken taken (sound h w s is) (patched h w s p b is) stub went_on (edge.fit, good.small, good.even) in
       record {
         x = went_over s untaken.to classes.Untaken;
         t = record s { pc = untaken.to };
-        first = text_turn s.pc stub.at;
-        others = turn stub.at at classes.Untaken ∷ steps;
-        after = windows_behind (up w s).bytes s.regs stub.table untaken.fragments w;
-        step_is = orig_untaken h w s op rs1 rs2 untaken.to of_image.0 is of_image.1 of_image.2 went_on;
+        first = text_turn s.pc b.stub;
+        others = turn b.stub at classes.Untaken ∷ steps;
+        after = windows_behind (up w s).bytes s.regs rows untaken.fragments w;
+        step_is = orig_untaken h w s op rs1 rs2 untaken.to b.of_image.0 is b.of_image.1 b.of_image.2 went_on;
         at_is = refl;
         text = refl;
-        keyed = All-cons IsKeyed (turn stub.at at classes.Untaken) steps refl (way_keyed u stub.table at untaken);
-        cost = λ costs. omega (arith, way_cycles costs u stub.table at untaken, sum_by-cons (λ y. costs y.class) (text_turn s.pc stub.at) (turn stub.at at classes.Untaken ∷ steps), sum_by-cons (λ y. costs y.class) (turn stub.at at classes.Untaken) steps);
-        stores = stores_first (level_stored untaken.fragments h) (λ costs. tail_cycles costs untaken.fragments) (text_turn s.pc stub.at) (turn stub.at at classes.Untaken ∷ steps) refl
-            (stores_first (level_stored untaken.fragments h) (λ costs. tail_cycles costs untaken.fragments) (turn stub.at at classes.Untaken) steps refl
-            (subst (λ o. Stores o (λ costs. tail_cycles costs untaken.fragments) steps) edge.stored (way_stores u stub.table at untaken good.2.ordered)));
+        keyed = All-cons IsKeyed (turn b.stub at classes.Untaken) steps refl (way_keyed u rows at untaken);
+        cost = λ costs. omega (arith, way_cycles costs u rows at untaken, sum_by-cons (λ y. costs y.class) (text_turn s.pc b.stub) (turn b.stub at classes.Untaken ∷ steps), sum_by-cons (λ y. costs y.class) (turn b.stub at classes.Untaken) steps);
+        stores = stores_first (level_stored untaken.fragments h) (λ costs. tail_cycles costs untaken.fragments) (text_turn s.pc b.stub) (turn b.stub at classes.Untaken ∷ steps) refl
+            (stores_first (level_stored untaken.fragments h) (λ costs. tail_cycles costs untaken.fragments) (turn b.stub at classes.Untaken) steps refl
+            (subst (λ o. Stores o (λ costs. tail_cycles costs untaken.fragments) steps) edge.stored (way_stores u rows at untaken good.ordered)));
         leads = ran;
         window = edge.window;
       }
 
-  pass_jump : (h : Shadow) (w : List ℕ) (s : State) (way : Way) → IsState h w s → place_at sites s.pc ≡ Some (Straight way) → IsOfImage image s.pc (Straight way) → AreSafeWays levels limits (Straight way) → IsPassed h w s (Some (Straight way))
-  pass_jump h w s way is found of_image good =
+  pass_jump : (h : Shadow) (w : List ℕ) (s : State) (way : Way) → IsState h w s → StubAt s (Straight way) → IsPassed h w s (Some (Straight way))
+  pass_jump h w s way is b =
       let p = Straight way in
-      let stub = stub_of w s p found in
-      let block : IsInBlock other (up w s).bytes base to stub.at stub.table way.fragments = record {
-        keyed = f.keyed;
-        high = f.high;
-        low = stub.low;
-        last = omega (arith, stub.ends);
-        low_rows = stub.low_rows;
-        even = stub.even_rows;
-        rows = stub.rows;
-        rows_to = stub.rows_to;
-      } in
-      let edge = edge_of h w s stub.table stub.at way is good block in
-      let u : State = record (up w s) { pc = stub.at } in
-      let steps = way_steps u stub.table stub.at way in
-      let ran = passes_jump other (up w s) stub.at stub.table way (sound h w s is) (patched h w s p stub is) stub.stand (edge.fit, good.small, good.even) in
+      let stub = stands w s p b in
+      let good = b.edges in
+      let rows = stub.table in
+      let edge = edge_of h w s b.stub way is good stub in
+      let u : State = record (up w s) { pc = b.stub } in
+      let steps = way_steps u rows b.stub way in
+      let ran = goes_on other (up w s) b.stub way (sound h w s is) (patched h w s p b is) stub (edge.fit, good.small, good.even) in
       record {
         x = went_over s way.to classes.Jump;
         t = record s { pc = way.to };
-        first = text_turn s.pc stub.at;
+        first = text_turn s.pc b.stub;
         others = steps;
-        after = windows_behind (up w s).bytes s.regs stub.table way.fragments w;
-        step_is = orig_jump h w s way.to of_image.0 is of_image.1 of_image.2 good.even;
+        after = windows_behind (up w s).bytes s.regs rows way.fragments w;
+        step_is = orig_jump h w s way.to b.of_image.0 is b.of_image.1 b.of_image.2 good.even;
         at_is = refl;
         text = refl;
-        keyed = way_keyed u stub.table stub.at way;
-        cost = λ costs. omega (arith, way_cycles costs u stub.table stub.at way, sum_by-cons (λ y. costs y.class) (text_turn s.pc stub.at) steps);
-        stores = stores_first (level_stored way.fragments h) (λ costs. tail_cycles costs way.fragments) (text_turn s.pc stub.at) steps refl
-            (subst (λ o. Stores o (λ costs. tail_cycles costs way.fragments) steps) edge.stored (way_stores u stub.table stub.at way good.ordered));
+        keyed = way_keyed u rows b.stub way;
+        cost = λ costs. omega (arith, way_cycles costs u rows b.stub way, sum_by-cons (λ y. costs y.class) (text_turn s.pc b.stub) steps);
+        stores = stores_first (level_stored way.fragments h) (λ costs. tail_cycles costs way.fragments) (text_turn s.pc b.stub) steps refl
+            (subst (λ o. Stores o (λ costs. tail_cycles costs way.fragments) steps) edge.stored (way_stores u rows b.stub way good.ordered));
         leads = ran;
         window = edge.window;
       }
 
-  marked_passes : (h : Shadow) (w : List ℕ) (s : State) (p : Place) → IsState h w s → place_at sites s.pc ≡ Some p → IsOfImage image s.pc p → AreSafeWays levels limits p → IsPassed h w s (Some p)
-  marked_passes h w s (Forked op rs1 rs2 untaken taken) is found of_image good = by_way (is_taken op (reg s.regs rs1) (reg s.regs rs2)) refl
+  marked_passes : (h : Shadow) (w : List ℕ) (s : State) (p : Place) → IsState h w s → StubAt s p → IsPassed h w s (Some p)
+  marked_passes h w s (Forked op rs1 rs2 untaken taken) is b = by_way (is_taken op (reg s.regs rs1) (reg s.regs rs2)) refl
     where
-      by_way : (b : Bool) → is_taken op (reg s.regs rs1) (reg s.regs rs2) ≡ b → IsPassed h w s (Some (Forked op rs1 rs2 untaken taken))
-      by_way true e = pass_taken h w s op rs1 rs2 untaken taken is found of_image good e
-      by_way false e = pass_untaken h w s op rs1 rs2 untaken taken is found of_image good e
-  marked_passes h w s (Straight way) is found of_image good = pass_jump h w s way is found of_image good
+      by_way : (t : Bool) → is_taken op (reg s.regs rs1) (reg s.regs rs2) ≡ t → IsPassed h w s (Some (Forked op rs1 rs2 untaken taken))
+      by_way true e = pass_taken h w s op rs1 rs2 untaken taken is b e
+      by_way false e = pass_untaken h w s op rs1 rs2 untaken taken is b e
+  marked_passes h w s (Straight way) is b = pass_jump h w s way is b
 
   -- a step of the original, whatever stands at its address
   pub passes : (h : Shadow) (w : List ℕ) (s : State) → (layout_of image).keyed ≡ None → IsState h w s → IsPassed h w s (place_at sites s.pc) ⊎ IsEnded w s
@@ -412,8 +340,4 @@ module _ (image stored : Image) (levels : ℕ) (limits : ℕ → ℕ) (sites : L
         | inl went ↦ inl (subst (IsPassed h w s) (sym e) went)
         | inr ended ↦ inr ended
       ]
-      by_place (Some p) e =
-          let stub = stub_of w s p e in
-          let of_image = subst (λ a. IsOfImage image a p) stub.at_is (subst (IsOfImage image stub.site.at) stub.place_is stub.safe.place) in
-          let good = subst (AreSafeWays levels limits) stub.place_is stub.safe.ways in
-          inl (subst (IsPassed h w s) (sym e) (marked_passes h w s p is e of_image good))
+      by_place (Some p) e = inl (subst (IsPassed h w s) (sym e) (marked_passes h w s p is (f.stubs s.pc p is.place e)))

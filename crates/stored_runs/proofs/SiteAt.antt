@@ -17,7 +17,7 @@ use Rattle.stored_runs.specs.Marks.{place_at}
 use Rattle.stored_runs.specs.Stubbed.{IsSafeSite}
 use Rattle.stored_runs.proofs.StoredBytes.{word_for}
 
-pub record HasStub (env : Setting) (bytes : ℕ → ℕ) (base to : ℕ) (image : Image) (limits : ℕ → ℕ) (pc : ℕ) (p : Place) (patches : List Patch) : Type 0 where
+pub record IsInBlock (env : Setting) (bytes : ℕ → ℕ) (base to : ℕ) (image : Image) (limits : ℕ → ℕ) (pc : ℕ) (p : Place) (patches : List Patch) : Type 0 where
   pub at : ℕ
   pub table : ℕ
   pub site : Site
@@ -38,7 +38,7 @@ pub record HasStub (env : Setting) (bytes : ℕ → ℕ) (base to : ℕ) (image 
 module _ (env : Setting) (bytes : ℕ → ℕ) (base to : ℕ) (image : Image) (limits : ℕ → ℕ) where
   here : (at table pc : ℕ) (site : Site) (sites : List Site) (p : Place) → site.at ≡ pc → site.place ≡ p → StubsStand env bytes at table (site ∷ sites) → Lie env bytes table (block_rows (site ∷ sites)) → is_near at site ≡ true
       → at % 4 ≡ 0 → table % 4 ≡ 0 → base ≤ at → base ≤ table → at + 4 * stubs_len (site ∷ sites) ≤ to → table + 4 * length (block_rows (site ∷ sites)) ≤ to → All (IsSafeSite image env.levels limits) (site ∷ sites)
-      → word_for (patches_from at (site ∷ sites)) pc ≡ Some (word_of (jump site.at at)) → HasStub env bytes base to image limits pc p (patches_from at (site ∷ sites))
+      → word_for (patches_from at (site ∷ sites)) pc ≡ Some (word_of (jump site.at at)) → IsInBlock env bytes base to image limits pc p (patches_from at (site ∷ sites))
   here at table pc site sites p at_is place_is stand rows near even even_rows low low_rows ends rows_to safe word =
       let close = and_parts (reaches site.at at) (stub_reaches_of at site.place) near in
       let len : stubs_len (site ∷ sites) ≡ stub_len site + stubs_len sites = sum_by-cons stub_len site sites in
@@ -66,7 +66,7 @@ module _ (env : Setting) (bytes : ℕ → ℕ) (base to : ℕ) (image : Image) (
         safe = safe 0 site (omega arith);
       }
 
-  later : (pc w : ℕ) (p : Place) (first : Patch) (patches : List Patch) → (first.at == pc) ≡ false → HasStub env bytes base to image limits pc p patches → HasStub env bytes base to image limits pc p (first ∷ patches)
+  later : (pc w : ℕ) (p : Place) (first : Patch) (patches : List Patch) → (first.at == pc) ≡ false → IsInBlock env bytes base to image limits pc p patches → IsInBlock env bytes base to image limits pc p (first ∷ patches)
   later pc w p first patches off h = record {
     at = h.at;
     table = h.table;
@@ -87,7 +87,7 @@ module _ (env : Setting) (bytes : ℕ → ℕ) (base to : ℕ) (image : Image) (
   }
 
   pub has_stub : (at table pc : ℕ) (sites : List Site) (p : Place) → place_at sites pc ≡ Some p → StubsStand env bytes at table sites → Lie env bytes table (block_rows sites) → out_of_reach at sites ≡ None
-      → at % 4 ≡ 0 → table % 4 ≡ 0 → base ≤ at → base ≤ table → at + 4 * stubs_len sites ≤ to → table + 4 * length (block_rows sites) ≤ to → All (IsSafeSite image env.levels limits) sites → HasStub env bytes base to image limits pc p (patches_from at sites)
+      → at % 4 ≡ 0 → table % 4 ≡ 0 → base ≤ at → base ≤ table → at + 4 * stubs_len sites ≤ to → table + 4 * length (block_rows sites) ≤ to → All (IsSafeSite image env.levels limits) sites → IsInBlock env bytes base to image limits pc p (patches_from at sites)
   has_stub at table pc [] p found stand rows near even even_rows low low_rows ends rows_to safe = absurd cc
   has_stub at table pc (site ∷ sites) p found stand rows near even even_rows low low_rows ends rows_to safe =
       let next_at = at + 4 * stub_len site in
@@ -101,7 +101,7 @@ module _ (env : Setting) (bytes : ℕ → ℕ) (base to : ℕ) (image : Image) (
       (λ f. has_stub next_at next_table pc sites p f stand.1 behind close.1 (omega (arith, even)) (omega (arith, even_rows)) (omega (arith, low)) (omega (arith, low_rows)) (omega (arith, len, ends)) (omega (arith, long, rows_to)) (λ k d lt. safe (suc k) d (omega arith)))
     where
       step : (b : Bool) → (site.at == pc) ≡ b → cond b (Some site.place) (place_at sites pc) ≡ Some p → is_near at site ≡ true
-          → (place_at sites pc ≡ Some p → HasStub env bytes base to image limits pc p (patches_from (at + 4 * stub_len site) sites)) → HasStub env bytes base to image limits pc p (patches_from at (site ∷ sites))
+          → (place_at sites pc ≡ Some p → IsInBlock env bytes base to image limits pc p (patches_from (at + 4 * stub_len site) sites)) → IsInBlock env bytes base to image limits pc p (patches_from at (site ∷ sites))
       step true e f close go =
           let same : site.place ≡ p = cc in
           here at table pc site sites p (eqb-true site.at pc e) same stand rows close even even_rows low low_rows ends rows_to safe

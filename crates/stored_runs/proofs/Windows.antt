@@ -1,25 +1,25 @@
 -- The window along the fragments of an edge: they fit, and it holds the level and the counters that the marks lead to.
 use Rattle.std.proofs.Common.{◌≡◌, ℕ, suc, ◌+◌, ◌*◌, ◌/◌, ◌%◌, ◌^◌, ◌<◌, ◌≤◌, Bool, true, false, cond, List, [], ◌∷◌, ◌++◌, length, length-append, get_or, refl, arith, sym, ◌∙◌, ap, subst, length-set, get_or-set_other}
 use Rattle.std.specs.Prelude.{slice_index, slice_set, ◌==◌, All, if◌then◌else◌, Option, Some, None}
-use Rattle.std.specs.List.{sum_by}
 use Rattle.std.proofs.lemmas.Nat.{le-div, pow_pos}
 use Rattle.std.proofs.Math.Nat.{div-mul-le_self}
 use Rattle.std.proofs.lemmas.List.{get_or-set_same, get_or_append_left}
 use Rattle.std.proofs.lemmas.List.Elements.{All-cons}
 use Rattle.std.proofs.lemmas.List.Concat.{flat_map-cons}
-use Rattle.std.proofs.lemmas.List.Sums.{sum_by-cons}
 use Rattle.std.proofs.lemmas.Bool.{eqb-true, eqb-false}
 use Rattle.scale_base.specs.declared.fragments.Fragment.{Fragment}
 use Rattle.scale_base.specs.declared.fragments.Fragment.TheVariants.{Switch, Exit, Reset, Count}
+use Rattle.scale_base.specs.Layout.{is_keyed}
 use Rattle.scale_base.specs.State.{Setting, reg, word_at}
 use Rattle.stub_writer.specs.Fragments.{t0, port, code_len, rows_len, rows_of, IsShadow}
-use Rattle.stub_writer.specs.Stubs.{rows_by}
-use Rattle.stub_runs.specs.Meaning.{nibble, IsCounter, IsRowAt}
+use Rattle.stub_writer.specs.Stubs.{rows_by, fragments_code}
+use Rattle.stub_runs.specs.Meaning.{Stand, nibble, IsCounter, IsRowAt}
 use Rattle.stub_runs.specs.Ways.{row_at, saved_in, window_behind, Fits, windows_behind, AllFit}
-use Rattle.stub_runs.specs.Held.{Lie, KeyedFrom}
-use Rattle.stub_runs.proofs.Passage.{row_is_there, word_lies}
+use Rattle.stub_runs.specs.Held.{Lie}
+use Rattle.stub_runs.proofs.Passage.{row_lies, one_lies, word_lies}
 use Rattle.stored_runs.specs.Marks.{Shadow, level_stored, counters_after, counters_behind, shadow_behind}
-use Rattle.stored_runs.specs.Stubbed.{IsSafe, IsQuiet, AreOrdered}
+use Rattle.stored_runs.specs.Stubbed.{IsQuiet, AreOrdered}
+use Rattle.stored_runs.specs.Patched.{IsSafeFragment}
 
 -- the window holds a level and counters
 pub record IsWindow (levels level : ℕ) (c : ℕ → ℕ) (w : List ℕ) : Type 0 where
@@ -94,7 +94,7 @@ record IsOneQuiet (env : Setting) (bytes : ℕ → ℕ) (regs : List ℕ) (table
   fit : Fits env bytes table at f w
   window : IsWindow env.levels level (counters_after f c) (window_behind bytes regs table f w)
 
-one_quiet : (env : Setting) (bytes : ℕ → ℕ) (regs : List ℕ) (limits : ℕ → ℕ) (table at level : ℕ) (f : Fragment) (c : ℕ → ℕ) (w : List ℕ) → IsQuiet f → IsSafe env.levels limits f → ((k : ℕ) → c k + 1 < 2 ^ 32) → IsWindow env.levels level c w
+one_quiet : (env : Setting) (bytes : ℕ → ℕ) (regs : List ℕ) (limits : ℕ → ℕ) (table at level : ℕ) (f : Fragment) (c : ℕ → ℕ) (w : List ℕ) → IsQuiet f → IsSafeFragment env.levels limits f → ((k : ℕ) → c k + 1 < 2 ^ 32) → IsWindow env.levels level c w
     → IsOneQuiet env bytes regs table at level f c w
 one_quiet env bytes regs limits table at level (Switch word) c w quiet safe small h = absurd quiet
 one_quiet env bytes regs limits table at level (Exit counter shift rows) c w quiet safe small h = absurd quiet
@@ -113,7 +113,7 @@ one_quiet env bytes regs limits table at level (Count counter) c w quiet safe sm
     at_word k true e more = let same : k ≡ counter = eqb-true k counter e in more ∙ ap (λ j. c j + 1) (sym same)
     at_word k false e more = refl
 
-pub are_quiet : (env : Setting) (bytes : ℕ → ℕ) (regs : List ℕ) (limits : ℕ → ℕ) (table at level : ℕ) (fs : List Fragment) (c : ℕ → ℕ) (w : List ℕ) → All IsQuiet fs → All (IsSafe env.levels limits) fs → ((k : ℕ) → c k + length fs < 2 ^ 32) → IsWindow env.levels level c w
+pub are_quiet : (env : Setting) (bytes : ℕ → ℕ) (regs : List ℕ) (limits : ℕ → ℕ) (table at level : ℕ) (fs : List Fragment) (c : ℕ → ℕ) (w : List ℕ) → All IsQuiet fs → All (IsSafeFragment env.levels limits) fs → ((k : ℕ) → c k + length fs < 2 ^ 32) → IsWindow env.levels level c w
     → AreQuietly env bytes regs table at level fs c w
 are_quiet env bytes regs limits table at level [] c w quiet safe small h = record { fit = tt; window = h }
 are_quiet env bytes regs limits table at level (f ∷ fs) c w quiet safe small h =
@@ -124,16 +124,12 @@ are_quiet env bytes regs limits table at level (f ∷ fs) c w quiet safe small h
 
 -- ---- the fragments of an edge
 
--- the code lies in the block from `at` on, and the rows from `table` on
-pub record IsInBlock (env : Setting) (bytes : ℕ → ℕ) (base to at table : ℕ) (fs : List Fragment) : Type 0 where
-  pub keyed : KeyedFrom env base to
-  pub high : to ≤ 0xFFFFF800
-  pub low : base ≤ at
-  pub last : at + 4 * sum_by code_len fs ≤ to
-  pub low_rows : base ≤ table
+-- the code stands from `at` on, and the rows lie from `table` on
+pub record AreInPlace (env : Setting) (bytes : ℕ → ℕ) (at table : ℕ) (fs : List Fragment) : Type 0 where
+  pub code : Stand env bytes at (fragments_code table fs)
   pub even : table % 4 ≡ 0
   pub rows : Lie env bytes table (rows_by fs)
-  pub rows_to : table + 4 * length (rows_by fs) ≤ to
+  pub high : table + 4 * length (rows_by fs) ≤ 0xFFFFF800
 
 -- the level that they store at the port, if they store one
 abbrev pub port_by : (bytes : ℕ → ℕ) (table : ℕ) → List Fragment → List ℕ → Option ℕ
@@ -150,9 +146,9 @@ pub record IsEdge (env : Setting) (bytes : ℕ → ℕ) (regs : List ℕ) (table
   pub stored : port_by bytes table fs w ≡ level_stored fs h
 
 -- the row that an Exit reads is the one of its count
-pub row_is : (env : Setting) (bytes : ℕ → ℕ) (base to at table counter shift : ℕ) (rows : List ℕ) (fs : List Fragment) (limits : ℕ → ℕ) (c : ℕ → ℕ) (w : List ℕ) → IsInBlock env bytes base to at table (Exit counter shift rows ∷ fs) → slice_index w counter ≡ c counter → c counter ≤ limits counter
+pub row_is : (env : Setting) (bytes : ℕ → ℕ) (at table counter shift : ℕ) (rows : List ℕ) (fs : List Fragment) (limits : ℕ → ℕ) (c : ℕ → ℕ) (w : List ℕ) → AreInPlace env bytes at table (Exit counter shift rows ∷ fs) → slice_index w counter ≡ c counter → c counter ≤ limits counter
     → limits counter / 2 ^ shift < length rows → (row_at bytes table counter shift w ≡ get_or rows (c counter / 2 ^ shift) 0) × (c counter / 2 ^ shift < length rows)
-row_is env bytes base to at table counter shift rows fs limits c w block here within few =
+row_is env bytes at table counter shift rows fs limits c w block here within few =
     let n = c counter / 2 ^ shift in
     let low : n < length rows = le_lt n (limits counter / 2 ^ shift) (length rows) (div_up (2 ^ shift) (c counter) (limits counter) (pow_pos shift) within) few in
     let all = subst (Lie env bytes table) (flat_map-cons rows_of (Exit counter shift rows) fs) block.rows in
@@ -171,10 +167,10 @@ row_is env bytes base to at table counter shift rows fs limits c w block here wi
     div_up : (k a b : ℕ) → 0 < k → a ≤ b → a / k ≤ b / k
     div_up k a b pos h = le-div (a / k) b k pos (at_most (a / k * k) a b (div-mul-le_self a k) h)
 
-pub edge_fits : (env : Setting) (bytes : ℕ → ℕ) (regs : List ℕ) (limits : ℕ → ℕ) (base to table at : ℕ) (fs : List Fragment) (h : Shadow) (w : List ℕ) → AreOrdered fs → All (IsSafe env.levels limits) fs → length fs ≤ 17 → ((k : ℕ) → h.counters k ≤ limits k) → ((k : ℕ) → limits k ≤ 2 ^ 31)
-    → IsWindow env.levels h.level h.counters w → IsInBlock env bytes base to at table fs → IsEdge env bytes regs table at fs h w
-edge_fits env bytes regs limits base to table at [] h w ordered safe few within small win block = record { fit = tt; window = win; stored = refl }
-edge_fits env bytes regs limits base to table at (Switch word ∷ fs) h w ordered safe few within small win block =
+pub edge_fits : (env : Setting) (bytes : ℕ → ℕ) (regs : List ℕ) (limits : ℕ → ℕ) (table at : ℕ) (fs : List Fragment) (h : Shadow) (w : List ℕ) → AreOrdered fs → All (IsSafeFragment env.levels limits) fs → length fs ≤ 64 → ((k : ℕ) → h.counters k ≤ limits k) → ((k : ℕ) → limits k ≤ 2 ^ 31)
+    → IsWindow env.levels h.level h.counters w → AreInPlace env bytes at table fs → IsEdge env bytes regs table at fs h w
+edge_fits env bytes regs limits table at [] h w ordered safe few within small win block = record { fit = tt; window = win; stored = refl }
+edge_fits env bytes regs limits table at (Switch word ∷ fs) h w ordered safe few within small win block =
     let is = safe 0 (Switch word) (omega arith) in
     let new = nibble word (slice_index w port) in
     let level : new ≡ nibble word h.level = ap (nibble word) win.port in
@@ -184,21 +180,27 @@ edge_fits env bytes regs limits base to table at (Switch word ∷ fs) h w ordere
     let rest = are_quiet env bytes regs limits (table + 4 * rows_len (Switch word)) (at + 4 * 11) new fs h.counters (window_behind bytes regs table (Switch word) w) ordered
     (λ k d lt. safe (suc k) d (omega arith)) (λ k. omega (arith, within k, small k, few)) here in
     record { fit = ((is.0, low), rest.fit); window = subst (λ v. IsWindow env.levels v (counters_behind fs h.counters) (windows_behind bytes regs table (Switch word ∷ fs) w)) level rest.window; stored = ap (λ v. Some v) level }
-edge_fits env bytes regs limits base to table at (Exit counter shift rows ∷ fs) h w ordered safe few within small win block =
+edge_fits env bytes regs limits table at (Exit counter shift rows ∷ fs) h w ordered safe few within small win block =
     let is = safe 0 (Exit counter shift rows) (omega arith) in
     let c = h.counters in
     let n = c counter / 2 ^ shift in
     let held : slice_index w counter ≡ c counter = win.counters counter is.0 in
-    let row = row_is env bytes base to at table counter shift rows fs limits c w block held (within counter) is.3 in
+    let row = row_is env bytes at table counter shift rows fs limits c w block held (within counter) is.2 in
     let got : nibble (row_at bytes table counter shift w) (slice_index w port) ≡ nibble (get_or rows n 0) h.level =
     ap (λ r. nibble r (slice_index w port)) row.0 ∙ ap (nibble (get_or rows n 0)) win.port in
     let new = nibble (row_at bytes table counter shift w) (slice_index w port) in
-    let table_is = is.4 n 0 row.1 in
+    let table_is = is.3 n 0 row.1 in
     let low : new < env.levels = subst (λ v. v < env.levels) (sym got) (table_is.1 h.level win.is_level) in
     let place : slice_index w counter / 2 ^ shift ≡ n = ap (λ k. k / 2 ^ shift) held in
     let long : length (rows_by (Exit counter shift rows ∷ fs)) ≡ length rows + length (rows_by fs) = ap (λ (l : List ℕ). length l) (flat_map-cons rows_of (Exit counter shift rows) fs) ∙ length-append rows (rows_by fs) in
-    let last : at + 28 < to = omega (arith, block.last, sum_by-cons code_len (Exit counter shift rows) fs) in
-    let there = row_is_there env base to (at + 28) (table + 4 * n) block.keyed (block.keyed.keyed (at + 28) (omega (arith, block.low)) last) (omega (arith, block.low_rows)) (omega (arith, block.rows_to, long, row.1)) (omega (arith, block.even)) block.high in
+    let seventh = block.code.1.1.1.1.1.1.1.0.keyed in
+    let here_is : at + 4 + 4 + 4 + 4 + 4 + 4 + 4 ≡ at + 28 = omega arith in
+    let keyed : is_keyed env.layout (at + 28) ≡ true = subst (λ a. is_keyed env.layout a ≡ true) here_is seventh in
+    let many : n < length (rows_by (Exit counter shift rows ∷ fs)) = omega (arith, long, row.1) in
+    let lies = one_lies env bytes table n (rows_by (Exit counter shift rows ∷ fs)) many block.rows in
+    let even = block.even in
+    let high = block.high in
+    let there = row_lies env bytes (at + 28) (table + 4 * n) (get_or (rows_by (Exit counter shift rows ∷ fs)) n 0) keyed lies (omega (arith, even)) (omega (arith, high, many)) in
     let saved = put_slot env.levels h.level c (slice_set w 0 (reg regs 5)) 1 (reg regs 6) (omega arith) (put_slot env.levels h.level c w 0 (reg regs 5) (omega arith) win) in
     let cleared = put_counter env.levels h.level c (saved_in regs w) counter 0 is.0 saved in
     let here = put_level env.levels h.level (counters_after (Exit counter shift rows) c) (slice_set (saved_in regs w) counter 0) new low cleared in
@@ -209,9 +211,9 @@ edge_fits env bytes regs limits base to table at (Exit counter shift rows ∷ fs
       window = subst (λ v. IsWindow env.levels v (counters_behind fs (counters_after (Exit counter shift rows) c)) (windows_behind bytes regs table (Exit counter shift rows ∷ fs) w)) got rest.window;
       stored = ap (λ v. Some v) got;
     }
-edge_fits env bytes regs limits base to table at (Reset counter ∷ fs) h w ordered safe few within small win block =
+edge_fits env bytes regs limits table at (Reset counter ∷ fs) h w ordered safe few within small win block =
     let all = are_quiet env bytes regs limits table at h.level (Reset counter ∷ fs) h.counters w (All-cons IsQuiet (Reset counter) fs tt ordered) safe (λ k. omega (arith, within k, small k, few)) win in
     record { fit = all.fit; window = all.window; stored = refl }
-edge_fits env bytes regs limits base to table at (Count counter ∷ fs) h w ordered safe few within small win block =
+edge_fits env bytes regs limits table at (Count counter ∷ fs) h w ordered safe few within small win block =
     let all = are_quiet env bytes regs limits table at h.level (Count counter ∷ fs) h.counters w (All-cons IsQuiet (Count counter) fs tt ordered) safe (λ k. omega (arith, within k, small k, few)) win in
     record { fit = all.fit; window = all.window; stored = refl }

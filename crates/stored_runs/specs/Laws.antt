@@ -12,11 +12,22 @@ use Rattle.stub_runs.specs.Cycles.{cycles}
 use Rattle.stored_runs.specs.Marks.{Shadow, extra_cycles, stored_cycles}
 use Rattle.stored_runs.specs.Legs.{Leg, AreLegs, originals, all_steps}
 use Rattle.stored_runs.specs.Stubbed.{IsStubbed, StaysInText, KeepsLimits, IsFollowed}
+use Rattle.stored_runs.specs.Patched.{IsPatched}
 
 -- The stored image follows each run of the original that stays in the text and keeps the counters' limits.
 abbrev pub StoredRunsFollow : Type 0
 StoredRunsFollow = (file : List ℕ) (image : Image) (levels : ℕ) (limits : ℕ → ℕ) (sites : List Site) (base start : ℕ) (stored : Image) → IsStubbed file image levels limits sites base start stored →
     (input : List ℕ) (n : ℕ) → StaysInText image levels input n → KeepsLimits image levels limits sites start input n → IsFollowed image stored levels sites start input n
+
+-- The same of a patched image, whose stubs may stand anywhere.
+abbrev pub PatchedRunsFollow : Type 0
+PatchedRunsFollow = (image patched : Image) (levels : ℕ) (limits : ℕ → ℕ) (sites : List Site) (start : ℕ) → IsPatched image patched levels limits sites start →
+    (input : List ℕ) (n : ℕ) → StaysInText image levels input n → KeepsLimits image levels limits sites start input n → IsFollowed image patched levels sites start input n
+
+-- An image that is stored with a block of stubs is a patched one.
+abbrev pub StubbedArePatched : Type 0
+StubbedArePatched = (file : List ℕ) (image : Image) (levels : ℕ) (limits : ℕ → ℕ) (sites : List Site) (base start : ℕ) (stored : Image) → IsStubbed file image levels limits sites base start stored →
+    IsPatched image stored levels limits sites start
 
 -- the steps that were fetched outside the keyed segment
 abbrev pub text_steps : List Stepped → List Stepped

@@ -2,11 +2,18 @@
 //! which costs the stored weight of its edge and stores at the speed port what the edge's marks choose.
 #![tactic(auto)]
 
-ghost use Rattle.stored_runs.specs.Laws.{LegsAreLong, LegsAreShort, LegsCostStoredWeights, LegsHaveOneStepOfText, MeetingsAreOnce, StoredRunsFollow};
+ghost use Rattle.stored_runs.specs.Laws.{LegsAreLong, LegsAreShort, LegsCostStoredWeights, LegsHaveOneStepOfText, MeetingsAreOnce, PatchedRunsFollow, StoredRunsFollow, StubbedArePatched};
 
 /// The stored image follows the original.
 pub fn stored_runs_follow()
     ensures { StoredRunsFollow }
+{}
+
+/// So does every image of which some instructions are patched, wherever their stubs stand in its keyed segment. One with a block of stubs is such
+/// an image.
+pub fn patched_runs_follow()
+    ensures follow { PatchedRunsFollow }
+    ensures stubbed { StubbedArePatched }
 {}
 
 /// What legs cost, and how many steps they have: one of the text each, and at most so many others as the stubs cost cycles.

@@ -1,10 +1,11 @@
 -- The stubs of a block stand in their places, once its bytes lie in the keyed segment.
-use Rattle.std.proofs.Common.{◌≡◌, ℕ, pos, suc, ◌+◌, ◌*◌, ◌≤◌, true, List, [], ◌∷◌, ◌++◌, map, length, refl, arith, subst, None, length-append, ◌∙◌, ap}
+use Rattle.std.proofs.Common.{◌≡◌, ℕ, pos, suc, ◌+◌, ◌*◌, ◌^◌, ◌%◌, ◌<◌, ◌≤◌, true, List, [], ◌∷◌, ◌++◌, map, length, refl, arith, subst, None, length-append, ◌∙◌, ap}
 use Rattle.std.proofs.lemmas.List.{length-map}
 use Rattle.std.specs.List.{All, sum_by, flat_map}
 use Rattle.std.proofs.lemmas.List.Concat.{flat_map-cons}
 use Rattle.std.proofs.lemmas.Bool.{and_parts}
 use Rattle.std.proofs.lemmas.List.Sums.{sum_by-cons}
+use Rattle.std.proofs.lemmas.Int.{ints}
 use Rattle.scale_base.specs.declared.instruction.Instr.{Instr}
 use Rattle.scale_base.specs.declared.instruction.Instr.TheVariants as instrs
 use Rattle.scale_base.specs.Word.{word_of, FieldsInRange}
@@ -13,9 +14,9 @@ use Rattle.scale_base.proofs.WordLaws.{word_small}
 use Rattle.scale_base.specs.declared.fragments.Fragment.{Fragment}
 use Rattle.scale_base.specs.declared.fragments.Fragment.TheVariants.{Switch, Exit, Reset, Count}
 use Rattle.stub_writer.specs.Fragments.{IsFragment, fragment_code, code_len, rows_len}
-use Rattle.stub_writer.specs.Stubs.{Site, Way, Place, Forked, Straight, way_len, way_rows, fragments_code, jump, jump_at, way_code, taken_at, stub_code_of, stub_len, stub_len_of, stub_rows, stubs_code, stubs_len, block_rows, block_words, block_bytes, reaches, stub_reaches_of, is_near, out_of_reach, word_bytes}
+use Rattle.stub_writer.specs.Stubs.{Site, Way, Place, Forked, Straight, way_len, way_rows, fragments_code, jump, jump_at, way_code, taken_at, stub_code_of, stub_len, stub_len_of, stub_rows, stub_rows_of, stubs_code, stubs_len, block_rows, block_words, block_bytes, reaches, stub_reaches_of, is_near, out_of_reach, word_bytes}
 use Rattle.stub_runs.specs.Meaning.{Stand}
-use Rattle.stub_runs.specs.Held.{Lie, BytesLie, AllInRange, AllWords, KeyedFrom, IsFineWay, IsFine, AreFine, StubsStand}
+use Rattle.stub_runs.specs.Held.{Lie, BytesLie, AllInRange, AllWords, KeyedFrom, IsFineWay, IsFine, AreFine, StubsStand, StubStands}
 use Rattle.stub_runs.proofs.Ranges.{fragment_fits}
 use Rattle.stub_writer.proofs.Reach.{jump_fits}
 use Rattle.stub_runs.proofs.Ways.{stand_left, stand_right, codes_length}
@@ -155,3 +156,39 @@ bytes_length (w ∷ ws) =
 -- the bytes of words are four for each
 pub block_length : (base : ℕ) (sites : List Site) → length (block_bytes base sites) ≡ 4 * length (block_words base sites)
 block_length base sites = bytes_length (block_words base sites)
+
+-- ---- a stub of the block is one that stands anywhere
+
+pub stub_anywhere : (env : Setting) (bytes : ℕ → ℕ) (at table : ℕ) (p : Place) → IsFine p → Stand env bytes at (stub_code_of at table p) → Lie env bytes table (stub_rows_of p) → at % 4 ≡ 0 → table % 4 ≡ 0 → at + 4 * stub_len_of p < 2 ^ 32 → table + 4 * length (stub_rows_of p) ≤ 0xFFFFF800
+    → StubStands env bytes at p
+stub_anywhere env bytes at table (Forked op rs1 rs2 untaken taken) fine stand rows even even_rows room high =
+    let to = taken_at at untaken in
+    let later = table + 4 * length (way_rows untaken) in
+    let first = way_code (at + 4) table untaken in
+    let second = way_code to later taken in
+    let long : at + 4 + 4 * length first ≡ to = (let a = way_length (at + 4) table untaken in omega (arith, a)) in
+    let rows_long = length-append (way_rows untaken) (way_rows taken) in
+    let small = codes_small untaken.fragments in
+    let few : length untaken.fragments ≤ 17 = fine.2.0 in
+    record {
+      offset = pos (4 + 4 * way_len untaken);
+      to = to;
+      branch = stand.0;
+      leads = omega (arith, ints, small, few, room);
+      even = omega (arith, even);
+      untaken_way = record {
+        table = table;
+        code = stand_left env bytes (at + 4) first second stand.1;
+        rows = lie_left env bytes table (way_rows untaken) (way_rows taken) rows;
+        even = even_rows;
+        high = omega (arith, rows_long, high);
+      };
+      taken_way = record {
+        table = later;
+        code = subst (λ a. Stand env bytes a second) long (stand_right env bytes (at + 4) first second stand.1);
+        rows = lie_right env bytes table (way_rows untaken) (way_rows taken) rows;
+        even = omega (arith, even_rows);
+        high = omega (arith, rows_long, high);
+      };
+    }
+stub_anywhere env bytes at table (Straight w) fine stand rows even even_rows room high = record { table = table; code = stand; rows = rows; even = even_rows; high = high }

@@ -20,7 +20,7 @@ stand_of env bytes at [] h r = tt
 stand_of env bytes at (i ∷ is) h r =
     (record { keyed = h.0.keyed; fetched = h.0.fetched; room = h.0.room; encodes = (r.0, h.0.same) }, stand_of env bytes (at + 4) is h.1 r.1)
 
-keyed_fetched : (env : Setting) (at to : ℕ) → KeyedFrom env at to → at + 4 ≤ to → can_fetch env.layout at ≡ true
+pub keyed_fetched : (env : Setting) (at to : ℕ) → KeyedFrom env at to → at + 4 ≤ to → can_fetch env.layout at ≡ true
 keyed_fetched env at to h fits =
     let byte : (k : ℕ) → k < 4 → fetches_byte env.layout (at + k) ≡ true = λ k lt. or_right (may_fetch env.layout (at + k)) (is_keyed env.layout (at + k)) (h.keyed (at + k) (omega arith) (omega arith)) in
     let test = fetches_byte env.layout in
@@ -47,7 +47,7 @@ lie_of env bytes at to (w ∷ ws) h fits small lie =
     let b2 : bytes (at + 2) ≡ w / 2 ^ 16 % 2 ^ 8 = l2 2 (omega arith) in
     let b3 : bytes (at + 3) ≡ w / 2 ^ 24 % 2 ^ 8 = l2 3 (omega arith) in
     let same : word_at bytes at ≡ w = omega arith in
-    let here : LiesAt env bytes at w = record { keyed = h.keyed at (omega arith) (omega arith); fetched = keyed_fetched env at to h (omega arith); room = omega (arith, h.room); same = same } in
+    let here : LiesAt env bytes at w = record { keyed = h.keyed at (omega arith) (omega arith); whole = λ k lt2. h.keyed (at + k) (omega arith) (omega arith); fetched = keyed_fetched env at to h (omega arith); room = omega (arith, h.room); same = same } in
     let next : KeyedFrom env (at + 4) to = record { keyed = λ a ge lt2. h.keyed a (omega arith) lt2; even = omega (arith, h.even); room = h.room } in
     let rest : BytesLie bytes (at + 4) (flat_map word_bytes ws) = λ j lt2. ap bytes (omega arith) ∙ (l2 (4 + j) (omega arith) ∙ behind_word w j (flat_map word_bytes ws)) in
     (here, lie_of env bytes (at + 4) to ws next (omega arith) small.1 rest)

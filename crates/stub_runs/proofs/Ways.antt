@@ -1,5 +1,5 @@
 -- Fragments one after another, a way, and a stub.
-use Rattle.std.proofs.Common.{◌≡◌, ℕ, pos, ◌+◌, ◌-◌, ◌*◌, ◌%◌, ◌^◌, ◌<◌, true, false, List, [], ◌∷◌, ◌++◌, length, refl, arith, sym, ◌∙◌, ap, subst, None, length-append, length-set}
+use Rattle.std.proofs.Common.{◌≡◌, ℕ, ℤ, pos, ◌+◌, ◌-◌, ◌*◌, ◌%◌, ◌^◌, ◌<◌, true, false, List, [], ◌∷◌, ◌++◌, length, refl, arith, sym, ◌∙◌, ap, subst, None, length-append, length-set}
 use Rattle.std.specs.Prelude.{slice_index, slice_set, ◌==◌}
 use Rattle.std.specs.List.{sum_by}
 use Rattle.std.proofs.Common.{get_or-set_other}
@@ -145,28 +145,35 @@ way_does env s table way sound fits stand =
 -- ---- the stub of a branch
 
 -- the branch of a stub, where it is taken
-fork_taken : (env : Setting) (s : State) (op : BranchOp) (rs1 rs2 len : ℕ) → StandsAt env s.bytes s.pc (instrs.Branch op rs1 rs2 (pos (4 + 4 * len))) → is_taken op (reg s.regs rs1) (reg s.regs rs2) ≡ true → s.pc + 4 + 4 * len < 2 ^ 32 → 4 + 4 * len < 2 ^ 12 → step env s ≡ goes (turn s.pc (s.pc + 4 + 4 * len) classes.Taken) (record s { pc = s.pc + 4 + 4 * len })
-fork_taken env s op rs1 rs2 len h taken room near =
-    let i = instrs.Branch op rs1 rs2 (pos (4 + 4 * len)) in
-    let to = s.pc + 4 + 4 * len in
-    let there : moved_by s.pc (pos (4 + 4 * len)) ≡ to = omega (arith, ints) in
-    let parts = and_parts (s.pc % 4 == 0) (each_byte (fetches_byte env.layout) s.pc 4) h.fetched in
-    let even : to % 4 ≡ 0 = (let e : s.pc % 4 ≡ 0 = eqb-true (s.pc % 4) 0 parts.0 in omega arith) in
+pub fork_taken_to : (env : Setting) (s : State) (op : BranchOp) (rs1 rs2 : ℕ) (offset : ℤ) (to : ℕ) → StandsAt env s.bytes s.pc (instrs.Branch op rs1 rs2 offset) → moved_by s.pc offset ≡ to → to % 4 ≡ 0 → is_taken op (reg s.regs rs1) (reg s.regs rs2) ≡ true → step env s ≡ goes (turn s.pc to classes.Taken) (record s { pc = to })
+fork_taken_to env s op rs1 rs2 offset to h there even taken =
+    let i = instrs.Branch op rs1 rs2 offset in
     performed env s i h
     ∙ (ap (branches env s i (is_taken op (reg s.regs rs1) (reg s.regs rs2))) there
     ∙ (ap (λ b. branches env s i b to) taken
     ∙ (cond-true (to % 4 == 0) _ _ (grind (arith, nat_tests))
     ∙ ap (λ k. goes (record { pc = s.pc; next = to; class = classes.Taken; moved = moves.Local; keyed = k; port = None }) (record s { pc = to })) h.keyed)))
 
-fork_untaken : (env : Setting) (s : State) (op : BranchOp) (rs1 rs2 len : ℕ) → StandsAt env s.bytes s.pc (instrs.Branch op rs1 rs2 (pos (4 + 4 * len))) → is_taken op (reg s.regs rs1) (reg s.regs rs2) ≡ false → step env s ≡ goes (turn s.pc (s.pc + 4) classes.Untaken) (record s { pc = s.pc + 4 })
-fork_untaken env s op rs1 rs2 len h taken =
-    let i = instrs.Branch op rs1 rs2 (pos (4 + 4 * len)) in
-    let target = moved_by s.pc (pos (4 + 4 * len)) in
+fork_taken : (env : Setting) (s : State) (op : BranchOp) (rs1 rs2 len : ℕ) → StandsAt env s.bytes s.pc (instrs.Branch op rs1 rs2 (pos (4 + 4 * len))) → is_taken op (reg s.regs rs1) (reg s.regs rs2) ≡ true → s.pc + 4 + 4 * len < 2 ^ 32 → 4 + 4 * len < 2 ^ 12 → step env s ≡ goes (turn s.pc (s.pc + 4 + 4 * len) classes.Taken) (record s { pc = s.pc + 4 + 4 * len })
+fork_taken env s op rs1 rs2 len h taken room near =
+    let to = s.pc + 4 + 4 * len in
+    let there : moved_by s.pc (pos (4 + 4 * len)) ≡ to = omega (arith, ints) in
+    let parts = and_parts (s.pc % 4 == 0) (each_byte (fetches_byte env.layout) s.pc 4) h.fetched in
+    let even : to % 4 ≡ 0 = (let e : s.pc % 4 ≡ 0 = eqb-true (s.pc % 4) 0 parts.0 in omega arith) in
+    fork_taken_to env s op rs1 rs2 (pos (4 + 4 * len)) to h there even taken
+
+pub fork_passed : (env : Setting) (s : State) (op : BranchOp) (rs1 rs2 : ℕ) (offset : ℤ) → StandsAt env s.bytes s.pc (instrs.Branch op rs1 rs2 offset) → is_taken op (reg s.regs rs1) (reg s.regs rs2) ≡ false → step env s ≡ goes (turn s.pc (s.pc + 4) classes.Untaken) (record s { pc = s.pc + 4 })
+fork_passed env s op rs1 rs2 offset h taken =
+    let i = instrs.Branch op rs1 rs2 offset in
+    let target = moved_by s.pc offset in
     let next : plus s.pc 4 ≡ s.pc + 4 = omega (arith, h.room) in
     performed env s i h
     ∙ (ap (λ b. branches env s i b target) taken
     ∙ (ap (λ n. goes (record { pc = s.pc; next = n; class = classes.Untaken; moved = moves.Local; keyed = is_keyed env.layout s.pc; port = None }) (record s { pc = n })) next
     ∙ ap (λ k. goes (record { pc = s.pc; next = s.pc + 4; class = classes.Untaken; moved = moves.Local; keyed = k; port = None }) (record s { pc = s.pc + 4 })) h.keyed))
+
+fork_untaken : (env : Setting) (s : State) (op : BranchOp) (rs1 rs2 len : ℕ) → StandsAt env s.bytes s.pc (instrs.Branch op rs1 rs2 (pos (4 + 4 * len))) → is_taken op (reg s.regs rs1) (reg s.regs rs2) ≡ false → step env s ≡ goes (turn s.pc (s.pc + 4) classes.Untaken) (record s { pc = s.pc + 4 })
+fork_untaken env s op rs1 rs2 len h taken = fork_passed env s op rs1 rs2 (pos (4 + 4 * len)) h taken
 
 pub sound_at : (env : Setting) (s : State) (pc : ℕ) → IsSound env s → IsSound env (record s { pc = pc })
 sound_at env s pc h = record { regs = h.regs; window = h.window; zero = h.zero; level = h.level; levels = h.levels }

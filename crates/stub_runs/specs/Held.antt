@@ -1,20 +1,24 @@
 -- Words and bytes that lie in the keyed segment.
-use Rattle.std.specs.Prelude.{◌≡◌, ℕ, ◌+◌, ◌*◌, ◌^◌, ◌<◌, ◌≤◌, ◌%◌, true, List, [], ◌∷◌, length, get_or, None, false}
+use Rattle.std.specs.Prelude.{◌≡◌, ℕ, ℤ, ◌+◌, ◌*◌, ◌^◌, ◌<◌, ◌≤◌, ◌%◌, true, List, [], ◌∷◌, length, get_or, None, false}
+use Rattle.scale_base.specs.declared.instruction.BranchOp.{BranchOp}
 use Rattle.scale_base.specs.declared.instruction.Instr.{Instr}
+use Rattle.scale_base.specs.declared.instruction.Instr.TheVariants as instrs
 use Rattle.scale_base.specs.Word.{FieldsInRange, Encodes}
 use Rattle.scale_base.specs.declared.stepping.Stepped.{Stepped}
 use Rattle.scale_base.specs.declared.stepping.Class.TheVariants as classes
 use Rattle.scale_base.specs.declared.stepping.Move.TheVariants as moves
 use Rattle.scale_base.specs.Layout.{is_keyed, can_fetch}
+use Rattle.scale_base.specs.Arith.{moved_by}
 use Rattle.scale_base.specs.State.{Setting, State, word_at}
 use Rattle.std.specs.List.{All}
 use Rattle.stub_writer.specs.Fragments.{IsFragment}
-use Rattle.stub_writer.specs.Stubs.{jump, Site, Way, Place, Forked, Straight, stub_code_of, stub_len, stub_rows}
-use Rattle.stub_runs.specs.Meaning.{Stand}
+use Rattle.stub_writer.specs.Stubs.{jump, Site, Way, Place, Forked, Straight, way_code, way_rows, stub_code_of, stub_len, stub_rows}
+use Rattle.stub_runs.specs.Meaning.{StandsAt, Stand}
 
 -- the word lies at the address, in the keyed segment
 pub record LiesAt (env : Setting) (bytes : ℕ → ℕ) (at word : ℕ) : Type 0 where
   pub keyed : is_keyed env.layout at ≡ true
+  pub whole : (k : ℕ) → k < 4 → is_keyed env.layout (at + k) ≡ true
   pub fetched : can_fetch env.layout at ≡ true
   pub room : at + 4 < 2 ^ 32
   pub same : word_at bytes at ≡ word
@@ -77,3 +81,28 @@ pub record IsPatched (env : Setting) (s : State) (stub : ℕ) : Type 0 where
   pub pc : s.pc < 2 ^ 32
   pub small : stub < 2 ^ 32
   pub even : stub % 4 ≡ 0
+
+-- ---- stubs anywhere in the keyed segment
+
+-- The code of a way stands at an address, and the rows of its fragments lie at another, below the window.
+pub record WayStands (env : Setting) (bytes : ℕ → ℕ) (at : ℕ) (w : Way) : Type 0 where
+  pub table : ℕ
+  pub code : Stand env bytes at (way_code at table w)
+  pub rows : Lie env bytes table (way_rows w)
+  pub even : table % 4 ≡ 0
+  pub high : table + 4 * length (way_rows w) ≤ 0xFFFFF800
+
+-- The stub of a branch: the same branch to any other address, behind it the way that is not taken, and there the way that is.
+pub record ForkStands (env : Setting) (bytes : ℕ → ℕ) (at : ℕ) (op : BranchOp) (rs1 rs2 : ℕ) (untaken taken : Way) : Type 0 where
+  pub offset : ℤ
+  pub to : ℕ
+  pub branch : StandsAt env bytes at (instrs.Branch op rs1 rs2 offset)
+  pub leads : moved_by at offset ≡ to
+  pub even : to % 4 ≡ 0
+  pub untaken_way : WayStands env bytes (at + 4) untaken
+  pub taken_way : WayStands env bytes to taken
+
+-- the stub of a marked instruction
+abbrev pub StubStands : Setting → (ℕ → ℕ) → ℕ → Place → Type 0
+StubStands env bytes at (Forked op rs1 rs2 untaken taken) = ForkStands env bytes at op rs1 rs2 untaken taken
+StubStands env bytes at (Straight w) = WayStands env bytes at w

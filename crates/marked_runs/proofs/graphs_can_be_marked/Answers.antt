@@ -1,4 +1,4 @@
-use Rattle.marked_runs.proofs.Graphs.{targets_are_words, loops_are_countable, weights_of_calls}
+use Rattle.marked_runs.proofs.Graphs.{targets_are_words, loops_are_countable, weights_of_calls, patched_weights}
 use Rattle.marked_runs.proofs.graphs_can_be_marked.Goals as goal
 
 pub returns-clause-targets : goal.returns-clause-targets
@@ -9,3 +9,6 @@ returns-clause-countable c = loops_are_countable
 
 pub returns-clause-weights : goal.returns-clause-weights
 returns-clause-weights c = weights_of_calls
+
+pub returns-clause-patched : goal.returns-clause-patched
+returns-clause-patched c = patched_weights

@@ -1,0 +1,9 @@
+pub mod Standing
+pub mod Counting
+pub mod OnEdges
+pub mod Owners
+pub mod AsPatched
+pub mod Tables
+pub mod Tuned
+pub mod Promised
+pub mod Loaded

@@ -1,0 +1,105 @@
+-- Entries that meet their tests are levels that may be chosen.
+use Rattle.std.proofs.Common.{◌≡◌, ◌⊎◌, inl, inr, ℕ, ◌+◌, ◌-◌, ◌*◌, ◌/◌, ◌^◌, ◌<◌, ◌≤◌, Bool, true, nat_le, List, [], ◌∷◌, length, slice_get, slice_index, Option, Some, None, refl, sym, ap, ◌∙◌, subst, arith, mul-le-mul_right}
+use Rattle.std.specs.Prelude.{not, option_map}
+use Rattle.std.proofs.Math.Nat.{div-lt_iff_lt-mul, lt_of_le_of_lt}
+use Rattle.std.proofs.lemmas.Nat.{pow_pos}
+use Rattle.std.proofs.lemmas.Bool.{and_parts}
+use Rattle.std.proofs.lemmas.Bool.Decides.{nat_tests}
+use Rattle.scale_base.specs.declared.fragments.Fragment.{Fragment}
+use Rattle.scale_base.specs.declared.fragments.Fragment.TheVariants.{Switch, Exit, Reset, Count}
+use Rattle.power_model.specs.Numbers.{PowerModel}
+use Rattle.power_model.specs.Price.{switch_time, switch_energy}
+use Rattle.power_model.specs.Switches.{period, energy, costs_of}
+use Rattle.cost_theory.specs.Graph.{Graph, Loops, AreWithin, leaves, only}
+use Rattle.cost_theory.specs.Worst.{Numbers, cost, slack, rest, turns, left_behind}
+use Rattle.cost_theory.proofs.Basics.{term-le-sum, only_true, and_left}
+use Rattle.cost_theory.specs.Reached.{edge_at}
+use Rattle.least_laws.specs.Charged.{Charged, to_end_after}
+use Rattle.graph_runs.specs.RunMoves.{text_graph}
+use Rattle.level_tables.specs.Tables.{EdgeNumbers, is_in_time, pays, trips_left, at_row}
+use Rattle.level_tables.proofs.Shifts.{trips_left-le}
+use Rattle.stub_runs.specs.Meaning.{nibble}
+use Rattle.stored_runs.specs.Marks.{Shadow, place_at, fragments_by, level_stored, tail_cycles}
+use Rattle.paid_runs.specs.Timely.{weights_of, IsChosen}
+use Rattle.paid_runs.specs.Tabled.{told_on, IsSafeEntry, AreRowsOf, IsEdgeTabledBy}
+use Rattle.paid_runs.specs.Laws.{TablesOfKeepTime}
+
+le_of : (x y : ℕ) → nat_le x y ≡ true → x ≤ y
+le_of x y e = grind (arith, nat_tests)
+
+-- what the test of payment says: the least cycles are there, and pay
+record IsPaid (power : PowerModel) (o : Option ℕ) (tail i j : ℕ) : Type 0 where
+  z : ℕ
+  is : o ≡ Some z
+  pays : switch_energy power i j ≤ (z + tail) * (energy power i - energy power j)
+
+paid_by : (power : PowerModel) (o : Option ℕ) (tail i j : ℕ) → pays power (option_map (λ z. z + tail) o) i j ≡ true → IsPaid power o tail i j
+paid_by power None tail i j h = let never : ⊥ = cc in absurd never
+paid_by power (Some z) tail i j h = record { z = z; is = refl; pays = le_of (switch_energy power i j) ((z + tail) * (energy power i - energy power j)) h }
+
+module _ (power : PowerModel) (g : Graph) (l : Loops) (w : ℕ → ℕ) (n : Numbers) (least : Charged) (is_of : ℕ → ℕ → Bool) (counts : ℕ → ℕ) (within : AreWithin l counts) (e : ℕ) where
+  -- what the edge tells, with so much slack
+  abbrev told_with : (tail spare : ℕ) → EdgeNumbers
+  told_with tail spare = record { slack = spare; left = rest g l n e + tail; least = option_map (λ z. z + tail) (to_end_after g l least e) }
+
+  may_choose : (tail target spare i j : ℕ) → g.callee e ≡ None → g.target e ≡ Some target → spare ≤ slack g l n (cost g n w) e + left_behind g l n counts e
+      → IsSafeEntry power (told_with tail spare) i j → (j ≡ i) ⊎ IsChosen power g l w n least counts e tail i j
+  may_choose tail target spare i j inside leads enough (inl same) = inl same
+  may_choose tail target spare i j inside leads enough (inr (lower, met)) =
+      let both = and_parts (is_in_time power (told_with tail spare) i j) (pays power (option_map (λ z. z + tail) (to_end_after g l least e)) i j) met in
+      let time = le_of ((rest g l n e + tail) * period power j + switch_time power i j) ((rest g l n e + tail + spare) * period power i) both.0 in
+      let paid = paid_by power (to_end_after g l least e) tail i j both.1 in
+      inr (record {
+        lower = lower;
+        inside = inside;
+        target = target;
+        leads = leads;
+        in_time = (let more : (rest g l n e + tail + spare) * period power i ≤ (rest g l n e + tail + (slack g l n (cost g n w) e + left_behind g l n counts e)) * period power i = mul-le-mul_right (period power i) (omega (arith, enough)) in
+            omega (arith, more, time));
+        paying = (paid.z, paid.is, paid.pays);
+      })
+
+  -- the loop that is left has its turns left
+  row_spare : (k shift : ℕ) → k < l.loops → leaves l k (g.source e) (g.target e) ≡ true
+      → slack g l n (cost g n w) e + trips_left (l.bound k) shift (counts k / 2 ^ shift) * n.iteration k ≤ slack g l n (cost g n w) e + left_behind g l n counts e
+  row_spare k shift low left =
+      let one : trips_left (l.bound k) shift (counts k / 2 ^ shift) * n.iteration k ≤ turns l n counts k = mul-le-mul_right (n.iteration k) (trips_left-le (l.bound k) shift (counts k)) in
+      let term : turns l n counts k ≤ left_behind g l n counts e = subst (λ x. x ≤ left_behind g l n counts e) (only_true (leaves l k (g.source e) (g.target e)) (turns l n counts k) left)
+      (term-le-sum l.loops (λ j. only (leaves l j (g.source e) (g.target e)) (turns l n counts j)) k low) in
+      omega (arith, one, term)
+
+  -- an edge that leaves a loop starts in it
+  starts_in : (k u : ℕ) (p : Option ℕ) → leaves l k u p ≡ true → l.inside k u ≡ true
+  starts_in k u None left = cc
+  starts_in k u (Some v) left = and_left (l.inside k u) (not (l.inside k v)) left
+
+  module _ (h : Shadow) (low : h.level < length power.levels)
+      (shown : (v k : ℕ) → is_of v k ≡ true → l.inside k (g.source e) ≡ true → h.counters v ≡ counts k) where
+    by_rows : (counter shift : ℕ) (rows : List ℕ) (tail target j : ℕ) → g.callee e ≡ None → g.target e ≡ Some target
+        → AreRowsOf power g l n (told_on g l w n least e tail) is_of e counter shift rows → nibble (slice_index rows (h.counters counter / 2 ^ shift)) h.level ≡ j
+        → (j ≡ h.level) ⊎ IsChosen power g l w n least counts e tail h.level j
+    by_rows counter shift rows tail target j inside leads r stored =
+        let count : h.counters counter ≡ counts r.loop = shown counter r.loop r.counts (starts_in r.loop (g.source e) (g.target e) r.left) in
+        let row : h.counters counter / 2 ^ shift ≡ counts r.loop / 2 ^ shift = ap (λ x. x / 2 ^ shift) count in
+        let there : counts r.loop / 2 ^ shift < length rows = (div-lt_iff_lt-mul (pow_pos shift)).1 (lt_of_le_of_lt (within r.loop r.low) ((div-lt_iff_lt-mul (pow_pos shift)).0 r.enough)) in
+        may_choose tail target (slack g l n (cost g n w) e + trips_left (l.bound r.loop) shift (counts r.loop / 2 ^ shift) * n.iteration r.loop) h.level j inside leads (row_spare r.loop shift r.low r.left)
+        (subst (λ x. IsSafeEntry power (at_row (l.bound r.loop) (n.iteration r.loop) shift (told_on g l w n least e tail) (counts r.loop / 2 ^ shift)) h.level x)
+        (ap (λ q. nibble (slice_index rows q) h.level) (sym row) ∙ stored) (r.entries (counts r.loop / 2 ^ shift) h.level there low))
+
+    by_fragments : (fs : List Fragment) (j : ℕ) → IsEdgeTabledBy power g l w n least is_of e fs → level_stored fs h ≡ Some j
+        → (j ≡ h.level) ⊎ IsChosen power g l w n least counts e (tail_cycles (costs_of power) fs) h.level j
+    by_fragments [] j tabled stored = cc
+    by_fragments (Switch table ∷ fs) j tabled stored =
+        let same : nibble table h.level ≡ j = cc in
+        may_choose (tail_cycles (costs_of power) (Switch table ∷ fs)) tabled.target (slack g l n (cost g n w) e) h.level j tabled.inside tabled.leads (omega (arith))
+        (subst (λ x. IsSafeEntry power (told_on g l w n least e (tail_cycles (costs_of power) (Switch table ∷ fs))) h.level x) same (tabled.table h.level low))
+    by_fragments (Exit counter shift rows ∷ fs) j tabled stored =
+        by_rows counter shift rows (tail_cycles (costs_of power) (Exit counter shift rows ∷ fs)) tabled.target j tabled.inside tabled.leads tabled.table (let same : nibble (slice_index rows (h.counters counter / 2 ^ shift)) h.level ≡ j = cc in same)
+    by_fragments (Reset counter ∷ fs) j tabled stored = cc
+    by_fragments (Count counter ∷ fs) j tabled stored = cc
+
+pub tables_of_keep_time : TablesOfKeepTime
+tables_of_keep_time = λ power t code l sites is_of n least tabled. record {
+  chosen = λ e class few is h counts j low within shown stored.
+      by_fragments power (text_graph t code) l (weights_of power t code sites) n least is_of counts within e h low shown (fragments_by (place_at sites (edge_at (slice_get code.edges e))) class) j (tabled e class few is) stored;
+}

@@ -1,0 +1,66 @@
+-- Tables of marked edges: each entry is the level itself, or a lower one that meets the tests of time and of payment for the numbers of its edge. A row of a table
+-- behind a loop counts on the turns that its counts have left at least. `is_of c k` tells that the window's word c counts loop k.
+use Rattle.std.specs.Prelude.{◌≡◌, ◌⊎◌, ℕ, ◌+◌, ◌/◌, ◌^◌, ◌<◌, Bool, true, List, [], ◌∷◌, length, slice_index, slice_get, Some, None, option_map}
+use Rattle.scale_base.specs.declared.fragments.Fragment.{Fragment}
+use Rattle.scale_base.specs.declared.fragments.Fragment.TheVariants.{Switch, Exit, Reset, Count}
+use Rattle.scale_base.specs.declared.stepping.Class.{Class}
+use Rattle.power_model.specs.Numbers.{PowerModel}
+use Rattle.power_model.specs.Switches.{costs_of}
+use Rattle.cost_theory.specs.Graph.{Graph, Loops, leaves}
+use Rattle.cost_theory.specs.Worst.{Numbers, cost, slack, rest}
+use Rattle.cost_theory.specs.Reached.{Code, edge_at}
+use Rattle.least_laws.specs.Charged.{Charged, to_end_after}
+use Rattle.graph_runs.specs.Text.{Text}
+use Rattle.graph_runs.specs.EdgeCosts.{edge_class}
+use Rattle.graph_runs.specs.RunMoves.{text_graph}
+use Rattle.level_tables.specs.Tables.{EdgeNumbers, meets_both, at_row}
+use Rattle.stub_writer.specs.Stubs.{Site}
+use Rattle.stub_runs.specs.Meaning.{nibble}
+use Rattle.stored_runs.specs.Marks.{place_at, fragments_by, tail_cycles}
+use Rattle.paid_runs.specs.Timely.{weights_of}
+
+-- what an edge with so many cycles behind the store tells its table: its slack, the most that are left behind the store, and the least that are left there
+abbrev pub told_on : Graph → Loops → (ℕ → ℕ) → Numbers → Charged → (e tail : ℕ) → EdgeNumbers
+told_on g l w n least e tail = record {
+  slack = slack g l n (cost g n w) e;
+  left = rest g l n e + tail;
+  least = option_map (λ z. z + tail) (to_end_after g l least e);
+}
+
+-- from level i an entry leads to i itself, or to a lower level that meets both tests
+abbrev pub IsSafeEntry : PowerModel → EdgeNumbers → (i j : ℕ) → Type 0
+IsSafeEntry power told i j = (j ≡ i) ⊎ ((j < i) × (meets_both power told i j ≡ true))
+
+-- the table behind a loop that its counter counts: a row for each count up to the bound
+pub record AreRowsOf (power : PowerModel) (g : Graph) (l : Loops) (n : Numbers) (told : EdgeNumbers) (is_of : ℕ → ℕ → Bool) (e counter shift : ℕ) (rows : List ℕ) : Type 0 where
+  pub loop : ℕ
+  pub low : loop < l.loops
+  pub counts : is_of counter loop ≡ true
+  pub left : leaves l loop (g.source e) (g.target e) ≡ true
+  pub enough : l.bound loop / 2 ^ shift < length rows
+  pub entries : (j i : ℕ) → j < length rows → i < length power.levels → IsSafeEntry power (at_row (l.bound loop) (n.iteration loop) shift told j) i (nibble (slice_index rows j) i)
+
+abbrev pub IsTableOf : PowerModel → Graph → Loops → Numbers → EdgeNumbers → (ℕ → ℕ → Bool) → ℕ → Fragment → Type 0
+IsTableOf power g l n told is_of e (Switch table) = (i : ℕ) → i < length power.levels → IsSafeEntry power told i (nibble table i)
+IsTableOf power g l n told is_of e (Exit counter shift rows) = AreRowsOf power g l n told is_of e counter shift rows
+IsTableOf power g l n told is_of e (Reset counter) = ⊥
+IsTableOf power g l n told is_of e (Count counter) = ⊥
+
+-- an edge within a function, with the table of its first fragment
+pub record IsEdgeTabled (power : PowerModel) (g : Graph) (l : Loops) (w : ℕ → ℕ) (n : Numbers) (least : Charged) (is_of : ℕ → ℕ → Bool) (e tail : ℕ) (f : Fragment) : Type 0 where
+  pub inside : g.callee e ≡ None
+  pub target : ℕ
+  pub leads : g.target e ≡ Some target
+  pub table : IsTableOf power g l n (told_on g l w n least e tail) is_of e f
+
+-- only the first fragment of an edge has a table
+abbrev pub IsEdgeTabledBy : PowerModel → Graph → Loops → (ℕ → ℕ) → Numbers → Charged → (ℕ → ℕ → Bool) → ℕ → List Fragment → Type 0
+IsEdgeTabledBy power g l w n least is_of e [] = Unit {0}
+IsEdgeTabledBy power g l w n least is_of e (Switch table ∷ fs) = IsEdgeTabled power g l w n least is_of e (tail_cycles (costs_of power) (Switch table ∷ fs)) (Switch table)
+IsEdgeTabledBy power g l w n least is_of e (Exit counter shift rows ∷ fs) = IsEdgeTabled power g l w n least is_of e (tail_cycles (costs_of power) (Exit counter shift rows ∷ fs)) (Exit counter shift rows)
+IsEdgeTabledBy power g l w n least is_of e (Reset counter ∷ fs) = Unit {0}
+IsEdgeTabledBy power g l w n least is_of e (Count counter ∷ fs) = Unit {0}
+
+abbrev pub AreTabledOf : PowerModel → Text → Code → Loops → List Site → (ℕ → ℕ → Bool) → Numbers → Charged → Type 0
+AreTabledOf power t code l sites is_of n least = (e : ℕ) (class : Class) → e < (text_graph t code).edges → edge_class t (slice_get code.edges e) ≡ Some class
+    → IsEdgeTabledBy power (text_graph t code) l (weights_of power t code sites) n least is_of e (fragments_by (place_at sites (edge_at (slice_get code.edges e))) class)
