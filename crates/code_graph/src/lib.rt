@@ -1,4 +1,4 @@
-//! The control-flow graph of a program's reached code: nodes by address, edges, functions, calls and the weights of edges.
+//! The control-flow graph of a program's reached code: nodes by address, edges, functions, calls, basic blocks and the weights of edges.
 #![tactic(auto)]
 
 mod blocks;

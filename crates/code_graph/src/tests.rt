@@ -127,7 +127,12 @@ fn leaves_out_what_is_not_reached(rt: HostRuntime) -> Result<(), Fail> {
         }
     );
     assert_eq!(rt; graph.edges_of(1), (1, 2));
+    assert_eq!(rt; graph.source(1), 1);
     assert_eq!(rt; graph.target(1), Some(2));
+    let sources = graph.sources();
+    assert_eq!(rt; sources, [0, 1, 2].as_slice());
+    let targets = graph.targets();
+    assert_eq!(rt; targets, [None, Some(2), None].as_slice());
     assert_eq!(rt; graph.callee(0), Some(1));
     assert_eq!(rt; graph.callee(1), None);
     assert!(rt; !graph.is_return(2));
