@@ -1,4 +1,5 @@
-//! Reads the stubs of an image that some other tool may have made of an original.
+//! What the stubs are of an image that some other tool may have made of an original, and why such an image is not safe. Definitions alone: no
+//! scan is written.
 #![tactic(auto)]
 
 mod fragment;

@@ -2,6 +2,7 @@ pub mod Standing
 pub mod Counting
 pub mod OnEdges
 pub mod Owners
+pub mod Rows
 pub mod AsPatched
 pub mod Tables
 pub mod Tuned

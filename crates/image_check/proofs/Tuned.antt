@@ -40,6 +40,7 @@ use Rattle.image_check.specs.Safe.{Owner, bound_of, all_with_rows, place_by, sit
 use Rattle.image_check.specs.Laws.{is_owner, SafeImagesAreTuned, SafeImagesKeepRuns}
 use Rattle.image_check.proofs.Owners.{patched_kind, counter_for, counters, counted, on_edge}
 use Rattle.image_check.proofs.OnEdges.{reached_word}
+use Rattle.image_check.proofs.Rows.{rows}
 use Rattle.image_check.proofs.AsPatched.{patched}
 use Rattle.image_check.proofs.Tables.{safe_all, ordered, few, tabled}
 
@@ -211,7 +212,7 @@ small_limits l (Some k) low h = h k (low k refl)
 pub safe_tuned : SafeImagesAreTuned
 safe_tuned = λ power ok original_file file original foreign original_is foreign_is bytes no_key code l extent prog bounds found owner n least more s. record {
   power_is = ok;
-  patched_is = patched original_file file original foreign original_is foreign_is bytes no_key code l owner found prog.reached s.scanned s.rows (length power.levels) (λ c. bound_of l (owner c))
+  patched_is = patched original_file file original foreign original_is foreign_is bytes no_key code l owner found prog.reached s.scanned (rows original foreign code l extent owner found prog s.scanned s.owners) (length power.levels) (λ c. bound_of l (owner c))
       (edges power original foreign code l extent found owner n least more bytes prog s) s.start ok.few (λ c. small_limits l (owner c) (λ k own. (counter_for original foreign code l extent owner found prog s.scanned s.owners c k own).low) bounds);
   program = prog;
   counters = counters original foreign code l extent owner found prog s.scanned s.owners;

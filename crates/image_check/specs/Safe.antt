@@ -31,8 +31,7 @@ use Rattle.paid_runs.specs.Timely.{weights_of}
 use Rattle.paid_runs.specs.Tabled.{told_on, IsSafeEntry}
 use Rattle.foreign_scan.specs.declared.fragment.ForeignFragment.{ForeignFragment}
 use Rattle.foreign_scan.specs.declared.fragment.ForeignFragment.TheVariants.{Switch, Exit, Reset, Count}
-use Rattle.foreign_scan.specs.Form.{AreRowsIn}
-use Rattle.foreign_scan.specs.Scanned.{Found, IsOn, is_changed, IsScanned}
+use Rattle.foreign_scan.specs.Scanned.{Found, is_changed, IsScanned}
 
 -- ---- the fragments with their rows
 
@@ -152,8 +151,6 @@ AreSafeOn power image g l owner w n least found e (Some edge) =
 pub record IsSafeImage (power : PowerModel) (original foreign : Image) (code : Code) (l : Loops) (extent : ℕ → ℕ → Bool) (found : Found) (owner : Owner) (n : Numbers) (least : Charged) (more : Numbers) : Type 0 where
   pub scanned : IsScanned original foreign code l found
   pub owners : AreOwners (text_graph (text_of original) code) code l found owner
-  -- the rows of each table up to the bound's lie in the keyed segment
-  pub rows : (at : ℕ) (kind : EdgeKind) (counter shift table : ℕ) → IsOn (Exit counter shift table) (found at kind) → AreRowsIn foreign table (bound_of l (owner counter) / 2 ^ shift + 1)
   pub analyzed : IsAnalyzed (text_graph (text_of original) code) l extent (weights_of power (text_of original) code (sites_of original foreign code l owner found)) n
   pub least_is : AreCharged (text_graph (text_of original) code) l (weights_of power (text_of original) code (sites_of original foreign code l owner found)) least
   pub added : IsAnalyzed (text_graph (text_of original) code) l extent (extra_weights (text_of original) code (costs_of power) (sites_of original foreign code l owner found)) more

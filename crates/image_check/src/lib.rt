@@ -1,4 +1,4 @@
-//! Checks an image of other make: whether it keeps what a rewritten image promises.
+//! Laws of images of other make: one that is safe keeps what a rewritten image promises. No check of such an image is written.
 #![tactic(auto)]
 
 ghost use Rattle.image_check.specs.Laws.{LoadedBytesAreSmall, SafeImagesAreTuned, SafeImagesKeepRuns, SafeImagesKeepThePromise};
