@@ -1,3 +1,4 @@
 pub mod Edges
 pub mod Bodies
 pub mod Search
+pub mod Groups

@@ -3,10 +3,12 @@
 ghost use Rattle.std.specs.Prelude.{◌≡◌, ◌<◌, ◌↔◌, true, IfOk};
 ghost use Rattle.loop_bodies.specs.Edges.{EdgeView, AreEdges};
 ghost use Rattle.loop_bodies.specs.Bodies.{in_extent, IsBody, HasBackEdge, AreNodes, IsSideEdge, IsLeastPair};
+ghost use Rattle.loop_bodies.specs.Groups.{AreLoops, AreBodyBits, AreGroup};
 
 use crate::edges::IncomingEdges;
 use crate::entries::{has_back_edge, least_side, mark_nodes};
-use crate::extent::{NodeRange, is_in_extent};
+use crate::extent::{LoopExtent, NodeRange, is_in_extent};
+use crate::groups::{GroupBodies, add_body, find_aside, find_headers, search_together};
 use crate::visit::{clear_marks, fill_body};
 use scale_base::NoMemory;
 use std::alloc::Global;
@@ -72,6 +74,37 @@ impl<'a> BodySearch<'a> {
         clear_marks(&mut self.found, &body);
         filled?;
         Ok(body)
+    }
+
+    // By node, the loops whose bodies have it, from one body after the other.
+    fn search_each(&mut self, alloc: Global, loops: &[LoopExtent]) -> Result<Vec<u64>, NoMemory>
+        requires { AreLoops self.old.count loops.now }
+        ensures bodies { IfOk result (λ bodies. AreBodyBits self.old loops.now bodies.items) }
+        ensures same { self.new ≡ self.old }
+    {
+        let mut words: Vec<u64> = vec![in alloc; 0; self.edges.count()]?;
+        for (bit, one) in loops.iter().enumerate() {
+            let body = self.body(alloc, one.header, &one.ranges)?;
+            add_body(&mut words, &body, bit);
+        }
+        Ok(words)
+    }
+
+    /// The bodies of at most 64 loops, and those of them that are entered aside. It goes through all nodes and edges once or
+    /// a few times for all these loops; for code that is laid out against its run, once for each.
+    pub fn group(&mut self, alloc: Global, loops: &[LoopExtent]) -> Result<GroupBodies, NoMemory>
+        requires { AreLoops self.old.count loops.now }
+        ensures group { IfOk result (λ group. AreGroup self.old loops.now group.bodies.items group.aside) }
+        ensures same { self.new ≡ self.old }
+    {
+        let count = self.edges.count();
+        let bodies = match search_together(alloc, &self.edges, loops)? {
+            Some(bodies) => bodies,
+            None => self.search_each(alloc, loops)?,
+        };
+        let headers = find_headers(alloc, loops, count)?;
+        let aside = find_aside(&self.edges, &bodies, &headers);
+        Ok(GroupBodies { bodies, aside })
     }
 
     /// Whether an edge leads from the extent to the header. It looks at the edges to the header alone.

@@ -16,18 +16,18 @@ pub struct IncomingEdges<'a> {
     sources: &'a [usize],
     // What the chains were made of: the search goes by the chains alone, and the contracts speak of these.
     targets: &'a [Option<usize>],
+    count: usize,
     chains: Chains,
 }
 
 impl<'a> Model for IncomingEdges<'a> {
-    ghost use Rattle.std.specs.Prelude.{length};
     ghost use Rattle.loop_bodies.specs.Edges.{EdgeView, AreChained};
 
     ghost Value = { EdgeView };
 
-    ghost view = { λ e. record { sources = e.sources.now; targets = e.targets.now; count = length e.chains.last } };
+    ghost view = { λ e. record { sources = e.sources.now; targets = e.targets.now; count = e.count } };
 
-    ghost invariant = { λ e. AreChained e.sources.now e.targets.now (length e.chains.last) e.chains };
+    ghost invariant = { λ e. AreChained e.sources.now e.targets.now e.count e.chains };
 }
 
 impl<'a> IncomingEdges<'a> {
@@ -45,8 +45,33 @@ impl<'a> IncomingEdges<'a> {
         Ok(IncomingEdges {
             sources,
             targets,
+            count,
             chains,
         })
+    }
+
+    /// How many nodes there are. Edges start at these nodes, and lead to them.
+    pub fn count(&self) -> usize
+        ensures count { result ≡ self.now.count }
+        ensures edges { AreEdges self.now.sources self.now.targets self.now.count }
+    {
+        self.count
+    }
+
+    /// How many edges there are.
+    pub fn len(&self) -> usize
+        ensures { result ≡ length self.now.targets }
+    {
+        self.targets.len()
+    }
+
+    /// The node to which an edge leads, if it leads to one.
+    pub fn target(&self, edge: usize) -> Option<usize>
+        requires { edge < length self.now.targets }
+        ensures target { slice_get self.now.targets edge ≡ Some result }
+        ensures within { (node : ℕ) → result ≡ Some node → node < self.now.count }
+    {
+        *self.targets.get(edge).unwrap()
     }
 
     /// The last edge to a node.

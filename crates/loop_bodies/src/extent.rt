@@ -10,6 +10,13 @@ pub struct NodeRange {
     pub to: usize,
 }
 
+/// A loop by the node of its header and the ranges of its extent.
+#[derive(Drop)]
+pub struct LoopExtent {
+    pub header: usize,
+    pub ranges: Vec<NodeRange>,
+}
+
 /// Whether a node lies in one of the ranges.
 pub fn is_in_extent(extent: &[NodeRange], node: usize) -> bool
     ensures { result ≡ in_extent extent.now node }

@@ -6,6 +6,6 @@ pub mod WalkLaws
 pub mod HeaderLaws
 pub mod SortLaws
 pub mod EntryLaws
-pub mod AddLaws
 pub mod ReadyLaws
 pub mod FoundLaws
+pub mod GroupLaws

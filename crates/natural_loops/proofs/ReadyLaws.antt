@@ -14,9 +14,9 @@ use Rattle.loop_file.specs.Kept.{note_at}
 use Rattle.natural_loops.specs.Noted.{header_address, HasBackEdge, IsNotedSideEntry}
 use Rattle.natural_loops.specs.Refused.{AreHeaders, IsBackEdgeRefused, IsEntryRefused}
 use Rattle.natural_loops.specs.Found.{IsAscending}
-use Rattle.natural_loops.specs.Passes.{IsReady, GoesBack, IsNumberedBody, IsSidePair, AreBodies, AreDepths, AreEntriesFound, IsDeepest, depth_at}
+use Rattle.natural_loops.specs.Passes.{IsReady, GoesBack, IsNumberedBody, IsSidePair, AreBodies, AreDepths, AreEntriesFound, AreEnteredBelow, IsEnteredBy, IsDeepest, depth_at}
 use Rattle.natural_loops.proofs.HeaderLaws.{note_is}
-use Rattle.natural_loops.proofs.EntryLaws.{IsAside, none_aside, least_aside, depths_start, depths_next}
+use Rattle.natural_loops.proofs.EntryLaws.{IsAside, none_aside, least_aside, depths_start}
 
 -- the header's node of a note
 pub header_at : (v : FlowGraph) (search : EdgeView) (notes : List LoopNote) (headers : List ℕ) → IsReady v search notes headers → (k : ℕ) (note : LoopNote) → slice_get notes k ≡ Some note → slice_get v.code.nodes (get_or headers k 0) ≡ Some note.header
@@ -46,48 +46,54 @@ back_edge_refused v notes n note refusal headers at none was e = record {
 }
 
 -- ---- side entries
-pub record AreEnteredBelow (v : FlowGraph) (notes : List LoopNote) (n : ℕ) (depths : List ℕ) : Type 0 where
-  pub none : (k a b : ℕ) → k < n → IsNotedSideEntry v notes k a b → ⊥
-  pub counts : AreDepths v notes n depths
-
 pub entered_start : (v : FlowGraph) (notes : List LoopNote) (count : ℕ) (depths : List ℕ) → count ≡ length v.code.nodes → depths ≡ replicate {A = ℕ} count 0 → AreEnteredBelow v notes 0 depths
 entered_start v notes count depths size e = record { none = λ k a b lt h. let bad : ⊥ = omega arith in bad; counts = depths_start v notes count depths size e }
 
 pub entered_end : (v : FlowGraph) (notes : List LoopNote) (n : ℕ) (depths : List ℕ) → n ≡ length notes → AreEnteredBelow v notes n depths → AreEntriesFound v notes depths
 entered_end v notes n depths e was = record { none = λ k a b lt h. was.none k a b (omega arith) h; counts = subst (λ m. AreDepths v notes m depths) e was.counts }
 
-module _ (v : FlowGraph) (search : EdgeView) (notes : List LoopNote) (headers : List ℕ) (is : IsReady v search notes headers) (n : ℕ) (note : LoopNote) (at : slice_get notes n ≡ Some note) (body depths : List ℕ)
-    (numbers : IsNumberedBody v note body) (was : AreEnteredBelow v notes n depths) where
+module _ (v : FlowGraph) (search : EdgeView) (notes : List LoopNote) (headers : List ℕ) (is : IsReady v search notes headers) (n : ℕ) (note : LoopNote) (at : slice_get notes n ≡ Some note) (body : List ℕ)
+    (numbers : IsNumberedBody v note body) where
   at_header : slice_get v.code.nodes (get_or headers n 0) ≡ Some note.header
   at_header = header_at v search notes headers is n note at
 
-  pub entered_next : (deeper : List ℕ) → IsLeastPair (IsSidePair v search (get_or headers n 0) body) None →
-      length deeper ≡ length depths → ((i : ℕ) → IsIn body i → slice_index deeper i ≡ slice_index depths i + 1) → ((i : ℕ) → (IsIn body i → ⊥) → slice_index deeper i ≡ slice_index depths i) → AreEnteredBelow v notes (n + 1) deeper
-  entered_next deeper none size added kept = record {
-    none = λ k a b lt h. ⊎_elim
-        (λ (e : k ≡ n). none_aside v search is.edges note (get_or headers n 0) body at_header numbers none a b
-        (subst (λ x. IsAside v x a b) (note_is notes n note at) (subst (λ j. IsNotedSideEntry v notes j a b) e h)))
-        (λ (ne : k ≡ n → ⊥). let d : k ≢ n = ne in was.none k a b (omega arith) h)
-        (cases_eq k n);
-    counts = depths_next v is.edges.graph.flow notes n depths deeper body was.counts (subst (λ x. IsNumberedBody v x body) (sym (note_is notes n note at)) numbers) size added kept;
-  }
+  pub entered_none : IsLeastPair (IsSidePair v search (get_or headers n 0) body) None → (a b : ℕ) → IsNotedSideEntry v notes n a b → ⊥
+  entered_none none a b h = none_aside v search is.edges note (get_or headers n 0) body at_header numbers none a b (subst (λ x. IsAside v x a b) (note_is notes n note at) h)
 
-  pub entry_refused : (p : ℕ × ℕ) (a b : ℕ) (refusal : Refusal) → ((k : ℕ) → k < length notes → HasBackEdge v notes k) → IsLeastPair (IsSidePair v search (get_or headers n 0) body) (Some p) →
-      slice_get v.code.nodes p.0 ≡ Some a → slice_get v.code.nodes p.1 ≡ Some b → refusal ≡ SideEntry (n + 1) a b → IsEntryRefused v notes refusal
-  entry_refused p a b refusal back_edges least at_a at_b e =
+  pub entered_by : (p : ℕ × ℕ) (a b : ℕ) (refusal : Refusal) → IsLeastPair (IsSidePair v search (get_or headers n 0) body) (Some p) →
+      slice_get v.code.nodes p.0 ≡ Some a → slice_get v.code.nodes p.1 ≡ Some b → refusal ≡ SideEntry (n + 1) a b → IsEnteredBy v notes n refusal
+  entered_by p a b refusal least at_a at_b e =
       let aside = least_aside v search is.edges note (get_or headers n 0) body at_header numbers p a b least at_a at_b in
       record {
-        headers = is.apart;
-        back_edges = back_edges;
-        k = n;
         from = a;
         to = b;
-        within = slice_get_within notes n note at;
         entered = subst (λ x. IsAside v x a b) (sym (note_is notes n note at)) aside.0;
         least = λ c d h. aside.1 c d (subst (λ x. IsAside v x c d) (note_is notes n note at) h);
-        first = λ k c d lt h. was.none k c d lt h;
         refusal_is = e;
       }
+
+-- one loop more
+pub none_next : (v : FlowGraph) (notes : List LoopNote) (n : ℕ) → ((a b : ℕ) → IsNotedSideEntry v notes n a b → ⊥) → ((k a b : ℕ) → k < n → IsNotedSideEntry v notes k a b → ⊥) → (k a b : ℕ) → k < n + 1 → IsNotedSideEntry v notes k a b → ⊥
+none_next v notes n here was k a b lt h = ⊎_elim
+    (λ (e : k ≡ n). here a b (subst (λ j. IsNotedSideEntry v notes j a b) e h))
+    (λ (ne : k ≡ n → ⊥). let d : k ≢ n = ne in was k a b (omega arith) h)
+    (cases_eq k n)
+
+-- the first loop that is entered aside
+pub entry_refused : (v : FlowGraph) (search : EdgeView) (notes : List LoopNote) (headers : List ℕ) → IsReady v search notes headers → (n : ℕ) (refusal : Refusal) → n < length notes → ((k : ℕ) → k < length notes → HasBackEdge v notes k) →
+    ((k a b : ℕ) → k < n → IsNotedSideEntry v notes k a b → ⊥) → IsEnteredBy v notes n refusal → IsEntryRefused v notes refusal
+entry_refused v search notes headers is n refusal lt back_edges was by = record {
+  headers = is.apart;
+  back_edges = back_edges;
+  k = n;
+  from = by.from;
+  to = by.to;
+  within = lt;
+  entered = by.entered;
+  least = by.least;
+  first = was;
+  refusal_is = by.refusal_is;
+}
 
 -- ---- the bodies that are kept
 body_old : (xs : List (List ℕ)) (x : List ℕ) (k : ℕ) → k < length xs → body_of (xs ++ x ∷ []) k ≡ body_of xs k

@@ -15,7 +15,7 @@ use Rattle.loop_bodies.specs.Bodies.LeadsWithin.{at_once, onward}
 use Rattle.loop_bodies.specs.Edges.{EdgeView, AreEdges}
 use Rattle.loop_file.specs.declared.notes.LoopNote.{LoopNote}
 use Rattle.loop_file.specs.Kept as kept
-use Rattle.natural_loops.specs.Passes.{AreEdgesOf, IsExtent, GoesBack, IsNumberedBody}
+use Rattle.natural_loops.specs.Passes.{AreEdgesOf, IsExtent, IsNodeOf, GoesBack, IsNumberedBody}
 use Rattle.natural_loops.proofs.NodeLaws.{one_number, source_number}
 
 pub some_same : {A : Type 0} (a b : A) (o : Option A) → o ≡ Some a → o ≡ Some b → a ≡ b
@@ -144,6 +144,16 @@ module _ (v : FlowGraph) (edges : EdgeView) (is : AreEdgesOf v edges) where
 
     header_is : kept.in_extent note note.header ≡ true
     header_is = or_left (note.header == note.header) (list_any (image.is_in note.header) note.ranges) (eq-eqb note.header note.header refl)
+
+    -- the nodes that lead to the header are those of the note's loop
+    pub led_node : (k a : ℕ) → slice_get v.code.nodes k ≡ Some a → LeadsWithin edges.sources edges.targets (bodies.in_extent ranges) header k ↔ IsNodeOf v note a
+    led_node k a at = (
+      λ w. let l = led k a at w in (l.owner, header_is, (l.edge, l.rest, l.walk, l.end, l.within)),
+      λ h. leads_on h.2.1 h.2.0 k a at h.2.2 h.2.3 h.2.4,
+    )
+
+    pub header_in : bodies.in_extent ranges header ≡ true
+    header_in = extent header note.header at_header ∙ header_is
 
     -- an edge from the extent to the header turns the loop back
     pub turn : HasBackEdge edges.sources edges.targets (bodies.in_extent ranges) header ↔ GoesBack v note

@@ -1,15 +1,17 @@
 -- What the passes over the notes of a program's loops find.
 use Rattle.std.specs.Prelude.{◌≡◌, ◌≢◌, ℕ, ◌+◌, ◌<◌, ◌≤◌, ◌↔◌, ◌⊎◌, Bool, true, List, length, slice_get, slice_index, Result, Ok, Err, Some}
 use Rattle.scale_base.specs.declared.refusal.Refusal.{Refusal}
-use Rattle.scale_base.specs.declared.refusal.Refusal.TheVariants.{TooDeep}
+use Rattle.scale_base.specs.declared.refusal.Refusal.TheVariants.{SideEntry, TooDeep}
 use Rattle.cost_theory.specs.Graph.{sum_below, only}
 use Rattle.cost_theory.specs.Accepted.{IsInBody}
 use Rattle.cost_theory.specs.Lists.{body_of}
 use Rattle.code_graph.specs.FlowGraph.{FlowGraph, graph, IsFlowGraph}
+use Rattle.loop_bodies.specs.declared.extent.LoopExtent.{LoopExtent}
 use Rattle.loop_bodies.specs.declared.extent.NodeRange.{NodeRange}
 use Rattle.loop_bodies.specs.Bodies as bodies
 use Rattle.loop_bodies.specs.Bodies.{IsIn, AreNodes, IsSideEdge}
 use Rattle.loop_bodies.specs.Edges.{EdgeView}
+use Rattle.loop_bodies.specs.Groups.{HasBit, IsFlagged}
 use Rattle.loop_file.specs.declared.notes.LoopNote.{LoopNote}
 use Rattle.loop_file.specs.Kept as kept
 use Rattle.loop_file.specs.Kept.{note_at}
@@ -59,6 +61,11 @@ pub record IsReady (v : FlowGraph) (search : EdgeView) (notes : List LoopNote) (
 abbrev pub IsExtent : FlowGraph → LoopNote → List NodeRange → Type 0
 IsExtent v note extent = (k at : ℕ) → slice_get v.code.nodes k ≡ Some at → bodies.in_extent extent k ≡ kept.in_extent note at
 
+-- the loops of the notes from one number up to another
+pub record AreExtents (v : FlowGraph) (notes : List LoopNote) (headers : List ℕ) (first last : ℕ) (loops : List LoopExtent) : Type 0 where
+  pub size : first + length loops ≡ last
+  pub at : (i : ℕ) (loop : LoopExtent) → slice_get loops i ≡ Some loop → (loop.header ≡ slice_index headers (first + i)) × IsExtent v (note_at notes (first + i)) loop.ranges.items
+
 -- a node is in the body of a note's loop
 abbrev pub IsNodeOf : FlowGraph → LoopNote → ℕ → Type 0
 IsNodeOf v note at = IsInBody (graph v) note.header (kept.in_extent note) at
@@ -94,6 +101,33 @@ pub record AreDepths (v : FlowGraph) (notes : List LoopNote) (n : ℕ) (depths :
   pub inside : ℕ → ℕ → Bool
   pub bodies : (k at : ℕ) → k < n → (inside k at ≡ true) ↔ IsBodyNode v notes k at
   pub counted : (i at : ℕ) → slice_get v.code.nodes i ≡ Some at → slice_index depths i ≡ sum_below n (λ k. only (inside k at) 1)
+
+-- An edge enters the body of loop i of a group past its header, or the entry of the header's function lies in the body, and isn't the header.
+abbrev pub IsEnteredBit : FlowGraph → List ℕ → ℕ → ℕ → ℕ → Type 0
+IsEnteredBit v bodies aside header i = HasBit aside i ⊎
+    ((entry : ℕ) × (slice_get v.code.nodes entry ≡ Some ((graph v).entry ((graph v).owner (slice_index v.code.nodes header)))) × (entry ≢ header) × IsFlagged bodies entry i)
+
+-- the body of loop k is entered aside by this pair of addresses, and by no lesser one
+pub record IsEnteredBy (v : FlowGraph) (notes : List LoopNote) (k : ℕ) (refusal : Refusal) : Type 0 where
+  pub from : ℕ
+  pub to : ℕ
+  pub entered : IsNotedSideEntry v notes k from to
+  pub least : (a b : ℕ) → IsNotedSideEntry v notes k a b → (from < a) ⊎ ((from ≡ a) × (to ≤ b))
+  pub refusal_is : refusal ≡ SideEntry (k + 1) from to
+
+-- the body of loop k isn't entered aside, or it is refused
+abbrev pub IsEntry : FlowGraph → List LoopNote → ℕ → Result Unit Refusal → Type 0
+IsEntry v notes k (Ok x) = (a b : ℕ) → IsNotedSideEntry v notes k a b → ⊥
+IsEntry v notes k (Err refusal) = IsEnteredBy v notes k refusal
+
+-- the first n bodies are not entered aside, and are counted
+pub record AreEnteredBelow (v : FlowGraph) (notes : List LoopNote) (n : ℕ) (depths : List ℕ) : Type 0 where
+  pub none : (k a b : ℕ) → k < n → IsNotedSideEntry v notes k a b → ⊥
+  pub counts : AreDepths v notes n depths
+
+abbrev pub IsGroupEntered : FlowGraph → List LoopNote → ℕ → List ℕ → Result Unit Refusal → Type 0
+IsGroupEntered v notes n depths (Ok x) = AreEnteredBelow v notes n depths
+IsGroupEntered v notes n depths (Err refusal) = IsEntryRefused v notes refusal
 
 -- no body is entered aside
 pub record AreEntriesFound (v : FlowGraph) (notes : List LoopNote) (depths : List ℕ) : Type 0 where

@@ -4,10 +4,11 @@ ghost use Rattle.std.specs.Prelude.{◌≡◌, ◌+◌, ◌<◌, ◌≤◌, ◌�
 ghost use Rattle.scale_base.specs.Answer.{AnswersBy};
 ghost use Rattle.code_graph.specs.FlowGraph as flow;
 ghost use Rattle.loop_bodies.specs.Bodies.{IsIn, AreNodes, IsLeastPair};
-ghost use Rattle.natural_loops.specs.Passes.{IsSmallGraph, AreEdgesOf, IsReady, AreOwned, IsSidePair, AreBackEdgesFound, AreEntries, AreShallow};
+ghost use Rattle.natural_loops.specs.Passes.{IsSmallGraph, AreEdgesOf, IsReady, AreOwned, IsSidePair, IsEntry, AreEntries, AreShallow};
 ghost use Rattle.natural_loops.specs.Noted.{HasBackEdge};
 
 use crate::back_edges::loop_body;
+use crate::groups::check_group;
 use crate::headers::number_of;
 use crate::nodes::node_at;
 use code_graph::CodeGraph;
@@ -18,6 +19,9 @@ use std::alloc::Global;
 
 // Loops may be nested so deep.
 const MOST_DEPTH: usize = 16;
+
+// So many loops are looked at at once, each by a bit of a word.
+const GROUP: usize = 64;
 
 fn is_among(nodes: &[usize], node: usize) -> bool
     ensures { (result ≡ true) ↔ IsIn nodes.now node }
@@ -30,8 +34,8 @@ fn is_among(nodes: &[usize], node: usize) -> bool
     false
 }
 
-// The node at the entry of a node's function.
-fn entry_of(graph: &CodeGraph, node: usize) -> usize
+/// The node at the entry of a node's function.
+pub fn entry_of(graph: &CodeGraph, node: usize) -> usize
     requires graph { IsSmallGraph graph.now }
     requires node { node < length graph.now.code.nodes }
     ensures { slice_get graph.now.code.nodes result ≡ Some ((flow.graph graph.now).entry ((flow.graph graph.now).owner (slice_index graph.now.code.nodes node))) }
@@ -61,16 +65,28 @@ fn side_entry(
     least
 }
 
-// Counts one body more at each of its nodes.
-fn add_body(depths: &mut [usize], body: &[usize])
-    requires nodes { AreNodes (length depths.old) body.now }
-    requires small { (i : ℕ) → i < length depths.old → slice_index depths.old i < 4096 }
-    ensures size { length depths.new ≡ length depths.old }
-    ensures inside { (i : ℕ) → IsIn body.now i → slice_index depths.new i ≡ slice_index depths.old i + 1 }
-    ensures outside { (i : ℕ) → (IsIn body.now i → ⊥) → slice_index depths.new i ≡ slice_index depths.old i }
+/// Refuses a loop whose body is entered past its header.
+pub fn check_entry(
+    alloc: Global,
+    search: &mut BodySearch<'_>,
+    graph: &CodeGraph,
+    notes: &LoopNotes,
+    headers: &[usize],
+    k: usize,
+) -> Result<(), Stop>
+    requires ready { IsReady graph.now search.old notes.now headers.now }
+    requires within { k < length notes.now }
+    ensures entry { AnswersBy (λ x. x) result (IsEntry graph.now notes.now k) }
+    ensures same { search.new ≡ search.old }
 {
-    for node in body {
-        depths[*node] += 1;
+    let body = loop_body(alloc, search, graph, notes.note(k), headers[k])?;
+    match side_entry(search, graph, headers[k], &body) {
+        Some((from, to)) => Err(Stop::Refused(Refusal::SideEntry(
+            number_of(k),
+            graph.node(from),
+            graph.node(to),
+        ))),
+        None => Ok(()),
     }
 }
 
@@ -88,16 +104,20 @@ pub fn check_entries(
     ensures same { search.new ≡ search.old }
 {
     let mut depths = vec![in alloc; 0; graph.node_count()]?;
-    for k in 0..notes.count() {
-        let body = loop_body(alloc, search, graph, notes.note(k), headers[k])?;
-        if let Some((from, to)) = side_entry(search, graph, headers[k], &body) {
-            return Err(Stop::Refused(Refusal::SideEntry(
-                number_of(k),
-                graph.node(from),
-                graph.node(to),
-            )));
-        }
-        add_body(&mut depths, &body);
+    let mut first = 0;
+    while first < notes.count() {
+        let last = notes.count().min(first + GROUP);
+        check_group(
+            alloc,
+            search,
+            graph,
+            notes,
+            headers,
+            &mut depths,
+            first,
+            last,
+        )?;
+        first = last;
     }
     Ok(depths)
 }

@@ -1,11 +1,11 @@
 //! The extents of loops by the numbers of nodes.
 
 ghost use Rattle.std.specs.Prelude.{◌≡◌, ◌≤◌, length, slice_get, Some, IfOk};
-ghost use Rattle.natural_loops.specs.Passes.{IsSmallGraph, IsCountBelow, IsExtent};
+ghost use Rattle.natural_loops.specs.Passes.{IsSmallGraph, IsCountBelow, IsExtent, AreHeaderNumbers, AreExtents};
 
 use code_graph::CodeGraph;
-use loop_bodies::NodeRange;
-use loop_file::LoopNote;
+use loop_bodies::{LoopExtent, NodeRange};
+use loop_file::{LoopNote, LoopNotes};
 use scale_base::NoMemory;
 use std::alloc::Global;
 
@@ -51,4 +51,28 @@ pub fn extent_of(
         })?;
     }
     Ok(extent)
+}
+
+/// The loops from one number up to another, which is left out, with their extents.
+pub fn group_extents(
+    alloc: Global,
+    graph: &CodeGraph,
+    notes: &LoopNotes,
+    headers: &[usize],
+    first: usize,
+    last: usize,
+) -> Result<Vec<LoopExtent>, NoMemory>
+    requires graph { IsSmallGraph graph.now }
+    requires headers { AreHeaderNumbers graph.now notes.now headers.now }
+    requires order { first ≤ last }
+    requires within { last ≤ length notes.now }
+    ensures { IfOk result (λ loops. AreExtents graph.now notes.now headers.now first last loops.items) }
+{
+    let mut loops = Vec::new(alloc);
+    for k in first..last {
+        let header = headers[k];
+        let ranges = extent_of(alloc, graph, notes.note(k), header)?;
+        loops.push(LoopExtent { header, ranges })?;
+    }
+    Ok(loops)
 }

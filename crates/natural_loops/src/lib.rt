@@ -9,6 +9,7 @@ mod bodies;
 mod ends;
 mod entries;
 mod extent;
+mod groups;
 mod headers;
 mod loops;
 mod nodes;

@@ -1,9 +1,13 @@
-use Rattle.std.proofs.Common.{◌≡◌}
-use Rattle.natural_loops.proofs.ReadyLaws.{AreEnteredBelow}
+use Rattle.std.proofs.Common.{◌≡◌, ◌≤◌, ◌-◌, length}
+use Rattle.natural_loops.specs.Passes.{AreEnteredBelow}
 use Rattle.natural_loops.proofs.entries.check_entries.Given as goal
 
-abbrev pub invariant-loop-k : goal.invariant-loop-k
-invariant-loop-k l = record {
+abbrev pub invariant-loop-first : goal.invariant-loop-first
+invariant-loop-first l = record {
   same : l.search ≡ l.fn.search;
-  entered : AreEnteredBelow l.graph l.notes l.k l.depths.items;
+  within : l.first ≤ length l.notes;
+  entered : AreEnteredBelow l.graph l.notes l.first l.depths.items;
 }
+
+abbrev pub decreases-loop-first : goal.decreases-loop-first
+decreases-loop-first l = length l.notes - l.first

@@ -1,0 +1,8 @@
+use Rattle.std.proofs.Common.{◌≡◌, ℕ, ◌<◌, ◌↔◌, ◌⊎◌, length, Some}
+use Rattle.std.specs.Prelude.{slice_get}
+use Rattle.loop_bodies.specs.Groups.{IsFlagged}
+use Rattle.loop_bodies.proofs.GroupLaws.{AreAdded}
+use Rattle.loop_bodies.proofs.groups.add_body.Given as goal
+
+abbrev pub invariant-loop-node : goal.invariant-loop-node
+invariant-loop-node l = AreAdded l.fn.words l.body l.bit l.node-index l.words
