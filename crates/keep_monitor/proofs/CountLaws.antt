@@ -43,7 +43,7 @@ find_first (suc n) p k kl h before = ⊎_elim
     (below_suc k n kl)
 
 -- loops of another header keep their counts, which are within their bounds
-other_kept : (notes : List LoopNote) (counts : List ℕ) (source : Option ℕ) (next k : ℕ) → AreCounts notes counts → k < length notes → ((note_at notes k).header ≡ next → ⊥) →
+pub other_kept : (notes : List LoopNote) (counts : List ℕ) (source : Option ℕ) (next k : ℕ) → AreCounts notes counts → k < length notes → ((note_at notes k).header ≡ next → ⊥) →
     nat_lt (note_at notes k).bound (counts_from notes counts source next k) ≡ false
 other_kept notes counts source next k fit kl ne =
     let low = fit.bounded k kl in

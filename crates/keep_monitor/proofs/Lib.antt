@@ -2,4 +2,5 @@ pub mod HeaderLaws
 pub mod CountLaws
 pub mod BreakLaws
 pub mod StepLaws
+pub mod PlainLaws
 pub mod RunLaws

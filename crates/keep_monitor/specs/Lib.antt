@@ -2,3 +2,4 @@ pub mod Watch
 pub mod Headers
 pub mod Steps
 pub mod Laws
+pub mod Slots

@@ -5,6 +5,7 @@ ghost use Rattle.keep_monitor.specs.Laws.{WatchedRunsAreKept};
 
 mod headers;
 mod monitor;
+mod slots;
 mod steps;
 
 pub use monitor::Monitor;

@@ -1,29 +1,34 @@
 //! The monitor of a run.
 
-ghost use Rattle.std.specs.Prelude.{◌≡◌, reverse, IfOk, vec_len, vec_capacity};
+ghost use Rattle.std.specs.Prelude.{◌≡◌, reverse, IfOk, true, false, length, slice_index_or, vec_len, vec_capacity};
+ghost use Rattle.scale_base.specs.declared.stepping.Move.TheVariants.{Local};
 ghost use Rattle.scale_base.specs.declared.endings.Kept.TheVariants as kinds;
 ghost use Rattle.graph_runs.specs.ReturnAddresses.{returns_after};
 ghost use Rattle.keep_monitor.specs.Watch.{watched_first, watch, watch_returns};
 ghost use Rattle.keep_monitor.specs.Steps.{IsMonitor};
+ghost use Rattle.keep_monitor.specs.Slots.{slot_of};
 
 use crate::headers::{Header, headers_at, sorted_headers};
+use crate::slots::{has_header, header_slots};
 use crate::steps::{
     MOST_RETURNS, broken_loop, broken_return, count_step, move_returns, source_of, turning_loops,
 };
 use loop_file::LoopNotes;
-use scale_base::{Kept, NoMemory, Stepped};
+use scale_base::{Kept, Move, NoMemory, Stepped};
 use std::alloc::Global;
 use std::marker::Model;
 
 /// Watches the completed steps of a run, one after another, but for one that exits. All the memory that it needs is taken
-/// before the first step: 512 KiB for the return addresses, and at most 28 bytes for each loop besides its note. A step takes
-/// logarithmic time in the loops, besides those that have its target for their header and those that have to turn before they
-/// are left. Contracts see the notes, the return
-/// addresses, the last one first, a count for each loop, and what was broken.
+/// before the first step: 512 KiB for the return addresses, 64 KiB for the slots of headers, and at most 28 bytes for each loop besides its
+/// note. Where no loop has to turn before it is left, a step that neither calls nor returns nor leads into a slot of a header takes a look at
+/// that slot alone. Any other step takes logarithmic time in the loops, besides those that have its target for their header and those that
+/// have to turn before they are left. Contracts see the notes, the return addresses, the last one first, a count for each loop, and what was broken.
 #[derive(Drop)]
 pub struct Monitor {
     notes: LoopNotes,
     headers: Vec<Header>,
+    // By slots of addresses.
+    slots: Vec<bool>,
     // The loops that have to turn before they are left, ascending.
     turning: Vec<usize>,
     // The last one last.
@@ -36,13 +41,15 @@ pub struct Monitor {
 impl Model for Monitor {
     ghost use Rattle.std.specs.Prelude.{reverse, vec_len, vec_capacity};
     ghost use Rattle.keep_monitor.specs.Watch.{Watched};
+    ghost use Rattle.std.specs.Prelude.{length};
     ghost use Rattle.keep_monitor.specs.Steps.{IsMonitor};
+    ghost use Rattle.keep_monitor.specs.Slots.{AreSlotsOf};
 
     ghost Value = { Watched };
 
     ghost view = { λ m. record { notes = m.notes; returns = reverse m.returns.items; counts = m.counts.items; kept = m.kept } };
 
-    ghost invariant = { λ m. IsMonitor m.notes m.headers.items m.turning.items (vec_len m.returns) (vec_capacity m.returns) m.counts.items };
+    ghost invariant = { λ m. (IsMonitor m.notes m.headers.items m.turning.items (vec_len m.returns) (vec_capacity m.returns) m.counts.items) × (AreSlotsOf m.notes (length m.notes) m.slots.items) };
 }
 
 // Watches a step of a run that has broken nothing.
@@ -70,18 +77,35 @@ fn watch_step(
     Kept::Kept
 }
 
+// Whether a step neither calls nor returns, nor leads into a slot of a header, where no loop has to turn before it is left.
+#[inline(always)]
+fn is_plain(slots: &[bool], turning: &[usize], step: &Stepped) -> bool
+    requires { length slots.now ≡ 65536 }
+    ensures moved { result ≡ true → step.now.moved ≡ Local }
+    ensures turning { result ≡ true → length turning.now ≡ 0 }
+    ensures slot { result ≡ true → slice_index_or slots.now (slot_of step.now.next) true ≡ false }
+{
+    match step.moved {
+        Move::Local => turning.is_empty() && !has_header(slots, step.next),
+        Move::Call => false,
+        Move::Return => false,
+    }
+}
+
 impl Monitor {
     /// A monitor of a run before its first step, by the notes of the program's loops.
     pub fn new(alloc: Global, notes: LoopNotes) -> Result<Monitor, NoMemory>
         ensures { IfOk result (λ m. m ≡ watched_first notes) }
     {
         let headers = sorted_headers(alloc, &notes)?;
+        let slots = header_slots(alloc, &notes)?;
         let turning = turning_loops(alloc, &notes)?;
         let returns = Vec::with_capacity(alloc, MOST_RETURNS)?;
         let counts = vec![in alloc; 0; notes.count()]?;
         Ok(Monitor {
             notes,
             headers,
+            slots,
             turning,
             returns,
             counts,
@@ -90,9 +114,23 @@ impl Monitor {
     }
 
     /// Watches the next step, and says whether the run is kept up to it; after a break, what was broken first.
+    #[inline(always)]
     pub fn see(&mut self, step: &Stepped) -> Kept
         ensures new { self.new ≡ watch self.old step.now }
         ensures answer { result ≡ self.new.kept }
+    {
+        if is_plain(&self.slots, &self.turning, step) {
+            return self.kept;
+        }
+        let step = *step;
+        self.take_step(&step);
+        self.kept
+    }
+
+    // Watches any step.
+    #[inline(never)]
+    fn take_step(&mut self, step: &Stepped)
+        ensures { self.new ≡ watch self.old step.now }
     {
         if let Kept::Kept = self.kept {
             self.kept = watch_step(
@@ -104,6 +142,5 @@ impl Monitor {
                 step,
             );
         }
-        self.kept
     }
 }

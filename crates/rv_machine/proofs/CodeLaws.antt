@@ -1,15 +1,22 @@
 -- Instructions of words that no step can change.
-use Rattle.std.proofs.Common.{rules, ◌≡◌, ℕ, zero, suc, ◌+◌, ◌*◌, ◌/◌, ◌%◌, ◌^◌, ◌<◌, ◌≤◌, Bool, true, false, not, List, [], ◌∷◌, length, get_or, Option, Some, None, refl, ap, sym, ◌∙◌, subst, arith, inl, inr, vec_len, add-zero}
-use Rattle.std.proofs.lemmas.Bool.{cases_lt, not-true, cond-true}
+use Rattle.std.proofs.Common.{rules, ◌≡◌, ℕ, zero, suc, ◌+◌, ◌*◌, ◌/◌, ◌%◌, ◌^◌, ◌<◌, ◌≤◌, ◌==◌, cond, Bool, true, false, not, List, [], ◌∷◌, length, get_or, Option, Some, None, refl, ap, sym, ◌∙◌, subst, arith, inl, inr, vec_len, add-zero}
+use Rattle.std.proofs.lemmas.Bool.{cases_lt, not-true, cond-true, eqb-true}
 use Rattle.scale_base.specs.declared.instruction.Instr.{Instr}
-use Rattle.std.specs.Prelude.{IfSome}
-use Rattle.scale_base.specs.Word.{Encodes}
+use Rattle.rv_machine.specs.declared.decoded.Decoded.{Decoded}
+use Rattle.rv_machine.specs.declared.decoded.Effect.{Effect}
+use Rattle.rv_machine.specs.declared.decoded.Effect.TheVariants.{Went, Branched, Switched, Exited, Trapped}
+use Rattle.rv_machine.specs.Decoded.{TellsOf, decoded_end, end_by}
+use Rattle.scale_base.specs.Word.{FieldsInRange}
 use Rattle.scale_base.specs.Reading.{instr_of}
 use Rattle.scale_base.specs.Layout.{Layout, each_byte, may_write, can_fetch}
 use Rattle.scale_base.proofs.LayoutLaws.{each_byte_at}
 use Rattle.scale_base.specs.State.{Setting, State, word_at}
+use Rattle.scale_base.specs.declared.stepping.Class.{Class}
+use Rattle.scale_base.specs.declared.stepping.Move.{Move}
+use Rattle.scale_base.specs.declared.stepping.Stepped.{Stepped}
+use Rattle.scale_base.specs.declared.stepping.StepEnd.TheVariants as ends
 use Rattle.scale_base.specs.Step.{step, executes, performs}
-use Rattle.rv_machine.specs.Code.{IsFixed, instr_in, page_in, instr_at, IsCodeOf, MayBeFixed, MayBePage, MayBeGroup}
+use Rattle.rv_machine.specs.Code.{IsFixed, instr_in, page_in, instr_at, known_at, IsCodeOf, MayBeFixed, MayBePage, MayBeGroup}
 use Rattle.rv_machine.specs.declared.code.CodePage.{CodePage}
 use Rattle.rv_machine.specs.declared.code.CodeGroup.{CodeGroup}
 use Rattle.rv_machine.specs.declared.code.Code.{Code}
@@ -27,13 +34,28 @@ index_past (x ∷ xs) (suc k) d le = index_past xs k d (omega arith)
 -- ---- a step
 
 -- a fixed instruction is the one that is performed
-pub step_fixed : (env : Setting) (s : State) (i : Instr) → IsFixed env.layout s.bytes s.pc i → step env s ≡ performs env s i i
+pub step_fixed : (env : Setting) (s : State) (d : Decoded) → IsFixed env.layout s.bytes s.pc d → step env s ≡ performs env s d.instr d.instr
 unfolding step
-step_fixed env s i h = cond-true (can_fetch env.layout s.pc) _ _ h.fetched ∙ ap (executes env s) h.instr
+step_fixed env s d h = cond-true (can_fetch env.layout s.pc) _ _ h.fetched ∙ ap (executes env s) h.instr
+
+-- what its steps tell is what they are by the definition
+abbrev told : ℕ → ℕ → Option ℕ → Class → Move → Bool → Stepped
+told pc next port class moved keyed = record { pc = pc; next = next; class = class; moved = moved; keyed = keyed; port = port }
+
+told_same : (pc next : ℕ) (port : Option ℕ) (class class' : Class) (moved moved' : Move) (keyed keyed' : Bool) →
+    class ≡ class' → moved ≡ moved' → keyed ≡ keyed' → told pc next port class moved keyed ≡ told pc next port class' moved' keyed'
+told_same pc next port class class' moved moved' keyed keyed' a b c = cc
+
+pub told_end : (env : Setting) (s : State) (d : Decoded) (effect : Effect) (next : ℕ) → TellsOf env.layout s.pc d → decoded_end d s.pc effect next ≡ end_by env s d.instr effect next
+told_end env s d Went next t = ap (λ x. ends.Went x) (told_same s.pc next None _ _ _ _ _ _ t.untaken t.moved t.keyed)
+told_end env s d Branched next t = ap (λ x. ends.Went x) (told_same s.pc next None _ _ _ _ _ _ t.taken t.moved t.keyed)
+told_end env s d (Switched level) next t = ap (λ x. ends.Went x) (told_same s.pc next (Some level) _ _ _ _ _ _ t.untaken t.moved t.keyed)
+told_end env s d (Exited status) next t = ap (λ x. ends.Exited x status) (told_same s.pc next None _ _ _ _ _ _ t.untaken t.moved t.keyed)
+told_end env s d (Trapped trap) next t = refl
 
 -- bytes that may not be written stay, and so does the instruction
-pub fixed_stays : (l : Layout) (bytes bytes' : ℕ → ℕ) (at : ℕ) (i : Instr) → ((a : ℕ) → may_write l a ≡ false → bytes' a ≡ bytes a) → IsFixed l bytes at i → IsFixed l bytes' at i
-fixed_stays l bytes bytes' at i stays h =
+pub fixed_stays : (l : Layout) (bytes bytes' : ℕ → ℕ) (at : ℕ) (d : Decoded) → ((a : ℕ) → may_write l a ≡ false → bytes' a ≡ bytes a) → IsFixed l bytes at d → IsFixed l bytes' at d
+fixed_stays l bytes bytes' at d stays h =
     let b0 : bytes' at ≡ bytes at = stays at (ap (may_write l) (sym (add-zero at)) ∙ h.unwritten 0 (omega arith)) in
     let b1 = stays (at + 1) (h.unwritten 1 (omega arith)) in
     let b2 = stays (at + 2) (h.unwritten 2 (omega arith)) in
@@ -43,16 +65,16 @@ fixed_stays l bytes bytes' at i stays h =
     ∙ (ap (λ n. bytes at + n * 2 ^ 8 + bytes' (at + 2) * 2 ^ 16 + bytes' (at + 3) * 2 ^ 24) b1
     ∙ (ap (λ n. bytes at + bytes (at + 1) * 2 ^ 8 + n * 2 ^ 16 + bytes' (at + 3) * 2 ^ 24) b2
     ∙ ap (λ n. bytes at + bytes (at + 1) * 2 ^ 8 + bytes (at + 2) * 2 ^ 16 + n * 2 ^ 24) b3)) in
-    record { fetched = h.fetched; instr = ap instr_of same ∙ h.instr; fields = h.fields; unwritten = h.unwritten }
+    record { fetched = h.fetched; instr = ap instr_of same ∙ h.instr; fields = h.fields; tells = h.tells; unwritten = h.unwritten }
 
 pub code_stays : (l : Layout) (bytes bytes' : ℕ → ℕ) (code : Code) → ((a : ℕ) → may_write l a ≡ false → bytes' a ≡ bytes a) → IsCodeOf l bytes code → IsCodeOf l bytes' code
-code_stays l bytes bytes' code stays h = record { fixed = λ word i is. fixed_stays l bytes bytes' (4 * word) i stays (h.fixed word i is) }
+code_stays l bytes bytes' code stays h = record { fixed = λ word d is. fixed_stays l bytes bytes' (4 * word) d stays (h.fixed word d is) }
 
 -- ---- as it is made
 
-fixed_of : (l : Layout) (bytes : ℕ → ℕ) (at : ℕ) (o : Option Instr) (i : Instr) → o ≡ Some i → MayBeFixed l bytes at o → IsFixed l bytes at i
-fixed_of l bytes at None i is h = absurd cc
-fixed_of l bytes at (Some j) i is h = let same : j ≡ i = cc in subst (IsFixed l bytes at) same h
+fixed_of : (l : Layout) (bytes : ℕ → ℕ) (at : ℕ) (o : Option Decoded) (d : Decoded) → o ≡ Some d → MayBeFixed l bytes at o → IsFixed l bytes at d
+fixed_of l bytes at None d is h = absurd cc
+fixed_of l bytes at (Some e) d is h = let same : e ≡ d = cc in subst (IsFixed l bytes at) same h
 
 in_page : (l : Layout) (bytes : ℕ → ℕ) (n k : ℕ) (o : Option CodePage) → k < 1024 → MayBePage l bytes n o → MayBeFixed l bytes (4 * (n * 1024 + k)) (instr_in o k)
 in_page l bytes n k None lt h = tt
@@ -86,22 +108,33 @@ in_code l bytes groups word size h =
       | inr far ↦ subst (λ o. MayBeFixed l bytes (4 * word) (instr_in (page_in o (word / 1024 % 1024)) (word % 1024))) (sym (index_past groups (word / 1024 / 1024) None (omega arith))) tt
     ]
 
-pub code_made : (l : Layout) (bytes : ℕ → ℕ) (groups : List (Option CodeGroup)) → length groups ≡ 1024 → AreGroups l bytes groups → (word : ℕ) (i : Instr) → instr_at groups word ≡ Some i → IsFixed l bytes (4 * word) i
-code_made l bytes groups size h word i is = fixed_of l bytes (4 * word) (instr_at groups word) i is (in_code l bytes groups word size h)
+pub code_made : (l : Layout) (bytes : ℕ → ℕ) (groups : List (Option CodeGroup)) → length groups ≡ 1024 → AreGroups l bytes groups → (word : ℕ) (d : Decoded) → instr_at groups word ≡ Some d → IsFixed l bytes (4 * word) d
+code_made l bytes groups size h word d is = fixed_of l bytes (4 * word) (instr_at groups word) d is (in_code l bytes groups word size h)
 
 -- what may not be written, byte by byte
 pub unwritten_all : (l : Layout) (at : ℕ) → each_byte (λ a. not (may_write l a)) at 4 ≡ true → (k : ℕ) → k < 4 → may_write l (at + k) ≡ false
 unwritten_all l at all k lt = not-true (may_write l (at + k)) (each_byte_at (λ a. not (may_write l a)) at k 4 lt all)
 
 -- the instruction of a word that may be fetched and not written
-pub fixed_made : (l : Layout) (bytes : ℕ → ℕ) (at word : ℕ) (o : Option Instr) → o ≡ instr_of word → word ≡ word_at bytes at → can_fetch l at ≡ true → each_byte (λ a. not (may_write l a)) at 4 ≡ true →
-    IfSome o (λ i. Encodes word i) → MayBeFixed l bytes at o
-fixed_made l bytes at word None read is fetched unwritten found = tt
-fixed_made l bytes at word (Some i) read is fetched unwritten found =
-    record { fetched = fetched; instr = ap instr_of (sym is) ∙ sym read; fields = found.0; unwritten = unwritten_all l at unwritten }
+pub fixed_made : (l : Layout) (bytes : ℕ → ℕ) (at word : ℕ) (i : Instr) (d : Decoded) → Some i ≡ instr_of word → word ≡ word_at bytes at → can_fetch l at ≡ true →
+    each_byte (λ a. not (may_write l a)) at 4 ≡ true → FieldsInRange i → d.instr ≡ i → TellsOf l at d → IsFixed l bytes at d
+fixed_made l bytes at word i d read is fetched unwritten fields same tells = record {
+  fetched = fetched;
+  instr = ap instr_of (sym is) ∙ (sym read ∙ ap (λ j. Some j) (sym same));
+  fields = subst FieldsInRange (sym same) fields;
+  tells = tells;
+  unwritten = unwritten_all l at unwritten;
+}
 
--- the step of an instruction of the code
-pub step_coded : (env : Setting) (s : State) (code : Code) (i : Instr) → IsCodeOf env.layout s.bytes code → s.pc % 4 ≡ 0 → instr_at code.groups.items (s.pc / 4) ≡ Some i → step env s ≡ performs env s i i
-step_coded env s code i h aligned is =
-    let at : 4 * (s.pc / 4) ≡ s.pc = omega arith in
-    step_fixed env s i (subst (λ a. IsFixed env.layout s.bytes a i) at (h.fixed (s.pc / 4) i is))
+-- an instruction that is known at an address
+aligned_known : (groups : List (Option CodeGroup)) (at : ℕ) (b : Bool) (d : Decoded) → cond b (instr_at groups (at / 4)) None ≡ Some d → (b ≡ true) × (instr_at groups (at / 4) ≡ Some d)
+aligned_known groups at true d is = (refl, is)
+aligned_known groups at false d is = absurd cc
+
+pub known_fixed : (l : Layout) (bytes : ℕ → ℕ) (code : Code) (at : ℕ) (d : Decoded) → IsCodeOf l bytes code → known_at code.groups.items at ≡ Some d → IsFixed l bytes at d
+unfolding known_at
+known_fixed l bytes code at d h is =
+    let parts = aligned_known code.groups.items at (at % 4 == 0) d is in
+    let aligned : at % 4 ≡ 0 = eqb-true (at % 4) 0 parts.0 in
+    let same : 4 * (at / 4) ≡ at = omega arith in
+    subst (λ a. IsFixed l bytes a d) same (h.fixed (at / 4) d parts.1)

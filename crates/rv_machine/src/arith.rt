@@ -5,6 +5,7 @@ ghost use Rattle.scale_base.specs.Arith as ops;
 
 use scale_base::{BranchOp, ImmOp, RegOp};
 
+#[inline(always)]
 pub fn is_taken(op: BranchOp, a: u32, b: u32) -> bool
     ensures { result ≡ ops.is_taken op a b }
 {
@@ -18,6 +19,7 @@ pub fn is_taken(op: BranchOp, a: u32, b: u32) -> bool
     }
 }
 
+#[inline(always)]
 pub fn reg_op_for(op: ImmOp) -> RegOp
     ensures { result ≡ ops.reg_op_for op }
 {
@@ -34,6 +36,7 @@ pub fn reg_op_for(op: ImmOp) -> RegOp
     }
 }
 
+#[inline(always)]
 pub fn reg_result(op: RegOp, a: u32, b: u32) -> u32
     ensures { result ≡ ops.reg_result op a b }
 {

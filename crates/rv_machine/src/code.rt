@@ -2,7 +2,7 @@
 
 ghost use Rattle.std.specs.Prelude.{◌≡◌, vec_len};
 
-use scale_base::Instr;
+use crate::decoded::Decoded;
 
 /// So many words have a page, so many pages a group, and so many groups the code.
 const COUNT: u32 = 1024;
@@ -10,7 +10,7 @@ const COUNT: u32 = 1024;
 /// The instructions of 1,024 words, of which some are known.
 #[derive(Drop)]
 pub struct CodePage {
-    pub instrs: Vec<Option<Instr>>,
+    pub instrs: Vec<Option<Decoded>>,
     ghost count: { vec_len instrs ≡ 1024 },
 }
 
@@ -29,15 +29,18 @@ pub struct Code {
 }
 
 impl Code {
-    ghost use Rattle.std.specs.Prelude.{◌≡◌, ◌/◌, option_copied};
-    ghost use Rattle.rv_machine.specs.Code.{instr_at};
+    ghost use Rattle.std.specs.Prelude.{◌≡◌, option_copied};
+    ghost use Rattle.rv_machine.specs.Code.{known_at};
 
-    /// The instruction of the word of an address, if it is known.
-    #[inline]
-    #[tactic(auto, unfolding(crate::specs::Code::instr_at))]
-    pub fn instr(&self, at: u32) -> Option<&Instr>
-        ensures { option_copied result ≡ instr_at self.now.groups.items (at / 4) }
+    /// The instruction at an address, if it is known.
+    #[inline(always)]
+    #[tactic(auto, unfolding(crate::specs::Code::known_at, crate::specs::Code::instr_at))]
+    pub fn instr(&self, at: u32) -> Option<&Decoded>
+        ensures { option_copied result ≡ known_at self.now.groups.items at }
     {
+        if at % 4 != 0 {
+            return None;
+        }
         let word = at / 4;
         match &self.groups[(word / COUNT / COUNT) as usize] {
             Some(group) => match &group.pages[(word / COUNT % COUNT) as usize] {

@@ -6,9 +6,10 @@ ghost use Rattle.rv_machine.specs.Code.{IsCodeOf, MayBeFixed, MayBePage, MayBeGr
 
 use crate::access;
 use crate::code::{Code, CodeGroup, CodePage};
+use crate::decoded::{Decoded, describe};
 use flat_memory::Memory;
 use rv_decode::decode;
-use scale_base::{Instr, NoMemory, Range};
+use scale_base::{NoMemory, Range};
 use std::alloc::Global;
 
 /// Whether the range has an address from one to another.
@@ -51,12 +52,15 @@ fn is_unwritten<M: Memory>(memory: &M, at: u32) -> bool
 }
 
 /// The instruction of the word at a multiple of 4, if it may be fetched and no byte of it may be written.
-fn fixed_instr<M: Memory>(memory: &M, at: u32) -> Option<Instr>
+fn fixed_instr<M: Memory>(memory: &M, at: u32) -> Option<Decoded>
     requires { at % 4 ≡ 0 }
     ensures { MayBeFixed (M.layout memory.now) (M.bytes memory.now) at result }
 {
     if access::can_fetch(memory, at) && is_unwritten(memory, at) {
-        decode(access::word_at(memory, at))
+        match decode(access::word_at(memory, at)) {
+            Some(instr) => Some(describe(memory, at, instr)),
+            None => None,
+        }
     } else {
         None
     }

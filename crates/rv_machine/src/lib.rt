@@ -5,16 +5,18 @@
 mod access;
 mod arith;
 mod code;
+mod decoded;
 mod decoding;
 mod machine;
 mod services;
 mod stepping;
 
 pub use code::Code;
+pub use decoded::{Decoded, Effect};
 pub use decoding::{Places, decode_code};
 pub use machine::{Machine, World};
 pub use scale_base::StepEnd;
-pub use stepping::{step, step_by};
+pub use stepping::{step, step_decoded};
 
 #[cfg(test)]
 mod tests;

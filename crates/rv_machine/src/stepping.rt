@@ -1,24 +1,27 @@
 //! One step.
 
 ghost use Rattle.std.specs.Prelude.{◌≡◌, ◌<◌, ◌≤◌, ◌+◌, ◌^◌, ◌%◌, Some, None, IsTrue};
+ghost use Rattle.scale_base.specs.declared.instruction.Instr.{Instr};
 ghost use Rattle.scale_base.specs.Word.{FieldsInRange};
 ghost use Rattle.scale_base.specs.Step as steps;
 ghost use Rattle.scale_base.specs.Arith as ops;
 ghost use Rattle.scale_base.specs.Layout as rules;
 ghost use Rattle.scale_base.specs.State.{reg, with_reg};
 ghost use Rattle.scale_base.specs.Step.{PortBelow};
-ghost use Rattle.rv_machine.specs.Code.{IsCodeOf};
+ghost use Rattle.rv_machine.specs.Code.{IsFixed};
+ghost use Rattle.rv_machine.specs.Decoded.{decoded_end, end_by, LevelBelow};
 ghost use Rattle.rv_machine.specs.Machine.{state_of, setting_of, outcome_of};
 
-use crate::code::Code;
+use crate::decoded::{Decoded, Effect, describe};
 use crate::machine::Machine;
 use crate::services::service;
 use crate::{access, arith};
 use flat_memory::Memory;
-use rv_decode::{class_of, decode};
-use scale_base::{Instr, LoadOp, Move, StepEnd, Stepped, StoreOp, Trap, TrapKind};
+use rv_decode::decode;
+use scale_base::{Instr, LoadOp, StepEnd, StoreOp, Trap, TrapKind};
 
 /// One step of the machine: one instruction. After a trap or an exit the machine is as before.
+#[inline(never)]
 #[tactic(auto, unfolding(scale_base::specs::Step::step))]
 pub fn step<M: Memory>(machine: &mut Machine<M>) -> StepEnd
     ensures outcome { outcome_of M.bytes result machine.new ≡ steps.step (setting_of M.layout machine.old) (state_of M.bytes machine.old) }
@@ -27,72 +30,51 @@ pub fn step<M: Memory>(machine: &mut Machine<M>) -> StepEnd
 {
     let at = machine.pc;
     if !access::can_fetch(&machine.memory, at) {
-        return trap(TrapKind::FetchFault, at);
+        return StepEnd::Trapped(trap(TrapKind::FetchFault, at));
     }
     match decode(access::word_at(&machine.memory, at)) {
-        Some(instr) => perform(machine, &instr),
-        None => trap(TrapKind::IllegalWord, at),
+        Some(instr) => execute(machine, instr),
+        None => StepEnd::Trapped(trap(TrapKind::IllegalWord, at)),
     }
 }
 
-/// One step of the machine, whose instruction is taken from the code where it is known.
-pub fn step_by<M: Memory>(machine: &mut Machine<M>, code: &Code) -> StepEnd
-    requires { IsCodeOf (M.layout machine.old.memory) (M.bytes machine.old.memory) code.now }
-    ensures outcome { outcome_of M.bytes result machine.new ≡ steps.step (setting_of M.layout machine.old) (state_of M.bytes machine.old) }
+/// The step of the instruction at the machine's `pc`.
+fn execute<M: Memory>(machine: &mut Machine<M>, instr: Instr) -> StepEnd
+    requires { FieldsInRange instr }
+    ensures outcome { outcome_of M.bytes result machine.new ≡ steps.performs (setting_of M.layout machine.old) (state_of M.bytes machine.old) instr instr }
     ensures setting { setting_of M.layout machine.new ≡ setting_of M.layout machine.old }
     ensures port { PortBelow result machine.old.levels }
 {
     let pc = machine.pc;
-    if pc % 4 != 0 {
-        return step(machine);
-    }
-    match code.instr(pc) {
-        Some(instr) => perform(machine, instr),
-        None => step(machine),
-    }
+    let known = describe(&machine.memory, pc, instr);
+    let effect = perform(machine, &instr);
+    known.end(pc, effect, machine.pc)
 }
 
-pub fn trap(kind: TrapKind, at: u32) -> StepEnd
-    ensures { result ≡ steps.trapped kind at }
+/// One step of the machine, whose instruction is known, and what it did.
+#[inline(always)]
+pub fn step_decoded<M: Memory>(machine: &mut Machine<M>, known: &Decoded) -> Effect
+    requires { IsFixed (M.layout machine.old.memory) (M.bytes machine.old.memory) machine.old.pc known.now }
+    ensures outcome { outcome_of M.bytes (decoded_end known.now machine.old.pc result machine.new.pc) machine.new ≡ steps.step (setting_of M.layout machine.old) (state_of M.bytes machine.old) }
+    ensures setting { setting_of M.layout machine.new ≡ setting_of M.layout machine.old }
+    ensures level { LevelBelow result machine.old.levels }
 {
-    StepEnd::Trapped(Trap { kind, at })
+    perform(machine, &known.instr)
 }
 
-fn move_of(instr: &Instr) -> Move
-    ensures { result ≡ steps.move_of instr.now }
+pub fn trap(kind: TrapKind, at: u32) -> Trap
+    ensures { result ≡ record { kind = kind; at = at } }
 {
-    match *instr {
-        Instr::Jal { rd: 1, .. } => Move::Call,
-        Instr::Jalr {
-            rd: 0,
-            rs1: 1,
-            offset: 0,
-        } => Move::Return,
-        _ => Move::Local,
-    }
+    Trap { kind, at }
 }
 
-/// The step of the instruction, to the address.
-pub fn stepped<M: Memory>(
-    machine: &Machine<M>,
-    instr: &Instr,
-    taken: bool,
-    port: Option<u8>,
-    next: u32,
-) -> Stepped
-    ensures { result ≡ steps.stepped (setting_of M.layout machine.now) (state_of M.bytes machine.now) instr.now taken port next }
+fn stops(kind: TrapKind, at: u32) -> Effect
+    ensures { result ≡ Effect.Trapped (record { kind = kind; at = at }) }
 {
-    let pc = machine.pc;
-    Stepped {
-        pc,
-        next,
-        class: class_of(instr, taken),
-        moved: move_of(instr),
-        keyed: machine.memory.is_keyed(pc),
-        port,
-    }
+    Effect::Trapped(trap(kind, at))
 }
 
+#[inline(always)]
 pub fn reg_at<M>(machine: &Machine<M>, r: u8) -> u32
     requires { r < 32 }
     ensures { result ≡ reg machine.now.regs r }
@@ -100,6 +82,7 @@ pub fn reg_at<M>(machine: &Machine<M>, r: u8) -> u32
     machine.regs[r as usize]
 }
 
+#[inline(always)]
 pub fn set_reg<M: Memory>(machine: &mut Machine<M>, rd: u8, value: u32)
     requires { rd < 32 }
     ensures state { state_of M.bytes machine.new ≡ record (state_of M.bytes machine.old) { regs = with_reg machine.old.regs rd value } }
@@ -111,53 +94,50 @@ pub fn set_reg<M: Memory>(machine: &mut Machine<M>, rd: u8, value: u32)
 }
 
 /// The value goes into the register, and the next instruction follows.
-fn set<M: Memory>(machine: &mut Machine<M>, instr: &Instr, rd: u8, value: u32) -> StepEnd
+#[inline(always)]
+fn set<M: Memory>(machine: &mut Machine<M>, rd: u8, value: u32)
     requires { rd < 32 }
-    ensures outcome { outcome_of M.bytes result machine.new ≡ steps.sets (setting_of M.layout machine.old) (state_of M.bytes machine.old) instr.now rd value }
+    ensures state { state_of M.bytes machine.new ≡ record (state_of M.bytes machine.old) { pc = steps.after (state_of M.bytes machine.old); regs = with_reg machine.old.regs rd value } }
     ensures setting { setting_of M.layout machine.new ≡ setting_of M.layout machine.old }
-    ensures port { PortBelow result machine.old.levels }
 {
-    let next = machine.pc.wrapping_add(4);
-    let done = stepped(machine, instr, false, None, next);
     set_reg(machine, rd, value);
-    machine.pc = next;
-    StepEnd::Went(done)
+    machine.pc = machine.pc.wrapping_add(4);
 }
 
-fn jump<M: Memory>(machine: &mut Machine<M>, instr: &Instr, rd: u8, target: u32) -> StepEnd
+#[inline(always)]
+fn jump<M: Memory>(machine: &mut Machine<M>, rd: u8, target: u32) -> Effect
     requires { rd < 32 }
-    ensures outcome { outcome_of M.bytes result machine.new ≡ steps.jumps (setting_of M.layout machine.old) (state_of M.bytes machine.old) instr.now rd target }
+    ensures outcome { (i : Instr) → outcome_of M.bytes (end_by (setting_of M.layout machine.old) (state_of M.bytes machine.old) i result machine.new.pc) machine.new ≡ steps.jumps (setting_of M.layout machine.old) (state_of M.bytes machine.old) i rd target }
     ensures setting { setting_of M.layout machine.new ≡ setting_of M.layout machine.old }
-    ensures port { PortBelow result machine.old.levels }
+    ensures level { LevelBelow result machine.old.levels }
 {
     if target % 4 != 0 {
-        return trap(TrapKind::MisalignedTarget, target);
+        return stops(TrapKind::MisalignedTarget, target);
     }
     let next = machine.pc.wrapping_add(4);
-    let done = stepped(machine, instr, false, None, target);
     set_reg(machine, rd, next);
     machine.pc = target;
-    StepEnd::Went(done)
+    Effect::Went
 }
 
-fn branch<M: Memory>(machine: &mut Machine<M>, instr: &Instr, taken: bool, target: u32) -> StepEnd
-    ensures outcome { outcome_of M.bytes result machine.new ≡ steps.branches (setting_of M.layout machine.old) (state_of M.bytes machine.old) instr.now taken target }
+#[inline(always)]
+fn branch<M: Memory>(machine: &mut Machine<M>, taken: bool, target: u32) -> Effect
+    ensures outcome { (i : Instr) → outcome_of M.bytes (end_by (setting_of M.layout machine.old) (state_of M.bytes machine.old) i result machine.new.pc) machine.new ≡ steps.branches (setting_of M.layout machine.old) (state_of M.bytes machine.old) i taken target }
     ensures setting { setting_of M.layout machine.new ≡ setting_of M.layout machine.old }
-    ensures port { PortBelow result machine.old.levels }
+    ensures level { LevelBelow result machine.old.levels }
 {
-    if taken && target % 4 != 0 {
-        return trap(TrapKind::MisalignedTarget, target);
+    if !taken {
+        machine.pc = machine.pc.wrapping_add(4);
+        return Effect::Went;
     }
-    let next = if taken {
-        target
-    } else {
-        machine.pc.wrapping_add(4)
-    };
-    let done = stepped(machine, instr, taken, None, next);
-    machine.pc = next;
-    StepEnd::Went(done)
+    if target % 4 != 0 {
+        return stops(TrapKind::MisalignedTarget, target);
+    }
+    machine.pc = target;
+    Effect::Branched
 }
 
+#[inline(always)]
 fn load_width(op: LoadOp) -> u32
     ensures is { result ≡ ops.load_width op }
     ensures small { result ≤ 4 }
@@ -170,6 +150,7 @@ fn load_width(op: LoadOp) -> u32
 }
 
 /// What a load puts into the register.
+#[inline(always)]
 fn loaded<M: Memory>(memory: &M, op: LoadOp, at: u32) -> u32
     requires { at + ops.load_width op ≤ 2 ^ 32 }
     ensures { result ≡ ops.loaded op (M.bytes memory.now) at }
@@ -183,27 +164,31 @@ fn loaded<M: Memory>(memory: &M, op: LoadOp, at: u32) -> u32
     }
 }
 
-fn load<M: Memory>(machine: &mut Machine<M>, instr: &Instr, op: LoadOp, rd: u8, at: u32) -> StepEnd
+#[inline(always)]
+fn load<M: Memory>(machine: &mut Machine<M>, op: LoadOp, rd: u8, at: u32) -> Effect
     requires { rd < 32 }
-    ensures outcome { outcome_of M.bytes result machine.new ≡ steps.loads (setting_of M.layout machine.old) (state_of M.bytes machine.old) instr.now op rd at }
+    ensures outcome { (i : Instr) → outcome_of M.bytes (end_by (setting_of M.layout machine.old) (state_of M.bytes machine.old) i result machine.new.pc) machine.new ≡ steps.loads (setting_of M.layout machine.old) (state_of M.bytes machine.old) i op rd at }
     ensures setting { setting_of M.layout machine.new ≡ setting_of M.layout machine.old }
-    ensures port { PortBelow result machine.old.levels }
+    ensures level { LevelBelow result machine.old.levels }
 {
     let pc = machine.pc;
     let width = load_width(op);
     if at % width != 0 {
-        trap(TrapKind::LoadMisaligned, at)
-    } else if access::uses_window(&machine.memory, pc, at, width) {
+        return stops(TrapKind::LoadMisaligned, at);
+    }
+    if access::uses_window(&machine.memory, pc, at, width) {
         let word = machine.window[((at - 0xFFFF_F800) / 4) as usize];
-        set(machine, instr, rd, word)
+        set(machine, rd, word);
     } else if access::can_read(&machine.memory, pc, at, width) {
         let value = loaded(&machine.memory, op, at);
-        set(machine, instr, rd, value)
+        set(machine, rd, value);
     } else {
-        trap(TrapKind::LoadFault, at)
+        return stops(TrapKind::LoadFault, at);
     }
+    Effect::Went
 }
 
+#[inline(always)]
 fn store_width(op: StoreOp) -> u32
     ensures is { result ≡ ops.store_width op }
     ensures small { result ≤ 4 }
@@ -216,6 +201,7 @@ fn store_width(op: StoreOp) -> u32
 }
 
 /// Stores the lowest bytes of the value.
+#[inline(always)]
 #[tactic(auto, using(scale_base::proofs::LayoutLaws::each_byte_first), unfolding(scale_base::specs::Layout::each_byte))]
 fn put<M: Memory>(memory: &mut M, op: StoreOp, at: u32, value: u32)
     requires fits { at + ops.store_width op ≤ 2 ^ 32 }
@@ -239,83 +225,73 @@ fn put<M: Memory>(memory: &mut M, op: StoreOp, at: u32, value: u32)
 }
 
 /// Stores a word of the window, of which the last is the speed port.
-fn store_word<M: Memory>(machine: &mut Machine<M>, instr: &Instr, at: u32, value: u32) -> StepEnd
+#[inline(always)]
+fn store_word<M: Memory>(machine: &mut Machine<M>, at: u32, value: u32) -> Effect
     requires { IsTrue (rules.in_window at) }
-    ensures outcome { outcome_of M.bytes result machine.new ≡ steps.stores_word (setting_of M.layout machine.old) (state_of M.bytes machine.old) instr.now at value }
+    ensures outcome { (i : Instr) → outcome_of M.bytes (end_by (setting_of M.layout machine.old) (state_of M.bytes machine.old) i result machine.new.pc) machine.new ≡ steps.stores_word (setting_of M.layout machine.old) (state_of M.bytes machine.old) i at value }
     ensures setting { setting_of M.layout machine.new ≡ setting_of M.layout machine.old }
-    ensures port { PortBelow result machine.old.levels }
+    ensures level { LevelBelow result machine.old.levels }
 {
     let index = ((at - 0xFFFF_F800) / 4) as usize;
-    let next = machine.pc.wrapping_add(4);
-    let port = if index != 511 {
-        None
-    } else if value < u32::from(machine.levels) {
-        Some(value as u8)
-    } else {
-        return trap(TrapKind::StoreFault, at);
-    };
-    let done = stepped(machine, instr, false, port, next);
+    if index == 511 && value >= u32::from(machine.levels) {
+        return stops(TrapKind::StoreFault, at);
+    }
     machine.window[index] = value;
-    machine.pc = next;
-    StepEnd::Went(done)
+    machine.pc = machine.pc.wrapping_add(4);
+    if index == 511 {
+        Effect::Switched(value as u8)
+    } else {
+        Effect::Went
+    }
 }
 
-fn store<M: Memory>(
-    machine: &mut Machine<M>,
-    instr: &Instr,
-    op: StoreOp,
-    at: u32,
-    value: u32,
-) -> StepEnd
-    ensures outcome { outcome_of M.bytes result machine.new ≡ steps.stores (setting_of M.layout machine.old) (state_of M.bytes machine.old) instr.now op at value }
+#[inline(always)]
+fn store<M: Memory>(machine: &mut Machine<M>, op: StoreOp, at: u32, value: u32) -> Effect
+    ensures outcome { (i : Instr) → outcome_of M.bytes (end_by (setting_of M.layout machine.old) (state_of M.bytes machine.old) i result machine.new.pc) machine.new ≡ steps.stores (setting_of M.layout machine.old) (state_of M.bytes machine.old) i op at value }
     ensures setting { setting_of M.layout machine.new ≡ setting_of M.layout machine.old }
-    ensures port { PortBelow result machine.old.levels }
+    ensures level { LevelBelow result machine.old.levels }
 {
     let pc = machine.pc;
     let width = store_width(op);
     if at % width != 0 {
-        return trap(TrapKind::StoreMisaligned, at);
+        return stops(TrapKind::StoreMisaligned, at);
     }
     if access::uses_window(&machine.memory, pc, at, width) {
-        return store_word(machine, instr, at, value);
+        return store_word(machine, at, value);
     }
     if !access::can_write(&machine.memory, at, width) {
-        return trap(TrapKind::StoreFault, at);
+        return stops(TrapKind::StoreFault, at);
     }
-    let next = pc.wrapping_add(4);
-    let done = stepped(machine, instr, false, None, next);
     put(&mut machine.memory, op, at, value);
-    machine.pc = next;
-    StepEnd::Went(done)
+    machine.pc = pc.wrapping_add(4);
+    Effect::Went
 }
 
 /// A step that changes nothing but the pc.
-fn pass<M: Memory>(machine: &mut Machine<M>, instr: &Instr) -> StepEnd
-    ensures outcome { outcome_of M.bytes result machine.new ≡ steps.passes (setting_of M.layout machine.old) (state_of M.bytes machine.old) instr.now }
+#[inline(always)]
+fn pass<M: Memory>(machine: &mut Machine<M>)
+    ensures state { state_of M.bytes machine.new ≡ record (state_of M.bytes machine.old) { pc = steps.after (state_of M.bytes machine.old) } }
     ensures setting { setting_of M.layout machine.new ≡ setting_of M.layout machine.old }
-    ensures port { PortBelow result machine.old.levels }
 {
-    let next = machine.pc.wrapping_add(4);
-    let done = stepped(machine, instr, false, None, next);
-    machine.pc = next;
-    StepEnd::Went(done)
+    machine.pc = machine.pc.wrapping_add(4);
 }
 
-#[inline(never)]
-fn perform<M: Memory>(machine: &mut Machine<M>, instr: &Instr) -> StepEnd
+/// What the instruction does.
+#[inline(always)]
+fn perform<M: Memory>(machine: &mut Machine<M>, instr: &Instr) -> Effect
     requires { FieldsInRange instr.now }
-    ensures outcome { outcome_of M.bytes result machine.new ≡ steps.performs (setting_of M.layout machine.old) (state_of M.bytes machine.old) instr.now instr.now }
+    ensures outcome { outcome_of M.bytes (end_by (setting_of M.layout machine.old) (state_of M.bytes machine.old) instr.now result machine.new.pc) machine.new ≡ steps.performs (setting_of M.layout machine.old) (state_of M.bytes machine.old) instr.now instr.now }
     ensures setting { setting_of M.layout machine.new ≡ setting_of M.layout machine.old }
-    ensures port { PortBelow result machine.old.levels }
+    ensures level { LevelBelow result machine.old.levels }
 {
     let pc = machine.pc;
     match *instr {
-        Instr::Lui { rd, imm } => set(machine, instr, rd, imm),
-        Instr::Auipc { rd, imm } => set(machine, instr, rd, pc.wrapping_add(imm)),
-        Instr::Jal { rd, offset } => jump(machine, instr, rd, pc.wrapping_add_signed(offset)),
+        Instr::Lui { rd, imm } => set(machine, rd, imm),
+        Instr::Auipc { rd, imm } => set(machine, rd, pc.wrapping_add(imm)),
+        Instr::Jal { rd, offset } => return jump(machine, rd, pc.wrapping_add_signed(offset)),
         Instr::Jalr { rd, rs1, offset } => {
             let to = reg_at(machine, rs1).wrapping_add_signed(offset);
-            jump(machine, instr, rd, to - to % 2)
+            return jump(machine, rd, to - to % 2);
         }
         Instr::Branch {
             op,
@@ -324,7 +300,7 @@ fn perform<M: Memory>(machine: &mut Machine<M>, instr: &Instr) -> StepEnd
             offset,
         } => {
             let taken = arith::is_taken(op, reg_at(machine, rs1), reg_at(machine, rs2));
-            branch(machine, instr, taken, pc.wrapping_add_signed(offset))
+            return branch(machine, taken, pc.wrapping_add_signed(offset));
         }
         Instr::Load {
             op,
@@ -333,7 +309,7 @@ fn perform<M: Memory>(machine: &mut Machine<M>, instr: &Instr) -> StepEnd
             offset,
         } => {
             let at = reg_at(machine, rs1).wrapping_add_signed(offset);
-            load(machine, instr, op, rd, at)
+            return load(machine, op, rd, at);
         }
         Instr::Imm { op, rd, rs1, imm } => {
             let value = arith::reg_result(
@@ -341,11 +317,11 @@ fn perform<M: Memory>(machine: &mut Machine<M>, instr: &Instr) -> StepEnd
                 reg_at(machine, rs1),
                 imm.cast_unsigned(),
             );
-            set(machine, instr, rd, value)
+            set(machine, rd, value);
         }
         Instr::Reg { op, rd, rs1, rs2 } => {
             let value = arith::reg_result(op, reg_at(machine, rs1), reg_at(machine, rs2));
-            set(machine, instr, rd, value)
+            set(machine, rd, value);
         }
         Instr::Store {
             op,
@@ -355,10 +331,11 @@ fn perform<M: Memory>(machine: &mut Machine<M>, instr: &Instr) -> StepEnd
         } => {
             let at = reg_at(machine, rs1).wrapping_add_signed(offset);
             let value = reg_at(machine, rs2);
-            store(machine, instr, op, at, value)
+            return store(machine, op, at, value);
         }
-        Instr::Fence { .. } => pass(machine, instr),
-        Instr::Ecall => service(machine, instr),
-        Instr::Ebreak => trap(TrapKind::Breakpoint, pc),
+        Instr::Fence { .. } => pass(machine),
+        Instr::Ecall => return service(machine),
+        Instr::Ebreak => return stops(TrapKind::Breakpoint, pc),
     }
+    Effect::Went
 }

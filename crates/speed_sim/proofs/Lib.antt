@@ -1,4 +1,6 @@
+pub mod AdvanceLaws
 pub mod CodeLaws
-pub mod WatchLaws
 pub mod ProgressLaws
 pub mod ReportLaws
+pub mod TallyLaws
+pub mod WatchLaws

@@ -7,9 +7,10 @@ ghost use Rattle.power_model.specs.Report.{report_view};
 ghost use Rattle.speed_sim.specs.Simulated.{simulated};
 
 mod allowed;
+mod costs;
 mod reporting;
 mod running;
-mod unwatched;
+mod tally;
 mod watcher;
 
 use elf_view::read_image;

@@ -1,19 +1,106 @@
 //! The run of a machine.
 
-ghost use Rattle.std.specs.Prelude.{◌≡◌, ◌<◌, length, option_map};
+ghost use Rattle.std.specs.Prelude.{◌≡◌, ◌<◌, ◌+◌, ◌^◌, length, option_map};
+ghost use Rattle.scale_base.specs.Step as steps;
+ghost use Rattle.scale_base.specs.Step.{PortBelow};
 ghost use Rattle.scale_base.specs.Run.{run};
 ghost use Rattle.power_model.specs.Price.{price};
-ghost use Rattle.rv_machine.specs.Code.{IsCodeOf};
-ghost use Rattle.rv_machine.specs.Machine.{state_of, setting_of};
+ghost use Rattle.rv_machine.specs.Code.{IsCodeOf, IsFixed};
+ghost use Rattle.rv_machine.specs.Machine.{state_of, setting_of, outcome_of};
 ghost use Rattle.keep_monitor.specs.Watch.{watched_first, watched_from};
 ghost use Rattle.speed_sim.specs.Simulated.{end_of};
+ghost use Rattle.speed_sim.specs.Tallied.{tallied, AreCosts, IsPaid, IsAdvance, end_after, watched_after};
 
-use crate::unwatched::run_unwatched;
+use crate::costs::CostTable;
+use crate::tally::Tally;
 use crate::watcher::{Watcher, show};
 use flat_memory::Memory;
 use power_model::{Meter, Power};
-use rv_machine::{Code, Machine, step_by};
+use rv_machine::{Code, Decoded, Machine, step, step_decoded};
 use scale_base::{End, StepEnd};
+
+/// One step of the machine, whose instruction is known, and its price.
+#[inline(always)]
+fn pay_known<M: Memory>(
+    machine: &mut Machine<M>,
+    known: &Decoded,
+    power: &Power,
+    costs: &CostTable,
+    tally: &mut Tally,
+) -> StepEnd
+    requires known { IsFixed (M.layout machine.old.memory) (M.bytes machine.old.memory) machine.old.pc known.now }
+    requires costs { AreCosts power.now.costs costs.now.by_class }
+    requires levels { machine.old.levels ≡ length power.now.levels }
+    requires level { tally.old.meter.level < length power.now.levels }
+    requires few { tally.old.meter.steps + tally.old.steps < 2 ^ 40 }
+    ensures outcome { outcome_of M.bytes result machine.new ≡ steps.step (setting_of M.layout machine.old) (state_of M.bytes machine.old) }
+    ensures setting { setting_of M.layout machine.new ≡ setting_of M.layout machine.old }
+    ensures port { PortBelow result machine.old.levels }
+    ensures paid { IsPaid power.now result (tallied power.now tally.old) (tallied power.now tally.new) }
+{
+    let pc = machine.pc;
+    let effect = step_decoded(machine, known);
+    let next = machine.pc;
+    tally.add_effect(power, costs, known, pc, effect, next);
+    known.end(pc, effect, next)
+}
+
+/// One step of the machine, and its price.
+#[inline(never)]
+fn pay_step<M: Memory>(machine: &mut Machine<M>, power: &Power, tally: &mut Tally) -> StepEnd
+    requires levels { machine.old.levels ≡ length power.now.levels }
+    requires level { tally.old.meter.level < length power.now.levels }
+    requires few { tally.old.meter.steps + tally.old.steps < 2 ^ 40 }
+    ensures outcome { outcome_of M.bytes result machine.new ≡ steps.step (setting_of M.layout machine.old) (state_of M.bytes machine.old) }
+    ensures setting { setting_of M.layout machine.new ≡ setting_of M.layout machine.old }
+    ensures port { PortBelow result machine.old.levels }
+    ensures paid { IsPaid power.now result (tallied power.now tally.old) (tallied power.now tally.new) }
+{
+    let end = step(machine);
+    tally.add_end(power, &end);
+    end
+}
+
+/// Shows a completed step after which the run goes on to the watcher, and says how the run ended otherwise.
+#[inline(always)]
+fn seen(watcher: &mut Option<Watcher>, end: &StepEnd) -> Option<End>
+    ensures watched { watcher.new ≡ watched_after end.now watcher.old }
+    ensures ended { result ≡ end_after end.now }
+{
+    match end {
+        StepEnd::Went(done) => {
+            show(watcher, done);
+            None
+        }
+        StepEnd::Exited(_, status) => Some(End::Exited(*status)),
+        StepEnd::Trapped(trap) => Some(End::Trapped(*trap)),
+    }
+}
+
+/// One step of the machine, with its code, priced and watched, and how the run ended, if the step ended it.
+#[inline(always)]
+fn advance<M: Memory>(
+    machine: &mut Machine<M>,
+    code: &Code,
+    power: &Power,
+    costs: &CostTable,
+    tally: &mut Tally,
+    watcher: &mut Option<Watcher>,
+) -> Option<End>
+    requires code { IsCodeOf (M.layout machine.old.memory) (M.bytes machine.old.memory) code.now }
+    requires costs { AreCosts power.now.costs costs.now.by_class }
+    requires levels { machine.old.levels ≡ length power.now.levels }
+    requires level { tally.old.meter.level < length power.now.levels }
+    requires few { tally.old.meter.steps + tally.old.steps < 2 ^ 40 }
+    ensures advance { let o = steps.step (setting_of M.layout machine.old) (state_of M.bytes machine.old) in IsAdvance power.now o (state_of M.bytes machine.new) (tallied power.now tally.old) (tallied power.now tally.new) watcher.old watcher.new result }
+    ensures setting { setting_of M.layout machine.new ≡ setting_of M.layout machine.old }
+    ensures port { let o = steps.step (setting_of M.layout machine.old) (state_of M.bytes machine.old) in PortBelow o.end machine.old.levels }
+{
+    match code.instr(machine.pc) {
+        Some(known) => seen(watcher, &pay_known(machine, known, power, costs, tally)),
+        None => seen(watcher, &pay_step(machine, power, tally)),
+    }
+}
 
 /// Runs the machine, with its code, from a level for at most as many steps as its power model says. A meter has the price of each completed
 /// step, and the watcher sees each step after which the run goes on.
@@ -33,43 +120,12 @@ pub fn run_machine<M: Memory>(
     ensures state { let r = run (setting_of M.layout machine.old) (state_of M.bytes machine.old) power.now.steps in state_of M.bytes machine.new ≡ r.state }
     ensures watched { let env = setting_of M.layout machine.old in let first = state_of M.bytes machine.old in watcher.new ≡ option_map (λ w. watched_from env first w.notes power.now.steps) watcher.old }
 {
-    if watcher.is_none() {
-        run_unwatched(machine, code, power, start)
-    } else {
-        run_watched(machine, code, power, start, watcher)
-    }
-}
-
-/// The same, step by step, with a watcher or without.
-fn run_watched<M: Memory>(
-    machine: &mut Machine<M>,
-    code: &Code,
-    power: &Power,
-    start: u8,
-    watcher: &mut Option<Watcher>,
-) -> (End, Meter)
-    requires code { IsCodeOf (M.layout machine.old.memory) (M.bytes machine.old.memory) code.now }
-    requires levels { machine.old.levels ≡ length power.now.levels }
-    requires start { start < length power.now.levels }
-    requires unwatched { watcher.old ≡ option_map (λ w. watched_first w.notes) watcher.old }
-    ensures end { let r = run (setting_of M.layout machine.old) (state_of M.bytes machine.old) power.now.steps in result.0 ≡ end_of r.standing }
-    ensures paid { let r = run (setting_of M.layout machine.old) (state_of M.bytes machine.old) power.now.steps in result.1 ≡ price power.now start r.steps }
-    ensures state { let r = run (setting_of M.layout machine.old) (state_of M.bytes machine.old) power.now.steps in state_of M.bytes machine.new ≡ r.state }
-    ensures watched { let env = setting_of M.layout machine.old in let first = state_of M.bytes machine.old in watcher.new ≡ option_map (λ w. watched_from env first w.notes power.now.steps) watcher.old }
-{
-    let mut meter = Meter::new(start);
+    let costs = CostTable::new(&power.costs);
+    let mut tally = Tally::new(start);
     for _step in 0..power.steps {
-        match &step_by(machine, code) {
-            StepEnd::Went(done) => {
-                meter.add(power, done);
-                show(watcher, done);
-            }
-            StepEnd::Exited(done, status) => {
-                meter.add(power, done);
-                return (End::Exited(*status), meter);
-            }
-            StepEnd::Trapped(trap) => return (End::Trapped(*trap), meter),
+        if let Some(end) = advance(machine, code, power, &costs, &mut tally, watcher) {
+            return (end, tally.meter(power));
         }
     }
-    (End::OutOfSteps, meter)
+    (End::OutOfSteps, tally.meter(power))
 }

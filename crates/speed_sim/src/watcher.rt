@@ -39,6 +39,7 @@ impl Watcher {
     }
 
     /// Watches the next step.
+    #[inline(always)]
     pub fn see(&mut self, step: &Stepped)
         ensures { self.new ≡ watch self.old step.now }
     {
@@ -64,6 +65,7 @@ pub fn watcher_of(alloc: Global, notes: Option<LoopNotes>) -> Result<Option<Watc
 }
 
 /// Shows the next step to the watcher, if there is one.
+#[inline(always)]
 pub fn show(watcher: &mut Option<Watcher>, step: &Stepped)
     ensures { watcher.new ≡ option_map (λ w. watch w step.now) watcher.old }
 {

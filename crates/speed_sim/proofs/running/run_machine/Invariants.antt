@@ -1,8 +1,8 @@
-use Rattle.std.proofs.Common.{None}
 use Rattle.rv_machine.specs.Code.{IsCodeOf}
 use Rattle.rv_machine.specs.Machine.{state_of, setting_of}
 use Rattle.speed_sim.specs.Progress.{Job, Progress}
-use Rattle.speed_sim.proofs.unwatched.run_unwatched.Given as goal
+use Rattle.speed_sim.specs.Tallied.{tallied, AreCosts}
+use Rattle.speed_sim.proofs.running.run_machine.Given as goal
 
 abbrev pub invariant-loop-step : goal.invariant-loop-step
 invariant-loop-step g l =
@@ -11,9 +11,10 @@ invariant-loop-step g l =
       env = setting_of g.M.Memory.layout l.initial.machine;
       first = state_of g.M.Memory.bytes l.initial.machine;
       start = l.start;
-      unwatched = None;
+      unwatched = l.initial.watcher;
     } in
     record {
-      progress : Progress job l._step (setting_of g.M.Memory.layout l.machine) (state_of g.M.Memory.bytes l.machine) l.meter None;
+      progress : Progress job l._step (setting_of g.M.Memory.layout l.machine) (state_of g.M.Memory.bytes l.machine) (tallied l.fn.power l.tally) l.watcher;
       code : IsCodeOf (g.M.Memory.layout l.machine.memory) (g.M.Memory.bytes l.machine.memory) l.code;
+      costs : AreCosts l.fn.power.costs l.costs.by_class;
     }

@@ -1,0 +1,73 @@
+-- The price of a run as its numbers up to a step and the cycles behind it at the same level.
+use Rattle.std.specs.Prelude.{◌≡◌, ℕ, ◌+◌, ◌*◌, List, slice_index, Option, Some, None, option_map}
+use Rattle.scale_base.specs.declared.endings.End.{End}
+use Rattle.scale_base.specs.declared.endings.End.TheVariants as endings
+use Rattle.scale_base.specs.declared.stepping.Class.{Class}
+use Rattle.scale_base.specs.declared.stepping.Class.TheVariants.{Alu, Load, Store, Taken, Untaken, Jump, Mul, Div, Ecall, Fence}
+use Rattle.scale_base.specs.declared.stepping.StepEnd.{StepEnd}
+use Rattle.scale_base.specs.declared.stepping.StepEnd.TheVariants.{Went, Exited, Trapped}
+use Rattle.scale_base.specs.State.{State}
+use Rattle.scale_base.specs.Step.{Outcome}
+use Rattle.power_model.specs.declared.power.Costs.{Costs}
+use Rattle.power_model.specs.Levels.{level}
+use Rattle.power_model.specs.Numbers.{PowerModel, Numbers}
+use Rattle.power_model.specs.Price.{cycles_of, metered, time_at, energy_at}
+use Rattle.keep_monitor.specs.Watch.{Watched, watch}
+use Rattle.speed_sim.specs.declared.tally.Tally.{Tally}
+
+-- the numbers after more steps at the same level, of so many cycles, so many of them of keyed instructions
+abbrev pub with_cycles : PowerModel → Numbers → ℕ → ℕ → ℕ → Numbers
+with_cycles power n steps cycles keyed = record {
+  start = n.start;
+  level = n.level;
+  steps = n.steps + steps;
+  cycles = n.cycles + cycles;
+  time = n.time + time_at power n.level cycles;
+  energy = n.energy + energy_at power n.level cycles;
+  switches = n.switches;
+  keyed = n.keyed + keyed;
+}
+
+abbrev pub tallied : PowerModel → Tally → Numbers
+tallied power t = with_cycles power t.meter t.steps t.cycles t.keyed
+
+-- the place of a class in a table
+abbrev pub class_number : Class → ℕ
+class_number Alu = 0
+class_number Load = 1
+class_number Store = 2
+class_number Taken = 3
+class_number Untaken = 4
+class_number Jump = 5
+class_number Mul = 6
+class_number Div = 7
+class_number Ecall = 8
+class_number Fence = 9
+
+abbrev pub AreCosts : Costs → List ℕ → Type 0
+AreCosts costs items = (class : Class) → slice_index items (class_number class) ≡ cycles_of costs class
+
+-- the numbers after a step that ended so: a step that traps costs nothing
+abbrev pub IsPaid : PowerModel → StepEnd → Numbers → Numbers → Type 0
+IsPaid power (Went x) old new = new ≡ metered power old x
+IsPaid power (Exited x status) old new = new ≡ metered power old x
+IsPaid power (Trapped trap) old new = new ≡ old
+
+-- how the run ended, if a step that ended so ended it
+abbrev pub end_after : StepEnd → Option End
+end_after (Went x) = None
+end_after (Exited x status) = Some (endings.Exited status)
+end_after (Trapped trap) = Some (endings.Trapped trap)
+
+-- what was watched after a step that ended so
+abbrev pub watched_after : StepEnd → Option Watched → Option Watched
+watched_after (Went x) watched = option_map (λ w. watch w x) watched
+watched_after (Exited x status) watched = watched
+watched_after (Trapped trap) watched = watched
+
+-- after a step that led there: the state, the price, what was watched, and how the run ended
+pub record IsAdvance (power : PowerModel) (o : Outcome) (s : State) (old new : Numbers) (watched watched' : Option Watched) (ended : Option End) : Type 0 where
+  pub state : s ≡ o.state
+  pub paid : IsPaid power o.end old new
+  pub seen : watched' ≡ watched_after o.end watched
+  pub over : ended ≡ end_after o.end
