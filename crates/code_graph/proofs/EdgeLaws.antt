@@ -7,6 +7,8 @@ use Rattle.std.proofs.lemmas.List.{take_more, take_all}
 use Rattle.std.proofs.lemmas.Grind.{flat_map-append}
 use Rattle.std.proofs.lemmas.Option.{slice_get_within, slice_get-get_or, get_or_from_slice_get, slice_get-map}
 use Rattle.cost_theory.specs.declared.edges.Edge.{Edge}
+use Rattle.cost_theory.specs.declared.edges.EdgeKind.{EdgeKind}
+use Rattle.cost_theory.specs.declared.edges.EdgeKind.TheVariants.{Taken, Untaken, Jump, Next, CallNext, End}
 use Rattle.cost_theory.specs.declared.edges.Word.{Word}
 use Rattle.cost_theory.specs.declared.edges.Word.TheVariants.{Branch, Goto, CallOf, Back, Ends, MayEnd, Breaks, Straight, Bad}
 use Rattle.cost_theory.specs.Reached.{edge_at, edges_of}
@@ -28,6 +30,25 @@ few_edges MayEnd v b = omega arith
 few_edges Breaks v b = omega arith
 few_edges Straight v b = omega arith
 few_edges Bad v b = omega arith
+
+of_another : (x : Edge) (k : EdgeKind) (v to : ℕ) → record { at = v; kind = k; to = to } ≡ x → x.kind ≡ Next → (k ≡ Next → ⊥) → x.to ≡ x.at + 4
+of_another x k v to e kind apart = absurd (apart (ap (λ (y : Edge). y.kind) e ∙ kind))
+
+goes_on : (x : Edge) (v : ℕ) → record { at = v; kind = Next; to = v + 4 } ≡ x → x.to ≡ x.at + 4
+goes_on x v e = subst (λ (y : Edge). y.to ≡ y.at + 4) e refl
+
+-- an edge of kind Next leads to the word behind
+pub next_leads : (w : Word) (v : ℕ) (b : Bool) (x : Edge) → Within x (edges_of w v b) → x.kind ≡ Next → x.to ≡ x.at + 4
+next_leads (Branch to) v b x h kind = ⊎_elim (λ e. of_another x Taken v to e kind (λ q. let bad : ⊥ = cc in bad)) (λ r. ⊎_elim (λ e. of_another x Untaken v (v + 4) e kind (λ q. let bad : ⊥ = cc in bad)) (λ n. absurd n) r) h
+next_leads (Goto to) v b x h kind = ⊎_elim (λ e. of_another x Jump v to e kind (λ q. let bad : ⊥ = cc in bad)) (λ n. absurd n) h
+next_leads (CallOf to) v true x h kind = ⊎_elim (λ e. of_another x CallNext v (v + 4) e kind (λ q. let bad : ⊥ = cc in bad)) (λ r. ⊎_elim (λ e. of_another x End v v e kind (λ q. let bad : ⊥ = cc in bad)) (λ n. absurd n) r) h
+next_leads (CallOf to) v false x h kind = ⊎_elim (λ e. of_another x End v v e kind (λ q. let bad : ⊥ = cc in bad)) (λ n. absurd n) h
+next_leads Back v b x h kind = ⊎_elim (λ e. of_another x End v v e kind (λ q. let bad : ⊥ = cc in bad)) (λ n. absurd n) h
+next_leads Ends v b x h kind = ⊎_elim (λ e. of_another x End v v e kind (λ q. let bad : ⊥ = cc in bad)) (λ n. absurd n) h
+next_leads MayEnd v b x h kind = ⊎_elim (λ e. goes_on x v e) (λ r. ⊎_elim (λ e. of_another x End v v e kind (λ q. let bad : ⊥ = cc in bad)) (λ n. absurd n) r) h
+next_leads Breaks v b x h kind = ⊎_elim (λ e. of_another x End v v e kind (λ q. let bad : ⊥ = cc in bad)) (λ n. absurd n) h
+next_leads Straight v b x h kind = ⊎_elim (λ e. goes_on x v e) (λ n. absurd n) h
+next_leads Bad v b x h kind = absurd h
 
 -- ---- the numbers of first edges
 

@@ -1,5 +1,5 @@
 -- The lists together: the graph of a text, and what is kept of it.
-use Rattle.std.proofs.Common.{◌≡◌, ℕ, ◌+◌, ◌*◌, ◌<◌, ◌≤◌, ◌%◌, Bool, true, false, List, length, get_or, map, Option, Some, None, Result, Ok, Err, inr, ⊎_elim, refl, sym, ap, ◌∙◌, subst, arith, eq-eqb}
+use Rattle.std.proofs.Common.{◌≡◌, ℕ, ◌+◌, ◌*◌, ◌<◌, ◌≤◌, ◌%◌, Bool, true, List, length, get_or, map, Option, Some, None, Result, Ok, Err, inr, ⊎_elim, refl, sym, ap, ◌∙◌, subst, arith, eq-eqb}
 use Rattle.std.specs.Prelude.{slice_get, slice_index, ◌==◌, ◌&&◌, IsErrAnd}
 use Rattle.std.specs.List.{list_any}
 use Rattle.std.proofs.lemmas.List.{length-map}
@@ -13,10 +13,8 @@ use Rattle.scale_base.specs.declared.refusal.Stop.TheVariants.{Refused, Memory}
 use Rattle.scale_base.specs.Answer.{AnswersBy}
 use Rattle.scale_base.specs.Image.{Image, is_in, is_word_address}
 use Rattle.cost_theory.specs.declared.edges.Edge.{Edge}
-use Rattle.cost_theory.specs.declared.edges.EdgeKind.{EdgeKind}
-use Rattle.cost_theory.specs.declared.edges.EdgeKind.TheVariants.{Taken, Untaken, Jump, Next, CallNext, End}
+use Rattle.cost_theory.specs.declared.edges.EdgeKind.TheVariants.{Next}
 use Rattle.cost_theory.specs.declared.edges.Word.{Word}
-use Rattle.cost_theory.specs.declared.edges.Word.TheVariants.{Branch, Goto, CallOf, Back, Ends, MayEnd, Breaks, Straight, Bad}
 use Rattle.cost_theory.specs.Accepted.{IsNode, IsProgram}
 use Rattle.cost_theory.specs.Reached.{IsCodeOf, graph_of, callee_of, call_returns, edges_of, edge_to}
 use Rattle.cost_theory.proofs.Reaching.{Within, get_within, within_flat}
@@ -40,6 +38,7 @@ use Rattle.code_graph.proofs.Parts.{AreParts, node_reached, number_reached, kind
 use Rattle.code_graph.proofs.Calls.{program, callees_first, calls_within, named_cycle}
 use Rattle.code_graph.proofs.CallLaws.{arcs_numbered, cycle_numbered}
 use Rattle.code_graph.proofs.FewWords.{few_once}
+use Rattle.code_graph.proofs.EdgeLaws.{next_leads}
 use Rattle.code_graph.proofs.BlockLaws.{blocks_by}
 use Rattle.code_text.specs.Walk.{RiseStrictly}
 
@@ -56,25 +55,6 @@ edge_ends v sources targets ends = record {
 -- multiples of 4 are 4 apart
 four_apart : (a b : ℕ) → a < b → a % 4 ≡ 0 → b % 4 ≡ 0 → a + 4 ≤ b
 four_apart a b lt left right = omega arith
-
-other : (x : Edge) (k : EdgeKind) (v to : ℕ) → record { at = v; kind = k; to = to } ≡ x → x.kind ≡ Next → (k ≡ Next → ⊥) → x.to ≡ x.at + 4
-other x k v to e kind apart = absurd (apart (ap (λ (y : Edge). y.kind) e ∙ kind))
-
-onward : (x : Edge) (v : ℕ) → record { at = v; kind = Next; to = v + 4 } ≡ x → x.to ≡ x.at + 4
-onward x v e = subst (λ (y : Edge). y.to ≡ y.at + 4) e refl
-
--- an edge of kind Next
-next_leads : (w : Word) (v : ℕ) (b : Bool) (x : Edge) → Within x (edges_of w v b) → x.kind ≡ Next → x.to ≡ x.at + 4
-next_leads (Branch to) v b x h kind = ⊎_elim (λ e. other x Taken v to e kind (λ q. let bad : ⊥ = cc in bad)) (λ r. ⊎_elim (λ e. other x Untaken v (v + 4) e kind (λ q. let bad : ⊥ = cc in bad)) (λ n. absurd n) r) h
-next_leads (Goto to) v b x h kind = ⊎_elim (λ e. other x Jump v to e kind (λ q. let bad : ⊥ = cc in bad)) (λ n. absurd n) h
-next_leads (CallOf to) v true x h kind = ⊎_elim (λ e. other x CallNext v (v + 4) e kind (λ q. let bad : ⊥ = cc in bad)) (λ r. ⊎_elim (λ e. other x End v v e kind (λ q. let bad : ⊥ = cc in bad)) (λ n. absurd n) r) h
-next_leads (CallOf to) v false x h kind = ⊎_elim (λ e. other x End v v e kind (λ q. let bad : ⊥ = cc in bad)) (λ n. absurd n) h
-next_leads Back v b x h kind = ⊎_elim (λ e. other x End v v e kind (λ q. let bad : ⊥ = cc in bad)) (λ n. absurd n) h
-next_leads Ends v b x h kind = ⊎_elim (λ e. other x End v v e kind (λ q. let bad : ⊥ = cc in bad)) (λ n. absurd n) h
-next_leads MayEnd v b x h kind = ⊎_elim (λ e. onward x v e) (λ r. ⊎_elim (λ e. other x End v v e kind (λ q. let bad : ⊥ = cc in bad)) (λ n. absurd n) r) h
-next_leads Breaks v b x h kind = ⊎_elim (λ e. other x End v v e kind (λ q. let bad : ⊥ = cc in bad)) (λ n. absurd n) h
-next_leads Straight v b x h kind = ⊎_elim (λ e. onward x v e) (λ n. absurd n) h
-next_leads Bad v b x h kind = absurd h
 
 module _ (t : Text) (r : Reach) (nodes : List ℕ) (kinds : List Word) (owners entries : List ℕ) (returning : List Bool) (callees : List (Option ℕ)) (are : AreParts t r nodes kinds owners entries returning callees) where
   -- an address that is a node is one of the text

@@ -76,6 +76,7 @@ fn heads_of(
     requires ends { AreEnds (length lists.now.edges.items) nodes.now.addresses.items lists.now.edges.items ends.now.sources.items ends.now.targets.items }
     ensures { IfOk result (λ heads. AreHeads (length lists.now.edges.items) nodes.now.addresses.items nodes.now.owners.items functions.now lists.now.edges.items lists.now.firsts.items ends.now.sources.items ends.now.targets.items heads.items) }
 {
+    // Each other node is reached over an edge, which is then the only one of the node before it.
     let mut heads = entry_flags(alloc, nodes, functions)?;
     for e in 0..lists.edges.len() {
         raise(&mut heads, led_apart(&lists.edges, &lists.firsts, ends, e));
@@ -96,7 +97,7 @@ fn numbers_up(alloc: Global, flags: &[bool]) -> Result<Vec<usize>, NoMemory>
     Ok(numbers)
 }
 
-/// The addresses from one node up to the one before another.
+/// The addresses of the nodes from one up to another, which is left out.
 fn range_of(nodes: &[u32], from: usize, end: usize) -> Range
     requires some { from < end }
     requires within { end ≤ length nodes.now }
