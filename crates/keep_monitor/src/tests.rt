@@ -120,6 +120,27 @@ fn a_call_of_a_header_sets_its_count_to_0(rt: HostRuntime) -> Result<(), Fail> {
     Ok(())
 }
 
+// Addresses of 256 KiB apart share a slot.
+#[test]
+fn a_step_to_a_slot_of_a_header_counts_nothing(rt: HostRuntime) -> Result<(), Fail> {
+    let mut watch = monitor(&rt, &LOOPS[..1])?;
+    let back = (20, Move::Local, 8);
+    let inside = (8, Move::Local, 12);
+    let beside = (20, Move::Local, 8 + 0x4_0000);
+    assert_eq!(rt;
+        seen(&mut watch, &[back, inside, beside, beside, inside, back]),
+        Kept::Kept
+    );
+    assert_eq!(rt;
+        seen(&mut watch, &[inside, back]),
+        Kept::BrokeBound {
+            loop_no: 1,
+            count: 3
+        }
+    );
+    Ok(())
+}
+
 #[test]
 fn a_return_comes_from_its_call(rt: HostRuntime) -> Result<(), Fail> {
     let mut watch = monitor(&rt, &[(24, 16, 28, 1), (28, 200, 204, 0)])?;
