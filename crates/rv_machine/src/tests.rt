@@ -4,46 +4,15 @@ use crate::arith::reg_result;
 use crate::*;
 use elf_view::read_image;
 use flat_memory::{ListMemory, load_list};
+use image_maker::plain_image;
 use scale_base::{Class, Move, RegOp, Stepped, Stop, Trap, TrapKind};
 use std::alloc::Global;
-
-/// An image of one segment of these words, from 0x00010000 on.
-fn image(alloc: Global, words: &[u32]) -> Result<Vec<u8>, Stop>
-    requires { length words.now ≤ 100 }
-{
-    let len = 4 * words.len() as u32;
-    let mut file = Vec::new(alloc);
-    for word in [
-        0x464C_457F,
-        0x0001_0101,
-        0,
-        0,
-        0x00F3_0002,
-        1,
-        0x0001_0000,
-        52,
-        0,
-        0,
-        0x0020_0034,
-        1,
-        0,
-    ] {
-        file.extend_from_slice(&u32::to_le_bytes(word))?;
-    }
-    for word in [1, 84, 0x0001_0000, 0x0001_0000, len, len, 5, 4] {
-        file.extend_from_slice(&u32::to_le_bytes(word))?;
-    }
-    for word in words {
-        file.extend_from_slice(&word.to_le_bytes())?;
-    }
-    Ok(file)
-}
 
 /// The machine of three levels before the first step of the image.
 fn started(alloc: Global, words: &[u32], input: &[u8]) -> Result<Machine<ListMemory>, Stop>
     requires { length words.now ≤ 100 }
 {
-    let file = image(alloc, words)?;
+    let file = plain_image(alloc, words)?;
     let view = read_image(alloc, &file)?;
     let memory = load_list(alloc, &view)?;
     let input = Vec::from_slice(alloc, input)?;

@@ -6,20 +6,10 @@ use std::test::Fail;
 
 /// A file of one segment of words at 0x10000.
 fn plain_image(alloc: Global, words: &[u32]) -> Result<Vec<u8>, Fail> {
-    let count = u16::try_from(words.len()).ok().ok_or("words of an image")?;
-    let len = 4 * u32::from(count);
-    let header: [u32; 21] = [
-        0x464C457F, 0x00010101, 0, 0, 0x00F30002, 1, 0x10000, 52, 0, 0, 0x00200034, 1, 0, 1, 84,
-        0x10000, 0x10000, len, len, 5, 4,
-    ];
-    let mut bytes = Vec::new(alloc);
-    for word in header.iter() {
-        bytes.extend_from_slice(&word.to_le_bytes())?;
+    if words.len() > 131_072 {
+        return Err(Fail::from("words of an image"));
     }
-    for word in words {
-        bytes.extend_from_slice(&word.to_le_bytes())?;
-    }
-    Ok(bytes)
+    Ok(image_maker::plain_image(alloc, words).ok().ok_or("memory")?)
 }
 
 fn machine(alloc: Global, deadline: u32, min_gain: u32) -> Result<String, Fail> {

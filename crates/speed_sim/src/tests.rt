@@ -32,34 +32,23 @@ fn push_words(bytes: &mut Vec<u8>, words: &[u32]) -> Result<(), Fail> {
     Ok(())
 }
 
-// The header of an ELF file with so many program headers behind it.
-fn push_header(bytes: &mut Vec<u8>, number: u32) -> Result<(), Fail> {
-    push_words(
-        bytes,
-        &[
-            0x464c457f, 0x00010101, 0, 0, 0x00f30002, 1, 0x00010000, 52, 0, 0, 0x00200034, number,
-            0,
-        ],
-    )
-}
-
 // A file of the words, which are the text from 0x00010000 on.
 fn plain_image(alloc: Global, words: &[u32]) -> Result<Vec<u8>, Fail> {
-    let mut bytes = Vec::new(alloc);
-    let size = u32::try_from(words.len())?.wrapping_mul(4);
-    push_header(&mut bytes, 1)?;
-    push_words(
-        &mut bytes,
-        &[1, 84, 0x00010000, 0x00010000, size, size, 5, 4],
-    )?;
-    push_words(&mut bytes, words)?;
-    Ok(bytes)
+    if words.len() > 131_072 {
+        return Err(Fail::from("words of an image"));
+    }
+    Ok(image_maker::plain_image(alloc, words).ok().ok_or("memory")?)
 }
 
 // A file that starts at a level. Its text jumps to the keyed segment, where level 2 is stored at the speed port, and exits.
 fn keyed_image(alloc: Global, level: u32) -> Result<Vec<u8>, Fail> {
     let mut bytes = Vec::new(alloc);
-    push_header(&mut bytes, 2)?;
+    push_words(
+        &mut bytes,
+        &[
+            0x464c457f, 0x00010101, 0, 0, 0x00f30002, 1, 0x00010000, 52, 0, 0, 0x00200034, 2, 0,
+        ],
+    )?;
     push_words(&mut bytes, &[1, 116, 0x00010000, 0x00010000, 12, 12, 5, 4])?;
     push_words(
         &mut bytes,
