@@ -31,7 +31,7 @@ use scale_base::{Refusal, Stop};
 use std::alloc::Global;
 
 /// The natural loops of a graph by their notes, in the notes' order; or why they are refused. The body of each loop is found
-/// twice, so that no bodies are kept of loops that are refused.
+/// twice, so that no bodies are kept of loops that are refused: first those of 64 loops at once, and then each by itself.
 pub fn find_loops(alloc: Global, graph: &CodeGraph, notes: &LoopNotes) -> Result<NaturalLoops, Stop>
     ensures { AnswersBy (λ t. t) result (AreLoopsFound graph.now notes.now) }
 {
