@@ -38,6 +38,8 @@ const CALL_2: u32 = 0x0080_00EF;
 const CALL_5: u32 = 0x0140_00EF;
 
 /// Branches by some words.
+const BRANCH_0: u32 = 0x63;
+
 const BRANCH_2: u32 = 0x463;
 
 const BRANCH_3: u32 = 0x663;
@@ -131,9 +133,9 @@ const NESTED: [u32; 36] = [
     ECALL,
 ];
 
-/// A file whose text is some words, at most 63.
+/// A file whose text is some words, at most 127.
 fn file_of(alloc: Global, words: &[u32]) -> Result<Vec<u8>, NoMemory> {
-    let len = u32::try_from(4 * (words.len() % 64)).unwrap_or(0);
+    let len = u32::try_from(4 * (words.len() % 128)).unwrap_or(0);
     let mut file = HEAD.to_vec(alloc)?;
     for number in [len, len, 5, 4] {
         file.extend_from_slice(&number.to_le_bytes())?;
@@ -382,5 +384,70 @@ fn gives_the_ends_of_edges(rt: HostRuntime) -> Result<(), Fail> {
         ends.targets.as_slice(),
         &[Some(1), Some(3), Some(2), Some(1), Some(4), None][..]
     );
+    Ok(())
+}
+
+/// Words that each branch to themselves, and others behind them.
+fn behind_turning(alloc: Global, turning: usize, words: &[u32]) -> Result<Vec<u32>, Fail> {
+    let mut text = vec![in alloc; BRANCH_0; turning]?;
+    text.extend_from_slice(words)?;
+    Ok(text)
+}
+
+/// The loops of so many words that branch to themselves.
+fn turning_loops(alloc: Global, turning: u8) -> Result<Vec<(u8, u8, u8)>, Fail> {
+    let mut loops = Vec::new(alloc);
+    for k in 0..turning {
+        if k < 255 {
+            loops.push((k, k, k + 1))?;
+        }
+    }
+    Ok(loops)
+}
+
+#[test]
+fn names_the_first_loop_that_is_entered_aside_among_more_than_64(
+    rt: HostRuntime,
+) -> Result<(), Fail> {
+    let text = behind_turning(rt.alloc(), 66, &TWO_ENTRIES)?;
+    let mut loops = turning_loops(rt.alloc(), 66)?;
+    // Words 67 to 70 turn back to word 67, and word 66 also leads to word 69.
+    loops.push((67, 67, 71))?;
+    expect(
+        &rt,
+        rt.alloc(),
+        &text,
+        &loops,
+        "side entry 67 0x10108 0x10114",
+    )?;
+    // The same words, with word 69 for the header, which word 67 leads to past word 68.
+    loops.push((69, 66, 71))?;
+    expect(
+        &rt,
+        rt.alloc(),
+        &text,
+        &loops,
+        "side entry 67 0x10108 0x10114",
+    )?;
+    Ok(())
+}
+
+#[test]
+fn counts_depths_over_more_than_64_loops(rt: HostRuntime) -> Result<(), Fail> {
+    let text = behind_turning(rt.alloc(), 60, &NESTED)?;
+    for (first, expected) in [(0_u8, "too deep 77"), (1, "accepted")] {
+        let mut loops = turning_loops(rt.alloc(), 60)?;
+        for k in first..17 {
+            loops.push((60 + k, 60 + k, 94 - k))?;
+        }
+        let graph = graph_of(rt.alloc(), &text)?;
+        let notes = notes_of(rt.alloc(), &loops)?;
+        let got = match find_loops(rt.alloc(), &graph, &notes) {
+            Ok(_) => String::from_str(rt.alloc(), "accepted")?,
+            Err(Stop::Refused(refusal)) => refusal_text(rt.alloc(), &refusal)?,
+            Err(Stop::Memory) => return Err("there is memory".into()),
+        };
+        assert_eq!(rt; got.as_str(), expected);
+    }
     Ok(())
 }
