@@ -1,25 +1,22 @@
-//! A plain interpreter of RV32IM of the same design as rv_machine over a ListMemory, in ordinary Rust: a trait of memories that
-//! answers byte by byte, segments and text ranges found by halving, and a step that tells what it did.
+//! A plain interpreter of RV32IM in ordinary Rust, as one writes it: pages of 4,096 bytes, of which each says whether it is wholly
+//! readable, writable or text, each instruction decoded at its step, and a meter of what the steps cost.
 
-trait Memory {
-    fn byte(&self, at: u32) -> u8;
-    fn set_byte(&mut self, at: u32, value: u8);
-    fn may_read(&self, at: u32) -> bool;
-    fn may_write(&self, at: u32) -> bool;
-    fn may_fetch(&self, at: u32) -> bool;
-    fn is_keyed(&self, at: u32) -> bool;
+#[derive(Clone, Copy, PartialEq)]
+enum Use {
+    Writable,
+    Text,
+    Mixed,
+}
+
+struct Page {
+    bytes: Vec<u8>,
+    whole: Use,
 }
 
 struct Block {
     from: u32,
-    bytes: Vec<u8>,
+    len: u32,
     flags: u32,
-}
-
-impl Block {
-    fn holds(&self, at: u32) -> bool {
-        self.from <= at && ((at - self.from) as usize) < self.bytes.len()
-    }
 }
 
 struct Range {
@@ -27,80 +24,131 @@ struct Range {
     to: u32,
 }
 
-struct ListMemory {
-    stack: Vec<u8>,
+impl Range {
+    fn holds(&self, at: u32) -> bool {
+        self.from <= at && at < self.to
+    }
+}
+
+struct Memory {
+    groups: Vec<Option<Vec<Option<Page>>>>,
     blocks: Vec<Block>,
     text: Vec<Range>,
     keyed: Option<Range>,
 }
 
-fn in_stack(at: u32) -> bool {
-    (0x7FFC_0000..0x8000_0000).contains(&at)
-}
+const STACK: Range = Range {
+    from: 0x7FFC_0000,
+    to: 0x8000_0000,
+};
 
-impl ListMemory {
-    fn find(&self, at: u32) -> Option<usize> {
-        let mut k = self.blocks.partition_point(|block| block.from <= at);
-        while k > 0 {
-            k -= 1;
-            if self.blocks[k].holds(at) {
-                return Some(k);
-            }
-            if !self.blocks[k].bytes.is_empty() {
-                return None;
-            }
+impl Memory {
+    /// The stack, and a segment of these bytes, of which all are text.
+    fn new(from: u32, bytes: &[u8], flags: u32) -> Memory {
+        let len = bytes.len() as u32;
+        let to = from + len;
+        let mut memory = Memory {
+            groups: (0..1024).map(|_| None).collect(),
+            blocks: vec![Block { from, len, flags }],
+            text: vec![Range { from, to }],
+            keyed: None,
+        };
+        for at in (STACK.from..STACK.to).step_by(4096) {
+            memory.add_page(at, Use::Writable);
         }
-        None
+        for at in (from & !4095..to).step_by(4096) {
+            let inside = from <= at && at + 4096 <= to;
+            memory.add_page(at, if inside { Use::Text } else { Use::Mixed });
+        }
+        for (at, byte) in (from..).zip(bytes) {
+            memory.set_byte(at, *byte);
+        }
+        memory
     }
 
-    fn allows(&self, flag: u32, at: u32) -> bool {
-        self.find(at).is_some_and(|k| {
-            self.blocks[k].flags & 0x0010_0000 == 0 && self.blocks[k].flags & flag != 0
-        })
+    fn add_page(&mut self, at: u32, whole: Use) {
+        let group = &mut self.groups[(at >> 22) as usize];
+        let pages = group.get_or_insert_with(|| (0..1024).map(|_| None).collect());
+        let bytes = vec![0; 4096];
+        pages[(at >> 12 & 1023) as usize] = Some(Page { bytes, whole });
     }
 
-    fn in_text(&self, at: u32) -> bool {
-        let place = self.text.partition_point(|range| range.from <= at);
-        place > 0 && at < self.text[place - 1].to
+    fn page(&self, at: u32) -> Option<&Page> {
+        let group = self.groups[(at >> 22) as usize].as_ref()?;
+        group[(at >> 12 & 1023) as usize].as_ref()
     }
-}
 
-impl Memory for ListMemory {
+    fn page_mut(&mut self, at: u32) -> Option<&mut Page> {
+        let group = self.groups[(at >> 22) as usize].as_mut()?;
+        group[(at >> 12 & 1023) as usize].as_mut()
+    }
+
+    fn whole(&self, at: u32) -> Use {
+        self.page(at).map_or(Use::Mixed, |page| page.whole)
+    }
+
     fn byte(&self, at: u32) -> u8 {
-        if in_stack(at) {
-            return self.stack[(at - 0x7FFC_0000) as usize];
-        }
-        match self.find(at) {
-            Some(k) => self.blocks[k].bytes[(at - self.blocks[k].from) as usize],
-            None => 0,
-        }
+        self.page(at)
+            .map_or(0, |page| page.bytes[(at & 4095) as usize])
     }
 
     fn set_byte(&mut self, at: u32, value: u8) {
-        if in_stack(at) {
-            self.stack[(at - 0x7FFC_0000) as usize] = value;
-        } else if let Some(k) = self.find(at) {
-            let from = self.blocks[k].from;
-            self.blocks[k].bytes[(at - from) as usize] = value;
+        if let Some(page) = self.page_mut(at) {
+            page.bytes[(at & 4095) as usize] = value;
         }
     }
 
+    /// The word of a multiple of 4.
+    fn word(&self, at: u32) -> u32 {
+        let k = (at & 4095) as usize;
+        self.page(at).map_or(0, |page| {
+            u32::from_le_bytes(page.bytes[k..k + 4].try_into().unwrap())
+        })
+    }
+
+    fn set_word(&mut self, at: u32, value: u32) {
+        let k = (at & 4095) as usize;
+        if let Some(page) = self.page_mut(at) {
+            page.bytes[k..k + 4].copy_from_slice(&value.to_le_bytes());
+        }
+    }
+
+    fn allows(&self, flag: u32, at: u32) -> bool {
+        let k = self.blocks.partition_point(|block| block.from <= at);
+        k > 0 && {
+            let block = &self.blocks[k - 1];
+            at - block.from < block.len && block.flags & 0x0010_0000 == 0 && block.flags & flag != 0
+        }
+    }
+
+    fn in_text(&self, at: u32, width: u32) -> bool {
+        let k = self.text.partition_point(|range| range.from <= at);
+        k > 0 && at + (width - 1) < self.text[k - 1].to
+    }
+
     fn may_read(&self, at: u32) -> bool {
-        in_stack(at) || self.allows(4, at) && !self.in_text(at)
+        match self.whole(at) {
+            Use::Mixed => STACK.holds(at) || self.allows(4, at) && !self.in_text(at, 1),
+            whole => whole == Use::Writable,
+        }
     }
 
     fn may_write(&self, at: u32) -> bool {
-        in_stack(at) || self.allows(2, at) && !self.in_text(at)
+        match self.whole(at) {
+            Use::Mixed => STACK.holds(at) || self.allows(2, at) && !self.in_text(at, 1),
+            whole => whole == Use::Writable,
+        }
     }
 
-    fn may_fetch(&self, at: u32) -> bool {
-        self.in_text(at)
+    fn may_fetch_word(&self, at: u32) -> bool {
+        match self.whole(at) {
+            Use::Mixed => self.in_text(at, 4),
+            whole => whole == Use::Text,
+        }
     }
 
     fn is_keyed(&self, at: u32) -> bool {
-        self.keyed
-            .as_ref()
-            .is_some_and(|range| range.from <= at && at < range.to)
+        self.keyed.as_ref().is_some_and(|range| range.holds(at))
     }
 }
 
@@ -385,10 +433,10 @@ fn result(op: Op, a: u32, b: u32) -> u32 {
     }
 }
 
-struct Machine<M> {
+struct Machine {
     pc: u32,
     regs: [u32; 32],
-    memory: M,
+    memory: Memory,
     window: [u32; 512],
     levels: u8,
     input: Vec<u8>,
@@ -396,29 +444,27 @@ struct Machine<M> {
     output: Vec<u8>,
 }
 
-impl<M: Memory> Machine<M> {
-    fn word_at(&self, at: u32) -> u32 {
-        u32::from_le_bytes([
-            self.memory.byte(at),
-            self.memory.byte(at + 1),
-            self.memory.byte(at + 2),
-            self.memory.byte(at + 3),
-        ])
+impl Machine {
+    fn can_fetch(&self, pc: u32) -> bool {
+        pc % 4 == 0
+            && (self.memory.may_fetch_word(pc) || (0..4).all(|k| self.memory.is_keyed(pc + k)))
     }
 
-    fn can_fetch(&self, pc: u32) -> bool {
-        pc % 4 == 0 && (0..4).all(|k| self.memory.may_fetch(pc + k) || self.memory.is_keyed(pc + k))
+    // A word at a multiple of 4 lies in one page.
+    fn is_whole_word(&self, at: u32, width: u32) -> bool {
+        width == 4 && at % 4 == 0 && self.memory.whole(at) == Use::Writable
     }
 
     fn can_read(&self, at: u32, width: u32) -> bool {
-        (0..width).all(|k| {
-            self.memory.may_read(at + k)
-                || self.memory.is_keyed(self.pc) && self.memory.is_keyed(at + k)
-        })
+        self.is_whole_word(at, width)
+            || (0..width).all(|k| {
+                self.memory.may_read(at + k)
+                    || self.memory.is_keyed(self.pc) && self.memory.is_keyed(at + k)
+            })
     }
 
     fn can_write(&self, at: u32, width: u32) -> bool {
-        (0..width).all(|k| self.memory.may_write(at + k))
+        self.is_whole_word(at, width) || (0..width).all(|k| self.memory.may_write(at + k))
     }
 
     fn uses_window(&self, at: u32, width: u32) -> bool {
@@ -492,7 +538,7 @@ impl<M: Memory> Machine<M> {
         let value = match op {
             0 => byte(0) as i8 as u32,
             1 => i16::from_le_bytes([byte(0), byte(1)]) as u32,
-            2 => self.word_at(at),
+            2 => self.memory.word(at),
             4 => u32::from(byte(0)),
             _ => u32::from(u16::from_le_bytes([byte(0), byte(1)])),
         };
@@ -526,13 +572,12 @@ impl<M: Memory> Machine<M> {
         }
         let next = self.pc.wrapping_add(4);
         let done = self.stepped(instr, false, None, next);
-        for (k, byte) in value
-            .to_le_bytes()
-            .into_iter()
-            .take(width as usize)
-            .enumerate()
-        {
-            self.memory.set_byte(at + k as u32, byte);
+        if width == 4 {
+            self.memory.set_word(at, value);
+        } else {
+            for (at, byte) in (at..).zip(value.to_le_bytes()).take(width as usize) {
+                self.memory.set_byte(at, byte);
+            }
         }
         self.pc = next;
         StepEnd::Went(done)
@@ -647,12 +692,12 @@ impl<M: Memory> Machine<M> {
     }
 }
 
-fn step<M: Memory>(machine: &mut Machine<M>) -> StepEnd {
+fn step(machine: &mut Machine) -> StepEnd {
     let at = machine.pc;
     if !machine.can_fetch(at) {
         return StepEnd::Trapped(Trap::FetchFault, at);
     }
-    match decode(machine.word_at(at)) {
+    match decode(machine.memory.word(at)) {
         Some(instr) => machine.perform(&instr),
         None => StepEnd::Trapped(Trap::IllegalWord, at),
     }
@@ -713,31 +758,17 @@ impl Meter {
     }
 }
 
-/// With a number, counts down from as many times 4,096, and prices the steps; else from 2,097,152, and counts them alone.
+/// Counts down from so many times 4,096 as the argument says, and prices the steps.
 fn main() {
-    let priced: Option<u32> = std::env::args().nth(1).and_then(|word| word.parse().ok());
+    let argument = std::env::args().nth(1);
+    let number: u32 = argument.and_then(|word| word.parse().ok()).unwrap_or(1);
     let mut words = WORDS;
-    if let Some(number) = priced {
-        words[0] = number << 12 | 0x2B7;
-    }
-    let bytes = words.iter().flat_map(|word| word.to_le_bytes()).collect();
-    let memory = ListMemory {
-        stack: vec![0; 0x4_0000],
-        blocks: vec![Block {
-            from: 0x1_0000,
-            bytes,
-            flags: 5,
-        }],
-        text: vec![Range {
-            from: 0x1_0000,
-            to: 0x1_0020,
-        }],
-        keyed: None,
-    };
+    words[0] = number << 12 | 0x2B7;
+    let bytes: Vec<u8> = words.iter().flat_map(|word| word.to_le_bytes()).collect();
     let mut machine = Machine {
         pc: 0x1_0000,
         regs: [0; 32],
-        memory,
+        memory: Memory::new(0x1_0000, &bytes, 5),
         window: [0; 512],
         levels: 3,
         input: Vec::new(),
@@ -746,27 +777,19 @@ fn main() {
     };
     machine.regs[2] = 0x7FFF_FFF0;
     machine.window[511] = 2;
-    if priced.is_some() {
-        let mut meter = Meter {
-            level: 2,
-            ..Meter::default()
-        };
-        loop {
-            match step(&mut machine) {
-                StepEnd::Went(done) => meter.add(&done),
-                StepEnd::Exited(done, _) => {
-                    meter.add(&done);
-                    break;
-                }
-                StepEnd::Trapped(..) => break,
+    let mut meter = Meter {
+        level: 2,
+        ..Meter::default()
+    };
+    loop {
+        match step(&mut machine) {
+            StepEnd::Went(done) => meter.add(&done),
+            StepEnd::Exited(done, _) => {
+                meter.add(&done);
+                break;
             }
+            StepEnd::Trapped(..) => break,
         }
-        println!("{meter:?}");
-    } else {
-        let mut steps = 0_u64;
-        while let StepEnd::Went(_) = step(&mut machine) {
-            steps += 1;
-        }
-        println!("{steps}");
     }
+    println!("{meter:?}");
 }
