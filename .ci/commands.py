@@ -239,8 +239,30 @@ def check(program, given, line, status, text, stored=None, words=None, **how):
             fail(line, "bytes of %s from %d on" % (name, at), content[at : at + 16], found[name][at : at + 16])
 
 
+def check_largest(program):
+    """Makes a program of the largest size twice, alike: both of its images exit, and the scaled one spends no more than it would at its starting level."""
+    line = "make 7 2000 p"
+    made = []
+    for _ in range(2):
+        with tempfile.TemporaryDirectory(prefix="scale-commands-") as folder:
+            done = run(program, folder, line.split())
+            made.append((done.returncode, done.stdout, made_in(folder)))
+    status, text, found = made[0]
+    if made[0] != made[1]:
+        fail(line, "second run", made[0][:2], made[1][:2])
+    if status != 0 or sorted(found) != ["p.elf", "p.input", "p.loops", "p.machine", "p.scaled"]:
+        fail(line, "status and files", 0, (status, sorted(found)))
+    runs = text.decode().split("end exit 0\n")
+    if len(runs) != 3:
+        fail(line, "ends of runs", 2, len(runs) - 1)
+    scaled = dict(told.split(" ", 1) for told in runs[2].splitlines())
+    if int(scaled["energy"]) > int(scaled["held"]):
+        fail(line, "energy", "at most " + scaled["held"], scaled["energy"])
+
+
 def check_all(program):
     given = files()
+    check_largest(program)
     for line in LINES:
         check(program, given, *line)
     # A word that isn't UTF-8, and a text that can't be printed, once without a store and once behind it.
@@ -248,7 +270,7 @@ def check_all(program):
     with open("/dev/full", "wb") as full:
         check(program, given, "help >/dev/full", 3, "", words=["help"], stdout=full)
         check(program, given, "hold seven m loops out >/dev/full", 3, "", {"out": "held-0"}, ["hold", "seven", "m", "loops", "out"], stdout=full)
-    return len(LINES) + 3
+    return len(LINES) + 4
 
 
 def main():
