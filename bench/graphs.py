@@ -15,7 +15,7 @@ import struct
 import sys
 import tempfile
 
-from runs import DATA, build, hold
+from runs import build, hold, write_machine
 
 ENTRY = 0x00010000
 NOP = 0x00000013
@@ -77,10 +77,7 @@ def run(folder, name, text):
 def main():
     build()
     with tempfile.TemporaryDirectory() as folder:
-        with open(os.path.join(DATA, "m.toml")) as file:
-            machine = file.read().replace("deadline = 28", "deadline = 1000000000000")
-        with open(os.path.join(folder, "machine.toml"), "w") as file:
-            file.write(machine)
+        write_machine(folder)
         for make in [straight, branches, calls, unbounded]:
             for size in SIZES:
                 run(folder, make.__name__, make(size))

@@ -15,7 +15,7 @@ import os
 import tempfile
 
 from graphs import ENTRY, EXIT, NOP, image, jump
-from runs import DATA, build, hold
+from runs import build, hold, write_machine
 
 
 def branch(offset):
@@ -84,10 +84,7 @@ def run(folder, name, made):
 def main():
     build()
     with tempfile.TemporaryDirectory() as folder:
-        with open(os.path.join(DATA, "m.toml")) as file:
-            machine = file.read()
-        with open(os.path.join(folder, "machine.toml"), "w") as file:
-            file.write(machine.replace("deadline = 28", "deadline = 4000000000000000000"))
+        write_machine(folder)
         for size in [32768, 65536, 131072]:
             run(folder, "nested", groups(size, 511, 16))
         for size in [32768, 65536, 131072]:

@@ -17,7 +17,7 @@ import tempfile
 
 from graphs import EXIT, NOP, SIZES, image
 from loops import groups
-from runs import DATA, build, store
+from runs import build, machine_text, store
 
 
 def branches(size):
@@ -38,8 +38,7 @@ def run(folder, name, machine, text, notes=(), version=1):
 def main():
     build()
     with tempfile.TemporaryDirectory() as folder:
-        with open(os.path.join(DATA, "m.toml")) as file:
-            machine = file.read().replace("deadline = 28", "deadline = 4000000000000000000")
+        machine = machine_text("deadline", 28, 4000000000000000000)
         for name, gain in [("strict.toml", 20), ("eager.toml", 0)]:
             with open(os.path.join(folder, name), "w") as file:
                 file.write(machine.replace("min_gain = 20", "min_gain = %d" % gain))

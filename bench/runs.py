@@ -14,6 +14,18 @@ def build():
     subprocess.run([SCALE], capture_output=True)
 
 
+def machine_text(key, before, value):
+    """The machine file of `crates/scale_tool/data` with another number for one of its keys."""
+    with open(os.path.join(DATA, "m.toml")) as file:
+        return file.read().replace("%s = %d\n" % (key, before), "%s = %d\n" % (key, value))
+
+
+def write_machine(folder, deadline=4000000000000000000):
+    """Writes `machine.toml` into a folder, with a deadline that is never missed."""
+    with open(os.path.join(folder, "machine.toml"), "w") as file:
+        file.write(machine_text("deadline", 28, deadline))
+
+
 def store(word, folder, image, machine, loops=os.path.join(DATA, "loops.toml")):
     """Has the command of a word make an image three times; the best time in seconds, the status, and what was printed, by lines."""
     path = os.path.join(folder, "image.elf")

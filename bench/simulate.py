@@ -10,7 +10,7 @@ import tempfile
 import time
 
 from graphs import image
-from runs import DATA, SCALE, TOP, build
+from runs import SCALE, TOP, build, machine_text
 
 # Counts down from 4,194,304 with a load, a sum and a store each time.
 COUNT = 1024
@@ -43,8 +43,7 @@ def main():
         path = {name: os.path.join(folder, name) for name in ["image", "machine", "input", "out", "loops", "many", "plain"]}
         with open(path["image"], "wb") as file:
             file.write(image(WORDS))
-        with open(os.path.join(DATA, "m.toml")) as file:
-            machine = file.read().replace("steps = 1000000", "steps = 100000000")
+        machine = machine_text("steps", 1000000, 100000000)
         for name, text in [("machine", machine), ("input", ""), ("loops", LOOPS), ("many", MANY)]:
             with open(path[name], "w") as file:
                 file.write(text)

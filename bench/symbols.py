@@ -10,19 +10,16 @@ addresses.
 - one string: the names of all other symbols are the ends of one string of 2.4 MB of the letter a.
 
 The second should take less than 0.5 s more than the first. Run it from anywhere; it builds the program first where that isn't built
-yet. With a path, that is the program to run in place of `scale`.
+yet.
 """
 
 import os
 import struct
-import subprocess
-import sys
 import tempfile
-import time
 
 from graphs import ENTRY, EXIT, NOP
 from loops import branch
-from runs import DATA, SCALE, build
+from runs import build, hold, write_machine
 
 LOOPS = 4096
 WORDS = 131072
@@ -97,43 +94,29 @@ def notes(ends, write):
     return text
 
 
-def run(scale, folder, what, file, loops):
-    paths = [os.path.join(folder, name) for name in ["image.elf", "machine.toml", "loops.toml", "out.elf"]]
-    with open(paths[0], "wb") as out:
-        out.write(file)
-    with open(paths[2], "w") as out:
-        out.write(loops)
-    best = None
-    for _ in range(3):
-        begin = time.perf_counter()
-        done = subprocess.run([scale, "hold"] + paths, capture_output=True)
-        took = time.perf_counter() - begin
-        best = took if best is None else min(best, took)
-    told = done.stdout.decode().splitlines()
-    print("%-12s %8d bytes of image %8d of loops %8.3f s   status %d %s" % (what, len(file), len(loops), best, done.returncode, told[:2]))
-    sys.stdout.flush()
+def run(folder, what, file, text):
+    loops = os.path.join(folder, "loops.toml")
+    with open(loops, "w") as out:
+        out.write(text)
+    took, status, lines = hold(folder, file, os.path.join(folder, "machine.toml"), loops)
+    print("%-12s %8d bytes of image %8d of loops %8.3f s   status %d %s" % (what, len(file), len(text), took, status, lines[:2]))
 
 
 def main():
-    scale = sys.argv[1] if len(sys.argv) > 1 else SCALE
-    if scale == SCALE:
-        build()
+    build()
     with tempfile.TemporaryDirectory() as folder:
-        with open(os.path.join(DATA, "m.toml")) as file:
-            machine = file.read()
-        with open(os.path.join(folder, "machine.toml"), "w") as file:
-            file.write(machine.replace("deadline = 28", "deadline = 4000000000000000000"))
+        write_machine(folder)
         text, ends = program()
         values = list(range(16)) + [address for pair in ends for address in pair]
         name_of = dict(zip(values, short_names()))
         named = {name: value for value, name in name_of.items()}
         file = image(text, *symbols_of(named, long_names()))
         names = notes(ends, lambda value: '"%s"' % name_of[value])
-        run(scale, folder, "numbers", file, notes(ends, str))
-        run(scale, folder, "names", file, names)
+        run(folder, "numbers", file, notes(ends, str))
+        run(folder, "names", file, names)
         missing = names[: names.rindex('"', 0, names.rindex('"]]')) + 1] + '~~~"]]\nbound=1\n'
-        run(scale, folder, "no such name", file, missing)
-        run(scale, folder, "one string", image(text, *symbols_of(named, one_string())), names)
+        run(folder, "no such name", file, missing)
+        run(folder, "one string", image(text, *symbols_of(named, one_string())), names)
 
 
 if __name__ == "__main__":
