@@ -1,18 +1,21 @@
 -- How the bodies of loops are entered, and in how many of them a node is.
-use Rattle.std.proofs.Common.{◌≡◌, ◌≢◌, ℕ, zero, suc, ◌<◌, ◌≤◌, false, List, length, get_or, replicate, refl, sym, ap, ◌∙◌, subst, arith, Option, Some, None, ◌⊎◌, inl, inr, ⊎_elim}
+use Rattle.std.proofs.Common.{◌≡◌, ◌≢◌, ℕ, zero, suc, ◌+◌, ◌<◌, ◌≤◌, ◌↔◌, Bool, true, false, nat_eq, if◌then◌else◌, List, [], ◌∷◌, length, get_or, replicate, refl, sym, ap, ◌∙◌, subst, arith, Option, Some, None, ◌⊎◌, inl, inr, ⊎_elim}
 use Rattle.std.specs.Prelude.{slice_get, slice_index}
-use Rattle.std.proofs.lemmas.Bool.{cases_eq}
+use Rattle.std.proofs.lemmas.Bool.{cases_eq, cases_Bool, both_ways, eq-eqb, ne_eqb}
 use Rattle.std.proofs.lemmas.Option.{slice_get-get_or, slice_get_within, get_or_from_slice_get}
 use Rattle.std.proofs.lemmas.List.{length-replicate}
+use Rattle.cost_theory.specs.Graph.{sum_below, only}
 use Rattle.cost_theory.specs.Accepted.{IsNode}
-use Rattle.cost_theory.proofs.Basics.{ones-le}
+use Rattle.cost_theory.proofs.Basics.{sum-same, ones-le}
 use Rattle.code_graph.specs.FlowGraph.{FlowGraph, graph, IsFlowGraph}
 use Rattle.loop_bodies.specs.Edges.{EdgeView}
 use Rattle.loop_bodies.specs.Bodies.{IsIn, AreNodes, IsSideEdge, IsLeastPair, IsLesserPair}
 use Rattle.loop_bodies.proofs.EntryLaws.{least_same, least_more}
 use Rattle.loop_file.specs.declared.notes.LoopNote.{LoopNote}
+use Rattle.loop_file.specs.Kept.{note_at}
+use Rattle.natural_loops.specs.Noted.{IsBodyNode}
 use Rattle.natural_loops.specs.Passes.{AreEdgesOf, AreOwned, IsEntryNode, IsSidePair, IsNumberedBody, IsNodeOf, AreDepths}
-use Rattle.natural_loops.proofs.NodeLaws.{one_number}
+use Rattle.natural_loops.proofs.NodeLaws.{one_number, source_number}
 use Rattle.natural_loops.proofs.WalkLaws.{some_same, has_edge, edge_within, edge_from, edge_to}
 
 -- ---- side entries by numbers

@@ -1,6 +1,6 @@
 -- The headers of notes, and what was found of the loops up to one.
 use Rattle.std.proofs.Common.{◌≡◌, ◌≢◌, ℕ, zero, suc, ◌+◌, ◌<◌, ◌≤◌, List, [], ◌∷◌, ◌++◌, length, get_or, replicate, refl, sym, ap, ◌∙◌, subst, arith, Some, None, ⊎_elim, length-append}
-use Rattle.std.specs.Prelude.{slice_get}
+use Rattle.std.specs.Prelude.{slice_get, slice_index}
 use Rattle.std.proofs.lemmas.Bool.{cases_eq}
 use Rattle.std.proofs.lemmas.Option.{slice_get_within}
 use Rattle.scale_base.specs.declared.refusal.Refusal.{Refusal}
@@ -8,7 +8,7 @@ use Rattle.scale_base.specs.declared.refusal.Refusal.TheVariants.{NoBackEdge, Si
 use Rattle.cost_theory.specs.Lists.{body_of}
 use Rattle.code_graph.specs.FlowGraph.{FlowGraph}
 use Rattle.loop_bodies.specs.Edges.{EdgeView}
-use Rattle.loop_bodies.specs.Bodies.{IsLeastPair}
+use Rattle.loop_bodies.specs.Bodies.{IsIn, IsLeastPair}
 use Rattle.loop_file.specs.declared.notes.LoopNote.{LoopNote}
 use Rattle.loop_file.specs.Kept.{note_at}
 use Rattle.natural_loops.specs.Noted.{header_address, HasBackEdge, IsNotedSideEntry}

@@ -1,4 +1,5 @@
-use Rattle.std.proofs.Common.{rules, ◌≡◌, ap, sym, subst, Some, None, slice_index_or}
+use Rattle.std.proofs.Common.{rules, ◌≡◌, ◌∙◌, ap, sym, subst, Some, None, slice_index_or}
+use Rattle.std.proofs.lemmas.Option.{slice_get_within}
 use Rattle.scale_base.specs.declared.refusal.Refusal.TheVariants.{SideEntry}
 use Rattle.loop_bodies.specs.Bodies.{IsLeastPair}
 use Rattle.natural_loops.specs.Passes.{IsNumberedBody, IsSidePair}

@@ -1,4 +1,4 @@
-use Rattle.std.proofs.Common.{rules, refl, sym, subst}
+use Rattle.std.proofs.Common.{rules, ◌≡◌, ◌∙◌, ap, refl, sym, subst, Some}
 use Rattle.natural_loops.specs.Passes.{IsExtent}
 use Rattle.natural_loops.proofs.HeaderLaws.{note_is}
 use Rattle.natural_loops.proofs.GroupLaws.{extents_none, extents_next, numbered_header}

@@ -1,10 +1,12 @@
-use Rattle.std.proofs.Common.{rules, arith, ℕ, ◌≡◌, ◌+◌, ◌<◌, ◌≤◌, length, count_ones, sym, subst}
+use Rattle.std.proofs.Common.{rules, arith, ℕ, ◌≡◌, ◌∙◌, ◌+◌, ◌-◌, ◌<◌, ◌≤◌, length, false, count_ones, ap, sym, subst}
 use Rattle.std.specs.Prelude.{slice_index}
 use Rattle.std.proofs.lemmas.Bool.{both_ways}
 use Rattle.loop_bodies.specs.Groups.{AreGroup, AreLoops}
 use Rattle.natural_loops.specs.Noted.{IsNotedSideEntry}
+use Rattle.natural_loops.specs.Passes.{IsEntry, IsGroupEntered}
 use Rattle.natural_loops.proofs.EntryLaws.{depth_small}
-use Rattle.natural_loops.proofs.ReadyLaws.{header_within, none_next}
+use Rattle.natural_loops.proofs.ReadyLaws.{header_within, none_next, entry_refused}
+use Rattle.natural_loops.proofs.FoundLaws.{passed_on}
 use Rattle.natural_loops.proofs.GroupLaws.{loops_are, clean_at, depths_group}
 use Rattle.natural_loops.proofs.groups.check_group.Goals as goal
 use Rattle.natural_loops.proofs.groups.check_group.Goals.{then-is_entered+in_ok-check_entry, else-is_entered}
