@@ -12,7 +12,7 @@ use Rattle.scale_base.specs.Layout.{layout_of, is_keyed, in_option}
 use Rattle.scale_base.specs.Reading.{instr_of}
 use Rattle.scale_base.specs.State.{word_at}
 use Rattle.foreign_scan.specs.Form.{IsKeyWord, HoldsAt}
-use Rattle.foreign_scan.specs.KeyWords.{AreKeyWords, first_word, end_word}
+use Rattle.foreign_scan.specs.KeyWords.{AreKeyWords, IsWordAt, first_word, end_word}
 
 pub one_more : (f : ℕ → ℕ) (k : ℕ) → map f (range_with_len 0 k) ++ f k ∷ [] ≡ map f (range_with_len 0 (k + 1))
 one_more f k = sym (map-range_with_len_more f 0 k k (omega arith))
@@ -68,10 +68,17 @@ are_key_words image bytes first end words same low high is =
 
 -- ---- what is read
 
-pub read_there : (image : Image) (first : ℕ) (words : List ℕ) (at k word : ℕ) (o : Option Instr) → AreKeyWords image first words → at % 4 ≡ 0 → first ≤ at / 4 → k ≡ at / 4 - first
-    → k < length words → word ≡ slice_index words k → o ≡ instr_of word → (i : Instr) → (o ≡ Some i) ↔ HoldsAt image at i
-read_there image first words at k word o h even low is lt got e i =
+pub word_there : (image : Image) (first : ℕ) (words : List ℕ) (at k value : ℕ) → AreKeyWords image first words → at % 4 ≡ 0 → first ≤ at / 4 → k ≡ at / 4 - first
+    → k < length words → value ≡ slice_index words k → (word : ℕ) → (Some value ≡ Some word) ↔ IsWordAt image at word
+word_there image first words at k value h even low is lt got word =
     let there : 4 * (first + k) ≡ at = omega arith in
-    let value : word ≡ word_at (loaded_byte image) at = got ∙ (h.are k lt ∙ ap (word_at (loaded_byte image)) there) in
-    let same : o ≡ instr_of (word_at (loaded_byte image) at) = e ∙ ap instr_of value in
-    (λ some. record { key = subst (IsKeyWord image) there (h.within k lt); reads = sym same ∙ some }, λ holds. same ∙ holds.reads)
+    let same : value ≡ word_at (loaded_byte image) at = got ∙ (h.are k lt ∙ ap (word_at (loaded_byte image)) there) in
+    (λ some. record { key = subst (IsKeyWord image) there (h.within k lt); value = let e : value ≡ word = cc in sym same ∙ e }, λ is. ap Some (same ∙ is.value))
+
+pub instr_there : (image : Image) (at word : ℕ) (o : Option Instr) → IsWordAt image at word → o ≡ instr_of word → (i : Instr) → (o ≡ Some i) ↔ HoldsAt image at i
+instr_there image at word o h e i =
+    let same : o ≡ instr_of (word_at (loaded_byte image) at) = e ∙ ap instr_of (sym h.value) in
+    (λ some. record { key = h.key; reads = sym same ∙ some }, λ holds. same ∙ holds.reads)
+
+pub word_of_instr : (image : Image) (at : ℕ) (i : Instr) → HoldsAt image at i → IsWordAt image at (word_at (loaded_byte image) at)
+word_of_instr image at i h = record { key = h.key; value = refl }

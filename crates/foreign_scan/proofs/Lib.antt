@@ -1,2 +1,3 @@
 pub mod KeyLaws
 pub mod HoldLaws
+pub mod ReadLaws

@@ -22,6 +22,11 @@ pub record AreKeyWords (image : Image) (first : ℕ) (words : List ℕ) : Type 0
   pub all : (at : ℕ) → IsKeyWord image at → (first ≤ at / 4) × (at / 4 < first + length words)
   pub are : (k : ℕ) → k < length words → slice_index words k ≡ word_at (loaded_byte image) (4 * (first + k))
 
+-- the word of an address whose four bytes lie in the keyed segment
+pub record IsWordAt (image : Image) (at word : ℕ) : Type 0 where
+  pub key : IsKeyWord image at
+  pub value : word_at (loaded_byte image) at ≡ word
+
 -- the code of the fragment, whose numbers fit, stands at an address
 pub record StandsAt (image : Image) (at : ℕ) (f : ForeignFragment) : Type 0 where
   pub foreign : IsForeign f

@@ -1,3 +1,5 @@
 pub mod Form
 pub mod KeyWords
+pub mod Parts
+pub mod RunOuts
 pub mod Scanned

@@ -5,7 +5,7 @@ ghost use Rattle.std.specs.List.{range_with_len};
 ghost use Rattle.scale_base.specs.State.{word_at};
 ghost use Rattle.flat_memory.specs.Lists.{list_bytes};
 ghost use Rattle.foreign_scan.specs.Form.{HoldsAt};
-ghost use Rattle.foreign_scan.specs.KeyWords.{first_word, end_word};
+ghost use Rattle.foreign_scan.specs.KeyWords.{IsWordAt, first_word, end_word};
 
 use elf_view::ImageView;
 use flat_memory::{ListMemory, Memory, load_list};
@@ -74,10 +74,9 @@ pub fn read_key<'a>(alloc: Global, view: &'a ImageView<'a>) -> Result<KeyCode<'a
 }
 
 impl<'a> KeyCode<'a> {
-    /// The instruction at an address. None exactly where the address is no multiple of 4, one of its four bytes lies outside of the keyed segment, or its
-    /// word is none of RV32IM.
-    pub fn instr(&self, at: u64) -> Option<Instr>
-        ensures { (i : Instr) → (result ≡ Some i) ↔ HoldsAt self.now at i }
+    /// The word at an address, a multiple of 4 whose four bytes lie in the keyed segment.
+    pub(crate) fn word(&self, at: u64) -> Option<u32>
+        ensures { (word : ℕ) → (result ≡ Some word) ↔ IsWordAt self.now at word }
     {
         if at % 4 != 0 || at / 4 < u64::from(self.first) {
             return None;
@@ -86,6 +85,17 @@ impl<'a> KeyCode<'a> {
         if k >= self.words.len() as u64 {
             return None;
         }
-        decode(self.words[k as usize])
+        Some(self.words[k as usize])
+    }
+
+    /// The instruction at an address. None exactly where the address is no multiple of 4, one of its four bytes lies outside of the keyed segment, or its
+    /// word is none of RV32IM.
+    pub fn instr(&self, at: u64) -> Option<Instr>
+        ensures { (i : Instr) → (result ≡ Some i) ↔ HoldsAt self.now at i }
+    {
+        match self.word(at) {
+            Some(word) => decode(word),
+            None => None,
+        }
     }
 }

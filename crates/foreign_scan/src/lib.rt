@@ -5,8 +5,11 @@
 mod codes;
 mod fragment;
 mod key;
+mod parts;
 mod reading;
+mod run_out;
 
 pub use fragment::{ForeignFragment, Why};
 pub use key::{KeyCode, read_key};
 pub use reading::read_fragment;
+pub use run_out::read_run_out;

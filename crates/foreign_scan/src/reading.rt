@@ -4,6 +4,7 @@ ghost use Rattle.std.specs.Prelude.{◌≡◌, ◌↔◌, ◌+◌, ◌<◌, ◌^
 ghost use Rattle.scale_base.specs.declared.instruction.StoreOp.{StoreOp};
 ghost use Rattle.scale_base.specs.declared.instruction.LoadOp.{LoadOp};
 ghost use Rattle.scale_base.specs.declared.instruction.ImmOp.{ImmOp};
+ghost use Rattle.scale_base.specs.Reading.{instr_of};
 ghost use Rattle.stub_writer.specs.Fragments as fragments;
 ghost use Rattle.stub_writer.specs.Fragments.{IsShadow};
 ghost use Rattle.foreign_scan.specs.Form.{HoldsAt, Hold, IsForeign, foreign_code, foreign_len};
@@ -12,10 +13,9 @@ ghost use Rattle.foreign_scan.specs.KeyWords.{StandsAt};
 use crate::codes::{count_code, exit_code, reset_code, switch_code};
 use crate::fragment::ForeignFragment;
 use crate::key::KeyCode;
+use crate::parts;
+use rv_encode::encode;
 use scale_base::Instr;
-
-/// The offset of a load or a store of the window's speed port.
-const PORT_OFFSET: i32 = -4;
 
 /// The window's word of an offset from x0, if the offset is one of a word of the window.
 fn window_word(offset: i32) -> Option<u16>
@@ -45,40 +45,28 @@ fn is_shadow(counter: u16) -> bool
 fn stored_offset(key: &KeyCode<'_>, at: u64) -> Option<i32>
     ensures { (op : StoreOp) (rs1 rs2 : ℕ) (offset : ℤ) → HoldsAt key.now at (Instr.Store op rs1 rs2 offset) → result ≡ Some offset }
 {
-    match key.instr(at) {
-        Some(Instr::Store { offset, .. }) => Some(offset),
-        _ => None,
-    }
+    parts::store_offset(key.instr(at))
 }
 
 /// The offset of the load at an address.
 fn loaded_offset(key: &KeyCode<'_>, at: u64) -> Option<i32>
     ensures { (op : LoadOp) (rd rs1 : ℕ) (offset : ℤ) → HoldsAt key.now at (Instr.Load op rd rs1 offset) → result ≡ Some offset }
 {
-    match key.instr(at) {
-        Some(Instr::Load { offset, .. }) => Some(offset),
-        _ => None,
-    }
+    parts::load_offset(key.instr(at))
 }
 
 /// The number of the immediate operation at an address.
 fn immediate(key: &KeyCode<'_>, at: u64) -> Option<i32>
     ensures { (op : ImmOp) (rd rs1 : ℕ) (imm : ℤ) → HoldsAt key.now at (Instr.Imm op rd rs1 imm) → result ≡ Some imm }
 {
-    match key.instr(at) {
-        Some(Instr::Imm { imm, .. }) => Some(imm),
-        _ => None,
-    }
+    parts::number(key.instr(at))
 }
 
 /// The number of the LUI at an address.
 fn upper(key: &KeyCode<'_>, at: u64) -> Option<u32>
     ensures { (rd imm : ℕ) → HoldsAt key.now at (Instr.Lui rd imm) → result ≡ Some imm }
 {
-    match key.instr(at) {
-        Some(Instr::Lui { imm, .. }) => Some(imm),
-        _ => None,
-    }
+    parts::upper(key.instr(at))
 }
 
 /// The word of a Switch, if one stands at the address.
@@ -169,16 +157,36 @@ fn candidate(key: &KeyCode<'_>, at: u64) -> Option<ForeignFragment>
     requires { at < 2 ^ 33 }
     ensures { (f : ForeignFragment) → StandsAt key.now at f → result ≡ Some f }
 {
-    if let Some(Instr::Store { rs2: 0, .. }) = key.instr(at) {
+    if parts::clears(key.instr(at)) {
         return reset_at(key, at);
     }
-    if loaded_offset(key, at + 4).is_some() {
+    if parts::is_load(key.instr(at + 4)) {
         return count_at(key, at);
     }
-    if loaded_offset(key, at + 8) == Some(PORT_OFFSET) {
+    if parts::loads_port(key.instr(at + 8)) {
         return switch_at(key, at);
     }
     exit_at(key, at)
+}
+
+/// Whether a word is the one of an instruction.
+fn is_word_of(word: u32, wanted: &Instr) -> bool
+    ensures { IsTrue result ↔ (instr_of word ≡ Some wanted.now) }
+{
+    match encode(wanted) {
+        Some(code) => code == word,
+        None => false,
+    }
+}
+
+/// Whether an instruction stands at an address.
+fn holds_at(key: &KeyCode<'_>, at: u64, wanted: &Instr) -> bool
+    ensures { IsTrue result ↔ HoldsAt key.now at wanted.now }
+{
+    match key.word(at) {
+        Some(word) => is_word_of(word, wanted),
+        None => false,
+    }
 }
 
 /// Whether the instructions stand at an address one after another.
@@ -188,7 +196,7 @@ fn holds(key: &KeyCode<'_>, at: u64, code: &[Instr]) -> bool
     ensures { IsTrue result ↔ Hold key.now at code.now }
 {
     for k in 0..code.len() {
-        if key.instr(at + 4 * k as u64) != Some(code[k]) {
+        if !holds_at(key, at + 4 * k as u64, &code[k]) {
             return false;
         }
     }

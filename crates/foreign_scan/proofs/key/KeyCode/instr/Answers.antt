@@ -1,15 +1,12 @@
-use Rattle.std.proofs.Common.{◌≡◌, ◌↔◌, ◌<◌, ◌≤◌, ◌/◌, ◌%◌, ◌-◌, length, Some, subst, arith, rules}
-use Rattle.std.proofs.lemmas.List.{get_or_read}
-use Rattle.foreign_scan.specs.Form.{HoldsAt}
-use Rattle.foreign_scan.proofs.KeyLaws.{read_there}
+use Rattle.std.proofs.Common.{◌≡◌, ◌∙◌, Some, sym, refl}
+use Rattle.scale_base.specs.Image.{loaded_byte}
+use Rattle.scale_base.specs.State.{word_at}
+use Rattle.foreign_scan.proofs.KeyLaws.{instr_there, word_of_instr}
 use Rattle.foreign_scan.proofs.key.KeyCode.instr.Goals as goal
 
-pub returns : goal.returns
-returns c =
-    λ i. let f = c.self.inside in
-    let even : c.args.at % 4 ≡ 0 = omega arith in
-    let low : f.first ≤ c.args.at / 4 = omega arith in
-    let within : c.args.at / 4 - c.from-2.result < length f.words.items = omega (arith, f.words.ok.0) in
-    subst (λ image. (c.decode.result ≡ Some i) ↔ HoldsAt image c.args.at i) c.self.view_is
-    (read_there f.view.now f.first f.words.items c.args.at (c.args.at / 4 - c.from-2.result) c.index.result.now c.decode.result c.self.invariant even low (omega arith)
-    within (get_or_read f.words.items _ _ within c.index.ensures 0) c.decode.ensures.read i)
+pub returns-in-Some : goal.returns-in-Some
+returns-in-Some c = instr_there c.args.self.now c.args.at c.in-Some.word c.decode.result ((c.word.ensures c.in-Some.word).0 c.in-Some.is) c.decode.ensures.read
+
+pub returns-in-None : goal.returns-in-None
+returns-in-None c =
+    λ i. (λ none. absurd cc, λ h. let e = sym c.in-None.is ∙ (c.word.ensures (word_at (loaded_byte c.args.self.now) c.args.at)).1 (word_of_instr c.args.self.now c.args.at i h) in absurd cc)
