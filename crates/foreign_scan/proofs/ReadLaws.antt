@@ -52,7 +52,7 @@ third image at o i reads h = reads i (moved image (at + 4 + 4) (at + 8) i (omega
 differ : {X : Type 0} (b : Bool) → b ≡ true → b ≡ false → X
 differ b y n = absurd (let e : true ≡ false = sym y ∙ n in cc)
 
-no_port : (counter : ℕ) → counter < 511 → int_eq (slot counter) (negsuc 3) ≡ false
+pub no_port : (counter : ℕ) → counter < 511 → int_eq (slot counter) (negsuc 3) ≡ false
 no_port counter lt = by_test (int_eq (slot counter) (negsuc 3)) (Decides-int_eq (slot counter) (negsuc 3)).0
   where
     by_test : (b : Bool) → (b ≡ true → slot counter ≡ negsuc 3) → b ≡ false

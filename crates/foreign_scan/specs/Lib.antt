@@ -3,3 +3,4 @@ pub mod KeyWords
 pub mod Parts
 pub mod RunOuts
 pub mod Scanned
+pub mod Stubs

@@ -1,5 +1,5 @@
 -- Parts of an instruction that may be one of a kind.
-use Rattle.std.specs.Prelude.{ℕ, ℤ, negsuc, Bool, true, false, ◌==◌, Option, Some, None}
+use Rattle.std.specs.Prelude.{ℕ, ℤ, negsuc, Bool, true, false, ◌==◌, if◌then◌else◌, Option, Some, None}
 use Rattle.std.specs.Ordering.{int_eq}
 use Rattle.scale_base.specs.declared.instruction.Instr.{Instr}
 use Rattle.scale_base.specs.declared.instruction.Instr.TheVariants as instr
@@ -38,3 +38,13 @@ is_load i = false
 abbrev pub loads_port : Option Instr → Bool
 loads_port (Some (instr.Load op rd rs1 offset)) = int_eq offset (negsuc 3)
 loads_port i = false
+
+-- the offset of a jump that links no register
+abbrev pub goto_of : Option Instr → Option ℤ
+goto_of (Some (instr.Jal rd offset)) = if rd == 0 then Some offset else None
+goto_of i = None
+
+-- the offset of a branch
+abbrev pub branch_offset_of : Option Instr → Option ℤ
+branch_offset_of (Some (instr.Branch op rs1 rs2 offset)) = Some offset
+branch_offset_of i = None

@@ -8,8 +8,10 @@ mod key;
 mod parts;
 mod reading;
 mod run_out;
+mod stub;
 
 pub use fragment::{ForeignFragment, Why};
 pub use key::{KeyCode, read_key};
 pub use reading::read_fragment;
 pub use run_out::read_run_out;
+pub use stub::StubFragments;

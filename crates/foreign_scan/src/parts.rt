@@ -77,3 +77,23 @@ pub fn loads_port(instr: Option<Instr>) -> bool
         _ => false,
     }
 }
+
+/// The offset of a jump that links no register.
+pub fn goto_offset(instr: Option<Instr>) -> Option<i32>
+    ensures { result ≡ parts.goto_of instr }
+{
+    match instr {
+        Some(Instr::Jal { rd, offset }) if rd == 0 => Some(offset),
+        _ => None,
+    }
+}
+
+/// The offset of a branch.
+pub fn branch_offset(instr: Option<Instr>) -> Option<i32>
+    ensures { result ≡ parts.branch_offset_of instr }
+{
+    match instr {
+        Some(Instr::Branch { offset, .. }) => Some(offset),
+        _ => None,
+    }
+}

@@ -180,7 +180,7 @@ fn is_word_of(word: u32, wanted: &Instr) -> bool
 }
 
 /// Whether an instruction stands at an address.
-fn holds_at(key: &KeyCode<'_>, at: u64, wanted: &Instr) -> bool
+pub fn holds_at(key: &KeyCode<'_>, at: u64, wanted: &Instr) -> bool
     ensures { IsTrue result ↔ HoldsAt key.now at wanted.now }
 {
     match key.word(at) {

@@ -9,8 +9,9 @@ ghost use Rattle.foreign_scan.specs.RunOuts.{AreAt, IsWhole};
 
 use crate::fragment::ForeignFragment;
 use crate::key::KeyCode;
+use crate::parts;
 use crate::reading::{code_len, read_fragment};
-use scale_base::{Instr, NoMemory};
+use scale_base::NoMemory;
 use std::alloc::Global;
 
 /// How many fragments a run-out has at most.
@@ -43,11 +44,9 @@ fn jumps_to(key: &KeyCode<'_>, at: u64, to: u32) -> bool
     requires { at < 2 ^ 33 }
     ensures { IsTrue result ↔ JumpsTo key.now at to }
 {
-    match key.instr(at) {
-        Some(Instr::Jal { rd: 0, offset }) => {
-            (at + u64::from(offset.cast_unsigned())) % (1 << 32) == u64::from(to)
-        }
-        _ => false,
+    match parts::goto_offset(key.instr(at)) {
+        Some(offset) => (at + u64::from(offset.cast_unsigned())) % (1 << 32) == u64::from(to),
+        None => false,
     }
 }
 
@@ -71,7 +70,7 @@ fn read_fragments(
                 end += 4 * code_len(&fragment);
                 fragments.push(fragment)?;
             }
-            None => break,
+            None => return Ok((fragments, end)),
         }
     }
     Ok((fragments, end))
