@@ -1,7 +1,7 @@
 -- No two fragments stand at one address, and no two lists of them that a jump follows.
-use Rattle.std.proofs.Common.{◌≡◌, ◌⊎◌, inl, inr, ℕ, ℤ, zero, suc, pos, negsuc, ◌+◌, ◌-◌, ◌*◌, ◌%◌, ◌<◌, ◌≤◌, ◌^◌, true, false, List, [], ◌∷◌, ◌++◌, length, get_or, Option, Some, None, refl, sym, ap, subst, ◌∙◌, arith}
+use Rattle.std.proofs.Common.{◌≡◌, ◌⊎◌, inl, inr, ℕ, ℤ, suc, pos, negsuc, ◌+◌, ◌-◌, ◌*◌, ◌%◌, ◌<◌, ◌≤◌, ◌^◌, true, false, List, [], ◌∷◌, ◌++◌, length, Some, refl, sym, ap, subst, ◌∙◌, arith}
 use Rattle.std.specs.Prelude.{nat_lt, All}
-use Rattle.std.specs.List.{sum_by, flat_map}
+use Rattle.std.specs.List.{flat_map}
 use Rattle.std.proofs.lemmas.Bool.{cond_both}
 use Rattle.std.proofs.lemmas.Bool.Decides.{nat_tests}
 use Rattle.std.proofs.lemmas.Int.{ints}
@@ -12,13 +12,12 @@ use Rattle.scale_base.specs.declared.instruction.LoadOp.TheVariants.{Lw}
 use Rattle.scale_base.specs.declared.instruction.ImmOp.TheVariants.{Addi, Srli}
 use Rattle.scale_base.specs.Arith.{moved_by}
 use Rattle.scale_base.specs.Image.{Image}
-use Rattle.stub_writer.specs.Fragments.{t0, t1, hi, lo, lw, sw, slot, switch_code, exit_code, count_code, reset_code, IsShadow}
+use Rattle.stub_writer.specs.Fragments.{t0, t1, hi, lo, lw, sw, slot}
 use Rattle.foreign_scan.specs.declared.fragment.ForeignFragment.{ForeignFragment}
 use Rattle.foreign_scan.specs.declared.fragment.ForeignFragment.TheVariants.{Switch, Exit, Reset, Count}
 use Rattle.foreign_scan.specs.Form.{HoldsAt, Hold, IsForeign, foreign_code, foreign_len, behind, JumpsTo}
 use Rattle.foreign_scan.specs.KeyWords.{StandsAt}
-use Rattle.foreign_scan.specs.RunOuts.{AreAt, IsWhole}
-use Rattle.foreign_scan.proofs.HoldLaws.{moved, moved_all, one_instr, hold_split, hold_join}
+use Rattle.foreign_scan.proofs.HoldLaws.{moved, one_instr, hold_split}
 use Rattle.foreign_scan.proofs.ReadLaws.{Reads, same_some, by_clears, by_load, by_port, by_rest, no_port}
 
 -- ---- the two parts of a number, and a counter's place

@@ -1,16 +1,15 @@
 -- Which fragment may stand at an address, by its first instructions, and what its numbers are read from.
-use Rattle.std.proofs.Common.{◌≡◌, ◌↔◌, ℕ, ◌+◌, ◌-◌, ◌*◌, ◌<◌, ◌≤◌, ◌^◌, Bool, true, false, Option, Some, None, refl, sym, ap, ◌∙◌, arith, negsuc, ℤ, pos, if◌then◌else◌, w32, to_z, of_z}
+use Rattle.std.proofs.Common.{◌≡◌, ℕ, ◌+◌, ◌-◌, ◌*◌, ◌<◌, ◌^◌, Bool, true, false, Option, Some, refl, sym, ap, ◌∙◌, arith, negsuc, ℤ, pos, if◌then◌else◌, w32, to_z, of_z}
 use Rattle.std.specs.Prelude.{nat_lt, ◌%◌}
 use Rattle.std.specs.Ordering.{int_eq}
 use Rattle.std.proofs.lemmas.Int.{to_z-of_z}
-use Rattle.std.proofs.lemmas.Bool.{eqb-true, eq-eqb}
 use Rattle.std.proofs.lemmas.Bool.Decides.{Decides-int_eq}
 use Rattle.scale_base.specs.declared.instruction.Instr.{Instr}
 use Rattle.scale_base.specs.declared.instruction.Instr.TheVariants.{Lui, Imm, Load}
 use Rattle.scale_base.specs.declared.instruction.LoadOp.TheVariants.{Lw}
 use Rattle.scale_base.specs.declared.instruction.ImmOp.TheVariants.{Addi}
 use Rattle.scale_base.specs.Image.{Image}
-use Rattle.stub_writer.specs.Fragments.{t0, t1, hi, lo, lw, sw, slot, switch_code, exit_code, count_code, reset_code}
+use Rattle.stub_writer.specs.Fragments.{t0, t1, hi, lo, lw, sw, slot, switch_code, exit_code}
 use Rattle.foreign_scan.specs.declared.fragment.ForeignFragment.{ForeignFragment}
 use Rattle.foreign_scan.specs.declared.fragment.ForeignFragment.TheVariants.{Switch, Exit, Reset, Count}
 use Rattle.foreign_scan.specs.Form.{HoldsAt, Hold}

@@ -1,5 +1,5 @@
 -- Fragments that are read one after another, and the jump behind them.
-use Rattle.std.proofs.Common.{◌≡◌, ◌⊎◌, inl, inr, ℕ, ℤ, zero, suc, ◌+◌, ◌*◌, ◌<◌, ◌≤◌, Bool, true, false, if◌then◌else◌, List, [], ◌∷◌, ◌++◌, length, get_or, Option, Some, None, refl, sym, ap, subst, ◌∙◌, arith}
+use Rattle.std.proofs.Common.{◌≡◌, inl, inr, ℕ, ℤ, zero, suc, ◌+◌, ◌*◌, ◌<◌, ◌≤◌, Bool, true, false, if◌then◌else◌, List, [], ◌∷◌, ◌++◌, length, get_or, Option, Some, None, refl, sym, subst, arith}
 use Rattle.std.specs.Prelude.{All, ◌==◌}
 use Rattle.std.specs.List.{sum_by, flat_map}
 use Rattle.std.proofs.lemmas.List.{length-append, append-nil}
@@ -12,11 +12,11 @@ use Rattle.scale_base.specs.declared.instruction.Instr.{Instr}
 use Rattle.scale_base.specs.declared.instruction.Instr.TheVariants as instr
 use Rattle.scale_base.specs.Image.{Image}
 use Rattle.foreign_scan.specs.declared.fragment.ForeignFragment.{ForeignFragment}
-use Rattle.foreign_scan.specs.Form.{HoldsAt, Hold, IsForeign, foreign_code, foreign_len, behind, JumpsTo, ChoosesNone, FirstChooses, IsRunOut}
+use Rattle.foreign_scan.specs.Form.{Hold, IsForeign, foreign_code, foreign_len, behind, JumpsTo, ChoosesNone, FirstChooses, IsRunOut}
 use Rattle.foreign_scan.specs.KeyWords.{StandsAt}
 use Rattle.foreign_scan.specs.RunOuts.{AreAt, IsWhole}
 use Rattle.foreign_scan.specs.Parts.{goto_of}
-use Rattle.foreign_scan.proofs.HoldLaws.{moved, moved_all, one_instr, hold_split, hold_join}
+use Rattle.foreign_scan.proofs.HoldLaws.{moved_all, hold_join}
 use Rattle.foreign_scan.proofs.OneFragment.{Ends, one_list}
 
 -- the first so many fragments from an address on, which end at another

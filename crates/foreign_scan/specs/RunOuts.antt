@@ -1,5 +1,5 @@
 -- Fragments one after another.
-use Rattle.std.specs.Prelude.{◌≡◌, ◌⊎◌, ℕ, ◌≤◌, List, length, All}
+use Rattle.std.specs.Prelude.{◌⊎◌, ℕ, ◌≤◌, List, length, All}
 use Rattle.std.specs.List.{flat_map}
 use Rattle.scale_base.specs.Image.{Image}
 use Rattle.foreign_scan.specs.declared.fragment.ForeignFragment.{ForeignFragment}

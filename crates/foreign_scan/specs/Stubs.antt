@@ -1,12 +1,9 @@
 -- The fragments of a stub, by the edges of its instruction.
-use Rattle.std.specs.Prelude.{◌≡◌, ℕ, ℤ, ◌+◌, List, []}
-use Rattle.scale_base.specs.Arith.{plus, moved_by}
-use Rattle.scale_base.specs.Image.{Image}
-use Rattle.foreign_scan.specs.Form.{IsRunOut}
+use Rattle.std.specs.Prelude.{◌≡◌, List, []}
 use Rattle.scale_base.specs.declared.instruction.Instr.{Instr}
 use Rattle.scale_base.specs.declared.instruction.Instr.TheVariants as instr
 use Rattle.cost_theory.specs.declared.edges.EdgeKind.{EdgeKind}
-use Rattle.cost_theory.specs.declared.edges.EdgeKind.TheVariants.{Taken, Untaken, Jump, Next, CallNext, End}
+use Rattle.cost_theory.specs.declared.edges.EdgeKind.TheVariants.{Taken, Untaken, Jump}
 use Rattle.foreign_scan.specs.declared.fragment.ForeignFragment.{ForeignFragment}
 use Rattle.foreign_scan.specs.declared.stub.StubFragments.{StubFragments}
 use Rattle.foreign_scan.specs.declared.stub.StubFragments.TheVariants as stub
@@ -23,8 +20,3 @@ abbrev pub AreSameOn : Instr → (found others : EdgeKind → List ForeignFragme
 AreSameOn (instr.Branch op rs1 rs2 offset) found others = (found Untaken ≡ others Untaken) × (found Taken ≡ others Taken)
 AreSameOn (instr.Jal rd offset) found others = found Jump ≡ others Jump
 AreSameOn i found others = Unit {0}
-
--- the run-outs of a branch at v to an address, where its stub begins with the branch of an offset
-pub record AreOfFork (image : Image) (v stub to : ℕ) (offset : ℤ) (untaken taken : List ForeignFragment) : Type 0 where
-  pub passed : IsRunOut image (stub + 4) (plus v 4) untaken
-  pub gone : IsRunOut image (moved_by stub offset) to taken

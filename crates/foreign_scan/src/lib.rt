@@ -14,4 +14,7 @@ pub use fragment::{ForeignFragment, Why};
 pub use key::{KeyCode, read_key};
 pub use reading::read_fragment;
 pub use run_out::read_run_out;
-pub use stub::StubFragments;
+pub use stub::{StubFragments, read_stub};
+
+#[cfg(test)]
+mod tests;

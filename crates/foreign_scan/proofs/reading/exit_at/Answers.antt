@@ -1,4 +1,4 @@
-use Rattle.std.proofs.Common.{◌≡◌, ◌<◌, ◌≤◌, Some, None, ℕ, arith}
+use Rattle.std.proofs.Common.{◌≡◌, arith}
 use Rattle.foreign_scan.proofs.ReadLaws.{same_some}
 use Rattle.foreign_scan.proofs.reading.exit_at.Goals as goal
 

@@ -1,4 +1,4 @@
-use Rattle.std.proofs.Common.{◌≡◌, ◌↔◌, ◌+◌, ◌*◌, Some, get_or, arith, rules, refl}
+use Rattle.std.proofs.Common.{refl}
 use Rattle.foreign_scan.proofs.HoldLaws.{hold_at, hold_more, hold_all}
 use Rattle.foreign_scan.proofs.reading.holds.Goals as goal
 

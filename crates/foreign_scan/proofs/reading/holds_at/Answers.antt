@@ -1,4 +1,4 @@
-use Rattle.std.proofs.Common.{◌≡◌, ◌∙◌, Some, sym, refl}
+use Rattle.std.proofs.Common.{◌∙◌, sym, refl}
 use Rattle.scale_base.specs.Image.{loaded_byte}
 use Rattle.scale_base.specs.Reading.{instr_of}
 use Rattle.scale_base.specs.State.{word_at}

@@ -1,4 +1,4 @@
-use Rattle.std.proofs.Common.{◌≡◌, ◌↔◌, ◌∙◌, ◌^◌, ◌<◌, Some, sym, refl, ap, arith, rules}
+use Rattle.std.proofs.Common.{◌∙◌, Some, sym, ap, arith}
 use Rattle.std.proofs.lemmas.Bool.{eqb-true, eq-eqb}
 use Rattle.scale_base.proofs.WordLaws.{word_reads}
 use Rattle.foreign_scan.proofs.ReadLaws.{same_some}

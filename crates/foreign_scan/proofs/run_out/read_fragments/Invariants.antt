@@ -1,4 +1,3 @@
-use Rattle.std.proofs.Common.{ℕ}
 use Rattle.foreign_scan.proofs.RunOutLaws.{AreRead}
 use Rattle.foreign_scan.proofs.run_out.read_fragments.Given as goal
 

@@ -1,4 +1,4 @@
-use Rattle.std.proofs.Common.{◌≡◌, ◌∙◌, Some, sym, refl}
+use Rattle.std.proofs.Common.{◌∙◌, sym}
 use Rattle.scale_base.specs.Image.{loaded_byte}
 use Rattle.scale_base.specs.State.{word_at}
 use Rattle.foreign_scan.proofs.KeyLaws.{instr_there, word_of_instr}
