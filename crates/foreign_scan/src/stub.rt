@@ -1,0 +1,138 @@
+//! The stub of one instruction.
+
+ghost use Rattle.std.specs.Prelude.{◌≡◌, ◌↔◌, ◌+◌, ◌<◌, ◌^◌, ℕ, ℤ, List, IfOk, IfSome, IfNone, Some};
+ghost use Rattle.cost_theory.specs.declared.edges.EdgeKind.{EdgeKind};
+ghost use Rattle.scale_base.specs.Arith.{moved_by};
+ghost use Rattle.foreign_scan.specs.declared.fragment.ForeignFragment.{ForeignFragment};
+ghost use Rattle.foreign_scan.specs.Form.{HoldsAt, IsStub};
+ghost use Rattle.foreign_scan.specs.Stubs.{fragments_of, AreSameOn};
+
+use crate::fragment::ForeignFragment;
+use crate::key::KeyCode;
+use crate::parts;
+use crate::reading::holds_at;
+use crate::run_out::read_run_out;
+use scale_base::{BranchOp, Instr, NoMemory};
+use std::alloc::Global;
+
+/// The fragments that a stub holds for each edge of its instruction, in their order.
+#[derive(Drop)]
+pub enum StubFragments {
+    /// Those of a branch, for its edge that is not taken and for the one that is taken.
+    Branch {
+        untaken: Vec<ForeignFragment>,
+        taken: Vec<ForeignFragment>,
+    },
+    /// Those of a jump.
+    Jump {
+        fragments: Vec<ForeignFragment>,
+    },
+}
+
+/// The address plus a signed number.
+fn moved(at: u32, offset: i32) -> u32
+    ensures { result ≡ moved_by at offset }
+{
+    at.wrapping_add(offset.cast_unsigned())
+}
+
+fn branch(op: BranchOp, rs1: u8, rs2: u8, offset: i32) -> Instr
+    ensures { result ≡ Instr.Branch op rs1 rs2 offset }
+{
+    Instr::Branch {
+        op,
+        rs1,
+        rs2,
+        offset,
+    }
+}
+
+/// The offset of a branch at an address that compares the same registers in the same way.
+fn branch_again(key: &KeyCode<'_>, at: u64, op: BranchOp, rs1: u8, rs2: u8) -> Option<i32>
+    ensures { (offset : ℤ) → (result ≡ Some offset) ↔ HoldsAt key.now at (Instr.Branch op rs1 rs2 offset) }
+{
+    match parts::branch_offset(key.instr(at)) {
+        Some(offset) => {
+            if holds_at(key, at, &branch(op, rs1, rs2, offset)) {
+                Some(offset)
+            } else {
+                None
+            }
+        }
+        None => None,
+    }
+}
+
+/// The stub of a branch.
+fn read_fork(
+    alloc: Global,
+    key: &KeyCode<'_>,
+    at: u32,
+    stub: u32,
+    op: BranchOp,
+    rs1: u8,
+    rs2: u8,
+    offset: i32,
+) -> Result<Option<StubFragments>, NoMemory>
+    ensures found { IfOk result (λ found. IfSome found (λ s. IsStub key.now at stub (Instr.Branch op rs1 rs2 offset) (fragments_of s))) }
+    ensures only { IfOk result (λ found. IfSome found (λ s. (others : EdgeKind → List ForeignFragment) → IsStub key.now at stub (Instr.Branch op rs1 rs2 offset) others → AreSameOn (Instr.Branch op rs1 rs2 offset) others (fragments_of s))) }
+    ensures none { IfOk result (λ found. IfNone found ((others : EdgeKind → List ForeignFragment) → IsStub key.now at stub (Instr.Branch op rs1 rs2 offset) others → ⊥)) }
+{
+    let again = match branch_again(key, u64::from(stub), op, rs1, rs2) {
+        Some(again) => again,
+        None => return Ok(None),
+    };
+    let untaken = match read_run_out(alloc, key, u64::from(stub) + 4, at.wrapping_add(4))? {
+        Some(untaken) => untaken,
+        None => return Ok(None),
+    };
+    match read_run_out(alloc, key, u64::from(moved(stub, again)), moved(at, offset))? {
+        Some(taken) => Ok(Some(StubFragments::Branch { untaken, taken })),
+        None => Ok(None),
+    }
+}
+
+/// The stub of a jump.
+fn read_jump(
+    alloc: Global,
+    key: &KeyCode<'_>,
+    at: u32,
+    stub: u32,
+    rd: u8,
+    offset: i32,
+) -> Result<Option<StubFragments>, NoMemory>
+    ensures found { IfOk result (λ found. IfSome found (λ s. IsStub key.now at stub (Instr.Jal rd offset) (fragments_of s))) }
+    ensures only { IfOk result (λ found. IfSome found (λ s. (others : EdgeKind → List ForeignFragment) → IsStub key.now at stub (Instr.Jal rd offset) others → AreSameOn (Instr.Jal rd offset) others (fragments_of s))) }
+    ensures none { IfOk result (λ found. IfNone found ((others : EdgeKind → List ForeignFragment) → IsStub key.now at stub (Instr.Jal rd offset) others → ⊥)) }
+{
+    match read_run_out(alloc, key, u64::from(stub), moved(at, offset))? {
+        Some(fragments) => Ok(Some(StubFragments::Jump { fragments })),
+        None => Ok(None),
+    }
+}
+
+/// The fragments of the stub that stands at an address, in the form of a stub of the instruction at another one. The stub of a branch begins with the same
+/// branch to an address of the keyed segment; behind it stands the run-out of the edge that is not taken, and at that address the one of the edge that is taken.
+/// The stub of a JAL is the run-out of its edge. None exactly where no such stub stands there, as for each other instruction. Err only for want of memory.
+pub fn read_stub(
+    alloc: Global,
+    key: &KeyCode<'_>,
+    at: u32,
+    stub: u32,
+    instr: &Instr,
+) -> Result<Option<StubFragments>, NoMemory>
+    ensures found { IfOk result (λ found. IfSome found (λ s. IsStub key.now at stub instr.now (fragments_of s))) }
+    ensures only { IfOk result (λ found. IfSome found (λ s. (others : EdgeKind → List ForeignFragment) → IsStub key.now at stub instr.now others → AreSameOn instr.now others (fragments_of s))) }
+    ensures none { IfOk result (λ found. IfNone found ((others : EdgeKind → List ForeignFragment) → IsStub key.now at stub instr.now others → ⊥)) }
+{
+    match *instr {
+        Instr::Branch {
+            op,
+            rs1,
+            rs2,
+            offset,
+        } => read_fork(alloc, key, at, stub, op, rs1, rs2, offset),
+        Instr::Jal { rd, offset } => read_jump(alloc, key, at, stub, rd, offset),
+        _ => Ok(None),
+    }
+}
