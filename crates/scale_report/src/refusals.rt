@@ -61,6 +61,16 @@ impl fmt::Display for RefusalWords<'_> {
             Refusal::StubOutOfReach(at) => write!(f, "44 stub out of reach at {}", Address(*at)),
             Refusal::TooLarge(name) => write!(f, "50 too large: {}", name.text()),
             Refusal::NotYet(at) => write!(f, "60 not yet at {}", Address(*at)),
+            Refusal::JumpText => write!(f, "61 jump file text"),
+            Refusal::JumpKey(no, name) => write!(f, "62 jump {no} key {}", name.text()),
+            Refusal::JumpValue(no, name) => write!(f, "63 jump {no} value {}", name.text()),
+            Refusal::BadJump(at) => write!(f, "64 bad jump at {}", Address(*at)),
+            Refusal::NoRoom(number) => write!(f, "65 no room: refusal {number}"),
+            Refusal::LowerOutOfReach(at) => write!(
+                f,
+                "66 lowered jump out of reach at {}",
+                Address(*at)
+            ),
         }
     }
 }
