@@ -8,4 +8,6 @@ mod targets;
 mod tests;
 mod words;
 
+pub use instructions::{instr_at, moved};
+pub use targets::targets_of;
 pub use words::{TextWords, read_words};

@@ -1,9 +1,6 @@
--- The loops and the numbers as lists, as the values of types see them.
+-- The loops as lists, as the values of types see them.
 use Rattle.std.specs.Prelude.{ℕ, zero, suc, Bool, true, false, List, [], ◌∷◌, length, slice_index, nat_eq, Option}
 use Rattle.cost_theory.specs.Graph.{Loops}
-use Rattle.cost_theory.specs.Worst.{Numbers, AreNumbers}
-use Rattle.cost_theory.specs.declared.edges.Word.{Word}
-use Rattle.cost_theory.specs.Reached.{Code, number_beside, graph_of}
 
 -- by number of the loop: its header, its bound, and the addresses of its body. That it has to turn is not told here.
 pub record Tree : Type 0 where
@@ -32,26 +29,3 @@ loops_of tree = record {
   least_trips = λ k. 0;
   inside = λ k v. is_among v (body_of tree.bodies k);
 }
-
--- worst and context by number of the function, iteration by number of the loop, left by number of the node
-pub record Tables : Type 0 where
-  pub worst : List ℕ
-  pub iteration : List ℕ
-  pub left : List ℕ
-  pub context : List ℕ
-
--- as functions, with tables of the plain and closing paths beside them
-abbrev pub numbers_of : Code → Tables → (ℕ → ℕ) → (ℕ → ℕ → Option ℕ) → Numbers
-numbers_of code tables plain closing = record {
-  worst = λ f. slice_index tables.worst f;
-  iteration = λ k. slice_index tables.iteration k;
-  plain = plain;
-  closing = closing;
-  left = λ v. number_beside code.nodes tables.left v;
-  context = λ f. slice_index tables.context f;
-}
-
--- the tables hold the numbers of a program under weights, which a list gives by edge
-abbrev pub AreTables : (ℕ → Word) → Code → Tree → List ℕ → Tables → Type 0
-AreTables word code tree weights tables = (plain : ℕ → ℕ) × (closing : ℕ → ℕ → Option ℕ) ×
-    AreNumbers (graph_of word code) (loops_of tree) (λ e. slice_index weights e) (numbers_of code tables plain closing)

@@ -140,7 +140,7 @@ unfolding stem_of
 named_key name strings table k e =
     let parts = both_true (is_defined table k) (stands_at name strings (word_at table (16 * k))) e in
     let stands = both_true _ (starts_with nat_eq (drop (word_at table (16 * k)) strings) (name ++ 0 ∷ [])) parts.1 in
-    (parts.0, eq-eqb _ _ (text_stem _ 64 (drop (word_at table (16 * k)) strings) name stands.1))
+    (parts.0, eq-eqb _ _ (text_stem _ 4096 (drop (word_at table (16 * k)) strings) name stands.1))
 
 -- ---- what a look-up finds
 

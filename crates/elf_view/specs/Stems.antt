@@ -15,9 +15,9 @@ abbrev pub stem_from : ℕ → List ℕ → ℕ
 stem_from stem [] = stem
 stem_from stem (byte ∷ bytes) = if byte == 0 then stem else stem_from (mixed stem byte) bytes
 
--- the stem of the bytes before the first 0, at most 64 of them
+-- the stem of the bytes before the first 0, at most 4096 of them
 unfoldable pub stem_of : List ℕ → ℕ
-stem_of text = stem_from 14695981039346656037 (take 64 text)
+stem_of text = stem_from 14695981039346656037 (take 4096 text)
 
 -- the section of entry k of a symbol table (st_shndx) isn't 0
 abbrev pub is_defined : List ℕ → ℕ → Bool

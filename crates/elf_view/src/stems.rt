@@ -17,7 +17,7 @@ const FNV_BASIS: u64 = 0xCBF2_9CE4_8422_2325;
 const FNV_PRIME: u64 = 0x0000_0100_0000_01B3;
 
 // A stem takes no more bytes of a name, so that many symbols with one long name cost little.
-const MOST_BYTES: usize = 64;
+const MOST_BYTES: usize = 4096;
 
 /// The stem of a symbol's name, and the symbol's number in its table.
 #[derive(Clone, Copy, Drop)]
@@ -48,7 +48,7 @@ fn stem_from(basis: u64, bytes: &[u8]) -> u64
 
 /// The first bytes of a text: those that a stem may take.
 fn first_bytes(text: &[u8]) -> &[u8]
-    ensures { result.now ≡ take 64 text.now }
+    ensures { result.now ≡ take 4096 text.now }
 {
     if text.len() > MOST_BYTES {
         return &text[..MOST_BYTES];

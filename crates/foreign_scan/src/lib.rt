@@ -2,7 +2,6 @@
 //! image is written.
 #![tactic(auto)]
 
-mod codes;
 mod fragment;
 mod key;
 mod parts;

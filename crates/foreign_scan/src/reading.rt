@@ -10,7 +10,6 @@ ghost use Rattle.stub_writer.specs.Fragments.{IsShadow};
 ghost use Rattle.foreign_scan.specs.Form.{HoldsAt, Hold, IsForeign, foreign_code, foreign_len};
 ghost use Rattle.foreign_scan.specs.KeyWords.{StandsAt};
 
-use crate::codes::{count_code, exit_code, reset_code, switch_code};
 use crate::fragment::ForeignFragment;
 use crate::key::KeyCode;
 use crate::parts;

@@ -111,6 +111,18 @@ pub enum Refusal {
     StubOutOfReach(u32),
     /// A loaded file is longer than its limit.
     TooLarge(Name),
+    /// The jump file isn't a TOML document.
+    JumpText,
+    /// A key of the jump file is missing or unknown: the jump, 0 for the file itself, and the key.
+    JumpKey(u32, Name),
+    /// A value of the jump file has another form: the jump, 0 for the file itself, and the key.
+    JumpValue(u32, Name),
+    /// A listed jump can't be lowered: the least address of one.
+    BadJump(u32),
+    /// The lowered file would be no image: the number of the refusal.
+    NoRoom(u32),
+    /// A jump to or from a listed jump's tree is too far: the address of the listed jump.
+    LowerOutOfReach(u32),
 }
 
 impl From<Refusal> for Stop {

@@ -117,6 +117,12 @@ refusal_words (refusal.Uncountable k a) = codes "42 loop " ++ decimal k ++ codes
 refusal_words (refusal.TooManyCounters n) = codes "43 too many counters: " ++ decimal n
 refusal_words (refusal.StubOutOfReach a) = codes "44 stub out of reach at " ++ address a
 refusal_words (refusal.TooLarge name) = codes "50 too large: " ++ name
+refusal_words refusal.JumpText = codes "61 jump file text"
+refusal_words (refusal.JumpKey k name) = codes "62 jump " ++ decimal k ++ codes " key " ++ name
+refusal_words (refusal.JumpValue k name) = codes "63 jump " ++ decimal k ++ codes " value " ++ name
+refusal_words (refusal.BadJump a) = codes "64 bad jump at " ++ address a
+refusal_words (refusal.NoRoom n) = codes "65 no room: refusal " ++ decimal n
+refusal_words (refusal.LowerOutOfReach a) = codes "66 lowered jump out of reach at " ++ address a
 
 -- the line of a refusal
 abbrev pub refusal_text : Refusal → List ℕ

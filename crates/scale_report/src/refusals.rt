@@ -60,6 +60,16 @@ impl fmt::Display for RefusalWords<'_> {
             Refusal::TooManyCounters(count) => write!(f, "43 too many counters: {count}"),
             Refusal::StubOutOfReach(at) => write!(f, "44 stub out of reach at {}", Address(*at)),
             Refusal::TooLarge(name) => write!(f, "50 too large: {}", name.text()),
+            Refusal::JumpText => write!(f, "61 jump file text"),
+            Refusal::JumpKey(no, name) => write!(f, "62 jump {no} key {}", name.text()),
+            Refusal::JumpValue(no, name) => write!(f, "63 jump {no} value {}", name.text()),
+            Refusal::BadJump(at) => write!(f, "64 bad jump at {}", Address(*at)),
+            Refusal::NoRoom(number) => write!(f, "65 no room: refusal {number}"),
+            Refusal::LowerOutOfReach(at) => write!(
+                f,
+                "66 lowered jump out of reach at {}",
+                Address(*at)
+            ),
         }
     }
 }

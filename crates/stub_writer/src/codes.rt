@@ -1,17 +1,20 @@
-ghost use Rattle.std.specs.Prelude.{◌≡◌, ℕ, ◌++◌, ◌%◌, ◌^◌, ◌<◌, ◌≤◌, map, OnOk};
-ghost use Rattle.std.specs.List.{flat_map};
+//! The instructions of each fragment, t0 being x5 and t1 x6 (RISC-V ABIs Specification, integer registers).
+
+ghost use Rattle.std.specs.Prelude.{◌≡◌, ◌++◌, ◌<◌, OnOk};
 ghost use Rattle.stub_writer.specs.Fragments as fragments;
 ghost use Rattle.stub_writer.specs.Stubs as stubs;
 
 use crate::words::{address, push_code};
 use scale_base::{Fragment, ImmOp, Instr, LoadOp, NoMemory, RegOp, StoreOp};
 
-const T0: u8 = 5;
+const X5: u8 = 5;
 
-const T1: u8 = 6;
+const X6: u8 = 6;
 
+/// The window's word of the speed port.
 const PORT: u16 = 511;
 
+/// Where the window's word lies, seen from x0, in bytes.
 fn slot(k: u16) -> i32
     requires { k < 512 }
     ensures { result ≡ fragments.slot k }
@@ -43,6 +46,17 @@ fn lw(r: u8, k: u16) -> Instr
     }
 }
 
+fn immediate(op: ImmOp, r: u8, imm: i32) -> Instr
+    ensures { result ≡ Instr.Imm op r r imm }
+{
+    Instr::Imm {
+        op,
+        rd: r,
+        rs1: r,
+        imm,
+    }
+}
+
 fn hi(c: u32) -> u32
     ensures { result ≡ fragments.hi c }
 {
@@ -56,136 +70,96 @@ fn lo(c: u32) -> i32
     if low < 2048 { low } else { low - 4096 }
 }
 
-fn push_switch(out: &mut Vec<u8>, word: u32) -> Result<(), NoMemory>
-    ensures { OnOk result (out.new.items ≡ out.old.items ++ stubs.code_bytes (fragments.switch_code word)) }
+/// The code of a Switch by its word.
+pub fn switch_code(word: u32) -> [Instr; 11]
+    ensures { result ≡ fragments.switch_code word }
 {
-    let code = [
-        sw(T0, 0),
-        sw(T1, 1),
-        lw(T0, PORT),
-        Instr::Imm {
-            op: ImmOp::Slli,
-            rd: T0,
-            rs1: T0,
-            imm: 2,
-        },
+    [
+        sw(X5, 0),
+        sw(X6, 1),
+        lw(X5, PORT),
+        immediate(ImmOp::Slli, X5, 2),
         Instr::Lui {
-            rd: T1,
+            rd: X6,
             imm: hi(word),
         },
-        Instr::Imm {
-            op: ImmOp::Addi,
-            rd: T1,
-            rs1: T1,
-            imm: lo(word),
-        },
+        immediate(ImmOp::Addi, X6, lo(word)),
         Instr::Reg {
             op: RegOp::Srl,
-            rd: T1,
-            rs1: T1,
-            rs2: T0,
+            rd: X6,
+            rs1: X6,
+            rs2: X5,
         },
-        Instr::Imm {
-            op: ImmOp::Andi,
-            rd: T1,
-            rs1: T1,
-            imm: 15,
-        },
-        sw(T1, PORT),
-        lw(T1, 1),
-        lw(T0, 0),
-    ];
-    push_code(out, &code)
+        immediate(ImmOp::Andi, X6, 15),
+        sw(X6, PORT),
+        lw(X6, 1),
+        lw(X5, 0),
+    ]
 }
 
-fn push_exit(out: &mut Vec<u8>, counter: u16, shift: u8, table: u32) -> Result<(), NoMemory>
-    requires counter { fragments.IsShadow counter }
-    requires shift { shift < 32 }
-    ensures { OnOk result (out.new.items ≡ out.old.items ++ stubs.code_bytes (fragments.exit_code counter shift table)) }
+/// The code of an Exit, of which the rows stand at `table`.
+pub fn exit_code(counter: u16, shift: u8, table: u32) -> [Instr; 16]
+    requires { counter < 512 }
+    ensures { result ≡ fragments.exit_code counter shift table }
 {
-    let code = [
-        sw(T0, 0),
-        sw(T1, 1),
-        lw(T0, counter),
-        Instr::Imm {
-            op: ImmOp::Srli,
-            rd: T0,
-            rs1: T0,
-            imm: shift as i32,
-        },
-        Instr::Imm {
-            op: ImmOp::Slli,
-            rd: T0,
-            rs1: T0,
-            imm: 2,
-        },
+    [
+        sw(X5, 0),
+        sw(X6, 1),
+        lw(X5, counter),
+        immediate(ImmOp::Srli, X5, shift as i32),
+        immediate(ImmOp::Slli, X5, 2),
         Instr::Lui {
-            rd: T1,
+            rd: X6,
             imm: hi(table),
         },
         Instr::Reg {
             op: RegOp::Add,
-            rd: T0,
-            rs1: T0,
-            rs2: T1,
+            rd: X5,
+            rs1: X5,
+            rs2: X6,
         },
         Instr::Load {
             op: LoadOp::Lw,
-            rd: T1,
-            rs1: T0,
+            rd: X6,
+            rs1: X5,
             offset: lo(table),
         },
-        lw(T0, PORT),
-        Instr::Imm {
-            op: ImmOp::Slli,
-            rd: T0,
-            rs1: T0,
-            imm: 2,
-        },
+        lw(X5, PORT),
+        immediate(ImmOp::Slli, X5, 2),
         Instr::Reg {
             op: RegOp::Srl,
-            rd: T1,
-            rs1: T1,
-            rs2: T0,
+            rd: X6,
+            rs1: X6,
+            rs2: X5,
         },
-        Instr::Imm {
-            op: ImmOp::Andi,
-            rd: T1,
-            rs1: T1,
-            imm: 15,
-        },
+        immediate(ImmOp::Andi, X6, 15),
         sw(0, counter),
-        sw(T1, PORT),
-        lw(T1, 1),
-        lw(T0, 0),
-    ];
-    push_code(out, &code)
+        sw(X6, PORT),
+        lw(X6, 1),
+        lw(X5, 0),
+    ]
 }
 
-fn push_count(out: &mut Vec<u8>, counter: u16) -> Result<(), NoMemory>
-    requires { fragments.IsShadow counter }
-    ensures { OnOk result (out.new.items ≡ out.old.items ++ stubs.code_bytes (fragments.count_code counter)) }
+/// The code of a Reset.
+pub fn reset_code(counter: u16) -> [Instr; 1]
+    requires { counter < 512 }
+    ensures { result ≡ fragments.reset_code counter }
 {
-    let code = [
-        sw(T0, 0),
-        lw(T0, counter),
-        Instr::Imm {
-            op: ImmOp::Addi,
-            rd: T0,
-            rs1: T0,
-            imm: 1,
-        },
-        sw(T0, counter),
-        lw(T0, 0),
-    ];
-    push_code(out, &code)
+    [sw(0, counter)]
 }
 
-fn push_reset(out: &mut Vec<u8>, counter: u16) -> Result<(), NoMemory>
-    requires { fragments.IsShadow counter }
-    ensures { OnOk result (out.new.items ≡ out.old.items ++ stubs.code_bytes (fragments.reset_code counter)) }
+/// The code of a Count.
+pub fn count_code(counter: u16) -> [Instr; 5]
+    requires { counter < 512 }
+    ensures { result ≡ fragments.count_code counter }
 {
-    push_code(out, &[sw(0, counter)])
+    [
+        sw(X5, 0),
+        lw(X5, counter),
+        immediate(ImmOp::Addi, X5, 1),
+        sw(X5, counter),
+        lw(X5, 0),
+    ]
 }
 
 /// Adds the code of a fragment, of which the rows stand at `table`.
@@ -194,9 +168,9 @@ pub fn push_fragment(out: &mut Vec<u8>, table: u64, fragment: &Fragment) -> Resu
     ensures { OnOk result (out.new.items ≡ out.old.items ++ stubs.code_bytes (fragments.fragment_code table fragment.now)) }
 {
     match fragment {
-        Fragment::Switch { word } => push_switch(out, *word),
-        Fragment::Exit { counter, shift, .. } => push_exit(out, *counter, *shift, address(table)),
-        Fragment::Reset { counter } => push_reset(out, *counter),
-        Fragment::Count { counter } => push_count(out, *counter),
+        Fragment::Switch { word } => push_code(out, &switch_code(*word)),
+        Fragment::Exit { counter, shift, .. } => push_code(out, &exit_code(*counter, *shift, address(table))),
+        Fragment::Reset { counter } => push_code(out, &reset_code(*counter)),
+        Fragment::Count { counter } => push_code(out, &count_code(*counter)),
     }
 }

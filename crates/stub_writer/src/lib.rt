@@ -9,6 +9,7 @@ mod ways;
 mod words;
 
 pub use block::{block_len, emit};
+pub use codes::{count_code, exit_code, reset_code, switch_code};
 pub use site::{EdgeList, FragmentList, StubBlock, StubEdge, StubSite};
 
 #[cfg(test)]

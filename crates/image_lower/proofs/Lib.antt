@@ -1,0 +1,9 @@
+pub mod Reach
+pub mod Rows
+pub mod TreeLaws
+pub mod TreeFields
+pub mod Follows
+pub mod Places
+pub mod Kept
+pub mod LoweringLaws
+pub mod Vectors

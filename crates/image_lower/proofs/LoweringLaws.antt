@@ -1,0 +1,127 @@
+-- What notes give, case by case.
+use Rattle.std.proofs.Common.{◌≡◌, ℕ, ◌≤◌, Bool, true, false, List, [], ◌∷◌, ◌++◌, length, Option, Some, None, Result, Ok, Err, refl, arith, ap, sym, subst, ◌∙◌}
+use Rattle.std.specs.Prelude.{if◌then◌else◌, is_some}
+use Rattle.scale_base.specs.declared.ranges.Keyed.{Keyed}
+use Rattle.scale_base.proofs.Accepted.{contents-are}
+use Rattle.jump_lists.specs.Jumps.{read_jumps}
+use Rattle.std.specs.List.{flat_map}
+use Rattle.scale_base.specs.declared.refusal.Refusal.{Refusal}
+use Rattle.scale_base.specs.declared.refusal.Refusal.TheVariants.{NoRoom, LowerOutOfReach, BadJump}
+use Rattle.scale_base.specs.declared.ranges.Patch.{Patch}
+use Rattle.scale_base.specs.Image.{Image, image_of, contents}
+use Rattle.scale_base.specs.Word.{word_of}
+use Rattle.graph_runs.specs.Text.{text_of}
+use Rattle.elf_patch.specs.Stored.{little, IsStubBase}
+use Rattle.scale_base.specs.declared.refusal.Stop.{Stop}
+use Rattle.scale_base.specs.declared.refusal.Stop.TheVariants.{Refused, Memory}
+use Rattle.scale_base.specs.Answer.{Answers, AnswersBy}
+use Rattle.elf_patch.specs.Added.{added_file}
+use Rattle.table_keys.specs.Keys.{◌>>=◌}
+use Rattle.jump_lists.specs.declared.notes.JumpNote.{JumpNote}
+use Rattle.image_lower.specs.declared.lowering.Lowered.{Lowered}
+use Rattle.image_lower.specs.FarJumps.{far_patches}
+use Rattle.image_lower.specs.Block.{ascending, out_of_reach, tree_patches, trees_code, block_len, greatest_depth, least_at, is_bad}
+use Rattle.image_lower.specs.Lowered.{refuse_at, is_full, not_full, trees_fit, lowered_file, summary, finished, lowered_at, IsLoweredImage, IsLowered, Then, no_bad_jump, unscaled}
+
+by : Bool → Result (Unit {0}) Refusal
+by b = if b then Err (NoRoom 2) else Ok tt
+
+full_first : (file : List ℕ) → is_full file ≡ true → not_full file ≡ Err (NoRoom 2)
+unfolding by
+full_first file h = ap by h
+
+full_not : (file : List ℕ) → is_full file ≡ false → not_full file ≡ Ok tt
+unfolding by
+full_not file h = ap by h
+
+pub too_far : (image : Image) (base : ℕ) (notes sorted : List JumpNote) (at : ℕ) → 1 ≤ length notes → sorted ≡ ascending notes → Some at ≡ out_of_reach image base sorted → lowered_at image base notes ≡ Err (LowerOutOfReach at)
+unfolding lowered_at
+too_far image base [] sorted at some is far = absurd (omega (arith, some))
+too_far image base (n ∷ ns) sorted at some is far =
+    ap (λ (o : Option ℕ). (refuse_at LowerOutOfReach o >>= λ _. not_full image.file) >>= λ _. finished (lowered_file image base (n ∷ ns)) (summary image (n ∷ ns)))
+        (ap (out_of_reach image base) (sym is) ∙ sym far)
+
+pub too_full : (image : Image) (base : ℕ) (notes sorted : List JumpNote) → 1 ≤ length notes → sorted ≡ ascending notes → None ≡ out_of_reach image base sorted → is_full image.file ≡ true → lowered_at image base notes ≡ Err (NoRoom 2)
+unfolding lowered_at
+too_full image base [] sorted some is far full = absurd (omega (arith, some))
+too_full image base (n ∷ ns) sorted some is far full =
+    ap (λ (o : Option ℕ). (refuse_at LowerOutOfReach o >>= λ _. not_full image.file) >>= λ _. finished (lowered_file image base (n ∷ ns)) (summary image (n ∷ ns)))
+        (ap (out_of_reach image base) (sym is) ∙ sym far)
+    ∙ ap (λ (r : Result (Unit {0}) Refusal). r >>= λ _. finished (lowered_file image base (n ∷ ns)) (summary image (n ∷ ns))) (full_first image.file full)
+
+pub made : (image : Image) (base : ℕ) (notes sorted : List JumpNote) (near : List Patch) (file : List ℕ) (counts : Lowered) → 1 ≤ length notes → sorted ≡ ascending notes → None ≡ out_of_reach image base sorted → is_full image.file ≡ false →
+    near ≡ far_patches (text_of image) notes → file ≡ added_file image.file (near ++ tree_patches image base sorted) base (flat_map (λ i. little 4 (word_of i)) (trees_code image base sorted)) → counts ≡ summary image notes →
+    lowered_at image base notes ≡ finished file counts
+unfolding lowered_at
+made image base [] sorted near file counts some is far full patches stored told = absurd (omega (arith, some))
+made image base (n ∷ ns) sorted near file counts some is far full patches stored told =
+    ap (λ (o : Option ℕ). (refuse_at LowerOutOfReach o >>= λ _. not_full image.file) >>= λ _. finished (lowered_file image base (n ∷ ns)) (summary image (n ∷ ns)))
+        (ap (out_of_reach image base) (sym is) ∙ sym far)
+    ∙ ap (λ (r : Result (Unit {0}) Refusal). r >>= λ _. finished (lowered_file image base (n ∷ ns)) (summary image (n ∷ ns))) (full_not image.file full)
+    ∙ (ap (λ (c : Lowered). finished (lowered_file image base (n ∷ ns)) c) (sym told)
+    ∙ ap (λ (f : List ℕ). finished f counts)
+        (ap (λ (ps : List Patch). added_file image.file (ps ++ tree_patches image base (ascending (n ∷ ns))) base (flat_map (λ i. little 4 (word_of i)) (trees_code image base (ascending (n ∷ ns))))) (sym patches)
+        ∙ (ap (λ (ss : List JumpNote). added_file image.file (near ++ tree_patches image base ss) base (flat_map (λ i. little 4 (word_of i)) (trees_code image base ss))) (sym is) ∙ sym stored)))
+
+counted : (pairs jumps block depth : ℕ) → Lowered
+counted pairs jumps block depth = record { pairs = pairs; jumps = jumps; block = block; depth = depth }
+
+pub told : (image : Image) (notes : List JumpNote) (near : List Patch) (len depth : ℕ) (counts : Lowered) → counts ≡ record { pairs = length near; jumps = length notes; block = len; depth = depth } →
+    near ≡ far_patches (text_of image) notes → len ≡ block_len image notes → depth ≡ greatest_depth notes → counts ≡ summary image notes
+unfolding counted
+told image notes near len depth counts is patches long deep =
+    is ∙ (ap (λ (ps : List Patch). counted (length ps) (length notes) len depth) patches
+    ∙ (ap (λ (l : ℕ). counted (length (far_patches (text_of image) notes)) (length notes) l depth) long
+    ∙ ap (λ (d : ℕ). counted (length (far_patches (text_of image) notes)) (length notes) (block_len image notes) d) deep))
+
+-- ---- at the stub base, which is the only one
+
+one_base : (image : Image) (notes : List JumpNote) (len base other : ℕ) → len ≡ block_len image notes → IsStubBase image len base → IsStubBase image (block_len image notes) other → base ≡ other
+one_base image notes len base other e place there =
+    let P : ℕ → Type 0 = λ n. IsStubBase image n base in
+    let here : IsStubBase image (block_len image notes) base = subst P e place in
+    let low = here.least other there.place in
+    let high = there.least base here.place in
+    omega (arith, low, high)
+
+pub by_base : {X : Type 0} (view : X → List ℕ × Lowered) (r : Result X Stop) (image : Image) (notes : List JumpNote) (len base : ℕ) → len ≡ block_len image notes → IsStubBase image len base → Answers view r (lowered_at image base notes) →
+    AnswersBy view r (IsLoweredImage image notes)
+by_base view (Ok x) image notes len base e place h = λ other there. sym h ∙ ap (λ (b : ℕ). lowered_at image b notes) (one_base image notes len base other e place there)
+by_base view (Err (Refused refusal)) image notes len base e place h = λ other there. sym h ∙ ap (λ (b : ℕ). lowered_at image b notes) (one_base image notes len base other e place there)
+by_base view (Err Memory) image notes len base e place h = tt
+
+-- without noted jumps it does not matter
+without_notes : (image : Image) (notes : List JumpNote) (base : ℕ) → length notes ≡ 0 → lowered_at image base notes ≡ finished (lowered_file image 0 []) (summary image [])
+unfolding lowered_at
+without_notes image [] base none = refl
+without_notes image (n ∷ ns) base none = absurd (omega (arith, none))
+
+pub by_none : {X : Type 0} (view : X → List ℕ × Lowered) (r : Result X Stop) (image : Image) (notes : List JumpNote) → length notes ≡ 0 → Answers view r (finished (lowered_file image 0 []) (summary image [])) →
+    AnswersBy view r (IsLoweredImage image notes)
+by_none view (Ok x) image notes none h = λ other there. sym h ∙ sym (without_notes image notes other none)
+by_none view (Err (Refused refusal)) image notes none h = λ other there. sym h ∙ sym (without_notes image notes other none)
+by_none view (Err Memory) image notes none h = tt
+
+-- ---- the parts before
+
+pub past_bad : {X : Type 0} (view : X → List ℕ × Lowered) (r : Result X Stop) (image : Image) (notes : List JumpNote) → None ≡ least_at (is_bad image notes) notes → AnswersBy view r (IsLoweredImage image notes) →
+    AnswersBy view r (Then (no_bad_jump image notes) (λ _. IsLoweredImage image notes))
+past_bad view r image notes none h = subst (λ (o : Option ℕ). AnswersBy view r (Then (refuse_at BadJump o) (λ _. IsLoweredImage image notes))) none h
+
+pub file_is : (file : List ℕ) (image : Image) → image_of file ≡ Ok image → image.file ≡ file
+unfolding contents
+file_is file image e = sym (ap (λ (i : Image). i.file) (contents-are file image e))
+
+pub none_of : (o : Option Keyed) → is_some o ≡ false → o ≡ None
+none_of None e = refl
+none_of (Some k) e = absurd cc
+
+pub passed : {X : Type 0} (view : X → List ℕ × Lowered) (r : Result X Stop) (image jumps : List ℕ) (notes : List JumpNote) (original : Image) → read_jumps jumps ≡ Ok notes → image_of image ≡ Ok original → original.keyed_segment ≡ None →
+    AnswersBy view r (Then (no_bad_jump original notes) (λ _. IsLoweredImage original notes)) → AnswersBy view r (IsLowered image jumps)
+unfolding IsLowered
+passed view r image jumps notes original listed read plain h =
+    let next : List JumpNote → Image → Result (List ℕ × Lowered) Refusal → Type 0 = λ ns i. Then (no_bad_jump i ns) (λ _. IsLoweredImage i ns) in
+    let k : AnswersBy view r (Then (unscaled original.keyed_segment) (λ _. next notes original)) = subst (λ (o : Option Keyed). AnswersBy view r (Then (unscaled o) (λ _. next notes original))) (sym plain) h in
+    let i : AnswersBy view r (Then (image_of image) (λ o. Then (unscaled o.keyed_segment) (λ _. next notes o))) =
+        subst (λ (x : Result Image Refusal). AnswersBy view r (Then x (λ o. Then (unscaled o.keyed_segment) (λ _. next notes o)))) (sym read) k in
+    subst (λ (x : Result (List JumpNote) Refusal). AnswersBy view r (Then x (λ ns. Then (image_of image) (λ o. Then (unscaled o.keyed_segment) (λ _. next ns o))))) (sym listed) i

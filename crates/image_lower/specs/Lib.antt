@@ -1,0 +1,6 @@
+pub mod FarJumps
+pub mod Entered
+pub mod Trees
+pub mod Block
+pub mod Lowered
+pub mod Meets

@@ -1,0 +1,199 @@
+//! Far jumps: an AUIPC, and right behind it a JALR by the same register.
+
+ghost use Rattle.std.specs.Prelude.{◌≡◌, [], ◌≤◌, ◌<◌, ◌+◌, ◌-◌, ◌%◌, ◌++◌, ◌||◌, ◌==◌, ◌&&◌, nat_le, IfOk, IfSome, Ok, length, option_map, filter_map, true, OnOk};
+ghost use Rattle.std.specs.List.{list_any, cons_option};
+ghost use Rattle.scale_base.specs.Image.{image_of, is_in, is_word_address};
+ghost use Rattle.scale_base.specs.Word.{FieldsInRange};
+ghost use Rattle.graph_runs.specs.Text as texts;
+ghost use Rattle.code_text.specs.Walk.{IsWalked, Rise};
+ghost use Rattle.code_text.specs.Table.{word_addresses, all_addresses};
+ghost use Rattle.rv_encode.specs.Jumps as jumps;
+ghost use Rattle.image_lower.specs.FarJumps as far;
+ghost use Rattle.image_lower.specs.Entered.{AreEntered};
+
+use code_text::{instr_at, moved, targets_of};
+use elf_view::ImageView;
+use jump_lists::JumpNote;
+use rv_encode::{encode, jal_fits};
+use scale_base::{Instr, NoMemory, Patch, Range};
+use std::alloc::Global;
+
+/// How far a jump goes.
+pub fn distance(from: u32, to: u32) -> i32
+    ensures { result ≡ jumps.distance from to }
+{
+    to.wrapping_sub(from).cast_signed()
+}
+
+/// Whether a JAL reaches its target.
+#[tactic(auto, using(crate::proofs::Reach::reaches_as))]
+pub fn reaches(from: u32, to: u32) -> bool
+    ensures { result ≡ far.reaches from to }
+{
+    jal_fits(from, to)
+}
+
+fn far_target(at: u32, imm: u32, offset: i32) -> u32
+    ensures { result ≡ far.far_target at imm offset }
+{
+    let to = moved(at.wrapping_add(imm), offset);
+    to - to % 2
+}
+
+#[tactic(auto, using(crate::proofs::Reach::near_fits))]
+fn near_jump(view: &ImageView<'_>, at: u32, rd: u8, to: u32) -> Option<Instr>
+    requires { rd ≤ 1 }
+    ensures jump { result ≡ far.near_jump (texts.text_of view.now) at rd to }
+    ensures fits { IfSome result FieldsInRange }
+{
+    if view.is_text_word(to) && reaches(at, to) {
+        Some(Instr::Jal {
+            rd,
+            offset: distance(at, to),
+        })
+    } else {
+        None
+    }
+}
+
+fn pair_jump(
+    view: &ImageView<'_>,
+    at: u32,
+    before: Option<Instr>,
+    here: Option<Instr>,
+) -> Option<Instr>
+    requires { 4 ≤ at }
+    ensures jump { result ≡ far.pair_jump (texts.text_of view.now) at before here }
+    ensures fits { IfSome result FieldsInRange }
+{
+    let Some(Instr::Auipc { rd: rx, imm }) = before else {
+        return None;
+    };
+    let Some(Instr::Jalr { rd, rs1, offset }) = here else {
+        return None;
+    };
+    if rx != 0 && rs1 == rx && rd <= 1 {
+        near_jump(view, at, rd, far_target(at - 4, imm, offset))
+    } else {
+        None
+    }
+}
+
+/// Whether the address is among others, which ascend.
+fn is_among(addresses: &[u32], at: u32) -> bool
+    requires { Rise addresses.now }
+    ensures { result ≡ list_any (λ u. u == at) addresses.now }
+{
+    addresses.binary_search(&at).is_ok()
+}
+
+/// The JAL that stands for the word at an address, if that is the second of a far jump.
+#[tactic(auto, unfolding(crate::specs::FarJumps::far_jump))]
+pub fn far_jump(
+    view: &ImageView<'_>,
+    notes: &[JumpNote],
+    entered: &[u32],
+    at: u32,
+    follows: bool,
+) -> Option<Instr>
+    requires image { image_of view.now.file ≡ Ok view.now }
+    requires entered { AreEntered (texts.text_of view.now) notes.now entered.now }
+    requires rising { Rise entered.now }
+    requires follows { follows ≡ texts.follows (texts.text_of view.now) at }
+    requires words { at % 4 ≡ 0 → follows ≡ true → (is_word_address view.now at ≡ true) × (is_word_address view.now (at - 4) ≡ true) × (4 ≤ at) }
+    ensures jump { result ≡ far.far_jump (texts.text_of view.now) notes.now at }
+    ensures fits { IfSome result FieldsInRange }
+{
+    if !follows || at % 4 != 0 {
+        return None;
+    }
+    if is_among(entered, at) {
+        return None;
+    }
+    pair_jump(view, at, instr_at(view, at - 4), instr_at(view, at))
+}
+
+/// The entry, the targets of the branches and JALs of the text, and those of the noted jumps, ascending.
+pub fn entered_by(
+    alloc: Global,
+    view: &ImageView<'_>,
+    notes: &[JumpNote],
+) -> Result<Vec<u32>, NoMemory>
+    ensures entered { IfOk result (λ entered. AreEntered (texts.text_of view.now) notes.now entered.items) }
+    ensures rising { IfOk result (λ entered. Rise entered.items) }
+{
+    let mut entered = targets_of(alloc, view)?;
+    for note in notes {
+        entered.extend_from_slice(note.targets.as_slice())?;
+    }
+    entered.sort()?;
+    Ok(entered)
+}
+
+/// What the word at an address of a range is replaced by.
+fn far_patch(
+    view: &ImageView<'_>,
+    notes: &[JumpNote],
+    entered: &[u32],
+    range: Range,
+    at: u32,
+) -> Option<Patch>
+    requires range { IsWalked view.now range }
+    requires aligned { at % 4 ≡ 0 }
+    requires inside { is_in at range ≡ true }
+    requires entered { AreEntered (texts.text_of view.now) notes.now entered.now }
+    requires rising { Rise entered.now }
+    ensures { result ≡ far.far_patch (texts.text_of view.now) notes.now at }
+{
+    let instr = far_jump(view, notes, entered, at, at - range.from >= 4)?;
+    let word = encode(&instr)?;
+    Some(Patch { at, word })
+}
+
+fn push_some(patches: &mut Vec<Patch>, patch: Option<Patch>) -> Result<(), NoMemory>
+    ensures { OnOk result (patches.new.items ≡ patches.old.items ++ cons_option patch []) }
+{
+    if let Some(patch) = patch {
+        patches.push(patch)?;
+    }
+    Ok(())
+}
+
+/// Adds what the words of a range are replaced by.
+fn add_far_patches(
+    patches: &mut Vec<Patch>,
+    view: &ImageView<'_>,
+    notes: &[JumpNote],
+    entered: &[u32],
+    range: Range,
+) -> Result<(), NoMemory>
+    requires range { IsWalked view.now range }
+    requires entered { AreEntered (texts.text_of view.now) notes.now entered.now }
+    requires rising { Rise entered.now }
+    ensures { IfOk result (λ _. patches.new.items ≡ patches.old.items ++ filter_map (far.far_patch (texts.text_of view.now) notes.now) (word_addresses range)) }
+{
+    for k in 0..range.to.saturating_sub(range.from) / 4 {
+        let patch = far_patch(view, notes, entered, range, range.from + 4 * k);
+        push_some(patches, patch)?;
+    }
+    Ok(())
+}
+
+/// What the second words of far jumps are replaced by.
+pub fn far_patches(
+    alloc: Global,
+    view: &ImageView<'_>,
+    notes: &[JumpNote],
+    entered: &[u32],
+) -> Result<Vec<Patch>, NoMemory>
+    requires entered { AreEntered (texts.text_of view.now) notes.now entered.now }
+    requires rising { Rise entered.now }
+    ensures { IfOk result (λ patches. patches.items ≡ far.far_patches (texts.text_of view.now) notes.now) }
+{
+    let text = view.text();
+    let mut patches = Vec::new(alloc);
+    for range in text {
+        add_far_patches(&mut patches, view, notes, entered, *range)?;
+    }
+    Ok(patches)
+}
