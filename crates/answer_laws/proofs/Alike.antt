@@ -8,7 +8,7 @@ use Rattle.cost_theory.specs.Accepted.{IsProgram, AreAccepted}
 use Rattle.cost_theory.specs.Laws.{AreSame}
 use Rattle.cost_theory.specs.Reached.{edge_to}
 use Rattle.cost_theory.proofs.OrdersExist as orders
-use Rattle.cost_theory.proofs.Unique.{same_numbers}
+use Rattle.cost_theory.proofs.Laws.{same_numbers}
 use Rattle.worst_cycles.specs.Worst.{slack_at, rest_at}
 use Rattle.code_graph.specs.FlowGraph.{FlowGraph, graph}
 use Rattle.loop_file.specs.Kept.{noted_loops}

@@ -8,12 +8,12 @@ use Rattle.cost_theory.specs.declared.edges.Edge.{Edge}
 use Rattle.cost_theory.specs.declared.edges.Word.{Word}
 use Rattle.cost_theory.specs.declared.edges.Word.TheVariants.{Branch, Goto, CallOf, Back, Ends, MayEnd, Breaks, Straight, Bad}
 use Rattle.cost_theory.specs.Reached.{edges_of, Code, number_beside, owner_of, returns_of, edge_at, edge_to, number_at, call_returns, callee_of, edge_callee, edge_returns, edge_exits, graph_of, IsCodeOf, HasNoBadWord}
-use Rattle.cost_theory.proofs.Programs.{some_get, callee-call, callee-is}
+use Rattle.cost_theory.proofs.Laws.{some_get, callee-call, callee-is}
 use Rattle.graph_runs.specs.Text.{kind_at}
 use Rattle.graph_runs.specs.EdgeCosts.{cost_of, edge_class}
 use Rattle.graph_runs.specs.RunMoves.{text_graph}
 use Rattle.code_graph.specs.FlowGraph.{graph}
-use Rattle.code_graph.proofs.Lists.{place_or_none, some_is}
+use Rattle.code_graph.proofs.Laws.{place_or_none, some_is}
 use Rattle.answer_laws.specs.Renumbered.{AreNumberedBy, IsRenumberedGraph}
 use Rattle.answer_laws.specs.Laws.{GraphsAreRenumbered, WeightsAgree}
 use Rattle.answer_laws.proofs.Numbers.{both_ways, IsThere, ascending_same, few_numbered}

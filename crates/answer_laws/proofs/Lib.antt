@@ -8,3 +8,4 @@ pub mod Trees
 pub mod SameNumbers
 pub mod Alike
 pub mod SameCharged
+pub mod Laws

@@ -6,11 +6,10 @@ use Rattle.scale_base.specs.declared.refusal.Refusal.{Refusal}
 use Rattle.scale_base.specs.declared.refusal.Refusal.TheVariants.{HeaderNotReached, SameHeader, NoBackEdge, SideEntry, TooDeep}
 use Rattle.cost_theory.specs.Graph.{Loops, sum_below, only, is_header, is_back, IsPlain}
 use Rattle.cost_theory.specs.Accepted.{IsNode, IsInBody, AreEntered, IsTooDeep, IsPlainOrder}
-use Rattle.cost_theory.proofs.Basics.{and_left, and_right, sum-same}
-use Rattle.cost_theory.proofs.Nesting.{accepted_entered}
+use Rattle.cost_theory.proofs.Laws.{and_left, and_right, sum-same, accepted_entered}
 use Rattle.cost_theory.proofs.OrdersExist as orders
 use Rattle.code_graph.specs.FlowGraph.{FlowGraph, graph, IsFlowGraph}
-use Rattle.code_graph.proofs.Lists.{less_same_more}
+use Rattle.code_graph.proofs.Laws.{less_same_more}
 use Rattle.loop_file.specs.declared.notes.LoopNote.{LoopNote}
 use Rattle.loop_file.specs.Kept.{noted_loops, in_extent, note_at}
 use Rattle.natural_loops.specs.Noted.{header_address, IsBodyNode, IsNotedSideEntry}

@@ -4,8 +4,7 @@ use Rattle.std.proofs.lemmas.Option.{slice_get-map}
 use Rattle.std.proofs.lemmas.List.{length-map}
 use Rattle.call_orders.specs.Arcs.{number_at}
 use Rattle.call_orders.specs.Cycles.{IsCycleBy}
-use Rattle.code_graph.proofs.Lists.{Ascend, some_is}
-use Rattle.code_graph.proofs.FewWords.{few_once}
+use Rattle.code_graph.proofs.Laws.{Ascend, some_is, few_once}
 
 -- tests that hold together are the same
 pub both_ways : (a b : Bool) → (a ≡ true → b ≡ true) → (b ≡ true → a ≡ true) → a ≡ b

@@ -6,16 +6,13 @@ use Rattle.cost_theory.specs.Accepted.{IsCall, IsProgram, IsCallOrder}
 use Rattle.cost_theory.specs.declared.edges.Word.TheVariants.{CallOf}
 use Rattle.cost_theory.specs.Reached.{Reached, owner_of, callee_of, HasNoBadWord, HasNoSharedCode}
 use Rattle.cost_theory.specs.Reached.Reached.{called}
-use Rattle.cost_theory.proofs.Nesting.{some_same}
+use Rattle.cost_theory.proofs.Laws.{some_same, end_edge, callee_word, callee-is, same_owner}
 use Rattle.cost_theory.proofs.OrdersExist as orders
-use Rattle.cost_theory.proofs.Programs.{end_edge, callee_word, callee-is, same_owner}
 use Rattle.graph_runs.specs.Text.{Text, kind_at}
 use Rattle.graph_runs.specs.RunMoves.{text_graph}
 use Rattle.code_graph.specs.FlowGraph.{FlowGraph, IsGraphOf}
 use Rattle.code_graph.specs.Refused.{cause_at, IsLeastRefused, IsLeastShared, Calls, IsRecursion, IsRefusedBy}
-use Rattle.code_graph.proofs.Causes.{fine_cause}
-use Rattle.code_graph.proofs.Lists.{less_same_more, some_is}
-use Rattle.code_graph.proofs.Reaching.{entry_reached}
+use Rattle.code_graph.proofs.Laws.{fine_cause, less_same_more, some_is, entry_reached}
 use Rattle.answer_laws.specs.Laws.{GraphIsNotRefused, CodeRefusalsAgree}
 use Rattle.answer_laws.specs.Alike.{AreAlikeRefusals}
 use Rattle.answer_laws.proofs.Numbers.{no_cycle}

@@ -7,11 +7,10 @@ use Rattle.cost_theory.specs.Least.{IsLeastIfAny, Least, callee_value, least_cal
 use Rattle.cost_theory.specs.Least.{Way}
 use Rattle.cost_theory.specs.Least.Way.{Exits, Returns}
 use Rattle.cost_theory.specs.LeastTurns.{IsRun, turn_step, turn_last, charge}
-use Rattle.cost_theory.proofs.Basics.{sum-same}
+use Rattle.cost_theory.proofs.Laws.{sum-same}
 use Rattle.least_laws.specs.Charged.{Charged, calls_so, calls_exit, charged_trips, charge_of, charged_cost, leads_on, ends_exit, AreCharged, end_behind, to_end_after, HasPlainReturns}
 use Rattle.least_laws.specs.Laws.{IsCharged, AreAlike}
-use Rattle.least_laws.proofs.Alike.{charged_agree}
-use Rattle.least_laws.proofs.PlainReturns.{plain_returns}
+use Rattle.least_laws.proofs.Laws.{charged_agree, plain_returns}
 use Rattle.graph_runs.specs.Text.{kind_at}
 use Rattle.code_graph.specs.FlowGraph.{graph}
 use Rattle.loop_file.specs.Kept.{noted_loops}

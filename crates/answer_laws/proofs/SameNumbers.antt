@@ -5,7 +5,7 @@ use Rattle.cost_theory.specs.Graph.{Graph, Loops, total, sum_below, only, is_rou
 use Rattle.cost_theory.specs.Worst.{IsGreatest, IsGreatestIfAny, at_some, Numbers, cost, all_of, charged, IsLeft, AreLoopNumbers, IsBoundedWalk, left_at, turn_back, slack, IsReturningCall, turns_round, context_of, IsContext, rest, AreNumbers}
 use Rattle.cost_theory.specs.Accepted.{IsProgram, AreAccepted}
 use Rattle.cost_theory.specs.Laws.{AreSame}
-use Rattle.cost_theory.proofs.Basics.{sum-same}
+use Rattle.cost_theory.proofs.Laws.{sum-same}
 use Rattle.worst_cycles.specs.Worst.{slack_at, rest_at}
 use Rattle.answer_laws.specs.Renumbered.{IsRenumberedGraph}
 use Rattle.answer_laws.proofs.SameEdges.{with_edges}

@@ -2,3 +2,4 @@ mod SearchLaws
 mod OrderLaws
 mod ChainLaws
 pub mod CycleLaws
+pub mod Laws

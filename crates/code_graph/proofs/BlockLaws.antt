@@ -6,7 +6,7 @@ use Rattle.std.proofs.lemmas.List.{get_or_past}
 use Rattle.std.proofs.lemmas.Option.{slice_get_within, slice_get-get_or, get_or_from_slice_get}
 use Rattle.scale_base.specs.declared.ranges.Range.{Range}
 use Rattle.cost_theory.specs.Accepted.{IsNode}
-use Rattle.cost_theory.proofs.Programs.{some_get}
+use Rattle.cost_theory.proofs.Laws.{some_get}
 use Rattle.code_graph.specs.FlowGraph.{FlowGraph, graph}
 use Rattle.code_graph.specs.Blocks.{IsJoined, IsInBlock, IsBlock, AreBlocks}
 use Rattle.code_graph.specs.Assembling.{AreHeads, AreUp, AreStretches, AreBlocksBy, stretch}

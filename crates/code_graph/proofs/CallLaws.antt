@@ -3,7 +3,7 @@ use Rattle.std.proofs.Common.{◌≡◌, ℕ, ◌+◌, ◌<◌, ◌≤◌, List,
 use Rattle.std.specs.Prelude.{slice_get}
 use Rattle.std.proofs.lemmas.Option.{slice_get_within, slice_get-get_or, get_or_from_slice_get}
 use Rattle.std.proofs.lemmas.Bool.{cases_lt}
-use Rattle.cost_theory.proofs.Basics.{below_suc}
+use Rattle.cost_theory.proofs.Laws.{below_suc}
 use Rattle.call_orders.specs.declared.Arc.{Arc}
 use Rattle.call_orders.specs.Arcs.{HasArc, arc_at, AreNumbered, IsCycle}
 use Rattle.code_graph.specs.Assembling.{HasCall, AreCallArcs, AreCallsWithin}

@@ -8,13 +8,12 @@ use Rattle.cost_theory.specs.declared.edges.Word.{Word}
 use Rattle.cost_theory.specs.declared.edges.Word.TheVariants.{CallOf}
 use Rattle.cost_theory.specs.Accepted.{IsCall, AreCalls, HasNoRecursion, IsProgram}
 use Rattle.cost_theory.specs.Reached.{Reached, graph_of, callee_of, owner_of, edge_at}
-use Rattle.cost_theory.proofs.Programs.{some_get, callee_word, is_program}
-use Rattle.cost_theory.proofs.Agreeing.{edge_node}
+use Rattle.cost_theory.proofs.Laws.{some_get, callee_word, is_program, edge_node}
 use Rattle.call_orders.specs.declared.Arc.{Arc}
 use Rattle.call_orders.specs.Arcs.{HasArc, HasNoCycle, Leads, AreDistinct, IsSorted, IsCycle}
 use Rattle.call_orders.specs.Arcs.Leads.{along, onward}
 use Rattle.call_orders.specs.Cycles.{IsCycleBy}
-use Rattle.call_orders.proofs.CycleLaws.{IsRound, cycle_turned}
+use Rattle.call_orders.proofs.Laws.{IsRound, cycle_turned}
 use Rattle.graph_runs.specs.Text.{Text, kind_at}
 use Rattle.code_reach.specs.Reach.{Reach}
 use Rattle.code_graph.specs.FlowGraph.{AreCalleesFirst}

@@ -11,8 +11,7 @@ use Rattle.cost_theory.specs.declared.edges.Word.TheVariants.{Bad}
 use Rattle.graph_runs.specs.Text.{Text, text_of, in_text, instr_at, kind_at, word_kind, jal_kind, ecall_kind, known}
 use Rattle.scale_base.specs.Image.{Image, image_of, is_in, is_word_address, text_word}
 use Rattle.scale_base.specs.Reading.{instr_of}
-use Rattle.graph_runs.proofs.MoveLaws.{kind_facts}
-use Rattle.graph_runs.proofs.StoredWords.{instruction_stored}
+use Rattle.graph_runs.proofs.Laws.{kind_facts, instruction_stored}
 use Rattle.code_graph.specs.Refused.{cause_at, instr_cause}
 
 both : (a b : Bool) → a ≡ true → b ≡ true → (a && b) ≡ true

@@ -12,9 +12,7 @@ use Rattle.cost_theory.specs.declared.edges.EdgeKind.TheVariants.{Taken, Untaken
 use Rattle.cost_theory.specs.declared.edges.Word.{Word}
 use Rattle.cost_theory.specs.declared.edges.Word.TheVariants.{Branch, Goto, CallOf, Back, Ends, MayEnd, Breaks, Straight, Bad}
 use Rattle.cost_theory.specs.Reached.{edge_at, edges_of}
-use Rattle.cost_theory.proofs.Basics.{below_suc}
-use Rattle.cost_theory.proofs.Programs.{some_get}
-use Rattle.cost_theory.proofs.Reaching.{Within, edges-at}
+use Rattle.cost_theory.proofs.Laws.{below_suc, some_get, Within, edges-at}
 use Rattle.code_graph.specs.Assembling.{flag_at, AreEdgesOf}
 use Rattle.code_graph.specs.Stored.{AreFirsts}
 use Rattle.code_graph.proofs.Lists.{get_left, get_end, get_more, length_pushed}

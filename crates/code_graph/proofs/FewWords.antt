@@ -13,11 +13,10 @@ use Rattle.scale_base.specs.declared.refusal.Refusal.TheVariants.{BadText}
 use Rattle.scale_base.specs.Rules.{AllHold}
 use Rattle.scale_base.specs.Spans.{each_pair}
 use Rattle.scale_base.specs.Image.{Image, image_of, contents, text_ranges, text_parts, loaded_headers, range_of, is_text_place, are_apart, keeps_text_rules, part_rules, start_of, text_rules, write_rules, all_text_rules, ranges_of, insert_range, ascending}
-use Rattle.scale_base.proofs.Accepted.{rule_kept, kept-split, rules_kept, contents-are}
-use Rattle.scale_base.proofs.Fronts.{rules_of, whole_kept}
-use Rattle.cost_theory.proofs.Reaching.{within_get}
+use Rattle.scale_base.proofs.Laws.{rule_kept, kept-split, rules_kept, contents-are, rules_of, whole_kept}
+use Rattle.cost_theory.proofs.Laws.{within_get}
 use Rattle.code_text.specs.Table.{word_addresses, all_addresses}
-use Rattle.code_reach.proofs.Places.{any_within}
+use Rattle.code_reach.proofs.Laws.{any_within}
 use Rattle.code_graph.proofs.Lists.{Once, once_tail, once_head}
 
 -- ---- numbers that come once

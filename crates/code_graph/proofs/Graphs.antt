@@ -7,7 +7,7 @@ use Rattle.cost_theory.specs.declared.edges.Word.{Word}
 use Rattle.cost_theory.specs.declared.edges.Edge.{Edge}
 use Rattle.cost_theory.specs.Accepted.{IsNode}
 use Rattle.cost_theory.specs.Reached.{edge_at, edge_to, edge_callee, callee_of, owner_of}
-use Rattle.cost_theory.proofs.Programs.{callee_word}
+use Rattle.cost_theory.proofs.Laws.{callee_word}
 use Rattle.code_text.specs.Walk.{RiseStrictly}
 use Rattle.code_graph.specs.FlowGraph.{FlowGraph, graph, word_beside, IsFlowGraph}
 use Rattle.code_graph.specs.Stored.{IsStored}

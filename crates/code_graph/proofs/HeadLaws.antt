@@ -9,7 +9,7 @@ use Rattle.cost_theory.specs.declared.edges.EdgeKind.TheVariants.{Taken, Untaken
 use Rattle.cost_theory.specs.Graph.{Graph, IsWalk, end_of}
 use Rattle.cost_theory.specs.Accepted.{IsNode}
 use Rattle.cost_theory.specs.Reached.{edge_at, edge_to, number_at, place_after}
-use Rattle.cost_theory.proofs.Programs.{some_get}
+use Rattle.cost_theory.proofs.Laws.{some_get}
 use Rattle.code_graph.specs.FlowGraph.{FlowGraph, graph, IsFlowGraph}
 use Rattle.code_graph.specs.Stored.{AreFirsts}
 use Rattle.code_graph.specs.Blocks.{IsJoined}

@@ -13,3 +13,4 @@ pub mod Calls
 pub mod FewWords
 pub mod Whole
 pub mod WeightLists
+pub mod Laws

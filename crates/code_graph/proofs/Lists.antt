@@ -5,8 +5,7 @@ use Rattle.std.proofs.lemmas.Bool.{cases_eq}
 use Rattle.std.proofs.lemmas.Option.{slice_get_within, slice_get-get_or, get_or_from_slice_get}
 use Rattle.cost_theory.specs.declared.edges.Word.{Word}
 use Rattle.cost_theory.specs.Reached.{number_beside, flag_beside, if_true}
-use Rattle.cost_theory.proofs.Programs.{some_get}
-use Rattle.cost_theory.proofs.Reaching.{Within, get_within}
+use Rattle.cost_theory.proofs.Laws.{some_get, Within, get_within}
 use Rattle.std.proofs.lemmas.List.{take_more, map-append}
 use Rattle.code_text.specs.Walk.{RiseStrictly}
 use Rattle.code_graph.specs.FlowGraph.{word_beside}

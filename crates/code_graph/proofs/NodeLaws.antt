@@ -7,8 +7,7 @@ use Rattle.cost_theory.specs.Graph.{find_below}
 use Rattle.cost_theory.specs.declared.edges.Word.{Word}
 use Rattle.cost_theory.specs.declared.edges.Word.TheVariants.{CallOf}
 use Rattle.cost_theory.specs.Reached.{callee_of, number_at}
-use Rattle.cost_theory.proofs.Basics.{below_suc, find-holds, find-some, some_value}
-use Rattle.cost_theory.proofs.Programs.{some_get}
+use Rattle.cost_theory.proofs.Laws.{below_suc, find-holds, find-some, some_value, some_get}
 use Rattle.flow_passes.specs.declared.marks.Mark.{Mark}
 use Rattle.flow_passes.specs.declared.marks.Mark.TheVariants.{Unreached, Owner}
 use Rattle.graph_runs.specs.Text.{Text}

@@ -10,7 +10,7 @@ use Rattle.cost_theory.specs.declared.edges.Word.{Word}
 use Rattle.cost_theory.specs.declared.edges.Word.TheVariants.{Branch, Goto, CallOf, Back, Ends, MayEnd, Breaks, Straight, Bad}
 use Rattle.cost_theory.specs.Reached.{Reached, DoesReturn, IsCodeOf, HasNoBadWord, HasNoSharedCode, edges_of, callee_of, call_returns, flag_beside, owner_of, number_at}
 use Rattle.cost_theory.specs.Reached.Reached.{main}
-use Rattle.cost_theory.proofs.Programs.{some_get, callee-call}
+use Rattle.cost_theory.proofs.Laws.{some_get, callee-call}
 use Rattle.flow_passes.specs.declared.marks.Mark.{Mark}
 use Rattle.flow_passes.specs.declared.marks.Mark.TheVariants.{Unreached, Owner, Shared}
 use Rattle.graph_runs.specs.Text.{Text, kind_at}

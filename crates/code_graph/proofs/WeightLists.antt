@@ -10,7 +10,7 @@ use Rattle.cost_theory.specs.Accepted.{AreWeights}
 use Rattle.graph_runs.specs.Text.{Text}
 use Rattle.graph_runs.specs.EdgeCosts.{edge_class, cost_of, weights}
 use Rattle.graph_runs.specs.RunMoves.{text_graph}
-use Rattle.graph_runs.proofs.WeightLaws.{weights_are}
+use Rattle.graph_runs.proofs.Laws.{weights_are}
 use Rattle.code_graph.specs.FlowGraph.{FlowGraph, graph, IsGraphOf}
 
 -- the weights as a list

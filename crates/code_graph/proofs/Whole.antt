@@ -17,16 +17,14 @@ use Rattle.cost_theory.specs.declared.edges.EdgeKind.TheVariants.{Next}
 use Rattle.cost_theory.specs.declared.edges.Word.{Word}
 use Rattle.cost_theory.specs.Accepted.{IsNode, IsProgram}
 use Rattle.cost_theory.specs.Reached.{IsCodeOf, graph_of, callee_of, call_returns, edges_of, edge_to}
-use Rattle.cost_theory.proofs.Reaching.{Within, get_within, within_flat}
-use Rattle.cost_theory.proofs.Programs.{some_get}
+use Rattle.cost_theory.proofs.Laws.{Within, get_within, within_flat, some_get, one_graph, edge_node}
 use Rattle.cost_theory.proofs.Programs as programs
-use Rattle.cost_theory.proofs.Agreeing.{one_graph, edge_node}
 use Rattle.call_orders.specs.declared.Arc.{Arc}
 use Rattle.call_orders.specs.Arcs.{HasNoCycle, IsSorted}
 use Rattle.graph_runs.specs.Text.{Text, kind_at}
 use Rattle.graph_runs.specs.EdgeCosts.{edge_class}
 use Rattle.graph_runs.specs.RunMoves.{text_graph}
-use Rattle.graph_runs.proofs.MoveLaws.{kind_facts}
+use Rattle.graph_runs.proofs.Laws.{kind_facts}
 use Rattle.code_reach.specs.Reach.{Reach}
 use Rattle.code_graph.specs.FlowGraph.{FlowGraph, word_beside, IsFlowGraph, IsGraphOf, AreCalleesFirst}
 use Rattle.code_graph.specs.Stored.{AreFirsts, IsStored}

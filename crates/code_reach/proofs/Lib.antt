@@ -5,3 +5,4 @@ pub mod StepLaws
 pub mod ReachLaws
 pub mod OutsideLaws
 pub mod MarkedLaws
+pub mod Laws

@@ -6,7 +6,7 @@ use Rattle.std.proofs.lemmas.Bool.{or_cases}
 use Rattle.std.proofs.lemmas.List.Elements.{All-head, All-tail}
 use Rattle.std.proofs.lemmas.Option.{slice_get_within, slice_get-get_or, get_or_from_slice_get}
 use Rattle.std.proofs.Math.Nat.{eq-or-lt_of_le}
-use Rattle.cost_theory.proofs.Reaching.{Within}
+use Rattle.cost_theory.proofs.Laws.{Within}
 use Rattle.code_text.specs.Walk.{RiseStrictly}
 
 -- what holds of each element

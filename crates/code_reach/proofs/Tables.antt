@@ -6,10 +6,10 @@ use Rattle.std.proofs.lemmas.Bool.{and_parts, eqb-true, leb-true, ltb-true, cond
 use Rattle.std.proofs.lemmas.Option.{slice_get-map, slice_get_within}
 use Rattle.scale_base.specs.declared.ranges.Range.{Range}
 use Rattle.scale_base.specs.Image.{Image, image_of, is_in}
-use Rattle.text_laws.proofs.Ranges.{IsTextRange, text_ranges_kept}
+use Rattle.text_laws.proofs.Laws.{IsTextRange, text_ranges_kept}
 use Rattle.cost_theory.specs.declared.edges.Word.{Word}
 use Rattle.cost_theory.specs.declared.edges.Word.TheVariants.{Bad}
-use Rattle.cost_theory.proofs.Reaching.{Within, get_within, within_get, flat_within, within_flat}
+use Rattle.cost_theory.proofs.Laws.{Within, get_within, within_get, flat_within, within_flat}
 use Rattle.graph_runs.specs.Text.{Text, text_of, kind_at, in_text}
 use Rattle.code_text.specs.Table.{WordTable, word_addresses, all_addresses, word_table}
 use Rattle.code_text.specs.Walk.{RiseStrictly}

@@ -3,3 +3,4 @@ pub mod Walks
 pub mod KnownRows
 pub mod Rising
 pub mod Rows
+pub mod Laws

@@ -27,3 +27,4 @@ pub mod Overruns
 pub mod Unique
 pub mod AtLeast
 pub mod Example
+pub mod Laws

@@ -6,7 +6,7 @@ use Rattle.scale_base.specs.declared.refusal.Refusal.TheVariants.{TruncatedElf}
 use Rattle.scale_base.specs.Rules.{rule}
 use Rattle.scale_base.specs.Elf.{e_shoff, e_shnum, has_sections}
 use Rattle.scale_base.specs.Image.{Image, image_of, table_rules}
-use Rattle.scale_base.proofs.Accepted.{nth_kept, rules_kept, tables-kept}
+use Rattle.scale_base.proofs.Laws.{nth_kept, rules_kept, tables-kept}
 
 second : (b c : Bool) → b ≡ true → (not b || c) ≡ true → c ≡ true
 second true c e h = h

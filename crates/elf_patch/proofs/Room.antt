@@ -10,11 +10,10 @@ use Rattle.scale_base.specs.declared.headers.ProgramHeader.{ProgramHeader}
 use Rattle.scale_base.specs.declared.ranges.TextPart.{TextPart}
 use Rattle.scale_base.specs.declared.refusal.Refusal.TheVariants.{BadSegment, UnsupportedElf}
 use Rattle.scale_base.specs.declared.refusal.Field.TheVariants.{PhNum}
-use Rattle.elf_view.proofs.Below.{length-headers}
+use Rattle.elf_view.proofs.Laws.{length-headers}
 use Rattle.scale_base.specs.Rules.{rule, AllHold}
 use Rattle.scale_base.specs.Elf.{has, e_phnum, program_headers}
-use Rattle.scale_base.proofs.Fronts.{whole_kept, parts_kept, rules_of}
-use Rattle.scale_base.proofs.Accepted.{nth_kept, kept-split, rules_kept, contents-are}
+use Rattle.scale_base.proofs.Laws.{whole_kept, parts_kept, rules_of, nth_kept, kept-split, rules_kept, contents-are}
 use Rattle.scale_base.specs.Spans.{overlap, ends_by, each_pair}
 use Rattle.scale_base.specs.Image.{Image, image_of, contents, stack, addresses_of, has_key, memory_range, is_fit, is_plain_place, is_keyed_place, segment_of, loaded_headers, insert_range, range_of, holds_part, is_code_segment, PF_X, is_text_place, is_off_table, is_plain, may_follow, are_placed, are_few, leave_room, keeps_load_rules, keeps_segment_rules, text_rules, write_rules, all_text_rules, text_parts, ranges_of, text_ranges, ascending, header_rules, segment_rules, image_rules}
 use Rattle.elf_patch.specs.Stored.{window, is_free, end_in, text_end, IsPlace}

@@ -9,3 +9,4 @@ pub mod SymbolLemmas
 pub mod TextWords
 pub mod AscendingLemmas
 pub mod StemLaws
+pub mod Laws

@@ -10,8 +10,7 @@ use Rattle.scale_base.specs.declared.ranges.TextPart.{TextPart}
 use Rattle.scale_base.specs.Image.{Image, image_of, contents, is_word_address, text_word, file_place, text_parts, ranges_of, text_ranges, ascending, text_rules, write_rules, all_text_rules, loaded_headers, insert_range, range_of, is_in, holds_part, is_code_segment, is_text_place, is_off_table, header_has_word}
 use Rattle.scale_base.specs.Bytes.{word_at}
 use Rattle.scale_base.specs.Rules.{AllHold}
-use Rattle.scale_base.proofs.Accepted.{kept-split, rules_kept, contents-are}
-use Rattle.scale_base.proofs.Fronts.{parts_kept, rules_of}
+use Rattle.scale_base.proofs.Laws.{kept-split, rules_kept, contents-are, parts_kept, rules_of}
 use Rattle.elf_view.proofs.Booleans.{both_true, le_of}
 
 swap_or : (a b c : Bool) → (a || (b || c)) ≡ (b || (a || c))

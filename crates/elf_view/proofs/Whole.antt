@@ -15,7 +15,7 @@ use Rattle.scale_base.specs.Spans.{ends_by}
 use Rattle.scale_base.specs.Bytes.{word_at}
 use Rattle.scale_base.specs.Image.{Image, is_word_address, text_word, file_place, file_part, header_has_word, segment_of, header_rules, table_rules, segment_rules, all_text_rules, loaded_headers, text_parts, text_ranges, ranges_of, image_rules, image_of, contents}
 use Rattle.scale_base.specs.Answer.{Stops}
-use Rattle.scale_base.proofs.Accepted.{stop_first, stop_later, kept-append, stopped, long, parts_in_file}
+use Rattle.scale_base.proofs.Laws.{stop_first, stop_later, kept-append, stopped, long, parts_in_file}
 use Rattle.elf_view.proofs.Booleans.{both_true, le_of}
 use Rattle.elf_view.specs.View.{IsViewOf}
 use Rattle.elf_view.specs.Ascending.{AscendFrom}

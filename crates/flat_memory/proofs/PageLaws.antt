@@ -5,7 +5,7 @@ use Rattle.std.proofs.Math.Path.{fun_ext}
 use Rattle.std.proofs.lemmas.Bool.{cond-true, cond-false, cases_eq, eq-eqb, ne_eqb}
 use Rattle.scale_base.specs.State.{with_byte, with_word, word_at}
 use Rattle.scale_base.specs.Layout.{Layout, each_byte, may_read, may_write}
-use Rattle.scale_base.proofs.LayoutLaws.{each_byte_none, each_byte_more, each_byte_false}
+use Rattle.scale_base.proofs.Laws.{each_byte_none, each_byte_more, each_byte_false}
 use Rattle.flat_memory.specs.Pages.{put_byte, put_word, reads_in, writes_in, UseHolds}
 use Rattle.flat_memory.specs.PageTables.{use_of, bytes_of, IsPut, IsPutAt, page_in, page_at, paged_bytes}
 use Rattle.flat_memory.specs.declared.page.Page.{Page}

@@ -14,8 +14,7 @@ use Rattle.scale_base.specs.Rules.{rule, AllHold}
 use Rattle.scale_base.specs.Elf.{e_phnum, program_header, program_headers}
 use Rattle.scale_base.specs.Image.{Image, LoadSegment, header_rules, segment_rules, image_of, contents, loaded_headers, segment_of, keeps_load_rules, keeps_segment_rules, are_placed, are_few, leave_room, is_fit, is_plain_place, is_keyed_place, may_follow, has_key, memory_range, file_part, addresses_of, covers, stack}
 use Rattle.scale_base.specs.Layout.{in_stack}
-use Rattle.scale_base.proofs.Accepted.{nth_kept, rules_kept, contents-are}
-use Rattle.scale_base.proofs.Fronts.{whole_kept, rules_of}
+use Rattle.scale_base.proofs.Laws.{nth_kept, rules_kept, contents-are, whole_kept, rules_of}
 use Rattle.flat_memory.specs.Ordered.{comes_before}
 use Rattle.flat_memory.proofs.OrderLaws.{pair_map}
 

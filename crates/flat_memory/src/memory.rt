@@ -31,7 +31,7 @@ pub trait Memory {
         ensures { result ≡ rules.is_keyed (layout self.now) at };
 
     /// Whether each byte of the word at a multiple of 4 may be read.
-    #[tactic(auto, using(scale_base::proofs::LayoutLaws::each_byte_none, scale_base::proofs::LayoutLaws::each_byte_more))]
+    #[tactic(auto, using(scale_base::proofs::Laws::each_byte_none, scale_base::proofs::Laws::each_byte_more))]
     fn may_read_word(&self, at: u32) -> bool
         requires { at % 4 ≡ 0 }
         ensures { result ≡ rules.each_byte (rules.may_read (layout self.now)) at 4 }
@@ -45,7 +45,7 @@ pub trait Memory {
     }
 
     /// Whether each byte of the word at a multiple of 4 may be written.
-    #[tactic(auto, using(scale_base::proofs::LayoutLaws::each_byte_none, scale_base::proofs::LayoutLaws::each_byte_more))]
+    #[tactic(auto, using(scale_base::proofs::Laws::each_byte_none, scale_base::proofs::Laws::each_byte_more))]
     fn may_write_word(&self, at: u32) -> bool
         requires { at % 4 ≡ 0 }
         ensures { result ≡ rules.each_byte (rules.may_write (layout self.now)) at 4 }
@@ -72,7 +72,7 @@ pub trait Memory {
     }
 
     /// Writes the word at a multiple of 4.
-    #[tactic(auto, using(scale_base::proofs::LayoutLaws::each_byte_first), unfolding(scale_base::specs::Layout::each_byte))]
+    #[tactic(auto, using(scale_base::proofs::Laws::each_byte_first), unfolding(scale_base::specs::Layout::each_byte))]
     fn set_word(&mut self, at: u32, value: u32)
         requires aligned { at % 4 ≡ 0 }
         requires allowed { IsTrue (rules.each_byte (rules.may_write (layout self.old)) at 4) }

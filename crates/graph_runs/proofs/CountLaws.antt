@@ -8,8 +8,7 @@ use Rattle.cost_theory.specs.Accepted.{IsProgram, AreAccepted}
 use Rattle.cost_theory.specs.Steps as steps
 use Rattle.cost_theory.specs.Steps.Move.{Along as MoveAlong, Call as MoveCall, Return as MoveReturn, Exit as MoveExit}
 use Rattle.cost_theory.specs.Reached.{Code, graph_of}
-use Rattle.cost_theory.proofs.Nesting.{extent-body, accepted_entered}
-use Rattle.cost_theory.proofs.Law.{next-is}
+use Rattle.cost_theory.proofs.Laws.{extent-body, accepted_entered, next-is}
 use Rattle.graph_runs.specs.Text.{Text, kind_at}
 use Rattle.graph_runs.specs.KeptRuns.{AreSameBelow}
 use Rattle.graph_runs.proofs.StepMoves.{place, IsMoveOf, IsMoveKind, source_by}

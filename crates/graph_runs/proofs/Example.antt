@@ -7,8 +7,7 @@ use Rattle.cost_theory.specs.Graph.{Graph, Loops, IsPlain}
 use Rattle.cost_theory.specs.Accepted.{IsInBody, AreAccepted, HasNoRecursion, IsCallOrder, IsPlainOrder}
 use Rattle.cost_theory.specs.Reached.{if_true, LeadsTo, Reached, DoesReturn, Code, owner_of, returns_of, edge_at, edge_to, callee_of, edge_callee, graph_of, IsCodeOf, HasNoBadWord}
 use Rattle.cost_theory.specs.Reached.Reached.{main, onward, back, called}
-use Rattle.cost_theory.proofs.Nesting.{some_same}
-use Rattle.cost_theory.proofs.Orders.{order-no_cycle}
+use Rattle.cost_theory.proofs.Laws.{some_same, order-no_cycle}
 
 abbrev pub small_code : Code
 small_code = record {

@@ -11,8 +11,7 @@ use Rattle.scale_base.specs.Run.{HasExited, run, run_of}
 use Rattle.scale_base.specs.Reading.{instr_of}
 use Rattle.cost_theory.specs.declared.edges.Word.TheVariants.{Branch, Ends, Straight}
 use Rattle.cost_theory.specs.Worst.{Numbers, AreNumbers}
-use Rattle.cost_theory.proofs.Programs.{is_program}
-use Rattle.cost_theory.proofs.Contexts.{numbers_exist}
+use Rattle.cost_theory.proofs.Laws.{is_program, numbers_exist}
 use Rattle.graph_runs.specs.Text.{Text, text_of, is_target, known_within, kind_at}
 use Rattle.graph_runs.specs.EdgeCosts.{weights}
 use Rattle.graph_runs.specs.RunMoves.{text_graph}

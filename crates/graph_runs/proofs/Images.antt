@@ -13,12 +13,8 @@ use Rattle.scale_base.specs.Elf.{has}
 use Rattle.scale_base.specs.Image.{Image, image_of, contents, loaded_byte, text_ranges, text_parts, loaded_headers, range_of, is_in, holds_part, is_text_place, is_fit, is_plain, is_keyed_place, is_plain_place, has_key, memory_range, stack, PF_X}
 use Rattle.scale_base.specs.Layout.{layout_of, in_stack}
 use Rattle.scale_base.specs.Run.{setting_of, start_of, starting_level}
-use Rattle.scale_base.proofs.Accepted.{rules_kept, contents-are}
-use Rattle.scale_base.proofs.Fronts.{rules_of}
-use Rattle.text_laws.proofs.Tests.{found_from_any, found_passes, found_keeps}
-use Rattle.text_laws.proofs.Segments.{segments_of}
-use Rattle.text_laws.proofs.Parts.{IsPlaced, part_placed, part_held, part_covered, parts_placed}
-use Rattle.text_laws.proofs.Ranges.{All-ranges_of, text_ranges_kept}
+use Rattle.scale_base.proofs.Laws.{rules_kept, contents-are, rules_of}
+use Rattle.text_laws.proofs.Laws.{found_from_any, found_passes, found_keeps, segments_of, IsPlaced, part_placed, part_held, part_covered, parts_placed, All-ranges_of, text_ranges_kept}
 use Rattle.text_laws.proofs.Ranges as kept
 use Rattle.graph_runs.specs.Text.{text_of}
 use Rattle.graph_runs.specs.TextStates.{IsTextRange, IsTextOf}

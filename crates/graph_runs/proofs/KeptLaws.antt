@@ -10,8 +10,7 @@ use Rattle.cost_theory.specs.Accepted.{IsNode, IsProgram, IsInBody, AreAccepted,
 use Rattle.cost_theory.specs.Steps as steps
 use Rattle.cost_theory.specs.Steps.Move.{Along as MoveAlong, Call as MoveCall, Return as MoveReturn, Exit as MoveExit}
 use Rattle.cost_theory.specs.Reached.{Code, graph_of}
-use Rattle.cost_theory.proofs.Basics.{below_suc, and_left, and_right, and_both, not_true}
-use Rattle.cost_theory.proofs.Nesting.{some_same}
+use Rattle.cost_theory.proofs.Laws.{below_suc, and_left, and_right, and_both, not_true, some_same}
 use Rattle.graph_runs.specs.Text.{Text, kind_at}
 use Rattle.graph_runs.specs.ReturnAddresses.{returns_after}
 use Rattle.graph_runs.specs.RunMoves.{after_call}

@@ -15,8 +15,7 @@ use Rattle.cost_theory.specs.Steps as steps
 use Rattle.cost_theory.specs.Steps.Move.{Exit}
 use Rattle.cost_theory.specs.Reached.{Reached, Code, graph_of, IsCodeOf, HasNoBadWord, number_at}
 use Rattle.cost_theory.specs.Reached.Reached.{main}
-use Rattle.cost_theory.proofs.Programs.{is_program}
-use Rattle.cost_theory.proofs.Runs.{run-worst}
+use Rattle.cost_theory.proofs.Laws.{is_program, run-worst}
 use Rattle.graph_runs.specs.Text.{Text, kind_at}
 use Rattle.graph_runs.specs.TextStates.{IsTextOf, IsOver}
 use Rattle.graph_runs.specs.ReturnAddresses.{returns_after}

@@ -8,12 +8,12 @@ use Rattle.scale_base.specs.declared.instruction.Instr.TheVariants.{Lui, Auipc, 
 use Rattle.scale_base.specs.Arith.{plus, imm_result}
 use Rattle.scale_base.specs.State.{Setting, State, reg, with_reg}
 use Rattle.scale_base.specs.Step.{performs, step}
-use Rattle.scale_base.proofs.ZeroLaws.{step_zero}
+use Rattle.scale_base.proofs.Laws.{step_zero}
 use Rattle.graph_runs.specs.Text.{Text, in_text, instr_at, jump_of, is_target, follows, puts17, leaves17, or_passed, known_behind, known_within}
 use Rattle.graph_runs.specs.TextStates.{IsTextOf, IsOver}
 use Rattle.graph_runs.proofs.StepFacts.{IsDone}
 use Rattle.graph_runs.proofs.TextFacts.{target_is, follows_word, word_bound, not_written}
-use Rattle.run_laws.proofs.RegisterLaws.{step_length}
+use Rattle.run_laws.proofs.Laws.{step_length}
 
 -- what is known at v: no jump goes there, and the word before it passes it on
 pub known_parts : (t : Text) (env : Setting) → IsTextOf t env → (n v k : ℕ) → known_within t n v ≡ Some k →

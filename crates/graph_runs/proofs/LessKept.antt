@@ -10,7 +10,7 @@ use Rattle.scale_base.specs.State.{Setting, State}
 use Rattle.scale_base.specs.Step.{step}
 use Rattle.scale_base.specs.Run.{Standing, GoesOn, HasExited, HasTrapped, run}
 use Rattle.cost_theory.specs.Graph.{Loops, with_trips, leaves, AreWithin}
-use Rattle.cost_theory.proofs.Exists.{none-any}
+use Rattle.cost_theory.proofs.Laws.{none-any}
 use Rattle.graph_runs.specs.ReturnAddresses.{returns_after}
 use Rattle.graph_runs.specs.KeptSteps.{Carried, counts_after, leaves_by, breaks, is_broken, keeps_counts, kept_more}
 use Rattle.graph_runs.specs.KeptRuns.{watched, kept_at}

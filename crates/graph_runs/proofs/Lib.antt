@@ -18,3 +18,4 @@ pub mod StoredWords
 pub mod Programs
 pub mod Example
 pub mod ExampleImage
+pub mod Laws

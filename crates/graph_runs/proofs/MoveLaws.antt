@@ -26,9 +26,7 @@ use Rattle.cost_theory.specs.declared.edges.Word.TheVariants.{Branch, Goto, Call
 use Rattle.cost_theory.specs.declared.edges.EdgeKind.TheVariants.{Taken, Untaken, Jump, Next, CallNext, End}
 use Rattle.cost_theory.specs.Reached.Reached.{onward as reach_onward, back as reach_back, called as reach_called}
 use Rattle.std.proofs.lemmas.Option.{slice_get_within}
-use Rattle.cost_theory.proofs.Basics.{find-holds, find-some, some_value}
-use Rattle.cost_theory.proofs.Reaching.{Within, word_edge, edge_of_word}
-use Rattle.cost_theory.proofs.Programs.{edge_leads}
+use Rattle.cost_theory.proofs.Laws.{find-holds, find-some, some_value, Within, word_edge, edge_of_word, edge_leads}
 use Rattle.graph_runs.specs.Text.{Text, in_text, instr_at, jump_of, puts17, leaves17, known, ecall_kind, jal_kind, jalr_kind, instr_kind, word_kind, kind_at}
 use Rattle.graph_runs.specs.TextStates.{IsTextOf, IsOver}
 use Rattle.graph_runs.specs.ReturnAddresses.{returned, returns_by, returns_after}

@@ -1,8 +1,7 @@
 -- The laws of runs, for what their hypotheses are gathered in.
 use Rattle.std.proofs.Common.{arith}
 use Rattle.scale_base.specs.Run.{run, run_of, setting_of, start_of}
-use Rattle.cost_theory.proofs.Programs.{is_program}
-use Rattle.cost_theory.proofs.StepLaws.{run-within}
+use Rattle.cost_theory.proofs.Laws.{is_program, run-within}
 use Rattle.graph_runs.specs.EdgeCosts.{weights}
 use Rattle.graph_runs.specs.RunMoves.{text_graph}
 use Rattle.graph_runs.specs.Text.{kind_at, text_of}

@@ -19,7 +19,7 @@ use Rattle.scale_base.specs.Arith.{load_width, store_width, is_taken, moved_by, 
 use Rattle.scale_base.specs.State.{Setting, State, reg, with_reg, word_at, with_byte, with_list}
 use Rattle.scale_base.specs.Service.{served, serves, read_count, write_count}
 use Rattle.scale_base.specs.Step.{Outcome, move_of, stops, sets, passes, jumps, branches, loads, stores_word, stores, performs, executes, window_index, port_index, step}
-use Rattle.scale_base.proofs.LayoutLaws.{each_byte_at}
+use Rattle.scale_base.proofs.Laws.{each_byte_at}
 use Rattle.graph_runs.specs.Text.{leaves17}
 
 -- where the instruction goes on

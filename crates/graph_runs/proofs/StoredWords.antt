@@ -8,13 +8,8 @@ use Rattle.scale_base.specs.Spans.{in_span}
 use Rattle.scale_base.specs.Image.{Image, image_of, contents, is_in, memory_range, text_ranges, loaded_headers, header_has_word, file_place, is_word_address, text_word}
 use Rattle.scale_base.specs.Reading.{instr_of}
 use Rattle.scale_base.specs.State.{word_at}
-use Rattle.scale_base.proofs.Accepted.{rules_kept, contents-are}
-use Rattle.scale_base.proofs.Fronts.{rules_of}
-use Rattle.text_laws.proofs.Tests.{found_from_any, any_from_found}
-use Rattle.text_laws.proofs.Segments.{segments_of}
-use Rattle.text_laws.proofs.Parts.{in_part}
-use Rattle.text_laws.proofs.TextBytes.{InText, in_text}
-use Rattle.text_laws.proofs.TextWords.{word_loaded}
+use Rattle.scale_base.proofs.Laws.{rules_kept, contents-are, rules_of}
+use Rattle.text_laws.proofs.Laws.{found_from_any, any_from_found, segments_of, in_part, InText, in_text, word_loaded}
 use Rattle.graph_runs.specs.Text.{Text, text_of, word_kind, kind_at}
 use Rattle.graph_runs.specs.Laws.{KindsAreOfStoredWords, InstructionsAreOfStoredWords}
 

@@ -8,7 +8,7 @@ use Rattle.cost_theory.specs.declared.edges.Edge.{Edge}
 use Rattle.cost_theory.specs.declared.edges.EdgeKind.{EdgeKind}
 use Rattle.cost_theory.specs.Reached.{Code, graph_of, edge_at}
 use Rattle.cost_theory.specs.declared.edges.Word.TheVariants.{CallOf, Bad}
-use Rattle.cost_theory.proofs.Programs.{some_get, callee-call, callee_word}
+use Rattle.cost_theory.proofs.Laws.{some_get, callee-call, callee_word}
 use Rattle.graph_runs.specs.Text.{Text, instr_at, instr_kind, kind_at}
 use Rattle.graph_runs.specs.EdgeCosts.{class_by, edge_class, cost_of, weights}
 use Rattle.graph_runs.proofs.MoveLaws.{kind_facts}

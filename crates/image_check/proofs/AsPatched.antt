@@ -12,21 +12,20 @@ use Rattle.scale_base.specs.Layout.{Part, layout_of, part_of, is_plain_segment, 
 use Rattle.scale_base.specs.Run.{setting_of, starting_level}
 use Rattle.scale_base.specs.State.{word_at}
 use Rattle.scale_base.specs.Word.{Encodes}
-use Rattle.scale_base.proofs.Accepted.{contents-are}
+use Rattle.scale_base.proofs.Laws.{contents-are}
 use Rattle.cost_theory.specs.declared.edges.EdgeKind.{EdgeKind}
 use Rattle.cost_theory.specs.declared.edges.EdgeKind.TheVariants.{Taken, Untaken, Jump}
 use Rattle.cost_theory.specs.Graph.{Loops}
 use Rattle.cost_theory.specs.Reached.{Code}
 use Rattle.graph_runs.specs.Text.{Text, text_of, instr_at}
 use Rattle.graph_runs.specs.Laws.{IsReachedCode}
-use Rattle.graph_runs.proofs.Images.{text_of_layout}
-use Rattle.graph_runs.proofs.TextFacts.{word_bound}
+use Rattle.graph_runs.proofs.Laws.{text_of_layout, word_bound}
 use Rattle.stub_writer.specs.Stubs.{Site, Place, jump}
 use Rattle.stub_runs.specs.Held.{StubStands}
 use Rattle.stored_runs.specs.Marks.{place_at}
 use Rattle.stored_runs.specs.Stubbed.{IsOfImage}
 use Rattle.stored_runs.specs.Patched.{AreSafeEdges, HasStub, IsPatched}
-use Rattle.stored_runs.proofs.PatchedFrame.{key_below}
+use Rattle.stored_runs.proofs.Laws.{key_below}
 use Rattle.foreign_scan.specs.declared.fragment.ForeignFragment.{ForeignFragment}
 use Rattle.foreign_scan.specs.declared.fragment.ForeignFragment.TheVariants.{Switch, Exit, Reset, Count}
 use Rattle.foreign_scan.specs.Form.{IsStub, AreRowsIn}

@@ -12,20 +12,17 @@ use Rattle.cost_theory.specs.declared.edges.Word.TheVariants.{CallOf}
 use Rattle.cost_theory.specs.Graph.{Graph, Loops, is_back, leaves, is_header}
 use Rattle.cost_theory.specs.Accepted.{IsProgram}
 use Rattle.cost_theory.specs.Reached.{Reached, Code, edge_at}
-use Rattle.cost_theory.proofs.Basics.{search_below}
-use Rattle.cost_theory.proofs.Nesting.{accepted_entered, header_held}
-use Rattle.cost_theory.proofs.Programs.{some_get, callee-call, callee_word, is_program}
-use Rattle.cost_theory.proofs.Reaching.{edge_of_word}
+use Rattle.cost_theory.proofs.Laws.{search_below, accepted_entered, header_held, some_get, callee-call, callee_word, is_program, edge_of_word}
 use Rattle.graph_runs.specs.Text.{Text, text_of, instr_kind, kind_at}
 use Rattle.graph_runs.specs.EdgeCosts.{edge_class}
 use Rattle.graph_runs.specs.RunMoves.{text_graph}
 use Rattle.graph_runs.specs.Laws.{IsProgramOf}
-use Rattle.graph_runs.proofs.MoveLaws.{kind_facts}
+use Rattle.graph_runs.proofs.Laws.{kind_facts}
 use Rattle.stub_writer.specs.Stubs.{Site}
 use Rattle.stored_runs.specs.Marks.{place_at, fragments_by, counters_behind}
 use Rattle.shadow_counts.specs.Shadows.{count_over}
 use Rattle.marked_runs.specs.Counters.{AreCounters, AreCounted}
-use Rattle.marked_runs.proofs.Graphs.{loops_are_countable}
+use Rattle.marked_runs.proofs.Laws.{loops_are_countable}
 use Rattle.foreign_scan.specs.Scanned.{Found, CanBePatched, IsPatch, IsScanned}
 use Rattle.image_check.specs.Safe.{Owner, bound_of, all_with_rows, sites_of, counts_it, counts_on, clears_on, one_if, IsCounterOf, AreOwners}
 use Rattle.image_check.specs.Laws.{owner_is, is_owner}

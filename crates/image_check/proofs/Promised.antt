@@ -4,11 +4,11 @@ use Rattle.std.specs.Prelude.{slice_get, slice_index}
 use Rattle.std.proofs.lemmas.Option.{get_or_from_slice_get}
 use Rattle.scale_base.specs.Image.{Image}
 use Rattle.scale_base.specs.Run.{Run, HasExited, run_of, setting_of, start_of, starting_level}
-use Rattle.scale_base.proofs.RunLaws.{run_stays}
+use Rattle.scale_base.proofs.Laws.{run_stays}
 use Rattle.power_model.specs.Numbers.{PowerModel}
 use Rattle.power_model.specs.Price.{price, held_energy}
 use Rattle.power_model.specs.Switches.{NeverRises}
-use Rattle.power_model.proofs.PriceLaws.{cycles-price}
+use Rattle.power_model.proofs.Laws.{cycles-price}
 use Rattle.cost_theory.specs.Graph.{Loops}
 use Rattle.cost_theory.specs.Reached.{Code}
 use Rattle.cost_theory.specs.Worst.{Numbers}
@@ -23,8 +23,7 @@ use Rattle.paid_runs.specs.Patched.{IsTunedRun}
 use Rattle.rewritten_runs.specs.Prices.{price_of}
 use Rattle.rewritten_runs.specs.Promise.{EndsAsPromised}
 use Rattle.rewritten_runs.specs.Followed.{HasEnded}
-use Rattle.rewritten_runs.proofs.Programs.{program_of, kept_by_tree}
-use Rattle.rewritten_runs.proofs.Ended.{over_stays, taken, taken_within}
+use Rattle.rewritten_runs.proofs.Laws.{program_of, kept_by_tree, over_stays, taken, taken_within}
 use Rattle.image_check.specs.Laws.{SafeImagesKeepThePromise}
 use Rattle.image_check.proofs.Tuned.{safe_runs}
 

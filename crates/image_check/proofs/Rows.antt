@@ -12,8 +12,7 @@ use Rattle.cost_theory.specs.declared.edges.EdgeKind.{EdgeKind}
 use Rattle.cost_theory.specs.declared.edges.EdgeKind.TheVariants.{Taken, Untaken, Jump, Next, CallNext, End}
 use Rattle.cost_theory.specs.Graph.{Graph, Loops, is_back}
 use Rattle.cost_theory.specs.Reached.{Code}
-use Rattle.cost_theory.proofs.Nesting.{accepted_entered}
-use Rattle.cost_theory.proofs.Programs.{some_get}
+use Rattle.cost_theory.proofs.Laws.{accepted_entered, some_get}
 use Rattle.graph_runs.specs.Text.{Text, text_of}
 use Rattle.graph_runs.specs.RunMoves.{text_graph}
 use Rattle.graph_runs.specs.Laws.{IsProgramOf}

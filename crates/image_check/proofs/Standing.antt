@@ -17,15 +17,14 @@ use Rattle.scale_base.specs.Reading.{instr_of}
 use Rattle.scale_base.specs.Run.{setting_of}
 use Rattle.scale_base.specs.State.{Setting, word_at}
 use Rattle.scale_base.specs.Word.{Encodes, IsSignedField}
-use Rattle.scale_base.proofs.WordLaws.{word_reads}
+use Rattle.scale_base.proofs.Laws.{word_reads}
 use Rattle.rv_encode.specs.Jumps.{distance}
 use Rattle.cost_theory.specs.Graph.{Loops}
 use Rattle.stub_writer.specs.Fragments.{fragment_code, code_len, rows_of, rows_len, exit_code}
 use Rattle.stub_writer.specs.Stubs.{Way, way, fragments_code, way_rows, rows_by, jump, jump_at}
 use Rattle.stub_runs.specs.Meaning.{StandsAt, Stand}
 use Rattle.stub_runs.specs.Held.{Lie, KeyedFrom, WayStands, ForkStands}
-use Rattle.stub_runs.proofs.Held.{keyed_fetched}
-use Rattle.stub_runs.proofs.Ways.{codes_length}
+use Rattle.stub_runs.proofs.Laws.{keyed_fetched, codes_length}
 use Rattle.foreign_scan.specs.declared.fragment.ForeignFragment.{ForeignFragment}
 use Rattle.foreign_scan.specs.declared.fragment.ForeignFragment.TheVariants.{Switch, Exit, Reset, Count}
 use Rattle.foreign_scan.specs.Form.{IsKeyWord, HoldsAt, Hold, foreign_code, foreign_len, IsForeign, ChoosesNone, FirstChooses, behind, IsRunOut, IsFork, AreRowsIn}

@@ -16,8 +16,7 @@ use Rattle.cost_theory.specs.declared.edges.Word.TheVariants as words
 use Rattle.cost_theory.specs.Graph.{Graph, Loops, leaves}
 use Rattle.cost_theory.specs.Reached.{Reached, LeadsTo, Code, edge_at, edge_to, edges_of, call_returns, callee_of, place_after}
 use Rattle.cost_theory.specs.Worst.{Numbers}
-use Rattle.cost_theory.proofs.Programs.{callee_word}
-use Rattle.cost_theory.proofs.Reaching.{Within, edge_of_word, word_edge}
+use Rattle.cost_theory.proofs.Laws.{callee_word, Within, edge_of_word, word_edge}
 use Rattle.least_laws.specs.Charged.{Charged}
 use Rattle.graph_runs.specs.Text.{Text, text_of, instr_at, instr_kind, kind_at}
 use Rattle.graph_runs.specs.RunMoves.{text_graph}
@@ -25,13 +24,12 @@ use Rattle.graph_runs.specs.Laws.{IsProgramOf}
 use Rattle.stub_writer.specs.Stubs.{Site, way}
 use Rattle.stored_runs.specs.Marks.{tail_cycles}
 use Rattle.stored_runs.specs.Patched.{IsSafeEdge, AreSafeEdges}
-use Rattle.marked_runs.proofs.Graphs.{targets_are_words}
+use Rattle.marked_runs.proofs.Laws.{targets_are_words}
 use Rattle.power_model.specs.Switches.{costs_of}
 use Rattle.level_tables.specs.Tables.{EdgeNumbers}
 use Rattle.paid_runs.specs.Timely.{weights_of}
 use Rattle.paid_runs.specs.Tabled.{told_on, IsEdgeTabledBy, AreTabledOf}
-use Rattle.paid_runs.proofs.Tables.{tables_of_keep_time}
-use Rattle.paid_runs.proofs.Tuned.{tuned_safe}
+use Rattle.paid_runs.proofs.Laws.{tables_of_keep_time, tuned_safe}
 use Rattle.foreign_scan.specs.declared.fragment.ForeignFragment.{ForeignFragment}
 use Rattle.foreign_scan.specs.declared.fragment.ForeignFragment.TheVariants.{Exit}
 use Rattle.foreign_scan.specs.Form.{IsRunOut, IsStub}

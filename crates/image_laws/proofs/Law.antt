@@ -4,12 +4,11 @@ use Rattle.std.specs.List.{list_any}
 use Rattle.scale_base.specs.declared.ranges.Span.{Span}
 use Rattle.scale_base.specs.Spans.{overlap}
 use Rattle.scale_base.specs.Image.{Image, image_of, contents, stack, addresses_of}
-use Rattle.scale_base.proofs.Accepted.{rules_kept, tables-kept, contents-are, parts_in_file, has_table}
+use Rattle.scale_base.proofs.Laws.{rules_kept, tables-kept, contents-are, parts_in_file, has_table}
 use Rattle.elf_patch.specs.Stored.{stored_image, text_end, window, IsStubBase}
-use Rattle.elf_patch.proofs.PlaceLemmas.{page_at-mod, page_at-le, page_at-least}
+use Rattle.elf_patch.proofs.Laws.{page_at-mod, page_at-le, page_at-least}
 use Rattle.stored_laws.specs.StoredView.{IsStorable, stored_view}
-use Rattle.stored_laws.proofs.Whole.{law}
-use Rattle.stored_laws.proofs.Fields.{stored-is}
+use Rattle.stored_laws.proofs.Laws.{law, stored-is}
 use Rattle.image_laws.specs.Laws.{IsHeldImage, held_base, OfHeldImages}
 use Rattle.image_laws.proofs.Contents.{off_phoff, off_phnum, HasBytes, bytes_same, layout_is}
 

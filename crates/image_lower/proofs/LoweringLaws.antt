@@ -2,7 +2,7 @@
 use Rattle.std.proofs.Common.{◌≡◌, ℕ, ◌≤◌, Bool, true, false, List, [], ◌∷◌, ◌++◌, length, Option, Some, None, Result, Ok, Err, refl, arith, ap, sym, subst, ◌∙◌}
 use Rattle.std.specs.Prelude.{if◌then◌else◌, is_some}
 use Rattle.scale_base.specs.declared.ranges.Keyed.{Keyed}
-use Rattle.scale_base.proofs.Accepted.{contents-are}
+use Rattle.scale_base.proofs.Laws.{contents-are}
 use Rattle.jump_lists.specs.Jumps.{read_jumps}
 use Rattle.std.specs.List.{flat_map}
 use Rattle.scale_base.specs.declared.refusal.Refusal.{Refusal}

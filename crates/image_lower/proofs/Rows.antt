@@ -11,7 +11,7 @@ use Rattle.std.proofs.lemmas.List.Elements.{filter_map-append}
 use Rattle.std.proofs.lemmas.List.Folds.{list_any-append}
 use Rattle.scale_base.specs.declared.ranges.Range.{Range}
 use Rattle.code_text.specs.Table.{word_addresses, all_addresses}
-use Rattle.code_text.proofs.Rows.{next_range}
+use Rattle.code_text.proofs.Laws.{next_range}
 use Rattle.jump_lists.specs.declared.notes.JumpNote.{JumpNote}
 use Rattle.image_lower.specs.FarJumps.{is_noted}
 

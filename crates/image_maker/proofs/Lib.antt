@@ -6,3 +6,4 @@ pub mod PlainFacts
 pub mod PlainLaw
 pub mod SmallFiles
 pub mod OneImage
+pub mod Laws

@@ -11,7 +11,7 @@ use Rattle.scale_base.specs.Rules.{AllHold}
 use Rattle.scale_base.specs.Bytes.{word_at}
 use Rattle.scale_base.specs.Elf.{e_type, e_machine, e_version, e_entry, e_phoff, e_phnum, e_shoff, e_flags, e_phentsize, program_headers}
 use Rattle.scale_base.specs.Image.{header_rules, table_rules, segment_rules, keeps_load_rules, loaded_headers, text_parts, keeps_text_rules, part_rules, text_rules, write_rules, all_text_rules, ascending, ranges_of, text_ranges, image_rules, contents, file_place, text_word}
-use Rattle.scale_base.proofs.Accepted.{kept-append}
+use Rattle.scale_base.proofs.Laws.{kept-append}
 
 -- the program header of a segment of so many bytes
 abbrev pub segment : ℕ → ProgramHeader

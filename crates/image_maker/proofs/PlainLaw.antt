@@ -3,7 +3,7 @@ use Rattle.std.proofs.Common.{All, ◌≡◌, ◌≤◌, ℕ, zero, suc, ◌+◌
 use Rattle.std.proofs.lemmas.List.{length-append, get_or_append_left, get_or-append-add}
 use Rattle.scale_base.specs.Bytes.{half_at, word_at}
 use Rattle.scale_base.specs.Elf.{program_header, program_headers}
-use Rattle.scale_base.proofs.Accepted.{accepted}
+use Rattle.scale_base.proofs.Laws.{accepted}
 use Rattle.image_maker.specs.PlainImage.{little, file_header, words, plain_image, START}
 use Rattle.image_maker.specs.PlainImage as plain
 use Rattle.image_maker.specs.HoldsWords.{HoldsWords}

@@ -8,7 +8,7 @@ use Rattle.scale_base.specs.declared.stepping.Move.{Move}
 use Rattle.scale_base.specs.declared.stepping.Move.TheVariants.{Local, Call, Return}
 use Rattle.scale_base.specs.declared.stepping.Stepped.{Stepped}
 use Rattle.cost_theory.specs.Graph.{find_below, or_else}
-use Rattle.cost_theory.proofs.Basics.{and_right, and_false, not_true, find-holds, find-some}
+use Rattle.cost_theory.proofs.Laws.{and_right, and_false, not_true, find-holds, find-some}
 use Rattle.graph_runs.specs.KeptSteps.{leaves_by, breaks}
 use Rattle.loop_file.specs.declared.notes.LoopNote.{LoopNote}
 use Rattle.loop_file.specs.Kept.{note_at, in_extent, noted_loops}

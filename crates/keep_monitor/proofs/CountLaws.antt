@@ -4,7 +4,7 @@ use Rattle.std.proofs.lemmas.Bool.{cond-true, cond-false, ne_eqb, le-ltb, cases_
 use Rattle.std.proofs.lemmas.List.FromFn.{fill_by_all}
 use Rattle.std.specs.List.{range_with_len}
 use Rattle.cost_theory.specs.Graph.{is_round, find_below, or_else}
-use Rattle.cost_theory.proofs.Basics.{below_suc}
+use Rattle.cost_theory.proofs.Laws.{below_suc}
 use Rattle.loop_file.specs.declared.notes.LoopNote.{LoopNote}
 use Rattle.loop_file.specs.Kept.{note_at, noted_loops}
 use Rattle.keep_monitor.specs.declared.headers.Header.{Header}

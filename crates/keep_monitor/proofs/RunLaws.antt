@@ -13,13 +13,11 @@ use Rattle.scale_base.specs.State.{Setting, State}
 use Rattle.scale_base.specs.Step.{step}
 use Rattle.scale_base.specs.Run.{Standing, GoesOn, HasExited, HasTrapped, run, setting_of, start_of}
 use Rattle.cost_theory.specs.Graph.{Loops, is_header, is_round}
-use Rattle.cost_theory.proofs.Basics.{find-holds}
-use Rattle.cost_theory.proofs.Exists.{none-any}
-use Rattle.cost_theory.proofs.Acyclic.{any-some}
+use Rattle.cost_theory.proofs.Laws.{find-holds, none-any, any-some}
 use Rattle.graph_runs.specs.ReturnAddresses.{returns_after}
 use Rattle.graph_runs.specs.KeptSteps.{Carried, carried_first, source_of, counts_after, leaves_by, breaks, is_broken, keeps_counts, kept_more}
 use Rattle.graph_runs.specs.KeptRuns.{watched, kept_at, kept_of}
-use Rattle.graph_runs.proofs.KeptLaws.{kept_parts}
+use Rattle.graph_runs.proofs.Laws.{kept_parts}
 use Rattle.loop_file.specs.declared.notes.LoopNote.{LoopNote}
 use Rattle.loop_file.specs.Kept.{note_at, noted_loops, most_returns, IsKeptUpTo}
 use Rattle.keep_monitor.specs.Watch.{Watched, watch, watch_returns, watch_loops, watch_end, watched_from, watched_at, next_counts, loop_broken}

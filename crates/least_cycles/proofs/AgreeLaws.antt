@@ -4,13 +4,13 @@ use Rattle.std.proofs.lemmas.Option.{slice_get_within, same_Some}
 use Rattle.cost_theory.specs.Graph.{Graph, total}
 use Rattle.cost_theory.specs.Least.{Least, IsLeastIfAny, EndsWith, IsReturn, IsExit, least_call, least_cost}
 use Rattle.cost_theory.specs.LeastTurns.{IsRun}
-use Rattle.cost_theory.proofs.Basics.{and_left, and_right, and_both}
+use Rattle.cost_theory.proofs.Laws.{and_left, and_right, and_both}
 use Rattle.code_graph.specs.FlowGraph.{FlowGraph, graph}
 use Rattle.natural_loops.specs.Noted.{node_address}
-use Rattle.natural_loops.proofs.NodeLaws.{source_number}
+use Rattle.natural_loops.proofs.Laws.{source_number}
 use Rattle.loop_tree.specs.Tree.{LoopView, loops}
 use Rattle.least_laws.specs.Charged.{Charged, calls_so, calls_exit, charged_cost, leads_on, ends_exit}
-use Rattle.least_laws.proofs.Alike.{least_same}
+use Rattle.least_laws.proofs.Laws.{least_same}
 use Rattle.least_cycles.specs.Hops.{least_at}
 use Rattle.least_cycles.specs.Functions.{IsBucket, IsFromFirst}
 use Rattle.least_cycles.specs.Tables.{value_beside, least_by, AreWalksOf, ArePriced, IsBefore}

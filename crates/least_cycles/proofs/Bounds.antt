@@ -2,13 +2,10 @@
 use Rattle.std.proofs.Common.{◌≡◌, ℕ, ◌+◌, ◌^◌, ◌<◌, ◌≤◌, Bool, true, false, ◌&&◌, inl, inr, List, [], ◌∷◌, ◌++◌, Option, Some, None, is_some, refl, ap, ◌∙◌, arith}
 use Rattle.cost_theory.specs.Graph.{Graph, Loops, total, end_of, IsPlain, IsPlainPath, goes_back}
 use Rattle.cost_theory.specs.Worst.{Numbers, at_some, cost, charged}
-use Rattle.cost_theory.proofs.Law.{worst_equation}
-use Rattle.cost_theory.proofs.Orders.{function-worst}
-use Rattle.cost_theory.proofs.OrdersExist.{call_order}
+use Rattle.cost_theory.proofs.Laws.{worst_equation, function-worst, call_order, plain_from_entry}
 use Rattle.least_cycles.specs.Tables.{AreLimits}
 use Rattle.cost_theory.specs.Least.{EndsWith}
 use Rattle.cost_theory.specs.Laws.{IsAnalyzed}
-use Rattle.cost_theory.proofs.Rest.{plain_from_entry}
 
 -- an edge that leads to no node is no back edge
 end_plain : (g : Graph) (l : Loops) (e : ℕ) → g.target e ≡ None → IsPlain g l e

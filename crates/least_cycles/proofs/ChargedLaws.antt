@@ -2,12 +2,9 @@
 use Rattle.std.proofs.Common.{◌≡◌, ◌≢◌, ℕ, ◌*◌, ◌<◌, Bool, true, false, not, ◌&&◌, nat_lt, Option, Some, None, refl, sym, ap, ◌∙◌, subst, eqb-true, eq-eqb}
 use Rattle.cost_theory.specs.Graph.{Graph, Loops, is_round, is_header, is_back, enters}
 use Rattle.cost_theory.specs.Accepted.{IsProgram, AreAccepted, AreWeights}
-use Rattle.cost_theory.proofs.Basics.{and_left, and_right, and_both, not_true}
-use Rattle.cost_theory.proofs.Nesting.{some_same}
-use Rattle.cost_theory.proofs.Turns.{entered-header}
-use Rattle.cost_theory.proofs.AtLeast.{no_numbers, charge_none, charge_one}
+use Rattle.cost_theory.proofs.Laws.{and_left, and_right, and_both, not_true, some_same, entered-header, no_numbers, charge_none, charge_one}
 use Rattle.least_laws.specs.Charged.{Charged, charged_trips, charge_of, AreCharged}
-use Rattle.least_laws.proofs.Exist.{nest}
+use Rattle.least_laws.proofs.Laws.{nest}
 
 -- an accepted program with weights and its least cycles
 pub record IsNumbered (g : Graph) (l : Loops) (extent : ℕ → ℕ → Bool) (w : ℕ → ℕ) (n : Charged) : Type 0 where

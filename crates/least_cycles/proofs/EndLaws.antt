@@ -6,12 +6,12 @@ use Rattle.cost_theory.specs.Graph.{Graph, total}
 use Rattle.cost_theory.specs.Worst.{at_some}
 use Rattle.cost_theory.specs.Least.{Least, IsLeastIfAny, EndsWith, AreLeast, IsReturn, IsExit, IsReturnTo, end_after, least_cost}
 use Rattle.code_graph.specs.FlowGraph.{FlowGraph, graph, IsFlowGraph}
-use Rattle.code_graph.proofs.FewWords.{few_once}
+use Rattle.code_graph.proofs.Laws.{few_once}
 use Rattle.natural_loops.specs.Noted.{node_address}
 use Rattle.key_chains.specs.Keys.{option_at, HasKey, AreKeys, IsLastBelow}
 use Rattle.least_cycles.specs.Hops.{least_at}
 use Rattle.least_cycles.specs.Local.{lesser, both}
-use Rattle.natural_loops.proofs.NodeLaws.{source_number}
+use Rattle.natural_loops.proofs.Laws.{source_number}
 use Rattle.std.proofs.lemmas.List.{get_or_past, length-replicate}
 use Rattle.least_cycles.specs.Tables.{AreBackKeys, back_from, value_beside, least_by, AreWalksOf, IsAnyFunction}
 use Rattle.least_cycles.proofs.TableLaws.{at_number, at_node, beside_none, least_moved}

@@ -12,7 +12,7 @@ use Rattle.natural_loops.specs.Noted.{node_address}
 use Rattle.loop_tree.specs.Tree.{LoopView, loops, IsLoopTree}
 use Rattle.least_laws.specs.Charged.{Charged, AreCharged, charge_of, end_behind, to_end_after}
 use Rattle.least_laws.specs.Laws.{HaveFewTrips}
-use Rattle.least_laws.proofs.Exist.{charged_exist}
+use Rattle.least_laws.proofs.Laws.{charged_exist}
 use Rattle.least_cycles.specs.declared.charges.Charges.{Charges}
 use Rattle.least_cycles.specs.Hops.{least_at}
 use Rattle.least_cycles.specs.Tables.{least_by, AreWalksOf, IsAnyFunction}

@@ -9,7 +9,7 @@ use Rattle.cost_theory.specs.Least.{IsLeastIfAny, EndsWith}
 use Rattle.cost_theory.specs.LeastTurns.{IsRun}
 use Rattle.code_graph.specs.FlowGraph.{FlowGraph, graph, IsFlowGraph}
 use Rattle.natural_loops.specs.Noted.{node_address}
-use Rattle.natural_loops.proofs.NodeLaws.{one_number}
+use Rattle.natural_loops.proofs.Laws.{one_number}
 use Rattle.least_cycles.specs.declared.Hop.{Hop}
 use Rattle.least_cycles.specs.declared.Way.{Way}
 use Rattle.least_cycles.specs.declared.Way.TheVariants.{Last, To, Stop}

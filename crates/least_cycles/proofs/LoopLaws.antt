@@ -7,17 +7,14 @@ use Rattle.cost_theory.specs.Graph.{Graph, Loops, total, only, is_round, is_head
 use Rattle.cost_theory.specs.Worst.{at_some}
 use Rattle.cost_theory.specs.Least.{IsLeastIfAny, IsExit, least_cost}
 use Rattle.cost_theory.specs.LeastTurns.{IsRun, turn_step, turn_last}
-use Rattle.cost_theory.proofs.Basics.{search_below, and_left, and_right}
-use Rattle.cost_theory.proofs.Exists.{any-none, none-any}
-use Rattle.cost_theory.proofs.Nesting.{accepted_entered, header_held, body_node, IsAtHeader, step_at_header, entry_at_header}
-use Rattle.cost_theory.proofs.Rest.{plain_from_entry}
+use Rattle.cost_theory.proofs.Laws.{search_below, and_left, and_right, any-none, none-any, accepted_entered, header_held, body_node, IsAtHeader, step_at_header, entry_at_header, plain_from_entry}
 use Rattle.code_graph.specs.FlowGraph.{FlowGraph, graph, IsFlowGraph}
 use Rattle.natural_loops.specs.Noted.{node_address}
-use Rattle.natural_loops.proofs.NodeLaws.{one_number, source_number}
+use Rattle.natural_loops.proofs.Laws.{one_number, source_number}
 use Rattle.loop_tree.specs.Tree.{LoopView, loops, IsAtPlace}
 use Rattle.key_chains.specs.Keys.{option_at, HasKey, IsLastBelow}
 use Rattle.least_laws.specs.Charged.{Charged, calls_exit, is_closed, charge_of, charged_cost}
-use Rattle.least_laws.proofs.Alike.{least_same}
+use Rattle.least_laws.proofs.Laws.{least_same}
 use Rattle.least_cycles.specs.declared.charges.Charges.{Charges}
 use Rattle.least_cycles.specs.Hops.{least_at}
 use Rattle.least_cycles.specs.Functions.{IsBucket, AreKinds, ArePlacesIn, is_marked, IsMarked, IsFromFirst, AreLeastRuns}

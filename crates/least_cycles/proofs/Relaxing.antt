@@ -6,7 +6,7 @@ use Rattle.std.proofs.lemmas.List.Sums.{sum_by-set}
 use Rattle.std.proofs.lemmas.Bool.Decides.{nat_tests}
 use Rattle.cost_theory.specs.Graph.{total}
 use Rattle.cost_theory.specs.Least.{EndsWith}
-use Rattle.cost_theory.proofs.Orders.{stable_least}
+use Rattle.cost_theory.proofs.Laws.{stable_least}
 use Rattle.least_cycles.specs.declared.Hop.{Hop}
 use Rattle.least_cycles.specs.declared.Way.{Way}
 use Rattle.least_cycles.specs.declared.Way.TheVariants.{Last, To, Stop}

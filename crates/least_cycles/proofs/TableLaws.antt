@@ -8,7 +8,7 @@ use Rattle.cost_theory.specs.Accepted.{IsProgram}
 use Rattle.cost_theory.specs.Least.{Least, IsLeastIfAny, EndsWith, least_call}
 use Rattle.code_graph.specs.FlowGraph.{FlowGraph, IsFlowGraph}
 use Rattle.natural_loops.specs.Noted.{node_address}
-use Rattle.natural_loops.proofs.NodeLaws.{one_number}
+use Rattle.natural_loops.proofs.Laws.{one_number}
 use Rattle.least_cycles.specs.Hops.{least_at}
 use Rattle.least_cycles.specs.Tables.{value_beside, AreLimits}
 

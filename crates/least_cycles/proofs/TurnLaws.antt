@@ -7,13 +7,12 @@ use Rattle.call_orders.specs.Arcs.{number_at}
 use Rattle.cost_theory.specs.Graph.{is_round, is_header, is_back}
 use Rattle.cost_theory.specs.LeastTurns.{turn_step, turn_last}
 use Rattle.cost_theory.specs.Lists.{or_true, is_among, body_of}
-use Rattle.cost_theory.proofs.Append.{leads_to_header}
-use Rattle.cost_theory.proofs.Nesting.{headers-distinct, accepted_entered}
+use Rattle.cost_theory.proofs.Laws.{leads_to_header, headers-distinct, accepted_entered}
 use Rattle.code_graph.specs.FlowGraph.{FlowGraph, graph, IsFlowGraph}
-use Rattle.code_graph.proofs.FewWords.{few_once}
+use Rattle.code_graph.proofs.Laws.{few_once}
 use Rattle.natural_loops.specs.Noted.{node_address}
 use Rattle.natural_loops.specs.Found.{IsAscending}
-use Rattle.natural_loops.proofs.NodeLaws.{one_number}
+use Rattle.natural_loops.proofs.Laws.{one_number}
 use Rattle.loop_tree.specs.Tree.{LoopView, loops, IsLoopTree}
 use Rattle.key_chains.specs.Keys.{HasKey, AreKeys, option_at}
 use Rattle.least_cycles.specs.Functions.{is_marked, IsFromFirst}

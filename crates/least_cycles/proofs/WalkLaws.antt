@@ -9,7 +9,7 @@ use Rattle.cost_theory.specs.Worst.{at_some}
 use Rattle.cost_theory.specs.Least.{Least, IsLeastIfAny, EndsWith, IsReturn, IsExit, least_call, least_cost}
 use Rattle.code_graph.specs.FlowGraph.{FlowGraph, graph, IsFlowGraph}
 use Rattle.natural_loops.specs.Noted.{node_address}
-use Rattle.natural_loops.proofs.NodeLaws.{source_number}
+use Rattle.natural_loops.proofs.Laws.{source_number}
 use Rattle.least_cycles.specs.Hops.{least_at}
 use Rattle.least_cycles.specs.Functions.{IsMarked, IsBucket, IsFromFirst, AreLeastIn}
 use Rattle.least_cycles.specs.Tables.{value_beside, least_by, AreLimits, AreLow, AreTables, ArePriced, AreReturns, AreWalksOf, AreWritten, AreScratch, IsBefore, IsAnyFunction}

@@ -6,19 +6,11 @@ use Rattle.cost_theory.specs.Worst.{Numbers, AreNumbers, at_some, cost, charged,
 use Rattle.cost_theory.specs.Accepted.{IsCallOrder}
 use Rattle.cost_theory.specs.Least.{IsLeast, IsLeastIfAny, IsUpTo, callee_value, least_call, least_cost}
 use Rattle.cost_theory.specs.LeastTurns.{IsRun, turn_step}
-use Rattle.cost_theory.proofs.Basics.{sum-le, and_right, and_both, and_false}
-use Rattle.cost_theory.proofs.Nesting.{some_same, accepted_entered, header_held}
-use Rattle.cost_theory.proofs.Closings.{header_closes}
-use Rattle.cost_theory.proofs.Turns.{entered-header}
-use Rattle.cost_theory.proofs.AtLeast.{no_numbers}
-use Rattle.cost_theory.proofs.Law.{worst_equation}
-use Rattle.cost_theory.proofs.Rest.{plain_from_entry}
-use Rattle.cost_theory.proofs.Least.{least_up_to}
-use Rattle.cost_theory.proofs.Orders.{turns-worst}
+use Rattle.cost_theory.proofs.Laws.{sum-le, and_right, and_both, and_false, some_same, accepted_entered, header_held, header_closes, entered-header, no_numbers, worst_equation, plain_from_entry, least_up_to, turns-worst}
 use Rattle.cost_theory.proofs.OrdersExist as orders
 use Rattle.least_laws.specs.Charged.{Charged, is_closed, charged_trips, charge_of, charged_cost, leads_on}
 use Rattle.least_laws.specs.Laws.{HaveFewTrips}
-use Rattle.least_laws.proofs.Exist.{nest, Turn, inner_rank, closing_run, body_owner}
+use Rattle.least_laws.proofs.Laws.{nest, Turn, inner_rank, closing_run, body_owner}
 use Rattle.least_cycles.proofs.ChargedLaws.{IsNumbered, charged_back}
 
 module _ (g : Graph) (l : Loops) (extent : ℕ → ℕ → Bool) (w : ℕ → ℕ) (n : Charged) (a : Numbers) (is : IsNumbered g l extent w n) (nums : AreNumbers g l w a) (few : HaveFewTrips l) where

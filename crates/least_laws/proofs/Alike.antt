@@ -8,10 +8,7 @@ use Rattle.cost_theory.specs.Least.{IsLeast, IsLeastIfAny, callee_value, least_c
 use Rattle.cost_theory.specs.Least.{Way}
 use Rattle.cost_theory.specs.Least.Way.{Exits, Returns}
 use Rattle.cost_theory.specs.LeastTurns.{IsRun, turn_step, turn_last}
-use Rattle.cost_theory.proofs.Basics.{sum-same, and_left, and_right, not_true}
-use Rattle.cost_theory.proofs.Nesting.{some_same}
-use Rattle.cost_theory.proofs.Turns.{entered-header}
-use Rattle.cost_theory.proofs.AtLeast.{no_numbers}
+use Rattle.cost_theory.proofs.Laws.{sum-same, and_left, and_right, not_true, some_same, entered-header, no_numbers}
 use Rattle.cost_theory.proofs.OrdersExist as orders
 use Rattle.least_laws.specs.Charged.{Charged, calls_so, calls_exit, charged_trips, charge_of, charged_cost, leads_on, ends_exit, AreCharged}
 use Rattle.least_laws.specs.Laws.{IsCharged, ChargedAgree}

@@ -7,8 +7,7 @@ use Rattle.cost_theory.specs.Accepted.{IsCallOrder}
 use Rattle.cost_theory.specs.Least.{IsLeast, IsLeastIfAny, callee_value, least_call, least_cost, Way, IsWay, way_cost, end_after}
 use Rattle.cost_theory.specs.Least.Way.{Exits, Returns}
 use Rattle.cost_theory.specs.LeastTurns.{IsRun}
-use Rattle.cost_theory.proofs.Basics.{some_value}
-use Rattle.cost_theory.proofs.Nesting.{some_same}
+use Rattle.cost_theory.proofs.Laws.{some_value, some_same}
 use Rattle.cost_theory.proofs.OrdersExist as orders
 use Rattle.least_laws.specs.Charged.{Charged, charge_of, charged_cost, leads_on, ends_exit}
 use Rattle.least_laws.specs.Laws.{IsCharged, EndWithin}

@@ -6,8 +6,7 @@ use Rattle.cost_theory.specs.Least.Way.{Exits, Returns}
 use Rattle.cost_theory.specs.LeastTurns.{IsRun, turn_step, turn_last}
 use Rattle.cost_theory.specs.Steps.{Move}
 use Rattle.cost_theory.specs.Steps.Move.{Along, Exit}
-use Rattle.cost_theory.proofs.Nesting.{some_same}
-use Rattle.cost_theory.proofs.Example.{small, small_loop, small_extent, small_program, small_accepted, no_callee}
+use Rattle.cost_theory.proofs.Laws.{some_same, small, small_loop, small_extent, small_program, small_accepted, no_callee}
 use Rattle.least_laws.specs.Charged.{Charged, charged_cost, leads_on, ends_exit, HasPlainReturns, AreCharged}
 use Rattle.least_laws.specs.Laws.{IsOver}
 use Rattle.least_laws.specs.Met.{HypothesesAreMet}

@@ -8,11 +8,7 @@ use Rattle.cost_theory.specs.Accepted.{IsProgram, AreAccepted, IsCallOrder, IsIn
 use Rattle.cost_theory.specs.Least.{IsLeastIfAny, Least, callee_value, least_call, least_cost, Way, IsWay, way_cost, end_after}
 use Rattle.cost_theory.specs.Least.Way.{Exits, Returns}
 use Rattle.cost_theory.specs.LeastTurns.{IsRun, turn_step, turn_last}
-use Rattle.cost_theory.proofs.Basics.{sum-same, term-le-sum, below_suc, and_left, and_right, and_both, not_true}
-use Rattle.cost_theory.proofs.Nesting.{some_same, nested, accepted_entered, header_held}
-use Rattle.cost_theory.proofs.Closings.{header_closes}
-use Rattle.cost_theory.proofs.Turns.{AreNested, entered-header}
-use Rattle.cost_theory.proofs.AtLeast.{no_numbers, charge_none}
+use Rattle.cost_theory.proofs.Laws.{sum-same, term-le-sum, below_suc, and_left, and_right, and_both, not_true, some_same, nested, accepted_entered, header_held, header_closes, AreNested, entered-header, no_numbers, charge_none}
 use Rattle.cost_theory.proofs.OrdersExist as orders
 use Rattle.least_laws.specs.Charged.{Charged, calls_so, calls_exit, charged_trips, charge_of, charged_cost, leads_on, ends_exit, AreCharged}
 use Rattle.least_laws.specs.Laws.{ChargedExist}

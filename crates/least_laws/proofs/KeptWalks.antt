@@ -8,14 +8,7 @@ use Rattle.cost_theory.specs.Steps.Move.{Along, Call, Return, Exit}
 use Rattle.cost_theory.specs.Least.{IsUpTo, callee_value, least_call, IsWay, way_cost}
 use Rattle.cost_theory.specs.Least.Way.{Exits, Returns}
 use Rattle.cost_theory.specs.LeastTurns.{IsRun, KeepsLeast}
-use Rattle.cost_theory.proofs.Basics.{and_left, and_right, and_both, not_true, only_true, sum-le, some_value}
-use Rattle.cost_theory.proofs.Append.{count_same, count_anew}
-use Rattle.cost_theory.proofs.Nesting.{some_same}
-use Rattle.cost_theory.proofs.Turns.{entered-header}
-use Rattle.cost_theory.proofs.AtLeast.{no_numbers}
-use Rattle.cost_theory.proofs.Law.{IsChain, Stands, IsSound, next-is}
-use Rattle.cost_theory.proofs.Runs.{sound_after, sound_run}
-use Rattle.cost_theory.proofs.Least.{least_up_to}
+use Rattle.cost_theory.proofs.Laws.{and_left, and_right, and_both, not_true, only_true, sum-le, some_value, count_same, count_anew, some_same, entered-header, no_numbers, IsChain, Stands, IsSound, next-is, sound_after, sound_run, least_up_to}
 use Rattle.least_laws.specs.Charged.{Charged, calls_so, calls_exit, is_closed, charge_of, to_end_after, end_behind, leads_on, ends_exit, IsToReturn, IsToExit, owed}
 use Rattle.least_laws.specs.Laws.{IsCharged, ExitTakesCharged, ExitTakesLeastBehind, ExitTakesLeastBehindReturn, RunTakesLeastBehind}
 use Rattle.least_laws.proofs.WalkKinds.{trips, price, nest, exit_bound, return_bound, exit_owed, return_owed}

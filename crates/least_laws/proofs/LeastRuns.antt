@@ -6,8 +6,7 @@ use Rattle.std.proofs.lemmas.Map.Steps.{length-le_from_distinct_below}
 use Rattle.cost_theory.specs.Graph.{Graph, total}
 use Rattle.cost_theory.specs.Least.{IsLeastIfAny}
 use Rattle.cost_theory.specs.LeastTurns.{IsRun}
-use Rattle.cost_theory.proofs.Basics.{below_suc}
-use Rattle.cost_theory.proofs.Nesting.{some_same}
+use Rattle.cost_theory.proofs.Laws.{below_suc, some_same}
 use Rattle.least_laws.specs.Laws.{LeastWithinEdges}
 
 -- ---- least values

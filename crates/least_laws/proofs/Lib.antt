@@ -8,3 +8,4 @@ pub mod LeastRuns
 pub mod Exist
 pub mod Within
 pub mod Ends
+pub mod Laws

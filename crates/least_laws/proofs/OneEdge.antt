@@ -3,11 +3,7 @@ use Rattle.std.proofs.Common.{◌≡◌, ℕ, ◌+◌, ◌<◌, ◌≤◌, Bool,
 use Rattle.cost_theory.specs.Graph.{Graph, total, is_round, is_header, is_back, enters}
 use Rattle.cost_theory.specs.Least.{IsLeastIfAny, IsUpTo}
 use Rattle.cost_theory.specs.LeastTurns.{IsRun, turn_step, turn_last}
-use Rattle.cost_theory.proofs.Basics.{and_both}
-use Rattle.cost_theory.proofs.Nesting.{some_same}
-use Rattle.cost_theory.proofs.Turns.{entered-header}
-use Rattle.cost_theory.proofs.AtLeast.{no_numbers, charge_none, charge_one}
-use Rattle.cost_theory.proofs.Least.{least_up_to, least_reached}
+use Rattle.cost_theory.proofs.Laws.{and_both, some_same, entered-header, no_numbers, charge_none, charge_one, least_up_to, least_reached}
 use Rattle.least_laws.specs.Charged.{charged_trips, charged_cost, leads_on, ends_exit}
 use Rattle.least_laws.specs.Laws.{IsOver, IsLeastOver, ReturnOver, ExitOver, ClosingOver, StableIsLeast, ChargedOn, ChargedBack, ChargedInto}
 use Rattle.least_laws.proofs.WalkKinds.{trips, price, nest, turn_kind}

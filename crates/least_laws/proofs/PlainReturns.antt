@@ -3,7 +3,7 @@ use Rattle.std.proofs.Common.{◌≡◌, ℕ, ◌+◌, ◌<◌, true, ⊎_elim, 
 use Rattle.cost_theory.specs.declared.edges.Word.{Word}
 use Rattle.cost_theory.specs.declared.edges.Word.TheVariants.{CallOf, Back}
 use Rattle.cost_theory.specs.Reached.{LeadsTo, Code, IsCodeOf, HasNoBadWord, edge_at, edge_to, callee_of, edge_callee, is_back, edge_returns, call_returns}
-use Rattle.cost_theory.proofs.Programs.{edge_leads, edge_word, callee-call, back-word}
+use Rattle.cost_theory.proofs.Laws.{edge_leads, edge_word, callee-call, back-word}
 use Rattle.least_laws.specs.Laws.{ReachedCodeHasPlainReturns}
 
 module _ (word : ℕ → Word) (first : ℕ) (code : Code) (is : IsCodeOf word first code) (fine : HasNoBadWord word first) where

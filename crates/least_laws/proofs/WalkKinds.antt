@@ -5,11 +5,7 @@ use Rattle.cost_theory.specs.Graph.{Graph, Loops, IsWalk, end_of, total, only, i
 use Rattle.cost_theory.specs.Accepted.{IsInBody}
 use Rattle.cost_theory.specs.Least.{IsUpTo, least_cost}
 use Rattle.cost_theory.specs.LeastTurns.{IsRun, turn_step, turn_last, KeepsLeast, charge, IsKind}
-use Rattle.cost_theory.proofs.Basics.{search_below, and_left, and_right, and_both, and_false, not_true, only_true, only_false, sum-one, sum-none}
-use Rattle.cost_theory.proofs.Exists.{any-none}
-use Rattle.cost_theory.proofs.Nesting.{some_same, nested, accepted_entered}
-use Rattle.cost_theory.proofs.Turns.{AreNested, entered-header}
-use Rattle.cost_theory.proofs.AtLeast.{no_numbers, charge_none, kept-charged, peel}
+use Rattle.cost_theory.proofs.Laws.{search_below, and_left, and_right, and_both, and_false, not_true, only_true, only_false, sum-one, sum-none, any-none, some_same, nested, accepted_entered, AreNested, entered-header, no_numbers, charge_none, kept-charged, peel}
 use Rattle.least_laws.specs.Charged.{Charged, calls_exit, charged_trips, leads_on, ends_exit, IsToReturn, IsToExit, IsToHeader, owed}
 use Rattle.least_laws.specs.Laws.{IsCharged}
 

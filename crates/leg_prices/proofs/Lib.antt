@@ -1,2 +1,3 @@
 pub mod LegPrice
 pub mod Energies
+pub mod Laws

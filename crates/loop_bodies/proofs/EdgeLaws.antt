@@ -4,7 +4,7 @@ use Rattle.std.specs.Prelude.{slice_get}
 use Rattle.std.proofs.lemmas.Bool.{cases_eq, cases_lt}
 use Rattle.std.proofs.lemmas.Option.{slice_get-get_or, get_or_from_slice_get}
 use Rattle.key_chains.specs.Keys.{HasKey, AreKeys, IsLastBelow}
-use Rattle.key_chains.proofs.ChainLaws.{key_within}
+use Rattle.key_chains.proofs.Laws.{key_within}
 use Rattle.loop_bodies.specs.Edges.{AreEdges}
 use Rattle.loop_bodies.specs.Search.{flag, IsSettled}
 

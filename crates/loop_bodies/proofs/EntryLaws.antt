@@ -4,7 +4,7 @@ use Rattle.std.specs.Prelude.{slice_get}
 use Rattle.std.proofs.lemmas.Bool.{cases_eq, cases_lt, cases_Bool, both_ways}
 use Rattle.std.proofs.lemmas.Option.{slice_get_within}
 use Rattle.key_chains.specs.Keys.{HasKey, IsLastBelow}
-use Rattle.key_chains.proofs.ChainLaws.{key_within}
+use Rattle.key_chains.proofs.Laws.{key_within}
 use Rattle.loop_bodies.specs.Bodies.{HasEdge, IsIn, AreNodes, IsSideEdge, IsUpTo, IsLeastPair, IsLesserPair}
 use Rattle.loop_bodies.specs.Search.{flag, AreUnmarked, AreMarked, IsLeastUnmarked}
 use Rattle.loop_bodies.proofs.EdgeLaws.{IsPast, get_from_key, key_from_get}

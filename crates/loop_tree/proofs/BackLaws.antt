@@ -5,10 +5,10 @@ use Rattle.std.proofs.lemmas.List.{get_or_append_left, get_or-append_right, leng
 use Rattle.std.proofs.lemmas.Option.{slice_get-get_or, get_or_from_slice_get, slice_get-map, same_Some}
 use Rattle.cost_theory.specs.Graph.{Loops, IsPlain, is_back, is_header}
 use Rattle.cost_theory.specs.Lists.{body_of, is_among}
-use Rattle.cost_theory.proofs.Basics.{and_left, and_right, and_both}
+use Rattle.cost_theory.proofs.Laws.{and_left, and_right, and_both}
 use Rattle.code_graph.specs.FlowGraph.{FlowGraph, graph, IsFlowGraph}
 use Rattle.natural_loops.specs.Noted.{node_address, loops_by}
-use Rattle.natural_loops.proofs.NodeLaws.{one_number}
+use Rattle.natural_loops.proofs.Laws.{one_number}
 use Rattle.loop_tree.specs.Tree.{IsPlainStep}
 use Rattle.loop_tree.specs.Arcs.{IsPlainBy}
 use Rattle.loop_tree.specs.Backs.{AreHeaderNumbers, ArePlacedHeaders, AreLoopLists, IsBackBetween, AreBacks, IsStepBy, loop_at}

@@ -6,7 +6,7 @@ use Rattle.std.proofs.lemmas.Option.{slice_get_within, slice_get-get_or, get_or_
 use Rattle.cost_theory.specs.Graph.{Loops}
 use Rattle.cost_theory.specs.Accepted.{AreEntered, IsWithin}
 use Rattle.cost_theory.specs.Lists.{body_of, is_among}
-use Rattle.cost_theory.proofs.Nesting.{header_held, one_within, held_within}
+use Rattle.cost_theory.proofs.Laws.{header_held, one_within, held_within}
 use Rattle.code_graph.specs.FlowGraph.{FlowGraph, graph, IsFlowGraph}
 use Rattle.natural_loops.specs.Noted.{node_address, loops_by}
 use Rattle.loop_nesting.specs.Nesting.{HasNode, IsRound, AreLoops, AreHeadersOuter, IsLeast, IsNextAtHeader, body_at}

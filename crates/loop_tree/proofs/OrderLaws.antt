@@ -6,11 +6,11 @@ use Rattle.call_orders.specs.declared.Arc.{Arc}
 use Rattle.call_orders.specs.Arcs.{arc_at, number_at, AreDistinct, IsSorted}
 use Rattle.cost_theory.specs.Graph.{Loops, IsPlain, find_below}
 use Rattle.cost_theory.specs.Accepted.{IsNode, IsPlainOrder}
-use Rattle.cost_theory.proofs.Basics.{find-holds, find-some}
+use Rattle.cost_theory.proofs.Laws.{find-holds, find-some}
 use Rattle.code_graph.specs.FlowGraph.{FlowGraph, graph, IsFlowGraph}
 use Rattle.loop_tree.specs.Tree.{IsAtPlace, ArePlainOrdered}
 use Rattle.loop_tree.specs.Arcs.{IsPlainBy, ArePlainArcs}
-use Rattle.natural_loops.proofs.NodeLaws.{one_number}
+use Rattle.natural_loops.proofs.Laws.{one_number}
 
 -- a list from its end to its beginning
 pub record IsTurned (numbers turned : List ℕ) : Type 0 where

@@ -3,9 +3,9 @@ use Rattle.std.proofs.Common.{◌≡◌, ℕ, ◌+◌, List, slice_get, Option, 
 use Rattle.std.proofs.lemmas.Option.{same_Some}
 use Rattle.call_orders.specs.Arcs.{number_at}
 use Rattle.call_orders.specs.Cycles.{IsCycleBy}
-use Rattle.call_orders.proofs.CycleLaws.{IsRound}
+use Rattle.call_orders.proofs.Laws.{IsRound}
 use Rattle.code_graph.specs.FlowGraph.{FlowGraph, IsFlowGraph}
-use Rattle.natural_loops.proofs.NodeLaws.{one_number}
+use Rattle.natural_loops.proofs.Laws.{one_number}
 use Rattle.loop_tree.specs.Arcs.{HasPlainEdge, IsRoundOfNodes, AreAddressesOf}
 use Rattle.loop_tree.specs.Backs.{IsStepBy}
 

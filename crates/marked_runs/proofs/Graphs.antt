@@ -14,15 +14,12 @@ use Rattle.cost_theory.specs.declared.edges.EdgeKind.TheVariants.{End}
 use Rattle.cost_theory.specs.declared.edges.Word.TheVariants.{CallOf, Back}
 use Rattle.cost_theory.specs.Reached.{LeadsTo, Code, place_after, edge_at, edge_to, callee_of, edges_of, call_returns}
 use Rattle.cost_theory.specs.Reached.Reached.{onward}
-use Rattle.cost_theory.proofs.Programs.{edge_leads, callee-call, callee_word, returns_word, back-word, back_ends, edge_word, is_program}
-use Rattle.cost_theory.proofs.Reaching.{Within}
-use Rattle.cost_theory.proofs.Nesting.{accepted_entered, header_held}
+use Rattle.cost_theory.proofs.Laws.{edge_leads, callee-call, callee_word, returns_word, back-word, back_ends, edge_word, is_program, Within, accepted_entered, header_held}
 use Rattle.graph_runs.specs.Text.{Text, text_of, instr_at, instr_kind, kind_at}
 use Rattle.graph_runs.specs.EdgeCosts.{edge_class}
 use Rattle.graph_runs.specs.RunMoves.{text_graph}
 use Rattle.graph_runs.specs.Laws.{IsProgramOf}
-use Rattle.graph_runs.proofs.MoveLaws.{kind_facts}
-use Rattle.graph_runs.proofs.WeightLaws.{weights_are}
+use Rattle.graph_runs.proofs.Laws.{kind_facts, weights_are}
 use Rattle.stub_writer.specs.Stubs.{Site, Place, Forked, Straight}
 use Rattle.stub_runs.specs.Cycles.{fragment_cost}
 use Rattle.stored_runs.specs.Marks.{place_at, fragments_by, jumps_by}

@@ -14,21 +14,19 @@ use Rattle.cost_theory.specs.Graph.{Loops}
 use Rattle.cost_theory.specs.Accepted.{IsProgram}
 use Rattle.cost_theory.specs.Reached.{Code}
 use Rattle.cost_theory.specs.Steps as steps
-use Rattle.cost_theory.proofs.Basics.{search_below}
-use Rattle.cost_theory.proofs.Programs.{is_program}
+use Rattle.cost_theory.proofs.Laws.{search_below, is_program}
 use Rattle.graph_runs.specs.Text.{Text, text_of, kind_at}
 use Rattle.graph_runs.specs.RunMoves.{text_graph, StandsBy}
 use Rattle.graph_runs.specs.KeptSteps.{Carried, by_extents}
 use Rattle.graph_runs.specs.KeptRuns.{watched, kept_at, KeptAt, IsKeptRun}
 use Rattle.graph_runs.specs.Laws.{IsProgramOf}
-use Rattle.graph_runs.proofs.MoveLaws.{kind_facts}
-use Rattle.graph_runs.proofs.Programs.{image_runs_are_kept_moves}
+use Rattle.graph_runs.proofs.Laws.{kind_facts, image_runs_are_kept_moves}
 use Rattle.stub_writer.specs.Stubs.{Site}
 use Rattle.stored_runs.specs.Marks.{shadow_first, shadow_after}
 use Rattle.stored_runs.specs.Stubbed.{KeepsLimits}
-use Rattle.stored_runs.proofs.Follow.{patched_runs, stubbed_patched}
+use Rattle.stored_runs.proofs.Laws.{patched_runs, stubbed_patched}
 use Rattle.shadow_counts.specs.Shadows.{counted_moves}
-use Rattle.shadow_counts.proofs.Shown.{counts_shown, counts_within}
+use Rattle.shadow_counts.proofs.Laws.{counts_shown, counts_within}
 use Rattle.marked_runs.specs.Counters.{AreCounters, AreCounted, AreCounting, by_words}
 use Rattle.marked_runs.specs.Laws.{KeptRunsStayInText, KeptRunsAreFollowed, KeptRunsArePatched, MovesCostStoredWeights, MovesCostExtraWeights}
 use Rattle.marked_runs.proofs.Aligned.{AreAligned, stored_sum, extra_sum, counters_are, others_are}

@@ -2,3 +2,4 @@ pub mod Aligned
 pub mod Words
 pub mod Kept
 pub mod Graphs
+pub mod Laws

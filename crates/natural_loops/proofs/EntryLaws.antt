@@ -6,11 +6,11 @@ use Rattle.std.proofs.lemmas.Option.{slice_get-get_or, slice_get_within, get_or_
 use Rattle.std.proofs.lemmas.List.{length-replicate}
 use Rattle.cost_theory.specs.Graph.{sum_below, only}
 use Rattle.cost_theory.specs.Accepted.{IsNode}
-use Rattle.cost_theory.proofs.Basics.{sum-same, ones-le}
+use Rattle.cost_theory.proofs.Laws.{sum-same, ones-le}
 use Rattle.code_graph.specs.FlowGraph.{FlowGraph, graph, IsFlowGraph}
 use Rattle.loop_bodies.specs.Edges.{EdgeView}
 use Rattle.loop_bodies.specs.Bodies.{IsIn, AreNodes, IsSideEdge, IsLeastPair, IsLesserPair}
-use Rattle.loop_bodies.proofs.EntryLaws.{least_same, least_more}
+use Rattle.loop_bodies.proofs.Laws.{least_same, least_more}
 use Rattle.loop_file.specs.declared.notes.LoopNote.{LoopNote}
 use Rattle.loop_file.specs.Kept.{note_at}
 use Rattle.natural_loops.specs.Noted.{IsBodyNode}

@@ -13,7 +13,7 @@ use Rattle.scale_base.specs.declared.refusal.Refusal.TheVariants.{SameHeader}
 use Rattle.cost_theory.specs.Graph.{Loops, sum_below, only, is_back, is_header}
 use Rattle.cost_theory.specs.Accepted.{AreEntered, IsNode, IsInBody, IsSideEntry}
 use Rattle.cost_theory.specs.Lists.{is_among, or_true, body_of}
-use Rattle.cost_theory.proofs.Basics.{sum-same}
+use Rattle.cost_theory.proofs.Laws.{sum-same}
 use Rattle.code_graph.specs.FlowGraph.{FlowGraph, graph, IsFlowGraph}
 use Rattle.loop_bodies.specs.Edges.{EdgeView}
 use Rattle.loop_bodies.specs.Bodies.{IsIn, IsLeastPair}

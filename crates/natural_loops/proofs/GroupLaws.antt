@@ -8,12 +8,12 @@ use Rattle.std.proofs.lemmas.Nat.{ones_le_self}
 use Rattle.std.proofs.lemmas.Option.{slice_get-get_or, slice_get_within, get_or_from_slice_get}
 use Rattle.cost_theory.specs.Graph.{sum_below, only}
 use Rattle.cost_theory.specs.Accepted.{IsNode}
-use Rattle.cost_theory.proofs.Basics.{sum-same}
+use Rattle.cost_theory.proofs.Laws.{sum-same}
 use Rattle.code_graph.specs.FlowGraph.{FlowGraph, graph, IsFlowGraph}
 use Rattle.loop_bodies.specs.declared.extent.LoopExtent.{LoopExtent}
 use Rattle.loop_bodies.specs.Edges.{EdgeView}
 use Rattle.loop_bodies.specs.Groups.{HasBit, IsFlagged, IsLed, IsInside, IsEnteredAside, OfLoop, AreLoops, AreGroup}
-use Rattle.loop_bodies.proofs.BitLaws.{bit_cases}
+use Rattle.loop_bodies.proofs.Laws.{bit_cases}
 use Rattle.loop_file.specs.declared.notes.LoopNote.{LoopNote}
 use Rattle.loop_file.specs.Kept.{note_at}
 use Rattle.natural_loops.specs.Noted.{header_address, IsBodyNode, IsNotedSideEntry}

@@ -7,7 +7,7 @@ use Rattle.std.proofs.lemmas.Option.{get_or_from_slice_get, slice_get_within}
 use Rattle.code_graph.specs.FlowGraph.{FlowGraph, IsFlowGraph}
 use Rattle.key_chains.specs.Keys.{option_at}
 use Rattle.loop_bodies.specs.Bodies.{IsLeastPair, IsLesserPair}
-use Rattle.loop_bodies.proofs.EntryLaws.{least_same, least_more}
+use Rattle.loop_bodies.proofs.Laws.{least_same, least_more}
 use Rattle.loop_file.specs.declared.notes.LoopNote.{LoopNote}
 use Rattle.loop_file.specs.Kept.{note_at}
 use Rattle.scale_base.specs.declared.refusal.Refusal.{Refusal}

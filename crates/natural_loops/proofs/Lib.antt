@@ -9,3 +9,4 @@ pub mod EntryLaws
 pub mod ReadyLaws
 pub mod FoundLaws
 pub mod GroupLaws
+pub mod Laws

@@ -3,3 +3,4 @@ pub mod Walk
 pub mod Paid
 pub mod Tables
 pub mod Tuned
+pub mod Laws

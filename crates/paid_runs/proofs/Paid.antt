@@ -13,9 +13,9 @@ use Rattle.power_model.specs.Numbers.{PowerModel, IsPowerModel}
 use Rattle.power_model.specs.Price.{price, unstarted, held_energy}
 use Rattle.cost_theory.specs.Graph.{Graph}
 use Rattle.cost_theory.specs.Steps as steps
-use Rattle.cost_theory.proofs.Runs.{left_start, run-worst}
+use Rattle.cost_theory.proofs.Laws.{left_start, run-worst}
 use Rattle.least_laws.specs.Laws.{IsCharged}
-use Rattle.least_laws.proofs.PlainReturns.{plain_returns}
+use Rattle.least_laws.proofs.Laws.{plain_returns}
 use Rattle.graph_runs.specs.Text.{text_of, kind_at}
 use Rattle.graph_runs.specs.RunMoves.{text_graph}
 use Rattle.cost_theory.specs.Worst.{Numbers}
@@ -31,15 +31,14 @@ use Rattle.stub_writer.specs.Stubs.{Site}
 use Rattle.stub_runs.specs.Cycles.{cycles}
 use Rattle.stored_runs.specs.Marks.{stored_cycles, extra_cycles, shadow_first}
 use Rattle.stored_runs.specs.Legs.{originals, all_steps}
-use Rattle.stored_runs.proofs.LegLaws.{cost_of_legs, short_legs, long_legs}
+use Rattle.stored_runs.proofs.Laws.{cost_of_legs, short_legs, long_legs}
 use Rattle.stored_runs.specs.Stubbed.{IsFollowed}
 use Rattle.shadow_counts.specs.Shadows.{AreCountable}
 use Rattle.marked_runs.specs.Marked.{extra_weights}
 use Rattle.marked_runs.specs.Counters.{AreCounted, by_words}
-use Rattle.marked_runs.proofs.Words.{word_of_loop, is_word, countable_of, counted_of}
-use Rattle.marked_runs.proofs.Aligned.{AreAligned, extra_sum}
+use Rattle.marked_runs.proofs.Laws.{word_of_loop, is_word, countable_of, counted_of, AreAligned, extra_sum}
 use Rattle.power_model.specs.Switches.{period, costs_of}
-use Rattle.leg_prices.proofs.Energies.{cycles_from, switches_save}
+use Rattle.leg_prices.proofs.Laws.{cycles_from, switches_save}
 use Rattle.paid_runs.specs.Timely.{weights_of, AreTables, AreTablesOf, IsPaidRun}
 use Rattle.paid_runs.specs.Laws.{StoredRunsArePaid, StoredRunsSaveEnergy, StubsAreBounded}
 use Rattle.paid_runs.proofs.Walk.{walk, cycles_later}

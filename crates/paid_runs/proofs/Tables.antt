@@ -12,12 +12,12 @@ use Rattle.power_model.specs.Price.{switch_time, switch_energy}
 use Rattle.power_model.specs.Switches.{period, energy, costs_of}
 use Rattle.cost_theory.specs.Graph.{Graph, Loops, AreWithin, leaves, only}
 use Rattle.cost_theory.specs.Worst.{Numbers, cost, slack, rest, turns, left_behind}
-use Rattle.cost_theory.proofs.Basics.{term-le-sum, only_true, and_left}
+use Rattle.cost_theory.proofs.Laws.{term-le-sum, only_true, and_left}
 use Rattle.cost_theory.specs.Reached.{edge_at}
 use Rattle.least_laws.specs.Charged.{Charged, to_end_after}
 use Rattle.graph_runs.specs.RunMoves.{text_graph}
 use Rattle.level_tables.specs.Tables.{EdgeNumbers, is_in_time, pays, trips_left, at_row}
-use Rattle.level_tables.proofs.Shifts.{trips_left-le}
+use Rattle.level_tables.proofs.Laws.{trips_left-le}
 use Rattle.stub_runs.specs.Meaning.{nibble}
 use Rattle.stored_runs.specs.Marks.{Shadow, place_at, fragments_by, level_stored, tail_cycles}
 use Rattle.paid_runs.specs.Timely.{weights_of, IsChosen}

@@ -16,28 +16,25 @@ use Rattle.cost_theory.specs.Laws.{IsAnalyzed}
 use Rattle.cost_theory.specs.Reached.{Code, edge_at}
 use Rattle.cost_theory.specs.Steps as steps
 use Rattle.cost_theory.specs.Steps.Move.{Along, Call, Return, Exit}
-use Rattle.cost_theory.proofs.Runs.{sound_run, sound_after, step_law}
-use Rattle.cost_theory.proofs.StepLaws.{along_at, behind-rest}
-use Rattle.cost_theory.proofs.OrdersExist.{call_order}
+use Rattle.cost_theory.proofs.Laws.{sound_run, sound_after, step_law, along_at, behind-rest, call_order}
 use Rattle.least_laws.specs.Charged.{Charged, to_end_after}
 use Rattle.least_laws.specs.Laws.{IsCharged}
-use Rattle.least_laws.proofs.KeptWalks.{exit_behind}
+use Rattle.least_laws.proofs.Laws.{exit_behind}
 use Rattle.graph_runs.specs.Text.{Text}
 use Rattle.graph_runs.specs.RunMoves.{text_graph}
-use Rattle.graph_runs.proofs.RunLaws.{after-append}
+use Rattle.graph_runs.proofs.Laws.{after-append}
 use Rattle.stub_writer.specs.Stubs.{Site}
 use Rattle.stub_runs.specs.Cycles.{cycles}
 use Rattle.stored_runs.specs.Marks.{Shadow, place_at, fragments_by, fragments_over, stored_cycles, tail_cycles, level_stored, shadow_more, shadow_after}
 use Rattle.stored_runs.specs.Legs.{Leg, IsLeg, AreLegs, originals, all_steps}
-use Rattle.stored_runs.proofs.LegLaws.{cost_of_legs}
+use Rattle.stored_runs.proofs.Laws.{cost_of_legs}
 use Rattle.shadow_counts.specs.Shadows.{AreCountable, counted_move, counted_moves}
-use Rattle.shadow_counts.proofs.Shown.{counts_shown}
+use Rattle.shadow_counts.proofs.Laws.{counts_shown}
 use Rattle.marked_runs.specs.Counters.{AreCounted}
-use Rattle.marked_runs.proofs.Aligned.{AreAligned, IsFirst, first_of_both, stored_at, stored_sum, counted_after}
+use Rattle.marked_runs.proofs.Laws.{AreAligned, IsFirst, first_of_both, stored_at, stored_sum, counted_after}
 use Rattle.power_model.specs.Switches.{period, costs_of, NeverRises, switches_from, AllPay}
 use Rattle.leg_prices.specs.Paid.{tail_if, IsPaidLeg}
-use Rattle.leg_prices.proofs.LegPrice.{leg_paid, no_switch}
-use Rattle.leg_prices.proofs.Energies.{period_le}
+use Rattle.leg_prices.proofs.Laws.{leg_paid, no_switch, period_le}
 use Rattle.paid_runs.specs.Timely.{weights_of, IsChosen, AreTablesOf}
 use Rattle.paid_runs.proofs.Edges.{leg_rise, leg_pays, PaysBehind, one_switch, no_switch_safe, pays_more}
 

@@ -3,9 +3,7 @@ use Rattle.std.proofs.Common.{◌≡◌, ℕ, ◌+◌, ◌<◌, Bool, true, fals
 use Rattle.cost_theory.specs.Graph.{Graph, Loops, sum_below, only, is_round, is_header, is_back, enters}
 use Rattle.cost_theory.specs.Worst.{Numbers, cost, all_of, charged}
 use Rattle.cost_theory.specs.Laws.{IsAnalyzed}
-use Rattle.cost_theory.proofs.Basics.{sum-none, only_false, and_both}
-use Rattle.cost_theory.proofs.Turns.{AreNested, entered-header, back_charged, charged_entering}
-use Rattle.cost_theory.proofs.Nesting.{header_held, nested, accepted_entered}
+use Rattle.cost_theory.proofs.Laws.{sum-none, only_false, and_both, AreNested, entered-header, back_charged, charged_entering, header_held, nested, accepted_entered}
 use Rattle.pass_laws.specs.Passes.{ChargedOn, ChargedBack, ChargedInto}
 
 module _ (g : Graph) (l : Loops) (extent : ℕ → ℕ → Bool) (w : ℕ → ℕ) (n : Numbers) (is : IsAnalyzed g l extent w n) where

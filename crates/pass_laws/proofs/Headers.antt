@@ -1,6 +1,5 @@
 -- Headers tell the loops apart.
-use Rattle.cost_theory.proofs.Append.{leads_to_header}
-use Rattle.cost_theory.proofs.Nesting.{headers-distinct, accepted_entered}
+use Rattle.cost_theory.proofs.Laws.{leads_to_header, headers-distinct, accepted_entered}
 use Rattle.pass_laws.specs.Passes.{HeadersAreDifferent, BackIsOfHeader}
 
 pub headers_different : HeadersAreDifferent

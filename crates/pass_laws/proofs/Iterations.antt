@@ -3,9 +3,7 @@ use Rattle.std.proofs.Common.{◌≡◌, ℕ, ◌+◌, ◌<◌, ◌≤◌, Bool,
 use Rattle.cost_theory.specs.Graph.{Graph, Loops, total, is_round, is_back, IsPlain, IsClosing}
 use Rattle.cost_theory.specs.Worst.{Numbers, IsGreatest, IsGreatestIfAny, cost, charged}
 use Rattle.cost_theory.specs.Laws.{IsAnalyzed}
-use Rattle.cost_theory.proofs.Nesting.{some_same, header_held, entered_at_headers, accepted_entered}
-use Rattle.cost_theory.proofs.Slack.{closing_present}
-use Rattle.cost_theory.proofs.Unique.{greatest_some}
+use Rattle.cost_theory.proofs.Laws.{some_same, header_held, entered_at_headers, accepted_entered, closing_present, greatest_some}
 use Rattle.pass_laws.specs.Passes.{IsRestOver, IsClosingOver, ClosingOver, IterationIsClosing}
 
 module _ (g : Graph) (l : Loops) (extent : ℕ → ℕ → Bool) (w : ℕ → ℕ) (n : Numbers) (is : IsAnalyzed g l extent w n) where

@@ -4,12 +4,7 @@ use Rattle.cost_theory.specs.Graph.{Graph, Loops, total, only, IsPlain, IsPlainP
 use Rattle.cost_theory.specs.Worst.{Numbers, IsGreatest, cost, all_of, charged, turns_round}
 use Rattle.cost_theory.specs.Accepted.{IsNode}
 use Rattle.cost_theory.specs.Laws.{IsAnalyzed}
-use Rattle.cost_theory.proofs.Basics.{sum-one, sum-none, only_true}
-use Rattle.cost_theory.proofs.Nesting.{some_same, header_held, headers-distinct, entry_header, nested, accepted_entered}
-use Rattle.cost_theory.proofs.Equation.{left-plain}
-use Rattle.cost_theory.proofs.Law.{worst_equation}
-use Rattle.cost_theory.proofs.Orders.{left-worst}
-use Rattle.cost_theory.proofs.OrdersExist.{call_order}
+use Rattle.cost_theory.proofs.Laws.{sum-one, sum-none, only_true, some_same, header_held, headers-distinct, entry_header, nested, accepted_entered, left-plain, worst_equation, left-worst, call_order}
 use Rattle.pass_laws.specs.Passes.{plain_at, IsPlainOver, PlainOver, WorstIsPlain, PlainWithinWorst}
 
 module _ (g : Graph) (l : Loops) (extent : ℕ → ℕ → Bool) (w : ℕ → ℕ) (n : Numbers) (is : IsAnalyzed g l extent w n) where

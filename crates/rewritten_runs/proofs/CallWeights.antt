@@ -14,7 +14,7 @@ use Rattle.cost_theory.specs.declared.edges.EdgeKind.{EdgeKind}
 use Rattle.cost_theory.specs.declared.edges.EdgeKind.TheVariants as kind
 use Rattle.graph_runs.specs.RunMoves.{text_graph}
 use Rattle.graph_runs.specs.Text.{Text, text_of}
-use Rattle.graph_runs.proofs.WeightLaws.{weights_are}
+use Rattle.graph_runs.proofs.Laws.{weights_are}
 use Rattle.code_graph.specs.FlowGraph.{FlowGraph, graph}
 use Rattle.loop_file.specs.declared.notes.LoopNote.{LoopNote}
 use Rattle.loop_tree.specs.Tree.{LoopView, loops}

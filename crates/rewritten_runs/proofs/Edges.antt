@@ -11,13 +11,12 @@ use Rattle.cost_theory.specs.declared.edges.EdgeKind.TheVariants.{Taken, Untaken
 use Rattle.cost_theory.specs.declared.edges.Word.TheVariants.{Branch, Goto, CallOf, Bad}
 use Rattle.cost_theory.specs.Graph.{Graph}
 use Rattle.cost_theory.specs.Reached.{Code, edge_at, edge_to, place_after, edges_of, call_returns}
-use Rattle.cost_theory.proofs.Programs.{callee-call, callee_word, edge_word}
-use Rattle.cost_theory.proofs.Reaching.{Within}
+use Rattle.cost_theory.proofs.Laws.{callee-call, callee_word, edge_word, Within}
 use Rattle.graph_runs.specs.Text.{Text, instr_at, instr_kind, kind_at, in_text}
 use Rattle.graph_runs.specs.EdgeCosts.{class_by, edge_class, is_taken_kind}
 use Rattle.graph_runs.specs.RunMoves.{text_graph}
 use Rattle.graph_runs.specs.Laws.{IsReachedCode}
-use Rattle.graph_runs.proofs.MoveLaws.{kind_facts}
+use Rattle.graph_runs.proofs.Laws.{kind_facts}
 use Rattle.scale_sites.specs.Sites.{is_branch_kind, edge_branches}
 use Rattle.scale_sites.specs.Counters.{goes_on, edge_goes_on}
 

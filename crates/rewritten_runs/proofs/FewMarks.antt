@@ -4,13 +4,12 @@ use Rattle.std.proofs.lemmas.Bool.{cases_lt, and_parts, false_from_ne_true}
 use Rattle.std.proofs.lemmas.List.{length-append}
 use Rattle.cost_theory.specs.Graph.{Graph, Loops, sum_below, only, is_header, leaves, goes_back}
 use Rattle.cost_theory.specs.Accepted.{IsProgram, AreAccepted}
-use Rattle.cost_theory.proofs.Basics.{sum-le, sum-none}
-use Rattle.cost_theory.proofs.Nesting.{accepted_entered, header_held}
+use Rattle.cost_theory.proofs.Laws.{sum-le, sum-none, accepted_entered, header_held}
 use Rattle.scale_base.specs.declared.fragments.Mark.{Mark}
 use Rattle.scale_base.specs.declared.fragments.Mark.TheVariants as marks
 use Rattle.scale_sites.specs.Counters.{set_from}
 use Rattle.scale_sites.specs.Marks.{first_counter, mark_if, leaves_any, holds_left, is_outermost, switch_of, exits_from, resets_from, counts_from, marks_at, IsIn, AreLoops, AreDistinct}
-use Rattle.scale_sites.proofs.OneExit.{switches-one}
+use Rattle.scale_sites.proofs.Laws.{switches-one}
 use Rattle.rewritten_runs.proofs.MarkLists.{marks_from, exits_are, resets_are, counts_are}
 
 abbrev count : (ℕ → Bool) → List ℕ → ℕ

@@ -9,24 +9,21 @@ use Rattle.scale_base.specs.declared.stepping.Class.TheVariants as class
 use Rattle.scale_base.specs.Image.{Image, is_in as in_range}
 use Rattle.scale_base.specs.Layout.{layout_of, is_keyed}
 use Rattle.scale_base.specs.Run.{Run, GoesOn, HasExited, run_of, setting_of, start_of, starting_level}
-use Rattle.scale_base.proofs.RunLaws.{run_stays}
+use Rattle.scale_base.proofs.Laws.{run_stays}
 use Rattle.power_model.specs.Numbers.{PowerModel, IsPowerModel}
 use Rattle.power_model.specs.Numbers.{Numbers as Metered}
 use Rattle.power_model.specs.Price.{price, held_energy}
-use Rattle.power_model.proofs.PriceLaws.{cycles-price}
+use Rattle.power_model.proofs.Laws.{cycles-price}
 use Rattle.cost_theory.specs.Graph.{Graph, Loops}
 use Rattle.least_laws.specs.Charged.{Charged}
 use Rattle.cost_theory.specs.Worst.{Numbers}
 use Rattle.cost_theory.specs.Steps as steps
-use Rattle.cost_theory.proofs.Basics.{search_below}
+use Rattle.cost_theory.proofs.Laws.{search_below}
 use Rattle.graph_runs.specs.Text.{Text, text_of}
 use Rattle.graph_runs.specs.RunMoves.{text_graph, after_moves, StandsBy}
 use Rattle.graph_runs.specs.KeptSteps.{Carried, by_extents}
 use Rattle.graph_runs.specs.KeptRuns.{kept_of, KeptAt, ExitsBy}
-use Rattle.graph_runs.proofs.Images.{text_of_layout}
-use Rattle.graph_runs.proofs.Lengths.{going_length}
-use Rattle.graph_runs.proofs.MoveLaws.{kind_facts}
-use Rattle.graph_runs.proofs.Programs.{image_runs_are_below, image_runs_end}
+use Rattle.graph_runs.proofs.Laws.{text_of_layout, going_length, kind_facts, image_runs_are_below, image_runs_end}
 use Rattle.code_graph.specs.FlowGraph.{FlowGraph, graph}
 use Rattle.loop_file.specs.declared.notes.LoopNote.{LoopNote}
 use Rattle.loop_file.specs.Kept.{noted_loops}
@@ -36,15 +33,13 @@ use Rattle.stub_writer.specs.Stubs.{Site}
 use Rattle.stored_runs.specs.Marks.{shadow_first, shadow_after}
 use Rattle.stored_runs.specs.Legs.{Leg, originals, steps_to}
 use Rattle.stored_runs.specs.Laws.{text_steps}
-use Rattle.stored_runs.proofs.Frame.{frame}
-use Rattle.stored_runs.proofs.LegLaws.{text_of_legs}
-use Rattle.stored_runs.proofs.Meetings.{meetings_once}
+use Rattle.stored_runs.proofs.Laws.{frame, text_of_legs, meetings_once}
 use Rattle.marked_runs.specs.Marked.{IsKeptFollowed, AreHeld}
-use Rattle.marked_runs.proofs.Kept.{kept_followed}
+use Rattle.marked_runs.proofs.Laws.{kept_followed}
 use Rattle.power_model.specs.Switches.{period, costs_of, NeverRises, switches_from, saved, fee, AllPay}
-use Rattle.leg_prices.proofs.Energies.{energy_sum, switches_save}
+use Rattle.leg_prices.proofs.Laws.{energy_sum, switches_save}
 use Rattle.paid_runs.specs.Timely.{weights_of, IsPaidRun}
-use Rattle.paid_runs.proofs.Paid.{runs_paid, stubs_bounded}
+use Rattle.paid_runs.proofs.Laws.{runs_paid, stubs_bounded}
 use Rattle.rewritten_runs.specs.Prices.{price_of}
 use Rattle.rewritten_runs.specs.Stubs.{stored_weights, marks_by_slack, is_counted, counter_of}
 use Rattle.rewritten_runs.specs.Promise.{KeepsThePromise}

@@ -3,7 +3,7 @@ use Rattle.std.proofs.Common.{◌≡◌, ℕ, zero, suc, ◌<◌, ◌≤◌, Lis
 use Rattle.cost_theory.specs.Graph.{Graph, Loops, IsWalk, total}
 use Rattle.cost_theory.specs.Accepted.{IsProgram, IsCallOrder}
 use Rattle.cost_theory.specs.Worst.{Numbers, AreWorst, cost, at_some}
-use Rattle.cost_theory.proofs.OrdersExist.{call_order}
+use Rattle.cost_theory.proofs.Laws.{call_order}
 
 module _ (g : Graph) (l : Loops) (prog : IsProgram g) (w other : ℕ → ℕ) (n m : Numbers) (worst : AreWorst g l w n) (others : AreWorst g l other m) (le : (e : ℕ) → e < g.edges → w e ≤ other e) (rank : ℕ → ℕ) (order : IsCallOrder g rank) where
   abbrev Owned : ℕ → Option ℕ → Type 0

@@ -8,19 +8,19 @@ use Rattle.scale_base.specs.declared.ranges.Keyed.{Keyed}
 use Rattle.scale_base.specs.Image.{Image, image_of, contents, is_in, is_word_address}
 use Rattle.scale_base.specs.Layout.{layout_of, is_keyed}
 use Rattle.scale_base.specs.Word.{word_of}
-use Rattle.scale_base.proofs.Accepted.{contents-are}
+use Rattle.scale_base.proofs.Laws.{contents-are}
 use Rattle.power_model.specs.Numbers.{PowerModel, IsPowerModel}
 use Rattle.power_model.specs.Price.{time_at}
 use Rattle.power_model.specs.Slowest.{slowest_of, is_in_time}
 use Rattle.elf_patch.specs.Stored.{stored_image, IsStubBase}
 use Rattle.stored_laws.specs.StoredView.{IsStorable, stored_view}
-use Rattle.stored_laws.proofs.Whole.{law}
-use Rattle.text_laws.proofs.Tests.{found_in, found_passes}
+use Rattle.stored_laws.proofs.Laws.{law}
+use Rattle.text_laws.proofs.Laws.{found_in, found_passes}
 use Rattle.cost_theory.specs.Graph.{Graph, Loops}
 use Rattle.least_laws.specs.Charged.{Charged, AreCharged}
 use Rattle.cost_theory.specs.Worst.{Numbers, AreNumbers}
 use Rattle.cost_theory.specs.Reached.{edge_at}
-use Rattle.cost_theory.proofs.Programs.{source_reached, some_get}
+use Rattle.cost_theory.proofs.Laws.{source_reached, some_get}
 use Rattle.graph_runs.specs.EdgeCosts.{weights}
 use Rattle.graph_runs.specs.RunMoves.{text_graph}
 use Rattle.graph_runs.specs.Text.{text_of, kind_at}
@@ -34,9 +34,9 @@ use Rattle.scale_sites.specs.Marks.{AreLoops}
 use Rattle.scale_sites.specs.Sites.{is_branch}
 use Rattle.stub_writer.specs.Stubs.{Site, block_size, block_bytes, patches_from, stub_len, jump, out_of_reach}
 use Rattle.stored_runs.specs.Stubbed.{IsStubbed, IsSafeSite}
-use Rattle.stored_runs.proofs.Frame.{frame}
+use Rattle.stored_runs.proofs.Laws.{frame}
 use Rattle.marked_runs.specs.Marked as marked_specs
-use Rattle.marked_runs.proofs.Graphs.{weights_of_calls}
+use Rattle.marked_runs.proofs.Laws.{weights_of_calls}
 use Rattle.power_model.specs.Switches.{costs_of}
 use Rattle.paid_runs.specs.Timely.{weights_of}
 use Rattle.rewritten_runs.specs.Laws.{IsSafelyRewritten, RewrittenImagesFollow}

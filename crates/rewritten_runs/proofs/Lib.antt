@@ -16,3 +16,4 @@ pub mod Follows
 pub mod Law
 pub mod Grows
 pub mod CallWeights
+pub mod Laws

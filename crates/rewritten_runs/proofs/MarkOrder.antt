@@ -11,7 +11,7 @@ use Rattle.scale_base.specs.declared.fragments.Mark.{Mark}
 use Rattle.scale_base.specs.declared.fragments.Mark.TheVariants as marks
 use Rattle.scale_sites.specs.Counters.{set_from}
 use Rattle.scale_sites.specs.Marks.{first_counter, is_outermost, switch_of, exits_from, resets_from, counts_from, marks_at, IsIn, AreLoops, AreDistinct}
-use Rattle.scale_sites.proofs.OneExit.{switches-one}
+use Rattle.scale_sites.proofs.Laws.{switches-one}
 use Rattle.stored_runs.specs.Stubbed.{IsQuiet, AreOrdered}
 use Rattle.rewritten_runs.specs.Stubs.{fragment_of}
 use Rattle.rewritten_runs.proofs.MarkLists.{marks_all, resets_are, counts_are}

@@ -13,8 +13,7 @@ use Rattle.cost_theory.specs.Accepted.{IsProgram}
 use Rattle.least_laws.specs.Charged.{Charged}
 use Rattle.cost_theory.specs.Worst.{Numbers}
 use Rattle.cost_theory.specs.Reached.{Code, edge_at}
-use Rattle.cost_theory.proofs.Nesting.{accepted_entered, header_held}
-use Rattle.cost_theory.proofs.Programs.{is_program, some_get}
+use Rattle.cost_theory.proofs.Laws.{accepted_entered, header_held, is_program, some_get}
 use Rattle.graph_runs.specs.EdgeCosts.{edge_class}
 use Rattle.graph_runs.specs.Laws.{IsProgramOf}
 use Rattle.graph_runs.specs.RunMoves.{text_graph}
@@ -35,7 +34,7 @@ use Rattle.stub_writer.specs.Stubs.{Site}
 use Rattle.stored_runs.specs.Marks.{place_at, fragments_by, counters_after, counters_behind}
 use Rattle.shadow_counts.specs.Shadows.{AreCountable}
 use Rattle.marked_runs.specs.Marked as marked_specs
-use Rattle.marked_runs.proofs.Graphs.{loops_are_countable}
+use Rattle.marked_runs.proofs.Laws.{loops_are_countable}
 use Rattle.rewritten_runs.specs.Stubs.{IsWeighed, marks_by_slack, told_at, fragment_of, fragments_at, loop_of, is_counted, counter_of, set_before}
 use Rattle.rewritten_runs.proofs.Programs.{program_of}
 use Rattle.rewritten_runs.proofs.Edges.{branch_led, call_goes_on}

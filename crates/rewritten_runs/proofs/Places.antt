@@ -8,13 +8,12 @@ use Rattle.cost_theory.specs.Worst.{Numbers, turns}
 use Rattle.cost_theory.specs.Steps as steps
 use Rattle.cost_theory.specs.Steps.{left_call, add_call, left_calls, left_at_node, cycles_left}
 use Rattle.cost_theory.specs.Reached.{HasNoBadWord}
-use Rattle.cost_theory.proofs.Basics.{sum-same}
+use Rattle.cost_theory.proofs.Laws.{sum-same}
 use Rattle.graph_runs.specs.Text.{Text, kind_at}
 use Rattle.graph_runs.specs.TextStates.{IsTextOf}
 use Rattle.graph_runs.specs.RunMoves.{after_call, IsStack}
 use Rattle.graph_runs.specs.KeptRuns.{AreSameBelow}
-use Rattle.graph_runs.proofs.MoveLaws.{kind_facts}
-use Rattle.graph_runs.proofs.TextFacts.{word_bound}
+use Rattle.graph_runs.proofs.Laws.{kind_facts, word_bound}
 use Rattle.shadow_counts.specs.Shadows.{is_in}
 
 -- ---- calls

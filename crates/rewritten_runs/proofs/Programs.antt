@@ -14,9 +14,8 @@ use Rattle.scale_base.specs.Image.{Image}
 use Rattle.scale_base.specs.Run.{setting_of, start_of}
 use Rattle.graph_runs.specs.KeptSteps.{Carried, by_extents}
 use Rattle.graph_runs.specs.KeptRuns.{kept_of}
-use Rattle.graph_runs.proofs.LessKept.{kept_by_less}
+use Rattle.graph_runs.proofs.Laws.{kept_by_less, weights_are}
 use Rattle.graph_runs.specs.Laws.{IsProgramOf}
-use Rattle.graph_runs.proofs.WeightLaws.{weights_are}
 use Rattle.cost_theory.specs.Accepted.{AreAccepted, HasNoRecursion, HaveWholeExtents}
 use Rattle.loop_file.specs.declared.notes.LoopNote.{LoopNote}
 use Rattle.loop_file.specs.Kept.{noted_loops, note_at}

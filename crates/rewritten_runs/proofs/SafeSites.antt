@@ -21,8 +21,7 @@ use Rattle.cost_theory.specs.Graph.{Graph, Loops}
 use Rattle.least_laws.specs.Charged.{Charged}
 use Rattle.cost_theory.specs.Worst.{Numbers}
 use Rattle.cost_theory.specs.Reached.{Code, Reached, LeadsTo, edges_of, call_returns, edge_at}
-use Rattle.cost_theory.proofs.Programs.{source_reached}
-use Rattle.cost_theory.proofs.Reaching.{Within, word_edge}
+use Rattle.cost_theory.proofs.Laws.{source_reached, Within, word_edge}
 use Rattle.graph_runs.specs.EdgeCosts.{edge_class}
 use Rattle.graph_runs.specs.RunMoves.{text_graph}
 use Rattle.graph_runs.specs.Text.{Text, text_of, instr_at, instr_kind, kind_at}
@@ -38,7 +37,7 @@ use Rattle.stub_writer.specs.Fragments.{IsShadow}
 use Rattle.stub_writer.specs.Stubs.{Site, Way, Place, Forked, Straight}
 use Rattle.stored_runs.specs.Marks.{place_at, fragments_by}
 use Rattle.stored_runs.specs.Stubbed.{IsSafe, IsSafeWay, IsOfImage, AreSafeWays, IsSafeSite, AreOrdered, AreAscending}
-use Rattle.marked_runs.proofs.Graphs.{targets_are_words}
+use Rattle.marked_runs.proofs.Laws.{targets_are_words}
 use Rattle.rewritten_runs.specs.Stubs.{IsWeighed, AreSitesOf, marks_by_slack, told_at, fragment_of, fragments_at, loop_of}
 use Rattle.rewritten_runs.proofs.Edges.{edge_is}
 use Rattle.rewritten_runs.proofs.Marked.{IsMarkOf, program_is, graph_program, marks_of_edge, shadow_of, counted_is}

@@ -13,16 +13,16 @@ use Rattle.scale_base.specs.declared.ranges.Range.{Range}
 use Rattle.scale_base.specs.declared.fragments.Fragment.{Fragment}
 use Rattle.scale_base.specs.declared.fragments.Fragment.TheVariants as fragments
 use Rattle.scale_base.specs.Image.{Image, image_of, contents, is_in, insert_range, ascending, text_ranges, range_of, text_parts, loaded_headers}
-use Rattle.scale_base.proofs.Accepted.{contents-are}
+use Rattle.scale_base.proofs.Laws.{contents-are}
 use Rattle.elf_patch.specs.Stored.{IsStubBase, text_end, end_in}
-use Rattle.elf_patch.proofs.Room.{some_place}
-use Rattle.text_laws.proofs.Ranges.{text_ranges_kept}
+use Rattle.elf_patch.proofs.Laws.{some_place}
+use Rattle.text_laws.proofs.Laws.{text_ranges_kept}
 use Rattle.graph_runs.specs.Text.{AreApart}
-use Rattle.graph_runs.proofs.RangesApart.{ranges_apart}
+use Rattle.graph_runs.proofs.Laws.{ranges_apart}
 use Rattle.rv_encode.specs.Jumps.{distance}
 use Rattle.stub_writer.specs.Fragments.{code_len, rows_of}
 use Rattle.stub_writer.specs.Stubs.{Site, Place, Forked, Straight, way_rows, rows_by, stub_len, stub_len_of, stub_rows, stub_rows_of, stubs_len, block_rows, block_size, block_bytes, is_even, is_field, reaches, is_near, out_of_reach, stub_reaches_of}
-use Rattle.stub_runs.proofs.BlockLaws.{codes_small, block_length, words_length}
+use Rattle.stub_runs.proofs.Laws.{codes_small, block_length, words_length}
 use Rattle.stored_runs.specs.Stubbed.{IsSafe, AreSafeWays, IsSafeSite}
 
 -- ---- reach

@@ -12,10 +12,7 @@ use Rattle.power_model.specs.Numbers.{PowerModel}
 use Rattle.power_model.specs.Price.{switch_time}
 use Rattle.level_tables.specs.Search.{least_below}
 use Rattle.level_tables.specs.Tables.{EdgeNumbers, is_in_time, pays, meets_both, entry_of, nibble, word_of, shift_of, trips_left, at_row, row_of, rows_of}
-use Rattle.level_tables.proofs.Searching.{IsFound, least-is}
-use Rattle.level_tables.proofs.Words.{nibbles-fit}
-use Rattle.level_tables.proofs.Entries.{entry-is, entries-small, word-at, row-at}
-use Rattle.level_tables.proofs.Shifts.{trips_left-le}
+use Rattle.level_tables.proofs.Laws.{IsFound, least-is, nibbles-fit, entry-is, entries-small, word-at, row-at, trips_left-le}
 use Rattle.stored_runs.specs.Stubbed.{IsTable}
 
 pub leb-le : (x y : ℕ) → nat_le x y ≡ true → x ≤ y

@@ -10,7 +10,7 @@ use Rattle.cost_theory.specs.Graph.{Graph, Loops, AreWithin, only, leaves}
 use Rattle.least_laws.specs.Charged.{Charged, to_end_after}
 use Rattle.cost_theory.specs.Worst.{Numbers, cost, slack, rest, turns, left_behind}
 use Rattle.cost_theory.specs.Reached.{Code}
-use Rattle.cost_theory.proofs.Basics.{term-le-sum}
+use Rattle.cost_theory.proofs.Laws.{term-le-sum}
 use Rattle.graph_runs.specs.RunMoves.{text_graph}
 use Rattle.graph_runs.specs.Text.{Text, text_of}
 use Rattle.code_graph.specs.FlowGraph.{FlowGraph, graph}

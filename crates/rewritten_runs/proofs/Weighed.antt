@@ -16,7 +16,7 @@ use Rattle.cost_theory.specs.Graph.{Graph, Loops, any_below, only}
 use Rattle.least_laws.specs.Charged.{Charged}
 use Rattle.cost_theory.specs.Worst.{Numbers}
 use Rattle.cost_theory.specs.Reached.{Code, edge_at}
-use Rattle.cost_theory.proofs.Basics.{search_below}
+use Rattle.cost_theory.proofs.Laws.{search_below}
 use Rattle.graph_runs.specs.EdgeCosts.{edge_class, weights}
 use Rattle.graph_runs.specs.RunMoves.{text_graph}
 use Rattle.graph_runs.specs.Text.{Text, text_of, instr_at}

@@ -3,3 +3,4 @@ pub mod EmptyKey
 pub mod KeylessRuns
 pub mod RegisterLaws
 pub mod StepLaws
+pub mod Laws

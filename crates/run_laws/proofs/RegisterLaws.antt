@@ -17,7 +17,7 @@ use Rattle.scale_base.specs.State.{Setting, State, reg, with_reg, word_at}
 use Rattle.scale_base.specs.Service.{served, serves, read_count, write_count}
 use Rattle.scale_base.specs.Step.{Outcome, jumps, branches, loads, stores_word, stores, performs, executes, window_index, port_index, step}
 use Rattle.scale_base.specs.Run.{Run, Standing, GoesOn, HasExited, HasTrapped, ended, one_more_by, run}
-use Rattle.scale_base.proofs.ZeroLaws.{step_zero}
+use Rattle.scale_base.proofs.Laws.{step_zero}
 
 with_reg_length : (regs : List ℕ) (r value n : ℕ) → length regs ≡ n → length (with_reg regs r value) ≡ n
 with_reg_length regs r value n h =

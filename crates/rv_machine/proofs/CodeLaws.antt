@@ -9,7 +9,7 @@ use Rattle.rv_machine.specs.Decoded.{TellsOf, decoded_end, end_by}
 use Rattle.scale_base.specs.Word.{FieldsInRange}
 use Rattle.scale_base.specs.Reading.{instr_of}
 use Rattle.scale_base.specs.Layout.{Layout, each_byte, may_write, can_fetch}
-use Rattle.scale_base.proofs.LayoutLaws.{each_byte_at}
+use Rattle.scale_base.proofs.Laws.{each_byte_at}
 use Rattle.scale_base.specs.State.{Setting, State, word_at}
 use Rattle.scale_base.specs.declared.stepping.Class.{Class}
 use Rattle.scale_base.specs.declared.stepping.Move.{Move}

@@ -38,7 +38,7 @@ impl Places<'_> {
 }
 
 /// Whether none of the four bytes may be written.
-#[tactic(auto, using(scale_base::proofs::LayoutLaws::each_byte_none, scale_base::proofs::LayoutLaws::each_byte_more))]
+#[tactic(auto, using(scale_base::proofs::Laws::each_byte_none, scale_base::proofs::Laws::each_byte_more))]
 fn is_unwritten<M: Memory>(memory: &M, at: u32) -> bool
     requires { at + 4 ≤ 2 ^ 32 }
     ensures { result ≡ rules.each_byte (λ a. not (rules.may_write (M.layout memory.now) a)) at 4 }

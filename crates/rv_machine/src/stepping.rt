@@ -202,7 +202,7 @@ fn store_width(op: StoreOp) -> u32
 
 /// Stores the lowest bytes of the value.
 #[inline(always)]
-#[tactic(auto, using(scale_base::proofs::LayoutLaws::each_byte_first), unfolding(scale_base::specs::Layout::each_byte))]
+#[tactic(auto, using(scale_base::proofs::Laws::each_byte_first), unfolding(scale_base::specs::Layout::each_byte))]
 fn put<M: Memory>(memory: &mut M, op: StoreOp, at: u32, value: u32)
     requires fits { at + ops.store_width op ≤ 2 ^ 32 }
     requires allowed { IsTrue (rules.can_write (M.layout memory.old) at (ops.store_width op)) }

@@ -7,3 +7,4 @@ pub mod LayoutLaws
 pub mod BytesLaws
 pub mod RunLaws
 pub mod ZeroLaws
+pub mod Laws

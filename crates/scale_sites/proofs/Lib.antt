@@ -2,3 +2,4 @@ mod Costing
 pub mod OneExit
 mod CounterLaws
 mod SiteLaws
+pub mod Laws

@@ -3,8 +3,7 @@ use Rattle.std.proofs.Common.{◌≡◌, ◌≢◌, ℕ, ◌+◌, ◌<◌, ◌�
 use Rattle.cost_theory.specs.Graph.{Graph, Loops, leaves}
 use Rattle.cost_theory.specs.Accepted.{IsProgram, AreAccepted, IsWithin}
 use Rattle.std.proofs.lemmas.Bool.{cases_eq}
-use Rattle.cost_theory.proofs.Basics.{and_left, and_right}
-use Rattle.cost_theory.proofs.Nesting.{accepted_entered, one_within}
+use Rattle.cost_theory.proofs.Laws.{and_left, and_right, accepted_entered, one_within}
 use Rattle.scale_base.specs.declared.fragments.Mark.TheVariants.{Switch, Exit}
 use Rattle.scale_sites.specs.Marks.{leaves_any, holds_left, is_outermost, mark_if, exits_from, switch_of, IsIn, AreLoops, AreDistinct}
 

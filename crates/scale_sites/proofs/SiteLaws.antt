@@ -12,7 +12,7 @@ use Rattle.cost_theory.specs.Graph.{Graph, Loops, leaves, goes_back, is_header, 
 use Rattle.cost_theory.specs.Lists.{or_true, is_among, body_of}
 use Rattle.code_graph.specs.FlowGraph.{FlowGraph, graph, IsFlowGraph}
 use Rattle.natural_loops.specs.Noted.{node_address}
-use Rattle.natural_loops.proofs.NodeLaws.{one_number}
+use Rattle.natural_loops.proofs.Laws.{one_number}
 use Rattle.loop_tree.specs.Tree.{LoopView, loops, IsLoopTree}
 use Rattle.scale_base.specs.declared.fragments.Mark.{Mark}
 use Rattle.scale_base.specs.declared.fragments.Mark.TheVariants.{Switch, Exit, Reset, Count}

@@ -8,10 +8,9 @@ use Rattle.scaler.specs.Agree.{AreAlikeAnswers}
 use Rattle.scaler.specs.Held.{IsHeld}
 use Rattle.scaler.specs.Planned.{IsPlanned}
 use Rattle.scaler.specs.Rewritten.{IsRewritten}
-use Rattle.scaler.proofs.agree.Helds.{held_answers}
-use Rattle.scaler.proofs.agree.Rewrites.{rewritten_answers}
+use Rattle.scaler.proofs.Laws.{held_answers, rewritten_answers}
 use Rattle.image_maker.specs.Making.{program}
-use Rattle.image_maker.proofs.OneImage.{one_image}
+use Rattle.image_maker.proofs.Laws.{one_image}
 use Rattle.host_files.specs.HostState.{Files, HostState}
 use Rattle.scale_tool.specs.Answer.{Answer, AnswersTo, Giving, HasAnswer, IsAnswerOf, AreMade, MadeFiles, Makes, MakesMade, MakesReport, MakesStored, made_answer, plan_answer, stored_answer}
 use Rattle.scale_tool.specs.Command.{Command, Help, Hold, Rewrite, Report, Simulate, Make, wants_of}

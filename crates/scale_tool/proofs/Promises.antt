@@ -14,11 +14,10 @@ use Rattle.scaler.specs.Held.{IsHeld}
 use Rattle.scaler.specs.Rewritten.{IsRewritten}
 use Rattle.scaler.specs.Runs.{IsHeldSafely}
 use Rattle.scaler.specs.RewrittenRuns.{IsRewrittenSafely}
-use Rattle.scaler.proofs.Safe.{safe as held_safe}
-use Rattle.scaler.proofs.SafeRewritten.{safe as rewritten_safe}
+use Rattle.scaler.proofs.Laws.{held_safe, rewritten_safe}
 use Rattle.speed_sim.specs.Simulated.{simulated}
 use Rattle.image_maker.specs.Making.{headers}
-use Rattle.image_maker.proofs.SmallFiles.{small_image, small_machine, small_loops}
+use Rattle.image_maker.proofs.Laws.{small_image, small_machine, small_loops}
 use Rattle.host_files.specs.HostState.{Files, HostState}
 use Rattle.scale_tool.specs.Answer.{Answer, Giving, AreMade, MadeFiles, Makes, MakesMade, MakesStored, AnswersTo, HasAnswer, made_answer, refused, stored_answer, unless_refused}
 use Rattle.scale_tool.specs.Command.{Command, Help, Hold, Rewrite, Report, Simulate, Make, command_of, texts, wants_of}

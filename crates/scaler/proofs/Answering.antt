@@ -21,7 +21,7 @@ use Rattle.loop_tree.specs.Tree.{LoopView, loops, IsTreeOf}
 use Rattle.worst_cycles.specs.Worst.{WorstView, by_edge, IsWorstFound}
 use Rattle.scaler.specs.Held.{IsHeldProgram, held_at, held_within}
 use Rattle.scaler.proofs.Files.{HoldAnswers}
-use Rattle.rewritten_runs.proofs.Programs.{listed_weights, numbers_listed}
+use Rattle.rewritten_runs.proofs.Laws.{listed_weights, numbers_listed}
 
 -- ---- stops
 

@@ -8,8 +8,7 @@ use Rattle.cost_theory.specs.declared.edges.Edge.{Edge}
 use Rattle.cost_theory.specs.declared.edges.Word.{Word}
 use Rattle.cost_theory.specs.declared.edges.Word.TheVariants.{Branch, Goto, CallOf, Back, Ends, MayEnd, Breaks, Straight, Bad}
 use Rattle.cost_theory.specs.Reached.{Code, edges_of, edge_at, call_returns}
-use Rattle.cost_theory.proofs.Reaching.{Within, get_within, within_get, within_flat, edges-at}
-use Rattle.cost_theory.proofs.Programs.{some_get}
+use Rattle.cost_theory.proofs.Laws.{Within, get_within, within_get, within_flat, edges-at, some_get}
 use Rattle.graph_runs.specs.Text.{Text, kind_at}
 use Rattle.code_graph.specs.FlowGraph.{FlowGraph, IsGraphOf}
 use Rattle.stub_writer.specs.declared.site.StubEdge.{StubEdge}
@@ -122,7 +121,7 @@ module _ (t : Text) (v : FlowGraph) (is : IsGraphOf t v) where
 
   within_of : (e : ℕ) (x : Edge) (at : ℕ) → slice_get code.edges e ≡ Some x → x.at ≡ at → Within x (of at)
   within_of e x at get here =
-      let w = Rattle.cost_theory.proofs.Reaching.edge_of_word (kind_at t) t.entry code is.reached.lists e x get in
+      let w = Rattle.cost_theory.proofs.Laws.edge_of_word (kind_at t) t.entry code is.reached.lists e x get in
       subst (λ u. Within x (of u)) (sym w.3 ∙ here) w.2
 
   -- a row of edges of one address is short

@@ -19,8 +19,7 @@ use Rattle.worst_cycles.specs.Worst.{WorstView, by_edge, IsWorstFound}
 use Rattle.scale_sites.specs.Sites.{SitesView, is_branch, marks_at_edge}
 use Rattle.scale_sites.specs.Weights.{extra_of, extra_weight}
 use Rattle.rewritten_runs.specs.Stubs.{marks_by_slack, extra_weights, stored_weights}
-use Rattle.rewritten_runs.proofs.CallWeights.{extra_are_weights}
-use Rattle.rewritten_runs.proofs.Grows.{worst_grows}
+use Rattle.rewritten_runs.proofs.Laws.{extra_are_weights, worst_grows}
 use Rattle.scaler.specs.Scalings.{HasMarks, IsInRange, IsExtraFound}
 
 pub past_end : (xs : List ℕ) (e : ℕ) → length xs ≤ e → by_edge xs e ≡ 0

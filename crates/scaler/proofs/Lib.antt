@@ -16,3 +16,4 @@ pub mod MarkingFacts
 pub mod ScalingFacts
 pub mod ProgramFacts
 pub mod agree
+pub mod Laws

@@ -30,7 +30,7 @@ use Rattle.scale_sites.specs.Counters.{counted_loops}
 use Rattle.scale_sites.specs.Marks.{first_counter}
 use Rattle.scale_sites.specs.Sites.{is_branch, marks_at_edge}
 use Rattle.rewritten_runs.specs.Stubs.{marks_by_slack, plain_weights, fragment_of, loop_of}
-use Rattle.rewritten_runs.proofs.Marked.{IsCounter, IsMarkOf, marks_are}
+use Rattle.rewritten_runs.proofs.Laws.{IsCounter, IsMarkOf, marks_are}
 use Rattle.scaler.specs.declared.stubs.Marking.{Marking}
 use Rattle.scaler.specs.Markings.{IsMarking, IsCounterOf, IsOfLoop}
 use Rattle.scaler.specs.Planned.{loop_number, line_of, lines_from}

@@ -8,9 +8,7 @@ use Rattle.scale_base.specs.declared.fragments.Fragment.{Fragment}
 use Rattle.least_laws.specs.Charged.{Charged}
 use Rattle.natural_loops.specs.Noted.{node_address}
 use Rattle.stub_writer.specs.Fragments.{IsFragment, IsShadow}
-use Rattle.rewritten_runs.proofs.MarkOrder.{in_get, set_distinct}
-use Rattle.rewritten_runs.proofs.TableLaws.{shift_fits, rows_count}
-use Rattle.rewritten_runs.proofs.FewMarks.{depth, few_marks}
+use Rattle.rewritten_runs.proofs.Laws.{in_get, set_distinct, shift_fits, rows_count, depth, few_marks, edge_is, IsMarkOf, program_is, graph_program, marks_of_edge, marked_led, counted_is, loop_count, shadow_of}
 use Rattle.scaler.proofs.EdgeBlocks.{map_none}
 use Rattle.std.proofs.lemmas.Bool.{eqb-true}
 use Rattle.scale_base.specs.declared.instruction.Instr.{Instr}
@@ -27,9 +25,7 @@ use Rattle.cost_theory.specs.declared.edges.EdgeKind.TheVariants.{Taken, Untaken
 use Rattle.cost_theory.specs.declared.edges.Word.{Word}
 use Rattle.cost_theory.specs.declared.edges.Word.TheVariants.{Branch, Goto, CallOf, Back, Ends, MayEnd, Breaks, Straight, Bad}
 use Rattle.cost_theory.specs.Reached.{Code, place_after, edge_at, edge_to, edges_of, call_returns}
-use Rattle.cost_theory.proofs.Programs.{edge_word, source_reached, some_get}
-use Rattle.cost_theory.proofs.Reaching.{Within}
-use Rattle.cost_theory.proofs.Nesting.{accepted_entered, header_held}
+use Rattle.cost_theory.proofs.Laws.{edge_word, source_reached, some_get, Within, accepted_entered, header_held}
 use Rattle.graph_runs.specs.Text.{Text, text_of, instr_at, instr_kind, kind_at, known, ecall_kind}
 use Rattle.graph_runs.specs.RunMoves.{text_graph}
 use Rattle.code_graph.specs.FlowGraph.{FlowGraph}
@@ -42,8 +38,6 @@ use Rattle.scale_sites.specs.Counters.{counted_loops, goes_on, edge_goes_on, IsU
 use Rattle.scale_sites.specs.Marks.{AreLoops}
 use Rattle.scale_sites.specs.Sites.{is_branch, is_branch_kind, edge_branches}
 use Rattle.rewritten_runs.specs.Stubs.{IsWeighed, marks_by_slack, told_at, fragment_of, fragments_at, loop_of}
-use Rattle.rewritten_runs.proofs.Edges.{edge_is}
-use Rattle.rewritten_runs.proofs.Marked.{IsMarkOf, program_is, graph_program, marks_of_edge, marked_led, counted_is, loop_count, shadow_of}
 use Rattle.scaler.specs.Planned.{IsSitesKind}
 
 -- ---- the way on

@@ -23,13 +23,8 @@ use Rattle.call_orders.specs.Arcs.{number_at}
 use Rattle.least_laws.specs.Charged.{AreCharged}
 use Rattle.least_cycles.specs.Found.{LeastView, IsInRange, IsLeastOf, AreSmallLeast, HoldsLeast}
 use Rattle.cost_theory.specs.Worst.{Numbers, AreNumbers, cost, turn_back, slack, rest}
-use Rattle.cost_theory.proofs.Basics.{sum-none}
+use Rattle.cost_theory.proofs.Laws.{sum-none, headers-distinct, accepted_entered, left-worst, turns-worst, call_order, plain_order, iteration-worst, rest-worst}
 use Rattle.cost_theory.proofs.Contexts as contexts
-use Rattle.cost_theory.proofs.Nesting.{headers-distinct, accepted_entered}
-use Rattle.cost_theory.proofs.Orders.{left-worst, turns-worst}
-use Rattle.cost_theory.proofs.OrdersExist.{call_order, plain_order}
-use Rattle.cost_theory.proofs.Overruns.{iteration-worst}
-use Rattle.cost_theory.proofs.Rest.{rest-worst}
 use Rattle.graph_runs.specs.EdgeCosts.{cost_of}
 use Rattle.graph_runs.specs.Text.{text_of}
 use Rattle.code_graph.specs.FlowGraph.{FlowGraph, graph, IsGraphOf}
@@ -42,9 +37,7 @@ use Rattle.scale_sites.specs.Counters.{AreCounters, counted_loops}
 use Rattle.scale_sites.specs.Sites.{SitesView, is_branch, marks_at_edge}
 use Rattle.scale_sites.specs.Weights.{extra_of, extra_weight, jumps_of}
 use Rattle.rewritten_runs.specs.Stubs.{IsWeighed, marks_by_slack, plain_weights, extra_weights, stored_weights}
-use Rattle.rewritten_runs.proofs.CallWeights.{stored_are_weights}
-use Rattle.rewritten_runs.proofs.Grows.{worst_grows}
-use Rattle.rewritten_runs.proofs.Programs.{listed_weights, weights_listed, weights_count}
+use Rattle.rewritten_runs.proofs.Laws.{stored_are_weights, worst_grows, listed_weights, weights_listed, weights_count}
 use Rattle.scaler.specs.declared.stubs.Marking.{Marking}
 use Rattle.scaler.specs.Markings.{IsMarking}
 use Rattle.scaler.specs.Scalings.{HasMarks, AreSitesFound, IsMarkedAt, IsMarkingFound, starting_level, starting_of}

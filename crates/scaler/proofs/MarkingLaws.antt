@@ -18,12 +18,10 @@ use Rattle.scale_sites.specs.Counters.{counted_loops}
 use Rattle.scale_sites.specs.Marks.{first_counter, is_outermost, switch_of, exits_from, resets_from, counts_from, AreLoops}
 use Rattle.scale_sites.specs.Sites.{is_branch, marks_at_edge}
 use Rattle.scale_sites.specs.Weights.{switches}
-use Rattle.scale_sites.proofs.OneExit.{switches-one}
+use Rattle.scale_sites.proofs.Laws.{switches-one}
 use Rattle.worst_cycles.specs.Worst.{slack_at}
 use Rattle.rewritten_runs.specs.Stubs.{marks_by_slack, plain_weights, told_at, fragment_of, loop_of}
-use Rattle.rewritten_runs.proofs.MarkLists.{marks_all, resets_are, counts_are, at_set}
-use Rattle.rewritten_runs.proofs.Marked.{IsMarkOf, marks_are}
-use Rattle.rewritten_runs.proofs.MarkOrder.{IsQuietMark, in_get, set_distinct}
+use Rattle.rewritten_runs.proofs.Laws.{marks_all, resets_are, counts_are, at_set, IsMarkOf, marks_are, IsQuietMark, in_get, set_distinct}
 use Rattle.scaler.specs.declared.stubs.Marking.{Marking}
 use Rattle.scaler.specs.Markings.{IsMarking}
 

@@ -17,16 +17,16 @@ use Rattle.power_model.specs.Price.{cycles_of}
 use Rattle.power_model.specs.Slowest.{slowest_of, is_in_time}
 use Rattle.power_model.specs.declared.power.Costs.{Costs}
 use Rattle.machine_file.specs.Machine.{read_machine}
-use Rattle.machine_file.proofs.RangeLaws.{model-from_bytes}
+use Rattle.machine_file.proofs.Laws.{model-from_bytes}
 use Rattle.elf_patch.specs.Stored.{stored_image}
 use Rattle.image_laws.specs.Laws.{held_base}
-use Rattle.image_laws.proofs.Law.{a_held_image}
-use Rattle.text_laws.proofs.Tests.{found_in}
+use Rattle.image_laws.proofs.Laws.{a_held_image}
+use Rattle.text_laws.proofs.Laws.{found_in}
 use Rattle.loop_tree.specs.Tree.{loops as tree_loops}
 use Rattle.graph_runs.specs.Text.{text_of}
 use Rattle.graph_runs.specs.KeptSteps.{Carried}
 use Rattle.graph_runs.specs.KeptRuns.{kept_of}
-use Rattle.graph_runs.proofs.Programs.{image_runs_are_below, image_runs_end}
+use Rattle.graph_runs.proofs.Laws.{image_runs_are_below, image_runs_end}
 use Rattle.loop_file.specs.declared.notes.LoopNote.{LoopNote}
 use Rattle.loop_file.specs.Loops.{read_loops}
 use Rattle.loop_file.specs.Kept.{noted_loops, IsKeptUpTo}
@@ -34,7 +34,7 @@ use Rattle.scaler.specs.Held.{IsHeld, IsProgramHeld, IsHeldProgram, Then, held_a
 use Rattle.scaler.specs.Runs.{IsHeldSafely, KeptAsPrinted, KeptRunsEnd}
 use Rattle.scaler.proofs.Bases.{file_is}
 use Rattle.scaler.proofs.HeldRuns.{runs_alike, printed}
-use Rattle.rewritten_runs.proofs.Programs.{kept_by_tree, program_of}
+use Rattle.rewritten_runs.proofs.Laws.{kept_by_tree, program_of}
 
 -- ---- what `hold` went through
 

@@ -10,14 +10,14 @@ use Rattle.power_model.specs.Numbers.{PowerModel}
 use Rattle.power_model.specs.Price.{time_at}
 use Rattle.power_model.specs.Slowest.{slowest_of}
 use Rattle.machine_file.specs.Machine.{read_machine}
-use Rattle.machine_file.proofs.RangeLaws.{model-from_bytes}
+use Rattle.machine_file.proofs.Laws.{model-from_bytes}
 use Rattle.loop_file.specs.declared.notes.LoopNote.{LoopNote}
 use Rattle.loop_file.specs.Loops.{read_loops}
 use Rattle.stub_writer.specs.Stubs.{out_of_reach}
 use Rattle.rewritten_runs.specs.Stubs.{rewritten_file, marks_by_slack, stored_weights}
 use Rattle.rewritten_runs.specs.Promise.{KeepsThePromise}
 use Rattle.rewritten_runs.specs.Followed.{FollowsInTime}
-use Rattle.rewritten_runs.proofs.Law.{rewritten_follow}
+use Rattle.rewritten_runs.proofs.Laws.{rewritten_follow}
 use Rattle.scaler.specs.Held.{unscaled}
 use Rattle.scaler.specs.Rewritten.{IsRewritten, IsRewrittenProgram, IsProgramRewritten, rewritten_summary, unless_far}
 use Rattle.scaler.specs.RewrittenRuns.{IsRewrittenSafely}

@@ -31,8 +31,7 @@ use Rattle.stub_writer.specs.Sites.{site_of}
 use Rattle.stub_writer.specs.Stubs.{Site, block_size, block_bytes, patches_from, out_of_reach, stub_len}
 use Rattle.stored_runs.specs.Stubbed.{AreAscending}
 use Rattle.rewritten_runs.specs.Stubs.{IsWeighed, HasStubs, marks_by_slack, edges_with, is_switch, is_exit, is_count}
-use Rattle.rewritten_runs.proofs.Short.{block_bytes_len}
-use Rattle.rewritten_runs.proofs.Law.{storable}
+use Rattle.rewritten_runs.proofs.Laws.{block_bytes_len, storable}
 use Rattle.stored_laws.specs.StoredView.{IsStorable}
 use Rattle.scaler.specs.declared.rewriting.Marked.{Marked}
 use Rattle.scaler.specs.declared.rewriting.Scaling.{Scaling}

@@ -20,7 +20,7 @@ use Rattle.scale_sites.specs.Marks.{marks_of}
 use Rattle.scale_sites.specs.Sites.{SitesView, AreSites, is_branch, marks_at_edge, marks_by}
 use Rattle.scale_sites.specs.Weights.{some_mark, jumps_of}
 use Rattle.rewritten_runs.specs.Stubs.{plain_weights, marks_by_slack}
-use Rattle.rewritten_runs.proofs.Programs.{listed_weights, weights_listed}
+use Rattle.rewritten_runs.proofs.Laws.{listed_weights, weights_listed}
 use Rattle.scaler.specs.Scalings.{AreSitesFound}
 
 any_same : (n : ℕ) (p q : ℕ → Bool) → ((k : ℕ) → k < n → p k ≡ q k) → any_below n p ≡ any_below n q

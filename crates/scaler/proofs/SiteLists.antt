@@ -11,7 +11,7 @@ use Rattle.scale_base.specs.declared.stepping.Class.{Class}
 use Rattle.scale_base.specs.declared.stepping.Class.TheVariants as classes
 use Rattle.scale_base.specs.Image.{Image, image_of, is_word_address, is_in, text_word}
 use Rattle.scale_base.specs.Reading.{instr_of}
-use Rattle.code_graph.proofs.Causes.{instr_stored}
+use Rattle.code_graph.proofs.Laws.{instr_stored}
 use Rattle.std.specs.List.{list_any}
 use Rattle.scale_base.specs.Arith.{moved_by}
 use Rattle.scale_base.specs.Word.{FieldsInRange, Encodes}
@@ -20,8 +20,7 @@ use Rattle.cost_theory.specs.declared.edges.EdgeKind.{EdgeKind}
 use Rattle.cost_theory.specs.declared.edges.EdgeKind.TheVariants.{Taken, Untaken, Jump, Next, CallNext, End}
 use Rattle.cost_theory.specs.declared.edges.Word.TheVariants.{Goto}
 use Rattle.cost_theory.specs.Reached.{edge_at, edges_of, call_returns}
-use Rattle.cost_theory.proofs.Programs.{some_get}
-use Rattle.cost_theory.proofs.Reaching.{Within}
+use Rattle.cost_theory.proofs.Laws.{some_get, Within}
 use Rattle.graph_runs.specs.EdgeCosts.{edge_class, class_by}
 use Rattle.graph_runs.specs.Text.{text_of, instr_at, instr_kind, kind_at, in_text}
 use Rattle.code_graph.specs.FlowGraph.{FlowGraph, IsGraphOf}
@@ -34,7 +33,7 @@ use Rattle.stub_writer.specs.Fragments.{IsFragment}
 use Rattle.stub_writer.specs.Stubs.{Site}
 use Rattle.stub_writer.specs.Sites.{kind_number, fragments_by, IsSite, IsSitesInstr, place_of, site_of}
 use Rattle.rewritten_runs.specs.Stubs.{AreSitesOf}
-use Rattle.rewritten_runs.proofs.Edges.{edge_is, branch_kind}
+use Rattle.rewritten_runs.proofs.Laws.{edge_is, branch_kind}
 use Rattle.scaler.specs.Markings.{IsMarkedEdge, AreMarkedEdges, AreEdgesOfNode}
 use Rattle.scaler.proofs.MarkedKinds.{IsMarkable}
 

@@ -6,10 +6,7 @@ use Rattle.cost_theory.specs.Graph.{Graph, Loops, is_round, is_header, leaves, c
 use Rattle.cost_theory.specs.Accepted.{AreCalls, IsProgram, AreAccepted}
 use Rattle.cost_theory.specs.Steps.{State, Move, go_back, after_return, after, IsKept, AreKept, after_all, start, state_after}
 use Rattle.cost_theory.specs.Steps.Move.{Along, Call, Return, Exit}
-use Rattle.cost_theory.proofs.Basics.{some_value}
-use Rattle.cost_theory.proofs.Nesting.{accepted_entered, side_header, entry_header, header_held}
-use Rattle.cost_theory.proofs.Law.{IsChain, Stands, IsSound, next-is}
-use Rattle.cost_theory.proofs.Runs.{sound_start, sound_after}
+use Rattle.cost_theory.proofs.Laws.{some_value, accepted_entered, side_header, entry_header, header_held, IsChain, Stands, IsSound, next-is, sound_start, sound_after}
 use Rattle.shadow_counts.specs.Shadows.{count_over, counted_move, counted_moves, AreCountable, is_in, AreShown}
 
 module _ (g : Graph) (l : Loops) (extent : ℕ → ℕ → Bool) (counted : ℕ → Bool) (prog : IsProgram g) (acc : AreAccepted g l extent) (able : AreCountable g l counted) where

@@ -8,7 +8,7 @@ use Rattle.scale_base.specs.declared.stepping.StepEnd.TheVariants.{Went, Exited,
 use Rattle.scale_base.specs.State.{Setting, State}
 use Rattle.scale_base.specs.Step.{Outcome, step, PortBelow}
 use Rattle.scale_base.specs.Run.{run}
-use Rattle.scale_base.proofs.RunLaws.{outcome}
+use Rattle.scale_base.proofs.Laws.{outcome}
 use Rattle.power_model.specs.Numbers.{PowerModel, Numbers}
 use Rattle.power_model.specs.Price.{price}
 use Rattle.rv_machine.specs.declared.code.Code.{Code}

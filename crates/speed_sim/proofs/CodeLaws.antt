@@ -5,11 +5,11 @@ use Rattle.scale_base.specs.declared.stepping.StepEnd.TheVariants.{Went}
 use Rattle.scale_base.specs.Layout.{may_write}
 use Rattle.scale_base.specs.State.{Setting, State}
 use Rattle.scale_base.specs.Step.{step}
-use Rattle.scale_base.proofs.RunLaws.{outcome}
-use Rattle.graph_runs.proofs.StepFacts.{IsTrap, IsDone, step_done}
+use Rattle.scale_base.proofs.Laws.{outcome}
+use Rattle.graph_runs.proofs.Laws.{IsTrap, IsDone, step_done}
 use Rattle.rv_machine.specs.declared.code.Code.{Code}
 use Rattle.rv_machine.specs.Code.{IsCodeOf}
-use Rattle.rv_machine.proofs.CodeLaws.{code_stays}
+use Rattle.rv_machine.proofs.Laws.{code_stays}
 
 -- a step writes no byte that may not be written
 bytes_kept : (env : Setting) (s u : State) (x : Stepped) → outcome (Went x) u ≡ step env s → (a : ℕ) → may_write env.layout a ≡ false → u.bytes a ≡ s.bytes a

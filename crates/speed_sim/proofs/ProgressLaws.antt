@@ -7,10 +7,10 @@ use Rattle.scale_base.specs.declared.stepping.Trap.{Trap}
 use Rattle.scale_base.specs.State.{Setting, State}
 use Rattle.scale_base.specs.Step.{step}
 use Rattle.scale_base.specs.Run.{HasExited, HasTrapped, run}
-use Rattle.scale_base.proofs.RunLaws.{run_none, run_went, run_exited, run_trapped, going, outcome}
+use Rattle.scale_base.proofs.Laws.{run_none, run_went, run_exited, run_trapped, going, outcome}
 use Rattle.power_model.specs.Numbers.{Numbers}
 use Rattle.power_model.specs.Price.{price, metered, unstarted}
-use Rattle.power_model.proofs.PriceLaws.{one_more}
+use Rattle.power_model.proofs.Laws.{one_more}
 use Rattle.keep_monitor.specs.Watch.{Watched, watch, watched_first, watched_from}
 use Rattle.speed_sim.specs.Progress.{Job, Progress, IsOver}
 use Rattle.speed_sim.proofs.WatchLaws.{watched_none, watched_step, watched_ended, option_again, option_same, IsEnd}

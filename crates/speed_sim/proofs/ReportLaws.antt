@@ -9,7 +9,7 @@ use Rattle.scale_base.specs.Run.{run, run_of, start, starting_level, setting_of,
 use Rattle.power_model.specs.Numbers.{PowerModel, Numbers}
 use Rattle.power_model.specs.Price.{price, held_energy}
 use Rattle.power_model.specs.Report.{Report}
-use Rattle.power_model.proofs.PriceLaws.{start-price}
+use Rattle.power_model.proofs.Laws.{start-price}
 use Rattle.loop_file.specs.declared.notes.LoopNote.{LoopNote}
 use Rattle.keep_monitor.specs.Watch.{Watched, watched_first, watched_from}
 use Rattle.speed_sim.specs.Simulated.{end_of, report_of}

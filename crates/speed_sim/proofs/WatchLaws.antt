@@ -5,7 +5,7 @@ use Rattle.scale_base.specs.declared.stepping.StepEnd.{StepEnd}
 use Rattle.scale_base.specs.State.{Setting, State}
 use Rattle.scale_base.specs.Step.{step}
 use Rattle.scale_base.specs.Run.{Run, Standing, GoesOn, run}
-use Rattle.scale_base.proofs.RunLaws.{going, outcome}
+use Rattle.scale_base.proofs.Laws.{going, outcome}
 use Rattle.loop_file.specs.declared.notes.LoopNote.{LoopNote}
 use Rattle.keep_monitor.specs.Watch.{Watched, watch_end, watched_first, watched_from}
 

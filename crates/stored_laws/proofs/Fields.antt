@@ -10,7 +10,7 @@ use Rattle.scale_base.specs.Bytes.{half_at, word_at}
 use Rattle.scale_base.specs.Elf.{e_type, e_machine, e_version, e_entry, e_phoff, e_phnum, e_shoff, e_flags, e_phentsize, e_shentsize, e_shnum, has_sections, section_header, section_headers}
 use Rattle.scale_base.specs.Image.{file_place}
 use Rattle.elf_patch.specs.Stored.{little, put, patched, block_start, changed, stored_table, stored_image}
-use Rattle.elf_patch.proofs.PlaceLemmas.{page_at-le}
+use Rattle.elf_patch.proofs.Laws.{page_at-le}
 use Rattle.stored_laws.proofs.Bytes.{half-same, word-same, word_little, half_little, length-put, put-inside, put-outside, get_or-behind}
 use Rattle.stored_laws.proofs.Patched.{Away, length-patched, patched-away, TextPlace}
 

@@ -8,10 +8,8 @@ use Rattle.scale_base.specs.Rules.{rule, AllHold}
 use Rattle.scale_base.specs.Spans.{ends_by, each_pair}
 use Rattle.scale_base.specs.Elf.{e_phoff, e_phnum, program_headers}
 use Rattle.scale_base.specs.Image.{is_fit, may_follow, are_placed, are_few, leave_room, keeps_load_rules, keeps_segment_rules, file_part, loaded_headers, text_parts, is_text_place, text_rules, write_rules, ranges_of, all_text_rules, header_rules, table_rules, segment_rules, image_rules}
-use Rattle.scale_base.proofs.Accepted.{nth_kept, kept-split, long, parts_in_file, table_in_file, tables-kept, few_entries}
-use Rattle.scale_base.proofs.Fronts.{whole_kept, parts_kept, rules_of}
-use Rattle.elf_view.proofs.Booleans.{both_true, le_of}
-use Rattle.elf_view.proofs.Below.{length-headers}
+use Rattle.scale_base.proofs.Laws.{nth_kept, kept-split, long, parts_in_file, table_in_file, tables-kept, few_entries, whole_kept, parts_kept, rules_of}
+use Rattle.elf_view.proofs.Laws.{both_true, le_of, length-headers}
 
 pub record Known (file : List ℕ) : Type 0 where
   pub header : AllHold (header_rules file)

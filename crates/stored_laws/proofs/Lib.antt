@@ -6,3 +6,4 @@ pub mod Table
 pub mod Segments
 pub mod Texts
 pub mod Whole
+pub mod Laws

@@ -13,7 +13,7 @@ use Rattle.scale_base.specs.Elf.{has_sections, e_shoff, e_shnum}
 use Rattle.scale_base.specs.Rules.{AllHold}
 use Rattle.scale_base.specs.Image.{contents, is_word_address, file_place, text_parts, text_ranges, ascending, insert_range, range_of, is_in, holds_part, is_code_segment, is_text_place, is_off_table, header_has_word, is_fit, has_key, is_keyed_place, is_plain_place, may_follow, memory_range, file_part, loaded_headers, image_rules}
 use Rattle.elf_patch.specs.Stored.{little, put_at, put_patch, patched}
-use Rattle.elf_view.proofs.Booleans.{both_true, le_of}
+use Rattle.elf_view.proofs.Laws.{both_true, le_of}
 use Rattle.stored_laws.proofs.Bytes.{length-put, put-outside}
 use Rattle.stored_laws.proofs.Known.{known}
 

@@ -16,8 +16,7 @@ use Rattle.scale_base.specs.Spans.{overlap, ends_by, each_pair}
 use Rattle.scale_base.specs.Elf.{e_phnum, program_headers}
 use Rattle.scale_base.specs.Image.{Image, addresses_of, segment_of, keyed_of, stack, is_load, loads, has_key, is_plain, memory_range, file_part, is_fit, may_follow, are_placed, are_few, leave_room, keeps_load_rules, keeps_segment_rules, segment_rules}
 use Rattle.elf_patch.specs.Stored.{window, is_free}
-use Rattle.elf_view.proofs.Booleans.{both_true, le_of}
-use Rattle.elf_view.proofs.First.{none_broken}
+use Rattle.elf_view.proofs.Laws.{both_true, le_of, none_broken}
 use Rattle.stored_laws.proofs.Table.{keyed_header}
 
 -- ---- lists of which each two pass a test

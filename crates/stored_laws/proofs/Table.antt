@@ -14,7 +14,7 @@ use Rattle.scale_base.specs.Bytes.{half_at, word_at}
 use Rattle.scale_base.specs.Elf.{e_phoff, e_phnum, program_header, program_headers}
 use Rattle.scale_base.specs.Image.{is_load, loads}
 use Rattle.elf_patch.specs.Stored.{entry_bytes, kept_entry, entries, entry_of, keyed_number, stored_table}
-use Rattle.elf_view.proofs.Below.{length-headers}
+use Rattle.elf_view.proofs.Laws.{length-headers}
 use Rattle.stored_laws.proofs.Bytes.{word-same, word_little, Are32, row-byte, flat_map-map, map-range, get_or-slice_range, length-slice_range}
 use Rattle.stored_laws.proofs.Fields.{IsStored}
 

@@ -12,9 +12,8 @@ use Rattle.scale_base.specs.Rules.{rule, AllHold}
 use Rattle.scale_base.specs.Spans.{each_pair}
 use Rattle.scale_base.specs.Elf.{has_sections, section_headers}
 use Rattle.scale_base.specs.Image.{text_of_section, text_of_segment, text_parts, holds_part, is_text_place, are_apart, keeps_text_rules, part_rules, text_rules, start_of, ranges_of, is_writable_at, write_rules, all_text_rules}
-use Rattle.scale_base.proofs.Accepted.{rule_kept, kept-append, kept-split}
-use Rattle.scale_base.proofs.Fronts.{below_kept}
-use Rattle.elf_view.proofs.First.{none_broken}
+use Rattle.scale_base.proofs.Laws.{rule_kept, kept-append, kept-split, below_kept}
+use Rattle.elf_view.proofs.Laws.{none_broken}
 use Rattle.stored_laws.proofs.Table.{keyed_header}
 use Rattle.stored_laws.proofs.Fields.{SameHeader}
 

@@ -18,12 +18,10 @@ use Rattle.scale_base.specs.Rules.{rule, AllHold}
 use Rattle.scale_base.specs.Spans.{ends_by}
 use Rattle.scale_base.specs.Elf.{e_type, e_machine, e_version, e_entry, e_phoff, e_phnum, e_shoff, e_flags, e_phentsize, e_shentsize, e_shnum, has, has_sections, program_headers}
 use Rattle.scale_base.specs.Image.{Image, LoadSegment, image_of, contents, segment_of, keyed_of, loads, loaded_headers, is_load, is_dynamic, has_key, reaches_past, file_part, header_rules, table_rules, all_text_rules, text_rules, part_rules, write_rules, ranges_of, text_parts, text_ranges, holds_part, is_text_place, is_off_table, is_word_address, image_rules}
-use Rattle.scale_base.proofs.Accepted.{nth_kept, kept-split, rule_kept, accepted, rules_kept, contents-are}
+use Rattle.scale_base.proofs.Laws.{nth_kept, kept-split, rule_kept, accepted, rules_kept, contents-are}
 use Rattle.elf_patch.specs.Stored.{keyed_number, block_start, stored_table, stored_image}
-use Rattle.elf_patch.proofs.Room.{some_place}
-use Rattle.elf_view.proofs.Booleans.{both_true, le_of}
-use Rattle.elf_view.proofs.Below.{length-headers}
-use Rattle.elf_view.proofs.Whole.{whole}
+use Rattle.elf_patch.proofs.Laws.{some_place}
+use Rattle.elf_view.proofs.Laws.{both_true, le_of, length-headers, whole}
 use Rattle.stored_laws.specs.StoredView.{IsStorable, over, insert_segment, block_segment, stored_view}
 use Rattle.stored_laws.proofs.Bytes.{length-slice_range}
 use Rattle.stored_laws.proofs.Known.{known}

@@ -19,17 +19,15 @@ use Rattle.scale_base.specs.State.{Setting, State, reg}
 use Rattle.scale_base.specs.Step.{Outcome, step, goes}
 use Rattle.scale_base.specs.Run.{Run, Standing, GoesOn, HasExited, HasTrapped, begin, ended, one_more_by, one_more, run, run_of, setting_of, start_of, starting_level}
 use Rattle.scale_base.specs.Run as runs
-use Rattle.scale_base.proofs.RunLaws.{run_step}
-use Rattle.scale_base.proofs.ZeroLaws.{step_zero}
-use Rattle.run_laws.proofs.RegisterLaws.{step_length}
+use Rattle.scale_base.proofs.Laws.{run_step, step_zero}
+use Rattle.run_laws.proofs.Laws.{step_length}
 use Rattle.graph_runs.specs.Text.{text_of}
-use Rattle.graph_runs.proofs.TextFacts.{not_written}
-use Rattle.graph_runs.proofs.StepFacts.{IsTrap, step_done}
+use Rattle.graph_runs.proofs.Laws.{not_written, IsTrap, step_done}
 use Rattle.elf_patch.specs.Stored.{stored_image}
 use Rattle.stub_writer.specs.Stubs.{Site, Place, patches_from, block_bytes}
 use Rattle.stub_runs.specs.Meaning.{Leads}
 use Rattle.stub_runs.specs.Cycles.{cycles, fragment_cost}
-use Rattle.stub_runs.proofs.Steps.{leads_none, leads_on}
+use Rattle.stub_runs.proofs.Laws.{leads_none, leads_on}
 use Rattle.stored_runs.specs.Marks.{Shadow, place_at, fragments_by, jumps_by, tail_cycles, level_stored, shadow_first, shadow_behind, shadow_more, shadow_after}
 use Rattle.stored_runs.specs.Legs.{Leg, Stores, IsLeg, AreLegs, originals, all_steps, Meets, Holds, steps_to}
 use Rattle.stored_runs.specs.Stubbed.{IsStubbed, StaysInText, KeepsLimits, IsFollowed}

@@ -12,22 +12,16 @@ use Rattle.scale_base.specs.Image.{Image, LoadSegment, image_of, contents, segme
 use Rattle.scale_base.specs.Layout.{Layout, Part, layout_of, part_of, is_plain_segment, in_text, in_option, is_keyed, in_stack, may_read, may_write, may_fetch, each_byte, reads_byte, fetches_byte, can_fetch}
 use Rattle.scale_base.specs.Run.{setting_of, starting_level}
 use Rattle.scale_base.specs.Word.{word_of}
-use Rattle.scale_base.proofs.Accepted.{rules_kept, contents-are}
-use Rattle.scale_base.proofs.Fronts.{rules_of}
-use Rattle.scale_base.proofs.LayoutLaws.{each_byte_none, each_byte_more}
+use Rattle.scale_base.proofs.Laws.{rules_kept, contents-are, rules_of, each_byte_none, each_byte_more}
 use Rattle.elf_patch.specs.Stored.{little, stored_image, window}
-use Rattle.elf_patch.proofs.Room.{some_place}
+use Rattle.elf_patch.proofs.Laws.{some_place}
 use Rattle.stored_laws.specs.StoredView.{IsStorable, over, insert_segment, block_segment, stored_view}
-use Rattle.stored_laws.proofs.Patched.{text_place}
-use Rattle.stored_laws.proofs.Whole.{law}
-use Rattle.text_laws.proofs.Tests.{found_from_any, any_from_found, list_any-map}
-use Rattle.text_laws.proofs.Segments.{segments_of}
-use Rattle.text_laws.proofs.Parts.{part_word, in_part}
+use Rattle.stored_laws.proofs.Laws.{text_place, law}
+use Rattle.text_laws.proofs.Laws.{found_from_any, any_from_found, list_any-map, segments_of, part_word, in_part}
 use Rattle.text_laws.proofs.TextBytes as bytes
 use Rattle.graph_runs.specs.Text.{text_of}
 use Rattle.graph_runs.specs.TextStates.{IsTextOf}
-use Rattle.graph_runs.proofs.Images.{text_of_layout}
-use Rattle.graph_runs.proofs.TextFacts.{word_within}
+use Rattle.graph_runs.proofs.Laws.{text_of_layout, word_within}
 use Rattle.stub_writer.specs.Stubs.{Site, jump, stub_len, patches_from, block_bytes}
 use Rattle.stub_runs.specs.Held.{KeyedFrom, BytesLie}
 use Rattle.stored_runs.specs.Marks.{place_at}

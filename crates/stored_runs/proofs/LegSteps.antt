@@ -17,7 +17,7 @@ use Rattle.stub_writer.specs.Stubs.{Way, jump_at}
 use Rattle.stub_runs.specs.Meaning.{nibble, keyed_step, along, along_storing}
 use Rattle.stub_runs.specs.Ways.{row_at, window_behind, fragment_steps, fragments_steps, turn, way_steps}
 use Rattle.stub_runs.specs.Cycles.{cycles, fragment_cost}
-use Rattle.stub_runs.proofs.Cycles.{fragments_cycles}
+use Rattle.stub_runs.proofs.Laws.{fragments_cycles}
 use Rattle.stored_runs.specs.Marks.{tail_cycles}
 use Rattle.stored_runs.specs.Legs.{StoresOnce, Stores}
 use Rattle.stored_runs.specs.Stubbed.{IsQuiet, AreOrdered}

@@ -12,3 +12,4 @@ pub mod Passing
 pub mod Follow
 pub mod LegLaws
 pub mod Meetings
+pub mod Laws

@@ -21,19 +21,15 @@ use Rattle.scale_base.specs.Arith.{plus, moved_by, is_taken}
 use Rattle.scale_base.specs.State.{Setting, State, reg, word_at}
 use Rattle.scale_base.specs.Step.{Outcome, step, goes, executes, performs, branches, jumps}
 use Rattle.scale_base.specs.Run.{setting_of}
-use Rattle.run_laws.proofs.KeylessRuns.{step_keyless, EndsKeyless}
+use Rattle.run_laws.proofs.Laws.{step_keyless, EndsKeyless}
 use Rattle.graph_runs.specs.Text.{text_of}
-use Rattle.graph_runs.proofs.TextFacts.{word_within, word_bound, word_same}
-use Rattle.graph_runs.proofs.RunLaws.{went_at, exited_at}
+use Rattle.graph_runs.proofs.Laws.{word_within, word_bound, word_same, went_at, exited_at}
 use Rattle.stub_writer.specs.Stubs.{Site, Way, Place, Forked, Straight, fragments_code}
 use Rattle.stub_runs.specs.Meaning.{Leads, IsSound}
 use Rattle.stub_runs.specs.Ways.{turn, way_steps, windows_behind}
 use Rattle.stub_runs.specs.Held.{IsPatched, text_turn, WayStands, StubStands}
 use Rattle.stub_runs.specs.Cycles.{cycles, fragment_cost}
-use Rattle.stub_runs.proofs.Steps.{leads_none, leads_first}
-use Rattle.stub_runs.proofs.Ways.{stand_left}
-use Rattle.stub_runs.proofs.Passage.{goes_taken, goes_untaken, goes_on}
-use Rattle.stub_runs.proofs.Cycles.{way_cycles}
+use Rattle.stub_runs.proofs.Laws.{leads_none, leads_first, stand_left, goes_taken, goes_untaken, goes_on, way_cycles}
 use Rattle.stored_runs.specs.Marks.{Shadow, place_at, fragments_by, jumps_by, tail_cycles, level_stored, shadow_behind}
 use Rattle.stored_runs.specs.Legs.{Stores}
 use Rattle.stored_runs.specs.Patched.{IsSafeEdge, HasStub}

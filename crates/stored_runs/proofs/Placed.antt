@@ -12,16 +12,15 @@ use Rattle.scale_base.specs.Layout.{layout_of, can_fetch, may_fetch, each_byte, 
 use Rattle.scale_base.specs.Run.{setting_of, starting_level}
 use Rattle.scale_base.specs.State.{Setting, word_at}
 use Rattle.scale_base.specs.Word.{word_of}
-use Rattle.scale_base.proofs.LayoutLaws.{each_byte_at}
-use Rattle.scale_base.proofs.WordLaws.{word_small}
+use Rattle.scale_base.proofs.Laws.{each_byte_at, word_small}
 use Rattle.elf_patch.specs.Stored.{little}
 use Rattle.graph_runs.specs.Text.{text_of}
 use Rattle.graph_runs.specs.TextStates.{IsTextOf}
 use Rattle.stub_writer.specs.Stubs.{Site, Way, Place, Forked, Straight, jump, stubs_len, block_words, block_bytes, patches_from, out_of_reach}
-use Rattle.stub_writer.proofs.Reach.{jump_fits}
+use Rattle.stub_writer.proofs.Laws.{jump_fits}
 use Rattle.stub_runs.specs.Meaning.{StandsAt, Stand}
 use Rattle.stub_runs.specs.Held.{Lie, WayStands, StubStands}
-use Rattle.stub_runs.proofs.BlockLaws.{block_stands, rows_lie, words_length, block_length, stub_anywhere}
+use Rattle.stub_runs.proofs.Laws.{block_stands, rows_lie, words_length, block_length, stub_anywhere}
 use Rattle.stored_runs.specs.Marks.{place_at}
 use Rattle.stored_runs.specs.Stubbed.{IsSafe, IsSafeWay, AreSafeWays, IsSafeSite, IsOfImage}
 use Rattle.stored_runs.specs.Patched.{IsSafeFragment, IsSafeEdge, AreSafeEdges, HasStub}

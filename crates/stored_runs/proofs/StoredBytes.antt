@@ -9,17 +9,13 @@ use Rattle.scale_base.specs.declared.ranges.Patch.{Patch}
 use Rattle.scale_base.specs.Bytes.{byte_at}
 use Rattle.scale_base.specs.Spans.{in_span, overlap, ends_by, each_pair, round_up}
 use Rattle.scale_base.specs.Image.{LoadSegment, image_of, contents, segment_of, addresses_of, covers, segment_byte, byte_in, loaded_byte, loaded_headers, is_zeroed, memory_range, file_part, header_has_word, file_place, is_fit, may_follow, stack}
-use Rattle.scale_base.proofs.Accepted.{has_table, rules_kept}
+use Rattle.scale_base.proofs.Laws.{has_table, rules_kept}
 use Rattle.elf_patch.specs.Stored.{little, put_at, put_patch, block_start, stored_table, stored_image, window}
-use Rattle.elf_patch.proofs.PlaceLemmas.{page_at-le}
+use Rattle.elf_patch.proofs.Laws.{page_at-le}
 use Rattle.stored_laws.specs.StoredView.{IsStorable, over, insert_segment, block_segment, stored_view}
-use Rattle.stored_laws.proofs.Bytes.{length-slice_range, get_or-slice_range, put-inside}
-use Rattle.stored_laws.proofs.Patched.{Away, length-put_at, fold-away, text_place, TextPlace}
-use Rattle.stored_laws.proofs.Fields.{Places, IsStored, stored-is}
-use Rattle.text_laws.proofs.Tests.{find-map, list_any-map, mapped_from, found_in, found_passes, found_keeps}
-use Rattle.text_laws.proofs.Segments.{SegmentsKept, segments_of, one_covers, not_zeroed}
-use Rattle.text_laws.proofs.Parts.{file_fits}
-use Rattle.graph_runs.proofs.Images.{share_address}
+use Rattle.stored_laws.proofs.Laws.{length-slice_range, get_or-slice_range, put-inside, Away, length-put_at, fold-away, text_place, TextPlace, Places, IsStored, stored-is}
+use Rattle.text_laws.proofs.Laws.{find-map, list_any-map, mapped_from, found_in, found_passes, found_keeps, SegmentsKept, segments_of, one_covers, not_zeroed, file_fits}
+use Rattle.graph_runs.proofs.Laws.{share_address}
 
 -- ---- the segment that has an address
 

@@ -10,7 +10,7 @@ use Rattle.scale_base.specs.declared.instruction.Instr.{Instr}
 use Rattle.scale_base.specs.declared.instruction.Instr.TheVariants as instrs
 use Rattle.scale_base.specs.Word.{word_of, FieldsInRange}
 use Rattle.scale_base.specs.State.{Setting}
-use Rattle.scale_base.proofs.WordLaws.{word_small}
+use Rattle.scale_base.proofs.Laws.{word_small}
 use Rattle.scale_base.specs.declared.fragments.Fragment.{Fragment}
 use Rattle.scale_base.specs.declared.fragments.Fragment.TheVariants.{Switch, Exit, Reset, Count}
 use Rattle.stub_writer.specs.Fragments.{IsFragment, fragment_code, code_len, rows_len}
@@ -18,9 +18,8 @@ use Rattle.stub_writer.specs.Stubs.{Site, Way, Place, Forked, Straight, way_len,
 use Rattle.stub_runs.specs.Meaning.{Stand}
 use Rattle.stub_runs.specs.Held.{Lie, BytesLie, AllInRange, AllWords, KeyedFrom, IsFineWay, IsFine, AreFine, StubsStand, StubStands}
 use Rattle.stub_runs.proofs.Ranges.{fragment_fits}
-use Rattle.stub_writer.proofs.Reach.{jump_fits}
+use Rattle.stub_writer.proofs.Laws.{jump_fits, all_near}
 use Rattle.stub_runs.proofs.Ways.{stand_left, stand_right, codes_length}
-use Rattle.stub_writer.proofs.SiteLaws.{all_near}
 use Rattle.stub_runs.proofs.Held.{stand_of, lie_of}
 
 -- ---- lengths

@@ -9,7 +9,7 @@ use Rattle.scale_base.specs.declared.instruction.Instr.{Instr}
 use Rattle.scale_base.specs.Word.{word_of}
 use Rattle.scale_base.specs.Layout.{is_keyed, can_fetch, may_fetch, each_byte, fetches_byte}
 use Rattle.scale_base.specs.State.{Setting, word_at}
-use Rattle.scale_base.proofs.LayoutLaws.{each_byte_none, each_byte_more}
+use Rattle.scale_base.proofs.Laws.{each_byte_none, each_byte_more}
 use Rattle.stub_writer.specs.Stubs.{word_bytes}
 use Rattle.stub_runs.specs.Meaning.{Stand}
 use Rattle.stub_runs.specs.Held.{Lie, LiesAt, BytesLie, AllInRange, AllWords, KeyedFrom}

@@ -8,3 +8,4 @@ pub mod Ranges
 pub mod BlockLaws
 pub mod Passage
 pub mod Cycles
+pub mod Laws

@@ -9,7 +9,7 @@ use Rattle.scale_base.specs.Arith.{is_taken}
 use Rattle.scale_base.specs.Layout.{is_keyed, may_read, reads_byte}
 use Rattle.scale_base.specs.State.{Setting, State, reg, word_at}
 use Rattle.scale_base.specs.Step.{step, jumps, stops}
-use Rattle.scale_base.proofs.LayoutLaws.{each_byte_none, each_byte_more}
+use Rattle.scale_base.proofs.Laws.{each_byte_none, each_byte_more}
 use Rattle.stub_writer.specs.Stubs.{Way, Forked, Straight, way_len, way_rows, jump, taken_at, stub_code_of}
 use Rattle.stub_runs.specs.Meaning.{StandsAt, Stand, Leads, IsSound, IsRowAt}
 use Rattle.stub_runs.specs.Ways.{turn, WayFits, behind_way, way_steps, taken_steps, untaken_steps}

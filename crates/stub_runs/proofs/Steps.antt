@@ -9,8 +9,7 @@ use Rattle.scale_base.specs.Layout.{can_fetch}
 use Rattle.scale_base.specs.State.{Setting, State, word_at}
 use Rattle.scale_base.specs.Step.{step, goes, executes, performs}
 use Rattle.scale_base.specs.Run.{Run, Standing, GoesOn, HasExited, HasTrapped, one_more, one_more_by, ended, run}
-use Rattle.scale_base.proofs.RunLaws.{run_none, run_more}
-use Rattle.scale_base.proofs.WordLaws.{word_back}
+use Rattle.scale_base.proofs.Laws.{run_none, run_more, word_back}
 use Rattle.stub_runs.specs.Meaning.{StandsAt, Leads}
 
 -- the step of an instruction that stands at the pc

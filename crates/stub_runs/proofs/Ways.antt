@@ -26,7 +26,7 @@ use Rattle.stub_writer.specs.Stubs.{Way, Forked, fragments_code, way_code, way_l
 use Rattle.stub_runs.specs.Meaning.{StandsAt, Stand, Leads, IsSound, behind, nibble, along_storing}
 use Rattle.stub_runs.specs.Ways.{new_level, saved_in, row_at, window_behind, fragment_steps, Fits, windows_behind, fragments_steps, AllFit, turn, way_steps, behind_way, WayFits}
 use Rattle.stub_runs.specs.Held.{IsInText, text_turn}
-use Rattle.scale_base.proofs.WordLaws.{word_back}
+use Rattle.scale_base.proofs.Laws.{word_back}
 use Rattle.stub_runs.proofs.Steps.{performed, leads_none, leads_first, leads_on}
 use Rattle.stub_runs.proofs.Fragments.{switch_does, exit_does, reset_does, count_does}
 

@@ -1,3 +1,4 @@
 pub mod Reach
 pub mod SiteLaws
 mod Vectors
+pub mod Laws

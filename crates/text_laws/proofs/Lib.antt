@@ -4,3 +4,4 @@ pub mod Parts
 pub mod Ranges
 pub mod TextBytes
 pub mod TextWords
+pub mod Laws

@@ -11,8 +11,7 @@ use Rattle.scale_base.specs.Spans.{in_span, overlap, ends_by}
 use Rattle.scale_base.specs.Elf.{has, has_sections, section_headers}
 use Rattle.scale_base.specs.Image.{memory_range, stack, has_key, is_plain, is_fit, is_keyed_place, is_plain_place, is_code_segment, PF_X, range_of, is_in, holds_part, is_text_place, is_off_table, text_parts, text_of_section, text_of_segment, text_start_of, text_end_of, text_rules, write_rules, all_text_rules, loaded_headers, ranges_of}
 use Rattle.scale_base.specs.Rules.{AllHold}
-use Rattle.scale_base.proofs.Accepted.{kept-split}
-use Rattle.scale_base.proofs.Fronts.{parts_kept}
+use Rattle.scale_base.proofs.Laws.{kept-split, parts_kept}
 use Rattle.text_laws.proofs.Tests.{passes, list_all-filter_map}
 
 -- what the place of a part says

@@ -8,8 +8,7 @@ use Rattle.scale_base.specs.declared.ranges.Range.{Range}
 use Rattle.scale_base.specs.declared.ranges.TextPart.{TextPart}
 use Rattle.scale_base.specs.declared.headers.ProgramHeader.{ProgramHeader}
 use Rattle.scale_base.specs.Image.{Image, image_of, contents, insert_range, ascending, range_of, ranges_of, text_parts, text_ranges, loaded_headers, holds_part, is_fit, is_text_place}
-use Rattle.scale_base.proofs.Accepted.{rules_kept, contents-are}
-use Rattle.scale_base.proofs.Fronts.{rules_of}
+use Rattle.scale_base.proofs.Laws.{rules_kept, contents-are, rules_of}
 use Rattle.text_laws.proofs.Tests.{found_from_any, found_passes, found_keeps, list_any-map}
 use Rattle.text_laws.proofs.Segments.{segments_of}
 use Rattle.text_laws.proofs.Parts.{IsPlaced, part_placed, part_held, file_fits, code_below, parts_placed, parts_nonempty, is_nonempty}

@@ -14,8 +14,7 @@ use Rattle.scale_base.specs.Rules.{rule, AllHold}
 use Rattle.scale_base.specs.Spans.{in_span, overlap, each_pair, ends_by}
 use Rattle.scale_base.specs.Elf.{e_phnum, program_header, program_headers}
 use Rattle.scale_base.specs.Image.{Image, image_of, contents, memory_range, file_part, is_fit, may_follow, are_placed, are_few, leave_room, keeps_load_rules, keeps_segment_rules, header_rules, segment_rules, loaded_headers, loaded_byte, segment_byte, segment_of, covers, byte_in, is_zeroed}
-use Rattle.scale_base.proofs.Accepted.{rules_kept, nth_kept, tables-kept, parts_in_file}
-use Rattle.scale_base.proofs.Fronts.{whole_kept, rules_of}
+use Rattle.scale_base.proofs.Laws.{rules_kept, nth_kept, tables-kept, parts_in_file, whole_kept, rules_of}
 use Rattle.text_laws.proofs.Tests.{found_in, found_passes, found_keeps, find-map}
 
 overlapping : (a b : Span) (x : ℕ) → in_span a x ≡ true → in_span b x ≡ true → overlap a b ≡ true

@@ -10,9 +10,7 @@ use Rattle.scale_base.specs.Rules.{AllHold}
 use Rattle.scale_base.specs.Image.{Image, image_of, contents, is_in, text_ranges, all_text_rules, loaded_headers, loaded_byte, header_has_word, file_place, is_word_address, text_word}
 use Rattle.scale_base.specs.Layout.{layout_of, may_fetch, is_keyed, fetches_byte, each_byte, can_fetch}
 use Rattle.scale_base.specs.State.{word_at}
-use Rattle.scale_base.proofs.Accepted.{rules_kept, contents-are}
-use Rattle.scale_base.proofs.Fronts.{rules_of}
-use Rattle.scale_base.proofs.LayoutLaws.{each_byte_none, each_byte_more}
+use Rattle.scale_base.proofs.Laws.{rules_kept, contents-are, rules_of, each_byte_none, each_byte_more}
 use Rattle.text_laws.proofs.Tests.{mapped_from}
 use Rattle.text_laws.proofs.Segments.{SegmentsKept, segments_of}
 use Rattle.text_laws.proofs.TextBytes.{word_in_text, byte_loaded}

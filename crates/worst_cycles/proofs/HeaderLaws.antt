@@ -4,8 +4,7 @@ use Rattle.std.proofs.lemmas.Bool.{eqb-true}
 use Rattle.std.proofs.lemmas.Option.{same_Some}
 use Rattle.cost_theory.specs.Graph.{Graph, Loops, IsWalk, end_of, IsPlain, is_back, is_header}
 use Rattle.cost_theory.specs.Accepted.{IsNode, IsProgram, AreEntered}
-use Rattle.cost_theory.proofs.Basics.{search_below, and_left, and_right}
-use Rattle.cost_theory.proofs.Nesting.{side_header, entry_header, body_node}
+use Rattle.cost_theory.proofs.Laws.{search_below, and_left, and_right, side_header, entry_header, body_node}
 
 module _ (g : Graph) (l : Loops) (extent : ℕ → ℕ → Bool) (prog : IsProgram g) (ent : AreEntered g l extent) (R : ℕ → ℕ → Type 0) (same : (a : ℕ) → R a a)
     (step : (a e p : ℕ) → e < g.edges → IsPlain g l e → g.target e ≡ Some p → R a (g.source e) → R a p) where

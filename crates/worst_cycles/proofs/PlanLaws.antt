@@ -5,10 +5,9 @@ use Rattle.call_orders.specs.Arcs.{number_at}
 use Rattle.cost_theory.specs.Graph.{IsPlain, IsPlainPath, end_of}
 use Rattle.code_graph.specs.FlowGraph.{FlowGraph, graph, IsFlowGraph}
 use Rattle.natural_loops.specs.Noted.{node_address}
-use Rattle.natural_loops.proofs.NodeLaws.{source_number}
+use Rattle.natural_loops.proofs.Laws.{source_number}
 use Rattle.loop_tree.specs.Tree.{LoopView, loops}
-use Rattle.cost_theory.proofs.Nesting.{accepted_entered}
-use Rattle.cost_theory.proofs.Rest.{plain_from_entry}
+use Rattle.cost_theory.proofs.Laws.{accepted_entered, plain_from_entry}
 use Rattle.worst_cycles.specs.declared.plan.Plan.{Plan}
 use Rattle.worst_cycles.specs.Needs.{StartsAtNode, HasTree}
 use Rattle.worst_cycles.specs.Visits.{IsPlan}

@@ -4,7 +4,7 @@ use Rattle.std.proofs.lemmas.Option.{same_Some, slice_get_within, slice_get-get_
 use Rattle.call_orders.specs.Arcs.{number_at}
 use Rattle.cost_theory.specs.Graph.{Loops, IsPlain, is_back, is_header, sum_below, only}
 use Rattle.cost_theory.specs.Worst.{Numbers, cost, left_at, turn_back, turns_round, slack, rest}
-use Rattle.cost_theory.proofs.Basics.{sum-one, sum-none, only_true, only_false, and_right}
+use Rattle.cost_theory.proofs.Laws.{sum-one, sum-none, only_true, only_false, and_right}
 use Rattle.code_graph.specs.FlowGraph.{FlowGraph, graph, IsFlowGraph}
 use Rattle.natural_loops.specs.Noted.{node_address}
 use Rattle.loop_tree.specs.Tree.{LoopView, loops, IsLoopTree}

@@ -10,16 +10,8 @@ use Rattle.cost_theory.specs.Worst.{Numbers, AreNumbers, cost}
 use Rattle.cost_theory.specs.Accepted.{IsProgram, AreAccepted, AreWeights}
 use Rattle.cost_theory.specs.Laws.{IsAnalyzed}
 use Rattle.cost_theory.proofs.Contexts as contexts
-use Rattle.cost_theory.proofs.OrdersExist.{call_order, plain_order}
-use Rattle.cost_theory.proofs.Orders.{turns-worst, left-worst, function-worst}
-use Rattle.cost_theory.proofs.Overruns.{closing-worst}
-use Rattle.cost_theory.proofs.Nesting.{accepted_entered, header_held, entered_at_headers}
-use Rattle.cost_theory.proofs.Rest.{first_uncalled}
-use Rattle.cost_theory.proofs.Slack.{slack-le}
-use Rattle.pass_laws.proofs.Charges.{charged_on, charged_back, charged_into}
-use Rattle.pass_laws.proofs.Headers.{headers_different}
-use Rattle.pass_laws.proofs.Iterations.{iteration_closing, closing_over}
-use Rattle.pass_laws.proofs.PlainPaths.{worst_plain, plain_within_worst, plain_over}
+use Rattle.cost_theory.proofs.Laws.{call_order, plain_order, turns-worst, left-worst, function-worst, closing-worst, accepted_entered, header_held, entered_at_headers, first_uncalled, slack-le}
+use Rattle.pass_laws.proofs.Laws.{charged_on, charged_back, charged_into, headers_different, iteration_closing, closing_over, worst_plain, plain_within_worst, plain_over}
 use Rattle.code_graph.specs.FlowGraph.{FlowGraph, graph, IsFlowGraph}
 use Rattle.natural_loops.specs.Noted.{node_address}
 use Rattle.loop_tree.specs.Tree.{LoopView, loops}

@@ -11,7 +11,7 @@ use Rattle.code_graph.specs.FlowGraph.{FlowGraph, IsGraphOf}
 use Rattle.loop_file.specs.declared.notes.LoopNote.{LoopNote}
 use Rattle.loop_tree.specs.Tree.{LoopView, loops, IsTreeOf}
 use Rattle.scale_sites.specs.Counters.{counted_loops, set_from, edge_goes_on, IsUncountable, HasNone, AreRefused}
-use Rattle.answer_laws.proofs.Trees.{trees_agree}
+use Rattle.answer_laws.proofs.Laws.{trees_agree}
 use Rattle.scaler.proofs.agree.Pairs.{renumbered}
 
 module _ (image : Image) (notes : List LoopNote) where

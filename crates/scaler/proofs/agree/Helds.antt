@@ -12,8 +12,7 @@ use Rattle.graph_runs.specs.Text.{text_of}
 use Rattle.graph_runs.specs.EdgeCosts.{weights}
 use Rattle.code_graph.specs.FlowGraph.{graph}
 use Rattle.loop_tree.specs.Tree.{loops}
-use Rattle.answer_laws.proofs.Codes.{weights_same}
-use Rattle.answer_laws.proofs.Alike.{numbers_alike}
+use Rattle.answer_laws.proofs.Laws.{weights_same, numbers_alike}
 use Rattle.scaler.specs.Held.{IsLoopRefused, IsProgramHeld, IsHeldProgram, IsHeld, unscaled, held_within}
 use Rattle.scaler.specs.Agree.{AreAlikeAnswers, HeldAnswersAgree}
 use Rattle.scaler.proofs.agree.Pairs.{Answer, HasGraph, HasTree, alike_same, then_alike, codes_alike, code_not_refused, renumbered, loops_alike, loops_not_refused}

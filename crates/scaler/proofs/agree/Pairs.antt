@@ -9,9 +9,7 @@ use Rattle.loop_file.specs.declared.notes.LoopNote.{LoopNote}
 use Rattle.loop_tree.specs.Tree.{LoopView, IsTreeOf}
 use Rattle.answer_laws.specs.Renumbered.{IsRenumbered}
 use Rattle.answer_laws.specs.Alike.{AreAlikeRefusals}
-use Rattle.answer_laws.proofs.Codes.{graphs_renumbered}
-use Rattle.answer_laws.proofs.Refusals.{graph_is_not_refused, code_refusals_agree}
-use Rattle.answer_laws.proofs.Trees.{tree_is_not_refused, loop_refusals_agree}
+use Rattle.answer_laws.proofs.Laws.{graphs_renumbered, graph_is_not_refused, code_refusals_agree, tree_is_not_refused, loop_refusals_agree}
 use Rattle.scaler.specs.Held.{IsCodeRefused, IsLoopRefused, Then}
 use Rattle.scaler.specs.Agree.{AreAlikeAnswers}
 

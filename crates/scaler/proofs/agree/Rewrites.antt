@@ -17,13 +17,12 @@ use Rattle.cost_theory.specs.declared.edges.Edge.{Edge}
 use Rattle.graph_runs.specs.EdgeCosts.{edge_class}
 use Rattle.graph_runs.specs.Text.{text_of}
 use Rattle.code_graph.specs.FlowGraph.{FlowGraph}
-use Rattle.code_graph.proofs.Lists.{some_is}
+use Rattle.code_graph.proofs.Laws.{some_is}
 use Rattle.loop_tree.specs.Tree.{LoopView, loops}
 use Rattle.scale_sites.specs.Counters.{counted_loops}
 use Rattle.stub_writer.specs.Stubs.{Site, block_size, out_of_reach}
 use Rattle.rewritten_runs.specs.Stubs.{IsWeighed, rewritten_file, marks_by_slack, told_at, fragment_of, fragments_at}
-use Rattle.rewritten_runs.proofs.Edges.{led_class}
-use Rattle.rewritten_runs.proofs.Marked.{marked_led}
+use Rattle.rewritten_runs.proofs.Laws.{led_class, marked_led}
 use Rattle.scaler.specs.Held.{IsLoopRefused, unscaled}
 use Rattle.scaler.specs.Rewritten.{IsCounterRefused, IsTooLong, IsTooLate, IsProgramRewritten, IsRewrittenProgram, IsRewritten, rewritten_summary, unless_far}
 use Rattle.scaler.specs.Agree.{AreAlikeAnswers, RewrittenAnswersAgree}

@@ -20,10 +20,9 @@ use Rattle.level_tables.specs.Tables as tables
 use Rattle.scale_sites.specs.Counters.{counted_loops}
 use Rattle.scale_sites.specs.Sites.{is_branch}
 use Rattle.rewritten_runs.specs.Stubs.{IsWeighed, marks_by_slack, extra_weights, stored_weights, tail_at, told_at, loop_of, fragment_of, fragments_at}
-use Rattle.rewritten_runs.proofs.CallWeights.{stored_are_weights}
-use Rattle.rewritten_runs.proofs.Marked.{IsMarkOf, counted_is, loop_is, marks_of_edge}
+use Rattle.rewritten_runs.proofs.Laws.{stored_are_weights, IsMarkOf, counted_is, loop_is, marks_of_edge}
 use Rattle.answer_laws.specs.Alike.{AreAlikeCharged}
-use Rattle.answer_laws.proofs.SameCharged.{charged_alike}
+use Rattle.answer_laws.proofs.Laws.{charged_alike}
 use Rattle.scaler.proofs.agree.SameMarks.{same, trees, counted_same, alike_under, slack_under, marks_same, extra_same, stored_same, stored_alike}
 
 -- functions that are the same where a fact holds

@@ -21,9 +21,7 @@ use Rattle.scale_sites.specs.Sites.{is_branch, edge_branches}
 use Rattle.rewritten_runs.specs.Stubs.{IsWeighed, plain_weights, marks_by_slack, extra_weights, stored_weights, edges_with}
 use Rattle.answer_laws.specs.Renumbered.{IsRenumbered}
 use Rattle.answer_laws.specs.Alike.{AreAlikeTrees, AreAlikeNumbers}
-use Rattle.answer_laws.proofs.Alike.{numbers_alike}
-use Rattle.answer_laws.proofs.Codes.{weights_same}
-use Rattle.answer_laws.proofs.Trees.{trees_agree}
+use Rattle.answer_laws.proofs.Laws.{numbers_alike, weights_same, trees_agree}
 use Rattle.scaler.proofs.agree.Pairs.{renumbered}
 
 -- what goes by the list of edges alone

@@ -14,8 +14,7 @@ use Rattle.cost_theory.specs.declared.edges.Edge.{Edge}
 use Rattle.cost_theory.specs.declared.edges.EdgeKind.TheVariants.{Taken, Untaken}
 use Rattle.cost_theory.specs.declared.edges.Word.TheVariants.{Branch}
 use Rattle.cost_theory.specs.Reached.{Code, edge_at, edges_of, call_returns}
-use Rattle.cost_theory.proofs.Programs.{source_reached}
-use Rattle.cost_theory.proofs.Reaching.{Within, word_edge}
+use Rattle.cost_theory.proofs.Laws.{source_reached, Within, word_edge}
 use Rattle.graph_runs.specs.EdgeCosts.{class_by, edge_class}
 use Rattle.graph_runs.specs.Laws.{IsReachedCode}
 use Rattle.graph_runs.specs.Text.{text_of, instr_at, instr_kind, kind_at}
@@ -23,7 +22,7 @@ use Rattle.stub_writer.specs.Stubs.{Site, Way, Place, Forked, Straight}
 use Rattle.stored_runs.specs.Marks.{place_at, fragments_by}
 use Rattle.stored_runs.specs.Stubbed.{IsOfImage, AreAscending}
 use Rattle.rewritten_runs.specs.Stubs.{AreSitesOf}
-use Rattle.rewritten_runs.proofs.Edges.{edge_is}
+use Rattle.rewritten_runs.proofs.Laws.{edge_is}
 
 -- ---- lists
 

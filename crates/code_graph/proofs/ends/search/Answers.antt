@@ -1,5 +1,5 @@
 use Rattle.std.proofs.Common.{refl}
-use Rattle.code_text.proofs.Searches.{found_in}
+use Rattle.code_text.proofs.Laws.{found_in}
 use Rattle.code_graph.proofs.ends.search.Goals as goal
 
 pub returns : goal.returns

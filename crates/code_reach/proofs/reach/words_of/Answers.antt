@@ -1,7 +1,7 @@
 use Rattle.std.proofs.Common.{◌≡◌, sym, subst}
 use Rattle.graph_runs.specs.Text.{text_of, kind_at}
 use Rattle.code_text.specs.Table.{word_table}
-use Rattle.code_text.proofs.Rising.{addresses_rise}
+use Rattle.code_text.proofs.Laws.{addresses_rise}
 use Rattle.code_reach.specs.Steps.{IsTableOf}
 use Rattle.code_reach.proofs.Tables.{text_table, if_ok-map}
 use Rattle.code_reach.proofs.reach.words_of.Goals as goal

@@ -1,5 +1,5 @@
 use Rattle.std.proofs.Common.{ap, length, List, ℕ, arith}
-use Rattle.scale_base.proofs.Accepted.{has_table}
+use Rattle.scale_base.proofs.Laws.{has_table}
 use Rattle.elf_patch.proofs.added.change.Goals as goal
 
 pub move_sections-requires-clause-header : goal.move_sections-requires-clause-header

@@ -1,6 +1,6 @@
 use Rattle.std.proofs.Common.{◌≡◌, true, ap, length, List, ℕ, arith, subst, sym, ◌∙◌}
 use Rattle.scale_base.specs.Elf.{has_sections, e_shoff, e_shnum}
-use Rattle.scale_base.proofs.Accepted.{has_table}
+use Rattle.scale_base.proofs.Laws.{has_table}
 use Rattle.elf_patch.proofs.AddedLemmas.{sections_in_file}
 use Rattle.elf_patch.proofs.added.write_added.Goals as goal
 

@@ -1,7 +1,7 @@
 use Rattle.std.proofs.Common.{sym, ◌∙◌}
 use Rattle.std.proofs.lemmas.Result.{err_from_is_err_and}
 use Rattle.scale_base.specs.Image.{text_rules, write_rules, ranges_of, text_parts, all_text_rules}
-use Rattle.scale_base.proofs.Accepted.{stop_first, stop_later, kept-append}
+use Rattle.scale_base.proofs.Laws.{stop_first, stop_later, kept-append}
 use Rattle.scale_base.specs.declared.refusal.Stop.TheVariants.{Refused}
 use Rattle.elf_view.proofs.TextLemmas.{parts_stop, text_kept, text_missing}
 use Rattle.elf_view.proofs.text.read_text.Goals as goal

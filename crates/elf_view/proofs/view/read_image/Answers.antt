@@ -1,6 +1,6 @@
 use Rattle.std.proofs.Common.{sym, ◌∙◌}
 use Rattle.std.proofs.lemmas.Result.{err_from_is_err_and}
-use Rattle.scale_base.proofs.Accepted.{accepted}
+use Rattle.scale_base.proofs.Laws.{accepted}
 use Rattle.elf_view.proofs.Whole.{header_stop, tables_stop, segments_stop, text_stop, whole, is_view}
 use Rattle.elf_view.proofs.view.read_image.Goals as goal
 

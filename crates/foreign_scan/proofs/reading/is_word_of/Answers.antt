@@ -1,6 +1,6 @@
 use Rattle.std.proofs.Common.{◌∙◌, Some, sym, ap, arith}
 use Rattle.std.proofs.lemmas.Bool.{eqb-true, eq-eqb}
-use Rattle.scale_base.proofs.WordLaws.{word_reads}
+use Rattle.scale_base.proofs.Laws.{word_reads}
 use Rattle.foreign_scan.proofs.ReadLaws.{same_some}
 use Rattle.foreign_scan.proofs.reading.is_word_of.Goals as goal
 

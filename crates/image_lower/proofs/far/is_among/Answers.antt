@@ -1,5 +1,5 @@
 use Rattle.std.proofs.Common.{◌∙◌}
-use Rattle.code_text.proofs.Searches.{among}
+use Rattle.code_text.proofs.Laws.{among}
 use Rattle.image_lower.proofs.far.is_among.Goals as goal
 
 pub returns : goal.returns

@@ -1,5 +1,5 @@
 use Rattle.std.proofs.Common.{sym, ap, refl, ◌∙◌}
-use Rattle.scale_base.proofs.Accepted.{has_table}
+use Rattle.scale_base.proofs.Laws.{has_table}
 use Rattle.image_lower.specs.Lowered.{is_full}
 use Rattle.image_lower.proofs.LoweringLaws.{too_far, too_full, made, told}
 use Rattle.image_lower.proofs.lowering.lower_at.Goals as goal

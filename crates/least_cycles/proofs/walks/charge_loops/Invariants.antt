@@ -1,7 +1,7 @@
 use Rattle.std.proofs.Common.{◌≡◌, ◌≢◌, ◌≤◌, ◌<◌, ℕ, List, Option, length}
 use Rattle.call_orders.specs.Arcs.{number_at}
 use Rattle.key_chains.specs.Keys.{AreChains, IsLastBelow}
-use Rattle.loop_bodies.proofs.EdgeLaws.{place}
+use Rattle.loop_bodies.proofs.Laws.{place}
 use Rattle.least_laws.specs.Charged.{Charged}
 use Rattle.least_cycles.specs.Charging.{IsCharging, AreMarks, AreCharges, AreChargedTo, AreHeaderKeys, IsHeaderFrom, ArePricedAt, loop_owner}
 use Rattle.least_cycles.proofs.walks.charge_loops.Given as goal

@@ -1,6 +1,6 @@
 use Rattle.std.proofs.Common.{◌≡◌, ◌+◌, sym, false, arith}
 use Rattle.scale_base.specs.Layout.{reads_byte}
-use Rattle.scale_base.proofs.LayoutLaws.{each_byte_false}
+use Rattle.scale_base.proofs.Laws.{each_byte_false}
 use Rattle.rv_machine.proofs.access.reads_each.Goals as goal
 
 pub returns-then-not-reads_byte : goal.returns-then-not-reads_byte

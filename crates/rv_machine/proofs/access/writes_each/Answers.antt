@@ -1,6 +1,6 @@
 use Rattle.std.proofs.Common.{◌≡◌, ◌+◌, sym, false, arith}
 use Rattle.scale_base.specs.Layout.{may_write}
-use Rattle.scale_base.proofs.LayoutLaws.{each_byte_false}
+use Rattle.scale_base.proofs.Laws.{each_byte_false}
 use Rattle.rv_machine.proofs.access.writes_each.Goals as goal
 
 pub returns-then-not-may_write : goal.returns-then-not-may_write

@@ -1,6 +1,6 @@
 use Rattle.std.proofs.Common.{◌≡◌, ◌+◌, ◌∙◌, sym, ap, not, false, true, arith}
 use Rattle.scale_base.specs.Layout.{may_write}
-use Rattle.scale_base.proofs.LayoutLaws.{each_byte_false}
+use Rattle.scale_base.proofs.Laws.{each_byte_false}
 use Rattle.rv_machine.proofs.decoding.is_unwritten.Goals as goal
 
 pub returns-then-may_write : goal.returns-then-may_write

@@ -6,7 +6,7 @@ use Rattle.power_model.specs.Numbers.{PowerModel}
 use Rattle.power_model.specs.Price.{cycles_of}
 use Rattle.code_graph.specs.FlowGraph.{graph}
 use Rattle.worst_cycles.specs.Worst.{by_edge}
-use Rattle.rewritten_runs.proofs.Programs.{weights_hold}
+use Rattle.rewritten_runs.proofs.Laws.{weights_hold}
 use Rattle.scale_sites.specs.Sites.{AreSites}
 use Rattle.scaler.proofs.SiteFacts.{sites_stop, sites_found}
 use Rattle.scaler.proofs.rewriting.sites_of.Goals as goal

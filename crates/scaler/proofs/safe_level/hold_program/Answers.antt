@@ -5,7 +5,7 @@ use Rattle.graph_runs.specs.Text.{text_of}
 use Rattle.power_model.specs.Price.{cycles_of}
 use Rattle.code_graph.specs.FlowGraph.{graph}
 use Rattle.worst_cycles.specs.Worst.{by_edge}
-use Rattle.rewritten_runs.proofs.Programs.{weights_hold}
+use Rattle.rewritten_runs.proofs.Laws.{weights_hold}
 use Rattle.scaler.proofs.Answering.{numbers_stop, too_long, held_by_worst}
 use Rattle.scaler.proofs.safe_level.hold_program.Goals as goal
 

@@ -1,6 +1,6 @@
 use Rattle.std.proofs.Common.{◌∙◌}
 use Rattle.scale_base.specs.Image.{contents}
-use Rattle.scale_base.proofs.Accepted.{accepted}
+use Rattle.scale_base.proofs.Laws.{accepted}
 use Rattle.elf_view.proofs.view.ImageView.text.Goals as goal
 
 pub returns-clause-ranges : goal.returns-clause-ranges

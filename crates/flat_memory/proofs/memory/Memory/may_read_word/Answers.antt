@@ -1,6 +1,6 @@
 use Rattle.std.proofs.Common.{◌≡◌, ◌+◌, sym, false, arith}
 use Rattle.scale_base.specs.Layout.{may_read}
-use Rattle.scale_base.proofs.LayoutLaws.{each_byte_false}
+use Rattle.scale_base.proofs.Laws.{each_byte_false}
 use Rattle.flat_memory.proofs.memory.Memory.may_read_word.Goals as goal
 
 pub returns-then-not-may_read : goal.returns-then-not-may_read

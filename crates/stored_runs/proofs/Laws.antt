@@ -1,0 +1,6 @@
+-- The lemmas of this crate that crates above may cite.
+pub use Rattle.stored_runs.proofs.Follow.{patched_runs, stubbed_patched}
+pub use Rattle.stored_runs.proofs.Frame.{frame}
+pub use Rattle.stored_runs.proofs.LegLaws.{cost_of_legs, long_legs, short_legs, text_of_legs}
+pub use Rattle.stored_runs.proofs.Meetings.{meetings_once}
+pub use Rattle.stored_runs.proofs.PatchedFrame.{key_below}
