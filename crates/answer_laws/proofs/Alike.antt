@@ -7,7 +7,7 @@ use Rattle.cost_theory.specs.Worst.{Numbers, AreNumbers}
 use Rattle.cost_theory.specs.Accepted.{IsProgram, AreAccepted}
 use Rattle.cost_theory.specs.Laws.{AreSame}
 use Rattle.cost_theory.specs.Reached.{edge_to}
-use Rattle.cost_theory.proofs.OrdersExist as orders
+use Rattle.cost_theory.proofs.Laws as theory
 use Rattle.cost_theory.proofs.Laws.{same_numbers}
 use Rattle.worst_cycles.specs.Worst.{slack_at, rest_at}
 use Rattle.code_graph.specs.FlowGraph.{FlowGraph, graph}
@@ -42,7 +42,7 @@ record AreAlikeOver (g g' : Graph) (l : Loops) (number : ℕ → ℕ) (w : ℕ �
 module _ (g : Graph) (l : Loops) (extent : ℕ → ℕ → Bool) (prog : IsProgram g) (acc : AreAccepted g l extent) (end : EndsThere g) (w : ℕ → ℕ) (n n' : Numbers) (nums : AreNumbers g l w n) where
   alike_from : (h : Graph) (r : IsRenumberedGraph g (with_edges g h)) → AreNumbers (with_edges g h) l w n' → AreAlikeOver g (with_edges g h) l r.number w n n'
   alike_from h r nums' =
-      let order = orders.call_order g prog in
+      let order = theory.call_order g prog in
       let same : AreSame g l n (renamed r.back n') = same_numbers g l extent prog acc w order.0 order.1 n (renamed r.back n') nums (numbers_from g h r l w n' nums') in
       record {
         whole = same.worst 0 prog.main ∙ ap n'.worst r.again.first;

@@ -7,7 +7,7 @@ use Rattle.scale_base.specs.declared.refusal.Refusal.TheVariants.{HeaderNotReach
 use Rattle.cost_theory.specs.Graph.{Loops, sum_below, only, is_header, is_back, IsPlain}
 use Rattle.cost_theory.specs.Accepted.{IsNode, IsInBody, AreEntered, IsTooDeep, IsPlainOrder}
 use Rattle.cost_theory.proofs.Laws.{and_left, and_right, sum-same, accepted_entered}
-use Rattle.cost_theory.proofs.OrdersExist as orders
+use Rattle.cost_theory.proofs.Laws as theory
 use Rattle.code_graph.specs.FlowGraph.{FlowGraph, graph, IsFlowGraph}
 use Rattle.code_graph.proofs.Laws.{less_same_more}
 use Rattle.loop_file.specs.declared.notes.LoopNote.{LoopNote}
@@ -119,7 +119,7 @@ module _ (v : FlowGraph) (notes : List LoopNote) (t : LoopView) (is : IsTreeOf v
   -- no cycle of plain edges
   no_round : IsFlowGraph v → (refusal : Refusal) → IsCycleRefused v notes refusal → ⊥
   no_round flow refusal c =
-      let place : (count : ℕ) × ((place : ℕ → ℕ) × IsPlainOrder (graph v) (loops v t) count place) = orders.plain_order (graph v) flow.program (loops v t) (noted_loops notes).inside is.tree.accepted in
+      let place : (count : ℕ) × ((place : ℕ → ℕ) × IsPlainOrder (graph v) (loops v t) count place) = theory.plain_order (graph v) flow.program (loops v t) (noted_loops notes).inside is.tree.accepted in
       let at : ℕ → ℕ = place.1.0 in
       no_cycle (IsPlainStep v c.loops) (λ a b. at a < at b) c.cycle
       (λ a b step.

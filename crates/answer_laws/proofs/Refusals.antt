@@ -7,7 +7,7 @@ use Rattle.cost_theory.specs.declared.edges.Word.TheVariants.{CallOf}
 use Rattle.cost_theory.specs.Reached.{Reached, owner_of, callee_of, HasNoBadWord, HasNoSharedCode}
 use Rattle.cost_theory.specs.Reached.Reached.{called}
 use Rattle.cost_theory.proofs.Laws.{some_same, end_edge, callee_word, callee-is, same_owner}
-use Rattle.cost_theory.proofs.OrdersExist as orders
+use Rattle.cost_theory.proofs.Laws as theory
 use Rattle.graph_runs.specs.Text.{Text, kind_at}
 use Rattle.graph_runs.specs.RunMoves.{text_graph}
 use Rattle.code_graph.specs.FlowGraph.{FlowGraph, IsGraphOf}
@@ -48,7 +48,7 @@ module _ (t : Text) (v : FlowGraph) (is : IsGraphOf t v) where
 
   no_recursion : (refusal : Refusal) → IsRecursion t refusal → ⊥
   no_recursion refusal r =
-      let order : (order : ℕ → ℕ) × IsCallOrder (text_graph t v.code) order = orders.call_order (text_graph t v.code) program in
+      let order : (order : ℕ → ℕ) × IsCallOrder (text_graph t v.code) order = theory.call_order (text_graph t v.code) program in
       let by : ℕ → ℕ = λ f. order.0 (owner_of v.code f) in
       no_cycle (Calls t) (λ f h. by h < by f) r.cycle
       (λ f h c.

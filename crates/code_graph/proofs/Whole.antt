@@ -18,7 +18,7 @@ use Rattle.cost_theory.specs.declared.edges.Word.{Word}
 use Rattle.cost_theory.specs.Accepted.{IsNode, IsProgram}
 use Rattle.cost_theory.specs.Reached.{IsCodeOf, graph_of, callee_of, call_returns, edges_of, edge_to}
 use Rattle.cost_theory.proofs.Laws.{Within, get_within, within_flat, some_get, one_graph, edge_node}
-use Rattle.cost_theory.proofs.Programs as programs
+use Rattle.cost_theory.proofs.Laws as theory
 use Rattle.call_orders.specs.declared.Arc.{Arc}
 use Rattle.call_orders.specs.Arcs.{HasNoCycle, IsSorted}
 use Rattle.graph_runs.specs.Text.{Text, kind_at}
@@ -122,11 +122,11 @@ module _ (t : Text) (r : Reach) (nodes : List ℕ) (kinds : List Word) (owners e
       node_is : (a : ℕ) → (k : ℕ) × (slice_get nodes k ≡ Some a) → IsNode (graph_of (kind_at t) (record { nodes = nodes; edges = edges; functions = entries; owners = owners; returning = returning })) a
       node_is a at =
           let f = node_reached t r nodes kinds owners entries returning callees are at.0 a at.1 in
-          programs.reached_node (kind_at t) t.entry (record { nodes = nodes; edges = edges; functions = entries; owners = owners; returning = returning }) code_is are.fine f.0 a f.1
+          theory.reached_node (kind_at t) t.entry (record { nodes = nodes; edges = edges; functions = entries; owners = owners; returning = returning }) code_is are.fine f.0 a f.1
 
       is_node : (a : ℕ) → IsNode (graph_of (kind_at t) (record { nodes = nodes; edges = edges; functions = entries; owners = owners; returning = returning })) a → (k : ℕ) × (slice_get nodes k ≡ Some a)
       is_node a node =
-          let f = programs.source_reached (kind_at t) t.entry (record { nodes = nodes; edges = edges; functions = entries; owners = owners; returning = returning }) code_is are.fine node.0 node.1 in
+          let f = theory.source_reached (kind_at t) t.entry (record { nodes = nodes; edges = edges; functions = entries; owners = owners; returning = returning }) code_is are.fine node.0 node.1 in
           subst (λ v. (k : ℕ) × (slice_get nodes k ≡ Some v)) node.2 ((code_is.nodes _).1 (f.0, f.1))
 
       pub flow_is : IsFlowGraph (record { code = record { nodes = nodes; edges = edges; functions = entries; owners = owners; returning = returning }; kinds = kinds; classes = classes; order = order; blocks = blocks })

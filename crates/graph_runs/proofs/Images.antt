@@ -15,7 +15,7 @@ use Rattle.scale_base.specs.Layout.{layout_of, in_stack}
 use Rattle.scale_base.specs.Run.{setting_of, start_of, starting_level}
 use Rattle.scale_base.proofs.Laws.{rules_kept, contents-are, rules_of}
 use Rattle.text_laws.proofs.Laws.{found_from_any, found_passes, found_keeps, segments_of, IsPlaced, part_placed, part_held, part_covered, parts_placed, All-ranges_of, text_ranges_kept}
-use Rattle.text_laws.proofs.Ranges as kept
+use Rattle.text_laws.proofs.Laws as texts
 use Rattle.graph_runs.specs.Text.{text_of}
 use Rattle.graph_runs.specs.TextStates.{IsTextRange, IsTextOf}
 use Rattle.graph_runs.specs.Laws.{IsStartOver}
@@ -84,7 +84,7 @@ pub text_of_layout : (file : List ℕ) (image : Image) (levels : ℕ) (input : L
 unfolding layout_of
 text_of_layout file image levels input e = record {
   ranges = refl;
-  each = All-weaker kept.IsTextRange IsTextRange (λ r h. (h.first, h.last, h.below)) image.text (text_ranges_kept file image e);
+  each = All-weaker texts.IsTextRange IsTextRange (λ r h. (h.first, h.last, h.below)) image.text (text_ranges_kept file image e);
   no_stack = text_off_stack file image e;
 }
 

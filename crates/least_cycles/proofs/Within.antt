@@ -7,7 +7,7 @@ use Rattle.cost_theory.specs.Accepted.{IsCallOrder}
 use Rattle.cost_theory.specs.Least.{IsLeast, IsLeastIfAny, IsUpTo, callee_value, least_call, least_cost}
 use Rattle.cost_theory.specs.LeastTurns.{IsRun, turn_step}
 use Rattle.cost_theory.proofs.Laws.{sum-le, and_right, and_both, and_false, some_same, accepted_entered, header_held, header_closes, entered-header, no_numbers, worst_equation, plain_from_entry, least_up_to, turns-worst}
-use Rattle.cost_theory.proofs.OrdersExist as orders
+use Rattle.cost_theory.proofs.Laws as theory
 use Rattle.least_laws.specs.Charged.{Charged, is_closed, charged_trips, charge_of, charged_cost, leads_on}
 use Rattle.least_laws.specs.Laws.{HaveFewTrips}
 use Rattle.least_laws.proofs.Laws.{nest, Turn, inner_rank, closing_run, body_owner}
@@ -204,7 +204,7 @@ module _ (g : Graph) (l : Loops) (extent : ℕ → ℕ → Bool) (w : ℕ → �
     loop_below k kl = turn_here (g.owner (l.header k)) (λ h hl less. functions_below (order (g.owner (l.header k))) h less hl) k kl refl
 
 pub turn_within : (g : Graph) (l : Loops) (extent : ℕ → ℕ → Bool) (w : ℕ → ℕ) (n : Charged) (a : Numbers) → IsNumbered g l extent w n → AreNumbers g l w a → HaveFewTrips l → (k : ℕ) → k < l.loops → n.turn k ≤ a.iteration k
-turn_within g l extent w n a is nums few k kl = let o = orders.call_order g is.program in loop_below g l extent w n a is nums few o.0 o.1 k kl
+turn_within g l extent w n a is nums few k kl = let o = theory.call_order g is.program in loop_below g l extent w n a is nums few o.0 o.1 k kl
 
 pub charge_within : (g : Graph) (l : Loops) (extent : ℕ → ℕ → Bool) (w : ℕ → ℕ) (n : Charged) (a : Numbers) → IsNumbered g l extent w n → AreNumbers g l w a → HaveFewTrips l →
     (e : ℕ) → e < g.edges → charge_of g l n e ≤ sum_below l.loops (λ k. only (enters l k (g.source e) (g.target e)) (all_of l a k))
@@ -214,7 +214,7 @@ charge_within g l extent w n a is nums few e el = charge-le g l extent w n a is 
 pub trips_within : (g : Graph) (l : Loops) (extent : ℕ → ℕ → Bool) (w : ℕ → ℕ) (n : Charged) (a : Numbers) → IsNumbered g l extent w n → AreNumbers g l w a → HaveFewTrips l →
     (k : ℕ) → k < l.loops → charged_trips g l n.least k * n.turn k ≤ a.worst 0
 trips_within g l extent w n a is nums few k kl =
-    let o = orders.call_order g is.program in
+    let o = theory.call_order g is.program in
     let one : charged_trips g l n.least k * n.turn k ≤ l.bound k * n.turn k = mul-le-mul_right (n.turn k) (trips-le g l extent w n a is nums few k kl) in
     let two : n.turn k * l.bound k ≤ a.iteration k * l.bound k = mul-le-mul_right (l.bound k) (turn_within g l extent w n a is nums few k kl) in
     let p : n.turn k * l.bound k ≡ l.bound k * n.turn k = omega arith in
@@ -226,7 +226,7 @@ trips_within g l extent w n a is nums few k kl =
 pub turn_worst : (g : Graph) (l : Loops) (extent : ℕ → ℕ → Bool) (w : ℕ → ℕ) (n : Charged) (a : Numbers) → IsNumbered g l extent w n → AreNumbers g l w a → HaveFewTrips l →
     (k : ℕ) → k < l.loops → 0 < l.least_trips k → n.turn k ≤ a.worst 0
 turn_worst g l extent w n a is nums few k kl turning =
-    let o = orders.call_order g is.program in
+    let o = theory.call_order g is.program in
     let bound = few k kl in
     let one : 1 * n.turn k ≤ l.bound k * n.turn k = mul-le-mul_right (n.turn k) (omega arith) in
     let two : n.turn k * l.bound k ≤ a.iteration k * l.bound k = mul-le-mul_right (l.bound k) (turn_within g l extent w n a is nums few k kl) in

@@ -9,7 +9,7 @@ use Rattle.cost_theory.specs.Least.{Way}
 use Rattle.cost_theory.specs.Least.Way.{Exits, Returns}
 use Rattle.cost_theory.specs.LeastTurns.{IsRun, turn_step, turn_last}
 use Rattle.cost_theory.proofs.Laws.{sum-same, and_left, and_right, not_true, some_same, entered-header, no_numbers}
-use Rattle.cost_theory.proofs.OrdersExist as orders
+use Rattle.cost_theory.proofs.Laws as theory
 use Rattle.least_laws.specs.Charged.{Charged, calls_so, calls_exit, charged_trips, charge_of, charged_cost, leads_on, ends_exit, AreCharged}
 use Rattle.least_laws.specs.Laws.{IsCharged, ChargedAgree}
 use Rattle.least_laws.proofs.WalkKinds.{nest, turn_kind}
@@ -254,7 +254,7 @@ module _ (g : Graph) (l : Loops) (extent : ℕ → ℕ → Bool) (w : ℕ → �
 
 pub charged_agree : ChargedAgree
 charged_agree g l extent w n n' is nums' =
-    let o = orders.call_order g is.program in
+    let o = theory.call_order g is.program in
     let is' : IsCharged g l extent w n' = record { program = is.program; returns = is.returns; accepted = is.accepted; weights = is.weights; numbers = nums' } in
     record {
       to_return = λ v. (at_node g l extent w n n' is is' o.0 o.1 v).0;

@@ -8,7 +8,7 @@ use Rattle.cost_theory.specs.Least.{IsLeast, IsLeastIfAny, callee_value, least_c
 use Rattle.cost_theory.specs.Least.Way.{Exits, Returns}
 use Rattle.cost_theory.specs.LeastTurns.{IsRun}
 use Rattle.cost_theory.proofs.Laws.{some_value, some_same}
-use Rattle.cost_theory.proofs.OrdersExist as orders
+use Rattle.cost_theory.proofs.Laws as theory
 use Rattle.least_laws.specs.Charged.{Charged, charge_of, charged_cost, leads_on, ends_exit}
 use Rattle.least_laws.specs.Laws.{IsCharged, EndWithin}
 use Rattle.least_laws.proofs.LeastRuns.{shorten, low}
@@ -156,5 +156,5 @@ module _ (g : Graph) (l : Loops) (extent : ℕ → ℕ → Bool) (w : ℕ → �
 
 pub end_within : EndWithin
 end_within g l extent w n is most weights steps v z there =
-    let o = orders.call_order g is.program in
+    let o = theory.call_order g is.program in
     to_end-le g l extent w n is most weights steps o.0 o.1 g.functions v z (let r : g.functions ≤ o.0 (g.owner v) + g.functions = omega arith in r) there

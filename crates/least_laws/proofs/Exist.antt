@@ -9,7 +9,7 @@ use Rattle.cost_theory.specs.Least.{IsLeastIfAny, Least, callee_value, least_cal
 use Rattle.cost_theory.specs.Least.Way.{Exits, Returns}
 use Rattle.cost_theory.specs.LeastTurns.{IsRun, turn_step, turn_last}
 use Rattle.cost_theory.proofs.Laws.{sum-same, term-le-sum, below_suc, and_left, and_right, and_both, not_true, some_same, nested, accepted_entered, header_held, header_closes, AreNested, entered-header, no_numbers, charge_none}
-use Rattle.cost_theory.proofs.OrdersExist as orders
+use Rattle.cost_theory.proofs.Laws as theory
 use Rattle.least_laws.specs.Charged.{Charged, calls_so, calls_exit, charged_trips, charge_of, charged_cost, leads_on, ends_exit, AreCharged}
 use Rattle.least_laws.specs.Laws.{ChargedExist}
 use Rattle.least_laws.proofs.LeastRuns.{least_or, least_as, run_least}
@@ -456,7 +456,7 @@ module _ (g : Graph) (l : Loops) (extent : ℕ → ℕ → Bool) (w : ℕ → �
 
 pub charged_exist : ChargedExist
 charged_exist g l extent w prog acc =
-    let o = orders.call_order g prog in
+    let o = theory.call_order g prog in
     let wide : ℕ = sum_below l.loops (λ k. (nest g l extent w prog acc).rank k) + 2 in
     are_found g l extent w prog acc o.0 o.1 (sum_below l.loops (λ k. (nest g l extent w prog acc).rank k) + 2) (let r : 0 < sum_below l.loops (λ k. (nest g l extent w prog acc).rank k) + 2 = omega arith in r)
     (λ k kl. (let le : (nest g l extent w prog acc).rank k ≤ sum_below l.loops (λ k. (nest g l extent w prog acc).rank k) = term-le-sum l.loops (λ k. (nest g l extent w prog acc).rank k) k kl in

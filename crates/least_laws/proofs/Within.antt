@@ -6,7 +6,7 @@ use Rattle.cost_theory.specs.Accepted.{IsCallOrder}
 use Rattle.cost_theory.specs.Least.{IsLeast, IsLeastIfAny, IsUpTo, callee_value, least_call, least_cost}
 use Rattle.cost_theory.specs.LeastTurns.{IsRun, turn_step}
 use Rattle.cost_theory.proofs.Laws.{sum-le, sum-one, sum-none, search_below, and_right, and_both, and_false, some_same, accepted_entered, header_held, header_closes, entered-header, no_numbers, worst_equation, plain_from_entry, least_up_to, turns-worst}
-use Rattle.cost_theory.proofs.OrdersExist as orders
+use Rattle.cost_theory.proofs.Laws as theory
 use Rattle.least_laws.specs.Charged.{Charged, is_closed, charged_trips, charge_of, charged_cost, leads_on}
 use Rattle.least_laws.specs.Laws.{IsCharged, HaveFewTrips, TurnWithinIteration, ChargeWithinTurns, ChargeWithinWorst, ReturnWithinWorst}
 use Rattle.least_laws.proofs.OneEdge.{charged_back}
@@ -203,13 +203,13 @@ module _ (g : Graph) (l : Loops) (extent : ℕ → ℕ → Bool) (w : ℕ → �
     loop_below k kl = turn_here (g.owner (l.header k)) (λ h hl less. functions_below (order (g.owner (l.header k))) h less hl) k kl refl
 
 pub turn_within : TurnWithinIteration
-turn_within g l extent w n a is nums few k kl = let o = orders.call_order g is.program in loop_below g l extent w n a is nums few o.0 o.1 k kl
+turn_within g l extent w n a is nums few k kl = let o = theory.call_order g is.program in loop_below g l extent w n a is nums few o.0 o.1 k kl
 
 pub charge_within : ChargeWithinTurns
 charge_within g l extent w n a is nums few e el = charge-le g l extent w n a is nums few e el (λ j jl en. turn_within g l extent w n a is nums few j jl)
 
 pub return_within : ReturnWithinWorst
-return_within g l extent w n a is nums few f r fl there = let o = orders.call_order g is.program in functions_below g l extent w n a is nums few o.0 o.1 (suc (o.0 f)) f (omega arith) fl r there
+return_within g l extent w n a is nums few f r fl there = let o = theory.call_order g is.program in functions_below g l extent w n a is nums few o.0 o.1 (suc (o.0 f)) f (omega arith) fl r there
 
 pub charge_worst : ChargeWithinWorst
 charge_worst g l extent w n a is nums few e el =
@@ -228,7 +228,7 @@ charge_worst g l extent w n a is nums few e el =
     omega arith
   where
     o : (order : ℕ → ℕ) × IsCallOrder g order
-    o = orders.call_order g is.program
+    o = theory.call_order g is.program
 
     other : (j : ℕ) → j < l.loops → enters l j (g.source e) (g.target e) ≡ true → (k : ℕ) → k < l.loops → k ≢ j → (b : Bool) → enters l k (g.source e) (g.target e) ≡ b → only (enters l k (g.source e) (g.target e)) (all_of l a k) ≡ 0
     other j jl at_j k kl ne false h = ap (λ b. only b (all_of l a k)) h

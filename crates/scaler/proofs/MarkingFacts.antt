@@ -24,7 +24,7 @@ use Rattle.least_laws.specs.Charged.{AreCharged}
 use Rattle.least_cycles.specs.Found.{LeastView, IsInRange, IsLeastOf, AreSmallLeast, HoldsLeast}
 use Rattle.cost_theory.specs.Worst.{Numbers, AreNumbers, cost, turn_back, slack, rest}
 use Rattle.cost_theory.proofs.Laws.{sum-none, headers-distinct, accepted_entered, left-worst, turns-worst, call_order, plain_order, iteration-worst, rest-worst}
-use Rattle.cost_theory.proofs.Contexts as contexts
+use Rattle.cost_theory.proofs.Laws as theory
 use Rattle.graph_runs.specs.EdgeCosts.{cost_of}
 use Rattle.graph_runs.specs.Text.{text_of}
 use Rattle.code_graph.specs.FlowGraph.{FlowGraph, graph, IsGraphOf}
@@ -117,7 +117,7 @@ module _ (power : PowerModel) (image : Image) (notes : List LoopNote) (v : FlowG
       let acc = tree.tree.accepted in
       let p = plain_order (graph v) prog (loops v t) (noted_loops notes).inside acc in
       let o = call_order (graph v) prog in
-      contexts.numbers_exist (graph v) (loops v t) (noted_loops notes).inside w prog acc p.0 p.1.0 p.1.1 o.0 o.1
+      theory.numbers_exist (graph v) (loops v t) (noted_loops notes).inside w prog acc p.0 p.1.0 p.1.1 o.0 o.1
 
   pub weighed_by : (plain stored : Numbers) → AreNumbers (graph v) (loops v t) (plain_weights power image v) plain → AreNumbers (graph v) (loops v t) (stored_weights power image v (marked plain)) stored → IsWeighed power image notes v t plain stored
   weighed_by plain stored p s = record { code_is = is; tree_is = tree; counters = counts; plain_are = p; stored_are = s }

@@ -18,7 +18,7 @@ use Rattle.elf_patch.proofs.Laws.{some_place}
 use Rattle.stored_laws.specs.StoredView.{IsStorable, over, insert_segment, block_segment, stored_view}
 use Rattle.stored_laws.proofs.Laws.{text_place, law}
 use Rattle.text_laws.proofs.Laws.{found_from_any, any_from_found, list_any-map, segments_of, part_word, in_part}
-use Rattle.text_laws.proofs.TextBytes as bytes
+use Rattle.text_laws.proofs.Laws as texts
 use Rattle.graph_runs.specs.Text.{text_of}
 use Rattle.graph_runs.specs.TextStates.{IsTextOf}
 use Rattle.graph_runs.proofs.Laws.{text_of_layout, word_within}
@@ -171,7 +171,7 @@ module _ (file : List ℕ) (sites : List Site) (base start levels : ℕ) (input 
   text_off_key : (a : ℕ) → in_text k a ≡ true → in_span key a ≡ false
   unfolding layout_of contents
   text_off_key a on =
-      let t = bytes.in_text file a (segments_of file (contents file) e) (rules_of file (rules_kept file (contents file) e)).text on in
+      let t = texts.in_text file a (segments_of file (contents file) e) (rules_of file (rules_kept file (contents file) e)).text on in
       false_from_ne_true (in_span key a) (λ here. memory.covered file patches base block start e h a t.segment t.covers here)
 
   seen_if : (a : ℕ) → in_text k a ≡ false → in_span key a ≡ false → hidden stored a ≡ false
@@ -249,7 +249,7 @@ module _ (file : List ℕ) (sites : List Site) (base start levels : ℕ) (input 
   unfolding contents
   has_place pc word =
       let w = word_in pc word in
-      let t = bytes.in_text file pc (segments_of file (contents file) e) (rules_of file (rules_kept file (contents file) e)).text w.1 in
+      let t = texts.in_text file pc (segments_of file (contents file) e) (rules_of file (rules_kept file (contents file) e)).text w.1 in
       let last = in_part (pc + 3) t.part (part_word t.part pc 3 t.placed.first t.placed.size w.0 (omega arith) t.inside) in
       let first = in_part pc t.part t.inside in
       let has : header_has_word pc t.segment ≡ true =

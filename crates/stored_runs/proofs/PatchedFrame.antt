@@ -13,7 +13,7 @@ use Rattle.scale_base.specs.Layout.{Layout, Part, layout_of, part_of, is_plain_s
 use Rattle.scale_base.specs.Run.{setting_of}
 use Rattle.scale_base.proofs.Laws.{rules_kept, contents-are, rules_of, each_byte_none, each_byte_more}
 use Rattle.text_laws.proofs.Laws.{found_from_any, found_passes, found_keeps, any_from_found, SegmentsKept, segments_of, one_covers}
-use Rattle.text_laws.proofs.TextBytes as bytes
+use Rattle.text_laws.proofs.Laws as texts
 use Rattle.graph_runs.specs.Text.{text_of}
 use Rattle.graph_runs.specs.TextStates.{IsTextOf}
 use Rattle.graph_runs.proofs.Laws.{text_of_layout, word_within}
@@ -85,7 +85,7 @@ module _ (file : List ℕ) (e : image_of file ≡ Ok (contents file)) where
   pub text_off_key : (a : ℕ) → in_text l a ≡ true → is_keyed l a ≡ false
   unfolding layout_of contents
   text_off_key a on =
-      let t = bytes.in_text file a kept (rules_of file (rules_kept file (contents file) e)).text on in
+      let t = texts.in_text file a kept (rules_of file (rules_kept file (contents file) e)).text on in
       let plain = (and_parts (is_plain t.segment) (has t.segment.p_flags PF_X) t.holds.code).0 in
       false_from_ne_true (is_keyed l a) (no_plain a t.segment t.covers plain)
 

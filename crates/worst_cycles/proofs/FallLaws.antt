@@ -7,7 +7,7 @@ use Rattle.call_orders.specs.Arcs.{arc_at, number_at, HasArc, Leads, HasNoCycle}
 use Rattle.call_orders.specs.Arcs.Leads.{along, onward}
 use Rattle.cost_theory.specs.Graph.{Graph, Loops, IsPlain, is_back}
 use Rattle.cost_theory.specs.Accepted.{IsProgram, IsCallOrder, IsPlainOrder}
-use Rattle.cost_theory.proofs.OrdersExist as exist
+use Rattle.cost_theory.proofs.Laws as theory
 use Rattle.code_graph.specs.FlowGraph.{FlowGraph, graph, IsFlowGraph}
 use Rattle.natural_loops.specs.Noted.{node_address}
 use Rattle.loop_tree.specs.Arcs.{IsPlainBy}
@@ -64,8 +64,8 @@ need_falls v t extent entries rank count place flow are tree is calls e n lt nee
 
 pub no_needs_round : (v : FlowGraph) (t : LoopView) (entries : List ℕ) (n : ℕ) (arcs : List Arc) → IsFlowGraph v → AreEntries v entries → HasTree v t → AreNeeds v t.backs entries n arcs → HasNoCycle arcs
 no_needs_round v t entries n arcs flow are tree needs a leads =
-    let plain = exist.plain_order (graph v) flow.program (loops v t) tree.0 tree.1.accepted in
-    let calls = exist.call_order (graph v) flow.program in
+    let plain = theory.plain_order (graph v) flow.program (loops v t) tree.0 tree.1.accepted in
+    let calls = theory.call_order (graph v) flow.program in
     let at : ℕ → ℕ = λ k. height (graph v) calls.0 plain.0 plain.1.0 (slice_index v.code.nodes k) in
     let falls : (a b : ℕ) → HasArc arcs a b → at b < at a = λ a b h.
     let s = needs.each h.0 h.1 in

@@ -9,7 +9,7 @@ use Rattle.cost_theory.specs.Graph.{Graph, Loops}
 use Rattle.cost_theory.specs.Worst.{Numbers, AreNumbers, cost}
 use Rattle.cost_theory.specs.Accepted.{IsProgram, AreAccepted, AreWeights}
 use Rattle.cost_theory.specs.Laws.{IsAnalyzed}
-use Rattle.cost_theory.proofs.Contexts as contexts
+use Rattle.cost_theory.proofs.Laws as theory
 use Rattle.cost_theory.proofs.Laws.{call_order, plain_order, turns-worst, left-worst, function-worst, closing-worst, accepted_entered, header_held, entered_at_headers, first_uncalled, slack-le}
 use Rattle.pass_laws.proofs.Laws.{charged_on, charged_back, charged_into, headers_different, iteration_closing, closing_over, worst_plain, plain_within_worst, plain_over}
 use Rattle.code_graph.specs.FlowGraph.{FlowGraph, graph, IsFlowGraph}
@@ -62,7 +62,7 @@ pub numbers : (g : Graph) (l : Loops) (extent : ℕ → ℕ → Bool) (w : ℕ �
 numbers g l extent w is =
     let plain = plain_order g is.program l extent is.accepted in
     let calls = call_order g is.program in
-    let n = contexts.numbers_exist g l extent w is.program is.accepted plain.0 plain.1.0 plain.1.1 calls.0 calls.1 in
+    let n = theory.numbers_exist g l extent w is.program is.accepted plain.0 plain.1.0 plain.1.1 calls.0 calls.1 in
     let analyzed : IsAnalyzed g l extent w n.0 = record { program = is.program; accepted = is.accepted; weights = is.weights; numbers = n.1 } in
     (n.0, n.1, solved g l extent w n.0 analyzed)
 
