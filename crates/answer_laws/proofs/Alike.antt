@@ -5,7 +5,7 @@ use Rattle.std.proofs.lemmas.Option.{slice_get_past}
 use Rattle.cost_theory.specs.Graph.{Graph, Loops}
 use Rattle.cost_theory.specs.Worst.{Numbers, AreNumbers}
 use Rattle.cost_theory.specs.Accepted.{IsProgram, AreAccepted}
-use Rattle.cost_theory.specs.Laws.{AreSame}
+use Rattle.cost_theory.specs.Laws.{AreSameNumbers}
 use Rattle.cost_theory.specs.Reached.{edge_to}
 use Rattle.cost_theory.proofs.Laws as theory
 use Rattle.cost_theory.proofs.Laws.{same_numbers}
@@ -43,7 +43,7 @@ module _ (g : Graph) (l : Loops) (extent : ℕ → ℕ → Bool) (prog : IsProgr
   alike_from : (h : Graph) (r : IsRenumberedGraph g (with_edges g h)) → AreNumbers (with_edges g h) l w n' → AreAlikeOver g (with_edges g h) l r.number w n n'
   alike_from h r nums' =
       let order = theory.call_order g prog in
-      let same : AreSame g l n (renamed r.back n') = same_numbers g l extent prog acc w order.0 order.1 n (renamed r.back n') nums (numbers_from g h r l w n' nums') in
+      let same : AreSameNumbers g l n (renamed r.back n') = same_numbers g l extent prog acc w order.0 order.1 n (renamed r.back n') nums (numbers_from g h r l w n' nums') in
       record {
         whole = same.worst 0 prog.main ∙ ap n'.worst r.again.first;
         worst = λ f fl. same.worst (r.number f) (r.numbered.within f fl) ∙ ap n'.worst (r.here f fl);

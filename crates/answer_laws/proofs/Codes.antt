@@ -7,7 +7,7 @@ use Rattle.cost_theory.specs.Graph.{Graph}
 use Rattle.cost_theory.specs.declared.edges.Edge.{Edge}
 use Rattle.cost_theory.specs.declared.edges.Word.{Word}
 use Rattle.cost_theory.specs.declared.edges.Word.TheVariants.{Branch, Goto, CallOf, Back, Ends, MayEnd, Breaks, Straight, Bad}
-use Rattle.cost_theory.specs.Reached.{edges_of, Code, number_beside, owner_of, returns_of, edge_at, edge_to, number_at, call_returns, callee_of, edge_callee, edge_returns, edge_exits, graph_of, IsCodeOf, HasNoBadWord}
+use Rattle.cost_theory.specs.Reached.{edges_of, Code, number_beside, owner_of, returns_of, edge_at, edge_to, number_or_0, call_returns, callee_of, edge_callee, edge_returns, edge_exits, graph_of, IsCodeOf, HasNoBadWord}
 use Rattle.cost_theory.proofs.Laws.{some_get, callee-call, callee-is}
 use Rattle.graph_runs.specs.Text.{kind_at}
 use Rattle.graph_runs.specs.EdgeCosts.{cost_of, edge_class}
@@ -20,7 +20,7 @@ use Rattle.answer_laws.proofs.Numbers.{both_ways, IsThere, ascending_same, few_n
 
 -- the number of a function of one list in another
 abbrev pub number_in : Code → Code → ℕ → ℕ
-number_in code code' f = owner_of code (number_at (slice_get code'.functions f))
+number_in code code' f = owner_of code (number_or_0 (slice_get code'.functions f))
 
 -- nothing stands beside a number that isn't there
 beside_none : (us table : List ℕ) (v : ℕ) → ((k : ℕ) → slice_get us k ≡ Some v → ⊥) → number_beside us table v ≡ 0
@@ -69,7 +69,7 @@ module _ (word : ℕ → Word) (first : ℕ) (code code' : Code) (is : IsCodeOf 
 
   -- a function has its entry under its number
   pub number_at_entry : (f h : ℕ) → slice_get code'.functions f ≡ Some h → slice_get code.functions (number_in code code' f) ≡ Some h
-  number_at_entry f h at = ap (λ x. slice_get code.functions (owner_of code x)) (ap number_at at) ∙ is.owner h h ((is'.functions h).0 (f, at))
+  number_at_entry f h at = ap (λ x. slice_get code.functions (owner_of code x)) (ap number_or_0 at) ∙ is.owner h h ((is'.functions h).0 (f, at))
 
   first_number : number_in code code' 0 ≡ 0
   first_number = is.once (number_in code code' 0) 0 first (number_at_entry 0 first is'.first_function) is.first_function
@@ -77,8 +77,8 @@ module _ (word : ℕ → Word) (first : ℕ) (code code' : Code) (is : IsCodeOf 
   pub number_within : (f : ℕ) → f < length code'.functions → number_in code code' f < length code.functions
   number_within f lt = let h = some_get code'.functions f lt in slice_get_within code.functions (number_in code code' f) h.0 (number_at_entry f h.0 h.1)
 
-  same_entry : (f : ℕ) → f < length code'.functions → number_at (slice_get code.functions (number_in code code' f)) ≡ number_at (slice_get code'.functions f)
-  same_entry f lt = let h = some_get code'.functions f lt in ap number_at (number_at_entry f h.0 h.1) ∙ sym (ap number_at h.1)
+  same_entry : (f : ℕ) → f < length code'.functions → number_or_0 (slice_get code.functions (number_in code code' f)) ≡ number_or_0 (slice_get code'.functions f)
+  same_entry f lt = let h = some_get code'.functions f lt in ap number_or_0 (number_at_entry f h.0 h.1) ∙ sym (ap number_or_0 h.1)
 
   pub same_owner : (v : ℕ) → owner_of code v ≡ number_in code code' (owner_of code' v)
   same_owner v = ⊎_elim
@@ -104,7 +104,7 @@ module _ (word : ℕ → Word) (first : ℕ) (code code' : Code) (is : IsCodeOf 
           let k = callee-call c.functions (CallOf to) i e in
           let same : to ≡ k.0 = (let q = k.1 in cc) in
           let x = some_get c.functions i k.2 in
-          x.1 ∙ ap Some (sym (ap number_at x.1) ∙ k.3 ∙ sym same)
+          x.1 ∙ ap Some (sym (ap number_or_0 x.1) ∙ k.3 ∙ sym same)
 
       absent : (o : Option ℕ) → callee_of code.functions (CallOf to) ≡ o → callee_of code'.functions (CallOf to) ≡ None → o ≡ None
       absent None e none = refl

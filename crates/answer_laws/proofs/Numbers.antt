@@ -2,7 +2,7 @@
 use Rattle.std.proofs.Common.{◌≡◌, ℕ, zero, suc, ◌+◌, ◌<◌, ◌≤◌, Bool, true, false, List, [], ◌∷◌, map, length, Option, Some, None, option_map, slice_get, refl, sym, ap, ◌∙◌, subst, arith, ⊎_elim, ◌⊎◌, inl, inr}
 use Rattle.std.proofs.lemmas.Option.{slice_get-map}
 use Rattle.std.proofs.lemmas.List.{length-map}
-use Rattle.call_orders.specs.Arcs.{number_at}
+use Rattle.call_orders.specs.Arcs.{number_in_place}
 use Rattle.call_orders.specs.Cycles.{IsCycleBy}
 use Rattle.code_graph.proofs.Laws.{Ascend, some_is, few_once}
 
@@ -69,22 +69,22 @@ few_numbered f xs n low apart = subst (λ m. m ≤ n) (length-map xs f) (few_onc
 pub no_cycle : (R S : ℕ → ℕ → Type 0) (cycle : List ℕ) → ((a b : ℕ) → R a b → S a b) → ((a b c : ℕ) → S a b → S b c → S a c) → ((a : ℕ) → S a a → ⊥) → IsCycleBy R cycle → ⊥
 no_cycle R S cycle steps joins never is = at_end (length cycle) refl is.some
   where
-    from_first : (i : ℕ) → i < length cycle → (number_at cycle 0 ≡ number_at cycle i) ⊎ S (number_at cycle 0) (number_at cycle i)
+    from_first : (i : ℕ) → i < length cycle → (number_in_place cycle 0 ≡ number_in_place cycle i) ⊎ S (number_in_place cycle 0) (number_in_place cycle i)
     from_first zero lt = inl refl
     from_first (suc i) lt =
         let e : i + 1 ≡ suc i = omega arith in
-        let on : S (number_at cycle i) (number_at cycle (suc i)) = subst (λ j. S (number_at cycle i) (number_at cycle j)) e (steps _ _ (is.onward i (omega arith))) in
+        let on : S (number_in_place cycle i) (number_in_place cycle (suc i)) = subst (λ j. S (number_in_place cycle i) (number_in_place cycle j)) e (steps _ _ (is.onward i (omega arith))) in
         inr (⊎_elim
-        (λ (here : number_at cycle 0 ≡ number_at cycle i). subst (λ x. S x (number_at cycle (suc i))) (sym here) on)
-        (λ (before : S (number_at cycle 0) (number_at cycle i)). joins _ _ _ before on)
+        (λ (here : number_in_place cycle 0 ≡ number_in_place cycle i). subst (λ x. S x (number_in_place cycle (suc i))) (sym here) on)
+        (λ (before : S (number_in_place cycle 0) (number_in_place cycle i)). joins _ _ _ before on)
         (from_first i (omega arith)))
 
     at_end : (n : ℕ) → length cycle ≡ n → 0 < n → ⊥
     at_end zero size some = let bad : ⊥ = omega arith in bad
     at_end (suc i) size some =
         let last : i + 1 ≡ length cycle = omega arith in
-        let round : S (number_at cycle i) (number_at cycle 0) = steps _ _ (is.round i last) in
+        let round : S (number_in_place cycle i) (number_in_place cycle 0) = steps _ _ (is.round i last) in
         ⊎_elim
-        (λ (here : number_at cycle 0 ≡ number_at cycle i). never (number_at cycle i) (subst (λ x. S (number_at cycle i) x) here round))
-        (λ (before : S (number_at cycle 0) (number_at cycle i)). never (number_at cycle 0) (joins _ _ _ before round))
+        (λ (here : number_in_place cycle 0 ≡ number_in_place cycle i). never (number_in_place cycle i) (subst (λ x. S (number_in_place cycle i) x) here round))
+        (λ (before : S (number_in_place cycle 0) (number_in_place cycle i)). never (number_in_place cycle 0) (joins _ _ _ before round))
         (from_first i (omega arith))

@@ -4,9 +4,9 @@ use Rattle.std.proofs.Math.Path.{fun_ext}
 use Rattle.cost_theory.specs.Graph.{Graph, Loops, total, only, any_below, enters}
 use Rattle.cost_theory.specs.Worst.{at_some}
 use Rattle.cost_theory.specs.Least.{IsLeastIfAny, Least, callee_value, least_call, least_cost, IsWay, way_cost}
-use Rattle.cost_theory.specs.Least.{Way}
-use Rattle.cost_theory.specs.Least.Way.{Exits, Returns}
-use Rattle.cost_theory.specs.LeastTurns.{IsRun, turn_step, turn_last, charge}
+use Rattle.cost_theory.specs.Least.{WayToEnd}
+use Rattle.cost_theory.specs.Least.WayToEnd.{Exits, Returns}
+use Rattle.cost_theory.specs.LeastTurns.{IsRun, turn_step, turn_last, least_charge}
 use Rattle.cost_theory.proofs.Laws.{sum-same}
 use Rattle.least_laws.specs.Charged.{Charged, calls_so, calls_exit, charged_trips, charge_of, charged_cost, leads_on, ends_exit, AreCharged, end_behind, to_end_after, HasPlainReturns}
 use Rattle.least_laws.specs.Laws.{IsCharged, AreAlike}
@@ -58,16 +58,16 @@ module _ (g h : Graph) (r : IsRenumberedGraph g (with_edges g h)) where
   trips_are l n = fun_ext (λ k. ap (λ (c : ℕ → Bool). only (not (any_below g.edges (λ e. l.inside k (g.source e) && (g.exits e || c e)))) (l.least_trips k)) (exits_are n))
 
   pub charge_is : (l : Loops) (n : Charged) (e : ℕ) → charge_of (with_edges g h) l n e ≡ charge_of g l n e
-  charge_is l n e = ap (λ m. charge g l m n.turn e) (trips_are l n.least)
+  charge_is l n e = ap (λ m. least_charge g l m n.turn e) (trips_are l n.least)
 
   costs_are : (l : Loops) (w : ℕ → ℕ) (n : Charged) → charged_cost (with_edges g h) l w n ≡ charged_cost g l w n
   costs_are l w n = fun_ext (λ e. ap (λ x. w e + x + charge_of (with_edges g h) l n e) (call_is n.least e (g.target e)) ∙ ap (λ x. least_cost g w n.least e + x) (charge_is l n e))
 
-  way_from : (n : Least) (v : ℕ) (way : Way) → IsWay (with_edges g h) n v way → IsWay g n v way
+  way_from : (n : Least) (v : ℕ) (way : WayToEnd) → IsWay (with_edges g h) n v way → IsWay g n v way
   way_from n v Exits is = is
   way_from n v (Returns e) is = (is.0, (is.1.0, r.numbered.callee e ∙ ap (option_map r.number) is.1.1 ∙ ap Some (sym (r.numbered.owner v)), is.1.2))
 
-  way_to : (n : Least) (v : ℕ) (way : Way) → IsWay g n v way → IsWay (with_edges g h) n v way
+  way_to : (n : Least) (v : ℕ) (way : WayToEnd) → IsWay g n v way → IsWay (with_edges g h) n v way
   way_to n v Exits is = is
   way_to n v (Returns e) is = (is.0, (is.1.0, r.again.callee e ∙ ap (option_map r.back) is.1.1 ∙ ap Some (sym (r.again.owner v)), is.1.2))
 
@@ -97,7 +97,7 @@ module _ (g : Graph) (l : Loops) (n n' : Charged) (same : AreAlike l n n') where
 
   charge_same : (e : ℕ) → charge_of g l n e ≡ charge_of g l n' e
   charge_same e =
-      ap (λ m. charge g l (charged_trips g l m) n.turn e) least_is ∙
+      ap (λ m. least_charge g l (charged_trips g l m) n.turn e) least_is ∙
       sum-same l.loops (λ k. only (enters l k (g.source e) (g.target e)) (charged_trips g l n'.least k * n.turn k)) (λ k. only (enters l k (g.source e) (g.target e)) (charged_trips g l n'.least k * n'.turn k))
       (λ k kl. ap (λ x. only (enters l k (g.source e) (g.target e)) (charged_trips g l n'.least k * x)) (same.turn k kl))
 

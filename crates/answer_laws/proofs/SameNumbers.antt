@@ -4,7 +4,7 @@ use Rattle.std.proofs.Math.Path.{fun_ext}
 use Rattle.cost_theory.specs.Graph.{Graph, Loops, total, sum_below, only, is_round, enters, is_back}
 use Rattle.cost_theory.specs.Worst.{IsGreatest, IsGreatestIfAny, at_some, Numbers, cost, all_of, charged, IsLeft, AreLoopNumbers, IsBoundedWalk, left_at, turn_back, slack, IsReturningCall, turns_round, context_of, IsContext, rest, AreNumbers}
 use Rattle.cost_theory.specs.Accepted.{IsProgram, AreAccepted}
-use Rattle.cost_theory.specs.Laws.{AreSame}
+use Rattle.cost_theory.specs.Laws.{AreSameNumbers}
 use Rattle.cost_theory.proofs.Laws.{sum-same}
 use Rattle.worst_cycles.specs.Worst.{slack_at, rest_at}
 use Rattle.answer_laws.specs.Renumbered.{IsRenumberedGraph}
@@ -80,7 +80,7 @@ module _ (g h : Graph) (r : IsRenumberedGraph g (with_edges g h)) (l : Loops) (w
 
 -- ---- what two records that hold the same give an edge
 
-module _ (g : Graph) (l : Loops) (extent : ℕ → ℕ → Bool) (prog : IsProgram g) (acc : AreAccepted g l extent) (w : ℕ → ℕ) (n n' : Numbers) (same : AreSame g l n n') where
+module _ (g : Graph) (l : Loops) (extent : ℕ → ℕ → Bool) (prog : IsProgram g) (acc : AreAccepted g l extent) (w : ℕ → ℕ) (n n' : Numbers) (same : AreSameNumbers g l n n') where
   cost_same : (e : ℕ) → e < g.edges → cost g n w e ≡ cost g n' w e
   cost_same e lt = ap (λ x. w e + x) (go (g.callee e) refl)
     where

@@ -3,7 +3,7 @@ use Rattle.std.proofs.Common.{◌≡◌, ◌≢◌, ℕ, ◌+◌, ◌<◌, List,
 use Rattle.std.proofs.lemmas.Bool.{cases_eq}
 use Rattle.call_orders.specs.declared.Arc.{Arc}
 use Rattle.call_orders.specs.Arcs.{arc_at}
-use Rattle.call_orders.specs.Search.{arc_next, IsAbove, AreLasts, IsChain}
+use Rattle.call_orders.specs.Search.{arc_next, IsAbove, AreLasts, AreArcChains}
 
 pub lasts_more : (n x : ℕ) (arcs : List Arc) (last : List (Option ℕ)) → x < length last → (arc_at arcs n).from ≡ x → AreLasts n arcs last → AreLasts (n + 1) arcs (set last x (Some n))
 lasts_more n x arcs last xl from was = record {
@@ -20,7 +20,7 @@ lasts_more n x arcs last xl from was = record {
       (cases_eq (arc_at arcs r).from x);
 }
 
-pub chain_more : (n x : ℕ) (arcs : List Arc) (last before : List (Option ℕ)) → n < length before → (arc_at arcs n).from ≡ x → AreLasts n arcs last → IsChain n arcs before → IsChain (n + 1) arcs (set before n (arc_next last x))
+pub chain_more : (n x : ℕ) (arcs : List Arc) (last before : List (Option ℕ)) → n < length before → (arc_at arcs n).from ≡ x → AreLasts n arcs last → AreArcChains n arcs before → AreArcChains (n + 1) arcs (set before n (arc_next last x))
 chain_more n x arcs last before nl from lasts was = record {
   arc = λ s r lt h. ⊎_elim
       (λ (e : s ≡ n). let o = lasts.arc x r (sym (get_or-set_same before n (arc_next last x) None nl) ∙ ap (arc_next (set before n (arc_next last x))) (sym e) ∙ h) in let a = o.0 in (omega arith, o.1 ∙ sym from ∙ ap (λ k. (arc_at arcs k).from) (sym e)))

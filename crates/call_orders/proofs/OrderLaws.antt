@@ -5,11 +5,11 @@ use Rattle.std.proofs.lemmas.List.{get_or-drop}
 use Rattle.call_orders.specs.declared.Arc.{Arc}
 use Rattle.call_orders.specs.declared.search.Mark.{Mark}
 use Rattle.call_orders.specs.declared.search.Mark.TheVariants.{Unmet, OnPath, Done}
-use Rattle.call_orders.specs.Arcs.{arc_at, number_at, AreNumbered, AreDistinct, IsBefore, IsSorted, IsCycle, Leads, HasNoCycle}
+use Rattle.call_orders.specs.Arcs.{arc_at, number_in_place, AreNumbered, AreDistinct, StandsBefore, IsSorted, IsCycle, Leads, HasNoCycle}
 use Rattle.call_orders.specs.Arcs.Leads.{along, onward}
 use Rattle.call_orders.specs.Search.{mark, IsMet, IsDone, IsSearch, IsBack}
 
-pub same_place : (numbers : List ℕ) (i j : ℕ) → AreDistinct numbers → i < length numbers → j < length numbers → number_at numbers i ≡ number_at numbers j → i ≡ j
+pub same_place : (numbers : List ℕ) (i j : ℕ) → AreDistinct numbers → i < length numbers → j < length numbers → number_in_place numbers i ≡ number_in_place numbers j → i ≡ j
 same_place numbers i j distinct il jl e = ⊎_elim (λ (k : i ≡ j). k)
     (λ (ne : i ≡ j → ⊥). ⊎_elim
     (λ (lt : i < j). absurd (distinct i j lt jl e))
@@ -17,7 +17,7 @@ same_place numbers i j distinct il jl e = ⊎_elim (λ (k : i ≡ j). k)
     (cases_lt i j))
     (cases_eq i j)
 
-before_leads : (arcs : List Arc) (order : List ℕ) → AreDistinct order → ((s : ℕ) → s < length arcs → IsBefore order (arc_at arcs s).to (arc_at arcs s).from) → (a b : ℕ) → Leads arcs a b → IsBefore order b a
+before_leads : (arcs : List Arc) (order : List ℕ) → AreDistinct order → ((s : ℕ) → s < length arcs → StandsBefore order (arc_at arcs s).to (arc_at arcs s).from) → (a b : ℕ) → Leads arcs a b → StandsBefore order b a
 before_leads arcs order distinct before a b (along h) =
     let o = before h.0 h.1 in (o.0, o.1, o.2, o.3, o.4 ∙ h.3, o.5 ∙ h.2)
 before_leads arcs order distinct before a c (onward b h leads) =
@@ -32,12 +32,12 @@ sorted_no_cycle count arcs order sorted a leads =
     let o = before_leads arcs order sorted.distinct sorted.before a a leads in
     sorted.distinct o.0 o.1 o.2 o.3 (o.4 ∙ sym o.5)
 
-leads_round : (arcs : List Arc) (cycle : List ℕ) → IsCycle arcs cycle → (k i : ℕ) → i + 1 + k ≡ length cycle → Leads arcs (number_at cycle i) (number_at cycle 0)
+leads_round : (arcs : List Arc) (cycle : List ℕ) → IsCycle arcs cycle → (k i : ℕ) → i + 1 + k ≡ length cycle → Leads arcs (number_in_place cycle i) (number_in_place cycle 0)
 leads_round arcs cycle is zero i e = along (is.round i (omega arith))
-leads_round arcs cycle is (suc k) i e = onward (number_at cycle (i + 1)) (is.onward i (omega arith)) (leads_round arcs cycle is k (i + 1) (omega arith))
+leads_round arcs cycle is (suc k) i e = onward (number_in_place cycle (i + 1)) (is.onward i (omega arith)) (leads_round arcs cycle is k (i + 1) (omega arith))
 
 pub cycle_not_none : (arcs : List Arc) (cycle : List ℕ) → IsCycle arcs cycle → HasNoCycle arcs → ⊥
-cycle_not_none arcs cycle is none = let some = is.some in none (number_at cycle 0) (leads_round arcs cycle is (length cycle - 1) 0 (omega arith))
+cycle_not_none arcs cycle is none = let some = is.some in none (number_in_place cycle 0) (leads_round arcs cycle is (length cycle - 1) 0 (omega arith))
 
 done_number : (arcs : List Arc) (before next : List (Option ℕ)) (marks : List Mark) (path order : List ℕ) (x : ℕ) (m : Mark) → IsSearch arcs before next marks path order → length path ≡ 0 → IsMet marks x → mark marks x ≡ m → IsDone marks x
 done_number arcs before next marks path order x Unmet is empty met e = absurd (met e)
@@ -60,7 +60,7 @@ search_sorted count arcs before next marks path order is empty size numbered met
       (o.0, d.0, o.1, a.0, (is.marked_order (arc_at arcs s).to o.0 o.2).1, a.1);
 }
 
-at_drop : (numbers : List ℕ) (start i : ℕ) → number_at (drop start numbers) i ≡ number_at numbers (start + i)
+at_drop : (numbers : List ℕ) (start i : ℕ) → number_in_place (drop start numbers) i ≡ number_in_place numbers (start + i)
 at_drop numbers start i = get_or-drop start numbers i 0
 
 pub search_cycle : (arcs : List Arc) (before next : List (Option ℕ)) (marks : List Mark) (path order : List ℕ) (start : ℕ) → IsSearch arcs before next marks path order → IsBack arcs path (Some start) → IsCycle arcs (drop start path)
@@ -74,8 +74,8 @@ search_cycle arcs before next marks path order start is back =
           let k : start + i ≡ start + j = cc in let bad : ⊥ = omega arith in bad;
       onward = λ i il.
           let h = is.path_arcs (start + i) (omega arith) in
-          (h.0, h.1, h.2 ∙ sym (at_drop path start i), h.3 ∙ ap (number_at path) (let r : start + i + 1 ≡ start + (i + 1) = omega arith in r) ∙ sym (at_drop path start (i + 1)));
+          (h.0, h.1, h.2 ∙ sym (at_drop path start i), h.3 ∙ ap (number_in_place path) (let r : start + i + 1 ≡ start + (i + 1) = omega arith in r) ∙ sym (at_drop path start (i + 1)));
       round = λ i e.
           let h = back.1 (start + i) (omega arith) in
-          (h.0, h.1, h.2 ∙ sym (at_drop path start i), h.3 ∙ ap (number_at path) (let r : start ≡ start + 0 = omega arith in r) ∙ sym (at_drop path start 0));
+          (h.0, h.1, h.2 ∙ sym (at_drop path start i), h.3 ∙ ap (number_in_place path) (let r : start ≡ start + 0 = omega arith in r) ∙ sym (at_drop path start 0));
     }

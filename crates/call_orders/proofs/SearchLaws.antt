@@ -7,7 +7,7 @@ use Rattle.std.proofs.Math.Seq.{get_or-append_seam}
 use Rattle.call_orders.specs.declared.Arc.{Arc}
 use Rattle.call_orders.specs.declared.search.Mark.{Mark}
 use Rattle.call_orders.specs.declared.search.Mark.TheVariants.{Unmet, OnPath, Done}
-use Rattle.call_orders.specs.Arcs.{HasArc, arc_at, number_at}
+use Rattle.call_orders.specs.Arcs.{HasArc, arc_at, number_in_place}
 use Rattle.call_orders.specs.Search.{mark, arc_next, IsAbove, IsDone, IsSearch, place}
 
 -- the mark of another number stays
@@ -30,17 +30,17 @@ length_more : (xs : List ℕ) (x : ℕ) → length (xs ++ x ∷ []) ≡ length x
 length_more xs x = length-append xs (x ∷ [])
 
 -- of numbers with one more at the end
-at_end : (xs : List ℕ) (x i : ℕ) → i ≡ length xs → number_at (xs ++ x ∷ []) i ≡ x
-at_end xs x i e = ap (number_at (xs ++ x ∷ [])) e ∙ get_or-append_seam xs x [] 0
+at_end : (xs : List ℕ) (x i : ℕ) → i ≡ length xs → number_in_place (xs ++ x ∷ []) i ≡ x
+at_end xs x i e = ap (number_in_place (xs ++ x ∷ [])) e ∙ get_or-append_seam xs x [] 0
 
-at_left : (xs : List ℕ) (x i : ℕ) → i < length xs → number_at (xs ++ x ∷ []) i ≡ number_at xs i
+at_left : (xs : List ℕ) (x i : ℕ) → i < length xs → number_in_place (xs ++ x ∷ []) i ≡ number_in_place xs i
 at_left xs x i lt = get_or_append_left xs (x ∷ []) 0 i lt
 
 arc_along : (arcs : List Arc) (a b c d : ℕ) → a ≡ c → b ≡ d → HasArc arcs a b → HasArc arcs c d
 arc_along arcs a b c d ac bd h = (h.0, h.1, h.2 ∙ ac, h.3 ∙ bd)
 
 pub opened : (arcs : List Arc) (before next : List (Option ℕ)) (marks : List Mark) (path order : List ℕ) (x : ℕ) → IsSearch arcs before next marks path order →
-    x < length marks → mark marks x ≡ Unmet → ((i : ℕ) → i + 1 ≡ length path → HasArc arcs (number_at path i) x) →
+    x < length marks → mark marks x ≡ Unmet → ((i : ℕ) → i + 1 ≡ length path → HasArc arcs (number_in_place path i) x) →
     IsSearch arcs before next (set marks x (OnPath (length path))) (path ++ x ∷ []) order
 opened arcs before next marks path order x was xl unmet joins =
     let size : length (set marks x (OnPath (length path))) ≡ length marks = length-set marks x (OnPath (length path)) in
@@ -54,7 +54,7 @@ opened arcs before next marks path order x was xl unmet joins =
           (λ (e : i ≡ length path). let at = at_end path x i e in
           (subst (λ k. k < length (set marks x (OnPath (length path)))) (sym at) (omega arith), ap (mark (set marks x (OnPath (length path)))) at ∙ here ∙ ap OnPath (sym e)))
           (λ (ne : i ≡ length path → ⊥). let d : i ≢ length path = ne in let il : i < length path = omega arith in let at = at_left path x i il in let o = was.path_marked i il in let ol = o.0 in
-          (subst (λ k. k < length (set marks x (OnPath (length path)))) (sym at) (omega arith), ap (mark (set marks x (OnPath (length path)))) at ∙ kept marks x (number_at path i) (OnPath (length path)) (OnPath i) Unmet unmet o.1 (path_unmet i)))
+          (subst (λ k. k < length (set marks x (OnPath (length path)))) (sym at) (omega arith), ap (mark (set marks x (OnPath (length path)))) at ∙ kept marks x (number_in_place path i) (OnPath (length path)) (OnPath i) Unmet unmet o.1 (path_unmet i)))
           (cases_eq i (length path));
       marked_path = λ y i h. ⊎_elim
           (λ (e : y ≡ x). let q : OnPath (length path) ≡ OnPath i = sym here ∙ ap (mark (set marks x (OnPath (length path)))) (sym e) ∙ h in let k : length path ≡ i = cc in
@@ -62,15 +62,15 @@ opened arcs before next marks path order x was xl unmet joins =
           (λ (ne : y ≡ x → ⊥). let o = was.marked_path y i (sym (get_or-set_other marks x y (OnPath (length path)) Unmet ne) ∙ h) in let ol = o.0 in
           (omega arith, at_left path x i ol ∙ o.1))
           (cases_eq y x);
-      order_marked = λ i lt. let o = was.order_marked i lt in let ol = o.0 in (omega arith, kept marks x (number_at order i) (OnPath (length path)) (Done i) Unmet unmet o.1 (done_unmet i));
+      order_marked = λ i lt. let o = was.order_marked i lt in let ol = o.0 in (omega arith, kept marks x (number_in_place order i) (OnPath (length path)) (Done i) Unmet unmet o.1 (done_unmet i));
       marked_order = λ y i h. ⊎_elim
           (λ (e : y ≡ x). absurd (done_path i (length path) (sym h ∙ ap (mark (set marks x (OnPath (length path)))) e ∙ here)))
           (λ (ne : y ≡ x → ⊥). was.marked_order y i (sym (get_or-set_other marks x y (OnPath (length path)) Unmet ne) ∙ h))
           (cases_eq y x);
       path_arcs = λ i lt. let il : i < length path = omega arith in ⊎_elim
-          (λ (e : i + 1 ≡ length path). arc_along arcs (number_at path i) x (number_at (path ++ x ∷ []) i) (number_at (path ++ x ∷ []) (i + 1)) (sym (at_left path x i il)) (sym (at_end path x (i + 1) e)) (joins i e))
+          (λ (e : i + 1 ≡ length path). arc_along arcs (number_in_place path i) x (number_in_place (path ++ x ∷ []) i) (number_in_place (path ++ x ∷ []) (i + 1)) (sym (at_left path x i il)) (sym (at_end path x (i + 1) e)) (joins i e))
           (λ (ne : i + 1 ≡ length path → ⊥). let d : i + 1 ≢ length path = ne in let jl : i + 1 < length path = omega arith in
-          arc_along arcs (number_at path i) (number_at path (i + 1)) (number_at (path ++ x ∷ []) i) (number_at (path ++ x ∷ []) (i + 1)) (sym (at_left path x i il)) (sym (at_left path x (i + 1) jl)) (was.path_arcs i jl))
+          arc_along arcs (number_in_place path i) (number_in_place path (i + 1)) (number_in_place (path ++ x ∷ []) i) (number_in_place (path ++ x ∷ []) (i + 1)) (sym (at_left path x i il)) (sym (at_left path x (i + 1) jl)) (was.path_arcs i jl))
           (cases_eq (i + 1) (length path));
       done_arcs = λ s i lt h. ⊎_elim
           (λ (e : (arc_at arcs s).from ≡ x). absurd (done_path i (length path) (sym h ∙ ap (mark (set marks x (OnPath (length path)))) e ∙ here)))
@@ -82,7 +82,7 @@ opened arcs before next marks path order x was xl unmet joins =
     }
 
 pub closed : (arcs : List Arc) (before next : List (Option ℕ)) (marks : List Mark) (path rest order : List ℕ) (x : ℕ) → IsSearch arcs before next marks path order →
-    length rest + 1 ≡ length path → ((i : ℕ) → i < length rest → number_at path i ≡ number_at rest i) → number_at path (length rest) ≡ x → arc_next next x ≡ None →
+    length rest + 1 ≡ length path → ((i : ℕ) → i < length rest → number_in_place path i ≡ number_in_place rest i) → number_in_place path (length rest) ≡ x → arc_next next x ≡ None →
     IsSearch arcs before next (set marks x (Done (length order))) rest (order ++ x ∷ [])
 closed arcs before next marks path rest order x was long same end over =
     let new : List Mark = set marks x (Done (length order)) in
@@ -98,12 +98,12 @@ closed arcs before next marks path rest order x was long same end over =
       chain = was.chain;
       path_marked = λ i lt. let at = same i lt in let o = was.path_marked i (omega arith) in let ol = o.0 in (
         subst (λ k. k < length (set marks x (Done (length order)))) at (omega arith),
-        ap (mark (set marks x (Done (length order)))) (sym at) ∙ kept marks x (number_at path i) (Done (length order)) (OnPath i) (OnPath (length rest)) on o.1 (path_path i (length rest) lt),
+        ap (mark (set marks x (Done (length order)))) (sym at) ∙ kept marks x (number_in_place path i) (Done (length order)) (OnPath i) (OnPath (length rest)) on o.1 (path_path i (length rest) lt),
       );
       marked_path = λ y i h. ⊎_elim
           (λ (e : y ≡ x). absurd (done_path (length order) i (sym here ∙ ap (mark (set marks x (Done (length order)))) (sym e) ∙ h)))
           (λ (ne : y ≡ x → ⊥). let o = was.marked_path y i (sym (get_or-set_other marks x y (Done (length order)) Unmet ne) ∙ h) in let ol = o.0 in ⊎_elim
-          (λ (e : i ≡ length rest). absurd (ne (sym o.1 ∙ ap (number_at path) e ∙ end)))
+          (λ (e : i ≡ length rest). absurd (ne (sym o.1 ∙ ap (number_in_place path) e ∙ end)))
           (λ (ni : i ≡ length rest → ⊥). let d : i ≢ length rest = ni in let il : i < length rest = omega arith in (il, sym (same i il) ∙ o.1))
           (cases_eq i (length rest)))
           (cases_eq y x);
@@ -111,7 +111,7 @@ closed arcs before next marks path rest order x was long same end over =
           (λ (e : i ≡ length order). let at = at_end order x i e in
           (subst (λ k. k < length (set marks x (Done (length order)))) (sym at) (omega arith), ap (mark (set marks x (Done (length order)))) at ∙ here ∙ ap Done (sym e)))
           (λ (ne : i ≡ length order → ⊥). let d : i ≢ length order = ne in let il : i < length order = omega arith in let at = at_left order x i il in let o = was.order_marked i il in let ol = o.0 in
-          (subst (λ k. k < length (set marks x (Done (length order)))) (sym at) (omega arith), ap (mark (set marks x (Done (length order)))) at ∙ kept marks x (number_at order i) (Done (length order)) (Done i) (OnPath (length rest)) on o.1 (done_path i (length rest))))
+          (subst (λ k. k < length (set marks x (Done (length order)))) (sym at) (omega arith), ap (mark (set marks x (Done (length order)))) at ∙ kept marks x (number_in_place order i) (Done (length order)) (Done i) (OnPath (length rest)) on o.1 (done_path i (length rest))))
           (cases_eq i (length order));
       marked_order = λ y i h. ⊎_elim
           (λ (e : y ≡ x). let q : Done (length order) ≡ Done i = sym here ∙ ap (mark (set marks x (Done (length order)))) (sym e) ∙ h in let k : length order ≡ i = cc in
@@ -120,7 +120,7 @@ closed arcs before next marks path rest order x was long same end over =
           (omega arith, at_left order x i ol ∙ o.1))
           (cases_eq y x);
       path_arcs = λ i lt. let il : i < length rest = omega arith in
-          arc_along arcs (number_at path i) (number_at path (i + 1)) (number_at rest i) (number_at rest (i + 1)) (same i il) (same (i + 1) lt) (was.path_arcs i (omega arith));
+          arc_along arcs (number_in_place path i) (number_in_place path (i + 1)) (number_in_place rest i) (number_in_place rest (i + 1)) (same i il) (same (i + 1) lt) (was.path_arcs i (omega arith));
       done_arcs = λ s i lt h. ⊎_elim
           (λ (e : (arc_at arcs s).from ≡ x).
           let q : Done (length order) ≡ Done i = sym here ∙ ap (mark (set marks x (Done (length order)))) (sym e) ∙ h in let k : length order ≡ i = cc in
@@ -168,7 +168,7 @@ advanced arcs before next marks path order x s was xl at done =
 -- the arc from the end of the path
 pub record IsTop (arcs : List Arc) (next : List (Option ℕ)) (marks : List Mark) (path : List ℕ) (x s : ℕ) : Type 0 where
   pub within : x < length marks
-  pub end : (i : ℕ) → i + 1 ≡ length path → x ≡ number_at path i
+  pub end : (i : ℕ) → i + 1 ≡ length path → x ≡ number_in_place path i
   pub next_arc : arc_next next x ≡ Some s
   pub arc : s < length arcs
   pub from : (arc_at arcs s).from ≡ x
@@ -176,14 +176,14 @@ pub record IsTop (arcs : List Arc) (next : List (Option ℕ)) (marks : List Mark
 pub top_arc : (arcs : List Arc) (before next : List (Option ℕ)) (marks : List Mark) (path order : List ℕ) (n x s : ℕ) (o : Option ℕ) → IsSearch arcs before next marks path order →
     0 < length path → n ≡ length path → x ≡ slice_index_or path (n - 1) x → o ≡ slice_index_or next x o → o ≡ Some s → IsTop arcs next marks path x s
 top_arc arcs before next marks path order n x s o was some size at found is =
-    let e : x ≡ number_at path (n - 1) = get_or_read path (n - 1) x (omega arith) at 0 in
+    let e : x ≡ number_in_place path (n - 1) = get_or_read path (n - 1) x (omega arith) at 0 in
     let m = was.path_marked (n - 1) (omega arith) in
     let xl : x < length marks = subst (λ k. k < length marks) (sym e) m.0 in
     let read : arc_next next x ≡ Some s = sym (get_or_read next x o (let k = was.next_size in omega arith) found None) ∙ is in
     let arc = was.next_arc x s read in
     record {
       within = xl;
-      end = λ i k. e ∙ ap (number_at path) (let r : n - 1 ≡ i = omega arith in r);
+      end = λ i k. e ∙ ap (number_in_place path) (let r : n - 1 ≡ i = omega arith in r);
       next_arc = read;
       arc = arc.0;
       from = arc.1;

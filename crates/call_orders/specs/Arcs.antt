@@ -4,8 +4,8 @@ use Rattle.call_orders.specs.declared.Arc.{Arc}
 use Rattle.call_orders.specs.declared.Order.{Order}
 use Rattle.call_orders.specs.declared.Order.TheVariants.{Sorted, Cycle}
 
-abbrev pub number_at : List ℕ → ℕ → ℕ
-number_at numbers i = slice_index_or numbers i 0
+abbrev pub number_in_place : List ℕ → ℕ → ℕ
+number_in_place numbers i = slice_index_or numbers i 0
 
 abbrev pub arc_at : List Arc → ℕ → Arc
 arc_at arcs s = slice_index_or arcs s (record { from = 0; to = 0 })
@@ -29,25 +29,25 @@ HasNoCycle arcs = (a : ℕ) → Leads arcs a a → ⊥
 
 -- no number comes twice
 abbrev pub AreDistinct : List ℕ → Type 0
-AreDistinct numbers = (i j : ℕ) → i < j → j < length numbers → number_at numbers i ≢ number_at numbers j
+AreDistinct numbers = (i j : ℕ) → i < j → j < length numbers → number_in_place numbers i ≢ number_in_place numbers j
 
 -- x stands before y
-abbrev pub IsBefore : List ℕ → ℕ → ℕ → Type 0
-IsBefore numbers x y = (i : ℕ) × (j : ℕ) × (i < j) × (j < length numbers) × (number_at numbers i ≡ x) × (number_at numbers j ≡ y)
+abbrev pub StandsBefore : List ℕ → ℕ → ℕ → Type 0
+StandsBefore numbers x y = (i : ℕ) × (j : ℕ) × (i < j) × (j < length numbers) × (number_in_place numbers i ≡ x) × (number_in_place numbers j ≡ y)
 
 -- the numbers below the count, each once, and each behind all to which its arcs lead
 pub record IsSorted (count : ℕ) (arcs : List Arc) (order : List ℕ) : Type 0 where
-  pub within : (i : ℕ) → i < length order → number_at order i < count
-  pub whole : (x : ℕ) → x < count → (i : ℕ) × (i < length order) × (number_at order i ≡ x)
+  pub within : (i : ℕ) → i < length order → number_in_place order i < count
+  pub whole : (x : ℕ) → x < count → (i : ℕ) × (i < length order) × (number_in_place order i ≡ x)
   pub distinct : AreDistinct order
-  pub before : (s : ℕ) → s < length arcs → IsBefore order (arc_at arcs s).to (arc_at arcs s).from
+  pub before : (s : ℕ) → s < length arcs → StandsBefore order (arc_at arcs s).to (arc_at arcs s).from
 
 -- different numbers, at least one, each with an arc to the next, and the last with an arc to the first
 pub record IsCycle (arcs : List Arc) (cycle : List ℕ) : Type 0 where
   pub some : 0 < length cycle
   pub distinct : AreDistinct cycle
-  pub onward : (i : ℕ) → i + 1 < length cycle → HasArc arcs (number_at cycle i) (number_at cycle (i + 1))
-  pub round : (i : ℕ) → i + 1 ≡ length cycle → HasArc arcs (number_at cycle i) (number_at cycle 0)
+  pub onward : (i : ℕ) → i + 1 < length cycle → HasArc arcs (number_in_place cycle i) (number_in_place cycle (i + 1))
+  pub round : (i : ℕ) → i + 1 ≡ length cycle → HasArc arcs (number_in_place cycle i) (number_in_place cycle 0)
 
 abbrev pub IsAnswer : ℕ → List Arc → Order → Type 0
 IsAnswer count arcs (Sorted order) = IsSorted count arcs order.items

@@ -4,7 +4,7 @@ use Rattle.std.specs.List.{sum_by}
 use Rattle.call_orders.specs.declared.Arc.{Arc}
 use Rattle.call_orders.specs.declared.search.Mark.{Mark}
 use Rattle.call_orders.specs.declared.search.Mark.TheVariants.{Unmet, OnPath, Done}
-use Rattle.call_orders.specs.Arcs.{HasArc, arc_at, number_at}
+use Rattle.call_orders.specs.Arcs.{HasArc, arc_at, number_in_place}
 
 abbrev pub mark : List Mark → ℕ → Mark
 mark marks x = slice_index_or marks x Unmet
@@ -23,7 +23,7 @@ pub record AreLasts (n : ℕ) (arcs : List Arc) (last : List (Option ℕ)) : Typ
   pub none_above : (r : ℕ) → r < n → IsAbove (arc_next last (arc_at arcs r).from) r → ⊥
 
 -- for each of the first n arcs the last one before it from the same number
-pub record IsChain (n : ℕ) (arcs : List Arc) (before : List (Option ℕ)) : Type 0 where
+pub record AreArcChains (n : ℕ) (arcs : List Arc) (before : List (Option ℕ)) : Type 0 where
   pub arc : (s r : ℕ) → s < n → arc_next before s ≡ Some r → (r < s) × ((arc_at arcs r).from ≡ (arc_at arcs s).from)
   pub none_between : (s r : ℕ) → s < n → r < n → (arc_at arcs r).from ≡ (arc_at arcs s).from → IsAbove (arc_next before s) r → s ≤ r
 
@@ -40,12 +40,12 @@ AreMet old new = (x : ℕ) → IsMet old x → IsMet new x
 pub record IsSearch (arcs : List Arc) (before next : List (Option ℕ)) (marks : List Mark) (path order : List ℕ) : Type 0 where
   pub before_size : length before ≡ length arcs
   pub next_size : length next ≡ length marks
-  pub chain : IsChain (length arcs) arcs before
-  pub path_marked : (i : ℕ) → i < length path → (number_at path i < length marks) × (mark marks (number_at path i) ≡ OnPath i)
-  pub marked_path : (x i : ℕ) → mark marks x ≡ OnPath i → (i < length path) × (number_at path i ≡ x)
-  pub order_marked : (i : ℕ) → i < length order → (number_at order i < length marks) × (mark marks (number_at order i) ≡ Done i)
-  pub marked_order : (x i : ℕ) → mark marks x ≡ Done i → (i < length order) × (number_at order i ≡ x)
-  pub path_arcs : (i : ℕ) → i + 1 < length path → HasArc arcs (number_at path i) (number_at path (i + 1))
+  pub chain : AreArcChains (length arcs) arcs before
+  pub path_marked : (i : ℕ) → i < length path → (number_in_place path i < length marks) × (mark marks (number_in_place path i) ≡ OnPath i)
+  pub marked_path : (x i : ℕ) → mark marks x ≡ OnPath i → (i < length path) × (number_in_place path i ≡ x)
+  pub order_marked : (i : ℕ) → i < length order → (number_in_place order i < length marks) × (mark marks (number_in_place order i) ≡ Done i)
+  pub marked_order : (x i : ℕ) → mark marks x ≡ Done i → (i < length order) × (number_in_place order i ≡ x)
+  pub path_arcs : (i : ℕ) → i + 1 < length path → HasArc arcs (number_in_place path i) (number_in_place path (i + 1))
   pub done_arcs : (s i : ℕ) → s < length arcs → mark marks (arc_at arcs s).from ≡ Done i → (j : ℕ) × (j < i) × (mark marks (arc_at arcs s).to ≡ Done j)
   -- the next arc from a number, and those that it is past
   pub next_arc : (x s : ℕ) → arc_next next x ≡ Some s → (s < length arcs) × ((arc_at arcs s).from ≡ x)
@@ -54,17 +54,17 @@ pub record IsSearch (arcs : List Arc) (before next : List (Option ℕ)) (marks :
 -- an arc leads from the end of the path back to a place on it
 abbrev pub IsBack : List Arc → List ℕ → Option ℕ → Type 0
 IsBack arcs path None = Unit {0}
-IsBack arcs path (Some start) = (start < length path) × ((i : ℕ) → i + 1 ≡ length path → HasArc arcs (number_at path i) (number_at path start))
+IsBack arcs path (Some start) = (start < length path) × ((i : ℕ) → i + 1 ≡ length path → HasArc arcs (number_in_place path i) (number_in_place path start))
 
 -- what is left to do
 abbrev pub place : Option ℕ → ℕ
 place None = 0
 place (Some s) = suc s
 
-abbrev pub height : Mark → ℕ
-height Unmet = 2
-height (OnPath i) = 1
-height (Done i) = 0
+abbrev pub mark_height : Mark → ℕ
+mark_height Unmet = 2
+mark_height (OnPath i) = 1
+mark_height (Done i) = 0
 
 abbrev pub work : List (Option ℕ) → List Mark → ℕ
-work next marks = sum_by place next + sum_by height marks
+work next marks = sum_by place next + sum_by mark_height marks

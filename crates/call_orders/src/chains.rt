@@ -2,7 +2,7 @@
 
 ghost use Rattle.std.specs.Prelude.{◌≡◌, ℕ, ◌^◌, ◌<◌, length, IfOk};
 ghost use Rattle.call_orders.specs.Arcs.{AreNumbered};
-ghost use Rattle.call_orders.specs.Search.{AreLasts, IsChain};
+ghost use Rattle.call_orders.specs.Search.{AreLasts, AreArcChains};
 
 use crate::Arc;
 use scale_base::NoMemory;
@@ -21,7 +21,7 @@ pub fn chains_of(alloc: Global, count: usize, arcs: &[Arc]) -> Result<Chains, No
     requires numbered { AreNumbered count arcs.now }
     ensures size { IfOk result (λ chains. length chains.last.items ≡ count) }
     ensures lasts { IfOk result (λ chains. AreLasts (length arcs.now) arcs.now chains.last.items) }
-    ensures chain { IfOk result (λ chains. IsChain (length arcs.now) arcs.now chains.before.items) }
+    ensures chain { IfOk result (λ chains. AreArcChains (length arcs.now) arcs.now chains.before.items) }
     ensures before { IfOk result (λ chains. length chains.before.items ≡ length arcs.now) }
 {
     let mut last: Vec<Option<usize>> = vec![in alloc; None; count]?;

@@ -1,7 +1,7 @@
 //! A depth-first search along arcs.
 
 ghost use Rattle.std.specs.Prelude.{◌≡◌, ◌≢◌, ℕ, ◌+◌, ◌^◌, ◌<◌, length, None, [], OnOk, IfOk};
-ghost use Rattle.call_orders.specs.Arcs.{AreNumbered, HasArc, number_at};
+ghost use Rattle.call_orders.specs.Arcs.{AreNumbered, HasArc, number_in_place};
 ghost use Rattle.call_orders.specs.Search.{IsSearch, AreMet, IsMet, IsBack, mark, arc_next, work};
 ghost use Rattle.call_orders.specs.declared.search.Mark.TheVariants.{Unmet};
 
@@ -56,7 +56,7 @@ impl Search {
         requires search { IsSearch arcs.now self.old.before.items self.old.next.items self.old.marks.items self.old.path.items self.old.order.items }
         requires within { number < length self.old.marks.items }
         requires unmet { mark self.old.marks.items number ≡ Unmet }
-        requires joins { (i : ℕ) → i + 1 ≡ length self.old.path.items → HasArc arcs.now (number_at self.old.path.items i) number }
+        requires joins { (i : ℕ) → i + 1 ≡ length self.old.path.items → HasArc arcs.now (number_in_place self.old.path.items i) number }
         ensures size { OnOk result (length self.new.marks.items ≡ length self.old.marks.items) }
         ensures search { OnOk result (IsSearch arcs.now self.new.before.items self.new.next.items self.new.marks.items self.new.path.items self.new.order.items) }
         ensures met { OnOk result (AreMet self.old.marks.items self.new.marks.items) }
@@ -71,7 +71,7 @@ impl Search {
     /// Takes a number without further arcs from the end of the path, and orders it.
     fn close(&mut self, arcs: &[Arc], number: usize) -> Result<(), NoMemory>
         requires search { IsSearch arcs.now self.old.before.items self.old.next.items self.old.marks.items self.old.path.items self.old.order.items }
-        requires end { (i : ℕ) → i + 1 ≡ length self.old.path.items → number_at self.old.path.items i ≡ number }
+        requires end { (i : ℕ) → i + 1 ≡ length self.old.path.items → number_in_place self.old.path.items i ≡ number }
         requires some { 0 < length self.old.path.items }
         requires over { arc_next self.old.next.items number ≡ None }
         ensures size { OnOk result (length self.new.marks.items ≡ length self.old.marks.items) }

@@ -8,7 +8,7 @@ use Rattle.scale_base.specs.declared.instruction.Instr.{Instr}
 use Rattle.scale_base.specs.declared.instruction.Instr.TheVariants as instr
 use Rattle.scale_base.specs.declared.refusal.Refusal.TheVariants.{MisalignedTarget, OutsideText}
 use Rattle.cost_theory.specs.declared.edges.Word.TheVariants.{Bad}
-use Rattle.graph_runs.specs.Text.{Text, text_of, in_text, instr_at, kind_at, word_kind, jal_kind, ecall_kind, known}
+use Rattle.graph_runs.specs.Text.{Text, text_of, is_text_address, instr_at, kind_at, word_kind, jal_kind, ecall_kind, known}
 use Rattle.scale_base.specs.Image.{Image, image_of, is_in, is_word_address, text_word}
 use Rattle.scale_base.specs.Reading.{instr_of}
 use Rattle.graph_runs.proofs.Laws.{kind_facts, instruction_stored}
@@ -81,17 +81,17 @@ pub cause_misaligned : (t : Text) (v : ℕ) → v % 4 ≢ 0 → cause_at t v ≡
 unfolding cause_at
 cause_misaligned t v off = cond-true _ _ _ (ap not (ne_eqb (v % 4) 0 off))
 
-pub cause_outside : (t : Text) (v : ℕ) → v % 4 ≡ 0 → in_text t v ≡ false → cause_at t v ≡ Some (OutsideText v)
+pub cause_outside : (t : Text) (v : ℕ) → v % 4 ≡ 0 → is_text_address t v ≡ false → cause_at t v ≡ Some (OutsideText v)
 unfolding cause_at
 cause_outside t v four out = cond-false _ _ _ (ap not (eq-eqb (v % 4) 0 four)) ∙ cond-true _ _ _ (ap not out)
 
-pub cause_of_word : (t : Text) (v : ℕ) → v % 4 ≡ 0 → in_text t v ≡ true → cause_at t v ≡ instr_cause v (instr_at t v)
+pub cause_of_word : (t : Text) (v : ℕ) → v % 4 ≡ 0 → is_text_address t v ≡ true → cause_at t v ≡ instr_cause v (instr_at t v)
 unfolding cause_at
 cause_of_word t v four here = cond-false _ _ _ (ap not (eq-eqb (v % 4) 0 four)) ∙ cond-false _ _ _ (ap not here)
 
-pub kind_of_word : (t : Text) (v : ℕ) → v % 4 ≡ 0 → in_text t v ≡ true → kind_at t v ≡ word_kind t v (instr_at t v)
+pub kind_of_word : (t : Text) (v : ℕ) → v % 4 ≡ 0 → is_text_address t v ≡ true → kind_at t v ≡ word_kind t v (instr_at t v)
 unfolding kind_at
-kind_of_word t v four here = cond-true _ _ _ (both (v % 4 == 0) (in_text t v) (eq-eqb (v % 4) 0 four) here)
+kind_of_word t v four here = cond-true _ _ _ (both (v % 4 == 0) (is_text_address t v) (eq-eqb (v % 4) 0 four) here)
 
 -- what isn't refused has no cause
 pub fine_cause : (t : Text) (v : ℕ) → kind_at t v ≢ Bad → cause_at t v ≡ None
@@ -102,11 +102,11 @@ fine_cause t v fine =
 -- ---- of an image
 
 -- where a word is read, it is one of the text
-stored_in : (image : Image) (at w : ℕ) → text_word image at ≡ Some w → (at % 4 ≡ 0) × (in_text (text_of image) at ≡ true)
+stored_in : (image : Image) (at w : ℕ) → text_word image at ≡ Some w → (at % 4 ≡ 0) × (is_text_address (text_of image) at ≡ true)
 unfolding text_word
 stored_in image at w stored = go (is_word_address image at) refl
   where
-    go : (b : Bool) → is_word_address image at ≡ b → (at % 4 ≡ 0) × (in_text (text_of image) at ≡ true)
+    go : (b : Bool) → is_word_address image at ≡ b → (at % 4 ≡ 0) × (is_text_address (text_of image) at ≡ true)
     go true e = let p = and_parts (at % 4 == 0) (list_any (is_in at) image.text) e in (eqb-true (at % 4) 0 p.0, p.1)
     go false e = let none = sym (cond-false (is_word_address image at) _ _ e) ∙ stored in let bad : ⊥ = cc in absurd bad
 
@@ -124,8 +124,8 @@ bad_stored image at w o whole stored read bad =
     bad_cause (text_of image) at o (ap (word_kind (text_of image) at) (sym (instr_stored image at w o whole stored read)) ∙ sym (kind_of_word (text_of image) at here.0 here.1) ∙ bad)
 
 pub cause_none_stored : (image : Image) (at : ℕ) → at % 4 ≡ 0 → is_word_address image at ≡ false → cause_at (text_of image) at ≡ Some (OutsideText at)
-cause_none_stored image at four none = cause_outside (text_of image) at four (go (in_text (text_of image) at) refl)
+cause_none_stored image at four none = cause_outside (text_of image) at four (go (is_text_address (text_of image) at) refl)
   where
-    go : (b : Bool) → in_text (text_of image) at ≡ b → b ≡ false
+    go : (b : Bool) → is_text_address (text_of image) at ≡ b → b ≡ false
     go true e = let word : is_word_address image at ≡ true = both (at % 4 == 0) (list_any (is_in at) image.text) (eq-eqb (at % 4) 0 four) e in let bad : ⊥ = cc in absurd bad
     go false e = refl

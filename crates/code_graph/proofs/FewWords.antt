@@ -12,7 +12,7 @@ use Rattle.scale_base.specs.declared.headers.ProgramHeader.{ProgramHeader}
 use Rattle.scale_base.specs.declared.refusal.Refusal.TheVariants.{BadText}
 use Rattle.scale_base.specs.Rules.{AllHold}
 use Rattle.scale_base.specs.Spans.{each_pair}
-use Rattle.scale_base.specs.Image.{Image, image_of, contents, text_ranges, text_parts, loaded_headers, range_of, is_text_place, are_apart, keeps_text_rules, part_rules, start_of, text_rules, write_rules, all_text_rules, ranges_of, insert_range, ascending}
+use Rattle.scale_base.specs.Image.{Image, image_of, contents, text_ranges, text_parts, loaded_headers, range_of, is_text_place, are_apart, keeps_text_rules, part_rules, text_start, text_rules, write_rules, all_text_rules, ranges_of, insert_range, ascending}
 use Rattle.scale_base.proofs.Laws.{rule_kept, kept-split, rules_kept, contents-are, rules_of, whole_kept}
 use Rattle.cost_theory.proofs.Laws.{within_get}
 use Rattle.code_text.specs.Table.{word_addresses, all_addresses}
@@ -96,7 +96,7 @@ parts_kept : (file : List ℕ) (hs : List ProgramHeader) (parts : List TextPart)
 unfolding part_rules
 parts_kept file hs [] h = omega arith
 parts_kept file hs (part ∷ parts) h =
-    parts_small file hs (part ∷ parts) (whole_kept (keeps_text_rules file hs) (λ k. BadText (start_of (slice_get (part ∷ parts) k))) (part ∷ parts) (length (part ∷ parts)) refl (omega arith)
+    parts_small file hs (part ∷ parts) (whole_kept (keeps_text_rules file hs) (λ k. BadText (text_start (slice_get (part ∷ parts) k))) (part ∷ parts) (length (part ∷ parts)) refl (omega arith)
     (rule_kept (nat_lt 0 (length (part ∷ parts))) (BadText 0) (part_rules file hs (part ∷ parts)) h).1)
 
 contents_few : (file : List ℕ) (image : Image) → image_of file ≡ Ok image → length (all_addresses (contents file).text) ≤ 131072

@@ -10,7 +10,7 @@ use Rattle.cost_theory.specs.Reached.{edge_at, edge_to, edge_callee, callee_of, 
 use Rattle.cost_theory.proofs.Laws.{callee_word}
 use Rattle.code_text.specs.Walk.{RiseStrictly}
 use Rattle.code_graph.specs.FlowGraph.{FlowGraph, graph, word_beside, IsFlowGraph}
-use Rattle.code_graph.specs.Stored.{IsStored}
+use Rattle.code_graph.specs.Stored.{IsStoredGraph}
 use Rattle.code_graph.proofs.Lists.{Once, ascending_once, ascending_rise, some_is, word_beside-get, number_beside-get}
 
 pub rising_nodes : (v : FlowGraph) → IsFlowGraph v → RiseStrictly v.code.nodes
@@ -23,7 +23,7 @@ once_nodes v is = ascending_once v.code.nodes is.ascending
 pub source_node : (v : FlowGraph) (e : ℕ) → IsFlowGraph v → e < length v.code.edges → (k : ℕ) × (slice_get v.code.nodes k ≡ Some (edge_at (slice_get v.code.edges e)))
 source_node v e is lt = (is.nodes (edge_at (slice_get v.code.edges e))).1 (e, lt, refl)
 
-module _ (v : FlowGraph) (callees : List (Option ℕ)) (firsts sources : List ℕ) (targets : List (Option ℕ)) (is : IsStored v callees firsts sources targets) where
+module _ (v : FlowGraph) (callees : List (Option ℕ)) (firsts sources : List ℕ) (targets : List (Option ℕ)) (is : IsStoredGraph v callees firsts sources targets) where
   -- the word of the node at which an edge starts
   pub stored_word : (k a : ℕ) (w : Word) → slice_get v.code.nodes k ≡ Some a → slice_get v.kinds k ≡ Some w → w ≡ word_beside v.code.nodes v.kinds a
   stored_word k a w at beside = sym (word_beside-get v.code.nodes v.kinds k a w (once_nodes v is.flow) at beside)

@@ -8,7 +8,7 @@ use Rattle.cost_theory.specs.declared.edges.EdgeKind.{EdgeKind}
 use Rattle.cost_theory.specs.declared.edges.EdgeKind.TheVariants.{Taken, Untaken, Jump, Next, CallNext, End}
 use Rattle.cost_theory.specs.Graph.{Graph, IsWalk, end_of}
 use Rattle.cost_theory.specs.Accepted.{IsNode}
-use Rattle.cost_theory.specs.Reached.{edge_at, edge_to, number_at, place_after}
+use Rattle.cost_theory.specs.Reached.{edge_at, edge_to, number_or_0, place_after}
 use Rattle.cost_theory.proofs.Laws.{some_get}
 use Rattle.code_graph.specs.FlowGraph.{FlowGraph, graph, IsFlowGraph}
 use Rattle.code_graph.specs.Stored.{AreFirsts}
@@ -101,7 +101,7 @@ module _ (v : FlowGraph) (firsts sources : List ℕ) (targets : List (Option ℕ
       subst (λ n. n < length v.code.functions) (owner_is k node.0 node.1 ∙ get_or_from_slice_get v.code.owners k o 0 at) (owner_within k node.0 node.1)
 
   entry_is : (f : ℕ) → f < length v.code.functions → (graph v).entry f ≡ get_or v.code.functions f 0
-  entry_is f lt = ap number_at (slice_get-get_or v.code.functions f 0 lt)
+  entry_is f lt = ap number_or_0 (slice_get-get_or v.code.functions f 0 lt)
 
   -- the entry of a node's function
   node_entry : (k a : ℕ) → slice_get v.code.nodes k ≡ Some a → (graph v).entry ((graph v).owner a) ≡ get_or v.code.functions (get_or v.code.owners k 0) 0

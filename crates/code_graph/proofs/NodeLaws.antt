@@ -6,20 +6,20 @@ use Rattle.std.proofs.lemmas.Option.{slice_get_within, slice_get-get_or, get_or_
 use Rattle.cost_theory.specs.Graph.{find_below}
 use Rattle.cost_theory.specs.declared.edges.Word.{Word}
 use Rattle.cost_theory.specs.declared.edges.Word.TheVariants.{CallOf}
-use Rattle.cost_theory.specs.Reached.{callee_of, number_at}
+use Rattle.cost_theory.specs.Reached.{callee_of, number_or_0}
 use Rattle.cost_theory.proofs.Laws.{below_suc, find-holds, find-some, some_value, some_get}
 use Rattle.flow_passes.specs.declared.marks.Mark.{Mark}
 use Rattle.flow_passes.specs.declared.marks.Mark.TheVariants.{Unreached, Owner}
 use Rattle.graph_runs.specs.Text.{Text}
 use Rattle.code_text.specs.Walk.{RiseStrictly}
-use Rattle.code_reach.specs.Reach.{Reach, StandsAt}
+use Rattle.code_reach.specs.Reach.{Reach, WordStandsAt}
 use Rattle.code_graph.specs.Finding.{IsReachIn}
-use Rattle.code_graph.specs.Assembling.{AreNodes, owner_number, number_by, entry_addresses}
+use Rattle.code_graph.specs.Assembling.{AreReachedNodes, owner_number, number_by, entry_addresses}
 use Rattle.code_graph.proofs.Lists.{Once, some_is, ascending_once, later_more, get_left, get_end, get_pushed, length_pushed}
 
 -- ---- nodes, a word further
 
-pub nodes_start : (r : Reach) → AreNodes r 0 [] [] []
+pub nodes_start : (r : Reach) → AreReachedNodes r 0 [] [] []
 nodes_start r = record {
   kinds_size = refl;
   owners_size = refl;
@@ -29,7 +29,7 @@ nodes_start r = record {
   ascending = λ i j a b ij at_i at_j. let bad : ⊥ = cc in absurd bad;
 }
 
-pub nodes_none : (r : Reach) (n : ℕ) (nodes : List ℕ) (kinds : List Word) (owners : List ℕ) → AreNodes r n nodes kinds owners → owner_number r n ≡ None → AreNodes r (n + 1) nodes kinds owners
+pub nodes_none : (r : Reach) (n : ℕ) (nodes : List ℕ) (kinds : List Word) (owners : List ℕ) → AreReachedNodes r n nodes kinds owners → owner_number r n ≡ None → AreReachedNodes r (n + 1) nodes kinds owners
 nodes_none r n nodes kinds owners are none = record {
   kinds_size = are.kinds_size;
   owners_size = are.owners_size;
@@ -52,8 +52,8 @@ nodes_none r n nodes kinds owners are none = record {
   ascending = are.ascending;
 }
 
-pub nodes_one : (r : Reach) (n : ℕ) (nodes : List ℕ) (kinds : List Word) (owners : List ℕ) (o a : ℕ) (w : Word) → RiseStrictly r.words.addresses → AreNodes r n nodes kinds owners → owner_number r n ≡ Some o →
-    slice_get r.words.addresses n ≡ Some a → slice_get r.words.kinds n ≡ Some w → AreNodes r (n + 1) (nodes ++ a ∷ []) (kinds ++ w ∷ []) (owners ++ o ∷ [])
+pub nodes_one : (r : Reach) (n : ℕ) (nodes : List ℕ) (kinds : List Word) (owners : List ℕ) (o a : ℕ) (w : Word) → RiseStrictly r.words.addresses → AreReachedNodes r n nodes kinds owners → owner_number r n ≡ Some o →
+    slice_get r.words.addresses n ≡ Some a → slice_get r.words.kinds n ≡ Some w → AreReachedNodes r (n + 1) (nodes ++ a ∷ []) (kinds ++ w ∷ []) (owners ++ o ∷ [])
 nodes_one r n nodes kinds owners o a w rise are number at word =
     let long : length (nodes ++ a ∷ []) ≡ length nodes + 1 = length_pushed nodes a in
     let long_kinds : length (kinds ++ w ∷ []) ≡ length kinds + 1 = length_pushed kinds w in
@@ -105,9 +105,9 @@ nodes_one r n nodes kinds owners o a w rise are number at word =
           (get_pushed nodes a j c there);
     }
 
-pub nodes_same : (r : Reach) (n : ℕ) (nodes nodes' : List ℕ) (kinds kinds' : List Word) (owners owners' : List ℕ) → nodes' ≡ nodes → kinds' ≡ kinds → owners' ≡ owners → AreNodes r n nodes kinds owners → AreNodes r n nodes' kinds' owners'
+pub nodes_same : (r : Reach) (n : ℕ) (nodes nodes' : List ℕ) (kinds kinds' : List Word) (owners owners' : List ℕ) → nodes' ≡ nodes → kinds' ≡ kinds → owners' ≡ owners → AreReachedNodes r n nodes kinds owners → AreReachedNodes r n nodes' kinds' owners'
 nodes_same r n nodes nodes' kinds kinds' owners owners' a b c are =
-    subst (λ xs. AreNodes r n xs kinds' owners') (sym a) (subst (λ ys. AreNodes r n nodes ys owners') (sym b) (subst (λ zs. AreNodes r n nodes kinds zs) (sym c) are))
+    subst (λ xs. AreReachedNodes r n xs kinds' owners') (sym a) (subst (λ ys. AreReachedNodes r n nodes ys owners') (sym b) (subst (λ zs. AreReachedNodes r n nodes kinds zs) (sym c) are))
 
 -- ---- marks and numbers that are read
 
@@ -134,17 +134,17 @@ module _ (t : Text) (r : Reach) (is : IsReachIn t r) where
   entries_size = length-map r.functions (slice_index r.words.addresses)
 
   -- the entry of a function is the address of its first word
-  pub entry_is : (i k v : ℕ) → slice_get r.functions i ≡ Some k → StandsAt r.words k v → slice_get (entry_addresses r) i ≡ Some v
+  pub entry_is : (i k v : ℕ) → slice_get r.functions i ≡ Some k → WordStandsAt r.words k v → slice_get (entry_addresses r) i ≡ Some v
   entry_is i k v function at = slice_get-map (slice_index r.words.addresses) r.functions i ∙ rw function (ap Some (get_or_from_slice_get r.words.addresses k v 0 at))
 
-  pub entry_word : (i v : ℕ) → slice_get (entry_addresses r) i ≡ Some v → (k : ℕ) × (slice_get r.functions i ≡ Some k) × StandsAt r.words k v
+  pub entry_word : (i v : ℕ) → slice_get (entry_addresses r) i ≡ Some v → (k : ℕ) × (slice_get r.functions i ≡ Some k) × WordStandsAt r.words k v
   entry_word i v at =
       let f = some_get r.functions i (let lt = slice_get_within (entry_addresses r) i v at in let size = entries_size in omega arith) in
       let w = is.reach.functions_within i f.0 f.1 in
       let same : w.0 ≡ v = some_is w.0 v (sym (entry_is i f.0 w.0 f.1 w.1) ∙ at) in
-      (f.0, f.1, subst (StandsAt r.words f.0) same w.1)
+      (f.0, f.1, subst (WordStandsAt r.words f.0) same w.1)
 
-  pub once_words : (j k v : ℕ) → StandsAt r.words j v → StandsAt r.words k v → j ≡ k
+  pub once_words : (j k v : ℕ) → WordStandsAt r.words j v → WordStandsAt r.words k v → j ≡ k
   once_words = ascending_once r.words.addresses (λ i j a b. later_more r.words.addresses is.table.rising i j a b)
 
   pub once_entries : Once (entry_addresses r)
@@ -157,24 +157,24 @@ module _ (t : Text) (r : Reach) (is : IsReachIn t r) where
       some_is i j (some_is (Some i) (Some j) (sym first ∙ second))
 
   -- what is found among the entries is the number of the word
-  found_number : (to k j : ℕ) → StandsAt r.words k to → callee_of (entry_addresses r) (CallOf to) ≡ Some j → slice_get r.numbers k ≡ Some (Some j)
+  found_number : (to k j : ℕ) → WordStandsAt r.words k to → callee_of (entry_addresses r) (CallOf to) ≡ Some j → slice_get r.numbers k ≡ Some (Some j)
   found_number to k j at found =
-      let holds = find-holds (length (entry_addresses r)) (λ i. nat_eq (number_at (slice_get (entry_addresses r) i)) to) j found in
+      let holds = find-holds (length (entry_addresses r)) (λ i. nat_eq (number_or_0 (slice_get (entry_addresses r) i)) to) j found in
       let entry = some_get (entry_addresses r) j holds.0 in
-      let same : entry.0 ≡ to = sym (ap number_at entry.1) ∙ eqb-true (number_at (slice_get (entry_addresses r) j)) to holds.1 in
+      let same : entry.0 ≡ to = sym (ap number_or_0 entry.1) ∙ eqb-true (number_or_0 (slice_get (entry_addresses r) j)) to holds.1 in
       let w = entry_word j to (entry.1 ∙ ap Some same) in
       (is.reach.numbers k j).1 (w.1 ∙ ap Some (once_words w.0 k to w.2 at))
 
   pub number_found : (to j : ℕ) → slice_get (entry_addresses r) j ≡ Some to → callee_of (entry_addresses r) (CallOf to) ≡ Some j
   number_found to j at =
-      let test : nat_eq (number_at (slice_get (entry_addresses r) j)) to ≡ true = eq-eqb (number_at (slice_get (entry_addresses r) j)) to (ap number_at at) in
-      let some = some_value (find_below (length (entry_addresses r)) (λ i. nat_eq (number_at (slice_get (entry_addresses r) i)) to))
-      (find-some (length (entry_addresses r)) (λ i. nat_eq (number_at (slice_get (entry_addresses r) i)) to) j (slice_get_within (entry_addresses r) j to at) test) in
+      let test : nat_eq (number_or_0 (slice_get (entry_addresses r) j)) to ≡ true = eq-eqb (number_or_0 (slice_get (entry_addresses r) j)) to (ap number_or_0 at) in
+      let some = some_value (find_below (length (entry_addresses r)) (λ i. nat_eq (number_or_0 (slice_get (entry_addresses r) i)) to))
+      (find-some (length (entry_addresses r)) (λ i. nat_eq (number_or_0 (slice_get (entry_addresses r) i)) to) j (slice_get_within (entry_addresses r) j to at) test) in
       let w = entry_word j to at in
       let number : Some (Some some.0) ≡ Some (Some j) = sym (found_number to w.0 some.0 w.2 some.1) ∙ (is.reach.numbers w.0 j).1 w.1 in
       some.1 ∙ some_is (Some some.0) (Some j) number
 
-  pub callee_read : (to k : ℕ) (c : Option ℕ) → StandsAt r.words k to → slice_get r.numbers k ≡ Some c → c ≡ callee_of (entry_addresses r) (CallOf to)
+  pub callee_read : (to k : ℕ) (c : Option ℕ) → WordStandsAt r.words k to → slice_get r.numbers k ≡ Some c → c ≡ callee_of (entry_addresses r) (CallOf to)
   callee_read to k None at number = go (callee_of (entry_addresses r) (CallOf to)) refl
     where
       go : (o : Option ℕ) → callee_of (entry_addresses r) (CallOf to) ≡ o → None ≡ o
@@ -182,15 +182,15 @@ module _ (t : Text) (r : Reach) (is : IsReachIn t r) where
       go (Some j) e = let clash = sym number ∙ found_number to k j at e in let bad : ⊥ = cc in absurd bad
   callee_read to k (Some i) at number = sym (number_found to i (entry_is i k to ((is.reach.numbers k i).0 number) at))
 
-  pub callee_none : (to : ℕ) → ((k : ℕ) → StandsAt r.words k to → ⊥) → None ≡ callee_of (entry_addresses r) (CallOf to)
+  pub callee_none : (to : ℕ) → ((k : ℕ) → WordStandsAt r.words k to → ⊥) → None ≡ callee_of (entry_addresses r) (CallOf to)
   callee_none to none = go (callee_of (entry_addresses r) (CallOf to)) refl
     where
       go : (o : Option ℕ) → callee_of (entry_addresses r) (CallOf to) ≡ o → None ≡ o
       go None e = refl
       go (Some j) e =
-          let holds = find-holds (length (entry_addresses r)) (λ i. nat_eq (number_at (slice_get (entry_addresses r) i)) to) j e in
+          let holds = find-holds (length (entry_addresses r)) (λ i. nat_eq (number_or_0 (slice_get (entry_addresses r) i)) to) j e in
           let entry = some_get (entry_addresses r) j holds.0 in
-          let same : entry.0 ≡ to = sym (ap number_at entry.1) ∙ eqb-true (number_at (slice_get (entry_addresses r) j)) to holds.1 in
+          let same : entry.0 ≡ to = sym (ap number_or_0 entry.1) ∙ eqb-true (number_or_0 (slice_get (entry_addresses r) j)) to holds.1 in
           let w = entry_word j to (entry.1 ∙ ap Some same) in
           absurd (none w.0 w.2)
 

@@ -8,15 +8,15 @@ use Rattle.std.proofs.lemmas.Option.{slice_get_within, slice_get-get_or, get_or_
 use Rattle.cost_theory.specs.declared.edges.Edge.{Edge}
 use Rattle.cost_theory.specs.declared.edges.Word.{Word}
 use Rattle.cost_theory.specs.declared.edges.Word.TheVariants.{Branch, Goto, CallOf, Back, Ends, MayEnd, Breaks, Straight, Bad}
-use Rattle.cost_theory.specs.Reached.{Reached, DoesReturn, IsCodeOf, HasNoBadWord, HasNoSharedCode, edges_of, callee_of, call_returns, flag_beside, owner_of, number_at}
+use Rattle.cost_theory.specs.Reached.{Reached, DoesReturn, IsCodeOf, HasNoBadWord, HasNoSharedCode, edges_of, callee_of, call_returns, flag_beside, owner_of, number_or_0}
 use Rattle.cost_theory.specs.Reached.Reached.{main}
 use Rattle.cost_theory.proofs.Laws.{some_get, callee-call}
 use Rattle.flow_passes.specs.declared.marks.Mark.{Mark}
 use Rattle.flow_passes.specs.declared.marks.Mark.TheVariants.{Unreached, Owner, Shared}
 use Rattle.graph_runs.specs.Text.{Text, kind_at}
-use Rattle.code_reach.specs.Reach.{Reach, StandsAt}
+use Rattle.code_reach.specs.Reach.{Reach, WordStandsAt}
 use Rattle.code_graph.specs.Finding.{IsReachIn}
-use Rattle.code_graph.specs.Assembling.{AreNodes, IsNodeOf, AreEdgesOf, owner_number, number_by, entry_addresses, flag_of, flag_at}
+use Rattle.code_graph.specs.Assembling.{AreReachedNodes, IsNodeWord, AreEdgesOf, owner_number, number_by, entry_addresses, flag_of, flag_at}
 use Rattle.code_graph.proofs.Lists.{Once, some_is, ascending_once, number_beside-get, flag_beside-get, flag_beside-place}
 use Rattle.code_graph.proofs.Reaching.{entry_reached, mark_of, word_place, owned}
 use Rattle.code_graph.proofs.NodeLaws.{entry_is, entry_word, once_entries, number_found}
@@ -35,17 +35,17 @@ pub record AreParts (t : Text) (r : Reach) (nodes : List ℕ) (kinds : List Word
   pub reach : IsReachIn t r
   pub fine : HasNoBadWord (kind_at t) t.entry
   pub apart : HasNoSharedCode (kind_at t) t.entry
-  pub nodes_are : AreNodes r (length r.words.addresses) nodes kinds owners
+  pub nodes_are : AreReachedNodes r (length r.words.addresses) nodes kinds owners
   pub entries_are : entries ≡ entry_addresses r
   pub returning_are : returning ≡ map (flag_of r.returning) r.functions
   pub callees_are : callees ≡ map (callee_of (entry_addresses r)) kinds
 
 module _ (t : Text) (r : Reach) (nodes : List ℕ) (kinds : List Word) (owners entries : List ℕ) (returning : List Bool) (callees : List (Option ℕ)) (are : AreParts t r nodes kinds owners entries returning callees) where
   -- ---- entries
-  pub place_entry : (i k v : ℕ) → slice_get r.functions i ≡ Some k → StandsAt r.words k v → slice_get entries i ≡ Some v
+  pub place_entry : (i k v : ℕ) → slice_get r.functions i ≡ Some k → WordStandsAt r.words k v → slice_get entries i ≡ Some v
   place_entry i k v function at = ap (λ xs. slice_get xs i) are.entries_are ∙ entry_is t r are.reach i k v function at
 
-  pub entry_place : (i v : ℕ) → slice_get entries i ≡ Some v → (k : ℕ) × (slice_get r.functions i ≡ Some k) × StandsAt r.words k v
+  pub entry_place : (i v : ℕ) → slice_get entries i ≡ Some v → (k : ℕ) × (slice_get r.functions i ≡ Some k) × WordStandsAt r.words k v
   entry_place i v at = entry_word t r are.reach i v (sym (ap (λ xs. slice_get xs i) are.entries_are) ∙ at)
 
   pub entries_once : Once entries
@@ -58,10 +58,10 @@ module _ (t : Text) (r : Reach) (nodes : List ℕ) (kinds : List Word) (owners e
   callee_entry w h called =
       let c = callee-call entries w h called in
       let x = some_get entries h c.2 in
-      (c.0, c.1, x.1 ∙ ap Some (sym (ap number_at x.1) ∙ c.3))
+      (c.0, c.1, x.1 ∙ ap Some (sym (ap number_or_0 x.1) ∙ c.3))
 
   -- ---- nodes
-  pub node_kind : (j a : ℕ) (e : IsNodeOf r (length r.words.addresses) nodes kinds owners j a) → e.kind ≡ kind_at t a
+  pub node_kind : (j a : ℕ) (e : IsNodeWord r (length r.words.addresses) nodes kinds owners j a) → e.kind ≡ kind_at t a
   node_kind j a e = some_is e.kind (kind_at t a) (sym e.word ∙ are.reach.table.kinds e.k a e.address)
 
   pub kinds_are : kinds ≡ map (kind_at t) nodes
@@ -71,7 +71,7 @@ module _ (t : Text) (r : Reach) (nodes : List ℕ) (kinds : List Word) (owners e
   numbered k g i mark number = ap (number_by r.numbers) (get_or_from_slice_get r.marks k (Owner g) Unreached mark) ∙ get_or_from_slice_get r.numbers g (Some i) None number
 
   -- the function of a word that has a number
-  pub number_reached : (k v i : ℕ) → StandsAt r.words k v → owner_number r k ≡ Some i → (h : ℕ) × (slice_get entries i ≡ Some h) × Reached (kind_at t) t.entry h v
+  pub number_reached : (k v i : ℕ) → WordStandsAt r.words k v → owner_number r k ≡ Some i → (h : ℕ) × (slice_get entries i ≡ Some h) × Reached (kind_at t) t.entry h v
   number_reached k v i at number = let m = mark_of t r are.reach.reach are.reach.table k v at in go m.0 m.1
     where
       go : (m : Mark) → slice_get r.marks k ≡ Some m → (h : ℕ) × (slice_get entries i ≡ Some h) × Reached (kind_at t) t.entry h v
@@ -86,7 +86,7 @@ module _ (t : Text) (r : Reach) (nodes : List ℕ) (kinds : List Word) (owners e
           (o.0, place_entry i g o.0 ((are.reach.reach.numbers g i).0 n) o.1, o.2)
 
   -- the number of a word that is reached in a function
-  pub reached_number : (f v k : ℕ) → Reached (kind_at t) t.entry f v → StandsAt r.words k v → (i : ℕ) × (owner_number r k ≡ Some i) × (slice_get entries i ≡ Some f)
+  pub reached_number : (f v k : ℕ) → Reached (kind_at t) t.entry f v → WordStandsAt r.words k v → (i : ℕ) × (owner_number r k ≡ Some i) × (slice_get entries i ≡ Some f)
   reached_number f v k reached at =
       let o = owned t r are.reach.reach are.reach.table are.fine are.apart f v k reached at in
       let i = (are.reach.reach.functions o.0 f o.2).1 (entry_reached reached) in
@@ -102,7 +102,7 @@ module _ (t : Text) (r : Reach) (nodes : List ℕ) (kinds : List Word) (owners e
       are.nodes_are.whole place.0 n.0 v (slice_get_within r.words.addresses place.0 v place.1) n.1 place.1
 
   -- the owner of a node
-  pub node_owner : (edges : List Edge) (j a : ℕ) (e : IsNodeOf r (length r.words.addresses) nodes kinds owners j a) → slice_get nodes j ≡ Some a →
+  pub node_owner : (edges : List Edge) (j a : ℕ) (e : IsNodeWord r (length r.words.addresses) nodes kinds owners j a) → slice_get nodes j ≡ Some a →
       owner_of (record { nodes = nodes; edges = edges; functions = entries; owners = owners; returning = returning }) a ≡ e.owner
   node_owner edges j a e at = number_beside-get nodes owners j a e.owner (ascending_once nodes are.nodes_are.ascending) at e.owner_beside
 

@@ -3,7 +3,7 @@ use Rattle.std.proofs.Common.{◌≡◌, ℕ, zero, suc, List, [], ◌∷◌, le
 use Rattle.std.specs.Prelude.{slice_index_or}
 use Rattle.std.proofs.Math.Path.{fun_ext}
 use Rattle.scale_base.specs.declared.stepping.Class.{Class}
-use Rattle.call_orders.specs.Arcs.{number_at}
+use Rattle.call_orders.specs.Arcs.{number_in_place}
 use Rattle.cost_theory.specs.declared.edges.Edge.{Edge}
 use Rattle.cost_theory.specs.Graph.{Graph}
 use Rattle.cost_theory.specs.Accepted.{AreWeights}
@@ -24,12 +24,12 @@ at_edge t costs (x ∷ xs) zero = refl
 at_edge t costs (x ∷ xs) (suc e) = at_edge t costs xs e
 
 -- are those of the text
-pub weights_listed : (t : Text) (v : FlowGraph) (costs : Class → ℕ) → IsGraphOf t v → number_at (listed_weights v costs) ≡ weights t v.code costs
+pub weights_listed : (t : Text) (v : FlowGraph) (costs : Class → ℕ) → IsGraphOf t v → number_in_place (listed_weights v costs) ≡ weights t v.code costs
 weights_listed t v costs is = fun_ext (λ e. ap (λ cs. slice_index_or (map (cost_of costs) cs) e 0) is.classes ∙ at_edge t costs v.code.edges e)
 
-pub weights_hold : (t : Text) (v : FlowGraph) (costs : Class → ℕ) → IsGraphOf t v → AreWeights (graph v) (number_at (listed_weights v costs))
+pub weights_hold : (t : Text) (v : FlowGraph) (costs : Class → ℕ) → IsGraphOf t v → AreWeights (graph v) (number_in_place (listed_weights v costs))
 weights_hold t v costs is =
-    subst (λ (g : Graph). AreWeights g (number_at (listed_weights v costs))) is.graph_is
+    subst (λ (g : Graph). AreWeights g (number_in_place (listed_weights v costs))) is.graph_is
     (subst (λ (w : ℕ → ℕ). AreWeights (text_graph t v.code) w) (sym (weights_listed t v costs is)) (weights_are t v.code costs))
 
 pub weights_count : (t : Text) (v : FlowGraph) (costs : Class → ℕ) → IsGraphOf t v → length (listed_weights v costs) ≡ length v.code.edges

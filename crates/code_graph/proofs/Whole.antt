@@ -27,7 +27,7 @@ use Rattle.graph_runs.specs.RunMoves.{text_graph}
 use Rattle.graph_runs.proofs.Laws.{kind_facts}
 use Rattle.code_reach.specs.Reach.{Reach}
 use Rattle.code_graph.specs.FlowGraph.{FlowGraph, word_beside, IsFlowGraph, IsGraphOf, AreCalleesFirst}
-use Rattle.code_graph.specs.Stored.{AreFirsts, IsStored}
+use Rattle.code_graph.specs.Stored.{AreFirsts, IsStoredGraph}
 use Rattle.code_graph.specs.Assembling.{AreEdgesOf, AreCallArcs, AreBlocksBy, IsOrdered, entry_addresses}
 use Rattle.code_graph.specs.Ends.{AreEdgeEnds, AreEnds}
 use Rattle.code_graph.specs.Refused.{IsRefusedBy}
@@ -148,7 +148,7 @@ module _ (t : Text) (r : Reach) (nodes : List ℕ) (kinds : List Word) (owners e
 
       pub stored_is : length r.words.addresses ≤ 131072 → length edges ≤ 2 * length nodes → AreFirsts (length nodes) nodes edges firsts → (sources : List ℕ) (targets : List (Option ℕ)) →
           AreEnds (length edges) nodes edges sources targets → AreBlocksBy nodes owners entries edges firsts sources targets blocks →
-          IsStored (record { code = record { nodes = nodes; edges = edges; functions = entries; owners = owners; returning = returning }; kinds = kinds; classes = classes; order = order; blocks = blocks }) callees firsts sources targets
+          IsStoredGraph (record { code = record { nodes = nodes; edges = edges; functions = entries; owners = owners; returning = returning }; kinds = kinds; classes = classes; order = order; blocks = blocks }) callees firsts sources targets
       stored_is few few_edges firsts_are sources targets ends by =
           let most = are.nodes_are.few in
           let functions = few_entries in

@@ -30,7 +30,7 @@ abbrev pub owner_number : Reach → ℕ → Option ℕ
 owner_number r k = number_by r.numbers (slice_index_or r.marks k Unreached)
 
 -- node j is word k, one of the first n
-pub record IsNodeOf (r : Reach) (n : ℕ) (nodes : List ℕ) (kinds : List Word) (owners : List ℕ) (j a : ℕ) : Type 0 where
+pub record IsNodeWord (r : Reach) (n : ℕ) (nodes : List ℕ) (kinds : List Word) (owners : List ℕ) (j a : ℕ) : Type 0 where
   pub k : ℕ
   pub below : k < n
   pub kind : Word
@@ -42,11 +42,11 @@ pub record IsNodeOf (r : Reach) (n : ℕ) (nodes : List ℕ) (kinds : List Word)
   pub owner_beside : slice_get owners j ≡ Some owner
 
 -- the nodes are those of the first n words that are reached in one function, in their order
-pub record AreNodes (r : Reach) (n : ℕ) (nodes : List ℕ) (kinds : List Word) (owners : List ℕ) : Type 0 where
+pub record AreReachedNodes (r : Reach) (n : ℕ) (nodes : List ℕ) (kinds : List Word) (owners : List ℕ) : Type 0 where
   pub kinds_size : length kinds ≡ length nodes
   pub owners_size : length owners ≡ length nodes
   pub few : length nodes ≤ n
-  pub each : (j a : ℕ) → slice_get nodes j ≡ Some a → IsNodeOf r n nodes kinds owners j a
+  pub each : (j a : ℕ) → slice_get nodes j ≡ Some a → IsNodeWord r n nodes kinds owners j a
   pub whole : (k i a : ℕ) → k < n → owner_number r k ≡ Some i → slice_get r.words.addresses k ≡ Some a → (j : ℕ) × (slice_get nodes j ≡ Some a)
   pub ascending : (i j a b : ℕ) → i < j → slice_get nodes i ≡ Some a → slice_get nodes j ≡ Some b → a < b
 

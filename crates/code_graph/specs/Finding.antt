@@ -6,7 +6,7 @@ use Rattle.flow_passes.specs.declared.marks.Mark.TheVariants.{Unreached}
 use Rattle.graph_runs.specs.Text.{Text, kind_at}
 use Rattle.code_reach.specs.declared.reach.TextReach.{TextReach}
 use Rattle.code_reach.specs.Reach.{Reach, IsReached, IsReachOf}
-use Rattle.code_reach.specs.Steps.{IsTableOf}
+use Rattle.code_reach.specs.Steps.{IsWordTableOf}
 
 -- what a TextReach holds
 abbrev pub reach_of : TextReach → Reach
@@ -15,16 +15,16 @@ reach_of r = record { words = r.words; returning = r.returning.items; marks = r.
 -- it is what is reached in a text, whose words stand in the table
 pub record IsReachIn (t : Text) (r : Reach) : Type 0 where
   pub reach : IsReachOf t r
-  pub table : IsTableOf (kind_at t) r.words
+  pub table : IsWordTableOf (kind_at t) r.words
 
 -- it is what is reached in some text
 abbrev pub IsReach : TextReach → Type 0
 IsReach r = (t : Text) × IsReachIn t (reach_of r)
 
 -- the first number below n of which something is so, if there is one
-abbrev pub IsFirst : ℕ → (ℕ → Type 0) → Option ℕ → Type 0
-IsFirst n P None = (k : ℕ) → k < n → P k → ⊥
-IsFirst n P (Some k) = (k < n) × P k × ((j : ℕ) → j < k → P j → ⊥)
+abbrev pub IsFirstBelow : ℕ → (ℕ → Type 0) → Option ℕ → Type 0
+IsFirstBelow n P None = (k : ℕ) → k < n → P k → ⊥
+IsFirstBelow n P (Some k) = (k < n) × P k × ((j : ℕ) → j < k → P j → ⊥)
 
 -- word k is reached and refused
 abbrev pub IsRefusedWord : Reach → ℕ → Type 0

@@ -9,7 +9,7 @@ use Rattle.scale_base.specs.declared.refusal.Refusal.TheVariants.{MisalignedTarg
 use Rattle.cost_theory.specs.declared.edges.Word.TheVariants.{CallOf}
 use Rattle.cost_theory.specs.Reached.{Reached, HasNoBadWord, HasNoSharedCode}
 use Rattle.call_orders.specs.Cycles.{IsCycleBy}
-use Rattle.graph_runs.specs.Text.{Text, in_text, instr_at, kind_at}
+use Rattle.graph_runs.specs.Text.{Text, is_text_address, instr_at, kind_at}
 use Rattle.code_reach.specs.Reach.{IsReached, IsShared}
 
 -- ---- reached addresses
@@ -26,7 +26,7 @@ instr_cause v (Some i) = None
 unfoldable pub cause_at : Text → ℕ → Option Refusal
 cause_at t v =
     if not (v % 4 == 0) then Some (MisalignedTarget v)
-    else if not (in_text t v) then Some (OutsideText v)
+    else if not (is_text_address t v) then Some (OutsideText v)
     else instr_cause v (instr_at t v)
 
 -- the refusal is that of the least reached address which is refused

@@ -15,7 +15,7 @@ pub record AreFirsts (n : ℕ) (nodes : List ℕ) (edges : List Edge) (firsts : 
   pub whole : (e : ℕ) → e < length edges → (k : ℕ) × (k < n) × (slice_index firsts k ≤ e) × (e < slice_index firsts (k + 1))
 
 -- a graph of limited size, by node the function that is called, the numbers of the nodes' first edges, and the ends of edges
-pub record IsStored (v : FlowGraph) (callees : List (Option ℕ)) (firsts sources : List ℕ) (targets : List (Option ℕ)) : Type 0 where
+pub record IsStoredGraph (v : FlowGraph) (callees : List (Option ℕ)) (firsts sources : List ℕ) (targets : List (Option ℕ)) : Type 0 where
   pub flow : IsFlowGraph v
   pub few_nodes : length v.code.nodes ≤ 131072
   pub few_edges : length v.code.edges ≤ 262144

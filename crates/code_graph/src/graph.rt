@@ -7,7 +7,7 @@ ghost use Rattle.cost_theory.specs.Reached.{edge_at};
 ghost use Rattle.graph_runs.specs.EdgeCosts.{cost_of};
 ghost use Rattle.graph_runs.specs.Text.{Text};
 ghost use Rattle.cost_theory.specs.Accepted.{AreWeights};
-ghost use Rattle.call_orders.specs.Arcs.{number_at};
+ghost use Rattle.call_orders.specs.Arcs.{number_in_place};
 ghost use Rattle.code_graph.specs.Blocks.{AreBlocks};
 ghost use Rattle.code_graph.specs.Ends.{AreEdgeEnds};
 ghost use Rattle.code_graph.specs.FlowGraph.{graph, word_beside, IsFlowGraph, IsGraphOf};
@@ -42,17 +42,17 @@ pub struct CodeGraph {
 
 impl Model for CodeGraph {
     ghost use Rattle.code_graph.specs.FlowGraph.{FlowGraph};
-    ghost use Rattle.code_graph.specs.Stored.{IsStored};
+    ghost use Rattle.code_graph.specs.Stored.{IsStoredGraph};
 
     ghost Value = { FlowGraph };
 
     ghost view = { λ g. record { code = record { nodes = g.nodes.items; edges = g.edges.items; functions = g.functions.items; owners = g.owners.items; returning = g.returning.items }; kinds = g.kinds.items; classes = g.classes.items; order = g.order.items; blocks = g.blocks.items } };
 
-    ghost invariant = { λ g. IsStored (record { code = record { nodes = g.nodes.items; edges = g.edges.items; functions = g.functions.items; owners = g.owners.items; returning = g.returning.items }; kinds = g.kinds.items; classes = g.classes.items; order = g.order.items; blocks = g.blocks.items }) g.callees.items g.firsts.items g.ends.sources.items g.ends.targets.items };
+    ghost invariant = { λ g. IsStoredGraph (record { code = record { nodes = g.nodes.items; edges = g.edges.items; functions = g.functions.items; owners = g.owners.items; returning = g.returning.items }; kinds = g.kinds.items; classes = g.classes.items; order = g.order.items; blocks = g.blocks.items }) g.callees.items g.firsts.items g.ends.sources.items g.ends.targets.items };
 }
 
 fn is_back(word: Word) -> bool
-    ensures { result ≡ reached.is_back word }
+    ensures { result ≡ reached.is_return_word word }
 {
     matches!(word, Word::Back)
 }
@@ -239,7 +239,7 @@ impl CodeGraph {
     pub fn base_weights(&self, alloc: Global, costs: &Costs) -> Result<Weights, NoMemory>
         ensures weights { IfOk result (λ weights. weights ≡ map (cost_of (cycles_of costs.now)) self.now.classes) }
         ensures size { (t : Text) → IsGraphOf t self.now → IfOk result (λ weights. length weights ≡ length self.now.code.edges) }
-        ensures calls { (t : Text) → IsGraphOf t self.now → IfOk result (λ weights. AreWeights (graph self.now) (number_at weights)) }
+        ensures calls { (t : Text) → IsGraphOf t self.now → IfOk result (λ weights. AreWeights (graph self.now) (number_in_place weights)) }
     {
         weights_of(alloc, costs, &self.classes)
     }

@@ -3,7 +3,7 @@
 ghost use Rattle.std.specs.Prelude.{◌≡◌, ◌≢◌, ◌↔◌, ◌<◌, ℕ, length, map, slice_index, IfOk, Some, None};
 ghost use Rattle.cost_theory.specs.Reached.{callee_of};
 ghost use Rattle.code_graph.specs.Finding.{reach_of, IsReach};
-ghost use Rattle.code_graph.specs.Assembling.{AreNodes, owner_number, flag_of, entry_addresses};
+ghost use Rattle.code_graph.specs.Assembling.{AreReachedNodes, owner_number, flag_of, entry_addresses};
 
 use code_reach::{Mark, TextReach};
 use cost_theory::Word;
@@ -36,7 +36,7 @@ fn owner_of(reach: &TextReach, k: usize) -> Option<usize>
 /// The words that are reached in one function.
 pub fn nodes_of(alloc: Global, reach: &TextReach) -> Result<Nodes, NoMemory>
     requires { IsReach reach.now }
-    ensures { IfOk result (λ nodes. AreNodes (reach_of reach.now) (length reach.now.words.addresses) nodes.addresses.items nodes.kinds.items nodes.owners.items) }
+    ensures { IfOk result (λ nodes. AreReachedNodes (reach_of reach.now) (length reach.now.words.addresses) nodes.addresses.items nodes.kinds.items nodes.owners.items) }
 {
     let mut addresses = Vec::new(alloc);
     let mut kinds = Vec::new(alloc);

@@ -7,7 +7,7 @@ ghost use Rattle.scale_base.specs.Image.{image_of};
 ghost use Rattle.graph_runs.specs.Text as texts;
 ghost use Rattle.graph_runs.specs.Text.{text_of};
 ghost use Rattle.code_graph.specs.Refused.{cause_at, instr_cause};
-ghost use Rattle.code_graph.specs.Finding.{reach_of, IsReachIn, IsFirst, IsRefusedWord, IsLesser, IsLeastBad};
+ghost use Rattle.code_graph.specs.Finding.{reach_of, IsReachIn, IsFirstBelow, IsRefusedWord, IsLesser, IsLeastBad};
 
 use code_reach::{Mark, TextReach};
 use cost_theory::Word;
@@ -55,7 +55,7 @@ fn is_refused(mark: Mark, word: Word) -> bool
 /// The first word that is reached and refused.
 fn first_refused(reach: &TextReach) -> Option<usize>
     requires { length reach.now.marks.items ≡ length reach.now.words.addresses }
-    ensures { IsFirst (length reach.now.words.addresses) (IsRefusedWord (reach_of reach.now)) result }
+    ensures { IsFirstBelow (length reach.now.words.addresses) (IsRefusedWord (reach_of reach.now)) result }
 {
     for k in 0..reach.words.count() {
         if is_refused(reach.marks[k], reach.words.kind(k)) {
@@ -88,7 +88,7 @@ pub fn least_refused(view: &ImageView<'_>, reach: &TextReach) -> Option<u32>
 
 /// The first word that is reached in two functions.
 pub fn first_shared(marks: &[Mark]) -> Option<usize>
-    ensures { IsFirst (length marks.now) (λ k. slice_get marks.now k ≡ Some Shared) result }
+    ensures { IsFirstBelow (length marks.now) (λ k. slice_get marks.now k ≡ Some Shared) result }
 {
     marks.iter().position(|mark| matches!(mark, Mark::Shared))
 }

@@ -5,18 +5,18 @@ use Rattle.std.proofs.lemmas.Option.{slice_get_within, slice_get-get_or, get_or_
 use Rattle.flow_passes.specs.declared.step.Step.{Step}
 use Rattle.flow_passes.specs.declared.marks.Mark.{Mark}
 use Rattle.flow_passes.specs.declared.marks.Mark.TheVariants.{Unreached, Owner, Shared}
-use Rattle.flow_passes.specs.Marks.{mark_at, number_of, ReachedAt, IsReachedTwice}
+use Rattle.flow_passes.specs.Marks.{mark_at, function_number, ReachedAt, IsReachedTwice}
 use Rattle.flow_passes.specs.Marks.ReachedAt.{enters, jumps, goes, calls}
-use Rattle.code_reach.specs.Steps.{IsMarked}
+use Rattle.code_reach.specs.Steps.{AreReachMarks}
 
 some_same : {X : Type 0} (x y : X) → Some x ≡ Some y → x ≡ y
 some_same x y e = cc
 
 -- ---- a number where none is by default
-pub number_is : (numbers : List (Option ℕ)) (k i : ℕ) → (slice_get numbers k ≡ Some (Some i)) ↔ (number_of numbers k ≡ Some i)
+pub number_is : (numbers : List (Option ℕ)) (k i : ℕ) → (slice_get numbers k ≡ Some (Some i)) ↔ (function_number numbers k ≡ Some i)
 number_is numbers k i = (λ e. get_or_from_slice_get numbers k (Some i) None e, from numbers k)
   where
-    from : (xs : List (Option ℕ)) (j : ℕ) → number_of xs j ≡ Some i → slice_get xs j ≡ Some (Some i)
+    from : (xs : List (Option ℕ)) (j : ℕ) → function_number xs j ≡ Some i → slice_get xs j ≡ Some (Some i)
     from [] j e = let r : ⊥ = cc in absurd r
     from (x ∷ xs) zero e = ap Some e
     from (x ∷ xs) (suc j) e = from xs j e
@@ -32,7 +32,7 @@ length_all (suc n) x = ap suc (length_all n x)
 
 -- where the program begins at no word
 pub none_is : (steps : List Step) (returns : List Bool) (marks : List Mark) (functions : List ℕ) (numbers : List (Option ℕ)) → marks ≡ replicate (length steps) Unreached → functions ≡ [] → numbers ≡ replicate (length steps) None →
-    IsMarked steps returns None marks functions numbers
+    AreReachMarks steps returns None marks functions numbers
 none_is steps returns marks functions numbers em ef en = record {
   marks_size = ap length em ∙ length_all (length steps) Unreached;
   numbers_size = ap length en ∙ length_all (length steps) None;
@@ -59,14 +59,14 @@ module _ (steps : List Step) (returns : List Bool) (first : ℕ) where
   reached_within f v (goes u r j e lt) = lt
   reached_within f v (calls g u r j e lt) = subst (λ x. x < length steps) (sym e) lt
 
-  module _ (functions : List ℕ) (numbers : List (Option ℕ)) (listed : (h i : ℕ) → (number_of numbers h ≡ Some i) ↔ ((i < length functions) × (slice_index functions i ≡ h))) where
-    place_of : (h i : ℕ) → slice_get functions i ≡ Some h → number_of numbers h ≡ Some i
+  module _ (functions : List ℕ) (numbers : List (Option ℕ)) (listed : (h i : ℕ) → (function_number numbers h ≡ Some i) ↔ ((i < length functions) × (slice_index functions i ≡ h))) where
+    place_of : (h i : ℕ) → slice_get functions i ≡ Some h → function_number numbers h ≡ Some i
     place_of h i e = (listed h i).1 (slice_get_within functions i h e, get_or_from_slice_get functions i h 0 e)
 
-    of_place : (h i : ℕ) → number_of numbers h ≡ Some i → slice_get functions i ≡ Some h
+    of_place : (h i : ℕ) → function_number numbers h ≡ Some i → slice_get functions i ≡ Some h
     of_place h i e = let p = (listed h i).0 e in slice_get-get_or functions i 0 p.0 ∙ ap Some p.1
 
-    module _ (called : (h : ℕ) → ((i : ℕ) × (number_of numbers h ≡ Some i)) ↔ ReachedAt steps returns first h h) where
+    module _ (called : (h : ℕ) → ((i : ℕ) × (function_number numbers h ≡ Some i)) ↔ ReachedAt steps returns first h h) where
       listed_within : (h i : ℕ) → slice_get functions i ≡ Some h → h < length steps
       listed_within h i e = reached_within h h ((called h).0 (i, place_of h i e))
 
@@ -74,8 +74,8 @@ module _ (steps : List Step) (returns : List Bool) (first : ℕ) where
           ((v f : ℕ) → (mark_at marks v ≡ Owner f) ↔ (ReachedAt steps returns first f v × ((g : ℕ) → ReachedAt steps returns first g v → g ≡ f))) →
           ((v : ℕ) → (mark_at marks v ≡ Shared) ↔ IsReachedTwice steps returns first v) →
           ((v : ℕ) → (mark_at marks v ≡ Unreached) ↔ ((f : ℕ) → ReachedAt steps returns first f v → ⊥)) →
-          number_of numbers first ≡ Some 0 →
-          IsMarked steps returns (Some first) marks functions numbers
+          function_number numbers first ≡ Some 0 →
+          AreReachMarks steps returns (Some first) marks functions numbers
       marked_is marks marks_size numbers_size owner shared unreached begins = record {
         marks_size = marks_size;
         numbers_size = numbers_size;

@@ -7,21 +7,21 @@ use Rattle.code_text.specs.Table.{WordTable}
 use Rattle.flow_passes.specs.declared.marks.Mark.{Mark}
 use Rattle.flow_passes.specs.declared.marks.Mark.TheVariants.{Unreached}
 use Rattle.flow_passes.specs.Flow.{flag}
-use Rattle.code_reach.specs.Reach.{StandsAt}
-use Rattle.code_reach.specs.Steps.{IsWordAt}
-use Rattle.code_reach.specs.Outside.{lower_of, is_marked, IsLeast, IsOutsideOf, ComesBackTo, GoesOnTo, GoesOnFrom, IsComeTo}
+use Rattle.code_reach.specs.Reach.{WordStandsAt}
+use Rattle.code_reach.specs.Steps.{IsWordNumber}
+use Rattle.code_reach.specs.Outside.{lower_of, has_mark, IsLowest, IsOutsideOf, ComesBackTo, GoesOnTo, GoesOnFrom, IsComeTo}
 use Rattle.code_reach.proofs.Places.{order}
 
-pub same_least : (P Q : ℕ → Type 0) (o : Option ℕ) → ((u : ℕ) → P u → Q u) → ((u : ℕ) → Q u → P u) → IsLeast P o → IsLeast Q o
+pub same_least : (P Q : ℕ → Type 0) (o : Option ℕ) → ((u : ℕ) → P u → Q u) → ((u : ℕ) → Q u → P u) → IsLowest P o → IsLowest Q o
 same_least P Q o to from l = record { holds = λ u e. to u (l.holds u e); least = λ v q. l.least v (from v q) }
 
-pub none_least : (P : ℕ → Type 0) → ((u : ℕ) → P u → ⊥) → IsLeast P None
+pub none_least : (P : ℕ → Type 0) → ((u : ℕ) → P u → ⊥) → IsLowest P None
 none_least P never = record { holds = λ u e. (let r : ⊥ = cc in absurd r); least = λ v p. absurd (never v p) }
 
-least_none : (P : ℕ → Type 0) (v : ℕ) → IsLeast P None → P v → ⊥
+least_none : (P : ℕ → Type 0) (v : ℕ) → IsLowest P None → P v → ⊥
 least_none P v l p = let q = l.least v p in let e : None ≡ Some q.0 = q.1 in let r : ⊥ = cc in r
 
-pub lower_least : (P Q : ℕ → Type 0) (a b : Option ℕ) → IsLeast P a → IsLeast Q b → IsLeast (λ u. P u ⊎ Q u) (lower_of a b)
+pub lower_least : (P Q : ℕ → Type 0) (a b : Option ℕ) → IsLowest P a → IsLowest Q b → IsLowest (λ u. P u ⊎ Q u) (lower_of a b)
 lower_least P Q None b p q = record { holds = λ u e. inr (q.holds u e); least = λ v s. ⊎_elim (λ x. absurd (least_none P v p x)) (λ y. q.least v y) s }
 lower_least P Q (Some a) None p q = record { holds = λ u e. inl (p.holds u e); least = λ v s. ⊎_elim (λ x. p.least v x) (λ y. absurd (least_none Q v q y)) s }
 lower_least P Q (Some a) (Some b) p q = record {
@@ -39,25 +39,25 @@ lower_least P Q (Some a) (Some b) p q = record {
 
 module _ (words : WordTable) where
   -- an address at which a word stands
-  pub inside_least : (at : ℕ) (k : ℕ) → StandsAt words k at → IsLeast (λ u. (u ≡ at) × IsOutsideOf words u) None
-  inside_least at k here = none_least (λ u. (u ≡ at) × IsOutsideOf words u) (λ u p. p.1 k (subst (λ x. StandsAt words k x) (sym p.0) here))
+  pub inside_least : (at : ℕ) (k : ℕ) → WordStandsAt words k at → IsLowest (λ u. (u ≡ at) × IsOutsideOf words u) None
+  inside_least at k here = none_least (λ u. (u ≡ at) × IsOutsideOf words u) (λ u p. p.1 k (subst (λ x. WordStandsAt words k x) (sym p.0) here))
 
   module _ (returns : List Bool) where
     -- a call of a word with a flag comes back
-    pub flagged_least : (at to c : ℕ) (o : Option ℕ) → StandsAt words c to → flag returns c ≡ true → IsLeast (λ u. (u ≡ at + 4) × IsOutsideOf words u) o →
-        IsLeast (λ u. ((u ≡ to) ⊎ ComesBackTo words returns (CallOf to) at u) × IsOutsideOf words u) o
+    pub flagged_least : (at to c : ℕ) (o : Option ℕ) → WordStandsAt words c to → flag returns c ≡ true → IsLowest (λ u. (u ≡ at + 4) × IsOutsideOf words u) o →
+        IsLowest (λ u. ((u ≡ to) ⊎ ComesBackTo words returns (CallOf to) at u) × IsOutsideOf words u) o
     flagged_least at to c o here on l = same_least (λ u. (u ≡ at + 4) × IsOutsideOf words u) (λ u. ((u ≡ to) ⊎ ComesBackTo words returns (CallOf to) at u) × IsOutsideOf words u) o
         (λ u p. (inr (to, c, refl, here, on, p.0), p.1))
-        (λ u p. (⊎_elim (λ e. absurd (p.1 c (subst (λ x. StandsAt words c x) (sym e) here))) (λ q. q.5) p.0, p.1)) l
+        (λ u p. (⊎_elim (λ e. absurd (p.1 c (subst (λ x. WordStandsAt words c x) (sym e) here))) (λ q. q.5) p.0, p.1)) l
 
     -- a call of a word without one does not
-    pub unflagged_least : (at to c : ℕ) (o : Option ℕ) → o ≡ Some c → IsWordAt words to o → flag returns c ≡ false → IsLeast (λ u. ((u ≡ to) ⊎ ComesBackTo words returns (CallOf to) at u) × IsOutsideOf words u) None
+    pub unflagged_least : (at to c : ℕ) (o : Option ℕ) → o ≡ Some c → IsWordNumber words to o → flag returns c ≡ false → IsLowest (λ u. ((u ≡ to) ⊎ ComesBackTo words returns (CallOf to) at u) × IsOutsideOf words u) None
     unflagged_least at to c o e is off = none_least (λ u. ((u ≡ to) ⊎ ComesBackTo words returns (CallOf to) at u) × IsOutsideOf words u)
-        (λ u p. ⊎_elim (λ s. p.1 c (subst (λ x. StandsAt words c x) (sym s) ((is c).0 e)))
+        (λ u p. ⊎_elim (λ s. p.1 c (subst (λ x. WordStandsAt words c x) (sym s) ((is c).0 e)))
         (λ q. let h = q.0 in
         let d = q.1 in
         let same : to ≡ h = call_same to h q.2 in
-        let there : o ≡ Some d = (is d).1 (subst (λ x. StandsAt words d x) (sym same) q.3) in
+        let there : o ≡ Some d = (is d).1 (subst (λ x. WordStandsAt words d x) (sym same) q.3) in
         let place : c ≡ d = number_same c d (sym e ∙ there) in
         clash (sym off ∙ ap (flag returns) place ∙ q.4)) p.0)
       where
@@ -70,10 +70,10 @@ module _ (words : WordTable) where
         clash : false ≡ true → ⊥
         clash s = cc
 
-    pub branch_least : (k v to : ℕ) (a b o : Option ℕ) → StandsAt words k v → slice_get words.kinds k ≡ Some (Branch to) → IsLeast (λ u. (u ≡ to) × IsOutsideOf words u) a → IsLeast (λ u. (u ≡ v + 4) × IsOutsideOf words u) b →
-        o ≡ lower_of a b → IsLeast (λ u. GoesOnFrom words returns k u × IsOutsideOf words u) o
+    pub branch_least : (k v to : ℕ) (a b o : Option ℕ) → WordStandsAt words k v → slice_get words.kinds k ≡ Some (Branch to) → IsLowest (λ u. (u ≡ to) × IsOutsideOf words u) a → IsLowest (λ u. (u ≡ v + 4) × IsOutsideOf words u) b →
+        o ≡ lower_of a b → IsLowest (λ u. GoesOnFrom words returns k u × IsOutsideOf words u) o
     branch_least k v to a b o here kind la lb e =
-        subst (λ x. IsLeast (λ u. GoesOnFrom words returns k u × IsOutsideOf words u) x) (sym e)
+        subst (λ x. IsLowest (λ u. GoesOnFrom words returns k u × IsOutsideOf words u) x) (sym e)
         (same_least (λ u. ((u ≡ to) × IsOutsideOf words u) ⊎ ((u ≡ v + 4) × IsOutsideOf words u)) (λ u. GoesOnFrom words returns k u × IsOutsideOf words u) (lower_of a b) to_way from_way
         (lower_least (λ u. (u ≡ to) × IsOutsideOf words u) (λ u. (u ≡ v + 4) × IsOutsideOf words u) a b la lb))
       where
@@ -101,10 +101,10 @@ module _ (words : WordTable) where
 
     module _ (marks : List Mark) (entry : ℕ) where
       -- one word more
-      pub next_marked : (n : ℕ) (a b o : Option ℕ) → is_marked (slice_index_or marks n Unreached) ≡ true → IsLeast (λ u. IsComeTo words returns marks entry n u × IsOutsideOf words u) a →
-          IsLeast (λ u. GoesOnFrom words returns n u × IsOutsideOf words u) b → o ≡ lower_of a b → IsLeast (λ u. IsComeTo words returns marks entry (n + 1) u × IsOutsideOf words u) o
+      pub next_marked : (n : ℕ) (a b o : Option ℕ) → has_mark (slice_index_or marks n Unreached) ≡ true → IsLowest (λ u. IsComeTo words returns marks entry n u × IsOutsideOf words u) a →
+          IsLowest (λ u. GoesOnFrom words returns n u × IsOutsideOf words u) b → o ≡ lower_of a b → IsLowest (λ u. IsComeTo words returns marks entry (n + 1) u × IsOutsideOf words u) o
       next_marked n a b o on la lb e =
-          subst (λ x. IsLeast (λ u. IsComeTo words returns marks entry (n + 1) u × IsOutsideOf words u) x) (sym e)
+          subst (λ x. IsLowest (λ u. IsComeTo words returns marks entry (n + 1) u × IsOutsideOf words u) x) (sym e)
           (same_least (λ u. (IsComeTo words returns marks entry n u × IsOutsideOf words u) ⊎ (GoesOnFrom words returns n u × IsOutsideOf words u)) (λ u. IsComeTo words returns marks entry (n + 1) u × IsOutsideOf words u) (lower_of a b) to from
           (lower_least (λ u. IsComeTo words returns marks entry n u × IsOutsideOf words u) (λ u. GoesOnFrom words returns n u × IsOutsideOf words u) a b la lb))
         where
@@ -118,10 +118,10 @@ module _ (words : WordTable) where
           from u (inr (k, lt, m, goes), out) = ⊎_elim (λ (low : k < n). inl (inr (k, low, m, goes), out))
               (λ r. ⊎_elim (λ (s : k ≡ n). inr (subst (λ x. GoesOnFrom words returns x u) s goes, out)) (λ (high : n < k). absurd (omega (arith, lt, high))) r) (order k n)
 
-      pub next_unmarked : (n : ℕ) (a o : Option ℕ) → is_marked (slice_index_or marks n Unreached) ≡ false → IsLeast (λ u. IsComeTo words returns marks entry n u × IsOutsideOf words u) a → o ≡ a →
-          IsLeast (λ u. IsComeTo words returns marks entry (n + 1) u × IsOutsideOf words u) o
+      pub next_unmarked : (n : ℕ) (a o : Option ℕ) → has_mark (slice_index_or marks n Unreached) ≡ false → IsLowest (λ u. IsComeTo words returns marks entry n u × IsOutsideOf words u) a → o ≡ a →
+          IsLowest (λ u. IsComeTo words returns marks entry (n + 1) u × IsOutsideOf words u) o
       next_unmarked n a o off la e =
-          subst (λ x. IsLeast (λ u. IsComeTo words returns marks entry (n + 1) u × IsOutsideOf words u) x) (sym e)
+          subst (λ x. IsLowest (λ u. IsComeTo words returns marks entry (n + 1) u × IsOutsideOf words u) x) (sym e)
           (same_least (λ u. IsComeTo words returns marks entry n u × IsOutsideOf words u) (λ u. IsComeTo words returns marks entry (n + 1) u × IsOutsideOf words u) a to from la)
         where
           to : (u : ℕ) → IsComeTo words returns marks entry n u × IsOutsideOf words u → IsComeTo words returns marks entry (n + 1) u × IsOutsideOf words u
@@ -134,10 +134,10 @@ module _ (words : WordTable) where
           from : (u : ℕ) → IsComeTo words returns marks entry (n + 1) u × IsOutsideOf words u → IsComeTo words returns marks entry n u × IsOutsideOf words u
           from u (inl s, out) = (inl s, out)
           from u (inr (k, lt, m, goes), out) = ⊎_elim (λ (low : k < n). (inr (k, low, m, goes), out))
-              (λ r. ⊎_elim (λ (s : k ≡ n). absurd (clash (sym m ∙ ap (λ x. is_marked (slice_index_or marks x Unreached)) s ∙ off))) (λ (high : n < k). absurd (omega (arith, lt, high))) r) (order k n)
+              (λ r. ⊎_elim (λ (s : k ≡ n). absurd (clash (sym m ∙ ap (λ x. has_mark (slice_index_or marks x Unreached)) s ∙ off))) (λ (high : n < k). absurd (omega (arith, lt, high))) r) (order k n)
 
       -- before the first word
-      pub first_least : (o : Option ℕ) → IsLeast (λ u. (u ≡ entry) × IsOutsideOf words u) o → IsLeast (λ u. IsComeTo words returns marks entry 0 u × IsOutsideOf words u) o
+      pub first_least : (o : Option ℕ) → IsLowest (λ u. (u ≡ entry) × IsOutsideOf words u) o → IsLowest (λ u. IsComeTo words returns marks entry 0 u × IsOutsideOf words u) o
       first_least o l = same_least (λ u. (u ≡ entry) × IsOutsideOf words u) (λ u. IsComeTo words returns marks entry 0 u × IsOutsideOf words u) o (λ u p. (inl p.0, p.1)) from l
         where
           from : (u : ℕ) → IsComeTo words returns marks entry 0 u × IsOutsideOf words u → (u ≡ entry) × IsOutsideOf words u

@@ -11,9 +11,9 @@ use Rattle.flow_passes.specs.declared.step.Step.{Step}
 use Rattle.flow_passes.specs.declared.step.Step.TheVariants.{Return, Stop, On, Call}
 use Rattle.flow_passes.specs.Flow.{step_at, flag, flag_option, CanReturnAt}
 use Rattle.flow_passes.specs.Flow.CanReturnAt.{here as here_at, jumps as jumps_at, goes as goes_at, across as across_at}
-use Rattle.flow_passes.specs.Marks.{jump_of, callee_of, follows}
-use Rattle.code_reach.specs.Reach.{StandsAt}
-use Rattle.code_reach.specs.Steps.{IsTableOf, IsWordAt, IsFollowed, IsStepOf, IsStepAt, AreSteps}
+use Rattle.flow_passes.specs.Marks.{jumped_word, called_word, goes_on_after}
+use Rattle.code_reach.specs.Reach.{WordStandsAt}
+use Rattle.code_reach.specs.Steps.{IsWordTableOf, IsWordNumber, HasNextWord, IsStepOf, IsStepAt, AreSteps}
 use Rattle.code_reach.proofs.Places.{order, one_place, next_place}
 use Rattle.code_reach.proofs.ReturnLaws.{CanReturn, never_bad}
 use Rattle.code_reach.proofs.ReturnLaws.CanReturn.{here, onward, across}
@@ -31,118 +31,118 @@ module _ (words : WordTable) (k v : ℕ) where
   return_is Straight s (b, e, f) h = let bad : On None b ≡ Return = cc in let r : ⊥ = cc in absurd r
   return_is Bad s e h = let bad : Stop ≡ Return = cc in let r : ⊥ = cc in absurd r
 
-  pub jump_leads : (w : Word) (s : Step) (j : ℕ) → IsStepOf words k v w s → jump_of s ≡ Some j → (u : ℕ) × StandsAt words j u × LeadsTo w v u
-  jump_leads (Branch to) s j (o, b, e, at, f) h = (to, (at j).0 (sym (ap jump_of e) ∙ h), inl refl)
-  jump_leads (Goto to) s j (o, e, at) h = (to, (at j).0 (sym (ap jump_of e) ∙ h), refl)
-  jump_leads (CallOf to) s j (o, b, e, at, f) h = let bad : None ≡ Some j = sym (ap jump_of e) ∙ h in let r : ⊥ = cc in absurd r
-  jump_leads Back s j e h = let bad : None ≡ Some j = sym (ap jump_of e) ∙ h in let r : ⊥ = cc in absurd r
-  jump_leads Ends s j e h = let bad : None ≡ Some j = sym (ap jump_of e) ∙ h in let r : ⊥ = cc in absurd r
-  jump_leads MayEnd s j (b, e, f) h = let bad : None ≡ Some j = sym (ap jump_of e) ∙ h in let r : ⊥ = cc in absurd r
-  jump_leads Breaks s j e h = let bad : None ≡ Some j = sym (ap jump_of e) ∙ h in let r : ⊥ = cc in absurd r
-  jump_leads Straight s j (b, e, f) h = let bad : None ≡ Some j = sym (ap jump_of e) ∙ h in let r : ⊥ = cc in absurd r
-  jump_leads Bad s j e h = let bad : None ≡ Some j = sym (ap jump_of e) ∙ h in let r : ⊥ = cc in absurd r
+  pub jump_leads : (w : Word) (s : Step) (j : ℕ) → IsStepOf words k v w s → jumped_word s ≡ Some j → (u : ℕ) × WordStandsAt words j u × LeadsTo w v u
+  jump_leads (Branch to) s j (o, b, e, at, f) h = (to, (at j).0 (sym (ap jumped_word e) ∙ h), inl refl)
+  jump_leads (Goto to) s j (o, e, at) h = (to, (at j).0 (sym (ap jumped_word e) ∙ h), refl)
+  jump_leads (CallOf to) s j (o, b, e, at, f) h = let bad : None ≡ Some j = sym (ap jumped_word e) ∙ h in let r : ⊥ = cc in absurd r
+  jump_leads Back s j e h = let bad : None ≡ Some j = sym (ap jumped_word e) ∙ h in let r : ⊥ = cc in absurd r
+  jump_leads Ends s j e h = let bad : None ≡ Some j = sym (ap jumped_word e) ∙ h in let r : ⊥ = cc in absurd r
+  jump_leads MayEnd s j (b, e, f) h = let bad : None ≡ Some j = sym (ap jumped_word e) ∙ h in let r : ⊥ = cc in absurd r
+  jump_leads Breaks s j e h = let bad : None ≡ Some j = sym (ap jumped_word e) ∙ h in let r : ⊥ = cc in absurd r
+  jump_leads Straight s j (b, e, f) h = let bad : None ≡ Some j = sym (ap jumped_word e) ∙ h in let r : ⊥ = cc in absurd r
+  jump_leads Bad s j e h = let bad : None ≡ Some j = sym (ap jumped_word e) ∙ h in let r : ⊥ = cc in absurd r
 
-  pub callee_is : (w : Word) (s : Step) (c : ℕ) → IsStepOf words k v w s → callee_of s ≡ Some c → (h : ℕ) × StandsAt words c h × (w ≡ CallOf h)
-  callee_is (Branch to) s c (o, b, e, at, f) h = let bad : None ≡ Some c = sym (ap callee_of e) ∙ h in let r : ⊥ = cc in absurd r
-  callee_is (Goto to) s c (o, e, at) h = let bad : None ≡ Some c = sym (ap callee_of e) ∙ h in let r : ⊥ = cc in absurd r
-  callee_is (CallOf to) s c (o, b, e, at, f) h = (to, (at c).0 (sym (ap callee_of e) ∙ h), refl)
-  callee_is Back s c e h = let bad : None ≡ Some c = sym (ap callee_of e) ∙ h in let r : ⊥ = cc in absurd r
-  callee_is Ends s c e h = let bad : None ≡ Some c = sym (ap callee_of e) ∙ h in let r : ⊥ = cc in absurd r
-  callee_is MayEnd s c (b, e, f) h = let bad : None ≡ Some c = sym (ap callee_of e) ∙ h in let r : ⊥ = cc in absurd r
-  callee_is Breaks s c e h = let bad : None ≡ Some c = sym (ap callee_of e) ∙ h in let r : ⊥ = cc in absurd r
-  callee_is Straight s c (b, e, f) h = let bad : None ≡ Some c = sym (ap callee_of e) ∙ h in let r : ⊥ = cc in absurd r
-  callee_is Bad s c e h = let bad : None ≡ Some c = sym (ap callee_of e) ∙ h in let r : ⊥ = cc in absurd r
+  pub callee_is : (w : Word) (s : Step) (c : ℕ) → IsStepOf words k v w s → called_word s ≡ Some c → (h : ℕ) × WordStandsAt words c h × (w ≡ CallOf h)
+  callee_is (Branch to) s c (o, b, e, at, f) h = let bad : None ≡ Some c = sym (ap called_word e) ∙ h in let r : ⊥ = cc in absurd r
+  callee_is (Goto to) s c (o, e, at) h = let bad : None ≡ Some c = sym (ap called_word e) ∙ h in let r : ⊥ = cc in absurd r
+  callee_is (CallOf to) s c (o, b, e, at, f) h = (to, (at c).0 (sym (ap called_word e) ∙ h), refl)
+  callee_is Back s c e h = let bad : None ≡ Some c = sym (ap called_word e) ∙ h in let r : ⊥ = cc in absurd r
+  callee_is Ends s c e h = let bad : None ≡ Some c = sym (ap called_word e) ∙ h in let r : ⊥ = cc in absurd r
+  callee_is MayEnd s c (b, e, f) h = let bad : None ≡ Some c = sym (ap called_word e) ∙ h in let r : ⊥ = cc in absurd r
+  callee_is Breaks s c e h = let bad : None ≡ Some c = sym (ap called_word e) ∙ h in let r : ⊥ = cc in absurd r
+  callee_is Straight s c (b, e, f) h = let bad : None ≡ Some c = sym (ap called_word e) ∙ h in let r : ⊥ = cc in absurd r
+  callee_is Bad s c e h = let bad : None ≡ Some c = sym (ap called_word e) ∙ h in let r : ⊥ = cc in absurd r
 
   -- the word is a call of a word with a flag
   abbrev pub Comes : List Bool → Word → Type 0
-  Comes returns w = (h : ℕ) × (c : ℕ) × (w ≡ CallOf h) × StandsAt words c h × (flag returns c ≡ true)
+  Comes returns w = (h : ℕ) × (c : ℕ) × (w ≡ CallOf h) × WordStandsAt words c h × (flag returns c ≡ true)
 
-  pub next_leads : (returns : List Bool) (w : Word) (s : Step) → IsStepOf words k v w s → follows s returns ≡ true → StandsAt words (k + 1) (v + 4) × (LeadsTo w v (v + 4) ⊎ Comes returns w)
-  next_leads returns (Branch to) s (o, b, e, at, f) h = (f.0 (sym (ap (λ x. follows x returns) e) ∙ h), inl (inr refl))
-  next_leads returns (Goto to) s (o, e, at) h = let bad : false ≡ true = sym (ap (λ x. follows x returns) e) ∙ h in let r : ⊥ = cc in absurd r
+  pub next_leads : (returns : List Bool) (w : Word) (s : Step) → IsStepOf words k v w s → goes_on_after s returns ≡ true → WordStandsAt words (k + 1) (v + 4) × (LeadsTo w v (v + 4) ⊎ Comes returns w)
+  next_leads returns (Branch to) s (o, b, e, at, f) h = (f.0 (sym (ap (λ x. goes_on_after x returns) e) ∙ h), inl (inr refl))
+  next_leads returns (Goto to) s (o, e, at) h = let bad : false ≡ true = sym (ap (λ x. goes_on_after x returns) e) ∙ h in let r : ⊥ = cc in absurd r
   next_leads returns (CallOf to) s (o, b, e, at, f) h =
-      let p = and_parts b (flag_option returns o) (sym (ap (λ x. follows x returns) e) ∙ h) in
+      let p = and_parts b (flag_option returns o) (sym (ap (λ x. goes_on_after x returns) e) ∙ h) in
       (f.0 p.0, inr (go o at p.1))
     where
-      go : (o : Option ℕ) → IsWordAt words to o → flag_option returns o ≡ true → Comes returns (CallOf to)
+      go : (o : Option ℕ) → IsWordNumber words to o → flag_option returns o ≡ true → Comes returns (CallOf to)
       go None at q = let r : ⊥ = cc in absurd r
       go (Some c) at q = (to, c, refl, (at c).0 refl, q)
-  next_leads returns Back s e h = let bad : false ≡ true = sym (ap (λ x. follows x returns) e) ∙ h in let r : ⊥ = cc in absurd r
-  next_leads returns Ends s e h = let bad : false ≡ true = sym (ap (λ x. follows x returns) e) ∙ h in let r : ⊥ = cc in absurd r
-  next_leads returns MayEnd s (b, e, f) h = (f.0 (sym (ap (λ x. follows x returns) e) ∙ h), inl refl)
-  next_leads returns Breaks s e h = let bad : false ≡ true = sym (ap (λ x. follows x returns) e) ∙ h in let r : ⊥ = cc in absurd r
-  next_leads returns Straight s (b, e, f) h = (f.0 (sym (ap (λ x. follows x returns) e) ∙ h), inl refl)
-  next_leads returns Bad s e h = let bad : false ≡ true = sym (ap (λ x. follows x returns) e) ∙ h in let r : ⊥ = cc in absurd r
+  next_leads returns Back s e h = let bad : false ≡ true = sym (ap (λ x. goes_on_after x returns) e) ∙ h in let r : ⊥ = cc in absurd r
+  next_leads returns Ends s e h = let bad : false ≡ true = sym (ap (λ x. goes_on_after x returns) e) ∙ h in let r : ⊥ = cc in absurd r
+  next_leads returns MayEnd s (b, e, f) h = (f.0 (sym (ap (λ x. goes_on_after x returns) e) ∙ h), inl refl)
+  next_leads returns Breaks s e h = let bad : false ≡ true = sym (ap (λ x. goes_on_after x returns) e) ∙ h in let r : ⊥ = cc in absurd r
+  next_leads returns Straight s (b, e, f) h = (f.0 (sym (ap (λ x. goes_on_after x returns) e) ∙ h), inl refl)
+  next_leads returns Bad s e h = let bad : false ≡ true = sym (ap (λ x. goes_on_after x returns) e) ∙ h in let r : ⊥ = cc in absurd r
 
   -- a call with a word right behind it
-  across_is : (w : Word) (s : Step) (c : ℕ) → IsStepOf words k v w s → s ≡ Call (Some c) true → (h : ℕ) × StandsAt words c h × (w ≡ CallOf h) × StandsAt words (k + 1) (v + 4)
+  across_is : (w : Word) (s : Step) (c : ℕ) → IsStepOf words k v w s → s ≡ Call (Some c) true → (h : ℕ) × WordStandsAt words c h × (w ≡ CallOf h) × WordStandsAt words (k + 1) (v + 4)
   across_is w s c is h =
-      let q = callee_is w s c is (ap callee_of h) in
+      let q = callee_is w s c is (ap called_word h) in
       let call : IsStepOf words k v (CallOf q.0) s = subst (λ x. IsStepOf words k v x s) q.2 is in
       (q.0, q.1, q.2, go q.0 call)
     where
-      go : (to : ℕ) → IsStepOf words k v (CallOf to) s → StandsAt words (k + 1) (v + 4)
+      go : (to : ℕ) → IsStepOf words k v (CallOf to) s → WordStandsAt words (k + 1) (v + 4)
       go to (o, b, e, at, f) = let same : Call o b ≡ Call (Some c) true = sym e ∙ h in let yes : b ≡ true = cc in f.0 yes
 
   -- ---- from a word to its step
-  pub step_leads : (w : Word) (s : Step) (j u : ℕ) → (StandsAt words j (v + 4) → j ≡ k + 1) → IsStepOf words k v w s → LeadsTo w v u → StandsAt words j u →
+  pub step_leads : (w : Word) (s : Step) (j u : ℕ) → (WordStandsAt words j (v + 4) → j ≡ k + 1) → IsStepOf words k v w s → LeadsTo w v u → WordStandsAt words j u →
       ((b : Bool) × (s ≡ On (Some j) b)) ⊎ ((j ≡ k + 1) × ((o : Option ℕ) × (s ≡ On o true)))
-  step_leads (Branch to) s j u next (o, b, e, at, f) (inl same) there = inl (b, e ∙ ap (λ x. On x b) ((at j).1 (subst (λ x. StandsAt words j x) same there)))
+  step_leads (Branch to) s j u next (o, b, e, at, f) (inl same) there = inl (b, e ∙ ap (λ x. On x b) ((at j).1 (subst (λ x. WordStandsAt words j x) same there)))
   step_leads (Branch to) s j u next (o, b, e, at, f) (inr same) there =
-      let four = subst (λ x. StandsAt words j x) same there in
+      let four = subst (λ x. WordStandsAt words j x) same there in
       let place = next four in
-      inr (place, (o, e ∙ ap (λ x. On o x) (f.1 (subst (λ i. StandsAt words i (v + 4)) place four))))
-  step_leads (Goto to) s j u next (o, e, at) same there = inl (false, e ∙ ap (λ x. On x false) ((at j).1 (subst (λ x. StandsAt words j x) same there)))
+      inr (place, (o, e ∙ ap (λ x. On o x) (f.1 (subst (λ i. WordStandsAt words i (v + 4)) place four))))
+  step_leads (Goto to) s j u next (o, e, at) same there = inl (false, e ∙ ap (λ x. On x false) ((at j).1 (subst (λ x. WordStandsAt words j x) same there)))
   step_leads (CallOf to) s j u next is leads there = absurd leads
   step_leads Back s j u next is leads there = absurd leads
   step_leads Ends s j u next is leads there = absurd leads
   step_leads MayEnd s j u next (b, e, f) same there =
-      let four = subst (λ x. StandsAt words j x) same there in
+      let four = subst (λ x. WordStandsAt words j x) same there in
       let place = next four in
-      inr (place, (None, e ∙ ap (λ x. On None x) (f.1 (subst (λ i. StandsAt words i (v + 4)) place four))))
+      inr (place, (None, e ∙ ap (λ x. On None x) (f.1 (subst (λ i. WordStandsAt words i (v + 4)) place four))))
   step_leads Breaks s j u next is leads there = absurd leads
   step_leads Straight s j u next (b, e, f) same there =
-      let four = subst (λ x. StandsAt words j x) same there in
+      let four = subst (λ x. WordStandsAt words j x) same there in
       let place = next four in
-      inr (place, (None, e ∙ ap (λ x. On None x) (f.1 (subst (λ i. StandsAt words i (v + 4)) place four))))
+      inr (place, (None, e ∙ ap (λ x. On None x) (f.1 (subst (λ i. WordStandsAt words i (v + 4)) place four))))
   step_leads Bad s j u next is leads there = absurd leads
 
-  pub step_calls : (w : Word) (s : Step) (h c : ℕ) → IsStepOf words k v w s → w ≡ CallOf h → StandsAt words c h → (b : Bool) × (s ≡ Call (Some c) b) × IsFollowed words k v b
+  pub step_calls : (w : Word) (s : Step) (h c : ℕ) → IsStepOf words k v w s → w ≡ CallOf h → WordStandsAt words c h → (b : Bool) × (s ≡ Call (Some c) b) × HasNextWord words k v b
   step_calls w s h c is calls there = go (subst (λ x. IsStepOf words k v x s) calls is)
     where
-      go : IsStepOf words k v (CallOf h) s → (b : Bool) × (s ≡ Call (Some c) b) × IsFollowed words k v b
+      go : IsStepOf words k v (CallOf h) s → (b : Bool) × (s ≡ Call (Some c) b) × HasNextWord words k v b
       go (o, b, e, at, f) = (b, e ∙ ap (λ x. Call x b) ((at c).1 there), f)
 
-module _ (word : ℕ → Word) (words : WordTable) (steps : List Step) (table : IsTableOf word words) (are : AreSteps words steps) where
-  pub within : (k v : ℕ) → StandsAt words k v → k < length steps
+module _ (word : ℕ → Word) (words : WordTable) (steps : List Step) (table : IsWordTableOf word words) (are : AreSteps words steps) where
+  pub within : (k v : ℕ) → WordStandsAt words k v → k < length steps
   within k v at = let lt = slice_get_within words.addresses k v at in let size = are.size in omega (arith, lt, size)
 
-  pub same_word : (i j v : ℕ) → StandsAt words i v → StandsAt words j v → i ≡ j
+  pub same_word : (i j v : ℕ) → WordStandsAt words i v → WordStandsAt words j v → i ≡ j
   same_word i j v a b = one_place words.addresses table.rising i j v a b
 
-  pub next_word : (k j v : ℕ) → StandsAt words k v → StandsAt words j (v + 4) → j ≡ k + 1
+  pub next_word : (k j v : ℕ) → WordStandsAt words k v → WordStandsAt words j (v + 4) → j ≡ k + 1
   next_word k j v a b = next_place words.addresses table.rising table.aligned k j v a b
 
-  pub step_of : (k v : ℕ) → StandsAt words k v → IsStepOf words k v (word v) (step_at steps k)
+  pub step_of : (k v : ℕ) → WordStandsAt words k v → IsStepOf words k v (word v) (step_at steps k)
   step_of k v at = are.each k (slice_get_within words.addresses k v at) v (word v) at (table.kinds k v at)
 
   -- a word at an address that is not refused
-  pub number_of : (v : ℕ) → (word v ≡ Bad → ⊥) → (k : ℕ) × StandsAt words k v
+  pub number_of : (v : ℕ) → (word v ≡ Bad → ⊥) → (k : ℕ) × WordStandsAt words k v
   number_of v good = ⊎_elim (λ bad. absurd (good bad)) (λ at. at) (table.whole v)
 
-  pub can_return : (k : ℕ) → CanReturnAt steps k → (v : ℕ) → StandsAt words k v → CanReturn word v
+  pub can_return : (k : ℕ) → CanReturnAt steps k → (v : ℕ) → WordStandsAt words k v → CanReturn word v
   can_return k (here_at lt e) v at = here (return_is words k v (word v) (step_at steps k) (step_of k v at) e)
   can_return k (jumps_at j next lt e can) v at =
-      let q = jump_leads words k v (word v) (step_at steps k) j (step_of k v at) (ap jump_of e) in
+      let q = jump_leads words k v (word v) (step_at steps k) j (step_of k v at) (ap jumped_word e) in
       onward q.0 q.2 (can_return j can q.0 q.1)
   can_return k (goes_at jump lt e can) v at =
-      let q = next_leads words k v [] (word v) (step_at steps k) (step_of k v at) (ap (λ x. follows x []) e) in
+      let q = next_leads words k v [] (word v) (step_at steps k) (step_of k v at) (ap (λ x. goes_on_after x []) e) in
       ⊎_elim (λ leads. onward (v + 4) leads (can_return (k + 1) can (v + 4) q.0)) (λ comes. (let bad : false ≡ true = comes.4 in let r : ⊥ = cc in absurd r)) q.1
   can_return k (across_at c lt e can behind) v at =
       let q = across_is words k v (word v) (step_at steps k) c (step_of k v at) e in
       across q.0 q.2 (can_return c can q.0 q.1) (can_return (k + 1) behind (v + 4) q.3)
 
-  pub can_return_at : (v : ℕ) → CanReturn word v → (k : ℕ) → StandsAt words k v → CanReturnAt steps k
+  pub can_return_at : (v : ℕ) → CanReturn word v → (k : ℕ) → WordStandsAt words k v → CanReturnAt steps k
   can_return_at v (here e) k at =
       let is : IsStepOf words k v Back (step_at steps k) = subst (λ w. IsStepOf words k v w (step_at steps k)) e (step_of k v at) in
       here_at (within k v at) is
@@ -157,7 +157,7 @@ module _ (word : ℕ → Word) (words : WordTable) (steps : List Step) (table : 
       let j = number_of (v + 4) (never_bad word (v + 4) behind) in
       let place = next_word k j.0 v at j.1 in
       let s = step_calls words k v (word v) (step_at steps k) h c.0 (step_of k v at) calls c.1 in
-      let yes = s.2.1 (subst (λ i. StandsAt words i (v + 4)) place j.1) in
+      let yes = s.2.1 (subst (λ i. WordStandsAt words i (v + 4)) place j.1) in
       across_at c.0 (within k v at) (s.1 ∙ ap (λ b. Call (Some c.0) b) yes) (can_return_at h can c.0 c.1) (subst (λ i. CanReturnAt steps i) place (can_return_at (v + 4) behind j.0 j.1))
 
 -- ---- the steps one by one

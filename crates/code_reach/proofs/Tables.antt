@@ -10,10 +10,10 @@ use Rattle.text_laws.proofs.Laws.{IsTextRange, text_ranges_kept}
 use Rattle.cost_theory.specs.declared.edges.Word.{Word}
 use Rattle.cost_theory.specs.declared.edges.Word.TheVariants.{Bad}
 use Rattle.cost_theory.proofs.Laws.{Within, get_within, within_get, flat_within, within_flat}
-use Rattle.graph_runs.specs.Text.{Text, text_of, kind_at, in_text}
+use Rattle.graph_runs.specs.Text.{Text, text_of, kind_at, is_text_address}
 use Rattle.code_text.specs.Table.{WordTable, word_addresses, all_addresses, word_table}
 use Rattle.code_text.specs.Walk.{RiseStrictly}
-use Rattle.code_reach.specs.Steps.{IsTableOf, IsWordAt}
+use Rattle.code_reach.specs.Steps.{IsWordTableOf, IsWordNumber}
 use Rattle.code_reach.proofs.Places.{all_within, any_within, map_within, within_map, range_within, within_range, few_below}
 
 -- a word of a range
@@ -46,24 +46,24 @@ module _ (t : Text) (are : All IsTextRange t.ranges) where
       let w = within_flat word_addresses t.ranges v (get_within (all_addresses t.ranges) k v at) in
       word_in w.0 v (all_within IsTextRange t.ranges w.0 are w.1) w.2
 
-  found : (v : ℕ) → ((v % 4 == 0) && in_text t v) ≡ true → (k : ℕ) × (slice_get (all_addresses t.ranges) k ≡ Some v)
+  found : (v : ℕ) → ((v % 4 == 0) && is_text_address t v) ≡ true → (k : ℕ) × (slice_get (all_addresses t.ranges) k ≡ Some v)
   found v h =
-      let p = and_parts (v % 4 == 0) (in_text t v) h in
+      let p = and_parts (v % 4 == 0) (is_text_address t v) h in
       let w = any_within (λ r. is_in v r) t.ranges p.1 in
       within_get (all_addresses t.ranges) v (flat_within word_addresses t.ranges w.0 v w.1 (in_word w.0 v (all_within IsTextRange t.ranges w.0 are w.1) (eqb-true (v % 4) 0 p.0) w.2))
 
   whole : (v : ℕ) → (kind_at t v ≡ Bad) ⊎ ((k : ℕ) × (slice_get (all_addresses t.ranges) k ≡ Some v))
   unfolding kind_at
-  whole v = go ((v % 4 == 0) && in_text t v) refl
+  whole v = go ((v % 4 == 0) && is_text_address t v) refl
     where
-      go : (b : Bool) → ((v % 4 == 0) && in_text t v) ≡ b → (kind_at t v ≡ Bad) ⊎ ((k : ℕ) × (slice_get (all_addresses t.ranges) k ≡ Some v))
+      go : (b : Bool) → ((v % 4 == 0) && is_text_address t v) ≡ b → (kind_at t v ≡ Bad) ⊎ ((k : ℕ) × (slice_get (all_addresses t.ranges) k ≡ Some v))
       go true e = inr (found v e)
       go false e = inl (cond-false _ _ _ e)
 
   each_kind : (k v : ℕ) → slice_get (all_addresses t.ranges) k ≡ Some v → slice_get (map (kind_at t) (all_addresses t.ranges)) k ≡ Some (kind_at t v)
   each_kind k v at = slice_get-map (kind_at t) (all_addresses t.ranges) k ∙ rw at refl
 
-  table : RiseStrictly (all_addresses t.ranges) → IsTableOf (kind_at t) (word_table t)
+  table : RiseStrictly (all_addresses t.ranges) → IsWordTableOf (kind_at t) (word_table t)
   table rise = record {
     rising = rise;
     aligned = λ k v at. (each_word k v at).0;
@@ -73,7 +73,7 @@ module _ (t : Text) (are : All IsTextRange t.ranges) where
   }
 
 -- the table of the text of an image
-pub text_table : (file : List ℕ) (image : Image) → image_of file ≡ Ok image → RiseStrictly (all_addresses image.text) → IsTableOf (kind_at (text_of image)) (word_table (text_of image))
+pub text_table : (file : List ℕ) (image : Image) → image_of file ≡ Ok image → RiseStrictly (all_addresses image.text) → IsWordTableOf (kind_at (text_of image)) (word_table (text_of image))
 text_table file image e rise = table (text_of image) (text_ranges_kept file image e) rise
 
 pub if_ok-map : {X E : Type 0} (r : Result X E) (P Q : X → Type 0) → ((x : X) → P x → Q x) → IfOk r P → IfOk r Q
@@ -81,9 +81,9 @@ if_ok-map (Ok x) P Q f p = f x p
 if_ok-map (Err e) P Q f p = p
 
 -- ---- few words, and the number of one
-pub few_words : (word : ℕ → Word) (words : WordTable) → IsTableOf word words → length words.addresses < 2 ^ 32
+pub few_words : (word : ℕ → Word) (words : WordTable) → IsWordTableOf word words → length words.addresses < 2 ^ 32
 few_words word words table = let few = few_below words.addresses table.rising 0xFF000000 table.low in omega (arith, few)
 
-pub number_within : (words : WordTable) (v n : ℕ) (o : Option ℕ) → IsWordAt words v o → n ≡ length words.addresses → IfSome o (λ k. k < n)
+pub number_within : (words : WordTable) (v n : ℕ) (o : Option ℕ) → IsWordNumber words v o → n ≡ length words.addresses → IfSome o (λ k. k < n)
 number_within words v n None is e = tt
 number_within words v n (Some k) is e = let lt = slice_get_within words.addresses k v ((is k).0 refl) in omega (arith, lt, e)

@@ -7,30 +7,30 @@ use Rattle.code_text.specs.Table.{WordTable}
 use Rattle.flow_passes.specs.declared.marks.Mark.{Mark}
 use Rattle.flow_passes.specs.declared.marks.Mark.TheVariants.{Unreached, Owner, Shared}
 use Rattle.flow_passes.specs.Flow.{flag}
-use Rattle.code_reach.specs.Reach.{StandsAt}
+use Rattle.code_reach.specs.Reach.{WordStandsAt}
 
 abbrev pub lower_of : Option ℕ → Option ℕ → Option ℕ
 lower_of None b = b
 lower_of (Some a) None = Some a
 lower_of (Some a) (Some b) = Some (min a b)
 
-abbrev pub is_marked : Mark → Bool
-is_marked Unreached = false
-is_marked (Owner f) = true
-is_marked Shared = true
+abbrev pub has_mark : Mark → Bool
+has_mark Unreached = false
+has_mark (Owner f) = true
+has_mark Shared = true
 
 -- the lowest of the numbers of which P holds, if there is one
-pub record IsLeast (P : ℕ → Type 0) (o : Option ℕ) : Type 0 where
+pub record IsLowest (P : ℕ → Type 0) (o : Option ℕ) : Type 0 where
   pub holds : (u : ℕ) → o ≡ Some u → P u
   pub least : (v : ℕ) → P v → (u : ℕ) × (o ≡ Some u) × (u ≤ v)
 
 -- no word stands at u
 abbrev pub IsOutsideOf : WordTable → ℕ → Type 0
-IsOutsideOf words u = (k : ℕ) → StandsAt words k u → ⊥
+IsOutsideOf words u = (k : ℕ) → WordStandsAt words k u → ⊥
 
 -- u is four behind a call at v of a word from which a return can come
 abbrev pub ComesBackTo : WordTable → List Bool → Word → ℕ → ℕ → Type 0
-ComesBackTo words returns w v u = (h : ℕ) × (c : ℕ) × (w ≡ CallOf h) × StandsAt words c h × (flag returns c ≡ true) × (u ≡ v + 4)
+ComesBackTo words returns w v u = (h : ℕ) × (c : ℕ) × (w ≡ CallOf h) × WordStandsAt words c h × (flag returns c ≡ true) × (u ≡ v + 4)
 
 -- where the way goes on from a word at v: over jumps and next words, into a function that it calls, and behind a call that comes back
 abbrev pub GoesOnTo : WordTable → List Bool → Word → ℕ → ℕ → Type 0
@@ -38,8 +38,8 @@ GoesOnTo words returns w v u = LeadsTo w v u ⊎ (w ≡ CallOf u) ⊎ ComesBackT
 
 -- it goes on there from word k
 abbrev pub GoesOnFrom : WordTable → List Bool → ℕ → ℕ → Type 0
-GoesOnFrom words returns k u = (v : ℕ) × (w : Word) × StandsAt words k v × (slice_get words.kinds k ≡ Some w) × GoesOnTo words returns w v u
+GoesOnFrom words returns k u = (v : ℕ) × (w : Word) × WordStandsAt words k v × (slice_get words.kinds k ≡ Some w) × GoesOnTo words returns w v u
 
 -- the program begins at u, or the way goes on there from one of the reached words below n
 abbrev pub IsComeTo : WordTable → List Bool → List Mark → ℕ → ℕ → ℕ → Type 0
-IsComeTo words returns marks entry n u = (u ≡ entry) ⊎ ((k : ℕ) × (k < n) × (is_marked (slice_index_or marks k Unreached) ≡ true) × GoesOnFrom words returns k u)
+IsComeTo words returns marks entry n u = (u ≡ entry) ⊎ ((k : ℕ) × (k < n) × (has_mark (slice_index_or marks k Unreached) ≡ true) × GoesOnFrom words returns k u)

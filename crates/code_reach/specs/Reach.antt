@@ -16,8 +16,8 @@ abbrev pub IsShared : Text → ℕ → Type 0
 IsShared t v = (f : ℕ) × (h : ℕ) × (f ≢ h) × Reached (kind_at t) t.entry f v × Reached (kind_at t) t.entry h v
 
 -- word k stands at an address
-abbrev pub StandsAt : WordTable → ℕ → ℕ → Type 0
-StandsAt words k v = slice_get words.addresses k ≡ Some v
+abbrev pub WordStandsAt : WordTable → ℕ → ℕ → Type 0
+WordStandsAt words k v = slice_get words.addresses k ≡ Some v
 
 -- what is known of the words of a text by a pass over them
 pub record Reach : Type 0 where
@@ -38,14 +38,14 @@ pub record IsReachOf (t : Text) (r : Reach) : Type 0 where
   pub returning_size : length r.returning ≡ length r.words.addresses
   pub marks_size : length r.marks ≡ length r.words.addresses
   pub numbers_size : length r.numbers ≡ length r.words.addresses
-  pub unreached : (k v : ℕ) → StandsAt r.words k v → slice_get r.marks k ≡ Some Unreached → IsReached t v → ⊥
-  pub owner : (k v f : ℕ) → StandsAt r.words k v → slice_get r.marks k ≡ Some (Owner f) →
-      (h : ℕ) × StandsAt r.words f h × Reached (kind_at t) t.entry h v × ((g : ℕ) → Reached (kind_at t) t.entry g v → g ≡ h)
-  pub shared : (k v : ℕ) → StandsAt r.words k v → slice_get r.marks k ≡ Some Shared → IsShared t v
-  pub functions : (k v : ℕ) → StandsAt r.words k v → ((i : ℕ) × (slice_get r.functions i ≡ Some k)) ↔ Reached (kind_at t) t.entry v v
-  pub functions_within : (i k : ℕ) → slice_get r.functions i ≡ Some k → (v : ℕ) × StandsAt r.words k v
-  pub first : (k : ℕ) → StandsAt r.words k t.entry → slice_get r.functions 0 ≡ Some k
+  pub unreached : (k v : ℕ) → WordStandsAt r.words k v → slice_get r.marks k ≡ Some Unreached → IsReached t v → ⊥
+  pub owner : (k v f : ℕ) → WordStandsAt r.words k v → slice_get r.marks k ≡ Some (Owner f) →
+      (h : ℕ) × WordStandsAt r.words f h × Reached (kind_at t) t.entry h v × ((g : ℕ) → Reached (kind_at t) t.entry g v → g ≡ h)
+  pub shared : (k v : ℕ) → WordStandsAt r.words k v → slice_get r.marks k ≡ Some Shared → IsShared t v
+  pub functions : (k v : ℕ) → WordStandsAt r.words k v → ((i : ℕ) × (slice_get r.functions i ≡ Some k)) ↔ Reached (kind_at t) t.entry v v
+  pub functions_within : (i k : ℕ) → slice_get r.functions i ≡ Some k → (v : ℕ) × WordStandsAt r.words k v
+  pub first : (k : ℕ) → WordStandsAt r.words k t.entry → slice_get r.functions 0 ≡ Some k
   pub numbers : (k i : ℕ) → (slice_get r.numbers k ≡ Some (Some i)) ↔ (slice_get r.functions i ≡ Some k)
-  pub returns : (k v : ℕ) → StandsAt r.words k v → Reached (kind_at t) t.entry v v → (slice_get r.returning k ≡ Some true) ↔ DoesReturn (kind_at t) t.entry v
-  pub outside : (v : ℕ) → r.outside ≡ Some v → IsReached t v × ((k : ℕ) → StandsAt r.words k v → ⊥)
-  pub outside_least : (v : ℕ) → IsReached t v → ((k : ℕ) → StandsAt r.words k v → ⊥) → (u : ℕ) × (r.outside ≡ Some u) × (u ≤ v)
+  pub returns : (k v : ℕ) → WordStandsAt r.words k v → Reached (kind_at t) t.entry v v → (slice_get r.returning k ≡ Some true) ↔ DoesReturn (kind_at t) t.entry v
+  pub outside : (v : ℕ) → r.outside ≡ Some v → IsReached t v × ((k : ℕ) → WordStandsAt r.words k v → ⊥)
+  pub outside_least : (v : ℕ) → IsReached t v → ((k : ℕ) → WordStandsAt r.words k v → ⊥) → (u : ℕ) × (r.outside ≡ Some u) × (u ≤ v)

@@ -10,43 +10,43 @@ use Rattle.flow_passes.specs.declared.marks.Mark.{Mark}
 use Rattle.flow_passes.specs.declared.marks.Mark.TheVariants.{Unreached, Owner, Shared}
 use Rattle.flow_passes.specs.Flow.{step_at}
 use Rattle.flow_passes.specs.Marks.{ReachedAt}
-use Rattle.code_reach.specs.Reach.{StandsAt}
+use Rattle.code_reach.specs.Reach.{WordStandsAt}
 
 -- no word stands where four more would wrap
 abbrev pub AreLow : List ℕ → Type 0
 AreLow addresses = (k v : ℕ) → slice_get addresses k ≡ Some v → v < 0xFF000000
 
 -- The table has the words of a text, of which `word` says the way on: they ascend, stand at multiples of 4, and each address that is not refused is one of theirs.
-pub record IsTableOf (word : ℕ → Word) (words : WordTable) : Type 0 where
+pub record IsWordTableOf (word : ℕ → Word) (words : WordTable) : Type 0 where
   pub rising : RiseStrictly words.addresses
-  pub aligned : (k v : ℕ) → StandsAt words k v → v % 4 ≡ 0
+  pub aligned : (k v : ℕ) → WordStandsAt words k v → v % 4 ≡ 0
   pub low : AreLow words.addresses
-  pub kinds : (k v : ℕ) → StandsAt words k v → slice_get words.kinds k ≡ Some (word v)
-  pub whole : (v : ℕ) → (word v ≡ Bad) ⊎ ((k : ℕ) × StandsAt words k v)
+  pub kinds : (k v : ℕ) → WordStandsAt words k v → slice_get words.kinds k ≡ Some (word v)
+  pub whole : (v : ℕ) → (word v ≡ Bad) ⊎ ((k : ℕ) × WordStandsAt words k v)
 
 -- o is the number of the word at v, if one stands there
-abbrev pub IsWordAt : WordTable → ℕ → Option ℕ → Type 0
-IsWordAt words v o = (k : ℕ) → (o ≡ Some k) ↔ StandsAt words k v
+abbrev pub IsWordNumber : WordTable → ℕ → Option ℕ → Type 0
+IsWordNumber words v o = (k : ℕ) → (o ≡ Some k) ↔ WordStandsAt words k v
 
 -- whether word k + 1 stands right behind word k, which stands at v
-abbrev pub IsFollowed : WordTable → ℕ → ℕ → Bool → Type 0
-IsFollowed words k v b = (b ≡ true) ↔ StandsAt words (k + 1) (v + 4)
+abbrev pub HasNextWord : WordTable → ℕ → ℕ → Bool → Type 0
+HasNextWord words k v b = (b ≡ true) ↔ WordStandsAt words (k + 1) (v + 4)
 
 -- the step of word k at v, by what it says of the way on
 abbrev pub IsStepOf : WordTable → ℕ → ℕ → Word → Step → Type 0
-IsStepOf words k v (Branch to) s = (o : Option ℕ) × (b : Bool) × (s ≡ On o b) × IsWordAt words to o × IsFollowed words k v b
-IsStepOf words k v (Goto to) s = (o : Option ℕ) × (s ≡ On o false) × IsWordAt words to o
-IsStepOf words k v (CallOf to) s = (o : Option ℕ) × (b : Bool) × (s ≡ Call o b) × IsWordAt words to o × IsFollowed words k v b
+IsStepOf words k v (Branch to) s = (o : Option ℕ) × (b : Bool) × (s ≡ On o b) × IsWordNumber words to o × HasNextWord words k v b
+IsStepOf words k v (Goto to) s = (o : Option ℕ) × (s ≡ On o false) × IsWordNumber words to o
+IsStepOf words k v (CallOf to) s = (o : Option ℕ) × (b : Bool) × (s ≡ Call o b) × IsWordNumber words to o × HasNextWord words k v b
 IsStepOf words k v Back s = s ≡ Return
 IsStepOf words k v Ends s = s ≡ Stop
-IsStepOf words k v MayEnd s = (b : Bool) × (s ≡ On None b) × IsFollowed words k v b
+IsStepOf words k v MayEnd s = (b : Bool) × (s ≡ On None b) × HasNextWord words k v b
 IsStepOf words k v Breaks s = s ≡ Stop
-IsStepOf words k v Straight s = (b : Bool) × (s ≡ On None b) × IsFollowed words k v b
+IsStepOf words k v Straight s = (b : Bool) × (s ≡ On None b) × HasNextWord words k v b
 IsStepOf words k v Bad s = s ≡ Stop
 
 -- the step of word k
 abbrev pub IsStepAt : WordTable → ℕ → Step → Type 0
-IsStepAt words k s = (v : ℕ) (w : Word) → StandsAt words k v → slice_get words.kinds k ≡ Some w → IsStepOf words k v w s
+IsStepAt words k s = (v : ℕ) (w : Word) → WordStandsAt words k v → slice_get words.kinds k ≡ Some w → IsStepOf words k v w s
 
 -- each word's step
 pub record AreSteps (words : WordTable) (steps : List Step) : Type 0 where
@@ -59,7 +59,7 @@ ReachedFrom steps returns None f v = ⊥
 ReachedFrom steps returns (Some first) f v = ReachedAt steps returns first f v
 
 -- the functions in which words are reached from there, and the place of each function in the list of functions
-pub record IsMarked (steps : List Step) (returns : List Bool) (entry : Option ℕ) (marks : List Mark) (functions : List ℕ) (numbers : List (Option ℕ)) : Type 0 where
+pub record AreReachMarks (steps : List Step) (returns : List Bool) (entry : Option ℕ) (marks : List Mark) (functions : List ℕ) (numbers : List (Option ℕ)) : Type 0 where
   pub marks_size : length marks ≡ length steps
   pub numbers_size : length numbers ≡ length steps
   pub unreached : (v f : ℕ) → slice_get marks v ≡ Some Unreached → ReachedFrom steps returns entry f v → ⊥

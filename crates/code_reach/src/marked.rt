@@ -1,7 +1,7 @@
 //! In which functions the words of a text are reached.
 
 ghost use Rattle.std.specs.Prelude.{◌^◌, ◌<◌, Bool, IfOk, IfSome, List, None, length};
-ghost use Rattle.code_reach.specs.Steps.{IsMarked};
+ghost use Rattle.code_reach.specs.Steps.{AreReachMarks};
 
 use flow_passes::{Mark, Step, mark_words};
 use scale_base::NoMemory;
@@ -20,7 +20,7 @@ pub struct Marked {
 
 /// No word is reached, since the program begins at none.
 fn none_marked(alloc: Global, steps: &[Step]) -> Result<Marked, NoMemory>
-    ensures { IfOk result (λ m. (returns : List Bool) → IsMarked steps.now returns None m.marks.items m.functions.items m.numbers.items) }
+    ensures { IfOk result (λ m. (returns : List Bool) → AreReachMarks steps.now returns None m.marks.items m.functions.items m.numbers.items) }
 {
     Ok(Marked {
         marks: vec![in alloc; Mark::Unreached; steps.len()]?,
@@ -38,7 +38,7 @@ pub fn mark_from(
 ) -> Result<Marked, NoMemory>
     requires within { IfSome entry (λ e. e < length steps.now) }
     requires room { length steps.now < 2 ^ 32 }
-    ensures { IfOk result (λ m. IsMarked steps.now returning.now entry m.marks.items m.functions.items m.numbers.items) }
+    ensures { IfOk result (λ m. AreReachMarks steps.now returning.now entry m.marks.items m.functions.items m.numbers.items) }
 {
     match entry {
         Some(entry) => {

@@ -2,7 +2,7 @@
 
 ghost use Rattle.std.specs.Prelude.{◌≡◌, ◌<◌, ◌⊎◌, length};
 ghost use Rattle.cost_theory.specs.declared.edges.Word.TheVariants.{CallOf};
-ghost use Rattle.code_reach.specs.Outside.{lower_of, is_marked, IsLeast, IsOutsideOf, ComesBackTo, GoesOnFrom, IsComeTo};
+ghost use Rattle.code_reach.specs.Outside.{lower_of, has_mark, IsLowest, IsOutsideOf, ComesBackTo, GoesOnFrom, IsComeTo};
 ghost use Rattle.code_reach.specs.Steps.{AreLow};
 
 use code_text::TextWords;
@@ -22,7 +22,7 @@ fn lower(a: Option<u32>, b: Option<u32>) -> Option<u32>
 
 /// The address, if no word stands there.
 fn if_outside(words: &TextWords, at: u32) -> Option<u32>
-    ensures { IsLeast (λ u. (u ≡ at) × IsOutsideOf words.now u) result }
+    ensures { IsLowest (λ u. (u ≡ at) × IsOutsideOf words.now u) result }
 {
     match words.find(at) {
         Some(_) => None,
@@ -34,7 +34,7 @@ fn if_outside(words: &TextWords, at: u32) -> Option<u32>
 fn called_outside(words: &TextWords, returning: &[bool], at: u32, to: u32) -> Option<u32>
     requires low { at < 0xFF000000 }
     requires size { length returning.now ≡ length words.now.addresses }
-    ensures { IsLeast (λ u. ((u ≡ to) ⊎ ComesBackTo words.now returning.now (CallOf to) at u) × IsOutsideOf words.now u) result }
+    ensures { IsLowest (λ u. ((u ≡ to) ⊎ ComesBackTo words.now returning.now (CallOf to) at u) × IsOutsideOf words.now u) result }
 {
     match words.find(to) {
         Some(callee) => {
@@ -53,7 +53,7 @@ fn left_from(words: &TextWords, returning: &[bool], k: usize) -> Option<u32>
     requires within { k < length words.now.addresses }
     requires low { AreLow words.now.addresses }
     requires size { length returning.now ≡ length words.now.addresses }
-    ensures { IsLeast (λ u. GoesOnFrom words.now returning.now k u × IsOutsideOf words.now u) result }
+    ensures { IsLowest (λ u. GoesOnFrom words.now returning.now k u × IsOutsideOf words.now u) result }
 {
     let at = words.address(k);
     match words.kind(k) {
@@ -66,7 +66,7 @@ fn left_from(words: &TextWords, returning: &[bool], k: usize) -> Option<u32>
 }
 
 fn is_reached(mark: Mark) -> bool
-    ensures { result ≡ is_marked mark }
+    ensures { result ≡ has_mark mark }
 {
     match mark {
         Mark::Unreached => false,
@@ -84,7 +84,7 @@ pub fn lowest_outside(
     requires low { AreLow words.now.addresses }
     requires returning_size { length returning.now ≡ length words.now.addresses }
     requires marks_size { length marks.now ≡ length words.now.addresses }
-    ensures { IsLeast (λ u. IsComeTo words.now returning.now marks.now entry (length words.now.addresses) u × IsOutsideOf words.now u) result }
+    ensures { IsLowest (λ u. IsComeTo words.now returning.now marks.now entry (length words.now.addresses) u × IsOutsideOf words.now u) result }
 {
     let mut lowest = if_outside(words, entry);
     for k in 0..words.count() {

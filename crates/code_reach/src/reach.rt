@@ -3,7 +3,7 @@
 ghost use Rattle.std.specs.Prelude.{◌≡◌, IfOk};
 ghost use Rattle.graph_runs.specs.Text.{text_of, kind_at};
 ghost use Rattle.code_text.specs.Table.{word_table};
-ghost use Rattle.code_reach.specs.Steps.{IsTableOf};
+ghost use Rattle.code_reach.specs.Steps.{IsWordTableOf};
 ghost use Rattle.code_reach.specs.Reach.{Reach, IsReachOf};
 
 use crate::marked::mark_from;
@@ -34,7 +34,7 @@ pub struct TextReach {
 /// The words of an image's text.
 fn words_of(alloc: Global, view: &ImageView<'_>) -> Result<TextWords, NoMemory>
     ensures words { IfOk result (λ words. words ≡ word_table (text_of view.now)) }
-    ensures table { IfOk result (λ words. IsTableOf (kind_at (text_of view.now)) words) }
+    ensures table { IfOk result (λ words. IsWordTableOf (kind_at (text_of view.now)) words) }
 {
     // The ranges of a text ascend, and begin and end at multiples of 4.
     let _ranges = view.text();

@@ -1,8 +1,8 @@
 //! Where each word of a text goes on, by the numbers of words.
 
 ghost use Rattle.std.specs.Prelude.{ℕ, ◌<◌, IfOk, length};
-ghost use Rattle.code_reach.specs.Reach.{StandsAt};
-ghost use Rattle.code_reach.specs.Steps.{AreLow, IsFollowed, IsStepAt, AreSteps};
+ghost use Rattle.code_reach.specs.Reach.{WordStandsAt};
+ghost use Rattle.code_reach.specs.Steps.{AreLow, HasNextWord, IsStepAt, AreSteps};
 
 use code_text::TextWords;
 use cost_theory::Word;
@@ -14,7 +14,7 @@ use std::alloc::Global;
 fn has_next(words: &TextWords, k: usize) -> bool
     requires within { k < length words.now.addresses }
     requires low { AreLow words.now.addresses }
-    ensures { (v : ℕ) → StandsAt words.now k v → IsFollowed words.now k v result }
+    ensures { (v : ℕ) → WordStandsAt words.now k v → HasNextWord words.now k v result }
 {
     words.count() > k + 1 && words.address(k + 1) == words.address(k) + 4
 }

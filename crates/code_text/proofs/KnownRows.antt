@@ -6,13 +6,13 @@ use Rattle.std.proofs.lemmas.Bool.{and_parts, and_from, or_parts, cond-true, con
 use Rattle.scale_base.specs.declared.ranges.Range.{Range}
 use Rattle.scale_base.specs.Image.{Image, is_in, is_word_address}
 use Rattle.graph_runs.specs.Text.{Text, text_of, instr_at, is_target, follows, known_behind, known_within}
-use Rattle.code_text.specs.Walk.{IsWalked, AreTargets}
+use Rattle.code_text.specs.Walk.{IsWalked, AreTargetsOf}
 
 -- no jump may come to the address, and a word stands right before it
 abbrev pub is_shut : Range → List ℕ → ℕ → Bool
 is_shut r targets v = list_any (λ u. u == v) targets || not (nat_le (r.from + 4) v)
 
-shut_is : (image : Image) (r : Range) (targets : List ℕ) (v : ℕ) → IsWalked image r → AreTargets (text_of image) targets → is_in v r ≡ true →
+shut_is : (image : Image) (r : Range) (targets : List ℕ) (v : ℕ) → IsWalked image r → AreTargetsOf (text_of image) targets → is_in v r ≡ true →
     is_shut r targets v ≡ (is_target (text_of image) v || not (follows (text_of image) v))
 shut_is image r targets v w ts here =
     ap (λ b. b || not (nat_le (r.from + 4) v)) (sym (ts v)) ∙ ap (λ b. is_target (text_of image) v || not b) (sym (w.follows v here))
@@ -30,12 +30,12 @@ open_more : (t : Text) (n v : ℕ) → (is_target t v || not (follows t v)) ≡ 
 unfolding known_within
 open_more t n v h = cond-false _ _ _ h
 
-pub known_shut : (image : Image) (r : Range) (targets : List ℕ) (n v : ℕ) → IsWalked image r → AreTargets (text_of image) targets → is_in v r ≡ true → is_shut r targets v ≡ true →
+pub known_shut : (image : Image) (r : Range) (targets : List ℕ) (n v : ℕ) → IsWalked image r → AreTargetsOf (text_of image) targets → is_in v r ≡ true → is_shut r targets v ≡ true →
     known_within (text_of image) n v ≡ None
 known_shut image r targets n v w ts here h = shut_none (text_of image) n v (sym (shut_is image r targets v w ts here) ∙ h)
 
 -- the answer, by the word before
-pub known_open : (image : Image) (r : Range) (targets : List ℕ) (n v : ℕ) → IsWalked image r → AreTargets (text_of image) targets → is_in v r ≡ true → is_shut r targets v ≡ false → 0 < n →
+pub known_open : (image : Image) (r : Range) (targets : List ℕ) (n v : ℕ) → IsWalked image r → AreTargetsOf (text_of image) targets → is_in v r ≡ true → is_shut r targets v ≡ false → 0 < n →
     known_within (text_of image) n v ≡ known_behind (instr_at (text_of image) (v - 4)) (known_within (text_of image) (n - 1) (v - 4))
 known_open image r targets n v w ts here h more =
     let e : n ≡ suc (n - 1) = omega arith in

@@ -15,7 +15,7 @@ use Rattle.std.proofs.lemmas.Bool.{eqb-true, eq-eqb}
 use Rattle.scale_base.specs.declared.ranges.Range.{Range}
 use Rattle.cost_theory.specs.Graph.{any_below}
 use Rattle.graph_runs.specs.Text.{Text, is_at, is_target, jumps_from}
-use Rattle.code_text.specs.Walk.{AreTargets, Rise}
+use Rattle.code_text.specs.Walk.{AreTargetsOf, Rise}
 use Rattle.code_text.specs.Table.{word_addresses, all_addresses}
 
 pub next_word : {X : Type 0} (f : ℕ → X) (old : List X) (k : ℕ) → (old ++ map f (range_with_len 0 k)) ++ f k ∷ [] ≡ old ++ map f (range_with_len 0 (k + 1))
@@ -78,7 +78,7 @@ entry_put p entry v ranges = ap (λ b. b || false) (eqb_swap entry v)
 
 -- those of a whole walk, in any order
 pub all_put : (t : Text) (text : List Range) (xs ys : List ℕ) (i : ℕ) → text ≡ t.ranges → length text ≤ i →
-    ((v : ℕ) → list_any (λ u. u == v) xs ≡ ((v == t.entry) || list_any (jumps_from t v) (take i text))) → IsPermutation xs ys → AreTargets t ys
+    ((v : ℕ) → list_any (λ u. u == v) xs ≡ ((v == t.entry) || list_any (jumps_from t v) (take i text))) → IsPermutation xs ys → AreTargetsOf t ys
 unfolding is_target
 all_put t text xs ys i same all h moved v =
     ap (λ rs. (v == t.entry) || list_any (jumps_from t v) rs) (sym (take_all i text all ∙ same)) ∙ sym (h v) ∙ list_any-IsPermutation (λ u. u == v) xs ys moved

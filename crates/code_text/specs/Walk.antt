@@ -14,8 +14,8 @@ pub record IsWalked (image : Image) (r : Range) : Type 0 where
   pub follows : (v : ℕ) → is_in v r ≡ true → follows (text_of image) v ≡ nat_le (r.from + 4) v
 
 -- the list holds the entry and the targets of the branches and JALs
-abbrev pub AreTargets : Text → List ℕ → Type 0
-AreTargets t targets = (v : ℕ) → is_target t v ≡ list_any (λ u. u == v) targets
+abbrev pub AreTargetsOf : Text → List ℕ → Type 0
+AreTargetsOf t targets = (v : ℕ) → is_target t v ≡ list_any (λ u. u == v) targets
 
 abbrev pub Rise : List ℕ → Type 0
 Rise xs = (i j : ℕ) → i ≤ j → j < length xs → slice_index xs i ≤ slice_index xs j

@@ -4,7 +4,7 @@ ghost use Rattle.std.specs.Prelude.{◌≡◌, ℕ, ◌%◌, ◌+◌, ◌==◌, 
 ghost use Rattle.std.specs.List.{list_any};
 ghost use Rattle.scale_base.specs.Image.{is_in};
 ghost use Rattle.graph_runs.specs.Text as texts;
-ghost use Rattle.code_text.specs.Walk.{IsWalked, AreTargets, Rise};
+ghost use Rattle.code_text.specs.Walk.{IsWalked, AreTargetsOf, Rise};
 
 use crate::instructions::{instr_at, leaves_17, puts_17};
 use elf_view::ImageView;
@@ -48,7 +48,7 @@ pub fn known_within(
     requires aligned { at % 4 ≡ 0 }
     requires inside { is_in at range ≡ true }
     requires range { IsWalked view.now range }
-    requires targets { AreTargets (texts.text_of view.now) targets.now }
+    requires targets { AreTargetsOf (texts.text_of view.now) targets.now }
     requires rising { Rise targets.now }
     ensures { result ≡ texts.known_within (texts.text_of view.now) words at }
 {

@@ -4,7 +4,7 @@ ghost use Rattle.std.specs.Prelude.{◌≡◌, ℕ, ◌==◌, ◌||◌, IfOk, Ok
 ghost use Rattle.std.specs.List.{list_any};
 ghost use Rattle.scale_base.specs.Image.{image_of, is_word_address};
 ghost use Rattle.graph_runs.specs.Text as texts;
-ghost use Rattle.code_text.specs.Walk.{IsWalked, AreTargets, Rise};
+ghost use Rattle.code_text.specs.Walk.{IsWalked, AreTargetsOf, Rise};
 
 use crate::instructions::{instr_at, jump_of};
 use elf_view::ImageView;
@@ -37,7 +37,7 @@ fn add_targets(targets: &mut Vec<u32>, view: &ImageView<'_>, range: Range) -> Re
 
 /// The entry and where the branches and JALs of the text go, ascending.
 pub fn targets_of(alloc: Global, view: &ImageView<'_>) -> Result<Vec<u32>, NoMemory>
-    ensures targets { IfOk result (λ targets. AreTargets (texts.text_of view.now) targets.items) }
+    ensures targets { IfOk result (λ targets. AreTargetsOf (texts.text_of view.now) targets.items) }
     ensures rising { IfOk result (λ targets. Rise targets.items) }
 {
     let text = view.text();

@@ -4,7 +4,7 @@ ghost use Rattle.std.specs.Prelude.{◌≡◌, ◌↔◌, ◌<◌, ℕ, ◌%◌,
 ghost use Rattle.scale_base.specs.Image.{is_in};
 ghost use Rattle.graph_runs.specs.Text as texts;
 ghost use Rattle.code_text.specs.Table.{word_addresses, all_addresses, word_table};
-ghost use Rattle.code_text.specs.Walk.{IsWalked, AreTargets, Rise, RiseStrictly};
+ghost use Rattle.code_text.specs.Walk.{IsWalked, AreTargetsOf, Rise, RiseStrictly};
 
 use crate::instructions::{instr_at, instr_kind};
 use crate::known::known_within;
@@ -71,7 +71,7 @@ fn known_for(
     requires aligned { at % 4 ≡ 0 }
     requires inside { is_in at range ≡ true }
     requires range { IsWalked view.now range }
-    requires targets { AreTargets (texts.text_of view.now) targets.now }
+    requires targets { AreTargetsOf (texts.text_of view.now) targets.now }
     requires rising { Rise targets.now }
     ensures { instr.now ≡ Instr.Ecall → texts.known (texts.text_of view.now) at ≡ result }
 {
@@ -86,7 +86,7 @@ fn kind_at(view: &ImageView<'_>, targets: &[u32], range: Range, at: u32) -> Word
     requires aligned { at % 4 ≡ 0 }
     requires inside { is_in at range ≡ true }
     requires range { IsWalked view.now range }
-    requires targets { AreTargets (texts.text_of view.now) targets.now }
+    requires targets { AreTargetsOf (texts.text_of view.now) targets.now }
     requires rising { Rise targets.now }
     ensures { result ≡ texts.kind_at (texts.text_of view.now) at }
 {
@@ -104,7 +104,7 @@ fn add_kinds(
     range: Range,
 ) -> Result<(), NoMemory>
     requires range { IsWalked view.now range }
-    requires targets { AreTargets (texts.text_of view.now) targets.now }
+    requires targets { AreTargetsOf (texts.text_of view.now) targets.now }
     requires rising { Rise targets.now }
     ensures { IfOk result (λ _. kinds.new.items ≡ kinds.old.items ++ map (texts.kind_at (texts.text_of view.now)) (word_addresses range)) }
 {
@@ -116,7 +116,7 @@ fn add_kinds(
 
 /// What each word of the text says of the way on.
 fn kinds_of(alloc: Global, view: &ImageView<'_>, targets: &[u32]) -> Result<Vec<Word>, NoMemory>
-    requires targets { AreTargets (texts.text_of view.now) targets.now }
+    requires targets { AreTargetsOf (texts.text_of view.now) targets.now }
     requires rising { Rise targets.now }
     ensures { IfOk result (λ kinds. kinds.items ≡ map (texts.kind_at (texts.text_of view.now)) (all_addresses view.now.text)) }
 {

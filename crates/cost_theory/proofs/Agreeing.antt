@@ -3,7 +3,7 @@ use Rattle.std.proofs.Common.{◌≡◌, ℕ, Option, Some, None, slice_get, ref
 use Rattle.std.proofs.Math.Path.{fun_ext}
 use Rattle.cost_theory.specs.declared.edges.Word.{Word}
 use Rattle.cost_theory.specs.declared.edges.Edge.{Edge}
-use Rattle.cost_theory.specs.Reached.{Code, callee_of, edge_callee, is_back, edge_returns, is_exit, edge_exits, graph_of, IsCodeOf}
+use Rattle.cost_theory.specs.Reached.{Code, callee_of, edge_callee, is_return_word, edge_returns, is_exit, edge_exits, graph_of, IsCodeOf}
 use Rattle.cost_theory.proofs.Reaching.{edge_of_word}
 
 module _ (word word' : ℕ → Word) (code : Code) (same : (i : ℕ) (e : Edge) → slice_get code.edges i ≡ Some e → word e.at ≡ word' e.at) where
@@ -13,7 +13,7 @@ module _ (word word' : ℕ → Word) (code : Code) (same : (i : ℕ) (e : Edge) 
 
   returns : (i : ℕ) (o : Option Edge) → slice_get code.edges i ≡ o → edge_returns word o ≡ edge_returns word' o
   returns i None at = refl
-  returns i (Some e) at = ap is_back (same i e at)
+  returns i (Some e) at = ap is_return_word (same i e at)
 
   exits : (i : ℕ) (o : Option Edge) → slice_get code.edges i ≡ o → edge_exits word o ≡ edge_exits word' o
   exits i None at = refl

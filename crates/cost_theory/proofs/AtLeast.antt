@@ -6,7 +6,7 @@ use Rattle.cost_theory.proofs.Basics.{search_below, and_left, and_right, and_bot
 use Rattle.cost_theory.proofs.Append.{count_same, count_anew, count_back}
 use Rattle.cost_theory.proofs.Nesting.{some_same}
 use Rattle.cost_theory.proofs.Turns.{AreNested, entered-header}
-use Rattle.cost_theory.specs.LeastTurns.{IsRun, turn_step, turn_last, KeepsLeast, charge, IsKind}
+use Rattle.cost_theory.specs.LeastTurns.{IsRun, turn_step, turn_last, KeepsLeast, least_charge, IsKind}
 use Rattle.cost_theory.proofs.Tables.{table}
 use Rattle.cost_theory.specs.Worst.{Numbers}
 use Rattle.cost_theory.proofs.Least.{least_up_to, least_reached, up_to-le}
@@ -129,7 +129,7 @@ module _ (g : Graph) (l : Loops) (c m turn : ℕ → ℕ) (nest : AreNested g l)
           (r.0, r.1, r.2, r.3, omega arith, omega arith)
 
   -- where no loop that has to turn is entered nothing is charged
-  pub charge_none : (e : ℕ) → ((j : ℕ) → j < l.loops → (enters l j (g.source e) (g.target e) && nat_lt 0 (m j)) ≡ false) → charge g l m turn e ≡ 0
+  pub charge_none : (e : ℕ) → ((j : ℕ) → j < l.loops → (enters l j (g.source e) (g.target e) && nat_lt 0 (m j)) ≡ false) → least_charge g l m turn e ≡ 0
   charge_none e none = sum-none l.loops (λ k. only (enters l k (g.source e) (g.target e)) (m k * turn k)) (λ k kl. each k (enters l k (g.source e) (g.target e)) (nat_lt 0 (m k)) refl (none k kl))
     where
       each : (k : ℕ) (a b : Bool) → nat_lt 0 (m k) ≡ b → (a && b) ≡ false → only a (m k * turn k) ≡ 0
@@ -141,7 +141,7 @@ module _ (g : Graph) (l : Loops) (c m turn : ℕ → ℕ) (nest : AreNested g l)
           zero_of le = omega arith
 
   -- and where one is it alone is
-  pub charge_one : (e j : ℕ) → e < g.edges → j < l.loops → enters l j (g.source e) (g.target e) ≡ true → charge g l m turn e ≡ m j * turn j
+  pub charge_one : (e j : ℕ) → e < g.edges → j < l.loops → enters l j (g.source e) (g.target e) ≡ true → least_charge g l m turn e ≡ m j * turn j
   charge_one e j lt jl en =
       sum-one l.loops (λ k. only (enters l k (g.source e) (g.target e)) (m k * turn k)) j jl (λ k kl ne. other k (enters l k (g.source e) (g.target e)) kl ne refl) ∙
       only_true (enters l j (g.source e) (g.target e)) (m j * turn j) en
@@ -160,8 +160,8 @@ module _ (g : Graph) (l : Loops) (c m turn : ℕ → ℕ) (nest : AreNested g l)
   kept-charged turns zero last step t kind (e ∷ es) v counts short run keeps = let bad : ⊥ = omega arith in absurd bad
   kept-charged turns (suc most) last step t kind (e ∷ es) v counts short run keeps = ⊎_elim
       (λ (a : (last e ≡ true) × (es ≡ [])).
-      let q : IsUpTo (t v) (c e + charge g l m turn e + 0) = least_up_to (IsRun g false last step (Some v)) (total (λ e. c e + charge g l m turn e)) (t v) (kind.least v) (e ∷ []) (run.0, run.1, inl (a.0, refl)) in
-      let z : charge g l m turn e ≡ 0 = kind.free e run.0 a.0 in
+      let q : IsUpTo (t v) (c e + least_charge g l m turn e + 0) = least_up_to (IsRun g false last step (Some v)) (total (λ e. c e + least_charge g l m turn e)) (t v) (kind.least v) (e ∷ []) (run.0, run.1, inl (a.0, refl)) in
+      let z : least_charge g l m turn e ≡ 0 = kind.free e run.0 a.0 in
       up_to-le _ _ _ (omega arith) q)
       (λ (b : (step e ≡ true) × IsRun g false last step (g.target e) es). onward b.0 b.1
       (λ u xs then sh r ks. kept-charged turns most last step t kind xs u then sh r ks)
@@ -174,14 +174,14 @@ module _ (g : Graph) (l : Loops) (c m turn : ℕ → ℕ) (nest : AreNested g l)
       run.2
     where
       -- a step before a walk
-      before : (u x : ℕ) → step e ≡ true → g.target e ≡ Some u → IsUpTo (t u) x → IsUpTo (t v) (c e + charge g l m turn e + x)
+      before : (u x : ℕ) → step e ≡ true → g.target e ≡ Some u → IsUpTo (t u) x → IsUpTo (t v) (c e + least_charge g l m turn e + x)
       before u x st to up =
-          let p : (es : List ℕ) × IsRun g false last step (Some u) es × (total (λ e. c e + charge g l m turn e) es ≤ x) =
-          least_reached (IsRun g false last step (Some u)) (total (λ e. c e + charge g l m turn e)) (t u) x (kind.least u) up in
-          let q : IsUpTo (t v) (c e + charge g l m turn e + total (λ e. c e + charge g l m turn e) p.0) =
-          least_up_to (IsRun g false last step (Some v)) (total (λ e. c e + charge g l m turn e)) (t v) (kind.least v) (e ∷ p.0)
+          let p : (es : List ℕ) × IsRun g false last step (Some u) es × (total (λ e. c e + least_charge g l m turn e) es ≤ x) =
+          least_reached (IsRun g false last step (Some u)) (total (λ e. c e + least_charge g l m turn e)) (t u) x (kind.least u) up in
+          let q : IsUpTo (t v) (c e + least_charge g l m turn e + total (λ e. c e + least_charge g l m turn e) p.0) =
+          least_up_to (IsRun g false last step (Some v)) (total (λ e. c e + least_charge g l m turn e)) (t v) (kind.least v) (e ∷ p.0)
           (run.0, run.1, inr (st, subst (λ o. IsRun g false last step o p.0) (sym to) p.1)) in
-          let le : total (λ e. c e + charge g l m turn e) p.0 ≤ x = p.2 in
+          let le : total (λ e. c e + least_charge g l m turn e) p.0 ≤ x = p.2 in
           up_to-le _ _ _ (omega arith) q
 
       onward : step e ≡ true → IsRun g false last step (g.target e) es →
@@ -203,7 +203,7 @@ module _ (g : Graph) (l : Loops) (c m turn : ℕ → ℕ) (nest : AreNested g l)
               nowhere (x ∷ xs) r = let q : None ≡ Some (g.source x) = r.1 in let bad : ⊥ = cc in bad
           plainly (Some u) to none =
               let rest : IsUpTo (t u) (total c es) = ih u es (count_step l (Some (g.source e)) (g.target e) counts) (omega arith) (subst (λ o. IsRun g false last step o es) to more) keeps.1 in
-              let z : charge g l m turn e ≡ 0 = charge_none e none in
+              let z : least_charge g l m turn e ≡ 0 = charge_none e none in
               up_to-le _ _ _ (omega arith) (before u (total c es) st to rest)
 
           entering : (j : ℕ) → j < l.loops → enters l j (g.source e) (g.target e) ≡ true → 0 < m j → IsUpTo (t v) (c e + total c es)
@@ -218,5 +218,5 @@ module _ (g : Graph) (l : Loops) (c m turn : ℕ → ℕ) (nest : AreNested g l)
               let ln : length r.0 ≤ length es = r.4 in
               let le : m j * turn j + total c r.0 ≤ total c es = r.5 in
               let rest : IsUpTo (t (l.header j)) (total c r.0) = ih (l.header j) r.0 r.1 (omega arith) r.2 r.3 in
-              let ch : charge g l m turn e ≡ m j * turn j = charge_one e j run.0 jl en in
+              let ch : least_charge g l m turn e ≡ m j * turn j = charge_one e j run.0 jl en in
               up_to-le _ _ _ (omega arith) (before (l.header j) (total c r.0) st to rest)

@@ -3,7 +3,7 @@ use Rattle.std.proofs.Common.{◌≡◌, ℕ, ◌+◌, ◌*◌, ◌-◌, ◌<◌
 use Rattle.cost_theory.specs.Graph.{Graph, Loops, sum_below, only, is_header, count_step, AreWithin, next_edge}
 use Rattle.cost_theory.specs.Worst.{Numbers, IsGreatest, all_of, at_some, cost, charged, AreNumbers, turns, turns_round, left_from, left_behind, slack}
 use Rattle.cost_theory.specs.Accepted.{IsNode, IsCall, AreCalls, IsProgram, AreWeights, AreAccepted}
-use Rattle.cost_theory.specs.Steps.{State, left_call, add_call, left_calls, left_at_node}
+use Rattle.cost_theory.specs.Steps.{GraphState, left_call, add_call, left_calls, left_at_node}
 use Rattle.cost_theory.proofs.Basics.{and_left, and_right, sum-same, some_value, find-holds}
 use Rattle.cost_theory.proofs.Append.{count_same, count_anew}
 use Rattle.cost_theory.proofs.Slack.{AreEnteredAtHeaders, plain-left}
@@ -37,7 +37,7 @@ abbrev pub Stands : Graph → Option ℕ → List ℕ → Type 0
 Stands g None calls = Unit {0}
 Stands g (Some v) calls = IsNode g v × IsChain g (g.owner v) calls
 
-pub record IsSound (g : Graph) (l : Loops) (s : State) : Type 0 where
+pub record IsSound (g : Graph) (l : Loops) (s : GraphState) : Type 0 where
   pub stands : Stands g s.node s.calls
   pub within : AreWithin l s.counts
 

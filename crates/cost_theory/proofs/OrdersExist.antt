@@ -1,7 +1,7 @@
 -- A program has an order of its functions, callees first, and with accepted loops an order of its nodes along plain edges.
 use Rattle.std.proofs.Common.{◌≡◌, ℕ, suc, ◌-◌, ◌<◌, Bool, true, ◌&&◌, nat_eq, List, [], ◌∷◌, Option, Some, is_some, refl, sym, ap, ◌∙◌, subst, arith, eqb-true, eq-eqb}
 use Rattle.cost_theory.specs.Graph.{Graph, Loops, end_of, find_below, IsPlainPath}
-use Rattle.cost_theory.specs.Reached.{number_at}
+use Rattle.cost_theory.specs.Reached.{number_or_0}
 use Rattle.cost_theory.specs.Accepted.{IsNode, AreCalls, IsProgram, AreAccepted, IsCallOrder, IsPlainOrder}
 use Rattle.cost_theory.proofs.Basics.{and_left, and_right, and_both, some_value, find-holds, find-some}
 use Rattle.cost_theory.proofs.Nesting.{some_same}
@@ -54,14 +54,14 @@ module _ (g : Graph) (prog : IsProgram g) where
 
     -- a node's number: that of its first edge
     abbrev pub first_edge_of : ℕ → ℕ
-    first_edge_of v = number_at (find_below g.edges (λ e. nat_eq (g.source e) v))
+    first_edge_of v = number_or_0 (find_below g.edges (λ e. nat_eq (g.source e) v))
 
     pub first-is : (v : ℕ) → IsNode g v → (first_edge_of v < g.edges) × (g.source (first_edge_of v) ≡ v)
     first-is v node =
         let found : (k : ℕ) × (find_below g.edges (λ e. nat_eq (g.source e) v) ≡ Some k) =
         some_value (find_below g.edges (λ e. nat_eq (g.source e) v)) (find-some g.edges (λ e. nat_eq (g.source e) v) node.0 node.1 (eq-eqb (g.source node.0) v node.2)) in
         let holds : (found.0 < g.edges) × (nat_eq (g.source found.0) v ≡ true) = find-holds g.edges (λ e. nat_eq (g.source e) v) found.0 found.1 in
-        let same : found.0 ≡ first_edge_of v = sym (ap number_at found.1) in
+        let same : found.0 ≡ first_edge_of v = sym (ap number_or_0 found.1) in
         (subst (λ k. k < g.edges) same holds.0, ap g.source (sym same) ∙ eqb-true (g.source found.0) v holds.1)
 
     steps_plain : (es : List ℕ) (p : Option ℕ) → AreSteps g way_test p es → IsPlainPath g l p es

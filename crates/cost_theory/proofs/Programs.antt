@@ -6,7 +6,7 @@ use Rattle.cost_theory.specs.Accepted.{IsNode, IsCall, AreCalls, IsProgram}
 use Rattle.cost_theory.specs.declared.edges.Word.{Word}
 use Rattle.cost_theory.specs.declared.edges.EdgeKind.{EdgeKind}
 use Rattle.cost_theory.specs.declared.edges.Edge.{Edge}
-use Rattle.cost_theory.specs.Reached.{LeadsTo, Reached, DoesReturn, edges_of, Code, place_after, edge_at, edge_to, number_at, owner_of, returns_of, call_returns, callee_of, edge_callee, is_back, edge_returns, is_exit, edge_exits, graph_of, IsCodeOf, HasNoBadWord}
+use Rattle.cost_theory.specs.Reached.{LeadsTo, Reached, DoesReturn, edges_of, Code, place_after, edge_at, edge_to, number_or_0, owner_of, returns_of, call_returns, callee_of, edge_callee, is_return_word, edge_returns, is_exit, edge_exits, graph_of, IsCodeOf, HasNoBadWord}
 use Rattle.cost_theory.specs.declared.edges.Word.TheVariants.{Branch, Goto, CallOf, Back, Ends, MayEnd, Breaks, Straight, Bad}
 use Rattle.cost_theory.specs.declared.edges.EdgeKind.TheVariants.{Taken, Jump, Next, CallNext, End}
 use Rattle.cost_theory.specs.Reached.Reached.{main, onward, back, called}
@@ -53,10 +53,10 @@ edge_leads Straight u b x v h e = ⊎_elim (λ q. let t : Some (u + 4) ≡ Some 
 edge_leads Bad u b x v h e = absurd h
 
 -- which words call, return and exit
-pub callee-call : (fs : List ℕ) (w : Word) (f : ℕ) → callee_of fs w ≡ Some f → (h : ℕ) × (w ≡ CallOf h) × (f < length fs) × (number_at (slice_get fs f) ≡ h)
+pub callee-call : (fs : List ℕ) (w : Word) (f : ℕ) → callee_of fs w ≡ Some f → (h : ℕ) × (w ≡ CallOf h) × (f < length fs) × (number_or_0 (slice_get fs f) ≡ h)
 callee-call fs (CallOf to) f e =
-    let p : (f < length fs) × (nat_eq (number_at (slice_get fs f)) to ≡ true) = find-holds (length fs) (λ i. nat_eq (number_at (slice_get fs i)) to) f e in
-    (to, refl, p.0, eqb-true (number_at (slice_get fs f)) to p.1)
+    let p : (f < length fs) × (nat_eq (number_or_0 (slice_get fs f)) to ≡ true) = find-holds (length fs) (λ i. nat_eq (number_or_0 (slice_get fs i)) to) f e in
+    (to, refl, p.0, eqb-true (number_or_0 (slice_get fs f)) to p.1)
 callee-call fs (Branch to) f e = let bad : ⊥ = cc in absurd bad
 callee-call fs (Goto to) f e = let bad : ⊥ = cc in absurd bad
 callee-call fs Back f e = let bad : ⊥ = cc in absurd bad
@@ -66,7 +66,7 @@ callee-call fs Breaks f e = let bad : ⊥ = cc in absurd bad
 callee-call fs Straight f e = let bad : ⊥ = cc in absurd bad
 callee-call fs Bad f e = let bad : ⊥ = cc in absurd bad
 
-pub back-word : (w : Word) → is_back w ≡ true → w ≡ Back
+pub back-word : (w : Word) → is_return_word w ≡ true → w ≡ Back
 back-word Back e = refl
 back-word (CallOf to) e = let bad : ⊥ = cc in absurd bad
 back-word (Branch to) e = let bad : ⊥ = cc in absurd bad
@@ -90,14 +90,14 @@ back_ends v b x h = ⊎_elim (λ q. sym (ap (λ y. y.kind) q)) (λ n. absurd n) 
 pub callee_word : (word : ℕ → Word) (fs : List ℕ) (es : List Edge) (e : ℕ) → e < length es → edge_callee word fs (slice_get es e) ≡ callee_of fs (word (edge_at (slice_get es e)))
 callee_word word fs es e lt = let x : (x : Edge) × (slice_get es e ≡ Some x) = some_get es e lt in ap (edge_callee word fs) x.1 ∙ sym (ap (λ o. callee_of fs (word (edge_at o))) x.1)
 
-pub returns_word : (word : ℕ → Word) (es : List Edge) (e : ℕ) → e < length es → edge_returns word (slice_get es e) ≡ is_back (word (edge_at (slice_get es e)))
-returns_word word es e lt = let x : (x : Edge) × (slice_get es e ≡ Some x) = some_get es e lt in ap (edge_returns word) x.1 ∙ sym (ap (λ o. is_back (word (edge_at o))) x.1)
+pub returns_word : (word : ℕ → Word) (es : List Edge) (e : ℕ) → e < length es → edge_returns word (slice_get es e) ≡ is_return_word (word (edge_at (slice_get es e)))
+returns_word word es e lt = let x : (x : Edge) × (slice_get es e ≡ Some x) = some_get es e lt in ap (edge_returns word) x.1 ∙ sym (ap (λ o. is_return_word (word (edge_at o))) x.1)
 
 module _ (word : ℕ → Word) (first : ℕ) (code : Code) (is : IsCodeOf word first code) (fine : HasNoBadWord word first) where
   callee_at : (e : ℕ) → e < length code.edges → edge_callee word code.functions (slice_get code.edges e) ≡ callee_of code.functions (word (edge_at (slice_get code.edges e)))
   callee_at e lt = callee_word word code.functions code.edges e lt
 
-  returns_at : (e : ℕ) → e < length code.edges → edge_returns word (slice_get code.edges e) ≡ is_back (word (edge_at (slice_get code.edges e)))
+  returns_at : (e : ℕ) → e < length code.edges → edge_returns word (slice_get code.edges e) ≡ is_return_word (word (edge_at (slice_get code.edges e)))
   returns_at e lt = returns_word word code.edges e lt
 
   -- the function of an edge's node
@@ -144,13 +144,13 @@ module _ (word : ℕ → Word) (first : ℕ) (code : Code) (is : IsCodeOf word f
   pub callee-is : (f h : ℕ) → slice_get code.functions f ≡ Some h → callee_of code.functions (CallOf h) ≡ Some f
   callee-is f h at =
       let lt : f < length code.functions = slice_get_within code.functions f h at in
-      let test : nat_eq (number_at (slice_get code.functions f)) h ≡ true = eq-eqb (number_at (slice_get code.functions f)) h (ap number_at at) in
-      let found : (j : ℕ) × (find_below (length code.functions) (λ i. nat_eq (number_at (slice_get code.functions i)) h) ≡ Some j) =
-      some_value (find_below (length code.functions) (λ i. nat_eq (number_at (slice_get code.functions i)) h)) (find-some (length code.functions) (λ i. nat_eq (number_at (slice_get code.functions i)) h) f lt test) in
-      let holds : (found.0 < length code.functions) × (nat_eq (number_at (slice_get code.functions found.0)) h ≡ true) =
-      find-holds (length code.functions) (λ i. nat_eq (number_at (slice_get code.functions i)) h) found.0 found.1 in
+      let test : nat_eq (number_or_0 (slice_get code.functions f)) h ≡ true = eq-eqb (number_or_0 (slice_get code.functions f)) h (ap number_or_0 at) in
+      let found : (j : ℕ) × (find_below (length code.functions) (λ i. nat_eq (number_or_0 (slice_get code.functions i)) h) ≡ Some j) =
+      some_value (find_below (length code.functions) (λ i. nat_eq (number_or_0 (slice_get code.functions i)) h)) (find-some (length code.functions) (λ i. nat_eq (number_or_0 (slice_get code.functions i)) h) f lt test) in
+      let holds : (found.0 < length code.functions) × (nat_eq (number_or_0 (slice_get code.functions found.0)) h ≡ true) =
+      find-holds (length code.functions) (λ i. nat_eq (number_or_0 (slice_get code.functions i)) h) found.0 found.1 in
       let there : (x : ℕ) × (slice_get code.functions found.0 ≡ Some x) = some_get code.functions found.0 holds.0 in
-      let eq : there.0 ≡ h = sym (ap number_at there.1) ∙ eqb-true (number_at (slice_get code.functions found.0)) h holds.1 in
+      let eq : there.0 ≡ h = sym (ap number_or_0 there.1) ∙ eqb-true (number_or_0 (slice_get code.functions found.0)) h holds.1 in
       found.1 ∙ ap Some (is.once found.0 f h (there.1 ∙ ap Some eq) at)
 
   -- each reached function but the first is called
@@ -172,8 +172,8 @@ module _ (word : ℕ → Word) (first : ℕ) (code : Code) (is : IsCodeOf word f
       either false = inl refl
 
   -- the function with a number
-  pub function_at : (f h : ℕ) → f < length code.functions → number_at (slice_get code.functions f) ≡ h → slice_get code.functions f ≡ Some h
-  function_at f h lt e = let x : (x : ℕ) × (slice_get code.functions f ≡ Some x) = some_get code.functions f lt in x.1 ∙ ap Some (sym (ap number_at x.1) ∙ e)
+  pub function_at : (f h : ℕ) → f < length code.functions → number_or_0 (slice_get code.functions f) ≡ h → slice_get code.functions f ≡ Some h
+  function_at f h lt e = let x : (x : ℕ) × (slice_get code.functions f ≡ Some x) = some_get code.functions f lt in x.1 ∙ ap Some (sym (ap number_or_0 x.1) ∙ e)
 
   pub edge_word : (e : ℕ) → e < length code.edges → (x : Edge) × (slice_get code.edges e ≡ Some x) ×
       Within x (edges_of (word (edge_at (slice_get code.edges e))) (edge_at (slice_get code.edges e)) (call_returns code (word (edge_at (slice_get code.edges e)))))
@@ -185,7 +185,7 @@ module _ (word : ℕ → Word) (first : ℕ) (code : Code) (is : IsCodeOf word f
   pub comes_back_edge : (u f r : ℕ) → IsCall (graph_of word code) u f → r < length code.edges → edge_returns word (slice_get code.edges r) ≡ true → owner_of code (edge_at (slice_get code.edges r)) ≡ f →
       (e : ℕ) × (v : ℕ) × (e < length code.edges) × (edge_at (slice_get code.edges e) ≡ u) × (edge_callee word code.functions (slice_get code.edges e) ≡ Some f) × (edge_to (slice_get code.edges e) ≡ Some v)
   comes_back_edge u f r call rl returns owner =
-      let c : (h : ℕ) × (word (edge_at (slice_get code.edges call.0)) ≡ CallOf h) × (f < length code.functions) × (number_at (slice_get code.functions f) ≡ h) = callee-call code.functions (word (edge_at (slice_get code.edges call.0))) f (sym (callee_at call.0 call.1) ∙ call.3) in
+      let c : (h : ℕ) × (word (edge_at (slice_get code.edges call.0)) ≡ CallOf h) × (f < length code.functions) × (number_or_0 (slice_get code.functions f) ≡ h) = callee-call code.functions (word (edge_at (slice_get code.edges call.0))) f (sym (callee_at call.0 call.1) ∙ call.3) in
       let fh : slice_get code.functions f ≡ Some c.0 = function_at f c.0 c.2 c.3 in
       let sr : (f : ℕ) × Reached word first f (edge_at (slice_get code.edges r)) = source_reached r rl in
       let same : sr.0 ≡ c.0 = some_same _ _ (sym (is.owner sr.0 (edge_at (slice_get code.edges r)) sr.1) ∙ ap (slice_get code.functions) owner ∙ fh) in
@@ -203,7 +203,7 @@ module _ (word : ℕ → Word) (first : ℕ) (code : Code) (is : IsCodeOf word f
   pub returns_only : (e f v : ℕ) → e < length code.edges → edge_callee word code.functions (slice_get code.edges e) ≡ Some f → edge_to (slice_get code.edges e) ≡ Some v →
       (r : ℕ) × (r < length code.edges) × (edge_returns word (slice_get code.edges r) ≡ true) × (owner_of code (edge_at (slice_get code.edges r)) ≡ f)
   returns_only e f v lt calls to =
-      let c : (h : ℕ) × (word (edge_at (slice_get code.edges e)) ≡ CallOf h) × (f < length code.functions) × (number_at (slice_get code.functions f) ≡ h) = callee-call code.functions (word (edge_at (slice_get code.edges e))) f (sym (callee_at e lt) ∙ calls) in
+      let c : (h : ℕ) × (word (edge_at (slice_get code.edges e)) ≡ CallOf h) × (f < length code.functions) × (number_or_0 (slice_get code.functions f) ≡ h) = callee-call code.functions (word (edge_at (slice_get code.edges e))) f (sym (callee_at e lt) ∙ calls) in
       let x : (x : Edge) × (slice_get code.edges e ≡ Some x) ×
       Within x (edges_of (word (edge_at (slice_get code.edges e))) (edge_at (slice_get code.edges e)) (call_returns code (word (edge_at (slice_get code.edges e))))) = edge_word e lt in
       ⊎_elim
@@ -216,7 +216,7 @@ module _ (word : ℕ → Word) (first : ℕ) (code : Code) (is : IsCodeOf word f
       let r : (r : ℕ) × (r < length code.edges) × (slice_get code.edges r ≡ Some y) = word_edge word first code is c.0 d.0 y d.1 here in (
         r.0,
         r.1,
-        ap (edge_returns word) r.2 ∙ ap is_back d.2,
+        ap (edge_returns word) r.2 ∙ ap is_return_word d.2,
         ap (λ o. owner_of code (edge_at o)) r.2 ∙ is.once (owner_of code d.0) f c.0 (is.owner c.0 d.0 d.1) (function_at f c.0 c.2 c.3),
       ))
       (edge_leads (word (edge_at (slice_get code.edges e))) (edge_at (slice_get code.edges e)) (call_returns code (word (edge_at (slice_get code.edges e)))) x.0 v x.2 (sym (ap edge_to x.1) ∙ to))
@@ -240,20 +240,20 @@ module _ (word : ℕ → Word) (first : ℕ) (code : Code) (is : IsCodeOf word f
     main = slice_get_within code.functions 0 first is.first_function;
     entry_owner = λ f fl. (let h : (h : ℕ) × (slice_get code.functions f ≡ Some h) = some_get code.functions f fl in
         let r : Reached word first h.0 h.0 = (is.functions h.0).0 (f, h.1) in
-        ap (owner_of code) (ap number_at h.1) ∙ is.once (owner_of code h.0) f h.0 (is.owner h.0 h.0 r) h.1);
+        ap (owner_of code) (ap number_or_0 h.1) ∙ is.once (owner_of code h.0) f h.0 (is.owner h.0 h.0 r) h.1);
     owner_function = λ e lt. (let r : (f : ℕ) × Reached word first f (edge_at (slice_get code.edges e)) = source_reached e lt in
         slice_get_within code.functions (owner_of code (edge_at (slice_get code.edges e))) r.0 (is.owner r.0 (edge_at (slice_get code.edges e)) r.1));
     reached = λ e lt. (let r : (f : ℕ) × Reached word first f (edge_at (slice_get code.edges e)) = source_reached e lt in
-        let at : number_at (slice_get code.functions (owner_of code (edge_at (slice_get code.edges e)))) ≡ r.0 = ap number_at (is.owner r.0 (edge_at (slice_get code.edges e)) r.1) in
+        let at : number_or_0 (slice_get code.functions (owner_of code (edge_at (slice_get code.edges e)))) ≡ r.0 = ap number_or_0 (is.owner r.0 (edge_at (slice_get code.edges e)) r.1) in
         subst (λ f. (es : List ℕ) × IsWalk (graph_of word code) (Some f) es × (end_of (graph_of word code) (Some f) es ≡ Some (edge_at (slice_get code.edges e)))) (sym at)
         (reached_walk word first code is r.1));
     stays = λ e v lt to. (let r : (f : ℕ) × Reached word first f (edge_at (slice_get code.edges e)) × Reached word first f v = edge_reaches e v lt to in
         (reached_node r.0 v r.2, same_owner r.0 v (edge_at (slice_get code.edges e)) r.2 r.1));
     entry_node = λ f fl. (let h : (h : ℕ) × (slice_get code.functions f ≡ Some h) = some_get code.functions f fl in
-        subst (λ v. IsNode (graph_of word code) v) (sym (ap number_at h.1)) (reached_node h.0 h.0 ((is.functions h.0).0 (f, h.1))));
+        subst (λ v. IsNode (graph_of word code) v) (sym (ap number_or_0 h.1)) (reached_node h.0 h.0 ((is.functions h.0).0 (f, h.1))));
     callee_function = λ e f lt calls. (callee-call code.functions (word (edge_at (slice_get code.edges e))) f (sym (callee_at e lt) ∙ calls)).2;
     one_callee = λ d e dl el same. callee_at d dl ∙ (ap (λ v. callee_of code.functions (word v)) same ∙ sym (callee_at e el));
-    call_end = λ u f call. (let c : (h : ℕ) × (word (edge_at (slice_get code.edges call.0)) ≡ CallOf h) × (f < length code.functions) × (number_at (slice_get code.functions f) ≡ h) = callee-call code.functions (word (edge_at (slice_get code.edges call.0))) f (sym (callee_at call.0 call.1) ∙ call.3) in
+    call_end = λ u f call. (let c : (h : ℕ) × (word (edge_at (slice_get code.edges call.0)) ≡ CallOf h) × (f < length code.functions) × (number_or_0 (slice_get code.functions f) ≡ h) = callee-call code.functions (word (edge_at (slice_get code.edges call.0))) f (sym (callee_at call.0 call.1) ∙ call.3) in
         let r : (g : ℕ) × Reached word first g (edge_at (slice_get code.edges call.0)) = source_reached call.0 call.1 in
         let e : (e : ℕ) × (e < length code.edges) × (edge_at (slice_get code.edges e) ≡ edge_at (slice_get code.edges call.0)) × (edge_to (slice_get code.edges e) ≡ None) = end_edge r.0 (edge_at (slice_get code.edges call.0)) c.0 r.1 c.1 in
         (e.0, e.1, e.2 ∙ call.2, callee_at e.0 e.1 ∙ (ap (λ v. callee_of code.functions (word v)) e.2 ∙ (sym (callee_at call.0 call.1) ∙ call.3)), e.3));

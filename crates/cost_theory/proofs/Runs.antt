@@ -3,14 +3,14 @@ use Rattle.std.proofs.Common.{◌≡◌, ℕ, ◌+◌, ◌*◌, ◌-◌, ◌<◌
 use Rattle.cost_theory.specs.Graph.{Graph, Loops, sum_below, only, count_step, AreWithin, next_edge}
 use Rattle.cost_theory.specs.Worst.{Numbers, cost, AreNumbers, all_of, turns, turns_round, left_behind, slack}
 use Rattle.cost_theory.specs.Accepted.{IsNode, IsCall, IsProgram, AreWeights, AreAccepted}
-use Rattle.cost_theory.specs.Steps.{State, Move, edge_of, go_back, after_return, after, ComesBack, IsKept, AreKept, after_all, start, state_after, cycles, left_at_node, cycles_left}
+use Rattle.cost_theory.specs.Steps.{GraphState, Move, edge_of, go_back, after_return, after, ComesBack, IsKept, AreKept, after_all, graph_start, state_after, cycles, left_at_node, cycles_left}
 use Rattle.cost_theory.specs.Steps.Move.{Along, Call, Return, Exit}
 use Rattle.cost_theory.proofs.Basics.{some_value, sum-same}
 use Rattle.cost_theory.proofs.Law.{IsChain, Stands, IsSound, worst_equation, along_law, call_law, last_call_law, return_law, exit_law, next-is}
 
 module _ (g : Graph) (l : Loops) (extent : ℕ → ℕ → Bool) (prog : IsProgram g) where
   -- a run stands in the chain of its calls
-  pub stands_after : (s : State) (m : Move) → IsSound g l s → IsKept g l s m → Stands g (after g l s m).node (after g l s m).calls
+  pub stands_after : (s : GraphState) (m : Move) → IsSound g l s → IsKept g l s m → Stands g (after g l s m).node (after g l s m).calls
   stands_after s (Along e) sound kept = go (g.target e) refl
     where
       here : IsNode g (g.source e) × IsChain g (g.owner (g.source e)) s.calls
@@ -43,32 +43,32 @@ module _ (g : Graph) (l : Loops) (extent : ℕ → ℕ → Bool) (prog : IsProgr
       go (u ∷ calls) here comes = back u calls here.1.1 (next_edge g u) refl
   stands_after s (Exit e) sound kept = tt
 
-  pub sound_after : (s : State) (m : Move) → IsSound g l s → IsKept g l s m → IsSound g l (after g l s m)
+  pub sound_after : (s : GraphState) (m : Move) → IsSound g l s → IsKept g l s m → IsSound g l (after g l s m)
   sound_after s m sound kept = record { stands = stands_after s m sound kept; within = kept.within }
 
-  pub sound_after_all : (ms : List Move) (s : State) → IsSound g l s → AreKept g l s ms → IsSound g l (after_all g l s ms)
+  pub sound_after_all : (ms : List Move) (s : GraphState) → IsSound g l s → AreKept g l s ms → IsSound g l (after_all g l s ms)
   sound_after_all [] s sound kept = sound
   sound_after_all (m ∷ ms) s sound kept = sound_after_all ms (after g l s m) (sound_after s m sound kept.0) kept.1
 
   -- at the start
-  pub sound_start : IsSound g l (start g)
+  pub sound_start : IsSound g l (graph_start g)
   sound_start = record { stands = (prog.entry_node 0 prog.main, tt); within = λ k kl. omega arith }
 
   -- and after each kept run
-  pub sound_run : (ms : List Move) → AreKept g l (start g) ms → IsSound g l (state_after g l ms)
-  sound_run ms kept = sound_after_all ms (start g) sound_start kept
+  pub sound_run : (ms : List Move) → AreKept g l (graph_start g) ms → IsSound g l (state_after g l ms)
+  sound_run ms kept = sound_after_all ms (graph_start g) sound_start kept
 
 module _ (g : Graph) (l : Loops) (extent : ℕ → ℕ → Bool) (w : ℕ → ℕ) (n : Numbers)
     (prog : IsProgram g) (acc : AreAccepted g l extent) (weights : AreWeights g w) (nums : AreNumbers g l w n) where
   -- where a run stands at an edge, what is left there is what is left at its node
-  pub left_here : (s : State) (u : ℕ) → s.node ≡ Some u → cycles_left g l w n s ≡ left_at_node g l w n (Some u) s.calls s.counts
+  pub left_here : (s : GraphState) (u : ℕ) → s.node ≡ Some u → cycles_left g l w n s ≡ left_at_node g l w n (Some u) s.calls s.counts
   left_here s u at = ap (λ p. left_at_node g l w n p s.calls s.counts) at
 
-  pub chain_here : (s : State) (u : ℕ) → s.node ≡ Some u → IsSound g l s → IsChain g (g.owner u) s.calls
+  pub chain_here : (s : GraphState) (u : ℕ) → s.node ≡ Some u → IsSound g l s → IsChain g (g.owner u) s.calls
   chain_here s u at sound = let here : IsNode g u × IsChain g (g.owner u) s.calls = subst (λ p. Stands g p s.calls) at sound.stands in here.1
 
   -- each kept step lowers the cycles left by at least its weight
-  pub step_law : (s : State) (m : Move) → IsSound g l s → IsKept g l s m →
+  pub step_law : (s : GraphState) (m : Move) → IsSound g l s → IsKept g l s m →
       w (edge_of m) + cycles_left g l w n (after g l s m) ≤ cycles_left g l w n s
   step_law s (Along e) sound kept =
       let v : (v : ℕ) × (g.target e ≡ Some v) = some_value (g.target e) kept.move.1 in
@@ -122,7 +122,7 @@ module _ (g : Graph) (l : Loops) (extent : ℕ → ℕ → Bool) (w : ℕ → �
       omega arith
 
   -- a kept run's cycles and those left after it are at most those left before it
-  pub run_law : (ms : List Move) (s : State) → IsSound g l s → AreKept g l s ms →
+  pub run_law : (ms : List Move) (s : GraphState) → IsSound g l s → AreKept g l s ms →
       cycles w ms + cycles_left g l w n (after_all g l s ms) ≤ cycles_left g l w n s
   run_law [] s sound kept = omega arith
   run_law (m ∷ ms) s sound kept =
@@ -132,7 +132,7 @@ module _ (g : Graph) (l : Loops) (extent : ℕ → ℕ → Bool) (w : ℕ → �
       omega arith
 
   -- at the start the worst cycles are left
-  pub left_start : cycles_left g l w n (start g) ≡ n.worst 0
+  pub left_start : cycles_left g l w n (graph_start g) ≡ n.worst 0
   left_start =
       let eq : n.worst 0 ≡ n.left (g.entry 0) + turns_round l n (Some (g.entry 0)) = worst_equation g l extent w n prog acc weights nums 0 prog.main in
       let sums : sum_below l.loops (λ k. only (l.inside k (g.entry 0)) (turns l n (λ k. 0) k)) ≡ sum_below l.loops (λ k. only (l.inside k (g.entry 0)) (all_of l n k)) =
@@ -141,8 +141,8 @@ module _ (g : Graph) (l : Loops) (extent : ℕ → ℕ → Bool) (w : ℕ → �
       omega arith
 
   -- so a kept run has at most the worst cycles
-  pub run-worst : (ms : List Move) → AreKept g l (start g) ms → cycles w ms ≤ n.worst 0
+  pub run-worst : (ms : List Move) → AreKept g l (graph_start g) ms → cycles w ms ≤ n.worst 0
   run-worst ms kept =
-      let law : cycles w ms + cycles_left g l w n (after_all g l (start g) ms) ≤ cycles_left g l w n (start g) = run_law ms (start g) (sound_start g l extent prog) kept in
-      let at : cycles_left g l w n (start g) ≡ n.worst 0 = left_start in
+      let law : cycles w ms + cycles_left g l w n (after_all g l (graph_start g) ms) ≤ cycles_left g l w n (graph_start g) = run_law ms (graph_start g) (sound_start g l extent prog) kept in
+      let at : cycles_left g l w n (graph_start g) ≡ n.worst 0 = left_start in
       omega arith

@@ -3,7 +3,7 @@ use Rattle.std.proofs.Common.{◌≡◌, ℕ, ◌+◌, ◌<◌, ◌≤◌, Bool,
 use Rattle.cost_theory.specs.Graph.{Graph, Loops, count_step, AreWithin, next_edge}
 use Rattle.cost_theory.specs.Worst.{Numbers, cost, slack, left_behind, rest}
 use Rattle.cost_theory.specs.Accepted.{IsNode, IsCallOrder}
-use Rattle.cost_theory.specs.Steps.{State, Move, edge_of, go_back, after_return, after, IsKept, AreKept, after_all, start, state_after, cycles, left_at_node, cycles_left}
+use Rattle.cost_theory.specs.Steps.{GraphState, Move, edge_of, go_back, after_return, after, IsKept, AreKept, after_all, graph_start, state_after, cycles, left_at_node, cycles_left}
 use Rattle.cost_theory.specs.Steps.Move.{Along, Call, Return}
 use Rattle.cost_theory.specs.Laws.{IsAnalyzed}
 use Rattle.cost_theory.proofs.Basics.{some_value}
@@ -13,12 +13,12 @@ use Rattle.cost_theory.proofs.Runs.{sound_run, sound_after, left_here, chain_her
 use Rattle.cost_theory.proofs.Rest.{left_after-rest}
 
 module _ (g : Graph) (l : Loops) (extent : ℕ → ℕ → Bool) (w : ℕ → ℕ) (n : Numbers) (is : IsAnalyzed g l extent w n) where
-  pub step-lowers : (ms : List Move) (m : Move) → AreKept g l (start g) ms → IsKept g l (state_after g l ms) m →
+  pub step-lowers : (ms : List Move) (m : Move) → AreKept g l (graph_start g) ms → IsKept g l (state_after g l ms) m →
       w (edge_of m) + cycles_left g l w n (after g l (state_after g l ms) m) ≤ cycles_left g l w n (state_after g l ms)
   step-lowers ms m kept step = runs.step_law g l extent w n is.program is.accepted is.weights is.numbers (state_after g l ms) m (sound_run g l extent is.program ms kept) step
 
   -- along an edge, from any sound state
-  pub along_at : (s : State) (e : ℕ) → IsSound g l s → IsKept g l s (Along e) →
+  pub along_at : (s : GraphState) (e : ℕ) → IsSound g l s → IsKept g l s (Along e) →
       cycles_left g l w n s ≡ w e + slack g l n (cost g n w) e + cycles_left g l w n (after g l s (Along e)) + left_behind g l n s.counts e
   along_at s e sound kept =
       let v : (v : ℕ) × (g.target e ≡ Some v) = some_value (g.target e) kept.move.1 in
@@ -33,13 +33,13 @@ module _ (g : Graph) (l : Loops) (extent : ℕ → ℕ → Bool) (w : ℕ → �
       ap (λ o. left_at_node g l w n o s.calls (count_step l (Some (g.source e)) o s.counts)) v.1 in
       omega arith
 
-  pub step-along : (ms : List Move) (e : ℕ) → AreKept g l (start g) ms → IsKept g l (state_after g l ms) (Along e) →
+  pub step-along : (ms : List Move) (e : ℕ) → AreKept g l (graph_start g) ms → IsKept g l (state_after g l ms) (Along e) →
       cycles_left g l w n (state_after g l ms) ≡
       w e + slack g l n (cost g n w) e + cycles_left g l w n (after g l (state_after g l ms) (Along e)) + left_behind g l n (state_after g l ms).counts e
   step-along ms e kept step = along_at (state_after g l ms) e (sound_run g l extent is.program ms kept) step
 
   -- a call that comes back, from any sound state
-  pub call_at : (s : State) (e f : ℕ) → IsSound g l s → IsKept g l s (Call e f) → IsSome (next_edge g (g.source e)) →
+  pub call_at : (s : GraphState) (e f : ℕ) → IsSound g l s → IsKept g l s (Call e f) → IsSome (next_edge g (g.source e)) →
       cycles_left g l w n s ≡ w e + cycles_left g l w n (after g l s (Call e f))
   call_at s e f sound kept comes =
       let d : (d : ℕ) × (next_edge g (g.source e) ≡ Some d) = some_value (next_edge g (g.source e)) comes in
@@ -48,20 +48,20 @@ module _ (g : Graph) (l : Loops) (extent : ℕ → ℕ → Bool) (w : ℕ → �
       (chain_here g l extent w n is.program is.accepted is.weights is.numbers s (g.source e) kept.from sound) in
       left_here g l extent w n is.program is.accepted is.weights is.numbers s (g.source e) kept.from ∙ law
 
-  pub step-call : (ms : List Move) (e f : ℕ) → AreKept g l (start g) ms → IsKept g l (state_after g l ms) (Call e f) → IsSome (next_edge g (g.source e)) →
+  pub step-call : (ms : List Move) (e f : ℕ) → AreKept g l (graph_start g) ms → IsKept g l (state_after g l ms) (Call e f) → IsSome (next_edge g (g.source e)) →
       cycles_left g l w n (state_after g l ms) ≡ w e + cycles_left g l w n (after g l (state_after g l ms) (Call e f))
   step-call ms e f kept step comes = call_at (state_after g l ms) e f (sound_run g l extent is.program ms kept) step comes
 
-  pub run-within : (ms : List Move) → AreKept g l (start g) ms → cycles w ms + cycles_left g l w n (state_after g l ms) ≤ n.worst 0
+  pub run-within : (ms : List Move) → AreKept g l (graph_start g) ms → cycles w ms + cycles_left g l w n (state_after g l ms) ≤ n.worst 0
   run-within ms kept =
-      let law : cycles w ms + cycles_left g l w n (after_all g l (start g) ms) ≤ cycles_left g l w n (start g) =
-      run_law g l extent w n is.program is.accepted is.weights is.numbers ms (start g) (sound_start g l extent is.program) kept in
-      let at : cycles_left g l w n (start g) ≡ n.worst 0 = left_start g l extent w n is.program is.accepted is.weights is.numbers in
+      let law : cycles w ms + cycles_left g l w n (after_all g l (graph_start g) ms) ≤ cycles_left g l w n (graph_start g) =
+      run_law g l extent w n is.program is.accepted is.weights is.numbers ms (graph_start g) (sound_start g l extent is.program) kept in
+      let at : cycles_left g l w n (graph_start g) ≡ n.worst 0 = left_start g l extent w n is.program is.accepted is.weights is.numbers in
       omega arith
 
   module _ (order : ℕ → ℕ) (falls : IsCallOrder g order) where
     -- a state behind an edge
-    pub behind-rest : (s : State) (e v : ℕ) → IsSound g l s → e < g.edges → g.target e ≡ Some v → s.node ≡ Some v → cycles_left g l w n s ≤ rest g l n e
+    pub behind-rest : (s : GraphState) (e v : ℕ) → IsSound g l s → e < g.edges → g.target e ≡ Some v → s.node ≡ Some v → cycles_left g l w n s ≤ rest g l n e
     behind-rest s e v sound lt to at =
         let here : IsNode g v × IsChain g (g.owner v) s.calls = subst (λ p. Stands g p s.calls) at sound.stands in
         let h : left_at_node g l w n (Some v) s.calls s.counts ≤ rest g l n e =
@@ -69,14 +69,14 @@ module _ (g : Graph) (l : Loops) (extent : ℕ → ℕ → Bool) (w : ℕ → �
         let q : cycles_left g l w n s ≡ left_at_node g l w n (Some v) s.calls s.counts = left_here g l extent w n is.program is.accepted is.weights is.numbers s v at in
         omega arith
 
-    pub along-rest : (ms : List Move) (e : ℕ) → AreKept g l (start g) ms → IsKept g l (state_after g l ms) (Along e) →
+    pub along-rest : (ms : List Move) (e : ℕ) → AreKept g l (graph_start g) ms → IsKept g l (state_after g l ms) (Along e) →
         cycles_left g l w n (after g l (state_after g l ms) (Along e)) ≤ rest g l n e
     along-rest ms e kept step =
         let v : (v : ℕ) × (g.target e ≡ Some v) = some_value (g.target e) step.move.1 in
         behind-rest (after g l (state_after g l ms) (Along e)) e v.0
         (sound_after g l extent is.program (state_after g l ms) (Along e) (sound_run g l extent is.program ms kept) step) step.edge v.1 v.1
 
-    pub return-rest : (ms : List Move) (e u d : ℕ) (calls : List ℕ) → AreKept g l (start g) ms → IsKept g l (state_after g l ms) (Return e) →
+    pub return-rest : (ms : List Move) (e u d : ℕ) (calls : List ℕ) → AreKept g l (graph_start g) ms → IsKept g l (state_after g l ms) (Return e) →
         (state_after g l ms).calls ≡ u ∷ calls → next_edge g u ≡ Some d →
         cycles_left g l w n (after g l (state_after g l ms) (Return e)) ≤ rest g l n d
     return-rest ms e u d calls kept step are next =

@@ -3,7 +3,7 @@ use Rattle.std.proofs.Common.{◌≡◌, ◌≢◌, ℕ, zero, suc, ◌+◌, ◌
 use Rattle.cost_theory.specs.Graph.{Graph, Loops, IsWalk, total, sum_below, only, is_round, enters, is_back, IsPlain, IsPlainPath, IsClosing}
 use Rattle.cost_theory.specs.Worst.{Numbers, IsGreatestIfAny, at_some, cost, all_of, charged, AreLoopNumbers, AreNumbers, IsBoundedWalk, IsLeft, IsReturningCall, turns_round, context_of, IsContext}
 use Rattle.cost_theory.specs.Accepted.{IsCall, IsProgram, AreAccepted, IsCallOrder}
-use Rattle.cost_theory.specs.Laws.{AreSame}
+use Rattle.cost_theory.specs.Laws.{AreSameNumbers}
 use Rattle.cost_theory.proofs.Nesting.{some_same, header_held, size, accepted_entered}
 use Rattle.cost_theory.proofs.Law.{greatest_same}
 use Rattle.cost_theory.proofs.Tables.{charged_same, greatest_value}
@@ -176,7 +176,7 @@ module _ (g : Graph) (l : Loops) (extent : ℕ → ℕ → Bool) (prog : IsProgr
     pub context_unique : (f : ℕ) → f < g.functions → n.context f ≡ n'.context f
     context_unique f fl = context-same g.functions f fl (omega arith)
 
-    pub same_numbers : AreSame g l n n'
+    pub same_numbers : AreSameNumbers g l n n'
     same_numbers = record {
       worst = worst_unique;
       iteration = iteration_unique;

@@ -6,7 +6,7 @@ use Rattle.cost_theory.specs.Graph.{Graph, Loops, total, next_edge}
 use Rattle.cost_theory.specs.Worst.{Numbers, AreNumbers, cost, charged, left_at, turn_back, slack, left_behind, turns_round, all_of, rest}
 use Rattle.cost_theory.specs.Accepted.{IsNode, IsProgram, AreCrossing, IsTooDeep, AreEntered, IsWithin, AreAccepted, AreWeights, HasNoRecursion, IsCallOrder, IsPlainOrder, IsPlainCycle}
 use Rattle.cost_theory.specs.Reached.{Code, IsCodeOf, HasNoBadWord, HasNoSharedCode, graph_of}
-use Rattle.cost_theory.specs.Steps.{Move, IsKept, AreKept, EndsByExit, start, state_after, after, edge_of, cycles, cycles_left}
+use Rattle.cost_theory.specs.Steps.{Move, IsKept, AreKept, EndsByExit, graph_start, state_after, after, edge_of, cycles, cycles_left}
 use Rattle.cost_theory.specs.Steps.Move.{Along, Call, Return}
 use Rattle.cost_theory.specs.Least.{Least, AreLeast, IsUpTo}
 use Rattle.cost_theory.specs.LeastTurns.{IsRun, KeepsLeast, IsKind, turn_step, turn_last}
@@ -19,7 +19,7 @@ pub record IsAnalyzed (g : Graph) (l : Loops) (extent : ℕ → ℕ → Bool) (w
   pub numbers : AreNumbers g l w n
 
 -- two records of numbers hold the same for the functions, loops and nodes of a program
-pub record AreSame (g : Graph) (l : Loops) (n n' : Numbers) : Type 0 where
+pub record AreSameNumbers (g : Graph) (l : Loops) (n n' : Numbers) : Type 0 where
   pub worst : (f : ℕ) → f < g.functions → n.worst f ≡ n'.worst f
   pub iteration : (k : ℕ) → k < l.loops → n.iteration k ≡ n'.iteration k
   pub plain : (v : ℕ) → n.plain v ≡ n'.plain v
@@ -107,7 +107,7 @@ NumbersExist = (g : Graph) (l : Loops) (extent : ℕ → ℕ → Bool) (w : ℕ 
 -- And only these.
 abbrev pub NumbersAgree : Type 0
 NumbersAgree = (g : Graph) (l : Loops) (extent : ℕ → ℕ → Bool) (w : ℕ → ℕ) (n n' : Numbers) →
-    IsProgram g → AreAccepted g l extent → AreNumbers g l w n → AreNumbers g l w n' → AreSame g l n n'
+    IsProgram g → AreAccepted g l extent → AreNumbers g l w n → AreNumbers g l w n' → AreSameNumbers g l n n'
 
 -- The worst cycles of a function are what is left at its entry, with all turns of the loops round it.
 abbrev pub WorstEquation : Type 0
@@ -154,47 +154,47 @@ ClosingNearWorst = (g : Graph) (l : Loops) (extent : ℕ → ℕ → Bool) (w : 
 -- At the start of a run the worst cycles are left.
 abbrev pub WorstLeftAtStart : Type 0
 WorstLeftAtStart = (g : Graph) (l : Loops) (extent : ℕ → ℕ → Bool) (w : ℕ → ℕ) (n : Numbers) → IsAnalyzed g l extent w n →
-    cycles_left g l w n (start g) ≡ n.worst 0
+    cycles_left g l w n (graph_start g) ≡ n.worst 0
 
 -- Each kept step lowers the cycles left by at least its weight.
 abbrev pub StepLowers : Type 0
 StepLowers = (g : Graph) (l : Loops) (extent : ℕ → ℕ → Bool) (w : ℕ → ℕ) (n : Numbers) → IsAnalyzed g l extent w n →
-    (ms : List Move) (m : Move) → AreKept g l (start g) ms → IsKept g l (state_after g l ms) m →
+    (ms : List Move) (m : Move) → AreKept g l (graph_start g) ms → IsKept g l (state_after g l ms) m →
     w (edge_of m) + cycles_left g l w n (after g l (state_after g l ms) m) ≤ cycles_left g l w n (state_after g l ms)
 
 -- A step within a function lowers them by exactly its weight, its slack, and the turns that are left of each loop that it leaves.
 abbrev pub StepAlong : Type 0
 StepAlong = (g : Graph) (l : Loops) (extent : ℕ → ℕ → Bool) (w : ℕ → ℕ) (n : Numbers) → IsAnalyzed g l extent w n →
-    (ms : List Move) (e : ℕ) → AreKept g l (start g) ms → IsKept g l (state_after g l ms) (Along e) →
+    (ms : List Move) (e : ℕ) → AreKept g l (graph_start g) ms → IsKept g l (state_after g l ms) (Along e) →
     cycles_left g l w n (state_after g l ms) ≡
     w e + slack g l n (cost g n w) e + cycles_left g l w n (after g l (state_after g l ms) (Along e)) + left_behind g l n (state_after g l ms).counts e
 
 -- A call that comes back lowers them by exactly its weight.
 abbrev pub StepCall : Type 0
 StepCall = (g : Graph) (l : Loops) (extent : ℕ → ℕ → Bool) (w : ℕ → ℕ) (n : Numbers) → IsAnalyzed g l extent w n →
-    (ms : List Move) (e f : ℕ) → AreKept g l (start g) ms → IsKept g l (state_after g l ms) (Call e f) → IsSome (next_edge g (g.source e)) →
+    (ms : List Move) (e f : ℕ) → AreKept g l (graph_start g) ms → IsKept g l (state_after g l ms) (Call e f) → IsSome (next_edge g (g.source e)) →
     cycles_left g l w n (state_after g l ms) ≡ w e + cycles_left g l w n (after g l (state_after g l ms) (Call e f))
 
 -- The cycles of a kept run and those left after it are at most the worst cycles.
 abbrev pub RunWithinWorst : Type 0
 RunWithinWorst = (g : Graph) (l : Loops) (extent : ℕ → ℕ → Bool) (w : ℕ → ℕ) (n : Numbers) → IsAnalyzed g l extent w n →
-    (ms : List Move) → AreKept g l (start g) ms → cycles w ms + cycles_left g l w n (state_after g l ms) ≤ n.worst 0
+    (ms : List Move) → AreKept g l (graph_start g) ms → cycles w ms + cycles_left g l w n (state_after g l ms) ≤ n.worst 0
 
 -- So a kept run takes at most the worst cycles.
 abbrev pub CyclesWithinWorst : Type 0
 CyclesWithinWorst = (g : Graph) (l : Loops) (extent : ℕ → ℕ → Bool) (w : ℕ → ℕ) (n : Numbers) → IsAnalyzed g l extent w n →
-    (ms : List Move) → AreKept g l (start g) ms → cycles w ms ≤ n.worst 0
+    (ms : List Move) → AreKept g l (graph_start g) ms → cycles w ms ≤ n.worst 0
 
 -- After a step within a function the cycles left are at most the rest behind its edge,
 abbrev pub LeftWithinRest : Type 0
 LeftWithinRest = (g : Graph) (l : Loops) (extent : ℕ → ℕ → Bool) (w : ℕ → ℕ) (n : Numbers) → IsAnalyzed g l extent w n →
-    (ms : List Move) (e : ℕ) → AreKept g l (start g) ms → IsKept g l (state_after g l ms) (Along e) →
+    (ms : List Move) (e : ℕ) → AreKept g l (graph_start g) ms → IsKept g l (state_after g l ms) (Along e) →
     cycles_left g l w n (after g l (state_after g l ms) (Along e)) ≤ rest g l n e
 
 -- and after a return at most the rest behind the edge by which the call comes back.
 abbrev pub LeftWithinRestOfReturn : Type 0
 LeftWithinRestOfReturn = (g : Graph) (l : Loops) (extent : ℕ → ℕ → Bool) (w : ℕ → ℕ) (n : Numbers) → IsAnalyzed g l extent w n →
-    (ms : List Move) (e u d : ℕ) (calls : List ℕ) → AreKept g l (start g) ms → IsKept g l (state_after g l ms) (Return e) →
+    (ms : List Move) (e u d : ℕ) (calls : List ℕ) → AreKept g l (graph_start g) ms → IsKept g l (state_after g l ms) (Return e) →
     (state_after g l ms).calls ≡ u ∷ calls → next_edge g u ≡ Some d →
     cycles_left g l w n (after g l (state_after g l ms) (Return e)) ≤ rest g l n d
 
@@ -203,7 +203,7 @@ LeftWithinRestOfReturn = (g : Graph) (l : Loops) (extent : ℕ → ℕ → Bool)
 -- From a node that a kept run has come to, a kept run that ends by an exit takes at least the node's least cycles to an end.
 abbrev pub ExitTakesLeast : Type 0
 ExitTakesLeast = (g : Graph) (l : Loops) (w : ℕ → ℕ) (n : Least) → IsProgram g → AreWeights g w → AreLeast g w n →
-    (ms more : List Move) (v : ℕ) → AreKept g l (start g) ms → (state_after g l ms).node ≡ Some v →
+    (ms more : List Move) (v : ℕ) → AreKept g l (graph_start g) ms → (state_after g l ms).node ≡ Some v →
     AreKept g l (state_after g l ms) more → EndsByExit more → IsUpTo (n.to_end v) (cycles w more)
 
 -- Where each loop is left only after its least number of turns, a walk costs at least the least charged cost of its kind.

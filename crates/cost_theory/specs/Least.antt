@@ -57,15 +57,15 @@ abbrev pub end_after : Graph → Least → ℕ → ℕ
 end_after g n e = at_some (g.target e) (λ u. unwrap_or (n.to_end u) 0)
 
 -- the ways from v to the end of the run: an exit before a return, or a return and then the end
-pub data Way : Type 0 where
-  Exits : Way
-  Returns : (e : ℕ) → Way
+pub data WayToEnd : Type 0 where
+  Exits : WayToEnd
+  Returns : (e : ℕ) → WayToEnd
 
-abbrev pub IsWay : Graph → Least → ℕ → Way → Type 0
+abbrev pub IsWay : Graph → Least → ℕ → WayToEnd → Type 0
 IsWay g n v Exits = IsSome (n.to_exit v)
 IsWay g n v (Returns e) = IsSome (n.to_return v) × IsReturnTo g n v e
 
-abbrev pub way_cost : Graph → Least → ℕ → Way → ℕ
+abbrev pub way_cost : Graph → Least → ℕ → WayToEnd → ℕ
 way_cost g n v Exits = unwrap_or (n.to_exit v) 0
 way_cost g n v (Returns e) = unwrap_or (n.to_return v) 0 + end_after g n e
 

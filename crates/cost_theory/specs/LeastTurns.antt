@@ -26,14 +26,14 @@ KeepsLeast g l m counts (e ∷ es) =
     KeepsLeast g l m (count_step l (Some (g.source e)) (g.target e) counts) es
 
 -- what an edge is charged with: the least turns of the loops that it enters from outside, at a cost of each turn
-abbrev pub charge : Graph → Loops → (ℕ → ℕ) → (ℕ → ℕ) → ℕ → ℕ
-charge g l m turn e = sum_below l.loops (λ k. only (enters l k (g.source e) (g.target e)) (m k * turn k))
+abbrev pub least_charge : Graph → Loops → (ℕ → ℕ) → (ℕ → ℕ) → ℕ → ℕ
+least_charge g l m turn e = sum_below l.loops (λ k. only (enters l k (g.source e) (g.target e)) (m k * turn k))
 
 -- a kind of walks, with the least charged cost of such a walk from each node
 pub record IsKind (g : Graph) (l : Loops) (c m turn : ℕ → ℕ) (last step : ℕ → Bool) (t : ℕ → Option ℕ) : Type 0 where
-  pub least : (v : ℕ) → IsLeastIfAny (IsRun g false last step (Some v)) (total (λ e. c e + charge g l m turn e)) (t v)
+  pub least : (v : ℕ) → IsLeastIfAny (IsRun g false last step (Some v)) (total (λ e. c e + least_charge g l m turn e)) (t v)
   -- the last edge of such a walk is charged with nothing
-  pub free : (e : ℕ) → e < g.edges → last e ≡ true → charge g l m turn e ≡ 0
+  pub free : (e : ℕ) → e < g.edges → last e ≡ true → least_charge g l m turn e ≡ 0
   -- such a walk does not end within a loop that it enters and that has to turn
   pub outside : (e j d : ℕ) → e < g.edges → step e ≡ true → j < l.loops → 0 < m j → enters l j (g.source e) (g.target e) ≡ true →
       d < g.edges → last d ≡ true → l.inside j (g.source d) ≡ true → leaves l j (g.source d) (g.target d) ≡ true

@@ -92,9 +92,9 @@ abbrev pub edge_to : Option Edge → Option ℕ
 edge_to None = None
 edge_to (Some e) = place_after e.kind e.to
 
-abbrev pub number_at : Option ℕ → ℕ
-number_at None = 0
-number_at (Some f) = f
+abbrev pub number_or_0 : Option ℕ → ℕ
+number_or_0 None = 0
+number_or_0 (Some f) = f
 
 -- whether the function that a word calls returns
 abbrev pub call_returns : Code → Word → Bool
@@ -110,7 +110,7 @@ call_returns code Bad = false
 
 -- the function that a word calls
 abbrev pub callee_of : List ℕ → Word → Option ℕ
-callee_of functions (CallOf to) = find_below (length functions) (λ i. nat_eq (number_at (slice_get functions i)) to)
+callee_of functions (CallOf to) = find_below (length functions) (λ i. nat_eq (number_or_0 (slice_get functions i)) to)
 callee_of functions (Branch to) = None
 callee_of functions (Goto to) = None
 callee_of functions Back = None
@@ -120,16 +120,16 @@ callee_of functions Breaks = None
 callee_of functions Straight = None
 callee_of functions Bad = None
 
-abbrev pub is_back : Word → Bool
-is_back Back = true
-is_back (Branch to) = false
-is_back (Goto to) = false
-is_back (CallOf to) = false
-is_back Ends = false
-is_back MayEnd = false
-is_back Breaks = false
-is_back Straight = false
-is_back Bad = false
+abbrev pub is_return_word : Word → Bool
+is_return_word Back = true
+is_return_word (Branch to) = false
+is_return_word (Goto to) = false
+is_return_word (CallOf to) = false
+is_return_word Ends = false
+is_return_word MayEnd = false
+is_return_word Breaks = false
+is_return_word Straight = false
+is_return_word Bad = false
 
 -- the function that an edge's word calls
 abbrev pub edge_callee : (ℕ → Word) → List ℕ → Option Edge → Option ℕ
@@ -139,7 +139,7 @@ edge_callee word functions (Some e) = callee_of functions (word e.at)
 -- an edge of a return
 abbrev pub edge_returns : (ℕ → Word) → Option Edge → Bool
 edge_returns word None = false
-edge_returns word (Some e) = is_back (word e.at)
+edge_returns word (Some e) = is_return_word (word e.at)
 
 -- an exit is the End edge of a word that ends the run or may end it
 abbrev pub is_exit : Word → EdgeKind → Bool
@@ -160,7 +160,7 @@ graph_of word code = record {
   returns = λ e. edge_returns word (slice_get code.edges e);
   exits = λ e. edge_exits word (slice_get code.edges e);
   functions = length code.functions;
-  entry = λ f. number_at (slice_get code.functions f);
+  entry = λ f. number_or_0 (slice_get code.functions f);
   owner = owner_of code;
 }
 

@@ -7,7 +7,7 @@ use Rattle.cost_theory.specs.Worst.{Numbers, cost, left_from, turns}
 
 -- Where a run stands: its node, or none where it has exited; the sites of the calls that it is in, the innermost first;
 -- and each loop's back edges since it was last entered.
-pub record State : Type 0 where
+pub record GraphState : Type 0 where
   pub node : Option ℕ
   pub calls : List ℕ
   pub counts : ℕ → ℕ
@@ -27,17 +27,17 @@ edge_of (Return e) = e
 edge_of (Exit e) = e
 
 -- back to the site of the innermost call, and on over the edge by which it comes back
-abbrev pub go_back : Graph → Loops → ℕ → Option ℕ → List ℕ → (ℕ → ℕ) → State
+abbrev pub go_back : Graph → Loops → ℕ → Option ℕ → List ℕ → (ℕ → ℕ) → GraphState
 go_back g l u None calls counts = record { node = None; calls = calls; counts = counts }
 go_back g l u (Some e) calls counts = record { node = g.target e; calls = calls; counts = count_step l (Some u) (g.target e) counts }
 
 -- after a return; with no call to go back to the run stands nowhere
-abbrev pub after_return : Graph → Loops → List ℕ → (ℕ → ℕ) → State
+abbrev pub after_return : Graph → Loops → List ℕ → (ℕ → ℕ) → GraphState
 after_return g l [] counts = record { node = None; calls = []; counts = counts }
 after_return g l (u ∷ calls) counts = go_back g l u (next_edge g u) calls counts
 
 -- the state after a step
-abbrev pub after : Graph → Loops → State → Move → State
+abbrev pub after : Graph → Loops → GraphState → Move → GraphState
 after g l s (Along e) = record { node = g.target e; calls = s.calls; counts = count_step l (Some (g.source e)) (g.target e) s.counts }
 after g l s (Call e f) = record { node = Some (g.entry f); calls = g.source e ∷ s.calls; counts = count_step l None (Some (g.entry f)) s.counts }
 after g l s (Return e) = after_return g l s.calls s.counts
@@ -49,7 +49,7 @@ ComesBack g [] = ⊥
 ComesBack g (u ∷ calls) = IsSome (next_edge g u)
 
 -- what the edge of a step is
-abbrev pub IsMove : Graph → State → Move → Type 0
+abbrev pub IsMove : Graph → GraphState → Move → Type 0
 IsMove g s (Along e) = (g.callee e ≡ None) × IsSome (g.target e)
 IsMove g s (Call e f) = (g.callee e ≡ Some f) × (g.target e ≡ None)
 IsMove g s (Return e) = (g.returns e ≡ true) × ComesBack g s.calls
@@ -67,7 +67,7 @@ abbrev pub AreLeftLate : Graph → Loops → Move → (ℕ → ℕ) → Type 0
 AreLeftLate g l m counts = (k : ℕ) → k < l.loops → is_left_by g l m k ≡ true → l.least_trips k ≤ counts k
 
 -- a step that breaks no bound, above or below
-pub record IsKept (g : Graph) (l : Loops) (s : State) (m : Move) : Type 0 where
+pub record IsKept (g : Graph) (l : Loops) (s : GraphState) (m : Move) : Type 0 where
   pub edge : edge_of m < g.edges
   pub from : s.node ≡ Some (g.source (edge_of m))
   pub move : IsMove g s m
@@ -75,12 +75,12 @@ pub record IsKept (g : Graph) (l : Loops) (s : State) (m : Move) : Type 0 where
   pub late : AreLeftLate g l m (after g l s m).counts
 
 -- each of these steps breaks no bound
-abbrev pub AreKept : Graph → Loops → State → List Move → Type 0
+abbrev pub AreKept : Graph → Loops → GraphState → List Move → Type 0
 AreKept g l s [] = Unit {0}
 AreKept g l s (m ∷ ms) = IsKept g l s m × AreKept g l (after g l s m) ms
 
 -- the state after these steps
-abbrev pub after_all : Graph → Loops → State → List Move → State
+abbrev pub after_all : Graph → Loops → GraphState → List Move → GraphState
 after_all g l s [] = s
 after_all g l s (m ∷ ms) = after_all g l (after g l s m) ms
 
@@ -91,12 +91,12 @@ EndsByExit (m ∷ []) = (e : ℕ) × (m ≡ Exit e)
 EndsByExit (m ∷ k ∷ ms) = EndsByExit (k ∷ ms)
 
 -- a run starts at the entry of the first function, in no call, with all counts 0
-abbrev pub start : Graph → State
-start g = record { node = Some (g.entry 0); calls = []; counts = λ k. 0 }
+abbrev pub graph_start : Graph → GraphState
+graph_start g = record { node = Some (g.entry 0); calls = []; counts = λ k. 0 }
 
 -- where a run stands after these steps from the start
-abbrev pub state_after : Graph → Loops → List Move → State
-state_after g l ms = after_all g l (start g) ms
+abbrev pub state_after : Graph → Loops → List Move → GraphState
+state_after g l ms = after_all g l (graph_start g) ms
 
 -- the cycles of the steps
 abbrev pub cycles : (ℕ → ℕ) → List Move → ℕ
@@ -122,5 +122,5 @@ left_at_node g l w n None calls counts = 0
 left_at_node g l w n (Some v) calls counts = left_from l n (Some v) counts + left_calls g l w n counts calls
 
 -- the cycles left
-abbrev pub cycles_left : Graph → Loops → (ℕ → ℕ) → Numbers → State → ℕ
+abbrev pub cycles_left : Graph → Loops → (ℕ → ℕ) → Numbers → GraphState → ℕ
 cycles_left g l w n s = left_at_node g l w n s.node s.calls s.counts

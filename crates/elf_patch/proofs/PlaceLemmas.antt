@@ -7,15 +7,15 @@ use Rattle.std.proofs.lemmas.Bool.Decides.{nat_tests}
 use Rattle.scale_base.specs.declared.ranges.Span.{Span}
 use Rattle.scale_base.specs.Spans.{overlap}
 use Rattle.scale_base.specs.Image.{Image, LoadSegment, stack, addresses_of}
-use Rattle.elf_patch.specs.Stored.{window, IsBlocked, page_at}
+use Rattle.elf_patch.specs.Stored.{window, IsBlocked, page_from}
 
-pub page_at-mod : (at : ℕ) → page_at at % 4096 ≡ 0
+pub page_at-mod : (at : ℕ) → page_from at % 4096 ≡ 0
 page_at-mod at = omega arith
 
-pub page_at-le : (at : ℕ) → at ≤ page_at at
+pub page_at-le : (at : ℕ) → at ≤ page_from at
 page_at-le at = omega arith
 
-pub page_at-least : (at other : ℕ) → other % 4096 ≡ 0 → at ≤ other → page_at at ≤ other
+pub page_at-least : (at other : ℕ) → other % 4096 ≡ 0 → at ≤ other → page_from at ≤ other
 page_at-least at other page le = omega arith
 
 -- ---- a segment that is in the way

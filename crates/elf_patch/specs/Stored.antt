@@ -45,8 +45,8 @@ pub record IsBlocked (image : Image) (len base end : ℕ) : Type 0 where
   pub none : (other : ℕ) → base ≤ other → is_free image len other ≡ true → end ≤ other
 
 -- the first multiple of 4096 from an address on
-abbrev pub page_at : ℕ → ℕ
-page_at at = round_up 4096 at
+abbrev pub page_from : ℕ → ℕ
+page_from at = round_up 4096 at
 
 -- ---- the stored file
 
@@ -90,8 +90,8 @@ abbrev pub entries : List ℕ → ℕ → ℕ → List ℕ
 entries file k n = flat_map (kept_entry file) (range_with_len k n)
 
 -- the entry of a block of so many bytes
-abbrev pub entry_of : ℕ → ℕ → ℕ → ℕ → List ℕ
-entry_of place base start len =
+abbrev pub block_entry : ℕ → ℕ → ℕ → ℕ → List ℕ
+block_entry place base start len =
     flat_map (little 4) (1 ∷ place ∷ base ∷ start ∷ len ∷ len ∷ 0x00100005 ∷ 4096 ∷ [])
 
 -- the number of the first loaded segment at or above the base, or of entries where there is none
@@ -102,7 +102,7 @@ keyed_number file base = position_or_len (λ h. is_load h && nat_le base h.p_vad
 unfoldable pub stored_table : List ℕ → ℕ → ℕ → ℕ → ℕ → List ℕ
 stored_table file place base start len =
     let k = keyed_number file base in
-    entries file 0 k ++ entry_of place base start len ++ entries file k (e_phnum file - k)
+    entries file 0 k ++ block_entry place base start len ++ entries file k (e_phnum file - k)
 
 -- the stored image of a file
 unfoldable pub stored_image : List ℕ → List Patch → ℕ → List ℕ → ℕ → List ℕ

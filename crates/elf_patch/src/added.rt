@@ -75,7 +75,7 @@ fn push_code_table(
     Ok(())
 }
 
-#[tactic(auto, unfolding(scale_base::specs::Bytes::half_at, scale_base::specs::Bytes::word_at))]
+#[tactic(auto, unfolding(scale_base::specs::Bytes::list_half_at, scale_base::specs::Bytes::list_word_at))]
 fn section_offset(file: &[u8]) -> usize
     requires { 52 ≤ length file.now }
     ensures { result ≡ elf.e_shoff file.now }
@@ -84,7 +84,7 @@ fn section_offset(file: &[u8]) -> usize
 }
 
 /// How many section headers the file says that it has.
-#[tactic(auto, unfolding(scale_base::specs::Bytes::half_at, scale_base::specs::Bytes::word_at))]
+#[tactic(auto, unfolding(scale_base::specs::Bytes::list_half_at, scale_base::specs::Bytes::list_word_at))]
 pub fn section_count(file: &[u8]) -> u16
     requires { 52 ≤ length file.now }
     ensures { result ≡ elf.e_shnum file.now }

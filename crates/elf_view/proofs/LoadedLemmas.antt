@@ -9,7 +9,7 @@ use Rattle.scale_base.specs.declared.refusal.Refusal.TheVariants.{BadSegment}
 use Rattle.scale_base.specs.Spans.{overlap, ends_by, each_pair}
 use Rattle.scale_base.specs.Rules.{rule, first_broken}
 use Rattle.scale_base.specs.Elf.{e_phnum, program_header, program_headers}
-use Rattle.scale_base.specs.Image.{is_load, has_key, memory_range, stack, is_plain_place, is_keyed_place, is_fit, may_follow, are_placed, are_few, leave_room, loads, keeps_load_rules, keeps_segment_rules, segment_rules}
+use Rattle.scale_base.specs.Image.{is_load, has_key, memory_range, stack, is_plain_place, is_keyed_place, is_fit, may_follow, are_placed, are_few, leave_room, load_headers, keeps_load_rules, keeps_segment_rules, segment_rules}
 use Rattle.elf_view.proofs.Below.{length-headers, header_at}
 use Rattle.std.specs.Prelude.{nat_le, ◌==◌, All}
 use Rattle.std.proofs.lemmas.List.Sums.{AllPass-from_list_all}
@@ -23,21 +23,21 @@ pub length-prefix : (file : List ℕ) (k : ℕ) → k ≤ e_phnum file → lengt
 length-prefix file k le = omega (arith, length-take k (program_headers file), length-headers file)
 
 -- one more entry
-pub loads-more : (file : List ℕ) (k : ℕ) (old new : List ProgramHeader) (header : ProgramHeader) → k < e_phnum file → old ≡ loads (take k (program_headers file)) → new ≡ old ++ loads (header ∷ []) → header ≡ program_header file k
-    → new ≡ loads (take (k + 1) (program_headers file))
+pub loads-more : (file : List ℕ) (k : ℕ) (old new : List ProgramHeader) (header : ProgramHeader) → k < e_phnum file → old ≡ load_headers (take k (program_headers file)) → new ≡ old ++ load_headers (header ∷ []) → header ≡ program_header file k
+    → new ≡ load_headers (take (k + 1) (program_headers file))
 loads-more file k old new header lt before added is =
     let more = filter_more is_load (program_headers file) k (program_header file k) (omega (arith, length-headers file)) in
     let at : get_or (program_headers file) k (program_header file k) ≡ program_header file k = header_at file k (program_header file k) lt in
     added ∙ rw (before, is) refl ∙ sym (rw at at more)
 
-pub length-loads : (headers : List ProgramHeader) → length (loads headers) ≤ length headers
+pub length-loads : (headers : List ProgramHeader) → length (load_headers headers) ≤ length headers
 length-loads headers = omega (arith, length-filter_both is_load (λ h. not (is_load h)) (λ h. refl) headers)
 
-pub few-loads : (file : List ℕ) (k : ℕ) (segments : List ProgramHeader) → k < e_phnum file → e_phnum file ≤ 64 → segments ≡ loads (take (k + 1) (program_headers file)) → length segments ≤ 64
+pub few-loads : (file : List ℕ) (k : ℕ) (segments : List ProgramHeader) → k < e_phnum file → e_phnum file ≤ 64 → segments ≡ load_headers (take (k + 1) (program_headers file)) → length segments ≤ 64
 few-loads file k segments lt few e = rw e (omega (arith, length-loads (take (k + 1) (program_headers file)), length-prefix file (k + 1) (omega arith)))
 
 -- the rule of entry k
-pub rule_at : (file : List ℕ) (k : ℕ) (segments : List ProgramHeader) (b : Bool) → k < e_phnum file → segments ≡ loads (take (k + 1) (program_headers file)) → keeps_load_rules (k + 1) segments ≡ b
+pub rule_at : (file : List ℕ) (k : ℕ) (segments : List ProgramHeader) (b : Bool) → k < e_phnum file → segments ≡ load_headers (take (k + 1) (program_headers file)) → keeps_load_rules (k + 1) segments ≡ b
     → keeps_segment_rules (take (k + 1) (program_headers file)) ≡ b
 rule_at file k segments b lt e h = rw (length-prefix file (k + 1) (omega arith), ← e) h
 
@@ -50,8 +50,8 @@ pub all_kept : (file : List ℕ) → ((j : ℕ) → j < e_phnum file → keeps_s
 unfolding segment_rules
 all_kept file h = none_broken (λ k. rule (keeps_segment_rules (take (k + 1) (program_headers file))) (BadSegment k)) (e_phnum file) h
 
-pub loads-all : (file : List ℕ) (k : ℕ) (segments : List ProgramHeader) → e_phnum file ≤ k → segments ≡ loads (take k (program_headers file)) → segments ≡ loads (program_headers file)
-loads-all file k segments le e = e ∙ ap loads (take_all k (program_headers file) (omega (arith, length-headers file)))
+pub loads-all : (file : List ℕ) (k : ℕ) (segments : List ProgramHeader) → e_phnum file ≤ k → segments ≡ load_headers (take k (program_headers file)) → segments ≡ load_headers (program_headers file)
+loads-all file k segments le e = e ∙ ap load_headers (take_all k (program_headers file) (omega (arith, length-headers file)))
 
 plain-low : (h : ProgramHeader) → is_plain_place h ≡ true → h.p_vaddr + h.p_memsz ≤ 0xFF000000
 plain-low h e = le_of _ _ (both_true (ends_by 0xFF000000 (memory_range h)) (not (overlap (memory_range h) stack)) e).0
@@ -83,17 +83,17 @@ all-low entries segments e k d lt =
     let c = both_true (list_all is_fit segments) (each_pair may_follow segments) b.0 in
     fit-low (get_or segments k d) (AllPass-from_list_all is_fit segments c.0 k d lt)
 
-loads-low : (file : List ℕ) (segments : List ProgramHeader) → 1 ≤ e_phnum file → segments ≡ loads (program_headers file) → keeps_segment_rules (take (e_phnum file - 1 + 1) (program_headers file)) ≡ true → All IsLow segments
+loads-low : (file : List ℕ) (segments : List ProgramHeader) → 1 ≤ e_phnum file → segments ≡ load_headers (program_headers file) → keeps_segment_rules (take (e_phnum file - 1 + 1) (program_headers file)) ≡ true → All IsLow segments
 loads-low file segments some e last =
     let n : e_phnum file - 1 + 1 ≡ e_phnum file = omega arith in
     let whole : take (e_phnum file) (program_headers file) ≡ program_headers file = take_all (e_phnum file) (program_headers file) (omega (arith, length-headers file)) in
     let kept : keeps_segment_rules (program_headers file) ≡ true = rw (← whole) (rw n at last) in
-    rw e (all-low (length (program_headers file)) (loads (program_headers file)) kept)
+    rw e (all-low (length (program_headers file)) (load_headers (program_headers file)) kept)
 
-pub loads-in_memory : (file : List ℕ) (segments : List ProgramHeader) → 1 ≤ e_phnum file → segments ≡ loads (program_headers file) → keeps_segment_rules (take (e_phnum file - 1 + 1) (program_headers file)) ≡ true
+pub loads-in_memory : (file : List ℕ) (segments : List ProgramHeader) → 1 ≤ e_phnum file → segments ≡ load_headers (program_headers file) → keeps_segment_rules (take (e_phnum file - 1 + 1) (program_headers file)) ≡ true
     → All (λ h. h.p_vaddr + h.p_memsz < 2 ^ 32) segments
 loads-in_memory file segments some e last k d lt = (loads-low file segments some e last k d lt).memory
 
-pub loads-files_low : (file : List ℕ) (segments : List ProgramHeader) → 1 ≤ e_phnum file → segments ≡ loads (program_headers file) → keeps_segment_rules (take (e_phnum file - 1 + 1) (program_headers file)) ≡ true
+pub loads-files_low : (file : List ℕ) (segments : List ProgramHeader) → 1 ≤ e_phnum file → segments ≡ load_headers (program_headers file) → keeps_segment_rules (take (e_phnum file - 1 + 1) (program_headers file)) ≡ true
     → All (λ h. h.p_vaddr + h.p_filesz < 2 ^ 32) segments
 loads-files_low file segments some e last k d lt = (loads-low file segments some e last k d lt).file

@@ -7,10 +7,10 @@ use Rattle.std.proofs.lemmas.List.Elements.{All-filter, All-map, filter-append, 
 use Rattle.std.proofs.lemmas.List.FromFn.{length-range_with_len, get_or-range_with_len}
 use Rattle.std.specs.List.{All, filter, find, range_with_len, starts_with}
 use Rattle.std.specs.List.Sorted.{IsStableBy, ties}
-use Rattle.scale_base.specs.Bytes.{word_at}
+use Rattle.scale_base.specs.Bytes.{list_word_at}
 use Rattle.scale_base.specs.Symbols.{is_named, stands_at, value_in}
 use Rattle.elf_view.specs.declared.stems.SymbolKey.{SymbolKey}
-use Rattle.elf_view.specs.Stems.{mixed, stem_from, stem_of, is_defined, key_of, keys_of, has_stem, IsInTable, AreSortedKeys}
+use Rattle.elf_view.specs.Stems.{mixed, stem_from, stem_of, is_defined, symbol_key, keys_of, has_stem, IsInTable, AreSortedKeys}
 use Rattle.elf_view.proofs.Booleans.{both_true}
 
 abbrev no_key : SymbolKey
@@ -92,26 +92,26 @@ range_next : (k : ℕ) → 1 ≤ k → range_with_len 1 (k + 1 - 1) ≡ range_wi
 range_next k le =
     ap (range_with_len 1) (let e : k + 1 - 1 ≡ suc (k - 1) = omega arith in e) ∙ range_suc 1 (k - 1) ∙ ap (λ (i : ℕ). range_with_len 1 (k - 1) ++ i ∷ []) (let e : 1 + (k - 1) ≡ k = omega arith in e)
 
-keys_next : (strings table : List ℕ) (k : ℕ) (some : List ℕ) → 1 ≤ k → filter (is_defined table) (k ∷ []) ≡ some → keys_of strings table (k + 1 - 1) ≡ map (key_of strings table) (filter (is_defined table) (range_with_len 1 (k - 1)) ++ some)
+keys_next : (strings table : List ℕ) (k : ℕ) (some : List ℕ) → 1 ≤ k → filter (is_defined table) (k ∷ []) ≡ some → keys_of strings table (k + 1 - 1) ≡ map (symbol_key strings table) (filter (is_defined table) (range_with_len 1 (k - 1)) ++ some)
 keys_next strings table k some le e =
-    ap (map (key_of strings table)) (ap (filter (is_defined table)) (range_next k le) ∙ filter-append (is_defined table) (range_with_len 1 (k - 1)) (k ∷ []) ∙ ap (λ (ks : List ℕ). filter (is_defined table) (range_with_len 1 (k - 1)) ++ ks) e)
+    ap (map (symbol_key strings table)) (ap (filter (is_defined table)) (range_next k le) ∙ filter-append (is_defined table) (range_with_len 1 (k - 1)) (k ∷ []) ∙ ap (λ (ks : List ℕ). filter (is_defined table) (range_with_len 1 (k - 1)) ++ ks) e)
 
 -- entry k is undefined
 pub keys_pass : (strings table : List ℕ) (k : ℕ) → 1 ≤ k → is_defined table k ≡ false → keys_of strings table (k + 1 - 1) ≡ keys_of strings table (k - 1)
 keys_pass strings table k le off =
-    keys_next strings table k [] le (cond-false _ (k ∷ []) [] off) ∙ ap (map (key_of strings table)) (append-nil (filter (is_defined table) (range_with_len 1 (k - 1))))
+    keys_next strings table k [] le (cond-false _ (k ∷ []) [] off) ∙ ap (map (symbol_key strings table)) (append-nil (filter (is_defined table) (range_with_len 1 (k - 1))))
 
 -- entry k has a key
-pub keys_take : (strings table : List ℕ) (k : ℕ) → 1 ≤ k → is_defined table k ≡ true → keys_of strings table (k + 1 - 1) ≡ keys_of strings table (k - 1) ++ key_of strings table k ∷ []
+pub keys_take : (strings table : List ℕ) (k : ℕ) → 1 ≤ k → is_defined table k ≡ true → keys_of strings table (k + 1 - 1) ≡ keys_of strings table (k - 1) ++ symbol_key strings table k ∷ []
 keys_take strings table k le on =
-    keys_next strings table k (k ∷ []) le (cond-true _ (k ∷ []) [] on) ∙ map-append (key_of strings table) (filter (is_defined table) (range_with_len 1 (k - 1))) (k ∷ [])
+    keys_next strings table k (k ∷ []) le (cond-true _ (k ∷ []) [] on) ∙ map-append (symbol_key strings table) (filter (is_defined table) (range_with_len 1 (k - 1))) (k ∷ [])
 
 -- each key of a stem is of an entry of the table
 pub keys_in_table : (strings table : List ℕ) (keys : List SymbolKey) (stem : ℕ) → AreSortedKeys strings table keys → All (IsInTable (length table)) (filter (has_stem stem) keys)
 keys_in_table strings table keys stem sorted =
     subst (λ (found : List SymbolKey). All (IsInTable (length table)) found) (sym (sorted.same stem))
     (All-filter (has_stem stem) (IsInTable (length table)) (keys_of strings table (length table / 16 - 1))
-    (All-map (IsInTable (length table)) (key_of strings table) (filter (is_defined table) numbers)
+    (All-map (IsInTable (length table)) (symbol_key strings table) (filter (is_defined table) numbers)
     (All-filter (is_defined table) (λ (k : ℕ). 16 * k + 16 ≤ length table) numbers (λ k d lt.
     let few : length numbers ≡ length table / 16 - 1 = length-range_with_len 1 (length table / 16 - 1) in
     let is : get_or numbers k d ≡ 1 + k = get_or-range_with_len 1 (length table / 16 - 1) k d (omega arith) in
@@ -135,12 +135,12 @@ text_stem stem (suc n) (y ∷ ys) (x ∷ xs) e =
     subst (λ (z : ℕ). cond (z == 0) stem (stem_from (mixed stem z) (take n ys)) ≡ cond (x == 0) stem (stem_from (mixed stem x) (take n xs))) same (ap (λ (s : ℕ). cond (x == 0) stem s) rest)
 
 -- an entry with the name is defined, and its key has the stem of the name
-pub named_key : (name strings table : List ℕ) (k : ℕ) → is_named name strings table k ≡ true → (is_defined table k ≡ true) × (has_stem (stem_of name) (key_of strings table k) ≡ true)
+pub named_key : (name strings table : List ℕ) (k : ℕ) → is_named name strings table k ≡ true → (is_defined table k ≡ true) × (has_stem (stem_of name) (symbol_key strings table k) ≡ true)
 unfolding stem_of
 named_key name strings table k e =
-    let parts = both_true (is_defined table k) (stands_at name strings (word_at table (16 * k))) e in
-    let stands = both_true _ (starts_with nat_eq (drop (word_at table (16 * k)) strings) (name ++ 0 ∷ [])) parts.1 in
-    (parts.0, eq-eqb _ _ (text_stem _ 4096 (drop (word_at table (16 * k)) strings) name stands.1))
+    let parts = both_true (is_defined table k) (stands_at name strings (list_word_at table (16 * k))) e in
+    let stands = both_true _ (starts_with nat_eq (drop (list_word_at table (16 * k)) strings) (name ++ 0 ∷ [])) parts.1 in
+    (parts.0, eq-eqb _ _ (text_stem _ 4096 (drop (list_word_at table (16 * k)) strings) name stands.1))
 
 -- ---- what a look-up finds
 
@@ -163,6 +163,6 @@ found_among named defined key stem value number has (k ∷ ks) =
     by_cases false true true ea eb ec rest = rw (eb, ec, number k, ea) rest
 
 pub found : (name strings table : List ℕ) (keys : List SymbolKey) → AreSortedKeys strings table keys →
-    option_map (λ (key : SymbolKey). word_at table (16 * key.number + 4)) (find (λ (key : SymbolKey). is_named name strings table key.number) (filter (has_stem (stem_of name)) keys)) ≡ value_in name strings table
+    option_map (λ (key : SymbolKey). list_word_at table (16 * key.number + 4)) (find (λ (key : SymbolKey). is_named name strings table key.number) (filter (has_stem (stem_of name)) keys)) ≡ value_in name strings table
 found name strings table keys sorted = rw (sorted.same (stem_of name))
-    (found_among (is_named name strings table) (is_defined table) (key_of strings table) (stem_of name) (λ k. word_at table (16 * k + 4)) (λ k. refl) (named_key name strings table) (range_with_len 1 (length table / 16 - 1)))
+    (found_among (is_named name strings table) (is_defined table) (symbol_key strings table) (stem_of name) (λ k. list_word_at table (16 * k + 4)) (λ k. refl) (named_key name strings table) (range_with_len 1 (length table / 16 - 1)))

@@ -19,7 +19,7 @@ use Rattle.scale_base.specs.declared.refusal.Stop.{Stop}
 use Rattle.scale_base.specs.declared.refusal.Stop.TheVariants.{Refused, Memory}
 use Rattle.scale_base.specs.Spans.{each_pair}
 use Rattle.scale_base.specs.Rules.{rule, first_broken, AllHold, IsStop}
-use Rattle.scale_base.specs.Image.{range_of, insert_range, ascending, ranges_of, is_text_place, is_off_table, is_code_segment, holds_part, are_apart, keeps_text_rules, part_rules, text_rules, start_of}
+use Rattle.scale_base.specs.Image.{range_of, insert_range, ascending, ranges_of, is_text_place, is_off_table, is_code_segment, holds_part, are_apart, keeps_text_rules, part_rules, text_rules, text_start}
 use Rattle.scale_base.proofs.Laws.{rule_kept}
 use Rattle.elf_view.specs.Ascending.{are_separate, fits_beside, next_rules}
 use Rattle.elf_view.proofs.Booleans.{both_true, le_of}
@@ -127,10 +127,10 @@ unfolding part_rules
 broken_at file segments front rest part before here =
     let all = front ++ part ∷ rest in
     let len = length-append front (part ∷ rest) in
-    first_at (λ k. rule (keeps_text_rules file segments (take (k + 1) all)) (BadText (start_of (slice_get all k)))) (length all) (length front) (omega (arith, len))
+    first_at (λ k. rule (keeps_text_rules file segments (take (k + 1) all)) (BadText (text_start (slice_get all k)))) (length all) (length front) (omega (arith, len))
     (λ j lt. rw (take-append-le (j + 1) front (part ∷ rest) (omega arith)) (before j lt))
     (rw (take-append-add front (part ∷ rest) 1) here)
-    ∙ ap (λ (o : Option TextPart). Some (BadText (start_of o))) (slice_at front rest part)
+    ∙ ap (λ (o : Option TextPart). Some (BadText (text_start o))) (slice_at front rest part)
 
 rule_stops : (b : Bool) (refusal other : Refusal) → first_broken (rule b refusal ∷ []) ≡ Some other → (b ≡ false) × (refusal ≡ other)
 rule_stops true refusal other e = absurd cc
@@ -148,7 +148,7 @@ text_stop file segments parts rest ranges bytes (Some part) (Refused refusal) h 
 text_done : (file : List ℕ) (segments : List ProgramHeader) (parts : List TextPart) (ranges : List Range) (bytes : ℕ) → IsTextOf file segments parts ranges bytes → AllHold (part_rules file segments parts)
 unfolding part_rules
 text_done file segments parts ranges bytes h =
-    none_broken (λ k. rule (keeps_text_rules file segments (take (k + 1) parts)) (BadText (start_of (slice_get parts k)))) (length parts) h.each
+    none_broken (λ k. rule (keeps_text_rules file segments (take (k + 1) parts)) (BadText (text_start (slice_get parts k)))) (length parts) h.each
 
 -- ---- a table of which each entry holds a part, or none
 

@@ -8,7 +8,7 @@ use Rattle.scale_base.specs.declared.ranges.Range.{Range}
 use Rattle.scale_base.specs.declared.headers.ProgramHeader.{ProgramHeader}
 use Rattle.scale_base.specs.declared.ranges.TextPart.{TextPart}
 use Rattle.scale_base.specs.Image.{Image, image_of, contents, is_word_address, text_word, file_place, text_parts, ranges_of, text_ranges, ascending, text_rules, write_rules, all_text_rules, loaded_headers, insert_range, range_of, is_in, holds_part, is_code_segment, is_text_place, is_off_table, header_has_word}
-use Rattle.scale_base.specs.Bytes.{word_at}
+use Rattle.scale_base.specs.Bytes.{list_word_at}
 use Rattle.scale_base.specs.Rules.{AllHold}
 use Rattle.scale_base.proofs.Laws.{kept-split, rules_kept, contents-are, parts_kept, rules_of}
 use Rattle.elf_view.proofs.Booleans.{both_true, le_of}
@@ -113,7 +113,7 @@ contents_word : (file : List ℕ) (at : ℕ) → AllHold (all_text_rules file (l
 unfolding text_word
 contents_word file at rules =
     elim (either_way (is_word_address (contents file) at)) [
-      | inl on ↦ rw on (mapped (word_at (contents file).file) (file_place (contents file).file at) (has_place file at rules on))
+      | inl on ↦ rw on (mapped (list_word_at (contents file).file) (file_place (contents file).file at) (has_place file at rules on))
       | inr off ↦ rw off refl
     ]
 

@@ -12,7 +12,7 @@ use Rattle.scale_base.specs.declared.refusal.Stop.{Stop}
 use Rattle.scale_base.specs.declared.refusal.Stop.TheVariants.{Refused}
 use Rattle.scale_base.specs.Rules.{first_broken, AllHold, IsStop}
 use Rattle.scale_base.specs.Spans.{ends_by}
-use Rattle.scale_base.specs.Bytes.{word_at}
+use Rattle.scale_base.specs.Bytes.{list_word_at}
 use Rattle.scale_base.specs.Image.{Image, is_word_address, text_word, file_place, file_part, header_has_word, segment_of, header_rules, table_rules, segment_rules, all_text_rules, loaded_headers, text_parts, text_ranges, ranges_of, image_rules, image_of, contents}
 use Rattle.scale_base.specs.Answer.{Stops}
 use Rattle.scale_base.proofs.Laws.{stop_first, stop_later, kept-append, stopped, long, parts_in_file}
@@ -103,6 +103,6 @@ pub text_word-out : (image : Image) (at : ℕ) → is_word_address image at ≡ 
 unfolding text_word
 text_word-out image at e = rw e refl
 
-pub text_word-in : (image : Image) (at : ℕ) (o : Option ℕ) → is_word_address image at ≡ true → o ≡ option_map (word_at image.file) (file_place image.file at) → o ≡ text_word image at
+pub text_word-in : (image : Image) (at : ℕ) (o : Option ℕ) → is_word_address image at ≡ true → o ≡ option_map (list_word_at image.file) (file_place image.file at) → o ≡ text_word image at
 unfolding text_word
 text_word-in image at o e is = rw e is

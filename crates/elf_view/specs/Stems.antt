@@ -2,7 +2,7 @@
 use Rattle.std.specs.Prelude.{◌≡◌, ℕ, ◌+◌, ◌-◌, ◌*◌, ◌/◌, ◌%◌, ◌^◌, ◌≤◌, ◌==◌, not, Bool, bit_xor, if◌then◌else◌, List, [], ◌∷◌, length, map, filter, take, drop}
 use Rattle.std.specs.List.{range_with_len}
 use Rattle.std.specs.List.Sorted.{IsNonDecreasingBy}
-use Rattle.scale_base.specs.Bytes.{half_at, word_at}
+use Rattle.scale_base.specs.Bytes.{list_half_at, list_word_at}
 use Rattle.scale_base.specs.Symbols.{symbol_value, value_in}
 use Rattle.elf_view.specs.declared.stems.SymbolKey.{SymbolKey}
 
@@ -21,15 +21,15 @@ stem_of text = stem_from 14695981039346656037 (take 4096 text)
 
 -- the section of entry k of a symbol table (st_shndx) isn't 0
 abbrev pub is_defined : List ℕ → ℕ → Bool
-is_defined table k = not (half_at table (16 * k + 14) == 0)
+is_defined table k = not (list_half_at table (16 * k + 14) == 0)
 
 -- entry k, by the stem of its name
-abbrev pub key_of : List ℕ → List ℕ → ℕ → SymbolKey
-key_of strings table k = record { stem = stem_of (drop (word_at table (16 * k)) strings); number = k }
+abbrev pub symbol_key : List ℕ → List ℕ → ℕ → SymbolKey
+symbol_key strings table k = record { stem = stem_of (drop (list_word_at table (16 * k)) strings); number = k }
 
 -- the defined ones of so many entries after entry 0, in their order
 abbrev pub keys_of : List ℕ → List ℕ → ℕ → List SymbolKey
-keys_of strings table count = map (key_of strings table) (filter (is_defined table) (range_with_len 1 count))
+keys_of strings table count = map (symbol_key strings table) (filter (is_defined table) (range_with_len 1 count))
 
 -- a key has this stem
 abbrev pub has_stem : ℕ → SymbolKey → Bool

@@ -1,7 +1,7 @@
 //! The symbols of an image in an order that finds them fast.
 
 ghost use Rattle.std.specs.Prelude.{◌≡◌, ◌≤◌, ◌+◌, ◌*◌, length, find, option_map, All, IfOk, IsTrue};
-ghost use Rattle.scale_base.specs.Bytes.{word_at};
+ghost use Rattle.scale_base.specs.Bytes.{list_word_at};
 ghost use Rattle.scale_base.specs.Elf as elf;
 ghost use Rattle.scale_base.specs.Image.{Image, contents};
 ghost use Rattle.scale_base.specs.Symbols.{symbol_value, value_in, is_named};
@@ -36,7 +36,7 @@ impl<'a> Model for SortedSymbols<'a> {
 /// The value of the first of these symbols that has the name.
 fn value_among(name: &[u8], table: &SymbolTable<'_>, keys: &[SymbolKey]) -> Option<u32>
     requires { All (IsInTable (length table.now.entries.now)) keys.now }
-    ensures { result ≡ option_map (λ key. word_at table.now.entries.now (16 * key.number + 4)) (find (λ key. is_named name.now table.now.strings.now table.now.entries.now key.number) keys.now) }
+    ensures { result ≡ option_map (λ key. list_word_at table.now.entries.now (16 * key.number + 4)) (find (λ key. is_named name.now table.now.strings.now table.now.entries.now key.number) keys.now) }
 {
     for key in keys {
         if is_named(name, table.strings, table.entries, key.number) {

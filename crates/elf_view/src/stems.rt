@@ -76,7 +76,7 @@ fn text_at(strings: &[u8], at: usize) -> &[u8]
 
 fn key_of(symbols: &SymbolTable<'_>, number: usize) -> SymbolKey
     requires { 16 * number + 16 ≤ length symbols.now.entries.now }
-    ensures { result ≡ stems.key_of symbols.now.strings.now symbols.now.entries.now number }
+    ensures { result ≡ stems.symbol_key symbols.now.strings.now symbols.now.entries.now number }
 {
     let at = word(symbols.entries, 16 * number) as usize;
     SymbolKey {

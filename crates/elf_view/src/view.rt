@@ -3,7 +3,7 @@
 ghost use Rattle.std.specs.Prelude.{◌≡◌, ◌<◌, ◌≤◌, ◌+◌, ◌-◌, ◌^◌, length, Ok, Some, IfOk, IfSome, is_some, slice_get, All, find, option_map, if◌then◌else◌, ◌&&◌, ◌%◌, ◌==◌};
 ghost use Rattle.std.specs.List.{list_any};
 ghost use Rattle.scale_base.specs.Answer.{Answers};
-ghost use Rattle.scale_base.specs.Bytes.{word_at};
+ghost use Rattle.scale_base.specs.Bytes.{list_word_at};
 ghost use Rattle.scale_base.specs.Image as image;
 ghost use Rattle.scale_base.specs.Image.{image_of, text_word, Image};
 ghost use Rattle.scale_base.specs.Symbols.{symbol_value};
@@ -99,7 +99,7 @@ fn is_word_in(text: &[Range], at: u32) -> bool
 
 fn word_of(bytes: &[u8], place: Option<usize>) -> Option<u32>
     requires { IfSome place (λ p. p + 4 ≤ length bytes.now) }
-    ensures { result ≡ option_map (word_at bytes.now) place }
+    ensures { result ≡ option_map (list_word_at bytes.now) place }
 {
     match place {
         Some(place) => Some(word(bytes, place)),

@@ -11,7 +11,7 @@ use Rattle.scale_base.specs.State.{with_byte}
 use Rattle.scale_base.specs.Elf.{has}
 use Rattle.scale_base.specs.Image.{PF_R, PF_W}
 use Rattle.scale_base.specs.Layout.{Part}
-use Rattle.flat_memory.specs.Blocks.{span_of, holds, byte_in, part_of, parts_of, is_plain_block, allows, may_be_used, HasValue}
+use Rattle.flat_memory.specs.Blocks.{span_of, holds, byte_in_blocks, block_part, parts_of, is_plain_block, allows, may_be_used, HasValue}
 use Rattle.flat_memory.specs.declared.block.Block.{Block}
 use Rattle.flat_memory.proofs.Chosen.{put_here, put_behind}
 
@@ -39,38 +39,38 @@ read_other b c at value a h here there ne =
     let apart : (a - b.from ≡ at - b.from → ⊥) = omega arith in
     ap (λ xs. slice_index xs (a - c.from)) h.items ∙ (ap (λ n. slice_index (slice_set b.bytes.items (at - b.from) value) (a - n)) from ∙ get_or-set_other b.bytes.items (at - b.from) (a - b.from) value 0 apart)
 
-put_first : (b c : Block) (xs : List Block) (at value : ℕ) → HasValue b c at value → holds at b ≡ true → (a : ℕ) → byte_in (c ∷ xs) a ≡ with_byte (byte_in (b ∷ xs)) at value a
-unfolding byte_in
+put_first : (b c : Block) (xs : List Block) (at value : ℕ) → HasValue b c at value → holds at b ≡ true → (a : ℕ) → byte_in_blocks (c ∷ xs) a ≡ with_byte (byte_in_blocks (b ∷ xs)) at value a
+unfolding byte_in_blocks
 put_first b c xs at value h here a =
-    ap (λ t. cond t (read c a) (byte_in xs a)) (holds_same b c at value h a)
-    ∙ put_here (λ i. holds i b) (read b) (read c) (byte_in xs) at value here (read_same b c at value h here) (λ i. read_other b c at value i h here) a
+    ap (λ t. cond t (read c a) (byte_in_blocks xs a)) (holds_same b c at value h a)
+    ∙ put_here (λ i. holds i b) (read b) (read c) (byte_in_blocks xs) at value here (read_same b c at value h here) (λ i. read_other b c at value i h here) a
 
-put_rest : (b : Block) (xs ys : List Block) (at value : ℕ) → holds at b ≡ false → ((a : ℕ) → byte_in ys a ≡ with_byte (byte_in xs) at value a) → (a : ℕ) → byte_in (b ∷ ys) a ≡ with_byte (byte_in (b ∷ xs)) at value a
-unfolding byte_in
-put_rest b xs ys at value away h a = put_behind (λ i. holds i b) (read b) (byte_in xs) (byte_in ys) at value away h a
+put_rest : (b : Block) (xs ys : List Block) (at value : ℕ) → holds at b ≡ false → ((a : ℕ) → byte_in_blocks ys a ≡ with_byte (byte_in_blocks xs) at value a) → (a : ℕ) → byte_in_blocks (b ∷ ys) a ≡ with_byte (byte_in_blocks (b ∷ xs)) at value a
+unfolding byte_in_blocks
+put_rest b xs ys at value away h a = put_behind (λ i. holds i b) (read b) (byte_in_blocks xs) (byte_in_blocks ys) at value away h a
 
 -- no block before the k-th has the address
 pub record IsFirst (xs : List Block) (k at : ℕ) : Type 0 where
   pub before : (j : ℕ) (b : Block) → j < k → b ≡ get_or xs j b → holds at b ≡ false
 
-put_bytes_at : (xs : List Block) (k : ℕ) (b c : Block) (at value : ℕ) → k < length xs → b ≡ get_or xs k b → IsFirst xs k at → HasValue b c at value → holds at b ≡ true → (a : ℕ) → byte_in (set xs k c) a ≡ with_byte (byte_in xs) at value a
+put_bytes_at : (xs : List Block) (k : ℕ) (b c : Block) (at value : ℕ) → k < length xs → b ≡ get_or xs k b → IsFirst xs k at → HasValue b c at value → holds at b ≡ true → (a : ℕ) → byte_in_blocks (set xs k c) a ≡ with_byte (byte_in_blocks xs) at value a
 put_bytes_at [] k b c at value lt is first h here a = absurd (omega arith)
 put_bytes_at (x ∷ xs) zero b c at value lt is first h here a =
-    put_first b c xs at value h here a ∙ ap (λ y. with_byte (byte_in (y ∷ xs)) at value a) is
+    put_first b c xs at value h here a ∙ ap (λ y. with_byte (byte_in_blocks (y ∷ xs)) at value a) is
 put_bytes_at (x ∷ xs) (suc k) b c at value lt is first h here a =
     put_rest x xs (set xs k c) at value (first.before 0 x (omega arith) refl)
     (put_bytes_at xs k b c at value (omega arith) is (record { before = λ j d l e. first.before (suc j) d (omega arith) e }) h here) a
 
-pub put_bytes : (xs : List Block) (k : ℕ) (b c : Block) (at value : ℕ) → k < length xs → b ≡ get_or xs k b → IsFirst xs k at → HasValue b c at value → holds at b ≡ true → byte_in (set xs k c) ≡ with_byte (byte_in xs) at value
+pub put_bytes : (xs : List Block) (k : ℕ) (b c : Block) (at value : ℕ) → k < length xs → b ≡ get_or xs k b → IsFirst xs k at → HasValue b c at value → holds at b ≡ true → byte_in_blocks (set xs k c) ≡ with_byte (byte_in_blocks xs) at value
 put_bytes xs k b c at value lt is first h here = fun_ext (put_bytes_at xs k b c at value lt is first h here)
 
 parts_first : (b c : Block) (xs : List Block) (at value : ℕ) → HasValue b c at value → parts_of (c ∷ xs) ≡ parts_of (b ∷ xs)
 parts_first b c xs at value h =
-    let part : part_of c ≡ part_of b = ap (λ s. record { span = s; readable = has c.flags PF_R; writable = has c.flags PF_W }) h.span ∙ ap (λ f. record { span = span_of b; readable = has f PF_R; writable = has f PF_W }) h.flags in
+    let part : block_part c ≡ block_part b = ap (λ s. record { span = s; readable = has c.flags PF_R; writable = has c.flags PF_W }) h.span ∙ ap (λ f. record { span = span_of b; readable = has f PF_R; writable = has f PF_W }) h.flags in
     parts_step (is_plain_block c) (is_plain_block b) b c (filter is_plain_block xs) (ap (λ f. is_plain_block (record b { flags = f })) h.flags) part
   where
-    parts_step : (t u : Bool) (b c : Block) (ys : List Block) → t ≡ u → part_of c ≡ part_of b → map part_of (cond t (c ∷ ys) ys) ≡ map part_of (cond u (b ∷ ys) ys)
-    parts_step true true b c ys e part = ap (λ p. p ∷ map part_of ys) part
+    parts_step : (t u : Bool) (b c : Block) (ys : List Block) → t ≡ u → block_part c ≡ block_part b → map block_part (cond t (c ∷ ys) ys) ≡ map block_part (cond u (b ∷ ys) ys)
+    parts_step true true b c ys e part = ap (λ p. p ∷ map block_part ys) part
     parts_step false false b c ys e part = refl
     parts_step true false b c ys e part = absurd cc
     parts_step false true b c ys e part = absurd cc
@@ -78,8 +78,8 @@ parts_first b c xs at value h =
 parts_rest : (b : Block) (xs ys : List Block) → parts_of xs ≡ parts_of ys → parts_of (b ∷ xs) ≡ parts_of (b ∷ ys)
 parts_rest b xs ys h = parts_tail (is_plain_block b) b (filter is_plain_block xs) (filter is_plain_block ys) h
   where
-    parts_tail : (t : Bool) (b : Block) (us vs : List Block) → map part_of us ≡ map part_of vs → map part_of (cond t (b ∷ us) us) ≡ map part_of (cond t (b ∷ vs) vs)
-    parts_tail true b us vs h = ap (λ ps. part_of b ∷ ps) h
+    parts_tail : (t : Bool) (b : Block) (us vs : List Block) → map block_part us ≡ map block_part vs → map block_part (cond t (b ∷ us) us) ≡ map block_part (cond t (b ∷ vs) vs)
+    parts_tail true b us vs h = ap (λ ps. block_part b ∷ ps) h
     parts_tail false b us vs h = h
 
 pub put_parts : (xs : List Block) (k : ℕ) (b c : Block) (at value : ℕ) → k < length xs → b ≡ get_or xs k b → HasValue b c at value → parts_of (set xs k c) ≡ parts_of xs
@@ -94,11 +94,11 @@ put_spans (x ∷ xs) (suc k) b c at value lt is h = ap (λ ss. span_of x ∷ ss)
 
 -- ---- parts and blocks
 
-any_in_parts : (test : Part → Bool) (xs : List Block) → list_any test (parts_of xs) ≡ list_any (λ b. is_plain_block b && test (part_of b)) xs
+any_in_parts : (test : Part → Bool) (xs : List Block) → list_any test (parts_of xs) ≡ list_any (λ b. is_plain_block b && test (block_part b)) xs
 any_in_parts test [] = refl
-any_in_parts test (x ∷ xs) = any_step (is_plain_block x) test x (filter is_plain_block xs) ∙ ap (λ r. (is_plain_block x && test (part_of x)) || r) (any_in_parts test xs)
+any_in_parts test (x ∷ xs) = any_step (is_plain_block x) test x (filter is_plain_block xs) ∙ ap (λ r. (is_plain_block x && test (block_part x)) || r) (any_in_parts test xs)
   where
-    any_step : (b : Bool) (test : Part → Bool) (x : Block) (ys : List Block) → list_any test (map part_of (cond b (x ∷ ys) ys)) ≡ ((b && test (part_of x)) || list_any test (map part_of ys))
+    any_step : (b : Bool) (test : Part → Bool) (x : Block) (ys : List Block) → list_any test (map block_part (cond b (x ∷ ys) ys)) ≡ ((b && test (block_part x)) || list_any test (map block_part ys))
     any_step true test x ys = refl
     any_step false test x ys = refl
 

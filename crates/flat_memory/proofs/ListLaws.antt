@@ -9,7 +9,7 @@ use Rattle.scale_base.specs.Spans.{in_span}
 use Rattle.scale_base.specs.State.{with_byte}
 use Rattle.scale_base.specs.Layout.{in_stack, in_text, may_write}
 use Rattle.scale_base.specs.Image.{PF_W}
-use Rattle.flat_memory.specs.Blocks.{holds, byte_in, parts_of}
+use Rattle.flat_memory.specs.Blocks.{holds, byte_in_blocks, parts_of}
 use Rattle.flat_memory.specs.Lists.{memory_byte, list_layout}
 use Rattle.flat_memory.specs.declared.block.Block.{Block}
 use Rattle.flat_memory.specs.declared.list_memory.ListMemory.{ListMemory}
@@ -38,12 +38,12 @@ stack_other xs at value a h here ne =
 pub stack_written : (xs : List ℕ) (bs : List Block) (at value : ℕ) → length xs ≡ 0x40000 → in_stack at ≡ true → memory_byte (slice_set xs (at - 0x7FFC0000) value) bs ≡ with_byte (memory_byte xs bs) at value
 unfolding memory_byte
 stack_written xs bs at value size h =
-    fun_ext (put_here in_stack (λ a. slice_index xs (a - 0x7FFC0000)) (λ a. slice_index (slice_set xs (at - 0x7FFC0000) value) (a - 0x7FFC0000)) (byte_in bs) at value h (stack_same xs at value size h) (λ a. stack_other xs at value a h))
+    fun_ext (put_here in_stack (λ a. slice_index xs (a - 0x7FFC0000)) (λ a. slice_index (slice_set xs (at - 0x7FFC0000) value) (a - 0x7FFC0000)) (byte_in_blocks bs) at value h (stack_same xs at value size h) (λ a. stack_other xs at value a h))
 
-pub blocks_written : (xs : List ℕ) (bs cs : List Block) (at value : ℕ) → in_stack at ≡ false → byte_in cs ≡ with_byte (byte_in bs) at value → memory_byte xs cs ≡ with_byte (memory_byte xs bs) at value
+pub blocks_written : (xs : List ℕ) (bs cs : List Block) (at value : ℕ) → in_stack at ≡ false → byte_in_blocks cs ≡ with_byte (byte_in_blocks bs) at value → memory_byte xs cs ≡ with_byte (memory_byte xs bs) at value
 unfolding memory_byte
 blocks_written xs bs cs at value away h =
-    fun_ext (put_behind in_stack (λ a. slice_index xs (a - 0x7FFC0000)) (byte_in bs) (byte_in cs) at value away (λ a. ap (λ f. f a) h))
+    fun_ext (put_behind in_stack (λ a. slice_index xs (a - 0x7FFC0000)) (byte_in_blocks bs) (byte_in_blocks cs) at value away (λ a. ap (λ f. f a) h))
 
 -- an address that may be written, and isn't the stack's, has a block
 pub written_block : (m : ListMemory) (at : ℕ) → may_write (list_layout m) at ≡ true → in_stack at ≡ false → list_any (holds at) m.blocks.items ≡ true

@@ -14,7 +14,7 @@ use Rattle.scale_base.specs.Image.{Image, LoadSegment, PF_R, PF_W, KEY, covers, 
 use Rattle.scale_base.specs.Image as image
 use Rattle.scale_base.specs.Layout.{is_plain_segment, in_stack}
 use Rattle.scale_base.specs.Layout as rules
-use Rattle.flat_memory.specs.Blocks.{span_of, holds, is_plain_block, part_of, parts_of, byte_in}
+use Rattle.flat_memory.specs.Blocks.{span_of, holds, is_plain_block, block_part, parts_of, byte_in_blocks}
 use Rattle.flat_memory.specs.Lists.{memory_byte}
 use Rattle.flat_memory.specs.Ordered.{are_ordered, range_before, is_ordered_text}
 use Rattle.elf_view.specs.Ascending.{AscendFrom}
@@ -51,14 +51,14 @@ are_more ss k s bs b h e one =
 pub same_span : (s : LoadSegment) (b : Block) → IsBlockOf s b → span_of b ≡ addresses_of s
 same_span s b h = ap (λ n. record { from = n; len = vec_len b.bytes }) h.from ∙ ap (λ n. record { from = s.from; len = n }) h.len
 
-same_part : (s : LoadSegment) (b : Block) → IsBlockOf s b → part_of b ≡ rules.part_of s
+same_part : (s : LoadSegment) (b : Block) → IsBlockOf s b → block_part b ≡ rules.part_of s
 same_part s b h =
     ap (λ a. record { span = a; readable = has b.flags PF_R; writable = has b.flags PF_W }) (same_span s b h)
     ∙ ap (λ f. record { span = addresses_of s; readable = has f PF_R; writable = has f PF_W }) h.flags
 
-parts_step : (t u : Bool) (b : Block) (s : LoadSegment) (bs : List Block) (ss : List LoadSegment) → t ≡ u → part_of b ≡ rules.part_of s → map part_of bs ≡ map rules.part_of ss
-    → map part_of (cond t (b ∷ bs) bs) ≡ map rules.part_of (cond u (s ∷ ss) ss)
-parts_step true true b s bs ss e part rest = ap (λ p. p ∷ map part_of bs) part ∙ ap (λ ps. rules.part_of s ∷ ps) rest
+parts_step : (t u : Bool) (b : Block) (s : LoadSegment) (bs : List Block) (ss : List LoadSegment) → t ≡ u → block_part b ≡ rules.part_of s → map block_part bs ≡ map rules.part_of ss
+    → map block_part (cond t (b ∷ bs) bs) ≡ map rules.part_of (cond u (s ∷ ss) ss)
+parts_step true true b s bs ss e part rest = ap (λ p. p ∷ map block_part bs) part ∙ ap (λ ps. rules.part_of s ∷ ps) rest
 parts_step false false b s bs ss e part rest = rest
 parts_step true false b s bs ss e part rest = absurd cc
 parts_step false true b s bs ss e part rest = absurd cc
@@ -84,11 +84,11 @@ byte_step false false n rest s o at e here there = there
 byte_step true false n rest s o at e here there = absurd cc
 byte_step false true n rest s o at e here there = absurd cc
 
-pub loaded_bytes : (ss : List LoadSegment) (bs : List Block) (at : ℕ) → AreBlocksOf ss bs → byte_in bs at ≡ image.byte_in at (find (covers at) ss)
-unfolding AreBlocksOf byte_in
+pub loaded_bytes : (ss : List LoadSegment) (bs : List Block) (at : ℕ) → AreBlocksOf ss bs → byte_in_blocks bs at ≡ image.byte_in at (find (covers at) ss)
+unfolding AreBlocksOf byte_in_blocks
 loaded_bytes [] [] at h = refl
 loaded_bytes (s ∷ ss) (b ∷ bs) at h =
-    byte_step (holds at b) (covers at s) (read b at) (byte_in bs at) s (find (covers at) ss) at (ap (λ a. in_span a at) (same_span s b h.0)) (same_byte s b at h.0) (loaded_bytes ss bs at h.1)
+    byte_step (holds at b) (covers at s) (read b at) (byte_in_blocks bs at) s (find (covers at) ss) at (ap (λ a. in_span a at) (same_span s b h.0)) (same_byte s b at h.0) (loaded_bytes ss bs at h.1)
 loaded_bytes [] (b ∷ bs) at h = absurd h
 loaded_bytes (s ∷ ss) [] at h = absurd h
 
@@ -107,7 +107,7 @@ memory_at false n rest o at z free e = e
 pub loaded_memory : (i : Image) (hs : List ProgramHeader) (n : ℕ) (stack : List ℕ) (blocks : List Block) → AreHeadersOf i hs → stack ≡ replicate n 0 → AreBlocksOf i.segments blocks → memory_byte stack blocks ≡ image.loaded_byte i
 unfolding memory_byte image.loaded_byte
 loaded_memory i hs n stack blocks h zeros are =
-    fun_ext (λ at. memory_at (in_stack at) (slice_index stack (at - 0x7FFC0000)) (byte_in blocks at) (find (covers at) i.segments) at
+    fun_ext (λ at. memory_at (in_stack at) (slice_index stack (at - 0x7FFC0000)) (byte_in_blocks blocks at) (find (covers at) i.segments) at
     (ap (λ xs. slice_index xs (at - 0x7FFC0000)) zeros ∙ zero_at n (at - 0x7FFC0000)) (stack_free i hs at h) (loaded_bytes i.segments blocks at are))
 
 -- and its layout is the image's

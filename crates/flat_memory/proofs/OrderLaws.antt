@@ -9,7 +9,7 @@ use Rattle.scale_base.specs.declared.ranges.Range.{Range}
 use Rattle.scale_base.specs.declared.ranges.Span.{Span}
 use Rattle.scale_base.specs.Spans.{in_span, each_pair}
 use Rattle.scale_base.specs.Image.{is_in}
-use Rattle.flat_memory.specs.Blocks.{span_of, holds, byte_in, allows, may_be_used}
+use Rattle.flat_memory.specs.Blocks.{span_of, holds, byte_in_blocks, allows, may_be_used}
 use Rattle.flat_memory.specs.Ordered.{comes_before, are_ordered, IsPlaceOf, HasBlock, range_before, is_ordered_text}
 use Rattle.flat_memory.specs.declared.block.Block.{Block}
 use Rattle.flat_memory.proofs.BlockLaws.{read, IsFirst}
@@ -96,27 +96,27 @@ others_away xs at k e h i d lt ne =
 pub is_first : (xs : List Block) (at k : ℕ) → are_ordered xs ≡ true → HasBlock xs at k → IsFirst xs k at
 is_first xs at k e h = record { before = λ j b l is. ap (holds at) is ∙ others_away xs at k e h j b (omega (arith, h.inside)) (omega arith) }
 
-byte_first : (xs : List Block) (k at : ℕ) (d : Block) → k < length xs → IsFirst xs k at → holds at (get_or xs k d) ≡ true → byte_in xs at ≡ read (get_or xs k d) at
-unfolding byte_in
+byte_first : (xs : List Block) (k at : ℕ) (d : Block) → k < length xs → IsFirst xs k at → holds at (get_or xs k d) ≡ true → byte_in_blocks xs at ≡ read (get_or xs k d) at
+unfolding byte_in_blocks
 byte_first [] k at d lt first here = absurd (omega arith)
-byte_first (x ∷ xs) zero at d lt first here = cond-true (holds at x) (read x at) (byte_in xs at) here
+byte_first (x ∷ xs) zero at d lt first here = cond-true (holds at x) (read x at) (byte_in_blocks xs at) here
 byte_first (x ∷ xs) (suc k) at d lt first here =
-    cond-false (holds at x) (read x at) (byte_in xs at) (first.before 0 x (omega arith) refl)
+    cond-false (holds at x) (read x at) (byte_in_blocks xs at) (first.before 0 x (omega arith) refl)
     ∙ byte_first xs k at d (omega arith) (record { before = λ j b l is. first.before (suc j) b (omega arith) is }) here
 
-pub byte_found : (xs : List Block) (at k : ℕ) (d : Block) → are_ordered xs ≡ true → HasBlock xs at k → byte_in xs at ≡ read (get_or xs k d) at
+pub byte_found : (xs : List Block) (at k : ℕ) (d : Block) → are_ordered xs ≡ true → HasBlock xs at k → byte_in_blocks xs at ≡ read (get_or xs k d) at
 byte_found xs at k d e h = byte_first xs k at d h.inside (is_first xs at k e h) (h.here d)
 
 or_none : (a b : Bool) → (a || b) ≡ false → (a ≡ false) × (b ≡ false)
 or_none false b e = (refl, e)
 or_none true b e = absurd cc
 
-pub byte_none : (xs : List Block) (at : ℕ) → list_any (holds at) xs ≡ false → byte_in xs at ≡ 0
-unfolding byte_in
+pub byte_none : (xs : List Block) (at : ℕ) → list_any (holds at) xs ≡ false → byte_in_blocks xs at ≡ 0
+unfolding byte_in_blocks
 byte_none [] at e = refl
 byte_none (x ∷ xs) at e =
     let p = or_none (holds at x) (list_any (holds at) xs) e in
-    cond-false (holds at x) (read x at) (byte_in xs at) p.0 ∙ byte_none xs at p.1
+    cond-false (holds at x) (read x at) (byte_in_blocks xs at) p.0 ∙ byte_none xs at p.1
 
 and_false : (a b : Bool) → b ≡ false → (a && b) ≡ false
 and_false true b e = e

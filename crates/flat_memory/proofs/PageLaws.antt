@@ -7,7 +7,7 @@ use Rattle.scale_base.specs.State.{with_byte, with_word, word_at}
 use Rattle.scale_base.specs.Layout.{Layout, each_byte, may_read, may_write}
 use Rattle.scale_base.proofs.Laws.{each_byte_none, each_byte_more, each_byte_false}
 use Rattle.flat_memory.specs.Pages.{put_byte, put_word, reads_in, writes_in, UseHolds}
-use Rattle.flat_memory.specs.PageTables.{use_of, bytes_of, IsPut, IsPutAt, page_in, page_at, paged_bytes}
+use Rattle.flat_memory.specs.PageTables.{use_of, bytes_of_page, IsPut, IsPutAt, page_in, page_at, paged_bytes}
 use Rattle.flat_memory.specs.declared.page.Page.{Page}
 use Rattle.flat_memory.specs.declared.page_table.PageGroup.{PageGroup}
 use Rattle.flat_memory.proofs.Chosen.{written_same, written_other}
@@ -66,7 +66,7 @@ put_none groups n o change lt is none empty =
       here = record {
         there = ap is_some (behind n refl) ∙ sym (ap is_some (before n refl));
         whole = ap use_of (behind n refl) ∙ sym (ap use_of (before n refl));
-        bytes = ap bytes_of (behind n refl) ∙ (sym empty ∙ ap change (sym (ap bytes_of (before n refl))));
+        bytes = ap bytes_of_page (behind n refl) ∙ (sym empty ∙ ap change (sym (ap bytes_of_page (before n refl))));
       };
       others = λ m ne.
           elim (cases_eq (m / 1024) (n / 1024)) [
@@ -139,7 +139,7 @@ words_put xs n place value rest fits size =
 
 -- ---- the bytes of a table
 
-paged_here : (groups : List (Option PageGroup)) (rest : ℕ → ℕ) (a : ℕ) → is_some (page_at groups (a / 4096)) ≡ true → paged_bytes groups rest a ≡ slice_index (bytes_of (page_at groups (a / 4096))) (a % 4096)
+paged_here : (groups : List (Option PageGroup)) (rest : ℕ → ℕ) (a : ℕ) → is_some (page_at groups (a / 4096)) ≡ true → paged_bytes groups rest a ≡ slice_index (bytes_of_page (page_at groups (a / 4096))) (a % 4096)
 unfolding paged_bytes
 paged_here groups rest a there = cond-true (is_some (page_at groups (a / 4096))) _ _ there
 
@@ -149,30 +149,30 @@ paged_away groups rest a none = cond-false (is_some (page_at groups (a / 4096)))
 
 paged_other : (old new : List (Option PageGroup)) (rest : ℕ → ℕ) (a : ℕ) → page_at new (a / 4096) ≡ page_at old (a / 4096) → paged_bytes new rest a ≡ paged_bytes old rest a
 unfolding paged_bytes
-paged_other old new rest a h = ap (λ p. if is_some p then slice_index (bytes_of p) (a % 4096) else rest a) h
+paged_other old new rest a h = ap (λ p. if is_some p then slice_index (bytes_of_page p) (a % 4096) else rest a) h
 
 -- a table in which one page has other bytes
 paged_window : (old new : List (Option PageGroup)) (n : ℕ) (rest : ℕ → ℕ) (change : List ℕ → List ℕ) → IsPutAt old new n change → is_some (page_at old n) ≡ true →
-    paged_bytes new rest ≡ window n (slice_index (change (bytes_of (page_at old n)))) (paged_bytes old rest)
+    paged_bytes new rest ≡ window n (slice_index (change (bytes_of_page (page_at old n)))) (paged_bytes old rest)
 paged_window old new n rest change put there = fun_ext (λ a.
     elim (cases_eq (a / 4096) n) [
       | inl e ↦
           paged_here new rest a (ap (λ k. is_some (page_at new k)) e ∙ (put.here.there ∙ there))
-          ∙ (ap (λ k. slice_index (bytes_of (page_at new k)) (a % 4096)) e
-          ∙ (ap (λ xs. slice_index xs (a % 4096)) put.here.bytes ∙ sym (window_in n (slice_index (change (bytes_of (page_at old n)))) (paged_bytes old rest) a e)))
-      | inr ne ↦ paged_other old new rest a (put.others (a / 4096) ne) ∙ sym (window_out n (slice_index (change (bytes_of (page_at old n)))) (paged_bytes old rest) a ne)
+          ∙ (ap (λ k. slice_index (bytes_of_page (page_at new k)) (a % 4096)) e
+          ∙ (ap (λ xs. slice_index xs (a % 4096)) put.here.bytes ∙ sym (window_in n (slice_index (change (bytes_of_page (page_at old n)))) (paged_bytes old rest) a e)))
+      | inr ne ↦ paged_other old new rest a (put.others (a / 4096) ne) ∙ sym (window_out n (slice_index (change (bytes_of_page (page_at old n)))) (paged_bytes old rest) a ne)
     ])
 
-window_same : (groups : List (Option PageGroup)) (n : ℕ) (rest : ℕ → ℕ) → is_some (page_at groups n) ≡ true → window n (slice_index (bytes_of (page_at groups n))) (paged_bytes groups rest) ≡ paged_bytes groups rest
+window_same : (groups : List (Option PageGroup)) (n : ℕ) (rest : ℕ → ℕ) → is_some (page_at groups n) ≡ true → window n (slice_index (bytes_of_page (page_at groups n))) (paged_bytes groups rest) ≡ paged_bytes groups rest
 window_same groups n rest there = fun_ext (λ a.
     elim (cases_eq (a / 4096) n) [
       | inl e ↦
-          window_in n (slice_index (bytes_of (page_at groups n))) (paged_bytes groups rest) a e
-          ∙ (ap (λ k. slice_index (bytes_of (page_at groups k)) (a % 4096)) (sym e) ∙ sym (paged_here groups rest a (ap (λ k. is_some (page_at groups k)) e ∙ there)))
-      | inr ne ↦ window_out n (slice_index (bytes_of (page_at groups n))) (paged_bytes groups rest) a ne
+          window_in n (slice_index (bytes_of_page (page_at groups n))) (paged_bytes groups rest) a e
+          ∙ (ap (λ k. slice_index (bytes_of_page (page_at groups k)) (a % 4096)) (sym e) ∙ sym (paged_here groups rest a (ap (λ k. is_some (page_at groups k)) e ∙ there)))
+      | inr ne ↦ window_out n (slice_index (bytes_of_page (page_at groups n))) (paged_bytes groups rest) a ne
     ])
 
-page_size : (p : Option Page) → is_some p ≡ true → length (bytes_of p) ≡ 4096
+page_size : (p : Option Page) → is_some p ≡ true → length (bytes_of_page p) ≡ 4096
 page_size None h = absurd cc
 page_size (Some p) h = let size : length p.bytes.items ≡ vec_len p.bytes = search rules in size ∙ p.size
 
@@ -182,7 +182,7 @@ pub paged_put_byte : (old new : List (Option PageGroup)) (at value : ℕ) (rest 
 paged_put_byte old new at value rest put there =
     let n = at / 4096 in
     let o = at % 4096 in
-    let xs = bytes_of (page_at old (at / 4096)) in
+    let xs = bytes_of_page (page_at old (at / 4096)) in
     let size = page_size (page_at old (at / 4096)) there in
     let is : (at / 4096) * 4096 + at % 4096 ≡ at = omega arith in
     paged_window old new n rest _ put there
@@ -192,7 +192,7 @@ paged_put_byte old new at value rest put there =
 
 same_rest : (groups : List (Option PageGroup)) (rest rest' : ℕ → ℕ) (a : ℕ) → rest' a ≡ rest a → paged_bytes groups rest' a ≡ paged_bytes groups rest a
 unfolding paged_bytes
-same_rest groups rest rest' a h = ap (λ x. if is_some (page_at groups (a / 4096)) then slice_index (bytes_of (page_at groups (a / 4096))) (a % 4096) else x) h
+same_rest groups rest rest' a h = ap (λ x. if is_some (page_at groups (a / 4096)) then slice_index (bytes_of_page (page_at groups (a / 4096))) (a % 4096) else x) h
 
 -- a byte is written where no page is
 pub paged_put_rest : (groups : List (Option PageGroup)) (at value : ℕ) (rest rest' : ℕ → ℕ) → is_some (page_at groups (at / 4096)) ≡ false → rest' ≡ with_byte rest at value →
@@ -215,7 +215,7 @@ use_stays old new n m change put =
 
 -- the byte of a page that is there
 pub page_byte : (groups : List (Option PageGroup)) (rest : ℕ → ℕ) (at : ℕ) (p : Page) → page_at groups (at / 4096) ≡ Some p → slice_index p.bytes.items (at % 4096) ≡ paged_bytes groups rest at
-page_byte groups rest at p is = sym (paged_here groups rest at (ap is_some is) ∙ ap (λ o. slice_index (bytes_of o) (at % 4096)) is)
+page_byte groups rest at p is = sym (paged_here groups rest at (ap is_some is) ∙ ap (λ o. slice_index (bytes_of_page o) (at % 4096)) is)
 
 pub rest_byte : (groups : List (Option PageGroup)) (rest : ℕ → ℕ) (at : ℕ) → page_at groups (at / 4096) ≡ None → rest at ≡ paged_bytes groups rest at
 rest_byte groups rest at none = sym (paged_away groups rest at (ap is_some none))
@@ -243,7 +243,7 @@ pub paged_put_word : (old new : List (Option PageGroup)) (at value : ℕ) (rest 
 paged_put_word old new at value rest aligned put there =
     let n = at / 4096 in
     let o = at % 4096 in
-    let xs = bytes_of (page_at old (at / 4096)) in
+    let xs = bytes_of_page (page_at old (at / 4096)) in
     let size = page_size (page_at old (at / 4096)) there in
     let fits : at % 4096 + 3 < 4096 = omega arith in
     let is : (at / 4096) * 4096 + at % 4096 ≡ at = omega arith in

@@ -14,7 +14,7 @@ use Rattle.flat_memory.specs.Blocks.{parts_of, allows, may_be_used}
 use Rattle.flat_memory.specs.Lists.{list_bytes, list_layout}
 use Rattle.flat_memory.specs.Ordered.{are_ordered, is_ordered_text, HasBlock}
 use Rattle.flat_memory.specs.Pages.{reads_in, writes_in, fetches_in, UseHolds}
-use Rattle.flat_memory.specs.PageTables.{use_of, bytes_of, page_in, page_at, paged_bytes}
+use Rattle.flat_memory.specs.PageTables.{use_of, bytes_of_page, page_in, page_at, paged_bytes}
 use Rattle.flat_memory.specs.Wholes.{BlocksAllow, IsPageOf, MayBePageOf, MayBeGroupOf}
 use Rattle.flat_memory.specs.declared.block.Block.{Block}
 use Rattle.flat_memory.specs.declared.list_memory.ListMemory.{ListMemory}
@@ -157,7 +157,7 @@ use_of_page list (Some p) at h =
 pub whole_table : (list : ListMemory) (groups : List (Option PageGroup)) (at : ℕ) → length groups ≡ 1024 → AreGroupsOf list groups → UseHolds (list_layout list) at (use_of (page_at groups (at / 4096)))
 whole_table list groups at size h = use_of_page list (page_at groups (at / 4096)) at (page_of_table list groups (at / 4096) size h)
 
-byte_of_page : (list : ListMemory) (p : Option Page) (at : ℕ) → MayBePageOf list (at / 4096) p → (if is_some p then slice_index (bytes_of p) (at % 4096) else list_bytes list at) ≡ list_bytes list at
+byte_of_page : (list : ListMemory) (p : Option Page) (at : ℕ) → MayBePageOf list (at / 4096) p → (if is_some p then slice_index (bytes_of_page p) (at % 4096) else list_bytes list at) ≡ list_bytes list at
 byte_of_page list None at h = refl
 byte_of_page list (Some p) at h =
     let is : (at / 4096) * 4096 + at % 4096 ≡ at = omega arith in

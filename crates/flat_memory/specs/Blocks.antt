@@ -17,12 +17,12 @@ holds at b = in_span (span_of b) at
 abbrev pub is_plain_block : Block → Bool
 is_plain_block b = not (has b.flags KEY)
 
-abbrev pub part_of : Block → Part
-part_of b = record { span = span_of b; readable = has b.flags PF_R; writable = has b.flags PF_W }
+abbrev pub block_part : Block → Part
+block_part b = record { span = span_of b; readable = has b.flags PF_R; writable = has b.flags PF_W }
 
 -- the parts of a layout that the blocks without the key are
 abbrev pub parts_of : List Block → List Part
-parts_of bs = map part_of (filter is_plain_block bs)
+parts_of bs = map block_part (filter is_plain_block bs)
 
 -- a block without the key has the flag
 abbrev pub allows : ℕ → Block → Bool
@@ -39,6 +39,6 @@ pub record HasValue (old new : Block) (at value : ℕ) : Type 0 where
   pub flags : new.flags ≡ old.flags
 
 -- the byte of the first block that has the address
-unfoldable pub byte_in : List Block → ℕ → ℕ
-byte_in [] at = 0
-byte_in (b ∷ bs) at = if holds at b then slice_index b.bytes.items (at - b.from) else byte_in bs at
+unfoldable pub byte_in_blocks : List Block → ℕ → ℕ
+byte_in_blocks [] at = 0
+byte_in_blocks (b ∷ bs) at = if holds at b then slice_index b.bytes.items (at - b.from) else byte_in_blocks bs at

@@ -11,15 +11,15 @@ abbrev pub use_of : Option Page → PageUse
 use_of None = Mixed
 use_of (Some p) = p.whole
 
-abbrev pub bytes_of : Option Page → List ℕ
-bytes_of None = []
-bytes_of (Some p) = p.bytes.items
+abbrev pub bytes_of_page : Option Page → List ℕ
+bytes_of_page None = []
+bytes_of_page (Some p) = p.bytes.items
 
 -- the page with other bytes, if it is there
 pub record IsPut (p q : Option Page) (change : List ℕ → List ℕ) : Type 0 where
   pub there : is_some q ≡ is_some p
   pub whole : use_of q ≡ use_of p
-  pub bytes : bytes_of q ≡ change (bytes_of p)
+  pub bytes : bytes_of_page q ≡ change (bytes_of_page p)
 
 -- ---- the page of a number
 
@@ -38,4 +38,4 @@ pub record IsPutAt (old new : List (Option PageGroup)) (n : ℕ) (change : List 
 -- the byte at an address: its page's, or where it has none that of other bytes
 unfoldable pub paged_bytes : List (Option PageGroup) → (ℕ → ℕ) → ℕ → ℕ
 paged_bytes groups rest at =
-    if is_some (page_at groups (at / 4096)) then slice_index (bytes_of (page_at groups (at / 4096))) (at % 4096) else rest at
+    if is_some (page_at groups (at / 4096)) then slice_index (bytes_of_page (page_at groups (at / 4096))) (at % 4096) else rest at

@@ -45,7 +45,7 @@ fn find_block(blocks: &[Block], at: u32) -> Option<usize>
 /// The byte at the address, or 0 where no block has it.
 pub fn byte_in(blocks: &[Block], at: u32) -> u8
     requires { IsTrue (are_ordered blocks.now) }
-    ensures { result ≡ words.byte_in blocks.now at }
+    ensures { result ≡ words.byte_in_blocks blocks.now at }
 {
     match find_block(blocks, at) {
         Some(k) => blocks[k].byte(at),
@@ -57,7 +57,7 @@ pub fn byte_in(blocks: &[Block], at: u32) -> u8
 pub fn put_in(blocks: &mut [Block], at: u32, value: u8)
     requires ordered { IsTrue (are_ordered blocks.old) }
     requires held { IsTrue (list_any (holds at) blocks.old) }
-    ensures bytes { words.byte_in blocks.new ≡ with_byte (words.byte_in blocks.old) at value }
+    ensures bytes { words.byte_in_blocks blocks.new ≡ with_byte (words.byte_in_blocks blocks.old) at value }
     ensures parts { parts_of blocks.new ≡ parts_of blocks.old }
     ensures spans { map span_of blocks.new ≡ map span_of blocks.old }
 {

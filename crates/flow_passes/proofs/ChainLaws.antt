@@ -3,7 +3,7 @@ use Rattle.std.proofs.Common.{◌≡◌, ℕ, zero, suc, ◌+◌, ◌<◌, ◌�
 use Rattle.std.specs.Prelude.{◌||◌, ◌==◌, not, nat_le, slice_index, slice_index_or, All}
 use Rattle.std.proofs.lemmas.Bool.{and_from, and_parts, or_left, or_right, or_from, or_cases, cases_Bool, cases_eq, eq-eqb, ne_eqb, both_ways, eqb-false, eqb-true, not-true, not_from_false, leb-true, le-leb}
 use Rattle.flow_passes.specs.declared.step.Step.{Step}
-use Rattle.flow_passes.specs.Flow.{step_at, key_of, Waits, but, IsChain, is_number, is_key, is_below, but_keyed, but_above, is_part, but_parts, IsPart, IsPass, flag, count_true}
+use Rattle.flow_passes.specs.Flow.{step_at, key_of, Waits, but, AreStepChains, is_number, is_key, is_below, but_keyed, but_above, is_part, but_parts, IsPart, IsReturnPass, flag, count_true}
 use Rattle.flow_passes.proofs.FlowLaws.{waits_less, count_le}
 use Rattle.std.proofs.lemmas.List.Elements.{All-nil}
 
@@ -22,7 +22,7 @@ key_is steps k x h = go (key_of (step_at steps x)) refl h
     go None e h = let bad : ⊥ = cc in absurd bad
     go (Some j) e h = e ∙ ap Some (eqb-true j k h)
 
-module _ (steps : List Step) (last before : List (Option ℕ)) (chain : IsChain steps (length steps) last before) (flags : List Bool) (queue : List ℕ) (done k : ℕ) (kl : k < length steps) (left : ℕ → Bool) where
+module _ (steps : List Step) (last before : List (Option ℕ)) (chain : AreStepChains steps (length steps) last before) (flags : List Bool) (queue : List ℕ) (done k : ℕ) (kl : k < length steps) (left : ℕ → Bool) where
   pub chain_start : Waits steps flags queue done left → Waits steps flags queue done (but_above steps k (slice_index_or last k None) left)
   chain_start = waits_less steps flags queue done left (but_above steps k (slice_index_or last k None) left)
       (λ x xl l. and_from (left x) _ l (⊎_elim
@@ -111,7 +111,7 @@ none_count : (n : ℕ) → count_true (replicate n false) ≡ 0
 none_count zero = refl
 none_count (suc n) = let ih = none_count n in omega arith
 
-pub pass_start : (steps : List Step) (flags : List Bool) (queue : List ℕ) → flags ≡ replicate (length steps) false → queue ≡ [] → IsPass steps flags queue
+pub pass_start : (steps : List Step) (flags : List Bool) (queue : List ℕ) → flags ≡ replicate (length steps) false → queue ≡ [] → IsReturnPass steps flags queue
 pass_start steps flags queue f q = record {
   size = ap length f ∙ none_size (length steps);
   sound = λ s h. absurd (both_ways (flag flags s) (ap (λ fs. flag fs s) f ∙ none_flag (length steps) s) h);
@@ -119,7 +119,7 @@ pass_start steps flags queue f q = record {
   within = subst (λ xs. All (λ k. k < length steps) xs) (sym q) (All-nil (λ k. k < length steps));
 }
 
-pub queue_within : (steps : List Step) (flags : List Bool) (queue : List ℕ) → IsPass steps flags queue → length queue ≤ length steps
+pub queue_within : (steps : List Step) (flags : List Bool) (queue : List ℕ) → IsReturnPass steps flags queue → length queue ≤ length steps
 queue_within steps flags queue pass = let a = pass.size in let b = pass.counted in let c = count_le flags in omega arith
 
 pub same_index : (xs : List ℕ) (i d e : ℕ) → i < length xs → slice_index_or xs i d ≡ slice_index_or xs i e

@@ -6,7 +6,7 @@ use Rattle.std.proofs.lemmas.List.Elements.{All-push}
 use Rattle.std.proofs.lemmas.List.{get_or_append_left}
 use Rattle.flow_passes.specs.declared.step.Step.{Step}
 use Rattle.flow_passes.specs.declared.step.Step.TheVariants.{Return, Stop, On, Call}
-use Rattle.flow_passes.specs.Flow.{step_at, flag, flag_option, reason_by, reason, key_of, CanReturnAt, IsPart, AreSound, AreClosed, Waits, but, count_true, IsPass}
+use Rattle.flow_passes.specs.Flow.{step_at, flag, flag_option, reason_by, reason, key_of, CanReturnAt, IsPart, AreSound, AreClosed, Waits, but, count_true, IsReturnPass}
 use Rattle.flow_passes.specs.Flow.CanReturnAt.{here, jumps, goes, across}
 
 -- what has a reason by sound flags can return
@@ -136,7 +136,7 @@ pub sound_add : (steps : List Step) (flags : List Bool) (j : ℕ) → AreSound s
 sound_add steps flags j sound can s h = ⊎_elim (λ f. sound s f) (λ e. subst (λ k. CanReturnAt steps k) (sym e) can) (flag_cases flags j s h)
 
 -- the pass after one flag more
-pub pass_add : (steps : List Step) (flags : List Bool) (queue : List ℕ) (j : ℕ) → IsPass steps flags queue → j < length steps → flag flags j ≡ false → reason steps flags j ≡ true → IsPass steps (set flags j true) (queue ++ j ∷ [])
+pub pass_add : (steps : List Step) (flags : List Bool) (queue : List ℕ) (j : ℕ) → IsReturnPass steps flags queue → j < length steps → flag flags j ≡ false → reason steps flags j ≡ true → IsReturnPass steps (set flags j true) (queue ++ j ∷ [])
 pass_add steps flags queue j pass lt none has = record {
   size = length-set flags j true ∙ pass.size;
   sound = sound_add steps flags j pass.sound (reason_sound steps flags pass.sound j lt has);

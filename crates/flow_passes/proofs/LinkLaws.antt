@@ -4,7 +4,7 @@ use Rattle.std.specs.Prelude.{slice_index_or}
 use Rattle.std.proofs.lemmas.Bool.{cases_eq, le-leb}
 use Rattle.flow_passes.specs.declared.step.Step.{Step}
 use Rattle.flow_passes.specs.declared.step.Step.TheVariants.{Stop}
-use Rattle.flow_passes.specs.Flow.{step_at, key_of, IsChain, is_below}
+use Rattle.flow_passes.specs.Flow.{step_at, key_of, AreStepChains, is_below}
 
 pub some_same : (a b : ℕ) (o : Option ℕ) → o ≡ Some a → o ≡ Some b → a ≡ b
 some_same a b o p q = cc
@@ -13,7 +13,7 @@ pub none_some : (k : ℕ) (o : Option ℕ) → o ≡ None → o ≡ Some k → �
 none_some k o p q = cc
 
 -- a word whose key is word j
-module _ (steps : List Step) (n j : ℕ) (last before : List (Option ℕ)) (chain : IsChain steps n last before) (nl : n < length steps) (jl : j < length steps) (key : key_of (step_at steps n) ≡ Some j) where
+module _ (steps : List Step) (n j : ℕ) (last before : List (Option ℕ)) (chain : AreStepChains steps n last before) (nl : n < length steps) (jl : j < length steps) (key : key_of (step_at steps n) ≡ Some j) where
   last_here : (k : ℕ) → k ≡ j → slice_index_or (set last j (Some n)) k None ≡ Some n
   last_here k e = ap (λ i. slice_index_or (set last j (Some n)) i None) e ∙ get_or-set_same last j (Some n) None (let z = chain.last_size in omega arith)
 
@@ -58,7 +58,7 @@ module _ (steps : List Step) (n j : ℕ) (last before : List (Option ℕ)) (chai
       (λ ne. ap (λ o. is_below o x) (before_other s ne) ∙ chain.before_all k s x kl (let q : s < n = omega (arith, ne) in q) ks kx lt)
       (cases_eq s n)
 
-  pub chain_add : IsChain steps (n + 1) (set last j (Some n)) (set before n (slice_index_or last j None))
+  pub chain_add : AreStepChains steps (n + 1) (set last j (Some n)) (set before n (slice_index_or last j None))
   chain_add = record {
     last_size = length-set last j (Some n) ∙ chain.last_size;
     before_size = length-set before n (slice_index_or last j None) ∙ chain.before_size;
@@ -69,7 +69,7 @@ module _ (steps : List Step) (n j : ℕ) (last before : List (Option ℕ)) (chai
   }
 
 -- a word whose key is no word, if it has one
-pub chain_skip : (steps : List Step) (n : ℕ) (last before : List (Option ℕ)) → IsChain steps n last before → ((k : ℕ) → k < length steps → key_of (step_at steps n) ≡ Some k → ⊥) → IsChain steps (n + 1) last before
+pub chain_skip : (steps : List Step) (n : ℕ) (last before : List (Option ℕ)) → AreStepChains steps n last before → ((k : ℕ) → k < length steps → key_of (step_at steps n) ≡ Some k → ⊥) → AreStepChains steps (n + 1) last before
 chain_skip steps n last before chain none = record {
   last_size = chain.last_size;
   before_size = chain.before_size;
@@ -88,7 +88,7 @@ no_link (suc n) zero s h = cc
 no_link (suc n) (suc k) s h = no_link n k s h
 
 -- no word yet
-pub chain_none : (steps : List Step) (last before : List (Option ℕ)) → length last ≡ length steps → length before ≡ length steps → last ≡ replicate (length steps) None → IsChain steps 0 last before
+pub chain_none : (steps : List Step) (last before : List (Option ℕ)) → length last ≡ length steps → length before ≡ length steps → last ≡ replicate (length steps) None → AreStepChains steps 0 last before
 chain_none steps last before ll bl none = record {
   last_size = ll;
   before_size = bl;

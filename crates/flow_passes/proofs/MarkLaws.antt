@@ -8,7 +8,7 @@ use Rattle.flow_passes.specs.declared.step.Step.{Step}
 use Rattle.flow_passes.specs.declared.marks.Mark.{Mark}
 use Rattle.flow_passes.specs.declared.marks.Mark.TheVariants.{Unreached, Owner, Shared}
 use Rattle.flow_passes.specs.Flow.{step_at}
-use Rattle.flow_passes.specs.Marks.{jump_of, callee_of, follows, ReachedAt, IsReachedTwice, mark_at, number_of, raised, Covers, Below, IsDue, height, heights, IsMarking, IsFrom, Grows, IsSettled, AllWait, next_of}
+use Rattle.flow_passes.specs.Marks.{jumped_word, called_word, goes_on_after, ReachedAt, IsReachedTwice, mark_at, function_number, raised, Covers, Below, IsDue, height, heights, IsMarkPass, IsFrom, MarksGrow, IsMarkSettled, AllWait, next_of}
 use Rattle.flow_passes.specs.Marks.ReachedAt.{enters, jumps, goes, calls}
 
 -- ---- one mark
@@ -100,15 +100,15 @@ heights_le [] = omega arith
 heights_le (m ∷ ms) = let a = height_le m in let ih = heights_le ms in omega arith
 
 -- ---- growth
-pub grows_same : (marks : List Mark) (numbers : List (Option ℕ)) (queue : List ℕ) → Grows marks numbers queue marks numbers queue
+pub grows_same : (marks : List Mark) (numbers : List (Option ℕ)) (queue : List ℕ) → MarksGrow marks numbers queue marks numbers queue
 grows_same marks numbers queue = record { longer = omega arith; front = λ p lt. refl; above = λ v f c. c; fresh = λ v. inl refl; numbered = λ h i e. e }
 
 pub last_of : (queue : List ℕ) (j : ℕ) → slice_index (queue ++ j ∷ []) (length queue) ≡ j
 last_of [] j = refl
 last_of (x ∷ xs) j = last_of xs j
 
-module _ (ma mb mc : List Mark) (na nb nc : List (Option ℕ)) (qa qb qc : List ℕ) (g : Grows ma na qa mb nb qb) (h : Grows mb nb qb mc nc qc) where
-  pub grows_on : Grows ma na qa mc nc qc
+module _ (ma mb mc : List Mark) (na nb nc : List (Option ℕ)) (qa qb qc : List ℕ) (g : MarksGrow ma na qa mb nb qb) (h : MarksGrow mb nb qb mc nc qc) where
+  pub grows_on : MarksGrow ma na qa mc nc qc
   grows_on = record {
     longer = (let x = g.longer in let y = h.longer in omega arith);
     front = λ p lt. h.front p (let x = g.longer in let r : p < length qb = omega arith in r) ∙ g.front p lt;
@@ -120,7 +120,7 @@ module _ (ma mb mc : List Mark) (na nb nc : List (Option ℕ)) (qa qb qc : List 
     numbered = λ k i e. h.numbered k i (g.numbered k i e);
   }
 
-module _ (steps : List Step) (returns : List Bool) (first : ℕ) (marks : List Mark) (functions : List ℕ) (numbers : List (Option ℕ)) (queue : List ℕ) (pass : IsMarking steps returns first marks functions numbers queue) where
+module _ (steps : List Step) (returns : List Bool) (first : ℕ) (marks : List Mark) (functions : List ℕ) (numbers : List (Option ℕ)) (queue : List ℕ) (pass : IsMarkPass steps returns first marks functions numbers queue) where
   module _ (k : ℕ) (m n : Mark) (kl : k < length steps) (due : IsDue steps returns first m k) (is : raised (mark_at marks k) m ≡ Some n) where
     here : (v : ℕ) → v ≡ k → mark_at (set marks k n) v ≡ n
     here v e = ap (mark_at (set marks k n)) e ∙ get_or-set_same marks k n Unreached (let z = pass.marks_size in omega arith)
@@ -133,7 +133,7 @@ module _ (steps : List Step) (returns : List Bool) (first : ℕ) (marks : List M
         (λ (e : v ≡ k). λ f c. subst (λ x. Covers x f) (sym (here v e)) (raised_old (mark_at marks k) m n is f (subst (λ x. Covers (mark_at marks x) f) e c)))
         (λ ne. λ f c. subst (λ x. Covers x f) (sym (other v ne)) c) (cases_eq v k)
 
-    pub reach_pass : IsMarking steps returns first (set marks k n) functions numbers (queue ++ k ∷ [])
+    pub reach_pass : IsMarkPass steps returns first (set marks k n) functions numbers (queue ++ k ∷ [])
     reach_pass = record {
       marks_size = length-set marks k n ∙ pass.marks_size;
       numbers_size = pass.numbers_size;
@@ -156,7 +156,7 @@ module _ (steps : List Step) (returns : List Bool) (first : ℕ) (marks : List M
           (cases_eq p (length queue));
     }
 
-    pub reach_grows : Grows marks numbers queue (set marks k n) numbers (queue ++ k ∷ [])
+    pub reach_grows : MarksGrow marks numbers queue (set marks k n) numbers (queue ++ k ∷ [])
     reach_grows = record {
       longer = (let l = length-append queue (k ∷ []) in omega arith);
       front = λ p lt. get_or_append_left queue (k ∷ []) 0 p lt;
@@ -181,14 +181,14 @@ number_same (x ∷ xs) zero d e lt = refl
 number_same (x ∷ xs) (suc i) d e lt = number_same xs i d e (omega arith)
 
 -- ---- one function more
-module _ (steps : List Step) (returns : List Bool) (first : ℕ) (marks : List Mark) (functions : List ℕ) (numbers : List (Option ℕ)) (queue : List ℕ) (pass : IsMarking steps returns first marks functions numbers queue) (h : ℕ) (hl : h < length steps) (none : number_of numbers h ≡ None) (reached : ReachedAt steps returns first h h) where
-  number_here : (x : ℕ) → x ≡ h → number_of (set numbers h (Some (length functions))) x ≡ Some (length functions)
-  number_here x e = ap (number_of (set numbers h (Some (length functions)))) e ∙ get_or-set_same numbers h (Some (length functions)) None (let z = pass.numbers_size in omega arith)
+module _ (steps : List Step) (returns : List Bool) (first : ℕ) (marks : List Mark) (functions : List ℕ) (numbers : List (Option ℕ)) (queue : List ℕ) (pass : IsMarkPass steps returns first marks functions numbers queue) (h : ℕ) (hl : h < length steps) (none : function_number numbers h ≡ None) (reached : ReachedAt steps returns first h h) where
+  number_here : (x : ℕ) → x ≡ h → function_number (set numbers h (Some (length functions))) x ≡ Some (length functions)
+  number_here x e = ap (function_number (set numbers h (Some (length functions)))) e ∙ get_or-set_same numbers h (Some (length functions)) None (let z = pass.numbers_size in omega arith)
 
-  number_other : (x : ℕ) → x ≢ h → number_of (set numbers h (Some (length functions))) x ≡ number_of numbers x
+  number_other : (x : ℕ) → x ≢ h → function_number (set numbers h (Some (length functions))) x ≡ function_number numbers x
   number_other x ne = get_or-set_other numbers h x (Some (length functions)) None ne
 
-  number_to : (x i : ℕ) → number_of (set numbers h (Some (length functions))) x ≡ Some i → (i < length (functions ++ h ∷ [])) × (slice_index (functions ++ h ∷ []) i ≡ x)
+  number_to : (x i : ℕ) → function_number (set numbers h (Some (length functions))) x ≡ Some i → (i < length (functions ++ h ∷ [])) × (slice_index (functions ++ h ∷ []) i ≡ x)
   number_to x i at = ⊎_elim
       (λ (e : x ≡ h).
       let same : length functions ≡ i = some_at (length functions) i _ (number_here x e) at in
@@ -201,15 +201,15 @@ module _ (steps : List Step) (returns : List Bool) (first : ℕ) (marks : List M
       some_at : (a b : ℕ) (o : Option ℕ) → o ≡ Some a → o ≡ Some b → a ≡ b
       some_at a b o p q = cc
 
-  number_keeps : (x i : ℕ) → number_of numbers x ≡ Some i → number_of (set numbers h (Some (length functions))) x ≡ Some i
+  number_keeps : (x i : ℕ) → function_number numbers x ≡ Some i → function_number (set numbers h (Some (length functions))) x ≡ Some i
   number_keeps x i at = ⊎_elim
-      (λ (e : x ≡ h). absurd (no i (number_of numbers h) none (ap (number_of numbers) (sym e) ∙ at)))
+      (λ (e : x ≡ h). absurd (no i (function_number numbers h) none (ap (function_number numbers) (sym e) ∙ at)))
       (λ ne. number_other x ne ∙ at) (cases_eq x h)
     where
       no : (i : ℕ) (o : Option ℕ) → o ≡ None → o ≡ Some i → ⊥
       no i o p q = cc
 
-  number_from : (x i : ℕ) → (i < length (functions ++ h ∷ [])) × (slice_index (functions ++ h ∷ []) i ≡ x) → number_of (set numbers h (Some (length functions))) x ≡ Some i
+  number_from : (x i : ℕ) → (i < length (functions ++ h ∷ [])) × (slice_index (functions ++ h ∷ []) i ≡ x) → function_number (set numbers h (Some (length functions))) x ≡ Some i
   number_from x i w = ⊎_elim
       (λ (e : i ≡ length functions).
       let same : x ≡ h = sym w.1 ∙ ap (slice_index (functions ++ h ∷ [])) e ∙ last_of functions h in
@@ -219,7 +219,7 @@ module _ (steps : List Step) (returns : List Bool) (first : ℕ) (marks : List M
       number_keeps x i ((pass.listed x i).1 (lt, sym (get_or_append_left functions (h ∷ []) 0 i lt) ∙ w.1)))
       (cases_eq i (length functions))
 
-  pub number_pass : IsMarking steps returns first marks (functions ++ h ∷ []) (set numbers h (Some (length functions))) queue
+  pub number_pass : IsMarkPass steps returns first marks (functions ++ h ∷ []) (set numbers h (Some (length functions))) queue
   number_pass = record {
     marks_size = pass.marks_size;
     numbers_size = length-set numbers h (Some (length functions)) ∙ pass.numbers_size;
@@ -233,10 +233,10 @@ module _ (steps : List Step) (returns : List Bool) (first : ℕ) (marks : List M
     covered = pass.covered;
   }
 
-  pub number_grows : Grows marks numbers queue marks (set numbers h (Some (length functions))) queue
+  pub number_grows : MarksGrow marks numbers queue marks (set numbers h (Some (length functions))) queue
   number_grows = record { longer = omega arith; front = λ p lt. refl; above = λ v f c. c; fresh = λ v. inl refl; numbered = number_keeps }
 
-  pub number_new : number_of (set numbers h (Some (length functions))) h ≡ Some (length functions)
+  pub number_new : function_number (set numbers h (Some (length functions))) h ≡ Some (length functions)
   number_new = number_here h refl
 
 -- the mark of a function's first word
@@ -248,24 +248,24 @@ due_owner steps returns first h reached = record {
 
 -- ---- where a word goes on
 module _ (steps : List Step) (returns : List Bool) (first u : ℕ) (m : Mark) (due : IsDue steps returns first m u) where
-  pub due_jump : (k : ℕ) → jump_of (step_at steps u) ≡ Some k → k < length steps → IsDue steps returns first m k
+  pub due_jump : (k : ℕ) → jumped_word (step_at steps u) ≡ Some k → k < length steps → IsDue steps returns first m k
   due_jump k at lt = record {
     one = λ f s. jumps u (due.one f s) at lt;
     two = λ s. let w = due.two s in (w.0, w.1, w.2, jumps u w.3 at lt, jumps u w.4 at lt);
   }
 
-  pub due_next : follows (step_at steps u) returns ≡ true → u + 1 < length steps → IsDue steps returns first m (u + 1)
+  pub due_next : goes_on_after (step_at steps u) returns ≡ true → u + 1 < length steps → IsDue steps returns first m (u + 1)
   due_next at lt = record {
     one = λ f s. goes u (due.one f s) at refl lt;
     two = λ s. let w = due.two s in (w.0, w.1, w.2, goes u w.3 at refl lt, goes u w.4 at refl lt);
   }
 
-  pub reached_call : (f h : ℕ) → Covers m f → callee_of (step_at steps u) ≡ Some h → h < length steps → ReachedAt steps returns first h h
+  pub reached_call : (f h : ℕ) → Covers m f → called_word (step_at steps u) ≡ Some h → h < length steps → ReachedAt steps returns first h h
   reached_call f h c at lt = ⊎_elim (λ s. calls f u (due.one f s) at refl lt) (λ s. let w = due.two s in calls w.0 u w.3 at refl lt) c
 
 -- ---- the whole pass
-module _ (steps : List Step) (returns : List Bool) (marks : List Mark) (numbers : List (Option ℕ)) (queue : List ℕ) (marks_then : List Mark) (numbers_then : List (Option ℕ)) (queue_then : List ℕ) (g : Grows marks numbers queue marks_then numbers_then queue_then) where
-  pub settled_stays : (u : ℕ) → mark_at marks_then u ≡ mark_at marks u → IsSettled steps returns marks numbers u → IsSettled steps returns marks_then numbers_then u
+module _ (steps : List Step) (returns : List Bool) (marks : List Mark) (numbers : List (Option ℕ)) (queue : List ℕ) (marks_then : List Mark) (numbers_then : List (Option ℕ)) (queue_then : List ℕ) (g : MarksGrow marks numbers queue marks_then numbers_then queue_then) where
+  pub settled_stays : (u : ℕ) → mark_at marks_then u ≡ mark_at marks u → IsMarkSettled steps returns marks numbers u → IsMarkSettled steps returns marks_then numbers_then u
   settled_stays u same s = record {
     jump = λ k at lt f c. g.above k f (s.jump k at lt f (subst (λ x. Covers x f) same c));
     next = λ at lt f c. g.above (u + 1) f (s.next at lt f (subst (λ x. Covers x f) same c));
@@ -273,12 +273,12 @@ module _ (steps : List Step) (returns : List Bool) (marks : List Mark) (numbers 
   }
 
   -- after the visit of the word at `done`
-  pub wait_next : (done u : ℕ) → slice_index queue done ≡ u → done < length queue → IsSettled steps returns marks_then numbers_then u ⊎ IsFrom queue_then (length queue) u →
+  pub wait_next : (done u : ℕ) → slice_index queue done ≡ u → done < length queue → IsMarkSettled steps returns marks_then numbers_then u ⊎ IsFrom queue_then (length queue) u →
       AllWait steps returns marks numbers queue done → AllWait steps returns marks_then numbers_then queue_then (done + 1)
   wait_next done u at dl seen waits x xl = ⊎_elim
       (λ settled. ⊎_elim (λ same. inl (settled_stays x same settled)) (λ w. inr (late x w)) (g.fresh x))
       (λ (w : IsFrom queue done x). ⊎_elim
-      (λ (e : w.0 ≡ done). subst (λ y. IsSettled steps returns marks_then numbers_then y ⊎ IsFrom queue_then (done + 1) y) (sym at ∙ ap (slice_index queue) (sym e) ∙ w.3) (⊎_elim (λ s. inl s) (λ v. inr (late u v)) seen))
+      (λ (e : w.0 ≡ done). subst (λ y. IsMarkSettled steps returns marks_then numbers_then y ⊎ IsFrom queue_then (done + 1) y) (sym at ∙ ap (slice_index queue) (sym e) ∙ w.3) (⊎_elim (λ s. inl s) (λ v. inr (late u v)) seen))
       (λ ne. inr (w.0, (let a = w.1 in let r : done + 1 ≤ w.0 = omega (arith, ne) in r), (let a = w.2 in let b = g.longer in let r : w.0 < length queue_then = omega arith in r), g.front w.0 w.2 ∙ w.3))
       (cases_eq w.0 done))
       (waits x xl)
@@ -286,7 +286,7 @@ module _ (steps : List Step) (returns : List Bool) (marks : List Mark) (numbers 
       late : (y : ℕ) → IsFrom queue_then (length queue) y → IsFrom queue_then (done + 1) y
       late y v = (v.0, (let a = v.1 in let r : done + 1 ≤ v.0 = omega arith in r), v.2, v.3)
 
-module _ (steps : List Step) (returns : List Bool) (first : ℕ) (marks : List Mark) (numbers : List (Option ℕ)) (settled : (u : ℕ) → u < length steps → IsSettled steps returns marks numbers u) (start : Covers (mark_at marks first) first) where
+module _ (steps : List Step) (returns : List Bool) (first : ℕ) (marks : List Mark) (numbers : List (Option ℕ)) (settled : (u : ℕ) → u < length steps → IsMarkSettled steps returns marks numbers u) (start : Covers (mark_at marks first) first) where
   pub reached_within : (f v : ℕ) → ReachedAt steps returns first f v → v < length steps
   reached_within f v (enters ef ev lt) = subst (λ x. x < length steps) (sym ev) lt
   reached_within f v (jumps u r at lt) = lt
@@ -299,8 +299,8 @@ module _ (steps : List Step) (returns : List Bool) (first : ℕ) (marks : List M
   covered f v (goes u r at e lt) = subst (λ x. Covers (mark_at marks x) f) (sym e) ((settled u (reached_within f u r)).next at (subst (λ x. x < length steps) e lt) f (covered f u r))
   covered f v (calls g u r at e lt) = subst (λ x. Covers (mark_at marks x) f) (sym e) ((settled u (reached_within g u r)).call g f (covered g u r) at lt).0
 
-  pub numbered_all : (i0 : ℕ) → number_of numbers first ≡ Some i0 → (f v : ℕ) → ReachedAt steps returns first f v → (i : ℕ) × (number_of numbers f ≡ Some i)
-  numbered_all i0 at0 f v (enters ef ev lt) = (i0, ap (number_of numbers) ef ∙ at0)
+  pub numbered_all : (i0 : ℕ) → function_number numbers first ≡ Some i0 → (f v : ℕ) → ReachedAt steps returns first f v → (i : ℕ) × (function_number numbers f ≡ Some i)
+  numbered_all i0 at0 f v (enters ef ev lt) = (i0, ap (function_number numbers) ef ∙ at0)
   numbered_all i0 at0 f v (jumps u r at lt) = numbered_all i0 at0 f u r
   numbered_all i0 at0 f v (goes u r at e lt) = numbered_all i0 at0 f u r
   numbered_all i0 at0 f v (calls g u r at e lt) = ((settled u (reached_within g u r)).call g f (covered g u r) at lt).1
@@ -344,14 +344,14 @@ module _ (steps : List Step) (returns : List Bool) (first : ℕ) (marks : List M
         go (Owner f) s none = absurd (none f ((due v).one f s))
         go Shared s none = let w = (due v).two s in absurd (none w.0 w.3)
 
-next_is : (steps : List Step) (returns : List Bool) (u k : ℕ) → next_of (step_at steps u) returns u ≡ Some k → (follows (step_at steps u) returns ≡ true) × (k ≡ u + 1)
-next_is steps returns u k h = go (follows (step_at steps u) returns) refl h
+next_is : (steps : List Step) (returns : List Bool) (u k : ℕ) → next_of (step_at steps u) returns u ≡ Some k → (goes_on_after (step_at steps u) returns ≡ true) × (k ≡ u + 1)
+next_is steps returns u k h = go (goes_on_after (step_at steps u) returns) refl h
   where
-    go : (b : Bool) → follows (step_at steps u) returns ≡ b → (if b then Some (u + 1) else None) ≡ Some k → (follows (step_at steps u) returns ≡ true) × (k ≡ u + 1)
+    go : (b : Bool) → goes_on_after (step_at steps u) returns ≡ b → (if b then Some (u + 1) else None) ≡ Some k → (goes_on_after (step_at steps u) returns ≡ true) × (k ≡ u + 1)
     go true at e = (at, cc)
     go false at e = let bad : ⊥ = cc in absurd bad
 
-pub is_next : (steps : List Step) (returns : List Bool) (u : ℕ) → follows (step_at steps u) returns ≡ true → next_of (step_at steps u) returns u ≡ Some (u + 1)
+pub is_next : (steps : List Step) (returns : List Bool) (u : ℕ) → goes_on_after (step_at steps u) returns ≡ true → next_of (step_at steps u) returns u ≡ Some (u + 1)
 is_next steps returns u h = ap (λ b. if b then Some (u + 1) else None) h
 
 pub due_next_of : (steps : List Step) (returns : List Bool) (first u : ℕ) (m : Mark) → IsDue steps returns first m u → (k : ℕ) → next_of (step_at steps u) returns u ≡ Some k → k < length steps → IsDue steps returns first m k
@@ -360,15 +360,15 @@ due_next_of steps returns first u m due k at lt =
     subst (λ x. IsDue steps returns first m x) (sym w.1) (due_next steps returns first u m due w.0 (subst (λ x. x < length steps) w.1 lt))
 
 -- a word that has been visited: first its call, then its jump, then the next word
-module _ (steps : List Step) (returns : List Bool) (u : ℕ) (m : Mark) (ma mb mc md : List Mark) (na nb nc nd : List (Option ℕ)) (qa qb qc qd : List ℕ) (ga : Grows ma na qa mb nb qb) (gb : Grows mb nb qb mc nc qc) (gc : Grows mc nc qc md nd qd) where
-  pub go_grows : Grows ma na qa md nd qd
+module _ (steps : List Step) (returns : List Bool) (u : ℕ) (m : Mark) (ma mb mc md : List Mark) (na nb nc nd : List (Option ℕ)) (qa qb qc qd : List ℕ) (ga : MarksGrow ma na qa mb nb qb) (gb : MarksGrow mb nb qb mc nc qc) (gc : MarksGrow mc nc qc md nd qd) where
+  pub go_grows : MarksGrow ma na qa md nd qd
   go_grows = grows_on ma mc md na nc nd qa qc qd (grows_on ma mb mc na nb nc qa qb qc ga gb) gc
 
   pub go_settled : mark_at ma u ≡ m →
-      ((h : ℕ) → callee_of (step_at steps u) ≡ Some h → h < length steps → Covers (mark_at mb h) h × ((i : ℕ) × (number_of nb h ≡ Some i))) →
-      ((k : ℕ) → jump_of (step_at steps u) ≡ Some k → k < length steps → Below m (mark_at mc k)) →
+      ((h : ℕ) → called_word (step_at steps u) ≡ Some h → h < length steps → Covers (mark_at mb h) h × ((i : ℕ) × (function_number nb h ≡ Some i))) →
+      ((k : ℕ) → jumped_word (step_at steps u) ≡ Some k → k < length steps → Below m (mark_at mc k)) →
       ((k : ℕ) → next_of (step_at steps u) returns u ≡ Some k → k < length steps → Below m (mark_at md k)) →
-      IsSettled steps returns md nd u ⊎ IsFrom qd (length qa) u
+      IsMarkSettled steps returns md nd u ⊎ IsFrom qd (length qa) u
   go_settled is called jumped next = ⊎_elim
       (λ same. inl (record {
         jump = λ k at lt f c. gc.above k f (jumped k at lt f (subst (λ x. Covers x f) (same ∙ is) c));
@@ -383,13 +383,13 @@ none_mark zero v = refl
 none_mark (suc n) zero = refl
 none_mark (suc n) (suc v) = none_mark n v
 
-none_number : (n v : ℕ) → number_of (replicate n None) v ≡ None
+none_number : (n v : ℕ) → function_number (replicate n None) v ≡ None
 none_number zero v = refl
 none_number (suc n) zero = refl
 none_number (suc n) (suc v) = none_number n v
 
-pub no_number : (n : ℕ) (numbers : List (Option ℕ)) → numbers ≡ replicate n None → (v : ℕ) → number_of numbers v ≡ None
-no_number n numbers e v = ap (λ xs. number_of xs v) e ∙ none_number n v
+pub no_number : (n : ℕ) (numbers : List (Option ℕ)) → numbers ≡ replicate n None → (v : ℕ) → function_number numbers v ≡ None
+no_number n numbers e v = ap (λ xs. function_number xs v) e ∙ none_number n v
 
 unreached_one : (m : Mark) (f : ℕ) → m ≡ Unreached → m ≡ Owner f → ⊥
 unreached_one m f a b = cc
@@ -404,19 +404,19 @@ module _ (steps : List Step) (returns : List Bool) (first : ℕ) (marks : List M
   no_mark : (v : ℕ) → mark_at marks v ≡ Unreached
   no_mark v = ap (λ xs. mark_at xs v) me ∙ none_mark (length steps) v
 
-  pub start_pass : IsMarking steps returns first marks functions numbers queue
+  pub start_pass : IsMarkPass steps returns first marks functions numbers queue
   start_pass = record {
     marks_size = ml;
     numbers_size = nl;
     due = λ v. record { one = λ f s. absurd (unreached_one (mark_at marks v) f (no_mark v) s); two = λ s. absurd (unreached_two (mark_at marks v) (no_mark v) s) };
-    listed = λ h i. (λ s. absurd (no_some (number_of numbers h) i (no_number (length steps) numbers ne h) s), λ w. absurd (let a = w.0 in let b = ap length fe in omega arith));
-    called = λ h i s. absurd (no_some (number_of numbers h) i (no_number (length steps) numbers ne h) s);
+    listed = λ h i. (λ s. absurd (no_some (function_number numbers h) i (no_number (length steps) numbers ne h) s), λ w. absurd (let a = w.0 in let b = ap length fe in omega arith));
+    called = λ h i s. absurd (no_some (function_number numbers h) i (no_number (length steps) numbers ne h) s);
     counted = (let b = ap length qe in omega arith);
     within = subst (λ xs. All (λ k. k < length steps) xs) (sym qe) (All-nil (λ k. k < length steps));
     covered = λ p lt. absurd (let b = ap length qe in omega arith);
   }
 
-  start_settled : (u : ℕ) → IsSettled steps returns marks numbers u
+  start_settled : (u : ℕ) → IsMarkSettled steps returns marks numbers u
   start_settled u = record {
     jump = λ k at lt f c. absurd (no_cover u f c);
     next = λ at lt f c. absurd (no_cover u f c);
@@ -426,16 +426,16 @@ module _ (steps : List Step) (returns : List Bool) (first : ℕ) (marks : List M
       no_cover : (u f : ℕ) → Covers (mark_at marks u) f → ⊥
       no_cover u f c = ⊎_elim (λ a. unreached_one (mark_at marks u) f (no_mark u) a) (λ a. unreached_two (mark_at marks u) (no_mark u) a) c
 
-  pub start_waits : (marks_then : List Mark) (numbers_then : List (Option ℕ)) (queue_then : List ℕ) → Grows marks numbers queue marks_then numbers_then queue_then → AllWait steps returns marks_then numbers_then queue_then 0
+  pub start_waits : (marks_then : List Mark) (numbers_then : List (Option ℕ)) (queue_then : List ℕ) → MarksGrow marks numbers queue marks_then numbers_then queue_then → AllWait steps returns marks_then numbers_then queue_then 0
   start_waits marks_then numbers_then queue_then g u ul = ⊎_elim
       (λ same. inl (settled_stays steps returns marks numbers queue marks_then numbers_then queue_then g u same (start_settled u)))
       (λ w. inr (w.0, (let r : 0 ≤ w.0 = omega arith in r), w.2, w.3)) (g.fresh u)
 
 -- ---- the end
-pub all_settled : (steps : List Step) (returns : List Bool) (marks : List Mark) (numbers : List (Option ℕ)) (queue : List ℕ) (done : ℕ) → length queue ≤ done → AllWait steps returns marks numbers queue done → (u : ℕ) → u < length steps → IsSettled steps returns marks numbers u
+pub all_settled : (steps : List Step) (returns : List Bool) (marks : List Mark) (numbers : List (Option ℕ)) (queue : List ℕ) (done : ℕ) → length queue ≤ done → AllWait steps returns marks numbers queue done → (u : ℕ) → u < length steps → IsMarkSettled steps returns marks numbers u
 all_settled steps returns marks numbers queue done end waits u ul = ⊎_elim (λ s. s) (λ (w : IsFrom queue done u). absurd (let a = w.1 in let b = w.2 in omega arith)) (waits u ul)
 
-pub queue_below : (steps : List Step) (returns : List Bool) (first : ℕ) (marks : List Mark) (functions : List ℕ) (numbers : List (Option ℕ)) (queue : List ℕ) → IsMarking steps returns first marks functions numbers queue → length queue ≤ 2 * length steps
+pub queue_below : (steps : List Step) (returns : List Bool) (first : ℕ) (marks : List Mark) (functions : List ℕ) (numbers : List (Option ℕ)) (queue : List ℕ) → IsMarkPass steps returns first marks functions numbers queue → length queue ≤ 2 * length steps
 queue_below steps returns first marks functions numbers queue pass = let a = pass.counted in let b = heights_le marks in let c = pass.marks_size in omega arith
 
 pub size_marks : (n : ℕ) → length (replicate n Unreached) ≡ n

@@ -64,7 +64,7 @@ count_true [] = 0
 count_true (b ∷ bs) = (if b then 1 else 0) + count_true bs
 
 -- what the pass keeps
-pub record IsPass (steps : List Step) (flags : List Bool) (queue : List ℕ) : Type 0 where
+pub record IsReturnPass (steps : List Step) (flags : List Bool) (queue : List ℕ) : Type 0 where
   pub size : length flags ≡ length steps
   pub sound : AreSound steps flags
   pub counted : count_true flags ≡ length queue
@@ -83,7 +83,7 @@ is_below None x = false
 is_below (Some b) x = nat_le x b
 
 -- (of the words below n; a key that is no word's number has no chain)
-pub record IsChain (steps : List Step) (n : ℕ) (last before : List (Option ℕ)) : Type 0 where
+pub record AreStepChains (steps : List Step) (n : ℕ) (last before : List (Option ℕ)) : Type 0 where
   pub last_size : length last ≡ length steps
   pub before_size : length before ≡ length steps
   pub last_key : (k s : ℕ) → slice_index_or last k None ≡ Some s → (s < n) × (key_of (step_at steps s) ≡ Some k)

@@ -1,7 +1,7 @@
 //! The words that jump to a word or call it, as a chain for each word.
 
 ghost use Rattle.std.specs.Prelude.{◌≡◌, ℕ, ◌+◌, ◌^◌, ◌<◌, length, IfOk};
-ghost use Rattle.flow_passes.specs.Flow.{IsChain, key_of};
+ghost use Rattle.flow_passes.specs.Flow.{AreStepChains, key_of};
 
 use crate::step::Step;
 use scale_base::NoMemory;
@@ -30,8 +30,8 @@ fn key(step: Step) -> Option<usize>
 fn link(steps: &[Step], chains: &mut Chains, s: usize)
     requires within { s < length steps.now }
     requires room { length steps.now < 2 ^ 32 }
-    requires chain { IsChain steps.now s chains.old.last.items chains.old.before.items }
-    ensures { IsChain steps.now (s + 1) chains.new.last.items chains.new.before.items }
+    requires chain { AreStepChains steps.now s chains.old.last.items chains.old.before.items }
+    ensures { AreStepChains steps.now (s + 1) chains.new.last.items chains.new.before.items }
 {
     if let Some(k) = key(steps[s]) {
         if k < steps.len() {
@@ -44,7 +44,7 @@ fn link(steps: &[Step], chains: &mut Chains, s: usize)
 /// The chains of all words.
 pub fn find_chains(alloc: Global, steps: &[Step]) -> Result<Chains, NoMemory>
     requires { length steps.now < 2 ^ 32 }
-    ensures { IfOk result (λ chains. IsChain steps.now (length steps.now) chains.last.items chains.before.items) }
+    ensures { IfOk result (λ chains. AreStepChains steps.now (length steps.now) chains.last.items chains.before.items) }
 {
     let mut chains = Chains {
         last: vec![in alloc; None; steps.len()]?,

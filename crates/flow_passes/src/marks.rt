@@ -3,7 +3,7 @@
 ghost use Rattle.std.specs.Prelude.{◌≡◌, ℕ, ◌+◌, ◌^◌, ◌<◌, ◌≤◌, true, length, OnOk, IfOk, slice_index, ◌↔◌, ◌⊎◌, Some, None};
 ghost use Rattle.flow_passes.specs.Flow.{step_at};
 ghost use Rattle.flow_passes.specs.declared.marks.Mark.TheVariants.{Unreached, Owner, Shared};
-ghost use Rattle.flow_passes.specs.Marks.{jump_of, callee_of, follows, ReachedAt, IsReachedTwice, mark_at, number_of, raised, Covers, Below, IsDue, IsMarking, IsFrom, Grows, IsSettled, next_of};
+ghost use Rattle.flow_passes.specs.Marks.{jumped_word, called_word, goes_on_after, ReachedAt, IsReachedTwice, mark_at, function_number, raised, Covers, Below, IsDue, IsMarkPass, IsFrom, MarksGrow, IsMarkSettled, next_of};
 
 use crate::returning::is_flagged;
 use crate::step::Step;
@@ -51,7 +51,7 @@ fn raise(old: Mark, mark: Mark) -> Option<Mark>
 
 // The word to which a word jumps.
 fn jump(step: Step) -> Option<usize>
-    ensures { result ≡ jump_of step }
+    ensures { result ≡ jumped_word step }
 {
     match step {
         Step::On(jump, _) => jump,
@@ -61,7 +61,7 @@ fn jump(step: Step) -> Option<usize>
 
 // The word that a word calls.
 fn callee(step: Step) -> Option<usize>
-    ensures { result ≡ callee_of step }
+    ensures { result ≡ called_word step }
 {
     match step {
         Step::Call(callee, _) => callee,
@@ -71,7 +71,7 @@ fn callee(step: Step) -> Option<usize>
 
 // Whether the next word follows.
 fn is_followed(step: Step, returning: &[bool]) -> bool
-    ensures { result ≡ follows step returning.now }
+    ensures { result ≡ goes_on_after step returning.now }
 {
     match step {
         Step::On(_, next) => next,
@@ -103,10 +103,10 @@ fn reach(
 ) -> Result<(), NoMemory>
     requires within { k < length steps.now }
     requires room { length steps.now < 2 ^ 32 }
-    requires pass { IsMarking steps.now returning.now entry marking.old.marks.items marking.old.functions.items marking.old.numbers.items marking.old.queue.items }
+    requires pass { IsMarkPass steps.now returning.now entry marking.old.marks.items marking.old.functions.items marking.old.numbers.items marking.old.queue.items }
     requires due { IsDue steps.now returning.now entry mark k }
-    ensures pass { OnOk result (IsMarking steps.now returning.now entry marking.new.marks.items marking.new.functions.items marking.new.numbers.items marking.new.queue.items) }
-    ensures grows { OnOk result (Grows marking.old.marks.items marking.old.numbers.items marking.old.queue.items marking.new.marks.items marking.new.numbers.items marking.new.queue.items) }
+    ensures pass { OnOk result (IsMarkPass steps.now returning.now entry marking.new.marks.items marking.new.functions.items marking.new.numbers.items marking.new.queue.items) }
+    ensures grows { OnOk result (MarksGrow marking.old.marks.items marking.old.numbers.items marking.old.queue.items marking.new.marks.items marking.new.numbers.items marking.new.queue.items) }
     ensures reached { OnOk result (Below mark (mark_at marking.new.marks.items k)) }
 {
     let old = marking.marks[k];
@@ -127,10 +127,10 @@ fn reach_some(
     mark: Mark,
 ) -> Result<(), NoMemory>
     requires room { length steps.now < 2 ^ 32 }
-    requires pass { IsMarking steps.now returning.now entry marking.old.marks.items marking.old.functions.items marking.old.numbers.items marking.old.queue.items }
+    requires pass { IsMarkPass steps.now returning.now entry marking.old.marks.items marking.old.functions.items marking.old.numbers.items marking.old.queue.items }
     requires due { (k : ℕ) → word ≡ Some k → k < length steps.now → IsDue steps.now returning.now entry mark k }
-    ensures pass { OnOk result (IsMarking steps.now returning.now entry marking.new.marks.items marking.new.functions.items marking.new.numbers.items marking.new.queue.items) }
-    ensures grows { OnOk result (Grows marking.old.marks.items marking.old.numbers.items marking.old.queue.items marking.new.marks.items marking.new.numbers.items marking.new.queue.items) }
+    ensures pass { OnOk result (IsMarkPass steps.now returning.now entry marking.new.marks.items marking.new.functions.items marking.new.numbers.items marking.new.queue.items) }
+    ensures grows { OnOk result (MarksGrow marking.old.marks.items marking.old.numbers.items marking.old.queue.items marking.new.marks.items marking.new.numbers.items marking.new.queue.items) }
     ensures reached { OnOk result ((k : ℕ) → word ≡ Some k → k < length steps.now → Below mark (mark_at marking.new.marks.items k)) }
 {
     if let Some(k) = word {
@@ -151,12 +151,12 @@ fn number(
 ) -> Result<(), NoMemory>
     requires within { h < length steps.now }
     requires room { length steps.now < 2 ^ 32 }
-    requires pass { IsMarking steps.now returning.now entry marking.old.marks.items marking.old.functions.items marking.old.numbers.items marking.old.queue.items }
+    requires pass { IsMarkPass steps.now returning.now entry marking.old.marks.items marking.old.functions.items marking.old.numbers.items marking.old.queue.items }
     requires reached { ReachedAt steps.now returning.now entry h h }
-    ensures pass { OnOk result (IsMarking steps.now returning.now entry marking.new.marks.items marking.new.functions.items marking.new.numbers.items marking.new.queue.items) }
-    ensures grows { OnOk result (Grows marking.old.marks.items marking.old.numbers.items marking.old.queue.items marking.new.marks.items marking.new.numbers.items marking.new.queue.items) }
-    ensures numbered { OnOk result ((i : ℕ) × (number_of marking.new.numbers.items h ≡ Some i)) }
-    ensures added { OnOk result (number_of marking.old.numbers.items h ≡ None → number_of marking.new.numbers.items h ≡ Some (length marking.old.functions.items)) }
+    ensures pass { OnOk result (IsMarkPass steps.now returning.now entry marking.new.marks.items marking.new.functions.items marking.new.numbers.items marking.new.queue.items) }
+    ensures grows { OnOk result (MarksGrow marking.old.marks.items marking.old.numbers.items marking.old.queue.items marking.new.marks.items marking.new.numbers.items marking.new.queue.items) }
+    ensures numbered { OnOk result ((i : ℕ) × (function_number marking.new.numbers.items h ≡ Some i)) }
+    ensures added { OnOk result (function_number marking.old.numbers.items h ≡ None → function_number marking.new.numbers.items h ≡ Some (length marking.old.functions.items)) }
 {
     let old = marking.numbers[h];
     if let Some(_i) = old {
@@ -177,13 +177,13 @@ fn call(
 ) -> Result<(), NoMemory>
     requires within { h < length steps.now }
     requires room { length steps.now < 2 ^ 32 }
-    requires pass { IsMarking steps.now returning.now entry marking.old.marks.items marking.old.functions.items marking.old.numbers.items marking.old.queue.items }
+    requires pass { IsMarkPass steps.now returning.now entry marking.old.marks.items marking.old.functions.items marking.old.numbers.items marking.old.queue.items }
     requires reached { ReachedAt steps.now returning.now entry h h }
-    ensures pass { OnOk result (IsMarking steps.now returning.now entry marking.new.marks.items marking.new.functions.items marking.new.numbers.items marking.new.queue.items) }
-    ensures grows { OnOk result (Grows marking.old.marks.items marking.old.numbers.items marking.old.queue.items marking.new.marks.items marking.new.numbers.items marking.new.queue.items) }
+    ensures pass { OnOk result (IsMarkPass steps.now returning.now entry marking.new.marks.items marking.new.functions.items marking.new.numbers.items marking.new.queue.items) }
+    ensures grows { OnOk result (MarksGrow marking.old.marks.items marking.old.numbers.items marking.old.queue.items marking.new.marks.items marking.new.numbers.items marking.new.queue.items) }
     ensures covered { OnOk result (Covers (mark_at marking.new.marks.items h) h) }
-    ensures numbered { OnOk result ((i : ℕ) × (number_of marking.new.numbers.items h ≡ Some i)) }
-    ensures added { OnOk result (number_of marking.old.numbers.items h ≡ None → number_of marking.new.numbers.items h ≡ Some (length marking.old.functions.items)) }
+    ensures numbered { OnOk result ((i : ℕ) × (function_number marking.new.numbers.items h ≡ Some i)) }
+    ensures added { OnOk result (function_number marking.old.numbers.items h ≡ None → function_number marking.new.numbers.items h ≡ Some (length marking.old.functions.items)) }
 {
     number(steps, returning, entry, marking, h)?;
     reach(steps, returning, entry, marking, h, Mark::Owner(h))?;
@@ -199,11 +199,11 @@ fn call_some(
     word: Option<usize>,
 ) -> Result<(), NoMemory>
     requires room { length steps.now < 2 ^ 32 }
-    requires pass { IsMarking steps.now returning.now entry marking.old.marks.items marking.old.functions.items marking.old.numbers.items marking.old.queue.items }
+    requires pass { IsMarkPass steps.now returning.now entry marking.old.marks.items marking.old.functions.items marking.old.numbers.items marking.old.queue.items }
     requires reached { (h : ℕ) → word ≡ Some h → h < length steps.now → ReachedAt steps.now returning.now entry h h }
-    ensures pass { OnOk result (IsMarking steps.now returning.now entry marking.new.marks.items marking.new.functions.items marking.new.numbers.items marking.new.queue.items) }
-    ensures grows { OnOk result (Grows marking.old.marks.items marking.old.numbers.items marking.old.queue.items marking.new.marks.items marking.new.numbers.items marking.new.queue.items) }
-    ensures called { OnOk result ((h : ℕ) → word ≡ Some h → h < length steps.now → Covers (mark_at marking.new.marks.items h) h × ((i : ℕ) × (number_of marking.new.numbers.items h ≡ Some i))) }
+    ensures pass { OnOk result (IsMarkPass steps.now returning.now entry marking.new.marks.items marking.new.functions.items marking.new.numbers.items marking.new.queue.items) }
+    ensures grows { OnOk result (MarksGrow marking.old.marks.items marking.old.numbers.items marking.old.queue.items marking.new.marks.items marking.new.numbers.items marking.new.queue.items) }
+    ensures called { OnOk result ((h : ℕ) → word ≡ Some h → h < length steps.now → Covers (mark_at marking.new.marks.items h) h × ((i : ℕ) × (function_number marking.new.numbers.items h ≡ Some i))) }
 {
     if let Some(h) = word {
         if h < steps.len() {
@@ -223,11 +223,11 @@ fn go_on(
 ) -> Result<(), NoMemory>
     requires within { u < length steps.now }
     requires room { length steps.now < 2 ^ 32 }
-    requires pass { IsMarking steps.now returning.now entry marking.old.marks.items marking.old.functions.items marking.old.numbers.items marking.old.queue.items }
+    requires pass { IsMarkPass steps.now returning.now entry marking.old.marks.items marking.old.functions.items marking.old.numbers.items marking.old.queue.items }
     requires covered { (f : ℕ) × Covers (mark_at marking.old.marks.items u) f }
-    ensures pass { OnOk result (IsMarking steps.now returning.now entry marking.new.marks.items marking.new.functions.items marking.new.numbers.items marking.new.queue.items) }
-    ensures grows { OnOk result (Grows marking.old.marks.items marking.old.numbers.items marking.old.queue.items marking.new.marks.items marking.new.numbers.items marking.new.queue.items) }
-    ensures settled { OnOk result (IsSettled steps.now returning.now marking.new.marks.items marking.new.numbers.items u ⊎ IsFrom marking.new.queue.items (length marking.old.queue.items) u) }
+    ensures pass { OnOk result (IsMarkPass steps.now returning.now entry marking.new.marks.items marking.new.functions.items marking.new.numbers.items marking.new.queue.items) }
+    ensures grows { OnOk result (MarksGrow marking.old.marks.items marking.old.numbers.items marking.old.queue.items marking.new.marks.items marking.new.numbers.items marking.new.queue.items) }
+    ensures settled { OnOk result (IsMarkSettled steps.now returning.now marking.new.marks.items marking.new.numbers.items u ⊎ IsFrom marking.new.queue.items (length marking.old.queue.items) u) }
 {
     let mark = marking.marks[u];
     let step = steps[u];
@@ -255,9 +255,9 @@ pub fn mark_words(
     ensures owner { IfOk result (λ marking. (v f : ℕ) → (mark_at marking.marks.items v ≡ Owner f) ↔ (ReachedAt steps.now returning.now entry f v × ((g : ℕ) → ReachedAt steps.now returning.now entry g v → g ≡ f))) }
     ensures shared { IfOk result (λ marking. (v : ℕ) → (mark_at marking.marks.items v ≡ Shared) ↔ IsReachedTwice steps.now returning.now entry v) }
     ensures unreached { IfOk result (λ marking. (v : ℕ) → (mark_at marking.marks.items v ≡ Unreached) ↔ ((f : ℕ) → ReachedAt steps.now returning.now entry f v → ⊥)) }
-    ensures numbers { IfOk result (λ marking. (h i : ℕ) → (number_of marking.numbers.items h ≡ Some i) ↔ ((i < length marking.functions.items) × (slice_index marking.functions.items i ≡ h))) }
-    ensures functions { IfOk result (λ marking. (h : ℕ) → ((i : ℕ) × (number_of marking.numbers.items h ≡ Some i)) ↔ ReachedAt steps.now returning.now entry h h) }
-    ensures first { IfOk result (λ marking. number_of marking.numbers.items entry ≡ Some 0) }
+    ensures numbers { IfOk result (λ marking. (h i : ℕ) → (function_number marking.numbers.items h ≡ Some i) ↔ ((i < length marking.functions.items) × (slice_index marking.functions.items i ≡ h))) }
+    ensures functions { IfOk result (λ marking. (h : ℕ) → ((i : ℕ) × (function_number marking.numbers.items h ≡ Some i)) ↔ ReachedAt steps.now returning.now entry h h) }
+    ensures first { IfOk result (λ marking. function_number marking.numbers.items entry ≡ Some 0) }
 {
     let marks = vec![in alloc; Mark::Unreached; steps.len()]?;
     let numbers = vec![in alloc; None; steps.len()]?;

@@ -1,7 +1,7 @@
 //! From which words a return can come.
 
 ghost use Rattle.std.specs.Prelude.{◌≡◌, ℕ, ◌+◌, ◌^◌, ◌<◌, ◌≤◌, Bool, true, false, length, OnOk, IfOk, slice_index, ◌↔◌};
-ghost use Rattle.flow_passes.specs.Flow.{reason, flag, flag_option, IsPass, Waits, but, IsChain, but_keyed, but_parts, CanReturnAt};
+ghost use Rattle.flow_passes.specs.Flow.{reason, flag, flag_option, IsReturnPass, Waits, but, AreStepChains, but_keyed, but_parts, CanReturnAt};
 
 use crate::chains::{Chains, find_chains};
 use crate::step::Step;
@@ -44,8 +44,8 @@ struct Found {
 fn visit(steps: &[Step], found: &mut Found, s: usize) -> Result<(), NoMemory>
     requires within { s < length steps.now }
     requires room { length steps.now < 2 ^ 32 }
-    requires pass { IsPass steps.now found.old.flags.items found.old.queue.items }
-    ensures pass { OnOk result (IsPass steps.now found.new.flags.items found.new.queue.items) }
+    requires pass { IsReturnPass steps.now found.old.flags.items found.old.queue.items }
+    ensures pass { OnOk result (IsReturnPass steps.now found.new.flags.items found.new.queue.items) }
     ensures waits { OnOk result ((done : ℕ) (left : ℕ → Bool) → done ≤ length found.old.queue.items → Waits steps.now found.old.flags.items found.old.queue.items done left → Waits steps.now found.new.flags.items found.new.queue.items done (but left s)) }
     ensures front { OnOk result ((length found.old.queue.items ≤ length found.new.queue.items) × ((p : ℕ) → p < length found.old.queue.items → slice_index found.new.queue.items p ≡ slice_index found.old.queue.items p)) }
 {
@@ -66,9 +66,9 @@ fn visit_sources(
 ) -> Result<(), NoMemory>
     requires within { k < length steps.now }
     requires room { length steps.now < 2 ^ 32 }
-    requires chain { IsChain steps.now (length steps.now) last.now before.now }
-    requires pass { IsPass steps.now found.old.flags.items found.old.queue.items }
-    ensures pass { OnOk result (IsPass steps.now found.new.flags.items found.new.queue.items) }
+    requires chain { AreStepChains steps.now (length steps.now) last.now before.now }
+    requires pass { IsReturnPass steps.now found.old.flags.items found.old.queue.items }
+    ensures pass { OnOk result (IsReturnPass steps.now found.new.flags.items found.new.queue.items) }
     ensures waits { OnOk result ((done : ℕ) (left : ℕ → Bool) → done ≤ length found.old.queue.items → Waits steps.now found.old.flags.items found.old.queue.items done left → Waits steps.now found.new.flags.items found.new.queue.items done (but_keyed steps.now k left)) }
     ensures front { OnOk result ((length found.old.queue.items ≤ length found.new.queue.items) × ((p : ℕ) → p < length found.old.queue.items → slice_index found.new.queue.items p ≡ slice_index found.old.queue.items p)) }
 {
@@ -84,9 +84,9 @@ fn visit_sources(
 fn visit_parts(steps: &[Step], chains: &Chains, found: &mut Found, k: usize) -> Result<(), NoMemory>
     requires within { k < length steps.now }
     requires room { length steps.now < 2 ^ 32 }
-    requires chain { IsChain steps.now (length steps.now) chains.now.last.items chains.now.before.items }
-    requires pass { IsPass steps.now found.old.flags.items found.old.queue.items }
-    ensures pass { OnOk result (IsPass steps.now found.new.flags.items found.new.queue.items) }
+    requires chain { AreStepChains steps.now (length steps.now) chains.now.last.items chains.now.before.items }
+    requires pass { IsReturnPass steps.now found.old.flags.items found.old.queue.items }
+    ensures pass { OnOk result (IsReturnPass steps.now found.new.flags.items found.new.queue.items) }
     ensures waits { OnOk result ((done : ℕ) (left : ℕ → Bool) → done ≤ length found.old.queue.items → Waits steps.now found.old.flags.items found.old.queue.items done left → Waits steps.now found.new.flags.items found.new.queue.items done (but_parts steps.now k left)) }
     ensures longer { OnOk result (length found.old.queue.items ≤ length found.new.queue.items) }
 {
@@ -100,8 +100,8 @@ fn visit_parts(steps: &[Step], chains: &Chains, found: &mut Found, k: usize) -> 
 // Finds each word that has a reason by itself.
 fn seed(steps: &[Step], found: &mut Found) -> Result<(), NoMemory>
     requires room { length steps.now < 2 ^ 32 }
-    requires pass { IsPass steps.now found.old.flags.items found.old.queue.items }
-    ensures pass { OnOk result (IsPass steps.now found.new.flags.items found.new.queue.items) }
+    requires pass { IsReturnPass steps.now found.old.flags.items found.old.queue.items }
+    ensures pass { OnOk result (IsReturnPass steps.now found.new.flags.items found.new.queue.items) }
     ensures waits { OnOk result (Waits steps.now found.new.flags.items found.new.queue.items 0 (λ x. false)) }
 {
     for s in 0..steps.len() {

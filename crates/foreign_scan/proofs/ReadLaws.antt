@@ -13,8 +13,8 @@ use Rattle.stub_writer.specs.Fragments.{t0, t1, hi, lo, lw, sw, slot, switch_cod
 use Rattle.foreign_scan.specs.declared.fragment.ForeignFragment.{ForeignFragment}
 use Rattle.foreign_scan.specs.declared.fragment.ForeignFragment.TheVariants.{Switch, Exit, Reset, Count}
 use Rattle.foreign_scan.specs.Form.{HoldsAt, Hold}
-use Rattle.foreign_scan.specs.KeyWords.{StandsAt}
-use Rattle.foreign_scan.specs.Parts.{clears, is_load, loads_port}
+use Rattle.foreign_scan.specs.KeyWords.{FragmentStandsAt}
+use Rattle.foreign_scan.specs.Parts.{clears, loads_word, loads_port}
 use Rattle.foreign_scan.proofs.HoldLaws.{moved}
 
 pub same_some : {A : Type 0} (a b : A) → Some a ≡ Some b → a ≡ b
@@ -59,32 +59,32 @@ no_port counter lt = by_test (int_eq (slot counter) (negsuc 3)) (Decides-int_eq 
     by_test true h = absurd (let e : 2047 - 4 * counter ≡ 3 = (let q = h refl in cc) in omega arith)
 
 pub by_clears : (image : Image) (at : ℕ) (first : Option Instr) (o : Option ForeignFragment) → Reads image at first → clears first ≡ true
-    → ((counter : ℕ) → StandsAt image at (Reset counter) → o ≡ Some (Reset counter)) → (f : ForeignFragment) → StandsAt image at f → o ≡ Some f
+    → ((counter : ℕ) → FragmentStandsAt image at (Reset counter) → o ≡ Some (Reset counter)) → (f : ForeignFragment) → FragmentStandsAt image at f → o ≡ Some f
 by_clears image at first o reads y reset (Switch word) s = differ (clears first) y (ap clears (reads (sw t0 0) s.code.0))
 by_clears image at first o reads y reset (Exit counter shift table) s = differ (clears first) y (ap clears (reads (sw t0 0) s.code.0))
 by_clears image at first o reads y reset (Reset counter) s = reset counter s
 by_clears image at first o reads y reset (Count counter) s = differ (clears first) y (ap clears (reads (sw t0 0) s.code.0))
 
-pub by_load : (image : Image) (at : ℕ) (first second : Option Instr) (o : Option ForeignFragment) → Reads image at first → Reads image (at + 4) second → clears first ≡ false → is_load second ≡ true
-    → ((counter : ℕ) → StandsAt image at (Count counter) → o ≡ Some (Count counter)) → (f : ForeignFragment) → StandsAt image at f → o ≡ Some f
-by_load image at first second o one two n y count (Switch word) s = differ (is_load second) y (ap is_load (two (sw t1 1) s.code.1.0))
-by_load image at first second o one two n y count (Exit counter shift table) s = differ (is_load second) y (ap is_load (two (sw t1 1) s.code.1.0))
+pub by_load : (image : Image) (at : ℕ) (first second : Option Instr) (o : Option ForeignFragment) → Reads image at first → Reads image (at + 4) second → clears first ≡ false → loads_word second ≡ true
+    → ((counter : ℕ) → FragmentStandsAt image at (Count counter) → o ≡ Some (Count counter)) → (f : ForeignFragment) → FragmentStandsAt image at f → o ≡ Some f
+by_load image at first second o one two n y count (Switch word) s = differ (loads_word second) y (ap loads_word (two (sw t1 1) s.code.1.0))
+by_load image at first second o one two n y count (Exit counter shift table) s = differ (loads_word second) y (ap loads_word (two (sw t1 1) s.code.1.0))
 by_load image at first second o one two n y count (Reset counter) s = differ (clears first) (ap clears (one (sw 0 counter) s.code.0)) n
 by_load image at first second o one two n y count (Count counter) s = count counter s
 
 pub by_port : (image : Image) (at : ℕ) (first second last : Option Instr) (o : Option ForeignFragment) → Reads image at first → Reads image (at + 4) second → Reads image (at + 8) last
-    → clears first ≡ false → is_load second ≡ false → loads_port last ≡ true
-    → ((word : ℕ) → StandsAt image at (Switch word) → o ≡ Some (Switch word)) → (f : ForeignFragment) → StandsAt image at f → o ≡ Some f
+    → clears first ≡ false → loads_word second ≡ false → loads_port last ≡ true
+    → ((word : ℕ) → FragmentStandsAt image at (Switch word) → o ≡ Some (Switch word)) → (f : ForeignFragment) → FragmentStandsAt image at f → o ≡ Some f
 by_port image at first second last o one two three n none y switch (Switch word) s = switch word s
 by_port image at first second last o one two three n none y switch (Exit counter shift table) s =
     differ (loads_port last) y (ap loads_port (third image at last (lw t0 counter) three s.code.1.1.0) ∙ no_port counter s.foreign.0.1)
 by_port image at first second last o one two three n none y switch (Reset counter) s = differ (clears first) (ap clears (one (sw 0 counter) s.code.0)) n
-by_port image at first second last o one two three n none y switch (Count counter) s = differ (is_load second) (ap is_load (two (lw t0 counter) s.code.1.0)) none
+by_port image at first second last o one two three n none y switch (Count counter) s = differ (loads_word second) (ap loads_word (two (lw t0 counter) s.code.1.0)) none
 
 pub by_rest : (image : Image) (at : ℕ) (first second last : Option Instr) (o : Option ForeignFragment) → Reads image at first → Reads image (at + 4) second → Reads image (at + 8) last
-    → clears first ≡ false → is_load second ≡ false → loads_port last ≡ false
-    → ((counter shift table : ℕ) → StandsAt image at (Exit counter shift table) → o ≡ Some (Exit counter shift table)) → (f : ForeignFragment) → StandsAt image at f → o ≡ Some f
+    → clears first ≡ false → loads_word second ≡ false → loads_port last ≡ false
+    → ((counter shift table : ℕ) → FragmentStandsAt image at (Exit counter shift table) → o ≡ Some (Exit counter shift table)) → (f : ForeignFragment) → FragmentStandsAt image at f → o ≡ Some f
 by_rest image at first second last o one two three n none other exit (Switch word) s = differ (loads_port last) (ap loads_port (third image at last (lw t0 511) three s.code.1.1.0)) other
 by_rest image at first second last o one two three n none other exit (Exit counter shift table) s = exit counter shift table s
 by_rest image at first second last o one two three n none other exit (Reset counter) s = differ (clears first) (ap clears (one (sw 0 counter) s.code.0)) n
-by_rest image at first second last o one two three n none other exit (Count counter) s = differ (is_load second) (ap is_load (two (lw t0 counter) s.code.1.0)) none
+by_rest image at first second last o one two three n none other exit (Count counter) s = differ (loads_word second) (ap loads_word (two (lw t0 counter) s.code.1.0)) none

@@ -12,8 +12,8 @@ use Rattle.scale_base.specs.declared.instruction.Instr.{Instr}
 use Rattle.scale_base.specs.declared.instruction.Instr.TheVariants as instr
 use Rattle.scale_base.specs.Image.{Image}
 use Rattle.foreign_scan.specs.declared.fragment.ForeignFragment.{ForeignFragment}
-use Rattle.foreign_scan.specs.Form.{Hold, IsForeign, foreign_code, foreign_len, behind, JumpsTo, ChoosesNone, FirstChooses, IsRunOut}
-use Rattle.foreign_scan.specs.KeyWords.{StandsAt}
+use Rattle.foreign_scan.specs.Form.{Hold, IsForeign, foreign_code, foreign_len, behind_fragments, JumpsTo, ChoosesNone, FirstChooses, IsRunOut}
+use Rattle.foreign_scan.specs.KeyWords.{FragmentStandsAt}
 use Rattle.foreign_scan.specs.RunOuts.{AreAt, IsWhole}
 use Rattle.foreign_scan.specs.Parts.{goto_of}
 use Rattle.foreign_scan.proofs.HoldLaws.{moved_all, hold_join}
@@ -24,7 +24,7 @@ pub record AreRead (image : Image) (at : ℕ) (fs : List ForeignFragment) (end c
   pub few : length fs ≡ count
   pub foreign : All IsForeign fs
   pub code : Hold image at (flat_map foreign_code fs)
-  pub ends : end ≡ behind at fs
+  pub ends : end ≡ behind_fragments at fs
   pub near : end ≤ at + 64 * count
 
 pub none_read : (image : Image) (at : ℕ) → AreRead image at [] at 0
@@ -33,7 +33,7 @@ none_read image at = record { few = refl; foreign = λ k d lt. absurd (omega (ar
 one_code : (f : ForeignFragment) → flat_map foreign_code (f ∷ []) ≡ foreign_code f
 one_code f = append-nil (foreign_code f)
 
-pub more_read : (image : Image) (at : ℕ) (fs : List ForeignFragment) (end count len : ℕ) (f : ForeignFragment) → AreRead image at fs end count → StandsAt image end f → len ≡ foreign_len f → len < 17
+pub more_read : (image : Image) (at : ℕ) (fs : List ForeignFragment) (end count len : ℕ) (f : ForeignFragment) → AreRead image at fs end count → FragmentStandsAt image end f → len ≡ foreign_len f → len < 17
     → AreRead image at (fs ++ f ∷ []) (end + 4 * len) (count + 1)
 more_read image at fs end count len f h s is lt =
     let long : length (flat_map foreign_code fs) ≡ sum_by foreign_len fs = length-flat_map foreign_code fs in
@@ -87,7 +87,7 @@ goto_from (Some instr.Ebreak) offset e = absurd cc
 
 -- ---- run-outs
 
-pub run_out_is : (image : Image) (at to : ℕ) (fs : List ForeignFragment) (end : ℕ) → AreAt image at fs → end ≡ behind at fs → FirstChooses fs → JumpsTo image end to → IsRunOut image at to fs
+pub run_out_is : (image : Image) (at to : ℕ) (fs : List ForeignFragment) (end : ℕ) → AreAt image at fs → end ≡ behind_fragments at fs → FirstChooses fs → JumpsTo image end to → IsRunOut image at to fs
 run_out_is image at to fs end h e first j = record { few = h.few; first = first; foreign = h.foreign; code = h.code; jump = subst (λ n. JumpsTo image n to) e j }
 
 whole_ends : (image : Image) (at : ℕ) (fs gs : List ForeignFragment) → length fs ≤ 64 → IsWhole image at gs → Ends image at fs gs
@@ -97,7 +97,7 @@ whole_ends image at fs gs le (inr none) = inr none
 pub run_out_one : (image : Image) (at to : ℕ) (fs gs : List ForeignFragment) → AreAt image at gs → IsWhole image at gs → IsRunOut image at to fs → fs ≡ gs
 run_out_one image at to fs gs h whole r = one_list image at to fs gs r.foreign r.code r.jump h.foreign h.code (whole_ends image at fs gs r.few whole)
 
-pub no_run_out : (image : Image) (at to : ℕ) (fs gs : List ForeignFragment) (end : ℕ) → AreAt image at gs → IsWhole image at gs → end ≡ behind at gs → IsRunOut image at to fs → FirstChooses gs × JumpsTo image end to
+pub no_run_out : (image : Image) (at to : ℕ) (fs gs : List ForeignFragment) (end : ℕ) → AreAt image at gs → IsWhole image at gs → end ≡ behind_fragments at gs → IsRunOut image at to fs → FirstChooses gs × JumpsTo image end to
 no_run_out image at to fs gs end h whole e r =
     let same = run_out_one image at to fs gs h whole r in
-    (subst FirstChooses same r.first, subst (λ n. JumpsTo image n to) (sym e) (subst (λ xs. JumpsTo image (behind at xs) to) same r.jump))
+    (subst FirstChooses same r.first, subst (λ n. JumpsTo image n to) (sym e) (subst (λ xs. JumpsTo image (behind_fragments at xs) to) same r.jump))

@@ -61,8 +61,8 @@ FirstChooses [] = Unit {0}
 FirstChooses (f ∷ fs) = All ChoosesNone fs
 
 -- where the fragments end that begin at an address
-abbrev pub behind : ℕ → List ForeignFragment → ℕ
-behind at fs = at + 4 * sum_by foreign_len fs
+abbrev pub behind_fragments : ℕ → List ForeignFragment → ℕ
+behind_fragments at fs = at + 4 * sum_by foreign_len fs
 
 -- a jump that links no register, and goes to an address
 pub record JumpsTo (image : Image) (at to : ℕ) : Type 0 where
@@ -76,7 +76,7 @@ pub record IsRunOut (image : Image) (at to : ℕ) (fs : List ForeignFragment) : 
   pub first : FirstChooses fs
   pub foreign : All IsForeign fs
   pub code : Hold image at (flat_map foreign_code fs)
-  pub jump : JumpsTo image (behind at fs) to
+  pub jump : JumpsTo image (behind_fragments at fs) to
 
 -- ---- stubs
 

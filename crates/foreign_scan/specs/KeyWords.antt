@@ -28,6 +28,6 @@ pub record IsWordAt (image : Image) (at word : ℕ) : Type 0 where
   pub value : word_at (loaded_byte image) at ≡ word
 
 -- the code of the fragment, whose numbers fit, stands at an address
-pub record StandsAt (image : Image) (at : ℕ) (f : ForeignFragment) : Type 0 where
+pub record FragmentStandsAt (image : Image) (at : ℕ) (f : ForeignFragment) : Type 0 where
   pub foreign : IsForeign f
   pub code : Hold image at (foreign_code f)

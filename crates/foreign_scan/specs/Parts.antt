@@ -15,9 +15,9 @@ load_offset_of (Some (instr.Load op rd rs1 offset)) = Some offset
 load_offset_of i = None
 
 -- the number of an immediate operation
-abbrev pub number_of : Option Instr → Option ℤ
-number_of (Some (instr.Imm op rd rs1 imm)) = Some imm
-number_of i = None
+abbrev pub immediate_number : Option Instr → Option ℤ
+immediate_number (Some (instr.Imm op rd rs1 imm)) = Some imm
+immediate_number i = None
 
 -- the upper number of a LUI
 abbrev pub upper_of : Option Instr → Option ℕ
@@ -30,9 +30,9 @@ clears (Some (instr.Store op rs1 rs2 offset)) = rs2 == 0
 clears i = false
 
 -- whether it is a load
-abbrev pub is_load : Option Instr → Bool
-is_load (Some (instr.Load op rd rs1 offset)) = true
-is_load i = false
+abbrev pub loads_word : Option Instr → Bool
+loads_word (Some (instr.Load op rd rs1 offset)) = true
+loads_word i = false
 
 -- whether it loads with the speed port's offset, which is -4
 abbrev pub loads_port : Option Instr → Bool

@@ -23,22 +23,22 @@ use Rattle.foreign_scan.specs.Form.{IsStub, AreRowsIn}
 -- ---- the image beside the original
 
 -- the place, the length and the flags of a segment
-pub record Place : Type 0 where
+pub record SegmentPlace : Type 0 where
   pub from : ℕ
   pub len : ℕ
   pub flags : ℕ
 
-abbrev pub place_of : LoadSegment → Place
-place_of s = record { from = s.from; len = s.len; flags = s.flags }
+abbrev pub segment_place : LoadSegment → SegmentPlace
+segment_place s = record { from = s.from; len = s.len; flags = s.flags }
 
 -- the places of the segments without the key
-abbrev pub places_of : Image → List Place
-places_of image = map place_of (filter is_plain_segment image.segments)
+abbrev pub segment_places : Image → List SegmentPlace
+segment_places image = map segment_place (filter is_plain_segment image.segments)
 
 -- one entry, one list of segments without the key, and the same text ranges
 pub record IsLaidAlike (original foreign : Image) : Type 0 where
   pub entry : foreign.entry ≡ original.entry
-  pub segments : places_of foreign ≡ places_of original
+  pub segments : segment_places foreign ≡ segment_places original
   pub text : foreign.text ≡ original.text
 
 -- a loaded byte outside the text and the key that isn't the original's
@@ -152,17 +152,17 @@ pub record IsScanned (original foreign : Image) (code : Code) (l : Loops) (found
   pub stubs : (at : ℕ) → IsChanged original foreign at → KeepsForm original foreign code found at × HasRows original foreign code l found at
 
 -- the least of the addresses for which it is so
-abbrev pub IsLeastOf : (ℕ → Type 0) → ℕ → Type 0
-IsLeastOf P at = P at × ((lower : ℕ) → lower < at → P lower → ⊥)
+abbrev pub IsLeastAddress : (ℕ → Type 0) → ℕ → Type 0
+IsLeastAddress P at = P at × ((lower : ℕ) → lower < at → P lower → ⊥)
 
 -- the cause is the first that holds
 abbrev pub IsFirstWhy : (original foreign : Image) (code : Code) (l : Loops) → Why → Type 0
 IsFirstWhy original foreign code l why.NoKey = foreign.keyed_segment ≡ None
 IsFirstWhy original foreign code l why.Layout = (foreign.keyed_segment ≢ None) × (IsLaidAlike original foreign → ⊥)
-IsFirstWhy original foreign code l (why.Byte at) = (foreign.keyed_segment ≢ None) × IsLaidAlike original foreign × IsLeastOf (IsOddByte original foreign) at
+IsFirstWhy original foreign code l (why.Byte at) = (foreign.keyed_segment ≢ None) × IsLaidAlike original foreign × IsLeastAddress (IsOddByte original foreign) at
 IsFirstWhy original foreign code l (why.Patch at) =
-    (foreign.keyed_segment ≢ None) × IsLaidAlike original foreign × ((a : ℕ) → IsOddByte original foreign a → ⊥) × IsLeastOf (IsBadPatch original foreign code) at
+    (foreign.keyed_segment ≢ None) × IsLaidAlike original foreign × ((a : ℕ) → IsOddByte original foreign a → ⊥) × IsLeastAddress (IsBadPatch original foreign code) at
 IsFirstWhy original foreign code l (why.Stub at) =
     (foreign.keyed_segment ≢ None) × IsLaidAlike original foreign × ((a : ℕ) → IsOddByte original foreign a → ⊥) × ((a : ℕ) → IsBadPatch original foreign code a → ⊥)
-    × ((found : Found) × AreFound original foreign code found × IsLeastOf (IsBadStub original foreign code l found) at)
+    × ((found : Found) × AreFound original foreign code found × IsLeastAddress (IsBadStub original foreign code l found) at)
 IsFirstWhy original foreign code l other = ⊥

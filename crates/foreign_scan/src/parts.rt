@@ -30,7 +30,7 @@ pub fn load_offset(instr: Option<Instr>) -> Option<i32>
 
 /// The number of an immediate operation.
 pub fn number(instr: Option<Instr>) -> Option<i32>
-    ensures { result ≡ parts.number_of instr }
+    ensures { result ≡ parts.immediate_number instr }
 {
     match instr {
         Some(Instr::Imm { imm, .. }) => Some(imm),
@@ -60,7 +60,7 @@ pub fn clears(instr: Option<Instr>) -> bool
 
 /// Whether it is a load.
 pub fn is_load(instr: Option<Instr>) -> bool
-    ensures { result ≡ parts.is_load instr }
+    ensures { result ≡ parts.loads_word instr }
 {
     match instr {
         Some(Instr::Load { .. }) => true,

@@ -8,7 +8,7 @@ ghost use Rattle.scale_base.specs.Reading.{instr_of};
 ghost use Rattle.stub_writer.specs.Fragments as fragments;
 ghost use Rattle.stub_writer.specs.Fragments.{IsShadow};
 ghost use Rattle.foreign_scan.specs.Form.{HoldsAt, Hold, IsForeign, foreign_code, foreign_len};
-ghost use Rattle.foreign_scan.specs.KeyWords.{StandsAt};
+ghost use Rattle.foreign_scan.specs.KeyWords.{FragmentStandsAt};
 
 use crate::fragment::ForeignFragment;
 use crate::key::KeyCode;
@@ -112,7 +112,7 @@ fn exit_counter(key: &KeyCode<'_>, at: u64) -> Option<u16>
 /// The Exit that stands at the address, if one does.
 fn exit_at(key: &KeyCode<'_>, at: u64) -> Option<ForeignFragment>
     requires { at < 2 ^ 33 }
-    ensures { (counter shift table : ℕ) → StandsAt key.now at (ForeignFragment.Exit counter shift table) → result ≡ Some (ForeignFragment.Exit counter shift table) }
+    ensures { (counter shift table : ℕ) → FragmentStandsAt key.now at (ForeignFragment.Exit counter shift table) → result ≡ Some (ForeignFragment.Exit counter shift table) }
 {
     let counter = exit_counter(key, at)?;
     let shift = exit_shift(key, at)?;
@@ -127,7 +127,7 @@ fn exit_at(key: &KeyCode<'_>, at: u64) -> Option<ForeignFragment>
 /// The Switch that stands at the address, if one does.
 fn switch_at(key: &KeyCode<'_>, at: u64) -> Option<ForeignFragment>
     requires { at < 2 ^ 33 }
-    ensures { (word : ℕ) → StandsAt key.now at (ForeignFragment.Switch word) → result ≡ Some (ForeignFragment.Switch word) }
+    ensures { (word : ℕ) → FragmentStandsAt key.now at (ForeignFragment.Switch word) → result ≡ Some (ForeignFragment.Switch word) }
 {
     let word = switch_word(key, at)?;
     Some(ForeignFragment::Switch { word })
@@ -136,7 +136,7 @@ fn switch_at(key: &KeyCode<'_>, at: u64) -> Option<ForeignFragment>
 /// The Count that stands at the address, if one does.
 fn count_at(key: &KeyCode<'_>, at: u64) -> Option<ForeignFragment>
     requires { at < 2 ^ 33 }
-    ensures { (counter : ℕ) → StandsAt key.now at (ForeignFragment.Count counter) → result ≡ Some (ForeignFragment.Count counter) }
+    ensures { (counter : ℕ) → FragmentStandsAt key.now at (ForeignFragment.Count counter) → result ≡ Some (ForeignFragment.Count counter) }
 {
     let counter = window_word(loaded_offset(key, at + 4)?)?;
     Some(ForeignFragment::Count { counter })
@@ -144,7 +144,7 @@ fn count_at(key: &KeyCode<'_>, at: u64) -> Option<ForeignFragment>
 
 /// The Reset that stands at the address, if one does.
 fn reset_at(key: &KeyCode<'_>, at: u64) -> Option<ForeignFragment>
-    ensures { (counter : ℕ) → StandsAt key.now at (ForeignFragment.Reset counter) → result ≡ Some (ForeignFragment.Reset counter) }
+    ensures { (counter : ℕ) → FragmentStandsAt key.now at (ForeignFragment.Reset counter) → result ≡ Some (ForeignFragment.Reset counter) }
 {
     let counter = window_word(stored_offset(key, at)?)?;
     Some(ForeignFragment::Reset { counter })
@@ -154,7 +154,7 @@ fn reset_at(key: &KeyCode<'_>, at: u64) -> Option<ForeignFragment>
 /// one of a Switch loads the speed port.
 fn candidate(key: &KeyCode<'_>, at: u64) -> Option<ForeignFragment>
     requires { at < 2 ^ 33 }
-    ensures { (f : ForeignFragment) → StandsAt key.now at f → result ≡ Some f }
+    ensures { (f : ForeignFragment) → FragmentStandsAt key.now at f → result ≡ Some f }
 {
     if parts::clears(key.instr(at)) {
         return reset_at(key, at);
@@ -205,7 +205,7 @@ fn holds(key: &KeyCode<'_>, at: u64, code: &[Instr]) -> bool
 /// Whether a fragment stands at an address, and its numbers fit.
 fn stands(key: &KeyCode<'_>, at: u64, fragment: &ForeignFragment) -> bool
     requires { at < 2 ^ 33 }
-    ensures { IsTrue result ↔ StandsAt key.now at fragment.now }
+    ensures { IsTrue result ↔ FragmentStandsAt key.now at fragment.now }
 {
     match *fragment {
         ForeignFragment::Switch { word } => holds(key, at, &switch_code(word)),
@@ -227,7 +227,7 @@ fn stands(key: &KeyCode<'_>, at: u64, fragment: &ForeignFragment) -> bool
 /// two fragments stand at one address. An address past the last one holds none.
 pub fn read_fragment(key: &KeyCode<'_>, at: u64) -> Option<ForeignFragment>
     requires { at < 2 ^ 33 }
-    ensures { (f : ForeignFragment) → (result ≡ Some f) ↔ StandsAt key.now at f }
+    ensures { (f : ForeignFragment) → (result ≡ Some f) ↔ FragmentStandsAt key.now at f }
 {
     let fragment = candidate(key, at)?;
     if stands(key, at, &fragment) {

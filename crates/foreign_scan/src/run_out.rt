@@ -3,8 +3,8 @@
 ghost use Rattle.std.specs.Prelude.{◌≡◌, ◌↔◌, ◌+◌, ◌*◌, ◌≤◌, ◌<◌, ◌^◌, ℕ, List, length, IfOk, IfSome, IfNone, Some, IsTrue, All};
 ghost use Rattle.std.specs.List.{flat_map};
 ghost use Rattle.foreign_scan.specs.declared.fragment.ForeignFragment.{ForeignFragment};
-ghost use Rattle.foreign_scan.specs.Form.{ChoosesNone, FirstChooses, JumpsTo, IsRunOut, behind};
-ghost use Rattle.foreign_scan.specs.KeyWords.{StandsAt};
+ghost use Rattle.foreign_scan.specs.Form.{ChoosesNone, FirstChooses, JumpsTo, IsRunOut, behind_fragments};
+ghost use Rattle.foreign_scan.specs.KeyWords.{FragmentStandsAt};
 ghost use Rattle.foreign_scan.specs.RunOuts.{AreAt, IsWhole};
 
 use crate::fragment::ForeignFragment;
@@ -59,7 +59,7 @@ fn read_fragments(
     requires { at ≤ 2 ^ 32 + 4 }
     ensures fragments { IfOk result (λ r. AreAt key.now at r.0.items) }
     ensures whole { IfOk result (λ r. IsWhole key.now at r.0.items) }
-    ensures end { IfOk result (λ r. r.1 ≡ behind at r.0.items) }
+    ensures end { IfOk result (λ r. r.1 ≡ behind_fragments at r.0.items) }
     ensures fits { IfOk result (λ r. r.1 < 2 ^ 33) }
 {
     let mut fragments = Vec::new(alloc);

@@ -13,11 +13,11 @@ use Rattle.cost_theory.specs.Accepted.{AreAccepted, HasNoRecursion, HaveWholeExt
 use Rattle.cost_theory.specs.Worst.{Numbers, AreNumbers}
 use Rattle.cost_theory.specs.Steps as steps
 use Rattle.cost_theory.specs.Steps.Move.{Exit}
-use Rattle.cost_theory.specs.Reached.{Reached, Code, graph_of, IsCodeOf, HasNoBadWord, number_at}
+use Rattle.cost_theory.specs.Reached.{Reached, Code, graph_of, IsCodeOf, HasNoBadWord, number_or_0}
 use Rattle.cost_theory.specs.Reached.Reached.{main}
 use Rattle.cost_theory.proofs.Laws.{is_program, run-worst}
 use Rattle.graph_runs.specs.Text.{Text, kind_at}
-use Rattle.graph_runs.specs.TextStates.{IsTextOf, IsOver}
+use Rattle.graph_runs.specs.TextStates.{IsTextOf, IsOverText}
 use Rattle.graph_runs.specs.ReturnAddresses.{returns_after}
 use Rattle.graph_runs.specs.RunMoves.{IsStack, StandsBy}
 use Rattle.graph_runs.proofs.StepMoves.{place, IsMoveOf, first_site}
@@ -30,7 +30,7 @@ use Rattle.graph_runs.proofs.RunLaws.{after-append, place_is, went_at, exited_at
 use Rattle.graph_runs.proofs.WeightLaws.{weights_are}
 use Rattle.graph_runs.proofs.KeptLaws.{kept_parts, kept_move}
 
-kept-append : (g : Graph) (l : Loops) (s : steps.State) (ms : List steps.Move) (m : steps.Move) → steps.AreKept g l s ms → steps.IsKept g l (steps.after_all g l s ms) m → steps.AreKept g l s (ms ++ m ∷ [])
+kept-append : (g : Graph) (l : Loops) (s : steps.GraphState) (ms : List steps.Move) (m : steps.Move) → steps.AreKept g l s ms → steps.IsKept g l (steps.after_all g l s ms) m → steps.AreKept g l s (ms ++ m ∷ [])
 kept-append g l s [] m kept one = (one, tt)
 kept-append g l s (k ∷ ks) m kept one = (kept.0, kept-append g l (steps.after g l s k) ks m kept.1 one)
 
@@ -72,15 +72,15 @@ module _ (t : Text) (env : Setting) (ok : IsTextOf t env) (code : Code) (is : Is
           let p = kept_parts (by_extents l extent) (counts_after (by_extents l extent) b.0 x) x (returns_after b.0.returns x) d b.2 in
           let next : Goes t env code r.state (step env r.state).state a.calls d.returns x.class x.moved = went t env ok code is fine r.state a.function a.calls d.returns a.over a.reached a.stack x e (subst (λ ss. returns_after ss x ≡ Some d.returns) a.returns p.0) in
           let w = went_at env r.state x e in
-          let s : steps.State = steps.after_all g l (steps.start g) run.moves in
+          let s : steps.GraphState = steps.after_all g l (steps.graph_start g) run.moves in
           let same : s ≡ place r.state.pc a.calls s.counts = place_is s r.state.pc a.calls a.node a.suspended in
           let moved : IsMoveOf t code r.state.pc a.calls x.class next.move (Some x.next) next.calls_after = subst (λ v. IsMoveOf t code r.state.pc a.calls x.class next.move (Some v) next.calls_after) w.1 next.is in
           let k = kept_move t code l extent (is_program (kind_at t) t.entry code is fine order) acc whole s.counts b.0 d a.calls next.calls_after x r.state.pc next.move a.counted a.returns (first_small a.function a.calls a.stack) w.0 b.2 moved next.kind in
-          let ap1 : steps.after_all g l (steps.start g) (run.moves ++ next.move ∷ []) ≡ steps.after g l s next.move = after-append g l (steps.start g) run.moves next.move in
-          let ap2 : steps.after_all g l (steps.start g) (run.moves ++ next.move ∷ []) ≡ steps.after g l (place r.state.pc a.calls s.counts) next.move = ap1 ∙ ap (λ q. steps.after g l q next.move) same in
+          let ap1 : steps.after_all g l (steps.graph_start g) (run.moves ++ next.move ∷ []) ≡ steps.after g l s next.move = after-append g l (steps.graph_start g) run.moves next.move in
+          let ap2 : steps.after_all g l (steps.graph_start g) (run.moves ++ next.move ∷ []) ≡ steps.after g l (place r.state.pc a.calls s.counts) next.move = ap1 ∙ ap (λ q. steps.after g l q next.move) same in
           subst (λ q. IsKeptRun t code l costs (ended r.steps q (step env r.state).state) d) (sym e) (record {
             moves = run.moves ++ next.move ∷ [];
-            kept = kept-append g l (steps.start g) run.moves next.move run.kept (subst (λ q. steps.IsKept g l q next.move) (sym same) k.0);
+            kept = kept-append g l (steps.graph_start g) run.moves next.move run.kept (subst (λ q. steps.IsKept g l q next.move) (sym same) k.0);
             places = places_more t env ok code is fine l costs r x run.moves next.move a.calls next.calls_after (Some (step env r.state).state.pc) run.places next.is w.0;
             classes = classes_more t env ok code is fine l costs r x run.moves next.move run.classes next.is.cost;
             cost = costs_more t env ok code is fine l costs r x run.moves next.move run.cost next.is.cost;
@@ -103,12 +103,12 @@ module _ (t : Text) (env : Setting) (ok : IsTextOf t env) (code : Code) (is : Is
           let run : IsKeptRun t code l costs r d = ih d (subst (λ q. watched (by_extents l extent) o GoesOn q ≡ Some d) e h) in
           let a : KeptAt t code l r d run.moves = at d run in
           let next : (e : ℕ) × IsMoveOf t code r.state.pc a.calls x.class (Exit e) None a.calls = exited t env ok code is fine r.state a.function a.calls [] a.over a.reached a.stack x status e in
-          let s : steps.State = steps.after_all g l (steps.start g) run.moves in
+          let s : steps.GraphState = steps.after_all g l (steps.graph_start g) run.moves in
           let same : s ≡ place r.state.pc a.calls s.counts = place_is s r.state.pc a.calls a.node a.suspended in
           let one : steps.IsKept g l (place r.state.pc a.calls s.counts) (Exit next.0) = record { edge = next.1.edge; from = ap Some (sym next.1.from); move = next.1.move s.counts; within = a.bounded; late = λ k kl left. (let bad : ⊥ = cc in absurd bad) } in
           subst (λ q. IsKeptRun t code l costs (ended r.steps q (step env r.state).state) d) (sym e) (record {
             moves = run.moves ++ Exit next.0 ∷ [];
-            kept = kept-append g l (steps.start g) run.moves (Exit next.0) run.kept (subst (λ q. steps.IsKept g l q (Exit next.0)) (sym same) one);
+            kept = kept-append g l (steps.graph_start g) run.moves (Exit next.0) run.kept (subst (λ q. steps.IsKept g l q (Exit next.0)) (sym same) one);
             places = places_more t env ok code is fine l costs r x run.moves (Exit next.0) a.calls a.calls None run.places next.1 (exited_at env r.state x status e);
             classes = classes_more t env ok code is fine l costs r x run.moves (Exit next.0) run.classes next.1.cost;
             cost = costs_more t env ok code is fine l costs r x run.moves (Exit next.0) run.cost next.1.cost;
@@ -119,7 +119,7 @@ module _ (t : Text) (env : Setting) (ok : IsTextOf t env) (code : Code) (is : Is
           let run : IsKeptRun t code l costs r d = ih d (subst (λ q. watched (by_extents l extent) o GoesOn q ≡ Some d) e h) in
           subst (λ q. IsKeptRun t code l costs (ended r.steps q (step env r.state).state) d) (sym e) (record { moves = run.moves; kept = run.kept; places = run.places; classes = run.classes; cost = run.cost; stands = tt; exits = tt })
 
-  module _ (s : State) (over : IsOver t s) (at_entry : s.pc ≡ t.entry) where
+  module _ (s : State) (over : IsOverText t s) (at_entry : s.pc ≡ t.entry) where
     -- a kept run is a kept list of moves
     pub kept_run : (n : ℕ) (c : Carried) → kept_at env s (by_extents l extent) n ≡ Some c → IsKeptRun t code l costs (run env s n) c
     unfolding run kept_at
@@ -132,7 +132,7 @@ module _ (t : Text) (env : Setting) (ok : IsTextOf t env) (code : Code) (is : Is
       stands = record {
         function = t.entry;
         calls = [];
-        node = ap Some (ap number_at is.first_function ∙ sym at_entry);
+        node = ap Some (ap number_or_0 is.first_function ∙ sym at_entry);
         suspended = refl;
         counted = λ k kl. refl;
         bounded = λ k kl. omega arith;

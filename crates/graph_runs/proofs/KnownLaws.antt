@@ -9,8 +9,8 @@ use Rattle.scale_base.specs.Arith.{plus, imm_result}
 use Rattle.scale_base.specs.State.{Setting, State, reg, with_reg}
 use Rattle.scale_base.specs.Step.{performs, step}
 use Rattle.scale_base.proofs.Laws.{step_zero}
-use Rattle.graph_runs.specs.Text.{Text, in_text, instr_at, jump_of, is_target, follows, puts17, leaves17, or_passed, known_behind, known_within}
-use Rattle.graph_runs.specs.TextStates.{IsTextOf, IsOver}
+use Rattle.graph_runs.specs.Text.{Text, is_text_address, instr_at, jump_of, is_target, follows, puts17, leaves17, or_passed, known_behind, known_within}
+use Rattle.graph_runs.specs.TextStates.{IsTextOf, IsOverText}
 use Rattle.graph_runs.proofs.StepFacts.{IsDone}
 use Rattle.graph_runs.proofs.TextFacts.{target_is, follows_word, word_bound, not_written}
 use Rattle.run_laws.proofs.Laws.{step_length}
@@ -70,9 +70,9 @@ puts_17 env s i Ebreak k z size h = let bad : ⊥ = cc in absurd bad
 pub data IsWay (t : Text) (u next : ℕ) : Type 0 where
   jump : jump_of (instr_at t u) u ≡ Some next → IsWay t u next
   after : next ≡ plus u 4 → IsWay t u next
-  back : (w : ℕ) (i : Instr) → next ≡ plus w 4 → in_text t w ≡ true → instr_at t w ≡ Some i → puts17 i ≡ None → leaves17 i ≡ false → IsWay t u next
+  back : (w : ℕ) (i : Instr) → next ≡ plus w 4 → is_text_address t w ≡ true → instr_at t w ≡ Some i → puts17 i ≡ None → leaves17 i ≡ false → IsWay t u next
 
-before : (t : Text) (env : Setting) → IsTextOf t env → (u v : ℕ) → in_text t u ≡ true → v ≡ plus u 4 → v - 4 ≡ u
+before : (t : Text) (env : Setting) → IsTextOf t env → (u v : ℕ) → is_text_address t u ≡ true → v ≡ plus u 4 → v - 4 ≡ u
 before t env ok u v h e = let b = word_bound t env ok u h in omega arith
 
 nothing_behind : (t : Text) (w k : ℕ) (i : Instr) (b : Option ℕ) → instr_at t w ≡ Some i → puts17 i ≡ None → leaves17 i ≡ false → known_behind (instr_at t w) b ≡ Some k → ⊥
@@ -81,7 +81,7 @@ nothing_behind t w k i b at puts leaves h =
     let f : or_passed (puts17 i) (leaves17 i) b ≡ None = ap (λ o. or_passed o (leaves17 i) b) puts ∙ ap (λ l. or_passed None l b) leaves in
     cc
 
-module _ (t : Text) (env : Setting) (ok : IsTextOf t env) (s : State) (over : IsOver t s) (here : in_text t s.pc ≡ true) (aligned : s.pc % 4 ≡ 0)
+module _ (t : Text) (env : Setting) (ok : IsTextOf t env) (s : State) (over : IsOverText t s) (here : is_text_address t s.pc ≡ true) (aligned : s.pc % 4 ≡ 0)
     (i : Instr) (done : IsDone env s i (step env s).end (step env s).state) (at : instr_at t s.pc ≡ Some i) where
   passed : (m k : ℕ) (p : Option ℕ) (l : Bool) → puts17 i ≡ p → leaves17 i ≡ l → or_passed p l (known_within t m s.pc) ≡ Some k → reg (step env s).state.regs 17 ≡ k
   passed m k (Some j) l puts leaves h =
@@ -107,7 +107,7 @@ module _ (t : Text) (env : Setting) (ok : IsTextOf t env) (s : State) (over : Is
           absurd (nothing_behind t w k j (known_within t parts.2.0 w) wi puts leaves (subst (λ v. known_behind (instr_at t v) (known_within t parts.2.0 v) ≡ Some k) b parts.2.1))
 
   -- the state after a step is one of a run over the text
-  pub over_next : IsWay t s.pc (step env s).state.pc → IsOver t (step env s).state
+  pub over_next : IsWay t s.pc (step env s).state.pc → IsOverText t (step env s).state
   over_next way = record {
     zero = step_zero env s over.zero;
     size = step_length env s ∙ over.size;

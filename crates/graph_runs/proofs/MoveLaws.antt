@@ -21,14 +21,14 @@ use Rattle.cost_theory.specs.Steps.Move.{Along, Call, Return, Exit}
 use Rattle.cost_theory.specs.declared.edges.Word.{Word}
 use Rattle.cost_theory.specs.declared.edges.EdgeKind.{EdgeKind}
 use Rattle.cost_theory.specs.declared.edges.Edge.{Edge}
-use Rattle.cost_theory.specs.Reached.{LeadsTo, Reached, edges_of, Code, place_after, edge_at, edge_to, number_at, call_returns, callee_of, edge_callee, is_back, edge_returns, is_exit, edge_exits, graph_of, IsCodeOf, HasNoBadWord}
+use Rattle.cost_theory.specs.Reached.{LeadsTo, Reached, edges_of, Code, place_after, edge_at, edge_to, number_or_0, call_returns, callee_of, edge_callee, is_return_word, edge_returns, is_exit, edge_exits, graph_of, IsCodeOf, HasNoBadWord}
 use Rattle.cost_theory.specs.declared.edges.Word.TheVariants.{Branch, Goto, CallOf, Back, Ends, MayEnd, Straight, Bad}
 use Rattle.cost_theory.specs.declared.edges.EdgeKind.TheVariants.{Taken, Untaken, Jump, Next, CallNext, End}
 use Rattle.cost_theory.specs.Reached.Reached.{onward as reach_onward, back as reach_back, called as reach_called}
 use Rattle.std.proofs.lemmas.Option.{slice_get_within}
 use Rattle.cost_theory.proofs.Laws.{find-holds, find-some, some_value, Within, word_edge, edge_of_word, edge_leads}
-use Rattle.graph_runs.specs.Text.{Text, in_text, instr_at, jump_of, puts17, leaves17, known, ecall_kind, jal_kind, jalr_kind, instr_kind, word_kind, kind_at}
-use Rattle.graph_runs.specs.TextStates.{IsTextOf, IsOver}
+use Rattle.graph_runs.specs.Text.{Text, is_text_address, instr_at, jump_of, puts17, leaves17, known, ecall_kind, jal_kind, jalr_kind, instr_kind, word_kind, kind_at}
+use Rattle.graph_runs.specs.TextStates.{IsTextOf, IsOverText}
 use Rattle.graph_runs.specs.ReturnAddresses.{returned, returns_by, returns_after}
 use Rattle.graph_runs.proofs.StepMoves.{IsMoveKind, IsMoveOf}
 use Rattle.graph_runs.specs.EdgeCosts.{class_by, edge_class}
@@ -39,17 +39,17 @@ use Rattle.graph_runs.proofs.KnownLaws.{IsWay, over_next}
 use Rattle.graph_runs.proofs.KnownLaws.IsWay.{jump as way_jump, after as way_after, back as way_back}
 
 -- a word that is not refused is one of the text
-pub kind_facts : (t : Text) (v : ℕ) → kind_at t v ≢ Bad → (v % 4 ≡ 0) × (in_text t v ≡ true) × ((i : Instr) × (instr_at t v ≡ Some i) × (kind_at t v ≡ instr_kind t v i))
+pub kind_facts : (t : Text) (v : ℕ) → kind_at t v ≢ Bad → (v % 4 ≡ 0) × (is_text_address t v ≡ true) × ((i : Instr) × (instr_at t v ≡ Some i) × (kind_at t v ≡ instr_kind t v i))
 unfolding kind_at
-kind_facts t v ne = go ((v % 4 == 0) && in_text t v) refl
+kind_facts t v ne = go ((v % 4 == 0) && is_text_address t v) refl
   where
-    by_word : (v % 4 ≡ 0) → (in_text t v ≡ true) → kind_at t v ≡ word_kind t v (instr_at t v) → (o : Option Instr) → instr_at t v ≡ o → (v % 4 ≡ 0) × (in_text t v ≡ true) × ((i : Instr) × (instr_at t v ≡ Some i) × (kind_at t v ≡ instr_kind t v i))
+    by_word : (v % 4 ≡ 0) → (is_text_address t v ≡ true) → kind_at t v ≡ word_kind t v (instr_at t v) → (o : Option Instr) → instr_at t v ≡ o → (v % 4 ≡ 0) × (is_text_address t v ≡ true) × ((i : Instr) × (instr_at t v ≡ Some i) × (kind_at t v ≡ instr_kind t v i))
     by_word al h e None at = absurd (ne (e ∙ ap (word_kind t v) at))
     by_word al h e (Some i) at = (al, h, (i, at, e ∙ ap (word_kind t v) at))
 
-    go : (b : Bool) → ((v % 4 == 0) && in_text t v) ≡ b → (v % 4 ≡ 0) × (in_text t v ≡ true) × ((i : Instr) × (instr_at t v ≡ Some i) × (kind_at t v ≡ instr_kind t v i))
+    go : (b : Bool) → ((v % 4 == 0) && is_text_address t v) ≡ b → (v % 4 ≡ 0) × (is_text_address t v ≡ true) × ((i : Instr) × (instr_at t v ≡ Some i) × (kind_at t v ≡ instr_kind t v i))
     go false e = absurd (ne (cond-false _ _ _ e))
-    go true e = let p = and_parts (v % 4 == 0) (in_text t v) e in by_word (eqb-true (v % 4) 0 p.0) p.1 (cond-true _ _ _ e) (instr_at t v) refl
+    go true e = let p = and_parts (v % 4 == 0) (is_text_address t v) e in by_word (eqb-true (v % 4) 0 p.0) p.1 (cond-true _ _ _ e) (instr_at t v) refl
 
 -- a call puts nothing into x17, and is no word that leaves it
 call_17 : (t : Text) (v f : ℕ) (i : Instr) → instr_kind t v i ≡ CallOf f → (puts17 i ≡ None) × (leaves17 i ≡ false)
@@ -86,20 +86,20 @@ pub record Goes (t : Text) (env : Setting) (code : Code) (s u : State) (calls rs
   pub returns : rs ≡ map after_call calls_after
   pub reached : Reached (kind_at t) t.entry function u.pc
   pub stack : IsStack (kind_at t) t.entry function calls_after
-  pub over : IsOver t u
+  pub over : IsOverText t u
   pub kind : IsMoveKind move moved
 
 module _ (t : Text) (env : Setting) (ok : IsTextOf t env) (code : Code) (is : IsCodeOf (kind_at t) t.entry code) (fine : HasNoBadWord (kind_at t) t.entry) where
   -- the number of a called function
-  function_of : (f : ℕ) → Reached (kind_at t) t.entry f f → (k : ℕ) × (callee_of code.functions (CallOf f) ≡ Some k) × (number_at (slice_get code.functions k) ≡ f)
+  function_of : (f : ℕ) → Reached (kind_at t) t.entry f f → (k : ℕ) × (callee_of code.functions (CallOf f) ≡ Some k) × (number_or_0 (slice_get code.functions k) ≡ f)
   function_of f reached =
       let at : (i : ℕ) × (slice_get code.functions i ≡ Some f) = (is.functions f).1 reached in
-      let here : nat_eq (number_at (slice_get code.functions at.0)) f ≡ true = eq-eqb (number_at (slice_get code.functions at.0)) f (ap number_at at.1) in
-      let p : ℕ → Bool = λ j. nat_eq (number_at (slice_get code.functions j)) f in
+      let here : nat_eq (number_or_0 (slice_get code.functions at.0)) f ≡ true = eq-eqb (number_or_0 (slice_get code.functions at.0)) f (ap number_or_0 at.1) in
+      let p : ℕ → Bool = λ j. nat_eq (number_or_0 (slice_get code.functions j)) f in
       let some : is_some (find_below (length code.functions) p) ≡ true = find-some (length code.functions) p at.0 (slice_get_within code.functions at.0 f at.1) here in
       let k : (k : ℕ) × (find_below (length code.functions) p ≡ Some k) = some_value (find_below (length code.functions) p) some in
       let holds : (k.0 < length code.functions) × (p k.0 ≡ true) = find-holds (length code.functions) p k.0 k.1 in
-      (k.0, k.1, eqb-true (number_at (slice_get code.functions k.0)) f holds.1)
+      (k.0, k.1, eqb-true (number_or_0 (slice_get code.functions k.0)) f holds.1)
 
   -- the edge by which the call at a site comes back
   comes_back : (h u f r : ℕ) → Reached (kind_at t) t.entry h u → kind_at t u ≡ CallOf f → Reached (kind_at t) t.entry f r → kind_at t r ≡ Back →
@@ -109,7 +109,7 @@ module _ (t : Text) (env : Setting) (ok : IsTextOf t env) (code : Code) (is : Is
       let x : Edge = record { at = u; kind = CallNext; to = u + 4 } in
       let within : Within x (edges_of (kind_at t u) u (call_returns code (kind_at t u))) = subst (λ c. Within x (edges_of (kind_at t u) u c)) (sym b) (subst (λ w. Within x (edges_of w u true)) (sym call) (inl refl)) in
       let e : (e : ℕ) × (e < length code.edges) × (slice_get code.edges e ≡ Some x) = word_edge (kind_at t) t.entry code is h u x at within in
-      let k : (k : ℕ) × (callee_of code.functions (CallOf f) ≡ Some k) × (number_at (slice_get code.functions k) ≡ f) = function_of f (reach_called f at call) in
+      let k : (k : ℕ) × (callee_of code.functions (CallOf f) ≡ Some k) × (number_or_0 (slice_get code.functions k) ≡ f) = function_of f (reach_called f at call) in
       let p : ℕ → Bool = λ j. nat_eq (edge_at (slice_get code.edges j)) u && (is_some (edge_callee (kind_at t) code.functions (slice_get code.edges j)) && is_some (edge_to (slice_get code.edges j))) in
       let source : edge_at (slice_get code.edges e.0) ≡ u = ap edge_at e.2 in
       let callee : is_some (edge_callee (kind_at t) code.functions (slice_get code.edges e.0)) ≡ true = ap (λ o. is_some (edge_callee (kind_at t) code.functions o)) e.2 ∙ (ap (λ w. is_some (callee_of code.functions w)) call ∙ ap is_some k.1) in
@@ -135,9 +135,9 @@ module _ (t : Text) (env : Setting) (ok : IsTextOf t env) (code : Code) (is : Is
           (λ (q : (h : ℕ) × (kind_at t w.0 ≡ CallOf h) × (call_returns code (kind_at t w.0) ≡ true) × (to.0 ≡ w.0 + 4)). q.3 ∙ ap (λ a. a + 4) v)
           (edge_leads (kind_at t w.0) w.0 (call_returns code (kind_at t w.0)) y to.0 w.2 to.1)))
 
-  module _ (s : State) (f : ℕ) (calls rs : List ℕ) (over : IsOver t s) (reached : Reached (kind_at t) t.entry f s.pc) (stack : IsStack (kind_at t) t.entry f calls)
+  module _ (s : State) (f : ℕ) (calls rs : List ℕ) (over : IsOverText t s) (reached : Reached (kind_at t) t.entry f s.pc) (stack : IsStack (kind_at t) t.entry f calls)
       (x : Stepped) (i : Instr) (done : IsDone env s i (step env s).end (step env s).state) (at : instr_at t s.pc ≡ Some i)
-      (here : in_text t s.pc ≡ true) (aligned : s.pc % 4 ≡ 0) where
+      (here : is_text_address t s.pc ≡ true) (aligned : s.pc % 4 ≡ 0) where
     -- a step along an edge within the function
     along : (kind : EdgeKind) (to : ℕ) (w : Word) → kind_at t s.pc ≡ w → ((b : Bool) → Within (record { at = s.pc; kind = kind; to = to }) (edges_of w s.pc b)) →
         place_after kind to ≡ Some (step env s).state.pc → LeadsTo w s.pc (step env s).state.pc → callee_of code.functions w ≡ None →
@@ -194,7 +194,7 @@ module _ (t : Text) (env : Setting) (ok : IsTextOf t env) (code : Code) (is : Is
         let source : edge_at (slice_get code.edges e.0) ≡ s.pc = ap edge_at e.2 in
         let target : edge_to (slice_get code.edges e.0) ≡ None = ap edge_to e.2 in
         let entry : Reached (kind_at t) t.entry to to = reach_called to reached is_kind in
-        let k : (k : ℕ) × (callee_of code.functions (CallOf to) ≡ Some k) × (number_at (slice_get code.functions k) ≡ to) = function_of to entry in
+        let k : (k : ℕ) × (callee_of code.functions (CallOf to) ≡ Some k) × (number_or_0 (slice_get code.functions k) ≡ to) = function_of to entry in
         let callee : edge_callee (kind_at t) code.functions (slice_get code.edges e.0) ≡ Some k.0 = ap (edge_callee (kind_at t) code.functions) e.2 ∙ (ap (callee_of code.functions) is_kind ∙ k.1) in
         let r : Some (plus x.pc 4 ∷ map after_call calls) ≡ Some rs = sym (ap (λ m. returns_by m (map after_call calls) x) call) ∙ returns in
         let q : rs ≡ plus x.pc 4 ∷ map after_call calls = cc in
@@ -226,7 +226,7 @@ module _ (t : Text) (env : Setting) (ok : IsTextOf t env) (code : Code) (is : Is
         by_calls [] st r = let bad : ⊥ = cc in absurd bad
         by_calls (u ∷ us) st r =
             let p : (plus u 4 ≡ x.next) × (map after_call us ≡ rs) = returned_parts (plus u 4) (map after_call us) rs x.next r in
-            let facts : (u % 4 ≡ 0) × (in_text t u ≡ true) × ((j : Instr) × (instr_at t u ≡ Some j) × (kind_at t u ≡ instr_kind t u j)) = kind_facts t u (fine st.0 u st.2) in
+            let facts : (u % 4 ≡ 0) × (is_text_address t u ≡ true) × ((j : Instr) × (instr_at t u ≡ Some j) × (kind_at t u ≡ instr_kind t u j)) = kind_facts t u (fine st.0 u st.2) in
             let d : (d : ℕ) × (next_edge (graph_of (kind_at t) code) u ≡ Some d) × (edge_to (slice_get code.edges d) ≡ Some (u + 4)) = comes_back st.0 u f s.pc st.2 st.1 reached is_kind in
             let bound = word_bound t env ok u facts.1 in
             let four : plus u 4 ≡ u + 4 = omega arith in
@@ -235,7 +235,7 @@ module _ (t : Text) (env : Setting) (ok : IsTextOf t env) (code : Code) (is : Is
             let within : Within y (edges_of (kind_at t s.pc) s.pc (call_returns code (kind_at t s.pc))) = subst (λ k. Within y (edges_of k s.pc (call_returns code (kind_at t s.pc)))) (sym is_kind) (inl refl) in
             let e : (e : ℕ) × (e < length code.edges) × (slice_get code.edges e ≡ Some y) = word_edge (kind_at t) t.entry code is f s.pc y reached within in
             let source : edge_at (slice_get code.edges e.0) ≡ s.pc = ap edge_at e.2 in
-            let back : edge_returns (kind_at t) (slice_get code.edges e.0) ≡ true = ap (edge_returns (kind_at t)) e.2 ∙ ap is_back is_kind in
+            let back : edge_returns (kind_at t) (slice_get code.edges e.0) ≡ true = ap (edge_returns (kind_at t)) e.2 ∙ ap is_return_word is_kind in
             let c17 = call_17 t u f facts.2.0 (sym facts.2.2 ∙ st.1) in
             record {
               move = Return e.0;
@@ -370,8 +370,8 @@ module _ (t : Text) (env : Setting) (ok : IsTextOf t env) (code : Code) (is : Is
             over_end Ends (is_kind ∙ (ap ecall_kind e ∙ cond-true _ _ _ same)) (λ b. inl refl) refl
 
   -- the two theorems: a step that goes on, and one that exits
-  module _ (s : State) (f : ℕ) (calls rs : List ℕ) (over : IsOver t s) (reached : Reached (kind_at t) t.entry f s.pc) (stack : IsStack (kind_at t) t.entry f calls) where
-    facts : (s.pc % 4 ≡ 0) × (in_text t s.pc ≡ true) × ((i : Instr) × (instr_at t s.pc ≡ Some i) × (kind_at t s.pc ≡ instr_kind t s.pc i))
+  module _ (s : State) (f : ℕ) (calls rs : List ℕ) (over : IsOverText t s) (reached : Reached (kind_at t) t.entry f s.pc) (stack : IsStack (kind_at t) t.entry f calls) where
+    facts : (s.pc % 4 ≡ 0) × (is_text_address t s.pc ≡ true) × ((i : Instr) × (instr_at t s.pc ≡ Some i) × (kind_at t s.pc ≡ instr_kind t s.pc i))
     facts = kind_facts t s.pc (fine f s.pc reached)
 
     same_instr : (i : Instr) → instr_of (word_at s.bytes s.pc) ≡ Some i → facts.2.0 ≡ i

@@ -13,23 +13,23 @@ use Rattle.scale_base.specs.Run.{Run, Standing, GoesOn, HasExited, HasTrapped, o
 use Rattle.cost_theory.specs.Graph.{Graph, Loops}
 use Rattle.cost_theory.specs.Steps as steps
 use Rattle.cost_theory.specs.Steps.Move.{Exit}
-use Rattle.cost_theory.specs.Reached.{Reached, Code, graph_of, IsCodeOf, HasNoBadWord, number_at}
+use Rattle.cost_theory.specs.Reached.{Reached, Code, graph_of, IsCodeOf, HasNoBadWord, number_or_0}
 use Rattle.cost_theory.specs.Reached.Reached.{main}
 use Rattle.graph_runs.specs.Text.{Text, kind_at}
-use Rattle.graph_runs.specs.TextStates.{IsTextOf, IsOver}
+use Rattle.graph_runs.specs.TextStates.{IsTextOf, IsOverText}
 use Rattle.graph_runs.specs.ReturnAddresses.{returns_after}
 use Rattle.graph_runs.specs.EdgeCosts.{edge_class, cost_of, weights}
-use Rattle.graph_runs.specs.RunMoves.{places_of, classes_of, returns_more, returns_so, AreMoves, StandsAt, StandsBy, IsRunOf}
+use Rattle.graph_runs.specs.RunMoves.{places_of, classes_of, returns_more, returns_so, AreMoves, MovesLeadTo, StandsBy, IsRunOf}
 use Rattle.graph_runs.proofs.StepFacts.{IsTrap, IsStep, IsExit, EndsBy, IsDone, step_done}
 use Rattle.graph_runs.proofs.StepMoves.{place, IsMoveOf}
 use Rattle.graph_runs.proofs.MoveLaws.{Goes, went, exited}
 
-moves-append : (g : Graph) (l : Loops) (s : steps.State) (ms : List steps.Move) (m : steps.Move) → AreMoves g l s ms →
+moves-append : (g : Graph) (l : Loops) (s : steps.GraphState) (ms : List steps.Move) (m : steps.Move) → AreMoves g l s ms →
     ((steps.edge_of m < g.edges) × ((steps.after_all g l s ms).node ≡ Some (g.source (steps.edge_of m))) × steps.IsMove g (steps.after_all g l s ms) m) → AreMoves g l s (ms ++ m ∷ [])
 moves-append g l s [] m are one = (one, tt)
 moves-append g l s (k ∷ ks) m are one = (are.0, moves-append g l (steps.after g l s k) ks m are.1 one)
 
-pub after-append : (g : Graph) (l : Loops) (s : steps.State) (ms : List steps.Move) (m : steps.Move) → steps.after_all g l s (ms ++ m ∷ []) ≡ steps.after g l (steps.after_all g l s ms) m
+pub after-append : (g : Graph) (l : Loops) (s : steps.GraphState) (ms : List steps.Move) (m : steps.Move) → steps.after_all g l s (ms ++ m ∷ []) ≡ steps.after g l (steps.after_all g l s ms) m
 after-append g l s [] m = refl
 after-append g l s (k ∷ ks) m = after-append g l (steps.after g l s k) ks m
 
@@ -54,23 +54,23 @@ exited_at env s x status end = ⊎_elim
     (λ (d : (i : _) × IsDone env s i (step env s).end (step env s).state). let p : IsExit d.0 s x = subst (λ e. EndsBy d.0 s e (step env s).state) end d.1.ends in p.at) (step_done env s)
 
 -- a place is its node, its calls and its counts
-pub place_is : (s : steps.State) (v : ℕ) (calls : List ℕ) → s.node ≡ Some v → s.calls ≡ calls → s ≡ place v calls s.counts
+pub place_is : (s : steps.GraphState) (v : ℕ) (calls : List ℕ) → s.node ≡ Some v → s.calls ≡ calls → s ≡ place v calls s.counts
 place_is s v calls node suspended = ap (λ n. record { node = n; calls = s.calls; counts = s.counts }) node ∙ ap (λ c. record { node = Some v; calls = c; counts = s.counts }) suspended
 
 module _ (t : Text) (env : Setting) (ok : IsTextOf t env) (code : Code) (is : IsCodeOf (kind_at t) t.entry code) (fine : HasNoBadWord (kind_at t) t.entry) (l : Loops) (costs : Class → ℕ) where
   -- the moves and one more
   more : (r : Run) (rs : List ℕ) (x : Stepped) (ms : List steps.Move) (m : steps.Move) (calls calls_after : List ℕ) (to : Option ℕ) →
-      AreMoves (graph_of (kind_at t) code) l (steps.start (graph_of (kind_at t) code)) ms → StandsAt t code l r rs ms → (calls_of : calls ≡ calls) →
-      IsMoveOf t code r.state.pc calls x.class m to calls_after → (steps.after_all (graph_of (kind_at t) code) l (steps.start (graph_of (kind_at t) code)) ms).calls ≡ calls →
-      (AreMoves (graph_of (kind_at t) code) l (steps.start (graph_of (kind_at t) code)) (ms ++ m ∷ [])) ×
-      ((steps.after_all (graph_of (kind_at t) code) l (steps.start (graph_of (kind_at t) code)) (ms ++ m ∷ [])).node ≡ to) ×
-      ((steps.after_all (graph_of (kind_at t) code) l (steps.start (graph_of (kind_at t) code)) (ms ++ m ∷ [])).calls ≡ calls_after)
+      AreMoves (graph_of (kind_at t) code) l (steps.graph_start (graph_of (kind_at t) code)) ms → MovesLeadTo t code l r rs ms → (calls_of : calls ≡ calls) →
+      IsMoveOf t code r.state.pc calls x.class m to calls_after → (steps.after_all (graph_of (kind_at t) code) l (steps.graph_start (graph_of (kind_at t) code)) ms).calls ≡ calls →
+      (AreMoves (graph_of (kind_at t) code) l (steps.graph_start (graph_of (kind_at t) code)) (ms ++ m ∷ [])) ×
+      ((steps.after_all (graph_of (kind_at t) code) l (steps.graph_start (graph_of (kind_at t) code)) (ms ++ m ∷ [])).node ≡ to) ×
+      ((steps.after_all (graph_of (kind_at t) code) l (steps.graph_start (graph_of (kind_at t) code)) (ms ++ m ∷ [])).calls ≡ calls_after)
   more r rs x ms m calls calls_after to are at same move suspended =
       let g : Graph = graph_of (kind_at t) code in
-      let s : steps.State = steps.after_all g l (steps.start g) ms in
+      let s : steps.GraphState = steps.after_all g l (steps.graph_start g) ms in
       let e : s ≡ place r.state.pc calls s.counts = place_is s r.state.pc calls at.node suspended in
-      let a : steps.after_all g l (steps.start g) (ms ++ m ∷ []) ≡ steps.after g l s m = after-append g l (steps.start g) ms m in (
-        moves-append g l (steps.start g) ms m are (move.edge, at.node ∙ ap Some (sym move.from), subst (λ p. steps.IsMove g p m) (sym e) (move.move s.counts)),
+      let a : steps.after_all g l (steps.graph_start g) (ms ++ m ∷ []) ≡ steps.after g l s m = after-append g l (steps.graph_start g) ms m in (
+        moves-append g l (steps.graph_start g) ms m are (move.edge, at.node ∙ ap Some (sym move.from), subst (λ p. steps.IsMove g p m) (sym e) (move.move s.counts)),
         ap (λ p. p.node) a ∙ (ap (λ p. (steps.after g l p m).node) e ∙ move.leads l s.counts),
         ap (λ p. p.calls) a ∙ (ap (λ p. (steps.after g l p m).calls) e ∙ move.within l s.counts),
       )
@@ -98,8 +98,8 @@ module _ (t : Text) (env : Setting) (ok : IsTextOf t env) (code : Code) (is : Is
   one_step r rs goes ih returns = subst (λ q. IsRunOf t code l costs q rs) (sym (ap (one_more_by env r) goes))
       (by_end (step env r.state).end refl (subst (λ q. returns_so q.steps ≡ Some rs) (ap (one_more_by env r) goes) returns))
     where
-      at : (rs : List ℕ) (h : IsRunOf t code l costs r rs) → StandsAt t code l r rs h.moves
-      at rs h = subst (λ q. StandsBy q (StandsAt t code l r rs h.moves)) goes h.stands
+      at : (rs : List ℕ) (h : IsRunOf t code l costs r rs) → MovesLeadTo t code l r rs h.moves
+      at rs h = subst (λ q. StandsBy q (MovesLeadTo t code l r rs h.moves)) goes h.stands
 
       before : (x : Stepped) → returns_so (r.steps ++ x ∷ []) ≡ Some rs → (o : Option (List ℕ)) → returns_so r.steps ≡ o → (ss : List ℕ) × (returns_so r.steps ≡ Some ss) × (returns_after ss x ≡ Some rs)
       before x h None e = let q : returns_so (r.steps ++ x ∷ []) ≡ None = fold-append returns_more (Some []) r.steps (x ∷ []) ∙ ap (λ o. returns_more o x) e in let bad : ⊥ = cc in absurd bad
@@ -110,7 +110,7 @@ module _ (t : Text) (env : Setting) (ok : IsTextOf t env) (code : Code) (is : Is
       by_end (Went x) e h =
           let b = before x (subst (λ q. returns_so (ended r.steps q (step env r.state).state).steps ≡ Some rs) e h) (returns_so r.steps) refl in
           let run : IsRunOf t code l costs r b.0 = ih b.0 b.1 in
-          let a : StandsAt t code l r b.0 run.moves = at b.0 run in
+          let a : MovesLeadTo t code l r b.0 run.moves = at b.0 run in
           let next : Goes t env code r.state (step env r.state).state a.calls rs x.class x.moved = went t env ok code is fine r.state a.function a.calls rs a.over a.reached a.stack x e (subst (λ ss. returns_after ss x ≡ Some rs) a.returns b.2) in
           let m = more r b.0 x run.moves next.move a.calls next.calls_after (Some (step env r.state).state.pc) run.are a refl next.is a.suspended in
           subst (λ q. IsRunOf t code l costs (ended r.steps q (step env r.state).state) rs) (sym e) (record {
@@ -124,7 +124,7 @@ module _ (t : Text) (env : Setting) (ok : IsTextOf t env) (code : Code) (is : Is
       by_end (Exited x status) e h =
           let b = before x (subst (λ q. returns_so (ended r.steps q (step env r.state).state).steps ≡ Some rs) e h) (returns_so r.steps) refl in
           let run : IsRunOf t code l costs r b.0 = ih b.0 b.1 in
-          let a : StandsAt t code l r b.0 run.moves = at b.0 run in
+          let a : MovesLeadTo t code l r b.0 run.moves = at b.0 run in
           let next : (e : ℕ) × IsMoveOf t code r.state.pc a.calls x.class (Exit e) None a.calls = exited t env ok code is fine r.state a.function a.calls rs a.over a.reached a.stack x status e in
           let m = more r b.0 x run.moves (Exit next.0) a.calls a.calls None run.are a refl next.1 a.suspended in
           subst (λ q. IsRunOf t code l costs (ended r.steps q (step env r.state).state) rs) (sym e) (record {
@@ -139,7 +139,7 @@ module _ (t : Text) (env : Setting) (ok : IsTextOf t env) (code : Code) (is : Is
           let run : IsRunOf t code l costs r rs = ih rs (subst (λ q. returns_so (ended r.steps q (step env r.state).state).steps ≡ Some rs) e h) in
           subst (λ q. IsRunOf t code l costs (ended r.steps q (step env r.state).state) rs) (sym e) (record { moves = run.moves; are = run.are; places = run.places; classes = run.classes; cost = run.cost; stands = tt })
 
-  module _ (s : State) (over : IsOver t s) (at_entry : s.pc ≡ t.entry) where
+  module _ (s : State) (over : IsOverText t s) (at_entry : s.pc ≡ t.entry) where
     -- each run from the entry
     pub run_moves : (n : ℕ) (rs : List ℕ) → returns_so (run env s n).steps ≡ Some rs → IsRunOf t code l costs (run env s n) rs
     unfolding run
@@ -152,7 +152,7 @@ module _ (t : Text) (env : Setting) (ok : IsTextOf t env) (code : Code) (is : Is
       stands = record {
         function = t.entry;
         calls = [];
-        node = ap Some (ap number_at is.first_function ∙ sym at_entry);
+        node = ap Some (ap number_or_0 is.first_function ∙ sym at_entry);
         suspended = refl;
         returns = (let e : rs ≡ [] = cc in e);
         reached = subst (λ v. Reached (kind_at t) t.entry t.entry v) (sym at_entry) main;

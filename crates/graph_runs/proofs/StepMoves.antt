@@ -10,7 +10,7 @@ use Rattle.cost_theory.specs.Reached.{Code, edge_at, graph_of}
 use Rattle.graph_runs.specs.Text.{Text, kind_at}
 use Rattle.graph_runs.specs.EdgeCosts.{edge_class}
 
-abbrev pub place : ℕ → List ℕ → (ℕ → ℕ) → steps.State
+abbrev pub place : ℕ → List ℕ → (ℕ → ℕ) → steps.GraphState
 place pc calls counts = record { node = Some pc; calls = calls; counts = counts }
 
 -- a step of the class is a move from the place at pc over an edge of that class, to the place `to`

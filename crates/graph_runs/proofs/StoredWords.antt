@@ -39,7 +39,7 @@ is_read file image e at is =
     let any = any_from_found (λ g. in_span (memory_range g) at) (header_has_word at) (loaded_headers file) t.segment t.covers (has_word file at (eqb-true (at % 4) 0 p.0) t) in
     let h = found_from_any (header_has_word at) (loaded_headers file) any in
     let place : file_place file at ≡ Some _ = ap (option_map _) h.1 in
-    (_, cond-true (is_word_address (contents file) at) (option_map (stored.word_at file) (file_place file at)) None is ∙ ap (option_map (stored.word_at file)) place)
+    (_, cond-true (is_word_address (contents file) at) (option_map (stored.list_word_at file) (file_place file at)) None is ∙ ap (option_map (stored.list_word_at file)) place)
 
 kind_of : (t : Text) (at : ℕ) (b : Bool) (o : Option ℕ) → ((at % 4 == 0) && list_any (is_in at) t.ranges) ≡ b → (b ≡ true → instr_of (word_at t.bytes at) ≡ option_and_then instr_of o) → (b ≡ false → o ≡ None) →
     kind_at t at ≡ word_kind t at (option_and_then instr_of o)

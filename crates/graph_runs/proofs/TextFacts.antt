@@ -10,7 +10,7 @@ use Rattle.scale_base.specs.Image.{is_in}
 use Rattle.scale_base.specs.Layout.{may_write, in_stack}
 use Rattle.scale_base.specs.State.{Setting, word_at}
 use Rattle.cost_theory.specs.Graph.{any_below}
-use Rattle.graph_runs.specs.Text.{Text, in_text, instr_at, jump_of, is_at, jumps_from, is_target, follows}
+use Rattle.graph_runs.specs.Text.{Text, is_text_address, instr_at, jump_of, is_at, jumps_from, is_target, follows}
 use Rattle.graph_runs.specs.TextStates.{IsTextRange, IsTextOf}
 
 -- a test of a range that holds at two places at once
@@ -37,21 +37,21 @@ any_at (suc n) p i lt h = ⊎_elim
     (λ (low : i < n). or_left (any_below n p) (p n) (any_at n p i low h))
     (λ (e : i ≡ n). or_right (any_below n p) (p n) (ap p (sym e) ∙ h)) (below_suc i n lt)
 
-pub word_within : (t : Text) (env : Setting) → IsTextOf t env → (v k : ℕ) → in_text t v ≡ true → v % 4 ≡ 0 → k < 4 → in_text t (v + k) ≡ true
+pub word_within : (t : Text) (env : Setting) → IsTextOf t env → (v k : ℕ) → is_text_address t v ≡ true → v % 4 ≡ 0 → k < 4 → is_text_address t (v + k) ≡ true
 word_within t env ok v k h al lt = any_step (λ r. is_in v r) (λ r. is_in (v + k) r) IsTextRange t.ranges ok.each
     (λ r is here. let b = range_parts r v here in let a0 = is.0 in let a1 = is.1 in range_from r (v + k) (omega arith) (omega arith)) h
 
-pub word_bound : (t : Text) (env : Setting) → IsTextOf t env → (v : ℕ) → in_text t v ≡ true → v < 0xFF000000
+pub word_bound : (t : Text) (env : Setting) → IsTextOf t env → (v : ℕ) → is_text_address t v ≡ true → v < 0xFF000000
 word_bound t env ok v h = any_fact (λ r. is_in v r) IsTextRange (v < 0xFF000000) t.ranges ok.each (λ r is here. let b = range_parts r v here in let a2 = is.2 in omega arith) h
 
-pub not_written : (t : Text) (env : Setting) → IsTextOf t env → (a : ℕ) → in_text t a ≡ true → may_write env.layout a ≡ false
+pub not_written : (t : Text) (env : Setting) → IsTextOf t env → (a : ℕ) → is_text_address t a ≡ true → may_write env.layout a ≡ false
 unfolding may_write
 not_written t env ok a h =
     let e : list_any (λ r. is_in a r) env.layout.text ≡ true = subst (λ rs. list_any (λ r. is_in a r) rs ≡ true) ok.ranges h in
     or_from (in_stack a) _ (ok.no_stack a h) (and_right _ (not (list_any (λ r. is_in a r) env.layout.text)) (not_from_true _ e))
 
 -- the target of a branch or a JAL of the text is one
-pub target_is : (t : Text) (env : Setting) → IsTextOf t env → (u v : ℕ) → in_text t u ≡ true → u % 4 ≡ 0 → jump_of (instr_at t u) u ≡ Some v → is_target t v ≡ true
+pub target_is : (t : Text) (env : Setting) → IsTextOf t env → (u v : ℕ) → is_text_address t u ≡ true → u % 4 ≡ 0 → jump_of (instr_at t u) u ≡ Some v → is_target t v ≡ true
 unfolding is_target
 target_is t env ok u v h al jump = or_right (v == t.entry) _
     (any_step (λ r. is_in u r) (jumps_from t v) IsTextRange t.ranges ok.each
@@ -68,7 +68,7 @@ pub entry_is : (t : Text) → is_target t t.entry ≡ true
 unfolding is_target
 entry_is t = or_left (t.entry == t.entry) _ (eq-eqb t.entry t.entry refl)
 
-pub follows_word : (t : Text) (env : Setting) → IsTextOf t env → (v : ℕ) → follows t v ≡ true → (4 ≤ v) × (in_text t (v - 4) ≡ true)
+pub follows_word : (t : Text) (env : Setting) → IsTextOf t env → (v : ℕ) → follows t v ≡ true → (4 ≤ v) × (is_text_address t (v - 4) ≡ true)
 follows_word t env ok v h =
     let b = and_parts (nat_le 4 v) (list_any (λ r. is_in (v - 4) r && is_in v r) t.ranges) h in (
       leb-true 4 v b.0,
@@ -77,7 +77,7 @@ follows_word t env ok v h =
     )
 
 -- the words of a run's state are the text's
-pub word_same : (t : Text) (env : Setting) → IsTextOf t env → (bytes : ℕ → ℕ) → ((a : ℕ) → in_text t a ≡ true → bytes a ≡ t.bytes a) → (v : ℕ) → in_text t v ≡ true → v % 4 ≡ 0 → word_at bytes v ≡ word_at t.bytes v
+pub word_same : (t : Text) (env : Setting) → IsTextOf t env → (bytes : ℕ → ℕ) → ((a : ℕ) → is_text_address t a ≡ true → bytes a ≡ t.bytes a) → (v : ℕ) → is_text_address t v ≡ true → v % 4 ≡ 0 → word_at bytes v ≡ word_at t.bytes v
 word_same t env ok bytes same v h al =
     let e0 = same v h in
     let e1 = same (v + 1) (word_within t env ok v 1 h al (omega arith)) in

@@ -12,7 +12,7 @@ use Rattle.cost_theory.specs.Graph.{Loops, AreWithin}
 use Rattle.cost_theory.specs.Steps as steps
 use Rattle.cost_theory.specs.Reached.{Reached, Code}
 use Rattle.graph_runs.specs.Text.{Text, kind_at}
-use Rattle.graph_runs.specs.TextStates.{IsOver}
+use Rattle.graph_runs.specs.TextStates.{IsOverText}
 use Rattle.graph_runs.specs.EdgeCosts.{weights}
 use Rattle.graph_runs.specs.RunMoves.{text_graph, after_moves, places_of, classes_of, after_call, IsStack, StandsBy}
 use Rattle.graph_runs.specs.KeptSteps.{Carried, carried_first, kept_more}
@@ -48,7 +48,7 @@ pub record KeptAt (t : Text) (code : Code) (l : Loops) (r : Run) (c : Carried) (
   pub returns : c.returns ≡ map after_call calls
   pub reached : Reached (kind_at t) t.entry function r.state.pc
   pub stack : IsStack (kind_at t) t.entry function calls
-  pub over : IsOver t r.state
+  pub over : IsOverText t r.state
 
 -- The moves of a run that has exited end by an exit.
 abbrev pub ExitsBy : Standing → List steps.Move → Type 0
@@ -59,7 +59,7 @@ ExitsBy (HasTrapped trap) moves = Unit {0}
 -- the run is a list of kept moves over the graph, one for each step, which cost what its steps cost
 pub record IsKeptRun (t : Text) (code : Code) (l : Loops) (costs : Class → ℕ) (r : Run) (c : Carried) : Type 0 where
   pub moves : List steps.Move
-  pub kept : steps.AreKept (text_graph t code) l (steps.start (text_graph t code)) moves
+  pub kept : steps.AreKept (text_graph t code) l (steps.graph_start (text_graph t code)) moves
   -- the moves start where the steps do, one by one, and go over edges of their classes
   pub places : places_of t code moves ≡ map (λ x. x.pc) r.steps
   pub classes : classes_of t code moves ≡ map (λ x. Some x.class) r.steps

@@ -12,7 +12,7 @@ use Rattle.cost_theory.specs.Worst.{Numbers, AreNumbers}
 use Rattle.cost_theory.specs.Steps.{cycles_left}
 use Rattle.cost_theory.specs.Reached.{Code, IsCodeOf, HasNoBadWord}
 use Rattle.graph_runs.specs.Text.{Text, text_of, instr_at, known, IsPutBefore, AreApart, word_kind, kind_at}
-use Rattle.graph_runs.specs.TextStates.{IsTextOf, IsOver}
+use Rattle.graph_runs.specs.TextStates.{IsTextOf, IsOverText}
 use Rattle.graph_runs.specs.EdgeCosts.{weights}
 use Rattle.graph_runs.specs.RunMoves.{text_graph, after_moves, returns_so, IsRunOf}
 use Rattle.graph_runs.specs.KeptSteps.{Carried, by_extents}
@@ -36,12 +36,12 @@ pub record IsProgramOf (t : Text) (code : Code) (l : Loops) (extent : ℕ → �
 -- a state at the entry of the text, on the machine of the setting
 pub record IsStartOver (t : Text) (env : Setting) (s : State) : Type 0 where
   pub text : IsTextOf t env
-  pub state : IsOver t s
+  pub state : IsOverText t s
   pub entry : s.pc ≡ t.entry
 
 -- the cycles of the completed steps, by what a step of each class costs
-abbrev pub cycles_of : (Class → ℕ) → Run → ℕ
-cycles_of costs r = sum_by (λ x. costs x.class) r.steps
+abbrev pub run_cycles : (Class → ℕ) → Run → ℕ
+run_cycles costs r = sum_by (λ x. costs x.class) r.steps
 
 -- ---- the laws
 
@@ -63,13 +63,13 @@ KeptRunsAreKeptByLess = (env : Setting) (s : State) (l : Loops) (trips : ℕ →
 -- So it costs at most the worst cycles of the program's entry, whatever the costs of the classes.
 abbrev pub KeptRunsAreBelow : Type 0
 KeptRunsAreBelow = (t : Text) (env : Setting) (s : State) (code : Code) (l : Loops) (extent : ℕ → ℕ → Bool) (costs : Class → ℕ) (nums : Numbers) → IsStartOver t env s → IsProgramOf t code l extent →
-    AreNumbers (text_graph t code) l (weights t code costs) nums → (n : ℕ) (c : Carried) → kept_at env s (by_extents l extent) n ≡ Some c → cycles_of costs (run env s n) ≤ nums.worst 0
+    AreNumbers (text_graph t code) l (weights t code costs) nums → (n : ℕ) (c : Carried) → kept_at env s (by_extents l extent) n ≡ Some c → run_cycles costs (run env s n) ≤ nums.worst 0
 
 -- After a kept run, its cycles and those that are left where its moves lead are at most the worst cycles.
 abbrev pub CyclesLeftAreBelow : Type 0
 CyclesLeftAreBelow = (t : Text) (code : Code) (l : Loops) (extent : ℕ → ℕ → Bool) (costs : Class → ℕ) (nums : Numbers) → IsProgramOf t code l extent →
     AreNumbers (text_graph t code) l (weights t code costs) nums → (r : Run) (c : Carried) (kept : IsKeptRun t code l costs r c) →
-    cycles_of costs r + cycles_left (text_graph t code) l (weights t code costs) nums (after_moves t code l kept.moves) ≤ nums.worst 0
+    run_cycles costs r + cycles_left (text_graph t code) l (weights t code costs) nums (after_moves t code l kept.moves) ≤ nums.worst 0
 
 -- Where each class costs a cycle at least, a kept run that goes on has taken at most so many steps: so each run that stays kept ends.
 abbrev pub KeptRunsEnd : Type 0
@@ -109,7 +109,7 @@ ImageRunsAreKeptMoves = (file : List ℕ) (image : Image) (levels : ℕ) (input 
 abbrev pub ImageRunsAreBelow : Type 0
 ImageRunsAreBelow = (file : List ℕ) (image : Image) (levels : ℕ) (input : List ℕ) (code : Code) (l : Loops) (extent : ℕ → ℕ → Bool) (costs : Class → ℕ) (nums : Numbers) → image_of file ≡ Ok image →
     IsProgramOf (text_of image) code l extent → AreNumbers (text_graph (text_of image) code) l (weights (text_of image) code costs) nums →
-    (n : ℕ) (c : Carried) → kept_of image levels input (by_extents l extent) n ≡ Some c → cycles_of costs (run_of image levels input n) ≤ nums.worst 0
+    (n : ℕ) (c : Carried) → kept_of image levels input (by_extents l extent) n ≡ Some c → run_cycles costs (run_of image levels input n) ≤ nums.worst 0
 
 -- Where each class costs a cycle at least, it goes on for at most so many steps.
 abbrev pub ImageRunsEnd : Type 0

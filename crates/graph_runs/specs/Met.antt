@@ -14,7 +14,7 @@ use Rattle.graph_runs.specs.KeptSteps.{by_extents}
 use Rattle.graph_runs.specs.KeptRuns.{kept_of}
 use Rattle.graph_runs.specs.Laws.{IsProgramOf}
 
-pub record HypothesesAreMet : Type 0 where
+pub record RunHypothesesAreMet : Type 0 where
   pub file : List ℕ
   pub image : Image
   pub code : Code

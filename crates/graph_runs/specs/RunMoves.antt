@@ -11,7 +11,7 @@ use Rattle.cost_theory.specs.declared.edges.Word.{Word}
 use Rattle.cost_theory.specs.Reached.{Reached, Code, graph_of}
 use Rattle.cost_theory.specs.declared.edges.Word.TheVariants.{CallOf}
 use Rattle.graph_runs.specs.Text.{Text, kind_at}
-use Rattle.graph_runs.specs.TextStates.{IsOver}
+use Rattle.graph_runs.specs.TextStates.{IsOverText}
 use Rattle.graph_runs.specs.ReturnAddresses.{returns_after}
 use Rattle.graph_runs.specs.EdgeCosts.{edge_class, weights}
 
@@ -21,7 +21,7 @@ abbrev pub text_graph : Text → Code → Graph
 text_graph t code = graph_of (kind_at t) code
 
 -- the node, the sites of the suspended calls and the counts to which moves from the entry lead
-abbrev pub after_moves : Text → Code → Loops → List steps.Move → steps.State
+abbrev pub after_moves : Text → Code → Loops → List steps.Move → steps.GraphState
 after_moves t code l moves = steps.state_after (text_graph t code) l moves
 
 -- where each move starts
@@ -58,12 +58,12 @@ abbrev pub returns_so : List Stepped → Option (List ℕ)
 returns_so xs = fold returns_more (Some []) xs
 
 -- moves one after another, whatever the counts of loops
-abbrev pub AreMoves : Graph → Loops → steps.State → List steps.Move → Type 0
+abbrev pub AreMoves : Graph → Loops → steps.GraphState → List steps.Move → Type 0
 AreMoves g l s [] = Unit {0}
 AreMoves g l s (m ∷ ms) = ((steps.edge_of m < g.edges) × (s.node ≡ Some (g.source (steps.edge_of m))) × steps.IsMove g s m) × AreMoves g l (steps.after g l s m) ms
 
 -- Where the moves of a run that goes on lead: to the node at pc, which is reached, in the function that the innermost call calls.
-pub record StandsAt (t : Text) (code : Code) (l : Loops) (r : Run) (rs : List ℕ) (moves : List steps.Move) : Type 0 where
+pub record MovesLeadTo (t : Text) (code : Code) (l : Loops) (r : Run) (rs : List ℕ) (moves : List steps.Move) : Type 0 where
   pub function : ℕ
   pub calls : List ℕ
   pub node : (after_moves t code l moves).node ≡ Some r.state.pc
@@ -71,14 +71,14 @@ pub record StandsAt (t : Text) (code : Code) (l : Loops) (r : Run) (rs : List �
   pub returns : rs ≡ map after_call calls
   pub reached : Reached (kind_at t) t.entry function r.state.pc
   pub stack : IsStack (kind_at t) t.entry function calls
-  pub over : IsOver t r.state
+  pub over : IsOverText t r.state
 
 -- the run is a list of moves over the graph, one for each step, which cost what its steps cost
 pub record IsRunOf (t : Text) (code : Code) (l : Loops) (costs : Class → ℕ) (r : Run) (rs : List ℕ) : Type 0 where
   pub moves : List steps.Move
-  pub are : AreMoves (text_graph t code) l (steps.start (text_graph t code)) moves
+  pub are : AreMoves (text_graph t code) l (steps.graph_start (text_graph t code)) moves
   -- the moves start where the steps do, one by one, and go over edges of their classes
   pub places : places_of t code moves ≡ map (λ x. x.pc) r.steps
   pub classes : classes_of t code moves ≡ map (λ x. Some x.class) r.steps
   pub cost : steps.cycles (weights t code costs) moves ≡ sum_by (λ x. costs x.class) r.steps
-  pub stands : StandsBy r.standing (StandsAt t code l r rs moves)
+  pub stands : StandsBy r.standing (MovesLeadTo t code l r rs moves)

@@ -25,8 +25,8 @@ pub record Text : Type 0 where
 abbrev pub text_of : Image → Text
 text_of image = record { entry = image.entry; ranges = image.text; bytes = loaded_byte image }
 
-abbrev pub in_text : Text → ℕ → Bool
-in_text t v = list_any (λ r. is_in v r) t.ranges
+abbrev pub is_text_address : Text → ℕ → Bool
+is_text_address t v = list_any (λ r. is_in v r) t.ranges
 
 -- the instruction of the word at an address
 abbrev pub instr_at : Text → ℕ → Option Instr
@@ -144,4 +144,4 @@ word_kind t v (Some i) = instr_kind t v i
 -- what the word at v says of the way on. It is refused where v is no multiple of 4, where it is outside the text, and where the word stands
 -- for no instruction.
 unfoldable pub kind_at : Text → ℕ → Word
-kind_at t v = if (v % 4 == 0) && in_text t v then word_kind t v (instr_at t v) else Bad
+kind_at t v = if (v % 4 == 0) && is_text_address t v then word_kind t v (instr_at t v) else Bad

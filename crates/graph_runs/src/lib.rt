@@ -3,7 +3,7 @@
 //! WCET analysis, the greatest cost of a walk that keeps the loops' bounds.
 #![tactic(auto)]
 
-ghost use Rattle.graph_runs.specs.Met.{HypothesesAreMet};
+ghost use Rattle.graph_runs.specs.Met.{RunHypothesesAreMet};
 ghost use Rattle.graph_runs.specs.Laws.{KindsAreOfStoredWords, InstructionsAreOfStoredWords, KnownNumbersArePut, ImageNumbersArePut, RunsAreMoves, KeptRunsAreKeptMoves, KeptRunsAreKeptByLess, KeptRunsAreBelow, KeptRunsEnd, CyclesLeftAreBelow, ImagesStartOver, ImageRunsAreKeptMoves, ImageRunsAreBelow, ImageRunsEnd};
 
 /// The service number that is known at an address is the one that the nearest `addi x17,x0,k` before it puts into x17, at most
@@ -57,5 +57,5 @@ pub fn kept_runs_end()
 /// The hypotheses of these laws are met together: by the image of a file of three instructions, the first of which branches to
 /// itself.
 pub fn hypotheses_are_met()
-    ensures { HypothesesAreMet }
+    ensures { RunHypothesesAreMet }
 {}

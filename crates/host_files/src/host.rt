@@ -4,7 +4,7 @@ ghost use Rattle.std.specs.Prelude.{◌≡◌, ◌+◌, ◌++◌, ◌↔◌, len
 ghost use Rattle.std.specs.FinMap.{get, insert};
 ghost use Rattle.host_files.specs.declared.host.HostError.TheVariants.{OutOfMemory};
 ghost use Rattle.host_files.specs.HostState.{HostState, IsUntouched};
-ghost use Rattle.host_files.specs.Host.{IsWithin, LoadTells, MayHoldAnything, PrintsPrefix, HasStoreRoom, HasPrintRoom, store_spent, print_spent, count_if, is_failed};
+ghost use Rattle.host_files.specs.Host.{IsLoadedWithin, LoadTells, MayHoldAnything, PrintsPrefix, HasStoreRoom, HasPrintRoom, store_spent, print_spent, count_if, is_failed};
 
 use scale_base::NoMemory;
 use std::alloc::{AllocError, Global};
@@ -53,7 +53,7 @@ pub trait Host {
 
     /// Reads a file of at most `limit` bytes. Nothing but the count of faults changes.
     fn load(&mut self, alloc: Global, name: &str, limit: u64) -> Result<Loaded, HostError>
-        ensures within { IfOk result (IsWithin limit) }
+        ensures within { IfOk result (IsLoadedWithin limit) }
         ensures told { IfSome (state self.old).files (λ files. LoadTells (get files name.now) limit result) }
         ensures untouched { IsUntouched (state self.old) (state self.new) }
         ensures faults { (state self.new).faults ≡ count_if (is_failed result) (state self.old).faults }

@@ -3,9 +3,9 @@
 ghost use Rattle.std.specs.Prelude.{◌≡◌, ◌+◌, ◌++◌, ◌↔◌, [], length, max, option_copied, option_map, None, IfSome, IfOk, IfErr, IsSome, IsOk, OnOk, OnErr, is_err};
 ghost use Rattle.std.specs.FinMap as map;
 ghost use Rattle.host_files.specs.HostState.{IsUntouched};
-ghost use Rattle.host_files.specs.Host.{IsWithin, LoadTells, MayHoldAnything, PrintsPrefix, HasStoreRoom, HasPrintRoom, store_spent, print_spent, count_if, is_failed};
+ghost use Rattle.host_files.specs.Host.{IsLoadedWithin, LoadTells, MayHoldAnything, PrintsPrefix, HasStoreRoom, HasPrintRoom, store_spent, print_spent, count_if, is_failed};
 ghost use Rattle.std.specs.Prelude.{refl};
-ghost use Rattle.host_files.specs.MemState.{mem_state, load_fails, store_fails, print_fails, counted, after_store, after_print};
+ghost use Rattle.host_files.specs.MemState.{mem_state, load_fails, store_fails, print_fails, call_counted, after_store, after_print};
 
 use crate::stored::{self, Place};
 use crate::{Host, HostError, Loaded};
@@ -36,11 +36,11 @@ impl Model for MemHost {
 
     ghost coded = { mem_state_code };
 
-    ghost use Rattle.host_files.specs.MemHost.{mem_view, IsSound};
+    ghost use Rattle.host_files.specs.MemHost.{mem_view, IsSoundHost};
 
     ghost view = { mem_view };
 
-    ghost invariant = { IsSound };
+    ghost invariant = { IsSoundHost };
 }
 
 impl MemHost {
@@ -136,7 +136,7 @@ impl Host for MemHost {
     ghost steady_tells = { λ host steady. (refl, refl) };
 
     fn load(&mut self, alloc: Global, name: &str, limit: u64) -> Result<Loaded, HostError>
-        ensures within { IfOk result (IsWithin limit) }
+        ensures within { IfOk result (IsLoadedWithin limit) }
         ensures told { IfSome (mem_state self.old).files (λ files. LoadTells (map.get files name.now) limit result) }
         ensures untouched { IsUntouched (mem_state self.old) (mem_state self.new) }
         ensures faults { (mem_state self.new).faults ≡ count_if (is_failed result) (mem_state self.old).faults }
@@ -144,7 +144,7 @@ impl Host for MemHost {
 
         // It fails exactly where its number is listed or there is no such file, and nothing but the counts changes.
         ensures fails { is_failed result ≡ load_fails self.old name.now }
-        ensures after { self.new ≡ counted (load_fails self.old name.now) self.old }
+        ensures after { self.new ≡ call_counted (load_fails self.old name.now) self.old }
     {
         self.calls = self.calls.saturating_add(1);
         if self.fail.contains(&self.calls) {

@@ -2,7 +2,7 @@
 
 ghost use Rattle.std.specs.Prelude.{◌≡◌, ◌+◌, ◌≤◌, ◌++◌, ◌∷◌, [], length, All, vec_len, vec_capacity, option_copied};
 ghost use Rattle.std.specs.FinMap.{get, insert};
-ghost use Rattle.host_files.specs.Stored.{files_of, Fits};
+ghost use Rattle.host_files.specs.Stored.{files_of, LiesWithin};
 
 /// Where a file stands: its name from `name` to `body`, its bytes from `body` to `end`.
 #[derive(Clone, Copy)]
@@ -14,7 +14,7 @@ pub struct Place {
 
 /// The newest file of that name.
 pub fn find<'a>(bytes: &'a [u8], places: &[Place], name: &str) -> Option<&'a [u8]>
-    requires { All (Fits (length bytes.now)) places.now }
+    requires { All (LiesWithin (length bytes.now)) places.now }
     ensures { option_copied result ≡ get (files_of bytes.now places.now) name.now }
 {
     let mut found = None;
@@ -28,11 +28,11 @@ pub fn find<'a>(bytes: &'a [u8], places: &[Place], name: &str) -> Option<&'a [u8
 
 /// Adds a file behind the others. There is memory for it.
 pub fn add(bytes: &mut Vec<u8>, places: &mut Vec<Place>, name: &str, body: &[u8])
-    requires fit { All (Fits (length bytes.old.items)) places.old.items }
+    requires fit { All (LiesWithin (length bytes.old.items)) places.old.items }
     requires bytes { vec_len bytes.old + (length name.now + length body.now) ≤ vec_capacity bytes.old }
     requires places { vec_len places.old + 1 ≤ vec_capacity places.old }
     ensures files { files_of bytes.new.items places.new.items ≡ insert (files_of bytes.old.items places.old.items) name.now body.now }
-    ensures fit { All (Fits (length bytes.new.items)) places.new.items }
+    ensures fit { All (LiesWithin (length bytes.new.items)) places.new.items }
     ensures bytes_len { vec_len bytes.new ≡ vec_len bytes.old + (length name.now + length body.now) }
     ensures places_len { vec_len places.new ≡ vec_len places.old + 1 }
     ensures bytes_capacity { vec_capacity bytes.old ≤ vec_capacity bytes.new }

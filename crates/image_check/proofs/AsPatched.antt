@@ -31,16 +31,16 @@ use Rattle.foreign_scan.specs.declared.fragment.ForeignFragment.TheVariants.{Swi
 use Rattle.foreign_scan.specs.Form.{IsStub, AreRowsIn}
 use Rattle.foreign_scan.specs.Scanned as scanned
 use Rattle.foreign_scan.specs.Scanned.{Found, IsOn, IsOddByte, is_changed, IsChanged, CanBePatched, IsPatch, IsScanned}
-use Rattle.image_check.specs.Safe.{Owner, bound_of, place_by, sites_of}
+use Rattle.image_check.specs.Safe.{Owner, owner_bound, place_by, sites_of}
 use Rattle.image_check.proofs.Standing.{RowsLie, offset_is, encoded, way_stands, fork_stands}
 use Rattle.image_check.proofs.OnEdges.{changed_place, same_place}
 
 -- ---- parts of a layout by the places of segments
 
-abbrev part_from : scanned.Place → Part
+abbrev part_from : scanned.SegmentPlace → Part
 part_from p = record { span = record { from = p.from; len = p.len }; readable = has p.flags PF_R; writable = has p.flags PF_W }
 
-parts_from : (xs : List LoadSegment) → map part_of xs ≡ map part_from (map scanned.place_of xs)
+parts_from : (xs : List LoadSegment) → map part_of xs ≡ map part_from (map scanned.segment_place xs)
 parts_from [] = refl
 parts_from (x ∷ xs) = ap (λ ps. part_of x ∷ ps) (parts_from xs)
 
@@ -53,7 +53,7 @@ same_number x y e = eqb-true x y (by_not (x == y) e)
 
 module _ (original_file file : List ℕ) (original foreign : Image) (original_is : image_of original_file ≡ Ok original) (foreign_is : image_of file ≡ Ok foreign) (bytes : (a : ℕ) → loaded_byte foreign a < 256) (no_key : original.keyed_segment ≡ None)
     (code : Code) (l : Loops) (owner : Owner) (found : Found) (reached : IsReachedCode (text_of original) code) (is : IsScanned original foreign code l found)
-    (rows : (at : ℕ) (kind : EdgeKind) (counter shift table : ℕ) → IsOn (Exit counter shift table) (found at kind) → AreRowsIn foreign table (bound_of l (owner counter) / 2 ^ shift + 1)) where
+    (rows : (at : ℕ) (kind : EdgeKind) (counter shift table : ℕ) → IsOn (Exit counter shift table) (found at kind) → AreRowsIn foreign table (owner_bound l (owner counter) / 2 ^ shift + 1)) where
   abbrev t : Text
   t = text_of original
 

@@ -19,9 +19,9 @@ use Rattle.graph_runs.specs.EdgeCosts.{class_by, edge_class}
 use Rattle.graph_runs.specs.Laws.{IsReachedCode}
 use Rattle.graph_runs.proofs.Laws.{kind_facts}
 use Rattle.stub_writer.specs.Stubs.{Site}
-use Rattle.stored_runs.specs.Marks.{place_at, fragments_by}
+use Rattle.stored_runs.specs.Marks.{place_at, fragments_of_class}
 use Rattle.foreign_scan.specs.Scanned.{Found, is_changed, IsChanged, CanBePatched, IsScanned}
-use Rattle.image_check.specs.Safe.{Owner, all_with_rows, place_by, site_of, sites_of}
+use Rattle.image_check.specs.Safe.{Owner, all_with_rows, place_by, foreign_site, sites_of}
 
 -- ---- the place at an address
 
@@ -68,30 +68,30 @@ module _ (original foreign : Image) (code : Code) (l : Loops) (owner : Owner) (f
   pub changed_place : (v : ℕ) → IsChanged original foreign v → place_at sites v ≡ Some (place_by foreign l owner v (found v) (instr_at t v))
   changed_place v c =
       let p = is.patches v c in
-      in_sites (site_of original foreign l owner found) (is_changed original foreign) (λ u. refl) code.nodes v (get_within code.nodes p.node.0 v p.node.1) c.1
+      in_sites (foreign_site original foreign l owner found) (is_changed original foreign) (λ u. refl) code.nodes v (get_within code.nodes p.node.0 v p.node.1) c.1
 
   pub same_place : (v : ℕ) → is_changed original foreign v ≡ false → place_at sites v ≡ None
-  same_place v off = not_in (site_of original foreign l owner found) (is_changed original foreign) (λ u. refl) code.nodes v off
+  same_place v off = not_in (foreign_site original foreign l owner found) (is_changed original foreign) (λ u. refl) code.nodes v off
 
   -- by the instruction of a patched word, and the edges of its kind
   by_instr : (v : ℕ) (kind : EdgeKind) (to : ℕ) (class : Class) (i : Instr) → CanBePatched i → (r : Bool) → Within (record { at = v; kind = kind; to = to }) (edges_of (instr_kind t v i) v r) → class_by (Some i) kind ≡ Some class
-      → fragments_by (Some (place_by foreign l owner v (found v) (Some i))) class ≡ all_with_rows foreign l owner (found v kind)
+      → fragments_of_class (Some (place_by foreign l owner v (found v) (Some i))) class ≡ all_with_rows foreign l owner (found v kind)
   by_instr v kind to class (instr.Branch op rs1 rs2 offset) can r within is_class = ⊎_elim
       (λ e. by_kind kind (sym (ap (λ (x : Edge). x.kind) e)) is_class)
       (λ rest. ⊎_elim (λ e. by_other kind (sym (ap (λ (x : Edge). x.kind) e)) is_class) (λ none. absurd none) rest) within
     where
-      by_kind : (k : EdgeKind) → k ≡ Taken → class_by (Some (instr.Branch op rs1 rs2 offset)) k ≡ Some class → fragments_by (Some (place_by foreign l owner v (found v) (Some (instr.Branch op rs1 rs2 offset)))) class ≡ all_with_rows foreign l owner (found v k)
+      by_kind : (k : EdgeKind) → k ≡ Taken → class_by (Some (instr.Branch op rs1 rs2 offset)) k ≡ Some class → fragments_of_class (Some (place_by foreign l owner v (found v) (Some (instr.Branch op rs1 rs2 offset)))) class ≡ all_with_rows foreign l owner (found v k)
       by_kind k e c =
           let there : classes.Taken ≡ class = (let d = ap (class_by (Some (instr.Branch op rs1 rs2 offset))) (sym e) ∙ c in cc) in
-          ap (fragments_by (Some (place_by foreign l owner v (found v) (Some (instr.Branch op rs1 rs2 offset))))) (sym there) ∙ ap (λ q. all_with_rows foreign l owner (found v q)) (sym e)
+          ap (fragments_of_class (Some (place_by foreign l owner v (found v) (Some (instr.Branch op rs1 rs2 offset))))) (sym there) ∙ ap (λ q. all_with_rows foreign l owner (found v q)) (sym e)
 
-      by_other : (k : EdgeKind) → k ≡ Untaken → class_by (Some (instr.Branch op rs1 rs2 offset)) k ≡ Some class → fragments_by (Some (place_by foreign l owner v (found v) (Some (instr.Branch op rs1 rs2 offset)))) class ≡ all_with_rows foreign l owner (found v k)
+      by_other : (k : EdgeKind) → k ≡ Untaken → class_by (Some (instr.Branch op rs1 rs2 offset)) k ≡ Some class → fragments_of_class (Some (place_by foreign l owner v (found v) (Some (instr.Branch op rs1 rs2 offset)))) class ≡ all_with_rows foreign l owner (found v k)
       by_other k e c =
           let there : classes.Untaken ≡ class = (let d = ap (class_by (Some (instr.Branch op rs1 rs2 offset))) (sym e) ∙ c in cc) in
-          ap (fragments_by (Some (place_by foreign l owner v (found v) (Some (instr.Branch op rs1 rs2 offset))))) (sym there) ∙ ap (λ q. all_with_rows foreign l owner (found v q)) (sym e)
+          ap (fragments_of_class (Some (place_by foreign l owner v (found v) (Some (instr.Branch op rs1 rs2 offset))))) (sym there) ∙ ap (λ q. all_with_rows foreign l owner (found v q)) (sym e)
   by_instr v kind to class (instr.Jal rd offset) can r within is_class = at_zero rd can within
     where
-      at_zero : (rd : ℕ) → rd ≡ 0 → Within (record { at = v; kind = kind; to = to }) (edges_of (instr_kind t v (instr.Jal rd offset)) v r) → fragments_by (Some (place_by foreign l owner v (found v) (Some (instr.Jal rd offset)))) class ≡ all_with_rows foreign l owner (found v kind)
+      at_zero : (rd : ℕ) → rd ≡ 0 → Within (record { at = v; kind = kind; to = to }) (edges_of (instr_kind t v (instr.Jal rd offset)) v r) → fragments_of_class (Some (place_by foreign l owner v (found v) (Some (instr.Jal rd offset)))) class ≡ all_with_rows foreign l owner (found v kind)
       at_zero rd zero w = ⊎_elim (λ e. ap (λ q. all_with_rows foreign l owner (found v q)) (ap (λ (x : Edge). x.kind) e)) (λ none. absurd none)
           (subst (λ d. Within (record { at = v; kind = kind; to = to }) (edges_of (instr_kind t v (instr.Jal d offset)) v r)) zero w)
   by_instr v kind to class (instr.Lui rd imm) can r within is_class = absurd can
@@ -106,7 +106,7 @@ module _ (original foreign : Image) (code : Code) (l : Loops) (owner : Owner) (f
   by_instr v kind to class instr.Ebreak can r within is_class = absurd can
 
   pub fragments_on : (e : ℕ) (edge : Edge) (class : Class) → slice_get code.edges e ≡ Some edge → edge_class t (Some edge) ≡ Some class
-      → fragments_by (place_at sites edge.at) class ≡ all_with_rows foreign l owner (found edge.at edge.kind)
+      → fragments_of_class (place_at sites edge.at) class ≡ all_with_rows foreign l owner (found edge.at edge.kind)
   fragments_on e edge class there is_class = by_change (is_changed original foreign edge.at) refl
     where
       source : (v : ℕ) × ((f : ℕ) × Reached (kind_at t) t.entry f v) × Within edge (edges_of (kind_at t v) v (call_returns code (kind_at t v))) × (edge.at ≡ v)
@@ -115,9 +115,9 @@ module _ (original foreign : Image) (code : Code) (l : Loops) (owner : Owner) (f
       word : is_word_address original edge.at ≡ true
       word = ap (is_word_address original) source.3 ∙ reached_word source.1.0 source.0 source.1.1
 
-      by_change : (b : Bool) → is_changed original foreign edge.at ≡ b → fragments_by (place_at sites edge.at) class ≡ all_with_rows foreign l owner (found edge.at edge.kind)
+      by_change : (b : Bool) → is_changed original foreign edge.at ≡ b → fragments_of_class (place_at sites edge.at) class ≡ all_with_rows foreign l owner (found edge.at edge.kind)
       by_change false off =
-          ap (λ o. fragments_by o class) (same_place edge.at off)
+          ap (λ o. fragments_of_class o class) (same_place edge.at off)
           ∙ sym (ap (all_with_rows foreign l owner) (is.found_are.plain edge.at edge.kind (λ c. both_ways (is_changed original foreign edge.at) off c.1)))
       by_change true on =
           let c : IsChanged original foreign edge.at = (word, on) in
@@ -127,6 +127,6 @@ module _ (original foreign : Image) (code : Code) (l : Loops) (owner : Owner) (f
           let kind_is : kind_at t edge.at ≡ instr_kind t edge.at p.old_instr = ap (kind_at t) source.3 ∙ (facts.2.2 ∙ (ap (instr_kind t source.0) same ∙ ap (λ v. instr_kind t v p.old_instr) (sym source.3))) in
           let within : Within edge (edges_of (kind_at t edge.at) edge.at (call_returns code (kind_at t edge.at))) = subst (λ v. Within edge (edges_of (kind_at t v) v (call_returns code (kind_at t v)))) (sym source.3) source.2 in
           let there2 : Within edge (edges_of (instr_kind t edge.at p.old_instr) edge.at (call_returns code (kind_at t edge.at))) = subst (λ w. Within edge (edges_of w edge.at (call_returns code (kind_at t edge.at)))) kind_is within in
-          ap (λ o. fragments_by o class) (changed_place edge.at c)
-          ∙ (ap (λ o. fragments_by (Some (place_by foreign l owner edge.at (found edge.at) o)) class) p.old
+          ap (λ o. fragments_of_class o class) (changed_place edge.at c)
+          ∙ (ap (λ o. fragments_of_class (Some (place_by foreign l owner edge.at (found edge.at) o)) class) p.old
           ∙ by_instr edge.at edge.kind edge.to class p.old_instr p.can_be (call_returns code (kind_at t edge.at)) there2 (ap (λ o. class_by o edge.kind) (sym p.old) ∙ is_class))

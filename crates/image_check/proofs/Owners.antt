@@ -19,12 +19,12 @@ use Rattle.graph_runs.specs.RunMoves.{text_graph}
 use Rattle.graph_runs.specs.Laws.{IsProgramOf}
 use Rattle.graph_runs.proofs.Laws.{kind_facts}
 use Rattle.stub_writer.specs.Stubs.{Site}
-use Rattle.stored_runs.specs.Marks.{place_at, fragments_by, counters_behind}
+use Rattle.stored_runs.specs.Marks.{place_at, fragments_of_class, counters_behind}
 use Rattle.shadow_counts.specs.Shadows.{count_over}
-use Rattle.marked_runs.specs.Counters.{AreCounters, AreCounted}
+use Rattle.marked_runs.specs.Counters.{AreCounterWords, AreCounted}
 use Rattle.marked_runs.proofs.Laws.{loops_are_countable}
 use Rattle.foreign_scan.specs.Scanned.{Found, CanBePatched, IsPatch, IsScanned}
-use Rattle.image_check.specs.Safe.{Owner, bound_of, all_with_rows, sites_of, counts_it, counts_on, clears_on, one_if, IsCounterOf, AreOwners}
+use Rattle.image_check.specs.Safe.{Owner, owner_bound, all_with_rows, sites_of, counts_it, counts_on, clears_on, one_where, IsCounterOf, AreOwners}
 use Rattle.image_check.specs.Laws.{owner_is, is_owner}
 use Rattle.image_check.proofs.Counting.{untouched, counted_once, cleared_once}
 use Rattle.image_check.proofs.OnEdges.{fragments_on}
@@ -128,15 +128,15 @@ module _ (original foreign : Image) (code : Code) (l : Loops) (extent : ℕ → 
       let counts = (counter_for c k own).counts e lt in
       subst (λ i. is_back g l i e ≡ false) (sym (eqb-true j k on)) (is_false (is_back g l k e) (sym counts ∙ none))
     where
-      is_false : (b : Bool) → one_if b ≡ 0 → b ≡ false
+      is_false : (b : Bool) → one_where b ≡ 0 → b ≡ false
       is_false true e = cc
       is_false false e = refl
 
-  pub counters : AreCounters g l (λ c. bound_of l (owner c)) (is_owner owner)
+  pub counters : AreCounterWords g l (λ c. owner_bound l (owner c)) (is_owner owner)
   counters = record {
     loops = λ c k on. (counter_for c k (own_loop owner c k on)).low;
     countable = λ c k on. loops_are_countable t code l extent (λ j. j == k) prog (no_back c k (own_loop owner c k on));
-    limited = λ c k on. let same : bound_of l (owner c) ≡ l.bound k = ap (bound_of l) (own_loop owner c k on) in omega (arith, same);
+    limited = λ c k on. let same : owner_bound l (owner c) ≡ l.bound k = ap (owner_bound l) (own_loop owner c k on) in omega (arith, same);
   }
 
   -- an edge is not both a back edge of a loop and one that leaves it
@@ -151,11 +151,11 @@ module _ (original foreign : Image) (code : Code) (l : Loops) (extent : ℕ → 
           let out = not-true (l.inside k v) (and_parts (l.inside k (g.source e)) (not (l.inside k v)) f).1 in
           both_ways (l.inside k v) out (ap (l.inside k) head ∙ held)
 
-  over_edge : (k e : ℕ) → k < l.loops → (c : ℕ → ℕ) (w : ℕ) (edge : Edge) → counts_on found (Some edge) w ≡ one_if (is_back g l k e) → clears_on found (Some edge) w ≡ one_if (leaves l k (g.source e) (g.target e))
+  over_edge : (k e : ℕ) → k < l.loops → (c : ℕ → ℕ) (w : ℕ) (edge : Edge) → counts_on found (Some edge) w ≡ one_where (is_back g l k e) → clears_on found (Some edge) w ≡ one_where (leaves l k (g.source e) (g.target e))
       → counters_behind (all_with_rows foreign l owner (found edge.at edge.kind)) c w ≡ count_over g l k e (c w)
   over_edge k e low c w edge a b = by_tests (is_back g l k e) (leaves l k (g.source e) (g.target e)) refl refl a b
     where
-      by_tests : (x y : Bool) → is_back g l k e ≡ x → leaves l k (g.source e) (g.target e) ≡ y → counts_on found (Some edge) w ≡ one_if x → clears_on found (Some edge) w ≡ one_if y
+      by_tests : (x y : Bool) → is_back g l k e ≡ x → leaves l k (g.source e) (g.target e) ≡ y → counts_on found (Some edge) w ≡ one_where x → clears_on found (Some edge) w ≡ one_where y
           → counters_behind (all_with_rows foreign l owner (found edge.at edge.kind)) c w ≡ cond x (c w + 1) (cond y 0 (c w))
       by_tests true true p q a b = absurd (not_both k e low p q)
       by_tests true false p q a b = counted_once foreign l owner (found edge.at edge.kind) c w a b
@@ -163,10 +163,10 @@ module _ (original foreign : Image) (code : Code) (l : Loops) (extent : ℕ → 
       by_tests false false p q a b = untouched foreign l owner (found edge.at edge.kind) c w a b
 
   -- the fragments by the sites
-  pub on_edge : (e : ℕ) (class : Class) → e < g.edges → edge_class t (slice_get code.edges e) ≡ Some class → (edge : Edge) × (slice_get code.edges e ≡ Some edge) × (fragments_by (place_at sites (edge_at (slice_get code.edges e))) class ≡ all_with_rows foreign l owner (found edge.at edge.kind))
+  pub on_edge : (e : ℕ) (class : Class) → e < g.edges → edge_class t (slice_get code.edges e) ≡ Some class → (edge : Edge) × (slice_get code.edges e ≡ Some edge) × (fragments_of_class (place_at sites (edge_at (slice_get code.edges e))) class ≡ all_with_rows foreign l owner (found edge.at edge.kind))
   on_edge e class lt is_class =
       let x = some_get code.edges e lt in
-      (x.0, x.1, ap (λ o. fragments_by (place_at sites (edge_at o)) class) x.1 ∙ fragments_on original foreign code l owner found prog.reached is e x.0 class x.1 (ap (edge_class t) (sym x.1) ∙ is_class))
+      (x.0, x.1, ap (λ o. fragments_of_class (place_at sites (edge_at o)) class) x.1 ∙ fragments_on original foreign code l owner found prog.reached is e x.0 class x.1 (ap (edge_class t) (sym x.1) ∙ is_class))
 
   pub counted : AreCounted t code l sites (is_owner owner)
   counted = record {

@@ -20,7 +20,7 @@ use Rattle.foreign_scan.specs.declared.fragment.ForeignFragment.{ForeignFragment
 use Rattle.foreign_scan.specs.declared.fragment.ForeignFragment.TheVariants.{Switch, Exit, Reset, Count}
 use Rattle.foreign_scan.specs.Form.{AreRowsIn}
 use Rattle.foreign_scan.specs.Scanned.{Found, is_changed, IsChanged, IsOn, kind_place, ComesBefore, IsCountedAt, IsFirstCounted, IsLastRow, IsScanned}
-use Rattle.image_check.specs.Safe.{Owner, bound_of, counts_it, counts_on, one_if, AreOwners}
+use Rattle.image_check.specs.Safe.{Owner, owner_bound, counts_it, counts_on, one_where, AreOwners}
 use Rattle.image_check.proofs.Owners.{counter_for}
 
 -- ---- the least of some numbers
@@ -104,7 +104,7 @@ counts_are_on c (f ∷ fs) some = by_fragment f (λ more. counts_are_on c fs mor
         by_test true e m = (0, ap (λ x. Some (Count x)) (sym (eqb-true c counter e)))
         by_test false e m = let none : counts_it c (Count counter) ≡ 0 = cond-false (c == counter) 1 0 e in later (Count counter) (go (omega (arith, m, none)))
 
-some_if : (b : Bool) → 0 < one_if b → b ≡ true
+some_if : (b : Bool) → 0 < one_where b → b ≡ true
 some_if true h = refl
 some_if false h = absurd (let no : ⊥ = omega (arith, h) in no)
 
@@ -162,7 +162,7 @@ module _ (original foreign : Image) (code : Code) (l : Loops) (extent : ℕ → 
         let o = counter_for original foreign code l extent owner found prog is owners c k own in
         let h = some.1 in
         let x = some_get code.edges some.0 h.low in
-        let one = sym (ap (λ q. counts_on found q c) x.1) ∙ (o.counts some.0 h.low ∙ ap one_if h.is) in
+        let one = sym (ap (λ q. counts_on found q c) x.1) ∙ (o.counts some.0 h.low ∙ ap one_where h.is) in
         record {
           e = some.0;
           edge = x.0;
@@ -189,14 +189,14 @@ module _ (original foreign : Image) (code : Code) (l : Loops) (extent : ℕ → 
       let a = o.1 in
       let never : ⊥ = cc in never
 
-  last_row : (c shift : ℕ) (o : Option ℕ) → owner c ≡ o → IsLastRow original foreign code l found c shift (bound_of l o / 2 ^ shift)
+  last_row : (c shift : ℕ) (o : Option ℕ) → owner c ≡ o → IsLastRow original foreign code l found c shift (owner_bound l o / 2 ^ shift)
   last_row c shift None own = inr (none_counted c own, zero-div (2 ^ shift))
   last_row c shift (Some k) own = inl (k, first_of c k own, refl)
 
-  pub rows : (at : ℕ) (kind : EdgeKind) (counter shift table : ℕ) → IsOn (Exit counter shift table) (found at kind) → AreRowsIn foreign table (bound_of l (owner counter) / 2 ^ shift + 1)
+  pub rows : (at : ℕ) (kind : EdgeKind) (counter shift table : ℕ) → IsOn (Exit counter shift table) (found at kind) → AreRowsIn foreign table (owner_bound l (owner counter) / 2 ^ shift + 1)
   rows at kind counter shift table on =
       let changed = changed_by at kind (λ none. not_on (found at kind) on none) in
-      (is.stubs at changed).1 kind counter shift table (bound_of l (owner counter) / 2 ^ shift) on (last_row counter shift (owner counter) refl)
+      (is.stubs at changed).1 kind counter shift table (owner_bound l (owner counter) / 2 ^ shift) on (last_row counter shift (owner counter) refl)
     where
       not_on : (fs : List ForeignFragment) → IsOn (Exit counter shift table) fs → fs ≡ [] → ⊥
       not_on [] on none = let e = on.1 in let never : ⊥ = cc in never

@@ -20,15 +20,15 @@ use Rattle.scale_base.specs.Word.{Encodes, IsSignedField}
 use Rattle.scale_base.proofs.Laws.{word_reads}
 use Rattle.rv_encode.specs.Jumps.{distance}
 use Rattle.cost_theory.specs.Graph.{Loops}
-use Rattle.stub_writer.specs.Fragments.{fragment_code, code_len, rows_of, rows_len, exit_code}
+use Rattle.stub_writer.specs.Fragments.{fragment_code, code_len, fragment_rows, rows_len, exit_code}
 use Rattle.stub_writer.specs.Stubs.{Way, way, fragments_code, way_rows, rows_by, jump, jump_at}
 use Rattle.stub_runs.specs.Meaning.{StandsAt, Stand}
 use Rattle.stub_runs.specs.Held.{Lie, KeyedFrom, WayStands, ForkStands}
 use Rattle.stub_runs.proofs.Laws.{keyed_fetched, codes_length}
 use Rattle.foreign_scan.specs.declared.fragment.ForeignFragment.{ForeignFragment}
 use Rattle.foreign_scan.specs.declared.fragment.ForeignFragment.TheVariants.{Switch, Exit, Reset, Count}
-use Rattle.foreign_scan.specs.Form.{IsKeyWord, HoldsAt, Hold, foreign_code, foreign_len, IsForeign, ChoosesNone, FirstChooses, behind, IsRunOut, IsFork, AreRowsIn}
-use Rattle.image_check.specs.Safe.{Owner, bound_of, words_from, with_rows, all_with_rows}
+use Rattle.foreign_scan.specs.Form.{IsKeyWord, HoldsAt, Hold, foreign_code, foreign_len, IsForeign, ChoosesNone, FirstChooses, behind_fragments, IsRunOut, IsFork, AreRowsIn}
+use Rattle.image_check.specs.Safe.{Owner, owner_bound, words_from, with_rows, all_with_rows}
 
 -- ---- jumps
 
@@ -74,7 +74,7 @@ module _ (image : Image) (l : Loops) (owner : Owner) where
       ap (λ c. c ++ fragments_code later (all_with_rows image l owner fs)) (quiet_one table f (q 0 f (omega arith)))
       ∙ (ap (λ c. foreign_code f ++ c) (quiet_code later fs (λ k d lt. q (suc k) d (omega (arith, lt)))) ∙ sym (flat_map-cons foreign_code f fs))
 
-  quiet_rows_one : (f : ForeignFragment) → ChoosesNone f → rows_of (with_rows image l owner f) ≡ []
+  quiet_rows_one : (f : ForeignFragment) → ChoosesNone f → fragment_rows (with_rows image l owner f) ≡ []
   quiet_rows_one (Switch word) q = refl
   quiet_rows_one (Exit counter shift t) q = absurd q
   quiet_rows_one (Reset counter) q = refl
@@ -83,7 +83,7 @@ module _ (image : Image) (l : Loops) (owner : Owner) where
   quiet_rows : (fs : List ForeignFragment) → All ChoosesNone fs → rows_by (all_with_rows image l owner fs) ≡ []
   quiet_rows [] q = refl
   quiet_rows (f ∷ fs) q =
-      flat_map-cons rows_of (with_rows image l owner f) (all_with_rows image l owner fs)
+      flat_map-cons fragment_rows (with_rows image l owner f) (all_with_rows image l owner fs)
       ∙ (ap (λ r. r ++ rows_by (all_with_rows image l owner fs)) (quiet_rows_one f (q 0 f (omega arith))) ∙ quiet_rows fs (λ k d lt. q (suc k) d (omega (arith, lt))))
 
   -- the table of the fragments: that of the first one
@@ -113,7 +113,7 @@ module _ (image : Image) (l : Loops) (owner : Owner) where
   abbrev pub RowsLie : List ForeignFragment → Type 0
   RowsLie [] = Unit {0}
   RowsLie (Switch word ∷ fs) = Unit {0}
-  RowsLie (Exit counter shift table ∷ fs) = AreRowsIn image table (bound_of l (owner counter) / 2 ^ shift + 1)
+  RowsLie (Exit counter shift table ∷ fs) = AreRowsIn image table (owner_bound l (owner counter) / 2 ^ shift + 1)
   RowsLie (Reset counter ∷ fs) = Unit {0}
   RowsLie (Count counter ∷ fs) = Unit {0}
 
@@ -179,23 +179,23 @@ module _ (image : Image) (l : Loops) (owner : Owner) where
     -- the rows lie where the table begins
     rows_of_all : (to : ℕ) (fs : List ForeignFragment) → FirstChooses fs → RowsLie fs → Lie env (loaded_byte image) (first_table fs) (way_rows (its_way to fs)) × (first_table fs % 4 ≡ 0) × (first_table fs + 4 * length (way_rows (its_way to fs)) ≤ 0xFFFFF800)
     rows_of_all to [] q rows = (tt, refl, omega arith)
-    rows_of_all to (Switch word ∷ fs) q rows = no_rows (sym (flat_map-cons rows_of (fragments.Switch word) (all_with_rows image l owner fs) ∙ quiet_rows fs q))
+    rows_of_all to (Switch word ∷ fs) q rows = no_rows (sym (flat_map-cons fragment_rows (fragments.Switch word) (all_with_rows image l owner fs) ∙ quiet_rows fs q))
       where
         no_rows : {xs : List ℕ} → [] ≡ xs → Lie env (loaded_byte image) 0 xs × (0 % 4 ≡ 0) × (0 + 4 * length xs ≤ 0xFFFFF800)
         no_rows {xs} e = subst (λ ys. Lie env (loaded_byte image) 0 ys × (0 % 4 ≡ 0) × (0 + 4 * length ys ≤ 0xFFFFF800)) e (tt, refl, omega arith)
-    rows_of_all to (Reset counter ∷ fs) q rows = no_rows (sym (flat_map-cons rows_of (fragments.Reset counter) (all_with_rows image l owner fs) ∙ quiet_rows fs q))
+    rows_of_all to (Reset counter ∷ fs) q rows = no_rows (sym (flat_map-cons fragment_rows (fragments.Reset counter) (all_with_rows image l owner fs) ∙ quiet_rows fs q))
       where
         no_rows : {xs : List ℕ} → [] ≡ xs → Lie env (loaded_byte image) 0 xs × (0 % 4 ≡ 0) × (0 + 4 * length xs ≤ 0xFFFFF800)
         no_rows {xs} e = subst (λ ys. Lie env (loaded_byte image) 0 ys × (0 % 4 ≡ 0) × (0 + 4 * length ys ≤ 0xFFFFF800)) e (tt, refl, omega arith)
-    rows_of_all to (Count counter ∷ fs) q rows = no_rows (sym (flat_map-cons rows_of (fragments.Count counter) (all_with_rows image l owner fs) ∙ quiet_rows fs q))
+    rows_of_all to (Count counter ∷ fs) q rows = no_rows (sym (flat_map-cons fragment_rows (fragments.Count counter) (all_with_rows image l owner fs) ∙ quiet_rows fs q))
       where
         no_rows : {xs : List ℕ} → [] ≡ xs → Lie env (loaded_byte image) 0 xs × (0 % 4 ≡ 0) × (0 + 4 * length xs ≤ 0xFFFFF800)
         no_rows {xs} e = subst (λ ys. Lie env (loaded_byte image) 0 ys × (0 % 4 ≡ 0) × (0 + 4 * length ys ≤ 0xFFFFF800)) e (tt, refl, omega arith)
     rows_of_all to (Exit counter shift table ∷ fs) q rows =
-        let last = bound_of l (owner counter) / 2 ^ shift in
+        let last = owner_bound l (owner counter) / 2 ^ shift in
         let words = words_from image table (last + 1) in
         let all : way_rows (its_way to (Exit counter shift table ∷ fs)) ≡ words =
-        flat_map-cons rows_of (fragments.Exit counter shift words) (all_with_rows image l owner fs) ∙ (ap (λ r. words ++ r) (quiet_rows fs q) ∙ append-nil words) in
+        flat_map-cons fragment_rows (fragments.Exit counter shift words) (all_with_rows image l owner fs) ∙ (ap (λ r. words ++ r) (quiet_rows fs q) ∙ append-nil words) in
         let key0 = rows 0 (omega arith) in
         let even = key0.0 in
         let end = room (table + 4 * last) (rows last (omega arith)) in
@@ -211,14 +211,14 @@ module _ (image : Image) (l : Loops) (owner : Owner) where
         let stand = subst (Stand env (loaded_byte image) at) (sym code) (stand_all at (flat_map foreign_code fs) r.code) in
         let lens = same_lens fs in
         let long = codes_length table (all_with_rows image l owner fs) in
-        let here : jump_at at (its_way to fs) ≡ behind at fs = ap (λ n. at + 4 * n) lens in
-        let jumped = stands_one (behind at fs) (instr.Jal 0 r.jump.offset) r.jump.jump in
-        let place = room (behind at fs) r.jump.jump.key in
+        let here : jump_at at (its_way to fs) ≡ behind_fragments at fs = ap (λ n. at + 4 * n) lens in
+        let jumped = stands_one (behind_fragments at fs) (instr.Jal 0 r.jump.offset) r.jump.jump in
+        let place = room (behind_fragments at fs) r.jump.jump.key in
         let fields = jumped.encodes.0 in
-        let offset = offset_is (behind at fs) to r.jump.offset fields.2 (omega (arith, place)) r.jump.there in
+        let offset = offset_is (behind_fragments at fs) to r.jump.offset fields.2 (omega (arith, place)) r.jump.there in
         let is : instr.Jal 0 r.jump.offset ≡ jump (jump_at at (its_way to fs)) to = ap (instr.Jal 0) offset ∙ ap (λ a. jump a to) (sym here) in
         let last : StandsAt env (loaded_byte image) (at + 4 * length (fragments_code table (all_with_rows image l owner fs))) (jump (jump_at at (its_way to fs)) to) =
-        subst (λ a. StandsAt env (loaded_byte image) a (jump (jump_at at (its_way to fs)) to)) (omega (arith, long, lens)) (subst (StandsAt env (loaded_byte image) (behind at fs)) is jumped) in
+        subst (λ a. StandsAt env (loaded_byte image) a (jump (jump_at at (its_way to fs)) to)) (omega (arith, long, lens)) (subst (StandsAt env (loaded_byte image) (behind_fragments at fs)) is jumped) in
         let parts = rows_of_all to fs r.first rows in
         record {
           table = table;

@@ -9,7 +9,7 @@ use Rattle.power_model.specs.Numbers.{PowerModel}
 use Rattle.cost_theory.specs.Graph.{Graph, Loops, leaves}
 use Rattle.cost_theory.specs.Worst.{Numbers}
 use Rattle.least_laws.specs.Charged.{Charged}
-use Rattle.stub_runs.specs.Meaning.{nibble}
+use Rattle.stub_runs.specs.Meaning.{four_bits}
 use Rattle.stored_runs.specs.Marks.{tail_cycles}
 use Rattle.stored_runs.specs.Stubbed as stubbed
 use Rattle.stored_runs.specs.Stubbed.{AreOrdered, IsQuiet}
@@ -20,7 +20,7 @@ use Rattle.paid_runs.specs.Tabled.{told_on, IsSafeEntry, IsEdgeTabledBy}
 use Rattle.foreign_scan.specs.declared.fragment.ForeignFragment.{ForeignFragment}
 use Rattle.foreign_scan.specs.declared.fragment.ForeignFragment.TheVariants.{Switch, Exit, Reset, Count}
 use Rattle.foreign_scan.specs.Form.{IsForeign, ChoosesNone, FirstChooses}
-use Rattle.image_check.specs.Safe.{Owner, bound_of, words_from, with_rows, all_with_rows, IsSafeWord, AreSafeWords}
+use Rattle.image_check.specs.Safe.{Owner, owner_bound, words_from, with_rows, all_with_rows, IsSafeWord, AreSafeWords}
 use Rattle.image_check.specs.Laws.{is_owner}
 use Rattle.image_check.proofs.Owners.{is_own}
 
@@ -45,11 +45,11 @@ not_higher power told i j (inr lower) = let low = lower.0 in omega (arith, low)
 
 -- the entries of a safe word are levels
 pub is_table : (power : PowerModel) (told : EdgeNumbers) (word : ℕ) → word < 2 ^ 32 → IsSafeWord power told word → stubbed.IsTable (length power.levels) word
-is_table power told word small safe = (small, λ i low. let at_most = not_higher power told i (nibble word i) (safe i low) in omega (arith, at_most, low))
+is_table power told word small safe = (small, λ i low. let at_most = not_higher power told i (four_bits word i) (safe i low) in omega (arith, at_most, low))
 
 module _ (power : PowerModel) (image : Image) (l : Loops) (owner : Owner) (n : Numbers) (bytes : (a : ℕ) → loaded_byte image a < 256) where
   abbrev limits : ℕ → ℕ
-  limits c = bound_of l (owner c)
+  limits c = owner_bound l (owner c)
 
   small_word : (at : ℕ) → word_at (loaded_byte image) at < 2 ^ 32
   small_word at =
@@ -105,12 +105,12 @@ module _ (power : PowerModel) (image : Image) (l : Loops) (owner : Owner) (n : N
       (quiet_all fs (λ k d lt. h (suc k) d (omega (arith, lt))) q)
   safe_all told (Exit counter shift table ∷ fs) h q own safe =
       let o = own counter shift table fs refl in
-      let bound : bound_of l (owner counter) ≡ l.bound o.0 = ap (bound_of l) o.1 in
-      let count = bound_of l (owner counter) / 2 ^ shift + 1 in
+      let bound : owner_bound l (owner counter) ≡ l.bound o.0 = ap (owner_bound l) o.1 in
+      let count = owner_bound l (owner counter) / 2 ^ shift + 1 in
       let form = h 0 (Exit counter shift table) (omega arith) in
       let long = words_count image table count in
       let entries : (j : ℕ) → j < count → stubbed.IsTable (length power.levels) (word_at (loaded_byte image) (table + 4 * j)) = λ j lt.
-      let same : bound_of l (owner counter) / 2 ^ shift ≡ l.bound o.0 / 2 ^ shift = ap (λ b. b / 2 ^ shift) bound in
+      let same : owner_bound l (owner counter) / 2 ^ shift ≡ l.bound o.0 / 2 ^ shift = ap (λ b. b / 2 ^ shift) bound in
       is_table power (at_row (l.bound o.0) (n.iteration o.0) shift told j) (word_at (loaded_byte image) (table + 4 * j)) (small_word (table + 4 * j)) (safe o.0 o.1 j (omega (arith, lt, same))) in
       All-cons (IsSafeFragment (length power.levels) limits) (fragments.Exit counter shift (words_from image table count)) (all_with_rows image l owner fs)
       (form.0, form.1, omega (arith, long), rows_are table count entries)
@@ -129,9 +129,9 @@ module _ (power : PowerModel) (image : Image) (l : Loops) (owner : Owner) (n : N
     tabled (Switch word ∷ fs) own safe = record { inside = inside; target = to; leads = leads; table = safe }
     tabled (Exit counter shift table ∷ fs) own safe =
         let o = own counter shift table fs refl in
-        let count = bound_of l (owner counter) / 2 ^ shift + 1 in
+        let count = owner_bound l (owner counter) / 2 ^ shift + 1 in
         let long = words_count image table count in
-        let same : bound_of l (owner counter) / 2 ^ shift ≡ l.bound o.0 / 2 ^ shift = ap (λ b. bound_of l b / 2 ^ shift) o.1 in
+        let same : owner_bound l (owner counter) / 2 ^ shift ≡ l.bound o.0 / 2 ^ shift = ap (λ b. owner_bound l b / 2 ^ shift) o.1 in
         record {
           inside = inside;
           target = to;
@@ -144,7 +144,7 @@ module _ (power : PowerModel) (image : Image) (l : Loops) (owner : Owner) (n : N
             enough = omega (arith, long, same);
             entries = λ j i lt low.
                 let row : j < count = omega (arith, lt, long) in
-                subst (λ x. IsSafeEntry power (at_row (l.bound o.0) (n.iteration o.0) shift (told_on g l w n least e (tail_cycles (costs_of power) (all_with_rows image l owner (Exit counter shift table ∷ fs)))) j) i (nibble x i))
+                subst (λ x. IsSafeEntry power (at_row (l.bound o.0) (n.iteration o.0) shift (told_on g l w n least e (tail_cycles (costs_of power) (all_with_rows image l owner (Exit counter shift table ∷ fs)))) j) i (four_bits x i))
                 (sym (word_of_row image table count j row)) (safe o.0 o.1 j (omega (arith, row, same)) i low);
           };
         }

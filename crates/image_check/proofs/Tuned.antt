@@ -34,7 +34,7 @@ use Rattle.foreign_scan.specs.declared.fragment.ForeignFragment.{ForeignFragment
 use Rattle.foreign_scan.specs.declared.fragment.ForeignFragment.TheVariants.{Exit}
 use Rattle.foreign_scan.specs.Form.{IsRunOut, IsStub}
 use Rattle.foreign_scan.specs.Scanned.{Found, is_changed, IsChanged, CanBePatched, IsPatch}
-use Rattle.image_check.specs.Safe.{Owner, bound_of, all_with_rows, place_by, sites_of, clears_on, clears_it, one_if, AreSafeWords, AreSafeOn, IsSafeImage}
+use Rattle.image_check.specs.Safe.{Owner, owner_bound, all_with_rows, place_by, sites_of, clears_on, clears_it, one_where, AreSafeWords, AreSafeOn, IsSafeImage}
 use Rattle.image_check.specs.Laws.{is_owner, SafeImagesAreTuned, SafeImagesKeepRuns}
 use Rattle.image_check.proofs.Owners.{patched_kind, counter_for, counters, counted, on_edge}
 use Rattle.image_check.proofs.OnEdges.{reached_word}
@@ -57,7 +57,7 @@ module _ (power : PowerModel) (original foreign : Image) (code : Code) (l : Loop
   w = weights_of power t code sites
 
   abbrev limits : ℕ → ℕ
-  limits c = bound_of l (owner c)
+  limits c = owner_bound l (owner c)
 
   kind_of : (v f : ℕ) → Reached (kind_at t) t.entry f v → (p : IsPatch original foreign code v) → kind_at t v ≡ instr_kind t v p.old_instr
   kind_of v f there p = patched_kind original foreign code l extent owner found prog s.scanned s.owners v f there p
@@ -73,7 +73,7 @@ module _ (power : PowerModel) (original foreign : Image) (code : Code) (l : Loop
       let left = o.2.clears e lt in
       (o.0, o.1, o.2.low, is_true (leaves l o.0 (g.source e) (g.target e)) (omega (arith, cleared, one, left)))
     where
-      is_true : (b : Bool) → 0 < one_if b → b ≡ true
+      is_true : (b : Bool) → 0 < one_where b → b ≡ true
       is_true true h = refl
       is_true false h = absurd (omega (arith, h))
 
@@ -203,14 +203,14 @@ module _ (power : PowerModel) (original foreign : Image) (code : Code) (l : Loop
       let x = on_edge original foreign code l extent owner found prog s.scanned s.owners e class lt is_class in
       subst (IsEdgeTabledBy power g l w n least (is_owner owner) e) (sym x.2) (table_on e x.0 lt x.1)
 
-small_limits : (l : Loops) (o : Option ℕ) → ((k : ℕ) → o ≡ Some k → k < l.loops) → ((k : ℕ) → k < l.loops → l.bound k ≤ 2 ^ 31) → bound_of l o ≤ 2 ^ 31
+small_limits : (l : Loops) (o : Option ℕ) → ((k : ℕ) → o ≡ Some k → k < l.loops) → ((k : ℕ) → k < l.loops → l.bound k ≤ 2 ^ 31) → owner_bound l o ≤ 2 ^ 31
 small_limits l None low h = omega arith
 small_limits l (Some k) low h = h k (low k refl)
 
 pub safe_tuned : SafeImagesAreTuned
 safe_tuned = λ power ok original_file file original foreign original_is foreign_is bytes no_key code l extent prog bounds found owner n least more s. record {
   power_is = ok;
-  patched_is = patched original_file file original foreign original_is foreign_is bytes no_key code l owner found prog.reached s.scanned (rows original foreign code l extent owner found prog s.scanned s.owners) (length power.levels) (λ c. bound_of l (owner c))
+  patched_is = patched original_file file original foreign original_is foreign_is bytes no_key code l owner found prog.reached s.scanned (rows original foreign code l extent owner found prog s.scanned s.owners) (length power.levels) (λ c. owner_bound l (owner c))
       (edges power original foreign code l extent found owner n least more bytes prog s) s.start ok.few (λ c. small_limits l (owner c) (λ k own. (counter_for original foreign code l extent owner found prog s.scanned s.owners c k own).low) bounds);
   program = prog;
   counters = counters original foreign code l extent owner found prog s.scanned s.owners;
@@ -224,5 +224,5 @@ safe_tuned = λ power ok original_file file original foreign original_is foreign
 
 pub safe_runs : SafeImagesKeepRuns
 safe_runs = λ power ok original_file file original foreign original_is foreign_is bytes no_key code l extent prog bounds found owner n least more s input steps c kept.
-    tuned_safe power original foreign (λ k. bound_of l (owner k)) (sites_of original foreign code l owner found) (starting_level (length power.levels) foreign.keyed_segment) code l extent (is_owner owner) n least more
+    tuned_safe power original foreign (λ k. owner_bound l (owner k)) (sites_of original foreign code l owner found) (starting_level (length power.levels) foreign.keyed_segment) code l extent (is_owner owner) n least more
     (safe_tuned power ok original_file file original foreign original_is foreign_is bytes no_key code l extent prog bounds found owner n least more s) input steps c kept

@@ -18,7 +18,7 @@ use Rattle.loop_file.specs.Kept.{noted_loops}
 use Rattle.code_graph.specs.FlowGraph.{FlowGraph, IsGraphOf}
 use Rattle.loop_tree.specs.Tree.{LoopView, loops, IsTreeOf}
 use Rattle.rewritten_runs.specs.Promise.{KeepsThePromise}
-use Rattle.image_check.specs.Safe.{Owner, bound_of, sites_of, IsSafeImage}
+use Rattle.image_check.specs.Safe.{Owner, owner_bound, sites_of, IsSafeImage}
 
 -- which counter is of which loop
 abbrev pub owner_is : Option ℕ → ℕ → Bool
@@ -33,7 +33,7 @@ abbrev pub SafeImagesAreTuned : Type 0
 SafeImagesAreTuned = (power : PowerModel) → IsPowerModel power → (original_file file : List ℕ) (original foreign : Image) → image_of original_file ≡ Ok original → image_of file ≡ Ok foreign → ((a : ℕ) → loaded_byte foreign a < 256) → original.keyed_segment ≡ None →
     (code : Code) (l : Loops) (extent : ℕ → ℕ → Bool) → IsProgramOf (text_of original) code l extent → ((k : ℕ) → k < l.loops → l.bound k ≤ 2 ^ 31) →
     (found : Found) (owner : Owner) (n : Numbers) (least : Charged) (more : Numbers) → IsSafeImage power original foreign code l extent found owner n least more →
-    IsTuned power original foreign (λ c. bound_of l (owner c)) (sites_of original foreign code l owner found) (starting_level (length power.levels) foreign.keyed_segment) code l extent (is_owner owner) n least more
+    IsTuned power original foreign (λ c. owner_bound l (owner c)) (sites_of original foreign code l owner found) (starting_level (length power.levels) foreign.keyed_segment) code l extent (is_owner owner) n least more
 
 -- So every kept run of a safe image is safe: it ends as the original's does, with the same output, in time, at no higher level than before, with no more energy than
 -- its own cycles at its starting level, and with at most so many cycles and steps more.

@@ -22,9 +22,9 @@ use Rattle.cost_theory.specs.Worst.{Numbers}
 use Rattle.graph_runs.specs.Text.{text_of, instr_at}
 use Rattle.graph_runs.specs.RunMoves.{text_graph}
 use Rattle.stub_writer.specs.Stubs.{Site, Place, Forked, Straight, way}
-use Rattle.stub_runs.specs.Meaning.{nibble}
+use Rattle.stub_runs.specs.Meaning.{four_bits}
 use Rattle.stored_runs.specs.Marks.{tail_cycles}
-use Rattle.marked_runs.specs.Marked.{extra_weights}
+use Rattle.marked_runs.specs.Marked.{extra_site_weights}
 use Rattle.power_model.specs.Switches.{period, costs_of}
 use Rattle.level_tables.specs.Tables.{EdgeNumbers, at_row}
 use Rattle.paid_runs.specs.Timely.{weights_of}
@@ -40,9 +40,9 @@ abbrev pub Owner : Type 0
 Owner = ℕ → Option ℕ
 
 -- the greatest count of a counter: its loop's bound
-abbrev pub bound_of : Loops → Option ℕ → ℕ
-bound_of l None = 0
-bound_of l (Some k) = l.bound k
+abbrev pub owner_bound : Loops → Option ℕ → ℕ
+owner_bound l None = 0
+owner_bound l (Some k) = l.bound k
 
 -- the first words of a table
 abbrev pub words_from : Image → ℕ → ℕ → List ℕ
@@ -52,7 +52,7 @@ words_from image table (suc n) = word_at (loaded_byte image) table ∷ words_fro
 -- a fragment, of which the rows up to the bound's are read
 abbrev pub with_rows : Image → Loops → Owner → ForeignFragment → Fragment
 with_rows image l owner (Switch word) = fragments.Switch word
-with_rows image l owner (Exit counter shift table) = fragments.Exit counter shift (words_from image table (bound_of l (owner counter) / 2 ^ shift + 1))
+with_rows image l owner (Exit counter shift table) = fragments.Exit counter shift (words_from image table (owner_bound l (owner counter) / 2 ^ shift + 1))
 with_rows image l owner (Reset counter) = fragments.Reset counter
 with_rows image l owner (Count counter) = fragments.Count counter
 
@@ -67,15 +67,15 @@ place_by image l owner at found (Some (instr.Branch op rs1 rs2 offset)) =
 place_by image l owner at found (Some (instr.Jal rd offset)) = Straight (way (moved_by at offset) (all_with_rows image l owner (found Jump)))
 place_by image l owner at found i = Straight (way at [])
 
-abbrev pub site_of : (original foreign : Image) → Loops → Owner → Found → ℕ → Site
-site_of original foreign l owner found at = record { at = at; place = place_by foreign l owner at (found at) (instr_at (text_of original) at) }
+abbrev pub foreign_site : (original foreign : Image) → Loops → Owner → Found → ℕ → Site
+foreign_site original foreign l owner found at = record { at = at; place = place_by foreign l owner at (found at) (instr_at (text_of original) at) }
 
-abbrev pub is_patched : (original foreign : Image) → ℕ → Bool
-is_patched original foreign at = is_changed original foreign at
+abbrev pub is_patched_word : (original foreign : Image) → ℕ → Bool
+is_patched_word original foreign at = is_changed original foreign at
 
 -- the nodes whose words are changed
 abbrev pub sites_of : (original foreign : Image) → Code → Loops → Owner → Found → List Site
-sites_of original foreign code l owner found = map (site_of original foreign l owner found) (filter (is_patched original foreign) code.nodes)
+sites_of original foreign code l owner found = map (foreign_site original foreign l owner found) (filter (is_patched_word original foreign) code.nodes)
 
 -- ---- counters
 
@@ -91,9 +91,9 @@ clears_it c (Exit counter shift table) = if c == counter then 1 else 0
 clears_it c (Reset counter) = if c == counter then 1 else 0
 clears_it c (Count counter) = 0
 
-abbrev pub one_if : Bool → ℕ
-one_if true = 1
-one_if false = 0
+abbrev pub one_where : Bool → ℕ
+one_where true = 1
+one_where false = 0
 
 -- how often the fragments of an edge count, and set back, a counter
 abbrev pub counts_on : Found → Option Edge → ℕ → ℕ
@@ -108,8 +108,8 @@ clears_on found (Some e) c = sum_by (clears_it c) (found e.at e.kind)
 -- leaves the loop and nowhere else.
 pub record IsCounterOf (g : Graph) (code : Code) (l : Loops) (found : Found) (c k : ℕ) : Type 0 where
   pub low : k < l.loops
-  pub counts : (e : ℕ) → e < g.edges → counts_on found (slice_get code.edges e) c ≡ one_if (is_back g l k e)
-  pub clears : (e : ℕ) → e < g.edges → clears_on found (slice_get code.edges e) c ≡ one_if (leaves l k (g.source e) (g.target e))
+  pub counts : (e : ℕ) → e < g.edges → counts_on found (slice_get code.edges e) c ≡ one_where (is_back g l k e)
+  pub clears : (e : ℕ) → e < g.edges → clears_on found (slice_get code.edges e) c ≡ one_where (leaves l k (g.source e) (g.target e))
 
 -- some fragment uses the counter
 pub record IsUsed (g : Graph) (code : Code) (found : Found) (c : ℕ) : Type 0 where
@@ -126,7 +126,7 @@ pub record AreOwners (g : Graph) (code : Code) (l : Loops) (found : Found) (owne
 
 -- the entry of a word for each level is the level itself, or a lower one that meets both tests
 abbrev pub IsSafeWord : PowerModel → EdgeNumbers → ℕ → Type 0
-IsSafeWord power told word = (i : ℕ) → i < length power.levels → IsSafeEntry power told i (nibble word i)
+IsSafeWord power told word = (i : ℕ) → i < length power.levels → IsSafeEntry power told i (four_bits word i)
 
 -- the words of the first fragment of an edge, where it chooses a level. The row j of a table counts on the turns that are left behind its counts.
 abbrev pub AreSafeWords : PowerModel → Image → Loops → Owner → Numbers → EdgeNumbers → List ForeignFragment → Type 0
@@ -153,7 +153,7 @@ pub record IsSafeImage (power : PowerModel) (original foreign : Image) (code : C
   pub owners : AreOwners (text_graph (text_of original) code) code l found owner
   pub analyzed : IsAnalyzed (text_graph (text_of original) code) l extent (weights_of power (text_of original) code (sites_of original foreign code l owner found)) n
   pub least_is : AreCharged (text_graph (text_of original) code) l (weights_of power (text_of original) code (sites_of original foreign code l owner found)) least
-  pub added : IsAnalyzed (text_graph (text_of original) code) l extent (extra_weights (text_of original) code (costs_of power) (sites_of original foreign code l owner found)) more
+  pub added : IsAnalyzed (text_graph (text_of original) code) l extent (extra_site_weights (text_of original) code (costs_of power) (sites_of original foreign code l owner found)) more
   pub not_long : n.worst 0 ≤ 2 ^ 48
   pub start : starting_level (length power.levels) foreign.keyed_segment < length power.levels
   pub in_time : n.worst 0 * period power (starting_level (length power.levels) foreign.keyed_segment) ≤ power.deadline

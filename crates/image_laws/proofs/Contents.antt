@@ -10,7 +10,7 @@ use Rattle.scale_base.specs.Bytes.{byte_at}
 use Rattle.scale_base.specs.Spans.{ends_by}
 use Rattle.scale_base.specs.Image.{Image, LoadSegment, segment_of, file_part, loaded_headers, contents, is_zeroed, covers, segment_byte, byte_in, loaded_byte}
 use Rattle.scale_base.specs.Layout.{part_of, is_plain_segment, layout_of}
-use Rattle.stored_laws.specs.StoredView.{over, insert_segment, block_segment, stored_view}
+use Rattle.stored_laws.specs.StoredView.{over_file, insert_segment, block_segment, stored_view}
 use Rattle.stored_laws.proofs.Laws.{length-slice_range}
 
 -- ---- bytes
@@ -42,7 +42,7 @@ pub record HasBytes (file s : List ℕ) : Type 0 where
 part_byte : (xs : List ℕ) (at n j : ℕ) → j < n → get_or (slice_range xs at (at + n)) j 0 ≡ byte_at xs (at + j)
 part_byte xs at n j lt = get_or-take (at + n - at) (drop at xs) j 0 (omega arith) ∙ get_or-drop at xs j 0
 
-segment_same : (file s : List ℕ) → HasBytes file s → (at : ℕ) (h : ProgramHeader) → ends_by (length file) (file_part h) ≡ true → segment_byte at (over s (segment_of file h)) ≡ segment_byte at (segment_of file h)
+segment_same : (file s : List ℕ) → HasBytes file s → (at : ℕ) (h : ProgramHeader) → ends_by (length file) (file_part h) ≡ true → segment_byte at (over_file s (segment_of file h)) ≡ segment_byte at (segment_of file h)
 segment_same file s has at h ends =
     let off : ℕ = h.p_offset in
     let n : ℕ = h.p_filesz in
@@ -58,11 +58,11 @@ segment_same file s has at h ends =
     value_same false z x y h = refl
 
 found_same : (file s : List ℕ) → HasBytes file s → (at : ℕ) (hs : List ProgramHeader) → list_all (λ h. ends_by (length file) (file_part h)) hs ≡ true
-    → byte_in at (find (covers at) (map (over s) (map (segment_of file) hs))) ≡ byte_in at (find (covers at) (map (segment_of file) hs))
+    → byte_in at (find (covers at) (map (over_file s) (map (segment_of file) hs))) ≡ byte_in at (find (covers at) (map (segment_of file) hs))
 found_same file s has at [] ends = refl
 found_same file s has at (h ∷ hs) ends =
     let a = and_parts (ends_by (length file) (file_part h)) (list_all (λ g. ends_by (length file) (file_part g)) hs) ends in
-    found_step (covers at (segment_of file h)) (over s (segment_of file h)) (segment_of file h) _ _ (segment_same file s has at h a.0) (found_same file s has at hs a.1)
+    found_step (covers at (segment_of file h)) (over_file s (segment_of file h)) (segment_of file h) _ _ (segment_same file s has at h a.0) (found_same file s has at hs a.1)
   where
     found_step : (b : Bool) (x y : LoadSegment) (o r : Option LoadSegment) → segment_byte at x ≡ segment_byte at y → byte_in at o ≡ byte_in at r → byte_in at (cond b (Some x) o) ≡ byte_in at (cond b (Some y) r)
     found_step true x y o r e f = e
@@ -88,7 +88,7 @@ pub bytes_same : (file s : List ℕ) (base start : ℕ) → HasBytes file s → 
     → loaded_byte (stored_view (contents file) s base [] start) ≡ loaded_byte (contents file)
 unfolding loaded_byte stored_view contents
 bytes_same file s base start has ends = fun_ext (λ at.
-    ap (byte_in at) (find_out (covers at) (map (over s) (map (segment_of file) (loaded_headers file))) (block_segment file base []) (covers_none at base))
+    ap (byte_in at) (find_out (covers at) (map (over_file s) (map (segment_of file) (loaded_headers file))) (block_segment file base []) (covers_none at base))
     ∙ found_same file s has at (loaded_headers file) ends)
 
 -- ---- the layout
@@ -102,12 +102,12 @@ plain_out (x ∷ xs) s e = plain_step (nat_le s.from x.from) (plain_out xs s e)
     plain_step true go = rw e refl
     plain_step false go = rw go refl
 
-plain_parts : (s : List ℕ) (xs : List LoadSegment) → map part_of (filter is_plain_segment (map (over s) xs)) ≡ map part_of (filter is_plain_segment xs)
+plain_parts : (s : List ℕ) (xs : List LoadSegment) → map part_of (filter is_plain_segment (map (over_file s) xs)) ≡ map part_of (filter is_plain_segment xs)
 plain_parts s [] = refl
 plain_parts s (x ∷ xs) = parts_step (is_plain_segment x) (plain_parts s xs)
   where
-    parts_step : (b : Bool) → map part_of (filter is_plain_segment (map (over s) xs)) ≡ map part_of (filter is_plain_segment xs)
-        → map part_of (cond b (over s x ∷ filter is_plain_segment (map (over s) xs)) (filter is_plain_segment (map (over s) xs))) ≡ map part_of (cond b (x ∷ filter is_plain_segment xs) (filter is_plain_segment xs))
+    parts_step : (b : Bool) → map part_of (filter is_plain_segment (map (over_file s) xs)) ≡ map part_of (filter is_plain_segment xs)
+        → map part_of (cond b (over_file s x ∷ filter is_plain_segment (map (over_file s) xs)) (filter is_plain_segment (map (over_file s) xs))) ≡ map part_of (cond b (x ∷ filter is_plain_segment xs) (filter is_plain_segment xs))
     parts_step true go = rw go refl
     parts_step false go = go
 
@@ -115,4 +115,4 @@ pub layout_is : (image : Image) (s : List ℕ) (base start : ℕ) → layout_of 
 unfolding layout_of stored_view
 layout_is image s base start =
     let z : base + 0 ≡ base = omega arith in
-    rw (plain_out (map (over s) image.segments) (block_segment image.file base []) refl, plain_parts s image.segments, z) refl
+    rw (plain_out (map (over_file s) image.segments) (block_segment image.file base []) refl, plain_parts s image.segments, z) refl

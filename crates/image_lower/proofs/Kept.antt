@@ -7,7 +7,7 @@ use Rattle.std.proofs.lemmas.List.Elements.{All-nil, All-cons, All-head, All-tai
 use Rattle.std.proofs.Math.ListN.{get_or-map}
 use Rattle.jump_lists.specs.declared.notes.JumpNote.{JumpNote}
 use Rattle.jump_lists.specs.Notes.{IsJumpNote}
-use Rattle.image_lower.specs.Block.{insert_note, ascending}
+use Rattle.image_lower.specs.Block.{insert_note, ascending_notes}
 
 all_step : (P : JumpNote → Type 0) (b : Bool) (n x : JumpNote) (xs ys : List JumpNote) → P n → All P (x ∷ xs) → All P ys → All P (if b then n ∷ x ∷ xs else x ∷ ys)
 all_step P true n x xs ys p h g = All-cons P n (x ∷ xs) p h
@@ -33,8 +33,8 @@ len_fold : (acc notes : List JumpNote) → length (fold insert_note acc notes) �
 len_fold acc [] = omega arith
 len_fold acc (n ∷ ns) = let h = len_fold (insert_note acc n) ns in let g = len_insert acc n in omega (arith, h, g)
 
-pub ascending_len : (notes : List JumpNote) (sorted : List (Bor JumpNote)) → map (λ n. n.now) sorted ≡ ascending notes → length sorted ≡ length notes
-unfolding ascending
+pub ascending_len : (notes : List JumpNote) (sorted : List (Bor JumpNote)) → map (λ n. n.now) sorted ≡ ascending_notes notes → length sorted ≡ length notes
+unfolding ascending_notes
 ascending_len notes sorted is =
     let f : Bor JumpNote → JumpNote = λ n. n.now in
     let a : length (map f sorted) ≡ length (fold insert_note [] notes) = ap (λ (xs : List JumpNote). length xs) is in
@@ -42,8 +42,8 @@ ascending_len notes sorted is =
     let l = length-map sorted f in
     omega (arith, a, b, l)
 
-pub ascending_kept : (notes : List JumpNote) (sorted : List (Bor JumpNote)) → map (λ n. n.now) sorted ≡ ascending notes → All IsJumpNote notes → All (λ n. IsJumpNote n.now) sorted
-unfolding ascending
+pub ascending_kept : (notes : List JumpNote) (sorted : List (Bor JumpNote)) → map (λ n. n.now) sorted ≡ ascending_notes notes → All IsJumpNote notes → All (λ n. IsJumpNote n.now) sorted
+unfolding ascending_notes
 ascending_kept notes sorted is each =
     let f : Bor JumpNote → JumpNote = λ n. n.now in
     let all : All IsJumpNote (map f sorted) = subst (All IsJumpNote) (sym is) (all_fold IsJumpNote [] notes (All-nil IsJumpNote) each) in

@@ -20,8 +20,8 @@ use Rattle.table_keys.specs.Keys.{◌>>=◌}
 use Rattle.jump_lists.specs.declared.notes.JumpNote.{JumpNote}
 use Rattle.image_lower.specs.declared.lowering.Lowered.{Lowered}
 use Rattle.image_lower.specs.FarJumps.{far_patches}
-use Rattle.image_lower.specs.Block.{ascending, out_of_reach, tree_patches, trees_code, block_len, greatest_depth, least_at, is_bad}
-use Rattle.image_lower.specs.Lowered.{refuse_at, is_full, not_full, trees_fit, lowered_file, summary, finished, lowered_at, IsLoweredImage, IsLowered, Then, no_bad_jump, unscaled}
+use Rattle.image_lower.specs.Block.{ascending_notes, tree_out_of_reach, tree_patches, trees_code, block_len, greatest_depth, least_address, is_bad}
+use Rattle.image_lower.specs.Lowered.{refuse_at, is_full, not_full, trees_fit, lowered_file, summary, finished, lowered_at, IsLoweredImage, IsLowered, AfterPart, no_bad_jump, not_scaled}
 
 by : Bool → Result (Unit {0}) Refusal
 by b = if b then Err (NoRoom 2) else Ok tt
@@ -34,33 +34,33 @@ full_not : (file : List ℕ) → is_full file ≡ false → not_full file ≡ Ok
 unfolding by
 full_not file h = ap by h
 
-pub too_far : (image : Image) (base : ℕ) (notes sorted : List JumpNote) (at : ℕ) → 1 ≤ length notes → sorted ≡ ascending notes → Some at ≡ out_of_reach image base sorted → lowered_at image base notes ≡ Err (LowerOutOfReach at)
+pub too_far : (image : Image) (base : ℕ) (notes sorted : List JumpNote) (at : ℕ) → 1 ≤ length notes → sorted ≡ ascending_notes notes → Some at ≡ tree_out_of_reach image base sorted → lowered_at image base notes ≡ Err (LowerOutOfReach at)
 unfolding lowered_at
 too_far image base [] sorted at some is far = absurd (omega (arith, some))
 too_far image base (n ∷ ns) sorted at some is far =
     ap (λ (o : Option ℕ). (refuse_at LowerOutOfReach o >>= λ _. not_full image.file) >>= λ _. finished (lowered_file image base (n ∷ ns)) (summary image (n ∷ ns)))
-        (ap (out_of_reach image base) (sym is) ∙ sym far)
+        (ap (tree_out_of_reach image base) (sym is) ∙ sym far)
 
-pub too_full : (image : Image) (base : ℕ) (notes sorted : List JumpNote) → 1 ≤ length notes → sorted ≡ ascending notes → None ≡ out_of_reach image base sorted → is_full image.file ≡ true → lowered_at image base notes ≡ Err (NoRoom 2)
+pub too_full : (image : Image) (base : ℕ) (notes sorted : List JumpNote) → 1 ≤ length notes → sorted ≡ ascending_notes notes → None ≡ tree_out_of_reach image base sorted → is_full image.file ≡ true → lowered_at image base notes ≡ Err (NoRoom 2)
 unfolding lowered_at
 too_full image base [] sorted some is far full = absurd (omega (arith, some))
 too_full image base (n ∷ ns) sorted some is far full =
     ap (λ (o : Option ℕ). (refuse_at LowerOutOfReach o >>= λ _. not_full image.file) >>= λ _. finished (lowered_file image base (n ∷ ns)) (summary image (n ∷ ns)))
-        (ap (out_of_reach image base) (sym is) ∙ sym far)
+        (ap (tree_out_of_reach image base) (sym is) ∙ sym far)
     ∙ ap (λ (r : Result (Unit {0}) Refusal). r >>= λ _. finished (lowered_file image base (n ∷ ns)) (summary image (n ∷ ns))) (full_first image.file full)
 
-pub made : (image : Image) (base : ℕ) (notes sorted : List JumpNote) (near : List Patch) (file : List ℕ) (counts : Lowered) → 1 ≤ length notes → sorted ≡ ascending notes → None ≡ out_of_reach image base sorted → is_full image.file ≡ false →
+pub made : (image : Image) (base : ℕ) (notes sorted : List JumpNote) (near : List Patch) (file : List ℕ) (counts : Lowered) → 1 ≤ length notes → sorted ≡ ascending_notes notes → None ≡ tree_out_of_reach image base sorted → is_full image.file ≡ false →
     near ≡ far_patches (text_of image) notes → file ≡ added_file image.file (near ++ tree_patches image base sorted) base (flat_map (λ i. little 4 (word_of i)) (trees_code image base sorted)) → counts ≡ summary image notes →
     lowered_at image base notes ≡ finished file counts
 unfolding lowered_at
 made image base [] sorted near file counts some is far full patches stored told = absurd (omega (arith, some))
 made image base (n ∷ ns) sorted near file counts some is far full patches stored told =
     ap (λ (o : Option ℕ). (refuse_at LowerOutOfReach o >>= λ _. not_full image.file) >>= λ _. finished (lowered_file image base (n ∷ ns)) (summary image (n ∷ ns)))
-        (ap (out_of_reach image base) (sym is) ∙ sym far)
+        (ap (tree_out_of_reach image base) (sym is) ∙ sym far)
     ∙ ap (λ (r : Result (Unit {0}) Refusal). r >>= λ _. finished (lowered_file image base (n ∷ ns)) (summary image (n ∷ ns))) (full_not image.file full)
     ∙ (ap (λ (c : Lowered). finished (lowered_file image base (n ∷ ns)) c) (sym told)
     ∙ ap (λ (f : List ℕ). finished f counts)
-        (ap (λ (ps : List Patch). added_file image.file (ps ++ tree_patches image base (ascending (n ∷ ns))) base (flat_map (λ i. little 4 (word_of i)) (trees_code image base (ascending (n ∷ ns))))) (sym patches)
+        (ap (λ (ps : List Patch). added_file image.file (ps ++ tree_patches image base (ascending_notes (n ∷ ns))) base (flat_map (λ i. little 4 (word_of i)) (trees_code image base (ascending_notes (n ∷ ns))))) (sym patches)
         ∙ (ap (λ (ss : List JumpNote). added_file image.file (near ++ tree_patches image base ss) base (flat_map (λ i. little 4 (word_of i)) (trees_code image base ss))) (sym is) ∙ sym stored)))
 
 counted : (pairs jumps block depth : ℕ) → Lowered
@@ -104,9 +104,9 @@ by_none view (Err Memory) image notes none h = tt
 
 -- ---- the parts before
 
-pub past_bad : {X : Type 0} (view : X → List ℕ × Lowered) (r : Result X Stop) (image : Image) (notes : List JumpNote) → None ≡ least_at (is_bad image notes) notes → AnswersBy view r (IsLoweredImage image notes) →
-    AnswersBy view r (Then (no_bad_jump image notes) (λ _. IsLoweredImage image notes))
-past_bad view r image notes none h = subst (λ (o : Option ℕ). AnswersBy view r (Then (refuse_at BadJump o) (λ _. IsLoweredImage image notes))) none h
+pub past_bad : {X : Type 0} (view : X → List ℕ × Lowered) (r : Result X Stop) (image : Image) (notes : List JumpNote) → None ≡ least_address (is_bad image notes) notes → AnswersBy view r (IsLoweredImage image notes) →
+    AnswersBy view r (AfterPart (no_bad_jump image notes) (λ _. IsLoweredImage image notes))
+past_bad view r image notes none h = subst (λ (o : Option ℕ). AnswersBy view r (AfterPart (refuse_at BadJump o) (λ _. IsLoweredImage image notes))) none h
 
 pub file_is : (file : List ℕ) (image : Image) → image_of file ≡ Ok image → image.file ≡ file
 unfolding contents
@@ -117,11 +117,11 @@ none_of None e = refl
 none_of (Some k) e = absurd cc
 
 pub passed : {X : Type 0} (view : X → List ℕ × Lowered) (r : Result X Stop) (image jumps : List ℕ) (notes : List JumpNote) (original : Image) → read_jumps jumps ≡ Ok notes → image_of image ≡ Ok original → original.keyed_segment ≡ None →
-    AnswersBy view r (Then (no_bad_jump original notes) (λ _. IsLoweredImage original notes)) → AnswersBy view r (IsLowered image jumps)
+    AnswersBy view r (AfterPart (no_bad_jump original notes) (λ _. IsLoweredImage original notes)) → AnswersBy view r (IsLowered image jumps)
 unfolding IsLowered
 passed view r image jumps notes original listed read plain h =
-    let next : List JumpNote → Image → Result (List ℕ × Lowered) Refusal → Type 0 = λ ns i. Then (no_bad_jump i ns) (λ _. IsLoweredImage i ns) in
-    let k : AnswersBy view r (Then (unscaled original.keyed_segment) (λ _. next notes original)) = subst (λ (o : Option Keyed). AnswersBy view r (Then (unscaled o) (λ _. next notes original))) (sym plain) h in
-    let i : AnswersBy view r (Then (image_of image) (λ o. Then (unscaled o.keyed_segment) (λ _. next notes o))) =
-        subst (λ (x : Result Image Refusal). AnswersBy view r (Then x (λ o. Then (unscaled o.keyed_segment) (λ _. next notes o)))) (sym read) k in
-    subst (λ (x : Result (List JumpNote) Refusal). AnswersBy view r (Then x (λ ns. Then (image_of image) (λ o. Then (unscaled o.keyed_segment) (λ _. next ns o))))) (sym listed) i
+    let next : List JumpNote → Image → Result (List ℕ × Lowered) Refusal → Type 0 = λ ns i. AfterPart (no_bad_jump i ns) (λ _. IsLoweredImage i ns) in
+    let k : AnswersBy view r (AfterPart (not_scaled original.keyed_segment) (λ _. next notes original)) = subst (λ (o : Option Keyed). AnswersBy view r (AfterPart (not_scaled o) (λ _. next notes original))) (sym plain) h in
+    let i : AnswersBy view r (AfterPart (image_of image) (λ o. AfterPart (not_scaled o.keyed_segment) (λ _. next notes o))) =
+        subst (λ (x : Result Image Refusal). AnswersBy view r (AfterPart x (λ o. AfterPart (not_scaled o.keyed_segment) (λ _. next notes o)))) (sym read) k in
+    subst (λ (x : Result (List JumpNote) Refusal). AnswersBy view r (AfterPart x (λ ns. AfterPart (image_of image) (λ o. AfterPart (not_scaled o.keyed_segment) (λ _. next ns o))))) (sym listed) i

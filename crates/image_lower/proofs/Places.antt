@@ -8,7 +8,7 @@ use Rattle.std.proofs.lemmas.List.Sums.{fold-append}
 use Rattle.std.proofs.lemmas.Bool.{lt-ltb}
 use Rattle.std.proofs.lemmas.Bool.Decides.{nat_tests}
 use Rattle.jump_lists.specs.declared.notes.JumpNote.{JumpNote}
-use Rattle.image_lower.specs.Block.{least_at, lesser, insert_note, put_note}
+use Rattle.image_lower.specs.Block.{least_address, lesser_address, insert_note, put_note}
 
 -- ---- a note's place
 
@@ -83,19 +83,19 @@ ascend sorted new k b notes i note lt is same put before placed =
 
 -- ---- the least bad one
 
-pub least_first : (test : JumpNote → Bool) (some : List JumpNote) (first : JumpNote) (later : Option ℕ) → 1 ≤ length some → first ≡ get_or some 0 first → later ≡ least_at test (take (length some - 1) (drop 1 some)) → test first ≡ true →
-    Some (lesser first.at later) ≡ least_at test some
+pub least_first : (test : JumpNote → Bool) (some : List JumpNote) (first : JumpNote) (later : Option ℕ) → 1 ≤ length some → first ≡ get_or some 0 first → later ≡ least_address test (take (length some - 1) (drop 1 some)) → test first ≡ true →
+    Some (lesser_address first.at later) ≡ least_address test some
 least_first test [] first later lt is rest bad = absurd (omega (arith, lt))
 least_first test (x ∷ xs) first later lt is rest bad =
     let here : test x ≡ true = ap test (sym is) ∙ bad in
     let whole : take (length (x ∷ xs) - 1) xs ≡ xs = take_all (length (x ∷ xs) - 1) xs (omega arith) in
-    let rest2 : later ≡ least_at test xs = rest ∙ ap (least_at test) whole in
-    ap (λ (n : JumpNote). Some (lesser n.at later)) is ∙ (ap (λ (o : Option ℕ). Some (lesser x.at o)) rest2 ∙ sym (pick (test x) (Some (lesser x.at (least_at test xs))) (least_at test xs) here))
+    let rest2 : later ≡ least_address test xs = rest ∙ ap (least_address test) whole in
+    ap (λ (n : JumpNote). Some (lesser_address n.at later)) is ∙ (ap (λ (o : Option ℕ). Some (lesser_address x.at o)) rest2 ∙ sym (pick (test x) (Some (lesser_address x.at (least_address test xs))) (least_address test xs) here))
 
-pub least_rest : (test : JumpNote → Bool) (some : List JumpNote) (first : JumpNote) (later : Option ℕ) → 1 ≤ length some → first ≡ get_or some 0 first → later ≡ least_at test (take (length some - 1) (drop 1 some)) → test first ≡ false →
-    later ≡ least_at test some
+pub least_rest : (test : JumpNote → Bool) (some : List JumpNote) (first : JumpNote) (later : Option ℕ) → 1 ≤ length some → first ≡ get_or some 0 first → later ≡ least_address test (take (length some - 1) (drop 1 some)) → test first ≡ false →
+    later ≡ least_address test some
 least_rest test [] first later lt is rest good = absurd (omega (arith, lt))
 least_rest test (x ∷ xs) first later lt is rest good =
     let here : test x ≡ false = ap test (sym is) ∙ good in
     let whole : take (length (x ∷ xs) - 1) xs ≡ xs = take_all (length (x ∷ xs) - 1) xs (omega arith) in
-    rest ∙ ap (least_at test) whole ∙ sym (pass (test x) (Some (lesser x.at (least_at test xs))) (least_at test xs) here)
+    rest ∙ ap (least_address test) whole ∙ sym (pass (test x) (Some (lesser_address x.at (least_address test xs))) (least_address test xs) here)

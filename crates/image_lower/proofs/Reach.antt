@@ -6,7 +6,7 @@ use Rattle.std.proofs.lemmas.Bool.Decides.{nat_tests}
 use Rattle.scale_base.specs.declared.instruction.Instr.TheVariants as instr
 use Rattle.scale_base.specs.Word.{FieldsInRange, IsSignedField, IsEven}
 use Rattle.rv_encode.specs.Jumps.{distance, Reaches}
-use Rattle.image_lower.specs.FarJumps.{is_even, is_field, fits_jal, reaches}
+use Rattle.image_lower.specs.FarJumps.{is_even_offset, is_jal_field, fits_jal, jal_reaches}
 
 pub offset_fits : (z : ℤ) → fits_jal z ≡ true → IsEven z × IsSignedField 21 z
 offset_fits (pos n) h = let p = and_parts (n % 2 == 0) (nat_lt n (2 ^ 20)) h in (grind (arith, nat_tests), grind (arith, nat_tests))
@@ -21,12 +21,12 @@ is_false true h = absurd (h refl)
 is_false false h = refl
 
 -- what the test says, as the definition says it
-pub reaches_as : (from to : ℕ) (r : Bool) → (IsTrue r ↔ Reaches from to) → r ≡ reaches from to
+pub reaches_as : (from to : ℕ) (r : Bool) → (IsTrue r ↔ Reaches from to) → r ≡ jal_reaches from to
 reaches_as from to true h = let p = h.0 refl in sym (fits_offset (distance from to) p.0 p.1)
 reaches_as from to false h =
-    is_false (reaches from to) (λ e. let never : false ≡ true = h.1 (offset_fits (distance from to) e) in cc)
+    is_false (jal_reaches from to) (λ e. let never : false ≡ true = h.1 (offset_fits (distance from to) e) in cc)
 
-pub near_fits : (at rd to : ℕ) → rd ≤ 1 → reaches at to ≡ true → FieldsInRange (instr.Jal rd (distance at to))
+pub near_fits : (at rd to : ℕ) → rd ≤ 1 → jal_reaches at to ≡ true → FieldsInRange (instr.Jal rd (distance at to))
 near_fits at rd to low h = let p = offset_fits (distance at to) h in (omega arith, p.0, p.1)
 
 pub fits_as : (z : ℤ) (a b : Bool) → (IsTrue a ↔ IsEven z) → (IsTrue b ↔ IsSignedField 21 z) → (a && b) ≡ fits_jal z

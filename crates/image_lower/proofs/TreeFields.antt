@@ -14,7 +14,7 @@ use Rattle.scale_base.specs.Word.{FieldsInRange, IsSignedField}
 use Rattle.scale_base.specs.Reading.{signed_of}
 use Rattle.rv_encode.specs.Jumps.{distance}
 use Rattle.image_lower.specs.FarJumps.{fits_jal}
-use Rattle.image_lower.specs.Trees.{upper_part, lower_part, first_of, jump, leaf, fork, tree, fits, are_alike, has_bit, lacks_bit}
+use Rattle.image_lower.specs.Trees.{upper_part, lower_part, first_target, tree_jump, leaf, fork, tree, fits, are_alike, has_bit, lacks_bit}
 use Rattle.image_lower.proofs.Reach.{offset_fits}
 use Rattle.image_lower.proofs.TreeLaws.{Parts, parts, fork_len, pick, pass}
 
@@ -22,7 +22,7 @@ signed_fits : (n : ℕ) → n < 2 ^ 12 → (b : Bool) → nat_lt n (2 ^ 11) ≡ 
 signed_fits n small true e = let low : n < 2 ^ 11 = grind (arith, nat_tests) in omega (arith, low)
 signed_fits n small false e = let high : 2 ^ 11 ≤ n = grind (arith, nat_tests) in omega (arith, high, small)
 
-pub jump_fits : (from to : ℕ) → fits (jump from to) ≡ true → FieldsInRange (jump from to)
+pub jump_fits : (from to : ℕ) → fits (tree_jump from to) ≡ true → FieldsInRange (tree_jump from to)
 jump_fits from to h = let p = offset_fits (distance (from % 2 ^ 32) (to % 2 ^ 32)) h in (omega arith, p.0, p.1)
 
 lui_fields : (rs c : ℕ) → rs < 32 → FieldsInRange (instr.Lui rs (upper_part c))
@@ -39,10 +39,10 @@ blt_fields rs n small short = (small, omega arith, omega arith, omega (arith, sh
 
 leaf_fields : (rs at to : ℕ) → rs < 32 → list_all fits (leaf rs at to) ≡ true → All FieldsInRange (leaf rs at to)
 leaf_fields rs at to small h =
-    let p = and_parts (fits (jump (at + 8) to)) true h in
-    let last : All FieldsInRange (jump (at + 8) to ∷ []) = All-cons FieldsInRange (jump (at + 8) to) [] (jump_fits (at + 8) to p.0) (All-nil FieldsInRange) in
-    All-cons FieldsInRange (instr.Lui rs (upper_part to)) (instr.Imm Addi rs rs (lower_part to) ∷ jump (at + 8) to ∷ []) (lui_fields rs to small)
-    (All-cons FieldsInRange (instr.Imm Addi rs rs (lower_part to)) (jump (at + 8) to ∷ []) (addi_fields rs to small) last)
+    let p = and_parts (fits (tree_jump (at + 8) to)) true h in
+    let last : All FieldsInRange (tree_jump (at + 8) to ∷ []) = All-cons FieldsInRange (tree_jump (at + 8) to) [] (jump_fits (at + 8) to p.0) (All-nil FieldsInRange) in
+    All-cons FieldsInRange (instr.Lui rs (upper_part to)) (instr.Imm Addi rs rs (lower_part to) ∷ tree_jump (at + 8) to ∷ []) (lui_fields rs to small)
+    (All-cons FieldsInRange (instr.Imm Addi rs rs (lower_part to)) (tree_jump (at + 8) to ∷ []) (addi_fields rs to small) last)
 
 fork_fields : (rs shift : ℕ) (first second : List Instr) → rs < 32 → shift < 32 → length first ≤ 1000 → All FieldsInRange first → All FieldsInRange second → All FieldsInRange (fork rs shift first second)
 fork_fields rs shift first second small low short a b =
@@ -75,7 +75,7 @@ choose false one two n f g = g refl
 
 pub tree_sound : (rs bits shifted at : ℕ) (xs : List ℕ) → rs < 32 → 1 ≤ length xs → length xs ≤ 128 → IsSound (tree rs bits shifted at xs) (length xs)
 unfolding tree
-tree_sound rs zero shifted at xs small some few = record { short = omega (arith, some); fields = leaf_fields rs at (first_of xs) small }
+tree_sound rs zero shifted at xs small some few = record { short = omega (arith, some); fields = leaf_fields rs at (first_target xs) small }
 tree_sound rs (suc b) shifted at xs small some few =
     choose (are_alike b xs) (tree rs b shifted at xs) _ (length xs)
     (λ e. tree_sound rs b shifted at xs small some few)

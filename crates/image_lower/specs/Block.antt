@@ -12,18 +12,18 @@ use Rattle.graph_runs.specs.Text.{text_of}
 use Rattle.elf_patch.specs.Stored.{little}
 use Rattle.jump_lists.specs.declared.notes.JumpNote.{JumpNote}
 use Rattle.image_lower.specs.FarJumps.{far_jump}
-use Rattle.image_lower.specs.Trees.{whole_tree, tree_depth, jump, fits}
+use Rattle.image_lower.specs.Trees.{whole_tree, tree_depth, tree_jump, fits}
 
 -- ---- which noted jumps may be lowered
 
 -- the register of a `jalr x0,0(rs)` with another register than x0 and x1
-abbrev pub register_of : Option Instr → Option ℕ
-register_of (Some (instr.Jalr rd rs offset)) = if (rd == 0) && int_eq offset (pos 0) && not ((rs == 0) || (rs == 1)) then Some rs else None
-register_of i = None
+abbrev pub jump_register : Option Instr → Option ℕ
+jump_register (Some (instr.Jalr rd rs offset)) = if (rd == 0) && int_eq offset (pos 0) && not ((rs == 0) || (rs == 1)) then Some rs else None
+jump_register i = None
 
 -- that of the word of the text at an address
 abbrev pub register_at : Image → ℕ → Option ℕ
-register_at image at = register_of (option_and_then instr_of (text_word image at))
+register_at image at = jump_register (option_and_then instr_of (text_word image at))
 
 abbrev pub is_twice : List JumpNote → ℕ → Bool
 is_twice notes at = nat_lt 1 (count_by (λ n. n.at == at) notes)
@@ -35,14 +35,14 @@ is_bad image notes note =
     || not (list_all (is_word_address image) note.targets)
 
 -- the lesser of an address and another, if there is one
-abbrev pub lesser : ℕ → Option ℕ → ℕ
-lesser at None = at
-lesser at (Some other) = if nat_lt other at then other else at
+abbrev pub lesser_address : ℕ → Option ℕ → ℕ
+lesser_address at None = at
+lesser_address at (Some other) = if nat_lt other at then other else at
 
 -- the least address of the notes that pass a test
-abbrev pub least_at : (JumpNote → Bool) → List JumpNote → Option ℕ
-least_at test [] = None
-least_at test (n ∷ ns) = if test n then Some (lesser n.at (least_at test ns)) else least_at test ns
+abbrev pub least_address : (JumpNote → Bool) → List JumpNote → Option ℕ
+least_address test [] = None
+least_address test (n ∷ ns) = if test n then Some (lesser_address n.at (least_address test ns)) else least_address test ns
 
 -- ---- the block
 
@@ -55,12 +55,12 @@ abbrev pub put_note : List JumpNote → ℕ → JumpNote → List JumpNote
 put_note xs k n = take k xs ++ n ∷ drop k xs
 
 -- the notes in ascending order of their addresses
-unfoldable pub ascending : List JumpNote → List JumpNote
-ascending notes = fold insert_note [] notes
+unfoldable pub ascending_notes : List JumpNote → List JumpNote
+ascending_notes notes = fold insert_note [] notes
 
 -- the jump from a note to a tree at an address, and those of the tree, reach what they jump to
 abbrev pub is_in_reach : (at : ℕ) → JumpNote → List Instr → Bool
-is_in_reach at n code = fits (jump n.at at) && list_all fits code
+is_in_reach at n code = fits (tree_jump n.at at) && list_all fits code
 
 module _ (image : Image) where
   abbrev pub register : JumpNote → ℕ
@@ -78,24 +78,24 @@ module _ (image : Image) where
   -- each noted jump becomes a jump to its tree
   abbrev pub tree_patches : (at : ℕ) → List JumpNote → List Patch
   tree_patches at [] = []
-  tree_patches at (n ∷ ns) = record { at = n.at; word = word_of (jump n.at at) } ∷ tree_patches (at + 4 * length (note_code at n)) ns
+  tree_patches at (n ∷ ns) = record { at = n.at; word = word_of (tree_jump n.at at) } ∷ tree_patches (at + 4 * length (note_code at n)) ns
 
   -- the jump from a note to its tree, and those of the tree
-  abbrev pub is_near : (at : ℕ) → JumpNote → Bool
-  is_near at n = is_in_reach at n (note_code at n)
+  abbrev pub is_tree_near : (at : ℕ) → JumpNote → Bool
+  is_tree_near at n = is_in_reach at n (note_code at n)
 
   -- the least noted jump from which the jump to its tree, or one of that tree, doesn't fit. The notes ascend
-  abbrev pub out_of_reach : (at : ℕ) → List JumpNote → Option ℕ
-  out_of_reach at [] = None
-  out_of_reach at (n ∷ ns) =
-      if is_near at n then out_of_reach (at + 4 * length (note_code at n)) ns
+  abbrev pub tree_out_of_reach : (at : ℕ) → List JumpNote → Option ℕ
+  tree_out_of_reach at [] = None
+  tree_out_of_reach at (n ∷ ns) =
+      if is_tree_near at n then tree_out_of_reach (at + 4 * length (note_code at n)) ns
       else Some n.at
 
   abbrev pub block_code : (base : ℕ) → List JumpNote → List Instr
-  block_code base notes = trees_code base (ascending notes)
+  block_code base notes = trees_code base (ascending_notes notes)
 
-  abbrev pub block_bytes : (base : ℕ) → List JumpNote → List ℕ
-  block_bytes base notes = flat_map (λ i. little 4 (word_of i)) (block_code base notes)
+  abbrev pub trees_bytes : (base : ℕ) → List JumpNote → List ℕ
+  trees_bytes base notes = flat_map (λ i. little 4 (word_of i)) (block_code base notes)
 
   -- its length is that at any base
   abbrev pub block_len : List JumpNote → ℕ

@@ -6,5 +6,5 @@ use Rattle.jump_lists.specs.declared.notes.JumpNote.{JumpNote}
 use Rattle.image_lower.specs.FarJumps.{is_noted}
 
 -- the list holds the entry, the targets of the branches and JALs of the text, and those of the noted jumps
-abbrev pub AreEntered : Text → List JumpNote → List ℕ → Type 0
-AreEntered t notes entered = (v : ℕ) → (is_target t v || is_noted notes v) ≡ list_any (λ u. u == v) entered
+abbrev pub AreWaysIn : Text → List JumpNote → List ℕ → Type 0
+AreWaysIn t notes entered = (v : ℕ) → (is_target t v || is_noted notes v) ≡ list_any (λ u. u == v) entered

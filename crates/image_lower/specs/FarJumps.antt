@@ -8,27 +8,27 @@ use Rattle.scale_base.specs.declared.instruction.Instr.TheVariants as instr
 use Rattle.scale_base.specs.declared.ranges.Patch.{Patch}
 use Rattle.scale_base.specs.Arith.{plus, moved_by}
 use Rattle.scale_base.specs.Word.{word_of}
-use Rattle.graph_runs.specs.Text.{Text, in_text, instr_at, is_target, follows}
+use Rattle.graph_runs.specs.Text.{Text, is_text_address, instr_at, is_target, follows}
 use Rattle.code_text.specs.Table.{all_addresses}
 use Rattle.rv_encode.specs.Jumps.{distance}
 use Rattle.jump_lists.specs.declared.notes.JumpNote.{JumpNote}
 
 -- ---- reach
 
-abbrev pub is_even : ℤ → Bool
-is_even (pos n) = n % 2 == 0
-is_even (negsuc n) = n % 2 == 1
+abbrev pub is_even_offset : ℤ → Bool
+is_even_offset (pos n) = n % 2 == 0
+is_even_offset (negsuc n) = n % 2 == 1
 
-abbrev pub is_field : ℤ → Bool
-is_field (pos n) = nat_lt n (2 ^ 20)
-is_field (negsuc n) = nat_lt n (2 ^ 20)
+abbrev pub is_jal_field : ℤ → Bool
+is_jal_field (pos n) = nat_lt n (2 ^ 20)
+is_jal_field (negsuc n) = nat_lt n (2 ^ 20)
 
 -- a JAL has an offset of 21 bits, which is even
 abbrev pub fits_jal : ℤ → Bool
-fits_jal z = is_even z && is_field z
+fits_jal z = is_even_offset z && is_jal_field z
 
-abbrev pub reaches : ℕ → ℕ → Bool
-reaches from to = fits_jal (distance from to)
+abbrev pub jal_reaches : ℕ → ℕ → Bool
+jal_reaches from to = fits_jal (distance from to)
 
 -- ---- the jump that stands for a far one
 
@@ -43,7 +43,7 @@ is_noted notes v = list_any (λ n. list_any (λ u. u == v) n.targets) notes
 module _ (t : Text) where
   -- the JAL at an address to a target in the text and in its reach
   abbrev pub near_jump : ℕ → ℕ → ℕ → Option Instr
-  near_jump at rd to = if (to % 4 == 0) && in_text t to && reaches at to then Some (instr.Jal rd (distance at to)) else None
+  near_jump at rd to = if (to % 4 == 0) && is_text_address t to && jal_reaches at to then Some (instr.Jal rd (distance at to)) else None
 
   -- the JAL for the JALR at an address and the AUIPC before it: both by one register, which isn't x0, and with rd x0 or x1
   abbrev pub pair_jump : ℕ → Option Instr → Option Instr → Option Instr

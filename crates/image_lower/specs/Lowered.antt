@@ -14,7 +14,7 @@ use Rattle.jump_lists.specs.declared.notes.JumpNote.{JumpNote}
 use Rattle.jump_lists.specs.Jumps.{read_jumps}
 use Rattle.image_lower.specs.declared.lowering.Lowered.{Lowered}
 use Rattle.image_lower.specs.FarJumps.{far_patches}
-use Rattle.image_lower.specs.Block.{is_bad, least_at, ascending, tree_patches, out_of_reach, block_bytes, block_len, greatest_depth}
+use Rattle.image_lower.specs.Block.{is_bad, least_address, ascending_notes, tree_patches, tree_out_of_reach, trees_bytes, block_len, greatest_depth}
 
 -- the refusal of an address, where there is one
 abbrev pub refuse_at : (ℕ → Refusal) → Option ℕ → Result (Unit {0}) Refusal
@@ -22,9 +22,9 @@ refuse_at refuse None = Ok tt
 refuse_at refuse (Some at) = Err (refuse at)
 
 -- the image has no keyed segment
-abbrev pub unscaled : Option Keyed → Result (Unit {0}) Refusal
-unscaled None = Ok tt
-unscaled (Some keyed) = Err AlreadyScaled
+abbrev pub not_scaled : Option Keyed → Result (Unit {0}) Refusal
+not_scaled None = Ok tt
+not_scaled (Some keyed) = Err AlreadyScaled
 
 -- the number of the refusal of a file that is no image
 abbrev pub refusal_number : Refusal → ℕ
@@ -56,17 +56,17 @@ not_full file = if is_full file then Err (NoRoom 2) else Ok tt
 module _ (image : Image) where
   -- the words that are replaced, where the trees begin at a base
   abbrev pub all_patches : (base : ℕ) → List JumpNote → List Patch
-  all_patches base notes = far_patches (text_of image) notes ++ tree_patches image base (ascending notes)
+  all_patches base notes = far_patches (text_of image) notes ++ tree_patches image base (ascending_notes notes)
 
   -- the file made
   abbrev pub lowered_file : (base : ℕ) → List JumpNote → List ℕ
   lowered_file base [] = patched image.file (far_patches (text_of image) [])
-  lowered_file base (n ∷ ns) = added_file image.file (all_patches base (n ∷ ns)) base (block_bytes image base (n ∷ ns))
+  lowered_file base (n ∷ ns) = added_file image.file (all_patches base (n ∷ ns)) base (trees_bytes image base (n ∷ ns))
 
   -- where trees are added, they are in reach, and there is a number for their section
   abbrev pub trees_fit : (base : ℕ) → List JumpNote → Result (Unit {0}) Refusal
   trees_fit base [] = Ok tt
-  trees_fit base (n ∷ ns) = refuse_at LowerOutOfReach (out_of_reach image base (ascending (n ∷ ns))) >>= λ _. not_full image.file
+  trees_fit base (n ∷ ns) = refuse_at LowerOutOfReach (tree_out_of_reach image base (ascending_notes (n ∷ ns))) >>= λ _. not_full image.file
 
   -- what was lowered
   abbrev pub summary : List JumpNote → Lowered
@@ -82,12 +82,12 @@ module _ (image : Image) where
   lowered_at base notes = trees_fit base notes >>= λ _. finished (lowered_file base notes) (summary notes)
 
   abbrev pub no_bad_jump : List JumpNote → Result (Unit {0}) Refusal
-  no_bad_jump notes = refuse_at BadJump (least_at (is_bad image notes) notes)
+  no_bad_jump notes = refuse_at BadJump (least_address (is_bad image notes) notes)
 
 -- a part that may refuse, and what follows it
-abbrev pub Then : {A B : Type 0} → Result A Refusal → (A → Result B Refusal → Type 0) → Result B Refusal → Type 0
-Then (Err refusal) next answer = answer ≡ Err refusal
-Then (Ok part) next answer = next part answer
+abbrev pub AfterPart : {A B : Type 0} → Result A Refusal → (A → Result B Refusal → Type 0) → Result B Refusal → Type 0
+AfterPart (Err refusal) next answer = answer ≡ Err refusal
+AfterPart (Ok part) next answer = next part answer
 
 -- the block stands at the stub base
 abbrev pub IsLoweredImage : Image → List JumpNote → Result (List ℕ × Lowered) Refusal → Type 0
@@ -97,8 +97,8 @@ IsLoweredImage image notes answer = (base : ℕ) → IsStubBase image (block_len
 -- reach of a tree, and of the file made.
 unfoldable pub IsLowered : List ℕ → List ℕ → Result (List ℕ × Lowered) Refusal → Type 0
 IsLowered image jumps answer =
-    Then (read_jumps jumps) (λ notes.
-    Then (image_of image) (λ original.
-    Then (unscaled original.keyed_segment) (λ _.
-    Then (no_bad_jump original notes) (λ _.
+    AfterPart (read_jumps jumps) (λ notes.
+    AfterPart (image_of image) (λ original.
+    AfterPart (not_scaled original.keyed_segment) (λ _.
+    AfterPart (no_bad_jump original notes) (λ _.
     IsLoweredImage original notes)))) answer

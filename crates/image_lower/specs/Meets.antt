@@ -38,7 +38,7 @@ module _ (image : Image) (notes : List JumpNote) (base : ℕ) where
 -- ---- the two runs
 
 -- the states of the two runs are the same but for the bytes in the text of either image
-pub record AreSame (image lowered : Image) (s t : State) : Type 0 where
+pub record AreSameStates (image lowered : Image) (s t : State) : Type 0 where
   pub pc : t.pc ≡ s.pc
   pub regs : t.regs ≡ s.regs
   pub bytes : (a : ℕ) → in_text (layout_of image) a ≡ false → in_text (layout_of lowered) a ≡ false → t.bytes a ≡ s.bytes a
@@ -52,14 +52,14 @@ is_noted_jump notes v = list_any (λ n. nat_le n.at v && nat_le v n.at) notes
 
 -- How the lowered run stands where the raw one has come so far. A trap says nothing where it is at a noted jump or in the block.
 abbrev pub IsSoFar : Image → Image → List JumpNote → ℕ → Run → Run → Standing → Type 0
-IsSoFar image lowered notes base raw low GoesOn = (low.standing ≡ GoesOn) × AreSame image lowered raw.state low.state
+IsSoFar image lowered notes base raw low GoesOn = (low.standing ≡ GoesOn) × AreSameStates image lowered raw.state low.state
 IsSoFar image lowered notes base raw low (HasExited status) = (low.standing ≡ HasExited status) × (low.state.output ≡ raw.state.output)
 IsSoFar image lowered notes base raw low (HasTrapped trap) =
     is_noted_jump notes raw.state.pc ≡ false → in_block base (block_len image notes) raw.state.pc ≡ false → (low.standing ≡ HasTrapped trap) × (low.state.output ≡ raw.state.output)
 
 -- the cycles of steps by the costs of their classes
-abbrev pub cycles : (Class → ℕ) → List Stepped → ℕ
-cycles costs xs = sum_by (λ x. costs x.class) xs
+abbrev pub lowered_cycles : (Class → ℕ) → List Stepped → ℕ
+lowered_cycles costs xs = sum_by (λ x. costs x.class) xs
 
 -- what a tree of a depth costs at most
 abbrev pub tree_cycles : (Class → ℕ) → ℕ → ℕ
@@ -70,9 +70,9 @@ abbrev pub jumps_taken : List JumpNote → List Stepped → ℕ
 jumps_taken notes xs = count_by (λ x. is_noted_jump notes x.pc) xs
 
 -- the lowered run, at a number of its steps
-pub record IsFollowed (image lowered : Image) (notes : List JumpNote) (base : ℕ) (raw low : Run) : Type 0 where
+pub record FollowsLowered (image lowered : Image) (notes : List JumpNote) (base : ℕ) (raw low : Run) : Type 0 where
   pub standing : IsSoFar image lowered notes base raw low raw.standing
-  pub cycles : (costs : Class → ℕ) → cycles costs low.steps ≤ cycles costs raw.steps + jumps_taken notes raw.steps * tree_cycles costs (greatest_depth notes)
+  pub cycles : (costs : Class → ℕ) → lowered_cycles costs low.steps ≤ lowered_cycles costs raw.steps + jumps_taken notes raw.steps * tree_cycles costs (greatest_depth notes)
 
 -- ---- the law
 
@@ -99,4 +99,4 @@ pub record IsLoweredTo (image : Image) (notes : List JumpNote) (base : ℕ) (low
 abbrev pub LoweredRunsFollow : Type 0
 LoweredRunsFollow =
     (image lowered : Image) (notes : List JumpNote) (base levels : ℕ) (input : List ℕ) (n : ℕ) → IsLoweredTo image notes base lowered → KeepsToLists image notes base levels input n →
-    (m : ℕ) × IsFollowed image lowered notes base (run_of image levels input n) (run_of lowered levels input m)
+    (m : ℕ) × FollowsLowered image lowered notes base (run_of image levels input n) (run_of lowered levels input m)

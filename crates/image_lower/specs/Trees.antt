@@ -27,17 +27,17 @@ lacks_bit b x = not (has_bit b x)
 abbrev pub are_alike : ℕ → List ℕ → Bool
 are_alike b xs = list_all (has_bit b) xs || list_all (lacks_bit b) xs
 
-abbrev pub first_of : List ℕ → ℕ
-first_of [] = 0
-first_of (x ∷ xs) = x
+abbrev pub first_target : List ℕ → ℕ
+first_target [] = 0
+first_target (x ∷ xs) = x
 
 -- `jal x0` from an address to another
-abbrev pub jump : ℕ → ℕ → Instr
-jump from to = instr.Jal 0 (distance (from % 2 ^ 32) (to % 2 ^ 32))
+abbrev pub tree_jump : ℕ → ℕ → Instr
+tree_jump from to = instr.Jal 0 (distance (from % 2 ^ 32) (to % 2 ^ 32))
 
 -- the tree of one target
 abbrev pub leaf : (rs at to : ℕ) → List Instr
-leaf rs at to = instr.Lui rs (upper_part to) ∷ instr.Imm Addi rs rs (lower_part to) ∷ jump (at + 8) to ∷ []
+leaf rs at to = instr.Lui rs (upper_part to) ∷ instr.Imm Addi rs rs (lower_part to) ∷ tree_jump (at + 8) to ∷ []
 
 -- a shift, and a branch over the first tree to the second one
 abbrev pub fork : (rs shift : ℕ) → List Instr → List Instr → List Instr
@@ -45,7 +45,7 @@ fork rs shift lacking having = instr.Imm Slli rs rs (pos shift) ∷ instr.Branch
 
 -- The tree at an address, of targets that differ in their lowest `bits` bits alone. The trees round it have shifted rs by `shifted` places.
 unfoldable pub tree : (rs bits shifted at : ℕ) → List ℕ → List Instr
-tree rs zero shifted at targets = leaf rs at (first_of targets)
+tree rs zero shifted at targets = leaf rs at (first_target targets)
 tree rs (suc b) shifted at targets =
     if are_alike b targets then tree rs b shifted at targets
     else (let lacking = tree rs b (31 - b) (at + 8) (filter (lacks_bit b) targets) in

@@ -6,7 +6,7 @@ ghost use Rattle.scale_base.specs.Image.{image_of, is_in, is_word_address};
 ghost use Rattle.scale_base.specs.Word.{FieldsInRange};
 ghost use Rattle.graph_runs.specs.Text as texts;
 ghost use Rattle.code_text.specs.Walk.{Rise};
-ghost use Rattle.image_lower.specs.Entered.{AreEntered};
+ghost use Rattle.image_lower.specs.Entered.{AreWaysIn};
 ghost use Rattle.image_lower.specs.Block as block;
 
 use crate::far::far_jump;
@@ -19,7 +19,7 @@ use std::alloc::Global;
 /// The register of a `jalr x0,0(rs)` with another register than x0 and x1.
 fn register_of(instr: &Instr) -> Option<u8>
     requires { FieldsInRange instr.now }
-    ensures register { result ≡ block.register_of (Some instr.now) }
+    ensures register { result ≡ block.jump_register (Some instr.now) }
     ensures small { IfSome result (λ r. r < 32) }
 {
     match *instr {
@@ -89,7 +89,7 @@ fn all_words(view: &ImageView<'_>, targets: &[u32]) -> bool
 #[tactic(auto, using(crate::proofs::Follows::words_there))]
 fn is_bad(view: &ImageView<'_>, notes: &[JumpNote], entered: &[u32], note: &JumpNote) -> bool
     requires image { image_of view.now.file ≡ Ok view.now }
-    requires entered { AreEntered (texts.text_of view.now) notes.now entered.now }
+    requires entered { AreWaysIn (texts.text_of view.now) notes.now entered.now }
     requires rising { Rise entered.now }
     ensures { result ≡ block.is_bad view.now notes.now note.now }
 {
@@ -100,7 +100,7 @@ fn is_bad(view: &ImageView<'_>, notes: &[JumpNote], entered: &[u32], note: &Jump
 }
 
 fn lesser(at: u32, other: Option<u32>) -> u32
-    ensures { result ≡ block.lesser at other }
+    ensures { result ≡ block.lesser_address at other }
 {
     match other {
         Some(other) => { if other < at { other } else { at } }
@@ -116,9 +116,9 @@ fn least_bad_of(
     some: &[JumpNote],
 ) -> Option<u32>
     requires image { image_of view.now.file ≡ Ok view.now }
-    requires entered { AreEntered (texts.text_of view.now) notes.now entered.now }
+    requires entered { AreWaysIn (texts.text_of view.now) notes.now entered.now }
     requires rising { Rise entered.now }
-    ensures { result ≡ block.least_at (block.is_bad view.now notes.now) some.now }
+    ensures { result ≡ block.least_address (block.is_bad view.now notes.now) some.now }
 {
     match some {
         [] => None,
@@ -132,9 +132,9 @@ fn least_bad_of(
 /// The least address of a noted jump that can't be lowered.
 pub fn least_bad(view: &ImageView<'_>, notes: &[JumpNote], entered: &[u32]) -> Option<u32>
     requires image { image_of view.now.file ≡ Ok view.now }
-    requires entered { AreEntered (texts.text_of view.now) notes.now entered.now }
+    requires entered { AreWaysIn (texts.text_of view.now) notes.now entered.now }
     requires rising { Rise entered.now }
-    ensures { result ≡ block.least_at (block.is_bad view.now notes.now) notes.now }
+    ensures { result ≡ block.least_address (block.is_bad view.now notes.now) notes.now }
 {
     least_bad_of(view, notes, entered, notes)
 }
@@ -153,9 +153,9 @@ fn place_of(sorted: &[&JumpNote], at: u32) -> usize
 }
 
 /// The notes in ascending order of their addresses.
-#[tactic(auto, unfolding(crate::specs::Block::ascending))]
+#[tactic(auto, unfolding(crate::specs::Block::ascending_notes))]
 pub fn ascending<'n>(alloc: Global, notes: &'n [JumpNote]) -> Result<Vec<&'n JumpNote>, NoMemory>
-    ensures { IfOk result (λ sorted. map (λ n. n.now) sorted.items ≡ block.ascending notes.now) }
+    ensures { IfOk result (λ sorted. map (λ n. n.now) sorted.items ≡ block.ascending_notes notes.now) }
 {
     let mut sorted = Vec::new(alloc);
     for note in notes {

@@ -87,7 +87,7 @@ pub fn trees_code(
     requires notes { All (λ n. IsJumpNote n.now) sorted.now }
     ensures code { IfOk result (λ code. code.items ≡ block.trees_code view.now base (map (λ n. n.now) sorted.now)) }
     ensures short { IfOk result (λ code. length code.items ≤ 653312) }
-    ensures fields { IfOk result (λ code. block.out_of_reach view.now base (map (λ n. n.now) sorted.now) ≡ None → All FieldsInRange code.items) }
+    ensures fields { IfOk result (λ code. block.tree_out_of_reach view.now base (map (λ n. n.now) sorted.now) ≡ None → All FieldsInRange code.items) }
 {
     let mut code = Vec::new(alloc);
     let mut at = u64::from(base);
@@ -114,7 +114,7 @@ pub fn out_of_reach(
 ) -> Result<Option<u32>, NoMemory>
     requires few { length sorted.now ≤ 1024 }
     requires notes { All (λ n. IsJumpNote n.now) sorted.now }
-    ensures { IfOk result (λ far. far ≡ block.out_of_reach view.now base (map (λ n. n.now) sorted.now)) }
+    ensures { IfOk result (λ far. far ≡ block.tree_out_of_reach view.now base (map (λ n. n.now) sorted.now)) }
 {
     let mut at = u64::from(base);
     for note in sorted {
@@ -171,8 +171,8 @@ pub fn greatest_depth(alloc: Global, notes: &[JumpNote]) -> Result<u32, NoMemory
 /// The word of a jump that fits.
 #[tactic(auto, using(crate::proofs::TreeFields::jump_fits))]
 fn jump_word(from: u64, to: u64) -> u32
-    requires { trees.fits (trees.jump from to) ≡ true }
-    ensures { result ≡ word_of (trees.jump from to) }
+    requires { trees.fits (trees.tree_jump from to) ≡ true }
+    ensures { result ≡ word_of (trees.tree_jump from to) }
 {
     match encode(&jump(from, to)) {
         Some(word) => word,
@@ -189,7 +189,7 @@ pub fn tree_patches(
 ) -> Result<Vec<Patch>, NoMemory>
     requires few { length sorted.now ≤ 1024 }
     requires notes { All (λ n. IsJumpNote n.now) sorted.now }
-    requires near { block.out_of_reach view.now base (map (λ n. n.now) sorted.now) ≡ None }
+    requires near { block.tree_out_of_reach view.now base (map (λ n. n.now) sorted.now) ≡ None }
     ensures { IfOk result (λ patches. patches.items ≡ block.tree_patches view.now base (map (λ n. n.now) sorted.now)) }
 {
     let mut patches = Vec::new(alloc);

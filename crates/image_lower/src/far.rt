@@ -9,7 +9,7 @@ ghost use Rattle.code_text.specs.Walk.{IsWalked, Rise};
 ghost use Rattle.code_text.specs.Table.{word_addresses, all_addresses};
 ghost use Rattle.rv_encode.specs.Jumps as jumps;
 ghost use Rattle.image_lower.specs.FarJumps as far;
-ghost use Rattle.image_lower.specs.Entered.{AreEntered};
+ghost use Rattle.image_lower.specs.Entered.{AreWaysIn};
 
 use code_text::{instr_at, moved, targets_of};
 use elf_view::ImageView;
@@ -28,7 +28,7 @@ pub fn distance(from: u32, to: u32) -> i32
 /// Whether a JAL reaches its target.
 #[tactic(auto, using(crate::proofs::Reach::reaches_as))]
 pub fn reaches(from: u32, to: u32) -> bool
-    ensures { result ≡ far.reaches from to }
+    ensures { result ≡ far.jal_reaches from to }
 {
     jal_fits(from, to)
 }
@@ -97,7 +97,7 @@ pub fn far_jump(
     follows: bool,
 ) -> Option<Instr>
     requires image { image_of view.now.file ≡ Ok view.now }
-    requires entered { AreEntered (texts.text_of view.now) notes.now entered.now }
+    requires entered { AreWaysIn (texts.text_of view.now) notes.now entered.now }
     requires rising { Rise entered.now }
     requires follows { follows ≡ texts.follows (texts.text_of view.now) at }
     requires words { at % 4 ≡ 0 → follows ≡ true → (is_word_address view.now at ≡ true) × (is_word_address view.now (at - 4) ≡ true) × (4 ≤ at) }
@@ -119,7 +119,7 @@ pub fn entered_by(
     view: &ImageView<'_>,
     notes: &[JumpNote],
 ) -> Result<Vec<u32>, NoMemory>
-    ensures entered { IfOk result (λ entered. AreEntered (texts.text_of view.now) notes.now entered.items) }
+    ensures entered { IfOk result (λ entered. AreWaysIn (texts.text_of view.now) notes.now entered.items) }
     ensures rising { IfOk result (λ entered. Rise entered.items) }
 {
     let mut entered = targets_of(alloc, view)?;
@@ -141,7 +141,7 @@ fn far_patch(
     requires range { IsWalked view.now range }
     requires aligned { at % 4 ≡ 0 }
     requires inside { is_in at range ≡ true }
-    requires entered { AreEntered (texts.text_of view.now) notes.now entered.now }
+    requires entered { AreWaysIn (texts.text_of view.now) notes.now entered.now }
     requires rising { Rise entered.now }
     ensures { result ≡ far.far_patch (texts.text_of view.now) notes.now at }
 {
@@ -168,7 +168,7 @@ fn add_far_patches(
     range: Range,
 ) -> Result<(), NoMemory>
     requires range { IsWalked view.now range }
-    requires entered { AreEntered (texts.text_of view.now) notes.now entered.now }
+    requires entered { AreWaysIn (texts.text_of view.now) notes.now entered.now }
     requires rising { Rise entered.now }
     ensures { IfOk result (λ _. patches.new.items ≡ patches.old.items ++ filter_map (far.far_patch (texts.text_of view.now) notes.now) (word_addresses range)) }
 {
@@ -186,7 +186,7 @@ pub fn far_patches(
     notes: &[JumpNote],
     entered: &[u32],
 ) -> Result<Vec<Patch>, NoMemory>
-    requires entered { AreEntered (texts.text_of view.now) notes.now entered.now }
+    requires entered { AreWaysIn (texts.text_of view.now) notes.now entered.now }
     requires rising { Rise entered.now }
     ensures { IfOk result (λ patches. patches.items ≡ far.far_patches (texts.text_of view.now) notes.now) }
 {

@@ -71,7 +71,7 @@ fn finish(alloc: Global, file: Vec<u8>, counts: Lowered) -> Result<(Vec<u8>, Low
 }
 
 /// An image in which near jumps stand for far ones, where no jump is noted.
-#[tactic(auto, unfolding(crate::specs::Block::ascending))]
+#[tactic(auto, unfolding(crate::specs::Block::ascending_notes))]
 fn lower_far(alloc: Global, view: &ImageView<'_>, patches: &[Patch]) -> Result<(Vec<u8>, Lowered), Stop>
     requires patches { patches.now ≡ far.far_patches (texts.text_of view.now) [] }
     requires few { length patches.now < 2 ^ 32 }
@@ -113,7 +113,7 @@ fn tree_file(
     requires file { length view.now.file ≤ 4194304 }
     requires few { length sorted.now ≤ 1024 }
     requires notes { All (λ n. IsJumpNote n.now) sorted.now }
-    requires reach { block.out_of_reach view.now base (map (λ n. n.now) sorted.now) ≡ None }
+    requires reach { block.tree_out_of_reach view.now base (map (λ n. n.now) sorted.now) ≡ None }
     ensures { IfOk result (λ out. out.items ≡ added_file view.now.file (near.now ++ block.tree_patches view.now base (map (λ n. n.now) sorted.now)) base (flat_map (λ i. little 4 (word_of i)) (block.trees_code view.now base (map (λ n. n.now) sorted.now)))) }
 {
     let code = trees_code(alloc, view, base, sorted)?;
@@ -141,7 +141,7 @@ fn lower_at(
     requires near { near.now ≡ far.far_patches (texts.text_of view.now) notes.now }
     requires notes { All (λ n. IsJumpNote n.now) sorted.now }
     requires few_sorted { length sorted.now ≤ 1024 }
-    requires sorted { map (λ n. n.now) sorted.now ≡ block.ascending notes.now }
+    requires sorted { map (λ n. n.now) sorted.now ≡ block.ascending_notes notes.now }
     requires len { len ≡ block.block_len view.now notes.now }
     ensures { Answers (λ p. (p.0.items, p.1)) result (lowered.lowered_at view.now base notes.now) }
 {
@@ -193,7 +193,7 @@ fn lower_notes(
     requires file { length view.now.file ≤ 4194304 }
     requires image { image_of view.now.file ≡ Ok view.now }
     requires notes { AreJumpNotes notes.now }
-    ensures { AnswersBy (λ p. (p.0.items, p.1)) result (lowered.Then (lowered.no_bad_jump view.now notes.now) (λ _. lowered.IsLoweredImage view.now notes.now)) }
+    ensures { AnswersBy (λ p. (p.0.items, p.1)) result (lowered.AfterPart (lowered.no_bad_jump view.now notes.now) (λ _. lowered.IsLoweredImage view.now notes.now)) }
 {
     let entered = entered_by(alloc, view, notes)?;
     if let Some(at) = least_bad(view, notes, &entered) {

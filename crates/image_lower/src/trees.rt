@@ -19,7 +19,7 @@ pub fn address(place: u64) -> u32
 
 /// `jal x0` from an address to another.
 pub fn jump(from: u64, to: u64) -> Instr
-    ensures { result ≡ trees.jump from to }
+    ensures { result ≡ trees.tree_jump from to }
 {
     Instr::Jal {
         rd: 0,

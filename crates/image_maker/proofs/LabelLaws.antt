@@ -10,8 +10,8 @@ use Rattle.std.proofs.lemmas.Option.{slice_get-get_or}
 use Rattle.std.proofs.lemmas.List.{get_or_default}
 use Rattle.image_maker.specs.declared.line.Line.{Line}
 use Rattle.image_maker.specs.declared.line.Line.TheVariants.{Label, Op, BranchTo, JalTo}
-use Rattle.image_maker.specs.Assembling.{is_label, has_word, label_count, address_of, IsTwice, IsMissing, goes_to}
-use Rattle.image_maker.specs.Places.{HasPlace, IsTableOf, IsFirst, ArePlaced, lesser, least_of, IsMissingSoFar, IsMissingAt}
+use Rattle.image_maker.specs.Assembling.{is_label, has_word, label_count, line_address, IsTwice, IsMissing, goes_to}
+use Rattle.image_maker.specs.Places.{HasPlace, IsLabelTable, IsFirst, ArePlaced, lesser_number, lesser_line, IsMissingSoFar, IsMissingAt}
 
 -- ---- counts of one more line
 
@@ -45,7 +45,7 @@ first_same P Q None there back h = λ l t. h l (back l t)
 first_same P Q (Some m) there back h = record { is_so = there m h.is_so; least = λ l t. h.least l (back l t) }
 
 -- where one more is
-pub first_more : (P Q : ℕ → Type 0) (o : Option ℕ) (m : ℕ) → Q m → ((l : ℕ) → P l → Q l) → ((l : ℕ) → (m ≡ l → ⊥) → Q l → P l) → IsFirst P o → IsFirst Q (Some (lesser o m))
+pub first_more : (P Q : ℕ → Type 0) (o : Option ℕ) (m : ℕ) → Q m → ((l : ℕ) → P l → Q l) → ((l : ℕ) → (m ≡ l → ⊥) → Q l → P l) → IsFirst P o → IsFirst Q (Some (lesser_number o m))
 first_more P Q None m now there back h = record {
   is_so = now;
   least = λ l t. elim (cases_eq m l) [ inl e ↦ omega arith | inr ne ↦ absurd (h l (back l ne t)) ];
@@ -76,11 +76,11 @@ word_placed lines k x table twice at h e word other placed =
       first = first_same (IsTwice (take k lines)) (IsTwice (take (k + 1) lines)) twice (λ l t. rw (same l) t) (λ l t. rw (← same l) t) placed.first;
     }
 
-label_address : (lines : List Line) (k m at : ℕ) → k < length lines → Label m ≡ get_or lines k (Label m) → at ≡ address_of lines k → at ≡ address_of lines (k + 1)
+label_address : (lines : List Line) (k m at : ℕ) → k < length lines → Label m ≡ get_or lines k (Label m) → at ≡ line_address lines k → at ≡ line_address lines (k + 1)
 label_address lines k m at h e is = let same = count_more has_word lines k (Label m) h e in omega arith
 
-label_table : (lines : List Line) (k m at : ℕ) (table new : BTreeMap ℕ ℕ) → k < length lines → Label m ≡ get_or lines k (Label m) → at ≡ address_of lines k → Updates nat_cmp table new m (Some at)
-    → IsTableOf lines k table → IsTableOf lines (k + 1) new
+label_table : (lines : List Line) (k m at : ℕ) (table new : BTreeMap ℕ ℕ) → k < length lines → Label m ≡ get_or lines k (Label m) → at ≡ line_address lines k → Updates nat_cmp table new m (Some at)
+    → IsLabelTable lines k table → IsLabelTable lines (k + 1) new
 label_table lines k m at table new h e is made before = λ l. elim (cases_eq m l) [
   | inl same ↦ subst (λ (j : ℕ). HasPlace lines j (get nat_cmp new j) (label_count (take (k + 1) lines) j)) same here
   | inr ne ↦ rw (other l ne, count_other lines k m l h e ne) (before l)
@@ -109,7 +109,7 @@ first_placed lines k m at table new twice h e gone made placed =
 
 -- a label that stood before
 pub again_placed : (lines : List Line) (k m at old : ℕ) (table new : BTreeMap ℕ ℕ) (twice : Option ℕ) → k < length lines → Label m ≡ get_or lines k (Label m) → get nat_cmp table m ≡ Some old → Updates nat_cmp table new m (Some at)
-    → ArePlaced lines k table twice at → ArePlaced lines (k + 1) new (Some (lesser twice m)) at
+    → ArePlaced lines k table twice at → ArePlaced lines (k + 1) new (Some (lesser_number twice m)) at
 again_placed lines k m at old table new twice h e had made placed =
     let some = rw had at (placed.addresses m) in
     let one = count_same lines k m h e in
@@ -153,7 +153,7 @@ missing_same lines k l x h e other missing =
 missing_kept : (lines : List Line) (k l : ℕ) (x : Line) → k < length lines → x ≡ get_or lines k x → IsMissingSoFar lines k l → IsMissingSoFar lines (k + 1) l
 missing_kept lines k l x h e missing = let more = count_more (goes_to l) lines k x h e in let some = missing.0 in (omega arith, missing.1)
 
-pub missing_more : (lines : List Line) (k : ℕ) (x : Line) (before here : Option ℕ) → k < length lines → x ≡ get_or lines k x → IsMissingAt lines x here → IsFirst (IsMissingSoFar lines k) before → IsFirst (IsMissingSoFar lines (k + 1)) (least_of before here)
+pub missing_more : (lines : List Line) (k : ℕ) (x : Line) (before here : Option ℕ) → k < length lines → x ≡ get_or lines k x → IsMissingAt lines x here → IsFirst (IsMissingSoFar lines k) before → IsFirst (IsMissingSoFar lines (k + 1)) (lesser_line before here)
 missing_more lines k x before None h e none first = first_same (IsMissingSoFar lines k) (IsMissingSoFar lines (k + 1)) before (λ l m. missing_kept lines k l x h e m) (λ l m. back l m (goes_to l x) refl) first
   where
     back : (l : ℕ) → IsMissingSoFar lines (k + 1) l → (b : Bool) → goes_to l x ≡ b → IsMissingSoFar lines k l

@@ -12,9 +12,9 @@ use Rattle.scale_base.specs.Word.{FieldsInRange, IsEven, IsSignedField}
 use Rattle.image_maker.specs.declared.line.Line.{Line}
 use Rattle.image_maker.specs.declared.line.Line.TheVariants.{Label, Op, BranchTo, JalTo}
 use Rattle.image_maker.specs.declared.line.AsmError.TheVariants.{NoLabel, TwoLabels, Unfit, Memory}
-use Rattle.image_maker.specs.Assembling.{is_label, goes_to, has_word, label_count, words_before, address_of, Means, IsTwice, IsMissing, IsUnfit, NoneIs, Assemble}
+use Rattle.image_maker.specs.Assembling.{is_label, goes_to, has_word, label_count, words_before, line_address, Means, IsTwice, IsMissing, IsUnfit, NoneIs, Assemble}
 use Rattle.image_maker.specs.Drawing.{drawn, next}
-use Rattle.image_maker.specs.Making.{mul, div, skipped, loop, leaf, leaves, block_of, block, kind, blocks, state_at, opening, closing, program}
+use Rattle.image_maker.specs.Making.{mul, div, skipped, loop, leaf_function, leaf_functions, made_block, block, kind, blocks, state_at, opening, closing, program}
 use Rattle.image_maker.proofs.MadeLaws.{by_kind}
 
 -- ---- distances
@@ -37,7 +37,7 @@ count-replicate p n x e = sum_by-replicate (λ x. cond (p x) 1 0) n x ∙ ap (λ
 
 -- ---- labels
 
-labels_in_block : (l k sort n : ℕ) → label_count (block_of k sort n) l ≡ 0
+labels_in_block : (l k sort n : ℕ) → label_count (made_block k sort n) l ≡ 0
 labels_in_block l k sort n =
     by_kind (λ lines. label_count lines l ≡ 0) k sort n
     (count-replicate (is_label l) (1 + n % 8) mul refl)
@@ -52,27 +52,27 @@ labels_in_blocks l number (suc k) =
     let both = count-append (is_label l) (blocks number k) (block k (state_at number k)) in
     omega arith
 
-labels_in_leaf : (l j : ℕ) → label_count (leaf j) l ≡ cond (eqb l j) 1 0
+labels_in_leaf : (l j : ℕ) → label_count (leaf_function j) l ≡ cond (eqb l j) 1 0
 labels_in_leaf l j =
     let first = count-cons (is_label l) (Label j) (replicate (j + 1) mul ++ Op (Jalr 0 1 (pos 0)) ∷ []) in
     let rest = count-append (is_label l) (replicate (j + 1) mul) (Op (Jalr 0 1 (pos 0)) ∷ []) in
     let muls = count-replicate (is_label l) (j + 1) mul refl in
     omega arith
 
-labels_in_leaves : (l : ℕ) → label_count leaves l ≡ cond (eqb l 0) 1 0 + (cond (eqb l 1) 1 0 + (cond (eqb l 2) 1 0 + cond (eqb l 3) 1 0))
+labels_in_leaves : (l : ℕ) → label_count leaf_functions l ≡ cond (eqb l 0) 1 0 + (cond (eqb l 1) 1 0 + (cond (eqb l 2) 1 0 + cond (eqb l 3) 1 0))
 labels_in_leaves l =
-    let a = count-append (is_label l) (leaf 0) (leaf 1 ++ (leaf 2 ++ leaf 3)) in
-    let b = count-append (is_label l) (leaf 1) (leaf 2 ++ leaf 3) in
-    let c = count-append (is_label l) (leaf 2) (leaf 3) in
+    let a = count-append (is_label l) (leaf_function 0) (leaf_function 1 ++ (leaf_function 2 ++ leaf_function 3)) in
+    let b = count-append (is_label l) (leaf_function 1) (leaf_function 2 ++ leaf_function 3) in
+    let c = count-append (is_label l) (leaf_function 2) (leaf_function 3) in
     let w = labels_in_leaf l 0 in
     let x = labels_in_leaf l 1 in
     let y = labels_in_leaf l 2 in
     let z = labels_in_leaf l 3 in
     omega arith
 
-parts : (p : Line → Bool) (number size : ℕ) → count_by p (program number size) ≡ count_by p opening + count_by p (blocks number size) + count_by p closing + count_by p leaves
+parts : (p : Line → Bool) (number size : ℕ) → count_by p (program number size) ≡ count_by p opening + count_by p (blocks number size) + count_by p closing + count_by p leaf_functions
 parts p number size =
-    let a = count-append p (opening ++ blocks number size ++ closing) leaves in
+    let a = count-append p (opening ++ blocks number size ++ closing) leaf_functions in
     let b = count-append p (opening ++ blocks number size) closing in
     let c = count-append p opening (blocks number size) in
     omega arith
@@ -92,7 +92,7 @@ some_below l e = grind (arith, nat_tests)
 
 -- ---- lines that go to a label
 
-goes_in_block : (l k sort n : ℕ) → 4 ≤ l → count_by (goes_to l) (block_of k sort n) ≡ 0
+goes_in_block : (l k sort n : ℕ) → 4 ≤ l → count_by (goes_to l) (made_block k sort n) ≡ 0
 goes_in_block l k sort n h =
     by_kind (λ lines. count_by (goes_to l) lines ≡ 0) k sort n
     (count-replicate (goes_to l) (1 + n % 8) mul refl)
@@ -108,18 +108,18 @@ goes_in_blocks l number (suc k) h =
     let both = count-append (goes_to l) (blocks number k) (block k (state_at number k)) in
     omega arith
 
-goes_in_leaf : (l j : ℕ) → count_by (goes_to l) (leaf j) ≡ 0
+goes_in_leaf : (l j : ℕ) → count_by (goes_to l) (leaf_function j) ≡ 0
 goes_in_leaf l j =
     let first = count-cons (goes_to l) (Label j) (replicate (j + 1) mul ++ Op (Jalr 0 1 (pos 0)) ∷ []) in
     let rest = count-append (goes_to l) (replicate (j + 1) mul) (Op (Jalr 0 1 (pos 0)) ∷ []) in
     let muls = count-replicate (goes_to l) (j + 1) mul refl in
     omega arith
 
-goes_in_leaves : (l : ℕ) → count_by (goes_to l) leaves ≡ 0
+goes_in_leaves : (l : ℕ) → count_by (goes_to l) leaf_functions ≡ 0
 goes_in_leaves l =
-    let a = count-append (goes_to l) (leaf 0) (leaf 1 ++ (leaf 2 ++ leaf 3)) in
-    let b = count-append (goes_to l) (leaf 1) (leaf 2 ++ leaf 3) in
-    let c = count-append (goes_to l) (leaf 2) (leaf 3) in
+    let a = count-append (goes_to l) (leaf_function 0) (leaf_function 1 ++ (leaf_function 2 ++ leaf_function 3)) in
+    let b = count-append (goes_to l) (leaf_function 1) (leaf_function 2 ++ leaf_function 3) in
+    let c = count-append (goes_to l) (leaf_function 2) (leaf_function 3) in
     let w = goes_in_leaf l 0 in
     let x = goes_in_leaf l 1 in
     let y = goes_in_leaf l 2 in
@@ -170,7 +170,7 @@ fit_skipped q n a b = ((omega arith, omega arith, omega arith), ((omega arith, o
 fit_loop : (q : ℕ) → q < 256 → AllFit (loop q)
 fit_loop q a = ((omega arith, omega arith, omega arith), search rules)
 
-fit_block : (k sort n : ℕ) → AllFit (block_of k sort n)
+fit_block : (k sort n : ℕ) → AllFit (made_block k sort n)
 fit_block k sort n =
     by_kind AllFit k sort n (fit-replicate (1 + n % 8) mul fit-mul) (fit_skipped (k % 256) (1 + n % 16) (omega arith) (omega arith)) (fit_loop (k % 256) (omega arith)) (omega arith, tt)
 
@@ -179,7 +179,7 @@ fit_blocks number zero = tt
 fit_blocks number (suc k) =
     fit-append (blocks number k) (block k (state_at number k)) (fit_blocks number k) (fit_block k (kind (state_at number k)) (drawn (next (state_at number k))))
 
-fit_leaf : (j : ℕ) → AllFit (leaf j)
+fit_leaf : (j : ℕ) → AllFit (leaf_function j)
 fit_leaf j = (tt, fit-append (replicate (j + 1) mul) (Op (Jalr 0 1 (pos 0)) ∷ []) (fit-replicate (j + 1) mul fit-mul) (search rules))
 
 fit_opening : AllFit opening
@@ -190,36 +190,36 @@ fit_closing = search rules
 
 fit_program : (number size : ℕ) → AllFit (program number size)
 fit_program number size =
-    fit-append (opening ++ blocks number size ++ closing) leaves
+    fit-append (opening ++ blocks number size ++ closing) leaf_functions
     (fit-append (opening ++ blocks number size) closing (fit-append opening (blocks number size) fit_opening (fit_blocks number size)) fit_closing)
-    (fit-append (leaf 0) (leaf 1 ++ (leaf 2 ++ leaf 3)) (fit_leaf 0) (fit-append (leaf 1) (leaf 2 ++ leaf 3) (fit_leaf 1) (fit-append (leaf 2) (leaf 3) (fit_leaf 2) (fit_leaf 3))))
+    (fit-append (leaf_function 0) (leaf_function 1 ++ (leaf_function 2 ++ leaf_function 3)) (fit_leaf 0) (fit-append (leaf_function 1) (leaf_function 2 ++ leaf_function 3) (fit_leaf 1) (fit-append (leaf_function 2) (leaf_function 3) (fit_leaf 2) (fit_leaf 3))))
 
 -- ---- no cause but memory
 
 -- an address of a line, in a program of at most 2^17 lines
-near_lines : (lines : List Line) (j k : ℕ) → length lines ≤ 131072 → IsEven (pos (address_of lines j) -ℤ pos (address_of lines k)) × IsSignedField 21 (pos (address_of lines j) -ℤ pos (address_of lines k))
+near_lines : (lines : List Line) (j k : ℕ) → length lines ≤ 131072 → IsEven (pos (line_address lines j) -ℤ pos (line_address lines k)) × IsSignedField 21 (pos (line_address lines j) -ℤ pos (line_address lines k))
 near_lines lines j k few =
     let a = count-le has_word lines j in
     let b = count-le has_word lines k in
-    near (pos (address_of lines j) -ℤ pos (address_of lines k)) (count_by has_word (take j lines)) (count_by has_word (take k lines)) refl (omega arith) (omega arith)
+    near (pos (line_address lines j) -ℤ pos (line_address lines k)) (count_by has_word (take j lines)) (count_by has_word (take k lines)) refl (omega arith) (omega arith)
   where
     count-le : (p : Line → Bool) (xs : List Line) (i : ℕ) → count_by p (take i xs) ≤ length xs
     count-le p xs i = let a = count_by-le-length p (take i xs) in let b = length-take i xs in omega arith
 
-meant-fits : (lines : List Line) (k : ℕ) (x : Line) (i : Instr) → length lines ≤ 131072 → Fits x → Means lines (address_of lines k) x i → FieldsInRange i
+meant-fits : (lines : List Line) (k : ℕ) (x : Line) (i : Instr) → length lines ≤ 131072 → Fits x → Means lines (line_address lines k) x i → FieldsInRange i
 meant-fits lines k (Label l) i few fit m = absurd m
 meant-fits lines k (Op j) i few fit m = rw m fit
 meant-fits lines k (BranchTo op rs1 rs2 l) i few fit m = absurd fit
 meant-fits lines k (JalTo rd l) i few fit m =
     let stands = m.1 in
     let distance = near_lines lines stands.line k few in
-    let made : i ≡ Jal rd (pos (address_of lines stands.line) -ℤ pos (address_of lines k)) = m.2 ∙ ap (λ (to : ℕ). Jal rd (pos to -ℤ pos (address_of lines k))) stands.place in
+    let made : i ≡ Jal rd (pos (line_address lines stands.line) -ℤ pos (line_address lines k)) = m.2 ∙ ap (λ (to : ℕ). Jal rd (pos to -ℤ pos (line_address lines k))) stands.place in
     rw made (fit, distance.0, distance.1)
 
 none_unfit : (lines : List Line) → length lines ≤ 131072 → AllFit lines → NoneIs (IsUnfit lines)
 none_unfit lines few fit = λ k bad. bad.2 (go k bad.0 (slice_get lines k) refl bad.1)
   where
-    go : (k : ℕ) (i : Instr) (o : Option Line) → slice_get lines k ≡ o → MatchOption o ⊥ (λ line. Means lines (address_of lines k) line i) → FieldsInRange i
+    go : (k : ℕ) (i : Instr) (o : Option Line) → slice_get lines k ≡ o → MatchOption o ⊥ (λ line. Means lines (line_address lines k) line i) → FieldsInRange i
     go k i None e m = absurd m
     go k i (Some x) e m = meant-fits lines k x i few (fit-at lines k x e fit) m
 

@@ -9,11 +9,11 @@ use Rattle.scale_base.specs.declared.instruction.Instr.TheVariants.{Reg}
 use Rattle.image_maker.specs.declared.line.Line.{Line}
 use Rattle.image_maker.specs.declared.line.Line.TheVariants.{Op, JalTo}
 use Rattle.image_maker.specs.Drawing.{drawn, next}
-use Rattle.image_maker.specs.Making.{mul, skipped, loop, block_of, block, kind, blocks, state_at, opening, closing, leaves, program, headers, header_in}
+use Rattle.image_maker.specs.Making.{mul, skipped, loop, made_block, block, kind, blocks, state_at, opening, closing, leaf_functions, program, headers, header_in}
 
 -- what is so of a block of each kind
-pub by_kind : (P : List Line → Type 0) (k sort n : ℕ) → P (replicate (1 + n % 8) mul) → P (skipped (k % 256) (1 + n % 16)) → P (loop (k % 256)) → P (JalTo 1 (n % 4) ∷ []) → P (block_of k sort n)
-unfolding block_of
+pub by_kind : (P : List Line → Type 0) (k sort n : ℕ) → P (replicate (1 + n % 8) mul) → P (skipped (k % 256) (1 + n % 16)) → P (loop (k % 256)) → P (JalTo 1 (n % 4) ∷ []) → P (made_block k sort n)
+unfolding made_block
 by_kind P k sort n a b c d = go (sort == 0) (sort == 1) (sort == 2)
   where
     go : (x y z : Bool) → P (cond x (replicate (1 + n % 8) mul) (cond y (skipped (k % 256) (1 + n % 16)) (cond z (loop (k % 256)) (JalTo 1 (n % 4) ∷ []))))
@@ -22,7 +22,7 @@ by_kind P k sort n a b c d = go (sort == 0) (sort == 1) (sort == 2)
     go false false true = c
     go false false false = d
 
-short_block : (k sort n : ℕ) → length (block_of k sort n) ≤ 18
+short_block : (k sort n : ℕ) → length (made_block k sort n) ≤ 18
 short_block k sort n =
     by_kind (λ lines. length lines ≤ 18) k sort n
     (let l = length-replicate (1 + n % 8) mul in omega arith)
@@ -46,7 +46,7 @@ few_lines number k h =
 pub program_is_short : (number size : ℕ) → size ≤ 2000 → length (program number size) ≤ 131072
 program_is_short number size h =
     let first = few_lines number size h in
-    let a = length-append (opening ++ blocks number size ++ closing) leaves in
+    let a = length-append (opening ++ blocks number size ++ closing) leaf_functions in
     let b = length-append (opening ++ blocks number size) closing in
     omega arith
 

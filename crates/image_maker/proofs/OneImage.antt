@@ -9,7 +9,7 @@ use Rattle.scale_base.specs.declared.instruction.Instr.{Instr}
 use Rattle.scale_base.specs.declared.instruction.Instr.TheVariants.{Branch, Jal}
 use Rattle.image_maker.specs.declared.line.Line.{Line}
 use Rattle.image_maker.specs.declared.line.Line.TheVariants.{Label, Op, BranchTo, JalTo}
-use Rattle.image_maker.specs.Assembling.{is_label, has_word, goes_to, words_before, label_count, address_of, StandsAt, Means, LineMeans, HasLabels, IsAssembled}
+use Rattle.image_maker.specs.Assembling.{is_label, has_word, goes_to, words_before, label_count, line_address, LabelStandsAt, Means, LineMeans, HasLabels, IsAssembled}
 use Rattle.image_maker.specs.Made.{IsImageOf}
 use Rattle.image_maker.specs.PlainImage.{plain_image}
 use Rattle.image_maker.proofs.LabelLaws.{count_more, item}
@@ -57,26 +57,26 @@ label_here l (BranchTo op rs1 rs2 m) e = absurd cc
 label_here l (JalTo rd m) e = absurd cc
 
 -- a label that a line goes to stands at an address
-label_stands : (lines : List Line) (k l : ℕ) (x : Line) → HasLabels lines → slice_get lines k ≡ Some x → goes_to l x ≡ true → (to : ℕ) × StandsAt lines l to
+label_stands : (lines : List Line) (k l : ℕ) (x : Line) → HasLabels lines → slice_get lines k ≡ Some x → goes_to l x ≡ true → (to : ℕ) × LabelStandsAt lines l to
 label_stands lines k l x labels here goes = elim (cases_lt 0 (label_count lines l)) [
   | inl some ↦
       let c = counted (is_label l) lines 0 some in
-      (address_of lines c.line, record { line = c.line; here = c.here ∙ ap (λ (y : Line). Some y) (label_here l c.what c.passes); place = refl })
+      (line_address lines c.line, record { line = c.line; here = c.here ∙ ap (λ (y : Line). Some y) (label_here l c.what c.passes); place = refl })
   | inr none ↦ absurd (labels.there l (some_at (goes_to l) lines k x here goes, omega arith))
 ]
 
 goes : (l : ℕ) → (l == l) ≡ true
 goes l = grind (arith, nat_tests)
 
-line_with_word : (lines : List Line) (k : ℕ) (x : Line) → HasLabels lines → slice_get lines k ≡ Some x → has_word x ≡ true → (i : Instr) × Means lines (address_of lines k) x i
+line_with_word : (lines : List Line) (k : ℕ) (x : Line) → HasLabels lines → slice_get lines k ≡ Some x → has_word x ≡ true → (i : Instr) × Means lines (line_address lines k) x i
 line_with_word lines k (Label m) labels here has = absurd cc
 line_with_word lines k (Op j) labels here has = (j, refl)
 line_with_word lines k (BranchTo op rs1 rs2 l) labels here has =
     let to = label_stands lines k l (BranchTo op rs1 rs2 l) labels here (goes l) in
-    (Branch op rs1 rs2 (pos to.0 -ℤ pos (address_of lines k)), (to.0, to.1, refl))
+    (Branch op rs1 rs2 (pos to.0 -ℤ pos (line_address lines k)), (to.0, to.1, refl))
 line_with_word lines k (JalTo rd l) labels here has =
     let to = label_stands lines k l (JalTo rd l) labels here (goes l) in
-    (Jal rd (pos to.0 -ℤ pos (address_of lines k)), (to.0, to.1, refl))
+    (Jal rd (pos to.0 -ℤ pos (line_address lines k)), (to.0, to.1, refl))
 
 -- ---- the words of lines
 

@@ -8,7 +8,7 @@ use Rattle.scale_base.specs.declared.headers.ProgramHeader.{ProgramHeader}
 use Rattle.scale_base.specs.declared.ranges.TextPart.{TextPart}
 use Rattle.scale_base.specs.declared.ranges.Range.{Range}
 use Rattle.scale_base.specs.Rules.{AllHold}
-use Rattle.scale_base.specs.Bytes.{word_at}
+use Rattle.scale_base.specs.Bytes.{list_word_at}
 use Rattle.scale_base.specs.Elf.{e_type, e_machine, e_version, e_entry, e_phoff, e_phnum, e_shoff, e_flags, e_phentsize, program_headers}
 use Rattle.scale_base.specs.Image.{header_rules, table_rules, segment_rules, keeps_load_rules, loaded_headers, text_parts, keeps_text_rules, part_rules, text_rules, write_rules, all_text_rules, ascending, ranges_of, text_ranges, image_rules, contents, file_place, text_word}
 use Rattle.scale_base.proofs.Laws.{kept-append}
@@ -153,7 +153,7 @@ place-of file len k f h =
     let left : 65536 + 4 * k - 65536 ≡ 4 * k = omega arith in
     simp (f.headers, low, high, left)
 
-pub word-of : (file : List ℕ) (len k : ℕ) → Facts file len → Fine len → 4 * k + 4 ≤ len → text_word (contents file) (0x10000 + 4 * k) ≡ Some (word_at file (84 + 4 * k))
+pub word-of : (file : List ℕ) (len k : ℕ) → Facts file len → Fine len → 4 * k + 4 ≤ len → text_word (contents file) (0x10000 + 4 * k) ≡ Some (list_word_at file (84 + 4 * k))
 unfolding text_word
 word-of file len k f h lt =
     let low : nat_le 65536 (65536 + 4 * k) ≡ true = le-leb 65536 (65536 + 4 * k) (omega arith) in

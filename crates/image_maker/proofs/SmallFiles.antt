@@ -4,7 +4,7 @@ use Rattle.std.specs.Prelude.{◌==◌, codes, nat_lt, slice_index}
 use Rattle.std.specs.Fmt.{decimal}
 use Rattle.std.proofs.lemmas.Fmt.{length-decimal-le}
 use Rattle.image_maker.specs.Made.{IsImageOf}
-use Rattle.image_maker.specs.MadeTexts.{header_line, ranges_line, counted_line, loop_table, loop_tables, loops_text, machine_rest, machine_text}
+use Rattle.image_maker.specs.MadeTexts.{header_line, ranges_line, counted_line, loop_table, made_loop_tables, loops_text, machine_rest, machine_text}
 use Rattle.image_maker.specs.Making.{program, headers, header_in, opening, blocks, state_at, kind}
 use Rattle.image_maker.proofs.MadeLaws.{program_is_short, headers_are_low}
 use Rattle.image_maker.proofs.PlainLaw.{file-length}
@@ -70,12 +70,12 @@ short_table c header h =
     let s = length-append (codes "[[loop]]\n") (header_line header) in
     omega arith
 
-short_tables : (headers : List ℕ) (n : ℕ) → All (λ header. header + 12 < 2 ^ 32) headers → n ≤ length headers → length (loop_tables headers n) ≤ 100 * n
+short_tables : (headers : List ℕ) (n : ℕ) → All (λ header. header + 12 < 2 ^ 32) headers → n ≤ length headers → length (made_loop_tables headers n) ≤ 100 * n
 short_tables headers zero low h = omega arith
 short_tables headers (suc n) low h =
     let before = short_tables headers n low (omega arith) in
     let here = short_table n (slice_index headers n) (low n 0 (omega arith)) in
-    let both = length-append (loop_tables headers n) (loop_table n (slice_index headers n)) in
+    let both = length-append (made_loop_tables headers n) (loop_table n (slice_index headers n)) in
     omega arith
 
 -- a block has one loop or none
@@ -95,7 +95,7 @@ short_loops : (number size : ℕ) → size ≤ 2000 → length (loops_text (head
 short_loops number size h =
     let few = few_headers number size in
     let tables = short_tables (headers number size) (length (headers number size)) (headers_are_low number size h) (omega arith) in
-    let whole = length-append (codes "version = 1\n") (loop_tables (headers number size) (length (headers number size))) in
+    let whole = length-append (codes "version = 1\n") (made_loop_tables (headers number size) (length (headers number size))) in
     omega arith
 
 pub small_loops : (number size : ℕ) (heads text : List ℕ) → size ≤ 2000 → text ≡ loops_text heads → heads ≡ headers number size → length text ≤ 1048576

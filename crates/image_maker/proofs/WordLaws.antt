@@ -13,8 +13,8 @@ use Rattle.scale_base.specs.declared.instruction.Instr.TheVariants.{Branch, Jal}
 use Rattle.scale_base.specs.Word.{Encodes, FieldsInRange}
 use Rattle.image_maker.specs.declared.line.Line.{Line}
 use Rattle.image_maker.specs.declared.line.Line.TheVariants.{Label, Op, BranchTo, JalTo}
-use Rattle.image_maker.specs.Assembling.{is_label, has_word, goes_to, words_before, label_count, address_of, StandsAt, Means, LineMeans, IsUnfit, Least, HasLabels, IsAssembled}
-use Rattle.image_maker.specs.Places.{IsTableOf, instr_at, AreWords}
+use Rattle.image_maker.specs.Assembling.{is_label, has_word, goes_to, words_before, label_count, line_address, LabelStandsAt, Means, LineMeans, IsUnfit, IsLeastNumber, HasLabels, IsAssembled}
+use Rattle.image_maker.specs.Places.{IsLabelTable, line_instr, AreWords}
 use Rattle.image_maker.proofs.LabelLaws.{count_more}
 
 -- ---- counts of fronts
@@ -64,16 +64,16 @@ one_line lines l j k labels a b =
       | inr le ↦ elim (cases_eq j k) [ inl e ↦ e | inr ne ↦ absurd (apart lines l k j labels b a (omega arith)) ]
     ]
 
-one_address : (lines : List Line) (l a b : ℕ) → HasLabels lines → StandsAt lines l a → StandsAt lines l b → a ≡ b
-one_address lines l a b labels h g = h.place ∙ ap (address_of lines) (one_line lines l h.line g.line labels h.here g.here) ∙ sym g.place
+one_address : (lines : List Line) (l a b : ℕ) → HasLabels lines → LabelStandsAt lines l a → LabelStandsAt lines l b → a ≡ b
+one_address lines l a b labels h g = h.place ∙ ap (line_address lines) (one_line lines l h.line g.line labels h.here g.here) ∙ sym g.place
 
 -- ---- the instruction of a line
 
 -- the address of a label that is there
-place_of : (lines : List Line) (table : BTreeMap ℕ ℕ) (l to : ℕ) → IsTableOf lines (length lines) table → get nat_cmp table l ≡ Some to → StandsAt lines l to
+place_of : (lines : List Line) (table : BTreeMap ℕ ℕ) (l to : ℕ) → IsLabelTable lines (length lines) table → get nat_cmp table l ≡ Some to → LabelStandsAt lines l to
 place_of lines table l to h e = (rw e at (h l)).1
 
-pub place_fits : (lines : List Line) (table : BTreeMap ℕ ℕ) (l to : ℕ) → length lines ≤ 131072 → IsTableOf lines (length lines) table → get nat_cmp table l ≡ Some to → to < 2 ^ 31
+pub place_fits : (lines : List Line) (table : BTreeMap ℕ ℕ) (l to : ℕ) → length lines ≤ 131072 → IsLabelTable lines (length lines) table → get nat_cmp table l ≡ Some to → to < 2 ^ 31
 place_fits lines table l to few h e =
     let stands = place_of lines table l to h e in
     let front = count_front has_word lines stands.line in
@@ -86,26 +86,26 @@ pub record MeansOne (lines : List Line) (k : ℕ) (i : Instr) : Type 0 where
   pub means : LineMeans lines k i
   pub one : (j : Instr) → LineMeans lines k j → j ≡ i
 
-to_label : (lines : List Line) (table : BTreeMap ℕ ℕ) (l : ℕ) (f : ℕ → Instr) (o : Option ℕ) (i : Instr) → HasLabels lines → IsTableOf lines (length lines) table → get nat_cmp table l ≡ o → option_map f o ≡ Some i
-    → ((to : ℕ) × StandsAt lines l to × (i ≡ f to)) × ((j : Instr) → (to : ℕ) × StandsAt lines l to × (j ≡ f to) → j ≡ i)
+to_label : (lines : List Line) (table : BTreeMap ℕ ℕ) (l : ℕ) (f : ℕ → Instr) (o : Option ℕ) (i : Instr) → HasLabels lines → IsLabelTable lines (length lines) table → get nat_cmp table l ≡ o → option_map f o ≡ Some i
+    → ((to : ℕ) × LabelStandsAt lines l to × (i ≡ f to)) × ((j : Instr) → (to : ℕ) × LabelStandsAt lines l to × (j ≡ f to) → j ≡ i)
 to_label lines table l f None i labels h e is = absurd cc
 to_label lines table l f (Some to) i labels h e is =
     let stands = place_of lines table l to h e in
     ((to, stands, cc), λ j m. let same = one_address lines l m.0 to labels m.1 stands in let made : j ≡ f m.0 = m.2 in made ∙ ap f same ∙ cc)
 
-means_of : (lines : List Line) (table : BTreeMap ℕ ℕ) (at : ℕ) (x : Line) (i : Instr) → HasLabels lines → IsTableOf lines (length lines) table → instr_at (get nat_cmp table) at x ≡ Some i → Means lines at x i × ((j : Instr) → Means lines at x j → j ≡ i)
+means_of : (lines : List Line) (table : BTreeMap ℕ ℕ) (at : ℕ) (x : Line) (i : Instr) → HasLabels lines → IsLabelTable lines (length lines) table → line_instr (get nat_cmp table) at x ≡ Some i → Means lines at x i × ((j : Instr) → Means lines at x j → j ≡ i)
 means_of lines table at (Label m) i labels h e = absurd cc
 means_of lines table at (Op j) i labels h e = (cc, λ n m. cc)
 means_of lines table at (BranchTo op rs1 rs2 l) i labels h e = to_label lines table l (λ to. Branch op rs1 rs2 (pos to -ℤ pos at)) (get nat_cmp table l) i labels h refl e
 means_of lines table at (JalTo rd l) i labels h e = to_label lines table l (λ to. Jal rd (pos to -ℤ pos at)) (get nat_cmp table l) i labels h refl e
 
-pub line_means : (lines : List Line) (table : BTreeMap ℕ ℕ) (k at : ℕ) (x : Line) (i : Instr) → HasLabels lines → IsTableOf lines (length lines) table → slice_get lines k ≡ Some x → at ≡ address_of lines k
-    → instr_at (get nat_cmp table) at x ≡ Some i → MeansOne lines k i
+pub line_means : (lines : List Line) (table : BTreeMap ℕ ℕ) (k at : ℕ) (x : Line) (i : Instr) → HasLabels lines → IsLabelTable lines (length lines) table → slice_get lines k ≡ Some x → at ≡ line_address lines k
+    → line_instr (get nat_cmp table) at x ≡ Some i → MeansOne lines k i
 line_means lines table k at x i labels h here place e =
-    let m = means_of lines table (address_of lines k) x i labels h (rw place at e) in
+    let m = means_of lines table (line_address lines k) x i labels h (rw place at e) in
     record { means = rw here m.0; one = λ j n. m.1 j (rw here at n) }
 
-no_label : (lines : List Line) (table : BTreeMap ℕ ℕ) (k l : ℕ) (x : Line) (f : ℕ → Instr) (o : Option ℕ) → HasLabels lines → IsTableOf lines (length lines) table → slice_get lines k ≡ Some x → goes_to l x ≡ true → get nat_cmp table l ≡ o → option_map f o ≡ None → ⊥
+no_label : (lines : List Line) (table : BTreeMap ℕ ℕ) (k l : ℕ) (x : Line) (f : ℕ → Instr) (o : Option ℕ) → HasLabels lines → IsLabelTable lines (length lines) table → slice_get lines k ≡ Some x → goes_to l x ≡ true → get nat_cmp table l ≡ o → option_map f o ≡ None → ⊥
 no_label lines table k l x f (Some to) labels h here goes e is = cc
 no_label lines table k l x f None labels h here goes e is =
     let gone : label_count (take (length lines) lines) l ≡ 0 = rw e at (h l) in
@@ -116,7 +116,7 @@ goes : (l : ℕ) → (l == l) ≡ true
 goes l = grind (arith, nat_tests)
 
 -- a line without an instruction is a label
-no_instr : (lines : List Line) (table : BTreeMap ℕ ℕ) (k at : ℕ) (x : Line) → HasLabels lines → IsTableOf lines (length lines) table → slice_get lines k ≡ Some x → instr_at (get nat_cmp table) at x ≡ None → has_word x ≡ false
+no_instr : (lines : List Line) (table : BTreeMap ℕ ℕ) (k at : ℕ) (x : Line) → HasLabels lines → IsLabelTable lines (length lines) table → slice_get lines k ≡ Some x → line_instr (get nat_cmp table) at x ≡ None → has_word x ≡ false
 no_instr lines table k at (Label m) labels h here e = refl
 no_instr lines table k at (Op j) labels h here e = absurd cc
 no_instr lines table k at (BranchTo op rs1 rs2 l) labels h here e = absurd (no_label lines table k l (BranchTo op rs1 rs2 l) (λ to. Branch op rs1 rs2 (pos to -ℤ pos at)) (get nat_cmp table l) labels h here (goes l) refl e)
@@ -131,15 +131,15 @@ has_instr lines at (JalTo rd l) i h = refl
 means_word : (lines : List Line) (k : ℕ) (i : Instr) → LineMeans lines k i → (x : Line) × (slice_get lines k ≡ Some x) × (has_word x ≡ true)
 means_word lines k i h = go (slice_get lines k) refl h
   where
-    go : (o : Option Line) → slice_get lines k ≡ o → MatchOption o ⊥ (λ line. Means lines (address_of lines k) line i) → (x : Line) × (slice_get lines k ≡ Some x) × (has_word x ≡ true)
+    go : (o : Option Line) → slice_get lines k ≡ o → MatchOption o ⊥ (λ line. Means lines (line_address lines k) line i) → (x : Line) × (slice_get lines k ≡ Some x) × (has_word x ≡ true)
     go None e m = absurd m
-    go (Some x) e m = (x, e, has_instr lines (address_of lines k) x i m)
+    go (Some x) e m = (x, e, has_instr lines (line_address lines k) x i m)
 
 -- ---- one more line
 
 -- a label has no word
-pub label_passed : (lines : List Line) (table : BTreeMap ℕ ℕ) (k at : ℕ) (x : Line) (words : List ℕ) → k < length lines → x ≡ get_or lines k x → slice_get lines k ≡ Some x → HasLabels lines → IsTableOf lines (length lines) table
-    → instr_at (get nat_cmp table) at x ≡ None → AreWords lines k words → AreWords lines (k + 1) words
+pub label_passed : (lines : List Line) (table : BTreeMap ℕ ℕ) (k at : ℕ) (x : Line) (words : List ℕ) → k < length lines → x ≡ get_or lines k x → slice_get lines k ≡ Some x → HasLabels lines → IsLabelTable lines (length lines) table
+    → line_instr (get nat_cmp table) at x ≡ None → AreWords lines k words → AreWords lines (k + 1) words
 label_passed lines table k at x words h e here labels placed gone before =
     let no_word = no_instr lines table k at x labels placed here gone in
     let more = count_more has_word lines k x h e ∙ ap (λ b. words_before lines k + cond b 1 0) no_word in
@@ -175,7 +175,7 @@ word_pushed lines k word x i words h e meant encodes before =
     }
 
 -- an instruction without a word
-pub first_unfit : (lines : List Line) (k : ℕ) (i : Instr) (words : List ℕ) → MeansOne lines k i → (FieldsInRange i → ⊥) → AreWords lines k words → Least (IsUnfit lines) k
+pub first_unfit : (lines : List Line) (k : ℕ) (i : Instr) (words : List ℕ) → MeansOne lines k i → (FieldsInRange i → ⊥) → AreWords lines k words → IsLeastNumber (IsUnfit lines) k
 first_unfit lines k i words meant unfit before = record {
   is_so = (i, meant.means, unfit);
   least = λ j bad. elim (cases_lt j k) [
@@ -195,7 +195,7 @@ all_words lines k words labels low high are =
     }
 
 -- where the word of line k stands
-pub word_place : (lines : List Line) (k : ℕ) (words : List ℕ) → length lines ≤ 131072 → AreWords lines k words → (0x10000 + 4 * length words ≡ address_of lines k) × (length words ≤ 131072)
+pub word_place : (lines : List Line) (k : ℕ) (words : List ℕ) → length lines ≤ 131072 → AreWords lines k words → (0x10000 + 4 * length words ≡ line_address lines k) × (length words ≤ 131072)
 word_place lines k words few are =
     let front = count_front has_word lines k in
     let all = count_by-le-length has_word lines in

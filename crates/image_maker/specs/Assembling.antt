@@ -36,18 +36,18 @@ abbrev pub words_before : List Line → ℕ → ℕ
 words_before lines k = count_by has_word (take k lines)
 
 -- The address of line k. Each word has four bytes, and the first stands at 0x10000. A label stands at the word that follows.
-abbrev pub address_of : List Line → ℕ → ℕ
-address_of lines k = 0x00010000 + 4 * words_before lines k
+abbrev pub line_address : List Line → ℕ → ℕ
+line_address lines k = 0x00010000 + 4 * words_before lines k
 
 -- how often the label stands
 abbrev pub label_count : List Line → ℕ → ℕ
 label_count lines l = count_by (is_label l) lines
 
 -- the label stands at the address
-pub record StandsAt (lines : List Line) (l at : ℕ) : Type 0 where
+pub record LabelStandsAt (lines : List Line) (l at : ℕ) : Type 0 where
   pub line : ℕ
   pub here : slice_get lines line ≡ Some (Label l)
-  pub place : at ≡ address_of lines line
+  pub place : at ≡ line_address lines line
 
 -- ---- instructions
 
@@ -55,12 +55,12 @@ pub record StandsAt (lines : List Line) (l at : ℕ) : Type 0 where
 abbrev pub Means : List Line → ℕ → Line → Instr → Type 0
 Means lines at (Label l) i = ⊥
 Means lines at (Op j) i = i ≡ j
-Means lines at (BranchTo op rs1 rs2 l) i = (to : ℕ) × StandsAt lines l to × (i ≡ Branch op rs1 rs2 (pos to -ℤ pos at))
-Means lines at (JalTo rd l) i = (to : ℕ) × StandsAt lines l to × (i ≡ Jal rd (pos to -ℤ pos at))
+Means lines at (BranchTo op rs1 rs2 l) i = (to : ℕ) × LabelStandsAt lines l to × (i ≡ Branch op rs1 rs2 (pos to -ℤ pos at))
+Means lines at (JalTo rd l) i = (to : ℕ) × LabelStandsAt lines l to × (i ≡ Jal rd (pos to -ℤ pos at))
 
 -- line k means the instruction
 abbrev pub LineMeans : List Line → ℕ → Instr → Type 0
-LineMeans lines k i = MatchOption (slice_get lines k) ⊥ (λ line. Means lines (address_of lines k) line i)
+LineMeans lines k i = MatchOption (slice_get lines k) ⊥ (λ line. Means lines (line_address lines k) line i)
 
 -- ---- what may be wrong
 
@@ -81,7 +81,7 @@ abbrev pub NoneIs : (ℕ → Type 0) → Type 0
 NoneIs P = (n : ℕ) → P n → ⊥
 
 -- the number is the least that is so
-pub record Least (P : ℕ → Type 0) (n : ℕ) : Type 0 where
+pub record IsLeastNumber (P : ℕ → Type 0) (n : ℕ) : Type 0 where
   pub is_so : P n
   pub least : (m : ℕ) → P m → n ≤ m
 
@@ -100,9 +100,9 @@ pub record IsAssembled (lines : List Line) (words : List ℕ) : Type 0 where
 
 -- why there are no words: first a label that stands twice, then one that isn't there, then a line without a word
 abbrev pub IsCause : List Line → AsmError → Type 0
-IsCause lines (TwoLabels l) = Least (IsTwice lines) l
-IsCause lines (NoLabel l) = NoneIs (IsTwice lines) × Least (IsMissing lines) l
-IsCause lines (Unfit k) = HasLabels lines × Least (IsUnfit lines) k
+IsCause lines (TwoLabels l) = IsLeastNumber (IsTwice lines) l
+IsCause lines (NoLabel l) = NoneIs (IsTwice lines) × IsLeastNumber (IsMissing lines) l
+IsCause lines (Unfit k) = HasLabels lines × IsLeastNumber (IsUnfit lines) k
 IsCause lines Memory = Unit {0}
 
 -- nothing is wrong with the lines: only memory may be wanted

@@ -32,12 +32,12 @@ abbrev pub loop_table : ℕ → ℕ → List ℕ
 loop_table c header = codes "[[loop]]\n" ++ header_line header ++ ranges_line header ++ codes "bound = 14\n" ++ counted_line c
 
 -- the tables of the first n loops
-abbrev pub loop_tables : List ℕ → ℕ → List ℕ
-loop_tables headers zero = []
-loop_tables headers (suc n) = loop_tables headers n ++ loop_table n (slice_index headers n)
+abbrev pub made_loop_tables : List ℕ → ℕ → List ℕ
+made_loop_tables headers zero = []
+made_loop_tables headers (suc n) = made_loop_tables headers n ++ loop_table n (slice_index headers n)
 
 abbrev pub loops_text : List ℕ → List ℕ
-loops_text headers = codes "version = 1\n" ++ loop_tables headers (length headers)
+loops_text headers = codes "version = 1\n" ++ made_loop_tables headers (length headers)
 
 -- ---- the input
 

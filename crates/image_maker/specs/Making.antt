@@ -47,11 +47,11 @@ closing =
     ∷ addi 10 0 (pos 0) ∷ addi 17 0 (pos 93) ∷ Op Ecall ∷ []
 
 -- function j multiplies j + 1 times and returns
-abbrev pub leaf : ℕ → List Line
-leaf j = Label j ∷ (replicate (j + 1) mul ++ Op (Jalr 0 1 (pos 0)) ∷ [])
+abbrev pub leaf_function : ℕ → List Line
+leaf_function j = Label j ∷ (replicate (j + 1) mul ++ Op (Jalr 0 1 (pos 0)) ∷ [])
 
-abbrev pub leaves : List Line
-leaves = leaf 0 ++ (leaf 1 ++ (leaf 2 ++ leaf 3))
+abbrev pub leaf_functions : List Line
+leaf_functions = leaf_function 0 ++ (leaf_function 1 ++ (leaf_function 2 ++ leaf_function 3))
 
 -- so many divisions, which are skipped where byte q is 0
 abbrev pub skipped : ℕ → ℕ → List Line
@@ -70,24 +70,24 @@ kind x = drawn x % 4
 
 -- Block k, where the first draw gave this kind, and the next one this number: multiplications, a branch over divisions, a loop, or a
 -- call of a function.
-unfoldable pub block_of : ℕ → ℕ → ℕ → List Line
-block_of k sort n =
+unfoldable pub made_block : ℕ → ℕ → ℕ → List Line
+made_block k sort n =
     if sort == 0 then replicate (1 + n % 8) mul
     else if sort == 1 then skipped (k % 256) (1 + n % 16)
     else if sort == 2 then loop (k % 256)
     else JalTo 1 (n % 4) ∷ []
 
 abbrev pub block : ℕ → ℕ → List Line
-block k x = block_of k (kind x) (drawn (next x))
+block k x = made_block k (kind x) (drawn (next x))
 
 -- the state behind a block: a loop takes no second draw
-abbrev pub behind : ℕ → ℕ
-behind x = if kind x == 2 then next x else next (next x)
+abbrev pub state_behind : ℕ → ℕ
+state_behind x = if kind x == 2 then next x else next (next x)
 
 -- the state as block k begins, and the lines of the first k blocks
 abbrev pub state_at : ℕ → ℕ → ℕ
 state_at number zero = number
-state_at number (suc k) = behind (state_at number k)
+state_at number (suc k) = state_behind (state_at number k)
 
 abbrev pub blocks : ℕ → ℕ → List Line
 blocks number zero = []
@@ -95,7 +95,7 @@ blocks number (suc k) = blocks number k ++ block k (state_at number k)
 
 -- the lines of the program with so many blocks
 abbrev pub program : ℕ → ℕ → List Line
-program number size = opening ++ blocks number size ++ closing ++ leaves
+program number size = opening ++ blocks number size ++ closing ++ leaf_functions
 
 -- ---- loops
 

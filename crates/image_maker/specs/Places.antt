@@ -7,34 +7,34 @@ use Rattle.scale_base.specs.declared.instruction.Instr.TheVariants.{Branch, Jal}
 use Rattle.scale_base.specs.Word.{Encodes}
 use Rattle.image_maker.specs.declared.line.Line.{Line}
 use Rattle.image_maker.specs.declared.line.Line.TheVariants.{Label, Op, BranchTo, JalTo}
-use Rattle.image_maker.specs.Assembling.{StandsAt, LineMeans, label_count, words_before, goes_to, IsTwice, NoneIs, Least, address_of}
+use Rattle.image_maker.specs.Assembling.{LabelStandsAt, LineMeans, label_count, words_before, goes_to, IsTwice, NoneIs, IsLeastNumber, line_address}
 
 -- the lesser of a number and what was the least before
-abbrev pub lesser : Option ℕ → ℕ → ℕ
-lesser None n = n
-lesser (Some m) n = min m n
+abbrev pub lesser_number : Option ℕ → ℕ → ℕ
+lesser_number None n = n
+lesser_number (Some m) n = min m n
 
 -- the same with a number that may not be there
-abbrev pub least_of : Option ℕ → Option ℕ → Option ℕ
-least_of before None = before
-least_of before (Some n) = Some (lesser before n)
+abbrev pub lesser_line : Option ℕ → Option ℕ → Option ℕ
+lesser_line before None = before
+lesser_line before (Some n) = Some (lesser_number before n)
 
 -- the least number that is so, if there is one
 abbrev pub IsFirst : (ℕ → Type 0) → Option ℕ → Type 0
-IsFirst P o = MatchOption o (NoneIs P) (Least P)
+IsFirst P o = MatchOption o (NoneIs P) (IsLeastNumber P)
 
 -- what the table may have for a label of which there are so many
 abbrev pub HasPlace : List Line → ℕ → Option ℕ → ℕ → Type 0
-HasPlace lines l place count = MatchOption place (count ≡ 0) (λ at. (0 < count) × StandsAt lines l at)
+HasPlace lines l place count = MatchOption place (count ≡ 0) (λ at. (0 < count) × LabelStandsAt lines l at)
 
 -- the table has each label of the first k lines with an address where it stands, and no other
-abbrev pub IsTableOf : List Line → ℕ → BTreeMap ℕ ℕ → Type 0
-IsTableOf lines k table = (l : ℕ) → HasPlace lines l (get nat_cmp table l) (label_count (take k lines) l)
+abbrev pub IsLabelTable : List Line → ℕ → BTreeMap ℕ ℕ → Type 0
+IsLabelTable lines k table = (l : ℕ) → HasPlace lines l (get nat_cmp table l) (label_count (take k lines) l)
 
 -- what is known of the first k lines
 pub record ArePlaced (lines : List Line) (k : ℕ) (table : BTreeMap ℕ ℕ) (twice : Option ℕ) (at : ℕ) : Type 0 where
-  pub address : at ≡ address_of lines k
-  pub addresses : IsTableOf lines k table
+  pub address : at ≡ line_address lines k
+  pub addresses : IsLabelTable lines k table
   pub first : IsFirst (IsTwice (take k lines)) twice
 
 -- one of the first k lines goes to the label, which isn't there
@@ -50,11 +50,11 @@ IsMissingAt lines line o =
 -- ---- words
 
 -- the instruction of a line at an address, with these addresses of the labels
-abbrev pub instr_at : (ℕ → Option ℕ) → ℕ → Line → Option Instr
-instr_at places at (Label l) = None
-instr_at places at (Op i) = Some i
-instr_at places at (BranchTo op rs1 rs2 l) = option_map (λ to. Branch op rs1 rs2 (pos to -ℤ pos at)) (places l)
-instr_at places at (JalTo rd l) = option_map (λ to. Jal rd (pos to -ℤ pos at)) (places l)
+abbrev pub line_instr : (ℕ → Option ℕ) → ℕ → Line → Option Instr
+line_instr places at (Label l) = None
+line_instr places at (Op i) = Some i
+line_instr places at (BranchTo op rs1 rs2 l) = option_map (λ to. Branch op rs1 rs2 (pos to -ℤ pos at)) (places l)
+line_instr places at (JalTo rd l) = option_map (λ to. Jal rd (pos to -ℤ pos at)) (places l)
 
 -- the words of the first k lines
 pub record AreWords (lines : List Line) (k : ℕ) (words : List ℕ) : Type 0 where

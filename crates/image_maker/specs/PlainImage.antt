@@ -4,8 +4,8 @@ use Rattle.std.specs.List.{flat_map}
 use Rattle.std.specs.Int.{bytes_low_first}
 
 -- the lowest n bytes of a number, the lowest first
-abbrev pub little : ℕ → ℕ → List ℕ
-little n x = bytes_low_first 0 n x
+abbrev pub little_bytes : ℕ → ℕ → List ℕ
+little_bytes n x = bytes_low_first 0 n x
 
 -- where the words stand
 abbrev pub START : ℕ
@@ -16,10 +16,10 @@ abbrev pub ident : List ℕ
 ident = 0x7F ∷ 0x45 ∷ 0x4C ∷ 0x46 ∷ 1 ∷ 1 ∷ 1 ∷ replicate 9 0
 
 abbrev pub halves : List ℕ → List ℕ
-halves numbers = flat_map (little 2) numbers
+halves numbers = flat_map (little_bytes 2) numbers
 
 abbrev pub words : List ℕ → List ℕ
-words numbers = flat_map (little 4) numbers
+words numbers = flat_map (little_bytes 4) numbers
 
 -- e_type and e_machine; e_version, e_entry, e_phoff, e_shoff and e_flags; e_ehsize, e_phentsize, e_phnum, and zeros
 abbrev pub file_header : List ℕ
@@ -27,8 +27,8 @@ file_header =
     ident ++ halves (2 ∷ 243 ∷ []) ++ words (1 ∷ START ∷ 52 ∷ 0 ∷ 0 ∷ []) ++ halves (52 ∷ 32 ∷ 1 ∷ 0 ∷ 0 ∷ 0 ∷ [])
 
 -- p_type, p_offset, p_vaddr, p_paddr, p_filesz, p_memsz, p_flags and p_align
-abbrev pub program_header : ℕ → List ℕ
-program_header len = words (1 ∷ 84 ∷ START ∷ START ∷ len ∷ len ∷ 5 ∷ 4 ∷ [])
+abbrev pub made_program_header : ℕ → List ℕ
+made_program_header len = words (1 ∷ 84 ∷ START ∷ START ∷ len ∷ len ∷ 5 ∷ 4 ∷ [])
 
 abbrev pub plain_image : List ℕ → List ℕ
-plain_image text = file_header ++ program_header (4 * length text) ++ words text
+plain_image text = file_header ++ made_program_header (4 * length text) ++ words text

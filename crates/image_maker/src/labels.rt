@@ -13,7 +13,7 @@ const START: u32 = 0x0001_0000;
 
 /// The lesser of a number and what was the least before.
 fn lesser(before: Option<u32>, number: u32) -> u32
-    ensures { result ≡ places.lesser before number }
+    ensures { result ≡ places.lesser_number before number }
 {
     match before {
         Some(least) => least.min(number),
@@ -55,7 +55,7 @@ impl Labels {
 /// The address of each label. A label that stands twice is refused.
 pub fn place_labels(alloc: Global, lines: &[Line]) -> Result<BTreeMap<u32, u32>, AsmError>
     requires { length lines.now ≤ 131072 }
-    ensures table { IfOk result (λ table. places.IsTableOf lines.now (length lines.now) table) }
+    ensures table { IfOk result (λ table. places.IsLabelTable lines.now (length lines.now) table) }
     ensures once { IfOk result (λ _. asm.NoneIs (asm.IsTwice lines.now)) }
     ensures refused { IfErr result (λ error. asm.IsCause lines.now error) }
 {
@@ -75,7 +75,7 @@ pub fn place_labels(alloc: Global, lines: &[Line]) -> Result<BTreeMap<u32, u32>,
 
 /// The lesser of two numbers that may not be there.
 fn least_of(before: Option<u32>, number: Option<u32>) -> Option<u32>
-    ensures { result ≡ places.least_of before number }
+    ensures { result ≡ places.lesser_line before number }
 {
     match number {
         Some(number) => Some(lesser(before, number)),
@@ -85,7 +85,7 @@ fn least_of(before: Option<u32>, number: Option<u32>) -> Option<u32>
 
 /// The label that line `k` goes to, where it isn't there.
 fn missing_at(lines: &[Line], k: usize, table: &BTreeMap<u32, u32>) -> Option<u32>
-    requires table { places.IsTableOf lines.now (length lines.now) table.now }
+    requires table { places.IsLabelTable lines.now (length lines.now) table.now }
     requires within { k < length lines.now }
     ensures { IfSome (slice_get lines.now k) (λ line. places.IsMissingAt lines.now line result) }
 {
@@ -103,7 +103,7 @@ fn missing_at(lines: &[Line], k: usize, table: &BTreeMap<u32, u32>) -> Option<u3
 
 /// The least label that a line goes to and that isn't there.
 pub fn least_missing(lines: &[Line], table: &BTreeMap<u32, u32>) -> Option<u32>
-    requires { places.IsTableOf lines.now (length lines.now) table.now }
+    requires { places.IsLabelTable lines.now (length lines.now) table.now }
     ensures { places.IsFirst (asm.IsMissing lines.now) result }
 {
     let mut missing = None;

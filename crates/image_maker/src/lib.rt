@@ -1,10 +1,10 @@
 //! Assembles lines, makes plain images of words, and makes images to try the scaler on.
 #![tactic(auto)]
 
+mod agreement;
 mod assembler;
 mod draws;
 mod labels;
-mod laws;
 mod line;
 mod maker;
 mod plain;
@@ -12,8 +12,8 @@ mod program;
 mod texts;
 mod words;
 
+pub use agreement::images_of_lines_agree;
 pub use assembler::assemble;
-pub use laws::images_of_lines_agree;
 pub use line::{AsmError, Line};
 pub use maker::{Made, make};
 pub use plain::plain_image;

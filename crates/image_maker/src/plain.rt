@@ -18,7 +18,7 @@ const FILE_HEADER: [u8; 52] = [
 
 /// Adds the program header of a segment of so many bytes.
 fn push_program_header(out: &mut Vec<u8>, len: u32) -> Result<(), NoMemory>
-    ensures { OnOk result (out.new.items ≡ out.old.items ++ plain.program_header len) }
+    ensures { OnOk result (out.new.items ≡ out.old.items ++ plain.made_program_header len) }
 {
     let mut header = [0; 32];
     LittleEndian::write_u32_into(&[1, 84, START, START, len, len, 5, 4], &mut header);

@@ -114,7 +114,7 @@ fn push_closing(lines: &mut Vec<Line>) -> Result<(), NoMemory>
 /// Adds function `j`.
 fn push_leaf(lines: &mut Vec<Line>, j: u32) -> Result<(), NoMemory>
     requires { j < 4 }
-    ensures { OnOk result (lines.new.items ≡ lines.old.items ++ making.leaf j) }
+    ensures { OnOk result (lines.new.items ≡ lines.old.items ++ making.leaf_function j) }
 {
     lines.push(Line::Label(j))?;
     push_times(lines, j + 1, MUL)?;
@@ -128,7 +128,7 @@ fn push_leaf(lines: &mut Vec<Line>, j: u32) -> Result<(), NoMemory>
 
 /// Adds the functions.
 fn push_leaves(lines: &mut Vec<Line>) -> Result<(), NoMemory>
-    ensures { OnOk result (lines.new.items ≡ lines.old.items ++ making.leaves) }
+    ensures { OnOk result (lines.new.items ≡ lines.old.items ++ making.leaf_functions) }
 {
     push_leaf(lines, 0)?;
     push_leaf(lines, 1)?;
@@ -170,7 +170,7 @@ fn push_loop(lines: &mut Vec<Line>, k: u32) -> Result<(), NoMemory>
 /// Adds block `k`. The answer says whether it is a loop.
 fn push_block(lines: &mut Vec<Line>, draws: &mut Draws, k: u32) -> Result<bool, NoMemory>
     ensures lines { OnOk result (lines.new.items ≡ lines.old.items ++ making.block k draws.old.state) }
-    ensures state { OnOk result (draws.new.state ≡ making.behind draws.old.state) }
+    ensures state { OnOk result (draws.new.state ≡ making.state_behind draws.old.state) }
     ensures loops { IfOk result (λ is_loop. is_loop ≡ (making.kind draws.old.state == 2)) }
 {
     let kind = draws.draw() % 4;
@@ -183,11 +183,11 @@ fn push_block(lines: &mut Vec<Line>, draws: &mut Draws, k: u32) -> Result<bool, 
 }
 
 /// Adds block `k` of a kind that takes a number.
-#[tactic(auto, unfolding(crate::specs::Making::block_of))]
+#[tactic(auto, unfolding(crate::specs::Making::made_block))]
 fn push_other(lines: &mut Vec<Line>, k: u32, kind: u32, number: u32) -> Result<(), NoMemory>
     requires few { kind < 4 }
     requires other { kind ≢ 2 }
-    ensures { OnOk result (lines.new.items ≡ lines.old.items ++ making.block_of k kind number) }
+    ensures { OnOk result (lines.new.items ≡ lines.old.items ++ making.made_block k kind number) }
 {
     if kind == 0 {
         return push_times(lines, 1 + number % 8, MUL);
@@ -216,7 +216,7 @@ impl Program {
         requires { length self.old.lines.items ≤ 131072 }
         ensures lines { OnOk result (self.new.lines.items ≡ self.old.lines.items ++ making.block k self.old.draws.state) }
         ensures headers { OnOk result (self.new.headers.items ≡ self.old.headers.items ++ making.header_in (length self.old.lines.items) self.old.draws.state) }
-        ensures state { OnOk result (self.new.draws.state ≡ making.behind self.old.draws.state) }
+        ensures state { OnOk result (self.new.draws.state ≡ making.state_behind self.old.draws.state) }
     {
         let before = self.lines.len() as u32;
         if push_block(&mut self.lines, &mut self.draws, k)? {

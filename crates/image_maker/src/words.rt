@@ -27,7 +27,7 @@ fn distance(from: u32, to: u32) -> i32
 fn instr_at(line: &Line, at: u32, table: &BTreeMap<u32, u32>) -> Option<Instr>
     requires at { at < 2 ^ 31 }
     requires places { (l to : ℕ) → get nat_cmp table.now l ≡ Some to → to < 2 ^ 31 }
-    ensures { result ≡ places.instr_at (get nat_cmp table.now) at line.now }
+    ensures { result ≡ places.line_instr (get nat_cmp table.now) at line.now }
 {
     match *line {
         Line::Label(_) => None,
@@ -65,7 +65,7 @@ fn push_line(
     requires few { length lines.now ≤ 131072 }
     requires within { k < length lines.now }
     requires labels { asm.HasLabels lines.now }
-    requires table { places.IsTableOf lines.now (length lines.now) table.now }
+    requires table { places.IsLabelTable lines.now (length lines.now) table.now }
     requires words { places.AreWords lines.now k words.old.items }
     ensures words { OnOk result (places.AreWords lines.now (k + 1) words.new.items) }
     ensures refused { IfErr result (λ error. asm.IsCause lines.now error) }
@@ -89,7 +89,7 @@ pub fn words_of(
 ) -> Result<Vec<u32>, AsmError>
     requires few { length lines.now ≤ 131072 }
     requires labels { asm.HasLabels lines.now }
-    requires table { places.IsTableOf lines.now (length lines.now) table.now }
+    requires table { places.IsLabelTable lines.now (length lines.now) table.now }
     ensures words { IfOk result (λ words. asm.IsAssembled lines.now words.items) }
     ensures refused { IfErr result (λ error. asm.IsCause lines.now error) }
 {

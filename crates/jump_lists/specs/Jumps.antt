@@ -11,8 +11,8 @@ use Rattle.jump_lists.specs.declared.notes.JumpNote.{JumpNote}
 use Rattle.jump_lists.specs.Notes.{are_distinct}
 
 -- the keys of the file
-abbrev pub file_keys : List (List ℕ)
-file_keys = codes "version" ∷ codes "jump" ∷ []
+abbrev pub jump_file_keys : List (List ℕ)
+jump_file_keys = codes "version" ∷ codes "jump" ∷ []
 
 -- the keys of a jump, all of them required
 abbrev pub jump_keys : List (List ℕ)
@@ -26,12 +26,12 @@ checked_version table = do
   Ok tt
 
 -- the tables of the jumps, where they are an array of at most 1,024 tables: none where the key isn't there
-abbrev pub few_tables : List Members → Option (List Members)
-few_tables tables = if nat_le (length tables) 1024 then Some tables else None
+abbrev pub few_jumps : List Members → Option (List Members)
+few_jumps tables = if nat_le (length tables) 1024 then Some tables else None
 
 abbrev pub jump_list : Option Data → Option (List Members)
 jump_list None = Some []
-jump_list (Some d) = option_and_then few_tables (tables_of d)
+jump_list (Some d) = option_and_then few_jumps (tables_of d)
 
 abbrev pub jump_tables : Members → Result (List Members) Refusal
 jump_tables table = or_refuse (JumpValue 0 (codes "jump")) (jump_list (get_member (codes "jump") table))
@@ -40,22 +40,22 @@ jump_tables table = or_refuse (JumpValue 0 (codes "jump")) (jump_list (get_membe
 abbrev pub aligned : ℕ → Option ℕ
 aligned at = if at % 4 == 0 then Some at else None
 
-abbrev pub address_of : Data → Option ℕ
-address_of d = option_and_then aligned (number_of 0 (2 ^ 32 - 1) d)
+abbrev pub target_address : Data → Option ℕ
+target_address d = option_and_then aligned (number_of 0 (2 ^ 32 - 1) d)
 
 -- the addresses of a list of values, where all are some
-abbrev pub all_addresses : Items → Option (List ℕ)
-all_addresses no_items = Some []
-all_addresses (item d ds) = option_and_then (λ a. option_map (λ others. a ∷ others) (all_addresses ds)) (address_of d)
+abbrev pub all_targets : Items → Option (List ℕ)
+all_targets no_items = Some []
+all_targets (item d ds) = option_and_then (λ a. option_map (λ others. a ∷ others) (all_targets ds)) (target_address d)
 
 -- how many items there are
-abbrev pub items_count : Items → ℕ
-items_count no_items = 0
-items_count (item d ds) = items_count ds + 1
+abbrev pub targets_count : Items → ℕ
+targets_count no_items = 0
+targets_count (item d ds) = targets_count ds + 1
 
 -- the items, where they are 1 to 128
-abbrev pub few_items : Items → Option Items
-few_items ds = if nat_le 1 (items_count ds) && nat_le (items_count ds) 128 then Some ds else None
+abbrev pub few_targets : Items → Option Items
+few_targets ds = if nat_le 1 (targets_count ds) && nat_le (targets_count ds) 128 then Some ds else None
 
 -- the addresses, where none is there twice
 abbrev pub distinct : List ℕ → Option (List ℕ)
@@ -63,39 +63,39 @@ distinct targets = if are_distinct targets then Some targets else None
 
 -- the targets of a value: an array of 1 to 128 distinct addresses
 abbrev pub targets_in : Items → Option (List ℕ)
-targets_in ds = option_and_then distinct (all_addresses ds)
+targets_in ds = option_and_then distinct (all_targets ds)
 
 unfoldable pub targets_of : Data → Option (List ℕ)
-targets_of d = option_and_then targets_in (option_and_then few_items (as_array d))
+targets_of d = option_and_then targets_in (option_and_then few_targets (as_array d))
 
 -- the values of jump k
 abbrev pub at_of : ℕ → Members → Result ℕ Refusal
-at_of k table = or_refuse (JumpValue k (codes "at")) (option_and_then address_of (get_member (codes "at") table))
+at_of k table = or_refuse (JumpValue k (codes "at")) (option_and_then target_address (get_member (codes "at") table))
 
 abbrev pub targets_at : ℕ → Members → Result (List ℕ) Refusal
 targets_at k table = or_refuse (JumpValue k (codes "targets")) (option_and_then targets_of (get_member (codes "targets") table))
 
 -- the note of jump k
-unfoldable pub note_of : ℕ → Members → Result JumpNote Refusal
-note_of k table = do
+unfoldable pub jump_note_of : ℕ → Members → Result JumpNote Refusal
+jump_note_of k table = do
   _ ← checked_keys (JumpKey k) jump_keys jump_keys table
   at ← at_of k table
   targets ← targets_at k table
   Ok (record { at = at; targets = targets })
 
 -- the notes of jumps, numbered from k on
-abbrev pub notes_from : ℕ → List Members → Result (List JumpNote) Refusal
-notes_from k [] = Ok []
-notes_from k (table ∷ tables) = note_of k table >>= λ first. notes_from (k + 1) tables >>= λ others. Ok (first ∷ others)
+abbrev pub jump_notes_from : ℕ → List Members → Result (List JumpNote) Refusal
+jump_notes_from k [] = Ok []
+jump_notes_from k (table ∷ tables) = jump_note_of k table >>= λ first. jump_notes_from (k + 1) tables >>= λ others. Ok (first ∷ others)
 
 -- the notes of a table
-unfoldable pub notes_of : Members → Result (List JumpNote) Refusal
-notes_of table = do
+unfoldable pub jump_notes_of : Members → Result (List JumpNote) Refusal
+jump_notes_of table = do
   _ ← checked_version table
-  _ ← none_or_refuse (JumpKey 0) (least_unknown file_keys table)
+  _ ← none_or_refuse (JumpKey 0) (least_unknown jump_file_keys table)
   tables ← jump_tables table
-  notes_from 1 tables
+  jump_notes_from 1 tables
 
 -- what reading the bytes of a jump file gives
 unfoldable pub read_jumps : List ℕ → Result (List JumpNote) Refusal
-read_jumps bytes = or_refuse JumpText (document_of bytes) >>= notes_of
+read_jumps bytes = or_refuse JumpText (document_of bytes) >>= jump_notes_of

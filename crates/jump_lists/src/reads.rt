@@ -6,7 +6,7 @@ ghost use Rattle.scale_base.specs.Answer.{Answers, Refuses};
 ghost use Rattle.scale_base.specs.declared.refusal.Refusal.TheVariants.{JumpKey, JumpValue};
 ghost use Rattle.table_keys.specs.Keys.{checked_keys};
 ghost use Rattle.jump_lists.specs.Notes.{IsAligned, AreTargets, IsJumpNote};
-ghost use Rattle.jump_lists.specs.Jumps.{checked_version, jump_tables, jump_keys, at_of, targets_at, note_of, notes_from, notes_of};
+ghost use Rattle.jump_lists.specs.Jumps.{checked_version, jump_tables, jump_keys, at_of, targets_at, jump_note_of, jump_notes_from, jump_notes_of};
 
 use crate::notes::{JumpNote, JumpNotes, TargetList};
 use crate::targets::{address, targets_of};
@@ -111,9 +111,9 @@ fn targets(alloc: Global, number: u32, table: &Table) -> Result<TargetList, Stop
     }
 }
 
-#[tactic(auto, unfolding(crate::specs::Jumps::note_of))]
+#[tactic(auto, unfolding(crate::specs::Jumps::jump_note_of))]
 fn note(alloc: Global, number: u32, table: &Table) -> Result<JumpNote, Stop>
-    ensures note { Answers (λ note. note) result (note_of number (table_view table.now)) }
+    ensures note { Answers (λ note. note) result (jump_note_of number (table_view table.now)) }
     ensures kept { IfOk result IsJumpNote }
 {
     check_keys(alloc, number, table)?;
@@ -125,7 +125,7 @@ fn note(alloc: Global, number: u32, table: &Table) -> Result<JumpNote, Stop>
 
 fn notes(alloc: Global, tables: &[&Table]) -> Result<JumpNotes, Stop>
     requires { length tables.now ≤ 1024 }
-    ensures { Answers (λ notes. notes) result (notes_from 1 (map (λ t. table_view t.now) tables.now)) }
+    ensures { Answers (λ notes. notes) result (jump_notes_from 1 (map (λ t. table_view t.now) tables.now)) }
 {
     let mut notes = JumpNotes::new(alloc);
     for (i, table) in tables.iter().enumerate() {
@@ -135,9 +135,9 @@ fn notes(alloc: Global, tables: &[&Table]) -> Result<JumpNotes, Stop>
 }
 
 /// The notes of a table.
-#[tactic(auto, unfolding(crate::specs::Jumps::notes_of))]
+#[tactic(auto, unfolding(crate::specs::Jumps::jump_notes_of))]
 pub fn notes_of(alloc: Global, table: &Table) -> Result<JumpNotes, Stop>
-    ensures { Answers (λ notes. notes) result (notes_of (table_view table.now)) }
+    ensures { Answers (λ notes. notes) result (jump_notes_of (table_view table.now)) }
 {
     check_version(alloc, table)?;
     if let Some(key) = least_unknown(table, &FILE_KEYS) {

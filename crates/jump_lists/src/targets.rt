@@ -3,7 +3,7 @@
 ghost use Rattle.std.specs.Prelude.{◌≡◌, ◌%◌, IfSome, IfOk, All, length, option_map};
 ghost use Rattle.toml.specs.View.{view, items_view};
 ghost use Rattle.jump_lists.specs.Notes.{are_distinct, IsAligned, AreTargets};
-ghost use Rattle.jump_lists.specs.Jumps.{address_of, all_addresses, targets_in, targets_of};
+ghost use Rattle.jump_lists.specs.Jumps.{target_address, all_targets, targets_in, targets_of};
 
 use crate::notes::TargetList;
 use std::alloc::{AllocError, Global};
@@ -14,7 +14,7 @@ const MOST_TARGETS: usize = 128;
 
 /// The address of a word that a value gives.
 pub fn address(value: &Value) -> Option<u32>
-    ensures value { result ≡ address_of (view value.now) }
+    ensures value { result ≡ target_address (view value.now) }
     ensures aligned { IfSome result IsAligned }
 {
     let at = number_of(value, 0, 0xFFFF_FFFF)? as u32;
@@ -31,7 +31,7 @@ fn are_distinct(targets: &[u32]) -> bool
 }
 
 fn all_addresses(alloc: Global, items: &[Value]) -> Result<Option<Vec<u32>>, AllocError>
-    ensures addresses { IfOk result (λ found. option_map (λ v. v.items) found ≡ all_addresses (items_view items.now)) }
+    ensures addresses { IfOk result (λ found. option_map (λ v. v.items) found ≡ all_targets (items_view items.now)) }
     ensures count { IfOk result (λ found. IfSome found (λ v. length v.items ≡ length items.now)) }
     ensures aligned { IfOk result (λ found. IfSome found (λ v. All IsAligned v.items)) }
 {

@@ -13,7 +13,7 @@ use Rattle.graph_runs.specs.KeptSteps.{leaves_by, breaks}
 use Rattle.loop_file.specs.declared.notes.LoopNote.{LoopNote}
 use Rattle.loop_file.specs.Kept.{note_at, in_extent, noted_loops}
 use Rattle.keep_monitor.specs.Watch.{loop_broken}
-use Rattle.keep_monitor.specs.Steps.{counts_from, loop_over, counted, leaves_note, is_left_early, loop_left, lesser, broken_loop, AreTurning}
+use Rattle.keep_monitor.specs.Steps.{counts_after_step, loop_over, count_then, leaves_note, is_left_early, loop_left, lesser_loop, broken_loop, AreTurning}
 use Rattle.keep_monitor.proofs.CountLaws.{find_none, find_first, stepped_here, stepped_else}
 
 pub at_end : (j n : ℕ) → j < n + 1 → (j < n) ⊎ (j ≡ n)
@@ -36,7 +36,7 @@ find_same (suc n) p q h =
     ∙ ap (λ b. or_else (find_below n q) (cond b (Some n) None)) (h n (omega arith))
 
 last : (n : ℕ) (o r : Option ℕ) (a b : Bool) → ((k : ℕ) → o ≡ Some k → k < n) → ((k : ℕ) → r ≡ Some k → k < n) →
-    or_else (lesser o r) (cond (a || b) (Some n) None) ≡ lesser (or_else o (cond a (Some n) None)) (or_else r (cond b (Some n) None))
+    or_else (lesser_loop o r) (cond (a || b) (Some n) None) ≡ lesser_loop (or_else o (cond a (Some n) None)) (or_else r (cond b (Some n) None))
 last n None None false false lo lr = refl
 last n None None true false lo lr = refl
 last n None None false true lo lr = refl
@@ -47,7 +47,7 @@ last n None (Some y) false b lo lr = refl
 last n None (Some y) true b lo lr = ap Some (sym (cond-false _ _ _ (le-ltb n y (let l : y < n = lr y refl in omega arith))))
 last n (Some x) (Some y) a b lo lr = refl
 
-find_either : (n : ℕ) (p q : ℕ → Bool) → find_below n (λ k. p k || q k) ≡ lesser (find_below n p) (find_below n q)
+find_either : (n : ℕ) (p q : ℕ → Bool) → find_below n (λ k. p k || q k) ≡ lesser_loop (find_below n p) (find_below n q)
 find_either zero p q = refl
 find_either (suc n) p q =
     ap (λ o. or_else o (cond (p n || q n) (Some n) None)) (find_either n p q)
@@ -57,21 +57,21 @@ find_either (suc n) p q =
 
 -- a step that leaves an extent does not go to the header, so the count stays
 early_is : (notes : List LoopNote) (counts : List ℕ) (source : Option ℕ) (x : Stepped) (k : ℕ) →
-    (leaves_by x.moved (noted_loops notes) x.pc x.next k && nat_lt (counts_from notes counts source x.next k) (note_at notes k).at_least) ≡ is_left_early (note_at notes k) x (get_or counts k 0)
+    (leaves_by x.moved (noted_loops notes) x.pc x.next k && nat_lt (counts_after_step notes counts source x.next k) (note_at notes k).at_least) ≡ is_left_early (note_at notes k) x (get_or counts k 0)
 early_is notes counts source x k = by_move x.moved
   where
     note : LoopNote
     note = note_at notes k
 
     local : (b : Bool) → (in_extent note x.pc && not (in_extent note x.next)) ≡ b →
-        ((in_extent note x.pc && not (in_extent note x.next)) && nat_lt (counts_from notes counts source x.next k) note.at_least)
+        ((in_extent note x.pc && not (in_extent note x.next)) && nat_lt (counts_after_step notes counts source x.next k) note.at_least)
         ≡ (nat_lt (get_or counts k 0) note.at_least && (in_extent note x.pc && not (in_extent note x.next)))
-    local false e = ap (λ b. b && nat_lt (counts_from notes counts source x.next k) note.at_least) e ∙ sym (ap (λ b. nat_lt (get_or counts k 0) note.at_least && b) e ∙ and_false (nat_lt (get_or counts k 0) note.at_least))
+    local false e = ap (λ b. b && nat_lt (counts_after_step notes counts source x.next k) note.at_least) e ∙ sym (ap (λ b. nat_lt (get_or counts k 0) note.at_least && b) e ∙ and_false (nat_lt (get_or counts k 0) note.at_least))
     local true e =
         let out : in_extent note x.next ≡ false = not_true (in_extent note x.next) (and_right (in_extent note x.pc) (not (in_extent note x.next)) e) in
         let away : (x.next == note.header) ≡ false = (or_parts _ _ out).0 in
-        let count : counts_from notes counts source x.next k ≡ get_or counts k 0 = cond-false _ _ _ away in
-        ap (λ b. b && nat_lt (counts_from notes counts source x.next k) note.at_least) e
+        let count : counts_after_step notes counts source x.next k ≡ get_or counts k 0 = cond-false _ _ _ away in
+        ap (λ b. b && nat_lt (counts_after_step notes counts source x.next k) note.at_least) e
         ∙ ap (λ c. nat_lt c note.at_least) count
         ∙ sym (ap (λ b. nat_lt (get_or counts k 0) note.at_least && b) e ∙ and_true (nat_lt (get_or counts k 0) note.at_least))
       where
@@ -79,29 +79,29 @@ early_is notes counts source x k = by_move x.moved
         and_true true = refl
         and_true false = refl
 
-    by_move : (m : Move) → (leaves_by m (noted_loops notes) x.pc x.next k && nat_lt (counts_from notes counts source x.next k) note.at_least)
+    by_move : (m : Move) → (leaves_by m (noted_loops notes) x.pc x.next k && nat_lt (counts_after_step notes counts source x.next k) note.at_least)
         ≡ (nat_lt (get_or counts k 0) note.at_least && leaves_note m note x.pc x.next)
     by_move Local = local (in_extent note x.pc && not (in_extent note x.next)) refl
     by_move Call = sym (and_false (nat_lt (get_or counts k 0) note.at_least))
     by_move Return = sym (and_false (nat_lt (get_or counts k 0) note.at_least))
 
 pub broken_is : (notes : List LoopNote) (counts : List ℕ) (source : Option ℕ) (x : Stepped) →
-    loop_broken notes (counts_from notes counts source x.next) x ≡ lesser (loop_over notes counts source x.next) (loop_left notes counts x)
+    loop_broken notes (counts_after_step notes counts source x.next) x ≡ lesser_loop (loop_over notes counts source x.next) (loop_left notes counts x)
 broken_is notes counts source x =
-    find_same (length notes) (breaks (noted_loops notes) (counts_from notes counts source x.next) x)
-    (λ k. nat_lt (note_at notes k).bound (counts_from notes counts source x.next k) || is_left_early (note_at notes k) x (get_or counts k 0))
-    (λ k kl. ap (λ b. nat_lt (note_at notes k).bound (counts_from notes counts source x.next k) || b) (early_is notes counts source x k))
-    ∙ find_either (length notes) (λ k. nat_lt (note_at notes k).bound (counts_from notes counts source x.next k)) (λ k. is_left_early (note_at notes k) x (get_or counts k 0))
+    find_same (length notes) (breaks (noted_loops notes) (counts_after_step notes counts source x.next) x)
+    (λ k. nat_lt (note_at notes k).bound (counts_after_step notes counts source x.next k) || is_left_early (note_at notes k) x (get_or counts k 0))
+    (λ k kl. ap (λ b. nat_lt (note_at notes k).bound (counts_after_step notes counts source x.next k) || b) (early_is notes counts source x k))
+    ∙ find_either (length notes) (λ k. nat_lt (note_at notes k).bound (counts_after_step notes counts source x.next k)) (λ k. is_left_early (note_at notes k) x (get_or counts k 0))
 
 -- where no bounds are broken, no count is above its bound
 pub counts_stay : (notes : List LoopNote) (counts : List ℕ) (source : Option ℕ) (x : Stepped) → broken_loop notes counts source x ≡ None →
-    (k : ℕ) → k < length notes → counts_from notes counts source x.next k ≤ (note_at notes k).bound
+    (k : ℕ) → k < length notes → counts_after_step notes counts source x.next k ≤ (note_at notes k).bound
 counts_stay notes counts source x none k kl =
-    let found : loop_broken notes (counts_from notes counts source x.next) x ≡ None = none_of (loop_broken notes (counts_from notes counts source x.next) x) none in
-    let test : breaks (noted_loops notes) (counts_from notes counts source x.next) x k ≡ false = not_found (length notes) (breaks (noted_loops notes) (counts_from notes counts source x.next) x) found k kl in
+    let found : loop_broken notes (counts_after_step notes counts source x.next) x ≡ None = none_of (loop_broken notes (counts_after_step notes counts source x.next) x) none in
+    let test : breaks (noted_loops notes) (counts_after_step notes counts source x.next) x k ≡ false = not_found (length notes) (breaks (noted_loops notes) (counts_after_step notes counts source x.next) x) found k kl in
     ltb-false _ _ (or_parts _ _ test).0
   where
-    none_of : (f : Option ℕ) → option_map (λ k. BrokeBound (k + 1) (counts_from notes counts source x.next k)) f ≡ None → f ≡ None
+    none_of : (f : Option ℕ) → option_map (λ k. BrokeBound (k + 1) (counts_after_step notes counts source x.next k)) f ≡ None → f ≡ None
     none_of None e = refl
     none_of (Some k) e = let bad : ⊥ = cc in absurd bad
 
@@ -150,7 +150,7 @@ first_left notes numbers counts x are p pl left before =
 
 -- the count of a loop after a step
 pub count_is : (notes : List LoopNote) (counts : List ℕ) (source : Option ℕ) (next k : ℕ) →
-    counts_from notes counts source next k ≡ cond (next == (note_at notes k).header) (counted (note_at notes k) source (get_or counts k 0)) (get_or counts k 0)
+    counts_after_step notes counts source next k ≡ cond (next == (note_at notes k).header) (count_then (note_at notes k) source (get_or counts k 0)) (get_or counts k 0)
 count_is notes counts source next k = ⊎_elim
     (λ (e : (note_at notes k).header ≡ next). stepped_here notes counts source next k e ∙ sym (cond-true _ _ _ (eq-eqb _ _ (sym e))))
     (λ (ne : (note_at notes k).header ≡ next → ⊥). stepped_else notes counts source next k ne ∙ sym (cond-false _ _ _ (ne_eqb _ _ (λ e. ne (sym e)))))

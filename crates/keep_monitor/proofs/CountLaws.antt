@@ -8,24 +8,24 @@ use Rattle.cost_theory.proofs.Laws.{below_suc}
 use Rattle.loop_file.specs.declared.notes.LoopNote.{LoopNote}
 use Rattle.loop_file.specs.Kept.{note_at, noted_loops}
 use Rattle.keep_monitor.specs.declared.headers.Header.{Header}
-use Rattle.keep_monitor.specs.Headers.{header_at, AreLoopsOf}
-use Rattle.keep_monitor.specs.Steps.{counts_from, loop_over, counted, counted_at, is_over, AreCounts}
+use Rattle.keep_monitor.specs.Headers.{sorted_header, AreLoopsOf}
+use Rattle.keep_monitor.specs.Steps.{counts_after_step, loop_over, count_then, count_after_at, is_over, AreCounts}
 
 pub stepped_here : (notes : List LoopNote) (counts : List ℕ) (source : Option ℕ) (next k : ℕ) → (note_at notes k).header ≡ next →
-    counts_from notes counts source next k ≡ counted (note_at notes k) source (get_or counts k 0)
+    counts_after_step notes counts source next k ≡ count_then (note_at notes k) source (get_or counts k 0)
 stepped_here notes counts source next k e = cond-true _ _ _ (eq-eqb _ _ (sym e)) ∙ by_source source
   where
-    by_source : (o : Option ℕ) → cond (is_round (noted_loops notes) k o) (get_or counts k 0 + 1) 0 ≡ counted (note_at notes k) o (get_or counts k 0)
+    by_source : (o : Option ℕ) → cond (is_round (noted_loops notes) k o) (get_or counts k 0 + 1) 0 ≡ count_then (note_at notes k) o (get_or counts k 0)
     by_source None = refl
     by_source (Some v) = refl
 
-pub stepped_else : (notes : List LoopNote) (counts : List ℕ) (source : Option ℕ) (next k : ℕ) → ((note_at notes k).header ≡ next → ⊥) → counts_from notes counts source next k ≡ get_or counts k 0
+pub stepped_else : (notes : List LoopNote) (counts : List ℕ) (source : Option ℕ) (next k : ℕ) → ((note_at notes k).header ≡ next → ⊥) → counts_after_step notes counts source next k ≡ get_or counts k 0
 stepped_else notes counts source next k ne = cond-false _ _ _ (ne_eqb _ _ (λ e. ne (sym e)))
 
 -- a loop of the group at its place
 pub stepped_at : (notes : List LoopNote) (counts : List ℕ) (source : Option ℕ) (next : ℕ) (group : List Header) → AreLoopsOf notes next group → (j : ℕ) → j < length group →
-    counts_from notes counts source next (header_at group j).number ≡ counted_at notes group counts source j
-stepped_at notes counts source next group of j jl = stepped_here notes counts source next (header_at group j).number (of.header j jl)
+    counts_after_step notes counts source next (sorted_header group j).number ≡ count_after_at notes group counts source j
+stepped_at notes counts source next group of j jl = stepped_here notes counts source next (sorted_header group j).number (of.header j jl)
 
 pub find_none : (n : ℕ) (p : ℕ → Bool) → ((k : ℕ) → k < n → p k ≡ false) → find_below n p ≡ None
 find_none zero p h = refl
@@ -44,7 +44,7 @@ find_first (suc n) p k kl h before = ⊎_elim
 
 -- loops of another header keep their counts, which are within their bounds
 pub other_kept : (notes : List LoopNote) (counts : List ℕ) (source : Option ℕ) (next k : ℕ) → AreCounts notes counts → k < length notes → ((note_at notes k).header ≡ next → ⊥) →
-    nat_lt (note_at notes k).bound (counts_from notes counts source next k) ≡ false
+    nat_lt (note_at notes k).bound (counts_after_step notes counts source next k) ≡ false
 other_kept notes counts source next k fit kl ne =
     let low = fit.bounded k kl in
     let same = stepped_else notes counts source next k ne in
@@ -56,48 +56,48 @@ pub none_over : (notes : List LoopNote) (counts : List ℕ) (source : Option ℕ
 none_over notes counts source next group fit of none = find_none (length notes) _ (λ k kl. ⊎_elim
     (λ (e : (note_at notes k).header ≡ next).
     let spot = of.whole k kl e in
-    subst (λ i. nat_lt (note_at notes i).bound (counts_from notes counts source next i) ≡ false) spot.2
-    (ap (nat_lt (note_at notes (header_at group spot.0).number).bound) (stepped_at notes counts source next group of spot.0 spot.1) ∙ none spot.0 spot.1))
+    subst (λ i. nat_lt (note_at notes i).bound (counts_after_step notes counts source next i) ≡ false) spot.2
+    (ap (nat_lt (note_at notes (sorted_header group spot.0).number).bound) (stepped_at notes counts source next group of spot.0 spot.1) ∙ none spot.0 spot.1))
     (λ (ne : (note_at notes k).header ≡ next → ⊥). other_kept notes counts source next k fit kl ne)
     (cases_eq (note_at notes k).header next))
 
 -- the first loop of the target that is over is the least one
 pub first_over : (notes : List LoopNote) (counts : List ℕ) (source : Option ℕ) (next : ℕ) (group : List Header) → AreCounts notes counts → AreLoopsOf notes next group →
     (p : ℕ) → p < length group → is_over notes group counts source p ≡ true → ((j : ℕ) → j < p → is_over notes group counts source j ≡ false) →
-    loop_over notes counts source next ≡ Some (header_at group p).number
-first_over notes counts source next group fit of p pl over before = find_first (length notes) _ (header_at group p).number (of.loops.within p pl)
-    (ap (nat_lt (note_at notes (header_at group p).number).bound) (stepped_at notes counts source next group of p pl) ∙ over)
+    loop_over notes counts source next ≡ Some (sorted_header group p).number
+first_over notes counts source next group fit of p pl over before = find_first (length notes) _ (sorted_header group p).number (of.loops.within p pl)
+    (ap (nat_lt (note_at notes (sorted_header group p).number).bound) (stepped_at notes counts source next group of p pl) ∙ over)
     (λ k below.
-    let top : (header_at group p).number < length notes = of.loops.within p pl in
+    let top : (sorted_header group p).number < length notes = of.loops.within p pl in
     let kl : k < length notes = omega arith in
     ⊎_elim
     (λ (e : (note_at notes k).header ≡ next).
     let spot = of.whole k kl e in
-    let same : (header_at group spot.0).number ≡ k = spot.2 in
+    let same : (sorted_header group spot.0).number ≡ k = spot.2 in
     let early : spot.0 < p = ⊎_elim (λ (l : spot.0 < p). l)
     (λ (ge : p ≤ spot.0). absurd (⊎_elim
-    (λ (q : p ≡ spot.0). let r : (header_at group p).number ≡ (header_at group spot.0).number = ap (λ i. (header_at group i).number) q in let no : ⊥ = omega arith in no)
-    (λ (ne : p ≡ spot.0 → ⊥). let l : p < spot.0 = omega arith in let r : (header_at group p).number < (header_at group spot.0).number = of.loops.rise p spot.0 l spot.1 in let no : ⊥ = omega arith in no)
+    (λ (q : p ≡ spot.0). let r : (sorted_header group p).number ≡ (sorted_header group spot.0).number = ap (λ i. (sorted_header group i).number) q in let no : ⊥ = omega arith in no)
+    (λ (ne : p ≡ spot.0 → ⊥). let l : p < spot.0 = omega arith in let r : (sorted_header group p).number < (sorted_header group spot.0).number = of.loops.rise p spot.0 l spot.1 in let no : ⊥ = omega arith in no)
     (cases_eq p spot.0)))
     (cases_lt spot.0 p) in
-    subst (λ i. nat_lt (note_at notes i).bound (counts_from notes counts source next i) ≡ false) same
-    (ap (nat_lt (note_at notes (header_at group spot.0).number).bound) (stepped_at notes counts source next group of spot.0 spot.1) ∙ before spot.0 early))
+    subst (λ i. nat_lt (note_at notes i).bound (counts_after_step notes counts source next i) ≡ false) same
+    (ap (nat_lt (note_at notes (sorted_header group spot.0).number).bound) (stepped_at notes counts source next group of spot.0 spot.1) ∙ before spot.0 early))
     (λ (ne : (note_at notes k).header ≡ next → ⊥). other_kept notes counts source next k fit kl ne)
     (cases_eq (note_at notes k).header next))
 
 -- what the counts are by loop, where those of the target were counted
 pub counted_by_loop : (notes : List LoopNote) (counts : List ℕ) (source : Option ℕ) (next : ℕ) (group : List Header) (after : List ℕ) → AreLoopsOf notes next group →
-    ((j : ℕ) → j < length group → get_or after (header_at group j).number 0 ≡ counted_at notes group counts source j) →
-    ((k : ℕ) → ((j : ℕ) → j < length group → (header_at group j).number ≢ k) → get_or after k 0 ≡ get_or counts k 0) →
-    (k : ℕ) → k < length notes → get_or after k 0 ≡ counts_from notes counts source next k
+    ((j : ℕ) → j < length group → get_or after (sorted_header group j).number 0 ≡ count_after_at notes group counts source j) →
+    ((k : ℕ) → ((j : ℕ) → j < length group → (sorted_header group j).number ≢ k) → get_or after k 0 ≡ get_or counts k 0) →
+    (k : ℕ) → k < length notes → get_or after k 0 ≡ counts_after_step notes counts source next k
 counted_by_loop notes counts source next group after of each others k kl = ⊎_elim
     (λ (e : (note_at notes k).header ≡ next).
     let spot = of.whole k kl e in
-    subst (λ i. get_or after i 0 ≡ counts_from notes counts source next i) spot.2 (each spot.0 spot.1 ∙ sym (stepped_at notes counts source next group of spot.0 spot.1)))
+    subst (λ i. get_or after i 0 ≡ counts_after_step notes counts source next i) spot.2 (each spot.0 spot.1 ∙ sym (stepped_at notes counts source next group of spot.0 spot.1)))
     (λ (ne : (note_at notes k).header ≡ next → ⊥).
     others k (λ j jl same. ne (ap (λ i. (note_at notes i).header) (sym same) ∙ of.header j jl)) ∙ sym (stepped_else notes counts source next k ne))
     (cases_eq (note_at notes k).header next)
 
 pub counts_listed : (notes : List LoopNote) (counts : List ℕ) (source : Option ℕ) (next : ℕ) (after : List ℕ) → length after ≡ length notes →
-    ((k : ℕ) → k < length notes → get_or after k 0 ≡ counts_from notes counts source next k) → after ≡ map (counts_from notes counts source next) (range_with_len 0 (length notes))
-counts_listed notes counts source next after size each = fill_by_all (counts_from notes counts source next) after (length notes) 0 size each
+    ((k : ℕ) → k < length notes → get_or after k 0 ≡ counts_after_step notes counts source next k) → after ≡ map (counts_after_step notes counts source next) (range_with_len 0 (length notes))
+counts_listed notes counts source next after size each = fill_by_all (counts_after_step notes counts source next) after (length notes) 0 size each

@@ -11,47 +11,47 @@ use Rattle.std.specs.List.Sorted.{IsStableBy, ties}
 use Rattle.loop_file.specs.declared.notes.LoopNote.{LoopNote}
 use Rattle.loop_file.specs.Kept.{note_at}
 use Rattle.keep_monitor.specs.declared.headers.Header.{Header}
-use Rattle.keep_monitor.specs.Headers.{header_by_number, headers_of, is_of, header_at, AreLoopsOf}
+use Rattle.keep_monitor.specs.Headers.{header_by_number, headers_of, is_of, sorted_header, AreLoopsOf}
 
 abbrev no_header : Header
 no_header = record { at = 0; number = 0 }
 
-filter_none : (at : ℕ) (xs : List Header) → ((k : ℕ) → k < length xs → is_of at (header_at xs k) ≡ false) → filter (is_of at) xs ≡ []
+filter_none : (at : ℕ) (xs : List Header) → ((k : ℕ) → k < length xs → is_of at (sorted_header xs k) ≡ false) → filter (is_of at) xs ≡ []
 filter_none at [] h = refl
 filter_none at (x ∷ xs) h = cond-false _ _ _ (h zero (omega arith)) ∙ filter_none at xs (λ k kl. h (suc k) (omega arith))
 
-filter_whole : (at : ℕ) (xs : List Header) → ((k : ℕ) → k < length xs → is_of at (header_at xs k) ≡ true) → filter (is_of at) xs ≡ xs
+filter_whole : (at : ℕ) (xs : List Header) → ((k : ℕ) → k < length xs → is_of at (sorted_header xs k) ≡ true) → filter (is_of at) xs ≡ xs
 filter_whole at [] h = refl
 filter_whole at (x ∷ xs) h = cond-true _ _ _ (h zero (omega arith)) ∙ ap (λ ys. x ∷ ys) (filter_whole at xs (λ k kl. h (suc k) (omega arith)))
 
 -- the headers at an address stand between those below it and those above it
 pub filter_between : (at : ℕ) (xs rest : List Header) (i n : ℕ) → rest ≡ drop i xs → i ≤ length xs → n ≤ length rest →
-    ((k : ℕ) → k < i → (header_at xs k).at < at) → ((k : ℕ) → i ≤ k → k < length xs → at ≤ (header_at xs k).at) →
-    ((k : ℕ) → k < n → (header_at rest k).at ≤ at) → ((k : ℕ) → n ≤ k → k < length rest → at < (header_at rest k).at) →
+    ((k : ℕ) → k < i → (sorted_header xs k).at < at) → ((k : ℕ) → i ≤ k → k < length xs → at ≤ (sorted_header xs k).at) →
+    ((k : ℕ) → k < n → (sorted_header rest k).at ≤ at) → ((k : ℕ) → n ≤ k → k < length rest → at < (sorted_header rest k).at) →
     take n rest ≡ filter (is_of at) xs
 filter_between at xs rest i n cut il nl low high mid top =
     let size : length rest ≡ length xs - i = ap length cut ∙ length-drop i xs in
     let front : filter (is_of at) (take i xs) ≡ [] = filter_none at (take i xs) (λ k kl.
     let tl : length (take i xs) ≡ i = length-take-le i xs il in
     let k_i : k < i = omega arith in
-    let same : header_at (take i xs) k ≡ header_at xs k = get_or-take i xs k no_header k_i in
-    let less : (header_at xs k).at < at = low k k_i in
-    ne_eqb _ _ (λ e. let f : (header_at xs k).at ≡ at = sym (ap (λ h. h.at) same) ∙ e in let no : ⊥ = omega arith in no)) in
+    let same : sorted_header (take i xs) k ≡ sorted_header xs k = get_or-take i xs k no_header k_i in
+    let less : (sorted_header xs k).at < at = low k k_i in
+    ne_eqb _ _ (λ e. let f : (sorted_header xs k).at ≡ at = sym (ap (λ h. h.at) same) ∙ e in let no : ⊥ = omega arith in no)) in
     let middle : filter (is_of at) (take n rest) ≡ take n rest = filter_whole at (take n rest) (λ k kl.
     let tl : length (take n rest) ≡ n = length-take-le n rest nl in
     let k_n : k < n = omega arith in
-    let same : header_at (take n rest) k ≡ header_at rest k = get_or-take n rest k no_header k_n in
-    let there : header_at rest k ≡ header_at xs (i + k) = ap (λ ys. header_at ys k) cut ∙ get_or-drop i xs k no_header in
-    let most : (header_at rest k).at ≤ at = mid k k_n in
-    let least : at ≤ (header_at xs (i + k)).at = high (i + k) (omega arith) (omega arith) in
-    let f : (header_at rest k).at ≡ (header_at xs (i + k)).at = ap (λ h. h.at) there in
-    let g : (header_at rest k).at ≡ at = omega arith in
+    let same : sorted_header (take n rest) k ≡ sorted_header rest k = get_or-take n rest k no_header k_n in
+    let there : sorted_header rest k ≡ sorted_header xs (i + k) = ap (λ ys. sorted_header ys k) cut ∙ get_or-drop i xs k no_header in
+    let most : (sorted_header rest k).at ≤ at = mid k k_n in
+    let least : at ≤ (sorted_header xs (i + k)).at = high (i + k) (omega arith) (omega arith) in
+    let f : (sorted_header rest k).at ≡ (sorted_header xs (i + k)).at = ap (λ h. h.at) there in
+    let g : (sorted_header rest k).at ≡ at = omega arith in
     eq-eqb _ _ (ap (λ h. h.at) same ∙ g)) in
     let end : filter (is_of at) (drop n rest) ≡ [] = filter_none at (drop n rest) (λ k kl.
     let dl : length (drop n rest) ≡ length rest - n = length-drop n rest in
-    let same : header_at (drop n rest) k ≡ header_at rest (n + k) = get_or-drop n rest k no_header in
-    let more : at < (header_at rest (n + k)).at = top (n + k) (omega arith) (omega arith) in
-    ne_eqb _ _ (λ e. let f : (header_at rest (n + k)).at ≡ at = sym (ap (λ h. h.at) same) ∙ e in let no : ⊥ = omega arith in no)) in
+    let same : sorted_header (drop n rest) k ≡ sorted_header rest (n + k) = get_or-drop n rest k no_header in
+    let more : at < (sorted_header rest (n + k)).at = top (n + k) (omega arith) (omega arith) in
+    ne_eqb _ _ (λ e. let f : (sorted_header rest (n + k)).at ≡ at = sym (ap (λ h. h.at) same) ∙ e in let no : ⊥ = omega arith in no)) in
     let two : filter (is_of at) rest ≡ take n rest =
     ap (filter (is_of at)) (sym (take-append-drop n rest)) ∙ filter-append (is_of at) (take n rest) (drop n rest) ∙ ap (λ ys. filter (is_of at) (take n rest) ++ ys) end ∙ append-nil (filter (is_of at) (take n rest)) ∙ middle in
     sym (ap (filter (is_of at)) (sym (take-append-drop i xs)) ∙ filter-append (is_of at) (take i xs) (drop i xs) ∙ ap (λ ys. ys ++ filter (is_of at) (drop i xs)) front ∙ ap (filter (is_of at)) (sym cut) ∙ two)
@@ -76,20 +76,20 @@ pub same_from_stable : (xs ys : List Header) → IsStableBy (λ (x y : Header). 
 same_from_stable xs ys stable at =
     sym (filter_agree (tied at) (is_of at) (tied-is at) ys) ∙ stable (record { at = at; number = 0 }) ∙ filter_agree (tied at) (is_of at) (tied-is at) xs
 
-kept_in : (at : ℕ) (xs : List Header) (k : ℕ) → k < length xs → is_of at (header_at xs k) ≡ true →
-    (j : ℕ) × (j < length (filter (is_of at) xs)) × (header_at (filter (is_of at) xs) j ≡ header_at xs k)
+kept_in : (at : ℕ) (xs : List Header) (k : ℕ) → k < length xs → is_of at (sorted_header xs k) ≡ true →
+    (j : ℕ) × (j < length (filter (is_of at) xs)) × (sorted_header (filter (is_of at) xs) j ≡ sorted_header xs k)
 kept_in at [] k kl h = let bad : ⊥ = omega arith in absurd bad
 kept_in at (x ∷ xs) zero kl h =
-    subst (λ (ys : List Header). (j : ℕ) × (j < length ys) × (header_at ys j ≡ x)) (sym (cond-true _ (x ∷ filter (is_of at) xs) (filter (is_of at) xs) h)) (0, omega arith, refl)
+    subst (λ (ys : List Header). (j : ℕ) × (j < length ys) × (sorted_header ys j ≡ x)) (sym (cond-true _ (x ∷ filter (is_of at) xs) (filter (is_of at) xs) h)) (0, omega arith, refl)
 kept_in at (x ∷ xs) (suc k) kl h = go (is_of at x) refl (kept_in at xs k (omega arith) h)
   where
-    go : (b : Bool) → is_of at x ≡ b → (j : ℕ) × (j < length (filter (is_of at) xs)) × (header_at (filter (is_of at) xs) j ≡ header_at xs k) →
-        (j : ℕ) × (j < length (filter (is_of at) (x ∷ xs))) × (header_at (filter (is_of at) (x ∷ xs)) j ≡ header_at xs k)
+    go : (b : Bool) → is_of at x ≡ b → (j : ℕ) × (j < length (filter (is_of at) xs)) × (sorted_header (filter (is_of at) xs) j ≡ sorted_header xs k) →
+        (j : ℕ) × (j < length (filter (is_of at) (x ∷ xs))) × (sorted_header (filter (is_of at) (x ∷ xs)) j ≡ sorted_header xs k)
     go true e found =
-        subst (λ (ys : List Header). (j : ℕ) × (j < length ys) × (header_at ys j ≡ header_at xs k)) (sym (cond-true _ (x ∷ filter (is_of at) xs) (filter (is_of at) xs) e))
+        subst (λ (ys : List Header). (j : ℕ) × (j < length ys) × (sorted_header ys j ≡ sorted_header xs k)) (sym (cond-true _ (x ∷ filter (is_of at) xs) (filter (is_of at) xs) e))
         (suc found.0, (let l = found.1 in omega (arith, l)), found.2)
     go false e found =
-        subst (λ (ys : List Header). (j : ℕ) × (j < length ys) × (header_at ys j ≡ header_at xs k)) (sym (cond-false _ (x ∷ filter (is_of at) xs) (filter (is_of at) xs) e)) found
+        subst (λ (ys : List Header). (j : ℕ) × (j < length ys) × (sorted_header ys j ≡ sorted_header xs k)) (sym (cond-false _ (x ∷ filter (is_of at) xs) (filter (is_of at) xs) e)) found
 
 -- they are all loops of that header, each once, in their order
 pub loops_from_filter : (notes : List LoopNote) (at : ℕ) (group : List Header) → group ≡ filter (is_of at) (headers_of notes (length notes)) → AreLoopsOf notes at group
@@ -100,7 +100,7 @@ loops_from_filter notes at group e = subst (AreLoopsOf notes at) (sym e) record 
   };
   header = λ j jl. let here = (each j no_header jl).1 in let of = eqb-true _ _ (passes j no_header jl) in sym here ∙ of;
   whole = λ k kl h.
-      let spot : header_at heads k ≡ header_by_number notes k = here k no_header kl in
+      let spot : sorted_header heads k ≡ header_by_number notes k = here k no_header kl in
       let found = kept_in at heads k (omega (arith, size)) (eq-eqb _ _ (ap (λ x. x.at) spot ∙ h)) in
       (found.0, found.1, ap (λ x. x.number) (found.2 ∙ spot));
 }

@@ -17,7 +17,7 @@ use Rattle.loop_file.specs.declared.notes.LoopNote.{LoopNote}
 use Rattle.loop_file.specs.Kept.{note_at, most_returns}
 use Rattle.keep_monitor.specs.Slots.{slot_of, AreSlotsOf}
 use Rattle.keep_monitor.specs.Watch.{Watched, watch}
-use Rattle.keep_monitor.specs.Steps.{broken_by, broken_loop, counts_from, loop_over, loop_left, lesser, AreTurning, AreCounts}
+use Rattle.keep_monitor.specs.Steps.{broken_by, broken_loop, counts_after_step, loop_over, loop_left, lesser_loop, AreTurning, AreCounts}
 use Rattle.keep_monitor.proofs.CountLaws.{find_none, other_kept, stepped_else}
 use Rattle.keep_monitor.proofs.BreakLaws.{at_end, broken_is, none_left}
 use Rattle.keep_monitor.proofs.StepLaws.{step_kept, watch_goes_on, watch_stays}
@@ -56,10 +56,10 @@ none_broken : (notes : List LoopNote) (counts : List ℕ) (source : Option ℕ) 
     ((k : ℕ) → k < length notes → (note_at notes k).header ≡ x.next → ⊥) → broken_loop notes counts source x ≡ None
 none_broken notes counts source x idle fit none =
     let over : loop_over notes counts source x.next ≡ None =
-    find_none (length notes) (λ k. nat_lt (note_at notes k).bound (counts_from notes counts source x.next k)) (λ k kl. other_kept notes counts source x.next k fit kl (none k kl)) in
+    find_none (length notes) (λ k. nat_lt (note_at notes k).bound (counts_after_step notes counts source x.next k)) (λ k kl. other_kept notes counts source x.next k fit kl (none k kl)) in
     let left : loop_left notes counts x ≡ None = none_left notes [] counts x idle (λ j jl. absurd (omega arith)) in
-    ap (option_map (λ k. BrokeBound (k + 1) (counts_from notes counts source x.next k)))
-    (broken_is notes counts source x ∙ (ap (λ o. lesser o (loop_left notes counts x)) over ∙ ap (lesser None) left))
+    ap (option_map (λ k. BrokeBound (k + 1) (counts_after_step notes counts source x.next k)))
+    (broken_is notes counts source x ∙ (ap (λ o. lesser_loop o (loop_left notes counts x)) over ∙ ap (lesser_loop None) left))
 
 pub plain_step : (w : Watched) (x : Stepped) → x.moved ≡ Local → AreTurning w.notes (length w.notes) [] → AreCounts w.notes w.counts → length w.returns ≤ most_returns →
     ((k : ℕ) → k < length w.notes → (note_at w.notes k).header ≡ x.next → ⊥) → w ≡ watch w x

@@ -12,7 +12,7 @@ use Rattle.graph_runs.specs.KeptSteps.{source_of}
 use Rattle.loop_file.specs.declared.notes.LoopNote.{LoopNote}
 use Rattle.loop_file.specs.Kept.{most_returns}
 use Rattle.keep_monitor.specs.Watch.{Watched, watch, watch_after, next_counts, loop_broken, watch_loops, watch_returns}
-use Rattle.keep_monitor.specs.Steps.{broken_by, counts_from, broken_loop}
+use Rattle.keep_monitor.specs.Steps.{broken_by, counts_after_step, broken_loop}
 use Rattle.keep_monitor.proofs.CountLaws.{counts_listed}
 
 -- a break of the rules on calls and returns
@@ -78,7 +78,7 @@ neither_broken (Some b) l e = let bad : ⊥ = cc in absurd bad
 -- a step that keeps all rules
 pub step_kept : (notes : List LoopNote) (returns counts : List ℕ) (x : Stepped) (o : Option (List ℕ)) (rs after : List ℕ) →
     broken_by x o ≡ None → broken_loop notes counts (source_of x.moved x.pc returns) x ≡ None → o ≡ Some rs → length after ≡ length notes →
-    ((k : ℕ) → k < length notes → get_or after k 0 ≡ counts_from notes counts (source_of x.moved x.pc returns) x.next k) →
+    ((k : ℕ) → k < length notes → get_or after k 0 ≡ counts_after_step notes counts (source_of x.moved x.pc returns) x.next k) →
     record { notes = notes; returns = rs; counts = after; kept = kinds.Kept } ≡ watch_returns (unbroken notes returns counts) x o
 step_kept notes returns counts x o rs after none no_loop moved size each =
     let w : Watched = unbroken notes returns counts in

@@ -22,16 +22,16 @@ pub record AreSortedHeaders (notes : List LoopNote) (headers : List Header) : Ty
   pub same : (at : ℕ) → filter (is_of at) headers ≡ filter (is_of at) (headers_of notes (length notes))
 
 -- a header of a list, by its place
-abbrev pub header_at : List Header → ℕ → Header
-header_at headers j = slice_index_or headers j (record { at = 0; number = 0 })
+abbrev pub sorted_header : List Header → ℕ → Header
+sorted_header headers j = slice_index_or headers j (record { at = 0; number = 0 })
 
 -- loops among the first n, each once, in their order
-pub record AreLoopNumbers (n : ℕ) (group : List Header) : Type 0 where
-  pub within : (j : ℕ) → j < length group → (header_at group j).number < n
-  pub rise : (i j : ℕ) → i < j → j < length group → (header_at group i).number < (header_at group j).number
+pub record AreRisingLoops (n : ℕ) (group : List Header) : Type 0 where
+  pub within : (j : ℕ) → j < length group → (sorted_header group j).number < n
+  pub rise : (i j : ℕ) → i < j → j < length group → (sorted_header group i).number < (sorted_header group j).number
 
 -- all loops of one header
 pub record AreLoopsOf (notes : List LoopNote) (at : ℕ) (group : List Header) : Type 0 where
-  pub loops : AreLoopNumbers (length notes) group
-  pub header : (j : ℕ) → j < length group → (note_at notes (header_at group j).number).header ≡ at
-  pub whole : (k : ℕ) → k < length notes → (note_at notes k).header ≡ at → (j : ℕ) × (j < length group) × ((header_at group j).number ≡ k)
+  pub loops : AreRisingLoops (length notes) group
+  pub header : (j : ℕ) → j < length group → (note_at notes (sorted_header group j).number).header ≡ at
+  pub whole : (k : ℕ) → k < length notes → (note_at notes k).header ≡ at → (j : ℕ) × (j < length group) × ((sorted_header group j).number ≡ k)

@@ -10,7 +10,7 @@ use Rattle.loop_file.specs.declared.notes.LoopNote.{LoopNote}
 use Rattle.loop_file.specs.Notes.{AreLoopNotes}
 use Rattle.loop_file.specs.Kept.{note_at, in_extent, noted_loops, most_returns}
 use Rattle.keep_monitor.specs.declared.headers.Header.{Header}
-use Rattle.keep_monitor.specs.Headers.{AreSortedHeaders, header_at}
+use Rattle.keep_monitor.specs.Headers.{AreSortedHeaders, sorted_header}
 use Rattle.keep_monitor.specs.Watch.{loop_broken}
 
 abbrev pub first_of : List ℕ → Option ℕ
@@ -23,12 +23,12 @@ broken_by x None = Some (BrokeReturn x.pc x.next)
 broken_by x (Some returns) = if nat_lt most_returns (length returns) then Some (BrokeDepth x.pc) else None
 
 -- the counts of all loops after a step from a source to an address
-abbrev pub counts_from : List LoopNote → List ℕ → Option ℕ → ℕ → ℕ → ℕ
-counts_from notes counts source next k = count_step (noted_loops notes) source (Some next) (λ j. slice_index counts j) k
+abbrev pub counts_after_step : List LoopNote → List ℕ → Option ℕ → ℕ → ℕ → ℕ
+counts_after_step notes counts source next k = count_step (noted_loops notes) source (Some next) (λ j. slice_index counts j) k
 
 -- the least loop whose count is above its bound then
 abbrev pub loop_over : List LoopNote → List ℕ → Option ℕ → ℕ → Option ℕ
-loop_over notes counts source next = find_below (length notes) (λ k. nat_lt (note_at notes k).bound (counts_from notes counts source next k))
+loop_over notes counts source next = find_below (length notes) (λ k. nat_lt (note_at notes k).bound (counts_after_step notes counts source next k))
 
 -- whether a step leaves a loop's extent
 abbrev pub leaves_note : Move → LoopNote → ℕ → ℕ → Bool
@@ -45,15 +45,15 @@ abbrev pub loop_left : List LoopNote → List ℕ → Stepped → Option ℕ
 loop_left notes counts x = find_below (length notes) (λ k. is_left_early (note_at notes k) x (slice_index counts k))
 
 -- the lesser of two numbers, where they are there
-abbrev pub lesser : Option ℕ → Option ℕ → Option ℕ
-lesser None other = other
-lesser (Some a) None = Some a
-lesser (Some a) (Some b) = Some (if nat_lt a b then a else b)
+abbrev pub lesser_loop : Option ℕ → Option ℕ → Option ℕ
+lesser_loop None other = other
+lesser_loop (Some a) None = Some a
+lesser_loop (Some a) (Some b) = Some (if nat_lt a b then a else b)
 
 -- what a step breaks of the rules on loops. Loops are numbered from 1 there.
 abbrev pub broken_loop : List LoopNote → List ℕ → Option ℕ → Stepped → Option Kept
 broken_loop notes counts source x =
-    option_map (λ k. BrokeBound (k + 1) (counts_from notes counts source x.next k)) (loop_broken notes (counts_from notes counts source x.next) x)
+    option_map (λ k. BrokeBound (k + 1) (counts_after_step notes counts source x.next k)) (loop_broken notes (counts_after_step notes counts source x.next) x)
 
 -- those of the first n loops that have to turn before they are left, ascending
 pub record AreTurning (notes : List LoopNote) (n : ℕ) (numbers : List ℕ) : Type 0 where
@@ -62,17 +62,17 @@ pub record AreTurning (notes : List LoopNote) (n : ℕ) (numbers : List ℕ) : T
   pub whole : (k : ℕ) → k < n → 0 < (note_at notes k).at_least → (j : ℕ) × (j < length numbers) × (slice_index numbers j ≡ k)
 
 -- the count of a loop after a step to its header
-abbrev pub counted : LoopNote → Option ℕ → ℕ → ℕ
-counted note None count = 0
-counted note (Some v) count = if in_extent note v then count + 1 else 0
+abbrev pub count_then : LoopNote → Option ℕ → ℕ → ℕ
+count_then note None count = 0
+count_then note (Some v) count = if in_extent note v then count + 1 else 0
 
 -- the same at a place of a list of loops
-abbrev pub counted_at : List LoopNote → List Header → List ℕ → Option ℕ → ℕ → ℕ
-counted_at notes group counts source j =
-    counted (note_at notes (header_at group j).number) source (slice_index counts (header_at group j).number)
+abbrev pub count_after_at : List LoopNote → List Header → List ℕ → Option ℕ → ℕ → ℕ
+count_after_at notes group counts source j =
+    count_then (note_at notes (sorted_header group j).number) source (slice_index counts (sorted_header group j).number)
 
 abbrev pub is_over : List LoopNote → List Header → List ℕ → Option ℕ → ℕ → Bool
-is_over notes group counts source j = nat_lt (note_at notes (header_at group j).number).bound (counted_at notes group counts source j)
+is_over notes group counts source j = nat_lt (note_at notes (sorted_header group j).number).bound (count_after_at notes group counts source j)
 
 -- the counts are within the bounds of as many loops
 pub record AreCounts (notes : List LoopNote) (counts : List ℕ) : Type 0 where

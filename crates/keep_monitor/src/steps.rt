@@ -6,8 +6,8 @@ ghost use Rattle.graph_runs.specs.ReturnAddresses.{returns_after};
 ghost use Rattle.graph_runs.specs.KeptSteps as rules;
 ghost use Rattle.loop_file.specs.Notes.{AreLoopNotes};
 ghost use Rattle.loop_file.specs.Kept as kept;
-ghost use Rattle.keep_monitor.specs.Headers.{AreLoopNumbers, AreLoopsOf, header_at};
-ghost use Rattle.keep_monitor.specs.Steps.{first_of, broken_by, loop_over, leaves_note, is_left_early, loop_left, lesser, broken_loop, counted, counted_at, AreTurning, AreCounts};
+ghost use Rattle.keep_monitor.specs.Headers.{AreRisingLoops, AreLoopsOf, sorted_header};
+ghost use Rattle.keep_monitor.specs.Steps.{first_of, broken_by, loop_over, leaves_note, is_left_early, loop_left, lesser_loop, broken_loop, count_then, count_after_at, AreTurning, AreCounts};
 
 use crate::headers::Header;
 use loop_file::{LoopNote, LoopNotes};
@@ -108,7 +108,7 @@ fn in_extent(note: &LoopNote, at: u32) -> bool
 // The count of a loop after a step to its header.
 fn next_count(note: &LoopNote, source: Option<u32>, count: u32) -> u32
     requires { count < 2 ^ 31 }
-    ensures { result ≡ counted note.now source count }
+    ensures { result ≡ count_then note.now source count }
 {
     match source {
         Some(at) => { if in_extent(note, at) { count + 1 } else { 0 } }
@@ -175,7 +175,7 @@ fn first_left(notes: &LoopNotes, turning: &[usize], counts: &[u32], step: &Stepp
 }
 
 fn lesser(one: Option<usize>, other: Option<usize>) -> Option<usize>
-    ensures lesser { result ≡ lesser one other }
+    ensures lesser_loop { result ≡ lesser_loop one other }
     ensures within { (n : ℕ) → IfSome one (λ a. a < n) → IfSome other (λ b. b < n) → IfSome result (λ k. k < n) }
 {
     match (one, other) {
@@ -188,7 +188,7 @@ fn lesser(one: Option<usize>, other: Option<usize>) -> Option<usize>
 // The count of a loop after a step.
 fn count_after(note: &LoopNote, source: Option<u32>, next: u32, count: u32) -> u32
     requires { count < 2 ^ 31 }
-    ensures { result ≡ (if next == note.now.header then counted note.now source count else count) }
+    ensures { result ≡ (if next == note.now.header then count_then note.now source count else count) }
 {
     if next == note.header {
         next_count(note, source, count)
@@ -241,10 +241,10 @@ pub fn turning_loops(alloc: Global, notes: &LoopNotes) -> Result<Vec<usize>, NoM
 pub fn count_step(notes: &LoopNotes, group: &[Header], counts: &mut [u32], source: Option<u32>)
     requires notes { AreLoopNotes notes.now }
     requires counts { AreCounts notes.now counts.old }
-    requires loops { AreLoopNumbers (length notes.now) group.now }
+    requires loops { AreRisingLoops (length notes.now) group.now }
     ensures size { length counts.new ≡ length counts.old }
-    ensures each { (j : ℕ) → j < length group.now → slice_index counts.new (header_at group.now j).number ≡ counted_at notes.now group.now counts.old source j }
-    ensures others { (k : ℕ) → ((j : ℕ) → j < length group.now → (header_at group.now j).number ≢ k) → slice_index counts.new k ≡ slice_index counts.old k }
+    ensures each { (j : ℕ) → j < length group.now → slice_index counts.new (sorted_header group.now j).number ≡ count_after_at notes.now group.now counts.old source j }
+    ensures others { (k : ℕ) → ((j : ℕ) → j < length group.now → (sorted_header group.now j).number ≢ k) → slice_index counts.new k ≡ slice_index counts.old k }
 {
     for header in group {
         let note = notes.note(header.number);

@@ -11,7 +11,7 @@ use Rattle.natural_loops.proofs.Laws.{source_number}
 use Rattle.loop_tree.specs.Tree.{LoopView, loops}
 use Rattle.least_laws.specs.Charged.{Charged, calls_so, calls_exit, charged_cost, leads_on, ends_exit}
 use Rattle.least_laws.proofs.Laws.{least_same}
-use Rattle.least_cycles.specs.Hops.{least_at}
+use Rattle.least_cycles.specs.Hops.{number_in_table}
 use Rattle.least_cycles.specs.Functions.{IsBucket, IsFromFirst}
 use Rattle.least_cycles.specs.Tables.{value_beside, least_by, AreWalksOf, ArePriced, IsBefore}
 use Rattle.least_cycles.specs.Charging.{own_by, IsCharging, ArePricedAt}
@@ -95,7 +95,7 @@ module _ (v : FlowGraph) (t : LoopView) (w : ℕ → ℕ) (n : Charged) (is : Is
 
   -- the tables have the numbers of a function's nodes, and of its entry
   abbrev pub SameFor : ℕ → Type 0
-  SameFor f = (k : ℕ) → k < length v.code.nodes → g.owner (node_address v k) ≡ f → (least_at returns k ≡ n.least.to_return (node_address v k)) × (least_at exits k ≡ n.least.to_exit (node_address v k))
+  SameFor f = (k : ℕ) → k < length v.code.nodes → g.owner (node_address v k) ≡ f → (number_in_table returns k ≡ n.least.to_return (node_address v k)) × (number_in_table exits k ≡ n.least.to_exit (node_address v k))
 
   abbrev pub SameAtEntry : ℕ → Type 0
   SameAtEntry f = (tables.to_return (g.entry f) ≡ n.least.to_return (g.entry f)) × (tables.to_exit (g.entry f) ≡ n.least.to_exit (g.entry f))
@@ -141,13 +141,13 @@ module _ (v : FlowGraph) (t : LoopView) (w : ℕ → ℕ) (n : Charged) (is : Is
 
     function_same : SameFor f
     function_same k kl own = (
-      least_same (EndsWith g (IsReturn g) (Some a)) (IsRun g false g.returns (leads_on g) (Some a)) (total c) (total d) (least_at returns k) (n.least.to_return a)
+      least_same (EndsWith g (IsReturn g) (Some a)) (IsRun g false g.returns (leads_on g) (Some a)) (total c) (total d) (number_in_table returns k) (n.least.to_return a)
           (λ es walk. let m = moved g is.flow.program f (IsReturn g) (IsReturn g) c d costs (λ e el at yes. yes) es (Some a) (own_start a own) walk in (walk_run g (IsReturn g) g.returns (λ e el yes. yes) es (Some a) m.0, m.1))
           (λ es run.
           let walk = run_walk g (IsReturn g) g.returns (λ e el yes. yes) es (Some a) run in
           let m = moved g is.flow.program f (IsReturn g) (IsReturn g) d c (λ e el at. sym (costs e el at)) (λ e el at yes. yes) es (Some a) (own_start a own) walk in (m.0, m.1))
           (are.to_return k kl before) (is.numbers.to_return a),
-      least_same (EndsWith g (IsExit g tables) (Some a)) (IsRun g false (ends_exit g n.least) (leads_on g) (Some a)) (total c) (total d) (least_at exits k) (n.least.to_exit a)
+      least_same (EndsWith g (IsExit g tables) (Some a)) (IsRun g false (ends_exit g n.least) (leads_on g) (Some a)) (total c) (total d) (number_in_table exits k) (n.least.to_exit a)
           (λ es walk.
           let m = moved g is.flow.program f (IsExit g tables) (IsExit g n.least) c d costs (λ e el at yes. exit_to e (λ h calls. callees e h el at calls) yes) es (Some a) (own_start a own) walk in
           (walk_run g (IsExit g n.least) (ends_exit g n.least) (λ e el yes. exit_ends g n.least e yes) es (Some a) m.0, m.1))

@@ -3,7 +3,7 @@ use Rattle.std.proofs.Common.{◌≡◌, ℕ, ◌+◌, ◌^◌, ◌<◌, ◌≤�
 use Rattle.cost_theory.specs.Graph.{Graph, Loops, total, end_of, IsPlain, IsPlainPath, goes_back}
 use Rattle.cost_theory.specs.Worst.{Numbers, at_some, cost, charged}
 use Rattle.cost_theory.proofs.Laws.{worst_equation, function-worst, call_order, plain_from_entry}
-use Rattle.least_cycles.specs.Tables.{AreLimits}
+use Rattle.least_cycles.specs.Tables.{AreFunctionLimits}
 use Rattle.cost_theory.specs.Least.{EndsWith}
 use Rattle.cost_theory.specs.Laws.{IsAnalyzed}
 
@@ -35,7 +35,7 @@ path_le g l c d less (e ∷ es) p path = let a = less e path.0 in let b = path_l
 
 -- The worst cycles of functions are limits, where no edge costs more than it is charged there.
 pub limits_hold : (g : Graph) (l : Loops) (extent : ℕ → ℕ → Bool) (w : ℕ → ℕ) (n : Numbers) → IsAnalyzed g l extent w n → n.worst 0 ≤ 2 ^ 48 → (own : ℕ → ℕ) →
-    ((e : ℕ) → e < g.edges → own e + at_some (g.callee e) n.worst ≤ charged g l n (cost g n w) e) → AreLimits g own n.worst
+    ((e : ℕ) → e < g.edges → own e + at_some (g.callee e) n.worst ≤ charged g l n (cost g n w) e) → AreFunctionLimits g own n.worst
 limits_hold g l extent w n is few own less = record {
   small = λ f fl. let a = function-worst g l extent w n is.program is.accepted is.weights is.numbers (call_order g is.program).0 (call_order g is.program).1 f fl in omega arith;
   way = λ e lt none.

@@ -2,13 +2,13 @@
 use Rattle.std.proofs.Common.{◌≡◌, ◌≢◌, ℕ, zero, suc, ◌+◌, ◌^◌, ◌<◌, ◌≤◌, ◌⊎◌, List, [], ◌∷◌, ◌++◌, length, length-append, slice_set, Option, Some, None, refl, sym, ap, ◌∙◌, subst, arith, ⊎_elim, get_or-set_other, get_or-set_same, length-set}
 use Rattle.std.proofs.lemmas.Bool.{cases_lt}
 use Rattle.std.proofs.lemmas.List.{get_or_past}
-use Rattle.call_orders.specs.Arcs.{number_at}
+use Rattle.call_orders.specs.Arcs.{number_in_place}
 use Rattle.cost_theory.specs.Worst.{at_some}
 use Rattle.code_graph.specs.FlowGraph.{FlowGraph}
 use Rattle.loop_tree.specs.Tree.{LoopView}
 use Rattle.key_chains.specs.Keys.{option_at}
 use Rattle.least_cycles.specs.declared.charges.Charges.{Charges}
-use Rattle.least_cycles.specs.Charging.{IsEntered, AreEntered, charge_by, cost_with, AreSmallCharges, AreCharges}
+use Rattle.least_cycles.specs.Charging.{IsEntered, AreEnteredLoops, charge_by, cost_with, AreSmallCharges, AreCharges}
 
 some_within : (xs : List (Option ℕ)) (i k : ℕ) → option_at xs i ≡ Some k → i < length xs
 some_within [] i k at = let bad : ⊥ = cc in absurd bad
@@ -18,11 +18,11 @@ some_within (x ∷ xs) (suc i) k at = let r = some_within xs i k at in omega ari
 pub charge_low : (v : FlowGraph) (charges : Charges) → AreSmallCharges v charges → (e : ℕ) → charge_by charges.entries.items charges.found.items e ≤ 2 ^ 48
 charge_low v charges are e = go (option_at charges.entries.items e)
   where
-    go : (o : Option ℕ) → at_some o (number_at charges.found.items) ≤ 2 ^ 48
+    go : (o : Option ℕ) → at_some o (number_in_place charges.found.items) ≤ 2 ^ 48
     go None = omega arith
     go (Some l) = are.low l
 
-pub with_low : (v : FlowGraph) (costs : List ℕ) (charges : Charges) → ((e : ℕ) → number_at costs e ≤ 2 ^ 49) → AreSmallCharges v charges → (e : ℕ) → cost_with costs charges e ≤ 2 ^ 50
+pub with_low : (v : FlowGraph) (costs : List ℕ) (charges : Charges) → ((e : ℕ) → number_in_place costs e ≤ 2 ^ 49) → AreSmallCharges v charges → (e : ℕ) → cost_with costs charges e ≤ 2 ^ 50
 with_low v costs charges low are e = let a = low e in let b = charge_low v charges are e in omega arith
 
 pub small_charges : (v : FlowGraph) (t : LoopView) (charges : Charges) → AreCharges v t charges → AreSmallCharges v charges
@@ -47,7 +47,7 @@ at_push : (xs : List (Option ℕ)) (x : Option ℕ) → option_at (xs ++ x ∷ [
 at_push [] x = refl
 at_push (y ∷ ys) x = at_push ys x
 
-pub entered_more : (v : FlowGraph) (t : LoopView) (e : ℕ) (entries : List (Option ℕ)) (o : Option ℕ) → AreEntered v t e entries → IsEntered v t e o → AreEntered v t (e + 1) (entries ++ o ∷ [])
+pub entered_more : (v : FlowGraph) (t : LoopView) (e : ℕ) (entries : List (Option ℕ)) (o : Option ℕ) → AreEnteredLoops v t e entries → IsEntered v t e o → AreEnteredLoops v t (e + 1) (entries ++ o ∷ [])
 entered_more v t e entries o are is = record {
   size = let s = are.size in let a : length (entries ++ o ∷ []) ≡ length entries + 1 = length-append entries (o ∷ []) in omega arith;
   each = λ d dl. ⊎_elim
@@ -62,17 +62,17 @@ entered_more v t e entries o are is = record {
 }
 
 -- the charge of one loop is put in
-pub charges_low : (found : List ℕ) (l x k : ℕ) → x ≤ 2 ^ 48 → ((j : ℕ) → number_at found j ≤ 2 ^ 48) → number_at (slice_set found l x) k ≤ 2 ^ 48
+pub charges_low : (found : List ℕ) (l x k : ℕ) → x ≤ 2 ^ 48 → ((j : ℕ) → number_in_place found j ≤ 2 ^ 48) → number_in_place (slice_set found l x) k ≤ 2 ^ 48
 charges_low found l x k low all = ⊎_elim
     (λ (within : l < length found). ⊎_elim
-    (λ (same : k ≡ l). let here : number_at (slice_set found l x) k ≡ x = ap (number_at (slice_set found l x)) same ∙ get_or-set_same found l x 0 within in let r : number_at (slice_set found l x) k ≤ 2 ^ 48 = omega arith in r)
+    (λ (same : k ≡ l). let here : number_in_place (slice_set found l x) k ≡ x = ap (number_in_place (slice_set found l x)) same ∙ get_or-set_same found l x 0 within in let r : number_in_place (slice_set found l x) k ≤ 2 ^ 48 = omega arith in r)
     (λ (other : k ≢ l). subst (λ y. y ≤ 2 ^ 48) (sym (get_or-set_other found l k x 0 other)) (all k))
     (same_or k l))
     (λ (past : length found ≤ l). ⊎_elim
     (λ (same : k ≡ l).
     let size : length (slice_set found l x) ≡ length found = length-set found l x in
-    let none : number_at (slice_set found l x) k ≡ 0 = get_or_past (slice_set found l x) k 0 (omega arith) in
-    let r : number_at (slice_set found l x) k ≤ 2 ^ 48 = omega arith in r)
+    let none : number_in_place (slice_set found l x) k ≡ 0 = get_or_past (slice_set found l x) k 0 (omega arith) in
+    let r : number_in_place (slice_set found l x) k ≤ 2 ^ 48 = omega arith in r)
     (λ (other : k ≢ l). subst (λ y. y ≤ 2 ^ 48) (sym (get_or-set_other found l k x 0 other)) (all k))
     (same_or k l))
     (cases_lt l (length found))

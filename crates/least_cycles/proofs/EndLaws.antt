@@ -9,8 +9,8 @@ use Rattle.code_graph.specs.FlowGraph.{FlowGraph, graph, IsFlowGraph}
 use Rattle.code_graph.proofs.Laws.{few_once}
 use Rattle.natural_loops.specs.Noted.{node_address}
 use Rattle.key_chains.specs.Keys.{option_at, HasKey, AreKeys, IsLastBelow}
-use Rattle.least_cycles.specs.Hops.{least_at}
-use Rattle.least_cycles.specs.Local.{lesser, both}
+use Rattle.least_cycles.specs.Hops.{number_in_table}
+use Rattle.least_cycles.specs.Local.{lesser_cost, sum_of_both}
 use Rattle.natural_loops.proofs.Laws.{source_number}
 use Rattle.std.proofs.lemmas.List.{get_or_past, length-replicate}
 use Rattle.least_cycles.specs.Tables.{AreBackKeys, back_from, value_beside, least_by, AreWalksOf, IsAnyFunction}
@@ -24,7 +24,7 @@ same_or a b = grind arith
 
 -- ---- small numbers
 
-beside_low : (most : ℕ) (nodes : List ℕ) (table : List (Option ℕ)) (a x : ℕ) → ((k y : ℕ) → least_at table k ≡ Some y → y ≤ most) → value_beside nodes table a ≡ Some x → x ≤ most
+beside_low : (most : ℕ) (nodes : List ℕ) (table : List (Option ℕ)) (a x : ℕ) → ((k y : ℕ) → number_in_table table k ≡ Some y → y ≤ most) → value_beside nodes table a ≡ Some x → x ≤ most
 beside_low most [] table a x low at = let bad : ⊥ = cc in absurd bad
 beside_low most (u ∷ us) [] a x low at = let bad : ⊥ = cc in absurd bad
 beside_low most (u ∷ us) (o ∷ os) a x low at = pick (nat_eq u a) at (beside_low most us os a x (λ k y is. low (suc k) y is))
@@ -33,7 +33,7 @@ beside_low most (u ∷ us) (o ∷ os) a x low at = pick (nat_eq u a) at (beside_
     pick true is more = low 0 x is
     pick false is more = more is
 
-lesser_low : (most : ℕ) (p q : Option ℕ) (x : ℕ) → ((y : ℕ) → p ≡ Some y → y ≤ most) → ((y : ℕ) → q ≡ Some y → y ≤ most) → lesser p q ≡ Some x → x ≤ most
+lesser_low : (most : ℕ) (p q : Option ℕ) (x : ℕ) → ((y : ℕ) → p ≡ Some y → y ≤ most) → ((y : ℕ) → q ≡ Some y → y ≤ most) → lesser_cost p q ≡ Some x → x ≤ most
 lesser_low most None q x low_p low_q at = low_q x at
 lesser_low most (Some a) None x low_p low_q at = low_p x at
 lesser_low most (Some a) (Some b) x low_p low_q at = pick (nat_le a b) at
@@ -42,7 +42,7 @@ lesser_low most (Some a) (Some b) x low_p low_q at = pick (nat_le a b) at
     pick true is = low_p x is
     pick false is = low_q x is
 
-both_low : (m n : ℕ) (p q : Option ℕ) (x : ℕ) → ((y : ℕ) → p ≡ Some y → y ≤ m) → ((y : ℕ) → q ≡ Some y → y ≤ n) → both p q ≡ Some x → x ≤ m + n
+both_low : (m n : ℕ) (p q : Option ℕ) (x : ℕ) → ((y : ℕ) → p ≡ Some y → y ≤ m) → ((y : ℕ) → q ≡ Some y → y ≤ n) → sum_of_both p q ≡ Some x → x ≤ m + n
 both_low m n None q x low_p low_q at = let bad : ⊥ = cc in absurd bad
 both_low m n (Some a) None x low_p low_q at = let bad : ⊥ = cc in absurd bad
 both_low m n (Some a) (Some b) x low_p low_q at =
@@ -51,11 +51,11 @@ both_low m n (Some a) (Some b) x low_p low_q at =
     let same : a + b ≡ x = same_Some (a + b) x at in
     omega arith
 
-pub end_low : (v : FlowGraph) (returns exits behind : List (Option ℕ)) (most a x : ℕ) → AreSmallWalks v returns exits → ((h y : ℕ) → least_at behind h ≡ Some y → y ≤ most) → (least_by v returns exits behind).to_end a ≡ Some x → x ≤ 2 ^ 67 + most
+pub end_low : (v : FlowGraph) (returns exits behind : List (Option ℕ)) (most a x : ℕ) → AreSmallWalks v returns exits → ((h y : ℕ) → number_in_table behind h ≡ Some y → y ≤ most) → (least_by v returns exits behind).to_end a ≡ Some x → x ≤ 2 ^ 67 + most
 end_low v returns exits behind most a x small low at =
-    lesser_low (2 ^ 67 + most) (value_beside v.code.nodes exits a) (both (value_beside v.code.nodes returns a) (least_at behind ((graph v).owner a))) x
+    lesser_low (2 ^ 67 + most) (value_beside v.code.nodes exits a) (sum_of_both (value_beside v.code.nodes returns a) (number_in_table behind ((graph v).owner a))) x
     (λ y is. let r = beside_low (2 ^ 67) v.code.nodes exits a y small.small_exit is in omega arith)
-    (λ y is. both_low (2 ^ 67) most (value_beside v.code.nodes returns a) (least_at behind ((graph v).owner a)) y (λ z e. beside_low (2 ^ 67) v.code.nodes returns a z small.small_return e) (λ z e. low ((graph v).owner a) z e) is)
+    (λ y is. both_low (2 ^ 67) most (value_beside v.code.nodes returns a) (number_in_table behind ((graph v).owner a)) y (λ z e. beside_low (2 ^ 67) v.code.nodes returns a z small.small_return e) (λ z e. low ((graph v).owner a) z e) is)
     at
 
 back_value : (g : Graph) (n : Least) (f e m : ℕ) → IsBackTo g n f e → end_after g n e ≡ m → (u : ℕ) × (n.to_end u ≡ Some m)
@@ -68,7 +68,7 @@ back_value g n f e m back is = (back.2.0, value (n.to_end back.2.0) refl back.2.
     value None eq some = let bad : ⊥ = cc in absurd bad
     value (Some y) eq some = let same : y ≡ m = sym (ap (λ (o : Option ℕ). unwrap_or o 0) eq) ∙ sym after ∙ is in ap Some same
 
-pub behind_low : (v : FlowGraph) (returns exits behind : List (Option ℕ)) (most f : ℕ) (o : Option ℕ) → AreSmallWalks v returns exits → ((h y : ℕ) → least_at behind h ≡ Some y → y ≤ most) →
+pub behind_low : (v : FlowGraph) (returns exits behind : List (Option ℕ)) (most f : ℕ) (o : Option ℕ) → AreSmallWalks v returns exits → ((h y : ℕ) → number_in_table behind h ≡ Some y → y ≤ most) →
     IsLeastIfAny (IsBackTo (graph v) (least_by v returns exits behind) f) (end_after (graph v) (least_by v returns exits behind)) o → (x : ℕ) → o ≡ Some x → x ≤ 2 ^ 67 + most
 behind_low v returns exits behind most f None small low least x at = let bad : ⊥ = cc in absurd bad
 behind_low v returns exits behind most f (Some m) small low least x at =
@@ -87,7 +87,7 @@ back_key : (v : FlowGraph) (n : Least) (keys : List (Option ℕ)) (f e : ℕ) �
 back_key v n keys f e are back = are.each e back.0 ∙ ap (λ t. back_from t ((graph v).callee e)) back.2.1 ∙ back.1
 
 pub behind_more : (v : FlowGraph) (n : Least) (keys : List (Option ℕ)) (f from e : ℕ) (least o : Option ℕ) → AreBackKeys v (length v.code.edges) keys → IsLastBelow keys from f (Some e) → e < length v.code.edges → o ≡ end_place n ((graph v).target e) →
-    AreBehindFrom v n f from least → AreBehindFrom v n f e (lesser least o)
+    AreBehindFrom v n f from least → AreBehindFrom v n f e (lesser_cost least o)
 behind_more v n keys f from e least o are last el is before =
     least-lesser (λ d. IsBackTo (graph v) n f d × (from ≤ d)) (λ d. IsBackTo (graph v) n f d × (d ≡ e)) (λ d. IsBackTo (graph v) n f d × (e ≤ d)) (end_after (graph v) n) least o before (here o is)
     (λ d old. (old.0, (let low = old.1 in let lt = (last.place e refl).0 in let r : e ≤ d = omega arith in r)))
@@ -166,14 +166,14 @@ pub behind_next : (v : FlowGraph) (returns exits behind : List (Option ℕ)) (i 
 behind_next v returns exits behind i f least flow at are low is = record {
   size = length-set behind f least ∙ are.size;
   done = λ h j le place. ⊎_elim
-      (λ (same : h ≡ f). subst (λ x. IsLeastIfAny (IsBackTo (graph v) now x) (end_after (graph v) now) (least_at (slice_set behind f least) x)) (sym same)
+      (λ (same : h ≡ f). subst (λ x. IsLeastIfAny (IsBackTo (graph v) now x) (end_after (graph v) now) (number_in_table (slice_set behind f least) x)) (sym same)
       (subst (λ (o : Option ℕ). IsLeastIfAny (IsBackTo (graph v) now f) (end_after (graph v) now) o) (sym here) (move f i (omega arith) at least is)))
       (λ (other : h ≢ f).
       let above : i + 1 ≤ j = ⊎_elim (λ (lt : i < j). let r : i + 1 ≤ j = omega arith in r) (λ (ge : j ≤ i). let same : i ≡ j = omega arith in absurd (other (same_Some h f (sym place ∙ ap (slice_get v.order) (sym same) ∙ at)))) (cases_lt i j) in
-      subst (λ (o : Option ℕ). IsLeastIfAny (IsBackTo (graph v) now h) (end_after (graph v) now) o) (sym (get_or-set_other behind f h least None other)) (move h j le place (least_at behind h) (are.done h j above place)))
+      subst (λ (o : Option ℕ). IsLeastIfAny (IsBackTo (graph v) now h) (end_after (graph v) now) o) (sym (get_or-set_other behind f h least None other)) (move h j le place (number_in_table behind h) (are.done h j above place)))
       (same_or h f);
   low = λ h x value. ⊎_elim
-      (λ (same : h ≡ f). low x (sym here ∙ ap (least_at (slice_set behind f least)) (sym same) ∙ value))
+      (λ (same : h ≡ f). low x (sym here ∙ ap (number_in_table (slice_set behind f least)) (sym same) ∙ value))
       (λ (other : h ≢ f). let old = are.low h x (sym (get_or-set_other behind f h least None other) ∙ value) in let r : x + i * 2 ^ 67 ≤ length v.order * 2 ^ 67 = omega arith in r)
       (same_or h f);
 }
@@ -187,7 +187,7 @@ behind_next v returns exits behind i f least flow at are low is = record {
     fl : f < length v.code.functions
     fl = flow.order.within i f at
 
-    here : least_at (slice_set behind f least) f ≡ least
+    here : number_in_table (slice_set behind f least) f ≡ least
     here = get_or-set_same behind f least None (let s = are.size in let l = fl in omega arith)
 
     -- a caller of a function at place i or behind it is another
@@ -197,7 +197,7 @@ behind_next v returns exits behind i f least flow at are low is = record {
         let p = flow.order.whole ((graph v).owner ((graph v).source e)) (flow.program.owner_function e el) in
         let above = flow.order.before ((graph v).source e) h j p.0 (e, el, refl, calls) place p.1 in
         let other : (graph v).owner u ≢ f = (λ same. let one : p.0 ≡ i = flow.order.once p.0 i f (p.1 ∙ ap Some (sym owner ∙ same)) at in let bad : ⊥ = omega arith in bad) in
-        ap (λ (o : Option ℕ). lesser (value_beside v.code.nodes exits u) (both (value_beside v.code.nodes returns u) o)) (sym (get_or-set_other behind f ((graph v).owner u) least None other))
+        ap (λ (o : Option ℕ). lesser_cost (value_beside v.code.nodes exits u) (sum_of_both (value_beside v.code.nodes returns u) o)) (sym (get_or-set_other behind f ((graph v).owner u) least None other))
 
     move : (h j : ℕ) → i ≤ j → slice_get v.order j ≡ Some h → (o : Option ℕ) → IsLeastIfAny (IsBackTo (graph v) before h) (end_after (graph v) before) o → IsLeastIfAny (IsBackTo (graph v) now h) (end_after (graph v) now) o
     move h j le place o = least_same (IsBackTo (graph v) before h) (IsBackTo (graph v) now h) (end_after (graph v) before) (end_after (graph v) now)
@@ -236,10 +236,10 @@ pub behind_none : (v : FlowGraph) (returns exits behind : List (Option ℕ)) (n 
 behind_none v returns exits behind n size is = record {
   size = ap length is ∙ length-replicate n None ∙ size;
   done = λ h j le at. let lt = slice_get_within v.order j h at in let bad : ⊥ = omega arith in absurd bad;
-  low = λ h x at. absurd (not_some (least_at behind h) x (ap (λ (t : List (Option ℕ)). least_at t h) is ∙ none_at n h) at);
+  low = λ h x at. absurd (not_some (number_in_table behind h) x (ap (λ (t : List (Option ℕ)). number_in_table t h) is ∙ none_at n h) at);
 }
   where
-    none_at : (m k : ℕ) → least_at (replicate m None) k ≡ None
+    none_at : (m k : ℕ) → number_in_table (replicate m None) k ≡ None
     none_at zero k = refl
     none_at (suc m) zero = refl
     none_at (suc m) (suc k) = none_at m k
@@ -247,7 +247,7 @@ behind_none v returns exits behind n size is = record {
     not_some : (o : Option ℕ) (x : ℕ) → o ≡ None → o ≡ Some x → ⊥
     not_some o x none some = let bad : ⊥ = cc in bad
 
-pub low_behind : (v : FlowGraph) (returns exits behind : List (Option ℕ)) (i : ℕ) → IsFlowGraph v → length v.code.functions ≤ 131072 → AreBehind v returns exits i behind → (h x : ℕ) → least_at behind h ≡ Some x → x ≤ 2 ^ 84
+pub low_behind : (v : FlowGraph) (returns exits behind : List (Option ℕ)) (i : ℕ) → IsFlowGraph v → length v.code.functions ≤ 131072 → AreBehind v returns exits i behind → (h x : ℕ) → number_in_table behind h ≡ Some x → x ≤ 2 ^ 84
 low_behind v returns exits behind i flow few are h x at =
     let low = are.low h x at in
     let order = few_functions v flow in
@@ -294,8 +294,8 @@ module _ (v : FlowGraph) (own limit : ℕ → ℕ) (returns exits behind : List 
       (λ (node : (k : ℕ) × (slice_get v.code.nodes k ≡ Some a)).
       let address : node_address v node.0 ≡ a = address_is v node.0 a node.1 in
       subst (λ (o : Option ℕ). IsLeastIfAny (EndsWith (graph v) (IsReturn (graph v)) (Some a)) (total (least_cost (graph v) own numbers)) o) (sym (at_number v flow returns node.0 a node.1))
-      (least_moved (graph v) flow.program ((graph v).owner a) (IsReturn (graph v)) (IsReturn (graph v)) (least_cost (graph v) own (least_by v returns exits [])) (least_cost (graph v) own numbers) (λ e el at. same_cost e) (λ e el at yes. yes) (λ e el at yes. yes) a (least_at returns node.0) refl
-      (subst (λ x. IsLeastIfAny (EndsWith (graph v) (IsReturn (graph v)) (Some x)) (total (least_cost (graph v) own (least_by v returns exits []))) (least_at returns node.0)) address (are.to_return node.0 (slice_get_within v.code.nodes node.0 a node.1) tt))))
+      (least_moved (graph v) flow.program ((graph v).owner a) (IsReturn (graph v)) (IsReturn (graph v)) (least_cost (graph v) own (least_by v returns exits [])) (least_cost (graph v) own numbers) (λ e el at. same_cost e) (λ e el at yes. yes) (λ e el at yes. yes) a (number_in_table returns node.0) refl
+      (subst (λ x. IsLeastIfAny (EndsWith (graph v) (IsReturn (graph v)) (Some x)) (total (least_cost (graph v) own (least_by v returns exits []))) (number_in_table returns node.0)) address (are.to_return node.0 (slice_get_within v.code.nodes node.0 a node.1) tt))))
       (λ (none : (k : ℕ) → slice_get v.code.nodes k ≡ Some a → ⊥).
       subst (λ (o : Option ℕ). IsLeastIfAny (EndsWith (graph v) (IsReturn (graph v)) (Some a)) (total (least_cost (graph v) own numbers)) o) (sym (beside_none v.code.nodes returns a none)) (no_walk (IsReturn (graph v)) a none))
       (in_or_not v.code.nodes a)
@@ -305,13 +305,13 @@ module _ (v : FlowGraph) (own limit : ℕ → ℕ) (returns exits behind : List 
       (λ (node : (k : ℕ) × (slice_get v.code.nodes k ≡ Some a)).
       let address : node_address v node.0 ≡ a = address_is v node.0 a node.1 in
       subst (λ (o : Option ℕ). IsLeastIfAny (EndsWith (graph v) (IsExit (graph v) numbers) (Some a)) (total (least_cost (graph v) own numbers)) o) (sym (at_number v flow exits node.0 a node.1))
-      (least_moved (graph v) flow.program ((graph v).owner a) (IsExit (graph v) (least_by v returns exits [])) (IsExit (graph v) numbers) (least_cost (graph v) own (least_by v returns exits [])) (least_cost (graph v) own numbers) (λ e el at. same_cost e) (λ e el at yes. yes) (λ e el at yes. yes) a (least_at exits node.0) refl
-      (subst (λ x. IsLeastIfAny (EndsWith (graph v) (IsExit (graph v) (least_by v returns exits [])) (Some x)) (total (least_cost (graph v) own (least_by v returns exits []))) (least_at exits node.0)) address (are.to_exit node.0 (slice_get_within v.code.nodes node.0 a node.1) tt))))
+      (least_moved (graph v) flow.program ((graph v).owner a) (IsExit (graph v) (least_by v returns exits [])) (IsExit (graph v) numbers) (least_cost (graph v) own (least_by v returns exits [])) (least_cost (graph v) own numbers) (λ e el at. same_cost e) (λ e el at yes. yes) (λ e el at yes. yes) a (number_in_table exits node.0) refl
+      (subst (λ x. IsLeastIfAny (EndsWith (graph v) (IsExit (graph v) (least_by v returns exits [])) (Some x)) (total (least_cost (graph v) own (least_by v returns exits []))) (number_in_table exits node.0)) address (are.to_exit node.0 (slice_get_within v.code.nodes node.0 a node.1) tt))))
       (λ (none : (k : ℕ) → slice_get v.code.nodes k ≡ Some a → ⊥).
       subst (λ (o : Option ℕ). IsLeastIfAny (EndsWith (graph v) (IsExit (graph v) numbers) (Some a)) (total (least_cost (graph v) own numbers)) o) (sym (beside_none v.code.nodes exits a none)) (no_walk (IsExit (graph v) numbers) a none))
       (in_or_not v.code.nodes a)
 
-  behind_is : (a : ℕ) → IsLeastIfAny (IsReturnTo (graph v) numbers a) (end_after (graph v) numbers) (least_at behind ((graph v).owner a))
+  behind_is : (a : ℕ) → IsLeastIfAny (IsReturnTo (graph v) numbers a) (end_after (graph v) numbers) (number_in_table behind ((graph v).owner a))
   behind_is a = ⊎_elim
       (λ (low : (graph v).owner a < length v.code.functions). let p = flow.order.whole ((graph v).owner a) low in done.done ((graph v).owner a) p.0 (omega arith) p.1)
       (λ (high : length v.code.functions ≤ (graph v).owner a).
@@ -323,18 +323,18 @@ module _ (v : FlowGraph) (own limit : ℕ → ℕ) (returns exits behind : List 
   least_numbers = record {
     to_return = to_return;
     to_exit = to_exit;
-    to_end = λ a. end-least (graph v) numbers a (least_at behind ((graph v).owner a)) (behind_is a) refl;
+    to_end = λ a. end-least (graph v) numbers a (number_in_table behind ((graph v).owner a)) (behind_is a) refl;
   }
 
-pub end_is : (v : FlowGraph) (returns exits behind : List (Option ℕ)) (k f : ℕ) (r x sum result : Option ℕ) → IsFlowGraph v → k < length v.code.nodes → f ≡ (graph v).owner (node_address v k) → r ≡ least_at returns k → x ≡ least_at exits k → sum ≡ both r (least_at behind f) → result ≡ lesser x sum →
+pub end_is : (v : FlowGraph) (returns exits behind : List (Option ℕ)) (k f : ℕ) (r x sum result : Option ℕ) → IsFlowGraph v → k < length v.code.nodes → f ≡ (graph v).owner (node_address v k) → r ≡ number_in_table returns k → x ≡ number_in_table exits k → sum ≡ sum_of_both r (number_in_table behind f) → result ≡ lesser_cost x sum →
     result ≡ (least_by v returns exits behind).to_end (node_address v k)
 end_is v returns exits behind k f r x sum result flow kl own from_r from_x one two =
-    two ∙ ap (lesser x) one
-    ∙ ap (λ h. lesser x (both r (least_at behind h))) own
-    ∙ ap (λ (o : Option ℕ). lesser o (both r (least_at behind ((graph v).owner (node_address v k))))) (from_x ∙ sym (at_node v flow exits k kl))
-    ∙ ap (λ (o : Option ℕ). lesser (value_beside v.code.nodes exits (node_address v k)) (both o (least_at behind ((graph v).owner (node_address v k))))) (from_r ∙ sym (at_node v flow returns k kl))
+    two ∙ ap (lesser_cost x) one
+    ∙ ap (λ h. lesser_cost x (sum_of_both r (number_in_table behind h))) own
+    ∙ ap (λ (o : Option ℕ). lesser_cost o (sum_of_both r (number_in_table behind ((graph v).owner (node_address v k))))) (from_x ∙ sym (at_node v flow exits k kl))
+    ∙ ap (λ (o : Option ℕ). lesser_cost (value_beside v.code.nodes exits (node_address v k)) (sum_of_both o (number_in_table behind ((graph v).owner (node_address v k))))) (from_r ∙ sym (at_node v flow returns k kl))
 
-pub value_at : (xs : List (Option ℕ)) (i : ℕ) (x : Option ℕ) → i < length xs → x ≡ slice_index_or xs i x → x ≡ least_at xs i
+pub value_at : (xs : List (Option ℕ)) (i : ℕ) (x : Option ℕ) → i < length xs → x ≡ slice_index_or xs i x → x ≡ number_in_table xs i
 value_at xs i x lt is = sym (get_or_from_slice_get xs i x None (slice_get-get_or xs i x lt ∙ ap Some (sym is)))
 
 pub back_keys_more : (v : FlowGraph) (e : ℕ) (keys : List (Option ℕ)) (o : Option ℕ) → AreBackKeys v e keys → o ≡ back_from ((graph v).target e) ((graph v).callee e) → AreBackKeys v (e + 1) (keys ++ o ∷ [])

@@ -3,7 +3,7 @@ use Rattle.std.proofs.Common.{◌≡◌, ℕ, zero, suc, ◌+◌, ◌^◌, ◌<�
 use Rattle.std.proofs.lemmas.Bool.{cases_lt}
 use Rattle.std.proofs.lemmas.List.{ext_get_or}
 use Rattle.std.proofs.lemmas.Option.{slice_get_within, slice_get-get_or, get_or_from_slice_get, same_Some, none-some}
-use Rattle.call_orders.specs.Arcs.{number_at}
+use Rattle.call_orders.specs.Arcs.{number_in_place}
 use Rattle.cost_theory.specs.Graph.{Graph, Loops}
 use Rattle.cost_theory.specs.Accepted.{AreWeights}
 use Rattle.cost_theory.specs.Least.{Least, IsLeastIfAny, IsWay, way_cost}
@@ -14,11 +14,11 @@ use Rattle.least_laws.specs.Charged.{Charged, AreCharged, charge_of, end_behind,
 use Rattle.least_laws.specs.Laws.{HaveFewTrips}
 use Rattle.least_laws.proofs.Laws.{charged_exist}
 use Rattle.least_cycles.specs.declared.charges.Charges.{Charges}
-use Rattle.least_cycles.specs.Hops.{least_at}
+use Rattle.least_cycles.specs.Hops.{number_in_table}
 use Rattle.least_cycles.specs.Tables.{least_by, AreWalksOf, IsAnyFunction}
 use Rattle.least_cycles.specs.Charging.{own_by, IsCharging, HasCharging, HasWalks, charge_by, AreCharges, AreChargedTo}
 use Rattle.least_cycles.specs.Ends.{AreBehind, AreSmallWalks, end_place}
-use Rattle.least_cycles.specs.Found.{IsInRange, IsLeastOf, AreSmallLeast, AreOwn, AreEndsTo, AreAfterTo, plus_charge}
+use Rattle.least_cycles.specs.Found.{HasWorstInRange, IsLeastOf, AreSmallLeast, AreOwn, AreEndsTo, AreAfterTo, plus_charge}
 use Rattle.least_cycles.proofs.ChargedLaws.{IsNumbered}
 use Rattle.least_cycles.proofs.Within.{charge_within, trips_within, turn_worst}
 use Rattle.least_cycles.proofs.Bounds.{limits_hold}
@@ -76,29 +76,29 @@ own_is v weights own size are = ext_get_or 0 own weights (are.size ∙ sym size)
 
 -- ---- the numbers exist
 
-pub has_charging : (v : FlowGraph) (t : LoopView) (extent : ℕ → ℕ → Bool) (weights own : List ℕ) → IsFlowGraph v → IsLoopTree v extent t → length weights ≡ length v.code.edges → AreWeights (graph v) (number_at weights) → IsInRange v (loops v t) (number_at weights) → AreOwn (length v.code.edges) weights own → HasCharging v t (number_at own)
-has_charging v t extent weights own flow tree size calls solved mine = subst (λ (xs : List ℕ). HasCharging v t (number_at xs)) (sym (own_is v weights own size mine)) (exist.0, charging)
+pub has_charging : (v : FlowGraph) (t : LoopView) (extent : ℕ → ℕ → Bool) (weights own : List ℕ) → IsFlowGraph v → IsLoopTree v extent t → length weights ≡ length v.code.edges → AreWeights (graph v) (number_in_place weights) → HasWorstInRange v (loops v t) (number_in_place weights) → AreOwn (length v.code.edges) weights own → HasCharging v t (number_in_place own)
+has_charging v t extent weights own flow tree size calls solved mine = subst (λ (xs : List ℕ). HasCharging v t (number_in_place xs)) (sym (own_is v weights own size mine)) (exist.0, charging)
   where
-    exist : (n : Charged) × AreCharged (graph v) (loops v t) (number_at weights) n
-    exist = charged_exist (graph v) (loops v t) extent (number_at weights) flow.program tree.accepted
+    exist : (n : Charged) × AreCharged (graph v) (loops v t) (number_in_place weights) n
+    exist = charged_exist (graph v) (loops v t) extent (number_in_place weights) flow.program tree.accepted
 
-    numbered : IsNumbered (graph v) (loops v t) extent (number_at weights) exist.0
+    numbered : IsNumbered (graph v) (loops v t) extent (number_in_place weights) exist.0
     numbered = record { program = flow.program; accepted = tree.accepted; weights = calls; numbers = exist.1 }
 
     few : HaveFewTrips (loops v t)
     few k kl = tree.trips k
 
-    charging : IsCharging v t (number_at weights) exist.0
+    charging : IsCharging v t (number_in_place weights) exist.0
     charging = record {
       flow = flow;
       extent = extent;
       tree = tree;
       numbers = exist.1;
       limit = solved.0.worst;
-      limits = limits_hold (graph v) (loops v t) extent (number_at weights) solved.0 (record { program = flow.program; accepted = tree.accepted; weights = calls; numbers = solved.1 }) solved.2 (own_by v t (number_at weights) exist.0)
-          (λ e el. let low = charge_within (graph v) (loops v t) extent (number_at weights) exist.0 solved.0 numbered solved.1 few e el in omega arith);
-      turns = λ k kl turning. let low = turn_worst (graph v) (loops v t) extent (number_at weights) exist.0 solved.0 numbered solved.1 few k (loop_below v t k kl) turning in let top = solved.2 in omega arith;
-      charges = λ k kl. let low = trips_within (graph v) (loops v t) extent (number_at weights) exist.0 solved.0 numbered solved.1 few k (loop_below v t k kl) in let top = solved.2 in omega arith;
+      limits = limits_hold (graph v) (loops v t) extent (number_in_place weights) solved.0 (record { program = flow.program; accepted = tree.accepted; weights = calls; numbers = solved.1 }) solved.2 (own_by v t (number_in_place weights) exist.0)
+          (λ e el. let low = charge_within (graph v) (loops v t) extent (number_in_place weights) exist.0 solved.0 numbered solved.1 few e el in omega arith);
+      turns = λ k kl turning. let low = turn_worst (graph v) (loops v t) extent (number_in_place weights) exist.0 solved.0 numbered solved.1 few k (loop_below v t k kl) turning in let top = solved.2 in omega arith;
+      charges = λ k kl. let low = trips_within (graph v) (loops v t) extent (number_in_place weights) exist.0 solved.0 numbered solved.1 few k (loop_below v t k kl) in let top = solved.2 in omega arith;
     }
 
 -- small numbers, of which there is one for each node
@@ -174,7 +174,7 @@ module _ (v : FlowGraph) (t : LoopView) (w : ℕ → ℕ) (charges : Charges) (r
     },
   )
     where
-      get : (k : ℕ) (xs : List (Option ℕ)) → k < length xs → slice_get xs k ≡ Some (least_at xs k)
+      get : (k : ℕ) (xs : List (Option ℕ)) → k < length xs → slice_get xs k ≡ Some (number_in_table xs k)
       get k xs lt = slice_get-get_or xs k None lt
 
   pub small : AreSmallLeast v (record { returns = returns; ends = ends; after = after })

@@ -3,7 +3,7 @@ use Rattle.std.proofs.Common.{◌≡◌, ℕ, zero, suc, ◌+◌, ◌<◌, ◌�
 use Rattle.std.proofs.lemmas.Bool.{cases_lt}
 use Rattle.std.proofs.lemmas.List.{length-map}
 use Rattle.std.proofs.lemmas.Option.{slice_get_within, slice_get-get_or, get_or_from_slice_get, slice_get-map, same_Some, none-some}
-use Rattle.call_orders.specs.Arcs.{number_at}
+use Rattle.call_orders.specs.Arcs.{number_in_place}
 use Rattle.cost_theory.specs.Graph.{Graph, total}
 use Rattle.cost_theory.specs.Least.{IsLeastIfAny, EndsWith}
 use Rattle.cost_theory.specs.LeastTurns.{IsRun}
@@ -13,9 +13,9 @@ use Rattle.natural_loops.proofs.Laws.{one_number}
 use Rattle.least_cycles.specs.declared.Hop.{Hop}
 use Rattle.least_cycles.specs.declared.Way.{Way}
 use Rattle.least_cycles.specs.declared.Way.TheVariants.{Last, To, Stop}
-use Rattle.least_cycles.specs.Hops.{HeadBelow, IsHop, AreHops, AreLeastCosts, least_at}
+use Rattle.least_cycles.specs.Hops.{HeadBelow, IsHop, AreHops, AreLeastCosts, number_in_table}
 use Rattle.least_cycles.specs.Local.{IsWayOf, IsHopOf, AreLocal}
-use Rattle.least_cycles.specs.Functions.{IsBucket, AreNodes, ArePlacesIn, AreKinds, addresses, is_marked, IsMarked, AreHopsOf, IsFromFirst, IsFromNext, AreLeastRuns, AreLeastIn}
+use Rattle.least_cycles.specs.Functions.{IsBucket, AreNodeNumbers, ArePlacesIn, AreKinds, addresses, is_in_flags, IsNodeFlagged, AreHopsOf, IsFromFirst, IsFromNext, AreLeastRuns, AreLeastIn}
 use Rattle.least_cycles.specs.Tables.{AreLeading}
 use Rattle.least_cycles.proofs.Transfer.{local-least}
 
@@ -25,18 +25,18 @@ value_at xs i x d lt is = get_or_from_slice_get xs i x d (slice_get-get_or xs i 
 node_here : (v : FlowGraph) (k : ℕ) → k < length v.code.nodes → slice_get v.code.nodes k ≡ Some (node_address v k)
 node_here v k lt = slice_get-get_or v.code.nodes k 0 lt
 
-address_at : (v : FlowGraph) (bucket : List ℕ) (i : ℕ) → i < length bucket → slice_get (addresses v bucket) i ≡ Some (node_address v (number_at bucket i))
+address_at : (v : FlowGraph) (bucket : List ℕ) (i : ℕ) → i < length bucket → slice_get (addresses v bucket) i ≡ Some (node_address v (number_in_place bucket i))
 address_at v bucket i lt = slice_get-map (node_address v) bucket i ∙ ap (option_map (node_address v)) (slice_get-get_or bucket i 0 lt)
 
 -- ---- where an edge leads
 
-pub way_to : (v : FlowGraph) (nodes places : List ℕ) (lasts steps : List Bool) (e k : ℕ) → IsFlowGraph v → AreNodes v nodes → ArePlacesIn nodes places → AreKinds v nodes lasts steps → e < length v.code.edges → IsFromFirst v nodes (length nodes) e →
-    is_marked lasts e ≡ false → is_marked steps e ≡ true → (graph v).target e ≡ slice_get v.code.nodes k → k < length v.code.nodes → IsWayOf (graph v) (is_marked lasts) (is_marked steps) (addresses v nodes) (To (number_at places k)) e
+pub way_to : (v : FlowGraph) (nodes places : List ℕ) (lasts steps : List Bool) (e k : ℕ) → IsFlowGraph v → AreNodeNumbers v nodes → ArePlacesIn nodes places → AreKinds v nodes lasts steps → e < length v.code.edges → IsFromFirst v nodes (length nodes) e →
+    is_in_flags lasts e ≡ false → is_in_flags steps e ≡ true → (graph v).target e ≡ slice_get v.code.nodes k → k < length v.code.nodes → IsWayOf (graph v) (is_in_flags lasts) (is_in_flags steps) (addresses v nodes) (To (number_in_place places k)) e
 way_to v nodes places lasts steps e k flow is are kinds lt from no_last a_step to kl =
     let target : (graph v).target e ≡ Some (node_address v k) = to ∙ node_here v k kl in
     let j = kinds.stays e lt from a_step in
-    let same : number_at nodes j.0 ≡ k = one_number v flow (number_at nodes j.0) k (node_address v k) (node_here v (number_at nodes j.0) (is.within j.0 j.1) ∙ sym j.2 ∙ target) (node_here v k kl) in
-    let here : number_at places k ≡ j.0 = ap (number_at places) (sym same) ∙ are.each j.0 j.1 in
+    let same : number_in_place nodes j.0 ≡ k = one_number v flow (number_in_place nodes j.0) k (node_address v k) (node_here v (number_in_place nodes j.0) (is.within j.0 j.1) ∙ sym j.2 ∙ target) (node_here v k kl) in
+    let here : number_in_place places k ≡ j.0 = ap (number_in_place places) (sym same) ∙ are.each j.0 j.1 in
     (no_last, a_step, (node_address v k, target, ap (slice_get (addresses v nodes)) here ∙ address_at v nodes j.0 j.1 ∙ ap (λ m. Some (node_address v m)) same))
 
 -- ---- hops
@@ -61,7 +61,7 @@ push_last : {A : Type 0} (xs : List A) (x : A) → slice_get (xs ++ x ∷ []) (l
 push_last [] x = refl
 push_last (y ∷ ys) x = push_last ys x
 
-pub hops_push : (v : FlowGraph) (lasts steps : List Bool) (c : ℕ → ℕ) (nodes : List ℕ) (Done Next : ℕ → Type 0) (edges : List ℕ) (hops : List Hop) (e : ℕ) (h : Hop) → AreHopsOf v lasts steps c nodes Done edges hops → e < length v.code.edges → IsHopOf (graph v) (is_marked lasts) (is_marked steps) c nodes h e →
+pub hops_push : (v : FlowGraph) (lasts steps : List Bool) (c : ℕ → ℕ) (nodes : List ℕ) (Done Next : ℕ → Type 0) (edges : List ℕ) (hops : List Hop) (e : ℕ) (h : Hop) → AreHopsOf v lasts steps c nodes Done edges hops → e < length v.code.edges → IsHopOf (graph v) (is_in_flags lasts) (is_in_flags steps) c nodes h e →
     ((d : ℕ) → d < length v.code.edges → Next d → Done d ⊎ (d ≡ e)) → AreHopsOf v lasts steps c nodes Next (edges ++ e ∷ []) (hops ++ h ∷ [])
 hops_push v lasts steps c nodes Done Next edges hops e h are el is next =
     let size : length edges ≡ length hops = are.size in
@@ -84,7 +84,7 @@ hops_push v lasts steps c nodes Done Next edges hops e h are el is next =
           (λ (high : length edges ≤ i).
           let same : e ≡ d = last i d high at in
           let place : i ≡ length hops = (let w : i < length (edges ++ e ∷ []) = slice_get_within (edges ++ e ∷ []) i d at in omega arith) in
-          (h, ap (slice_get (hops ++ h ∷ [])) place ∙ push_last hops h, subst (IsHopOf (graph v) (is_marked lasts) (is_marked steps) c nodes h) same is))
+          (h, ap (slice_get (hops ++ h ∷ [])) place ∙ push_last hops h, subst (IsHopOf (graph v) (is_in_flags lasts) (is_in_flags steps) c nodes h) same is))
           (cases_lt i (length edges));
     }
   where
@@ -96,11 +96,11 @@ hops_push v lasts steps c nodes Done Next edges hops e h are el is next =
         same_Some e d (sym (push_last edges e) ∙ ap (slice_get (edges ++ e ∷ [])) (sym place) ∙ at)
 
 -- the hop of an edge of the node at a place
-pub hop_of : (v : FlowGraph) (lasts steps : List Bool) (c : ℕ → ℕ) (nodes : List ℕ) (i e : ℕ) (way : Way) (cost : ℕ) → i < length nodes → (graph v).source e ≡ node_address v (number_at nodes i) → IsWayOf (graph v) (is_marked lasts) (is_marked steps) (addresses v nodes) way e → cost ≡ c e →
-    IsHopOf (graph v) (is_marked lasts) (is_marked steps) c (addresses v nodes) (record { tail = i; way = way; cost = cost }) e
+pub hop_of : (v : FlowGraph) (lasts steps : List Bool) (c : ℕ → ℕ) (nodes : List ℕ) (i e : ℕ) (way : Way) (cost : ℕ) → i < length nodes → (graph v).source e ≡ node_address v (number_in_place nodes i) → IsWayOf (graph v) (is_in_flags lasts) (is_in_flags steps) (addresses v nodes) way e → cost ≡ c e →
+    IsHopOf (graph v) (is_in_flags lasts) (is_in_flags steps) c (addresses v nodes) (record { tail = i; way = way; cost = cost }) e
 hop_of v lasts steps c nodes i e way cost il from is price = record { tail = address_at v nodes i il ∙ ap Some (sym from); way = is; cost = price }
 
-pub next_start : (v : FlowGraph) (bucket : List ℕ) (i first e : ℕ) → ((graph v).source e ≡ node_address v (number_at bucket i) → first ≤ e) → IsFromFirst v bucket i e ⊎ IsFromNext v bucket i first e → IsFromFirst v bucket i e
+pub next_start : (v : FlowGraph) (bucket : List ℕ) (i first e : ℕ) → ((graph v).source e ≡ node_address v (number_in_place bucket i) → first ≤ e) → IsFromFirst v bucket i e ⊎ IsFromNext v bucket i first e → IsFromFirst v bucket i e
 next_start v bucket i first e from done = ⊎_elim
     (λ (old : IsFromFirst v bucket i e). old)
     (λ (next : IsFromNext v bucket i first e). let low : first ≤ e = from next.0 in let high : e < first = next.1 in let bad : ⊥ = omega arith in absurd bad)
@@ -115,13 +115,13 @@ next_step v bucket i e d done = ⊎_elim
     (cases_lt d e))
     done
 
-pub next_end : (v : FlowGraph) (bucket : List ℕ) (i end e : ℕ) → ((graph v).source e ≡ node_address v (number_at bucket i) → e < end) → IsFromFirst v bucket (i + 1) e → IsFromFirst v bucket i e ⊎ IsFromNext v bucket i end e
+pub next_end : (v : FlowGraph) (bucket : List ℕ) (i end e : ℕ) → ((graph v).source e ≡ node_address v (number_in_place bucket i) → e < end) → IsFromFirst v bucket (i + 1) e → IsFromFirst v bucket i e ⊎ IsFromNext v bucket i end e
 next_end v bucket i end e below done = ⊎_elim
     (λ (low : done.0 < i). inl (done.0, low, done.2))
     (λ (high : i ≤ done.0).
     let less : done.0 < i + 1 = done.1 in
     let same : done.0 ≡ i = omega arith in
-    let from : (graph v).source e ≡ node_address v (number_at bucket i) = done.2 ∙ ap (λ j. node_address v (number_at bucket j)) same in
+    let from : (graph v).source e ≡ node_address v (number_in_place bucket i) = done.2 ∙ ap (λ j. node_address v (number_in_place bucket j)) same in
     inr (from, below from))
     (cases_lt done.0 i)
 
@@ -133,7 +133,7 @@ are_hops v lasts steps c nodes most edges hops are small i = go (slice_get hops 
     size : length (addresses v nodes) ≡ length nodes
     size = length-map nodes (node_address v)
 
-    head : (w : Way) (e : ℕ) → IsWayOf (graph v) (is_marked lasts) (is_marked steps) (addresses v nodes) w e → HeadBelow (length nodes) w
+    head : (w : Way) (e : ℕ) → IsWayOf (graph v) (is_in_flags lasts) (is_in_flags steps) (addresses v nodes) w e → HeadBelow (length nodes) w
     head Last e is = tt
     head (To j) e is = let low : j < length (addresses v nodes) = slice_get_within (addresses v nodes) j is.2.0 is.2.2 in let s = size in omega arith
     head Stop e is = tt
@@ -143,34 +143,34 @@ are_hops v lasts steps c nodes most edges hops are small i = go (slice_get hops 
     go (Some h) at =
         let sizes : length edges ≡ length hops = are.size in
         let within : i < length hops = slice_get_within hops i h at in
-        let edge : slice_get edges i ≡ Some (number_at edges i) = slice_get-get_or edges i 0 (let r : i < length edges = omega arith in r) in
-        let p = are.hop i (number_at edges i) edge in
+        let edge : slice_get edges i ≡ Some (number_in_place edges i) = slice_get-get_or edges i 0 (let r : i < length edges = omega arith in r) in
+        let p = are.hop i (number_in_place edges i) edge in
         let same : p.0 ≡ h = same_hop p.0 h (sym p.1 ∙ at) in
         subst (IsHop (length nodes) most) same (record {
           tail = let low : p.0.tail < length (addresses v nodes) = slice_get_within (addresses v nodes) p.0.tail _ p.2.tail in let s = size in let r : p.0.tail < length nodes = omega arith in r;
-          head = head p.0.way (number_at edges i) p.2.way;
-          cost = let price : p.0.cost ≡ c (number_at edges i) = p.2.cost in let low = small (number_at edges i) in let r : p.0.cost ≤ most = omega arith in r;
+          head = head p.0.way (number_in_place edges i) p.2.way;
+          cost = let price : p.0.cost ≡ c (number_in_place edges i) = p.2.cost in let low = small (number_in_place edges i) in let r : p.0.cost ≤ most = omega arith in r;
         })
       where
         same_hop : (a b : Hop) → Some a ≡ Some b → a ≡ b
         same_hop a b e = let r : a ≡ b = cc in r
 
-pub least_in : (v : FlowGraph) (lasts steps : List Bool) (c : ℕ → ℕ) (nodes : List ℕ) (edges : List ℕ) (hops : List Hop) (table : List (Option ℕ)) → IsFlowGraph v → AreNodes v nodes → AreHopsOf v lasts steps c (addresses v nodes) (IsFromFirst v nodes (length nodes)) edges hops → AreLeastCosts hops table →
+pub least_in : (v : FlowGraph) (lasts steps : List Bool) (c : ℕ → ℕ) (nodes : List ℕ) (edges : List ℕ) (hops : List Hop) (table : List (Option ℕ)) → IsFlowGraph v → AreNodeNumbers v nodes → AreHopsOf v lasts steps c (addresses v nodes) (IsFromFirst v nodes (length nodes)) edges hops → AreLeastCosts hops table →
     AreLeastRuns v lasts steps c nodes table
 least_in v lasts steps c nodes edges hops table flow is are least i il =
-    local-least (graph v) (is_marked lasts) (is_marked steps) c (addresses v nodes) edges hops local (node_address v (number_at nodes i)) i (least_at table i) (address_at v nodes i il) (least i)
+    local-least (graph v) (is_in_flags lasts) (is_in_flags steps) c (addresses v nodes) edges hops local (node_address v (number_in_place nodes i)) i (number_in_table table i) (address_at v nodes i il) (least i)
   where
     size : length (addresses v nodes) ≡ length nodes
     size = length-map nodes (node_address v)
 
-    place : (j u : ℕ) → slice_get (addresses v nodes) j ≡ Some u → (j < length nodes) × (u ≡ node_address v (number_at nodes j))
+    place : (j u : ℕ) → slice_get (addresses v nodes) j ≡ Some u → (j < length nodes) × (u ≡ node_address v (number_in_place nodes j))
     place j u at =
         let s = size in
         let low : j < length (addresses v nodes) = slice_get_within (addresses v nodes) j u at in
         let jl : j < length nodes = omega arith in
-        (jl, same_Some u (node_address v (number_at nodes j)) (sym at ∙ address_at v nodes j jl))
+        (jl, same_Some u (node_address v (number_in_place nodes j)) (sym at ∙ address_at v nodes j jl))
 
-    one_place : (j k : ℕ) → j < length nodes → k < length nodes → number_at nodes j ≡ number_at nodes k → j ≡ k
+    one_place : (j k : ℕ) → j < length nodes → k < length nodes → number_in_place nodes j ≡ number_in_place nodes k → j ≡ k
     one_place j k jl kl same = ⊎_elim
         (λ (lt : j < k). absurd (is.once j k lt kl same))
         (λ (le : k ≤ j). ⊎_elim
@@ -179,45 +179,45 @@ least_in v lasts steps c nodes edges hops table flow is are least i il =
         (cases_lt k j))
         (cases_lt j k)
 
-    local : AreLocal (graph v) (is_marked lasts) (is_marked steps) c (addresses v nodes) edges hops
+    local : AreLocal (graph v) (is_in_flags lasts) (is_in_flags steps) c (addresses v nodes) edges hops
     local = record {
       once = λ j k u at_j at_k.
           let a = place j u at_j in
           let b = place k u at_k in
-          let same : number_at nodes j ≡ number_at nodes k = one_number v flow (number_at nodes j) (number_at nodes k) u (node_here v (number_at nodes j) (is.within j a.0) ∙ ap Some (sym a.1)) (node_here v (number_at nodes k) (is.within k b.0) ∙ ap Some (sym b.1)) in
+          let same : number_in_place nodes j ≡ number_in_place nodes k = one_number v flow (number_in_place nodes j) (number_in_place nodes k) u (node_here v (number_in_place nodes j) (is.within j a.0) ∙ ap Some (sym a.1)) (node_here v (number_in_place nodes k) (is.within k b.0) ∙ ap Some (sym b.1)) in
           one_place j k a.0 b.0 same;
       edge = are.edge;
       all = λ e j lt at. let p = place j ((graph v).source e) at in are.all e lt (j, p.0, p.1);
       hop = are.hop;
-      no_more = λ j jl. let s : length edges ≡ length hops = are.size in (number_at edges j, slice_get-get_or edges j 0 (let r : j < length edges = omega arith in r));
+      no_more = λ j jl. let s : length edges ≡ length hops = are.size in (number_in_place edges j, slice_get-get_or edges j 0 (let r : j < length edges = omega arith in r));
     }
 
 -- ---- where all edges that lead to a node are steps
 
-module _ (g : Graph) (lasts steps : List Bool) (c : ℕ → ℕ) (lead : (e : ℕ) → e < g.edges → is_marked steps e ≡ is_some (g.target e)) where
-  as_walk : (es : List ℕ) (p : Option ℕ) → IsRun g false (is_marked lasts) (is_marked steps) p es → EndsWith g (IsMarked lasts) p es
+module _ (g : Graph) (lasts steps : List Bool) (c : ℕ → ℕ) (lead : (e : ℕ) → e < g.edges → is_in_flags steps e ≡ is_some (g.target e)) where
+  as_walk : (es : List ℕ) (p : Option ℕ) → IsRun g false (is_in_flags lasts) (is_in_flags steps) p es → EndsWith g (IsNodeFlagged lasts) p es
   as_walk [] p run = let q : false ≡ true = run in let bad : ⊥ = cc in absurd bad
   as_walk (e ∷ es) p run = (
     run.0,
     run.1,
     ⊎_elim
-        (λ (b : (is_marked lasts e ≡ true) × (es ≡ [])). inl (b.1, b.0))
-        (λ (b : (is_marked steps e ≡ true) × IsRun g false (is_marked lasts) (is_marked steps) (g.target e) es). inr (sym (lead e run.0) ∙ b.0, as_walk es (g.target e) b.1))
+        (λ (b : (is_in_flags lasts e ≡ true) × (es ≡ [])). inl (b.1, b.0))
+        (λ (b : (is_in_flags steps e ≡ true) × IsRun g false (is_in_flags lasts) (is_in_flags steps) (g.target e) es). inr (sym (lead e run.0) ∙ b.0, as_walk es (g.target e) b.1))
         run.2,
   )
 
-  as_run : (es : List ℕ) (p : Option ℕ) → EndsWith g (IsMarked lasts) p es → IsRun g false (is_marked lasts) (is_marked steps) p es
+  as_run : (es : List ℕ) (p : Option ℕ) → EndsWith g (IsNodeFlagged lasts) p es → IsRun g false (is_in_flags lasts) (is_in_flags steps) p es
   as_run [] p walk = absurd walk
   as_run (e ∷ es) p walk = (
     walk.0,
     walk.1,
     ⊎_elim
-        (λ (b : (es ≡ []) × IsMarked lasts e). inl (b.1, b.0))
-        (λ (b : IsSome (g.target e) × EndsWith g (IsMarked lasts) (g.target e) es). inr (lead e walk.0 ∙ b.0, as_run es (g.target e) b.1))
+        (λ (b : (es ≡ []) × IsNodeFlagged lasts e). inl (b.1, b.0))
+        (λ (b : IsSome (g.target e) × EndsWith g (IsNodeFlagged lasts) (g.target e) es). inr (lead e walk.0 ∙ b.0, as_run es (g.target e) b.1))
         walk.2,
   )
 
-  least_walk : (p : Option ℕ) (o : Option ℕ) → IsLeastIfAny (IsRun g false (is_marked lasts) (is_marked steps) p) (total c) o → IsLeastIfAny (EndsWith g (IsMarked lasts) p) (total c) o
+  least_walk : (p : Option ℕ) (o : Option ℕ) → IsLeastIfAny (IsRun g false (is_in_flags lasts) (is_in_flags steps) p) (total c) o → IsLeastIfAny (EndsWith g (IsNodeFlagged lasts) p) (total c) o
   least_walk p None none = λ es walk. none es (as_run es p walk)
   least_walk p (Some m) some = record {
     reached = (some.reached.0, as_walk some.reached.0 p some.reached.1, some.reached.2);
@@ -226,12 +226,12 @@ module _ (g : Graph) (lasts steps : List Bool) (c : ℕ → ℕ) (lead : (e : �
 
 pub least_walks : (v : FlowGraph) (lasts steps : List Bool) (c : ℕ → ℕ) (nodes : List ℕ) (table : List (Option ℕ)) → AreLeading v (length v.code.edges) steps → AreLeastRuns v lasts steps c nodes table → AreLeastIn v lasts c nodes table
 least_walks v lasts steps c nodes table leading least i il =
-    least_walk (graph v) lasts steps c leading.each (Some (node_address v (number_at nodes i))) (least_at table i) (least i il)
+    least_walk (graph v) lasts steps c leading.each (Some (node_address v (number_in_place nodes i))) (number_in_table table i) (least i il)
 
 -- ---- the nodes of a function
 
 pub bucket_kinds : (v : FlowGraph) (f : ℕ) (bucket : List ℕ) (lasts steps : List Bool) → IsFlowGraph v → IsBucket v f bucket → AreLeading v (length v.code.edges) steps → length lasts ≡ length v.code.edges →
-    ((e : ℕ) → e < length v.code.edges → IsMarked lasts e → (graph v).target e ≡ None) → AreKinds v bucket lasts steps
+    ((e : ℕ) → e < length v.code.edges → IsNodeFlagged lasts e → (graph v).target e ≡ None) → AreKinds v bucket lasts steps
 bucket_kinds v f bucket lasts steps flow is leading size ends = record {
   lasts_size = size;
   steps_size = leading.size;
@@ -240,7 +240,7 @@ bucket_kinds v f bucket lasts steps flow is leading size ends = record {
 }
   where
     to : (e : ℕ) → e < length v.code.edges → IsFromFirst v bucket (length bucket) e → (o : Option ℕ) → (graph v).target e ≡ o → is_some o ≡ true →
-        (j : ℕ) × (j < length bucket) × ((graph v).target e ≡ Some (node_address v (number_at bucket j)))
+        (j : ℕ) × (j < length bucket) × ((graph v).target e ≡ Some (node_address v (number_in_place bucket j)))
     to e el from None at some = let bad : ⊥ = cc in absurd bad
     to e el from (Some u) at some =
         let stay = flow.program.stays e u el at in
@@ -263,16 +263,16 @@ leading_more v e flags b o are el is some within none = record {
       let s = are.size in
       let last : d ≡ length flags = omega arith in
       let same : d ≡ e = omega arith in
-      ap (is_marked (flags ++ b ∷ [])) last ∙ at flags b ∙ is ∙ leads o refl ∙ ap (λ x. is_some ((graph v).target x)) (sym same))
+      ap (is_in_flags (flags ++ b ∷ [])) last ∙ at flags b ∙ is ∙ leads o refl ∙ ap (λ x. is_some ((graph v).target x)) (sym same))
       (cases_lt d e);
 }
   where
-    before : (xs : List Bool) (x : Bool) (i : ℕ) → i < length xs → is_marked (xs ++ x ∷ []) i ≡ is_marked xs i
+    before : (xs : List Bool) (x : Bool) (i : ℕ) → i < length xs → is_in_flags (xs ++ x ∷ []) i ≡ is_in_flags xs i
     before [] x i lt = let bad : ⊥ = omega arith in absurd bad
     before (y ∷ ys) x zero lt = refl
     before (y ∷ ys) x (suc i) lt = before ys x i (omega arith)
 
-    at : (xs : List Bool) (x : Bool) → is_marked (xs ++ x ∷ []) (length xs) ≡ x
+    at : (xs : List Bool) (x : Bool) → is_in_flags (xs ++ x ∷ []) (length xs) ≡ x
     at [] x = refl
     at (y ∷ ys) x = at ys x
 

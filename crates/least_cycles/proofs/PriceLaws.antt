@@ -2,14 +2,14 @@
 use Rattle.std.proofs.Common.{◌≡◌, ◌≢◌, ℕ, zero, suc, ◌+◌, ◌^◌, ◌<◌, ◌≤◌, ◌⊎◌, ◌↔◌, inl, inr, Bool, true, false, List, [], ◌∷◌, ◌++◌, length, length-append, slice_get, slice_set, slice_index_or, Option, Some, None, IsSome, unwrap_or, refl, sym, ap, ◌∙◌, subst, arith, ⊎_elim, get_or-set_other, get_or-set_same, length-set}
 use Rattle.std.proofs.lemmas.Bool.{cases_lt}
 use Rattle.std.proofs.lemmas.Option.{slice_get-get_or, same_Some}
-use Rattle.call_orders.specs.Arcs.{number_at, AreDistinct}
+use Rattle.call_orders.specs.Arcs.{number_in_place, AreDistinct}
 use Rattle.cost_theory.specs.Worst.{at_some}
 use Rattle.cost_theory.specs.Least.{IsExit, least_call, least_cost}
 use Rattle.code_graph.specs.FlowGraph.{FlowGraph, graph, IsFlowGraph}
 use Rattle.natural_loops.specs.Noted.{node_address}
 use Rattle.key_chains.specs.Keys.{HasKey, AreKeys, IsLastBelow}
-use Rattle.least_cycles.specs.Functions.{IsMarked, IsBucket}
-use Rattle.least_cycles.specs.Tables.{AreOwners, value_beside, least_by, AreTables, IsPrice, ArePriced}
+use Rattle.least_cycles.specs.Functions.{IsNodeFlagged, IsBucket}
+use Rattle.least_cycles.specs.Tables.{AreOwnerKeys, value_beside, least_by, AreSmallTables, IsPrice, ArePriced}
 
 same_or : (a b : ℕ) → (a ≡ b) ⊎ (a ≢ b)
 same_or a b = grind arith
@@ -34,7 +34,7 @@ not_both o a some none = let bad : ⊥ = cc in bad
 
 -- ---- prices
 
-call_small : (v : FlowGraph) (returns exits : List (Option ℕ)) (e : ℕ) (p : Option ℕ) → IsFlowGraph v → AreTables v returns exits → e < length v.code.edges → least_call (graph v) (least_by v returns exits []) e p ≤ 2 ^ 48
+call_small : (v : FlowGraph) (returns exits : List (Option ℕ)) (e : ℕ) (p : Option ℕ) → IsFlowGraph v → AreSmallTables v returns exits → e < length v.code.edges → least_call (graph v) (least_by v returns exits []) e p ≤ 2 ^ 48
 call_small v returns exits e p flow tables el = by_place p
   where
     few : (table : List (Option ℕ)) (f : ℕ) → ((x : ℕ) → value_beside v.code.nodes table ((graph v).entry f) ≡ Some x → x ≤ 2 ^ 48) → (o : Option ℕ) → value_beside v.code.nodes table ((graph v).entry f) ≡ o → unwrap_or o 0 ≤ 2 ^ 48
@@ -49,13 +49,13 @@ call_small v returns exits e p flow tables el = by_place p
     by_place None = go exits tables.small_exit ((graph v).callee e) refl
     by_place (Some u) = go returns tables.small_return ((graph v).callee e) refl
 
-pub more_small : (v : FlowGraph) (returns exits : List (Option ℕ)) (e : ℕ) (more : Option ℕ) → IsFlowGraph v → AreTables v returns exits → e < length v.code.edges → unwrap_or more 0 ≡ least_call (graph v) (least_by v returns exits []) e ((graph v).target e) → (x : ℕ) → more ≡ Some x → x ≤ 2 ^ 48
+pub more_small : (v : FlowGraph) (returns exits : List (Option ℕ)) (e : ℕ) (more : Option ℕ) → IsFlowGraph v → AreSmallTables v returns exits → e < length v.code.edges → unwrap_or more 0 ≡ least_call (graph v) (least_by v returns exits []) e ((graph v).target e) → (x : ℕ) → more ≡ Some x → x ≤ 2 ^ 48
 more_small v returns exits e more flow tables el is x some =
     let same : unwrap_or more 0 ≡ x = ap (λ (o : Option ℕ). unwrap_or o 0) some in
     let low = call_small v returns exits e ((graph v).target e) flow tables el in
     omega arith
 
-pub price_is : (v : FlowGraph) (own : ℕ → ℕ) (returns exits : List (Option ℕ)) (e c s : ℕ) (more : Option ℕ) (last : Bool) → IsFlowGraph v → AreTables v returns exits → e < length v.code.edges → c ≡ own e → c ≤ 2 ^ 48 → s ≡ unwrap_or more 0 →
+pub price_is : (v : FlowGraph) (own : ℕ → ℕ) (returns exits : List (Option ℕ)) (e c s : ℕ) (more : Option ℕ) (last : Bool) → IsFlowGraph v → AreSmallTables v returns exits → e < length v.code.edges → c ≡ own e → c ≤ 2 ^ 48 → s ≡ unwrap_or more 0 →
     unwrap_or more 0 ≡ least_call (graph v) (least_by v returns exits []) e ((graph v).target e) →
     ((graph v).target e ≡ None → IsSome more → (f : ℕ) × ((graph v).callee e ≡ Some f) × IsSome (value_beside v.code.nodes exits ((graph v).entry f))) →
     ((f : ℕ) → (graph v).target e ≡ None → (graph v).callee e ≡ Some f → IsSome (value_beside v.code.nodes exits ((graph v).entry f)) → IsSome more) →
@@ -85,11 +85,11 @@ priced_more v own returns exits Set Next costs lasts e cost last are el is next 
   costs_size = length-set costs e cost ∙ are.costs_size;
   lasts_size = length-set lasts e last ∙ are.lasts_size;
   cost = λ d dl done. ⊎_elim
-      (λ (same : d ≡ e). subst (λ x. number_at (slice_set costs e cost) x ≡ least_cost (graph v) own (least_by v returns exits []) x) (sym same) (price_here ∙ is.cost_is))
+      (λ (same : d ≡ e). subst (λ x. number_in_place (slice_set costs e cost) x ≡ least_cost (graph v) own (least_by v returns exits []) x) (sym same) (price_here ∙ is.cost_is))
       (λ (other : d ≢ e). get_or-set_other costs e d cost 0 other ∙ are.cost d dl (old d dl other done))
       (same_or d e);
   last = λ d dl done. ⊎_elim
-      (λ (same : d ≡ e). subst (λ x. IsMarked (slice_set lasts e last) x ↔ IsExit (graph v) (least_by v returns exits []) x) (sym same) (λ yes. is.last_is.0 (sym flag_here ∙ yes), λ exit. flag_here ∙ is.last_is.1 exit))
+      (λ (same : d ≡ e). subst (λ x. IsNodeFlagged (slice_set lasts e last) x ↔ IsExit (graph v) (least_by v returns exits []) x) (sym same) (λ yes. is.last_is.0 (sym flag_here ∙ yes), λ exit. flag_here ∙ is.last_is.1 exit))
       (λ (other : d ≢ e). (λ yes. (are.last d dl (old d dl other done)).0 (sym (flag_there d other) ∙ yes), λ exit. flag_there d other ∙ (are.last d dl (old d dl other done)).1 exit))
       (same_or d e);
   ends = λ d dl yes. ⊎_elim
@@ -97,7 +97,7 @@ priced_more v own returns exits Set Next costs lasts e cost last are el is next 
       (λ (other : d ≢ e). are.ends d dl (sym (flag_there d other) ∙ yes))
       (same_or d e);
   within = λ d. ⊎_elim
-      (λ (same : d ≡ e). let at : number_at (slice_set costs e cost) d ≡ cost = ap (number_at (slice_set costs e cost)) same ∙ price_here in let low = is.within in let r : number_at (slice_set costs e cost) d ≤ 2 ^ 49 = omega arith in r)
+      (λ (same : d ≡ e). let at : number_in_place (slice_set costs e cost) d ≡ cost = ap (number_in_place (slice_set costs e cost)) same ∙ price_here in let low = is.within in let r : number_in_place (slice_set costs e cost) d ≤ 2 ^ 49 = omega arith in r)
       (λ (other : d ≢ e). subst (λ x. x ≤ 2 ^ 49) (sym (get_or-set_other costs e d cost 0 other)) (are.within d))
       (same_or d e);
 }
@@ -105,7 +105,7 @@ priced_more v own returns exits Set Next costs lasts e cost last are el is next 
     slice_index : List Bool → ℕ → Bool
     slice_index xs i = slice_index_or xs i false
 
-    price_here : number_at (slice_set costs e cost) e ≡ cost
+    price_here : number_in_place (slice_set costs e cost) e ≡ cost
     price_here = get_or-set_same costs e cost 0 (let s = are.costs_size in omega arith)
 
     flag_here : slice_index_or (slice_set lasts e last) e false ≡ last
@@ -139,7 +139,7 @@ some_within [] i k at = let bad : ⊥ = cc in absurd bad
 some_within (x ∷ xs) zero k at = omega arith
 some_within (x ∷ xs) (suc i) k at = let r = some_within xs i k at in omega arith
 
-pub keys_below : (v : FlowGraph) (keys : List (Option ℕ)) → IsFlowGraph v → AreOwners v (length v.code.nodes) keys → AreKeys keys (length v.code.functions)
+pub keys_below : (v : FlowGraph) (keys : List (Option ℕ)) → IsFlowGraph v → AreOwnerKeys v (length v.code.nodes) keys → AreKeys keys (length v.code.functions)
 keys_below v keys flow are s k has =
     let size = are.size in
     let sl : s < length keys = some_within keys s k has in
@@ -151,16 +151,16 @@ keys_below v keys flow are s k has =
 pub record IsBucketFrom (v : FlowGraph) (keys : List (Option ℕ)) (f : ℕ) (next : Option ℕ) (bucket places : List ℕ) : Type 0 where
   pub from : ℕ
   pub last : IsLastBelow keys from f next
-  pub high : (i : ℕ) → i < length bucket → from ≤ number_at bucket i
+  pub high : (i : ℕ) → i < length bucket → from ≤ number_in_place bucket i
   pub room : length bucket + from ≤ length v.code.nodes
-  pub within : (i : ℕ) → i < length bucket → number_at bucket i < length v.code.nodes
-  pub own : (i : ℕ) → i < length bucket → (graph v).owner (node_address v (number_at bucket i)) ≡ f
-  pub whole : (k : ℕ) → from ≤ k → k < length v.code.nodes → (graph v).owner (node_address v k) ≡ f → (i : ℕ) × (i < length bucket) × (number_at bucket i ≡ k)
+  pub within : (i : ℕ) → i < length bucket → number_in_place bucket i < length v.code.nodes
+  pub own : (i : ℕ) → i < length bucket → (graph v).owner (node_address v (number_in_place bucket i)) ≡ f
+  pub whole : (k : ℕ) → from ≤ k → k < length v.code.nodes → (graph v).owner (node_address v k) ≡ f → (i : ℕ) × (i < length bucket) × (number_in_place bucket i ≡ k)
   pub once : AreDistinct bucket
-  pub each : (i : ℕ) → i < length bucket → number_at places (number_at bucket i) ≡ i
+  pub each : (i : ℕ) → i < length bucket → number_in_place places (number_in_place bucket i) ≡ i
   pub places_size : length places ≡ length v.code.nodes
 
-pub bucket_first : (v : FlowGraph) (keys : List (Option ℕ)) (f : ℕ) (next : Option ℕ) (places : List ℕ) → AreOwners v (length v.code.nodes) keys → IsLastBelow keys (length keys) f next → length places ≡ length v.code.nodes → IsBucketFrom v keys f next [] places
+pub bucket_first : (v : FlowGraph) (keys : List (Option ℕ)) (f : ℕ) (next : Option ℕ) (places : List ℕ) → AreOwnerKeys v (length v.code.nodes) keys → IsLastBelow keys (length keys) f next → length places ≡ length v.code.nodes → IsBucketFrom v keys f next [] places
 bucket_first v keys f next places are last size = record {
   from = length v.code.nodes;
   last = subst (λ n. IsLastBelow keys n f next) are.size last;
@@ -174,28 +174,28 @@ bucket_first v keys f next places are last size = record {
   places_size = size;
 }
 
-pub next_is : (v : FlowGraph) (keys : List (Option ℕ)) (f k : ℕ) (bucket places : List ℕ) → AreOwners v (length v.code.nodes) keys → IsBucketFrom v keys f (Some k) bucket places → (k < length v.code.nodes) × HasKey keys k f
+pub next_is : (v : FlowGraph) (keys : List (Option ℕ)) (f k : ℕ) (bucket places : List ℕ) → AreOwnerKeys v (length v.code.nodes) keys → IsBucketFrom v keys f (Some k) bucket places → (k < length v.code.nodes) × HasKey keys k f
 next_is v keys f k bucket places are is =
     let at = is.last.place k refl in
     let low = at.0 in
     let room = is.room in
     (omega arith, at.1)
 
-before_push : (xs : List ℕ) (x i : ℕ) → i < length xs → number_at (xs ++ x ∷ []) i ≡ number_at xs i
+before_push : (xs : List ℕ) (x i : ℕ) → i < length xs → number_in_place (xs ++ x ∷ []) i ≡ number_in_place xs i
 before_push [] x i lt = let bad : ⊥ = omega arith in absurd bad
 before_push (y ∷ ys) x zero lt = refl
 before_push (y ∷ ys) x (suc i) lt = before_push ys x i (omega arith)
 
-at_push : (xs : List ℕ) (x : ℕ) → number_at (xs ++ x ∷ []) (length xs) ≡ x
+at_push : (xs : List ℕ) (x : ℕ) → number_in_place (xs ++ x ∷ []) (length xs) ≡ x
 at_push [] x = refl
 at_push (y ∷ ys) x = at_push ys x
 
-pub bucket_more : (v : FlowGraph) (keys : List (Option ℕ)) (f k : ℕ) (next : Option ℕ) (bucket places : List ℕ) → AreOwners v (length v.code.nodes) keys → IsBucketFrom v keys f (Some k) bucket places → IsLastBelow keys k f next →
+pub bucket_more : (v : FlowGraph) (keys : List (Option ℕ)) (f k : ℕ) (next : Option ℕ) (bucket places : List ℕ) → AreOwnerKeys v (length v.code.nodes) keys → IsBucketFrom v keys f (Some k) bucket places → IsLastBelow keys k f next →
     IsBucketFrom v keys f next (bucket ++ k ∷ []) (slice_set places k (length bucket))
 bucket_more v keys f k next bucket places are is last = record {
   from = k;
   last = last;
-  high = λ i il. either i il (λ x. k ≤ x) (λ low. let h = is.high i low in let b = below in let r : k ≤ number_at bucket i = omega arith in r) (omega arith);
+  high = λ i il. either i il (λ x. k ≤ x) (λ low. let h = is.high i low in let b = below in let r : k ≤ number_in_place bucket i = omega arith in r) (omega arith);
   room = let room = is.room in let s = size in let low = below in omega arith;
   within = λ i il. either i il (λ x. x < length v.code.nodes) (is.within i) here.0;
   own = λ i il. either i il (λ x. (graph v).owner (node_address v x) ≡ f) (is.own i) owned;
@@ -205,7 +205,7 @@ bucket_more v keys f k next bucket places are is last = record {
       let top = is.last.greatest j below key in
       let same : k ≡ top.0 = same_Some k top.0 top.1 in
       let high = top.2 in
-      (length bucket, (let s = size in let q : length bucket < length (bucket ++ k ∷ []) = omega arith in q), (let r : number_at (bucket ++ k ∷ []) (length bucket) ≡ j = at_push bucket k ∙ (let q : k ≡ j = omega arith in q) in r)))
+      (length bucket, (let s = size in let q : length bucket < length (bucket ++ k ∷ []) = omega arith in q), (let r : number_in_place (bucket ++ k ∷ []) (length bucket) ≡ j = at_push bucket k ∙ (let q : k ≡ j = omega arith in q) in r)))
       (λ (above : is.from ≤ j). let w = is.whole j above jl own in let lt = w.1 in (w.0, (let s = size in let q : w.0 < length (bucket ++ k ∷ []) = omega arith in q), before_push bucket k w.0 w.1 ∙ w.2))
       (cases_lt j is.from);
   once = λ i j lt jl same. ⊎_elim
@@ -216,17 +216,17 @@ bucket_more v keys f k next bucket places are is last = record {
       let last_one : j ≡ length bucket = (let s = size in omega arith) in
       let il : i < length bucket = omega arith in
       let up = is.high i il in let lower = below in
-      let eq : number_at bucket i ≡ k = sym (before_push bucket k i il) ∙ same ∙ ap (number_at (bucket ++ k ∷ [])) last_one ∙ at_push bucket k in
+      let eq : number_in_place bucket i ≡ k = sym (before_push bucket k i il) ∙ same ∙ ap (number_in_place (bucket ++ k ∷ [])) last_one ∙ at_push bucket k in
       let bad : ⊥ = omega arith in absurd bad)
       (cases_lt j (length bucket));
   each = λ i il. ⊎_elim
       (λ (low : i < length bucket).
       let up = is.high i low in let lower = below in
-      let other : number_at bucket i ≢ k = (λ same. let bad : ⊥ = omega arith in bad) in
-      ap (number_at (slice_set places k (length bucket))) (before_push bucket k i low) ∙ get_or-set_other places k (number_at bucket i) (length bucket) 0 other ∙ is.each i low)
+      let other : number_in_place bucket i ≢ k = (λ same. let bad : ⊥ = omega arith in bad) in
+      ap (number_in_place (slice_set places k (length bucket))) (before_push bucket k i low) ∙ get_or-set_other places k (number_in_place bucket i) (length bucket) 0 other ∙ is.each i low)
       (λ (high : length bucket ≤ i).
       let last_one : i ≡ length bucket = (let s = size in omega arith) in
-      ap (number_at (slice_set places k (length bucket))) (ap (number_at (bucket ++ k ∷ [])) last_one ∙ at_push bucket k) ∙ get_or-set_same places k (length bucket) 0 (let s = is.places_size in let h = here.0 in omega arith) ∙ sym last_one)
+      ap (number_in_place (slice_set places k (length bucket))) (ap (number_in_place (bucket ++ k ∷ [])) last_one ∙ at_push bucket k) ∙ get_or-set_same places k (length bucket) 0 (let s = is.places_size in let h = here.0 in omega arith) ∙ sym last_one)
       (cases_lt i (length bucket));
   places_size = length-set places k (length bucket) ∙ is.places_size;
 }
@@ -243,13 +243,13 @@ bucket_more v keys f k next bucket places are is last = record {
     owned : (graph v).owner (node_address v k) ≡ f
     owned = same_Some ((graph v).owner (node_address v k)) f (sym (are.each k here.0) ∙ here.1)
 
-    either : (i : ℕ) → i < length (bucket ++ k ∷ []) → (P : ℕ → Type 0) → (i < length bucket → P (number_at bucket i)) → P k → P (number_at (bucket ++ k ∷ []) i)
+    either : (i : ℕ) → i < length (bucket ++ k ∷ []) → (P : ℕ → Type 0) → (i < length bucket → P (number_in_place bucket i)) → P k → P (number_in_place (bucket ++ k ∷ []) i)
     either i il P old new = ⊎_elim
         (λ (low : i < length bucket). subst P (sym (before_push bucket k i low)) (old low))
-        (λ (high : length bucket ≤ i). let last_one : i ≡ length bucket = (let s = size in omega arith) in subst P (sym (ap (number_at (bucket ++ k ∷ [])) last_one ∙ at_push bucket k)) new)
+        (λ (high : length bucket ≤ i). let last_one : i ≡ length bucket = (let s = size in omega arith) in subst P (sym (ap (number_in_place (bucket ++ k ∷ [])) last_one ∙ at_push bucket k)) new)
         (cases_lt i (length bucket))
 
-pub bucket_last : (v : FlowGraph) (keys : List (Option ℕ)) (f : ℕ) (bucket places : List ℕ) → AreOwners v (length v.code.nodes) keys → IsBucketFrom v keys f None bucket places → IsBucket v f bucket
+pub bucket_last : (v : FlowGraph) (keys : List (Option ℕ)) (f : ℕ) (bucket places : List ℕ) → AreOwnerKeys v (length v.code.nodes) keys → IsBucketFrom v keys f None bucket places → IsBucket v f bucket
 bucket_last v keys f bucket places are is = record {
   within = is.within;
   own = is.own;

@@ -10,7 +10,7 @@ use Rattle.cost_theory.proofs.Laws.{stable_least}
 use Rattle.least_cycles.specs.declared.Hop.{Hop}
 use Rattle.least_cycles.specs.declared.Way.{Way}
 use Rattle.least_cycles.specs.declared.Way.TheVariants.{Last, To, Stop}
-use Rattle.least_cycles.specs.Hops.{place_of, is_last, tail_of, head_of, last_of, cost_of, graph_of, least_at, IsLast, costs, IsWalkFrom, AreLeastCosts, plus, offered_by, offered, is_less, improves, relaxed, IsHop, absent, IsTable, fall_of, fall}
+use Rattle.least_cycles.specs.Hops.{way_place, is_last, hop_tail, head_of, last_of, hop_cost, hop_graph, number_in_table, IsLastHop, costs, IsWalkFrom, AreLeastCosts, offer_of_hop, offered_by, offered, is_less, improves, relaxed, IsHop, absent, IsHopTable, fall_of, fall}
 
 same_or : (a b : ℕ) → (a ≡ b) ⊎ (a ≢ b)
 same_or a b = grind arith
@@ -35,15 +35,15 @@ pub record IsOffer (n most : ℕ) (hops : List Hop) (table : List (Option ℕ)) 
   pub reached : (es : List ℕ) × IsWalkFrom hops h.tail es × (total (costs hops) es ≡ x)
   pub low : x + sum_by absent table * most ≤ n * most + most
 
-module _ (n most : ℕ) (hops : List Hop) (table : List (Option ℕ)) (kept : IsTable n most hops table) (e : ℕ) (h : Hop) (is : slice_get hops e ≡ Some h) (good : IsHop n most h) where
+module _ (n most : ℕ) (hops : List Hop) (table : List (Option ℕ)) (kept : IsHopTable n most hops table) (e : ℕ) (h : Hop) (is : slice_get hops e ≡ Some h) (good : IsHop n most h) where
   offer : (x : ℕ) → offered table h ≡ Some x → IsOffer n most hops table h x
   offer x offers = by_way h.way refl
     where
       here : costs hops e ≡ h.cost
-      here = ap cost_of is
+      here = ap hop_cost is
 
-      from : Some h.tail ≡ Some (tail_of (slice_get hops e))
-      from = ap (λ o. Some (tail_of o)) (sym is)
+      from : Some h.tail ≡ Some (hop_tail (slice_get hops e))
+      from = ap (λ o. Some (hop_tail o)) (sym is)
 
       below : e < length hops
       below = some-below hops e h is
@@ -60,21 +60,21 @@ module _ (n most : ℕ) (hops : List Hop) (table : List (Option ℕ)) (kept : Is
             reached = (e ∷ [], (below, from, inl (refl, last)), (let t : costs hops e + 0 ≡ x = omega (arith, here) in t));
             low = omega arith;
           }
-      by_way (To u) way = on (least_at table u) refl
+      by_way (To u) way = on (number_in_table table u) refl
         where
-          got : plus h.cost (least_at table u) ≡ Some x
+          got : offer_of_hop h.cost (number_in_table table u) ≡ Some x
           got = sym (ap (offered_by table h.cost) way) ∙ offers
 
           to : head_of (slice_get hops e) ≡ Some u
-          to = ap head_of is ∙ ap place_of way
+          to = ap head_of is ∙ ap way_place way
 
-          on : (o : Option ℕ) → least_at table u ≡ o → IsOffer n most hops table h x
-          on None at = let q : None ≡ Some x = sym (ap (plus h.cost) at) ∙ got in let bad : ⊥ = cc in absurd bad
+          on : (o : Option ℕ) → number_in_table table u ≡ o → IsOffer n most hops table h x
+          on None at = let q : None ≡ Some x = sym (ap (offer_of_hop h.cost) at) ∙ got in let bad : ⊥ = cc in absurd bad
           on (Some y) at =
-              let q : Some (h.cost + y) ≡ Some x = sym (ap (plus h.cost) at) ∙ got in
+              let q : Some (h.cost + y) ≡ Some x = sym (ap (offer_of_hop h.cost) at) ∙ got in
               let same : h.cost + y ≡ x = cc in
               let behind : (es : List ℕ) × IsWalkFrom hops u es × (total (costs hops) es ≡ y) = kept.reached u y at in
-              let walk : EndsWith (graph_of hops) (IsLast hops) (head_of (slice_get hops e)) behind.0 = subst (λ o. EndsWith (graph_of hops) (IsLast hops) o behind.0) (sym to) behind.1 in
+              let walk : EndsWith (hop_graph hops) (IsLastHop hops) (head_of (slice_get hops e)) behind.0 = subst (λ o. EndsWith (hop_graph hops) (IsLastHop hops) o behind.0) (sym to) behind.1 in
               let costs_y : total (costs hops) behind.0 ≡ y = behind.2 in
               let low : y + sum_by absent table * most ≤ n * most = kept.low u y at in
               let cheap : h.cost ≤ most = good.cost in
@@ -88,11 +88,11 @@ module _ (n most : ℕ) (hops : List Hop) (table : List (Option ℕ)) (kept : Is
   tail = let t : h.tail < n = good.tail in let l : length table ≡ n = kept.len in omega arith
 
   -- a lesser number written at the tail
-  module _ (x : ℕ) (offers : offered table h ≡ Some x) (less : is_less (Some x) (least_at table h.tail) ≡ true) where
-    sums : sum_by absent (slice_set table h.tail (Some x)) + absent (least_at table h.tail) ≡ sum_by absent table + 0
+  module _ (x : ℕ) (offers : offered table h ≡ Some x) (less : is_less (Some x) (number_in_table table h.tail) ≡ true) where
+    sums : sum_by absent (slice_set table h.tail (Some x)) + absent (number_in_table table h.tail) ≡ sum_by absent table + 0
     sums = sum_by-set absent table h.tail (Some x) None tail
 
-    falls : fall (n * most) (slice_set table h.tail (Some x)) + fall_of (n * most) (least_at table h.tail) ≡ fall (n * most) table + x
+    falls : fall (n * most) (slice_set table h.tail (Some x)) + fall_of (n * most) (number_in_table table h.tail) ≡ fall (n * most) table + x
     falls = sum_by-set (fall_of (n * most)) table h.tail (Some x) None tail
 
     fewer : sum_by absent (slice_set table h.tail (Some x)) ≤ sum_by absent table
@@ -100,11 +100,11 @@ module _ (n most : ℕ) (hops : List Hop) (table : List (Option ℕ)) (kept : Is
 
     -- the new number is low
     new-low : x + sum_by absent (slice_set table h.tail (Some x)) * most ≤ n * most
-    new-low = on (least_at table h.tail) refl
+    new-low = on (number_in_table table h.tail) refl
       where
-        on : (o : Option ℕ) → least_at table h.tail ≡ o → x + sum_by absent (slice_set table h.tail (Some x)) * most ≤ n * most
+        on : (o : Option ℕ) → number_in_table table h.tail ≡ o → x + sum_by absent (slice_set table h.tail (Some x)) * most ≤ n * most
         on None at =
-            let one : absent (least_at table h.tail) ≡ 1 = ap absent at in
+            let one : absent (number_in_table table h.tail) ≡ 1 = ap absent at in
             let count : sum_by absent table ≡ sum_by absent (slice_set table h.tail (Some x)) + 1 = omega (arith, sums) in
             let split : sum_by absent table * most ≡ sum_by absent (slice_set table h.tail (Some x)) * most + most = ap (λ k. k * most) count ∙ one_more (sum_by absent (slice_set table h.tail (Some x))) most in
             let low : x + sum_by absent table * most ≤ n * most + most = (offer x offers).low in
@@ -115,19 +115,19 @@ module _ (n most : ℕ) (hops : List Hop) (table : List (Option ℕ)) (kept : Is
             let fewer : sum_by absent (slice_set table h.tail (Some x)) * most ≤ sum_by absent table * most = mul-le-mul_right most fewer in
             omega arith
 
-    pub written : IsTable n most hops (slice_set table h.tail (Some x))
+    pub written : IsHopTable n most hops (slice_set table h.tail (Some x))
     written = record {
       len = length-set table h.tail (Some x) ∙ kept.len;
       few = (let a : sum_by absent table ≤ n = kept.few in omega (arith, fewer));
       reached = λ v y at. ⊎_elim
-          (λ same. let q : Some x ≡ Some y = sym (get_or-set_same table h.tail (Some x) None tail) ∙ ap (least_at (slice_set table h.tail (Some x))) (sym same) ∙ at in
+          (λ same. let q : Some x ≡ Some y = sym (get_or-set_same table h.tail (Some x) None tail) ∙ ap (number_in_table (slice_set table h.tail (Some x))) (sym same) ∙ at in
           let eq : x ≡ y = cc in
           subst (λ z. (es : List ℕ) × IsWalkFrom hops v es × (total (costs hops) es ≡ z)) eq
           (subst (λ u. (es : List ℕ) × IsWalkFrom hops u es × (total (costs hops) es ≡ x)) (sym same) (offer x offers).reached))
           (λ other. kept.reached v y (sym (get_or-set_other table h.tail v (Some x) None other) ∙ at))
           (same_or v h.tail);
       low = λ v y at. ⊎_elim
-          (λ same. let q : Some x ≡ Some y = sym (get_or-set_same table h.tail (Some x) None tail) ∙ ap (least_at (slice_set table h.tail (Some x))) (sym same) ∙ at in
+          (λ same. let q : Some x ≡ Some y = sym (get_or-set_same table h.tail (Some x) None tail) ∙ ap (number_in_table (slice_set table h.tail (Some x))) (sym same) ∙ at in
           let eq : x ≡ y = cc in
           subst (λ z. z + sum_by absent (slice_set table h.tail (Some x)) * most ≤ n * most) eq new-low)
           (λ other. let old : y + sum_by absent table * most ≤ n * most = kept.low v y (sym (get_or-set_other table h.tail v (Some x) None other) ∙ at) in
@@ -137,33 +137,33 @@ module _ (n most : ℕ) (hops : List Hop) (table : List (Option ℕ)) (kept : Is
     }
 
     pub written-falls : fall (n * most) (slice_set table h.tail (Some x)) < fall (n * most) table
-    written-falls = on (least_at table h.tail) refl
+    written-falls = on (number_in_table table h.tail) refl
       where
-        on : (o : Option ℕ) → least_at table h.tail ≡ o → fall (n * most) (slice_set table h.tail (Some x)) < fall (n * most) table
+        on : (o : Option ℕ) → number_in_table table h.tail ≡ o → fall (n * most) (slice_set table h.tail (Some x)) < fall (n * most) table
         on None at =
-            let big : fall_of (n * most) (least_at table h.tail) ≡ n * most + 1 = ap (fall_of (n * most)) at in
+            let big : fall_of (n * most) (number_in_table table h.tail) ≡ n * most + 1 = ap (fall_of (n * most)) at in
             omega (arith, falls, new-low)
         on (Some y) at =
-            let was : fall_of (n * most) (least_at table h.tail) ≡ y = ap (fall_of (n * most)) at in
+            let was : fall_of (n * most) (number_in_table table h.tail) ≡ y = ap (fall_of (n * most)) at in
             let lt : x < y = less-lt x y (subst (λ o. is_less (Some x) o ≡ true) at less) in
             omega (arith, falls)
 
   -- the table after a hop
-  pub relaxed-kept : IsTable n most hops (relaxed table h)
+  pub relaxed-kept : IsHopTable n most hops (relaxed table h)
   relaxed-kept = by_test (improves table h) refl
     where
-      by_test : (b : Bool) → improves table h ≡ b → IsTable n most hops (cond b (slice_set table h.tail (offered table h)) table)
+      by_test : (b : Bool) → improves table h ≡ b → IsHopTable n most hops (cond b (slice_set table h.tail (offered table h)) table)
       by_test true better =
-          let got : (x : ℕ) × (offered table h ≡ Some x) = less-some (offered table h) (least_at table h.tail) better in
-          subst (λ o. IsTable n most hops (slice_set table h.tail o)) (sym got.1) (written got.0 got.1 (subst (λ o. is_less o (least_at table h.tail) ≡ true) got.1 better))
+          let got : (x : ℕ) × (offered table h ≡ Some x) = less-some (offered table h) (number_in_table table h.tail) better in
+          subst (λ o. IsHopTable n most hops (slice_set table h.tail o)) (sym got.1) (written got.0 got.1 (subst (λ o. is_less o (number_in_table table h.tail) ≡ true) got.1 better))
       by_test false better = kept
 
   pub relaxed-falls : improves table h ≡ true → fall (n * most) (relaxed table h) < fall (n * most) table
   relaxed-falls better =
-      let got : (x : ℕ) × (offered table h ≡ Some x) = less-some (offered table h) (least_at table h.tail) better in
+      let got : (x : ℕ) × (offered table h ≡ Some x) = less-some (offered table h) (number_in_table table h.tail) better in
       let is_set : relaxed table h ≡ slice_set table h.tail (Some got.0) =
       ap (λ (b : Bool). cond b (slice_set table h.tail (offered table h)) table) better ∙ ap (λ o. slice_set table h.tail o) got.1 in
-      subst (λ t. fall (n * most) t < fall (n * most) table) (sym is_set) (written-falls got.0 got.1 (subst (λ o. is_less o (least_at table h.tail) ≡ true) got.1 better))
+      subst (λ t. fall (n * most) t < fall (n * most) table) (sym is_set) (written-falls got.0 got.1 (subst (λ o. is_less o (number_in_table table h.tail) ≡ true) got.1 better))
 
 -- a hop that does not improve the table
 pub relaxed-same : (table : List (Option ℕ)) (h : Hop) → improves table h ≡ false → relaxed table h ≡ table
@@ -177,40 +177,40 @@ not-less x (Some y) h = (y, refl, not-lt x y h)
     not-lt x y h = grind (arith, nat_tests)
 
 -- a table of walks that no hop improves is the least
-pub still-least : (n most : ℕ) (hops : List Hop) (table : List (Option ℕ)) → IsTable n most hops table
+pub still-least : (n most : ℕ) (hops : List Hop) (table : List (Option ℕ)) → IsHopTable n most hops table
     → ((e : ℕ) → e < length hops → IfSome (slice_get hops e) (λ h. improves table h ≡ false)) → AreLeastCosts hops table
-still-least n most hops table kept still = stable_least (graph_of hops) (IsLast hops) (costs hops) (least_at table) kept.reached ends steps
+still-least n most hops table kept still = stable_least (hop_graph hops) (IsLastHop hops) (costs hops) (number_in_table table) kept.reached ends steps
   where
-    ends : (e : ℕ) → e < length hops → last_of (slice_get hops e) ≡ true → (x : ℕ) × (least_at table (tail_of (slice_get hops e)) ≡ Some x) × (x ≤ cost_of (slice_get hops e))
+    ends : (e : ℕ) → e < length hops → last_of (slice_get hops e) ≡ true → (x : ℕ) × (number_in_table table (hop_tail (slice_get hops e)) ≡ Some x) × (x ≤ hop_cost (slice_get hops e))
     ends e lt last = go (slice_get hops e) (still e lt) last
       where
-        by_way : (h : Hop) (w : Way) → is_last w ≡ true → is_less (offered_by table h.cost w) (least_at table h.tail) ≡ false → (x : ℕ) × (least_at table h.tail ≡ Some x) × (x ≤ h.cost)
-        by_way h Last last better = not-less h.cost (least_at table h.tail) better
+        by_way : (h : Hop) (w : Way) → is_last w ≡ true → is_less (offered_by table h.cost w) (number_in_table table h.tail) ≡ false → (x : ℕ) × (number_in_table table h.tail ≡ Some x) × (x ≤ h.cost)
+        by_way h Last last better = not-less h.cost (number_in_table table h.tail) better
         by_way h (To u) last better = let bad : ⊥ = cc in absurd bad
         by_way h Stop last better = let bad : ⊥ = cc in absurd bad
 
-        go : (o : Option Hop) → IfSome o (λ h. improves table h ≡ false) → last_of o ≡ true → (x : ℕ) × (least_at table (tail_of o) ≡ Some x) × (x ≤ cost_of o)
+        go : (o : Option Hop) → IfSome o (λ h. improves table h ≡ false) → last_of o ≡ true → (x : ℕ) × (number_in_table table (hop_tail o) ≡ Some x) × (x ≤ hop_cost o)
         go None better last = let bad : ⊥ = cc in absurd bad
         go (Some h) better last = by_way h h.way last better
 
-    steps : (e u y : ℕ) → e < length hops → head_of (slice_get hops e) ≡ Some u → least_at table u ≡ Some y → (x : ℕ) × (least_at table (tail_of (slice_get hops e)) ≡ Some x) × (x ≤ cost_of (slice_get hops e) + y)
+    steps : (e u y : ℕ) → e < length hops → head_of (slice_get hops e) ≡ Some u → number_in_table table u ≡ Some y → (x : ℕ) × (number_in_table table (hop_tail (slice_get hops e)) ≡ Some x) × (x ≤ hop_cost (slice_get hops e) + y)
     steps e u y lt to at = go (slice_get hops e) (still e lt) to
       where
-        by_way : (h : Hop) (w : Way) → place_of w ≡ Some u → is_less (offered_by table h.cost w) (least_at table h.tail) ≡ false → (x : ℕ) × (least_at table h.tail ≡ Some x) × (x ≤ h.cost + y)
+        by_way : (h : Hop) (w : Way) → way_place w ≡ Some u → is_less (offered_by table h.cost w) (number_in_table table h.tail) ≡ false → (x : ℕ) × (number_in_table table h.tail ≡ Some x) × (x ≤ h.cost + y)
         by_way h Last to better = let bad : ⊥ = cc in absurd bad
         by_way h (To v) to better =
             let same : v ≡ u = cc in
-            let got : plus h.cost (least_at table v) ≡ Some (h.cost + y) = ap (λ i. plus h.cost (least_at table i)) same ∙ ap (plus h.cost) at in
-            not-less (h.cost + y) (least_at table h.tail) (subst (λ o. is_less o (least_at table h.tail) ≡ false) got better)
+            let got : offer_of_hop h.cost (number_in_table table v) ≡ Some (h.cost + y) = ap (λ i. offer_of_hop h.cost (number_in_table table i)) same ∙ ap (offer_of_hop h.cost) at in
+            not-less (h.cost + y) (number_in_table table h.tail) (subst (λ o. is_less o (number_in_table table h.tail) ≡ false) got better)
         by_way h Stop to better = let bad : ⊥ = cc in absurd bad
 
-        go : (o : Option Hop) → IfSome o (λ h. improves table h ≡ false) → head_of o ≡ Some u → (x : ℕ) × (least_at table (tail_of o) ≡ Some x) × (x ≤ cost_of o + y)
+        go : (o : Option Hop) → IfSome o (λ h. improves table h ≡ false) → head_of o ≡ Some u → (x : ℕ) × (number_in_table table (hop_tail o) ≡ Some x) × (x ≤ hop_cost o + y)
         go None better to = let bad : ⊥ = cc in absurd bad
         go (Some h) better to = by_way h h.way to better
 
 -- a pass over the hops, before hop k
 pub record IsPassed (n most : ℕ) (hops : List Hop) (initial table : List (Option ℕ)) (changed : Bool) (k : ℕ) : Type 0 where
-  pub table_kept : IsTable n most hops table
+  pub table_kept : IsHopTable n most hops table
   pub falls : changed ≡ true → fall (n * most) table < fall (n * most) initial
   pub same : changed ≡ false → table ≡ initial
   pub still : changed ≡ false → (i : ℕ) → i < k → IfSome (slice_get hops i) (λ h. improves table h ≡ false)
@@ -253,7 +253,7 @@ from zero a = omega arith
 from (suc n) a = let ih : fold (λ (a : ℕ) (o : Option ℕ). a + absent o) (a + 1) (replicate n None) ≡ a + 1 + n = from n (a + 1) in omega arith
 
 -- the table before the first pass
-pub none-kept : (n most : ℕ) (hops : List Hop) → IsTable n most hops (replicate n None)
+pub none-kept : (n most : ℕ) (hops : List Hop) → IsHopTable n most hops (replicate n None)
 none-kept n most hops = record {
   len = length-replicate n None;
   few = at_most n;
@@ -264,7 +264,7 @@ none-kept n most hops = record {
     at_most : (n : ℕ) → sum_by absent (replicate n None) ≤ n
     at_most n = let s : fold (λ a o. a + absent o) 0 (replicate n None) ≡ 0 + n = from n 0 in omega arith
 
-    nothing : (n v x : ℕ) → least_at (replicate n None) v ≡ Some x → ⊥
+    nothing : (n v x : ℕ) → number_in_table (replicate n None) v ≡ Some x → ⊥
     nothing zero v x at = let bad : ⊥ = cc in bad
     nothing (suc n) zero x at = let bad : ⊥ = cc in bad
     nothing (suc n) (suc v) x at = nothing n v x at

@@ -9,12 +9,12 @@ use Rattle.cost_theory.specs.Least.{Least, IsLeastIfAny, EndsWith, least_call}
 use Rattle.code_graph.specs.FlowGraph.{FlowGraph, IsFlowGraph}
 use Rattle.natural_loops.specs.Noted.{node_address}
 use Rattle.natural_loops.proofs.Laws.{one_number}
-use Rattle.least_cycles.specs.Hops.{least_at}
-use Rattle.least_cycles.specs.Tables.{value_beside, AreLimits}
+use Rattle.least_cycles.specs.Hops.{number_in_table}
+use Rattle.least_cycles.specs.Tables.{value_beside, AreFunctionLimits}
 
 -- ---- what stands beside an address
 
-beside_at : (nodes : List ℕ) (table : List (Option ℕ)) (k a : ℕ) → ((i j b : ℕ) → slice_get nodes i ≡ Some b → slice_get nodes j ≡ Some b → i ≡ j) → slice_get nodes k ≡ Some a → value_beside nodes table a ≡ least_at table k
+beside_at : (nodes : List ℕ) (table : List (Option ℕ)) (k a : ℕ) → ((i j b : ℕ) → slice_get nodes i ≡ Some b → slice_get nodes j ≡ Some b → i ≡ j) → slice_get nodes k ≡ Some a → value_beside nodes table a ≡ number_in_table table k
 beside_at [] table k a once at = absurd (none-some a at)
 beside_at (u ∷ us) [] k a once at = refl
 beside_at (u ∷ us) (o ∷ os) zero a once at = ap (λ b. if b then o else value_beside us os a) (eq-eqb u a (same_Some u a at))
@@ -27,10 +27,10 @@ beside_none [] table a free = refl
 beside_none (u ∷ us) [] a free = refl
 beside_none (u ∷ us) (o ∷ os) a free = ap (λ b. if b then o else value_beside us os a) (ne_eqb u a (λ same. free 0 (ap Some same))) ∙ beside_none us os a (λ k at. free (suc k) at)
 
-pub at_number : (v : FlowGraph) → IsFlowGraph v → (table : List (Option ℕ)) (k a : ℕ) → slice_get v.code.nodes k ≡ Some a → value_beside v.code.nodes table a ≡ least_at table k
+pub at_number : (v : FlowGraph) → IsFlowGraph v → (table : List (Option ℕ)) (k a : ℕ) → slice_get v.code.nodes k ≡ Some a → value_beside v.code.nodes table a ≡ number_in_table table k
 at_number v flow table k a at = beside_at v.code.nodes table k a (one_number v flow) at
 
-pub at_node : (v : FlowGraph) → IsFlowGraph v → (table : List (Option ℕ)) (k : ℕ) → k < length v.code.nodes → value_beside v.code.nodes table (node_address v k) ≡ least_at table k
+pub at_node : (v : FlowGraph) → IsFlowGraph v → (table : List (Option ℕ)) (k : ℕ) → k < length v.code.nodes → value_beside v.code.nodes table (node_address v k) ≡ number_in_table table k
 at_node v flow table k kl = at_number v flow table k (node_address v k) (slice_get-get_or v.code.nodes k 0 kl)
 
 -- ---- calls
@@ -120,7 +120,7 @@ total_within g last c d less (e ∷ es) p walk =
     walk.2 in
     omega arith
 
-pub within_limit : (g : Graph) (own limit : ℕ → ℕ) → IsProgram g → AreLimits g own limit → (last : ℕ → Type 0) (c : ℕ → ℕ) → ((e : ℕ) → e < g.edges → c e ≤ own e + at_some (g.callee e) limit) → ((e : ℕ) → e < g.edges → last e → g.target e ≡ None) →
+pub within_limit : (g : Graph) (own limit : ℕ → ℕ) → IsProgram g → AreFunctionLimits g own limit → (last : ℕ → Type 0) (c : ℕ → ℕ) → ((e : ℕ) → e < g.edges → c e ≤ own e + at_some (g.callee e) limit) → ((e : ℕ) → e < g.edges → last e → g.target e ≡ None) →
     (f x : ℕ) → f < g.functions → IsLeastIfAny (EndsWith g last (Some (g.entry f))) (total c) (Some x) → x ≤ limit f
 within_limit g own limit program limits last c less ends f x fl some =
     let e = last_edge g program f last some.reached.0 (Some (g.entry f)) (λ u is. subst (λ y. g.owner y ≡ f) (same_Some (g.entry f) u is) (program.entry_owner f fl)) some.reached.1 in

@@ -2,14 +2,14 @@
 use Rattle.std.proofs.Common.{◌≡◌, ℕ, ◌+◌, ◌<◌, ◌≤◌, Bool, true, false, cond, ◌⊎◌, inl, inr, nat_le, List, [], ◌∷◌, length, slice_get, Option, Some, None, is_some, unwrap_or, refl, sym, ap, ◌∙◌, subst, arith, ⊎_elim}
 use Rattle.std.proofs.lemmas.Bool.Decides.{nat_tests}
 use Rattle.cost_theory.specs.Graph.{Graph, total}
-use Rattle.cost_theory.specs.Least.{IsLeastIfAny, EndsWith, Least, IsReturnTo, end_after, Way as EndWay, IsWay, way_cost}
+use Rattle.cost_theory.specs.Least.{IsLeastIfAny, EndsWith, Least, IsReturnTo, end_after, WayToEnd as EndWay, IsWay, way_cost}
 use Rattle.cost_theory.specs.LeastTurns.{IsRun}
-use Rattle.cost_theory.specs.Least.Way.{Exits, Returns}
+use Rattle.cost_theory.specs.Least.WayToEnd.{Exits, Returns}
 use Rattle.least_cycles.specs.declared.Hop.{Hop}
 use Rattle.least_cycles.specs.declared.Way.{Way}
 use Rattle.least_cycles.specs.declared.Way.TheVariants.{Last, To, Stop}
-use Rattle.least_cycles.specs.Hops.{place_of, is_last, tail_of, head_of, last_of, cost_of, graph_of, IsLast, costs, IsWalkFrom}
-use Rattle.least_cycles.specs.Local.{IsWayOf, IsHopOf, AreLocal, lesser, both}
+use Rattle.least_cycles.specs.Hops.{way_place, is_last, hop_tail, head_of, last_of, hop_cost, hop_graph, IsLastHop, costs, IsWalkFrom}
+use Rattle.least_cycles.specs.Local.{IsWayOf, IsHopOf, AreLocal, lesser_cost, sum_of_both}
 use Rattle.least_cycles.proofs.Relaxing.{some-below}
 
 none_some : (o : Option ℕ) → o ≡ None → is_some o ≡ true → ⊥
@@ -53,11 +53,11 @@ module _ (g : Graph) (last step : ℕ → Bool) (c : ℕ → ℕ) (nodes edges :
       here : i ≡ hop.0.tail
       here = local.once i hop.0.tail v at (hop.2.tail ∙ ap (λ x. Some x) (sym v_source))
 
-      from : Some i ≡ Some (tail_of (slice_get hops place.0))
-      from = ap (λ x. Some x) here ∙ ap (λ o. Some (tail_of o)) (sym hop.1)
+      from : Some i ≡ Some (hop_tail (slice_get hops place.0))
+      from = ap (λ x. Some x) here ∙ ap (λ o. Some (hop_tail o)) (sym hop.1)
 
-      price : cost_of (slice_get hops place.0) ≡ c e
-      price = ap cost_of hop.1 ∙ hop.2.cost
+      price : hop_cost (slice_get hops place.0) ≡ c e
+      price = ap hop_cost hop.1 ∙ hop.2.cost
 
       way_is : (w : Way) → hop.0.way ≡ w → IsWayOf g last step nodes w e
       way_is w is = subst (λ x. IsWayOf g last step nodes x e) is hop.2.way
@@ -68,16 +68,16 @@ module _ (g : Graph) (last step : ℕ → Bool) (c : ℕ → ℕ) (nodes edges :
       by_way Last is (inl b) ih =
           let ends : last_of (slice_get hops place.0) ≡ true = ap last_of hop.1 ∙ ap is_last is in
           let none : total c es ≡ 0 = ap (total c) b.1 in
-          (place.0 ∷ [], (below, from, inl (refl, ends)), (let t : cost_of (slice_get hops place.0) + 0 ≡ c e + total c es = omega (arith, price) in t))
+          (place.0 ∷ [], (below, from, inl (refl, ends)), (let t : hop_cost (slice_get hops place.0) + 0 ≡ c e + total c es = omega (arith, price) in t))
       by_way Last is (inr b) ih = let w : (last e ≡ true) × (step e ≡ false) = way_is Last is in absurd (clash (step e) w.1 b.0)
       by_way (To j) is (inl b) ih = let w : (last e ≡ false) × (step e ≡ true) × ((u : ℕ) × (g.target e ≡ Some u) × (slice_get nodes j ≡ Some u)) = way_is (To j) is in absurd (clash (last e) w.0 b.0)
       by_way (To j) is (inr b) ih =
           let w : (last e ≡ false) × (step e ≡ true) × ((u : ℕ) × (g.target e ≡ Some u) × (slice_get nodes j ≡ Some u)) = way_is (To j) is in
           let behind : (xs : List ℕ) × IsWalkFrom hops j xs × (total (costs hops) xs ≡ total c es) = ih w.2.0 j w.2.2 (subst (λ o. Run o es) w.2.1 b.1) in
-          let to : head_of (slice_get hops place.0) ≡ Some j = ap head_of hop.1 ∙ ap place_of is in
-          let rest : EndsWith (graph_of hops) (IsLast hops) (head_of (slice_get hops place.0)) behind.0 = subst (λ o. EndsWith (graph_of hops) (IsLast hops) o behind.0) (sym to) behind.1 in
+          let to : head_of (slice_get hops place.0) ≡ Some j = ap head_of hop.1 ∙ ap way_place is in
+          let rest : EndsWith (hop_graph hops) (IsLastHop hops) (head_of (slice_get hops place.0)) behind.0 = subst (λ o. EndsWith (hop_graph hops) (IsLastHop hops) o behind.0) (sym to) behind.1 in
           let same : total (costs hops) behind.0 ≡ total c es = behind.2 in
-          (place.0 ∷ behind.0, (below, from, inr (ap is_some to, rest)), (let t : cost_of (slice_get hops place.0) + total (costs hops) behind.0 ≡ c e + total c es = omega (arith, price) in t))
+          (place.0 ∷ behind.0, (below, from, inr (ap is_some to, rest)), (let t : hop_cost (slice_get hops place.0) + total (costs hops) behind.0 ≡ c e + total c es = omega (arith, price) in t))
       by_way Stop is (inl b) ih = let w : (last e ≡ false) × ((step e ≡ false) ⊎ (g.target e ≡ None)) = way_is Stop is in absurd (clash (last e) w.0 b.0)
       by_way Stop is (inr b) ih =
           let w : (last e ≡ false) × ((step e ≡ false) ⊎ (g.target e ≡ None)) = way_is Stop is in
@@ -95,13 +95,13 @@ module _ (g : Graph) (last step : ℕ → Bool) (c : ℕ → ℕ) (nodes edges :
       hop = local.hop x edge.0 edge.1
 
       tail : i ≡ hop.0.tail
-      tail = some_eq _ _ walk.1 ∙ ap tail_of hop.1
+      tail = some_eq _ _ walk.1 ∙ ap hop_tail hop.1
 
       from : Some v ≡ Some (g.source edge.0)
       from = sym at ∙ ap (slice_get nodes) tail ∙ hop.2.tail
 
-      price : cost_of (slice_get hops x) ≡ c edge.0
-      price = ap cost_of hop.1 ∙ hop.2.cost
+      price : hop_cost (slice_get hops x) ≡ c edge.0
+      price = ap hop_cost hop.1 ∙ hop.2.cost
 
       below : edge.0 < g.edges
       below = local.edge x edge.0 edge.1
@@ -109,31 +109,31 @@ module _ (g : Graph) (last step : ℕ → Bool) (c : ℕ → ℕ) (nodes edges :
       way_is : (w : Way) → hop.0.way ≡ w → IsWayOf g last step nodes w edge.0
       way_is w is = subst (λ y. IsWayOf g last step nodes y edge.0) is hop.2.way
 
-      by_way : (w : Way) → hop.0.way ≡ w → ((xs ≡ []) × (last_of (slice_get hops x) ≡ true)) ⊎ ((is_some (head_of (slice_get hops x)) ≡ true) × EndsWith (graph_of hops) (IsLast hops) (head_of (slice_get hops x)) xs)
+      by_way : (w : Way) → hop.0.way ≡ w → ((xs ≡ []) × (last_of (slice_get hops x) ≡ true)) ⊎ ((is_some (head_of (slice_get hops x)) ≡ true) × EndsWith (hop_graph hops) (IsLastHop hops) (head_of (slice_get hops x)) xs)
           → ((u j : ℕ) → slice_get nodes j ≡ Some u → IsWalkFrom hops j xs → (es : List ℕ) × Run (Some u) es × (total c es ≡ total (costs hops) xs))
-          → (es : List ℕ) × Run (Some v) es × (total c es ≡ cost_of (slice_get hops x) + total (costs hops) xs)
+          → (es : List ℕ) × Run (Some v) es × (total c es ≡ hop_cost (slice_get hops x) + total (costs hops) xs)
       by_way Last is (inl b) ih =
           let w : (last edge.0 ≡ true) × (step edge.0 ≡ false) = way_is Last is in
           let none : total (costs hops) xs ≡ 0 = ap (total (costs hops)) b.0 in
-          (edge.0 ∷ [], (below, from, inl (w.0, refl)), (let t : c edge.0 + 0 ≡ cost_of (slice_get hops x) + total (costs hops) xs = omega (arith, price) in t))
+          (edge.0 ∷ [], (below, from, inl (w.0, refl)), (let t : c edge.0 + 0 ≡ hop_cost (slice_get hops x) + total (costs hops) xs = omega (arith, price) in t))
       by_way Last is (inr b) ih =
-          let h : head_of (slice_get hops x) ≡ None = ap head_of hop.1 ∙ ap place_of is in
+          let h : head_of (slice_get hops x) ≡ None = ap head_of hop.1 ∙ ap way_place is in
           absurd (none_some _ h b.0)
       by_way (To j) is (inl b) ih =
           let l : last_of (slice_get hops x) ≡ false = ap last_of hop.1 ∙ ap is_last is in
           let s : true ≡ false = sym b.1 ∙ l in let bad : ⊥ = cc in absurd bad
       by_way (To j) is (inr b) ih =
           let w : (last edge.0 ≡ false) × (step edge.0 ≡ true) × ((u : ℕ) × (g.target edge.0 ≡ Some u) × (slice_get nodes j ≡ Some u)) = way_is (To j) is in
-          let to : head_of (slice_get hops x) ≡ Some j = ap head_of hop.1 ∙ ap place_of is in
-          let behind : (es : List ℕ) × Run (Some w.2.0) es × (total c es ≡ total (costs hops) xs) = ih w.2.0 j w.2.2 (subst (λ o. EndsWith (graph_of hops) (IsLast hops) o xs) to b.1) in
+          let to : head_of (slice_get hops x) ≡ Some j = ap head_of hop.1 ∙ ap way_place is in
+          let behind : (es : List ℕ) × Run (Some w.2.0) es × (total c es ≡ total (costs hops) xs) = ih w.2.0 j w.2.2 (subst (λ o. EndsWith (hop_graph hops) (IsLastHop hops) o xs) to b.1) in
           let rest : Run (g.target edge.0) behind.0 = subst (λ o. Run o behind.0) (sym w.2.1) behind.1 in
           let same : total c behind.0 ≡ total (costs hops) xs = behind.2 in
-          (edge.0 ∷ behind.0, (below, from, inr (w.1, rest)), (let t : c edge.0 + total c behind.0 ≡ cost_of (slice_get hops x) + total (costs hops) xs = omega (arith, price) in t))
+          (edge.0 ∷ behind.0, (below, from, inr (w.1, rest)), (let t : c edge.0 + total c behind.0 ≡ hop_cost (slice_get hops x) + total (costs hops) xs = omega (arith, price) in t))
       by_way Stop is (inl b) ih =
           let l : last_of (slice_get hops x) ≡ false = ap last_of hop.1 ∙ ap is_last is in
           let s : true ≡ false = sym b.1 ∙ l in let bad : ⊥ = cc in absurd bad
       by_way Stop is (inr b) ih =
-          let h : head_of (slice_get hops x) ≡ None = ap head_of hop.1 ∙ ap place_of is in
+          let h : head_of (slice_get hops x) ≡ None = ap head_of hop.1 ∙ ap way_place is in
           absurd (none_some _ h b.0)
 
   -- the least by hops is the least in the graph
@@ -151,7 +151,7 @@ module _ (g : Graph) (last step : ℕ → Bool) (c : ℕ → ℕ) (nodes edges :
 
 -- the least of two kinds of things
 pub least-lesser : {A : Type 0} (P Q R : A → Type 0) (value : A → ℕ) (p q : Option ℕ) → IsLeastIfAny P value p → IsLeastIfAny Q value q
-    → ((a : A) → P a → R a) → ((a : A) → Q a → R a) → ((a : A) → R a → P a ⊎ Q a) → IsLeastIfAny R value (lesser p q)
+    → ((a : A) → P a → R a) → ((a : A) → Q a → R a) → ((a : A) → R a → P a ⊎ Q a) → IsLeastIfAny R value (lesser_cost p q)
 least-lesser P Q R value None None lp lq pr qr rpq = λ a r. ⊎_elim (λ h. lp a h) (λ h. lq a h) (rpq a r)
 least-lesser P Q R value None (Some y) lp lq pr qr rpq = record {
   reached = (lq.reached.0, qr lq.reached.0 lq.reached.1, lq.reached.2);
@@ -202,7 +202,7 @@ exit-least g n v (Some x) is = record { reached = (Exits, ap is_some is, same); 
     least Exits h = omega (arith, same)
     least (Returns e) h = absurd h
 
-return-least : (g : Graph) (n : Least) (v : ℕ) (r a : Option ℕ) → n.to_return v ≡ r → IsLeastIfAny (IsReturnTo g n v) (end_after g n) a → IsLeastIfAny (IsReturnWay g n v) (way_cost g n v) (both r a)
+return-least : (g : Graph) (n : Least) (v : ℕ) (r a : Option ℕ) → n.to_return v ≡ r → IsLeastIfAny (IsReturnTo g n v) (end_after g n) a → IsLeastIfAny (IsReturnWay g n v) (way_cost g n v) (sum_of_both r a)
 return-least g n v None a is least = none
   where
     none : (way : EndWay) → IsReturnWay g n v way → ⊥
@@ -227,9 +227,9 @@ return-least g n v (Some r) (Some m) is least = record {
 
 -- Z of a node, from the least Z behind the calls of its function that come back
 pub end-least : (g : Graph) (n : Least) (v : ℕ) (behind : Option ℕ) → IsLeastIfAny (IsReturnTo g n v) (end_after g n) behind
-    → n.to_end v ≡ lesser (n.to_exit v) (both (n.to_return v) behind) → IsLeastIfAny (IsWay g n v) (way_cost g n v) (n.to_end v)
+    → n.to_end v ≡ lesser_cost (n.to_exit v) (sum_of_both (n.to_return v) behind) → IsLeastIfAny (IsWay g n v) (way_cost g n v) (n.to_end v)
 end-least g n v behind least is = subst (λ o. IsLeastIfAny (IsWay g n v) (way_cost g n v) o) (sym is)
-    (least-lesser (IsExitWay g n v) (IsReturnWay g n v) (IsWay g n v) (way_cost g n v) (n.to_exit v) (both (n.to_return v) behind)
+    (least-lesser (IsExitWay g n v) (IsReturnWay g n v) (IsWay g n v) (way_cost g n v) (n.to_exit v) (sum_of_both (n.to_return v) behind)
     (exit-least g n v (n.to_exit v) refl) (return-least g n v (n.to_return v) behind refl least) exits returns either)
   where
     exits : (way : EndWay) → IsExitWay g n v way → IsWay g n v way

@@ -3,7 +3,7 @@ use Rattle.std.proofs.Common.{◌≡◌, ◌≢◌, ℕ, zero, suc, ◌+◌, ◌
 use Rattle.std.proofs.lemmas.Bool.{cases_lt, eqb-true, eq-eqb, ne_eqb}
 use Rattle.std.proofs.lemmas.List.{length-map}
 use Rattle.std.proofs.lemmas.Option.{slice_get-get_or, slice_get_within, get_or_from_slice_get, slice_get-map, same_Some, none-some}
-use Rattle.call_orders.specs.Arcs.{number_at}
+use Rattle.call_orders.specs.Arcs.{number_in_place}
 use Rattle.cost_theory.specs.Graph.{is_round, is_header, is_back}
 use Rattle.cost_theory.specs.LeastTurns.{turn_step, turn_last}
 use Rattle.cost_theory.specs.Lists.{or_true, is_among, body_of}
@@ -15,8 +15,8 @@ use Rattle.natural_loops.specs.Found.{IsAscending}
 use Rattle.natural_loops.proofs.Laws.{one_number}
 use Rattle.loop_tree.specs.Tree.{LoopView, loops, IsLoopTree}
 use Rattle.key_chains.specs.Keys.{HasKey, AreKeys, option_at}
-use Rattle.least_cycles.specs.Functions.{is_marked, IsFromFirst}
-use Rattle.least_cycles.specs.Charging.{AreHeads, IsInto, IsEntered, IsBodyOf, AreTurnKinds, header_key, AreHeaderKeys}
+use Rattle.least_cycles.specs.Functions.{is_in_flags, IsFromFirst}
+use Rattle.least_cycles.specs.Charging.{AreHeaderLoops, IsInto, IsEntered, IsBodyOf, AreTurnKinds, header_key, AreHeaderKeys}
 use Rattle.least_cycles.proofs.PriceLaws.{owner_below}
 
 same_or : (a b : ℕ) → (a ≡ b) ⊎ (a ≢ b)
@@ -46,20 +46,20 @@ body_map f [] k = refl
 body_map f (b ∷ bs) zero = refl
 body_map f (b ∷ bs) (suc k) = body_map f bs k
 
-pub inside_at : (v : FlowGraph) (t : LoopView) (k i : ℕ) → i < length (body_of t.bodies k) → (loops v t).inside k (node_address v (number_at (body_of t.bodies k) i)) ≡ true
+pub inside_at : (v : FlowGraph) (t : LoopView) (k i : ℕ) → i < length (body_of t.bodies k) → (loops v t).inside k (node_address v (number_in_place (body_of t.bodies k) i)) ≡ true
 inside_at v t k i lt =
-    let at : slice_get (map (node_address v) (body_of t.bodies k)) i ≡ Some (node_address v (number_at (body_of t.bodies k) i)) =
+    let at : slice_get (map (node_address v) (body_of t.bodies k)) i ≡ Some (node_address v (number_in_place (body_of t.bodies k) i)) =
     slice_get-map (node_address v) (body_of t.bodies k) i ∙ ap (option_map (node_address v)) (slice_get-get_or (body_of t.bodies k) i 0 lt) in
-    subst (λ (xs : List ℕ). is_among (node_address v (number_at (body_of t.bodies k) i)) xs ≡ true) (sym (body_map (node_address v) t.bodies k)) (among_at (map (node_address v) (body_of t.bodies k)) i _ at)
+    subst (λ (xs : List ℕ). is_among (node_address v (number_in_place (body_of t.bodies k) i)) xs ≡ true) (sym (body_map (node_address v) t.bodies k)) (among_at (map (node_address v) (body_of t.bodies k)) i _ at)
 
-pub number_inside : (v : FlowGraph) (t : LoopView) (k at : ℕ) → (loops v t).inside k at ≡ true → (i : ℕ) × (i < length (body_of t.bodies k)) × (at ≡ node_address v (number_at (body_of t.bodies k) i))
+pub number_inside : (v : FlowGraph) (t : LoopView) (k at : ℕ) → (loops v t).inside k at ≡ true → (i : ℕ) × (i < length (body_of t.bodies k)) × (at ≡ node_address v (number_in_place (body_of t.bodies k) i))
 number_inside v t k at in_k =
     let among : is_among at (map (node_address v) (body_of t.bodies k)) ≡ true = subst (λ (xs : List ℕ). is_among at xs ≡ true) (body_map (node_address v) t.bodies k) in_k in
     let i = at_among at (map (node_address v) (body_of t.bodies k)) among in
     let within : i.0 < length (map (node_address v) (body_of t.bodies k)) = slice_get_within (map (node_address v) (body_of t.bodies k)) i.0 at i.1 in
     let size : length (map (node_address v) (body_of t.bodies k)) ≡ length (body_of t.bodies k) = length-map (body_of t.bodies k) (node_address v) in
     let low : i.0 < length (body_of t.bodies k) = omega arith in
-    let here : slice_get (map (node_address v) (body_of t.bodies k)) i.0 ≡ Some (node_address v (number_at (body_of t.bodies k) i.0)) =
+    let here : slice_get (map (node_address v) (body_of t.bodies k)) i.0 ≡ Some (node_address v (number_in_place (body_of t.bodies k) i.0)) =
     slice_get-map (node_address v) (body_of t.bodies k) i.0 ∙ ap (option_map (node_address v)) (slice_get-get_or (body_of t.bodies k) i.0 0 low) in
     (i.0, low, same_Some at _ (sym i.1 ∙ here))
 
@@ -77,16 +77,16 @@ loop_count v t = length-map t.headers (node_address v)
 pub loop_below : (v : FlowGraph) (t : LoopView) (k : ℕ) → k < length t.headers → k < (loops v t).loops
 loop_below v t k lt = let count = loop_count v t in omega arith
 
-pub header_number : (v : FlowGraph) (t : LoopView) (extent : ℕ → ℕ → Bool) → IsLoopTree v extent t → (k : ℕ) → k < length t.headers → number_at t.headers k < length v.code.nodes
-header_number v t extent is k lt = is.header k (number_at t.headers k) (slice_get-get_or t.headers k 0 lt)
+pub header_number : (v : FlowGraph) (t : LoopView) (extent : ℕ → ℕ → Bool) → IsLoopTree v extent t → (k : ℕ) → k < length t.headers → number_in_place t.headers k < length v.code.nodes
+header_number v t extent is k lt = is.header k (number_in_place t.headers k) (slice_get-get_or t.headers k 0 lt)
 
-pub header_address : (v : FlowGraph) (t : LoopView) (k : ℕ) → k < length t.headers → (loops v t).header k ≡ node_address v (number_at t.headers k)
+pub header_address : (v : FlowGraph) (t : LoopView) (k : ℕ) → k < length t.headers → (loops v t).header k ≡ node_address v (number_in_place t.headers k)
 header_address v t k lt = get_or_from_slice_get (map (node_address v) t.headers) k _ 0 (slice_get-map (node_address v) t.headers k ∙ ap (option_map (node_address v)) (slice_get-get_or t.headers k 0 lt))
 
 -- the loop whose header a node is, by address
 pub header_is : (v : FlowGraph) (t : LoopView) (extent : ℕ → ℕ → Bool) (k l : ℕ) → IsFlowGraph v → IsLoopTree v extent t → k < length v.code.nodes → l < length t.headers → (loops v t).header l ≡ node_address v k → slice_get t.headers l ≡ Some k
 header_is v t extent k l flow tree kl ll at =
-    slice_get-get_or t.headers l 0 ll ∙ ap Some (same_node v flow (number_at t.headers l) k (header_number v t extent tree l ll) kl (sym (header_address v t l ll) ∙ at))
+    slice_get-get_or t.headers l 0 ll ∙ ap Some (same_node v flow (number_in_place t.headers l) k (header_number v t extent tree l ll) kl (sym (header_address v t l ll) ∙ at))
 
 pub address_of_header : (v : FlowGraph) (t : LoopView) (k l : ℕ) → slice_get t.headers l ≡ Some k → (loops v t).header l ≡ node_address v k
 address_of_header v t k l at =
@@ -98,7 +98,7 @@ one_header v t extent j l flow tree jl ll same = headers-distinct (graph v) (loo
 
 -- ---- edges that enter loops
 
-pub no_head_entered : (v : FlowGraph) (t : LoopView) (extent : ℕ → ℕ → Bool) (heads : List (Option ℕ)) (e k : ℕ) → IsFlowGraph v → IsLoopTree v extent t → AreHeads t heads → k < length v.code.nodes → (graph v).target e ≡ Some (node_address v k) → option_at heads k ≡ None → IsEntered v t e None
+pub no_head_entered : (v : FlowGraph) (t : LoopView) (extent : ℕ → ℕ → Bool) (heads : List (Option ℕ)) (e k : ℕ) → IsFlowGraph v → IsLoopTree v extent t → AreHeaderLoops t heads → k < length v.code.nodes → (graph v).target e ≡ Some (node_address v k) → option_at heads k ≡ None → IsEntered v t e None
 no_head_entered v t extent heads e k flow tree are kl to none = record {
   some = λ l at. absurd (none-some l at);
   none = λ l at into. are.none k l none (header_is v t extent k l flow tree kl into.0 (same_Some ((loops v t).header l) (node_address v k) (sym into.1 ∙ to)));
@@ -116,7 +116,7 @@ back_entered v t extent e j flow tree back = record {
       let bad : ⊥ = cc in bad;
 }
 
-pub head_entered : (v : FlowGraph) (t : LoopView) (extent : ℕ → ℕ → Bool) (heads : List (Option ℕ)) (e k l : ℕ) → IsFlowGraph v → IsLoopTree v extent t → AreHeads t heads → k < length v.code.nodes → e < length v.code.edges → (graph v).target e ≡ Some (node_address v k) → option_at heads k ≡ Some l → (slice_get t.backs e ≡ Some (Some l) → ⊥) → IsEntered v t e (Some l)
+pub head_entered : (v : FlowGraph) (t : LoopView) (extent : ℕ → ℕ → Bool) (heads : List (Option ℕ)) (e k l : ℕ) → IsFlowGraph v → IsLoopTree v extent t → AreHeaderLoops t heads → k < length v.code.nodes → e < length v.code.edges → (graph v).target e ≡ Some (node_address v k) → option_at heads k ≡ Some l → (slice_get t.backs e ≡ Some (Some l) → ⊥) → IsEntered v t e (Some l)
 head_entered v t extent heads e k l flow tree are kl el to head not_back = record {
   some = λ j at.
       let here = are.some k l head in
@@ -138,25 +138,25 @@ some_within (x ∷ xs) (suc i) k at = let r = some_within xs i k at in omega ari
 
 -- what a key says
 pub key_is : (v : FlowGraph) (order : List ℕ) (heads keys : List (Option ℕ)) (i f : ℕ) → AreHeaderKeys v order heads (length order) keys → HasKey keys i f →
-    (l : ℕ) × (i < length order) × (option_at heads (number_at order i) ≡ Some l) × ((graph v).owner (node_address v (number_at order i)) ≡ f)
+    (l : ℕ) × (i < length order) × (option_at heads (number_in_place order i) ≡ Some l) × ((graph v).owner (node_address v (number_in_place order i)) ≡ f)
 key_is v order heads keys i f are has =
     let size = are.size in
     let il : i < length keys = some_within keys i f has in
     let ol : i < length order = omega arith in
-    go ol (option_at heads (number_at order i)) refl (sym (are.each i ol) ∙ has)
+    go ol (option_at heads (number_in_place order i)) refl (sym (are.each i ol) ∙ has)
   where
-    go : i < length order → (o : Option ℕ) → option_at heads (number_at order i) ≡ o → header_key (option_at heads (number_at order i)) ((graph v).owner (node_address v (number_at order i))) ≡ Some f →
-        (l : ℕ) × (i < length order) × (option_at heads (number_at order i) ≡ Some l) × ((graph v).owner (node_address v (number_at order i)) ≡ f)
-    go ol None at key = absurd (none-some f (sym (ap (λ (o : Option ℕ). header_key o ((graph v).owner (node_address v (number_at order i)))) at) ∙ key))
-    go ol (Some l) at key = (l, ol, at, same_Some ((graph v).owner (node_address v (number_at order i))) f (sym (ap (λ (o : Option ℕ). header_key o ((graph v).owner (node_address v (number_at order i)))) at) ∙ key))
+    go : i < length order → (o : Option ℕ) → option_at heads (number_in_place order i) ≡ o → header_key (option_at heads (number_in_place order i)) ((graph v).owner (node_address v (number_in_place order i))) ≡ Some f →
+        (l : ℕ) × (i < length order) × (option_at heads (number_in_place order i) ≡ Some l) × ((graph v).owner (node_address v (number_in_place order i)) ≡ f)
+    go ol None at key = absurd (none-some f (sym (ap (λ (o : Option ℕ). header_key o ((graph v).owner (node_address v (number_in_place order i)))) at) ∙ key))
+    go ol (Some l) at key = (l, ol, at, same_Some ((graph v).owner (node_address v (number_in_place order i))) f (sym (ap (λ (o : Option ℕ). header_key o ((graph v).owner (node_address v (number_in_place order i)))) at) ∙ key))
 
-pub key_of : (v : FlowGraph) (order : List ℕ) (heads keys : List (Option ℕ)) (i l f : ℕ) → AreHeaderKeys v order heads (length order) keys → i < length order → option_at heads (number_at order i) ≡ Some l → (graph v).owner (node_address v (number_at order i)) ≡ f → HasKey keys i f
-key_of v order heads keys i l f are il head own = are.each i il ∙ ap (λ (o : Option ℕ). header_key o ((graph v).owner (node_address v (number_at order i)))) head ∙ ap Some own
+pub key_of : (v : FlowGraph) (order : List ℕ) (heads keys : List (Option ℕ)) (i l f : ℕ) → AreHeaderKeys v order heads (length order) keys → i < length order → option_at heads (number_in_place order i) ≡ Some l → (graph v).owner (node_address v (number_in_place order i)) ≡ f → HasKey keys i f
+key_of v order heads keys i l f are il head own = are.each i il ∙ ap (λ (o : Option ℕ). header_key o ((graph v).owner (node_address v (number_in_place order i)))) head ∙ ap Some own
 
 pub header_keys_below : (v : FlowGraph) (t : LoopView) (extent : ℕ → ℕ → Bool) (heads keys : List (Option ℕ)) → IsFlowGraph v → IsLoopTree v extent t → AreHeaderKeys v t.order heads (length t.order) keys → AreKeys keys (length v.code.functions)
 header_keys_below v t extent heads keys flow tree are s k has =
     let is = key_is v t.order heads keys s k are has in
-    subst (λ f. f < length v.code.functions) is.3 (owner_below v (number_at t.order s) flow (tree.order.within s (number_at t.order s) (slice_get-get_or t.order s 0 is.1)))
+    subst (λ f. f < length v.code.functions) is.3 (owner_below v (number_in_place t.order s) flow (tree.order.within s (number_in_place t.order s) (slice_get-get_or t.order s 0 is.1)))
 
 -- ---- edges of a turn
 
@@ -173,13 +173,13 @@ module _ (v : FlowGraph) (t : LoopView) (extent : ℕ → ℕ → Bool) (l e : �
   step_is o to = ap (λ b. b && (is_round (loops v t) l ((graph v).target e) && not (is_header (loops v t) l ((graph v).target e)))) from ∙ ap (λ p. is_round (loops v t) l p && not (is_header (loops v t) l p)) to
 
   module _ (k : ℕ) (kl : k < length v.code.nodes) (to : (graph v).target e ≡ Some (node_address v k)) where
-    off_header : k ≢ number_at t.headers l → nat_eq (node_address v k) ((loops v t).header l) ≡ false
-    off_header other = ne_eqb (node_address v k) ((loops v t).header l) (λ same. other (same_node v flow k (number_at t.headers l) kl (header_number v t extent tree l ll) (same ∙ header_address v t l ll)))
+    off_header : k ≢ number_in_place t.headers l → nat_eq (node_address v k) ((loops v t).header l) ≡ false
+    off_header other = ne_eqb (node_address v k) ((loops v t).header l) (λ same. other (same_node v flow k (number_in_place t.headers l) kl (header_number v t extent tree l ll) (same ∙ header_address v t l ll)))
 
-    pub turn_off : k ≢ number_at t.headers l → false ≡ turn_last (graph v) (loops v t) l e
+    pub turn_off : k ≢ number_in_place t.headers l → false ≡ turn_last (graph v) (loops v t) l e
     turn_off other = sym (last_is (Some (node_address v k)) to ∙ off_header other)
 
-    pub stay_off : (nodes : List ℕ) (b : Bool) → IsBodyOf v t l nodes → k ≢ number_at t.headers l → ((b ≡ true) ↔ ((i : ℕ) × (i < length nodes) × (number_at nodes i ≡ k))) → b ≡ turn_step (graph v) (loops v t) l e
+    pub stay_off : (nodes : List ℕ) (b : Bool) → IsBodyOf v t l nodes → k ≢ number_in_place t.headers l → ((b ≡ true) ↔ ((i : ℕ) × (i < length nodes) × (number_in_place nodes i ≡ k))) → b ≡ turn_step (graph v) (loops v t) l e
     stay_off nodes b is other means =
         sym (step_is (Some (node_address v k)) to ∙ ap (λ c. (loops v t).inside l (node_address v k) && not c) (off_header other) ∙ with_true ((loops v t).inside l (node_address v k)) ∙ inside)
       where
@@ -199,11 +199,11 @@ kinds_more v t l e Set Next turns stays turn stay are el is_turn is_stay next = 
   turns_size = length-set turns e turn ∙ are.turns_size;
   stays_size = length-set stays e stay ∙ are.stays_size;
   turn = λ d dl done. ⊎_elim
-      (λ (same : d ≡ e). subst (λ x. is_marked (slice_set turns e turn) x ≡ turn_last (graph v) (loops v t) l x) (sym same) (get_or-set_same turns e turn false (let s = are.turns_size in omega arith) ∙ is_turn))
+      (λ (same : d ≡ e). subst (λ x. is_in_flags (slice_set turns e turn) x ≡ turn_last (graph v) (loops v t) l x) (sym same) (get_or-set_same turns e turn false (let s = are.turns_size in omega arith) ∙ is_turn))
       (λ (other : d ≢ e). get_or-set_other turns e d turn false other ∙ are.turn d dl (old d dl other done))
       (same_or d e);
   stay = λ d dl done. ⊎_elim
-      (λ (same : d ≡ e). subst (λ x. is_marked (slice_set stays e stay) x ≡ turn_step (graph v) (loops v t) l x) (sym same) (get_or-set_same stays e stay false (let s = are.stays_size in omega arith) ∙ is_stay))
+      (λ (same : d ≡ e). subst (λ x. is_in_flags (slice_set stays e stay) x ≡ turn_step (graph v) (loops v t) l x) (sym same) (get_or-set_same stays e stay false (let s = are.stays_size in omega arith) ∙ is_stay))
       (λ (other : d ≢ e). get_or-set_other stays e d stay false other ∙ are.stay d dl (old d dl other done))
       (same_or d e);
 }
@@ -232,8 +232,8 @@ kinds_first v t l nodes turns stays one two = record {
 -- the numbers of a list from place i on, the last first, and the place of each
 pub record IsReversedTo (body : List ℕ) (i : ℕ) (nodes spots : List ℕ) (count : ℕ) : Type 0 where
   pub size : length nodes + i ≡ length body
-  pub each : (j m : ℕ) → j < length nodes → j + m + 1 ≡ length body → number_at nodes j ≡ number_at body m
-  pub spot : (j : ℕ) → j < length nodes → number_at spots (number_at nodes j) ≡ j
+  pub each : (j m : ℕ) → j < length nodes → j + m + 1 ≡ length body → number_in_place nodes j ≡ number_in_place body m
+  pub spot : (j : ℕ) → j < length nodes → number_in_place spots (number_in_place nodes j) ≡ j
   pub spots_size : length spots ≡ count
 
 pub reversed_first : (body spots : List ℕ) (count : ℕ) → length spots ≡ count → IsReversedTo body (length body) [] spots count
@@ -244,7 +244,7 @@ reversed_first body spots count size = record {
   spots_size = size;
 }
 
-pub reversed_more : (body : List ℕ) (i n : ℕ) (nodes spots : List ℕ) (count : ℕ) → IsAscending count body → n ≡ length nodes → IsReversedTo body (i + 1) nodes spots count → IsReversedTo body i (nodes ++ number_at body i ∷ []) (slice_set spots (number_at body i) n) count
+pub reversed_more : (body : List ℕ) (i n : ℕ) (nodes spots : List ℕ) (count : ℕ) → IsAscending count body → n ≡ length nodes → IsReversedTo body (i + 1) nodes spots count → IsReversedTo body i (nodes ++ number_in_place body i ∷ []) (slice_set spots (number_in_place body i) n) count
 reversed_more body i n nodes spots count ascends is_n is = record {
   size = let s = size in let old = is.size in omega arith;
   each = λ j m jl sum. ⊎_elim
@@ -253,21 +253,21 @@ reversed_more body i n nodes spots count ascends is_n is = record {
       let s = size in let old = is.size in
       let here : j ≡ length nodes = omega arith in
       let place : i ≡ m = omega arith in
-      ap (number_at (nodes ++ x ∷ [])) here ∙ at_push nodes x ∙ ap (number_at body) place)
+      ap (number_in_place (nodes ++ x ∷ [])) here ∙ at_push nodes x ∙ ap (number_in_place body) place)
       (cases_lt j (length nodes));
   spot = λ j jl. ⊎_elim
       (λ (low : j < length nodes).
-      ap (number_at (slice_set spots x n)) (before_push nodes x j low) ∙ get_or-set_other spots x (number_at nodes j) n 0 (other j low) ∙ is.spot j low)
+      ap (number_in_place (slice_set spots x n)) (before_push nodes x j low) ∙ get_or-set_other spots x (number_in_place nodes j) n 0 (other j low) ∙ is.spot j low)
       (λ (high : length nodes ≤ j).
       let s = size in
       let here : j ≡ length nodes = omega arith in
-      ap (number_at (slice_set spots x n)) (ap (number_at (nodes ++ x ∷ [])) here ∙ at_push nodes x) ∙ get_or-set_same spots x n 0 (let c = is.spots_size in let w = within in omega arith) ∙ is_n ∙ sym here)
+      ap (number_in_place (slice_set spots x n)) (ap (number_in_place (nodes ++ x ∷ [])) here ∙ at_push nodes x) ∙ get_or-set_same spots x n 0 (let c = is.spots_size in let w = within in omega arith) ∙ is_n ∙ sym here)
       (cases_lt j (length nodes));
   spots_size = length-set spots x n ∙ is.spots_size;
 }
   where
     x : ℕ
-    x = number_at body i
+    x = number_in_place body i
 
     size : length (nodes ++ x ∷ []) ≡ length nodes + 1
     size = length-append nodes (x ∷ [])
@@ -278,23 +278,23 @@ reversed_more body i n nodes spots count ascends is_n is = record {
     within : x < count
     within = ascends.within i x (slice_get-get_or body i 0 il)
 
-    before_push : (xs : List ℕ) (y j : ℕ) → j < length xs → number_at (xs ++ y ∷ []) j ≡ number_at xs j
+    before_push : (xs : List ℕ) (y j : ℕ) → j < length xs → number_in_place (xs ++ y ∷ []) j ≡ number_in_place xs j
     before_push [] y j lt = let bad : ⊥ = omega arith in absurd bad
     before_push (u ∷ us) y zero lt = refl
     before_push (u ∷ us) y (suc j) lt = before_push us y j (omega arith)
 
-    at_push : (xs : List ℕ) (y : ℕ) → number_at (xs ++ y ∷ []) (length xs) ≡ y
+    at_push : (xs : List ℕ) (y : ℕ) → number_in_place (xs ++ y ∷ []) (length xs) ≡ y
     at_push [] y = refl
     at_push (u ∷ us) y = at_push us y
 
-    other : (j : ℕ) → j < length nodes → number_at nodes j ≢ x
+    other : (j : ℕ) → j < length nodes → number_in_place nodes j ≢ x
     other j low same =
         let old = is.size in
         let m = length body - (j + 1) in
         let sum : j + m + 1 ≡ length body = omega arith in
-        let at : number_at nodes j ≡ number_at body m = is.each j m low sum in
+        let at : number_in_place nodes j ≡ number_in_place body m = is.each j m low sum in
         let ml : m < length body = omega arith in
-        let rises : x < number_at body m = ascends.ascending i m x (number_at body m) (omega arith) (slice_get-get_or body i 0 il) (slice_get-get_or body m 0 ml) in
+        let rises : x < number_in_place body m = ascends.ascending i m x (number_in_place body m) (omega arith) (slice_get-get_or body i 0 il) (slice_get-get_or body m 0 ml) in
         let bad : ⊥ = omega arith in bad
 
 module _ (v : FlowGraph) (t : LoopView) (extent : ℕ → ℕ → Bool) (l : ℕ) (nodes spots : List ℕ) (flow : IsFlowGraph v) (tree : IsLoopTree v extent t) (ll : l < length t.headers) (is : IsReversedTo (body_of t.bodies l) 0 nodes spots (length v.code.nodes)) where
@@ -304,7 +304,7 @@ module _ (v : FlowGraph) (t : LoopView) (extent : ℕ → ℕ → Bool) (l : ℕ
   ascends : IsAscending (length v.code.nodes) body
   ascends = tree.body l ll
 
-  place : (j : ℕ) → j < length nodes → (m : ℕ) × (j + m + 1 ≡ length body) × (m < length body) × (number_at nodes j ≡ number_at body m)
+  place : (j : ℕ) → j < length nodes → (m : ℕ) × (j + m + 1 ≡ length body) × (m < length body) × (number_in_place nodes j ≡ number_in_place body m)
   place j jl =
       let size = is.size in
       let m = length body - (j + 1) in
@@ -313,14 +313,14 @@ module _ (v : FlowGraph) (t : LoopView) (extent : ℕ → ℕ → Bool) (l : ℕ
 
   pub body_is : IsBodyOf v t l nodes
   body_is = record {
-    within = λ j jl. let p = place j jl in let w = ascends.within p.0 (number_at body p.0) (slice_get-get_or body p.0 0 p.2) in let same = p.3 in omega arith;
+    within = λ j jl. let p = place j jl in let w = ascends.within p.0 (number_in_place body p.0) (slice_get-get_or body p.0 0 p.2) in let same = p.3 in omega arith;
     inside = λ j jl. let p = place j jl in subst (λ x. (loops v t).inside l (node_address v x) ≡ true) (sym p.3) (inside_at v t l p.0 p.2);
     whole = λ k kl in_l.
         let m = number_inside v t l (node_address v k) in_l in
         let ml = m.1 in
         let size = is.size in
-        let w = ascends.within m.0 (number_at body m.0) (slice_get-get_or body m.0 0 m.1) in
-        let same : k ≡ number_at body m.0 = same_node v flow k (number_at body m.0) kl w m.2 in
+        let w = ascends.within m.0 (number_in_place body m.0) (slice_get-get_or body m.0 0 m.1) in
+        let same : k ≡ number_in_place body m.0 = same_node v flow k (number_in_place body m.0) kl w m.2 in
         let j = length body - (m.0 + 1) in
         let sum : j + m.0 + 1 ≡ length body = omega arith in
         let jl : j < length nodes = omega arith in
@@ -331,7 +331,7 @@ module _ (v : FlowGraph) (t : LoopView) (extent : ℕ → ℕ → Bool) (l : ℕ
         let a = place i il in
         let b = place j jl in
         let sum_a = a.1 in let sum_b = b.1 in
-        let rises = ascends.ascending b.0 a.0 (number_at body b.0) (number_at body a.0) (omega arith) (slice_get-get_or body b.0 0 b.2) (slice_get-get_or body a.0 0 a.2) in
+        let rises = ascends.ascending b.0 a.0 (number_in_place body b.0) (number_in_place body a.0) (omega arith) (slice_get-get_or body b.0 0 b.2) (slice_get-get_or body a.0 0 a.2) in
         let at_a = a.3 in let at_b = b.3 in
         let bad : ⊥ = omega arith in bad;
   }

@@ -3,16 +3,16 @@ use Rattle.std.proofs.Common.{◌≡◌, ◌≢◌, ℕ, zero, suc, ◌+◌, ◌
 use Rattle.std.proofs.lemmas.Bool.{cases_lt}
 use Rattle.std.proofs.lemmas.List.{length-replicate}
 use Rattle.std.proofs.lemmas.Option.{slice_get_within, slice_get-get_or, same_Some}
-use Rattle.call_orders.specs.Arcs.{number_at}
+use Rattle.call_orders.specs.Arcs.{number_in_place}
 use Rattle.cost_theory.specs.Graph.{Graph, total}
 use Rattle.cost_theory.specs.Worst.{at_some}
 use Rattle.cost_theory.specs.Least.{Least, IsLeastIfAny, EndsWith, IsReturn, IsExit, least_call, least_cost}
 use Rattle.code_graph.specs.FlowGraph.{FlowGraph, graph, IsFlowGraph}
 use Rattle.natural_loops.specs.Noted.{node_address}
 use Rattle.natural_loops.proofs.Laws.{source_number}
-use Rattle.least_cycles.specs.Hops.{least_at}
-use Rattle.least_cycles.specs.Functions.{IsMarked, IsBucket, IsFromFirst, AreLeastIn}
-use Rattle.least_cycles.specs.Tables.{value_beside, least_by, AreLimits, AreLow, AreTables, ArePriced, AreReturns, AreWalksOf, AreWritten, AreScratch, IsBefore, IsAnyFunction}
+use Rattle.least_cycles.specs.Hops.{number_in_table}
+use Rattle.least_cycles.specs.Functions.{IsNodeFlagged, IsBucket, IsFromFirst, AreLeastIn}
+use Rattle.least_cycles.specs.Tables.{value_beside, least_by, AreFunctionLimits, AreWithinLimits, AreSmallTables, ArePriced, AreReturns, AreWalksOf, AreWritten, AreScratch, IsBefore, IsAnyFunction}
 use Rattle.least_cycles.proofs.TableLaws.{at_number, least_moved, within_limit}
 use Rattle.least_cycles.proofs.PriceLaws.{owner_below}
 
@@ -28,12 +28,12 @@ address_is v k a at = same_Some (node_address v k) a (sym (node_here v k (slice_
 -- ---- numbers that are written
 
 module _ (v : FlowGraph) (f : ℕ) (bucket : List ℕ) (found old new : List (Option ℕ)) (flow : IsFlowGraph v) (is : IsBucket v f bucket) (written : AreWritten (length bucket) bucket found old new) where
-  written_in : (k : ℕ) → k < length v.code.nodes → (graph v).owner (node_address v k) ≡ f → (i : ℕ) × (i < length bucket) × (number_at bucket i ≡ k) × (least_at new k ≡ least_at found i)
+  written_in : (k : ℕ) → k < length v.code.nodes → (graph v).owner (node_address v k) ≡ f → (i : ℕ) × (i < length bucket) × (number_in_place bucket i ≡ k) × (number_in_table new k ≡ number_in_table found i)
   written_in k kl own =
       let i = is.whole k kl own in
-      (i.0, i.1, i.2, ap (least_at new) (sym i.2) ∙ written.each i.0 i.1)
+      (i.0, i.1, i.2, ap (number_in_table new) (sym i.2) ∙ written.each i.0 i.1)
 
-  written_out : (k : ℕ) → (k < length v.code.nodes → (graph v).owner (node_address v k) ≡ f → ⊥) → least_at new k ≡ least_at old k
+  written_out : (k : ℕ) → (k < length v.code.nodes → (graph v).owner (node_address v k) ≡ f → ⊥) → number_in_table new k ≡ number_in_table old k
   written_out k out = written.others k (λ i il same. out (subst (λ x. x < length v.code.nodes) same (is.within i il)) (subst (λ x. (graph v).owner (node_address v x) ≡ f) same (is.own i il)))
 
   entry_kept : (h : ℕ) → h < length v.code.functions → h ≢ f → value_beside v.code.nodes old ((graph v).entry h) ≡ value_beside v.code.nodes new ((graph v).entry h)
@@ -43,7 +43,7 @@ module _ (v : FlowGraph) (f : ℕ) (bucket : List ℕ) (found old new : List (Op
       ∙ sym (written_out k.0 (λ kl own. other (sym (flow.program.entry_owner h hl) ∙ ap (graph v).owner (sym (address_is v k.0 ((graph v).entry h) k.1)) ∙ own)))
       ∙ sym (at_number v flow new k.0 ((graph v).entry h) k.1)
 
-  small_kept : (most : ℕ) → ((i x : ℕ) → least_at found i ≡ Some x → x ≤ most) → ((k x : ℕ) → least_at old k ≡ Some x → x ≤ most) → (k x : ℕ) → least_at new k ≡ Some x → x ≤ most
+  small_kept : (most : ℕ) → ((i x : ℕ) → number_in_table found i ≡ Some x → x ≤ most) → ((k x : ℕ) → number_in_table old k ≡ Some x → x ≤ most) → (k x : ℕ) → number_in_table new k ≡ Some x → x ≤ most
   small_kept most low small k x at = ⊎_elim
       (λ (kl : k < length v.code.nodes). ⊎_elim
       (λ (own : (graph v).owner (node_address v k) ≡ f). let i = written_in k kl own in low i.0 x (sym i.3 ∙ at))
@@ -70,7 +70,7 @@ callee_low g t limit (Some h) low = value (t (g.entry h)) refl
     value None is = omega arith
     value (Some x) is = low h x refl is
 
-pub cost_low : (v : FlowGraph) (own limit : ℕ → ℕ) (returns exits behind : List (Option ℕ)) → IsFlowGraph v → AreLow v limit returns → AreLow v limit exits → (e : ℕ) → e < length v.code.edges →
+pub cost_low : (v : FlowGraph) (own limit : ℕ → ℕ) (returns exits behind : List (Option ℕ)) → IsFlowGraph v → AreWithinLimits v limit returns → AreWithinLimits v limit exits → (e : ℕ) → e < length v.code.edges →
     least_cost (graph v) own (least_by v returns exits behind) e ≤ own e + at_some ((graph v).callee e) limit
 cost_low v own limit returns exits behind flow low_r low_x e el = let r = call ((graph v).target e) in omega arith
   where
@@ -93,14 +93,14 @@ from_first v f bucket e flow is el here =
 -- ---- one function more
 
 module _ (v : FlowGraph) (own limit : ℕ → ℕ) (Done Next : ℕ → Type 0) (f : ℕ) (bucket : List ℕ) (returns exits found_r found_x returns' exits' : List (Option ℕ)) (c : ℕ → ℕ) (lasts returning : List Bool)
-    (flow : IsFlowGraph v) (limits : AreLimits (graph v) own limit) (are : AreWalksOf v own limit Done returns exits) (fl : f < length v.code.functions) (fresh : Done f → ⊥) (next : (h : ℕ) → Next h → Done h ⊎ (h ≡ f))
+    (flow : IsFlowGraph v) (limits : AreFunctionLimits (graph v) own limit) (are : AreWalksOf v own limit Done returns exits) (fl : f < length v.code.functions) (fresh : Done f → ⊥) (next : (h : ℕ) → Next h → Done h ⊎ (h ≡ f))
     (closed : (e h : ℕ) → e < length v.code.edges → Done ((graph v).owner ((graph v).source e)) ⊎ ((graph v).owner ((graph v).source e) ≡ f) → (graph v).callee e ≡ Some h → Done h)
     (is : IsBucket v f bucket)
     (cost_is : (e : ℕ) → e < length v.code.edges → (graph v).owner ((graph v).source e) ≡ f → c e ≡ least_cost (graph v) own (least_by v returns exits []) e)
-    (last_is : (e : ℕ) → e < length v.code.edges → (graph v).owner ((graph v).source e) ≡ f → IsMarked lasts e ↔ IsExit (graph v) (least_by v returns exits []) e)
+    (last_is : (e : ℕ) → e < length v.code.edges → (graph v).owner ((graph v).source e) ≡ f → IsNodeFlagged lasts e ↔ IsExit (graph v) (least_by v returns exits []) e)
     (flags : AreReturns v (length v.code.edges) returning)
     (least_r : AreLeastIn v returning c bucket found_r) (least_x : AreLeastIn v lasts c bucket found_x)
-    (low_r : (i x : ℕ) → least_at found_r i ≡ Some x → x ≤ 2 ^ 67) (low_x : (i x : ℕ) → least_at found_x i ≡ Some x → x ≤ 2 ^ 67)
+    (low_r : (i x : ℕ) → number_in_table found_r i ≡ Some x → x ≤ 2 ^ 67) (low_x : (i x : ℕ) → number_in_table found_x i ≡ Some x → x ≤ 2 ^ 67)
     (wr : AreWritten (length bucket) bucket found_r returns returns') (wx : AreWritten (length bucket) bucket found_x exits exits') where
   abbrev before : Least
   before = least_by v returns exits []
@@ -129,46 +129,46 @@ module _ (v : FlowGraph) (own limit : ℕ → ℕ) (Done Next : ℕ → Type 0) 
   last_back e el done (inr call) = inr (call.0, (call.1.0, call.1.1, subst (λ (o : Option ℕ). IsSome o) (sym (exit_kept e call.1.0 el done call.1.1)) call.1.2))
 
   -- by the costs before
-  solved_return : (k : ℕ) → k < length v.code.nodes → (graph v).owner (node_address v k) ≡ f → IsLeastIfAny (EndsWith (graph v) (IsReturn (graph v)) (Some (node_address v k))) (total (least_cost (graph v) own before)) (least_at returns' k)
+  solved_return : (k : ℕ) → k < length v.code.nodes → (graph v).owner (node_address v k) ≡ f → IsLeastIfAny (EndsWith (graph v) (IsReturn (graph v)) (Some (node_address v k))) (total (least_cost (graph v) own before)) (number_in_table returns' k)
   solved_return k kl here =
       let i = written_in v f bucket found_r returns returns' flow is wr k kl here in
       subst (λ (o : Option ℕ). IsLeastIfAny (EndsWith (graph v) (IsReturn (graph v)) (Some (node_address v k))) (total (least_cost (graph v) own before)) o) (sym i.3)
-      (least_moved (graph v) flow.program f (IsMarked returning) (IsReturn (graph v)) c (least_cost (graph v) own before) cost_is (λ e el at yes. (flags.each e el).0 yes) (λ e el at yes. (flags.each e el).1 yes) (node_address v k) (least_at found_r i.0) here
-      (subst (λ j. IsLeastIfAny (EndsWith (graph v) (IsMarked returning) (Some (node_address v j))) (total c) (least_at found_r i.0)) i.2 (least_r i.0 i.1)))
+      (least_moved (graph v) flow.program f (IsNodeFlagged returning) (IsReturn (graph v)) c (least_cost (graph v) own before) cost_is (λ e el at yes. (flags.each e el).0 yes) (λ e el at yes. (flags.each e el).1 yes) (node_address v k) (number_in_table found_r i.0) here
+      (subst (λ j. IsLeastIfAny (EndsWith (graph v) (IsNodeFlagged returning) (Some (node_address v j))) (total c) (number_in_table found_r i.0)) i.2 (least_r i.0 i.1)))
 
-  solved_exit : (k : ℕ) → k < length v.code.nodes → (graph v).owner (node_address v k) ≡ f → IsLeastIfAny (EndsWith (graph v) (IsExit (graph v) before) (Some (node_address v k))) (total (least_cost (graph v) own before)) (least_at exits' k)
+  solved_exit : (k : ℕ) → k < length v.code.nodes → (graph v).owner (node_address v k) ≡ f → IsLeastIfAny (EndsWith (graph v) (IsExit (graph v) before) (Some (node_address v k))) (total (least_cost (graph v) own before)) (number_in_table exits' k)
   solved_exit k kl here =
       let i = written_in v f bucket found_x exits exits' flow is wx k kl here in
       subst (λ (o : Option ℕ). IsLeastIfAny (EndsWith (graph v) (IsExit (graph v) before) (Some (node_address v k))) (total (least_cost (graph v) own before)) o) (sym i.3)
-      (least_moved (graph v) flow.program f (IsMarked lasts) (IsExit (graph v) before) c (least_cost (graph v) own before) cost_is (λ e el at yes. (last_is e el at).0 yes) (λ e el at yes. (last_is e el at).1 yes) (node_address v k) (least_at found_x i.0) here
-      (subst (λ j. IsLeastIfAny (EndsWith (graph v) (IsMarked lasts) (Some (node_address v j))) (total c) (least_at found_x i.0)) i.2 (least_x i.0 i.1)))
+      (least_moved (graph v) flow.program f (IsNodeFlagged lasts) (IsExit (graph v) before) c (least_cost (graph v) own before) cost_is (λ e el at yes. (last_is e el at).0 yes) (λ e el at yes. (last_is e el at).1 yes) (node_address v k) (number_in_table found_x i.0) here
+      (subst (λ j. IsLeastIfAny (EndsWith (graph v) (IsNodeFlagged lasts) (Some (node_address v j))) (total c) (number_in_table found_x i.0)) i.2 (least_x i.0 i.1)))
 
-  next_return : (k : ℕ) → k < length v.code.nodes → Next ((graph v).owner (node_address v k)) → IsLeastIfAny (EndsWith (graph v) (IsReturn (graph v)) (Some (node_address v k))) (total (least_cost (graph v) own now)) (least_at returns' k)
+  next_return : (k : ℕ) → k < length v.code.nodes → Next ((graph v).owner (node_address v k)) → IsLeastIfAny (EndsWith (graph v) (IsReturn (graph v)) (Some (node_address v k))) (total (least_cost (graph v) own now)) (number_in_table returns' k)
   next_return k kl done = ⊎_elim
       (λ (old : Done ((graph v).owner (node_address v k))).
       subst (λ (o : Option ℕ). IsLeastIfAny (EndsWith (graph v) (IsReturn (graph v)) (Some (node_address v k))) (total (least_cost (graph v) own now)) o)
       (sym (written_out v f bucket found_r returns returns' flow is wr k (λ l same. fresh (subst Done same old))))
-      (least_moved (graph v) flow.program ((graph v).owner (node_address v k)) (IsReturn (graph v)) (IsReturn (graph v)) (least_cost (graph v) own before) (least_cost (graph v) own now) (λ e el at. cost_kept e el (inl (subst Done (sym at) old))) (λ e el at yes. yes) (λ e el at yes. yes) (node_address v k) (least_at returns k) refl (are.to_return k kl old)))
+      (least_moved (graph v) flow.program ((graph v).owner (node_address v k)) (IsReturn (graph v)) (IsReturn (graph v)) (least_cost (graph v) own before) (least_cost (graph v) own now) (λ e el at. cost_kept e el (inl (subst Done (sym at) old))) (λ e el at yes. yes) (λ e el at yes. yes) (node_address v k) (number_in_table returns k) refl (are.to_return k kl old)))
       (λ (same : (graph v).owner (node_address v k) ≡ f).
-      least_moved (graph v) flow.program f (IsReturn (graph v)) (IsReturn (graph v)) (least_cost (graph v) own before) (least_cost (graph v) own now) (λ e el at. cost_kept e el (inr at)) (λ e el at yes. yes) (λ e el at yes. yes) (node_address v k) (least_at returns' k) same (solved_return k kl same))
+      least_moved (graph v) flow.program f (IsReturn (graph v)) (IsReturn (graph v)) (least_cost (graph v) own before) (least_cost (graph v) own now) (λ e el at. cost_kept e el (inr at)) (λ e el at yes. yes) (λ e el at yes. yes) (node_address v k) (number_in_table returns' k) same (solved_return k kl same))
       (next ((graph v).owner (node_address v k)) done)
 
-  next_exit : (k : ℕ) → k < length v.code.nodes → Next ((graph v).owner (node_address v k)) → IsLeastIfAny (EndsWith (graph v) (IsExit (graph v) now) (Some (node_address v k))) (total (least_cost (graph v) own now)) (least_at exits' k)
+  next_exit : (k : ℕ) → k < length v.code.nodes → Next ((graph v).owner (node_address v k)) → IsLeastIfAny (EndsWith (graph v) (IsExit (graph v) now) (Some (node_address v k))) (total (least_cost (graph v) own now)) (number_in_table exits' k)
   next_exit k kl done = ⊎_elim
       (λ (old : Done ((graph v).owner (node_address v k))).
       subst (λ (o : Option ℕ). IsLeastIfAny (EndsWith (graph v) (IsExit (graph v) now) (Some (node_address v k))) (total (least_cost (graph v) own now)) o)
       (sym (written_out v f bucket found_x exits exits' flow is wx k (λ l same. fresh (subst Done same old))))
-      (least_moved (graph v) flow.program ((graph v).owner (node_address v k)) (IsExit (graph v) before) (IsExit (graph v) now) (least_cost (graph v) own before) (least_cost (graph v) own now) (λ e el at. cost_kept e el (inl (subst Done (sym at) old))) (λ e el at yes. last_kept e el (inl (subst Done (sym at) old)) yes) (λ e el at yes. last_back e el (inl (subst Done (sym at) old)) yes) (node_address v k) (least_at exits k) refl (are.to_exit k kl old)))
+      (least_moved (graph v) flow.program ((graph v).owner (node_address v k)) (IsExit (graph v) before) (IsExit (graph v) now) (least_cost (graph v) own before) (least_cost (graph v) own now) (λ e el at. cost_kept e el (inl (subst Done (sym at) old))) (λ e el at yes. last_kept e el (inl (subst Done (sym at) old)) yes) (λ e el at yes. last_back e el (inl (subst Done (sym at) old)) yes) (node_address v k) (number_in_table exits k) refl (are.to_exit k kl old)))
       (λ (same : (graph v).owner (node_address v k) ≡ f).
-      least_moved (graph v) flow.program f (IsExit (graph v) before) (IsExit (graph v) now) (least_cost (graph v) own before) (least_cost (graph v) own now) (λ e el at. cost_kept e el (inr at)) (λ e el at yes. last_kept e el (inr at) yes) (λ e el at yes. last_back e el (inr at) yes) (node_address v k) (least_at exits' k) same (solved_exit k kl same))
+      least_moved (graph v) flow.program f (IsExit (graph v) before) (IsExit (graph v) now) (least_cost (graph v) own before) (least_cost (graph v) own now) (λ e el at. cost_kept e el (inr at)) (λ e el at yes. last_kept e el (inr at) yes) (λ e el at yes. last_back e el (inr at) yes) (node_address v k) (number_in_table exits' k) same (solved_exit k kl same))
       (next ((graph v).owner (node_address v k)) done)
 
-  entry_at : (h x : ℕ) (table : List (Option ℕ)) → h < length v.code.functions → value_beside v.code.nodes table ((graph v).entry h) ≡ Some x → (k : ℕ) × (k < length v.code.nodes) × (node_address v k ≡ (graph v).entry h) × (least_at table k ≡ Some x)
+  entry_at : (h x : ℕ) (table : List (Option ℕ)) → h < length v.code.functions → value_beside v.code.nodes table ((graph v).entry h) ≡ Some x → (k : ℕ) × (k < length v.code.nodes) × (node_address v k ≡ (graph v).entry h) × (number_in_table table k ≡ Some x)
   entry_at h x table hl at =
       let k = (flow.nodes ((graph v).entry h)).1 (flow.program.entry_node h hl) in
       (k.0, slice_get_within v.code.nodes k.0 ((graph v).entry h) k.1, address_is v k.0 ((graph v).entry h) k.1, sym (at_number v flow table k.0 ((graph v).entry h) k.1) ∙ at)
 
-  low_return : AreLow v limit returns'
+  low_return : AreWithinLimits v limit returns'
   low_return h x hl at = ⊎_elim
       (λ (same : h ≡ f).
       let k = entry_at h x returns' hl at in
@@ -180,7 +180,7 @@ module _ (v : FlowGraph) (own limit : ℕ → ℕ) (Done Next : ℕ → Type 0) 
       (λ (other : h ≢ f). are.low_return h x hl (entry_kept v f bucket found_r returns returns' flow is wr h hl other ∙ at))
       (same_or h f)
 
-  low_exit : AreLow v limit exits'
+  low_exit : AreWithinLimits v limit exits'
   low_exit h x hl at = ⊎_elim
       (λ (same : h ≡ f).
       let k = entry_at h x exits' hl at in
@@ -237,7 +237,7 @@ all_before v h flow hl = let p = flow.order.whole h hl in (p.0, slice_get_within
 
 -- ---- tables and costs for one function more
 
-pub tables_small : (v : FlowGraph) (own limit : ℕ → ℕ) (Done : ℕ → Type 0) (returns exits : List (Option ℕ)) → AreLimits (graph v) own limit → AreWalksOf v own limit Done returns exits → AreTables v returns exits
+pub tables_small : (v : FlowGraph) (own limit : ℕ → ℕ) (Done : ℕ → Type 0) (returns exits : List (Option ℕ)) → AreFunctionLimits (graph v) own limit → AreWalksOf v own limit Done returns exits → AreSmallTables v returns exits
 tables_small v own limit Done returns exits limits are = record {
   returns_size = are.returns_size;
   exits_size = are.exits_size;
@@ -260,7 +260,7 @@ priced_scratch v own returns exits Set costs lasts are = record { costs_size = a
 
 -- ---- at first
 
-none_at : (n k : ℕ) → least_at (replicate n None) k ≡ None
+none_at : (n k : ℕ) → number_in_table (replicate n None) k ≡ None
 none_at zero k = refl
 none_at (suc n) zero = refl
 none_at (suc n) (suc k) = none_at n k
@@ -274,7 +274,7 @@ beside_empty (u ∷ us) (suc n) a = pick (nat_eq u a) (beside_empty us n a)
     pick true is = refl
     pick false is = is
 
-zero_at : (n k : ℕ) → number_at (replicate n 0) k ≡ 0
+zero_at : (n k : ℕ) → number_in_place (replicate n 0) k ≡ 0
 zero_at zero k = refl
 zero_at (suc n) zero = refl
 zero_at (suc n) (suc k) = zero_at n k
@@ -290,15 +290,15 @@ walks_first v own limit n returns exits size one two = record {
   to_exit = λ k kl done. let lt : done.0 < 0 = done.1 in let bad : ⊥ = omega arith in absurd bad;
   low_return = λ f x fl at. absurd (not_some (value_beside v.code.nodes returns ((graph v).entry f)) x (ap (λ (t : List (Option ℕ)). value_beside v.code.nodes t ((graph v).entry f)) one ∙ beside_empty v.code.nodes n ((graph v).entry f)) at);
   low_exit = λ f x fl at. absurd (not_some (value_beside v.code.nodes exits ((graph v).entry f)) x (ap (λ (t : List (Option ℕ)). value_beside v.code.nodes t ((graph v).entry f)) two ∙ beside_empty v.code.nodes n ((graph v).entry f)) at);
-  small_return = λ k x at. absurd (not_some (least_at returns k) x (ap (λ (t : List (Option ℕ)). least_at t k) one ∙ none_at n k) at);
-  small_exit = λ k x at. absurd (not_some (least_at exits k) x (ap (λ (t : List (Option ℕ)). least_at t k) two ∙ none_at n k) at);
+  small_return = λ k x at. absurd (not_some (number_in_table returns k) x (ap (λ (t : List (Option ℕ)). number_in_table t k) one ∙ none_at n k) at);
+  small_exit = λ k x at. absurd (not_some (number_in_table exits k) x (ap (λ (t : List (Option ℕ)). number_in_table t k) two ∙ none_at n k) at);
 }
 
 pub none_before : {A : Type 0} (v : FlowGraph) (f : ℕ) → IsBefore v 0 f → A
 none_before v f done = let lt : done.0 < 0 = done.1 in let bad : ⊥ = omega arith in absurd bad
 
-pub zero_low : (found : List ℕ) (n : ℕ) → found ≡ replicate n 0 → (k : ℕ) → number_at found k ≤ 2 ^ 48
-zero_low found n is k = let value : number_at found k ≡ 0 = ap (λ (t : List ℕ). number_at t k) is ∙ zero_at n k in omega arith
+pub zero_low : (found : List ℕ) (n : ℕ) → found ≡ replicate n 0 → (k : ℕ) → number_in_place found k ≤ 2 ^ 48
+zero_low found n is k = let value : number_in_place found k ≡ 0 = ap (λ (t : List ℕ). number_in_place t k) is ∙ zero_at n k in omega arith
 
 pub walks_whole : (v : FlowGraph) (own limit : ℕ → ℕ) (returns exits : List (Option ℕ)) → IsFlowGraph v → AreWalksOf v own limit (IsBefore v (length v.order)) returns exits → AreWalksOf v own limit IsAnyFunction returns exits
 walks_whole v own limit returns exits flow are = record {

@@ -1,6 +1,6 @@
 -- The charges of loops, function by function and in each of them the innermost loops first.
 use Rattle.std.specs.Prelude.{◌≡◌, ◌≢◌, ℕ, ◌+◌, ◌*◌, ◌^◌, ◌<◌, ◌≤◌, ◌↔◌, Bool, true, false, List, length, slice_get, slice_index, Option, Some, None}
-use Rattle.call_orders.specs.Arcs.{number_at, AreDistinct}
+use Rattle.call_orders.specs.Arcs.{number_in_place, AreDistinct}
 use Rattle.cost_theory.specs.Graph.{is_back}
 use Rattle.cost_theory.specs.Worst.{at_some}
 use Rattle.cost_theory.specs.Least.{IsExit, least_cost}
@@ -14,8 +14,8 @@ use Rattle.least_cycles.specs.declared.charges.Charges.{Charges}
 use Rattle.least_cycles.specs.declared.plan.Plan.{Plan}
 use Rattle.least_cycles.specs.declared.turns.Marks.{Marks}
 use Rattle.least_cycles.specs.declared.walks.Scratch.{Scratch}
-use Rattle.least_cycles.specs.Functions.{is_marked, IsMarked}
-use Rattle.least_cycles.specs.Tables.{AreNodeChains, AreReturns, AreLeading, AreLimits, AreWalksOf, AreScratch}
+use Rattle.least_cycles.specs.Functions.{is_in_flags, IsNodeFlagged}
+use Rattle.least_cycles.specs.Tables.{AreNodeChains, AreReturns, AreLeading, AreFunctionLimits, AreWalksOf, AreScratch}
 
 -- ---- the numbers
 
@@ -34,7 +34,7 @@ pub record IsCharging (v : FlowGraph) (t : LoopView) (w : ℕ → ℕ) (n : Char
   pub tree : IsLoopTree v extent t
   pub numbers : AreCharged (graph v) (loops v t) w n
   pub limit : ℕ → ℕ
-  pub limits : AreLimits (graph v) (own_by v t w n) limit
+  pub limits : AreFunctionLimits (graph v) (own_by v t w n) limit
   pub turns : (k : ℕ) → k < length t.headers → 0 < slice_index t.least_trips k → n.turn k ≤ 2 ^ 48
   pub charges : (k : ℕ) → k < length t.headers → loop_charge v t n k ≤ 2 ^ 48
 
@@ -48,7 +48,7 @@ HasWalks v t w Done returns exits = (n : Charged) → (is : IsCharging v t w n) 
 -- ---- the loops that edges enter
 
 -- by node, the loop whose header it is
-pub record AreHeads (t : LoopView) (heads : List (Option ℕ)) : Type 0 where
+pub record AreHeaderLoops (t : LoopView) (heads : List (Option ℕ)) : Type 0 where
   pub some : (k l : ℕ) → option_at heads k ≡ Some l → slice_get t.headers l ≡ Some k
   pub none : (k l : ℕ) → option_at heads k ≡ None → slice_get t.headers l ≢ Some k
 
@@ -61,31 +61,31 @@ pub record IsEntered (v : FlowGraph) (t : LoopView) (e : ℕ) (o : Option ℕ) :
   pub none : (l : ℕ) → o ≡ None → IsInto v t e l → ⊥
 
 -- by edge, for the first n edges, the loop that it enters from outside
-pub record AreEntered (v : FlowGraph) (t : LoopView) (n : ℕ) (entries : List (Option ℕ)) : Type 0 where
+pub record AreEnteredLoops (v : FlowGraph) (t : LoopView) (n : ℕ) (entries : List (Option ℕ)) : Type 0 where
   pub size : length entries ≡ n
   pub each : (e : ℕ) → e < n → IsEntered v t e (option_at entries e)
 
 -- what an edge is charged by the loops that edges enter and the charges of loops, and its cost with that
 abbrev pub charge_by : List (Option ℕ) → List ℕ → ℕ → ℕ
-charge_by entries found e = at_some (option_at entries e) (number_at found)
+charge_by entries found e = at_some (option_at entries e) (number_in_place found)
 
 abbrev pub cost_with : List ℕ → Charges → ℕ → ℕ
-cost_with costs charges e = number_at costs e + charge_by charges.entries.items charges.found.items e
+cost_with costs charges e = number_in_place costs e + charge_by charges.entries.items charges.found.items e
 
 -- charges by edge, of a limited size
 pub record AreSmallCharges (v : FlowGraph) (charges : Charges) : Type 0 where
   pub size : length charges.entries.items ≡ length v.code.edges
   pub within : (e l : ℕ) → option_at charges.entries.items e ≡ Some l → l < length charges.found.items
-  pub low : (l : ℕ) → number_at charges.found.items l ≤ 2 ^ 48
+  pub low : (l : ℕ) → number_in_place charges.found.items l ≤ 2 ^ 48
 
 pub record AreCharges (v : FlowGraph) (t : LoopView) (charges : Charges) : Type 0 where
-  pub entered : AreEntered v t (length v.code.edges) charges.entries.items
+  pub entered : AreEnteredLoops v t (length v.code.edges) charges.entries.items
   pub size : length charges.found.items ≡ length t.headers
-  pub low : (l : ℕ) → number_at charges.found.items l ≤ 2 ^ 48
+  pub low : (l : ℕ) → number_in_place charges.found.items l ≤ 2 ^ 48
 
 -- the loops that are done have their charges
 abbrev pub AreChargedTo : FlowGraph → LoopView → Charged → (ℕ → Type 0) → List ℕ → Type 0
-AreChargedTo v t n Done found = (k : ℕ) → k < length t.headers → Done k → number_at found k ≡ loop_charge v t n k
+AreChargedTo v t n Done found = (k : ℕ) → k < length t.headers → Done k → number_in_place found k ≡ loop_charge v t n k
 
 -- ---- one loop
 
@@ -95,34 +95,34 @@ loop_owner v t k = (graph v).owner ((loops v t).header k)
 
 -- the costs of a function's edges without charges, and those that are the last of a walk to an exit
 pub record ArePricedAt (v : FlowGraph) (w : ℕ → ℕ) (n : Charged) (f : ℕ) (costs : List ℕ) (lasts : List Bool) : Type 0 where
-  pub cost : (e : ℕ) → e < length v.code.edges → (graph v).owner ((graph v).source e) ≡ f → number_at costs e ≡ least_cost (graph v) w n.least e
-  pub last : (e : ℕ) → e < length v.code.edges → (graph v).owner ((graph v).source e) ≡ f → IsMarked lasts e ↔ IsExit (graph v) n.least e
+  pub cost : (e : ℕ) → e < length v.code.edges → (graph v).owner ((graph v).source e) ≡ f → number_in_place costs e ≡ least_cost (graph v) w n.least e
+  pub last : (e : ℕ) → e < length v.code.edges → (graph v).owner ((graph v).source e) ≡ f → IsNodeFlagged lasts e ↔ IsExit (graph v) n.least e
 
 -- loop k lies within loop l, and is another
 abbrev pub IsInner : FlowGraph → LoopView → ℕ → ℕ → Type 0
 IsInner v t l k = (k ≢ l) × ((loops v t).inside l ((loops v t).header k) ≡ true)
 
 -- what is known where a loop's charge is found: the costs in its function, and the charges of the loops within it
-pub record IsKnown (v : FlowGraph) (t : LoopView) (w : ℕ → ℕ) (n : Charged) (l : ℕ) (costs : List ℕ) (lasts : List Bool) (found : List ℕ) : Type 0 where
+pub record IsChargeKnown (v : FlowGraph) (t : LoopView) (w : ℕ → ℕ) (n : Charged) (l : ℕ) (costs : List ℕ) (lasts : List Bool) (found : List ℕ) : Type 0 where
   pub charging : IsCharging v t w n
   pub priced : ArePricedAt v w n (loop_owner v t l) costs lasts
   pub inner : AreChargedTo v t n (IsInner v t l) found
 
 -- the numbers of the nodes of a loop's body
 pub record IsBodyOf (v : FlowGraph) (t : LoopView) (l : ℕ) (nodes : List ℕ) : Type 0 where
-  pub within : (i : ℕ) → i < length nodes → number_at nodes i < length v.code.nodes
-  pub inside : (i : ℕ) → i < length nodes → (loops v t).inside l (node_address v (number_at nodes i)) ≡ true
-  pub whole : (k : ℕ) → k < length v.code.nodes → (loops v t).inside l (node_address v k) ≡ true → (i : ℕ) × (i < length nodes) × (number_at nodes i ≡ k)
+  pub within : (i : ℕ) → i < length nodes → number_in_place nodes i < length v.code.nodes
+  pub inside : (i : ℕ) → i < length nodes → (loops v t).inside l (node_address v (number_in_place nodes i)) ≡ true
+  pub whole : (k : ℕ) → k < length v.code.nodes → (loops v t).inside l (node_address v k) ≡ true → (i : ℕ) × (i < length nodes) × (number_in_place nodes i ≡ k)
   pub once : AreDistinct nodes
 
 -- flags of the edges of a set that end a turn of a loop, and of those that go on within it
 pub record AreTurnKinds (v : FlowGraph) (t : LoopView) (l : ℕ) (Set : ℕ → Type 0) (turns stays : List Bool) : Type 0 where
   pub turns_size : length turns ≡ length v.code.edges
   pub stays_size : length stays ≡ length v.code.edges
-  pub turn : (e : ℕ) → e < length v.code.edges → Set e → is_marked turns e ≡ turn_last (graph v) (loops v t) l e
-  pub stay : (e : ℕ) → e < length v.code.edges → Set e → is_marked stays e ≡ turn_step (graph v) (loops v t) l e
+  pub turn : (e : ℕ) → e < length v.code.edges → Set e → is_in_flags turns e ≡ turn_last (graph v) (loops v t) l e
+  pub stay : (e : ℕ) → e < length v.code.edges → Set e → is_in_flags stays e ≡ turn_step (graph v) (loops v t) l e
 
-pub record AreMarks (v : FlowGraph) (marks : Marks) : Type 0 where
+pub record AreChargeMarks (v : FlowGraph) (marks : Marks) : Type 0 where
   pub spots : length marks.spots.items ≡ length v.code.nodes
   pub turns : length marks.turns.items ≡ length v.code.edges
   pub stays : length marks.stays.items ≡ length v.code.edges
@@ -136,7 +136,7 @@ header_key (Some l) f = Some f
 
 pub record AreHeaderKeys (v : FlowGraph) (order : List ℕ) (heads : List (Option ℕ)) (n : ℕ) (keys : List (Option ℕ)) : Type 0 where
   pub size : length keys ≡ n
-  pub each : (i : ℕ) → i < n → option_at keys i ≡ header_key (option_at heads (number_at order i)) ((graph v).owner (node_address v (number_at order i)))
+  pub each : (i : ℕ) → i < n → option_at keys i ≡ header_key (option_at heads (number_in_place order i)) ((graph v).owner (node_address v (number_in_place order i)))
 
 -- the chains of the places of headers by functions
 abbrev pub AreHeaderChains : FlowGraph → List ℕ → List (Option ℕ) → ChainView → Type 0
@@ -144,21 +144,21 @@ AreHeaderChains v order heads chains = (keys : List (Option ℕ)) × AreHeaderKe
 
 -- a loop of function f whose header stands at a place from some one on
 abbrev pub IsHeaderFrom : FlowGraph → LoopView → ℕ → ℕ → ℕ → Type 0
-IsHeaderFrom v t f from k = (loop_owner v t k ≡ f) × ((i : ℕ) × (from ≤ i) × (slice_get t.order i ≡ Some (number_at t.headers k)))
+IsHeaderFrom v t f from k = (loop_owner v t k ≡ f) × ((i : ℕ) × (from ≤ i) × (slice_get t.order i ≡ Some (number_in_place t.headers k)))
 
 -- ---- all functions
 
-pub record IsPlan (v : FlowGraph) (t : LoopView) (plan : Plan) : Type 0 where
+pub record IsChargePlan (v : FlowGraph) (t : LoopView) (plan : Plan) : Type 0 where
   pub own_size : length plan.own.items ≡ length v.code.edges
-  pub own_low : (e : ℕ) → number_at plan.own.items e ≤ 2 ^ 48
+  pub own_low : (e : ℕ) → number_in_place plan.own.items e ≤ 2 ^ 48
   pub nodes : AreNodeChains v plan.nodes
   pub returning : AreReturns v (length v.code.edges) plan.returning.items
   pub leading : AreLeading v (length v.code.edges) plan.leading.items
   pub heads_size : length plan.heads.items ≡ length v.code.nodes
-  pub heads : AreHeads t plan.heads.items
+  pub heads : AreHeaderLoops t plan.heads.items
   pub headers : AreHeaderChains v t.order plan.heads.items plan.headers
 
 pub record IsScratch (v : FlowGraph) (scratch : Scratch) : Type 0 where
   pub places : length scratch.places.items ≡ length v.code.nodes
   pub priced : AreScratch v scratch.costs.items scratch.lasts.items
-  pub marks : AreMarks v scratch.marks
+  pub marks : AreChargeMarks v scratch.marks

@@ -3,7 +3,7 @@ use Rattle.std.specs.Prelude.{◌≡◌, ℕ, ◌+◌, ◌*◌, ◌^◌, ◌<◌
 use Rattle.cost_theory.specs.Graph.{Graph}
 use Rattle.cost_theory.specs.Least.{Least, IsLeastIfAny, end_after}
 use Rattle.code_graph.specs.FlowGraph.{FlowGraph, graph}
-use Rattle.least_cycles.specs.Hops.{least_at}
+use Rattle.least_cycles.specs.Hops.{number_in_table}
 use Rattle.least_cycles.specs.Tables.{least_by}
 
 -- a call of f comes back over edge e to a node from which there is an end
@@ -19,8 +19,8 @@ end_place n (Some u) = n.to_end u
 pub record AreSmallWalks (v : FlowGraph) (returns exits : List (Option ℕ)) : Type 0 where
   pub returns_size : length returns ≡ length v.code.nodes
   pub exits_size : length exits ≡ length v.code.nodes
-  pub small_return : (k x : ℕ) → least_at returns k ≡ Some x → x ≤ 2 ^ 67
-  pub small_exit : (k x : ℕ) → least_at exits k ≡ Some x → x ≤ 2 ^ 67
+  pub small_return : (k x : ℕ) → number_in_table returns k ≡ Some x → x ≤ 2 ^ 67
+  pub small_exit : (k x : ℕ) → number_in_table exits k ≡ Some x → x ≤ 2 ^ 67
 
 -- the least of those over the edges from a number on
 abbrev pub AreBehindFrom : FlowGraph → Least → ℕ → ℕ → Option ℕ → Type 0
@@ -30,5 +30,5 @@ AreBehindFrom v n f from least = IsLeastIfAny (λ e. IsBackTo (graph v) n f e ×
 pub record AreBehind (v : FlowGraph) (returns exits : List (Option ℕ)) (i : ℕ) (behind : List (Option ℕ)) : Type 0 where
   pub size : length behind ≡ length v.code.functions
   pub done : (h j : ℕ) → i ≤ j → slice_get v.order j ≡ Some h →
-      IsLeastIfAny (IsBackTo (graph v) (least_by v returns exits behind) h) (end_after (graph v) (least_by v returns exits behind)) (least_at behind h)
-  pub low : (h x : ℕ) → least_at behind h ≡ Some x → x + i * 2 ^ 67 ≤ length v.order * 2 ^ 67
+      IsLeastIfAny (IsBackTo (graph v) (least_by v returns exits behind) h) (end_after (graph v) (least_by v returns exits behind)) (number_in_table behind h)
+  pub low : (h x : ℕ) → number_in_table behind h ≡ Some x → x + i * 2 ^ 67 ≤ length v.order * 2 ^ 67

@@ -1,6 +1,6 @@
 -- The least costs to a return and to an end, by node, and to an end after each edge: what LeastNumbers are seen as.
 use Rattle.std.specs.Prelude.{◌≡◌, ℕ, ◌+◌, ◌^◌, ◌<◌, ◌≤◌, List, length, slice_get, Option, Some, None}
-use Rattle.call_orders.specs.Arcs.{number_at}
+use Rattle.call_orders.specs.Arcs.{number_in_place}
 use Rattle.cost_theory.specs.Graph.{Loops}
 use Rattle.cost_theory.specs.Worst.{Numbers, AreNumbers}
 use Rattle.cost_theory.specs.Least.{Least}
@@ -16,8 +16,8 @@ pub record LeastView : Type 0 where
   pub after : List (Option ℕ)
 
 -- the program has its worst numbers under these weights, and its worst cycles are in range
-abbrev pub IsInRange : FlowGraph → Loops → (ℕ → ℕ) → Type 0
-IsInRange v l w = (n : Numbers) × AreNumbers (graph v) l w n × (n.worst 0 ≤ 2 ^ 48)
+abbrev pub HasWorstInRange : FlowGraph → Loops → (ℕ → ℕ) → Type 0
+HasWorstInRange v l w = (n : Numbers) × AreNumbers (graph v) l w n × (n.worst 0 ≤ 2 ^ 48)
 
 -- the view holds the numbers of nodes, and those behind edges
 pub record HoldsLeast (v : FlowGraph) (l : Loops) (n : Charged) (x : LeastView) : Type 0 where
@@ -41,8 +41,8 @@ pub record AreSmallLeast (v : FlowGraph) (x : LeastView) : Type 0 where
 -- weights as costs of edges
 pub record AreOwn (n : ℕ) (weights own : List ℕ) : Type 0 where
   pub size : length own ≡ n
-  pub each : (e : ℕ) → e < n → number_at own e ≡ number_at weights e
-  pub low : (e : ℕ) → number_at own e ≤ 2 ^ 48
+  pub each : (e : ℕ) → e < n → number_in_place own e ≡ number_in_place weights e
+  pub low : (e : ℕ) → number_in_place own e ≤ 2 ^ 48
 
 -- the ends of the first n nodes, and behind the first n edges
 pub record AreEndsTo (v : FlowGraph) (n : Least) (k : ℕ) (ends : List (Option ℕ)) : Type 0 where

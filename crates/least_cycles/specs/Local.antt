@@ -25,12 +25,12 @@ pub record AreLocal (g : Graph) (last step : ℕ → Bool) (c : ℕ → ℕ) (no
   pub no_more : (i : ℕ) → i < length hops → (e : ℕ) × (slice_get edges i ≡ Some e)
 
 -- the lesser of two numbers that may be absent, and their sum
-abbrev pub lesser : Option ℕ → Option ℕ → Option ℕ
-lesser None o = o
-lesser (Some x) None = Some x
-lesser (Some x) (Some y) = cond (nat_le x y) (Some x) (Some y)
+abbrev pub lesser_cost : Option ℕ → Option ℕ → Option ℕ
+lesser_cost None o = o
+lesser_cost (Some x) None = Some x
+lesser_cost (Some x) (Some y) = cond (nat_le x y) (Some x) (Some y)
 
-abbrev pub both : Option ℕ → Option ℕ → Option ℕ
-both None o = None
-both (Some x) None = None
-both (Some x) (Some y) = Some (x + y)
+abbrev pub sum_of_both : Option ℕ → Option ℕ → Option ℕ
+sum_of_both None o = None
+sum_of_both (Some x) None = None
+sum_of_both (Some x) (Some y) = Some (x + y)

@@ -3,7 +3,7 @@
 ghost use Rattle.std.specs.Prelude.{◌≡◌, ℕ, ◌<◌, ◌≤◌, length, IfOk};
 ghost use Rattle.code_graph.specs.FlowGraph.{IsFlowGraph};
 ghost use Rattle.least_cycles.specs.Functions.{IsBucket, ArePlacesIn};
-ghost use Rattle.least_cycles.specs.Tables.{AreOwners, AreNodeChains, AreBackKeys, AreBackChains};
+ghost use Rattle.least_cycles.specs.Tables.{AreOwnerKeys, AreNodeChains, AreBackKeys, AreBackChains};
 
 use code_graph::CodeGraph;
 use key_chains::{Chains, find_chains};
@@ -12,7 +12,7 @@ use std::alloc::Global;
 
 /// By node, its function.
 fn owners_of(alloc: Global, graph: &CodeGraph) -> Result<Vec<Option<usize>>, NoMemory>
-    ensures { IfOk result (λ keys. AreOwners graph.now (length graph.now.code.nodes) keys.items) }
+    ensures { IfOk result (λ keys. AreOwnerKeys graph.now (length graph.now.code.nodes) keys.items) }
 {
     let mut keys = Vec::new(alloc);
     for k in 0..graph.node_count() {

@@ -1,11 +1,11 @@
 //! What edges are charged with the loops that they enter.
 
 ghost use Rattle.std.specs.Prelude.{◌≡◌, ℕ, ◌<◌, Bool, Some, length, IfOk};
-ghost use Rattle.call_orders.specs.Arcs.{number_at};
+ghost use Rattle.call_orders.specs.Arcs.{number_in_place};
 ghost use Rattle.key_chains.specs.Keys.{option_at};
 ghost use Rattle.code_graph.specs.FlowGraph.{IsFlowGraph};
 ghost use Rattle.loop_tree.specs.Tree.{IsLoopTree};
-ghost use Rattle.least_cycles.specs.Charging.{AreHeads, IsEntered, AreEntered, charge_by};
+ghost use Rattle.least_cycles.specs.Charging.{AreHeaderLoops, IsEntered, AreEnteredLoops, charge_by};
 
 use code_graph::CodeGraph;
 use loop_tree::LoopTree;
@@ -39,7 +39,7 @@ impl Charges {
 fn entered(graph: &CodeGraph, tree: &LoopTree, heads: &[Option<usize>], e: usize) -> Option<usize>
     requires flow { IsFlowGraph graph.now }
     requires tree { (extent : ℕ → ℕ → Bool) × IsLoopTree graph.now extent tree.now }
-    requires heads { AreHeads tree.now heads.now }
+    requires heads { AreHeaderLoops tree.now heads.now }
     requires size { length heads.now ≡ length graph.now.code.nodes }
     requires edge { e < length graph.now.code.edges }
     ensures { IsEntered graph.now tree.now e result }
@@ -65,9 +65,9 @@ pub fn entries_of(
 ) -> Result<Vec<Option<usize>>, NoMemory>
     requires flow { IsFlowGraph graph.now }
     requires tree { (extent : ℕ → ℕ → Bool) × IsLoopTree graph.now extent tree.now }
-    requires heads { AreHeads tree.now heads.now }
+    requires heads { AreHeaderLoops tree.now heads.now }
     requires size { length heads.now ≡ length graph.now.code.nodes }
-    ensures { IfOk result (λ entries. AreEntered graph.now tree.now (length graph.now.code.edges) entries.items) }
+    ensures { IfOk result (λ entries. AreEnteredLoops graph.now tree.now (length graph.now.code.edges) entries.items) }
 {
     let mut entries = Vec::new(alloc);
     for e in 0..graph.edge_count() {

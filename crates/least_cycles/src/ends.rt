@@ -4,8 +4,8 @@ ghost use Rattle.std.specs.Prelude.{◌≡◌, ℕ, ◌+◌, ◌*◌, ◌^◌, �
 ghost use Rattle.cost_theory.specs.Least.{IsLeastIfAny, end_after};
 ghost use Rattle.code_graph.specs.FlowGraph.{graph as graph_seen, IsFlowGraph};
 ghost use Rattle.natural_loops.specs.Noted.{node_address};
-ghost use Rattle.least_cycles.specs.Hops.{least_at};
-ghost use Rattle.least_cycles.specs.Local.{lesser, both};
+ghost use Rattle.least_cycles.specs.Hops.{number_in_table};
+ghost use Rattle.least_cycles.specs.Local.{lesser_cost, sum_of_both};
 ghost use Rattle.least_cycles.specs.Tables.{AreBackKeys, AreBackChains, back_from, least_by};
 ghost use Rattle.least_cycles.specs.Ends.{IsBackTo, AreSmallWalks, AreBehindFrom, AreBehind, end_place};
 
@@ -49,7 +49,7 @@ fn back_chains(alloc: Global, graph: &CodeGraph) -> Result<Chains, NoMemory>
 
 /// The lesser of two numbers that may be absent.
 fn lesser(one: Option<u128>, other: Option<u128>) -> Option<u128>
-    ensures { result ≡ lesser one other }
+    ensures { result ≡ lesser_cost one other }
 {
     let Some(x) = one else {
         return other;
@@ -64,7 +64,7 @@ fn lesser(one: Option<u128>, other: Option<u128>) -> Option<u128>
 fn both(one: Option<u128>, other: Option<u128>) -> Option<u128>
     requires one { (x : ℕ) → one ≡ Some x → x ≤ 2 ^ 67 }
     requires other { (x : ℕ) → other ≡ Some x → x ≤ 2 ^ 84 }
-    ensures { result ≡ both one other }
+    ensures { result ≡ sum_of_both one other }
 {
     let Some(x) = one else {
         return None;
@@ -81,7 +81,7 @@ pub fn end_at(graph: &CodeGraph, walks: &Walks, behind: &[Option<u128>], k: usiz
     requires node { k < length graph.now.code.nodes }
     requires walks { AreSmallWalks graph.now walks.now.returns.items walks.now.exits.items }
     requires size { length behind.now ≡ length graph.now.code.functions }
-    requires low { (f x : ℕ) → least_at behind.now f ≡ Some x → x ≤ 2 ^ 84 }
+    requires low { (f x : ℕ) → number_in_table behind.now f ≡ Some x → x ≤ 2 ^ 84 }
     ensures { result ≡ (least_by graph.now walks.now.returns.items walks.now.exits.items behind.now).to_end (node_address graph.now k) }
 {
     let returns = both(walks.returns[k], behind[graph.owner(k)]);
@@ -94,7 +94,7 @@ pub fn end_over(graph: &CodeGraph, walks: &Walks, behind: &[Option<u128>], e: us
     requires edge { e < length graph.now.code.edges }
     requires walks { AreSmallWalks graph.now walks.now.returns.items walks.now.exits.items }
     requires size { length behind.now ≡ length graph.now.code.functions }
-    requires low { (f x : ℕ) → least_at behind.now f ≡ Some x → x ≤ 2 ^ 84 }
+    requires low { (f x : ℕ) → number_in_table behind.now f ≡ Some x → x ≤ 2 ^ 84 }
     ensures { result ≡ end_place (least_by graph.now walks.now.returns.items walks.now.exits.items behind.now) ((graph_seen graph.now).target e) }
 {
     match graph.target(e) {
@@ -115,7 +115,7 @@ fn behind_of(
     requires chains { AreBackChains graph.now chains.now }
     requires walks { AreSmallWalks graph.now walks.now.returns.items walks.now.exits.items }
     requires size { length behind.now ≡ length graph.now.code.functions }
-    requires low { (h x : ℕ) → least_at behind.now h ≡ Some x → x ≤ 2 ^ 84 }
+    requires low { (h x : ℕ) → number_in_table behind.now h ≡ Some x → x ≤ 2 ^ 84 }
     requires function { f < length graph.now.code.functions }
     ensures { IsLeastIfAny (IsBackTo (graph_seen graph.now) (least_by graph.now walks.now.returns.items walks.now.exits.items behind.now) f) (end_after (graph_seen graph.now) (least_by graph.now walks.now.returns.items walks.now.exits.items behind.now)) result }
 {

@@ -1,11 +1,11 @@
 //! The least costs of runs over the edges of some nodes.
 
 ghost use Rattle.std.specs.Prelude.{◌≡◌, ◌⊎◌, ℕ, ◌*◌, ◌+◌, ◌^◌, ◌<◌, ◌≤◌, List, length, slice_get, Some, IfOk, OnOk};
-ghost use Rattle.call_orders.specs.Arcs.{number_at};
+ghost use Rattle.call_orders.specs.Arcs.{number_in_place};
 ghost use Rattle.code_graph.specs.FlowGraph.{graph as graph_seen, IsFlowGraph};
-ghost use Rattle.least_cycles.specs.Hops.{least_at};
+ghost use Rattle.least_cycles.specs.Hops.{number_in_table};
 ghost use Rattle.least_cycles.specs.Local.{IsWayOf};
-ghost use Rattle.least_cycles.specs.Functions.{AreNodes, ArePlacesIn, addresses, is_marked, AreKinds, AreHopsOf, IsFromFirst, AreLeastRuns};
+ghost use Rattle.least_cycles.specs.Functions.{AreNodeNumbers, ArePlacesIn, addresses, is_in_flags, AreKinds, AreHopsOf, IsFromFirst, AreLeastRuns};
 ghost use Rattle.least_cycles.specs.Charging.{AreSmallCharges, cost_with};
 
 use crate::charges::Charges;
@@ -27,13 +27,13 @@ fn way_of(
     e: usize,
 ) -> Way
     requires flow { IsFlowGraph graph.now }
-    requires nodes { AreNodes graph.now nodes.now }
+    requires nodes { AreNodeNumbers graph.now nodes.now }
     requires places { ArePlacesIn nodes.now places.now }
     requires size { length places.now ≡ length graph.now.code.nodes }
     requires kinds { AreKinds graph.now nodes.now lasts.now steps.now }
     requires edge { e < length graph.now.code.edges }
     requires from { IsFromFirst graph.now nodes.now (length nodes.now) e }
-    ensures { IsWayOf (graph_seen graph.now) (is_marked lasts.now) (is_marked steps.now) (addresses graph.now nodes.now) result e }
+    ensures { IsWayOf (graph_seen graph.now) (is_in_flags lasts.now) (is_in_flags steps.now) (addresses graph.now nodes.now) result e }
 {
     if lasts[e] {
         return Way::Last;
@@ -60,12 +60,12 @@ fn push_hops(
     hops: &mut Vec<Hop>,
 ) -> Result<(), NoMemory>
     requires flow { IsFlowGraph graph.now }
-    requires nodes { AreNodes graph.now nodes.now }
+    requires nodes { AreNodeNumbers graph.now nodes.now }
     requires places { ArePlacesIn nodes.now places.now }
     requires size { length places.now ≡ length graph.now.code.nodes }
     requires kinds { AreKinds graph.now nodes.now lasts.now steps.now }
     requires costs { length costs.now ≡ length graph.now.code.edges }
-    requires low { (e : ℕ) → number_at costs.now e ≤ 2 ^ 49 }
+    requires low { (e : ℕ) → number_in_place costs.now e ≤ 2 ^ 49 }
     requires charges { AreSmallCharges graph.now charges.now }
     requires place { i < length nodes.now }
     requires done { (edges : List ℕ) × AreHopsOf graph.now lasts.now steps.now (cost_with costs.now charges.now) (addresses graph.now nodes.now) (IsFromFirst graph.now nodes.now i) edges hops.old.items }
@@ -96,12 +96,12 @@ fn hops_of(
     charges: &Charges,
 ) -> Result<Vec<Hop>, NoMemory>
     requires flow { IsFlowGraph graph.now }
-    requires nodes { AreNodes graph.now nodes.now }
+    requires nodes { AreNodeNumbers graph.now nodes.now }
     requires places { ArePlacesIn nodes.now places.now }
     requires size { length places.now ≡ length graph.now.code.nodes }
     requires kinds { AreKinds graph.now nodes.now lasts.now steps.now }
     requires costs { length costs.now ≡ length graph.now.code.edges }
-    requires low { (e : ℕ) → number_at costs.now e ≤ 2 ^ 49 }
+    requires low { (e : ℕ) → number_in_place costs.now e ≤ 2 ^ 49 }
     requires charges { AreSmallCharges graph.now charges.now }
     ensures { IfOk result (λ hops. (edges : List ℕ) × AreHopsOf graph.now lasts.now steps.now (cost_with costs.now charges.now) (addresses graph.now nodes.now) (IsFromFirst graph.now nodes.now (length nodes.now)) edges hops.items) }
 {
@@ -127,17 +127,17 @@ pub fn least_in(
     charges: &Charges,
 ) -> Result<Vec<Option<u128>>, NoMemory>
     requires flow { IsFlowGraph graph.now }
-    requires nodes { AreNodes graph.now nodes.now }
+    requires nodes { AreNodeNumbers graph.now nodes.now }
     requires few { length nodes.now ≤ 131072 }
     requires places { ArePlacesIn nodes.now places.now }
     requires size { length places.now ≡ length graph.now.code.nodes }
     requires kinds { AreKinds graph.now nodes.now lasts.now steps.now }
     requires costs { length costs.now ≡ length graph.now.code.edges }
-    requires low { (e : ℕ) → number_at costs.now e ≤ 2 ^ 49 }
+    requires low { (e : ℕ) → number_in_place costs.now e ≤ 2 ^ 49 }
     requires charges { AreSmallCharges graph.now charges.now }
     ensures least { IfOk result (λ table. AreLeastRuns graph.now lasts.now steps.now (cost_with costs.now charges.now) nodes.now table.items) }
     ensures size { IfOk result (λ table. length table.items ≡ length nodes.now) }
-    ensures low { IfOk result (λ table. (i x : ℕ) → least_at table.items i ≡ Some x → x ≤ 2 ^ 67) }
+    ensures low { IfOk result (λ table. (i x : ℕ) → number_in_table table.items i ≡ Some x → x ≤ 2 ^ 67) }
 {
     let hops = hops_of(alloc, graph, nodes, places, lasts, steps, costs, charges)?;
     let table = least_costs(alloc, nodes.len(), &hops, MOST)?;

@@ -3,12 +3,12 @@
 
 ghost use Rattle.std.specs.Prelude.{◌≡◌, ℕ, ◌*◌, ◌+◌, ◌<◌, ◌≤◌, ◌^◌, true, false, length, Some, None, slice_get, IfOk, OnOk};
 ghost use Rattle.std.specs.Prelude.{Bool};
-ghost use Rattle.call_orders.specs.Arcs.{number_at};
+ghost use Rattle.call_orders.specs.Arcs.{number_in_place};
 ghost use Rattle.cost_theory.specs.Accepted.{AreWeights};
 ghost use Rattle.code_graph.specs.FlowGraph.{graph as graph_seen};
 ghost use Rattle.loop_tree.specs.Tree.{loops, IsLoopTree};
-ghost use Rattle.least_cycles.specs.Found.{IsInRange, IsLeastOf, AreSmallLeast};
-ghost use Rattle.least_cycles.specs.Hops.{least_at, offered, improves, relaxed, IsHop, HeadBelow, AreHops, IsTable, AreLeastCosts, fall};
+ghost use Rattle.least_cycles.specs.Found.{HasWorstInRange, IsLeastOf, AreSmallLeast};
+ghost use Rattle.least_cycles.specs.Hops.{number_in_table, offered, improves, relaxed, IsHop, HeadBelow, AreHops, IsHopTable, AreLeastCosts, fall};
 
 mod buckets;
 mod charges;
@@ -49,7 +49,7 @@ pub struct Hop {
 // The cost of a walk over a hop and on by the table.
 fn offered(table: &[Option<u128>], hop: &Hop) -> Option<u128>
     requires head { HeadBelow (length table.now) hop.now.way }
-    requires low { (v x : ℕ) → least_at table.now v ≡ Some x → x ≤ 2 ^ 126 }
+    requires low { (v x : ℕ) → number_in_table table.now v ≡ Some x → x ≤ 2 ^ 126 }
     ensures { result ≡ offered table.now hop.now }
 {
     match hop.way {
@@ -66,7 +66,7 @@ fn offered(table: &[Option<u128>], hop: &Hop) -> Option<u128>
 fn relax(table: &mut [Option<u128>], hop: &Hop) -> bool
     requires tail { hop.now.tail < length table.old }
     requires head { HeadBelow (length table.old) hop.now.way }
-    requires low { (v x : ℕ) → least_at table.old v ≡ Some x → x ≤ 2 ^ 126 }
+    requires low { (v x : ℕ) → number_in_table table.old v ≡ Some x → x ≤ 2 ^ 126 }
     ensures result { result ≡ improves table.old hop.now }
     ensures table { table.new ≡ relaxed table.old hop.now }
 {
@@ -85,10 +85,10 @@ fn relax(table: &mut [Option<u128>], hop: &Hop) -> bool
 
 // Relaxes each hop once, and tells whether the table changed.
 fn pass(table: &mut [Option<u128>], hops: &[Hop], most: u64) -> bool
-    requires table { IsTable (length table.old) most hops.now table.old }
+    requires table { IsHopTable (length table.old) most hops.now table.old }
     requires hops { AreHops (length table.old) most hops.now }
     requires small { length table.old * most ≤ 2 ^ 126 }
-    ensures table { IsTable (length table.old) most hops.now table.new }
+    ensures table { IsHopTable (length table.old) most hops.now table.new }
     ensures changed { result ≡ true → fall (length table.old * most) table.new < fall (length table.old * most) table.old }
     ensures done { result ≡ false → AreLeastCosts hops.now table.new }
 {
@@ -112,7 +112,7 @@ pub fn least_costs(
     requires small { count * most ≤ 2 ^ 126 }
     ensures least { IfOk result (λ t. AreLeastCosts hops.now t.items) }
     ensures size { IfOk result (λ t. length t.items ≡ count) }
-    ensures low { IfOk result (λ t. (v x : ℕ) → least_at t.items v ≡ Some x → x ≤ count * most) }
+    ensures low { IfOk result (λ t. (v x : ℕ) → number_in_table t.items v ≡ Some x → x ≤ count * most) }
 {
     let mut table: Vec<Option<u128>> = vec![in alloc; None; count]?;
     while pass(&mut table, hops, most) {}
@@ -130,9 +130,9 @@ pub fn least(
 ) -> Result<LeastNumbers, NoMemory>
     requires tree { (extent : ℕ → ℕ → Bool) × IsLoopTree graph.now extent tree.now }
     requires weights { length weights.now ≡ length graph.now.code.edges }
-    requires calls { AreWeights (graph_seen graph.now) (number_at weights.now) }
-    requires worst { IsInRange graph.now (loops graph.now tree.now) (number_at weights.now) }
-    ensures least { IfOk result (λ x. IsLeastOf graph.now (loops graph.now tree.now) (number_at weights.now) x) }
+    requires calls { AreWeights (graph_seen graph.now) (number_in_place weights.now) }
+    requires worst { HasWorstInRange graph.now (loops graph.now tree.now) (number_in_place weights.now) }
+    ensures least { IfOk result (λ x. IsLeastOf graph.now (loops graph.now tree.now) (number_in_place weights.now) x) }
     ensures small { IfOk result (λ x. AreSmallLeast graph.now x) }
 {
     // Its contract says what is so of the graph.

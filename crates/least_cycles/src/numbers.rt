@@ -2,7 +2,7 @@
 
 ghost use Rattle.std.specs.Prelude.{◌≡◌, ℕ, ◌^◌, ◌<◌, ◌≤◌, length, slice_get, Some, IfOk};
 ghost use Rattle.code_graph.specs.FlowGraph.{IsFlowGraph};
-ghost use Rattle.least_cycles.specs.Hops.{least_at};
+ghost use Rattle.least_cycles.specs.Hops.{number_in_table};
 ghost use Rattle.least_cycles.specs.Tables.{least_by};
 ghost use Rattle.least_cycles.specs.Ends.{AreSmallWalks};
 ghost use Rattle.least_cycles.specs.Found.{LeastView, AreEndsTo, AreAfterTo, plus_charge};
@@ -83,7 +83,7 @@ pub(crate) fn ends_of(
     requires flow { IsFlowGraph graph.now }
     requires walks { AreSmallWalks graph.now walks.now.returns.items walks.now.exits.items }
     requires size { length behind.now ≡ length graph.now.code.functions }
-    requires low { (f x : ℕ) → least_at behind.now f ≡ Some x → x ≤ 2 ^ 84 }
+    requires low { (f x : ℕ) → number_in_table behind.now f ≡ Some x → x ≤ 2 ^ 84 }
     ensures { IfOk result (λ ends. AreEndsTo graph.now (least_by graph.now walks.now.returns.items walks.now.exits.items behind.now) (length graph.now.code.nodes) ends.items) }
 {
     let mut ends = Vec::new(alloc);
@@ -115,7 +115,7 @@ pub(crate) fn after_of(
     requires flow { IsFlowGraph graph.now }
     requires walks { AreSmallWalks graph.now walks.now.returns.items walks.now.exits.items }
     requires size { length behind.now ≡ length graph.now.code.functions }
-    requires low { (f x : ℕ) → least_at behind.now f ≡ Some x → x ≤ 2 ^ 84 }
+    requires low { (f x : ℕ) → number_in_table behind.now f ≡ Some x → x ≤ 2 ^ 84 }
     requires charges { AreSmallCharges graph.now charges.now }
     ensures { IfOk result (λ after. AreAfterTo graph.now (least_by graph.now walks.now.returns.items walks.now.exits.items behind.now) (charge_by charges.now.entries.items charges.now.found.items) (length graph.now.code.edges) after.items) }
 {

@@ -1,14 +1,14 @@
 //! What is known of a graph and its loops before the passes.
 
 ghost use Rattle.std.specs.Prelude.{◌≡◌, ℕ, Bool, ◌<◌, length, IfOk};
-ghost use Rattle.call_orders.specs.Arcs.{number_at};
+ghost use Rattle.call_orders.specs.Arcs.{number_in_place};
 ghost use Rattle.code_graph.specs.FlowGraph.{graph as graph_seen, IsFlowGraph};
 ghost use Rattle.natural_loops.specs.Noted.{node_address};
 ghost use Rattle.key_chains.specs.Keys.{option_at};
 ghost use Rattle.loop_tree.specs.Tree.{IsLoopTree};
 ghost use Rattle.least_cycles.specs.Found.{AreOwn};
 ghost use Rattle.least_cycles.specs.Tables.{AreReturns, AreLeading};
-ghost use Rattle.least_cycles.specs.Charging.{AreHeads, header_key, AreHeaderKeys, AreHeaderChains, IsPlan};
+ghost use Rattle.least_cycles.specs.Charging.{AreHeaderLoops, header_key, AreHeaderKeys, AreHeaderChains, IsChargePlan};
 
 use crate::buckets::node_chains;
 use code_graph::{CodeGraph, Weights};
@@ -68,9 +68,9 @@ fn leading_of(alloc: Global, graph: &CodeGraph) -> Result<Vec<bool>, NoMemory>
 
 /// By node, the loop whose header it is.
 fn heads_of(alloc: Global, tree: &LoopTree, count: usize) -> Result<Vec<Option<usize>>, NoMemory>
-    requires { (l : ℕ) → l < length tree.now.headers → number_at tree.now.headers l < count }
+    requires { (l : ℕ) → l < length tree.now.headers → number_in_place tree.now.headers l < count }
     ensures size { IfOk result (λ heads. length heads.items ≡ count) }
-    ensures heads { IfOk result (λ heads. AreHeads tree.now heads.items) }
+    ensures heads { IfOk result (λ heads. AreHeaderLoops tree.now heads.items) }
 {
     let mut heads = vec![in alloc; None; count]?;
     for l in 0..tree.loop_count() {
@@ -136,7 +136,7 @@ pub fn make_plan(
 ) -> Result<Plan, NoMemory>
     requires tree { (extent : ℕ → ℕ → Bool) × IsLoopTree graph.now extent tree.now }
     requires weights { length weights.now ≡ length graph.now.code.edges }
-    ensures plan { IfOk result (λ plan. IsPlan graph.now tree.now plan) }
+    ensures plan { IfOk result (λ plan. IsChargePlan graph.now tree.now plan) }
     ensures own { IfOk result (λ plan. AreOwn (length graph.now.code.edges) weights.now plan.own.items) }
 {
     let count = graph.node_count();

@@ -1,11 +1,11 @@
 //! What edges cost with the functions that they call.
 
 ghost use Rattle.std.specs.Prelude.{◌≡◌, ◌⊎◌, ◌↔◌, ℕ, ◌+◌, ◌^◌, ◌<◌, ◌≤◌, true, [], length, Some, None, IsSome, unwrap_or, IfOk};
-ghost use Rattle.call_orders.specs.Arcs.{number_at};
+ghost use Rattle.call_orders.specs.Arcs.{number_in_place};
 ghost use Rattle.cost_theory.specs.Least.{least_call};
 ghost use Rattle.code_graph.specs.FlowGraph.{graph as graph_seen, IsFlowGraph};
 ghost use Rattle.least_cycles.specs.Functions.{IsBucket, IsFromFirst};
-ghost use Rattle.least_cycles.specs.Tables.{value_beside, least_by, AreTables, IsPrice, ArePriced};
+ghost use Rattle.least_cycles.specs.Tables.{value_beside, least_by, AreSmallTables, IsPrice, ArePriced};
 
 use code_graph::CodeGraph;
 use natural_loops::node_at;
@@ -80,9 +80,9 @@ fn price(
     requires flow { IsFlowGraph graph.now }
     requires edge { e < length graph.now.code.edges }
     requires own { length own.now ≡ length graph.now.code.edges }
-    requires low { (d : ℕ) → number_at own.now d ≤ 2 ^ 48 }
-    requires tables { AreTables graph.now returns.now exits.now }
-    ensures { IsPrice graph.now (number_at own.now) returns.now exits.now e result.0 result.1 }
+    requires low { (d : ℕ) → number_in_place own.now d ≤ 2 ^ 48 }
+    requires tables { AreSmallTables graph.now returns.now exits.now }
+    ensures { IsPrice graph.now (number_in_place own.now) returns.now exits.now e result.0 result.1 }
 {
     let more = called(graph, returns, exits, e);
     let last = is_last(graph, e, more.is_some());
@@ -104,10 +104,10 @@ fn price_node(
     requires bucket { (f : ℕ) × IsBucket graph.now f bucket.now }
     requires place { i < length bucket.now }
     requires own { length own.now ≡ length graph.now.code.edges }
-    requires low { (d : ℕ) → number_at own.now d ≤ 2 ^ 48 }
-    requires tables { AreTables graph.now returns.now exits.now }
-    requires priced { ArePriced graph.now (number_at own.now) returns.now exits.now (IsFromFirst graph.now bucket.now i) costs.old.items lasts.old.items }
-    ensures { ArePriced graph.now (number_at own.now) returns.now exits.now (IsFromFirst graph.now bucket.now (i + 1)) costs.new.items lasts.new.items }
+    requires low { (d : ℕ) → number_in_place own.now d ≤ 2 ^ 48 }
+    requires tables { AreSmallTables graph.now returns.now exits.now }
+    requires priced { ArePriced graph.now (number_in_place own.now) returns.now exits.now (IsFromFirst graph.now bucket.now i) costs.old.items lasts.old.items }
+    ensures { ArePriced graph.now (number_in_place own.now) returns.now exits.now (IsFromFirst graph.now bucket.now (i + 1)) costs.new.items lasts.new.items }
 {
     let (first, end) = graph.edges_of(bucket[i]);
     for e in first..end {
@@ -130,10 +130,10 @@ pub fn price_function(
     requires flow { IsFlowGraph graph.now }
     requires bucket { (f : ℕ) × IsBucket graph.now f bucket.now }
     requires own { length own.now ≡ length graph.now.code.edges }
-    requires low { (d : ℕ) → number_at own.now d ≤ 2 ^ 48 }
-    requires tables { AreTables graph.now returns.now exits.now }
-    requires priced { ArePriced graph.now (number_at own.now) returns.now exits.now (IsFromFirst graph.now bucket.now 0) costs.old.items lasts.old.items }
-    ensures { ArePriced graph.now (number_at own.now) returns.now exits.now (IsFromFirst graph.now bucket.now (length bucket.now)) costs.new.items lasts.new.items }
+    requires low { (d : ℕ) → number_in_place own.now d ≤ 2 ^ 48 }
+    requires tables { AreSmallTables graph.now returns.now exits.now }
+    requires priced { ArePriced graph.now (number_in_place own.now) returns.now exits.now (IsFromFirst graph.now bucket.now 0) costs.old.items lasts.old.items }
+    ensures { ArePriced graph.now (number_in_place own.now) returns.now exits.now (IsFromFirst graph.now bucket.now (length bucket.now)) costs.new.items lasts.new.items }
 {
     for i in 0..bucket.len() {
         price_node(graph, own, returns, exits, bucket, i, costs, lasts);

@@ -1,5 +1,5 @@
 ghost use Rattle.std.specs.Prelude.{◌≡◌, ℕ, Bool, ◌<◌, Some, length, IfOk};
-ghost use Rattle.call_orders.specs.Arcs.{number_at};
+ghost use Rattle.call_orders.specs.Arcs.{number_in_place};
 ghost use Rattle.cost_theory.specs.Accepted.{AreWeights};
 ghost use Rattle.code_graph.specs.FlowGraph.{graph as graph_seen};
 ghost use Rattle.loop_tree.specs.Tree.{IsLoopTree};
@@ -52,7 +52,7 @@ fn file_of(alloc: Global, words: &[u32]) -> Result<Vec<u8>, NoMemory> {
 /// Weights by edge, but 1 for the edges of calls.
 fn weights_of(alloc: Global, graph: &CodeGraph, list: &[u32]) -> Result<Weights, NoMemory>
     ensures size { IfOk result (λ weights. length weights ≡ length graph.now.code.edges) }
-    ensures calls { IfOk result (λ weights. AreWeights (graph_seen graph.now) (number_at weights)) }
+    ensures calls { IfOk result (λ weights. AreWeights (graph_seen graph.now) (number_in_place weights)) }
 {
     let _count = graph.node_count();
     let mut weights = Vec::new(alloc);

@@ -1,14 +1,14 @@
 //! The least cost of one turn of a loop, and what the loop is charged with.
 
 ghost use Rattle.std.specs.Prelude.{◌≡◌, ℕ, Bool, List, ◌↔◌, ◌+◌, ◌^◌, ◌<◌, ◌≤◌, true, length, slice_index, IfOk, OnOk};
-ghost use Rattle.call_orders.specs.Arcs.{number_at};
+ghost use Rattle.call_orders.specs.Arcs.{number_in_place};
 ghost use Rattle.cost_theory.specs.LeastTurns.{turn_step, turn_last};
 ghost use Rattle.code_graph.specs.FlowGraph.{graph as graph_seen, IsFlowGraph};
 ghost use Rattle.natural_loops.specs.Noted.{node_address};
 ghost use Rattle.loop_tree.specs.Tree.{loops, IsLoopTree};
 ghost use Rattle.least_laws.specs.Charged.{Charged};
-ghost use Rattle.least_cycles.specs.Functions.{ArePlacesIn, AreNodes, IsMarked, IsFromFirst};
-ghost use Rattle.least_cycles.specs.Charging.{IsBodyOf, AreTurnKinds, AreMarks, AreCharges, IsKnown, loop_charge};
+ghost use Rattle.least_cycles.specs.Functions.{ArePlacesIn, AreNodeNumbers, IsNodeFlagged, IsFromFirst};
+ghost use Rattle.least_cycles.specs.Charging.{IsBodyOf, AreTurnKinds, AreChargeMarks, AreCharges, IsChargeKnown, loop_charge};
 
 use crate::charges::Charges;
 use crate::function::least_in;
@@ -31,7 +31,7 @@ pub struct Marks {
 fn is_in(nodes: &[usize], spots: &[usize], k: usize) -> bool
     requires spots { ArePlacesIn nodes.now spots.now }
     requires node { k < length spots.now }
-    ensures { (result ≡ true) ↔ ((i : ℕ) × (i < length nodes.now) × (number_at nodes.now i ≡ k)) }
+    ensures { (result ≡ true) ↔ ((i : ℕ) × (i < length nodes.now) × (number_in_place nodes.now i ≡ k)) }
 {
     let i = spots[k];
     i < nodes.len() && nodes[i] == k
@@ -154,7 +154,7 @@ fn mark_body(
 fn is_shut(graph: &CodeGraph, k: usize, lasts: &[bool]) -> bool
     requires node { k < length graph.now.code.nodes }
     requires size { length lasts.now ≡ length graph.now.code.edges }
-    ensures { (result ≡ true) ↔ ((e : ℕ) → e < length graph.now.code.edges → (graph_seen graph.now).source e ≡ node_address graph.now k → IsMarked lasts.now e → ⊥) }
+    ensures { (result ≡ true) ↔ ((e : ℕ) → e < length graph.now.code.edges → (graph_seen graph.now).source e ≡ node_address graph.now k → IsNodeFlagged lasts.now e → ⊥) }
 {
     let (first, end) = graph.edges_of(k);
     for e in first..end {
@@ -167,9 +167,9 @@ fn is_shut(graph: &CodeGraph, k: usize, lasts: &[bool]) -> bool
 
 /// Whether no edge of some nodes is the last of a walk to an exit.
 fn are_shut(graph: &CodeGraph, nodes: &[usize], lasts: &[bool]) -> bool
-    requires nodes { AreNodes graph.now nodes.now }
+    requires nodes { AreNodeNumbers graph.now nodes.now }
     requires size { length lasts.now ≡ length graph.now.code.edges }
-    ensures { (result ≡ true) ↔ ((e : ℕ) → e < length graph.now.code.edges → IsFromFirst graph.now nodes.now (length nodes.now) e → IsMarked lasts.now e → ⊥) }
+    ensures { (result ≡ true) ↔ ((e : ℕ) → e < length graph.now.code.edges → IsFromFirst graph.now nodes.now (length nodes.now) e → IsNodeFlagged lasts.now e → ⊥) }
 {
     for k in nodes {
         if !is_shut(graph, *k, lasts) {
@@ -194,14 +194,14 @@ fn turn_of(
     requires turning { 0 < slice_index tree.now.least_trips l }
     requires nodes { IsBodyOf graph.now tree.now l nodes.now }
     requires few { length nodes.now ≤ 131072 }
-    requires marks { AreMarks graph.now marks.old }
+    requires marks { AreChargeMarks graph.now marks.old }
     requires spots { ArePlacesIn nodes.now marks.old.spots.items }
     requires costs { length costs.now ≡ length graph.now.code.edges }
-    requires low { (e : ℕ) → number_at costs.now e ≤ 2 ^ 49 }
+    requires low { (e : ℕ) → number_in_place costs.now e ≤ 2 ^ 49 }
     requires charges { AreCharges graph.now tree.now charges.now }
-    requires known { (w : ℕ → ℕ) × (n : Charged) × (lasts : List Bool) × IsKnown graph.now tree.now w n l costs.now lasts charges.now.found.items }
-    ensures turn { IfOk result (λ x. (w : ℕ → ℕ) (n : Charged) (lasts : List Bool) → IsKnown graph.now tree.now w n l costs.now lasts charges.now.found.items → x ≡ n.turn l) }
-    ensures marks { OnOk result (AreMarks graph.now marks.new) }
+    requires known { (w : ℕ → ℕ) × (n : Charged) × (lasts : List Bool) × IsChargeKnown graph.now tree.now w n l costs.now lasts charges.now.found.items }
+    ensures turn { IfOk result (λ x. (w : ℕ → ℕ) (n : Charged) (lasts : List Bool) → IsChargeKnown graph.now tree.now w n l costs.now lasts charges.now.found.items → x ≡ n.turn l) }
+    ensures marks { OnOk result (AreChargeMarks graph.now marks.new) }
 {
     let _count = graph.node_count();
     mark_body(
@@ -239,14 +239,14 @@ pub fn charge_of_loop(
     charges: &Charges,
 ) -> Result<u64, NoMemory>
     requires loop_number { l < length tree.now.headers }
-    requires marks { AreMarks graph.now marks.old }
+    requires marks { AreChargeMarks graph.now marks.old }
     requires costs { length costs.now ≡ length graph.now.code.edges }
     requires lasts { length lasts.now ≡ length graph.now.code.edges }
-    requires low { (e : ℕ) → number_at costs.now e ≤ 2 ^ 49 }
+    requires low { (e : ℕ) → number_in_place costs.now e ≤ 2 ^ 49 }
     requires charges { AreCharges graph.now tree.now charges.now }
-    requires known { (w : ℕ → ℕ) × (n : Charged) × IsKnown graph.now tree.now w n l costs.now lasts.now charges.now.found.items }
-    ensures charge { IfOk result (λ x. (w : ℕ → ℕ) (n : Charged) → IsKnown graph.now tree.now w n l costs.now lasts.now charges.now.found.items → x ≡ loop_charge graph.now tree.now n l) }
-    ensures marks { OnOk result (AreMarks graph.now marks.new) }
+    requires known { (w : ℕ → ℕ) × (n : Charged) × IsChargeKnown graph.now tree.now w n l costs.now lasts.now charges.now.found.items }
+    ensures charge { IfOk result (λ x. (w : ℕ → ℕ) (n : Charged) → IsChargeKnown graph.now tree.now w n l costs.now lasts.now charges.now.found.items → x ≡ loop_charge graph.now tree.now n l) }
+    ensures marks { OnOk result (AreChargeMarks graph.now marks.new) }
 {
     let trips = tree.least_trips(l);
     if trips == 0 {

@@ -1,12 +1,12 @@
 //! The least costs of walks to a return and to an exit, function by function, callees first.
 
 ghost use Rattle.std.specs.Prelude.{◌≡◌, ◌≢◌, ℕ, Bool, ◌+◌, ◌^◌, ◌<◌, ◌≤◌, length, IfOk, OnOk};
-ghost use Rattle.call_orders.specs.Arcs.{number_at, AreDistinct};
+ghost use Rattle.call_orders.specs.Arcs.{number_in_place, AreDistinct};
 ghost use Rattle.code_graph.specs.FlowGraph.{IsFlowGraph};
 ghost use Rattle.loop_tree.specs.Tree.{IsLoopTree};
 ghost use Rattle.least_laws.specs.Charged.{Charged};
 ghost use Rattle.least_cycles.specs.Tables.{AreWritten, IsBefore, IsAnyFunction};
-ghost use Rattle.least_cycles.specs.Charging.{IsCharging, HasCharging, HasWalks, AreMarks, AreCharges, AreChargedTo, ArePricedAt, loop_owner, IsPlan, IsScratch};
+ghost use Rattle.least_cycles.specs.Charging.{IsCharging, HasCharging, HasWalks, AreChargeMarks, AreCharges, AreChargedTo, ArePricedAt, loop_owner, IsChargePlan, IsScratch};
 
 use crate::buckets::bucket_of;
 use crate::charges::{Charges, entries_of};
@@ -39,7 +39,7 @@ pub struct Scratch {
 /// Writes the numbers of some nodes into a table by node.
 fn write_back(bucket: &[usize], found: &[Option<u128>], table: &mut Vec<Option<u128>>)
     requires distinct { AreDistinct bucket.now }
-    requires within { (i : ℕ) → i < length bucket.now → number_at bucket.now i < length table.old.items }
+    requires within { (i : ℕ) → i < length bucket.now → number_in_place bucket.now i < length table.old.items }
     requires size { length found.now ≡ length bucket.now }
     ensures { AreWritten (length bucket.now) bucket.now found.now table.old.items table.new.items }
 {
@@ -62,18 +62,18 @@ fn charge_loops(
 ) -> Result<(), NoMemory>
     requires flow { IsFlowGraph graph.now }
     requires tree { (extent : ℕ → ℕ → Bool) × IsLoopTree graph.now extent tree.now }
-    requires plan { IsPlan graph.now tree.now plan.now }
+    requires plan { IsChargePlan graph.now tree.now plan.now }
     requires function { f < length graph.now.code.functions }
     requires costs { length costs.now ≡ length graph.now.code.edges }
     requires lasts { length lasts.now ≡ length graph.now.code.edges }
-    requires low { (e : ℕ) → number_at costs.now e ≤ 2 ^ 49 }
-    requires marks { AreMarks graph.now marks.old }
+    requires low { (e : ℕ) → number_in_place costs.now e ≤ 2 ^ 49 }
+    requires marks { AreChargeMarks graph.now marks.old }
     requires charges { AreCharges graph.now tree.now charges.old }
     requires known { (w : ℕ → ℕ) × (n : Charged) × IsCharging graph.now tree.now w n × ArePricedAt graph.now w n f costs.now lasts.now }
     ensures charged { OnOk result ((w : ℕ → ℕ) (n : Charged) → IsCharging graph.now tree.now w n → ArePricedAt graph.now w n f costs.now lasts.now → AreChargedTo graph.now tree.now n (λ k. loop_owner graph.now tree.now k ≡ f) charges.new.found.items) }
-    ensures others { OnOk result ((k : ℕ) → k < length tree.now.headers → loop_owner graph.now tree.now k ≢ f → number_at charges.new.found.items k ≡ number_at charges.old.found.items k) }
+    ensures others { OnOk result ((k : ℕ) → k < length tree.now.headers → loop_owner graph.now tree.now k ≢ f → number_in_place charges.new.found.items k ≡ number_in_place charges.old.found.items k) }
     ensures charges { OnOk result (AreCharges graph.now tree.now charges.new) }
-    ensures marks { OnOk result (AreMarks graph.now marks.new) }
+    ensures marks { OnOk result (AreChargeMarks graph.now marks.new) }
 {
     let _count = graph.node_count();
     let order = tree.plain_order();
@@ -102,17 +102,17 @@ fn solve_function(
 ) -> Result<(), NoMemory>
     requires flow { IsFlowGraph graph.now }
     requires tree { (extent : ℕ → ℕ → Bool) × IsLoopTree graph.now extent tree.now }
-    requires plan { IsPlan graph.now tree.now plan.now }
+    requires plan { IsChargePlan graph.now tree.now plan.now }
     requires place { i < length graph.now.order }
-    requires charging { HasCharging graph.now tree.now (number_at plan.now.own.items) }
+    requires charging { HasCharging graph.now tree.now (number_in_place plan.now.own.items) }
     requires scratch { IsScratch graph.now scratch.old }
     requires charges { AreCharges graph.now tree.now charges.old }
-    requires charged { (n : Charged) → IsCharging graph.now tree.now (number_at plan.now.own.items) n → AreChargedTo graph.now tree.now n (λ k. IsBefore graph.now i (loop_owner graph.now tree.now k)) charges.old.found.items }
-    requires walks { HasWalks graph.now tree.now (number_at plan.now.own.items) (IsBefore graph.now i) walks.old.returns.items walks.old.exits.items }
+    requires charged { (n : Charged) → IsCharging graph.now tree.now (number_in_place plan.now.own.items) n → AreChargedTo graph.now tree.now n (λ k. IsBefore graph.now i (loop_owner graph.now tree.now k)) charges.old.found.items }
+    requires walks { HasWalks graph.now tree.now (number_in_place plan.now.own.items) (IsBefore graph.now i) walks.old.returns.items walks.old.exits.items }
     ensures scratch { OnOk result (IsScratch graph.now scratch.new) }
     ensures charges { OnOk result (AreCharges graph.now tree.now charges.new) }
-    ensures charged { OnOk result ((n : Charged) → IsCharging graph.now tree.now (number_at plan.now.own.items) n → AreChargedTo graph.now tree.now n (λ k. IsBefore graph.now (i + 1) (loop_owner graph.now tree.now k)) charges.new.found.items) }
-    ensures walks { OnOk result (HasWalks graph.now tree.now (number_at plan.now.own.items) (IsBefore graph.now (i + 1)) walks.new.returns.items walks.new.exits.items) }
+    ensures charged { OnOk result ((n : Charged) → IsCharging graph.now tree.now (number_in_place plan.now.own.items) n → AreChargedTo graph.now tree.now n (λ k. IsBefore graph.now (i + 1) (loop_owner graph.now tree.now k)) charges.new.found.items) }
+    ensures walks { OnOk result (HasWalks graph.now tree.now (number_in_place plan.now.own.items) (IsBefore graph.now (i + 1)) walks.new.returns.items walks.new.exits.items) }
 {
     let f = graph.call_order()[i];
     let _count = graph.node_count();
@@ -188,11 +188,11 @@ pub fn walks_of(
     plan: &Plan,
 ) -> Result<(Walks, Charges), NoMemory>
     requires tree { (extent : ℕ → ℕ → Bool) × IsLoopTree graph.now extent tree.now }
-    requires plan { IsPlan graph.now tree.now plan.now }
-    requires charging { HasCharging graph.now tree.now (number_at plan.now.own.items) }
-    ensures walks { IfOk result (λ found. HasWalks graph.now tree.now (number_at plan.now.own.items) IsAnyFunction found.0.returns.items found.0.exits.items) }
+    requires plan { IsChargePlan graph.now tree.now plan.now }
+    requires charging { HasCharging graph.now tree.now (number_in_place plan.now.own.items) }
+    ensures walks { IfOk result (λ found. HasWalks graph.now tree.now (number_in_place plan.now.own.items) IsAnyFunction found.0.returns.items found.0.exits.items) }
     ensures charges { IfOk result (λ found. AreCharges graph.now tree.now found.1) }
-    ensures charged { IfOk result (λ found. (n : Charged) → IsCharging graph.now tree.now (number_at plan.now.own.items) n → AreChargedTo graph.now tree.now n (λ k. IsAnyFunction k) found.1.found.items) }
+    ensures charged { IfOk result (λ found. (n : Charged) → IsCharging graph.now tree.now (number_in_place plan.now.own.items) n → AreChargedTo graph.now tree.now n (λ k. IsAnyFunction k) found.1.found.items) }
 {
     let nodes = graph.node_count();
     let mut scratch = empty_scratch(alloc, graph)?;

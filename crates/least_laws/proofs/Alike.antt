@@ -5,8 +5,8 @@ use Rattle.cost_theory.specs.Graph.{Graph, Loops, total, only, is_round, is_head
 use Rattle.cost_theory.specs.Worst.{at_some}
 use Rattle.cost_theory.specs.Accepted.{IsCallOrder, IsInBody}
 use Rattle.cost_theory.specs.Least.{IsLeast, IsLeastIfAny, callee_value, least_call, least_cost, IsWay, way_cost, end_after}
-use Rattle.cost_theory.specs.Least.{Way}
-use Rattle.cost_theory.specs.Least.Way.{Exits, Returns}
+use Rattle.cost_theory.specs.Least.{WayToEnd}
+use Rattle.cost_theory.specs.Least.WayToEnd.{Exits, Returns}
 use Rattle.cost_theory.specs.LeastTurns.{IsRun, turn_step, turn_last}
 use Rattle.cost_theory.proofs.Laws.{sum-same, and_left, and_right, not_true, some_same, entered-header, no_numbers}
 use Rattle.cost_theory.proofs.Laws as theory
@@ -221,7 +221,7 @@ module _ (g : Graph) (l : Loops) (extent : ℕ → ℕ → Bool) (w : ℕ → �
 
   -- ---- ends, from the callers inwards
   way_same : (one other : Charged) (v : ℕ) → ((u : ℕ) → one.least.to_return u ≡ other.least.to_return u) → ((u : ℕ) → one.least.to_exit u ≡ other.least.to_exit u) →
-      ((e u : ℕ) → e < g.edges → g.callee e ≡ Some (g.owner v) → g.target e ≡ Some u → one.least.to_end u ≡ other.least.to_end u) → (way : Way) → IsWay g one.least v way → IsWay g other.least v way × (way_cost g one.least v way ≡ way_cost g other.least v way)
+      ((e u : ℕ) → e < g.edges → g.callee e ≡ Some (g.owner v) → g.target e ≡ Some u → one.least.to_end u ≡ other.least.to_end u) → (way : WayToEnd) → IsWay g one.least v way → IsWay g other.least v way × (way_cost g one.least v way ≡ way_cost g other.least v way)
   way_same one other v returns exits outer Exits is_way = (subst (λ o. is_some o ≡ true) (exits v) is_way, ap (λ o. unwrap_or o 0) (exits v))
   way_same one other v returns exits outer (Returns e) is_way =
       let u : ℕ = is_way.1.2.0 in

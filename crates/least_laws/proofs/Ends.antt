@@ -4,8 +4,8 @@ use Rattle.std.proofs.lemmas.Map.Steps.{length-le_from_distinct_below}
 use Rattle.cost_theory.specs.Graph.{Graph, Loops, total}
 use Rattle.cost_theory.specs.Worst.{at_some}
 use Rattle.cost_theory.specs.Accepted.{IsCallOrder}
-use Rattle.cost_theory.specs.Least.{IsLeast, IsLeastIfAny, callee_value, least_call, least_cost, Way, IsWay, way_cost, end_after}
-use Rattle.cost_theory.specs.Least.Way.{Exits, Returns}
+use Rattle.cost_theory.specs.Least.{IsLeast, IsLeastIfAny, callee_value, least_call, least_cost, WayToEnd, IsWay, way_cost, end_after}
+use Rattle.cost_theory.specs.Least.WayToEnd.{Exits, Returns}
 use Rattle.cost_theory.specs.LeastTurns.{IsRun}
 use Rattle.cost_theory.proofs.Laws.{some_value, some_same}
 use Rattle.cost_theory.proofs.Laws as theory
@@ -120,7 +120,7 @@ module _ (g : Graph) (l : Loops) (extent : ℕ → ℕ → Bool) (w : ℕ → �
 
     by_way : (v z m : ℕ) → g.functions ≤ order (g.owner v) + m →
         ((k u y : ℕ) → m ≡ suc k → g.functions ≤ order (g.owner u) + k → n.least.to_end u ≡ Some y → y ≤ g.functions * (g.edges * most) + k * (g.edges * most)) →
-        (way : Way) → IsWay g n.least v way → way_cost g n.least v way ≡ z → z ≤ g.functions * (g.edges * most) + m * (g.edges * most)
+        (way : WayToEnd) → IsWay g n.least v way → way_cost g n.least v way ≡ z → z ≤ g.functions * (g.edges * most) + m * (g.edges * most)
     by_way v z m low inner Exits is_way value =
         let y : (y : ℕ) × (n.least.to_exit v ≡ Some y) = some_value (n.least.to_exit v) is_way in
         let q : unwrap_or (n.least.to_exit v) 0 ≡ y.0 = ap (λ o. unwrap_or o 0) y.1 in

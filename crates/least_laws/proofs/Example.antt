@@ -1,15 +1,15 @@
 -- A node that branches to itself or to an exit: its loop has to turn twice.
 use Rattle.std.proofs.Common.{◌≡◌, ℕ, zero, suc, ◌+◌, ◌<◌, ◌≤◌, true, false, inl, inr, List, [], ◌∷◌, Option, Some, None, refl, ap, ◌∙◌, arith}
 use Rattle.cost_theory.specs.Graph.{total}
-use Rattle.cost_theory.specs.Least.{IsLeastIfAny, IsUpTo, Way, IsWay, way_cost}
-use Rattle.cost_theory.specs.Least.Way.{Exits, Returns}
+use Rattle.cost_theory.specs.Least.{IsLeastIfAny, IsUpTo, WayToEnd, IsWay, way_cost}
+use Rattle.cost_theory.specs.Least.WayToEnd.{Exits, Returns}
 use Rattle.cost_theory.specs.LeastTurns.{IsRun, turn_step, turn_last}
 use Rattle.cost_theory.specs.Steps.{Move}
 use Rattle.cost_theory.specs.Steps.Move.{Along, Exit}
 use Rattle.cost_theory.proofs.Laws.{some_same, small, small_loop, small_extent, small_program, small_accepted, no_callee}
 use Rattle.least_laws.specs.Charged.{Charged, charged_cost, leads_on, ends_exit, HasPlainReturns, AreCharged}
-use Rattle.least_laws.specs.Laws.{IsOver}
-use Rattle.least_laws.specs.Met.{HypothesesAreMet}
+use Rattle.least_laws.specs.Laws.{IsOverEdge}
+use Rattle.least_laws.specs.Met.{LeastHypothesesAreMet}
 use Rattle.least_laws.proofs.OneEdge.{stable_is}
 
 abbrev one_each : ℕ → ℕ
@@ -38,7 +38,7 @@ exit_reached zero x e = (1 ∷ 2 ∷ [], (omega arith, refl, inr (refl, (omega a
 exit_reached (suc zero) x e = (2 ∷ [], (omega arith, refl, inl (refl, refl)), some_same 1 x e)
 exit_reached (suc (suc v)) x e = none_some x e
 
-exit_stable : (e b : ℕ) → e < 3 → IsOver small (ends_exit small small_charged.least) (leads_on small) cost exits_in e b → IsUpTo (exits_in (small.source e)) b
+exit_stable : (e b : ℕ) → e < 3 → IsOverEdge small (ends_exit small small_charged.least) (leads_on small) cost exits_in e b → IsUpTo (exits_in (small.source e)) b
 exit_stable zero b el (inl a) = let q : false ≡ true = a.0 in let bad : ⊥ = cc in absurd bad
 exit_stable zero b el (inr a) =
     let u : 0 ≡ a.1.0 = some_same 0 a.1.0 a.1.2 in
@@ -54,7 +54,7 @@ exit_stable (suc zero) b el (inr a) =
 exit_stable (suc (suc e)) b el (inl a) = let sum : b ≡ cost (suc (suc e)) = a.1 in let c : cost (suc (suc e)) ≡ 1 = refl in (1, refl, omega arith)
 exit_stable (suc (suc e)) b el (inr a) = none_some a.1.0 a.1.2
 
-return_stable : (e b : ℕ) → e < 3 → IsOver small small.returns (leads_on small) cost (λ v. None) e b → IsUpTo None b
+return_stable : (e b : ℕ) → e < 3 → IsOverEdge small small.returns (leads_on small) cost (λ v. None) e b → IsUpTo None b
 return_stable e b el (inl a) = let q : false ≡ true = a.0 in let bad : ⊥ = cc in absurd bad
 return_stable e b el (inr a) = none_some a.1.1 a.1.3
 
@@ -62,7 +62,7 @@ close_reached : (k v x : ℕ) → closes_in k v ≡ Some x → (es : List ℕ) �
 close_reached k zero x e = (0 ∷ [], (omega arith, refl, inl (refl, refl)), some_same 1 x e)
 close_reached k (suc v) x e = none_some x e
 
-close_stable : (k e b : ℕ) → e < 3 → IsOver small (turn_last small small_loop k) (turn_step small small_loop k) cost (closes_in k) e b → IsUpTo (closes_in k (small.source e)) b
+close_stable : (k e b : ℕ) → e < 3 → IsOverEdge small (turn_last small small_loop k) (turn_step small small_loop k) cost (closes_in k) e b → IsUpTo (closes_in k (small.source e)) b
 close_stable k zero b el (inl a) = let sum : b ≡ 1 = a.1 in (1, refl, omega arith)
 close_stable k zero b el (inr a) = let q : false ≡ true = a.0 in let bad : ⊥ = cc in absurd bad
 close_stable k (suc zero) b el (inl a) = let q : false ≡ true = a.0 in let bad : ⊥ = cc in absurd bad
@@ -73,17 +73,17 @@ close_stable k (suc (suc e)) b el (inr a) = none_some a.1.0 a.1.2
 ends_at : (v : ℕ) → IsLeastIfAny (IsWay small small_charged.least v) (way_cost small small_charged.least v) (exits_in v)
 ends_at zero = record { reached = (Exits, refl, refl); least = least }
   where
-    least : (way : Way) → IsWay small small_charged.least 0 way → 2 ≤ way_cost small small_charged.least 0 way
+    least : (way : WayToEnd) → IsWay small small_charged.least 0 way → 2 ≤ way_cost small small_charged.least 0 way
     least Exits h = omega arith
     least (Returns e) h = let q : false ≡ true = h.0 in let bad : ⊥ = cc in absurd bad
 ends_at (suc zero) = record { reached = (Exits, refl, refl); least = least }
   where
-    least : (way : Way) → IsWay small small_charged.least 1 way → 1 ≤ way_cost small small_charged.least 1 way
+    least : (way : WayToEnd) → IsWay small small_charged.least 1 way → 1 ≤ way_cost small small_charged.least 1 way
     least Exits h = omega arith
     least (Returns e) h = let q : false ≡ true = h.0 in let bad : ⊥ = cc in absurd bad
 ends_at (suc (suc v)) = never
   where
-    never : (way : Way) → IsWay small small_charged.least (suc (suc v)) way → ⊥
+    never : (way : WayToEnd) → IsWay small small_charged.least (suc (suc v)) way → ⊥
     never Exits h = let q : false ≡ true = h in let bad : ⊥ = cc in bad
     never (Returns e) h = let q : false ≡ true = h.0 in let bad : ⊥ = cc in bad
 
@@ -105,7 +105,7 @@ small_returns = record {
 abbrev small_run : List Move
 small_run = Along 0 ∷ Along 0 ∷ Along 1 ∷ Exit 2 ∷ []
 
-pub small_met : HypothesesAreMet
+pub small_met : LeastHypothesesAreMet
 small_met = record {
   graph = small;
   loops = small_loop;

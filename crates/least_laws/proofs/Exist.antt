@@ -5,8 +5,8 @@ use Rattle.std.proofs.lemmas.Bool.{cases_eq, cases_lt, cases_Bool}
 use Rattle.cost_theory.specs.Graph.{Graph, Loops, IsPlain, IsClosing, total, sum_below, only, is_round, is_header, is_back, enters}
 use Rattle.cost_theory.specs.Worst.{at_some}
 use Rattle.cost_theory.specs.Accepted.{IsProgram, AreAccepted, IsCallOrder, IsInBody}
-use Rattle.cost_theory.specs.Least.{IsLeastIfAny, Least, callee_value, least_call, least_cost, Way, IsWay, way_cost, end_after}
-use Rattle.cost_theory.specs.Least.Way.{Exits, Returns}
+use Rattle.cost_theory.specs.Least.{IsLeastIfAny, Least, callee_value, least_call, least_cost, WayToEnd, IsWay, way_cost, end_after}
+use Rattle.cost_theory.specs.Least.WayToEnd.{Exits, Returns}
 use Rattle.cost_theory.specs.LeastTurns.{IsRun, turn_step, turn_last}
 use Rattle.cost_theory.proofs.Laws.{sum-same, term-le-sum, below_suc, and_left, and_right, and_both, not_true, some_same, nested, accepted_entered, header_held, header_closes, AreNested, entered-header, no_numbers, charge_none}
 use Rattle.cost_theory.proofs.Laws as theory
@@ -111,7 +111,7 @@ module _ (g : Graph) (l : Loops) (extent : ℕ → ℕ → Bool) (w : ℕ → �
 
   -- the least way to an end
   module _ (n : Least) (v : ℕ) where
-    abbrev Below : ℕ → Way → Type 0
+    abbrev Below : ℕ → WayToEnd → Type 0
     Below m way = ((way ≡ Exits) × (is_some (n.to_exit v) ≡ true)) ⊎ ((i : ℕ) × (i < m) × (way ≡ Returns i) × IsWay g n v (Returns i))
 
     decide : (i : ℕ) → IsWay g n v (Returns i) ⊎ (IsWay g n v (Returns i) → ⊥)
@@ -174,10 +174,10 @@ module _ (g : Graph) (l : Loops) (extent : ℕ → ℕ → Bool) (w : ℕ → �
     pub end_least : (o : Option ℕ) × IsLeastIfAny (IsWay g n v) (way_cost g n v) o
     end_least = ((below_least g.edges).0, least_as (Below g.edges) (IsWay g n v) (way_cost g n v) (below_least g.edges).0 there back (below_least g.edges).1)
       where
-        there : (way : Way) → Below g.edges way → IsWay g n v way
+        there : (way : WayToEnd) → Below g.edges way → IsWay g n v way
         there way h = ⊎_elim (λ e. subst (λ x. IsWay g n v x) (sym e.0) e.1) (λ r. subst (λ x. IsWay g n v x) (sym r.2) r.3) h
 
-        back : (way : Way) → IsWay g n v way → Below g.edges way
+        back : (way : WayToEnd) → IsWay g n v way → Below g.edges way
         back Exits h = inl (refl, h)
         back (Returns i) h = inr (i, h.1.0, refl, h)
 
@@ -254,7 +254,7 @@ module _ (g : Graph) (l : Loops) (extent : ℕ → ℕ → Bool) (w : ℕ → �
           omega arith
 
   way_next : (n n' : Charged) (v : ℕ) → n.least.to_return v ≡ n'.least.to_return v → n.least.to_exit v ≡ n'.least.to_exit v →
-      ((e u : ℕ) → e < g.edges → g.callee e ≡ Some (g.owner v) → g.target e ≡ Some u → n.least.to_end u ≡ n'.least.to_end u) → (way : Way) → IsWay g n.least v way → IsWay g n'.least v way × (way_cost g n.least v way ≡ way_cost g n'.least v way)
+      ((e u : ℕ) → e < g.edges → g.callee e ≡ Some (g.owner v) → g.target e ≡ Some u → n.least.to_end u ≡ n'.least.to_end u) → (way : WayToEnd) → IsWay g n.least v way → IsWay g n'.least v way × (way_cost g n.least v way ≡ way_cost g n'.least v way)
   way_next n n' v returns exits outer Exits is_way = (subst (λ o. is_some o ≡ true) exits is_way, ap (λ o. unwrap_or o 0) exits)
   way_next n n' v returns exits outer (Returns e) is_way =
       let u : ℕ = is_way.1.2.0 in

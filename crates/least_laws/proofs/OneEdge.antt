@@ -5,7 +5,7 @@ use Rattle.cost_theory.specs.Least.{IsLeastIfAny, IsUpTo}
 use Rattle.cost_theory.specs.LeastTurns.{IsRun, turn_step, turn_last}
 use Rattle.cost_theory.proofs.Laws.{and_both, some_same, entered-header, no_numbers, charge_none, charge_one, least_up_to, least_reached}
 use Rattle.least_laws.specs.Charged.{charged_trips, charged_cost, leads_on, ends_exit}
-use Rattle.least_laws.specs.Laws.{IsOver, IsLeastOver, ReturnOver, ExitOver, ClosingOver, StableIsLeast, ChargedOn, ChargedBack, ChargedInto}
+use Rattle.least_laws.specs.Laws.{IsOverEdge, IsLeastOver, ReturnOver, ExitOver, LeastClosingOver, StableIsLeast, LeastChargedOn, LeastChargedBack, LeastChargedInto}
 use Rattle.least_laws.proofs.WalkKinds.{trips, price, nest, turn_kind}
 
 module _ (g : Graph) (last step : ℕ → Bool) (c : ℕ → ℕ) (t : ℕ → Option ℕ) where
@@ -15,7 +15,7 @@ module _ (g : Graph) (last step : ℕ → Bool) (c : ℕ → ℕ) (t : ℕ → O
 
   -- ---- the numbers over one edge
   module _ (least : (v : ℕ) → IsLeastIfAny (IsRun g false last step (Some v)) (total c) (t v)) where
-    over_up : (e b : ℕ) → e < g.edges → IsOver g last step c t e b → IsUpTo (t (g.source e)) b
+    over_up : (e b : ℕ) → e < g.edges → IsOverEdge g last step c t e b → IsUpTo (t (g.source e)) b
     over_up e b el over = ⊎_elim
         (λ (a : (last e ≡ true) × (b ≡ c e)).
         let up : IsUpTo (t (g.source e)) (c e + 0) = least_up_to (IsRun g false last step (Some (g.source e))) (total c) (t (g.source e)) (least (g.source e)) (e ∷ []) (el, refl, inl (a.0, refl)) in
@@ -47,7 +47,7 @@ module _ (g : Graph) (last step : ℕ → Bool) (c : ℕ → ℕ) (t : ℕ → O
     }
       where
         by_target : (e : ℕ) (es : List ℕ) (m : ℕ) → e < g.edges → g.source e ≡ v → step e ≡ true → (o : Option ℕ) → g.target e ≡ o → IsRun g false last step o es → c e + total c es ≡ m →
-            t v ≡ Some m → (e : ℕ) × (e < g.edges) × (g.source e ≡ v) × IsOver g last step c t e m
+            t v ≡ Some m → (e : ℕ) × (e < g.edges) × (g.source e ≡ v) × IsOverEdge g last step c t e m
         by_target e es m el from st None to run sum is = absurd (nowhere es run)
         by_target e es m el from st (Some u) to run sum is =
             let up : IsUpTo (t u) (total c es) = least_up_to (IsRun g false last step (Some u)) (total c) (t u) (least u) es run in
@@ -58,10 +58,10 @@ module _ (g : Graph) (last step : ℕ → Bool) (c : ℕ → ℕ) (t : ℕ → O
             let eq : m ≡ c e + up.0 = omega arith in
             (e, el, from, inr (st, (u, up.0, to, up.1, eq)))
 
-        attained : (m : ℕ) → t v ≡ Some m → IsLeastIfAny (IsRun g false last step (Some v)) (total c) (Some m) → (e : ℕ) × (e < g.edges) × (g.source e ≡ v) × IsOver g last step c t e m
+        attained : (m : ℕ) → t v ≡ Some m → IsLeastIfAny (IsRun g false last step (Some v)) (total c) (Some m) → (e : ℕ) × (e < g.edges) × (g.source e ≡ v) × IsOverEdge g last step c t e m
         attained m is h = by_run h.reached.0 h.reached.1 h.reached.2
           where
-            by_run : (es : List ℕ) → IsRun g false last step (Some v) es → total c es ≡ m → (e : ℕ) × (e < g.edges) × (g.source e ≡ v) × IsOver g last step c t e m
+            by_run : (es : List ℕ) → IsRun g false last step (Some v) es → total c es ≡ m → (e : ℕ) × (e < g.edges) × (g.source e ≡ v) × IsOverEdge g last step c t e m
             by_run [] run sum = let q : false ≡ true = run in let bad : ⊥ = cc in absurd bad
             by_run (e ∷ es) run sum = ⊎_elim
                 (λ (a : (last e ≡ true) × (es ≡ [])).
@@ -73,7 +73,7 @@ module _ (g : Graph) (last step : ℕ → Bool) (c : ℕ → ℕ) (t : ℕ → O
                 run.2
 
   -- ---- and the other way round
-  module _ (reached : (v x : ℕ) → t v ≡ Some x → (es : List ℕ) × IsRun g false last step (Some v) es × (total c es ≡ x)) (stable : (e b : ℕ) → e < g.edges → IsOver g last step c t e b → IsUpTo (t (g.source e)) b) where
+  module _ (reached : (v x : ℕ) → t v ≡ Some x → (es : List ℕ) × IsRun g false last step (Some v) es × (total c es ≡ x)) (stable : (e b : ℕ) → e < g.edges → IsOverEdge g last step c t e b → IsUpTo (t (g.source e)) b) where
     up_to : (es : List ℕ) (v : ℕ) → IsRun g false last step (Some v) es → IsUpTo (t v) (total c es)
     up_to [] v run = let q : false ≡ true = run in let bad : ⊥ = cc in absurd bad
     up_to (e ∷ es) v run = ⊎_elim
@@ -112,22 +112,22 @@ return_over g l w n are v = least_over g g.returns (leads_on g) (charged_cost g 
 pub exit_over : ExitOver
 exit_over g l w n are v = least_over g (ends_exit g n.least) (leads_on g) (charged_cost g l w n) n.least.to_exit are.to_exit v
 
-pub closing_over : ClosingOver
+pub closing_over : LeastClosingOver
 closing_over g l w n are k v kl = least_over g (turn_last g l k) (turn_step g l k) (charged_cost g l w n) (n.closing k) (λ u. are.closing k u kl) v
 
 -- ---- charges
 
-pub charged_on : ChargedOn
+pub charged_on : LeastChargedOn
 charged_on g l extent w n is e el away = charge_none g l (price g l extent w n is) (trips g l extent w n is) n.turn (nest g l extent w n is) e (λ j jl. each j jl (enters l j (g.source e) (g.target e)) refl)
   where
     each : (j : ℕ) → j < l.loops → (b : Bool) → enters l j (g.source e) (g.target e) ≡ b → (enters l j (g.source e) (g.target e) && nat_lt 0 (charged_trips g l n.least j)) ≡ false
     each j jl false h = ap (λ b. b && nat_lt 0 (charged_trips g l n.least j)) h
     each j jl true h = absurd (away j jl (entered-header g l (price g l extent w n is) no_numbers (nest g l extent w n is) e j el jl h))
 
-pub charged_back : ChargedBack
+pub charged_back : LeastChargedBack
 charged_back g l extent w n is e k el kl back = (turn_kind g l extent w n is k kl).free e el back
 
-pub charged_into : ChargedInto
+pub charged_into : LeastChargedInto
 charged_into g l extent w n is e k el kl to no_back = charge_one g l (price g l extent w n is) (trips g l extent w n is) n.turn (nest g l extent w n is) e k el kl
     (and_both (not (l.inside k (g.source e))) (is_round l k (g.target e)) (ap not out) (subst (λ o. is_round l k o ≡ true) (sym to) ((nest g l extent w n is).ways.holds_header k kl)))
   where

@@ -2,7 +2,7 @@
 use Rattle.std.proofs.Common.{◌≡◌, ℕ, ◌+◌, ◌<◌, true, ⊎_elim, length, slice_get, Option, Some, None, refl, sym, ap, ◌∙◌, subst}
 use Rattle.cost_theory.specs.declared.edges.Word.{Word}
 use Rattle.cost_theory.specs.declared.edges.Word.TheVariants.{CallOf, Back}
-use Rattle.cost_theory.specs.Reached.{LeadsTo, Code, IsCodeOf, HasNoBadWord, edge_at, edge_to, callee_of, edge_callee, is_back, edge_returns, call_returns}
+use Rattle.cost_theory.specs.Reached.{LeadsTo, Code, IsCodeOf, HasNoBadWord, edge_at, edge_to, callee_of, edge_callee, is_return_word, edge_returns, call_returns}
 use Rattle.cost_theory.proofs.Laws.{edge_leads, edge_word, callee-call, back-word}
 use Rattle.least_laws.specs.Laws.{ReachedCodeHasPlainReturns}
 
@@ -12,10 +12,10 @@ module _ (word : ℕ → Word) (first : ℕ) (code : Code) (is : IsCodeOf word f
       let x = edge_word word first code is fine e lt in
       ap (edge_callee word code.functions) x.1 ∙ ap (λ v. callee_of code.functions (word v)) (sym (ap edge_at x.1))
 
-  returns_at : (e : ℕ) → e < length code.edges → edge_returns word (slice_get code.edges e) ≡ is_back (word (edge_at (slice_get code.edges e)))
+  returns_at : (e : ℕ) → e < length code.edges → edge_returns word (slice_get code.edges e) ≡ is_return_word (word (edge_at (slice_get code.edges e)))
   returns_at e lt =
       let x = edge_word word first code is fine e lt in
-      ap (edge_returns word) x.1 ∙ ap (λ v. is_back (word v)) (sym (ap edge_at x.1))
+      ap (edge_returns word) x.1 ∙ ap (λ v. is_return_word (word v)) (sym (ap edge_at x.1))
 
   -- an edge that leads on from a call leads to the next word
   call_target : (e h v : ℕ) → e < length code.edges → word (edge_at (slice_get code.edges e)) ≡ CallOf h → edge_to (slice_get code.edges e) ≡ Some v → v ≡ edge_at (slice_get code.edges e) + 4

@@ -4,7 +4,7 @@ use Rattle.std.proofs.lemmas.Bool.{cases_Bool}
 use Rattle.cost_theory.specs.Graph.{Graph, Loops, IsWalk, end_of, total, only, is_round, is_header, enters, leaves, is_back, any_below}
 use Rattle.cost_theory.specs.Accepted.{IsInBody}
 use Rattle.cost_theory.specs.Least.{IsUpTo, least_cost}
-use Rattle.cost_theory.specs.LeastTurns.{IsRun, turn_step, turn_last, KeepsLeast, charge, IsKind}
+use Rattle.cost_theory.specs.LeastTurns.{IsRun, turn_step, turn_last, KeepsLeast, least_charge, IsKind}
 use Rattle.cost_theory.proofs.Laws.{search_below, and_left, and_right, and_both, and_false, not_true, only_true, only_false, sum-one, sum-none, any-none, some_same, nested, accepted_entered, AreNested, entered-header, no_numbers, charge_none, kept-charged, peel}
 use Rattle.least_laws.specs.Charged.{Charged, calls_exit, charged_trips, leads_on, ends_exit, IsToReturn, IsToExit, IsToHeader, owed}
 use Rattle.least_laws.specs.Laws.{IsCharged}
@@ -36,7 +36,7 @@ module _ (g : Graph) (l : Loops) (extent : ℕ → ℕ → Bool) (w : ℕ → �
           sym (ap (λ b. b && (g.exits d || calls_exit g n.least d)) in_d) ∙ here
 
   -- nothing is charged at an edge that leads nowhere
-  free_end : (e : ℕ) → g.target e ≡ None → charge g l trips n.turn e ≡ 0
+  free_end : (e : ℕ) → g.target e ≡ None → least_charge g l trips n.turn e ≡ 0
   free_end e to = charge_none g l price trips n.turn nest e (λ j jl.
       ap (λ o. enters l j (g.source e) o && nat_lt 0 (trips j)) to ∙ ap (λ b. b && nat_lt 0 (trips j)) (and_false (not (l.inside j (g.source e)))))
 

@@ -3,7 +3,7 @@
 use Rattle.std.specs.Prelude.{◌≡◌, ℕ, ◌+◌, ◌-◌, ◌*◌, ◌<◌, Bool, true, false, not, ◌&&◌, ◌||◌, List, Option, Some, None, is_some, option_map}
 use Rattle.cost_theory.specs.Graph.{Graph, Loops, total, sum_below, only, is_header, any_below}
 use Rattle.cost_theory.specs.Least.{IsLeastIfAny, Least, least_cost, IsWay, way_cost}
-use Rattle.cost_theory.specs.LeastTurns.{IsRun, turn_step, turn_last, charge}
+use Rattle.cost_theory.specs.LeastTurns.{IsRun, turn_step, turn_last, least_charge}
 
 -- By node the least charged cycles to a return, to an exit before it and to an end of the run; by loop those of one turn; and by loop and
 -- node those of the rest of a turn, where there is one.
@@ -36,7 +36,7 @@ charged_trips g l n k = only (is_closed g l n k) (l.least_trips k)
 
 -- the charge of an edge: of each loop that it enters from outside, all these turns at the least cost of one
 abbrev pub charge_of : Graph → Loops → Charged → ℕ → ℕ
-charge_of g l n e = charge g l (charged_trips g l n.least) n.turn e
+charge_of g l n e = least_charge g l (charged_trips g l n.least) n.turn e
 
 -- The charged cost of an edge: its weight and its charge; of a completed call also the least to the callee's return, and of the End edge of a
 -- call, as the last one of a walk to an exit, also the least to the callee's exit.
@@ -73,8 +73,8 @@ pub record AreCharged (g : Graph) (l : Loops) (w : ℕ → ℕ) (n : Charged) : 
 -- ---- behind an edge
 
 abbrev pub end_behind : Charged → Option ℕ → ℕ → Option ℕ
-end_behind n None charge = None
-end_behind n (Some v) charge = option_map (λ z. z + charge) (n.least.to_end v)
+end_behind n None least_charge = None
+end_behind n (Some v) least_charge = option_map (λ z. z + least_charge) (n.least.to_end v)
 
 -- the least cycles to an end of the run behind an edge: those from its target, and the edge's charge
 abbrev pub to_end_after : Graph → Loops → Charged → ℕ → Option ℕ

@@ -3,7 +3,7 @@ use Rattle.std.specs.Prelude.{◌≡◌, ◌≢◌, ℕ, ◌+◌, ◌*◌, ◌<�
 use Rattle.cost_theory.specs.Graph.{Graph, Loops, total, sum_below, only, enters, is_back, next_edge}
 use Rattle.cost_theory.specs.Worst.{Numbers, AreNumbers, all_of}
 use Rattle.cost_theory.specs.Accepted.{IsProgram, AreAccepted, AreWeights}
-use Rattle.cost_theory.specs.Steps.{Move, IsKept, AreKept, EndsByExit, start, state_after, after, cycles}
+use Rattle.cost_theory.specs.Steps.{Move, IsKept, AreKept, EndsByExit, graph_start, state_after, after, cycles}
 use Rattle.cost_theory.specs.Steps.Move.{Along, Return}
 use Rattle.cost_theory.specs.Least.{IsLeastIfAny, IsUpTo}
 use Rattle.cost_theory.specs.LeastTurns.{IsRun, turn_step, turn_last}
@@ -44,33 +44,33 @@ ReachedCodeHasPlainReturns = (word : ℕ → Word) (first : ℕ) (code : Code) �
 -- CHARGES
 
 -- An edge that leads to no header is charged nothing,
-abbrev pub ChargedOn : Type 0
-ChargedOn = (g : Graph) (l : Loops) (extent : ℕ → ℕ → Bool) (w : ℕ → ℕ) (n : Charged) → IsCharged g l extent w n →
+abbrev pub LeastChargedOn : Type 0
+LeastChargedOn = (g : Graph) (l : Loops) (extent : ℕ → ℕ → Bool) (w : ℕ → ℕ) (n : Charged) → IsCharged g l extent w n →
     (e : ℕ) → e < g.edges → ((k : ℕ) → k < l.loops → g.target e ≢ Some (l.header k)) → charge_of g l n e ≡ 0
 
 -- nor is a back edge,
-abbrev pub ChargedBack : Type 0
-ChargedBack = (g : Graph) (l : Loops) (extent : ℕ → ℕ → Bool) (w : ℕ → ℕ) (n : Charged) → IsCharged g l extent w n →
+abbrev pub LeastChargedBack : Type 0
+LeastChargedBack = (g : Graph) (l : Loops) (extent : ℕ → ℕ → Bool) (w : ℕ → ℕ) (n : Charged) → IsCharged g l extent w n →
     (e k : ℕ) → e < g.edges → k < l.loops → is_back g l k e ≡ true → charge_of g l n e ≡ 0
 
 -- and an edge that enters a loop from outside is charged the turns that it has to take.
-abbrev pub ChargedInto : Type 0
-ChargedInto = (g : Graph) (l : Loops) (extent : ℕ → ℕ → Bool) (w : ℕ → ℕ) (n : Charged) → IsCharged g l extent w n →
+abbrev pub LeastChargedInto : Type 0
+LeastChargedInto = (g : Graph) (l : Loops) (extent : ℕ → ℕ → Bool) (w : ℕ → ℕ) (n : Charged) → IsCharged g l extent w n →
     (e k : ℕ) → e < g.edges → k < l.loops → g.target e ≡ Some (l.header k) → is_back g l k e ≡ false → charge_of g l n e ≡ charged_trips g l n.least k * n.turn k
 
 -- ONE EDGE
 
 -- Over an edge a run of a kind costs b: the edge ends it, or it steps to a node from which the least cost of such a run is there.
-abbrev pub IsOver : Graph → (ℕ → Bool) → (ℕ → Bool) → (ℕ → ℕ) → (ℕ → Option ℕ) → ℕ → ℕ → Type 0
-IsOver g last step c t e b =
+abbrev pub IsOverEdge : Graph → (ℕ → Bool) → (ℕ → Bool) → (ℕ → ℕ) → (ℕ → Option ℕ) → ℕ → ℕ → Type 0
+IsOverEdge g last step c t e b =
     ((last e ≡ true) × (b ≡ c e)) ⊎
     ((step e ≡ true) × ((u : ℕ) × (more : ℕ) × (g.target e ≡ Some u) × (t u ≡ Some more) × (b ≡ c e + more)))
 
 -- The number of a node is the least over its edges, and is there where one of them has one.
 pub record IsLeastOver (g : Graph) (last step : ℕ → Bool) (c : ℕ → ℕ) (t : ℕ → Option ℕ) (v : ℕ) : Type 0 where
-  pub absent : t v ≡ None → (e b : ℕ) → e < g.edges → g.source e ≡ v → IsOver g last step c t e b → ⊥
-  pub attained : (m : ℕ) → t v ≡ Some m → (e : ℕ) × (e < g.edges) × (g.source e ≡ v) × IsOver g last step c t e m
-  pub least : (m : ℕ) → t v ≡ Some m → (e b : ℕ) → e < g.edges → g.source e ≡ v → IsOver g last step c t e b → m ≤ b
+  pub absent : t v ≡ None → (e b : ℕ) → e < g.edges → g.source e ≡ v → IsOverEdge g last step c t e b → ⊥
+  pub attained : (m : ℕ) → t v ≡ Some m → (e : ℕ) × (e < g.edges) × (g.source e ≡ v) × IsOverEdge g last step c t e m
+  pub least : (m : ℕ) → t v ≡ Some m → (e b : ℕ) → e < g.edges → g.source e ≡ v → IsOverEdge g last step c t e b → m ≤ b
 
 -- So it is of the least cycles to a return,
 abbrev pub ReturnOver : Type 0
@@ -83,15 +83,15 @@ ExitOver = (g : Graph) (l : Loops) (w : ℕ → ℕ) (n : Charged) → AreCharge
     (v : ℕ) → IsLeastOver g (ends_exit g n.least) (leads_on g) (charged_cost g l w n) n.least.to_exit v
 
 -- and of the rest of a turn.
-abbrev pub ClosingOver : Type 0
-ClosingOver = (g : Graph) (l : Loops) (w : ℕ → ℕ) (n : Charged) → AreCharged g l w n →
+abbrev pub LeastClosingOver : Type 0
+LeastClosingOver = (g : Graph) (l : Loops) (w : ℕ → ℕ) (n : Charged) → AreCharged g l w n →
     (k v : ℕ) → k < l.loops → IsLeastOver g (turn_last g l k) (turn_step g l k) (charged_cost g l w n) (n.closing k) v
 
 -- The other way round: a table of numbers that runs of a kind have, and that no edge improves, holds the least.
 abbrev pub StableIsLeast : Type 0
 StableIsLeast = (g : Graph) (last step : ℕ → Bool) (c : ℕ → ℕ) (t : ℕ → Option ℕ) →
     ((v x : ℕ) → t v ≡ Some x → (es : List ℕ) × IsRun g false last step (Some v) es × (total c es ≡ x)) →
-    ((e b : ℕ) → e < g.edges → IsOver g last step c t e b → IsUpTo (t (g.source e)) b) →
+    ((e b : ℕ) → e < g.edges → IsOverEdge g last step c t e b → IsUpTo (t (g.source e)) b) →
     (v : ℕ) → IsLeastIfAny (IsRun g false last step (Some v)) (total c) (t v)
 
 -- BOUNDS
@@ -137,24 +137,24 @@ LeastWithinEdges = (g : Graph) (last step : ℕ → Bool) (c : ℕ → ℕ) (v x
 -- From a node that a kept run has come to, a kept run that ends by an exit takes at least the node's least cycles to an end, and what it owes there.
 abbrev pub ExitTakesCharged : Type 0
 ExitTakesCharged = (g : Graph) (l : Loops) (extent : ℕ → ℕ → Bool) (w : ℕ → ℕ) (n : Charged) → IsCharged g l extent w n →
-    (ms more : List Move) (v : ℕ) → AreKept g l (start g) ms → (state_after g l ms).node ≡ Some v →
+    (ms more : List Move) (v : ℕ) → AreKept g l (graph_start g) ms → (state_after g l ms).node ≡ Some v →
     AreKept g l (state_after g l ms) more → EndsByExit more →
     IsUpTo (option_map (λ z. z + owed g l n v (state_after g l ms).counts) (n.least.to_end v)) (cycles w more)
 
 -- After a step within a function it takes at least the least cycles to an end behind its edge,
 abbrev pub ExitTakesLeastBehind : Type 0
 ExitTakesLeastBehind = (g : Graph) (l : Loops) (extent : ℕ → ℕ → Bool) (w : ℕ → ℕ) (n : Charged) → IsCharged g l extent w n →
-    (ms more : List Move) (e : ℕ) → AreKept g l (start g) ms → IsKept g l (state_after g l ms) (Along e) →
+    (ms more : List Move) (e : ℕ) → AreKept g l (graph_start g) ms → IsKept g l (state_after g l ms) (Along e) →
     AreKept g l (after g l (state_after g l ms) (Along e)) more → EndsByExit more → IsUpTo (to_end_after g l n e) (cycles w more)
 
 -- and after a return those behind the edge by which the call comes back.
 abbrev pub ExitTakesLeastBehindReturn : Type 0
 ExitTakesLeastBehindReturn = (g : Graph) (l : Loops) (extent : ℕ → ℕ → Bool) (w : ℕ → ℕ) (n : Charged) → IsCharged g l extent w n →
-    (ms more : List Move) (e u d : ℕ) (calls : List ℕ) → AreKept g l (start g) ms → IsKept g l (state_after g l ms) (Return e) →
+    (ms more : List Move) (e u d : ℕ) (calls : List ℕ) → AreKept g l (graph_start g) ms → IsKept g l (state_after g l ms) (Return e) →
     (state_after g l ms).calls ≡ u ∷ calls → next_edge g u ≡ Some d →
     AreKept g l (after g l (state_after g l ms) (Return e)) more → EndsByExit more → IsUpTo (to_end_after g l n d) (cycles w more)
 
 -- So along a kept run that exits, what follows a step within a function takes at least the least cycles behind its edge.
 abbrev pub RunTakesLeastBehind : Type 0
 RunTakesLeastBehind = (g : Graph) (l : Loops) (extent : ℕ → ℕ → Bool) (w : ℕ → ℕ) (n : Charged) → IsCharged g l extent w n →
-    (ms more : List Move) (e : ℕ) → AreKept g l (start g) (ms ++ Along e ∷ more) → EndsByExit more → IsUpTo (to_end_after g l n e) (cycles w more)
+    (ms more : List Move) (e : ℕ) → AreKept g l (graph_start g) (ms ++ Along e ∷ more) → EndsByExit more → IsUpTo (to_end_after g l n e) (cycles w more)

@@ -2,11 +2,11 @@
 -- kept run of it that turns so often and exits.
 use Rattle.std.specs.Prelude.{◌≡◌, ℕ, Bool, List}
 use Rattle.cost_theory.specs.Graph.{Graph, Loops}
-use Rattle.cost_theory.specs.Steps.{Move, AreKept, EndsByExit, start, cycles}
+use Rattle.cost_theory.specs.Steps.{Move, AreKept, EndsByExit, graph_start, cycles}
 use Rattle.least_laws.specs.Charged.{Charged, charged_trips}
 use Rattle.least_laws.specs.Laws.{IsCharged}
 
-pub record HypothesesAreMet : Type 0 where
+pub record LeastHypothesesAreMet : Type 0 where
   pub graph : Graph
   pub loops : Loops
   pub extent : ℕ → ℕ → Bool
@@ -16,6 +16,6 @@ pub record HypothesesAreMet : Type 0 where
   pub looped : loops.loops ≡ 1
   pub turns : charged_trips graph loops numbers.least 0 ≡ 2
   pub run : List Move
-  pub kept : AreKept graph loops (start graph) run
+  pub kept : AreKept graph loops (graph_start graph) run
   pub exits : EndsByExit run
   pub cycles_are : cycles weights run ≡ 4

@@ -1,8 +1,8 @@
 //! Laws of the least cycles of a program whose loops turn at least so often before they are left.
 #![tactic(auto)]
 
-ghost use Rattle.least_laws.specs.Met.{HypothesesAreMet};
-ghost use Rattle.least_laws.specs.Laws.{ChargedExist, ChargedAgree, ReachedCodeHasPlainReturns, ChargedOn, ChargedBack, ChargedInto, ReturnOver, ExitOver, ClosingOver, StableIsLeast, TurnWithinIteration, ChargeWithinTurns, ChargeWithinWorst, ReturnWithinWorst, LeastWithinEdges, EndWithin, ExitTakesCharged, ExitTakesLeastBehind, ExitTakesLeastBehindReturn, RunTakesLeastBehind};
+ghost use Rattle.least_laws.specs.Met.{LeastHypothesesAreMet};
+ghost use Rattle.least_laws.specs.Laws.{ChargedExist, ChargedAgree, ReachedCodeHasPlainReturns, LeastChargedOn, LeastChargedBack, LeastChargedInto, ReturnOver, ExitOver, LeastClosingOver, StableIsLeast, TurnWithinIteration, ChargeWithinTurns, ChargeWithinWorst, ReturnWithinWorst, LeastWithinEdges, EndWithin, ExitTakesCharged, ExitTakesLeastBehind, ExitTakesLeastBehindReturn, RunTakesLeastBehind};
 
 /// An accepted program has one record of least cycles with charged loops, under any weights.
 pub fn the_charged_are_determined()
@@ -18,16 +18,16 @@ pub fn reached_code_has_plain_returns()
 /// What an edge is charged: the turns that the loop which it enters from outside has to take before it is left, each at the least
 /// cost of one.
 pub fn edges_are_charged()
-    ensures on { ChargedOn }
-    ensures back { ChargedBack }
-    ensures into { ChargedInto }
+    ensures on { LeastChargedOn }
+    ensures back { LeastChargedBack }
+    ensures into { LeastChargedInto }
 {}
 
 /// The least cycles to a return, to an exit and to the end of a turn, from the edges of one node and the numbers behind them.
 pub fn least_over_edges()
     ensures to_return { ReturnOver }
     ensures to_exit { ExitOver }
-    ensures closing { ClosingOver }
+    ensures closing { LeastClosingOver }
 {}
 
 /// Numbers that runs have and that no edge improves are the least: what a pass over the edges, or a list of those that may still
@@ -63,5 +63,5 @@ pub fn exits_take_the_charged()
 
 /// The hypotheses of these laws are met together: by a branch to itself that turns twice, and then leads to an exit.
 pub fn hypotheses_are_met()
-    ensures { HypothesesAreMet }
+    ensures { LeastHypothesesAreMet }
 {}

@@ -8,10 +8,10 @@ use Rattle.std.proofs.lemmas.List.Sums.{sum_by-cons}
 use Rattle.scale_base.specs.declared.stepping.Stepped.{Stepped}
 use Rattle.power_model.specs.declared.power.Level.{Level}
 use Rattle.power_model.specs.Levels.{level, AreRanked}
-use Rattle.power_model.specs.Numbers.{PowerModel, Numbers}
+use Rattle.power_model.specs.Numbers.{PowerModel, RunPrice}
 use Rattle.power_model.specs.Pairs.{pair_at}
 use Rattle.power_model.specs.Price.{level_after, metered, price, unstarted, switch_energy, held_energy}
-use Rattle.stub_runs.specs.Cycles.{cycles}
+use Rattle.stub_runs.specs.Cycles.{stepped_cycles}
 use Rattle.power_model.specs.Switches.{energy, costs_of, NeverRises, Switch, switches_from, saved, fee, AllPay}
 
 -- ---- the order of levels
@@ -42,13 +42,13 @@ energy_le levels l i ranked le h =
 
 -- ---- sums
 
-pub cycles_from : (power : PowerModel) (n : Numbers) (xs : List Stepped) → (fold (metered power) n xs).cycles ≡ n.cycles + cycles (costs_of power) xs
+pub cycles_from : (power : PowerModel) (n : RunPrice) (xs : List Stepped) → (fold (metered power) n xs).cycles ≡ n.cycles + stepped_cycles (costs_of power) xs
 cycles_from power n [] = omega arith
 cycles_from power n (x ∷ xs) =
     let rest = cycles_from power (metered power n x) xs in
     omega (arith, rest, sum_by-cons (λ y. costs_of power y.class) x xs)
 
-start_from : (power : PowerModel) (n : Numbers) (xs : List Stepped) → (fold (metered power) n xs).start ≡ n.start
+start_from : (power : PowerModel) (n : RunPrice) (xs : List Stepped) → (fold (metered power) n xs).start ≡ n.start
 start_from power n [] = refl
 start_from power n (x ∷ xs) = start_from power (metered power n x) xs
 
@@ -56,36 +56,36 @@ spread : (c x y : ℕ) → c * (x + y) ≡ c * x + c * y
 spread c x y = grind arith
 
 -- one step: the cycles behind it at the level before are those at the level after, and what is saved
-step_sum : (power : PowerModel) (n : Numbers) (x : Stepped) (xs : List Stepped) (final : ℕ) → AreRanked power.levels → n.level < length power.levels → level_after n.level x ≤ n.level
+step_sum : (power : PowerModel) (n : RunPrice) (x : Stepped) (xs : List Stepped) (final : ℕ) → AreRanked power.levels → n.level < length power.levels → level_after n.level x ≤ n.level
     → final + sum_by (saved power) (switches_from power (level_after n.level x) xs)
-    ≡ (metered power n x).energy + cycles (costs_of power) xs * energy power (level_after n.level x) + sum_by (fee power) (switches_from power (level_after n.level x) xs)
+    ≡ (metered power n x).energy + stepped_cycles (costs_of power) xs * energy power (level_after n.level x) + sum_by (fee power) (switches_from power (level_after n.level x) xs)
     → (b : Bool) → (n.level == level_after n.level x) ≡ b
-    → final + sum_by (saved power) (cond b (switches_from power (level_after n.level x) xs) (record { from = n.level; to = level_after n.level x; cycles = cycles (costs_of power) xs } ∷ switches_from power (level_after n.level x) xs))
-    ≡ n.energy + (costs_of power x.class + cycles (costs_of power) xs) * energy power n.level
-    + sum_by (fee power) (cond b (switches_from power (level_after n.level x) xs) (record { from = n.level; to = level_after n.level x; cycles = cycles (costs_of power) xs } ∷ switches_from power (level_after n.level x) xs))
+    → final + sum_by (saved power) (cond b (switches_from power (level_after n.level x) xs) (record { from = n.level; to = level_after n.level x; cycles = stepped_cycles (costs_of power) xs } ∷ switches_from power (level_after n.level x) xs))
+    ≡ n.energy + (costs_of power x.class + stepped_cycles (costs_of power) xs) * energy power n.level
+    + sum_by (fee power) (cond b (switches_from power (level_after n.level x) xs) (record { from = n.level; to = level_after n.level x; cycles = stepped_cycles (costs_of power) xs } ∷ switches_from power (level_after n.level x) xs))
 step_sum power n x xs final ranked low falls ih true is =
     let none : switch_energy power n.level (level_after n.level x) ≡ 0 = ap (λ (b : Bool). if b then 0 else pair_at power.switch_energy n.level (level_after n.level x)) is in
     let same : n.level ≡ level_after n.level x = eqb-true n.level (level_after n.level x) is in
-    let rate : cycles (costs_of power) xs * energy power n.level ≡ cycles (costs_of power) xs * energy power (level_after n.level x) = ap (λ i. cycles (costs_of power) xs * energy power i) same in
-    let both = add-mul (costs_of power x.class) (cycles (costs_of power) xs) (energy power n.level) in
+    let rate : stepped_cycles (costs_of power) xs * energy power n.level ≡ stepped_cycles (costs_of power) xs * energy power (level_after n.level x) = ap (λ i. stepped_cycles (costs_of power) xs * energy power i) same in
+    let both = add-mul (costs_of power x.class) (stepped_cycles (costs_of power) xs) (energy power n.level) in
     omega (arith, ih, none, rate, both)
 step_sum power n x xs final ranked low falls ih false is =
     let lower : energy power (level_after n.level x) ≤ energy power n.level = energy_le power.levels (level_after n.level x) n.level ranked falls low in
     let split : energy power n.level ≡ energy power (level_after n.level x) + (energy power n.level - energy power (level_after n.level x)) = omega (arith, lower) in
-    let rate : cycles (costs_of power) xs * energy power n.level ≡ cycles (costs_of power) xs * energy power (level_after n.level x) + cycles (costs_of power) xs * (energy power n.level - energy power (level_after n.level x)) =
-    ap (λ i. cycles (costs_of power) xs * i) split ∙ spread (cycles (costs_of power) xs) (energy power (level_after n.level x)) (energy power n.level - energy power (level_after n.level x)) in
-    let both = add-mul (costs_of power x.class) (cycles (costs_of power) xs) (energy power n.level) in
-    let one : Switch = record { from = n.level; to = level_after n.level x; cycles = cycles (costs_of power) xs } in
+    let rate : stepped_cycles (costs_of power) xs * energy power n.level ≡ stepped_cycles (costs_of power) xs * energy power (level_after n.level x) + stepped_cycles (costs_of power) xs * (energy power n.level - energy power (level_after n.level x)) =
+    ap (λ i. stepped_cycles (costs_of power) xs * i) split ∙ spread (stepped_cycles (costs_of power) xs) (energy power (level_after n.level x)) (energy power n.level - energy power (level_after n.level x)) in
+    let both = add-mul (costs_of power x.class) (stepped_cycles (costs_of power) xs) (energy power n.level) in
+    let one : Switch = record { from = n.level; to = level_after n.level x; cycles = stepped_cycles (costs_of power) xs } in
     let rest = switches_from power (level_after n.level x) xs in
     omega (arith, ih, rate, both, sum_by-cons (saved power) one rest, sum_by-cons (fee power) one rest)
 
-sum_from : (power : PowerModel) (n : Numbers) (xs : List Stepped) → AreRanked power.levels → n.level < length power.levels → NeverRises n.level xs
-    → (fold (metered power) n xs).energy + sum_by (saved power) (switches_from power n.level xs) ≡ n.energy + cycles (costs_of power) xs * energy power n.level + sum_by (fee power) (switches_from power n.level xs)
+sum_from : (power : PowerModel) (n : RunPrice) (xs : List Stepped) → AreRanked power.levels → n.level < length power.levels → NeverRises n.level xs
+    → (fold (metered power) n xs).energy + sum_by (saved power) (switches_from power n.level xs) ≡ n.energy + stepped_cycles (costs_of power) xs * energy power n.level + sum_by (fee power) (switches_from power n.level xs)
 sum_from power n [] ranked low falls = omega arith
 sum_from power n (x ∷ xs) ranked low falls =
     let ih = sum_from power (metered power n x) xs ranked (below (level_after n.level x) n.level (length power.levels) falls.0 low) falls.1 in
     let one = step_sum power n x xs (fold (metered power) (metered power n x) xs).energy ranked low falls.0 ih (n.level == level_after n.level x) refl in
-    let sum : cycles (costs_of power) (x ∷ xs) * energy power n.level ≡ (costs_of power x.class + cycles (costs_of power) xs) * energy power n.level = ap (λ c. c * energy power n.level) (sum_by-cons (λ y. costs_of power y.class) x xs) in
+    let sum : stepped_cycles (costs_of power) (x ∷ xs) * energy power n.level ≡ (costs_of power x.class + stepped_cycles (costs_of power) xs) * energy power n.level = ap (λ c. c * energy power n.level) (sum_by-cons (λ y. costs_of power y.class) x xs) in
     omega (arith, one, sum)
   where
     below : (a b c : ℕ) → a ≤ b → b < c → a < c
@@ -95,9 +95,9 @@ pub energy_sum : (power : PowerModel) (start : ℕ) (xs : List Stepped) → AreR
     → held_energy power (price power start xs) + sum_by (fee power) (switches_from power start xs) ≡ (price power start xs).energy + sum_by (saved power) (switches_from power start xs)
 energy_sum power start xs ranked low falls =
     let sum = sum_from power (unstarted start) xs ranked low falls in
-    let all : (price power start xs).cycles ≡ cycles (costs_of power) xs = cycles_from power (unstarted start) xs ∙ omega arith in
+    let all : (price power start xs).cycles ≡ stepped_cycles (costs_of power) xs = cycles_from power (unstarted start) xs ∙ omega arith in
     let at : (price power start xs).start ≡ start = start_from power (unstarted start) xs in
-    let held : held_energy power (price power start xs) ≡ cycles (costs_of power) xs * energy power start = ap (λ c. c * energy power (price power start xs).start) all ∙ ap (λ i. cycles (costs_of power) xs * energy power i) at in
+    let held : held_energy power (price power start xs) ≡ stepped_cycles (costs_of power) xs * energy power start = ap (λ c. c * energy power (price power start xs).start) all ∙ ap (λ i. stepped_cycles (costs_of power) xs * energy power i) at in
     omega (arith, sum, held)
 
 fees_le : (power : PowerModel) (xs : List Switch) → AllPay power xs → sum_by (fee power) xs ≤ sum_by (saved power) xs

@@ -3,7 +3,7 @@ use Rattle.std.specs.Prelude.{◌≡◌, ℕ, ◌+◌, ◌<◌, ◌≤◌, List,
 use Rattle.std.specs.List.{sum_by}
 use Rattle.scale_base.specs.declared.stepping.Stepped.{Stepped}
 use Rattle.power_model.specs.Levels.{AreRanked}
-use Rattle.power_model.specs.Numbers.{PowerModel, Numbers}
+use Rattle.power_model.specs.Numbers.{PowerModel, RunPrice}
 use Rattle.power_model.specs.Price.{price, metered, held_energy}
 use Rattle.stub_writer.specs.Stubs.{Site}
 use Rattle.stored_runs.specs.Marks.{Shadow}
@@ -13,7 +13,7 @@ use Rattle.leg_prices.specs.Paid.{IsPaidLeg}
 
 -- The steps of a leg cost what its edge and its marks say.
 abbrev pub LegsArePaid : Type 0
-LegsArePaid = (power : PowerModel) (sites : List Site) (h : Shadow) (l : Leg) (n : Numbers) → IsLeg sites h l → n.level ≡ h.level → IsPaidLeg power sites h l n (fold (metered power) n l.steps)
+LegsArePaid = (power : PowerModel) (sites : List Site) (h : Shadow) (l : Leg) (n : RunPrice) → IsLeg sites h l → n.level ≡ h.level → IsPaidLeg power sites h l n (fold (metered power) n l.steps)
 
 -- Held energy less energy is the sum of what the switches save, less their fees.
 abbrev pub EnergyIsSaved : Type 0

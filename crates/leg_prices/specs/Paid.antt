@@ -1,6 +1,6 @@
 -- What a leg of a stored run costs.
 use Rattle.std.specs.Prelude.{◌≡◌, ℕ, ◌+◌, List, Option, Some, None}
-use Rattle.power_model.specs.Numbers.{PowerModel, Numbers}
+use Rattle.power_model.specs.Numbers.{PowerModel, RunPrice}
 use Rattle.power_model.specs.Price.{switch_time, time_at}
 use Rattle.power_model.specs.Switches.{costs_of}
 use Rattle.stub_writer.specs.Stubs.{Site}
@@ -14,7 +14,7 @@ tail_if (Some level) tail = tail
 
 -- What a leg does to a meter: its cycles are the stored weight of its edge, in two parts. The first is priced at the level before, the second, the tail,
 -- at the level behind, which is the one that the marks lead to; and a change of level adds its own time.
-pub record IsPaidLeg (power : PowerModel) (sites : List Site) (h : Shadow) (l : Leg) (before after : Numbers) : Type 0 where
+pub record IsPaidLeg (power : PowerModel) (sites : List Site) (h : Shadow) (l : Leg) (before after : RunPrice) : Type 0 where
   pub head : ℕ
   pub tail : ℕ
   pub parts : head + tail ≡ stored_cycles (costs_of power) sites l.step

@@ -5,7 +5,7 @@ use Rattle.std.proofs.lemmas.Bool.{cases_eq, both_ways}
 use Rattle.std.proofs.lemmas.Option.{slice_get_within}
 use Rattle.loop_bodies.specs.Bodies.{HasEdge, LeadsWithin, IsIn}
 use Rattle.loop_bodies.specs.Bodies.LeadsWithin.{at_once, onward}
-use Rattle.loop_bodies.specs.Search.{flag, AreUnmarked, count_true, AreMarked, Grows, IsSettled}
+use Rattle.loop_bodies.specs.Search.{is_marked_at, AreUnmarked, count_marked, IsMarkedBody, BodyGrows, IsSettled}
 
 -- ---- one node behind a list
 pub push_front : (xs : List ℕ) (x p : ℕ) → p < length xs → slice_get (xs ++ x ∷ []) p ≡ slice_get xs p
@@ -24,54 +24,54 @@ push_cases (y ∷ ys) x zero v h = inl h
 push_cases (y ∷ ys) x (suc p) v h = ⊎_elim (λ old. inl old) (λ new. let at = new.0 in inr ((let r : suc p ≡ length (y ∷ ys) = omega arith in r), new.1)) (push_cases ys x p v h)
 
 -- ---- marks
-pub flag_within : (found : List Bool) (v : ℕ) → flag found v ≡ true → v < length found
+pub flag_within : (found : List Bool) (v : ℕ) → is_marked_at found v ≡ true → v < length found
 flag_within [] v h = let bad : ⊥ = cc in absurd bad
 flag_within (b ∷ bs) zero h = omega arith
 flag_within (b ∷ bs) (suc v) h = let ih = flag_within bs v h in omega arith
 
-flag_here : (found : List Bool) (j : ℕ) (b : Bool) → j < length found → flag (set found j b) j ≡ b
+flag_here : (found : List Bool) (j : ℕ) (b : Bool) → j < length found → is_marked_at (set found j b) j ≡ b
 flag_here found j b lt = get_or-set_same found j b false lt
 
-flag_other : (found : List Bool) (j v : ℕ) (b : Bool) → v ≢ j → flag (set found j b) v ≡ flag found v
+flag_other : (found : List Bool) (j v : ℕ) (b : Bool) → v ≢ j → is_marked_at (set found j b) v ≡ is_marked_at found v
 flag_other found j v b ne = get_or-set_other found j v b false ne
 
-flag_kept : (found : List Bool) (j v : ℕ) → j < length found → flag found v ≡ true → flag (set found j true) v ≡ true
-flag_kept found j v lt h = ⊎_elim (λ (e : v ≡ j). ap (flag (set found j true)) e ∙ flag_here found j true lt) (λ ne. flag_other found j v true ne ∙ h) (cases_eq v j)
+flag_kept : (found : List Bool) (j v : ℕ) → j < length found → is_marked_at found v ≡ true → is_marked_at (set found j true) v ≡ true
+flag_kept found j v lt h = ⊎_elim (λ (e : v ≡ j). ap (is_marked_at (set found j true)) e ∙ flag_here found j true lt) (λ ne. flag_other found j v true ne ∙ h) (cases_eq v j)
 
-flag_cases : (found : List Bool) (j v : ℕ) → flag (set found j true) v ≡ true → (flag found v ≡ true) ⊎ (v ≡ j)
+flag_cases : (found : List Bool) (j v : ℕ) → is_marked_at (set found j true) v ≡ true → (is_marked_at found v ≡ true) ⊎ (v ≡ j)
 flag_cases found j v h = ⊎_elim (λ e. inr e) (λ ne. inl (sym (flag_other found j v true ne) ∙ h)) (cases_eq v j)
 
-count_add : (found : List Bool) (j : ℕ) → j < length found → flag found j ≡ false → count_true (set found j true) ≡ count_true found + 1
+count_add : (found : List Bool) (j : ℕ) → j < length found → is_marked_at found j ≡ false → count_marked (set found j true) ≡ count_marked found + 1
 count_add [] j lt none = let bad : ⊥ = omega arith in absurd bad
 count_add (true ∷ bs) zero lt none = let bad : ⊥ = cc in absurd bad
 count_add (false ∷ bs) zero lt none = omega arith
 count_add (b ∷ bs) (suc j) lt none = let ih = count_add bs j (omega arith) none in ap (λ n. (if b then 1 else 0) + n) ih ∙ omega arith
 
-count_le : (found : List Bool) → count_true found ≤ length found
+count_le : (found : List Bool) → count_marked found ≤ length found
 count_le [] = omega arith
 count_le (true ∷ bs) = let ih = count_le bs in omega arith
 count_le (false ∷ bs) = let ih = count_le bs in omega arith
 
-pub body_small : (found : List Bool) (body : List ℕ) → AreMarked found body → length body ≤ length found
+pub body_small : (found : List Bool) (body : List ℕ) → IsMarkedBody found body → length body ≤ length found
 body_small found body marked = let a = marked.counted in let b = count_le found in omega arith
 
-module _ (found : List Bool) (body : List ℕ) (node : ℕ) (was : AreMarked found body) (lt : node < length found) where
-  pub grows_add : Grows found body (set found node true) (body ++ node ∷ [])
+module _ (found : List Bool) (body : List ℕ) (node : ℕ) (was : IsMarkedBody found body) (lt : node < length found) where
+  pub grows_add : BodyGrows found body (set found node true) (body ++ node ∷ [])
   grows_add = record {
     kept = λ v h. flag_kept found node v lt h;
     longer = (let n = length-append body (node ∷ []) in omega arith);
     front = λ p pl. push_front body node p pl;
   }
 
-  pub marked_add : flag found node ≡ false → AreMarked (set found node true) (body ++ node ∷ [])
+  pub marked_add : is_marked_at found node ≡ false → IsMarkedBody (set found node true) (body ++ node ∷ [])
   marked_add none = record {
     listed = λ v h. ⊎_elim
-        (λ (f : flag found v ≡ true). let w = was.listed v f in (w.0, push_front body node w.0 (slice_get_within body w.0 v w.1) ∙ w.1))
+        (λ (f : is_marked_at found v ≡ true). let w = was.listed v f in (w.0, push_front body node w.0 (slice_get_within body w.0 v w.1) ∙ w.1))
         (λ (e : v ≡ node). (length body, push_last body node ∙ ap Some (sym e)))
         (flag_cases found node v h);
     flagged = λ p v h. ⊎_elim
         (λ (old : slice_get body p ≡ Some v). flag_kept found node v lt (was.flagged p v old))
-        (λ (new : (p ≡ length body) × (v ≡ node)). ap (flag (set found node true)) new.1 ∙ flag_here found node true lt)
+        (λ (new : (p ≡ length body) × (v ≡ node)). ap (is_marked_at (set found node true)) new.1 ∙ flag_here found node true lt)
         (push_cases body node p v h);
     once = λ i j v hi hj. ⊎_elim
         (λ (old : slice_get body i ≡ Some v). ⊎_elim
@@ -87,12 +87,12 @@ module _ (found : List Bool) (body : List ℕ) (node : ℕ) (was : AreMarked fou
   }
     where
       apart : (i v : ℕ) → slice_get body i ≡ Some v → v ≡ node → ⊥
-      apart i v old e = both_ways (flag found v) (ap (flag found) e ∙ none) (was.flagged i v old)
+      apart i v old e = both_ways (is_marked_at found v) (ap (is_marked_at found) e ∙ none) (was.flagged i v old)
 
-pub grows_same : (found : List Bool) (body : List ℕ) → Grows found body found body
+pub grows_same : (found : List Bool) (body : List ℕ) → BodyGrows found body found body
 grows_same found body = record { kept = λ v h. h; longer = omega arith; front = λ p lt. refl }
 
-pub grows_then : (f g h : List Bool) (b c d : List ℕ) → Grows f b g c → Grows g c h d → Grows f b h d
+pub grows_then : (f g h : List Bool) (b c d : List ℕ) → BodyGrows f b g c → BodyGrows g c h d → BodyGrows f b h d
 grows_then f g h b c d one two = record {
   kept = λ v k. two.kept v (one.kept v k);
   longer = (let x = one.longer in let y = two.longer in omega arith);
@@ -100,14 +100,14 @@ grows_then f g h b c d one two = record {
 }
 
 -- ---- no marks
-none_count : (found : List Bool) → AreUnmarked found → count_true found ≡ 0
+none_count : (found : List Bool) → AreUnmarked found → count_marked found ≡ 0
 none_count [] none = refl
 none_count (true ∷ bs) none = let f = none 0 in let bad : ⊥ = cc in absurd bad
 none_count (false ∷ bs) none = let ih = none_count bs (λ v. none (suc v)) in omega arith
 
-pub marked_none : (found : List Bool) (body : List ℕ) → AreUnmarked found → body ≡ [] → AreMarked found body
+pub marked_none : (found : List Bool) (body : List ℕ) → AreUnmarked found → body ≡ [] → IsMarkedBody found body
 marked_none found body none empty = record {
-  listed = λ v h. absurd (both_ways (flag found v) (none v) h);
+  listed = λ v h. absurd (both_ways (is_marked_at found v) (none v) h);
   flagged = λ p v h. absurd (no_node p v h);
   once = λ i j v hi hj. absurd (no_node i v hi);
   counted = none_count found none ∙ sym (ap length empty);
@@ -118,14 +118,14 @@ marked_none found body none empty = record {
 
 -- the marks that are left are those of the body's nodes from a place on
 abbrev pub AreLeft : List Bool → List ℕ → ℕ → Type 0
-AreLeft found body index = (v : ℕ) → flag found v ≡ true → (p : ℕ) × (index ≤ p) × (slice_get body p ≡ Some v)
+AreLeft found body index = (v : ℕ) → is_marked_at found v ≡ true → (p : ℕ) × (index ≤ p) × (slice_get body p ≡ Some v)
 
-pub left_start : (found : List Bool) (body : List ℕ) → AreMarked found body → AreLeft found body 0
+pub left_start : (found : List Bool) (body : List ℕ) → IsMarkedBody found body → AreLeft found body 0
 left_start found body marked v h = let w = marked.listed v h in (w.0, (let r : 0 ≤ w.0 = omega arith in r), w.1)
 
 pub left_next : (found : List Bool) (body : List ℕ) (index node : ℕ) → node < length found → slice_get body index ≡ Some node → AreLeft found body index → AreLeft (set found node false) body (index + 1)
 left_next found body index node lt at left v h = ⊎_elim
-    (λ (e : v ≡ node). absurd (both_ways (flag (set found node false) v) (ap (flag (set found node false)) e ∙ flag_here found node false lt) h))
+    (λ (e : v ≡ node). absurd (both_ways (is_marked_at (set found node false) v) (ap (is_marked_at (set found node false)) e ∙ flag_here found node false lt) h))
     (λ (ne : v ≡ node → ⊥).
     let d : v ≢ node = ne in
     let w = left v (sym (flag_other found node v false d) ∙ h) in
@@ -136,9 +136,9 @@ left_next found body index node lt at left v h = ⊎_elim
     (cases_eq v node)
 
 pub left_end : (found : List Bool) (body : List ℕ) (index : ℕ) → length body ≤ index → AreLeft found body index → AreUnmarked found
-left_end found body index end left v = go (flag found v) refl
+left_end found body index end left v = go (is_marked_at found v) refl
   where
-    go : (b : Bool) → flag found v ≡ b → flag found v ≡ false
+    go : (b : Bool) → is_marked_at found v ≡ b → is_marked_at found v ≡ false
     go false e = e
     go true e = let w = left v e in let a = w.1 in let lt = slice_get_within body w.0 v w.2 in absurd (let bad : ⊥ = omega arith in bad)
 
@@ -152,10 +152,10 @@ module _ (sources : List ℕ) (targets : List (Option ℕ)) (extent : ℕ → Bo
   abbrev pub AreSettled : List Bool → List ℕ → ℕ → Type 0
   AreSettled found body done = (p u : ℕ) → p < done → slice_get body p ≡ Some u → IsSettled sources targets extent found u
 
-  pub settled_grows : (f g : List Bool) (b c : List ℕ) (u : ℕ) → Grows f b g c → IsSettled sources targets extent f u → IsSettled sources targets extent g u
+  pub settled_grows : (f g : List Bool) (b c : List ℕ) (u : ℕ) → BodyGrows f b g c → IsSettled sources targets extent f u → IsSettled sources targets extent g u
   settled_grows f g b c u grows settled v edge inside = grows.kept v (settled v edge inside)
 
-  pub settled_next : (f g : List Bool) (b c : List ℕ) (done node : ℕ) → Grows f b g c → done < length b → slice_get b done ≡ Some node → IsSettled sources targets extent g node → AreSettled f b done → AreSettled g c (done + 1)
+  pub settled_next : (f g : List Bool) (b c : List ℕ) (done node : ℕ) → BodyGrows f b g c → done < length b → slice_get b done ≡ Some node → IsSettled sources targets extent g node → AreSettled f b done → AreSettled g c (done + 1)
   settled_next f g b c done node grows lt at this settled p u pl h = ⊎_elim
       (λ (e : p ≡ done).
       let q : Some node ≡ Some u = sym at ∙ (sym (grows.front done lt) ∙ (ap (slice_get c) (sym e) ∙ h)) in
@@ -175,11 +175,11 @@ module _ (sources : List ℕ) (targets : List (Option ℕ)) (extent : ℕ → Bo
       (λ (new : HasEdge sources targets v header × (extent v ≡ true)). at_once new.0 new.1) (only p v h)
 
   -- where all are settled, each node that leads to the header is marked
-  complete : (found : List Bool) → ((u : ℕ) → flag found u ≡ true → IsSettled sources targets extent found u) → IsSettled sources targets extent found header → (v : ℕ) → LeadsWithin sources targets extent header v → flag found v ≡ true
+  complete : (found : List Bool) → ((u : ℕ) → is_marked_at found u ≡ true → IsSettled sources targets extent found u) → IsSettled sources targets extent found header → (v : ℕ) → LeadsWithin sources targets extent header v → is_marked_at found v ≡ true
   complete found settled start v (at_once edge inside) = start v edge inside
   complete found settled start v (onward u edge inside leads) = settled u (complete found settled start u leads) v edge inside
 
-  pub nodes_exactly : (found : List Bool) (body : List ℕ) (done : ℕ) → length body ≤ done → AreMarked found body → AreSound body → IsSettled sources targets extent found header → AreSettled found body done → (v : ℕ) → IsIn body v ↔ LeadsWithin sources targets extent header v
+  pub nodes_exactly : (found : List Bool) (body : List ℕ) (done : ℕ) → length body ≤ done → IsMarkedBody found body → AreSound body → IsSettled sources targets extent found header → AreSettled found body done → (v : ℕ) → IsIn body v ↔ LeadsWithin sources targets extent header v
   nodes_exactly found body done end marked sound start settled v = (
     λ w. sound w.0 v w.1,
     λ leads. marked.listed v (complete found

@@ -6,7 +6,7 @@ use Rattle.std.proofs.lemmas.Option.{slice_get-get_or, get_or_from_slice_get}
 use Rattle.key_chains.specs.Keys.{HasKey, AreKeys, IsLastBelow}
 use Rattle.key_chains.proofs.Laws.{key_within}
 use Rattle.loop_bodies.specs.Edges.{AreEdges}
-use Rattle.loop_bodies.specs.Search.{flag, IsSettled}
+use Rattle.loop_bodies.specs.Search.{is_marked_at, IsSettled}
 
 -- the two ways to say that a list has a key at a place
 pub get_from_key : (targets : List (Option ℕ)) (e u : ℕ) → HasKey targets e u → slice_get targets e ≡ Some (Some u)
@@ -24,7 +24,7 @@ IsPast next e = (s : ℕ) → next ≡ Some s → s < e
 
 -- the sources within the extent of the edges to a node are marked, as far as the chain was walked
 abbrev pub ArePassed : List ℕ → List (Option ℕ) → (ℕ → Bool) → List Bool → ℕ → Option ℕ → Type 0
-ArePassed sources targets extent found node next = (e v : ℕ) → IsPast next e → HasKey targets e node → slice_get sources e ≡ Some v → extent v ≡ true → flag found v ≡ true
+ArePassed sources targets extent found node next = (e v : ℕ) → IsPast next e → HasKey targets e node → slice_get sources e ≡ Some v → extent v ≡ true → is_marked_at found v ≡ true
 
 abbrev pub place : Option ℕ → ℕ
 place None = 0
@@ -45,15 +45,15 @@ module _ (sources : List ℕ) (targets : List (Option ℕ)) (extent : ℕ → Bo
       let le = w.2 in
       absurd (let bad : ⊥ = omega arith in bad)
 
-  pub passed_next : (found found_then : List Bool) (edge source : ℕ) (next : Option ℕ) → ((v : ℕ) → flag found v ≡ true → flag found_then v ≡ true) →
-      slice_get sources edge ≡ Some source → (extent source ≡ true → flag found_then source ≡ true) → IsLastBelow targets edge node next →
+  pub passed_next : (found found_then : List Bool) (edge source : ℕ) (next : Option ℕ) → ((v : ℕ) → is_marked_at found v ≡ true → is_marked_at found_then v ≡ true) →
+      slice_get sources edge ≡ Some source → (extent source ≡ true → is_marked_at found_then source ≡ true) → IsLastBelow targets edge node next →
       ArePassed sources targets extent found node (Some edge) → ArePassed sources targets extent found_then node next
   passed_next found found_then edge source next kept at_edge visited before passed e v past key at inside = ⊎_elim
       (λ (lt : e < edge). let w = before.greatest e lt key in let a = past w.0 w.1 in let b = w.2 in absurd (let bad : ⊥ = omega arith in bad))
       (λ (ge : edge ≤ e). ⊎_elim
       (λ (here : e ≡ edge).
       let same : source ≡ v = some_same source v (slice_get sources edge) at_edge (ap (slice_get sources) (sym here) ∙ at) in
-      subst (λ x. flag found_then x ≡ true) same (visited (ap extent same ∙ inside)))
+      subst (λ x. is_marked_at found_then x ≡ true) same (visited (ap extent same ∙ inside)))
       (λ (ne : e ≡ edge → ⊥). let d : e ≢ edge = ne in kept v (passed e v (λ s is. let same : edge ≡ s = cc in (let q : s < e = omega arith in q)) key at inside))
       (cases_eq e edge))
       (cases_lt e edge)

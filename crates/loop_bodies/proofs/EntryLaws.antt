@@ -5,8 +5,8 @@ use Rattle.std.proofs.lemmas.Bool.{cases_eq, cases_lt, cases_Bool, both_ways}
 use Rattle.std.proofs.lemmas.Option.{slice_get_within}
 use Rattle.key_chains.specs.Keys.{HasKey, IsLastBelow}
 use Rattle.key_chains.proofs.Laws.{key_within}
-use Rattle.loop_bodies.specs.Bodies.{HasEdge, IsIn, AreNodes, IsSideEdge, IsUpTo, IsLeastPair, IsLesserPair}
-use Rattle.loop_bodies.specs.Search.{flag, AreUnmarked, AreMarked, IsLeastUnmarked}
+use Rattle.loop_bodies.specs.Bodies.{HasEdge, IsIn, AreNodes, IsSideEdge, IsPairUpTo, IsLeastPair, IsLesserPair}
+use Rattle.loop_bodies.specs.Search.{is_marked_at, AreUnmarked, IsMarkedBody, IsLeastUnmarked}
 use Rattle.loop_bodies.proofs.EdgeLaws.{IsPast, get_from_key, key_from_get}
 use Rattle.loop_bodies.proofs.BodyLaws.{marked_add, marked_none}
 
@@ -45,10 +45,10 @@ module _ (sources : List ℕ) (targets : List (Option ℕ)) (node : ℕ) where
 -- ---- the least unmarked node
 -- the node isn't below the least one, if it is unmarked
 abbrev pub IsOver : List Bool → Option ℕ → ℕ → Type 0
-IsOver found least v = flag found v ≡ false → (w : ℕ) × (least ≡ Some w) × (w ≤ v)
+IsOver found least v = is_marked_at found v ≡ false → (w : ℕ) × (least ≡ Some w) × (w ≤ v)
 
 abbrev pub IsUnmarkedSource : List ℕ → List (Option ℕ) → List Bool → ℕ → Option ℕ → Type 0
-IsUnmarkedSource sources targets found node least = (w : ℕ) → least ≡ Some w → HasEdge sources targets w node × (flag found w ≡ false)
+IsUnmarkedSource sources targets found node least = (w : ℕ) → least ≡ Some w → HasEdge sources targets w node × (is_marked_at found w ≡ false)
 
 -- one source more
 pub record IsTurn (sources : List ℕ) (targets : List (Option ℕ)) (found : List Bool) (node source : ℕ) (least then : Option ℕ) : Type 0 where
@@ -57,27 +57,27 @@ pub record IsTurn (sources : List ℕ) (targets : List (Option ℕ)) (found : Li
   pub here : IsOver found then source
 
 module _ (sources : List ℕ) (targets : List (Option ℕ)) (found : List Bool) (node source : ℕ) (least then : Option ℕ) where
-  pub turn_taken : (r : ℕ) → then ≡ Some r → flag found source ≡ false → HasEdge sources targets source node →
+  pub turn_taken : (r : ℕ) → then ≡ Some r → is_marked_at found source ≡ false → HasEdge sources targets source node →
       (r ≤ source) × ((k : ℕ) → least ≡ Some k → r ≤ k) × ((r ≡ source) ⊎ (least ≡ Some r)) →
       IsUnmarkedSource sources targets found node least → IsTurn sources targets found node source least then
   turn_taken r e free edge lesser was = record {
     unmarked = λ w is. let same : r ≡ w = some_same r w then e is in
-        subst (λ x. HasEdge sources targets x node × (flag found x ≡ false)) same
-        (⊎_elim (λ (s : r ≡ source). subst (λ x. HasEdge sources targets x node × (flag found x ≡ false)) (sym s) (edge, free)) (λ (old : least ≡ Some r). was r old) lesser.2);
+        subst (λ x. HasEdge sources targets x node × (is_marked_at found x ≡ false)) same
+        (⊎_elim (λ (s : r ≡ source). subst (λ x. HasEdge sources targets x node × (is_marked_at found x ≡ false)) (sym s) (edge, free)) (λ (old : least ≡ Some r). was r old) lesser.2);
     onward = λ v over f. let w = over f in let le = lesser.1 w.0 w.1 in let more = w.2 in (r, e, (let q : r ≤ v = omega arith in q));
     here = λ f. (r, e, lesser.0);
   }
 
-  pub turn_passed : then ≡ least → flag found source ≡ true → IsUnmarkedSource sources targets found node least → IsTurn sources targets found node source least then
+  pub turn_passed : then ≡ least → is_marked_at found source ≡ true → IsUnmarkedSource sources targets found node least → IsTurn sources targets found node source least then
   turn_passed e marked was = record {
     unmarked = λ w is. was w (sym e ∙ is);
     onward = λ v over f. let w = over f in (w.0, e ∙ w.1, w.2);
-    here = λ f. absurd (both_ways (flag found source) f marked);
+    here = λ f. absurd (both_ways (is_marked_at found source) f marked);
   }
 
 pub least_end : (sources : List ℕ) (targets : List (Option ℕ)) (found : List Bool) (node : ℕ) (least : Option ℕ) →
     IsUnmarkedSource sources targets found node least → ((v : ℕ) → HasEdge sources targets v node → IsOver found least v) → IsLeastUnmarked sources targets found node least
-least_end sources targets found node None is over = λ v edge. ⊎_elim (λ t. t) (λ f. let w = over v edge f in let bad : ⊥ = (let e = w.1 in cc) in absurd bad) (cases_Bool (flag found v))
+least_end sources targets found node None is over = λ v edge. ⊎_elim (λ t. t) (λ f. let w = over v edge f in let bad : ⊥ = (let e = w.1 in cc) in absurd bad) (cases_Bool (is_marked_at found v))
 least_end sources targets found node (Some w) is over = (
   (is w refl).0,
   (is w refl).1,
@@ -106,19 +106,19 @@ take_end [] (suc n) h = refl
 take_end (x ∷ xs) zero h = let bad : ⊥ = omega arith in absurd bad
 take_end (x ∷ xs) (suc n) h = ap (λ ys. x ∷ ys) (take_end xs n (omega arith))
 
-pub mark_start : (found : List Bool) (body : List ℕ) → AreUnmarked found → AreMarked found (take 0 body)
+pub mark_start : (found : List Bool) (body : List ℕ) → AreUnmarked found → IsMarkedBody found (take 0 body)
 mark_start found body none = marked_none found (take 0 body) none (zero_taken body)
   where
     zero_taken : (xs : List ℕ) → take 0 xs ≡ []
     zero_taken [] = refl
     zero_taken (x ∷ xs) = refl
 
-pub mark_next : (found : List Bool) (body : List ℕ) (n node : ℕ) → AreNodes (length found) body → slice_get body n ≡ Some node → AreMarked found (take n body) → AreMarked (set found node true) (take (n + 1) body)
+pub mark_next : (found : List Bool) (body : List ℕ) (n node : ℕ) → AreNodes (length found) body → slice_get body n ≡ Some node → IsMarkedBody found (take n body) → IsMarkedBody (set found node true) (take (n + 1) body)
 mark_next found body n node are at was =
-    subst (AreMarked (set found node true)) (sym (take_next body n node at))
-    (marked_add found (take n body) node was (are.within n node at) (free (flag found node) refl))
+    subst (IsMarkedBody (set found node true)) (sym (take_next body n node at))
+    (marked_add found (take n body) node was (are.within n node at) (free (is_marked_at found node) refl))
   where
-    free : (b : Bool) → flag found node ≡ b → flag found node ≡ false
+    free : (b : Bool) → is_marked_at found node ≡ b → is_marked_at found node ≡ false
     free false e = e
     free true e =
         let w = was.listed node e in
@@ -127,11 +127,11 @@ mark_next found body n node are at was =
         let same : w.0 ≡ n = are.once w.0 n node t.1 at in
         absurd (let bad : ⊥ = omega arith in bad)
 
-pub mark_end : (found : List Bool) (body : List ℕ) (n : ℕ) → length body ≤ n → AreMarked found (take n body) → AreMarked found body
-mark_end found body n end was = subst (AreMarked found) (take_end body n end) was
+pub mark_end : (found : List Bool) (body : List ℕ) (n : ℕ) → length body ≤ n → IsMarkedBody found (take n body) → IsMarkedBody found body
+mark_end found body n end was = subst (IsMarkedBody found) (take_end body n end) was
 
 -- ---- least pairs
-up_to_trans : (a b c d e f : ℕ) → IsUpTo a b c d → IsUpTo c d e f → IsUpTo a b e f
+up_to_trans : (a b c d e f : ℕ) → IsPairUpTo a b c d → IsPairUpTo c d e f → IsPairUpTo a b e f
 up_to_trans a b c d e f one two = ⊎_elim
     (λ (lt : a < c). inl (⊎_elim (λ (more : c < e). let r : a < e = omega arith in r) (λ (same : (c ≡ e) × (d ≤ f)). let s = same.0 in let r : a < e = omega arith in r) two))
     (λ (here : (a ≡ c) × (b ≤ d)). let s = here.0 in let le = here.1 in ⊎_elim
@@ -146,18 +146,18 @@ least_same S T None to from least = λ a b t. least a b (from a b t)
 least_same S T (Some p) to from least = (to p.0 p.1 least.0, λ a b t. least.1 a b (from a b t))
 
 -- more pairs, of which one is the least
-pub least_more : (S T : ℕ → ℕ → Type 0) (o : Option (ℕ × ℕ)) (pair r : ℕ × ℕ) → ((a b : ℕ) → S a b → T a b) → T pair.0 pair.1 → ((a b : ℕ) → T a b → S a b ⊎ IsUpTo pair.0 pair.1 a b) →
+pub least_more : (S T : ℕ → ℕ → Type 0) (o : Option (ℕ × ℕ)) (pair r : ℕ × ℕ) → ((a b : ℕ) → S a b → T a b) → T pair.0 pair.1 → ((a b : ℕ) → T a b → S a b ⊎ IsPairUpTo pair.0 pair.1 a b) →
     IsLesserPair o pair r → IsLeastPair S o → IsLeastPair T (Some r)
 least_more S T o pair r to here from lesser least = (
   ⊎_elim (λ (e : r ≡ pair). subst (λ q. T q.0 q.1) (sym e) here) (λ (e : o ≡ Some r). to r.0 r.1 (of_least o e least)) lesser.one_of_them,
-  λ a b t. ⊎_elim (λ (s : S a b). under o refl least a b s) (λ (u : IsUpTo pair.0 pair.1 a b). up_to_trans r.0 r.1 pair.0 pair.1 a b lesser.up_to_pair u) (from a b t),
+  λ a b t. ⊎_elim (λ (s : S a b). under o refl least a b s) (λ (u : IsPairUpTo pair.0 pair.1 a b). up_to_trans r.0 r.1 pair.0 pair.1 a b lesser.up_to_pair u) (from a b t),
 )
   where
     of_least : (q : Option (ℕ × ℕ)) → q ≡ Some r → IsLeastPair S q → S r.0 r.1
     of_least None e l = let bad : ⊥ = cc in absurd bad
     of_least (Some p) e l = let same : p ≡ r = cc in subst (λ q. S q.0 q.1) same l.0
 
-    under : (q : Option (ℕ × ℕ)) → o ≡ q → IsLeastPair S q → (a b : ℕ) → S a b → IsUpTo r.0 r.1 a b
+    under : (q : Option (ℕ × ℕ)) → o ≡ q → IsLeastPair S q → (a b : ℕ) → S a b → IsPairUpTo r.0 r.1 a b
     under None e l a b s = absurd (l a b s)
     under (Some p) e l a b s = up_to_trans r.0 r.1 p.0 p.1 a b (lesser.up_to_least p e) (l.1 a b s)
 
@@ -168,7 +168,7 @@ pub record IsSideBelow (sources : List ℕ) (targets : List (Option ℕ)) (found
   pub below : place < n
   pub at : slice_get body place ≡ Some to
   pub aside : to ≢ header
-  pub free : flag found from ≡ false
+  pub free : is_marked_at found from ≡ false
 
 module _ (sources : List ℕ) (targets : List (Option ℕ)) (found : List Bool) (header : ℕ) (body : List ℕ) where
   pub side_start : IsLeastPair (IsSideBelow sources targets found header body 0) None
@@ -192,11 +192,11 @@ module _ (sources : List ℕ) (targets : List (Option ℕ)) (found : List Bool) 
       (λ a b side. ⊎_elim (λ s. s) (λ (new : (b ≡ node) × IsSideBelow sources targets found header body (n + 1) a b). absurd (side.aside (new.0 ∙ e))) (split n node a b at side)) least
 
   -- no edge leads to the node from an unmarked one
-  pub side_none : (n node : ℕ) (o : Option (ℕ × ℕ)) → slice_get body n ≡ Some node → ((v : ℕ) → HasEdge sources targets v node → flag found v ≡ true) →
+  pub side_none : (n node : ℕ) (o : Option (ℕ × ℕ)) → slice_get body n ≡ Some node → ((v : ℕ) → HasEdge sources targets v node → is_marked_at found v ≡ true) →
       IsLeastPair (IsSideBelow sources targets found header body n) o → IsLeastPair (IsSideBelow sources targets found header body (n + 1)) o
   side_none n node o at none least = least_same (IsSideBelow sources targets found header body n) (IsSideBelow sources targets found header body (n + 1)) o (longer n)
       (λ a b side. ⊎_elim (λ s. s)
-      (λ (new : (b ≡ node) × IsSideBelow sources targets found header body (n + 1) a b). absurd (both_ways (flag found a) side.free (none a (subst (HasEdge sources targets a) new.0 side.edge))))
+      (λ (new : (b ≡ node) × IsSideBelow sources targets found header body (n + 1) a b). absurd (both_ways (is_marked_at found a) side.free (none a (subst (HasEdge sources targets a) new.0 side.edge))))
       (split n node a b at side)) least
 
   -- the least edge to the node from an unmarked one
@@ -211,15 +211,15 @@ module _ (sources : List ℕ) (targets : List (Option ℕ)) (found : List Bool) 
       inr (⊎_elim (λ (lt : from < a). inl lt) (λ (ge : a ≤ from). inr ((let q : from ≡ a = omega arith in q), (let q : node ≤ b = omega arith in q))) (cases_lt from a)))
       (split n node a b at side)) lesser least
 
-  pub side_end : (n : ℕ) (o : Option (ℕ × ℕ)) → length body ≤ n → AreMarked found body →
+  pub side_end : (n : ℕ) (o : Option (ℕ × ℕ)) → length body ≤ n → IsMarkedBody found body →
       IsLeastPair (IsSideBelow sources targets found header body n) o → IsLeastPair (IsSideEdge sources targets header body) o
   side_end n o end marked least = least_same (IsSideBelow sources targets found header body n) (IsSideEdge sources targets header body) o
-      (λ a b side. (side.edge, (side.place, side.at), side.aside, λ (is : IsIn body a). both_ways (flag found a) side.free (marked.flagged is.0 a is.1)))
+      (λ a b side. (side.edge, (side.place, side.at), side.aside, λ (is : IsIn body a). both_ways (is_marked_at found a) side.free (marked.flagged is.0 a is.1)))
       (λ a b side. record {
         edge = side.0;
         place = side.1.0;
         below = (let lt = slice_get_within body side.1.0 b side.1.1 in omega arith);
         at = side.1.1;
         aside = side.2;
-        free = ⊎_elim (λ (t : flag found a ≡ true). absurd (side.3 (marked.listed a t))) (λ f. f) (cases_Bool (flag found a));
+        free = ⊎_elim (λ (t : is_marked_at found a ≡ true). absurd (side.3 (marked.listed a t))) (λ f. f) (cases_Bool (is_marked_at found a));
       }) least

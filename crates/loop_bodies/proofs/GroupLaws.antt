@@ -7,9 +7,9 @@ use Rattle.std.proofs.lemmas.List.{length-replicate}
 use Rattle.std.proofs.lemmas.Option.{slice_get_within}
 use Rattle.loop_bodies.specs.declared.extent.LoopExtent.{LoopExtent}
 use Rattle.loop_bodies.specs.Edges.{EdgeView, AreEdges}
-use Rattle.loop_bodies.specs.Bodies.{HasEdge, LeadsWithin, IsIn, IsBody, in_extent, AreNodes}
+use Rattle.loop_bodies.specs.Bodies.{HasEdge, LeadsWithin, IsIn, IsBody, in_node_ranges, AreNodes}
 use Rattle.loop_bodies.specs.Bodies.LeadsWithin.{at_once, onward}
-use Rattle.loop_bodies.specs.Groups.{HasBit, IsFlagged, OfLoop, IsInside, IsLed, IsEnteredAside, AreLoops, AreBodyBits, AreGroup, IsSideBit}
+use Rattle.loop_bodies.specs.Groups.{HasBit, IsFlagged, OfLoop, IsInside, IsLed, IsEnteredAside, AreLoopExtents, AreBodyBits, AreGroup, IsSideBit}
 use Rattle.loop_bodies.proofs.BitLaws.{no_bit, has_or, or_left, or_right, has_and, and_both, has_not, not_has, bit_cases, bit_small, no_flag}
 
 some_same : {A : Type 0} (a b : A) (o : Option A) → o ≡ Some a → o ≡ Some b → a ≡ b
@@ -197,7 +197,7 @@ body_nodes edges ends extent header body is = record {
   once = is.once;
 }
 
-pub led_bits : (edges : EdgeView) (loop : LoopExtent) (n : ℕ) (old new body : List ℕ) → IsBody edges.sources edges.targets (in_extent loop.ranges.items) loop.header body → IsInside loop.header loop →
+pub led_bits : (edges : EdgeView) (loop : LoopExtent) (n : ℕ) (old new body : List ℕ) → IsBody edges.sources edges.targets (in_node_ranges loop.ranges.items) loop.header body → IsInside loop.header loop →
     ((v i : ℕ) → IsFlagged new v i ↔ (IsFlagged old v i ⊎ (IsIn body v × (i ≡ n)))) → (v i : ℕ) → IsFlagged new v i ↔ (IsFlagged old v i ⊎ (IsLed edges v loop × (i ≡ n)))
 led_bits edges loop n old new body is inside set v i = (
   λ h. ⊎_elim (λ k. inl k) (λ (x : IsIn body v × (i ≡ n)). inr (((is.nodes v).0 x.0).1, x.1)) ((set v i).0 h),

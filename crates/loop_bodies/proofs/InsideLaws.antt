@@ -7,7 +7,7 @@ use Rattle.std.proofs.lemmas.Bool.{cases_eq, cases_lt, cases_Bool, both_ways, lt
 use Rattle.std.proofs.lemmas.Option.{slice_get_within}
 use Rattle.loop_bodies.specs.declared.extent.LoopExtent.{LoopExtent}
 use Rattle.loop_bodies.specs.declared.extent.NodeRange.{NodeRange}
-use Rattle.loop_bodies.specs.Bodies.{in_extent, is_in}
+use Rattle.loop_bodies.specs.Bodies.{in_node_ranges, in_node_range}
 use Rattle.loop_bodies.specs.Groups.{HasBit, IsFlagged, OfLoop, IsInside, IsChange, IsChangeOf, before_in, AreInside}
 use Rattle.loop_bodies.proofs.BitLaws.{has_xor, xor_left, xor_right, flag_same, same_flag, flag_other, other_flag, bit_cases}
 
@@ -30,13 +30,13 @@ ltb_suc a v ne = ⊎_elim
     (λ (ge : a ≤ v). le-ltb (suc v) a (let r : a ≤ suc v = omega arith in r) ∙ sym (le-ltb v a ge))
     (cases_lt v a)
 
-no_end : (r : NodeRange) (v : ℕ) → (IsEnd r (suc v) → ⊥) → is_in (suc v) r ≡ is_in v r
+no_end : (r : NodeRange) (v : ℕ) → (IsEnd r (suc v) → ⊥) → in_node_range (suc v) r ≡ in_node_range v r
 no_end r v none =
     let a : suc v ≢ r.from = λ e. none (inl e) in
     let b : suc v ≢ r.to = λ e. none (inr e) in
     ap (λ x. x && nat_lt (suc v) r.to) (leb_suc r.from v a) ∙ ap (λ x. nat_le r.from v && x) (ltb_suc r.to v b)
 
-no_end_first : (r : NodeRange) → (IsEnd r 0 → ⊥) → is_in 0 r ≡ false
+no_end_first : (r : NodeRange) → (IsEnd r 0 → ⊥) → in_node_range 0 r ≡ false
 no_end_first r none =
     let a : 0 ≢ r.from = λ e. none (inl e) in
     ap (λ x. x && nat_lt 0 r.to) (lt-leb r.from 0 (omega arith))
@@ -57,21 +57,21 @@ HasEnd ranges v = (p : ℕ) × (r : NodeRange) × (slice_get ranges p ≡ Some r
 either : (a b c d : Bool) → a ≡ c → b ≡ d → (a || b) ≡ (c || d)
 either a b c d p q = ap (λ x. x || b) p ∙ ap (λ x. c || x) q
 
-stays : (ranges : List NodeRange) (v : ℕ) → HasEnd ranges v ⊎ (in_extent ranges v ≡ before_in ranges v)
+stays : (ranges : List NodeRange) (v : ℕ) → HasEnd ranges v ⊎ (in_node_ranges ranges v ≡ before_in ranges v)
 stays [] zero = inr refl
 stays [] (suc v) = inr refl
 stays (r ∷ rs) zero = ⊎_elim
     (λ (e : IsEnd r 0). inl (0, r, refl, e))
     (λ (none : IsEnd r 0 → ⊥). ⊎_elim
     (λ (h : HasEnd rs 0). inl (suc h.0, h.1, h.2, h.3))
-    (λ (same : in_extent rs 0 ≡ false). inr (either (is_in 0 r) (in_extent rs 0) false false (no_end_first r none) same))
+    (λ (same : in_node_ranges rs 0 ≡ false). inr (either (in_node_range 0 r) (in_node_ranges rs 0) false false (no_end_first r none) same))
     (stays rs zero))
     (end_cases r 0)
 stays (r ∷ rs) (suc v) = ⊎_elim
     (λ (e : IsEnd r (suc v)). inl (0, r, refl, e))
     (λ (none : IsEnd r (suc v) → ⊥). ⊎_elim
     (λ (h : HasEnd rs (suc v)). inl (suc h.0, h.1, h.2, h.3))
-    (λ (same : in_extent rs (suc v) ≡ in_extent rs v). inr (either (is_in (suc v) r) (in_extent rs (suc v)) (is_in v r) (in_extent rs v) (no_end r v none) same))
+    (λ (same : in_node_ranges rs (suc v) ≡ in_node_ranges rs v). inr (either (in_node_range (suc v) r) (in_node_ranges rs (suc v)) (in_node_range v r) (in_node_ranges rs v) (no_end r v none) same))
     (stays rs (suc v)))
     (end_cases r (suc v))
 
@@ -173,13 +173,13 @@ summed_start loops count words size are = record {
   below = λ v i lt within.
       let first : v ≡ 0 = omega arith in (
         λ h. let w = ((are v i).0 h).1 in (w.0, w.1, true_of w.0 v first w.2),
-        λ h. (are v i).1 (within, (h.0, h.1, λ same. both_ways (in_extent h.0.ranges.items v) (same ∙ ap (before_in h.0.ranges.items) first) h.2)),
+        λ h. (are v i).1 (within, (h.0, h.1, λ same. both_ways (in_node_ranges h.0.ranges.items v) (same ∙ ap (before_in h.0.ranges.items) first) h.2)),
       );
   above = λ v i le within. (λ h. ((are v i).0 h).1, λ h. (are v i).1 (within, h));
 }
   where
     true_of : (loop : LoopExtent) (v : ℕ) → v ≡ 0 → IsChangeOf v loop → IsInside v loop
-    true_of loop v first change = ⊎_elim (λ t. t) (λ (f : in_extent loop.ranges.items v ≡ false). absurd (change (f ∙ sym (ap (before_in loop.ranges.items) first)))) (cases_Bool (in_extent loop.ranges.items v))
+    true_of loop v first change = ⊎_elim (λ t. t) (λ (f : in_node_ranges loop.ranges.items v ≡ false). absurd (change (f ∙ sym (ap (before_in loop.ranges.items) first)))) (cases_Bool (in_node_ranges loop.ranges.items v))
 
 module _ (loops : List LoopExtent) (count n : ℕ) (words : List ℕ) (was : AreSummed loops count (suc n) words) (within : suc n < count) where
   abbrev word : ℕ
@@ -203,25 +203,25 @@ module _ (loops : List LoopExtent) (count n : ℕ) (words : List ℕ) (was : Are
     λ h. ⊎_elim
         (λ (x : IsFlagged words (suc n) i × (IsFlagged words n i → ⊥)).
         let c = (was.above (suc n) i (omega arith) within).0 x.0 in
-        (c.0, c.1, turn (in_extent c.0.ranges.items (suc n)) (in_extent c.0.ranges.items n) c.2 (λ t. x.1 ((was.below n i (omega arith) (omega arith)).1 (c.0, c.1, t)))))
+        (c.0, c.1, turn (in_node_ranges c.0.ranges.items (suc n)) (in_node_ranges c.0.ranges.items n) c.2 (λ t. x.1 ((was.below n i (omega arith) (omega arith)).1 (c.0, c.1, t)))))
         (λ (x : (IsFlagged words (suc n) i → ⊥) × IsFlagged words n i).
         let b = (was.below n i (omega arith) (omega arith)).0 x.1 in
-        (b.0, b.1, keep (in_extent b.0.ranges.items (suc n)) (in_extent b.0.ranges.items n) (λ ne. x.0 ((was.above (suc n) i (omega arith) within).1 (b.0, b.1, ne))) b.2))
+        (b.0, b.1, keep (in_node_ranges b.0.ranges.items (suc n)) (in_node_ranges b.0.ranges.items n) (λ ne. x.0 ((was.above (suc n) i (omega arith) within).1 (b.0, b.1, ne))) b.2))
         (has_xor (get_or words (suc n) 0) (get_or words n 0) i h),
     λ h. ⊎_elim
-        (λ (t : in_extent h.0.ranges.items n ≡ true).
+        (λ (t : in_node_ranges h.0.ranges.items n ≡ true).
         xor_right (get_or words (suc n) 0) (get_or words n 0) i
         (λ f. let c = (was.above (suc n) i (omega arith) within).0 f in
         let same : c.0 ≡ h.0 = loop_same i c.0 h.0 c.1 h.1 in
         subst (IsChangeOf (suc n)) same c.2 (h.2 ∙ sym t))
         ((was.below n i (omega arith) (omega arith)).1 (h.0, h.1, t)))
-        (λ (f : in_extent h.0.ranges.items n ≡ false).
+        (λ (f : in_node_ranges h.0.ranges.items n ≡ false).
         xor_left (get_or words (suc n) 0) (get_or words n 0) i
-        ((was.above (suc n) i (omega arith) within).1 (h.0, h.1, λ same. both_ways (in_extent h.0.ranges.items n) f (sym same ∙ h.2)))
+        ((was.above (suc n) i (omega arith) within).1 (h.0, h.1, λ same. both_ways (in_node_ranges h.0.ranges.items n) f (sym same ∙ h.2)))
         (λ b. let c = (was.below n i (omega arith) (omega arith)).0 b in
         let same : c.0 ≡ h.0 = loop_same i c.0 h.0 c.1 h.1 in
-        both_ways (in_extent h.0.ranges.items n) f (subst (IsInside n) same c.2)))
-        (cases_Bool (in_extent h.0.ranges.items n)),
+        both_ways (in_node_ranges h.0.ranges.items n) f (subst (IsInside n) same c.2)))
+        (cases_Bool (in_node_ranges h.0.ranges.items n)),
   )
 
   pub summed_next : (new : List ℕ) → new ≡ set words (suc n) word → length new ≡ count → AreSummed loops count (suc (suc n)) new

@@ -7,11 +7,11 @@ use Rattle.std.proofs.lemmas.Option.{slice_get_within}
 use Rattle.std.proofs.lemmas.List.{length-replicate}
 use Rattle.loop_bodies.specs.declared.extent.LoopExtent.{LoopExtent}
 use Rattle.loop_bodies.specs.Edges.{EdgeView, AreEdges}
-use Rattle.loop_bodies.specs.Bodies.{HasEdge, LeadsWithin, in_extent}
+use Rattle.loop_bodies.specs.Bodies.{HasEdge, LeadsWithin, in_node_ranges}
 use Rattle.loop_bodies.specs.Bodies.LeadsWithin.{at_once, onward}
-use Rattle.loop_bodies.specs.Search.{flag, AreUnmarked}
-use Rattle.loop_bodies.specs.Groups.{HasBit, IsFlagged, OfLoop, IsInside, IsLed, AreLoops, AreInside, Gains, IsPassedOn, IsPassedBack, IsReached, IsSettled, IsSearched, IsTurn, AreBodyBits}
-use Rattle.loop_bodies.specs.Groups.IsReached.{here, back}
+use Rattle.loop_bodies.specs.Search.{is_marked_at, AreUnmarked}
+use Rattle.loop_bodies.specs.Groups.{HasBit, IsFlagged, OfLoop, IsInside, IsLed, AreLoopExtents, AreInside, Gains, IsPassedOn, IsPassedBack, ReachesBack, AreBitsSettled, IsSearched, IsTurn, AreBodyBits}
+use Rattle.loop_bodies.specs.Groups.ReachesBack.{here, back}
 use Rattle.loop_bodies.proofs.BitLaws.{has_or, or_left, or_right, has_and, and_both, flag_same, same_flag, flag_other, other_flag, no_flag, shl_same, shl_only}
 
 some_same : {A : Type 0} (a b : A) (o : Option A) → o ≡ Some a → o ≡ Some b → a ≡ b
@@ -60,7 +60,7 @@ module _ (found : List ℕ) (pending : List Bool) (inside : List ℕ) (node bits
         (λ (ne : v ≡ node → ⊥). let d : v ≢ node = ne in inl (other_flag found node v more i d h))
         (cases_eq v node);
     quiet = λ v h. ⊎_elim
-        (λ (at : v ≡ node). absurd (both_ways (flag (set pending node true) v) h (ap (flag (set pending node true)) at ∙ get_or-set_same pending node true false (omega arith))))
+        (λ (at : v ≡ node). absurd (both_ways (is_marked_at (set pending node true) v) h (ap (is_marked_at (set pending node true)) at ∙ get_or-set_same pending node true false (omega arith))))
         (λ (ne : v ≡ node → ⊥). let d : v ≢ node = ne in (get_or-set_other found node v more 0 d, sym (get_or-set_other pending node v true false d) ∙ h))
         (cases_eq v node);
   }
@@ -75,16 +75,16 @@ module _ (found : List ℕ) (pending : List Bool) (inside : List ℕ) (node bits
 -- ---- the search
 module _ (edges : EdgeView) (inside : List ℕ) where
   -- what isn't pending stays passed back
-  pub settled_gains : (P : ℕ → ℕ → Type 0) (f g : List ℕ) (p q : List Bool) → Gains P f p g q → (u : ℕ) → flag q u ≡ false → ((v i : ℕ) → IsPassedBack edges inside (slice_index f u) u v i → IsFlagged f v i) →
+  pub settled_gains : (P : ℕ → ℕ → Type 0) (f g : List ℕ) (p q : List Bool) → Gains P f p g q → (u : ℕ) → is_marked_at q u ≡ false → ((v i : ℕ) → IsPassedBack edges inside (slice_index f u) u v i → IsFlagged f v i) →
       (v i : ℕ) → IsPassedBack edges inside (slice_index g u) u v i → IsFlagged g v i
   settled_gains P f g p q gains u quiet was v i passed =
       let same = (gains.quiet u quiet).0 in
       gains.kept v i (was v i (subst (λ x. IsPassedBack edges inside x u v i) same passed))
 
-  pub settled_none : (f : List ℕ) (p : List Bool) → length f ≡ edges.count → length p ≡ edges.count → ((v i : ℕ) → IsFlagged f v i → ⊥) → IsSettled edges inside f p
+  pub settled_none : (f : List ℕ) (p : List Bool) → length f ≡ edges.count → length p ≡ edges.count → ((v i : ℕ) → IsFlagged f v i → ⊥) → AreBitsSettled edges inside f p
   settled_none f p fs ps none = record { found_size = fs; pending_size = ps; settled = λ u quiet v i passed. absurd (none u i passed.1.0) }
 
-  pub settled_more : (P : ℕ → ℕ → Type 0) (f g : List ℕ) (p q : List Bool) → Gains P f p g q → IsSettled edges inside f p → IsSettled edges inside g q
+  pub settled_more : (P : ℕ → ℕ → Type 0) (f g : List ℕ) (p q : List Bool) → Gains P f p g q → AreBitsSettled edges inside f p → AreBitsSettled edges inside g q
   settled_more P f g p q gains was = record {
     found_size = gains.found_size ∙ was.found_size;
     pending_size = gains.pending_size ∙ was.pending_size;
@@ -104,11 +104,11 @@ module _ (edges : EdgeView) (inside : List ℕ) where
   )
 
   -- ---- from words to words
-  reached_on : (start found : List ℕ) → ((v i : ℕ) → IsFlagged found v i → IsReached edges inside start v i) → (v i : ℕ) → IsReached edges inside found v i → IsReached edges inside start v i
+  reached_on : (start found : List ℕ) → ((v i : ℕ) → IsFlagged found v i → ReachesBack edges inside start v i) → (v i : ℕ) → ReachesBack edges inside found v i → ReachesBack edges inside start v i
   reached_on start found from v i (here h) = from v i h
   reached_on start found from v i (back u edge inside_v more) = back u edge inside_v (reached_on start found from u i more)
 
-  pub searched_same : (f : List ℕ) (p : List Bool) → IsSettled edges inside f p → IsSearched edges inside f f p
+  pub searched_same : (f : List ℕ) (p : List Bool) → AreBitsSettled edges inside f p → IsSearched edges inside f f p
   searched_same f p settled = record { kept = λ v i h. h; only = λ v i h. here h; settled = settled }
 
   pub searched_then : (f g h : List ℕ) (q r : List Bool) → IsSearched edges inside f g q → IsSearched edges inside g h r → IsSearched edges inside f h r
@@ -119,7 +119,7 @@ module _ (edges : EdgeView) (inside : List ℕ) where
   }
 
   -- what was found of one node is passed back
-  pub searched_visit : (node bits : ℕ) (f g : List ℕ) (p q : List Bool) → bits ≡ slice_index f node → IsSettled edges inside f p →
+  pub searched_visit : (node bits : ℕ) (f g : List ℕ) (p q : List Bool) → bits ≡ slice_index f node → AreBitsSettled edges inside f p →
       Gains (IsPassedBack edges inside bits node) f (set p node false) g q → ((v i : ℕ) → IsPassedBack edges inside bits node v i → IsFlagged g v i) → IsSearched edges inside f g q
   searched_visit node bits f g p q be was gains all = record {
     kept = gains.kept;
@@ -144,7 +144,7 @@ module _ (edges : EdgeView) (inside : List ℕ) where
   -- where nothing is pending, all that leads to a header is found, and nothing else
   module _ (loops : List LoopExtent) (start f : List ℕ) (p : List Bool) (ends : AreEdges edges.sources edges.targets edges.count) (is : AreInside loops edges.count inside) (starts : (v i : ℕ) → IsFlagged start v i ↔ OfLoop loops i (IsTurn edges inside v i))
       (was : IsSearched edges inside start f p) (quiet : AreUnmarked p) where
-    all_found : (i : ℕ) (loop : LoopExtent) → slice_get loops i ≡ Some loop → (v : ℕ) → LeadsWithin edges.sources edges.targets (in_extent loop.ranges.items) loop.header v → IsFlagged f v i
+    all_found : (i : ℕ) (loop : LoopExtent) → slice_get loops i ≡ Some loop → (v : ℕ) → LeadsWithin edges.sources edges.targets (in_node_ranges loop.ranges.items) loop.header v → IsFlagged f v i
     all_found i loop at v (at_once edge within) = was.kept v i ((starts v i).1 (loop, at, (edge, (is.nodes v i (ends.from edge.0 v edge.1)).1 (loop, at, within))))
     all_found i loop at v (onward u edge within leads) =
         was.settled.settled u (quiet u) v i (edge, (all_found i loop at u leads, (is.nodes v i (ends.from edge.0 v edge.1)).1 (loop, at, within)))
@@ -154,7 +154,7 @@ module _ (edges : EdgeView) (inside : List ℕ) where
         let w = (is.nodes v i (ends.from edge.0 v edge.1)).0 h in
         subst (IsInside v) (some_same w.0 loop (slice_get loops i) w.1 at) w.2
 
-    all_led : (v i : ℕ) → IsReached edges inside start v i → OfLoop loops i (IsLed edges v)
+    all_led : (v i : ℕ) → ReachesBack edges inside start v i → OfLoop loops i (IsLed edges v)
     all_led v i (here h) = let t = (starts v i).0 h in (t.0, t.1, at_once t.2.0 (inside_of i v t.0.header t.0 t.1 t.2.0 t.2.1))
     all_led v i (back u edge within more) = let t = all_led u i more in (t.0, t.1, onward u edge (inside_of i v u t.0 t.1 edge within) t.2)
 

@@ -21,15 +21,15 @@ pub record IsBody (sources : List ℕ) (targets : List (Option ℕ)) (extent : �
   pub once : (i j v : ℕ) → slice_get body i ≡ Some v → slice_get body j ≡ Some v → i ≡ j
 
 -- a node lies in a range, and in one of some ranges
-abbrev pub is_in : ℕ → NodeRange → Bool
-is_in v range = nat_le range.from v && nat_lt v range.to
+abbrev pub in_node_range : ℕ → NodeRange → Bool
+in_node_range v range = nat_le range.from v && nat_lt v range.to
 
-abbrev pub in_extent : List NodeRange → ℕ → Bool
-in_extent ranges v = list_any (is_in v) ranges
+abbrev pub in_node_ranges : List NodeRange → ℕ → Bool
+in_node_ranges ranges v = list_any (in_node_range v) ranges
 
 -- an edge leads from the extent to the header
-abbrev pub HasBackEdge : List ℕ → List (Option ℕ) → (ℕ → Bool) → ℕ → Type 0
-HasBackEdge sources targets extent header = (v : ℕ) × HasEdge sources targets v header × (extent v ≡ true)
+abbrev pub HasEdgeBack : List ℕ → List (Option ℕ) → (ℕ → Bool) → ℕ → Type 0
+HasEdgeBack sources targets extent header = (v : ℕ) × HasEdge sources targets v header × (extent v ≡ true)
 
 -- nodes below a count, each once
 pub record AreNodes (count : ℕ) (nodes : List ℕ) : Type 0 where
@@ -41,16 +41,16 @@ abbrev pub IsSideEdge : List ℕ → List (Option ℕ) → ℕ → List ℕ → 
 IsSideEdge sources targets header body from to = HasEdge sources targets from to × IsIn body to × (to ≢ header) × (IsIn body from → ⊥)
 
 -- one pair of numbers isn't above the other, by the first numbers and then by the second
-abbrev pub IsUpTo : ℕ → ℕ → ℕ → ℕ → Type 0
-IsUpTo a b c d = (a < c) ⊎ ((a ≡ c) × (b ≤ d))
+abbrev pub IsPairUpTo : ℕ → ℕ → ℕ → ℕ → Type 0
+IsPairUpTo a b c d = (a < c) ⊎ ((a ≡ c) × (b ≤ d))
 
 -- the least of some pairs, if there are any
 abbrev pub IsLeastPair : (ℕ → ℕ → Type 0) → Option (ℕ × ℕ) → Type 0
 IsLeastPair P None = (a b : ℕ) → P a b → ⊥
-IsLeastPair P (Some least) = P least.0 least.1 × ((a b : ℕ) → P a b → IsUpTo least.0 least.1 a b)
+IsLeastPair P (Some least) = P least.0 least.1 × ((a b : ℕ) → P a b → IsPairUpTo least.0 least.1 a b)
 
 -- the lesser of a pair and of one that may be missing
 pub record IsLesserPair (least : Option (ℕ × ℕ)) (pair result : ℕ × ℕ) : Type 0 where
-  pub up_to_pair : IsUpTo result.0 result.1 pair.0 pair.1
-  pub up_to_least : (other : ℕ × ℕ) → least ≡ Some other → IsUpTo result.0 result.1 other.0 other.1
+  pub up_to_pair : IsPairUpTo result.0 result.1 pair.0 pair.1
+  pub up_to_least : (other : ℕ × ℕ) → least ≡ Some other → IsPairUpTo result.0 result.1 other.0 other.1
   pub one_of_them : (result ≡ pair) ⊎ (least ≡ Some result)

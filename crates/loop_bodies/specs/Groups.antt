@@ -5,8 +5,8 @@ use Rattle.std.specs.Int.{bit_at}
 use Rattle.loop_bodies.specs.declared.extent.LoopExtent.{LoopExtent}
 use Rattle.loop_bodies.specs.declared.extent.NodeRange.{NodeRange}
 use Rattle.loop_bodies.specs.Edges.{EdgeView}
-use Rattle.loop_bodies.specs.Bodies.{HasEdge, LeadsWithin, in_extent}
-use Rattle.loop_bodies.specs.Search.{flag}
+use Rattle.loop_bodies.specs.Bodies.{HasEdge, LeadsWithin, in_node_ranges}
+use Rattle.loop_bodies.specs.Search.{is_marked_at}
 
 -- bit i of a word is set
 abbrev pub HasBit : ℕ → ℕ → Type 0
@@ -22,11 +22,11 @@ OfLoop loops i P = (loop : LoopExtent) × (slice_get loops i ≡ Some loop) × P
 
 -- node v lies in the extent of a loop
 abbrev pub IsInside : ℕ → LoopExtent → Type 0
-IsInside v loop = in_extent loop.ranges.items v ≡ true
+IsInside v loop = in_node_ranges loop.ranges.items v ≡ true
 
 -- node v leads to the header of a loop within the loop's extent
 abbrev pub IsLed : EdgeView → ℕ → LoopExtent → Type 0
-IsLed edges v loop = LeadsWithin edges.sources edges.targets (in_extent loop.ranges.items) loop.header v
+IsLed edges v loop = LeadsWithin edges.sources edges.targets (in_node_ranges loop.ranges.items) loop.header v
 
 -- an edge leads from outside the body of a loop to a node of it that isn't the header
 pub record IsEnteredAside (edges : EdgeView) (loop : LoopExtent) : Type 0 where
@@ -44,7 +44,7 @@ pub record AreGroup (edges : EdgeView) (loops : List LoopExtent) (bodies : List 
   pub entered : (i : ℕ) → HasBit aside i ↔ OfLoop loops i (IsEnteredAside edges)
 
 -- each loop's header is a node in its extent
-pub record AreLoops (count : ℕ) (loops : List LoopExtent) : Type 0 where
+pub record AreLoopExtents (count : ℕ) (loops : List LoopExtent) : Type 0 where
   pub few : length loops ≤ 64
   pub header : (i : ℕ) (loop : LoopExtent) → slice_get loops i ≡ Some loop → (loop.header < count) × IsInside loop.header loop
 
@@ -53,11 +53,11 @@ pub record AreLoops (count : ℕ) (loops : List LoopExtent) : Type 0 where
 -- whether the node before this one lies in some ranges
 abbrev pub before_in : List NodeRange → ℕ → Bool
 before_in ranges zero = false
-before_in ranges (suc v) = in_extent ranges v
+before_in ranges (suc v) = in_node_ranges ranges v
 
 -- some ranges begin or end at a node
 abbrev pub IsChange : List NodeRange → ℕ → Type 0
-IsChange ranges v = in_extent ranges v ≢ before_in ranges v
+IsChange ranges v = in_node_ranges ranges v ≢ before_in ranges v
 
 abbrev pub IsChangeOf : ℕ → LoopExtent → Type 0
 IsChangeOf v loop = IsChange loop.ranges.items v
@@ -73,7 +73,7 @@ pub record Gains (P : ℕ → ℕ → Type 0) (found : List ℕ) (pending : List
   pub pending_size : length pending_then ≡ length pending
   pub kept : (v i : ℕ) → IsFlagged found v i → IsFlagged found_then v i
   pub only : (v i : ℕ) → IsFlagged found_then v i → IsFlagged found v i ⊎ P v i
-  pub quiet : (v : ℕ) → flag pending_then v ≡ false → (slice_index found_then v ≡ slice_index found v) × (flag pending v ≡ false)
+  pub quiet : (v : ℕ) → is_marked_at pending_then v ≡ false → (slice_index found_then v ≡ slice_index found v) × (is_marked_at pending v ≡ false)
 
 -- one of some bits, at a node in the extent of its loop
 abbrev pub IsPassedOn : List ℕ → ℕ → ℕ → ℕ → Type 0
@@ -84,21 +84,21 @@ abbrev pub IsPassedBack : EdgeView → List ℕ → ℕ → ℕ → ℕ → ℕ 
 IsPassedBack edges inside bits u v i = HasEdge edges.sources edges.targets v u × IsPassedOn inside bits v i
 
 -- Bits of some words, and those that are passed back from them over edges, each from node to node in the extent of its loop.
-pub data IsReached (edges : EdgeView) (inside start : List ℕ) : ℕ → ℕ → Type 0 where
-  here : {v i : ℕ} → IsFlagged start v i → IsReached edges inside start v i
-  back : {v i : ℕ} (u : ℕ) → HasEdge edges.sources edges.targets v u → IsFlagged inside v i → IsReached edges inside start u i → IsReached edges inside start v i
+pub data ReachesBack (edges : EdgeView) (inside start : List ℕ) : ℕ → ℕ → Type 0 where
+  here : {v i : ℕ} → IsFlagged start v i → ReachesBack edges inside start v i
+  back : {v i : ℕ} (u : ℕ) → HasEdge edges.sources edges.targets v u → IsFlagged inside v i → ReachesBack edges inside start u i → ReachesBack edges inside start v i
 
 -- what isn't pending is passed back
-pub record IsSettled (edges : EdgeView) (inside found : List ℕ) (pending : List Bool) : Type 0 where
+pub record AreBitsSettled (edges : EdgeView) (inside found : List ℕ) (pending : List Bool) : Type 0 where
   pub found_size : length found ≡ edges.count
   pub pending_size : length pending ≡ edges.count
-  pub settled : (u : ℕ) → flag pending u ≡ false → (v i : ℕ) → IsPassedBack edges inside (slice_index found u) u v i → IsFlagged found v i
+  pub settled : (u : ℕ) → is_marked_at pending u ≡ false → (v i : ℕ) → IsPassedBack edges inside (slice_index found u) u v i → IsFlagged found v i
 
 -- a search gained bits that are reached from those of some words
 pub record IsSearched (edges : EdgeView) (inside start found : List ℕ) (pending : List Bool) : Type 0 where
   pub kept : (v i : ℕ) → IsFlagged start v i → IsFlagged found v i
-  pub only : (v i : ℕ) → IsFlagged found v i → IsReached edges inside start v i
-  pub settled : IsSettled edges inside found pending
+  pub only : (v i : ℕ) → IsFlagged found v i → ReachesBack edges inside start v i
+  pub settled : AreBitsSettled edges inside found pending
 
 -- an edge leads from node v, which is marked as in the extent of loop i, to the loop's header
 abbrev pub IsTurn : EdgeView → List ℕ → ℕ → ℕ → LoopExtent → Type 0

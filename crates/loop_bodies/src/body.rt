@@ -2,8 +2,8 @@
 
 ghost use Rattle.std.specs.Prelude.{◌≡◌, ◌<◌, ◌↔◌, true, IfOk};
 ghost use Rattle.loop_bodies.specs.Edges.{EdgeView, AreEdges};
-ghost use Rattle.loop_bodies.specs.Bodies.{in_extent, IsBody, HasBackEdge, AreNodes, IsSideEdge, IsLeastPair};
-ghost use Rattle.loop_bodies.specs.Groups.{AreLoops, AreBodyBits, AreGroup};
+ghost use Rattle.loop_bodies.specs.Bodies.{in_node_ranges, IsBody, HasEdgeBack, AreNodes, IsSideEdge, IsLeastPair};
+ghost use Rattle.loop_bodies.specs.Groups.{AreLoopExtents, AreBodyBits, AreGroup};
 
 use crate::edges::IncomingEdges;
 use crate::entries::{has_back_edge, least_side, mark_nodes};
@@ -63,7 +63,7 @@ impl<'a> BodySearch<'a> {
         extent: &[NodeRange],
     ) -> Result<Vec<usize>, NoMemory>
         requires { header < self.old.count }
-        ensures body { IfOk result (λ body. IsBody self.old.sources self.old.targets (in_extent extent.now) header body.items) }
+        ensures body { IfOk result (λ body. IsBody self.old.sources self.old.targets (in_node_ranges extent.now) header body.items) }
         ensures same { self.new ≡ self.old }
     {
         let mut body = Vec::new(alloc);
@@ -78,7 +78,7 @@ impl<'a> BodySearch<'a> {
 
     // By node, the loops whose bodies have it, from one body after the other.
     fn search_each(&mut self, alloc: Global, loops: &[LoopExtent]) -> Result<Vec<u64>, NoMemory>
-        requires { AreLoops self.old.count loops.now }
+        requires { AreLoopExtents self.old.count loops.now }
         ensures bodies { IfOk result (λ bodies. AreBodyBits self.old loops.now bodies.items) }
         ensures same { self.new ≡ self.old }
     {
@@ -93,7 +93,7 @@ impl<'a> BodySearch<'a> {
     /// The bodies of at most 64 loops, and those of them that are entered aside. It goes through all nodes and edges once or
     /// a few times for all these loops; for code that is laid out against its run, once for each.
     pub fn group(&mut self, alloc: Global, loops: &[LoopExtent]) -> Result<GroupBodies, NoMemory>
-        requires { AreLoops self.old.count loops.now }
+        requires { AreLoopExtents self.old.count loops.now }
         ensures group { IfOk result (λ group. AreGroup self.old loops.now group.bodies.items group.aside) }
         ensures same { self.new ≡ self.old }
     {
@@ -110,7 +110,7 @@ impl<'a> BodySearch<'a> {
     /// Whether an edge leads from the extent to the header. It looks at the edges to the header alone.
     pub fn has_back_edge(&self, header: usize, extent: &[NodeRange]) -> bool
         requires { header < self.now.count }
-        ensures { (result ≡ true) ↔ HasBackEdge self.now.sources self.now.targets (in_extent extent.now) header }
+        ensures { (result ≡ true) ↔ HasEdgeBack self.now.sources self.now.targets (in_node_ranges extent.now) header }
     {
         has_back_edge(&self.edges, header, extent)
     }

@@ -1,8 +1,8 @@
 //! Edges into a loop: those that turn it back, and those that enter its body past the header.
 
 ghost use Rattle.std.specs.Prelude.{◌≡◌, ◌≢◌, ℕ, ◌<◌, ◌≤◌, true, false, length, slice_get, Some, ◌↔◌, ◌⊎◌};
-ghost use Rattle.loop_bodies.specs.Bodies.{HasEdge, in_extent, HasBackEdge, AreNodes, IsSideEdge, IsLeastPair, IsLesserPair};
-ghost use Rattle.loop_bodies.specs.Search.{flag, AreUnmarked, AreMarked, IsLeastUnmarked};
+ghost use Rattle.loop_bodies.specs.Bodies.{HasEdge, in_node_ranges, HasEdgeBack, AreNodes, IsSideEdge, IsLeastPair, IsLesserPair};
+ghost use Rattle.loop_bodies.specs.Search.{is_marked_at, AreUnmarked, IsMarkedBody, IsLeastUnmarked};
 
 use crate::edges::IncomingEdges;
 use crate::extent::{NodeRange, is_in_extent};
@@ -10,7 +10,7 @@ use crate::extent::{NodeRange, is_in_extent};
 /// Whether an edge from a node of an extent leads to the header.
 pub fn has_back_edge(edges: &IncomingEdges<'_>, header: usize, extent: &[NodeRange]) -> bool
     requires { header < edges.now.count }
-    ensures { (result ≡ true) ↔ HasBackEdge edges.now.sources edges.now.targets (in_extent extent.now) header }
+    ensures { (result ≡ true) ↔ HasEdgeBack edges.now.sources edges.now.targets (in_node_ranges extent.now) header }
 {
     let mut next = edges.last(header);
     while let Some(edge) = next {
@@ -26,7 +26,7 @@ pub fn has_back_edge(edges: &IncomingEdges<'_>, header: usize, extent: &[NodeRan
 pub fn mark_nodes(found: &mut [bool], body: &[usize])
     requires unmarked { AreUnmarked found.old }
     requires nodes { AreNodes (length found.old) body.now }
-    ensures { AreMarked found.new body.now }
+    ensures { IsMarkedBody found.new body.now }
 {
     for node in body {
         found[*node] = true;
@@ -79,7 +79,7 @@ pub fn least_side(
     body: &[usize],
 ) -> Option<(usize, usize)>
     requires size { length found.now ≡ edges.now.count }
-    requires marked { AreMarked found.now body.now }
+    requires marked { IsMarkedBody found.now body.now }
     ensures { IsLeastPair (IsSideEdge edges.now.sources edges.now.targets header body.now) result }
 {
     let mut least = None;

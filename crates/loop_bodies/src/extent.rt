@@ -1,7 +1,7 @@
 //! The extent of a loop, as ranges of nodes.
 
 ghost use Rattle.std.specs.Prelude.{◌≡◌};
-ghost use Rattle.loop_bodies.specs.Bodies.{in_extent};
+ghost use Rattle.loop_bodies.specs.Bodies.{in_node_ranges};
 
 /// The nodes from `from` up to `to`, which is left out.
 #[derive(Clone, Copy, Debug, PartialEq, Eq)]
@@ -19,7 +19,7 @@ pub struct LoopExtent {
 
 /// Whether a node lies in one of the ranges.
 pub fn is_in_extent(extent: &[NodeRange], node: usize) -> bool
-    ensures { result ≡ in_extent extent.now node }
+    ensures { result ≡ in_node_ranges extent.now node }
 {
     extent
         .iter()

@@ -2,7 +2,7 @@
 
 ghost use Rattle.std.specs.Prelude.{◌≡◌, ℕ, ◌<◌, ◌↔◌, ◌⊎◌, length, slice_get, Some, IfOk, IfSome};
 ghost use Rattle.loop_bodies.specs.Bodies.{IsIn, AreNodes};
-ghost use Rattle.loop_bodies.specs.Groups.{HasBit, IsFlagged, OfLoop, AreLoops, AreBodyBits, IsSideBit};
+ghost use Rattle.loop_bodies.specs.Groups.{HasBit, IsFlagged, OfLoop, AreLoopExtents, AreBodyBits, IsSideBit};
 
 use crate::bits::set_bit;
 use crate::edges::IncomingEdges;
@@ -28,7 +28,7 @@ pub fn search_together(
     edges: &IncomingEdges<'_>,
     loops: &[LoopExtent],
 ) -> Result<Option<Vec<u64>>, NoMemory>
-    requires { AreLoops edges.now.count loops.now }
+    requires { AreLoopExtents edges.now.count loops.now }
     ensures { IfOk result (λ found. IfSome found (λ bodies. AreBodyBits edges.now loops.now bodies.items)) }
 {
     let count = edges.count();
@@ -57,7 +57,7 @@ pub fn add_body(words: &mut [u64], body: &[usize], bit: usize)
 
 /// By node, the loops whose header it is.
 pub fn find_headers(alloc: Global, loops: &[LoopExtent], count: usize) -> Result<Vec<u64>, NoMemory>
-    requires { AreLoops count loops.now }
+    requires { AreLoopExtents count loops.now }
     ensures size { IfOk result (λ headers. length headers.items ≡ count) }
     ensures bits { IfOk result (λ headers. (v i : ℕ) → IsFlagged headers.items v i ↔ OfLoop loops.now i (λ loop. v ≡ loop.header)) }
 {

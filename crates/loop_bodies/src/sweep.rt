@@ -2,7 +2,7 @@
 
 ghost use Rattle.std.specs.Prelude.{◌≡◌, ℕ, ◌<◌, ◌↔◌, true, length};
 ghost use Rattle.loop_bodies.specs.Search.{AreUnmarked};
-ghost use Rattle.loop_bodies.specs.Groups.{IsFlagged, OfLoop, AreLoops, Gains, IsPassedOn, IsPassedBack, IsSettled, IsSearched, IsTurn};
+ghost use Rattle.loop_bodies.specs.Groups.{IsFlagged, OfLoop, AreLoopExtents, Gains, IsPassedOn, IsPassedBack, AreBitsSettled, IsSearched, IsTurn};
 
 use crate::edges::IncomingEdges;
 use crate::extent::LoopExtent;
@@ -57,13 +57,13 @@ pub fn start_loops(
     found: &mut [u64],
     pending: &mut [bool],
 )
-    requires loops { AreLoops edges.now.count loops.now }
+    requires loops { AreLoopExtents edges.now.count loops.now }
     requires inside { length inside.now ≡ edges.now.count }
     requires found { length found.old ≡ edges.now.count }
     requires pending { length pending.old ≡ edges.now.count }
     requires none { (v i : ℕ) → IsFlagged found.old v i → ⊥ }
     ensures found { (v i : ℕ) → IsFlagged found.new v i ↔ OfLoop loops.now i (IsTurn edges.now inside.now v i) }
-    ensures settled { IsSettled edges.now inside.now found.new pending.new }
+    ensures settled { AreBitsSettled edges.now inside.now found.new pending.new }
 {
     for (bit, one) in loops.iter().enumerate() {
         pass_back(edges, inside, found, pending, one.header, 1 << bit);
@@ -80,7 +80,7 @@ fn visit_node(
 )
     requires node { node < edges.now.count }
     requires inside { length inside.now ≡ edges.now.count }
-    requires settled { IsSettled edges.now inside.now found.old pending.old }
+    requires settled { AreBitsSettled edges.now inside.now found.old pending.old }
     ensures { IsSearched edges.now inside.now found.old found.new pending.new }
 {
     if pending[node] {
@@ -93,7 +93,7 @@ fn visit_node(
 // Visits each node, from the last to the first.
 fn sweep(edges: &IncomingEdges<'_>, inside: &[u64], found: &mut [u64], pending: &mut [bool])
     requires inside { length inside.now ≡ edges.now.count }
-    requires settled { IsSettled edges.now inside.now found.old pending.old }
+    requires settled { AreBitsSettled edges.now inside.now found.old pending.old }
     ensures { IsSearched edges.now inside.now found.old found.new pending.new }
 {
     let mut node = edges.count();
@@ -123,7 +123,7 @@ pub fn settle(
     pending: &mut [bool],
 ) -> bool
     requires inside { length inside.now ≡ edges.now.count }
-    requires settled { IsSettled edges.now inside.now found.old pending.old }
+    requires settled { AreBitsSettled edges.now inside.now found.old pending.old }
     ensures search { IsSearched edges.now inside.now found.old found.new pending.new }
     ensures quiet { (result ≡ true) ↔ AreUnmarked pending.new }
 {

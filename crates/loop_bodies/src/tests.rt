@@ -1,5 +1,5 @@
 ghost use Rattle.std.specs.Prelude.{◌≡◌, ◌<◌, IfOk};
-ghost use Rattle.loop_bodies.specs.Groups.{AreLoops};
+ghost use Rattle.loop_bodies.specs.Groups.{AreLoopExtents};
 
 use super::*;
 use std::alloc::Global;
@@ -161,7 +161,7 @@ fn loops_of(
     count: usize,
     ends: &[(usize, usize, usize)],
 ) -> Result<Vec<LoopExtent>, Fail>
-    ensures { IfOk result (λ loops. AreLoops count loops.items) }
+    ensures { IfOk result (λ loops. AreLoopExtents count loops.items) }
 {
     let mut loops: Vec<LoopExtent> = Vec::new(alloc);
     for (header, from, to) in ends {

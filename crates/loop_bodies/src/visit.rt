@@ -1,8 +1,8 @@
 //! The search of a body, backwards from the header.
 
 ghost use Rattle.std.specs.Prelude.{◌≡◌, ℕ, ◌<◌, true, length, OnOk, slice_get, Some, [], ◌⊎◌, ◌↔◌};
-ghost use Rattle.loop_bodies.specs.Bodies.{HasEdge, LeadsWithin, in_extent, IsIn};
-ghost use Rattle.loop_bodies.specs.Search.{flag, AreMarked, Grows, IsSettled, AreUnmarked};
+ghost use Rattle.loop_bodies.specs.Bodies.{HasEdge, LeadsWithin, in_node_ranges, IsIn};
+ghost use Rattle.loop_bodies.specs.Search.{is_marked_at, IsMarkedBody, BodyGrows, IsSettled, AreUnmarked};
 
 use crate::edges::IncomingEdges;
 use crate::extent::{NodeRange, is_in_extent};
@@ -16,11 +16,11 @@ fn visit(
     node: usize,
 ) -> Result<(), NoMemory>
     requires within { node < length found.old }
-    requires marked { AreMarked found.old body.old.items }
-    ensures marked { AreMarked found.new body.new.items }
-    ensures grows { OnOk result (Grows found.old body.old.items found.new body.new.items) }
-    ensures only { OnOk result ((p v : ℕ) → slice_get body.new.items p ≡ Some v → (slice_get body.old.items p ≡ Some v) ⊎ ((v ≡ node) × (in_extent extent.now v ≡ true))) }
-    ensures found { OnOk result (in_extent extent.now node ≡ true → flag found.new node ≡ true) }
+    requires marked { IsMarkedBody found.old body.old.items }
+    ensures marked { IsMarkedBody found.new body.new.items }
+    ensures grows { OnOk result (BodyGrows found.old body.old.items found.new body.new.items) }
+    ensures only { OnOk result ((p v : ℕ) → slice_get body.new.items p ≡ Some v → (slice_get body.old.items p ≡ Some v) ⊎ ((v ≡ node) × (in_node_ranges extent.now v ≡ true))) }
+    ensures found { OnOk result (in_node_ranges extent.now node ≡ true → is_marked_at found.new node ≡ true) }
 {
     if !found[node] && is_in_extent(extent, node) {
         body.push(node)?;
@@ -39,11 +39,11 @@ fn visit_sources(
 ) -> Result<(), NoMemory>
     requires node { node < edges.now.count }
     requires size { length found.old ≡ edges.now.count }
-    requires marked { AreMarked found.old body.old.items }
-    ensures marked { AreMarked found.new body.new.items }
-    ensures grows { OnOk result (Grows found.old body.old.items found.new body.new.items) }
-    ensures only { OnOk result ((p v : ℕ) → slice_get body.new.items p ≡ Some v → (slice_get body.old.items p ≡ Some v) ⊎ (HasEdge edges.now.sources edges.now.targets v node × (in_extent extent.now v ≡ true))) }
-    ensures settled { OnOk result (IsSettled edges.now.sources edges.now.targets (in_extent extent.now) found.new node) }
+    requires marked { IsMarkedBody found.old body.old.items }
+    ensures marked { IsMarkedBody found.new body.new.items }
+    ensures grows { OnOk result (BodyGrows found.old body.old.items found.new body.new.items) }
+    ensures only { OnOk result ((p v : ℕ) → slice_get body.new.items p ≡ Some v → (slice_get body.old.items p ≡ Some v) ⊎ (HasEdge edges.now.sources edges.now.targets v node × (in_node_ranges extent.now v ≡ true))) }
+    ensures settled { OnOk result (IsSettled edges.now.sources edges.now.targets (in_node_ranges extent.now) found.new node) }
 {
     let mut next = edges.last(node);
     while let Some(edge) = next {
@@ -64,9 +64,9 @@ pub fn fill_body(
     requires header { header < edges.now.count }
     requires size { length found.old ≡ edges.now.count }
     requires empty { body.old.items ≡ [] }
-    requires marked { AreMarked found.old body.old.items }
-    ensures marked { AreMarked found.new body.new.items }
-    ensures nodes { OnOk result ((v : ℕ) → IsIn body.new.items v ↔ LeadsWithin edges.now.sources edges.now.targets (in_extent extent.now) header v) }
+    requires marked { IsMarkedBody found.old body.old.items }
+    ensures marked { IsMarkedBody found.new body.new.items }
+    ensures nodes { OnOk result ((v : ℕ) → IsIn body.new.items v ↔ LeadsWithin edges.now.sources edges.now.targets (in_node_ranges extent.now) header v) }
 {
     visit_sources(edges, extent, found, body, header)?;
     let mut done = 0;
@@ -80,7 +80,7 @@ pub fn fill_body(
 
 /// Takes the marks of a body's nodes away.
 pub fn clear_marks(found: &mut [bool], body: &[usize])
-    requires { AreMarked found.old body.now }
+    requires { IsMarkedBody found.old body.now }
     ensures { AreUnmarked found.new }
 {
     for node in body {

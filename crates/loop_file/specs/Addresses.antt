@@ -116,14 +116,14 @@ module _ (image : Image) where
   address_of _ = Err Bad
 
   -- a range: an array of two addresses
-  unfoldable pub range_of : Data → Result Range Fault
-  range_of d = or_bad (option_and_then pair_of (as_array d)) >>= λ p. both (address_of p.0) (address_of p.1) >>= in_order
+  unfoldable pub read_range : Data → Result Range Fault
+  read_range d = or_bad (option_and_then pair_of (as_array d)) >>= λ p. both (address_of p.0) (address_of p.1) >>= in_order
 
   -- the ranges of a list of values
   abbrev pub all_ranges : Items → Result (List Range) Fault
   all_ranges no_items = Ok []
-  all_ranges (item d ds) = onto (range_of d) (all_ranges ds)
+  all_ranges (item d ds) = onto (read_range d) (all_ranges ds)
 
   -- the ranges of a value: 1 to 16 of them
-  unfoldable pub ranges_of : Data → Result (List Range) Fault
-  ranges_of d = or_bad (option_and_then few_items (as_array d)) >>= all_ranges
+  unfoldable pub read_ranges : Data → Result (List Range) Fault
+  read_ranges d = or_bad (option_and_then few_items (as_array d)) >>= all_ranges

@@ -12,7 +12,7 @@ use Rattle.table_keys.specs.Keys.{document_of, first_missing, least_unknown, num
 use Rattle.loop_file.specs.declared.address.Fault.{Fault}
 use Rattle.loop_file.specs.declared.address.Fault.TheVariants.{Absent, Bad}
 use Rattle.loop_file.specs.declared.notes.LoopNote.{LoopNote}
-use Rattle.loop_file.specs.Addresses.{or_bad, address_of, ranges_of}
+use Rattle.loop_file.specs.Addresses.{or_bad, address_of, read_ranges}
 
 -- the keys of the file
 abbrev pub file_keys : List (List ℕ)
@@ -29,8 +29,8 @@ abbrev pub loop_keys : ℕ → List (List ℕ)
 loop_keys version = codes "header" ∷ codes "ranges" ∷ codes "bound" ∷ codes "counted" ∷ later_keys version
 
 -- the version: it is there, and is 1 or 2
-abbrev pub version_of : Members → Result ℕ Refusal
-version_of table = do
+abbrev pub loop_version : Members → Result ℕ Refusal
+loop_version table = do
   _ ← none_or_refuse (LoopKey 0) (first_missing (codes "version" ∷ []) table)
   or_refuse (LoopValue 0 (codes "version")) (number_at 1 2 (codes "version") table)
 
@@ -52,9 +52,9 @@ fault_refusal k key Bad = LoopValue k key
 fault_refusal k key Absent = UnknownSymbol k
 
 -- what a key of loop k gives, or the refusal of its fault
-abbrev pub refused : {A : Type 0} → ℕ → List ℕ → Result A Fault → Result A Refusal
-refused k key (Ok x) = Ok x
-refused k key (Err fault) = Err (fault_refusal k key fault)
+abbrev pub or_fault : {A : Type 0} → ℕ → List ℕ → Result A Fault → Result A Refusal
+or_fault k key (Ok x) = Ok x
+or_fault k key (Err fault) = Err (fault_refusal k key fault)
 
 -- a value at a key that is there
 abbrev pub at_key : {A : Type 0} → (Data → Result A Fault) → List ℕ → Members → Result A Fault
@@ -82,10 +82,10 @@ least_at k bound table = or_refuse (LoopValue k (codes "at_least")) (least_of bo
 
 module _ (image : Image) where
   abbrev pub header_at : ℕ → Members → Result ℕ Refusal
-  header_at k table = refused k (codes "header") (at_key (address_of image) (codes "header") table)
+  header_at k table = or_fault k (codes "header") (at_key (address_of image) (codes "header") table)
 
   abbrev pub ranges_at : ℕ → Members → Result (List Range) Refusal
-  ranges_at k table = refused k (codes "ranges") (at_key (ranges_of image) (codes "ranges") table)
+  ranges_at k table = or_fault k (codes "ranges") (at_key (read_ranges image) (codes "ranges") table)
 
   -- the note of loop k, in a file of this version
   unfoldable pub note_of : ℕ → ℕ → Members → Result LoopNote Refusal
@@ -106,7 +106,7 @@ module _ (image : Image) where
   -- the notes of a table
   unfoldable pub notes_of : Members → Result (List LoopNote) Refusal
   notes_of table = do
-    version ← version_of table
+    version ← loop_version table
     _ ← none_or_refuse (LoopKey 0) (least_unknown file_keys table)
     tables ← loop_tables table
     _ ← few_loops tables

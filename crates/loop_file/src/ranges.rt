@@ -2,7 +2,7 @@
 
 ghost use Rattle.std.specs.Prelude.{◌≡◌, ◌≤◌, length, IfOk, option_map};
 ghost use Rattle.toml.specs.View.{view, items_view};
-ghost use Rattle.loop_file.specs.Addresses.{worse, both, in_order, pair_of, range_of, all_ranges, ranges_of};
+ghost use Rattle.loop_file.specs.Addresses.{worse, both, in_order, pair_of, read_range, all_ranges, read_ranges};
 
 use crate::address::{Fault, address};
 use crate::notes::RangeList;
@@ -55,9 +55,9 @@ fn pair_of(items: &[Value]) -> Option<(&Value, &Value)>
     Some((&items[0], &items[1]))
 }
 
-#[tactic(auto, unfolding(crate::specs::Addresses::range_of))]
+#[tactic(auto, unfolding(crate::specs::Addresses::read_range))]
 fn range(symbols: &SortedSymbols<'_>, value: &Value) -> Result<Range, Fault>
-    ensures { result ≡ range_of symbols.now (view value.now) }
+    ensures { result ≡ read_range symbols.now (view value.now) }
 {
     let Some(items) = value.as_array() else {
         return Err(Fault::Bad);
@@ -94,13 +94,13 @@ fn all_ranges(
 }
 
 /// The ranges of a value: 1 to 16 of them.
-#[tactic(auto, unfolding(crate::specs::Addresses::ranges_of), using(crate::proofs::Counts::items_count_view))]
+#[tactic(auto, unfolding(crate::specs::Addresses::read_ranges), using(crate::proofs::Counts::items_count_view))]
 pub fn ranges_of(
     alloc: Global,
     symbols: &SortedSymbols<'_>,
     value: &Value,
 ) -> Result<Result<RangeList, Fault>, AllocError>
-    ensures ranges { IfOk result (λ r. r ≡ ranges_of symbols.now (view value.now)) }
+    ensures ranges { IfOk result (λ r. r ≡ read_ranges symbols.now (view value.now)) }
     ensures few { IfOk result (λ r. IfOk r (λ ranges. (1 ≤ length ranges) × (length ranges ≤ 16))) }
 {
     let Some(items) = value.as_array() else {

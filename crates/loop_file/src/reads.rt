@@ -6,7 +6,7 @@ ghost use Rattle.scale_base.specs.Answer.{Answers, Refuses};
 ghost use Rattle.scale_base.specs.declared.refusal.Refusal.TheVariants.{LoopKey, LoopValue};
 ghost use Rattle.table_keys.specs.Keys.{checked_keys, least_unknown};
 ghost use Rattle.loop_file.specs.Notes.{IsLoopNote};
-ghost use Rattle.loop_file.specs.Loops.{version_of, loop_tables, fault_refusal, required_keys, loop_keys, header_at, ranges_at, bound_of, counted_at, least_at, note_of, notes_from, notes_of};
+ghost use Rattle.loop_file.specs.Loops.{loop_version, loop_tables, fault_refusal, required_keys, loop_keys, header_at, ranges_at, bound_of, counted_at, least_at, note_of, notes_from, notes_of};
 
 use crate::address::{Fault, address};
 use crate::notes::{LoopNote, LoopNotes, RangeList};
@@ -61,7 +61,7 @@ fn faulty(alloc: Global, number: u32, key: &str, fault: Fault) -> Stop
 }
 
 fn version(alloc: Global, table: &Table) -> Result<u32, Stop>
-    ensures { Answers (λ n. n) result (version_of (table_view table.now)) }
+    ensures { Answers (λ n. n) result (loop_version (table_view table.now)) }
 {
     if find(table, "version").is_none() {
         return Err(bad_key(alloc, FILE, "version"));

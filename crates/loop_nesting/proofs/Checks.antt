@@ -6,7 +6,7 @@ use Rattle.std.proofs.Math.Logic.{⊎_elim}
 use Rattle.std.proofs.lemmas.List.Folds.{list_any_at, list_all_at}
 use Rattle.std.proofs.lemmas.Map.Views.{Contains-from_any}
 use Rattle.std.specs.List.{Contains, list_any, list_all}
-use Rattle.loop_nesting.specs.Nesting.{HasNode, IsRound, AreLoops, body_at, header_at}
+use Rattle.loop_nesting.specs.Nesting.{HasNode, IsRound, AreLoops, body_at, header_in_list}
 
 unfoldable pub all_below : ℕ → (ℕ → Bool) → Bool
 all_below zero p = true
@@ -22,7 +22,7 @@ abbrev is_pair : List (List ℕ) → ℕ → ℕ → Bool
 is_pair bodies l k = eqb l k || (list_all (λ v. not (has (body_at bodies k) v)) (body_at bodies l) || (is_inside (body_at bodies l) (body_at bodies k) || is_inside (body_at bodies k) (body_at bodies l)))
 
 abbrev is_loop : List (List ℕ) → List ℕ → ℕ → ℕ → Bool
-is_loop bodies headers count l = list_all (λ v. ltb v count) (body_at bodies l) && (has (body_at bodies l) (header_at headers l) && all_below (length bodies) (is_pair bodies l))
+is_loop bodies headers count l = list_all (λ v. ltb v count) (body_at bodies l) && (has (body_at bodies l) (header_in_list headers l) && all_below (length bodies) (is_pair bodies l))
 
 abbrev pub are_loops : List (List ℕ) → List ℕ → ℕ → Bool
 are_loops bodies headers count = eqb (length headers) (length bodies) && all_below (length bodies) (is_loop bodies headers count)
@@ -91,12 +91,12 @@ pub checked_loops : (bodies : List (List ℕ)) (headers : List ℕ) (count : ℕ
 checked_loops bodies headers count h = record {
   sized = eqb-true _ _ parts.0;
   within = λ l v at. ltb-true v count (all_at (λ v. ltb v count) (body_at bodies l) v (one l at.0).0 at.1);
-  headed = λ l ll. (ll, has_contains (body_at bodies l) (header_at headers l) (both _ _ (one l ll).1).0);
+  headed = λ l ll. (ll, has_contains (body_at bodies l) (header_in_list headers l) (both _ _ (one l ll).1).0);
   nested = λ l k v other hl hk le. pair_nested bodies l k v (below_at (length bodies) (is_pair bodies l) (both _ _ (one l hl.0).1).1 k hk.0) other hl hk le;
 }
   where
     parts : (eqb (length headers) (length bodies) ≡ true) × (all_below (length bodies) (is_loop bodies headers count) ≡ true)
     parts = both _ _ h
 
-    one : (l : ℕ) → l < length bodies → (list_all (λ v. ltb v count) (body_at bodies l) ≡ true) × ((has (body_at bodies l) (header_at headers l) && all_below (length bodies) (is_pair bodies l)) ≡ true)
+    one : (l : ℕ) → l < length bodies → (list_all (λ v. ltb v count) (body_at bodies l) ≡ true) × ((has (body_at bodies l) (header_in_list headers l) && all_below (length bodies) (is_pair bodies l)) ≡ true)
     one l ll = both _ _ (below_at (length bodies) (is_loop bodies headers count) parts.1 l ll)

@@ -7,15 +7,15 @@ use Rattle.std.specs.List.{Contains}
 use Rattle.std.proofs.lemmas.List.{get_or_default, get_or-map, length-map}
 use Rattle.std.specs.declared.alloc.Global.{Global}
 use Rattle.loop_nesting.specs.declared.ranks.Rank.{Rank}
-use Rattle.loop_nesting.specs.Nesting.{bodies_of, HasNode, AreLoops, IsNesting, IsParent, body_at, header_at, found_at}
-use Rattle.loop_nesting.specs.Pass.{AreFalling, IsLast, IsPass, ArePut, IsAmong, rank_at}
+use Rattle.loop_nesting.specs.Nesting.{bodies_of, HasNode, AreLoops, IsNesting, IsParentBody, body_at, header_in_list, found_at}
+use Rattle.loop_nesting.specs.Pass.{AreFalling, IsLastRank, IsNestingPass, ArePut, IsAmong, rank_at}
 use Rattle.loop_nesting.proofs.NestingLaws.{innermost_found, parent_found, next_at_header}
 
 pub below_next : (j n : ℕ) → j < n + 1 → (j < n) ⊎ (j ≡ n)
 below_next j n h = grind arith
 
 -- a loop without the node changes nothing
-pub last_stays : (bodies : List (List ℕ)) (ranks : List Rank) (done v : ℕ) (o : Option ℕ) → IsLast bodies ranks done v o → (HasNode bodies (rank_at ranks done).number v → ⊥) → IsLast bodies ranks (done + 1) v o
+pub last_stays : (bodies : List (List ℕ)) (ranks : List Rank) (done v : ℕ) (o : Option ℕ) → IsLastRank bodies ranks done v o → (HasNode bodies (rank_at ranks done).number v → ⊥) → IsLastRank bodies ranks (done + 1) v o
 last_stays bodies ranks done v None last none = λ j lt has. ⊎_elim
     (λ (below : j < done). last j below has)
     (λ (same : j ≡ done). none (subst (λ i. HasNode bodies (rank_at ranks i).number v) same has))
@@ -32,17 +32,17 @@ last_stays bodies ranks done v (Some l) last none = (
 )
 
 -- a loop with the node is the last one
-pub last_here : (bodies : List (List ℕ)) (ranks : List Rank) (done v l : ℕ) → (rank_at ranks done).number ≡ l → HasNode bodies l v → IsLast bodies ranks (done + 1) v (Some l)
+pub last_here : (bodies : List (List ℕ)) (ranks : List Rank) (done v l : ℕ) → (rank_at ranks done).number ≡ l → HasNode bodies l v → IsLastRank bodies ranks (done + 1) v (Some l)
 last_here bodies ranks done v l at has = (done, omega arith, at, has, λ j lt _. omega (arith, lt))
 
 -- the pass after one more loop
 pub pass_more : (bodies : List (List ℕ)) (headers : List ℕ) (count : ℕ) (ranks : List Rank) (done l : ℕ) (innermost new parent : List (Option ℕ)) →
     AreFalling bodies ranks → AreLoops bodies headers count → done < length ranks → (rank_at ranks done).number ≡ l → length innermost ≡ count → length new ≡ length innermost →
-    IsPass bodies headers ranks done innermost parent → ArePut innermost new (body_at bodies l) (length (body_at bodies l)) l →
-    IsPass bodies headers ranks (done + 1) new (slice_set parent l (found_at innermost (header_at headers l)))
+    IsNestingPass bodies headers ranks done innermost parent → ArePut innermost new (body_at bodies l) (length (body_at bodies l)) l →
+    IsNestingPass bodies headers ranks (done + 1) new (slice_set parent l (found_at innermost (header_in_list headers l)))
 pass_more bodies headers count ranks done l innermost new parent f loops dl at nodes size pass put =
     let ll : l < length bodies = subst (λ x. x < length bodies) at (f.within done dl) in
-    let h = header_at headers l in
+    let h = header_in_list headers l in
     let hl : h < length innermost = (let lt = loops.within l h (loops.headed l ll) in omega (arith, nodes, lt)) in
     let pl : l < length parent = omega (arith, ll, pass.loops) in
     record {
@@ -51,20 +51,20 @@ pass_more bodies headers count ranks done l innermost new parent f loops dl at n
           let ol : v < length innermost = omega (arith, vl, size) in
           ⊎_elim
           (λ (here : IsAmong (body_at bodies l) (length (body_at bodies l)) v × (found_at new v ≡ Some l)).
-          subst (λ o. IsLast bodies ranks (done + 1) v o) (sym here.1) (last_here bodies ranks done v l at (ll, here.0)))
+          subst (λ o. IsLastRank bodies ranks (done + 1) v o) (sym here.1) (last_here bodies ranks done v l at (ll, here.0)))
           (λ (there : (IsAmong (body_at bodies l) (length (body_at bodies l)) v → ⊥) × (found_at new v ≡ found_at innermost v)).
-          subst (λ o. IsLast bodies ranks (done + 1) v o) (sym there.1)
+          subst (λ o. IsLastRank bodies ranks (done + 1) v o) (sym there.1)
           (last_stays bodies ranks done v (found_at innermost v) (pass.last v ol) (λ has. there.0 (subst (λ x. HasNode bodies x v) at has).1)))
           (put v ol);
       next = λ j lt. ⊎_elim
           (λ (below : j < done).
           let other : (rank_at ranks j).number ≢ l = λ e. f.distinct j done below dl (e ∙ sym at) in
-          subst (λ o. IsLast bodies ranks j (header_at headers (rank_at ranks j).number) o) (sym (get_or-set_other parent l (rank_at ranks j).number (found_at innermost h) None other)) (pass.next j below))
+          subst (λ o. IsLastRank bodies ranks j (header_in_list headers (rank_at ranks j).number) o) (sym (get_or-set_other parent l (rank_at ranks j).number (found_at innermost h) None other)) (pass.next j below))
           (λ (same : j ≡ done).
           let e : (rank_at ranks j).number ≡ l = ap (λ i. (rank_at ranks i).number) same ∙ at in
-          subst (λ x. IsLast bodies ranks j (header_at headers x) (found_at (slice_set parent l (found_at innermost h)) x)) (sym e)
-          (subst (λ o. IsLast bodies ranks j h o) (sym (get_or-set_same parent l (found_at innermost h) None pl))
-          (subst (λ i. IsLast bodies ranks i h (found_at innermost h)) (sym same) (pass.last h hl))))
+          subst (λ x. IsLastRank bodies ranks j (header_in_list headers x) (found_at (slice_set parent l (found_at innermost h)) x)) (sym e)
+          (subst (λ o. IsLastRank bodies ranks j h o) (sym (get_or-set_same parent l (found_at innermost h) None pl))
+          (subst (λ i. IsLastRank bodies ranks i h (found_at innermost h)) (sym same) (pass.last h hl))))
           (below_next j done lt);
     }
 
@@ -102,23 +102,23 @@ body_read bodies l d body lt is =
     ap (λ (body : Vec ℕ Global). body.items) is ∙ sym (get_or-map (λ (body : Vec ℕ Global). body.items) bodies l d [] inside)
 
 -- the header of the loop at a place is a node
-pub header_within : (bodies : List (List ℕ)) (headers : List ℕ) (count : ℕ) (ranks : List Rank) (i : ℕ) → AreLoops bodies headers count → AreFalling bodies ranks → i < length ranks → header_at headers (rank_at ranks i).number < count
+pub header_within : (bodies : List (List ℕ)) (headers : List ℕ) (count : ℕ) (ranks : List Rank) (i : ℕ) → AreLoops bodies headers count → AreFalling bodies ranks → i < length ranks → header_in_list headers (rank_at ranks i).number < count
 header_within bodies headers count ranks i loops f il = loops.within _ _ (loops.headed _ (f.within i il))
 
 -- the pass over all loops gives their nesting
 pub nesting_found : (bodies : List (List ℕ)) (headers : List ℕ) (count : ℕ) (ranks : List Rank) (done : ℕ) (innermost parent : List (Option ℕ)) →
-    AreLoops bodies headers count → AreFalling bodies ranks → done ≡ length ranks → length innermost ≡ count → IsPass bodies headers ranks done innermost parent →
+    AreLoops bodies headers count → AreFalling bodies ranks → done ≡ length ranks → length innermost ≡ count → IsNestingPass bodies headers ranks done innermost parent →
     IsNesting bodies headers count (record { innermost = innermost; parent = parent })
 nesting_found bodies headers count ranks done innermost parent loops f all nodes pass = record {
   nodes = nodes;
   loops = pass.loops;
-  innermost = λ v vl. innermost_found bodies ranks v f loops.nested (found_at innermost v) (subst (λ n. IsLast bodies ranks n v (found_at innermost v)) all (pass.last v (omega (arith, vl, nodes))));
+  innermost = λ v vl. innermost_found bodies ranks v f loops.nested (found_at innermost v) (subst (λ n. IsLastRank bodies ranks n v (found_at innermost v)) all (pass.last v (omega (arith, vl, nodes))));
   parent = parents;
   at_header = λ outer l ll. next_at_header bodies headers count l loops outer ll (found_at parent l) (parents l ll);
 }
   where
-    parents : (l : ℕ) → l < length bodies → IsParent bodies l (found_at parent l)
+    parents : (l : ℕ) → l < length bodies → IsParentBody bodies l (found_at parent l)
     parents l ll =
         let at = f.whole l ll in
-        let last : IsLast bodies ranks at.0 (header_at headers l) (found_at parent l) = subst (λ x. IsLast bodies ranks at.0 (header_at headers x) (found_at parent x)) at.2 (pass.next at.0 (let il = at.1 in omega (arith, il, all))) in
+        let last : IsLastRank bodies ranks at.0 (header_in_list headers l) (found_at parent l) = subst (λ x. IsLastRank bodies ranks at.0 (header_in_list headers x) (found_at parent x)) at.2 (pass.next at.0 (let il = at.1 in omega (arith, il, all))) in
         parent_found bodies headers count ranks at.0 l f loops at.1 at.2 ll (found_at parent l) last

@@ -11,8 +11,8 @@ bodies_of bodies = map (λ body. body.items) bodies
 abbrev pub body_at : List (List ℕ) → ℕ → List ℕ
 body_at bodies l = slice_index_or bodies l []
 
-abbrev pub header_at : List ℕ → ℕ → ℕ
-header_at headers l = slice_index_or headers l 0
+abbrev pub header_in_list : List ℕ → ℕ → ℕ
+header_in_list headers l = slice_index_or headers l 0
 
 abbrev pub found_at : List (Option ℕ) → ℕ → Option ℕ
 found_at options k = slice_index_or options k None
@@ -33,29 +33,29 @@ AreNested bodies = (l k v : ℕ) → l ≢ k → HasNode bodies l v → HasNode 
 pub record AreLoops (bodies : List (List ℕ)) (headers : List ℕ) (count : ℕ) : Type 0 where
   pub sized : length headers ≡ length bodies
   pub within : (l v : ℕ) → HasNode bodies l v → v < count
-  pub headed : (l : ℕ) → l < length bodies → HasNode bodies l (header_at headers l)
+  pub headed : (l : ℕ) → l < length bodies → HasNode bodies l (header_in_list headers l)
   pub nested : AreNested bodies
 
 -- of the loops of a kind the one with the shortest body, or none where there is no loop of the kind
-abbrev pub IsLeast : List (List ℕ) → (ℕ → Type 0) → Option ℕ → Type 0
-IsLeast bodies Is None = (k : ℕ) → k < length bodies → Is k → ⊥
-IsLeast bodies Is (Some l) = (l < length bodies) × Is l × ((k : ℕ) → k < length bodies → k ≢ l → Is k → length (body_at bodies l) < length (body_at bodies k))
+abbrev pub IsShortestBody : List (List ℕ) → (ℕ → Type 0) → Option ℕ → Type 0
+IsShortestBody bodies Is None = (k : ℕ) → k < length bodies → Is k → ⊥
+IsShortestBody bodies Is (Some l) = (l < length bodies) × Is l × ((k : ℕ) → k < length bodies → k ≢ l → Is k → length (body_at bodies l) < length (body_at bodies k))
 
 -- the least of the loops that have node v
-abbrev pub IsInnermost : List (List ℕ) → ℕ → Option ℕ → Type 0
-IsInnermost bodies v = IsLeast bodies (λ k. HasNode bodies k v)
+abbrev pub IsInnermostBody : List (List ℕ) → ℕ → Option ℕ → Type 0
+IsInnermostBody bodies v = IsShortestBody bodies (λ k. HasNode bodies k v)
 
 -- the least of the loops round loop l
-abbrev pub IsParent : List (List ℕ) → ℕ → Option ℕ → Type 0
-IsParent bodies l = IsLeast bodies (λ k. IsRound bodies k l)
+abbrev pub IsParentBody : List (List ℕ) → ℕ → Option ℕ → Type 0
+IsParentBody bodies l = IsShortestBody bodies (λ k. IsRound bodies k l)
 
 -- the least of the other loops that have the header of loop l
 abbrev pub IsNextAtHeader : List (List ℕ) → List ℕ → ℕ → Option ℕ → Type 0
-IsNextAtHeader bodies headers l = IsLeast bodies (λ k. (k ≢ l) × HasNode bodies k (header_at headers l))
+IsNextAtHeader bodies headers l = IsShortestBody bodies (λ k. (k ≢ l) × HasNode bodies k (header_in_list headers l))
 
 -- the other loops that have a loop's header are longer
 abbrev pub AreHeadersOuter : List (List ℕ) → List ℕ → Type 0
-AreHeadersOuter bodies headers = (l k : ℕ) → l < length bodies → k ≢ l → HasNode bodies k (header_at headers l) → length (body_at bodies l) < length (body_at bodies k)
+AreHeadersOuter bodies headers = (l k : ℕ) → l < length bodies → k ≢ l → HasNode bodies k (header_in_list headers l) → length (body_at bodies l) < length (body_at bodies k)
 
 -- by node and by loop
 pub record NestingView : Type 0 where
@@ -65,6 +65,6 @@ pub record NestingView : Type 0 where
 pub record IsNesting (bodies : List (List ℕ)) (headers : List ℕ) (count : ℕ) (nesting : NestingView) : Type 0 where
   pub nodes : length nesting.innermost ≡ count
   pub loops : length nesting.parent ≡ length bodies
-  pub innermost : (v : ℕ) → v < count → IsInnermost bodies v (found_at nesting.innermost v)
-  pub parent : (l : ℕ) → l < length bodies → IsParent bodies l (found_at nesting.parent l)
+  pub innermost : (v : ℕ) → v < count → IsInnermostBody bodies v (found_at nesting.innermost v)
+  pub parent : (l : ℕ) → l < length bodies → IsParentBody bodies l (found_at nesting.parent l)
   pub at_header : AreHeadersOuter bodies headers → (l : ℕ) → l < length bodies → IsNextAtHeader bodies headers l (found_at nesting.parent l)

@@ -1,7 +1,7 @@
 -- What a pass over the loops keeps, the longest body first.
 use Rattle.std.specs.Prelude.{◌≡◌, ◌≢◌, ℕ, ◌<◌, ◌≤◌, List, length, slice_index_or, Option, Some, None, ◌⊎◌}
 use Rattle.loop_nesting.specs.declared.ranks.Rank.{Rank}
-use Rattle.loop_nesting.specs.Nesting.{HasNode, body_at, header_at, found_at}
+use Rattle.loop_nesting.specs.Nesting.{HasNode, body_at, header_in_list, found_at}
 
 abbrev pub rank_at : List Rank → ℕ → Rank
 rank_at ranks i = slice_index_or ranks i (record { size = 0; number = 0 })
@@ -30,12 +30,12 @@ ArePut old new body n number = (v : ℕ) → v < length old →
     (IsAmong body n v × (found_at new v ≡ Some number)) ⊎ ((IsAmong body n v → ⊥) × (found_at new v ≡ found_at old v))
 
 -- the last of the first ranks whose loop has node v
-abbrev pub IsLast : List (List ℕ) → List Rank → ℕ → ℕ → Option ℕ → Type 0
-IsLast bodies ranks done v None = (j : ℕ) → j < done → HasNode bodies (rank_at ranks j).number v → ⊥
-IsLast bodies ranks done v (Some l) = (i : ℕ) × (i < done) × ((rank_at ranks i).number ≡ l) × HasNode bodies l v ×
+abbrev pub IsLastRank : List (List ℕ) → List Rank → ℕ → ℕ → Option ℕ → Type 0
+IsLastRank bodies ranks done v None = (j : ℕ) → j < done → HasNode bodies (rank_at ranks j).number v → ⊥
+IsLastRank bodies ranks done v (Some l) = (i : ℕ) × (i < done) × ((rank_at ranks i).number ≡ l) × HasNode bodies l v ×
     ((j : ℕ) → j < done → HasNode bodies (rank_at ranks j).number v → j ≤ i)
 
-pub record IsPass (bodies : List (List ℕ)) (headers : List ℕ) (ranks : List Rank) (done : ℕ) (innermost parent : List (Option ℕ)) : Type 0 where
+pub record IsNestingPass (bodies : List (List ℕ)) (headers : List ℕ) (ranks : List Rank) (done : ℕ) (innermost parent : List (Option ℕ)) : Type 0 where
   pub loops : length parent ≡ length bodies
-  pub last : (v : ℕ) → v < length innermost → IsLast bodies ranks done v (found_at innermost v)
-  pub next : (j : ℕ) → j < done → IsLast bodies ranks j (header_at headers (rank_at ranks j).number) (found_at parent (rank_at ranks j).number)
+  pub last : (v : ℕ) → v < length innermost → IsLastRank bodies ranks done v (found_at innermost v)
+  pub next : (j : ℕ) → j < done → IsLastRank bodies ranks j (header_in_list headers (rank_at ranks j).number) (found_at parent (rank_at ranks j).number)

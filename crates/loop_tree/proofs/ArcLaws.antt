@@ -4,7 +4,7 @@ use Rattle.std.proofs.lemmas.Bool.{cases_lt}
 use Rattle.std.proofs.lemmas.List.{get_or_append_left, get_or-append_right}
 use Rattle.std.proofs.lemmas.Option.{slice_get_within}
 use Rattle.call_orders.specs.declared.Arc.{Arc}
-use Rattle.call_orders.specs.Arcs.{arc_at, number_at, AreNumbered, HasArc, IsCycle}
+use Rattle.call_orders.specs.Arcs.{arc_at, number_in_place, AreNumbered, HasArc, IsCycle}
 use Rattle.code_graph.specs.FlowGraph.{FlowGraph, graph}
 use Rattle.loop_tree.specs.Arcs.{IsPlainBy, IsEdgeBetween, ArePlainArcs, HasPlainEdge, IsRoundOfNodes}
 
@@ -55,8 +55,8 @@ pub round_of_arcs : (v : FlowGraph) (backs : List (Option ℕ)) (arcs : List Arc
 round_of_arcs v backs arcs numbers are is = record {
   some = is.some;
   within = λ i lt. ⊎_elim
-      (λ (low : i + 1 < length numbers). edge_within v backs (number_at numbers i) (number_at numbers (i + 1)) (arc_edge v backs arcs _ _ are (is.onward i low)))
-      (λ (high : length numbers ≤ i + 1). edge_within v backs (number_at numbers i) (number_at numbers 0) (arc_edge v backs arcs _ _ are (is.round i (omega arith))))
+      (λ (low : i + 1 < length numbers). edge_within v backs (number_in_place numbers i) (number_in_place numbers (i + 1)) (arc_edge v backs arcs _ _ are (is.onward i low)))
+      (λ (high : length numbers ≤ i + 1). edge_within v backs (number_in_place numbers i) (number_in_place numbers 0) (arc_edge v backs arcs _ _ are (is.round i (omega arith))))
       (cases_lt (i + 1) (length numbers));
   distinct = is.distinct;
   onward = λ i lt. arc_edge v backs arcs _ _ are (is.onward i lt);

@@ -11,12 +11,12 @@ use Rattle.natural_loops.specs.Noted.{node_address, loops_by}
 use Rattle.natural_loops.proofs.Laws.{one_number}
 use Rattle.loop_tree.specs.Tree.{IsPlainStep}
 use Rattle.loop_tree.specs.Arcs.{IsPlainBy}
-use Rattle.loop_tree.specs.Backs.{AreHeaderNumbers, ArePlacedHeaders, AreLoopLists, IsBackBetween, AreBacks, IsStepBy, loop_at}
+use Rattle.loop_tree.specs.Backs.{AreDistinctHeaders, ArePlacedHeaders, AreLoopLists, IsBackBetween, AreBacks, IsStepBy, loop_at}
 use Rattle.loop_tree.proofs.Lists.{among_at, at_among, body_of-map, image_some}
 
 -- ---- headers by node
 
-pub placed_more : (headers : List ℕ) (n count : ℕ) (heads : List (Option ℕ)) → AreHeaderNumbers headers count → n < length headers → ArePlacedHeaders headers n count heads →
+pub placed_more : (headers : List ℕ) (n count : ℕ) (heads : List (Option ℕ)) → AreDistinctHeaders headers count → n < length headers → ArePlacedHeaders headers n count heads →
     ArePlacedHeaders headers (n + 1) count (slice_set heads (slice_index headers n) (Some n))
 placed_more headers n count heads are lt placed =
     let size = placed.size in

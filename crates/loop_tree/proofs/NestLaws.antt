@@ -9,8 +9,8 @@ use Rattle.cost_theory.specs.Lists.{body_of, is_among}
 use Rattle.cost_theory.proofs.Laws.{header_held, one_within, held_within}
 use Rattle.code_graph.specs.FlowGraph.{FlowGraph, graph, IsFlowGraph}
 use Rattle.natural_loops.specs.Noted.{node_address, loops_by}
-use Rattle.loop_nesting.specs.Nesting.{HasNode, IsRound, AreLoops, AreHeadersOuter, IsLeast, IsNextAtHeader, body_at}
-use Rattle.loop_nesting.specs.Nesting.{IsInnermost as IsShortest}
+use Rattle.loop_nesting.specs.Nesting.{HasNode, IsRound, AreLoops, AreHeadersOuter, IsShortestBody, IsNextAtHeader, body_at}
+use Rattle.loop_nesting.specs.Nesting.{IsInnermostBody as IsShortest}
 use Rattle.loop_tree.specs.Tree.{IsLeastLoop, IsInnermost, IsParent}
 use Rattle.loop_tree.specs.Backs.{AreLoopLists}
 use Rattle.loop_tree.proofs.Lists.{among_at, at_among, held_shorter, body_same}
@@ -108,7 +108,7 @@ module _ (v : FlowGraph) (headers bounds : List ℕ) (bodies : List (List ℕ)) 
 
   -- of loops with a common node the one with the shortest body is held by all
   least_loop : (x : ℕ) (Is Has : ℕ → Type 0) → ((k : ℕ) → k < length headers → Is k → Has k) → ((k : ℕ) → k < length headers → Has k → Is k) → ((k : ℕ) → Has k → HasNode bodies k x) →
-      (o : Option ℕ) → IsLeast bodies Has o → IsLeastLoop these Is o
+      (o : Option ℕ) → IsShortestBody bodies Has o → IsLeastLoop these Is o
   least_loop x Is Has there back node None least = λ k kl is. least k (in_bodies k (in_headers k kl)) (there k (in_headers k kl) is)
   least_loop x Is Has there back node (Some j) least =
       let jl : j < length headers = from_bodies j least.0 in (

@@ -3,7 +3,7 @@ use Rattle.std.proofs.Common.{◌≡◌, ℕ, ◌-◌, ◌<◌, ◌≤◌, Bool,
 use Rattle.std.proofs.lemmas.Bool.{cases_lt}
 use Rattle.std.proofs.lemmas.Option.{slice_get_within, slice_get-get_or, get_or_from_slice_get}
 use Rattle.call_orders.specs.declared.Arc.{Arc}
-use Rattle.call_orders.specs.Arcs.{arc_at, number_at, AreDistinct, IsSorted}
+use Rattle.call_orders.specs.Arcs.{arc_at, number_in_place, AreDistinct, IsSorted}
 use Rattle.cost_theory.specs.Graph.{Loops, IsPlain, find_below}
 use Rattle.cost_theory.specs.Accepted.{IsNode, IsPlainOrder}
 use Rattle.cost_theory.proofs.Laws.{find-holds, find-some}
@@ -15,10 +15,10 @@ use Rattle.natural_loops.proofs.Laws.{one_number}
 -- a list from its end to its beginning
 pub record IsTurned (numbers turned : List ℕ) : Type 0 where
   pub size : length turned ≡ length numbers
-  pub each : (i : ℕ) → i < length numbers → number_at turned i ≡ number_at numbers (length numbers - 1 - i)
+  pub each : (i : ℕ) → i < length numbers → number_in_place turned i ≡ number_in_place numbers (length numbers - 1 - i)
 
 -- in a list of distinct numbers each has one place
-pub one_place : (numbers : List ℕ) → AreDistinct numbers → (i j : ℕ) → i < length numbers → j < length numbers → number_at numbers i ≡ number_at numbers j → i ≡ j
+pub one_place : (numbers : List ℕ) → AreDistinct numbers → (i j : ℕ) → i < length numbers → j < length numbers → number_in_place numbers i ≡ number_in_place numbers j → i ≡ j
 one_place numbers distinct i j il jl e = ⊎_elim
     (λ (lt : i < j). absurd (distinct i j lt jl e))
     (λ (le : j ≤ i). ⊎_elim
@@ -28,7 +28,7 @@ one_place numbers distinct i j il jl e = ⊎_elim
     (cases_lt i j)
 
 -- where an element of the turned list stood
-turned_place : (numbers turned : List ℕ) (i k : ℕ) → IsTurned numbers turned → slice_get turned i ≡ Some k → (i < length numbers) × (number_at numbers (length numbers - 1 - i) ≡ k)
+turned_place : (numbers turned : List ℕ) (i k : ℕ) → IsTurned numbers turned → slice_get turned i ≡ Some k → (i < length numbers) × (number_in_place numbers (length numbers - 1 - i) ≡ k)
 turned_place numbers turned i k is e =
     let size = is.size in
     let within : i < length turned = slice_get_within turned i k e in
@@ -43,11 +43,11 @@ ordered v l backs arcs order turned flow by_plain are sorted is =
     let size = is.size in
     record {
       within = λ i k e. let p = turned_place order turned i k is e in
-          let lt = p.0 in let low : number_at order (length order - 1 - i) < length v.code.nodes = sorted.within (length order - 1 - i) (omega arith) in let same = p.1 in omega arith;
+          let lt = p.0 in let low : number_in_place order (length order - 1 - i) < length v.code.nodes = sorted.within (length order - 1 - i) (omega arith) in let same = p.1 in omega arith;
       whole = λ k lt. let p = sorted.whole k lt in let low = p.1 in
           let at : length order - 1 - p.0 < length order = omega arith in
           let back : length order - 1 - (length order - 1 - p.0) ≡ p.0 = omega arith in
-          (length order - 1 - p.0, slice_get-get_or turned (length order - 1 - p.0) 0 (omega arith) ∙ ap Some (is.each (length order - 1 - p.0) at ∙ ap (number_at order) back ∙ p.2));
+          (length order - 1 - p.0, slice_get-get_or turned (length order - 1 - p.0) 0 (omega arith) ∙ ap Some (is.each (length order - 1 - p.0) at ∙ ap (number_in_place order) back ∙ p.2));
       once = λ i j k p q. let a = turned_place order turned i k is p in let b = turned_place order turned j k is q in
           let il = a.0 in let jl = b.0 in
           let same : length order - 1 - i ≡ length order - 1 - j = one_place order sorted.distinct (length order - 1 - i) (length order - 1 - j) (omega arith) (omega arith) (a.1 ∙ sym b.1) in

@@ -1,7 +1,7 @@
 -- Cycles of plain edges by the addresses of their nodes.
 use Rattle.std.proofs.Common.{◌≡◌, ℕ, ◌+◌, List, slice_get, Option, Some, sym, ap, ◌∙◌, arith}
 use Rattle.std.proofs.lemmas.Option.{same_Some}
-use Rattle.call_orders.specs.Arcs.{number_at}
+use Rattle.call_orders.specs.Arcs.{number_in_place}
 use Rattle.call_orders.specs.Cycles.{IsCycleBy}
 use Rattle.call_orders.proofs.Laws.{IsRound}
 use Rattle.code_graph.specs.FlowGraph.{FlowGraph, IsFlowGraph}
@@ -17,9 +17,9 @@ round_of_addresses v backs numbers addresses flow is are =
     let size = are.size in
     record {
       distinct = λ i j ij jl same.
-          is.distinct i j ij (omega arith) (one_number v flow (number_at numbers i) (number_at numbers j) (number_at addresses j) (are.each i (omega arith) ∙ ap Some same) (are.each j (omega arith)));
-      onward = λ i lt. edge_step v backs (number_at numbers i) (number_at numbers (i + 1)) _ _ (is.onward i (omega arith)) (are.each i (omega arith)) (are.each (i + 1) (omega arith));
-      round = λ i e. edge_step v backs (number_at numbers i) (number_at numbers 0) _ _ (is.round i (omega arith)) (are.each i (omega arith)) (are.each 0 (omega arith));
+          is.distinct i j ij (omega arith) (one_number v flow (number_in_place numbers i) (number_in_place numbers j) (number_in_place addresses j) (are.each i (omega arith) ∙ ap Some same) (are.each j (omega arith)));
+      onward = λ i lt. edge_step v backs (number_in_place numbers i) (number_in_place numbers (i + 1)) _ _ (is.onward i (omega arith)) (are.each i (omega arith)) (are.each (i + 1) (omega arith));
+      round = λ i e. edge_step v backs (number_in_place numbers i) (number_in_place numbers 0) _ _ (is.round i (omega arith)) (are.each i (omega arith)) (are.each 0 (omega arith));
     }
 
 -- a cycle of one relation is one of another that it implies

@@ -15,10 +15,10 @@ use Rattle.natural_loops.specs.Noted.{node_address, header_address}
 use Rattle.natural_loops.specs.Found.{LoopsView, AreNaturalLoops, loops_seen}
 use Rattle.natural_loops.specs.Refused.{AreNoted}
 use Rattle.loop_nesting.specs.Nesting.{IsNesting, IsNextAtHeader}
-use Rattle.loop_nesting.specs.Nesting.{IsInnermost as IsShortest}
+use Rattle.loop_nesting.specs.Nesting.{IsInnermostBody as IsShortest}
 use Rattle.loop_tree.proofs.Lists.{image_some}
 use Rattle.loop_tree.specs.Tree.{LoopView, ArePlainOrdered, HasWholeExtent, IsTreeOf, IsPlainStep, IsCycleRefused}
-use Rattle.loop_tree.specs.Stored.{IsStored}
+use Rattle.loop_tree.specs.Stored.{IsStoredTree}
 use Rattle.loop_tree.specs.Backs.{AreLoopLists, AreBacks, IsStepBy}
 use Rattle.loop_tree.specs.Trips.{IsWholeBody, AreTrips}
 use Rattle.call_orders.specs.declared.Arc.{Arc}
@@ -98,7 +98,7 @@ module _ (v : FlowGraph) (notes : List LoopNote) (t : LoopsView) (flow : IsFlowG
 -- what a tree of these parts keeps
 pub stored : (v : FlowGraph) (notes : List LoopNote) (t : LoopsView) (trips : List ℕ) (backs innermost parent : List (Option ℕ)) (order : List ℕ) → AreLoopNotes notes → AreNaturalLoops v notes t → AreTrips v notes t.bodies (length notes) trips →
     length parent ≡ length t.bodies →
-    IsStored (record { headers = t.headers; bounds = bounds_in notes; counted = map (λ (note : LoopNote). note.counted) notes; least_trips = trips; bodies = t.bodies; backs = backs; innermost = innermost; parent = parent; order = order })
+    IsStoredTree (record { headers = t.headers; bounds = bounds_in notes; counted = map (λ (note : LoopNote). note.counted) notes; least_trips = trips; bodies = t.bodies; backs = backs; innermost = innermost; parent = parent; order = order })
 stored v notes t trips backs innermost parent order in_range are turn size = record {
   few = subst (λ n. n ≤ 4096) (sym are.headers_size) in_range.few;
   bounds = length-map notes (λ (note : LoopNote). note.bound) ∙ sym are.headers_size;

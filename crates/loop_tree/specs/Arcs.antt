@@ -1,7 +1,7 @@
 -- The edges between nodes, as arcs between their numbers.
 use Rattle.std.specs.Prelude.{◌≡◌, ℕ, ◌+◌, ◌<◌, ◌≤◌, List, length, slice_get, Option, Some, None, IsSome}
 use Rattle.call_orders.specs.declared.Arc.{Arc}
-use Rattle.call_orders.specs.Arcs.{arc_at, number_at, AreDistinct}
+use Rattle.call_orders.specs.Arcs.{arc_at, number_in_place, AreDistinct}
 use Rattle.code_graph.specs.FlowGraph.{FlowGraph, graph}
 
 -- edge e leads from the node of one number to that of another
@@ -26,12 +26,12 @@ HasPlainEdge v backs a b = (e : ℕ) × (e < (graph v).edges) × IsPlainBy backs
 -- numbers of nodes, at least one, all different, each with a plain edge to the next and the last with one to the first
 pub record IsRoundOfNodes (v : FlowGraph) (backs : List (Option ℕ)) (numbers : List ℕ) : Type 0 where
   pub some : 0 < length numbers
-  pub within : (i : ℕ) → i < length numbers → number_at numbers i < length v.code.nodes
+  pub within : (i : ℕ) → i < length numbers → number_in_place numbers i < length v.code.nodes
   pub distinct : AreDistinct numbers
-  pub onward : (i : ℕ) → i + 1 < length numbers → HasPlainEdge v backs (number_at numbers i) (number_at numbers (i + 1))
-  pub round : (i : ℕ) → i + 1 ≡ length numbers → HasPlainEdge v backs (number_at numbers i) (number_at numbers 0)
+  pub onward : (i : ℕ) → i + 1 < length numbers → HasPlainEdge v backs (number_in_place numbers i) (number_in_place numbers (i + 1))
+  pub round : (i : ℕ) → i + 1 ≡ length numbers → HasPlainEdge v backs (number_in_place numbers i) (number_in_place numbers 0)
 
 -- the addresses of the nodes of these numbers
 pub record AreAddressesOf (v : FlowGraph) (numbers addresses : List ℕ) : Type 0 where
   pub size : length addresses ≡ length numbers
-  pub each : (i : ℕ) → i < length numbers → slice_get v.code.nodes (number_at numbers i) ≡ Some (number_at addresses i)
+  pub each : (i : ℕ) → i < length numbers → slice_get v.code.nodes (number_in_place numbers i) ≡ Some (number_in_place addresses i)

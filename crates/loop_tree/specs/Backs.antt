@@ -11,7 +11,7 @@ abbrev pub IsRising : List ℕ → Type 0
 IsRising numbers = (i j x y : ℕ) → i < j → slice_get numbers i ≡ Some x → slice_get numbers j ≡ Some y → x < y
 
 -- different numbers below the count
-pub record AreHeaderNumbers (headers : List ℕ) (count : ℕ) : Type 0 where
+pub record AreDistinctHeaders (headers : List ℕ) (count : ℕ) : Type 0 where
   pub within : (k : ℕ) → k < length headers → slice_index headers k < count
   pub distinct : AreDistinct headers
 
@@ -27,7 +27,7 @@ pub record ArePlacedHeaders (headers : List ℕ) (n count : ℕ) (heads : List (
 -- headers and ascending bodies of loops, by the numbers of nodes
 pub record AreLoopLists (v : FlowGraph) (headers : List ℕ) (bodies : List (List ℕ)) : Type 0 where
   pub size : length bodies ≡ length headers
-  pub headers_are : AreHeaderNumbers headers (length v.code.nodes)
+  pub headers_are : AreDistinctHeaders headers (length v.code.nodes)
   pub body : (k : ℕ) → k < length headers → IsAscending (length v.code.nodes) (body_of bodies k)
 
 -- edge e leads from a node of the body of loop k to its header

@@ -4,7 +4,7 @@ use Rattle.cost_theory.specs.Lists.{body_of}
 use Rattle.loop_tree.specs.Tree.{LoopView}
 
 -- at most 4,096 loops, one of each list's items for each loop, bounds that are kept, and ascending bodies
-pub record IsStored (t : LoopView) : Type 0 where
+pub record IsStoredTree (t : LoopView) : Type 0 where
   pub few : length t.headers ≤ 4096
   pub bounds : length t.bounds ≡ length t.headers
   pub counted : length t.counted ≡ length t.headers

@@ -4,7 +4,7 @@ ghost use Rattle.std.specs.Prelude.{◌≡◌, ◌<◌, ◌↔◌, ℕ, Some, le
 ghost use Rattle.cost_theory.specs.Lists.{is_among};
 ghost use Rattle.code_graph.specs.FlowGraph.{IsFlowGraph};
 ghost use Rattle.loop_nesting.specs.Nesting.{bodies_of};
-ghost use Rattle.loop_tree.specs.Backs.{IsRising, AreHeaderNumbers, ArePlacedHeaders, AreLoopLists, IsBackBetween, AreBacks};
+ghost use Rattle.loop_tree.specs.Backs.{IsRising, AreDistinctHeaders, ArePlacedHeaders, AreLoopLists, IsBackBetween, AreBacks};
 
 use code_graph::CodeGraph;
 use natural_loops::node_at;
@@ -25,7 +25,7 @@ fn loops_by_header(
     headers: &[usize],
     count: usize,
 ) -> Result<Vec<Option<usize>>, NoMemory>
-    requires { AreHeaderNumbers headers.now count }
+    requires { AreDistinctHeaders headers.now count }
     ensures { IfOk result (λ heads. ArePlacedHeaders headers.now (length headers.now) count heads.items) }
 {
     let mut heads: Vec<Option<usize>> = vec![in alloc; None; count]?;

@@ -2,7 +2,7 @@
 
 ghost use Rattle.std.specs.Prelude.{ℕ, ◌<◌, List, length, Option, IfOk};
 ghost use Rattle.code_graph.specs.FlowGraph.{IsFlowGraph};
-ghost use Rattle.call_orders.specs.Arcs.{number_at};
+ghost use Rattle.call_orders.specs.Arcs.{number_in_place};
 ghost use Rattle.call_orders.specs.Cycles.{IsCycleBy};
 ghost use Rattle.loop_tree.specs.Arcs.{AreAddressesOf, IsRoundOfNodes};
 ghost use Rattle.loop_tree.specs.Backs.{IsStepBy};
@@ -14,7 +14,7 @@ use std::alloc::Global;
 
 /// The addresses of nodes.
 fn addresses_of(alloc: Global, graph: &CodeGraph, numbers: &[usize]) -> Result<Vec<u32>, NoMemory>
-    requires within { (i : ℕ) → i < length numbers.now → number_at numbers.now i < length graph.now.code.nodes }
+    requires within { (i : ℕ) → i < length numbers.now → number_in_place numbers.now i < length graph.now.code.nodes }
     ensures { IfOk result (λ addresses. AreAddressesOf graph.now numbers.now addresses.items) }
 {
     let mut addresses = Vec::new(alloc);
@@ -29,7 +29,7 @@ fn addresses_of(alloc: Global, graph: &CodeGraph, numbers: &[usize]) -> Result<V
 pub fn cycle_of(alloc: Global, graph: &CodeGraph, numbers: &[usize]) -> Result<Cycle, NoMemory>
     requires flow { IsFlowGraph graph.now }
     requires some { 0 < length numbers.now }
-    requires within { (i : ℕ) → i < length numbers.now → number_at numbers.now i < length graph.now.code.nodes }
+    requires within { (i : ℕ) → i < length numbers.now → number_in_place numbers.now i < length graph.now.code.nodes }
     ensures { (backs : List (Option ℕ)) → IsRoundOfNodes graph.now backs numbers.now → IfOk result (λ cycle. IsCycleBy (IsStepBy graph.now backs) cycle) }
 {
     let addresses = addresses_of(alloc, graph, numbers)?;

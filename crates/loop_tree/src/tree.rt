@@ -29,13 +29,13 @@ pub struct LoopTree {
 impl Model for LoopTree {
     ghost use Rattle.std.specs.Prelude.{map};
     ghost use Rattle.loop_tree.specs.Tree.{LoopView};
-    ghost use Rattle.loop_tree.specs.Stored.{IsStored};
+    ghost use Rattle.loop_tree.specs.Stored.{IsStoredTree};
 
     ghost Value = { LoopView };
 
     ghost view = { λ t. record { headers = t.headers.items; bounds = t.bounds.items; counted = t.counted.items; least_trips = t.least_trips.items; bodies = map (λ body. body.items) t.bodies.items; backs = t.backs.items; innermost = t.innermost.items; parent = t.parent.items; order = t.order.items } };
 
-    ghost invariant = { λ t. IsStored (record { headers = t.headers.items; bounds = t.bounds.items; counted = t.counted.items; least_trips = t.least_trips.items; bodies = map (λ body. body.items) t.bodies.items; backs = t.backs.items; innermost = t.innermost.items; parent = t.parent.items; order = t.order.items }) };
+    ghost invariant = { λ t. IsStoredTree (record { headers = t.headers.items; bounds = t.bounds.items; counted = t.counted.items; least_trips = t.least_trips.items; bodies = map (λ body. body.items) t.bodies.items; backs = t.backs.items; innermost = t.innermost.items; parent = t.parent.items; order = t.order.items }) };
 }
 
 impl LoopTree {

@@ -33,7 +33,7 @@ fn has_range(numbers: &[usize], range: &NodeRange, count: usize) -> bool
 // The same of several ranges.
 fn has_ranges(numbers: &[usize], ranges: &[NodeRange], count: usize) -> bool
     requires { IsRising numbers.now }
-    ensures { (result ≡ true) ↔ ((k : ℕ) → extents.in_extent ranges.now k ≡ true → k < count → is_among k numbers.now ≡ true) }
+    ensures { (result ≡ true) ↔ ((k : ℕ) → extents.in_node_ranges ranges.now k ≡ true → k < count → is_among k numbers.now ≡ true) }
 {
     for range in ranges {
         if !has_range(numbers, range, count) {

@@ -12,7 +12,7 @@ use Rattle.power_model.specs.declared.power.Costs.{Costs}
 use Rattle.power_model.specs.Levels.{IsSlower, AreRanked, ArePositive}
 use Rattle.power_model.specs.Numbers.{PowerModel, CostsArePositive, IsPowerModel}
 use Rattle.table_keys.specs.Keys.{document_of, number_within, number_of, number_at, tables_of, or_refuse, checked_keys, ◌>>=◌}
-use Rattle.machine_file.specs.Machine.{in_file, in_cost, in_level, bad_key, bad_value, number, cost, cost_keys, cost_table, level_keys, few_tables, level_tables, level_of, levels_from, first_unranked, ranked, costs_of, FileNumbers, top_numbers, top_keys, version_of, machine_of, read_machine, switch_cost, pair_table}
+use Rattle.machine_file.specs.Machine.{in_file, in_cost, in_level, bad_key, bad_value, number, cost_at_key, cost_keys, cost_table, level_keys, few_tables, level_tables, level_of, levels_from, first_unranked, ranked, costs_in, FileNumbers, top_numbers, top_keys, version_of, machine_of, read_machine, switch_cost, pair_table}
 
 -- a range of a number, both ends in it
 pub record IsWithin (low high n : ℕ) : Type 0 where
@@ -118,12 +118,12 @@ ranked-first_unranked i (x ∷ y ∷ ys) =
     (λ e k. ranked-cons x y ys (slower-from_tests x y e) k) (ranked-first_unranked (i + 1) (y ∷ ys))
 
 -- each cost is at least 1
-one_cost : (P : Costs → Type 0) (table : Members) (key : List ℕ) (f : ℕ → Result Costs Refusal) → ((n : ℕ) → 1 ≤ n → IfOk (f n) P) → IfOk (cost table key >>= f) P
+one_cost : (P : Costs → Type 0) (table : Members) (key : List ℕ) (f : ℕ → Result Costs Refusal) → ((n : ℕ) → 1 ≤ n → IfOk (f n) P) → IfOk (cost_at_key table key >>= f) P
 one_cost P table key f k =
-    kept-then (IsWithin 1 65535) P (cost table key) f (within-number in_cost table 1 65535 key) (λ n h. k n h.from)
+    kept-then (IsWithin 1 65535) P (cost_at_key table key) f (within-number in_cost table 1 65535 key) (λ n h. k n h.from)
 
-positive-costs_of : (table : Members) → IfOk (costs_of table) CostsArePositive
-unfolding costs_of
+positive-costs_of : (table : Members) → IfOk (costs_in table) CostsArePositive
+unfolding costs_in
 positive-costs_of table =
     any-then CostsArePositive (checked_keys (bad_key in_cost) cost_keys cost_keys table) _ (λ _.
     one_cost CostsArePositive table (codes "alu") _ (λ alu h1.
@@ -165,7 +165,7 @@ model-machine_of table =
     kept-then TopIsWithin IsPowerModel (top_numbers version table) _ (within-top_numbers version table) (λ top t.
     any-then IsPowerModel (cost_table table) _ (λ in_costs.
     kept-then (λ ts. IsWithin 1 8 (length ts)) IsPowerModel (level_tables table) _ (few-level_tables table) (λ in_levels few.
-    kept-then CostsArePositive IsPowerModel (costs_of in_costs) _ (positive-costs_of in_costs) (λ costs c.
+    kept-then CostsArePositive IsPowerModel (costs_in in_costs) _ (positive-costs_of in_costs) (λ costs c.
     kept-then (AreLevelsOf (length in_levels)) IsPowerModel (levels_from 0 in_levels) _ (positive-levels_from 0 in_levels) (λ levels l.
     any-then IsPowerModel (pair_table (codes "switch_time") (length levels) top.switch_time) _ (λ switch_time.
     any-then IsPowerModel (pair_table (codes "switch_energy") (length levels) top.switch_energy) _ (λ switch_energy.

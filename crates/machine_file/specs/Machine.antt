@@ -19,7 +19,7 @@ use Rattle.table_keys.specs.Keys.{document_of, first_missing, number_at, number_
 abbrev pub top_keys : List (List ℕ)
 top_keys =
     codes "version" ∷ codes "deadline" ∷ codes "steps" ∷ codes "min_gain" ∷ codes "switch_time" ∷ codes "switch_energy"
-    ∷ codes "cost" ∷ codes "level" ∷ []
+    ∷ codes "cost_at_key" ∷ codes "level" ∷ []
 
 abbrev pub cost_keys : List (List ℕ)
 cost_keys =
@@ -34,7 +34,7 @@ abbrev pub in_file : List ℕ
 in_file = []
 
 abbrev pub in_cost : List ℕ
-in_cost = codes "cost."
+in_cost = codes "cost_at_key."
 
 abbrev pub in_level : ℕ → List ℕ
 in_level i = codes "level." ++ decimal i ++ codes "."
@@ -84,12 +84,12 @@ has_shape n rows =
 
 -- the numbers by pair of so many levels: those of the rows, and 0 in each row and column behind the last level
 abbrev pub pair_table : List ℕ → ℕ → SwitchCost → Result PairTable Refusal
-pair_table key n (same cost) = Ok (uniform cost)
+pair_table key n (same cost_at_key) = Ok (uniform cost_at_key)
 pair_table key n (by_pair rows) = if has_shape n rows then Ok (pairs_by (cell rows)) else Err (bad_value in_file key)
 
 -- the table of the costs
 abbrev pub cost_table : Members → Result Members Refusal
-cost_table table = or_refuse (bad_value in_file (codes "cost")) (option_and_then as_table (get_member (codes "cost") table))
+cost_table table = or_refuse (bad_value in_file (codes "cost_at_key")) (option_and_then as_table (get_member (codes "cost_at_key") table))
 
 -- the tables of the levels, 1 to 8 of them
 abbrev pub few_tables : List Members → Option (List Members)
@@ -100,22 +100,22 @@ level_tables table =
     or_refuse (bad_value in_file (codes "level")) (option_and_then few_tables (option_and_then tables_of (get_member (codes "level") table)))
 
 -- the costs
-abbrev pub cost : Members → List ℕ → Result ℕ Refusal
-cost table key = number in_cost table 1 65535 key
+abbrev pub cost_at_key : Members → List ℕ → Result ℕ Refusal
+cost_at_key table key = number in_cost table 1 65535 key
 
-unfoldable pub costs_of : Members → Result Costs Refusal
-costs_of table = do
+unfoldable pub costs_in : Members → Result Costs Refusal
+costs_in table = do
   _ ← checked_keys (bad_key in_cost) cost_keys cost_keys table
-  alu ← cost table (codes "alu")
-  load ← cost table (codes "load")
-  store ← cost table (codes "store")
-  taken ← cost table (codes "taken")
-  untaken ← cost table (codes "untaken")
-  jump ← cost table (codes "jump")
-  mul ← cost table (codes "mul")
-  div ← cost table (codes "div")
-  ecall ← cost table (codes "ecall")
-  fence ← cost table (codes "fence")
+  alu ← cost_at_key table (codes "alu")
+  load ← cost_at_key table (codes "load")
+  store ← cost_at_key table (codes "store")
+  taken ← cost_at_key table (codes "taken")
+  untaken ← cost_at_key table (codes "untaken")
+  jump ← cost_at_key table (codes "jump")
+  mul ← cost_at_key table (codes "mul")
+  div ← cost_at_key table (codes "div")
+  ecall ← cost_at_key table (codes "ecall")
+  fence ← cost_at_key table (codes "fence")
   Ok (record {
     alu = alu;
     load = load;
@@ -178,7 +178,7 @@ machine_of table = do
   top ← top_numbers version table
   in_costs ← cost_table table
   in_levels ← level_tables table
-  costs ← costs_of in_costs
+  costs ← costs_in in_costs
   levels ← levels_from 0 in_levels
   switch_time ← pair_table (codes "switch_time") (length levels) top.switch_time
   switch_energy ← pair_table (codes "switch_energy") (length levels) top.switch_energy

@@ -5,7 +5,7 @@ ghost use Rattle.toml.specs.View.{table_view};
 ghost use Rattle.scale_base.specs.Answer.{Answers};
 ghost use Rattle.power_model.specs.Numbers.{CostsArePositive, IsPowerModel};
 ghost use Rattle.table_keys.specs.Keys.{checked_keys};
-ghost use Rattle.machine_file.specs.Machine.{bad_key, number, version_of, cost, costs_of, cost_table, level_tables, top_numbers, machine_of};
+ghost use Rattle.machine_file.specs.Machine.{bad_key, number, version_of, cost_at_key, costs_in, cost_table, level_tables, top_numbers, machine_of};
 ghost use Rattle.machine_file.specs.Place.{path};
 ghost use Rattle.machine_file.specs.Top.{file_numbers};
 
@@ -89,15 +89,15 @@ fn version(alloc: Global, table: &Table) -> Result<u64, Stop>
 }
 
 fn cost(alloc: Global, table: &Table, key: &str) -> Result<u16, Stop>
-    ensures cost { Answers (λ n. n) result (cost (table_view table.now) key.now) }
+    ensures cost_at_key { Answers (λ n. n) result (cost_at_key (table_view table.now) key.now) }
     ensures positive { IfOk result (λ n. 1 ≤ n) }
 {
     Ok(number(alloc, Place::Cost, table, key, 1, 65535)? as u16)
 }
 
-#[tactic(auto, unfolding(crate::specs::Machine::costs_of))]
+#[tactic(auto, unfolding(crate::specs::Machine::costs_in))]
 fn read_costs(alloc: Global, table: &Table) -> Result<Costs, Stop>
-    ensures costs { Answers (λ costs. costs) result (costs_of (table_view table.now)) }
+    ensures costs { Answers (λ costs. costs) result (costs_in (table_view table.now)) }
     ensures positive { IfOk result CostsArePositive }
 {
     check_keys(alloc, Place::Cost, table, &COST_KEYS)?;

@@ -22,10 +22,10 @@ use Rattle.graph_runs.specs.Laws.{IsProgramOf}
 use Rattle.graph_runs.proofs.Laws.{kind_facts, weights_are}
 use Rattle.stub_writer.specs.Stubs.{Site, Place, Forked, Straight}
 use Rattle.stub_runs.specs.Cycles.{fragment_cost}
-use Rattle.stored_runs.specs.Marks.{place_at, fragments_by, jumps_by}
+use Rattle.stored_runs.specs.Marks.{place_at, fragments_of_class, jumps_by}
 use Rattle.stored_runs.specs.Stubbed.{IsSafeSite, IsOfImage}
 use Rattle.stored_runs.specs.Patched.{IsPatched}
-use Rattle.marked_runs.specs.Marked.{extra_by, extra_weights, stored_weights}
+use Rattle.marked_runs.specs.Marked.{extra_by, extra_site_weights, stored_site_weights}
 use Rattle.marked_runs.specs.Laws.{TargetsAreWords, LoopsAreCountable, StoredWeightsAreWeights, PatchedWeightsAreWeights}
 
 pub targets_are_words : TargetsAreWords
@@ -147,18 +147,18 @@ no_site_calls image v h p of calls =
 
 no_extra : (costs : Class → ℕ) (sites : List Site) (at : ℕ) (o : Option Class) → place_at sites at ≡ None → extra_by costs sites at o ≡ 0
 no_extra costs sites at None none = refl
-no_extra costs sites at (Some class) none = subst (λ p. jumps_by p * costs classes.Jump + sum_by (fragment_cost costs) (fragments_by p class) ≡ 0) (sym none) (omega arith)
+no_extra costs sites at (Some class) none = subst (λ p. jumps_by p * costs classes.Jump + sum_by (fragment_cost costs) (fragments_of_class p class) ≡ 0) (sym none) (omega arith)
 
 -- where no call is marked
 weights_by : (image : Image) (sites : List Site) (code : Code) (costs : Class → ℕ) → ((v h : ℕ) → kind_at (text_of image) v ≡ CallOf h → place_at sites v ≡ None)
-    → AreWeights (text_graph (text_of image) code) (stored_weights (text_of image) code costs sites) × AreWeights (text_graph (text_of image) code) (extra_weights (text_of image) code costs sites)
+    → AreWeights (text_graph (text_of image) code) (stored_site_weights (text_of image) code costs sites) × AreWeights (text_graph (text_of image) code) (extra_site_weights (text_of image) code costs sites)
 weights_by image sites code costs unmarked =
     let t = text_of image in
     let g : Graph = text_graph t code in
-    let zero : (e f : ℕ) → e < g.edges → g.callee e ≡ Some f → extra_weights t code costs sites e ≡ 0 = λ e f lt callee.
+    let zero : (e f : ℕ) → e < g.edges → g.callee e ≡ Some f → extra_site_weights t code costs sites e ≡ 0 = λ e f lt callee.
     let c = callee-call code.functions (kind_at t (g.source e)) f (sym (callee_word (kind_at t) code.functions code.edges e lt) ∙ callee) in
     no_extra costs sites (g.source e) (edge_class t (slice_get code.edges e)) (unmarked (g.source e) c.0 c.1) in
-    let extra : AreWeights g (extra_weights t code costs sites) = λ d e f dl el same callee.
+    let extra : AreWeights g (extra_site_weights t code costs sites) = λ d e f dl el same callee.
     let other : g.callee e ≡ Some f = sym (same_callee t code d e dl el same) ∙ callee in zero d f dl callee ∙ sym (zero e f el other) in
     (λ d e f dl el same callee. let a = weights_are t code costs d e f dl el same callee in let b = extra d e f dl el same callee in omega (arith, a, b), extra)
   where

@@ -27,7 +27,7 @@ use Rattle.stored_runs.specs.Stubbed.{KeepsLimits}
 use Rattle.stored_runs.proofs.Laws.{patched_runs, stubbed_patched}
 use Rattle.shadow_counts.specs.Shadows.{counted_moves}
 use Rattle.shadow_counts.proofs.Laws.{counts_shown, counts_within}
-use Rattle.marked_runs.specs.Counters.{AreCounters, AreCounted, AreCounting, by_words}
+use Rattle.marked_runs.specs.Counters.{AreCounterWords, AreCounted, AreCounting, by_words}
 use Rattle.marked_runs.specs.Laws.{KeptRunsStayInText, KeptRunsAreFollowed, KeptRunsArePatched, MovesCostStoredWeights, MovesCostExtraWeights}
 use Rattle.marked_runs.proofs.Aligned.{AreAligned, stored_sum, extra_sum, counters_are, others_are}
 use Rattle.marked_runs.proofs.Words.{word_of_loop, is_word, counters_of, counted_of}
@@ -70,7 +70,7 @@ stays_in_text = λ file image levels input code l extent e prog n c kept m lt go
     and_from (pc % 4 == 0) (list_any (is_in pc) image.text) (eq-eqb (pc % 4) 0 facts.0) facts.1
 
 module _ (image : Image) (sites : List Site) (start : ℕ) (code : Code) (l : Loops) (extent : ℕ → ℕ → Bool) (limits : ℕ → ℕ) (is_of : ℕ → ℕ → Bool) (prog : IsProgramOf (text_of image) code l extent)
-    (able : AreCounters (text_graph (text_of image) code) l limits is_of) (marked : AreCounted (text_of image) code l sites is_of) where
+    (able : AreCounterWords (text_graph (text_of image) code) l limits is_of) (marked : AreCounted (text_of image) code l sites is_of) where
   abbrev t : Text
   t = text_of image
 
@@ -89,7 +89,7 @@ module _ (image : Image) (sites : List Site) (start : ℕ) (code : Code) (l : Lo
     aligned = record { places = kept.places; classes = kept.classes }
 
     same : (w k : ℕ) → is_of w k ≡ true → (shadow_after sites (shadow_first start) r.steps).counters w ≡ counted_moves (text_graph t code) l (λ j. 0) kept.moves k
-    same w k is = counters_are t code l sites is_of program marked w k is kept.moves r.steps (steps.start (text_graph t code)) (shadow_first start) (λ j. 0) kept.kept aligned refl
+    same w k is = counters_are t code l sites is_of program marked w k is kept.moves r.steps (steps.graph_start (text_graph t code)) (shadow_first start) (λ j. 0) kept.kept aligned refl
 
     counting : AreCounting t code l is_of sites start r kept.moves
     counting = record {
@@ -100,7 +100,7 @@ module _ (image : Image) (sites : List Site) (start : ℕ) (code : Code) (l : Lo
             within = λ j low on e. here j on ∙ shown.within j low on e;
             outside = λ j low on e. here j on ∙ shown.outside j low on e;
           };
-      others = λ w none. others_are t code l sites is_of program marked w none kept.moves r.steps (steps.start (text_graph t code)) (shadow_first start) kept.kept aligned;
+      others = λ w none. others_are t code l sites is_of program marked w none kept.moves r.steps (steps.graph_start (text_graph t code)) (shadow_first start) kept.kept aligned;
     }
 
     -- each counter keeps its limit

@@ -7,10 +7,10 @@ use Rattle.cost_theory.specs.Reached.{Code, edge_at}
 use Rattle.graph_runs.specs.Text.{Text}
 use Rattle.graph_runs.specs.RunMoves.{text_graph}
 use Rattle.stub_writer.specs.Stubs.{Site}
-use Rattle.stored_runs.specs.Marks.{place_at, fragments_by, counters_behind}
+use Rattle.stored_runs.specs.Marks.{place_at, fragments_of_class, counters_behind}
 use Rattle.shadow_counts.specs.Shadows.{AreCountable, count_over}
 use Rattle.marked_runs.specs.Marked.{AreMarked, AreLimits}
-use Rattle.marked_runs.specs.Counters.{AreCounters, AreCounted, by_words}
+use Rattle.marked_runs.specs.Counters.{AreCounterWords, AreCounted, by_words}
 
 module _ (l : Loops) (counted : ℕ → Bool) (word : ℕ → ℕ) where
   pub word_of_loop : (w k : ℕ) → by_words l counted word w k ≡ true → (k < l.loops) × (counted k ≡ true) × (word k ≡ w)
@@ -30,7 +30,7 @@ module _ (l : Loops) (counted : ℕ → Bool) (word : ℕ → ℕ) where
         returns = λ j e low on. able.returns j e low (same j on);
       }
 
-  pub counters_of : (g : Graph) (limits : ℕ → ℕ) → AreCountable g l counted → AreLimits l counted word limits → AreCounters g l limits (by_words l counted word)
+  pub counters_of : (g : Graph) (limits : ℕ → ℕ) → AreCountable g l counted → AreLimits l counted word limits → AreCounterWords g l limits (by_words l counted word)
   counters_of g limits able within = record {
     loops = λ w k is. (word_of_loop w k is).0;
     countable = countable_of g able;
@@ -41,6 +41,6 @@ module _ (l : Loops) (counted : ℕ → Bool) (word : ℕ → ℕ) where
   counted_of t code sites marked = record {
     counts = λ e class lt of w k is c.
         let p = word_of_loop w k is in
-        subst (λ v. counters_behind (fragments_by (place_at sites (edge_at (slice_get code.edges e))) class) c v ≡ count_over (text_graph t code) l k e (c v)) p.2 (marked.loops e class lt of k p.0 p.1 c);
+        subst (λ v. counters_behind (fragments_of_class (place_at sites (edge_at (slice_get code.edges e))) class) c v ≡ count_over (text_graph t code) l k e (c v)) p.2 (marked.loops e class lt of k p.0 p.1 c);
     others = λ e class lt of w none c. marked.others e class lt of w (λ k low on same. none k (subst (λ v. by_words l counted word v k ≡ true) same (is_word k low on))) c;
   }

@@ -12,12 +12,12 @@ use Rattle.graph_runs.specs.RunMoves.{text_graph, after_moves}
 use Rattle.graph_runs.specs.KeptSteps.{Carried}
 use Rattle.graph_runs.specs.KeptRuns.{IsKeptRun}
 use Rattle.stub_writer.specs.Stubs.{Site}
-use Rattle.stored_runs.specs.Marks.{place_at, fragments_by, counters_behind, shadow_first, shadow_after}
+use Rattle.stored_runs.specs.Marks.{place_at, fragments_of_class, counters_behind, shadow_first, shadow_after}
 use Rattle.stored_runs.specs.Stubbed.{IsFollowed}
 use Rattle.shadow_counts.specs.Shadows.{AreCountable, AreShown, count_over}
 
 -- the loops can be counted, and the limits are at least their bounds
-pub record AreCounters (g : Graph) (l : Loops) (limits : ℕ → ℕ) (is_of : ℕ → ℕ → Bool) : Type 0 where
+pub record AreCounterWords (g : Graph) (l : Loops) (limits : ℕ → ℕ) (is_of : ℕ → ℕ → Bool) : Type 0 where
   pub loops : (w k : ℕ) → is_of w k ≡ true → k < l.loops
   pub countable : (w k : ℕ) → is_of w k ≡ true → AreCountable g l (λ j. j == k)
   pub limited : (w k : ℕ) → is_of w k ≡ true → l.bound k ≤ limits w
@@ -25,9 +25,9 @@ pub record AreCounters (g : Graph) (l : Loops) (limits : ℕ → ℕ) (is_of : �
 -- The fragments on each edge do to a loop's counter what the edge does to the loop's count, and change no word that is no counter of a loop.
 pub record AreCounted (t : Text) (code : Code) (l : Loops) (sites : List Site) (is_of : ℕ → ℕ → Bool) : Type 0 where
   pub counts : (e : ℕ) (class : Class) → e < (text_graph t code).edges → edge_class t (slice_get code.edges e) ≡ Some class → (w k : ℕ) → is_of w k ≡ true → (c : ℕ → ℕ)
-      → counters_behind (fragments_by (place_at sites (edge_at (slice_get code.edges e))) class) c w ≡ count_over (text_graph t code) l k e (c w)
+      → counters_behind (fragments_of_class (place_at sites (edge_at (slice_get code.edges e))) class) c w ≡ count_over (text_graph t code) l k e (c w)
   pub others : (e : ℕ) (class : Class) → e < (text_graph t code).edges → edge_class t (slice_get code.edges e) ≡ Some class → (w : ℕ) → ((k : ℕ) → is_of w k ≡ true → ⊥) → (c : ℕ → ℕ)
-      → counters_behind (fragments_by (place_at sites (edge_at (slice_get code.edges e))) class) c w ≡ c w
+      → counters_behind (fragments_of_class (place_at sites (edge_at (slice_get code.edges e))) class) c w ≡ c w
 
 -- A counter of a loop that a run is in holds the loop's count, and every other counter is 0.
 pub record AreCounting (t : Text) (code : Code) (l : Loops) (is_of : ℕ → ℕ → Bool) (sites : List Site) (start : ℕ) (r : Run) (moves : List steps.Move) : Type 0 where

@@ -8,7 +8,7 @@ use Rattle.cost_theory.specs.Graph.{Loops, is_back}
 use Rattle.cost_theory.specs.Accepted.{AreWeights}
 use Rattle.cost_theory.specs.Reached.{Reached, LeadsTo, Code}
 use Rattle.cost_theory.specs.Steps as steps
-use Rattle.graph_runs.specs.Text.{Text, text_of, in_text, kind_at}
+use Rattle.graph_runs.specs.Text.{Text, text_of, is_text_address, kind_at}
 use Rattle.graph_runs.specs.RunMoves.{text_graph}
 use Rattle.graph_runs.specs.KeptSteps.{Carried, by_extents}
 use Rattle.graph_runs.specs.KeptRuns.{kept_of, IsKeptRun}
@@ -18,8 +18,8 @@ use Rattle.stored_runs.specs.Marks.{extra_cycles, stored_cycles}
 use Rattle.stored_runs.specs.Stubbed.{IsSafeSite, IsStubbed, StaysInText}
 use Rattle.stored_runs.specs.Patched.{IsPatched}
 use Rattle.shadow_counts.specs.Shadows.{AreCountable}
-use Rattle.marked_runs.specs.Counters.{AreCounters, AreCounted, IsKeptPatched}
-use Rattle.marked_runs.specs.Marked.{stored_weights, extra_weights, AreMarked, AreLimits, IsKeptFollowed}
+use Rattle.marked_runs.specs.Counters.{AreCounterWords, AreCounted, IsKeptPatched}
+use Rattle.marked_runs.specs.Marked.{stored_site_weights, extra_site_weights, AreMarked, AreLimits, IsKeptFollowed}
 
 -- A kept run stays in the text.
 abbrev pub KeptRunsStayInText : Type 0
@@ -36,22 +36,22 @@ KeptRunsAreFollowed = (file : List ℕ) (image : Image) (levels : ℕ) (limits :
 -- The same of a patched image, whose stubs may stand anywhere and whose loops may have several counters.
 abbrev pub KeptRunsArePatched : Type 0
 KeptRunsArePatched = (image patched : Image) (levels : ℕ) (limits : ℕ → ℕ) (sites : List Site) (start : ℕ) → IsPatched image patched levels limits sites start →
-    (code : Code) (l : Loops) (extent : ℕ → ℕ → Bool) (is_of : ℕ → ℕ → Bool) (costs : Class → ℕ) → IsProgramOf (text_of image) code l extent → AreCounters (text_graph (text_of image) code) l limits is_of →
+    (code : Code) (l : Loops) (extent : ℕ → ℕ → Bool) (is_of : ℕ → ℕ → Bool) (costs : Class → ℕ) → IsProgramOf (text_of image) code l extent → AreCounterWords (text_graph (text_of image) code) l limits is_of →
     AreCounted (text_of image) code l sites is_of →
     (input : List ℕ) (n : ℕ) (c : Carried) → kept_of image levels input (by_extents l extent) n ≡ Some c → IsKeptPatched image patched levels sites start input code l is_of costs n c
 
 -- The moves of a kept run cost under the stored weights what its steps cost with their stubs, and under the extra weights what the stubs add.
 abbrev pub MovesCostStoredWeights : Type 0
 MovesCostStoredWeights = (t : Text) (code : Code) (l : Loops) (sites : List Site) (r : Run) (c : Carried) (costs : Class → ℕ) (kept : IsKeptRun t code l costs r c) →
-    steps.cycles (stored_weights t code costs sites) kept.moves ≡ sum_by (stored_cycles costs sites) r.steps
+    steps.cycles (stored_site_weights t code costs sites) kept.moves ≡ sum_by (stored_cycles costs sites) r.steps
 
 abbrev pub MovesCostExtraWeights : Type 0
 MovesCostExtraWeights = (t : Text) (code : Code) (l : Loops) (sites : List Site) (r : Run) (c : Carried) (costs : Class → ℕ) (kept : IsKeptRun t code l costs r c) →
-    steps.cycles (extra_weights t code costs sites) kept.moves ≡ sum_by (extra_cycles costs sites) r.steps
+    steps.cycles (extra_site_weights t code costs sites) kept.moves ≡ sum_by (extra_cycles costs sites) r.steps
 
 -- What a reached word leads to is a word of the text, at a multiple of 4.
 abbrev pub TargetsAreWords : Type 0
-TargetsAreWords = (t : Text) (code : Code) (l : Loops) (extent : ℕ → ℕ → Bool) → IsProgramOf t code l extent → (f v to : ℕ) → Reached (kind_at t) t.entry f v → LeadsTo (kind_at t v) v to → (to % 4 ≡ 0) × (in_text t to ≡ true)
+TargetsAreWords = (t : Text) (code : Code) (l : Loops) (extent : ℕ → ℕ → Bool) → IsProgramOf t code l extent → (f v to : ℕ) → Reached (kind_at t) t.entry f v → LeadsTo (kind_at t v) v to → (to % 4 ≡ 0) × (is_text_address t to ≡ true)
 
 -- Loops can be counted where no edge by which a call comes back is a back edge of one.
 abbrev pub LoopsAreCountable : Type 0
@@ -61,9 +61,9 @@ LoopsAreCountable = (t : Text) (code : Code) (l : Loops) (extent : ℕ → ℕ �
 -- The stored weights and the extra weights give all edges of one call the same, since no marked instruction is a call.
 abbrev pub StoredWeightsAreWeights : Type 0
 StoredWeightsAreWeights = (image : Image) (levels : ℕ) (limits : ℕ → ℕ) (sites : List Site) (code : Code) (costs : Class → ℕ) → All (IsSafeSite image levels limits) sites →
-    AreWeights (text_graph (text_of image) code) (stored_weights (text_of image) code costs sites) × AreWeights (text_graph (text_of image) code) (extra_weights (text_of image) code costs sites)
+    AreWeights (text_graph (text_of image) code) (stored_site_weights (text_of image) code costs sites) × AreWeights (text_graph (text_of image) code) (extra_site_weights (text_of image) code costs sites)
 
 -- The same of a patched image.
 abbrev pub PatchedWeightsAreWeights : Type 0
 PatchedWeightsAreWeights = (image patched : Image) (levels : ℕ) (limits : ℕ → ℕ) (sites : List Site) (start : ℕ) → IsPatched image patched levels limits sites start → (code : Code) (costs : Class → ℕ) →
-    AreWeights (text_graph (text_of image) code) (stored_weights (text_of image) code costs sites) × AreWeights (text_graph (text_of image) code) (extra_weights (text_of image) code costs sites)
+    AreWeights (text_graph (text_of image) code) (stored_site_weights (text_of image) code costs sites) × AreWeights (text_graph (text_of image) code) (extra_site_weights (text_of image) code costs sites)

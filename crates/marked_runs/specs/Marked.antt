@@ -15,7 +15,7 @@ use Rattle.graph_runs.specs.KeptSteps.{Carried}
 use Rattle.graph_runs.specs.KeptRuns.{IsKeptRun}
 use Rattle.stub_writer.specs.Stubs.{Site}
 use Rattle.stub_runs.specs.Cycles.{fragment_cost}
-use Rattle.stored_runs.specs.Marks.{place_at, fragments_by, jumps_by, counters_behind, shadow_first, shadow_after}
+use Rattle.stored_runs.specs.Marks.{place_at, fragments_of_class, jumps_by, counters_behind, shadow_first, shadow_after}
 use Rattle.stored_runs.specs.Stubbed.{IsFollowed}
 use Rattle.shadow_counts.specs.Shadows.{AreShown, count_over}
 
@@ -24,14 +24,14 @@ use Rattle.shadow_counts.specs.Shadows.{AreShown, count_over}
 -- what an edge of a class at an address takes more in the stored image
 abbrev pub extra_by : (Class → ℕ) → List Site → ℕ → Option Class → ℕ
 extra_by costs sites at None = 0
-extra_by costs sites at (Some class) = jumps_by (place_at sites at) * costs classes.Jump + sum_by (fragment_cost costs) (fragments_by (place_at sites at) class)
+extra_by costs sites at (Some class) = jumps_by (place_at sites at) * costs classes.Jump + sum_by (fragment_cost costs) (fragments_of_class (place_at sites at) class)
 
-abbrev pub extra_weights : Text → Code → (Class → ℕ) → List Site → ℕ → ℕ
-extra_weights t code costs sites e = extra_by costs sites (edge_at (slice_get code.edges e)) (edge_class t (slice_get code.edges e))
+abbrev pub extra_site_weights : Text → Code → (Class → ℕ) → List Site → ℕ → ℕ
+extra_site_weights t code costs sites e = extra_by costs sites (edge_at (slice_get code.edges e)) (edge_class t (slice_get code.edges e))
 
 -- the stored weights: the original ones and what the stubs add
-abbrev pub stored_weights : Text → Code → (Class → ℕ) → List Site → ℕ → ℕ
-stored_weights t code costs sites e = weights t code costs e + extra_weights t code costs sites e
+abbrev pub stored_site_weights : Text → Code → (Class → ℕ) → List Site → ℕ → ℕ
+stored_site_weights t code costs sites e = weights t code costs e + extra_site_weights t code costs sites e
 
 -- ---- counters
 
@@ -39,9 +39,9 @@ stored_weights t code costs sites e = weights t code costs e + extra_weights t c
 -- behind an edge that leaves the loop, and no other word changes.
 pub record AreMarked (t : Text) (code : Code) (l : Loops) (sites : List Site) (counted : ℕ → Bool) (word : ℕ → ℕ) : Type 0 where
   pub loops : (e : ℕ) (class : Class) → e < (text_graph t code).edges → edge_class t (slice_get code.edges e) ≡ Some class → (k : ℕ) → k < l.loops → counted k ≡ true → (c : ℕ → ℕ)
-      → counters_behind (fragments_by (place_at sites (edge_at (slice_get code.edges e))) class) c (word k) ≡ count_over (text_graph t code) l k e (c (word k))
+      → counters_behind (fragments_of_class (place_at sites (edge_at (slice_get code.edges e))) class) c (word k) ≡ count_over (text_graph t code) l k e (c (word k))
   pub others : (e : ℕ) (class : Class) → e < (text_graph t code).edges → edge_class t (slice_get code.edges e) ≡ Some class → (w : ℕ) → ((k : ℕ) → k < l.loops → counted k ≡ true → word k ≡ w → ⊥) → (c : ℕ → ℕ)
-      → counters_behind (fragments_by (place_at sites (edge_at (slice_get code.edges e))) class) c w ≡ c w
+      → counters_behind (fragments_of_class (place_at sites (edge_at (slice_get code.edges e))) class) c w ≡ c w
 
 -- the counters' limits are at least the bounds of their loops
 abbrev pub AreLimits : Loops → (ℕ → Bool) → (ℕ → ℕ) → (ℕ → ℕ) → Type 0

@@ -14,49 +14,49 @@ use Rattle.loop_bodies.proofs.Laws.{least_same, least_more}
 use Rattle.loop_file.specs.declared.notes.LoopNote.{LoopNote}
 use Rattle.loop_file.specs.Kept.{note_at}
 use Rattle.natural_loops.specs.Noted.{IsBodyNode}
-use Rattle.natural_loops.specs.Passes.{AreEdgesOf, AreOwned, IsEntryNode, IsSidePair, IsNumberedBody, IsNodeOf, AreDepths}
+use Rattle.natural_loops.specs.Passes.{AreGraphEdges, AreOwned, IsFunctionEntry, IsSidePair, IsNumberedBody, IsBodyNodeOf, AreDepths}
 use Rattle.natural_loops.proofs.NodeLaws.{one_number, source_number}
 use Rattle.natural_loops.proofs.WalkLaws.{some_same, has_edge, edge_within, edge_from, edge_to}
 
 -- ---- side entries by numbers
 module _ (v : FlowGraph) (edges : EdgeView) (header : ℕ) (body : List ℕ) (least : Option (ℕ × ℕ)) where
   -- no entry is a body node apart from the header
-  pub pair_same : ((i : ℕ) → IsIn body i → i ≢ header → IsEntryNode v i → ⊥) → IsLeastPair (IsSideEdge edges.sources edges.targets header body) least → IsLeastPair (IsSidePair v edges header body) least
+  pub pair_same : ((i : ℕ) → IsIn body i → i ≢ header → IsFunctionEntry v i → ⊥) → IsLeastPair (IsSideEdge edges.sources edges.targets header body) least → IsLeastPair (IsSidePair v edges header body) least
   pair_same none = least_same (IsSideEdge edges.sources edges.targets header body) (IsSidePair v edges header body) least
       (λ a b s. inl s)
-      (λ a b p. ⊎_elim (λ s. s) (λ (e : (a ≡ b) × IsIn body b × (b ≢ header) × IsEntryNode v b). absurd (none b e.1 e.2 e.3)) p)
+      (λ a b p. ⊎_elim (λ s. s) (λ (e : (a ≡ b) × IsIn body b × (b ≢ header) × IsFunctionEntry v b). absurd (none b e.1 e.2 e.3)) p)
 
   -- one entry is
-  pub pair_more : (entry : ℕ) (r : ℕ × ℕ) → IsIn body entry → entry ≢ header → IsEntryNode v entry → ((i : ℕ) → IsIn body i → IsEntryNode v i → i ≡ entry) → IsLesserPair least (entry, entry) r →
+  pub pair_more : (entry : ℕ) (r : ℕ × ℕ) → IsIn body entry → entry ≢ header → IsFunctionEntry v entry → ((i : ℕ) → IsIn body i → IsFunctionEntry v i → i ≡ entry) → IsLesserPair least (entry, entry) r →
       IsLeastPair (IsSideEdge edges.sources edges.targets header body) least → IsLeastPair (IsSidePair v edges header body) (Some r)
   pair_more entry r here ne is one lesser = least_more (IsSideEdge edges.sources edges.targets header body) (IsSidePair v edges header body) least (entry, entry) r
       (λ a b s. inl s)
       (inr (refl, here, ne, is))
       (λ a b p. ⊎_elim (λ s. inl s)
-      (λ (e : (a ≡ b) × IsIn body b × (b ≢ header) × IsEntryNode v b). let same : b ≡ entry = one b e.1 e.3 in let also = e.0 in inr (inr ((let q : entry ≡ a = omega arith in q), (let q : entry ≤ b = omega arith in q))))
+      (λ (e : (a ≡ b) × IsIn body b × (b ≢ header) × IsFunctionEntry v b). let same : b ≡ entry = one b e.1 e.3 in let also = e.0 in inr (inr ((let q : entry ≡ a = omega arith in q), (let q : entry ≤ b = omega arith in q))))
       p) lesser
 
 -- the same pair, with equal edges and nodes
 pub pair_found : (v : FlowGraph) (edges search : EdgeView) (header : ℕ) (seen body : List ℕ) (o : Option (ℕ × ℕ)) → edges ≡ search → seen ≡ body → IsLeastPair (IsSidePair v edges header seen) o → IsLeastPair (IsSidePair v search header body) o
 pair_found v edges search header seen body o e s least = subst (λ x. IsLeastPair (IsSidePair v x header body) o) e (subst (λ b. IsLeastPair (IsSidePair v edges header b) o) s least)
 
-pub pair_within : (v : FlowGraph) (edges : EdgeView) → AreEdgesOf v edges → (header : ℕ) (body : List ℕ) → AreNodes (length v.code.nodes) body → (a b : ℕ) → IsSidePair v edges header body a b → (a < length v.code.nodes) × (b < length v.code.nodes)
+pub pair_within : (v : FlowGraph) (edges : EdgeView) → AreGraphEdges v edges → (header : ℕ) (body : List ℕ) → AreNodes (length v.code.nodes) body → (a b : ℕ) → IsSidePair v edges header body a b → (a < length v.code.nodes) × (b < length v.code.nodes)
 pair_within v edges is header body are a b p = ⊎_elim
     (λ (s : IsSideEdge edges.sources edges.targets header body a b).
     (slice_get_within v.code.nodes a ((graph v).source s.0.0) (is.ends.source s.0.0 a s.0.1), are.within s.1.0 b s.1.1))
-    (λ (e : (a ≡ b) × IsIn body b × (b ≢ header) × IsEntryNode v b).
+    (λ (e : (a ≡ b) × IsIn body b × (b ≢ header) × IsFunctionEntry v b).
     let lt = are.within e.1.0 b e.1.1 in let same = e.0 in ((let q : a < length v.code.nodes = omega arith in q), lt))
     p
 
 -- the entry of a node's function
-pub entry_here : (v : FlowGraph) → IsFlowGraph v → (node entry : ℕ) → node < length v.code.nodes → slice_get v.code.nodes entry ≡ Some ((graph v).entry ((graph v).owner (slice_index v.code.nodes node))) → IsEntryNode v entry
+pub entry_here : (v : FlowGraph) → IsFlowGraph v → (node entry : ℕ) → node < length v.code.nodes → slice_get v.code.nodes entry ≡ Some ((graph v).entry ((graph v).owner (slice_index v.code.nodes node))) → IsFunctionEntry v entry
 entry_here v is node entry lt at =
     let e = (is.nodes (slice_index v.code.nodes node)).0 (node, slice_get-get_or v.code.nodes node 0 lt) in
     ((graph v).owner (slice_index v.code.nodes node), subst (λ x. (graph v).owner x < (graph v).functions) e.2 (is.program.owner_function e.0 e.1), at)
 
 -- the entry of the header's function is the only one in its body
 pub one_entry : (v : FlowGraph) → IsFlowGraph v → (header entry : ℕ) (body : List ℕ) → AreOwned v header body → slice_get v.code.nodes entry ≡ Some ((graph v).entry ((graph v).owner (slice_index v.code.nodes header))) →
-    (i : ℕ) → IsIn body i → IsEntryNode v i → i ≡ entry
+    (i : ℕ) → IsIn body i → IsFunctionEntry v i → i ≡ entry
 one_entry v is header entry body owned at i here e =
     let owner : (graph v).owner ((graph v).entry e.0) ≡ (graph v).owner (slice_index v.code.nodes header) = owned i ((graph v).entry e.0) here e.2 in
     let f : e.0 ≡ (graph v).owner (slice_index v.code.nodes header) = sym (is.program.entry_owner e.0 e.1) ∙ owner in
@@ -69,11 +69,11 @@ body_owned v note header body at_header is i a here at =
 
 -- the same of a note
 abbrev pub IsAside : FlowGraph → LoopNote → ℕ → ℕ → Type 0
-IsAside v note from to = IsNodeOf v note to × (to ≢ note.header) ×
-    (((e : ℕ) × (e < (graph v).edges) × ((graph v).source e ≡ from) × ((graph v).target e ≡ Some to) × (IsNodeOf v note from → ⊥)) ⊎
+IsAside v note from to = IsBodyNodeOf v note to × (to ≢ note.header) ×
+    (((e : ℕ) × (e < (graph v).edges) × ((graph v).source e ≡ from) × ((graph v).target e ≡ Some to) × (IsBodyNodeOf v note from → ⊥)) ⊎
     ((from ≡ to) × ((f : ℕ) × (f < (graph v).functions) × ((graph v).entry f ≡ to))))
 
-module _ (v : FlowGraph) (edges : EdgeView) (is : AreEdgesOf v edges) (note : LoopNote) (header : ℕ) (body : List ℕ) (at_header : slice_get v.code.nodes header ≡ Some note.header) (numbers : IsNumberedBody v note body) where
+module _ (v : FlowGraph) (edges : EdgeView) (is : AreGraphEdges v edges) (note : LoopNote) (header : ℕ) (body : List ℕ) (at_header : slice_get v.code.nodes header ≡ Some note.header) (numbers : IsNumberedBody v note body) where
   flow : IsFlowGraph v
   flow = is.graph.flow
 
@@ -91,7 +91,7 @@ module _ (v : FlowGraph) (edges : EdgeView) (is : AreEdgesOf v edges) (note : Lo
         apart j b at_j s.2,
         inl (edge.0, edge_within v edges is edge.0 i edge.1, edge_from v edges is edge.0 i a edge.1 at_i, edge_to v edges is edge.0 j b edge.2 at_j, λ h. s.3 ((numbers.exact i a at_i).1 h)),
       ))
-      (λ (e : (i ≡ j) × IsIn body j × (j ≢ header) × IsEntryNode v j).
+      (λ (e : (i ≡ j) × IsIn body j × (j ≢ header) × IsFunctionEntry v j).
       let same : a ≡ b = some_same a b (slice_get v.code.nodes j) (ap (slice_get v.code.nodes) (sym e.0) ∙ at_i) at_j in
       let f = e.3 in
       ((numbers.exact j b at_j).0 e.1, apart j b at_j e.2, inr (same, (f.0, f.1, some_same ((graph v).entry f.0) b (slice_get v.code.nodes j) f.2 at_j))))
@@ -110,7 +110,7 @@ module _ (v : FlowGraph) (edges : EdgeView) (is : AreEdgesOf v edges) (note : Lo
 
   pub pair_of : (from to : ℕ) → IsAside v note from to → AreNumbers from to
   pair_of from to h = ⊎_elim
-      (λ (s : (e : ℕ) × (e < (graph v).edges) × ((graph v).source e ≡ from) × ((graph v).target e ≡ Some to) × (IsNodeOf v note from → ⊥)).
+      (λ (s : (e : ℕ) × (e < (graph v).edges) × ((graph v).source e ≡ from) × ((graph v).target e ≡ Some to) × (IsBodyNodeOf v note from → ⊥)).
       let i = number from (s.0, s.1, s.2) in
       let j = number to (flow.program.stays s.0 to s.1 s.3).0 in
       record {

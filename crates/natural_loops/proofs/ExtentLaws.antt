@@ -49,11 +49,11 @@ le_same nodes at n k a count g = ⊎_elim
 both : (a b c d : Bool) → a ≡ c → b ≡ d → (a && b) ≡ (c && d)
 both a b c d p q = ap (λ x. x && b) p ∙ ap (λ x. c && x) q
 
-range_same : (nodes : List ℕ) (r : Range) (s : NodeRange) (k a : ℕ) → IsCountBelow nodes r.from s.from → IsCountBelow nodes r.to s.to → slice_get nodes k ≡ Some a → bodies.is_in k s ≡ image.is_in a r
+range_same : (nodes : List ℕ) (r : Range) (s : NodeRange) (k a : ℕ) → IsCountBelow nodes r.from s.from → IsCountBelow nodes r.to s.to → slice_get nodes k ≡ Some a → bodies.in_node_range k s ≡ image.is_in a r
 range_same nodes r s k a from to g = both (nat_le s.from k) (nat_lt k s.to) (nat_le r.from a) (nat_lt a r.to) (le_same nodes r.from s.from k a from g) (lt_same nodes r.to s.to k a to g)
 
 -- the header's range
-header_same : (v : FlowGraph) → IsFlowGraph v → (header h : ℕ) (s : NodeRange) (k a : ℕ) → s.from ≡ header → s.to ≡ header + 1 → slice_get v.code.nodes header ≡ Some h → slice_get v.code.nodes k ≡ Some a → bodies.is_in k s ≡ (a == h)
+header_same : (v : FlowGraph) → IsFlowGraph v → (header h : ℕ) (s : NodeRange) (k a : ℕ) → s.from ≡ header → s.to ≡ header + 1 → slice_get v.code.nodes header ≡ Some h → slice_get v.code.nodes k ≡ Some a → bodies.in_node_range k s ≡ (a == h)
 header_same v is header h s k a sf st at g = ⊎_elim
     (λ (e : k ≡ header). let same : a ≡ h = some_same a h (slice_get v.code.nodes header) (ap (slice_get v.code.nodes) (sym e) ∙ g) at in
     both (nat_le s.from k) (nat_lt k s.to) true true (le-leb s.from k (omega arith)) (lt-ltb k s.to (omega arith)) ∙ sym (eq-eqb a h same))
@@ -68,7 +68,7 @@ header_same v is header h s k a sf st at g = ⊎_elim
 
 -- ---- an extent, with the first ranges of a note
 abbrev pub AreFirstRanges : FlowGraph → LoopNote → ℕ → List NodeRange → Type 0
-AreFirstRanges v note n extent = (k at : ℕ) → slice_get v.code.nodes k ≡ Some at → bodies.in_extent extent k ≡ ((at == note.header) || list_any (image.is_in at) (take n note.ranges))
+AreFirstRanges v note n extent = (k at : ℕ) → slice_get v.code.nodes k ≡ Some at → bodies.in_node_ranges extent k ≡ ((at == note.header) || list_any (image.is_in at) (take n note.ranges))
 
 or_false : (a : Bool) → (a || false) ≡ a
 or_false true = refl
@@ -87,7 +87,7 @@ none_taken p (r ∷ rs) = refl
 pub ranges_start : (v : FlowGraph) → IsFlowGraph v → (note : LoopNote) (header : ℕ) (s : NodeRange) (extent : List NodeRange) → extent ≡ s ∷ [] → s.from ≡ header → s.to ≡ header + 1 →
     slice_get v.code.nodes header ≡ Some note.header → AreFirstRanges v note 0 extent
 ranges_start v is note header s extent e sf st at k a g =
-    ap (λ xs. bodies.in_extent xs k) e ∙ (or_false (bodies.is_in k s) ∙ (header_same v is header note.header s k a sf st at g ∙
+    ap (λ xs. bodies.in_node_ranges xs k) e ∙ (or_false (bodies.in_node_range k s) ∙ (header_same v is header note.header s k a sf st at g ∙
     (sym (or_false (a == note.header)) ∙ ap (λ x. (a == note.header) || x) (sym (none_taken (image.is_in a) note.ranges)))))
 
 pub ranges_next : (v : FlowGraph) (note : LoopNote) (n : ℕ) (r : Range) (s : NodeRange) (extent longer : List NodeRange) → longer ≡ extent ++ s ∷ [] → slice_get note.ranges n ≡ Some r →
@@ -97,8 +97,8 @@ ranges_next v note n r s extent longer e at from to was k a g =
     let here : get_or note.ranges n r ≡ r = get_or_from_slice_get note.ranges n r r at in
     let more : list_any (image.is_in a) (take (n + 1) note.ranges) ≡ (list_any (image.is_in a) (take n note.ranges) || image.is_in a r) =
     list_any_more (image.is_in a) note.ranges n r (slice_get_within note.ranges n r at) ∙ ap (λ x. list_any (image.is_in a) (take n note.ranges) || image.is_in a x) here in
-    ap (λ xs. bodies.in_extent xs k) e ∙ (list_any-append (bodies.is_in k) extent (s ∷ []) ∙
-    (ap (λ x. x || (bodies.is_in k s || false)) (was k a g) ∙
+    ap (λ xs. bodies.in_node_ranges xs k) e ∙ (list_any-append (bodies.in_node_range k) extent (s ∷ []) ∙
+    (ap (λ x. x || (bodies.in_node_range k s || false)) (was k a g) ∙
     (ap (λ x. ((a == note.header) || list_any (image.is_in a) (take n note.ranges)) || (x || false)) (range_same v.code.nodes r s k a from to g) ∙
     (or_step (a == note.header) (list_any (image.is_in a) (take n note.ranges)) (image.is_in a r) ∙
     ap (λ x. (a == note.header) || x) (sym more)))))

@@ -23,7 +23,7 @@ use Rattle.natural_loops.specs.Ends.{AreEdgeEnds}
 use Rattle.natural_loops.specs.Noted.{header_address, IsBodyNode, HasBackEdge, HaveOneHeader, IsNotedSideEntry, node_address}
 use Rattle.natural_loops.specs.Found.{loops_seen, AreNaturalLoops}
 use Rattle.natural_loops.specs.Refused.{AreHeaders, AreNoted, IsPairRefused, IsDepthRefused, AreHeadersReached}
-use Rattle.natural_loops.specs.Passes.{AreEdgesOf, IsReady, AreHeaderNumbers, HaveOneNumber, IsNumberedBody, AreDepths, AreEntriesFound, AreBodies, IsDeepest, depth_at}
+use Rattle.natural_loops.specs.Passes.{AreGraphEdges, IsReady, AreHeaderNumbers, HaveOneNumber, IsNumberedBody, AreDepths, AreEntriesFound, AreBodies, IsDeepest, depth_at}
 use Rattle.natural_loops.proofs.NodeLaws.{one_number, source_number}
 
 -- ---- headers
@@ -85,15 +85,15 @@ pair_low v notes headers firsts least one two numbers same pairs is =
 
 -- the ends of the edges, as slices
 pub edges_at : (v : FlowGraph) (sources starts : List ℕ) (targets ends : List (Option ℕ)) (count : ℕ) (search : EdgeView) → IsFlowGraph v → count ≡ length v.code.nodes → count ≤ 131072 → AreEdgeEnds v sources targets → starts ≡ sources → ends ≡ targets →
-    search ≡ record { sources = starts; targets = ends; count = count } → AreEdgesOf v search
-edges_at v sources starts targets ends count search flow size few are from to e = subst (AreEdgesOf v) (sym e) (record {
+    search ≡ record { sources = starts; targets = ends; count = count } → AreGraphEdges v search
+edges_at v sources starts targets ends count search flow size few are from to e = subst (AreGraphEdges v) (sym e) (record {
   graph = record { flow = flow; few = omega arith };
   ends = subst (λ s. AreEdgeEnds v s ends) (sym from) (subst (AreEdgeEnds v sources) (sym to) are);
   count = size;
 })
 
 -- with notes whose headers differ
-pub ready_at : (v : FlowGraph) (search : EdgeView) (notes : List LoopNote) (headers firsts seen : List ℕ) (least : Option (ℕ × ℕ)) → AreEdgesOf v search → AreHeaderNumbers v notes headers → firsts ≡ headers → IsLeastPair (HaveOneNumber firsts) least → least ≡ None → seen ≡ headers →
+pub ready_at : (v : FlowGraph) (search : EdgeView) (notes : List LoopNote) (headers firsts seen : List ℕ) (least : Option (ℕ × ℕ)) → AreGraphEdges v search → AreHeaderNumbers v notes headers → firsts ≡ headers → IsLeastPair (HaveOneNumber firsts) least → least ≡ None → seen ≡ headers →
     IsReady v search notes seen
 ready_at v search notes headers firsts seen least edges numbers same pairs none now = subst (IsReady v search notes) (sym now) (record {
   edges = edges;

@@ -12,12 +12,12 @@ use Rattle.cost_theory.proofs.Laws.{sum-same}
 use Rattle.code_graph.specs.FlowGraph.{FlowGraph, graph, IsFlowGraph}
 use Rattle.loop_bodies.specs.declared.extent.LoopExtent.{LoopExtent}
 use Rattle.loop_bodies.specs.Edges.{EdgeView}
-use Rattle.loop_bodies.specs.Groups.{HasBit, IsFlagged, IsLed, IsInside, IsEnteredAside, OfLoop, AreLoops, AreGroup}
+use Rattle.loop_bodies.specs.Groups.{HasBit, IsFlagged, IsLed, IsInside, IsEnteredAside, OfLoop, AreLoopExtents, AreGroup}
 use Rattle.loop_bodies.proofs.Laws.{bit_cases}
 use Rattle.loop_file.specs.declared.notes.LoopNote.{LoopNote}
 use Rattle.loop_file.specs.Kept.{note_at}
 use Rattle.natural_loops.specs.Noted.{header_address, IsBodyNode, IsNotedSideEntry}
-use Rattle.natural_loops.specs.Passes.{AreEdgesOf, AreHeaderNumbers, IsExtent, AreExtents, IsEnteredBit, AreDepths}
+use Rattle.natural_loops.specs.Passes.{AreGraphEdges, AreHeaderNumbers, IsExtent, AreExtents, IsEnteredBit, AreDepths}
 use Rattle.natural_loops.proofs.NodeLaws.{one_number, source_number}
 use Rattle.natural_loops.proofs.EndLaws.{push_cases}
 use Rattle.natural_loops.proofs.HeaderLaws.{note_is}
@@ -53,7 +53,7 @@ at_index [] i lt = let bad : ⊥ = omega arith in absurd bad
 at_index (x ∷ xs) zero lt = (x, refl)
 at_index (x ∷ xs) (suc i) lt = at_index xs i (omega arith)
 
-module _ (v : FlowGraph) (edges : EdgeView) (is : AreEdgesOf v edges) (notes : List LoopNote) (headers : List ℕ) (numbers : AreHeaderNumbers v notes headers) (first last : ℕ) (loops : List LoopExtent) (extents : AreExtents v notes headers first last loops) (within : last ≤ length notes) where
+module _ (v : FlowGraph) (edges : EdgeView) (is : AreGraphEdges v edges) (notes : List LoopNote) (headers : List ℕ) (numbers : AreHeaderNumbers v notes headers) (first last : ℕ) (loops : List LoopExtent) (extents : AreExtents v notes headers first last loops) (within : last ≤ length notes) where
   flow : IsFlowGraph v
   flow = is.graph.flow
 
@@ -66,7 +66,7 @@ module _ (v : FlowGraph) (edges : EdgeView) (is : AreEdgesOf v edges) (notes : L
   loop_node : (i : ℕ) (loop : LoopExtent) → slice_get loops i ≡ Some loop → (j a : ℕ) → slice_get v.code.nodes j ≡ Some a → IsLed edges j loop ↔ IsBodyNode v notes (first + i) a
   loop_node i loop at j a at_j = led_node v edges is (note_at notes (first + i)) loop.header loop.ranges.items (header_of i loop at) (extents.at i loop at).1 j a at_j
 
-  pub loops_are : last ≤ first + 64 → AreLoops edges.count loops
+  pub loops_are : last ≤ first + 64 → AreLoopExtents edges.count loops
   loops_are few = record {
     few = (let s = extents.size in omega arith);
     header = λ i loop at. (
@@ -290,7 +290,7 @@ module _ (v : FlowGraph) (flow : IsFlowGraph v) (notes : List LoopNote) (first n
       whole_is : (new was_at ones all front back : ℕ) → new ≡ was_at + ones → was_at ≡ front → ones ≡ back → all ≡ front + back → new ≡ all
       whole_is new was_at ones all front back a b c d = omega arith
 
-module _ (v : FlowGraph) (edges : EdgeView) (is : AreEdgesOf v edges) (notes : List LoopNote) (headers : List ℕ) (numbers : AreHeaderNumbers v notes headers) (first last : ℕ) (loops : List LoopExtent) (extents : AreExtents v notes headers first last loops) (within : last ≤ length notes)
+module _ (v : FlowGraph) (edges : EdgeView) (is : AreGraphEdges v edges) (notes : List LoopNote) (headers : List ℕ) (numbers : AreHeaderNumbers v notes headers) (first last : ℕ) (loops : List LoopExtent) (extents : AreExtents v notes headers first last loops) (within : last ≤ length notes)
     (bodies : List ℕ) (aside : ℕ) (group : AreGroup edges loops bodies aside) where
   pub depths_group : (depths deeper : List ℕ) → AreDepths v notes first depths → length deeper ≡ length depths → ((j : ℕ) → j < length depths → slice_index deeper j ≡ slice_index depths j + count_ones (slice_index bodies j)) → AreDepths v notes last deeper
   depths_group depths deeper was same added =

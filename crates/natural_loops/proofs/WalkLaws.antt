@@ -10,26 +10,26 @@ use Rattle.cost_theory.specs.Accepted.{StaysWithin}
 use Rattle.code_graph.specs.FlowGraph.{FlowGraph, graph, IsFlowGraph}
 use Rattle.loop_bodies.specs.declared.extent.NodeRange.{NodeRange}
 use Rattle.loop_bodies.specs.Bodies as bodies
-use Rattle.loop_bodies.specs.Bodies.{HasEdge, LeadsWithin, HasBackEdge, IsBody, IsIn}
+use Rattle.loop_bodies.specs.Bodies.{HasEdge, LeadsWithin, HasEdgeBack, IsBody, IsIn}
 use Rattle.loop_bodies.specs.Bodies.LeadsWithin.{at_once, onward}
 use Rattle.loop_bodies.specs.Edges.{EdgeView, AreEdges}
 use Rattle.loop_file.specs.declared.notes.LoopNote.{LoopNote}
 use Rattle.loop_file.specs.Kept as kept
-use Rattle.natural_loops.specs.Passes.{AreEdgesOf, IsExtent, IsNodeOf, GoesBack, IsNumberedBody}
+use Rattle.natural_loops.specs.Passes.{AreGraphEdges, IsExtent, IsBodyNodeOf, GoesBack, IsNumberedBody}
 use Rattle.natural_loops.proofs.NodeLaws.{one_number, source_number}
 
 pub some_same : {A : Type 0} (a b : A) (o : Option A) → o ≡ Some a → o ≡ Some b → a ≡ b
 some_same a b o p q = cc
 
 -- ---- edges
-pub ends_edges : (v : FlowGraph) (edges : EdgeView) → AreEdgesOf v edges → AreEdges edges.sources edges.targets edges.count
+pub ends_edges : (v : FlowGraph) (edges : EdgeView) → AreGraphEdges v edges → AreEdges edges.sources edges.targets edges.count
 ends_edges v edges is = record {
   paired = is.ends.sources_size ∙ sym is.ends.targets_size;
   from = λ e u h. (let lt = slice_get_within v.code.nodes u ((graph v).source e) (is.ends.source e u h) in let c = is.count in omega arith);
   to = λ e u h. (let lt = (is.ends.target e u h).1 in let c = is.count in omega arith);
 }
 
-module _ (v : FlowGraph) (edges : EdgeView) (is : AreEdgesOf v edges) where
+module _ (v : FlowGraph) (edges : EdgeView) (is : AreGraphEdges v edges) where
   flow : IsFlowGraph v
   flow = is.graph.flow
 
@@ -76,10 +76,10 @@ module _ (v : FlowGraph) (edges : EdgeView) (is : AreEdgesOf v edges) where
       pub end : end_of (graph v) ((graph v).target edge) rest ≡ Some note.header
       pub within : StaysWithin (graph v) (kept.in_extent note) (edge ∷ rest)
 
-    inside_at : (k a : ℕ) → slice_get v.code.nodes k ≡ Some a → bodies.in_extent ranges k ≡ true → kept.in_extent note a ≡ true
+    inside_at : (k a : ℕ) → slice_get v.code.nodes k ≡ Some a → bodies.in_node_ranges ranges k ≡ true → kept.in_extent note a ≡ true
     inside_at k a at h = sym (extent k a at) ∙ h
 
-    led : (k a : ℕ) → slice_get v.code.nodes k ≡ Some a → LeadsWithin edges.sources edges.targets (bodies.in_extent ranges) header k → IsLed a
+    led : (k a : ℕ) → slice_get v.code.nodes k ≡ Some a → LeadsWithin edges.sources edges.targets (bodies.in_node_ranges ranges) header k → IsLed a
     led k a at (at_once edge inside) =
         let e = edge.0 in
         let from : (graph v).source edge.0 ≡ a = edge_from edge.0 k a edge.1 at in
@@ -109,7 +109,7 @@ module _ (v : FlowGraph) (edges : EdgeView) (is : AreEdgesOf v edges) where
         }
 
     leads_on : (es : List ℕ) (e k a : ℕ) → slice_get v.code.nodes k ≡ Some a → IsWalk (graph v) (Some a) (e ∷ es) → end_of (graph v) ((graph v).target e) es ≡ Some note.header →
-        StaysWithin (graph v) (kept.in_extent note) (e ∷ es) → LeadsWithin edges.sources edges.targets (bodies.in_extent ranges) header k
+        StaysWithin (graph v) (kept.in_extent note) (e ∷ es) → LeadsWithin edges.sources edges.targets (bodies.in_node_ranges ranges) header k
     leads_on [] e k a at walk end stays =
         let from : (graph v).source e ≡ a = (let h = walk.1 in cc) in
         at_once (has_edge e k header a note.header walk.0 from end at at_header) (extent k a at ∙ (ap (kept.in_extent note) (sym from) ∙ stays.0))
@@ -119,11 +119,11 @@ module _ (v : FlowGraph) (edges : EdgeView) (is : AreEdgesOf v edges) where
         onward next.0 (has_edge e k next.0 a ((graph v).source d) walk.0 from walk.2.1 at next.1) (extent k a at ∙ (ap (kept.in_extent note) (sym from) ∙ stays.0))
         (leads_on es d next.0 ((graph v).source d) next.1 (walk.2.0, refl, walk.2.2) end stays.1)
 
-    header_inside : bodies.in_extent ranges header ≡ true → kept.in_extent note note.header ≡ true
+    header_inside : bodies.in_node_ranges ranges header ≡ true → kept.in_extent note note.header ≡ true
     header_inside h = inside_at header note.header at_header h
 
     -- the body of the search is that of the note's loop
-    pub numbered : (body : List ℕ) → IsBody edges.sources edges.targets (bodies.in_extent ranges) header body → IsNumberedBody v note body
+    pub numbered : (body : List ℕ) → IsBody edges.sources edges.targets (bodies.in_node_ranges ranges) header body → IsNumberedBody v note body
     numbered body was = record {
       nodes = record {
         within = λ p k h. let lead = ((was.nodes k).0 (p, h)).1 in lead_within k lead;
@@ -138,7 +138,7 @@ module _ (v : FlowGraph) (edges : EdgeView) (is : AreEdgesOf v edges) where
         edge_node : (k u : ℕ) → HasEdge edges.sources edges.targets k u → k < length v.code.nodes
         edge_node k u edge = slice_get_within v.code.nodes k ((graph v).source edge.0) (is.ends.source edge.0 k edge.1)
 
-        lead_within : (k : ℕ) → LeadsWithin edges.sources edges.targets (bodies.in_extent ranges) header k → k < length v.code.nodes
+        lead_within : (k : ℕ) → LeadsWithin edges.sources edges.targets (bodies.in_node_ranges ranges) header k → k < length v.code.nodes
         lead_within k (at_once edge inside) = edge_node k header edge
         lead_within k (onward u edge inside leads) = edge_node k u edge
 
@@ -146,17 +146,17 @@ module _ (v : FlowGraph) (edges : EdgeView) (is : AreEdgesOf v edges) where
     header_is = or_left (note.header == note.header) (list_any (image.is_in note.header) note.ranges) (eq-eqb note.header note.header refl)
 
     -- the nodes that lead to the header are those of the note's loop
-    pub led_node : (k a : ℕ) → slice_get v.code.nodes k ≡ Some a → LeadsWithin edges.sources edges.targets (bodies.in_extent ranges) header k ↔ IsNodeOf v note a
+    pub led_node : (k a : ℕ) → slice_get v.code.nodes k ≡ Some a → LeadsWithin edges.sources edges.targets (bodies.in_node_ranges ranges) header k ↔ IsBodyNodeOf v note a
     led_node k a at = (
       λ w. let l = led k a at w in (l.owner, header_is, (l.edge, l.rest, l.walk, l.end, l.within)),
       λ h. leads_on h.2.1 h.2.0 k a at h.2.2 h.2.3 h.2.4,
     )
 
-    pub header_in : bodies.in_extent ranges header ≡ true
+    pub header_in : bodies.in_node_ranges ranges header ≡ true
     header_in = extent header note.header at_header ∙ header_is
 
     -- an edge from the extent to the header turns the loop back
-    pub turn : HasBackEdge edges.sources edges.targets (bodies.in_extent ranges) header ↔ GoesBack v note
+    pub turn : HasEdgeBack edges.sources edges.targets (bodies.in_node_ranges ranges) header ↔ GoesBack v note
     turn = (
       λ h.
           let edge = h.1 in

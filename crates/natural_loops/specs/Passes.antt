@@ -45,21 +45,21 @@ abbrev pub HaveOneNumber : List ℕ → ℕ → ℕ → Type 0
 HaveOneNumber headers j k = (j < k) × (k < length headers) × (slice_index headers j ≡ slice_index headers k)
 
 -- the ends of the edges of a program's graph
-pub record AreEdgesOf (v : FlowGraph) (edges : EdgeView) : Type 0 where
+pub record AreGraphEdges (v : FlowGraph) (edges : EdgeView) : Type 0 where
   pub graph : IsSmallGraph v
   pub ends : AreEdgeEnds v edges.sources edges.targets
   pub count : edges.count ≡ length v.code.nodes
 
 -- the same, and notes of loops with different headers, which are at these nodes
 pub record IsReady (v : FlowGraph) (search : EdgeView) (notes : List LoopNote) (headers : List ℕ) : Type 0 where
-  pub edges : AreEdgesOf v search
+  pub edges : AreGraphEdges v search
   pub few : length notes ≤ 4096
   pub numbers : AreHeaderNumbers v notes headers
   pub apart : AreHeaders v notes
 
 -- the ranges of nodes have those in a note's extent
 abbrev pub IsExtent : FlowGraph → LoopNote → List NodeRange → Type 0
-IsExtent v note extent = (k at : ℕ) → slice_get v.code.nodes k ≡ Some at → bodies.in_extent extent k ≡ kept.in_extent note at
+IsExtent v note extent = (k at : ℕ) → slice_get v.code.nodes k ≡ Some at → bodies.in_node_ranges extent k ≡ kept.in_extent note at
 
 -- the loops of the notes from one number up to another
 pub record AreExtents (v : FlowGraph) (notes : List LoopNote) (headers : List ℕ) (first last : ℕ) (loops : List LoopExtent) : Type 0 where
@@ -67,29 +67,29 @@ pub record AreExtents (v : FlowGraph) (notes : List LoopNote) (headers : List �
   pub at : (i : ℕ) (loop : LoopExtent) → slice_get loops i ≡ Some loop → (loop.header ≡ slice_index headers (first + i)) × IsExtent v (note_at notes (first + i)) loop.ranges.items
 
 -- a node is in the body of a note's loop
-abbrev pub IsNodeOf : FlowGraph → LoopNote → ℕ → Type 0
-IsNodeOf v note at = IsInBody (graph v) note.header (kept.in_extent note) at
+abbrev pub IsBodyNodeOf : FlowGraph → LoopNote → ℕ → Type 0
+IsBodyNodeOf v note at = IsInBody (graph v) note.header (kept.in_extent note) at
 
 -- an edge leads from its body to its header
 abbrev pub GoesBack : FlowGraph → LoopNote → Type 0
-GoesBack v note = (e : ℕ) × (e < (graph v).edges) × IsNodeOf v note ((graph v).source e) × ((graph v).target e ≡ Some note.header)
+GoesBack v note = (e : ℕ) × (e < (graph v).edges) × IsBodyNodeOf v note ((graph v).source e) × ((graph v).target e ≡ Some note.header)
 
 -- the numbers of the nodes in the body of a note's loop
 pub record IsNumberedBody (v : FlowGraph) (note : LoopNote) (body : List ℕ) : Type 0 where
   pub nodes : AreNodes (length v.code.nodes) body
-  pub exact : (i at : ℕ) → slice_get v.code.nodes i ≡ Some at → IsIn body i ↔ IsNodeOf v note at
+  pub exact : (i at : ℕ) → slice_get v.code.nodes i ≡ Some at → IsIn body i ↔ IsBodyNodeOf v note at
 
 -- the nodes of a body are of its header's function
 abbrev pub AreOwned : FlowGraph → ℕ → List ℕ → Type 0
 AreOwned v header body = (i at : ℕ) → IsIn body i → slice_get v.code.nodes i ≡ Some at → (graph v).owner at ≡ (graph v).owner (slice_index v.code.nodes header)
 
-abbrev pub IsEntryNode : FlowGraph → ℕ → Type 0
-IsEntryNode v i = (f : ℕ) × (f < (graph v).functions) × (slice_get v.code.nodes i ≡ Some ((graph v).entry f))
+abbrev pub IsFunctionEntry : FlowGraph → ℕ → Type 0
+IsFunctionEntry v i = (f : ℕ) × (f < (graph v).functions) × (slice_get v.code.nodes i ≡ Some ((graph v).entry f))
 
 -- an edge leads into a body past its header; or the entry of a function lies there, and stands for both ends
 abbrev pub IsSidePair : FlowGraph → EdgeView → ℕ → List ℕ → ℕ → ℕ → Type 0
 IsSidePair v edges header body from to = IsSideEdge edges.sources edges.targets header body from to ⊎
-    ((from ≡ to) × IsIn body to × (to ≢ header) × IsEntryNode v to)
+    ((from ≡ to) × IsIn body to × (to ≢ header) × IsFunctionEntry v to)
 
 abbrev pub AreBackEdgesFound : FlowGraph → List LoopNote → Result Unit Refusal → Type 0
 AreBackEdgesFound v notes (Ok x) = (k : ℕ) → k < length notes → HasBackEdge v notes k
@@ -116,9 +116,9 @@ pub record IsEnteredBy (v : FlowGraph) (notes : List LoopNote) (k : ℕ) (refusa
   pub refusal_is : refusal ≡ SideEntry (k + 1) from to
 
 -- the body of loop k isn't entered aside, or it is refused
-abbrev pub IsEntry : FlowGraph → List LoopNote → ℕ → Result Unit Refusal → Type 0
-IsEntry v notes k (Ok x) = (a b : ℕ) → IsNotedSideEntry v notes k a b → ⊥
-IsEntry v notes k (Err refusal) = IsEnteredBy v notes k refusal
+abbrev pub IsEntryTested : FlowGraph → List LoopNote → ℕ → Result Unit Refusal → Type 0
+IsEntryTested v notes k (Ok x) = (a b : ℕ) → IsNotedSideEntry v notes k a b → ⊥
+IsEntryTested v notes k (Err refusal) = IsEnteredBy v notes k refusal
 
 -- the first n bodies are not entered aside, and are counted
 pub record AreEnteredBelow (v : FlowGraph) (notes : List LoopNote) (n : ℕ) (depths : List ℕ) : Type 0 where
@@ -134,9 +134,9 @@ pub record AreEntriesFound (v : FlowGraph) (notes : List LoopNote) (depths : Lis
   pub none : (k from to : ℕ) → k < length notes → IsNotedSideEntry v notes k from to → ⊥
   pub counts : AreDepths v notes (length notes) depths
 
-abbrev pub AreEntries : FlowGraph → List LoopNote → Result (List ℕ) Refusal → Type 0
-AreEntries v notes (Ok depths) = AreEntriesFound v notes depths
-AreEntries v notes (Err refusal) = IsEntryRefused v notes refusal
+abbrev pub AreEntriesTested : FlowGraph → List LoopNote → Result (List ℕ) Refusal → Type 0
+AreEntriesTested v notes (Ok depths) = AreEntriesFound v notes depths
+AreEntriesTested v notes (Err refusal) = IsEntryRefused v notes refusal
 
 -- the first header that is in more than 16 bodies is refused
 abbrev pub depth_at : List ℕ → List ℕ → ℕ → ℕ

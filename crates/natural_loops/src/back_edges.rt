@@ -2,7 +2,7 @@
 
 ghost use Rattle.std.specs.Prelude.{◌≡◌, ◌↔◌, true, length, slice_get, Some, IfOk};
 ghost use Rattle.scale_base.specs.Answer.{AnswersBy};
-ghost use Rattle.natural_loops.specs.Passes.{AreEdgesOf, IsReady, GoesBack, IsNumberedBody, AreBackEdgesFound};
+ghost use Rattle.natural_loops.specs.Passes.{AreGraphEdges, IsReady, GoesBack, IsNumberedBody, AreBackEdgesFound};
 
 use crate::extent::extent_of;
 use crate::headers::number_of;
@@ -20,7 +20,7 @@ fn goes_back(
     note: &LoopNote,
     header: usize,
 ) -> Result<bool, NoMemory>
-    requires edges { AreEdgesOf graph.now search.now }
+    requires edges { AreGraphEdges graph.now search.now }
     requires header { slice_get graph.now.code.nodes header ≡ Some note.now.header }
     ensures { IfOk result (λ has. (has ≡ true) ↔ GoesBack graph.now note.now) }
 {
@@ -36,7 +36,7 @@ pub fn loop_body(
     note: &LoopNote,
     header: usize,
 ) -> Result<Vec<usize>, NoMemory>
-    requires edges { AreEdgesOf graph.now search.old }
+    requires edges { AreGraphEdges graph.now search.old }
     requires header { slice_get graph.now.code.nodes header ≡ Some note.now.header }
     ensures body { IfOk result (λ body. IsNumberedBody graph.now note.now body.items) }
     ensures same { search.new ≡ search.old }

@@ -2,7 +2,7 @@
 
 ghost use Rattle.std.specs.Prelude.{◌≡◌, length, map, slice_get, Some, IfOk};
 ghost use Rattle.natural_loops.specs.Found.{IsAscending};
-ghost use Rattle.natural_loops.specs.Passes.{AreEdgesOf, IsReady, IsNumberedBody, AreBodies};
+ghost use Rattle.natural_loops.specs.Passes.{AreGraphEdges, IsReady, IsNumberedBody, AreBodies};
 
 use crate::back_edges::loop_body;
 use code_graph::CodeGraph;
@@ -19,7 +19,7 @@ fn sorted_body(
     note: &LoopNote,
     header: usize,
 ) -> Result<Vec<usize>, NoMemory>
-    requires edges { AreEdgesOf graph.now search.old }
+    requires edges { AreGraphEdges graph.now search.old }
     requires header { slice_get graph.now.code.nodes header ≡ Some note.now.header }
     ensures body { IfOk result (λ body. IsNumberedBody graph.now note.now body.items) }
     ensures ascending { IfOk result (λ body. IsAscending (length graph.now.code.nodes) body.items) }

@@ -4,7 +4,7 @@ ghost use Rattle.std.specs.Prelude.{◌≡◌, ◌+◌, ◌<◌, ◌≤◌, ◌�
 ghost use Rattle.scale_base.specs.Answer.{AnswersBy};
 ghost use Rattle.code_graph.specs.FlowGraph as flow;
 ghost use Rattle.loop_bodies.specs.Bodies.{IsIn, AreNodes, IsLeastPair};
-ghost use Rattle.natural_loops.specs.Passes.{IsSmallGraph, AreEdgesOf, IsReady, AreOwned, IsSidePair, IsEntry, AreEntries, AreShallow};
+ghost use Rattle.natural_loops.specs.Passes.{IsSmallGraph, AreGraphEdges, IsReady, AreOwned, IsSidePair, IsEntryTested, AreEntriesTested, AreShallow};
 ghost use Rattle.natural_loops.specs.Noted.{HasBackEdge};
 
 use crate::back_edges::loop_body;
@@ -50,7 +50,7 @@ fn side_entry(
     header: usize,
     body: &[usize],
 ) -> Option<(usize, usize)>
-    requires edges { AreEdgesOf graph.now search.old }
+    requires edges { AreGraphEdges graph.now search.old }
     requires header { header < length graph.now.code.nodes }
     requires nodes { AreNodes (length graph.now.code.nodes) body.now }
     requires owned { AreOwned graph.now header body.now }
@@ -76,7 +76,7 @@ pub fn check_entry(
 ) -> Result<(), Stop>
     requires ready { IsReady graph.now search.old notes.now headers.now }
     requires within { k < length notes.now }
-    ensures entry { AnswersBy (λ x. x) result (IsEntry graph.now notes.now k) }
+    ensures entry { AnswersBy (λ x. x) result (IsEntryTested graph.now notes.now k) }
     ensures same { search.new ≡ search.old }
 {
     let body = loop_body(alloc, search, graph, notes.note(k), headers[k])?;
@@ -100,7 +100,7 @@ pub fn check_entries(
 ) -> Result<Vec<usize>, Stop>
     requires ready { IsReady graph.now search.old notes.now headers.now }
     requires back_edges { (k : ℕ) → k < length notes.now → HasBackEdge graph.now notes.now k }
-    ensures entries { AnswersBy (λ depths. depths.items) result (AreEntries graph.now notes.now) }
+    ensures entries { AnswersBy (λ depths. depths.items) result (AreEntriesTested graph.now notes.now) }
     ensures same { search.new ≡ search.old }
 {
     let mut depths = vec![in alloc; 0; graph.node_count()]?;

@@ -7,8 +7,8 @@ use Rattle.scale_base.specs.declared.stepping.Class.{Class}
 use Rattle.scale_base.specs.declared.stepping.Stepped.{Stepped}
 use Rattle.power_model.specs.Numbers.{PowerModel}
 use Rattle.power_model.specs.Price.{level_after}
-use Rattle.stub_runs.specs.Cycles.{cycles}
-use Rattle.stored_runs.specs.Legs.{Stores}
+use Rattle.stub_runs.specs.Cycles.{stepped_cycles}
+use Rattle.stored_runs.specs.Legs.{StoresLevel}
 use Rattle.power_model.specs.Switches.{energy, costs_of, NeverRises, switches_from, saved, fee, AllPay}
 use Rattle.leg_prices.proofs.Laws.{AreSilent}
 
@@ -28,7 +28,7 @@ once_rise i j (x ∷ before) behind ys store silent quiet stored low rest =
     let stays : level_after i x ≡ i = ap (λ o. unwrap_or o i) (silent 0 x (omega arith)) in
     (omega (arith, stays), subst (λ k. NeverRises k ((before ++ store ∷ behind) ++ ys)) (sym stays) (once_rise i j before behind ys store (λ k d lt. silent (suc k) d (omega arith)) quiet stored low rest))
 
-pub leg_rise : (stored : Option ℕ) (tail : (Class → ℕ) → ℕ) (xs : List Stepped) → Stores stored tail xs → (i : ℕ) (ys : List Stepped) → ((j : ℕ) → stored ≡ Some j → j ≤ i) → NeverRises (unwrap_or stored i) ys → NeverRises i (xs ++ ys)
+pub leg_rise : (stored : Option ℕ) (tail : (Class → ℕ) → ℕ) (xs : List Stepped) → StoresLevel stored tail xs → (i : ℕ) (ys : List Stepped) → ((j : ℕ) → stored ≡ Some j → j ≤ i) → NeverRises (unwrap_or stored i) ys → NeverRises i (xs ++ ys)
 leg_rise None tail xs h i ys low rest = silent_rise i xs ys h rest
 leg_rise (Some j) tail xs h i ys low rest =
     subst (λ zs. NeverRises i (zs ++ ys)) (sym h.parts) (once_rise i j h.before h.behind ys h.store h.none_before h.none_behind h.level_is (low j refl) rest)
@@ -38,8 +38,8 @@ leg_rise (Some j) tail xs h i ys low rest =
 -- a step that leaves the level alone is no switch
 no_switch_pays : (power : PowerModel) (i : ℕ) (x : Stepped) (xs : List Stepped) → level_after i x ≡ i → AllPay power (switches_from power i xs) → AllPay power (switches_from power i (x ∷ xs))
 no_switch_pays power i x xs stays rest =
-    subst (λ j. AllPay power (cond (i == j) (switches_from power j xs) (record { from = i; to = j; cycles = cycles (costs_of power) xs } ∷ switches_from power j xs))) (sym stays)
-    (subst (λ b. AllPay power (cond b (switches_from power i xs) (record { from = i; to = i; cycles = cycles (costs_of power) xs } ∷ switches_from power i xs))) (sym (eq-eqb i i refl)) rest)
+    subst (λ j. AllPay power (cond (i == j) (switches_from power j xs) (record { from = i; to = j; cycles = stepped_cycles (costs_of power) xs } ∷ switches_from power j xs))) (sym stays)
+    (subst (λ b. AllPay power (cond b (switches_from power i xs) (record { from = i; to = i; cycles = stepped_cycles (costs_of power) xs } ∷ switches_from power i xs))) (sym (eq-eqb i i refl)) rest)
 
 silent_pay : (power : PowerModel) (i : ℕ) (xs ys : List Stepped) → AreSilent xs → AllPay power (switches_from power i ys) → AllPay power (switches_from power i (xs ++ ys))
 silent_pay power i [] ys silent rest = rest
@@ -47,15 +47,15 @@ silent_pay power i (x ∷ xs) ys silent rest =
     no_switch_pays power i x (xs ++ ys) (ap (λ o. unwrap_or o i) (silent 0 x (omega arith))) (silent_pay power i xs ys (λ k d lt. silent (suc k) d (omega arith)) rest)
 
 -- a step that stores level j
-store_pays : (power : PowerModel) (i j : ℕ) (store : Stepped) (xs : List Stepped) → store.port ≡ Some j → (j ≡ i) ⊎ (fee power (record { from = i; to = j; cycles = cycles (costs_of power) xs }) ≤ saved power (record { from = i; to = j; cycles = cycles (costs_of power) xs }))
+store_pays : (power : PowerModel) (i j : ℕ) (store : Stepped) (xs : List Stepped) → store.port ≡ Some j → (j ≡ i) ⊎ (fee power (record { from = i; to = j; cycles = stepped_cycles (costs_of power) xs }) ≤ saved power (record { from = i; to = j; cycles = stepped_cycles (costs_of power) xs }))
     → AllPay power (switches_from power j xs) → AllPay power (switches_from power i (store ∷ xs))
 store_pays power i j store xs stored (inl same) rest =
     no_switch_pays power i store xs (ap (λ o. unwrap_or o i) stored ∙ same) (subst (λ k. AllPay power (switches_from power k xs)) same rest)
 store_pays power i j store xs stored (inr pays) rest =
     let to : level_after i store ≡ j = ap (λ o. unwrap_or o i) stored in
-    subst (λ k. AllPay power (cond (i == k) (switches_from power k xs) (record { from = i; to = k; cycles = cycles (costs_of power) xs } ∷ switches_from power k xs))) (sym to) (by_test (i == j))
+    subst (λ k. AllPay power (cond (i == k) (switches_from power k xs) (record { from = i; to = k; cycles = stepped_cycles (costs_of power) xs } ∷ switches_from power k xs))) (sym to) (by_test (i == j))
   where
-    by_test : (b : Bool) → AllPay power (cond b (switches_from power j xs) (record { from = i; to = j; cycles = cycles (costs_of power) xs } ∷ switches_from power j xs))
+    by_test : (b : Bool) → AllPay power (cond b (switches_from power j xs) (record { from = i; to = j; cycles = stepped_cycles (costs_of power) xs } ∷ switches_from power j xs))
     by_test true = rest
     by_test false = (pays, rest)
 
@@ -63,7 +63,7 @@ store_pays power i j store xs stored (inr pays) rest =
 abbrev pub PaysBehind : PowerModel → (i j behind : ℕ) → Type 0
 PaysBehind power i j behind = (j ≡ i) ⊎ (fee power (record { from = i; to = j; cycles = behind }) ≤ saved power (record { from = i; to = j; cycles = behind }))
 
-once_pays : (power : PowerModel) (i j : ℕ) (before behind ys : List Stepped) (store : Stepped) → AreSilent before → AreSilent behind → store.port ≡ Some j → PaysBehind power i j (cycles (costs_of power) behind + cycles (costs_of power) ys)
+once_pays : (power : PowerModel) (i j : ℕ) (before behind ys : List Stepped) (store : Stepped) → AreSilent before → AreSilent behind → store.port ≡ Some j → PaysBehind power i j (stepped_cycles (costs_of power) behind + stepped_cycles (costs_of power) ys)
     → AllPay power (switches_from power j ys) → AllPay power (switches_from power i ((before ++ store ∷ behind) ++ ys))
 once_pays power i j [] behind ys store silent quiet stored pays rest =
     store_pays power i j store (behind ++ ys) stored (subst (PaysBehind power i j) (sym (sum_by-append (λ x. costs_of power x.class) behind ys)) pays) (silent_pay power j behind ys quiet rest)
@@ -71,12 +71,12 @@ once_pays power i j (x ∷ before) behind ys store silent quiet stored pays rest
     no_switch_pays power i x ((before ++ store ∷ behind) ++ ys) (ap (λ o. unwrap_or o i) (silent 0 x (omega arith)))
     (once_pays power i j before behind ys store (λ k d lt. silent (suc k) d (omega arith)) quiet stored pays rest)
 
-pub leg_pays : (power : PowerModel) (stored : Option ℕ) (tail : (Class → ℕ) → ℕ) (xs : List Stepped) → Stores stored tail xs → (i : ℕ) (ys : List Stepped) → ((j : ℕ) → stored ≡ Some j → PaysBehind power i j (tail (costs_of power) + cycles (costs_of power) ys))
+pub leg_pays : (power : PowerModel) (stored : Option ℕ) (tail : (Class → ℕ) → ℕ) (xs : List Stepped) → StoresLevel stored tail xs → (i : ℕ) (ys : List Stepped) → ((j : ℕ) → stored ≡ Some j → PaysBehind power i j (tail (costs_of power) + stepped_cycles (costs_of power) ys))
     → AllPay power (switches_from power (unwrap_or stored i) ys) → AllPay power (switches_from power i (xs ++ ys))
 leg_pays power None tail xs h i ys pays rest = silent_pay power i xs ys h rest
 leg_pays power (Some j) tail xs h i ys pays rest =
     subst (λ zs. AllPay power (switches_from power i (zs ++ ys))) (sym h.parts)
-    (once_pays power i j h.before h.behind ys h.store h.none_before h.none_behind h.level_is (subst (λ c. PaysBehind power i j (c + cycles (costs_of power) ys)) (sym (h.tail_is (costs_of power))) (pays j refl)) rest)
+    (once_pays power i j h.before h.behind ys h.store h.none_before h.none_behind h.level_is (subst (λ c. PaysBehind power i j (c + stepped_cycles (costs_of power) ys)) (sym (h.tail_is (costs_of power))) (pays j refl)) rest)
 
 -- ---- the argument on a switch
 

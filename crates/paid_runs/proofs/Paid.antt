@@ -28,13 +28,13 @@ use Rattle.graph_runs.specs.KeptSteps.{Carried}
 use Rattle.graph_runs.specs.Laws.{IsProgramOf}
 use Rattle.graph_runs.specs.KeptRuns.{ExitsBy, IsKeptRun}
 use Rattle.stub_writer.specs.Stubs.{Site}
-use Rattle.stub_runs.specs.Cycles.{cycles}
+use Rattle.stub_runs.specs.Cycles.{stepped_cycles}
 use Rattle.stored_runs.specs.Marks.{stored_cycles, extra_cycles, shadow_first}
 use Rattle.stored_runs.specs.Legs.{originals, all_steps}
 use Rattle.stored_runs.proofs.Laws.{cost_of_legs, short_legs, long_legs}
 use Rattle.stored_runs.specs.Stubbed.{IsFollowed}
 use Rattle.shadow_counts.specs.Shadows.{AreCountable}
-use Rattle.marked_runs.specs.Marked.{extra_weights}
+use Rattle.marked_runs.specs.Marked.{extra_site_weights}
 use Rattle.marked_runs.specs.Counters.{AreCounted, by_words}
 use Rattle.marked_runs.proofs.Laws.{word_of_loop, is_word, countable_of, counted_of, AreAligned, extra_sum}
 use Rattle.power_model.specs.Switches.{period, costs_of}
@@ -60,8 +60,8 @@ paid_by power ok image stored sites start code l extent is_of prog loops able ma
       places = kept.places ∙ ap (map (λ x. x.pc)) (sym f.originals_are);
       classes = kept.classes ∙ ap (map (λ x. Some x.class)) (sym f.originals_are);
     } in
-    let first : n.worst 0 ≡ steps.cycles_left g l w n (steps.start g) = sym (left_start g l extent w n is.program is.accepted is.weights is.numbers) in
-    let safe : 0 + steps.cycles_left g l w n (steps.start g) * period power start ≤ power.deadline = subst (λ x. 0 + x * period power start ≤ power.deadline) first (omega (arith, worst)) in
+    let first : n.worst 0 ≡ steps.cycles_left g l w n (steps.graph_start g) = sym (left_start g l extent w n is.program is.accepted is.weights is.numbers) in
+    let safe : 0 + steps.cycles_left g l w n (steps.graph_start g) * period power start ≤ power.deadline = subst (λ x. 0 + x * period power start ≤ power.deadline) first (omega (arith, worst)) in
     let charged : IsCharged g l extent w least = record {
       program = is.program;
       returns = plain_returns (kind_at t) t.entry code prog.reached.lists prog.reached.words;
@@ -127,7 +127,7 @@ both_sums costs sites (x ∷ xs) =
     omega (arith, rest, sum_by-cons (stored_cycles costs sites) x xs, sum_by-cons (λ y. costs y.class) x xs, sum_by-cons (extra_cycles costs sites) x xs)
 
 pub bounded_by : (power : PowerModel) → IsPowerModel power → (image stored : Image) (sites : List Site) (start : ℕ) (code : Code) (l : Loops) (extent : ℕ → ℕ → Bool) (n : Numbers) →
-    IsAnalyzed (text_graph (text_of image) code) l extent (extra_weights (text_of image) code (costs_of power) sites) n →
+    IsAnalyzed (text_graph (text_of image) code) l extent (extra_site_weights (text_of image) code (costs_of power) sites) n →
     (input : List ℕ) (steps : ℕ) (c : Carried) (kept : IsKeptRun (text_of image) code l (costs_of power) (run_of image (length power.levels) input steps) c) (f : IsFollowed image stored (length power.levels) sites start input steps) →
     let original = (run_of image (length power.levels) input steps).steps in
     let run = (run_of stored (length power.levels) input f.after).steps in
@@ -142,13 +142,13 @@ bounded_by power ok image stored sites start code l extent n is input count c ke
     let run = (run_of stored (length power.levels) input f.after).steps in
     let aligned : AreAligned t code moves original = record { places = kept.places; classes = kept.classes } in
     let extra : sum_by (extra_cycles costs sites) original ≤ n.worst 0 =
-    subst (λ x. x ≤ n.worst 0) (extra_sum t code costs sites moves original aligned) (run-worst g l extent (extra_weights t code costs sites) n is.program is.accepted is.weights is.numbers moves kept.kept) in
+    subst (λ x. x ≤ n.worst 0) (extra_sum t code costs sites moves original aligned) (run-worst g l extent (extra_site_weights t code costs sites) n is.program is.accepted is.weights is.numbers moves kept.kept) in
     let many : length legs ≡ length original = sym (length-map legs (λ l. l.step)) ∙ ap (λ (xs : List Stepped). length xs) f.originals_are in
     let extra_legs : sum_by (extra_cycles costs sites) (originals legs) ≡ sum_by (extra_cycles costs sites) original = ap (sum_by (extra_cycles costs sites)) f.originals_are in
     let taken : length run ≡ length (all_steps legs) = ap (λ (xs : List Stepped). length xs) f.steps in
     let short = short_legs sites (shadow_first start) legs f.are costs (each_positive power ok) in
     let long = long_legs sites (shadow_first start) legs f.are in
-    let cost : cycles costs run ≡ sum_by (stored_cycles costs sites) original = ap (cycles costs) f.steps ∙ (cost_of_legs sites (shadow_first start) legs f.are costs ∙ ap (sum_by (stored_cycles costs sites)) f.originals_are) in
+    let cost : stepped_cycles costs run ≡ sum_by (stored_cycles costs sites) original = ap (stepped_cycles costs) f.steps ∙ (cost_of_legs sites (shadow_first start) legs f.are costs ∙ ap (sum_by (stored_cycles costs sites)) f.originals_are) in
     let split = both_sums costs sites original in
     (omega (arith, many, taken, long), omega (arith, many, taken, short, extra, extra_legs), omega (arith, cost, split, extra))
 

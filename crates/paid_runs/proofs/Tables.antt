@@ -16,10 +16,10 @@ use Rattle.cost_theory.proofs.Laws.{term-le-sum, only_true, and_left}
 use Rattle.cost_theory.specs.Reached.{edge_at}
 use Rattle.least_laws.specs.Charged.{Charged, to_end_after}
 use Rattle.graph_runs.specs.RunMoves.{text_graph}
-use Rattle.level_tables.specs.Tables.{EdgeNumbers, is_in_time, pays, trips_left, at_row}
+use Rattle.level_tables.specs.Tables.{EdgeNumbers, is_switch_in_time, pays, trips_left, at_row}
 use Rattle.level_tables.proofs.Laws.{trips_left-le}
-use Rattle.stub_runs.specs.Meaning.{nibble}
-use Rattle.stored_runs.specs.Marks.{Shadow, place_at, fragments_by, level_stored, tail_cycles}
+use Rattle.stub_runs.specs.Meaning.{four_bits}
+use Rattle.stored_runs.specs.Marks.{Shadow, place_at, fragments_of_class, level_stored, tail_cycles}
 use Rattle.paid_runs.specs.Timely.{weights_of, IsChosen}
 use Rattle.paid_runs.specs.Tabled.{told_on, IsSafeEntry, AreRowsOf, IsEdgeTabledBy}
 use Rattle.paid_runs.specs.Laws.{TablesOfKeepTime}
@@ -46,7 +46,7 @@ module _ (power : PowerModel) (g : Graph) (l : Loops) (w : ℕ → ℕ) (n : Num
       → IsSafeEntry power (told_with tail spare) i j → (j ≡ i) ⊎ IsChosen power g l w n least counts e tail i j
   may_choose tail target spare i j inside leads enough (inl same) = inl same
   may_choose tail target spare i j inside leads enough (inr (lower, met)) =
-      let both = and_parts (is_in_time power (told_with tail spare) i j) (pays power (option_map (λ z. z + tail) (to_end_after g l least e)) i j) met in
+      let both = and_parts (is_switch_in_time power (told_with tail spare) i j) (pays power (option_map (λ z. z + tail) (to_end_after g l least e)) i j) met in
       let time = le_of ((rest g l n e + tail) * period power j + switch_time power i j) ((rest g l n e + tail + spare) * period power i) both.0 in
       let paid = paid_by power (to_end_after g l least e) tail i j both.1 in
       inr (record {
@@ -76,7 +76,7 @@ module _ (power : PowerModel) (g : Graph) (l : Loops) (w : ℕ → ℕ) (n : Num
   module _ (h : Shadow) (low : h.level < length power.levels)
       (shown : (v k : ℕ) → is_of v k ≡ true → l.inside k (g.source e) ≡ true → h.counters v ≡ counts k) where
     by_rows : (counter shift : ℕ) (rows : List ℕ) (tail target j : ℕ) → g.callee e ≡ None → g.target e ≡ Some target
-        → AreRowsOf power g l n (told_on g l w n least e tail) is_of e counter shift rows → nibble (slice_index rows (h.counters counter / 2 ^ shift)) h.level ≡ j
+        → AreRowsOf power g l n (told_on g l w n least e tail) is_of e counter shift rows → four_bits (slice_index rows (h.counters counter / 2 ^ shift)) h.level ≡ j
         → (j ≡ h.level) ⊎ IsChosen power g l w n least counts e tail h.level j
     by_rows counter shift rows tail target j inside leads r stored =
         let count : h.counters counter ≡ counts r.loop = shown counter r.loop r.counts (starts_in r.loop (g.source e) (g.target e) r.left) in
@@ -84,22 +84,22 @@ module _ (power : PowerModel) (g : Graph) (l : Loops) (w : ℕ → ℕ) (n : Num
         let there : counts r.loop / 2 ^ shift < length rows = (div-lt_iff_lt-mul (pow_pos shift)).1 (lt_of_le_of_lt (within r.loop r.low) ((div-lt_iff_lt-mul (pow_pos shift)).0 r.enough)) in
         may_choose tail target (slack g l n (cost g n w) e + trips_left (l.bound r.loop) shift (counts r.loop / 2 ^ shift) * n.iteration r.loop) h.level j inside leads (row_spare r.loop shift r.low r.left)
         (subst (λ x. IsSafeEntry power (at_row (l.bound r.loop) (n.iteration r.loop) shift (told_on g l w n least e tail) (counts r.loop / 2 ^ shift)) h.level x)
-        (ap (λ q. nibble (slice_index rows q) h.level) (sym row) ∙ stored) (r.entries (counts r.loop / 2 ^ shift) h.level there low))
+        (ap (λ q. four_bits (slice_index rows q) h.level) (sym row) ∙ stored) (r.entries (counts r.loop / 2 ^ shift) h.level there low))
 
     by_fragments : (fs : List Fragment) (j : ℕ) → IsEdgeTabledBy power g l w n least is_of e fs → level_stored fs h ≡ Some j
         → (j ≡ h.level) ⊎ IsChosen power g l w n least counts e (tail_cycles (costs_of power) fs) h.level j
     by_fragments [] j tabled stored = cc
     by_fragments (Switch table ∷ fs) j tabled stored =
-        let same : nibble table h.level ≡ j = cc in
+        let same : four_bits table h.level ≡ j = cc in
         may_choose (tail_cycles (costs_of power) (Switch table ∷ fs)) tabled.target (slack g l n (cost g n w) e) h.level j tabled.inside tabled.leads (omega (arith))
         (subst (λ x. IsSafeEntry power (told_on g l w n least e (tail_cycles (costs_of power) (Switch table ∷ fs))) h.level x) same (tabled.table h.level low))
     by_fragments (Exit counter shift rows ∷ fs) j tabled stored =
-        by_rows counter shift rows (tail_cycles (costs_of power) (Exit counter shift rows ∷ fs)) tabled.target j tabled.inside tabled.leads tabled.table (let same : nibble (slice_index rows (h.counters counter / 2 ^ shift)) h.level ≡ j = cc in same)
+        by_rows counter shift rows (tail_cycles (costs_of power) (Exit counter shift rows ∷ fs)) tabled.target j tabled.inside tabled.leads tabled.table (let same : four_bits (slice_index rows (h.counters counter / 2 ^ shift)) h.level ≡ j = cc in same)
     by_fragments (Reset counter ∷ fs) j tabled stored = cc
     by_fragments (Count counter ∷ fs) j tabled stored = cc
 
 pub tables_of_keep_time : TablesOfKeepTime
 tables_of_keep_time = λ power t code l sites is_of n least tabled. record {
   chosen = λ e class few is h counts j low within shown stored.
-      by_fragments power (text_graph t code) l (weights_of power t code sites) n least is_of counts within e h low shown (fragments_by (place_at sites (edge_at (slice_get code.edges e))) class) j (tabled e class few is) stored;
+      by_fragments power (text_graph t code) l (weights_of power t code sites) n least is_of counts within e h low shown (fragments_of_class (place_at sites (edge_at (slice_get code.edges e))) class) j (tabled e class few is) stored;
 }

@@ -24,8 +24,8 @@ use Rattle.graph_runs.specs.Text.{Text}
 use Rattle.graph_runs.specs.RunMoves.{text_graph}
 use Rattle.graph_runs.proofs.Laws.{after-append}
 use Rattle.stub_writer.specs.Stubs.{Site}
-use Rattle.stub_runs.specs.Cycles.{cycles}
-use Rattle.stored_runs.specs.Marks.{Shadow, place_at, fragments_by, fragments_over, stored_cycles, tail_cycles, level_stored, shadow_more, shadow_after}
+use Rattle.stub_runs.specs.Cycles.{stepped_cycles}
+use Rattle.stored_runs.specs.Marks.{Shadow, place_at, fragments_of_class, fragments_over, stored_cycles, tail_cycles, level_stored, shadow_more, shadow_after}
 use Rattle.stored_runs.specs.Legs.{Leg, IsLeg, AreLegs, originals, all_steps}
 use Rattle.stored_runs.proofs.Laws.{cost_of_legs}
 use Rattle.shadow_counts.specs.Shadows.{AreCountable, counted_move, counted_moves}
@@ -40,7 +40,7 @@ use Rattle.paid_runs.proofs.Edges.{leg_rise, leg_pays, PaysBehind, one_switch, n
 
 -- ---- one move more
 
-kept_more : (g : Graph) (l : Loops) (s : steps.State) (ms : List steps.Move) (m : steps.Move) → steps.AreKept g l s ms → steps.IsKept g l (steps.after_all g l s ms) m → steps.AreKept g l s (ms ++ m ∷ [])
+kept_more : (g : Graph) (l : Loops) (s : steps.GraphState) (ms : List steps.Move) (m : steps.Move) → steps.AreKept g l s ms → steps.IsKept g l (steps.after_all g l s ms) m → steps.AreKept g l s (ms ++ m ∷ [])
 kept_more g l s [] m kept one = (one, tt)
 kept_more g l s (k ∷ ks) m kept one = (kept.0, kept_more g l (steps.after g l s k) ks m kept.1 one)
 
@@ -62,17 +62,17 @@ module _ (power : PowerModel) (t : Text) (code : Code) (l : Loops) (extent : ℕ
   abbrev w : ℕ → ℕ
   w = weights_of power t code sites
 
-  abbrev at_start : List steps.Move → steps.State
+  abbrev at_start : List steps.Move → steps.GraphState
   at_start pre = steps.state_after g l pre
 
   -- where a run stands: the moves so far are kept, and the shadow is theirs
   pub record IsAt (pre : List steps.Move) (h : Shadow) : Type 0 where
-    pub kept : steps.AreKept g l (steps.start g) pre
+    pub kept : steps.AreKept g l (steps.graph_start g) pre
     pub counters : (v k : ℕ) → is_of v k ≡ true → h.counters v ≡ counted_moves g l (λ j. 0) pre k
     pub is_level : h.level < length power.levels
 
   -- in time with what is left at the level
-  abbrev pub IsSafe : model.Numbers → steps.State → Type 0
+  abbrev pub IsSafe : model.RunPrice → steps.GraphState → Type 0
   IsSafe p s = p.time + steps.cycles_left g l w n s * period power p.level ≤ power.deadline
 
   abbrev Fragments : Stepped → Type 0
@@ -88,10 +88,10 @@ module _ (power : PowerModel) (t : Text) (code : Code) (l : Loops) (extent : ℕ
       let e = steps.edge_of m in
       let shown = λ (v k : ℕ) (on : is_of v k ≡ true). counts_shown g l extent (λ j. j == k) is.program is.accepted (able v k on) pre at.kept (g.source e) kept.from in
       let sound = sound_run g l extent is.program pre at.kept in
-      let here : level_stored (fragments_by (place_at sites (edge_at (slice_get code.edges e))) x.class) h ≡ Some j = ap (λ a. level_stored (fragments_by (place_at sites a) x.class) h) first.place ∙ stored in
+      let here : level_stored (fragments_of_class (place_at sites (edge_at (slice_get code.edges e))) x.class) h ≡ Some j = ap (λ a. level_stored (fragments_of_class (place_at sites a) x.class) h) first.place ∙ stored in
       let got = tables.chosen e x.class kept.edge first.class h (at_start pre).counts j at.is_level sound.within
       (λ v k on inside. at.counters v k on ∙ (shown v k on).within k (loops v k on) (eq-eqb k k refl) (or_left (is_round l k (at_start pre).node) (list_any (l.inside k) (at_start pre).calls) (ap (is_round l k) kept.from ∙ inside))) here in
-      subst (λ a. (j ≡ h.level) ⊎ IsChosen power g l w n least (at_start pre).counts e (tail_cycles (costs_of power) (fragments_by (place_at sites a) x.class)) h.level j) first.place got
+      subst (λ a. (j ≡ h.level) ⊎ IsChosen power g l w n least (at_start pre).counts e (tail_cycles (costs_of power) (fragments_of_class (place_at sites a) x.class)) h.level j) first.place got
 
   -- it is no higher level
   not_higher : (pre : List steps.Move) (h : Shadow) (m : steps.Move) (x : Stepped) (j : ℕ) → Chosen pre h m x j → j ≤ h.level
@@ -104,7 +104,7 @@ module _ (power : PowerModel) (t : Text) (code : Code) (l : Loops) (extent : ℕ
 
   next_at : (pre : List steps.Move) (h : Shadow) (m : steps.Move) (ms : List steps.Move) (x : Stepped) (xs : List Stepped) → IsAt pre h → steps.IsKept g l (at_start pre) m → IsFirst t code m ms x xs → IsAt (pre ++ m ∷ []) (shadow_more sites h x)
   next_at pre h m ms x xs at kept first = record {
-    kept = kept_more g l (steps.start g) pre m at.kept kept;
+    kept = kept_more g l (steps.graph_start g) pre m at.kept kept;
     counters = λ v k on. counted_after t code l sites is_of is.program marked m ms x xs (at_start pre) h (counted_moves g l (λ j. 0) pre) kept first v k on (at.counters v k on) ∙ sym (ap (λ f. f k) (counted_more g l (λ j. 0) pre m));
     is_level = let low = level_below pre h m x (level_stored (fragments_over sites x) h) (choice pre h m ms x xs at kept first) in omega (arith, low, at.is_level);
   }
@@ -112,7 +112,7 @@ module _ (power : PowerModel) (t : Text) (code : Code) (l : Loops) (extent : ℕ
   -- ---- the time
 
   -- where the level stays
-  stays_safe : (pre : List steps.Move) (m : steps.Move) (p q : model.Numbers) (head tail : ℕ) → steps.AreKept g l (steps.start g) pre → steps.IsKept g l (at_start pre) m → head + tail ≡ w (steps.edge_of m) → q.level ≡ p.level
+  stays_safe : (pre : List steps.Move) (m : steps.Move) (p q : model.RunPrice) (head tail : ℕ) → steps.AreKept g l (steps.graph_start g) pre → steps.IsKept g l (at_start pre) m → head + tail ≡ w (steps.edge_of m) → q.level ≡ p.level
       → q.time ≡ p.time + time_at power p.level head + switch_time power p.level q.level + time_at power q.level tail → IsSafe p (at_start pre) → IsSafe q (steps.after g l (at_start pre) m)
   stays_safe pre m p q head tail before kept parts level time safe =
       let left = steps.cycles_left g l w n (steps.after g l (at_start pre) m) in
@@ -125,7 +125,7 @@ module _ (power : PowerModel) (t : Text) (code : Code) (l : Loops) (extent : ℕ
       omega (arith, time, none, tail_rate, left_rate, enough)
 
   -- a move over an edge within a function is a local step
-  chosen_safe : (pre : List steps.Move) (m : steps.Move) (p q : model.Numbers) (head tail j : ℕ) → steps.AreKept g l (steps.start g) pre → steps.IsKept g l (at_start pre) m → head + tail ≡ w (steps.edge_of m) → q.level ≡ j → p.level < length power.levels
+  chosen_safe : (pre : List steps.Move) (m : steps.Move) (p q : model.RunPrice) (head tail j : ℕ) → steps.AreKept g l (steps.graph_start g) pre → steps.IsKept g l (at_start pre) m → head + tail ≡ w (steps.edge_of m) → q.level ≡ j → p.level < length power.levels
       → IsChosen power g l w n least (at_start pre).counts (steps.edge_of m) tail p.level j
       → q.time ≡ p.time + time_at power p.level head + switch_time power p.level q.level + time_at power q.level tail → IsSafe p (at_start pre) → IsSafe q (steps.after g l (at_start pre) m)
   chosen_safe pre (Along e) p q head tail j before kept parts level low c time safe =
@@ -148,7 +148,7 @@ module _ (power : PowerModel) (t : Text) (code : Code) (l : Loops) (extent : ℕ
   chosen_safe pre (Return e) p q head tail j before kept parts level low c time safe = let a = (is.program.return_end e kept.edge kept.move.0).0 in let b = c.leads in absurd cc
   chosen_safe pre (Exit e) p q head tail j before kept parts level low c time safe = let a = (is.program.exit_end e kept.edge kept.move).0 in let b = c.leads in absurd cc
 
-  leg_safe : (pre : List steps.Move) (h : Shadow) (m : steps.Move) (leg : Leg) (p : model.Numbers) → IsAt pre h → steps.IsKept g l (at_start pre) m → stored_cycles (costs_of power) sites leg.step ≡ w (steps.edge_of m)
+  leg_safe : (pre : List steps.Move) (h : Shadow) (m : steps.Move) (leg : Leg) (p : model.RunPrice) → IsAt pre h → steps.IsKept g l (at_start pre) m → stored_cycles (costs_of power) sites leg.step ≡ w (steps.edge_of m)
       → ((j : ℕ) → level_stored (fragments_over sites leg.step) h ≡ Some j → Chosen pre h m leg.step j) → IsLeg sites h leg → p.level ≡ h.level → IsSafe p (at_start pre) → IsSafe (fold (metered power) p leg.steps) (steps.after g l (at_start pre) m)
   leg_safe pre h m leg p at kept weight choose is_leg same safe = by_stored (level_stored (fragments_over sites leg.step) h) refl
     where
@@ -198,17 +198,17 @@ module _ (power : PowerModel) (t : Text) (code : Code) (l : Loops) (extent : ℕ
 
   -- ---- all legs
 
-  pub record IsWalked (pre ms : List steps.Move) (legs : List Leg) (h : Shadow) (p : model.Numbers) : Type 0 where
+  pub record IsWalked (pre ms : List steps.Move) (legs : List Leg) (h : Shadow) (p : model.RunPrice) : Type 0 where
     pub level : (fold (metered power) p (all_steps legs)).level ≡ (shadow_after sites h (originals legs)).level
     pub is_level : (fold (metered power) p (all_steps legs)).level < length power.levels
     pub falls : NeverRises p.level (all_steps legs)
     pub safe : IsSafe (fold (metered power) p (all_steps legs)) (steps.after_all g l (at_start pre) ms)
     pub pays : steps.EndsByExit ms → AllPay power (switches_from power p.level (all_steps legs))
 
-  pub cycles_later : (ms : List steps.Move) (legs : List Leg) (h : Shadow) → AreLegs sites h legs → AreAligned t code ms (originals legs) → cycles (costs_of power) (all_steps legs) ≡ steps.cycles w ms
+  pub cycles_later : (ms : List steps.Move) (legs : List Leg) (h : Shadow) → AreLegs sites h legs → AreAligned t code ms (originals legs) → stepped_cycles (costs_of power) (all_steps legs) ≡ steps.cycles w ms
   cycles_later ms legs h legs_are aligned = cost_of_legs sites h legs legs_are (costs_of power) ∙ sym (stored_sum t code (costs_of power) sites ms (originals legs) aligned)
 
-  pub walk : (pre ms : List steps.Move) (legs : List Leg) (h : Shadow) (p : model.Numbers) → IsAt pre h → steps.AreKept g l (at_start pre) ms → AreAligned t code ms (originals legs) → AreLegs sites h legs → p.level ≡ h.level → IsSafe p (at_start pre) → IsWalked pre ms legs h p
+  pub walk : (pre ms : List steps.Move) (legs : List Leg) (h : Shadow) (p : model.RunPrice) → IsAt pre h → steps.AreKept g l (at_start pre) ms → AreAligned t code ms (originals legs) → AreLegs sites h legs → p.level ≡ h.level → IsSafe p (at_start pre) → IsWalked pre ms legs h p
   walk pre [] [] h p at kept aligned legs_are same safe = record { level = same; is_level = subst (λ i. i < length power.levels) (sym same) at.is_level; falls = tt; safe = safe; pays = λ e. tt }
   walk pre [] (leg ∷ legs) h p at kept aligned legs_are same safe = let bad = aligned.places in absurd cc
   walk pre (m ∷ ms) [] h p at kept aligned legs_are same safe = let bad = aligned.places in absurd cc
@@ -219,7 +219,7 @@ module _ (power : PowerModel) (t : Text) (code : Code) (l : Loops) (extent : ℕ
       let weight : stored_cycles (costs_of power) sites x ≡ w (steps.edge_of m) = sym (stored_at t code (costs_of power) sites m ms x (originals legs) first) in
       let q = fold (metered power) p leg.steps in
       let paid = leg_paid power sites h leg p legs_are.0 same in
-      let after_m : at_start (pre ++ m ∷ []) ≡ steps.after g l (at_start pre) m = after-append g l (steps.start g) pre m in
+      let after_m : at_start (pre ++ m ∷ []) ≡ steps.after g l (at_start pre) m = after-append g l (steps.graph_start g) pre m in
       let safe_next = leg_safe pre h m leg p at kept.0 weight choose legs_are.0 same safe in
       let rest = walk (pre ++ m ∷ []) ms legs (shadow_more sites h x) q (next_at pre h m ms x (originals legs) at kept.0 first) (subst (λ s. steps.AreKept g l s ms) (sym after_m) kept.1) first.rest legs_are.1 paid.level (subst (IsSafe q) (sym after_m) safe_next) in
       let split : all_steps (leg ∷ legs) ≡ leg.steps ++ all_steps legs = flat_map-cons (λ k. k.steps) leg legs in
@@ -229,14 +229,14 @@ module _ (power : PowerModel) (t : Text) (code : Code) (l : Loops) (extent : ℕ
       let low = λ (j : ℕ) (e : stored ≡ Some j). subst (λ i. j ≤ i) (sym same) (not_higher pre h m x j (choose j e)) in
       let later = cycles_later ms legs (shadow_more sites h x) legs_are.1 first.rest in
       record {
-        level = ap (λ (r : model.Numbers). r.level) folds ∙ rest.level;
-        is_level = subst (λ (r : model.Numbers). r.level < length power.levels) (sym folds) rest.is_level;
+        level = ap (λ (r : model.RunPrice). r.level) folds ∙ rest.level;
+        is_level = subst (λ (r : model.RunPrice). r.level < length power.levels) (sym folds) rest.is_level;
         falls = subst (NeverRises p.level) (sym split) (leg_rise stored (λ costs. tail_cycles costs (fragments_over sites x)) leg.steps legs_are.0.stores p.level (all_steps legs) low (subst (λ i. NeverRises i (all_steps legs)) to rest.falls));
-        safe = subst (λ (r : model.Numbers). IsSafe r (steps.after_all g l (steps.after g l (at_start pre) m) ms)) (sym folds) (subst (λ s. IsSafe (fold (metered power) q (all_steps legs)) (steps.after_all g l s ms)) after_m rest.safe);
+        safe = subst (λ (r : model.RunPrice). IsSafe r (steps.after_all g l (steps.after g l (at_start pre) m) ms)) (sym folds) (subst (λ s. IsSafe (fold (metered power) q (all_steps legs)) (steps.after_all g l s ms)) after_m rest.safe);
         pays = λ exits. subst (λ ys. AllPay power (switches_from power p.level ys)) (sym split)
             (leg_pays power stored (λ costs. tail_cycles costs (fragments_over sites x)) leg.steps legs_are.0.stores p.level (all_steps legs)
-            (λ j e. subst (λ i. PaysBehind power i j (tail_cycles (costs_of power) (fragments_over sites x) + cycles (costs_of power) (all_steps legs))) (sym same)
-            (leg_saves pre h m ms x (cycles (costs_of power) (all_steps legs)) at kept.0 kept.1 exits later j (choose j e)))
+            (λ j e. subst (λ i. PaysBehind power i j (tail_cycles (costs_of power) (fragments_over sites x) + stepped_cycles (costs_of power) (all_steps legs))) (sym same)
+            (leg_saves pre h m ms x (stepped_cycles (costs_of power) (all_steps legs)) at kept.0 kept.1 exits later j (choose j e)))
             (subst (λ i. AllPay power (switches_from power i (all_steps legs))) to (later_pays ms legs exits q.level legs_are.1 first.rest (λ e. rest.pays e))));
       }
     where

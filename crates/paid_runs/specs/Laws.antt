@@ -16,7 +16,7 @@ use Rattle.graph_runs.specs.KeptSteps.{Carried, by_extents}
 use Rattle.graph_runs.specs.Laws.{IsProgramOf}
 use Rattle.stub_writer.specs.Stubs.{Site}
 use Rattle.shadow_counts.specs.Shadows.{AreCountable}
-use Rattle.marked_runs.specs.Marked.{extra_weights, AreMarked, IsKeptFollowed}
+use Rattle.marked_runs.specs.Marked.{extra_site_weights, AreMarked, IsKeptFollowed}
 use Rattle.graph_runs.specs.KeptRuns.{kept_of}
 use Rattle.power_model.specs.Switches.{period, costs_of}
 use Rattle.paid_runs.specs.Timely.{weights_of, AreTables, AreTablesOf, IsPaidRun}
@@ -42,7 +42,7 @@ StoredRunsSaveEnergy = (power : PowerModel) → IsPowerModel power → (image st
 -- The stored run takes at most so many cycles and steps more than the original as the worst cycles are under the extra weights.
 abbrev pub StubsAreBounded : Type 0
 StubsAreBounded = (power : PowerModel) → IsPowerModel power → (image stored : Image) (sites : List Site) (start : ℕ) (code : Code) (l : Loops) (extent : ℕ → ℕ → Bool) (counted : ℕ → Bool) (word : ℕ → ℕ) (n : Numbers) →
-    IsAnalyzed (text_graph (text_of image) code) l extent (extra_weights (text_of image) code (costs_of power) sites) n →
+    IsAnalyzed (text_graph (text_of image) code) l extent (extra_site_weights (text_of image) code (costs_of power) sites) n →
     (input : List ℕ) (steps : ℕ) (c : Carried) (f : IsKeptFollowed image stored (length power.levels) sites start input code l counted word (costs_of power) steps c) →
     let original = (run_of image (length power.levels) input steps).steps in
     let run = (run_of stored (length power.levels) input f.followed.after).steps in

@@ -14,10 +14,10 @@ use Rattle.graph_runs.specs.RunMoves.{text_graph}
 use Rattle.graph_runs.specs.KeptSteps.{Carried}
 use Rattle.graph_runs.specs.Laws.{IsProgramOf}
 use Rattle.stub_writer.specs.Stubs.{Site}
-use Rattle.stub_runs.specs.Cycles.{cycles}
+use Rattle.stub_runs.specs.Cycles.{stepped_cycles}
 use Rattle.stored_runs.specs.Patched.{IsPatched}
-use Rattle.marked_runs.specs.Marked.{extra_weights}
-use Rattle.marked_runs.specs.Counters.{AreCounters, AreCounted, IsKeptPatched}
+use Rattle.marked_runs.specs.Marked.{extra_site_weights}
+use Rattle.marked_runs.specs.Counters.{AreCounterWords, AreCounted, IsKeptPatched}
 use Rattle.power_model.specs.Switches.{period, costs_of, NeverRises}
 use Rattle.paid_runs.specs.Timely.{weights_of, AreTablesOf, IsPaidRun}
 
@@ -26,12 +26,12 @@ pub record IsTuned (power : PowerModel) (image patched : Image) (limits : ℕ �
   pub power_is : IsPowerModel power
   pub patched_is : IsPatched image patched (length power.levels) limits sites start
   pub program : IsProgramOf (text_of image) code l extent
-  pub counters : AreCounters (text_graph (text_of image) code) l limits is_of
+  pub counters : AreCounterWords (text_graph (text_of image) code) l limits is_of
   pub counted : AreCounted (text_of image) code l sites is_of
   -- the numbers under the stored weights, and those under what the stubs add
   pub analyzed : IsAnalyzed (text_graph (text_of image) code) l extent (weights_of power (text_of image) code sites) n
   pub least_is : AreCharged (text_graph (text_of image) code) l (weights_of power (text_of image) code sites) least
-  pub added : IsAnalyzed (text_graph (text_of image) code) l extent (extra_weights (text_of image) code (costs_of power) sites) more
+  pub added : IsAnalyzed (text_graph (text_of image) code) l extent (extra_site_weights (text_of image) code (costs_of power) sites) more
   pub tables : AreTablesOf power (text_of image) code l sites is_of n least
   pub worst : n.worst 0 * period power start ≤ power.deadline
 
@@ -46,7 +46,7 @@ pub record IsTunedRun (power : PowerModel) (image patched : Image) (sites : List
   -- no fewer steps, and not many more
   pub not_fewer : length (run_of image (length power.levels) input steps).steps ≤ length (run_of patched (length power.levels) input followed.followed.after).steps
   pub not_more : length (run_of patched (length power.levels) input followed.followed.after).steps ≤ length (run_of image (length power.levels) input steps).steps + more.worst 0
-  pub cycles : cycles (costs_of power) (run_of patched (length power.levels) input followed.followed.after).steps ≤ cycles (costs_of power) (run_of image (length power.levels) input steps).steps + more.worst 0
+  pub cycles : stepped_cycles (costs_of power) (run_of patched (length power.levels) input followed.followed.after).steps ≤ stepped_cycles (costs_of power) (run_of image (length power.levels) input steps).steps + more.worst 0
   -- in time, never rising, and no more energy
   pub time : (price power start (run_of patched (length power.levels) input followed.followed.after).steps).time ≤ power.deadline
   pub falls : NeverRises start (run_of patched (length power.levels) input followed.followed.after).steps

@@ -15,8 +15,8 @@ use Rattle.graph_runs.specs.EdgeCosts.{edge_class}
 use Rattle.graph_runs.specs.RunMoves.{text_graph}
 use Rattle.level_tables.specs.Tables.{EdgeNumbers, meets_both, at_row}
 use Rattle.stub_writer.specs.Stubs.{Site}
-use Rattle.stub_runs.specs.Meaning.{nibble}
-use Rattle.stored_runs.specs.Marks.{place_at, fragments_by, tail_cycles}
+use Rattle.stub_runs.specs.Meaning.{four_bits}
+use Rattle.stored_runs.specs.Marks.{place_at, fragments_of_class, tail_cycles}
 use Rattle.paid_runs.specs.Timely.{weights_of}
 
 -- what an edge with so many cycles behind the store tells its table: its slack, the most that are left behind the store, and the least that are left there
@@ -38,10 +38,10 @@ pub record AreRowsOf (power : PowerModel) (g : Graph) (l : Loops) (n : Numbers) 
   pub counts : is_of counter loop ≡ true
   pub left : leaves l loop (g.source e) (g.target e) ≡ true
   pub enough : l.bound loop / 2 ^ shift < length rows
-  pub entries : (j i : ℕ) → j < length rows → i < length power.levels → IsSafeEntry power (at_row (l.bound loop) (n.iteration loop) shift told j) i (nibble (slice_index rows j) i)
+  pub entries : (j i : ℕ) → j < length rows → i < length power.levels → IsSafeEntry power (at_row (l.bound loop) (n.iteration loop) shift told j) i (four_bits (slice_index rows j) i)
 
 abbrev pub IsTableOf : PowerModel → Graph → Loops → Numbers → EdgeNumbers → (ℕ → ℕ → Bool) → ℕ → Fragment → Type 0
-IsTableOf power g l n told is_of e (Switch table) = (i : ℕ) → i < length power.levels → IsSafeEntry power told i (nibble table i)
+IsTableOf power g l n told is_of e (Switch table) = (i : ℕ) → i < length power.levels → IsSafeEntry power told i (four_bits table i)
 IsTableOf power g l n told is_of e (Exit counter shift rows) = AreRowsOf power g l n told is_of e counter shift rows
 IsTableOf power g l n told is_of e (Reset counter) = ⊥
 IsTableOf power g l n told is_of e (Count counter) = ⊥
@@ -63,4 +63,4 @@ IsEdgeTabledBy power g l w n least is_of e (Count counter ∷ fs) = Unit {0}
 
 abbrev pub AreTabledOf : PowerModel → Text → Code → Loops → List Site → (ℕ → ℕ → Bool) → Numbers → Charged → Type 0
 AreTabledOf power t code l sites is_of n least = (e : ℕ) (class : Class) → e < (text_graph t code).edges → edge_class t (slice_get code.edges e) ≡ Some class
-    → IsEdgeTabledBy power (text_graph t code) l (weights_of power t code sites) n least is_of e (fragments_by (place_at sites (edge_at (slice_get code.edges e))) class)
+    → IsEdgeTabledBy power (text_graph t code) l (weights_of power t code sites) n least is_of e (fragments_of_class (place_at sites (edge_at (slice_get code.edges e))) class)

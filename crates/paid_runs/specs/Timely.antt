@@ -14,17 +14,17 @@ use Rattle.graph_runs.specs.Text.{Text}
 use Rattle.graph_runs.specs.EdgeCosts.{edge_class}
 use Rattle.graph_runs.specs.RunMoves.{text_graph, after_moves}
 use Rattle.stub_writer.specs.Stubs.{Site}
-use Rattle.stored_runs.specs.Marks.{Shadow, place_at, fragments_by, tail_cycles, level_stored}
-use Rattle.marked_runs.specs.Marked.{stored_weights}
+use Rattle.stored_runs.specs.Marks.{Shadow, place_at, fragments_of_class, tail_cycles, level_stored}
+use Rattle.marked_runs.specs.Marked.{stored_site_weights}
 use Rattle.power_model.specs.Switches.{period, energy, costs_of, NeverRises, switches_from, AllPay}
 
 abbrev pub weights_of : PowerModel → Text → Code → List Site → ℕ → ℕ
-weights_of power t code sites = stored_weights t code (costs_of power) sites
+weights_of power t code sites = stored_site_weights t code (costs_of power) sites
 
 -- From level i to level j on an edge with so many cycles behind the store: what is left at most takes no more time at j, with the switch, than what was left
 -- at least before would at i.
-abbrev pub IsInTime : PowerModel → Graph → Loops → (ℕ → ℕ) → Numbers → (counts : ℕ → ℕ) → (e tail i j : ℕ) → Type 0
-IsInTime power g l w n counts e tail i j =
+abbrev pub IsSwitchInTime : PowerModel → Graph → Loops → (ℕ → ℕ) → Numbers → (counts : ℕ → ℕ) → (e tail i j : ℕ) → Type 0
+IsSwitchInTime power g l w n counts e tail i j =
     (rest g l n e + tail) * period power j + switch_time power i j ≤ (rest g l n e + tail + (slack g l n (cost g n w) e + left_behind g l n counts e)) * period power i
 
 -- The least cycles behind the store, to an end of the run behind the edge, pay for the switch.
@@ -37,7 +37,7 @@ pub record IsChosen (power : PowerModel) (g : Graph) (l : Loops) (w : ℕ → �
   pub inside : g.callee e ≡ None
   pub target : ℕ
   pub leads : g.target e ≡ Some target
-  pub in_time : IsInTime power g l w n counts e tail i j
+  pub in_time : IsSwitchInTime power g l w n counts e tail i j
   pub paying : IsPaying power g l least e tail i j
 
 -- The marks on each edge store the level that was there, or one that may be chosen, as long as the counters of the loops round the edge's source hold
@@ -45,15 +45,15 @@ pub record IsChosen (power : PowerModel) (g : Graph) (l : Loops) (w : ℕ → �
 pub record AreTables (power : PowerModel) (t : Text) (code : Code) (l : Loops) (sites : List Site) (counted : ℕ → Bool) (word : ℕ → ℕ) (n : Numbers) (least : Charged) : Type 0 where
   pub chosen : (e : ℕ) (class : Class) → e < (text_graph t code).edges → edge_class t (slice_get code.edges e) ≡ Some class → (h : Shadow) (counts : ℕ → ℕ) (j : ℕ) → h.level < length power.levels → AreWithin l counts
       → ((k : ℕ) → k < l.loops → counted k ≡ true → l.inside k ((text_graph t code).source e) ≡ true → h.counters (word k) ≡ counts k)
-      → level_stored (fragments_by (place_at sites (edge_at (slice_get code.edges e))) class) h ≡ Some j
-      → (j ≡ h.level) ⊎ IsChosen power (text_graph t code) l (weights_of power t code sites) n least counts e (tail_cycles (costs_of power) (fragments_by (place_at sites (edge_at (slice_get code.edges e))) class)) h.level j
+      → level_stored (fragments_of_class (place_at sites (edge_at (slice_get code.edges e))) class) h ≡ Some j
+      → (j ≡ h.level) ⊎ IsChosen power (text_graph t code) l (weights_of power t code sites) n least counts e (tail_cycles (costs_of power) (fragments_of_class (place_at sites (edge_at (slice_get code.edges e))) class)) h.level j
 
 -- The same where a loop may have several counters: `is_of w k` tells that the word w counts loop k.
 pub record AreTablesOf (power : PowerModel) (t : Text) (code : Code) (l : Loops) (sites : List Site) (is_of : ℕ → ℕ → Bool) (n : Numbers) (least : Charged) : Type 0 where
   pub chosen : (e : ℕ) (class : Class) → e < (text_graph t code).edges → edge_class t (slice_get code.edges e) ≡ Some class → (h : Shadow) (counts : ℕ → ℕ) (j : ℕ) → h.level < length power.levels → AreWithin l counts
       → ((w k : ℕ) → is_of w k ≡ true → l.inside k ((text_graph t code).source e) ≡ true → h.counters w ≡ counts k)
-      → level_stored (fragments_by (place_at sites (edge_at (slice_get code.edges e))) class) h ≡ Some j
-      → (j ≡ h.level) ⊎ IsChosen power (text_graph t code) l (weights_of power t code sites) n least counts e (tail_cycles (costs_of power) (fragments_by (place_at sites (edge_at (slice_get code.edges e))) class)) h.level j
+      → level_stored (fragments_of_class (place_at sites (edge_at (slice_get code.edges e))) class) h ≡ Some j
+      → (j ≡ h.level) ⊎ IsChosen power (text_graph t code) l (weights_of power t code sites) n least counts e (tail_cycles (costs_of power) (fragments_of_class (place_at sites (edge_at (slice_get code.edges e))) class)) h.level j
 
 -- What the steps of a stored run cost, whose moves are those of the original: its cycles are those under the stored weights; no step leaves a higher level; the
 -- time so far, and the cycles left at the level that it has, are in time; and after an exit each switch has saved what it took.

@@ -6,7 +6,7 @@ use Rattle.scale_base.specs.declared.stepping.Class.TheVariants.{Alu, Load, Stor
 use Rattle.scale_base.specs.declared.stepping.Stepped.{Stepped}
 use Rattle.power_model.specs.declared.power.Costs.{Costs}
 use Rattle.power_model.specs.Levels.{level}
-use Rattle.power_model.specs.Numbers.{PowerModel, Numbers}
+use Rattle.power_model.specs.Numbers.{PowerModel, RunPrice}
 use Rattle.power_model.specs.Pairs.{pair_at}
 
 -- the cycles of a class
@@ -45,7 +45,7 @@ abbrev pub keyed_cycles : PowerModel → Stepped → ℕ
 keyed_cycles power step = if step.keyed then step_cycles power step else 0
 
 -- the numbers after one more step
-abbrev pub metered : PowerModel → Numbers → Stepped → Numbers
+abbrev pub metered : PowerModel → RunPrice → Stepped → RunPrice
 metered power n step =
     let cycles = step_cycles power step in
     let before = level power.levels n.level in
@@ -62,11 +62,11 @@ metered power n step =
     }
 
 -- the numbers before the first step
-abbrev pub unstarted : ℕ → Numbers
+abbrev pub unstarted : ℕ → RunPrice
 unstarted start = record { start = start; level = start; steps = 0; cycles = 0; time = 0; energy = 0; switches = 0; keyed = 0 }
 
 -- the numbers of a run from a level
-abbrev pub price : PowerModel → ℕ → List Stepped → Numbers
+abbrev pub price : PowerModel → ℕ → List Stepped → RunPrice
 price power start steps = fold (metered power) (unstarted start) steps
 
 -- the time and the energy of so many cycles at a level
@@ -77,11 +77,11 @@ abbrev pub energy_at : PowerModel → ℕ → ℕ → ℕ
 energy_at power i cycles = cycles * (level power.levels i).energy
 
 -- what the cycles of a run cost at its starting level
-abbrev pub held_energy : PowerModel → Numbers → ℕ
+abbrev pub held_energy : PowerModel → RunPrice → ℕ
 held_energy power n = energy_at power n.start n.cycles
 
 -- the numbers are those of a run that stayed at its starting level
-pub record IsHeld (power : PowerModel) (start : ℕ) (n : Numbers) : Type 0 where
+pub record IsHeldPrice (power : PowerModel) (start : ℕ) (n : RunPrice) : Type 0 where
   pub level : n.level ≡ start
   pub time : n.time ≡ time_at power start n.cycles
   pub energy : n.energy ≡ energy_at power start n.cycles

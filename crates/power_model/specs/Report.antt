@@ -2,13 +2,13 @@
 use Rattle.std.specs.Prelude.{ℕ, List, Option}
 use Rattle.scale_base.specs.declared.endings.End.{End}
 use Rattle.scale_base.specs.declared.endings.Kept.{Kept}
-use Rattle.power_model.specs.Numbers.{Numbers}
+use Rattle.power_model.specs.Numbers.{RunPrice}
 use Rattle.power_model.specs.declared.report.RunReport.{RunReport}
 
 pub record Report : Type 0 where
   pub end : End
   -- the price of the completed steps
-  pub paid : Numbers
+  pub paid : RunPrice
   -- the energy of as many cycles at the starting level
   pub held : ℕ
   pub output : List ℕ

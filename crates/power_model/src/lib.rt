@@ -9,7 +9,7 @@ ghost use Rattle.std.specs.Prelude.{◌≡◌, ℕ, List, [], ◌∷◌, ◌++�
 ghost use Rattle.scale_base.specs.declared.stepping.Stepped.{Stepped};
 ghost use Rattle.power_model.specs.Numbers.{PowerModel};
 ghost use Rattle.power_model.specs.PairLaws.{PairsHoldNumbers, EachChangeTakesOne};
-ghost use Rattle.power_model.specs.Price.{price, metered, step_cycles, keyed_cycles, IsHeld};
+ghost use Rattle.power_model.specs.Price.{price, metered, step_cycles, keyed_cycles, IsHeldPrice};
 
 pub use meter::Meter;
 pub use power::{Costs, Level, Levels, PairTable, Power, slowest};

@@ -28,9 +28,9 @@ pub struct Meter {
 }
 
 impl Model for Meter {
-    ghost use Rattle.power_model.specs.Numbers.{Numbers};
+    ghost use Rattle.power_model.specs.Numbers.{RunPrice};
 
-    ghost Value = { Numbers };
+    ghost Value = { RunPrice };
 
     ghost use Rattle.power_model.specs.MeterInside.{numbers, meter_invariant};
 

@@ -12,7 +12,7 @@ use Rattle.cost_theory.specs.declared.edges.Word.TheVariants.{Branch, Goto, Call
 use Rattle.cost_theory.specs.Graph.{Graph}
 use Rattle.cost_theory.specs.Reached.{Code, edge_at, edge_to, place_after, edges_of, call_returns}
 use Rattle.cost_theory.proofs.Laws.{callee-call, callee_word, edge_word, Within}
-use Rattle.graph_runs.specs.Text.{Text, instr_at, instr_kind, kind_at, in_text}
+use Rattle.graph_runs.specs.Text.{Text, instr_at, instr_kind, kind_at, is_text_address}
 use Rattle.graph_runs.specs.EdgeCosts.{class_by, edge_class, is_taken_kind}
 use Rattle.graph_runs.specs.RunMoves.{text_graph}
 use Rattle.graph_runs.specs.Laws.{IsReachedCode}
@@ -67,7 +67,7 @@ pub record IsEdgeAt (t : Text) (code : Code) (e : ℕ) : Type 0 where
   pub at : instr_at t (edge_at (slice_get code.edges e)) ≡ Some instr
   pub kind : kind_at t (edge_at (slice_get code.edges e)) ≡ instr_kind t (edge_at (slice_get code.edges e)) instr
   pub aligned : edge_at (slice_get code.edges e) % 4 ≡ 0
-  pub text : in_text t (edge_at (slice_get code.edges e)) ≡ true
+  pub text : is_text_address t (edge_at (slice_get code.edges e)) ≡ true
   pub within : Within edge (edges_of (instr_kind t (edge_at (slice_get code.edges e)) instr) (edge_at (slice_get code.edges e)) (call_returns code (kind_at t (edge_at (slice_get code.edges e)))))
 
 module _ (t : Text) (code : Code) (reached : IsReachedCode t code) where

@@ -8,7 +8,7 @@ use Rattle.cost_theory.proofs.Laws.{sum-le, sum-none, accepted_entered, header_h
 use Rattle.scale_base.specs.declared.fragments.Mark.{Mark}
 use Rattle.scale_base.specs.declared.fragments.Mark.TheVariants as marks
 use Rattle.scale_sites.specs.Counters.{set_from}
-use Rattle.scale_sites.specs.Marks.{first_counter, mark_if, leaves_any, holds_left, is_outermost, switch_of, exits_from, resets_from, counts_from, marks_at, IsIn, AreLoops, AreDistinct}
+use Rattle.scale_sites.specs.Marks.{first_counter, mark_if, leaves_any, holds_left, is_outermost, switch_of, exits_from, resets_from, counts_from, marks_at, IsListedLoop, AreLoopsOnce, AreDistinct}
 use Rattle.scale_sites.proofs.Laws.{switches-one}
 use Rattle.rewritten_runs.proofs.MarkLists.{marks_from, exits_are, resets_are, counts_are}
 
@@ -31,20 +31,20 @@ both_count : (one other all : ℕ → Bool) (ks : List ℕ) → ((k : ℕ) → o
 both_count one other all [] h = omega arith
 both_count one other all (k ∷ ks) h = let here = h k in let rest = both_count one other all ks h in omega (arith, here, rest)
 
-none_count : (test : ℕ → Bool) (ks : List ℕ) → ((k : ℕ) → IsIn k ks → test k ≡ false) → count test ks ≡ 0
+none_count : (test : ℕ → Bool) (ks : List ℕ) → ((k : ℕ) → IsListedLoop k ks → test k ≡ false) → count test ks ≡ 0
 none_count test [] h = refl
 none_count test (k ∷ ks) h =
     let here : only (test k) 1 ≡ 0 = ap (λ b. only b 1) (h k (inl refl)) in
     let rest = none_count test ks (λ j q. h j (inr q)) in omega (arith, here, rest)
 
 -- those that pass are one
-one_count : (test : ℕ → Bool) (ks : List ℕ) → AreDistinct ks → ((j k : ℕ) → IsIn j ks → IsIn k ks → test j ≡ true → test k ≡ true → j ≡ k) → count test ks ≤ 1
+one_count : (test : ℕ → Bool) (ks : List ℕ) → AreDistinct ks → ((j k : ℕ) → IsListedLoop j ks → IsListedLoop k ks → test j ≡ true → test k ≡ true → j ≡ k) → count test ks ≤ 1
 one_count test [] distinct same = omega arith
 one_count test (k ∷ ks) distinct same = by (test k) refl (one_count test ks distinct.1 (λ i j a b. same i j (inr a) (inr b)))
   where
     by : (b : Bool) → test k ≡ b → count test ks ≤ 1 → only (test k) 1 + count test ks ≤ 1
     by true on rest =
-        let none = none_count test ks (λ j q. false_from_ne_true (test j) (λ there. distinct.0 (subst (λ x. IsIn x ks) (same j k (inr q) (inl refl) there on) q))) in
+        let none = none_count test ks (λ j q. false_from_ne_true (test j) (λ there. distinct.0 (subst (λ x. IsListedLoop x ks) (same j k (inr q) (inl refl) there on) q))) in
         let here : only (test k) 1 ≡ 1 = ap (λ b. only b 1) on in omega (arith, here, none)
     by false off rest = let here : only (test k) 1 ≡ 0 = ap (λ b. only b 1) off in omega (arith, here, rest)
 
@@ -74,7 +74,7 @@ only_le : (a b : Bool) → (a ≡ true → b ≡ true) → only a 1 ≤ only b 1
 only_le true b h = let e : only b 1 ≡ 1 = ap (λ q. only q 1) (h refl) in omega (arith, e)
 only_le false b h = omega arith
 
-module _ (g : Graph) (l : Loops) (extent : ℕ → ℕ → Bool) (prog : IsProgram g) (acc : AreAccepted g l extent) (flags : List Bool) (size : length flags ≡ l.loops) (are : AreLoops l (set_from 0 flags)) (distinct : AreDistinct (set_from 0 flags)) where
+module _ (g : Graph) (l : Loops) (extent : ℕ → ℕ → Bool) (prog : IsProgram g) (acc : AreAccepted g l extent) (flags : List Bool) (size : length flags ≡ l.loops) (are : AreLoopsOnce l (set_from 0 flags)) (distinct : AreDistinct (set_from 0 flags)) where
   abbrev counted : List ℕ
   counted = set_from 0 flags
 
@@ -103,7 +103,7 @@ module _ (g : Graph) (l : Loops) (extent : ℕ → ℕ → Bool) (prog : IsProgr
       let n : sum_below (length flags) (λ k. only (leaves l (0 + k) u p) 1) ≡ sum_below l.loops (λ k. only (leaves l (0 + k) u p) 1) = ap (λ m. sum_below m (λ k. only (leaves l (0 + k) u p) 1)) size in
       omega (arith, all, s, n, few)
 
-  any_none : (u : ℕ) (p : Option ℕ) (ks : List ℕ) → leaves_any l u p ks ≡ false → (k : ℕ) → IsIn k ks → leaves l k u p ≡ false
+  any_none : (u : ℕ) (p : Option ℕ) (ks : List ℕ) → leaves_any l u p ks ≡ false → (k : ℕ) → IsListedLoop k ks → leaves l k u p ≡ false
   any_none u p [] h k q = absurd q
   any_none u p (j ∷ ks) h k (inl e) = ap (λ x. leaves l x u p) e ∙ or_first (leaves l j u p) (leaves_any l u p ks) h
     where

@@ -11,7 +11,7 @@ use Rattle.scale_base.specs.Layout.{layout_of, is_keyed}
 use Rattle.scale_base.specs.Run.{Run, GoesOn, HasExited, run_of, setting_of, start_of, starting_level}
 use Rattle.scale_base.proofs.Laws.{run_stays}
 use Rattle.power_model.specs.Numbers.{PowerModel, IsPowerModel}
-use Rattle.power_model.specs.Numbers.{Numbers as Metered}
+use Rattle.power_model.specs.Numbers.{RunPrice as Metered}
 use Rattle.power_model.specs.Price.{price, held_energy}
 use Rattle.power_model.proofs.Laws.{cycles-price}
 use Rattle.cost_theory.specs.Graph.{Graph, Loops}
@@ -43,7 +43,7 @@ use Rattle.paid_runs.proofs.Laws.{runs_paid, stubs_bounded}
 use Rattle.rewritten_runs.specs.Prices.{price_of}
 use Rattle.rewritten_runs.specs.Stubs.{stored_weights, marks_by_slack, is_counted, counter_of}
 use Rattle.rewritten_runs.specs.Promise.{KeepsThePromise}
-use Rattle.rewritten_runs.specs.Followed.{place_of, ShowsCounts, IsMeeting, MeetsInTime, HasEnded, SwitchesPay, EndsInTime, FollowsInTime}
+use Rattle.rewritten_runs.specs.Followed.{graph_place, ShowsCounts, IsMeeting, MeetsInTime, HasEnded, SwitchesPay, EndsInTime, FollowsInTime}
 use Rattle.rewritten_runs.proofs.Ended.{over_stays, taken, taken_within}
 use Rattle.rewritten_runs.proofs.Supplied.{IsSupplied}
 use Rattle.rewritten_runs.proofs.Places.{calls_back, left_same, in_same}
@@ -247,11 +247,11 @@ module _ (power : PowerModel) (file : List ℕ) (image : Image) (notes : List Lo
       let back = calls_back t (setting_of image levels input) (text_of_layout file image levels input s.stubbed.read) s.program.reached.words at.function at.calls at.stack in
       at.suspended ∙ (sym back ∙ ap (map (λ a. a - 4)) (sym at.returns))
 
-  counts_show : (input : List ℕ) (n : ℕ) (c : Carried) (f : Followed input n c) (goes : (run_of image levels input n).standing ≡ GoesOn) → ShowsCounts v tree (place_of (run_of image levels input n) c) (stored_run input n c f).state.window
+  counts_show : (input : List ℕ) (n : ℕ) (c : Carried) (f : Followed input n c) (goes : (run_of image levels input n).standing ≡ GoesOn) → ShowsCounts v tree (graph_place (run_of image levels input n) c) (stored_run input n c f).state.window
   counts_show input n c f goes = record { counts = within; others = others }
     where
-      place : steps.State
-      place = place_of (run_of image levels input n) c
+      place : steps.GraphState
+      place = graph_place (run_of image levels input n) c
 
       at : KeptAt t v.code l (run_of image levels input n) c f.kept.moves
       at = at_node input n c f goes
@@ -259,19 +259,19 @@ module _ (power : PowerModel) (file : List ℕ) (image : Image) (notes : List Lo
       held : AreHeld t v.code l (is_counted tree) (counter_of tree) sites start (run_of image levels input n) f.kept.moves
       held = f.held goes
 
-      same : (k : ℕ) → Rattle.shadow_counts.specs.Shadows.is_in l k (after_moves t v.code l f.kept.moves) ≡ Rattle.shadow_counts.specs.Shadows.is_in l k place
+      same : (k : ℕ) → Rattle.shadow_counts.specs.Shadows.is_within_loop l k (after_moves t v.code l f.kept.moves) ≡ Rattle.shadow_counts.specs.Shadows.is_within_loop l k place
       same k = in_same l k (after_moves t v.code l f.kept.moves) (run_of image levels input n).state.pc (map (λ a. a - 4) c.returns) c.counts at.node (calls_are input n c f goes)
 
-      within : (k : ℕ) → k < l.loops → is_counted tree k ≡ true → Rattle.shadow_counts.specs.Shadows.is_in l k place ≡ true → slice_index (stored_run input n c f).state.window (counter_of tree k) ≡ place.counts k
+      within : (k : ℕ) → k < l.loops → is_counted tree k ≡ true → Rattle.shadow_counts.specs.Shadows.is_within_loop l k place ≡ true → slice_index (stored_run input n c f).state.window (counter_of tree k) ≡ place.counts k
       within k kl ck on = f.followed.holds.counters (counter_of tree k) (s.shadows k kl ck) ∙ (held.shown.within k kl ck (same k ∙ on) ∙ at.counted k kl)
 
-      others : (w : ℕ) → IsShadow w → ((k : ℕ) → k < l.loops → is_counted tree k ≡ true → Rattle.shadow_counts.specs.Shadows.is_in l k place ≡ true → counter_of tree k ≢ w) → slice_index (stored_run input n c f).state.window w ≡ 0
+      others : (w : ℕ) → IsShadow w → ((k : ℕ) → k < l.loops → is_counted tree k ≡ true → Rattle.shadow_counts.specs.Shadows.is_within_loop l k place ≡ true → counter_of tree k ≢ w) → slice_index (stored_run input n c f).state.window w ≡ 0
       others w shadow none = f.followed.holds.counters w shadow ∙ elim (search_below l.loops (λ k. is_counted tree k && nat_eq (counter_of tree k) w)) [
         | inl found ↦
             let k = found.0 in
             let parts = and_parts (is_counted tree k) (nat_eq (counter_of tree k) w) found.2 in
             let here : counter_of tree k ≡ w = eqb-true (counter_of tree k) w parts.1 in
-            let off = false_from_ne_true (Rattle.shadow_counts.specs.Shadows.is_in l k (after_moves t v.code l f.kept.moves)) (λ on. none k found.1 parts.0 (sym (same k) ∙ on) here) in
+            let off = false_from_ne_true (Rattle.shadow_counts.specs.Shadows.is_within_loop l k (after_moves t v.code l f.kept.moves)) (λ on. none k found.1 parts.0 (sym (same k) ∙ on) here) in
             ap (shadow_after sites (shadow_first start) (run_of image levels input n).steps).counters (sym here) ∙ held.shown.outside k found.1 parts.0 off
         | inr absent ↦ held.others w (λ k kl ck is. both_ways (is_counted tree k && nat_eq (counter_of tree k) w) (absent k kl) (and_from (is_counted tree k) (nat_eq (counter_of tree k) w) ck (eq-eqb (counter_of tree k) w is)))
       ]
@@ -304,14 +304,14 @@ module _ (power : PowerModel) (file : List ℕ) (image : Image) (notes : List Lo
       (ap (is_keyed (layout_of rewritten)) one.states.pc ∙ off) (ap (is_keyed (layout_of rewritten)) other.states.pc ∙ off) (one.text ∙ sym other.text)
 
   time_left : (input : List ℕ) (n : ℕ) (c : Carried) (f : Followed input n c) → (run_of image levels input n).standing ≡ GoesOn → (price_of power rewritten input f.followed.after).time
-      + steps.cycles_left (graph v) (loops v tree) (stored_weights power image v (marks_by_slack power image v tree plain)) stored (place_of (run_of image levels input n) c) * period power (price_of power rewritten input f.followed.after).level ≤ power.deadline
+      + steps.cycles_left (graph v) (loops v tree) (stored_weights power image v (marks_by_slack power image v tree plain)) stored (graph_place (run_of image levels input n) c) * period power (price_of power rewritten input f.followed.after).level ≤ power.deadline
   time_left input n c f goes =
       let at = at_node input n c f goes in
       let w = weights_of power t v.code sites in
       let moved = left_same g l w stored (after_moves t v.code l f.kept.moves) (run_of image levels input n).state.pc (map (λ a. a - 4) c.returns) c.counts at.node (calls_are input n c f goes) at.counted in
-      let there : steps.cycles_left g l w stored (after_moves t v.code l f.kept.moves) ≡ steps.cycles_left (graph v) l (stored_weights power image v (marks_by_slack power image v tree plain)) stored (place_of (run_of image levels input n) c) =
-      moved ∙ (ap (λ q. steps.cycles_left q l w stored (place_of (run_of image levels input n) c)) s.graph_is ∙ ap (λ q. steps.cycles_left (graph v) l q stored (place_of (run_of image levels input n) c)) s.weights_are) in
-      from_start input n c f (λ m. m.time + steps.cycles_left (graph v) l (stored_weights power image v (marks_by_slack power image v tree plain)) stored (place_of (run_of image levels input n) c) * period power m.level ≤ power.deadline)
+      let there : steps.cycles_left g l w stored (after_moves t v.code l f.kept.moves) ≡ steps.cycles_left (graph v) l (stored_weights power image v (marks_by_slack power image v tree plain)) stored (graph_place (run_of image levels input n) c) =
+      moved ∙ (ap (λ q. steps.cycles_left q l w stored (graph_place (run_of image levels input n) c)) s.graph_is ∙ ap (λ q. steps.cycles_left (graph v) l q stored (graph_place (run_of image levels input n) c)) s.weights_are) in
+      from_start input n c f (λ m. m.time + steps.cycles_left (graph v) l (stored_weights power image v (marks_by_slack power image v tree plain)) stored (graph_place (run_of image levels input n) c) * period power m.level ≤ power.deadline)
       (subst (λ x. (price power start (stored_run input n c f).steps).time + x * period power (price power start (stored_run input n c f).steps).level ≤ power.deadline) there (paid input n c f).in_time)
 
   after_steps : (input : List ℕ) (n : ℕ) (c : Carried) (f : Followed input n c) → (run_of image levels input n).standing ≡ GoesOn → f.followed.after ≡ length (stored_run input n c f).steps

@@ -30,7 +30,7 @@ use Rattle.loop_file.specs.Kept.{noted_loops}
 use Rattle.natural_loops.specs.Noted.{node_address}
 use Rattle.loop_tree.specs.Tree.{LoopView, loops, IsInnermost}
 use Rattle.scale_sites.specs.Counters.{counted_loops}
-use Rattle.scale_sites.specs.Marks.{AreLoops}
+use Rattle.scale_sites.specs.Marks.{AreLoopsOnce}
 use Rattle.scale_sites.specs.Sites.{is_branch}
 use Rattle.stub_writer.specs.Stubs.{Site, block_size, block_bytes, patches_from, stub_len, jump, out_of_reach}
 use Rattle.stored_runs.specs.Stubbed.{IsStubbed, IsSafeSite}
@@ -117,7 +117,7 @@ module _ (power : PowerModel) (ok : IsPowerModel power) (file : List ℕ) (image
   flag_count : length tree.counted ≡ l.loops
   flag_count = let a = weighed.tree_is.tree.counted_size in let b = loop_count power image notes v tree plain stored weighed in omega (arith, a, b)
 
-  are_loops : AreLoops l (counted_loops tree)
+  are_loops : AreLoopsOnce l (counted_loops tree)
   are_loops k h = let at = in_get k (counted_loops tree) h in (counted_is power image notes v tree plain stored weighed at.0 k at.1).loop
 
   few : (e : ℕ) → e < length v.code.edges → length (marks_by_slack power image v tree plain e) ≤ 17
@@ -178,7 +178,7 @@ module _ (power : PowerModel) (ok : IsPowerModel power) (file : List ℕ) (image
   same_stored : weights_of power (text_of image) v.code sites ≡ stored_weights power image v (marks_by_slack power image v tree plain)
   same_stored = stored_same power image notes v tree plain stored weighed least sites stubs.sites_are
 
-  same_extra : marked_specs.extra_weights (text_of image) v.code (costs_of power) sites ≡ extra_weights power v (marks_by_slack power image v tree plain)
+  same_extra : marked_specs.extra_site_weights (text_of image) v.code (costs_of power) sites ≡ extra_weights power v (marks_by_slack power image v tree plain)
   same_extra = extra_same power image notes v tree plain stored weighed least sites stubs.sites_are
 
   in_time_is : (w i deadline : ℕ) → nat_le w deadline ≡ true → w ≤ deadline
@@ -206,7 +206,7 @@ module _ (power : PowerModel) (ok : IsPowerModel power) (file : List ℕ) (image
       program = graph_program power image notes v tree plain stored weighed;
       accepted = prog.loops;
       weights = (weights_of_calls image levels limits sites v.code (costs_of power) safe).1;
-      numbers = subst (λ (q : Graph). AreNumbers q l (marked_specs.extra_weights (text_of image) v.code (costs_of power) sites) extra) (sym weighed.code_is.graph_is) (subst (λ (w : ℕ → ℕ). AreNumbers (graph v) l w extra) (sym same_extra) stubs.extra_are);
+      numbers = subst (λ (q : Graph). AreNumbers q l (marked_specs.extra_site_weights (text_of image) v.code (costs_of power) sites) extra) (sym weighed.code_is.graph_is) (subst (λ (w : ℕ → ℕ). AreNumbers (graph v) l w extra) (sym same_extra) stubs.extra_are);
     };
     least_are = subst (λ (q : Graph). AreCharged q l (weights_of power (text_of image) v.code sites) least) (sym weighed.code_is.graph_is) (subst (λ (w : ℕ → ℕ). AreCharged (graph v) l w least) (sym same_stored) stubs.least_are);
     tables = are_tables power ok image notes v tree plain stored weighed least sites stubs.sites_are;

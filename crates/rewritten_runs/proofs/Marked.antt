@@ -31,7 +31,7 @@ use Rattle.scale_sites.specs.Sites.{is_branch}
 use Rattle.level_tables.specs.Tables as tables
 use Rattle.stub_writer.specs.Fragments.{IsShadow}
 use Rattle.stub_writer.specs.Stubs.{Site}
-use Rattle.stored_runs.specs.Marks.{place_at, fragments_by, counters_after, counters_behind}
+use Rattle.stored_runs.specs.Marks.{place_at, fragments_of_class, counters_after, counters_behind}
 use Rattle.shadow_counts.specs.Shadows.{AreCountable}
 use Rattle.marked_runs.specs.Marked as marked_specs
 use Rattle.marked_runs.proofs.Laws.{loops_are_countable}
@@ -221,8 +221,8 @@ module _ (power : PowerModel) (image : Image) (notes : List LoopNote) (v : FlowG
 
   -- ---- what the fragments do to the counters
 
-  module _ (sites : List Site) (least : Charged) (ways : (e : ℕ) (class : Class) → e < length code.edges → edge_class t (slice_get code.edges e) ≡ Some class → fragments_by (place_at sites (edge_at (slice_get code.edges e))) class ≡ fragments_at power image v tree marked stored least e) where
-    behind : (e : ℕ) (class : Class) → e < length code.edges → edge_class t (slice_get code.edges e) ≡ Some class → (c : ℕ → ℕ) (w : ℕ) → counters_behind (fragments_by (place_at sites (edge_at (slice_get code.edges e))) class) c w ≡ through w (marked e) (c w)
+  module _ (sites : List Site) (least : Charged) (ways : (e : ℕ) (class : Class) → e < length code.edges → edge_class t (slice_get code.edges e) ≡ Some class → fragments_of_class (place_at sites (edge_at (slice_get code.edges e))) class ≡ fragments_at power image v tree marked stored least e) where
+    behind : (e : ℕ) (class : Class) → e < length code.edges → edge_class t (slice_get code.edges e) ≡ Some class → (c : ℕ → ℕ) (w : ℕ) → counters_behind (fragments_of_class (place_at sites (edge_at (slice_get code.edges e))) class) c w ≡ through w (marked e) (c w)
     behind e class lt is c w = ap (λ fs. counters_behind fs c w) (ways e class lt is) ∙ all_act power l counted stored (told_at power image v tree marked stored least e) (marked e) c w
 
     pub are_marked : marked_specs.AreMarked t code l sites (is_counted tree) (counter_of tree)

@@ -14,7 +14,7 @@ use Rattle.graph_runs.specs.TextStates.{IsTextOf}
 use Rattle.graph_runs.specs.RunMoves.{after_call, IsStack}
 use Rattle.graph_runs.specs.KeptRuns.{AreSameBelow}
 use Rattle.graph_runs.proofs.Laws.{kind_facts, word_bound}
-use Rattle.shadow_counts.specs.Shadows.{is_in}
+use Rattle.shadow_counts.specs.Shadows.{is_within_loop}
 
 -- ---- calls
 
@@ -52,14 +52,14 @@ node_same g l w n one other (Some v) calls same =
     let s = sums_same l n one other (λ k. is_round l k (Some v)) same in
     let c = calls_same g l w n one other calls same in omega (arith, s, c)
 
-abbrev pub place : ℕ → List ℕ → (ℕ → ℕ) → steps.State
+abbrev pub place : ℕ → List ℕ → (ℕ → ℕ) → steps.GraphState
 place pc calls counts = record { node = Some pc; calls = calls; counts = counts }
 
 -- so do two places
-pub left_same : (g : Graph) (l : Loops) (w : ℕ → ℕ) (n : Numbers) (s : steps.State) (pc : ℕ) (calls : List ℕ) (counts : ℕ → ℕ) → s.node ≡ Some pc → s.calls ≡ calls → AreSameBelow l.loops s.counts counts
+pub left_same : (g : Graph) (l : Loops) (w : ℕ → ℕ) (n : Numbers) (s : steps.GraphState) (pc : ℕ) (calls : List ℕ) (counts : ℕ → ℕ) → s.node ≡ Some pc → s.calls ≡ calls → AreSameBelow l.loops s.counts counts
     → cycles_left g l w n s ≡ cycles_left g l w n (place pc calls counts)
 left_same g l w n s pc calls counts node suspended same =
     ap (λ o. left_at_node g l w n o s.calls s.counts) node ∙ (ap (λ cs. left_at_node g l w n (Some pc) cs s.counts) suspended ∙ node_same g l w n s.counts counts (Some pc) calls same)
 
-pub in_same : (l : Loops) (k : ℕ) (s : steps.State) (pc : ℕ) (calls : List ℕ) (counts : ℕ → ℕ) → s.node ≡ Some pc → s.calls ≡ calls → is_in l k s ≡ is_in l k (place pc calls counts)
+pub in_same : (l : Loops) (k : ℕ) (s : steps.GraphState) (pc : ℕ) (calls : List ℕ) (counts : ℕ → ℕ) → s.node ≡ Some pc → s.calls ≡ calls → is_within_loop l k s ≡ is_within_loop l k (place pc calls counts)
 in_same l k s pc calls counts node suspended = ap (λ o. is_round l k o || list_any (l.inside k) s.calls) node ∙ ap (λ cs. is_round l k (Some pc) || list_any (l.inside k) cs) suspended

@@ -35,7 +35,7 @@ use Rattle.scale_sites.specs.Counters.{counted_loops}
 use Rattle.scale_sites.specs.Sites.{is_branch}
 use Rattle.stub_writer.specs.Fragments.{IsShadow}
 use Rattle.stub_writer.specs.Stubs.{Site, Way, Place, Forked, Straight}
-use Rattle.stored_runs.specs.Marks.{place_at, fragments_by}
+use Rattle.stored_runs.specs.Marks.{place_at, fragments_of_class}
 use Rattle.stored_runs.specs.Stubbed.{IsSafe, IsSafeWay, IsOfImage, AreSafeWays, IsSafeSite, AreOrdered, AreAscending}
 use Rattle.marked_runs.proofs.Laws.{targets_are_words}
 use Rattle.rewritten_runs.specs.Stubs.{IsWeighed, AreSitesOf, marks_by_slack, told_at, fragment_of, fragments_at, loop_of}
@@ -193,8 +193,8 @@ module _ (power : PowerModel) (ok : IsPowerModel power) (image : Image) (notes :
         kind = ap (kind_at t) (sym h.2) ∙ (x.kind ∙ (ap (λ q. instr_kind t q x.instr) h.2 ∙ ap (instr_kind t u) same));
       }
 
-  frags_at : (u : ℕ) (x : Edge) (class : Class) (e : ℕ) → e < length code.edges → slice_get code.edges e ≡ Some x → x.at ≡ u → edge_class t (Some x) ≡ Some class → fragments_by (place_at sites u) class ≡ frags e
-  frags_at u x class e lt get at is = ap (λ a. fragments_by (place_at sites a) class) (sym (ap edge_at get ∙ at)) ∙ are.ways e class lt (ap (edge_class t) get ∙ is)
+  frags_at : (u : ℕ) (x : Edge) (class : Class) (e : ℕ) → e < length code.edges → slice_get code.edges e ≡ Some x → x.at ≡ u → edge_class t (Some x) ≡ Some class → fragments_of_class (place_at sites u) class ≡ frags e
+  frags_at u x class e lt get at is = ap (λ a. fragments_of_class (place_at sites a) class) (sym (ap edge_at get ∙ at)) ∙ are.ways e class lt (ap (edge_class t) get ∙ is)
 
   target_even : (u to f : ℕ) → Reached (kind_at t) t.entry f u → LeadsTo (kind_at t u) u to → to % 4 ≡ 0
   target_even u to f reached leads = (targets_are_words t code l (noted_loops notes).inside prog f u to reached leads).0
@@ -211,8 +211,8 @@ module _ (power : PowerModel) (ok : IsPowerModel power) (image : Image) (notes :
       let d = edge_of w.function u y w.reached (subst (λ q. Within y (edges_of q u (call_returns code (kind_at t u)))) (sym w.kind) (inr (inl refl))) in
       let class_x : edge_class t (Some x) ≡ Some classes.Taken = ap (λ o. Rattle.graph_runs.specs.EdgeCosts.class_by o Taken) of.1 in
       let class_y : edge_class t (Some y) ≡ Some classes.Untaken = ap (λ o. Rattle.graph_runs.specs.EdgeCosts.class_by o Untaken) of.1 in
-      let one : taken.fragments ≡ frags e.0 = sym (ap (λ o. fragments_by o classes.Taken) place) ∙ frags_at u x classes.Taken e.0 e.1 e.2 refl class_x in
-      let two : untaken.fragments ≡ frags d.0 = sym (ap (λ o. fragments_by o classes.Untaken) place) ∙ frags_at u y classes.Untaken d.0 d.1 d.2 refl class_y in
+      let one : taken.fragments ≡ frags e.0 = sym (ap (λ o. fragments_of_class o classes.Taken) place) ∙ frags_at u x classes.Taken e.0 e.1 e.2 refl class_x in
+      let two : untaken.fragments ≡ frags d.0 = sym (ap (λ o. fragments_of_class o classes.Untaken) place) ∙ frags_at u y classes.Untaken d.0 d.1 d.2 refl class_y in
       let aligned = eqb-true (u % 4) 0 (and_parts (u % 4 == 0) _ word).0 in
       let even = target_even u to w.function w.reached (subst (λ q. LeadsTo q u to) (sym w.kind) (inl refl)) in
       let un = of.2 in
@@ -225,7 +225,7 @@ module _ (power : PowerModel) (ok : IsPowerModel power) (image : Image) (notes :
       let x : Edge = record { at = u; kind = Jump; to = moved_by u offset } in
       let e = edge_of w.function u x w.reached (subst (λ q. Within x (edges_of q u (call_returns code (kind_at t u)))) (sym w.kind) (inl refl)) in
       let class_x : edge_class t (Some x) ≡ Some classes.Jump = ap (λ o. Rattle.graph_runs.specs.EdgeCosts.class_by o Jump) of.1 in
-      let one : way.fragments ≡ frags e.0 = sym (ap (λ o. fragments_by o classes.Jump) place) ∙ frags_at u x classes.Jump e.0 e.1 e.2 refl class_x in
+      let one : way.fragments ≡ frags e.0 = sym (ap (λ o. fragments_of_class o classes.Jump) place) ∙ frags_at u x classes.Jump e.0 e.1 e.2 refl class_x in
       let even = target_even u to w.function w.reached (subst (λ q. LeadsTo q u to) (sym w.kind) refl) in
       let ta = of.2 in
       safe_way e.0 way e.1 one (omega (arith, ta)) (omega (arith, ta, even))

@@ -20,7 +20,7 @@ use Rattle.text_laws.proofs.Laws.{text_ranges_kept}
 use Rattle.graph_runs.specs.Text.{AreApart}
 use Rattle.graph_runs.proofs.Laws.{ranges_apart}
 use Rattle.rv_encode.specs.Jumps.{distance}
-use Rattle.stub_writer.specs.Fragments.{code_len, rows_of}
+use Rattle.stub_writer.specs.Fragments.{code_len, fragment_rows}
 use Rattle.stub_writer.specs.Stubs.{Site, Place, Forked, Straight, way_rows, rows_by, stub_len, stub_len_of, stub_rows, stub_rows_of, stubs_len, block_rows, block_size, block_bytes, is_even, is_field, reaches, is_near, out_of_reach, stub_reaches_of}
 use Rattle.stub_runs.proofs.Laws.{codes_small, block_length, words_length}
 use Rattle.stored_runs.specs.Stubbed.{IsSafe, AreSafeWays, IsSafeSite}
@@ -50,7 +50,7 @@ reach_near from to lt high h =
 
 -- ---- lengths
 
-row_short : (levels : ℕ) (limits : ℕ → ℕ) (f : Fragment) → IsSafe levels limits f → length (rows_of f) ≤ code_len f
+row_short : (levels : ℕ) (limits : ℕ → ℕ) (f : Fragment) → IsSafe levels limits f → length (fragment_rows f) ≤ code_len f
 row_short levels limits (fragments.Switch word) h = omega arith
 row_short levels limits (fragments.Exit counter shift rows) h = let few = h.2 in omega (arith, few)
 row_short levels limits (fragments.Reset counter) h = omega arith
@@ -61,8 +61,8 @@ rows_short levels limits [] h = omega arith
 rows_short levels limits (f ∷ fs) h =
     let one = row_short levels limits f (h 0 f (omega arith)) in
     let rest = rows_short levels limits fs (λ k d lt. h (suc k) d (omega arith)) in
-    let e : length (rows_by (f ∷ fs)) ≡ length (rows_of f ++ rows_by fs) = ap length (flat_map-cons rows_of f fs) in
-    omega (arith, one, rest, e, length-append (rows_of f) (rows_by fs), sum_by-cons code_len f fs)
+    let e : length (rows_by (f ∷ fs)) ≡ length (fragment_rows f ++ rows_by fs) = ap length (flat_map-cons fragment_rows f fs) in
+    omega (arith, one, rest, e, length-append (fragment_rows f) (rows_by fs), sum_by-cons code_len f fs)
 
 record IsShort (s : Site) : Type 0 where
   rows : length (stub_rows s) ≤ stub_len s

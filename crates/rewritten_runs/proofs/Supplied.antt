@@ -37,7 +37,7 @@ pub record IsSupplied (power : PowerModel) (file : List ℕ) (image : Image) (no
   pub limited : marked_specs.AreLimits (loops v tree) (is_counted tree) (counter_of tree) limits
   pub shadows : (k : ℕ) → k < (loops v tree).loops → is_counted tree k ≡ true → IsShadow (counter_of tree k)
   pub analyzed : IsAnalyzed (text_graph (text_of image) v.code) (loops v tree) (noted_loops notes).inside (weights_of power (text_of image) v.code sites) stored
-  pub extra_analyzed : IsAnalyzed (text_graph (text_of image) v.code) (loops v tree) (noted_loops notes).inside (marked_specs.extra_weights (text_of image) v.code (costs_of power) sites) extra
+  pub extra_analyzed : IsAnalyzed (text_graph (text_of image) v.code) (loops v tree) (noted_loops notes).inside (marked_specs.extra_site_weights (text_of image) v.code (costs_of power) sites) extra
   pub least_are : AreCharged (text_graph (text_of image) v.code) (loops v tree) (weights_of power (text_of image) v.code sites) least
   pub tables : AreTables power (text_of image) v.code (loops v tree) sites (is_counted tree) (counter_of tree) stored least
   pub plain_are : AreNumbers (text_graph (text_of image) v.code) (loops v tree) (weights (text_of image) v.code (costs_of power)) plain

@@ -11,7 +11,7 @@ use Rattle.power_model.specs.Levels.{level}
 use Rattle.power_model.specs.Numbers.{PowerModel}
 use Rattle.power_model.specs.Price.{switch_time}
 use Rattle.level_tables.specs.Search.{least_below}
-use Rattle.level_tables.specs.Tables.{EdgeNumbers, is_in_time, pays, meets_both, entry_of, nibble, word_of, shift_of, trips_left, at_row, row_of, rows_of}
+use Rattle.level_tables.specs.Tables.{EdgeNumbers, is_switch_in_time, pays, meets_both, entry_of, nibble, level_word, shift_of, trips_left, at_row, table_row, rows_of}
 use Rattle.level_tables.proofs.Laws.{IsFound, least-is, nibbles-fit, entry-is, entries-small, word-at, row-at, trips_left-le}
 use Rattle.stored_runs.specs.Stubbed.{IsTable}
 
@@ -20,7 +20,7 @@ leb-le x y e = grind (arith, nat_tests)
 
 -- ---- words and rows are tables of levels
 
-pub word_is_table : (power : PowerModel) (site : EdgeNumbers) → length power.levels ≤ 8 → IsTable (length power.levels) (word_of power site)
+pub word_is_table : (power : PowerModel) (site : EdgeNumbers) → length power.levels ≤ 8 → IsTable (length power.levels) (level_word power site)
 word_is_table power site few = (
   nibbles-fit (entry_of power site) 0 (length power.levels) few (λ k h. entries-small power site k (length power.levels) few (omega arith)),
   λ i h. let e = word-at power site i few h in let up = (entry-is power site i).up_to in omega (arith, e, up, h),
@@ -37,11 +37,11 @@ pub shift_fits : (bound : ℕ) → bound < 2 ^ 32 → (shift_of bound < 32) × (
 shift_fits bound small = shift_found bound small (least_below 32 (λ s. nat_le (bound / 2 ^ s) 15)) (least-is 32 (λ s. nat_le (bound / 2 ^ s) 15))
 
 pub rows_count : (power : PowerModel) (bound iteration : ℕ) (site : EdgeNumbers) → length (rows_of power bound iteration site) ≡ bound / 2 ^ shift_of bound + 1
-rows_count power bound iteration site = length-map-range_with_len (row_of power bound iteration site) 0 (bound / 2 ^ shift_of bound + 1)
+rows_count power bound iteration site = length-map-range_with_len (table_row power bound iteration site) 0 (bound / 2 ^ shift_of bound + 1)
 
 pub rows_are_tables : (power : PowerModel) (bound iteration : ℕ) (site : EdgeNumbers) → length power.levels ≤ 8 → All (IsTable (length power.levels)) (rows_of power bound iteration site)
 rows_are_tables power bound iteration site few =
-    All-map (IsTable (length power.levels)) (row_of power bound iteration site) (range_with_len 0 (bound / 2 ^ shift_of bound + 1)) (λ k d lt. word_is_table power _ few)
+    All-map (IsTable (length power.levels)) (table_row power bound iteration site) (range_with_len 0 (bound / 2 ^ shift_of bound + 1)) (λ k d lt. word_is_table power _ few)
 
 -- ---- what a level of a word has met
 
@@ -66,11 +66,11 @@ entry_met power site i j e =
     by : (j < i) ⊎ (i ≤ j) → (j ≡ i) ⊎ IsMet power site i j
     by (inl lt) =
         let is = entry-is power site i in
-        let parts = and_parts (is_in_time power site i j) (pays power site.least i j) (subst (λ x. meets_both power site i x ≡ true) e (is.meets (omega (arith, e, lt)))) in
+        let parts = and_parts (is_switch_in_time power site i j) (pays power site.least i j) (subst (λ x. meets_both power site i x ≡ true) e (is.meets (omega (arith, e, lt)))) in
         inr (record { lower = lt; in_time = parts.0; pays = parts.1 })
     by (inr ge) = let up = (entry-is power site i).up_to in inl (omega (arith, e, up, ge))
 
-pub word_met : (power : PowerModel) (site : EdgeNumbers) (i j : ℕ) → length power.levels ≤ 8 → i < length power.levels → nibble (word_of power site) i ≡ j → (j ≡ i) ⊎ IsMet power site i j
+pub word_met : (power : PowerModel) (site : EdgeNumbers) (i j : ℕ) → length power.levels ≤ 8 → i < length power.levels → nibble (level_word power site) i ≡ j → (j ≡ i) ⊎ IsMet power site i j
 word_met power site i j few lt e = entry_met power site i j (sym (word-at power site i few lt) ∙ e)
 
 -- the row of a count within the bound is the word of the edge with the slack of some of the turns that are left

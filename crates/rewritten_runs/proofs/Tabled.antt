@@ -167,7 +167,7 @@ module _ (power : PowerModel) (ok : IsPowerModel power) (image : Image) (notes :
       let some : marked e ≢ [] = λ q. (let never : ⊥ = cc in never) in
       let to = marked_led power image notes v tree plain stored weighed e lt some in
       let no_call = inside e to.0 marks.Switch lt m (inl refl) to.1 in
-      let read_so : tables.nibble (tables.word_of power (told e)) h.level ≡ j = cc in
+      let read_so : tables.nibble (tables.level_word power (told e)) h.level ≡ j = cc in
       Rattle.std.proofs.Common.⊎_elim (λ same. inl same)
       (λ met. inr (chosen_by e to.0 h.level j 0 counts marks.Switch ms lt is no_call to.1 (omega arith) (subst (λ q. IsMet power q h.level j) (sym (no_more (told e))) met)))
       (word_met power (told e) h.level j ok.few low read_so)

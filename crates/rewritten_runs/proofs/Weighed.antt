@@ -31,7 +31,7 @@ use Rattle.scale_sites.specs.Weights.{marks_cost, some_mark, is_patched, jumps_o
 use Rattle.level_tables.specs.Tables as tables
 use Rattle.stub_writer.specs.Stubs.{Site, Place, Forked, Straight}
 use Rattle.stub_runs.specs.Cycles.{fragment_cost}
-use Rattle.stored_runs.specs.Marks.{place_at, fragments_by, jumps_by, tail_cycles}
+use Rattle.stored_runs.specs.Marks.{place_at, fragments_of_class, jumps_by, tail_cycles}
 use Rattle.stored_runs.specs.Stubbed.{IsOfImage}
 use Rattle.marked_runs.specs.Marked as marked_specs
 use Rattle.power_model.specs.Switches.{costs_of}
@@ -143,7 +143,7 @@ module _ (power : PowerModel) (image : Image) (notes : List LoopNote) (v : FlowG
       let to = marked_led power image notes v tree plain stored weighed e lt some in
       let c = led_class t code (program_is power image notes v tree plain stored weighed).reached e to.0 lt to.1 in
       let w = are.ways e c.0 lt c.1 in
-      let off : frags e ≡ [] = sym w ∙ ap (λ p. fragments_by p c.0) none in
+      let off : frags e ≡ [] = sym w ∙ ap (λ p. fragments_of_class p c.0) none in
       map_some (fragment_of power l (counted_loops tree) stored (told_at power image v tree marked stored least e)) (marked e) some off
 
   -- an instruction is patched where it is marked
@@ -228,7 +228,7 @@ module _ (power : PowerModel) (image : Image) (notes : List LoopNote) (v : FlowG
   no_edge (x ∷ xs) zero h = let bad : ⊥ = omega arith in absurd bad
   no_edge (x ∷ xs) (suc e) h = no_edge xs e (omega arith)
 
-  pub extra_is : (e : ℕ) → marked_specs.extra_weights t code (costs_of power) sites e ≡ extra_weights power v marked e
+  pub extra_is : (e : ℕ) → marked_specs.extra_site_weights t code (costs_of power) sites e ≡ extra_weights power v marked e
   extra_is e = ⊎_elim
       (λ (lt : e < length code.edges). extra_some e (edge_class t (slice_get code.edges e)) lt refl ∙ sym (ap (λ b. only b (extra_weight (graph v) power.costs (is_branch v) marked e)) (lt_true e (length code.edges) lt)))
       (λ (ge : length code.edges ≤ e).
@@ -236,7 +236,7 @@ module _ (power : PowerModel) (image : Image) (notes : List LoopNote) (v : FlowG
       ∙ sym (ap (λ b. only b (extra_weight (graph v) power.costs (is_branch v) marked e)) (lt_false e (length code.edges) ge)))
       (cases_lt e (length code.edges))
 
-  pub extra_same : marked_specs.extra_weights t code (costs_of power) sites ≡ extra_weights power v marked
+  pub extra_same : marked_specs.extra_site_weights t code (costs_of power) sites ≡ extra_weights power v marked
   extra_same = fun_ext extra_is
 
   pub stored_same : weights_of power t code sites ≡ stored_weights power image v marked

@@ -18,7 +18,7 @@ use Rattle.loop_tree.specs.Tree.{LoopView, loops}
 use Rattle.stub_writer.specs.Fragments.{IsShadow}
 use Rattle.stored_runs.specs.Legs.{Meets}
 use Rattle.stored_runs.specs.Laws.{text_steps}
-use Rattle.shadow_counts.specs.Shadows.{is_in}
+use Rattle.shadow_counts.specs.Shadows.{is_within_loop}
 use Rattle.power_model.specs.Switches.{period, NeverRises, switches_from, saved, fee, AllPay}
 use Rattle.rewritten_runs.specs.Prices.{price_of}
 use Rattle.rewritten_runs.specs.Stubs.{is_counted, counter_of}
@@ -26,20 +26,20 @@ use Rattle.rewritten_runs.specs.Stubs.{is_counted, counter_of}
 -- ---- meetings
 
 -- Where a kept run that goes on stands in the graph of its program: at the node of its pc, in the calls whose return addresses it carries, with its counts.
-abbrev pub place_of : Run → Carried → steps.State
-place_of r c = record { node = Some r.state.pc; calls = map (λ a. a - 4) c.returns; counts = c.counts }
+abbrev pub graph_place : Run → Carried → steps.GraphState
+graph_place r c = record { node = Some r.state.pc; calls = map (λ a. a - 4) c.returns; counts = c.counts }
 
 -- The shadow counter of each counted loop round the node, or round the site of a suspended call, holds the loop's count, and every other shadow counter is 0.
-pub record ShowsCounts (v : FlowGraph) (t : LoopView) (place : steps.State) (window : List ℕ) : Type 0 where
-  pub counts : (k : ℕ) → k < (loops v t).loops → is_counted t k ≡ true → is_in (loops v t) k place ≡ true → slice_index window (counter_of t k) ≡ place.counts k
-  pub others : (w : ℕ) → IsShadow w → ((k : ℕ) → k < (loops v t).loops → is_counted t k ≡ true → is_in (loops v t) k place ≡ true → counter_of t k ≢ w) → slice_index window w ≡ 0
+pub record ShowsCounts (v : FlowGraph) (t : LoopView) (place : steps.GraphState) (window : List ℕ) : Type 0 where
+  pub counts : (k : ℕ) → k < (loops v t).loops → is_counted t k ≡ true → is_within_loop (loops v t) k place ≡ true → slice_index window (counter_of t k) ≡ place.counts k
+  pub others : (w : ℕ) → IsShadow w → ((k : ℕ) → k < (loops v t).loops → is_counted t k ≡ true → is_within_loop (loops v t) k place ≡ true → counter_of t k ≢ w) → slice_index window w ≡ 0
 
 -- the stored run after so many steps meets the original after n: n of its steps were fetched outside the keyed segment
 pub record IsMeeting (original stored : Image) (levels : ℕ) (v : FlowGraph) (t : LoopView) (input : List ℕ) (n : ℕ) (c : Carried) (after : ℕ) : Type 0 where
   pub goes_on : (run_of stored levels input after).standing ≡ GoesOn
   pub text : length (text_steps (run_of stored levels input after).steps) ≡ n
   pub states : Meets (layout_of stored) (run_of original levels input n).state (run_of stored levels input after).state
-  pub counters : ShowsCounts v t (place_of (run_of original levels input n) c) (run_of stored levels input after).state.window
+  pub counters : ShowsCounts v t (graph_place (run_of original levels input n) c) (run_of stored levels input after).state.window
 
 -- ---- behind each kept step
 
@@ -53,7 +53,7 @@ pub record MeetsInTime (power : PowerModel) (original stored : Image) (v : FlowG
   pub once : (other : ℕ) → IsMeeting original stored (length power.levels) v t input n c other → other ≡ after
   pub cycles : (price_of power stored input after).cycles ≤ (price_of power original input n).cycles + bound
   pub time_left : (price_of power stored input after).time
-      + steps.cycles_left (graph v) (loops v t) w numbers (place_of (run_of original (length power.levels) input n) c) * period power (price_of power stored input after).level ≤ power.deadline
+      + steps.cycles_left (graph v) (loops v t) w numbers (graph_place (run_of original (length power.levels) input n) c) * period power (price_of power stored input after).level ≤ power.deadline
 
 -- ---- at the end
 

@@ -28,7 +28,7 @@ use Rattle.scale_sites.specs.Sites.{is_branch}
 use Rattle.scale_sites.specs.Weights.{extra_weight, tail_of}
 use Rattle.level_tables.specs.Tables as tables
 use Rattle.stub_writer.specs.Stubs.{Site, block_size, block_bytes, patches_from}
-use Rattle.stored_runs.specs.Marks.{place_at, fragments_by}
+use Rattle.stored_runs.specs.Marks.{place_at, fragments_of_class}
 use Rattle.stored_runs.specs.Stubbed.{IsOfImage, AreAscending}
 
 -- ---- weights and marks
@@ -69,7 +69,7 @@ loop_of counted counter = slice_index counted (counter - first_counter)
 
 -- the fragment of a mark on an edge that tells its switch this
 abbrev pub fragment_of : PowerModel → Loops → List ℕ → Numbers → tables.EdgeNumbers → Mark → Fragment
-fragment_of power l counted n told marks.Switch = fragments.Switch (tables.word_of power told)
+fragment_of power l counted n told marks.Switch = fragments.Switch (tables.level_word power told)
 fragment_of power l counted n told (marks.Exit counter) =
     fragments.Exit counter (tables.shift_of (l.bound (loop_of counted counter))) (tables.rows_of power (l.bound (loop_of counted counter)) (n.iteration (loop_of counted counter)) told)
 fragment_of power l counted n told (marks.Reset counter) = fragments.Reset counter
@@ -89,7 +89,7 @@ pub record AreSitesOf (image : Image) (code : Code) (fragments : ℕ → List Fr
   pub words : All (λ site. (is_word_address image site.at ≡ true) × IsOfImage image site.at site.place) sites
   pub some : All (λ site. (e : ℕ) × (e < length code.edges) × (edge_at (slice_get code.edges e) ≡ site.at) × (fragments e ≢ [])) sites
   pub ways : (e : ℕ) (class : Class) → e < length code.edges → edge_class (text_of image) (slice_get code.edges e) ≡ Some class
-      → fragments_by (place_at sites (edge_at (slice_get code.edges e))) class ≡ fragments e
+      → fragments_of_class (place_at sites (edge_at (slice_get code.edges e))) class ≡ fragments e
 
 -- ---- what is counted
 
@@ -99,11 +99,11 @@ is_switch (marks.Exit counter) = false
 is_switch (marks.Reset counter) = false
 is_switch (marks.Count counter) = false
 
-abbrev pub is_exit : Mark → Bool
-is_exit marks.Switch = false
-is_exit (marks.Exit counter) = true
-is_exit (marks.Reset counter) = false
-is_exit (marks.Count counter) = false
+abbrev pub is_exit_mark : Mark → Bool
+is_exit_mark marks.Switch = false
+is_exit_mark (marks.Exit counter) = true
+is_exit_mark (marks.Reset counter) = false
+is_exit_mark (marks.Count counter) = false
 
 abbrev pub is_count : Mark → Bool
 is_count marks.Switch = false

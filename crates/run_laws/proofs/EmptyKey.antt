@@ -15,7 +15,7 @@ use Rattle.scale_base.specs.Layout.{Layout, each_byte, reads_byte, may_write, ca
 use Rattle.scale_base.specs.Arith.{load_width, store_width, loaded, stored, is_taken, moved_by}
 use Rattle.scale_base.specs.State.{State, reg, with_reg, word_at}
 use Rattle.scale_base.specs.Service.{served, serves, read_count, read_service, write_count, write_service}
-use Rattle.scale_base.specs.Step.{Outcome, stepped, move_of, goes, after, sets, passes, jumps, branches, loads, stores, calls_service, performs, executes, step}
+use Rattle.scale_base.specs.Step.{Outcome, stepped, move_of, goes, pc_after, sets, passes, jumps, branches, loads, stores, calls_service, performs, executes, step}
 use Rattle.scale_base.specs.Run.{Run, Standing, GoesOn, HasExited, HasTrapped, ended, one_more_by, one_more, run}
 use Rattle.run_laws.specs.Keys.{setting, with_empty_key, with_window, run_with_window}
 use Rattle.run_laws.proofs.Keyless.{Alike, alike, no_window}
@@ -55,14 +55,14 @@ module _ (k l : Layout) (levels : ℕ) (input w : List ℕ) (same : Alike k l) w
   goes_same s i taken port next t = ap (λ x. goes x (with_window t w)) (stepped_same s i taken port next)
 
   sets_same : (s : State) (i : Instr) (rd value : ℕ) → sets (setting l levels input) (with_window s w) i rd value ≡ seen w (sets (setting k levels input) s i rd value)
-  sets_same s i rd value = goes_same s i false None (after s) (record s { pc = after s; regs = with_reg s.regs rd value })
+  sets_same s i rd value = goes_same s i false None (pc_after s) (record s { pc = pc_after s; regs = with_reg s.regs rd value })
 
   passes_same : (s : State) (i : Instr) → passes (setting l levels input) (with_window s w) i ≡ seen w (passes (setting k levels input) s i)
-  passes_same s i = goes_same s i false None (after s) (record s { pc = after s })
+  passes_same s i = goes_same s i false None (pc_after s) (record s { pc = pc_after s })
 
   jumps_same : (s : State) (i : Instr) (rd target : ℕ) → jumps (setting l levels input) (with_window s w) i rd target ≡ seen w (jumps (setting k levels input) s i rd target)
   jumps_same s i rd target =
-      chosen (seen w) (target % 4 == 0) _ _ _ _ (goes_same s i false None target (record s { pc = target; regs = with_reg s.regs rd (after s) })) refl
+      chosen (seen w) (target % 4 == 0) _ _ _ _ (goes_same s i false None target (record s { pc = target; regs = with_reg s.regs rd (pc_after s) })) refl
 
   branches_same : (s : State) (i : Instr) (taken : Bool) (target : ℕ) → branches (setting l levels input) (with_window s w) i taken target ≡ seen w (branches (setting k levels input) s i taken target)
   branches_same s i taken target =
@@ -85,7 +85,7 @@ module _ (k l : Layout) (levels : ℕ) (input w : List ℕ) (same : Alike k l) w
       (no_window l s.pc at (store_width op) (same.right s.pc)) (no_window k s.pc at (store_width op) (same.left s.pc))
       (chosen_by (seen w) (can_write l at (store_width op)) (can_write k at (store_width op)) _ _ _ _
       (ap (λ test. each_byte test at (store_width op)) same.writes)
-      (goes_same s i false None (after s) (record s { pc = after s; bytes = stored op s.bytes at value })) refl))
+      (goes_same s i false None (pc_after s) (record s { pc = pc_after s; bytes = stored op s.bytes at value })) refl))
 
   read_same : (s : State) → read_service (setting l levels input) (with_window s w) ≡ with_window (read_service (setting k levels input) s) w
   read_same s =
@@ -111,8 +111,8 @@ module _ (k l : Layout) (levels : ℕ) (input w : List ℕ) (same : Alike k l) w
   calls_same s i =
       chosen (seen w) ((reg s.regs 17 == 93) || (reg s.regs 17 == 94)) _ _ _ _
       (ap (λ (x : Stepped). let o : Outcome = record { end = Exited x (reg s.regs 10 % 256); state = with_window s w } in o) (stepped_same s i false None s.pc))
-      (ap (λ (t : State). goes (stepped (setting l levels input) (with_window s w) i false None (after s)) (record t { pc = after s })) (served_same s)
-      ∙ goes_same s i false None (after s) (record (served (setting k levels input) s) { pc = after s }))
+      (ap (λ (t : State). goes (stepped (setting l levels input) (with_window s w) i false None (pc_after s)) (record t { pc = pc_after s })) (served_same s)
+      ∙ goes_same s i false None (pc_after s) (record (served (setting k levels input) s) { pc = pc_after s }))
 
   performs_same : (s : State) (i j : Instr) → performs (setting l levels input) (with_window s w) i j ≡ seen w (performs (setting k levels input) s i j)
   performs_same s i (Lui rd imm) = sets_same s i rd _

@@ -16,7 +16,7 @@ use Rattle.scale_base.specs.declared.stepping.Move.{Move}
 use Rattle.scale_base.specs.declared.stepping.Stepped.{Stepped}
 use Rattle.scale_base.specs.declared.stepping.StepEnd.TheVariants as ends
 use Rattle.scale_base.specs.Step.{step, executes, performs}
-use Rattle.rv_machine.specs.Code.{IsFixed, instr_in, page_in, instr_at, known_at, IsCodeOf, MayBeFixed, MayBePage, MayBeGroup}
+use Rattle.rv_machine.specs.Code.{IsFixed, instr_in, code_page_in, decoded_at, known_at, IsDecodedCode, MayBeFixed, MayBePage, MayBeGroup}
 use Rattle.rv_machine.specs.declared.code.CodePage.{CodePage}
 use Rattle.rv_machine.specs.declared.code.CodeGroup.{CodeGroup}
 use Rattle.rv_machine.specs.declared.code.Code.{Code}
@@ -67,7 +67,7 @@ fixed_stays l bytes bytes' at d stays h =
     ∙ ap (λ n. bytes at + bytes (at + 1) * 2 ^ 8 + bytes (at + 2) * 2 ^ 16 + n * 2 ^ 24) b3)) in
     record { fetched = h.fetched; instr = ap instr_of same ∙ h.instr; fields = h.fields; tells = h.tells; unwritten = h.unwritten }
 
-pub code_stays : (l : Layout) (bytes bytes' : ℕ → ℕ) (code : Code) → ((a : ℕ) → may_write l a ≡ false → bytes' a ≡ bytes a) → IsCodeOf l bytes code → IsCodeOf l bytes' code
+pub code_stays : (l : Layout) (bytes bytes' : ℕ → ℕ) (code : Code) → ((a : ℕ) → may_write l a ≡ false → bytes' a ≡ bytes a) → IsDecodedCode l bytes code → IsDecodedCode l bytes' code
 code_stays l bytes bytes' code stays h = record { fixed = λ word d is. fixed_stays l bytes bytes' (4 * word) d stays (h.fixed word d is) }
 
 -- ---- as it is made
@@ -83,7 +83,7 @@ in_page l bytes n k (Some p) lt h =
     let inside : k < length p.instrs.items = omega (arith, p.count) in
     h k (get_or p.instrs.items k None) lt (some_index p.instrs.items k None (get_or p.instrs.items k None) inside)
 
-in_group : (l : Layout) (bytes : ℕ → ℕ) (m j : ℕ) (o : Option CodeGroup) → j < 1024 → MayBeGroup l bytes m o → MayBePage l bytes (m * 1024 + j) (page_in o j)
+in_group : (l : Layout) (bytes : ℕ → ℕ) (m j : ℕ) (o : Option CodeGroup) → j < 1024 → MayBeGroup l bytes m o → MayBePage l bytes (m * 1024 + j) (code_page_in o j)
 in_group l bytes m j None lt h = tt
 in_group l bytes m j (Some g) lt h =
     let size : length g.pages.items ≡ vec_len g.pages = search rules in
@@ -93,8 +93,8 @@ in_group l bytes m j (Some g) lt h =
 abbrev pub AreGroups : Layout → (ℕ → ℕ) → List (Option CodeGroup) → Type 0
 AreGroups l bytes groups = (m : ℕ) (o : Option CodeGroup) → m < 1024 → o ≡ get_or groups m o → MayBeGroup l bytes m o
 
-in_code : (l : Layout) (bytes : ℕ → ℕ) (groups : List (Option CodeGroup)) (word : ℕ) → length groups ≡ 1024 → AreGroups l bytes groups → MayBeFixed l bytes (4 * word) (instr_at groups word)
-unfolding instr_at
+in_code : (l : Layout) (bytes : ℕ → ℕ) (groups : List (Option CodeGroup)) (word : ℕ) → length groups ≡ 1024 → AreGroups l bytes groups → MayBeFixed l bytes (4 * word) (decoded_at groups word)
+unfolding decoded_at
 in_code l bytes groups word size h =
     elim (cases_lt (word / 1024 / 1024) 1024) [
       | inl lt ↦
@@ -103,13 +103,13 @@ in_code l bytes groups word size h =
           let page = in_group l bytes (word / 1024 / 1024) (word / 1024 % 1024) o (omega arith) group in
           let n : (word / 1024 / 1024) * 1024 + word / 1024 % 1024 ≡ word / 1024 = omega arith in
           let is : (word / 1024) * 1024 + word % 1024 ≡ word = omega arith in
-          subst (λ w. MayBeFixed l bytes (4 * w) (instr_in (page_in o (word / 1024 % 1024)) (word % 1024))) is
-          (in_page l bytes (word / 1024) (word % 1024) (page_in o (word / 1024 % 1024)) (omega arith) (subst (λ p. MayBePage l bytes p (page_in o (word / 1024 % 1024))) n page)))
-      | inr far ↦ subst (λ o. MayBeFixed l bytes (4 * word) (instr_in (page_in o (word / 1024 % 1024)) (word % 1024))) (sym (index_past groups (word / 1024 / 1024) None (omega arith))) tt
+          subst (λ w. MayBeFixed l bytes (4 * w) (instr_in (code_page_in o (word / 1024 % 1024)) (word % 1024))) is
+          (in_page l bytes (word / 1024) (word % 1024) (code_page_in o (word / 1024 % 1024)) (omega arith) (subst (λ p. MayBePage l bytes p (code_page_in o (word / 1024 % 1024))) n page)))
+      | inr far ↦ subst (λ o. MayBeFixed l bytes (4 * word) (instr_in (code_page_in o (word / 1024 % 1024)) (word % 1024))) (sym (index_past groups (word / 1024 / 1024) None (omega arith))) tt
     ]
 
-pub code_made : (l : Layout) (bytes : ℕ → ℕ) (groups : List (Option CodeGroup)) → length groups ≡ 1024 → AreGroups l bytes groups → (word : ℕ) (d : Decoded) → instr_at groups word ≡ Some d → IsFixed l bytes (4 * word) d
-code_made l bytes groups size h word d is = fixed_of l bytes (4 * word) (instr_at groups word) d is (in_code l bytes groups word size h)
+pub code_made : (l : Layout) (bytes : ℕ → ℕ) (groups : List (Option CodeGroup)) → length groups ≡ 1024 → AreGroups l bytes groups → (word : ℕ) (d : Decoded) → decoded_at groups word ≡ Some d → IsFixed l bytes (4 * word) d
+code_made l bytes groups size h word d is = fixed_of l bytes (4 * word) (decoded_at groups word) d is (in_code l bytes groups word size h)
 
 -- what may not be written, byte by byte
 pub unwritten_all : (l : Layout) (at : ℕ) → each_byte (λ a. not (may_write l a)) at 4 ≡ true → (k : ℕ) → k < 4 → may_write l (at + k) ≡ false
@@ -127,11 +127,11 @@ fixed_made l bytes at word i d read is fetched unwritten fields same tells = rec
 }
 
 -- an instruction that is known at an address
-aligned_known : (groups : List (Option CodeGroup)) (at : ℕ) (b : Bool) (d : Decoded) → cond b (instr_at groups (at / 4)) None ≡ Some d → (b ≡ true) × (instr_at groups (at / 4) ≡ Some d)
+aligned_known : (groups : List (Option CodeGroup)) (at : ℕ) (b : Bool) (d : Decoded) → cond b (decoded_at groups (at / 4)) None ≡ Some d → (b ≡ true) × (decoded_at groups (at / 4) ≡ Some d)
 aligned_known groups at true d is = (refl, is)
 aligned_known groups at false d is = absurd cc
 
-pub known_fixed : (l : Layout) (bytes : ℕ → ℕ) (code : Code) (at : ℕ) (d : Decoded) → IsCodeOf l bytes code → known_at code.groups.items at ≡ Some d → IsFixed l bytes at d
+pub known_fixed : (l : Layout) (bytes : ℕ → ℕ) (code : Code) (at : ℕ) (d : Decoded) → IsDecodedCode l bytes code → known_at code.groups.items at ≡ Some d → IsFixed l bytes at d
 unfolding known_at
 known_fixed l bytes code at d h is =
     let parts = aligned_known code.groups.items at (at % 4 == 0) d is in

@@ -24,21 +24,21 @@ abbrev pub instr_in : Option CodePage → ℕ → Option Decoded
 instr_in None k = None
 instr_in (Some p) k = slice_index_or p.instrs.items k None
 
-abbrev pub page_in : Option CodeGroup → ℕ → Option CodePage
-page_in None k = None
-page_in (Some g) k = slice_index_or g.pages.items k None
+abbrev pub code_page_in : Option CodeGroup → ℕ → Option CodePage
+code_page_in None k = None
+code_page_in (Some g) k = slice_index_or g.pages.items k None
 
 -- by the number of a word, its address by 4
-unfoldable pub instr_at : List (Option CodeGroup) → ℕ → Option Decoded
-instr_at groups word = instr_in (page_in (slice_index_or groups (word / 1024 / 1024) None) (word / 1024 % 1024)) (word % 1024)
+unfoldable pub decoded_at : List (Option CodeGroup) → ℕ → Option Decoded
+decoded_at groups word = instr_in (code_page_in (slice_index_or groups (word / 1024 / 1024) None) (word / 1024 % 1024)) (word % 1024)
 
 -- by an address; none is known off the multiples of 4
 unfoldable pub known_at : List (Option CodeGroup) → ℕ → Option Decoded
-known_at groups at = if at % 4 == 0 then instr_at groups (at / 4) else None
+known_at groups at = if at % 4 == 0 then decoded_at groups (at / 4) else None
 
 -- each instruction of the code is that of its word
-pub record IsCodeOf (layout : Layout) (bytes : ℕ → ℕ) (code : Code) : Type 0 where
-  pub fixed : (word : ℕ) (d : Decoded) → instr_at code.groups.items word ≡ Some d → IsFixed layout bytes (4 * word) d
+pub record IsDecodedCode (layout : Layout) (bytes : ℕ → ℕ) (code : Code) : Type 0 where
+  pub fixed : (word : ℕ) (d : Decoded) → decoded_at code.groups.items word ≡ Some d → IsFixed layout bytes (4 * word) d
 
 -- ---- as it is made
 

@@ -34,7 +34,7 @@ impl Code {
 
     /// The instruction at an address, if it is known.
     #[inline(always)]
-    #[tactic(auto, unfolding(crate::specs::Code::known_at, crate::specs::Code::instr_at))]
+    #[tactic(auto, unfolding(crate::specs::Code::known_at, crate::specs::Code::decoded_at))]
     pub fn instr(&self, at: u32) -> Option<&Decoded>
         ensures { option_copied result ≡ known_at self.now.groups.items at }
     {

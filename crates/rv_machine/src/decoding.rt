@@ -2,7 +2,7 @@
 
 ghost use Rattle.std.specs.Prelude.{◌≡◌, ◌+◌, ◌*◌, ◌≤◌, ◌<◌, ◌%◌, ◌^◌, not, IfOk};
 ghost use Rattle.scale_base.specs.Layout as rules;
-ghost use Rattle.rv_machine.specs.Code.{IsCodeOf, MayBeFixed, MayBePage, MayBeGroup};
+ghost use Rattle.rv_machine.specs.Code.{IsDecodedCode, MayBeFixed, MayBePage, MayBeGroup};
 
 use crate::access;
 use crate::code::{Code, CodeGroup, CodePage};
@@ -114,7 +114,7 @@ pub fn decode_code<M: Memory>(
     memory: &M,
     places: &Places<'_>,
 ) -> Result<Code, NoMemory>
-    ensures { IfOk result (λ code. IsCodeOf (M.layout memory.now) (M.bytes memory.now) code) }
+    ensures { IfOk result (λ code. IsDecodedCode (M.layout memory.now) (M.bytes memory.now) code) }
 {
     let mut groups = Vec::with_capacity(alloc, 1024)?;
     for k in 0..1024 {

@@ -36,7 +36,7 @@ pub struct Machine<M> {
 impl<M: Memory + Drop> Machine<M> {
     ghost use Rattle.std.specs.Prelude.{IfOk};
     ghost use Rattle.scale_base.specs.Run as runs;
-    ghost use Rattle.rv_machine.specs.Machine.{state_of, setting_of};
+    ghost use Rattle.rv_machine.specs.Machine.{state_of, machine_setting};
 
     /// A machine before its first step, at an address and a level of so many. It has room for the whole output.
     pub fn start(
@@ -50,7 +50,7 @@ impl<M: Memory + Drop> Machine<M> {
         requires level { start < levels }
         requires few { levels ≤ 8 }
         ensures state { IfOk result (λ m. state_of M.bytes m ≡ runs.start (M.bytes memory) entry start) }
-        ensures setting { IfOk result (λ m. setting_of M.layout m ≡ record { layout = M.layout memory; levels = levels; input = input.items }) }
+        ensures setting { IfOk result (λ m. machine_setting M.layout m ≡ record { layout = M.layout memory; levels = levels; input = input.items }) }
     {
         let output = Vec::with_capacity(alloc, 1 << 20)?;
         let mut regs = [0; 32];

@@ -9,7 +9,7 @@ use Rattle.scale_base.specs.declared.refusal.Refusal.{Refusal}
 use Rattle.scale_base.specs.declared.refusal.Refusal.TheVariants.{BadText}
 use Rattle.scale_base.specs.Spans.{each_pair}
 use Rattle.scale_base.specs.Rules.{Rule, rule, first_broken, each_below, AllHold}
-use Rattle.scale_base.specs.Image.{is_text_place, are_apart, keeps_text_rules, part_rules, start_of, text_rules, all_text_rules, header_rules, table_rules, segment_rules, image_rules, loaded_headers}
+use Rattle.scale_base.specs.Image.{is_text_place, are_apart, keeps_text_rules, part_rules, text_start, text_rules, all_text_rules, header_rules, table_rules, segment_rules, image_rules, loaded_headers}
 use Rattle.scale_base.proofs.Accepted.{rule_kept, kept-split}
 
 both_true : (a b : Bool) → (a && b) ≡ true → (a ≡ true) × (b ≡ true)
@@ -42,7 +42,7 @@ pub parts_kept : (file : List ℕ) (hs : List ProgramHeader) (parts : List TextP
 unfolding part_rules
 parts_kept file hs [] h = refl
 parts_kept file hs (part ∷ parts) h =
-    parts_placed file hs (part ∷ parts) (whole_kept (keeps_text_rules file hs) (λ k. BadText (start_of (slice_get (part ∷ parts) k))) (part ∷ parts) (length (part ∷ parts)) refl (omega arith)
+    parts_placed file hs (part ∷ parts) (whole_kept (keeps_text_rules file hs) (λ k. BadText (text_start (slice_get (part ∷ parts) k))) (part ∷ parts) (length (part ∷ parts)) refl (omega arith)
     (rule_kept (nat_lt 0 (length (part ∷ parts))) (BadText 0) (part_rules file hs (part ∷ parts)) h).1)
 
 -- the rules of the parts of an accepted file

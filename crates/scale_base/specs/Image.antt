@@ -8,7 +8,7 @@ use Rattle.scale_base.specs.declared.ranges.Range.{Range}
 use Rattle.scale_base.specs.declared.ranges.Keyed.{Keyed}
 use Rattle.scale_base.specs.declared.ranges.Span.{Span}
 use Rattle.scale_base.specs.declared.ranges.TextPart.{TextPart}
-use Rattle.scale_base.specs.Bytes.{byte_at, word_at}
+use Rattle.scale_base.specs.Bytes.{byte_at, list_word_at}
 use Rattle.scale_base.specs.Rules.{Rule, rule, first_broken, each_below}
 use Rattle.scale_base.specs.Spans.{in_span, overlap, each_pair, ends_by, round_up, round_down}
 use Rattle.scale_base.specs.Elf.{e_type, e_machine, e_version, e_entry, e_phoff, e_shoff, e_flags, e_phentsize, e_phnum, e_shentsize, e_shnum, has_sections, has, program_headers, section_headers}
@@ -69,8 +69,8 @@ is_dynamic h = (h.p_type == PT_DYNAMIC) || (h.p_type == PT_INTERP)
 abbrev pub has_key : ProgramHeader → Bool
 has_key h = has h.p_flags KEY
 
-abbrev pub loads : List ProgramHeader → List ProgramHeader
-loads headers = filter is_load headers
+abbrev pub load_headers : List ProgramHeader → List ProgramHeader
+load_headers headers = filter is_load headers
 
 -- a segment without the key
 abbrev pub is_plain : ProgramHeader → Bool
@@ -134,7 +134,7 @@ unfoldable pub keeps_load_rules : ℕ → List ProgramHeader → Bool
 keeps_load_rules entries segments = are_placed segments && are_few segments && leave_room entries segments
 
 abbrev pub keeps_segment_rules : List ProgramHeader → Bool
-keeps_segment_rules headers = keeps_load_rules (length headers) (loads headers)
+keeps_segment_rules headers = keeps_load_rules (length headers) (load_headers headers)
 
 -- the least entry up to which one is broken
 unfoldable pub segment_rules : List ℕ → List Rule
@@ -197,14 +197,14 @@ unfoldable pub keeps_text_rules : List ℕ → List ProgramHeader → List TextP
 keeps_text_rules file segments parts =
     list_all (is_text_place file segments) parts && each_pair are_apart parts && nat_le (sum_by (λ part. part.span.len) parts) 524288
 
-abbrev pub start_of : Option TextPart → ℕ
-start_of None = 0
-start_of (Some part) = part.span.from
+abbrev pub text_start : Option TextPart → ℕ
+text_start None = 0
+text_start (Some part) = part.span.from
 
 -- the least part up to which one is broken
 unfoldable pub part_rules : List ℕ → List ProgramHeader → List TextPart → List Rule
 part_rules file segments parts =
-    each_below (length parts) (λ k. rule (keeps_text_rules file segments (take (k + 1) parts)) (BadText (start_of (slice_get parts k))))
+    each_below (length parts) (λ k. rule (keeps_text_rules file segments (take (k + 1) parts)) (BadText (text_start (slice_get parts k))))
 
 -- there is some text, and each part keeps the rules
 abbrev pub text_rules : List ℕ → List ProgramHeader → List TextPart → List Rule
@@ -240,7 +240,7 @@ all_text_rules file segments =
 -- ---- all the rules, and the image
 
 abbrev pub loaded_headers : List ℕ → List ProgramHeader
-loaded_headers file = loads (program_headers file)
+loaded_headers file = load_headers (program_headers file)
 
 unfoldable pub text_ranges : List ℕ → List Range
 text_ranges file = ranges_of (text_parts file (loaded_headers file))
@@ -333,4 +333,4 @@ file_place file at = option_map (λ h. h.p_offset + (at - h.p_vaddr)) (find (hea
 
 -- the word of an address, a multiple of 4 in a text range
 unfoldable pub text_word : Image → ℕ → Option ℕ
-text_word image at = if is_word_address image at then option_map (word_at image.file) (file_place image.file at) else None
+text_word image at = if is_word_address image at then option_map (list_word_at image.file) (file_place image.file at) else None

@@ -2,7 +2,7 @@
 use Rattle.std.specs.Prelude.{ℕ, ◌+◌, ◌-◌, ◌*◌, ◌/◌, length, List, [], ◌∷◌, ◌++◌, drop, find, slice_get, slice_range, Bool, false, ◌==◌, ◌&&◌, not, nat_le, nat_eq, if◌then◌else◌, Option, Some, None, option_map}
 use Rattle.std.specs.List.{list_any, range_with_len, starts_with}
 use Rattle.scale_base.specs.declared.headers.SectionHeader.{SectionHeader}
-use Rattle.scale_base.specs.Bytes.{half_at, word_at}
+use Rattle.scale_base.specs.Bytes.{list_half_at, list_word_at}
 use Rattle.scale_base.specs.Elf.{has_sections, section_headers}
 
 -- the bytes of the section lie in a file of so many bytes
@@ -34,11 +34,11 @@ stands_at name strings at = not (list_any (λ b. b == 0) name) && starts_with na
 
 -- entry k of a symbol table of these bytes has the name, and its section (st_shndx) isn't 0
 abbrev pub is_named : List ℕ → List ℕ → List ℕ → ℕ → Bool
-is_named name strings table k = not (half_at table (16 * k + 14) == 0) && stands_at name strings (word_at table (16 * k))
+is_named name strings table k = not (list_half_at table (16 * k + 14) == 0) && stands_at name strings (list_word_at table (16 * k))
 
 -- the value of the first entry after entry 0 with the name
 abbrev pub value_in : List ℕ → List ℕ → List ℕ → Option ℕ
-value_in name strings table = option_map (λ k. word_at table (16 * k + 4)) (find (is_named name strings table) (range_with_len 1 (length table / 16 - 1)))
+value_in name strings table = option_map (λ k. list_word_at table (16 * k + 4)) (find (is_named name strings table) (range_with_len 1 (length table / 16 - 1)))
 
 abbrev pub symbol_in : List ℕ → List ℕ → Option SectionHeader → Option ℕ
 symbol_in file name None = None

@@ -181,13 +181,13 @@ unfoldable pub word_digits : ℕ → List ℕ
 word_digits word = hex_digits 8 word
 
 -- the edges that may have fragments
-abbrev pub IsSite : EdgeKind → Type 0
-IsSite edge.Taken = Unit {0}
-IsSite edge.Untaken = Unit {0}
-IsSite edge.Jump = Unit {0}
-IsSite edge.Next = ⊥
-IsSite edge.CallNext = ⊥
-IsSite edge.End = ⊥
+abbrev pub HasSiteLine : EdgeKind → Type 0
+HasSiteLine edge.Taken = Unit {0}
+HasSiteLine edge.Untaken = Unit {0}
+HasSiteLine edge.Jump = Unit {0}
+HasSiteLine edge.Next = ⊥
+HasSiteLine edge.CallNext = ⊥
+HasSiteLine edge.End = ⊥
 
 -- the name of the kind of such an edge
 abbrev pub kind_name : EdgeKind → List ℕ

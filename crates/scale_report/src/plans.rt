@@ -1,7 +1,7 @@
 //! How the plan of a rewriting is printed.
 
 ghost use Rattle.std.specs.Prelude.{◌≡◌, ◌++◌, All, IfOk, OnOk, string_bytes};
-ghost use Rattle.scale_report.specs.Texts.{IsSite, kind_name, plan_text, site_line};
+ghost use Rattle.scale_report.specs.Texts.{HasSiteLine, kind_name, plan_text, site_line};
 
 use crate::summary_text;
 use crate::words::{Address, SpacedWords, WordDigits};
@@ -35,7 +35,7 @@ impl fmt::Display for FragmentWords<'_> {
 
 // The name of the kind of an edge that may have fragments.
 fn kind_name(kind: EdgeKind) -> &'static str
-    requires { IsSite kind }
+    requires { HasSiteLine kind }
     ensures { result.now ≡ kind_name kind }
 {
     match kind {
@@ -49,7 +49,7 @@ fn kind_name(kind: EdgeKind) -> &'static str
 // Adds the line of a fragment.
 #[tactic(auto, unfolding(crate::specs::Texts::site_line))]
 fn push_site(text: &mut String, line: &SiteLine) -> Result<(), AllocError>
-    requires { IsSite line.now.edge.kind }
+    requires { HasSiteLine line.now.edge.kind }
     ensures { OnOk result (string_bytes text.new ≡ string_bytes text.old ++ site_line line.now) }
 {
     let at = Address(line.edge.at);
@@ -60,7 +60,7 @@ fn push_site(text: &mut String, line: &SiteLine) -> Result<(), AllocError>
 
 /// The plan of a rewriting: its summary, and a line for each fragment.
 pub fn plan_text(alloc: Global, plan: &ScalePlan) -> Result<String, NoMemory>
-    requires { All (λ line. IsSite line.edge.kind) plan.now.lines.items }
+    requires { All (λ line. HasSiteLine line.edge.kind) plan.now.lines.items }
     ensures { IfOk result (λ text. string_bytes text ≡ plan_text plan.now) }
 {
     let mut text = summary_text(alloc, &plan.summary)?;

@@ -5,14 +5,14 @@ use Rattle.cost_theory.specs.Accepted.{IsProgram, AreAccepted, IsWithin}
 use Rattle.std.proofs.lemmas.Bool.{cases_eq}
 use Rattle.cost_theory.proofs.Laws.{and_left, and_right, accepted_entered, one_within}
 use Rattle.scale_base.specs.declared.fragments.Mark.TheVariants.{Switch, Exit}
-use Rattle.scale_sites.specs.Marks.{leaves_any, holds_left, is_outermost, mark_if, exits_from, switch_of, IsIn, AreLoops, AreDistinct}
+use Rattle.scale_sites.specs.Marks.{leaves_any, holds_left, is_outermost, mark_if, exits_from, switch_of, IsListedLoop, AreLoopsOnce, AreDistinct}
 
 leaves-inside : (l : Loops) (k u : ℕ) (p : Option ℕ) → leaves l k u p ≡ true → l.inside k u ≡ true
 leaves-inside l k u None h = let bad : ⊥ = cc in absurd bad
 leaves-inside l k u (Some v) h = and_left (l.inside k u) (not (l.inside k v)) h
 
 -- a loop that is left and stands in the list is held
-held : (g : Graph) (l : Loops) (e k j : ℕ) (js : List ℕ) → holds_left l (g.source e) (g.target e) k js ≡ true → IsIn j js → leaves l j (g.source e) (g.target e) ≡ true → l.inside k (l.header j) ≡ true
+held : (g : Graph) (l : Loops) (e k j : ℕ) (js : List ℕ) → holds_left l (g.source e) (g.target e) k js ≡ true → IsListedLoop j js → leaves l j (g.source e) (g.target e) ≡ true → l.inside k (l.header j) ≡ true
 held g l e k j [] h among left = absurd among
 held g l e k j (i ∷ is) h among left = ⊎_elim
     (λ same. subst (λ x. l.inside k (l.header x) ≡ true) (sym same)
@@ -23,8 +23,8 @@ held g l e k j (i ∷ is) h among left = ⊎_elim
     or-right true b h t = h
     or-right false b h t = let bad : ⊥ = cc in absurd bad
 
-module _ (g : Graph) (l : Loops) (extent : ℕ → ℕ → Bool) (prog : IsProgram g) (acc : AreAccepted g l extent) (counted : List ℕ) (loops : AreLoops l counted) where
-  pub outermost-one : (e j k : ℕ) → e < g.edges → IsIn j counted → IsIn k counted → is_outermost l (g.source e) (g.target e) j counted ≡ true → is_outermost l (g.source e) (g.target e) k counted ≡ true → j ≡ k
+module _ (g : Graph) (l : Loops) (extent : ℕ → ℕ → Bool) (prog : IsProgram g) (acc : AreAccepted g l extent) (counted : List ℕ) (loops : AreLoopsOnce l counted) where
+  pub outermost-one : (e j k : ℕ) → e < g.edges → IsListedLoop j counted → IsListedLoop k counted → is_outermost l (g.source e) (g.target e) j counted ≡ true → is_outermost l (g.source e) (g.target e) k counted ≡ true → j ≡ k
   outermost-one e j k lt in_j in_k out_j out_k =
       let left_j : leaves l j (g.source e) (g.target e) ≡ true = and_left _ _ out_j in
       let left_k : leaves l k (g.source e) (g.target e) ≡ true = and_left _ _ out_k in
@@ -41,11 +41,11 @@ module _ (g : Graph) (l : Loops) (extent : ℕ → ℕ → Bool) (prog : IsProgr
       (cases_eq j k)
 
   -- no exit where no loop of the list is the outermost
-  none-from : (e i : ℕ) (ks : List ℕ) → ((k : ℕ) → IsIn k ks → is_outermost l (g.source e) (g.target e) k counted ≡ false) → exits_from l (g.source e) (g.target e) counted i ks ≡ []
+  none-from : (e i : ℕ) (ks : List ℕ) → ((k : ℕ) → IsListedLoop k ks → is_outermost l (g.source e) (g.target e) k counted ≡ false) → exits_from l (g.source e) (g.target e) counted i ks ≡ []
   none-from e i [] none = refl
   none-from e i (k ∷ ks) none = ap (λ b. mark_if b (Exit i) ++ exits_from l (g.source e) (g.target e) counted (i + 1) ks) (none k (inl refl)) ∙ none-from e (i + 1) ks (λ j h. none j (inr h))
 
-  pub exits-one : (e i : ℕ) (ks : List ℕ) → e < g.edges → AreDistinct ks → ((k : ℕ) → IsIn k ks → IsIn k counted) → length (exits_from l (g.source e) (g.target e) counted i ks) ≤ 1
+  pub exits-one : (e i : ℕ) (ks : List ℕ) → e < g.edges → AreDistinct ks → ((k : ℕ) → IsListedLoop k ks → IsListedLoop k counted) → length (exits_from l (g.source e) (g.target e) counted i ks) ≤ 1
   exits-one e i [] lt distinct within = omega arith
   exits-one e i (k ∷ ks) lt (new, distinct) within = go (is_outermost l (g.source e) (g.target e) k counted) refl (exits-one e (i + 1) ks lt distinct (λ j h. within j (inr h)))
     where
@@ -55,8 +55,8 @@ module _ (g : Graph) (l : Loops) (extent : ℕ → ℕ → Bool) (prog : IsProgr
           let len : length (exits_from l (g.source e) (g.target e) counted (i + 1) ks) ≡ 0 = ap length none in
           omega arith
         where
-          other : (j : ℕ) → IsIn j ks → (b : Bool) → is_outermost l (g.source e) (g.target e) j counted ≡ b → is_outermost l (g.source e) (g.target e) j counted ≡ false
-          other j h true out = absurd (new (subst (λ x. IsIn x ks) (outermost-one e j k lt (within j (inr h)) (within k (inl refl)) out is) h))
+          other : (j : ℕ) → IsListedLoop j ks → (b : Bool) → is_outermost l (g.source e) (g.target e) j counted ≡ b → is_outermost l (g.source e) (g.target e) j counted ≡ false
+          other j h true out = absurd (new (subst (λ x. IsListedLoop x ks) (outermost-one e j k lt (within j (inr h)) (within k (inl refl)) out is) h))
           other j h false out = out
       go false is rest = rest
 

@@ -73,18 +73,18 @@ abbrev pub marks_of : Graph → Loops → List ℕ → Bool → ℕ → ℕ → 
 marks_of g l counted branch slack min_gain e = marks_at l counted branch slack min_gain (g.source e) (g.target e)
 
 -- a list of loops, each once
-abbrev pub IsIn : ℕ → List ℕ → Type 0
-IsIn k [] = ⊥
-IsIn k (j ∷ js) = (k ≡ j) ⊎ IsIn k js
+abbrev pub IsListedLoop : ℕ → List ℕ → Type 0
+IsListedLoop k [] = ⊥
+IsListedLoop k (j ∷ js) = (k ≡ j) ⊎ IsListedLoop k js
 
-abbrev pub AreLoops : Loops → List ℕ → Type 0
-AreLoops l ks = (k : ℕ) → IsIn k ks → k < l.loops
+abbrev pub AreLoopsOnce : Loops → List ℕ → Type 0
+AreLoopsOnce l ks = (k : ℕ) → IsListedLoop k ks → k < l.loops
 
 abbrev pub AreDistinct : List ℕ → Type 0
 AreDistinct [] = Unit {0}
-AreDistinct (k ∷ ks) = (IsIn k ks → ⊥) × AreDistinct ks
+AreDistinct (k ∷ ks) = (IsListedLoop k ks → ⊥) × AreDistinct ks
 
 -- The law: on accepted loops at most one mark of an edge is a switch.
 abbrev pub SwitchesOnce : Type 0
-SwitchesOnce = (g : Graph) (l : Loops) (extent : ℕ → ℕ → Bool) (counted : List ℕ) → IsProgram g → AreAccepted g l extent → AreLoops l counted → AreDistinct counted
+SwitchesOnce = (g : Graph) (l : Loops) (extent : ℕ → ℕ → Bool) (counted : List ℕ) → IsProgram g → AreAccepted g l extent → AreLoopsOnce l counted → AreDistinct counted
     → (e : ℕ) (branch : Bool) (slack min_gain i : ℕ) → e < g.edges → length (switch_of l (g.source e) (g.target e) counted branch slack min_gain ++ exits_from l (g.source e) (g.target e) counted i counted) ≤ 1

@@ -2,8 +2,8 @@
 use Rattle.std.proofs.Common.{◌≡◌, ℕ, ◌≤◌, List, [], ◌∷◌, refl, arith, Bool, true, false, cond}
 use Rattle.std.specs.Prelude.{Option, Some, None, IfSome, option_map, option_and_then, nat_le, ◌&&◌, bytes_eq, codes}
 use Rattle.std.proofs.lemmas.Bool.Decides.{nat_tests}
-use Rattle.scale_tool.specs.Command.{Command, Help, Hold, Rewrite, Report, Simulate, Make, command_of, help_of, hold_of, rewrite_of, report_of, simulate_of, make_of}
-use Rattle.scale_tool.specs.Numbers.{number_within, number_of}
+use Rattle.scale_tool.specs.Command.{Command, Help, Hold, Rewrite, Report, Simulate, Make, command_of, help_of, hold_of, rewrite_of, report_words, simulate_of, make_of}
+use Rattle.scale_tool.specs.Numbers.{digits_within, digits_number}
 
 abbrev pub HasSize : Command → Type 0
 HasSize Help = Unit {0}
@@ -26,8 +26,8 @@ limited : (low high : ℕ) (o : Option ℕ) → IfSome (option_and_then (λ n. c
 limited low high None = tt
 limited low high (Some n) = limited_here low high n
 
-number_limited : (most low high : ℕ) (word : List ℕ) → IfSome (number_within most low high word) (λ n. n ≤ high)
-number_limited most low high word = limited low high (number_of most word)
+number_limited : (most low high : ℕ) (word : List ℕ) → IfSome (digits_within most low high word) (λ n. n ≤ high)
+number_limited most low high word = limited low high (digits_number most word)
 
 make_with : (n : ℕ) (prefix : List ℕ) (o : Option ℕ) → IfSome o (λ s. s ≤ 2000) → IfSome (option_map (λ s. Make n s prefix) o) HasSize
 make_with n prefix None h = tt
@@ -39,7 +39,7 @@ make_of_numbers prefix (Some n) size h = make_with n prefix size h
 
 made_size : (words : List (List ℕ)) → IfSome (make_of words) HasSize
 made_size (number ∷ size ∷ prefix ∷ []) =
-    make_of_numbers prefix (number_within 20 0 18446744073709551615 number) (number_within 4 1 2000 size) (number_limited 4 1 2000 size)
+    make_of_numbers prefix (digits_within 20 0 18446744073709551615 number) (digits_within 4 1 2000 size) (number_limited 4 1 2000 size)
 made_size words = tt
 
 helped_size : (words : List (List ℕ)) → IfSome (help_of words) HasSize
@@ -54,7 +54,7 @@ rewritten_size : (words : List (List ℕ)) → IfSome (rewrite_of words) HasSize
 rewritten_size (image ∷ machine ∷ loops ∷ out ∷ []) = tt
 rewritten_size words = tt
 
-reported_size : (words : List (List ℕ)) → IfSome (report_of words) HasSize
+reported_size : (words : List (List ℕ)) → IfSome (report_words words) HasSize
 reported_size (image ∷ machine ∷ loops ∷ []) = tt
 reported_size words = tt
 

@@ -1,7 +1,7 @@
 -- The commands: their words, what each loads, and the statuses that it may answer.
 use Rattle.std.specs.Prelude.{ℕ, List, [], ◌∷◌, map, Option, Some, None, if◌then◌else◌, bytes_eq, codes, String, string_bytes, option_and_then, option_map, Bool, true, false, ◌==◌, ◌||◌, ◌&&◌, nat_le}
 use Rattle.std.specs.declared.alloc.Global.{Global}
-use Rattle.scale_tool.specs.Numbers.{number_within}
+use Rattle.scale_tool.specs.Numbers.{digits_within}
 
 pub data Command : Type 0 where
   Help : Command
@@ -27,9 +27,9 @@ abbrev pub rewrite_of : List (List ℕ) → Option Command
 rewrite_of (image ∷ machine ∷ loops ∷ out ∷ []) = Some (Rewrite image machine loops out)
 rewrite_of words = None
 
-abbrev pub report_of : List (List ℕ) → Option Command
-report_of (image ∷ machine ∷ loops ∷ []) = Some (Report image machine loops)
-report_of words = None
+abbrev pub report_words : List (List ℕ) → Option Command
+report_words (image ∷ machine ∷ loops ∷ []) = Some (Report image machine loops)
+report_words words = None
 
 abbrev pub simulate_of : List (List ℕ) → Option Command
 simulate_of (image ∷ machine ∷ input ∷ out ∷ []) = Some (Simulate image machine input out None)
@@ -39,7 +39,7 @@ simulate_of words = None
 -- a program's number has up to 20 digits and 64 bits; its size has up to 4 digits, and is 1 to 2,000
 abbrev pub make_of : List (List ℕ) → Option Command
 make_of (number ∷ size ∷ prefix ∷ []) =
-    option_and_then (λ n. option_map (λ s. Make n s prefix) (number_within 4 1 2000 size)) (number_within 20 0 18446744073709551615 number)
+    option_and_then (λ n. option_map (λ s. Make n s prefix) (digits_within 4 1 2000 size)) (digits_within 20 0 18446744073709551615 number)
 make_of words = None
 
 -- the command that these words are, if they are one
@@ -49,7 +49,7 @@ command_of (word ∷ words) =
     if bytes_eq word (codes "help") then help_of words
     else if bytes_eq word (codes "hold") then hold_of words
     else if bytes_eq word (codes "rewrite") then rewrite_of words
-    else if bytes_eq word (codes "report") then report_of words
+    else if bytes_eq word (codes "report") then report_words words
     else if bytes_eq word (codes "simulate") then simulate_of words
     else if bytes_eq word (codes "make") then make_of words
     else None

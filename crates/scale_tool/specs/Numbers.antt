@@ -11,10 +11,10 @@ abbrev pub digits_value : List ℕ → ℕ
 digits_value digits = fold (λ value digit. value * 10 + (digit - 48)) 0 digits
 
 -- the number that a word of decimal digits writes, from one digit up to so many
-abbrev pub number_of : ℕ → List ℕ → Option ℕ
-number_of most word =
+abbrev pub digits_number : ℕ → List ℕ → Option ℕ
+digits_number most word =
     if (nat_le 1 (length word) && nat_le (length word) most) && list_all is_digit word then Some (digits_value word) else None
 
 -- the same, where the number is at least low and at most high
-abbrev pub number_within : (most low high : ℕ) → List ℕ → Option ℕ
-number_within most low high word = option_and_then (λ n. if nat_le low n && nat_le n high then Some n else None) (number_of most word)
+abbrev pub digits_within : (most low high : ℕ) → List ℕ → Option ℕ
+digits_within most low high word = option_and_then (λ n. if nat_le low n && nat_le n high then Some n else None) (digits_number most word)

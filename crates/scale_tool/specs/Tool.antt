@@ -39,16 +39,16 @@ abbrev pub IsCutShort : Stores → List ℕ → HostState → HostState → Type
 IsCutShort stores text old new = FailedInStore stores old new ⊎ FailedInPrint stores text old new
 
 -- the bytes that stores take: of their names and of what they hold
-abbrev pub bytes_of : Stores → ℕ
-bytes_of stores = sum_by (λ store. length store.0 + length store.1) stores
+abbrev pub bytes_of_stores : Stores → ℕ
+bytes_of_stores stores = sum_by (λ store. length store.0 + length store.1) stores
 
 -- what is left after stores
 abbrev pub stores_spent : Stores → Room → Room
-stores_spent stores room = record { stores = room.stores - length stores; bytes = room.bytes - bytes_of stores }
+stores_spent stores room = record { stores = room.stores - length stores; bytes = room.bytes - bytes_of_stores stores }
 
 -- a steady host has room for these stores and this text
 abbrev pub HasRoom : Option Room → Stores → ℕ → Type 0
-HasRoom room stores text = IsSomeAnd room (λ left. (length stores ≤ left.stores) × (bytes_of stores + text ≤ left.bytes))
+HasRoom room stores text = IsSomeAnd room (λ left. (length stores ≤ left.stores) × (bytes_of_stores stores + text ≤ left.bytes))
 
 -- each file that the command loads is there, up to the first that is too long
 abbrev pub HasFiles : Option Command → Files → Type 0

@@ -1,7 +1,7 @@
 //! The words of a command line.
 
 ghost use Rattle.std.specs.Prelude.{◌≡◌, IfOk, option_map};
-ghost use Rattle.scale_tool.specs.Command.{command_of, help_of, hold_of, rewrite_of, report_of, simulate_of, make_of, texts, wants_of};
+ghost use Rattle.scale_tool.specs.Command.{command_of, help_of, hold_of, rewrite_of, report_words, simulate_of, make_of, texts, wants_of};
 ghost use Rattle.scale_tool.specs.Views.{command_view, work_view, want_views};
 
 use crate::load_all::Want;
@@ -110,7 +110,7 @@ fn parse_rewrite(words: &[String]) -> Option<Command<'_>>
 }
 
 fn parse_report(words: &[String]) -> Option<Command<'_>>
-    ensures { option_map command_view result ≡ report_of (texts words.now) }
+    ensures { option_map command_view result ≡ report_words (texts words.now) }
 {
     match words {
         [image, machine, loops] => Some(Command::Work(Work::Report {

@@ -4,7 +4,7 @@ ghost use Rattle.std.specs.Prelude.{◌≡◌, ◌≤◌, length, None, IfSome, 
 ghost use Rattle.host_files.specs.HostState.{IsUntouched};
 ghost use Rattle.host_files.specs.Host.{count_if, is_failed};
 ghost use Rattle.scale_tool.specs.Loading.{loading_of, Missing};
-ghost use Rattle.scale_tool.specs.Loaded.{LoadsAs, AreWithin};
+ghost use Rattle.scale_tool.specs.Loaded.{LoadsAs, AreLoadedWithin};
 ghost use Rattle.scale_tool.specs.Views.{want_views};
 
 use host_files::{Host, HostError, Loaded};
@@ -31,7 +31,7 @@ pub fn load_all<H: Host>(
     wants: &[Want<'_>],
 ) -> Result<AllLoaded, HostError>
     ensures told { IfSome (H.state host.old).files (λ files. LoadsAs (want_views wants.now) (loading_of (want_views wants.now) files) result) }
-    ensures within { IfOk result (AreWithin (want_views wants.now)) }
+    ensures within { IfOk result (AreLoadedWithin (want_views wants.now)) }
     ensures untouched { IsUntouched (H.state host.old) (H.state host.new) }
     ensures faults { (H.state host.new).faults ≡ count_if (is_failed result) (H.state host.old).faults }
     ensures steady { IfErr result (λ error. error ≡ HostError.Failed → IsSome (H.state host.old).room → IfSome (H.state host.old).files (λ files. loading_of (want_views wants.now) files ≡ Missing)) }

@@ -4,7 +4,7 @@ ghost use Rattle.std.specs.Prelude.{◌≡◌, ◌≤◌, length, option_map, Al
 ghost use Rattle.std.specs.List.{AllZip};
 ghost use Rattle.std.specs.Result.{ForOk};
 ghost use Rattle.power_model.specs.Report.{report_view};
-ghost use Rattle.scale_report.specs.Texts.{IsSite};
+ghost use Rattle.scale_report.specs.Texts.{HasSiteLine};
 ghost use Rattle.scaler.specs.Held.{IsHeld};
 ghost use Rattle.scaler.specs.Rewritten.{IsRewritten};
 ghost use Rattle.scale_tool.specs.Answer.{plan_answer, refused, run_answer, run_status, stored_answer, MakesMade, MakesReport, MakesRun, MakesStored, Makes};
@@ -117,7 +117,7 @@ impl Reply {
 
     // All that a rewriting finds, or the refusal.
     fn planned(alloc: Global, given: Result<ScalePlan, Stop>) -> Result<Reply, NoMemory>
-        requires { ForOk given (λ plan. All (λ line. IsSite line.edge.kind) plan.lines.items) }
+        requires { ForOk given (λ plan. All (λ line. HasSiteLine line.edge.kind) plan.lines.items) }
         ensures { IfOk result (λ reply. option_map plan_answer (plan_view given) ≡ Some (reply_view reply)) }
     {
         match given {

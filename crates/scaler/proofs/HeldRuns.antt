@@ -10,7 +10,7 @@ use Rattle.scale_base.specs.Run.{Run, run, run_of, setting_of, start_of, start, 
 use Rattle.text_laws.proofs.Laws.{found_passes}
 use Rattle.run_laws.specs.Keys.{setting, with_empty_key, with_window, run_with_window}
 use Rattle.run_laws.proofs.Laws.{run_same, run_without_port}
-use Rattle.power_model.specs.Numbers.{PowerModel, Numbers}
+use Rattle.power_model.specs.Numbers.{PowerModel, RunPrice}
 use Rattle.power_model.specs.Price.{price, step_cycles, time_at}
 use Rattle.power_model.specs.Slowest.{slowest_of, is_in_time}
 use Rattle.power_model.proofs.Laws.{cycles-price, held-price}
@@ -82,7 +82,7 @@ printed power file image held base level worst input m none h slow below =
     let time : time_at power level paid.cycles ≤ time_at power level worst = times_more paid.cycles worst (Rattle.power_model.specs.Levels.level power.levels level).period less in
     let in_time : time_at power level worst ≤ power.deadline = found_in_time power worst level slow in
     let all : IsAsPrinted power (held_summary power worst level) paid = record { cycles = less; time = omega (arith, one.time, time); in_time = in_time; at_start = one } in
-    let P : Numbers → Type 0 = λ q. IsAsPrinted power (held_summary power worst level) q in
+    let P : RunPrice → Type 0 = λ q. IsAsPrinted power (held_summary power worst level) q in
     subst P (sym e) all
   where
     times_more : (a b p : ℕ) → a ≤ b → a * p ≤ b * p

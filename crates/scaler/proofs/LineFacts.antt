@@ -15,7 +15,7 @@ use Rattle.power_model.specs.Numbers.{PowerModel}
 use Rattle.toml.specs.Data.{Members}
 use Rattle.table_keys.specs.Keys.{document_of, or_refuse, none_or_refuse, least_unknown, ◌>>=◌}
 use Rattle.loop_file.specs.declared.notes.LoopNote.{LoopNote}
-use Rattle.loop_file.specs.Loops.{read_loops, notes_of, note_of, notes_from, few_loops, version_of, file_keys, loop_tables}
+use Rattle.loop_file.specs.Loops.{read_loops, notes_of, note_of, notes_from, few_loops, loop_version, file_keys, loop_tables}
 use Rattle.cost_theory.specs.declared.edges.Edge.{Edge}
 use Rattle.cost_theory.specs.declared.edges.EdgeKind.TheVariants.{End}
 use Rattle.cost_theory.specs.Graph.{Loops}
@@ -32,7 +32,7 @@ use Rattle.scale_sites.specs.Sites.{is_branch, marks_at_edge}
 use Rattle.rewritten_runs.specs.Stubs.{marks_by_slack, plain_weights, fragment_of, loop_of}
 use Rattle.rewritten_runs.proofs.Laws.{IsCounter, IsMarkOf, marks_are}
 use Rattle.scaler.specs.declared.stubs.Marking.{Marking}
-use Rattle.scaler.specs.Markings.{IsMarking, IsCounterOf, IsOfLoop}
+use Rattle.scaler.specs.Markings.{IsMarking, IsLoopCounter, IsOfLoop}
 use Rattle.scaler.specs.Planned.{loop_number, line_of, lines_from}
 use Rattle.scaler.proofs.MarkingLaws.{counted_loop, get_some, map_take_more, step_is}
 
@@ -84,7 +84,7 @@ lines_more counted fragments edges e lines new lt before pushed = go (slice_get 
 
 -- ---- the loops of counters
 
-counter_holds : (counted : List ℕ) (c : ℕ) (P : ℕ → Type 0) → IsCounter counted c P → ((place loop : ℕ) → slice_get counted place ≡ Some loop → loop < 4096) → IsCounterOf counted c
+counter_holds : (counted : List ℕ) (c : ℕ) (P : ℕ → Type 0) → IsCounter counted c P → ((place loop : ℕ) → slice_get counted place ≡ Some loop → loop < 4096) → IsLoopCounter counted c
 counter_holds counted c P h small =
     let is = h.is in
     let within = slice_get_within counted h.place h.loop h.get in
@@ -137,7 +137,7 @@ few_noted : (image : Image) (bytes : List ℕ) (notes : List LoopNote) → read_
 unfolding read_loops notes_of
 few_noted image bytes notes e =
     let one = bind_ok (or_refuse LoopText (document_of bytes)) _ notes e in
-    let two = bind_ok (version_of one.0) _ notes one.2 in
+    let two = bind_ok (loop_version one.0) _ notes one.2 in
     let three = bind_ok (none_or_refuse (LoopKey 0) (least_unknown file_keys one.0)) _ notes two.2 in
     let four = bind_ok (loop_tables one.0) _ notes three.2 in
     let five = bind_ok (few_loops four.0) _ notes four.2 in

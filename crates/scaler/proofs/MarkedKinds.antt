@@ -35,7 +35,7 @@ use Rattle.loop_tree.specs.Tree.{LoopView, loops, IsInnermost}
 use Rattle.scale_base.specs.declared.fragments.Mark.{Mark}
 use Rattle.scale_base.specs.declared.fragments.Mark.TheVariants as marks
 use Rattle.scale_sites.specs.Counters.{counted_loops, goes_on, edge_goes_on, IsUncountable}
-use Rattle.scale_sites.specs.Marks.{AreLoops}
+use Rattle.scale_sites.specs.Marks.{AreLoopsOnce}
 use Rattle.scale_sites.specs.Sites.{is_branch, is_branch_kind, edge_branches}
 use Rattle.rewritten_runs.specs.Stubs.{IsWeighed, marks_by_slack, told_at, fragment_of, fragments_at, loop_of}
 use Rattle.scaler.specs.Planned.{IsSitesKind}
@@ -275,7 +275,7 @@ module _ (power : PowerModel) (image : Image) (notes : List LoopNote) (v : FlowG
   innermost_of u None h = inl (refl, h)
   innermost_of u (Some j) h = inr (j, h.0, h.1, λ k w kl on there. h.2 k w kl on there)
 
-  are_loops : AreLoops l (counted_loops tree)
+  are_loops : AreLoopsOnce l (counted_loops tree)
   are_loops k h = let at = in_get k (counted_loops tree) h in (counted_is power image notes v tree plain stored weighed at.0 k at.1).loop
 
   few : (e : ℕ) → e < length v.code.edges → length (marks_by_slack power image v tree plain e) ≤ 17

@@ -19,9 +19,9 @@ use Rattle.power_model.specs.Slowest.{slowest_of}
 use Rattle.cost_theory.specs.Accepted.{AreWeights}
 use Rattle.cost_theory.specs.Graph.{Graph, Loops, only, sum_below, is_back, is_header}
 use Rattle.cost_theory.specs.Laws.{IsAnalyzed}
-use Rattle.call_orders.specs.Arcs.{number_at}
+use Rattle.call_orders.specs.Arcs.{number_in_place}
 use Rattle.least_laws.specs.Charged.{AreCharged}
-use Rattle.least_cycles.specs.Found.{LeastView, IsInRange, IsLeastOf, AreSmallLeast, HoldsLeast}
+use Rattle.least_cycles.specs.Found.{LeastView, HasWorstInRange, IsLeastOf, AreSmallLeast, HoldsLeast}
 use Rattle.cost_theory.specs.Worst.{Numbers, AreNumbers, cost, turn_back, slack, rest}
 use Rattle.cost_theory.proofs.Laws.{sum-none, headers-distinct, accepted_entered, left-worst, turns-worst, call_order, plain_order, iteration-worst, rest-worst}
 use Rattle.cost_theory.proofs.Laws as theory
@@ -40,7 +40,7 @@ use Rattle.rewritten_runs.specs.Stubs.{IsWeighed, marks_by_slack, plain_weights,
 use Rattle.rewritten_runs.proofs.Laws.{stored_are_weights, worst_grows, listed_weights, weights_listed, weights_count}
 use Rattle.scaler.specs.declared.stubs.Marking.{Marking}
 use Rattle.scaler.specs.Markings.{IsMarking}
-use Rattle.scaler.specs.Scalings.{HasMarks, AreSitesFound, IsMarkedAt, IsMarkingFound, starting_level, starting_of}
+use Rattle.scaler.specs.Scalings.{HasMarks, AreSitesFound, IsMarkedAt, IsMarkingFound, chosen_level, starting_of}
 use Rattle.scaler.proofs.ExtraFacts.{past_end}
 
 -- ---- of what holds once at most
@@ -208,7 +208,7 @@ module _ (power : PowerModel) (image : Image) (notes : List LoopNote) (v : FlowG
       short : n.worst 0 ≤ 281474976710656
       short = let e = get_or_from_slice_get x.worst 0 (n.worst 0) 0 here in let s = found.small in omega (arith, e, s)
 
-      pub least_in_range : IsInRange v (loops v t) (number_at ws)
+      pub least_in_range : HasWorstInRange v (loops v t) (number_in_place ws)
       least_in_range = (n, found.numbers.1, short)
 
       late_by : (o : Option ℕ) → slowest_of power total ≡ o → (refusal : Refusal) → Err refusal ≡ starting_of power total o → IsMarkingFound power image v t (Err refusal)
@@ -216,7 +216,7 @@ module _ (power : PowerModel) (image : Image) (notes : List LoopNote) (v : FlowG
           (plain, n, record { plain_are = plain_are; stored_are = are; why = inr (short, subst (λ k. slowest_of power k ≡ None) total_worst slow, (let q : refusal ≡ Rattle.scale_base.specs.declared.refusal.Refusal.TheVariants.DeadlineMissed (Rattle.power_model.specs.Price.time_at power (Rattle.power_model.specs.Slowest.fastest power) total) power.deadline = cc in subst (λ k. refusal ≡ Rattle.scale_base.specs.declared.refusal.Refusal.TheVariants.DeadlineMissed (Rattle.power_model.specs.Price.time_at power (Rattle.power_model.specs.Slowest.fastest power) k) power.deadline) total_worst q)) })
       late_by (Some start) slow refusal e = let never : ⊥ = cc in absurd never
 
-      pub late : (refusal : Refusal) → Err refusal ≡ starting_level power total → IsMarkingFound power image v t (Err refusal)
+      pub late : (refusal : Refusal) → Err refusal ≡ chosen_level power total → IsMarkingFound power image v t (Err refusal)
       late refusal e = late_by (slowest_of power total) refl refusal e
 
       slow_by : (o : Option ℕ) → slowest_of power total ≡ o → (start : ℕ) → Ok start ≡ starting_of power total o → slowest_of power (n.worst 0) ≡ Some start
@@ -226,7 +226,7 @@ module _ (power : PowerModel) (image : Image) (notes : List LoopNote) (v : FlowG
       analyzed : IsAnalyzed (graph v) (loops v t) (noted_loops notes).inside w n
       analyzed = record { program = is.flow.program; accepted = tree.tree.accepted; weights = calls_alike plain plain_are; numbers = are }
 
-      pub marking_found : (start : ℕ) → Ok start ≡ starting_level power total → HasLeftSizes v x → IsLeftOf v (loops v t) (by_edge ws) x → (counted : List ℕ) → counted ≡ counted_loops t → (ends : LeastView) → IsLeastOf v (loops v t) (number_at ws) ends → AreSmallLeast v ends
+      pub marking_found : (start : ℕ) → Ok start ≡ chosen_level power total → HasLeftSizes v x → IsLeftOf v (loops v t) (by_edge ws) x → (counted : List ℕ) → counted ≡ counted_loops t → (ends : LeastView) → IsLeastOf v (loops v t) (number_in_place ws) ends → AreSmallLeast v ends
           → (m : Marking) → m ≡ record { counters = counted; sites = s; worst = x; least = ends } → IsMarkingFound power image v t (Ok (m, start))
       marking_found start started sizes left counted counted_is ends found_least ends_small m m_is =
           (plain, n, found_least.0, subst (λ (q : Marking). IsMarkedAt power image v t plain n found_least.0 q start) (sym m_is) whole)

@@ -15,7 +15,7 @@ use Rattle.loop_tree.specs.Tree.{LoopView, loops, IsLoopTree}
 use Rattle.scale_base.specs.declared.fragments.Mark.{Mark}
 use Rattle.scale_base.specs.declared.fragments.Mark.TheVariants as marks
 use Rattle.scale_sites.specs.Counters.{counted_loops}
-use Rattle.scale_sites.specs.Marks.{first_counter, is_outermost, switch_of, exits_from, resets_from, counts_from, AreLoops}
+use Rattle.scale_sites.specs.Marks.{first_counter, is_outermost, switch_of, exits_from, resets_from, counts_from, AreLoopsOnce}
 use Rattle.scale_sites.specs.Sites.{is_branch, marks_at_edge}
 use Rattle.scale_sites.specs.Weights.{switches}
 use Rattle.scale_sites.proofs.Laws.{switches-one}
@@ -67,7 +67,7 @@ module _ (power : PowerModel) (image : Image) (v : FlowGraph) (t : LoopView) (pl
   abbrev at_slack : ℕ → ℕ
   at_slack e = slack_at (graph v) (loops v t) (plain_weights power image v) plain e
 
-  loops_are : AreLoops (loops v t) (counted_loops t)
+  loops_are : AreLoopsOnce (loops v t) (counted_loops t)
   loops_are k h =
       let at = in_get k (counted_loops t) h in
       let lt = counted_loop v t is.tree.0 at.0 k is.tree.1 at.1 in

@@ -14,8 +14,8 @@ use Rattle.rewritten_runs.specs.Stubs.{rewritten_file as stored_bytes, marks_by_
 use Rattle.scaler.specs.declared.rewriting.Scaling.{Scaling}
 use Rattle.scaler.specs.declared.rewriting.Program.{Program}
 use Rattle.scaler.specs.Held.{Then, unscaled}
-use Rattle.scaler.specs.Rewritten.{IsRewritten, IsRewrittenProgram, rewritten_summary, unless_far}
-use Rattle.scaler.specs.Scalings.{IsScaled, IsProgramOf}
+use Rattle.scaler.specs.Rewritten.{IsRewritten, IsRewrittenProgram, rewritten_summary, unless_out_of_reach}
+use Rattle.scaler.specs.Scalings.{IsScaled, IsProgramFrom}
 use Rattle.scaler.proofs.Bases.{file_is}
 
 then_is : {X Y : Type 0} (part : Result X Refusal) (x : X) (next : X → Result Y Refusal → Type 0) (answer : Result Y Refusal) → part ≡ Ok x → next x answer → Then part next answer
@@ -28,7 +28,7 @@ unfolding IsRewritten
 files_answer image machine loops power original notes answer a b c d h =
     then_is (read_machine machine) power _ answer a (then_is (image_of image) original _ answer b (then_is (unscaled original.keyed_segment) tt _ answer c (then_is (read_loops original loops) notes _ answer d h)))
 
-near_by : (o : Option ℕ) (given made : List ℕ × Summary) → o ≡ None → given ≡ made → Ok given ≡ unless_far o made
+near_by : (o : Option ℕ) (given made : List ℕ × Summary) → o ≡ None → given ≡ made → Ok given ≡ unless_out_of_reach o made
 near_by None given made near same = cc
 near_by (Some at) given made near same = let never : ⊥ = cc in absurd never
 
@@ -65,6 +65,6 @@ pub read_again : (file : List ℕ) (image : Image) → image_of file ≡ Ok imag
 read_again file image e = ap image_of (file_is file image e) ∙ e
 
 -- the file of its stubs, and its summary, are what is given for the files
-pub files_given : (image machine loops : List ℕ) (p : Program) (bytes : List ℕ) → IsProgramOf image machine loops p → bytes ≡ stored_bytes p.view (map site_of p.scaling.stubs.items) p.scaling.base p.scaling.summary.start
+pub files_given : (image machine loops : List ℕ) (p : Program) (bytes : List ℕ) → IsProgramFrom image machine loops p → bytes ≡ stored_bytes p.view (map site_of p.scaling.stubs.items) p.scaling.base p.scaling.summary.start
     → IsRewritten image machine loops (Ok ((bytes, p.scaling.summary)))
 files_given image machine loops p bytes h e = files_answer image machine loops p.power p.view h.notes (Ok ((bytes, p.scaling.summary))) h.power_is h.view_is h.unscaled h.notes_are (program_given p.power p.view h.notes p.scaling bytes h.scaled e)

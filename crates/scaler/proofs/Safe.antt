@@ -31,7 +31,7 @@ use Rattle.loop_file.specs.declared.notes.LoopNote.{LoopNote}
 use Rattle.loop_file.specs.Loops.{read_loops}
 use Rattle.loop_file.specs.Kept.{noted_loops, IsKeptUpTo}
 use Rattle.scaler.specs.Held.{IsHeld, IsProgramHeld, IsHeldProgram, Then, held_at, held_from, held_file, held_summary, unscaled}
-use Rattle.scaler.specs.Runs.{IsHeldSafely, KeptAsPrinted, KeptRunsEnd}
+use Rattle.scaler.specs.Runs.{IsHeldSafely, KeptAsPrinted, KeptRunsEndAsPrinted}
 use Rattle.scaler.proofs.Bases.{file_is}
 use Rattle.scaler.proofs.HeldRuns.{runs_alike, printed}
 use Rattle.rewritten_runs.proofs.Laws.{kept_by_tree, program_of}
@@ -149,10 +149,10 @@ safe image machine loops stored summary short _ _ h =
     n k.carried (carried input n k.carried k.kept) in
     let kept : KeptAsPrinted power original notes held (held_summary power worst level) = λ input n k.
     printed power image original held base level worst input n went.no_key lawful started.slow (below input n k) in
-    let ends : KeptRunsEnd power original notes held (held_summary power worst level) = λ input n k goes.
+    let ends : KeptRunsEndAsPrinted power original notes held (held_summary power worst level) = λ input n k goes.
     image_runs_end image original levels input p.code.code (tree_loops p.code p.tree) (noted_loops notes).inside (cycles_of power.costs) p.numbers went.original_is program p.numbers_are
     (each_positive power.costs model.costs) n k.carried (carried input n k.carried k.kept) (sym (alike input n).standing ∙ goes) in
-    let P : Summary → Type 0 = λ s. KeptAsPrinted power original notes held s × KeptRunsEnd power original notes held s in
+    let P : Summary → Type 0 = λ s. KeptAsPrinted power original notes held s × KeptRunsEndAsPrinted power original notes held s in
     let both : P summary = subst P (sym numbers) (kept, ends) in
     record {
       power = power;

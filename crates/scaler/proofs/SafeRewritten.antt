@@ -19,7 +19,7 @@ use Rattle.rewritten_runs.specs.Promise.{KeepsThePromise}
 use Rattle.rewritten_runs.specs.Followed.{FollowsInTime}
 use Rattle.rewritten_runs.proofs.Laws.{rewritten_follow}
 use Rattle.scaler.specs.Held.{unscaled}
-use Rattle.scaler.specs.Rewritten.{IsRewritten, IsRewrittenProgram, IsProgramRewritten, rewritten_summary, unless_far}
+use Rattle.scaler.specs.Rewritten.{IsRewritten, IsRewrittenProgram, IsProgramRewritten, rewritten_summary, unless_out_of_reach}
 use Rattle.scaler.specs.RewrittenRuns.{IsRewrittenSafely}
 use Rattle.scaler.proofs.HeldRuns.{found_in_time}
 use Rattle.scaler.proofs.Safe.{then_ok, is_unscaled}
@@ -68,7 +68,7 @@ record IsNear (o : Option ℕ) (given made : List ℕ × Summary) : Type 0 where
   near : o ≡ None
   same : given ≡ made
 
-near_of : (o : Option ℕ) (given made : List ℕ × Summary) → Ok given ≡ unless_far o made → IsNear o given made
+near_of : (o : Option ℕ) (given made : List ℕ × Summary) → Ok given ≡ unless_out_of_reach o made → IsNear o given made
 near_of None given made e = record { near = refl; same = cc }
 near_of (Some at) given made e = absurd cc
 

@@ -26,18 +26,18 @@ use Rattle.scale_sites.specs.Counters.{AreCounters, counted_loops}
 use Rattle.scale_sites.specs.Sites.{marks_at_edge}
 use Rattle.stub_writer.specs.declared.site.StubBlock.{StubBlock}
 use Rattle.stub_writer.specs.declared.site.StubSite.{StubSite}
-use Rattle.stub_writer.specs.Block.{Block, block_view, block_of, unless_far as block_unless_far}
+use Rattle.stub_writer.specs.Block.{Block, block_view, block_of, unless_out_of_reach as block_unless_far}
 use Rattle.stub_writer.specs.Sites.{site_of}
 use Rattle.stub_writer.specs.Stubs.{Site, block_size, block_bytes, patches_from, out_of_reach, stub_len}
 use Rattle.stored_runs.specs.Stubbed.{AreAscending}
-use Rattle.rewritten_runs.specs.Stubs.{IsWeighed, HasStubs, marks_by_slack, edges_with, is_switch, is_exit, is_count}
+use Rattle.rewritten_runs.specs.Stubs.{IsWeighed, HasStubs, marks_by_slack, edges_with, is_switch, is_exit_mark, is_count}
 use Rattle.rewritten_runs.proofs.Laws.{block_bytes_len, storable}
 use Rattle.stored_laws.specs.StoredView.{IsStorable}
 use Rattle.scaler.specs.declared.rewriting.Marked.{Marked}
 use Rattle.scaler.specs.declared.rewriting.Scaling.{Scaling}
 use Rattle.scaler.specs.declared.stubs.Marking.{Marking}
-use Rattle.scaler.specs.Rewritten.{IsRewrittenProgram, rewritten_summary, unless_far}
-use Rattle.scaler.specs.Scalings.{IsMarkedAt, IsMarkingFound, IsUnfit, IsExtraFound, IsInRange, AreStubsOf, IsBlockGiven, IsMarkedProgram, IsScaled, IsScalingFound, IsMarkedFound, HasMarks, AreStubsFound}
+use Rattle.scaler.specs.Rewritten.{IsRewrittenProgram, rewritten_summary, unless_out_of_reach}
+use Rattle.scaler.specs.Scalings.{IsMarkedAt, IsMarkingFound, IsUnfitScaling, IsExtraFound, IsInRange, AreStubsOf, IsBlockGiven, IsMarkedProgram, IsScaled, IsScalingFound, IsMarkedFound, HasMarks, AreStubsFound}
 use Rattle.scaler.proofs.Safe.{found_below}
 
 -- ---- stops
@@ -56,7 +56,7 @@ pub counted_as : (v : FlowGraph) (t : LoopView) (counted : List ℕ) → AreCoun
 counted_as v t counted h = (h.0, refl, subst (λ (l : List ℕ). length l ≤ 509) h.1 h.2)
 
 module _ (power : PowerModel) (image : Image) (notes : List LoopNote) (v : FlowGraph) (t : LoopView) (is : IsGraphOf (text_of image) v) (tree : IsTreeOf v notes t) (counts : AreCounters v t (Ok (counted_loops t))) where
-  unfit : (refusal : Refusal) (plain stored : Numbers) → IsUnfit power image v t plain stored refusal → IsRewrittenProgram power image notes (Err refusal)
+  unfit : (refusal : Refusal) (plain stored : Numbers) → IsUnfitScaling power image v t plain stored refusal → IsRewrittenProgram power image notes (Err refusal)
   unfit refusal plain stored u =
       let weighed : IsWeighed power image notes v t plain stored = record { code_is = is; tree_is = tree; counters = counts; plain_are = u.plain_are; stored_are = u.stored_are } in
       ⊎_elim
@@ -124,7 +124,7 @@ module _ (power : PowerModel) (image : Image) (notes : List LoopNote) (v : FlowG
       has_stubs : (base : ℕ) → IsStubBase image (min (block_size (map site_of stubs)) 4194304) base → HasStubs power image v t plain stored extra least (map site_of stubs) base
       has_stubs base b = record { least_are = at.least_are; extra_are = (extra_is image plain at.marks).1; sites_are = are.are; base_is = b }
 
-      far_by : (o : Option ℕ) (block : Block) (given : List ℕ × Summary) (refusal : Refusal) → block_unless_far o block ≡ Err refusal → Err refusal ≡ unless_far o given
+      far_by : (o : Option ℕ) (block : Block) (given : List ℕ × Summary) (refusal : Refusal) → block_unless_far o block ≡ Err refusal → Err refusal ≡ unless_out_of_reach o given
       far_by None block given refusal e = let never : ⊥ = cc in absurd never
       far_by (Some far) block given refusal e = cc
 
@@ -160,7 +160,7 @@ module _ (power : PowerModel) (image : Image) (notes : List LoopNote) (v : FlowG
 
       pub scaled : (s : Scaling) → s.stubs.items ≡ stubs → IsBlockGiven image stubs (Ok (s.block, s.base)) → s.summary.start ≡ start → slice_get m.worst.worst 0 ≡ Some s.summary.worst
           → s.summary.time ≡ time_at power s.summary.start s.summary.worst → s.summary.deadline ≡ power.deadline → s.summary.stub_cycles ≡ cycles
-          → s.summary.switch_edges ≡ edges_with is_switch v (marks_at_edge m.sites) → s.summary.exit_edges ≡ edges_with is_exit v (marks_at_edge m.sites) → s.summary.count_edges ≡ edges_with is_count v (marks_at_edge m.sites)
+          → s.summary.switch_edges ≡ edges_with is_switch v (marks_at_edge m.sites) → s.summary.exit_edges ≡ edges_with is_exit_mark v (marks_at_edge m.sites) → s.summary.count_edges ≡ edges_with is_count v (marks_at_edge m.sites)
           → s.summary.stub_bytes ≡ block_size (map site_of stubs) → IsScaled power image notes s
       scaled s same given started total time deadline added switch exit count size = record {
         code = v;
@@ -196,7 +196,7 @@ module _ (power : PowerModel) (image : Image) (notes : List LoopNote) (v : FlowG
             count_edges = s.summary.count_edges;
             stub_bytes = s.summary.stub_bytes;
           } ≡ rewritten_summary power v (marks_by_slack power image v t plain) s.summary.start (stored.worst 0) (extra.worst 0) (map site_of s.stubs.items)
-          whole = rw (time, worst_is, deadline, added ∙ cycles_are, switch ∙ edges_same is_switch, exit ∙ edges_same is_exit, count ∙ edges_same is_count, size ∙ ap (λ l. block_size (map site_of l)) (sym same)) refl
+          whole = rw (time, worst_is, deadline, added ∙ cycles_are, switch ∙ edges_same is_switch, exit ∙ edges_same is_exit_mark, count ∙ edges_same is_count, size ∙ ap (λ l. block_size (map site_of l)) (sym same)) refl
 
 -- ---- what is asked where the file is written
 

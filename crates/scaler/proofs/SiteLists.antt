@@ -22,7 +22,7 @@ use Rattle.cost_theory.specs.declared.edges.Word.TheVariants.{Goto}
 use Rattle.cost_theory.specs.Reached.{edge_at, edges_of, call_returns}
 use Rattle.cost_theory.proofs.Laws.{some_get, Within}
 use Rattle.graph_runs.specs.EdgeCosts.{edge_class, class_by}
-use Rattle.graph_runs.specs.Text.{text_of, instr_at, instr_kind, kind_at, in_text}
+use Rattle.graph_runs.specs.Text.{text_of, instr_at, instr_kind, kind_at, is_text_address}
 use Rattle.code_graph.specs.FlowGraph.{FlowGraph, IsGraphOf}
 use Rattle.scale_sites.specs.Sites.{is_branch_kind, edge_branches}
 use Rattle.stored_runs.specs.Marks as stored
@@ -77,7 +77,7 @@ pub record AreStubsBelow (image : Image) (v : FlowGraph) (frags : ℕ → List F
   pub each : All (IsStubAt image v frags n) stubs
   pub ascending : AreAscending (map site_of stubs)
   pub ways : (e j : ℕ) (x : Edge) (class : Class) → j < n → slice_get v.code.nodes j ≡ Some x.at → slice_get v.code.edges e ≡ Some x → edge_class (text_of image) (Some x) ≡ Some class
-      → stored.fragments_by (stored.place_at (map site_of stubs) x.at) class ≡ frags e
+      → stored.fragments_of_class (stored.place_at (map site_of stubs) x.at) class ≡ frags e
 
 pub record IsDecoded (image : Image) (at : ℕ) (i : Instr) : Type 0 where
   pub word : is_word_address image at ≡ true
@@ -112,8 +112,8 @@ module _ (image : Image) (v : FlowGraph) (is : IsGraphOf (text_of image) v) (fra
     ways = λ e j x class lt nj get c. ⊎_elim (λ less. so.ways e j x class less nj get c)
         (λ more. let same : j ≡ n = omega (arith, lt, more) in
         let here : x.at ≡ at = (let a = ap (slice_get v.code.nodes) (sym same) ∙ nj in cc) in
-        ap (λ a. stored.fragments_by (stored.place_at (map site_of stubs) a) class) here
-        ∙ (ap (λ o. stored.fragments_by o class) (place_none (map site_of stubs) at (off_before n at stubs so.each node))
+        ap (λ a. stored.fragments_of_class (stored.place_at (map site_of stubs) a) class) here
+        ∙ (ap (λ o. stored.fragments_of_class o class) (place_none (map site_of stubs) at (off_before n at stubs so.each node))
         ∙ bare.whole e x (slice_get_within v.code.edges e x get) get here))
         (cases_lt j n);
   }
@@ -150,9 +150,9 @@ module _ (image : Image) (v : FlowGraph) (is : IsGraphOf (text_of image) v) (fra
 
   -- the fragments of a way are those of the edge of its kind
   forked : (es : List StubEdge) (at : ℕ) (op : _) (rs1 rs2 : ℕ) (offset : ℤ) (k : EdgeKind) (class : Class) → is_branch_kind k ≡ true → class_by (Some (instr.Branch op rs1 rs2 offset)) k ≡ Some class
-      → stored.fragments_by (Some (place_of at (instr.Branch op rs1 rs2 offset) es)) class ≡ fragments_by (kind_number k) es
-  forked es at op rs1 rs2 offset Taken class b c = let e : classes.Taken ≡ class = cc in sym (ap (λ q. stored.fragments_by (Some (place_of at (instr.Branch op rs1 rs2 offset) es)) q) e)
-  forked es at op rs1 rs2 offset Untaken class b c = let e : classes.Untaken ≡ class = cc in sym (ap (λ q. stored.fragments_by (Some (place_of at (instr.Branch op rs1 rs2 offset) es)) q) e)
+      → stored.fragments_of_class (Some (place_of at (instr.Branch op rs1 rs2 offset) es)) class ≡ fragments_by (kind_number k) es
+  forked es at op rs1 rs2 offset Taken class b c = let e : classes.Taken ≡ class = cc in sym (ap (λ q. stored.fragments_of_class (Some (place_of at (instr.Branch op rs1 rs2 offset) es)) q) e)
+  forked es at op rs1 rs2 offset Untaken class b c = let e : classes.Untaken ≡ class = cc in sym (ap (λ q. stored.fragments_of_class (Some (place_of at (instr.Branch op rs1 rs2 offset) es)) q) e)
   forked es at op rs1 rs2 offset Jump class b c = let bad : ⊥ = cc in absurd bad
   forked es at op rs1 rs2 offset Next class b c = let bad : ⊥ = cc in absurd bad
   forked es at op rs1 rs2 offset CallNext class b c = let bad : ⊥ = cc in absurd bad
@@ -169,7 +169,7 @@ module _ (image : Image) (v : FlowGraph) (is : IsGraphOf (text_of image) v) (fra
       ap (λ (z : Edge). z.kind) (sym eq) ∙ ⊎_elim (λ q. sym (ap (λ (z : Edge). z.kind) q)) (λ n. absurd n) w
 
   way_is : (e at : ℕ) (x : Edge) (class : Class) (i : Instr) (es : List StubEdge) → IsMarkable i → instr_at (text_of image) at ≡ Some i → slice_get v.code.edges e ≡ Some x → x.at ≡ at → edge_class (text_of image) (Some x) ≡ Some class
-      → stored.fragments_by (Some (place_of at i es)) class ≡ fragments_by (kind_number x.kind) es
+      → stored.fragments_of_class (Some (place_of at i es)) class ≡ fragments_by (kind_number x.kind) es
   way_is e at x class (instr.Lui rd imm) es m r get here c = absurd m
   way_is e at x class (instr.Auipc rd imm) es m r get here c = absurd m
   way_is e at x class (instr.Jal rd offset) es m r get here c =
@@ -216,12 +216,12 @@ module _ (image : Image) (v : FlowGraph) (is : IsGraphOf (text_of image) v) (fra
       record {
         each = All-append (IsStubAt image v frags (n + 1)) stubs (s ∷ []) (wider n stubs so.each) (All-cons (IsStubAt image v frags (n + 1)) s [] stub (All-nil (IsStubAt image v frags (n + 1))));
         ascending = subst AreAscending (sym split) (ascending_end sites (site_of s) so.ascending (before n at stubs so.each node));
-        ways = λ e j x class lt nj get c. ap (λ zs. stored.fragments_by (stored.place_at zs x.at) class) split ∙ ⊎_elim
-            (λ less. ap (λ o. stored.fragments_by o class) (place_old sites (site_of s) x.at (λ same. (same_node n j at node (nj ∙ ap Some (sym same))).0 less)) ∙ so.ways e j x class less nj get c)
+        ways = λ e j x class lt nj get c. ap (λ zs. stored.fragments_of_class (stored.place_at zs x.at) class) split ∙ ⊎_elim
+            (λ less. ap (λ o. stored.fragments_of_class o class) (place_old sites (site_of s) x.at (λ same. (same_node n j at node (nj ∙ ap Some (sym same))).0 less)) ∙ so.ways e j x class less nj get c)
             (λ more. let same : j ≡ n = omega (arith, lt, more) in
             let here : x.at ≡ at = (let a = ap (slice_get v.code.nodes) (sym same) ∙ nj in cc) in
-            ap (λ a. stored.fragments_by (stored.place_at (sites ++ site_of s ∷ []) a) class) here
-            ∙ (ap (λ o. stored.fragments_by o class) (place_new sites (site_of s) (off_before n at stubs so.each node))
+            ap (λ a. stored.fragments_of_class (stored.place_at (sites ++ site_of s ∷ []) a) class) here
+            ∙ (ap (λ o. stored.fragments_of_class o class) (place_new sites (site_of s) (off_before n at stubs so.each node))
             ∙ (way_is e at x class i es can d.read get here c ∙ edges.are.whole e x (slice_get_within v.code.edges e x get) get here)))
             (cases_lt j n);
       }
@@ -239,7 +239,7 @@ module _ (image : Image) (v : FlowGraph) (is : IsGraphOf (text_of image) v) (fra
           let x = some_get v.code.edges e lt in
           let node = (is.flow.nodes x.0.at).1 (e, lt, ap edge_at x.1) in
           let within = slice_get_within v.code.nodes node.0 x.0.at node.1 in
-          ap (λ a. stored.fragments_by (stored.place_at (map site_of stubs) a) class) (ap edge_at x.1)
+          ap (λ a. stored.fragments_of_class (stored.place_at (map site_of stubs) a) class) (ap edge_at x.1)
           ∙ so.ways e node.0 x.0 class (omega (arith, within, le)) node.1 x.1 (sym (ap (edge_class (text_of image)) x.1) ∙ c);
     },
   )
@@ -257,7 +257,7 @@ edge_decodes image v is at e x get here none =
     let h = edge_is (text_of image) v.code is.reached e (slice_get_within v.code.edges e x get) in
     let u : edge_at (slice_get v.code.edges e) ≡ at = ap edge_at get ∙ here in
     let four : at % 4 ≡ 0 = sym (ap (λ a. a % 4) u) ∙ h.aligned in
-    let text : list_any (λ r. is_in at r) image.text ≡ true = sym (ap (in_text (text_of image)) u) ∙ h.text in
+    let text : list_any (λ r. is_in at r) image.text ≡ true = sym (ap (is_text_address (text_of image)) u) ∙ h.text in
     let word : is_word_address image at ≡ true = ap (λ b. b && list_any (λ r. is_in at r) image.text) (eq-eqb (at % 4) 0 four) ∙ ap (λ b. true && b) text in
     let there : instr_at (text_of image) at ≡ Some h.instr = sym (ap (instr_at (text_of image)) u) ∙ h.at in
     let q = none word in let bad : ⊥ = cc in bad

@@ -89,14 +89,14 @@ AreEdgesAt power v t m k es = Whichever power v t m (λ image plain stored least
 -- ---- the lines of an edge, and of all
 
 -- the counter of a fragment is one of a counted loop, which has a number of a loop file
-abbrev pub IsCounterOf : List ℕ → ℕ → Type 0
-IsCounterOf counted counter = (first_counter ≤ counter) × (counter - first_counter < length counted) × (loop_of counted counter < 4096)
+abbrev pub IsLoopCounter : List ℕ → ℕ → Type 0
+IsLoopCounter counted counter = (first_counter ≤ counter) × (counter - first_counter < length counted) × (loop_of counted counter < 4096)
 
 abbrev pub IsOfLoop : List ℕ → Fragment → Type 0
 IsOfLoop counted (fragments.Switch word) = Unit {0}
-IsOfLoop counted (fragments.Exit counter shift rows) = IsCounterOf counted counter
-IsOfLoop counted (fragments.Reset counter) = IsCounterOf counted counter
-IsOfLoop counted (fragments.Count counter) = IsCounterOf counted counter
+IsOfLoop counted (fragments.Exit counter shift rows) = IsLoopCounter counted counter
+IsOfLoop counted (fragments.Reset counter) = IsLoopCounter counted counter
+IsOfLoop counted (fragments.Count counter) = IsLoopCounter counted counter
 
 -- the lines of an edge's fragments behind some lines
 abbrev pub ArePushedAt : PowerModel → FlowGraph → LoopView → Marking → ℕ → List SiteLine → List SiteLine → Type 0

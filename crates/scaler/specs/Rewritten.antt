@@ -21,7 +21,7 @@ use Rattle.scale_base.specs.declared.fragments.Mark.{Mark}
 use Rattle.scale_sites.specs.Counters.{AreCounters}
 use Rattle.stub_writer.specs.Stubs.{Site, block_size, out_of_reach}
 use Rattle.scaler.specs.Held.{IsCodeRefused, IsLoopRefused, Then, unscaled}
-use Rattle.rewritten_runs.specs.Stubs.{IsWeighed, HasStubs, rewritten_file, marks_by_slack, is_switch, is_exit, is_count, edges_with}
+use Rattle.rewritten_runs.specs.Stubs.{IsWeighed, HasStubs, rewritten_file, marks_by_slack, is_switch, is_exit_mark, is_count, edges_with}
 
 -- ---- what is stored
 
@@ -33,15 +33,15 @@ rewritten_summary power v marked start worst stubs sites = record {
   deadline = power.deadline;
   stub_cycles = stubs;
   switch_edges = edges_with is_switch v marked;
-  exit_edges = edges_with is_exit v marked;
+  exit_edges = edges_with is_exit_mark v marked;
   count_edges = edges_with is_count v marked;
   stub_bytes = block_size sites;
 }
 
 -- unless a jump to or from the stub of an instruction is too far
-abbrev pub unless_far : Option ℕ → List ℕ × Summary → Result (List ℕ × Summary) Refusal
-unless_far None given = Ok given
-unless_far (Some at) given = Err (StubOutOfReach at)
+abbrev pub unless_out_of_reach : Option ℕ → List ℕ × Summary → Result (List ℕ × Summary) Refusal
+unless_out_of_reach None given = Ok given
+unless_out_of_reach (Some at) given = Err (StubOutOfReach at)
 
 -- ---- what the program of an image and its loops give
 
@@ -91,7 +91,7 @@ pub record IsProgramRewritten (power : PowerModel) (image : Image) (notes : List
   pub short : stored.worst 0 ≤ 281474976710656
   pub slow : slowest_of power (stored.worst 0) ≡ Some start
   pub stubs : HasStubs power image code tree plain stored extra least sites base
-  pub answer_is : answer ≡ unless_far (out_of_reach base sites)
+  pub answer_is : answer ≡ unless_out_of_reach (out_of_reach base sites)
       (rewritten_file image sites base start, rewritten_summary power code (marks_by_slack power image code tree plain) start (stored.worst 0) (extra.worst 0) sites)
 
 abbrev pub IsRewrittenProgram : PowerModel → Image → List LoopNote → Result (List ℕ × Summary) Refusal → Type 0

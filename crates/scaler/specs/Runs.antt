@@ -4,8 +4,8 @@ use Rattle.std.specs.Prelude.{◌≡◌, ℕ, ◌≤◌, List, length, Some, Ok}
 use Rattle.scale_base.specs.declared.summary.Summary.{Summary}
 use Rattle.scale_base.specs.Image.{Image, image_of}
 use Rattle.scale_base.specs.Run.{Run, GoesOn, run_of}
-use Rattle.power_model.specs.Numbers.{PowerModel, Numbers}
-use Rattle.power_model.specs.Price.{IsHeld}
+use Rattle.power_model.specs.Numbers.{PowerModel, RunPrice}
+use Rattle.power_model.specs.Price.{IsHeldPrice}
 use Rattle.power_model.specs.Slowest.{slowest_of}
 use Rattle.machine_file.specs.Machine.{read_machine}
 use Rattle.loop_file.specs.declared.notes.LoopNote.{LoopNote}
@@ -29,11 +29,11 @@ RunAlike original held levels = (input : List ℕ) (n : ℕ) → IsSameRun (run_
 
 -- a run that stays at the starting level, so that its time and its energy are those of its cycles there, with at most the printed cycles and the
 -- printed time, which is in time
-pub record IsAsPrinted (power : PowerModel) (summary : Summary) (paid : Numbers) : Type 0 where
+pub record IsAsPrinted (power : PowerModel) (summary : Summary) (paid : RunPrice) : Type 0 where
   pub cycles : paid.cycles ≤ summary.worst
   pub time : paid.time ≤ summary.time
   pub in_time : summary.time ≤ power.deadline
-  pub at_start : IsHeld power summary.start paid
+  pub at_start : IsHeldPrice power summary.start paid
 
 -- as long as the run is kept
 abbrev pub KeptAsPrinted : PowerModel → Image → List LoopNote → Image → Summary → Type 0
@@ -41,8 +41,8 @@ KeptAsPrinted power original notes held summary = (input : List ℕ) (n : ℕ)
     → IsKeptUpTo original (length power.levels) input notes n → IsAsPrinted power summary (price_of power held input n)
 
 -- A kept run that goes on has taken at most as many steps as the printed cycles are, so each run that stays kept ends.
-abbrev pub KeptRunsEnd : PowerModel → Image → List LoopNote → Image → Summary → Type 0
-KeptRunsEnd power original notes held summary = (input : List ℕ) (n : ℕ)
+abbrev pub KeptRunsEndAsPrinted : PowerModel → Image → List LoopNote → Image → Summary → Type 0
+KeptRunsEndAsPrinted power original notes held summary = (input : List ℕ) (n : ℕ)
     → IsKeptUpTo original (length power.levels) input notes n → (run_of held (length power.levels) input n).standing ≡ GoesOn → n ≤ summary.worst
 
 -- The bytes of an image, of a machine file, of a loop file and of the stored image: the machine, the notes and the two images that they are.
@@ -60,4 +60,4 @@ pub record IsHeldSafely (image machine loops stored : List ℕ) (summary : Summa
   pub slow : slowest_of power summary.worst ≡ Some summary.start
   pub runs : RunAlike original held (length power.levels)
   pub kept : KeptAsPrinted power original notes held summary
-  pub ends : KeptRunsEnd power original notes held summary
+  pub ends : KeptRunsEndAsPrinted power original notes held summary

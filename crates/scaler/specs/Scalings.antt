@@ -49,8 +49,8 @@ abbrev pub starting_of : PowerModel → ℕ → Option ℕ → Result ℕ Refusa
 starting_of power worst None = Err (DeadlineMissed (time_at power (fastest power) worst) power.deadline)
 starting_of power worst (Some start) = Ok start
 
-abbrev pub starting_level : PowerModel → ℕ → Result ℕ Refusal
-starting_level power worst = starting_of power worst (slowest_of power worst)
+abbrev pub chosen_level : PowerModel → ℕ → Result ℕ Refusal
+chosen_level power worst = starting_of power worst (slowest_of power worst)
 
 -- ---- the numbers
 
@@ -65,7 +65,7 @@ pub record IsMarkedAt (power : PowerModel) (image : Image) (v : FlowGraph) (t : 
   pub slow : slowest_of power (stored.worst 0) ≡ Some start
 
 -- too many cycles under the stored weights, or too late
-pub record IsUnfit (power : PowerModel) (image : Image) (v : FlowGraph) (t : LoopView) (plain stored : Numbers) (refusal : Refusal) : Type 0 where
+pub record IsUnfitScaling (power : PowerModel) (image : Image) (v : FlowGraph) (t : LoopView) (plain stored : Numbers) (refusal : Refusal) : Type 0 where
   pub plain_are : AreNumbers (graph v) (loops v t) (plain_weights power image v) plain
   pub stored_are : AreNumbers (graph v) (loops v t) (stored_weights power image v (marks_by_slack power image v t plain)) stored
   pub why : ((281474976710656 < stored.worst 0) × (refusal ≡ TooLong)) ⊎
@@ -73,7 +73,7 @@ pub record IsUnfit (power : PowerModel) (image : Image) (v : FlowGraph) (t : Loo
 
 abbrev pub IsMarkingFound : PowerModel → Image → FlowGraph → LoopView → Result (Marking × ℕ) Refusal → Type 0
 IsMarkingFound power image v t (Ok x) = (plain : Numbers) × (stored : Numbers) × (least : Charged) × IsMarkedAt power image v t plain stored least x.0 x.1
-IsMarkingFound power image v t (Err refusal) = (plain : Numbers) × (stored : Numbers) × IsUnfit power image v t plain stored refusal
+IsMarkingFound power image v t (Err refusal) = (plain : Numbers) × (stored : Numbers) × IsUnfitScaling power image v t plain stored refusal
 
 -- ---- the stubs
 
@@ -143,7 +143,7 @@ IsMarkedFound power image notes (Ok m) = IsMarked power image notes m
 IsMarkedFound power image notes (Err refusal) = IsRewrittenProgram power image notes (Err refusal)
 
 -- what the bytes of an image, of a machine file and of a loop file are, with the marks and the stubs of the program
-pub record IsProgramOf (image machine loop_file : List ℕ) (p : Program) : Type 0 where
+pub record IsProgramFrom (image machine loop_file : List ℕ) (p : Program) : Type 0 where
   pub power_is : read_machine machine ≡ Ok p.power
   pub in_range : IsPowerModel p.power
   pub view_is : image_of image ≡ Ok p.view
@@ -154,5 +154,5 @@ pub record IsProgramOf (image machine loop_file : List ℕ) (p : Program) : Type
   pub scaled : IsScaled p.power p.view notes p.scaling
 
 abbrev pub IsProgramFound : List ℕ → List ℕ → List ℕ → Result Program Refusal → Type 0
-IsProgramFound image machine loop_file (Ok p) = IsProgramOf image machine loop_file p
+IsProgramFound image machine loop_file (Ok p) = IsProgramFrom image machine loop_file p
 IsProgramFound image machine loop_file (Err refusal) = IsRewritten image machine loop_file (Err refusal)

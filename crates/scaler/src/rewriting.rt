@@ -13,7 +13,7 @@ ghost use Rattle.loop_file.specs.declared.notes.LoopNote.{LoopNote};
 ghost use Rattle.loop_tree.specs.Tree.{IsLoopTree, IsTreeOf};
 ghost use Rattle.scale_sites.specs.Sites.{marks_at_edge};
 ghost use Rattle.stub_writer.specs.Sites.{IsSite, site_of};
-ghost use Rattle.rewritten_runs.specs.Stubs.{edges_with, is_switch, is_exit, is_count, rewritten_file as stored_bytes};
+ghost use Rattle.rewritten_runs.specs.Stubs.{edges_with, is_switch, is_exit_mark, is_count, rewritten_file as stored_bytes};
 ghost use Rattle.scaler.specs.Rewritten as rewritten;
 ghost use Rattle.scaler.specs.RewrittenRuns.{IsRewrittenSafely};
 ghost use Rattle.scaler.specs.Scalings as scalings;
@@ -58,7 +58,7 @@ fn sites_of(
 
 /// The slowest level at which so many cycles are in time.
 fn starting_level(power: &Power, worst: u64) -> Result<u8, Refusal>
-    ensures { result ≡ scalings.starting_level power.now worst }
+    ensures { result ≡ scalings.chosen_level power.now worst }
 {
     match slowest(power, worst) {
         Some(start) => Ok(start),
@@ -130,7 +130,7 @@ fn has_switch(marks: &[Mark]) -> bool
 }
 
 fn has_exit(marks: &[Mark]) -> bool
-    ensures { result ≡ list_any is_exit marks.now }
+    ensures { result ≡ list_any is_exit_mark marks.now }
 {
     marks.iter().any(|mark| matches!(mark, Mark::Exit(_)))
 }
@@ -144,7 +144,7 @@ fn has_count(marks: &[Mark]) -> bool
 fn count_edges(graph: &CodeGraph, sites: &Sites) -> EdgeCounts
     requires { length sites.now.marks ≡ length graph.now.code.edges }
     ensures switch { result.switch ≡ edges_with is_switch graph.now (marks_at_edge sites.now) }
-    ensures exit { result.exit ≡ edges_with is_exit graph.now (marks_at_edge sites.now) }
+    ensures exit { result.exit ≡ edges_with is_exit_mark graph.now (marks_at_edge sites.now) }
     ensures count { result.count ≡ edges_with is_count graph.now (marks_at_edge sites.now) }
 {
     let mut counts = EdgeCounts {

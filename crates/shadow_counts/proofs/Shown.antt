@@ -4,10 +4,10 @@ use Rattle.std.specs.List.{list_any}
 use Rattle.std.proofs.lemmas.Bool.{or_from, false_from_ne_true}
 use Rattle.cost_theory.specs.Graph.{Graph, Loops, is_round, is_header, leaves, count_step, AreWithin, next_edge}
 use Rattle.cost_theory.specs.Accepted.{AreCalls, IsProgram, AreAccepted}
-use Rattle.cost_theory.specs.Steps.{State, Move, go_back, after_return, after, IsKept, AreKept, after_all, start, state_after}
+use Rattle.cost_theory.specs.Steps.{GraphState, Move, go_back, after_return, after, IsKept, AreKept, after_all, graph_start, state_after}
 use Rattle.cost_theory.specs.Steps.Move.{Along, Call, Return, Exit}
 use Rattle.cost_theory.proofs.Laws.{some_value, accepted_entered, side_header, entry_header, header_held, IsChain, Stands, IsSound, next-is, sound_start, sound_after}
-use Rattle.shadow_counts.specs.Shadows.{count_over, counted_move, counted_moves, AreCountable, is_in, AreShown}
+use Rattle.shadow_counts.specs.Shadows.{count_over, counted_move, counted_moves, AreCountable, is_within_loop, AreShown}
 
 module _ (g : Graph) (l : Loops) (extent : ℕ → ℕ → Bool) (counted : ℕ → Bool) (prog : IsProgram g) (acc : AreAccepted g l extent) (able : AreCountable g l counted) where
   -- a loop round a node of the function that goes on is round no suspended call
@@ -56,25 +56,25 @@ module _ (g : Graph) (l : Loops) (extent : ℕ → ℕ → Bool) (counted : ℕ 
       let far : nat_eq v (l.header k) ≡ false = not_header k v kl ev in
       rw far h
 
-  show : (k : ℕ) (s : State) (counts : ℕ → ℕ) → k < l.loops → counted k ≡ true → AreShown l counted s counts → Shows (is_in l k s) (counts k) (s.counts k)
-  show k s counts kl c h = by_open (is_in l k s) refl
+  show : (k : ℕ) (s : GraphState) (counts : ℕ → ℕ) → k < l.loops → counted k ≡ true → AreShown l counted s counts → Shows (is_within_loop l k s) (counts k) (s.counts k)
+  show k s counts kl c h = by_open (is_within_loop l k s) refl
     where
-      by_open : (b : Bool) → is_in l k s ≡ b → Shows b (counts k) (s.counts k)
+      by_open : (b : Bool) → is_within_loop l k s ≡ b → Shows b (counts k) (s.counts k)
       by_open true e = h.within k kl c e
       by_open false e = h.outside k kl c e
 
-  shown : (s : State) (counts : ℕ → ℕ) → ((k : ℕ) → k < l.loops → counted k ≡ true → Shows (is_in l k s) (counts k) (s.counts k)) → AreShown l counted s counts
+  shown : (s : GraphState) (counts : ℕ → ℕ) → ((k : ℕ) → k < l.loops → counted k ≡ true → Shows (is_within_loop l k s) (counts k) (s.counts k)) → AreShown l counted s counts
   shown s counts h = record {
     within = λ k kl c e. subst (λ b. Shows b (counts k) (s.counts k)) e (h k kl c);
     outside = λ k kl c e. subst (λ b. Shows b (counts k) (s.counts k)) e (h k kl c);
   }
 
-  at_node : (s : State) (u : ℕ) → s.node ≡ Some u → IsSound g l s → IsChain g (g.owner u) s.calls
+  at_node : (s : GraphState) (u : ℕ) → s.node ≡ Some u → IsSound g l s → IsChain g (g.owner u) s.calls
   at_node s u e sound = (subst (λ p. Stands g p s.calls) e sound.stands).1
 
   -- ---- move by move
 
-  after_along : (s : State) (e v : ℕ) (counts : ℕ → ℕ) → IsSound g l s → e < g.edges → s.node ≡ Some (g.source e) → g.target e ≡ Some v → AreShown l counted s counts → AreShown l counted (after g l s (Along e)) (counted_move g l counts (Along e))
+  after_along : (s : GraphState) (e v : ℕ) (counts : ℕ → ℕ) → IsSound g l s → e < g.edges → s.node ≡ Some (g.source e) → g.target e ≡ Some v → AreShown l counted s counts → AreShown l counted (after g l s (Along e)) (counted_move g l counts (Along e))
   after_along s e v counts sound lt from to h = shown (after g l s (Along e)) (counted_move g l counts (Along e)) (λ k kl c. each k kl c)
     where
       each : (k : ℕ) → k < l.loops → counted k ≡ true → Shows (is_round l k (g.target e) || list_any (l.inside k) s.calls) (count_over g l k e (counts k)) (count_step l (Some (g.source e)) (g.target e) s.counts k)
@@ -89,7 +89,7 @@ module _ (g : Graph) (l : Loops) (extent : ℕ → ℕ → Bool) (counted : ℕ 
           (λ out in_v. side_header g l extent prog (accepted_entered acc) e k v lt kl to in_v out)
           before)
 
-  after_call : (s : State) (e f : ℕ) (counts : ℕ → ℕ) → IsSound g l s → e < g.edges → s.node ≡ Some (g.source e) → g.callee e ≡ Some f → AreShown l counted s counts → AreShown l counted (after g l s (Call e f)) (counted_move g l counts (Call e f))
+  after_call : (s : GraphState) (e f : ℕ) (counts : ℕ → ℕ) → IsSound g l s → e < g.edges → s.node ≡ Some (g.source e) → g.callee e ≡ Some f → AreShown l counted s counts → AreShown l counted (after g l s (Call e f)) (counted_move g l counts (Call e f))
   after_call s e f counts sound lt from calls_f h = shown (after g l s (Call e f)) (counted_move g l counts (Call e f)) (λ k kl c. each k kl c)
     where
       fl : f < g.functions
@@ -113,7 +113,7 @@ module _ (g : Graph) (l : Loops) (extent : ℕ → ℕ → Bool) (counted : ℕ 
               let far : nat_eq (g.entry f) (l.header k) ≡ false = not_header k (g.entry f) kl is in
               rw far before
 
-  after_back : (s : State) (e u d v : ℕ) (calls : List ℕ) (counts : ℕ → ℕ) → IsSound g l s → e < g.edges → s.node ≡ Some (g.source e) → g.returns e ≡ true → s.calls ≡ u ∷ calls → next_edge g u ≡ Some d → g.target d ≡ Some v → AreShown l counted s counts
+  after_back : (s : GraphState) (e u d v : ℕ) (calls : List ℕ) (counts : ℕ → ℕ) → IsSound g l s → e < g.edges → s.node ≡ Some (g.source e) → g.returns e ≡ true → s.calls ≡ u ∷ calls → next_edge g u ≡ Some d → g.target d ≡ Some v → AreShown l counted s counts
       → AreShown l counted (record { node = Some v; calls = calls; counts = count_step l (Some u) (Some v) s.counts }) counts
   after_back s e u d v calls counts sound lt from returns in_calls next to h = shown (record { node = Some v; calls = calls; counts = count_step l (Some u) (Some v) s.counts }) counts (λ k kl c. each k kl c)
     where
@@ -141,7 +141,7 @@ module _ (g : Graph) (l : Loops) (extent : ℕ → ℕ → Bool) (counted : ℕ 
           let same : cond (l.inside k u && nat_eq v (l.header k)) (counts k + 1) (cond (l.inside k u && not (l.inside k v)) 0 (counts k)) ≡ counts k = rw (back, left) refl in
           subst (λ n. Shows (l.inside k v || list_any (l.inside k) calls) n (count_step l (Some u) (Some v) s.counts k)) same moved
 
-  after_return_is : (s : State) (e : ℕ) (counts : ℕ → ℕ) → IsSound g l s → e < g.edges → s.node ≡ Some (g.source e) → g.returns e ≡ true → AreShown l counted s counts
+  after_return_is : (s : GraphState) (e : ℕ) (counts : ℕ → ℕ) → IsSound g l s → e < g.edges → s.node ≡ Some (g.source e) → g.returns e ≡ true → AreShown l counted s counts
       → (w : ℕ) → (after g l s (Return e)).node ≡ Some w → AreShown l counted (after g l s (Return e)) counts
   after_return_is s e counts sound lt from returns h w node = by_calls s.calls refl node
     where
@@ -158,33 +158,33 @@ module _ (g : Graph) (l : Loops) (extent : ℕ → ℕ → Bool) (counted : ℕ 
       by_calls (u ∷ calls) e is = by_next u calls e (next_edge g u) refl is
 
   -- what is so before a move that is kept, and then after it, if the run stands at a node
-  one_move : (s : State) (m : Move) (counts : ℕ → ℕ) → IsSound g l s → IsKept g l s m → AreShown l counted s counts → (w : ℕ) → (after g l s m).node ≡ Some w → AreShown l counted (after g l s m) (counted_move g l counts m)
+  one_move : (s : GraphState) (m : Move) (counts : ℕ → ℕ) → IsSound g l s → IsKept g l s m → AreShown l counted s counts → (w : ℕ) → (after g l s m).node ≡ Some w → AreShown l counted (after g l s m) (counted_move g l counts m)
   one_move s (Along e) counts sound kept h w node = let v = some_value (g.target e) kept.move.1 in after_along s e v.0 counts sound kept.edge kept.from v.1 h
   one_move s (Call e f) counts sound kept h w node = after_call s e f counts sound kept.edge kept.from kept.move.0 h
   one_move s (Return e) counts sound kept h w node = after_return_is s e counts sound kept.edge kept.from kept.move.0 h w node
   one_move s (Exit e) counts sound kept h w node = let never : ⊥ = cc in absurd never
 
   -- the run stands at a node before each of its moves
-  all_moves : (ms : List Move) (s : State) (counts : ℕ → ℕ) → IsSound g l s → AreKept g l s ms → ((v : ℕ) → s.node ≡ Some v → AreShown l counted s counts) → (w : ℕ) → (after_all g l s ms).node ≡ Some w → AreShown l counted (after_all g l s ms) (counted_moves g l counts ms)
+  all_moves : (ms : List Move) (s : GraphState) (counts : ℕ → ℕ) → IsSound g l s → AreKept g l s ms → ((v : ℕ) → s.node ≡ Some v → AreShown l counted s counts) → (w : ℕ) → (after_all g l s ms).node ≡ Some w → AreShown l counted (after_all g l s ms) (counted_moves g l counts ms)
   all_moves [] s counts sound kept h w node = h w node
   all_moves (m ∷ ms) s counts sound kept h w node =
       all_moves ms (after g l s m) (counted_move g l counts m) (sound_after g l extent prog s m sound kept.0) kept.1
       (λ v at. one_move s m counts sound kept.0 (h _ kept.0.from) v at) w node
 
-  pub counts_shown : (ms : List Move) → AreKept g l (start g) ms → (v : ℕ) → (state_after g l ms).node ≡ Some v → AreShown l counted (state_after g l ms) (counted_moves g l (λ k. 0) ms)
+  pub counts_shown : (ms : List Move) → AreKept g l (graph_start g) ms → (v : ℕ) → (state_after g l ms).node ≡ Some v → AreShown l counted (state_after g l ms) (counted_moves g l (λ k. 0) ms)
   counts_shown ms kept v node =
-      all_moves ms (start g) (λ k. 0) (sound_start g l extent prog) kept (λ u at. record { within = λ k kl c e. refl; outside = λ k kl c e. refl }) v node
+      all_moves ms (graph_start g) (λ k. 0) (sound_start g l extent prog) kept (λ u at. record { within = λ k kl c e. refl; outside = λ k kl c e. refl }) v node
 
-  within_after : (ms : List Move) (s : State) → AreWithin l s.counts → AreKept g l s ms → AreWithin l (after_all g l s ms).counts
+  within_after : (ms : List Move) (s : GraphState) → AreWithin l s.counts → AreKept g l s ms → AreWithin l (after_all g l s ms).counts
   within_after [] s h kept = h
   within_after (m ∷ ms) s h kept = within_after ms (after g l s m) kept.0.within kept.1
 
-  pub counts_within : (ms : List Move) → AreKept g l (start g) ms → (v : ℕ) → (state_after g l ms).node ≡ Some v → (k : ℕ) → k < l.loops → counted k ≡ true → counted_moves g l (λ k. 0) ms k ≤ l.bound k
+  pub counts_within : (ms : List Move) → AreKept g l (graph_start g) ms → (v : ℕ) → (state_after g l ms).node ≡ Some v → (k : ℕ) → k < l.loops → counted k ≡ true → counted_moves g l (λ k. 0) ms k ≤ l.bound k
   counts_within ms kept v node k kl c =
       let h = counts_shown ms kept v node in
-      let bound = within_after ms (start g) (λ j jl. omega arith) kept k kl in
-      by_open (is_in l k (state_after g l ms)) refl h bound
+      let bound = within_after ms (graph_start g) (λ j jl. omega arith) kept k kl in
+      by_open (is_within_loop l k (state_after g l ms)) refl h bound
     where
-      by_open : (b : Bool) → is_in l k (state_after g l ms) ≡ b → AreShown l counted (state_after g l ms) (counted_moves g l (λ k. 0) ms) → (state_after g l ms).counts k ≤ l.bound k → counted_moves g l (λ k. 0) ms k ≤ l.bound k
+      by_open : (b : Bool) → is_within_loop l k (state_after g l ms) ≡ b → AreShown l counted (state_after g l ms) (counted_moves g l (λ k. 0) ms) → (state_after g l ms).counts k ≤ l.bound k → counted_moves g l (λ k. 0) ms k ≤ l.bound k
       by_open true e h bound = let same = h.within k kl c e in omega (arith, same, bound)
       by_open false e h bound = let same = h.outside k kl c e in omega (arith, same)

@@ -3,7 +3,7 @@
 use Rattle.std.specs.Prelude.{◌≡◌, ℕ, ◌+◌, ◌<◌, Bool, true, false, cond, ◌||◌, List, [], ◌∷◌, Some}
 use Rattle.std.specs.List.{list_any}
 use Rattle.cost_theory.specs.Graph.{Graph, Loops, is_round, is_back, leaves}
-use Rattle.cost_theory.specs.Steps.{State, Move}
+use Rattle.cost_theory.specs.Steps.{GraphState, Move}
 use Rattle.cost_theory.specs.Steps.Move.{Along, Call, Return, Exit}
 
 -- the count of loop k behind an edge
@@ -27,10 +27,10 @@ pub record AreCountable (g : Graph) (l : Loops) (counted : ℕ → Bool) : Type 
   pub returns : (k e : ℕ) → k < l.loops → counted k ≡ true → e < g.edges → g.returns e ≡ true → l.inside k (g.source e) ≡ false
 
 -- loop k is round the node, or round the site of a suspended call
-abbrev pub is_in : Loops → ℕ → State → Bool
-is_in l k s = is_round l k s.node || list_any (l.inside k) s.calls
+abbrev pub is_within_loop : Loops → ℕ → GraphState → Bool
+is_within_loop l k s = is_round l k s.node || list_any (l.inside k) s.calls
 
 -- the counts are the run's own for such loops, and 0 for all others
-pub record AreShown (l : Loops) (counted : ℕ → Bool) (s : State) (counts : ℕ → ℕ) : Type 0 where
-  pub within : (k : ℕ) → k < l.loops → counted k ≡ true → is_in l k s ≡ true → counts k ≡ s.counts k
-  pub outside : (k : ℕ) → k < l.loops → counted k ≡ true → is_in l k s ≡ false → counts k ≡ 0
+pub record AreShown (l : Loops) (counted : ℕ → Bool) (s : GraphState) (counts : ℕ → ℕ) : Type 0 where
+  pub within : (k : ℕ) → k < l.loops → counted k ≡ true → is_within_loop l k s ≡ true → counts k ≡ s.counts k
+  pub outside : (k : ℕ) → k < l.loops → counted k ≡ true → is_within_loop l k s ≡ false → counts k ≡ 0

@@ -8,7 +8,7 @@ use Rattle.scale_base.specs.Step.{step}
 use Rattle.scale_base.proofs.Laws.{outcome}
 use Rattle.graph_runs.proofs.Laws.{IsTrap, IsDone, step_done}
 use Rattle.rv_machine.specs.declared.code.Code.{Code}
-use Rattle.rv_machine.specs.Code.{IsCodeOf}
+use Rattle.rv_machine.specs.Code.{IsDecodedCode}
 use Rattle.rv_machine.proofs.Laws.{code_stays}
 
 -- a step writes no byte that may not be written
@@ -20,6 +20,6 @@ bytes_kept env s u x e a none =
     ]
 
 pub code_kept : (env : Setting) (s : State) (env' : Setting) (u : State) (x : Stepped) (code : Code) → outcome (Went x) u ≡ step env s → env' ≡ env →
-    IsCodeOf env.layout s.bytes code → IsCodeOf env'.layout u.bytes code
+    IsDecodedCode env.layout s.bytes code → IsDecodedCode env'.layout u.bytes code
 code_kept env s env' u x code e same h =
-    subst (λ (v : Setting). IsCodeOf v.layout u.bytes code) (sym same) (code_stays env.layout s.bytes u.bytes code (bytes_kept env s u x e) h)
+    subst (λ (v : Setting). IsDecodedCode v.layout u.bytes code) (sym same) (code_stays env.layout s.bytes u.bytes code (bytes_kept env s u x e) h)

@@ -8,14 +8,14 @@ use Rattle.scale_base.specs.State.{Setting, State}
 use Rattle.scale_base.specs.Step.{step}
 use Rattle.scale_base.specs.Run.{HasExited, HasTrapped, run}
 use Rattle.scale_base.proofs.Laws.{run_none, run_went, run_exited, run_trapped, going, outcome}
-use Rattle.power_model.specs.Numbers.{Numbers}
+use Rattle.power_model.specs.Numbers.{RunPrice}
 use Rattle.power_model.specs.Price.{price, metered, unstarted}
 use Rattle.power_model.proofs.Laws.{one_more}
 use Rattle.keep_monitor.specs.Watch.{Watched, watch, watched_first, watched_from}
-use Rattle.speed_sim.specs.Progress.{Job, Progress, IsOver}
+use Rattle.speed_sim.specs.Progress.{Job, Progress, IsRunEnd}
 use Rattle.speed_sim.proofs.WatchLaws.{watched_none, watched_step, watched_ended, option_again, option_same, IsEnd}
 
-pub progress_first : (job : Job) (paid : Numbers) (watched : Option Watched) → job.start < length job.power.levels → paid ≡ unstarted job.start →
+pub progress_first : (job : Job) (paid : RunPrice) (watched : Option Watched) → job.start < length job.power.levels → paid ≡ unstarted job.start →
     job.unwatched ≡ option_map (λ w. watched_first w.notes) job.unwatched → watched ≡ job.unwatched → Progress job 0 job.env job.first paid watched
 progress_first job paid watched lt new none_seen same =
     let none = run_none job.env job.first in
@@ -33,8 +33,8 @@ level_stays : (levels level : ℕ) (port : Option ℕ) → level < levels → If
 level_stays levels level None lt below = lt
 level_stays levels level (Some l) lt below = below
 
-pub progress_went : (job : Job) (k : ℕ) (env : Setting) (now : State) (paid : Numbers) (watched : Option Watched) (x : Stepped)
-    (env' : Setting) (u : State) (paid' : Numbers) (watched' : Option Watched) →
+pub progress_went : (job : Job) (k : ℕ) (env : Setting) (now : State) (paid : RunPrice) (watched : Option Watched) (x : Stepped)
+    (env' : Setting) (u : State) (paid' : RunPrice) (watched' : Option Watched) →
     Progress job k env now paid watched → outcome (Went x) u ≡ step env now → env' ≡ env → IfSome x.port (λ l. l < length job.power.levels) →
     paid' ≡ metered job.power paid x → watched' ≡ option_map (λ w. watch w x) watched → Progress job (k + 1) env' u paid' watched'
 progress_went job k env now paid watched x env' u paid' watched' p e kept port more seen =
@@ -55,10 +55,10 @@ progress_went job k env now paid watched x env' u paid' watched' p e kept port m
           (λ w. sym (watched_step job.env job.first now u w.notes k xs (Went x) p.run_is here)) job.unwatched);
     }
 
-pub over_exited : (job : Job) (k n : ℕ) (env : Setting) (now : State) (paid : Numbers) (watched : Option Watched) (x : Stepped) (status : ℕ)
-    (u : State) (paid' : Numbers) →
+pub over_exited : (job : Job) (k n : ℕ) (env : Setting) (now : State) (paid : RunPrice) (watched : Option Watched) (x : Stepped) (status : ℕ)
+    (u : State) (paid' : RunPrice) →
     Progress job k env now paid watched → k < n → outcome (Exited x status) u ≡ step env now → paid' ≡ metered job.power paid x →
-    IsOver job n (HasExited status) u paid' watched
+    IsRunEnd job n (HasExited status) u paid' watched
 over_exited job k n env now paid watched x status u paid' p lt e more =
     let xs = (run job.env job.first k).steps in
     let here : outcome (Exited x status) u ≡ step job.env now = e ∙ ap (λ v. step v now) p.env_is in
@@ -74,8 +74,8 @@ over_exited job k n env now paid watched x status u paid' p lt e more =
           watched_step job.env job.first now u w.notes k xs (Exited x status) p.run_is here)) job.unwatched;
     }
 
-pub over_trapped : (job : Job) (k n : ℕ) (env : Setting) (now : State) (paid : Numbers) (watched : Option Watched) (trap : Trap) (u : State) →
-    Progress job k env now paid watched → k < n → outcome (Trapped trap) u ≡ step env now → IsOver job n (HasTrapped trap) u paid watched
+pub over_trapped : (job : Job) (k n : ℕ) (env : Setting) (now : State) (paid : RunPrice) (watched : Option Watched) (trap : Trap) (u : State) →
+    Progress job k env now paid watched → k < n → outcome (Trapped trap) u ≡ step env now → IsRunEnd job n (HasTrapped trap) u paid watched
 over_trapped job k n env now paid watched trap u p lt e =
     let xs = (run job.env job.first k).steps in
     let here : outcome (Trapped trap) u ≡ step job.env now = e ∙ ap (λ v. step v now) p.env_is in

@@ -14,7 +14,7 @@ use Rattle.rv_machine.specs.declared.decoded.Effect.TheVariants.{Went, Branched,
 use Rattle.rv_machine.specs.Decoded.{decoded_end, LevelBelow}
 use Rattle.power_model.specs.declared.power.Costs.{Costs}
 use Rattle.power_model.specs.Levels.{level}
-use Rattle.power_model.specs.Numbers.{PowerModel, Numbers}
+use Rattle.power_model.specs.Numbers.{PowerModel, RunPrice}
 use Rattle.power_model.specs.Price.{metered, unstarted, step_cycles, keyed_cycles, switch_time, switch_energy, one_switch, level_after}
 use Rattle.speed_sim.specs.Tallied.{with_cycles, AreCosts}
 
@@ -33,7 +33,7 @@ costs_in_place costs Ecall = refl
 costs_in_place costs Fence = refl
 
 -- numbers from a list of them
-abbrev numbers : ℕ → ℕ → ℕ → ℕ → ℕ → ℕ → ℕ → ℕ → Numbers
+abbrev numbers : ℕ → ℕ → ℕ → ℕ → ℕ → ℕ → ℕ → ℕ → RunPrice
 numbers start level steps cycles time energy switches keyed =
     record { start = start; level = level; steps = steps; cycles = cycles; time = time; energy = energy; switches = switches; keyed = keyed }
 
@@ -46,7 +46,7 @@ same_numbers start start' level level' steps steps' cycles cycles' time time' en
 no_more : (n rate : ℕ) → n + 0 * rate ≡ n
 no_more n rate = omega (arith, zero-mul rate)
 
-pub none_more : (power : PowerModel) (n : Numbers) → with_cycles power n 0 0 0 ≡ n
+pub none_more : (power : PowerModel) (n : RunPrice) → with_cycles power n 0 0 0 ≡ n
 none_more power n =
     same_numbers _ _ _ _ _ _ _ _ _ _ _ _ _ _ _ _
     refl refl (omega arith) (omega arith) (no_more n.time (level power.levels n.level).period) (no_more n.energy (level power.levels n.level).energy) refl (omega arith)
@@ -56,7 +56,7 @@ more_price : (rate price cycles more none : ℕ) → none ≡ 0 → price + (cyc
 more_price rate price cycles more none e = omega (arith, add-mul cycles more rate)
 
 -- one step more that stores nothing at the speed port
-pub one_step_more : (power : PowerModel) (n : Numbers) (steps cycles keyed cost more : ℕ) (x : Stepped) → x.port ≡ None → cost ≡ step_cycles power x → more ≡ keyed_cycles power x →
+pub one_step_more : (power : PowerModel) (n : RunPrice) (steps cycles keyed cost more : ℕ) (x : Stepped) → x.port ≡ None → cost ≡ step_cycles power x → more ≡ keyed_cycles power x →
     with_cycles power n (steps + 1) (cycles + cost) (keyed + more) ≡ metered power (with_cycles power n steps cycles keyed) x
 one_step_more power n steps cycles keyed cost more x quiet is is_keyed =
     let rates = level power.levels n.level in

@@ -8,7 +8,7 @@ use Rattle.scale_base.specs.declared.refusal.Refusal.{Refusal}
 use Rattle.scale_base.specs.declared.refusal.Refusal.TheVariants.{AlreadyScaled, StartLevel}
 use Rattle.scale_base.specs.Image.{Image, image_of}
 use Rattle.scale_base.specs.Run.{Run, Standing, GoesOn, HasExited, HasTrapped, run_of, starting_level}
-use Rattle.power_model.specs.Numbers.{PowerModel, Numbers}
+use Rattle.power_model.specs.Numbers.{PowerModel, RunPrice}
 use Rattle.power_model.specs.Price.{price, held_energy}
 use Rattle.power_model.specs.Report.{Report}
 use Rattle.machine_file.specs.Machine.{read_machine}
@@ -19,15 +19,15 @@ use Rattle.keep_monitor.specs.Watch.{watched_at}
 
 -- How a run ended, by how it stands after as many steps as may be completed. A run that goes on then is out of steps, whatever would
 -- come next.
-abbrev pub end_of : Standing → End
-end_of GoesOn = OutOfSteps
-end_of (HasExited status) = Exited status
-end_of (HasTrapped trap) = Trapped trap
+abbrev pub run_end : Standing → End
+run_end GoesOn = OutOfSteps
+run_end (HasExited status) = Exited status
+run_end (HasTrapped trap) = Trapped trap
 
 -- the report of a run, by the level that it starts at
-abbrev pub report_by : PowerModel → Run → Numbers → Option Kept → Report
+abbrev pub report_by : PowerModel → Run → RunPrice → Option Kept → Report
 report_by power r paid kept = record {
-  end = end_of r.standing;
+  end = run_end r.standing;
   paid = paid;
   held = held_energy power paid;
   output = r.state.output;
@@ -55,9 +55,9 @@ level_allowed levels None = Ok tt
 level_allowed levels (Some keyed) = if nat_lt keyed.start levels then Ok tt else Err (StartLevel keyed.start levels)
 
 -- the notes of the loop file, if one is given
-abbrev pub notes_of : Image → Option (List ℕ) → Result (Option (List LoopNote)) Refusal
-notes_of image None = Ok None
-notes_of image (Some loops) = read_loops image loops >>= λ notes. Ok (Some notes)
+abbrev pub given_notes : Image → Option (List ℕ) → Result (Option (List LoopNote)) Refusal
+given_notes image None = Ok None
+given_notes image (Some loops) = read_loops image loops >>= λ notes. Ok (Some notes)
 
 -- The report of an image's run by the bytes of the files, or the first refusal: of the machine file, of the image, of a keyed segment with
 -- a loop file, of its level, of the loop file.
@@ -67,5 +67,5 @@ simulated image machine input loops = do
   original ← image_of image
   _ ← loops_allowed loops original.keyed_segment
   _ ← level_allowed (length power.levels) original.keyed_segment
-  notes ← notes_of original loops
+  notes ← given_notes original loops
   Ok (report_of power original input notes)

@@ -10,13 +10,13 @@ use Rattle.scale_base.specs.State.{State}
 use Rattle.scale_base.specs.Step.{Outcome}
 use Rattle.power_model.specs.declared.power.Costs.{Costs}
 use Rattle.power_model.specs.Levels.{level}
-use Rattle.power_model.specs.Numbers.{PowerModel, Numbers}
+use Rattle.power_model.specs.Numbers.{PowerModel, RunPrice}
 use Rattle.power_model.specs.Price.{cycles_of, metered, time_at, energy_at}
 use Rattle.keep_monitor.specs.Watch.{Watched, watch}
 use Rattle.speed_sim.specs.declared.tally.Tally.{Tally}
 
 -- the numbers after more steps at the same level, of so many cycles, so many of them of keyed instructions
-abbrev pub with_cycles : PowerModel → Numbers → ℕ → ℕ → ℕ → Numbers
+abbrev pub with_cycles : PowerModel → RunPrice → ℕ → ℕ → ℕ → RunPrice
 with_cycles power n steps cycles keyed = record {
   start = n.start;
   level = n.level;
@@ -28,7 +28,7 @@ with_cycles power n steps cycles keyed = record {
   keyed = n.keyed + keyed;
 }
 
-abbrev pub tallied : PowerModel → Tally → Numbers
+abbrev pub tallied : PowerModel → Tally → RunPrice
 tallied power t = with_cycles power t.meter t.steps t.cycles t.keyed
 
 -- the place of a class in a table
@@ -48,16 +48,16 @@ abbrev pub AreCosts : Costs → List ℕ → Type 0
 AreCosts costs items = (class : Class) → slice_index items (class_number class) ≡ cycles_of costs class
 
 -- the numbers after a step that ended so: a step that traps costs nothing
-abbrev pub IsPaid : PowerModel → StepEnd → Numbers → Numbers → Type 0
+abbrev pub IsPaid : PowerModel → StepEnd → RunPrice → RunPrice → Type 0
 IsPaid power (Went x) old new = new ≡ metered power old x
 IsPaid power (Exited x status) old new = new ≡ metered power old x
 IsPaid power (Trapped trap) old new = new ≡ old
 
 -- how the run ended, if a step that ended so ended it
-abbrev pub end_after : StepEnd → Option End
-end_after (Went x) = None
-end_after (Exited x status) = Some (endings.Exited status)
-end_after (Trapped trap) = Some (endings.Trapped trap)
+abbrev pub ended_by : StepEnd → Option End
+ended_by (Went x) = None
+ended_by (Exited x status) = Some (endings.Exited status)
+ended_by (Trapped trap) = Some (endings.Trapped trap)
 
 -- what was watched after a step that ended so
 abbrev pub watched_after : StepEnd → Option Watched → Option Watched
@@ -66,8 +66,8 @@ watched_after (Exited x status) watched = watched
 watched_after (Trapped trap) watched = watched
 
 -- after a step that led there: the state, the price, what was watched, and how the run ended
-pub record IsAdvance (power : PowerModel) (o : Outcome) (s : State) (old new : Numbers) (watched watched' : Option Watched) (ended : Option End) : Type 0 where
+pub record IsAdvance (power : PowerModel) (o : Outcome) (s : State) (old new : RunPrice) (watched watched' : Option Watched) (ended : Option End) : Type 0 where
   pub state : s ≡ o.state
   pub paid : IsPaid power o.end old new
   pub seen : watched' ≡ watched_after o.end watched
-  pub over : ended ≡ end_after o.end
+  pub over : ended ≡ ended_by o.end

@@ -3,7 +3,7 @@
 ghost use Rattle.std.specs.Prelude.{◌≡◌, ◌≤◌, ◌<◌, IfOk, option_map};
 ghost use Rattle.scale_base.specs.Answer.{Answers};
 ghost use Rattle.scale_base.specs.Run.{starting_level};
-ghost use Rattle.speed_sim.specs.Simulated.{loops_allowed, level_allowed, notes_of};
+ghost use Rattle.speed_sim.specs.Simulated.{loops_allowed, level_allowed, given_notes};
 
 use elf_view::ImageView;
 use loop_file::{LoopNotes, read_loops};
@@ -40,7 +40,7 @@ pub fn read_notes(
     view: &ImageView<'_>,
     loops: Option<&[u8]>,
 ) -> Result<Option<LoopNotes>, Stop>
-    ensures { Answers (λ notes. notes) result (notes_of view.now (option_map (λ l. l.now) loops.entry)) }
+    ensures { Answers (λ notes. notes) result (given_notes view.now (option_map (λ l. l.now) loops.entry)) }
 {
     match loops {
         Some(loops) => Ok(Some(read_loops(alloc, loops, view)?)),

@@ -5,11 +5,11 @@ ghost use Rattle.scale_base.specs.Step as steps;
 ghost use Rattle.scale_base.specs.Step.{PortBelow};
 ghost use Rattle.scale_base.specs.Run.{run};
 ghost use Rattle.power_model.specs.Price.{price};
-ghost use Rattle.rv_machine.specs.Code.{IsCodeOf, IsFixed};
-ghost use Rattle.rv_machine.specs.Machine.{state_of, setting_of, outcome_of};
+ghost use Rattle.rv_machine.specs.Code.{IsDecodedCode, IsFixed};
+ghost use Rattle.rv_machine.specs.Machine.{state_of, machine_setting, outcome_of};
 ghost use Rattle.keep_monitor.specs.Watch.{watched_first, watched_from};
-ghost use Rattle.speed_sim.specs.Simulated.{end_of};
-ghost use Rattle.speed_sim.specs.Tallied.{tallied, AreCosts, IsPaid, IsAdvance, end_after, watched_after};
+ghost use Rattle.speed_sim.specs.Simulated.{run_end};
+ghost use Rattle.speed_sim.specs.Tallied.{tallied, AreCosts, IsPaid, IsAdvance, ended_by, watched_after};
 
 use crate::costs::CostTable;
 use crate::tally::Tally;
@@ -33,8 +33,8 @@ fn pay_known<M: Memory>(
     requires levels { machine.old.levels ≡ length power.now.levels }
     requires level { tally.old.meter.level < length power.now.levels }
     requires few { tally.old.meter.steps + tally.old.steps < 2 ^ 40 }
-    ensures outcome { outcome_of M.bytes result machine.new ≡ steps.step (setting_of M.layout machine.old) (state_of M.bytes machine.old) }
-    ensures setting { setting_of M.layout machine.new ≡ setting_of M.layout machine.old }
+    ensures outcome { outcome_of M.bytes result machine.new ≡ steps.step (machine_setting M.layout machine.old) (state_of M.bytes machine.old) }
+    ensures setting { machine_setting M.layout machine.new ≡ machine_setting M.layout machine.old }
     ensures port { PortBelow result machine.old.levels }
     ensures paid { IsPaid power.now result (tallied power.now tally.old) (tallied power.now tally.new) }
 {
@@ -51,8 +51,8 @@ fn pay_step<M: Memory>(machine: &mut Machine<M>, power: &Power, tally: &mut Tall
     requires levels { machine.old.levels ≡ length power.now.levels }
     requires level { tally.old.meter.level < length power.now.levels }
     requires few { tally.old.meter.steps + tally.old.steps < 2 ^ 40 }
-    ensures outcome { outcome_of M.bytes result machine.new ≡ steps.step (setting_of M.layout machine.old) (state_of M.bytes machine.old) }
-    ensures setting { setting_of M.layout machine.new ≡ setting_of M.layout machine.old }
+    ensures outcome { outcome_of M.bytes result machine.new ≡ steps.step (machine_setting M.layout machine.old) (state_of M.bytes machine.old) }
+    ensures setting { machine_setting M.layout machine.new ≡ machine_setting M.layout machine.old }
     ensures port { PortBelow result machine.old.levels }
     ensures paid { IsPaid power.now result (tallied power.now tally.old) (tallied power.now tally.new) }
 {
@@ -65,7 +65,7 @@ fn pay_step<M: Memory>(machine: &mut Machine<M>, power: &Power, tally: &mut Tall
 #[inline(always)]
 fn seen(watcher: &mut Option<Watcher>, end: &StepEnd) -> Option<End>
     ensures watched { watcher.new ≡ watched_after end.now watcher.old }
-    ensures ended { result ≡ end_after end.now }
+    ensures ended { result ≡ ended_by end.now }
 {
     match end {
         StepEnd::Went(done) => {
@@ -87,14 +87,14 @@ fn advance<M: Memory>(
     tally: &mut Tally,
     watcher: &mut Option<Watcher>,
 ) -> Option<End>
-    requires code { IsCodeOf (M.layout machine.old.memory) (M.bytes machine.old.memory) code.now }
+    requires code { IsDecodedCode (M.layout machine.old.memory) (M.bytes machine.old.memory) code.now }
     requires costs { AreCosts power.now.costs costs.now.by_class }
     requires levels { machine.old.levels ≡ length power.now.levels }
     requires level { tally.old.meter.level < length power.now.levels }
     requires few { tally.old.meter.steps + tally.old.steps < 2 ^ 40 }
-    ensures advance { let o = steps.step (setting_of M.layout machine.old) (state_of M.bytes machine.old) in IsAdvance power.now o (state_of M.bytes machine.new) (tallied power.now tally.old) (tallied power.now tally.new) watcher.old watcher.new result }
-    ensures setting { setting_of M.layout machine.new ≡ setting_of M.layout machine.old }
-    ensures port { let o = steps.step (setting_of M.layout machine.old) (state_of M.bytes machine.old) in PortBelow o.end machine.old.levels }
+    ensures advance { let o = steps.step (machine_setting M.layout machine.old) (state_of M.bytes machine.old) in IsAdvance power.now o (state_of M.bytes machine.new) (tallied power.now tally.old) (tallied power.now tally.new) watcher.old watcher.new result }
+    ensures setting { machine_setting M.layout machine.new ≡ machine_setting M.layout machine.old }
+    ensures port { let o = steps.step (machine_setting M.layout machine.old) (state_of M.bytes machine.old) in PortBelow o.end machine.old.levels }
 {
     match code.instr(machine.pc) {
         Some(known) => seen(watcher, &pay_known(machine, known, power, costs, tally)),
@@ -111,14 +111,14 @@ pub fn run_machine<M: Memory>(
     start: u8,
     watcher: &mut Option<Watcher>,
 ) -> (End, Meter)
-    requires code { IsCodeOf (M.layout machine.old.memory) (M.bytes machine.old.memory) code.now }
+    requires code { IsDecodedCode (M.layout machine.old.memory) (M.bytes machine.old.memory) code.now }
     requires levels { machine.old.levels ≡ length power.now.levels }
     requires start { start < length power.now.levels }
     requires unwatched { watcher.old ≡ option_map (λ w. watched_first w.notes) watcher.old }
-    ensures end { let r = run (setting_of M.layout machine.old) (state_of M.bytes machine.old) power.now.steps in result.0 ≡ end_of r.standing }
-    ensures paid { let r = run (setting_of M.layout machine.old) (state_of M.bytes machine.old) power.now.steps in result.1 ≡ price power.now start r.steps }
-    ensures state { let r = run (setting_of M.layout machine.old) (state_of M.bytes machine.old) power.now.steps in state_of M.bytes machine.new ≡ r.state }
-    ensures watched { let env = setting_of M.layout machine.old in let first = state_of M.bytes machine.old in watcher.new ≡ option_map (λ w. watched_from env first w.notes power.now.steps) watcher.old }
+    ensures end { let r = run (machine_setting M.layout machine.old) (state_of M.bytes machine.old) power.now.steps in result.0 ≡ run_end r.standing }
+    ensures paid { let r = run (machine_setting M.layout machine.old) (state_of M.bytes machine.old) power.now.steps in result.1 ≡ price power.now start r.steps }
+    ensures state { let r = run (machine_setting M.layout machine.old) (state_of M.bytes machine.old) power.now.steps in state_of M.bytes machine.new ≡ r.state }
+    ensures watched { let env = machine_setting M.layout machine.old in let first = state_of M.bytes machine.old in watcher.new ≡ option_map (λ w. watched_from env first w.notes power.now.steps) watcher.old }
 {
     let costs = CostTable::new(&power.costs);
     let mut tally = Tally::new(start);

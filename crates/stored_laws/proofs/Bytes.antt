@@ -3,17 +3,17 @@ use Rattle.std.proofs.Common.{◌≡◌, ℕ, zero, suc, ◌+◌, ◌*◌, ◌-�
 use Rattle.std.specs.Prelude.{slice_range}
 use Rattle.std.specs.List.{range_with_len, flat_map}
 use Rattle.std.proofs.lemmas.List.{length-take-le, length-take, length-drop, length-append, get_or-take, get_or-drop, get_or_append_left, get_or-append-add}
-use Rattle.scale_base.specs.Bytes.{half_at, word_at}
+use Rattle.scale_base.specs.Bytes.{list_half_at, list_word_at}
 use Rattle.elf_patch.specs.Stored.{little, put}
 
 -- ---- numbers of bytes that agree
 
-pub half-same : (xs ys : List ℕ) (a b : ℕ) → get_or xs a 0 ≡ get_or ys b 0 → get_or xs (a + 1) 0 ≡ get_or ys (b + 1) 0 → half_at xs a ≡ half_at ys b
-unfolding half_at
+pub half-same : (xs ys : List ℕ) (a b : ℕ) → get_or xs a 0 ≡ get_or ys b 0 → get_or xs (a + 1) 0 ≡ get_or ys (b + 1) 0 → list_half_at xs a ≡ list_half_at ys b
+unfolding list_half_at
 half-same xs ys a b e f = rw (e, f) refl
 
-pub word-same : (xs ys : List ℕ) (a b : ℕ) → ((i : ℕ) → i < 4 → get_or xs (a + i) 0 ≡ get_or ys (b + i) 0) → word_at xs a ≡ word_at ys b
-unfolding word_at
+pub word-same : (xs ys : List ℕ) (a b : ℕ) → ((i : ℕ) → i < 4 → get_or xs (a + i) 0 ≡ get_or ys (b + i) 0) → list_word_at xs a ≡ list_word_at ys b
+unfolding list_word_at
 word-same xs ys a b h =
     let e0 : get_or xs a 0 ≡ get_or ys b 0 = rw (add-zero, add-zero) at (h 0 (omega arith)) in
     let a3 : a + 2 + 1 ≡ a + 3 = omega arith in
@@ -21,12 +21,12 @@ word-same xs ys a b h =
     let e3 : get_or xs (a + 2 + 1) 0 ≡ get_or ys (b + 2 + 1) 0 = rw (a3, b3) (h 3 (omega arith)) in
     rw (half-same xs ys a b e0 (h 1 (omega arith)), half-same xs ys (a + 2) (b + 2) (h 2 (omega arith)) e3) refl
 
-pub word_little : (x : ℕ) → x < 2 ^ 32 → word_at (little 4 x) 0 ≡ x
-unfolding word_at half_at
+pub word_little : (x : ℕ) → x < 2 ^ 32 → list_word_at (little 4 x) 0 ≡ x
+unfolding list_word_at list_half_at
 word_little x lt = omega arith
 
-pub half_little : (x : ℕ) → x < 65536 → half_at (little 2 x) 0 ≡ x
-unfolding half_at
+pub half_little : (x : ℕ) → x < 65536 → list_half_at (little 2 x) 0 ≡ x
+unfolding list_half_at
 half_little x lt = omega arith
 
 -- ---- bytes put in a place

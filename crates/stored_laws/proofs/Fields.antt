@@ -6,7 +6,7 @@ use Rattle.std.proofs.Math.Seq.{take-append_seam, drop-append_seam}
 use Rattle.std.proofs.lemmas.List.{length-append, length-replicate, get_or_append_left}
 use Rattle.scale_base.specs.declared.ranges.Patch.{Patch}
 use Rattle.scale_base.specs.declared.headers.SectionHeader.{SectionHeader}
-use Rattle.scale_base.specs.Bytes.{half_at, word_at}
+use Rattle.scale_base.specs.Bytes.{list_half_at, list_word_at}
 use Rattle.scale_base.specs.Elf.{e_type, e_machine, e_version, e_entry, e_phoff, e_phnum, e_shoff, e_flags, e_phentsize, e_shentsize, e_shnum, has_sections, section_header, section_headers}
 use Rattle.scale_base.specs.Image.{file_place}
 use Rattle.elf_patch.specs.Stored.{little, put, patched, block_start, changed, stored_table, stored_image}
@@ -50,10 +50,10 @@ changed-is file base at n len long =
       phnum = λ j lt. put-inside (put base 28 (little 4 at)) (little 2 n) 44 j (omega (arith, len, long, first)) lt;
     }
 
-word-from : (xs : List ℕ) (at x : ℕ) → x < 2 ^ 32 → ((j : ℕ) → j < 4 → get_or xs (at + j) 0 ≡ get_or (little 4 x) j 0) → word_at xs at ≡ x
+word-from : (xs : List ℕ) (at x : ℕ) → x < 2 ^ 32 → ((j : ℕ) → j < 4 → get_or xs (at + j) 0 ≡ get_or (little 4 x) j 0) → list_word_at xs at ≡ x
 word-from xs at x lt h = word-same xs (little 4 x) at 0 (λ i low. h i low ∙ ap (λ (k : ℕ). get_or (little 4 x) k 0) (let e : i ≡ 0 + i = omega arith in e)) ∙ word_little x lt
 
-half-from : (xs : List ℕ) (at x : ℕ) → x < 65536 → get_or xs at 0 ≡ get_or (little 2 x) 0 0 → get_or xs (at + 1) 0 ≡ get_or (little 2 x) 1 0 → half_at xs at ≡ x
+half-from : (xs : List ℕ) (at x : ℕ) → x < 65536 → get_or xs at 0 ≡ get_or (little 2 x) 0 0 → get_or xs (at + 1) 0 ≡ get_or (little 2 x) 1 0 → list_half_at xs at ≡ x
 half-from xs at x lt e f = half-same xs (little 2 x) at 0 e f ∙ half_little x lt
 
 pub stored-is : (file : List ℕ) (patches : List Patch) (base start : ℕ) (block : List ℕ) → 52 ≤ length file → length file ≤ 4194304 → e_phnum file ≤ 64 → length block ≤ 4194304 → Places file patches

@@ -14,7 +14,7 @@ use Rattle.scale_base.specs.declared.refusal.Refusal.TheVariants.{BadSegment}
 use Rattle.scale_base.specs.Rules.{rule, AllHold}
 use Rattle.scale_base.specs.Spans.{overlap, ends_by, each_pair}
 use Rattle.scale_base.specs.Elf.{e_phnum, program_headers}
-use Rattle.scale_base.specs.Image.{Image, addresses_of, segment_of, keyed_of, stack, is_load, loads, has_key, is_plain, memory_range, file_part, is_fit, may_follow, are_placed, are_few, leave_room, keeps_load_rules, keeps_segment_rules, segment_rules}
+use Rattle.scale_base.specs.Image.{Image, addresses_of, segment_of, keyed_of, stack, is_load, load_headers, has_key, is_plain, memory_range, file_part, is_fit, may_follow, are_placed, are_few, leave_room, keeps_load_rules, keeps_segment_rules, segment_rules}
 use Rattle.elf_patch.specs.Stored.{window, is_free}
 use Rattle.elf_view.proofs.Laws.{both_true, le_of, none_broken}
 use Rattle.stored_laws.proofs.Table.{keyed_header}
@@ -68,14 +68,14 @@ record SplitAt (base : ℕ) (before after : List ProgramHeader) : Type 0 where
   below : list_all (λ h. nat_lt h.p_vaddr base) before ≡ true
   first : (x : ProgramHeader) (rest : List ProgramHeader) → after ≡ x ∷ rest → base ≤ x.p_vaddr
 
-split-at : (base : ℕ) (hs : List ProgramHeader) → let k = position_or_len (λ h. is_load h && nat_le base h.p_vaddr) hs in SplitAt base (loads (take k hs)) (loads (drop k hs))
+split-at : (base : ℕ) (hs : List ProgramHeader) → let k = position_or_len (λ h. is_load h && nat_le base h.p_vaddr) hs in SplitAt base (load_headers (take k hs)) (load_headers (drop k hs))
 split-at base [] = record { below = refl; first = λ x rest e. absurd cc }
 split-at base (h ∷ hs) = step (is_load h) refl (nat_le base h.p_vaddr) refl (split-at base hs)
   where
     step : (l : Bool) → is_load h ≡ l → (b : Bool) → nat_le base h.p_vaddr ≡ b
-        → (let k = position_or_len (λ h. is_load h && nat_le base h.p_vaddr) hs in SplitAt base (loads (take k hs)) (loads (drop k hs)))
-        → let k = cond (not (l && b)) (1 + position_or_len (λ h. is_load h && nat_le base h.p_vaddr) hs) 0 in SplitAt base (loads (take k (h ∷ hs))) (loads (drop k (h ∷ hs)))
-    step true e true f go = record { below = refl; first = λ x rest is. let head : h ≡ x = (let r : loads (h ∷ hs) ≡ h ∷ loads hs = rw e refl in let s : h ∷ loads hs ≡ x ∷ rest = sym r ∙ is in cc) in rw (← head) (le_of _ _ f) }
+        → (let k = position_or_len (λ h. is_load h && nat_le base h.p_vaddr) hs in SplitAt base (load_headers (take k hs)) (load_headers (drop k hs)))
+        → let k = cond (not (l && b)) (1 + position_or_len (λ h. is_load h && nat_le base h.p_vaddr) hs) 0 in SplitAt base (load_headers (take k (h ∷ hs))) (load_headers (drop k (h ∷ hs)))
+    step true e true f go = record { below = refl; first = λ x rest is. let head : h ≡ x = (let r : load_headers (h ∷ hs) ≡ h ∷ load_headers hs = rw e refl in let s : h ∷ load_headers hs ≡ x ∷ rest = sym r ∙ is in cc) in rw (← head) (le_of _ _ f) }
     step true e false f go =
         let n = position_or_len (λ h. is_load h && nat_le base h.p_vaddr) hs in
         let one : 1 + n ≡ suc n = omega arith in
@@ -223,20 +223,20 @@ front_few xs ys e =
     let three : length (filter has_key xs) ≤ 1 = omega (arith, le_of _ _ a.1, ap (λ (zs : List ProgramHeader). length zs) keys, length-append (filter has_key xs) (filter has_key ys)) in
     rw (le-leb _ _ one, le-leb _ _ two, le-leb _ _ three) refl
 
-loads-append : (xs ys : List ProgramHeader) → loads (xs ++ ys) ≡ loads xs ++ loads ys
+loads-append : (xs ys : List ProgramHeader) → load_headers (xs ++ ys) ≡ load_headers xs ++ load_headers ys
 loads-append xs ys = filter-append is_load xs ys
 
 -- each front of a table of at most 64 entries, where the key is in a table of 64
-front_kept : (headers : List ProgramHeader) (m : ℕ) → m ≤ length headers → length headers ≤ 64 → are_placed (loads headers) ≡ true → are_few (loads headers) ≡ true → nat_lt 0 (length (filter has_key (loads headers))) ≡ true
+front_kept : (headers : List ProgramHeader) (m : ℕ) → m ≤ length headers → length headers ≤ 64 → are_placed (load_headers headers) ≡ true → are_few (load_headers headers) ≡ true → nat_lt 0 (length (filter has_key (load_headers headers))) ≡ true
     → keeps_segment_rules (take m headers) ≡ true
 unfolding keeps_load_rules
 front_kept headers m le limit placed few key =
     let xs = take m headers in
-    let split : loads headers ≡ loads xs ++ loads (drop m headers) = ap loads (sym (take-append-drop m headers)) ∙ loads-append xs (drop m headers) in
+    let split : load_headers headers ≡ load_headers xs ++ load_headers (drop m headers) = ap load_headers (sym (take-append-drop m headers)) ∙ loads-append xs (drop m headers) in
     let len : length xs ≡ m = length-take-le m headers le in
-    let one = front_placed (loads xs) (loads (drop m headers)) (rw split at placed) in
-    let two = front_few (loads xs) (loads (drop m headers)) (rw split at few) in
-    let three : leave_room (length xs) (loads xs) ≡ true = elim (cases_lt m 64) [
+    let one = front_placed (load_headers xs) (load_headers (drop m headers)) (rw split at placed) in
+    let two = front_few (load_headers xs) (load_headers (drop m headers)) (rw split at few) in
+    let three : leave_room (length xs) (load_headers xs) ≡ true = elim (cases_lt m 64) [
       | inl low ↦ rw (len, lt-ltb m 64 low) refl
       | inr high ↦ let whole : xs ≡ headers = take_all m headers (omega arith) in rw (whole, key) (or_true (nat_lt (length headers) 64))
     ] in
@@ -246,13 +246,13 @@ front_kept headers m le limit placed few key =
     or_true true = refl
     or_true false = refl
 
-pub segments_hold : (stored : List ℕ) (before after : List ProgramHeader) (file : List ℕ) (place base start len : ℕ) → loads (program_headers stored) ≡ before ++ keyed_header place base start len ∷ after → length (program_headers stored) ≡ e_phnum stored → e_phnum stored ≤ 64
+pub segments_hold : (stored : List ℕ) (before after : List ProgramHeader) (file : List ℕ) (place base start len : ℕ) → load_headers (program_headers stored) ≡ before ++ keyed_header place base start len ∷ after → length (program_headers stored) ≡ e_phnum stored → e_phnum stored ≤ 64
     → Beside file before after place base len → is_fit (keyed_header place base start len) ≡ true → AllHold (segment_rules stored)
 unfolding segment_rules
 segments_hold stored before after file place base start len are count limit h fit =
-    let placed : are_placed (loads (program_headers stored)) ≡ true = rw are (placed_with file before after place base start len h fit) in
-    let few : are_few (loads (program_headers stored)) ≡ true = rw are (few_with before after place base start len h.counts h.no_key) in
-    let key : nat_lt 0 (length (filter has_key (loads (program_headers stored)))) ≡ true = rw (are, key_with before after place base start len h.no_key) refl in
+    let placed : are_placed (load_headers (program_headers stored)) ≡ true = rw are (placed_with file before after place base start len h fit) in
+    let few : are_few (load_headers (program_headers stored)) ≡ true = rw are (few_with before after place base start len h.counts h.no_key) in
+    let key : nat_lt 0 (length (filter has_key (load_headers (program_headers stored)))) ≡ true = rw (are, key_with before after place base start len h.no_key) refl in
     none_broken (λ k. rule (keeps_segment_rules (take (k + 1) (program_headers stored))) (BadSegment k)) (e_phnum stored) (λ j lt. front_kept (program_headers stored) (j + 1) (omega (arith, count)) (omega (arith, count, limit)) placed few key)
 
 -- ---- what is so beside the block
@@ -291,16 +291,16 @@ keys_none (h ∷ hs) e = step (has_key h) e (keys_none hs)
     step false e go = go e
 
 -- the segments of the original, in two parts round the block's
-pub loads-split : (hs : List ProgramHeader) (k : ℕ) → loads hs ≡ loads (take k hs) ++ loads (drop k hs)
-loads-split hs k = ap loads (sym (take-append-drop k hs)) ∙ loads-append (take k hs) (drop k hs)
+pub loads-split : (hs : List ProgramHeader) (k : ℕ) → load_headers hs ≡ load_headers (take k hs) ++ load_headers (drop k hs)
+loads-split hs k = ap load_headers (sym (take-append-drop k hs)) ∙ loads-append (take k hs) (drop k hs)
 
 pub record Round (base : ℕ) (before after : List ProgramHeader) : Type 0 where
   pub below : list_all (λ h. nat_lt h.p_vaddr base) before ≡ true
   pub above : list_all (λ h. nat_le base h.p_vaddr) after ≡ true
 
-pub round : (base : ℕ) (hs : List ProgramHeader) → each_pair may_follow (loads hs) ≡ true → let k = position_or_len (λ h. is_load h && nat_le base h.p_vaddr) hs in Round base (loads (take k hs)) (loads (drop k hs))
+pub round : (base : ℕ) (hs : List ProgramHeader) → each_pair may_follow (load_headers hs) ≡ true → let k = position_or_len (λ h. is_load h && nat_le base h.p_vaddr) hs in Round base (load_headers (take k hs)) (load_headers (drop k hs))
 round base hs ordered =
     let k = position_or_len (λ h. is_load h && nat_le base h.p_vaddr) hs in
     let s = split-at base hs in
-    let p = pairs-split may_follow (loads (take k hs)) (loads (drop k hs)) (rw (loads-split hs k) at ordered) in
-    record { below = s.below; above = above-all base (loads (drop k hs)) p.back s.first }
+    let p = pairs-split may_follow (load_headers (take k hs)) (load_headers (drop k hs)) (rw (loads-split hs k) at ordered) in
+    record { below = s.below; above = above-all base (load_headers (drop k hs)) p.back s.first }

@@ -10,10 +10,10 @@ use Rattle.std.proofs.lemmas.Grind.{flat_map-append}
 use Rattle.std.proofs.lemmas.List.Concat.{flat_map-cons}
 use Rattle.scale_base.specs.declared.headers.ProgramHeader.{ProgramHeader}
 use Rattle.scale_base.specs.declared.ranges.Patch.{Patch}
-use Rattle.scale_base.specs.Bytes.{half_at, word_at}
+use Rattle.scale_base.specs.Bytes.{list_half_at, list_word_at}
 use Rattle.scale_base.specs.Elf.{e_phoff, e_phnum, program_header, program_headers}
-use Rattle.scale_base.specs.Image.{is_load, loads}
-use Rattle.elf_patch.specs.Stored.{entry_bytes, kept_entry, entries, entry_of, keyed_number, stored_table}
+use Rattle.scale_base.specs.Image.{is_load, load_headers}
+use Rattle.elf_patch.specs.Stored.{entry_bytes, kept_entry, entries, block_entry, keyed_number, stored_table}
 use Rattle.elf_view.proofs.Laws.{length-headers}
 use Rattle.stored_laws.proofs.Bytes.{word-same, word_little, Are32, row-byte, flat_map-map, map-range, get_or-slice_range, length-slice_range}
 use Rattle.stored_laws.proofs.Fields.{IsStored}
@@ -21,13 +21,13 @@ use Rattle.stored_laws.proofs.Fields.{IsStored}
 -- the header of a row of 32 bytes
 header_of : List ℕ → ProgramHeader
 header_of row = record {
-  p_type = word_at row 0;
-  p_offset = word_at row 4;
-  p_vaddr = word_at row 8;
-  p_paddr = word_at row 12;
-  p_filesz = word_at row 16;
-  p_memsz = word_at row 20;
-  p_flags = word_at row 24;
+  p_type = list_word_at row 0;
+  p_offset = list_word_at row 4;
+  p_vaddr = list_word_at row 8;
+  p_paddr = list_word_at row 12;
+  p_filesz = list_word_at row 16;
+  p_memsz = list_word_at row 20;
+  p_flags = list_word_at row 24;
 }
 
 -- the header of the block's segment
@@ -95,39 +95,39 @@ unfolding program_header header_of
 header-at stored rows at j phoff behind all lt =
     let byte = λ (c : ℕ) (low : c < 32). let e : at + (32 * j + c) ≡ at + 32 * j + c = omega arith in rw e at (behind (32 * j + c)) ∙ row-byte rows j c all lt low in
     let word = λ (c : ℕ) (low : c + 4 ≤ 32). word-same stored (get_or rows j []) (at + 32 * j + c) c (λ i l. let e : at + 32 * j + c + i ≡ at + 32 * j + (c + i) = omega arith in rw e (byte (c + i) (omega arith))) in
-    let first : word_at stored (at + 32 * j) ≡ word_at (get_or rows j []) 0 = word-same stored (get_or rows j []) (at + 32 * j) 0 (λ i l. byte i (omega arith) ∙ ap (λ (n : ℕ). get_or (get_or rows j []) n 0) (let e : i ≡ 0 + i = omega arith in e)) in
+    let first : list_word_at stored (at + 32 * j) ≡ list_word_at (get_or rows j []) 0 = word-same stored (get_or rows j []) (at + 32 * j) 0 (λ i l. byte i (omega arith) ∙ ap (λ (n : ℕ). get_or (get_or rows j []) n 0) (let e : i ≡ 0 + i = omega arith in e)) in
     rw (phoff, first, word 4 (omega arith), word 8 (omega arith), word 12 (omega arith), word 16 (omega arith), word 20 (omega arith), word 24 (omega arith)) refl
 
 same-header : (h : ProgramHeader) (t o v p f m g : ℕ) → t ≡ h.p_type → o ≡ h.p_offset → v ≡ h.p_vaddr → p ≡ h.p_paddr → f ≡ h.p_filesz → m ≡ h.p_memsz → g ≡ h.p_flags
     → record { p_type = t; p_offset = o; p_vaddr = v; p_paddr = p; p_filesz = f; p_memsz = m; p_flags = g } ≡ h
 same-header h t o v p f m g a b c d e i j = rw (a, b, c, d, e, i, j) refl
 
-entry-word : (file : List ℕ) (j c : ℕ) → c + 4 ≤ 32 → word_at (entry_bytes file j) c ≡ word_at file (e_phoff file + 32 * j + c)
+entry-word : (file : List ℕ) (j c : ℕ) → c + 4 ≤ 32 → list_word_at (entry_bytes file j) c ≡ list_word_at file (e_phoff file + 32 * j + c)
 entry-word file j c low =
     word-same (entry_bytes file j) file c (e_phoff file + 32 * j + c) (λ i l.
     get_or-slice_range file (e_phoff file + 32 * j) 32 (c + i) (omega arith) ∙ ap (λ (n : ℕ). get_or file n 0) (let e : e_phoff file + 32 * j + (c + i) ≡ e_phoff file + 32 * j + c + i = omega arith in e))
 
-entry-first : (file : List ℕ) (j : ℕ) → word_at (entry_bytes file j) 0 ≡ word_at file (e_phoff file + 32 * j)
-entry-first file j = entry-word file j 0 (omega arith) ∙ ap (word_at file) (let e : e_phoff file + 32 * j + 0 ≡ e_phoff file + 32 * j = omega arith in e)
+entry-first : (file : List ℕ) (j : ℕ) → list_word_at (entry_bytes file j) 0 ≡ list_word_at file (e_phoff file + 32 * j)
+entry-first file j = entry-word file j 0 (omega arith) ∙ ap (list_word_at file) (let e : e_phoff file + 32 * j + 0 ≡ e_phoff file + 32 * j = omega arith in e)
 
 zeros-byte : (rest : List ℕ) (m : ℕ) → get_or (0 ∷ 0 ∷ 0 ∷ 0 ∷ rest) (4 + m) 0 ≡ get_or rest m 0
 zeros-byte rest m = let e : 4 + m ≡ suc (suc (suc (suc m))) = omega arith in rw e refl
 
 -- the rest of a row whose first four bytes are zeros
-zeros-word : (row : List ℕ) (c : ℕ) → word_at (0 ∷ 0 ∷ 0 ∷ 0 ∷ drop 4 row) (4 + c) ≡ word_at row (4 + c)
+zeros-word : (row : List ℕ) (c : ℕ) → list_word_at (0 ∷ 0 ∷ 0 ∷ 0 ∷ drop 4 row) (4 + c) ≡ list_word_at row (4 + c)
 zeros-word row c =
     word-same (0 ∷ 0 ∷ 0 ∷ 0 ∷ drop 4 row) row (4 + c) (4 + c) (λ i l.
     let e : 4 + c + i ≡ 4 + (c + i) = omega arith in
     rw e (zeros-byte (drop 4 row) (c + i) ∙ get_or-drop 4 row (c + i) 0))
 
-zeros-first : (rest : List ℕ) → word_at (0 ∷ 0 ∷ 0 ∷ 0 ∷ rest) 0 ≡ 0
-unfolding word_at half_at
+zeros-first : (rest : List ℕ) → list_word_at (0 ∷ 0 ∷ 0 ∷ 0 ∷ rest) 0 ≡ 0
+unfolding list_word_at list_half_at
 zeros-first rest = refl
 
 kept-entry : (file : List ℕ) (j : ℕ) → header_of (kept_entry file j) ≡ kept_header (program_header file j)
 unfolding header_of program_header
 kept-entry file j =
-    step (word_at file (e_phoff file + 32 * j) == 6)
+    step (list_word_at file (e_phoff file + 32 * j) == 6)
   where
     step : (b : Bool) → header_of (cond b (0 ∷ 0 ∷ 0 ∷ 0 ∷ drop 4 (entry_bytes file j)) (entry_bytes file j)) ≡ cond b (record (program_header file j) { p_type = 0 }) (program_header file j)
     step true =
@@ -136,8 +136,8 @@ kept-entry file j =
     step false =
         rw (entry-first file j, entry-word file j 4 (omega arith), entry-word file j 8 (omega arith), entry-word file j 12 (omega arith), entry-word file j 16 (omega arith), entry-word file j 20 (omega arith), entry-word file j 24 (omega arith)) refl
 
-keyed-entry : (place base start len : ℕ) → place < 2 ^ 32 → base < 2 ^ 32 → start < 2 ^ 32 → len < 2 ^ 32 → header_of (entry_of place base start len) ≡ keyed_header place base start len
-unfolding header_of word_at half_at
+keyed-entry : (place base start len : ℕ) → place < 2 ^ 32 → base < 2 ^ 32 → start < 2 ^ 32 → len < 2 ^ 32 → header_of (block_entry place base start len) ≡ keyed_header place base start len
+unfolding header_of list_word_at list_half_at
 keyed-entry place base start len a b c d =
     same-header (keyed_header place base start len) _ _ _ _ _ _ _ refl (word_little place a) (word_little base b) (word_little start c) (word_little len d) (word_little len d) refl
 
@@ -171,7 +171,7 @@ unfolding program_headers stored_table rows
 stored-headers file stored block patches place base start len at s table a b c d =
     let k = keyed_number file base in
     let le : k ≤ e_phnum file = omega (arith, prefix_len-le-length (λ h. not (is_above base h)) (program_headers file), length-headers file) in
-    let key = entry_of place base start len in
+    let key = block_entry place base start len in
     let all = rows file k key in
     let n : e_phnum stored ≡ length all = s.phnum ∙ sym (length-rows file k key le) in
     let behind = λ (m : ℕ). s.behind m ∙ ap (λ (t : List ℕ). get_or t m 0) (sym (joined file k key)) in
@@ -191,26 +191,26 @@ unfolding stored_table
 length-table file place base start len table =
     let k = keyed_number file base in
     let le : k ≤ e_phnum file = omega (arith, prefix_len-le-length (λ h. not (is_above base h)) (program_headers file), length-headers file) in
-    let key = entry_of place base start len in
+    let key = block_entry place base start len in
     ap (λ (t : List ℕ). length t) (sym (joined file k key)) ∙ length-joined (rows file k key) (rows32 file k key table le refl) ∙ ap (λ (n : ℕ). 32 * n) (length-rows file k key le)
 
 -- ---- the loaded segments among them
 
-load-kept : (h : ProgramHeader) (xs : List ProgramHeader) → loads (kept_header h ∷ xs) ≡ loads (h ∷ []) ++ loads xs
+load-kept : (h : ProgramHeader) (xs : List ProgramHeader) → load_headers (kept_header h ∷ xs) ≡ load_headers (h ∷ []) ++ load_headers xs
 load-kept h xs = step (h.p_type == 6) refl (h.p_type == 1) refl
   where
     not_one : (t : ℕ) → (t == 6) ≡ true → (t == 1) ≡ false
     not_one t e = grind (arith, nat_tests)
 
-    step : (b : Bool) → (h.p_type == 6) ≡ b → (l : Bool) → (h.p_type == 1) ≡ l → loads (cond b (record h { p_type = 0 }) h ∷ xs) ≡ loads (h ∷ []) ++ loads xs
+    step : (b : Bool) → (h.p_type == 6) ≡ b → (l : Bool) → (h.p_type == 1) ≡ l → load_headers (cond b (record h { p_type = 0 }) h ∷ xs) ≡ load_headers (h ∷ []) ++ load_headers xs
     step true e l f = rw (not_one h.p_type e) refl
     step false e true f = rw f refl
     step false e false f = rw f refl
 
-pub loads-kept : (xs : List ProgramHeader) → loads (map kept_header xs) ≡ loads xs
+pub loads-kept : (xs : List ProgramHeader) → load_headers (map kept_header xs) ≡ load_headers xs
 loads-kept [] = refl
 loads-kept (h ∷ xs) = load-kept h (map kept_header xs) ∙ rw (loads-kept xs) (join (is_load h))
   where
-    join : (b : Bool) → cond b (h ∷ []) [] ++ loads xs ≡ cond b (h ∷ loads xs) (loads xs)
+    join : (b : Bool) → cond b (h ∷ []) [] ++ load_headers xs ≡ cond b (h ∷ load_headers xs) (load_headers xs)
     join true = refl
     join false = refl

@@ -11,7 +11,7 @@ use Rattle.scale_base.specs.declared.refusal.Refusal.TheVariants.{BadText}
 use Rattle.scale_base.specs.Rules.{rule, AllHold}
 use Rattle.scale_base.specs.Spans.{each_pair}
 use Rattle.scale_base.specs.Elf.{has_sections, section_headers}
-use Rattle.scale_base.specs.Image.{text_of_section, text_of_segment, text_parts, holds_part, is_text_place, are_apart, keeps_text_rules, part_rules, text_rules, start_of, ranges_of, is_writable_at, write_rules, all_text_rules}
+use Rattle.scale_base.specs.Image.{text_of_section, text_of_segment, text_parts, holds_part, is_text_place, are_apart, keeps_text_rules, part_rules, text_rules, text_start, ranges_of, is_writable_at, write_rules, all_text_rules}
 use Rattle.scale_base.proofs.Laws.{rule_kept, kept-append, kept-split, below_kept}
 use Rattle.elf_view.proofs.Laws.{none_broken}
 use Rattle.stored_laws.proofs.Table.{keyed_header}
@@ -42,7 +42,7 @@ keeps_with file stored hs new same parts =
 part_rules_with : (file stored : List ℕ) (hs new : List ProgramHeader) → ((part : TextPart) → is_text_place stored new part ≡ is_text_place file hs part) → (parts : List TextPart) → AllHold (part_rules file hs parts) → AllHold (part_rules stored new parts)
 unfolding part_rules
 part_rules_with file stored hs new same parts h =
-    none_broken (λ k. rule (keeps_text_rules stored new (take (k + 1) parts)) (BadText (start_of (slice_get parts k)))) (length parts) (λ j lt. keeps_with file stored hs new same (take (j + 1) parts) ∙ below_kept (λ k. rule (keeps_text_rules file hs (take (k + 1) parts)) (BadText (start_of (slice_get parts k)))) 0 (length parts) j h (omega arith) (omega arith))
+    none_broken (λ k. rule (keeps_text_rules stored new (take (k + 1) parts)) (BadText (text_start (slice_get parts k)))) (length parts) (λ j lt. keeps_with file stored hs new same (take (j + 1) parts) ∙ below_kept (λ k. rule (keeps_text_rules file hs (take (k + 1) parts)) (BadText (text_start (slice_get parts k)))) 0 (length parts) j h (omega arith) (omega arith))
 
 text_rules_with : (file stored : List ℕ) (hs new : List ProgramHeader) → ((part : TextPart) → is_text_place stored new part ≡ is_text_place file hs part) → (parts : List TextPart) → AllHold (text_rules file hs parts) → AllHold (text_rules stored new parts)
 text_rules_with file stored hs new same parts h =

@@ -17,12 +17,12 @@ use Rattle.scale_base.specs.Bytes.{byte_at}
 use Rattle.scale_base.specs.Rules.{rule, AllHold}
 use Rattle.scale_base.specs.Spans.{ends_by}
 use Rattle.scale_base.specs.Elf.{e_type, e_machine, e_version, e_entry, e_phoff, e_phnum, e_shoff, e_flags, e_phentsize, e_shentsize, e_shnum, has, has_sections, program_headers}
-use Rattle.scale_base.specs.Image.{Image, LoadSegment, image_of, contents, segment_of, keyed_of, loads, loaded_headers, is_load, is_dynamic, has_key, reaches_past, file_part, header_rules, table_rules, all_text_rules, text_rules, part_rules, write_rules, ranges_of, text_parts, text_ranges, holds_part, is_text_place, is_off_table, is_word_address, image_rules}
+use Rattle.scale_base.specs.Image.{Image, LoadSegment, image_of, contents, segment_of, keyed_of, load_headers, loaded_headers, is_load, is_dynamic, has_key, reaches_past, file_part, header_rules, table_rules, all_text_rules, text_rules, part_rules, write_rules, ranges_of, text_parts, text_ranges, holds_part, is_text_place, is_off_table, is_word_address, image_rules}
 use Rattle.scale_base.proofs.Laws.{nth_kept, kept-split, rule_kept, accepted, rules_kept, contents-are}
 use Rattle.elf_patch.specs.Stored.{keyed_number, block_start, stored_table, stored_image}
 use Rattle.elf_patch.proofs.Laws.{some_place}
 use Rattle.elf_view.proofs.Laws.{both_true, le_of, length-headers, whole}
-use Rattle.stored_laws.specs.StoredView.{IsStorable, over, insert_segment, block_segment, stored_view}
+use Rattle.stored_laws.specs.StoredView.{IsStorable, over_file, insert_segment, block_segment, stored_view}
 use Rattle.stored_laws.proofs.Bytes.{length-slice_range}
 use Rattle.stored_laws.proofs.Known.{known}
 use Rattle.stored_laws.proofs.Patched.{text_place}
@@ -151,13 +151,13 @@ has_table file tables text placed on =
 
 -- ---- what the stored file holds
 
-over-same : (file stored : List ℕ) (h : ProgramHeader) → ends_by (length file) (file_part h) ≡ true → over stored (segment_of file h) ≡ segment_of stored h
+over-same : (file stored : List ℕ) (h : ProgramHeader) → ends_by (length file) (file_part h) ≡ true → over_file stored (segment_of file h) ≡ segment_of stored h
 over-same file stored h e = rw (length-slice_range file h.p_offset h.p_filesz (le_of _ _ e)) refl
 
 not_le : (x y : ℕ) → nat_lt y x ≡ true → nat_le x y ≡ false
 not_le x y e = grind (arith, nat_tests)
 
-over-all : (file stored : List ℕ) (hs : List ProgramHeader) → list_all (λ h. ends_by (length file) (file_part h)) hs ≡ true → map (over stored) (map (segment_of file) hs) ≡ map (segment_of stored) hs
+over-all : (file stored : List ℕ) (hs : List ProgramHeader) → list_all (λ h. ends_by (length file) (file_part h)) hs ≡ true → map (over_file stored) (map (segment_of file) hs) ≡ map (segment_of stored) hs
 over-all file stored [] e = refl
 over-all file stored (h ∷ hs) e =
     let a = both_true (ends_by (length file) (file_part h)) (list_all (λ h. ends_by (length file) (file_part h)) hs) e in
@@ -195,7 +195,7 @@ view-is file stored block before after base start old new entry text none ends b
     let key = keyed_header (block_start file) base start (length block) in
     let s = block_segment file base block in
     let key-is : segment_of stored key ≡ s = rw block-is refl in
-    let segments : map (segment_of stored) (loaded_headers stored) ≡ insert_segment (map (over stored) (map (segment_of file) (loaded_headers file))) s =
+    let segments : map (segment_of stored) (loaded_headers stored) ≡ insert_segment (map (over_file stored) (map (segment_of file) (loaded_headers file))) s =
     rw (new, old, over-all file stored (before ++ after) ends, insert-between stored s before after below above) (map-with (segment_of stored) before after key ∙ rw key-is refl) in
     let keyed : option_map keyed_of (find has_key (loaded_headers stored)) ≡ Some (record { range = record { from = base; to = base + length block }; start = start }) = rw (new, find-key before after key none refl) refl in
     rw (entry, segments, text, keyed) refl
@@ -215,8 +215,8 @@ law-contents file patches base block start rules is h =
     let k = known file rules in
     let hs = program_headers file in
     let n = keyed_number file base in
-    let before = loads (take n hs) in
-    let after = loads (drop n hs) in
+    let before = load_headers (take n hs) in
+    let after = load_headers (drop n hs) in
     let place = block_start file in
     let len = length block in
     let stored = stored_image file patches base block start in
@@ -230,7 +230,7 @@ law-contents file patches base block start rules is h =
     let new = stored-headers file stored block patches place base start len (place + len) s k.table place-low (omega arith) h.start_small (omega (arith, h.block_short)) in
     let old : loaded_headers file ≡ before ++ after = loads-split hs n in
     let loaded : loaded_headers stored ≡ before ++ key ∷ after =
-    ap loads new ∙ filter-append is_load (map kept_header (take n hs)) (key ∷ map kept_header (drop n hs)) ∙ rw (loads-kept (take n hs), loads-kept (drop n hs)) refl in
+    ap load_headers new ∙ filter-append is_load (map kept_header (take n hs)) (key ∷ map kept_header (drop n hs)) ∙ rw (loads-kept (take n hs), loads-kept (drop n hs)) refl in
     let none : filter has_key (before ++ after) ≡ [] = rw old at (keys_none (loaded_headers file) h.no_key) in
     let free = free_of file (contents file) (loaded_headers file) base len refl h.place.place.free in
     let fit = keyed_fit place base start len h.place.place.page h.block_short base-low free.off_stack in

@@ -15,8 +15,8 @@ pub record IsStorable (image : Image) (patches : List Patch) (base : ℕ) (block
   pub start_small : start < 2 ^ 32
 
 -- a segment with its bytes from another file
-abbrev pub over : List ℕ → LoadSegment → LoadSegment
-over file s = record { from = s.from; len = s.len; flags = s.flags; file_at = s.file_at; file = slice_range file s.file_at (s.file_at + length s.file) }
+abbrev pub over_file : List ℕ → LoadSegment → LoadSegment
+over_file file s = record { from = s.from; len = s.len; flags = s.flags; file_at = s.file_at; file = slice_range file s.file_at (s.file_at + length s.file) }
 
 -- one more segment, before the first that begins at or above it
 abbrev pub insert_segment : List LoadSegment → LoadSegment → List LoadSegment
@@ -32,7 +32,7 @@ unfoldable pub stored_view : Image → List ℕ → ℕ → List ℕ → ℕ →
 stored_view image stored base block start = record {
   file = stored;
   entry = image.entry;
-  segments = insert_segment (map (over stored) image.segments) (block_segment image.file base block);
+  segments = insert_segment (map (over_file stored) image.segments) (block_segment image.file base block);
   text = image.text;
   keyed_segment = Some (record { range = record { from = base; to = base + length block }; start = start });
 }

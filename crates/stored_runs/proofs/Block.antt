@@ -6,7 +6,7 @@ use Rattle.std.proofs.lemmas.List.Concat.{flat_map-cons}
 use Rattle.scale_base.specs.declared.fragments.Fragment.{Fragment}
 use Rattle.scale_base.specs.declared.fragments.Fragment.TheVariants.{Switch, Exit, Reset, Count}
 use Rattle.scale_base.specs.Image.{Image}
-use Rattle.stub_writer.specs.Fragments.{IsFragment, rows_of}
+use Rattle.stub_writer.specs.Fragments.{IsFragment, fragment_rows}
 use Rattle.stub_writer.specs.Stubs.{Site, Way, Place, Forked, Straight, rows_by, way_rows, stub_rows, stub_rows_of, block_rows}
 use Rattle.stub_runs.specs.Held.{IsFineWay, IsFine, AreFine, AllWords}
 use Rattle.stored_runs.specs.Stubbed.{IsTable, IsSafe, IsSafeWay, AreSafeWays, IsSafeSite}
@@ -43,7 +43,7 @@ table_words : (levels : ℕ) (rows : List ℕ) → All (IsTable levels) rows →
 table_words levels [] h = tt
 table_words levels (r ∷ rows) h = let first = h 0 r (omega arith) in (first.0, table_words levels rows (λ k d lt. h (suc k) d (omega arith)))
 
-fragment_words : (levels : ℕ) (limits : ℕ → ℕ) (f : Fragment) → IsSafe levels limits f → AllWords (rows_of f)
+fragment_words : (levels : ℕ) (limits : ℕ → ℕ) (f : Fragment) → IsSafe levels limits f → AllWords (fragment_rows f)
 fragment_words levels limits (Switch word) h = tt
 fragment_words levels limits (Exit counter shift rows) h = table_words levels rows h.4
 fragment_words levels limits (Reset counter) h = tt
@@ -52,8 +52,8 @@ fragment_words levels limits (Count counter) h = tt
 fragments_words : (levels : ℕ) (limits : ℕ → ℕ) (fs : List Fragment) → All (IsSafe levels limits) fs → AllWords (rows_by fs)
 fragments_words levels limits [] h = tt
 fragments_words levels limits (f ∷ fs) h =
-    subst AllWords (sym (flat_map-cons rows_of f fs))
-    (words_join (rows_of f) (rows_by fs) (fragment_words levels limits f (h 0 f (omega arith))) (fragments_words levels limits fs (λ k d lt. h (suc k) d (omega arith))))
+    subst AllWords (sym (flat_map-cons fragment_rows f fs))
+    (words_join (fragment_rows f) (rows_by fs) (fragment_words levels limits f (h 0 f (omega arith))) (fragments_words levels limits fs (λ k d lt. h (suc k) d (omega arith))))
 
 place_words : (levels : ℕ) (limits : ℕ → ℕ) (p : Place) → AreSafeWays levels limits p → AllWords (stub_rows_of p)
 place_words levels limits (Forked op rs1 rs2 untaken taken) h =

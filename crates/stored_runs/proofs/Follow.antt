@@ -25,11 +25,11 @@ use Rattle.graph_runs.specs.Text.{text_of}
 use Rattle.graph_runs.proofs.Laws.{not_written, IsTrap, step_done}
 use Rattle.elf_patch.specs.Stored.{stored_image}
 use Rattle.stub_writer.specs.Stubs.{Site, Place, patches_from, block_bytes}
-use Rattle.stub_runs.specs.Meaning.{Leads}
-use Rattle.stub_runs.specs.Cycles.{cycles, fragment_cost}
+use Rattle.stub_runs.specs.Meaning.{StepsLead}
+use Rattle.stub_runs.specs.Cycles.{stepped_cycles, fragment_cost}
 use Rattle.stub_runs.proofs.Laws.{leads_none, leads_on}
-use Rattle.stored_runs.specs.Marks.{Shadow, place_at, fragments_by, jumps_by, tail_cycles, level_stored, shadow_first, shadow_behind, shadow_more, shadow_after}
-use Rattle.stored_runs.specs.Legs.{Leg, Stores, IsLeg, AreLegs, originals, all_steps, Meets, Holds, steps_to}
+use Rattle.stored_runs.specs.Marks.{Shadow, place_at, fragments_of_class, jumps_by, tail_cycles, level_stored, shadow_first, shadow_behind, shadow_more, shadow_after}
+use Rattle.stored_runs.specs.Legs.{Leg, StoresLevel, IsLeg, AreLegs, originals, all_steps, Meets, Holds, steps_to}
 use Rattle.stored_runs.specs.Stubbed.{IsStubbed, StaysInText, KeepsLimits, IsFollowed}
 use Rattle.stored_runs.specs.Laws.{PatchedRunsFollow, StubbedArePatched}
 use Rattle.stored_runs.proofs.LaidBytes.{laid, byte_seen}
@@ -81,7 +81,7 @@ module _ (image stored : Image) (levels : ℕ) (limits : ℕ → ℕ) (sites : L
     pub originals_are : originals legs ≡ r.steps
     pub goes_on : r.standing ≡ GoesOn
     pub w : List ℕ
-    pub leads : Leads other (start_of stored levels) (all_steps legs) (up w r.state)
+    pub leads : StepsLead other (start_of stored levels) (all_steps legs) (up w r.state)
     pub text : (a : ℕ) → list_any (is_in a) image.text ≡ true → r.state.bytes a ≡ loaded_byte image a
     pub regs : length r.state.regs ≡ 32
     pub zero : reg r.state.regs 0 ≡ 0
@@ -132,7 +132,7 @@ module _ (image stored : Image) (levels : ℕ) (limits : ℕ → ℕ) (sites : L
     originals_are = refl;
     goes_on = refl;
     w = w0;
-    leads = subst (λ s. Leads other (start_of stored levels) [] s) starts_over (leads_none other (start_of stored levels));
+    leads = subst (λ s. StepsLead other (start_of stored levels) [] s) starts_over (leads_none other (start_of stored levels));
     text = λ a h. refl;
     regs = refl;
     zero = refl;
@@ -154,8 +154,8 @@ module _ (image stored : Image) (levels : ℕ) (limits : ℕ → ℕ) (sites : L
 
   -- a leg from what is known of the step at its address
   leg_of : (h : Shadow) (s : State) (x first : Stepped) (others : List Stepped) (p : Option Place) → place_at sites s.pc ≡ p → x.pc ≡ s.pc → first.keyed ≡ false → All IsKeyed others
-      → ((costs : Class → ℕ) → cycles costs (first ∷ others) ≡ costs x.class + (jumps_by p * costs classes.Jump + sum_by (fragment_cost costs) (fragments_by p x.class)))
-      → Stores (level_stored (fragments_by p x.class) h) (λ costs. tail_cycles costs (fragments_by p x.class)) (first ∷ others) → IsLeg sites h (record { step = x; steps = first ∷ others })
+      → ((costs : Class → ℕ) → stepped_cycles costs (first ∷ others) ≡ costs x.class + (jumps_by p * costs classes.Jump + sum_by (fragment_cost costs) (fragments_of_class p x.class)))
+      → StoresLevel (level_stored (fragments_of_class p x.class) h) (λ costs. tail_cycles costs (fragments_of_class p x.class)) (first ∷ others) → IsLeg sites h (record { step = x; steps = first ∷ others })
   leg_of h s x first others p found at_is text keyed cost stores =
       let place : place_at sites x.pc ≡ p = ap (place_at sites) at_is ∙ found in
       record {
@@ -164,14 +164,14 @@ module _ (image stored : Image) (levels : ℕ) (limits : ℕ → ℕ) (sites : L
         parts = refl;
         text = text;
         keyed = keyed;
-        cost = λ costs. cost costs ∙ ap (λ o. costs x.class + (jumps_by o * costs classes.Jump + sum_by (fragment_cost costs) (fragments_by o x.class))) (sym place);
-        stores = subst (λ o. Stores (level_stored (fragments_by o x.class) h) (λ costs. tail_cycles costs (fragments_by o x.class)) (first ∷ others)) (sym place) stores;
+        cost = λ costs. cost costs ∙ ap (λ o. costs x.class + (jumps_by o * costs classes.Jump + sum_by (fragment_cost costs) (fragments_of_class o x.class))) (sym place);
+        stores = subst (λ o. StoresLevel (level_stored (fragments_of_class o x.class) h) (λ costs. tail_cycles costs (fragments_of_class o x.class)) (first ∷ others)) (sym place) stores;
       }
 
   -- the shadow behind a step
-  shadow_at : (xs : List Stepped) (x : Stepped) (s : State) → x.pc ≡ s.pc → shadow_behind (fragments_by (place_at sites s.pc) x.class) (shadow xs) ≡ shadow (xs ++ x ∷ [])
+  shadow_at : (xs : List Stepped) (x : Stepped) (s : State) → x.pc ≡ s.pc → shadow_behind (fragments_of_class (place_at sites s.pc) x.class) (shadow xs) ≡ shadow (xs ++ x ∷ [])
   shadow_at xs x s at_is =
-      ap (λ pc. shadow_behind (fragments_by (place_at sites pc) x.class) (shadow xs)) (sym at_is) ∙ sym (shadow_step sites first xs x)
+      ap (λ pc. shadow_behind (fragments_of_class (place_at sites pc) x.class) (shadow xs)) (sym at_is) ∙ sym (shadow_step sites first xs x)
 
   window_more : (xs : List Stepped) (x : Stepped) (h : Shadow) (w : List ℕ) → h ≡ shadow (xs ++ x ∷ []) → IsWindow levels h.level h.counters w → IsWindow levels (shadow (xs ++ x ∷ [])).level (shadow (xs ++ x ∷ [])).counters w
   window_more xs x h w e window = subst (λ g. IsWindow levels g.level g.counters w) e window
@@ -193,11 +193,11 @@ module _ (image stored : Image) (levels : ℕ) (limits : ℕ → ℕ) (sites : L
         originals_are = originals_more g.legs l r.steps g.originals_are;
         goes_on = refl;
         w = p.after;
-        leads = subst (λ xs. Leads other (start_of stored levels) xs (up p.after p.t)) (sym (steps_more g.legs l)) (leads_on other (start_of stored levels) (up g.w r.state) (up p.after p.t) (all_steps g.legs) (p.first ∷ p.others) g.leads p.leads);
+        leads = subst (λ xs. StepsLead other (start_of stored levels) xs (up p.after p.t)) (sym (steps_more g.legs l)) (leads_on other (start_of stored levels) (up g.w r.state) (up p.after p.t) (all_steps g.legs) (p.first ∷ p.others) g.leads p.leads);
         text = text_kept r.state p.t p.x p.step_is g.text;
         regs = sym (ap (λ (o : Outcome). length o.state.regs) p.step_is) ∙ (step_length one r.state ∙ g.regs);
         zero = sym (ap (λ (o : Outcome). reg o.state.regs 0) p.step_is) ∙ step_zero one r.state g.zero;
-        window = window_more r.steps p.x (shadow_behind (fragments_by (place_at sites r.state.pc) p.x.class) (shadow r.steps)) p.after (shadow_at r.steps p.x r.state p.at_is) p.window;
+        window = window_more r.steps p.x (shadow_behind (fragments_of_class (place_at sites r.state.pc) p.x.class) (shadow r.steps)) p.after (shadow_at r.steps p.x r.state p.at_is) p.window;
       } in
       subst IsGoing (sym (ap (λ (o : Outcome). ended r.steps o.end o.state) p.step_is)) to
 
@@ -208,7 +208,7 @@ module _ (image stored : Image) (levels : ℕ) (limits : ℕ → ℕ) (sites : L
       let leg = leg_of (shadow r.steps) r.state x x [] None off stop.0 stop.1 (All-nil IsKeyed) (λ costs. omega (arith, sum_by-cons (λ y. costs y.class) x [])) (All-cons IsSilent x [] stop.2 (All-nil IsSilent)) in
       let at = subst (λ xs. IsLeg sites (shadow xs) l) (sym g.originals_are) leg in
       let more = steps_more g.legs l in
-      let same : shadow r.steps ≡ shadow (r.steps ++ x ∷ []) = ap (λ p. shadow_behind (fragments_by p x.class) (shadow r.steps)) (sym off) ∙ shadow_at r.steps x r.state stop.0 in
+      let same : shadow r.steps ≡ shadow (r.steps ++ x ∷ []) = ap (λ p. shadow_behind (fragments_of_class p x.class) (shadow r.steps)) (sym off) ∙ shadow_at r.steps x r.state stop.0 in
       record {
         legs = g.legs ++ l ∷ [];
         are = legs_more sites first g.legs l g.are at;

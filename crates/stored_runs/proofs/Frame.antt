@@ -15,7 +15,7 @@ use Rattle.scale_base.specs.Word.{word_of}
 use Rattle.scale_base.proofs.Laws.{rules_kept, contents-are, rules_of, each_byte_none, each_byte_more}
 use Rattle.elf_patch.specs.Stored.{little, stored_image, window}
 use Rattle.elf_patch.proofs.Laws.{some_place}
-use Rattle.stored_laws.specs.StoredView.{IsStorable, over, insert_segment, block_segment, stored_view}
+use Rattle.stored_laws.specs.StoredView.{IsStorable, over_file, insert_segment, block_segment, stored_view}
 use Rattle.stored_laws.proofs.Laws.{text_place, law}
 use Rattle.text_laws.proofs.Laws.{found_from_any, any_from_found, list_any-map, segments_of, part_word, in_part}
 use Rattle.text_laws.proofs.Laws as texts
@@ -94,19 +94,19 @@ plain_out (x ∷ xs) s e = plain_step (nat_le s.from x.from) (plain_out xs s e)
     plain_step true go = rw e refl
     plain_step false go = rw go refl
 
-plain_parts : (s : List ℕ) (xs : List LoadSegment) → map part_of (filter is_plain_segment (map (over s) xs)) ≡ map part_of (filter is_plain_segment xs)
+plain_parts : (s : List ℕ) (xs : List LoadSegment) → map part_of (filter is_plain_segment (map (over_file s) xs)) ≡ map part_of (filter is_plain_segment xs)
 plain_parts s [] = refl
 plain_parts s (x ∷ xs) = parts_step (is_plain_segment x) (plain_parts s xs)
   where
-    parts_step : (b : Bool) → map part_of (filter is_plain_segment (map (over s) xs)) ≡ map part_of (filter is_plain_segment xs)
-        → map part_of (cond b (over s x ∷ filter is_plain_segment (map (over s) xs)) (filter is_plain_segment (map (over s) xs))) ≡ map part_of (cond b (x ∷ filter is_plain_segment xs) (filter is_plain_segment xs))
+    parts_step : (b : Bool) → map part_of (filter is_plain_segment (map (over_file s) xs)) ≡ map part_of (filter is_plain_segment xs)
+        → map part_of (cond b (over_file s x ∷ filter is_plain_segment (map (over_file s) xs)) (filter is_plain_segment (map (over_file s) xs))) ≡ map part_of (cond b (x ∷ filter is_plain_segment xs) (filter is_plain_segment xs))
     parts_step true go = rw go refl
     parts_step false go = go
 
 layout_is : (image : Image) (s : List ℕ) (base : ℕ) (block : List ℕ) (start : ℕ) → layout_of (stored_view image s base block start) ≡ record (layout_of image) { keyed = Some (record { from = base; to = base + length block }) }
 unfolding layout_of stored_view
 layout_is image s base block start =
-    rw (plain_out (map (over s) image.segments) (block_segment image.file base block) refl, plain_parts s image.segments) refl
+    rw (plain_out (map (over_file s) image.segments) (block_segment image.file base block) refl, plain_parts s image.segments) refl
 
 -- a part that has the address is a segment that does
 any_part : (f : Part → Bool) (a : ℕ) (xs : List LoadSegment) → list_any (λ p. f p && in_span p.span a) (map part_of (filter is_plain_segment xs)) ≡ true → list_any (covers a) xs ≡ true

@@ -10,17 +10,17 @@ use Rattle.scale_base.specs.declared.stepping.Class.{Class}
 use Rattle.scale_base.specs.declared.stepping.Class.TheVariants as classes
 use Rattle.scale_base.specs.declared.stepping.Stepped.{Stepped}
 use Rattle.stub_writer.specs.Stubs.{Site, Place, Forked, Straight}
-use Rattle.stub_runs.specs.Cycles.{cycles, fragment_cost}
+use Rattle.stub_runs.specs.Cycles.{stepped_cycles, fragment_cost}
 use Rattle.stored_runs.specs.Marks.{Shadow, place_at, jumps_by, fragments_over, extra_cycles, stored_cycles, shadow_more}
 use Rattle.stored_runs.specs.Legs.{Leg, AreLegs, originals, all_steps}
 use Rattle.stored_runs.specs.Laws.{text_steps}
 
-pub cost_of_legs : (sites : List Site) (h : Shadow) (legs : List Leg) → AreLegs sites h legs → (costs : Class → ℕ) → cycles costs (all_steps legs) ≡ sum_by (stored_cycles costs sites) (originals legs)
+pub cost_of_legs : (sites : List Site) (h : Shadow) (legs : List Leg) → AreLegs sites h legs → (costs : Class → ℕ) → stepped_cycles costs (all_steps legs) ≡ sum_by (stored_cycles costs sites) (originals legs)
 cost_of_legs sites h [] are costs = refl
 cost_of_legs sites h (l ∷ legs) are costs =
     let rest = cost_of_legs sites (shadow_more sites h l.step) legs are.1 costs in
     let first = are.0.cost costs in
-    let split = ap (cycles costs) (flat_map-cons (λ k. k.steps) l legs) ∙ sum_by-append (λ x. costs x.class) l.steps (all_steps legs) in
+    let split = ap (stepped_cycles costs) (flat_map-cons (λ k. k.steps) l legs) ∙ sum_by-append (λ x. costs x.class) l.steps (all_steps legs) in
     omega (arith, rest, first, split, sum_by-cons (stored_cycles costs sites) l.step (originals legs))
 
 -- ---- steps of the text
@@ -58,7 +58,7 @@ text_of_legs sites h (l ∷ legs) are =
 
 -- ---- how many there are
 
-each_once : (xs : List Stepped) → cycles (λ class. 1) xs ≡ length xs
+each_once : (xs : List Stepped) → stepped_cycles (λ class. 1) xs ≡ length xs
 each_once [] = refl
 each_once (x ∷ xs) = let rest = each_once xs in omega (arith, rest, sum_by-cons (λ y. 1) x xs)
 

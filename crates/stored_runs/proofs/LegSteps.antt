@@ -14,12 +14,12 @@ use Rattle.scale_base.specs.Class.{class_of}
 use Rattle.scale_base.specs.State.{State}
 use Rattle.stub_writer.specs.Fragments.{port, code_len, rows_len, switch_code, exit_code, count_code, reset_code}
 use Rattle.stub_writer.specs.Stubs.{Way, jump_at}
-use Rattle.stub_runs.specs.Meaning.{nibble, keyed_step, along, along_storing}
+use Rattle.stub_runs.specs.Meaning.{four_bits, keyed_step, along, along_storing}
 use Rattle.stub_runs.specs.Ways.{row_at, window_behind, fragment_steps, fragments_steps, turn, way_steps}
-use Rattle.stub_runs.specs.Cycles.{cycles, fragment_cost}
+use Rattle.stub_runs.specs.Cycles.{stepped_cycles, fragment_cost}
 use Rattle.stub_runs.proofs.Laws.{fragments_cycles}
 use Rattle.stored_runs.specs.Marks.{tail_cycles}
-use Rattle.stored_runs.specs.Legs.{StoresOnce, Stores}
+use Rattle.stored_runs.specs.Legs.{StoresOnce, StoresLevel}
 use Rattle.stored_runs.specs.Stubbed.{IsQuiet, AreOrdered}
 use Rattle.stored_runs.proofs.Windows.{port_by}
 
@@ -44,7 +44,7 @@ storing_keyed n level at [] = All-nil IsKeyed
 storing_keyed zero level at (i ∷ is) = All-cons IsKeyed (keyed_step at i (Some level)) (along (at + 4) is) refl (along_keyed (at + 4) is)
 storing_keyed (suc n) level at (i ∷ is) = All-cons IsKeyed (keyed_step at i None) (along_storing n level (at + 4) is) refl (storing_keyed n level (at + 4) is)
 
-along_cycles : (costs : Class → ℕ) (at : ℕ) (is : List Instr) → cycles costs (along at is) ≡ sum_by (λ i. costs (class_of i false)) is
+along_cycles : (costs : Class → ℕ) (at : ℕ) (is : List Instr) → stepped_cycles costs (along at is) ≡ sum_by (λ i. costs (class_of i false)) is
 along_cycles costs at [] = refl
 along_cycles costs at (i ∷ is) =
     let rest = along_cycles costs (at + 4) is in
@@ -77,8 +77,8 @@ storing_parts (suc n) level at (i ∷ is) lt =
     }
 
 fragment_keyed : (bytes : ℕ → ℕ) (table at : ℕ) (f : Fragment) (w : List ℕ) → All IsKeyed (fragment_steps bytes table at f w)
-fragment_keyed bytes table at (Switch word) w = storing_keyed 8 (nibble word (slice_index w port)) at (switch_code word)
-fragment_keyed bytes table at (Exit counter shift rows) w = storing_keyed 13 (nibble (row_at bytes table counter shift w) (slice_index w port)) at (exit_code counter shift (table % 2 ^ 32))
+fragment_keyed bytes table at (Switch word) w = storing_keyed 8 (four_bits word (slice_index w port)) at (switch_code word)
+fragment_keyed bytes table at (Exit counter shift rows) w = storing_keyed 13 (four_bits (row_at bytes table counter shift w) (slice_index w port)) at (exit_code counter shift (table % 2 ^ 32))
 fragment_keyed bytes table at (Reset counter) w = along_keyed at (reset_code counter)
 fragment_keyed bytes table at (Count counter) w = along_keyed at (count_code counter)
 
@@ -107,7 +107,7 @@ way_keyed s table at way =
     (All-cons IsKeyed (turn (jump_at at way) way.to classes.Jump) [] refl (All-nil IsKeyed))
 
 -- a store that others follow
-stores_then : (level : ℕ) (one both : (Class → ℕ) → ℕ) (xs ys : List Stepped) → StoresOnce level one xs → All IsSilent ys → ((costs : Class → ℕ) → one costs + cycles costs ys ≡ both costs) → StoresOnce level both (xs ++ ys)
+stores_then : (level : ℕ) (one both : (Class → ℕ) → ℕ) (xs ys : List Stepped) → StoresOnce level one xs → All IsSilent ys → ((costs : Class → ℕ) → one costs + stepped_cycles costs ys ≡ both costs) → StoresOnce level both (xs ++ ys)
 stores_then level one both xs ys h silent sum = record {
   before = h.before;
   store = h.store;
@@ -116,10 +116,10 @@ stores_then level one both xs ys h silent sum = record {
   level_is = h.level_is;
   none_before = h.none_before;
   none_behind = All-append IsSilent h.behind ys h.none_behind silent;
-  tail_is = λ costs. sum_by-append (λ x. costs x.class) h.behind ys ∙ (ap (λ n. n + cycles costs ys) (h.tail_is costs) ∙ sum costs);
+  tail_is = λ costs. sum_by-append (λ x. costs x.class) h.behind ys ∙ (ap (λ n. n + stepped_cycles costs ys) (h.tail_is costs) ∙ sum costs);
 }
 
-pub stores_first : (stored : Option ℕ) (tail : (Class → ℕ) → ℕ) (x : Stepped) (xs : List Stepped) → x.port ≡ None → Stores stored tail xs → Stores stored tail (x ∷ xs)
+pub stores_first : (stored : Option ℕ) (tail : (Class → ℕ) → ℕ) (x : Stepped) (xs : List Stepped) → x.port ≡ None → StoresLevel stored tail xs → StoresLevel stored tail (x ∷ xs)
 stores_first None tail x xs none h = All-cons IsSilent x xs none h
 stores_first (Some level) tail x xs none h = record {
   before = x ∷ h.before;
@@ -136,29 +136,29 @@ silent_way : (bytes : ℕ → ℕ) (regs : List ℕ) (table at to last : ℕ) (f
 silent_way bytes regs table at to last fs w quiet =
     All-append IsSilent (fragments_steps bytes regs table at fs w) _ (fragments_silent bytes regs table at fs w quiet) (All-cons IsSilent (turn last to classes.Jump) [] refl (All-nil IsSilent))
 
-rest_cycles : (costs : Class → ℕ) (bytes : ℕ → ℕ) (regs : List ℕ) (table at to last : ℕ) (fs : List Fragment) (w : List ℕ) → cycles costs (fragments_steps bytes regs table at fs w ++ turn last to classes.Jump ∷ []) ≡ sum_by (fragment_cost costs) fs + costs classes.Jump
+rest_cycles : (costs : Class → ℕ) (bytes : ℕ → ℕ) (regs : List ℕ) (table at to last : ℕ) (fs : List Fragment) (w : List ℕ) → stepped_cycles costs (fragments_steps bytes regs table at fs w ++ turn last to classes.Jump ∷ []) ≡ sum_by (fragment_cost costs) fs + costs classes.Jump
 rest_cycles costs bytes regs table at to last fs w =
     let body = fragments_cycles costs bytes regs table at fs w in
     let both = sum_by-append (λ x. costs x.class) (fragments_steps bytes regs table at fs w) (turn last to classes.Jump ∷ []) in
     omega (arith, body, both)
 
-way_stores_by : (bytes : ℕ → ℕ) (regs : List ℕ) (table at to last : ℕ) (fs : List Fragment) (w : List ℕ) → AreOrdered fs → Stores (port_by bytes table fs w) (λ costs. tail_cycles costs fs) (fragments_steps bytes regs table at fs w ++ turn last to classes.Jump ∷ [])
+way_stores_by : (bytes : ℕ → ℕ) (regs : List ℕ) (table at to last : ℕ) (fs : List Fragment) (w : List ℕ) → AreOrdered fs → StoresLevel (port_by bytes table fs w) (λ costs. tail_cycles costs fs) (fragments_steps bytes regs table at fs w ++ turn last to classes.Jump ∷ [])
 way_stores_by bytes regs table at to last [] w ordered = All-cons IsSilent (turn last to classes.Jump) [] refl (All-nil IsSilent)
 way_stores_by bytes regs table at to last (Switch word ∷ fs) w ordered =
     let here = fragment_steps bytes table at (Switch word) w in
     let later = table + 4 * rows_len (Switch word) in
     let w2 = window_behind bytes regs table (Switch word) w in
     let rest = fragments_steps bytes regs later (at + 4 * 11) fs w2 ++ turn last to classes.Jump ∷ [] in
-    let stores = storing_parts 8 (nibble word (slice_index w port)) at (switch_code word) (omega arith) in
-    subst (StoresOnce (nibble word (slice_index w port)) (λ costs. tail_cycles costs (Switch word ∷ fs))) (sym (append_assoc here (fragments_steps bytes regs later (at + 4 * 11) fs w2) (turn last to classes.Jump ∷ [])))
-    (stores_then (nibble word (slice_index w port)) (λ costs. sum_by (λ i. costs (class_of i false)) (drop 9 (switch_code word))) (λ costs. tail_cycles costs (Switch word ∷ fs)) here rest stores (silent_way bytes regs later (at + 4 * 11) to last fs w2 ordered)
+    let stores = storing_parts 8 (four_bits word (slice_index w port)) at (switch_code word) (omega arith) in
+    subst (StoresOnce (four_bits word (slice_index w port)) (λ costs. tail_cycles costs (Switch word ∷ fs))) (sym (append_assoc here (fragments_steps bytes regs later (at + 4 * 11) fs w2) (turn last to classes.Jump ∷ [])))
+    (stores_then (four_bits word (slice_index w port)) (λ costs. sum_by (λ i. costs (class_of i false)) (drop 9 (switch_code word))) (λ costs. tail_cycles costs (Switch word ∷ fs)) here rest stores (silent_way bytes regs later (at + 4 * 11) to last fs w2 ordered)
     (λ costs. omega (arith, rest_cycles costs bytes regs later (at + 4 * 11) to last fs w2)))
 way_stores_by bytes regs table at to last (Exit counter shift rows ∷ fs) w ordered =
     let f : Fragment = Exit counter shift rows in
     let here = fragment_steps bytes table at f w in
     let later = table + 4 * rows_len f in
     let w2 = window_behind bytes regs table f w in
-    let v = nibble (row_at bytes table counter shift w) (slice_index w port) in
+    let v = four_bits (row_at bytes table counter shift w) (slice_index w port) in
     let code = exit_code counter shift (table % 2 ^ 32) in
     let rest = fragments_steps bytes regs later (at + 4 * 16) fs w2 ++ turn last to classes.Jump ∷ [] in
     let stores = storing_parts 13 v at code (omega arith) in
@@ -168,5 +168,5 @@ way_stores_by bytes regs table at to last (Exit counter shift rows ∷ fs) w ord
 way_stores_by bytes regs table at to last (Reset counter ∷ fs) w ordered = silent_way bytes regs table at to last (Reset counter ∷ fs) w (All-cons IsQuiet (Reset counter) fs tt ordered)
 way_stores_by bytes regs table at to last (Count counter ∷ fs) w ordered = silent_way bytes regs table at to last (Count counter ∷ fs) w (All-cons IsQuiet (Count counter) fs tt ordered)
 
-pub way_stores : (s : State) (table at : ℕ) (way : Way) → AreOrdered way.fragments → Stores (port_by s.bytes table way.fragments s.window) (λ costs. tail_cycles costs way.fragments) (way_steps s table at way)
+pub way_stores : (s : State) (table at : ℕ) (way : Way) → AreOrdered way.fragments → StoresLevel (port_by s.bytes table way.fragments s.window) (λ costs. tail_cycles costs way.fragments) (way_steps s table at way)
 way_stores s table at way ordered = way_stores_by s.bytes s.regs table at way.to (jump_at at way) way.fragments s.window ordered

@@ -25,13 +25,13 @@ use Rattle.run_laws.proofs.Laws.{step_keyless, EndsKeyless}
 use Rattle.graph_runs.specs.Text.{text_of}
 use Rattle.graph_runs.proofs.Laws.{word_within, word_bound, word_same, went_at, exited_at}
 use Rattle.stub_writer.specs.Stubs.{Site, Way, Place, Forked, Straight, fragments_code}
-use Rattle.stub_runs.specs.Meaning.{Leads, IsSound}
+use Rattle.stub_runs.specs.Meaning.{StepsLead, IsSound}
 use Rattle.stub_runs.specs.Ways.{turn, way_steps, windows_behind}
-use Rattle.stub_runs.specs.Held.{IsPatched, text_turn, WayStands, StubStands}
-use Rattle.stub_runs.specs.Cycles.{cycles, fragment_cost}
+use Rattle.stub_runs.specs.Held.{StandsAtPatch, text_turn, WayStands, StubStands}
+use Rattle.stub_runs.specs.Cycles.{stepped_cycles, fragment_cost}
 use Rattle.stub_runs.proofs.Laws.{leads_none, leads_first, stand_left, goes_taken, goes_untaken, goes_on, way_cycles}
-use Rattle.stored_runs.specs.Marks.{Shadow, place_at, fragments_by, jumps_by, tail_cycles, level_stored, shadow_behind}
-use Rattle.stored_runs.specs.Legs.{Stores}
+use Rattle.stored_runs.specs.Marks.{Shadow, place_at, fragments_of_class, jumps_by, tail_cycles, level_stored, shadow_behind}
+use Rattle.stored_runs.specs.Legs.{StoresLevel}
 use Rattle.stored_runs.specs.Patched.{IsSafeEdge, HasStub}
 use Rattle.stored_runs.proofs.LaidBytes.{laid}
 use Rattle.stored_runs.proofs.SameStep.{over, seen, step_alike}
@@ -78,10 +78,10 @@ module _ (image stored : Image) (levels : ℕ) (limits : ℕ → ℕ) (sites : L
     pub at_is : x.pc ≡ s.pc
     pub text : first.keyed ≡ false
     pub keyed : All IsKeyed others
-    pub cost : (costs : Class → ℕ) → cycles costs (first ∷ others) ≡ costs x.class + (jumps_by p * costs classes.Jump + sum_by (fragment_cost costs) (fragments_by p x.class))
-    pub stores : Stores (level_stored (fragments_by p x.class) h) (λ costs. tail_cycles costs (fragments_by p x.class)) (first ∷ others)
-    pub leads : Leads other (up w s) (first ∷ others) (up after t)
-    pub window : IsWindow levels (shadow_behind (fragments_by p x.class) h).level (shadow_behind (fragments_by p x.class) h).counters after
+    pub cost : (costs : Class → ℕ) → stepped_cycles costs (first ∷ others) ≡ costs x.class + (jumps_by p * costs classes.Jump + sum_by (fragment_cost costs) (fragments_of_class p x.class))
+    pub stores : StoresLevel (level_stored (fragments_of_class p x.class) h) (λ costs. tail_cycles costs (fragments_of_class p x.class)) (first ∷ others)
+    pub leads : StepsLead other (up w s) (first ∷ others) (up after t)
+    pub window : IsWindow levels (shadow_behind (fragments_of_class p x.class) h).level (shadow_behind (fragments_of_class p x.class) h).counters after
 
   in_word : (pc : ℕ) → is_word_address image pc ≡ true → (pc % 4 ≡ 0) × (list_any (is_in pc) image.text ≡ true)
   in_word pc word = let a = and_parts (pc % 4 == 0) (list_any (is_in pc) image.text) word in (eqb-true (pc % 4) 0 a.0, a.1)
@@ -169,7 +169,7 @@ module _ (image stored : Image) (levels : ℕ) (limits : ℕ → ℕ) (sites : L
     levels = few;
   }
 
-  patched : (h : Shadow) (w : List ℕ) (s : State) (p : Place) (b : StubAt s p) → IsState h w s → IsPatched other (up w s) b.stub
+  patched : (h : Shadow) (w : List ℕ) (s : State) (p : Place) (b : StubAt s p) → IsState h w s → StandsAtPatch other (up w s) b.stub
   patched h w s p b is =
       let a = in_word s.pc is.place in
       record {
@@ -257,7 +257,7 @@ module _ (image stored : Image) (levels : ℕ) (limits : ℕ → ℕ) (sites : L
         cost = λ costs. omega (arith, way_cycles costs u rows at taken, sum_by-cons (λ y. costs y.class) (text_turn s.pc b.stub) (turn b.stub at classes.Taken ∷ steps), sum_by-cons (λ y. costs y.class) (turn b.stub at classes.Taken) steps);
         stores = stores_first (level_stored taken.fragments h) (λ costs. tail_cycles costs taken.fragments) (text_turn s.pc b.stub) (turn b.stub at classes.Taken ∷ steps) refl
             (stores_first (level_stored taken.fragments h) (λ costs. tail_cycles costs taken.fragments) (turn b.stub at classes.Taken) steps refl
-            (subst (λ o. Stores o (λ costs. tail_cycles costs taken.fragments) steps) edge.stored (way_stores u rows at taken good.ordered)));
+            (subst (λ o. StoresLevel o (λ costs. tail_cycles costs taken.fragments) steps) edge.stored (way_stores u rows at taken good.ordered)));
         leads = ran;
         window = edge.window;
       }
@@ -287,7 +287,7 @@ module _ (image stored : Image) (levels : ℕ) (limits : ℕ → ℕ) (sites : L
         cost = λ costs. omega (arith, way_cycles costs u rows at untaken, sum_by-cons (λ y. costs y.class) (text_turn s.pc b.stub) (turn b.stub at classes.Untaken ∷ steps), sum_by-cons (λ y. costs y.class) (turn b.stub at classes.Untaken) steps);
         stores = stores_first (level_stored untaken.fragments h) (λ costs. tail_cycles costs untaken.fragments) (text_turn s.pc b.stub) (turn b.stub at classes.Untaken ∷ steps) refl
             (stores_first (level_stored untaken.fragments h) (λ costs. tail_cycles costs untaken.fragments) (turn b.stub at classes.Untaken) steps refl
-            (subst (λ o. Stores o (λ costs. tail_cycles costs untaken.fragments) steps) edge.stored (way_stores u rows at untaken good.ordered)));
+            (subst (λ o. StoresLevel o (λ costs. tail_cycles costs untaken.fragments) steps) edge.stored (way_stores u rows at untaken good.ordered)));
         leads = ran;
         window = edge.window;
       }
@@ -314,7 +314,7 @@ module _ (image stored : Image) (levels : ℕ) (limits : ℕ → ℕ) (sites : L
         keyed = way_keyed u rows b.stub way;
         cost = λ costs. omega (arith, way_cycles costs u rows b.stub way, sum_by-cons (λ y. costs y.class) (text_turn s.pc b.stub) steps);
         stores = stores_first (level_stored way.fragments h) (λ costs. tail_cycles costs way.fragments) (text_turn s.pc b.stub) steps refl
-            (subst (λ o. Stores o (λ costs. tail_cycles costs way.fragments) steps) edge.stored (way_stores u rows b.stub way good.ordered));
+            (subst (λ o. StoresLevel o (λ costs. tail_cycles costs way.fragments) steps) edge.stored (way_stores u rows b.stub way good.ordered));
         leads = ran;
         window = edge.window;
       }

@@ -15,7 +15,7 @@ use Rattle.scale_base.specs.Layout.{Layout, each_byte, reads_byte, may_write, is
 use Rattle.scale_base.specs.Arith.{load_width, store_width, stored, is_taken, moved_by}
 use Rattle.scale_base.specs.State.{State, reg, with_reg, word_at}
 use Rattle.scale_base.specs.Service.{served, serves, read_count, read_service, write_count, write_service}
-use Rattle.scale_base.specs.Step.{Outcome, stepped, move_of, goes, after, sets, passes, jumps, branches, loads, stores, calls_service, performs, executes, step}
+use Rattle.scale_base.specs.Step.{Outcome, stepped, move_of, goes, pc_after, sets, passes, jumps, branches, loads, stores, calls_service, performs, executes, step}
 use Rattle.scale_base.proofs.Laws.{each_byte_at}
 use Rattle.run_laws.specs.Keys.{setting}
 use Rattle.stored_runs.proofs.LaidBytes.{laid, AreSeen, loaded_seen, stored_seen, list_put_seen, list_taken_seen}
@@ -80,14 +80,14 @@ module _ (k l : Layout) (levels : ℕ) (input w : List ℕ) (hidden : ℕ → Bo
 
   sets_same : (s : State) (i : Instr) (rd v value : ℕ) → SeeAlike k l hidden s.pc → v ≡ value → sets (setting l levels input) (up s) i rd v ≡ upped (sets (setting k levels input) s i rd value)
   sets_same s i rd v value same e =
-      goes_same s i false None (after s) (record s { pc = after s; regs = with_reg s.regs rd value }) _ same (ap (λ x. up (record s { pc = after s; regs = with_reg s.regs rd x })) e)
+      goes_same s i false None (pc_after s) (record s { pc = pc_after s; regs = with_reg s.regs rd value }) _ same (ap (λ x. up (record s { pc = pc_after s; regs = with_reg s.regs rd x })) e)
 
   passes_same : (s : State) (i : Instr) → SeeAlike k l hidden s.pc → passes (setting l levels input) (up s) i ≡ upped (passes (setting k levels input) s i)
-  passes_same s i same = goes_same s i false None (after s) (record s { pc = after s }) _ same refl
+  passes_same s i same = goes_same s i false None (pc_after s) (record s { pc = pc_after s }) _ same refl
 
   jumps_same : (s : State) (i : Instr) (rd target : ℕ) → SeeAlike k l hidden s.pc → jumps (setting l levels input) (up s) i rd target ≡ upped (jumps (setting k levels input) s i rd target)
   jumps_same s i rd target same =
-      chosen upped (target % 4 == 0) _ _ _ _ (goes_same s i false None target (record s { pc = target; regs = with_reg s.regs rd (after s) }) _ same refl) refl
+      chosen upped (target % 4 == 0) _ _ _ _ (goes_same s i false None target (record s { pc = target; regs = with_reg s.regs rd (pc_after s) }) _ same refl) refl
 
   branches_same : (s : State) (i : Instr) (taken : Bool) (target : ℕ) → SeeAlike k l hidden s.pc → branches (setting l levels input) (up s) i taken target ≡ upped (branches (setting k levels input) s i taken target)
   branches_same s i taken target same =
@@ -112,8 +112,8 @@ module _ (k l : Layout) (levels : ℕ) (input w : List ℕ) (hidden : ℕ → Bo
       (no_window l s.pc at (store_width op) same.right) (no_window k s.pc at (store_width op) same.left)
       (chosen_if upped (can_write l at (store_width op)) (can_write k at (store_width op)) _ _ _ _
       (ap (λ test. each_byte test at (store_width op)) same.writes)
-      (λ may. goes_same s i false None (after s) (record s { pc = after s; bytes = stored op s.bytes at value }) _ same
-      (ap (λ f. record (up s) { pc = after s; bytes = f }) (stored_seen hidden b op s.bytes at value (seen_by (may_write k) at (store_width op) same.write_seen may))))
+      (λ may. goes_same s i false None (pc_after s) (record s { pc = pc_after s; bytes = stored op s.bytes at value }) _ same
+      (ap (λ f. record (up s) { pc = pc_after s; bytes = f }) (stored_seen hidden b op s.bytes at value (seen_by (may_write k) at (store_width op) same.write_seen may))))
       (λ _. refl)))
 
   served_bytes : (test : ℕ → Bool) (at m : ℕ) → ((a : ℕ) → test a ≡ true → hidden a ≡ false) → not (serves test at m) ≡ false → AreSeen hidden at m
@@ -153,7 +153,7 @@ module _ (k l : Layout) (levels : ℕ) (input w : List ℕ) (hidden : ℕ → Bo
   calls_same s i same =
       chosen upped ((reg s.regs 17 == 93) || (reg s.regs 17 == 94)) _ _ _ _
       (ap (λ (keyed : Bool). let o : Outcome = record { end = Exited (step_by keyed s i false None s.pc) (reg s.regs 10 % 256); state = up s } in o) (same.right ∙ sym same.left))
-      (goes_same s i false None (after s) (record (served (setting k levels input) s) { pc = after s }) _ same (ap (λ (t : State). record t { pc = after s }) (served_same s same)))
+      (goes_same s i false None (pc_after s) (record (served (setting k levels input) s) { pc = pc_after s }) _ same (ap (λ (t : State). record t { pc = pc_after s }) (served_same s same)))
 
   performs_same : (s : State) (i j : Instr) → SeeAlike k l hidden s.pc → performs (setting l levels input) (up s) i j ≡ upped (performs (setting k levels input) s i j)
   performs_same s i (Lui rd imm) same = sets_same s i rd _ _ same refl

@@ -12,7 +12,7 @@ use Rattle.scale_base.specs.Image.{LoadSegment, image_of, contents, segment_of, 
 use Rattle.scale_base.proofs.Laws.{has_table, rules_kept}
 use Rattle.elf_patch.specs.Stored.{little, put_at, put_patch, block_start, stored_table, stored_image, window}
 use Rattle.elf_patch.proofs.Laws.{page_at-le}
-use Rattle.stored_laws.specs.StoredView.{IsStorable, over, insert_segment, block_segment, stored_view}
+use Rattle.stored_laws.specs.StoredView.{IsStorable, over_file, insert_segment, block_segment, stored_view}
 use Rattle.stored_laws.proofs.Laws.{length-slice_range, get_or-slice_range, put-inside, Away, length-put_at, fold-away, text_place, TextPlace, Places, IsStored, stored-is}
 use Rattle.text_laws.proofs.Laws.{find-map, list_any-map, mapped_from, found_in, found_passes, found_keeps, SegmentsKept, segments_of, one_covers, not_zeroed, file_fits}
 use Rattle.graph_runs.proofs.Laws.{share_address}
@@ -156,7 +156,7 @@ module _ (file s : List ℕ) (h : ProgramHeader) (fits : h.p_offset + h.p_filesz
 
   -- the byte is the same where the file's is
   segment_same : (a : ℕ) → (a - h.p_vaddr < h.p_filesz → is_zeroed (h.p_offset + (a - h.p_vaddr)) ≡ false → byte_at s (h.p_offset + (a - h.p_vaddr)) ≡ byte_at file (h.p_offset + (a - h.p_vaddr)))
-      → segment_byte a (over s (segment_of file h)) ≡ segment_byte a (segment_of file h)
+      → segment_byte a (over_file s (segment_of file h)) ≡ segment_byte a (segment_of file h)
   segment_same a same =
       let j = a - h.p_vaddr in
       rw (old_length, new_length)
@@ -168,7 +168,7 @@ module _ (file s : List ℕ) (h : ProgramHeader) (fits : h.p_offset + h.p_filesz
       value_same false z x y h = refl
 
   -- a byte behind the header is the stored file's
-  segment_new : (a : ℕ) → a - h.p_vaddr < h.p_filesz → 52 ≤ h.p_offset + (a - h.p_vaddr) → segment_byte a (over s (segment_of file h)) ≡ byte_at s (h.p_offset + (a - h.p_vaddr))
+  segment_new : (a : ℕ) → a - h.p_vaddr < h.p_filesz → 52 ≤ h.p_offset + (a - h.p_vaddr) → segment_byte a (over_file s (segment_of file h)) ≡ byte_at s (h.p_offset + (a - h.p_vaddr))
   segment_new a below behind =
       let j = a - h.p_vaddr in
       let one : nat_lt j h.p_filesz ≡ true = lt-ltb j h.p_filesz below in
@@ -274,8 +274,8 @@ module _ (file : List ℕ) (patches : List Patch) (base : ℕ) (block : List ℕ
   abbrev found_at : ℕ → Option ProgramHeader
   found_at a = find (λ k. in_span (memory_range k) a) hs
 
-  segments_at : (a : ℕ) → find (covers a) (map (over s) (map (segment_of file) hs)) ≡ option_map (over s) (option_map (segment_of file) (found_at a))
-  segments_at a = find-map (covers a) (over s) (map (segment_of file) hs) ∙ ap (option_map (over s)) (find-map (covers a) (segment_of file) hs)
+  segments_at : (a : ℕ) → find (covers a) (map (over_file s) (map (segment_of file) hs)) ≡ option_map (over_file s) (option_map (segment_of file) (found_at a))
+  segments_at a = find-map (covers a) (over_file s) (map (segment_of file) hs) ∙ ap (option_map (over_file s)) (find-map (covers a) (segment_of file) hs)
 
   fits : (a : ℕ) (g : ProgramHeader) → found_at a ≡ Some g → g.p_offset + g.p_filesz ≤ length file
   fits a g found = leb-true (g.p_offset + g.p_filesz) (length file) (found_keeps (λ k. in_span (memory_range k) a) (λ k. ends_by (length file) (file_part k)) hs g found kept.inside)
@@ -287,7 +287,7 @@ module _ (file : List ℕ) (patches : List Patch) (base : ℕ) (block : List ℕ
       let o = off_place hs a p.at g m.0 kept.apart found m.1 below off in
       (within q f, subst (λ r. (g.p_offset + (a - g.p_vaddr) < r) ⊎ (r + 4 ≤ g.p_offset + (a - g.p_vaddr))) m.2 o)
 
-  same_by : (a : ℕ) (o : Option ProgramHeader) → found_at a ≡ o → All (λ p. IsOff p.at a) patches → byte_in a (option_map (over s) (option_map (segment_of file) o)) ≡ byte_in a (option_map (segment_of file) o)
+  same_by : (a : ℕ) (o : Option ProgramHeader) → found_at a ≡ o → All (λ p. IsOff p.at a) patches → byte_in a (option_map (over_file s) (option_map (segment_of file) o)) ≡ byte_in a (option_map (segment_of file) o)
   same_by a None found off = refl
   same_by a (Some g) found off =
       let fit = fits a g found in
@@ -298,7 +298,7 @@ module _ (file : List ℕ) (patches : List Patch) (base : ℕ) (block : List ℕ
   pub byte_same : (a : ℕ) → in_span key a ≡ false → All (λ p. IsOff p.at a) patches → loaded_byte (stored_view (contents file) s base block start) a ≡ loaded_byte (contents file) a
   unfolding loaded_byte stored_view contents
   byte_same a out off =
-      ap (byte_in a) (find_out (covers a) (map (over s) (map (segment_of file) hs)) (block_segment file base block) out ∙ segments_at a)
+      ap (byte_in a) (find_out (covers a) (map (over_file s) (map (segment_of file) hs)) (block_segment file base block) out ∙ segments_at a)
       ∙ (same_by a (found_at a) refl off ∙ sym (ap (byte_in a) (find-map (covers a) (segment_of file) hs)))
 
   none_at : (a : ℕ) (o : Option ProgramHeader) → found_at a ≡ o → in_span key a ≡ true → o ≡ None
@@ -310,12 +310,12 @@ module _ (file : List ℕ) (patches : List Patch) (base : ℕ) (block : List ℕ
   byte_of_block j lt =
       let a = base + j in
       let on : in_span key a ≡ true = and_from (nat_le base a) (nat_lt a (base + length block)) (le-leb base a (omega arith)) (lt-ltb a (base + length block) (omega arith)) in
-      let none : find (covers a) (map (over s) (map (segment_of file) hs)) ≡ None = segments_at a ∙ ap (λ o. option_map (over s) (option_map (segment_of file) o)) (none_at a (found_at a) refl on) in
+      let none : find (covers a) (map (over_file s) (map (segment_of file) hs)) ≡ None = segments_at a ∙ ap (λ o. option_map (over_file s) (option_map (segment_of file) o)) (none_at a (found_at a) refl on) in
       let above = page_at-le (length file) in
       let back : base + j - base ≡ j = omega arith in
       let one : nat_lt j (length block) ≡ true = lt-ltb j (length block) lt in
       let two : is_zeroed (round_up 4096 (length file) + j) ≡ false = not_zeroed (round_up 4096 (length file) + j) (omega (arith, above, long)) in
-      ap (byte_in a) (find_new (covers a) (map (over s) (map (segment_of file) hs)) (block_segment file base block) on none)
+      ap (byte_in a) (find_new (covers a) (map (over_file s) (map (segment_of file) hs)) (block_segment file base block) on none)
       ∙ rw (back, one, two) refl
 
   word_found : (pc j : ℕ) (g : ProgramHeader) → find (header_has_word pc) hs ≡ Some g → j < 4 → found_at (pc + j) ≡ Some g
@@ -341,7 +341,7 @@ module _ (file : List ℕ) (patches : List Patch) (base : ℕ) (block : List ℕ
       let moved : g.p_offset + (pc + j - g.p_vaddr) ≡ q + j = omega (arith, m.2, has.from) in
       let behind = text.behind in
       let within = text.within in
-      ap (byte_in (pc + j)) (find_out (covers (pc + j)) (map (over s) (map (segment_of file) hs)) (block_segment file base block) out ∙ (segments_at (pc + j) ∙ ap (λ o. option_map (over s) (option_map (segment_of file) o)) found))
+      ap (byte_in (pc + j)) (find_out (covers (pc + j)) (map (over_file s) (map (segment_of file) hs)) (block_segment file base block) out ∙ (segments_at (pc + j) ∙ ap (λ o. option_map (over_file s) (option_map (segment_of file) o)) found))
       ∙ (segment_new file s g (fits (pc + j) g found) longer (pc + j) below (omega (arith, moved, behind))
       ∙ (ap (byte_at s) moved
       ∙ (stored.same (q + j) (omega (arith, within, lt)) (inr (omega (arith, behind))) (inr (omega (arith, behind)))

@@ -11,9 +11,9 @@ use Rattle.scale_base.specs.declared.fragments.Fragment.{Fragment}
 use Rattle.scale_base.specs.declared.fragments.Fragment.TheVariants.{Switch, Exit, Reset, Count}
 use Rattle.scale_base.specs.Layout.{is_keyed}
 use Rattle.scale_base.specs.State.{Setting, reg, word_at}
-use Rattle.stub_writer.specs.Fragments.{t0, port, code_len, rows_len, rows_of, IsShadow}
+use Rattle.stub_writer.specs.Fragments.{t0, port, code_len, rows_len, fragment_rows, IsShadow}
 use Rattle.stub_writer.specs.Stubs.{rows_by, fragments_code}
-use Rattle.stub_runs.specs.Meaning.{Stand, nibble, IsCounter, IsRowAt}
+use Rattle.stub_runs.specs.Meaning.{Stand, four_bits, IsCounter, IsRowAt}
 use Rattle.stub_runs.specs.Ways.{row_at, saved_in, window_behind, Fits, windows_behind, AllFit}
 use Rattle.stub_runs.specs.Held.{Lie}
 use Rattle.stub_runs.proofs.Laws.{row_lies, one_lies, word_lies}
@@ -134,8 +134,8 @@ pub record AreInPlace (env : Setting) (bytes : ℕ → ℕ) (at table : ℕ) (fs
 -- the level that they store at the port, if they store one
 abbrev pub port_by : (bytes : ℕ → ℕ) (table : ℕ) → List Fragment → List ℕ → Option ℕ
 port_by bytes table [] w = None
-port_by bytes table (Switch word ∷ fs) w = Some (nibble word (slice_index w port))
-port_by bytes table (Exit counter shift rows ∷ fs) w = Some (nibble (row_at bytes table counter shift w) (slice_index w port))
+port_by bytes table (Switch word ∷ fs) w = Some (four_bits word (slice_index w port))
+port_by bytes table (Exit counter shift rows ∷ fs) w = Some (four_bits (row_at bytes table counter shift w) (slice_index w port))
 port_by bytes table (Reset counter ∷ fs) w = None
 port_by bytes table (Count counter ∷ fs) w = None
 
@@ -151,7 +151,7 @@ pub row_is : (env : Setting) (bytes : ℕ → ℕ) (at table counter shift : ℕ
 row_is env bytes at table counter shift rows fs limits c w block here within few =
     let n = c counter / 2 ^ shift in
     let low : n < length rows = le_lt n (limits counter / 2 ^ shift) (length rows) (div_up (2 ^ shift) (c counter) (limits counter) (pow_pos shift) within) few in
-    let all = subst (Lie env bytes table) (flat_map-cons rows_of (Exit counter shift rows) fs) block.rows in
+    let all = subst (Lie env bytes table) (flat_map-cons fragment_rows (Exit counter shift rows) fs) block.rows in
     let long = length-append rows (rows_by fs) in (
       ap (λ k. word_at bytes (table + 4 * (k / 2 ^ shift))) here
           ∙ (word_lies env bytes table n (rows ++ rows_by fs) (omega (arith, long, low)) all ∙ get_or_append_left rows (rows_by fs) 0 n low),
@@ -172,8 +172,8 @@ pub edge_fits : (env : Setting) (bytes : ℕ → ℕ) (regs : List ℕ) (limits 
 edge_fits env bytes regs limits table at [] h w ordered safe few within small win block = record { fit = tt; window = win; stored = refl }
 edge_fits env bytes regs limits table at (Switch word ∷ fs) h w ordered safe few within small win block =
     let is = safe 0 (Switch word) (omega arith) in
-    let new = nibble word (slice_index w port) in
-    let level : new ≡ nibble word h.level = ap (nibble word) win.port in
+    let new = four_bits word (slice_index w port) in
+    let level : new ≡ four_bits word h.level = ap (four_bits word) win.port in
     let low : new < env.levels = subst (λ v. v < env.levels) (sym level) (is.1 h.level win.is_level) in
     let saved = put_slot env.levels h.level h.counters (slice_set w 0 (reg regs 5)) 1 (reg regs 6) (omega arith) (put_slot env.levels h.level h.counters w 0 (reg regs 5) (omega arith) win) in
     let here = put_level env.levels h.level h.counters (saved_in regs w) new low saved in
@@ -186,13 +186,13 @@ edge_fits env bytes regs limits table at (Exit counter shift rows ∷ fs) h w or
     let n = c counter / 2 ^ shift in
     let held : slice_index w counter ≡ c counter = win.counters counter is.0 in
     let row = row_is env bytes at table counter shift rows fs limits c w block held (within counter) is.2 in
-    let got : nibble (row_at bytes table counter shift w) (slice_index w port) ≡ nibble (get_or rows n 0) h.level =
-    ap (λ r. nibble r (slice_index w port)) row.0 ∙ ap (nibble (get_or rows n 0)) win.port in
-    let new = nibble (row_at bytes table counter shift w) (slice_index w port) in
+    let got : four_bits (row_at bytes table counter shift w) (slice_index w port) ≡ four_bits (get_or rows n 0) h.level =
+    ap (λ r. four_bits r (slice_index w port)) row.0 ∙ ap (four_bits (get_or rows n 0)) win.port in
+    let new = four_bits (row_at bytes table counter shift w) (slice_index w port) in
     let table_is = is.3 n 0 row.1 in
     let low : new < env.levels = subst (λ v. v < env.levels) (sym got) (table_is.1 h.level win.is_level) in
     let place : slice_index w counter / 2 ^ shift ≡ n = ap (λ k. k / 2 ^ shift) held in
-    let long : length (rows_by (Exit counter shift rows ∷ fs)) ≡ length rows + length (rows_by fs) = ap (λ (l : List ℕ). length l) (flat_map-cons rows_of (Exit counter shift rows) fs) ∙ length-append rows (rows_by fs) in
+    let long : length (rows_by (Exit counter shift rows ∷ fs)) ≡ length rows + length (rows_by fs) = ap (λ (l : List ℕ). length l) (flat_map-cons fragment_rows (Exit counter shift rows) fs) ∙ length-append rows (rows_by fs) in
     let seventh = block.code.1.1.1.1.1.1.1.0.keyed in
     let here_is : at + 4 + 4 + 4 + 4 + 4 + 4 + 4 ≡ at + 28 = omega arith in
     let keyed : is_keyed env.layout (at + 28) ≡ true = subst (λ a. is_keyed env.layout a ≡ true) here_is seventh in

@@ -8,7 +8,7 @@ use Rattle.scale_base.specs.Layout.{is_keyed}
 use Rattle.scale_base.specs.Run.{GoesOn, run}
 use Rattle.scale_base.specs.State.{Setting, State}
 use Rattle.stub_writer.specs.Stubs.{Site}
-use Rattle.stub_runs.specs.Cycles.{cycles}
+use Rattle.stub_runs.specs.Cycles.{stepped_cycles}
 use Rattle.stored_runs.specs.Marks.{Shadow, extra_cycles, stored_cycles}
 use Rattle.stored_runs.specs.Legs.{Leg, AreLegs, originals, all_steps}
 use Rattle.stored_runs.specs.Stubbed.{IsStubbed, StaysInText, KeepsLimits, IsFollowed}
@@ -36,7 +36,7 @@ text_steps xs = filter (λ x. not x.keyed) xs
 -- The steps of legs cost the stored weights of their edges, whatever the costs of the classes.
 abbrev pub LegsCostStoredWeights : Type 0
 LegsCostStoredWeights = (sites : List Site) (h : Shadow) (legs : List Leg) → AreLegs sites h legs → (costs : Class → ℕ) →
-    cycles costs (all_steps legs) ≡ sum_by (stored_cycles costs sites) (originals legs)
+    stepped_cycles costs (all_steps legs) ≡ sum_by (stored_cycles costs sites) (originals legs)
 
 -- One step of each leg was fetched from the text.
 abbrev pub LegsHaveOneStepOfText : Type 0

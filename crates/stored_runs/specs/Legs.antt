@@ -8,7 +8,7 @@ use Rattle.scale_base.specs.State.{State}
 use Rattle.scale_base.specs.Run.{Standing, GoesOn, HasExited, HasTrapped}
 use Rattle.stub_writer.specs.Fragments.{port, IsShadow}
 use Rattle.stub_writer.specs.Stubs.{Site}
-use Rattle.stub_runs.specs.Cycles.{cycles}
+use Rattle.stub_runs.specs.Cycles.{stepped_cycles}
 use Rattle.stored_runs.specs.Marks.{Shadow, fragments_over, stored_cycles, tail_cycles, level_stored, shadow_more}
 
 -- a step of the original run, and the steps of the stored run in its place
@@ -25,12 +25,12 @@ pub record StoresOnce (level : ℕ) (tail : (Class → ℕ) → ℕ) (steps : Li
   pub level_is : store.port ≡ Some level
   pub none_before : All (λ x. x.port ≡ None) before
   pub none_behind : All (λ x. x.port ≡ None) behind
-  pub tail_is : (costs : Class → ℕ) → cycles costs behind ≡ tail costs
+  pub tail_is : (costs : Class → ℕ) → stepped_cycles costs behind ≡ tail costs
 
 -- the steps store the level at the port once, or nothing where there is none
-abbrev pub Stores : Option ℕ → ((Class → ℕ) → ℕ) → List Stepped → Type 0
-Stores None tail steps = All (λ x. x.port ≡ None) steps
-Stores (Some level) tail steps = StoresOnce level tail steps
+abbrev pub StoresLevel : Option ℕ → ((Class → ℕ) → ℕ) → List Stepped → Type 0
+StoresLevel None tail steps = All (λ x. x.port ≡ None) steps
+StoresLevel (Some level) tail steps = StoresOnce level tail steps
 
 -- What a leg is, from a level and counters on. Its first step is fetched from the text and all others from the keyed segment; it costs the stored
 -- weight of its edge, whatever the costs of the classes; and it stores what the edge's marks choose.
@@ -40,8 +40,8 @@ pub record IsLeg (sites : List Site) (h : Shadow) (l : Leg) : Type 0 where
   pub parts : l.steps ≡ first ∷ others
   pub text : first.keyed ≡ false
   pub keyed : All (λ x. x.keyed ≡ true) others
-  pub cost : (costs : Class → ℕ) → cycles costs l.steps ≡ stored_cycles costs sites l.step
-  pub stores : Stores (level_stored (fragments_over sites l.step) h) (λ costs. tail_cycles costs (fragments_over sites l.step)) l.steps
+  pub cost : (costs : Class → ℕ) → stepped_cycles costs l.steps ≡ stored_cycles costs sites l.step
+  pub stores : StoresLevel (level_stored (fragments_over sites l.step) h) (λ costs. tail_cycles costs (fragments_over sites l.step)) l.steps
 
 abbrev pub AreLegs : List Site → Shadow → List Leg → Type 0
 AreLegs sites h [] = Unit {0}

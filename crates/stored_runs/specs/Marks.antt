@@ -8,7 +8,7 @@ use Rattle.scale_base.specs.declared.stepping.Class.{Class}
 use Rattle.scale_base.specs.declared.stepping.Class.TheVariants as classes
 use Rattle.scale_base.specs.declared.stepping.Stepped.{Stepped}
 use Rattle.stub_writer.specs.Stubs.{Site, Way, Place, Forked, Straight}
-use Rattle.stub_runs.specs.Meaning.{nibble}
+use Rattle.stub_runs.specs.Meaning.{four_bits}
 use Rattle.stub_runs.specs.Cycles.{fragment_cost}
 
 -- ---- which fragments stand on an edge
@@ -23,13 +23,13 @@ abbrev pub forked_by : Class → Way → Way → List Fragment
 forked_by classes.Taken untaken taken = taken.fragments
 forked_by class untaken taken = untaken.fragments
 
-abbrev pub fragments_by : Option Place → Class → List Fragment
-fragments_by None class = []
-fragments_by (Some (Forked op rs1 rs2 untaken taken)) class = forked_by class untaken taken
-fragments_by (Some (Straight way)) class = way.fragments
+abbrev pub fragments_of_class : Option Place → Class → List Fragment
+fragments_of_class None class = []
+fragments_of_class (Some (Forked op rs1 rs2 untaken taken)) class = forked_by class untaken taken
+fragments_of_class (Some (Straight way)) class = way.fragments
 
 abbrev pub fragments_over : List Site → Stepped → List Fragment
-fragments_over sites x = fragments_by (place_at sites x.pc) x.class
+fragments_over sites x = fragments_of_class (place_at sites x.pc) x.class
 
 -- ---- cycles
 
@@ -65,8 +65,8 @@ shadow_first level = record { level = level; counters = λ k. 0 }
 
 -- the level that fragments store at the port, where they store one
 abbrev pub level_stored : List Fragment → Shadow → Option ℕ
-level_stored (Switch word ∷ fs) h = Some (nibble word h.level)
-level_stored (Exit counter shift rows ∷ fs) h = Some (nibble (slice_index rows (h.counters counter / 2 ^ shift)) h.level)
+level_stored (Switch word ∷ fs) h = Some (four_bits word h.level)
+level_stored (Exit counter shift rows ∷ fs) h = Some (four_bits (slice_index rows (h.counters counter / 2 ^ shift)) h.level)
 level_stored fs h = None
 
 -- the counters behind one fragment

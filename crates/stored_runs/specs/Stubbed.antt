@@ -13,7 +13,7 @@ use Rattle.elf_patch.specs.Stored.{stored_image}
 use Rattle.stored_laws.specs.StoredView.{IsStorable}
 use Rattle.stub_writer.specs.Fragments.{IsShadow}
 use Rattle.stub_writer.specs.Stubs.{Site, Way, Place, Forked, Straight, out_of_reach, patches_from, block_bytes}
-use Rattle.stub_runs.specs.Meaning.{nibble}
+use Rattle.stub_runs.specs.Meaning.{four_bits}
 use Rattle.stored_runs.specs.Marks.{shadow_first, shadow_after}
 use Rattle.stored_runs.specs.Legs.{Leg, AreLegs, originals, all_steps, Meets, Holds, steps_to}
 
@@ -21,7 +21,7 @@ use Rattle.stored_runs.specs.Legs.{Leg, AreLegs, originals, all_steps, Meets, Ho
 
 -- a word of entries: each is a level
 abbrev pub IsTable : ℕ → ℕ → Type 0
-IsTable levels word = (word < 2 ^ 32) × ((i : ℕ) → i < levels → nibble word i < levels)
+IsTable levels word = (word < 2 ^ 32) × ((i : ℕ) → i < levels → four_bits word i < levels)
 
 -- A fragment whose tables hold levels, and that has a row for each count up to the counter's limit. `limits` gives the greatest count of each
 -- counter.

@@ -12,7 +12,7 @@ use Rattle.scale_base.specs.declared.stepping.Stepped.{Stepped}
 use Rattle.scale_base.specs.Arith.{moved_by, plus, unsigned, imm_result, reg_result}
 use Rattle.scale_base.specs.State.{Setting, State, reg, word_at}
 use Rattle.stub_writer.specs.Fragments.{hi, lo, switch_code, exit_code, count_code, reset_code}
-use Rattle.stub_runs.specs.Meaning.{Stand, Leads, along, along_storing, IsSound, IsRowAt, IsCounter, nibble, level_in, row_place, switched, exited, counted, cleared}
+use Rattle.stub_runs.specs.Meaning.{Stand, StepsLead, along, along_storing, IsSound, IsRowAt, IsCounter, four_bits, level_in, row_place, switched, exited, counted, cleared}
 use Rattle.stub_runs.proofs.Points.{X5, X6, Save0, Save1, Counter, Port, point_of, at_point, own_point, regs_same, window_at}
 use Rattle.stub_runs.proofs.Moves.{Move, Put, Clear, Get, Work, Join, Upper, Row, IsWhole, moves, AllowsAll, steps_of, run_moves}
 
@@ -38,16 +38,16 @@ high_low_from x c h =
     moved_plus x (hi c) (lo c) ∙ (ap (plus x) (high_low c fits) ∙ omega arith)
 
 -- four bits of a word, as the machine takes them
-nibble_is : (w level : ℕ) → level < 8 → imm_result Andi (reg_result Srl w (imm_result Slli level (pos 2))) (pos 15) ≡ nibble w level
+nibble_is : (w level : ℕ) → level < 8 → imm_result Andi (reg_result Srl w (imm_result Slli level (pos 2))) (pos 15) ≡ four_bits w level
 nibble_is w level h =
     let e : level * 4 % 2 ^ 32 % 32 ≡ 4 * level = omega arith in
     ap (λ k. bit_and (w / 2 ^ k) 15) e ∙ and_mask (w / 2 ^ (4 * level)) 4
 
 -- ---- the end of a run in other words
 
-leads_as : (env : Setting) (s s2 : State) (xs ys : List Stepped) (t u : State) → s ≡ s2 → xs ≡ ys → t ≡ u → Leads env s xs t → Leads env s2 ys u
+leads_as : (env : Setting) (s s2 : State) (xs ys : List Stepped) (t u : State) → s ≡ s2 → xs ≡ ys → t ≡ u → StepsLead env s xs t → StepsLead env s2 ys u
 leads_as env s s2 xs ys t u a b c h =
-    subst (λ x. Leads env x ys u) a (subst (λ x. Leads env s x u) b (subst (λ x. Leads env s xs x) c h))
+    subst (λ x. StepsLead env x ys u) a (subst (λ x. StepsLead env s x u) b (subst (λ x. StepsLead env s xs x) c h))
 
 whole : (env : Setting) (s : State) (k : ℕ) → IsSound env s → IsCounter k → IsWhole s k
 whole env s k h c = record { regs = h.regs; window = h.window; zero = h.zero; counter = c }
@@ -91,15 +91,15 @@ switch_window w a b level =
     let same : slice_index w1 2 ≡ slice_index w 2 = get_or-set_other (slice_set w 0 a) 1 2 b 0 (omega arith) ∙ get_or-set_other w 0 2 a 0 (omega arith) in
     ap (λ l. slice_set l 511 level) (ap (slice_set w1 2) (sym same) ∙ set-get_or w1 2 0)
 
-level_is : (word level : ℕ) → word < 2 ^ 32 → level < 8 → imm_result Andi (reg_result Srl (imm_result Addi (hi word) (lo word)) (imm_result Slli level (pos 2))) (pos 15) ≡ nibble word level
+level_is : (word level : ℕ) → word < 2 ^ 32 → level < 8 → imm_result Andi (reg_result Srl (imm_result Addi (hi word) (lo word)) (imm_result Slli level (pos 2))) (pos 15) ≡ four_bits word level
 level_is word level h g =
     ap (λ w. imm_result Andi (reg_result Srl w (imm_result Slli level (pos 2))) (pos 15)) (high_low word h) ∙ nibble_is word level g
 
-pub switch_does : (env : Setting) (s : State) (word : ℕ) → IsSound env s → word < 2 ^ 32 → nibble word (level_in s) < env.levels → Stand env s.bytes s.pc (switch_code word) → Leads env s (along_storing 8 (nibble word (level_in s)) s.pc (switch_code word)) (switched s word)
+pub switch_does : (env : Setting) (s : State) (word : ℕ) → IsSound env s → word < 2 ^ 32 → four_bits word (level_in s) < env.levels → Stand env s.bytes s.pc (switch_code word) → StepsLead env s (along_storing 8 (four_bits word (level_in s)) s.pc (switch_code word)) (switched s word)
 switch_does env s word sound small fits stand =
     let p = point_of s 2 in
     let ms = switch_moves word in
-    let new = nibble word (level_in s) in
+    let new = four_bits word (level_in s) in
     let low : level_in s < 8 = omega (arith, sound.level, sound.levels) in
     let level : imm_result Andi (reg_result Srl (imm_result Addi (hi word) (lo word)) (imm_result Slli (level_in s) (pos 2))) (pos 15) ≡ new = level_is word (level_in s) small low in
     let may : imm_result Andi (reg_result Srl (imm_result Addi (hi word) (lo word)) (imm_result Slli (level_in s) (pos 2))) (pos 15) < env.levels = omega (arith, level, fits) in
@@ -115,7 +115,7 @@ switch_does env s word sound small fits stand =
 
 -- ---- Reset
 
-pub reset_does : (env : Setting) (s : State) (k : ℕ) → IsSound env s → IsCounter k → Stand env s.bytes s.pc (reset_code k) → Leads env s (along s.pc (reset_code k)) (cleared s k)
+pub reset_does : (env : Setting) (s : State) (k : ℕ) → IsSound env s → IsCounter k → Stand env s.bytes s.pc (reset_code k) → StepsLead env s (along s.pc (reset_code k)) (cleared s k)
 reset_does env s k sound c stand =
     let p = point_of s k in
     let ms : List Move = Clear ∷ [] in
@@ -131,7 +131,7 @@ reset_does env s k sound c stand =
 abbrev count_moves : List Move
 count_moves = Put Save0 X5 ∷ Get X5 Counter ∷ Work Addi X5 (pos 1) ∷ Put Counter X5 ∷ Get X5 Save0 ∷ []
 
-pub count_does : (env : Setting) (s : State) (k : ℕ) → IsSound env s → IsCounter k → Stand env s.bytes s.pc (count_code k) → Leads env s (along s.pc (count_code k)) (counted s k)
+pub count_does : (env : Setting) (s : State) (k : ℕ) → IsSound env s → IsCounter k → Stand env s.bytes s.pc (count_code k) → StepsLead env s (along s.pc (count_code k)) (counted s k)
 count_does env s k sound c stand =
     let p = point_of s k in
     let ms : List Move = count_moves in
@@ -161,12 +161,12 @@ row_is count shift table h fits =
     ap (λ k. moved_by (plus (count / 2 ^ k * 4 % 2 ^ 32) (hi table)) (lo table)) by
     ∙ (ap (λ x. moved_by (plus x (hi table)) (lo table)) four ∙ high_low_from (4 * (count / 2 ^ shift)) table fits)
 
-pub exit_does : (env : Setting) (s : State) (k shift table : ℕ) → IsSound env s → IsCounter k → shift < 32 → IsRowAt env (s.pc + 28) (row_place s k shift table) → nibble (word_at s.bytes (row_place s k shift table)) (level_in s) < env.levels → Stand env s.bytes s.pc (exit_code k shift table) → Leads env s (along_storing 13 (nibble (word_at s.bytes (row_place s k shift table)) (level_in s)) s.pc (exit_code k shift table)) (exited s k (word_at s.bytes (row_place s k shift table)))
+pub exit_does : (env : Setting) (s : State) (k shift table : ℕ) → IsSound env s → IsCounter k → shift < 32 → IsRowAt env (s.pc + 28) (row_place s k shift table) → four_bits (word_at s.bytes (row_place s k shift table)) (level_in s) < env.levels → Stand env s.bytes s.pc (exit_code k shift table) → StepsLead env s (along_storing 13 (four_bits (word_at s.bytes (row_place s k shift table)) (level_in s)) s.pc (exit_code k shift table)) (exited s k (word_at s.bytes (row_place s k shift table)))
 exit_does env s k shift table sound c short row fits stand =
     let p = point_of s k in
     let ms : List Move = exit_moves shift table in
     let at = row_place s k shift table in
-    let new = nibble (word_at s.bytes at) (level_in s) in
+    let new = four_bits (word_at s.bytes at) (level_in s) in
     let low : level_in s < 8 = omega (arith, sound.level, sound.levels) in
     let sum : row_sum (slice_index s.window k) shift table ≡ at = row_is (slice_index s.window k) shift table short (omega (arith, row.outside)) in
     let got : imm_result Andi (reg_result Srl (word_at s.bytes (row_sum (slice_index s.window k) shift table)) (imm_result Slli (level_in s) (pos 2))) (pos 15) ≡ new =

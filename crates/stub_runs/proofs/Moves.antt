@@ -17,7 +17,7 @@ use Rattle.scale_base.specs.Arith.{moved_by, plus, imm_result, reg_result}
 use Rattle.scale_base.specs.State.{Setting, State, reg, word_at}
 use Rattle.scale_base.specs.Step.{Outcome, step, goes, sets, stores, stores_word, loads, performs, move_of, window_index, port_index}
 use Rattle.stub_writer.specs.Fragments.{sw, lw, slot}
-use Rattle.stub_runs.specs.Meaning.{StandsAt, Stand, Leads, keyed_step, IsRowAt, IsCounter}
+use Rattle.stub_runs.specs.Meaning.{StandsAt, Stand, StepsLead, keyed_step, IsRowAt, IsCounter}
 use Rattle.stub_runs.proofs.Steps.{performed, leads_none, leads_first}
 use Rattle.stub_runs.proofs.Points.{Temp, X5, X6, Slot, Save0, Save1, Counter, Port, Point, temp_reg, value, with_value, slot_index, held_in, with_held, regs_at, window_at, at_point, read_temp, read_zero, write_temp, read_slot, write_slot}
 
@@ -227,7 +227,7 @@ abbrev pub steps_of : ℕ → (ℕ → ℕ) → Point → List Move → List Ste
 steps_of k bytes p [] = []
 steps_of k bytes p (m ∷ ms) = keyed_step p.pc (instr_for k m) (port_of p m) ∷ steps_of k bytes (move bytes p m) ms
 
-pub run_moves : (env : Setting) (s : State) (k : ℕ) (p : Point) (ms : List Move) → IsWhole s k → AllowsAll env s.bytes p ms → Stand env s.bytes p.pc (map (instr_for k) ms) → Leads env (at_point s k p) (steps_of k s.bytes p ms) (at_point s k (moves s.bytes p ms))
+pub run_moves : (env : Setting) (s : State) (k : ℕ) (p : Point) (ms : List Move) → IsWhole s k → AllowsAll env s.bytes p ms → Stand env s.bytes p.pc (map (instr_for k) ms) → StepsLead env (at_point s k p) (steps_of k s.bytes p ms) (at_point s k (moves s.bytes p ms))
 run_moves env s k p [] w a h = leads_none env (at_point s k p)
 run_moves env s k p (m ∷ ms) w a h =
     leads_first env _ _ _ _ _ (move_step env s k p m w a.0 h.0) (run_moves env s k (move s.bytes p m) ms w a.1 h.1)

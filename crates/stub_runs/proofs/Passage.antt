@@ -11,25 +11,25 @@ use Rattle.scale_base.specs.State.{Setting, State, reg, word_at}
 use Rattle.scale_base.specs.Step.{step, jumps, stops}
 use Rattle.scale_base.proofs.Laws.{each_byte_none, each_byte_more}
 use Rattle.stub_writer.specs.Stubs.{Way, Forked, Straight, way_len, way_rows, jump, taken_at, stub_code_of}
-use Rattle.stub_runs.specs.Meaning.{StandsAt, Stand, Leads, IsSound, IsRowAt}
+use Rattle.stub_runs.specs.Meaning.{StandsAt, Stand, StepsLead, IsSound, IsRowAt}
 use Rattle.stub_runs.specs.Ways.{turn, WayFits, behind_way, way_steps, taken_steps, untaken_steps}
-use Rattle.stub_runs.specs.Held.{IsPatched, text_turn, KeyedFrom, LiesAt, Lie, WayStands, ForkStands}
+use Rattle.stub_runs.specs.Held.{StandsAtPatch, text_turn, KeyedFrom, LiesAt, Lie, WayStands, ForkStands}
 use Rattle.stub_runs.proofs.Steps.{performed, leads_first}
 use Rattle.stub_runs.proofs.Ways.{reaches_to, sound_at, patch_does, way_does, taken_does, untaken_does, fork_taken_to, fork_passed}
 
-pub passes_taken : (env : Setting) (s : State) (stub table : ℕ) (op : BranchOp) (rs1 rs2 : ℕ) (untaken taken : Way) → IsSound env s → IsPatched env s stub → Stand env s.bytes stub (stub_code_of stub table (Forked op rs1 rs2 untaken taken)) → is_taken op (reg s.regs rs1) (reg s.regs rs2) ≡ true → 4 + 4 * way_len untaken < 2 ^ 12 → taken_at stub untaken < 2 ^ 32 → WayFits env s (table + 4 * length (way_rows untaken)) (taken_at stub untaken) taken → Leads env s (text_turn s.pc stub ∷ taken_steps (record s { pc = stub }) table untaken taken) (behind_way s (table + 4 * length (way_rows untaken)) taken)
+pub passes_taken : (env : Setting) (s : State) (stub table : ℕ) (op : BranchOp) (rs1 rs2 : ℕ) (untaken taken : Way) → IsSound env s → StandsAtPatch env s stub → Stand env s.bytes stub (stub_code_of stub table (Forked op rs1 rs2 untaken taken)) → is_taken op (reg s.regs rs1) (reg s.regs rs2) ≡ true → 4 + 4 * way_len untaken < 2 ^ 12 → taken_at stub untaken < 2 ^ 32 → WayFits env s (table + 4 * length (way_rows untaken)) (taken_at stub untaken) taken → StepsLead env s (text_turn s.pc stub ∷ taken_steps (record s { pc = stub }) table untaken taken) (behind_way s (table + 4 * length (way_rows untaken)) taken)
 passes_taken env s stub table op rs1 rs2 untaken taken sound patched stand is near room fits =
     let t : State = record s { pc = stub } in
     leads_first env s t _ _ _ (patch_does env s stub patched.there patched.pc patched.small patched.even)
     (taken_does env t table op rs1 rs2 untaken taken (sound_at env s stub sound) stand is near room fits)
 
-pub passes_untaken : (env : Setting) (s : State) (stub table : ℕ) (op : BranchOp) (rs1 rs2 : ℕ) (untaken taken : Way) → IsSound env s → IsPatched env s stub → Stand env s.bytes stub (stub_code_of stub table (Forked op rs1 rs2 untaken taken)) → is_taken op (reg s.regs rs1) (reg s.regs rs2) ≡ false → WayFits env s table (stub + 4) untaken → Leads env s (text_turn s.pc stub ∷ untaken_steps (record s { pc = stub }) table untaken) (behind_way s table untaken)
+pub passes_untaken : (env : Setting) (s : State) (stub table : ℕ) (op : BranchOp) (rs1 rs2 : ℕ) (untaken taken : Way) → IsSound env s → StandsAtPatch env s stub → Stand env s.bytes stub (stub_code_of stub table (Forked op rs1 rs2 untaken taken)) → is_taken op (reg s.regs rs1) (reg s.regs rs2) ≡ false → WayFits env s table (stub + 4) untaken → StepsLead env s (text_turn s.pc stub ∷ untaken_steps (record s { pc = stub }) table untaken) (behind_way s table untaken)
 passes_untaken env s stub table op rs1 rs2 untaken taken sound patched stand is fits =
     let t : State = record s { pc = stub } in
     leads_first env s t _ _ _ (patch_does env s stub patched.there patched.pc patched.small patched.even)
     (untaken_does env t table op rs1 rs2 untaken taken (sound_at env s stub sound) stand is fits)
 
-pub passes_jump : (env : Setting) (s : State) (stub table : ℕ) (way : Way) → IsSound env s → IsPatched env s stub → Stand env s.bytes stub (stub_code_of stub table (Straight way)) → WayFits env s table stub way → Leads env s (text_turn s.pc stub ∷ way_steps (record s { pc = stub }) table stub way) (behind_way s table way)
+pub passes_jump : (env : Setting) (s : State) (stub table : ℕ) (way : Way) → IsSound env s → StandsAtPatch env s stub → Stand env s.bytes stub (stub_code_of stub table (Straight way)) → WayFits env s table stub way → StepsLead env s (text_turn s.pc stub ∷ way_steps (record s { pc = stub }) table stub way) (behind_way s table way)
 passes_jump env s stub table way sound patched stand fits =
     let t : State = record s { pc = stub } in
     leads_first env s t _ _ _ (patch_does env s stub patched.there patched.pc patched.small patched.even)
@@ -37,8 +37,8 @@ passes_jump env s stub table way sound patched stand fits =
 
 -- ---- stubs anywhere in the keyed segment
 
-pub goes_taken : (env : Setting) (s : State) (stub : ℕ) (op : BranchOp) (rs1 rs2 : ℕ) (untaken taken : Way) → IsSound env s → IsPatched env s stub → (f : ForkStands env s.bytes stub op rs1 rs2 untaken taken) → is_taken op (reg s.regs rs1) (reg s.regs rs2) ≡ true → WayFits env s f.taken_way.table f.to taken
-    → Leads env s (text_turn s.pc stub ∷ turn stub f.to classes.Taken ∷ way_steps (record s { pc = stub }) f.taken_way.table f.to taken) (behind_way s f.taken_way.table taken)
+pub goes_taken : (env : Setting) (s : State) (stub : ℕ) (op : BranchOp) (rs1 rs2 : ℕ) (untaken taken : Way) → IsSound env s → StandsAtPatch env s stub → (f : ForkStands env s.bytes stub op rs1 rs2 untaken taken) → is_taken op (reg s.regs rs1) (reg s.regs rs2) ≡ true → WayFits env s f.taken_way.table f.to taken
+    → StepsLead env s (text_turn s.pc stub ∷ turn stub f.to classes.Taken ∷ way_steps (record s { pc = stub }) f.taken_way.table f.to taken) (behind_way s f.taken_way.table taken)
 goes_taken env s stub op rs1 rs2 untaken taken sound patched f is fits =
     let t : State = record s { pc = stub } in
     let u : State = record s { pc = f.to } in
@@ -47,8 +47,8 @@ goes_taken env s stub op rs1 rs2 untaken taken sound patched f is fits =
     (leads_first env t u (behind_way s table taken) _ _ (fork_taken_to env t op rs1 rs2 f.offset f.to f.branch f.leads f.even is)
     (way_does env u table taken (sound_at env s f.to sound) fits f.taken_way.code))
 
-pub goes_untaken : (env : Setting) (s : State) (stub : ℕ) (op : BranchOp) (rs1 rs2 : ℕ) (untaken taken : Way) → IsSound env s → IsPatched env s stub → (f : ForkStands env s.bytes stub op rs1 rs2 untaken taken) → is_taken op (reg s.regs rs1) (reg s.regs rs2) ≡ false → WayFits env s f.untaken_way.table (stub + 4) untaken
-    → Leads env s (text_turn s.pc stub ∷ turn stub (stub + 4) classes.Untaken ∷ way_steps (record s { pc = stub }) f.untaken_way.table (stub + 4) untaken) (behind_way s f.untaken_way.table untaken)
+pub goes_untaken : (env : Setting) (s : State) (stub : ℕ) (op : BranchOp) (rs1 rs2 : ℕ) (untaken taken : Way) → IsSound env s → StandsAtPatch env s stub → (f : ForkStands env s.bytes stub op rs1 rs2 untaken taken) → is_taken op (reg s.regs rs1) (reg s.regs rs2) ≡ false → WayFits env s f.untaken_way.table (stub + 4) untaken
+    → StepsLead env s (text_turn s.pc stub ∷ turn stub (stub + 4) classes.Untaken ∷ way_steps (record s { pc = stub }) f.untaken_way.table (stub + 4) untaken) (behind_way s f.untaken_way.table untaken)
 goes_untaken env s stub op rs1 rs2 untaken taken sound patched f is fits =
     let t : State = record s { pc = stub } in
     let u : State = record s { pc = stub + 4 } in
@@ -57,8 +57,8 @@ goes_untaken env s stub op rs1 rs2 untaken taken sound patched f is fits =
     (leads_first env t u (behind_way s table untaken) _ _ (fork_passed env t op rs1 rs2 f.offset f.branch is)
     (way_does env u table untaken (sound_at env s (stub + 4) sound) fits f.untaken_way.code))
 
-pub goes_on : (env : Setting) (s : State) (stub : ℕ) (way : Way) → IsSound env s → IsPatched env s stub → (f : WayStands env s.bytes stub way) → WayFits env s f.table stub way
-    → Leads env s (text_turn s.pc stub ∷ way_steps (record s { pc = stub }) f.table stub way) (behind_way s f.table way)
+pub goes_on : (env : Setting) (s : State) (stub : ℕ) (way : Way) → IsSound env s → StandsAtPatch env s stub → (f : WayStands env s.bytes stub way) → WayFits env s f.table stub way
+    → StepsLead env s (text_turn s.pc stub ∷ way_steps (record s { pc = stub }) f.table stub way) (behind_way s f.table way)
 goes_on env s stub way sound patched f fits =
     let t : State = record s { pc = stub } in
     leads_first env s t _ _ _ (patch_does env s stub patched.there patched.pc patched.small patched.even)

@@ -10,7 +10,7 @@ use Rattle.scale_base.specs.State.{Setting, State, word_at}
 use Rattle.scale_base.specs.Step.{step, goes, executes, performs}
 use Rattle.scale_base.specs.Run.{Run, Standing, GoesOn, HasExited, HasTrapped, one_more, one_more_by, ended, run}
 use Rattle.scale_base.proofs.Laws.{run_none, run_more, word_back}
-use Rattle.stub_runs.specs.Meaning.{StandsAt, Leads}
+use Rattle.stub_runs.specs.Meaning.{StandsAt, StepsLead}
 
 -- the step of an instruction that stands at the pc
 pub performed : (env : Setting) (s : State) (i : Instr) → StandsAt env s.bytes s.pc i → step env s ≡ performs env s i i
@@ -38,10 +38,10 @@ unfolding run
 run_first env s t x zero e = ap (λ o. ended [] o.end o.state) e
 run_first env s t x (suc n) e = ap (one_more env) (run_first env s t x n e) ∙ more_before_by env x (run env t n) (run env t n).standing
 
-pub leads_none : (env : Setting) (s : State) → Leads env s [] s
+pub leads_none : (env : Setting) (s : State) → StepsLead env s [] s
 leads_none env s = run_none env s
 
-pub leads_first : (env : Setting) (s t u : State) (x : Stepped) (xs : List Stepped) → step env s ≡ goes x t → Leads env t xs u → Leads env s (x ∷ xs) u
+pub leads_first : (env : Setting) (s t u : State) (x : Stepped) (xs : List Stepped) → step env s ≡ goes x t → StepsLead env t xs u → StepsLead env s (x ∷ xs) u
 leads_first env s t u x xs e h = run_first env s t x (length xs) e ∙ ap (before x) h
 
 -- a run that has these steps before it
@@ -68,7 +68,7 @@ run_on env s t m (suc n) xs g =
     ap (run env s) e ∙ (run_more env s (n + m) ∙ (ap (one_more env) (run_on env s t m n xs g) ∙ more_behind_by env xs (run env t n) (run env t n).standing))
 
 -- steps, and then further ones
-pub leads_on : (env : Setting) (s t u : State) (xs ys : List Stepped) → Leads env s xs t → Leads env t ys u → Leads env s (xs ++ ys) u
+pub leads_on : (env : Setting) (s t u : State) (xs ys : List Stepped) → StepsLead env s xs t → StepsLead env t ys u → StepsLead env s (xs ++ ys) u
 leads_on env s t u xs ys g h =
     let e : length (xs ++ ys) ≡ length ys + length xs = omega (arith, length-append xs ys) in
     ap (run env s) e ∙ (run_on env s t (length xs) (length ys) xs g ∙ ap (behind_steps xs) h)

@@ -23,7 +23,7 @@ use Rattle.scale_base.specs.declared.fragments.Fragment.{Fragment}
 use Rattle.scale_base.specs.declared.fragments.Fragment.TheVariants.{Switch, Exit, Reset, Count}
 use Rattle.stub_writer.specs.Fragments.{t0, port, exit_code, fragment_code, code_len, rows_len}
 use Rattle.stub_writer.specs.Stubs.{Way, Forked, fragments_code, way_code, way_len, way_rows, jump, jump_at, taken_at, stub_code_of}
-use Rattle.stub_runs.specs.Meaning.{StandsAt, Stand, Leads, IsSound, behind, nibble, along_storing}
+use Rattle.stub_runs.specs.Meaning.{StandsAt, Stand, StepsLead, IsSound, behind, four_bits, along_storing}
 use Rattle.stub_runs.specs.Ways.{new_level, saved_in, row_at, window_behind, fragment_steps, Fits, windows_behind, fragments_steps, AllFit, turn, way_steps, behind_way, WayFits}
 use Rattle.stub_runs.specs.Held.{IsInText, text_turn}
 use Rattle.scale_base.proofs.Laws.{word_back}
@@ -57,12 +57,12 @@ codes_length table (f ∷ fs) =
 
 -- ---- fragments
 
-pub fragment_does : (env : Setting) (s : State) (table : ℕ) (f : Fragment) → IsSound env s → Fits env s.bytes table s.pc f s.window → Stand env s.bytes s.pc (fragment_code table f) → Leads env s (fragment_steps s.bytes table s.pc f s.window) (behind s (code_len f) (window_behind s.bytes s.regs table f s.window))
+pub fragment_does : (env : Setting) (s : State) (table : ℕ) (f : Fragment) → IsSound env s → Fits env s.bytes table s.pc f s.window → Stand env s.bytes s.pc (fragment_code table f) → StepsLead env s (fragment_steps s.bytes table s.pc f s.window) (behind s (code_len f) (window_behind s.bytes s.regs table f s.window))
 fragment_does env s table (Switch word) sound fits stand = switch_does env s word sound fits.0 fits.1 stand
 fragment_does env s table (Exit counter shift rows) sound fits stand =
     let e : table % 2 ^ 32 ≡ table = omega (arith, fits.2.outside) in
     let code : Stand env s.bytes s.pc (exit_code counter shift table) = subst (λ t. Stand env s.bytes s.pc (exit_code counter shift t)) e stand in
-    subst (λ t. Leads env s (along_storing 13 (new_level s.bytes table (Exit counter shift rows) s.window) s.pc (exit_code counter shift t)) (behind s 16 (window_behind s.bytes s.regs table (Exit counter shift rows) s.window))) (sym e)
+    subst (λ t. StepsLead env s (along_storing 13 (new_level s.bytes table (Exit counter shift rows) s.window) s.pc (exit_code counter shift t)) (behind s 16 (window_behind s.bytes s.regs table (Exit counter shift rows) s.window))) (sym e)
     (exit_does env s counter shift table sound fits.0 fits.1 fits.2 fits.3 code)
 fragment_does env s table (Reset counter) sound fits stand = reset_does env s counter sound fits stand
 fragment_does env s table (Count counter) sound fits stand = count_does env s counter sound fits stand
@@ -77,11 +77,11 @@ level_kept : (env : Setting) (bytes : ℕ → ℕ) (regs : List ℕ) (table at :
 level_kept env bytes regs table at (Switch word) w len h fits =
     let x = saved_in regs w in
     let long : length x ≡ 512 = simp length-set len in
-    subst (λ v. v < env.levels) (sym (get_or-set_same x 511 (nibble word (slice_index w port)) 0 (omega arith))) fits.1
+    subst (λ v. v < env.levels) (sym (get_or-set_same x 511 (four_bits word (slice_index w port)) 0 (omega arith))) fits.1
 level_kept env bytes regs table at (Exit counter shift rows) w len h fits =
     let x = slice_set (saved_in regs w) counter 0 in
     let long : length x ≡ 512 = simp length-set len in
-    subst (λ v. v < env.levels) (sym (get_or-set_same x 511 (nibble (row_at bytes table counter shift w) (slice_index w port)) 0 (omega arith))) fits.3
+    subst (λ v. v < env.levels) (sym (get_or-set_same x 511 (four_bits (row_at bytes table counter shift w) (slice_index w port)) 0 (omega arith))) fits.3
 level_kept env bytes regs table at (Reset counter) w len h fits =
     subst (λ v. v < env.levels) (sym (get_or-set_other w counter 511 0 0 (omega arith))) h
 level_kept env bytes regs table at (Count counter) w len h fits =
@@ -99,10 +99,10 @@ sound_behind env s table f sound fits = record {
   levels = sound.levels;
 }
 
-pub fragments_do : (env : Setting) (s : State) (table : ℕ) (fs : List Fragment) → IsSound env s → AllFit env s.bytes s.regs table s.pc fs s.window → Stand env s.bytes s.pc (fragments_code table fs) → Leads env s (fragments_steps s.bytes s.regs table s.pc fs s.window) (behind s (sum_by code_len fs) (windows_behind s.bytes s.regs table fs s.window))
+pub fragments_do : (env : Setting) (s : State) (table : ℕ) (fs : List Fragment) → IsSound env s → AllFit env s.bytes s.regs table s.pc fs s.window → Stand env s.bytes s.pc (fragments_code table fs) → StepsLead env s (fragments_steps s.bytes s.regs table s.pc fs s.window) (behind s (sum_by code_len fs) (windows_behind s.bytes s.regs table fs s.window))
 fragments_do env s table [] sound fits stand =
     let e : s.pc ≡ s.pc + 4 * 0 = omega arith in
-    subst (λ pc. Leads env s [] (record s { pc = pc })) e (leads_none env s)
+    subst (λ pc. StepsLead env s [] (record s { pc = pc })) e (leads_none env s)
 fragments_do env s table (f ∷ fs) sound fits stand =
     let first = fragment_code table f in
     let later = table + 4 * rows_len f in
@@ -112,7 +112,7 @@ fragments_do env s table (f ∷ fs) sound fits stand =
     subst (λ n. Stand env s.bytes (s.pc + 4 * n) (fragments_code later fs)) (code_length table f) (stand_right env s.bytes s.pc first (fragments_code later fs) stand) in
     let rest = fragments_do env t later fs (sound_behind env s table f sound fits.0) fits.1 there in
     let e : s.pc + 4 * code_len f + 4 * sum_by code_len fs ≡ s.pc + 4 * sum_by code_len (f ∷ fs) = omega (arith, sum_by-cons code_len f fs) in
-    subst (λ pc. Leads env s (fragments_steps s.bytes s.regs table s.pc (f ∷ fs) s.window) (record s { pc = pc; window = windows_behind s.bytes s.regs table (f ∷ fs) s.window })) e
+    subst (λ pc. StepsLead env s (fragments_steps s.bytes s.regs table s.pc (f ∷ fs) s.window) (record s { pc = pc; window = windows_behind s.bytes s.regs table (f ∷ fs) s.window })) e
     (leads_on env s t _ _ _ here rest)
 
 -- ---- jumps
@@ -130,7 +130,7 @@ jump_does env s to h small even =
     ∙ (cond-true (to % 4 == 0) _ _ (grind (arith, nat_tests))
     ∙ ap (λ k. goes (record { pc = s.pc; next = to; class = classes.Jump; moved = moves.Local; keyed = k; port = None }) (record s { pc = to })) h.keyed))
 
-pub way_does : (env : Setting) (s : State) (table : ℕ) (way : Way) → IsSound env s → WayFits env s table s.pc way → Stand env s.bytes s.pc (way_code s.pc table way) → Leads env s (way_steps s table s.pc way) (behind_way s table way)
+pub way_does : (env : Setting) (s : State) (table : ℕ) (way : Way) → IsSound env s → WayFits env s table s.pc way → Stand env s.bytes s.pc (way_code s.pc table way) → StepsLead env s (way_steps s table s.pc way) (behind_way s table way)
 way_does env s table way sound fits stand =
     let code = fragments_code table way.fragments in
     let last : List Instr = jump (jump_at s.pc way) way.to ∷ [] in
@@ -179,7 +179,7 @@ pub sound_at : (env : Setting) (s : State) (pc : ℕ) → IsSound env s → IsSo
 sound_at env s pc h = record { regs = h.regs; window = h.window; zero = h.zero; level = h.level; levels = h.levels }
 
 -- the way that the stub of a branch takes
-pub taken_does : (env : Setting) (s : State) (table : ℕ) (op : BranchOp) (rs1 rs2 : ℕ) (untaken taken : Way) → IsSound env s → Stand env s.bytes s.pc (stub_code_of s.pc table (Forked op rs1 rs2 untaken taken)) → is_taken op (reg s.regs rs1) (reg s.regs rs2) ≡ true → 4 + 4 * way_len untaken < 2 ^ 12 → taken_at s.pc untaken < 2 ^ 32 → WayFits env s (table + 4 * length (way_rows untaken)) (taken_at s.pc untaken) taken → Leads env s (turn s.pc (taken_at s.pc untaken) classes.Taken ∷ way_steps s (table + 4 * length (way_rows untaken)) (taken_at s.pc untaken) taken) (behind_way s (table + 4 * length (way_rows untaken)) taken)
+pub taken_does : (env : Setting) (s : State) (table : ℕ) (op : BranchOp) (rs1 rs2 : ℕ) (untaken taken : Way) → IsSound env s → Stand env s.bytes s.pc (stub_code_of s.pc table (Forked op rs1 rs2 untaken taken)) → is_taken op (reg s.regs rs1) (reg s.regs rs2) ≡ true → 4 + 4 * way_len untaken < 2 ^ 12 → taken_at s.pc untaken < 2 ^ 32 → WayFits env s (table + 4 * length (way_rows untaken)) (taken_at s.pc untaken) taken → StepsLead env s (turn s.pc (taken_at s.pc untaken) classes.Taken ∷ way_steps s (table + 4 * length (way_rows untaken)) (taken_at s.pc untaken) taken) (behind_way s (table + 4 * length (way_rows untaken)) taken)
 taken_does env s table op rs1 rs2 untaken taken sound stand is near room fits =
     let at = taken_at s.pc untaken in
     let later = table + 4 * length (way_rows untaken) in
@@ -191,7 +191,7 @@ taken_does env s table op rs1 rs2 untaken taken sound stand is near room fits =
     subst (λ a. Stand env s.bytes a second) long (stand_right env s.bytes (s.pc + 4) (way_code (s.pc + 4) table untaken) second stand.1) in
     leads_first env s t (behind_way s later taken) _ _ here (way_does env t later taken (sound_at env s at sound) fits there)
 
-pub untaken_does : (env : Setting) (s : State) (table : ℕ) (op : BranchOp) (rs1 rs2 : ℕ) (untaken taken : Way) → IsSound env s → Stand env s.bytes s.pc (stub_code_of s.pc table (Forked op rs1 rs2 untaken taken)) → is_taken op (reg s.regs rs1) (reg s.regs rs2) ≡ false → WayFits env s table (s.pc + 4) untaken → Leads env s (turn s.pc (s.pc + 4) classes.Untaken ∷ way_steps s table (s.pc + 4) untaken) (behind_way s table untaken)
+pub untaken_does : (env : Setting) (s : State) (table : ℕ) (op : BranchOp) (rs1 rs2 : ℕ) (untaken taken : Way) → IsSound env s → Stand env s.bytes s.pc (stub_code_of s.pc table (Forked op rs1 rs2 untaken taken)) → is_taken op (reg s.regs rs1) (reg s.regs rs2) ≡ false → WayFits env s table (s.pc + 4) untaken → StepsLead env s (turn s.pc (s.pc + 4) classes.Untaken ∷ way_steps s table (s.pc + 4) untaken) (behind_way s table untaken)
 untaken_does env s table op rs1 rs2 untaken taken sound stand is fits =
     let t : State = record s { pc = s.pc + 4 } in
     let later = table + 4 * length (way_rows untaken) in

@@ -7,8 +7,8 @@ use Rattle.scale_base.specs.declared.stepping.Class.TheVariants as classes
 use Rattle.scale_base.specs.declared.fragments.Fragment.{Fragment}
 use Rattle.scale_base.specs.declared.fragments.Fragment.TheVariants.{Switch, Exit, Reset, Count}
 
-abbrev pub cycles : (Class → ℕ) → List Stepped → ℕ
-cycles cost xs = sum_by (λ x. cost x.class) xs
+abbrev pub stepped_cycles : (Class → ℕ) → List Stepped → ℕ
+stepped_cycles cost xs = sum_by (λ x. cost x.class) xs
 
 abbrev pub fragment_cost : (Class → ℕ) → Fragment → ℕ
 fragment_cost cost (Switch word) = 3 * cost classes.Store + 3 * cost classes.Load + 5 * cost classes.Alu

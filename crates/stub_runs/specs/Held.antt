@@ -76,7 +76,7 @@ abbrev pub text_turn : (at to : ℕ) → Stepped
 text_turn at to = record { pc = at; next = to; class = classes.Jump; moved = moves.Local; keyed = false; port = None }
 
 -- the instruction at the state's pc is patched, and its stub lies there
-pub record IsPatched (env : Setting) (s : State) (stub : ℕ) : Type 0 where
+pub record StandsAtPatch (env : Setting) (s : State) (stub : ℕ) : Type 0 where
   pub there : IsInText env s.bytes s.pc (jump s.pc stub)
   pub pc : s.pc < 2 ^ 32
   pub small : stub < 2 ^ 32

@@ -23,8 +23,8 @@ Stand env bytes at [] = Unit {0}
 Stand env bytes at (i ∷ is) = StandsAt env bytes at i × Stand env bytes (at + 4) is
 
 -- the run takes these steps, and goes on in this state
-abbrev pub Leads : Setting → State → List Stepped → State → Type 0
-Leads env s xs t = run env s (length xs) ≡ record { steps = xs; state = t; standing = GoesOn }
+abbrev pub StepsLead : Setting → State → List Stepped → State → Type 0
+StepsLead env s xs t = run env s (length xs) ≡ record { steps = xs; state = t; standing = GoesOn }
 
 -- a step of the keyed segment to the next instruction
 abbrev pub keyed_step : ℕ → Instr → Option ℕ → Stepped
@@ -57,27 +57,27 @@ pub record IsSound (env : Setting) (s : State) : Type 0 where
   pub levels : env.levels ≤ 8
 
 -- four bits of a word, lowest first
-abbrev pub nibble : (word k : ℕ) → ℕ
-nibble word k = word / 2 ^ (4 * k) % 16
+abbrev pub four_bits : (word k : ℕ) → ℕ
+four_bits word k = word / 2 ^ (4 * k) % 16
 
 -- the state behind the code, with other words of the window
 abbrev pub behind : State → ℕ → List ℕ → State
 behind s len window = record s { pc = s.pc + 4 * len; window = window }
 
 -- t0 and t1 in the save slots
-abbrev pub saved : State → List ℕ
-saved s = slice_set (slice_set s.window 0 (reg s.regs t0)) 1 (reg s.regs t1)
+abbrev pub registers_saved : State → List ℕ
+registers_saved s = slice_set (slice_set s.window 0 (reg s.regs t0)) 1 (reg s.regs t1)
 
 abbrev pub level_in : State → ℕ
 level_in s = slice_index s.window port
 
 -- a Switch: the port holds the word's entry of the level that it held
 abbrev pub switched : State → ℕ → State
-switched s word = behind s 11 (slice_set (saved s) port (nibble word (level_in s)))
+switched s word = behind s 11 (slice_set (registers_saved s) port (four_bits word (level_in s)))
 
 -- an Exit, where `row` is the word of the table that it reads
 abbrev pub exited : State → (counter row : ℕ) → State
-exited s counter row = behind s 16 (slice_set (slice_set (saved s) counter 0) port (nibble row (level_in s)))
+exited s counter row = behind s 16 (slice_set (slice_set (registers_saved s) counter 0) port (four_bits row (level_in s)))
 
 -- a Count: the counter is one more, and t0 is in its save slot
 abbrev pub counted : State → (counter : ℕ) → State

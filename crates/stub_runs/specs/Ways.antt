@@ -9,7 +9,7 @@ use Rattle.scale_base.specs.declared.fragments.Fragment.{Fragment}
 use Rattle.scale_base.specs.declared.fragments.Fragment.TheVariants.{Switch, Exit, Reset, Count}
 use Rattle.stub_writer.specs.Fragments.{t0, t1, port, code_len, rows_len, switch_code, exit_code, count_code, reset_code}
 use Rattle.stub_writer.specs.Stubs.{Way, jump_at, taken_at, way_rows}
-use Rattle.stub_runs.specs.Meaning.{along, along_storing, nibble, IsRowAt, IsCounter}
+use Rattle.stub_runs.specs.Meaning.{along, along_storing, four_bits, IsRowAt, IsCounter}
 
 -- the row that an Exit reads
 abbrev pub row_at : (bytes : ℕ → ℕ) (table counter shift : ℕ) → List ℕ → ℕ
@@ -20,31 +20,31 @@ saved_in regs w = slice_set (slice_set w 0 (reg regs t0)) 1 (reg regs t1)
 
 -- the level that a fragment stores, of those that store one
 abbrev pub new_level : (bytes : ℕ → ℕ) (table : ℕ) → Fragment → List ℕ → ℕ
-new_level bytes table (Switch word) w = nibble word (slice_index w port)
-new_level bytes table (Exit counter shift rows) w = nibble (row_at bytes table counter shift w) (slice_index w port)
+new_level bytes table (Switch word) w = four_bits word (slice_index w port)
+new_level bytes table (Exit counter shift rows) w = four_bits (row_at bytes table counter shift w) (slice_index w port)
 new_level bytes table f w = slice_index w port
 
 abbrev pub window_behind : (bytes : ℕ → ℕ) (regs : List ℕ) (table : ℕ) → Fragment → List ℕ → List ℕ
-window_behind bytes regs table (Switch word) w = slice_set (saved_in regs w) port (nibble word (slice_index w port))
+window_behind bytes regs table (Switch word) w = slice_set (saved_in regs w) port (four_bits word (slice_index w port))
 window_behind bytes regs table (Exit counter shift rows) w =
-    slice_set (slice_set (saved_in regs w) counter 0) port (nibble (row_at bytes table counter shift w) (slice_index w port))
+    slice_set (slice_set (saved_in regs w) counter 0) port (four_bits (row_at bytes table counter shift w) (slice_index w port))
 window_behind bytes regs table (Reset counter) w = slice_set w counter 0
 window_behind bytes regs table (Count counter) w =
     slice_set (slice_set w 0 (reg regs t0)) counter ((slice_index w counter + 1) % 2 ^ 32)
 
 abbrev pub fragment_steps : (bytes : ℕ → ℕ) (table at : ℕ) → Fragment → List ℕ → List Stepped
-fragment_steps bytes table at (Switch word) w = along_storing 8 (nibble word (slice_index w port)) at (switch_code word)
+fragment_steps bytes table at (Switch word) w = along_storing 8 (four_bits word (slice_index w port)) at (switch_code word)
 fragment_steps bytes table at (Exit counter shift rows) w =
-    along_storing 13 (nibble (row_at bytes table counter shift w) (slice_index w port)) at (exit_code counter shift (table % 2 ^ 32))
+    along_storing 13 (four_bits (row_at bytes table counter shift w) (slice_index w port)) at (exit_code counter shift (table % 2 ^ 32))
 fragment_steps bytes table at (Reset counter) w = along at (reset_code counter)
 fragment_steps bytes table at (Count counter) w = along at (count_code counter)
 
 -- what is asked of a fragment: its counter is one, its row is there, and what it stores is a level
 abbrev pub Fits : Setting → (bytes : ℕ → ℕ) (table at : ℕ) → Fragment → List ℕ → Type 0
-Fits env bytes table at (Switch word) w = (word < 2 ^ 32) × (nibble word (slice_index w port) < env.levels)
+Fits env bytes table at (Switch word) w = (word < 2 ^ 32) × (four_bits word (slice_index w port) < env.levels)
 Fits env bytes table at (Exit counter shift rows) w =
     IsCounter counter × (shift < 32) × IsRowAt env (at + 28) (table + 4 * (slice_index w counter / 2 ^ shift))
-    × (nibble (row_at bytes table counter shift w) (slice_index w port) < env.levels)
+    × (four_bits (row_at bytes table counter shift w) (slice_index w port) < env.levels)
 Fits env bytes table at (Reset counter) w = IsCounter counter
 Fits env bytes table at (Count counter) w = IsCounter counter
 

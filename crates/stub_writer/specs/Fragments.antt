@@ -98,12 +98,12 @@ code_len (Exit counter shift rows) = 16
 code_len (Reset counter) = 1
 code_len (Count counter) = 5
 
-abbrev pub rows_of : Fragment → List ℕ
-rows_of (Exit counter shift rows) = rows
-rows_of f = []
+abbrev pub fragment_rows : Fragment → List ℕ
+fragment_rows (Exit counter shift rows) = rows
+fragment_rows f = []
 
 abbrev pub rows_len : Fragment → ℕ
-rows_len f = length (rows_of f)
+rows_len f = length (fragment_rows f)
 
 -- the word of the window is a shadow counter
 abbrev pub IsShadow : ℕ → Type 0

@@ -8,7 +8,7 @@ use Rattle.scale_base.specs.Word.{word_of}
 use Rattle.rv_encode.specs.Jumps.{distance}
 use Rattle.scale_base.specs.declared.fragments.Fragment.{Fragment}
 use Rattle.scale_base.specs.declared.ranges.Patch.{Patch}
-use Rattle.stub_writer.specs.Fragments.{fragment_code, code_len, rows_of, rows_len}
+use Rattle.stub_writer.specs.Fragments.{fragment_code, code_len, fragment_rows, rows_len}
 
 -- a marked instruction: its two ways, with the address and the fragments of each. A jump has the one way
 pub record Way : Type 0 where
@@ -32,7 +32,7 @@ abbrev pub way : (to : ℕ) → List Fragment → Way
 way to fragments = record { to = to; fragments = fragments }
 
 abbrev pub rows_by : List Fragment → List ℕ
-rows_by fragments = flat_map rows_of fragments
+rows_by fragments = flat_map fragment_rows fragments
 
 abbrev pub way_rows : Way → List ℕ
 way_rows w = rows_by w.fragments

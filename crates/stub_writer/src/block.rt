@@ -112,7 +112,7 @@ fn push_rows(out: &mut Vec<u8>, rows: &Rows) -> Result<(), NoMemory>
 
 fn push_fragment_rows(out: &mut Vec<u8>, fragment: &Fragment) -> Result<(), NoMemory>
     requires { codes.IsFragment fragment.now }
-    ensures { OnOk result (out.new.items ≡ out.old.items ++ flat_map stubs.word_bytes (codes.rows_of fragment.now)) }
+    ensures { OnOk result (out.new.items ≡ out.old.items ++ flat_map stubs.word_bytes (codes.fragment_rows fragment.now)) }
 {
     match fragment {
         Fragment::Exit { rows, .. } => push_rows(out, rows),

@@ -4,7 +4,7 @@ use Rattle.std.specs.Prelude.{◌==◌, option_map}
 use Rattle.std.specs.List.{find, list_any}
 use Rattle.std.proofs.lemmas.Bool.{and_parts, and_from, or_left, eqb-true}
 use Rattle.scale_base.specs.declared.headers.ProgramHeader.{ProgramHeader}
-use Rattle.scale_base.specs.Bytes.{byte_at, half_at}
+use Rattle.scale_base.specs.Bytes.{byte_at, list_half_at}
 use Rattle.scale_base.specs.Bytes as stored
 use Rattle.scale_base.specs.Rules.{AllHold}
 use Rattle.scale_base.specs.Image.{Image, image_of, contents, is_in, text_ranges, all_text_rules, loaded_headers, loaded_byte, header_has_word, file_place, is_word_address, text_word}
@@ -21,7 +21,7 @@ pub record IsTextWord (file : List ℕ) (at w : ℕ) : Type 0 where
   pub inside : list_any (is_in at) (text_ranges file) ≡ true
   pub segment : ProgramHeader
   pub found : find (header_has_word at) (loaded_headers file) ≡ Some segment
-  pub value : stored.word_at file (segment.p_offset + (at - segment.p_vaddr)) ≡ w
+  pub value : stored.list_word_at file (segment.p_offset + (at - segment.p_vaddr)) ≡ w
 
 given : {A : Type 0} (b : Bool) (o : Option A) (x : A) → cond b o None ≡ Some x → (b ≡ true) × (o ≡ Some x)
 given true o x e = (refl, e)
@@ -30,15 +30,15 @@ given false o x e = absurd cc
 pub text_word_is : (file : List ℕ) (at w : ℕ) → text_word (contents file) at ≡ Some w → IsTextWord file at w
 unfolding text_word contents
 text_word_is file at w e =
-    let g = given (is_word_address (contents file) at) (option_map (stored.word_at file) (file_place file at)) w e in
+    let g = given (is_word_address (contents file) at) (option_map (stored.list_word_at file) (file_place file at)) w e in
     let a = and_parts (at % 4 == 0) (list_any (is_in at) (text_ranges file)) g.0 in
-    let place = mapped_from (stored.word_at file) (file_place file at) w g.1 in
+    let place = mapped_from (stored.list_word_at file) (file_place file at) w g.1 in
     let h = mapped_from (λ h. h.p_offset + (at - h.p_vaddr)) (find (header_has_word at) (loaded_headers file)) place.0 place.1 in
-    record { aligned = eqb-true (at % 4) 0 a.0; inside = a.1; segment = h.0; found = h.1; value = ap (stored.word_at file) h.2 ∙ place.2 }
+    record { aligned = eqb-true (at % 4) 0 a.0; inside = a.1; segment = h.0; found = h.1; value = ap (stored.list_word_at file) h.2 ∙ place.2 }
 
 -- the number of four bytes in memory is that of the bytes of the file
-same_word : (file : List ℕ) (loaded : ℕ → ℕ) (at place : ℕ) → ((k : ℕ) → k < 4 → loaded (at + k) ≡ byte_at file (place + k)) → word_at loaded at ≡ stored.word_at file place
-unfolding half_at stored.word_at
+same_word : (file : List ℕ) (loaded : ℕ → ℕ) (at place : ℕ) → ((k : ℕ) → k < 4 → loaded (at + k) ≡ byte_at file (place + k)) → word_at loaded at ≡ stored.list_word_at file place
+unfolding list_half_at stored.list_word_at
 same_word file loaded at place same =
     let a = ap loaded (sym (add-zero at)) ∙ same 0 (omega arith) ∙ ap (byte_at file) (add-zero place) in
     let b = same 1 (omega arith) in

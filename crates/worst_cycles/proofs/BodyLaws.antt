@@ -3,7 +3,7 @@ use Rattle.std.proofs.Common.{◌≡◌, ℕ, zero, suc, ◌<◌, Bool, true, fa
 use Rattle.std.proofs.lemmas.Bool.{eqb-true, eq-eqb}
 use Rattle.std.proofs.lemmas.List.{length-map}
 use Rattle.std.proofs.lemmas.Option.{slice_get-get_or, slice_get_within, get_or_from_slice_get, slice_get-map, same_Some}
-use Rattle.call_orders.specs.Arcs.{number_at}
+use Rattle.call_orders.specs.Arcs.{number_in_place}
 use Rattle.cost_theory.specs.Graph.{IsPlain, is_back}
 use Rattle.cost_theory.specs.Lists.{or_true, is_among, body_of}
 use Rattle.code_graph.specs.FlowGraph.{FlowGraph, graph, IsFlowGraph}
@@ -39,21 +39,21 @@ body_map f (b ∷ bs) (suc k) = body_map f bs k
 -- ---- bodies
 
 -- a number of the body is one of a node in it,
-pub inside_at : (v : FlowGraph) (t : LoopView) (k i : ℕ) → i < length (body_of t.bodies k) → (loops v t).inside k (node_address v (number_at (body_of t.bodies k) i)) ≡ true
+pub inside_at : (v : FlowGraph) (t : LoopView) (k i : ℕ) → i < length (body_of t.bodies k) → (loops v t).inside k (node_address v (number_in_place (body_of t.bodies k) i)) ≡ true
 inside_at v t k i lt =
-    let at : slice_get (map (node_address v) (body_of t.bodies k)) i ≡ Some (node_address v (number_at (body_of t.bodies k) i)) =
+    let at : slice_get (map (node_address v) (body_of t.bodies k)) i ≡ Some (node_address v (number_in_place (body_of t.bodies k) i)) =
     slice_get-map (node_address v) (body_of t.bodies k) i ∙ ap (option_map (node_address v)) (slice_get-get_or (body_of t.bodies k) i 0 lt) in
-    subst (λ (xs : List ℕ). is_among (node_address v (number_at (body_of t.bodies k) i)) xs ≡ true) (sym (body_map (node_address v) t.bodies k)) (among_at (map (node_address v) (body_of t.bodies k)) i _ at)
+    subst (λ (xs : List ℕ). is_among (node_address v (number_in_place (body_of t.bodies k) i)) xs ≡ true) (sym (body_map (node_address v) t.bodies k)) (among_at (map (node_address v) (body_of t.bodies k)) i _ at)
 
 -- and a node in it has a number of the body
-pub number_inside : (v : FlowGraph) (t : LoopView) (k at : ℕ) → (loops v t).inside k at ≡ true → (i : ℕ) × (i < length (body_of t.bodies k)) × (at ≡ node_address v (number_at (body_of t.bodies k) i))
+pub number_inside : (v : FlowGraph) (t : LoopView) (k at : ℕ) → (loops v t).inside k at ≡ true → (i : ℕ) × (i < length (body_of t.bodies k)) × (at ≡ node_address v (number_in_place (body_of t.bodies k) i))
 number_inside v t k at in_k =
     let among : is_among at (map (node_address v) (body_of t.bodies k)) ≡ true = subst (λ (xs : List ℕ). is_among at xs ≡ true) (body_map (node_address v) t.bodies k) in_k in
     let i = at_among at (map (node_address v) (body_of t.bodies k)) among in
     let within : i.0 < length (map (node_address v) (body_of t.bodies k)) = slice_get_within (map (node_address v) (body_of t.bodies k)) i.0 at i.1 in
     let size : length (map (node_address v) (body_of t.bodies k)) ≡ length (body_of t.bodies k) = length-map (body_of t.bodies k) (node_address v) in
     let low : i.0 < length (body_of t.bodies k) = omega arith in
-    let here : slice_get (map (node_address v) (body_of t.bodies k)) i.0 ≡ Some (node_address v (number_at (body_of t.bodies k) i.0)) =
+    let here : slice_get (map (node_address v) (body_of t.bodies k)) i.0 ≡ Some (node_address v (number_in_place (body_of t.bodies k) i.0)) =
     slice_get-map (node_address v) (body_of t.bodies k) i.0 ∙ ap (option_map (node_address v)) (slice_get-get_or (body_of t.bodies k) i.0 0 low) in
     (i.0, low, same_Some at _ (sym i.1 ∙ here))
 
@@ -70,10 +70,10 @@ same_node v flow i j il jl same = one_number v flow i j (node_address v j) (node
 pub loop_count : (v : FlowGraph) (t : LoopView) → (loops v t).loops ≡ length t.headers
 loop_count v t = length-map t.headers (node_address v)
 
-pub header_number : (v : FlowGraph) (t : LoopView) (extent : ℕ → ℕ → Bool) → IsLoopTree v extent t → (k : ℕ) → k < length t.headers → number_at t.headers k < length v.code.nodes
-header_number v t extent is k lt = is.header k (number_at t.headers k) (slice_get-get_or t.headers k 0 lt)
+pub header_number : (v : FlowGraph) (t : LoopView) (extent : ℕ → ℕ → Bool) → IsLoopTree v extent t → (k : ℕ) → k < length t.headers → number_in_place t.headers k < length v.code.nodes
+header_number v t extent is k lt = is.header k (number_in_place t.headers k) (slice_get-get_or t.headers k 0 lt)
 
-pub header_address : (v : FlowGraph) (t : LoopView) (k : ℕ) → k < length t.headers → (loops v t).header k ≡ node_address v (number_at t.headers k)
+pub header_address : (v : FlowGraph) (t : LoopView) (k : ℕ) → k < length t.headers → (loops v t).header k ≡ node_address v (number_in_place t.headers k)
 header_address v t k lt = get_or_from_slice_get (map (node_address v) t.headers) k _ 0 (slice_get-map (node_address v) t.headers k ∙ ap (option_map (node_address v)) (slice_get-get_or t.headers k 0 lt))
 
 -- ---- plain edges

@@ -2,7 +2,7 @@
 use Rattle.std.proofs.Common.{◌≡◌, ◌≢◌, ℕ, ◌+◌, ◌-◌, ◌^◌, ◌<◌, ◌≤◌, ◌⊎◌, inl, inr, List, length, slice_get, Option, Some, None, unwrap_or, refl, sym, ap, ◌∙◌, subst, arith, ⊎_elim}
 use Rattle.std.proofs.lemmas.Bool.{cases_lt, cases_eq}
 use Rattle.std.proofs.lemmas.Option.{slice_get_within, get_or_from_slice_get}
-use Rattle.call_orders.specs.Arcs.{number_at}
+use Rattle.call_orders.specs.Arcs.{number_in_place}
 use Rattle.cost_theory.specs.Graph.{Graph, Loops}
 use Rattle.cost_theory.specs.Worst.{Numbers, cost, turns_round, IsReturningCall, context_of, IsContext, IsGreatestIfAny}
 use Rattle.code_graph.specs.FlowGraph.{FlowGraph, graph, IsFlowGraph}
@@ -11,7 +11,7 @@ use Rattle.natural_loops.proofs.Laws.{source_number, one_number}
 use Rattle.loop_tree.specs.Tree.{LoopView, loops}
 use Rattle.worst_cycles.specs.declared.plan.Plan.{Plan}
 use Rattle.worst_cycles.specs.Needs.{HasTree, StartsAtNode}
-use Rattle.worst_cycles.specs.Visits.{IsPlan, AreSolvedBy}
+use Rattle.worst_cycles.specs.Visits.{IsWorstPlan, AreSolvedBy}
 use Rattle.worst_cycles.specs.Lefts.{HasSolved, AreLefts, AreTurnsRound, IsContextTo, IsFromPlace, AreContextsTo, AreContexts, AreContextsRaised}
 use Rattle.worst_cycles.proofs.BodyLaws.{node_here}
 use Rattle.worst_cycles.proofs.PlanLaws.{at_place, entry_behind}
@@ -44,123 +44,123 @@ context_whole g l w n Done f x is to done = ⊎_elim
         let r : x ≡ n.context f = omega arith in r
 
 -- no edge starts behind the order
-pub contexts_first : (v : FlowGraph) (t : LoopView) (w : ℕ → ℕ) (plan : Plan) (context : List ℕ) → IsFlowGraph v → IsPlan v t plan → ((f : ℕ) → f < length v.code.functions → number_at context f ≡ 0) → AreContextsTo v t w plan (length plan.order.items) context
+pub contexts_first : (v : FlowGraph) (t : LoopView) (w : ℕ → ℕ) (plan : Plan) (context : List ℕ) → IsFlowGraph v → IsWorstPlan v t plan → ((f : ℕ) → f < length v.code.functions → number_in_place context f ≡ 0) → AreContextsTo v t w plan (length plan.order.items) context
 contexts_first v t w plan context flow is zero n s f fl =
-    let none : number_at context f ≡ 0 = zero f fl in
+    let none : number_in_place context f ≡ 0 = zero f fl in
     record {
-      under = let r : number_at context f ≤ n.context f = omega arith in r;
+      under = let r : number_in_place context f ≤ n.context f = omega arith in r;
       over = λ e from call.
           let k = source_number v flow e call.edge in
           let place = at_place v t plan is k.0 (slice_get_within v.code.nodes k.0 _ k.1) in
-          let high : length plan.order.items ≤ number_at plan.places.items k.0 = from k.0 k.1 in
+          let high : length plan.order.items ≤ number_in_place plan.places.items k.0 = from k.0 k.1 in
           let low = place.0 in
           let bad : ⊥ = omega arith in absurd bad;
     }
 
 -- the calls of a function stand behind its nodes
-calls_behind : (v : FlowGraph) (t : LoopView) (plan : Plan) (i e : ℕ) → IsFlowGraph v → HasTree v t → IsPlan v t plan → i < length plan.order.items → IsReturningCall (graph v) ((graph v).owner (node_address v (number_at plan.order.items i))) e → IsFromPlace v plan (i + 1) e
+calls_behind : (v : FlowGraph) (t : LoopView) (plan : Plan) (i e : ℕ) → IsFlowGraph v → HasTree v t → IsWorstPlan v t plan → i < length plan.order.items → IsReturningCall (graph v) ((graph v).owner (node_address v (number_in_place plan.order.items i))) e → IsFromPlace v plan (i + 1) e
 calls_behind v t plan i e flow tree is il call k node =
-    let f = (graph v).owner (node_address v (number_at plan.order.items i)) in
+    let f = (graph v).owner (node_address v (number_in_place plan.order.items i)) in
     let fl : f < (graph v).functions = flow.program.callee_function e f call.edge call.calls in
     let place = at_place v t plan is k (slice_get_within v.code.nodes k _ node) in
-    let starts : StartsAtNode v e (number_at plan.order.items (number_at plan.places.items k)) = ap (slice_get v.code.nodes) place.1 ∙ node in
-    let j = is.order.ready (number_at plan.places.items k) e (number_at plan.entries.items f) place.0 call.edge starts (inr (f, call.calls, refl)) in
-    let low : j.0 < number_at plan.places.items k = j.1 in
+    let starts : StartsAtNode v e (number_in_place plan.order.items (number_in_place plan.places.items k)) = ap (slice_get v.code.nodes) place.1 ∙ node in
+    let j = is.order.ready (number_in_place plan.places.items k) e (number_in_place plan.entries.items f) place.0 call.edge starts (inr (f, call.calls, refl)) in
+    let low : j.0 < number_in_place plan.places.items k = j.1 in
     let within = place.0 in
     let jl : j.0 < length plan.order.items = omega arith in
-    let entry : node_address v (number_at plan.order.items j.0) ≡ (graph v).entry f = ap (node_address v) j.2 ∙ get_or_from_slice_get v.code.nodes (number_at plan.entries.items f) _ 0 (is.entries.each f fl) in
+    let entry : node_address v (number_in_place plan.order.items j.0) ≡ (graph v).entry f = ap (node_address v) j.2 ∙ get_or_from_slice_get v.code.nodes (number_in_place plan.entries.items f) _ 0 (is.entries.each f fl) in
     let behind : i ≤ j.0 = entry_behind v t plan flow tree is j.0 i jl il entry in
-    let r : i + 1 ≤ number_at plan.places.items k = omega arith in r
+    let r : i + 1 ≤ number_in_place plan.places.items k = omega arith in r
 
 -- so the context of the function of the next node is whole
-pub own_context : (v : FlowGraph) (t : LoopView) (w : ℕ → ℕ) (plan : Plan) (context : List ℕ) (i : ℕ) (n : Numbers) → IsFlowGraph v → HasTree v t → IsPlan v t plan → i < length plan.order.items → AreContextsTo v t w plan (i + 1) context → AreSolvedBy v t w n →
-    number_at context ((graph v).owner (node_address v (number_at plan.order.items i))) ≡ n.context ((graph v).owner (node_address v (number_at plan.order.items i)))
+pub own_context : (v : FlowGraph) (t : LoopView) (w : ℕ → ℕ) (plan : Plan) (context : List ℕ) (i : ℕ) (n : Numbers) → IsFlowGraph v → HasTree v t → IsWorstPlan v t plan → i < length plan.order.items → AreContextsTo v t w plan (i + 1) context → AreSolvedBy v t w n →
+    number_in_place context ((graph v).owner (node_address v (number_in_place plan.order.items i))) ≡ n.context ((graph v).owner (node_address v (number_in_place plan.order.items i)))
 own_context v t w plan context i n flow tree is il to s =
-    let node = (flow.nodes (node_address v (number_at plan.order.items i))).0 (number_at plan.order.items i, node_here v (number_at plan.order.items i) (is.order.within i il)) in
-    let f = (graph v).owner (node_address v (number_at plan.order.items i)) in
+    let node = (flow.nodes (node_address v (number_in_place plan.order.items i))).0 (number_in_place plan.order.items i, node_here v (number_in_place plan.order.items i) (is.order.within i il)) in
+    let f = (graph v).owner (node_address v (number_in_place plan.order.items i)) in
     let fl : f < (graph v).functions = subst (λ u. (graph v).owner u < (graph v).functions) node.2 (flow.program.owner_function node.0 node.1) in
-    context_whole (graph v) (loops v t) w n (IsFromPlace v plan (i + 1)) f (number_at context f) (s.context f fl) (to n s f fl) (λ e call. calls_behind v t plan i e flow tree is il call)
+    context_whole (graph v) (loops v t) w n (IsFromPlace v plan (i + 1)) f (number_in_place context f) (s.context f fl) (to n s f fl) (λ e call. calls_behind v t plan i e flow tree is il call)
 
-pub contexts_more : (v : FlowGraph) (t : LoopView) (w : ℕ → ℕ) (plan : Plan) (old new : List ℕ) (i : ℕ) → IsFlowGraph v → IsPlan v t plan → i < length plan.order.items →
-    ((n : Numbers) → AreSolvedBy v t w n → AreContextsRaised (graph v) (loops v t) w n (node_address v (number_at plan.order.items i)) old new) → AreContextsTo v t w plan (i + 1) old → AreContextsTo v t w plan i new
+pub contexts_more : (v : FlowGraph) (t : LoopView) (w : ℕ → ℕ) (plan : Plan) (old new : List ℕ) (i : ℕ) → IsFlowGraph v → IsWorstPlan v t plan → i < length plan.order.items →
+    ((n : Numbers) → AreSolvedBy v t w n → AreContextsRaised (graph v) (loops v t) w n (node_address v (number_in_place plan.order.items i)) old new) → AreContextsTo v t w plan (i + 1) old → AreContextsTo v t w plan i new
 contexts_more v t w plan old new i flow is il raised to n s f fl =
     let before = to n s f fl in
     let now = raised n s in
     record {
       under = ⊎_elim
-          (λ (same : number_at new f ≡ number_at old f). let low = before.under in let r : number_at new f ≤ n.context f = omega arith in r)
-          (λ (some : (e : ℕ) × ((graph v).source e ≡ node_address v (number_at plan.order.items i)) × IsReturningCall (graph v) f e × (number_at new f ≡ context_of (graph v) (loops v t) w n e)).
+          (λ (same : number_in_place new f ≡ number_in_place old f). let low = before.under in let r : number_in_place new f ≤ n.context f = omega arith in r)
+          (λ (some : (e : ℕ) × ((graph v).source e ≡ node_address v (number_in_place plan.order.items i)) × IsReturningCall (graph v) f e × (number_in_place new f ≡ context_of (graph v) (loops v t) w n e)).
           let most : context_of (graph v) (loops v t) w n some.0 ≤ n.context f = context_most (graph v) (loops v t) w n f some.0 (s.context f fl) (s.uncalled some.0 f some.2.edge some.2.calls) some.2 in
-          let same : number_at new f ≡ context_of (graph v) (loops v t) w n some.0 = some.3 in
-          let r : number_at new f ≤ n.context f = omega arith in r)
+          let same : number_in_place new f ≡ context_of (graph v) (loops v t) w n some.0 = some.3 in
+          let r : number_in_place new f ≤ n.context f = omega arith in r)
           (now.either f);
       over = λ e from call.
           let k = source_number v flow e call.edge in
           let kl = slice_get_within v.code.nodes k.0 _ k.1 in
           let place = at_place v t plan is k.0 kl in
-          let high : i ≤ number_at plan.places.items k.0 = from k.0 k.1 in
+          let high : i ≤ number_in_place plan.places.items k.0 = from k.0 k.1 in
           ⊎_elim
-          (λ (behind : i < number_at plan.places.items k.0).
-          let old_over : context_of (graph v) (loops v t) w n e ≤ number_at old f = before.over e
-          (λ j node. let one : j ≡ k.0 = one_number v flow j k.0 _ node k.1 in subst (λ x. i + 1 ≤ number_at plan.places.items x) (sym one) (let r : i + 1 ≤ number_at plan.places.items k.0 = omega arith in r)) call in
+          (λ (behind : i < number_in_place plan.places.items k.0).
+          let old_over : context_of (graph v) (loops v t) w n e ≤ number_in_place old f = before.over e
+          (λ j node. let one : j ≡ k.0 = one_number v flow j k.0 _ node k.1 in subst (λ x. i + 1 ≤ number_in_place plan.places.items x) (sym one) (let r : i + 1 ≤ number_in_place plan.places.items k.0 = omega arith in r)) call in
           let more = now.higher f in
-          let r : context_of (graph v) (loops v t) w n e ≤ number_at new f = omega arith in r)
-          (λ (here : number_at plan.places.items k.0 ≤ i).
-          let same : number_at plan.places.items k.0 ≡ i = omega arith in
-          let node : k.0 ≡ number_at plan.order.items i = sym place.1 ∙ ap (number_at plan.order.items) same in
+          let r : context_of (graph v) (loops v t) w n e ≤ number_in_place new f = omega arith in r)
+          (λ (here : number_in_place plan.places.items k.0 ≤ i).
+          let same : number_in_place plan.places.items k.0 ≡ i = omega arith in
+          let node : k.0 ≡ number_in_place plan.order.items i = sym place.1 ∙ ap (number_in_place plan.order.items) same in
           now.over e f (sym (get_or_from_slice_get v.code.nodes k.0 _ 0 k.1) ∙ ap (node_address v) node) call)
-          (cases_lt i (number_at plan.places.items k.0));
+          (cases_lt i (number_in_place plan.places.items k.0));
     }
 
 pub contexts_last : (v : FlowGraph) (t : LoopView) (w : ℕ → ℕ) (plan : Plan) (context : List ℕ) → length context ≡ length v.code.functions → AreContextsTo v t w plan 0 context → AreContexts v t w context
 contexts_last v t w plan context size to = record {
   size = size;
-  each = λ n s f fl. context_whole (graph v) (loops v t) w n (IsFromPlace v plan 0) f (number_at context f) (s.context f fl) (to n s f fl) (λ e call k node. let r : 0 ≤ number_at plan.places.items k = omega arith in r);
+  each = λ n s f fl. context_whole (graph v) (loops v t) w n (IsFromPlace v plan 0) f (number_in_place context f) (s.context f fl) (to n s f fl) (λ e call k node. let r : 0 ≤ number_in_place plan.places.items k = omega arith in r);
 }
 
 -- ---- the edges of one node
 
 pub record AreRaisedTo (g : Graph) (l : Loops) (w : ℕ → ℕ) (n : Numbers) (at first end : ℕ) (old new : List ℕ) : Type 0 where
-  pub higher : (f : ℕ) → number_at old f ≤ number_at new f
-  pub over : (e f : ℕ) → first ≤ e → e < end → IsReturningCall g f e → context_of g l w n e ≤ number_at new f
-  pub either : (f : ℕ) → (number_at new f ≡ number_at old f) ⊎ ((e : ℕ) × (g.source e ≡ at) × IsReturningCall g f e × (number_at new f ≡ context_of g l w n e))
+  pub higher : (f : ℕ) → number_in_place old f ≤ number_in_place new f
+  pub over : (e f : ℕ) → first ≤ e → e < end → IsReturningCall g f e → context_of g l w n e ≤ number_in_place new f
+  pub either : (f : ℕ) → (number_in_place new f ≡ number_in_place old f) ⊎ ((e : ℕ) × (g.source e ≡ at) × IsReturningCall g f e × (number_in_place new f ≡ context_of g l w n e))
 
 -- an entry is raised to what is left behind a call
 pub raised_more : (g : Graph) (l : Loops) (w : ℕ → ℕ) (n : Numbers) (at first e f cycles : ℕ) (old now new : List ℕ) → g.source e ≡ at → IsReturningCall g f e → cycles ≡ context_of g l w n e →
-    number_at now f ≤ number_at new f → cycles ≤ number_at new f → (number_at new f ≡ number_at now f) ⊎ (number_at new f ≡ cycles) → ((h : ℕ) → h ≢ f → number_at new h ≡ number_at now h) →
+    number_in_place now f ≤ number_in_place new f → cycles ≤ number_in_place new f → (number_in_place new f ≡ number_in_place now f) ⊎ (number_in_place new f ≡ cycles) → ((h : ℕ) → h ≢ f → number_in_place new h ≡ number_in_place now h) →
     AreRaisedTo g l w n at first e old now → AreRaisedTo g l w n at first (e + 1) old new
 raised_more g l w n at first e f cycles old now new from call is higher over either others to = record {
-  higher = λ h. let low = to.higher h in let more = rises h in let r : number_at old h ≤ number_at new h = omega arith in r;
+  higher = λ h. let low = to.higher h in let more = rises h in let r : number_in_place old h ≤ number_in_place new h = omega arith in r;
   over = λ d h low high other. ⊎_elim
-      (λ (before : d < e). let less = to.over d h low before other in let more = rises h in let r : context_of g l w n d ≤ number_at new h = omega arith in r)
+      (λ (before : d < e). let less = to.over d h low before other in let more = rises h in let r : context_of g l w n d ≤ number_in_place new h = omega arith in r)
       (λ (last : e ≤ d).
       let same : d ≡ e = omega arith in
       let calls : g.callee e ≡ Some h = ap g.callee (sym same) ∙ other.calls in
       let one : f ≡ h = (let eq : Some f ≡ Some h = sym call.calls ∙ calls in let r : f ≡ h = cc in r) in
-      let reached : context_of g l w n e ≤ number_at new f = omega arith in
-      subst (λ x. context_of g l w n x ≤ number_at new h) (sym same) (subst (λ x. context_of g l w n e ≤ number_at new x) one reached))
+      let reached : context_of g l w n e ≤ number_in_place new f = omega arith in
+      subst (λ x. context_of g l w n x ≤ number_in_place new h) (sym same) (subst (λ x. context_of g l w n e ≤ number_in_place new x) one reached))
       (cases_lt d e);
   either = λ h. ⊎_elim
       (λ (same : h ≡ f). ⊎_elim
-      (λ (kept : number_at new f ≡ number_at now f). keep h (ap (number_at new) same ∙ kept ∙ ap (number_at now) (sym same)))
-      (λ (raised : number_at new f ≡ cycles).
-      let r : (number_at new h ≡ number_at old h) ⊎ ((d : ℕ) × (g.source d ≡ at) × IsReturningCall g h d × (number_at new h ≡ context_of g l w n d)) =
-      inr (e, from, subst (λ x. IsReturningCall g x e) (sym same) call, ap (number_at new) same ∙ raised ∙ is) in r)
+      (λ (kept : number_in_place new f ≡ number_in_place now f). keep h (ap (number_in_place new) same ∙ kept ∙ ap (number_in_place now) (sym same)))
+      (λ (raised : number_in_place new f ≡ cycles).
+      let r : (number_in_place new h ≡ number_in_place old h) ⊎ ((d : ℕ) × (g.source d ≡ at) × IsReturningCall g h d × (number_in_place new h ≡ context_of g l w n d)) =
+      inr (e, from, subst (λ x. IsReturningCall g x e) (sym same) call, ap (number_in_place new) same ∙ raised ∙ is) in r)
       either)
       (λ (other : h ≢ f). keep h (others h other))
       (cases_eq h f);
 }
   where
-    rises : (h : ℕ) → number_at now h ≤ number_at new h
+    rises : (h : ℕ) → number_in_place now h ≤ number_in_place new h
     rises h = ⊎_elim
-        (λ (same : h ≡ f). subst (λ x. number_at now x ≤ number_at new x) (sym same) higher)
-        (λ (other : h ≢ f). let e = others h other in let r : number_at now h ≤ number_at new h = omega arith in r)
+        (λ (same : h ≡ f). subst (λ x. number_in_place now x ≤ number_in_place new x) (sym same) higher)
+        (λ (other : h ≢ f). let e = others h other in let r : number_in_place now h ≤ number_in_place new h = omega arith in r)
         (cases_eq h f)
 
-    keep : (h : ℕ) → number_at new h ≡ number_at now h → (number_at new h ≡ number_at old h) ⊎ ((d : ℕ) × (g.source d ≡ at) × IsReturningCall g h d × (number_at new h ≡ context_of g l w n d))
+    keep : (h : ℕ) → number_in_place new h ≡ number_in_place now h → (number_in_place new h ≡ number_in_place old h) ⊎ ((d : ℕ) × (g.source d ≡ at) × IsReturningCall g h d × (number_in_place new h ≡ context_of g l w n d))
     keep h same = ⊎_elim
-        (λ (old_is : number_at now h ≡ number_at old h). inl (same ∙ old_is))
-        (λ (some : (d : ℕ) × (g.source d ≡ at) × IsReturningCall g h d × (number_at now h ≡ context_of g l w n d)). inr (some.0, some.1, some.2, same ∙ some.3))
+        (λ (old_is : number_in_place now h ≡ number_in_place old h). inl (same ∙ old_is))
+        (λ (some : (d : ℕ) × (g.source d ≡ at) × IsReturningCall g h d × (number_in_place now h ≡ context_of g l w n d)). inr (some.0, some.1, some.2, same ∙ some.3))
         (to.either h)
 
 -- an edge that is no call's way back raises nothing
@@ -188,7 +188,7 @@ context_value g l w n e at left price around own x from left_is price_is around_
     omega arith
 
 -- what is left at a node with all turns round it, and a context, are in range
-pub left_around_small : (v : FlowGraph) (t : LoopView) (w : ℕ → ℕ) (left around : List ℕ) (k : ℕ) → IsFlowGraph v → HasSolved v t w → AreLefts v t w left → AreTurnsRound v t w around → k < length v.code.nodes → number_at left k + number_at around k ≤ 2 ^ 48
+pub left_around_small : (v : FlowGraph) (t : LoopView) (w : ℕ → ℕ) (left around : List ℕ) (k : ℕ) → IsFlowGraph v → HasSolved v t w → AreLefts v t w left → AreTurnsRound v t w around → k < length v.code.nodes → number_in_place left k + number_in_place around k ≤ 2 ^ 48
 left_around_small v t w left around k flow n lefts rounds kl =
     let within = n.1.left_within (node_address v k) ((flow.nodes (node_address v k)).0 (k, node_here v k kl)) in
     let a = lefts.each n.0 n.1 k kl in

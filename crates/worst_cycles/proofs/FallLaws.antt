@@ -3,7 +3,7 @@ use Rattle.std.proofs.lemmas.List.{length-map}
 use Rattle.std.proofs.Common.{Bool, true, false, map, slice_get, ◌≡◌, ℕ, ◌+◌, ◌-◌, ◌*◌, ◌<◌, ◌≤◌, List, length, slice_index, Some, refl, sym, ap, ◌∙◌, subst, arith, ⊎_elim, mul-le-mul_right}
 use Rattle.std.proofs.lemmas.Option.{slice_get-get_or, get_or_from_slice_get}
 use Rattle.call_orders.specs.declared.Arc.{Arc}
-use Rattle.call_orders.specs.Arcs.{arc_at, number_at, HasArc, Leads, HasNoCycle}
+use Rattle.call_orders.specs.Arcs.{arc_at, number_in_place, HasArc, Leads, HasNoCycle}
 use Rattle.call_orders.specs.Arcs.Leads.{along, onward}
 use Rattle.cost_theory.specs.Graph.{Graph, Loops, IsPlain, is_back}
 use Rattle.cost_theory.specs.Accepted.{IsProgram, IsCallOrder, IsPlainOrder}
@@ -57,7 +57,7 @@ need_falls v t extent entries rank count place flow are tree is calls e n lt nee
     (λ (led : LeadsPlainly v t.backs e n). led_falls (graph v) (loops v t) rank count place flow.program is e (slice_index v.code.nodes n) lt (plain_by v t extent tree e lt led.0) (led.1.0 ∙ slice_get-get_or v.code.nodes n 0 led.1.1))
     (λ (called : CallsNode v entries e n).
     let at : (graph v).entry called.0 ≡ slice_index v.code.nodes n =
-    sym (get_or_from_slice_get v.code.nodes (number_at entries called.0) _ 0 (are.each called.0 (flow.program.callee_function e called.0 lt called.1))) ∙ ap (slice_index v.code.nodes) (sym called.2) in
+    sym (get_or_from_slice_get v.code.nodes (number_in_place entries called.0) _ 0 (are.each called.0 (flow.program.callee_function e called.0 lt called.1))) ∙ ap (slice_index v.code.nodes) (sym called.2) in
     subst (λ x. height (graph v) rank count place x < height (graph v) rank count place ((graph v).source e)) at
     (called_falls (graph v) (loops v t) rank count place flow.program is calls e called.0 lt called.1))
     need

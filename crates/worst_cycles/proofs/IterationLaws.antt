@@ -4,7 +4,7 @@ use Rattle.std.proofs.lemmas.Bool.{cases_lt}
 use Rattle.std.proofs.lemmas.List.{get_or_append_left}
 use Rattle.std.proofs.Math.Seq.{get_or-append_right}
 use Rattle.std.proofs.lemmas.Option.{slice_get-get_or, slice_get_within, get_or_from_slice_get, none-some}
-use Rattle.call_orders.specs.Arcs.{number_at}
+use Rattle.call_orders.specs.Arcs.{number_in_place}
 use Rattle.cost_theory.specs.Worst.{Numbers}
 use Rattle.cost_theory.specs.Lists.{body_of}
 use Rattle.code_graph.specs.FlowGraph.{FlowGraph, IsFlowGraph}
@@ -14,44 +14,44 @@ use Rattle.worst_cycles.specs.declared.plan.Plan.{Plan}
 use Rattle.worst_cycles.specs.declared.rests.Rests.{Rests}
 use Rattle.worst_cycles.specs.Needs.{StartsAtNode, HasTree}
 use Rattle.worst_cycles.specs.declared.visits.Visit.{Visit}
-use Rattle.worst_cycles.specs.Visits.{IsPlan, AreKnownAt, AreSolvedBy, AreVisitedTo, IsTooLong}
-use Rattle.worst_cycles.specs.Rests.{AreBodyPlaces, rest_at, IsRestOf, held, closing_at, AreRestsKnownAt, address_at, AreFoundTo}
+use Rattle.worst_cycles.specs.Visits.{IsWorstPlan, AreKnownAt, AreSolvedBy, AreVisitedTo, IsOverLimit}
+use Rattle.worst_cycles.specs.Rests.{AreBodyPlaces, rest_in, IsRestOf, held, closing_at, AreRestsKnownAt, address_at, AreFoundTo}
 use Rattle.worst_cycles.proofs.BodyLaws.{inside_at, number_inside, node_here, same_node, by_plain, loop_count, header_number, header_address}
 use Rattle.worst_cycles.proofs.PlanLaws.{at_place, body_before}
 use Rattle.worst_cycles.proofs.SearchLaws.{value_at}
 use Rattle.worst_cycles.proofs.VisitLaws.{known_before}
 
 -- numbers of a body are numbers of nodes
-pub body_within : (v : FlowGraph) (t : LoopView) (extent : ℕ → ℕ → Bool) → IsLoopTree v extent t → (l i : ℕ) → l < length t.headers → i < length (body_of t.bodies l) → number_at (body_of t.bodies l) i < length v.code.nodes
-body_within v t extent is l i ll il = (is.body l ll).within i (number_at (body_of t.bodies l) i) (slice_get-get_or (body_of t.bodies l) i 0 il)
+pub body_within : (v : FlowGraph) (t : LoopView) (extent : ℕ → ℕ → Bool) → IsLoopTree v extent t → (l i : ℕ) → l < length t.headers → i < length (body_of t.bodies l) → number_in_place (body_of t.bodies l) i < length v.code.nodes
+body_within v t extent is l i ll il = (is.body l ll).within i (number_in_place (body_of t.bodies l) i) (slice_get-get_or (body_of t.bodies l) i 0 il)
 
 -- a place of a body is that of a node in it, and not behind the header
-pub step_inside : (v : FlowGraph) (t : LoopView) (plan : Plan) (l i : ℕ) (steps : List ℕ) → IsFlowGraph v → HasTree v t → IsPlan v t plan → l < length t.headers → i < length plan.order.items → number_at t.headers l ≡ number_at plan.order.items i →
-    AreBodyPlaces (body_of t.bodies l) plan.places.items steps → (m : ℕ) → m < length steps → (number_at steps m < length plan.order.items) × ((loops v t).inside l (address_at v plan steps m) ≡ true) × (number_at steps m ≤ i)
+pub step_inside : (v : FlowGraph) (t : LoopView) (plan : Plan) (l i : ℕ) (steps : List ℕ) → IsFlowGraph v → HasTree v t → IsWorstPlan v t plan → l < length t.headers → i < length plan.order.items → number_in_place t.headers l ≡ number_in_place plan.order.items i →
+    AreBodyPlaces (body_of t.bodies l) plan.places.items steps → (m : ℕ) → m < length steps → (number_in_place steps m < length plan.order.items) × ((loops v t).inside l (address_at v plan steps m) ≡ true) × (number_in_place steps m ≤ i)
 step_inside v t plan l i steps flow tree is ll il header places m ml =
     let b = places.each m ml in
-    let at = at_place v t plan is (number_at (body_of t.bodies l) b.0) (body_within v t tree.0 tree.1 l b.0 ll b.1) in
+    let at = at_place v t plan is (number_in_place (body_of t.bodies l) b.0) (body_within v t tree.0 tree.1 l b.0 ll b.1) in
     let within = at.0 in let step = b.2 in
-    let low : number_at steps m < length plan.order.items = omega arith in
-    let node : number_at plan.order.items (number_at steps m) ≡ number_at (body_of t.bodies l) b.0 = ap (number_at plan.order.items) b.2 ∙ at.1 in
+    let low : number_in_place steps m < length plan.order.items = omega arith in
+    let node : number_in_place plan.order.items (number_in_place steps m) ≡ number_in_place (body_of t.bodies l) b.0 = ap (number_in_place plan.order.items) b.2 ∙ at.1 in
     let inside : (loops v t).inside l (address_at v plan steps m) ≡ true = subst (λ k. (loops v t).inside l (node_address v k) ≡ true) (sym node) (inside_at v t l b.0 b.1) in
-    (low, inside, body_before v t plan flow tree is l i (number_at steps m) ll il low header inside)
+    (low, inside, body_before v t plan flow tree is l i (number_in_place steps m) ll il low header inside)
 
 -- a node of the body is at one of its places
-pub step_of : (v : FlowGraph) (t : LoopView) (plan : Plan) (l : ℕ) (steps : List ℕ) → IsFlowGraph v → HasTree v t → IsPlan v t plan → l < length t.headers → AreBodyPlaces (body_of t.bodies l) plan.places.items steps →
-    (u : ℕ) → u < length v.code.nodes → (loops v t).inside l (node_address v u) ≡ true → (q : ℕ) × (q < length steps) × (number_at steps q ≡ number_at plan.places.items u)
+pub step_of : (v : FlowGraph) (t : LoopView) (plan : Plan) (l : ℕ) (steps : List ℕ) → IsFlowGraph v → HasTree v t → IsWorstPlan v t plan → l < length t.headers → AreBodyPlaces (body_of t.bodies l) plan.places.items steps →
+    (u : ℕ) → u < length v.code.nodes → (loops v t).inside l (node_address v u) ≡ true → (q : ℕ) × (q < length steps) × (number_in_place steps q ≡ number_in_place plan.places.items u)
 step_of v t plan l steps flow tree is ll places u ul inside =
     let b = number_inside v t l (node_address v u) inside in
-    let same : u ≡ number_at (body_of t.bodies l) b.0 = same_node v flow u (number_at (body_of t.bodies l) b.0) ul (body_within v t tree.0 tree.1 l b.0 ll b.1) b.2 in
+    let same : u ≡ number_in_place (body_of t.bodies l) b.0 = same_node v flow u (number_in_place (body_of t.bodies l) b.0) ul (body_within v t tree.0 tree.1 l b.0 ll b.1) b.2 in
     let q = places.whole b.0 b.1 in
-    (q.0, q.1, q.2 ∙ ap (number_at plan.places.items) (sym same))
+    (q.0, q.1, q.2 ∙ ap (number_in_place plan.places.items) (sym same))
 
 -- what stands at the place of a node is this node
-pub address_of : (v : FlowGraph) (t : LoopView) (plan : Plan) (steps : List ℕ) → IsPlan v t plan → (u q : ℕ) → u < length v.code.nodes → number_at steps q ≡ number_at plan.places.items u → address_at v plan steps q ≡ node_address v u
-address_of v t plan steps is u q ul at = ap (λ p. node_address v (number_at plan.order.items p)) at ∙ ap (node_address v) (at_place v t plan is u ul).1
+pub address_of : (v : FlowGraph) (t : LoopView) (plan : Plan) (steps : List ℕ) → IsWorstPlan v t plan → (u q : ℕ) → u < length v.code.nodes → number_in_place steps q ≡ number_in_place plan.places.items u → address_at v plan steps q ≡ node_address v u
+address_of v t plan steps is u q ul at = ap (λ p. node_address v (number_in_place plan.order.items p)) at ∙ ap (node_address v) (at_place v t plan is u ul).1
 
 -- the rests that the edges of the next node need are found
-pub rests_known : (v : FlowGraph) (t : LoopView) (w : ℕ → ℕ) (plan : Plan) (l i m : ℕ) (rests : Rests) (n : Numbers) → IsFlowGraph v → HasTree v t → IsPlan v t plan → l < length t.headers → i < length plan.order.items → number_at t.headers l ≡ number_at plan.order.items i →
+pub rests_known : (v : FlowGraph) (t : LoopView) (w : ℕ → ℕ) (plan : Plan) (l i m : ℕ) (rests : Rests) (n : Numbers) → IsFlowGraph v → HasTree v t → IsWorstPlan v t plan → l < length t.headers → i < length plan.order.items → number_in_place t.headers l ≡ number_in_place plan.order.items i →
     AreBodyPlaces (body_of t.bodies l) plan.places.items rests.steps.items → m < length rests.steps.items → length rests.found.items ≡ m → AreFoundTo v t w plan l rests.steps.items m rests.found.items → AreSolvedBy v t w n →
     AreRestsKnownAt v t plan rests n l (address_at v plan rests.steps.items m)
 rests_known v t w plan l i m rests n flow tree is ll il header places ml size found s e lt from u at o node to plain rest = go ((loops v t).inside l at) refl
@@ -62,25 +62,25 @@ rests_known v t w plan l i m rests n flow tree is ll il header places ml size fo
     at_u : node_address v u ≡ at
     at_u = get_or_from_slice_get v.code.nodes u at 0 node
 
-    here : number_at rests.steps.items m < length plan.order.items
+    here : number_in_place rests.steps.items m < length plan.order.items
     here = (step_inside v t plan l i rests.steps.items flow tree is ll il header places m ml).0
 
-    starts : StartsAtNode v e (number_at plan.order.items (number_at rests.steps.items m))
-    starts = node_here v (number_at plan.order.items (number_at rests.steps.items m)) (is.order.within (number_at rests.steps.items m) here) ∙ ap Some (sym from)
+    starts : StartsAtNode v e (number_in_place plan.order.items (number_in_place rests.steps.items m))
+    starts = node_here v (number_in_place plan.order.items (number_in_place rests.steps.items m)) (is.order.within (number_in_place rests.steps.items m) here) ∙ ap Some (sym from)
 
-    before : number_at plan.places.items u < number_at rests.steps.items m
+    before : number_in_place plan.places.items u < number_in_place rests.steps.items m
     before =
-        let j = is.order.ready (number_at rests.steps.items m) e u here lt starts (inl (by_plain v t tree.0 tree.1 e lt plain, (to ∙ sym node, ul))) in
-        let low : j.0 < number_at rests.steps.items m = j.1 in
-        let within : number_at rests.steps.items m < length plan.order.items = here in
+        let j = is.order.ready (number_in_place rests.steps.items m) e u here lt starts (inl (by_plain v t tree.0 tree.1 e lt plain, (to ∙ sym node, ul))) in
+        let low : j.0 < number_in_place rests.steps.items m = j.1 in
+        let within : number_in_place rests.steps.items m < length plan.order.items = here in
         let jl : j.0 < length plan.order.items = omega arith in
-        let place : number_at plan.places.items u ≡ j.0 = ap (number_at plan.places.items) (sym j.2) ∙ is.places j.0 jl in
+        let place : number_in_place plan.places.items u ≡ j.0 = ap (number_in_place plan.places.items) (sym j.2) ∙ is.places j.0 jl in
         omega arith
 
-    not_later : (q : ℕ) → m ≤ q → q < length rests.steps.items → number_at rests.steps.items q ≡ number_at plan.places.items u → ⊥
+    not_later : (q : ℕ) → m ≤ q → q < length rests.steps.items → number_in_place rests.steps.items q ≡ number_in_place plan.places.items u → ⊥
     not_later q le ql same = let rises = places.rise m q le ql in let b = before in omega arith
 
-    there : (q : ℕ) → q < length rests.found.items → number_at rests.steps.items q ≡ number_at plan.places.items u → rest_at rests.found.items q ≡ n.closing l at
+    there : (q : ℕ) → q < length rests.found.items → number_in_place rests.steps.items q ≡ number_in_place plan.places.items u → rest_in rests.found.items q ≡ n.closing l at
     there q ql same = let low : q < m = omega arith in found n s q low ∙ ap (n.closing l) (address_of v t plan rests.steps.items is u q ul same ∙ at_u)
 
     go : (b : Bool) → (loops v t).inside l at ≡ b → o ≡ closing_at (loops v t) n l at
@@ -88,45 +88,45 @@ rests_known v t w plan l i m rests n flow tree is ll il header places ml size fo
         let q = step_of v t plan l rests.steps.items flow tree is ll places u ul (subst (λ a. (loops v t).inside l a ≡ true) (sym at_u) inside) in
         let closes : n.closing l at ≡ closing_at (loops v t) n l at = ap (λ b. held b (n.closing l at)) (sym inside) in
         ⊎_elim
-        (λ (some : (q : ℕ) × (q < length rests.found.items) × (q < length rests.steps.items) × (number_at rests.steps.items q ≡ number_at plan.places.items u) × (o ≡ rest_at rests.found.items q)).
+        (λ (some : (q : ℕ) × (q < length rests.found.items) × (q < length rests.steps.items) × (number_in_place rests.steps.items q ≡ number_in_place plan.places.items u) × (o ≡ rest_in rests.found.items q)).
         some.4 ∙ there some.0 some.1 some.3 ∙ closes)
-        (λ (none : (o ≡ None) × (((q : ℕ) → q < length rests.steps.items → number_at rests.steps.items q ≢ number_at plan.places.items u) ⊎
-        ((q : ℕ) × (length rests.found.items ≤ q) × (q < length rests.steps.items) × (number_at rests.steps.items q ≡ number_at plan.places.items u)))).
+        (λ (none : (o ≡ None) × (((q : ℕ) → q < length rests.steps.items → number_in_place rests.steps.items q ≢ number_in_place plan.places.items u) ⊎
+        ((q : ℕ) × (length rests.found.items ≤ q) × (q < length rests.steps.items) × (number_in_place rests.steps.items q ≡ number_in_place plan.places.items u)))).
         ⊎_elim
-        (λ (never : (q : ℕ) → q < length rests.steps.items → number_at rests.steps.items q ≢ number_at plan.places.items u). absurd (never q.0 q.1 q.2))
-        (λ (late : (q : ℕ) × (length rests.found.items ≤ q) × (q < length rests.steps.items) × (number_at rests.steps.items q ≡ number_at plan.places.items u)).
+        (λ (never : (q : ℕ) → q < length rests.steps.items → number_in_place rests.steps.items q ≢ number_in_place plan.places.items u). absurd (never q.0 q.1 q.2))
+        (λ (late : (q : ℕ) × (length rests.found.items ≤ q) × (q < length rests.steps.items) × (number_in_place rests.steps.items q ≡ number_in_place plan.places.items u)).
         let high = late.1 in let le : m ≤ late.0 = omega arith in absurd (not_later late.0 le late.2 late.3))
         none.1)
         rest
     go false outside =
         let closes : None ≡ closing_at (loops v t) n l at = ap (λ b. held b (n.closing l at)) (sym outside) in
         ⊎_elim
-        (λ (some : (q : ℕ) × (q < length rests.found.items) × (q < length rests.steps.items) × (number_at rests.steps.items q ≡ number_at plan.places.items u) × (o ≡ rest_at rests.found.items q)).
+        (λ (some : (q : ℕ) × (q < length rests.found.items) × (q < length rests.steps.items) × (number_in_place rests.steps.items q ≡ number_in_place plan.places.items u) × (o ≡ rest_in rests.found.items q)).
         let inside : (loops v t).inside l at ≡ true = subst (λ a. (loops v t).inside l a ≡ true) (address_of v t plan rests.steps.items is u some.0 ul some.3 ∙ at_u)
         (step_inside v t plan l i rests.steps.items flow tree is ll il header places some.0 some.2).1 in
         let bad : ⊥ = cc in absurd bad)
-        (λ (none : (o ≡ None) × (((q : ℕ) → q < length rests.steps.items → number_at rests.steps.items q ≢ number_at plan.places.items u) ⊎
-        ((q : ℕ) × (length rests.found.items ≤ q) × (q < length rests.steps.items) × (number_at rests.steps.items q ≡ number_at plan.places.items u)))).
+        (λ (none : (o ≡ None) × (((q : ℕ) → q < length rests.steps.items → number_in_place rests.steps.items q ≢ number_in_place plan.places.items u) ⊎
+        ((q : ℕ) × (length rests.found.items ≤ q) × (q < length rests.steps.items) × (number_in_place rests.steps.items q ≡ number_in_place plan.places.items u)))).
         none.0 ∙ closes)
         rest
 
 -- the rest that is found at the next node is that of its address
-pub next_rest : (v : FlowGraph) (t : LoopView) (w : ℕ → ℕ) (plan : Plan) (visits : List Visit) (l i m k : ℕ) (rests : Rests) (rest : Option ℕ) → IsFlowGraph v → HasTree v t → IsPlan v t plan → AreVisitedTo v t w plan.order.items i visits →
-    l < length t.headers → i < length plan.order.items → number_at t.headers l ≡ number_at plan.order.items i → AreBodyPlaces (body_of t.bodies l) plan.places.items rests.steps.items → m < length rests.steps.items → length rests.found.items ≡ m →
-    AreFoundTo v t w plan l rests.steps.items m rests.found.items → k ≡ number_at plan.order.items (number_at rests.steps.items m) →
+pub next_rest : (v : FlowGraph) (t : LoopView) (w : ℕ → ℕ) (plan : Plan) (visits : List Visit) (l i m k : ℕ) (rests : Rests) (rest : Option ℕ) → IsFlowGraph v → HasTree v t → IsWorstPlan v t plan → AreVisitedTo v t w plan.order.items i visits →
+    l < length t.headers → i < length plan.order.items → number_in_place t.headers l ≡ number_in_place plan.order.items i → AreBodyPlaces (body_of t.bodies l) plan.places.items rests.steps.items → m < length rests.steps.items → length rests.found.items ≡ m →
+    AreFoundTo v t w plan l rests.steps.items m rests.found.items → k ≡ number_in_place plan.order.items (number_in_place rests.steps.items m) →
     ((n : Numbers) → AreSolvedBy v t w n → AreKnownAt v t plan visits n (slice_index v.code.nodes k) → AreRestsKnownAt v t plan rests n l (slice_index v.code.nodes k) → rest ≡ n.closing l (slice_index v.code.nodes k)) →
     (n : Numbers) → AreSolvedBy v t w n → rest ≡ n.closing l (address_at v plan rests.steps.items m)
 next_rest v t w plan visits l i m k rests rest flow tree is visited ll il header places ml size found node this n s =
     let step = step_inside v t plan l i rests.steps.items flow tree is ll il header places m ml in
     let here = subst (λ x. AreKnownAt v t plan visits n (slice_index v.code.nodes x) → AreRestsKnownAt v t plan rests n l (slice_index v.code.nodes x) → rest ≡ n.closing l (slice_index v.code.nodes x)) node (this n s) in
-    here (known_before v t w plan visits i (number_at rests.steps.items m) n flow tree is visited s step.2 step.0) (rests_known v t w plan l i m rests n flow tree is ll il header places ml size found s)
+    here (known_before v t w plan visits i (number_in_place rests.steps.items m) n flow tree is visited s step.2 step.0) (rests_known v t w plan l i m rests n flow tree is ll il header places ml size found s)
 
 -- the number of the node at a place of the body
-pub step_node : (plan : Plan) (steps : List ℕ) (m x k : ℕ) → m < length steps → number_at steps m < length plan.order.items → x ≡ get_or steps m x → k ≡ get_or plan.order.items x k → k ≡ number_at plan.order.items (number_at steps m)
+pub step_node : (plan : Plan) (steps : List ℕ) (m x k : ℕ) → m < length steps → number_in_place steps m < length plan.order.items → x ≡ get_or steps m x → k ≡ get_or plan.order.items x k → k ≡ number_in_place plan.order.items (number_in_place steps m)
 step_node plan steps m x k ml low at node =
-    let here : number_at steps m ≡ x = value_at steps m x 0 ml at in
+    let here : number_in_place steps m ≡ x = value_at steps m x 0 ml at in
     let within : x < length plan.order.items = omega arith in
-    sym (value_at plan.order.items x k 0 within node) ∙ ap (number_at plan.order.items) (sym here)
+    sym (value_at plan.order.items x k 0 within node) ∙ ap (number_in_place plan.order.items) (sym here)
 
 -- the rest of the next node is put behind the others
 pub found_more : (v : FlowGraph) (t : LoopView) (w : ℕ → ℕ) (plan : Plan) (l m : ℕ) (steps : List ℕ) (found : List (Option ℕ)) (rest : Option ℕ) → length found ≡ m → AreFoundTo v t w plan l steps m found →
@@ -135,23 +135,23 @@ found_more v t w plan l m steps found rest size are this n s q lt = ⊎_elim
     (λ (low : q < m). get_or_append_left found (rest ∷ []) None q (let h : q < length found = omega arith in h) ∙ are n s q low)
     (λ (high : m ≤ q).
     let same : q ≡ m = omega arith in
-    let at : rest_at (found ++ rest ∷ []) q ≡ rest_at (rest ∷ []) (q - length found) = get_or-append_right found (rest ∷ []) q None (let h : length found ≤ q = omega arith in h) in
+    let at : rest_in (found ++ rest ∷ []) q ≡ rest_in (rest ∷ []) (q - length found) = get_or-append_right found (rest ∷ []) q None (let h : length found ≤ q = omega arith in h) in
     let first : q - length found ≡ 0 = omega arith in
-    at ∙ ap (rest_at (rest ∷ [])) first ∙ this n s ∙ ap (λ x. n.closing l (address_at v plan steps x)) (sym same))
+    at ∙ ap (rest_in (rest ∷ [])) first ∙ this n s ∙ ap (λ x. n.closing l (address_at v plan steps x)) (sym same))
     (cases_lt q m)
 
-pub rests_small : (found : List (Option ℕ)) (rest : Option ℕ) → ((m b : ℕ) → rest_at found m ≡ Some b → b ≤ 2 ^ 48 + 2 ^ 32) → ((b : ℕ) → rest ≡ Some b → b ≤ 2 ^ 48 + 2 ^ 32) → (m b : ℕ) → rest_at (found ++ rest ∷ []) m ≡ Some b → b ≤ 2 ^ 48 + 2 ^ 32
+pub rests_small : (found : List (Option ℕ)) (rest : Option ℕ) → ((m b : ℕ) → rest_in found m ≡ Some b → b ≤ 2 ^ 48 + 2 ^ 32) → ((b : ℕ) → rest ≡ Some b → b ≤ 2 ^ 48 + 2 ^ 32) → (m b : ℕ) → rest_in (found ++ rest ∷ []) m ≡ Some b → b ≤ 2 ^ 48 + 2 ^ 32
 rests_small found rest small this m b at = ⊎_elim
     (λ (low : m < length found). small m b (sym (get_or_append_left found (rest ∷ []) None m low) ∙ at))
     (λ (high : length found ≤ m). past (m - length found) (sym (get_or-append_right found (rest ∷ []) m None high) ∙ at))
     (cases_lt m (length found))
   where
-    past : (i : ℕ) → rest_at (rest ∷ []) i ≡ Some b → b ≤ 2 ^ 48 + 2 ^ 32
+    past : (i : ℕ) → rest_in (rest ∷ []) i ≡ Some b → b ≤ 2 ^ 48 + 2 ^ 32
     past zero e = this b e
     past (suc i) e = absurd (none-some b e)
 
 -- over the limit
-pub rest_too_long : (v : FlowGraph) (t : LoopView) (w : ℕ → ℕ) (l at b : ℕ) (rest : Option ℕ) → l < length t.headers → (loops v t).inside l at ≡ true → ((n : Numbers) → AreSolvedBy v t w n → rest ≡ n.closing l at) → (weight : ℕ) → ((e : ℕ) → e < length v.code.edges → w e ≤ weight) → rest ≡ Some b → 2 ^ 48 + weight < b → IsTooLong v t w
+pub rest_too_long : (v : FlowGraph) (t : LoopView) (w : ℕ → ℕ) (l at b : ℕ) (rest : Option ℕ) → l < length t.headers → (loops v t).inside l at ≡ true → ((n : Numbers) → AreSolvedBy v t w n → rest ≡ n.closing l at) → (weight : ℕ) → ((e : ℕ) → e < length v.code.edges → w e ≤ weight) → rest ≡ Some b → 2 ^ 48 + weight < b → IsOverLimit v t w
 rest_too_long v t w l at b rest ll inside is weight light some more n s =
     let count = loop_count v t in
     let lt : l < (loops v t).loops = omega arith in
@@ -159,28 +159,28 @@ rest_too_long v t w l at b rest ll inside is weight light some more n s =
     omega arith
 
 -- once all rests are found, that of the header is one iteration
-pub header_rest : (v : FlowGraph) (t : LoopView) (w : ℕ → ℕ) (plan : Plan) (l : ℕ) (rests : Rests) (o : Option ℕ) → IsFlowGraph v → HasTree v t → IsPlan v t plan → l < length t.headers →
+pub header_rest : (v : FlowGraph) (t : LoopView) (w : ℕ → ℕ) (plan : Plan) (l : ℕ) (rests : Rests) (o : Option ℕ) → IsFlowGraph v → HasTree v t → IsWorstPlan v t plan → l < length t.headers →
     AreBodyPlaces (body_of t.bodies l) plan.places.items rests.steps.items → length rests.found.items ≡ length rests.steps.items → AreFoundTo v t w plan l rests.steps.items (length rests.steps.items) rests.found.items →
-    IsRestOf rests (number_at plan.places.items (number_at t.headers l)) o → (n : Numbers) → AreSolvedBy v t w n → o ≡ Some (n.iteration l)
+    IsRestOf rests (number_in_place plan.places.items (number_in_place t.headers l)) o → (n : Numbers) → AreSolvedBy v t w n → o ≡ Some (n.iteration l)
 header_rest v t w plan l rests o flow tree is ll places size found rest n s =
     let count = loop_count v t in
     let lt : l < (loops v t).loops = omega arith in
-    let hl : number_at t.headers l < length v.code.nodes = header_number v t tree.0 tree.1 l ll in
-    let address : (loops v t).header l ≡ node_address v (number_at t.headers l) = header_address v t l ll in
-    let inside : (loops v t).inside l (node_address v (number_at t.headers l)) ≡ true = subst (λ a. (loops v t).inside l a ≡ true) address (s.held l lt) in
-    let q = step_of v t plan l rests.steps.items flow tree is ll places (number_at t.headers l) hl inside in
+    let hl : number_in_place t.headers l < length v.code.nodes = header_number v t tree.0 tree.1 l ll in
+    let address : (loops v t).header l ≡ node_address v (number_in_place t.headers l) = header_address v t l ll in
+    let inside : (loops v t).inside l (node_address v (number_in_place t.headers l)) ≡ true = subst (λ a. (loops v t).inside l a ≡ true) address (s.held l lt) in
+    let q = step_of v t plan l rests.steps.items flow tree is ll places (number_in_place t.headers l) hl inside in
     ⊎_elim
-    (λ (some : (q : ℕ) × (q < length rests.found.items) × (q < length rests.steps.items) × (number_at rests.steps.items q ≡ number_at plan.places.items (number_at t.headers l)) × (o ≡ rest_at rests.found.items q)).
-    some.4 ∙ found n s some.0 some.2 ∙ ap (n.closing l) (address_of v t plan rests.steps.items is (number_at t.headers l) some.0 hl some.3 ∙ sym address) ∙ s.iteration l lt)
-    (λ (none : (o ≡ None) × (((q : ℕ) → q < length rests.steps.items → number_at rests.steps.items q ≢ number_at plan.places.items (number_at t.headers l)) ⊎
-    ((q : ℕ) × (length rests.found.items ≤ q) × (q < length rests.steps.items) × (number_at rests.steps.items q ≡ number_at plan.places.items (number_at t.headers l))))).
+    (λ (some : (q : ℕ) × (q < length rests.found.items) × (q < length rests.steps.items) × (number_in_place rests.steps.items q ≡ number_in_place plan.places.items (number_in_place t.headers l)) × (o ≡ rest_in rests.found.items q)).
+    some.4 ∙ found n s some.0 some.2 ∙ ap (n.closing l) (address_of v t plan rests.steps.items is (number_in_place t.headers l) some.0 hl some.3 ∙ sym address) ∙ s.iteration l lt)
+    (λ (none : (o ≡ None) × (((q : ℕ) → q < length rests.steps.items → number_in_place rests.steps.items q ≢ number_in_place plan.places.items (number_in_place t.headers l)) ⊎
+    ((q : ℕ) × (length rests.found.items ≤ q) × (q < length rests.steps.items) × (number_in_place rests.steps.items q ≡ number_in_place plan.places.items (number_in_place t.headers l))))).
     ⊎_elim
-    (λ (never : (q : ℕ) → q < length rests.steps.items → number_at rests.steps.items q ≢ number_at plan.places.items (number_at t.headers l)). absurd (never q.0 q.1 q.2))
-    (λ (late : (q : ℕ) × (length rests.found.items ≤ q) × (q < length rests.steps.items) × (number_at rests.steps.items q ≡ number_at plan.places.items (number_at t.headers l))).
+    (λ (never : (q : ℕ) → q < length rests.steps.items → number_in_place rests.steps.items q ≢ number_in_place plan.places.items (number_in_place t.headers l)). absurd (never q.0 q.1 q.2))
+    (λ (late : (q : ℕ) × (length rests.found.items ≤ q) × (q < length rests.steps.items) × (number_in_place rests.steps.items q ≡ number_in_place plan.places.items (number_in_place t.headers l))).
     let high = late.1 in let low = late.2 in let bad : ⊥ = omega arith in absurd bad)
     none.1)
     rest
 
 -- the place of the header
-pub header_place : (t : LoopView) (places : List ℕ) (l h x : ℕ) → slice_get t.headers l ≡ Some h → h < length places → x ≡ get_or places h x → x ≡ number_at places (number_at t.headers l)
-header_place t places l h x has lt is = sym (value_at places h x 0 lt is) ∙ ap (number_at places) (sym (get_or_from_slice_get t.headers l h 0 has))
+pub header_place : (t : LoopView) (places : List ℕ) (l h x : ℕ) → slice_get t.headers l ≡ Some h → h < length places → x ≡ get_or places h x → x ≡ number_in_place places (number_in_place t.headers l)
+header_place t places l h x has lt is = sym (value_at places h x 0 lt is) ∙ ap (number_in_place places) (sym (get_or_from_slice_get t.headers l h 0 has))

@@ -2,7 +2,7 @@
 use Rattle.std.proofs.Common.{◌≡◌, ◌≢◌, ℕ, ◌+◌, ◌^◌, ◌<◌, ◌≤◌, ◌⊎◌, inl, inr, true, List, length, set, slice_get, get_or, length-set, Option, Some, None, le_refl, get_or-set_same, get_or-set_other, refl, sym, ap, ◌∙◌, subst, arith, ⊎_elim}
 use Rattle.std.proofs.lemmas.Bool.{cases_lt, cases_eq}
 use Rattle.std.proofs.lemmas.Option.{slice_get_within, get_or_from_slice_get}
-use Rattle.call_orders.specs.Arcs.{number_at}
+use Rattle.call_orders.specs.Arcs.{number_in_place}
 use Rattle.cost_theory.specs.Graph.{Loops}
 use Rattle.cost_theory.specs.Worst.{Numbers, IsLeft}
 use Rattle.code_graph.specs.FlowGraph.{FlowGraph, IsFlowGraph}
@@ -12,8 +12,8 @@ use Rattle.worst_cycles.specs.declared.plan.Plan.{Plan}
 use Rattle.worst_cycles.specs.declared.rests.Rests.{Rests}
 use Rattle.worst_cycles.specs.declared.visits.Visit.{Visit}
 use Rattle.worst_cycles.specs.Needs.{HasTree}
-use Rattle.worst_cycles.specs.Visits.{headed_at, visit_at, IsPlan, AreSolvedBy, AreVisitedTo, AreAllVisited}
-use Rattle.worst_cycles.specs.Rests.{rest_at, address_at, AreRestsOf}
+use Rattle.worst_cycles.specs.Visits.{headed_at, visit_at, IsWorstPlan, AreSolvedBy, AreVisitedTo, AreAllVisited}
+use Rattle.worst_cycles.specs.Rests.{rest_in, address_at, AreRestsOf}
 use Rattle.worst_cycles.specs.Lefts.{HasSolved, IsHeadedFrom, IsLeftTo, AreLeftsTo, AreLefts}
 use Rattle.worst_cycles.proofs.BodyLaws.{node_here, same_node, loop_count, header_number, header_address}
 use Rattle.worst_cycles.proofs.PlanLaws.{at_place, body_before}
@@ -36,196 +36,196 @@ left_whole l n Done at x is to done =
 
 -- all visits are those before any place
 pub visited_before : (v : FlowGraph) (t : LoopView) (w : ℕ → ℕ) (order : List ℕ) (i : ℕ) (visits : List Visit) → AreAllVisited v t w visits → AreVisitedTo v t w order i visits
-visited_before v t w order i visits all n s j at lt node = all.each n s (number_at order j) at node
+visited_before v t w order i visits all n s j at lt node = all.each n s (number_in_place order j) at node
 
 -- no header stands behind the order
-pub lefts_first : (v : FlowGraph) (t : LoopView) (w : ℕ → ℕ) (plan : Plan) (left : List ℕ) (visits : List Visit) → HasTree v t → IsPlan v t plan → AreAllVisited v t w visits →
-    ((k : ℕ) → k < length visits → number_at left k ≡ (visit_at visits k).plain) → AreLeftsTo v t w plan (length plan.order.items) left
+pub lefts_first : (v : FlowGraph) (t : LoopView) (w : ℕ → ℕ) (plan : Plan) (left : List ℕ) (visits : List Visit) → HasTree v t → IsWorstPlan v t plan → AreAllVisited v t w visits →
+    ((k : ℕ) → k < length visits → number_in_place left k ≡ (visit_at visits k).plain) → AreLeftsTo v t w plan (length plan.order.items) left
 lefts_first v t w plan left visits tree is all each n s k kl =
     let size = all.table.size in
-    let here : number_at left k ≡ (visit_at visits k).plain = each k (let r : k < length visits = omega arith in r) in
+    let here : number_in_place left k ≡ (visit_at visits k).plain = each k (let r : k < length visits = omega arith in r) in
     let visit : (visit_at visits k).plain ≡ n.plain (node_address v k) = (all.each n s k (node_address v k) (node_here v k kl)).plain in
     let over : n.plain (node_address v k) ≤ n.left (node_address v k) = (s.left (node_address v k)).over_plain in
     record {
-      under = let r : number_at left k ≤ n.left (node_address v k) = omega arith in r;
-      over_plain = let r : n.plain (node_address v k) ≤ number_at left k = omega arith in r;
+      under = let r : number_in_place left k ≤ n.left (node_address v k) = omega arith in r;
+      over_plain = let r : n.plain (node_address v k) ≤ number_in_place left k = omega arith in r;
       over_closing = λ j b jl done inside other closes.
           let count = loop_count v t in
           let low : j < length t.headers = omega arith in
-          let place = at_place v t plan is (number_at t.headers j) (header_number v t tree.0 tree.1 j low) in
+          let place = at_place v t plan is (number_in_place t.headers j) (header_number v t tree.0 tree.1 j low) in
           let within = place.0 in
           let bad : ⊥ = omega arith in absurd bad;
     }
 
 -- the header of an outer loop stands behind that of an inner one
-outer_behind : (v : FlowGraph) (t : LoopView) (plan : Plan) (i j : ℕ) → IsFlowGraph v → HasTree v t → IsPlan v t plan → i < length plan.order.items → j < (loops v t).loops →
-    (loops v t).inside j (node_address v (number_at plan.order.items i)) ≡ true → (loops v t).header j ≢ node_address v (number_at plan.order.items i) → IsHeadedFrom t plan (i + 1) j
+outer_behind : (v : FlowGraph) (t : LoopView) (plan : Plan) (i j : ℕ) → IsFlowGraph v → HasTree v t → IsWorstPlan v t plan → i < length plan.order.items → j < (loops v t).loops →
+    (loops v t).inside j (node_address v (number_in_place plan.order.items i)) ≡ true → (loops v t).header j ≢ node_address v (number_in_place plan.order.items i) → IsHeadedFrom t plan (i + 1) j
 outer_behind v t plan i j flow tree is il jl inside other =
     let count = loop_count v t in
     let low : j < length t.headers = omega arith in
-    let place = at_place v t plan is (number_at t.headers j) (header_number v t tree.0 tree.1 j low) in
-    let before : i ≤ number_at plan.places.items (number_at t.headers j) = body_before v t plan flow tree is j (number_at plan.places.items (number_at t.headers j)) i low place.0 il (sym place.1) inside in
+    let place = at_place v t plan is (number_in_place t.headers j) (header_number v t tree.0 tree.1 j low) in
+    let before : i ≤ number_in_place plan.places.items (number_in_place t.headers j) = body_before v t plan flow tree is j (number_in_place plan.places.items (number_in_place t.headers j)) i low place.0 il (sym place.1) inside in
     ⊎_elim
-    (λ (lt : i < number_at plan.places.items (number_at t.headers j)). let r : i + 1 ≤ number_at plan.places.items (number_at t.headers j) = omega arith in r)
-    (λ (le : number_at plan.places.items (number_at t.headers j) ≤ i).
-    let same : number_at plan.places.items (number_at t.headers j) ≡ i = omega arith in
-    absurd (other (header_address v t j low ∙ ap (node_address v) (sym place.1) ∙ ap (λ p. node_address v (number_at plan.order.items p)) same)))
-    (cases_lt i (number_at plan.places.items (number_at t.headers j)))
+    (λ (lt : i < number_in_place plan.places.items (number_in_place t.headers j)). let r : i + 1 ≤ number_in_place plan.places.items (number_in_place t.headers j) = omega arith in r)
+    (λ (le : number_in_place plan.places.items (number_in_place t.headers j) ≤ i).
+    let same : number_in_place plan.places.items (number_in_place t.headers j) ≡ i = omega arith in
+    absurd (other (header_address v t j low ∙ ap (node_address v) (sym place.1) ∙ ap (λ p. node_address v (number_in_place plan.order.items p)) same)))
+    (cases_lt i (number_in_place plan.places.items (number_in_place t.headers j)))
 
 -- what is left at the header of a loop is known before its body is raised
-pub header_left : (v : FlowGraph) (t : LoopView) (w : ℕ → ℕ) (plan : Plan) (left : List ℕ) (i : ℕ) (n : Numbers) → IsFlowGraph v → HasTree v t → IsPlan v t plan → i < length plan.order.items → AreLeftsTo v t w plan (i + 1) left → AreSolvedBy v t w n →
-    number_at left (number_at plan.order.items i) ≡ n.left (node_address v (number_at plan.order.items i))
+pub header_left : (v : FlowGraph) (t : LoopView) (w : ℕ → ℕ) (plan : Plan) (left : List ℕ) (i : ℕ) (n : Numbers) → IsFlowGraph v → HasTree v t → IsWorstPlan v t plan → i < length plan.order.items → AreLeftsTo v t w plan (i + 1) left → AreSolvedBy v t w n →
+    number_in_place left (number_in_place plan.order.items i) ≡ n.left (node_address v (number_in_place plan.order.items i))
 header_left v t w plan left i n flow tree is il to s =
-    left_whole (loops v t) n (IsHeadedFrom t plan (i + 1)) (node_address v (number_at plan.order.items i)) (number_at left (number_at plan.order.items i)) (s.left (node_address v (number_at plan.order.items i)))
-    (to n s (number_at plan.order.items i) (is.order.within i il)) (λ j jl inside other. outer_behind v t plan i j flow tree is il jl inside other)
+    left_whole (loops v t) n (IsHeadedFrom t plan (i + 1)) (node_address v (number_in_place plan.order.items i)) (number_in_place left (number_in_place plan.order.items i)) (s.left (node_address v (number_in_place plan.order.items i)))
+    (to n s (number_in_place plan.order.items i) (is.order.within i il)) (λ j jl inside other. outer_behind v t plan i j flow tree is il jl inside other)
 
 -- what raising the body of a loop does, up to place m of it
 pub record AreRaisedTo (plan : Plan) (rests : Rests) (header iteration m : ℕ) (old new : List ℕ) : Type 0 where
-  pub higher : (k : ℕ) → number_at old k ≤ number_at new k
-  pub over : (q b : ℕ) → q < m → rest_at rests.found.items q ≡ Some b → number_at plan.order.items (number_at rests.steps.items q) ≢ header →
-      b + number_at old header ≤ number_at new (number_at plan.order.items (number_at rests.steps.items q)) + iteration
-  pub either : (k : ℕ) → (number_at new k ≡ number_at old k) ⊎ ((q : ℕ) × (b : ℕ) × (q < length rests.steps.items) × (number_at plan.order.items (number_at rests.steps.items q) ≡ k) × (k ≢ header) ×
-      (rest_at rests.found.items q ≡ Some b) × (number_at new k + iteration ≡ b + number_at old header))
+  pub higher : (k : ℕ) → number_in_place old k ≤ number_in_place new k
+  pub over : (q b : ℕ) → q < m → rest_in rests.found.items q ≡ Some b → number_in_place plan.order.items (number_in_place rests.steps.items q) ≢ header →
+      b + number_in_place old header ≤ number_in_place new (number_in_place plan.order.items (number_in_place rests.steps.items q)) + iteration
+  pub either : (k : ℕ) → (number_in_place new k ≡ number_in_place old k) ⊎ ((q : ℕ) × (b : ℕ) × (q < length rests.steps.items) × (number_in_place plan.order.items (number_in_place rests.steps.items q) ≡ k) × (k ≢ header) ×
+      (rest_in rests.found.items q ≡ Some b) × (number_in_place new k + iteration ≡ b + number_in_place old header))
 
 abbrev pub AreRaised : Plan → Rests → ℕ → ℕ → List ℕ → List ℕ → Type 0
 AreRaised plan rests header iteration old new = AreRaisedTo plan rests header iteration (length rests.steps.items) old new
 
 pub raised_first : (plan : Plan) (rests : Rests) (header iteration : ℕ) (old : List ℕ) → AreRaisedTo plan rests header iteration 0 old old
 raised_first plan rests header iteration old = record {
-  higher = λ k. le_refl (number_at old k);
+  higher = λ k. le_refl (number_in_place old k);
   over = λ q b lt rest off. let bad : ⊥ = omega arith in absurd bad;
   either = λ k. inl refl;
 }
 
 -- one node more
-pub raised_more : (plan : Plan) (rests : Rests) (header iteration m k x whole : ℕ) (o : Option ℕ) (old now new : List ℕ) → number_at plan.order.items (number_at rests.steps.items m) ≡ k → k ≢ header → m < length rests.steps.items → rest_at rests.found.items m ≡ o →
-    whole ≡ number_at old header → new ≡ set now k x → k < length now → number_at now k ≤ x → ((b : ℕ) → o ≡ Some b → b + whole ≤ x + iteration) → (x ≡ number_at now k) ⊎ ((b : ℕ) × (o ≡ Some b) × (x + iteration ≡ b + whole)) →
+pub raised_more : (plan : Plan) (rests : Rests) (header iteration m k x whole : ℕ) (o : Option ℕ) (old now new : List ℕ) → number_in_place plan.order.items (number_in_place rests.steps.items m) ≡ k → k ≢ header → m < length rests.steps.items → rest_in rests.found.items m ≡ o →
+    whole ≡ number_in_place old header → new ≡ set now k x → k < length now → number_in_place now k ≤ x → ((b : ℕ) → o ≡ Some b → b + whole ≤ x + iteration) → (x ≡ number_in_place now k) ⊎ ((b : ℕ) × (o ≡ Some b) × (x + iteration ≡ b + whole)) →
     AreRaisedTo plan rests header iteration m old now → AreRaisedTo plan rests header iteration (m + 1) old new
 raised_more plan rests header iteration m k x whole o old now new node off ml rest head is kl higher over either to = record {
-  higher = λ j. let low = to.higher j in let more = rises j in let r : number_at old j ≤ number_at new j = omega arith in r;
+  higher = λ j. let low = to.higher j in let more = rises j in let r : number_in_place old j ≤ number_in_place new j = omega arith in r;
   over = λ q b lt some other. ⊎_elim
       (λ (before : q < m).
-      let less = to.over q b before some other in let more = rises (number_at plan.order.items (number_at rests.steps.items q)) in
-      let r : b + number_at old header ≤ number_at new (number_at plan.order.items (number_at rests.steps.items q)) + iteration = omega arith in r)
+      let less = to.over q b before some other in let more = rises (number_in_place plan.order.items (number_in_place rests.steps.items q)) in
+      let r : b + number_in_place old header ≤ number_in_place new (number_in_place plan.order.items (number_in_place rests.steps.items q)) + iteration = omega arith in r)
       (λ (last : m ≤ q).
       let same : q ≡ m = omega arith in
-      let at : number_at plan.order.items (number_at rests.steps.items q) ≡ k = ap (λ p. number_at plan.order.items (number_at rests.steps.items p)) same ∙ node in
-      let more : b + whole ≤ x + iteration = over b (sym rest ∙ ap (rest_at rests.found.items) (sym same) ∙ some) in
-      let value : number_at new (number_at plan.order.items (number_at rests.steps.items q)) ≡ x = ap (number_at new) at ∙ here in
-      let r : b + number_at old header ≤ number_at new (number_at plan.order.items (number_at rests.steps.items q)) + iteration = omega arith in r)
+      let at : number_in_place plan.order.items (number_in_place rests.steps.items q) ≡ k = ap (λ p. number_in_place plan.order.items (number_in_place rests.steps.items p)) same ∙ node in
+      let more : b + whole ≤ x + iteration = over b (sym rest ∙ ap (rest_in rests.found.items) (sym same) ∙ some) in
+      let value : number_in_place new (number_in_place plan.order.items (number_in_place rests.steps.items q)) ≡ x = ap (number_in_place new) at ∙ here in
+      let r : b + number_in_place old header ≤ number_in_place new (number_in_place plan.order.items (number_in_place rests.steps.items q)) + iteration = omega arith in r)
       (cases_lt q m);
   either = λ j. ⊎_elim
       (λ (same : j ≡ k). ⊎_elim
-      (λ (kept : x ≡ number_at now k). keep j (ap (number_at new) same ∙ here ∙ kept ∙ ap (number_at now) (sym same)))
+      (λ (kept : x ≡ number_in_place now k). keep j (ap (number_in_place new) same ∙ here ∙ kept ∙ ap (number_in_place now) (sym same)))
       (λ (some : (b : ℕ) × (o ≡ Some b) × (x + iteration ≡ b + whole)).
-      let value : number_at new j ≡ x = ap (number_at new) same ∙ here in
+      let value : number_in_place new j ≡ x = ap (number_in_place new) same ∙ here in
       let e : x + iteration ≡ some.0 + whole = some.2 in
-      let sum : number_at new j + iteration ≡ some.0 + number_at old header = omega arith in
-      let r : (number_at new j ≡ number_at old j) ⊎ ((q : ℕ) × (b : ℕ) × (q < length rests.steps.items) × (number_at plan.order.items (number_at rests.steps.items q) ≡ j) × (j ≢ header) × (rest_at rests.found.items q ≡ Some b) × (number_at new j + iteration ≡ b + number_at old header)) =
+      let sum : number_in_place new j + iteration ≡ some.0 + number_in_place old header = omega arith in
+      let r : (number_in_place new j ≡ number_in_place old j) ⊎ ((q : ℕ) × (b : ℕ) × (q < length rests.steps.items) × (number_in_place plan.order.items (number_in_place rests.steps.items q) ≡ j) × (j ≢ header) × (rest_in rests.found.items q ≡ Some b) × (number_in_place new j + iteration ≡ b + number_in_place old header)) =
       inr (m, some.0, ml, node ∙ sym same, (λ at. off (sym same ∙ at)), rest ∙ some.1, sum) in r)
       either)
       (λ (other : j ≢ k). keep j (others j other))
       (cases_eq j k);
 }
   where
-    here : number_at new k ≡ x
-    here = ap (λ xs. number_at xs k) is ∙ get_or-set_same now k x 0 kl
+    here : number_in_place new k ≡ x
+    here = ap (λ xs. number_in_place xs k) is ∙ get_or-set_same now k x 0 kl
 
-    others : (j : ℕ) → j ≢ k → number_at new j ≡ number_at now j
-    others j other = ap (λ xs. number_at xs j) is ∙ get_or-set_other now k j x 0 other
+    others : (j : ℕ) → j ≢ k → number_in_place new j ≡ number_in_place now j
+    others j other = ap (λ xs. number_in_place xs j) is ∙ get_or-set_other now k j x 0 other
 
-    rises : (j : ℕ) → number_at now j ≤ number_at new j
+    rises : (j : ℕ) → number_in_place now j ≤ number_in_place new j
     rises j = ⊎_elim
-        (λ (same : j ≡ k). let a : number_at new j ≡ x = ap (number_at new) same ∙ here in let b : number_at now j ≡ number_at now k = ap (number_at now) same in let r : number_at now j ≤ number_at new j = omega arith in r)
-        (λ (other : j ≢ k). let e = others j other in let r : number_at now j ≤ number_at new j = omega arith in r)
+        (λ (same : j ≡ k). let a : number_in_place new j ≡ x = ap (number_in_place new) same ∙ here in let b : number_in_place now j ≡ number_in_place now k = ap (number_in_place now) same in let r : number_in_place now j ≤ number_in_place new j = omega arith in r)
+        (λ (other : j ≢ k). let e = others j other in let r : number_in_place now j ≤ number_in_place new j = omega arith in r)
         (cases_eq j k)
 
-    keep : (j : ℕ) → number_at new j ≡ number_at now j → (number_at new j ≡ number_at old j) ⊎ ((q : ℕ) × (b : ℕ) × (q < length rests.steps.items) × (number_at plan.order.items (number_at rests.steps.items q) ≡ j) × (j ≢ header) ×
-        (rest_at rests.found.items q ≡ Some b) × (number_at new j + iteration ≡ b + number_at old header))
+    keep : (j : ℕ) → number_in_place new j ≡ number_in_place now j → (number_in_place new j ≡ number_in_place old j) ⊎ ((q : ℕ) × (b : ℕ) × (q < length rests.steps.items) × (number_in_place plan.order.items (number_in_place rests.steps.items q) ≡ j) × (j ≢ header) ×
+        (rest_in rests.found.items q ≡ Some b) × (number_in_place new j + iteration ≡ b + number_in_place old header))
     keep j same = ⊎_elim
-        (λ (old_is : number_at now j ≡ number_at old j). inl (same ∙ old_is))
-        (λ (some : (q : ℕ) × (b : ℕ) × (q < length rests.steps.items) × (number_at plan.order.items (number_at rests.steps.items q) ≡ j) × (j ≢ header) × (rest_at rests.found.items q ≡ Some b) × (number_at now j + iteration ≡ b + number_at old header)).
+        (λ (old_is : number_in_place now j ≡ number_in_place old j). inl (same ∙ old_is))
+        (λ (some : (q : ℕ) × (b : ℕ) × (q < length rests.steps.items) × (number_in_place plan.order.items (number_in_place rests.steps.items q) ≡ j) × (j ≢ header) × (rest_in rests.found.items q ≡ Some b) × (number_in_place now j + iteration ≡ b + number_in_place old header)).
         inr (some.0, some.1, some.2, some.3, some.4, some.5, ap (λ y. y + iteration) same ∙ some.6))
         (to.either j)
 
 -- the header is left as it is
-pub raised_past : (plan : Plan) (rests : Rests) (header iteration m k : ℕ) (old now : List ℕ) → number_at plan.order.items (number_at rests.steps.items m) ≡ k → k ≡ header → AreRaisedTo plan rests header iteration m old now → AreRaisedTo plan rests header iteration (m + 1) old now
+pub raised_past : (plan : Plan) (rests : Rests) (header iteration m k : ℕ) (old now : List ℕ) → number_in_place plan.order.items (number_in_place rests.steps.items m) ≡ k → k ≡ header → AreRaisedTo plan rests header iteration m old now → AreRaisedTo plan rests header iteration (m + 1) old now
 raised_past plan rests header iteration m k old now node same to = record {
   higher = to.higher;
   over = λ q b lt some other. ⊎_elim
       (λ (before : q < m). to.over q b before some other)
-      (λ (last : m ≤ q). let one : q ≡ m = omega arith in absurd (other (ap (λ p. number_at plan.order.items (number_at rests.steps.items p)) one ∙ node ∙ same)))
+      (λ (last : m ≤ q). let one : q ≡ m = omega arith in absurd (other (ap (λ p. number_in_place plan.order.items (number_in_place rests.steps.items p)) one ∙ node ∙ same)))
       (cases_lt q m);
   either = to.either;
 }
 
-pub lefts_more : (v : FlowGraph) (t : LoopView) (w : ℕ → ℕ) (plan : Plan) (rests : Rests) (old new : List ℕ) (i l iteration : ℕ) → IsFlowGraph v → HasTree v t → IsPlan v t plan → i < length plan.order.items → l < length t.headers →
-    number_at t.headers l ≡ number_at plan.order.items i → AreRestsOf v t w plan l rests → ((n : Numbers) → AreSolvedBy v t w n → iteration ≡ n.iteration l) → AreRaised plan rests (number_at plan.order.items i) iteration old new →
+pub lefts_more : (v : FlowGraph) (t : LoopView) (w : ℕ → ℕ) (plan : Plan) (rests : Rests) (old new : List ℕ) (i l iteration : ℕ) → IsFlowGraph v → HasTree v t → IsWorstPlan v t plan → i < length plan.order.items → l < length t.headers →
+    number_in_place t.headers l ≡ number_in_place plan.order.items i → AreRestsOf v t w plan l rests → ((n : Numbers) → AreSolvedBy v t w n → iteration ≡ n.iteration l) → AreRaised plan rests (number_in_place plan.order.items i) iteration old new →
     AreLeftsTo v t w plan (i + 1) old → AreLeftsTo v t w plan i new
 lefts_more v t w plan rests old new i l iteration flow tree is il ll header of one raised to n s k kl =
     let before = to n s k kl in
     record {
       under = ⊎_elim
-          (λ (same : number_at new k ≡ number_at old k). let low = before.under in let r : number_at new k ≤ n.left (node_address v k) = omega arith in r)
-          (λ (some : (m : ℕ) × (b : ℕ) × (m < length rests.steps.items) × (number_at plan.order.items (number_at rests.steps.items m) ≡ k) × (k ≢ number_at plan.order.items i) ×
-          (rest_at rests.found.items m ≡ Some b) × (number_at new k + iteration ≡ b + number_at old (number_at plan.order.items i))).
+          (λ (same : number_in_place new k ≡ number_in_place old k). let low = before.under in let r : number_in_place new k ≤ n.left (node_address v k) = omega arith in r)
+          (λ (some : (m : ℕ) × (b : ℕ) × (m < length rests.steps.items) × (number_in_place plan.order.items (number_in_place rests.steps.items m) ≡ k) × (k ≢ number_in_place plan.order.items i) ×
+          (rest_in rests.found.items m ≡ Some b) × (number_in_place new k + iteration ≡ b + number_in_place old (number_in_place plan.order.items i))).
           let step = step_inside v t plan l i rests.steps.items flow tree is ll il header of.places some.0 some.2 in
           let at : address_at v plan rests.steps.items some.0 ≡ node_address v k = ap (node_address v) some.3 in
           let size = of.sizes in
           let closes : n.closing l (node_address v k) ≡ Some some.1 = sym (of.found n s some.0 (let r : some.0 < length rests.steps.items = some.2 in r) ∙ ap (n.closing l) at) ∙ some.5 in
           let inside : (loops v t).inside l (node_address v k) ≡ true = subst (λ a. (loops v t).inside l a ≡ true) at step.1 in
           let over : some.1 + n.left ((loops v t).header l) ≤ n.left (node_address v k) + n.iteration l = (s.left (node_address v k)).over_closing l some.1 lt inside (not_header some.4) closes in
-          let e : number_at new k + iteration ≡ some.1 + number_at old (number_at plan.order.items i) = some.6 in
-          let r : number_at new k ≤ n.left (node_address v k) = omega (arith, turn, whole) in r)
+          let e : number_in_place new k + iteration ≡ some.1 + number_in_place old (number_in_place plan.order.items i) = some.6 in
+          let r : number_in_place new k ≤ n.left (node_address v k) = omega (arith, turn, whole) in r)
           (raised.either k);
-      over_plain = let a = before.over_plain in let b = raised.higher k in let r : n.plain (node_address v k) ≤ number_at new k = omega arith in r;
+      over_plain = let a = before.over_plain in let b = raised.higher k in let r : n.plain (node_address v k) ≤ number_in_place new k = omega arith in r;
       over_closing = λ j b jl done inside other closes. ⊎_elim
-          (λ (behind : i < number_at plan.places.items (number_at t.headers j)).
-          let old_over : b + n.left ((loops v t).header j) ≤ number_at old k + n.iteration j = before.over_closing j b jl (let r : i + 1 ≤ number_at plan.places.items (number_at t.headers j) = omega arith in r) inside other closes in
+          (λ (behind : i < number_in_place plan.places.items (number_in_place t.headers j)).
+          let old_over : b + n.left ((loops v t).header j) ≤ number_in_place old k + n.iteration j = before.over_closing j b jl (let r : i + 1 ≤ number_in_place plan.places.items (number_in_place t.headers j) = omega arith in r) inside other closes in
           let more = raised.higher k in
-          let r : b + n.left ((loops v t).header j) ≤ number_at new k + n.iteration j = omega arith in r)
-          (λ (here : number_at plan.places.items (number_at t.headers j) ≤ i).
+          let r : b + n.left ((loops v t).header j) ≤ number_in_place new k + n.iteration j = omega arith in r)
+          (λ (here : number_in_place plan.places.items (number_in_place t.headers j) ≤ i).
           let count = loop_count v t in
           let low : j < length t.headers = omega arith in
-          let place = at_place v t plan is (number_at t.headers j) (header_number v t tree.0 tree.1 j low) in
-          let done_at : i ≤ number_at plan.places.items (number_at t.headers j) = done in
-          let same : number_at plan.places.items (number_at t.headers j) ≡ i = omega arith in
-          let heads : number_at t.headers j ≡ number_at t.headers l = sym place.1 ∙ ap (number_at plan.order.items) same ∙ sym header in
+          let place = at_place v t plan is (number_in_place t.headers j) (header_number v t tree.0 tree.1 j low) in
+          let done_at : i ≤ number_in_place plan.places.items (number_in_place t.headers j) = done in
+          let same : number_in_place plan.places.items (number_in_place t.headers j) ≡ i = omega arith in
+          let heads : number_in_place t.headers j ≡ number_in_place t.headers l = sym place.1 ∙ ap (number_in_place plan.order.items) same ∙ sym header in
           let addresses : (loops v t).header j ≡ (loops v t).header l = header_address v t j low ∙ ap (node_address v) heads ∙ sym (header_address v t l ll) in
           let one_loop : j ≡ l = s.different j l jl lt addresses in
-          subst (λ x. b + n.left ((loops v t).header x) ≤ number_at new k + n.iteration x) (sym one_loop)
+          subst (λ x. b + n.left ((loops v t).header x) ≤ number_in_place new k + n.iteration x) (sym one_loop)
           (own b (subst (λ x. (loops v t).inside x (node_address v k) ≡ true) one_loop inside) (subst (λ x. (loops v t).header x ≢ node_address v k) one_loop other) (subst (λ x. n.closing x (node_address v k) ≡ Some b) one_loop closes)))
-          (cases_lt i (number_at plan.places.items (number_at t.headers j)));
+          (cases_lt i (number_in_place plan.places.items (number_in_place t.headers j)));
     }
   where
     lt : l < (loops v t).loops
     lt = let count = loop_count v t in omega arith
 
-    at_header : (loops v t).header l ≡ node_address v (number_at plan.order.items i)
+    at_header : (loops v t).header l ≡ node_address v (number_in_place plan.order.items i)
     at_header = header_address v t l ll ∙ ap (node_address v) header
 
     turn : iteration ≡ n.iteration l
     turn = one n s
 
-    whole : number_at old (number_at plan.order.items i) ≡ n.left ((loops v t).header l)
+    whole : number_in_place old (number_in_place plan.order.items i) ≡ n.left ((loops v t).header l)
     whole = header_left v t w plan old i n flow tree is il to s ∙ ap n.left (sym at_header)
 
-    not_header : k ≢ number_at plan.order.items i → (loops v t).header l ≢ node_address v k
-    not_header other e = other (same_node v flow k (number_at plan.order.items i) kl (is.order.within i il) (sym e ∙ at_header))
+    not_header : k ≢ number_in_place plan.order.items i → (loops v t).header l ≢ node_address v k
+    not_header other e = other (same_node v flow k (number_in_place plan.order.items i) kl (is.order.within i il) (sym e ∙ at_header))
 
-    own : (b : ℕ) → (loops v t).inside l (node_address v k) ≡ true → (loops v t).header l ≢ node_address v k → n.closing l (node_address v k) ≡ Some b → b + n.left ((loops v t).header l) ≤ number_at new k + n.iteration l
+    own : (b : ℕ) → (loops v t).inside l (node_address v k) ≡ true → (loops v t).header l ≢ node_address v k → n.closing l (node_address v k) ≡ Some b → b + n.left ((loops v t).header l) ≤ number_in_place new k + n.iteration l
     own b inside other closes =
         let q = step_of v t plan l rests.steps.items flow tree is ll of.places k kl inside in
         let at : address_at v plan rests.steps.items q.0 ≡ node_address v k = address_of v t plan rests.steps.items is k q.0 kl q.2 in
-        let rest : rest_at rests.found.items q.0 ≡ Some b = of.found n s q.0 q.1 ∙ ap (n.closing l) at ∙ closes in
-        let node : number_at plan.order.items (number_at rests.steps.items q.0) ≡ k = ap (number_at plan.order.items) q.2 ∙ (at_place v t plan is k kl).1 in
-        let off : number_at plan.order.items (number_at rests.steps.items q.0) ≢ number_at plan.order.items i = λ e. other (at_header ∙ ap (node_address v) (sym e ∙ node)) in
-        let over : b + number_at old (number_at plan.order.items i) ≤ number_at new (number_at plan.order.items (number_at rests.steps.items q.0)) + iteration = raised.over q.0 b q.1 rest off in
-        let new_at : number_at new (number_at plan.order.items (number_at rests.steps.items q.0)) ≡ number_at new k = ap (number_at new) node in
-        let r : b + n.left ((loops v t).header l) ≤ number_at new k + n.iteration l = omega (arith, turn, whole) in r
+        let rest : rest_in rests.found.items q.0 ≡ Some b = of.found n s q.0 q.1 ∙ ap (n.closing l) at ∙ closes in
+        let node : number_in_place plan.order.items (number_in_place rests.steps.items q.0) ≡ k = ap (number_in_place plan.order.items) q.2 ∙ (at_place v t plan is k kl).1 in
+        let off : number_in_place plan.order.items (number_in_place rests.steps.items q.0) ≢ number_in_place plan.order.items i = λ e. other (at_header ∙ ap (node_address v) (sym e ∙ node)) in
+        let over : b + number_in_place old (number_in_place plan.order.items i) ≤ number_in_place new (number_in_place plan.order.items (number_in_place rests.steps.items q.0)) + iteration = raised.over q.0 b q.1 rest off in
+        let new_at : number_in_place new (number_in_place plan.order.items (number_in_place rests.steps.items q.0)) ≡ number_in_place new k = ap (number_in_place new) node in
+        let r : b + n.left ((loops v t).header l) ≤ number_in_place new k + n.iteration l = omega (arith, turn, whole) in r
 
 -- where no header is there, nothing is to be raised
-pub lefts_on : (v : FlowGraph) (t : LoopView) (w : ℕ → ℕ) (plan : Plan) (left : List ℕ) (i : ℕ) → HasTree v t → IsPlan v t plan → i < length plan.order.items → ((j : ℕ) → j < (loops v t).loops → (loops v t).header j ≢ node_address v (number_at plan.order.items i)) →
+pub lefts_on : (v : FlowGraph) (t : LoopView) (w : ℕ → ℕ) (plan : Plan) (left : List ℕ) (i : ℕ) → HasTree v t → IsWorstPlan v t plan → i < length plan.order.items → ((j : ℕ) → j < (loops v t).loops → (loops v t).header j ≢ node_address v (number_in_place plan.order.items i)) →
     AreLeftsTo v t w plan (i + 1) left → AreLeftsTo v t w plan i left
 lefts_on v t w plan left i tree is il none to n s k kl =
     let before = to n s k kl in
@@ -233,70 +233,70 @@ lefts_on v t w plan left i tree is il none to n s k kl =
       under = before.under;
       over_plain = before.over_plain;
       over_closing = λ j b jl done inside other closes. ⊎_elim
-          (λ (behind : i < number_at plan.places.items (number_at t.headers j)). before.over_closing j b jl (let r : i + 1 ≤ number_at plan.places.items (number_at t.headers j) = omega arith in r) inside other closes)
-          (λ (here : number_at plan.places.items (number_at t.headers j) ≤ i).
+          (λ (behind : i < number_in_place plan.places.items (number_in_place t.headers j)). before.over_closing j b jl (let r : i + 1 ≤ number_in_place plan.places.items (number_in_place t.headers j) = omega arith in r) inside other closes)
+          (λ (here : number_in_place plan.places.items (number_in_place t.headers j) ≤ i).
           let count = loop_count v t in
           let low : j < length t.headers = omega arith in
-          let place = at_place v t plan is (number_at t.headers j) (header_number v t tree.0 tree.1 j low) in
-          let done_at : i ≤ number_at plan.places.items (number_at t.headers j) = done in
-          let same : number_at plan.places.items (number_at t.headers j) ≡ i = omega arith in
-          absurd (none j jl (header_address v t j low ∙ ap (node_address v) (sym place.1 ∙ ap (number_at plan.order.items) same))))
-          (cases_lt i (number_at plan.places.items (number_at t.headers j)));
+          let place = at_place v t plan is (number_in_place t.headers j) (header_number v t tree.0 tree.1 j low) in
+          let done_at : i ≤ number_in_place plan.places.items (number_in_place t.headers j) = done in
+          let same : number_in_place plan.places.items (number_in_place t.headers j) ≡ i = omega arith in
+          absurd (none j jl (header_address v t j low ∙ ap (node_address v) (sym place.1 ∙ ap (number_in_place plan.order.items) same))))
+          (cases_lt i (number_in_place plan.places.items (number_in_place t.headers j)));
     }
 
 -- in the end all is known
 pub lefts_last : (v : FlowGraph) (t : LoopView) (w : ℕ → ℕ) (plan : Plan) (left : List ℕ) → length left ≡ length v.code.nodes → AreLeftsTo v t w plan 0 left → AreLefts v t w left
 lefts_last v t w plan left size to = record {
   size = size;
-  each = λ n s k kl. left_whole (loops v t) n (IsHeadedFrom t plan 0) (node_address v k) (number_at left k) (s.left (node_address v k)) (to n s k kl) (λ j jl inside other. let r : 0 ≤ number_at plan.places.items (number_at t.headers j) = omega arith in r);
+  each = λ n s k kl. left_whole (loops v t) n (IsHeadedFrom t plan 0) (node_address v k) (number_in_place left k) (s.left (node_address v k)) (to n s k kl) (λ j jl inside other. let r : 0 ≤ number_in_place plan.places.items (number_in_place t.headers j) = omega arith in r);
 }
 
 -- the loop whose header the next node is
-pub headed_loop : (v : FlowGraph) (t : LoopView) (plan : Plan) (i k l : ℕ) (o : Option ℕ) → IsPlan v t plan → i < length plan.order.items → k ≡ get_or plan.order.items i k → o ≡ get_or plan.headed.items k o → o ≡ Some l →
-    (l < length t.headers) × (number_at t.headers l ≡ number_at plan.order.items i) × (number_at plan.order.items i ≡ k)
+pub headed_loop : (v : FlowGraph) (t : LoopView) (plan : Plan) (i k l : ℕ) (o : Option ℕ) → IsWorstPlan v t plan → i < length plan.order.items → k ≡ get_or plan.order.items i k → o ≡ get_or plan.headed.items k o → o ≡ Some l →
+    (l < length t.headers) × (number_in_place t.headers l ≡ number_in_place plan.order.items i) × (number_in_place plan.order.items i ≡ k)
 headed_loop v t plan i k l o is il node has some =
-    let heads : slice_get t.headers l ≡ Some (number_at plan.order.items i) = is.headed.some (number_at plan.order.items i) l (headed_is v t plan i k o is il node has ∙ some) in
-    (slice_get_within t.headers l (number_at plan.order.items i) heads, get_or_from_slice_get t.headers l (number_at plan.order.items i) 0 heads, value_at plan.order.items i k 0 il node)
+    let heads : slice_get t.headers l ≡ Some (number_in_place plan.order.items i) = is.headed.some (number_in_place plan.order.items i) l (headed_is v t plan i k o is il node has ∙ some) in
+    (slice_get_within t.headers l (number_in_place plan.order.items i) heads, get_or_from_slice_get t.headers l (number_in_place plan.order.items i) 0 heads, value_at plan.order.items i k 0 il node)
 
 -- an iteration is one of the rests
-pub iteration_small : (v : FlowGraph) (t : LoopView) (w : ℕ → ℕ) (plan : Plan) (l : ℕ) (rests : Rests) (n : Numbers) → IsFlowGraph v → HasTree v t → IsPlan v t plan → l < length t.headers → AreRestsOf v t w plan l rests → AreSolvedBy v t w n → n.iteration l ≤ 2 ^ 48 + 2 ^ 32
+pub iteration_small : (v : FlowGraph) (t : LoopView) (w : ℕ → ℕ) (plan : Plan) (l : ℕ) (rests : Rests) (n : Numbers) → IsFlowGraph v → HasTree v t → IsWorstPlan v t plan → l < length t.headers → AreRestsOf v t w plan l rests → AreSolvedBy v t w n → n.iteration l ≤ 2 ^ 48 + 2 ^ 32
 iteration_small v t w plan l rests n flow tree is ll of s =
     let count = loop_count v t in
     let lt : l < (loops v t).loops = omega arith in
-    let hl : number_at t.headers l < length v.code.nodes = header_number v t tree.0 tree.1 l ll in
-    let address : (loops v t).header l ≡ node_address v (number_at t.headers l) = header_address v t l ll in
-    let inside : (loops v t).inside l (node_address v (number_at t.headers l)) ≡ true = subst (λ a. (loops v t).inside l a ≡ true) address (s.held l lt) in
-    let q = step_of v t plan l rests.steps.items flow tree is ll of.places (number_at t.headers l) hl inside in
-    of.table.small q.0 (n.iteration l) (of.found n s q.0 q.1 ∙ ap (n.closing l) (address_of v t plan rests.steps.items is (number_at t.headers l) q.0 hl q.2 ∙ sym address) ∙ s.iteration l lt)
+    let hl : number_in_place t.headers l < length v.code.nodes = header_number v t tree.0 tree.1 l ll in
+    let address : (loops v t).header l ≡ node_address v (number_in_place t.headers l) = header_address v t l ll in
+    let inside : (loops v t).inside l (node_address v (number_in_place t.headers l)) ≡ true = subst (λ a. (loops v t).inside l a ≡ true) address (s.held l lt) in
+    let q = step_of v t plan l rests.steps.items flow tree is ll of.places (number_in_place t.headers l) hl inside in
+    of.table.small q.0 (n.iteration l) (of.found n s q.0 q.1 ∙ ap (n.closing l) (address_of v t plan rests.steps.items is (number_in_place t.headers l) q.0 hl q.2 ∙ sym address) ∙ s.iteration l lt)
 
 -- an entry that is set is no greater
-pub small_set : (xs ys : List ℕ) (k x most : ℕ) → ys ≡ set xs k x → x ≤ most → ((j : ℕ) → j < length xs → number_at xs j ≤ most) → (j : ℕ) → j < length ys → number_at ys j ≤ most
+pub small_set : (xs ys : List ℕ) (k x most : ℕ) → ys ≡ set xs k x → x ≤ most → ((j : ℕ) → j < length xs → number_in_place xs j ≤ most) → (j : ℕ) → j < length ys → number_in_place ys j ≤ most
 small_set xs ys k x most is low small j jl =
     let size : length ys ≡ length xs = ap length is ∙ length-set xs k x in
     let jx : j < length xs = omega arith in
     ⊎_elim
     (λ (same : j ≡ k).
     let kl : k < length xs = omega arith in
-    let value : number_at ys j ≡ x = ap (number_at ys) same ∙ ap (λ zs. number_at zs k) is ∙ get_or-set_same xs k x 0 kl in
-    let r : number_at ys j ≤ most = omega arith in r)
+    let value : number_in_place ys j ≡ x = ap (number_in_place ys) same ∙ ap (λ zs. number_in_place zs k) is ∙ get_or-set_same xs k x 0 kl in
+    let r : number_in_place ys j ≤ most = omega arith in r)
     (λ (other : j ≢ k).
-    let value : number_at ys j ≡ number_at xs j = ap (λ zs. number_at zs j) is ∙ get_or-set_other xs k j x 0 other in
-    let before = small j jx in let r : number_at ys j ≤ most = omega arith in r)
+    let value : number_in_place ys j ≡ number_in_place xs j = ap (λ zs. number_in_place zs j) is ∙ get_or-set_other xs k j x 0 other in
+    let before = small j jx in let r : number_in_place ys j ≤ most = omega arith in r)
     (cases_eq j k)
 
-pub left_small : (v : FlowGraph) (t : LoopView) (w : ℕ → ℕ) (plan : Plan) (left : List ℕ) (i : ℕ) → IsFlowGraph v → HasSolved v t w → length left ≡ length v.code.nodes → AreLeftsTo v t w plan i left → (k : ℕ) → k < length left → number_at left k ≤ 2 ^ 48
+pub left_small : (v : FlowGraph) (t : LoopView) (w : ℕ → ℕ) (plan : Plan) (left : List ℕ) (i : ℕ) → IsFlowGraph v → HasSolved v t w → length left ≡ length v.code.nodes → AreLeftsTo v t w plan i left → (k : ℕ) → k < length left → number_in_place left k ≤ 2 ^ 48
 left_small v t w plan left i flow n size to k kl =
     let low : k < length v.code.nodes = omega arith in
-    let under : number_at left k ≤ n.0.left (node_address v k) = (to n.0 n.1 k low).under in
+    let under : number_in_place left k ≤ n.0.left (node_address v k) = (to n.0 n.1 k low).under in
     let within = n.1.left_within (node_address v k) ((flow.nodes (node_address v k)).0 (k, node_here v k low)) in
     let small : n.0.worst 0 ≤ 2 ^ 48 = n.2 in
-    let r : number_at left k ≤ 2 ^ 48 = omega arith in r
+    let r : number_in_place left k ≤ 2 ^ 48 = omega arith in r
 
 -- a node that is the header of no loop
-pub unheaded : (v : FlowGraph) (t : LoopView) (plan : Plan) (i k : ℕ) (o : Option ℕ) → IsFlowGraph v → HasTree v t → IsPlan v t plan → i < length plan.order.items → k ≡ get_or plan.order.items i k → o ≡ get_or plan.headed.items k o → ((x : ℕ) → o ≡ Some x → ⊥) →
-    (j : ℕ) → j < (loops v t).loops → (loops v t).header j ≢ node_address v (number_at plan.order.items i)
+pub unheaded : (v : FlowGraph) (t : LoopView) (plan : Plan) (i k : ℕ) (o : Option ℕ) → IsFlowGraph v → HasTree v t → IsWorstPlan v t plan → i < length plan.order.items → k ≡ get_or plan.order.items i k → o ≡ get_or plan.headed.items k o → ((x : ℕ) → o ≡ Some x → ⊥) →
+    (j : ℕ) → j < (loops v t).loops → (loops v t).header j ≢ node_address v (number_in_place plan.order.items i)
 unheaded v t plan i k o flow tree is il node has none j jl =
-    no_turns v t plan (record { worst = λ x. 0; iteration = λ x. 0; plain = λ x. 0; closing = λ x y. None; left = λ x. 0; context = λ x. 0 }) (number_at plan.order.items i) flow tree is (is.order.within i il) (headed_is v t plan i k o is il node has ∙ is_none o none) j jl
+    no_turns v t plan (record { worst = λ x. 0; iteration = λ x. 0; plain = λ x. 0; closing = λ x y. None; left = λ x. 0; context = λ x. 0 }) (number_in_place plan.order.items i) flow tree is (is.order.within i il) (headed_is v t plan i k o is il node has ∙ is_none o none) j jl
   where
     is_none : (o : Option ℕ) → ((x : ℕ) → o ≡ Some x → ⊥) → o ≡ None
     is_none None e = refl

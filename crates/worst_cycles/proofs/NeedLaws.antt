@@ -4,14 +4,14 @@ use Rattle.std.proofs.lemmas.Bool.{cases_lt}
 use Rattle.std.proofs.lemmas.List.{get_or_append_left, get_or-append_right}
 use Rattle.std.proofs.lemmas.Option.{slice_get_within, slice_get-get_or, same_Some, none-some}
 use Rattle.call_orders.specs.declared.Arc.{Arc}
-use Rattle.call_orders.specs.Arcs.{arc_at, number_at, AreDistinct, AreNumbered, IsSorted}
+use Rattle.call_orders.specs.Arcs.{arc_at, number_in_place, AreDistinct, AreNumbered, IsSorted}
 use Rattle.code_graph.specs.FlowGraph.{FlowGraph, graph, IsFlowGraph}
 use Rattle.loop_tree.specs.Arcs.{ArePlainArcs}
 use Rattle.natural_loops.proofs.Laws.{one_number}
 use Rattle.worst_cycles.specs.Needs.{AreEntries, LeadsToNode, LeadsPlainly, CallsNode, IsNeeded, StartsAtNode, AreNeeds, IsNeededFirst}
 
 -- a number has one place
-pub one_place : (order : List ℕ) → AreDistinct order → (i j : ℕ) → i < length order → j < length order → number_at order i ≡ number_at order j → i ≡ j
+pub one_place : (order : List ℕ) → AreDistinct order → (i j : ℕ) → i < length order → j < length order → number_in_place order i ≡ number_in_place order j → i ≡ j
 one_place order distinct i j il jl same = ⊎_elim
     (λ (lt : i < j). absurd (distinct i j lt jl same))
     (λ (le : j ≤ i). ⊎_elim
@@ -47,7 +47,7 @@ need_skipped v backs entries n arcs are none = record {
 }
 
 -- edge n calls function f
-pub need_added : (v : FlowGraph) (backs : List (Option ℕ)) (entries : List ℕ) (n : ℕ) (arcs : List Arc) (arc : Arc) (f : ℕ) → AreNeeds v backs entries n arcs → n < length v.code.edges → StartsAtNode v n arc.from → (graph v).callee n ≡ Some f → arc.to ≡ number_at entries f →
+pub need_added : (v : FlowGraph) (backs : List (Option ℕ)) (entries : List ℕ) (n : ℕ) (arcs : List Arc) (arc : Arc) (f : ℕ) → AreNeeds v backs entries n arcs → n < length v.code.edges → StartsAtNode v n arc.from → (graph v).callee n ≡ Some f → arc.to ≡ number_in_place entries f →
     AreNeeds v backs entries (n + 1) (arcs ++ arc ∷ [])
 need_added v backs entries n arcs arc f are below starts calls to =
     let size : length (arcs ++ arc ∷ []) ≡ length arcs + 1 = length-append arcs (arc ∷ []) in
@@ -67,7 +67,7 @@ need_added v backs entries n arcs arc f are below starts calls to =
           (λ (high : n ≤ e).
           let same : n ≡ e = omega arith in
           let one : f ≡ called.0 = same_Some f called.0 (sym calls ∙ ap (graph v).callee same ∙ called.1) in
-          let q : Q e t (arc_at (arcs ++ arc ∷ []) (length arcs)) = subst (Q e t) (last (length arcs) refl) (subst (λ d. StartsAtNode v d arc.from) same starts, to ∙ ap (number_at entries) one ∙ sym called.2) in
+          let q : Q e t (arc_at (arcs ++ arc ∷ []) (length arcs)) = subst (Q e t) (last (length arcs) refl) (subst (λ d. StartsAtNode v d arc.from) same starts, to ∙ ap (number_in_place entries) one ∙ sym called.2) in
           (length arcs, (let l : length arcs < length (arcs ++ arc ∷ []) = omega arith in l), q.0, q.1))
           (cases_lt e n);
     }
@@ -77,7 +77,7 @@ needed_within v backs entries e t flow are lt need = ⊎_elim
     (λ (led : LeadsPlainly v backs e t). led.1.1)
     (λ (called : CallsNode v entries e t).
     let f = flow.program.callee_function e called.0 lt called.1 in
-    let within : number_at entries called.0 < length v.code.nodes = slice_get_within v.code.nodes (number_at entries called.0) _ (are.each called.0 f) in
+    let within : number_in_place entries called.0 < length v.code.nodes = slice_get_within v.code.nodes (number_in_place entries called.0) _ (are.each called.0 f) in
     let same = called.2 in let r : t < length v.code.nodes = omega arith in r)
     need
 
@@ -94,7 +94,7 @@ sorted_needed v backs entries arcs order flow are sorted = record {
   ready = λ i e t il lt starts need.
       let s : (s : ℕ) × (s < length arcs) × StartsAtNode v e (arc_at arcs s).from × ((arc_at arcs s).to ≡ t) = ⊎_elim (λ (led : LeadsPlainly v backs e t). are.led e t lt led) (λ (called : CallsNode v entries e t). are.called e t lt called) need in
       let o = sorted.before s.0 s.1 in
-      let from_is : (arc_at arcs s.0).from ≡ number_at order i = one_number v flow (arc_at arcs s.0).from (number_at order i) ((graph v).source e) s.2 starts in
+      let from_is : (arc_at arcs s.0).from ≡ number_in_place order i = one_number v flow (arc_at arcs s.0).from (number_in_place order i) ((graph v).source e) s.2 starts in
       let same : o.1 ≡ i = one_place order sorted.distinct o.1 i o.3 il (o.5 ∙ from_is) in
       let rises = o.2 in
       (o.0, (let l : o.0 < i = omega arith in l), o.4 ∙ s.3);

@@ -11,7 +11,7 @@ use Rattle.pass_laws.specs.Passes.{plain_at, IsPlainOver}
 use Rattle.worst_cycles.specs.declared.plan.Plan.{Plan}
 use Rattle.worst_cycles.specs.declared.visits.Visit.{Visit}
 use Rattle.worst_cycles.specs.Solved.{AreSolved, charge}
-use Rattle.worst_cycles.specs.Visits.{visit_at, IsTurnsAt, IsVisit, IsKnown, IsBehind, over, IsOver, AreSolvedBy}
+use Rattle.worst_cycles.specs.Visits.{visit_at, IsTurnsAt, IsVisit, IsEdgeKnown, IsBehind, over, IsPlainCostOver, AreSolvedBy}
 use Rattle.worst_cycles.proofs.BodyLaws.{node_here}
 
 -- a plain edge to a node is charged its cost with all turns at the node
@@ -28,7 +28,7 @@ charge_turns g l w n e at x s lt plain to turns = ⊎_elim
     turns
 
 -- what a plain edge costs with what is behind it
-pub over_plain : (v : FlowGraph) (t : LoopView) (w : ℕ → ℕ) (plan : Plan) (visits : List Visit) (n : Numbers) (e c x : ℕ) → AreSolvedBy v t w n → e < length v.code.edges → IsKnown v t plan visits n e → IsPlain (graph v) (loops v t) e →
+pub over_plain : (v : FlowGraph) (t : LoopView) (w : ℕ → ℕ) (plan : Plan) (visits : List Visit) (n : Numbers) (e c x : ℕ) → AreSolvedBy v t w n → e < length v.code.edges → IsEdgeKnown v t plan visits n e → IsPlain (graph v) (loops v t) e →
     c ≡ cost (graph v) n w e → IsBehind v visits e x → c + x ≡ over v t w n e
 over_plain v t w plan visits n e c x s lt known plain costs behind = ⊎_elim
     (λ (some : (k : ℕ) × ((graph v).target e ≡ slice_get v.code.nodes k) × (k < length v.code.nodes) × (x ≡ (visit_at visits k).turns + (visit_at visits k).plain)).
@@ -51,7 +51,7 @@ pub record IsPlainMost (v : FlowGraph) (t : LoopView) (w : ℕ → ℕ) (n : Num
   pub above : (d : ℕ) → first ≤ d → d < end → IsPlain (graph v) (loops v t) d → over v t w n d ≤ most
   pub reached : (most ≡ 0) ⊎ ((d : ℕ) × (first ≤ d) × (d < end) × IsPlain (graph v) (loops v t) d × (most ≡ over v t w n d))
 
-pub plain_raised : (v : FlowGraph) (t : LoopView) (w : ℕ → ℕ) (n : Numbers) (first e most x : ℕ) → first ≤ e → IsPlainMost v t w n first e most → IsOver v t w n e x → most < x → IsPlainMost v t w n first (e + 1) x
+pub plain_raised : (v : FlowGraph) (t : LoopView) (w : ℕ → ℕ) (n : Numbers) (first e most x : ℕ) → first ≤ e → IsPlainMost v t w n first e most → IsPlainCostOver v t w n e x → most < x → IsPlainMost v t w n first (e + 1) x
 plain_raised v t w n first e most x from is this more = ⊎_elim
     (λ (plain : IsPlain (graph v) (loops v t) e × (x ≡ over v t w n e)). record {
       above = λ d low high p. ⊎_elim
@@ -63,7 +63,7 @@ plain_raised v t w n first e most x from is this more = ⊎_elim
     (λ (back : (IsPlain (graph v) (loops v t) e → ⊥) × (x ≡ 0)). let zero_is : x ≡ 0 = back.1 in let bad : ⊥ = omega arith in absurd bad)
     this
 
-pub plain_kept : (v : FlowGraph) (t : LoopView) (w : ℕ → ℕ) (n : Numbers) (first e most x : ℕ) → IsPlainMost v t w n first e most → IsOver v t w n e x → x ≤ most → IsPlainMost v t w n first (e + 1) most
+pub plain_kept : (v : FlowGraph) (t : LoopView) (w : ℕ → ℕ) (n : Numbers) (first e most x : ℕ) → IsPlainMost v t w n first e most → IsPlainCostOver v t w n e x → x ≤ most → IsPlainMost v t w n first (e + 1) most
 plain_kept v t w n first e most x is this less = record {
   above = λ d low high p. ⊎_elim
       (λ (before : d < e). is.above d low before p)

@@ -2,7 +2,7 @@
 use Rattle.std.proofs.Common.{◌≡◌, ◌≢◌, ℕ, ◌+◌, ◌<◌, ◌≤◌, ◌↔◌, inl, inr, Bool, true, false, List, length, Option, Some, None, slice_get, refl, sym, ap, ◌∙◌, subst, arith, ⊎_elim}
 use Rattle.std.proofs.lemmas.Bool.{cases_lt}
 use Rattle.std.proofs.lemmas.Option.{same_Some, none-some}
-use Rattle.call_orders.specs.Arcs.{number_at}
+use Rattle.call_orders.specs.Arcs.{number_in_place}
 use Rattle.cost_theory.specs.Graph.{IsPlain, is_back}
 use Rattle.cost_theory.specs.Worst.{Numbers, cost}
 use Rattle.code_graph.specs.FlowGraph.{FlowGraph, graph}
@@ -13,7 +13,7 @@ use Rattle.worst_cycles.specs.declared.plan.Plan.{Plan}
 use Rattle.worst_cycles.specs.declared.rests.Rests.{Rests}
 use Rattle.worst_cycles.specs.declared.visits.Visit.{Visit}
 use Rattle.worst_cycles.specs.Solved.{charge}
-use Rattle.worst_cycles.specs.Visits.{visit_at, IsVisit, IsKnown, AreSolvedBy}
+use Rattle.worst_cycles.specs.Visits.{visit_at, IsVisit, IsEdgeKnown, AreSolvedBy}
 use Rattle.worst_cycles.specs.Rests.{IsRestOf, IsAdded, IsRestPast, held, closing_at, IsRestKnown, IsRestFor, IsGreaterOf}
 use Rattle.worst_cycles.proofs.BodyLaws.{node_here, back_by}
 use Rattle.worst_cycles.proofs.OverLaws.{charge_turns}
@@ -66,9 +66,9 @@ through v t w n e k b at kl plain to rest = ⊎_elim
 
 -- and over a plain edge it is that of its end, with the edge's charge.
 pub plain_rest : (v : FlowGraph) (t : LoopView) (w : ℕ → ℕ) (plan : Plan) (visits : List Visit) (rests : Rests) (n : Numbers) (e k : ℕ) (o : Option ℕ) → AreSolvedBy v t w n → e < length v.code.edges → k < (loops v t).loops → IsPlain (graph v) (loops v t) e →
-    IsKnown v t plan visits n e → IsRestKnown v t plan rests n k e → IsRestPast v plan w visits rests e o → IsRestFor v t w n k e o
+    IsEdgeKnown v t plan visits n e → IsRestKnown v t plan rests n k e → IsRestPast v plan w visits rests e o → IsRestFor v t w n k e o
 plain_rest v t w plan visits rests n e k o s lt kl plain known rest_known past = ⊎_elim
-    (λ (some : (u : ℕ) × (r : Option ℕ) × ((graph v).target e ≡ slice_get v.code.nodes u) × (u < length v.code.nodes) × IsRestOf rests (number_at plan.places.items u) r × IsAdded v plan w visits e u r o).
+    (λ (some : (u : ℕ) × (r : Option ℕ) × ((graph v).target e ≡ slice_get v.code.nodes u) × (u < length v.code.nodes) × IsRestOf rests (number_in_place plan.places.items u) r × IsAdded v plan w visits e u r o).
     let here = node_here v some.0 some.3 in
     let to : (graph v).target e ≡ Some (node_address v some.0) = some.2 ∙ here in
     let visit : IsVisit (loops v t) n (node_address v some.0) (visit_at visits some.0) = known.led some.0 (node_address v some.0) here to plain in

@@ -1,7 +1,7 @@
 -- The slacks of edges and the rests behind them, from the tables.
 use Rattle.std.proofs.Common.{◌≡◌, ◌≢◌, ℕ, ◌+◌, ◌-◌, ◌^◌, ◌<◌, ◌≤◌, Bool, true, false, List, length, slice_get, nat_eq, Option, Some, None, is_some, refl, sym, ap, ◌∙◌, subst, arith, eqb-true}
 use Rattle.std.proofs.lemmas.Option.{same_Some, slice_get_within, slice_get-get_or, get_or_from_slice_get}
-use Rattle.call_orders.specs.Arcs.{number_at}
+use Rattle.call_orders.specs.Arcs.{number_in_place}
 use Rattle.cost_theory.specs.Graph.{Loops, IsPlain, is_back, is_header, sum_below, only}
 use Rattle.cost_theory.specs.Worst.{Numbers, cost, left_at, turn_back, turns_round, slack, rest}
 use Rattle.cost_theory.proofs.Laws.{sum-one, sum-none, only_true, only_false, and_right}
@@ -53,7 +53,7 @@ plain_sides v t w visits n e to found s lt plain leads tl =
 
 -- what is left at both ends of an edge
 pub left_sides : (v : FlowGraph) (t : LoopView) (w : ℕ → ℕ) (left : List ℕ) (n : Numbers) (e from to : ℕ) → AreLefts v t w left → AreSolvedBy v t w n → slice_get v.code.nodes from ≡ Some ((graph v).source e) → (graph v).target e ≡ slice_get v.code.nodes to → to < length v.code.nodes →
-    (number_at left from ≡ n.left ((graph v).source e)) × (number_at left to ≡ left_at n ((graph v).target e))
+    (number_in_place left from ≡ n.left ((graph v).source e)) × (number_in_place left to ≡ left_at n ((graph v).target e))
 left_sides v t w left n e from to lefts s source leads tl = (
   lefts.each n s from (slice_get_within v.code.nodes from _ source) ∙ ap n.left (get_or_from_slice_get v.code.nodes from _ 0 source),
   lefts.each n s to tl ∙ sym (ap (left_at n) (leads ∙ node_here v to tl)),
@@ -68,15 +68,15 @@ rest_there v t n e to leads tl = sym (only_true (is_some ((graph v).target e)) _
 
 -- and the rest is made of what is left at the node, the turns round it, and the function's context.
 pub rest_value : (v : FlowGraph) (t : LoopView) (w : ℕ → ℕ) (left around context : List ℕ) (n : Numbers) (e to owner : ℕ) → AreLefts v t w left → AreTurnsRound v t w around → AreContexts v t w context → AreSolvedBy v t w n → (graph v).target e ≡ slice_get v.code.nodes to → to < length v.code.nodes →
-    owner ≡ (graph v).owner ((graph v).source e) → owner < length v.code.functions → number_at left to + number_at around to + number_at context owner ≡ rest (graph v) (loops v t) n e
+    owner ≡ (graph v).owner ((graph v).source e) → owner < length v.code.functions → number_in_place left to + number_in_place around to + number_in_place context owner ≡ rest (graph v) (loops v t) n e
 rest_value v t w left around context n e to owner lefts rounds contexts s leads tl owner_is ol =
     let target : (graph v).target e ≡ Some (node_address v to) = leads ∙ node_here v to tl in
-    let a : number_at left to ≡ left_at n ((graph v).target e) = lefts.each n s to tl ∙ sym (ap (left_at n) target) in
-    let b : number_at around to ≡ turns_round (loops v t) n ((graph v).target e) = rounds.each n s to tl ∙ sym (ap (turns_round (loops v t) n) target) in
-    let c : number_at context owner ≡ n.context ((graph v).owner ((graph v).source e)) = contexts.each n s owner ol ∙ ap n.context owner_is in
+    let a : number_in_place left to ≡ left_at n ((graph v).target e) = lefts.each n s to tl ∙ sym (ap (left_at n) target) in
+    let b : number_in_place around to ≡ turns_round (loops v t) n ((graph v).target e) = rounds.each n s to tl ∙ sym (ap (turns_round (loops v t) n) target) in
+    let c : number_in_place context owner ≡ n.context ((graph v).owner ((graph v).source e)) = contexts.each n s owner ol ∙ ap n.context owner_is in
     omega arith
 
-pub context_small : (v : FlowGraph) (t : LoopView) (w : ℕ → ℕ) (context : List ℕ) (f : ℕ) → HasSolved v t w → AreContexts v t w context → f < length v.code.functions → number_at context f ≤ 2 ^ 48
+pub context_small : (v : FlowGraph) (t : LoopView) (w : ℕ → ℕ) (context : List ℕ) (f : ℕ) → HasSolved v t w → AreContexts v t w context → f < length v.code.functions → number_in_place context f ≤ 2 ^ 48
 context_small v t w context f n contexts fl =
     let a = contexts.each n.0 n.1 f fl in
     let b = n.1.context_within f fl in
@@ -86,38 +86,38 @@ context_small v t w context f n contexts fl =
 -- what stands on both sides of the difference, and the difference, over a back edge
 pub back_value : (v : FlowGraph) (t : LoopView) (extent : ℕ → ℕ → Bool) (w : ℕ → ℕ) (visits : List Visit) (left : List ℕ) (n : Numbers) (e k from to price : ℕ) → IsLoopTree v extent t → AreAllVisited v t w visits → AreLefts v t w left → AreSolvedBy v t w n → e < length v.code.edges →
     slice_get t.backs e ≡ Some (Some k) → slice_get v.code.nodes from ≡ Some ((graph v).source e) → (graph v).target e ≡ slice_get v.code.nodes to → to < length v.code.nodes → price ≡ cost (graph v) n w e →
-    (price + number_at left to ≤ number_at left from + (visit_at visits to).iteration) ×
-    (number_at left from + (visit_at visits to).iteration - (price + number_at left to) ≡ slack (graph v) (loops v t) n (cost (graph v) n w) e)
+    (price + number_in_place left to ≤ number_in_place left from + (visit_at visits to).iteration) ×
+    (number_in_place left from + (visit_at visits to).iteration - (price + number_in_place left to) ≡ slack (graph v) (loops v t) n (cost (graph v) n w) e)
 back_value v t extent w visits left n e k from to price tree found lefts s lt here source leads tl priced =
     let sides = back_sides v t extent w visits n e k to tree found s lt here leads tl in
     let ends = left_sides v t w left n e from to lefts s source leads tl in
     let over : charge (graph v) (loops v t) w n e + left_at n ((graph v).target e) ≤ n.left ((graph v).source e) + turn_back (graph v) (loops v t) n e = s.over_edge e lt in
     let a : charge (graph v) (loops v t) w n e ≡ cost (graph v) n w e = sides.0 in
     let b : turn_back (graph v) (loops v t) n e ≡ (visit_at visits to).iteration = sides.1 in
-    let c : number_at left from ≡ n.left ((graph v).source e) = ends.0 in
-    let d : number_at left to ≡ left_at n ((graph v).target e) = ends.1 in (
-      (let r : price + number_at left to ≤ number_at left from + (visit_at visits to).iteration = omega arith in r),
-      (let r : number_at left from + (visit_at visits to).iteration - (price + number_at left to) ≡ n.left ((graph v).source e) + turn_back (graph v) (loops v t) n e - (charge (graph v) (loops v t) w n e + left_at n ((graph v).target e)) = omega arith in r),
+    let c : number_in_place left from ≡ n.left ((graph v).source e) = ends.0 in
+    let d : number_in_place left to ≡ left_at n ((graph v).target e) = ends.1 in (
+      (let r : price + number_in_place left to ≤ number_in_place left from + (visit_at visits to).iteration = omega arith in r),
+      (let r : number_in_place left from + (visit_at visits to).iteration - (price + number_in_place left to) ≡ n.left ((graph v).source e) + turn_back (graph v) (loops v t) n e - (charge (graph v) (loops v t) w n e + left_at n ((graph v).target e)) = omega arith in r),
     )
 
 -- and over a plain edge
 pub plain_value : (v : FlowGraph) (t : LoopView) (w : ℕ → ℕ) (visits : List Visit) (left : List ℕ) (n : Numbers) (e from to price : ℕ) → AreAllVisited v t w visits → AreLefts v t w left → AreSolvedBy v t w n → e < length v.code.edges →
     IsPlain (graph v) (loops v t) e → slice_get v.code.nodes from ≡ Some ((graph v).source e) → (graph v).target e ≡ slice_get v.code.nodes to → to < length v.code.nodes → price ≡ cost (graph v) n w e →
-    ((visit_at visits to).turns + (price + number_at left to) ≤ number_at left from) ×
-    (number_at left from - ((visit_at visits to).turns + (price + number_at left to)) ≡ slack (graph v) (loops v t) n (cost (graph v) n w) e)
+    ((visit_at visits to).turns + (price + number_in_place left to) ≤ number_in_place left from) ×
+    (number_in_place left from - ((visit_at visits to).turns + (price + number_in_place left to)) ≡ slack (graph v) (loops v t) n (cost (graph v) n w) e)
 plain_value v t w visits left n e from to price found lefts s lt plain source leads tl priced =
     let sides = plain_sides v t w visits n e to found s lt plain leads tl in
     let ends = left_sides v t w left n e from to lefts s source leads tl in
     let over : charge (graph v) (loops v t) w n e + left_at n ((graph v).target e) ≤ n.left ((graph v).source e) + turn_back (graph v) (loops v t) n e = s.over_edge e lt in
     let a : charge (graph v) (loops v t) w n e ≡ cost (graph v) n w e + (visit_at visits to).turns = sides.0 in
     let b : turn_back (graph v) (loops v t) n e ≡ 0 = sides.1 in
-    let c : number_at left from ≡ n.left ((graph v).source e) = ends.0 in
-    let d : number_at left to ≡ left_at n ((graph v).target e) = ends.1 in (
-      (let r : (visit_at visits to).turns + (price + number_at left to) ≤ number_at left from = omega arith in r),
-      (let r : number_at left from - ((visit_at visits to).turns + (price + number_at left to)) ≡ n.left ((graph v).source e) + turn_back (graph v) (loops v t) n e - (charge (graph v) (loops v t) w n e + left_at n ((graph v).target e)) = omega arith in r),
+    let c : number_in_place left from ≡ n.left ((graph v).source e) = ends.0 in
+    let d : number_in_place left to ≡ left_at n ((graph v).target e) = ends.1 in (
+      (let r : (visit_at visits to).turns + (price + number_in_place left to) ≤ number_in_place left from = omega arith in r),
+      (let r : number_in_place left from - ((visit_at visits to).turns + (price + number_in_place left to)) ≡ n.left ((graph v).source e) + turn_back (graph v) (loops v t) n e - (charge (graph v) (loops v t) w n e + left_at n ((graph v).target e)) = omega arith in r),
     )
 
-pub lefts_small : (v : FlowGraph) (t : LoopView) (w : ℕ → ℕ) (left : List ℕ) (k : ℕ) → IsFlowGraph v → HasSolved v t w → AreLefts v t w left → k < length v.code.nodes → number_at left k ≤ 2 ^ 48
+pub lefts_small : (v : FlowGraph) (t : LoopView) (w : ℕ → ℕ) (left : List ℕ) (k : ℕ) → IsFlowGraph v → HasSolved v t w → AreLefts v t w left → k < length v.code.nodes → number_in_place left k ≤ 2 ^ 48
 lefts_small v t w left k flow n lefts kl =
     let within = n.1.left_within (node_address v k) ((flow.nodes (node_address v k)).0 (k, node_here v k kl)) in
     let a = lefts.each n.0 n.1 k kl in

@@ -2,7 +2,7 @@
 use Rattle.std.proofs.Common.{◌≡◌, ◌≢◌, ℕ, ◌+◌, ◌*◌, ◌^◌, ◌<◌, ◌≤◌, inl, inr, List, length, set, slice_get, slice_index, get_or, Option, Some, None, refl, sym, ap, ◌∙◌, subst, arith, ⊎_elim, get_or-set_same, get_or-set_other}
 use Rattle.std.proofs.lemmas.Bool.{cases_eq, cases_lt}
 use Rattle.std.proofs.lemmas.Option.{slice_get-get_or, slice_get_within, get_or_from_slice_get}
-use Rattle.call_orders.specs.Arcs.{number_at}
+use Rattle.call_orders.specs.Arcs.{number_in_place}
 use Rattle.cost_theory.specs.Graph.{Graph, Loops}
 use Rattle.cost_theory.specs.Worst.{Numbers, all_of}
 use Rattle.code_graph.specs.FlowGraph.{FlowGraph, graph, IsFlowGraph}
@@ -12,7 +12,7 @@ use Rattle.worst_cycles.specs.declared.plan.Plan.{Plan}
 use Rattle.worst_cycles.specs.declared.visits.Visit.{Visit}
 use Rattle.worst_cycles.specs.Needs.{StartsAtNode, HasTree}
 use Rattle.worst_cycles.specs.Solved.{AreSolved}
-use Rattle.worst_cycles.specs.Visits.{headed_at, IsPlan, visit_at, IsTurnsAt, IsVisit, IsSmallVisit, AreVisits, AreKnownAt, AreSolvedBy, IsTooLong, AreVisitedTo, AreAllVisited}
+use Rattle.worst_cycles.specs.Visits.{headed_at, IsWorstPlan, visit_at, IsTurnsAt, IsVisit, IsSmallVisit, AreVisits, AreKnownAt, AreSolvedBy, IsOverLimit, AreVisitedTo, AreAllVisited}
 use Rattle.worst_cycles.proofs.SearchLaws.{value_at}
 use Rattle.worst_cycles.proofs.BodyLaws.{node_here, same_node, by_plain, loop_count, header_number, header_address}
 
@@ -31,45 +31,45 @@ worst_at g l w n f x s fl visit =
     visit.turns
 
 -- what is needed for the edges of a node is known, once the nodes before it are visited
-pub known_before : (v : FlowGraph) (t : LoopView) (w : ℕ → ℕ) (plan : Plan) (visits : List Visit) (i m : ℕ) (n : Numbers) → IsFlowGraph v → HasTree v t → IsPlan v t plan → AreVisitedTo v t w plan.order.items i visits → AreSolvedBy v t w n →
-    m ≤ i → m < length plan.order.items → AreKnownAt v t plan visits n (node_address v (number_at plan.order.items m))
+pub known_before : (v : FlowGraph) (t : LoopView) (w : ℕ → ℕ) (plan : Plan) (visits : List Visit) (i m : ℕ) (n : Numbers) → IsFlowGraph v → HasTree v t → IsWorstPlan v t plan → AreVisitedTo v t w plan.order.items i visits → AreSolvedBy v t w n →
+    m ≤ i → m < length plan.order.items → AreKnownAt v t plan visits n (node_address v (number_in_place plan.order.items m))
 known_before v t w plan visits i m n flow tree is visited s le ml e lt from =
-    let here : StartsAtNode v e (number_at plan.order.items m) = node_here v (number_at plan.order.items m) (is.order.within m ml) ∙ ap Some (sym from) in
+    let here : StartsAtNode v e (number_in_place plan.order.items m) = node_here v (number_in_place plan.order.items m) (is.order.within m ml) ∙ ap Some (sym from) in
     record {
       called = λ f callee.
           let fl = flow.program.callee_function e f lt callee in
-          let j = is.order.ready m e (number_at plan.entries.items f) ml lt here (inr (f, callee, refl)) in
+          let j = is.order.ready m e (number_in_place plan.entries.items f) ml lt here (inr (f, callee, refl)) in
           let low = j.1 in
           let before : j.0 < i = omega arith in
-          let node : slice_get v.code.nodes (number_at plan.order.items j.0) ≡ Some ((graph v).entry f) = ap (slice_get v.code.nodes) j.2 ∙ is.entries.each f fl in
-          let visit : IsVisit (loops v t) n ((graph v).entry f) (visit_at visits (number_at plan.entries.items f)) =
+          let node : slice_get v.code.nodes (number_in_place plan.order.items j.0) ≡ Some ((graph v).entry f) = ap (slice_get v.code.nodes) j.2 ∙ is.entries.each f fl in
+          let visit : IsVisit (loops v t) n ((graph v).entry f) (visit_at visits (number_in_place plan.entries.items f)) =
           subst (λ q. IsVisit (loops v t) n ((graph v).entry f) (visit_at visits q)) j.2 (visited n s j.0 ((graph v).entry f) before node) in
-          worst_at (graph v) (loops v t) w n f (visit_at visits (number_at plan.entries.items f)) s fl visit;
+          worst_at (graph v) (loops v t) w n f (visit_at visits (number_in_place plan.entries.items f)) s fl visit;
       led = λ k at node to plain.
           let j = is.order.ready m e k ml lt here (inl (by_plain v t tree.0 tree.1 e lt plain, (to ∙ sym node, slice_get_within v.code.nodes k at node))) in
           let low = j.1 in
           let before : j.0 < i = omega arith in
-          let node_j : slice_get v.code.nodes (number_at plan.order.items j.0) ≡ Some at = ap (slice_get v.code.nodes) j.2 ∙ node in
+          let node_j : slice_get v.code.nodes (number_in_place plan.order.items j.0) ≡ Some at = ap (slice_get v.code.nodes) j.2 ∙ node in
           subst (λ q. IsVisit (loops v t) n at (visit_at visits q)) j.2 (visited n s j.0 at before node_j);
     }
 
 -- ---- all turns at a node
 
 -- a node that is the header of no loop
-pub no_turns : (v : FlowGraph) (t : LoopView) (plan : Plan) (n : Numbers) (k : ℕ) → IsFlowGraph v → HasTree v t → IsPlan v t plan → k < length v.code.nodes → headed_at plan.headed.items k ≡ None → (j : ℕ) → j < (loops v t).loops → (loops v t).header j ≢ node_address v k
+pub no_turns : (v : FlowGraph) (t : LoopView) (plan : Plan) (n : Numbers) (k : ℕ) → IsFlowGraph v → HasTree v t → IsWorstPlan v t plan → k < length v.code.nodes → headed_at plan.headed.items k ≡ None → (j : ℕ) → j < (loops v t).loops → (loops v t).header j ≢ node_address v k
 no_turns v t plan n k flow tree is kl none j jl same =
     let count = loop_count v t in
     let low : j < length t.headers = omega arith in
-    let address : (loops v t).header j ≡ node_address v (number_at t.headers j) = header_address v t j low in
-    let one : number_at t.headers j ≡ k = same_node v flow (number_at t.headers j) k (header_number v t tree.0 tree.1 j low) kl (sym address ∙ same) in
+    let address : (loops v t).header j ≡ node_address v (number_in_place t.headers j) = header_address v t j low in
+    let one : number_in_place t.headers j ≡ k = same_node v flow (number_in_place t.headers j) k (header_number v t tree.0 tree.1 j low) kl (sym address ∙ same) in
     is.headed.none k j none (slice_get-get_or t.headers j 0 low ∙ ap Some one)
 
 -- the loop that a plan has for a node of the order
-pub headed_is : (v : FlowGraph) (t : LoopView) (plan : Plan) (i k : ℕ) (o : Option ℕ) → IsPlan v t plan → i < length plan.order.items → k ≡ get_or plan.order.items i k → o ≡ get_or plan.headed.items k o → headed_at plan.headed.items (number_at plan.order.items i) ≡ o
+pub headed_is : (v : FlowGraph) (t : LoopView) (plan : Plan) (i k : ℕ) (o : Option ℕ) → IsWorstPlan v t plan → i < length plan.order.items → k ≡ get_or plan.order.items i k → o ≡ get_or plan.headed.items k o → headed_at plan.headed.items (number_in_place plan.order.items i) ≡ o
 headed_is v t plan i k o is il node has =
-    let here : number_at plan.order.items i ≡ k = value_at plan.order.items i k 0 il node in
+    let here : number_in_place plan.order.items i ≡ k = value_at plan.order.items i k 0 il node in
     let size = is.headed_size in
-    let within : number_at plan.order.items i < length v.code.nodes = is.order.within i il in
+    let within : number_in_place plan.order.items i < length v.code.nodes = is.order.within i il in
     let low : k < length plan.headed.items = omega arith in
     ap (headed_at plan.headed.items) here ∙ value_at plan.headed.items k o None low has
 
@@ -89,7 +89,7 @@ turns_found v t w l k b x turns has bounded is found n s =
       λ j jl same. found n s ∙ ap n.iteration (s.different l j within jl (address ∙ sym same)),
     )
 
-pub turns_too_long : (v : FlowGraph) (t : LoopView) (w : ℕ → ℕ) (l b x : ℕ) → l < length t.headers → slice_get t.bounds l ≡ Some b → ((n : Numbers) → AreSolvedBy v t w n → x ≡ n.iteration l) → 2 ^ 48 < b * x → IsTooLong v t w
+pub turns_too_long : (v : FlowGraph) (t : LoopView) (w : ℕ → ℕ) (l b x : ℕ) → l < length t.headers → slice_get t.bounds l ≡ Some b → ((n : Numbers) → AreSolvedBy v t w n → x ≡ n.iteration l) → 2 ^ 48 < b * x → IsOverLimit v t w
 turns_too_long v t w l b x ll bounded found more n s =
     let count = loop_count v t in
     let lt : l < (loops v t).loops = omega arith in
@@ -100,14 +100,14 @@ turns_too_long v t w l b x ll bounded found more n s =
 -- ---- plain paths
 
 -- what is found at the next node is the greatest cost of a plain path from there
-pub next_plain : (v : FlowGraph) (t : LoopView) (w : ℕ → ℕ) (plan : Plan) (visits : List Visit) (i k x : ℕ) → IsFlowGraph v → HasTree v t → IsPlan v t plan → AreVisitedTo v t w plan.order.items i visits → i < length plan.order.items → k ≡ get_or plan.order.items i k →
-    ((n : Numbers) → AreSolvedBy v t w n → AreKnownAt v t plan visits n (slice_index v.code.nodes k) → x ≡ n.plain (slice_index v.code.nodes k)) → (n : Numbers) → AreSolvedBy v t w n → x ≡ n.plain (node_address v (number_at plan.order.items i))
+pub next_plain : (v : FlowGraph) (t : LoopView) (w : ℕ → ℕ) (plan : Plan) (visits : List Visit) (i k x : ℕ) → IsFlowGraph v → HasTree v t → IsWorstPlan v t plan → AreVisitedTo v t w plan.order.items i visits → i < length plan.order.items → k ≡ get_or plan.order.items i k →
+    ((n : Numbers) → AreSolvedBy v t w n → AreKnownAt v t plan visits n (slice_index v.code.nodes k) → x ≡ n.plain (slice_index v.code.nodes k)) → (n : Numbers) → AreSolvedBy v t w n → x ≡ n.plain (node_address v (number_in_place plan.order.items i))
 next_plain v t w plan visits i k x flow tree is visited il node found n s =
-    let here : k ≡ number_at plan.order.items i = sym (value_at plan.order.items i k 0 il node) in
+    let here : k ≡ number_in_place plan.order.items i = sym (value_at plan.order.items i k 0 il node) in
     let there = subst (λ y. AreKnownAt v t plan visits n (slice_index v.code.nodes y) → x ≡ n.plain (slice_index v.code.nodes y)) here (found n s) in
     there (known_before v t w plan visits i i n flow tree is visited s (let r : i ≤ i = omega arith in r) il)
 
-pub plain_too_long : (v : FlowGraph) (t : LoopView) (w : ℕ → ℕ) (k x : ℕ) → IsFlowGraph v → k < length v.code.nodes → ((n : Numbers) → AreSolvedBy v t w n → x ≡ n.plain (node_address v k)) → 2 ^ 48 < x → IsTooLong v t w
+pub plain_too_long : (v : FlowGraph) (t : LoopView) (w : ℕ → ℕ) (k x : ℕ) → IsFlowGraph v → k < length v.code.nodes → ((n : Numbers) → AreSolvedBy v t w n → x ≡ n.plain (node_address v k)) → 2 ^ 48 < x → IsOverLimit v t w
 plain_too_long v t w k x flow kl found more n s =
     let within : n.plain (node_address v k) ≤ n.worst 0 = s.plain_within (node_address v k) ((flow.nodes (node_address v k)).0 (k, node_here v k kl)) in
     let same : x ≡ n.plain (node_address v k) = found n s in
@@ -116,19 +116,19 @@ plain_too_long v t w k x flow kl found more n s =
 -- ---- the table
 
 -- the next node's numbers are put into the table
-pub visited_more : (v : FlowGraph) (t : LoopView) (w : ℕ → ℕ) (order : List ℕ) (visits : List Visit) (i k : ℕ) (x : Visit) → number_at order i ≡ k → k < length visits → AreVisitedTo v t w order i visits →
+pub visited_more : (v : FlowGraph) (t : LoopView) (w : ℕ → ℕ) (order : List ℕ) (visits : List Visit) (i k : ℕ) (x : Visit) → number_in_place order i ≡ k → k < length visits → AreVisitedTo v t w order i visits →
     ((n : Numbers) → AreSolvedBy v t w n → IsVisit (loops v t) n (slice_index v.code.nodes k) x) → AreVisitedTo v t w order (i + 1) (set visits k x)
 visited_more v t w order visits i k x here low visited found n s j at lt node = ⊎_elim
-    (λ (same : number_at order j ≡ k).
-    let at_is : slice_index v.code.nodes k ≡ at = ap (slice_index v.code.nodes) (sym same) ∙ get_or_from_slice_get v.code.nodes (number_at order j) at 0 node in
-    let value : x ≡ visit_at (set visits k x) (number_at order j) = sym (ap (visit_at (set visits k x)) same ∙ get_or-set_same visits k x _ low) in
+    (λ (same : number_in_place order j ≡ k).
+    let at_is : slice_index v.code.nodes k ≡ at = ap (slice_index v.code.nodes) (sym same) ∙ get_or_from_slice_get v.code.nodes (number_in_place order j) at 0 node in
+    let value : x ≡ visit_at (set visits k x) (number_in_place order j) = sym (ap (visit_at (set visits k x)) same ∙ get_or-set_same visits k x _ low) in
     subst (IsVisit (loops v t) n at) value (subst (λ a. IsVisit (loops v t) n a x) at_is (found n s)))
-    (λ (other : number_at order j ≡ k → ⊥).
+    (λ (other : number_in_place order j ≡ k → ⊥).
     ⊎_elim
-    (λ (before : j < i). subst (IsVisit (loops v t) n at) (sym (get_or-set_other visits k (number_at order j) x _ other)) (visited n s j at before node))
-    (λ (last : i ≤ j). let one : j ≡ i = omega arith in absurd (other (ap (number_at order) one ∙ here)))
+    (λ (before : j < i). subst (IsVisit (loops v t) n at) (sym (get_or-set_other visits k (number_in_place order j) x _ other)) (visited n s j at before node))
+    (λ (last : i ≤ j). let one : j ≡ i = omega arith in absurd (other (ap (number_in_place order) one ∙ here)))
     (cases_lt j i))
-    (cases_eq (number_at order j) k)
+    (cases_eq (number_in_place order j) k)
 
 pub small_more : (visits : List Visit) (k : ℕ) (x : Visit) → k < length visits → ((j : ℕ) → IsSmallVisit (visit_at visits j)) → IsSmallVisit x → (j : ℕ) → IsSmallVisit (visit_at (set visits k x) j)
 small_more visits k x low small is j = ⊎_elim
@@ -136,7 +136,7 @@ small_more visits k x low small is j = ⊎_elim
     (λ (other : j ≡ k → ⊥). subst IsSmallVisit (sym (get_or-set_other visits k j x _ other)) (small j))
     (cases_eq j k)
 
-pub all_visited : (v : FlowGraph) (t : LoopView) (w : ℕ → ℕ) (plan : Plan) (visits : List Visit) → IsPlan v t plan → AreVisits v visits → AreVisitedTo v t w plan.order.items (length plan.order.items) visits → AreAllVisited v t w visits
+pub all_visited : (v : FlowGraph) (t : LoopView) (w : ℕ → ℕ) (plan : Plan) (visits : List Visit) → IsWorstPlan v t plan → AreVisits v visits → AreVisitedTo v t w plan.order.items (length plan.order.items) visits → AreAllVisited v t w visits
 all_visited v t w plan visits is table visited = record {
   table = table;
   each = λ n s k at node.

@@ -4,7 +4,7 @@ use Rattle.std.proofs.lemmas.Option.{slice_get-get_or}
 use Rattle.scale_base.specs.declared.refusal.Stop.{Stop}
 use Rattle.scale_base.specs.declared.refusal.Stop.TheVariants.{Refused, Memory}
 use Rattle.scale_base.specs.Answer.{AnswersBy}
-use Rattle.call_orders.specs.Arcs.{number_at}
+use Rattle.call_orders.specs.Arcs.{number_in_place}
 use Rattle.cost_theory.specs.Graph.{Graph, Loops}
 use Rattle.cost_theory.specs.Worst.{Numbers, AreNumbers, cost}
 use Rattle.cost_theory.specs.Accepted.{IsProgram, AreAccepted, AreWeights}
@@ -21,7 +21,7 @@ use Rattle.worst_cycles.specs.Worst.{WorstView, IsWorstFound, IsWorstInRange, Is
 use Rattle.worst_cycles.specs.Lefts.{HasSolved, AreParts}
 use Rattle.worst_cycles.specs.Needs.{AreEntries, HasTree}
 use Rattle.worst_cycles.specs.Solved.{AreSolved}
-use Rattle.worst_cycles.specs.Visits.{visit_at, IsVisit, AreSolvedBy, IsTooLong, AreAllVisited, AreVisitsFound}
+use Rattle.worst_cycles.specs.Visits.{visit_at, IsVisit, AreSolvedBy, IsOverLimit, AreAllVisited, AreVisitsFound}
 use Rattle.worst_cycles.proofs.BodyLaws.{node_here, loop_count, header_number, header_address}
 use Rattle.worst_cycles.proofs.VisitLaws.{worst_at}
 use Rattle.worst_cycles.proofs.SlackLaws.{holds_left}
@@ -66,7 +66,7 @@ numbers g l extent w is =
     let analyzed : IsAnalyzed g l extent w n.0 = record { program = is.program; accepted = is.accepted; weights = is.weights; numbers = n.1 } in
     (n.0, n.1, solved g l extent w n.0 analyzed)
 
-pub too_long : (v : FlowGraph) (t : LoopView) (extent : ℕ → ℕ → Bool) (w : ℕ → ℕ) → IsWeighted (graph v) (loops v t) extent w → IsTooLong v t w → IsWorstTooLong (graph v) (loops v t) w
+pub too_long : (v : FlowGraph) (t : LoopView) (extent : ℕ → ℕ → Bool) (w : ℕ → ℕ) → IsWeighted (graph v) (loops v t) extent w → IsOverLimit v t w → IsWorstTooLong (graph v) (loops v t) w
 too_long v t extent w is long = let n = numbers (graph v) (loops v t) extent w is in (n.0, n.1, long n.0 n.2)
 
 pub stops_so : {X : Type 0} (v : FlowGraph) (t : LoopView) (extent : ℕ → ℕ → Bool) (w : ℕ → ℕ) (view : X → List Visit) (stop : Stop) → IsWeighted (graph v) (loops v t) extent w → AnswersBy view (Err stop) (AreVisitsFound v t w) →
@@ -76,23 +76,23 @@ stops_so v t extent w view Memory is found = tt
 
 -- what the table has at an entry
 pub entry_worst : (v : FlowGraph) (t : LoopView) (w : ℕ → ℕ) (entries : List ℕ) (visits : List Visit) (n : Numbers) (f : ℕ) → AreEntries v entries → AreAllVisited v t w visits → AreSolvedBy v t w n → f < length v.code.functions →
-    (visit_at visits (number_at entries f)).plain + (visit_at visits (number_at entries f)).turns ≡ n.worst f
+    (visit_at visits (number_in_place entries f)).plain + (visit_at visits (number_in_place entries f)).turns ≡ n.worst f
 entry_worst v t w entries visits n f are found s fl =
-    worst_at (graph v) (loops v t) w n f (visit_at visits (number_at entries f)) s fl (found.each n s (number_at entries f) ((graph v).entry f) (are.each f fl))
+    worst_at (graph v) (loops v t) w n f (visit_at visits (number_in_place entries f)) s fl (found.each n s (number_in_place entries f) ((graph v).entry f) (are.each f fl))
 
 -- what it has at the header of a loop
-pub header_iteration : (v : FlowGraph) (t : LoopView) (w : ℕ → ℕ) (visits : List Visit) (n : Numbers) (k : ℕ) → HasTree v t → AreAllVisited v t w visits → AreSolvedBy v t w n → k < length t.headers → (visit_at visits (number_at t.headers k)).iteration ≡ n.iteration k
+pub header_iteration : (v : FlowGraph) (t : LoopView) (w : ℕ → ℕ) (visits : List Visit) (n : Numbers) (k : ℕ) → HasTree v t → AreAllVisited v t w visits → AreSolvedBy v t w n → k < length t.headers → (visit_at visits (number_in_place t.headers k)).iteration ≡ n.iteration k
 header_iteration v t w visits n k tree found s kl =
     let count = loop_count v t in
     let within : k < (loops v t).loops = omega arith in
-    let visit : IsVisit (loops v t) n (node_address v (number_at t.headers k)) (visit_at visits (number_at t.headers k)) =
-    found.each n s (number_at t.headers k) (node_address v (number_at t.headers k)) (node_here v (number_at t.headers k) (header_number v t tree.0 tree.1 k kl)) in
+    let visit : IsVisit (loops v t) n (node_address v (number_in_place t.headers k)) (visit_at visits (number_in_place t.headers k)) =
+    found.each n s (number_in_place t.headers k) (node_address v (number_in_place t.headers k)) (node_here v (number_in_place t.headers k) (header_number v t tree.0 tree.1 k kl)) in
     visit.iteration k within (header_address v t k kl)
 
 pub worst_in_range : (v : FlowGraph) (t : LoopView) (w : ℕ → ℕ) (entries worst iteration left context slacks rests : List ℕ) (visits others : List Visit) → (tree : HasTree v t) → IsFlowGraph v → IsWeighted (graph v) (loops v t) tree.0 w → AreEntries v entries → AreAllVisited v t w visits → AreAllVisited v t w others →
-    length worst ≡ length v.code.functions → ((f : ℕ) → f < length v.code.functions → number_at worst f ≡ (visit_at visits (number_at entries f)).plain + (visit_at visits (number_at entries f)).turns) →
-    length iteration ≡ length t.headers → ((k : ℕ) → k < length t.headers → number_at iteration k ≡ (visit_at others (number_at t.headers k)).iteration) →
-    number_at worst 0 ≤ 2 ^ 48 → IsWorstInRange (graph v) (loops v t) w (record { worst = worst; iteration = iteration; left = left; context = context; slacks = slacks; rests = rests })
+    length worst ≡ length v.code.functions → ((f : ℕ) → f < length v.code.functions → number_in_place worst f ≡ (visit_at visits (number_in_place entries f)).plain + (visit_at visits (number_in_place entries f)).turns) →
+    length iteration ≡ length t.headers → ((k : ℕ) → k < length t.headers → number_in_place iteration k ≡ (visit_at others (number_in_place t.headers k)).iteration) →
+    number_in_place worst 0 ≤ 2 ^ 48 → IsWorstInRange (graph v) (loops v t) w (record { worst = worst; iteration = iteration; left = left; context = context; slacks = slacks; rests = rests })
 worst_in_range v t w entries worst iteration left context slacks rests visits others tree flow is are found others_found size each loops_size loops_each small =
     let n = numbers (graph v) (loops v t) tree.0 w is in
     let count = loop_count v t in
@@ -112,18 +112,18 @@ worst_in_range v t w entries worst iteration left context slacks rests visits ot
 
 -- those of the program are over the limit
 pub total_too_long : (v : FlowGraph) (t : LoopView) (extent : ℕ → ℕ → Bool) (w : ℕ → ℕ) (entries worst : List ℕ) (visits : List Visit) → IsFlowGraph v → IsWeighted (graph v) (loops v t) extent w → AreEntries v entries → AreAllVisited v t w visits →
-    ((f : ℕ) → f < length v.code.functions → number_at worst f ≡ (visit_at visits (number_at entries f)).plain + (visit_at visits (number_at entries f)).turns) → 2 ^ 48 < number_at worst 0 → IsWorstTooLong (graph v) (loops v t) w
+    ((f : ℕ) → f < length v.code.functions → number_in_place worst f ≡ (visit_at visits (number_in_place entries f)).plain + (visit_at visits (number_in_place entries f)).turns) → 2 ^ 48 < number_in_place worst 0 → IsWorstTooLong (graph v) (loops v t) w
 total_too_long v t extent w entries worst visits flow is are found each more =
     let n = numbers (graph v) (loops v t) extent w is in
-    let first : number_at worst 0 ≡ n.0.worst 0 = each 0 flow.program.main ∙ entry_worst v t w entries visits n.0 0 are found n.2 flow.program.main in
+    let first : number_in_place worst 0 ≡ n.0.worst 0 = each 0 flow.program.main ∙ entry_worst v t w entries visits n.0 0 are found n.2 flow.program.main in
     (n.0, n.1, (let r : 2 ^ 48 < n.0.worst 0 = omega arith in r))
 
 -- its numbers are in range
 pub has_solved : (v : FlowGraph) (t : LoopView) (extent : ℕ → ℕ → Bool) (w : ℕ → ℕ) (entries worst : List ℕ) (visits : List Visit) → IsFlowGraph v → IsWeighted (graph v) (loops v t) extent w → AreEntries v entries → AreAllVisited v t w visits →
-    ((f : ℕ) → f < length v.code.functions → number_at worst f ≡ (visit_at visits (number_at entries f)).plain + (visit_at visits (number_at entries f)).turns) → number_at worst 0 ≤ 2 ^ 48 → HasSolved v t w
+    ((f : ℕ) → f < length v.code.functions → number_in_place worst f ≡ (visit_at visits (number_in_place entries f)).plain + (visit_at visits (number_in_place entries f)).turns) → number_in_place worst 0 ≤ 2 ^ 48 → HasSolved v t w
 has_solved v t extent w entries worst visits flow is are found each small =
     let n = numbers (graph v) (loops v t) extent w is in
-    let first : number_at worst 0 ≡ n.0.worst 0 = each 0 flow.program.main ∙ entry_worst v t w entries visits n.0 0 are found n.2 flow.program.main in
+    let first : number_in_place worst 0 ≡ n.0.worst 0 = each 0 flow.program.main ∙ entry_worst v t w entries visits n.0 0 are found n.2 flow.program.main in
     (n.0, n.2, (let r : n.0.worst 0 ≤ 2 ^ 48 = omega arith in r))
 
 pub left_of : (v : FlowGraph) (t : LoopView) (extent : ℕ → ℕ → Bool) (w : ℕ → ℕ) (parts : LeftParts) (worst iteration : List ℕ) → IsWeighted (graph v) (loops v t) extent w → AreParts v t w parts →

@@ -1,7 +1,7 @@
 -- The nodes whose numbers those of others are made of.
 use Rattle.std.specs.Prelude.{◌≡◌, ℕ, ◌+◌, ◌<◌, ◌≤◌, ◌⊎◌, Bool, List, length, slice_get, Option, Some}
 use Rattle.call_orders.specs.declared.Arc.{Arc}
-use Rattle.call_orders.specs.Arcs.{arc_at, number_at, AreDistinct}
+use Rattle.call_orders.specs.Arcs.{arc_at, number_in_place, AreDistinct}
 use Rattle.code_graph.specs.FlowGraph.{FlowGraph, graph}
 use Rattle.loop_tree.specs.Arcs.{IsPlainBy}
 use Rattle.loop_tree.specs.Tree.{LoopView, IsLoopTree}
@@ -9,7 +9,7 @@ use Rattle.loop_tree.specs.Tree.{LoopView, IsLoopTree}
 -- by function, the number of the node at its entry
 pub record AreEntries (v : FlowGraph) (entries : List ℕ) : Type 0 where
   pub size : length entries ≡ length v.code.functions
-  pub each : (f : ℕ) → f < length v.code.functions → slice_get v.code.nodes (number_at entries f) ≡ Some ((graph v).entry f)
+  pub each : (f : ℕ) → f < length v.code.functions → slice_get v.code.nodes (number_in_place entries f) ≡ Some ((graph v).entry f)
 
 -- an edge leads to node t
 abbrev pub LeadsToNode : FlowGraph → ℕ → ℕ → Type 0
@@ -21,7 +21,7 @@ LeadsPlainly v backs e t = IsPlainBy backs e × LeadsToNode v e t
 
 -- it calls the function that begins at node t
 abbrev pub CallsNode : FlowGraph → List ℕ → ℕ → ℕ → Type 0
-CallsNode v entries e t = (f : ℕ) × ((graph v).callee e ≡ Some f) × (t ≡ number_at entries f)
+CallsNode v entries e t = (f : ℕ) × ((graph v).callee e ≡ Some f) × (t ≡ number_in_place entries f)
 
 abbrev pub IsNeeded : FlowGraph → List (Option ℕ) → List ℕ → ℕ → ℕ → Type 0
 IsNeeded v backs entries e t = LeadsPlainly v backs e t ⊎ CallsNode v entries e t
@@ -42,12 +42,12 @@ HasTree v t = (extent : ℕ → ℕ → Bool) × IsLoopTree v extent t
 
 -- the numbers of all nodes, each once and behind what is needed for its edges
 pub record IsNeededFirst (v : FlowGraph) (backs : List (Option ℕ)) (entries order : List ℕ) : Type 0 where
-  pub within : (i : ℕ) → i < length order → number_at order i < length v.code.nodes
-  pub whole : (k : ℕ) → k < length v.code.nodes → (i : ℕ) × (i < length order) × (number_at order i ≡ k)
+  pub within : (i : ℕ) → i < length order → number_in_place order i < length v.code.nodes
+  pub whole : (k : ℕ) → k < length v.code.nodes → (i : ℕ) × (i < length order) × (number_in_place order i ≡ k)
   pub distinct : AreDistinct order
-  pub ready : (i e t : ℕ) → i < length order → e < length v.code.edges → StartsAtNode v e (number_at order i) → IsNeeded v backs entries e t →
-      (j : ℕ) × (j < i) × (number_at order j ≡ t)
+  pub ready : (i e t : ℕ) → i < length order → e < length v.code.edges → StartsAtNode v e (number_in_place order i) → IsNeeded v backs entries e t →
+      (j : ℕ) × (j < i) × (number_in_place order j ≡ t)
 
 -- by node, its place in an order
 abbrev pub ArePlaces : List ℕ → List ℕ → Type 0
-ArePlaces order places = (i : ℕ) → i < length order → number_at places (number_at order i) ≡ i
+ArePlaces order places = (i : ℕ) → i < length order → number_in_place places (number_in_place order i) ≡ i

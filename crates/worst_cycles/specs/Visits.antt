@@ -2,7 +2,7 @@
 use Rattle.std.specs.Prelude.{◌≡◌, ◌≢◌, ℕ, ◌+◌, ◌^◌, ◌<◌, ◌≤◌, ◌⊎◌, List, length, slice_get, slice_index, slice_index_or, Option, Some, None, Result, Ok, Err}
 use Rattle.scale_base.specs.declared.refusal.Refusal.{Refusal}
 use Rattle.scale_base.specs.declared.refusal.Refusal.TheVariants.{TooLong}
-use Rattle.call_orders.specs.Arcs.{number_at}
+use Rattle.call_orders.specs.Arcs.{number_in_place}
 use Rattle.cost_theory.specs.Graph.{Loops, IsPlain}
 use Rattle.cost_theory.specs.Worst.{Numbers, all_of}
 use Rattle.code_graph.specs.FlowGraph.{FlowGraph, graph}
@@ -23,7 +23,7 @@ pub record AreHeaded (t : LoopView) (headed : List (Option ℕ)) : Type 0 where
   pub some : (k j : ℕ) → headed_at headed k ≡ Some j → slice_get t.headers j ≡ Some k
   pub none : (k j : ℕ) → headed_at headed k ≡ None → slice_get t.headers j ≢ Some k
 
-pub record IsPlan (v : FlowGraph) (t : LoopView) (plan : Plan) : Type 0 where
+pub record IsWorstPlan (v : FlowGraph) (t : LoopView) (plan : Plan) : Type 0 where
   pub entries : AreEntries v plan.entries.items
   pub order : IsNeededFirst v t.backs plan.entries.items plan.order.items
   pub places : ArePlaces plan.order.items plan.places.items
@@ -57,15 +57,15 @@ pub record AreVisits (v : FlowGraph) (visits : List Visit) : Type 0 where
 
 -- the table has the numbers that are needed for an edge: those of the function that it calls,
 abbrev pub IsCallKnown : FlowGraph → Plan → List Visit → Numbers → ℕ → Type 0
-IsCallKnown v plan visits n e = (f : ℕ) → (graph v).callee e ≡ Some f → (visit_at visits (number_at plan.entries.items f)).plain + (visit_at visits (number_at plan.entries.items f)).turns ≡ n.worst f
+IsCallKnown v plan visits n e = (f : ℕ) → (graph v).callee e ≡ Some f → (visit_at visits (number_in_place plan.entries.items f)).plain + (visit_at visits (number_in_place plan.entries.items f)).turns ≡ n.worst f
 
 -- and those of the node to which it leads if it is plain
-pub record IsKnown (v : FlowGraph) (t : LoopView) (plan : Plan) (visits : List Visit) (n : Numbers) (e : ℕ) : Type 0 where
+pub record IsEdgeKnown (v : FlowGraph) (t : LoopView) (plan : Plan) (visits : List Visit) (n : Numbers) (e : ℕ) : Type 0 where
   pub called : IsCallKnown v plan visits n e
   pub led : (k at : ℕ) → slice_get v.code.nodes k ≡ Some at → (graph v).target e ≡ Some at → IsPlain (graph v) (loops v t) e → IsVisit (loops v t) n at (visit_at visits k)
 
 abbrev pub AreKnownAt : FlowGraph → LoopView → Plan → List Visit → Numbers → ℕ → Type 0
-AreKnownAt v t plan visits n at = (e : ℕ) → e < length v.code.edges → (graph v).source e ≡ at → IsKnown v t plan visits n e
+AreKnownAt v t plan visits n at = (e : ℕ) → e < length v.code.edges → (graph v).source e ≡ at → IsEdgeKnown v t plan visits n e
 
 -- x is what a path that enters the node to which an edge leads costs from there on, and 0 where there is none
 abbrev pub IsBehind : FlowGraph → List Visit → ℕ → ℕ → Type 0
@@ -78,8 +78,8 @@ abbrev pub over : FlowGraph → LoopView → (ℕ → ℕ) → Numbers → ℕ �
 over v t w n e = charge (graph v) (loops v t) w n e + plain_at n ((graph v).target e)
 
 -- x is what a plain path costs over an edge, and 0 where the edge isn't plain
-abbrev pub IsOver : FlowGraph → LoopView → (ℕ → ℕ) → Numbers → ℕ → ℕ → Type 0
-IsOver v t w n e x = (IsPlain (graph v) (loops v t) e × (x ≡ over v t w n e)) ⊎ ((IsPlain (graph v) (loops v t) e → ⊥) × (x ≡ 0))
+abbrev pub IsPlainCostOver : FlowGraph → LoopView → (ℕ → ℕ) → Numbers → ℕ → ℕ → Type 0
+IsPlainCostOver v t w n e x = (IsPlain (graph v) (loops v t) e × (x ≡ over v t w n e)) ⊎ ((IsPlain (graph v) (loops v t) e → ⊥) × (x ≡ 0))
 
 abbrev pub AreSolvedBy : FlowGraph → LoopView → (ℕ → ℕ) → Numbers → Type 0
 AreSolvedBy v t w n = AreSolved (graph v) (loops v t) w n
@@ -87,23 +87,23 @@ AreSolvedBy v t w n = AreSolved (graph v) (loops v t) w n
 -- ---- the pass
 
 -- the worst cycles of the program are over the limit
-abbrev pub IsTooLong : FlowGraph → LoopView → (ℕ → ℕ) → Type 0
-IsTooLong v t w = (n : Numbers) → AreSolvedBy v t w n → 2 ^ 48 < n.worst 0
+abbrev pub IsOverLimit : FlowGraph → LoopView → (ℕ → ℕ) → Type 0
+IsOverLimit v t w = (n : Numbers) → AreSolvedBy v t w n → 2 ^ 48 < n.worst 0
 
 -- the table has what is found at the first i nodes of the order
 abbrev pub AreVisitedTo : FlowGraph → LoopView → (ℕ → ℕ) → List ℕ → ℕ → List Visit → Type 0
-AreVisitedTo v t w order i visits = (n : Numbers) → AreSolvedBy v t w n → (j at : ℕ) → j < i → slice_get v.code.nodes (number_at order j) ≡ Some at → IsVisit (loops v t) n at (visit_at visits (number_at order j))
+AreVisitedTo v t w order i visits = (n : Numbers) → AreSolvedBy v t w n → (j at : ℕ) → j < i → slice_get v.code.nodes (number_in_place order j) ≡ Some at → IsVisit (loops v t) n at (visit_at visits (number_in_place order j))
 
 -- what finding all turns and one iteration of the loop whose header node k is answers
 abbrev pub AreTurnsFound : FlowGraph → LoopView → (ℕ → ℕ) → ℕ → Result (ℕ × ℕ) Refusal → Type 0
 AreTurnsFound v t w k (Ok x) = (x.0 ≤ 2 ^ 48) × ((n : Numbers) → AreSolvedBy v t w n →
     IsTurnsAt (loops v t) n (slice_index v.code.nodes k) x.0 × ((j : ℕ) → j < (loops v t).loops → (loops v t).header j ≡ slice_index v.code.nodes k → x.1 ≡ n.iteration j)) × (x.1 ≤ 2 ^ 48 + 2 ^ 32)
-AreTurnsFound v t w k (Err refusal) = (refusal ≡ TooLong) × IsTooLong v t w
+AreTurnsFound v t w k (Err refusal) = (refusal ≡ TooLong) × IsOverLimit v t w
 
 -- what finding the numbers of a node answers
 abbrev pub IsVisitFound : FlowGraph → LoopView → (ℕ → ℕ) → ℕ → Result Visit Refusal → Type 0
 IsVisitFound v t w k (Ok x) = IsSmallVisit x × ((n : Numbers) → AreSolvedBy v t w n → IsVisit (loops v t) n (slice_index v.code.nodes k) x)
-IsVisitFound v t w k (Err refusal) = (refusal ≡ TooLong) × IsTooLong v t w
+IsVisitFound v t w k (Err refusal) = (refusal ≡ TooLong) × IsOverLimit v t w
 
 -- what finding those of all nodes answers
 pub record AreAllVisited (v : FlowGraph) (t : LoopView) (w : ℕ → ℕ) (visits : List Visit) : Type 0 where
@@ -112,4 +112,4 @@ pub record AreAllVisited (v : FlowGraph) (t : LoopView) (w : ℕ → ℕ) (visit
 
 abbrev pub AreVisitsFound : FlowGraph → LoopView → (ℕ → ℕ) → Result (List Visit) Refusal → Type 0
 AreVisitsFound v t w (Ok visits) = AreAllVisited v t w visits
-AreVisitsFound v t w (Err refusal) = (refusal ≡ TooLong) × IsTooLong v t w
+AreVisitsFound v t w (Err refusal) = (refusal ≡ TooLong) × IsOverLimit v t w

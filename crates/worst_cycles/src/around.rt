@@ -1,7 +1,7 @@
 //! The turns of the loops round each node.
 
 ghost use Rattle.std.specs.Prelude.{◌≡◌, ◌≢◌, ℕ, ◌+◌, ◌*◌, ◌^◌, ◌<◌, ◌≤◌, length, IfOk};
-ghost use Rattle.call_orders.specs.Arcs.{number_at, AreDistinct};
+ghost use Rattle.call_orders.specs.Arcs.{number_in_place, AreDistinct};
 ghost use Rattle.code_graph.specs.FlowGraph.{IsFlowGraph};
 ghost use Rattle.worst_cycles.specs.Worst.{by_edge};
 ghost use Rattle.worst_cycles.specs.Needs.{HasTree};
@@ -16,13 +16,13 @@ use std::alloc::Global;
 
 /// Adds turns at the nodes of a body.
 fn add_turns(body: &[usize], turns: u64, around: &mut Vec<u64>)
-    requires within { (i : ℕ) → i < length body.now → number_at body.now i < length around.old.items }
+    requires within { (i : ℕ) → i < length body.now → number_in_place body.now i < length around.old.items }
     requires distinct { AreDistinct body.now }
     requires turns { turns ≤ 2 ^ 48 }
-    requires small { (k : ℕ) → number_at around.old.items k ≤ 4096 * 2 ^ 48 }
+    requires small { (k : ℕ) → number_in_place around.old.items k ≤ 4096 * 2 ^ 48 }
     ensures size { length around.new.items ≡ length around.old.items }
-    ensures inside { (i : ℕ) → i < length body.now → number_at around.new.items (number_at body.now i) ≡ number_at around.old.items (number_at body.now i) + turns }
-    ensures outside { (k : ℕ) → ((i : ℕ) → i < length body.now → number_at body.now i ≢ k) → number_at around.new.items k ≡ number_at around.old.items k }
+    ensures inside { (i : ℕ) → i < length body.now → number_in_place around.new.items (number_in_place body.now i) ≡ number_in_place around.old.items (number_in_place body.now i) + turns }
+    ensures outside { (k : ℕ) → ((i : ℕ) → i < length body.now → number_in_place body.now i ≢ k) → number_in_place around.new.items k ≡ number_in_place around.old.items k }
 {
     for k in body {
         around[*k] += turns;

@@ -1,14 +1,14 @@
 //! What is left of the callers of each function.
 
 ghost use Rattle.std.specs.Prelude.{◌≡◌, ◌≢◌, ℕ, ◌+◌, ◌*◌, ◌^◌, ◌<◌, ◌≤◌, ◌⊎◌, length, slice_index, Some, IfOk};
-ghost use Rattle.call_orders.specs.Arcs.{number_at, AreDistinct};
+ghost use Rattle.call_orders.specs.Arcs.{number_in_place, AreDistinct};
 ghost use Rattle.cost_theory.specs.Worst.{Numbers, IsReturningCall, context_of};
 ghost use Rattle.code_graph.specs.FlowGraph.{graph as graph_seen, IsFlowGraph};
 ghost use Rattle.natural_loops.specs.Noted.{node_address};
 ghost use Rattle.loop_tree.specs.Tree.{loops};
 ghost use Rattle.worst_cycles.specs.Worst.{by_edge};
 ghost use Rattle.worst_cycles.specs.Needs.{HasTree};
-ghost use Rattle.worst_cycles.specs.Visits.{IsPlan, AreSolvedBy, AreAllVisited};
+ghost use Rattle.worst_cycles.specs.Visits.{IsWorstPlan, AreSolvedBy, AreAllVisited};
 ghost use Rattle.worst_cycles.specs.Lefts.{HasSolved, AreLefts, AreTurnsRound, AreContexts, AreContextsRaised};
 
 use crate::plan::Plan;
@@ -34,10 +34,10 @@ fn comes_back(graph: &CodeGraph, e: usize) -> Option<usize>
 fn raise(table: &mut Vec<u64>, f: usize, cycles: u64)
     requires { f < length table.old.items }
     ensures size { length table.new.items ≡ length table.old.items }
-    ensures higher { number_at table.old.items f ≤ number_at table.new.items f }
-    ensures over { cycles ≤ number_at table.new.items f }
-    ensures either { (number_at table.new.items f ≡ number_at table.old.items f) ⊎ (number_at table.new.items f ≡ cycles) }
-    ensures others { (g : ℕ) → g ≢ f → number_at table.new.items g ≡ number_at table.old.items g }
+    ensures higher { number_in_place table.old.items f ≤ number_in_place table.new.items f }
+    ensures over { cycles ≤ number_in_place table.new.items f }
+    ensures either { (number_in_place table.new.items f ≡ number_in_place table.old.items f) ⊎ (number_in_place table.new.items f ≡ cycles) }
+    ensures others { (g : ℕ) → g ≢ f → number_in_place table.new.items g ≡ number_in_place table.old.items g }
 {
     if cycles > table[f] {
         table[f] = cycles;
@@ -57,7 +57,7 @@ fn raise_contexts(
     context: &mut Vec<u64>,
 )
     requires flow { IsFlowGraph graph.now }
-    requires plan { IsPlan graph.now tree.now plan.now }
+    requires plan { IsWorstPlan graph.now tree.now plan.now }
     requires weights { length weights.now ≡ length graph.now.code.edges }
     requires visits { AreAllVisited graph.now tree.now (by_edge weights.now) visits.now }
     requires solved { HasSolved graph.now tree.now (by_edge weights.now) }
@@ -65,7 +65,7 @@ fn raise_contexts(
     requires around { AreTurnsRound graph.now tree.now (by_edge weights.now) around.now }
     requires node { k < length graph.now.code.nodes }
     requires size { length context.old.items ≡ length graph.now.code.functions }
-    requires own { (n : Numbers) → AreSolvedBy graph.now tree.now (by_edge weights.now) n → number_at context.old.items ((graph_seen graph.now).owner (node_address graph.now k)) ≡ n.context ((graph_seen graph.now).owner (node_address graph.now k)) }
+    requires own { (n : Numbers) → AreSolvedBy graph.now tree.now (by_edge weights.now) n → number_in_place context.old.items ((graph_seen graph.now).owner (node_address graph.now k)) ≡ n.context ((graph_seen graph.now).owner (node_address graph.now k)) }
     ensures size { length context.new.items ≡ length context.old.items }
     ensures raised { (n : Numbers) → AreSolvedBy graph.now tree.now (by_edge weights.now) n → AreContextsRaised (graph_seen graph.now) (loops graph.now tree.now) (by_edge weights.now) n (node_address graph.now k) context.old.items context.new.items }
 {
@@ -94,7 +94,7 @@ pub fn contexts_of(
 ) -> Result<Vec<u64>, NoMemory>
     requires flow { IsFlowGraph graph.now }
     requires tree { HasTree graph.now tree.now }
-    requires plan { IsPlan graph.now tree.now plan.now }
+    requires plan { IsWorstPlan graph.now tree.now plan.now }
     requires weights { length weights.now ≡ length graph.now.code.edges }
     requires visits { AreAllVisited graph.now tree.now (by_edge weights.now) visits.now }
     requires solved { HasSolved graph.now tree.now (by_edge weights.now) }

@@ -1,7 +1,7 @@
 //! The numbers of functions and loops, from those of nodes.
 
 ghost use Rattle.std.specs.Prelude.{◌≡◌, ℕ, ◌+◌, ◌<◌, length, IfOk};
-ghost use Rattle.call_orders.specs.Arcs.{number_at};
+ghost use Rattle.call_orders.specs.Arcs.{number_in_place};
 ghost use Rattle.code_graph.specs.FlowGraph.{IsFlowGraph};
 ghost use Rattle.worst_cycles.specs.Needs.{AreEntries};
 ghost use Rattle.worst_cycles.specs.Visits.{visit_at, AreVisits};
@@ -23,7 +23,7 @@ pub fn worst_of(
     requires entries { AreEntries graph.now entries.now }
     requires visits { AreVisits graph.now visits.now }
     ensures size { IfOk result (λ worst. length worst.items ≡ length entries.now) }
-    ensures each { IfOk result (λ worst. (f : ℕ) → f < length entries.now → number_at worst.items f ≡ (visit_at visits.now (number_at entries.now f)).plain + (visit_at visits.now (number_at entries.now f)).turns) }
+    ensures each { IfOk result (λ worst. (f : ℕ) → f < length entries.now → number_in_place worst.items f ≡ (visit_at visits.now (number_in_place entries.now f)).plain + (visit_at visits.now (number_in_place entries.now f)).turns) }
 {
     let mut worst = Vec::new(alloc);
     for k in entries {
@@ -35,9 +35,9 @@ pub fn worst_of(
 
 /// By loop, its iteration, which was found at its header.
 pub fn iterations_of(alloc: Global, tree: &LoopTree, visits: &[Visit]) -> Result<Vec<u64>, NoMemory>
-    requires within { (k : ℕ) → k < length tree.now.headers → number_at tree.now.headers k < length visits.now }
+    requires within { (k : ℕ) → k < length tree.now.headers → number_in_place tree.now.headers k < length visits.now }
     ensures size { IfOk result (λ iterations. length iterations.items ≡ length tree.now.headers) }
-    ensures each { IfOk result (λ iterations. (k : ℕ) → k < length tree.now.headers → number_at iterations.items k ≡ (visit_at visits.now (number_at tree.now.headers k)).iteration) }
+    ensures each { IfOk result (λ iterations. (k : ℕ) → k < length tree.now.headers → number_in_place iterations.items k ≡ (visit_at visits.now (number_in_place tree.now.headers k)).iteration) }
 {
     let mut iterations = Vec::new(alloc);
     for l in 0..tree.loop_count() {

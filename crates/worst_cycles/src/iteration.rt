@@ -2,11 +2,11 @@
 
 ghost use Rattle.std.specs.Prelude.{◌≡◌, ℕ, ◌+◌, ◌^◌, ◌<◌, ◌≤◌, true, false, length, Some, IfOk};
 ghost use Rattle.scale_base.specs.Answer.{AnswersBy};
-ghost use Rattle.call_orders.specs.Arcs.{number_at};
+ghost use Rattle.call_orders.specs.Arcs.{number_in_place};
 ghost use Rattle.code_graph.specs.FlowGraph.{IsFlowGraph};
 ghost use Rattle.worst_cycles.specs.Worst.{by_edge, AreUpTo};
 ghost use Rattle.worst_cycles.specs.Needs.{HasTree};
-ghost use Rattle.worst_cycles.specs.Visits.{IsPlan, AreVisits, AreVisitedTo};
+ghost use Rattle.worst_cycles.specs.Visits.{IsWorstPlan, AreVisits, AreVisitedTo};
 ghost use Rattle.worst_cycles.specs.Rests.{AreBodyPlaces, AreRestsFound, IsIterationFound};
 
 use crate::pass::LIMIT;
@@ -20,7 +20,7 @@ use std::alloc::Global;
 
 /// The places of the nodes of a body, ascending.
 fn body_places(alloc: Global, body: &[usize], plan: &Plan) -> Result<Vec<usize>, NoMemory>
-    requires within { (i : ℕ) → i < length body.now → number_at body.now i < length plan.now.places.items }
+    requires within { (i : ℕ) → i < length body.now → number_in_place body.now i < length plan.now.places.items }
     ensures { IfOk result (λ steps. AreBodyPlaces body.now plan.now.places.items steps.items) }
 {
     let mut steps = Vec::new(alloc);
@@ -57,13 +57,13 @@ pub fn rests_of(
 ) -> Result<Rests, Stop>
     requires flow { IsFlowGraph graph.now }
     requires tree { HasTree graph.now tree.now }
-    requires plan { IsPlan graph.now tree.now plan.now }
+    requires plan { IsWorstPlan graph.now tree.now plan.now }
     requires weights { length weights.now ≡ length graph.now.code.edges }
     requires heaviest { AreUpTo weights.now plan.now.heaviest }
     requires visits { AreVisits graph.now visits.now }
     requires within { l < length tree.now.headers }
     requires place { i < length plan.now.order.items }
-    requires header { number_at tree.now.headers l ≡ number_at plan.now.order.items i }
+    requires header { number_in_place tree.now.headers l ≡ number_in_place plan.now.order.items i }
     requires visited { AreVisitedTo graph.now tree.now (by_edge weights.now) plan.now.order.items i visits.now }
     ensures { AnswersBy (λ x. x) result (AreRestsFound graph.now tree.now (by_edge weights.now) plan.now l) }
 {
@@ -96,13 +96,13 @@ pub fn iteration_of(
 ) -> Result<u64, Stop>
     requires flow { IsFlowGraph graph.now }
     requires tree { HasTree graph.now tree.now }
-    requires plan { IsPlan graph.now tree.now plan.now }
+    requires plan { IsWorstPlan graph.now tree.now plan.now }
     requires weights { length weights.now ≡ length graph.now.code.edges }
     requires heaviest { AreUpTo weights.now plan.now.heaviest }
     requires visits { AreVisits graph.now visits.now }
     requires within { l < length tree.now.headers }
     requires place { i < length plan.now.order.items }
-    requires header { number_at tree.now.headers l ≡ number_at plan.now.order.items i }
+    requires header { number_in_place tree.now.headers l ≡ number_in_place plan.now.order.items i }
     requires visited { AreVisitedTo graph.now tree.now (by_edge weights.now) plan.now.order.items i visits.now }
     ensures { AnswersBy (λ x. x) result (IsIterationFound graph.now tree.now (by_edge weights.now) l) }
 {

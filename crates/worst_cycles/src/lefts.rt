@@ -2,12 +2,12 @@
 
 ghost use Rattle.std.specs.Prelude.{◌≡◌, ◌≢◌, ℕ, ◌+◌, ◌^◌, ◌<◌, ◌≤◌, ◌⊎◌, length, slice_index_or, Option, Some, None, IfOk};
 ghost use Rattle.scale_base.specs.Answer.{AnswersBy};
-ghost use Rattle.call_orders.specs.Arcs.{number_at};
+ghost use Rattle.call_orders.specs.Arcs.{number_in_place};
 ghost use Rattle.code_graph.specs.FlowGraph.{IsFlowGraph};
 ghost use Rattle.worst_cycles.specs.Worst.{by_edge, AreUpTo};
 ghost use Rattle.worst_cycles.specs.Needs.{HasTree};
-ghost use Rattle.worst_cycles.specs.Rests.{AreRests, rest_at};
-ghost use Rattle.worst_cycles.specs.Visits.{visit_at, IsPlan, AreAllVisited};
+ghost use Rattle.worst_cycles.specs.Rests.{AreRests, rest_in};
+ghost use Rattle.worst_cycles.specs.Visits.{visit_at, IsWorstPlan, AreAllVisited};
 ghost use Rattle.worst_cycles.specs.Lefts.{HasSolved, AreLeftsFound};
 
 use crate::iteration::rests_of;
@@ -47,15 +47,15 @@ fn raised(left: u64, rest: Option<u64>, header: u64, iteration: u64) -> u64
 fn raise_lefts(plan: &Plan, rests: &Rests, header: usize, iteration: u64, left: &mut Vec<u64>)
     requires sizes { length rests.now.found.items ≡ length rests.now.steps.items }
     requires rests { AreRests rests.now }
-    requires steps { (m : ℕ) → m < length rests.now.steps.items → number_at rests.now.steps.items m < length plan.now.order.items }
-    requires order { (i : ℕ) → i < length plan.now.order.items → number_at plan.now.order.items i < length left.old.items }
+    requires steps { (m : ℕ) → m < length rests.now.steps.items → number_in_place rests.now.steps.items m < length plan.now.order.items }
+    requires order { (i : ℕ) → i < length plan.now.order.items → number_in_place plan.now.order.items i < length left.old.items }
     requires header { header < length left.old.items }
     requires iteration { iteration ≤ 2 ^ 50 }
-    requires small { (k : ℕ) → k < length left.old.items → number_at left.old.items k ≤ 2 ^ 48 }
+    requires small { (k : ℕ) → k < length left.old.items → number_in_place left.old.items k ≤ 2 ^ 48 }
     ensures size { length left.new.items ≡ length left.old.items }
-    ensures higher { (k : ℕ) → number_at left.old.items k ≤ number_at left.new.items k }
-    ensures over { (m b : ℕ) → m < length rests.now.steps.items → rest_at rests.now.found.items m ≡ Some b → number_at plan.now.order.items (number_at rests.now.steps.items m) ≢ header → b + number_at left.old.items header ≤ number_at left.new.items (number_at plan.now.order.items (number_at rests.now.steps.items m)) + iteration }
-    ensures either { (k : ℕ) → (number_at left.new.items k ≡ number_at left.old.items k) ⊎ ((m : ℕ) × (b : ℕ) × (m < length rests.now.steps.items) × (number_at plan.now.order.items (number_at rests.now.steps.items m) ≡ k) × (k ≢ header) × (rest_at rests.now.found.items m ≡ Some b) × (number_at left.new.items k + iteration ≡ b + number_at left.old.items header)) }
+    ensures higher { (k : ℕ) → number_in_place left.old.items k ≤ number_in_place left.new.items k }
+    ensures over { (m b : ℕ) → m < length rests.now.steps.items → rest_in rests.now.found.items m ≡ Some b → number_in_place plan.now.order.items (number_in_place rests.now.steps.items m) ≢ header → b + number_in_place left.old.items header ≤ number_in_place left.new.items (number_in_place plan.now.order.items (number_in_place rests.now.steps.items m)) + iteration }
+    ensures either { (k : ℕ) → (number_in_place left.new.items k ≡ number_in_place left.old.items k) ⊎ ((m : ℕ) × (b : ℕ) × (m < length rests.now.steps.items) × (number_in_place plan.now.order.items (number_in_place rests.now.steps.items m) ≡ k) × (k ≢ header) × (rest_in rests.now.found.items m ≡ Some b) × (number_in_place left.new.items k + iteration ≡ b + number_in_place left.old.items header)) }
 {
     let whole = left[header];
     for m in 0..rests.steps.len() {
@@ -69,7 +69,7 @@ fn raise_lefts(plan: &Plan, rests: &Rests, header: usize, iteration: u64, left: 
 /// By node, the greatest cost of a plain path from there.
 fn plain_lefts(alloc: Global, visits: &[Visit]) -> Result<Vec<u64>, NoMemory>
     ensures size { IfOk result (λ left. length left.items ≡ length visits.now) }
-    ensures each { IfOk result (λ left. (k : ℕ) → k < length visits.now → number_at left.items k ≡ (visit_at visits.now k).plain) }
+    ensures each { IfOk result (λ left. (k : ℕ) → k < length visits.now → number_in_place left.items k ≡ (visit_at visits.now k).plain) }
 {
     let mut left = Vec::new(alloc);
     for visit in visits {
@@ -90,7 +90,7 @@ pub fn lefts_of(
 ) -> Result<Vec<u64>, Stop>
     requires flow { IsFlowGraph graph.now }
     requires tree { HasTree graph.now tree.now }
-    requires plan { IsPlan graph.now tree.now plan.now }
+    requires plan { IsWorstPlan graph.now tree.now plan.now }
     requires weights { length weights.now ≡ length graph.now.code.edges }
     requires heaviest { AreUpTo weights.now plan.now.heaviest }
     requires visits { AreAllVisited graph.now tree.now (by_edge weights.now) visits.now }

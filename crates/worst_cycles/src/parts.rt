@@ -5,7 +5,7 @@ ghost use Rattle.scale_base.specs.Answer.{AnswersBy};
 ghost use Rattle.code_graph.specs.FlowGraph.{IsFlowGraph};
 ghost use Rattle.worst_cycles.specs.Worst.{by_edge, AreUpTo};
 ghost use Rattle.worst_cycles.specs.Needs.{HasTree};
-ghost use Rattle.worst_cycles.specs.Visits.{IsPlan, AreAllVisited};
+ghost use Rattle.worst_cycles.specs.Visits.{IsWorstPlan, AreAllVisited};
 ghost use Rattle.worst_cycles.specs.Lefts.{HasSolved, ArePartsFound};
 
 use crate::around::turns_around;
@@ -39,7 +39,7 @@ pub fn parts_of(
 ) -> Result<LeftParts, Stop>
     requires flow { IsFlowGraph graph.now }
     requires tree { HasTree graph.now tree.now }
-    requires plan { IsPlan graph.now tree.now plan.now }
+    requires plan { IsWorstPlan graph.now tree.now plan.now }
     requires weights { length weights.now ≡ length graph.now.code.edges }
     requires heaviest { AreUpTo weights.now plan.now.heaviest }
     requires visits { AreAllVisited graph.now tree.now (by_edge weights.now) visits.now }

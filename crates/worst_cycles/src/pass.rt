@@ -2,11 +2,11 @@
 
 ghost use Rattle.std.specs.Prelude.{◌≡◌, ℕ, ◌*◌, ◌^◌, ◌<◌, ◌≤◌, length, Some, None};
 ghost use Rattle.scale_base.specs.Answer.{AnswersBy};
-ghost use Rattle.call_orders.specs.Arcs.{number_at};
+ghost use Rattle.call_orders.specs.Arcs.{number_in_place};
 ghost use Rattle.code_graph.specs.FlowGraph.{IsFlowGraph};
 ghost use Rattle.worst_cycles.specs.Worst.{by_edge, AreUpTo};
 ghost use Rattle.worst_cycles.specs.Needs.{HasTree};
-ghost use Rattle.worst_cycles.specs.Visits.{IsPlan, AreVisits, AreVisitedTo, AreTurnsFound, IsVisitFound, AreVisitsFound};
+ghost use Rattle.worst_cycles.specs.Visits.{IsWorstPlan, AreVisits, AreVisitedTo, AreTurnsFound, IsVisitFound, AreVisitsFound};
 
 use crate::iteration::iteration_of;
 use crate::plan::Plan;
@@ -43,13 +43,13 @@ fn turns_at(
 ) -> Result<(u64, u64), Stop>
     requires flow { IsFlowGraph graph.now }
     requires tree { HasTree graph.now tree.now }
-    requires plan { IsPlan graph.now tree.now plan.now }
+    requires plan { IsWorstPlan graph.now tree.now plan.now }
     requires weights { length weights.now ≡ length graph.now.code.edges }
     requires heaviest { AreUpTo weights.now plan.now.heaviest }
     requires visits { AreVisits graph.now visits.now }
     requires place { i < length plan.now.order.items }
     requires visited { AreVisitedTo graph.now tree.now (by_edge weights.now) plan.now.order.items i visits.now }
-    ensures { AnswersBy (λ x. x) result (AreTurnsFound graph.now tree.now (by_edge weights.now) (number_at plan.now.order.items i)) }
+    ensures { AnswersBy (λ x. x) result (AreTurnsFound graph.now tree.now (by_edge weights.now) (number_in_place plan.now.order.items i)) }
 {
     let Some(l) = plan.headed[plan.order[i]] else {
         return Ok((0, 0));
@@ -73,13 +73,13 @@ fn visit_node(
 ) -> Result<Visit, Stop>
     requires flow { IsFlowGraph graph.now }
     requires tree { HasTree graph.now tree.now }
-    requires plan { IsPlan graph.now tree.now plan.now }
+    requires plan { IsWorstPlan graph.now tree.now plan.now }
     requires weights { length weights.now ≡ length graph.now.code.edges }
     requires heaviest { AreUpTo weights.now plan.now.heaviest }
     requires visits { AreVisits graph.now visits.now }
     requires place { i < length plan.now.order.items }
     requires visited { AreVisitedTo graph.now tree.now (by_edge weights.now) plan.now.order.items i visits.now }
-    ensures { AnswersBy (λ x. x) result (IsVisitFound graph.now tree.now (by_edge weights.now) (number_at plan.now.order.items i)) }
+    ensures { AnswersBy (λ x. x) result (IsVisitFound graph.now tree.now (by_edge weights.now) (number_in_place plan.now.order.items i)) }
 {
     let (turns, iteration) = turns_at(alloc, graph, tree, weights, plan, visits, i)?;
     let plain = plain_at_node(graph, tree, weights, plan, visits, plan.order[i]);
@@ -103,7 +103,7 @@ pub fn visit_nodes(
 ) -> Result<Vec<Visit>, Stop>
     requires flow { IsFlowGraph graph.now }
     requires tree { HasTree graph.now tree.now }
-    requires plan { IsPlan graph.now tree.now plan.now }
+    requires plan { IsWorstPlan graph.now tree.now plan.now }
     requires weights { length weights.now ≡ length graph.now.code.edges }
     requires heaviest { AreUpTo weights.now plan.now.heaviest }
     ensures { AnswersBy (λ visits. visits.items) result (AreVisitsFound graph.now tree.now (by_edge weights.now)) }

@@ -1,11 +1,11 @@
 //! What is known of the nodes before the pass.
 
 ghost use Rattle.std.specs.Prelude.{◌≡◌, ℕ, ◌<◌, length, IfOk};
-ghost use Rattle.call_orders.specs.Arcs.{number_at, AreDistinct};
+ghost use Rattle.call_orders.specs.Arcs.{number_in_place, AreDistinct};
 ghost use Rattle.code_graph.specs.FlowGraph.{IsFlowGraph};
 ghost use Rattle.worst_cycles.specs.Worst.{AreUpTo};
 ghost use Rattle.worst_cycles.specs.Needs.{ArePlaces, HasTree};
-ghost use Rattle.worst_cycles.specs.Visits.{AreHeaded, IsPlan};
+ghost use Rattle.worst_cycles.specs.Visits.{AreHeaded, IsWorstPlan};
 
 use crate::entries::entry_nodes;
 use crate::order::needed_first;
@@ -30,7 +30,7 @@ pub struct Plan {
 
 /// By number, its place in an order of all numbers below a count.
 fn places_of(alloc: Global, order: &[usize], count: usize) -> Result<Vec<usize>, NoMemory>
-    requires within { (i : ℕ) → i < length order.now → number_at order.now i < count }
+    requires within { (i : ℕ) → i < length order.now → number_in_place order.now i < count }
     requires distinct { AreDistinct order.now }
     ensures size { IfOk result (λ places. length places.items ≡ count) }
     ensures places { IfOk result (λ places. ArePlaces order.now places.items) }
@@ -48,7 +48,7 @@ fn headed_loops(
     tree: &LoopTree,
     count: usize,
 ) -> Result<Vec<Option<usize>>, NoMemory>
-    requires within { (k : ℕ) → k < length tree.now.headers → number_at tree.now.headers k < count }
+    requires within { (k : ℕ) → k < length tree.now.headers → number_in_place tree.now.headers k < count }
     ensures size { IfOk result (λ headed. length headed.items ≡ count) }
     ensures headed { IfOk result (λ headed. AreHeaded tree.now headed.items) }
 {
@@ -82,7 +82,7 @@ pub fn make_plan(
 ) -> Result<Plan, NoMemory>
     requires tree { HasTree graph.now tree.now }
     ensures flow { IfOk result (λ plan. IsFlowGraph graph.now) }
-    ensures plan { IfOk result (λ plan. IsPlan graph.now tree.now plan) }
+    ensures plan { IfOk result (λ plan. IsWorstPlan graph.now tree.now plan) }
     ensures heaviest { IfOk result (λ plan. AreUpTo weights.now plan.heaviest) }
 {
     let count = graph.node_count();

@@ -1,14 +1,14 @@
 //! The rests of an iteration of a loop.
 
 ghost use Rattle.std.specs.Prelude.{◌≡◌, ℕ, ◌+◌, ◌^◌, ◌<◌, ◌≤◌, true, length, slice_index, Some};
-ghost use Rattle.call_orders.specs.Arcs.{number_at};
+ghost use Rattle.call_orders.specs.Arcs.{number_in_place};
 ghost use Rattle.cost_theory.specs.Graph.{IsPlain};
 ghost use Rattle.cost_theory.specs.Worst.{Numbers};
 ghost use Rattle.code_graph.specs.FlowGraph.{graph as graph_seen, IsFlowGraph};
 ghost use Rattle.loop_tree.specs.Tree.{loops};
 ghost use Rattle.worst_cycles.specs.Worst.{by_edge};
 ghost use Rattle.worst_cycles.specs.Needs.{AreEntries, HasTree};
-ghost use Rattle.worst_cycles.specs.Visits.{AreVisits, AreSolvedBy, IsKnown, AreKnownAt};
+ghost use Rattle.worst_cycles.specs.Visits.{AreVisits, AreSolvedBy, IsEdgeKnown, AreKnownAt};
 ghost use Rattle.worst_cycles.specs.Rests.{AreRests, IsRestOf, IsRestKnown, AreRestsKnownAt, IsRestFor, IsRestPast, IsGreaterOf};
 
 use crate::plan::Plan;
@@ -97,7 +97,7 @@ fn rest_over(
     requires rests { AreRests rests.now }
     requires within { l < length tree.now.headers }
     requires edge { e < length graph.now.code.edges }
-    ensures rest { (n : Numbers) → AreSolvedBy graph.now tree.now (by_edge weights.now) n → IsKnown graph.now tree.now plan.now visits.now n e → IsRestKnown graph.now tree.now plan.now rests.now n l e → IsRestFor graph.now tree.now (by_edge weights.now) n l e result }
+    ensures rest { (n : Numbers) → AreSolvedBy graph.now tree.now (by_edge weights.now) n → IsEdgeKnown graph.now tree.now plan.now visits.now n e → IsRestKnown graph.now tree.now plan.now rests.now n l e → IsRestFor graph.now tree.now (by_edge weights.now) n l e result }
     ensures small { (b : ℕ) → result ≡ Some b → b ≤ 2 ^ 51 }
 {
     match tree.back_loop(e) {

@@ -6,7 +6,7 @@ ghost use Rattle.code_graph.specs.FlowGraph.{graph as graph_seen, IsFlowGraph};
 ghost use Rattle.loop_tree.specs.Tree.{loops};
 ghost use Rattle.worst_cycles.specs.Worst.{by_edge, slack_at, rest_at};
 ghost use Rattle.worst_cycles.specs.Needs.{HasTree};
-ghost use Rattle.worst_cycles.specs.Visits.{IsPlan, AreSolvedBy, AreAllVisited};
+ghost use Rattle.worst_cycles.specs.Visits.{IsWorstPlan, AreSolvedBy, AreAllVisited};
 ghost use Rattle.worst_cycles.specs.Lefts.{HasSolved, AreLefts, AreTurnsRound, AreContexts, AreSlacks, AreRestsBehind};
 
 use crate::plan::Plan;
@@ -40,7 +40,7 @@ fn slack_over(
 ) -> u64
     requires flow { IsFlowGraph graph.now }
     requires tree { HasTree graph.now tree.now }
-    requires plan { IsPlan graph.now tree.now plan.now }
+    requires plan { IsWorstPlan graph.now tree.now plan.now }
     requires weights { length weights.now ≡ length graph.now.code.edges }
     requires visits { AreAllVisited graph.now tree.now (by_edge weights.now) visits.now }
     requires solved { HasSolved graph.now tree.now (by_edge weights.now) }
@@ -70,7 +70,7 @@ pub fn slacks_of(
 ) -> Result<Vec<u64>, NoMemory>
     requires flow { IsFlowGraph graph.now }
     requires tree { HasTree graph.now tree.now }
-    requires plan { IsPlan graph.now tree.now plan.now }
+    requires plan { IsWorstPlan graph.now tree.now plan.now }
     requires weights { length weights.now ≡ length graph.now.code.edges }
     requires visits { AreAllVisited graph.now tree.now (by_edge weights.now) visits.now }
     requires solved { HasSolved graph.now tree.now (by_edge weights.now) }
@@ -95,7 +95,7 @@ fn slack_of(
 ) -> u64
     requires flow { IsFlowGraph graph.now }
     requires tree { HasTree graph.now tree.now }
-    requires plan { IsPlan graph.now tree.now plan.now }
+    requires plan { IsWorstPlan graph.now tree.now plan.now }
     requires weights { length weights.now ≡ length graph.now.code.edges }
     requires visits { AreAllVisited graph.now tree.now (by_edge weights.now) visits.now }
     requires solved { HasSolved graph.now tree.now (by_edge weights.now) }

@@ -1,12 +1,12 @@
 //! What is found at a node from what was found behind its edges.
 
 ghost use Rattle.std.specs.Prelude.{◌≡◌, ℕ, ◌+◌, ◌^◌, ◌<◌, ◌≤◌, length, slice_index, Some, None};
-ghost use Rattle.call_orders.specs.Arcs.{number_at};
+ghost use Rattle.call_orders.specs.Arcs.{number_in_place};
 ghost use Rattle.cost_theory.specs.Worst.{Numbers, cost};
 ghost use Rattle.code_graph.specs.FlowGraph.{graph as graph_seen, IsFlowGraph};
 ghost use Rattle.worst_cycles.specs.Worst.{by_edge};
 ghost use Rattle.worst_cycles.specs.Needs.{AreEntries, HasTree};
-ghost use Rattle.worst_cycles.specs.Visits.{visit_at, AreVisits, AreSolvedBy, IsCallKnown, IsKnown, AreKnownAt, IsBehind, IsOver};
+ghost use Rattle.worst_cycles.specs.Visits.{visit_at, AreVisits, AreSolvedBy, IsCallKnown, IsEdgeKnown, AreKnownAt, IsBehind, IsPlainCostOver};
 
 use crate::plan::Plan;
 use code_graph::{CodeGraph, Weights};
@@ -29,7 +29,7 @@ fn called(graph: &CodeGraph, plan: &Plan, visits: &[Visit], e: usize) -> u64
     requires entries { AreEntries graph.now plan.now.entries.items }
     requires visits { AreVisits graph.now visits.now }
     requires edge { e < length graph.now.code.edges }
-    ensures some { (f : ℕ) → (graph_seen graph.now).callee e ≡ Some f → result ≡ (visit_at visits.now (number_at plan.now.entries.items f)).plain + (visit_at visits.now (number_at plan.now.entries.items f)).turns }
+    ensures some { (f : ℕ) → (graph_seen graph.now).callee e ≡ Some f → result ≡ (visit_at visits.now (number_in_place plan.now.entries.items f)).plain + (visit_at visits.now (number_in_place plan.now.entries.items f)).turns }
     ensures none { (graph_seen graph.now).callee e ≡ None → result ≡ 0 }
     ensures small { result ≤ 2 ^ 49 }
 {
@@ -86,7 +86,7 @@ fn over(
     requires weights { length weights.now ≡ length graph.now.code.edges }
     requires visits { AreVisits graph.now visits.now }
     requires edge { e < length graph.now.code.edges }
-    ensures over { (n : Numbers) → AreSolvedBy graph.now tree.now (by_edge weights.now) n → IsKnown graph.now tree.now plan.now visits.now n e → IsOver graph.now tree.now (by_edge weights.now) n e result }
+    ensures over { (n : Numbers) → AreSolvedBy graph.now tree.now (by_edge weights.now) n → IsEdgeKnown graph.now tree.now plan.now visits.now n e → IsPlainCostOver graph.now tree.now (by_edge weights.now) n e result }
     ensures small { result ≤ 2 ^ 51 }
 {
     match tree.back_loop(e) {

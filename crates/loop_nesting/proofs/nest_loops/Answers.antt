@@ -2,8 +2,8 @@ use Rattle.std.proofs.Common.{rules, arith, refl, sym, subst, ◌∙◌, ap, ◌
 use Rattle.std.specs.List.{Contains}
 use Rattle.std.proofs.Math.Seq.{take-append_seam}
 use Rattle.std.proofs.lemmas.List.{get_or_read}
-use Rattle.loop_nesting.specs.Nesting.{bodies_of, IsNesting, body_at, header_at, found_at}
-use Rattle.loop_nesting.specs.Pass.{AreFalling, ArePut, IsPass, rank_at}
+use Rattle.loop_nesting.specs.Nesting.{bodies_of, IsNesting, body_at, header_in_list, found_at}
+use Rattle.loop_nesting.specs.Pass.{AreFalling, ArePut, IsNestingPass, rank_at}
 use Rattle.loop_nesting.proofs.PassLaws.{body_read, header_within, nesting_found, pass_more}
 use Rattle.loop_nesting.proofs.nest_loops.Goals as goal
 
@@ -11,7 +11,7 @@ pub index-requires : goal.index-requires
 index-requires c =
     let falling : AreFalling (bodies_of c.args.bodies.now) c.deref-rank-items.result.now = search rules in
     let il : c.loop-rank.rank-index < length c.deref-rank-items.result.now = search rules in
-    let lt : header_at c.args.headers.now (rank_at c.deref-rank-items.result.now c.loop-rank.rank-index).number < c.args.count = header_within _ _ _ _ _ c.requires.loops falling il in
+    let lt : header_in_list c.args.headers.now (rank_at c.deref-rank-items.result.now c.loop-rank.rank-index).number < c.args.count = header_within _ _ _ _ _ c.requires.loops falling il in
     search rules
 
 pub put-requires : goal.put-requires
@@ -34,15 +34,15 @@ loop-rank-preserved c =
     let size : length c.put.new.innermost ≡ length c.loop-rank.innermost.items = c.put.ensures.size ∙ ap length c.deref_mut.ensures.value in
     let whole : length c.put.new.innermost ≡ c.loop-rank.innermost.len = search rules in
     let new : take c.loop-rank.innermost.len (c.put.new.innermost ++ drop (length c.put.new.innermost) c.loop-rank.innermost.items) ≡ c.put.new.innermost = subst (λ n. take n (c.put.new.innermost ++ drop (length c.put.new.innermost) c.loop-rank.innermost.items) ≡ c.put.new.innermost) whole (take-append_seam _ _) in
-    let hl : header_at c.args.headers.now number < length c.loop-rank.innermost.items = (let lt = header_within _ _ _ _ _ c.requires.loops falling il in omega (arith, lt, c.loop-rank.invariant.nodes)) in
-    let read : c.index.result.now ≡ found_at c.loop-rank.innermost.items (header_at c.args.headers.now number) = get_or_read c.loop-rank.innermost.items _ _ hl c.index.ensures None in
+    let hl : header_in_list c.args.headers.now number < length c.loop-rank.innermost.items = (let lt = header_within _ _ _ _ _ c.requires.loops falling il in omega (arith, lt, c.loop-rank.invariant.nodes)) in
+    let read : c.index.result.now ≡ found_at c.loop-rank.innermost.items (header_in_list c.args.headers.now number) = get_or_read c.loop-rank.innermost.items _ _ hl c.index.ensures None in
     let before : ArePut c.loop-rank.innermost.items c.put.new.innermost c.deref.result.now (length c.deref.result.now) number = subst (λ old. ArePut old c.put.new.innermost c.deref.result.now (length c.deref.result.now) number) c.deref_mut.ensures.value c.put.ensures.put in
     let put : ArePut c.loop-rank.innermost.items c.put.new.innermost (body_at (bodies_of c.args.bodies.now) number) (length (body_at (bodies_of c.args.bodies.now) number)) number = subst (λ xs. ArePut c.loop-rank.innermost.items c.put.new.innermost xs (length xs) number) body before in
     let more = pass_more (bodies_of c.args.bodies.now) c.args.headers.now c.args.count c.deref-rank-items.result.now c.loop-rank.rank-index number c.loop-rank.innermost.items c.put.new.innermost c.loop-rank.parent.items falling c.requires.loops il refl c.loop-rank.invariant.nodes size c.loop-rank.invariant.pass put in
     record {
       nodes = ap length new ∙ size ∙ c.loop-rank.invariant.nodes;
-      pass = subst (λ xs. IsPass (bodies_of c.args.bodies.now) c.args.headers.now c.deref-rank-items.result.now (c.loop-rank.rank-index + 1) xs (slice_set c.loop-rank.parent.items number c.index.result.now)) (sym new)
-          (subst (λ o. IsPass (bodies_of c.args.bodies.now) c.args.headers.now c.deref-rank-items.result.now (c.loop-rank.rank-index + 1) c.put.new.innermost (slice_set c.loop-rank.parent.items number o)) (sym read) more);
+      pass = subst (λ xs. IsNestingPass (bodies_of c.args.bodies.now) c.args.headers.now c.deref-rank-items.result.now (c.loop-rank.rank-index + 1) xs (slice_set c.loop-rank.parent.items number c.index.result.now)) (sym new)
+          (subst (λ o. IsNestingPass (bodies_of c.args.bodies.now) c.args.headers.now c.deref-rank-items.result.now (c.loop-rank.rank-index + 1) c.put.new.innermost (slice_set c.loop-rank.parent.items number o)) (sym read) more);
     }
 
 pub returns : goal.returns

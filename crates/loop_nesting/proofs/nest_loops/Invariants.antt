@@ -1,10 +1,10 @@
 use Rattle.std.proofs.Common.{◌≡◌, length}
 use Rattle.loop_nesting.specs.Nesting.{bodies_of}
-use Rattle.loop_nesting.specs.Pass.{IsPass}
+use Rattle.loop_nesting.specs.Pass.{IsNestingPass}
 use Rattle.loop_nesting.proofs.nest_loops.Given as goal
 
 abbrev pub invariant-loop-rank : goal.invariant-loop-rank
 invariant-loop-rank l = record {
   nodes : length l.innermost.items ≡ l.count;
-  pass : IsPass (bodies_of l.bodies) l.headers l.rank-items l.rank-index l.innermost.items l.parent.items;
+  pass : IsNestingPass (bodies_of l.bodies) l.headers l.rank-items l.rank-index l.innermost.items l.parent.items;
 }

@@ -1,6 +1,6 @@
 use Rattle.std.proofs.Common.{◌≡◌, ◌<◌, ℕ, length, inr, sym, ap, ◌∙◌, subst}
 use Rattle.std.proofs.lemmas.List.{length-reverse, get_or-reverse}
-use Rattle.call_orders.specs.Arcs.{number_at, AreNumbered, IsAnswer, IsSorted, IsCycle}
+use Rattle.call_orders.specs.Arcs.{number_in_place, AreNumbered, IsAnswer, IsSorted, IsCycle}
 use Rattle.loop_nesting.specs.Nesting.{bodies_of}
 use Rattle.natural_loops.specs.Found.{LoopsView}
 use Rattle.loop_tree.specs.Arcs.{IsRoundOfNodes}
@@ -36,7 +36,7 @@ assemble-requires-clause-order c =
     (subst (IsAnswer c.node_count-count.result c.deref-4.result.now) c.in-Sorted.is c.in_ok-order.ensures.answer)) in
     let turned : IsTurned c.in-Sorted.order.items c.reverse.new.self.items = record {
       size = ap length c.reverse.ensures.items ∙ length-reverse c.in-Sorted.order.items;
-      each = λ i lt. ap (λ xs. number_at xs i) c.reverse.ensures.items ∙ get_or-reverse c.in-Sorted.order.items i 0 lt;
+      each = λ i lt. ap (λ xs. number_in_place xs i) c.reverse.ensures.items ∙ get_or-reverse c.in-Sorted.order.items i 0 lt;
     } in
     plain_ordered c.args.graph.now c.args.notes.now c.in_ok-found.found c.deref-3.result.now c.in_ok-arcs.arcs.items c.in-Sorted.order.items c.reverse.new.self.items c.node_count-count.ensures.graph c.in_ok-found.ensures all c.in_ok-arcs.ensures.arcs sorted turned
 
@@ -49,7 +49,7 @@ pub cycle_of-requires-clause-within : goal.cycle_of-requires-clause-within
 cycle_of-requires-clause-within c =
     let answer = subst (IsAnswer c.node_count-count.result c.deref-4.result.now) c.in-Cycle.is c.in_ok-order.ensures.answer in
     let round = round_of_arcs c.args.graph.now c.deref-3.result.now c.in_ok-arcs.arcs.items c.in-Cycle.numbers.items c.in_ok-arcs.ensures.arcs (subst (λ xs. IsCycle xs c.in-Cycle.numbers.items) c.deref-4.ensures.value answer) in
-    subst (λ xs. (i : ℕ) → i < length xs → number_at xs i < length c.args.graph.now.code.nodes) (sym c.deref-in-Cycle.ensures.value) round.within
+    subst (λ xs. (i : ℕ) → i < length xs → number_in_place xs i < length c.args.graph.now.code.nodes) (sym c.deref-in-Cycle.ensures.value) round.within
 
 pub returns-in_ok-cycle-in-Cycle : goal.returns-in_ok-cycle-in-Cycle
 returns-in_ok-cycle-in-Cycle c =

@@ -24,7 +24,7 @@ use Rattle.stub_writer.specs.Stubs.{Site, block_size, out_of_reach}
 use Rattle.rewritten_runs.specs.Stubs.{IsWeighed, rewritten_file, marks_by_slack, told_at, fragment_of, fragments_at}
 use Rattle.rewritten_runs.proofs.Laws.{led_class, marked_led}
 use Rattle.scaler.specs.Held.{IsLoopRefused, unscaled}
-use Rattle.scaler.specs.Rewritten.{IsCounterRefused, IsTooLong, IsTooLate, IsProgramRewritten, IsRewrittenProgram, IsRewritten, rewritten_summary, unless_far}
+use Rattle.scaler.specs.Rewritten.{IsCounterRefused, IsTooLong, IsTooLate, IsProgramRewritten, IsRewrittenProgram, IsRewritten, rewritten_summary, unless_out_of_reach}
 use Rattle.scaler.specs.Agree.{AreAlikeAnswers, RewrittenAnswersAgree}
 use Rattle.scaler.proofs.agree.Counted.{counters_not_refused, counter_refusals_same}
 use Rattle.scaler.proofs.agree.Pairs.{Answer, HasGraph, HasTree, alike_same, then_alike, codes_alike, code_not_refused, loops_alike, loops_not_refused}
@@ -36,7 +36,7 @@ module _ (power : PowerModel) (image : Image) (notes : List LoopNote) where
   -- ---- what is stored
 
   abbrev given : FlowGraph → (ℕ → List Mark) → (start worst stubs : ℕ) → List Site → ℕ → Answer
-  given v marked start worst stubs sites base = unless_far (out_of_reach base sites) (rewritten_file image sites base start, rewritten_summary power v marked start worst stubs sites)
+  given v marked start worst stubs sites base = unless_out_of_reach (out_of_reach base sites) (rewritten_file image sites base start, rewritten_summary power v marked start worst stubs sites)
 
   worst_same : (v v' : FlowGraph) (t t' : LoopView) (plain plain' stored stored' : Numbers) → IsWeighed power image notes v t plain stored → IsWeighed power image notes v' t' plain' stored' → stored.worst 0 ≡ stored'.worst 0
   worst_same v v' t t' plain plain' stored stored' one other = (stored_alike power image notes v v' t t' plain plain' stored stored' one other).whole

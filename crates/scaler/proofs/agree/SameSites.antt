@@ -19,7 +19,7 @@ use Rattle.graph_runs.specs.EdgeCosts.{class_by, edge_class}
 use Rattle.graph_runs.specs.Laws.{IsReachedCode}
 use Rattle.graph_runs.specs.Text.{text_of, instr_at, instr_kind, kind_at}
 use Rattle.stub_writer.specs.Stubs.{Site, Way, Place, Forked, Straight}
-use Rattle.stored_runs.specs.Marks.{place_at, fragments_by}
+use Rattle.stored_runs.specs.Marks.{place_at, fragments_of_class}
 use Rattle.stored_runs.specs.Stubbed.{IsOfImage, AreAscending}
 use Rattle.rewritten_runs.specs.Stubs.{AreSitesOf}
 use Rattle.rewritten_runs.proofs.Laws.{edge_is}
@@ -91,8 +91,8 @@ sites_moved image code code' frags frags' sites e f are = record {
   words = are.words;
   some = subst (λ (es : List Edge). All (λ (site : Site). (i : ℕ) × (i < length es) × (edge_at (slice_get es i) ≡ site.at) × (frags i ≢ [])) sites) e
       (subst (λ (fs : ℕ → List Fragment). All (λ (site : Site). (i : ℕ) × (i < length code'.edges) × (edge_at (slice_get code'.edges i) ≡ site.at) × (fs i ≢ [])) sites) f are.some);
-  ways = subst (λ (es : List Edge). (i : ℕ) (class : Class) → i < length es → edge_class (text_of image) (slice_get es i) ≡ Some class → fragments_by (place_at sites (edge_at (slice_get es i))) class ≡ frags i) e
-      (subst (λ (fs : ℕ → List Fragment). (i : ℕ) (class : Class) → i < length code'.edges → edge_class (text_of image) (slice_get code'.edges i) ≡ Some class → fragments_by (place_at sites (edge_at (slice_get code'.edges i))) class ≡ fs i) f are.ways);
+  ways = subst (λ (es : List Edge). (i : ℕ) (class : Class) → i < length es → edge_class (text_of image) (slice_get es i) ≡ Some class → fragments_of_class (place_at sites (edge_at (slice_get es i))) class ≡ frags i) e
+      (subst (λ (fs : ℕ → List Fragment). (i : ℕ) (class : Class) → i < length code'.edges → edge_class (text_of image) (slice_get code'.edges i) ≡ Some class → fragments_of_class (place_at sites (edge_at (slice_get code'.edges i))) class ≡ fs i) f are.ways);
 }
 
 module _ (image : Image) (code : Code) (reached : IsReachedCode (text_of image) code) where
@@ -133,7 +133,7 @@ module _ (image : Image) (code : Code) (reached : IsReachedCode (text_of image) 
       edge_there e op rs1 rs2 offset lt at (record { at = u; kind = Untaken; to = u + 4 }) classes.Untaken (inr (inl refl)) refl refl
 
   abbrev AgreeAt : ℕ → Place → Place → Type 0
-  AgreeAt u p p' = (class : Class) → HasEdge u class → fragments_by (Some p) class ≡ fragments_by (Some p') class
+  AgreeAt u p p' = (class : Class) → HasEdge u class → fragments_of_class (Some p) class ≡ fragments_of_class (Some p') class
 
   way_same : (way way' : Way) → way.to ≡ way'.to → way.fragments ≡ way'.fragments → way ≡ way'
   way_same way way' a b = ap {B = Way} (λ (x : ℕ). record way { to = x }) a ∙ ap {B = Way} (λ (fs : List Fragment). record way' { fragments = fs }) b
@@ -177,10 +177,10 @@ module _ (image : Image) (code : Code) (reached : IsReachedCode (text_of image) 
         agree p' found c x =
             let one = are.ways x.edge c x.low x.is in
             let two = are'.ways x.edge c x.low x.is in
-            sym (ap (λ o. fragments_by o c) (ap (place_at sites) x.starts ∙ here)) ∙ (one ∙ (sym two ∙ ap (λ o. fragments_by o c) (ap (place_at sites') x.starts ∙ found)))
+            sym (ap (λ o. fragments_of_class o c) (ap (place_at sites) x.starts ∙ here)) ∙ (one ∙ (sym two ∙ ap (λ o. fragments_of_class o c) (ap (place_at sites') x.starts ∙ found)))
 
         step : (o : Option Place) → place_at sites' (edge_at (slice_get code.edges e)) ≡ o → Within s sites'
-        step None found = absurd (some (sym (are'.ways e class lt is) ∙ ap (λ o. fragments_by o class) found))
+        step None found = absurd (some (sym (are'.ways e class lt is) ∙ ap (λ o. fragments_of_class o class) found))
         step (Some p') found =
             let u = edge_at (slice_get code.edges e) in
             let x = placed_site sites' u p' found in

@@ -1,6 +1,6 @@
 use Rattle.std.proofs.Common.{◌≡◌, ◌^◌, ◌<◌, ◌≤◌, length, Vec, Global, arith, refl, sym, ap, ◌∙◌, subst}
 use Rattle.std.proofs.lemmas.Result.{err_from_is_err_and}
-use Rattle.call_orders.specs.Arcs.{number_at}
+use Rattle.call_orders.specs.Arcs.{number_in_place}
 use Rattle.code_graph.specs.FlowGraph.{graph}
 use Rattle.loop_tree.specs.Tree.{loops}
 use Rattle.worst_cycles.specs.declared.visits.Visit.{Visit}
@@ -29,8 +29,8 @@ returns-then-index-gt-LIMIT c =
     let count = entries.size in
     let size = c.in_ok-worst.ensures.size in
     let some : 0 < length c.in_ok-worst.worst.items = omega arith in
-    let first : number_at c.in_ok-worst.worst.items 0 ≡ c.index.result.now = value_at c.in_ok-worst.worst.items 0 c.index.result.now 0 some c.index.ensures in
-    let more : 2 ^ 48 < number_at c.in_ok-worst.worst.items 0 = omega arith in
+    let first : number_in_place c.in_ok-worst.worst.items 0 ≡ c.index.result.now = value_at c.in_ok-worst.worst.items 0 c.index.result.now 0 some c.index.ensures in
+    let more : 2 ^ 48 < number_in_place c.in_ok-worst.worst.items 0 = omega arith in
     record {
       found = (
         refl,
@@ -45,7 +45,7 @@ iterations_of-requires c =
     let value = c.deref-3.ensures.len in
     let size = c.in_ok-visits.ensures.table.size in
     let same : length c.deref-3.result.now ≡ length c.in_ok-visits.visits.items = ap length c.deref-3.ensures.value in
-    record { within = λ k kl. let h : number_at c.args.tree.now.headers k < length c.args.graph.now.code.nodes = header_number c.args.graph.now c.args.tree.now c.requires.tree.0 c.requires.tree.1 k kl in omega arith }
+    record { within = λ k kl. let h : number_in_place c.args.tree.now.headers k < length c.args.graph.now.code.nodes = header_number c.args.graph.now c.args.tree.now c.requires.tree.0 c.requires.tree.1 k kl in omega arith }
 
 pub returns : goal.returns
 returns c =
@@ -58,8 +58,8 @@ returns c =
     let count = entries.size in
     let size = c.in_ok-worst.ensures.size in
     let some : 0 < length c.in_ok-worst.worst.items = omega arith in
-    let first : number_at c.in_ok-worst.worst.items 0 ≡ c.index.result.now = value_at c.in_ok-worst.worst.items 0 c.index.result.now 0 some c.index.ensures in
-    let small : number_at c.in_ok-worst.worst.items 0 ≤ 2 ^ 48 = omega arith in
+    let first : number_in_place c.in_ok-worst.worst.items 0 ≡ c.index.result.now = value_at c.in_ok-worst.worst.items 0 c.index.result.now 0 some c.index.ensures in
+    let small : number_in_place c.in_ok-worst.worst.items 0 ≤ 2 ^ 48 = omega arith in
     rw c.from_parts.ensures (record {
       found = worst_in_range c.args.graph.now c.args.tree.now (by_edge c.args.weights.now) c.deref.result.now c.in_ok-worst.worst.items c.in_ok-iteration.iteration.items c.in_ok-parts.parts.left.items c.in_ok-parts.parts.context.items c.in_ok-parts.parts.slacks.items c.in_ok-parts.parts.rests.items
           c.deref-2.result.now c.deref-3.result.now c.requires.tree c.in_ok-plan.ensures.flow is entries found others
@@ -81,6 +81,6 @@ parts_of-requires-clause-solved c =
     let count = entries.size in
     let size = c.in_ok-worst.ensures.size in
     let some : 0 < length c.in_ok-worst.worst.items = omega arith in
-    let first : number_at c.in_ok-worst.worst.items 0 ≡ c.index.result.now = value_at c.in_ok-worst.worst.items 0 c.index.result.now 0 some c.index.ensures in
-    let small : number_at c.in_ok-worst.worst.items 0 ≤ 2 ^ 48 = omega arith in
+    let first : number_in_place c.in_ok-worst.worst.items 0 ≡ c.index.result.now = value_at c.in_ok-worst.worst.items 0 c.index.result.now 0 some c.index.ensures in
+    let small : number_in_place c.in_ok-worst.worst.items 0 ≤ 2 ^ 48 = omega arith in
     has_solved c.args.graph.now c.args.tree.now c.requires.tree.0 (by_edge c.args.weights.now) c.deref.result.now c.in_ok-worst.worst.items c.deref-2.result.now c.in_ok-plan.ensures.flow is entries found (λ f lt. c.in_ok-worst.ensures.each f (omega arith)) small

@@ -1,7 +1,7 @@
 use Rattle.std.proofs.Common.{rules, arith, refl, ◌≡◌, ◌+◌, ◌<◌, length, length-set, slice_set, sym, ◌∙◌, subst, None}
 use Rattle.std.proofs.lemmas.List.{get_or_read}
 use Rattle.call_orders.specs.Arcs.{arc_at}
-use Rattle.call_orders.specs.Search.{AreLasts, IsChain, arc_next}
+use Rattle.call_orders.specs.Search.{AreLasts, AreArcChains, arc_next}
 use Rattle.call_orders.proofs.ChainLaws.{lasts_more, chain_more}
 use Rattle.call_orders.proofs.chains.chains_of.Goals as goal
 
@@ -16,7 +16,7 @@ loop-s-preserved c =
       size = length-set c.loop-s.last.items _ _ ∙ inv.size;
       before = length-set c.loop-s.before.items _ _ ∙ inv.before;
       lasts = lasts_more c.loop-s.s (arc_at c.args.arcs.now c.loop-s.s).from c.args.arcs.now c.loop-s.last.items xl refl inv.lasts;
-      chain = subst (λ o. IsChain (c.loop-s.s + 1) c.args.arcs.now (slice_set c.loop-s.before.items c.loop-s.s o)) (sym read)
+      chain = subst (λ o. AreArcChains (c.loop-s.s + 1) c.args.arcs.now (slice_set c.loop-s.before.items c.loop-s.s o)) (sym read)
           (chain_more c.loop-s.s (arc_at c.args.arcs.now c.loop-s.s).from c.args.arcs.now c.loop-s.last.items c.loop-s.before.items bl refl inv.lasts inv.chain);
     }
 
@@ -28,4 +28,4 @@ returns-clause-lasts c =
 pub returns-clause-chain : goal.returns-clause-chain
 returns-clause-chain c =
     let e : c.loop-s.s ≡ length c.args.arcs.now = omega (arith, c.loop-s.auto.s-end, c.loop-s-test.false) in
-    subst (λ n. IsChain n c.args.arcs.now c.loop-s.before.items) e c.loop-s.invariant.chain
+    subst (λ n. AreArcChains n c.args.arcs.now c.loop-s.before.items) e c.loop-s.invariant.chain

@@ -2,7 +2,7 @@ use Rattle.std.proofs.Common.{◌≤◌, length, sym, subst}
 use Rattle.graph_runs.specs.Text.{text_of, kind_at}
 use Rattle.code_text.proofs.Laws.{addresses_rise}
 use Rattle.code_reach.specs.Reach.{IsReachOf}
-use Rattle.code_reach.specs.Steps.{IsTableOf}
+use Rattle.code_reach.specs.Steps.{IsWordTableOf}
 use Rattle.code_reach.proofs.Laws.{text_table, if_ok-map}
 use Rattle.code_graph.specs.Finding.{IsReachIn, reach_of}
 use Rattle.code_graph.proofs.FewWords.{few_words}
@@ -14,7 +14,7 @@ returns-clause-reach c =
     if_ok-map c.reach_text.result (λ r. IsReachOf (text_of image) (reach_of r)) (λ r. IsReachIn (text_of image) (reach_of r))
     (λ r is. record {
       reach = is;
-      table = subst (λ w. IsTableOf (kind_at (text_of image)) w) (sym is.words) (text_table image.file image c.text-ranges.ensures.image (addresses_rise image.text c.text-ranges.ensures.ascending));
+      table = subst (λ w. IsWordTableOf (kind_at (text_of image)) w) (sym is.words) (text_table image.file image c.text-ranges.ensures.image (addresses_rise image.text c.text-ranges.ensures.ascending));
     })
     c.reach_text.ensures
 

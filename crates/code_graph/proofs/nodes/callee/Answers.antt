@@ -1,7 +1,7 @@
 use Rattle.std.proofs.Common.{length, arith, ap, sym, ◌∙◌, refl}
 use Rattle.std.proofs.lemmas.Option.{slice_get_within, slice_get_read}
 use Rattle.cost_theory.specs.Reached.{callee_of}
-use Rattle.code_reach.specs.Reach.{StandsAt}
+use Rattle.code_reach.specs.Reach.{WordStandsAt}
 use Rattle.code_graph.specs.Finding.{reach_of}
 use Rattle.code_graph.specs.Assembling.{entry_addresses}
 use Rattle.code_graph.proofs.NodeLaws.{callee_read, callee_none}
@@ -9,14 +9,14 @@ use Rattle.code_graph.proofs.nodes.callee.Goals as goal
 
 pub index-requires : goal.index-requires
 index-requires c =
-    let at : StandsAt c.args.reach.now.words c.in-Some.first c.in-CallOf.to = (c.find.ensures c.in-Some.first).0 c.in-Some.is in
+    let at : WordStandsAt c.args.reach.now.words c.in-Some.first c.in-CallOf.to = (c.find.ensures c.in-Some.first).0 c.in-Some.is in
     let lt = slice_get_within c.args.reach.now.words.addresses c.in-Some.first c.in-CallOf.to at in
     let size = c.requires.1.reach.numbers_size in
     omega arith
 
 pub returns-in-Some : goal.returns-in-Some
 returns-in-Some c =
-    let at : StandsAt c.args.reach.now.words c.in-Some.first c.in-CallOf.to = (c.find.ensures c.in-Some.first).0 c.in-Some.is in
+    let at : WordStandsAt c.args.reach.now.words c.in-Some.first c.in-CallOf.to = (c.find.ensures c.in-Some.first).0 c.in-Some.is in
     let lt = slice_get_within c.args.reach.now.words.addresses c.in-Some.first c.in-CallOf.to at in
     let size = c.requires.1.reach.numbers_size in
     callee_read c.requires.0 (reach_of c.args.reach.now) c.requires.1 c.in-CallOf.to c.in-Some.first c.index.result.now at

@@ -1,8 +1,8 @@
 use Rattle.std.proofs.Common.{◌≡◌, ◌↔◌, ℕ, true, length, ap, subst, ◌∙◌, arith}
 use Rattle.graph_runs.specs.Text.{text_of, kind_at}
 use Rattle.flow_passes.specs.Flow.{flag, CanReturnAt}
-use Rattle.code_reach.specs.Steps.{IsWordAt, IsMarked}
-use Rattle.code_reach.specs.Outside.{IsLeast, IsOutsideOf, IsComeTo}
+use Rattle.code_reach.specs.Steps.{IsWordNumber, AreReachMarks}
+use Rattle.code_reach.specs.Outside.{IsLowest, IsOutsideOf, IsComeTo}
 use Rattle.code_reach.proofs.Tables.{few_words, number_within}
 use Rattle.code_reach.proofs.ReachLaws.{reach_is}
 use Rattle.code_reach.proofs.reach.reach_text.Goals as goal
@@ -33,11 +33,11 @@ returns c =
     let entry = c.entry-entry.result in
     let outside = c.lowest_outside-outside.result in
     let flags = subst (λ xs. (s : ℕ) → (flag returning s ≡ true) ↔ CanReturnAt xs s) c.deref.ensures.value c.in_ok-returning.ensures.flags in
-    let start = subst (λ v. IsWordAt words v c.find.result) c.entry-entry.ensures c.find.ensures in
-    let marked = subst (λ xs. IsMarked xs returning c.find.result m.marks.items m.functions.items m.numbers.items) c.deref-2.ensures.value
-    (subst (λ xs. IsMarked c.deref-2.result.now xs c.find.result m.marks.items m.functions.items m.numbers.items) c.deref-3.ensures.value c.in_ok-marked.ensures) in
-    let least = subst (λ v. IsLeast (λ u. IsComeTo words returning m.marks.items v (length words.addresses) u × IsOutsideOf words u) outside) c.entry-entry.ensures
-    (subst (λ xs. IsLeast (λ u. IsComeTo words xs m.marks.items entry (length words.addresses) u × IsOutsideOf words u) outside) c.deref-4.ensures.value
-    (subst (λ xs. IsLeast (λ u. IsComeTo words c.deref-4.result.now xs entry (length words.addresses) u × IsOutsideOf words u) outside) c.deref-5.ensures.value c.lowest_outside-outside.ensures)) in
+    let start = subst (λ v. IsWordNumber words v c.find.result) c.entry-entry.ensures c.find.ensures in
+    let marked = subst (λ xs. AreReachMarks xs returning c.find.result m.marks.items m.functions.items m.numbers.items) c.deref-2.ensures.value
+    (subst (λ xs. AreReachMarks c.deref-2.result.now xs c.find.result m.marks.items m.functions.items m.numbers.items) c.deref-3.ensures.value c.in_ok-marked.ensures) in
+    let least = subst (λ v. IsLowest (λ u. IsComeTo words returning m.marks.items v (length words.addresses) u × IsOutsideOf words u) outside) c.entry-entry.ensures
+    (subst (λ xs. IsLowest (λ u. IsComeTo words xs m.marks.items entry (length words.addresses) u × IsOutsideOf words u) outside) c.deref-4.ensures.value
+    (subst (λ xs. IsLowest (λ u. IsComeTo words c.deref-4.result.now xs entry (length words.addresses) u × IsOutsideOf words u) outside) c.deref-5.ensures.value c.lowest_outside-outside.ensures)) in
     reach_is t words steps returning c.find.result m.marks.items m.functions.items m.numbers.items c.in_ok-words.ensures.table c.in_ok-steps.ensures flags start marked outside
     c.in_ok-words.ensures.words (c.in_ok-returning.ensures.size ∙ ap length c.deref.ensures.value) least

@@ -1,5 +1,5 @@
 use Rattle.std.proofs.Common.{◌≡◌, ℕ, subst, arith, Some}
-use Rattle.flow_passes.specs.Marks.{mark_at, number_of, Covers}
+use Rattle.flow_passes.specs.Marks.{mark_at, function_number, Covers}
 use Rattle.flow_passes.proofs.LinkLaws.{some_same, none_some}
 use Rattle.flow_passes.proofs.MarkLaws.{grows_same}
 use Rattle.flow_passes.proofs.marks.call_some.Goals as goal
@@ -10,7 +10,7 @@ call-requires-clause-reached c = c.requires.reached c.in-Some.h c.in-Some.is c.i
 pub returns-in_ok-call-clause-called : goal.returns-in_ok-call-clause-called
 returns-in_ok-call-clause-called c h at lt =
     let same : c.in-Some.h ≡ h = some_same c.in-Some.h h c.args.word c.in-Some.is at in
-    subst (λ x. Covers (mark_at c.call.new.marking.marks.items x) x × ((i : ℕ) × (number_of c.call.new.marking.numbers.items x ≡ Some i))) same (c.in_ok-call.ensures.covered, c.in_ok-call.ensures.numbered)
+    subst (λ x. Covers (mark_at c.call.new.marking.marks.items x) x × ((i : ℕ) × (function_number c.call.new.marking.numbers.items x ≡ Some i))) same (c.in_ok-call.ensures.covered, c.in_ok-call.ensures.numbered)
 
 pub returns-else-h-steps-clause-called : goal.returns-else-h-steps-clause-called
 returns-else-h-steps-clause-called c h at lt =

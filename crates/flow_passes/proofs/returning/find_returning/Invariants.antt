@@ -1,10 +1,10 @@
 use Rattle.std.proofs.Common.{◌-◌, ◌≤◌, false, length}
-use Rattle.flow_passes.specs.Flow.{IsPass, Waits}
+use Rattle.flow_passes.specs.Flow.{IsReturnPass, Waits}
 use Rattle.flow_passes.proofs.returning.find_returning.Given as goal
 
 abbrev pub invariant-loop-done : goal.invariant-loop-done
 invariant-loop-done l = record {
-  pass : IsPass l.steps l.found.flags.items l.found.queue.items;
+  pass : IsReturnPass l.steps l.found.flags.items l.found.queue.items;
   reached : l.done ≤ length l.found.queue.items;
   waits : Waits l.steps l.found.flags.items l.found.queue.items l.done (λ x. false);
 }

@@ -1,5 +1,5 @@
 use Rattle.std.proofs.Common.{rules, arith, ◌≡◌, ◌<◌, true, false, length, sym, subst, inl, slice_set, ◌++◌, ◌∷◌, []}
-use Rattle.flow_passes.specs.Flow.{flag, reason, IsPass, Waits, but}
+use Rattle.flow_passes.specs.Flow.{flag, reason, IsReturnPass, Waits, but}
 use Rattle.flow_passes.proofs.FlowLaws.{pass_add, waits_add, waits_visit, flag_here}
 use Rattle.flow_passes.proofs.returning.visit.Goals as goal
 
@@ -7,7 +7,7 @@ pub returns-in_ok-push-clause-pass : goal.returns-in_ok-push-clause-pass
 returns-in_ok-push-clause-pass c =
     let none : flag c.args.found.now.flags.items c.args.s ≡ false = search rules in
     let has : reason c.args.steps.now c.args.found.now.flags.items c.args.s ≡ true = search rules in
-    subst (λ q. IsPass c.args.steps.now (slice_set c.args.found.now.flags.items c.args.s true) q) (sym c.in_ok-push.ensures.items)
+    subst (λ q. IsReturnPass c.args.steps.now (slice_set c.args.found.now.flags.items c.args.s true) q) (sym c.in_ok-push.ensures.items)
     (pass_add c.args.steps.now c.args.found.now.flags.items c.args.found.now.queue.items c.args.s c.requires.pass c.requires.within none has)
 
 pub returns-in_ok-push-clause-waits : goal.returns-in_ok-push-clause-waits

@@ -6,7 +6,7 @@ use Rattle.graph_runs.specs.KeptSteps.{source_of}
 use Rattle.scale_base.specs.declared.endings.Kept.TheVariants as kinds
 use Rattle.keep_monitor.specs.declared.headers.Header.{Header}
 use Rattle.keep_monitor.specs.Headers.{AreLoopsOf}
-use Rattle.keep_monitor.specs.Steps.{broken_by, broken_loop, counted_at, AreCounts}
+use Rattle.keep_monitor.specs.Steps.{broken_by, broken_loop, count_after_at, AreCounts}
 use Rattle.keep_monitor.proofs.HeaderLaws.{loops_from_filter}
 use Rattle.loop_file.specs.Kept.{note_at}
 use Rattle.keep_monitor.proofs.CountLaws.{counted_by_loop}
@@ -52,8 +52,8 @@ returns-clause-watched c =
     sym (c.broken_loop-of_loops.ensures ∙ ap (λ (cs : List ℕ). broken_loop c.args.notes.now cs c.source_of-source.result x) c.deref-3.ensures.value ∙ ap (λ (o : Option ℕ). broken_loop c.args.notes.now items o x) source) ∙ both.1 in
     let size : length new ≡ length c.args.notes.now = c.count_step.ensures.size ∙ ap length c.deref_mut.ensures.value ∙ c.requires.counts_fit.size in
     let by_loop = counted_by_loop c.args.notes.now items (source_of x.moved x.pc (reverse c.args.returns.now.items)) x.next group new of
-    (λ j jl. c.count_step.ensures.each j jl ∙ ap (λ (cs : List ℕ). counted_at c.args.notes.now group cs c.source_of-source.result j) c.deref_mut.ensures.value ∙
-    ap (λ (o : Option ℕ). counted_at c.args.notes.now group items o j) source)
+    (λ j jl. c.count_step.ensures.each j jl ∙ ap (λ (cs : List ℕ). count_after_at c.args.notes.now group cs c.source_of-source.result j) c.deref_mut.ensures.value ∙
+    ap (λ (o : Option ℕ). count_after_at c.args.notes.now group items o j) source)
     (λ k out. c.count_step.ensures.others k out ∙ ap (λ (cs : List ℕ). get_or cs k 0) c.deref_mut.ensures.value) in
     let back = take_at new (drop (length new) items) c.args.counts.now.len (c.count_step.ensures.size ∙ c.deref_mut.ensures.len) in
     ap (λ (cs : List ℕ). record { notes = c.args.notes.now; returns = reverse c.move_returns.new.returns.items; counts = cs; kept = kinds.Kept }) back ∙
@@ -77,8 +77,8 @@ returns-clause-fits c =
     sym (c.broken_loop-of_loops.ensures ∙ ap (λ (cs : List ℕ). broken_loop c.args.notes.now cs c.source_of-source.result x) c.deref-3.ensures.value ∙ ap (λ (o : Option ℕ). broken_loop c.args.notes.now items o x) source) ∙ both.1 in
     let size : length new ≡ length c.args.notes.now = c.count_step.ensures.size ∙ ap length c.deref_mut.ensures.value ∙ c.requires.counts_fit.size in
     let by_loop = counted_by_loop c.args.notes.now items (source_of x.moved x.pc (reverse c.args.returns.now.items)) x.next group new of
-    (λ j jl. c.count_step.ensures.each j jl ∙ ap (λ (cs : List ℕ). counted_at c.args.notes.now group cs c.source_of-source.result j) c.deref_mut.ensures.value ∙
-    ap (λ (o : Option ℕ). counted_at c.args.notes.now group items o j) source)
+    (λ j jl. c.count_step.ensures.each j jl ∙ ap (λ (cs : List ℕ). count_after_at c.args.notes.now group cs c.source_of-source.result j) c.deref_mut.ensures.value ∙
+    ap (λ (o : Option ℕ). count_after_at c.args.notes.now group items o j) source)
     (λ k out. c.count_step.ensures.others k out ∙ ap (λ (cs : List ℕ). get_or cs k 0) c.deref_mut.ensures.value) in
     let back = take_at new (drop (length new) items) c.args.counts.now.len (c.count_step.ensures.size ∙ c.deref_mut.ensures.len) in
     record {

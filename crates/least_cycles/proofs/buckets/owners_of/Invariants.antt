@@ -1,5 +1,5 @@
-use Rattle.least_cycles.specs.Tables.{AreOwners}
+use Rattle.least_cycles.specs.Tables.{AreOwnerKeys}
 use Rattle.least_cycles.proofs.buckets.owners_of.Given as goal
 
 abbrev pub invariant-loop-k : goal.invariant-loop-k
-invariant-loop-k l = AreOwners l.graph l.k l.keys.items
+invariant-loop-k l = AreOwnerKeys l.graph l.k l.keys.items

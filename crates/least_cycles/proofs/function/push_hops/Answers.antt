@@ -1,5 +1,5 @@
 use Rattle.std.proofs.Common.{◌≡◌, ◌⊎◌, ◌+◌, ◌<◌, ◌≤◌, ◌++◌, [], ◌∷◌, length, arith, ap, subst}
-use Rattle.call_orders.specs.Arcs.{number_at}
+use Rattle.call_orders.specs.Arcs.{number_in_place}
 use Rattle.code_graph.specs.FlowGraph.{graph}
 use Rattle.natural_loops.specs.Noted.{node_address}
 use Rattle.least_cycles.specs.declared.Hop.{Hop}
@@ -31,12 +31,12 @@ loop-e-preserved c =
     let within = c.edges_of-first.ensures.within in
     let low : c.edges_of-first.result.0 ≤ c.loop-e.e = omega arith in
     let lt : c.loop-e.e < length v.code.edges = omega arith in
-    let from : (graph v).source c.loop-e.e ≡ node_address v (number_at c.args.nodes.now c.args.i) = (c.edges_of-first.ensures.edges c.loop-e.e lt).1 (low, c.loop-e-test.true) in
-    let h : Hop = record { tail = c.args.i; way = c.way_of-way.result; cost = number_at c.args.costs.now c.loop-e.e + c.over-charge.result } in (
+    let from : (graph v).source c.loop-e.e ≡ node_address v (number_in_place c.args.nodes.now c.args.i) = (c.edges_of-first.ensures.edges c.loop-e.e lt).1 (low, c.loop-e-test.true) in
+    let h : Hop = record { tail = c.args.i; way = c.way_of-way.result; cost = number_in_place c.args.costs.now c.loop-e.e + c.over-charge.result } in (
       c.loop-e.invariant.0 ++ c.loop-e.e ∷ [],
       rw c.in_ok-push.ensures.items
           (hops_push v c.args.lasts.now c.args.steps.now price (addresses v c.args.nodes.now) (λ d. IsFromFirst v c.args.nodes.now c.args.i d ⊎ IsFromNext v c.args.nodes.now c.args.i c.loop-e.e d) (λ d. IsFromFirst v c.args.nodes.now c.args.i d ⊎ IsFromNext v c.args.nodes.now c.args.i (c.loop-e.e + 1) d) c.loop-e.invariant.0 c.loop-e.hops.items c.loop-e.e h c.loop-e.invariant.1 lt
-          (hop_of v c.args.lasts.now c.args.steps.now price c.args.nodes.now c.args.i c.loop-e.e c.way_of-way.result (number_at c.args.costs.now c.loop-e.e + c.over-charge.result) c.requires.place from c.way_of-way.ensures (ap (λ x. number_at c.args.costs.now c.loop-e.e + x) c.over-charge.ensures))
+          (hop_of v c.args.lasts.now c.args.steps.now price c.args.nodes.now c.args.i c.loop-e.e c.way_of-way.result (number_in_place c.args.costs.now c.loop-e.e + c.over-charge.result) c.requires.place from c.way_of-way.ensures (ap (λ x. number_in_place c.args.costs.now c.loop-e.e + x) c.over-charge.ensures))
           (λ d dl done. next_step v c.args.nodes.now c.args.i c.loop-e.e d done)),
     )
 

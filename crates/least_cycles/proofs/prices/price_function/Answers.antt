@@ -1,5 +1,5 @@
 use Rattle.std.proofs.Common.{◌≡◌, length, arith, subst}
-use Rattle.call_orders.specs.Arcs.{number_at}
+use Rattle.call_orders.specs.Arcs.{number_in_place}
 use Rattle.least_cycles.specs.Functions.{IsFromFirst}
 use Rattle.least_cycles.specs.Tables.{ArePriced}
 use Rattle.least_cycles.proofs.prices.price_function.Goals as goal
@@ -7,4 +7,4 @@ use Rattle.least_cycles.proofs.prices.price_function.Goals as goal
 pub returns : goal.returns
 returns c =
     let last : c.loop-i.i ≡ length c.args.bucket.now = omega arith in
-    subst (λ i. ArePriced c.args.graph.now (number_at c.args.own.now) c.args.returns.now c.args.exits.now (IsFromFirst c.args.graph.now c.args.bucket.now i) c.loop-i.costs.items c.loop-i.lasts.items) last c.loop-i.invariant
+    subst (λ i. ArePriced c.args.graph.now (number_in_place c.args.own.now) c.args.returns.now c.args.exits.now (IsFromFirst c.args.graph.now c.args.bucket.now i) c.loop-i.costs.items c.loop-i.lasts.items) last c.loop-i.invariant

@@ -1,10 +1,10 @@
 use Rattle.std.proofs.Common.{◌≡◌, ℕ, ◌<◌, Some, length}
-use Rattle.call_orders.specs.Arcs.{number_at}
+use Rattle.call_orders.specs.Arcs.{number_in_place}
 use Rattle.code_graph.specs.FlowGraph.{graph}
 use Rattle.least_cycles.proofs.tests.weights_of.Given as goal
 
 abbrev pub invariant-loop-e : goal.invariant-loop-e
 invariant-loop-e l = record {
   size : length l.weights.items ≡ l.e;
-  one : (d f : ℕ) → d < l.e → (graph l.graph).callee d ≡ Some f → number_at l.weights.items d ≡ 1;
+  one : (d f : ℕ) → d < l.e → (graph l.graph).callee d ≡ Some f → number_in_place l.weights.items d ≡ 1;
 }

@@ -1,6 +1,6 @@
 use Rattle.std.proofs.Common.{◌≡◌, ◌+◌, ◌-◌, ◌<◌, ℕ, List, length, slice_set, sym, ◌∙◌, subst, arith}
 use Rattle.std.proofs.lemmas.Option.{slice_get-get_or}
-use Rattle.call_orders.specs.Arcs.{number_at}
+use Rattle.call_orders.specs.Arcs.{number_in_place}
 use Rattle.cost_theory.specs.Lists.{body_of}
 use Rattle.natural_loops.specs.Found.{IsAscending}
 use Rattle.least_cycles.proofs.TurnLaws.{IsReversedTo, reversed_first, reversed_more, body_is, body_few}
@@ -18,7 +18,7 @@ index_mut-requires c =
     let spots = c.loop-i.invariant.spots_size in
     let ok = c.loop-i.spots.ok.0 in
     let low : c.loop-i.i - 1 < length c.body-body.result.now = omega arith in
-    let within = ascends.within (c.loop-i.i - 1) (number_at c.body-body.result.now (c.loop-i.i - 1)) (slice_get-get_or c.body-body.result.now (c.loop-i.i - 1) 0 low) in
+    let within = ascends.within (c.loop-i.i - 1) (number_in_place c.body-body.result.now (c.loop-i.i - 1)) (slice_get-get_or c.body-body.result.now (c.loop-i.i - 1) 0 low) in
     omega arith
 
 pub loop-i-preserved : goal.loop-i-preserved
@@ -26,7 +26,7 @@ loop-i-preserved c =
     let ascends : IsAscending (length c.args.graph.now.code.nodes) c.body-body.result.now = subst (IsAscending (length c.args.graph.now.code.nodes)) (sym c.body-body.ensures) (c.requires.tree.1.body c.args.l c.requires.loop_number) in
     let up : c.loop-i.i ≡ c.loop-i.i - 1 + 1 = omega arith in
     let is_n : c.len.result ≡ length c.loop-i.nodes.items = c.len.ensures ∙ c.loop-i.nodes.ok.0 in
-    subst (λ (nodes : List ℕ). IsReversedTo c.body-body.result.now (c.loop-i.i - 1) nodes (slice_set c.loop-i.spots.items (number_at c.body-body.result.now (c.loop-i.i - 1)) c.len.result) (length c.args.graph.now.code.nodes)) (sym c.in_ok-push.ensures.items)
+    subst (λ (nodes : List ℕ). IsReversedTo c.body-body.result.now (c.loop-i.i - 1) nodes (slice_set c.loop-i.spots.items (number_in_place c.body-body.result.now (c.loop-i.i - 1)) c.len.result) (length c.args.graph.now.code.nodes)) (sym c.in_ok-push.ensures.items)
     (reversed_more c.body-body.result.now (c.loop-i.i - 1) c.len.result c.loop-i.nodes.items c.loop-i.spots.items (length c.args.graph.now.code.nodes) ascends is_n
     (subst (λ i. IsReversedTo c.body-body.result.now i c.loop-i.nodes.items c.loop-i.spots.items (length c.args.graph.now.code.nodes)) up c.loop-i.invariant))
 

@@ -3,7 +3,7 @@ use Rattle.code_graph.proofs.Laws.{few_once}
 use Rattle.key_chains.specs.Keys.{IsLastBelow}
 use Rattle.loop_bodies.proofs.Laws.{place, place_less}
 use Rattle.least_laws.specs.Charged.{Charged}
-use Rattle.least_cycles.specs.Charging.{IsCharging, ArePricedAt, IsKnown, AreChargedTo, IsHeaderFrom, loop_owner}
+use Rattle.least_cycles.specs.Charging.{IsCharging, ArePricedAt, IsChargeKnown, AreChargedTo, IsHeaderFrom, loop_owner}
 use Rattle.least_cycles.proofs.ChargeLaws.{charges_low}
 use Rattle.least_cycles.proofs.LoopLaws.{place_below, number_low, loop_none, loop_is, inner_done, charged_more, charged_all}
 use Rattle.least_cycles.proofs.walks.charge_loops.Goals as goal
@@ -123,7 +123,7 @@ loop-next-preserved c =
     let inv0 = c.loop-next.invariant.charged t0.0 t0.1 t0.2 in
     let at0 = inv0.2.place c.in-Some.i c.in-Some.is in
     let loop = loop_is v tree k0.0 k0.1 k0.2 c.args.plan.now.heads.items t0.0 c.args.f plan.heads t0.1 c.plain_order-order.result.now c.plain_order-order.ensures plan.heads_size c.in-Some.i at0.1 c.index.result.now c.in-Some-index.l c.index.ensures c.in-Some-index.is in
-    let known0 : IsKnown v tree k0.0 k0.1 c.in-Some-index.l c.args.costs.now c.args.lasts.now c.loop-next.charges.found.items = record {
+    let known0 : IsChargeKnown v tree k0.0 k0.1 c.in-Some-index.l c.args.costs.now c.args.lasts.now c.loop-next.charges.found.items = record {
       charging = k0.2;
       priced = subst (λ f. ArePricedAt v k0.0 k0.1 f c.args.costs.now c.args.lasts.now) (sym loop.2) k0.3;
       inner = inner_done v tree k0.0 k0.1 k0.2 c.args.plan.now.heads.items t0.0 c.args.f plan.heads t0.1 inv0.0 c.in-Some.i c.in-Some-index.l c.loop-next.next c.loop-next.charges.found.items inv0.2 c.in-Some.is loop.0 loop.2 loop.1 (inv0.3 k0.0 k0.1 k0.2 k0.3);
@@ -140,7 +140,7 @@ loop-next-preserved c =
             (let q : c.in-Some.i ≤ length tree.order = omega arith in q),
             subst (λ (o : Option ℕ). IsLastBelow keys c.in-Some.i c.args.f o) (sym c.before-next.ensures) (chains.before c.in-Some.i c.args.f at.1),
             λ w n is priced.
-                let known : IsKnown v tree w n c.in-Some-index.l c.args.costs.now c.args.lasts.now c.loop-next.charges.found.items = record {
+                let known : IsChargeKnown v tree w n c.in-Some-index.l c.args.costs.now c.args.lasts.now c.loop-next.charges.found.items = record {
                   charging = is;
                   priced = subst (λ f. ArePricedAt v w n f c.args.costs.now c.args.lasts.now) (sym loop.2) priced;
                   inner = inner_done v tree w n is c.args.plan.now.heads.items keys c.args.f plan.heads are inv.0 c.in-Some.i c.in-Some-index.l c.loop-next.next c.loop-next.charges.found.items inv.2 c.in-Some.is loop.0 loop.2 loop.1 (inv.3 w n is priced);

@@ -1,8 +1,8 @@
 use Rattle.std.proofs.Common.{◌≡◌, ℕ, ◌+◌, ◌<◌, Bool, List, Option, Some, length, slice_get, ap, sym, ◌∙◌, subst, arith}
 use Rattle.std.proofs.lemmas.Option.{slice_get-get_or}
-use Rattle.call_orders.specs.Arcs.{number_at}
+use Rattle.call_orders.specs.Arcs.{number_in_place}
 use Rattle.least_cycles.specs.Functions.{IsBucket, AreKinds, IsFromFirst, AreLeastRuns}
-use Rattle.least_cycles.specs.Tables.{AreTables, ArePriced, AreWritten, IsBefore}
+use Rattle.least_cycles.specs.Tables.{AreSmallTables, ArePriced, AreWritten, IsBefore}
 use Rattle.least_cycles.specs.Charging.{own_by, cost_with, ArePricedAt, AreChargedTo, loop_owner}
 use Rattle.least_cycles.proofs.FunctionLaws.{bucket_kinds, least_walks}
 use Rattle.least_cycles.proofs.WalkLaws.{walks_more, not_before, next_before, callees_before, tables_small, from_first}
@@ -15,39 +15,39 @@ pub price_function-requires-clause-tables : goal.price_function-requires-clause-
 price_function-requires-clause-tables c =
     let v = c.args.graph.now in
     let k = c.requires.charging in
-    let tables = tables_small v (own_by v c.args.tree.now (number_at c.args.plan.now.own.items) k.0) k.1.limit (IsBefore v c.args.i) c.args.walks.now.returns.items c.args.walks.now.exits.items k.1.limits (c.requires.walks k.0 k.1) in
-    subst (λ (r : List (Option ℕ)). AreTables v r c.deref-3.result.now) (sym c.deref-2.ensures.value)
-    (subst (λ (x : List (Option ℕ)). AreTables v c.args.walks.now.returns.items x) (sym c.deref-3.ensures.value) tables)
+    let tables = tables_small v (own_by v c.args.tree.now (number_in_place c.args.plan.now.own.items) k.0) k.1.limit (IsBefore v c.args.i) c.args.walks.now.returns.items c.args.walks.now.exits.items k.1.limits (c.requires.walks k.0 k.1) in
+    subst (λ (r : List (Option ℕ)). AreSmallTables v r c.deref-3.result.now) (sym c.deref-2.ensures.value)
+    (subst (λ (x : List (Option ℕ)). AreSmallTables v c.args.walks.now.returns.items x) (sym c.deref-3.ensures.value) tables)
 
 pub charge_loops-requires-clause-function : goal.charge_loops-requires-clause-function
 charge_loops-requires-clause-function c =
     let v = c.args.graph.now in
-    subst (λ (order : List ℕ). number_at order c.args.i < length v.code.functions) (sym c.call_order.ensures)
-    (c.requires.flow.order.within c.args.i (number_at v.order c.args.i) (slice_get-get_or v.order c.args.i 0 c.requires.place))
+    subst (λ (order : List ℕ). number_in_place order c.args.i < length v.code.functions) (sym c.call_order.ensures)
+    (c.requires.flow.order.within c.args.i (number_in_place v.order c.args.i) (slice_get-get_or v.order c.args.i 0 c.requires.place))
 
 pub charge_loops-requires-clause-known : goal.charge_loops-requires-clause-known
 charge_loops-requires-clause-known c =
     let v = c.args.graph.now in
-    let w = number_at c.args.plan.now.own.items in
+    let w = number_in_place c.args.plan.now.own.items in
     let k = c.requires.charging in
-    let f = number_at v.order c.args.i in
+    let f = number_in_place v.order c.args.i in
     let at : slice_get v.order c.args.i ≡ Some f = slice_get-get_or v.order c.args.i 0 c.requires.place in
     let bucket = c.in_ok-bucket.bucket.items in
     let old_r = c.args.walks.now.returns.items in
     let old_x = c.args.walks.now.exits.items in
-    let is : IsBucket v f bucket = subst (λ (order : List ℕ). IsBucket v (number_at order c.args.i) bucket) c.call_order.ensures c.in_ok-bucket.ensures.bucket in
+    let is : IsBucket v f bucket = subst (λ (order : List ℕ). IsBucket v (number_in_place order c.args.i) bucket) c.call_order.ensures c.in_ok-bucket.ensures.bucket in
     let costs = c.price_function.new.costs.items in
     let lasts = c.price_function.new.lasts.items in
     let priced : ArePriced v w old_r old_x (IsFromFirst v bucket (length bucket)) costs lasts =
-    subst (λ (own : List ℕ). ArePriced v (number_at own) old_r old_x (IsFromFirst v bucket (length bucket)) costs lasts) c.deref.ensures.value
-    (subst (λ (b : List ℕ). ArePriced v (number_at c.deref.result.now) old_r old_x (IsFromFirst v b (length b)) costs lasts) c.deref-4.ensures.value
-    (subst (λ (x : List (Option ℕ)). ArePriced v (number_at c.deref.result.now) old_r x (IsFromFirst v c.deref-4.result.now (length c.deref-4.result.now)) costs lasts) c.deref-3.ensures.value
-    (subst (λ (r : List (Option ℕ)). ArePriced v (number_at c.deref.result.now) r c.deref-3.result.now (IsFromFirst v c.deref-4.result.now (length c.deref-4.result.now)) costs lasts) c.deref-2.ensures.value c.price_function.ensures))) in
+    subst (λ (own : List ℕ). ArePriced v (number_in_place own) old_r old_x (IsFromFirst v bucket (length bucket)) costs lasts) c.deref.ensures.value
+    (subst (λ (b : List ℕ). ArePriced v (number_in_place c.deref.result.now) old_r old_x (IsFromFirst v b (length b)) costs lasts) c.deref-4.ensures.value
+    (subst (λ (x : List (Option ℕ)). ArePriced v (number_in_place c.deref.result.now) old_r x (IsFromFirst v c.deref-4.result.now (length c.deref-4.result.now)) costs lasts) c.deref-3.ensures.value
+    (subst (λ (r : List (Option ℕ)). ArePriced v (number_in_place c.deref.result.now) r c.deref-3.result.now (IsFromFirst v c.deref-4.result.now (length c.deref-4.result.now)) costs lasts) c.deref-2.ensures.value c.price_function.ensures))) in
     let found : ArePricedAt v w k.0 f costs lasts = priced_at v c.args.tree.now w k.0 c.args.i f bucket old_r old_x costs lasts k.1 (c.requires.walks k.0 k.1) at is priced in (
       w,
       k.0,
       k.1,
-      subst (λ (order : List ℕ). ArePricedAt v w k.0 (number_at order c.args.i) c.deref-5.result.now c.deref-6.result.now) (sym c.call_order.ensures)
+      subst (λ (order : List ℕ). ArePricedAt v w k.0 (number_in_place order c.args.i) c.deref-5.result.now c.deref-6.result.now) (sym c.call_order.ensures)
           (subst (λ (x : List ℕ). ArePricedAt v w k.0 f x c.deref-6.result.now) (sym c.deref-5.ensures.value)
           (subst (λ (x : List Bool). ArePricedAt v w k.0 f costs x) (sym c.deref-6.ensures.value) found)),
     )
@@ -59,7 +59,7 @@ least_in-requires-clause-kinds c =
     subst (λ (b : List ℕ). AreKinds v b c.deref-9.result.now c.deref-10.result.now) (sym c.deref-7.ensures.value)
     (subst (λ (x : List Bool). AreKinds v c.in_ok-bucket.bucket.items x c.deref-10.result.now) (sym c.deref-9.ensures.value)
     (subst (λ (x : List Bool). AreKinds v c.in_ok-bucket.bucket.items c.args.plan.now.returning.items x) (sym c.deref-10.ensures.value)
-    (bucket_kinds v (number_at c.call_order.result.now c.args.i) c.in_ok-bucket.bucket.items c.args.plan.now.returning.items c.args.plan.now.leading.items c.requires.flow c.in_ok-bucket.ensures.bucket plan.leading plan.returning.size
+    (bucket_kinds v (number_in_place c.call_order.result.now c.args.i) c.in_ok-bucket.bucket.items c.args.plan.now.returning.items c.args.plan.now.leading.items c.requires.flow c.in_ok-bucket.ensures.bucket plan.leading plan.returning.size
     (λ e el marked. (c.requires.flow.program.return_end e el ((plan.returning.each e el).0 marked)).0))))
 
 pub least_in-requires-clause-charges : goal.least_in-requires-clause-charges
@@ -72,7 +72,7 @@ least_in-requires-2-clause-kinds c =
     subst (λ (b : List ℕ). AreKinds v b c.deref-14.result.now c.deref-15.result.now) (sym c.deref-12.ensures.value)
     (subst (λ (x : List Bool). AreKinds v c.in_ok-bucket.bucket.items x c.deref-15.result.now) (sym c.deref-14.ensures.value)
     (subst (λ (x : List Bool). AreKinds v c.in_ok-bucket.bucket.items c.price_function.new.lasts.items x) (sym c.deref-15.ensures.value)
-    (bucket_kinds v (number_at c.call_order.result.now c.args.i) c.in_ok-bucket.bucket.items c.price_function.new.lasts.items c.args.plan.now.leading.items c.requires.flow c.in_ok-bucket.ensures.bucket plan.leading c.price_function.ensures.lasts_size c.price_function.ensures.ends)))
+    (bucket_kinds v (number_in_place c.call_order.result.now c.args.i) c.in_ok-bucket.bucket.items c.price_function.new.lasts.items c.args.plan.now.leading.items c.requires.flow c.in_ok-bucket.ensures.bucket plan.leading c.price_function.ensures.lasts_size c.price_function.ensures.ends)))
 
 pub least_in-requires-2-clause-charges : goal.least_in-requires-2-clause-charges
 least_in-requires-2-clause-charges c = small_charges c.args.graph.now c.args.tree.now c.charge_loops.new.charges c.in_ok-charge_loops.ensures.charges
@@ -82,73 +82,73 @@ write_back-requires-clause-within c =
     let v = c.args.graph.now in
     let k = c.requires.charging in
     let size = (c.requires.walks k.0 k.1).returns_size in
-    subst (λ (b : List ℕ). (j : ℕ) → j < length b → number_at b j < length c.args.walks.now.returns.items) (sym c.deref-17.ensures.value)
-    (λ j jl. let low = c.in_ok-bucket.ensures.bucket.within j jl in let r : number_at c.in_ok-bucket.bucket.items j < length c.args.walks.now.returns.items = omega arith in r)
+    subst (λ (b : List ℕ). (j : ℕ) → j < length b → number_in_place b j < length c.args.walks.now.returns.items) (sym c.deref-17.ensures.value)
+    (λ j jl. let low = c.in_ok-bucket.ensures.bucket.within j jl in let r : number_in_place c.in_ok-bucket.bucket.items j < length c.args.walks.now.returns.items = omega arith in r)
 
 pub write_back-requires-2-clause-within : goal.write_back-requires-2-clause-within
 write_back-requires-2-clause-within c =
     let v = c.args.graph.now in
     let k = c.requires.charging in
     let size = (c.requires.walks k.0 k.1).exits_size in
-    subst (λ (b : List ℕ). (j : ℕ) → j < length b → number_at b j < length c.args.walks.now.exits.items) (sym c.deref-19.ensures.value)
-    (λ j jl. let low = c.in_ok-bucket.ensures.bucket.within j jl in let r : number_at c.in_ok-bucket.bucket.items j < length c.args.walks.now.exits.items = omega arith in r)
+    subst (λ (b : List ℕ). (j : ℕ) → j < length b → number_in_place b j < length c.args.walks.now.exits.items) (sym c.deref-19.ensures.value)
+    (λ j jl. let low = c.in_ok-bucket.ensures.bucket.within j jl in let r : number_in_place c.in_ok-bucket.bucket.items j < length c.args.walks.now.exits.items = omega arith in r)
 
 pub returns-clause-charged : goal.returns-clause-charged
 returns-clause-charged c = λ n charging.
     let v = c.args.graph.now in
     let t = c.args.tree.now in
-    let w = number_at c.args.plan.now.own.items in
-    let f = number_at v.order c.args.i in
+    let w = number_in_place c.args.plan.now.own.items in
+    let f = number_in_place v.order c.args.i in
     let at : slice_get v.order c.args.i ≡ Some f = slice_get-get_or v.order c.args.i 0 c.requires.place in
     let bucket = c.in_ok-bucket.bucket.items in
     let old_r = c.args.walks.now.returns.items in
     let old_x = c.args.walks.now.exits.items in
-    let is : IsBucket v f bucket = subst (λ (order : List ℕ). IsBucket v (number_at order c.args.i) bucket) c.call_order.ensures c.in_ok-bucket.ensures.bucket in
+    let is : IsBucket v f bucket = subst (λ (order : List ℕ). IsBucket v (number_in_place order c.args.i) bucket) c.call_order.ensures c.in_ok-bucket.ensures.bucket in
     let costs = c.price_function.new.costs.items in
     let lasts = c.price_function.new.lasts.items in
     let charges = c.charge_loops.new.charges in
     let are = c.requires.walks n charging in
     let priced : ArePriced v w old_r old_x (IsFromFirst v bucket (length bucket)) costs lasts =
-    subst (λ (own : List ℕ). ArePriced v (number_at own) old_r old_x (IsFromFirst v bucket (length bucket)) costs lasts) c.deref.ensures.value
-    (subst (λ (b : List ℕ). ArePriced v (number_at c.deref.result.now) old_r old_x (IsFromFirst v b (length b)) costs lasts) c.deref-4.ensures.value
-    (subst (λ (x : List (Option ℕ)). ArePriced v (number_at c.deref.result.now) old_r x (IsFromFirst v c.deref-4.result.now (length c.deref-4.result.now)) costs lasts) c.deref-3.ensures.value
-    (subst (λ (r : List (Option ℕ)). ArePriced v (number_at c.deref.result.now) r c.deref-3.result.now (IsFromFirst v c.deref-4.result.now (length c.deref-4.result.now)) costs lasts) c.deref-2.ensures.value c.price_function.ensures))) in
+    subst (λ (own : List ℕ). ArePriced v (number_in_place own) old_r old_x (IsFromFirst v bucket (length bucket)) costs lasts) c.deref.ensures.value
+    (subst (λ (b : List ℕ). ArePriced v (number_in_place c.deref.result.now) old_r old_x (IsFromFirst v b (length b)) costs lasts) c.deref-4.ensures.value
+    (subst (λ (x : List (Option ℕ)). ArePriced v (number_in_place c.deref.result.now) old_r x (IsFromFirst v c.deref-4.result.now (length c.deref-4.result.now)) costs lasts) c.deref-3.ensures.value
+    (subst (λ (r : List (Option ℕ)). ArePriced v (number_in_place c.deref.result.now) r c.deref-3.result.now (IsFromFirst v c.deref-4.result.now (length c.deref-4.result.now)) costs lasts) c.deref-2.ensures.value c.price_function.ensures))) in
     let found : ArePricedAt v w n f costs lasts = priced_at v t w n c.args.i f bucket old_r old_x costs lasts charging are at is priced in
     let paid : AreChargedTo v t n (λ k. loop_owner v t k ≡ f) charges.found.items =
-    subst (λ (order : List ℕ). AreChargedTo v t n (λ k. loop_owner v t k ≡ number_at order c.args.i) charges.found.items) c.call_order.ensures
+    subst (λ (order : List ℕ). AreChargedTo v t n (λ k. loop_owner v t k ≡ number_in_place order c.args.i) charges.found.items) c.call_order.ensures
     (c.in_ok-charge_loops.ensures.charged w n charging
-    (subst (λ (order : List ℕ). ArePricedAt v w n (number_at order c.args.i) c.deref-5.result.now c.deref-6.result.now) (sym c.call_order.ensures)
+    (subst (λ (order : List ℕ). ArePricedAt v w n (number_in_place order c.args.i) c.deref-5.result.now c.deref-6.result.now) (sym c.call_order.ensures)
     (subst (λ (x : List ℕ). ArePricedAt v w n f x c.deref-6.result.now) (sym c.deref-5.ensures.value)
     (subst (λ (x : List Bool). ArePricedAt v w n f costs x) (sym c.deref-6.ensures.value) found)))) in
     charged_next v t w n charging f c.args.i c.args.charges.now.found.items charges.found.items at (c.requires.charged n charging) paid
-    (λ k kl other. c.in_ok-charge_loops.ensures.others k kl (λ same. other (same ∙ ap (λ (order : List ℕ). number_at order c.args.i) c.call_order.ensures)))
+    (λ k kl other. c.in_ok-charge_loops.ensures.others k kl (λ same. other (same ∙ ap (λ (order : List ℕ). number_in_place order c.args.i) c.call_order.ensures)))
 
 pub returns-clause-walks : goal.returns-clause-walks
 returns-clause-walks c = λ n charging.
     let v = c.args.graph.now in
     let t = c.args.tree.now in
-    let w = number_at c.args.plan.now.own.items in
-    let f = number_at v.order c.args.i in
+    let w = number_in_place c.args.plan.now.own.items in
+    let f = number_in_place v.order c.args.i in
     let at : slice_get v.order c.args.i ≡ Some f = slice_get-get_or v.order c.args.i 0 c.requires.place in
     let bucket = c.in_ok-bucket.bucket.items in
     let old_r = c.args.walks.now.returns.items in
     let old_x = c.args.walks.now.exits.items in
-    let is : IsBucket v f bucket = subst (λ (order : List ℕ). IsBucket v (number_at order c.args.i) bucket) c.call_order.ensures c.in_ok-bucket.ensures.bucket in
+    let is : IsBucket v f bucket = subst (λ (order : List ℕ). IsBucket v (number_in_place order c.args.i) bucket) c.call_order.ensures c.in_ok-bucket.ensures.bucket in
     let costs = c.price_function.new.costs.items in
     let lasts = c.price_function.new.lasts.items in
     let charges = c.charge_loops.new.charges in
     let price = cost_with costs charges in
     let are = c.requires.walks n charging in
     let priced : ArePriced v w old_r old_x (IsFromFirst v bucket (length bucket)) costs lasts =
-    subst (λ (own : List ℕ). ArePriced v (number_at own) old_r old_x (IsFromFirst v bucket (length bucket)) costs lasts) c.deref.ensures.value
-    (subst (λ (b : List ℕ). ArePriced v (number_at c.deref.result.now) old_r old_x (IsFromFirst v b (length b)) costs lasts) c.deref-4.ensures.value
-    (subst (λ (x : List (Option ℕ)). ArePriced v (number_at c.deref.result.now) old_r x (IsFromFirst v c.deref-4.result.now (length c.deref-4.result.now)) costs lasts) c.deref-3.ensures.value
-    (subst (λ (r : List (Option ℕ)). ArePriced v (number_at c.deref.result.now) r c.deref-3.result.now (IsFromFirst v c.deref-4.result.now (length c.deref-4.result.now)) costs lasts) c.deref-2.ensures.value c.price_function.ensures))) in
+    subst (λ (own : List ℕ). ArePriced v (number_in_place own) old_r old_x (IsFromFirst v bucket (length bucket)) costs lasts) c.deref.ensures.value
+    (subst (λ (b : List ℕ). ArePriced v (number_in_place c.deref.result.now) old_r old_x (IsFromFirst v b (length b)) costs lasts) c.deref-4.ensures.value
+    (subst (λ (x : List (Option ℕ)). ArePriced v (number_in_place c.deref.result.now) old_r x (IsFromFirst v c.deref-4.result.now (length c.deref-4.result.now)) costs lasts) c.deref-3.ensures.value
+    (subst (λ (r : List (Option ℕ)). ArePriced v (number_in_place c.deref.result.now) r c.deref-3.result.now (IsFromFirst v c.deref-4.result.now (length c.deref-4.result.now)) costs lasts) c.deref-2.ensures.value c.price_function.ensures))) in
     let found : ArePricedAt v w n f costs lasts = priced_at v t w n c.args.i f bucket old_r old_x costs lasts charging are at is priced in
     let paid : AreChargedTo v t n (λ k. loop_owner v t k ≡ f) charges.found.items =
-    subst (λ (order : List ℕ). AreChargedTo v t n (λ k. loop_owner v t k ≡ number_at order c.args.i) charges.found.items) c.call_order.ensures
+    subst (λ (order : List ℕ). AreChargedTo v t n (λ k. loop_owner v t k ≡ number_in_place order c.args.i) charges.found.items) c.call_order.ensures
     (c.in_ok-charge_loops.ensures.charged w n charging
-    (subst (λ (order : List ℕ). ArePricedAt v w n (number_at order c.args.i) c.deref-5.result.now c.deref-6.result.now) (sym c.call_order.ensures)
+    (subst (λ (order : List ℕ). ArePricedAt v w n (number_in_place order c.args.i) c.deref-5.result.now c.deref-6.result.now) (sym c.call_order.ensures)
     (subst (λ (x : List ℕ). ArePricedAt v w n f x c.deref-6.result.now) (sym c.deref-5.ensures.value)
     (subst (λ (x : List Bool). ArePricedAt v w n f costs x) (sym c.deref-6.ensures.value) found)))) in
     let found_r = c.in_ok-returns.returns.items in

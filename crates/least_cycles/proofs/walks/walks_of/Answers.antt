@@ -1,6 +1,6 @@
 use Rattle.std.proofs.Common.{rules, ◌≡◌, None, replicate, length, ap, ◌∙◌, subst, arith}
 use Rattle.std.proofs.lemmas.List.{length-replicate}
-use Rattle.call_orders.specs.Arcs.{number_at}
+use Rattle.call_orders.specs.Arcs.{number_in_place}
 use Rattle.least_cycles.specs.Tables.{IsBefore, AreWalksOf}
 use Rattle.least_cycles.specs.Charging.{own_by, AreChargedTo, loop_owner}
 use Rattle.least_cycles.proofs.WalkLaws.{walks_first, walks_whole, none_before, zero_low}
@@ -21,7 +21,7 @@ loop-i-init c =
         low = λ l. zero_low c.in_ok-vec.field-0.items c.loop_count.result zeros l;
       };
       charged = λ n is k kl done. none_before v (loop_owner v c.args.tree.now k) done;
-      walks = λ n is. walks_first v (own_by v c.args.tree.now (number_at c.args.plan.now.own.items) n) is.limit c.node_count-nodes.result c.in_ok-vec-2.field-0.items c.in_ok-vec-3.field-0.items c.node_count-nodes.ensures.count none_r none_x;
+      walks = λ n is. walks_first v (own_by v c.args.tree.now (number_in_place c.args.plan.now.own.items) n) is.limit c.node_count-nodes.result c.in_ok-vec-2.field-0.items c.in_ok-vec-3.field-0.items c.node_count-nodes.ensures.count none_r none_x;
     }
 
 pub returns-clause-walks : goal.returns-clause-walks
@@ -29,13 +29,13 @@ returns-clause-walks c = λ n is.
     let v = c.args.graph.now in
     let size : length c.call_order-i-end.result.now ≡ length v.order = ap length c.call_order-i-end.ensures in
     let last : c.loop-i.i ≡ length v.order = omega arith in
-    walks_whole v (own_by v c.args.tree.now (number_at c.args.plan.now.own.items) n) is.limit c.loop-i.walks.returns.items c.loop-i.walks.exits.items is.flow
-    (subst (λ i. AreWalksOf v (own_by v c.args.tree.now (number_at c.args.plan.now.own.items) n) is.limit (IsBefore v i) c.loop-i.walks.returns.items c.loop-i.walks.exits.items) last (c.loop-i.invariant.walks n is))
+    walks_whole v (own_by v c.args.tree.now (number_in_place c.args.plan.now.own.items) n) is.limit c.loop-i.walks.returns.items c.loop-i.walks.exits.items is.flow
+    (subst (λ i. AreWalksOf v (own_by v c.args.tree.now (number_in_place c.args.plan.now.own.items) n) is.limit (IsBefore v i) c.loop-i.walks.returns.items c.loop-i.walks.exits.items) last (c.loop-i.invariant.walks n is))
 
 pub returns-clause-charged : goal.returns-clause-charged
 returns-clause-charged c = λ n is.
     let v = c.args.graph.now in
     let size : length c.call_order-i-end.result.now ≡ length v.order = ap length c.call_order-i-end.ensures in
     let last : c.loop-i.i ≡ length v.order = omega arith in
-    charged_whole v c.args.tree.now (number_at c.args.plan.now.own.items) n is c.loop-i.charges.found.items
+    charged_whole v c.args.tree.now (number_in_place c.args.plan.now.own.items) n is c.loop-i.charges.found.items
     (subst (λ i. AreChargedTo v c.args.tree.now n (λ k. IsBefore v i (loop_owner v c.args.tree.now k)) c.loop-i.charges.found.items) last (c.loop-i.invariant.charged n is))

@@ -1,6 +1,6 @@
 use Rattle.std.proofs.Common.{◌≡◌, ℕ, ◌<◌, true, length, Some}
 use Rattle.key_chains.specs.Keys.{HasKey}
-use Rattle.loop_bodies.specs.Bodies.{in_extent}
+use Rattle.loop_bodies.specs.Bodies.{in_node_ranges}
 use Rattle.loop_bodies.proofs.EdgeLaws.{place}
 use Rattle.loop_bodies.proofs.EntryLaws.{IsPassedBy}
 use Rattle.loop_bodies.proofs.entries.has_back_edge.Given as goal
@@ -8,7 +8,7 @@ use Rattle.loop_bodies.proofs.entries.has_back_edge.Given as goal
 abbrev pub invariant-loop-next : goal.invariant-loop-next
 invariant-loop-next l = record {
   edge : (e : ℕ) → l.next ≡ Some e → (e < length l.edges.targets) × HasKey l.edges.targets e l.header;
-  passed : IsPassedBy l.edges.sources l.edges.targets l.header (λ v. in_extent l.extent v ≡ true → ⊥) l.next;
+  passed : IsPassedBy l.edges.sources l.edges.targets l.header (λ v. in_node_ranges l.extent v ≡ true → ⊥) l.next;
 }
 
 abbrev pub decreases-loop-next : goal.decreases-loop-next

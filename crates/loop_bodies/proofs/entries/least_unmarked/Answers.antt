@@ -1,5 +1,5 @@
 use Rattle.std.proofs.Common.{rules, arith, ◌≡◌, ◌<◌, true, false, sym, subst}
-use Rattle.loop_bodies.specs.Search.{flag}
+use Rattle.loop_bodies.specs.Search.{is_marked_at}
 use Rattle.loop_bodies.proofs.EdgeLaws.{place, place_less}
 use Rattle.loop_bodies.proofs.EntryLaws.{IsPassedBy, IsOver, by_next, by_end, edge_of, IsTurn, turn_taken, turn_passed, least_end}
 use Rattle.loop_bodies.proofs.entries.least_unmarked.Goals as goal
@@ -30,11 +30,11 @@ loop-next-preserved c =
     let turn : IsTurn c.args.edges.now.sources c.args.edges.now.targets c.args.found.now c.args.node c.source-source.result c.loop-next.least c.if-not-found-source.least =
     elim c.if-not-found-source.branch [
       | then-not-found-source w ↦
-          (let free : flag c.args.found.now c.source-source.result ≡ false = search rules in
+          (let free : is_marked_at c.args.found.now c.source-source.result ≡ false = search rules in
           turn_taken sources targets found node source c.loop-next.least c.if-not-found-source.least w.lesser.result w.least-is free
           (edge_of sources targets node c.in-Some.edge source key c.source-source.ensures.source) w.lesser.ensures c.loop-next.invariant.source)
       | else-not-found-source w ↦
-          (let marked : flag c.args.found.now c.source-source.result ≡ true = search rules in
+          (let marked : is_marked_at c.args.found.now c.source-source.result ≡ true = search rules in
           turn_passed sources targets found node source c.loop-next.least c.if-not-found-source.least w.least-is marked c.loop-next.invariant.source)
     ] in
     record {

@@ -1,6 +1,6 @@
 use Rattle.std.proofs.Common.{take}
-use Rattle.loop_bodies.specs.Search.{AreMarked}
+use Rattle.loop_bodies.specs.Search.{IsMarkedBody}
 use Rattle.loop_bodies.proofs.entries.mark_nodes.Given as goal
 
 abbrev pub invariant-loop-node : goal.invariant-loop-node
-invariant-loop-node l = AreMarked l.found (take l.node-index l.body)
+invariant-loop-node l = IsMarkedBody l.found (take l.node-index l.body)

@@ -3,8 +3,8 @@ use Rattle.std.specs.Prelude.{slice_get}
 use Rattle.std.proofs.lemmas.Bool.{le-leb, lt-ltb}
 use Rattle.loop_bodies.specs.declared.extent.LoopExtent.{LoopExtent}
 use Rattle.loop_bodies.specs.declared.extent.NodeRange.{NodeRange}
-use Rattle.loop_bodies.specs.Bodies.{in_extent}
-use Rattle.loop_bodies.specs.Groups.{IsInside, AreLoops}
+use Rattle.loop_bodies.specs.Bodies.{in_node_ranges}
+use Rattle.loop_bodies.specs.Groups.{IsInside, AreLoopExtents}
 use Rattle.loop_bodies.proofs.tests.loops_of.Goals as goal
 
 push_cases : (xs : List LoopExtent) (x v : LoopExtent) (p : ℕ) → slice_get (xs ++ x ∷ []) p ≡ Some v → (slice_get xs p ≡ Some v) ⊎ (x ≡ v)
@@ -13,21 +13,21 @@ push_cases [] x v (suc p) h = let bad : ⊥ = cc in absurd bad
 push_cases (y ∷ ys) x v zero h = inl h
 push_cases (y ∷ ys) x v (suc p) h = push_cases ys x v p h
 
-loops_none : (count : ℕ) (loops : List LoopExtent) → loops ≡ [] → AreLoops count loops
+loops_none : (count : ℕ) (loops : List LoopExtent) → loops ≡ [] → AreLoopExtents count loops
 loops_none count loops e = record {
   few = (let l = ap length e in omega arith);
   header = λ i loop h. let none : slice_get [] i ≡ Some loop = ap (λ xs. slice_get xs i) (sym e) ∙ h in let bad : ⊥ = cc in absurd bad;
 }
 
-loops_push : (count : ℕ) (loops longer : List LoopExtent) (loop : LoopExtent) → longer ≡ loops ++ loop ∷ [] → length loops < 64 → loop.header < count → IsInside loop.header loop → AreLoops count loops → AreLoops count longer
+loops_push : (count : ℕ) (loops longer : List LoopExtent) (loop : LoopExtent) → longer ≡ loops ++ loop ∷ [] → length loops < 64 → loop.header < count → IsInside loop.header loop → AreLoopExtents count loops → AreLoopExtents count longer
 loops_push count loops longer loop e few low inside was = record {
   few = (let l = ap length e in let a = length-append loops (loop ∷ []) in omega arith);
   header = λ i x h. ⊎_elim (λ old. was.header i x old) (λ (same : loop ≡ x). subst (λ y. (y.header < count) × IsInside y.header y) same (low, inside))
       (push_cases loops loop x i (ap (λ xs. slice_get xs i) (sym e) ∙ h));
 }
 
-one_range : (r : NodeRange) (v : ℕ) (front ranges : List NodeRange) → ranges ≡ front ++ r ∷ [] → front ≡ [] → r.from ≤ v → v < r.to → in_extent ranges v ≡ true
-one_range r v front ranges e none le lt = ap (λ xs. in_extent xs v) (e ∙ ap (λ xs. xs ++ r ∷ []) none) ∙ (ap (λ x. (x && nat_lt v r.to) || false) (le-leb r.from v le) ∙ ap (λ x. x || false) (lt-ltb v r.to lt))
+one_range : (r : NodeRange) (v : ℕ) (front ranges : List NodeRange) → ranges ≡ front ++ r ∷ [] → front ≡ [] → r.from ≤ v → v < r.to → in_node_ranges ranges v ≡ true
+one_range r v front ranges e none le lt = ap (λ xs. in_node_ranges xs v) (e ∙ ap (λ xs. xs ++ r ∷ []) none) ∙ (ap (λ x. (x && nat_lt v r.to) || false) (le-leb r.from v le) ∙ ap (λ x. x || false) (lt-ltb v r.to lt))
 
 pub loop-header-init : goal.loop-header-init
 loop-header-init c = loops_none c.args.count c.new-loops.result.items (search rules)

@@ -1,7 +1,7 @@
 use Rattle.std.proofs.Common.{rules, arith, refl, ◌≡◌, ◌+◌, ◌-◌, ◌<◌, ◌≤◌, length, Some}
 use Rattle.std.specs.Prelude.{slice_get}
 use Rattle.std.proofs.lemmas.Option.{slice_get_read}
-use Rattle.loop_bodies.specs.Bodies.{in_extent}
+use Rattle.loop_bodies.specs.Bodies.{in_node_ranges}
 use Rattle.loop_bodies.proofs.BodyLaws.{flag_within, body_small, settled_grows, settled_next, sound_start, sound_next, nodes_exactly}
 use Rattle.loop_bodies.proofs.visit.fill_body.Goals as goal
 
@@ -9,7 +9,7 @@ pub loop-done-init : goal.loop-done-init
 loop-done-init c = record {
   size = search rules;
   marked = c.in_ok-visit_sources.ensures.marked;
-  sound = sound_start c.args.edges.now.sources c.args.edges.now.targets (in_extent c.args.extent.now) c.args.header c.args.body.now.items c.visit_sources.new.body.items c.requires.empty c.in_ok-visit_sources.ensures.only;
+  sound = sound_start c.args.edges.now.sources c.args.edges.now.targets (in_node_ranges c.args.extent.now) c.args.header c.args.body.now.items c.visit_sources.new.body.items c.requires.empty c.in_ok-visit_sources.ensures.only;
   start = c.in_ok-visit_sources.ensures.settled;
   settled = λ p u lt h. absurd (let bad : ⊥ = omega arith in bad);
   reached = omega arith;
@@ -34,7 +34,7 @@ pub loop-done-preserved : goal.loop-done-preserved
 loop-done-preserved c =
     let sources = c.args.edges.now.sources in
     let targets = c.args.edges.now.targets in
-    let extent = in_extent c.args.extent.now in
+    let extent = in_node_ranges c.args.extent.now in
     let done = c.loop-done.done in
     let node = c.index-node.result.now in
     let body = c.loop-done.body.items in
@@ -56,5 +56,5 @@ loop-done-preserved c =
 pub returns-clause-nodes : goal.returns-clause-nodes
 returns-clause-nodes c =
     let end : length c.loop-done.body.items ≤ c.loop-done.done = search rules in
-    nodes_exactly c.args.edges.now.sources c.args.edges.now.targets (in_extent c.args.extent.now) c.args.header c.loop-done.found c.loop-done.body.items c.loop-done.done end
+    nodes_exactly c.args.edges.now.sources c.args.edges.now.targets (in_node_ranges c.args.extent.now) c.args.header c.loop-done.found c.loop-done.body.items c.loop-done.done end
     c.loop-done.invariant.marked c.loop-done.invariant.sound c.loop-done.invariant.start c.loop-done.invariant.settled

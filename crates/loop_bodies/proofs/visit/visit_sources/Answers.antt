@@ -1,5 +1,5 @@
 use Rattle.std.proofs.Common.{rules, arith, ◌≡◌, ◌<◌, ◌∙◌, Some, sym, ap, subst, inr, ⊎_elim, true}
-use Rattle.loop_bodies.specs.Bodies.{in_extent}
+use Rattle.loop_bodies.specs.Bodies.{in_node_ranges}
 use Rattle.loop_bodies.proofs.EdgeLaws.{ArePassed, place, place_less, passed_next, passed_end, get_from_key}
 use Rattle.loop_bodies.proofs.BodyLaws.{grows_then}
 use Rattle.loop_bodies.proofs.visit.visit_sources.Goals as goal
@@ -20,7 +20,7 @@ pub loop-next-preserved : goal.loop-next-preserved
 loop-next-preserved c =
     let sources = c.args.edges.now.sources in
     let targets = c.args.edges.now.targets in
-    let extent = in_extent c.args.extent.now in
+    let extent = in_node_ranges c.args.extent.now in
     let node = c.args.node in
     let edge = c.in-Some.edge in
     let within = (c.loop-next.invariant.edge c.in-Some.edge c.in-Some.is).0 in
@@ -32,7 +32,7 @@ loop-next-preserved c =
       grows = grows_then c.args.found.now c.loop-next.found c.visit.new.found c.args.body.now.items c.loop-next.body.items c.visit.new.body.items c.loop-next.invariant.grows c.in_ok-visit.ensures.grows;
       only = λ p v h. ⊎_elim
           (λ old. c.loop-next.invariant.only p v old)
-          (λ (new : (v ≡ c.source.result) × (in_extent c.args.extent.now v ≡ true)). inr ((edge, c.source.ensures.source ∙ ap Some (sym new.0), get_from_key targets edge node key), new.1))
+          (λ (new : (v ≡ c.source.result) × (in_node_ranges c.args.extent.now v ≡ true)). inr ((edge, c.source.ensures.source ∙ ap Some (sym new.0), get_from_key targets edge node key), new.1))
           (c.in_ok-visit.ensures.only p v h);
       edge = λ e is. let b = before.place e is in let lt = b.0 in (omega arith, b.1);
       passed = passed_next sources targets extent node c.loop-next.found c.visit.new.found edge c.source.result c.before-next.result c.in_ok-visit.ensures.grows.kept c.source.ensures.source c.in_ok-visit.ensures.found before
@@ -40,4 +40,4 @@ loop-next-preserved c =
     }
 
 pub returns-clause-settled : goal.returns-clause-settled
-returns-clause-settled c = passed_end c.args.edges.now.sources c.args.edges.now.targets (in_extent c.args.extent.now) c.args.node c.loop-next.found c.loop-next.next c.in_default.is c.loop-next.invariant.passed
+returns-clause-settled c = passed_end c.args.edges.now.sources c.args.edges.now.targets (in_node_ranges c.args.extent.now) c.args.node c.loop-next.found c.loop-next.next c.in_default.is c.loop-next.invariant.passed

@@ -3,7 +3,7 @@ use Rattle.loop_nesting.specs.Nesting.{AreLoops, IsNesting, bodies_of}
 use Rattle.natural_loops.specs.Found.{LoopsView}
 use Rattle.loop_file.specs.declared.notes.LoopNote.{LoopNote}
 use Rattle.loop_file.specs.Kept.{noted_loops}
-use Rattle.loop_tree.specs.Stored.{IsStored}
+use Rattle.loop_tree.specs.Stored.{IsStoredTree}
 use Rattle.loop_tree.specs.Tree.{IsTreeOf}
 use Rattle.loop_tree.proofs.NestLaws.{loops_nested}
 use Rattle.loop_tree.proofs.TreeLaws.{seen, bounds_in, stored, tree_of, same_view}
@@ -25,7 +25,7 @@ pub invariant_of-result : goal.invariant_of-result
 invariant_of-result c =
     let bs : bodies_of c.deref.result.now ≡ c.args.found.bodies = ap bodies_of c.deref.ensures.value ∙ ap (λ (t : LoopsView). t.bodies) c.found.view_is in
     let size : length c.in_ok-nesting.nesting.parent ≡ length c.args.found.bodies = c.in_ok-nesting.ensures.loops ∙ ap length bs in
-    subst IsStored
+    subst IsStoredTree
     (same_view c.args.backs.items c.args.order.items c.in_ok-least_trips.least_trips.items c.args.found.headers c.found.inside.headers.items (bounds_in c.args.notes.now) c.in_ok-bounds.bounds.items (map (λ (note : LoopNote). note.counted) c.args.notes.now) c.in_ok-counted.counted.items
     c.args.found.bodies (bodies_of c.found.inside.bodies.items) c.in_ok-nesting.nesting.innermost c.into_parts-innermost.result.0.items c.in_ok-nesting.nesting.parent c.into_parts-innermost.result.1.items
     (sym (ap (λ (t : LoopsView). t.headers) c.found.view_is)) (sym c.in_ok-bounds.ensures.bounds) (sym c.in_ok-counted.ensures) (sym (ap (λ (t : LoopsView). t.bodies) c.found.view_is)) (sym c.into_parts-innermost.ensures.innermost) (sym c.into_parts-innermost.ensures.parent))

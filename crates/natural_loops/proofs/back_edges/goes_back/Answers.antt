@@ -1,5 +1,5 @@
 use Rattle.std.proofs.Common.{sym, subst}
-use Rattle.loop_bodies.specs.Bodies.{HasBackEdge, in_extent}
+use Rattle.loop_bodies.specs.Bodies.{HasEdgeBack, in_node_ranges}
 use Rattle.natural_loops.proofs.WalkLaws.{turn}
 use Rattle.natural_loops.proofs.back_edges.goes_back.Goals as goal
 
@@ -7,6 +7,6 @@ pub returns : goal.returns
 returns c =
     let same = turn c.args.graph.now c.args.search.now c.requires.edges c.args.note.now c.args.header c.in_ok-extent.extent.items c.requires.header c.in_ok-extent.ensures in
     let edges = c.args.search.now in (
-      λ t. same.0 (subst (λ xs. HasBackEdge c.args.search.now.sources c.args.search.now.targets (in_extent xs) c.args.header) c.deref.ensures.value (c.has_back_edge.ensures.0 t)),
-      λ h. c.has_back_edge.ensures.1 (subst (λ xs. HasBackEdge c.args.search.now.sources c.args.search.now.targets (in_extent xs) c.args.header) (sym c.deref.ensures.value) (same.1 h)),
+      λ t. same.0 (subst (λ xs. HasEdgeBack c.args.search.now.sources c.args.search.now.targets (in_node_ranges xs) c.args.header) c.deref.ensures.value (c.has_back_edge.ensures.0 t)),
+      λ h. c.has_back_edge.ensures.1 (subst (λ xs. HasEdgeBack c.args.search.now.sources c.args.search.now.targets (in_node_ranges xs) c.args.header) (sym c.deref.ensures.value) (same.1 h)),
     )

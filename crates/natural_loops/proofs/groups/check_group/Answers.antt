@@ -1,9 +1,9 @@
 use Rattle.std.proofs.Common.{rules, arith, ℕ, ◌≡◌, ◌∙◌, ◌+◌, ◌-◌, ◌<◌, ◌≤◌, length, false, count_ones, ap, sym, subst}
 use Rattle.std.specs.Prelude.{slice_index}
 use Rattle.std.proofs.lemmas.Bool.{both_ways}
-use Rattle.loop_bodies.specs.Groups.{AreGroup, AreLoops}
+use Rattle.loop_bodies.specs.Groups.{AreGroup, AreLoopExtents}
 use Rattle.natural_loops.specs.Noted.{IsNotedSideEntry}
-use Rattle.natural_loops.specs.Passes.{IsEntry, IsGroupEntered}
+use Rattle.natural_loops.specs.Passes.{IsEntryTested, IsGroupEntered}
 use Rattle.natural_loops.proofs.EntryLaws.{depth_small}
 use Rattle.natural_loops.proofs.ReadyLaws.{header_within, none_next, entry_refused}
 use Rattle.natural_loops.proofs.FoundLaws.{passed_on}
@@ -13,7 +13,7 @@ use Rattle.natural_loops.proofs.groups.check_group.Goals.{then-is_entered+in_ok-
 
 pub group-requires : goal.group-requires
 group-requires c =
-    subst (AreLoops c.args.search.now.count) (sym c.deref.ensures.value)
+    subst (AreLoopExtents c.args.search.now.count) (sym c.deref.ensures.value)
     (loops_are c.args.graph.now c.args.search.now c.requires.ready.edges c.args.notes.now c.args.headers.now c.requires.ready.numbers c.args.first c.args.last c.in_ok-loops.loops.items c.in_ok-loops.ensures c.requires.within c.requires.few)
 
 pub is_entered-requires-clause-header : goal.is_entered-requires-clause-header

@@ -1,10 +1,10 @@
 use Rattle.std.proofs.Common.{zero, suc, [], ◌∷◌, arith}
 use Rattle.std.specs.List.{All}
 use Rattle.scale_base.specs.declared.plan.SiteLine.{SiteLine}
-use Rattle.scale_report.specs.Texts.{IsSite}
+use Rattle.scale_report.specs.Texts.{HasSiteLine}
 use Rattle.scale_report.proofs.tests.prints_plans.Goals as goal
 
-all-four : (a b c d : SiteLine) → IsSite a.edge.kind → IsSite b.edge.kind → IsSite c.edge.kind → IsSite d.edge.kind → All (λ line. IsSite line.edge.kind) (a ∷ b ∷ c ∷ d ∷ [])
+all-four : (a b c d : SiteLine) → HasSiteLine a.edge.kind → HasSiteLine b.edge.kind → HasSiteLine c.edge.kind → HasSiteLine d.edge.kind → All (λ line. HasSiteLine line.edge.kind) (a ∷ b ∷ c ∷ d ∷ [])
 all-four a b c d first second third fourth zero e lt = first
 all-four a b c d first second third fourth (suc zero) e lt = second
 all-four a b c d first second third fourth (suc (suc zero)) e lt = third

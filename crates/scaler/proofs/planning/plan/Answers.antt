@@ -11,7 +11,7 @@ use Rattle.rewritten_runs.specs.Stubs.{rewritten_file}
 use Rattle.scaler.specs.declared.rewriting.Program.{Program}
 use Rattle.scaler.specs.Markings.{HasMarking, AreLinesOf}
 use Rattle.scaler.specs.Planned.{IsPlanned, HasLines}
-use Rattle.scaler.specs.Scalings.{IsProgramOf, IsProgramFound}
+use Rattle.scaler.specs.Scalings.{IsProgramFrom, IsProgramFound}
 use Rattle.scaler.proofs.LineFacts.{few_headers}
 use Rattle.scaler.proofs.LineKinds.{lines_of_sites}
 use Rattle.scaler.proofs.ProgramFacts.{files_given}
@@ -22,10 +22,10 @@ program_stops : (image machine loops : List ℕ) (stop : Stop) → AnswersBy {X 
 program_stops image machine loops (Refused refusal) h = h
 program_stops image machine loops Memory h = tt
 
-has_marking : (image machine loops : List ℕ) (p : Program) → IsProgramOf image machine loops p → HasMarking p.power p.marked.graph p.marked.tree p.marked.marking
+has_marking : (image machine loops : List ℕ) (p : Program) → IsProgramFrom image machine loops p → HasMarking p.power p.marked.graph p.marked.tree p.marked.marking
 has_marking image machine loops p h = let m = h.marked.found in (p.view, m.0, m.1, m.2, m.3.marking)
 
-has_lines : (image machine loops : List ℕ) (p : Program) (lines : List SiteLine) → IsProgramOf image machine loops p → AreLinesOf p.power p.marked.graph p.marked.tree p.marked.marking lines → HasLines image machine loops lines
+has_lines : (image machine loops : List ℕ) (p : Program) (lines : List SiteLine) → IsProgramFrom image machine loops p → AreLinesOf p.power p.marked.graph p.marked.tree p.marked.marking lines → HasLines image machine loops lines
 has_lines image machine loops p lines h are =
     let m = h.marked.found in
     record {

@@ -1,6 +1,6 @@
 use Rattle.std.proofs.Common.{◌≡◌, ◌∙◌, sym, ap}
 use Rattle.std.specs.Prelude.{option_copied}
-use Rattle.rv_machine.specs.Machine.{state_of, setting_of}
+use Rattle.rv_machine.specs.Machine.{state_of, machine_setting}
 use Rattle.rv_machine.proofs.Laws.{known_fixed}
 use Rattle.speed_sim.proofs.AdvanceLaws.{advanced, port_of}
 use Rattle.speed_sim.proofs.running.advance.Goals as goal

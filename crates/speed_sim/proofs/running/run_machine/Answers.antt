@@ -3,7 +3,7 @@ use Rattle.scale_base.specs.State.{Setting}
 use Rattle.scale_base.specs.Step.{step, PortBelow}
 use Rattle.power_model.specs.declared.power.Costs.{Costs}
 use Rattle.power_model.specs.Numbers.{PowerModel}
-use Rattle.rv_machine.specs.Machine.{state_of, setting_of}
+use Rattle.rv_machine.specs.Machine.{state_of, machine_setting}
 use Rattle.speed_sim.specs.Tallied.{AreCosts}
 use Rattle.speed_sim.proofs.AdvanceLaws.{progress_on, progress_over, code_still}
 use Rattle.speed_sim.proofs.ProgressLaws.{progress_first}
@@ -18,7 +18,7 @@ loop-step-init g c = record {
 
 pub loop-step-preserved : goal.loop-step-preserved
 loop-step-preserved g c =
-    let env = setting_of g.M.Memory.layout c.loop-step.machine in
+    let env = machine_setting g.M.Memory.layout c.loop-step.machine in
     let now = state_of g.M.Memory.bytes c.loop-step.machine in
     let levels : c.loop-step.machine.levels ≡ length c.args.power.now.levels = ap (λ (v : Setting). v.levels) c.loop-step.invariant.progress.env_is ∙ c.requires.levels in
     let advance = rw c.in_default.is at c.advance.ensures.advance in

@@ -1,5 +1,5 @@
-use Rattle.rv_machine.specs.Code.{IsCodeOf}
-use Rattle.rv_machine.specs.Machine.{state_of, setting_of}
+use Rattle.rv_machine.specs.Code.{IsDecodedCode}
+use Rattle.rv_machine.specs.Machine.{state_of, machine_setting}
 use Rattle.speed_sim.specs.Progress.{Job, Progress}
 use Rattle.speed_sim.specs.Tallied.{tallied, AreCosts}
 use Rattle.speed_sim.proofs.running.run_machine.Given as goal
@@ -8,13 +8,13 @@ abbrev pub invariant-loop-step : goal.invariant-loop-step
 invariant-loop-step g l =
     let job : Job = record {
       power = l.fn.power;
-      env = setting_of g.M.Memory.layout l.initial.machine;
+      env = machine_setting g.M.Memory.layout l.initial.machine;
       first = state_of g.M.Memory.bytes l.initial.machine;
       start = l.start;
       unwatched = l.initial.watcher;
     } in
     record {
-      progress : Progress job l._step (setting_of g.M.Memory.layout l.machine) (state_of g.M.Memory.bytes l.machine) (tallied l.fn.power l.tally) l.watcher;
-      code : IsCodeOf (g.M.Memory.layout l.machine.memory) (g.M.Memory.bytes l.machine.memory) l.code;
+      progress : Progress job l._step (machine_setting g.M.Memory.layout l.machine) (state_of g.M.Memory.bytes l.machine) (tallied l.fn.power l.tally) l.watcher;
+      code : IsDecodedCode (g.M.Memory.layout l.machine.memory) (g.M.Memory.bytes l.machine.memory) l.code;
       costs : AreCosts l.fn.power.costs l.costs.by_class;
     }

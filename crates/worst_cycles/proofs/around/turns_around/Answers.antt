@@ -1,6 +1,6 @@
 use Rattle.std.proofs.Common.{◌≡◌, ℕ, ◌+◌, ◌*◌, ◌^◌, ◌<◌, ◌≤◌, length, arith, refl, sym, ap, ◌∙◌, subst}
 use Rattle.std.proofs.lemmas.Option.{get_or_from_slice_get}
-use Rattle.call_orders.specs.Arcs.{number_at}
+use Rattle.call_orders.specs.Arcs.{number_in_place}
 use Rattle.cost_theory.specs.Lists.{body_of}
 use Rattle.worst_cycles.specs.Worst.{by_edge}
 use Rattle.worst_cycles.specs.Visits.{visit_at}
@@ -10,9 +10,9 @@ use Rattle.worst_cycles.proofs.around.turns_around.Goals as goal
 pub loop-l-preserved : goal.loop-l-preserved
 loop-l-preserved c =
     let ll : c.loop-l.l < length c.args.tree.now.headers = omega arith in
-    let header : number_at c.args.tree.now.headers c.loop-l.l ≡ c.header.result = get_or_from_slice_get c.args.tree.now.headers c.loop-l.l c.header.result 0 c.header.ensures in
-    let inside = subst (λ xs. (i : ℕ) → i < length xs → number_at c.add_turns.new.around.items (number_at xs i) ≡ number_at c.loop-l.around.items (number_at xs i) + (visit_at c.args.visits.now c.header.result).turns) c.body.ensures c.add_turns.ensures.inside in
-    let outside = subst (λ xs. (k : ℕ) → ((i : ℕ) → i < length xs → number_at xs i ≡ k → ⊥) → number_at c.add_turns.new.around.items k ≡ number_at c.loop-l.around.items k) c.body.ensures c.add_turns.ensures.outside in
+    let header : number_in_place c.args.tree.now.headers c.loop-l.l ≡ c.header.result = get_or_from_slice_get c.args.tree.now.headers c.loop-l.l c.header.result 0 c.header.ensures in
+    let inside = subst (λ xs. (i : ℕ) → i < length xs → number_in_place c.add_turns.new.around.items (number_in_place xs i) ≡ number_in_place c.loop-l.around.items (number_in_place xs i) + (visit_at c.args.visits.now c.header.result).turns) c.body.ensures c.add_turns.ensures.inside in
+    let outside = subst (λ xs. (k : ℕ) → ((i : ℕ) → i < length xs → number_in_place xs i ≡ k → ⊥) → number_in_place c.add_turns.new.around.items k ≡ number_in_place c.loop-l.around.items k) c.body.ensures c.add_turns.ensures.outside in
     let room : (visit_at c.args.visits.now c.header.result).turns ≤ 2 ^ 48 = (c.requires.visits.table.small c.header.result).turns in
     record {
       size = c.add_turns.ensures.size ∙ c.loop-l.invariant.size;

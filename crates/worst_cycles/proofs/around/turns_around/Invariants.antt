@@ -1,5 +1,5 @@
 use Rattle.std.proofs.Common.{◌≡◌, ℕ, ◌*◌, ◌^◌, ◌≤◌, length}
-use Rattle.call_orders.specs.Arcs.{number_at}
+use Rattle.call_orders.specs.Arcs.{number_in_place}
 use Rattle.worst_cycles.specs.Worst.{by_edge}
 use Rattle.worst_cycles.proofs.AroundLaws.{AreTurnsTo}
 use Rattle.worst_cycles.proofs.around.turns_around.Given as goal
@@ -7,6 +7,6 @@ use Rattle.worst_cycles.proofs.around.turns_around.Given as goal
 abbrev pub invariant-loop-l : goal.invariant-loop-l
 invariant-loop-l l = record {
   size : length l.around.items ≡ length l.graph.code.nodes;
-  small : (k : ℕ) → number_at l.around.items k ≤ l.l * 2 ^ 48;
+  small : (k : ℕ) → number_in_place l.around.items k ≤ l.l * 2 ^ 48;
   turns : AreTurnsTo l.graph l.tree (by_edge l.weights) l.l l.around.items;
 }

@@ -1,6 +1,6 @@
 use Rattle.std.proofs.Common.{◌≡◌, ℕ, ◌+◌, ◌-◌, ◌<◌, ◌≤◌, length, arith, refl, sym, ap, ◌∙◌, subst}
 use Rattle.std.proofs.lemmas.List.{get_or-replicate}
-use Rattle.call_orders.specs.Arcs.{number_at}
+use Rattle.call_orders.specs.Arcs.{number_in_place}
 use Rattle.code_graph.specs.FlowGraph.{graph}
 use Rattle.natural_loops.specs.Noted.{node_address}
 use Rattle.loop_tree.specs.Tree.{loops}
@@ -20,7 +20,7 @@ loop-i-init c =
       size = let len = c.in_ok-context.ensures.len in let r : length c.in_ok-context.context.items ≡ length c.args.graph.now.code.functions = omega arith in r;
       contexts = subst (λ i. AreContextsTo c.args.graph.now c.args.tree.now (by_edge c.args.weights.now) c.args.plan.now i c.in_ok-context.context.items) same
           (contexts_first c.args.graph.now c.args.tree.now (by_edge c.args.weights.now) c.args.plan.now c.in_ok-context.context.items c.requires.flow c.requires.plan
-          (λ f fl. ap (λ xs. number_at xs f) items ∙ get_or-replicate c.function_count.result f 0 0 (let r : f < c.function_count.result = omega arith in r)));
+          (λ f fl. ap (λ xs. number_in_place xs f) items ∙ get_or-replicate c.function_count.result f 0 0 (let r : f < c.function_count.result = omega arith in r)));
     }
 
 pub raise_contexts-requires-clause-own : goal.raise_contexts-requires-clause-own
@@ -29,7 +29,7 @@ raise_contexts-requires-clause-own c = λ n s.
     let il : c.loop-i.i - 1 < length c.args.plan.now.order.items = omega arith in
     let i : c.loop-i.i ≡ c.loop-i.i - 1 + 1 = omega arith in
     let node = value_at c.args.plan.now.order.items (c.loop-i.i - 1) c.index.result.now 0 il c.index.ensures in
-    subst (λ k. number_at c.loop-i.context.items ((graph c.args.graph.now).owner (node_address c.args.graph.now k)) ≡ n.context ((graph c.args.graph.now).owner (node_address c.args.graph.now k))) node
+    subst (λ k. number_in_place c.loop-i.context.items ((graph c.args.graph.now).owner (node_address c.args.graph.now k)) ≡ n.context ((graph c.args.graph.now).owner (node_address c.args.graph.now k))) node
     (own_context c.args.graph.now c.args.tree.now (by_edge c.args.weights.now) c.args.plan.now c.loop-i.context.items (c.loop-i.i - 1) n c.requires.flow c.requires.tree c.requires.plan il
     (subst (λ j. AreContextsTo c.args.graph.now c.args.tree.now (by_edge c.args.weights.now) c.args.plan.now j c.loop-i.context.items) i c.loop-i.invariant.contexts) s)
 

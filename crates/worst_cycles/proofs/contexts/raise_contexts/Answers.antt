@@ -1,5 +1,5 @@
 use Rattle.std.proofs.Common.{◌≡◌, ℕ, ◌+◌, ◌-◌, ◌^◌, ◌<◌, ◌≤◌, length, get_or, None, Some, Vec, Global, arith, refl, sym, ap, ◌∙◌, subst}
-use Rattle.call_orders.specs.Arcs.{number_at}
+use Rattle.call_orders.specs.Arcs.{number_in_place}
 use Rattle.cost_theory.specs.Worst.{cost}
 use Rattle.code_graph.specs.FlowGraph.{graph}
 use Rattle.natural_loops.specs.Noted.{node_address}
@@ -26,8 +26,8 @@ overflow_add-behind-in-Some c =
     let owner = c.owner.ensures.owner in
     let size = c.requires.size in
     let low : c.owner.result < length c.args.context.now.items = omega arith in
-    let value : number_at c.args.context.now.items c.owner.result ≡ c.index-own.result.now = value_at c.args.context.now.items c.owner.result c.index-own.result.now 0 low c.index-own.ensures in
-    let own : number_at c.args.context.now.items c.owner.result ≡ n.0.context ((graph c.args.graph.now).owner (node_address c.args.graph.now c.args.k)) = ap (number_at c.args.context.now.items) owner ∙ c.requires.own n.0 n.1 in
+    let value : number_in_place c.args.context.now.items c.owner.result ≡ c.index-own.result.now = value_at c.args.context.now.items c.owner.result c.index-own.result.now 0 low c.index-own.ensures in
+    let own : number_in_place c.args.context.now.items c.owner.result ≡ n.0.context ((graph c.args.graph.now).owner (node_address c.args.graph.now c.args.k)) = ap (number_in_place c.args.context.now.items) owner ∙ c.requires.own n.0 n.1 in
     let within = n.1.context_within ((graph c.args.graph.now).owner (node_address c.args.graph.now c.args.k)) fl in
     let worst = n.2 in
     omega arith
@@ -43,18 +43,18 @@ loop-e-preserved c =
     let size = c.requires.size in
     let owner = c.owner.ensures.owner in
     let ol : c.owner.result < length c.args.context.now.items = omega arith in
-    let value : number_at c.args.context.now.items c.owner.result ≡ c.index-own.result.now = value_at c.args.context.now.items c.owner.result c.index-own.result.now 0 ol c.index-own.ensures in
+    let value : number_in_place c.args.context.now.items c.owner.result ≡ c.index-own.result.now = value_at c.args.context.now.items c.owner.result c.index-own.result.now 0 ol c.index-own.ensures in
     elim c.match-comes_back.branch [
       | in-Some w ↦
           let items : c.match-comes_back.context.items ≡ w.raise.new.table.items = ap (λ (v : Vec ℕ Global). v.items) w.context-is in
           rw items (record {
             size = w.raise.ensures.size ∙ c.loop-e.invariant.size;
             raised = λ n s. raised_more (graph c.args.graph.now) (loops c.args.graph.now c.args.tree.now) (by_edge c.args.weights.now) n (node_address c.args.graph.now c.args.k) c.edges_of-first.result.0 c.loop-e.e w.in-Some.f
-                (w.saturating_sub.result + number_at c.args.around.now c.args.k + c.index-own.result.now) c.args.context.now.items c.loop-e.context.items w.raise.new.table.items from (c.comes_back.ensures.some w.in-Some.f w.in-Some.is)
-                (context_value (graph c.args.graph.now) (loops c.args.graph.now c.args.tree.now) (by_edge c.args.weights.now) n c.loop-e.e (node_address c.args.graph.now c.args.k) (number_at c.args.left.now c.args.k) w.cost_of-cost.result (number_at c.args.around.now c.args.k) c.index-own.result.now
-                (w.saturating_sub.result + number_at c.args.around.now c.args.k + c.index-own.result.now) from (c.requires.left.each n s c.args.k c.requires.node)
+                (w.saturating_sub.result + number_in_place c.args.around.now c.args.k + c.index-own.result.now) c.args.context.now.items c.loop-e.context.items w.raise.new.table.items from (c.comes_back.ensures.some w.in-Some.f w.in-Some.is)
+                (context_value (graph c.args.graph.now) (loops c.args.graph.now c.args.tree.now) (by_edge c.args.weights.now) n c.loop-e.e (node_address c.args.graph.now c.args.k) (number_in_place c.args.left.now c.args.k) w.cost_of-cost.result (number_in_place c.args.around.now c.args.k) c.index-own.result.now
+                (w.saturating_sub.result + number_in_place c.args.around.now c.args.k + c.index-own.result.now) from (c.requires.left.each n s c.args.k c.requires.node)
                 (w.cost_of-cost.ensures.cost n (λ f calls. entry_worst c.args.graph.now c.args.tree.now (by_edge c.args.weights.now) c.args.plan.now.entries.items c.args.visits.now n f c.requires.plan.entries c.requires.visits s (c.requires.flow.program.callee_function c.loop-e.e f lt calls)))
-                (c.requires.around.each n s c.args.k c.requires.node) (sym value ∙ ap (number_at c.args.context.now.items) owner ∙ c.requires.own n s) (let less = w.saturating_sub.ensures in omega arith))
+                (c.requires.around.each n s c.args.k c.requires.node) (sym value ∙ ap (number_in_place c.args.context.now.items) owner ∙ c.requires.own n s) (let less = w.saturating_sub.ensures in omega arith))
                 w.raise.ensures.higher w.raise.ensures.over w.raise.ensures.either w.raise.ensures.others (c.loop-e.invariant.raised n s);
           })
       | in_default w ↦

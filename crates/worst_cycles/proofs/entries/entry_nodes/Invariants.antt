@@ -1,10 +1,10 @@
 use Rattle.std.proofs.Common.{◌≡◌, ℕ, ◌<◌, length, slice_get, Some}
-use Rattle.call_orders.specs.Arcs.{number_at}
+use Rattle.call_orders.specs.Arcs.{number_in_place}
 use Rattle.code_graph.specs.FlowGraph.{graph}
 use Rattle.worst_cycles.proofs.entries.entry_nodes.Given as goal
 
 abbrev pub invariant-loop-f : goal.invariant-loop-f
 invariant-loop-f l = record {
   size : length l.entries.items ≡ l.f;
-  each : (h : ℕ) → h < l.f → slice_get l.graph.code.nodes (number_at l.entries.items h) ≡ Some ((graph l.graph).entry h);
+  each : (h : ℕ) → h < l.f → slice_get l.graph.code.nodes (number_in_place l.entries.items h) ≡ Some ((graph l.graph).entry h);
 }

@@ -1,9 +1,9 @@
 use Rattle.std.proofs.Common.{◌≡◌, ℕ, ◌+◌, ◌^◌, ◌<◌, ◌≤◌, true, List, [], ◌∷◌, ◌++◌, length, length-append, slice_index, Option, Some, None, arith, refl, sym, ap, subst}
 use Rattle.std.proofs.lemmas.Option.{none-some, same_Some}
-use Rattle.call_orders.specs.Arcs.{number_at}
+use Rattle.call_orders.specs.Arcs.{number_in_place}
 use Rattle.loop_tree.specs.Tree.{loops}
 use Rattle.worst_cycles.specs.Worst.{by_edge}
-use Rattle.worst_cycles.specs.Rests.{rest_at, address_at, AreFoundTo}
+use Rattle.worst_cycles.specs.Rests.{rest_in, address_at, AreFoundTo}
 use Rattle.worst_cycles.proofs.SearchLaws.{value_at}
 use Rattle.worst_cycles.proofs.IterationLaws.{step_inside, step_node, next_rest, found_more, rests_small, rest_too_long}
 use Rattle.worst_cycles.proofs.iteration.rests_of.Goals as goal
@@ -12,8 +12,8 @@ pub index-k-requires : goal.index-k-requires
 index-k-requires c =
     let same = c.loop-m.invariant.same in
     let ml : c.loop-m.m < length c.loop-m.rests.steps.items = omega arith in
-    let here : number_at c.loop-m.rests.steps.items c.loop-m.m ≡ c.index.result.now = value_at c.loop-m.rests.steps.items c.loop-m.m c.index.result.now 0 ml c.index.ensures in
-    let low : number_at c.loop-m.rests.steps.items c.loop-m.m < length c.args.plan.now.order.items =
+    let here : number_in_place c.loop-m.rests.steps.items c.loop-m.m ≡ c.index.result.now = value_at c.loop-m.rests.steps.items c.loop-m.m c.index.result.now 0 ml c.index.ensures in
+    let low : number_in_place c.loop-m.rests.steps.items c.loop-m.m < length c.args.plan.now.order.items =
     (step_inside c.args.graph.now c.args.tree.now c.args.plan.now c.args.l c.args.i c.loop-m.rests.steps.items c.requires.flow c.requires.tree c.requires.plan c.requires.within c.requires.place c.requires.header c.loop-m.invariant.places c.loop-m.m ml).0 in
     omega arith
 
@@ -23,7 +23,7 @@ rest_at_node-rest-requires-clause-node c =
     let ml : c.loop-m.m < length c.loop-m.rests.steps.items = omega arith in
     let step = step_inside c.args.graph.now c.args.tree.now c.args.plan.now c.args.l c.args.i c.loop-m.rests.steps.items c.requires.flow c.requires.tree c.requires.plan c.requires.within c.requires.place c.requires.header c.loop-m.invariant.places c.loop-m.m ml in
     let node = step_node c.args.plan.now c.loop-m.rests.steps.items c.loop-m.m c.index.result.now c.index-k.result.now ml step.0 c.index.ensures c.index-k.ensures in
-    subst (λ x. x < length c.args.graph.now.code.nodes) (sym node) (c.requires.plan.order.within (number_at c.loop-m.rests.steps.items c.loop-m.m) step.0)
+    subst (λ x. x < length c.args.graph.now.code.nodes) (sym node) (c.requires.plan.order.within (number_in_place c.loop-m.rests.steps.items c.loop-m.m) step.0)
 
 pub rest_at_node-rest-requires-clause-inside : goal.rest_at_node-rest-requires-clause-inside
 rest_at_node-rest-requires-clause-inside c =
@@ -62,7 +62,7 @@ loop-m-preserved c =
       places = c.loop-m.invariant.places;
       same = c.loop-m.invariant.same;
       size = let r : length c.push.new.self.items ≡ c.loop-m.m + 1 = omega arith in r;
-      small = subst (λ (xs : List (Option ℕ)). (q b : ℕ) → rest_at xs q ≡ Some b → b ≤ 2 ^ 48 + 2 ^ 32) (sym items)
+      small = subst (λ (xs : List (Option ℕ)). (q b : ℕ) → rest_in xs q ≡ Some b → b ≤ 2 ^ 48 + 2 ^ 32) (sym items)
           (rests_small c.loop-m.rests.found.items c.rest_at_node-rest.result c.loop-m.invariant.small (c.is_over.ensures.within c.if-is_over.false));
       found = subst (AreFoundTo c.args.graph.now c.args.tree.now (by_edge c.args.weights.now) c.args.plan.now c.args.l c.loop-m.rests.steps.items (c.loop-m.m + 1)) (sym items)
           (found_more c.args.graph.now c.args.tree.now (by_edge c.args.weights.now) c.args.plan.now c.args.l c.loop-m.m c.loop-m.rests.steps.items c.loop-m.rests.found.items c.rest_at_node-rest.result c.loop-m.invariant.size c.loop-m.invariant.found

@@ -1,7 +1,7 @@
 use Rattle.std.proofs.Common.{◌≡◌, ℕ, ◌+◌, ◌^◌, ◌≤◌, Some, length}
 use Rattle.cost_theory.specs.Lists.{body_of}
 use Rattle.worst_cycles.specs.Worst.{by_edge}
-use Rattle.worst_cycles.specs.Rests.{AreBodyPlaces, rest_at, AreFoundTo}
+use Rattle.worst_cycles.specs.Rests.{AreBodyPlaces, rest_in, AreFoundTo}
 use Rattle.worst_cycles.proofs.iteration.rests_of.Given as goal
 
 abbrev pub invariant-loop-m : goal.invariant-loop-m
@@ -9,6 +9,6 @@ invariant-loop-m l = record {
   places : AreBodyPlaces (body_of l.tree.bodies l.l) l.plan.places.items l.rests.steps.items;
   same : length l.rests.steps.items ≡ length l.initial.rests.steps.items;
   size : length l.rests.found.items ≡ l.m;
-  small : (q b : ℕ) → rest_at l.rests.found.items q ≡ Some b → b ≤ 2 ^ 48 + 2 ^ 32;
+  small : (q b : ℕ) → rest_in l.rests.found.items q ≡ Some b → b ≤ 2 ^ 48 + 2 ^ 32;
   found : AreFoundTo l.graph l.tree (by_edge l.weights) l.plan l.l l.rests.steps.items l.m l.rests.found.items;
 }

@@ -1,5 +1,5 @@
 use Rattle.std.proofs.Common.{◌≡◌, ℕ, ◌+◌, ◌-◌, ◌^◌, ◌<◌, ◌≤◌, length, arith, sym, ap, ◌∙◌, subst}
-use Rattle.call_orders.specs.Arcs.{number_at}
+use Rattle.call_orders.specs.Arcs.{number_in_place}
 use Rattle.worst_cycles.specs.Worst.{by_edge}
 use Rattle.worst_cycles.specs.Visits.{visit_at}
 use Rattle.worst_cycles.specs.Lefts.{AreLeftsTo}
@@ -39,7 +39,7 @@ offset_bounds-visits-k c =
     let il : c.loop-i.i - 1 < length c.args.plan.now.order.items = omega arith in
     let heads = headed_loop c.args.graph.now c.args.tree.now c.args.plan.now (c.loop-i.i - 1) c.index-k.result.now c.in-Some.l c.index.result.now c.requires.plan il c.index-k.ensures c.index.ensures c.in-Some.is in
     let node = heads.2 in
-    let kl : number_at c.args.plan.now.order.items (c.loop-i.i - 1) < length c.args.graph.now.code.nodes = c.requires.plan.order.within (c.loop-i.i - 1) il in
+    let kl : number_in_place c.args.plan.now.order.items (c.loop-i.i - 1) < length c.args.graph.now.code.nodes = c.requires.plan.order.within (c.loop-i.i - 1) il in
     let size = c.requires.visits.table.size in
     let low : c.index-k.result.now < length c.args.visits.now = omega arith in
     omega arith

@@ -1,5 +1,5 @@
 use Rattle.std.proofs.Common.{◌≡◌, ◌≢◌, ℕ, ◌+◌, ◌^◌, ◌<◌, ◌≤◌, length, length-set, set, None, Vec, Global, arith, refl, sym, ap, ◌∙◌, subst}
-use Rattle.call_orders.specs.Arcs.{number_at}
+use Rattle.call_orders.specs.Arcs.{number_in_place}
 use Rattle.worst_cycles.proofs.SearchLaws.{value_at}
 use Rattle.worst_cycles.proofs.IterationLaws.{step_node}
 use Rattle.worst_cycles.proofs.LeftLaws.{AreRaisedTo, raised_first, raised_more, raised_past, small_set}
@@ -18,10 +18,10 @@ raised-requires-clause-left c =
     let ml : c.loop-m.m < length c.args.rests.now.steps.items = omega arith in
     let step = c.requires.steps c.loop-m.m ml in
     let node = step_node c.args.plan.now c.args.rests.now.steps.items c.loop-m.m c.index.result.now c.index-k.result.now ml step c.index.ensures c.index-k.ensures in
-    let within = c.requires.order (number_at c.args.rests.now.steps.items c.loop-m.m) step in
+    let within = c.requires.order (number_in_place c.args.rests.now.steps.items c.loop-m.m) step in
     let size = c.loop-m.invariant.size in
     let kl : c.index-k.result.now < length c.loop-m.left.items = omega arith in
-    let value : number_at c.loop-m.left.items c.index-k.result.now ≡ c.index-then-k-header.result.now = value_at c.loop-m.left.items c.index-k.result.now c.index-then-k-header.result.now 0 kl c.index-then-k-header.ensures in
+    let value : number_in_place c.loop-m.left.items c.index-k.result.now ≡ c.index-then-k-header.result.now = value_at c.loop-m.left.items c.index-k.result.now c.index-then-k-header.result.now 0 kl c.index-then-k-header.ensures in
     let small = c.loop-m.invariant.small c.index-k.result.now kl in
     omega arith
 
@@ -38,15 +38,15 @@ loop-m-preserved c =
     let mf : c.loop-m.m < length c.args.rests.now.found.items = omega arith in
     let step = c.requires.steps c.loop-m.m ml in
     let node = step_node c.args.plan.now c.args.rests.now.steps.items c.loop-m.m c.index.result.now c.index-k.result.now ml step c.index.ensures c.index-k.ensures in
-    let within = c.requires.order (number_at c.args.rests.now.steps.items c.loop-m.m) step in
+    let within = c.requires.order (number_in_place c.args.rests.now.steps.items c.loop-m.m) step in
     let size = c.loop-m.invariant.size in
     let kl : c.index-k.result.now < length c.loop-m.left.items = omega arith in
     elim c.if-k-header.branch [
       | then-k-header w ↦
           let items : c.if-k-header.left.items ≡ set c.loop-m.left.items c.index-k.result.now w.raised.result = ap (λ (v : Vec ℕ Global). v.items) w.left-is in
-          let value : number_at c.loop-m.left.items c.index-k.result.now ≡ w.index-then-k-header.result.now = value_at c.loop-m.left.items c.index-k.result.now w.index-then-k-header.result.now 0 kl w.index-then-k-header.ensures in
+          let value : number_in_place c.loop-m.left.items c.index-k.result.now ≡ w.index-then-k-header.result.now = value_at c.loop-m.left.items c.index-k.result.now w.index-then-k-header.result.now 0 kl w.index-then-k-header.ensures in
           let higher = w.raised.ensures.higher in
-          let rises : number_at c.loop-m.left.items c.index-k.result.now ≤ w.raised.result = omega arith in
+          let rises : number_in_place c.loop-m.left.items c.index-k.result.now ≤ w.raised.result = omega arith in
           record {
             size = ap length items ∙ length-set c.loop-m.left.items c.index-k.result.now w.raised.result ∙ size;
             small = small_set c.loop-m.left.items c.if-k-header.left.items c.index-k.result.now w.raised.result (2 ^ 50) items w.raised.ensures.small c.loop-m.invariant.small;

@@ -1,6 +1,6 @@
 use Rattle.std.proofs.Common.{◌<◌, length, Some, sym, ap, ◌∙◌, refl, arith}
 use Rattle.cost_theory.specs.Reached.{edge_at}
-use Rattle.call_orders.specs.Arcs.{number_at}
+use Rattle.call_orders.specs.Arcs.{number_in_place}
 use Rattle.natural_loops.proofs.Laws.{source_number}
 use Rattle.worst_cycles.proofs.NeedLaws.{edges_needed, need_skipped, need_added}
 use Rattle.worst_cycles.proofs.order.add_calls.Goals as goal
@@ -21,7 +21,7 @@ loop-e-preserved c =
     elim c.match-callee.branch [
       | in-Some+in_ok-push w ↦
           rw (w.arcs-is, w.in_ok-push.ensures.items)
-          (need_added c.args.graph.now c.args.tree.now.backs c.args.entries.now c.loop-e.e c.loop-e.arcs.items (record { from = w.node_at-from.result; to = number_at c.args.entries.now w.in-Some.f }) w.in-Some.f c.loop-e.invariant lt
+          (need_added c.args.graph.now c.args.tree.now.backs c.args.entries.now c.loop-e.e c.loop-e.arcs.items (record { from = w.node_at-from.result; to = number_in_place c.args.entries.now w.in-Some.f }) w.in-Some.f c.loop-e.invariant lt
           (w.node_at-from.ensures ∙ ap Some (sym (ap edge_at w.edge.ensures))) (sym w.in-Some.ensures) refl)
       | in_default w ↦ rw w.arcs-is (need_skipped c.args.graph.now c.args.tree.now.backs c.args.entries.now c.loop-e.e c.loop-e.arcs.items c.loop-e.invariant (sym w.in_default.ensures))
     ]

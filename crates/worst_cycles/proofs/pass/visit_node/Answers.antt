@@ -1,5 +1,5 @@
 use Rattle.std.proofs.Common.{refl}
-use Rattle.call_orders.specs.Arcs.{number_at}
+use Rattle.call_orders.specs.Arcs.{number_in_place}
 use Rattle.worst_cycles.specs.Worst.{by_edge}
 use Rattle.worst_cycles.proofs.VisitLaws.{next_plain, plain_too_long}
 use Rattle.worst_cycles.proofs.pass.visit_node.Goals as goal
@@ -7,7 +7,7 @@ use Rattle.worst_cycles.proofs.pass.visit_node.Goals as goal
 pub returns-then-plain-gt-LIMIT : goal.returns-then-plain-gt-LIMIT
 returns-then-plain-gt-LIMIT c = (
   refl,
-  plain_too_long c.args.graph.now c.args.tree.now (by_edge c.args.weights.now) (number_at c.args.plan.now.order.items c.args.i) c.plain_at_node-plain.result c.requires.flow (c.requires.plan.order.within c.args.i c.requires.place)
+  plain_too_long c.args.graph.now c.args.tree.now (by_edge c.args.weights.now) (number_in_place c.args.plan.now.order.items c.args.i) c.plain_at_node-plain.result c.requires.flow (c.requires.plan.order.within c.args.i c.requires.place)
       (next_plain c.args.graph.now c.args.tree.now (by_edge c.args.weights.now) c.args.plan.now c.args.visits.now c.args.i c.index.result.now c.plain_at_node-plain.result c.requires.flow c.requires.tree c.requires.plan c.requires.visited c.requires.place c.index.ensures c.plain_at_node-plain.ensures)
       c.if-plain-gt-LIMIT.true,
 )

@@ -1,6 +1,6 @@
 use Rattle.std.proofs.Common.{◌≡◌, ◌<◌, length, length-set, arith, sym, ◌∙◌, subst}
 use Rattle.cost_theory.specs.Worst.{Numbers}
-use Rattle.call_orders.specs.Arcs.{number_at}
+use Rattle.call_orders.specs.Arcs.{number_in_place}
 use Rattle.natural_loops.specs.Noted.{node_address}
 use Rattle.loop_tree.specs.Tree.{loops}
 use Rattle.worst_cycles.specs.Worst.{by_edge}
@@ -16,8 +16,8 @@ visit_node-requires-clause-visited c =
 pub loop-i-preserved : goal.loop-i-preserved
 loop-i-preserved c =
     let il : c.loop-i.i < length c.args.plan.now.order.items = omega arith in
-    let node : number_at c.args.plan.now.order.items c.loop-i.i ≡ c.index.result.now = value_at c.args.plan.now.order.items c.loop-i.i c.index.result.now 0 il c.index.ensures in
-    let within : number_at c.args.plan.now.order.items c.loop-i.i < length c.args.graph.now.code.nodes = c.requires.plan.order.within c.loop-i.i il in
+    let node : number_in_place c.args.plan.now.order.items c.loop-i.i ≡ c.index.result.now = value_at c.args.plan.now.order.items c.loop-i.i c.index.result.now 0 il c.index.ensures in
+    let within : number_in_place c.args.plan.now.order.items c.loop-i.i < length c.args.graph.now.code.nodes = c.requires.plan.order.within c.loop-i.i il in
     let size = c.loop-i.invariant.table.size in
     let low : c.index.result.now < length c.loop-i.visits.items = omega arith in
     let found : (n : Numbers) → AreSolvedBy c.args.graph.now c.args.tree.now (by_edge c.args.weights.now) n → IsVisit (loops c.args.graph.now c.args.tree.now) n (node_address c.args.graph.now c.index.result.now) c.in_ok-visits-2.field-0 =

@@ -1,9 +1,9 @@
 use Rattle.std.proofs.Common.{◌≡◌, ℕ, ◌<◌, length}
-use Rattle.call_orders.specs.Arcs.{number_at}
+use Rattle.call_orders.specs.Arcs.{number_in_place}
 use Rattle.worst_cycles.proofs.plan.places_of.Given as goal
 
 abbrev pub invariant-loop-i : goal.invariant-loop-i
 invariant-loop-i l = record {
   size : length l.places.items ≡ l.count;
-  each : (j : ℕ) → j < l.i → number_at l.places.items (number_at l.order j) ≡ j;
+  each : (j : ℕ) → j < l.i → number_in_place l.places.items (number_in_place l.order j) ≡ j;
 }

@@ -1,5 +1,5 @@
 use Rattle.std.proofs.Common.{◌≡◌, ℕ, ◌<◌, length}
-use Rattle.call_orders.specs.Arcs.{number_at}
+use Rattle.call_orders.specs.Arcs.{number_in_place}
 use Rattle.cost_theory.specs.Worst.{Numbers}
 use Rattle.code_graph.specs.FlowGraph.{graph}
 use Rattle.loop_tree.specs.Tree.{loops}
@@ -10,5 +10,5 @@ use Rattle.worst_cycles.proofs.slacks.rests_behind.Given as goal
 abbrev pub invariant-loop-e : goal.invariant-loop-e
 invariant-loop-e l = record {
   size : length l.rests.items ≡ l.e;
-  each : (n : Numbers) → AreSolvedBy l.graph l.tree (by_edge l.weights) n → (d : ℕ) → d < l.e → number_at l.rests.items d ≡ rest_at (graph l.graph) (loops l.graph l.tree) n d;
+  each : (n : Numbers) → AreSolvedBy l.graph l.tree (by_edge l.weights) n → (d : ℕ) → d < l.e → number_in_place l.rests.items d ≡ rest_at (graph l.graph) (loops l.graph l.tree) n d;
 }

@@ -1,8 +1,8 @@
 use Rattle.std.proofs.Common.{rules, arith, ◌≡◌, ℕ, ◌+◌, ◌<◌, length, [], ◌∷◌, ◌++◌, slice_set, sym, ap, ◌∙◌, subst}
 use Rattle.std.proofs.lemmas.List.{get_or_append_left}
 use Rattle.std.proofs.lemmas.List.Sums.{sum_by-set}
-use Rattle.call_orders.specs.Arcs.{number_at}
-use Rattle.call_orders.specs.Search.{IsSearch, mark, height}
+use Rattle.call_orders.specs.Arcs.{number_in_place}
+use Rattle.call_orders.specs.Search.{IsSearch, mark, mark_height}
 use Rattle.call_orders.specs.declared.search.Mark.TheVariants.{Unmet, Done}
 use Rattle.call_orders.proofs.SearchLaws.{closed}
 use Rattle.call_orders.proofs.search.Search.close.Goals as goal
@@ -14,7 +14,7 @@ returns-clause-search c =
     let size : length s.order.items ≡ c.len.result = search rules in
     let items : s.order.items ++ c.args.number ∷ [] ≡ c.push.new.self.items = search rules in
     let shorter : length c.pop.new.self.items + 1 ≡ length s.path.items = grind (arith, c.pop.ensures.cases) in
-    let same : (i : ℕ) → i < length c.pop.new.self.items → number_at s.path.items i ≡ number_at c.pop.new.self.items i = λ i lt. ap (λ p. number_at p i) c.pop.ensures.items ∙ get_or_append_left c.pop.new.self.items _ 0 i lt in
+    let same : (i : ℕ) → i < length c.pop.new.self.items → number_in_place s.path.items i ≡ number_in_place c.pop.new.self.items i = λ i lt. ap (λ p. number_in_place p i) c.pop.ensures.items ∙ get_or_append_left c.pop.new.self.items _ 0 i lt in
     subst (λ n. IsSearch c.args.arcs.now s.before.items s.next.items (slice_set s.marks.items c.args.number (Done n)) c.pop.new.self.items c.push.new.self.items) size
     (subst (λ p. IsSearch c.args.arcs.now s.before.items s.next.items (slice_set s.marks.items c.args.number (Done (length s.order.items))) c.pop.new.self.items p) items
     (closed c.args.arcs.now s.before.items s.next.items s.marks.items s.path.items c.pop.new.self.items s.order.items c.args.number c.requires.search shorter same (c.requires.end (length c.pop.new.self.items) shorter) c.requires.over))
@@ -26,6 +26,6 @@ returns-clause-work c =
     let last = c.requires.search.path_marked (length c.pop.new.self.items) (omega arith) in
     let end = c.requires.end (length c.pop.new.self.items) shorter in
     let lt : c.args.number < length s.marks.items = subst (λ k. k < length s.marks.items) end last.0 in
-    let was : height (mark s.marks.items c.args.number) ≡ 1 = ap (λ x. height (mark s.marks.items x)) (sym end) ∙ ap height last.1 in
-    let sums = sum_by-set height s.marks.items c.args.number (Done c.len.result) Unmet lt in
+    let was : mark_height (mark s.marks.items c.args.number) ≡ 1 = ap (λ x. mark_height (mark s.marks.items x)) (sym end) ∙ ap mark_height last.1 in
+    let sums = sum_by-set mark_height s.marks.items c.args.number (Done c.len.result) Unmet lt in
     omega (arith, sums, was)

@@ -2,13 +2,13 @@ use Rattle.std.proofs.Common.{◌≡◌, ◌<◌, length, Some, ap, refl, subst,
 use Rattle.std.specs.Prelude.{slice_get}
 use Rattle.std.proofs.lemmas.Option.{slice_get_read}
 use Rattle.code_graph.specs.FlowGraph.{FlowGraph}
-use Rattle.code_graph.specs.Stored.{IsStored}
+use Rattle.code_graph.specs.Stored.{IsStoredGraph}
 use Rattle.code_graph.proofs.graph.CodeGraph.target.Goals as goal
 
 pub returns : goal.returns
 returns c =
     let v : FlowGraph = c.args.self.now in
-    let is : IsStored v c.self.inside.callees.items c.self.inside.firsts.items c.self.inside.ends.sources.items c.self.inside.ends.targets.items = subst (λ w. IsStored w c.self.inside.callees.items c.self.inside.firsts.items c.self.inside.ends.sources.items c.self.inside.ends.targets.items) c.self.view_is c.self.invariant in
+    let is : IsStoredGraph v c.self.inside.callees.items c.self.inside.firsts.items c.self.inside.ends.sources.items c.self.inside.ends.targets.items = subst (λ w. IsStoredGraph w c.self.inside.callees.items c.self.inside.firsts.items c.self.inside.ends.sources.items c.self.inside.ends.targets.items) c.self.view_is c.self.invariant in
     let within : c.args.e < length c.self.inside.ends.targets.items = (let e = c.requires in let s = is.ends_are.targets_size in omega arith) in
     let read : slice_get c.self.inside.ends.targets.items c.args.e ≡ Some c.index.result.now = slice_get_read c.self.inside.ends.targets.items _ c.args.e c.index.result.now refl within c.index.ensures in
     record {

@@ -2,14 +2,14 @@ use Rattle.std.proofs.Common.{◌≡◌, ◌<◌, length, ap, refl, subst, sym, 
 use Rattle.std.specs.Prelude.{slice_get}
 use Rattle.std.proofs.lemmas.Option.{slice_get_read, slice_get_within}
 use Rattle.code_graph.specs.FlowGraph.{FlowGraph}
-use Rattle.code_graph.specs.Stored.{IsStored}
+use Rattle.code_graph.specs.Stored.{IsStoredGraph}
 use Rattle.code_graph.proofs.Graphs.{stored_word}
 use Rattle.code_graph.proofs.graph.CodeGraph.word.Goals as goal
 
 pub returns : goal.returns
 returns c =
     let v : FlowGraph = c.args.self.now in
-    let is : IsStored v c.self.inside.callees.items c.self.inside.firsts.items c.self.inside.ends.sources.items c.self.inside.ends.targets.items = subst (λ w. IsStored w c.self.inside.callees.items c.self.inside.firsts.items c.self.inside.ends.sources.items c.self.inside.ends.targets.items) c.self.view_is c.self.invariant in
+    let is : IsStoredGraph v c.self.inside.callees.items c.self.inside.firsts.items c.self.inside.ends.sources.items c.self.inside.ends.targets.items = subst (λ w. IsStoredGraph w c.self.inside.callees.items c.self.inside.firsts.items c.self.inside.ends.sources.items c.self.inside.ends.targets.items) c.self.view_is c.self.invariant in
     let kinds : c.self.inside.kinds.items ≡ v.kinds = ap (λ g. g.kinds) c.self.view_is in
     let within : c.source.result < length c.self.inside.kinds.items = (let k = slice_get_within v.code.nodes c.source.result _ c.source.ensures.node in let s = is.kinds in let t = ap length kinds in omega arith) in
     stored_word v _ _ _ _ is c.source.result _ c.index.result.now c.source.ensures.node
