@@ -8,7 +8,7 @@ use Rattle.cost_theory.proofs.Laws.{sum-le, sum-none, accepted_entered, header_h
 use Rattle.scale_base.specs.declared.fragments.Mark.{Mark}
 use Rattle.scale_base.specs.declared.fragments.Mark.TheVariants as marks
 use Rattle.scale_sites.specs.Counters.{set_from}
-use Rattle.scale_sites.specs.Marks.{first_counter, mark_if, leaves_any, holds_left, is_outermost, switch_of, exits_from, resets_from, counts_from, marks_at, IsListedLoop, AreLoopsOnce, AreDistinct}
+use Rattle.scale_sites.specs.Marks.{first_counter, mark_if, leaves_any, holds_left, is_outermost, switch_of, exits_from, resets_from, counts_from, marks_at, IsListedLoop, AreLoopsOnce, AreDistinctLoops}
 use Rattle.scale_sites.proofs.Laws.{switches-one}
 use Rattle.rewritten_runs.proofs.MarkLists.{marks_from, exits_are, resets_are, counts_are}
 
@@ -38,7 +38,7 @@ none_count test (k ∷ ks) h =
     let rest = none_count test ks (λ j q. h j (inr q)) in omega (arith, here, rest)
 
 -- those that pass are one
-one_count : (test : ℕ → Bool) (ks : List ℕ) → AreDistinct ks → ((j k : ℕ) → IsListedLoop j ks → IsListedLoop k ks → test j ≡ true → test k ≡ true → j ≡ k) → count test ks ≤ 1
+one_count : (test : ℕ → Bool) (ks : List ℕ) → AreDistinctLoops ks → ((j k : ℕ) → IsListedLoop j ks → IsListedLoop k ks → test j ≡ true → test k ≡ true → j ≡ k) → count test ks ≤ 1
 one_count test [] distinct same = omega arith
 one_count test (k ∷ ks) distinct same = by (test k) refl (one_count test ks distinct.1 (λ i j a b. same i j (inr a) (inr b)))
   where
@@ -74,7 +74,7 @@ only_le : (a b : Bool) → (a ≡ true → b ≡ true) → only a 1 ≤ only b 1
 only_le true b h = let e : only b 1 ≡ 1 = ap (λ q. only q 1) (h refl) in omega (arith, e)
 only_le false b h = omega arith
 
-module _ (g : Graph) (l : Loops) (extent : ℕ → ℕ → Bool) (prog : IsProgram g) (acc : AreAccepted g l extent) (flags : List Bool) (size : length flags ≡ l.loops) (are : AreLoopsOnce l (set_from 0 flags)) (distinct : AreDistinct (set_from 0 flags)) where
+module _ (g : Graph) (l : Loops) (extent : ℕ → ℕ → Bool) (prog : IsProgram g) (acc : AreAccepted g l extent) (flags : List Bool) (size : length flags ≡ l.loops) (are : AreLoopsOnce l (set_from 0 flags)) (distinct : AreDistinctLoops (set_from 0 flags)) where
   abbrev counted : List ℕ
   counted = set_from 0 flags
 

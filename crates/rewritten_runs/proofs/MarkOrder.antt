@@ -10,7 +10,7 @@ use Rattle.level_tables.specs.Tables as tables
 use Rattle.scale_base.specs.declared.fragments.Mark.{Mark}
 use Rattle.scale_base.specs.declared.fragments.Mark.TheVariants as marks
 use Rattle.scale_sites.specs.Counters.{set_from}
-use Rattle.scale_sites.specs.Marks.{first_counter, is_outermost, switch_of, exits_from, resets_from, counts_from, marks_at, IsListedLoop, AreLoopsOnce, AreDistinct}
+use Rattle.scale_sites.specs.Marks.{first_counter, is_outermost, switch_of, exits_from, resets_from, counts_from, marks_at, IsListedLoop, AreLoopsOnce, AreDistinctLoops}
 use Rattle.scale_sites.proofs.Laws.{switches-one}
 use Rattle.stored_runs.specs.Stubbed.{IsQuiet, AreOrdered}
 use Rattle.rewritten_runs.specs.Stubs.{fragment_of}
@@ -29,7 +29,7 @@ in_from k i (true ∷ flags) (inl e) = omega (arith, e)
 in_from k i (true ∷ flags) (inr h) = let r = in_from k (i + 1) flags h in omega (arith, r)
 in_from k i (false ∷ flags) h = let r = in_from k (i + 1) flags h in omega (arith, r)
 
-pub set_distinct : (i : ℕ) (flags : List Bool) → AreDistinct (set_from i flags)
+pub set_distinct : (i : ℕ) (flags : List Bool) → AreDistinctLoops (set_from i flags)
 set_distinct i [] = tt
 set_distinct i (true ∷ flags) = (λ h. let r = in_from i (i + 1) flags h in omega (arith, r), set_distinct (i + 1) flags)
 set_distinct i (false ∷ flags) = set_distinct (i + 1) flags
@@ -57,7 +57,7 @@ ordered_by power l counted n told [] (m ∷ rest) few h = all_quiet power l coun
 ordered_by power l counted n told (m ∷ []) rest few h = all_quiet power l counted n told rest h
 ordered_by power l counted n told (m ∷ q ∷ first) rest few h = let bad : ⊥ = omega arith in absurd bad
 
-pub marks_ordered : (power : PowerModel) (g : Graph) (l : Loops) (extent : ℕ → ℕ → Bool) (counted : List ℕ) (n : Numbers) (told : tables.EdgeNumbers) → IsProgram g → AreAccepted g l extent → AreLoopsOnce l counted → AreDistinct counted
+pub marks_ordered : (power : PowerModel) (g : Graph) (l : Loops) (extent : ℕ → ℕ → Bool) (counted : List ℕ) (n : Numbers) (told : tables.EdgeNumbers) → IsProgram g → AreAccepted g l extent → AreLoopsOnce l counted → AreDistinctLoops counted
     → (e : ℕ) (branch : Bool) (slack min_gain : ℕ) → e < g.edges → AreOrdered (map (fragment_of power l counted n told) (marks_at l counted branch slack min_gain (g.source e) (g.target e)))
 marks_ordered power g l extent counted n told prog acc are distinct e branch slack min_gain lt =
     let u = g.source e in

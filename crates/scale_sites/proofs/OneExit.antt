@@ -5,7 +5,7 @@ use Rattle.cost_theory.specs.Accepted.{IsProgram, AreAccepted, IsWithin}
 use Rattle.std.proofs.lemmas.Bool.{cases_eq}
 use Rattle.cost_theory.proofs.Laws.{and_left, and_right, accepted_entered, one_within}
 use Rattle.scale_base.specs.declared.fragments.Mark.TheVariants.{Switch, Exit}
-use Rattle.scale_sites.specs.Marks.{leaves_any, holds_left, is_outermost, mark_if, exits_from, switch_of, IsListedLoop, AreLoopsOnce, AreDistinct}
+use Rattle.scale_sites.specs.Marks.{leaves_any, holds_left, is_outermost, mark_if, exits_from, switch_of, IsListedLoop, AreLoopsOnce, AreDistinctLoops}
 
 leaves-inside : (l : Loops) (k u : ℕ) (p : Option ℕ) → leaves l k u p ≡ true → l.inside k u ≡ true
 leaves-inside l k u None h = let bad : ⊥ = cc in absurd bad
@@ -45,7 +45,7 @@ module _ (g : Graph) (l : Loops) (extent : ℕ → ℕ → Bool) (prog : IsProgr
   none-from e i [] none = refl
   none-from e i (k ∷ ks) none = ap (λ b. mark_if b (Exit i) ++ exits_from l (g.source e) (g.target e) counted (i + 1) ks) (none k (inl refl)) ∙ none-from e (i + 1) ks (λ j h. none j (inr h))
 
-  pub exits-one : (e i : ℕ) (ks : List ℕ) → e < g.edges → AreDistinct ks → ((k : ℕ) → IsListedLoop k ks → IsListedLoop k counted) → length (exits_from l (g.source e) (g.target e) counted i ks) ≤ 1
+  pub exits-one : (e i : ℕ) (ks : List ℕ) → e < g.edges → AreDistinctLoops ks → ((k : ℕ) → IsListedLoop k ks → IsListedLoop k counted) → length (exits_from l (g.source e) (g.target e) counted i ks) ≤ 1
   exits-one e i [] lt distinct within = omega arith
   exits-one e i (k ∷ ks) lt (new, distinct) within = go (is_outermost l (g.source e) (g.target e) k counted) refl (exits-one e (i + 1) ks lt distinct (λ j h. within j (inr h)))
     where
@@ -77,7 +77,7 @@ module _ (g : Graph) (l : Loops) (extent : ℕ → ℕ → Bool) (prog : IsProgr
       or-rest true b h = let bad : ⊥ = cc in absurd bad
       or-rest false b h = h
 
-  pub switches-one : (e : ℕ) (branch : Bool) (slack min_gain i : ℕ) → e < g.edges → AreDistinct counted → length (switch_of l (g.source e) (g.target e) counted branch slack min_gain ++ exits_from l (g.source e) (g.target e) counted i counted) ≤ 1
+  pub switches-one : (e : ℕ) (branch : Bool) (slack min_gain i : ℕ) → e < g.edges → AreDistinctLoops counted → length (switch_of l (g.source e) (g.target e) counted branch slack min_gain ++ exits_from l (g.source e) (g.target e) counted i counted) ≤ 1
   switches-one e branch slack min_gain i lt distinct = go branch (leaves_any l (g.source e) (g.target e) counted) refl (nat_le min_gain slack)
     where
       go : (b a : Bool) → leaves_any l (g.source e) (g.target e) counted ≡ a → (s : Bool) → length (mark_if (b && (not a && s)) Switch ++ exits_from l (g.source e) (g.target e) counted i counted) ≤ 1

@@ -80,11 +80,11 @@ IsListedLoop k (j ∷ js) = (k ≡ j) ⊎ IsListedLoop k js
 abbrev pub AreLoopsOnce : Loops → List ℕ → Type 0
 AreLoopsOnce l ks = (k : ℕ) → IsListedLoop k ks → k < l.loops
 
-abbrev pub AreDistinct : List ℕ → Type 0
-AreDistinct [] = Unit {0}
-AreDistinct (k ∷ ks) = (IsListedLoop k ks → ⊥) × AreDistinct ks
+abbrev pub AreDistinctLoops : List ℕ → Type 0
+AreDistinctLoops [] = Unit {0}
+AreDistinctLoops (k ∷ ks) = (IsListedLoop k ks → ⊥) × AreDistinctLoops ks
 
 -- The law: on accepted loops at most one mark of an edge is a switch.
 abbrev pub SwitchesOnce : Type 0
-SwitchesOnce = (g : Graph) (l : Loops) (extent : ℕ → ℕ → Bool) (counted : List ℕ) → IsProgram g → AreAccepted g l extent → AreLoopsOnce l counted → AreDistinct counted
+SwitchesOnce = (g : Graph) (l : Loops) (extent : ℕ → ℕ → Bool) (counted : List ℕ) → IsProgram g → AreAccepted g l extent → AreLoopsOnce l counted → AreDistinctLoops counted
     → (e : ℕ) (branch : Bool) (slack min_gain i : ℕ) → e < g.edges → length (switch_of l (g.source e) (g.target e) counted branch slack min_gain ++ exits_from l (g.source e) (g.target e) counted i counted) ≤ 1
