@@ -8,8 +8,8 @@ use Rattle.cost_theory.specs.declared.edges.Word.{Word}
 use Rattle.cost_theory.specs.declared.edges.Word.TheVariants.{CallOf}
 use Rattle.cost_theory.specs.Reached.{callee_of, number_or_0}
 use Rattle.cost_theory.proofs.Laws.{below_suc, find-holds, find-some, some_value, some_get}
-use Rattle.flow_passes.specs.declared.marks.Mark.{Mark}
-use Rattle.flow_passes.specs.declared.marks.Mark.TheVariants.{Unreached, Owner}
+use Rattle.code_reach.specs.declared.marks.Mark.{Mark}
+use Rattle.code_reach.specs.declared.marks.Mark.TheVariants.{Unreached, Owner}
 use Rattle.graph_runs.specs.Text.{Text}
 use Rattle.code_text.specs.Walk.{RiseStrictly}
 use Rattle.code_reach.specs.Reach.{Reach, WordStandsAt}

@@ -11,8 +11,8 @@ use Rattle.cost_theory.specs.declared.edges.Word.TheVariants.{Branch, Goto, Call
 use Rattle.cost_theory.specs.Reached.{Reached, DoesReturn, IsCodeOf, HasNoBadWord, HasNoSharedCode, edges_of, callee_of, call_returns, flag_beside, owner_of, number_or_0}
 use Rattle.cost_theory.specs.Reached.Reached.{main}
 use Rattle.cost_theory.proofs.Laws.{some_get, callee-call}
-use Rattle.flow_passes.specs.declared.marks.Mark.{Mark}
-use Rattle.flow_passes.specs.declared.marks.Mark.TheVariants.{Unreached, Owner, Shared}
+use Rattle.code_reach.specs.declared.marks.Mark.{Mark}
+use Rattle.code_reach.specs.declared.marks.Mark.TheVariants.{Unreached, Owner, Shared}
 use Rattle.graph_runs.specs.Text.{Text, kind_at}
 use Rattle.code_reach.specs.Reach.{Reach, WordStandsAt}
 use Rattle.code_graph.specs.Finding.{IsReachIn}

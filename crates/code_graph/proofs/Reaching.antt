@@ -7,8 +7,8 @@ use Rattle.cost_theory.specs.declared.edges.Word.{Word}
 use Rattle.cost_theory.specs.declared.edges.Word.TheVariants.{Bad}
 use Rattle.cost_theory.specs.Reached.{Reached, HasNoBadWord, HasNoSharedCode}
 use Rattle.cost_theory.specs.Reached.Reached.{main, onward, back, called}
-use Rattle.flow_passes.specs.declared.marks.Mark.{Mark}
-use Rattle.flow_passes.specs.declared.marks.Mark.TheVariants.{Unreached, Owner, Shared}
+use Rattle.code_reach.specs.declared.marks.Mark.{Mark}
+use Rattle.code_reach.specs.declared.marks.Mark.TheVariants.{Unreached, Owner, Shared}
 use Rattle.graph_runs.specs.Text.{Text, kind_at}
 use Rattle.code_reach.specs.Reach.{Reach, IsReached, IsShared, WordStandsAt, IsReachOf}
 use Rattle.code_reach.specs.Steps.{IsWordTableOf}

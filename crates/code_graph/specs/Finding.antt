@@ -2,7 +2,7 @@
 use Rattle.std.specs.Prelude.{◌≡◌, ◌≢◌, ℕ, ◌<◌, ◌≤◌, slice_get, Option, Some, None}
 use Rattle.cost_theory.specs.declared.edges.Word.TheVariants.{Bad}
 use Rattle.cost_theory.specs.Reached.{HasNoBadWord}
-use Rattle.flow_passes.specs.declared.marks.Mark.TheVariants.{Unreached}
+use Rattle.code_reach.specs.declared.marks.Mark.TheVariants.{Unreached}
 use Rattle.graph_runs.specs.Text.{Text, kind_at}
 use Rattle.code_reach.specs.declared.reach.TextReach.{TextReach}
 use Rattle.code_reach.specs.Reach.{Reach, IsReached, IsReachOf}

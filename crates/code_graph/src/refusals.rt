@@ -2,7 +2,7 @@
 
 ghost use Rattle.std.specs.Prelude.{◌≡◌, ◌≢◌, ◌↔◌, ◌<◌, ◌≤◌, ℕ, true, length, slice_get, Some, None, Ok};
 ghost use Rattle.cost_theory.specs.declared.edges.Word.TheVariants.{Bad};
-ghost use Rattle.flow_passes.specs.declared.marks.Mark.TheVariants.{Unreached, Shared};
+ghost use Rattle.code_reach.specs.declared.marks.Mark.TheVariants.{Unreached, Shared};
 ghost use Rattle.scale_base.specs.Image.{image_of};
 ghost use Rattle.graph_runs.specs.Text as texts;
 ghost use Rattle.graph_runs.specs.Text.{text_of};

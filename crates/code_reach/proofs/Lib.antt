@@ -6,3 +6,7 @@ pub mod ReachLaws
 pub mod OutsideLaws
 pub mod MarkedLaws
 pub mod Laws
+pub mod FlowLaws
+pub mod ChainLaws
+pub mod LinkLaws
+pub mod MarkLaws

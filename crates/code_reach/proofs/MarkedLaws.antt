@@ -2,11 +2,11 @@
 use Rattle.std.proofs.Common.{◌≡◌, ℕ, zero, suc, ◌<◌, ◌↔◌, Bool, List, [], ◌∷◌, length, replicate, Option, Some, None, refl, sym, ap, ◌∙◌, subst}
 use Rattle.std.specs.Prelude.{slice_get, slice_index}
 use Rattle.std.proofs.lemmas.Option.{slice_get_within, slice_get-get_or, get_or_from_slice_get}
-use Rattle.flow_passes.specs.declared.step.Step.{Step}
-use Rattle.flow_passes.specs.declared.marks.Mark.{Mark}
-use Rattle.flow_passes.specs.declared.marks.Mark.TheVariants.{Unreached, Owner, Shared}
-use Rattle.flow_passes.specs.Marks.{mark_at, function_number, ReachedAt, IsReachedTwice}
-use Rattle.flow_passes.specs.Marks.ReachedAt.{enters, jumps, goes, calls}
+use Rattle.code_reach.specs.declared.step.Step.{Step}
+use Rattle.code_reach.specs.declared.marks.Mark.{Mark}
+use Rattle.code_reach.specs.declared.marks.Mark.TheVariants.{Unreached, Owner, Shared}
+use Rattle.code_reach.specs.Marks.{mark_at, function_number, ReachedAt, IsReachedTwice}
+use Rattle.code_reach.specs.Marks.ReachedAt.{enters, jumps, goes, calls}
 use Rattle.code_reach.specs.Steps.{AreReachMarks}
 
 some_same : {X : Type 0} (x y : X) → Some x ≡ Some y → x ≡ y

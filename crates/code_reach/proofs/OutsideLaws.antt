@@ -4,9 +4,9 @@ use Rattle.std.specs.Prelude.{slice_get, slice_index_or, min}
 use Rattle.cost_theory.specs.declared.edges.Word.{Word}
 use Rattle.cost_theory.specs.declared.edges.Word.TheVariants.{Branch, CallOf}
 use Rattle.code_text.specs.Table.{WordTable}
-use Rattle.flow_passes.specs.declared.marks.Mark.{Mark}
-use Rattle.flow_passes.specs.declared.marks.Mark.TheVariants.{Unreached}
-use Rattle.flow_passes.specs.Flow.{flag}
+use Rattle.code_reach.specs.declared.marks.Mark.{Mark}
+use Rattle.code_reach.specs.declared.marks.Mark.TheVariants.{Unreached}
+use Rattle.code_reach.specs.Flow.{flag}
 use Rattle.code_reach.specs.Reach.{WordStandsAt}
 use Rattle.code_reach.specs.Steps.{IsWordNumber}
 use Rattle.code_reach.specs.Outside.{lower_of, has_mark, IsLowest, IsOutsideOf, ComesBackTo, GoesOnTo, GoesOnFrom, IsComeTo}

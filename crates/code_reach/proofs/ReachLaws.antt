@@ -9,12 +9,12 @@ use Rattle.cost_theory.specs.Reached.{LeadsTo, Reached, DoesReturn}
 use Rattle.cost_theory.specs.Reached.Reached.{main, onward, back, called}
 use Rattle.graph_runs.specs.Text.{Text, kind_at}
 use Rattle.code_text.specs.Table.{WordTable, word_table}
-use Rattle.flow_passes.specs.declared.step.Step.{Step}
-use Rattle.flow_passes.specs.declared.marks.Mark.{Mark}
-use Rattle.flow_passes.specs.declared.marks.Mark.TheVariants.{Unreached, Owner, Shared}
-use Rattle.flow_passes.specs.Flow.{step_at, flag, CanReturnAt}
-use Rattle.flow_passes.specs.Marks.{jumped_word, called_word, goes_on_after, ReachedAt}
-use Rattle.flow_passes.specs.Marks.ReachedAt.{enters, jumps, goes, calls as calls_at}
+use Rattle.code_reach.specs.declared.step.Step.{Step}
+use Rattle.code_reach.specs.declared.marks.Mark.{Mark}
+use Rattle.code_reach.specs.declared.marks.Mark.TheVariants.{Unreached, Owner, Shared}
+use Rattle.code_reach.specs.Flow.{step_at, flag, CanReturnAt}
+use Rattle.code_reach.specs.Marks.{jumped_word, called_word, goes_on_after, ReachedAt}
+use Rattle.code_reach.specs.Marks.ReachedAt.{enters, jumps, goes, calls as calls_at}
 use Rattle.code_reach.specs.Reach.{WordStandsAt, IsReached, IsShared, IsReachOf}
 use Rattle.code_reach.specs.Steps.{IsWordTableOf, IsWordNumber, AreSteps, ReachedFrom, AreReachMarks}
 use Rattle.code_reach.specs.Outside.{IsLowest, IsOutsideOf, has_mark, GoesOnTo, IsComeTo}

@@ -7,11 +7,11 @@ use Rattle.cost_theory.specs.declared.edges.Word.{Word}
 use Rattle.cost_theory.specs.declared.edges.Word.TheVariants.{Branch, Goto, CallOf, Back, Ends, MayEnd, Breaks, Straight, Bad}
 use Rattle.cost_theory.specs.Reached.{LeadsTo}
 use Rattle.code_text.specs.Table.{WordTable}
-use Rattle.flow_passes.specs.declared.step.Step.{Step}
-use Rattle.flow_passes.specs.declared.step.Step.TheVariants.{Return, Stop, On, Call}
-use Rattle.flow_passes.specs.Flow.{step_at, flag, flag_option, CanReturnAt}
-use Rattle.flow_passes.specs.Flow.CanReturnAt.{here as here_at, jumps as jumps_at, goes as goes_at, across as across_at}
-use Rattle.flow_passes.specs.Marks.{jumped_word, called_word, goes_on_after}
+use Rattle.code_reach.specs.declared.step.Step.{Step}
+use Rattle.code_reach.specs.declared.step.Step.TheVariants.{Return, Stop, On, Call}
+use Rattle.code_reach.specs.Flow.{step_at, flag, flag_option, CanReturnAt}
+use Rattle.code_reach.specs.Flow.CanReturnAt.{here as here_at, jumps as jumps_at, goes as goes_at, across as across_at}
+use Rattle.code_reach.specs.Marks.{jumped_word, called_word, goes_on_after}
 use Rattle.code_reach.specs.Reach.{WordStandsAt}
 use Rattle.code_reach.specs.Steps.{IsWordTableOf, IsWordNumber, HasNextWord, IsStepOf, IsStepAt, AreSteps}
 use Rattle.code_reach.proofs.Places.{order, one_place, next_place}

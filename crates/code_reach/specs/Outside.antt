@@ -4,9 +4,9 @@ use Rattle.cost_theory.specs.declared.edges.Word.{Word}
 use Rattle.cost_theory.specs.declared.edges.Word.TheVariants.{CallOf}
 use Rattle.cost_theory.specs.Reached.{LeadsTo}
 use Rattle.code_text.specs.Table.{WordTable}
-use Rattle.flow_passes.specs.declared.marks.Mark.{Mark}
-use Rattle.flow_passes.specs.declared.marks.Mark.TheVariants.{Unreached, Owner, Shared}
-use Rattle.flow_passes.specs.Flow.{flag}
+use Rattle.code_reach.specs.declared.marks.Mark.{Mark}
+use Rattle.code_reach.specs.declared.marks.Mark.TheVariants.{Unreached, Owner, Shared}
+use Rattle.code_reach.specs.Flow.{flag}
 use Rattle.code_reach.specs.Reach.{WordStandsAt}
 
 abbrev pub lower_of : Option ℕ → Option ℕ → Option ℕ

@@ -4,8 +4,8 @@ use Rattle.std.specs.Prelude.{◌≡◌, ◌≢◌, ℕ, ◌≤◌, ◌↔◌, B
 use Rattle.cost_theory.specs.Reached.{Reached, DoesReturn}
 use Rattle.graph_runs.specs.Text.{Text, kind_at}
 use Rattle.code_text.specs.Table.{WordTable, word_table}
-use Rattle.flow_passes.specs.declared.marks.Mark.{Mark}
-use Rattle.flow_passes.specs.declared.marks.Mark.TheVariants.{Unreached, Owner, Shared}
+use Rattle.code_reach.specs.declared.marks.Mark.{Mark}
+use Rattle.code_reach.specs.declared.marks.Mark.TheVariants.{Unreached, Owner, Shared}
 
 -- an address is reached, in some function
 abbrev pub IsReached : Text → ℕ → Type 0

@@ -4,12 +4,12 @@ use Rattle.cost_theory.specs.declared.edges.Word.{Word}
 use Rattle.cost_theory.specs.declared.edges.Word.TheVariants.{Branch, Goto, CallOf, Back, Ends, MayEnd, Breaks, Straight, Bad}
 use Rattle.code_text.specs.Table.{WordTable}
 use Rattle.code_text.specs.Walk.{RiseStrictly}
-use Rattle.flow_passes.specs.declared.step.Step.{Step}
-use Rattle.flow_passes.specs.declared.step.Step.TheVariants.{Return, Stop, On, Call}
-use Rattle.flow_passes.specs.declared.marks.Mark.{Mark}
-use Rattle.flow_passes.specs.declared.marks.Mark.TheVariants.{Unreached, Owner, Shared}
-use Rattle.flow_passes.specs.Flow.{step_at}
-use Rattle.flow_passes.specs.Marks.{ReachedAt}
+use Rattle.code_reach.specs.declared.step.Step.{Step}
+use Rattle.code_reach.specs.declared.step.Step.TheVariants.{Return, Stop, On, Call}
+use Rattle.code_reach.specs.declared.marks.Mark.{Mark}
+use Rattle.code_reach.specs.declared.marks.Mark.TheVariants.{Unreached, Owner, Shared}
+use Rattle.code_reach.specs.Flow.{step_at}
+use Rattle.code_reach.specs.Marks.{ReachedAt}
 use Rattle.code_reach.specs.Reach.{WordStandsAt}
 
 -- no word stands where four more would wrap

@@ -3,7 +3,8 @@
 ghost use Rattle.std.specs.Prelude.{◌^◌, ◌<◌, Bool, IfOk, IfSome, List, None, length};
 ghost use Rattle.code_reach.specs.Steps.{AreReachMarks};
 
-use flow_passes::{Mark, Step, mark_words};
+use crate::marks::{Mark, mark_words};
+use crate::step::Step;
 use scale_base::NoMemory;
 use std::alloc::Global;
 

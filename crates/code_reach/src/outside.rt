@@ -7,7 +7,7 @@ ghost use Rattle.code_reach.specs.Steps.{AreLow};
 
 use code_text::TextWords;
 use cost_theory::Word;
-use flow_passes::Mark;
+use crate::marks::Mark;
 
 /// The lower of two addresses.
 fn lower(a: Option<u32>, b: Option<u32>) -> Option<u32>

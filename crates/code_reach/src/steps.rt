@@ -6,7 +6,7 @@ ghost use Rattle.code_reach.specs.Steps.{AreLow, HasNextWord, IsStepAt, AreSteps
 
 use code_text::TextWords;
 use cost_theory::Word;
-use flow_passes::Step;
+use crate::step::Step;
 use scale_base::NoMemory;
 use std::alloc::Global;
 

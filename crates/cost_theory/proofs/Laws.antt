@@ -27,4 +27,3 @@ pub use Rattle.cost_theory.proofs.Slack.{closing_present, slack-le}
 pub use Rattle.cost_theory.proofs.StepLaws.{along_at, behind-rest, run-within}
 pub use Rattle.cost_theory.proofs.Turns.{AreNested, back_charged, charged_entering, entered-header}
 pub use Rattle.cost_theory.proofs.Unique.{greatest_some, same_numbers}
-pub use Rattle.cost_theory.proofs.Programs.{reached_node}

@@ -1,6 +1,6 @@
 use Rattle.std.proofs.Common.{◌≡◌, length, Some, None, inl, inr, refl, subst}
 use Rattle.std.specs.Prelude.{slice_get}
-use Rattle.flow_passes.specs.declared.marks.Mark.TheVariants.{Shared}
+use Rattle.code_reach.specs.declared.marks.Mark.TheVariants.{Shared}
 use Rattle.cost_theory.specs.Reached.{HasNoBadWord}
 use Rattle.graph_runs.specs.Text.{text_of, kind_at}
 use Rattle.code_graph.specs.Finding.{reach_of, IsFirstBelow, IsLeastBad}

@@ -1,5 +1,5 @@
 use Rattle.std.proofs.Common.{rules, ◌≡◌, length, replicate, None}
-use Rattle.flow_passes.specs.declared.marks.Mark.TheVariants.{Unreached}
+use Rattle.code_reach.specs.declared.marks.Mark.TheVariants.{Unreached}
 use Rattle.code_reach.proofs.MarkedLaws.{none_is}
 use Rattle.code_reach.proofs.marked.none_marked.Goals as goal
 

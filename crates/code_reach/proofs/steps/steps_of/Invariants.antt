@@ -1,5 +1,5 @@
 use Rattle.std.proofs.Common.{◌≡◌, ℕ, ◌<◌, length}
-use Rattle.flow_passes.specs.Flow.{step_at}
+use Rattle.code_reach.specs.Flow.{step_at}
 use Rattle.code_reach.specs.Steps.{IsStepAt}
 use Rattle.code_reach.proofs.steps.steps_of.Given as goal
 

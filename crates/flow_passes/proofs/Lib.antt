@@ -1,4 +1,0 @@
-pub mod FlowLaws
-pub mod ChainLaws
-pub mod LinkLaws
-pub mod MarkLaws

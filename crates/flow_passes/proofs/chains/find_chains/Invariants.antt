@@ -1,5 +1,0 @@
-use Rattle.flow_passes.specs.Flow.{AreStepChains}
-use Rattle.flow_passes.proofs.chains.find_chains.Given as goal
-
-abbrev pub invariant-loop-s : goal.invariant-loop-s
-invariant-loop-s l = AreStepChains l.steps l.s l.chains.last.items l.chains.before.items
