@@ -6,7 +6,7 @@ use Rattle.std.proofs.lemmas.Bool.{and_parts, eqb-true, leb-true, ltb-true, cond
 use Rattle.std.proofs.lemmas.Option.{slice_get-map, slice_get_within}
 use Rattle.scale_base.specs.declared.ranges.Range.{Range}
 use Rattle.scale_base.specs.Image.{Image, image_of, is_in}
-use Rattle.text_laws.proofs.Laws.{IsTextRange, text_ranges_kept}
+use Rattle.machine_laws.proofs.Laws.{IsTextRange, text_ranges_kept}
 use Rattle.cost_theory.specs.declared.edges.Word.{Word}
 use Rattle.cost_theory.specs.declared.edges.Word.TheVariants.{Bad}
 use Rattle.cost_theory.proofs.Laws.{Within, get_within, within_get, flat_within, within_flat}

@@ -8,7 +8,7 @@ use Rattle.std.proofs.lemmas.List.Elements.{All-head, All-tail, All-get_or}
 use Rattle.std.proofs.lemmas.List.Folds.{list_any_at}
 use Rattle.scale_base.specs.declared.ranges.Range.{Range}
 use Rattle.scale_base.specs.Image.{Image, image_of, is_in}
-use Rattle.text_laws.proofs.Laws.{IsTextRange, text_ranges_kept}
+use Rattle.machine_laws.proofs.Laws.{IsTextRange, text_ranges_kept}
 use Rattle.graph_runs.proofs.Laws.{ranges_apart}
 use Rattle.code_text.specs.Walk.{IsWalked}
 

@@ -14,8 +14,8 @@ use Rattle.scale_base.specs.Image.{Image, image_of, contents, loaded_byte, text_
 use Rattle.scale_base.specs.Layout.{layout_of, in_stack}
 use Rattle.scale_base.specs.Run.{setting_of, start_of, starting_level}
 use Rattle.scale_base.proofs.Laws.{rules_kept, contents-are, rules_of}
-use Rattle.text_laws.proofs.Laws.{found_from_any, found_passes, found_keeps, segments_of, IsPlaced, part_placed, part_held, part_covered, parts_placed, All-ranges_of, text_ranges_kept}
-use Rattle.text_laws.proofs.Laws as texts
+use Rattle.machine_laws.proofs.Laws.{found_from_any, found_passes, found_keeps, segments_of, IsPlaced, part_placed, part_held, part_covered, parts_placed, All-ranges_of, text_ranges_kept}
+use Rattle.machine_laws.proofs.Laws as texts
 use Rattle.graph_runs.specs.Text.{text_of}
 use Rattle.graph_runs.specs.TextStates.{IsTextRange, IsTextOf}
 use Rattle.graph_runs.specs.Laws.{IsStartOver}

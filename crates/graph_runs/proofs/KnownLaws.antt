@@ -13,7 +13,7 @@ use Rattle.graph_runs.specs.Text.{Text, is_text_address, instr_at, jump_of, is_t
 use Rattle.graph_runs.specs.TextStates.{IsTextOf, IsOverText}
 use Rattle.graph_runs.proofs.StepFacts.{IsDone}
 use Rattle.graph_runs.proofs.TextFacts.{target_is, follows_word, word_bound, not_written}
-use Rattle.run_laws.proofs.Laws.{step_length}
+use Rattle.machine_laws.proofs.Laws.{step_length}
 
 -- what is known at v: no jump goes there, and the word before it passes it on
 pub known_parts : (t : Text) (env : Setting) → IsTextOf t env → (n v k : ℕ) → known_within t n v ≡ Some k →

@@ -9,7 +9,7 @@ use Rattle.scale_base.specs.Image.{is_in}
 use Rattle.scale_base.specs.declared.instruction.ImmOp.TheVariants.{Addi, Slti, Sltiu, Xori, Ori, Andi, Slli, Srli, Srai}
 use Rattle.scale_base.specs.declared.instruction.Instr.{Instr}
 use Rattle.scale_base.specs.declared.instruction.Instr.TheVariants.{Lui, Auipc, Jal, Jalr, Branch, Load, Store, Imm, Reg, Fence, Ecall, Ebreak}
-use Rattle.text_laws.proofs.Laws.{found_in, found_from_any, found_passes, any_from_found}
+use Rattle.machine_laws.proofs.Laws.{found_in, found_from_any, found_passes, any_from_found}
 use Rattle.graph_runs.specs.Text.{Text, instr_at, is_target, follows, puts17, leaves17, or_passed, known_behind, known_within, IsPutBefore, AreApart}
 use Rattle.graph_runs.specs.Laws.{KnownNumbersArePut}
 

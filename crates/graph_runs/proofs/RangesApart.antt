@@ -12,7 +12,7 @@ use Rattle.scale_base.specs.Rules.{AllHold}
 use Rattle.scale_base.specs.Spans.{overlap, each_pair}
 use Rattle.scale_base.specs.Image.{Image, image_of, contents, text_ranges, text_parts, loaded_headers, range_of, is_in, is_text_place, are_apart, keeps_text_rules, part_rules, text_start, text_rules, write_rules, all_text_rules, ranges_of}
 use Rattle.scale_base.proofs.Laws.{rule_kept, kept-split, rules_kept, contents-are, rules_of, whole_kept}
-use Rattle.text_laws.proofs.Laws.{All-ranges_of}
+use Rattle.machine_laws.proofs.Laws.{All-ranges_of}
 use Rattle.graph_runs.specs.Text.{text_of, AreApart}
 use Rattle.graph_runs.specs.Laws.{ImageNumbersArePut}
 use Rattle.graph_runs.proofs.Images.{share_address}

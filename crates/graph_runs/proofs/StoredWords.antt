@@ -9,7 +9,7 @@ use Rattle.scale_base.specs.Image.{Image, image_of, contents, is_in, memory_rang
 use Rattle.scale_base.specs.Reading.{instr_of}
 use Rattle.scale_base.specs.State.{word_at}
 use Rattle.scale_base.proofs.Laws.{rules_kept, contents-are, rules_of}
-use Rattle.text_laws.proofs.Laws.{found_from_any, any_from_found, segments_of, in_part, InText, in_text, word_loaded}
+use Rattle.machine_laws.proofs.Laws.{found_from_any, any_from_found, segments_of, in_part, InText, in_text, word_loaded}
 use Rattle.graph_runs.specs.Text.{Text, text_of, word_kind, kind_at}
 use Rattle.graph_runs.specs.Laws.{KindsAreOfStoredWords, InstructionsAreOfStoredWords}
 

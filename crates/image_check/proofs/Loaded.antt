@@ -5,7 +5,7 @@ use Rattle.std.proofs.lemmas.List.{get_or-drop}
 use Rattle.scale_base.specs.declared.headers.ProgramHeader.{ProgramHeader}
 use Rattle.scale_base.specs.Image.{contents, loaded_byte, byte_in, covers, segment_of, loaded_headers, is_zeroed}
 use Rattle.scale_base.proofs.Laws.{contents-are}
-use Rattle.text_laws.proofs.Laws.{find-map}
+use Rattle.machine_laws.proofs.Laws.{find-map}
 use Rattle.image_check.specs.Laws.{LoadedBytesAreSmall}
 
 abbrev AreSmall : List ℕ → Type 0

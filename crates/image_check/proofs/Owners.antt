@@ -20,7 +20,7 @@ use Rattle.graph_runs.specs.Laws.{IsProgramOf}
 use Rattle.graph_runs.proofs.Laws.{kind_facts}
 use Rattle.stub_writer.specs.Stubs.{Site}
 use Rattle.stored_runs.specs.Marks.{place_at, fragments_of_class, counters_behind}
-use Rattle.shadow_counts.specs.Shadows.{count_over}
+use Rattle.marked_runs.specs.Shadows.{count_over}
 use Rattle.marked_runs.specs.Counters.{AreCounterWords, AreCounted}
 use Rattle.marked_runs.proofs.Laws.{loops_are_countable}
 use Rattle.foreign_scan.specs.Scanned.{Found, CanBePatched, IsPatch, IsScanned}

@@ -15,7 +15,7 @@ use Rattle.graph_runs.specs.EdgeCosts.{edge_class, cost_of}
 use Rattle.graph_runs.specs.RunMoves.{text_graph, places_of, classes_of}
 use Rattle.stub_writer.specs.Stubs.{Site}
 use Rattle.stored_runs.specs.Marks.{Shadow, place_at, fragments_of_class, counters_behind, extra_cycles, stored_cycles, shadow_more, shadow_after}
-use Rattle.shadow_counts.specs.Shadows.{count_over, counted_move, counted_moves}
+use Rattle.marked_runs.specs.Shadows.{count_over, counted_move, counted_moves}
 use Rattle.marked_runs.specs.Marked.{extra_by, extra_site_weights, stored_site_weights}
 use Rattle.marked_runs.specs.Counters.{AreCounted}
 

@@ -25,8 +25,8 @@ use Rattle.stub_writer.specs.Stubs.{Site}
 use Rattle.stored_runs.specs.Marks.{shadow_first, shadow_after}
 use Rattle.stored_runs.specs.Stubbed.{KeepsLimits}
 use Rattle.stored_runs.proofs.Laws.{patched_runs, stubbed_patched}
-use Rattle.shadow_counts.specs.Shadows.{counted_moves}
-use Rattle.shadow_counts.proofs.Laws.{counts_shown, counts_within}
+use Rattle.marked_runs.specs.Shadows.{counted_moves}
+use Rattle.marked_runs.proofs.Shown.{counts_shown, counts_within}
 use Rattle.marked_runs.specs.Counters.{AreCounterWords, AreCounted, AreCounting, by_words}
 use Rattle.marked_runs.specs.Laws.{KeptRunsStayInText, KeptRunsAreFollowed, KeptRunsArePatched, MovesCostStoredWeights, MovesCostExtraWeights}
 use Rattle.marked_runs.proofs.Aligned.{AreAligned, stored_sum, extra_sum, counters_are, others_are}

@@ -3,3 +3,4 @@ pub mod Words
 pub mod Kept
 pub mod Graphs
 pub mod Laws
+pub mod Shown

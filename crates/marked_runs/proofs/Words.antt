@@ -8,7 +8,7 @@ use Rattle.graph_runs.specs.Text.{Text}
 use Rattle.graph_runs.specs.RunMoves.{text_graph}
 use Rattle.stub_writer.specs.Stubs.{Site}
 use Rattle.stored_runs.specs.Marks.{place_at, fragments_of_class, counters_behind}
-use Rattle.shadow_counts.specs.Shadows.{AreCountable, count_over}
+use Rattle.marked_runs.specs.Shadows.{AreCountable, count_over}
 use Rattle.marked_runs.specs.Marked.{AreMarked, AreLimits}
 use Rattle.marked_runs.specs.Counters.{AreCounterWords, AreCounted, by_words}
 

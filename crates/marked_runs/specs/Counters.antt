@@ -14,7 +14,7 @@ use Rattle.graph_runs.specs.KeptRuns.{IsKeptRun}
 use Rattle.stub_writer.specs.Stubs.{Site}
 use Rattle.stored_runs.specs.Marks.{place_at, fragments_of_class, counters_behind, shadow_first, shadow_after}
 use Rattle.stored_runs.specs.Stubbed.{IsFollowed}
-use Rattle.shadow_counts.specs.Shadows.{AreCountable, AreShown, count_over}
+use Rattle.marked_runs.specs.Shadows.{AreCountable, AreShown, count_over}
 
 -- the loops can be counted, and the limits are at least their bounds
 pub record AreCounterWords (g : Graph) (l : Loops) (limits : ℕ → ℕ) (is_of : ℕ → ℕ → Bool) : Type 0 where

@@ -17,7 +17,7 @@ use Rattle.stub_writer.specs.Stubs.{Site}
 use Rattle.stored_runs.specs.Marks.{extra_cycles, stored_cycles}
 use Rattle.stored_runs.specs.Stubbed.{IsSafeSite, IsStubbed, StaysInText}
 use Rattle.stored_runs.specs.Patched.{IsPatched}
-use Rattle.shadow_counts.specs.Shadows.{AreCountable}
+use Rattle.marked_runs.specs.Shadows.{AreCountable}
 use Rattle.marked_runs.specs.Counters.{AreCounterWords, AreCounted, IsKeptPatched}
 use Rattle.marked_runs.specs.Marked.{stored_site_weights, extra_site_weights, AreMarked, AreLimits, IsKeptFollowed}
 

@@ -1,3 +1,5 @@
 pub mod Marked
 pub mod Laws
 pub mod Counters
+pub mod Shadows
+pub mod CountLaws

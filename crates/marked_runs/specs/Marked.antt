@@ -17,7 +17,7 @@ use Rattle.stub_writer.specs.Stubs.{Site}
 use Rattle.stub_runs.specs.Cycles.{fragment_cost}
 use Rattle.stored_runs.specs.Marks.{place_at, fragments_of_class, jumps_by, counters_behind, shadow_first, shadow_after}
 use Rattle.stored_runs.specs.Stubbed.{IsFollowed}
-use Rattle.shadow_counts.specs.Shadows.{AreShown, count_over}
+use Rattle.marked_runs.specs.Shadows.{AreShown, count_over}
 
 -- ---- weights
 

@@ -4,6 +4,10 @@
 
 ghost use Rattle.marked_runs.specs.Laws.{KeptRunsAreFollowed, KeptRunsArePatched, KeptRunsStayInText, LoopsAreCountable, MovesCostExtraWeights, MovesCostStoredWeights, PatchedWeightsAreWeights, StoredWeightsAreWeights, TargetsAreWords};
 
+mod counts;
+
+pub use counts::counts_on_edges;
+
 /// The stored image follows each kept run, which stays in the text.
 pub fn kept_runs_are_followed()
     ensures followed { KeptRunsAreFollowed }

@@ -10,7 +10,7 @@ use Rattle.power_model.specs.Price.{level_after}
 use Rattle.stub_runs.specs.Cycles.{stepped_cycles}
 use Rattle.stored_runs.specs.Legs.{StoresLevel}
 use Rattle.power_model.specs.Switches.{energy, costs_of, NeverRises, switches_from, saved, fee, AllPay}
-use Rattle.leg_prices.proofs.Laws.{AreSilent}
+use Rattle.paid_runs.proofs.LegPrice.{AreSilent}
 
 -- ---- no step raises the level
 

@@ -4,3 +4,5 @@ pub mod Paid
 pub mod Tables
 pub mod Tuned
 pub mod Laws
+pub mod LegPrice
+pub mod Energies

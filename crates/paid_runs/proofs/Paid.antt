@@ -33,12 +33,12 @@ use Rattle.stored_runs.specs.Marks.{stored_cycles, extra_cycles, shadow_first}
 use Rattle.stored_runs.specs.Legs.{originals, all_steps}
 use Rattle.stored_runs.proofs.Laws.{cost_of_legs, short_legs, long_legs}
 use Rattle.stored_runs.specs.Stubbed.{IsFollowed}
-use Rattle.shadow_counts.specs.Shadows.{AreCountable}
+use Rattle.marked_runs.specs.Shadows.{AreCountable}
 use Rattle.marked_runs.specs.Marked.{extra_site_weights}
 use Rattle.marked_runs.specs.Counters.{AreCounted, by_words}
 use Rattle.marked_runs.proofs.Laws.{word_of_loop, is_word, countable_of, counted_of, AreAligned, extra_sum}
 use Rattle.power_model.specs.Switches.{period, costs_of}
-use Rattle.leg_prices.proofs.Laws.{cycles_from, switches_save}
+use Rattle.paid_runs.proofs.Energies.{cycles_from, switches_save}
 use Rattle.paid_runs.specs.Timely.{weights_of, AreTables, AreTablesOf, IsPaidRun}
 use Rattle.paid_runs.specs.Laws.{StoredRunsArePaid, StoredRunsSaveEnergy, StubsAreBounded}
 use Rattle.paid_runs.proofs.Walk.{walk, cycles_later}

@@ -28,13 +28,13 @@ use Rattle.stub_runs.specs.Cycles.{stepped_cycles}
 use Rattle.stored_runs.specs.Marks.{Shadow, place_at, fragments_of_class, fragments_over, stored_cycles, tail_cycles, level_stored, shadow_more, shadow_after}
 use Rattle.stored_runs.specs.Legs.{Leg, IsLeg, AreLegs, originals, all_steps}
 use Rattle.stored_runs.proofs.Laws.{cost_of_legs}
-use Rattle.shadow_counts.specs.Shadows.{AreCountable, counted_move, counted_moves}
-use Rattle.shadow_counts.proofs.Laws.{counts_shown}
+use Rattle.marked_runs.specs.Shadows.{AreCountable, counted_move, counted_moves}
+use Rattle.marked_runs.proofs.Laws.{counts_shown, AreAligned, IsFirst, first_of_both, stored_at, stored_sum, counted_after}
 use Rattle.marked_runs.specs.Counters.{AreCounted}
-use Rattle.marked_runs.proofs.Laws.{AreAligned, IsFirst, first_of_both, stored_at, stored_sum, counted_after}
 use Rattle.power_model.specs.Switches.{period, costs_of, NeverRises, switches_from, AllPay}
-use Rattle.leg_prices.specs.Paid.{tail_if, IsPaidLeg}
-use Rattle.leg_prices.proofs.Laws.{leg_paid, no_switch, period_le}
+use Rattle.paid_runs.specs.Paid.{tail_if, IsPaidLeg}
+use Rattle.paid_runs.proofs.LegPrice.{leg_paid, no_switch}
+use Rattle.paid_runs.proofs.Energies.{period_le}
 use Rattle.paid_runs.specs.Timely.{weights_of, IsChosen, AreTablesOf}
 use Rattle.paid_runs.proofs.Edges.{leg_rise, leg_pays, PaysBehind, one_switch, no_switch_safe, pays_more}
 

@@ -15,7 +15,7 @@ use Rattle.graph_runs.specs.RunMoves.{text_graph}
 use Rattle.graph_runs.specs.KeptSteps.{Carried, by_extents}
 use Rattle.graph_runs.specs.Laws.{IsProgramOf}
 use Rattle.stub_writer.specs.Stubs.{Site}
-use Rattle.shadow_counts.specs.Shadows.{AreCountable}
+use Rattle.marked_runs.specs.Shadows.{AreCountable}
 use Rattle.marked_runs.specs.Marked.{extra_site_weights, AreMarked, IsKeptFollowed}
 use Rattle.graph_runs.specs.KeptRuns.{kept_of}
 use Rattle.power_model.specs.Switches.{period, costs_of}

@@ -4,6 +4,10 @@
 
 ghost use Rattle.paid_runs.specs.Laws.{StoredRunsArePaid, StoredRunsSaveEnergy, StubsAreBounded, TablesOfKeepTime, TunedRunsAreSafe};
 
+mod legs;
+
+pub use legs::{legs_are_paid, switches_save_energy};
+
 /// The stored run of a kept run is in time at every step of the original, and no step of it leaves a higher level; and one that exits takes
 /// no more energy than its own cycles at the starting level.
 pub fn stored_runs_are_paid()

@@ -37,9 +37,8 @@ use Rattle.stored_runs.proofs.Laws.{frame, text_of_legs, meetings_once}
 use Rattle.marked_runs.specs.Marked.{IsKeptFollowed, AreHeld}
 use Rattle.marked_runs.proofs.Laws.{kept_followed}
 use Rattle.power_model.specs.Switches.{period, costs_of, NeverRises, switches_from, saved, fee, AllPay}
-use Rattle.leg_prices.proofs.Laws.{energy_sum, switches_save}
+use Rattle.paid_runs.proofs.Laws.{energy_sum, switches_save, runs_paid, stubs_bounded}
 use Rattle.paid_runs.specs.Timely.{weights_of, IsPaidRun}
-use Rattle.paid_runs.proofs.Laws.{runs_paid, stubs_bounded}
 use Rattle.rewritten_runs.specs.Prices.{price_of}
 use Rattle.rewritten_runs.specs.Stubs.{stored_weights, marks_by_slack, is_counted, counter_of}
 use Rattle.rewritten_runs.specs.Promise.{KeepsThePromise}
@@ -259,19 +258,19 @@ module _ (power : PowerModel) (file : List ℕ) (image : Image) (notes : List Lo
       held : AreHeld t v.code l (is_counted tree) (counter_of tree) sites start (run_of image levels input n) f.kept.moves
       held = f.held goes
 
-      same : (k : ℕ) → Rattle.shadow_counts.specs.Shadows.is_within_loop l k (after_moves t v.code l f.kept.moves) ≡ Rattle.shadow_counts.specs.Shadows.is_within_loop l k place
+      same : (k : ℕ) → Rattle.marked_runs.specs.Shadows.is_within_loop l k (after_moves t v.code l f.kept.moves) ≡ Rattle.marked_runs.specs.Shadows.is_within_loop l k place
       same k = in_same l k (after_moves t v.code l f.kept.moves) (run_of image levels input n).state.pc (map (λ a. a - 4) c.returns) c.counts at.node (calls_are input n c f goes)
 
-      within : (k : ℕ) → k < l.loops → is_counted tree k ≡ true → Rattle.shadow_counts.specs.Shadows.is_within_loop l k place ≡ true → slice_index (stored_run input n c f).state.window (counter_of tree k) ≡ place.counts k
+      within : (k : ℕ) → k < l.loops → is_counted tree k ≡ true → Rattle.marked_runs.specs.Shadows.is_within_loop l k place ≡ true → slice_index (stored_run input n c f).state.window (counter_of tree k) ≡ place.counts k
       within k kl ck on = f.followed.holds.counters (counter_of tree k) (s.shadows k kl ck) ∙ (held.shown.within k kl ck (same k ∙ on) ∙ at.counted k kl)
 
-      others : (w : ℕ) → IsShadow w → ((k : ℕ) → k < l.loops → is_counted tree k ≡ true → Rattle.shadow_counts.specs.Shadows.is_within_loop l k place ≡ true → counter_of tree k ≢ w) → slice_index (stored_run input n c f).state.window w ≡ 0
+      others : (w : ℕ) → IsShadow w → ((k : ℕ) → k < l.loops → is_counted tree k ≡ true → Rattle.marked_runs.specs.Shadows.is_within_loop l k place ≡ true → counter_of tree k ≢ w) → slice_index (stored_run input n c f).state.window w ≡ 0
       others w shadow none = f.followed.holds.counters w shadow ∙ elim (search_below l.loops (λ k. is_counted tree k && nat_eq (counter_of tree k) w)) [
         | inl found ↦
             let k = found.0 in
             let parts = and_parts (is_counted tree k) (nat_eq (counter_of tree k) w) found.2 in
             let here : counter_of tree k ≡ w = eqb-true (counter_of tree k) w parts.1 in
-            let off = false_from_ne_true (Rattle.shadow_counts.specs.Shadows.is_within_loop l k (after_moves t v.code l f.kept.moves)) (λ on. none k found.1 parts.0 (sym (same k) ∙ on) here) in
+            let off = false_from_ne_true (Rattle.marked_runs.specs.Shadows.is_within_loop l k (after_moves t v.code l f.kept.moves)) (λ on. none k found.1 parts.0 (sym (same k) ∙ on) here) in
             ap (shadow_after sites (shadow_first start) (run_of image levels input n).steps).counters (sym here) ∙ held.shown.outside k found.1 parts.0 off
         | inr absent ↦ held.others w (λ k kl ck is. both_ways (is_counted tree k && nat_eq (counter_of tree k) w) (absent k kl) (and_from (is_counted tree k) (nat_eq (counter_of tree k) w) ck (eq-eqb (counter_of tree k) w is)))
       ]

@@ -15,7 +15,7 @@ use Rattle.power_model.specs.Slowest.{slowest_of, is_in_time}
 use Rattle.elf_patch.specs.Stored.{stored_image, IsStubBase}
 use Rattle.stored_laws.specs.StoredView.{IsStorable, stored_view}
 use Rattle.stored_laws.proofs.Laws.{law}
-use Rattle.text_laws.proofs.Laws.{found_in, found_passes}
+use Rattle.machine_laws.proofs.Laws.{found_in, found_passes}
 use Rattle.cost_theory.specs.Graph.{Graph, Loops}
 use Rattle.least_laws.specs.Charged.{Charged, AreCharged}
 use Rattle.cost_theory.specs.Worst.{Numbers, AreNumbers}

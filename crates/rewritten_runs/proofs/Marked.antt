@@ -32,7 +32,7 @@ use Rattle.level_tables.specs.Tables as tables
 use Rattle.stub_writer.specs.Fragments.{IsShadow}
 use Rattle.stub_writer.specs.Stubs.{Site}
 use Rattle.stored_runs.specs.Marks.{place_at, fragments_of_class, counters_after, counters_behind}
-use Rattle.shadow_counts.specs.Shadows.{AreCountable}
+use Rattle.marked_runs.specs.Shadows.{AreCountable}
 use Rattle.marked_runs.specs.Marked as marked_specs
 use Rattle.marked_runs.proofs.Laws.{loops_are_countable}
 use Rattle.rewritten_runs.specs.Stubs.{IsWeighed, marks_by_slack, told_at, fragment_of, fragments_at, loop_of, is_counted, counter_of, set_before}

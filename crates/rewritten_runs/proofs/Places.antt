@@ -14,7 +14,7 @@ use Rattle.graph_runs.specs.TextStates.{IsTextOf}
 use Rattle.graph_runs.specs.RunMoves.{after_call, IsStack}
 use Rattle.graph_runs.specs.KeptRuns.{AreSameBelow}
 use Rattle.graph_runs.proofs.Laws.{kind_facts, word_bound}
-use Rattle.shadow_counts.specs.Shadows.{is_within_loop}
+use Rattle.marked_runs.specs.Shadows.{is_within_loop}
 
 -- ---- calls
 

@@ -16,7 +16,7 @@ use Rattle.scale_base.specs.Image.{Image, image_of, contents, is_in, insert_rang
 use Rattle.scale_base.proofs.Laws.{contents-are}
 use Rattle.elf_patch.specs.Stored.{IsStubBase, text_end, end_in}
 use Rattle.elf_patch.proofs.Laws.{some_place}
-use Rattle.text_laws.proofs.Laws.{text_ranges_kept}
+use Rattle.machine_laws.proofs.Laws.{text_ranges_kept}
 use Rattle.graph_runs.specs.Text.{AreApart}
 use Rattle.graph_runs.proofs.Laws.{ranges_apart}
 use Rattle.rv_encode.specs.Jumps.{distance}

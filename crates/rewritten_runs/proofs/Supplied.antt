@@ -18,7 +18,7 @@ use Rattle.loop_tree.specs.Tree.{LoopView, loops}
 use Rattle.stub_writer.specs.Fragments.{IsShadow}
 use Rattle.stub_writer.specs.Stubs.{Site}
 use Rattle.stored_runs.specs.Stubbed.{IsStubbed}
-use Rattle.shadow_counts.specs.Shadows.{AreCountable}
+use Rattle.marked_runs.specs.Shadows.{AreCountable}
 use Rattle.marked_runs.specs.Marked as marked_specs
 use Rattle.power_model.specs.Switches.{period, costs_of}
 use Rattle.paid_runs.specs.Timely.{weights_of, AreTables}

@@ -18,7 +18,7 @@ use Rattle.loop_tree.specs.Tree.{LoopView, loops}
 use Rattle.stub_writer.specs.Fragments.{IsShadow}
 use Rattle.stored_runs.specs.Legs.{Meets}
 use Rattle.stored_runs.specs.Laws.{text_steps}
-use Rattle.shadow_counts.specs.Shadows.{is_within_loop}
+use Rattle.marked_runs.specs.Shadows.{is_within_loop}
 use Rattle.power_model.specs.Switches.{period, NeverRises, switches_from, saved, fee, AllPay}
 use Rattle.rewritten_runs.specs.Prices.{price_of}
 use Rattle.rewritten_runs.specs.Stubs.{is_counted, counter_of}

@@ -3,8 +3,8 @@ use Rattle.std.proofs.Common.{◌≡◌, ℕ, List, Ok, arith}
 use Rattle.scale_base.specs.Image.{Image, image_of}
 use Rattle.scale_base.proofs.Laws.{contents-are}
 use Rattle.elf_patch.specs.Stored.{IsStubBase}
-use Rattle.image_laws.specs.Laws.{held_base}
-use Rattle.image_laws.proofs.Laws.{held_place, file_of}
+use Rattle.stored_laws.specs.Held.{held_base}
+use Rattle.stored_laws.proofs.Laws.{held_place, file_of}
 
 -- there is one lowest place
 pub held_base_is : (image : Image) (base : ℕ) → IsStubBase image 0 base → base ≡ held_base image

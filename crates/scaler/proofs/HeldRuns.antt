@@ -7,14 +7,13 @@ use Rattle.std.proofs.lemmas.Bool.Decides.{nat_tests}
 use Rattle.scale_base.specs.Image.{Image, loaded_byte}
 use Rattle.scale_base.specs.Layout.{layout_of}
 use Rattle.scale_base.specs.Run.{Run, run, run_of, setting_of, start_of, start, starting_level}
-use Rattle.text_laws.proofs.Laws.{found_passes}
-use Rattle.run_laws.specs.Keys.{setting, with_empty_key, with_window, run_with_window}
-use Rattle.run_laws.proofs.Laws.{run_same, run_without_port}
+use Rattle.machine_laws.proofs.Laws.{found_passes, run_same, run_without_port}
+use Rattle.machine_laws.specs.Keys.{setting, with_empty_key, with_window, run_with_window}
 use Rattle.power_model.specs.Numbers.{PowerModel, RunPrice}
 use Rattle.power_model.specs.Price.{price, step_cycles, time_at}
 use Rattle.power_model.specs.Slowest.{slowest_of, is_in_time}
 use Rattle.power_model.proofs.Laws.{cycles-price, held-price}
-use Rattle.image_laws.specs.Laws.{IsHeldImage}
+use Rattle.stored_laws.specs.Held.{IsHeldImage}
 use Rattle.scaler.specs.Held.{held_summary}
 use Rattle.rewritten_runs.specs.Prices.{price_of}
 use Rattle.scaler.specs.Runs.{RunAlike, IsAsPrinted}

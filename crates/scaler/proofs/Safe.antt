@@ -19,9 +19,9 @@ use Rattle.power_model.specs.declared.power.Costs.{Costs}
 use Rattle.machine_file.specs.Machine.{read_machine}
 use Rattle.machine_file.proofs.Laws.{model-from_bytes}
 use Rattle.elf_patch.specs.Stored.{stored_image}
-use Rattle.image_laws.specs.Laws.{held_base}
-use Rattle.image_laws.proofs.Laws.{a_held_image}
-use Rattle.text_laws.proofs.Laws.{found_in}
+use Rattle.stored_laws.specs.Held.{held_base}
+use Rattle.stored_laws.proofs.Laws.{a_held_image}
+use Rattle.machine_laws.proofs.Laws.{found_in}
 use Rattle.loop_tree.specs.Tree.{loops as tree_loops}
 use Rattle.graph_runs.specs.Text.{text_of}
 use Rattle.graph_runs.specs.KeptSteps.{Carried}

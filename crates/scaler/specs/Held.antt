@@ -13,7 +13,7 @@ use Rattle.machine_file.specs.Machine.{read_machine}
 use Rattle.loop_file.specs.declared.notes.LoopNote.{LoopNote}
 use Rattle.loop_file.specs.Loops.{read_loops}
 use Rattle.elf_patch.specs.Stored.{stored_image}
-use Rattle.image_laws.specs.Laws.{held_base}
+use Rattle.stored_laws.specs.Held.{held_base}
 use Rattle.cost_theory.specs.Worst.{Numbers, AreNumbers}
 use Rattle.graph_runs.specs.Text.{text_of}
 use Rattle.graph_runs.specs.EdgeCosts.{weights}

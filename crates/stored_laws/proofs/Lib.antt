@@ -7,3 +7,5 @@ pub mod Segments
 pub mod Texts
 pub mod Whole
 pub mod Laws
+pub mod Contents
+pub mod Law

@@ -1,1 +1,2 @@
 pub mod StoredView
+pub mod Held

@@ -7,6 +7,10 @@ ghost use Rattle.scale_base.specs.Image.{Image, image_of};
 ghost use Rattle.elf_patch.specs.Stored.{stored_image};
 ghost use Rattle.stored_laws.specs.StoredView.{IsStorable, stored_view};
 
+mod held;
+
+pub use held::a_held_image_is_an_image;
+
 /// What `write_image` stores of an image is an image again: the original one over the new bytes, with the block as
 /// its keyed segment and the starting level.
 pub fn stored_is_an_image()

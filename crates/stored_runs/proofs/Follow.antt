@@ -20,7 +20,7 @@ use Rattle.scale_base.specs.Step.{Outcome, step, goes}
 use Rattle.scale_base.specs.Run.{Run, Standing, GoesOn, HasExited, HasTrapped, begin, ended, one_more_by, one_more, run, run_of, setting_of, start_of, starting_level}
 use Rattle.scale_base.specs.Run as runs
 use Rattle.scale_base.proofs.Laws.{run_step, step_zero}
-use Rattle.run_laws.proofs.Laws.{step_length}
+use Rattle.machine_laws.proofs.Laws.{step_length}
 use Rattle.graph_runs.specs.Text.{text_of}
 use Rattle.graph_runs.proofs.Laws.{not_written, IsTrap, step_done}
 use Rattle.elf_patch.specs.Stored.{stored_image}

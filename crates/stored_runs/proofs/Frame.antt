@@ -17,8 +17,8 @@ use Rattle.elf_patch.specs.Stored.{little, stored_image, window}
 use Rattle.elf_patch.proofs.Laws.{some_place}
 use Rattle.stored_laws.specs.StoredView.{IsStorable, over_file, insert_segment, block_segment, stored_view}
 use Rattle.stored_laws.proofs.Laws.{text_place, law}
-use Rattle.text_laws.proofs.Laws.{found_from_any, any_from_found, list_any-map, segments_of, part_word, in_part}
-use Rattle.text_laws.proofs.Laws as texts
+use Rattle.machine_laws.proofs.Laws.{found_from_any, any_from_found, list_any-map, segments_of, part_word, in_part}
+use Rattle.machine_laws.proofs.Laws as texts
 use Rattle.graph_runs.specs.Text.{text_of}
 use Rattle.graph_runs.specs.TextStates.{IsTextOf}
 use Rattle.graph_runs.proofs.Laws.{text_of_layout, word_within}

@@ -12,8 +12,8 @@ use Rattle.scale_base.specs.Elf.{has}
 use Rattle.scale_base.specs.Layout.{Layout, Part, layout_of, part_of, is_plain_segment, in_text, in_option, is_keyed, in_stack, may_read, may_write, may_fetch, each_byte, reads_byte, fetches_byte, can_fetch}
 use Rattle.scale_base.specs.Run.{setting_of}
 use Rattle.scale_base.proofs.Laws.{rules_kept, contents-are, rules_of, each_byte_none, each_byte_more}
-use Rattle.text_laws.proofs.Laws.{found_from_any, found_passes, found_keeps, any_from_found, SegmentsKept, segments_of, one_covers}
-use Rattle.text_laws.proofs.Laws as texts
+use Rattle.machine_laws.proofs.Laws.{found_from_any, found_passes, found_keeps, any_from_found, SegmentsKept, segments_of, one_covers}
+use Rattle.machine_laws.proofs.Laws as texts
 use Rattle.graph_runs.specs.Text.{text_of}
 use Rattle.graph_runs.specs.TextStates.{IsTextOf}
 use Rattle.graph_runs.proofs.Laws.{text_of_layout, word_within}

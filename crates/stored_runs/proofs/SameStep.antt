@@ -17,7 +17,7 @@ use Rattle.scale_base.specs.State.{State, reg, with_reg, word_at}
 use Rattle.scale_base.specs.Service.{served, serves, read_count, read_service, write_count, write_service}
 use Rattle.scale_base.specs.Step.{Outcome, stepped, move_of, goes, pc_after, sets, passes, jumps, branches, loads, stores, calls_service, performs, executes, step}
 use Rattle.scale_base.proofs.Laws.{each_byte_at}
-use Rattle.run_laws.specs.Keys.{setting}
+use Rattle.machine_laws.specs.Keys.{setting}
 use Rattle.stored_runs.proofs.LaidBytes.{laid, AreSeen, loaded_seen, stored_seen, list_put_seen, list_taken_seen}
 
 -- two layouts that permit the same to an instruction outside the keyed segment, which sees no hidden byte

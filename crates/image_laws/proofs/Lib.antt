@@ -1,3 +1,0 @@
-pub mod Contents
-pub mod Law
-pub mod Laws

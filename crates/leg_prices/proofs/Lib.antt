@@ -1,3 +1,0 @@
-pub mod LegPrice
-pub mod Energies
-pub mod Laws

@@ -1,8 +1,0 @@
-use Rattle.leg_prices.proofs.Energies.{energy_sum, switches_save}
-use Rattle.leg_prices.proofs.switches_save_energy.Goals as goal
-
-pub returns-clause-sum : goal.returns-clause-sum
-returns-clause-sum c = energy_sum
-
-pub returns-clause-saves : goal.returns-clause-saves
-returns-clause-saves c = switches_save

@@ -1,0 +1,12 @@
+pub mod Keyless
+pub mod EmptyKey
+pub mod KeylessRuns
+pub mod RegisterLaws
+pub mod StepLaws
+pub mod Laws
+pub mod Tests
+pub mod Segments
+pub mod Parts
+pub mod Ranges
+pub mod TextBytes
+pub mod TextWords

@@ -1,8 +1,0 @@
-use Rattle.run_laws.proofs.RegisterLaws.{run_length, run_zero}
-use Rattle.run_laws.proofs.registers_along_runs.Goals as goal
-
-pub returns-clause-number : goal.returns-clause-number
-returns-clause-number c = run_length
-
-pub returns-clause-zero : goal.returns-clause-zero
-returns-clause-zero c = run_zero

@@ -1,2 +1,0 @@
-pub mod Shadows
-pub mod Laws

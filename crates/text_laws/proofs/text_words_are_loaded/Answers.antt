@@ -1,8 +1,0 @@
-use Rattle.text_laws.proofs.TextWords.{word_loaded, word_fetched}
-use Rattle.text_laws.proofs.text_words_are_loaded.Goals as goal
-
-pub returns-clause-loaded : goal.returns-clause-loaded
-returns-clause-loaded c = word_loaded
-
-pub returns-clause-fetched : goal.returns-clause-fetched
-returns-clause-fetched c = word_fetched
