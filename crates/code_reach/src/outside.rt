@@ -5,9 +5,9 @@ ghost use Rattle.cost_theory.specs.declared.edges.Word.TheVariants.{CallOf};
 ghost use Rattle.code_reach.specs.Outside.{lower_of, has_mark, IsLowest, IsOutsideOf, ComesBackTo, GoesOnFrom, IsComeTo};
 ghost use Rattle.code_reach.specs.Steps.{AreLow};
 
+use crate::marks::Mark;
 use code_text::TextWords;
 use cost_theory::Word;
-use crate::marks::Mark;
 
 /// The lower of two addresses.
 fn lower(a: Option<u32>, b: Option<u32>) -> Option<u32>

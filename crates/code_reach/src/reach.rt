@@ -6,12 +6,12 @@ ghost use Rattle.code_text.specs.Table.{word_table};
 ghost use Rattle.code_reach.specs.Steps.{IsWordTableOf};
 ghost use Rattle.code_reach.specs.Reach.{Reach, IsReachOf};
 
-use code_text::{TextWords, read_words};
 use crate::marked::mark_from;
 use crate::marks::Mark;
 use crate::outside::lowest_outside;
 use crate::returning::find_returning;
 use crate::steps::steps_of;
+use code_text::{TextWords, read_words};
 use elf_view::ImageView;
 use scale_base::NoMemory;
 use std::alloc::Global;

@@ -4,9 +4,9 @@ ghost use Rattle.std.specs.Prelude.{ℕ, ◌<◌, IfOk, length};
 ghost use Rattle.code_reach.specs.Reach.{WordStandsAt};
 ghost use Rattle.code_reach.specs.Steps.{AreLow, HasNextWord, IsStepAt, AreSteps};
 
+use crate::step::Step;
 use code_text::TextWords;
 use cost_theory::Word;
-use crate::step::Step;
 use scale_base::NoMemory;
 use std::alloc::Global;
 

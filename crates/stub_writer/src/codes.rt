@@ -169,7 +169,10 @@ pub fn push_fragment(out: &mut Vec<u8>, table: u64, fragment: &Fragment) -> Resu
 {
     match fragment {
         Fragment::Switch { word } => push_code(out, &switch_code(*word)),
-        Fragment::Exit { counter, shift, .. } => push_code(out, &exit_code(*counter, *shift, address(table))),
+        Fragment::Exit { counter, shift, .. } => push_code(
+            out,
+            &exit_code(*counter, *shift, address(table)),
+        ),
         Fragment::Reset { counter } => push_code(out, &reset_code(*counter)),
         Fragment::Count { counter } => push_code(out, &count_code(*counter)),
     }
