@@ -27,7 +27,7 @@ pub fn price_laws()
     ensures keyed { (power : PowerModel) (start : ℕ) (steps : List Stepped)
         → (price power start steps).keyed ≡ sum_by (keyed_cycles power) steps }
     ensures held { (power : PowerModel) (start : ℕ) (steps : List Stepped)
-        → All (λ s. s.port ≡ None) steps → IsHeld power start (price power start steps) }
+        → All (λ s. s.port ≡ None) steps → IsHeldPrice power start (price power start steps) }
 {}
 
 /// A table by pair of levels holds the numbers that it is made from, each in its row and column, and where there is one number for each
