@@ -95,8 +95,11 @@ fn lone_loop(
 {
     match step.moved {
         Move::Local => {
+            if !turning.is_empty() {
+                return None;
+            }
             let group = headers_at(headers, step.next);
-            if turning.is_empty() && group.len() == 1 {
+            if group.len() == 1 {
                 Some(group[0].number)
             } else {
                 None

@@ -1,4 +1,4 @@
-use Rattle.std.proofs.Common.{rules, ◌≡◌, ◌∙◌, ◌≤◌, ℕ, List, Option, Some, [], length, reverse, vec_len, sym, ap, subst}
+use Rattle.std.proofs.Common.{rules, ◌≡◌, ◌∙◌, ◌≤◌, ℕ, List, Option, Some, length, reverse, vec_len, sym, ap, subst}
 use Rattle.std.specs.Prelude.{IfSome}
 use Rattle.std.proofs.lemmas.List.{length-reverse}
 use Rattle.scale_base.specs.declared.endings.Kept.TheVariants as kinds
@@ -7,9 +7,7 @@ use Rattle.scale_base.specs.declared.stepping.Move.TheVariants.{Local}
 use Rattle.scale_base.specs.declared.stepping.Stepped.{Stepped}
 use Rattle.graph_runs.specs.ReturnAddresses.{returns_after, returns_by}
 use Rattle.loop_file.specs.Kept.{most_returns}
-use Rattle.keep_monitor.specs.Steps.{AreTurning}
 use Rattle.keep_monitor.specs.Watch.{watch_returns}
-use Rattle.keep_monitor.proofs.PlainLaws.{no_numbers}
 use Rattle.keep_monitor.proofs.monitor.watch_next.Goals as goal
 
 pub returns-in-Some-clause-watched : goal.returns-in-Some-clause-watched
