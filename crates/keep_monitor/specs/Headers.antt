@@ -35,3 +35,9 @@ pub record AreLoopsOf (notes : List LoopNote) (at : ℕ) (group : List Header) :
   pub loops : AreRisingLoops (length notes) group
   pub header : (j : ℕ) → j < length group → (note_at notes (sorted_header group j).number).header ≡ at
   pub whole : (k : ℕ) → k < length notes → (note_at notes k).header ≡ at → (j : ℕ) × (j < length group) × ((sorted_header group j).number ≡ k)
+
+-- the only loop of its header
+pub record IsLoneLoop (notes : List LoopNote) (at k : ℕ) : Type 0 where
+  pub within : k < length notes
+  pub header : (note_at notes k).header ≡ at
+  pub alone : (j : ℕ) → j < length notes → (note_at notes j).header ≡ at → j ≡ k

@@ -1,17 +1,21 @@
 //! The monitor of a run.
 
-ghost use Rattle.std.specs.Prelude.{◌≡◌, reverse, IfOk, true, false, length, slice_index_or, vec_len, vec_capacity};
+ghost use Rattle.std.specs.Prelude.{◌≡◌, ◌≤◌, ℕ, List, [], reverse, IfOk, IfSome, Some, true, false, length, slice_index_or, vec_len, vec_capacity};
 ghost use Rattle.scale_base.specs.declared.stepping.Move.TheVariants.{Local};
 ghost use Rattle.scale_base.specs.declared.endings.Kept.TheVariants as kinds;
 ghost use Rattle.graph_runs.specs.ReturnAddresses.{returns_after};
+ghost use Rattle.loop_file.specs.Notes.{AreLoopNotes};
+ghost use Rattle.loop_file.specs.Kept.{most_returns};
 ghost use Rattle.keep_monitor.specs.Watch.{watched_first, watch, watch_returns};
-ghost use Rattle.keep_monitor.specs.Steps.{IsMonitor};
+ghost use Rattle.keep_monitor.specs.Headers.{AreSortedHeaders, IsLoneLoop};
+ghost use Rattle.keep_monitor.specs.Steps.{AreTurning, AreCounts, IsMonitor};
 ghost use Rattle.keep_monitor.specs.Slots.{slot_of};
 
 use crate::headers::{Header, headers_at, sorted_headers};
 use crate::slots::{has_header, header_slots};
 use crate::steps::{
-    MOST_RETURNS, broken_loop, broken_return, count_step, move_returns, source_of, turning_loops,
+    MOST_RETURNS, broken_loop, broken_return, count_step, move_returns, next_count, source_of,
+    turning_loops,
 };
 use loop_file::LoopNotes;
 use scale_base::{Kept, Move, NoMemory, Stepped};
@@ -52,7 +56,7 @@ impl Model for Monitor {
     ghost invariant = { λ m. (IsMonitor m.notes m.headers.items m.turning.items (vec_len m.returns) (vec_capacity m.returns) m.counts.items) × (AreSlotsOf m.notes (length m.notes) m.slots.items) };
 }
 
-// Watches a step of a run that has broken nothing.
+// Watches any step of a run that has broken nothing.
 fn watch_step(
     notes: &LoopNotes,
     headers: &[Header],
@@ -75,6 +79,77 @@ fn watch_step(
     move_returns(returns, step);
     count_step(notes, group, counts, source);
     Kept::Kept
+}
+
+// The loop to whose header a local step leads, where no other loop has it and no loop has to turn before it is left.
+fn lone_loop(
+    notes: &LoopNotes,
+    headers: &[Header],
+    turning: &[usize],
+    step: &Stepped,
+) -> Option<usize>
+    requires { AreSortedHeaders notes.now headers.now }
+    ensures moved { IfSome result (λ k. step.now.moved ≡ Local) }
+    ensures turning { IfSome result (λ k. length turning.now ≡ 0) }
+    ensures lone { IfSome result (λ k. IsLoneLoop notes.now step.now.next k) }
+{
+    match step.moved {
+        Move::Local => {
+            if !turning.is_empty() {
+                return None;
+            }
+            let group = headers_at(headers, step.next);
+            if group.len() == 1 {
+                Some(group[0].number)
+            } else {
+                None
+            }
+        }
+        Move::Call => None,
+        Move::Return => None,
+    }
+}
+
+// Watches a local step to the header of this loop, which no other loop has, in a run that has broken nothing and whose loops
+// need not turn before they are left.
+fn watch_turn(notes: &LoopNotes, number: usize, counts: &mut Vec<u32>, step: &Stepped) -> Kept
+    requires notes { AreLoopNotes notes.now }
+    requires moved { step.now.moved ≡ Local }
+    requires lone { IsLoneLoop notes.now step.now.next number }
+    requires turning { AreTurning notes.now (length notes.now) [] }
+    requires counts { AreCounts notes.now counts.old.items }
+    ensures watched { (returns : List ℕ) → length returns ≤ most_returns → record { notes = notes.now; returns = returns; counts = counts.new.items; kept = result } ≡ watch_returns (record { notes = notes.now; returns = returns; counts = counts.old.items; kept = kinds.Kept }) step.now (Some returns) }
+    ensures fits { AreCounts notes.now counts.new.items }
+{
+    let note = notes.note(number);
+    let count = next_count(note, Some(step.pc), counts[number]);
+    if count > note.bound {
+        return Kept::BrokeBound {
+            loop_no: number as u32 + 1,
+            count,
+        };
+    }
+    counts[number] = count;
+    Kept::Kept
+}
+
+// Watches a step of a run that has broken nothing.
+fn watch_next(
+    notes: &LoopNotes,
+    headers: &[Header],
+    turning: &[usize],
+    returns: &mut Vec<u32>,
+    counts: &mut Vec<u32>,
+    step: &Stepped,
+) -> Kept
+    requires { IsMonitor notes.now headers.now turning.now (vec_len returns.old) (vec_capacity returns.old) counts.old.items }
+    ensures watched { record { notes = notes.now; returns = reverse returns.new.items; counts = counts.new.items; kept = result } ≡ watch_returns (record { notes = notes.now; returns = reverse returns.old.items; counts = counts.old.items; kept = kinds.Kept }) step.now (returns_after (reverse returns.old.items) step.now) }
+    ensures fits { IsMonitor notes.now headers.now turning.now (vec_len returns.new) (vec_capacity returns.new) counts.new.items }
+{
+    match lone_loop(notes, headers, turning, step) {
+        Some(number) => watch_turn(notes, number, counts, step),
+        None => watch_step(notes, headers, turning, returns, counts, step),
+    }
 }
 
 // Whether a step neither calls nor returns, nor leads into a slot of a header, where no loop has to turn before it is left.
@@ -133,7 +208,7 @@ impl Monitor {
         ensures { self.new ≡ watch self.old step.now }
     {
         if let Kept::Kept = self.kept {
-            self.kept = watch_step(
+            self.kept = watch_next(
                 &self.notes,
                 &self.headers,
                 &self.turning,

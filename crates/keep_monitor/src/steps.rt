@@ -105,8 +105,8 @@ fn in_extent(note: &LoopNote, at: u32) -> bool
     false
 }
 
-// The count of a loop after a step to its header.
-fn next_count(note: &LoopNote, source: Option<u32>, count: u32) -> u32
+/// The count of a loop after a step to its header.
+pub fn next_count(note: &LoopNote, source: Option<u32>, count: u32) -> u32
     requires { count < 2 ^ 31 }
     ensures { result ≡ count_then note.now source count }
 {

@@ -378,3 +378,43 @@ fn a_return_to_0_comes_from_the_last_word(rt: HostRuntime) -> Result<(), Fail> {
     );
     Ok(())
 }
+
+// The headers of the first two loops share a slot, and the last two loops have one header.
+#[test]
+fn loops_of_one_slot_or_one_header_are_counted_apart(rt: HostRuntime) -> Result<(), Fail> {
+    let loops = [
+        (8, 8, 24, 1),
+        (0x4_0008, 0x4_0008, 0x4_0018, 2),
+        (40, 40, 48, 3),
+        (40, 40, 56, 1),
+    ];
+    let mut watch = monitor(&rt, &loops)?;
+    let near = (20, Move::Local, 8);
+    let far = (0x4_0014, Move::Local, 0x4_0008);
+    let inner = (44, Move::Local, 40);
+    assert_eq!(rt;
+        seen(
+            &mut watch,
+            &[near, far, far, inner, (4, Move::Local, 8), near]
+        ),
+        Kept::Kept
+    );
+    let broken = Kept::BrokeBound {
+        loop_no: 4,
+        count: 2,
+    };
+    assert_eq!(rt; seen(&mut watch, &[inner]), broken);
+    assert_eq!(rt; seen(&mut watch, &[near, far, inner]), broken);
+    let mut other = monitor(&rt, &loops)?;
+    assert_eq!(rt;
+        seen(
+            &mut other,
+            &[near, inner, far, (48, Move::Local, 40), inner]
+        ),
+        Kept::BrokeBound {
+            loop_no: 4,
+            count: 2
+        }
+    );
+    Ok(())
+}

@@ -1,4 +1,4 @@
-use Rattle.std.proofs.Common.{rules, ◌≡◌, ◌≤◌, ◌∙◌, ℕ, Bool, List, [], true, false, ap, sym, subst, arith, length, reverse, vec_len}
+use Rattle.std.proofs.Common.{rules, ◌≡◌, ◌≤◌, ◌∙◌, ℕ, Bool, List, [], true, false, ap, sym, subst, length, reverse, vec_len}
 use Rattle.std.specs.Prelude.{slice_index_or}
 use Rattle.std.proofs.lemmas.List.{length-reverse}
 use Rattle.loop_file.specs.Kept.{most_returns}
