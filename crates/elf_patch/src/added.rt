@@ -6,7 +6,9 @@ ghost use Rattle.scale_base.specs.Image as image;
 ghost use Rattle.elf_patch.specs.Stored as stored;
 ghost use Rattle.elf_patch.specs.Added as added;
 
-use crate::write::{changed, keyed_number, push_entries, push_zeros, put_half, put_patches, put_word};
+use crate::write::{
+    changed, keyed_number, push_entries, push_zeros, put_half, put_patches, put_word,
+};
 use byteorder::{ByteOrder, LittleEndian};
 use elf_view::{ImageView, program_header_count};
 use scale_base::{NoMemory, Patch};
@@ -35,7 +37,16 @@ fn push_code_entry(out: &mut Vec<u8>, block_at: u32, base: u32, len: u32) -> Res
 {
     let mut entry = [0; 32];
     LittleEndian::write_u32_into(
-        &[PT_LOAD, block_at, base, base, len, len, READ_AND_EXECUTE, WORD],
+        &[
+            PT_LOAD,
+            block_at,
+            base,
+            base,
+            len,
+            len,
+            READ_AND_EXECUTE,
+            WORD,
+        ],
         &mut entry,
     );
     out.extend_from_slice(&entry)?;
@@ -48,7 +59,18 @@ fn push_code_section(out: &mut Vec<u8>, block_at: u32, base: u32, len: u32) -> R
 {
     let mut section = [0; 40];
     LittleEndian::write_u32_into(
-        &[0, SHT_PROGBITS, ALLOCATED_CODE, base, block_at, len, 0, 0, WORD, 0],
+        &[
+            0,
+            SHT_PROGBITS,
+            ALLOCATED_CODE,
+            base,
+            block_at,
+            len,
+            0,
+            0,
+            WORD,
+            0,
+        ],
         &mut section,
     );
     out.extend_from_slice(&section)?;

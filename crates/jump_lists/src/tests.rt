@@ -28,7 +28,8 @@ fn is_text(refusal: Option<Refusal>) -> bool {
 
 #[test]
 fn reads_the_jumps_of_a_file(rt: HostRuntime) -> Result<(), Fail> {
-    let text = "version = 1\n[[jump]]\nat = 0x10008\ntargets = [0x1000C, 0x10014]\n[[jump]]\nat = 0\ntargets = [4294967292]\n";
+    let text =
+        "version = 1\n[[jump]]\nat = 0x10008\ntargets = [0x1000C, 0x10014]\n[[jump]]\nat = 0\ntargets = [4294967292]\n";
     let notes = match read_jumps(rt.alloc(), text.as_bytes()) {
         Ok(notes) => notes,
         Err(_) => return Err(Fail::from("refused")),
@@ -61,7 +62,13 @@ fn refuses_what_is_wrong_with_the_file_first(rt: HostRuntime) -> Result<(), Fail
     assert!(rt; is_text(refusal_of(alloc, "version = ")));
     assert!(rt; is_key(refusal_of(alloc, "jump = 3\nodd = 1\n"), 0, "version"));
     assert!(rt; is_value(refusal_of(alloc, "version = 2\nodd = 1\n"), 0, "version"));
-    assert!(rt; is_key(refusal_of(alloc, "version = 1\njump = 3\nodd = 1\nbad = 1\n"), 0, "bad"));
+    assert!(rt;
+        is_key(
+            refusal_of(alloc, "version = 1\njump = 3\nodd = 1\nbad = 1\n"),
+            0,
+            "bad"
+        )
+    );
     assert!(rt; is_value(refusal_of(alloc, "version = 1\njump = 3\n"), 0, "jump"));
     assert!(rt; is_value(refusal_of(alloc, "version = 1\njump = [3]\n"), 0, "jump"));
     Ok(())

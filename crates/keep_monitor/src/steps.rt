@@ -175,7 +175,7 @@ fn first_left(notes: &LoopNotes, turning: &[usize], counts: &[u32], step: &Stepp
 }
 
 fn lesser(one: Option<usize>, other: Option<usize>) -> Option<usize>
-    ensures lesser_loop { result ≡ lesser_loop one other }
+    ensures lesser { result ≡ lesser_loop one other }
     ensures within { (n : ℕ) → IfSome one (λ a. a < n) → IfSome other (λ b. b < n) → IfSome result (λ k. k < n) }
 {
     match (one, other) {

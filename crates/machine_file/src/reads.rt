@@ -89,7 +89,7 @@ fn version(alloc: Global, table: &Table) -> Result<u64, Stop>
 }
 
 fn cost(alloc: Global, table: &Table, key: &str) -> Result<u16, Stop>
-    ensures cost_at_key { Answers (λ n. n) result (cost_at_key (table_view table.now) key.now) }
+    ensures cost { Answers (λ n. n) result (cost_at_key (table_view table.now) key.now) }
     ensures positive { IfOk result (λ n. 1 ≤ n) }
 {
     Ok(number(alloc, Place::Cost, table, key, 1, 65535)? as u16)

@@ -1,5 +1,5 @@
 use Rattle.std.proofs.Common.{◌≡◌, length, ◌∙◌, sym, subst, arith}
-use Rattle.code_reach.specs.Outside.{IsLeast, IsOutsideOf, IsComeTo}
+use Rattle.code_reach.specs.Outside.{IsLowest, IsOutsideOf, IsComeTo}
 use Rattle.code_reach.proofs.OutsideLaws.{first_least, next_marked, next_unmarked}
 use Rattle.code_reach.proofs.outside.lowest_outside.Goals as goal
 use Rattle.code_reach.proofs.outside.lowest_outside.Goals.{then-is_reached, else-is_reached}
@@ -22,4 +22,4 @@ returns c =
     let most = c.loop-k.auto.k-end in
     let count = c.count-k-end.ensures.addresses in
     let all : c.loop-k.k ≡ length c.args.words.now.addresses = omega (arith, end, most, count) in
-    subst (λ n. IsLeast (λ u. IsComeTo c.args.words.now c.args.returning.now c.args.marks.now c.args.entry n u × IsOutsideOf c.args.words.now u) c.loop-k.lowest) all c.loop-k.invariant
+    subst (λ n. IsLowest (λ u. IsComeTo c.args.words.now c.args.returning.now c.args.marks.now c.args.entry n u × IsOutsideOf c.args.words.now u) c.loop-k.lowest) all c.loop-k.invariant
