@@ -5,3 +5,4 @@ pub mod BitLaws
 pub mod InsideLaws
 pub mod SweepLaws
 pub mod GroupLaws
+pub mod SpanLaws
