@@ -1,6 +1,6 @@
 -- The words of a group of loops.
-use Rattle.std.proofs.Common.{◌≡◌, ◌≢◌, ℕ, zero, suc, ◌+◌, ◌^◌, ◌<◌, ◌≤◌, ◌↔◌, Bool, List, length, get_or, replicate, refl, sym, ap, ◌∙◌, subst, arith, Option, Some, None, ◌⊎◌, inl, inr, ⊎_elim, bit_and, bit_or, w64}
-use Rattle.std.specs.Prelude.{slice_get, slice_index}
+use Rattle.std.proofs.Common.{◌≡◌, ◌≢◌, ℕ, ◌+◌, ◌^◌, ◌<◌, ◌≤◌, ◌↔◌, Bool, List, length, get_or, replicate, refl, sym, ap, ◌∙◌, subst, arith, Option, Some, ◌⊎◌, inl, inr, ⊎_elim, bit_and, bit_or, w64}
+use Rattle.std.specs.Prelude.{slice_get}
 use Rattle.std.specs.Int.{bit_at, bit_not}
 use Rattle.std.proofs.lemmas.Bool.{cases_eq}
 use Rattle.std.proofs.lemmas.List.{length-replicate}
@@ -9,8 +9,8 @@ use Rattle.loop_bodies.specs.declared.extent.LoopExtent.{LoopExtent}
 use Rattle.loop_bodies.specs.Edges.{EdgeView, AreEdges}
 use Rattle.loop_bodies.specs.Bodies.{HasEdge, LeadsWithin, IsIn, IsBody, in_node_ranges, AreNodes}
 use Rattle.loop_bodies.specs.Bodies.LeadsWithin.{at_once, onward}
-use Rattle.loop_bodies.specs.Groups.{HasBit, IsFlagged, OfLoop, IsInside, IsLed, IsEnteredAside, AreLoopExtents, AreBodyBits, AreGroup, IsSideBit}
-use Rattle.loop_bodies.proofs.BitLaws.{no_bit, has_or, or_left, or_right, has_and, and_both, has_not, not_has, bit_cases, bit_small, no_flag}
+use Rattle.loop_bodies.specs.Groups.{HasBit, IsFlagged, OfLoop, IsInside, IsLed, AreBodyBits, AreGroup, IsEnteredFrom, IsSideBit}
+use Rattle.loop_bodies.proofs.BitLaws.{no_bit, has_or, or_left, or_right, has_and, and_both, has_not, not_has, bit_small, no_flag}
 
 some_same : {A : Type 0} (a b : A) (o : Option A) → o ≡ Some a → o ≡ Some b → a ≡ b
 some_same a b o p q = cc
@@ -92,64 +92,60 @@ IsHeader v loop = v ≡ loop.header
 abbrev pub AreHeadersBelow : List LoopExtent → ℕ → ℕ → List ℕ → Type 0
 AreHeadersBelow loops count n words = AreBitsBelow loops count (λ v i loop. IsHeader v loop) n words
 
--- ---- edges into bodies, of the first n
+-- ---- edges to one node
+module _ (edges : EdgeView) (bodies : List ℕ) (to bits entered source more : ℕ) (small : bits < 2 ^ 64) (low : get_or bodies source 0 < 2 ^ 64) (e : more ≡ bit_or entered (bit_and bits (bit_not w64 (get_or bodies source 0)))) where
+  abbrev missing : ℕ
+  missing = bit_and bits (bit_not w64 (get_or bodies source 0))
+
+  pub entered_sound : HasEdge edges.sources edges.targets source to → ((i : ℕ) → HasBit entered i → HasBit bits i × IsEnteredFrom edges bodies to i) → (i : ℕ) → HasBit more i → HasBit bits i × IsEnteredFrom edges bodies to i
+  entered_sound edge was i h = ⊎_elim (λ old. was i old)
+      (λ (new : HasBit missing i).
+      let b = has_and bits (bit_not w64 (get_or bodies source 0)) i new in
+      let il : i < 64 = bit_small bits i small b.0 in
+      (b.0, (source, edge, has_not (get_or bodies source 0) i low il b.1)))
+      (has_or entered missing i (ap (λ x. bit_at x i) (sym e) ∙ h))
+
+  pub entered_kept : (i : ℕ) → HasBit entered i → HasBit more i
+  entered_kept i h = ap (λ x. bit_at x i) e ∙ or_left entered missing i h
+
+  pub entered_here : (i : ℕ) → HasBit bits i → (IsFlagged bodies source i → ⊥) → HasBit more i
+  entered_here i h none =
+      let il : i < 64 = bit_small bits i small h in
+      ap (λ x. bit_at x i) e ∙ or_right entered missing i (and_both bits (bit_not w64 (get_or bodies source 0)) i h (not_has (get_or bodies source 0) i low il none))
+
+-- ---- edges to the nodes below one
 pub record AreAsideBelow (edges : EdgeView) (bodies headers : List ℕ) (n aside : ℕ) : Type 0 where
   pub sound : (i : ℕ) → HasBit aside i → IsSideBit edges bodies headers i
-  pub done : (e from to i : ℕ) → e < n → slice_get edges.sources e ≡ Some from → slice_get edges.targets e ≡ Some (Some to) → IsFlagged bodies to i → (IsFlagged headers to i → ⊥) → (IsFlagged bodies from i → ⊥) → HasBit aside i
+  pub done : (to i : ℕ) → to < n → IsFlagged bodies to i → (IsFlagged headers to i → ⊥) → IsEnteredFrom edges bodies to i → HasBit aside i
 
-pub aside_none : (edges : EdgeView) (bodies headers : List ℕ) → AreAsideBelow edges bodies headers 0 0
-aside_none edges bodies headers = record { sound = λ i h. absurd (no_bit i h); done = λ e from to i lt. let bad : ⊥ = omega arith in absurd bad }
+pub aside_none : (edges : EdgeView) (bodies headers : List ℕ) (n : ℕ) → ((v i : ℕ) → IsFlagged bodies v i → n ≤ v) → AreAsideBelow edges bodies headers n 0
+aside_none edges bodies headers n low = record { sound = λ i h. absurd (no_bit i h); done = λ to i lt into. let le = low to i into in let bad : ⊥ = omega arith in absurd bad }
 
-module _ (edges : EdgeView) (bodies headers : List ℕ) (n aside : ℕ) (was : AreAsideBelow edges bodies headers n aside) where
-  -- an edge that leads nowhere
-  pub aside_skip : slice_get edges.targets n ≡ Some None → AreAsideBelow edges bodies headers (n + 1) aside
-  aside_skip none = record {
-    sound = was.sound;
-    done = λ e from to i lt s t. ⊎_elim
-        (λ (at : e ≡ n). absurd (let same : None ≡ Some to = some_same None (Some to) (slice_get edges.targets n) none (ap (slice_get edges.targets) (sym at) ∙ t) in let bad : ⊥ = cc in bad))
-        (λ (ne : e ≡ n → ⊥). let d : e ≢ n = ne in was.done e from to i (omega arith) s t)
-        (cases_eq e n);
-  }
+pub aside_next : (edges : EdgeView) (bodies headers : List ℕ) (n aside entered more : ℕ) → get_or bodies n 0 < 2 ^ 64 → get_or headers n 0 < 2 ^ 64 →
+    ((i : ℕ) → HasBit entered i ↔ (HasBit (bit_and (get_or bodies n 0) (bit_not w64 (get_or headers n 0))) i × IsEnteredFrom edges bodies n i)) → more ≡ bit_or aside entered →
+    AreAsideBelow edges bodies headers n aside → AreAsideBelow edges bodies headers (n + 1) more
+aside_next edges bodies headers n aside entered more small low is e was = record {
+  sound = λ i h. ⊎_elim (λ old. was.sound i old)
+      (λ (new : HasBit entered i).
+      let w = (is i).0 new in
+      let b = has_and (get_or bodies n 0) (bit_not w64 (get_or headers n 0)) i w.0 in
+      let il : i < 64 = bit_small (get_or bodies n 0) i small b.0 in
+      record { from = w.1.0; to = n; edge = w.1.1; into = b.0; aside = has_not (get_or headers n 0) i low il b.1; outside = w.1.2 })
+      (has_or aside entered i (ap (λ x. bit_at x i) (sym e) ∙ h));
+  done = λ to i lt into apart enters. ⊎_elim
+      (λ (at : to ≡ n).
+      let here : HasBit (get_or bodies n 0) i = subst (λ x. IsFlagged bodies x i) at into in
+      let il : i < 64 = bit_small (get_or bodies n 0) i small here in
+      ap (λ x. bit_at x i) e ∙ or_right aside entered i ((is i).1 (
+        and_both (get_or bodies n 0) (bit_not w64 (get_or headers n 0)) i here (not_has (get_or headers n 0) i low il (λ k. apart (subst (λ x. IsFlagged headers x i) (sym at) k))),
+        subst (λ x. IsEnteredFrom edges bodies x i) at enters,
+      )))
+      (λ (ne : to ≡ n → ⊥). let d : to ≢ n = ne in ap (λ x. bit_at x i) e ∙ or_left aside entered i (was.done to i (omega arith) into apart enters))
+      (cases_eq to n);
+}
 
-  pub aside_next : (from to more : ℕ) → get_or bodies to 0 < 2 ^ 64 → get_or bodies from 0 < 2 ^ 64 → get_or headers to 0 < 2 ^ 64 → slice_get edges.sources n ≡ Some from → slice_get edges.targets n ≡ Some (Some to) →
-      more ≡ bit_or aside (bit_and (bit_and (get_or bodies to 0) (bit_not w64 (get_or bodies from 0))) (bit_not w64 (get_or headers to 0))) → AreAsideBelow edges bodies headers (n + 1) more
-  aside_next from to more small low lower at_from at_to e = record {
-    sound = λ i h. ⊎_elim (λ old. was.sound i old)
-        (λ (new : HasBit (bit_and both (bit_not w64 (get_or headers to 0))) i).
-        let a = has_and both (bit_not w64 (get_or headers to 0)) i new in
-        let b = has_and (get_or bodies to 0) (bit_not w64 (get_or bodies from 0)) i a.0 in
-        let il : i < 64 = bit_small (get_or bodies to 0) i small b.0 in
-        record {
-          from = from;
-          to = to;
-          edge = (n, at_from, at_to);
-          into = b.0;
-          aside = has_not (get_or headers to 0) i lower il a.1;
-          outside = has_not (get_or bodies from 0) i low il b.1;
-        })
-        (has_or aside (bit_and both (bit_not w64 (get_or headers to 0))) i (ap (λ x. bit_at x i) (sym e) ∙ h));
-    done = λ d f t i lt s g into apart outside. ⊎_elim
-        (λ (at : d ≡ n).
-        let sf : f ≡ from = some_same f from (slice_get edges.sources n) (ap (slice_get edges.sources) (sym at) ∙ s) at_from in
-        let st : t ≡ to = (let pair : Some t ≡ Some to = some_same (Some t) (Some to) (slice_get edges.targets n) (ap (slice_get edges.targets) (sym at) ∙ g) at_to in cc) in
-        let here : HasBit (get_or bodies to 0) i = subst (λ x. IsFlagged bodies x i) st into in
-        let il : i < 64 = bit_small (get_or bodies to 0) i small here in
-        ap (λ x. bit_at x i) e ∙ or_right aside (bit_and both (bit_not w64 (get_or headers to 0))) i
-        (and_both both (bit_not w64 (get_or headers to 0)) i
-        (and_both (get_or bodies to 0) (bit_not w64 (get_or bodies from 0)) i here (not_has (get_or bodies from 0) i low il (λ k. outside (subst (λ x. IsFlagged bodies x i) (sym sf) k))))
-        (not_has (get_or headers to 0) i lower il (λ k. apart (subst (λ x. IsFlagged headers x i) (sym st) k)))))
-        (λ (ne : d ≡ n → ⊥). let q : d ≢ n = ne in ap (λ x. bit_at x i) e ∙ or_left aside (bit_and both (bit_not w64 (get_or headers to 0))) i (was.done d f t i (omega arith) s g into apart outside))
-        (cases_eq d n);
-  }
-    where
-      both : ℕ
-      both = bit_and (get_or bodies to 0) (bit_not w64 (get_or bodies from 0))
-
-pub aside_all : (edges : EdgeView) (bodies headers : List ℕ) (n aside : ℕ) → length edges.targets ≤ n → AreAsideBelow edges bodies headers n aside → (i : ℕ) → HasBit aside i ↔ IsSideBit edges bodies headers i
-aside_all edges bodies headers n aside end was i = (
-  was.sound i,
-  λ h. let lt = slice_get_within edges.targets h.edge.0 (Some h.to) h.edge.2 in was.done h.edge.0 h.from h.to i (omega arith) h.edge.1 h.edge.2 h.into h.aside h.outside,
-)
+pub aside_all : (edges : EdgeView) (bodies headers : List ℕ) (n aside : ℕ) → ((v i : ℕ) → IsFlagged bodies v i → v < n) → AreAsideBelow edges bodies headers n aside → (i : ℕ) → HasBit aside i ↔ IsSideBit edges bodies headers i
+aside_all edges bodies headers n aside end was i = (was.sound i, λ h. was.done h.to i (end h.to i h.into) h.into h.aside (h.from, h.edge, h.outside))
 
 -- ---- a group
 pub group_is : (edges : EdgeView) (loops : List LoopExtent) (bodies headers : List ℕ) (aside : ℕ) → AreBodyBits edges loops bodies → ((v i : ℕ) → IsFlagged headers v i ↔ OfLoop loops i (IsHeader v)) →

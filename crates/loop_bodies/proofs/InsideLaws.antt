@@ -1,15 +1,13 @@
 -- By node, in which extents it lies: where ranges begin and end.
 use Rattle.std.proofs.Common.{◌≡◌, ◌≢◌, ℕ, zero, suc, ◌+◌, ◌-◌, ◌<◌, ◌≤◌, ◌↔◌, Bool, true, false, ◌&&◌, ◌||◌, nat_le, nat_lt, List, [], ◌∷◌, length, get_or, set, length-set, refl, sym, ap, ◌∙◌, subst, arith, Option, Some, ◌⊎◌, inl, inr, ⊎_elim, bit_xor}
-use Rattle.std.specs.Prelude.{slice_get, slice_index}
-use Rattle.std.specs.List.{list_any}
-use Rattle.std.specs.Int.{bit_at}
+use Rattle.std.specs.Prelude.{slice_get}
 use Rattle.std.proofs.lemmas.Bool.{cases_eq, cases_lt, cases_Bool, both_ways, lt-ltb, le-ltb, le-leb, lt-leb}
 use Rattle.std.proofs.lemmas.Option.{slice_get_within}
 use Rattle.loop_bodies.specs.declared.extent.LoopExtent.{LoopExtent}
 use Rattle.loop_bodies.specs.declared.extent.NodeRange.{NodeRange}
 use Rattle.loop_bodies.specs.Bodies.{in_node_ranges, in_node_range}
 use Rattle.loop_bodies.specs.Groups.{HasBit, IsFlagged, OfLoop, IsInside, IsChange, IsChangeOf, before_in, AreInside}
-use Rattle.loop_bodies.proofs.BitLaws.{has_xor, xor_left, xor_right, flag_same, same_flag, flag_other, other_flag, bit_cases}
+use Rattle.loop_bodies.proofs.BitLaws.{has_xor, xor_left, xor_right, flag_same, same_flag, flag_other, other_flag}
 
 some_same : {A : Type 0} (a b : A) (o : Option A) → o ≡ Some a → o ≡ Some b → a ≡ b
 some_same a b o p q = cc

@@ -5,4 +5,5 @@ pub mod BitLaws
 pub mod InsideLaws
 pub mod SweepLaws
 pub mod GroupLaws
+pub mod SpanLaws
 pub mod Laws

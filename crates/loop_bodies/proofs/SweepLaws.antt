@@ -1,18 +1,16 @@
 -- Bits that are passed back over edges.
-use Rattle.std.proofs.Common.{◌≡◌, ◌≢◌, ℕ, zero, suc, ◌+◌, ◌*◌, ◌%◌, ◌^◌, ◌<◌, ◌≤◌, ◌↔◌, Bool, true, false, List, [], ◌∷◌, length, get_or, set, replicate, refl, sym, ap, ◌∙◌, subst, arith, Option, Some, ◌⊎◌, inl, inr, ⊎_elim, get_or-set_same, get_or-set_other, length-set, bit_and, bit_or}
+use Rattle.std.proofs.Common.{◌≡◌, ◌≢◌, ℕ, ◌*◌, ◌%◌, ◌^◌, ◌<◌, ◌↔◌, Bool, true, false, List, length, get_or, set, refl, sym, ap, ◌∙◌, subst, arith, Option, Some, ◌⊎◌, inl, inr, ⊎_elim, get_or-set_same, get_or-set_other, length-set, bit_and, bit_or}
 use Rattle.std.specs.Prelude.{slice_get, slice_index}
 use Rattle.std.specs.Int.{bit_at}
-use Rattle.std.proofs.lemmas.Bool.{cases_eq, cases_Bool, both_ways}
-use Rattle.std.proofs.lemmas.Option.{slice_get_within}
-use Rattle.std.proofs.lemmas.List.{length-replicate}
+use Rattle.std.proofs.lemmas.Bool.{cases_eq, both_ways}
 use Rattle.loop_bodies.specs.declared.extent.LoopExtent.{LoopExtent}
 use Rattle.loop_bodies.specs.Edges.{EdgeView, AreEdges}
 use Rattle.loop_bodies.specs.Bodies.{HasEdge, LeadsWithin, in_node_ranges}
 use Rattle.loop_bodies.specs.Bodies.LeadsWithin.{at_once, onward}
 use Rattle.loop_bodies.specs.Search.{is_marked_at, AreUnmarked}
-use Rattle.loop_bodies.specs.Groups.{HasBit, IsFlagged, OfLoop, IsInside, IsLed, AreLoopExtents, AreInside, Gains, IsPassedOn, IsPassedBack, ReachesBack, AreBitsSettled, IsSearched, IsTurn, AreBodyBits}
+use Rattle.loop_bodies.specs.Groups.{HasBit, IsFlagged, OfLoop, IsInside, IsLed, AreInside, Gains, IsPassedOn, IsPassedBack, ReachesBack, AreBitsSettled, IsSearched, IsTurn, AreBodyBits}
 use Rattle.loop_bodies.specs.Groups.ReachesBack.{here, back}
-use Rattle.loop_bodies.proofs.BitLaws.{has_or, or_left, or_right, has_and, and_both, flag_same, same_flag, flag_other, other_flag, no_flag, shl_same, shl_only}
+use Rattle.loop_bodies.proofs.BitLaws.{has_or, or_left, or_right, has_and, and_both, flag_same, same_flag, flag_other, other_flag, shl_same, shl_only}
 
 some_same : {A : Type 0} (a b : A) (o : Option A) → o ≡ Some a → o ≡ Some b → a ≡ b
 some_same a b o p q = cc

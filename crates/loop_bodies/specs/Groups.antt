@@ -48,6 +48,15 @@ pub record AreLoopExtents (count : ℕ) (loops : List LoopExtent) : Type 0 where
   pub few : length loops ≤ 64
   pub header : (i : ℕ) (loop : LoopExtent) → slice_get loops i ≡ Some loop → (loop.header < count) × IsInside loop.header loop
 
+-- a node lies in a range
+abbrev pub IsInSpan : NodeRange → ℕ → Type 0
+IsInSpan range v = (range.from ≤ v) × (v < range.to)
+
+-- a range of nodes below the count has those in the extents of some loops
+pub record IsSpan (count : ℕ) (loops : List LoopExtent) (range : NodeRange) : Type 0 where
+  pub within : range.to ≤ count
+  pub nodes : (i v : ℕ) (loop : LoopExtent) → slice_get loops i ≡ Some loop → v < count → IsInside v loop → IsInSpan range v
+
 -- ---- what the search keeps
 
 -- whether the node before this one lies in some ranges
@@ -108,6 +117,10 @@ IsTurn edges inside v i loop = HasEdge edges.sources edges.targets v loop.header
 pub record AreBodyBits (edges : EdgeView) (loops : List LoopExtent) (bodies : List ℕ) : Type 0 where
   pub size : length bodies ≡ edges.count
   pub nodes : (v i : ℕ) → IsFlagged bodies v i ↔ OfLoop loops i (IsLed edges v)
+
+-- an edge leads to a node from one without bit i
+abbrev pub IsEnteredFrom : EdgeView → List ℕ → ℕ → ℕ → Type 0
+IsEnteredFrom edges bodies to i = (from : ℕ) × HasEdge edges.sources edges.targets from to × (IsFlagged bodies from i → ⊥)
 
 -- an edge leads from a node without bit i to one that has it, and isn't the header of loop i
 pub record IsSideBit (edges : EdgeView) (bodies headers : List ℕ) (i : ℕ) : Type 0 where

@@ -1,14 +1,15 @@
 //! The bodies of loops.
 
-ghost use Rattle.std.specs.Prelude.{◌≡◌, ◌<◌, ◌↔◌, true, IfOk};
+ghost use Rattle.std.specs.Prelude.{◌≡◌, ℕ, ◌<◌, ◌≤◌, ◌↔◌, true, IfOk};
 ghost use Rattle.loop_bodies.specs.Edges.{EdgeView, AreEdges};
 ghost use Rattle.loop_bodies.specs.Bodies.{in_node_ranges, IsBody, HasEdgeBack, AreNodes, IsSideEdge, IsLeastPair};
-ghost use Rattle.loop_bodies.specs.Groups.{AreLoopExtents, AreBodyBits, AreGroup};
+ghost use Rattle.loop_bodies.specs.Groups.{IsFlagged, IsInSpan, AreLoopExtents, AreBodyBits, AreGroup};
 
 use crate::edges::IncomingEdges;
 use crate::entries::{has_back_edge, least_side, mark_nodes};
 use crate::extent::{LoopExtent, NodeRange, is_in_extent};
 use crate::groups::{GroupBodies, add_body, find_aside, find_headers, search_together};
+use crate::span::span_of;
 use crate::visit::{clear_marks, fill_body};
 use scale_base::NoMemory;
 use std::alloc::Global;
@@ -90,21 +91,29 @@ impl<'a> BodySearch<'a> {
         Ok(words)
     }
 
-    /// The bodies of at most 64 loops, and those of them that are entered aside. It goes through all nodes and edges once or
-    /// a few times for all these loops; for code that is laid out against its run, once for each.
+    /// The bodies of at most 64 loops, and those of them that are entered aside. It goes through the nodes from the first of
+    /// their extents to the last, and the edges to them, once or a few times for all these loops; for code that is laid out
+    /// against its run, once for each.
     pub fn group(&mut self, alloc: Global, loops: &[LoopExtent]) -> Result<GroupBodies, NoMemory>
         requires { AreLoopExtents self.old.count loops.now }
         ensures group { IfOk result (λ group. AreGroup self.old loops.now group.bodies.items group.aside) }
+        ensures within { IfOk result (λ group. group.nodes.to ≤ self.old.count) }
+        ensures nodes { IfOk result (λ group. (v i : ℕ) → IsFlagged group.bodies.items v i → IsInSpan group.nodes v) }
         ensures same { self.new ≡ self.old }
     {
         let count = self.edges.count();
-        let bodies = match search_together(alloc, &self.edges, loops)? {
+        let nodes = span_of(loops, count);
+        let bodies = match search_together(alloc, &self.edges, loops, nodes)? {
             Some(bodies) => bodies,
             None => self.search_each(alloc, loops)?,
         };
         let headers = find_headers(alloc, loops, count)?;
-        let aside = find_aside(&self.edges, &bodies, &headers);
-        Ok(GroupBodies { bodies, aside })
+        let aside = find_aside(&self.edges, &bodies, &headers, nodes);
+        Ok(GroupBodies {
+            bodies,
+            nodes,
+            aside,
+        })
     }
 
     /// Whether an edge leads from the extent to the header. It looks at the edges to the header alone.

@@ -58,22 +58,6 @@ impl<'a> IncomingEdges<'a> {
         self.count
     }
 
-    /// How many edges there are.
-    pub fn len(&self) -> usize
-        ensures { result ≡ length self.now.targets }
-    {
-        self.targets.len()
-    }
-
-    /// The node to which an edge leads, if it leads to one.
-    pub fn target(&self, edge: usize) -> Option<usize>
-        requires { edge < length self.now.targets }
-        ensures target { slice_get self.now.targets edge ≡ Some result }
-        ensures within { (node : ℕ) → result ≡ Some node → node < self.now.count }
-    {
-        *self.targets.get(edge).unwrap()
-    }
-
     /// The last edge to a node.
     pub fn last(&self, node: usize) -> Option<usize>
         requires { node < self.now.count }

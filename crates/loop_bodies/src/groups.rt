@@ -1,12 +1,12 @@
 //! The bodies of a group of loops, as bits.
 
-ghost use Rattle.std.specs.Prelude.{◌≡◌, ℕ, ◌<◌, ◌↔◌, ◌⊎◌, length, slice_get, Some, IfOk, IfSome};
+ghost use Rattle.std.specs.Prelude.{◌≡◌, ℕ, ◌<◌, ◌≤◌, ◌↔◌, ◌⊎◌, length, slice_get, Some, IfOk, IfSome};
 ghost use Rattle.loop_bodies.specs.Bodies.{IsIn, AreNodes};
-ghost use Rattle.loop_bodies.specs.Groups.{HasBit, IsFlagged, OfLoop, AreLoopExtents, AreBodyBits, IsSideBit};
+ghost use Rattle.loop_bodies.specs.Groups.{HasBit, IsFlagged, OfLoop, IsInSpan, AreLoopExtents, AreBodyBits, IsEnteredFrom, IsSideBit};
 
 use crate::bits::set_bit;
 use crate::edges::IncomingEdges;
-use crate::extent::LoopExtent;
+use crate::extent::{LoopExtent, NodeRange};
 use crate::inside::find_inside;
 use crate::sweep::{settle, start_loops};
 use scale_base::NoMemory;
@@ -17,18 +17,22 @@ use std::alloc::Global;
 pub struct GroupBodies {
     /// By node, the loops whose bodies have it.
     pub bodies: Vec<u64>,
+    /// A range that has the nodes of the bodies.
+    pub nodes: NodeRange,
     /// The loops whose bodies an edge from outside enters past the header.
     pub aside: u64,
 }
 
-/// By node, the loops whose bodies have it. None is where the code is laid out so that the nodes have to be gone through too
-/// often.
+/// By node, the loops whose bodies have it. Their extents lie in a range of nodes, which alone is gone through. None is where
+/// the code is laid out so that this has to be done too often.
 pub fn search_together(
     alloc: Global,
     edges: &IncomingEdges<'_>,
     loops: &[LoopExtent],
+    nodes: NodeRange,
 ) -> Result<Option<Vec<u64>>, NoMemory>
-    requires { AreLoopExtents edges.now.count loops.now }
+    requires loops { AreLoopExtents edges.now.count loops.now }
+    requires within { nodes.to ≤ edges.now.count }
     ensures { IfOk result (λ found. IfSome found (λ bodies. AreBodyBits edges.now loops.now bodies.items)) }
 {
     let count = edges.count();
@@ -36,7 +40,7 @@ pub fn search_together(
     let mut found: Vec<u64> = vec![in alloc; 0; count]?;
     let mut pending = vec![in alloc; false; count]?;
     start_loops(edges, loops, &inside, &mut found, &mut pending);
-    if settle(edges, &inside, &mut found, &mut pending) {
+    if settle(edges, &inside, &mut found, &mut pending, nodes) {
         Ok(Some(found))
     } else {
         Ok(None)
@@ -68,17 +72,37 @@ pub fn find_headers(alloc: Global, loops: &[LoopExtent], count: usize) -> Result
     Ok(headers)
 }
 
-/// The loops whose bodies an edge from outside enters past the header.
-pub fn find_aside(edges: &IncomingEdges<'_>, bodies: &[u64], headers: &[u64]) -> u64
+// Those of some bits that an edge to a node brings from a node without them.
+fn entered_bits(edges: &IncomingEdges<'_>, bodies: &[u64], node: usize, bits: u64) -> u64
+    requires node { node < edges.now.count }
+    requires bodies { length bodies.now ≡ edges.now.count }
+    ensures { (i : ℕ) → HasBit result i ↔ (HasBit bits i × IsEnteredFrom edges.now bodies.now node i) }
+{
+    let mut entered = 0;
+    let mut next = edges.last(node);
+    while let Some(edge) = next {
+        entered |= bits & !bodies[edges.source(edge)];
+        next = edges.before(edge);
+    }
+    entered
+}
+
+/// The loops whose bodies an edge from outside enters past the header. The bodies' nodes lie in a range.
+pub fn find_aside(
+    edges: &IncomingEdges<'_>,
+    bodies: &[u64],
+    headers: &[u64],
+    nodes: NodeRange,
+) -> u64
     requires bodies { length bodies.now ≡ edges.now.count }
     requires headers { length headers.now ≡ edges.now.count }
+    requires within { nodes.to ≤ edges.now.count }
+    requires nodes { (v i : ℕ) → IsFlagged bodies.now v i → IsInSpan nodes v }
     ensures { (i : ℕ) → HasBit result i ↔ IsSideBit edges.now bodies.now headers.now i }
 {
     let mut aside = 0;
-    for edge in 0..edges.len() {
-        if let Some(to) = edges.target(edge) {
-            aside |= bodies[to] & !bodies[edges.source(edge)] & !headers[to];
-        }
+    for node in nodes.from..nodes.to {
+        aside |= entered_bits(edges, bodies, node, bodies[node] & !headers[node]);
     }
     aside
 }

@@ -10,6 +10,7 @@ mod entries;
 mod extent;
 mod groups;
 mod inside;
+mod span;
 mod sweep;
 mod visit;
 

@@ -1,11 +1,11 @@
 //! The bodies of some loops at once: bits are passed back over edges until none is new.
 
-ghost use Rattle.std.specs.Prelude.{◌≡◌, ℕ, ◌<◌, ◌↔◌, true, length};
+ghost use Rattle.std.specs.Prelude.{◌≡◌, ℕ, ◌<◌, ◌≤◌, ◌↔◌, true, length};
 ghost use Rattle.loop_bodies.specs.Search.{AreUnmarked};
 ghost use Rattle.loop_bodies.specs.Groups.{IsFlagged, OfLoop, AreLoopExtents, Gains, IsPassedOn, IsPassedBack, AreBitsSettled, IsSearched, IsTurn};
 
 use crate::edges::IncomingEdges;
-use crate::extent::LoopExtent;
+use crate::extent::{LoopExtent, NodeRange};
 
 // So often are the nodes gone through: once or twice where code runs forward, and once more for each loop within a loop where
 // loops are left at their headers.
@@ -90,14 +90,21 @@ fn visit_node(
     }
 }
 
-// Visits each node, from the last to the first.
-fn sweep(edges: &IncomingEdges<'_>, inside: &[u64], found: &mut [u64], pending: &mut [bool])
+// Visits each node of a range, from the last to the first.
+fn sweep(
+    edges: &IncomingEdges<'_>,
+    inside: &[u64],
+    found: &mut [u64],
+    pending: &mut [bool],
+    nodes: NodeRange,
+)
+    requires nodes { nodes.to ≤ edges.now.count }
     requires inside { length inside.now ≡ edges.now.count }
     requires settled { AreBitsSettled edges.now inside.now found.old pending.old }
     ensures { IsSearched edges.now inside.now found.old found.new pending.new }
 {
-    let mut node = edges.count();
-    while node > 0 {
+    let mut node = nodes.to;
+    while node > nodes.from {
         node -= 1;
         visit_node(edges, inside, found, pending, node);
     }
@@ -115,13 +122,15 @@ fn is_quiet(pending: &[bool]) -> bool
     true
 }
 
-/// Goes through the nodes until none is pending, or often enough. Says whether none is.
+/// Goes through the nodes of a range until none is pending, or often enough. Says whether none is.
 pub fn settle(
     edges: &IncomingEdges<'_>,
     inside: &[u64],
     found: &mut [u64],
     pending: &mut [bool],
+    nodes: NodeRange,
 ) -> bool
+    requires nodes { nodes.to ≤ edges.now.count }
     requires inside { length inside.now ≡ edges.now.count }
     requires settled { AreBitsSettled edges.now inside.now found.old pending.old }
     ensures search { IsSearched edges.now inside.now found.old found.new pending.new }
@@ -131,7 +140,7 @@ pub fn settle(
         if is_quiet(pending) {
             return true;
         }
-        sweep(edges, inside, found, pending);
+        sweep(edges, inside, found, pending, nodes);
     }
     is_quiet(pending)
 }

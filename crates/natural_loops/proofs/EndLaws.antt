@@ -2,7 +2,7 @@
 use Rattle.std.proofs.Common.{◌≡◌, ℕ, zero, suc, ◌+◌, ◌<◌, List, [], ◌∷◌, ◌++◌, length, refl, sym, ap, ◌∙◌, arith, Option, Some, None, ◌⊎◌, inl, inr, ⊎_elim, length-append}
 use Rattle.std.specs.Prelude.{slice_get}
 use Rattle.code_graph.specs.FlowGraph.{FlowGraph, graph}
-use Rattle.natural_loops.specs.Ends.{AreEdgeEnds}
+use Rattle.natural_loops.specs.Ends.{AreListedEnds}
 
 -- one element behind a list
 pub push_last : {A : Type 0} (xs : List A) (x : A) → slice_get (xs ++ x ∷ []) (length xs) ≡ Some x
@@ -53,7 +53,7 @@ ends_none v = record {
   end = λ e h. let bad : ⊥ = cc in absurd bad;
 }
 
-pub ends_all : (v : FlowGraph) (n : ℕ) (sources : List ℕ) (targets : List (Option ℕ)) → n ≡ length v.code.edges → AreEndsBelow v n sources targets → AreEdgeEnds v sources targets
+pub ends_all : (v : FlowGraph) (n : ℕ) (sources : List ℕ) (targets : List (Option ℕ)) → n ≡ length v.code.edges → AreEndsBelow v n sources targets → AreListedEnds v sources targets
 ends_all v n sources targets e was = record {
   sources_size = was.sources_size ∙ e;
   targets_size = was.targets_size ∙ e;

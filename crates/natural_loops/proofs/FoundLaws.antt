@@ -19,7 +19,7 @@ use Rattle.loop_bodies.specs.Edges.{EdgeView}
 use Rattle.loop_bodies.specs.Bodies.{IsIn, IsLeastPair}
 use Rattle.loop_file.specs.declared.notes.LoopNote.{LoopNote}
 use Rattle.loop_file.specs.Kept.{note_at, noted_loops}
-use Rattle.natural_loops.specs.Ends.{AreEdgeEnds}
+use Rattle.natural_loops.specs.Ends.{AreListedEnds}
 use Rattle.natural_loops.specs.Noted.{header_address, IsBodyNode, HasBackEdge, HaveOneHeader, IsNotedSideEntry, node_address}
 use Rattle.natural_loops.specs.Found.{loops_seen, AreNaturalLoops}
 use Rattle.natural_loops.specs.Refused.{AreHeaders, AreNoted, IsPairRefused, IsDepthRefused, AreHeadersReached}
@@ -84,11 +84,11 @@ pair_low v notes headers firsts least one two numbers same pairs is =
     (found, (let q : one < 4096 = omega arith in q), (let q : two < 4096 = omega arith in q))
 
 -- the ends of the edges, as slices
-pub edges_at : (v : FlowGraph) (sources starts : List ℕ) (targets ends : List (Option ℕ)) (count : ℕ) (search : EdgeView) → IsFlowGraph v → count ≡ length v.code.nodes → count ≤ 131072 → AreEdgeEnds v sources targets → starts ≡ sources → ends ≡ targets →
+pub edges_at : (v : FlowGraph) (sources starts : List ℕ) (targets ends : List (Option ℕ)) (count : ℕ) (search : EdgeView) → IsFlowGraph v → count ≡ length v.code.nodes → count ≤ 131072 → AreListedEnds v sources targets → starts ≡ sources → ends ≡ targets →
     search ≡ record { sources = starts; targets = ends; count = count } → AreGraphEdges v search
 edges_at v sources starts targets ends count search flow size few are from to e = subst (AreGraphEdges v) (sym e) (record {
   graph = record { flow = flow; few = omega arith };
-  ends = subst (λ s. AreEdgeEnds v s ends) (sym from) (subst (AreEdgeEnds v sources) (sym to) are);
+  ends = subst (λ s. AreListedEnds v s ends) (sym from) (subst (AreListedEnds v sources) (sym to) are);
   count = size;
 })
 

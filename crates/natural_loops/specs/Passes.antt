@@ -15,7 +15,7 @@ use Rattle.loop_bodies.specs.Groups.{HasBit, IsFlagged}
 use Rattle.loop_file.specs.declared.notes.LoopNote.{LoopNote}
 use Rattle.loop_file.specs.Kept as kept
 use Rattle.loop_file.specs.Kept.{note_at}
-use Rattle.natural_loops.specs.Ends.{AreEdgeEnds}
+use Rattle.natural_loops.specs.Ends.{AreListedEnds}
 use Rattle.natural_loops.specs.Noted.{header_address, IsBodyNode, HasBackEdge, IsNotedSideEntry}
 use Rattle.natural_loops.specs.Found.{IsAscending}
 use Rattle.natural_loops.specs.Refused.{IsHeaderRefused, AreHeaders, IsBackEdgeRefused, IsEntryRefused}
@@ -47,7 +47,7 @@ HaveOneNumber headers j k = (j < k) × (k < length headers) × (slice_index head
 -- the ends of the edges of a program's graph
 pub record AreGraphEdges (v : FlowGraph) (edges : EdgeView) : Type 0 where
   pub graph : IsSmallGraph v
-  pub ends : AreEdgeEnds v edges.sources edges.targets
+  pub ends : AreListedEnds v edges.sources edges.targets
   pub count : edges.count ≡ length v.code.nodes
 
 -- the same, and notes of loops with different headers, which are at these nodes

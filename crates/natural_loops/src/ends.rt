@@ -2,7 +2,7 @@
 
 ghost use Rattle.std.specs.Prelude.{◌≡◌, ◌<◌, length, slice_get, IfOk, Some};
 ghost use Rattle.code_graph.specs.FlowGraph as flow;
-ghost use Rattle.natural_loops.specs.Ends.{AreEdgeEnds};
+ghost use Rattle.natural_loops.specs.Ends.{AreListedEnds};
 
 use crate::nodes::node_at;
 use code_graph::CodeGraph;
@@ -27,7 +27,7 @@ fn source_of(graph: &CodeGraph, edge: usize) -> usize
 
 /// The ends of a graph's edges.
 pub fn edge_ends(alloc: Global, graph: &CodeGraph) -> Result<EdgeEnds, NoMemory>
-    ensures { IfOk result (λ ends. AreEdgeEnds graph.now ends.sources.items ends.targets.items) }
+    ensures { IfOk result (λ ends. AreListedEnds graph.now ends.sources.items ends.targets.items) }
 {
     // Its contract says what is so of the graph.
     let _nodes = graph.node_count();

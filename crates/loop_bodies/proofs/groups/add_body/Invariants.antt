@@ -1,6 +1,3 @@
-use Rattle.std.proofs.Common.{◌≡◌, ℕ, ◌<◌, ◌↔◌, ◌⊎◌, length, Some}
-use Rattle.std.specs.Prelude.{slice_get}
-use Rattle.loop_bodies.specs.Groups.{IsFlagged}
 use Rattle.loop_bodies.proofs.GroupLaws.{AreAdded}
 use Rattle.loop_bodies.proofs.groups.add_body.Given as goal
 

@@ -1,24 +1,14 @@
-use Rattle.std.proofs.Common.{rules, ◌≡◌, ◌∙◌, ◌+◌, ap, sym, subst, refl, Some, None}
-use Rattle.loop_bodies.proofs.GroupLaws.{AreAsideBelow, aside_skip, aside_next, aside_all}
+use Rattle.std.proofs.Common.{rules, arith, refl, ◌≤◌}
+use Rattle.loop_bodies.proofs.GroupLaws.{aside_none, aside_next, aside_all}
 use Rattle.loop_bodies.proofs.groups.find_aside.Goals as goal
-use Rattle.loop_bodies.proofs.groups.find_aside.Goals.{in-Some, in_default}
 
-pub loop-edge-preserved : goal.loop-edge-preserved
-loop-edge-preserved c =
-    let edges = c.args.edges.now in
-    let bodies = c.args.bodies.now in
-    let headers = c.args.headers.now in
-    let edge = c.loop-edge.edge in
-    elim c.match-target.branch [
-      | in-Some w ↦
-          subst (AreAsideBelow c.args.edges.now c.args.bodies.now c.args.headers.now (c.loop-edge.edge + 1)) (sym w.aside-is)
-          (aside_next edges bodies headers edge c.loop-edge.aside c.loop-edge.invariant w.source.result w.in-Some.to _ (c.type_inv.bodies w.in-Some.to).fits (c.type_inv.bodies w.source.result).fits (c.type_inv.headers w.in-Some.to).fits w.source.ensures.source
-          (c.target.ensures.target ∙ ap Some w.in-Some.is) refl)
-      | in_default w ↦
-          (let none : c.target.result ≡ None = search rules in
-          subst (AreAsideBelow c.args.edges.now c.args.bodies.now c.args.headers.now (c.loop-edge.edge + 1)) (sym w.aside-is)
-          (aside_skip edges bodies headers edge c.loop-edge.aside c.loop-edge.invariant (c.target.ensures.target ∙ ap Some none)))
-    ]
+pub loop-node-init : goal.loop-node-init
+loop-node-init c = aside_none c.args.edges.now c.args.bodies.now c.args.headers.now c.args.nodes.from (λ v i h. (c.requires.nodes v i h).0)
+
+pub loop-node-preserved : goal.loop-node-preserved
+loop-node-preserved c = aside_next c.args.edges.now c.args.bodies.now c.args.headers.now c.loop-node.node c.loop-node.aside c.entered_bits-aside.result _ (c.type_inv.bodies c.loop-node.node).fits (c.type_inv.headers c.loop-node.node).fits c.entered_bits-aside.ensures refl c.loop-node.invariant
 
 pub returns : goal.returns
-returns c = aside_all c.args.edges.now c.args.bodies.now c.args.headers.now c.loop-edge.edge c.loop-edge.aside (search rules) c.loop-edge.invariant
+returns c =
+    let end : c.args.nodes.to ≤ c.loop-node.node = search rules in
+    aside_all c.args.edges.now c.args.bodies.now c.args.headers.now c.loop-node.node c.loop-node.aside (λ v i h. let lt = (c.requires.nodes v i h).1 in omega arith) c.loop-node.invariant

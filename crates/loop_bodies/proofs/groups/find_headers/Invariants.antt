@@ -1,4 +1,3 @@
-use Rattle.std.proofs.Common.{◌≡◌, length}
 use Rattle.loop_bodies.proofs.GroupLaws.{AreHeadersBelow}
 use Rattle.loop_bodies.proofs.groups.find_headers.Given as goal
 

@@ -1,4 +1,4 @@
-use Rattle.std.proofs.Common.{rules, arith, ℕ, ◌≡◌, ◌<◌, sym, subst}
+use Rattle.std.proofs.Common.{arith, ℕ, ◌≡◌, ◌<◌, sym, subst}
 use Rattle.loop_bodies.specs.Bodies.{HasEdge}
 use Rattle.loop_bodies.specs.Groups.{IsFlagged, IsPassedOn, IsPassedBack}
 use Rattle.loop_bodies.proofs.EdgeLaws.{place, place_less}

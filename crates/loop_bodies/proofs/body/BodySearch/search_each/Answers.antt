@@ -1,8 +1,8 @@
-use Rattle.std.proofs.Common.{rules, arith, refl, ℕ, ◌≡◌, ◌∙◌, ◌+◌, ◌<◌, ◌↔◌, ◌⊎◌, length, replicate, ap, sym, subst, Some}
+use Rattle.std.proofs.Common.{rules, refl, ℕ, ◌≡◌, ◌∙◌, ◌+◌, ◌<◌, ◌↔◌, ◌⊎◌, length, replicate, ap, sym, subst, Some}
 use Rattle.std.specs.Prelude.{slice_get}
 use Rattle.std.proofs.lemmas.List.{take_at}
 use Rattle.std.proofs.lemmas.Option.{slice_get-get_or}
-use Rattle.loop_bodies.specs.Edges.{EdgeView, AreEdges}
+use Rattle.loop_bodies.specs.Edges.{AreEdges}
 use Rattle.loop_bodies.specs.Bodies.{IsBody, IsIn, AreNodes, in_node_ranges}
 use Rattle.loop_bodies.specs.Groups.{IsFlagged, IsLed}
 use Rattle.loop_bodies.proofs.GroupLaws.{AreBitsBelow, below_none, below_next, below_bodies, body_nodes, led_bits}
