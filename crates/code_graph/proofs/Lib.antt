@@ -1,3 +1,4 @@
+pub mod NodeEdges
 pub mod Lists
 pub mod Graphs
 pub mod StepLaws

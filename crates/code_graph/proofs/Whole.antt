@@ -19,6 +19,7 @@ use Rattle.cost_theory.specs.Accepted.{IsNode, IsProgram}
 use Rattle.cost_theory.specs.Reached.{IsCodeOf, graph_of, callee_of, call_returns, edges_of, edge_to}
 use Rattle.cost_theory.proofs.Laws.{Within, get_within, within_flat, some_get, one_graph, edge_node}
 use Rattle.cost_theory.proofs.Laws as theory
+use Rattle.code_graph.proofs.NodeEdges.{reached_node}
 use Rattle.call_orders.specs.declared.Arc.{Arc}
 use Rattle.call_orders.specs.Arcs.{HasNoCycle, IsSorted}
 use Rattle.graph_runs.specs.Text.{Text, kind_at}
@@ -122,7 +123,7 @@ module _ (t : Text) (r : Reach) (nodes : List ℕ) (kinds : List Word) (owners e
       node_is : (a : ℕ) → (k : ℕ) × (slice_get nodes k ≡ Some a) → IsNode (graph_of (kind_at t) (record { nodes = nodes; edges = edges; functions = entries; owners = owners; returning = returning })) a
       node_is a at =
           let f = node_reached t r nodes kinds owners entries returning callees are at.0 a at.1 in
-          theory.reached_node (kind_at t) t.entry (record { nodes = nodes; edges = edges; functions = entries; owners = owners; returning = returning }) code_is are.fine f.0 a f.1
+          reached_node (kind_at t) t.entry (record { nodes = nodes; edges = edges; functions = entries; owners = owners; returning = returning }) code_is are.fine f.0 a f.1
 
       is_node : (a : ℕ) → IsNode (graph_of (kind_at t) (record { nodes = nodes; edges = edges; functions = entries; owners = owners; returning = returning })) a → (k : ℕ) × (slice_get nodes k ≡ Some a)
       is_node a node =

@@ -11,7 +11,7 @@ use Rattle.scale_base.specs.Spans.{ends_by}
 use Rattle.scale_base.specs.Image.{Image, LoadSegment, segment_of, file_part, loaded_headers, contents, is_zeroed, covers, segment_byte, byte_in, loaded_byte}
 use Rattle.scale_base.specs.Layout.{part_of, is_plain_segment, layout_of}
 use Rattle.stored_laws.specs.StoredView.{over_file, insert_segment, block_segment, stored_view}
-use Rattle.stored_laws.proofs.Laws.{length-slice_range}
+use Rattle.stored_laws.proofs.Bytes.{length-slice_range}
 
 -- ---- bytes
 

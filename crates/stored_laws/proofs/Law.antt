@@ -8,7 +8,8 @@ use Rattle.scale_base.proofs.Laws.{rules_kept, tables-kept, contents-are, parts_
 use Rattle.elf_patch.specs.Stored.{stored_image, text_end, window, IsStubBase}
 use Rattle.elf_patch.proofs.Laws.{page_at-mod, page_at-le, page_at-least}
 use Rattle.stored_laws.specs.StoredView.{IsStorable, stored_view}
-use Rattle.stored_laws.proofs.Laws.{law, stored-is}
+use Rattle.stored_laws.proofs.Fields.{stored-is}
+use Rattle.stored_laws.proofs.Whole.{law}
 use Rattle.stored_laws.specs.Held.{IsHeldImage, held_base, OfHeldImages}
 use Rattle.stored_laws.proofs.Contents.{off_phoff, off_phnum, HasBytes, bytes_same, layout_is}
 
