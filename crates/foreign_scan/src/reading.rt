@@ -15,6 +15,7 @@ use crate::key::KeyCode;
 use crate::parts;
 use rv_encode::encode;
 use scale_base::Instr;
+use stub_writer::{count_code, exit_code, reset_code, switch_code};
 
 /// The window's word of an offset from x0, if the offset is one of a word of the window.
 fn window_word(offset: i32) -> Option<u16>
