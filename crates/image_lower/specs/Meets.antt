@@ -84,9 +84,11 @@ place_off_table file None = Unit {0}
 abbrev pub AreOffTable : List ℕ → List Patch → Type 0
 AreOffTable file patches = All (λ p. place_off_table file (file_place file p.at)) patches
 
--- an image, and the one that is stored of it with these notes
+-- an image without a key, of a file that is taken, and the one that is stored of it with these notes
 pub record IsLoweredTo (image : Image) (notes : List JumpNote) (base : ℕ) (lowered : Image) : Type 0 where
   pub read : image_of image.file ≡ Ok image
+  pub short : length image.file ≤ 4194304
+  pub no_key : image.keyed_segment ≡ None
   pub noted : AreJumpNotes notes
   pub good : no_bad_jump image notes ≡ Ok tt
   pub place : IsStubBase image (block_len image notes) base
