@@ -120,7 +120,7 @@ module _ (file : List ℕ) (place base len : ℕ) (in_file : e_phoff file + 32 *
         ∙ (sym (middle old c refl (omega (arith, lt))) ∙ ap (λ (i : ℕ). get_or (head ++ old ++ tail) i 0) is)))
   ]
 
-all_same : {A : Type 0} (f g : ℕ → A) (a n : ℕ) → ((j : ℕ) → a ≤ j → j < a + n → f j ≡ g j) → map f (range_with_len a n) ≡ map g (range_with_len a n)
+pub all_same : {A : Type 0} (f g : ℕ → A) (a n : ℕ) → ((j : ℕ) → a ≤ j → j < a + n → f j ≡ g j) → map f (range_with_len a n) ≡ map g (range_with_len a n)
 all_same f g a zero h = refl
 all_same f g a (suc n) h =
     ap (λ y. y ∷ map f (range_with_len (a + 1) n)) (h a (omega arith) (omega arith))
@@ -148,7 +148,7 @@ one_changed f g a (suc n) (z ∷ xs) ys x e h =
 -- ---- the program headers
 
 -- headers by their words
-header_same : (xs ys : List ℕ) (j : ℕ) → e_phoff xs ≡ e_phoff ys → ((c : ℕ) → c + 4 ≤ 28 → word_at xs (e_phoff xs + 32 * j + c) ≡ word_at ys (e_phoff xs + 32 * j + c)) → program_header xs j ≡ program_header ys j
+pub header_same : (xs ys : List ℕ) (j : ℕ) → e_phoff xs ≡ e_phoff ys → ((c : ℕ) → c + 4 ≤ 28 → word_at xs (e_phoff xs + 32 * j + c) ≡ word_at ys (e_phoff xs + 32 * j + c)) → program_header xs j ≡ program_header ys j
 unfolding program_header
 header_same xs ys j e h =
     let first : word_at xs (e_phoff xs + 32 * j) ≡ word_at ys (e_phoff xs + 32 * j) = ap (word_at xs) (sym (add-zero (e_phoff xs + 32 * j))) ∙ (h 0 (omega arith) ∙ ap (word_at ys) (add-zero (e_phoff xs + 32 * j))) in
@@ -219,7 +219,7 @@ added-headers file made sections block patches place base len at a in_file store
 abbrev pub code_section_header : ℕ → ℕ → ℕ → SectionHeader
 code_section_header place base len = record { sh_type = 1; sh_flags = 6; sh_addr = base; sh_offset = place; sh_size = len; sh_link = 0 }
 
-section_same : (xs ys : List ℕ) (j from : ℕ) → e_shoff xs + 40 * j ≡ from → (at : ℕ) → e_shoff ys + 40 * j ≡ at → ((c : ℕ) → c < 40 → get_or xs (from + c) 0 ≡ get_or ys (at + c) 0) → section_header xs j ≡ section_header ys j
+pub section_same : (xs ys : List ℕ) (j from : ℕ) → e_shoff xs + 40 * j ≡ from → (at : ℕ) → e_shoff ys + 40 * j ≡ at → ((c : ℕ) → c < 40 → get_or xs (from + c) 0 ≡ get_or ys (at + c) 0) → section_header xs j ≡ section_header ys j
 unfolding section_header
 section_same xs ys j from e at g h =
     let word = λ (c : ℕ) (low : c + 4 ≤ 40). word-same xs ys (from + c) (at + c) (λ i l.

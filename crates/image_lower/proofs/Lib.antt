@@ -15,3 +15,7 @@ pub mod Legs
 pub mod Followed
 pub mod AddedBytes
 pub mod CodeTable
+pub mod MadeImage
+pub mod MadeMemory
+pub mod NoteFacts
+pub mod Planted

@@ -41,7 +41,7 @@ use Rattle.image_lower.proofs.CodeTable.{code_header}
 
 -- ---- lists with some in the middle
 
-find_mid : {A : Type 0} (p : A → Bool) (xs es ys : List A) → list_any p es ≡ false → find p (xs ++ (es ++ ys)) ≡ find p (xs ++ ys)
+pub find_mid : {A : Type 0} (p : A → Bool) (xs es ys : List A) → list_any p es ≡ false → find p (xs ++ (es ++ ys)) ≡ find p (xs ++ ys)
 find_mid p [] [] ys off = refl
 find_mid p [] (e ∷ es) ys off = step (p e) off (find_mid p [] es ys)
   where
@@ -50,7 +50,7 @@ find_mid p [] (e ∷ es) ys off = step (p e) off (find_mid p [] es ys)
     step false h go = go h
 find_mid p (x ∷ xs) es ys off = ap (cond (p x) (Some x)) (find_mid p xs es ys off)
 
-find_new : {A : Type 0} (p : A → Bool) (xs ys : List A) (e : A) → p e ≡ true → find p (xs ++ ys) ≡ None → find p (xs ++ (e ∷ [] ++ ys)) ≡ Some e
+pub find_new : {A : Type 0} (p : A → Bool) (xs ys : List A) (e : A) → p e ≡ true → find p (xs ++ ys) ≡ None → find p (xs ++ (e ∷ [] ++ ys)) ≡ Some e
 find_new p [] ys e on none = ap (λ b. cond b (Some e) (find p ys)) on
 find_new p (x ∷ xs) ys e on none = step (p x) none (find_new p xs ys e on)
   where
@@ -58,7 +58,7 @@ find_new p (x ∷ xs) ys e on none = step (p x) none (find_new p xs ys e on)
     step true h go = let never : ⊥ = cc in absurd never
     step false h go = go h
 
-any_mid : {A : Type 0} (p : A → Bool) (xs es ys : List A) → list_any p (xs ++ (es ++ ys)) ≡ (list_any p (xs ++ ys) || list_any p es)
+pub any_mid : {A : Type 0} (p : A → Bool) (xs es ys : List A) → list_any p (xs ++ (es ++ ys)) ≡ (list_any p (xs ++ ys) || list_any p es)
 any_mid p [] es ys = list_any-append p es ys ∙ swap (list_any p es) (list_any p ys)
   where
     swap : (a b : Bool) → (a || b) ≡ (b || a)
@@ -72,7 +72,7 @@ any_mid p (x ∷ xs) es ys = ap (λ b. p x || b) (any_mid p xs es ys) ∙ assoc 
     assoc true b c = refl
     assoc false b c = refl
 
-or_false : (b : Bool) → (b || false) ≡ b
+pub or_false : (b : Bool) → (b || false) ≡ b
 or_false true = refl
 or_false false = refl
 
@@ -110,11 +110,11 @@ has_word h at e =
     let a = and_parts (nat_le h.p_vaddr at) (nat_le (at + 4) (h.p_vaddr + h.p_filesz)) e in
     record { from = leb-true h.p_vaddr at a.0; to = leb-true (at + 4) (h.p_vaddr + h.p_filesz) a.1 }
 
-in_file : (h : ProgramHeader) (i : ℕ) → h.p_offset ≤ i → i < h.p_offset + h.p_filesz → in_span (file_part h) i ≡ true
+pub in_file : (h : ProgramHeader) (i : ℕ) → h.p_offset ≤ i → i < h.p_offset + h.p_filesz → in_span (file_part h) i ≡ true
 in_file h i low high = and_from (nat_le h.p_offset i) (nat_lt i (h.p_offset + h.p_filesz)) (le-leb h.p_offset i low) (lt-ltb i (h.p_offset + h.p_filesz) high)
 
 -- a byte that a segment loads from the file is none of those of a word at another address
-place_off : (hs : List ProgramHeader) (a at : ℕ) (g h : ProgramHeader) → each_pair may_follow hs ≡ true → find (λ k. in_span (memory_range k) a) hs ≡ Some g → find (header_has_word at) hs ≡ Some h
+pub place_off : (hs : List ProgramHeader) (a at : ℕ) (g h : ProgramHeader) → each_pair may_follow hs ≡ true → find (λ k. in_span (memory_range k) a) hs ≡ Some g → find (header_has_word at) hs ≡ Some h
     → g.p_vaddr ≤ a → a - g.p_vaddr < g.p_filesz → IsOff at a → (g.p_offset + (a - g.p_vaddr) < h.p_offset + (at - h.p_vaddr)) ⊎ (h.p_offset + (at - h.p_vaddr) + 4 ≤ g.p_offset + (a - g.p_vaddr))
 place_off hs a at g h apart e f low below off =
     let w = has_word h at (found_passes (header_has_word at) hs h f) in
@@ -143,7 +143,7 @@ place_off hs a at g h apart e f low below off =
 -- ---- a patched word
 
 -- where each patch of the word puts the same number, the file holds it
-put_here : (file acc : List ℕ) (patches : List Patch) (pc w q j : ℕ) → length acc ≡ length file → Places file patches → file_place file pc ≡ Some q → j < 4 → All (λ p. p.at ≡ pc → p.word ≡ w) patches → All (λ p. p.at ≢ pc → Away file (q + j) p) patches
+pub put_here : (file acc : List ℕ) (patches : List Patch) (pc w q j : ℕ) → length acc ≡ length file → Places file patches → file_place file pc ≡ Some q → j < 4 → All (λ p. p.at ≡ pc → p.word ≡ w) patches → All (λ p. p.at ≢ pc → Away file (q + j) p) patches
     → (get_or acc (q + j) 0 ≡ get_or (little 4 w) j 0) ⊎ (list_any (λ (p : Patch). p.at == pc) patches ≡ true) → get_or (fold (put_patch file) acc patches) (q + j) 0 ≡ get_or (little 4 w) j 0
 put_here file acc [] pc w q j len places place lt words away (inl there) = there
 put_here file acc [] pc w q j len places place lt words away (inr some) = absurd cc
@@ -204,13 +204,13 @@ any_plain q (x ∷ xs) = step (is_plain_segment x) (any_plain q xs)
     step false go = go
 
 -- a segment with the address that passes
-abbrev allows : List ℕ → (Part → Bool) → ℕ → ProgramHeader → Bool
+abbrev pub allows : List ℕ → (Part → Bool) → ℕ → ProgramHeader → Bool
 allows file f a h = is_plain_segment (segment_of file h) && (f (part_of (segment_of file h)) && in_span (memory_range h) a)
 
-any_allows : (file : List ℕ) (f : Part → Bool) (a : ℕ) (hs : List ProgramHeader) → list_any (λ p. f p && in_span p.span a) (map part_of (filter is_plain_segment (map (segment_of file) hs))) ≡ list_any (allows file f a) hs
+pub any_allows : (file : List ℕ) (f : Part → Bool) (a : ℕ) (hs : List ProgramHeader) → list_any (λ p. f p && in_span p.span a) (map part_of (filter is_plain_segment (map (segment_of file) hs))) ≡ list_any (allows file f a) hs
 any_allows file f a hs = any_plain (λ p. f p && in_span p.span a) (map (segment_of file) hs) ∙ list_any-map (λ s. is_plain_segment s && (f (part_of s) && in_span (part_of s).span a)) (segment_of file) hs
 
-allowed_covers : (file : List ℕ) (f : Part → Bool) (a : ℕ) (hs : List ProgramHeader) → list_any (allows file f a) hs ≡ true → list_any (λ h. in_span (memory_range h) a) hs ≡ true
+pub allowed_covers : (file : List ℕ) (f : Part → Bool) (a : ℕ) (hs : List ProgramHeader) → list_any (allows file f a) hs ≡ true → list_any (λ h. in_span (memory_range h) a) hs ≡ true
 allowed_covers file f a [] e = absurd cc
 allowed_covers file f a (h ∷ hs) e = elim (or_cases (allows file f a h) (list_any (allows file f a) hs) e) [
     | inl here ↦ or_left (in_span (memory_range h) a) (list_any (λ h. in_span (memory_range h) a) hs)

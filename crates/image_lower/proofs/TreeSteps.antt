@@ -220,7 +220,7 @@ forked env s rs target value left right first second x e1 alu h room false sign 
         (passed_step env s1 rs (4 + 4 * length first) (s.pc + 8) h sign (omega arith))
         alu (λ costs. max_right (costs classes.Taken) (costs classes.Untaken)) (omega (arith, more)) (go_left refl)
 
-choose : {P : Type 0} (b : Bool) → (b ≡ true → P) → (b ≡ false → P) → P
+pub choose : {P : Type 0} (b : Bool) → (b ≡ true → P) → (b ≡ false → P) → P
 choose true f g = f refl
 choose false f g = g refl
 

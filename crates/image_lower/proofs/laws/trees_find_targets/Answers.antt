@@ -1,4 +1,6 @@
 use Rattle.image_lower.proofs.TreeSteps.{trees_find}
+use Rattle.image_lower.proofs.MadeMemory.{IsMade}
+use Rattle.image_lower.proofs.Planted.{planted}
 use Rattle.image_lower.proofs.laws.trees_find_targets.Goals as goal
 
 pub returns : goal.returns
