@@ -19,3 +19,4 @@ pub mod MadeImage
 pub mod MadeMemory
 pub mod NoteFacts
 pub mod Planted
+pub mod MadeBy
