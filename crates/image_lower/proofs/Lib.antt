@@ -20,3 +20,4 @@ pub mod MadeMemory
 pub mod NoteFacts
 pub mod Planted
 pub mod MadeBy
+pub mod LoweredLaw

@@ -47,6 +47,25 @@ tree_len rs (suc n) shifted a b xs = choose (are_alike n xs)
       let d = fork_len rs (31 - n - shifted) first_too second_too in
       ap (λ (c : List Instr). length c) (forks_more rs n shifted a xs e) ∙ (omega (arith, one, two, c, d) ∙ sym (ap (λ (c : List Instr). length c) (forks_more rs n shifted b xs e))))
 
+pub tree_some : (rs bits shifted a : ℕ) (xs : List ℕ) → 3 ≤ length (tree rs bits shifted a xs)
+unfolding tree
+tree_some rs zero shifted a xs = omega arith
+tree_some rs (suc n) shifted a xs = choose (are_alike n xs)
+    (λ e. subst (λ (c : List Instr). 3 ≤ length c) (sym (alike_more rs n shifted a xs e)) (tree_some rs n shifted a xs))
+    (λ e.
+      let lack = filter (lacks_bit n) xs in
+      let first = tree rs n (31 - n) (a + 8) lack in
+      let second = tree rs n (31 - n) (a + 8 + 4 * length first) (filter (has_bit n) xs) in
+      let one = tree_some rs n (31 - n) (a + 8) lack in
+      let c = fork_len rs (31 - n - shifted) first second in
+      subst (λ (c : List Instr). 3 ≤ length c) (sym (forks_more rs n shifted a xs e)) (omega (arith, one, c)))
+
+pub trees_some : (image : Image) (at : ℕ) (ns : List JumpNote) → 1 ≤ length ns → 0 < length (trees_code image at ns)
+trees_some image at [] some = absurd (omega (arith, some))
+trees_some image at (n ∷ ns) some =
+    let one = tree_some (register image n) 32 0 at n.targets in
+    omega (arith, length-append (note_code image at n) (trees_code image (at + 4 * length (note_code image at n)) ns), one)
+
 pub trees_len : (image : Image) (a b : ℕ) (ns : List JumpNote) → length (trees_code image a ns) ≡ length (trees_code image b ns)
 trees_len image a b [] = refl
 trees_len image a b (n ∷ ns) =

@@ -9,7 +9,7 @@ mod laws;
 mod lowering;
 mod trees;
 
-pub use laws::trees_find_targets;
+pub use laws::{lowered_runs_follow, trees_find_targets};
 pub use lowering::{Lowered, lower};
 
 #[cfg(test)]

@@ -28,6 +28,13 @@ fn word_at(file: &[u8], at: usize) -> Option<&[u8]> {
     file.get(at..at.checked_add(4)?)
 }
 
+fn is_tree_at(file: &[u8], at: usize) -> bool {
+    match file.get(at..at.saturating_add(32)) {
+        Some(block) => block == TREE.as_slice(),
+        None => false,
+    }
+}
+
 fn bad_jump(alloc: Global, jumps: &str) -> Option<u32> {
     match lower(alloc, &TABLE_JUMP, jumps.as_bytes()) {
         Err(Stop::Refused(Refusal::BadJump(at))) => Some(at),
@@ -54,7 +61,7 @@ fn a_tree_stands_for_a_jump_through_a_table(rt: HostRuntime) -> Result<(), Fail>
     assert_eq!(rt; counts, Lowered { pairs: 0, jumps: 1, block: 32, depth: 1 });
     assert_eq!(rt; file.len(), 4192);
     assert_eq!(rt; word_at(&file, 92), Some([0x6F, 0x00, 0x90, 0x7F].as_slice()));
-    assert_eq!(rt; file.get(4096..4128), Some(TREE.as_slice()));
+    assert!(rt; is_tree_at(&file, 4096));
     Ok(())
 }
 
