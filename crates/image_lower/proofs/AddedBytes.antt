@@ -1,6 +1,6 @@
 -- A file with a block added, byte by byte: its header, its block and its tables.
-use Rattle.std.proofs.Common.{◌≡◌, ℕ, zero, suc, ◌+◌, ◌*◌, ◌-◌, ◌^◌, ◌<◌, ◌≤◌, Bool, true, false, Some, List, [], ◌∷◌, ◌++◌, length, replicate, get_or, refl, ap, sym, ◌∙◌, arith, add-zero, inl, inr, ◌⊎◌}
-use Rattle.std.specs.Prelude.{All, slice_range, nat_le, nat_lt, ◌&&◌, ◌||◌, if◌then◌else◌}
+use Rattle.std.proofs.Common.{◌≡◌, ℕ, ◌+◌, ◌*◌, ◌-◌, ◌^◌, ◌<◌, ◌≤◌, Bool, true, false, Some, List, ◌++◌, length, replicate, get_or, refl, ap, sym, ◌∙◌, arith, add-zero, inl, inr, ◌⊎◌}
+use Rattle.std.specs.Prelude.{All, nat_le, nat_lt, ◌&&◌, ◌||◌, if◌then◌else◌}
 use Rattle.std.proofs.lemmas.Bool.{cases_lt, both_ways, and_from, le-leb, lt-ltb}
 use Rattle.std.proofs.lemmas.List.{length-append, length-replicate, get_or_append_left}
 use Rattle.scale_base.specs.declared.ranges.Patch.{Patch}
@@ -8,7 +8,7 @@ use Rattle.scale_base.specs.Bytes.{half_at, word_at}
 use Rattle.scale_base.specs.Elf.{e_phoff, e_phnum, e_shoff, e_shnum, has_sections}
 use Rattle.scale_base.specs.Image.{file_place, is_zeroed}
 use Rattle.elf_patch.specs.Stored.{little, put, patched, block_start, changed}
-use Rattle.elf_patch.specs.Added.{code_table, code_sections, moved_sections, table_start, sections_start, added_file}
+use Rattle.elf_patch.specs.Added.{code_table, code_sections, moved_sections, sections_start, added_file}
 use Rattle.elf_patch.proofs.PlaceLemmas.{page_at-le}
 use Rattle.stored_laws.proofs.Bytes.{half-same, word-same, word_little, half_little, length-put, put-inside, put-outside, get_or-behind}
 use Rattle.stored_laws.proofs.Patched.{length-patched}
@@ -155,10 +155,10 @@ added-is file patches base block long short few small places room tables =
     let limit_too : so < 2 ^ 32 = omega arith in
     let so_is : so ≡ at + length table = omega (arith, tables) in
     let in_front = λ (i : ℕ) (lt : i < length file).
-        get_or_append_left (front ++ zeros ++ block ++ table) sections 0 i (omega (arith, three, above))
-        ∙ (get_or_append_left (front ++ zeros ++ block) table 0 i (omega (arith, two, above))
-        ∙ (get_or_append_left (front ++ zeros) block 0 i (omega (arith, one, above))
-        ∙ get_or_append_left front zeros 0 i (omega (arith, size, len)))) in
+    get_or_append_left (front ++ zeros ++ block ++ table) sections 0 i (omega (arith, three, above))
+    ∙ (get_or_append_left (front ++ zeros ++ block) table 0 i (omega (arith, two, above))
+    ∙ (get_or_append_left (front ++ zeros) block 0 i (omega (arith, one, above))
+    ∙ get_or_append_left front zeros 0 i (omega (arith, size, len)))) in
     record {
       size = omega (arith, length-append (front ++ zeros ++ block ++ table) sections, three);
       at_is = refl;

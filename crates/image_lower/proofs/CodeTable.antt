@@ -1,10 +1,10 @@
 -- The program headers and the section headers of a file with a block added. Its table differs from that of an image that is stored with the same
 -- block in the flags and the alignment of the block's entry alone.
-use Rattle.std.proofs.Common.{◌≡◌, ◌≢◌, ℕ, zero, suc, ◌+◌, ◌*◌, ◌-◌, ◌^◌, ◌<◌, ◌≤◌, Bool, true, false, cond, List, [], ◌∷◌, ◌++◌, length, map, get_or, take, drop, refl, sym, ap, subst, ◌∙◌, append_assoc, arith, add-zero, inl, inr, ◌⊎◌}
+use Rattle.std.proofs.Common.{◌≡◌, ◌≢◌, ℕ, zero, suc, ◌+◌, ◌*◌, ◌-◌, ◌^◌, ◌<◌, ◌≤◌, Bool, true, false, cond, List, [], ◌∷◌, ◌++◌, length, map, get_or, take, drop, refl, sym, ap, ◌∙◌, arith, add-zero, inl, inr, ◌⊎◌}
 use Rattle.std.specs.Prelude.{slice_range, ◌==◌, if◌then◌else◌}
-use Rattle.std.specs.List.{range_with_len, flat_map}
+use Rattle.std.specs.List.{range_with_len}
 use Rattle.std.proofs.lemmas.Bool.{cases_lt}
-use Rattle.std.proofs.lemmas.List.{length-append, length-drop, get_or-take, get_or_append_left, length-map, take-append-drop, length-take-le}
+use Rattle.std.proofs.lemmas.List.{length-append, length-drop, get_or-take, get_or_append_left, length-map, length-take-le}
 use Rattle.std.proofs.lemmas.List.FromFn.{map-range_with_len_more}
 use Rattle.std.proofs.lemmas.List.Sums.{prefix_len-le-length}
 use Rattle.std.proofs.lemmas.List.Concat.{flat_map-cons}
@@ -15,11 +15,11 @@ use Rattle.scale_base.specs.Bytes.{half_at, word_at}
 use Rattle.scale_base.specs.Elf.{e_phoff, e_phnum, e_shoff, e_shnum, has_sections, program_header, program_headers, section_header, section_headers}
 use Rattle.scale_base.specs.Image.{is_load}
 use Rattle.std.specs.Prelude.{nat_le, ◌&&◌, not}
-use Rattle.elf_patch.specs.Stored.{little, entry_bytes, kept_entry, entries, entry_of, keyed_number, block_start, stored_table, stored_image}
+use Rattle.elf_patch.specs.Stored.{entry_bytes, kept_entry, entries, entry_of, keyed_number, stored_table}
 use Rattle.elf_patch.specs.Added.{code_entry, code_table, code_section, code_sections}
 use Rattle.elf_view.proofs.Below.{length-headers}
 use Rattle.stored_laws.proofs.Bytes.{word-same, word_little, get_or-behind, get_or-slice_range, length-slice_range}
-use Rattle.stored_laws.proofs.Fields.{Places, IsStored, stored-is}
+use Rattle.stored_laws.proofs.Fields.{IsStored}
 use Rattle.stored_laws.proofs.Table.{keyed_header, kept_header, stored-headers}
 use Rattle.image_lower.proofs.AddedBytes.{IsAdded}
 
@@ -134,9 +134,10 @@ one_changed f g a zero (z ∷ xs) ys x e h = absurd cc
 one_changed f g a (suc n) [] ys x e h =
     let none : a + 0 ≡ a = omega arith in
     let first : g a ≡ x = cc in
-    let rest : map g (range_with_len (a + 1) n) ≡ ys = cc in
-    (ap (λ i. f i ∷ map f (range_with_len (a + 1) n)) (sym none) ∙ ap (λ (zs : List _). f (a + 0) ∷ zs) (all_same f g (a + 1) n (λ j low high. h j (omega (arith, low)) (omega (arith, high)) (omega (arith, low))) ∙ rest),
-     ap g none ∙ first)
+    let rest : map g (range_with_len (a + 1) n) ≡ ys = cc in (
+      ap (λ i. f i ∷ map f (range_with_len (a + 1) n)) (sym none) ∙ ap (λ (zs : List _). f (a + 0) ∷ zs) (all_same f g (a + 1) n (λ j low high. h j (omega (arith, low)) (omega (arith, high)) (omega (arith, low))) ∙ rest),
+      ap g none ∙ first,
+    )
 one_changed f g a (suc n) (z ∷ xs) ys x e h =
     let first : g a ≡ z = cc in
     let rest : map g (range_with_len (a + 1) n) ≡ xs ++ x ∷ ys = cc in
@@ -180,28 +181,28 @@ added-headers file made sections block patches place base len at a in_file store
     let before_len : length before ≡ n = length-map (take n (program_headers file)) kept_header ∙ length-take-le n (program_headers file) (omega (arith, fits, count)) in
     let olds = stored-headers file stored block patches place base base len at s in_file small low low short in
     let byte = λ (m : ℕ) (lt : m < 32 * (e_phnum file + 1)) (off : (m < 32 * n + 24) ⊎ (32 * n + 32 ≤ m)).
-        a.table_is m (omega (arith, size, lt)) ∙ (ap (λ (t : List ℕ). get_or t m 0) (new_is file place base len in_file) ∙ (bytes_same file place base len in_file m off
-        ∙ (ap (λ (t : List ℕ). get_or t m 0) (sym (old_is file place base len in_file)) ∙ sym (s.behind m)))) in
+    a.table_is m (omega (arith, size, lt)) ∙ (ap (λ (t : List ℕ). get_or t m 0) (new_is file place base len in_file) ∙ (bytes_same file place base len in_file m off
+    ∙ (ap (λ (t : List ℕ). get_or t m 0) (sym (old_is file place base len in_file)) ∙ sym (s.behind m)))) in
     let offsets : e_phoff made ≡ e_phoff stored = a.phoff ∙ sym s.phoff in
     let word = λ (j c : ℕ) (lt : j < e_phnum file + 1) (low : c + 4 ≤ 32) (off : (32 * j + c + 4 ≤ 32 * n + 24) ⊎ (32 * n + 32 ≤ 32 * j + c)).
-        word-same made stored (e_phoff made + 32 * j + c) (e_phoff made + 32 * j + c) (λ i l.
-          let from : e_phoff made + 32 * j + c + i ≡ at + (32 * j + c + i) = omega (arith, a.phoff) in
-          ap (λ (m : ℕ). get_or made m 0) from ∙ (byte (32 * j + c + i) (omega (arith, lt, low, l)) (within (32 * j + c) i n l off) ∙ ap (λ (m : ℕ). get_or stored m 0) (sym from))) in
+    word-same made stored (e_phoff made + 32 * j + c) (e_phoff made + 32 * j + c) (λ i l.
+    let from : e_phoff made + 32 * j + c + i ≡ at + (32 * j + c + i) = omega (arith, a.phoff) in
+    ap (λ (m : ℕ). get_or made m 0) from ∙ (byte (32 * j + c + i) (omega (arith, lt, low, l)) (within (32 * j + c) i n l off) ∙ ap (λ (m : ℕ). get_or stored m 0) (sym from))) in
     let others = λ (j : ℕ) (low : 0 ≤ j) (high : j < 0 + (e_phnum file + 1)) (off : j ≢ 0 + length before).
-        header_same made stored j offsets (λ c l. word j c (omega (arith, high)) (omega (arith, l)) (apart j n c l (omega (arith, off, before_len)))) in
+    header_same made stored j offsets (λ c l. word j c (omega (arith, high)) (omega (arith, l)) (apart j n c l (omega (arith, off, before_len)))) in
     let counts : e_phnum made ≡ e_phnum file + 1 = a.phnum in
     let counts_too : e_phnum stored ≡ e_phnum file + 1 = s.phnum in
     let olds2 : map (program_header stored) (range_with_len 0 (e_phnum file + 1)) ≡ before ++ keyed_header place base base len ∷ behind = ap (λ (m : ℕ). map (program_header stored) (range_with_len 0 m)) (sym counts_too) ∙ olds in
     let changed = one_changed (program_header made) (program_header stored) 0 (e_phnum file + 1) before behind (keyed_header place base base len) olds2 others in
     let zero_n : 0 + length before ≡ n = omega (arith, before_len) in
     let flags : word_at made (e_phoff made + 32 * n + 24) ≡ 5 =
-        word-same made (code_entry place base len) (e_phoff made + 32 * n + 24) 24 (λ i l.
-          let from : e_phoff made + 32 * n + 24 + i ≡ at + (32 * n + (24 + i)) = omega (arith, a.phoff) in
-          ap (λ (m : ℕ). get_or made m 0) from ∙ (a.table_is (32 * n + (24 + i)) (omega (arith, size, l, fits)) ∙ (ap (λ (t : List ℕ). get_or t (32 * n + (24 + i)) 0) (new_is file place base len in_file)
-          ∙ middle file place base len in_file (code_entry place base len) (24 + i) refl (omega (arith, l))))) ∙ flags_five place base len in
+    word-same made (code_entry place base len) (e_phoff made + 32 * n + 24) 24 (λ i l.
+    let from : e_phoff made + 32 * n + 24 + i ≡ at + (32 * n + (24 + i)) = omega (arith, a.phoff) in
+    ap (λ (m : ℕ). get_or made m 0) from ∙ (a.table_is (32 * n + (24 + i)) (omega (arith, size, l, fits)) ∙ (ap (λ (t : List ℕ). get_or t (32 * n + (24 + i)) 0) (new_is file place base len in_file)
+    ∙ middle file place base len in_file (code_entry place base len) (24 + i) refl (omega (arith, l))))) ∙ flags_five place base len in
     let its = flags_differ made stored n 5 offsets (λ c l. word n c (omega (arith, fits)) (omega (arith, l)) (inl (omega (arith, l)))) flags in
     let is : program_header made (0 + length before) ≡ code_header place base len =
-        ap (program_header made) zero_n ∙ (its ∙ ap (λ (h : ProgramHeader). record h { p_flags = 5 }) (ap (program_header stored) (sym zero_n) ∙ changed.1)) in
+    ap (program_header made) zero_n ∙ (its ∙ ap (λ (h : ProgramHeader). record h { p_flags = 5 }) (ap (program_header stored) (sym zero_n) ∙ changed.1)) in
     ap (λ (m : ℕ). map (program_header made) (range_with_len 0 m)) counts ∙ (changed.0 ∙ ap (λ (h : ProgramHeader). before ++ h ∷ behind) is)
   where
     within : (from i n : ℕ) → i < 4 → (from + 4 ≤ 32 * n + 24) ⊎ (32 * n + 32 ≤ from) → (from + i < 32 * n + 24) ⊎ (32 * n + 32 ≤ from + i)
@@ -223,9 +224,9 @@ pub section_same : (xs ys : List ℕ) (j from : ℕ) → e_shoff xs + 40 * j ≡
 unfolding section_header
 section_same xs ys j from e at g h =
     let word = λ (c : ℕ) (low : c + 4 ≤ 40). word-same xs ys (from + c) (at + c) (λ i l.
-        let a : from + c + i ≡ from + (c + i) = omega arith in
-        let b : at + c + i ≡ at + (c + i) = omega arith in
-        ap (λ (m : ℕ). get_or xs m 0) a ∙ (h (c + i) (omega (arith, low, l)) ∙ ap (λ (m : ℕ). get_or ys m 0) (sym b))) in
+    let a : from + c + i ≡ from + (c + i) = omega arith in
+    let b : at + c + i ≡ at + (c + i) = omega arith in
+    ap (λ (m : ℕ). get_or xs m 0) a ∙ (h (c + i) (omega (arith, low, l)) ∙ ap (λ (m : ℕ). get_or ys m 0) (sym b))) in
     rw (e, g, word 4 (omega arith), word 8 (omega arith), word 12 (omega arith), word 16 (omega arith), word 20 (omega arith), word 24 (omega arith)) refl
 
 four : (place base len : ℕ) → word_at (code_section place base len) 4 ≡ 1
@@ -257,8 +258,8 @@ last_section : (xs : List ℕ) (j from place base len : ℕ) → e_shoff xs + 40
 unfolding section_header
 last_section xs j from place base len e small low short h =
     let word = λ (c v : ℕ) (fits : c + 4 ≤ 40) (is : word_at (code_section place base len) c ≡ v). word-same xs (code_section place base len) (from + c) c (λ i l.
-        let a : from + c + i ≡ from + (c + i) = omega arith in
-        ap (λ (m : ℕ). get_or xs m 0) a ∙ h (c + i) (omega (arith, fits, l))) ∙ is in
+    let a : from + c + i ≡ from + (c + i) = omega arith in
+    ap (λ (m : ℕ). get_or xs m 0) a ∙ h (c + i) (omega (arith, fits, l))) ∙ is in
     rw (e, word 4 1 (omega arith) (four place base len), word 8 6 (omega arith) (eight place base len), word 12 base (omega arith) (twelve place base len low), word 16 place (omega arith) (sixteen place base len small), word 20 len (omega arith) (twenty place base len short), word 24 0 (omega arith) (twenty_four place base len)) refl
 
 sections_are : (file : List ℕ) (place base len : ℕ) → has_sections file ≡ true → code_sections file place base len ≡ slice_range file (e_shoff file) (e_shoff file + 40 * e_shnum file) ++ code_section place base len
@@ -277,14 +278,14 @@ added-sections file made table block patches place base len at a on in_file smal
     let byte = λ (m : ℕ). a.sections_are m ∙ ap (λ (t : List ℕ). get_or t m 0) is in
     let from = a.shoff on in
     let each = λ (j : ℕ) (low : 0 ≤ j) (high : j < 0 + n).
-        section_same made file j (so + 40 * j) (ap (λ (m : ℕ). m + 40 * j) from) (e_shoff file + 40 * j) refl (λ c lt.
-          let one : so + 40 * j + c ≡ so + (40 * j + c) = omega arith in
-          let two : e_shoff file + (40 * j + c) ≡ e_shoff file + 40 * j + c = omega arith in
-          ap (λ (m : ℕ). get_or made m 0) one ∙ (byte (40 * j + c) ∙ (get_or_append_left olds (code_section place base len) 0 (40 * j + c) (omega (arith, size, high, lt))
-          ∙ (get_or-slice_range file (e_shoff file) (40 * n) (40 * j + c) (omega (arith, high, lt)) ∙ ap (λ (m : ℕ). get_or file m 0) two)))) in
+    section_same made file j (so + 40 * j) (ap (λ (m : ℕ). m + 40 * j) from) (e_shoff file + 40 * j) refl (λ c lt.
+    let one : so + 40 * j + c ≡ so + (40 * j + c) = omega arith in
+    let two : e_shoff file + (40 * j + c) ≡ e_shoff file + 40 * j + c = omega arith in
+    ap (λ (m : ℕ). get_or made m 0) one ∙ (byte (40 * j + c) ∙ (get_or_append_left olds (code_section place base len) 0 (40 * j + c) (omega (arith, size, high, lt))
+    ∙ (get_or-slice_range file (e_shoff file) (40 * n) (40 * j + c) (omega (arith, high, lt)) ∙ ap (λ (m : ℕ). get_or file m 0) two)))) in
     let last = last_section made n (so + 40 * n) place base len (ap (λ (m : ℕ). m + 40 * n) from) small low short (λ c lt.
-          let one : so + 40 * n + c ≡ so + (40 * n + c) = omega arith in
-          ap (λ (m : ℕ). get_or made m 0) one ∙ (byte (40 * n + c) ∙ get_or-behind olds (code_section place base len) (40 * n) c size)) in
+    let one : so + 40 * n + c ≡ so + (40 * n + c) = omega arith in
+    ap (λ (m : ℕ). get_or made m 0) one ∙ (byte (40 * n + c) ∙ get_or-behind olds (code_section place base len) (40 * n) c size)) in
     ap (λ (m : ℕ). map (section_header made) (range_with_len 0 m)) (a.shnum on)
     ∙ (map-range_with_len_more (section_header made) 0 n n (omega arith)
     ∙ (ap (λ (zs : List SectionHeader). zs ++ section_header made n ∷ []) (all_same (section_header made) (section_header file) 0 n each)

@@ -1,5 +1,5 @@
 -- The parts of a far jump, and the registers that the words of jumps name.
-use Rattle.std.proofs.Common.{◌≡◌, ℕ, ℤ, pos, ◌+◌, ◌-◌, ◌*◌, ◌/◌, ◌%◌, ◌^◌, ◌<◌, ◌≤◌, Bool, true, false, not, cond, List, Option, Some, None, refl, arith, ap, sym, subst, ◌∙◌}
+use Rattle.std.proofs.Common.{◌≡◌, ℕ, ℤ, ◌-◌, ◌%◌, ◌<◌, ◌≤◌, Bool, true, false, not, List, Option, Some, None, refl, arith, ap, subst, ◌∙◌}
 use Rattle.std.specs.Prelude.{◌==◌, ◌&&◌, ◌||◌, nat_le, if◌then◌else◌, option_and_then, is_some}
 use Rattle.std.proofs.lemmas.Bool.{and_parts, cond_both, eqb-true, leb-true, not-true}
 use Rattle.std.proofs.lemmas.Bool.Decides.{nat_tests}
@@ -10,7 +10,7 @@ use Rattle.scale_base.specs.declared.instruction.ImmOp.{ImmOp}
 use Rattle.scale_base.specs.declared.instruction.RegOp.{RegOp}
 use Rattle.scale_base.specs.declared.instruction.Instr.{Instr}
 use Rattle.scale_base.specs.declared.instruction.Instr.TheVariants as instr
-use Rattle.scale_base.specs.Reading.{instr_of, row_of, opcode_of, rd_of, rs1_of, funct3_of, funct7_of, branch_of, branch_op_of, load_of, load_op_of, store_of, store_op_of, immediate_of, imm_op_of, register_of, reg_op_of}
+use Rattle.scale_base.specs.Reading.{instr_of, opcode_of, funct3_of, funct7_of, branch_of, branch_op_of, load_of, load_op_of, store_of, store_op_of, immediate_of, imm_op_of, register_of, reg_op_of}
 use Rattle.graph_runs.specs.Text.{Text, in_text, instr_at, is_target, follows}
 use Rattle.graph_runs.proofs.TextFacts.{entry_is}
 use Rattle.rv_encode.specs.Jumps.{distance}

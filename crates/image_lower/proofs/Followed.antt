@@ -1,7 +1,6 @@
 -- The lowered image follows the raw one: by the number of the raw run's steps.
-use Rattle.std.proofs.Common.{◌≡◌, ℕ, zero, suc, ◌+◌, ◌*◌, ◌<◌, ◌≤◌, Bool, true, false, cond, List, [], ◌∷◌, ◌++◌, length, refl, arith, sym, ◌∙◌, ap, subst, Some, ◌⊎◌, inl, inr}
+use Rattle.std.proofs.Common.{◌≡◌, ℕ, zero, suc, ◌+◌, ◌*◌, ◌≤◌, Bool, true, false, cond, List, [], ◌∷◌, ◌++◌, length, refl, arith, sym, ◌∙◌, ap, subst, Some, ◌⊎◌, inl, inr}
 use Rattle.std.specs.Prelude.{All, is_some, ◌||◌}
-use Rattle.std.specs.List.{sum_by, list_any}
 use Rattle.std.proofs.Math.Path.{fun_ext}
 use Rattle.std.proofs.lemmas.Bool.{cond-true, cond-false, both_ways}
 use Rattle.std.proofs.lemmas.List.Elements.{All-pop}
@@ -12,11 +11,11 @@ use Rattle.scale_base.specs.declared.stepping.StepEnd.{StepEnd}
 use Rattle.scale_base.specs.declared.stepping.StepEnd.TheVariants.{Went, Exited, Trapped}
 use Rattle.scale_base.specs.Image.{Image, loaded_byte}
 use Rattle.scale_base.specs.Layout.{layout_of, in_text, is_keyed}
-use Rattle.scale_base.specs.State.{Setting, State, reg}
-use Rattle.scale_base.specs.Step.{Outcome, step, goes}
+use Rattle.scale_base.specs.State.{Setting, State}
+use Rattle.scale_base.specs.Step.{Outcome, step}
 use Rattle.scale_base.specs.Run.{Run, Standing, GoesOn, HasExited, HasTrapped, begin, ended, one_more_by, one_more, run, run_of, setting_of, start_of, starting_level}
 use Rattle.scale_base.specs.Run as runs
-use Rattle.scale_base.proofs.RunLaws.{run_step, run_none}
+use Rattle.scale_base.proofs.RunLaws.{run_step}
 use Rattle.graph_runs.specs.Text.{text_of}
 use Rattle.stub_runs.specs.Meaning.{Leads}
 use Rattle.stub_runs.proofs.Steps.{leads_none, leads_on}
@@ -163,7 +162,7 @@ module _ (image lowered : Image) (notes : List JumpNote) (base levels : ℕ) (in
   came_to_end r g (Went x) u is_too stop = absurd stop
   came_to_end r g (Exited x status) u is_too stop =
       let ran : run other (start_of lowered levels) (length g.steps + 1) ≡ record { steps = g.steps ++ x ∷ []; state = up u; standing = HasExited status } =
-          run_step other (start_of lowered levels) (up r.state) (length g.steps) g.steps g.leads ∙ ap (λ (o : Outcome). ended g.steps o.end o.state) is_too in
+      run_step other (start_of lowered levels) (up r.state) (length g.steps) g.steps g.leads ∙ ap (λ (o : Outcome). ended g.steps o.end o.state) is_too in
       let raw : Run = record { steps = r.steps ++ x ∷ []; state = u; standing = HasExited status } in
       record {
         stays = refl;
@@ -175,7 +174,7 @@ module _ (image lowered : Image) (notes : List JumpNote) (base levels : ℕ) (in
       }
   came_to_end r g (Trapped trap) u is_too stop =
       let ran : run other (start_of lowered levels) (length g.steps + 1) ≡ record { steps = g.steps; state = up u; standing = HasTrapped trap } =
-          run_step other (start_of lowered levels) (up r.state) (length g.steps) g.steps g.leads ∙ ap (λ (o : Outcome). ended g.steps o.end o.state) is_too in
+      run_step other (start_of lowered levels) (up r.state) (length g.steps) g.steps g.leads ∙ ap (λ (o : Outcome). ended g.steps o.end o.state) is_too in
       let raw : Run = record { steps = r.steps; state = u; standing = HasTrapped trap } in
       record {
         stays = refl;

@@ -1,9 +1,9 @@
 -- One step of the raw run, and what the lowered image makes of it.
-use Rattle.std.proofs.Common.{◌≡◌, ℕ, ℤ, pos, ◌+◌, ◌-◌, ◌*◌, ◌%◌, ◌^◌, ◌<◌, ◌≤◌, Bool, true, false, not, cond, List, [], ◌∷◌, ◌++◌, length, replicate, refl, arith, sym, ◌∙◌, ap, subst, Option, Some, None, ◌⊎◌, inl, inr}
-use Rattle.std.specs.Prelude.{All, slice_set, slice_index, is_some, ◌==◌, ◌&&◌, ◌||◌, nat_le, max}
-use Rattle.std.specs.List.{list_any, Contains, sum_by}
+use Rattle.std.proofs.Common.{◌≡◌, ℕ, pos, ◌+◌, ◌-◌, ◌*◌, ◌%◌, ◌^◌, ◌<◌, ◌≤◌, Bool, true, false, cond, List, [], ◌∷◌, length, replicate, refl, arith, sym, ◌∙◌, ap, subst, Option, Some, None, ◌⊎◌, inl, inr}
+use Rattle.std.specs.Prelude.{All, slice_set, is_some, ◌==◌, ◌||◌, max}
+use Rattle.std.specs.List.{list_any, Contains}
 use Rattle.std.proofs.Math.Nat.{mul-le-mul_right}
-use Rattle.std.proofs.lemmas.Bool.{cond-true, cond-false, and_parts, and_from, or_left, both_ways, eqb-true, eq-eqb, cases_Bool}
+use Rattle.std.proofs.lemmas.Bool.{cond-true, cond-false, and_parts, and_from, or_left, eqb-true, eq-eqb}
 use Rattle.std.proofs.lemmas.Bool.Decides.{nat_tests}
 use Rattle.std.proofs.lemmas.Int.{ints, of_z-to_z}
 use Rattle.std.proofs.lemmas.List.{get_or-set_same}
@@ -21,10 +21,10 @@ use Rattle.scale_base.specs.declared.stepping.TrapKind.TheVariants as traps
 use Rattle.scale_base.specs.Image.{Image, loaded_byte, is_word_address, is_in}
 use Rattle.scale_base.specs.Layout.{layout_of, is_keyed, can_fetch, in_text, each_byte, fetches_byte, may_fetch}
 use Rattle.scale_base.specs.Reading.{instr_of}
-use Rattle.scale_base.specs.Arith.{plus, moved_by, unsigned}
+use Rattle.scale_base.specs.Arith.{plus, moved_by}
 use Rattle.scale_base.specs.State.{Setting, State, reg, with_reg, word_at}
-use Rattle.scale_base.specs.Step.{Outcome, step, goes, stops, stepped, sets, jumps, performs, executes, after}
-use Rattle.scale_base.specs.Run.{setting_of, start_of, starting_level}
+use Rattle.scale_base.specs.Step.{Outcome, step, goes, stops, stepped, jumps, performs, after}
+use Rattle.scale_base.specs.Run.{setting_of, starting_level}
 use Rattle.scale_base.proofs.LayoutLaws.{each_byte_first}
 use Rattle.scale_base.proofs.ZeroLaws.{step_zero}
 use Rattle.rv_encode.specs.Jumps.{distance}
@@ -46,10 +46,10 @@ use Rattle.image_lower.specs.FarJumps.{far_jump, far_target}
 use Rattle.image_lower.specs.Trees.{jump, whole_tree, tree_depth}
 use Rattle.image_lower.specs.Block.{register, block_len, greatest_depth}
 use Rattle.image_lower.specs.Meets.{HoldsTarget, in_block, is_noted_jump, cycles, tree_cycles, jumps_taken}
-use Rattle.image_lower.specs.TreeRuns.{StandsAt, Stand, FindsTarget}
-use Rattle.image_lower.proofs.FarParts.{IsFar, IsSecond, far_parts, auipc_low}
-use Rattle.image_lower.proofs.TreeSteps.{jump_step, trees_find, reaches_to}
-use Rattle.image_lower.proofs.LoweredFrame.{IsTreeOf, IsFrame}
+use Rattle.image_lower.specs.TreeRuns.{StandsAt, Stand}
+use Rattle.image_lower.proofs.FarParts.{far_parts, auipc_low}
+use Rattle.image_lower.proofs.TreeSteps.{jump_step, trees_find}
+use Rattle.image_lower.proofs.LoweredFrame.{IsFrame}
 
 -- nothing is hidden
 abbrev none : ℕ → Bool
@@ -227,7 +227,7 @@ module _ (image lowered : Image) (notes : List JumpNote) (base levels : ℕ) (in
   stays s raw fetched too noted far =
       let word = fetched_word s.pc fetched in
       let same = step_alike (layout_of image) (layout_of lowered) levels input w0 (hidden lowered) (loaded_byte lowered) s (f.alike s.pc) fetched too
-          (laid_word s.bytes s.pc word ∙ (f.plain s.pc word noted far ∙ sym (word_kept s raw word))) in
+      (laid_word s.bytes s.pc word ∙ (f.plain s.pc word noted far ∙ sym (word_kept s raw word))) in
       by_end s (step one s).end (step one s).state fetched refl same
 
   -- ---- a far jump
@@ -253,10 +253,10 @@ module _ (image lowered : Image) (notes : List JumpNote) (base levels : ℕ) (in
       let held : reg s.regs p.rx ≡ plus (s.pc - 4) p.imm = raw.prepared p.rx p.imm (ap is_some e) p.before p.some in
       let there = ap (λ v. let u = moved_by v p.offset in u - u % 2) held in
       let first : step one s ≡ goes (stepped one s old false None to) (record s { pc = to; regs = with_reg s.regs p.rd (after s) }) =
-          read_here s old raw word fetched p.here ∙ jumped one s old p.rd _ to there p.even in
+      read_here s old raw word fetched p.here ∙ jumped one s old p.rd _ to there p.even in
       let reads : instr_of (word_at (up s).bytes s.pc) ≡ Some new = ap instr_of (laid_word s.bytes s.pc word) ∙ (f.near s.pc i word noted e ∙ ap (λ j. Some j) (sym p.is)) in
       let second : step other (up s) ≡ goes (stepped other (up s) new false None to) (record (up s) { pc = to; regs = with_reg s.regs p.rd (after s) }) =
-          step_performs other (up s) new too reads ∙ jumped other (up s) new p.rd (moved_by s.pc (distance s.pc to)) to (far_to s.pc to (omega (arith, low)) (omega (arith, small))) p.even in
+      step_performs other (up s) new too reads ∙ jumped other (up s) new p.rd (moved_by s.pc (distance s.pc to)) to (far_to s.pc to (omega (arith, low)) (omega (arith, small))) p.even in
       record {
         x = stepped one s old false None to;
         u = record s { pc = to; regs = with_reg s.regs p.rd (after s) };
@@ -299,7 +299,7 @@ module _ (image lowered : Image) (notes : List JumpNote) (base levels : ℕ) (in
       let good : (to % 4 ≡ 0) × (to < 2 ^ 32) = subst (λ u. (u % 4 ≡ 0) × (u < 2 ^ 32)) listed.2 (tree.words listed.0 to listed.1) in
       let old = instr.Jalr 0 rs (pos 0) in
       let first : step one s ≡ goes (stepped one s old false None to) (record s { pc = to }) =
-          read_here s old raw word fetched tree.reads ∙ jumped one s old 0 _ to (returned to good.0 good.1) good.0 in
+      read_here s old raw word fetched tree.reads ∙ jumped one s old 0 _ to (returned to good.0 good.1) good.0 in
       let there : State = record (up s) { pc = tree.tree } in
       let y = stepped other (up s) (jump s.pc tree.tree) false None tree.tree in
       let second = jump_step other (up s) s.pc tree.tree refl (one_stays s.bytes s.pc (jump s.pc tree.tree) tree.jumps) tree.small tree.even in

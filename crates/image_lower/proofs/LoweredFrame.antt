@@ -1,5 +1,5 @@
 -- What of an image and its lowered image the law of runs needs: layouts, bytes, near jumps and trees.
-use Rattle.std.proofs.Common.{◌≡◌, ℕ, ℤ, pos, ◌+◌, ◌*◌, ◌%◌, ◌^◌, ◌<◌, ◌≤◌, true, false, List, length, Some, None}
+use Rattle.std.proofs.Common.{◌≡◌, ℕ, pos, ◌+◌, ◌*◌, ◌%◌, ◌^◌, ◌<◌, ◌≤◌, true, false, List, length, Some, None}
 use Rattle.std.specs.Prelude.{All}
 use Rattle.std.specs.List.{list_any, Contains}
 use Rattle.scale_base.specs.declared.instruction.Instr.{Instr}

@@ -1,8 +1,8 @@
 -- The lowered image has what the law of runs needs.
-use Rattle.std.proofs.Common.{◌≡◌, ◌≢◌, ℕ, ℤ, pos, zero, suc, ◌+◌, ◌-◌, ◌*◌, ◌/◌, ◌%◌, ◌^◌, ◌<◌, ◌≤◌, Bool, true, false, not, cond, ◌&&◌, ◌||◌, List, [], ◌∷◌, ◌++◌, length, get_or, Option, Some, None, Result, Ok, Err, refl, sym, ap, subst, ◌∙◌, arith, inl, inr, ◌⊎◌}
-use Rattle.std.specs.Prelude.{nat_lt, nat_le, ◌==◌, if◌then◌else◌, All, is_some, filter_map}
-use Rattle.std.specs.List.{list_any, list_all, Contains, flat_map}
-use Rattle.std.proofs.lemmas.Bool.{and_parts, or_left, or_right, or_cases, or_from, both_ways, eqb-true, eq-eqb, cases_lt, cond-true, and_from, le-leb, lt-ltb, leb-true}
+use Rattle.std.proofs.Common.{◌≡◌, ℕ, suc, ◌+◌, ◌-◌, ◌*◌, ◌%◌, ◌^◌, ◌<◌, ◌≤◌, Bool, true, false, ◌&&◌, ◌||◌, List, [], ◌∷◌, ◌++◌, length, get_or, Option, Some, None, Result, Ok, Err, refl, sym, ap, subst, ◌∙◌, arith, inl, inr}
+use Rattle.std.specs.Prelude.{nat_lt, nat_le, ◌==◌, if◌then◌else◌, All, is_some}
+use Rattle.std.specs.List.{list_any, list_all, Contains}
+use Rattle.std.proofs.lemmas.Bool.{and_parts, or_left, or_right, or_cases, both_ways, cases_lt, and_from, le-leb, lt-ltb}
 use Rattle.std.proofs.lemmas.Bool.Decides.{nat_tests}
 use Rattle.std.proofs.lemmas.List.{length-append, append-nil, get_or_append_left}
 use Rattle.std.proofs.lemmas.List.Elements.{All-nil, All-cons, All-head, All-tail, All-append}
@@ -27,7 +27,6 @@ use Rattle.scale_base.proofs.Accepted.{rules_kept, contents-are, has_table}
 use Rattle.scale_base.proofs.Fronts.{rules_of}
 use Rattle.scale_base.proofs.WordLaws.{word_back, word_small}
 use Rattle.elf_patch.specs.Stored.{little, patched, IsStubBase, is_free}
-use Rattle.elf_patch.specs.Added.{added_file}
 use Rattle.elf_patch.proofs.Room.{some_place}
 use Rattle.rv_encode.specs.Jumps.{distance}
 use Rattle.stored_laws.proofs.Bytes.{get_or-behind}
@@ -35,7 +34,7 @@ use Rattle.stored_laws.proofs.Patched.{text_place}
 use Rattle.stored_laws.proofs.Fields.{Places}
 use Rattle.table_keys.specs.Keys.{◌>>=◌}
 use Rattle.text_laws.proofs.TextBytes.{word_in_text}
-use Rattle.graph_runs.specs.Text.{text_of, instr_at, follows}
+use Rattle.graph_runs.specs.Text.{text_of}
 use Rattle.graph_runs.specs.TextStates.{IsTextOf}
 use Rattle.graph_runs.proofs.Images.{text_of_layout}
 use Rattle.graph_runs.proofs.TextFacts.{word_bound}
@@ -46,18 +45,18 @@ use Rattle.code_text.specs.Table.{all_addresses}
 use Rattle.jump_lists.specs.declared.notes.JumpNote.{JumpNote}
 use Rattle.jump_lists.specs.Notes.{IsJumpNote}
 use Rattle.image_lower.specs.declared.lowering.Lowered.{Lowered}
-use Rattle.image_lower.specs.FarJumps.{far_jump, far_patches, far_target, reaches}
+use Rattle.image_lower.specs.FarJumps.{far_jump, far_patches, far_target}
 use Rattle.image_lower.specs.Trees.{jump, fits, tree_depth}
-use Rattle.image_lower.specs.Block.{register, note_code, trees_code, tree_patches, is_twice, is_in_reach, out_of_reach, ascending, block_code, block_bytes, block_len, greatest_depth}
-use Rattle.image_lower.specs.Lowered.{refuse_at, is_full, not_full, trees_fit, all_patches, lowered_file, summary, finished, roomy, lowered_at}
-use Rattle.image_lower.specs.Meets.{in_block, is_noted_jump, AreOffTable, IsLoweredTo, KeepsToLists, IsFollowed, LoweredRunsFollow}
-use Rattle.image_lower.specs.TreeRuns.{StandsAt, Stand}
+use Rattle.image_lower.specs.Block.{register, note_code, trees_code, tree_patches, is_twice, out_of_reach, ascending, block_bytes, block_len, greatest_depth}
+use Rattle.image_lower.specs.Lowered.{refuse_at, is_full, all_patches, lowered_file, summary, finished, roomy, lowered_at}
+use Rattle.image_lower.specs.Meets.{in_block, is_noted_jump, AreOffTable, IsLoweredTo, LoweredRunsFollow}
+use Rattle.image_lower.specs.TreeRuns.{Stand}
 use Rattle.image_lower.proofs.Reach.{offset_fits}
 use Rattle.image_lower.proofs.Follows.{words_there}
 use Rattle.image_lower.proofs.TreeFields.{jump_fits, tree_has_words}
-use Rattle.image_lower.proofs.FarParts.{IsFar, IsSecond, far_parts}
+use Rattle.image_lower.proofs.FarParts.{IsFar, far_parts}
 use Rattle.image_lower.proofs.Kept.{len_fold}
-use Rattle.image_lower.proofs.NoteFacts.{IsGood, good_notes, good_of, IsJumpAt, jump_at, all_ascending, each_listed, stand_at, ascending_count, none_stand, some_stand, not_noted, once_stands, deep_notes}
+use Rattle.image_lower.proofs.NoteFacts.{IsGood, good_notes, good_of, IsJumpAt, jump_at, all_ascending, each_listed, ascending_count, none_stand, some_stand, not_noted, once_stands, deep_notes}
 use Rattle.image_lower.proofs.Planted.{IsFine, trees_some, trees_len, trees_short, code_of, words_len, IsElsewhere, HasWord, patches_elsewhere, IsPlanted, planted, IsNearPatch, near_all, near_has, address_there}
 use Rattle.image_lower.proofs.MadeMemory as memory
 use Rattle.image_lower.proofs.MadeMemory.{IsMade}
@@ -124,19 +123,20 @@ stand_from env bytes at (i ∷ is) lies fields fetched room =
     let v = word_of i in
     let cut : code_of (i ∷ is) ≡ little 4 v ++ code_of is = flat_map-cons (λ i. little 4 (word_of i)) i is in
     let here : (j : ℕ) → j < 4 → bytes (at + j) ≡ get_or (little 4 v) j 0 = λ j lt.
-        lies j (omega (arith, lt)) ∙ (ap (λ (xs : List ℕ). get_or xs j 0) cut ∙ get_or_append_left (little 4 v) (code_of is) 0 j lt) in
-    let first : at + 4 * 0 ≡ at = omega arith in
-    (record {
-      fetched = subst (λ a. can_fetch env.layout a ≡ true) first (fetched 0 (omega arith));
-      room = omega (arith, room);
-      encodes = (one, patched_word bytes at v here (word_small v i (one, refl)));
-    },
-    stand_from env bytes (at + 4) is
-      (λ j lt. let e : at + 4 + j ≡ at + (4 + j) = omega arith in
-        ap bytes e ∙ (lies (4 + j) (omega (arith, lt)) ∙ (ap (λ (xs : List ℕ). get_or xs (4 + j) 0) cut ∙ get_or-behind (little 4 v) (code_of is) 4 j refl)))
-      (All-tail FieldsInRange i is fields)
-      (λ k lt. let e : at + 4 * suc k ≡ at + 4 + 4 * k = omega arith in subst (λ a. can_fetch env.layout a ≡ true) e (fetched (suc k) (omega (arith, lt))))
-      (omega (arith, room)))
+    lies j (omega (arith, lt)) ∙ (ap (λ (xs : List ℕ). get_or xs j 0) cut ∙ get_or_append_left (little 4 v) (code_of is) 0 j lt) in
+    let first : at + 4 * 0 ≡ at = omega arith in (
+      record {
+        fetched = subst (λ a. can_fetch env.layout a ≡ true) first (fetched 0 (omega arith));
+        room = omega (arith, room);
+        encodes = (one, patched_word bytes at v here (word_small v i (one, refl)));
+      },
+      stand_from env bytes (at + 4) is
+          (λ j lt. let e : at + 4 + j ≡ at + (4 + j) = omega arith in
+          ap bytes e ∙ (lies (4 + j) (omega (arith, lt)) ∙ (ap (λ (xs : List ℕ). get_or xs (4 + j) 0) cut ∙ get_or-behind (little 4 v) (code_of is) 4 j refl)))
+          (All-tail FieldsInRange i is fields)
+          (λ k lt. let e : at + 4 * suc k ≡ at + 4 + 4 * k = omega arith in subst (λ a. can_fetch env.layout a ≡ true) e (fetched (suc k) (omega (arith, lt))))
+          (omega (arith, room)),
+    )
 
 -- ---- lists
 
@@ -146,8 +146,8 @@ at_place P xs n h c = subst P c.2 (h c.0 n c.1)
 noted_at : (P : JumpNote → Type 0) (pc : ℕ) (ns : List JumpNote) → All P ns → is_noted_jump ns pc ≡ true → (n : JumpNote) × P n × (n.at ≡ pc)
 noted_at P pc [] h e = let never : ⊥ = cc in absurd never
 noted_at P pc (n ∷ ns) h e = elim (or_cases (nat_le n.at pc && nat_le pc n.at) (is_noted_jump ns pc) e) [
-    | inl here ↦ let p = and_parts (nat_le n.at pc) (nat_le pc n.at) here in (n, All-head P n ns h, both n.at pc p.0 p.1)
-    | inr later ↦ noted_at P pc ns (All-tail P n ns h) later
+  | inl here ↦ let p = and_parts (nat_le n.at pc) (nat_le pc n.at) here in (n, All-head P n ns h, both n.at pc p.0 p.1)
+  | inr later ↦ noted_at P pc ns (All-tail P n ns h) later
 ]
   where
     both : (a b : ℕ) → nat_le a b ≡ true → nat_le b a ≡ true → a ≡ b
@@ -409,7 +409,7 @@ module _ (file made : List ℕ) (notes : List JumpNote) (base : ℕ) (h : IsLowe
       let fields = near_fields pc i (far_parts (text_of image) notes pc i e).far in
       let there = address_there pc image.text (text_ok 0 []).each w.0 (of_image pc (in_image pc w.1)) in
       let some : list_any (λ (p : Patch). p.at == pc) patches ≡ true = list_any-append (λ (p : Patch). p.at == pc) far trees
-          ∙ or_left (list_any (λ (p : Patch). p.at == pc) far) (list_any (λ (p : Patch). p.at == pc) trees) (near_has (text_of image) notes pc i (all_addresses image.text) e there) in
+      ∙ or_left (list_any (λ (p : Patch). p.at == pc) far) (list_any (λ (p : Patch). p.at == pc) trees) (near_has (text_of image) notes pc i (all_addresses image.text) e there) in
       let all = All-append (HasWord pc (word_of i)) far trees (near_words pc i e) (unmatched pc (word_of i) trees (no_tree pc off)) in
       word_back (word_at (loaded_byte lowered) pc) i (fields, word_put pc (word_of i) word all some (word_small (word_of i) i (fields, refl)))
 
@@ -444,18 +444,18 @@ module _ (file made : List ℕ) (notes : List JumpNote) (base : ℕ) (h : IsLowe
       let front = words_len ahead in
       let whole = words_len mid in
       let bytes_cut : block ≡ code_of ahead ++ (code_of mid ++ code_of behind) =
-          ap code_of cut ∙ (flat_map-append (λ i. little 4 (word_of i)) ahead (mid ++ behind) ∙ ap (λ (xs : List ℕ). code_of ahead ++ xs) (flat_map-append (λ i. little 4 (word_of i)) mid behind)) in
+      ap code_of cut ∙ (flat_map-append (λ i. little 4 (word_of i)) ahead (mid ++ behind) ∙ ap (λ (xs : List ℕ). code_of ahead ++ xs) (flat_map-append (λ i. little 4 (word_of i)) mid behind)) in
       stand_from (setting_of lowered levels input) (loaded_byte lowered) at mid
       (λ j lt.
-        let e : at + j ≡ base + (4 * length ahead + j) = omega arith in
-        ap (loaded_byte lowered) e
-        ∙ (memory.block_byte file made patches base block read read_too words free h.no_key m (4 * length ahead + j) (omega (arith, block_size, len, lt))
-        ∙ (ap (λ (xs : List ℕ). get_or xs (4 * length ahead + j) 0) bytes_cut
-        ∙ (get_or-behind (code_of ahead) (code_of mid ++ code_of behind) (4 * length ahead) j front
-        ∙ get_or_append_left (code_of mid) (code_of behind) 0 j (omega (arith, whole, lt))))))
+      let e : at + j ≡ base + (4 * length ahead + j) = omega arith in
+      ap (loaded_byte lowered) e
+      ∙ (memory.block_byte file made patches base block read read_too words free h.no_key m (4 * length ahead + j) (omega (arith, block_size, len, lt))
+      ∙ (ap (λ (xs : List ℕ). get_or xs (4 * length ahead + j) 0) bytes_cut
+      ∙ (get_or-behind (code_of ahead) (code_of mid ++ code_of behind) (4 * length ahead) j front
+      ∙ get_or_append_left (code_of mid) (code_of behind) 0 j (omega (arith, whole, lt))))))
       fields
       (λ k lt. fetched_too (at + 4 * k) (omega (arith, page)) (text_is (at + 4 * k) ∙ or_right (in_text (layout_of image) (at + 4 * k)) (inside (at + 4 * k))
-        (and_from (nat_le base (at + 4 * k)) (nat_lt (at + 4 * k) (base + length block)) (le-leb base (at + 4 * k) (omega arith)) (lt-ltb (at + 4 * k) (base + length block) (omega (arith, block_size, len, lt))))))
+      (and_from (nat_le base (at + 4 * k)) (nat_lt (at + 4 * k) (base + length block)) (le-leb base (at + 4 * k) (omega arith)) (lt-ltb (at + 4 * k) (base + length block) (omega (arith, block_size, len, lt))))))
       (omega (arith, base_low, block_size, block_short, len))
 
   -- the targets are words of the text
@@ -482,7 +482,7 @@ module _ (file made : List ℕ) (notes : List JumpNote) (base : ℕ) (h : IsLowe
       let not_far = ap (λ a. is_some (far_jump (text_of image) notes a)) (sym p.at_is) ∙ is.good.not_far in
       let all = All-append (HasWord pc v) far trees (no_far_here pc v not_far) p.words in
       let some : list_any (λ (q : Patch). q.at == pc) patches ≡ true = list_any-append (λ (q : Patch). q.at == pc) far trees
-          ∙ or_right (list_any (λ (q : Patch). q.at == pc) far) (list_any (λ (q : Patch). q.at == pc) trees) p.some in
+      ∙ or_right (list_any (λ (q : Patch). q.at == pc) far) (list_any (λ (q : Patch). q.at == pc) trees) p.some in
       let low = low_word pc jumps.word in
       let fields = tree_has_words (register image n) p.tree n.targets (note_code image p.tree n) jumps.few is.noted.targets.some is.noted.targets.few refl reach.1 in
       let code_here = piece levels input p.ahead (note_code image p.tree n) p.behind p.code fields in

@@ -1,8 +1,8 @@
 -- The files that are made: with a block added, and with patched words alone.
-use Rattle.std.proofs.Common.{◌≡◌, ℕ, zero, suc, ◌+◌, ◌-◌, ◌*◌, ◌%◌, ◌^◌, ◌<◌, ◌≤◌, Bool, true, false, not, cond, ◌&&◌, ◌||◌, List, [], ◌∷◌, ◌++◌, length, map, take, drop, get_or, Some, None, Ok, refl, sym, ap, subst, ◌∙◌, arith, add-zero, inl, inr, ◌⊎◌}
+use Rattle.std.proofs.Common.{◌≡◌, ℕ, ◌+◌, ◌-◌, ◌*◌, ◌%◌, ◌^◌, ◌<◌, ◌≤◌, Bool, true, false, not, ◌||◌, List, [], ◌∷◌, ◌++◌, length, map, take, drop, get_or, Some, None, Ok, refl, sym, ap, subst, ◌∙◌, arith, inl, inr, ◌⊎◌}
 use Rattle.std.specs.Prelude.{nat_lt, nat_le, ◌==◌, if◌then◌else◌, All, filter_map, Option}
 use Rattle.std.specs.List.{list_any, range_with_len, cons_option}
-use Rattle.std.proofs.lemmas.Bool.{le-leb, lt-ltb, leb-true, cases_lt}
+use Rattle.std.proofs.lemmas.Bool.{lt-ltb, leb-true}
 use Rattle.std.proofs.lemmas.Bool.Decides.{nat_tests}
 use Rattle.std.proofs.lemmas.List.Elements.{filter-append, filter_map-append}
 use Rattle.std.proofs.lemmas.List.Folds.{list_any-append}
@@ -13,14 +13,14 @@ use Rattle.scale_base.specs.declared.ranges.TextPart.{TextPart}
 use Rattle.scale_base.specs.Bytes.{half_at, word_at}
 use Rattle.scale_base.specs.Rules.{AllHold}
 use Rattle.scale_base.specs.Elf.{e_entry, e_phoff, e_phnum, e_shoff, e_shnum, has_sections, program_header, program_headers, section_header, section_headers}
-use Rattle.scale_base.specs.Image.{Image, image_of, contents, image_rules, loads, is_load, loaded_headers, file_place, text_of_section, text_of_segment, text_start_of, text_end_of, text_parts, text_ranges, range_of, is_in}
-use Rattle.elf_patch.specs.Stored.{little, patched, block_start, keyed_number, stored_image}
+use Rattle.scale_base.specs.Image.{image_of, contents, image_rules, loads, is_load, loaded_headers, file_place, text_of_section, text_of_segment, text_start_of, text_end_of, text_parts, text_ranges, range_of, is_in}
+use Rattle.elf_patch.specs.Stored.{patched, block_start, keyed_number, stored_image}
 use Rattle.elf_patch.specs.Added.{added_file, code_table, code_sections}
 use Rattle.elf_patch.proofs.AddedLemmas.{sections_in_file}
 use Rattle.elf_patch.proofs.PlaceLemmas.{page_at-le}
 use Rattle.stored_laws.proofs.Bytes.{half-same, word-same}
 use Rattle.stored_laws.proofs.Known.{Known, known}
-use Rattle.stored_laws.proofs.Patched.{Away, length-patched, patched-away, TextPlace}
+use Rattle.stored_laws.proofs.Patched.{Away, length-patched, patched-away}
 use Rattle.stored_laws.proofs.Fields.{Places, stored-is}
 use Rattle.stored_laws.proofs.Table.{kept_header, loads-kept}
 use Rattle.stored_laws.proofs.Segments.{loads-split}
@@ -252,16 +252,16 @@ module _ (file : List ℕ) (patches : List Patch) (base : ℕ) (read : image_of 
   same_headers =
       ap (λ (n : ℕ). map (program_header new) (range_with_len 0 n)) same_phnum
       ∙ all_same (program_header new) (program_header file) 0 (e_phnum file) (λ j low high. header_same new file j same_phoff (λ c le.
-        word-same new file (e_phoff new + 32 * j + c) (e_phoff new + 32 * j + c) (λ i lt.
-        entry_byte (e_phoff new + 32 * j + c + i) (omega (arith, same_phoff)) (omega (arith, same_phoff, high, le, lt)))))
+      word-same new file (e_phoff new + 32 * j + c) (e_phoff new + 32 * j + c) (λ i lt.
+      entry_byte (e_phoff new + 32 * j + c + i) (omega (arith, same_phoff)) (omega (arith, same_phoff, high, le, lt)))))
 
   same_sections : has_sections file ≡ true → section_headers new ≡ section_headers file
   unfolding section_headers
   same_sections on =
       ap (λ (n : ℕ). map (section_header new) (range_with_len 0 n)) same_shnum
       ∙ all_same (section_header new) (section_header file) 0 (e_shnum file) (λ j low high.
-        section_same new file j (e_shoff file + 40 * j) (ap (λ n. n + 40 * j) same_shoff) (e_shoff file + 40 * j) refl (λ c lt.
-        section_byte (e_shoff file + 40 * j + c) on (omega arith) (omega (arith, high, lt))))
+      section_same new file j (e_shoff file + 40 * j) (ap (λ n. n + 40 * j) same_shoff) (e_shoff file + 40 * j) refl (λ c lt.
+      section_byte (e_shoff file + 40 * j + c) on (omega arith) (omega (arith, high, lt))))
 
   same_loaded : loaded_headers new ≡ loaded_headers file
   same_loaded = ap loads same_headers

@@ -1,43 +1,28 @@
 -- What the memory of a made image holds, and what it may be used for: the old segments with the patched words, and the block where there is one.
-use Rattle.std.proofs.Common.{◌≡◌, ◌≢◌, ℕ, zero, suc, ◌+◌, ◌-◌, ◌*◌, ◌%◌, ◌<◌, ◌≤◌, Bool, true, false, not, cond, ◌&&◌, ◌||◌, List, [], ◌∷◌, ◌++◌, length, map, filter, fold, get_or, Option, Some, None, Ok, refl, sym, ap, subst, ◌∙◌, arith, inl, inr, ◌⊎◌}
-use Rattle.std.specs.Prelude.{nat_lt, nat_le, ◌==◌, find, option_map, All, slice_range}
+use Rattle.std.proofs.Common.{◌≡◌, ◌≢◌, ℕ, suc, ◌+◌, ◌-◌, ◌%◌, ◌<◌, ◌≤◌, Bool, true, false, not, cond, ◌&&◌, ◌||◌, List, [], ◌∷◌, ◌++◌, length, map, filter, fold, get_or, Some, None, refl, sym, ap, ◌∙◌, arith, inl, inr, ◌⊎◌}
+use Rattle.std.specs.Prelude.{nat_lt, nat_le, ◌==◌, find, All}
 use Rattle.std.specs.List.{list_any, list_all}
-use Rattle.std.proofs.Math.Path.{fun_ext}
-use Rattle.std.proofs.lemmas.Bool.{le-leb, lt-ltb, le-ltb, leb-true, ltb-true, cases_lt, and_parts, and_from, or_left, or_right, or_from, or_cases, both_ways, not-true, false_from_ne_true, eqb-true, eq-eqb, cond-true}
+use Rattle.std.proofs.lemmas.Bool.{le-leb, lt-ltb, leb-true, cases_lt, and_parts, and_from, or_left, or_right, or_cases, both_ways, not-true, eqb-true, eq-eqb}
 use Rattle.std.proofs.lemmas.List.Folds.{list_any-append}
-use Rattle.std.proofs.lemmas.List.Elements.{All-head, All-tail}
 use Rattle.scale_base.specs.declared.headers.ProgramHeader.{ProgramHeader}
-use Rattle.scale_base.specs.declared.ranges.Span.{Span}
 use Rattle.scale_base.specs.declared.ranges.Patch.{Patch}
-use Rattle.scale_base.specs.Bytes.{byte_at}
 use Rattle.scale_base.specs.Elf.{has}
-use Rattle.scale_base.specs.Spans.{in_span, overlap, ends_by, each_pair}
-use Rattle.scale_base.specs.Image.{Image, LoadSegment, image_of, contents, segment_of, addresses_of, covers, segment_byte, byte_in, loaded_byte, loaded_headers, is_zeroed, memory_range, file_part, header_has_word, file_place, is_fit, may_follow, is_word_address, is_in, text_ranges, stack, has_key, keyed_of, KEY}
-use Rattle.scale_base.specs.Layout.{Layout, Part, layout_of, part_of, is_plain_segment, in_text, in_option, is_keyed, in_stack, may_read, may_write, may_fetch, each_byte, reads_byte, fetches_byte, can_fetch}
+use Rattle.scale_base.specs.Spans.{in_span, overlap, each_pair}
+use Rattle.scale_base.specs.Image.{LoadSegment, segment_of, memory_range, file_part, header_has_word, file_place, may_follow, is_in}
+use Rattle.scale_base.specs.Layout.{Layout, Part, part_of, is_plain_segment, in_text, is_keyed, may_fetch, each_byte, fetches_byte, can_fetch}
 use Rattle.scale_base.specs.State.{Setting}
-use Rattle.scale_base.proofs.Accepted.{rules_kept}
-use Rattle.scale_base.proofs.Fronts.{rules_of}
 use Rattle.scale_base.proofs.LayoutLaws.{each_byte_none, each_byte_more, each_byte_first}
-use Rattle.elf_patch.specs.Stored.{little, put_at, put_patch, patched, block_start, is_free, window}
-use Rattle.elf_patch.proofs.PlaceLemmas.{page_at-le}
-use Rattle.stored_laws.proofs.Bytes.{length-slice_range, get_or-slice_range, put-inside}
-use Rattle.stored_laws.proofs.Patched.{Away, length-put_at, put_at-away, fold-away, patched-away, text_place, TextPlace}
+use Rattle.elf_patch.specs.Stored.{little, put_at, put_patch}
+use Rattle.stored_laws.proofs.Bytes.{put-inside}
+use Rattle.stored_laws.proofs.Patched.{Away, length-put_at, put_at-away}
 use Rattle.stored_laws.proofs.Fields.{Places}
-use Rattle.text_laws.proofs.Tests.{find-map, list_any-map, mapped_from, found_in, found_passes, found_keeps, found_from_any, any_from_found}
-use Rattle.text_laws.proofs.Segments.{SegmentsKept, segments_of, one_covers, loaded_byte-is}
-use Rattle.text_laws.proofs.Parts.{file_fits, part_word, in_part}
-use Rattle.text_laws.proofs.TextBytes as bytes
+use Rattle.text_laws.proofs.Tests.{list_any-map, found_in, found_passes, found_keeps}
 use Rattle.graph_runs.specs.Text.{Text, text_of}
 use Rattle.graph_runs.specs.Text as texts
 use Rattle.graph_runs.specs.TextStates.{IsTextOf}
-use Rattle.graph_runs.proofs.Images.{share_address, text_of_layout, text_off_stack}
+use Rattle.graph_runs.proofs.Images.{share_address}
 use Rattle.graph_runs.proofs.TextFacts.{word_within}
 use Rattle.stored_runs.proofs.StoredBytes.{IsOff}
-use Rattle.stored_runs.proofs.SameStep.{SeeAlike}
-use Rattle.stored_runs.proofs.Frame.{hidden}
-use Rattle.image_lower.specs.Meets.{in_block}
-use Rattle.image_lower.proofs.AddedBytes.{IsLoaded, off_zeroed}
-use Rattle.image_lower.proofs.CodeTable.{code_header}
 
 -- ---- lists with some in the middle
 
@@ -213,7 +198,7 @@ any_allows file f a hs = any_plain (λ p. f p && in_span p.span a) (map (segment
 pub allowed_covers : (file : List ℕ) (f : Part → Bool) (a : ℕ) (hs : List ProgramHeader) → list_any (allows file f a) hs ≡ true → list_any (λ h. in_span (memory_range h) a) hs ≡ true
 allowed_covers file f a [] e = absurd cc
 allowed_covers file f a (h ∷ hs) e = elim (or_cases (allows file f a h) (list_any (allows file f a) hs) e) [
-    | inl here ↦ or_left (in_span (memory_range h) a) (list_any (λ h. in_span (memory_range h) a) hs)
-        (and_parts (f (part_of (segment_of file h))) (in_span (memory_range h) a) (and_parts (is_plain_segment (segment_of file h)) (f (part_of (segment_of file h)) && in_span (memory_range h) a) here).1).1
-    | inr later ↦ or_right (in_span (memory_range h) a) (list_any (λ h. in_span (memory_range h) a) hs) (allowed_covers file f a hs later)
+  | inl here ↦ or_left (in_span (memory_range h) a) (list_any (λ h. in_span (memory_range h) a) hs)
+      (and_parts (f (part_of (segment_of file h))) (in_span (memory_range h) a) (and_parts (is_plain_segment (segment_of file h)) (f (part_of (segment_of file h)) && in_span (memory_range h) a) here).1).1
+  | inr later ↦ or_right (in_span (memory_range h) a) (list_any (λ h. in_span (memory_range h) a) hs) (allowed_covers file f a hs later)
 ]

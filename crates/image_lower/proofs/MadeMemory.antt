@@ -1,46 +1,39 @@
 -- What the memory of a made image holds, and what may be done with it.
-use Rattle.std.proofs.Common.{◌≡◌, ◌≢◌, ℕ, zero, suc, ◌+◌, ◌-◌, ◌*◌, ◌%◌, ◌<◌, ◌≤◌, Bool, true, false, not, cond, ◌&&◌, ◌||◌, List, [], ◌∷◌, ◌++◌, length, map, filter, fold, get_or, Option, Some, None, Ok, refl, sym, ap, subst, ◌∙◌, arith, inl, inr, ◌⊎◌}
+use Rattle.std.proofs.Common.{◌≡◌, ◌≢◌, ℕ, ◌+◌, ◌-◌, ◌%◌, ◌<◌, ◌≤◌, Bool, true, false, not, cond, ◌&&◌, ◌||◌, List, [], ◌∷◌, ◌++◌, length, map, get_or, Option, Some, None, Ok, refl, sym, ap, subst, ◌∙◌, arith, inl, inr, ◌⊎◌}
 use Rattle.std.specs.Prelude.{nat_lt, nat_le, ◌==◌, find, option_map, All, slice_range}
-use Rattle.std.specs.List.{list_any, list_all}
+use Rattle.std.specs.List.{list_any}
 use Rattle.std.proofs.Math.Path.{fun_ext}
-use Rattle.std.proofs.lemmas.Bool.{le-leb, lt-ltb, le-ltb, leb-true, ltb-true, cases_lt, and_parts, and_from, or_left, or_right, or_from, or_cases, both_ways, not-true, false_from_ne_true, eqb-true, eq-eqb, cond-true}
-use Rattle.std.proofs.lemmas.List.Folds.{list_any-append}
-use Rattle.std.proofs.lemmas.List.Elements.{All-head, All-tail}
+use Rattle.std.proofs.lemmas.Bool.{le-leb, lt-ltb, leb-true, ltb-true, cases_lt, and_parts, and_from, or_left, or_from, or_cases, both_ways, not-true, false_from_ne_true, eqb-true}
 use Rattle.scale_base.specs.declared.headers.ProgramHeader.{ProgramHeader}
 use Rattle.scale_base.specs.declared.ranges.Span.{Span}
 use Rattle.scale_base.specs.declared.ranges.Patch.{Patch}
 use Rattle.scale_base.specs.Bytes.{byte_at}
 use Rattle.scale_base.specs.Elf.{has}
-use Rattle.scale_base.specs.Spans.{in_span, overlap, ends_by, each_pair}
-use Rattle.scale_base.specs.Image.{Image, LoadSegment, image_of, contents, segment_of, addresses_of, covers, segment_byte, byte_in, loaded_byte, loaded_headers, is_zeroed, memory_range, file_part, header_has_word, file_place, is_fit, may_follow, is_word_address, is_in, text_ranges, stack, has_key, keyed_of, KEY}
-use Rattle.scale_base.specs.Layout.{Layout, Part, layout_of, part_of, is_plain_segment, in_text, in_option, is_keyed, in_stack, may_read, may_write, may_fetch, each_byte, reads_byte, fetches_byte, can_fetch}
-use Rattle.scale_base.specs.State.{Setting}
+use Rattle.scale_base.specs.Spans.{in_span, overlap, ends_by}
+use Rattle.scale_base.specs.Image.{image_of, contents, segment_of, addresses_of, covers, segment_byte, byte_in, loaded_byte, loaded_headers, is_zeroed, memory_range, file_part, header_has_word, file_place, is_fit, is_word_address, is_in, text_ranges, stack, has_key, keyed_of}
+use Rattle.scale_base.specs.Layout.{Layout, Part, layout_of, in_text, in_option, is_keyed, in_stack, may_read, may_write, reads_byte, can_fetch}
 use Rattle.scale_base.proofs.Accepted.{rules_kept, has_table}
 use Rattle.scale_base.proofs.Fronts.{rules_of}
-use Rattle.scale_base.proofs.LayoutLaws.{each_byte_none, each_byte_more, each_byte_first}
-use Rattle.elf_patch.specs.Stored.{little, put_at, put_patch, patched, block_start, is_free, window}
+use Rattle.elf_patch.specs.Stored.{little, patched, block_start, is_free, window}
 use Rattle.elf_patch.proofs.PlaceLemmas.{page_at-le}
-use Rattle.stored_laws.proofs.Bytes.{length-slice_range, get_or-slice_range, put-inside}
-use Rattle.stored_laws.proofs.Patched.{Away, length-put_at, put_at-away, fold-away, patched-away, text_place, TextPlace}
+use Rattle.stored_laws.proofs.Bytes.{length-slice_range, get_or-slice_range}
+use Rattle.stored_laws.proofs.Patched.{Away, patched-away, text_place}
 use Rattle.stored_laws.proofs.Fields.{Places}
-use Rattle.text_laws.proofs.Tests.{find-map, list_any-map, mapped_from, found_in, found_passes, found_keeps, found_from_any, any_from_found}
+use Rattle.text_laws.proofs.Tests.{find-map, list_any-map, mapped_from, found_passes, found_keeps, found_from_any, any_from_found}
 use Rattle.text_laws.proofs.Segments.{SegmentsKept, segments_of, one_covers, loaded_byte-is}
 use Rattle.text_laws.proofs.Parts.{file_fits, part_word, in_part}
 use Rattle.text_laws.proofs.TextBytes as bytes
-use Rattle.graph_runs.specs.Text.{Text, text_of}
-use Rattle.graph_runs.specs.Text as texts
+use Rattle.graph_runs.specs.Text.{text_of}
 use Rattle.graph_runs.specs.TextStates.{IsTextOf}
 use Rattle.graph_runs.proofs.Images.{share_address, text_of_layout, text_off_stack}
-use Rattle.graph_runs.proofs.TextFacts.{word_within}
 use Rattle.stored_runs.proofs.StoredBytes.{IsOff}
 use Rattle.stored_runs.proofs.SameStep.{SeeAlike}
 use Rattle.stored_runs.proofs.Frame.{hidden}
 use Rattle.image_lower.specs.Meets.{in_block}
 use Rattle.image_lower.proofs.AddedBytes.{IsLoaded, off_zeroed}
 use Rattle.image_lower.proofs.CodeTable.{code_header}
-use Rattle.image_lower.proofs.MadeImage.{find_mid, find_new, any_mid, or_false, place_off, put_here, fetched_text, text_fetched, allows, any_allows, allowed_covers, in_file}
+use Rattle.image_lower.proofs.MadeImage.{find_mid, find_new, any_mid, or_false, place_off, put_here, fetched_text, text_fetched, allows, any_allows, allowed_covers}
 use Rattle.scale_base.specs.Run.{setting_of}
-use Rattle.text_laws.proofs.Segments.{not_zeroed}
 
 -- off the block its segment counts for nothing, and in it the old segments do
 off_the_block : (i t old new : Bool) → (i ≡ true → old ≡ false) → (i ≡ false → new ≡ false) → ((old || new) && not (t || i)) ≡ (old && not t)
@@ -99,8 +92,8 @@ segment_same file made h a fits longer same =
     let new_length : length (slice_range made h.p_offset (h.p_offset + h.p_filesz)) ≡ h.p_filesz = length-slice_range made h.p_offset h.p_filesz (omega (arith, fits, longer)) in
     rw (old_length, new_length)
     (value_same (nat_lt j h.p_filesz) (is_zeroed (h.p_offset + j)) _ _ (λ lt z.
-      let low = ltb-true j h.p_filesz lt in
-      get_or-slice_range made h.p_offset h.p_filesz j low ∙ (same low z ∙ sym (get_or-slice_range file h.p_offset h.p_filesz j low))))
+    let low = ltb-true j h.p_filesz lt in
+    get_or-slice_range made h.p_offset h.p_filesz j low ∙ (same low z ∙ sym (get_or-slice_range file h.p_offset h.p_filesz j low))))
   where
     value_same : (b z : Bool) (x y : ℕ) → (b ≡ true → z ≡ false → x ≡ y) → cond (b && not z) x 0 ≡ cond (b && not z) y 0
     value_same true true x y h = refl
@@ -281,7 +274,7 @@ module _ (file made : List ℕ) (patches : List Patch) (base : ℕ) (block : Lis
         let none : found_at a ≡ None = none_at a (found_at a) refl on in
         let split : find (λ k. in_span (memory_range k) a) (m.before ++ m.behind) ≡ None = ap (find (λ k. in_span (memory_range k) a)) (sym m.old) ∙ none in
         let found : find (λ k. in_span (memory_range k) a) (loaded_headers made) ≡ Some header =
-            ap (find (λ k. in_span (memory_range k) a)) (m.new ∙ ap (λ (xs : List ProgramHeader). m.before ++ (xs ++ m.behind)) one) ∙ find_new (λ k. in_span (memory_range k) a) m.before m.behind header on split in
+        ap (find (λ k. in_span (memory_range k) a)) (m.new ∙ ap (λ (xs : List ProgramHeader). m.before ++ (xs ++ m.behind)) one) ∙ find_new (λ k. in_span (memory_range k) a) m.before m.behind header on split in
         let above = page_at-le (length file) in
         let long = (has_table file (contents file) e).long in
         let back : base + j - base ≡ j = omega arith in

@@ -1,25 +1,21 @@
 -- What is known of the notes that are lowered: of each of them, in their ascending order too.
-use Rattle.std.proofs.Common.{◌≡◌, ◌≢◌, ℕ, ℤ, pos, negsuc, zero, suc, ◌+◌, ◌*◌, ◌%◌, ◌^◌, ◌<◌, ◌≤◌, Bool, true, false, not, cond, List, [], ◌∷◌, ◌++◌, length, get_or, fold, Option, Some, None, Result, Ok, Err, refl, sym, ap, subst, ◌∙◌, arith, inl, inr, ◌⊎◌}
+use Rattle.std.proofs.Common.{◌≡◌, ◌≢◌, ℕ, ℤ, pos, zero, suc, ◌+◌, ◌<◌, ◌≤◌, Bool, true, false, not, cond, List, [], ◌∷◌, length, get_or, fold, Option, Some, None, Ok, refl, sym, ap, subst, ◌∙◌, arith, inl, inr}
 use Rattle.std.specs.Prelude.{nat_lt, nat_le, ◌==◌, ◌&&◌, ◌||◌, if◌then◌else◌, is_some, option_and_then, unwrap_or, All, count_by, max, option_map}
-use Rattle.std.specs.List.{list_any, list_all, Contains, sum_by}
+use Rattle.std.specs.List.{list_all, Contains}
 use Rattle.std.specs.Ordering.{int_eq}
-use Rattle.std.proofs.lemmas.Bool.{and_parts, or_cases, or_left, or_right, both_ways, not-true, false_from_ne_true, eqb-true, eq-eqb, cond_both}
+use Rattle.std.proofs.lemmas.Bool.{and_parts, or_cases, both_ways, false_from_ne_true, eqb-true, eq-eqb, cond_both}
 use Rattle.std.proofs.lemmas.Bool.Decides.{nat_tests, Decides-int_eq}
-use Rattle.std.proofs.lemmas.List.Elements.{All-nil, All-cons, All-head, All-tail}
+use Rattle.std.proofs.lemmas.List.Elements.{All-nil, All-cons}
 use Rattle.std.proofs.lemmas.List.Sums.{sum_by-cons}
 use Rattle.scale_base.specs.declared.instruction.Instr.{Instr}
 use Rattle.scale_base.specs.declared.instruction.Instr.TheVariants as instr
-use Rattle.scale_base.specs.declared.refusal.Refusal.{Refusal}
 use Rattle.scale_base.specs.declared.refusal.Refusal.TheVariants.{BadJump}
 use Rattle.scale_base.specs.Reading.{instr_of}
-use Rattle.scale_base.specs.Image.{Image, image_of, loaded_byte, is_word_address, is_in, text_word, file_place}
-use Rattle.scale_base.specs.Image as images
+use Rattle.scale_base.specs.Image.{Image, image_of, is_word_address, text_word, file_place}
 use Rattle.scale_base.specs.Bytes as file_bytes
-use Rattle.scale_base.specs.State.{word_at}
 use Rattle.text_laws.proofs.TextWords.{word_loaded}
 use Rattle.graph_runs.specs.Text.{text_of, instr_at}
 use Rattle.jump_lists.specs.declared.notes.JumpNote.{JumpNote}
-use Rattle.jump_lists.specs.Notes.{IsJumpNote}
 use Rattle.image_lower.specs.FarJumps.{far_jump}
 use Rattle.image_lower.specs.Trees.{tree_depth}
 use Rattle.image_lower.specs.Block.{register_of, register_at, register, is_twice, is_bad, least_at, insert_note, ascending, greatest_depth}
@@ -88,12 +84,12 @@ some_register rs e = grind (arith, nat_tests)
 jalr_jumps : (rd rs : ℕ) (offset : ℤ) → JumpsBy (Some (instr.Jalr rd rs offset)) (register_of (Some (instr.Jalr rd rs offset)))
 jalr_jumps rd rs offset = cond_both ((rd == 0) && int_eq offset (pos 0) && not ((rs == 0) || (rs == 1))) (Some rs) None (JumpsBy (Some (instr.Jalr rd rs offset)))
     (λ e.
-      let a = and_parts ((rd == 0) && int_eq offset (pos 0)) (not ((rs == 0) || (rs == 1))) e in
-      let b = and_parts (rd == 0) (int_eq offset (pos 0)) a.0 in
-      record {
-        is = ap (λ d. Some (instr.Jalr d rs offset)) (eqb-true rd 0 b.0) ∙ ap (λ z. Some (instr.Jalr 0 rs z)) (zero_of offset b.1);
-        some = some_register rs a.1;
-      })
+    let a = and_parts ((rd == 0) && int_eq offset (pos 0)) (not ((rs == 0) || (rs == 1))) e in
+    let b = and_parts (rd == 0) (int_eq offset (pos 0)) a.0 in
+    record {
+      is = ap (λ d. Some (instr.Jalr d rs offset)) (eqb-true rd 0 b.0) ∙ ap (λ z. Some (instr.Jalr 0 rs z)) (zero_of offset b.1);
+      some = some_register rs a.1;
+    })
     (λ e. tt)
 
 jumps_by : (o : Option Instr) → JumpsBy o (register_of o)
@@ -190,13 +186,13 @@ none_stand pc (n ∷ ns) e = by (n.at == pc) refl (one_more pc n ns) (none_stand
 pub some_stand : (pc : ℕ) (ns : List JumpNote) → is_noted_jump ns pc ≡ true → 1 ≤ stand_at pc ns
 some_stand pc [] e = let never : ⊥ = cc in absurd never
 some_stand pc (n ∷ ns) e = elim (or_cases (nat_le n.at pc && nat_le pc n.at) (is_noted_jump ns pc) e) [
-    | inl here ↦
-        let p = and_parts (nat_le n.at pc) (nat_le pc n.at) here in
-        let same : n.at ≡ pc = both n.at pc p.0 p.1 in
-        let one : ones (n.at == pc) ≡ 1 = ap ones (eq-eqb n.at pc same) in
-        let more = one_more pc n ns in
-        omega (arith, more, one)
-    | inr later ↦ let more = one_more pc n ns in let rest = some_stand pc ns later in omega (arith, more, rest)
+  | inl here ↦
+      let p = and_parts (nat_le n.at pc) (nat_le pc n.at) here in
+      let same : n.at ≡ pc = both n.at pc p.0 p.1 in
+      let one : ones (n.at == pc) ≡ 1 = ap ones (eq-eqb n.at pc same) in
+      let more = one_more pc n ns in
+      omega (arith, more, one)
+  | inr later ↦ let more = one_more pc n ns in let rest = some_stand pc ns later in omega (arith, more, rest)
 ]
   where
     both : (a b : ℕ) → nat_le a b ≡ true → nat_le b a ≡ true → a ≡ b

@@ -1,7 +1,7 @@
 -- The trees of noted jumps in the block, and the words that are replaced.
-use Rattle.std.proofs.Common.{◌≡◌, ◌≢◌, ℕ, ℤ, pos, zero, suc, ◌+◌, ◌-◌, ◌*◌, ◌/◌, ◌%◌, ◌^◌, ◌<◌, ◌≤◌, Bool, true, false, cond, List, [], ◌∷◌, ◌++◌, length, get_or, map, filter, Option, Some, None, refl, sym, ap, subst, ◌∙◌, arith, append_assoc, inl, inr, ◌⊎◌}
-use Rattle.std.specs.Prelude.{nat_lt, nat_le, ◌==◌, ◌&&◌, ◌||◌, if◌then◌else◌, All, option_map, filter_map}
-use Rattle.std.specs.List.{list_any, list_all, Contains, flat_map, range_with_len, cons_option}
+use Rattle.std.proofs.Common.{◌≡◌, ◌≢◌, ℕ, zero, suc, ◌+◌, ◌-◌, ◌*◌, ◌/◌, ◌%◌, ◌<◌, ◌≤◌, Bool, true, false, cond, List, [], ◌∷◌, ◌++◌, length, map, filter, Option, Some, None, refl, sym, ap, subst, ◌∙◌, arith, append_assoc, inl, inr}
+use Rattle.std.specs.Prelude.{nat_lt, nat_le, ◌==◌, if◌then◌else◌, All, option_map, filter_map}
+use Rattle.std.specs.List.{list_any, Contains, flat_map, range_with_len, cons_option}
 use Rattle.std.proofs.lemmas.Bool.{and_parts, or_cases, or_left, or_right, both_ways, eqb-true, eq-eqb, leb-true, ltb-true, cases_lt}
 use Rattle.std.proofs.lemmas.List.{length-append}
 use Rattle.std.proofs.lemmas.List.Elements.{All-nil, All-cons, All-head, All-tail}
@@ -19,8 +19,8 @@ use Rattle.graph_runs.specs.Text.{Text}
 use Rattle.graph_runs.specs.TextStates.{IsTextRange}
 use Rattle.jump_lists.specs.declared.notes.JumpNote.{JumpNote}
 use Rattle.jump_lists.specs.Notes.{IsJumpNote}
-use Rattle.image_lower.specs.FarJumps.{far_jump, far_patch, far_patches}
-use Rattle.image_lower.specs.Trees.{has_bit, lacks_bit, are_alike, jump, tree, fits}
+use Rattle.image_lower.specs.FarJumps.{far_jump, far_patch}
+use Rattle.image_lower.specs.Trees.{has_bit, lacks_bit, are_alike, jump, tree}
 use Rattle.image_lower.specs.Block.{register, note_code, trees_code, tree_patches, is_in_reach, is_near, out_of_reach}
 use Rattle.image_lower.proofs.TreeLaws.{alike_more, forks_more, fork_len}
 use Rattle.image_lower.proofs.TreeFields.{tree_sound}
@@ -35,17 +35,17 @@ tree_len rs zero shifted a b xs = refl
 tree_len rs (suc n) shifted a b xs = choose (are_alike n xs)
     (λ e. ap (λ (c : List Instr). length c) (alike_more rs n shifted a xs e) ∙ (tree_len rs n shifted a b xs ∙ sym (ap (λ (c : List Instr). length c) (alike_more rs n shifted b xs e))))
     (λ e.
-      let lack = filter (lacks_bit n) xs in
-      let have = filter (has_bit n) xs in
-      let first = tree rs n (31 - n) (a + 8) lack in
-      let first_too = tree rs n (31 - n) (b + 8) lack in
-      let second = tree rs n (31 - n) (a + 8 + 4 * length first) have in
-      let second_too = tree rs n (31 - n) (b + 8 + 4 * length first_too) have in
-      let one = tree_len rs n (31 - n) (a + 8) (b + 8) lack in
-      let two = tree_len rs n (31 - n) (a + 8 + 4 * length first) (b + 8 + 4 * length first_too) have in
-      let c = fork_len rs (31 - n - shifted) first second in
-      let d = fork_len rs (31 - n - shifted) first_too second_too in
-      ap (λ (c : List Instr). length c) (forks_more rs n shifted a xs e) ∙ (omega (arith, one, two, c, d) ∙ sym (ap (λ (c : List Instr). length c) (forks_more rs n shifted b xs e))))
+    let lack = filter (lacks_bit n) xs in
+    let have = filter (has_bit n) xs in
+    let first = tree rs n (31 - n) (a + 8) lack in
+    let first_too = tree rs n (31 - n) (b + 8) lack in
+    let second = tree rs n (31 - n) (a + 8 + 4 * length first) have in
+    let second_too = tree rs n (31 - n) (b + 8 + 4 * length first_too) have in
+    let one = tree_len rs n (31 - n) (a + 8) (b + 8) lack in
+    let two = tree_len rs n (31 - n) (a + 8 + 4 * length first) (b + 8 + 4 * length first_too) have in
+    let c = fork_len rs (31 - n - shifted) first second in
+    let d = fork_len rs (31 - n - shifted) first_too second_too in
+    ap (λ (c : List Instr). length c) (forks_more rs n shifted a xs e) ∙ (omega (arith, one, two, c, d) ∙ sym (ap (λ (c : List Instr). length c) (forks_more rs n shifted b xs e))))
 
 pub tree_some : (rs bits shifted a : ℕ) (xs : List ℕ) → 3 ≤ length (tree rs bits shifted a xs)
 unfolding tree
@@ -53,12 +53,12 @@ tree_some rs zero shifted a xs = omega arith
 tree_some rs (suc n) shifted a xs = choose (are_alike n xs)
     (λ e. subst (λ (c : List Instr). 3 ≤ length c) (sym (alike_more rs n shifted a xs e)) (tree_some rs n shifted a xs))
     (λ e.
-      let lack = filter (lacks_bit n) xs in
-      let first = tree rs n (31 - n) (a + 8) lack in
-      let second = tree rs n (31 - n) (a + 8 + 4 * length first) (filter (has_bit n) xs) in
-      let one = tree_some rs n (31 - n) (a + 8) lack in
-      let c = fork_len rs (31 - n - shifted) first second in
-      subst (λ (c : List Instr). 3 ≤ length c) (sym (forks_more rs n shifted a xs e)) (omega (arith, one, c)))
+    let lack = filter (lacks_bit n) xs in
+    let first = tree rs n (31 - n) (a + 8) lack in
+    let second = tree rs n (31 - n) (a + 8 + 4 * length first) (filter (has_bit n) xs) in
+    let one = tree_some rs n (31 - n) (a + 8) lack in
+    let c = fork_len rs (31 - n - shifted) first second in
+    subst (λ (c : List Instr). 3 ≤ length c) (sym (forks_more rs n shifted a xs e)) (omega (arith, one, c)))
 
 pub trees_some : (image : Image) (at : ℕ) (ns : List JumpNote) → 1 ≤ length ns → 0 < length (trees_code image at ns)
 trees_some image at [] some = absurd (omega (arith, some))
@@ -183,12 +183,12 @@ planted image pc at (n ∷ ns) some once near =
     let more = sum_by-cons (λ (m : JumpNote). cond (m.at == pc) 1 0) n ns in
     choose (n.at == pc)
     (λ e.
-      let one : ones (n.at == pc) ≡ 1 = ap ones e in
-      planted_first image pc at n ns (eqb-true n.at pc e) (none_stand pc ns (omega (arith, once, more, one))) a.0)
+    let one : ones (n.at == pc) ≡ 1 = ap ones e in
+    planted_first image pc at n ns (eqb-true n.at pc e) (none_stand pc ns (omega (arith, once, more, one))) a.0)
     (λ e.
-      let none : ones (n.at == pc) ≡ 0 = ap ones e in
-      planted_later image pc at n ns (λ same. both_ways (n.at == pc) e (eq-eqb n.at pc same))
-      (planted image pc (at + 4 * length (note_code image at n)) ns (omega (arith, some, more, none)) (omega (arith, once, more, none)) a.1))
+    let none : ones (n.at == pc) ≡ 0 = ap ones e in
+    planted_later image pc at n ns (λ same. both_ways (n.at == pc) e (eq-eqb n.at pc same))
+    (planted image pc (at + 4 * length (note_code image at n)) ns (omega (arith, some, more, none)) (omega (arith, once, more, none)) a.1))
 
 -- ---- the words of near jumps
 
@@ -227,8 +227,8 @@ module _ (t : Text) (notes : List JumpNote) where
 numbered : (from pc k m n : ℕ) → pc ≡ from + 4 * k → m ≤ k → k < m + n → list_any (λ a. a == pc) (map (λ i. from + 4 * i) (range_with_len m n)) ≡ true
 numbered from pc k m zero e low high = absurd (omega (arith, low, high))
 numbered from pc k m (suc n) e low high = elim (cases_lt m k) [
-    | inl less ↦ or_right (from + 4 * m == pc) (list_any (λ a. a == pc) (map (λ i. from + 4 * i) (range_with_len (m + 1) n))) (numbered from pc k (m + 1) n e (omega (arith, less)) (omega (arith, high)))
-    | inr here ↦ or_left (from + 4 * m == pc) (list_any (λ a. a == pc) (map (λ i. from + 4 * i) (range_with_len (m + 1) n))) (eq-eqb (from + 4 * m) pc (omega (arith, e, low, here)))
+  | inl less ↦ or_right (from + 4 * m == pc) (list_any (λ a. a == pc) (map (λ i. from + 4 * i) (range_with_len (m + 1) n))) (numbered from pc k (m + 1) n e (omega (arith, less)) (omega (arith, high)))
+  | inr here ↦ or_left (from + 4 * m == pc) (list_any (λ a. a == pc) (map (λ i. from + 4 * i) (range_with_len (m + 1) n))) (eq-eqb (from + 4 * m) pc (omega (arith, e, low, here)))
 ]
 
 in_range : (pc : ℕ) (r : Range) → IsTextRange r → pc % 4 ≡ 0 → is_in pc r ≡ true → list_any (λ a. a == pc) (word_addresses r) ≡ true

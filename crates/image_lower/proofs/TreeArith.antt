@@ -1,11 +1,10 @@
 -- The numbers of a tree: targets that agree from a bit on, the shifted register and its sign, and the two parts of a number.
-use Rattle.std.proofs.Common.{◌≡◌, ℕ, ℤ, pos, negsuc, suc, zero, ◌+◌, ◌-◌, ◌*◌, ◌/◌, ◌%◌, ◌^◌, ◌<◌, ◌≤◌, Bool, true, false, not, cond, List, [], ◌∷◌, ◌++◌, length, refl, arith, ap, sym, subst, ◌∙◌, ◌⊎◌, inl, inr}
-use Rattle.std.specs.Prelude.{filter, nat_lt, ◌==◌, ◌||◌, ◌&&◌, if◌then◌else◌, All, int_lt}
-use Rattle.std.specs.List.{list_all, list_any, Contains}
-use Rattle.std.specs.Int.{w32, cast_signed}
+use Rattle.std.proofs.Common.{◌≡◌, ℕ, pos, negsuc, suc, ◌+◌, ◌-◌, ◌*◌, ◌/◌, ◌%◌, ◌^◌, ◌<◌, ◌≤◌, Bool, true, false, not, List, [], ◌∷◌, refl, arith, ap, sym, subst, ◌∙◌, ◌⊎◌, inl, inr}
+use Rattle.std.specs.Prelude.{filter, nat_lt, ◌==◌, if◌then◌else◌, All, int_lt}
+use Rattle.std.specs.List.{list_all, list_any}
 use Rattle.std.proofs.Math.Nat.{div-div-eq-div-mul, pow-suc, mul-lt-mul_of_pos_right}
 use Rattle.std.proofs.lemmas.Nat.{mul-mod_first, pow-add, pow_pos}
-use Rattle.std.proofs.lemmas.Bool.{and_parts, or_cases, or_left, or_right, eqb-true, eq-eqb, both_ways}
+use Rattle.std.proofs.lemmas.Bool.{and_parts, or_cases, or_left, or_right, eqb-true, both_ways}
 use Rattle.std.proofs.lemmas.Bool.Decides.{nat_tests}
 use Rattle.std.proofs.lemmas.Int.{ints}
 use Rattle.std.proofs.lemmas.List.Elements.{All-head, All-tail}
@@ -101,8 +100,8 @@ lacking_agree b t e x f = bit_of_lacking b x f ∙ sym (bit_of_lacking b t e)
 
 pub alike_agree : (b t : ℕ) (xs : List ℕ) → are_alike b xs ≡ true → list_any (λ u. u == t) xs ≡ true → Agree (suc b) t xs → Agree b t xs
 alike_agree b t xs alike e h = elim (or_cases (list_all (has_bit b) xs) (list_all (lacks_bit b) xs) alike) [
-    | inl all ↦ all_agree b t (has_bit b) xs (having_agree b t (any_pass (has_bit b) t xs e all)) all h
-    | inr none ↦ all_agree b t (lacks_bit b) xs (lacking_agree b t (any_pass (lacks_bit b) t xs e none)) none h
+  | inl all ↦ all_agree b t (has_bit b) xs (having_agree b t (any_pass (has_bit b) t xs e all)) all h
+  | inr none ↦ all_agree b t (lacks_bit b) xs (lacking_agree b t (any_pass (lacks_bit b) t xs e none)) none h
 ]
 
 -- ---- the shifted register

@@ -1,5 +1,5 @@
 -- The parts of a tree, and how long it is.
-use Rattle.std.proofs.Common.{◌≡◌, ℕ, suc, zero, ◌+◌, ◌-◌, ◌*◌, ◌≤◌, Bool, true, false, not, List, [], ◌∷◌, ◌++◌, length, refl, arith, ap, sym, subst, ◌∙◌, Result, Ok, Err}
+use Rattle.std.proofs.Common.{◌≡◌, ℕ, suc, ◌+◌, ◌-◌, ◌*◌, ◌≤◌, Bool, true, false, not, List, [], ◌∷◌, length, refl, arith, ap, sym, subst, ◌∙◌, Result, Ok, Err}
 use Rattle.std.specs.Prelude.{filter, ◌||◌, ◌&&◌, if◌then◌else◌, IfOk, max}
 use Rattle.std.specs.List.{list_all}
 use Rattle.std.proofs.lemmas.List.{length-append}
@@ -68,7 +68,7 @@ tree_alike rs bits shifted at xs some e =
 
 pub forks_more : (rs b shifted at : ℕ) (xs : List ℕ) → are_alike b xs ≡ false →
     tree rs (suc b) shifted at xs ≡ fork rs (31 - b - shifted) (tree rs b (31 - b) (at + 8) (filter (lacks_bit b) xs))
-        (tree rs b (31 - b) (at + 8 + 4 * length (tree rs b (31 - b) (at + 8) (filter (lacks_bit b) xs))) (filter (has_bit b) xs))
+    (tree rs b (31 - b) (at + 8 + 4 * length (tree rs b (31 - b) (at + 8) (filter (lacks_bit b) xs))) (filter (has_bit b) xs))
 unfolding tree
 forks_more rs b shifted at xs e = pass (are_alike b xs) (tree rs b shifted at xs) _ e
 

@@ -1,7 +1,7 @@
 -- A tree as steps of the machine.
-use Rattle.std.proofs.Common.{◌≡◌, ℕ, ℤ, pos, suc, zero, ◌+◌, ◌-◌, ◌*◌, ◌%◌, ◌^◌, ◌<◌, ◌≤◌, Bool, true, false, not, List, [], ◌∷◌, ◌++◌, length, Some, None, refl, arith, ap, sym, subst, ◌∙◌, get_or-set_other, length-set}
-use Rattle.std.specs.Prelude.{filter, max, slice_index, slice_set, ◌==◌, ◌&&◌, int_lt, All, if◌then◌else◌}
-use Rattle.std.specs.List.{list_any, sum_by, Contains}
+use Rattle.std.proofs.Common.{◌≡◌, ℕ, pos, suc, zero, ◌+◌, ◌-◌, ◌*◌, ◌%◌, ◌^◌, ◌<◌, ◌≤◌, Bool, true, false, not, List, [], ◌∷◌, ◌++◌, length, None, refl, arith, ap, sym, subst, ◌∙◌, get_or-set_other, length-set}
+use Rattle.std.specs.Prelude.{filter, max, slice_set, ◌==◌, int_lt}
+use Rattle.std.specs.List.{list_any, Contains}
 use Rattle.std.proofs.Math.Nat.{mul-le-mul_right}
 use Rattle.std.proofs.lemmas.Bool.Decides.{nat_tests}
 use Rattle.std.proofs.lemmas.Bool.{cond-true, cond-false, and_parts, eqb-true, eq-eqb, or_left, or_right}
@@ -16,21 +16,20 @@ use Rattle.scale_base.specs.declared.instruction.Instr.TheVariants as instr
 use Rattle.scale_base.specs.declared.stepping.Class.{Class}
 use Rattle.scale_base.specs.declared.stepping.Class.TheVariants as classes
 use Rattle.scale_base.specs.declared.stepping.Stepped.{Stepped}
-use Rattle.scale_base.specs.Layout.{can_fetch, each_byte, fetches_byte}
+use Rattle.scale_base.specs.Layout.{each_byte, fetches_byte}
 use Rattle.scale_base.specs.Arith.{plus, moved_by, unsigned, signed, imm_result, is_taken}
 use Rattle.scale_base.specs.State.{Setting, State, reg, with_reg, word_at}
 use Rattle.scale_base.specs.Step.{step, goes, stepped, sets, jumps, branches, performs}
-use Rattle.scale_base.specs.Run.{run, GoesOn}
 use Rattle.scale_base.proofs.WordLaws.{word_back}
 use Rattle.rv_encode.specs.Jumps.{distance}
 use Rattle.run_laws.proofs.StepLaws.{step_performs}
 use Rattle.stub_runs.specs.Meaning.{Leads}
 use Rattle.stub_runs.proofs.Steps.{leads_none, leads_first}
-use Rattle.image_lower.specs.Trees.{upper_part, lower_part, first_of, has_bit, lacks_bit, are_alike, jump, leaf, fork, tree, tree_depth}
+use Rattle.image_lower.specs.Trees.{upper_part, lower_part, has_bit, lacks_bit, are_alike, jump, leaf, fork, tree, tree_depth}
 use Rattle.image_lower.specs.Meets.{cycles, tree_cycles}
 use Rattle.image_lower.specs.TreeRuns.{StandsAt, Stand, IsAtTree, FindsTarget}
 use Rattle.image_lower.proofs.TreeArith.{Agree, some_agree, alike_agree, agree_first, agree_all, any_kept, having_agree, lacking_agree, shifted_on, sign_is_bit, parts_join}
-use Rattle.image_lower.proofs.TreeLaws.{pick, pass, fork_len, alike_more, forks_more, depth_more, depth_forks}
+use Rattle.image_lower.proofs.TreeLaws.{fork_len, alike_more, forks_more, depth_more, depth_forks}
 
 -- ---- code that stands, in parts
 
@@ -120,10 +119,12 @@ leaf_finds env s rs to fit h =
     record {
       steps = _;
       leads = leads_first env s s1 s3 _ _ e1 (leads_first env s1 s2 s3 _ _ e2 (leads_first env s2 s3 s3 _ [] e3 (leads_none env s3)));
-      within = λ costs. omega (arith,
-          cycles_one costs (stepped env s (instr.Lui rs upper) false None (plus s.pc 4)) (stepped env s1 (instr.Imm Addi rs rs (lower_part to)) false None (plus s1.pc 4) ∷ stepped env s2 (jump (s.pc + 8) to) false None to ∷ []),
-          cycles_one costs (stepped env s1 (instr.Imm Addi rs rs (lower_part to)) false None (plus s1.pc 4)) (stepped env s2 (jump (s.pc + 8) to) false None to ∷ []),
-          cycles_one costs (stepped env s2 (jump (s.pc + 8) to) false None to) []);
+      within = λ costs. omega (
+        arith,
+        cycles_one costs (stepped env s (instr.Lui rs upper) false None (plus s.pc 4)) (stepped env s1 (instr.Imm Addi rs rs (lower_part to)) false None (plus s1.pc 4) ∷ stepped env s2 (jump (s.pc + 8) to) false None to ∷ []),
+        cycles_one costs (stepped env s1 (instr.Imm Addi rs rs (lower_part to)) false None (plus s1.pc 4)) (stepped env s2 (jump (s.pc + 8) to) false None to ∷ []),
+        cycles_one costs (stepped env s2 (jump (s.pc + 8) to) false None to) [],
+      );
     }
 
 -- ---- a fork
@@ -161,7 +162,7 @@ two_more : (env : Setting) (s s1 : State) (rs target value p d deep : ℕ) (x y 
 two_more env s s1 rs target value p d deep x y e1 e2 alu branch le f =
     let s2 : State = record s { pc = p; regs = slice_set s.regs rs value } in
     let again : record s2 { pc = target; regs = slice_set s2.regs rs target } ≡ record s { pc = target; regs = slice_set s.regs rs target } =
-        ap (λ (r : List ℕ). record s { pc = target; regs = r }) (set-set s.regs rs value target) in
+    ap (λ (r : List ℕ). record s { pc = target; regs = r }) (set-set s.regs rs value target) in
     let rest : Leads env s2 f.steps (record s { pc = target; regs = slice_set s.regs rs target }) = subst (Leads env s2 f.steps) again f.leads in
     record {
       steps = x ∷ y ∷ f.steps;
@@ -211,14 +212,14 @@ forked env s rs target value left right first second x e1 alu h room true sign g
     let s1 : State = record s { pc = s.pc + 4; regs = slice_set s.regs rs value } in
     let more = max_right left right in
     two_more env s s1 rs target value (s.pc + 8 + 4 * length first) right (1 + max left right) x _ e1
-        (taken_step env s1 rs (4 + 4 * length first) (s.pc + 8 + 4 * length first) h sign (omega (arith, room)) (omega arith) (omega arith))
-        alu (λ costs. max_left (costs classes.Taken) (costs classes.Untaken)) (omega (arith, more)) (go_right refl)
+    (taken_step env s1 rs (4 + 4 * length first) (s.pc + 8 + 4 * length first) h sign (omega (arith, room)) (omega arith) (omega arith))
+    alu (λ costs. max_left (costs classes.Taken) (costs classes.Untaken)) (omega (arith, more)) (go_right refl)
 forked env s rs target value left right first second x e1 alu h room false sign go_left go_right =
     let s1 : State = record s { pc = s.pc + 4; regs = slice_set s.regs rs value } in
     let more = max_left left right in
     two_more env s s1 rs target value (s.pc + 8) left (1 + max left right) x _ e1
-        (passed_step env s1 rs (4 + 4 * length first) (s.pc + 8) h sign (omega arith))
-        alu (λ costs. max_right (costs classes.Taken) (costs classes.Untaken)) (omega (arith, more)) (go_left refl)
+    (passed_step env s1 rs (4 + 4 * length first) (s.pc + 8) h sign (omega arith))
+    alu (λ costs. max_right (costs classes.Taken) (costs classes.Untaken)) (omega (arith, more)) (go_left refl)
 
 pub choose : {P : Type 0} (b : Bool) → (b ≡ true → P) → (b ≡ false → P) → P
 choose true f g = f refl
@@ -231,39 +232,39 @@ tree_finds env s rs zero shifted target xs low fit holds listed agree room h =
     leaf_finds env s rs target fit (subst (λ to. Stand env s.bytes s.pc (leaf rs s.pc to)) (agree_first target xs listed agree) h)
 tree_finds env s rs (suc b) shifted target xs low fit holds listed agree room h = choose (are_alike b xs)
     (λ e.
-        let same = alike_more rs b shifted s.pc xs e in
-        subst (Finds env s rs target) (sym (depth_more b xs e))
-        (tree_finds env s rs b shifted target xs (omega (arith, low)) fit holds listed (alike_agree b target xs e listed agree)
-        (subst (λ (code : List Instr). s.pc + 4 * length code < 2 ^ 32) same room) (subst (Stand env s.bytes s.pc) same h)))
+    let same = alike_more rs b shifted s.pc xs e in
+    subst (Finds env s rs target) (sym (depth_more b xs e))
+    (tree_finds env s rs b shifted target xs (omega (arith, low)) fit holds listed (alike_agree b target xs e listed agree)
+    (subst (λ (code : List Instr). s.pc + 4 * length code < 2 ^ 32) same room) (subst (Stand env s.bytes s.pc) same h)))
     (λ e.
-        let few = fit.few in
-        let long = fit.regs in
-        let lack = filter (lacks_bit b) xs in
-        let have = filter (has_bit b) xs in
-        let first = tree rs b (31 - b) (s.pc + 8) lack in
-        let second = tree rs b (31 - b) (s.pc + 8 + 4 * length first) have in
-        let shift = 31 - b - shifted in
-        let value = target * 2 ^ (31 - b) % 2 ^ 32 in
-        let same = forks_more rs b shifted s.pc xs e in
-        let code : Stand env s.bytes s.pc (fork rs shift first second) = subst (Stand env s.bytes s.pc) same h in
-        let room2 : s.pc + 4 * length (fork rs shift first second) < 2 ^ 32 = subst (λ (c : List Instr). s.pc + 4 * length c < 2 ^ 32) same room in
-        let long2 = fork_len rs shift first second in
-        let sum : 31 - b ≡ shifted + shift = omega (arith, low) in
-        let is : imm_result Slli (reg s.regs rs) (pos shift) ≡ value =
-            shift_is (reg s.regs rs) shift (omega (arith, sum)) ∙ (ap (λ v. v * 2 ^ shift % 2 ^ 32) holds ∙ shifted_on target shifted shift (31 - b) sum) in
-        let e1 = set_step env s (instr.Imm Slli rs rs (pos shift)) rs (imm_result Slli (reg s.regs rs) (pos shift)) value (s.pc + 4) (slice_set s.regs rs value) code.0 refl fit.some is refl refl in
-        let now : reg (slice_set s.regs rs value) rs ≡ value = get_or-set_same s.regs rs value 0 (omega (arith, few, long)) in
-        let next = fit_on s rs target value (s.pc + 4) fit in
-        let sign = sign_is_bit target b (reg (slice_set s.regs rs value) rs) (reg (slice_set s.regs rs value) 0) (omega (arith, low)) now next.zero in
-        let there : s.pc + 4 + 4 ≡ s.pc + 8 = omega arith in
-        let both : Stand env s.bytes (s.pc + 8) (first ++ second) = subst (λ a. Stand env s.bytes a (first ++ second)) there code.1.1 in
-        subst (Finds env s rs target) (sym (depth_forks b xs e))
-        (forked env s rs target value (tree_depth b lack) (tree_depth b have) first second _ e1 refl code.1.0 (omega (arith, room2, long2)) (has_bit b target) sign
-        (λ none. let lacks : lacks_bit b target ≡ true = ap not none in
-            tree_finds env (record s { pc = s.pc + 8; regs = slice_set s.regs rs value }) rs b (31 - b) target lack (omega (arith, low)) (fit_on s rs target value (s.pc + 8) fit) now (any_kept (lacks_bit b) target xs lacks listed)
-            (some_agree b target (lacks_bit b) xs (lacking_agree b target lacks) agree) (omega (arith, room2, long2)) (stand_left env s.bytes (s.pc + 8) first second both))
-        (λ has. tree_finds env (record s { pc = s.pc + 8 + 4 * length first; regs = slice_set s.regs rs value }) rs b (31 - b) target have (omega (arith, low)) (fit_on s rs target value (s.pc + 8 + 4 * length first) fit) now (any_kept (has_bit b) target xs has listed)
-            (some_agree b target (has_bit b) xs (having_agree b target has) agree) (omega (arith, room2, long2)) (stand_right env s.bytes (s.pc + 8) first second both))))
+    let few = fit.few in
+    let long = fit.regs in
+    let lack = filter (lacks_bit b) xs in
+    let have = filter (has_bit b) xs in
+    let first = tree rs b (31 - b) (s.pc + 8) lack in
+    let second = tree rs b (31 - b) (s.pc + 8 + 4 * length first) have in
+    let shift = 31 - b - shifted in
+    let value = target * 2 ^ (31 - b) % 2 ^ 32 in
+    let same = forks_more rs b shifted s.pc xs e in
+    let code : Stand env s.bytes s.pc (fork rs shift first second) = subst (Stand env s.bytes s.pc) same h in
+    let room2 : s.pc + 4 * length (fork rs shift first second) < 2 ^ 32 = subst (λ (c : List Instr). s.pc + 4 * length c < 2 ^ 32) same room in
+    let long2 = fork_len rs shift first second in
+    let sum : 31 - b ≡ shifted + shift = omega (arith, low) in
+    let is : imm_result Slli (reg s.regs rs) (pos shift) ≡ value =
+    shift_is (reg s.regs rs) shift (omega (arith, sum)) ∙ (ap (λ v. v * 2 ^ shift % 2 ^ 32) holds ∙ shifted_on target shifted shift (31 - b) sum) in
+    let e1 = set_step env s (instr.Imm Slli rs rs (pos shift)) rs (imm_result Slli (reg s.regs rs) (pos shift)) value (s.pc + 4) (slice_set s.regs rs value) code.0 refl fit.some is refl refl in
+    let now : reg (slice_set s.regs rs value) rs ≡ value = get_or-set_same s.regs rs value 0 (omega (arith, few, long)) in
+    let next = fit_on s rs target value (s.pc + 4) fit in
+    let sign = sign_is_bit target b (reg (slice_set s.regs rs value) rs) (reg (slice_set s.regs rs value) 0) (omega (arith, low)) now next.zero in
+    let there : s.pc + 4 + 4 ≡ s.pc + 8 = omega arith in
+    let both : Stand env s.bytes (s.pc + 8) (first ++ second) = subst (λ a. Stand env s.bytes a (first ++ second)) there code.1.1 in
+    subst (Finds env s rs target) (sym (depth_forks b xs e))
+    (forked env s rs target value (tree_depth b lack) (tree_depth b have) first second _ e1 refl code.1.0 (omega (arith, room2, long2)) (has_bit b target) sign
+    (λ none. let lacks : lacks_bit b target ≡ true = ap not none in
+    tree_finds env (record s { pc = s.pc + 8; regs = slice_set s.regs rs value }) rs b (31 - b) target lack (omega (arith, low)) (fit_on s rs target value (s.pc + 8) fit) now (any_kept (lacks_bit b) target xs lacks listed)
+    (some_agree b target (lacks_bit b) xs (lacking_agree b target lacks) agree) (omega (arith, room2, long2)) (stand_left env s.bytes (s.pc + 8) first second both))
+    (λ has. tree_finds env (record s { pc = s.pc + 8 + 4 * length first; regs = slice_set s.regs rs value }) rs b (31 - b) target have (omega (arith, low)) (fit_on s rs target value (s.pc + 8 + 4 * length first) fit) now (any_kept (has_bit b) target xs has listed)
+    (some_agree b target (has_bit b) xs (having_agree b target has) agree) (omega (arith, room2, long2)) (stand_right env s.bytes (s.pc + 8) first second both))))
 
 -- ---- the law
 
