@@ -1,5 +1,5 @@
 -- Notes in ascending order are the same notes.
-use Rattle.std.proofs.Common.{◌≡◌, ℕ, suc, ◌+◌, ◌<◌, ◌≤◌, Bool, true, false, List, [], ◌∷◌, length, get_or, map, fold, refl, arith, ap, sym, subst, ◌∙◌, Bor}
+use Rattle.std.proofs.Common.{◌≡◌, ◌+◌, Bool, true, false, List, [], ◌∷◌, length, map, fold, arith, ap, sym, subst, Bor}
 use Rattle.std.specs.Prelude.{nat_lt, if◌then◌else◌}
 use Rattle.std.specs.List.{All}
 use Rattle.std.proofs.lemmas.List.{length-map}
@@ -17,7 +17,7 @@ all_insert : (P : JumpNote → Type 0) (xs : List JumpNote) (n : JumpNote) → P
 all_insert P [] n p h = All-cons P n [] p (All-nil P)
 all_insert P (x ∷ xs) n p h = all_step P (nat_lt n.at x.at) n x xs (insert_note xs n) p h (all_insert P xs n p (All-tail P x xs h))
 
-all_fold : (P : JumpNote → Type 0) (acc notes : List JumpNote) → All P acc → All P notes → All P (fold insert_note acc notes)
+pub all_fold : (P : JumpNote → Type 0) (acc notes : List JumpNote) → All P acc → All P notes → All P (fold insert_note acc notes)
 all_fold P acc [] h g = h
 all_fold P acc (n ∷ ns) h g = all_fold P (insert_note acc n) ns (all_insert P acc n (All-head P n ns g) h) (All-tail P n ns g)
 
@@ -29,7 +29,7 @@ len_insert : (xs : List JumpNote) (n : JumpNote) → length (insert_note xs n) �
 len_insert [] n = omega arith
 len_insert (x ∷ xs) n = len_step (nat_lt n.at x.at) n x xs (insert_note xs n) (len_insert xs n)
 
-len_fold : (acc notes : List JumpNote) → length (fold insert_note acc notes) ≡ length acc + length notes
+pub len_fold : (acc notes : List JumpNote) → length (fold insert_note acc notes) ≡ length acc + length notes
 len_fold acc [] = omega arith
 len_fold acc (n ∷ ns) = let h = len_fold (insert_note acc n) ns in let g = len_insert acc n in omega (arith, h, g)
 

@@ -7,3 +7,17 @@ pub mod Places
 pub mod Kept
 pub mod LoweringLaws
 pub mod Vectors
+pub mod TreeArith
+pub mod TreeSteps
+pub mod FarParts
+pub mod LoweredFrame
+pub mod Legs
+pub mod Followed
+pub mod AddedBytes
+pub mod CodeTable
+pub mod MadeImage
+pub mod MadeMemory
+pub mod NoteFacts
+pub mod Planted
+pub mod MadeBy
+pub mod LoweredLaw

@@ -21,7 +21,7 @@ use Rattle.jump_lists.specs.declared.notes.JumpNote.{JumpNote}
 use Rattle.image_lower.specs.declared.lowering.Lowered.{Lowered}
 use Rattle.image_lower.specs.FarJumps.{far_patches}
 use Rattle.image_lower.specs.Block.{ascending_notes, tree_out_of_reach, tree_patches, trees_code, block_len, greatest_depth, least_address, is_bad}
-use Rattle.image_lower.specs.Lowered.{refuse_at, is_full, not_full, trees_fit, lowered_file, summary, finished, lowered_at, IsLoweredImage, IsLowered, AfterPart, no_bad_jump, not_scaled}
+use Rattle.image_lower.specs.Lowered.{refuse_at, is_full, not_full, lowered_file, summary, finished, lowered_at, IsLoweredImage, IsLowered, AfterPart, no_bad_jump, not_scaled}
 
 by : Bool → Result (Unit {0}) Refusal
 by b = if b then Err (NoRoom 2) else Ok tt
@@ -39,14 +39,14 @@ unfolding lowered_at
 too_far image base [] sorted at some is far = absurd (omega (arith, some))
 too_far image base (n ∷ ns) sorted at some is far =
     ap (λ (o : Option ℕ). (refuse_at LowerOutOfReach o >>= λ _. not_full image.file) >>= λ _. finished (lowered_file image base (n ∷ ns)) (summary image (n ∷ ns)))
-        (ap (tree_out_of_reach image base) (sym is) ∙ sym far)
+    (ap (tree_out_of_reach image base) (sym is) ∙ sym far)
 
 pub too_full : (image : Image) (base : ℕ) (notes sorted : List JumpNote) → 1 ≤ length notes → sorted ≡ ascending_notes notes → None ≡ tree_out_of_reach image base sorted → is_full image.file ≡ true → lowered_at image base notes ≡ Err (NoRoom 2)
 unfolding lowered_at
 too_full image base [] sorted some is far full = absurd (omega (arith, some))
 too_full image base (n ∷ ns) sorted some is far full =
     ap (λ (o : Option ℕ). (refuse_at LowerOutOfReach o >>= λ _. not_full image.file) >>= λ _. finished (lowered_file image base (n ∷ ns)) (summary image (n ∷ ns)))
-        (ap (tree_out_of_reach image base) (sym is) ∙ sym far)
+    (ap (tree_out_of_reach image base) (sym is) ∙ sym far)
     ∙ ap (λ (r : Result (Unit {0}) Refusal). r >>= λ _. finished (lowered_file image base (n ∷ ns)) (summary image (n ∷ ns))) (full_first image.file full)
 
 pub made : (image : Image) (base : ℕ) (notes sorted : List JumpNote) (near : List Patch) (file : List ℕ) (counts : Lowered) → 1 ≤ length notes → sorted ≡ ascending_notes notes → None ≡ tree_out_of_reach image base sorted → is_full image.file ≡ false →
@@ -56,12 +56,12 @@ unfolding lowered_at
 made image base [] sorted near file counts some is far full patches stored told = absurd (omega (arith, some))
 made image base (n ∷ ns) sorted near file counts some is far full patches stored told =
     ap (λ (o : Option ℕ). (refuse_at LowerOutOfReach o >>= λ _. not_full image.file) >>= λ _. finished (lowered_file image base (n ∷ ns)) (summary image (n ∷ ns)))
-        (ap (tree_out_of_reach image base) (sym is) ∙ sym far)
+    (ap (tree_out_of_reach image base) (sym is) ∙ sym far)
     ∙ ap (λ (r : Result (Unit {0}) Refusal). r >>= λ _. finished (lowered_file image base (n ∷ ns)) (summary image (n ∷ ns))) (full_not image.file full)
     ∙ (ap (λ (c : Lowered). finished (lowered_file image base (n ∷ ns)) c) (sym told)
     ∙ ap (λ (f : List ℕ). finished f counts)
-        (ap (λ (ps : List Patch). added_file image.file (ps ++ tree_patches image base (ascending_notes (n ∷ ns))) base (flat_map (λ i. little 4 (word_of i)) (trees_code image base (ascending_notes (n ∷ ns))))) (sym patches)
-        ∙ (ap (λ (ss : List JumpNote). added_file image.file (near ++ tree_patches image base ss) base (flat_map (λ i. little 4 (word_of i)) (trees_code image base ss))) (sym is) ∙ sym stored)))
+    (ap (λ (ps : List Patch). added_file image.file (ps ++ tree_patches image base (ascending_notes (n ∷ ns))) base (flat_map (λ i. little 4 (word_of i)) (trees_code image base (ascending_notes (n ∷ ns))))) (sym patches)
+    ∙ (ap (λ (ss : List JumpNote). added_file image.file (near ++ tree_patches image base ss) base (flat_map (λ i. little 4 (word_of i)) (trees_code image base ss))) (sym is) ∙ sym stored)))
 
 counted : (pairs jumps block depth : ℕ) → Lowered
 counted pairs jumps block depth = record { pairs = pairs; jumps = jumps; block = block; depth = depth }
@@ -123,5 +123,5 @@ passed view r image jumps notes original listed read plain h =
     let next : List JumpNote → Image → Result (List ℕ × Lowered) Refusal → Type 0 = λ ns i. AfterPart (no_bad_jump i ns) (λ _. IsLoweredImage i ns) in
     let k : AnswersBy view r (AfterPart (not_scaled original.keyed_segment) (λ _. next notes original)) = subst (λ (o : Option Keyed). AnswersBy view r (AfterPart (not_scaled o) (λ _. next notes original))) (sym plain) h in
     let i : AnswersBy view r (AfterPart (image_of image) (λ o. AfterPart (not_scaled o.keyed_segment) (λ _. next notes o))) =
-        subst (λ (x : Result Image Refusal). AnswersBy view r (AfterPart x (λ o. AfterPart (not_scaled o.keyed_segment) (λ _. next notes o)))) (sym read) k in
+    subst (λ (x : Result Image Refusal). AnswersBy view r (AfterPart x (λ o. AfterPart (not_scaled o.keyed_segment) (λ _. next notes o)))) (sym read) k in
     subst (λ (x : Result (List JumpNote) Refusal). AnswersBy view r (AfterPart x (λ ns. AfterPart (image_of image) (λ o. AfterPart (not_scaled o.keyed_segment) (λ _. next ns o))))) (sym listed) i

@@ -1,5 +1,5 @@
 -- The place of a note in ascending notes, and the least bad one.
-use Rattle.std.proofs.Common.{◌≡◌, ℕ, suc, zero, ◌+◌, ◌-◌, ◌<◌, ◌≤◌, Bool, true, false, List, [], ◌∷◌, ◌++◌, length, get_or, take, drop, fold, map, refl, arith, ap, sym, ◌∙◌, add-one, append_assoc, Bor, Option, Some, None}
+use Rattle.std.proofs.Common.{◌≡◌, ℕ, suc, ◌+◌, ◌-◌, ◌<◌, ◌≤◌, Bool, true, false, List, [], ◌∷◌, ◌++◌, length, get_or, take, drop, fold, map, refl, arith, ap, sym, ◌∙◌, add-one, append_assoc, Bor, Option, Some}
 use Rattle.std.specs.Prelude.{nat_lt, if◌then◌else◌, insert}
 use Rattle.std.proofs.Math.Seq.{drop-cons, take-suc}
 use Rattle.std.proofs.lemmas.List.{drop_all, map-append, take-map, drop-map, length-map, take_all}
@@ -76,7 +76,7 @@ pub ascend : (sorted new : List (Bor JumpNote)) (k : ℕ) (b : Bor JumpNote) (no
 ascend sorted new k b notes i note lt is same put before placed =
     let f : Bor JumpNote → JumpNote = λ n. n.now in
     let parts : map f (insert sorted k b) ≡ put_note (map f sorted) k b.now =
-        map-append f (take k sorted) (b ∷ drop k sorted) ∙ (ap (λ (xs : List JumpNote). xs ++ b.now ∷ map f (drop k sorted)) (sym (take-map f k sorted)) ∙ ap (λ (xs : List JumpNote). take k (map f sorted) ++ b.now ∷ xs) (sym (drop-map f k sorted))) in
+    map-append f (take k sorted) (b ∷ drop k sorted) ∙ (ap (λ (xs : List JumpNote). xs ++ b.now ∷ map f (drop k sorted)) (sym (take-map f k sorted)) ∙ ap (λ (xs : List JumpNote). take k (map f sorted) ++ b.now ∷ xs) (sym (drop-map f k sorted))) in
     let longer : take (i + 1) notes ≡ take i notes ++ note ∷ [] = ap (λ (j : ℕ). take j notes) (add-one i) ∙ (take-suc notes i note lt ∙ ap (λ (x : JumpNote). take i notes ++ x ∷ []) (sym is)) in
     ap (map f) put ∙ (parts ∙ (ap (λ (x : JumpNote). put_note (map f sorted) k x) same ∙ (sym placed ∙ (ap (λ (xs : List JumpNote). insert_note xs note) before
     ∙ (sym (fold-append insert_note [] (take i notes) (note ∷ [])) ∙ ap (fold insert_note []) (sym longer))))))

@@ -1,12 +1,12 @@
 -- Which jumps fit.
-use Rattle.std.proofs.Common.{◌≡◌, ℕ, ℤ, pos, negsuc, ◌%◌, ◌^◌, ◌≤◌, ◌<◌, Bool, true, false, arith, refl, sym}
+use Rattle.std.proofs.Common.{◌≡◌, ℕ, ℤ, pos, negsuc, ◌%◌, ◌^◌, ◌≤◌, Bool, true, false, arith, refl, sym}
 use Rattle.std.specs.Prelude.{nat_lt, ◌==◌, ◌&&◌, IsTrue, ◌↔◌}
 use Rattle.std.proofs.lemmas.Bool.{and_parts, and_from}
 use Rattle.std.proofs.lemmas.Bool.Decides.{nat_tests}
 use Rattle.scale_base.specs.declared.instruction.Instr.TheVariants as instr
 use Rattle.scale_base.specs.Word.{FieldsInRange, IsSignedField, IsEven}
 use Rattle.rv_encode.specs.Jumps.{distance, Reaches}
-use Rattle.image_lower.specs.FarJumps.{is_even_offset, is_jal_field, fits_jal, jal_reaches}
+use Rattle.image_lower.specs.FarJumps.{fits_jal, jal_reaches}
 
 pub offset_fits : (z : ℤ) → fits_jal z ≡ true → IsEven z × IsSignedField 21 z
 offset_fits (pos n) h = let p = and_parts (n % 2 == 0) (nat_lt n (2 ^ 20)) h in (grind (arith, nat_tests), grind (arith, nat_tests))

@@ -1,11 +1,11 @@
 -- One word or one note more, at a step of a loop.
-use Rattle.std.proofs.Common.{◌≡◌, ℕ, suc, ◌+◌, ◌*◌, ◌<◌, ◌≤◌, Bool, true, false, List, [], ◌∷◌, ◌++◌, length, get_or, take, map, Option, Some, None, refl, sym, ap, subst, ◌∙◌, arith, add-one, append_assoc}
+use Rattle.std.proofs.Common.{◌≡◌, ℕ, ◌+◌, ◌<◌, ◌≤◌, Bool, true, false, List, [], ◌∷◌, ◌++◌, length, get_or, take, map, Option, refl, sym, ap, ◌∙◌, arith, add-one, append_assoc}
 use Rattle.std.specs.Prelude.{◌==◌, ◌||◌, filter_map}
-use Rattle.std.specs.List.{range_with_len, flat_map, list_any, cons_option}
+use Rattle.std.specs.List.{range_with_len, list_any, cons_option}
 use Rattle.std.specs.List.Sorted.{IsPermutation}
 use Rattle.std.proofs.lemmas.List.Sorted.{list_any-IsPermutation}
 use Rattle.std.proofs.Math.Seq.{take-suc}
-use Rattle.std.proofs.lemmas.List.{map-append, append-nil, take_all}
+use Rattle.std.proofs.lemmas.List.{take_all}
 use Rattle.std.proofs.lemmas.List.FromFn.{map-range_with_len_more}
 use Rattle.std.proofs.lemmas.List.Elements.{filter_map-append}
 use Rattle.std.proofs.lemmas.List.Folds.{list_any-append}
@@ -43,7 +43,7 @@ pub next_noted : (notes : List JumpNote) (i : ℕ) (d : JumpNote) (first : ℕ �
 next_noted notes i d first before added v lt same was =
     let p : JumpNote → Bool = λ n. list_any (λ u. u == v) n.targets in
     let grown : is_noted (take (i + 1) notes) v ≡ (is_noted (take i notes) v || p (get_or notes i d)) =
-        rw (add-one, take-suc notes i d lt) (list_any-append p (take i notes) (get_or notes i d ∷ []) ∙ ap (λ b. is_noted (take i notes) v || b) (or_false (p (get_or notes i d)))) in
+    rw (add-one, take-suc notes i d lt) (list_any-append p (take i notes) (get_or notes i d ∷ []) ∙ ap (λ b. is_noted (take i notes) v || b) (or_false (p (get_or notes i d)))) in
     ap (λ b. first v || b) grown ∙ (sym (or_assoc (first v) (is_noted (take i notes) v) (p (get_or notes i d)))
     ∙ (ap (λ b. b || p (get_or notes i d)) was ∙ (ap (λ xs. list_any (λ u. u == v) before || list_any (λ u. u == v) xs) (sym same) ∙ sym (list_any-append (λ u. u == v) before added))))
 

@@ -1,6 +1,6 @@
 -- The instructions of a tree have words, where its jumps fit.
-use Rattle.std.proofs.Common.{◌≡◌, ℕ, ℤ, pos, negsuc, suc, zero, ◌+◌, ◌-◌, ◌*◌, ◌/◌, ◌%◌, ◌^◌, ◌<◌, ◌≤◌, Bool, true, false, not, List, [], ◌∷◌, ◌++◌, length, refl, arith, ap, sym, subst, ◌∙◌}
-use Rattle.std.specs.Prelude.{filter, nat_lt, ◌&&◌, if◌then◌else◌}
+use Rattle.std.proofs.Common.{◌≡◌, ℕ, pos, negsuc, suc, zero, ◌+◌, ◌-◌, ◌*◌, ◌%◌, ◌^◌, ◌<◌, ◌≤◌, Bool, true, false, List, [], ◌∷◌, ◌++◌, length, refl, arith, sym, subst, ◌∙◌}
+use Rattle.std.specs.Prelude.{filter, nat_lt, if◌then◌else◌}
 use Rattle.std.specs.List.{All, list_all}
 use Rattle.std.proofs.lemmas.Bool.{and_parts}
 use Rattle.std.proofs.lemmas.Bool.Decides.{nat_tests}
@@ -11,12 +11,10 @@ use Rattle.scale_base.specs.declared.instruction.ImmOp.TheVariants.{Addi, Slli}
 use Rattle.scale_base.specs.declared.instruction.Instr.{Instr}
 use Rattle.scale_base.specs.declared.instruction.Instr.TheVariants as instr
 use Rattle.scale_base.specs.Word.{FieldsInRange, IsSignedField}
-use Rattle.scale_base.specs.Reading.{signed_of}
 use Rattle.rv_encode.specs.Jumps.{distance}
-use Rattle.image_lower.specs.FarJumps.{fits_jal}
 use Rattle.image_lower.specs.Trees.{upper_part, lower_part, first_target, tree_jump, leaf, fork, tree, fits, are_alike, has_bit, lacks_bit}
 use Rattle.image_lower.proofs.Reach.{offset_fits}
-use Rattle.image_lower.proofs.TreeLaws.{Parts, parts, fork_len, pick, pass}
+use Rattle.image_lower.proofs.TreeLaws.{parts, fork_len}
 
 signed_fits : (n : ℕ) → n < 2 ^ 12 → (b : Bool) → nat_lt n (2 ^ 11) ≡ b → IsSignedField 12 (if b then pos n else negsuc (2 ^ 12 - 1 - n))
 signed_fits n small true e = let low : n < 2 ^ 11 = grind (arith, nat_tests) in omega (arith, low)
@@ -80,13 +78,13 @@ tree_sound rs (suc b) shifted at xs small some few =
     choose (are_alike b xs) (tree rs b shifted at xs) _ (length xs)
     (λ e. tree_sound rs b shifted at xs small some few)
     (λ e.
-      let p = parts b xs e in
-      let w = p.without in
-      let v = p.having in
-      let d = p.whole in
-      sound_fork rs (31 - b - shifted) _ _ (length (filter (lacks_bit b) xs)) (length (filter (has_bit b) xs)) (length xs) small (omega arith) (omega (arith, few, d)) d
-      (tree_sound rs b (31 - b) (at + 8) (filter (lacks_bit b) xs) small w (omega (arith, few, d)))
-      (tree_sound rs b (31 - b) _ (filter (has_bit b) xs) small v (omega (arith, few, d))))
+    let p = parts b xs e in
+    let w = p.without in
+    let v = p.having in
+    let d = p.whole in
+    sound_fork rs (31 - b - shifted) _ _ (length (filter (lacks_bit b) xs)) (length (filter (has_bit b) xs)) (length xs) small (omega arith) (omega (arith, few, d)) d
+    (tree_sound rs b (31 - b) (at + 8) (filter (lacks_bit b) xs) small w (omega (arith, few, d)))
+    (tree_sound rs b (31 - b) _ (filter (has_bit b) xs) small v (omega (arith, few, d))))
 
 pub tree_has_words : (rs at : ℕ) (xs : List ℕ) (code : List Instr) → rs < 32 → 1 ≤ length xs → length xs ≤ 128 → code ≡ tree rs 32 0 at xs → list_all fits code ≡ true → All FieldsInRange code
 tree_has_words rs at xs code small some few is fit =

@@ -1,5 +1,5 @@
 -- The parts of a tree, and how long it is.
-use Rattle.std.proofs.Common.{◌≡◌, ℕ, suc, zero, ◌+◌, ◌-◌, ◌*◌, ◌≤◌, Bool, true, false, not, List, [], ◌∷◌, ◌++◌, length, refl, arith, ap, sym, subst, ◌∙◌, Result, Ok, Err}
+use Rattle.std.proofs.Common.{◌≡◌, ℕ, suc, ◌+◌, ◌-◌, ◌*◌, ◌≤◌, Bool, true, false, not, List, [], ◌∷◌, length, refl, arith, ap, sym, subst, ◌∙◌, Result, Ok, Err}
 use Rattle.std.specs.Prelude.{filter, ◌||◌, ◌&&◌, if◌then◌else◌, IfOk, max}
 use Rattle.std.specs.List.{list_all}
 use Rattle.std.proofs.lemmas.List.{length-append}
@@ -56,7 +56,7 @@ pub pass : {A : Type 0} (b : Bool) (x y : A) → b ≡ false → (if b then x el
 pass true x y e = absurd cc
 pass false x y e = refl
 
-alike_more : (rs b shifted at : ℕ) (xs : List ℕ) → are_alike b xs ≡ true → tree rs (suc b) shifted at xs ≡ tree rs b shifted at xs
+pub alike_more : (rs b shifted at : ℕ) (xs : List ℕ) → are_alike b xs ≡ true → tree rs (suc b) shifted at xs ≡ tree rs b shifted at xs
 unfolding tree
 alike_more rs b shifted at xs e = pick (are_alike b xs) (tree rs b shifted at xs) _ e
 
@@ -66,9 +66,9 @@ tree_alike rs bits shifted at xs some e =
     let P : ℕ → Type 0 = λ n. tree rs n shifted at xs ≡ tree rs (bits - 1) shifted at xs in
     subst P same (alike_more rs (bits - 1) shifted at xs e)
 
-forks_more : (rs b shifted at : ℕ) (xs : List ℕ) → are_alike b xs ≡ false →
+pub forks_more : (rs b shifted at : ℕ) (xs : List ℕ) → are_alike b xs ≡ false →
     tree rs (suc b) shifted at xs ≡ fork rs (31 - b - shifted) (tree rs b (31 - b) (at + 8) (filter (lacks_bit b) xs))
-        (tree rs b (31 - b) (at + 8 + 4 * length (tree rs b (31 - b) (at + 8) (filter (lacks_bit b) xs))) (filter (has_bit b) xs))
+    (tree rs b (31 - b) (at + 8 + 4 * length (tree rs b (31 - b) (at + 8) (filter (lacks_bit b) xs))) (filter (has_bit b) xs))
 unfolding tree
 forks_more rs b shifted at xs e = pass (are_alike b xs) (tree rs b shifted at xs) _ e
 
@@ -90,9 +90,13 @@ tree_forks rs bits shifted shift at at2 xs first second some e s f a g =
     let P : ℕ → Type 0 = λ n. tree rs n shifted at xs ≡ fork rs shift first second in
     subst P same (forks_as rs (bits - 1) shifted shift at at2 xs first second e s f a g)
 
-depth_more : (b : ℕ) (xs : List ℕ) → are_alike b xs ≡ true → tree_depth (suc b) xs ≡ tree_depth b xs
+pub depth_more : (b : ℕ) (xs : List ℕ) → are_alike b xs ≡ true → tree_depth (suc b) xs ≡ tree_depth b xs
 unfolding tree_depth
 depth_more b xs e = pick (are_alike b xs) (tree_depth b xs) _ e
+
+pub depth_forks : (b : ℕ) (xs : List ℕ) → are_alike b xs ≡ false → tree_depth (suc b) xs ≡ 1 + max (tree_depth b (filter (lacks_bit b) xs)) (tree_depth b (filter (has_bit b) xs))
+unfolding tree_depth
+depth_forks b xs e = pass (are_alike b xs) (tree_depth b xs) _ e
 
 pub depth_alike : (bits : ℕ) (xs : List ℕ) → 1 ≤ bits → are_alike (bits - 1) xs ≡ true → tree_depth bits xs ≡ tree_depth (bits - 1) xs
 depth_alike bits xs some e =

@@ -1,5 +1,5 @@
 -- The noted jumps of an image: which may be lowered, and the block of their trees, in ascending order of their addresses.
-use Rattle.std.specs.Prelude.{ℕ, pos, ◌+◌, ◌*◌, ◌%◌, ◌^◌, ◌/◌, ◌==◌, ◌&&◌, ◌||◌, not, nat_lt, max, Bool, List, [], ◌∷◌, ◌++◌, length, map, filter, fold, take, drop, count_by, Option, Some, None, option_and_then, is_some, unwrap_or, if◌then◌else◌}
+use Rattle.std.specs.Prelude.{ℕ, pos, ◌+◌, ◌*◌, ◌==◌, ◌&&◌, ◌||◌, not, nat_lt, max, Bool, List, [], ◌∷◌, ◌++◌, length, fold, take, drop, count_by, Option, Some, None, option_and_then, is_some, unwrap_or, if◌then◌else◌}
 use Rattle.std.specs.List.{list_all, flat_map}
 use Rattle.std.specs.Ordering.{int_eq}
 use Rattle.scale_base.specs.declared.instruction.Instr.{Instr}

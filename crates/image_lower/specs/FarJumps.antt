@@ -1,7 +1,7 @@
 -- Far jumps of a text: an AUIPC, and right behind it a JALR by the same register (RISC-V Unprivileged ISA, chapter "RV32I", "Integer Register-
 -- Immediate Instructions"; the assembler's `call` and `tail`). Where no other way leads to the JALR and a JAL reaches what it goes to, that JAL
 -- stands for it.
-use Rattle.std.specs.Prelude.{ℕ, ℤ, pos, negsuc, ◌+◌, ◌-◌, ◌%◌, ◌^◌, ◌==◌, ◌&&◌, ◌||◌, not, nat_le, nat_lt, Bool, List, filter_map, Option, Some, None, option_map, if◌then◌else◌}
+use Rattle.std.specs.Prelude.{ℕ, ℤ, pos, negsuc, ◌-◌, ◌%◌, ◌^◌, ◌==◌, ◌&&◌, ◌||◌, not, nat_le, nat_lt, Bool, List, filter_map, Option, Some, None, option_map, if◌then◌else◌}
 use Rattle.std.specs.List.{list_any}
 use Rattle.scale_base.specs.declared.instruction.Instr.{Instr}
 use Rattle.scale_base.specs.declared.instruction.Instr.TheVariants as instr

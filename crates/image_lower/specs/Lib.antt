@@ -4,3 +4,4 @@ pub mod Trees
 pub mod Block
 pub mod Lowered
 pub mod Meets
+pub mod TreeRuns

@@ -1,5 +1,5 @@
 -- Runs that keep to the lists of a jump file, and what the run of the lowered image is then.
-use Rattle.std.specs.Prelude.{◌≡◌, ℕ, ◌+◌, ◌*◌, ◌<◌, ◌≤◌, max, nat_le, nat_lt, ◌&&◌, Bool, false, ◌⊎◌, List, [], length, count_by, All, Option, Some, None, Ok, is_some, true}
+use Rattle.std.specs.Prelude.{◌≡◌, ℕ, ◌+◌, ◌*◌, ◌^◌, ◌<◌, ◌≤◌, max, nat_le, nat_lt, ◌&&◌, Bool, false, ◌⊎◌, List, [], length, count_by, All, Option, Some, None, Ok, is_some, true}
 use Rattle.std.specs.List.{Contains, list_any, sum_by}
 use Rattle.scale_base.specs.declared.stepping.Class.{Class}
 use Rattle.scale_base.specs.declared.stepping.Class.TheVariants.{Alu, Taken, Untaken, Jump}
@@ -84,9 +84,12 @@ place_off_table file None = Unit {0}
 abbrev pub AreOffTable : List ℕ → List Patch → Type 0
 AreOffTable file patches = All (λ p. place_off_table file (file_place file p.at)) patches
 
--- an image, and the one that is stored of it with these notes
+-- an image without a key, of a file that is taken, and the one that is stored of it with these notes
 pub record IsLoweredTo (image : Image) (notes : List JumpNote) (base : ℕ) (lowered : Image) : Type 0 where
   pub read : image_of image.file ≡ Ok image
+  pub short : length image.file ≤ 4194304
+  pub bytes : All (λ b. b < 2 ^ 8) image.file
+  pub no_key : image.keyed_segment ≡ None
   pub noted : AreJumpNotes notes
   pub good : no_bad_jump image notes ≡ Ok tt
   pub place : IsStubBase image (block_len image notes) base

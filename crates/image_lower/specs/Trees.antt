@@ -1,6 +1,6 @@
 -- The tree of comparisons of a noted jump: it finds the target that a register holds by its bits, from the highest on in which two of the
 -- targets differ, and jumps to it. The register is shifted left until the bit is its sign; at a target it gets its number again.
-use Rattle.std.specs.Prelude.{ℕ, ℤ, pos, negsuc, zero, suc, ◌+◌, ◌-◌, ◌*◌, ◌/◌, ◌%◌, ◌^◌, ◌==◌, ◌&&◌, ◌||◌, not, max, Bool, true, List, [], ◌∷◌, ◌++◌, length, filter, if◌then◌else◌}
+use Rattle.std.specs.Prelude.{ℕ, ℤ, pos, zero, suc, ◌+◌, ◌-◌, ◌*◌, ◌/◌, ◌%◌, ◌^◌, ◌==◌, ◌||◌, not, max, Bool, true, List, [], ◌∷◌, ◌++◌, length, filter, if◌then◌else◌}
 use Rattle.std.specs.List.{list_all}
 use Rattle.scale_base.specs.declared.instruction.BranchOp.TheVariants.{Blt}
 use Rattle.scale_base.specs.declared.instruction.ImmOp.TheVariants.{Addi, Slli}
@@ -49,7 +49,7 @@ tree rs zero shifted at targets = leaf rs at (first_target targets)
 tree rs (suc b) shifted at targets =
     if are_alike b targets then tree rs b shifted at targets
     else (let lacking = tree rs b (31 - b) (at + 8) (filter (lacks_bit b) targets) in
-      fork rs (31 - b - shifted) lacking (tree rs b (31 - b) (at + 8 + 4 * length lacking) (filter (has_bit b) targets)))
+    fork rs (31 - b - shifted) lacking (tree rs b (31 - b) (at + 8 + 4 * length lacking) (filter (has_bit b) targets)))
 
 -- the greatest number of branches on a way through it
 unfoldable pub tree_depth : (bits : ℕ) → List ℕ → ℕ

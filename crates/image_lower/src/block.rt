@@ -24,7 +24,11 @@ fn register_of(instr: &Instr) -> Option<u8>
 {
     match *instr {
         Instr::Jalr { rd, rs1, offset } => {
-            if rd == 0 && offset == 0 && !(rs1 == 0 || rs1 == 1) { Some(rs1) } else { None }
+            if rd == 0 && offset == 0 && !(rs1 == 0 || rs1 == 1) {
+                Some(rs1)
+            } else {
+                None
+            }
         }
         _ => None,
     }
@@ -124,7 +128,11 @@ fn least_bad_of(
         [] => None,
         [first, others @ ..] => {
             let later = least_bad_of(view, notes, entered, others);
-            if is_bad(view, notes, entered, first) { Some(lesser(first.at, later)) } else { later }
+            if is_bad(view, notes, entered, first) {
+                Some(lesser(first.at, later))
+            } else {
+                later
+            }
         }
     }
 }

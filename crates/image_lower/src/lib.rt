@@ -5,9 +5,11 @@
 mod block;
 mod code;
 mod far;
+mod laws;
 mod lowering;
 mod trees;
 
+pub use laws::{lowered_runs_follow, trees_find_targets};
 pub use lowering::{Lowered, lower};
 
 #[cfg(test)]

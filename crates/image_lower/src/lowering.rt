@@ -72,7 +72,11 @@ fn finish(alloc: Global, file: Vec<u8>, counts: Lowered) -> Result<(Vec<u8>, Low
 
 /// An image in which near jumps stand for far ones, where no jump is noted.
 #[tactic(auto, unfolding(crate::specs::Block::ascending_notes))]
-fn lower_far(alloc: Global, view: &ImageView<'_>, patches: &[Patch]) -> Result<(Vec<u8>, Lowered), Stop>
+fn lower_far(
+    alloc: Global,
+    view: &ImageView<'_>,
+    patches: &[Patch],
+) -> Result<(Vec<u8>, Lowered), Stop>
     requires patches { patches.now ≡ far.far_patches (texts.text_of view.now) [] }
     requires few { length patches.now < 2 ^ 32 }
     ensures { Answers (λ p. (p.0.items, p.1)) result (lowered.finished (lowered.lowered_file view.now 0 []) (lowered.summary view.now [])) }
@@ -203,7 +207,11 @@ fn lower_notes(
     if near.len() > MOST_PATCHES {
         return Err(Stop::Memory);
     }
-    if notes.is_empty() { lower_far(alloc, view, &near) } else { lower_all(alloc, view, notes, &near) }
+    if notes.is_empty() {
+        lower_far(alloc, view, &near)
+    } else {
+        lower_all(alloc, view, notes, &near)
+    }
 }
 
 /// Lowers an image with the lists of a jump file: a JAL stands for each far jump that it reaches and that no other way leads into, and a

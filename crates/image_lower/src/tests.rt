@@ -5,17 +5,25 @@ use std::test::Fail;
 
 /// A far call to a return, and an exit.
 const FAR_CALL: [u8; 104] = [
-    127, 69, 76, 70, 1, 1, 1, 0, 0, 0, 0, 0, 0, 0, 0, 0, 2, 0, 243, 0, 1, 0, 0, 0, 0, 0, 1, 0, 52, 0, 0, 0, 0, 0, 0, 0, 0, 0, 0, 0, 52, 0, 32, 0, 1, 0, 0, 0, 0, 0, 0, 0, 1, 0, 0, 0, 84, 0, 0, 0, 0, 0, 1, 0, 0, 0, 1, 0, 20, 0, 0, 0, 20, 0, 0, 0, 5, 0, 0, 0, 4, 0, 0, 0, 151, 0, 0, 0, 231, 128, 0, 1, 147, 8, 208, 5, 115, 0, 0, 0, 103, 128, 0, 0,
+    127, 69, 76, 70, 1, 1, 1, 0, 0, 0, 0, 0, 0, 0, 0, 0, 2, 0, 243, 0, 1, 0, 0, 0, 0, 0, 1, 0, 52,
+    0, 0, 0, 0, 0, 0, 0, 0, 0, 0, 0, 52, 0, 32, 0, 1, 0, 0, 0, 0, 0, 0, 0, 1, 0, 0, 0, 84, 0, 0, 0,
+    0, 0, 1, 0, 0, 0, 1, 0, 20, 0, 0, 0, 20, 0, 0, 0, 5, 0, 0, 0, 4, 0, 0, 0, 151, 0, 0, 0, 231,
+    128, 0, 1, 147, 8, 208, 5, 115, 0, 0, 0, 103, 128, 0, 0,
 ];
 
 /// A jump through x5 at 0x10008, and two exits that it may lead to.
 const TABLE_JUMP: [u8; 116] = [
-    127, 69, 76, 70, 1, 1, 1, 0, 0, 0, 0, 0, 0, 0, 0, 0, 2, 0, 243, 0, 1, 0, 0, 0, 0, 0, 1, 0, 52, 0, 0, 0, 0, 0, 0, 0, 0, 0, 0, 0, 52, 0, 32, 0, 1, 0, 0, 0, 0, 0, 0, 0, 1, 0, 0, 0, 84, 0, 0, 0, 0, 0, 1, 0, 0, 0, 1, 0, 32, 0, 0, 0, 32, 0, 0, 0, 5, 0, 0, 0, 4, 0, 0, 0, 183, 2, 1, 0, 147, 130, 66, 1, 103, 128, 2, 0, 19, 5, 16, 0, 111, 0, 128, 0, 19, 5, 32, 0, 147, 8, 208, 5, 115, 0, 0, 0,
+    127, 69, 76, 70, 1, 1, 1, 0, 0, 0, 0, 0, 0, 0, 0, 0, 2, 0, 243, 0, 1, 0, 0, 0, 0, 0, 1, 0, 52,
+    0, 0, 0, 0, 0, 0, 0, 0, 0, 0, 0, 52, 0, 32, 0, 1, 0, 0, 0, 0, 0, 0, 0, 1, 0, 0, 0, 84, 0, 0, 0,
+    0, 0, 1, 0, 0, 0, 1, 0, 32, 0, 0, 0, 32, 0, 0, 0, 5, 0, 0, 0, 4, 0, 0, 0, 183, 2, 1, 0, 147,
+    130, 66, 1, 103, 128, 2, 0, 19, 5, 16, 0, 111, 0, 128, 0, 19, 5, 32, 0, 147, 8, 208, 5, 115, 0,
+    0, 0,
 ];
 
 /// Its tree.
 const TREE: [u8; 32] = [
-    147, 146, 178, 1, 99, 200, 2, 0, 183, 2, 1, 0, 147, 130, 194, 0, 111, 224, 223, 255, 183, 2, 1, 0, 147, 130, 66, 1, 111, 224, 159, 255,
+    147, 146, 178, 1, 99, 200, 2, 0, 183, 2, 1, 0, 147, 130, 194, 0, 111, 224, 223, 255, 183, 2, 1,
+    0, 147, 130, 66, 1, 111, 224, 159, 255,
 ];
 
 const NO_JUMPS: &str = "version = 1\n";
@@ -26,6 +34,13 @@ const OTHER_JUMP: &str = "version = 1\n[[jump]]\nat = 0x10004\ntargets = [0x1000
 
 fn word_at(file: &[u8], at: usize) -> Option<&[u8]> {
     file.get(at..at.checked_add(4)?)
+}
+
+fn is_tree_at(file: &[u8], at: usize) -> bool {
+    match file.get(at..at.saturating_add(32)) {
+        Some(block) => block == TREE.as_slice(),
+        None => false,
+    }
 }
 
 fn bad_jump(alloc: Global, jumps: &str) -> Option<u32> {
@@ -40,9 +55,20 @@ fn a_near_call_stands_for_a_far_one(rt: HostRuntime) -> Result<(), Fail> {
     let Ok((file, counts)) = lower(rt.alloc(), &FAR_CALL, NO_JUMPS.as_bytes()) else {
         return Err(Fail::from("refused"));
     };
-    assert_eq!(rt; counts, Lowered { pairs: 1, jumps: 0, block: 0, depth: 0 });
+    assert_eq!(rt;
+        counts,
+        Lowered {
+            pairs: 1,
+            jumps: 0,
+            block: 0,
+            depth: 0
+        }
+    );
     assert_eq!(rt; file.len(), 104);
-    assert_eq!(rt; word_at(&file, 88), Some([0xEF, 0x00, 0xC0, 0x00].as_slice()));
+    assert_eq!(rt;
+        word_at(&file, 88),
+        Some([0xEF, 0x00, 0xC0, 0x00].as_slice())
+    );
     Ok(())
 }
 
@@ -51,10 +77,21 @@ fn a_tree_stands_for_a_jump_through_a_table(rt: HostRuntime) -> Result<(), Fail>
     let Ok((file, counts)) = lower(rt.alloc(), &TABLE_JUMP, JUMP.as_bytes()) else {
         return Err(Fail::from("refused"));
     };
-    assert_eq!(rt; counts, Lowered { pairs: 0, jumps: 1, block: 32, depth: 1 });
+    assert_eq!(rt;
+        counts,
+        Lowered {
+            pairs: 0,
+            jumps: 1,
+            block: 32,
+            depth: 1
+        }
+    );
     assert_eq!(rt; file.len(), 4192);
-    assert_eq!(rt; word_at(&file, 92), Some([0x6F, 0x00, 0x90, 0x7F].as_slice()));
-    assert_eq!(rt; file.get(4096..4128), Some(TREE.as_slice()));
+    assert_eq!(rt;
+        word_at(&file, 92),
+        Some([0x6F, 0x00, 0x90, 0x7F].as_slice())
+    );
+    assert!(rt; is_tree_at(&file, 4096));
     Ok(())
 }
 

@@ -184,17 +184,18 @@ pub fn tree(
     let first = tree(alloc, rs, bit, 31 - bit, at + 8, &without)?;
     let second_at = at + 8 + 4 * first.len() as u64;
     let second = tree(alloc, rs, bit, 31 - bit, second_at, &with)?;
-    fork(alloc, rs, (31 - bit).saturating_sub(shifted), &first, &second)
+    fork(
+        alloc,
+        rs,
+        (31 - bit).saturating_sub(shifted),
+        &first,
+        &second,
+    )
 }
 
 /// The tree of targets, whose instructions have words where its jumps fit.
 #[tactic(auto, using(crate::proofs::TreeFields::tree_has_words))]
-pub fn whole_tree(
-    alloc: Global,
-    rs: u8,
-    at: u64,
-    targets: &[u32],
-) -> Result<Vec<Instr>, NoMemory>
+pub fn whole_tree(alloc: Global, rs: u8, at: u64, targets: &[u32]) -> Result<Vec<Instr>, NoMemory>
     requires register { rs < 32 }
     requires at { at < 2 ^ 36 }
     requires few { length targets.now ≤ 128 }

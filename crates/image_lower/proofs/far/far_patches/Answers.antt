@@ -10,4 +10,4 @@ add_far_patches-requires-clause-range c = walked_in c.args.view.now c.text-text.
 pub loop-range-preserved : goal.loop-range-preserved
 loop-range-preserved c =
     next_words (far_patch (text_of c.args.view.now) c.args.notes.now) c.text-text.result.now c.loop-range.range-index (record { from = 0; to = 0 }) c.loop-range.patches.items c.add_far_patches.new.patches.items
-        c.loop-range-test.true c.loop-range.invariant c.in_ok-add_far_patches.ensures
+    c.loop-range-test.true c.loop-range.invariant c.in_ok-add_far_patches.ensures

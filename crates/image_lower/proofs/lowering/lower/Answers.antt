@@ -16,4 +16,4 @@ pub returns : goal.returns
 returns c =
     let P : List JumpNote → Type 0 = λ ns. read_jumps c.args.jumps.now ≡ Ok ns in
     passed _ c.lower_notes.result c.args.image.now c.args.jumps.now c.as_slice.result.now c.in_ok-view.view (subst P (sym c.as_slice.ensures.notes) c.in_ok-notes.ensures) c.in_ok-view.ensures
-        (none_of c.in_ok-view.view.keyed_segment (ap is_some (sym c.keyed.ensures) ∙ (sym c.is_some.ensures ∙ c.if-is_some.false))) c.lower_notes.ensures
+    (none_of c.in_ok-view.view.keyed_segment (ap is_some (sym c.keyed.ensures) ∙ (sym c.is_some.ensures ∙ c.if-is_some.false))) c.lower_notes.ensures

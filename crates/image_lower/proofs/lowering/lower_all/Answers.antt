@@ -15,7 +15,7 @@ lower_at-requires-clause-notes c = ascending_kept c.args.notes.now c.deref-2.res
 pub returns : goal.returns
 returns c =
     let same : c.in_ok-code.code.items ≡ trees_code c.args.view.now 0 (ascending_notes c.args.notes.now) =
-        c.in_ok-code.ensures.code ∙ ap (trees_code c.args.view.now 0) (ap (λ (xs : List (Bor JumpNote)). map (λ n. n.now) xs) c.deref.ensures.value ∙ c.in_ok-sorted.ensures) in
+    c.in_ok-code.ensures.code ∙ ap (trees_code c.args.view.now 0) (ap (λ (xs : List (Bor JumpNote)). map (λ n. n.now) xs) c.deref.ensures.value ∙ c.in_ok-sorted.ensures) in
     let l : length c.in_ok-code.code.items ≡ length (trees_code c.args.view.now 0 (ascending_notes c.args.notes.now)) = ap (λ (xs : List Instr). length xs) same in
     let k = c.len.ensures in
     by_base _ c.lower_at.result c.args.view.now c.args.notes.now (4 * c.len.result) c.stub_base-base.result (omega (arith, l, k)) c.stub_base-base.ensures c.lower_at.ensures

@@ -17,5 +17,5 @@ returns-then-is_full c =
 pub returns : goal.returns
 returns c =
     rw (made c.args.view.now c.args.base c.args.notes.now _ c.args.near.now c.in_ok-file.file.items _ c.requires.some c.requires.sorted (sym c.in_default.is ∙ c.in_ok-at.ensures) (ap is_full (sym c.file.ensures.bytes) ∙ (sym c.is_full.ensures ∙ c.if-is_full.false))
-        c.requires.near c.in_ok-file.ensures (told c.args.view.now c.args.notes.now c.args.near.now c.args.len c.in_ok-depth.depth _ refl c.requires.near c.requires.len c.in_ok-depth.ensures.depth))
+    c.requires.near c.in_ok-file.ensures (told c.args.view.now c.args.notes.now c.args.near.now c.args.len c.in_ok-depth.depth _ refl c.requires.near c.requires.len c.in_ok-depth.ensures.depth))
     c.finish.ensures

@@ -1,7 +1,7 @@
-use Rattle.std.proofs.Common.{◌≡◌, ◌+◌, ◌-◌, ◌*◌, ◌≤◌, List, ℕ, length, ap, sym, ◌∙◌, arith, Bool, false, true}
+use Rattle.std.proofs.Common.{◌≡◌, ◌+◌, ◌-◌, ◌*◌, List, ℕ, length, ap, sym, ◌∙◌, arith}
 use Rattle.std.specs.Prelude.{filter}
 use Rattle.scale_base.specs.declared.instruction.Instr.{Instr}
-use Rattle.image_lower.specs.Trees.{are_alike, has_bit, lacks_bit, tree, fork}
+use Rattle.image_lower.specs.Trees.{has_bit, lacks_bit, tree, fork}
 use Rattle.image_lower.proofs.TreeLaws.{parts, tree_alike, tree_forks, fork_len, ok_short}
 use Rattle.image_lower.proofs.trees.+tree.Goals as goal
 
@@ -60,10 +60,10 @@ returns-clause-code n c =
     let f : length c.deref-3.result.now ≡ length c.in_ok-first.first.items = ap (λ (xs : List Instr). length xs) c.deref-3.ensures.value in
     let s = c.saturating_sub.ensures in
     rw (tree_forks c.args.rs c.args.bits c.args.shifted c.saturating_sub.result c.args.at (c.args.at + 8 + 4 * c.len.result) c.args.targets.now c.deref-3.result.now c.deref-4.result.now
-        (omega (arith, some)) (sym c.are_alike.ensures ∙ c.if-are_alike.false) (omega (arith, s))
-        (c.deref-3.ensures.value ∙ c.in_ok-first.ensures.code ∙ ap (λ (xs : List ℕ). tree c.args.rs b (31 - b) (c.args.at + 8) xs) (c.deref.ensures.value ∙ c.in_ok-without.ensures))
-        (omega (arith, l, f))
-        (c.deref-4.ensures.value ∙ c.in_ok-second.ensures.code ∙ ap (λ (xs : List ℕ). tree c.args.rs b (31 - b) (c.args.at + 8 + 4 * c.len.result) xs) (c.deref-2.ensures.value ∙ c.in_ok-with.ensures)))
+    (omega (arith, some)) (sym c.are_alike.ensures ∙ c.if-are_alike.false) (omega (arith, s))
+    (c.deref-3.ensures.value ∙ c.in_ok-first.ensures.code ∙ ap (λ (xs : List ℕ). tree c.args.rs b (31 - b) (c.args.at + 8) xs) (c.deref.ensures.value ∙ c.in_ok-without.ensures))
+    (omega (arith, l, f))
+    (c.deref-4.ensures.value ∙ c.in_ok-second.ensures.code ∙ ap (λ (xs : List ℕ). tree c.args.rs b (31 - b) (c.args.at + 8 + 4 * c.len.result) xs) (c.deref-2.ensures.value ∙ c.in_ok-with.ensures)))
     c.fork.ensures
 
 pub returns-clause-short : goal.returns-clause-short
