@@ -26,7 +26,7 @@ use Rattle.scale_sites.specs.Counters.{AreCounters, counted_loops}
 use Rattle.scale_sites.specs.Sites.{marks_at_edge}
 use Rattle.stub_writer.specs.declared.site.StubBlock.{StubBlock}
 use Rattle.stub_writer.specs.declared.site.StubSite.{StubSite}
-use Rattle.stub_writer.specs.Block.{Block, block_view, block_of, unless_out_of_reach as block_unless_far}
+use Rattle.stub_writer.specs.Block.{Block, block_view, block_of, unless_far as block_unless_far}
 use Rattle.stub_writer.specs.Sites.{site_of}
 use Rattle.stub_writer.specs.Stubs.{Site, block_size, block_bytes, patches_from, out_of_reach, stub_len}
 use Rattle.stored_runs.specs.Stubbed.{AreAscending}
