@@ -19,7 +19,7 @@ use Rattle.table_keys.specs.Keys.{document_of, first_missing, number_at, number_
 abbrev pub top_keys : List (List ℕ)
 top_keys =
     codes "version" ∷ codes "deadline" ∷ codes "steps" ∷ codes "min_gain" ∷ codes "switch_time" ∷ codes "switch_energy"
-    ∷ codes "cost_at_key" ∷ codes "level" ∷ []
+    ∷ codes "cost" ∷ codes "level" ∷ []
 
 abbrev pub cost_keys : List (List ℕ)
 cost_keys =
@@ -34,7 +34,7 @@ abbrev pub in_file : List ℕ
 in_file = []
 
 abbrev pub in_cost : List ℕ
-in_cost = codes "cost_at_key."
+in_cost = codes "cost."
 
 abbrev pub in_level : ℕ → List ℕ
 in_level i = codes "level." ++ decimal i ++ codes "."
@@ -84,12 +84,12 @@ has_shape n rows =
 
 -- the numbers by pair of so many levels: those of the rows, and 0 in each row and column behind the last level
 abbrev pub pair_table : List ℕ → ℕ → SwitchCost → Result PairTable Refusal
-pair_table key n (same cost_at_key) = Ok (uniform cost_at_key)
+pair_table key n (same cost) = Ok (uniform cost)
 pair_table key n (by_pair rows) = if has_shape n rows then Ok (pairs_by (cell rows)) else Err (bad_value in_file key)
 
 -- the table of the costs
 abbrev pub cost_table : Members → Result Members Refusal
-cost_table table = or_refuse (bad_value in_file (codes "cost_at_key")) (option_and_then as_table (get_member (codes "cost_at_key") table))
+cost_table table = or_refuse (bad_value in_file (codes "cost")) (option_and_then as_table (get_member (codes "cost") table))
 
 -- the tables of the levels, 1 to 8 of them
 abbrev pub few_tables : List Members → Option (List Members)
