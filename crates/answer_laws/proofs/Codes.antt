@@ -4,14 +4,14 @@ use Rattle.std.specs.Prelude.{flat_map}
 use Rattle.std.proofs.Math.Path.{fun_ext}
 use Rattle.std.proofs.lemmas.Option.{slice_get_within}
 use Rattle.cost_theory.specs.Graph.{Graph}
-use Rattle.cost_theory.specs.declared.edges.Edge.{Edge}
-use Rattle.cost_theory.specs.declared.edges.Word.{Word}
-use Rattle.cost_theory.specs.declared.edges.Word.TheVariants.{Branch, Goto, CallOf, Back, Ends, MayEnd, Breaks, Straight, Bad}
+use Rattle.scale_base.specs.declared.edges.Edge.{Edge}
+use Rattle.cost_theory.specs.declared.flow.Flow.{Flow}
+use Rattle.cost_theory.specs.declared.flow.Flow.TheVariants as flow
 use Rattle.cost_theory.specs.Reached.{edges_of, Code, number_beside, owner_of, returns_of, edge_at, edge_to, number_or_0, call_returns, callee_of, edge_callee, edge_returns, edge_exits, graph_of, IsCodeOf, HasNoBadWord}
 use Rattle.cost_theory.proofs.Laws.{some_get, callee-call, callee-is}
-use Rattle.graph_runs.specs.Text.{kind_at}
-use Rattle.graph_runs.specs.EdgeCosts.{cost_of, edge_class}
-use Rattle.graph_runs.specs.RunMoves.{text_graph}
+use Rattle.code_text.specs.Text.{kind_at}
+use Rattle.code_text.specs.EdgeCosts.{cost_of, edge_class}
+use Rattle.code_text.specs.TextGraph.{text_graph}
 use Rattle.code_graph.specs.FlowGraph.{graph}
 use Rattle.code_graph.proofs.Laws.{place_or_none, some_is}
 use Rattle.answer_laws.specs.Renumbered.{AreNumberedBy, IsRenumberedGraph}
@@ -33,29 +33,29 @@ beside_none (u ∷ us) (x ∷ xs) v none = go (nat_eq u v) refl (beside_none us 
     go false e later = ap (λ b. cond b x (number_beside us xs v)) e ∙ later
 
 -- what calls, by the lists of functions
-callee_with : (fs fs' : List ℕ) (number : ℕ → ℕ) → ((to : ℕ) → callee_of fs (CallOf to) ≡ option_map number (callee_of fs' (CallOf to))) → (w : Word) → callee_of fs w ≡ option_map number (callee_of fs' w)
-callee_with fs fs' number calls (CallOf to) = calls to
-callee_with fs fs' number calls (Branch to) = refl
-callee_with fs fs' number calls (Goto to) = refl
-callee_with fs fs' number calls Back = refl
-callee_with fs fs' number calls Ends = refl
-callee_with fs fs' number calls MayEnd = refl
-callee_with fs fs' number calls Breaks = refl
-callee_with fs fs' number calls Straight = refl
-callee_with fs fs' number calls Bad = refl
+callee_with : (fs fs' : List ℕ) (number : ℕ → ℕ) → ((to : ℕ) → callee_of fs (flow.Call to) ≡ option_map number (callee_of fs' (flow.Call to))) → (w : Flow) → callee_of fs w ≡ option_map number (callee_of fs' w)
+callee_with fs fs' number calls (flow.Call to) = calls to
+callee_with fs fs' number calls (flow.Branch to) = refl
+callee_with fs fs' number calls (flow.Jump to) = refl
+callee_with fs fs' number calls flow.Return = refl
+callee_with fs fs' number calls flow.Exit = refl
+callee_with fs fs' number calls flow.MayExit = refl
+callee_with fs fs' number calls flow.Breakpoint = refl
+callee_with fs fs' number calls flow.Next = refl
+callee_with fs fs' number calls flow.Refused = refl
 
-returns_with : (code code' : Code) → ((h : ℕ) → returns_of code h ≡ returns_of code' h) → (w : Word) → call_returns code w ≡ call_returns code' w
-returns_with code code' same (CallOf to) = same to
-returns_with code code' same (Branch to) = refl
-returns_with code code' same (Goto to) = refl
-returns_with code code' same Back = refl
-returns_with code code' same Ends = refl
-returns_with code code' same MayEnd = refl
-returns_with code code' same Breaks = refl
-returns_with code code' same Straight = refl
-returns_with code code' same Bad = refl
+returns_with : (code code' : Code) → ((h : ℕ) → returns_of code h ≡ returns_of code' h) → (w : Flow) → call_returns code w ≡ call_returns code' w
+returns_with code code' same (flow.Call to) = same to
+returns_with code code' same (flow.Branch to) = refl
+returns_with code code' same (flow.Jump to) = refl
+returns_with code code' same flow.Return = refl
+returns_with code code' same flow.Exit = refl
+returns_with code code' same flow.MayExit = refl
+returns_with code code' same flow.Breakpoint = refl
+returns_with code code' same flow.Next = refl
+returns_with code code' same flow.Refused = refl
 
-module _ (word : ℕ → Word) (first : ℕ) (code code' : Code) (is : IsCodeOf word first code) (is' : IsCodeOf word first code') where
+module _ (word : ℕ → Flow) (first : ℕ) (code code' : Code) (is : IsCodeOf word first code) (is' : IsCodeOf word first code') where
   pub same_nodes : code.nodes ≡ code'.nodes
   same_nodes = ascending_same code.nodes code'.nodes (λ i j a b. is.ascending i j a b) (λ i j a b. is'.ascending i j a b) (λ v at. (is'.nodes v).1 ((is.nodes v).0 at)) (λ v at. (is.nodes v).1 ((is'.nodes v).0 at))
 
@@ -89,32 +89,32 @@ module _ (word : ℕ → Word) (first : ℕ) (code code' : Code) (is : IsCodeOf 
       here ∙ sym first_number ∙ ap (number_in code code') (sym there))
       (place_or_none code.nodes v)
 
-module _ (word : ℕ → Word) (first : ℕ) (code code' : Code) (is : IsCodeOf word first code) (is' : IsCodeOf word first code') (fine : HasNoBadWord word first) where
+module _ (word : ℕ → Flow) (first : ℕ) (code code' : Code) (is : IsCodeOf word first code) (is' : IsCodeOf word first code') (fine : HasNoBadWord word first) where
   -- a number there and back
   pub number_back : (f : ℕ) → f < length code'.functions → number_in code' code (number_in code code' f) ≡ f
   number_back f lt =
       let h = some_get code'.functions f lt in
       is'.once (number_in code' code (number_in code code' f)) f h.0 (number_at_entry word first code' code is' is (number_in code code' f) h.0 (number_at_entry word first code code' is is' f h.0 h.1)) h.1
 
-  same_call : (to : ℕ) → callee_of code.functions (CallOf to) ≡ option_map (number_in code code') (callee_of code'.functions (CallOf to))
-  same_call to = go (callee_of code'.functions (CallOf to)) refl
+  same_call : (to : ℕ) → callee_of code.functions (flow.Call to) ≡ option_map (number_in code code') (callee_of code'.functions (flow.Call to))
+  same_call to = go (callee_of code'.functions (flow.Call to)) refl
     where
-      entry : (c : Code) (i : ℕ) → callee_of c.functions (CallOf to) ≡ Some i → slice_get c.functions i ≡ Some to
+      entry : (c : Code) (i : ℕ) → callee_of c.functions (flow.Call to) ≡ Some i → slice_get c.functions i ≡ Some to
       entry c i e =
-          let k = callee-call c.functions (CallOf to) i e in
+          let k = callee-call c.functions (flow.Call to) i e in
           let same : to ≡ k.0 = (let q = k.1 in cc) in
           let x = some_get c.functions i k.2 in
           x.1 ∙ ap Some (sym (ap number_or_0 x.1) ∙ k.3 ∙ sym same)
 
-      absent : (o : Option ℕ) → callee_of code.functions (CallOf to) ≡ o → callee_of code'.functions (CallOf to) ≡ None → o ≡ None
+      absent : (o : Option ℕ) → callee_of code.functions (flow.Call to) ≡ o → callee_of code'.functions (flow.Call to) ≡ None → o ≡ None
       absent None e none = refl
       absent (Some i) e none =
           let there = callee-is word first code' is' fine (number_in code' code i) to (number_at_entry word first code' code is' is i to (entry code i e)) in
           let clash : Some (number_in code' code i) ≡ None = sym there ∙ none in
           let bad : ⊥ = cc in absurd bad
 
-      go : (o : Option ℕ) → callee_of code'.functions (CallOf to) ≡ o → callee_of code.functions (CallOf to) ≡ option_map (number_in code code') (callee_of code'.functions (CallOf to))
-      go None e = absent (callee_of code.functions (CallOf to)) refl e ∙ sym (ap (option_map (number_in code code')) e)
+      go : (o : Option ℕ) → callee_of code'.functions (flow.Call to) ≡ o → callee_of code.functions (flow.Call to) ≡ option_map (number_in code code') (callee_of code'.functions (flow.Call to))
+      go None e = absent (callee_of code.functions (flow.Call to)) refl e ∙ sym (ap (option_map (number_in code code')) e)
       go (Some j) e = callee-is word first code is fine (number_in code code' j) to (number_at_entry word first code code' is is' j to (entry code' j e)) ∙ sym (ap (option_map (number_in code code')) e)
 
   same_callee : (o : Option Edge) → edge_callee word code.functions o ≡ option_map (number_in code code') (edge_callee word code'.functions o)
@@ -148,7 +148,7 @@ module _ (word : ℕ → Word) (first : ℕ) (code code' : Code) (is : IsCodeOf 
 abbrev pub IsSeen : Code → Code → Graph → Graph → Type 0
 IsSeen code code' g g' = (r : IsRenumberedGraph g g') × ((f : ℕ) → f < length code'.functions → slice_get code'.functions f ≡ slice_get code.functions (r.number f))
 
-module _ (word : ℕ → Word) (first : ℕ) (code code' : Code) (is : IsCodeOf word first code) (is' : IsCodeOf word first code') (fine : HasNoBadWord word first) where
+module _ (word : ℕ → Flow) (first : ℕ) (code code' : Code) (is : IsCodeOf word first code) (is' : IsCodeOf word first code') (fine : HasNoBadWord word first) where
   pub code_seen : IsSeen code code' (graph_of word code) (graph_of word code')
   code_seen =
       let es = same_edges word first code code' is is' in (

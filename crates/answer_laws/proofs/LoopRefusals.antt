@@ -12,8 +12,8 @@ use Rattle.code_graph.specs.FlowGraph.{FlowGraph, graph, IsFlowGraph}
 use Rattle.code_graph.proofs.Laws.{less_same_more}
 use Rattle.loop_file.specs.declared.notes.LoopNote.{LoopNote}
 use Rattle.loop_file.specs.Kept.{noted_loops, in_extent, note_at}
-use Rattle.natural_loops.specs.Noted.{header_address, IsBodyNode, IsNotedSideEntry}
-use Rattle.natural_loops.specs.Refused.{IsHeaderRefused, IsPairRefused, IsBackEdgeRefused, IsEntryRefused, AreNoted, IsDepthRefused}
+use Rattle.loop_tree.specs.Noted.{header_address, IsBodyNode, IsNotedSideEntry}
+use Rattle.loop_tree.specs.Refused.{IsHeaderRefused, IsPairRefused, IsBackEdgeRefused, IsEntryRefused, AreNoted, IsDepthRefused}
 use Rattle.loop_tree.specs.Tree.{LoopView, loops, IsTreeOf, IsPlainStep, IsCycleRefused, IsTreeRefusal}
 use Rattle.answer_laws.specs.Alike.{AreAlikeRefusals}
 use Rattle.answer_laws.proofs.Numbers.{both_ways, no_cycle}

@@ -2,8 +2,8 @@
 use Rattle.std.proofs.Common.{◌≡◌, ℕ, zero, suc, ◌+◌, ◌<◌, ◌≤◌, Bool, true, false, List, [], ◌∷◌, map, length, Option, Some, None, option_map, slice_get, refl, sym, ap, ◌∙◌, subst, arith, ⊎_elim, ◌⊎◌, inl, inr}
 use Rattle.std.proofs.lemmas.Option.{slice_get-map}
 use Rattle.std.proofs.lemmas.List.{length-map}
-use Rattle.call_orders.specs.Arcs.{number_in_place}
-use Rattle.call_orders.specs.Cycles.{IsCycleBy}
+use Rattle.graph_algorithms.specs.Arcs.{number_in_place}
+use Rattle.graph_algorithms.specs.Cycles.{IsCycleBy}
 use Rattle.code_graph.proofs.Laws.{Ascend, some_is, few_once}
 
 -- tests that hold together are the same

@@ -3,13 +3,13 @@ use Rattle.std.proofs.Common.{◌≡◌, ℕ, ◌<◌, ◌≤◌, Some, None, sy
 use Rattle.scale_base.specs.declared.refusal.Refusal.{Refusal}
 use Rattle.scale_base.specs.declared.refusal.Refusal.TheVariants.{SharedCode}
 use Rattle.cost_theory.specs.Accepted.{IsCall, IsProgram, IsCallOrder}
-use Rattle.cost_theory.specs.declared.edges.Word.TheVariants.{CallOf}
+use Rattle.cost_theory.specs.declared.flow.Flow.TheVariants as flow
 use Rattle.cost_theory.specs.Reached.{Reached, owner_of, callee_of, HasNoBadWord, HasNoSharedCode}
 use Rattle.cost_theory.specs.Reached.Reached.{called}
 use Rattle.cost_theory.proofs.Laws.{some_same, end_edge, callee_word, callee-is, same_owner}
 use Rattle.cost_theory.proofs.Laws as theory
-use Rattle.graph_runs.specs.Text.{Text, kind_at}
-use Rattle.graph_runs.specs.RunMoves.{text_graph}
+use Rattle.code_text.specs.Text.{Text, kind_at}
+use Rattle.code_text.specs.TextGraph.{text_graph}
 use Rattle.code_graph.specs.FlowGraph.{FlowGraph, IsGraphOf}
 use Rattle.code_graph.specs.Refused.{cause_at, IsLeastRefused, IsLeastShared, Calls, IsRecursion, IsRefusedBy}
 use Rattle.code_graph.proofs.Laws.{fine_cause, less_same_more, some_is, entry_reached}
@@ -33,7 +33,7 @@ module _ (t : Text) (v : FlowGraph) (is : IsGraphOf t v) where
   program : IsProgram (text_graph t v.code)
   program = subst IsProgram (sym is.graph_is) is.flow.program
 
-  call_is : (f h u : ℕ) → Reached (kind_at t) t.entry f u → kind_at t u ≡ CallOf h → IsCall (text_graph t v.code) u (owner_of v.code h)
+  call_is : (f h u : ℕ) → Reached (kind_at t) t.entry f u → kind_at t u ≡ flow.Call h → IsCall (text_graph t v.code) u (owner_of v.code h)
   call_is f h u reached calls =
       let word = kind_at t in
       let lists = is.reached.lists in

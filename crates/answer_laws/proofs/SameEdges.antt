@@ -1,8 +1,8 @@
 -- A graph that is numbered anew, by the edges of the first: what doesn't go by numbers of functions is then the same by computation.
 use Rattle.std.proofs.Common.{◌≡◌, ℕ, ◌<◌, Bool, false, List, Option, Some, sym, ap, ◌∙◌, subst, ⊎_elim, inl, inr}
 use Rattle.cost_theory.specs.Graph.{Graph, Loops}
-use Rattle.cost_theory.specs.declared.edges.Edge.{Edge}
-use Rattle.cost_theory.specs.declared.edges.Word.{Word}
+use Rattle.scale_base.specs.declared.edges.Edge.{Edge}
+use Rattle.cost_theory.specs.declared.flow.Flow.{Flow}
 use Rattle.scale_base.specs.declared.stepping.Class.{Class}
 use Rattle.cost_theory.specs.Accepted.{IsInBody, IsSideEntry, AreEntered, AreAccepted}
 use Rattle.code_graph.specs.FlowGraph.{FlowGraph, graph}
@@ -32,7 +32,7 @@ lists_same : (v v' : FlowGraph) → IsRenumbered v v' → with_lists v v' ≡ v'
 lists_same v v' r =
     ap {B = FlowGraph} (λ (x : List ℕ). record v' { code = record v'.code { nodes = x; edges = v.code.edges }; kinds = v.kinds; classes = v.classes }) r.nodes ∙
     ap {B = FlowGraph} (λ (x : List Edge). record v' { code = record v'.code { edges = x }; kinds = v.kinds; classes = v.classes }) r.edges ∙
-    ap {B = FlowGraph} (λ (x : List Word). record v' { kinds = x; classes = v.classes }) r.kinds ∙
+    ap {B = FlowGraph} (λ (x : List Flow). record v' { kinds = x; classes = v.classes }) r.kinds ∙
     ap {B = FlowGraph} (λ (x : List (Option Class)). record v' { classes = x }) r.classes
 
 pub by_lists : (v v' : FlowGraph) (P : FlowGraph → Type 0) → ((x : FlowGraph) → IsRenumberedGraph (graph v) (graph (with_lists v x)) → P (with_lists v x)) → IsRenumbered v v' → P v'

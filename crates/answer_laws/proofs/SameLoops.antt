@@ -4,8 +4,8 @@ use Rattle.scale_base.specs.declared.refusal.Refusal.{Refusal}
 use Rattle.code_graph.specs.FlowGraph.{FlowGraph, graph}
 use Rattle.loop_file.specs.declared.notes.LoopNote.{LoopNote}
 use Rattle.loop_file.specs.Kept.{noted_loops, in_extent, note_at}
-use Rattle.natural_loops.specs.Noted.{header_address, IsBodyNode, HasBackEdge, IsNotedSideEntry}
-use Rattle.natural_loops.specs.Refused.{AreHeaders}
+use Rattle.loop_tree.specs.Noted.{header_address, IsBodyNode, HasBackEdge, IsNotedSideEntry}
+use Rattle.loop_tree.specs.Refused.{AreHeaders}
 use Rattle.loop_tree.specs.Tree.{LoopView, loops, IsTreeOf, IsTreeRefusal}
 use Rattle.answer_laws.specs.Renumbered.{IsRenumberedGraph, IsRenumbered}
 use Rattle.answer_laws.proofs.SameEdges.{with_lists, by_lists, body_from, body_to, entry_from, entry_to, entered_from, accepted_from}

@@ -10,8 +10,8 @@ use Rattle.cost_theory.specs.Lists.{body_of, is_among}
 use Rattle.code_graph.specs.FlowGraph.{FlowGraph, IsFlowGraph}
 use Rattle.loop_file.specs.declared.notes.LoopNote.{LoopNote}
 use Rattle.loop_file.specs.Kept.{noted_loops}
-use Rattle.natural_loops.specs.Noted.{node_address}
-use Rattle.natural_loops.proofs.Laws.{one_number}
+use Rattle.loop_tree.specs.Noted.{node_address}
+use Rattle.loop_tree.proofs.Laws.{one_number}
 use Rattle.loop_tree.specs.Tree.{LoopView, loops, HasWholeExtent, IsTreeOf}
 use Rattle.answer_laws.specs.Laws.{TreeIsNotRefused, LoopRefusalsAgree, TreesAgree}
 use Rattle.answer_laws.proofs.SameLoops.{tree_moved, refusal_moved, loops_moved}

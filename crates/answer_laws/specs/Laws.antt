@@ -5,8 +5,8 @@ use Rattle.scale_base.specs.declared.stepping.Class.{Class}
 use Rattle.cost_theory.specs.Worst.{Numbers, AreNumbers}
 use Rattle.cost_theory.specs.Accepted.{AreWeights}
 use Rattle.least_laws.specs.Charged.{Charged, AreCharged}
-use Rattle.graph_runs.specs.Text.{Text}
-use Rattle.graph_runs.specs.EdgeCosts.{weights}
+use Rattle.code_text.specs.Text.{Text}
+use Rattle.code_text.specs.EdgeCosts.{weights}
 use Rattle.code_graph.specs.FlowGraph.{FlowGraph, graph, IsFlowGraph, IsGraphOf}
 use Rattle.code_graph.specs.Refused.{IsRefusedBy}
 use Rattle.loop_file.specs.declared.notes.LoopNote.{LoopNote}

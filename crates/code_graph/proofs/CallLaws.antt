@@ -4,8 +4,8 @@ use Rattle.std.specs.Prelude.{slice_get}
 use Rattle.std.proofs.lemmas.Option.{slice_get_within, slice_get-get_or, get_or_from_slice_get}
 use Rattle.std.proofs.lemmas.Bool.{cases_lt}
 use Rattle.cost_theory.proofs.Laws.{below_suc}
-use Rattle.call_orders.specs.declared.Arc.{Arc}
-use Rattle.call_orders.specs.Arcs.{HasArc, arc_at, AreNumbered, IsCycle}
+use Rattle.graph_algorithms.specs.declared.orders.Arc.{Arc}
+use Rattle.graph_algorithms.specs.Arcs.{HasArc, arc_at, AreNumbered, IsCycle}
 use Rattle.code_graph.specs.Assembling.{HasCall, AreCallArcs, AreCallsWithin}
 use Rattle.code_graph.proofs.Lists.{get_left, get_end, get_pushed, some_is}
 

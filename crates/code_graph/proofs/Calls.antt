@@ -3,18 +3,18 @@ use Rattle.std.proofs.Common.{◌≡◌, ℕ, ◌+◌, ◌<◌, Bool, List, [], 
 use Rattle.std.specs.Prelude.{slice_get, slice_index}
 use Rattle.std.proofs.lemmas.List.{length-map}
 use Rattle.std.proofs.lemmas.Option.{slice_get_within, slice_get-get_or, get_or_from_slice_get, slice_get-map}
-use Rattle.cost_theory.specs.declared.edges.Edge.{Edge}
-use Rattle.cost_theory.specs.declared.edges.Word.{Word}
-use Rattle.cost_theory.specs.declared.edges.Word.TheVariants.{CallOf}
+use Rattle.scale_base.specs.declared.edges.Edge.{Edge}
+use Rattle.cost_theory.specs.declared.flow.Flow.{Flow}
+use Rattle.cost_theory.specs.declared.flow.Flow.TheVariants as flow
 use Rattle.cost_theory.specs.Accepted.{IsCall, AreCalls, HasNoRecursion, IsProgram}
 use Rattle.cost_theory.specs.Reached.{Reached, graph_of, callee_of, owner_of, edge_at}
 use Rattle.cost_theory.proofs.Laws.{some_get, callee_word, is_program, edge_node}
-use Rattle.call_orders.specs.declared.Arc.{Arc}
-use Rattle.call_orders.specs.Arcs.{HasArc, HasNoCycle, Leads, AreDistinct, IsSorted, IsCycle}
-use Rattle.call_orders.specs.Arcs.Leads.{along, onward}
-use Rattle.call_orders.specs.Cycles.{IsCycleBy}
-use Rattle.call_orders.proofs.Laws.{IsRound, cycle_turned}
-use Rattle.graph_runs.specs.Text.{Text, kind_at}
+use Rattle.graph_algorithms.specs.declared.orders.Arc.{Arc}
+use Rattle.graph_algorithms.specs.Arcs.{HasArc, HasNoCycle, Leads, AreDistinct, IsSorted, IsCycle}
+use Rattle.graph_algorithms.specs.Arcs.Leads.{along, onward}
+use Rattle.graph_algorithms.specs.Cycles.{IsCycleBy}
+use Rattle.graph_algorithms.proofs.Laws.{IsRound, cycle_turned}
+use Rattle.code_text.specs.Text.{Text, kind_at}
 use Rattle.code_reach.specs.Reach.{Reach}
 use Rattle.code_graph.specs.FlowGraph.{AreCalleesFirst}
 use Rattle.code_graph.specs.Refused.{Calls}
@@ -37,10 +37,10 @@ pub record IsCallOf (t : Text) (entries : List ℕ) (f h : ℕ) : Type 0 where
   pub caller : slice_get entries f ≡ Some from
   pub callee : slice_get entries h ≡ Some to
   pub reached : Reached (kind_at t) t.entry from site
-  pub calls : kind_at t site ≡ CallOf to
+  pub calls : kind_at t site ≡ flow.Call to
 
-module _ (t : Text) (r : Reach) (nodes : List ℕ) (kinds : List Word) (owners entries : List ℕ) (returning : List Bool) (callees : List (Option ℕ)) (are : AreParts t r nodes kinds owners entries returning callees) where
-  callee_stands : (k : ℕ) (w : Word) → slice_get kinds k ≡ Some w → slice_get callees k ≡ Some (callee_of entries w)
+module _ (t : Text) (r : Reach) (nodes : List ℕ) (kinds : List Flow) (owners entries : List ℕ) (returning : List Bool) (callees : List (Option ℕ)) (are : AreParts t r nodes kinds owners entries returning callees) where
+  callee_stands : (k : ℕ) (w : Flow) → slice_get kinds k ≡ Some w → slice_get callees k ≡ Some (callee_of entries w)
   callee_stands k w at =
       ap (λ xs. slice_get xs k) (are.callees_are ∙ ap (λ xs. map (callee_of xs) kinds) (sym are.entries_are)) ∙ slice_get-map (callee_of entries) kinds k ∙ rw at refl
 

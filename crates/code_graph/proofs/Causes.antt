@@ -7,11 +7,11 @@ use Rattle.std.proofs.lemmas.Bool.{ltb-true, ltb-false, cond-true, cond-false, n
 use Rattle.scale_base.specs.declared.instruction.Instr.{Instr}
 use Rattle.scale_base.specs.declared.instruction.Instr.TheVariants as instr
 use Rattle.scale_base.specs.declared.refusal.Refusal.TheVariants.{MisalignedTarget, OutsideText}
-use Rattle.cost_theory.specs.declared.edges.Word.TheVariants.{Bad}
-use Rattle.graph_runs.specs.Text.{Text, text_of, is_text_address, instr_at, kind_at, word_kind, jal_kind, ecall_kind, known}
+use Rattle.cost_theory.specs.declared.flow.Flow.TheVariants as flow
+use Rattle.code_text.specs.Text.{Text, text_of, is_text_address, instr_at, kind_at, word_kind, jal_kind, ecall_kind, known}
 use Rattle.scale_base.specs.Image.{Image, image_of, is_in, is_word_address, text_word}
 use Rattle.scale_base.specs.Reading.{instr_of}
-use Rattle.graph_runs.proofs.Laws.{kind_facts, instruction_stored}
+use Rattle.code_text.proofs.Laws.{kind_facts, instruction_stored}
 use Rattle.code_graph.specs.Refused.{cause_at, instr_cause}
 
 both : (a b : Bool) → a ≡ true → b ≡ true → (a && b) ≡ true
@@ -21,13 +21,13 @@ below_two : (n : ℕ) → n < 2 → (n ≡ 0) ⊎ (n ≡ 1)
 below_two n lt = grind arith
 
 -- the link register of a JAL
-jal_taken : (rd to : ℕ) → nat_lt rd 2 ≡ true → jal_kind rd to ≢ Bad
+jal_taken : (rd to : ℕ) → nat_lt rd 2 ≡ true → jal_kind rd to ≢ flow.Refused
 jal_taken rd to small = ⊎_elim
-    (λ (e : rd ≡ 0). subst (λ r. jal_kind r to ≢ Bad) (sym e) (λ bad. let no_way : ⊥ = cc in no_way))
-    (λ (e : rd ≡ 1). subst (λ r. jal_kind r to ≢ Bad) (sym e) (λ bad. let no_way : ⊥ = cc in no_way))
+    (λ (e : rd ≡ 0). subst (λ r. jal_kind r to ≢ flow.Refused) (sym e) (λ bad. let no_way : ⊥ = cc in no_way))
+    (λ (e : rd ≡ 1). subst (λ r. jal_kind r to ≢ flow.Refused) (sym e) (λ bad. let no_way : ⊥ = cc in no_way))
     (below_two rd (ltb-true rd 2 small))
 
-jal_refused : (rd to : ℕ) → nat_lt rd 2 ≡ false → jal_kind rd to ≡ Bad
+jal_refused : (rd to : ℕ) → nat_lt rd 2 ≡ false → jal_kind rd to ≡ flow.Refused
 jal_refused rd to big =
     let high = ltb-false rd 2 big in
     let other : (rd == 0) ≡ false = go (rd == 0) refl (λ e. let r : rd ≡ 0 = eqb-true rd 0 e in let bad : ⊥ = omega arith in bad) in
@@ -39,7 +39,7 @@ jal_refused rd to big =
     go false e none = refl
 
 -- where the word is refused its instruction has a cause, and else none
-pub bad_cause : (t : Text) (v : ℕ) (o : Option Instr) → word_kind t v o ≡ Bad → instr_cause v o ≢ None
+pub bad_cause : (t : Text) (v : ℕ) (o : Option Instr) → word_kind t v o ≡ flow.Refused → instr_cause v o ≢ None
 bad_cause t v None bad none = let no_way : ⊥ = cc in no_way
 bad_cause t v (Some (instr.Jal rd offset)) bad none = go (nat_lt rd 2) refl none
   where
@@ -54,7 +54,7 @@ bad_cause t v (Some (instr.Jalr rd rs1 offset)) bad none = go ((rd == 0) && (rs1
 bad_cause t v (Some (instr.Branch op rs1 rs2 offset)) bad none = let no_way : ⊥ = cc in no_way
 bad_cause t v (Some instr.Ecall) bad none = ecall (known t v) bad
   where
-    ecall : (o : Option ℕ) → ecall_kind o ≡ Bad → ⊥
+    ecall : (o : Option ℕ) → ecall_kind o ≡ flow.Refused → ⊥
     ecall None e = let no_way : ⊥ = cc in no_way
     ecall (Some k) e = go ((k == 93) || (k == 94)) refl
       where
@@ -63,7 +63,7 @@ bad_cause t v (Some instr.Ecall) bad none = ecall (known t v) bad
         go false is = let on = sym (cond-false _ _ _ is) ∙ e in let no_way : ⊥ = cc in no_way
 bad_cause t v (Some i) bad none = let no_way : ⊥ = cc in no_way
 
-pub no_cause : (t : Text) (v : ℕ) (o : Option Instr) → word_kind t v o ≢ Bad → instr_cause v o ≡ None
+pub no_cause : (t : Text) (v : ℕ) (o : Option Instr) → word_kind t v o ≢ flow.Refused → instr_cause v o ≡ None
 no_cause t v None fine = absurd (fine refl)
 no_cause t v (Some (instr.Jal rd offset)) fine = go (nat_lt rd 2) refl
   where
@@ -94,7 +94,7 @@ unfolding kind_at
 kind_of_word t v four here = cond-true _ _ _ (both (v % 4 == 0) (is_text_address t v) (eq-eqb (v % 4) 0 four) here)
 
 -- what isn't refused has no cause
-pub fine_cause : (t : Text) (v : ℕ) → kind_at t v ≢ Bad → cause_at t v ≡ None
+pub fine_cause : (t : Text) (v : ℕ) → kind_at t v ≢ flow.Refused → cause_at t v ≡ None
 fine_cause t v fine =
     let is = kind_facts t v fine in
     cause_of_word t v is.0 is.1 ∙ no_cause t v (instr_at t v) (λ bad. fine (kind_of_word t v is.0 is.1 ∙ bad))
@@ -118,7 +118,7 @@ cause_stored image at w o whole stored read =
     let here = stored_in image at w stored in
     cause_of_word (text_of image) at here.0 here.1 ∙ ap (instr_cause at) (instr_stored image at w o whole stored read)
 
-pub bad_stored : (image : Image) (at w : ℕ) (o : Option Instr) → image_of image.file ≡ Ok image → text_word image at ≡ Some w → o ≡ instr_of w → kind_at (text_of image) at ≡ Bad → instr_cause at o ≢ None
+pub bad_stored : (image : Image) (at w : ℕ) (o : Option Instr) → image_of image.file ≡ Ok image → text_word image at ≡ Some w → o ≡ instr_of w → kind_at (text_of image) at ≡ flow.Refused → instr_cause at o ≢ None
 bad_stored image at w o whole stored read bad =
     let here = stored_in image at w stored in
     bad_cause (text_of image) at o (ap (word_kind (text_of image) at) (sym (instr_stored image at w o whole stored read)) ∙ sym (kind_of_word (text_of image) at here.0 here.1) ∙ bad)

@@ -6,28 +6,28 @@ use Rattle.std.proofs.lemmas.Bool.{cases_lt}
 use Rattle.std.proofs.lemmas.List.{take_more, take_all}
 use Rattle.std.proofs.lemmas.Grind.{flat_map-append}
 use Rattle.std.proofs.lemmas.Option.{slice_get_within, slice_get-get_or, get_or_from_slice_get, slice_get-map}
-use Rattle.cost_theory.specs.declared.edges.Edge.{Edge}
-use Rattle.cost_theory.specs.declared.edges.EdgeKind.{EdgeKind}
-use Rattle.cost_theory.specs.declared.edges.EdgeKind.TheVariants.{Taken, Untaken, Jump, Next, CallNext, End}
-use Rattle.cost_theory.specs.declared.edges.Word.{Word}
-use Rattle.cost_theory.specs.declared.edges.Word.TheVariants.{Branch, Goto, CallOf, Back, Ends, MayEnd, Breaks, Straight, Bad}
+use Rattle.scale_base.specs.declared.edges.Edge.{Edge}
+use Rattle.scale_base.specs.declared.edges.EdgeKind.{EdgeKind}
+use Rattle.scale_base.specs.declared.edges.EdgeKind.TheVariants.{Taken, Untaken, Jump, Next, CallNext, End}
+use Rattle.cost_theory.specs.declared.flow.Flow.{Flow}
+use Rattle.cost_theory.specs.declared.flow.Flow.TheVariants as flow
 use Rattle.cost_theory.specs.Reached.{edge_at, edges_of}
 use Rattle.cost_theory.proofs.Laws.{below_suc, some_get, Within, edges-at}
 use Rattle.code_graph.specs.Assembling.{flag_at, AreEdgesOf}
 use Rattle.code_graph.specs.Stored.{AreFirsts}
 use Rattle.code_graph.proofs.Lists.{get_left, get_end, get_more, length_pushed}
 
-pub few_edges : (w : Word) (v : ℕ) (b : Bool) → length (edges_of w v b) ≤ 2
-few_edges (Branch to) v b = omega arith
-few_edges (Goto to) v b = omega arith
-few_edges (CallOf to) v true = omega arith
-few_edges (CallOf to) v false = omega arith
-few_edges Back v b = omega arith
-few_edges Ends v b = omega arith
-few_edges MayEnd v b = omega arith
-few_edges Breaks v b = omega arith
-few_edges Straight v b = omega arith
-few_edges Bad v b = omega arith
+pub few_edges : (w : Flow) (v : ℕ) (b : Bool) → length (edges_of w v b) ≤ 2
+few_edges (flow.Branch to) v b = omega arith
+few_edges (flow.Jump to) v b = omega arith
+few_edges (flow.Call to) v true = omega arith
+few_edges (flow.Call to) v false = omega arith
+few_edges flow.Return v b = omega arith
+few_edges flow.Exit v b = omega arith
+few_edges flow.MayExit v b = omega arith
+few_edges flow.Breakpoint v b = omega arith
+few_edges flow.Next v b = omega arith
+few_edges flow.Refused v b = omega arith
 
 of_another : (x : Edge) (k : EdgeKind) (v to : ℕ) → record { at = v; kind = k; to = to } ≡ x → x.kind ≡ Next → (k ≡ Next → ⊥) → x.to ≡ x.at + 4
 of_another x k v to e kind apart = absurd (apart (ap (λ (y : Edge). y.kind) e ∙ kind))
@@ -36,17 +36,17 @@ goes_on : (x : Edge) (v : ℕ) → record { at = v; kind = Next; to = v + 4 } �
 goes_on x v e = subst (λ (y : Edge). y.to ≡ y.at + 4) e refl
 
 -- an edge of kind Next leads to the word behind
-pub next_leads : (w : Word) (v : ℕ) (b : Bool) (x : Edge) → Within x (edges_of w v b) → x.kind ≡ Next → x.to ≡ x.at + 4
-next_leads (Branch to) v b x h kind = ⊎_elim (λ e. of_another x Taken v to e kind (λ q. let bad : ⊥ = cc in bad)) (λ r. ⊎_elim (λ e. of_another x Untaken v (v + 4) e kind (λ q. let bad : ⊥ = cc in bad)) (λ n. absurd n) r) h
-next_leads (Goto to) v b x h kind = ⊎_elim (λ e. of_another x Jump v to e kind (λ q. let bad : ⊥ = cc in bad)) (λ n. absurd n) h
-next_leads (CallOf to) v true x h kind = ⊎_elim (λ e. of_another x CallNext v (v + 4) e kind (λ q. let bad : ⊥ = cc in bad)) (λ r. ⊎_elim (λ e. of_another x End v v e kind (λ q. let bad : ⊥ = cc in bad)) (λ n. absurd n) r) h
-next_leads (CallOf to) v false x h kind = ⊎_elim (λ e. of_another x End v v e kind (λ q. let bad : ⊥ = cc in bad)) (λ n. absurd n) h
-next_leads Back v b x h kind = ⊎_elim (λ e. of_another x End v v e kind (λ q. let bad : ⊥ = cc in bad)) (λ n. absurd n) h
-next_leads Ends v b x h kind = ⊎_elim (λ e. of_another x End v v e kind (λ q. let bad : ⊥ = cc in bad)) (λ n. absurd n) h
-next_leads MayEnd v b x h kind = ⊎_elim (λ e. goes_on x v e) (λ r. ⊎_elim (λ e. of_another x End v v e kind (λ q. let bad : ⊥ = cc in bad)) (λ n. absurd n) r) h
-next_leads Breaks v b x h kind = ⊎_elim (λ e. of_another x End v v e kind (λ q. let bad : ⊥ = cc in bad)) (λ n. absurd n) h
-next_leads Straight v b x h kind = ⊎_elim (λ e. goes_on x v e) (λ n. absurd n) h
-next_leads Bad v b x h kind = absurd h
+pub next_leads : (w : Flow) (v : ℕ) (b : Bool) (x : Edge) → Within x (edges_of w v b) → x.kind ≡ Next → x.to ≡ x.at + 4
+next_leads (flow.Branch to) v b x h kind = ⊎_elim (λ e. of_another x Taken v to e kind (λ q. let bad : ⊥ = cc in bad)) (λ r. ⊎_elim (λ e. of_another x Untaken v (v + 4) e kind (λ q. let bad : ⊥ = cc in bad)) (λ n. absurd n) r) h
+next_leads (flow.Jump to) v b x h kind = ⊎_elim (λ e. of_another x Jump v to e kind (λ q. let bad : ⊥ = cc in bad)) (λ n. absurd n) h
+next_leads (flow.Call to) v true x h kind = ⊎_elim (λ e. of_another x CallNext v (v + 4) e kind (λ q. let bad : ⊥ = cc in bad)) (λ r. ⊎_elim (λ e. of_another x End v v e kind (λ q. let bad : ⊥ = cc in bad)) (λ n. absurd n) r) h
+next_leads (flow.Call to) v false x h kind = ⊎_elim (λ e. of_another x End v v e kind (λ q. let bad : ⊥ = cc in bad)) (λ n. absurd n) h
+next_leads flow.Return v b x h kind = ⊎_elim (λ e. of_another x End v v e kind (λ q. let bad : ⊥ = cc in bad)) (λ n. absurd n) h
+next_leads flow.Exit v b x h kind = ⊎_elim (λ e. of_another x End v v e kind (λ q. let bad : ⊥ = cc in bad)) (λ n. absurd n) h
+next_leads flow.MayExit v b x h kind = ⊎_elim (λ e. goes_on x v e) (λ r. ⊎_elim (λ e. of_another x End v v e kind (λ q. let bad : ⊥ = cc in bad)) (λ n. absurd n) r) h
+next_leads flow.Breakpoint v b x h kind = ⊎_elim (λ e. of_another x End v v e kind (λ q. let bad : ⊥ = cc in bad)) (λ n. absurd n) h
+next_leads flow.Next v b x h kind = ⊎_elim (λ e. goes_on x v e) (λ n. absurd n) h
+next_leads flow.Refused v b x h kind = absurd h
 
 -- ---- the numbers of first edges
 
@@ -152,14 +152,14 @@ mapped_at f xs ys k x y lt same =
     get_or_from_slice_get ys k (f (get_or xs k x)) y (ap (λ zs. slice_get zs k) same ∙ slice_get-map f xs k ∙ rw (slice_get-get_or xs k x lt) refl)
 
 -- a node further
-module _ (nodes : List ℕ) (kinds : List Word) (callees : List (Option ℕ)) (returning : List Bool) (k : ℕ) (edges new : List Edge) (b : Bool)
-    (lt : k < length nodes) (flag : b ≡ flag_at returning (get_or callees k None)) (more : new ≡ edges ++ edges_of (get_or kinds k (Branch 0)) (get_or nodes k 0) b) where
+module _ (nodes : List ℕ) (kinds : List Flow) (callees : List (Option ℕ)) (returning : List Bool) (k : ℕ) (edges new : List Edge) (b : Bool)
+    (lt : k < length nodes) (flag : b ≡ flag_at returning (get_or callees k None)) (more : new ≡ edges ++ edges_of (get_or kinds k (flow.Branch 0)) (get_or nodes k 0) b) where
   pub edges_next : length kinds ≡ length nodes → AreEdgesOf k nodes kinds callees returning edges → AreEdgesOf (k + 1) nodes kinds callees returning new
   edges_next size are = record {
     edges_are = λ word words callee called.
-        let w : get_or kinds k (Branch 0) ≡ word (get_or nodes k 0) = mapped_at word nodes kinds k 0 (Branch 0) lt words in
-        let c : get_or callees k None ≡ callee (word (get_or nodes k 0)) = mapped_at callee kinds callees k (Branch 0) None (omega arith) called ∙ ap callee w in
-        more ∙ ap (λ es. es ++ edges_of (get_or kinds k (Branch 0)) (get_or nodes k 0) b) (are.edges_are word words callee called)
+        let w : get_or kinds k (flow.Branch 0) ≡ word (get_or nodes k 0) = mapped_at word nodes kinds k 0 (flow.Branch 0) lt words in
+        let c : get_or callees k None ≡ callee (word (get_or nodes k 0)) = mapped_at callee kinds callees k (flow.Branch 0) None (omega arith) called ∙ ap callee w in
+        more ∙ ap (λ es. es ++ edges_of (get_or kinds k (flow.Branch 0)) (get_or nodes k 0) b) (are.edges_are word words callee called)
         ∙ ap (λ e. flat_map (λ v. edges_of (word v) v (flag_at returning (callee (word v)))) (take k nodes) ++ edges_of e (get_or nodes k 0) b) w
         ∙ ap (λ r. flat_map (λ v. edges_of (word v) v (flag_at returning (callee (word v)))) (take k nodes) ++ edges_of (word (get_or nodes k 0)) (get_or nodes k 0) r) (flag ∙ ap (flag_at returning) c)
         ∙ flat_map_next (λ v. edges_of (word v) v (flag_at returning (callee (word v)))) nodes k 0 lt;
@@ -167,20 +167,20 @@ module _ (nodes : List ℕ) (kinds : List Word) (callees : List (Option ℕ)) (r
 
   pub firsts_next : (firsts firsts' : List ℕ) (n : ℕ) → AreFirsts k nodes edges firsts → n ≡ length new → firsts' ≡ firsts ++ n ∷ [] → AreFirsts (k + 1) nodes new firsts'
   firsts_next firsts firsts' n are size pushed =
-      let next = firsts_more k nodes edges firsts (edges_of (get_or kinds k (Branch 0)) (get_or nodes k 0) b) are (λ x at. edges-at (get_or kinds k (Branch 0)) (get_or nodes k 0) b x at) in
+      let next = firsts_more k nodes edges firsts (edges_of (get_or kinds k (flow.Branch 0)) (get_or nodes k 0) b) are (λ x at. edges-at (get_or kinds k (flow.Branch 0)) (get_or nodes k 0) b x at) in
       subst (λ fs. AreFirsts (k + 1) nodes new fs) (sym (pushed ∙ ap (λ m. firsts ++ m ∷ []) size))
       (subst (λ es. AreFirsts (k + 1) nodes es (firsts ++ length es ∷ [])) (sym more) next)
 
   pub few_next : length edges ≤ 2 * k → length new ≤ 2 * (k + 1)
   few_next few =
-      let size : length new ≡ length edges + length (edges_of (get_or kinds k (Branch 0)) (get_or nodes k 0) b) = ap length more ∙ length-append edges (edges_of (get_or kinds k (Branch 0)) (get_or nodes k 0) b) in
-      let two = few_edges (get_or kinds k (Branch 0)) (get_or nodes k 0) b in
+      let size : length new ≡ length edges + length (edges_of (get_or kinds k (flow.Branch 0)) (get_or nodes k 0) b) = ap length more ∙ length-append edges (edges_of (get_or kinds k (flow.Branch 0)) (get_or nodes k 0) b) in
+      let two = few_edges (get_or kinds k (flow.Branch 0)) (get_or nodes k 0) b in
       omega arith
 
-pub edges_start : (nodes : List ℕ) (kinds : List Word) (callees : List (Option ℕ)) (returning : List Bool) → AreEdgesOf 0 nodes kinds callees returning []
+pub edges_start : (nodes : List ℕ) (kinds : List Flow) (callees : List (Option ℕ)) (returning : List Bool) → AreEdgesOf 0 nodes kinds callees returning []
 edges_start nodes kinds callees returning = record { edges_are = λ word words callee called. refl }
 
-pub edges_whole : (n : ℕ) (nodes : List ℕ) (kinds : List Word) (callees : List (Option ℕ)) (returning : List Bool) (edges : List Edge) → length nodes ≡ n → AreEdgesOf n nodes kinds callees returning edges →
-    (word : ℕ → Word) → kinds ≡ map word nodes → (callee : Word → Option ℕ) → callees ≡ map callee kinds → edges ≡ flat_map (λ v. edges_of (word v) v (flag_at returning (callee (word v)))) nodes
+pub edges_whole : (n : ℕ) (nodes : List ℕ) (kinds : List Flow) (callees : List (Option ℕ)) (returning : List Bool) (edges : List Edge) → length nodes ≡ n → AreEdgesOf n nodes kinds callees returning edges →
+    (word : ℕ → Flow) → kinds ≡ map word nodes → (callee : Flow → Option ℕ) → callees ≡ map callee kinds → edges ≡ flat_map (λ v. edges_of (word v) v (flag_at returning (callee (word v)))) nodes
 edges_whole n nodes kinds callees returning edges size are word words callee called =
     are.edges_are word words callee called ∙ ap (flat_map (λ v. edges_of (word v) v (flag_at returning (callee (word v))))) (take_all n nodes (omega arith))

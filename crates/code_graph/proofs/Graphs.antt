@@ -3,8 +3,8 @@ use Rattle.std.proofs.Common.{◌≡◌, ℕ, ◌+◌, ◌<◌, ◌≤◌, List,
 use Rattle.std.specs.Prelude.{slice_get}
 use Rattle.std.proofs.lemmas.Option.{slice_get_within, slice_get-get_or, slice_get-map, slice_get_read}
 use Rattle.std.proofs.lemmas.List.{length-map}
-use Rattle.cost_theory.specs.declared.edges.Word.{Word}
-use Rattle.cost_theory.specs.declared.edges.Edge.{Edge}
+use Rattle.cost_theory.specs.declared.flow.Flow.{Flow}
+use Rattle.scale_base.specs.declared.edges.Edge.{Edge}
 use Rattle.cost_theory.specs.Accepted.{IsNode}
 use Rattle.cost_theory.specs.Reached.{edge_at, edge_to, edge_callee, callee_of, owner_of}
 use Rattle.cost_theory.proofs.Laws.{callee_word}
@@ -25,14 +25,14 @@ source_node v e is lt = (is.nodes (edge_at (slice_get v.code.edges e))).1 (e, lt
 
 module _ (v : FlowGraph) (callees : List (Option ℕ)) (firsts sources : List ℕ) (targets : List (Option ℕ)) (is : IsStoredGraph v callees firsts sources targets) where
   -- the word of the node at which an edge starts
-  pub stored_word : (k a : ℕ) (w : Word) → slice_get v.code.nodes k ≡ Some a → slice_get v.kinds k ≡ Some w → w ≡ word_beside v.code.nodes v.kinds a
+  pub stored_word : (k a : ℕ) (w : Flow) → slice_get v.code.nodes k ≡ Some a → slice_get v.kinds k ≡ Some w → w ≡ word_beside v.code.nodes v.kinds a
   stored_word k a w at beside = sym (word_beside-get v.code.nodes v.kinds k a w (once_nodes v is.flow) at beside)
 
   pub stored_callee : (e k : ℕ) (c : Option ℕ) → e < length v.code.edges → slice_get v.code.nodes k ≡ Some (edge_at (slice_get v.code.edges e)) → slice_get callees k ≡ Some c →
       c ≡ edge_callee (word_beside v.code.nodes v.kinds) v.code.functions (slice_get v.code.edges e)
   stored_callee e k c lt at beside =
       let kl : k < length v.kinds = (let h = slice_get_within v.code.nodes k _ at in let s = is.kinds in omega arith) in
-      let w : Word = get_or v.kinds k (word_beside v.code.nodes v.kinds 0) in
+      let w : Flow = get_or v.kinds k (word_beside v.code.nodes v.kinds 0) in
       let kind : slice_get v.kinds k ≡ Some w = slice_get-get_or v.kinds k (word_beside v.code.nodes v.kinds 0) kl in
       let called : Some c ≡ Some (callee_of v.code.functions w) = sym beside ∙ ap (λ xs. slice_get xs k) is.callees_are ∙ slice_get-map (callee_of v.code.functions) v.kinds k ∙ rw kind refl in
       some_is c (callee_of v.code.functions w) called ∙ ap (callee_of v.code.functions) (stored_word k (edge_at (slice_get v.code.edges e)) w at kind) ∙

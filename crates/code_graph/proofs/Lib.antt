@@ -1,4 +1,3 @@
-pub mod NodeEdges
 pub mod Lists
 pub mod Graphs
 pub mod StepLaws

@@ -3,7 +3,7 @@ use Rattle.std.proofs.Common.{◌≡◌, ℕ, zero, suc, ◌+◌, ◌<◌, ◌�
 use Rattle.std.specs.Prelude.{slice_get}
 use Rattle.std.proofs.lemmas.Bool.{cases_eq}
 use Rattle.std.proofs.lemmas.Option.{slice_get_within, slice_get-get_or, get_or_from_slice_get}
-use Rattle.cost_theory.specs.declared.edges.Word.{Word}
+use Rattle.cost_theory.specs.declared.flow.Flow.{Flow}
 use Rattle.cost_theory.specs.Reached.{number_beside, flag_beside, if_true}
 use Rattle.cost_theory.proofs.Laws.{some_get, Within, get_within}
 use Rattle.std.proofs.lemmas.List.{take_more, map-append}
@@ -46,7 +46,7 @@ once_head x xs once k a at = go (nat_eq x a) refl
 pub some_is : {X : Type 0} (x y : X) → Some x ≡ Some y → x ≡ y
 some_is x y e = cc
 
-pub word_beside-get : (us : List ℕ) (ws : List Word) (k v : ℕ) (w : Word) → Once us → slice_get us k ≡ Some v → slice_get ws k ≡ Some w → word_beside us ws v ≡ w
+pub word_beside-get : (us : List ℕ) (ws : List Flow) (k v : ℕ) (w : Flow) → Once us → slice_get us k ≡ Some v → slice_get ws k ≡ Some w → word_beside us ws v ≡ w
 word_beside-get [] ws k v w once at beside = let bad : ⊥ = cc in absurd bad
 word_beside-get (u ∷ us) [] k v w once at beside = let bad : ⊥ = cc in absurd bad
 word_beside-get (u ∷ us) (x ∷ ws) zero v w once at beside = ap (λ (b : Bool). cond b x (word_beside us ws v)) (eq-eqb u v (some_is u v at)) ∙ some_is x w beside

@@ -4,13 +4,13 @@ use Rattle.std.specs.Prelude.{slice_get, slice_index}
 use Rattle.std.proofs.lemmas.List.{get_or_read, length-map}
 use Rattle.std.proofs.lemmas.Option.{slice_get_within, slice_get-get_or, get_or_from_slice_get, slice_get-map}
 use Rattle.cost_theory.specs.Graph.{find_below}
-use Rattle.cost_theory.specs.declared.edges.Word.{Word}
-use Rattle.cost_theory.specs.declared.edges.Word.TheVariants.{CallOf}
+use Rattle.cost_theory.specs.declared.flow.Flow.{Flow}
+use Rattle.cost_theory.specs.declared.flow.Flow.TheVariants as flow
 use Rattle.cost_theory.specs.Reached.{callee_of, number_or_0}
 use Rattle.cost_theory.proofs.Laws.{below_suc, find-holds, find-some, some_value, some_get}
 use Rattle.code_reach.specs.declared.marks.Mark.{Mark}
 use Rattle.code_reach.specs.declared.marks.Mark.TheVariants.{Unreached, Owner}
-use Rattle.graph_runs.specs.Text.{Text}
+use Rattle.code_text.specs.Text.{Text}
 use Rattle.code_text.specs.Walk.{RiseStrictly}
 use Rattle.code_reach.specs.Reach.{Reach, WordStandsAt}
 use Rattle.code_graph.specs.Finding.{IsReachIn}
@@ -29,7 +29,7 @@ nodes_start r = record {
   ascending = λ i j a b ij at_i at_j. let bad : ⊥ = cc in absurd bad;
 }
 
-pub nodes_none : (r : Reach) (n : ℕ) (nodes : List ℕ) (kinds : List Word) (owners : List ℕ) → AreReachedNodes r n nodes kinds owners → owner_number r n ≡ None → AreReachedNodes r (n + 1) nodes kinds owners
+pub nodes_none : (r : Reach) (n : ℕ) (nodes : List ℕ) (kinds : List Flow) (owners : List ℕ) → AreReachedNodes r n nodes kinds owners → owner_number r n ≡ None → AreReachedNodes r (n + 1) nodes kinds owners
 nodes_none r n nodes kinds owners are none = record {
   kinds_size = are.kinds_size;
   owners_size = are.owners_size;
@@ -52,7 +52,7 @@ nodes_none r n nodes kinds owners are none = record {
   ascending = are.ascending;
 }
 
-pub nodes_one : (r : Reach) (n : ℕ) (nodes : List ℕ) (kinds : List Word) (owners : List ℕ) (o a : ℕ) (w : Word) → RiseStrictly r.words.addresses → AreReachedNodes r n nodes kinds owners → owner_number r n ≡ Some o →
+pub nodes_one : (r : Reach) (n : ℕ) (nodes : List ℕ) (kinds : List Flow) (owners : List ℕ) (o a : ℕ) (w : Flow) → RiseStrictly r.words.addresses → AreReachedNodes r n nodes kinds owners → owner_number r n ≡ Some o →
     slice_get r.words.addresses n ≡ Some a → slice_get r.words.kinds n ≡ Some w → AreReachedNodes r (n + 1) (nodes ++ a ∷ []) (kinds ++ w ∷ []) (owners ++ o ∷ [])
 nodes_one r n nodes kinds owners o a w rise are number at word =
     let long : length (nodes ++ a ∷ []) ≡ length nodes + 1 = length_pushed nodes a in
@@ -105,7 +105,7 @@ nodes_one r n nodes kinds owners o a w rise are number at word =
           (get_pushed nodes a j c there);
     }
 
-pub nodes_same : (r : Reach) (n : ℕ) (nodes nodes' : List ℕ) (kinds kinds' : List Word) (owners owners' : List ℕ) → nodes' ≡ nodes → kinds' ≡ kinds → owners' ≡ owners → AreReachedNodes r n nodes kinds owners → AreReachedNodes r n nodes' kinds' owners'
+pub nodes_same : (r : Reach) (n : ℕ) (nodes nodes' : List ℕ) (kinds kinds' : List Flow) (owners owners' : List ℕ) → nodes' ≡ nodes → kinds' ≡ kinds → owners' ≡ owners → AreReachedNodes r n nodes kinds owners → AreReachedNodes r n nodes' kinds' owners'
 nodes_same r n nodes nodes' kinds kinds' owners owners' a b c are =
     subst (λ xs. AreReachedNodes r n xs kinds' owners') (sym a) (subst (λ ys. AreReachedNodes r n nodes ys owners') (sym b) (subst (λ zs. AreReachedNodes r n nodes kinds zs) (sym c) are))
 
@@ -157,7 +157,7 @@ module _ (t : Text) (r : Reach) (is : IsReachIn t r) where
       some_is i j (some_is (Some i) (Some j) (sym first ∙ second))
 
   -- what is found among the entries is the number of the word
-  found_number : (to k j : ℕ) → WordStandsAt r.words k to → callee_of (entry_addresses r) (CallOf to) ≡ Some j → slice_get r.numbers k ≡ Some (Some j)
+  found_number : (to k j : ℕ) → WordStandsAt r.words k to → callee_of (entry_addresses r) (flow.Call to) ≡ Some j → slice_get r.numbers k ≡ Some (Some j)
   found_number to k j at found =
       let holds = find-holds (length (entry_addresses r)) (λ i. nat_eq (number_or_0 (slice_get (entry_addresses r) i)) to) j found in
       let entry = some_get (entry_addresses r) j holds.0 in
@@ -165,7 +165,7 @@ module _ (t : Text) (r : Reach) (is : IsReachIn t r) where
       let w = entry_word j to (entry.1 ∙ ap Some same) in
       (is.reach.numbers k j).1 (w.1 ∙ ap Some (once_words w.0 k to w.2 at))
 
-  pub number_found : (to j : ℕ) → slice_get (entry_addresses r) j ≡ Some to → callee_of (entry_addresses r) (CallOf to) ≡ Some j
+  pub number_found : (to j : ℕ) → slice_get (entry_addresses r) j ≡ Some to → callee_of (entry_addresses r) (flow.Call to) ≡ Some j
   number_found to j at =
       let test : nat_eq (number_or_0 (slice_get (entry_addresses r) j)) to ≡ true = eq-eqb (number_or_0 (slice_get (entry_addresses r) j)) to (ap number_or_0 at) in
       let some = some_value (find_below (length (entry_addresses r)) (λ i. nat_eq (number_or_0 (slice_get (entry_addresses r) i)) to))
@@ -174,18 +174,18 @@ module _ (t : Text) (r : Reach) (is : IsReachIn t r) where
       let number : Some (Some some.0) ≡ Some (Some j) = sym (found_number to w.0 some.0 w.2 some.1) ∙ (is.reach.numbers w.0 j).1 w.1 in
       some.1 ∙ some_is (Some some.0) (Some j) number
 
-  pub callee_read : (to k : ℕ) (c : Option ℕ) → WordStandsAt r.words k to → slice_get r.numbers k ≡ Some c → c ≡ callee_of (entry_addresses r) (CallOf to)
-  callee_read to k None at number = go (callee_of (entry_addresses r) (CallOf to)) refl
+  pub callee_read : (to k : ℕ) (c : Option ℕ) → WordStandsAt r.words k to → slice_get r.numbers k ≡ Some c → c ≡ callee_of (entry_addresses r) (flow.Call to)
+  callee_read to k None at number = go (callee_of (entry_addresses r) (flow.Call to)) refl
     where
-      go : (o : Option ℕ) → callee_of (entry_addresses r) (CallOf to) ≡ o → None ≡ o
+      go : (o : Option ℕ) → callee_of (entry_addresses r) (flow.Call to) ≡ o → None ≡ o
       go None e = refl
       go (Some j) e = let clash = sym number ∙ found_number to k j at e in let bad : ⊥ = cc in absurd bad
   callee_read to k (Some i) at number = sym (number_found to i (entry_is i k to ((is.reach.numbers k i).0 number) at))
 
-  pub callee_none : (to : ℕ) → ((k : ℕ) → WordStandsAt r.words k to → ⊥) → None ≡ callee_of (entry_addresses r) (CallOf to)
-  callee_none to none = go (callee_of (entry_addresses r) (CallOf to)) refl
+  pub callee_none : (to : ℕ) → ((k : ℕ) → WordStandsAt r.words k to → ⊥) → None ≡ callee_of (entry_addresses r) (flow.Call to)
+  callee_none to none = go (callee_of (entry_addresses r) (flow.Call to)) refl
     where
-      go : (o : Option ℕ) → callee_of (entry_addresses r) (CallOf to) ≡ o → None ≡ o
+      go : (o : Option ℕ) → callee_of (entry_addresses r) (flow.Call to) ≡ o → None ≡ o
       go None e = refl
       go (Some j) e =
           let holds = find-holds (length (entry_addresses r)) (λ i. nat_eq (number_or_0 (slice_get (entry_addresses r) i)) to) j e in

@@ -5,15 +5,15 @@ use Rattle.std.specs.List.{flat_map}
 use Rattle.std.proofs.Math.Path.{fun_ext}
 use Rattle.std.proofs.lemmas.List.{length-map}
 use Rattle.std.proofs.lemmas.Option.{slice_get_within, slice_get-get_or, get_or_from_slice_get, slice_get-map}
-use Rattle.cost_theory.specs.declared.edges.Edge.{Edge}
-use Rattle.cost_theory.specs.declared.edges.Word.{Word}
-use Rattle.cost_theory.specs.declared.edges.Word.TheVariants.{Branch, Goto, CallOf, Back, Ends, MayEnd, Breaks, Straight, Bad}
+use Rattle.scale_base.specs.declared.edges.Edge.{Edge}
+use Rattle.cost_theory.specs.declared.flow.Flow.{Flow}
+use Rattle.cost_theory.specs.declared.flow.Flow.TheVariants as flow
 use Rattle.cost_theory.specs.Reached.{Reached, DoesReturn, IsCodeOf, HasNoBadWord, HasNoSharedCode, edges_of, callee_of, call_returns, flag_beside, owner_of, number_or_0}
 use Rattle.cost_theory.specs.Reached.Reached.{main}
 use Rattle.cost_theory.proofs.Laws.{some_get, callee-call}
 use Rattle.code_reach.specs.declared.marks.Mark.{Mark}
 use Rattle.code_reach.specs.declared.marks.Mark.TheVariants.{Unreached, Owner, Shared}
-use Rattle.graph_runs.specs.Text.{Text, kind_at}
+use Rattle.code_text.specs.Text.{Text, kind_at}
 use Rattle.code_reach.specs.Reach.{Reach, WordStandsAt}
 use Rattle.code_graph.specs.Finding.{IsReachIn}
 use Rattle.code_graph.specs.Assembling.{AreReachedNodes, IsNodeWord, AreEdgesOf, owner_number, number_by, entry_addresses, flag_of, flag_at}
@@ -31,7 +31,7 @@ map_is f (x ∷ xs) (y ∷ ys) size same =
     ap (λ z. z ∷ ys) (some_is y (f x) (same 0 x refl)) ∙ ap (λ zs. f x ∷ zs) (map_is f xs ys (let e : suc (length ys) ≡ suc (length xs) = size in omega arith) (λ j z at. same (suc j) z at))
 
 -- what the lists are made of
-pub record AreParts (t : Text) (r : Reach) (nodes : List ℕ) (kinds : List Word) (owners entries : List ℕ) (returning : List Bool) (callees : List (Option ℕ)) : Type 0 where
+pub record AreParts (t : Text) (r : Reach) (nodes : List ℕ) (kinds : List Flow) (owners entries : List ℕ) (returning : List Bool) (callees : List (Option ℕ)) : Type 0 where
   pub reach : IsReachIn t r
   pub fine : HasNoBadWord (kind_at t) t.entry
   pub apart : HasNoSharedCode (kind_at t) t.entry
@@ -40,7 +40,7 @@ pub record AreParts (t : Text) (r : Reach) (nodes : List ℕ) (kinds : List Word
   pub returning_are : returning ≡ map (flag_of r.returning) r.functions
   pub callees_are : callees ≡ map (callee_of (entry_addresses r)) kinds
 
-module _ (t : Text) (r : Reach) (nodes : List ℕ) (kinds : List Word) (owners entries : List ℕ) (returning : List Bool) (callees : List (Option ℕ)) (are : AreParts t r nodes kinds owners entries returning callees) where
+module _ (t : Text) (r : Reach) (nodes : List ℕ) (kinds : List Flow) (owners entries : List ℕ) (returning : List Bool) (callees : List (Option ℕ)) (are : AreParts t r nodes kinds owners entries returning callees) where
   -- ---- entries
   pub place_entry : (i k v : ℕ) → slice_get r.functions i ≡ Some k → WordStandsAt r.words k v → slice_get entries i ≡ Some v
   place_entry i k v function at = ap (λ xs. slice_get xs i) are.entries_are ∙ entry_is t r are.reach i k v function at
@@ -51,10 +51,10 @@ module _ (t : Text) (r : Reach) (nodes : List ℕ) (kinds : List Word) (owners e
   pub entries_once : Once entries
   entries_once i j a at_i at_j = once_entries t r are.reach i j a (sym (ap (λ xs. slice_get xs i) are.entries_are) ∙ at_i) (sym (ap (λ xs. slice_get xs j) are.entries_are) ∙ at_j)
 
-  pub entry_callee : (to j : ℕ) → slice_get entries j ≡ Some to → callee_of entries (CallOf to) ≡ Some j
-  entry_callee to j at = ap (λ xs. callee_of xs (CallOf to)) are.entries_are ∙ number_found t r are.reach to j (sym (ap (λ xs. slice_get xs j) are.entries_are) ∙ at)
+  pub entry_callee : (to j : ℕ) → slice_get entries j ≡ Some to → callee_of entries (flow.Call to) ≡ Some j
+  entry_callee to j at = ap (λ xs. callee_of xs (flow.Call to)) are.entries_are ∙ number_found t r are.reach to j (sym (ap (λ xs. slice_get xs j) are.entries_are) ∙ at)
 
-  pub callee_entry : (w : Word) (h : ℕ) → callee_of entries w ≡ Some h → (to : ℕ) × (w ≡ CallOf to) × (slice_get entries h ≡ Some to)
+  pub callee_entry : (w : Flow) (h : ℕ) → callee_of entries w ≡ Some h → (to : ℕ) × (w ≡ flow.Call to) × (slice_get entries h ≡ Some to)
   callee_entry w h called =
       let c = callee-call entries w h called in
       let x = some_get entries h c.2 in
@@ -132,30 +132,30 @@ module _ (t : Text) (r : Reach) (nodes : List ℕ) (kinds : List Word) (owners e
       flag_beside-get entries returning i.0 h true entries_once (place_entry i.0 place.0 h i.1 place.1) (flag_stands i.0 place.0 i.1 ∙ ap Some flag)
 
   -- the flag of a function that is called
-  flag_call : (edges : List Edge) (w : Word) → flag_at returning (callee_of entries w) ≡ call_returns (record { nodes = nodes; edges = edges; functions = entries; owners = owners; returning = returning }) w
-  flag_call edges (CallOf to) = go (callee_of entries (CallOf to)) refl
+  flag_call : (edges : List Edge) (w : Flow) → flag_at returning (callee_of entries w) ≡ call_returns (record { nodes = nodes; edges = edges; functions = entries; owners = owners; returning = returning }) w
+  flag_call edges (flow.Call to) = go (callee_of entries (flow.Call to)) refl
     where
       down : ((j : ℕ) → slice_get entries j ≡ Some to → ⊥) → (b : Bool) → flag_beside entries returning to ≡ b → false ≡ b
       down none true up = let p = flag_beside-place entries returning to up in absurd (none p.0 p.1)
       down none false up = refl
 
-      go : (o : Option ℕ) → callee_of entries (CallOf to) ≡ o → flag_at returning o ≡ flag_beside entries returning to
+      go : (o : Option ℕ) → callee_of entries (flow.Call to) ≡ o → flag_at returning o ≡ flag_beside entries returning to
       go None e = down (λ j at. let clash = sym e ∙ entry_callee to j at in let bad : ⊥ = cc in bad) (flag_beside entries returning to) refl
       go (Some j) e =
-          let c = callee_entry (CallOf to) j e in
+          let c = callee_entry (flow.Call to) j e in
           let same : to ≡ c.0 = (let q = c.1 in cc) in
           let at : slice_get entries j ≡ Some to = c.2 ∙ ap Some (sym same) in
           let lt = slice_get_within entries j to at in
           let size = returning_size in
           sym (flag_beside-get entries returning j to (get_or returning j false) entries_once at (slice_get-get_or returning j false (omega arith)))
-  flag_call edges (Branch to) = refl
-  flag_call edges (Goto to) = refl
-  flag_call edges Back = refl
-  flag_call edges Ends = refl
-  flag_call edges MayEnd = refl
-  flag_call edges Breaks = refl
-  flag_call edges Straight = refl
-  flag_call edges Bad = refl
+  flag_call edges (flow.Branch to) = refl
+  flag_call edges (flow.Jump to) = refl
+  flag_call edges flow.Return = refl
+  flag_call edges flow.Exit = refl
+  flag_call edges flow.MayExit = refl
+  flag_call edges flow.Breakpoint = refl
+  flag_call edges flow.Next = refl
+  flag_call edges flow.Refused = refl
 
   -- ---- the code
   module _ (edges : List Edge) (edges_are : AreEdgesOf (length nodes) nodes kinds callees returning edges) where

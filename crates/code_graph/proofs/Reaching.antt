@@ -3,20 +3,20 @@ use Rattle.std.proofs.Common.{◌≡◌, ◌≢◌, ℕ, ◌≤◌, length, Opti
 use Rattle.std.specs.Prelude.{slice_get}
 use Rattle.std.proofs.lemmas.Bool.{cases_eq}
 use Rattle.std.proofs.lemmas.Option.{slice_get_within}
-use Rattle.cost_theory.specs.declared.edges.Word.{Word}
-use Rattle.cost_theory.specs.declared.edges.Word.TheVariants.{Bad}
+use Rattle.cost_theory.specs.declared.flow.Flow.{Flow}
+use Rattle.cost_theory.specs.declared.flow.Flow.TheVariants as flow
 use Rattle.cost_theory.specs.Reached.{Reached, HasNoBadWord, HasNoSharedCode}
 use Rattle.cost_theory.specs.Reached.Reached.{main, onward, back, called}
 use Rattle.code_reach.specs.declared.marks.Mark.{Mark}
 use Rattle.code_reach.specs.declared.marks.Mark.TheVariants.{Unreached, Owner, Shared}
-use Rattle.graph_runs.specs.Text.{Text, kind_at}
+use Rattle.code_text.specs.Text.{Text, kind_at}
 use Rattle.code_reach.specs.Reach.{Reach, IsReached, IsShared, WordStandsAt, IsReachOf}
 use Rattle.code_reach.specs.Steps.{IsWordTableOf}
 use Rattle.code_graph.specs.Finding.{IsFirstBelow, IsRefusedWord, IsLesser, IsLeastBad}
 use Rattle.code_graph.proofs.Lists.{some_is, place_or_none, beside, not_earlier}
 
 -- a function's first word is reached in it
-pub entry_reached : {word : ℕ → Word} {first f v : ℕ} → Reached word first f v → Reached word first f f
+pub entry_reached : {word : ℕ → Flow} {first f v : ℕ} → Reached word first f v → Reached word first f f
 entry_reached main = main
 entry_reached (onward u r leads) = entry_reached r
 entry_reached (back h r reached calls returns is_back) = entry_reached reached
@@ -32,15 +32,15 @@ module _ (t : Text) (r : Reach) (is : IsReachOf t r) (table : IsWordTableOf (kin
   marked_reached k v (Owner f) at mark some = let o = is.owner k v f at mark in (o.0, o.2)
   marked_reached k v Shared at mark some = let s = is.shared k v at mark in (s.0, s.3)
 
-  word_bad : (k v : ℕ) → WordStandsAt r.words k v → IsRefusedWord r k → IsReached t v × (kind_at t v ≡ Bad)
+  word_bad : (k v : ℕ) → WordStandsAt r.words k v → IsRefusedWord r k → IsReached t v × (kind_at t v ≡ flow.Refused)
   word_bad k v at refused =
       let m = mark_of k v at in
       (marked_reached k v m.0 at m.1 refused.1, some_is _ _ (sym (table.kinds k v at) ∙ refused.0))
 
-  bad_word : (k v : ℕ) → WordStandsAt r.words k v → IsReached t v → kind_at t v ≡ Bad → IsRefusedWord r k
+  bad_word : (k v : ℕ) → WordStandsAt r.words k v → IsReached t v → kind_at t v ≡ flow.Refused → IsRefusedWord r k
   bad_word k v at reached bad = (table.kinds k v at ∙ ap Some bad, λ none. is.unreached k v at none reached)
 
-  outside_bad : (v : ℕ) → r.outside ≡ Some v → IsReached t v × (kind_at t v ≡ Bad)
+  outside_bad : (v : ℕ) → r.outside ≡ Some v → IsReached t v × (kind_at t v ≡ flow.Refused)
   outside_bad v out = let o = is.outside v out in (o.0, ⊎_elim (λ bad. bad) (λ (place : (k : ℕ) × WordStandsAt r.words k v). absurd (o.1 place.0 place.1)) (table.whole v))
 
   -- a reached address that is refused is a word, or at least the least outside
@@ -61,11 +61,11 @@ module _ (t : Text) (r : Reach) (is : IsReachOf t r) (table : IsWordTableOf (kin
         (word_or_outside v reached),
   )
 
-  lesser_bad : (k a x : ℕ) (o : Option ℕ) → r.outside ≡ o → WordStandsAt r.words k a → IsRefusedWord r k → IsLesser a o x → IsReached t x × (kind_at t x ≡ Bad)
-  lesser_bad k a x None out at refused less = subst (λ y. IsReached t y × (kind_at t y ≡ Bad)) (sym less) (word_bad k a at refused)
+  lesser_bad : (k a x : ℕ) (o : Option ℕ) → r.outside ≡ o → WordStandsAt r.words k a → IsRefusedWord r k → IsLesser a o x → IsReached t x × (kind_at t x ≡ flow.Refused)
+  lesser_bad k a x None out at refused less = subst (λ y. IsReached t y × (kind_at t y ≡ flow.Refused)) (sym less) (word_bad k a at refused)
   lesser_bad k a x (Some other) out at refused less = ⊎_elim
-      (λ (e : x ≡ a). subst (λ y. IsReached t y × (kind_at t y ≡ Bad)) (sym e) (word_bad k a at refused))
-      (λ (ne : x ≡ a → ⊥). subst (λ y. IsReached t y × (kind_at t y ≡ Bad)) (sym (less.2 ne)) (outside_bad other out))
+      (λ (e : x ≡ a). subst (λ y. IsReached t y × (kind_at t y ≡ flow.Refused)) (sym e) (word_bad k a at refused))
+      (λ (ne : x ≡ a → ⊥). subst (λ y. IsReached t y × (kind_at t y ≡ flow.Refused)) (sym (less.2 ne)) (outside_bad other out))
       (cases_eq x a)
 
   lesser_low : (a x : ℕ) (o : Option ℕ) → IsLesser a o x → (x ≤ a) × ((u : ℕ) → o ≡ Some u → x ≤ u)

@@ -3,14 +3,14 @@ use Rattle.std.proofs.Common.{◌≡◌, ℕ, zero, suc, List, [], ◌∷◌, le
 use Rattle.std.specs.Prelude.{slice_index_or}
 use Rattle.std.proofs.Math.Path.{fun_ext}
 use Rattle.scale_base.specs.declared.stepping.Class.{Class}
-use Rattle.call_orders.specs.Arcs.{number_in_place}
-use Rattle.cost_theory.specs.declared.edges.Edge.{Edge}
+use Rattle.graph_algorithms.specs.Arcs.{number_in_place}
+use Rattle.scale_base.specs.declared.edges.Edge.{Edge}
 use Rattle.cost_theory.specs.Graph.{Graph}
 use Rattle.cost_theory.specs.Accepted.{AreWeights}
-use Rattle.graph_runs.specs.Text.{Text}
-use Rattle.graph_runs.specs.EdgeCosts.{edge_class, cost_of, weights}
-use Rattle.graph_runs.specs.RunMoves.{text_graph}
-use Rattle.graph_runs.proofs.Laws.{weights_are}
+use Rattle.code_text.specs.Text.{Text}
+use Rattle.code_text.specs.EdgeCosts.{edge_class, cost_of, weights}
+use Rattle.code_text.specs.TextGraph.{text_graph}
+use Rattle.code_text.proofs.Laws.{weights_are}
 use Rattle.code_graph.specs.FlowGraph.{FlowGraph, graph, IsGraphOf}
 
 -- the weights as a list

@@ -12,20 +12,19 @@ use Rattle.scale_base.specs.declared.refusal.Stop.{Stop}
 use Rattle.scale_base.specs.declared.refusal.Stop.TheVariants.{Refused, Memory}
 use Rattle.scale_base.specs.Answer.{AnswersBy}
 use Rattle.scale_base.specs.Image.{Image, is_in, is_word_address}
-use Rattle.cost_theory.specs.declared.edges.Edge.{Edge}
-use Rattle.cost_theory.specs.declared.edges.EdgeKind.TheVariants.{Next}
-use Rattle.cost_theory.specs.declared.edges.Word.{Word}
+use Rattle.scale_base.specs.declared.edges.Edge.{Edge}
+use Rattle.scale_base.specs.declared.edges.EdgeKind.TheVariants.{Next}
+use Rattle.cost_theory.specs.declared.flow.Flow.{Flow}
 use Rattle.cost_theory.specs.Accepted.{IsNode, IsProgram}
 use Rattle.cost_theory.specs.Reached.{IsCodeOf, graph_of, callee_of, call_returns, edges_of, edge_to}
-use Rattle.cost_theory.proofs.Laws.{Within, get_within, within_flat, some_get, one_graph, edge_node}
+use Rattle.cost_theory.proofs.Laws.{Within, get_within, within_flat, some_get, one_graph, edge_node, reached_node}
 use Rattle.cost_theory.proofs.Laws as theory
-use Rattle.code_graph.proofs.NodeEdges.{reached_node}
-use Rattle.call_orders.specs.declared.Arc.{Arc}
-use Rattle.call_orders.specs.Arcs.{HasNoCycle, IsSorted}
-use Rattle.graph_runs.specs.Text.{Text, kind_at}
-use Rattle.graph_runs.specs.EdgeCosts.{edge_class}
-use Rattle.graph_runs.specs.RunMoves.{text_graph}
-use Rattle.graph_runs.proofs.Laws.{kind_facts}
+use Rattle.graph_algorithms.specs.declared.orders.Arc.{Arc}
+use Rattle.graph_algorithms.specs.Arcs.{HasNoCycle, IsSorted}
+use Rattle.code_text.specs.Text.{Text, kind_at}
+use Rattle.code_text.specs.EdgeCosts.{edge_class}
+use Rattle.code_text.specs.TextGraph.{text_graph}
+use Rattle.code_text.proofs.Laws.{kind_facts}
 use Rattle.code_reach.specs.Reach.{Reach}
 use Rattle.code_graph.specs.FlowGraph.{FlowGraph, word_beside, IsFlowGraph, IsGraphOf, AreCalleesFirst}
 use Rattle.code_graph.specs.Stored.{AreFirsts, IsStoredGraph}
@@ -55,7 +54,7 @@ edge_ends v sources targets ends = record {
 four_apart : (a b : ℕ) → a < b → a % 4 ≡ 0 → b % 4 ≡ 0 → a + 4 ≤ b
 four_apart a b lt left right = omega arith
 
-module _ (t : Text) (r : Reach) (nodes : List ℕ) (kinds : List Word) (owners entries : List ℕ) (returning : List Bool) (callees : List (Option ℕ)) (are : AreParts t r nodes kinds owners entries returning callees) where
+module _ (t : Text) (r : Reach) (nodes : List ℕ) (kinds : List Flow) (owners entries : List ℕ) (returning : List Bool) (callees : List (Option ℕ)) (are : AreParts t r nodes kinds owners entries returning callees) where
   -- an address that is a node is one of the text
   pub node_word : (j a : ℕ) → slice_get nodes j ≡ Some a → (a % 4 ≡ 0) × (list_any (is_in a) t.ranges ≡ true)
   node_word j a at = let f = node_reached t r nodes kinds owners entries returning callees are j a at in let is = kind_facts t a (are.fine f.0 a f.1) in (is.0, is.1)
@@ -205,7 +204,7 @@ refused_part seen shown (Ok x) stop P Q same part on = absurd same
 refused_part seen shown (Err e) (Refused refusal) P Q same part on = subst (λ s. AnswersBy shown (Err s) P) (sym same) (on refusal part)
 refused_part seen shown (Err e) Memory P Q same part on = subst (λ s. AnswersBy shown (Err s) P) (sym same) tt
 
-module _ (t : Text) (r : Reach) (nodes : List ℕ) (kinds : List Word) (owners entries : List ℕ) (returning : List Bool) (callees : List (Option ℕ)) (are : AreParts t r nodes kinds owners entries returning callees) where
+module _ (t : Text) (r : Reach) (nodes : List ℕ) (kinds : List Flow) (owners entries : List ℕ) (returning : List Bool) (callees : List (Option ℕ)) (are : AreParts t r nodes kinds owners entries returning callees) where
   pub round_refused : (refusal : Refusal) → IsOrdered entries owners callees (Err refusal) → IsRefusedBy t refusal
   round_refused refusal (arcs, arcs_are, cycle, is, named, e, turned) = inr (inr (record {
     cycle = named;

@@ -1,14 +1,14 @@
 -- The lists of a graph, and what they are made of.
 use Rattle.std.specs.Prelude.{◌≡◌, ℕ, ◌+◌, ◌-◌, ◌<◌, ◌≤◌, ◌⊎◌, Bool, true, false, List, [], ◌∷◌, ◌++◌, length, map, take, drop, slice_get, slice_index, slice_index_or, Option, Some, None, Result, Ok, Err}
 use Rattle.std.specs.List.{flat_map}
-use Rattle.cost_theory.specs.declared.edges.Edge.{Edge}
-use Rattle.cost_theory.specs.declared.edges.EdgeKind.TheVariants.{Next}
-use Rattle.cost_theory.specs.declared.edges.Word.{Word}
+use Rattle.scale_base.specs.declared.edges.Edge.{Edge}
+use Rattle.scale_base.specs.declared.edges.EdgeKind.TheVariants.{Next}
+use Rattle.cost_theory.specs.declared.flow.Flow.{Flow}
 use Rattle.cost_theory.specs.Reached.{edges_of}
 use Rattle.code_reach.specs.declared.marks.Mark.{Mark}
 use Rattle.code_reach.specs.declared.marks.Mark.TheVariants.{Unreached, Owner, Shared}
-use Rattle.call_orders.specs.declared.Arc.{Arc}
-use Rattle.call_orders.specs.Arcs.{HasArc, HasNoCycle, IsSorted, IsCycle}
+use Rattle.graph_algorithms.specs.declared.orders.Arc.{Arc}
+use Rattle.graph_algorithms.specs.Arcs.{HasArc, HasNoCycle, IsSorted, IsCycle}
 use Rattle.scale_base.specs.declared.ranges.Range.{Range}
 use Rattle.scale_base.specs.declared.refusal.Refusal.{Refusal}
 use Rattle.scale_base.specs.declared.refusal.Refusal.TheVariants.{Recursion}
@@ -30,10 +30,10 @@ abbrev pub owner_number : Reach → ℕ → Option ℕ
 owner_number r k = number_by r.numbers (slice_index_or r.marks k Unreached)
 
 -- node j is word k, one of the first n
-pub record IsNodeWord (r : Reach) (n : ℕ) (nodes : List ℕ) (kinds : List Word) (owners : List ℕ) (j a : ℕ) : Type 0 where
+pub record IsNodeWord (r : Reach) (n : ℕ) (nodes : List ℕ) (kinds : List Flow) (owners : List ℕ) (j a : ℕ) : Type 0 where
   pub k : ℕ
   pub below : k < n
-  pub kind : Word
+  pub kind : Flow
   pub owner : ℕ
   pub address : slice_get r.words.addresses k ≡ Some a
   pub word : slice_get r.words.kinds k ≡ Some kind
@@ -42,7 +42,7 @@ pub record IsNodeWord (r : Reach) (n : ℕ) (nodes : List ℕ) (kinds : List Wor
   pub owner_beside : slice_get owners j ≡ Some owner
 
 -- the nodes are those of the first n words that are reached in one function, in their order
-pub record AreReachedNodes (r : Reach) (n : ℕ) (nodes : List ℕ) (kinds : List Word) (owners : List ℕ) : Type 0 where
+pub record AreReachedNodes (r : Reach) (n : ℕ) (nodes : List ℕ) (kinds : List Flow) (owners : List ℕ) : Type 0 where
   pub kinds_size : length kinds ≡ length nodes
   pub owners_size : length owners ≡ length nodes
   pub few : length nodes ≤ n
@@ -72,8 +72,8 @@ flag_at returning (Some f) = slice_index_or returning f false
 
 -- The edges of the first n nodes, one node after another. Whatever the nodes' words are, as the kinds say, and whatever functions they call,
 -- as the callees say, each node has the edges of its word, by the flag of the function that it calls.
-pub record AreEdgesOf (n : ℕ) (nodes : List ℕ) (kinds : List Word) (callees : List (Option ℕ)) (returning : List Bool) (edges : List Edge) : Type 0 where
-  pub edges_are : (word : ℕ → Word) → kinds ≡ map word nodes → (callee : Word → Option ℕ) → callees ≡ map callee kinds →
+pub record AreEdgesOf (n : ℕ) (nodes : List ℕ) (kinds : List Flow) (callees : List (Option ℕ)) (returning : List Bool) (edges : List Edge) : Type 0 where
+  pub edges_are : (word : ℕ → Flow) → kinds ≡ map word nodes → (callee : Flow → Option ℕ) → callees ≡ map callee kinds →
       edges ≡ flat_map (λ v. edges_of (word v) v (flag_at returning (callee (word v)))) (take n nodes)
 
 -- ---- calls

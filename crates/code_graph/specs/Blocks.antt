@@ -2,7 +2,7 @@
 -- service that may exit, since two edges start there or one of another kind.
 use Rattle.std.specs.Prelude.{◌≡◌, ℕ, ◌+◌, ◌*◌, ◌<◌, ◌≤◌, List, length, slice_get, Some}
 use Rattle.scale_base.specs.declared.ranges.Range.{Range}
-use Rattle.cost_theory.specs.declared.edges.EdgeKind.TheVariants.{Next}
+use Rattle.scale_base.specs.declared.edges.EdgeKind.TheVariants.{Next}
 use Rattle.cost_theory.specs.Accepted.{IsNode}
 use Rattle.code_graph.specs.FlowGraph.{FlowGraph, graph}
 

@@ -1,7 +1,7 @@
 -- What building the graph of a text answers.
 use Rattle.std.specs.Prelude.{Result, Ok, Err}
 use Rattle.scale_base.specs.declared.refusal.Refusal.{Refusal}
-use Rattle.graph_runs.specs.Text.{Text}
+use Rattle.code_text.specs.Text.{Text}
 use Rattle.code_graph.specs.FlowGraph.{FlowGraph, IsGraphOf}
 use Rattle.code_graph.specs.Refused.{IsRefusedBy}
 

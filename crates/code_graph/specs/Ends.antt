@@ -1,6 +1,6 @@
 -- The ends of a graph's edges by the numbers of nodes.
 use Rattle.std.specs.Prelude.{◌≡◌, ℕ, ◌<◌, List, length, slice_get, Option, Some, None}
-use Rattle.cost_theory.specs.declared.edges.Edge.{Edge}
+use Rattle.scale_base.specs.declared.edges.Edge.{Edge}
 use Rattle.cost_theory.specs.Reached.{edge_at, edge_to}
 use Rattle.code_graph.specs.FlowGraph.{FlowGraph, graph}
 

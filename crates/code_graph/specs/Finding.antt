@@ -1,9 +1,9 @@
 -- What is found in the reached words of a text before its graph is built: refused words and shared code.
 use Rattle.std.specs.Prelude.{◌≡◌, ◌≢◌, ℕ, ◌<◌, ◌≤◌, slice_get, Option, Some, None}
-use Rattle.cost_theory.specs.declared.edges.Word.TheVariants.{Bad}
+use Rattle.cost_theory.specs.declared.flow.Flow.TheVariants as flow
 use Rattle.cost_theory.specs.Reached.{HasNoBadWord}
 use Rattle.code_reach.specs.declared.marks.Mark.TheVariants.{Unreached}
-use Rattle.graph_runs.specs.Text.{Text, kind_at}
+use Rattle.code_text.specs.Text.{Text, kind_at}
 use Rattle.code_reach.specs.declared.reach.TextReach.{TextReach}
 use Rattle.code_reach.specs.Reach.{Reach, IsReached, IsReachOf}
 use Rattle.code_reach.specs.Steps.{IsWordTableOf}
@@ -28,7 +28,7 @@ IsFirstBelow n P (Some k) = (k < n) × P k × ((j : ℕ) → j < k → P j → �
 
 -- word k is reached and refused
 abbrev pub IsRefusedWord : Reach → ℕ → Type 0
-IsRefusedWord r k = (slice_get r.words.kinds k ≡ Some Bad) × (slice_get r.marks k ≢ Some Unreached)
+IsRefusedWord r k = (slice_get r.words.kinds k ≡ Some flow.Refused) × (slice_get r.marks k ≢ Some Unreached)
 
 -- the lesser of an address and of one that may be missing
 abbrev pub IsLesser : ℕ → Option ℕ → ℕ → Type 0
@@ -38,4 +38,4 @@ IsLesser at (Some other) x = (x ≤ at) × (x ≤ other) × ((x ≢ at) → x �
 -- the least reached address that is refused, if there is one
 abbrev pub IsLeastBad : Text → Option ℕ → Type 0
 IsLeastBad t None = HasNoBadWord (kind_at t) t.entry
-IsLeastBad t (Some at) = IsReached t at × (kind_at t at ≡ Bad) × ((v : ℕ) → IsReached t v → v < at → kind_at t v ≢ Bad)
+IsLeastBad t (Some at) = IsReached t at × (kind_at t at ≡ flow.Refused) × ((v : ℕ) → IsReached t v → v < at → kind_at t v ≢ flow.Refused)

@@ -3,21 +3,20 @@
 use Rattle.std.specs.Prelude.{◌≡◌, ℕ, ◌<◌, ◌↔◌, List, [], ◌∷◌, map, slice_get, nat_eq, if◌then◌else◌, Option, Some}
 use Rattle.scale_base.specs.declared.ranges.Range.{Range}
 use Rattle.scale_base.specs.declared.stepping.Class.{Class}
-use Rattle.cost_theory.specs.declared.edges.Word.{Word}
-use Rattle.cost_theory.specs.declared.edges.Word.TheVariants.{Bad}
+use Rattle.cost_theory.specs.declared.flow.Flow.{Flow}
+use Rattle.cost_theory.specs.declared.flow.Flow.TheVariants as flow
 use Rattle.cost_theory.specs.Graph.{Graph}
 use Rattle.cost_theory.specs.Reached.{Code, graph_of}
 use Rattle.cost_theory.specs.Accepted.{IsProgram, IsNode, IsCall}
-use Rattle.graph_runs.specs.Text.{Text, kind_at}
-use Rattle.graph_runs.specs.EdgeCosts.{edge_class}
-use Rattle.graph_runs.specs.RunMoves.{text_graph}
-use Rattle.graph_runs.specs.Laws.{IsReachedCode}
+use Rattle.code_text.specs.Text.{Text, kind_at}
+use Rattle.code_text.specs.EdgeCosts.{edge_class}
+use Rattle.code_text.specs.TextGraph.{text_graph, IsReachedCode}
 
 pub record FlowGraph : Type 0 where
   -- nodes by address, edges, functions, and by node its function
   pub code : Code
   -- by node, what its word says of the way on
-  pub kinds : List Word
+  pub kinds : List Flow
   -- by edge, the class of the step that goes over it; none for that of an EBREAK
   pub classes : List (Option Class)
   -- the numbers of the functions, callees first
@@ -26,9 +25,9 @@ pub record FlowGraph : Type 0 where
   pub blocks : List Range
 
 -- what stands beside an address, and a refused word at what is no node
-abbrev pub word_beside : List ℕ → List Word → ℕ → Word
-word_beside [] kinds v = Bad
-word_beside (u ∷ us) [] v = Bad
+abbrev pub word_beside : List ℕ → List Flow → ℕ → Flow
+word_beside [] kinds v = flow.Refused
+word_beside (u ∷ us) [] v = flow.Refused
 word_beside (u ∷ us) (w ∷ ws) v = if nat_eq u v then w else word_beside us ws v
 
 -- the graph that the lists stand for: a function is named by its number, a node by its address, an edge by its number

@@ -6,10 +6,10 @@ use Rattle.scale_base.specs.declared.instruction.Instr.{Instr}
 use Rattle.scale_base.specs.declared.instruction.Instr.TheVariants as instr
 use Rattle.scale_base.specs.declared.refusal.Refusal.{Refusal}
 use Rattle.scale_base.specs.declared.refusal.Refusal.TheVariants.{MisalignedTarget, OutsideText, IllegalWord, OddLink, IndirectJump, SharedCode, Recursion}
-use Rattle.cost_theory.specs.declared.edges.Word.TheVariants.{CallOf}
+use Rattle.cost_theory.specs.declared.flow.Flow.TheVariants as flow
 use Rattle.cost_theory.specs.Reached.{Reached, HasNoBadWord, HasNoSharedCode}
-use Rattle.call_orders.specs.Cycles.{IsCycleBy}
-use Rattle.graph_runs.specs.Text.{Text, is_text_address, instr_at, kind_at}
+use Rattle.graph_algorithms.specs.Cycles.{IsCycleBy}
+use Rattle.code_text.specs.Text.{Text, is_text_address, instr_at, kind_at}
 use Rattle.code_reach.specs.Reach.{IsReached, IsShared}
 
 -- ---- reached addresses
@@ -50,7 +50,7 @@ pub record IsLeastShared (t : Text) (refusal : Refusal) : Type 0 where
 
 -- a reached word of the function that begins at f calls the function that begins at h
 abbrev pub Calls : Text → ℕ → ℕ → Type 0
-Calls t f h = (v : ℕ) × Reached (kind_at t) t.entry f v × (kind_at t v ≡ CallOf h)
+Calls t f h = (v : ℕ) × Reached (kind_at t) t.entry f v × (kind_at t v ≡ flow.Call h)
 
 -- the refusal names functions by their entries, each of which calls the next, and the last the first, where no reached address
 -- is refused and no code is shared

@@ -1,6 +1,6 @@
 -- What a CodeGraph keeps beside its lists.
 use Rattle.std.specs.Prelude.{◌≡◌, ℕ, ◌+◌, ◌<◌, ◌≤◌, List, length, map, slice_get, slice_index, Option}
-use Rattle.cost_theory.specs.declared.edges.Edge.{Edge}
+use Rattle.scale_base.specs.declared.edges.Edge.{Edge}
 use Rattle.cost_theory.specs.Reached.{edge_at, callee_of}
 use Rattle.code_graph.specs.FlowGraph.{FlowGraph, IsFlowGraph}
 use Rattle.code_graph.specs.Blocks.{AreBlocks}

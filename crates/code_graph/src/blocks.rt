@@ -8,8 +8,7 @@ ghost use Rattle.code_graph.specs.Assembling.{IsEntryNode, IsOnlyNext, LeadsApar
 use crate::edges::EdgeLists;
 use crate::ends::EdgeEnds;
 use crate::nodes::Nodes;
-use cost_theory::{Edge, EdgeKind};
-use scale_base::{NoMemory, Range};
+use scale_base::{Edge, EdgeKind, NoMemory, Range};
 use std::alloc::Global;
 
 /// Whether an edge is of kind `Next` and the only one of the node where it starts.

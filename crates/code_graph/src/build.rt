@@ -4,7 +4,7 @@ ghost use Rattle.std.specs.Prelude.{◌≡◌, ◌≤◌, length, Ok, IfOk};
 ghost use Rattle.scale_base.specs.Answer.{AnswersBy};
 ghost use Rattle.scale_base.specs.Image.{image_of};
 ghost use Rattle.cost_theory.specs.Reached.{HasNoBadWord, HasNoSharedCode};
-ghost use Rattle.graph_runs.specs.Text.{text_of, kind_at};
+ghost use Rattle.code_text.specs.Text.{text_of, kind_at};
 ghost use Rattle.code_graph.specs.Building.{IsBuilt};
 ghost use Rattle.code_graph.specs.Finding.{IsReachIn, reach_of};
 

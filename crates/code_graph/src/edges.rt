@@ -3,16 +3,16 @@
 ghost use Rattle.std.specs.Prelude.{◌≡◌, ◌↔◌, ◌<◌, ◌≤◌, ◌+◌, ◌*◌, ◌^◌, ◌++◌, ℕ, true, length, map, slice_get, slice_index, Some, Option, Ok, OnOk, IfOk};
 ghost use Rattle.scale_base.specs.Image.{image_of, is_word_address};
 ghost use Rattle.cost_theory.specs.Reached as reached;
-ghost use Rattle.graph_runs.specs.Text.{text_of};
-ghost use Rattle.graph_runs.specs.EdgeCosts as costs;
-ghost use Rattle.cost_theory.specs.declared.edges.Edge.{Edge};
+ghost use Rattle.code_text.specs.Text.{text_of};
+ghost use Rattle.code_text.specs.EdgeCosts as costs;
+ghost use Rattle.scale_base.specs.declared.edges.Edge.{Edge};
 ghost use Rattle.code_graph.specs.Assembling.{flag_at, listed, AreEdgesOf};
 ghost use Rattle.code_graph.specs.Stored.{AreFirsts};
 
-use cost_theory::{Edge, EdgeKind, Word};
+use cost_theory::Flow;
 use elf_view::ImageView;
 use rv_decode::{class_of, decode};
-use scale_base::{Class, Instr, NoMemory};
+use scale_base::{Class, Edge, EdgeKind, Instr, NoMemory};
 use std::alloc::Global;
 
 /// Edges in the order of their nodes.
@@ -36,29 +36,29 @@ fn end(at: u32) -> Edge
 }
 
 /// The first edge of a node. A refused word has none.
-fn first_edge(at: u32, word: Word, returns: bool) -> Option<Edge>
+fn first_edge(at: u32, word: Flow, returns: bool) -> Option<Edge>
     requires { at + 4 < 2 ^ 32 }
     ensures { result ≡ slice_get (reached.edges_of word at returns) 0 }
 {
     match word {
-        Word::Branch(to) => Some(edge(at, EdgeKind::Taken, to)),
-        Word::Goto(to) => Some(edge(at, EdgeKind::Jump, to)),
-        Word::CallOf(_) if returns => Some(edge(at, EdgeKind::CallNext, at + 4)),
-        Word::MayEnd | Word::Straight => Some(edge(at, EdgeKind::Next, at + 4)),
-        Word::CallOf(_) | Word::Back | Word::Ends | Word::Breaks => Some(end(at)),
-        Word::Bad => None,
+        Flow::Branch(to) => Some(edge(at, EdgeKind::Taken, to)),
+        Flow::Jump(to) => Some(edge(at, EdgeKind::Jump, to)),
+        Flow::Call(_) if returns => Some(edge(at, EdgeKind::CallNext, at + 4)),
+        Flow::MayExit | Flow::Next => Some(edge(at, EdgeKind::Next, at + 4)),
+        Flow::Call(_) | Flow::Return | Flow::Exit | Flow::Breakpoint => Some(end(at)),
+        Flow::Refused => None,
     }
 }
 
 /// The second edge of a node, if it has one.
-fn second_edge(at: u32, word: Word, returns: bool) -> Option<Edge>
+fn second_edge(at: u32, word: Flow, returns: bool) -> Option<Edge>
     requires { at + 4 < 2 ^ 32 }
     ensures { result ≡ slice_get (reached.edges_of word at returns) 1 }
 {
     match word {
-        Word::Branch(_) => Some(edge(at, EdgeKind::Untaken, at + 4)),
-        Word::CallOf(_) if returns => Some(end(at)),
-        Word::MayEnd => Some(end(at)),
+        Flow::Branch(_) => Some(edge(at, EdgeKind::Untaken, at + 4)),
+        Flow::Call(_) if returns => Some(end(at)),
+        Flow::MayExit => Some(end(at)),
         _ => None,
     }
 }
@@ -74,7 +74,7 @@ fn add_some(edges: &mut Vec<Edge>, edge: Option<Edge>) -> Result<(), NoMemory>
 }
 
 /// Puts the edges of a node behind the others.
-fn add_edges(edges: &mut Vec<Edge>, at: u32, word: Word, returns: bool) -> Result<(), NoMemory>
+fn add_edges(edges: &mut Vec<Edge>, at: u32, word: Flow, returns: bool) -> Result<(), NoMemory>
     requires { at + 4 < 2 ^ 32 }
     ensures { OnOk result (edges.new.items ≡ edges.old.items ++ reached.edges_of word at returns) }
 {
@@ -98,7 +98,7 @@ fn comes_back(callee: Option<usize>, returning: &[bool]) -> bool
 pub fn edges_of(
     alloc: Global,
     nodes: &[u32],
-    kinds: &[Word],
+    kinds: &[Flow],
     callees: &[Option<usize>],
     returning: &[bool],
 ) -> Result<EdgeLists, NoMemory>

@@ -2,12 +2,11 @@
 
 ghost use Rattle.std.specs.Prelude.{◌≡◌, ◌↔◌, ◌<◌, ℕ, Some, None, length, slice_get, IfOk};
 ghost use Rattle.cost_theory.specs.Reached as reached;
-ghost use Rattle.cost_theory.specs.declared.edges.Edge.{Edge};
+ghost use Rattle.scale_base.specs.declared.edges.Edge.{Edge};
 ghost use Rattle.code_text.specs.Walk.{RiseStrictly};
 ghost use Rattle.code_graph.specs.Ends.{AreEnds};
 
-use cost_theory::{Edge, EdgeKind};
-use scale_base::NoMemory;
+use scale_base::{Edge, EdgeKind, NoMemory};
 use std::alloc::Global;
 
 /// By edge, the number of the node where it starts, and that of the node to which it leads, which an `End` edge doesn't have.

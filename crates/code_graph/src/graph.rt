@@ -4,19 +4,19 @@ ghost use Rattle.std.specs.Prelude.{◌≡◌, ◌<◌, ◌≤◌, ◌↔◌, �
 ghost use Rattle.power_model.specs.Price.{cycles_of};
 ghost use Rattle.cost_theory.specs.Reached as reached;
 ghost use Rattle.cost_theory.specs.Reached.{edge_at};
-ghost use Rattle.graph_runs.specs.EdgeCosts.{cost_of};
-ghost use Rattle.graph_runs.specs.Text.{Text};
+ghost use Rattle.code_text.specs.EdgeCosts.{cost_of};
+ghost use Rattle.code_text.specs.Text.{Text};
 ghost use Rattle.cost_theory.specs.Accepted.{AreWeights};
-ghost use Rattle.call_orders.specs.Arcs.{number_in_place};
+ghost use Rattle.graph_algorithms.specs.Arcs.{number_in_place};
 ghost use Rattle.code_graph.specs.Blocks.{AreBlocks};
 ghost use Rattle.code_graph.specs.Ends.{AreEdgeEnds};
 ghost use Rattle.code_graph.specs.FlowGraph.{graph, word_beside, IsFlowGraph, IsGraphOf};
 
 use crate::ends::{EdgeEnds, number_of};
 use crate::weights::{Weights, weights_of};
-use cost_theory::{Edge, EdgeKind, Word};
+use cost_theory::Flow;
 use power_model::Costs;
-use scale_base::{Class, NoMemory, Range};
+use scale_base::{Class, Edge, EdgeKind, NoMemory, Range};
 use std::alloc::Global;
 use std::marker::Model;
 
@@ -24,7 +24,7 @@ use std::marker::Model;
 #[derive(Drop)]
 pub struct CodeGraph {
     pub(crate) nodes: Vec<u32>,
-    pub(crate) kinds: Vec<Word>,
+    pub(crate) kinds: Vec<Flow>,
     pub(crate) owners: Vec<usize>,
     /// By node the number of the function that is called.
     pub(crate) callees: Vec<Option<usize>>,
@@ -51,18 +51,18 @@ impl Model for CodeGraph {
     ghost invariant = { λ g. IsStoredGraph (record { code = record { nodes = g.nodes.items; edges = g.edges.items; functions = g.functions.items; owners = g.owners.items; returning = g.returning.items }; kinds = g.kinds.items; classes = g.classes.items; order = g.order.items; blocks = g.blocks.items }) g.callees.items g.firsts.items g.ends.sources.items g.ends.targets.items };
 }
 
-fn is_back(word: Word) -> bool
+fn is_back(word: Flow) -> bool
     ensures { result ≡ reached.is_return_word word }
 {
-    matches!(word, Word::Back)
+    matches!(word, Flow::Return)
 }
 
 /// Whether the step over an edge is an exit, by the word at which it starts.
-fn is_exit(word: Word, kind: EdgeKind) -> bool
+fn is_exit(word: Flow, kind: EdgeKind) -> bool
     ensures { result ≡ reached.is_exit word kind }
 {
     match word {
-        Word::Ends | Word::MayEnd => matches!(kind, EdgeKind::End),
+        Flow::Exit | Flow::MayExit => matches!(kind, EdgeKind::End),
         _ => false,
     }
 }
@@ -104,7 +104,7 @@ impl CodeGraph {
     }
 
     /// What the word at which edge `e` starts says of the way on.
-    fn word(&self, e: usize) -> Word
+    fn word(&self, e: usize) -> Flow
         requires { e < length self.now.code.edges }
         ensures { result ≡ word_beside self.now.code.nodes self.now.kinds ((graph self.now).source e) }
     {

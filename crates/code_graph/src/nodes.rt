@@ -6,7 +6,7 @@ ghost use Rattle.code_graph.specs.Finding.{reach_of, IsReach};
 ghost use Rattle.code_graph.specs.Assembling.{AreReachedNodes, owner_number, flag_of, entry_addresses};
 
 use code_reach::{Mark, TextReach};
-use cost_theory::Word;
+use cost_theory::Flow;
 use scale_base::NoMemory;
 use std::alloc::Global;
 
@@ -16,7 +16,7 @@ pub struct Nodes {
     /// Ascending.
     pub addresses: Vec<u32>,
     /// What the word at each node says of the way on.
-    pub kinds: Vec<Word>,
+    pub kinds: Vec<Flow>,
     /// The number of the function of each node.
     pub owners: Vec<usize>,
 }
@@ -80,12 +80,12 @@ pub fn returning_of(alloc: Global, reach: &TextReach) -> Result<Vec<bool>, NoMem
 }
 
 /// The number of the function that a word calls.
-fn callee(reach: &TextReach, word: Word) -> Option<usize>
+fn callee(reach: &TextReach, word: Flow) -> Option<usize>
     requires { IsReach reach.now }
     ensures { result ≡ callee_of (entry_addresses (reach_of reach.now)) word }
 {
     match word {
-        Word::CallOf(to) => match reach.words.find(to) {
+        Flow::Call(to) => match reach.words.find(to) {
             Some(first) => reach.numbers[first],
             None => None,
         },
@@ -97,7 +97,7 @@ fn callee(reach: &TextReach, word: Word) -> Option<usize>
 pub fn callees_of(
     alloc: Global,
     reach: &TextReach,
-    kinds: &[Word],
+    kinds: &[Flow],
 ) -> Result<Vec<Option<usize>>, NoMemory>
     requires { IsReach reach.now }
     ensures { IfOk result (λ callees. callees.items ≡ map (callee_of (entry_addresses (reach_of reach.now))) kinds.now) }

@@ -4,7 +4,7 @@ ghost use Rattle.std.specs.Prelude.{◌≡◌, ◌<◌, ◌≤◌, ◌^◌, ℕ,
 ghost use Rattle.scale_base.specs.Answer.{AnswersBy};
 ghost use Rattle.code_graph.specs.Assembling.{AreCallArcs, AreCallsWithin, IsOrdered, IsTurned};
 
-use call_orders::{Arc, Order, least_first, sort};
+use graph_algorithms::{Arc, Order, least_first, sort};
 use scale_base::{Cycle, NoMemory, Refusal, Stop};
 use std::alloc::Global;
 

@@ -1,16 +1,16 @@
 //! The refusals of single addresses: of reached addresses that aren't accepted, and of shared code.
 
 ghost use Rattle.std.specs.Prelude.{◌≡◌, ◌≢◌, ◌↔◌, ◌<◌, ◌≤◌, ℕ, true, length, slice_get, Some, None, Ok};
-ghost use Rattle.cost_theory.specs.declared.edges.Word.TheVariants.{Bad};
+ghost use Rattle.cost_theory.specs.declared.flow.Flow.TheVariants as flow;
 ghost use Rattle.code_reach.specs.declared.marks.Mark.TheVariants.{Unreached, Shared};
 ghost use Rattle.scale_base.specs.Image.{image_of};
-ghost use Rattle.graph_runs.specs.Text as texts;
-ghost use Rattle.graph_runs.specs.Text.{text_of};
+ghost use Rattle.code_text.specs.Text as texts;
+ghost use Rattle.code_text.specs.Text.{text_of};
 ghost use Rattle.code_graph.specs.Refused.{cause_at, instr_cause};
 ghost use Rattle.code_graph.specs.Finding.{reach_of, IsReachIn, IsFirstBelow, IsRefusedWord, IsLesser, IsLeastBad};
 
 use code_reach::{Mark, TextReach};
-use cost_theory::Word;
+use cost_theory::Flow;
 use elf_view::ImageView;
 use rv_decode::decode;
 use scale_base::{Instr, Refusal};
@@ -30,7 +30,7 @@ fn instr_refusal(instr: Option<Instr>, at: u32) -> Refusal
 /// Why an address is refused.
 pub fn refusal_at(view: &ImageView<'_>, at: u32) -> Refusal
     requires image { image_of view.now.file ≡ Ok view.now }
-    requires bad { texts.kind_at (text_of view.now) at ≡ Bad }
+    requires bad { texts.kind_at (text_of view.now) at ≡ flow.Refused }
     ensures { cause_at (text_of view.now) at ≡ Some result }
 {
     if at % 4 != 0 {
@@ -43,12 +43,12 @@ pub fn refusal_at(view: &ImageView<'_>, at: u32) -> Refusal
 }
 
 /// Whether a word is reached and refused.
-fn is_refused(mark: Mark, word: Word) -> bool
-    ensures { (result ≡ true) ↔ ((mark ≢ Unreached) × (word ≡ Bad)) }
+fn is_refused(mark: Mark, word: Flow) -> bool
+    ensures { (result ≡ true) ↔ ((mark ≢ Unreached) × (word ≡ flow.Refused)) }
 {
     match mark {
         Mark::Unreached => false,
-        _ => matches!(word, Word::Bad),
+        _ => matches!(word, Flow::Refused),
     }
 }
 

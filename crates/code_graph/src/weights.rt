@@ -2,7 +2,7 @@
 
 ghost use Rattle.std.specs.Prelude.{◌≡◌, ◌<◌, length, map, slice_index, IfOk};
 ghost use Rattle.power_model.specs.Price.{cycles_of};
-ghost use Rattle.graph_runs.specs.EdgeCosts.{cost_of};
+ghost use Rattle.code_text.specs.EdgeCosts.{cost_of};
 
 use power_model::Costs;
 use scale_base::{Class, NoMemory};

@@ -1,8 +1,8 @@
 -- The lowest address of those that a test allows, and where the way goes on from one word.
 use Rattle.std.proofs.Common.{◌≡◌, ℕ, ◌+◌, ◌<◌, Bool, true, false, List, Option, Some, None, refl, sym, ap, ◌∙◌, subst, arith, ◌⊎◌, inl, inr, ⊎_elim}
 use Rattle.std.specs.Prelude.{slice_get, slice_index_or, min}
-use Rattle.cost_theory.specs.declared.edges.Word.{Word}
-use Rattle.cost_theory.specs.declared.edges.Word.TheVariants.{Branch, CallOf}
+use Rattle.cost_theory.specs.declared.flow.Flow.{Flow}
+use Rattle.cost_theory.specs.declared.flow.Flow.TheVariants as flow
 use Rattle.code_text.specs.Table.{WordTable}
 use Rattle.code_reach.specs.declared.marks.Mark.{Mark}
 use Rattle.code_reach.specs.declared.marks.Mark.TheVariants.{Unreached}
@@ -45,14 +45,14 @@ module _ (words : WordTable) where
   module _ (returns : List Bool) where
     -- a call of a word with a flag comes back
     pub flagged_least : (at to c : ℕ) (o : Option ℕ) → WordStandsAt words c to → flag returns c ≡ true → IsLowest (λ u. (u ≡ at + 4) × IsOutsideOf words u) o →
-        IsLowest (λ u. ((u ≡ to) ⊎ ComesBackTo words returns (CallOf to) at u) × IsOutsideOf words u) o
-    flagged_least at to c o here on l = same_least (λ u. (u ≡ at + 4) × IsOutsideOf words u) (λ u. ((u ≡ to) ⊎ ComesBackTo words returns (CallOf to) at u) × IsOutsideOf words u) o
+        IsLowest (λ u. ((u ≡ to) ⊎ ComesBackTo words returns (flow.Call to) at u) × IsOutsideOf words u) o
+    flagged_least at to c o here on l = same_least (λ u. (u ≡ at + 4) × IsOutsideOf words u) (λ u. ((u ≡ to) ⊎ ComesBackTo words returns (flow.Call to) at u) × IsOutsideOf words u) o
         (λ u p. (inr (to, c, refl, here, on, p.0), p.1))
         (λ u p. (⊎_elim (λ e. absurd (p.1 c (subst (λ x. WordStandsAt words c x) (sym e) here))) (λ q. q.5) p.0, p.1)) l
 
     -- a call of a word without one does not
-    pub unflagged_least : (at to c : ℕ) (o : Option ℕ) → o ≡ Some c → IsWordNumber words to o → flag returns c ≡ false → IsLowest (λ u. ((u ≡ to) ⊎ ComesBackTo words returns (CallOf to) at u) × IsOutsideOf words u) None
-    unflagged_least at to c o e is off = none_least (λ u. ((u ≡ to) ⊎ ComesBackTo words returns (CallOf to) at u) × IsOutsideOf words u)
+    pub unflagged_least : (at to c : ℕ) (o : Option ℕ) → o ≡ Some c → IsWordNumber words to o → flag returns c ≡ false → IsLowest (λ u. ((u ≡ to) ⊎ ComesBackTo words returns (flow.Call to) at u) × IsOutsideOf words u) None
+    unflagged_least at to c o e is off = none_least (λ u. ((u ≡ to) ⊎ ComesBackTo words returns (flow.Call to) at u) × IsOutsideOf words u)
         (λ u p. ⊎_elim (λ s. p.1 c (subst (λ x. WordStandsAt words c x) (sym s) ((is c).0 e)))
         (λ q. let h = q.0 in
         let d = q.1 in
@@ -61,7 +61,7 @@ module _ (words : WordTable) where
         let place : c ≡ d = number_same c d (sym e ∙ there) in
         clash (sym off ∙ ap (flag returns) place ∙ q.4)) p.0)
       where
-        call_same : (x y : ℕ) → CallOf x ≡ CallOf y → x ≡ y
+        call_same : (x y : ℕ) → flow.Call x ≡ flow.Call y → x ≡ y
         call_same x y s = cc
 
         number_same : (x y : ℕ) → Some x ≡ Some y → x ≡ y
@@ -70,7 +70,7 @@ module _ (words : WordTable) where
         clash : false ≡ true → ⊥
         clash s = cc
 
-    pub branch_least : (k v to : ℕ) (a b o : Option ℕ) → WordStandsAt words k v → slice_get words.kinds k ≡ Some (Branch to) → IsLowest (λ u. (u ≡ to) × IsOutsideOf words u) a → IsLowest (λ u. (u ≡ v + 4) × IsOutsideOf words u) b →
+    pub branch_least : (k v to : ℕ) (a b o : Option ℕ) → WordStandsAt words k v → slice_get words.kinds k ≡ Some (flow.Branch to) → IsLowest (λ u. (u ≡ to) × IsOutsideOf words u) a → IsLowest (λ u. (u ≡ v + 4) × IsOutsideOf words u) b →
         o ≡ lower_of a b → IsLowest (λ u. GoesOnFrom words returns k u × IsOutsideOf words u) o
     branch_least k v to a b o here kind la lb e =
         subst (λ x. IsLowest (λ u. GoesOnFrom words returns k u × IsOutsideOf words u) x) (sym e)
@@ -78,26 +78,26 @@ module _ (words : WordTable) where
         (lower_least (λ u. (u ≡ to) × IsOutsideOf words u) (λ u. (u ≡ v + 4) × IsOutsideOf words u) a b la lb))
       where
         to_way : (u : ℕ) → ((u ≡ to) × IsOutsideOf words u) ⊎ ((u ≡ v + 4) × IsOutsideOf words u) → GoesOnFrom words returns k u × IsOutsideOf words u
-        to_way u (inl p) = ((v, Branch to, here, kind, inl (inl p.0)), p.1)
-        to_way u (inr p) = ((v, Branch to, here, kind, inl (inr p.0)), p.1)
+        to_way u (inl p) = ((v, flow.Branch to, here, kind, inl (inl p.0)), p.1)
+        to_way u (inr p) = ((v, flow.Branch to, here, kind, inl (inr p.0)), p.1)
 
         value_same : (x y : ℕ) → Some x ≡ Some y → x ≡ y
         value_same x y s = cc
 
-        word_same : (x y : Word) → Some x ≡ Some y → x ≡ y
+        word_same : (x y : Flow) → Some x ≡ Some y → x ≡ y
         word_same x y s = cc
 
-        from_branch : (u : ℕ) → GoesOnTo words returns (Branch to) v u → IsOutsideOf words u → ((u ≡ to) × IsOutsideOf words u) ⊎ ((u ≡ v + 4) × IsOutsideOf words u)
+        from_branch : (u : ℕ) → GoesOnTo words returns (flow.Branch to) v u → IsOutsideOf words u → ((u ≡ to) × IsOutsideOf words u) ⊎ ((u ≡ v + 4) × IsOutsideOf words u)
         from_branch u (inl (inl s)) out = inl (s, out)
         from_branch u (inl (inr s)) out = inr (s, out)
         from_branch u (inr (inl s)) out = let r : ⊥ = cc in absurd r
-        from_branch u (inr (inr c)) out = let s : Branch to ≡ CallOf c.0 = c.2 in let r : ⊥ = cc in absurd r
+        from_branch u (inr (inr c)) out = let s : flow.Branch to ≡ flow.Call c.0 = c.2 in let r : ⊥ = cc in absurd r
 
         from_way : (u : ℕ) → GoesOnFrom words returns k u × IsOutsideOf words u → ((u ≡ to) × IsOutsideOf words u) ⊎ ((u ≡ v + 4) × IsOutsideOf words u)
         from_way u ((x, w, at, is, goes), out) =
             let sx : x ≡ v = value_same x v (sym at ∙ here) in
-            let sw : w ≡ Branch to = word_same w (Branch to) (sym is ∙ kind) in
-            from_branch u (subst (λ y. GoesOnTo words returns (Branch to) y u) sx (subst (λ y. GoesOnTo words returns y x u) sw goes)) out
+            let sw : w ≡ flow.Branch to = word_same w (flow.Branch to) (sym is ∙ kind) in
+            from_branch u (subst (λ y. GoesOnTo words returns (flow.Branch to) y u) sx (subst (λ y. GoesOnTo words returns y x u) sw goes)) out
 
     module _ (marks : List Mark) (entry : ℕ) where
       -- one word more

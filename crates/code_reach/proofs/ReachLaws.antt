@@ -3,11 +3,11 @@ use Rattle.std.proofs.Common.{◌≡◌, ℕ, ◌+◌, ◌<◌, ◌↔◌, Bool,
 use Rattle.std.specs.Prelude.{slice_get, slice_index_or}
 use Rattle.std.proofs.lemmas.Bool.{and_from}
 use Rattle.std.proofs.lemmas.Option.{slice_get_within, slice_get-get_or, get_or_from_slice_get}
-use Rattle.cost_theory.specs.declared.edges.Word.{Word}
-use Rattle.cost_theory.specs.declared.edges.Word.TheVariants.{CallOf, Back, Bad}
+use Rattle.cost_theory.specs.declared.flow.Flow.{Flow}
+use Rattle.cost_theory.specs.declared.flow.Flow.TheVariants as flow
 use Rattle.cost_theory.specs.Reached.{LeadsTo, Reached, DoesReturn}
 use Rattle.cost_theory.specs.Reached.Reached.{main, onward, back, called}
-use Rattle.graph_runs.specs.Text.{Text, kind_at}
+use Rattle.code_text.specs.Text.{Text, kind_at}
 use Rattle.code_text.specs.Table.{WordTable, word_table}
 use Rattle.code_reach.specs.declared.step.Step.{Step}
 use Rattle.code_reach.specs.declared.marks.Mark.{Mark}
@@ -36,13 +36,13 @@ module _ (steps : List Step) (returns : List Bool) where
   by_call None g u f r e lt = r
   by_call (Some first) g u f r e lt = calls_at g u r e refl lt
 
-module _ (word : ℕ → Word) (words : WordTable) (steps : List Step) (table : IsWordTableOf word words) (are : AreSteps words steps) (returns : List Bool) (flags : (s : ℕ) → (flag returns s ≡ true) ↔ CanReturnAt steps s) (entry : ℕ) where
+module _ (word : ℕ → Flow) (words : WordTable) (steps : List Step) (table : IsWordTableOf word words) (are : AreSteps words steps) (returns : List Bool) (flags : (s : ℕ) → (flag returns s ≡ true) ↔ CanReturnAt steps s) (entry : ℕ) where
   -- the function of a flagged word returns
   returns_flagged : (h c : ℕ) → WordStandsAt words c h → flag returns c ≡ true → Reached word entry h h → DoesReturn word entry h
   returns_flagged h c at on r = returns_from word entry h (can_return word words steps table are c ((flags c).0 on) h at) h r
 
   -- the first word of a function with a reached return has a flag
-  flagged : (h c r : ℕ) → WordStandsAt words c h → Reached word entry h r → word r ≡ Back → flag returns c ≡ true
+  flagged : (h c r : ℕ) → WordStandsAt words c h → Reached word entry h r → word r ≡ flow.Return → flag returns c ≡ true
   flagged h c r at reached e = (flags c).1 (can_return_at word words steps table are h (entry_from word entry h r reached (here e)) c at)
 
   -- a pair of numbers stands for a reached pair
@@ -83,11 +83,11 @@ module _ (word : ℕ → Word) (words : WordTable) (steps : List Step) (table : 
     going : (v u : ℕ) → LeadsTo (word v) v u → (k : ℕ) × WordStandsAt words k v
     going v u leads = number_of word words steps table are v (λ bad. subst (λ w. LeadsTo w v u) bad leads)
 
-    calling : (v h : ℕ) → word v ≡ CallOf h → (k : ℕ) × WordStandsAt words k v
-    calling v h e = number_of word words steps table are v (λ bad. (let clash : CallOf h ≡ Bad = cc in let r : ⊥ = cc in r))
+    calling : (v h : ℕ) → word v ≡ flow.Call h → (k : ℕ) × WordStandsAt words k v
+    calling v h e = number_of word words steps table are v (λ bad. (let clash : flow.Call h ≡ flow.Refused = cc in let r : ⊥ = cc in r))
 
-    returning : (v : ℕ) → word v ≡ Back → (k : ℕ) × WordStandsAt words k v
-    returning v e = number_of word words steps table are v (λ bad. (let clash : Back ≡ Bad = cc in let r : ⊥ = cc in r))
+    returning : (v : ℕ) → word v ≡ flow.Return → (k : ℕ) × WordStandsAt words k v
+    returning v e = number_of word words steps table are v (λ bad. (let clash : flow.Return ≡ flow.Refused = cc in let r : ⊥ = cc in r))
 
     pub reached_at : (f v : ℕ) → Reached word entry f v → (k : ℕ) → WordStandsAt words k v → (i : ℕ) × WordStandsAt words i f × ReachedFrom steps returns o i k
     reached_at f v main k at = (k, at, enter k at)

@@ -3,8 +3,8 @@ use Rattle.std.proofs.Common.{◌≡◌, ℕ, ◌+◌, ◌-◌, ◌<◌, Bool, t
 use Rattle.std.proofs.lemmas.Bool.{and_parts}
 use Rattle.std.proofs.lemmas.List.{get_or_append_left, get_or-append_right}
 use Rattle.std.proofs.lemmas.Option.{slice_get_within}
-use Rattle.cost_theory.specs.declared.edges.Word.{Word}
-use Rattle.cost_theory.specs.declared.edges.Word.TheVariants.{Branch, Goto, CallOf, Back, Ends, MayEnd, Breaks, Straight, Bad}
+use Rattle.cost_theory.specs.declared.flow.Flow.{Flow}
+use Rattle.cost_theory.specs.declared.flow.Flow.TheVariants as flow
 use Rattle.cost_theory.specs.Reached.{LeadsTo}
 use Rattle.code_text.specs.Table.{WordTable}
 use Rattle.code_reach.specs.declared.step.Step.{Step}
@@ -20,100 +20,100 @@ use Rattle.code_reach.proofs.ReturnLaws.CanReturn.{here, onward, across}
 
 module _ (words : WordTable) (k v : ℕ) where
   -- ---- from a step to its word
-  return_is : (w : Word) (s : Step) → IsStepOf words k v w s → s ≡ Return → w ≡ Back
-  return_is (Branch to) s (o, b, e, at, f) h = let bad : On o b ≡ Return = cc in let r : ⊥ = cc in absurd r
-  return_is (Goto to) s (o, e, at) h = let bad : On o false ≡ Return = cc in let r : ⊥ = cc in absurd r
-  return_is (CallOf to) s (o, b, e, at, f) h = let bad : Call o b ≡ Return = cc in let r : ⊥ = cc in absurd r
-  return_is Back s e h = refl
-  return_is Ends s e h = let bad : Stop ≡ Return = cc in let r : ⊥ = cc in absurd r
-  return_is MayEnd s (b, e, f) h = let bad : On None b ≡ Return = cc in let r : ⊥ = cc in absurd r
-  return_is Breaks s e h = let bad : Stop ≡ Return = cc in let r : ⊥ = cc in absurd r
-  return_is Straight s (b, e, f) h = let bad : On None b ≡ Return = cc in let r : ⊥ = cc in absurd r
-  return_is Bad s e h = let bad : Stop ≡ Return = cc in let r : ⊥ = cc in absurd r
+  return_is : (w : Flow) (s : Step) → IsStepOf words k v w s → s ≡ Return → w ≡ flow.Return
+  return_is (flow.Branch to) s (o, b, e, at, f) h = let bad : On o b ≡ Return = cc in let r : ⊥ = cc in absurd r
+  return_is (flow.Jump to) s (o, e, at) h = let bad : On o false ≡ Return = cc in let r : ⊥ = cc in absurd r
+  return_is (flow.Call to) s (o, b, e, at, f) h = let bad : Call o b ≡ Return = cc in let r : ⊥ = cc in absurd r
+  return_is flow.Return s e h = refl
+  return_is flow.Exit s e h = let bad : Stop ≡ Return = cc in let r : ⊥ = cc in absurd r
+  return_is flow.MayExit s (b, e, f) h = let bad : On None b ≡ Return = cc in let r : ⊥ = cc in absurd r
+  return_is flow.Breakpoint s e h = let bad : Stop ≡ Return = cc in let r : ⊥ = cc in absurd r
+  return_is flow.Next s (b, e, f) h = let bad : On None b ≡ Return = cc in let r : ⊥ = cc in absurd r
+  return_is flow.Refused s e h = let bad : Stop ≡ Return = cc in let r : ⊥ = cc in absurd r
 
-  pub jump_leads : (w : Word) (s : Step) (j : ℕ) → IsStepOf words k v w s → jumped_word s ≡ Some j → (u : ℕ) × WordStandsAt words j u × LeadsTo w v u
-  jump_leads (Branch to) s j (o, b, e, at, f) h = (to, (at j).0 (sym (ap jumped_word e) ∙ h), inl refl)
-  jump_leads (Goto to) s j (o, e, at) h = (to, (at j).0 (sym (ap jumped_word e) ∙ h), refl)
-  jump_leads (CallOf to) s j (o, b, e, at, f) h = let bad : None ≡ Some j = sym (ap jumped_word e) ∙ h in let r : ⊥ = cc in absurd r
-  jump_leads Back s j e h = let bad : None ≡ Some j = sym (ap jumped_word e) ∙ h in let r : ⊥ = cc in absurd r
-  jump_leads Ends s j e h = let bad : None ≡ Some j = sym (ap jumped_word e) ∙ h in let r : ⊥ = cc in absurd r
-  jump_leads MayEnd s j (b, e, f) h = let bad : None ≡ Some j = sym (ap jumped_word e) ∙ h in let r : ⊥ = cc in absurd r
-  jump_leads Breaks s j e h = let bad : None ≡ Some j = sym (ap jumped_word e) ∙ h in let r : ⊥ = cc in absurd r
-  jump_leads Straight s j (b, e, f) h = let bad : None ≡ Some j = sym (ap jumped_word e) ∙ h in let r : ⊥ = cc in absurd r
-  jump_leads Bad s j e h = let bad : None ≡ Some j = sym (ap jumped_word e) ∙ h in let r : ⊥ = cc in absurd r
+  pub jump_leads : (w : Flow) (s : Step) (j : ℕ) → IsStepOf words k v w s → jumped_word s ≡ Some j → (u : ℕ) × WordStandsAt words j u × LeadsTo w v u
+  jump_leads (flow.Branch to) s j (o, b, e, at, f) h = (to, (at j).0 (sym (ap jumped_word e) ∙ h), inl refl)
+  jump_leads (flow.Jump to) s j (o, e, at) h = (to, (at j).0 (sym (ap jumped_word e) ∙ h), refl)
+  jump_leads (flow.Call to) s j (o, b, e, at, f) h = let bad : None ≡ Some j = sym (ap jumped_word e) ∙ h in let r : ⊥ = cc in absurd r
+  jump_leads flow.Return s j e h = let bad : None ≡ Some j = sym (ap jumped_word e) ∙ h in let r : ⊥ = cc in absurd r
+  jump_leads flow.Exit s j e h = let bad : None ≡ Some j = sym (ap jumped_word e) ∙ h in let r : ⊥ = cc in absurd r
+  jump_leads flow.MayExit s j (b, e, f) h = let bad : None ≡ Some j = sym (ap jumped_word e) ∙ h in let r : ⊥ = cc in absurd r
+  jump_leads flow.Breakpoint s j e h = let bad : None ≡ Some j = sym (ap jumped_word e) ∙ h in let r : ⊥ = cc in absurd r
+  jump_leads flow.Next s j (b, e, f) h = let bad : None ≡ Some j = sym (ap jumped_word e) ∙ h in let r : ⊥ = cc in absurd r
+  jump_leads flow.Refused s j e h = let bad : None ≡ Some j = sym (ap jumped_word e) ∙ h in let r : ⊥ = cc in absurd r
 
-  pub callee_is : (w : Word) (s : Step) (c : ℕ) → IsStepOf words k v w s → called_word s ≡ Some c → (h : ℕ) × WordStandsAt words c h × (w ≡ CallOf h)
-  callee_is (Branch to) s c (o, b, e, at, f) h = let bad : None ≡ Some c = sym (ap called_word e) ∙ h in let r : ⊥ = cc in absurd r
-  callee_is (Goto to) s c (o, e, at) h = let bad : None ≡ Some c = sym (ap called_word e) ∙ h in let r : ⊥ = cc in absurd r
-  callee_is (CallOf to) s c (o, b, e, at, f) h = (to, (at c).0 (sym (ap called_word e) ∙ h), refl)
-  callee_is Back s c e h = let bad : None ≡ Some c = sym (ap called_word e) ∙ h in let r : ⊥ = cc in absurd r
-  callee_is Ends s c e h = let bad : None ≡ Some c = sym (ap called_word e) ∙ h in let r : ⊥ = cc in absurd r
-  callee_is MayEnd s c (b, e, f) h = let bad : None ≡ Some c = sym (ap called_word e) ∙ h in let r : ⊥ = cc in absurd r
-  callee_is Breaks s c e h = let bad : None ≡ Some c = sym (ap called_word e) ∙ h in let r : ⊥ = cc in absurd r
-  callee_is Straight s c (b, e, f) h = let bad : None ≡ Some c = sym (ap called_word e) ∙ h in let r : ⊥ = cc in absurd r
-  callee_is Bad s c e h = let bad : None ≡ Some c = sym (ap called_word e) ∙ h in let r : ⊥ = cc in absurd r
+  pub callee_is : (w : Flow) (s : Step) (c : ℕ) → IsStepOf words k v w s → called_word s ≡ Some c → (h : ℕ) × WordStandsAt words c h × (w ≡ flow.Call h)
+  callee_is (flow.Branch to) s c (o, b, e, at, f) h = let bad : None ≡ Some c = sym (ap called_word e) ∙ h in let r : ⊥ = cc in absurd r
+  callee_is (flow.Jump to) s c (o, e, at) h = let bad : None ≡ Some c = sym (ap called_word e) ∙ h in let r : ⊥ = cc in absurd r
+  callee_is (flow.Call to) s c (o, b, e, at, f) h = (to, (at c).0 (sym (ap called_word e) ∙ h), refl)
+  callee_is flow.Return s c e h = let bad : None ≡ Some c = sym (ap called_word e) ∙ h in let r : ⊥ = cc in absurd r
+  callee_is flow.Exit s c e h = let bad : None ≡ Some c = sym (ap called_word e) ∙ h in let r : ⊥ = cc in absurd r
+  callee_is flow.MayExit s c (b, e, f) h = let bad : None ≡ Some c = sym (ap called_word e) ∙ h in let r : ⊥ = cc in absurd r
+  callee_is flow.Breakpoint s c e h = let bad : None ≡ Some c = sym (ap called_word e) ∙ h in let r : ⊥ = cc in absurd r
+  callee_is flow.Next s c (b, e, f) h = let bad : None ≡ Some c = sym (ap called_word e) ∙ h in let r : ⊥ = cc in absurd r
+  callee_is flow.Refused s c e h = let bad : None ≡ Some c = sym (ap called_word e) ∙ h in let r : ⊥ = cc in absurd r
 
   -- the word is a call of a word with a flag
-  abbrev pub Comes : List Bool → Word → Type 0
-  Comes returns w = (h : ℕ) × (c : ℕ) × (w ≡ CallOf h) × WordStandsAt words c h × (flag returns c ≡ true)
+  abbrev pub Comes : List Bool → Flow → Type 0
+  Comes returns w = (h : ℕ) × (c : ℕ) × (w ≡ flow.Call h) × WordStandsAt words c h × (flag returns c ≡ true)
 
-  pub next_leads : (returns : List Bool) (w : Word) (s : Step) → IsStepOf words k v w s → goes_on_after s returns ≡ true → WordStandsAt words (k + 1) (v + 4) × (LeadsTo w v (v + 4) ⊎ Comes returns w)
-  next_leads returns (Branch to) s (o, b, e, at, f) h = (f.0 (sym (ap (λ x. goes_on_after x returns) e) ∙ h), inl (inr refl))
-  next_leads returns (Goto to) s (o, e, at) h = let bad : false ≡ true = sym (ap (λ x. goes_on_after x returns) e) ∙ h in let r : ⊥ = cc in absurd r
-  next_leads returns (CallOf to) s (o, b, e, at, f) h =
+  pub next_leads : (returns : List Bool) (w : Flow) (s : Step) → IsStepOf words k v w s → goes_on_after s returns ≡ true → WordStandsAt words (k + 1) (v + 4) × (LeadsTo w v (v + 4) ⊎ Comes returns w)
+  next_leads returns (flow.Branch to) s (o, b, e, at, f) h = (f.0 (sym (ap (λ x. goes_on_after x returns) e) ∙ h), inl (inr refl))
+  next_leads returns (flow.Jump to) s (o, e, at) h = let bad : false ≡ true = sym (ap (λ x. goes_on_after x returns) e) ∙ h in let r : ⊥ = cc in absurd r
+  next_leads returns (flow.Call to) s (o, b, e, at, f) h =
       let p = and_parts b (flag_option returns o) (sym (ap (λ x. goes_on_after x returns) e) ∙ h) in
       (f.0 p.0, inr (go o at p.1))
     where
-      go : (o : Option ℕ) → IsWordNumber words to o → flag_option returns o ≡ true → Comes returns (CallOf to)
+      go : (o : Option ℕ) → IsWordNumber words to o → flag_option returns o ≡ true → Comes returns (flow.Call to)
       go None at q = let r : ⊥ = cc in absurd r
       go (Some c) at q = (to, c, refl, (at c).0 refl, q)
-  next_leads returns Back s e h = let bad : false ≡ true = sym (ap (λ x. goes_on_after x returns) e) ∙ h in let r : ⊥ = cc in absurd r
-  next_leads returns Ends s e h = let bad : false ≡ true = sym (ap (λ x. goes_on_after x returns) e) ∙ h in let r : ⊥ = cc in absurd r
-  next_leads returns MayEnd s (b, e, f) h = (f.0 (sym (ap (λ x. goes_on_after x returns) e) ∙ h), inl refl)
-  next_leads returns Breaks s e h = let bad : false ≡ true = sym (ap (λ x. goes_on_after x returns) e) ∙ h in let r : ⊥ = cc in absurd r
-  next_leads returns Straight s (b, e, f) h = (f.0 (sym (ap (λ x. goes_on_after x returns) e) ∙ h), inl refl)
-  next_leads returns Bad s e h = let bad : false ≡ true = sym (ap (λ x. goes_on_after x returns) e) ∙ h in let r : ⊥ = cc in absurd r
+  next_leads returns flow.Return s e h = let bad : false ≡ true = sym (ap (λ x. goes_on_after x returns) e) ∙ h in let r : ⊥ = cc in absurd r
+  next_leads returns flow.Exit s e h = let bad : false ≡ true = sym (ap (λ x. goes_on_after x returns) e) ∙ h in let r : ⊥ = cc in absurd r
+  next_leads returns flow.MayExit s (b, e, f) h = (f.0 (sym (ap (λ x. goes_on_after x returns) e) ∙ h), inl refl)
+  next_leads returns flow.Breakpoint s e h = let bad : false ≡ true = sym (ap (λ x. goes_on_after x returns) e) ∙ h in let r : ⊥ = cc in absurd r
+  next_leads returns flow.Next s (b, e, f) h = (f.0 (sym (ap (λ x. goes_on_after x returns) e) ∙ h), inl refl)
+  next_leads returns flow.Refused s e h = let bad : false ≡ true = sym (ap (λ x. goes_on_after x returns) e) ∙ h in let r : ⊥ = cc in absurd r
 
   -- a call with a word right behind it
-  across_is : (w : Word) (s : Step) (c : ℕ) → IsStepOf words k v w s → s ≡ Call (Some c) true → (h : ℕ) × WordStandsAt words c h × (w ≡ CallOf h) × WordStandsAt words (k + 1) (v + 4)
+  across_is : (w : Flow) (s : Step) (c : ℕ) → IsStepOf words k v w s → s ≡ Call (Some c) true → (h : ℕ) × WordStandsAt words c h × (w ≡ flow.Call h) × WordStandsAt words (k + 1) (v + 4)
   across_is w s c is h =
       let q = callee_is w s c is (ap called_word h) in
-      let call : IsStepOf words k v (CallOf q.0) s = subst (λ x. IsStepOf words k v x s) q.2 is in
+      let call : IsStepOf words k v (flow.Call q.0) s = subst (λ x. IsStepOf words k v x s) q.2 is in
       (q.0, q.1, q.2, go q.0 call)
     where
-      go : (to : ℕ) → IsStepOf words k v (CallOf to) s → WordStandsAt words (k + 1) (v + 4)
+      go : (to : ℕ) → IsStepOf words k v (flow.Call to) s → WordStandsAt words (k + 1) (v + 4)
       go to (o, b, e, at, f) = let same : Call o b ≡ Call (Some c) true = sym e ∙ h in let yes : b ≡ true = cc in f.0 yes
 
   -- ---- from a word to its step
-  pub step_leads : (w : Word) (s : Step) (j u : ℕ) → (WordStandsAt words j (v + 4) → j ≡ k + 1) → IsStepOf words k v w s → LeadsTo w v u → WordStandsAt words j u →
+  pub step_leads : (w : Flow) (s : Step) (j u : ℕ) → (WordStandsAt words j (v + 4) → j ≡ k + 1) → IsStepOf words k v w s → LeadsTo w v u → WordStandsAt words j u →
       ((b : Bool) × (s ≡ On (Some j) b)) ⊎ ((j ≡ k + 1) × ((o : Option ℕ) × (s ≡ On o true)))
-  step_leads (Branch to) s j u next (o, b, e, at, f) (inl same) there = inl (b, e ∙ ap (λ x. On x b) ((at j).1 (subst (λ x. WordStandsAt words j x) same there)))
-  step_leads (Branch to) s j u next (o, b, e, at, f) (inr same) there =
+  step_leads (flow.Branch to) s j u next (o, b, e, at, f) (inl same) there = inl (b, e ∙ ap (λ x. On x b) ((at j).1 (subst (λ x. WordStandsAt words j x) same there)))
+  step_leads (flow.Branch to) s j u next (o, b, e, at, f) (inr same) there =
       let four = subst (λ x. WordStandsAt words j x) same there in
       let place = next four in
       inr (place, (o, e ∙ ap (λ x. On o x) (f.1 (subst (λ i. WordStandsAt words i (v + 4)) place four))))
-  step_leads (Goto to) s j u next (o, e, at) same there = inl (false, e ∙ ap (λ x. On x false) ((at j).1 (subst (λ x. WordStandsAt words j x) same there)))
-  step_leads (CallOf to) s j u next is leads there = absurd leads
-  step_leads Back s j u next is leads there = absurd leads
-  step_leads Ends s j u next is leads there = absurd leads
-  step_leads MayEnd s j u next (b, e, f) same there =
+  step_leads (flow.Jump to) s j u next (o, e, at) same there = inl (false, e ∙ ap (λ x. On x false) ((at j).1 (subst (λ x. WordStandsAt words j x) same there)))
+  step_leads (flow.Call to) s j u next is leads there = absurd leads
+  step_leads flow.Return s j u next is leads there = absurd leads
+  step_leads flow.Exit s j u next is leads there = absurd leads
+  step_leads flow.MayExit s j u next (b, e, f) same there =
       let four = subst (λ x. WordStandsAt words j x) same there in
       let place = next four in
       inr (place, (None, e ∙ ap (λ x. On None x) (f.1 (subst (λ i. WordStandsAt words i (v + 4)) place four))))
-  step_leads Breaks s j u next is leads there = absurd leads
-  step_leads Straight s j u next (b, e, f) same there =
+  step_leads flow.Breakpoint s j u next is leads there = absurd leads
+  step_leads flow.Next s j u next (b, e, f) same there =
       let four = subst (λ x. WordStandsAt words j x) same there in
       let place = next four in
       inr (place, (None, e ∙ ap (λ x. On None x) (f.1 (subst (λ i. WordStandsAt words i (v + 4)) place four))))
-  step_leads Bad s j u next is leads there = absurd leads
+  step_leads flow.Refused s j u next is leads there = absurd leads
 
-  pub step_calls : (w : Word) (s : Step) (h c : ℕ) → IsStepOf words k v w s → w ≡ CallOf h → WordStandsAt words c h → (b : Bool) × (s ≡ Call (Some c) b) × HasNextWord words k v b
+  pub step_calls : (w : Flow) (s : Step) (h c : ℕ) → IsStepOf words k v w s → w ≡ flow.Call h → WordStandsAt words c h → (b : Bool) × (s ≡ Call (Some c) b) × HasNextWord words k v b
   step_calls w s h c is calls there = go (subst (λ x. IsStepOf words k v x s) calls is)
     where
-      go : IsStepOf words k v (CallOf h) s → (b : Bool) × (s ≡ Call (Some c) b) × HasNextWord words k v b
+      go : IsStepOf words k v (flow.Call h) s → (b : Bool) × (s ≡ Call (Some c) b) × HasNextWord words k v b
       go (o, b, e, at, f) = (b, e ∙ ap (λ x. Call x b) ((at c).1 there), f)
 
-module _ (word : ℕ → Word) (words : WordTable) (steps : List Step) (table : IsWordTableOf word words) (are : AreSteps words steps) where
+module _ (word : ℕ → Flow) (words : WordTable) (steps : List Step) (table : IsWordTableOf word words) (are : AreSteps words steps) where
   pub within : (k v : ℕ) → WordStandsAt words k v → k < length steps
   within k v at = let lt = slice_get_within words.addresses k v at in let size = are.size in omega (arith, lt, size)
 
@@ -127,7 +127,7 @@ module _ (word : ℕ → Word) (words : WordTable) (steps : List Step) (table : 
   step_of k v at = are.each k (slice_get_within words.addresses k v at) v (word v) at (table.kinds k v at)
 
   -- a word at an address that is not refused
-  pub number_of : (v : ℕ) → (word v ≡ Bad → ⊥) → (k : ℕ) × WordStandsAt words k v
+  pub number_of : (v : ℕ) → (word v ≡ flow.Refused → ⊥) → (k : ℕ) × WordStandsAt words k v
   number_of v good = ⊎_elim (λ bad. absurd (good bad)) (λ at. at) (table.whole v)
 
   pub can_return : (k : ℕ) → CanReturnAt steps k → (v : ℕ) → WordStandsAt words k v → CanReturn word v
@@ -144,7 +144,7 @@ module _ (word : ℕ → Word) (words : WordTable) (steps : List Step) (table : 
 
   pub can_return_at : (v : ℕ) → CanReturn word v → (k : ℕ) → WordStandsAt words k v → CanReturnAt steps k
   can_return_at v (here e) k at =
-      let is : IsStepOf words k v Back (step_at steps k) = subst (λ w. IsStepOf words k v w (step_at steps k)) e (step_of k v at) in
+      let is : IsStepOf words k v flow.Return (step_at steps k) = subst (λ w. IsStepOf words k v w (step_at steps k)) e (step_of k v at) in
       here_at (within k v at) is
   can_return_at v (onward u leads can) k at =
       let j = number_of u (never_bad word u can) in

@@ -7,10 +7,10 @@ use Rattle.std.proofs.lemmas.Option.{slice_get-map, slice_get_within}
 use Rattle.scale_base.specs.declared.ranges.Range.{Range}
 use Rattle.scale_base.specs.Image.{Image, image_of, is_in}
 use Rattle.machine_laws.proofs.Laws.{IsTextRange, text_ranges_kept}
-use Rattle.cost_theory.specs.declared.edges.Word.{Word}
-use Rattle.cost_theory.specs.declared.edges.Word.TheVariants.{Bad}
+use Rattle.cost_theory.specs.declared.flow.Flow.{Flow}
+use Rattle.cost_theory.specs.declared.flow.Flow.TheVariants as flow
 use Rattle.cost_theory.proofs.Laws.{Within, get_within, within_get, flat_within, within_flat}
-use Rattle.graph_runs.specs.Text.{Text, text_of, kind_at, is_text_address}
+use Rattle.code_text.specs.Text.{Text, text_of, kind_at, is_text_address}
 use Rattle.code_text.specs.Table.{WordTable, word_addresses, all_addresses, word_table}
 use Rattle.code_text.specs.Walk.{RiseStrictly}
 use Rattle.code_reach.specs.Steps.{IsWordTableOf, IsWordNumber}
@@ -52,11 +52,11 @@ module _ (t : Text) (are : All IsTextRange t.ranges) where
       let w = any_within (λ r. is_in v r) t.ranges p.1 in
       within_get (all_addresses t.ranges) v (flat_within word_addresses t.ranges w.0 v w.1 (in_word w.0 v (all_within IsTextRange t.ranges w.0 are w.1) (eqb-true (v % 4) 0 p.0) w.2))
 
-  whole : (v : ℕ) → (kind_at t v ≡ Bad) ⊎ ((k : ℕ) × (slice_get (all_addresses t.ranges) k ≡ Some v))
+  whole : (v : ℕ) → (kind_at t v ≡ flow.Refused) ⊎ ((k : ℕ) × (slice_get (all_addresses t.ranges) k ≡ Some v))
   unfolding kind_at
   whole v = go ((v % 4 == 0) && is_text_address t v) refl
     where
-      go : (b : Bool) → ((v % 4 == 0) && is_text_address t v) ≡ b → (kind_at t v ≡ Bad) ⊎ ((k : ℕ) × (slice_get (all_addresses t.ranges) k ≡ Some v))
+      go : (b : Bool) → ((v % 4 == 0) && is_text_address t v) ≡ b → (kind_at t v ≡ flow.Refused) ⊎ ((k : ℕ) × (slice_get (all_addresses t.ranges) k ≡ Some v))
       go true e = inr (found v e)
       go false e = inl (cond-false _ _ _ e)
 
@@ -81,7 +81,7 @@ if_ok-map (Ok x) P Q f p = f x p
 if_ok-map (Err e) P Q f p = p
 
 -- ---- few words, and the number of one
-pub few_words : (word : ℕ → Word) (words : WordTable) → IsWordTableOf word words → length words.addresses < 2 ^ 32
+pub few_words : (word : ℕ → Flow) (words : WordTable) → IsWordTableOf word words → length words.addresses < 2 ^ 32
 few_words word words table = let few = few_below words.addresses table.rising 0xFF000000 table.low in omega (arith, few)
 
 pub number_within : (words : WordTable) (v n : ℕ) (o : Option ℕ) → IsWordNumber words v o → n ≡ length words.addresses → IfSome o (λ k. k < n)

@@ -2,7 +2,7 @@
 -- A function is named by its entry. Words of the text are numbered by their addresses.
 use Rattle.std.specs.Prelude.{◌≡◌, ◌≢◌, ℕ, ◌≤◌, ◌↔◌, Bool, true, List, length, slice_get, Option, Some}
 use Rattle.cost_theory.specs.Reached.{Reached, DoesReturn}
-use Rattle.graph_runs.specs.Text.{Text, kind_at}
+use Rattle.code_text.specs.Text.{Text, kind_at}
 use Rattle.code_text.specs.Table.{WordTable, word_table}
 use Rattle.code_reach.specs.declared.marks.Mark.{Mark}
 use Rattle.code_reach.specs.declared.marks.Mark.TheVariants.{Unreached, Owner, Shared}

@@ -1,7 +1,7 @@
 -- Where the words of a text go on by their numbers, and in which functions they are reached by their numbers.
 use Rattle.std.specs.Prelude.{◌≡◌, ◌≢◌, ℕ, ◌+◌, ◌%◌, ◌<◌, ◌↔◌, ◌⊎◌, Bool, true, false, List, length, slice_get, Option, Some, None}
-use Rattle.cost_theory.specs.declared.edges.Word.{Word}
-use Rattle.cost_theory.specs.declared.edges.Word.TheVariants.{Branch, Goto, CallOf, Back, Ends, MayEnd, Breaks, Straight, Bad}
+use Rattle.cost_theory.specs.declared.flow.Flow.{Flow}
+use Rattle.cost_theory.specs.declared.flow.Flow.TheVariants as flow
 use Rattle.code_text.specs.Table.{WordTable}
 use Rattle.code_text.specs.Walk.{RiseStrictly}
 use Rattle.code_reach.specs.declared.step.Step.{Step}
@@ -17,12 +17,12 @@ abbrev pub AreLow : List ℕ → Type 0
 AreLow addresses = (k v : ℕ) → slice_get addresses k ≡ Some v → v < 0xFF000000
 
 -- The table has the words of a text, of which `word` says the way on: they ascend, stand at multiples of 4, and each address that is not refused is one of theirs.
-pub record IsWordTableOf (word : ℕ → Word) (words : WordTable) : Type 0 where
+pub record IsWordTableOf (word : ℕ → Flow) (words : WordTable) : Type 0 where
   pub rising : RiseStrictly words.addresses
   pub aligned : (k v : ℕ) → WordStandsAt words k v → v % 4 ≡ 0
   pub low : AreLow words.addresses
   pub kinds : (k v : ℕ) → WordStandsAt words k v → slice_get words.kinds k ≡ Some (word v)
-  pub whole : (v : ℕ) → (word v ≡ Bad) ⊎ ((k : ℕ) × WordStandsAt words k v)
+  pub whole : (v : ℕ) → (word v ≡ flow.Refused) ⊎ ((k : ℕ) × WordStandsAt words k v)
 
 -- o is the number of the word at v, if one stands there
 abbrev pub IsWordNumber : WordTable → ℕ → Option ℕ → Type 0
@@ -33,20 +33,20 @@ abbrev pub HasNextWord : WordTable → ℕ → ℕ → Bool → Type 0
 HasNextWord words k v b = (b ≡ true) ↔ WordStandsAt words (k + 1) (v + 4)
 
 -- the step of word k at v, by what it says of the way on
-abbrev pub IsStepOf : WordTable → ℕ → ℕ → Word → Step → Type 0
-IsStepOf words k v (Branch to) s = (o : Option ℕ) × (b : Bool) × (s ≡ On o b) × IsWordNumber words to o × HasNextWord words k v b
-IsStepOf words k v (Goto to) s = (o : Option ℕ) × (s ≡ On o false) × IsWordNumber words to o
-IsStepOf words k v (CallOf to) s = (o : Option ℕ) × (b : Bool) × (s ≡ Call o b) × IsWordNumber words to o × HasNextWord words k v b
-IsStepOf words k v Back s = s ≡ Return
-IsStepOf words k v Ends s = s ≡ Stop
-IsStepOf words k v MayEnd s = (b : Bool) × (s ≡ On None b) × HasNextWord words k v b
-IsStepOf words k v Breaks s = s ≡ Stop
-IsStepOf words k v Straight s = (b : Bool) × (s ≡ On None b) × HasNextWord words k v b
-IsStepOf words k v Bad s = s ≡ Stop
+abbrev pub IsStepOf : WordTable → ℕ → ℕ → Flow → Step → Type 0
+IsStepOf words k v (flow.Branch to) s = (o : Option ℕ) × (b : Bool) × (s ≡ On o b) × IsWordNumber words to o × HasNextWord words k v b
+IsStepOf words k v (flow.Jump to) s = (o : Option ℕ) × (s ≡ On o false) × IsWordNumber words to o
+IsStepOf words k v (flow.Call to) s = (o : Option ℕ) × (b : Bool) × (s ≡ Call o b) × IsWordNumber words to o × HasNextWord words k v b
+IsStepOf words k v flow.Return s = s ≡ Return
+IsStepOf words k v flow.Exit s = s ≡ Stop
+IsStepOf words k v flow.MayExit s = (b : Bool) × (s ≡ On None b) × HasNextWord words k v b
+IsStepOf words k v flow.Breakpoint s = s ≡ Stop
+IsStepOf words k v flow.Next s = (b : Bool) × (s ≡ On None b) × HasNextWord words k v b
+IsStepOf words k v flow.Refused s = s ≡ Stop
 
 -- the step of word k
 abbrev pub IsStepAt : WordTable → ℕ → Step → Type 0
-IsStepAt words k s = (v : ℕ) (w : Word) → WordStandsAt words k v → slice_get words.kinds k ≡ Some w → IsStepOf words k v w s
+IsStepAt words k s = (v : ℕ) (w : Flow) → WordStandsAt words k v → slice_get words.kinds k ≡ Some w → IsStepOf words k v w s
 
 -- each word's step
 pub record AreSteps (words : WordTable) (steps : List Step) : Type 0 where

@@ -1,13 +1,13 @@
 //! The reached addresses at which no word of a text stands.
 
 ghost use Rattle.std.specs.Prelude.{◌≡◌, ◌<◌, ◌⊎◌, length};
-ghost use Rattle.cost_theory.specs.declared.edges.Word.TheVariants.{CallOf};
+ghost use Rattle.cost_theory.specs.declared.flow.Flow.TheVariants as flow;
 ghost use Rattle.code_reach.specs.Outside.{lower_of, has_mark, IsLowest, IsOutsideOf, ComesBackTo, GoesOnFrom, IsComeTo};
 ghost use Rattle.code_reach.specs.Steps.{AreLow};
 
 use crate::marks::Mark;
 use code_text::TextWords;
-use cost_theory::Word;
+use cost_theory::Flow;
 
 /// The lower of two addresses.
 fn lower(a: Option<u32>, b: Option<u32>) -> Option<u32>
@@ -34,7 +34,7 @@ fn if_outside(words: &TextWords, at: u32) -> Option<u32>
 fn called_outside(words: &TextWords, returning: &[bool], at: u32, to: u32) -> Option<u32>
     requires low { at < 0xFF000000 }
     requires size { length returning.now ≡ length words.now.addresses }
-    ensures { IsLowest (λ u. ((u ≡ to) ⊎ ComesBackTo words.now returning.now (CallOf to) at u) × IsOutsideOf words.now u) result }
+    ensures { IsLowest (λ u. ((u ≡ to) ⊎ ComesBackTo words.now returning.now (flow.Call to) at u) × IsOutsideOf words.now u) result }
 {
     match words.find(to) {
         Some(callee) => {
@@ -57,11 +57,11 @@ fn left_from(words: &TextWords, returning: &[bool], k: usize) -> Option<u32>
 {
     let at = words.address(k);
     match words.kind(k) {
-        Word::Branch(to) => lower(if_outside(words, to), if_outside(words, at + 4)),
-        Word::Goto(to) => if_outside(words, to),
-        Word::CallOf(to) => called_outside(words, returning, at, to),
-        Word::MayEnd | Word::Straight => if_outside(words, at + 4),
-        Word::Back | Word::Ends | Word::Breaks | Word::Bad => None,
+        Flow::Branch(to) => lower(if_outside(words, to), if_outside(words, at + 4)),
+        Flow::Jump(to) => if_outside(words, to),
+        Flow::Call(to) => called_outside(words, returning, at, to),
+        Flow::MayExit | Flow::Next => if_outside(words, at + 4),
+        Flow::Return | Flow::Exit | Flow::Breakpoint | Flow::Refused => None,
     }
 }
 

@@ -1,7 +1,7 @@
 //! The reached words of a text.
 
 ghost use Rattle.std.specs.Prelude.{◌≡◌, IfOk};
-ghost use Rattle.graph_runs.specs.Text.{text_of, kind_at};
+ghost use Rattle.code_text.specs.Text.{text_of, kind_at};
 ghost use Rattle.code_text.specs.Table.{word_table};
 ghost use Rattle.code_reach.specs.Steps.{IsWordTableOf};
 ghost use Rattle.code_reach.specs.Reach.{Reach, IsReachOf};

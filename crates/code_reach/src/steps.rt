@@ -6,7 +6,7 @@ ghost use Rattle.code_reach.specs.Steps.{AreLow, HasNextWord, IsStepAt, AreSteps
 
 use crate::step::Step;
 use code_text::TextWords;
-use cost_theory::Word;
+use cost_theory::Flow;
 use scale_base::NoMemory;
 use std::alloc::Global;
 
@@ -26,12 +26,12 @@ fn step_of(words: &TextWords, k: usize) -> Step
     ensures { IsStepAt words.now k result }
 {
     match words.kind(k) {
-        Word::Branch(to) => Step::On(words.find(to), has_next(words, k)),
-        Word::Goto(to) => Step::On(words.find(to), false),
-        Word::CallOf(to) => Step::Call(words.find(to), has_next(words, k)),
-        Word::Back => Step::Return,
-        Word::MayEnd | Word::Straight => Step::On(None, has_next(words, k)),
-        Word::Ends | Word::Breaks | Word::Bad => Step::Stop,
+        Flow::Branch(to) => Step::On(words.find(to), has_next(words, k)),
+        Flow::Jump(to) => Step::On(words.find(to), false),
+        Flow::Call(to) => Step::Call(words.find(to), has_next(words, k)),
+        Flow::Return => Step::Return,
+        Flow::MayExit | Flow::Next => Step::On(None, has_next(words, k)),
+        Flow::Exit | Flow::Breakpoint | Flow::Refused => Step::Stop,
     }
 }
 

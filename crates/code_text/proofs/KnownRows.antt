@@ -5,7 +5,7 @@ use Rattle.std.specs.List.{list_any}
 use Rattle.std.proofs.lemmas.Bool.{and_parts, and_from, or_parts, cond-true, cond-false, leb-true, le-leb, lt-ltb, ltb-true, not-false, eq-eqb}
 use Rattle.scale_base.specs.declared.ranges.Range.{Range}
 use Rattle.scale_base.specs.Image.{Image, is_in, is_word_address}
-use Rattle.graph_runs.specs.Text.{Text, text_of, instr_at, is_target, follows, known_behind, known_within}
+use Rattle.code_text.specs.Text.{Text, text_of, instr_at, is_target, follows, known_behind, known_within}
 use Rattle.code_text.specs.Walk.{IsWalked, AreTargetsOf}
 
 -- no jump may come to the address, and a word stands right before it

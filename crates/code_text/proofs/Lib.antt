@@ -4,3 +4,8 @@ pub mod KnownRows
 pub mod Rising
 pub mod Rows
 pub mod Laws
+pub mod StoredWords
+pub mod KnownNumbers
+pub mod RangesApart
+pub mod WeightLaws
+pub mod KindFacts

@@ -14,7 +14,7 @@ use Rattle.std.specs.Cmp.{both_ways}
 use Rattle.std.proofs.lemmas.Bool.{eqb-true, eq-eqb}
 use Rattle.scale_base.specs.declared.ranges.Range.{Range}
 use Rattle.cost_theory.specs.Graph.{any_below}
-use Rattle.graph_runs.specs.Text.{Text, is_at, is_target, jumps_from}
+use Rattle.code_text.specs.Text.{Text, is_at, is_target, jumps_from}
 use Rattle.code_text.specs.Walk.{AreTargetsOf, Rise}
 use Rattle.code_text.specs.Table.{word_addresses, all_addresses}
 

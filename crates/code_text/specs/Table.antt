@@ -2,13 +2,13 @@
 use Rattle.std.specs.Prelude.{ℕ, ◌+◌, ◌-◌, ◌*◌, ◌/◌, List, map}
 use Rattle.std.specs.List.{range_with_len, flat_map}
 use Rattle.scale_base.specs.declared.ranges.Range.{Range}
-use Rattle.cost_theory.specs.declared.edges.Word.{Word}
-use Rattle.graph_runs.specs.Text.{Text, kind_at}
+use Rattle.cost_theory.specs.declared.flow.Flow.{Flow}
+use Rattle.code_text.specs.Text.{Text, kind_at}
 
 -- the address of each word, and what it says of the way on
 pub record WordTable : Type 0 where
   pub addresses : List ℕ
-  pub kinds : List Word
+  pub kinds : List Flow
 
 -- the addresses of the words of a range
 abbrev pub word_addresses : Range → List ℕ

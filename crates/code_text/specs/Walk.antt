@@ -3,7 +3,7 @@ use Rattle.std.specs.Prelude.{◌≡◌, ℕ, ◌+◌, ◌%◌, ◌==◌, ◌<�
 use Rattle.std.specs.List.{list_any}
 use Rattle.scale_base.specs.declared.ranges.Range.{Range}
 use Rattle.scale_base.specs.Image.{Image, image_of, is_in}
-use Rattle.graph_runs.specs.Text.{Text, text_of, is_target, follows}
+use Rattle.code_text.specs.Text.{Text, text_of, is_target, follows}
 
 -- The range is one of the text of an image: it begins at a multiple of 4, each of its addresses is one of the text, and one follows a word right before it where that is in
 -- the range too.

@@ -4,9 +4,9 @@ ghost use Rattle.std.specs.Prelude.{◌≡◌, ℕ, Option, Some, None, Ok, true
 ghost use Rattle.scale_base.specs.Arith.{moved_by};
 ghost use Rattle.scale_base.specs.Reading.{instr_of};
 ghost use Rattle.scale_base.specs.Image.{image_of, is_word_address, text_word};
-ghost use Rattle.graph_runs.specs.Text as texts;
+ghost use Rattle.code_text.specs.Text as texts;
 
-use cost_theory::Word;
+use cost_theory::Flow;
 use elf_view::ImageView;
 use rv_decode::decode;
 use scale_base::{ImmOp, Instr};
@@ -72,47 +72,47 @@ pub fn leaves_17(instr: &Instr) -> bool
 }
 
 /// An ECALL, by the number that x17 is known to hold. Services 93 and 94 exit.
-fn ecall_kind(known: Option<u32>) -> Word
+fn ecall_kind(known: Option<u32>) -> Flow
     ensures { result ≡ texts.ecall_kind known }
 {
     match known {
-        Some(93 | 94) => Word::Ends,
-        Some(_) => Word::Straight,
-        None => Word::MayEnd,
+        Some(93 | 94) => Flow::Exit,
+        Some(_) => Flow::Next,
+        None => Flow::MayExit,
     }
 }
 
-fn jal_kind(rd: u8, to: u32) -> Word
+fn jal_kind(rd: u8, to: u32) -> Flow
     ensures { result ≡ texts.jal_kind rd to }
 {
     match rd {
-        0 => Word::Goto(to),
-        1 => Word::CallOf(to),
-        _ => Word::Bad,
+        0 => Flow::Jump(to),
+        1 => Flow::Call(to),
+        _ => Flow::Refused,
     }
 }
 
-fn jalr_kind(rd: u8, rs1: u8, offset: i32) -> Word
+fn jalr_kind(rd: u8, rs1: u8, offset: i32) -> Flow
     ensures { result ≡ texts.jalr_kind rd rs1 offset }
 {
     if rd == 0 && rs1 == 1 && offset == 0 {
-        Word::Back
+        Flow::Return
     } else {
-        Word::Bad
+        Flow::Refused
     }
 }
 
 /// What the instruction at an address says of the way on, by the number that x17 is known to hold there if it
 /// is an ECALL.
-pub fn instr_kind(instr: &Instr, at: u32, known: Option<u32>) -> Word
+pub fn instr_kind(instr: &Instr, at: u32, known: Option<u32>) -> Flow
     ensures { (t : texts.Text) → (instr.now ≡ Instr.Ecall → texts.known t at ≡ known) → result ≡ texts.instr_kind t at instr.now }
 {
     match *instr {
-        Instr::Branch { offset, .. } => Word::Branch(moved(at, offset)),
+        Instr::Branch { offset, .. } => Flow::Branch(moved(at, offset)),
         Instr::Jal { rd, offset } => jal_kind(rd, moved(at, offset)),
         Instr::Jalr { rd, rs1, offset } => jalr_kind(rd, rs1, offset),
         Instr::Ecall => ecall_kind(known),
-        Instr::Ebreak => Word::Breaks,
-        _ => Word::Straight,
+        Instr::Ebreak => Flow::Breakpoint,
+        _ => Flow::Next,
     }
 }

@@ -3,7 +3,7 @@
 ghost use Rattle.std.specs.Prelude.{◌≡◌, ℕ, ◌%◌, ◌+◌, ◌==◌, ◌||◌, not, nat_le, Some, None, true};
 ghost use Rattle.std.specs.List.{list_any};
 ghost use Rattle.scale_base.specs.Image.{is_in};
-ghost use Rattle.graph_runs.specs.Text as texts;
+ghost use Rattle.code_text.specs.Text as texts;
 ghost use Rattle.code_text.specs.Walk.{IsWalked, AreTargetsOf, Rise};
 
 use crate::instructions::{instr_at, leaves_17, puts_17};

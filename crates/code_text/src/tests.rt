@@ -1,5 +1,5 @@
 use super::*;
-use cost_theory::Word;
+use cost_theory::Flow;
 use elf_view::read_image;
 use std::test::*;
 
@@ -32,7 +32,7 @@ fn file_of(words: &[u32; 40]) -> [u8; 244] {
     file
 }
 
-fn kind_of(words: &TextWords, at: u32) -> Option<Word> {
+fn kind_of(words: &TextWords, at: u32) -> Option<Flow> {
     let k = words.find(at)?;
     if k < words.count() && words.address(k) == at {
         Some(words.kind(k))
@@ -69,20 +69,20 @@ fn says_the_way_on_of_each_word(rt: HostRuntime) -> Result<(), Fail> {
     let words = read_words(rt.alloc(), &view).ok().ok_or("there is memory")?;
     assert_eq!(rt; words.count(), 40);
     for (at, want) in [
-        (0x10000, Word::Straight),
-        (0x10008, Word::Ends),
-        (0x1000C, Word::Branch(0x10018)),
-        (0x10018, Word::MayEnd),
-        (0x10024, Word::Ends),
-        (0x10028, Word::CallOf(0x10050)),
-        (0x10030, Word::Straight),
-        (0x10034, Word::Back),
-        (0x10038, Word::Bad),
-        (0x1003C, Word::Bad),
-        (0x10040, Word::Goto(0x10048)),
-        (0x10044, Word::Breaks),
-        (0x10048, Word::Bad),
-        (0x1004C, Word::MayEnd),
+        (0x10000, Flow::Next),
+        (0x10008, Flow::Exit),
+        (0x1000C, Flow::Branch(0x10018)),
+        (0x10018, Flow::MayExit),
+        (0x10024, Flow::Exit),
+        (0x10028, Flow::Call(0x10050)),
+        (0x10030, Flow::Next),
+        (0x10034, Flow::Return),
+        (0x10038, Flow::Refused),
+        (0x1003C, Flow::Refused),
+        (0x10040, Flow::Jump(0x10048)),
+        (0x10044, Flow::Breakpoint),
+        (0x10048, Flow::Refused),
+        (0x1004C, Flow::MayExit),
     ] {
         assert_eq!(rt; kind_of(&words, at), Some(want));
     }
@@ -116,7 +116,7 @@ fn looks_sixteen_words_back(rt: HostRuntime) -> Result<(), Fail> {
         .ok()
         .ok_or("the file is an image")?;
     let words = read_words(rt.alloc(), &view).ok().ok_or("there is memory")?;
-    assert_eq!(rt; kind_of(&words, 0x10040), Some(Word::Ends));
-    assert_eq!(rt; kind_of(&words, 0x10088), Some(Word::MayEnd));
+    assert_eq!(rt; kind_of(&words, 0x10040), Some(Flow::Exit));
+    assert_eq!(rt; kind_of(&words, 0x10088), Some(Flow::MayExit));
     Ok(())
 }

@@ -2,14 +2,14 @@
 
 ghost use Rattle.std.specs.Prelude.{◌≡◌, ◌↔◌, ◌<◌, ℕ, ◌%◌, ◌++◌, IfOk, Some, length, map, slice_index, slice_get, true};
 ghost use Rattle.scale_base.specs.Image.{is_in};
-ghost use Rattle.graph_runs.specs.Text as texts;
+ghost use Rattle.code_text.specs.Text as texts;
 ghost use Rattle.code_text.specs.Table.{word_addresses, all_addresses, word_table};
 ghost use Rattle.code_text.specs.Walk.{IsWalked, AreTargetsOf, Rise, RiseStrictly};
 
 use crate::instructions::{instr_at, instr_kind};
 use crate::known::known_within;
 use crate::targets::targets_of;
-use cost_theory::Word;
+use cost_theory::Flow;
 use elf_view::ImageView;
 use scale_base::{Instr, NoMemory, Range};
 use std::alloc::Global;
@@ -22,7 +22,7 @@ const WORDS_BACK: u32 = 16;
 #[derive(Drop)]
 pub struct TextWords {
     addresses: Vec<u32>,
-    kinds: Vec<Word>,
+    kinds: Vec<Flow>,
 }
 
 impl Model for TextWords {
@@ -82,7 +82,7 @@ fn known_for(
 }
 
 /// What the word at an address of a range says of the way on.
-fn kind_at(view: &ImageView<'_>, targets: &[u32], range: Range, at: u32) -> Word
+fn kind_at(view: &ImageView<'_>, targets: &[u32], range: Range, at: u32) -> Flow
     requires aligned { at % 4 ≡ 0 }
     requires inside { is_in at range ≡ true }
     requires range { IsWalked view.now range }
@@ -92,13 +92,13 @@ fn kind_at(view: &ImageView<'_>, targets: &[u32], range: Range, at: u32) -> Word
 {
     match instr_at(view, at) {
         Some(instr) => instr_kind(&instr, at, known_for(&instr, view, targets, range, at)),
-        None => Word::Bad,
+        None => Flow::Refused,
     }
 }
 
 /// Puts what the words of a range say of the way on behind the others.
 fn add_kinds(
-    kinds: &mut Vec<Word>,
+    kinds: &mut Vec<Flow>,
     view: &ImageView<'_>,
     targets: &[u32],
     range: Range,
@@ -115,7 +115,7 @@ fn add_kinds(
 }
 
 /// What each word of the text says of the way on.
-fn kinds_of(alloc: Global, view: &ImageView<'_>, targets: &[u32]) -> Result<Vec<Word>, NoMemory>
+fn kinds_of(alloc: Global, view: &ImageView<'_>, targets: &[u32]) -> Result<Vec<Flow>, NoMemory>
     requires targets { AreTargetsOf (texts.text_of view.now) targets.now }
     requires rising { Rise targets.now }
     ensures { IfOk result (λ kinds. kinds.items ≡ map (texts.kind_at (texts.text_of view.now)) (all_addresses view.now.text)) }
@@ -157,7 +157,7 @@ impl TextWords {
     }
 
     /// What a word says of the way on.
-    pub fn kind(&self, k: usize) -> Word
+    pub fn kind(&self, k: usize) -> Flow
         requires { k < length self.now.addresses }
         ensures { slice_get self.now.kinds k ≡ Some result }
     {

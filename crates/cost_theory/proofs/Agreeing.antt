@@ -1,12 +1,12 @@
 -- Words that agree at the nodes of edges give one graph, and the edges of reached code start at its nodes.
 use Rattle.std.proofs.Common.{◌≡◌, ℕ, Option, Some, None, slice_get, refl, sym, ap, ◌∙◌, subst}
 use Rattle.std.proofs.Math.Path.{fun_ext}
-use Rattle.cost_theory.specs.declared.edges.Word.{Word}
-use Rattle.cost_theory.specs.declared.edges.Edge.{Edge}
+use Rattle.cost_theory.specs.declared.flow.Flow.{Flow}
+use Rattle.scale_base.specs.declared.edges.Edge.{Edge}
 use Rattle.cost_theory.specs.Reached.{Code, callee_of, edge_callee, is_return_word, edge_returns, is_exit, edge_exits, graph_of, IsCodeOf}
 use Rattle.cost_theory.proofs.Reaching.{edge_of_word}
 
-module _ (word word' : ℕ → Word) (code : Code) (same : (i : ℕ) (e : Edge) → slice_get code.edges i ≡ Some e → word e.at ≡ word' e.at) where
+module _ (word word' : ℕ → Flow) (code : Code) (same : (i : ℕ) (e : Edge) → slice_get code.edges i ≡ Some e → word e.at ≡ word' e.at) where
   callees : (i : ℕ) (o : Option Edge) → slice_get code.edges i ≡ o → edge_callee word code.functions o ≡ edge_callee word' code.functions o
   callees i None at = refl
   callees i (Some e) at = ap (callee_of code.functions) (same i e at)
@@ -29,7 +29,7 @@ module _ (word word' : ℕ → Word) (code : Code) (same : (i : ℕ) (e : Edge) 
       ap (λ f. record (graph_of word' code) { exits = f }) three)
 
 -- an edge starts at a node
-pub edge_node : (word : ℕ → Word) (first : ℕ) (code : Code) → IsCodeOf word first code → (i : ℕ) (e : Edge) → slice_get code.edges i ≡ Some e →
+pub edge_node : (word : ℕ → Flow) (first : ℕ) (code : Code) → IsCodeOf word first code → (i : ℕ) (e : Edge) → slice_get code.edges i ≡ Some e →
     (k : ℕ) × (slice_get code.nodes k ≡ Some e.at)
 edge_node word first code is i e at =
     let r = edge_of_word word first code is i e at in

@@ -19,7 +19,7 @@ pub use Rattle.cost_theory.proofs.Orders.{entered-accepted, function-worst, left
 pub use Rattle.cost_theory.proofs.OrdersExist.{call_order, plain_order}
 pub use Rattle.cost_theory.proofs.Overruns.{closing-worst, iteration-worst}
 pub use Rattle.cost_theory.proofs.Programs.{back-word, back_ends, callee-call, callee-is, callee_word, edge_leads, edge_word, end_edge, is_program}
-pub use Rattle.cost_theory.proofs.Programs.{returns_word, same_owner, some_get, source_reached}
+pub use Rattle.cost_theory.proofs.Programs.{reached_node, returns_word, same_owner, some_get, source_reached}
 pub use Rattle.cost_theory.proofs.Reaching.{Within, edge_of_word, edges-at, flat_within, get_within, within_flat, within_get, word_edge}
 pub use Rattle.cost_theory.proofs.Rest.{first_uncalled, plain_from_entry, rest-worst}
 pub use Rattle.cost_theory.proofs.Runs.{left_start, run-worst, sound_after, sound_run, sound_start, step_law}

@@ -5,8 +5,8 @@ use Rattle.cost_theory.specs.Worst.{at_some}
 use Rattle.cost_theory.specs.Least.{IsLeastIfAny, IsUpTo, Least, EndsWith, callee_value, least_call, least_cost, IsReturn, IsExit, IsWay, way_cost, AreLeast}
 use Rattle.cost_theory.specs.Least.WayToEnd.{Exits, Returns}
 use Rattle.cost_theory.specs.Accepted.{IsNode, IsProgram, AreWeights}
-use Rattle.cost_theory.specs.Steps.{GraphState, Move, edge_of, go_back, after_return, after, ComesBack, IsKept, AreKept, EndsByExit, cycles}
-use Rattle.cost_theory.specs.Steps.Move.{Along, Call, Return, Exit}
+use Rattle.cost_theory.specs.Steps.{GraphState, Transition, edge_of, go_back, after_return, after, ComesBack, IsKept, AreKept, EndsByExit, cycles}
+use Rattle.cost_theory.specs.Steps.Transition.{Along, Call, Return, Exit}
 use Rattle.cost_theory.proofs.Law.{IsChain, Stands, IsSound, next-is}
 use Rattle.cost_theory.proofs.Runs.{sound_after}
 
@@ -178,7 +178,7 @@ module _ (g : Graph) (l : Loops) (extent : ℕ → ℕ → Bool) (w : ℕ → �
           up_to-le _ _ _ (omega arith) q
 
   -- each step but an exit goes on
-  pub ends_step : (s : GraphState) (m : Move) (v x : ℕ) → IsSound g l s → IsKept g l s m → (after g l s m).node ≡ Some v → Ends g n v (after g l s m).calls x →
+  pub ends_step : (s : GraphState) (m : Transition) (v x : ℕ) → IsSound g l s → IsKept g l s m → (after g l s m).node ≡ Some v → Ends g n v (after g l s m).calls x →
       Ends g n (g.source (edge_of m)) s.calls (w (edge_of m) + x)
   ends_step s (Along e) v x sound kept to ends =
       let c : least_cost g w n e ≡ w e = local_cost e v kept.move.0 to in
@@ -198,7 +198,7 @@ module _ (g : Graph) (l : Loops) (extent : ℕ → ℕ → Bool) (w : ℕ → �
       go (u ∷ calls) comes to ends = back u calls (next_edge g u) refl to ends
   ends_step s (Exit e) v x sound kept to ends = let q : None ≡ Some v = to in let bad : ⊥ = cc in absurd bad
 
-  pub run_ends : (ms : List Move) (s : GraphState) (v : ℕ) → s.node ≡ Some v → IsSound g l s → AreKept g l s ms → EndsByExit ms → Ends g n v s.calls (cycles w ms)
+  pub run_ends : (ms : List Transition) (s : GraphState) (v : ℕ) → s.node ≡ Some v → IsSound g l s → AreKept g l s ms → EndsByExit ms → Ends g n v s.calls (cycles w ms)
   run_ends [] s v at sound kept exits = absurd exits
   run_ends (m ∷ []) s v at sound kept exits =
       let k : IsKept g l s (Exit exits.0) = subst (λ x. IsKept g l s x) exits.1 kept.0 in
@@ -217,7 +217,7 @@ module _ (g : Graph) (l : Loops) (extent : ℕ → ℕ → Bool) (w : ℕ → �
       (ends_step s m (g.source (edge_of k)) (cycles w (k ∷ ms)) sound kept.0 next ih)
 
   -- the least cycles to an end are there, and at most the run's
-  pub run-least : (ms : List Move) (s : GraphState) (v : ℕ) → s.node ≡ Some v → IsSound g l s → AreKept g l s ms → EndsByExit ms → IsUpTo (n.to_end v) (cycles w ms)
+  pub run-least : (ms : List Transition) (s : GraphState) (v : ℕ) → s.node ≡ Some v → IsSound g l s → AreKept g l s ms → EndsByExit ms → IsUpTo (n.to_end v) (cycles w ms)
   run-least ms s v at sound kept exits =
       let here : IsNode g v × IsChain g (g.owner v) s.calls = subst (λ p. Stands g p s.calls) at sound.stands in
       ends-way s.calls v (cycles w ms) here.1 (run_ends ms s v at sound kept exits)

@@ -2,11 +2,11 @@
 use Rattle.std.proofs.Common.{◌≡◌, ℕ, zero, suc, ◌+◌, ◌<◌, Bool, true, false, ◌⊎◌, inl, inr, List, [], ◌∷◌, ◌++◌, length, slice_get, flat_map, Some, refl, sym, ap, ◌∙◌, subst, ⊎_elim}
 use Rattle.std.proofs.lemmas.Option.{slice_get_within}
 use Rattle.cost_theory.specs.Graph.{Loops, IsWalk, end_of}
-use Rattle.cost_theory.specs.declared.edges.Word.{Word}
-use Rattle.cost_theory.specs.declared.edges.Edge.{Edge}
+use Rattle.cost_theory.specs.declared.flow.Flow.{Flow}
+use Rattle.scale_base.specs.declared.edges.Edge.{Edge}
 use Rattle.cost_theory.specs.Reached.{LeadsTo, Reached, edges_of, Code, place_after, edge_at, edge_to, call_returns, graph_of, IsCodeOf}
-use Rattle.cost_theory.specs.declared.edges.Word.TheVariants.{Branch, Goto, CallOf, Back, Ends, MayEnd, Breaks, Straight, Bad}
-use Rattle.cost_theory.specs.declared.edges.EdgeKind.TheVariants.{Taken, Untaken, Jump, Next, CallNext}
+use Rattle.cost_theory.specs.declared.flow.Flow.TheVariants as flow
+use Rattle.scale_base.specs.declared.edges.EdgeKind.TheVariants.{Taken, Untaken, Jump, Next, CallNext}
 use Rattle.cost_theory.specs.Reached.Reached.{main, onward, back, called}
 use Rattle.cost_theory.proofs.Append.{walk-append, end_of-append}
 
@@ -52,33 +52,33 @@ within_flat f (u ∷ us) x h = ⊎_elim
     (λ b. let r : (v : _) × Within v us × Within x (f v) = within_flat f us x b in (r.0, inr r.1, r.2)) (within_either (f u) (flat_map f us) x h)
 
 -- the edges of a word at v start there
-pub edges-at : (w : Word) (v : ℕ) (b : Bool) (x : Edge) → Within x (edges_of w v b) → x.at ≡ v
-edges-at (Branch to) v b x h = ⊎_elim (λ e. sym (ap (λ y. y.at) e)) (λ r. ⊎_elim (λ e. sym (ap (λ y. y.at) e)) (λ n. absurd n) r) h
-edges-at (Goto to) v b x h = ⊎_elim (λ e. sym (ap (λ y. y.at) e)) (λ n. absurd n) h
-edges-at (CallOf to) v true x h = ⊎_elim (λ e. sym (ap (λ y. y.at) e)) (λ r. ⊎_elim (λ e. sym (ap (λ y. y.at) e)) (λ n. absurd n) r) h
-edges-at (CallOf to) v false x h = ⊎_elim (λ e. sym (ap (λ y. y.at) e)) (λ n. absurd n) h
-edges-at Back v b x h = ⊎_elim (λ e. sym (ap (λ y. y.at) e)) (λ n. absurd n) h
-edges-at Ends v b x h = ⊎_elim (λ e. sym (ap (λ y. y.at) e)) (λ n. absurd n) h
-edges-at MayEnd v b x h = ⊎_elim (λ e. sym (ap (λ y. y.at) e)) (λ r. ⊎_elim (λ e. sym (ap (λ y. y.at) e)) (λ n. absurd n) r) h
-edges-at Breaks v b x h = ⊎_elim (λ e. sym (ap (λ y. y.at) e)) (λ n. absurd n) h
-edges-at Straight v b x h = ⊎_elim (λ e. sym (ap (λ y. y.at) e)) (λ n. absurd n) h
-edges-at Bad v b x h = absurd h
+pub edges-at : (w : Flow) (v : ℕ) (b : Bool) (x : Edge) → Within x (edges_of w v b) → x.at ≡ v
+edges-at (flow.Branch to) v b x h = ⊎_elim (λ e. sym (ap (λ y. y.at) e)) (λ r. ⊎_elim (λ e. sym (ap (λ y. y.at) e)) (λ n. absurd n) r) h
+edges-at (flow.Jump to) v b x h = ⊎_elim (λ e. sym (ap (λ y. y.at) e)) (λ n. absurd n) h
+edges-at (flow.Call to) v true x h = ⊎_elim (λ e. sym (ap (λ y. y.at) e)) (λ r. ⊎_elim (λ e. sym (ap (λ y. y.at) e)) (λ n. absurd n) r) h
+edges-at (flow.Call to) v false x h = ⊎_elim (λ e. sym (ap (λ y. y.at) e)) (λ n. absurd n) h
+edges-at flow.Return v b x h = ⊎_elim (λ e. sym (ap (λ y. y.at) e)) (λ n. absurd n) h
+edges-at flow.Exit v b x h = ⊎_elim (λ e. sym (ap (λ y. y.at) e)) (λ n. absurd n) h
+edges-at flow.MayExit v b x h = ⊎_elim (λ e. sym (ap (λ y. y.at) e)) (λ r. ⊎_elim (λ e. sym (ap (λ y. y.at) e)) (λ n. absurd n) r) h
+edges-at flow.Breakpoint v b x h = ⊎_elim (λ e. sym (ap (λ y. y.at) e)) (λ n. absurd n) h
+edges-at flow.Next v b x h = ⊎_elim (λ e. sym (ap (λ y. y.at) e)) (λ n. absurd n) h
+edges-at flow.Refused v b x h = absurd h
 
 -- where a word leads an edge leads
-pub leads_edge : (w : Word) (v u : ℕ) (b : Bool) → LeadsTo w v u → (x : Edge) × Within x (edges_of w v b) × (place_after x.kind x.to ≡ Some u)
-leads_edge (Branch to) v u b h = ⊎_elim
+pub leads_edge : (w : Flow) (v u : ℕ) (b : Bool) → LeadsTo w v u → (x : Edge) × Within x (edges_of w v b) × (place_after x.kind x.to ≡ Some u)
+leads_edge (flow.Branch to) v u b h = ⊎_elim
     (λ e. (record { at = v; kind = Taken; to = to }, inl refl, ap Some (sym e)))
     (λ e. (record { at = v; kind = Untaken; to = v + 4 }, inr (inl refl), ap Some (sym e))) h
-leads_edge (Goto to) v u b h = (record { at = v; kind = Jump; to = to }, inl refl, ap Some (sym h))
-leads_edge (CallOf to) v u b h = absurd h
-leads_edge Back v u b h = absurd h
-leads_edge Ends v u b h = absurd h
-leads_edge MayEnd v u b h = (record { at = v; kind = Next; to = v + 4 }, inl refl, ap Some (sym h))
-leads_edge Breaks v u b h = absurd h
-leads_edge Straight v u b h = (record { at = v; kind = Next; to = v + 4 }, inl refl, ap Some (sym h))
-leads_edge Bad v u b h = absurd h
+leads_edge (flow.Jump to) v u b h = (record { at = v; kind = Jump; to = to }, inl refl, ap Some (sym h))
+leads_edge (flow.Call to) v u b h = absurd h
+leads_edge flow.Return v u b h = absurd h
+leads_edge flow.Exit v u b h = absurd h
+leads_edge flow.MayExit v u b h = (record { at = v; kind = Next; to = v + 4 }, inl refl, ap Some (sym h))
+leads_edge flow.Breakpoint v u b h = absurd h
+leads_edge flow.Next v u b h = (record { at = v; kind = Next; to = v + 4 }, inl refl, ap Some (sym h))
+leads_edge flow.Refused v u b h = absurd h
 
-module _ (word : ℕ → Word) (first : ℕ) (code : Code) (is : IsCodeOf word first code) where
+module _ (word : ℕ → Flow) (first : ℕ) (code : Code) (is : IsCodeOf word first code) where
   -- each edge is one of a reached word
   pub edge_of_word : (e : ℕ) (x : Edge) → slice_get code.edges e ≡ Some x →
       (v : ℕ) × ((f : ℕ) × Reached word first f v) × Within x (edges_of (word v) v (call_returns code (word v))) × (x.at ≡ v)

@@ -3,14 +3,14 @@ use Rattle.std.proofs.Common.{◌≡◌, ℕ, ◌+◌, ◌*◌, ◌-◌, ◌<◌
 use Rattle.cost_theory.specs.Graph.{Graph, Loops, sum_below, only, count_step, AreWithin, next_edge}
 use Rattle.cost_theory.specs.Worst.{Numbers, cost, AreNumbers, all_of, turns, turns_round, left_behind, slack}
 use Rattle.cost_theory.specs.Accepted.{IsNode, IsCall, IsProgram, AreWeights, AreAccepted}
-use Rattle.cost_theory.specs.Steps.{GraphState, Move, edge_of, go_back, after_return, after, ComesBack, IsKept, AreKept, after_all, graph_start, state_after, cycles, left_at_node, cycles_left}
-use Rattle.cost_theory.specs.Steps.Move.{Along, Call, Return, Exit}
+use Rattle.cost_theory.specs.Steps.{GraphState, Transition, edge_of, go_back, after_return, after, ComesBack, IsKept, AreKept, after_all, graph_start, state_after, cycles, left_at_node, cycles_left}
+use Rattle.cost_theory.specs.Steps.Transition.{Along, Call, Return, Exit}
 use Rattle.cost_theory.proofs.Basics.{some_value, sum-same}
 use Rattle.cost_theory.proofs.Law.{IsChain, Stands, IsSound, worst_equation, along_law, call_law, last_call_law, return_law, exit_law, next-is}
 
 module _ (g : Graph) (l : Loops) (extent : ℕ → ℕ → Bool) (prog : IsProgram g) where
   -- a run stands in the chain of its calls
-  pub stands_after : (s : GraphState) (m : Move) → IsSound g l s → IsKept g l s m → Stands g (after g l s m).node (after g l s m).calls
+  pub stands_after : (s : GraphState) (m : Transition) → IsSound g l s → IsKept g l s m → Stands g (after g l s m).node (after g l s m).calls
   stands_after s (Along e) sound kept = go (g.target e) refl
     where
       here : IsNode g (g.source e) × IsChain g (g.owner (g.source e)) s.calls
@@ -43,10 +43,10 @@ module _ (g : Graph) (l : Loops) (extent : ℕ → ℕ → Bool) (prog : IsProgr
       go (u ∷ calls) here comes = back u calls here.1.1 (next_edge g u) refl
   stands_after s (Exit e) sound kept = tt
 
-  pub sound_after : (s : GraphState) (m : Move) → IsSound g l s → IsKept g l s m → IsSound g l (after g l s m)
+  pub sound_after : (s : GraphState) (m : Transition) → IsSound g l s → IsKept g l s m → IsSound g l (after g l s m)
   sound_after s m sound kept = record { stands = stands_after s m sound kept; within = kept.within }
 
-  pub sound_after_all : (ms : List Move) (s : GraphState) → IsSound g l s → AreKept g l s ms → IsSound g l (after_all g l s ms)
+  pub sound_after_all : (ms : List Transition) (s : GraphState) → IsSound g l s → AreKept g l s ms → IsSound g l (after_all g l s ms)
   sound_after_all [] s sound kept = sound
   sound_after_all (m ∷ ms) s sound kept = sound_after_all ms (after g l s m) (sound_after s m sound kept.0) kept.1
 
@@ -55,7 +55,7 @@ module _ (g : Graph) (l : Loops) (extent : ℕ → ℕ → Bool) (prog : IsProgr
   sound_start = record { stands = (prog.entry_node 0 prog.main, tt); within = λ k kl. omega arith }
 
   -- and after each kept run
-  pub sound_run : (ms : List Move) → AreKept g l (graph_start g) ms → IsSound g l (state_after g l ms)
+  pub sound_run : (ms : List Transition) → AreKept g l (graph_start g) ms → IsSound g l (state_after g l ms)
   sound_run ms kept = sound_after_all ms (graph_start g) sound_start kept
 
 module _ (g : Graph) (l : Loops) (extent : ℕ → ℕ → Bool) (w : ℕ → ℕ) (n : Numbers)
@@ -68,7 +68,7 @@ module _ (g : Graph) (l : Loops) (extent : ℕ → ℕ → Bool) (w : ℕ → �
   chain_here s u at sound = let here : IsNode g u × IsChain g (g.owner u) s.calls = subst (λ p. Stands g p s.calls) at sound.stands in here.1
 
   -- each kept step lowers the cycles left by at least its weight
-  pub step_law : (s : GraphState) (m : Move) → IsSound g l s → IsKept g l s m →
+  pub step_law : (s : GraphState) (m : Transition) → IsSound g l s → IsKept g l s m →
       w (edge_of m) + cycles_left g l w n (after g l s m) ≤ cycles_left g l w n s
   step_law s (Along e) sound kept =
       let v : (v : ℕ) × (g.target e ≡ Some v) = some_value (g.target e) kept.move.1 in
@@ -122,7 +122,7 @@ module _ (g : Graph) (l : Loops) (extent : ℕ → ℕ → Bool) (w : ℕ → �
       omega arith
 
   -- a kept run's cycles and those left after it are at most those left before it
-  pub run_law : (ms : List Move) (s : GraphState) → IsSound g l s → AreKept g l s ms →
+  pub run_law : (ms : List Transition) (s : GraphState) → IsSound g l s → AreKept g l s ms →
       cycles w ms + cycles_left g l w n (after_all g l s ms) ≤ cycles_left g l w n s
   run_law [] s sound kept = omega arith
   run_law (m ∷ ms) s sound kept =
@@ -141,7 +141,7 @@ module _ (g : Graph) (l : Loops) (extent : ℕ → ℕ → Bool) (w : ℕ → �
       omega arith
 
   -- so a kept run has at most the worst cycles
-  pub run-worst : (ms : List Move) → AreKept g l (graph_start g) ms → cycles w ms ≤ n.worst 0
+  pub run-worst : (ms : List Transition) → AreKept g l (graph_start g) ms → cycles w ms ≤ n.worst 0
   run-worst ms kept =
       let law : cycles w ms + cycles_left g l w n (after_all g l (graph_start g) ms) ≤ cycles_left g l w n (graph_start g) = run_law ms (graph_start g) (sound_start g l extent prog) kept in
       let at : cycles_left g l w n (graph_start g) ≡ n.worst 0 = left_start in

@@ -3,8 +3,8 @@ use Rattle.std.proofs.Common.{◌≡◌, ℕ, ◌+◌, ◌<◌, ◌≤◌, Bool,
 use Rattle.cost_theory.specs.Graph.{Graph, Loops, count_step, AreWithin, next_edge}
 use Rattle.cost_theory.specs.Worst.{Numbers, cost, slack, left_behind, rest}
 use Rattle.cost_theory.specs.Accepted.{IsNode, IsCallOrder}
-use Rattle.cost_theory.specs.Steps.{GraphState, Move, edge_of, go_back, after_return, after, IsKept, AreKept, after_all, graph_start, state_after, cycles, left_at_node, cycles_left}
-use Rattle.cost_theory.specs.Steps.Move.{Along, Call, Return}
+use Rattle.cost_theory.specs.Steps.{GraphState, Transition, edge_of, go_back, after_return, after, IsKept, AreKept, after_all, graph_start, state_after, cycles, left_at_node, cycles_left}
+use Rattle.cost_theory.specs.Steps.Transition.{Along, Call, Return}
 use Rattle.cost_theory.specs.Laws.{IsAnalyzed}
 use Rattle.cost_theory.proofs.Basics.{some_value}
 use Rattle.cost_theory.proofs.Law.{IsChain, Stands, IsSound, along_law, call_law, next-is}
@@ -13,7 +13,7 @@ use Rattle.cost_theory.proofs.Runs.{sound_run, sound_after, left_here, chain_her
 use Rattle.cost_theory.proofs.Rest.{left_after-rest}
 
 module _ (g : Graph) (l : Loops) (extent : ℕ → ℕ → Bool) (w : ℕ → ℕ) (n : Numbers) (is : IsAnalyzed g l extent w n) where
-  pub step-lowers : (ms : List Move) (m : Move) → AreKept g l (graph_start g) ms → IsKept g l (state_after g l ms) m →
+  pub step-lowers : (ms : List Transition) (m : Transition) → AreKept g l (graph_start g) ms → IsKept g l (state_after g l ms) m →
       w (edge_of m) + cycles_left g l w n (after g l (state_after g l ms) m) ≤ cycles_left g l w n (state_after g l ms)
   step-lowers ms m kept step = runs.step_law g l extent w n is.program is.accepted is.weights is.numbers (state_after g l ms) m (sound_run g l extent is.program ms kept) step
 
@@ -33,7 +33,7 @@ module _ (g : Graph) (l : Loops) (extent : ℕ → ℕ → Bool) (w : ℕ → �
       ap (λ o. left_at_node g l w n o s.calls (count_step l (Some (g.source e)) o s.counts)) v.1 in
       omega arith
 
-  pub step-along : (ms : List Move) (e : ℕ) → AreKept g l (graph_start g) ms → IsKept g l (state_after g l ms) (Along e) →
+  pub step-along : (ms : List Transition) (e : ℕ) → AreKept g l (graph_start g) ms → IsKept g l (state_after g l ms) (Along e) →
       cycles_left g l w n (state_after g l ms) ≡
       w e + slack g l n (cost g n w) e + cycles_left g l w n (after g l (state_after g l ms) (Along e)) + left_behind g l n (state_after g l ms).counts e
   step-along ms e kept step = along_at (state_after g l ms) e (sound_run g l extent is.program ms kept) step
@@ -48,11 +48,11 @@ module _ (g : Graph) (l : Loops) (extent : ℕ → ℕ → Bool) (w : ℕ → �
       (chain_here g l extent w n is.program is.accepted is.weights is.numbers s (g.source e) kept.from sound) in
       left_here g l extent w n is.program is.accepted is.weights is.numbers s (g.source e) kept.from ∙ law
 
-  pub step-call : (ms : List Move) (e f : ℕ) → AreKept g l (graph_start g) ms → IsKept g l (state_after g l ms) (Call e f) → IsSome (next_edge g (g.source e)) →
+  pub step-call : (ms : List Transition) (e f : ℕ) → AreKept g l (graph_start g) ms → IsKept g l (state_after g l ms) (Call e f) → IsSome (next_edge g (g.source e)) →
       cycles_left g l w n (state_after g l ms) ≡ w e + cycles_left g l w n (after g l (state_after g l ms) (Call e f))
   step-call ms e f kept step comes = call_at (state_after g l ms) e f (sound_run g l extent is.program ms kept) step comes
 
-  pub run-within : (ms : List Move) → AreKept g l (graph_start g) ms → cycles w ms + cycles_left g l w n (state_after g l ms) ≤ n.worst 0
+  pub run-within : (ms : List Transition) → AreKept g l (graph_start g) ms → cycles w ms + cycles_left g l w n (state_after g l ms) ≤ n.worst 0
   run-within ms kept =
       let law : cycles w ms + cycles_left g l w n (after_all g l (graph_start g) ms) ≤ cycles_left g l w n (graph_start g) =
       run_law g l extent w n is.program is.accepted is.weights is.numbers ms (graph_start g) (sound_start g l extent is.program) kept in
@@ -69,14 +69,14 @@ module _ (g : Graph) (l : Loops) (extent : ℕ → ℕ → Bool) (w : ℕ → �
         let q : cycles_left g l w n s ≡ left_at_node g l w n (Some v) s.calls s.counts = left_here g l extent w n is.program is.accepted is.weights is.numbers s v at in
         omega arith
 
-    pub along-rest : (ms : List Move) (e : ℕ) → AreKept g l (graph_start g) ms → IsKept g l (state_after g l ms) (Along e) →
+    pub along-rest : (ms : List Transition) (e : ℕ) → AreKept g l (graph_start g) ms → IsKept g l (state_after g l ms) (Along e) →
         cycles_left g l w n (after g l (state_after g l ms) (Along e)) ≤ rest g l n e
     along-rest ms e kept step =
         let v : (v : ℕ) × (g.target e ≡ Some v) = some_value (g.target e) step.move.1 in
         behind-rest (after g l (state_after g l ms) (Along e)) e v.0
         (sound_after g l extent is.program (state_after g l ms) (Along e) (sound_run g l extent is.program ms kept) step) step.edge v.1 v.1
 
-    pub return-rest : (ms : List Move) (e u d : ℕ) (calls : List ℕ) → AreKept g l (graph_start g) ms → IsKept g l (state_after g l ms) (Return e) →
+    pub return-rest : (ms : List Transition) (e u d : ℕ) (calls : List ℕ) → AreKept g l (graph_start g) ms → IsKept g l (state_after g l ms) (Return e) →
         (state_after g l ms).calls ≡ u ∷ calls → next_edge g u ≡ Some d →
         cycles_left g l w n (after g l (state_after g l ms) (Return e)) ≤ rest g l n d
     return-rest ms e u d calls kept step are next =

@@ -1,13 +1,13 @@
 -- The laws of the numbers of a program, as statements for the contracts of functions.
 use Rattle.std.specs.Prelude.{◌≡◌, ◌≢◌, ℕ, ◌+◌, ◌<◌, ◌≤◌, Bool, true, false, ◌⊎◌, List, ◌∷◌, slice_get, Option, Some, None, IsSome}
-use Rattle.cost_theory.specs.declared.edges.Edge.{Edge}
-use Rattle.cost_theory.specs.declared.edges.Word.{Word}
+use Rattle.scale_base.specs.declared.edges.Edge.{Edge}
+use Rattle.cost_theory.specs.declared.flow.Flow.{Flow}
 use Rattle.cost_theory.specs.Graph.{Graph, Loops, total, next_edge}
 use Rattle.cost_theory.specs.Worst.{Numbers, AreNumbers, cost, charged, left_at, turn_back, slack, left_behind, turns_round, all_of, rest}
 use Rattle.cost_theory.specs.Accepted.{IsNode, IsProgram, AreCrossing, IsTooDeep, AreEntered, IsWithin, AreAccepted, AreWeights, HasNoRecursion, IsCallOrder, IsPlainOrder, IsPlainCycle}
 use Rattle.cost_theory.specs.Reached.{Code, IsCodeOf, HasNoBadWord, HasNoSharedCode, graph_of}
-use Rattle.cost_theory.specs.Steps.{Move, IsKept, AreKept, EndsByExit, graph_start, state_after, after, edge_of, cycles, cycles_left}
-use Rattle.cost_theory.specs.Steps.Move.{Along, Call, Return}
+use Rattle.cost_theory.specs.Steps.{Transition, IsKept, AreKept, EndsByExit, graph_start, state_after, after, edge_of, cycles, cycles_left}
+use Rattle.cost_theory.specs.Steps.Transition.{Along, Call, Return}
 use Rattle.cost_theory.specs.Least.{Least, AreLeast, IsUpTo}
 use Rattle.cost_theory.specs.LeastTurns.{IsRun, KeepsLeast, IsKind, turn_step, turn_last}
 
@@ -31,21 +31,21 @@ pub record AreSameNumbers (g : Graph) (l : Loops) (n n' : Numbers) : Type 0 wher
 
 -- The graph over reached code without refused words and without recursion is a program.
 abbrev pub ReachedCodeIsProgram : Type 0
-ReachedCodeIsProgram = (word : ℕ → Word) (first : ℕ) (code : Code) →
+ReachedCodeIsProgram = (word : ℕ → Flow) (first : ℕ) (code : Code) →
     IsCodeOf word first code → HasNoBadWord word first → HasNoRecursion (graph_of word code) → IsProgram (graph_of word code)
 
 -- Where reached code has lists of nodes with one owner each, no node is reached in two functions.
 abbrev pub ReachedCodeIsNotShared : Type 0
-ReachedCodeIsNotShared = (word : ℕ → Word) (first : ℕ) (code : Code) → IsCodeOf word first code → HasNoSharedCode word first
+ReachedCodeIsNotShared = (word : ℕ → Flow) (first : ℕ) (code : Code) → IsCodeOf word first code → HasNoSharedCode word first
 
 -- Words that agree at the nodes of edges give one graph.
 abbrev pub GraphsAgree : Type 0
-GraphsAgree = (word word' : ℕ → Word) (code : Code) → ((i : ℕ) (e : Edge) → slice_get code.edges i ≡ Some e → word e.at ≡ word' e.at) →
+GraphsAgree = (word word' : ℕ → Flow) (code : Code) → ((i : ℕ) (e : Edge) → slice_get code.edges i ≡ Some e → word e.at ≡ word' e.at) →
     graph_of word code ≡ graph_of word' code
 
 -- The edges of reached code start at its nodes.
 abbrev pub EdgesStartAtNodes : Type 0
-EdgesStartAtNodes = (word : ℕ → Word) (first : ℕ) (code : Code) → IsCodeOf word first code →
+EdgesStartAtNodes = (word : ℕ → Flow) (first : ℕ) (code : Code) → IsCodeOf word first code →
     (i : ℕ) (e : Edge) → slice_get code.edges i ≡ Some e → (k : ℕ) × (slice_get code.nodes k ≡ Some e.at)
 
 -- An order of the functions, callees first, shows that there is no recursion.
@@ -159,42 +159,42 @@ WorstLeftAtStart = (g : Graph) (l : Loops) (extent : ℕ → ℕ → Bool) (w : 
 -- Each kept step lowers the cycles left by at least its weight.
 abbrev pub StepLowers : Type 0
 StepLowers = (g : Graph) (l : Loops) (extent : ℕ → ℕ → Bool) (w : ℕ → ℕ) (n : Numbers) → IsAnalyzed g l extent w n →
-    (ms : List Move) (m : Move) → AreKept g l (graph_start g) ms → IsKept g l (state_after g l ms) m →
+    (ms : List Transition) (m : Transition) → AreKept g l (graph_start g) ms → IsKept g l (state_after g l ms) m →
     w (edge_of m) + cycles_left g l w n (after g l (state_after g l ms) m) ≤ cycles_left g l w n (state_after g l ms)
 
 -- A step within a function lowers them by exactly its weight, its slack, and the turns that are left of each loop that it leaves.
 abbrev pub StepAlong : Type 0
 StepAlong = (g : Graph) (l : Loops) (extent : ℕ → ℕ → Bool) (w : ℕ → ℕ) (n : Numbers) → IsAnalyzed g l extent w n →
-    (ms : List Move) (e : ℕ) → AreKept g l (graph_start g) ms → IsKept g l (state_after g l ms) (Along e) →
+    (ms : List Transition) (e : ℕ) → AreKept g l (graph_start g) ms → IsKept g l (state_after g l ms) (Along e) →
     cycles_left g l w n (state_after g l ms) ≡
     w e + slack g l n (cost g n w) e + cycles_left g l w n (after g l (state_after g l ms) (Along e)) + left_behind g l n (state_after g l ms).counts e
 
 -- A call that comes back lowers them by exactly its weight.
 abbrev pub StepCall : Type 0
 StepCall = (g : Graph) (l : Loops) (extent : ℕ → ℕ → Bool) (w : ℕ → ℕ) (n : Numbers) → IsAnalyzed g l extent w n →
-    (ms : List Move) (e f : ℕ) → AreKept g l (graph_start g) ms → IsKept g l (state_after g l ms) (Call e f) → IsSome (next_edge g (g.source e)) →
+    (ms : List Transition) (e f : ℕ) → AreKept g l (graph_start g) ms → IsKept g l (state_after g l ms) (Call e f) → IsSome (next_edge g (g.source e)) →
     cycles_left g l w n (state_after g l ms) ≡ w e + cycles_left g l w n (after g l (state_after g l ms) (Call e f))
 
 -- The cycles of a kept run and those left after it are at most the worst cycles.
 abbrev pub RunWithinWorst : Type 0
 RunWithinWorst = (g : Graph) (l : Loops) (extent : ℕ → ℕ → Bool) (w : ℕ → ℕ) (n : Numbers) → IsAnalyzed g l extent w n →
-    (ms : List Move) → AreKept g l (graph_start g) ms → cycles w ms + cycles_left g l w n (state_after g l ms) ≤ n.worst 0
+    (ms : List Transition) → AreKept g l (graph_start g) ms → cycles w ms + cycles_left g l w n (state_after g l ms) ≤ n.worst 0
 
 -- So a kept run takes at most the worst cycles.
 abbrev pub CyclesWithinWorst : Type 0
 CyclesWithinWorst = (g : Graph) (l : Loops) (extent : ℕ → ℕ → Bool) (w : ℕ → ℕ) (n : Numbers) → IsAnalyzed g l extent w n →
-    (ms : List Move) → AreKept g l (graph_start g) ms → cycles w ms ≤ n.worst 0
+    (ms : List Transition) → AreKept g l (graph_start g) ms → cycles w ms ≤ n.worst 0
 
 -- After a step within a function the cycles left are at most the rest behind its edge,
 abbrev pub LeftWithinRest : Type 0
 LeftWithinRest = (g : Graph) (l : Loops) (extent : ℕ → ℕ → Bool) (w : ℕ → ℕ) (n : Numbers) → IsAnalyzed g l extent w n →
-    (ms : List Move) (e : ℕ) → AreKept g l (graph_start g) ms → IsKept g l (state_after g l ms) (Along e) →
+    (ms : List Transition) (e : ℕ) → AreKept g l (graph_start g) ms → IsKept g l (state_after g l ms) (Along e) →
     cycles_left g l w n (after g l (state_after g l ms) (Along e)) ≤ rest g l n e
 
 -- and after a return at most the rest behind the edge by which the call comes back.
 abbrev pub LeftWithinRestOfReturn : Type 0
 LeftWithinRestOfReturn = (g : Graph) (l : Loops) (extent : ℕ → ℕ → Bool) (w : ℕ → ℕ) (n : Numbers) → IsAnalyzed g l extent w n →
-    (ms : List Move) (e u d : ℕ) (calls : List ℕ) → AreKept g l (graph_start g) ms → IsKept g l (state_after g l ms) (Return e) →
+    (ms : List Transition) (e u d : ℕ) (calls : List ℕ) → AreKept g l (graph_start g) ms → IsKept g l (state_after g l ms) (Return e) →
     (state_after g l ms).calls ≡ u ∷ calls → next_edge g u ≡ Some d →
     cycles_left g l w n (after g l (state_after g l ms) (Return e)) ≤ rest g l n d
 
@@ -203,7 +203,7 @@ LeftWithinRestOfReturn = (g : Graph) (l : Loops) (extent : ℕ → ℕ → Bool)
 -- From a node that a kept run has come to, a kept run that ends by an exit takes at least the node's least cycles to an end.
 abbrev pub ExitTakesLeast : Type 0
 ExitTakesLeast = (g : Graph) (l : Loops) (w : ℕ → ℕ) (n : Least) → IsProgram g → AreWeights g w → AreLeast g w n →
-    (ms more : List Move) (v : ℕ) → AreKept g l (graph_start g) ms → (state_after g l ms).node ≡ Some v →
+    (ms more : List Transition) (v : ℕ) → AreKept g l (graph_start g) ms → (state_after g l ms).node ≡ Some v →
     AreKept g l (state_after g l ms) more → EndsByExit more → IsUpTo (n.to_end v) (cycles w more)
 
 -- Where each loop is left only after its least number of turns, a walk costs at least the least charged cost of its kind.

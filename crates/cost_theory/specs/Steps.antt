@@ -13,14 +13,14 @@ pub record GraphState : Type 0 where
   pub counts : ℕ → ℕ
 
 -- A step, with the edge that it goes over. A call, a return and an exit go over their End edge.
-pub data Move : Type 0 where
-  Along : (e : ℕ) → Move
-  Call : (e f : ℕ) → Move
-  Return : (e : ℕ) → Move
-  Exit : (e : ℕ) → Move
+pub data Transition : Type 0 where
+  Along : (e : ℕ) → Transition
+  Call : (e f : ℕ) → Transition
+  Return : (e : ℕ) → Transition
+  Exit : (e : ℕ) → Transition
 
 -- the edge of a step
-abbrev pub edge_of : Move → ℕ
+abbrev pub edge_of : Transition → ℕ
 edge_of (Along e) = e
 edge_of (Call e f) = e
 edge_of (Return e) = e
@@ -37,7 +37,7 @@ after_return g l [] counts = record { node = None; calls = []; counts = counts }
 after_return g l (u ∷ calls) counts = go_back g l u (next_edge g u) calls counts
 
 -- the state after a step
-abbrev pub after : Graph → Loops → GraphState → Move → GraphState
+abbrev pub after : Graph → Loops → GraphState → Transition → GraphState
 after g l s (Along e) = record { node = g.target e; calls = s.calls; counts = count_step l (Some (g.source e)) (g.target e) s.counts }
 after g l s (Call e f) = record { node = Some (g.entry f); calls = g.source e ∷ s.calls; counts = count_step l None (Some (g.entry f)) s.counts }
 after g l s (Return e) = after_return g l s.calls s.counts
@@ -49,43 +49,43 @@ ComesBack g [] = ⊥
 ComesBack g (u ∷ calls) = IsSome (next_edge g u)
 
 -- what the edge of a step is
-abbrev pub IsMove : Graph → GraphState → Move → Type 0
-IsMove g s (Along e) = (g.callee e ≡ None) × IsSome (g.target e)
-IsMove g s (Call e f) = (g.callee e ≡ Some f) × (g.target e ≡ None)
-IsMove g s (Return e) = (g.returns e ≡ true) × ComesBack g s.calls
-IsMove g s (Exit e) = g.exits e ≡ true
+abbrev pub IsTransition : Graph → GraphState → Transition → Type 0
+IsTransition g s (Along e) = (g.callee e ≡ None) × IsSome (g.target e)
+IsTransition g s (Call e f) = (g.callee e ≡ Some f) × (g.target e ≡ None)
+IsTransition g s (Return e) = (g.returns e ≡ true) × ComesBack g s.calls
+IsTransition g s (Exit e) = g.exits e ≡ true
 
 -- Whether a step leaves a loop. Only a step within a function does: a call goes on at its site, and a return comes back there.
-abbrev pub is_left_by : Graph → Loops → Move → ℕ → Bool
+abbrev pub is_left_by : Graph → Loops → Transition → ℕ → Bool
 is_left_by g l (Along e) k = leaves l k (g.source e) (g.target e)
 is_left_by g l (Call e f) k = false
 is_left_by g l (Return e) k = false
 is_left_by g l (Exit e) k = false
 
 -- no loop is left before its least number of back edges
-abbrev pub AreLeftLate : Graph → Loops → Move → (ℕ → ℕ) → Type 0
+abbrev pub AreLeftLate : Graph → Loops → Transition → (ℕ → ℕ) → Type 0
 AreLeftLate g l m counts = (k : ℕ) → k < l.loops → is_left_by g l m k ≡ true → l.least_trips k ≤ counts k
 
 -- a step that breaks no bound, above or below
-pub record IsKept (g : Graph) (l : Loops) (s : GraphState) (m : Move) : Type 0 where
+pub record IsKept (g : Graph) (l : Loops) (s : GraphState) (m : Transition) : Type 0 where
   pub edge : edge_of m < g.edges
   pub from : s.node ≡ Some (g.source (edge_of m))
-  pub move : IsMove g s m
+  pub move : IsTransition g s m
   pub within : AreWithin l (after g l s m).counts
   pub late : AreLeftLate g l m (after g l s m).counts
 
 -- each of these steps breaks no bound
-abbrev pub AreKept : Graph → Loops → GraphState → List Move → Type 0
+abbrev pub AreKept : Graph → Loops → GraphState → List Transition → Type 0
 AreKept g l s [] = Unit {0}
 AreKept g l s (m ∷ ms) = IsKept g l s m × AreKept g l (after g l s m) ms
 
 -- the state after these steps
-abbrev pub after_all : Graph → Loops → GraphState → List Move → GraphState
+abbrev pub after_all : Graph → Loops → GraphState → List Transition → GraphState
 after_all g l s [] = s
 after_all g l s (m ∷ ms) = after_all g l (after g l s m) ms
 
 -- the last step of the run exits
-abbrev pub EndsByExit : List Move → Type 0
+abbrev pub EndsByExit : List Transition → Type 0
 EndsByExit [] = ⊥
 EndsByExit (m ∷ []) = (e : ℕ) × (m ≡ Exit e)
 EndsByExit (m ∷ k ∷ ms) = EndsByExit (k ∷ ms)
@@ -95,11 +95,11 @@ abbrev pub graph_start : Graph → GraphState
 graph_start g = record { node = Some (g.entry 0); calls = []; counts = λ k. 0 }
 
 -- where a run stands after these steps from the start
-abbrev pub state_after : Graph → Loops → List Move → GraphState
+abbrev pub state_after : Graph → Loops → List Transition → GraphState
 state_after g l ms = after_all g l (graph_start g) ms
 
 -- the cycles of the steps
-abbrev pub cycles : (ℕ → ℕ) → List Move → ℕ
+abbrev pub cycles : (ℕ → ℕ) → List Transition → ℕ
 cycles w [] = 0
 cycles w (m ∷ ms) = w (edge_of m) + cycles w ms
 

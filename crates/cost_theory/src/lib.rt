@@ -7,14 +7,14 @@
 //! intra-task voltage scheduling (Shin, Kim and Lee, IEEE Design & Test of Computers, 2001).
 #![tactic(auto)]
 
-mod edges;
+mod flow;
 mod kept_runs;
 mod least_cycles;
 mod loops;
 mod numbers;
 mod reached;
 
-pub use edges::{Edge, EdgeKind, Word};
+pub use flow::Flow;
 pub use kept_runs::{left_within_the_rest, run_law, step_law};
 pub use least_cycles::{exits_take_the_least, turns_take_the_least};
 pub use loops::entered_loops_are_nested;

@@ -48,6 +48,10 @@ pub record IsBlocked (image : Image) (len base end : ℕ) : Type 0 where
 abbrev pub page_from : ℕ → ℕ
 page_from at = round_up 4096 at
 
+-- where the empty block of an image stands that is held at one level
+abbrev pub held_base : Image → ℕ
+held_base image = page_from (text_end image.text)
+
 -- ---- the stored file
 
 -- the lowest n bytes of a number, the lowest first

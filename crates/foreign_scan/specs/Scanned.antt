@@ -7,13 +7,13 @@ use Rattle.scale_base.specs.Image.{Image, LoadSegment, loaded_byte, is_word_addr
 use Rattle.scale_base.specs.Layout.{layout_of, is_plain_segment, in_text, is_keyed}
 use Rattle.scale_base.specs.Reading.{instr_of}
 use Rattle.scale_base.specs.State.{word_at}
-use Rattle.cost_theory.specs.declared.edges.Edge.{Edge}
-use Rattle.cost_theory.specs.declared.edges.EdgeKind.{EdgeKind}
-use Rattle.cost_theory.specs.declared.edges.EdgeKind.TheVariants.{Taken, Untaken, Jump, Next, CallNext, End}
+use Rattle.scale_base.specs.declared.edges.Edge.{Edge}
+use Rattle.scale_base.specs.declared.edges.EdgeKind.{EdgeKind}
+use Rattle.scale_base.specs.declared.edges.EdgeKind.TheVariants.{Taken, Untaken, Jump, Next, CallNext, End}
 use Rattle.cost_theory.specs.Graph.{Loops, is_back}
 use Rattle.cost_theory.specs.Reached.{Code}
-use Rattle.graph_runs.specs.Text.{text_of, instr_at}
-use Rattle.graph_runs.specs.RunMoves.{text_graph}
+use Rattle.code_text.specs.Text.{text_of, instr_at}
+use Rattle.code_text.specs.TextGraph.{text_graph}
 use Rattle.foreign_scan.specs.declared.fragment.ForeignFragment.{ForeignFragment}
 use Rattle.foreign_scan.specs.declared.fragment.ForeignFragment.TheVariants.{Exit, Count}
 use Rattle.foreign_scan.specs.declared.fragment.Why.{Why}

@@ -1,8 +1,8 @@
 -- The code of three words is that of a program with a loop: a branch to itself, an `addi` behind it, and an exit.
 use Rattle.std.proofs.Common.{◌≡◌, ◌≢◌, ℕ, zero, suc, ◌+◌, ◌<◌, ◌⊎◌, inl, inr, ⊎_elim, Bool, true, false, nat_eq, [], ◌∷◌, slice_get, Some, None, refl, sym, ap, subst, ◌∙◌, arith, eqb-true}
-use Rattle.cost_theory.specs.declared.edges.EdgeKind.TheVariants.{Taken, Untaken, Next, End}
-use Rattle.cost_theory.specs.declared.edges.Word.{Word}
-use Rattle.cost_theory.specs.declared.edges.Word.TheVariants.{Branch, CallOf, Back, Ends, Straight, Bad}
+use Rattle.scale_base.specs.declared.edges.EdgeKind.TheVariants.{Taken, Untaken, Next, End}
+use Rattle.cost_theory.specs.declared.flow.Flow.{Flow}
+use Rattle.cost_theory.specs.declared.flow.Flow.TheVariants as flow
 use Rattle.cost_theory.specs.Graph.{Graph, Loops, IsPlain}
 use Rattle.cost_theory.specs.Accepted.{IsInBody, AreAccepted, HasNoRecursion, IsCallOrder, IsPlainOrder}
 use Rattle.cost_theory.specs.Reached.{if_true, LeadsTo, Reached, DoesReturn, Code, owner_of, returns_of, edge_at, edge_to, callee_of, edge_callee, graph_of, IsCodeOf, HasNoBadWord}
@@ -38,16 +38,16 @@ each P a b c v (inr (inr e)) = subst P (sym e) c
 no_number : (x : ℕ) → None ≡ Some x → ⊥
 no_number x h = cc
 
-module _ (w : ℕ → Word) (branch : w 0x10000 ≡ Branch 0x10000) (addi : w 0x10004 ≡ Straight) (exit : w 0x10008 ≡ Ends) where
+module _ (w : ℕ → Flow) (branch : w 0x10000 ≡ flow.Branch 0x10000) (addi : w 0x10004 ≡ flow.Next) (exit : w 0x10008 ≡ flow.Exit) where
   -- the words of the three addresses
-  each_word : (P : Word → Type 0) → P (Branch 0x10000) → P Straight → P Ends → (v : ℕ) → IsSmall v → P (w v)
+  each_word : (P : Flow → Type 0) → P (flow.Branch 0x10000) → P flow.Next → P flow.Exit → (v : ℕ) → IsSmall v → P (w v)
   each_word P a b c = each (λ v. P (w v)) (subst P (sym branch) a) (subst P (sym addi) b) (subst P (sym exit) c)
 
-  no_call : (v h : ℕ) → IsSmall v → w v ≡ CallOf h → ⊥
-  no_call v h is = each_word (λ x. x ≡ CallOf h → ⊥) (λ e. cc) (λ e. cc) (λ e. cc) v is
+  no_call : (v h : ℕ) → IsSmall v → w v ≡ flow.Call h → ⊥
+  no_call v h is = each_word (λ x. x ≡ flow.Call h → ⊥) (λ e. cc) (λ e. cc) (λ e. cc) v is
 
-  no_return : (v : ℕ) → IsSmall v → w v ≡ Back → ⊥
-  no_return v is = each_word (λ x. x ≡ Back → ⊥) (λ e. cc) (λ e. cc) (λ e. cc) v is
+  no_return : (v : ℕ) → IsSmall v → w v ≡ flow.Return → ⊥
+  no_return v is = each_word (λ x. x ≡ flow.Return → ⊥) (λ e. cc) (λ e. cc) (λ e. cc) v is
 
   leads_on : (v u : ℕ) → IsSmall v → LeadsTo (w v) v u → IsSmall u
   leads_on v u is = each (λ v. LeadsTo (w v) v u → IsSmall u)
@@ -120,7 +120,7 @@ module _ (w : ℕ → Word) (branch : w 0x10000 ≡ Branch 0x10000) (addi : w 0x
       differ h = cc
 
   pub small_words : HasNoBadWord w 0x10000
-  small_words f v r = each_word (λ x. x ≢ Bad) (λ e. cc) (λ e. cc) (λ e. cc) v (only_small f v r).1
+  small_words f v r = each_word (λ x. x ≢ flow.Refused) (λ e. cc) (λ e. cc) (λ e. cc) v (only_small f v r).1
 
   -- ---- the graph
 

@@ -9,12 +9,12 @@ use Rattle.scale_base.specs.Layout.{layout_of, may_fetch, each_byte}
 use Rattle.scale_base.specs.Step.{step}
 use Rattle.scale_base.specs.Run.{HasExited, run, run_of}
 use Rattle.scale_base.specs.Reading.{instr_of}
-use Rattle.cost_theory.specs.declared.edges.Word.TheVariants.{Branch, Ends, Straight}
+use Rattle.cost_theory.specs.declared.flow.Flow.TheVariants as flow
 use Rattle.cost_theory.specs.Worst.{Numbers, AreNumbers}
 use Rattle.cost_theory.proofs.Laws.{is_program, numbers_exist}
-use Rattle.graph_runs.specs.Text.{Text, text_of, is_target, known_within, kind_at}
-use Rattle.graph_runs.specs.EdgeCosts.{weights}
-use Rattle.graph_runs.specs.RunMoves.{text_graph}
+use Rattle.code_text.specs.Text.{Text, text_of, is_target, known_within, kind_at}
+use Rattle.code_text.specs.EdgeCosts.{weights}
+use Rattle.code_text.specs.TextGraph.{text_graph}
 use Rattle.graph_runs.specs.KeptSteps.{by_extents}
 use Rattle.graph_runs.specs.KeptRuns.{kept_at, kept_of}
 use Rattle.graph_runs.specs.Laws.{IsProgramOf}
@@ -36,15 +36,15 @@ small_image = ap (λ o. refused_or o (contents small_file)) no_rule_broken
 abbrev small_text : Text
 small_text = text_of (contents small_file)
 
-branch : kind_at small_text 0x10000 ≡ Branch 0x10000
+branch : kind_at small_text 0x10000 ≡ flow.Branch 0x10000
 unfolding kind_at is_target known_within instr_of loaded_byte contents list_word_at list_half_at program_header program_headers section_header section_headers text_parts ascending text_ranges
 branch = refl
 
-addi : kind_at small_text 0x10004 ≡ Straight
+addi : kind_at small_text 0x10004 ≡ flow.Next
 unfolding kind_at is_target known_within instr_of loaded_byte contents list_word_at list_half_at program_header program_headers section_header section_headers text_parts ascending text_ranges
 addi = refl
 
-exit : kind_at small_text 0x10008 ≡ Ends
+exit : kind_at small_text 0x10008 ≡ flow.Exit
 unfolding kind_at is_target known_within instr_of loaded_byte contents list_word_at list_half_at program_header program_headers section_header section_headers text_parts ascending text_ranges
 exit = refl
 

@@ -14,27 +14,12 @@ use Rattle.scale_base.specs.Image.{Image, image_of, contents, loaded_byte, text_
 use Rattle.scale_base.specs.Layout.{layout_of, in_stack}
 use Rattle.scale_base.specs.Run.{setting_of, start_of, starting_level}
 use Rattle.scale_base.proofs.Laws.{rules_kept, contents-are, rules_of}
-use Rattle.machine_laws.proofs.Laws.{found_from_any, found_passes, found_keeps, segments_of, IsPlaced, part_placed, part_held, part_covered, parts_placed, All-ranges_of, text_ranges_kept}
+use Rattle.machine_laws.proofs.Laws.{found_from_any, found_passes, found_keeps, segments_of, IsPlaced, part_placed, part_held, part_covered, parts_placed, All-ranges_of, text_ranges_kept, share_address}
 use Rattle.machine_laws.proofs.Laws as texts
-use Rattle.graph_runs.specs.Text.{text_of}
+use Rattle.code_text.specs.Text.{text_of}
 use Rattle.graph_runs.specs.TextStates.{IsTextRange, IsTextOf}
 use Rattle.graph_runs.specs.Laws.{IsStartOver}
 use Rattle.graph_runs.proofs.StartLaws.{start_over}
-
-pub share_address : (a b : Span) (x : ℕ) → in_span a x ≡ true → in_span b x ≡ true → overlap a b ≡ true
-share_address a b x in_a in_b =
-    let p = and_parts (nat_le a.from x) (nat_lt x (a.from + a.len)) in_a in
-    let q = and_parts (nat_le b.from x) (nat_lt x (b.from + b.len)) in_b in
-    let low_a = leb-true a.from x p.0 in
-    let high_a = ltb-true x (a.from + a.len) p.1 in
-    let low_b = leb-true b.from x q.0 in
-    let high_b = ltb-true x (b.from + b.len) q.1 in
-    let some_a = lt-ltb 0 a.len (omega (arith, low_a, high_a)) in
-    let some_b = lt-ltb 0 b.len (omega (arith, low_b, high_b)) in
-    let one = lt-ltb a.from (b.from + b.len) (omega (arith, low_a, high_b)) in
-    let two = lt-ltb b.from (a.from + a.len) (omega (arith, low_b, high_a)) in
-    and_from (nat_lt 0 a.len && nat_lt 0 b.len && nat_lt a.from (b.from + b.len)) (nat_lt b.from (a.from + a.len))
-    (and_from (nat_lt 0 a.len && nat_lt 0 b.len) (nat_lt a.from (b.from + b.len)) (and_from (nat_lt 0 a.len) (nat_lt 0 b.len) some_a some_b) one) two
 
 -- a code segment shares no address with the stack
 code_off_stack : (h : ProgramHeader) (a : ℕ) → is_fit h ≡ true → is_plain h ≡ true → in_span (memory_range h) a ≡ true → in_stack a ≡ false

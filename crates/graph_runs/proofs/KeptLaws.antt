@@ -1,4 +1,4 @@
--- One kept step is a kept move of the graph, with the counts by bodies.
+-- One kept step is a kept transition of the graph, with the counts by bodies.
 use Rattle.std.proofs.Common.{◌≡◌, ℕ, zero, suc, ◌-◌, ◌^◌, ◌<◌, ◌≤◌, Bool, true, false, not, ◌&&◌, ◌⊎◌, List, [], ◌∷◌, map, refl, sym, ap, ◌∙◌, subst, arith, Option, Some, None, ⊎_elim, nat_lt}
 use Rattle.std.proofs.lemmas.Bool.{cond-true, cond-false, or_parts, ltb-false}
 use Rattle.scale_base.specs.declared.stepping.Move.{Move}
@@ -8,13 +8,13 @@ use Rattle.scale_base.specs.Arith.{plus}
 use Rattle.cost_theory.specs.Graph.{Graph, Loops, leaves, count_step, any_below, AreWithin}
 use Rattle.cost_theory.specs.Accepted.{IsNode, IsProgram, IsInBody, AreAccepted, HaveWholeExtents}
 use Rattle.cost_theory.specs.Steps as steps
-use Rattle.cost_theory.specs.Steps.Move.{Along as MoveAlong, Call as MoveCall, Return as MoveReturn, Exit as MoveExit}
+use Rattle.cost_theory.specs.Steps.Transition.{Along as OverAlong, Call as OverCall, Return as OverReturn, Exit as OverExit}
 use Rattle.cost_theory.specs.Reached.{Code, graph_of}
 use Rattle.cost_theory.proofs.Laws.{below_suc, and_left, and_right, and_both, not_true, some_same}
-use Rattle.graph_runs.specs.Text.{Text, kind_at}
+use Rattle.code_text.specs.Text.{Text, kind_at}
 use Rattle.graph_runs.specs.ReturnAddresses.{returns_after}
-use Rattle.graph_runs.specs.RunMoves.{after_call}
-use Rattle.graph_runs.proofs.StepMoves.{place, IsMoveOf, IsMoveKind, first_site, source_by}
+use Rattle.graph_runs.specs.RunTransitions.{after_call}
+use Rattle.graph_runs.proofs.StepTransitions.{place, IsTransitionOf, IsTransitionKind, first_site, source_by}
 use Rattle.graph_runs.specs.KeptSteps.{by_extents, Carried, source_of, counts_after, leaves_by, breaks, keeps_counts, kept_more}
 use Rattle.graph_runs.specs.KeptRuns.{AreSameBelow}
 use Rattle.graph_runs.proofs.CountLaws.{move_counts}
@@ -64,9 +64,9 @@ site_source Return pc (u ∷ us) small = let e : u < 2 ^ 32 = small u refl in le
 -- A step that leaves a body leaves the extent, where that has no other nodes.
 late_move : (t : Text) (code : Code) (l : Loops) (extent : ℕ → ℕ → Bool) → IsProgram (graph_of (kind_at t) code) → AreAccepted (graph_of (kind_at t) code) l extent →
     HaveWholeExtents (graph_of (kind_at t) code) l extent → (counts outer : ℕ → ℕ) → AreSameBelow l.loops counts outer →
-    (calls calls_after : List ℕ) (x : Stepped) (pc : ℕ) (m : steps.Move) → x.pc ≡ pc → IsMoveOf t code pc calls x.class m (Some x.next) calls_after → IsMoveKind m x.moved →
+    (calls calls_after : List ℕ) (x : Stepped) (pc : ℕ) (m : steps.Transition) → x.pc ≡ pc → IsTransitionOf t code pc calls x.class m (Some x.next) calls_after → IsTransitionKind m x.moved →
     AreLate (by_extents l extent) outer x → steps.AreLeftLate (graph_of (kind_at t) code) l m counts
-late_move t code l extent prog acc whole counts outer same calls calls_after x pc (MoveAlong e) at is kind late k kl left = ⊎_elim
+late_move t code l extent prog acc whole counts outer same calls calls_after x pc (OverAlong e) at is kind late k kl left = ⊎_elim
     (λ (none : l.least_trips k ≡ 0). let r : l.least_trips k ≤ counts k = omega arith in r)
     (λ (some : 0 < l.least_trips k).
     let parts = leaving some in
@@ -110,15 +110,15 @@ late_move t code l extent prog acc whole counts outer same calls calls_after x p
             let inside : l.inside k x.next ≡ true = whole k x.next kl some node h in
             let outside : l.inside k x.next ≡ false = not_true (l.inside k x.next) (and_right (l.inside k x.pc) (not (l.inside k x.next)) both) in
             let bad : ⊥ = cc in absurd bad
-late_move t code l extent prog acc whole counts outer same calls calls_after x pc (MoveCall e f) at is kind late k kl left = let bad : ⊥ = cc in absurd bad
-late_move t code l extent prog acc whole counts outer same calls calls_after x pc (MoveReturn e) at is kind late k kl left = let bad : ⊥ = cc in absurd bad
-late_move t code l extent prog acc whole counts outer same calls calls_after x pc (MoveExit e) at is kind late k kl left = let bad : ⊥ = cc in absurd bad
+late_move t code l extent prog acc whole counts outer same calls calls_after x pc (OverCall e f) at is kind late k kl left = let bad : ⊥ = cc in absurd bad
+late_move t code l extent prog acc whole counts outer same calls calls_after x pc (OverReturn e) at is kind late k kl left = let bad : ⊥ = cc in absurd bad
+late_move t code l extent prog acc whole counts outer same calls calls_after x pc (OverExit e) at is kind late k kl left = let bad : ⊥ = cc in absurd bad
 
--- a kept step is a kept move
+-- a kept step is a kept transition
 pub kept_move : (t : Text) (code : Code) (l : Loops) (extent : ℕ → ℕ → Bool) → IsProgram (graph_of (kind_at t) code) → AreAccepted (graph_of (kind_at t) code) l extent → HaveWholeExtents (graph_of (kind_at t) code) l extent →
-    (one : ℕ → ℕ) (c d : Carried) (calls calls_after : List ℕ) (x : Stepped) (pc : ℕ) (m : steps.Move) →
+    (one : ℕ → ℕ) (c d : Carried) (calls calls_after : List ℕ) (x : Stepped) (pc : ℕ) (m : steps.Transition) →
     AreSameBelow l.loops one c.counts → c.returns ≡ map after_call calls → ((u : ℕ) → first_site calls ≡ Some u → u < 2 ^ 32) → x.pc ≡ pc →
-    kept_more (by_extents l extent) (Some c) x ≡ Some d → IsMoveOf t code pc calls x.class m (Some x.next) calls_after → IsMoveKind m x.moved →
+    kept_more (by_extents l extent) (Some c) x ≡ Some d → IsTransitionOf t code pc calls x.class m (Some x.next) calls_after → IsTransitionKind m x.moved →
     steps.IsKept (graph_of (kind_at t) code) l (place pc calls one) m × AreSameBelow l.loops (steps.after (graph_of (kind_at t) code) l (place pc calls one) m).counts d.counts
 kept_move t code l extent prog acc whole one c d calls calls_after x pc m same returns small at kept is kind =
     let g : Graph = graph_of (kind_at t) code in

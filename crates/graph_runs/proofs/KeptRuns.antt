@@ -12,30 +12,30 @@ use Rattle.cost_theory.specs.Graph.{Graph, Loops}
 use Rattle.cost_theory.specs.Accepted.{AreAccepted, HasNoRecursion, HaveWholeExtents}
 use Rattle.cost_theory.specs.Worst.{Numbers, AreNumbers}
 use Rattle.cost_theory.specs.Steps as steps
-use Rattle.cost_theory.specs.Steps.Move.{Exit}
+use Rattle.cost_theory.specs.Steps.Transition.{Exit}
 use Rattle.cost_theory.specs.Reached.{Reached, Code, graph_of, IsCodeOf, HasNoBadWord, number_or_0}
 use Rattle.cost_theory.specs.Reached.Reached.{main}
 use Rattle.cost_theory.proofs.Laws.{is_program, run-worst}
-use Rattle.graph_runs.specs.Text.{Text, kind_at}
+use Rattle.code_text.specs.Text.{Text, kind_at}
 use Rattle.graph_runs.specs.TextStates.{IsTextOf, IsOverText}
 use Rattle.graph_runs.specs.ReturnAddresses.{returns_after}
-use Rattle.graph_runs.specs.RunMoves.{IsStack, StandsBy}
-use Rattle.graph_runs.proofs.StepMoves.{place, IsMoveOf, first_site}
+use Rattle.graph_runs.specs.RunTransitions.{IsStack, StandsBy}
+use Rattle.graph_runs.proofs.StepTransitions.{place, IsTransitionOf, first_site}
 use Rattle.graph_runs.specs.KeptSteps.{by_extents, Carried, counts_after, kept_more}
-use Rattle.graph_runs.specs.EdgeCosts.{weights}
+use Rattle.code_text.specs.EdgeCosts.{weights}
 use Rattle.graph_runs.specs.KeptRuns.{watched, kept_at, KeptAt, IsKeptRun}
 use Rattle.graph_runs.proofs.TextFacts.{word_bound}
-use Rattle.graph_runs.proofs.MoveLaws.{Goes, went, exited, kind_facts}
+use Rattle.graph_runs.proofs.TransitionLaws.{Goes, went, exited}
+use Rattle.code_text.proofs.Laws.{kind_facts, weights_are}
 use Rattle.graph_runs.proofs.RunLaws.{after-append, place_is, went_at, exited_at, places_more, classes_more, costs_more}
-use Rattle.graph_runs.proofs.WeightLaws.{weights_are}
 use Rattle.graph_runs.proofs.KeptLaws.{kept_parts, kept_move}
 
-kept-append : (g : Graph) (l : Loops) (s : steps.GraphState) (ms : List steps.Move) (m : steps.Move) → steps.AreKept g l s ms → steps.IsKept g l (steps.after_all g l s ms) m → steps.AreKept g l s (ms ++ m ∷ [])
+kept-append : (g : Graph) (l : Loops) (s : steps.GraphState) (ms : List steps.Transition) (m : steps.Transition) → steps.AreKept g l s ms → steps.IsKept g l (steps.after_all g l s ms) m → steps.AreKept g l s (ms ++ m ∷ [])
 kept-append g l s [] m kept one = (one, tt)
 kept-append g l s (k ∷ ks) m kept one = (kept.0, kept-append g l (steps.after g l s k) ks m kept.1 one)
 
--- an exit ends the moves
-exit_last : (ms : List steps.Move) (e : ℕ) → steps.EndsByExit (ms ++ Exit e ∷ [])
+-- an exit ends the transitions
+exit_last : (ms : List steps.Transition) (e : ℕ) → steps.EndsByExit (ms ++ Exit e ∷ [])
 exit_last [] e = (e, refl)
 exit_last (m ∷ []) e = (e, refl)
 exit_last (m ∷ k ∷ ms) e = exit_last (k ∷ ms) e
@@ -74,7 +74,7 @@ module _ (t : Text) (env : Setting) (ok : IsTextOf t env) (code : Code) (is : Is
           let w = went_at env r.state x e in
           let s : steps.GraphState = steps.after_all g l (steps.graph_start g) run.moves in
           let same : s ≡ place r.state.pc a.calls s.counts = place_is s r.state.pc a.calls a.node a.suspended in
-          let moved : IsMoveOf t code r.state.pc a.calls x.class next.move (Some x.next) next.calls_after = subst (λ v. IsMoveOf t code r.state.pc a.calls x.class next.move (Some v) next.calls_after) w.1 next.is in
+          let moved : IsTransitionOf t code r.state.pc a.calls x.class next.move (Some x.next) next.calls_after = subst (λ v. IsTransitionOf t code r.state.pc a.calls x.class next.move (Some v) next.calls_after) w.1 next.is in
           let k = kept_move t code l extent (is_program (kind_at t) t.entry code is fine order) acc whole s.counts b.0 d a.calls next.calls_after x r.state.pc next.move a.counted a.returns (first_small a.function a.calls a.stack) w.0 b.2 moved next.kind in
           let ap1 : steps.after_all g l (steps.graph_start g) (run.moves ++ next.move ∷ []) ≡ steps.after g l s next.move = after-append g l (steps.graph_start g) run.moves next.move in
           let ap2 : steps.after_all g l (steps.graph_start g) (run.moves ++ next.move ∷ []) ≡ steps.after g l (place r.state.pc a.calls s.counts) next.move = ap1 ∙ ap (λ q. steps.after g l q next.move) same in
@@ -102,7 +102,7 @@ module _ (t : Text) (env : Setting) (ok : IsTextOf t env) (code : Code) (is : Is
           let g : Graph = graph_of (kind_at t) code in
           let run : IsKeptRun t code l costs r d = ih d (subst (λ q. watched (by_extents l extent) o GoesOn q ≡ Some d) e h) in
           let a : KeptAt t code l r d run.moves = at d run in
-          let next : (e : ℕ) × IsMoveOf t code r.state.pc a.calls x.class (Exit e) None a.calls = exited t env ok code is fine r.state a.function a.calls [] a.over a.reached a.stack x status e in
+          let next : (e : ℕ) × IsTransitionOf t code r.state.pc a.calls x.class (Exit e) None a.calls = exited t env ok code is fine r.state a.function a.calls [] a.over a.reached a.stack x status e in
           let s : steps.GraphState = steps.after_all g l (steps.graph_start g) run.moves in
           let same : s ≡ place r.state.pc a.calls s.counts = place_is s r.state.pc a.calls a.node a.suspended in
           let one : steps.IsKept g l (place r.state.pc a.calls s.counts) (Exit next.0) = record { edge = next.1.edge; from = ap Some (sym next.1.from); move = next.1.move s.counts; within = a.bounded; late = λ k kl left. (let bad : ⊥ = cc in absurd bad) } in
@@ -120,7 +120,7 @@ module _ (t : Text) (env : Setting) (ok : IsTextOf t env) (code : Code) (is : Is
           subst (λ q. IsKeptRun t code l costs (ended r.steps q (step env r.state).state) d) (sym e) (record { moves = run.moves; kept = run.kept; places = run.places; classes = run.classes; cost = run.cost; stands = tt; exits = tt })
 
   module _ (s : State) (over : IsOverText t s) (at_entry : s.pc ≡ t.entry) where
-    -- a kept run is a kept list of moves
+    -- a kept run is a kept list of transitions
     pub kept_run : (n : ℕ) (c : Carried) → kept_at env s (by_extents l extent) n ≡ Some c → IsKeptRun t code l costs (run env s n) c
     unfolding run kept_at
     kept_run zero c h = let e : record { returns = []; counts = λ k. 0 } ≡ c = cc in subst (λ c. IsKeptRun t code l costs (run env s 0) c) e (record {

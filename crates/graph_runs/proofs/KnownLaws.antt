@@ -9,7 +9,7 @@ use Rattle.scale_base.specs.Arith.{plus, imm_result}
 use Rattle.scale_base.specs.State.{Setting, State, reg, with_reg}
 use Rattle.scale_base.specs.Step.{performs, step}
 use Rattle.scale_base.proofs.Laws.{step_zero}
-use Rattle.graph_runs.specs.Text.{Text, is_text_address, instr_at, jump_of, is_target, follows, puts17, leaves17, or_passed, known_behind, known_within}
+use Rattle.code_text.specs.Text.{Text, is_text_address, instr_at, jump_of, is_target, follows, puts17, leaves17, or_passed, known_behind, known_within}
 use Rattle.graph_runs.specs.TextStates.{IsTextOf, IsOverText}
 use Rattle.graph_runs.proofs.StepFacts.{IsDone}
 use Rattle.graph_runs.proofs.TextFacts.{target_is, follows_word, word_bound, not_written}

@@ -1,13 +1,9 @@
 -- The lemmas of this crate that crates above may cite.
-pub use Rattle.graph_runs.proofs.Images.{share_address, text_of_layout}
+pub use Rattle.graph_runs.proofs.Images.{text_of_layout, text_off_stack}
 pub use Rattle.graph_runs.proofs.KeptLaws.{kept_parts}
 pub use Rattle.graph_runs.proofs.Lengths.{going_length}
 pub use Rattle.graph_runs.proofs.LessKept.{kept_by_less}
-pub use Rattle.graph_runs.proofs.MoveLaws.{kind_facts}
-pub use Rattle.graph_runs.proofs.Programs.{image_runs_are_below, image_runs_are_kept_moves, image_runs_end}
-pub use Rattle.graph_runs.proofs.RangesApart.{ranges_apart}
+pub use Rattle.graph_runs.proofs.Programs.{image_runs_are_below, image_runs_are_kept_transitions, image_runs_end}
 pub use Rattle.graph_runs.proofs.RunLaws.{after-append, exited_at, went_at}
 pub use Rattle.graph_runs.proofs.StepFacts.{IsDone, IsTrap, step_done}
-pub use Rattle.graph_runs.proofs.StoredWords.{instruction_stored, kind_stored}
-pub use Rattle.graph_runs.proofs.TextFacts.{not_written, word_bound, word_same, word_within}
-pub use Rattle.graph_runs.proofs.WeightLaws.{weights_are}
+pub use Rattle.graph_runs.proofs.TextFacts.{entry_is, not_written, word_bound, word_same, word_within}

@@ -2,20 +2,20 @@
 use Rattle.std.proofs.Common.{arith}
 use Rattle.scale_base.specs.Run.{run, run_of, setting_of, start_of}
 use Rattle.cost_theory.proofs.Laws.{is_program, run-within}
-use Rattle.graph_runs.specs.EdgeCosts.{weights}
-use Rattle.graph_runs.specs.RunMoves.{text_graph}
-use Rattle.graph_runs.specs.Text.{kind_at, text_of}
-use Rattle.graph_runs.specs.Laws.{RunsAreMoves, KeptRunsAreKeptMoves, KeptRunsAreBelow, KeptRunsEnd, CyclesLeftAreBelow, ImageRunsEnd, ImageRunsAreKeptMoves, ImageRunsAreBelow}
-use Rattle.graph_runs.proofs.RunLaws.{run_moves}
+use Rattle.code_text.specs.EdgeCosts.{weights}
+use Rattle.code_text.specs.TextGraph.{text_graph}
+use Rattle.code_text.specs.Text.{kind_at, text_of}
+use Rattle.graph_runs.specs.Laws.{RunsAreTransitions, KeptRunsAreKeptTransitions, KeptRunsAreBelow, KeptRunsEnd, CyclesLeftAreBelow, ImageRunsEnd, ImageRunsAreKeptTransitions, ImageRunsAreBelow}
+use Rattle.graph_runs.proofs.RunLaws.{run_transitions}
 use Rattle.graph_runs.proofs.KeptRuns.{kept_run, kept_worst}
-use Rattle.graph_runs.proofs.WeightLaws.{weights_are}
+use Rattle.code_text.proofs.Laws.{weights_are}
 use Rattle.graph_runs.proofs.Lengths.{going_length, length_le_sum}
 use Rattle.graph_runs.proofs.Images.{image_starts}
 
-pub runs_are_moves : RunsAreMoves
-runs_are_moves t env s code l costs at is n rs h = run_moves t env at.text code is.lists is.words l costs s at.state at.entry n rs h
+pub runs_are_moves : RunsAreTransitions
+runs_are_moves t env s code l costs at is n rs h = run_transitions t env at.text code is.lists is.words l costs s at.state at.entry n rs h
 
-pub runs_are_kept_moves : KeptRunsAreKeptMoves
+pub runs_are_kept_moves : KeptRunsAreKeptTransitions
 runs_are_kept_moves t env s code l extent costs at is n c h =
     kept_run t env at.text code is.reached.lists is.reached.words is.calls l extent is.loops is.whole costs s at.state at.entry n c h
 
@@ -41,9 +41,9 @@ kept_runs_end t env s code l extent costs nums at is are some n c h goes =
     let least = length_le_sum (λ x. costs x.class) (λ x. some x.class) (run env s n).steps in
     omega (arith, below, size, least)
 
-pub image_runs_are_kept_moves : ImageRunsAreKeptMoves
+pub image_runs_are_kept_transitions : ImageRunsAreKeptTransitions
 unfolding run_of
-image_runs_are_kept_moves file image levels input code l extent costs ok is n c h =
+image_runs_are_kept_transitions file image levels input code l extent costs ok is n c h =
     runs_are_kept_moves (text_of image) (setting_of image levels input) (start_of image levels) code l extent costs (image_starts file image levels input ok) is n c h
 
 pub image_runs_are_below : ImageRunsAreBelow

@@ -3,7 +3,7 @@ use Rattle.std.proofs.Common.{◌≡◌, ℕ, true, refl}
 use Rattle.std.proofs.lemmas.Bool.{both_ways}
 use Rattle.scale_base.specs.State.{Setting}
 use Rattle.scale_base.specs.Run.{start}
-use Rattle.graph_runs.specs.Text.{Text, is_text_address, is_target}
+use Rattle.code_text.specs.Text.{Text, is_text_address, is_target}
 use Rattle.graph_runs.specs.TextStates.{IsTextOf, IsOverText}
 use Rattle.graph_runs.proofs.TextFacts.{entry_is}
 use Rattle.graph_runs.proofs.KnownLaws.{known_parts}

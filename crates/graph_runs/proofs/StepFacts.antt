@@ -20,7 +20,7 @@ use Rattle.scale_base.specs.State.{Setting, State, reg, with_reg, word_at, with_
 use Rattle.scale_base.specs.Service.{served, serves, read_count, write_count}
 use Rattle.scale_base.specs.Step.{Outcome, move_of, stops, sets, passes, jumps, branches, loads, stores_word, stores, performs, executes, window_index, port_index, step}
 use Rattle.scale_base.proofs.Laws.{each_byte_at}
-use Rattle.graph_runs.specs.Text.{leaves17}
+use Rattle.code_text.specs.Text.{leaves17}
 
 -- where the instruction goes on
 abbrev pub WayOf : Instr → Bool → State → ℕ → Type 0

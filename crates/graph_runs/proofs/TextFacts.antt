@@ -10,7 +10,7 @@ use Rattle.scale_base.specs.Image.{is_in}
 use Rattle.scale_base.specs.Layout.{may_write, in_stack}
 use Rattle.scale_base.specs.State.{Setting, word_at}
 use Rattle.cost_theory.specs.Graph.{any_below}
-use Rattle.graph_runs.specs.Text.{Text, is_text_address, instr_at, jump_of, is_at, jumps_from, is_target, follows}
+use Rattle.code_text.specs.Text.{Text, is_text_address, instr_at, jump_of, is_at, jumps_from, is_target, follows}
 use Rattle.graph_runs.specs.TextStates.{IsTextRange, IsTextOf}
 
 -- a test of a range that holds at two places at once

@@ -1,4 +1,4 @@
--- A kept run, and its moves over the graph.
+-- A kept run, and its transitions over the graph.
 use Rattle.std.specs.Prelude.{◌≡◌, ℕ, zero, suc, ◌<◌, List, map, Option, Some}
 use Rattle.std.specs.List.{sum_by}
 use Rattle.scale_base.specs.declared.stepping.Class.{Class}
@@ -11,10 +11,11 @@ use Rattle.scale_base.specs.Run.{Run, Standing, GoesOn, HasExited, HasTrapped, r
 use Rattle.cost_theory.specs.Graph.{Loops, AreWithin}
 use Rattle.cost_theory.specs.Steps as steps
 use Rattle.cost_theory.specs.Reached.{Reached, Code}
-use Rattle.graph_runs.specs.Text.{Text, kind_at}
+use Rattle.code_text.specs.Text.{Text, kind_at}
 use Rattle.graph_runs.specs.TextStates.{IsOverText}
-use Rattle.graph_runs.specs.EdgeCosts.{weights}
-use Rattle.graph_runs.specs.RunMoves.{text_graph, after_moves, places_of, classes_of, after_call, IsStack, StandsBy}
+use Rattle.code_text.specs.EdgeCosts.{weights}
+use Rattle.graph_runs.specs.RunTransitions.{after_transitions, places_of, classes_of, after_call, IsStack, StandsBy}
+use Rattle.code_text.specs.TextGraph.{text_graph}
 use Rattle.graph_runs.specs.KeptSteps.{Carried, carried_first, kept_more}
 
 -- A step that exits has no target, so it changes nothing.
@@ -37,32 +38,43 @@ kept_of image levels input l n = kept_at (setting_of image levels input) (start_
 abbrev pub AreSameBelow : ℕ → (ℕ → ℕ) → (ℕ → ℕ) → Type 0
 AreSameBelow n one other = (k : ℕ) → k < n → one k ≡ other k
 
--- Where the moves of a kept run that goes on lead: as for any run, and the counts are those that are carried.
-pub record KeptAt (t : Text) (code : Code) (l : Loops) (r : Run) (c : Carried) (moves : List steps.Move) : Type 0 where
+-- Where the transitions of a kept run that goes on lead: as for any run, and the counts are those that are carried.
+pub record KeptAt (t : Text) (code : Code) (l : Loops) (r : Run) (c : Carried) (moves : List steps.Transition) : Type 0 where
   pub function : ℕ
   pub calls : List ℕ
-  pub node : (after_moves t code l moves).node ≡ Some r.state.pc
-  pub suspended : (after_moves t code l moves).calls ≡ calls
-  pub counted : AreSameBelow l.loops (after_moves t code l moves).counts c.counts
-  pub bounded : AreWithin l (after_moves t code l moves).counts
+  pub node : (after_transitions t code l moves).node ≡ Some r.state.pc
+  pub suspended : (after_transitions t code l moves).calls ≡ calls
+  pub counted : AreSameBelow l.loops (after_transitions t code l moves).counts c.counts
+  pub bounded : AreWithin l (after_transitions t code l moves).counts
   pub returns : c.returns ≡ map after_call calls
   pub reached : Reached (kind_at t) t.entry function r.state.pc
   pub stack : IsStack (kind_at t) t.entry function calls
   pub over : IsOverText t r.state
 
--- The moves of a run that has exited end by an exit.
-abbrev pub ExitsBy : Standing → List steps.Move → Type 0
+-- The transitions of a run that has exited end by an exit.
+abbrev pub ExitsBy : Standing → List steps.Transition → Type 0
 ExitsBy GoesOn moves = Unit {0}
 ExitsBy (HasExited status) moves = steps.EndsByExit moves
 ExitsBy (HasTrapped trap) moves = Unit {0}
 
--- the run is a list of kept moves over the graph, one for each step, which cost what its steps cost
+-- the run is a list of kept transitions over the graph, one for each step, which cost what its steps cost
 pub record IsKeptRun (t : Text) (code : Code) (l : Loops) (costs : Class → ℕ) (r : Run) (c : Carried) : Type 0 where
-  pub moves : List steps.Move
+  pub moves : List steps.Transition
   pub kept : steps.AreKept (text_graph t code) l (steps.graph_start (text_graph t code)) moves
-  -- the moves start where the steps do, one by one, and go over edges of their classes
+  -- the transitions start where the steps do, one by one, and go over edges of their classes
   pub places : places_of t code moves ≡ map (λ x. x.pc) r.steps
   pub classes : classes_of t code moves ≡ map (λ x. Some x.class) r.steps
   pub cost : steps.cycles (weights t code costs) moves ≡ sum_by (λ x. costs x.class) r.steps
   pub stands : StandsBy r.standing (KeptAt t code l r c moves)
   pub exits : ExitsBy r.standing moves
+
+-- so many return addresses a kept run carries at most
+abbrev pub most_returns : ℕ
+most_returns = 131072
+
+-- The run of an image on a machine of so many levels, with an input, is kept up to n: each of its first n steps keeps the rules on
+-- calls, returns and loops, and after none of them there are more return addresses than a kept run carries.
+pub record IsKeptUpTo (image : Image) (levels : ℕ) (input : List ℕ) (l : Loops) (n : ℕ) : Type 0 where
+  pub carried : Carried
+  pub kept : kept_of image levels input l n ≡ Some carried
+  pub shallow : (m : ℕ) (c : Carried) → m ≤ n → kept_of image levels input l m ≡ Some c → length c.returns ≤ most_returns

@@ -11,19 +11,15 @@ use Rattle.cost_theory.specs.Accepted.{AreAccepted, HasNoRecursion, HaveWholeExt
 use Rattle.cost_theory.specs.Worst.{Numbers, AreNumbers}
 use Rattle.cost_theory.specs.Steps.{cycles_left}
 use Rattle.cost_theory.specs.Reached.{Code, IsCodeOf, HasNoBadWord}
-use Rattle.graph_runs.specs.Text.{Text, text_of, instr_at, known, IsPutBefore, AreApart, word_kind, kind_at}
+use Rattle.code_text.specs.Text.{Text, text_of, instr_at, known, IsPutBefore, AreApart, word_kind, kind_at}
 use Rattle.graph_runs.specs.TextStates.{IsTextOf, IsOverText}
-use Rattle.graph_runs.specs.EdgeCosts.{weights}
-use Rattle.graph_runs.specs.RunMoves.{text_graph, after_moves, returns_so, IsRunOf}
+use Rattle.code_text.specs.EdgeCosts.{weights}
+use Rattle.graph_runs.specs.RunTransitions.{after_transitions, returns_so, IsRunOf}
+use Rattle.code_text.specs.TextGraph.{text_graph, IsReachedCode}
 use Rattle.graph_runs.specs.KeptSteps.{Carried, by_extents}
 use Rattle.graph_runs.specs.KeptRuns.{kept_at, kept_of, IsKeptRun}
 
 -- ---- the hypotheses
-
--- the lists are the reached code of the text, and no word of it is refused
-pub record IsReachedCode (t : Text) (code : Code) : Type 0 where
-  pub lists : IsCodeOf (kind_at t) t.entry code
-  pub words : HasNoBadWord (kind_at t) t.entry
 
 -- A program: its reached code calls no function from within itself, its loops are accepted, and one that has to turn has no nodes in its
 -- extent but those of its body.
@@ -45,14 +41,14 @@ run_cycles costs r = sum_by (λ x. costs x.class) r.steps
 
 -- ---- the laws
 
--- A run whose returns go back to their calls is a list of moves over the graph, at the cost of its steps.
-abbrev pub RunsAreMoves : Type 0
-RunsAreMoves = (t : Text) (env : Setting) (s : State) (code : Code) (l : Loops) (costs : Class → ℕ) → IsStartOver t env s → IsReachedCode t code →
+-- A run whose returns go back to their calls is a list of transitions over the graph, at the cost of its steps.
+abbrev pub RunsAreTransitions : Type 0
+RunsAreTransitions = (t : Text) (env : Setting) (s : State) (code : Code) (l : Loops) (costs : Class → ℕ) → IsStartOver t env s → IsReachedCode t code →
     (n : ℕ) (rs : List ℕ) → returns_so (run env s n).steps ≡ Some rs → IsRunOf t code l costs (run env s n) rs
 
--- A kept run is a list of kept moves over the graph, at the cost of its steps.
-abbrev pub KeptRunsAreKeptMoves : Type 0
-KeptRunsAreKeptMoves = (t : Text) (env : Setting) (s : State) (code : Code) (l : Loops) (extent : ℕ → ℕ → Bool) (costs : Class → ℕ) → IsStartOver t env s → IsProgramOf t code l extent →
+-- A kept run is a list of kept transitions over the graph, at the cost of its steps.
+abbrev pub KeptRunsAreKeptTransitions : Type 0
+KeptRunsAreKeptTransitions = (t : Text) (env : Setting) (s : State) (code : Code) (l : Loops) (extent : ℕ → ℕ → Bool) (costs : Class → ℕ) → IsStartOver t env s → IsProgramOf t code l extent →
     (n : ℕ) (c : Carried) → kept_at env s (by_extents l extent) n ≡ Some c → IsKeptRun t code l costs (run env s n) c
 
 -- A run that is kept where loops have to turn so often is kept, with the same counts, where they have to turn less often.
@@ -65,11 +61,11 @@ abbrev pub KeptRunsAreBelow : Type 0
 KeptRunsAreBelow = (t : Text) (env : Setting) (s : State) (code : Code) (l : Loops) (extent : ℕ → ℕ → Bool) (costs : Class → ℕ) (nums : Numbers) → IsStartOver t env s → IsProgramOf t code l extent →
     AreNumbers (text_graph t code) l (weights t code costs) nums → (n : ℕ) (c : Carried) → kept_at env s (by_extents l extent) n ≡ Some c → run_cycles costs (run env s n) ≤ nums.worst 0
 
--- After a kept run, its cycles and those that are left where its moves lead are at most the worst cycles.
+-- After a kept run, its cycles and those that are left where its transitions lead are at most the worst cycles.
 abbrev pub CyclesLeftAreBelow : Type 0
 CyclesLeftAreBelow = (t : Text) (code : Code) (l : Loops) (extent : ℕ → ℕ → Bool) (costs : Class → ℕ) (nums : Numbers) → IsProgramOf t code l extent →
     AreNumbers (text_graph t code) l (weights t code costs) nums → (r : Run) (c : Carried) (kept : IsKeptRun t code l costs r c) →
-    run_cycles costs r + cycles_left (text_graph t code) l (weights t code costs) nums (after_moves t code l kept.moves) ≤ nums.worst 0
+    run_cycles costs r + cycles_left (text_graph t code) l (weights t code costs) nums (after_transitions t code l kept.moves) ≤ nums.worst 0
 
 -- Where each class costs a cycle at least, a kept run that goes on has taken at most so many steps: so each run that stays kept ends.
 abbrev pub KeptRunsEnd : Type 0
@@ -77,32 +73,15 @@ KeptRunsEnd = (t : Text) (env : Setting) (s : State) (code : Code) (l : Loops) (
     AreNumbers (text_graph t code) l (weights t code costs) nums → ((class : Class) → 1 ≤ costs class) →
     (n : ℕ) (c : Carried) → kept_at env s (by_extents l extent) n ≡ Some c → (run env s n).standing ≡ GoesOn → n ≤ nums.worst 0
 
--- The number that is known of x17 at an address is that of the nearest `addi` before it, at most 16 words away.
-abbrev pub KnownNumbersArePut : Type 0
-KnownNumbersArePut = (t : Text) → AreApart t.ranges → (v k : ℕ) → (known t v ≡ Some k) ↔ ((m : ℕ) × (1 ≤ m) × (m ≤ 16) × IsPutBefore t v m k)
-
 -- ---- the laws over images
 
 -- The run of an image starts over its text, whatever the machine's levels and the input.
 abbrev pub ImagesStartOver : Type 0
 ImagesStartOver = (file : List ℕ) (image : Image) (levels : ℕ) (input : List ℕ) → image_of file ≡ Ok image → IsStartOver (text_of image) (setting_of image levels input) (start_of image levels)
 
--- What a word of the text says of the way on is said by the word that is read from the file; where none is read, it is refused.
-abbrev pub KindsAreOfStoredWords : Type 0
-KindsAreOfStoredWords = (file : List ℕ) (image : Image) (at : ℕ) → image_of file ≡ Ok image →
-    kind_at (text_of image) at ≡ word_kind (text_of image) at (option_and_then instr_of (text_word image at))
-
--- The instruction at an address of the text is that of the word that is read from the file.
-abbrev pub InstructionsAreOfStoredWords : Type 0
-InstructionsAreOfStoredWords = (file : List ℕ) (image : Image) (at w : ℕ) → image_of file ≡ Ok image → text_word image at ≡ Some w → instr_at (text_of image) at ≡ instr_of w
-
--- The known numbers of an image, whose ranges share no address.
-abbrev pub ImageNumbersArePut : Type 0
-ImageNumbersArePut = (file : List ℕ) (image : Image) (v k : ℕ) → image_of file ≡ Ok image → (known (text_of image) v ≡ Some k) ↔ ((m : ℕ) × (1 ≤ m) × (m ≤ 16) × IsPutBefore (text_of image) v m k)
-
--- A kept run of an image is a list of kept moves over the graph of its text.
-abbrev pub ImageRunsAreKeptMoves : Type 0
-ImageRunsAreKeptMoves = (file : List ℕ) (image : Image) (levels : ℕ) (input : List ℕ) (code : Code) (l : Loops) (extent : ℕ → ℕ → Bool) (costs : Class → ℕ) → image_of file ≡ Ok image →
+-- A kept run of an image is a list of kept transitions over the graph of its text.
+abbrev pub ImageRunsAreKeptTransitions : Type 0
+ImageRunsAreKeptTransitions = (file : List ℕ) (image : Image) (levels : ℕ) (input : List ℕ) (code : Code) (l : Loops) (extent : ℕ → ℕ → Bool) (costs : Class → ℕ) → image_of file ≡ Ok image →
     IsProgramOf (text_of image) code l extent → (n : ℕ) (c : Carried) → kept_of image levels input (by_extents l extent) n ≡ Some c → IsKeptRun (text_of image) code l costs (run_of image levels input n) c
 
 -- It costs at most the worst cycles of the entry.

@@ -1,9 +1,7 @@
-pub mod Text
 pub mod TextStates
 pub mod ReturnAddresses
 pub mod KeptSteps
-pub mod EdgeCosts
-pub mod RunMoves
+pub mod RunTransitions
 pub mod KeptRuns
 pub mod Laws
 pub mod Met

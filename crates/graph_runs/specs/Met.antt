@@ -7,9 +7,9 @@ use Rattle.scale_base.specs.Run.{HasExited, run_of}
 use Rattle.cost_theory.specs.Graph.{Loops}
 use Rattle.cost_theory.specs.Worst.{Numbers, AreNumbers}
 use Rattle.cost_theory.specs.Reached.{Code}
-use Rattle.graph_runs.specs.Text.{text_of}
-use Rattle.graph_runs.specs.EdgeCosts.{weights}
-use Rattle.graph_runs.specs.RunMoves.{text_graph}
+use Rattle.code_text.specs.Text.{text_of}
+use Rattle.code_text.specs.EdgeCosts.{weights}
+use Rattle.code_text.specs.TextGraph.{text_graph}
 use Rattle.graph_runs.specs.KeptSteps.{by_extents}
 use Rattle.graph_runs.specs.KeptRuns.{kept_of}
 use Rattle.graph_runs.specs.Laws.{IsProgramOf}

@@ -3,7 +3,7 @@ use Rattle.std.specs.Prelude.{◌≡◌, ℕ, ◌%◌, ◌≤◌, true, false, l
 use Rattle.scale_base.specs.declared.ranges.Range.{Range}
 use Rattle.scale_base.specs.Layout.{in_stack}
 use Rattle.scale_base.specs.State.{Setting, State, reg}
-use Rattle.graph_runs.specs.Text.{Text, is_text_address, known_within}
+use Rattle.code_text.specs.Text.{Text, is_text_address, known_within}
 
 -- whole words, below the addresses that a program may not use
 abbrev pub IsTextRange : Range → Type 0

@@ -1,32 +1,19 @@
-//! Runs of the machine over the graph of the reached code of a text: each completed step is a move over an edge that costs what
+//! Runs of the machine over the graph of the reached code of a text: each completed step is a transition over an edge that costs what
 //! the step costs. Costs are cycles, by the class of the instruction. RISC-V Unprivileged ISA, RV32I; the worst cycles are those of
 //! WCET analysis, the greatest cost of a walk that keeps the loops' bounds.
 #![tactic(auto)]
 
 ghost use Rattle.graph_runs.specs.Met.{RunHypothesesAreMet};
-ghost use Rattle.graph_runs.specs.Laws.{KindsAreOfStoredWords, InstructionsAreOfStoredWords, KnownNumbersArePut, ImageNumbersArePut, RunsAreMoves, KeptRunsAreKeptMoves, KeptRunsAreKeptByLess, KeptRunsAreBelow, KeptRunsEnd, CyclesLeftAreBelow, ImagesStartOver, ImageRunsAreKeptMoves, ImageRunsAreBelow, ImageRunsEnd};
+ghost use Rattle.graph_runs.specs.Laws.{RunsAreTransitions, KeptRunsAreKeptTransitions, KeptRunsAreKeptByLess, KeptRunsAreBelow, KeptRunsEnd, CyclesLeftAreBelow, ImagesStartOver, ImageRunsAreKeptTransitions, ImageRunsAreBelow, ImageRunsEnd};
 
-/// The service number that is known at an address is the one that the nearest `addi x17,x0,k` before it puts into x17, at most
-/// 16 words away and in the same range, with no way in between. The ranges of an image share no address.
-pub fn known_numbers_are_put()
-    ensures text { KnownNumbersArePut }
-    ensures image { ImageNumbersArePut }
-{}
-
-/// The words of the text of an image are those that are read from its file: an address where none is read is refused.
-pub fn words_are_stored()
-    ensures kind { KindsAreOfStoredWords }
-    ensures instruction { InstructionsAreOfStoredWords }
-{}
-
-/// A run over a text whose returns go back to their calls is a list of moves over the graph of its reached code, at the cost of
-/// its steps. A run that keeps the loops' bounds too is a list of kept moves. The run of an image starts over its text, so both
+/// A run over a text whose returns go back to their calls is a list of transitions over the graph of its reached code, at the cost of
+/// its steps. A run that keeps the loops' bounds too is a list of kept transitions. The run of an image starts over its text, so both
 /// hold of it.
 pub fn runs_follow_the_graph()
-    ensures moves { RunsAreMoves }
-    ensures kept { KeptRunsAreKeptMoves }
+    ensures moves { RunsAreTransitions }
+    ensures kept { KeptRunsAreKeptTransitions }
     ensures start { ImagesStartOver }
-    ensures image { ImageRunsAreKeptMoves }
+    ensures image { ImageRunsAreKeptTransitions }
 {}
 
 /// A run that is kept where loops have to turn so often before they are left is kept where they have to turn less often.

@@ -1,10 +1,9 @@
 //! A host in memory, which fails at the calls that it is told.
 
-ghost use Rattle.std.specs.Prelude.{◌≡◌, ◌+◌, ◌++◌, ◌↔◌, [], length, max, option_copied, option_map, None, IfSome, IfOk, IfErr, IsSome, IsOk, OnOk, OnErr, is_err};
+ghost use Rattle.std.specs.Prelude.{◌≡◌, ◌+◌, ◌++◌, ◌↔◌, [], length, max, option_copied, option_map, None, IfSome, IfOk, IfErr, IsSome, IsOk, OnOk, OnErr, is_err, refl};
 ghost use Rattle.std.specs.FinMap as map;
 ghost use Rattle.host_files.specs.HostState.{IsUntouched};
 ghost use Rattle.host_files.specs.Host.{IsLoadedWithin, LoadTells, MayHoldAnything, PrintsPrefix, HasStoreRoom, HasPrintRoom, store_spent, print_spent, count_if, is_failed};
-ghost use Rattle.std.specs.Prelude.{refl};
 ghost use Rattle.host_files.specs.MemState.{mem_state, load_fails, store_fails, print_fails, call_counted, after_store, after_print};
 
 use crate::stored::{self, Place};

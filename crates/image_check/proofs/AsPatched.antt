@@ -13,12 +13,12 @@ use Rattle.scale_base.specs.Run.{setting_of, starting_level}
 use Rattle.scale_base.specs.State.{word_at}
 use Rattle.scale_base.specs.Word.{Encodes}
 use Rattle.scale_base.proofs.Laws.{contents-are}
-use Rattle.cost_theory.specs.declared.edges.EdgeKind.{EdgeKind}
-use Rattle.cost_theory.specs.declared.edges.EdgeKind.TheVariants.{Taken, Untaken, Jump}
+use Rattle.scale_base.specs.declared.edges.EdgeKind.{EdgeKind}
+use Rattle.scale_base.specs.declared.edges.EdgeKind.TheVariants.{Taken, Untaken, Jump}
 use Rattle.cost_theory.specs.Graph.{Loops}
 use Rattle.cost_theory.specs.Reached.{Code}
-use Rattle.graph_runs.specs.Text.{Text, text_of, instr_at}
-use Rattle.graph_runs.specs.Laws.{IsReachedCode}
+use Rattle.code_text.specs.Text.{Text, text_of, instr_at}
+use Rattle.code_text.specs.TextGraph.{IsReachedCode}
 use Rattle.graph_runs.proofs.Laws.{text_of_layout, word_bound}
 use Rattle.stub_writer.specs.Stubs.{Site, Place, jump}
 use Rattle.stub_runs.specs.Held.{StubStands}

@@ -8,16 +8,16 @@ use Rattle.scale_base.specs.declared.instruction.Instr.TheVariants as instr
 use Rattle.scale_base.specs.declared.stepping.Class.{Class}
 use Rattle.scale_base.specs.declared.stepping.Class.TheVariants as classes
 use Rattle.scale_base.specs.Image.{Image, is_in, is_word_address}
-use Rattle.cost_theory.specs.declared.edges.Edge.{Edge}
-use Rattle.cost_theory.specs.declared.edges.EdgeKind.{EdgeKind}
-use Rattle.cost_theory.specs.declared.edges.EdgeKind.TheVariants.{Taken, Untaken}
+use Rattle.scale_base.specs.declared.edges.Edge.{Edge}
+use Rattle.scale_base.specs.declared.edges.EdgeKind.{EdgeKind}
+use Rattle.scale_base.specs.declared.edges.EdgeKind.TheVariants.{Taken, Untaken}
 use Rattle.cost_theory.specs.Graph.{Loops}
 use Rattle.cost_theory.specs.Reached.{Reached, Code, edges_of, call_returns}
 use Rattle.cost_theory.proofs.Laws.{Within, get_within, edge_of_word}
-use Rattle.graph_runs.specs.Text.{Text, text_of, instr_at, instr_kind, kind_at}
-use Rattle.graph_runs.specs.EdgeCosts.{class_by, edge_class}
-use Rattle.graph_runs.specs.Laws.{IsReachedCode}
-use Rattle.graph_runs.proofs.Laws.{kind_facts}
+use Rattle.code_text.specs.Text.{Text, text_of, instr_at, instr_kind, kind_at}
+use Rattle.code_text.specs.EdgeCosts.{class_by, edge_class}
+use Rattle.code_text.specs.TextGraph.{IsReachedCode}
+use Rattle.code_text.proofs.Laws.{kind_facts}
 use Rattle.stub_writer.specs.Stubs.{Site}
 use Rattle.stored_runs.specs.Marks.{place_at, fragments_of_class}
 use Rattle.foreign_scan.specs.Scanned.{Found, is_changed, IsChanged, CanBePatched, IsScanned}

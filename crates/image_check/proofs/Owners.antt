@@ -7,22 +7,22 @@ use Rattle.scale_base.specs.declared.instruction.Instr.{Instr}
 use Rattle.scale_base.specs.declared.instruction.Instr.TheVariants as instr
 use Rattle.scale_base.specs.declared.stepping.Class.{Class}
 use Rattle.scale_base.specs.Image.{Image}
-use Rattle.cost_theory.specs.declared.edges.Edge.{Edge}
-use Rattle.cost_theory.specs.declared.edges.Word.TheVariants.{CallOf}
+use Rattle.scale_base.specs.declared.edges.Edge.{Edge}
+use Rattle.cost_theory.specs.declared.flow.Flow.TheVariants as flow
 use Rattle.cost_theory.specs.Graph.{Graph, Loops, is_back, leaves, is_header}
 use Rattle.cost_theory.specs.Accepted.{IsProgram}
 use Rattle.cost_theory.specs.Reached.{Reached, Code, edge_at}
 use Rattle.cost_theory.proofs.Laws.{search_below, accepted_entered, header_held, some_get, callee-call, callee_word, is_program, edge_of_word}
-use Rattle.graph_runs.specs.Text.{Text, text_of, instr_kind, kind_at}
-use Rattle.graph_runs.specs.EdgeCosts.{edge_class}
-use Rattle.graph_runs.specs.RunMoves.{text_graph}
+use Rattle.code_text.specs.Text.{Text, text_of, instr_kind, kind_at}
+use Rattle.code_text.specs.EdgeCosts.{edge_class}
+use Rattle.code_text.specs.TextGraph.{text_graph}
 use Rattle.graph_runs.specs.Laws.{IsProgramOf}
-use Rattle.graph_runs.proofs.Laws.{kind_facts}
+use Rattle.code_text.proofs.Laws.{kind_facts}
 use Rattle.stub_writer.specs.Stubs.{Site}
 use Rattle.stored_runs.specs.Marks.{place_at, fragments_of_class, counters_behind}
-use Rattle.marked_runs.specs.Shadows.{count_over}
-use Rattle.marked_runs.specs.Counters.{AreCounterWords, AreCounted}
-use Rattle.marked_runs.proofs.Laws.{loops_are_countable}
+use Rattle.paid_runs.specs.Shadows.{count_over}
+use Rattle.paid_runs.specs.Counters.{AreCounterWords, AreCounted}
+use Rattle.paid_runs.proofs.Laws.{loops_are_countable}
 use Rattle.foreign_scan.specs.Scanned.{Found, CanBePatched, IsPatch, IsScanned}
 use Rattle.image_check.specs.Safe.{Owner, owner_bound, all_with_rows, sites_of, counts_it, counts_on, clears_on, one_where, IsCounterOf, AreOwners}
 use Rattle.image_check.specs.Laws.{owner_is, is_owner}
@@ -93,9 +93,9 @@ module _ (original foreign : Image) (code : Code) (l : Loops) (extent : ℕ → 
       let same : facts.2.0 ≡ p.old_instr = (let a = facts.2.1 in let b = p.old in cc) in
       facts.2.2 ∙ ap (instr_kind t v) same
 
-  not_call : (v h : ℕ) (i : Instr) → CanBePatched i → instr_kind t v i ≡ CallOf h → ⊥
+  not_call : (v h : ℕ) (i : Instr) → CanBePatched i → instr_kind t v i ≡ flow.Call h → ⊥
   not_call v h (instr.Branch op rs1 rs2 offset) can e = let never : ⊥ = cc in never
-  not_call v h (instr.Jal rd offset) can e = let there : instr_kind t v (instr.Jal 0 offset) ≡ CallOf h = ap (λ d. instr_kind t v (instr.Jal d offset)) (sym can) ∙ e in let never : ⊥ = cc in never
+  not_call v h (instr.Jal rd offset) can e = let there : instr_kind t v (instr.Jal 0 offset) ≡ flow.Call h = ap (λ d. instr_kind t v (instr.Jal d offset)) (sym can) ∙ e in let never : ⊥ = cc in never
   not_call v h (instr.Lui rd imm) can e = can
   not_call v h (instr.Auipc rd imm) can e = can
   not_call v h (instr.Jalr rd rs1 offset) can e = can
@@ -113,7 +113,7 @@ module _ (original foreign : Image) (code : Code) (l : Loops) (extent : ℕ → 
       let source = edge_of_word (kind_at t) t.entry code prog.reached.lists e edge there in
       let at : edge_at (slice_get code.edges e) ≡ edge.at = ap edge_at there in
       let c = callee-call code.functions (kind_at t (edge_at (slice_get code.edges e))) f (sym (callee_word (kind_at t) code.functions code.edges e lt) ∙ callee) in
-      let calls : kind_at t edge.at ≡ CallOf c.0 = ap (kind_at t) (sym at) ∙ c.1 in
+      let calls : kind_at t edge.at ≡ flow.Call c.0 = ap (kind_at t) (sym at) ∙ c.1 in
       is.found_are.plain edge.at edge.kind (λ changed.
       let p = is.patches edge.at changed in
       let reached = subst (λ v. Reached (kind_at t) t.entry source.1.0 v) (sym source.3) source.1.1 in

@@ -10,26 +10,25 @@ use Rattle.scale_base.specs.Arith.{plus, moved_by}
 use Rattle.scale_base.specs.Image.{Image, loaded_byte, is_word_address}
 use Rattle.scale_base.specs.Run.{starting_level}
 use Rattle.power_model.specs.Numbers.{PowerModel}
-use Rattle.cost_theory.specs.declared.edges.Edge.{Edge}
-use Rattle.cost_theory.specs.declared.edges.EdgeKind.TheVariants.{Taken, Untaken, Jump}
-use Rattle.cost_theory.specs.declared.edges.Word.TheVariants as words
+use Rattle.scale_base.specs.declared.edges.Edge.{Edge}
+use Rattle.scale_base.specs.declared.edges.EdgeKind.TheVariants.{Taken, Untaken, Jump}
+use Rattle.cost_theory.specs.declared.flow.Flow.TheVariants as flow
 use Rattle.cost_theory.specs.Graph.{Graph, Loops, leaves}
 use Rattle.cost_theory.specs.Reached.{Reached, LeadsTo, Code, edge_at, edge_to, edges_of, call_returns, callee_of, place_after}
 use Rattle.cost_theory.specs.Worst.{Numbers}
 use Rattle.cost_theory.proofs.Laws.{callee_word, Within, edge_of_word, word_edge}
 use Rattle.least_laws.specs.Charged.{Charged}
-use Rattle.graph_runs.specs.Text.{Text, text_of, instr_at, instr_kind, kind_at}
-use Rattle.graph_runs.specs.RunMoves.{text_graph}
+use Rattle.code_text.specs.Text.{Text, text_of, instr_at, instr_kind, kind_at}
+use Rattle.code_text.specs.TextGraph.{text_graph}
 use Rattle.graph_runs.specs.Laws.{IsProgramOf}
 use Rattle.stub_writer.specs.Stubs.{Site, way}
 use Rattle.stored_runs.specs.Marks.{tail_cycles}
 use Rattle.stored_runs.specs.Patched.{IsSafeEdge, AreSafeEdges}
-use Rattle.marked_runs.proofs.Laws.{targets_are_words}
+use Rattle.paid_runs.proofs.Laws.{targets_are_words, tables_of_keep_time, tuned_safe}
 use Rattle.power_model.specs.Switches.{costs_of}
 use Rattle.level_tables.specs.Tables.{EdgeNumbers}
 use Rattle.paid_runs.specs.Timely.{weights_of}
 use Rattle.paid_runs.specs.Tabled.{told_on, IsEdgeTabledBy, AreTabledOf}
-use Rattle.paid_runs.proofs.Laws.{tables_of_keep_time, tuned_safe}
 use Rattle.foreign_scan.specs.declared.fragment.ForeignFragment.{ForeignFragment}
 use Rattle.foreign_scan.specs.declared.fragment.ForeignFragment.TheVariants.{Exit}
 use Rattle.foreign_scan.specs.Form.{IsRunOut, IsStub}
@@ -116,8 +115,8 @@ module _ (power : PowerModel) (original foreign : Image) (code : Code) (l : Loop
       let reached = reached_by v p in
       let r = call_returns code (kind_at t v) in
       let to = moved_by v offset in
-      let all = λ (x : Edge) (h : Within x (edges_of (words.Branch to) v r)). subst (λ k. Within x (edges_of k v r)) (sym kind) h in
-      let leads = λ (u : ℕ) (h : LeadsTo (words.Branch to) v u). targets_are_words t code l extent prog reached.0 v u reached.1 (subst (λ k. LeadsTo k v u) (sym kind) h) in
+      let all = λ (x : Edge) (h : Within x (edges_of (flow.Branch to) v r)). subst (λ k. Within x (edges_of k v r)) (sym kind) h in
+      let leads = λ (u : ℕ) (h : LeadsTo (flow.Branch to) v u). targets_are_words t code l extent prog reached.0 v u reached.1 (subst (λ k. LeadsTo k v u) (sym kind) h) in
       let next = leads (v + 4) (inr refl) in
       let there = leads to (inl refl) in
       let even_next = next.0 in (
@@ -128,7 +127,7 @@ module _ (power : PowerModel) (original foreign : Image) (code : Code) (l : Loop
       let reached = reached_by v p in
       let r = call_returns code (kind_at t v) in
       let to = moved_by v offset in
-      let goto : kind_at t v ≡ words.Goto to = kind ∙ ap (λ d. instr_kind t v (instr.Jal d offset)) can in
+      let goto : kind_at t v ≡ flow.Jump to = kind ∙ ap (λ d. instr_kind t v (instr.Jal d offset)) can in
       let within = subst (λ k. Within (record { at = v; kind = Jump; to = to }) (edges_of k v r)) (sym goto) (inl refl) in
       let there = targets_are_words t code l extent prog reached.0 v to reached.1 (subst (λ k. LeadsTo k v to) (sym goto) refl) in
       safe_edge v p stub to (record { at = v; kind = Jump; to = to }) refl within refl f (omega arith) there.0
@@ -160,7 +159,7 @@ module _ (power : PowerModel) (original foreign : Image) (code : Code) (l : Loop
         (λ b. ⊎_elim (λ a. (edge.at + 4, sym (ap (λ (x : Edge). place_after x.kind x.to) a))) (λ no. absurd no) b) within,
   )
   local_by e edge (instr.Jal rd offset) r can kind within =
-      let goto : kind_at t edge.at ≡ words.Goto (moved_by edge.at offset) = kind ∙ ap (λ d. instr_kind t edge.at (instr.Jal d offset)) can in
+      let goto : kind_at t edge.at ≡ flow.Jump (moved_by edge.at offset) = kind ∙ ap (λ d. instr_kind t edge.at (instr.Jal d offset)) can in
       let jumps = subst (λ d. Within edge (edges_of (instr_kind t edge.at (instr.Jal d offset)) edge.at r)) can within in (
         ap (callee_of code.functions) goto,
         ⊎_elim (λ a. (moved_by edge.at offset, sym (ap (λ (x : Edge). place_after x.kind x.to) a))) (λ no. absurd no) jumps,

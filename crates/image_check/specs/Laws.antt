@@ -7,7 +7,7 @@ use Rattle.cost_theory.specs.Graph.{Loops}
 use Rattle.least_laws.specs.Charged.{Charged}
 use Rattle.cost_theory.specs.Reached.{Code}
 use Rattle.cost_theory.specs.Worst.{Numbers}
-use Rattle.graph_runs.specs.Text.{text_of}
+use Rattle.code_text.specs.Text.{text_of}
 use Rattle.graph_runs.specs.Laws.{IsProgramOf}
 use Rattle.graph_runs.specs.KeptSteps.{Carried, by_extents}
 use Rattle.graph_runs.specs.KeptRuns.{kept_of}

@@ -11,20 +11,20 @@ use Rattle.scale_base.specs.Image.{Image, loaded_byte}
 use Rattle.scale_base.specs.Run.{starting_level}
 use Rattle.scale_base.specs.State.{word_at}
 use Rattle.power_model.specs.Numbers.{PowerModel}
-use Rattle.cost_theory.specs.declared.edges.Edge.{Edge}
-use Rattle.cost_theory.specs.declared.edges.EdgeKind.{EdgeKind}
-use Rattle.cost_theory.specs.declared.edges.EdgeKind.TheVariants.{Taken, Untaken, Jump}
+use Rattle.scale_base.specs.declared.edges.Edge.{Edge}
+use Rattle.scale_base.specs.declared.edges.EdgeKind.{EdgeKind}
+use Rattle.scale_base.specs.declared.edges.EdgeKind.TheVariants.{Taken, Untaken, Jump}
 use Rattle.cost_theory.specs.Graph.{Graph, Loops, is_back, leaves}
 use Rattle.cost_theory.specs.Laws.{IsAnalyzed}
 use Rattle.least_laws.specs.Charged.{Charged, AreCharged}
 use Rattle.cost_theory.specs.Reached.{Code}
 use Rattle.cost_theory.specs.Worst.{Numbers}
-use Rattle.graph_runs.specs.Text.{text_of, instr_at}
-use Rattle.graph_runs.specs.RunMoves.{text_graph}
+use Rattle.code_text.specs.Text.{text_of, instr_at}
+use Rattle.code_text.specs.TextGraph.{text_graph}
 use Rattle.stub_writer.specs.Stubs.{Site, Place, Forked, Straight, way}
 use Rattle.stub_runs.specs.Meaning.{four_bits}
 use Rattle.stored_runs.specs.Marks.{tail_cycles}
-use Rattle.marked_runs.specs.Marked.{extra_site_weights}
+use Rattle.paid_runs.specs.Marked.{extra_site_weights}
 use Rattle.power_model.specs.Switches.{period, costs_of}
 use Rattle.level_tables.specs.Tables.{EdgeNumbers, at_row}
 use Rattle.paid_runs.specs.Timely.{weights_of}

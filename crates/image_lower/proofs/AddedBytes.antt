@@ -10,10 +10,7 @@ use Rattle.scale_base.specs.Image.{file_place, is_zeroed}
 use Rattle.elf_patch.specs.Stored.{little, put, patched, block_start, changed}
 use Rattle.elf_patch.specs.Added.{code_table, code_sections, moved_sections, sections_start, added_file}
 use Rattle.elf_patch.proofs.Laws.{page_at-le}
-use Rattle.stored_laws.proofs.Laws.{put-inside}
-use Rattle.stored_laws.proofs.Bytes.{half-same, word-same, word_little, half_little, length-put, put-outside, get_or-behind}
-use Rattle.stored_laws.proofs.Patched.{length-patched}
-use Rattle.stored_laws.proofs.Laws.{Places}
+use Rattle.stored_laws.proofs.Laws.{put-inside, half-same, word-same, word_little, half_little, length-put, put-outside, get_or-behind, length-patched, Places}
 
 -- ---- the bytes that are loaded as they are
 

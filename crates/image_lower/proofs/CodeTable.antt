@@ -1,7 +1,7 @@
 -- The program headers and the section headers of a file with a block added. Its table differs from that of an image that is stored with the same
 -- block in the flags and the alignment of the block's entry alone.
 use Rattle.std.proofs.Common.{◌≡◌, ◌≢◌, ℕ, zero, suc, ◌+◌, ◌*◌, ◌-◌, ◌^◌, ◌<◌, ◌≤◌, Bool, true, false, cond, List, [], ◌∷◌, ◌++◌, length, map, get_or, take, drop, refl, sym, ap, ◌∙◌, arith, add-zero, inl, inr, ◌⊎◌}
-use Rattle.std.specs.Prelude.{slice_range, ◌==◌, if◌then◌else◌}
+use Rattle.std.specs.Prelude.{slice_range, ◌==◌, if◌then◌else◌, nat_le, ◌&&◌, not}
 use Rattle.std.specs.List.{range_with_len}
 use Rattle.std.proofs.lemmas.Bool.{cases_lt}
 use Rattle.std.proofs.lemmas.List.{length-append, length-drop, get_or-take, get_or_append_left, length-map, length-take-le}
@@ -14,14 +14,10 @@ use Rattle.scale_base.specs.declared.ranges.Patch.{Patch}
 use Rattle.scale_base.specs.Bytes.{list_half_at, list_word_at}
 use Rattle.scale_base.specs.Elf.{e_phoff, e_phnum, e_shoff, e_shnum, has_sections, program_header, program_headers, section_header, section_headers}
 use Rattle.scale_base.specs.Image.{is_load}
-use Rattle.std.specs.Prelude.{nat_le, ◌&&◌, not}
 use Rattle.elf_patch.specs.Stored.{entry_bytes, kept_entry, entries, block_entry, keyed_number, stored_table}
 use Rattle.elf_patch.specs.Added.{code_entry, code_table, code_section, code_sections}
 use Rattle.elf_view.proofs.Laws.{length-headers}
-use Rattle.stored_laws.proofs.Laws.{get_or-slice_range, length-slice_range}
-use Rattle.stored_laws.proofs.Bytes.{word-same, word_little, get_or-behind}
-use Rattle.stored_laws.proofs.Laws.{IsStored}
-use Rattle.stored_laws.proofs.Table.{keyed_header, kept_header, stored-headers}
+use Rattle.stored_laws.proofs.Laws.{get_or-slice_range, length-slice_range, word-same, word_little, get_or-behind, IsStored, keyed_header, kept_header, stored-headers}
 use Rattle.image_lower.proofs.AddedBytes.{IsAdded}
 
 -- the header of the block's segment

@@ -11,8 +11,8 @@ use Rattle.scale_base.specs.declared.instruction.RegOp.{RegOp}
 use Rattle.scale_base.specs.declared.instruction.Instr.{Instr}
 use Rattle.scale_base.specs.declared.instruction.Instr.TheVariants as instr
 use Rattle.scale_base.specs.Reading.{instr_of, opcode_of, funct3_of, funct7_of, branch_of, branch_op_of, load_of, load_op_of, store_of, store_op_of, immediate_of, imm_op_of, register_of, reg_op_of}
-use Rattle.graph_runs.specs.Text.{Text, is_text_address, instr_at, is_target, follows}
-use Rattle.graph_runs.proofs.TextFacts.{entry_is}
+use Rattle.code_text.specs.Text.{Text, is_text_address, instr_at, is_target, follows}
+use Rattle.graph_runs.proofs.Laws.{entry_is}
 use Rattle.rv_encode.specs.Jumps.{distance}
 use Rattle.jump_lists.specs.declared.notes.JumpNote.{JumpNote}
 use Rattle.image_lower.specs.FarJumps.{far_target, is_noted, near_jump, pair_jump, far_jump, jal_reaches}

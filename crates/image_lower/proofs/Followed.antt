@@ -16,11 +16,10 @@ use Rattle.scale_base.specs.Step.{Outcome, step}
 use Rattle.scale_base.specs.Run.{Run, Standing, GoesOn, HasExited, HasTrapped, begin, ended, one_more_by, one_more, run, run_of, setting_of, start_of, starting_level}
 use Rattle.scale_base.specs.Run as runs
 use Rattle.scale_base.proofs.Laws.{run_step}
-use Rattle.graph_runs.specs.Text.{text_of}
+use Rattle.code_text.specs.Text.{text_of}
 use Rattle.stub_runs.specs.Meaning.{StepsLead}
 use Rattle.stub_runs.proofs.Laws.{leads_none, leads_on}
-use Rattle.stored_runs.proofs.LaidBytes.{laid, byte_seen}
-use Rattle.stored_runs.proofs.Frame.{hidden}
+use Rattle.stored_runs.proofs.Laws.{laid, byte_seen, hidden}
 use Rattle.jump_lists.specs.declared.notes.JumpNote.{JumpNote}
 use Rattle.image_lower.specs.FarJumps.{far_jump}
 use Rattle.image_lower.specs.Block.{block_len, greatest_depth}

@@ -5,7 +5,7 @@ use Rattle.std.specs.List.{list_any}
 use Rattle.std.proofs.lemmas.Bool.{and_parts, and_from, leb-true, eq-eqb}
 use Rattle.scale_base.specs.declared.ranges.Range.{Range}
 use Rattle.scale_base.specs.Image.{Image, is_in, is_word_address}
-use Rattle.graph_runs.specs.Text.{text_of, follows}
+use Rattle.code_text.specs.Text.{text_of, follows}
 
 -- what passes one test and another passes each
 any_weaker : (p q : Range → Bool) (rs : List Range) → ((r : Range) → p r ≡ true → q r ≡ true) → list_any p rs ≡ true → list_any q rs ≡ true

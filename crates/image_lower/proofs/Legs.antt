@@ -25,22 +25,15 @@ use Rattle.scale_base.specs.Arith.{plus, moved_by}
 use Rattle.scale_base.specs.State.{Setting, State, reg, with_reg, word_at}
 use Rattle.scale_base.specs.Step.{Outcome, step, goes, stops, stepped, jumps, performs, pc_after}
 use Rattle.scale_base.specs.Run.{setting_of, starting_level}
-use Rattle.scale_base.proofs.Laws.{each_byte_first}
-use Rattle.scale_base.proofs.Laws.{step_zero}
+use Rattle.scale_base.proofs.Laws.{each_byte_first, step_zero}
 use Rattle.rv_encode.specs.Jumps.{distance}
-use Rattle.machine_laws.proofs.Laws.{step_length}
-use Rattle.machine_laws.proofs.StepLaws.{step_performs}
-use Rattle.graph_runs.specs.Text.{text_of, instr_at}
-use Rattle.graph_runs.specs.Text as texts
-use Rattle.graph_runs.proofs.Laws.{word_within, word_bound, word_same, not_written}
-use Rattle.graph_runs.proofs.Laws.{IsTrap, step_done}
-use Rattle.graph_runs.proofs.Laws.{went_at}
+use Rattle.machine_laws.proofs.Laws.{step_length, step_performs}
+use Rattle.code_text.specs.Text.{text_of, instr_at}
+use Rattle.code_text.specs.Text as texts
+use Rattle.graph_runs.proofs.Laws.{word_within, word_bound, word_same, not_written, IsTrap, step_done, went_at}
 use Rattle.stub_runs.specs.Meaning.{StepsLead}
 use Rattle.stub_runs.proofs.Laws.{leads_none, leads_first}
-use Rattle.stored_runs.proofs.LaidBytes.{laid}
-use Rattle.stored_runs.proofs.SameStep.{SeeAlike, over, seen, step_alike}
-use Rattle.stored_runs.proofs.Frame.{hidden}
-use Rattle.stored_runs.proofs.Placed.{word_by, word_stays}
+use Rattle.stored_runs.proofs.Laws.{laid, SeeAlike, over, seen, step_alike, hidden, word_by, word_stays}
 use Rattle.jump_lists.specs.declared.notes.JumpNote.{JumpNote}
 use Rattle.image_lower.specs.FarJumps.{far_jump, far_target}
 use Rattle.image_lower.specs.Trees.{tree_jump, whole_tree, tree_depth}

@@ -9,10 +9,9 @@ use Rattle.scale_base.specs.Layout.{layout_of, is_keyed, can_fetch}
 use Rattle.scale_base.specs.Reading.{instr_of}
 use Rattle.scale_base.specs.Run.{setting_of, starting_level}
 use Rattle.scale_base.specs.State.{word_at}
-use Rattle.graph_runs.specs.Text.{text_of, instr_at}
+use Rattle.code_text.specs.Text.{text_of, instr_at}
 use Rattle.graph_runs.specs.TextStates.{IsTextOf}
-use Rattle.stored_runs.proofs.SameStep.{SeeAlike}
-use Rattle.stored_runs.proofs.Frame.{hidden}
+use Rattle.stored_runs.proofs.Laws.{SeeAlike, hidden}
 use Rattle.jump_lists.specs.declared.notes.JumpNote.{JumpNote}
 use Rattle.image_lower.specs.FarJumps.{far_jump}
 use Rattle.image_lower.specs.Trees.{tree_jump, whole_tree, tree_depth}

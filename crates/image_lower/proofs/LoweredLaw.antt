@@ -23,24 +23,17 @@ use Rattle.scale_base.specs.Reading.{instr_of}
 use Rattle.scale_base.specs.Run.{setting_of, starting_level}
 use Rattle.scale_base.specs.State.{Setting, word_at}
 use Rattle.scale_base.specs.Word.{word_of, FieldsInRange}
-use Rattle.scale_base.proofs.Laws.{rules_kept, contents-are, has_table}
-use Rattle.scale_base.proofs.Laws.{rules_of}
-use Rattle.scale_base.proofs.Laws.{word_back, word_small}
+use Rattle.scale_base.proofs.Laws.{rules_kept, contents-are, has_table, rules_of, word_back, word_small}
 use Rattle.elf_patch.specs.Stored.{little, patched, IsStubBase, is_free}
 use Rattle.elf_patch.proofs.Laws.{some_place}
 use Rattle.rv_encode.specs.Jumps.{distance}
-use Rattle.stored_laws.proofs.Bytes.{get_or-behind}
-use Rattle.stored_laws.proofs.Laws.{text_place}
-use Rattle.stored_laws.proofs.Laws.{Places}
+use Rattle.stored_laws.proofs.Laws.{get_or-behind, text_place, Places}
 use Rattle.table_keys.specs.Keys.{◌>>=◌}
-use Rattle.machine_laws.proofs.TextBytes.{word_in_text}
-use Rattle.graph_runs.specs.Text.{text_of}
+use Rattle.machine_laws.proofs.Laws.{word_in_text}
+use Rattle.code_text.specs.Text.{text_of}
 use Rattle.graph_runs.specs.TextStates.{IsTextOf}
-use Rattle.graph_runs.proofs.Laws.{text_of_layout}
-use Rattle.graph_runs.proofs.Laws.{word_bound}
-use Rattle.stored_runs.proofs.StoredBytes.{IsOff}
-use Rattle.stored_runs.proofs.Frame.{hidden}
-use Rattle.stored_runs.proofs.Placed.{word_by, patched_word}
+use Rattle.graph_runs.proofs.Laws.{text_of_layout, word_bound}
+use Rattle.stored_runs.proofs.Laws.{IsOff, hidden, word_by, patched_word}
 use Rattle.code_text.specs.Table.{all_addresses}
 use Rattle.jump_lists.specs.declared.notes.JumpNote.{JumpNote}
 use Rattle.jump_lists.specs.Notes.{IsJumpNote}

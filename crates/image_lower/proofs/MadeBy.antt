@@ -16,16 +16,9 @@ use Rattle.scale_base.specs.Elf.{e_entry, e_phoff, e_phnum, e_shoff, e_shnum, ha
 use Rattle.scale_base.specs.Image.{image_of, contents, image_rules, load_headers, is_load, loaded_headers, file_place, text_of_section, text_of_segment, text_start_of, text_end_of, text_parts, text_ranges, range_of, is_in}
 use Rattle.elf_patch.specs.Stored.{patched, block_start, keyed_number, stored_image}
 use Rattle.elf_patch.specs.Added.{added_file, code_table, code_sections}
-use Rattle.elf_patch.proofs.AddedLemmas.{sections_in_file}
-use Rattle.elf_patch.proofs.Laws.{page_at-le}
-use Rattle.stored_laws.proofs.Bytes.{half-same, word-same}
-use Rattle.stored_laws.proofs.Known.{Known, known}
-use Rattle.stored_laws.proofs.Laws.{Away}
-use Rattle.stored_laws.proofs.Patched.{length-patched, patched-away}
-use Rattle.stored_laws.proofs.Laws.{Places, stored-is}
-use Rattle.stored_laws.proofs.Table.{kept_header, loads-kept}
-use Rattle.stored_laws.proofs.Segments.{loads-split}
-use Rattle.machine_laws.proofs.Ranges.{list_any-ranges_of}
+use Rattle.elf_patch.proofs.Laws.{sections_in_file, page_at-le}
+use Rattle.stored_laws.proofs.Laws.{half-same, word-same, Known, known, Away, length-patched, patched-away, Places, stored-is, kept_header, loads-kept, loads-split}
+use Rattle.machine_laws.proofs.Laws.{list_any-ranges_of}
 use Rattle.image_lower.specs.Meets.{in_block, place_off_table, AreOffTable}
 use Rattle.image_lower.proofs.AddedBytes.{IsLoaded, IsAdded, added-is}
 use Rattle.image_lower.proofs.CodeTable.{code_header, code_section_header, length-table, added-headers, added-sections, header_same, section_same, all_same}

@@ -13,17 +13,13 @@ use Rattle.scale_base.specs.Layout.{Layout, Part, part_of, is_plain_segment, in_
 use Rattle.scale_base.specs.State.{Setting}
 use Rattle.scale_base.proofs.Laws.{each_byte_none, each_byte_more, each_byte_first}
 use Rattle.elf_patch.specs.Stored.{little, put_at, put_patch}
-use Rattle.stored_laws.proofs.Laws.{put-inside}
-use Rattle.stored_laws.proofs.Laws.{Away, length-put_at}
-use Rattle.stored_laws.proofs.Patched.{put_at-away}
-use Rattle.stored_laws.proofs.Laws.{Places}
-use Rattle.machine_laws.proofs.Laws.{list_any-map, found_in, found_passes, found_keeps}
-use Rattle.graph_runs.specs.Text.{Text, text_of}
-use Rattle.graph_runs.specs.Text as texts
+use Rattle.stored_laws.proofs.Laws.{put-inside, Away, length-put_at, put_at-away, Places}
+use Rattle.machine_laws.proofs.Laws.{list_any-map, found_in, found_passes, found_keeps, share_address}
+use Rattle.code_text.specs.Text.{Text, text_of}
+use Rattle.code_text.specs.Text as texts
 use Rattle.graph_runs.specs.TextStates.{IsTextOf}
-use Rattle.graph_runs.proofs.Laws.{share_address}
 use Rattle.graph_runs.proofs.Laws.{word_within}
-use Rattle.stored_runs.proofs.StoredBytes.{IsOff}
+use Rattle.stored_runs.proofs.Laws.{IsOff}
 
 -- ---- lists with some in the middle
 

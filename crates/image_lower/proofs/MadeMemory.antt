@@ -12,26 +12,16 @@ use Rattle.scale_base.specs.Elf.{has}
 use Rattle.scale_base.specs.Spans.{in_span, overlap, ends_by}
 use Rattle.scale_base.specs.Image.{image_of, contents, segment_of, addresses_of, covers, segment_byte, byte_in, loaded_byte, loaded_headers, is_zeroed, memory_range, file_part, header_has_word, file_place, is_fit, is_word_address, is_in, text_ranges, stack, has_key, keyed_of}
 use Rattle.scale_base.specs.Layout.{Layout, Part, layout_of, in_text, in_option, is_keyed, in_stack, may_read, may_write, reads_byte, can_fetch}
-use Rattle.scale_base.proofs.Laws.{rules_kept, has_table}
-use Rattle.scale_base.proofs.Laws.{rules_of}
+use Rattle.scale_base.proofs.Laws.{rules_kept, has_table, rules_of}
 use Rattle.elf_patch.specs.Stored.{little, patched, block_start, is_free, window}
 use Rattle.elf_patch.proofs.Laws.{page_at-le}
-use Rattle.stored_laws.proofs.Laws.{length-slice_range, get_or-slice_range}
-use Rattle.stored_laws.proofs.Laws.{Away, text_place}
-use Rattle.stored_laws.proofs.Patched.{patched-away}
-use Rattle.stored_laws.proofs.Laws.{Places}
-use Rattle.machine_laws.proofs.Laws.{find-map, list_any-map, mapped_from, found_passes, found_keeps, found_from_any, any_from_found}
-use Rattle.machine_laws.proofs.Laws.{SegmentsKept, segments_of, one_covers}
-use Rattle.machine_laws.proofs.Segments.{loaded_byte-is}
-use Rattle.machine_laws.proofs.Laws.{file_fits, part_word, in_part}
-use Rattle.machine_laws.proofs.TextBytes as bytes
-use Rattle.graph_runs.specs.Text.{text_of}
+use Rattle.stored_laws.proofs.Laws.{length-slice_range, get_or-slice_range, Away, text_place, patched-away, Places}
+use Rattle.machine_laws.proofs.Laws.{find-map, list_any-map, mapped_from, found_passes, found_keeps, found_from_any, any_from_found, SegmentsKept, segments_of, one_covers, loaded_byte-is, file_fits, part_word, in_part, share_address}
+use Rattle.machine_laws.proofs.Laws as bytes
+use Rattle.code_text.specs.Text.{text_of}
 use Rattle.graph_runs.specs.TextStates.{IsTextOf}
-use Rattle.graph_runs.proofs.Laws.{share_address, text_of_layout}
-use Rattle.graph_runs.proofs.Images.{text_off_stack}
-use Rattle.stored_runs.proofs.StoredBytes.{IsOff}
-use Rattle.stored_runs.proofs.SameStep.{SeeAlike}
-use Rattle.stored_runs.proofs.Frame.{hidden}
+use Rattle.graph_runs.proofs.Laws.{text_of_layout, text_off_stack}
+use Rattle.stored_runs.proofs.Laws.{IsOff, SeeAlike, hidden}
 use Rattle.image_lower.specs.Meets.{in_block}
 use Rattle.image_lower.proofs.AddedBytes.{IsLoaded, off_zeroed}
 use Rattle.image_lower.proofs.CodeTable.{code_header}

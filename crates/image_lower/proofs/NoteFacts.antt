@@ -14,7 +14,7 @@ use Rattle.scale_base.specs.Reading.{instr_of}
 use Rattle.scale_base.specs.Image.{Image, image_of, is_word_address, text_word, file_place}
 use Rattle.scale_base.specs.Bytes as file_bytes
 use Rattle.machine_laws.proofs.Laws.{word_loaded}
-use Rattle.graph_runs.specs.Text.{text_of, instr_at}
+use Rattle.code_text.specs.Text.{text_of, instr_at}
 use Rattle.jump_lists.specs.declared.notes.JumpNote.{JumpNote}
 use Rattle.image_lower.specs.FarJumps.{far_jump}
 use Rattle.image_lower.specs.Trees.{tree_depth}

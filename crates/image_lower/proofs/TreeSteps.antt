@@ -22,7 +22,7 @@ use Rattle.scale_base.specs.State.{Setting, State, reg, with_reg, word_at}
 use Rattle.scale_base.specs.Step.{step, goes, stepped, sets, jumps, branches, performs}
 use Rattle.scale_base.proofs.Laws.{word_back}
 use Rattle.rv_encode.specs.Jumps.{distance}
-use Rattle.machine_laws.proofs.StepLaws.{step_performs}
+use Rattle.machine_laws.proofs.Laws.{step_performs}
 use Rattle.stub_runs.specs.Meaning.{StepsLead}
 use Rattle.stub_runs.proofs.Laws.{leads_none, leads_first}
 use Rattle.image_lower.specs.Trees.{upper_part, lower_part, has_bit, lacks_bit, are_alike, tree_jump, leaf, fork, tree, tree_depth}

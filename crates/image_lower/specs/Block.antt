@@ -8,7 +8,7 @@ use Rattle.scale_base.specs.declared.ranges.Patch.{Patch}
 use Rattle.scale_base.specs.Reading.{instr_of}
 use Rattle.scale_base.specs.Word.{word_of}
 use Rattle.scale_base.specs.Image.{Image, is_word_address, text_word}
-use Rattle.graph_runs.specs.Text.{text_of}
+use Rattle.code_text.specs.Text.{text_of}
 use Rattle.elf_patch.specs.Stored.{little}
 use Rattle.jump_lists.specs.declared.notes.JumpNote.{JumpNote}
 use Rattle.image_lower.specs.FarJumps.{far_jump}

@@ -1,7 +1,7 @@
 -- A list of the addresses that other ways lead to.
 use Rattle.std.specs.Prelude.{◌≡◌, ℕ, ◌==◌, ◌||◌, List}
 use Rattle.std.specs.List.{list_any}
-use Rattle.graph_runs.specs.Text.{Text, is_target}
+use Rattle.code_text.specs.Text.{Text, is_target}
 use Rattle.jump_lists.specs.declared.notes.JumpNote.{JumpNote}
 use Rattle.image_lower.specs.FarJumps.{is_noted}
 

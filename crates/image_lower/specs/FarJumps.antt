@@ -8,7 +8,7 @@ use Rattle.scale_base.specs.declared.instruction.Instr.TheVariants as instr
 use Rattle.scale_base.specs.declared.ranges.Patch.{Patch}
 use Rattle.scale_base.specs.Arith.{plus, moved_by}
 use Rattle.scale_base.specs.Word.{word_of}
-use Rattle.graph_runs.specs.Text.{Text, is_text_address, instr_at, is_target, follows}
+use Rattle.code_text.specs.Text.{Text, is_text_address, instr_at, is_target, follows}
 use Rattle.code_text.specs.Table.{all_addresses}
 use Rattle.rv_encode.specs.Jumps.{distance}
 use Rattle.jump_lists.specs.declared.notes.JumpNote.{JumpNote}

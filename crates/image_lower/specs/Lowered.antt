@@ -9,7 +9,7 @@ use Rattle.scale_base.specs.Image.{Image, image_of}
 use Rattle.table_keys.specs.Keys.{◌>>=◌}
 use Rattle.elf_patch.specs.Stored.{IsStubBase, patched}
 use Rattle.elf_patch.specs.Added.{added_file}
-use Rattle.graph_runs.specs.Text.{text_of}
+use Rattle.code_text.specs.Text.{text_of}
 use Rattle.jump_lists.specs.declared.notes.JumpNote.{JumpNote}
 use Rattle.jump_lists.specs.Jumps.{read_jumps}
 use Rattle.image_lower.specs.declared.lowering.Lowered.{Lowered}

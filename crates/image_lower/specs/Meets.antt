@@ -10,7 +10,7 @@ use Rattle.scale_base.specs.Image.{Image, image_of, file_place}
 use Rattle.scale_base.specs.Layout.{in_text, layout_of}
 use Rattle.scale_base.specs.State.{State, reg}
 use Rattle.scale_base.specs.Run.{Run, Standing, GoesOn, HasExited, HasTrapped, run_of}
-use Rattle.graph_runs.specs.Text.{text_of}
+use Rattle.code_text.specs.Text.{text_of}
 use Rattle.elf_patch.specs.Stored.{IsStubBase}
 use Rattle.jump_lists.specs.declared.notes.JumpNote.{JumpNote}
 use Rattle.jump_lists.specs.Notes.{AreJumpNotes}

@@ -4,7 +4,7 @@ ghost use Rattle.std.specs.Prelude.{◌≡◌, [], ◌≤◌, ◌<◌, ◌+◌, 
 ghost use Rattle.std.specs.List.{list_any, list_all};
 ghost use Rattle.scale_base.specs.Image.{image_of, is_in, is_word_address};
 ghost use Rattle.scale_base.specs.Word.{FieldsInRange};
-ghost use Rattle.graph_runs.specs.Text as texts;
+ghost use Rattle.code_text.specs.Text as texts;
 ghost use Rattle.code_text.specs.Walk.{Rise};
 ghost use Rattle.image_lower.specs.Entered.{AreWaysIn};
 ghost use Rattle.image_lower.specs.Block as block;

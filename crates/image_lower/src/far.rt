@@ -4,7 +4,7 @@ ghost use Rattle.std.specs.Prelude.{◌≡◌, [], ◌≤◌, ◌<◌, ◌+◌, 
 ghost use Rattle.std.specs.List.{list_any, cons_option};
 ghost use Rattle.scale_base.specs.Image.{image_of, is_in, is_word_address};
 ghost use Rattle.scale_base.specs.Word.{FieldsInRange};
-ghost use Rattle.graph_runs.specs.Text as texts;
+ghost use Rattle.code_text.specs.Text as texts;
 ghost use Rattle.code_text.specs.Walk.{IsWalked, Rise};
 ghost use Rattle.code_text.specs.Table.{word_addresses, all_addresses};
 ghost use Rattle.rv_encode.specs.Jumps as jumps;

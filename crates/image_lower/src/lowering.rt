@@ -9,7 +9,7 @@ ghost use Rattle.elf_patch.specs.Stored.{little};
 ghost use Rattle.elf_patch.specs.Added.{added_file};
 ghost use Rattle.jump_lists.specs.Notes.{IsJumpNote, AreJumpNotes};
 ghost use Rattle.image_lower.specs.Block as block;
-ghost use Rattle.graph_runs.specs.Text as texts;
+ghost use Rattle.code_text.specs.Text as texts;
 ghost use Rattle.image_lower.specs.FarJumps as far;
 ghost use Rattle.image_lower.specs.Lowered as lowered;
 

@@ -14,7 +14,8 @@ use Rattle.scale_base.specs.declared.stepping.Stepped.{Stepped}
 use Rattle.graph_runs.specs.ReturnAddresses.{returns_after, returns_by}
 use Rattle.graph_runs.specs.KeptSteps.{source_of}
 use Rattle.loop_file.specs.declared.notes.LoopNote.{LoopNote}
-use Rattle.loop_file.specs.Kept.{note_at, most_returns}
+use Rattle.loop_file.specs.Kept.{note_at}
+use Rattle.graph_runs.specs.KeptRuns.{most_returns}
 use Rattle.keep_monitor.specs.Slots.{slot_of, AreSlotsOf}
 use Rattle.keep_monitor.specs.Watch.{Watched, watch}
 use Rattle.keep_monitor.specs.Steps.{broken_by, broken_loop, counts_after_step, loop_over, loop_left, lesser_loop, AreTurning, AreCounts}

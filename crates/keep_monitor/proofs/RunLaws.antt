@@ -16,10 +16,10 @@ use Rattle.cost_theory.specs.Graph.{Loops, is_header, is_round}
 use Rattle.cost_theory.proofs.Laws.{find-holds, none-any, any-some}
 use Rattle.graph_runs.specs.ReturnAddresses.{returns_after}
 use Rattle.graph_runs.specs.KeptSteps.{Carried, carried_first, source_of, counts_after, leaves_by, breaks, is_broken, keeps_counts, kept_more}
-use Rattle.graph_runs.specs.KeptRuns.{watched, kept_at, kept_of}
+use Rattle.graph_runs.specs.KeptRuns.{watched, kept_at, kept_of, most_returns, IsKeptUpTo}
 use Rattle.graph_runs.proofs.Laws.{kept_parts}
 use Rattle.loop_file.specs.declared.notes.LoopNote.{LoopNote}
-use Rattle.loop_file.specs.Kept.{note_at, noted_loops, most_returns, IsKeptUpTo}
+use Rattle.loop_file.specs.Kept.{note_at, noted_loops}
 use Rattle.keep_monitor.specs.Watch.{Watched, watch, watch_returns, watch_loops, watch_end, watched_from, watched_at, next_counts, loop_broken}
 use Rattle.keep_monitor.proofs.BreakLaws.{not_found}
 use Rattle.keep_monitor.proofs.StepLaws.{watch_stays}
@@ -152,9 +152,9 @@ module _ (image : Image) (levels : ℕ) (input : List ℕ) (notes : List LoopNot
   Going n = Goes notes (watched_at image levels input notes n) (kept_of image levels input (noted_loops notes) n) × AreShallow n
 
   abbrev Broken : ℕ → Type 0
-  Broken n = ((watched_at image levels input notes n).kept ≡ kinds.Kept → ⊥) × (IsKeptUpTo image levels input notes n → ⊥)
+  Broken n = ((watched_at image levels input notes n).kept ≡ kinds.Kept → ⊥) × (IsKeptUpTo image levels input (noted_loops notes) n → ⊥)
 
-  one_less : (n : ℕ) → IsKeptUpTo image levels input notes (suc n) → IsKeptUpTo image levels input notes n
+  one_less : (n : ℕ) → IsKeptUpTo image levels input (noted_loops notes) (suc n) → IsKeptUpTo image levels input (noted_loops notes) n
   unfolding kept_at
   one_less n k =
       let env : Setting = setting_of image levels input in
@@ -217,7 +217,7 @@ module _ (image : Image) (levels : ℕ) (input : List ℕ) (notes : List LoopNot
           told
 
 pub watched_is_kept : (image : Image) (levels : ℕ) (input : List ℕ) (notes : List LoopNote) (n : ℕ) →
-    ((watched_at image levels input notes n).kept ≡ kinds.Kept) ↔ IsKeptUpTo image levels input notes n
+    ((watched_at image levels input notes n).kept ≡ kinds.Kept) ↔ IsKeptUpTo image levels input (noted_loops notes) n
 watched_is_kept image levels input notes n = ⊎_elim
     (λ (going : Going image levels input notes n). (
       λ kept. record { carried = going.0.carried; kept = going.0.at; shallow = going.1 },

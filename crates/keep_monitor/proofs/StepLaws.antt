@@ -10,7 +10,7 @@ use Rattle.scale_base.specs.declared.stepping.Stepped.{Stepped}
 use Rattle.graph_runs.specs.ReturnAddresses.{returns_after}
 use Rattle.graph_runs.specs.KeptSteps.{source_of}
 use Rattle.loop_file.specs.declared.notes.LoopNote.{LoopNote}
-use Rattle.loop_file.specs.Kept.{most_returns}
+use Rattle.graph_runs.specs.KeptRuns.{most_returns}
 use Rattle.keep_monitor.specs.Watch.{Watched, watch, watch_after, next_counts, loop_broken, watch_loops, watch_returns}
 use Rattle.keep_monitor.specs.Steps.{broken_by, counts_after_step, broken_loop}
 use Rattle.keep_monitor.proofs.CountLaws.{counts_listed}

@@ -12,7 +12,8 @@ use Rattle.scale_base.specs.declared.stepping.Move.TheVariants.{Local}
 use Rattle.scale_base.specs.declared.stepping.Stepped.{Stepped}
 use Rattle.graph_runs.specs.KeptSteps.{source_of}
 use Rattle.loop_file.specs.declared.notes.LoopNote.{LoopNote}
-use Rattle.loop_file.specs.Kept.{note_at, most_returns}
+use Rattle.loop_file.specs.Kept.{note_at}
+use Rattle.graph_runs.specs.KeptRuns.{most_returns}
 use Rattle.keep_monitor.specs.declared.headers.Header.{Header}
 use Rattle.keep_monitor.specs.Headers.{sorted_header, AreLoopsOf, IsLoneLoop}
 use Rattle.keep_monitor.specs.Watch.{watch_returns, loop_broken}

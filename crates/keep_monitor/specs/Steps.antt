@@ -8,7 +8,8 @@ use Rattle.scale_base.specs.declared.stepping.Stepped.{Stepped}
 use Rattle.cost_theory.specs.Graph.{count_step, find_below}
 use Rattle.loop_file.specs.declared.notes.LoopNote.{LoopNote}
 use Rattle.loop_file.specs.Notes.{AreLoopNotes}
-use Rattle.loop_file.specs.Kept.{note_at, in_extent, noted_loops, most_returns}
+use Rattle.loop_file.specs.Kept.{note_at, in_extent, noted_loops}
+use Rattle.graph_runs.specs.KeptRuns.{most_returns}
 use Rattle.keep_monitor.specs.declared.headers.Header.{Header}
 use Rattle.keep_monitor.specs.Headers.{AreSortedHeaders, sorted_header}
 use Rattle.keep_monitor.specs.Watch.{loop_broken}

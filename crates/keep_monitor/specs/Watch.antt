@@ -15,7 +15,8 @@ use Rattle.cost_theory.specs.Graph.{find_below}
 use Rattle.graph_runs.specs.ReturnAddresses.{returns_after}
 use Rattle.graph_runs.specs.KeptSteps.{counts_after, breaks}
 use Rattle.loop_file.specs.declared.notes.LoopNote.{LoopNote}
-use Rattle.loop_file.specs.Kept.{noted_loops, most_returns}
+use Rattle.loop_file.specs.Kept.{noted_loops}
+use Rattle.graph_runs.specs.KeptRuns.{most_returns}
 
 -- what is carried along: the return addresses, the last one first, a count for each loop, and what was broken
 pub record Watched : Type 0 where

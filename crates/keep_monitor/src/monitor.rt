@@ -5,7 +5,7 @@ ghost use Rattle.scale_base.specs.declared.stepping.Move.TheVariants.{Local};
 ghost use Rattle.scale_base.specs.declared.endings.Kept.TheVariants as kinds;
 ghost use Rattle.graph_runs.specs.ReturnAddresses.{returns_after};
 ghost use Rattle.loop_file.specs.Notes.{AreLoopNotes};
-ghost use Rattle.loop_file.specs.Kept.{most_returns};
+ghost use Rattle.graph_runs.specs.KeptRuns.{most_returns};
 ghost use Rattle.keep_monitor.specs.Watch.{watched_first, watch, watch_returns};
 ghost use Rattle.keep_monitor.specs.Headers.{AreSortedHeaders, IsLoneLoop};
 ghost use Rattle.keep_monitor.specs.Steps.{AreTurning, AreCounts, IsMonitor};

@@ -7,11 +7,11 @@ use Rattle.cost_theory.specs.Worst.{at_some}
 use Rattle.cost_theory.specs.Least.{Least, IsLeastIfAny, EndsWith, AreLeast, IsReturn, IsExit, IsReturnTo, end_after, least_cost}
 use Rattle.code_graph.specs.FlowGraph.{FlowGraph, graph, IsFlowGraph}
 use Rattle.code_graph.proofs.Laws.{few_once}
-use Rattle.natural_loops.specs.Noted.{node_address}
-use Rattle.key_chains.specs.Keys.{option_at, HasKey, AreKeys, IsLastBelow}
+use Rattle.loop_tree.specs.Noted.{node_address}
+use Rattle.graph_algorithms.specs.Keys.{option_at, HasKey, AreKeys, IsLastBelow}
 use Rattle.least_cycles.specs.Hops.{number_in_table}
 use Rattle.least_cycles.specs.Local.{lesser_cost, sum_of_both}
-use Rattle.natural_loops.proofs.Laws.{source_number}
+use Rattle.loop_tree.proofs.Laws.{source_number}
 use Rattle.std.proofs.lemmas.List.{get_or_past, length-replicate}
 use Rattle.least_cycles.specs.Tables.{AreBackKeys, back_from, value_beside, least_by, AreWalksOf, IsAnyFunction}
 use Rattle.least_cycles.proofs.TableLaws.{at_number, at_node, beside_none, least_moved}

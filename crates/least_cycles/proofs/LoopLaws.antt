@@ -2,17 +2,17 @@
 use Rattle.std.proofs.Common.{◌≡◌, ◌≢◌, ℕ, ◌+◌, ◌*◌, ◌<◌, ◌≤◌, ◌⊎◌, ◌↔◌, inl, inr, Bool, true, false, not, ◌&&◌, ◌||◌, nat_eq, List, [], ◌∷◌, length, slice_get, slice_set, slice_index, slice_index_or, Option, Some, None, refl, sym, ap, ◌∙◌, subst, arith, ⊎_elim, get_or-set_other, get_or-set_same, eqb-true, eq-eqb}
 use Rattle.std.proofs.lemmas.Bool.{cases_lt}
 use Rattle.std.proofs.lemmas.Option.{slice_get-get_or, slice_get_within, get_or_from_slice_get, same_Some, none-some}
-use Rattle.call_orders.specs.Arcs.{number_in_place}
+use Rattle.graph_algorithms.specs.Arcs.{number_in_place}
 use Rattle.cost_theory.specs.Graph.{Graph, Loops, total, only, is_round, is_header, is_back, any_below, end_of, IsPlainPath}
 use Rattle.cost_theory.specs.Worst.{at_some}
 use Rattle.cost_theory.specs.Least.{IsLeastIfAny, IsExit, least_cost}
 use Rattle.cost_theory.specs.LeastTurns.{IsRun, turn_step, turn_last}
 use Rattle.cost_theory.proofs.Laws.{search_below, and_left, and_right, any-none, none-any, accepted_entered, header_held, body_node, IsAtHeader, step_at_header, entry_at_header, plain_from_entry}
 use Rattle.code_graph.specs.FlowGraph.{FlowGraph, graph, IsFlowGraph}
-use Rattle.natural_loops.specs.Noted.{node_address}
-use Rattle.natural_loops.proofs.Laws.{one_number, source_number}
+use Rattle.loop_tree.specs.Noted.{node_address}
+use Rattle.loop_tree.proofs.Laws.{one_number, source_number}
 use Rattle.loop_tree.specs.Tree.{LoopView, loops, IsAtPlace}
-use Rattle.key_chains.specs.Keys.{option_at, HasKey, IsLastBelow}
+use Rattle.graph_algorithms.specs.Keys.{option_at, HasKey, IsLastBelow}
 use Rattle.least_laws.specs.Charged.{Charged, calls_exit, is_closed, charge_of, charged_cost}
 use Rattle.least_laws.proofs.Laws.{least_same}
 use Rattle.least_cycles.specs.declared.charges.Charges.{Charges}
@@ -306,7 +306,7 @@ module _ (v : FlowGraph) (t : LoopView) (w : ℕ → ℕ) (n : Charged) (is : Is
 
   -- ---- the order of headers
 
-  -- from the header on, a plain path into a body
+  -- from the header on, a acyclic path into a body
   from_header : (k : ℕ) → k < length t.headers → (es : List ℕ) (p : Option ℕ) (u : ℕ) → IsAtHeader l k p → IsPlainPath g l p es → end_of g p es ≡ Some u → l.inside k u ≡ true →
       (xs : List ℕ) × IsPlainPath g l (Some (l.header k)) xs × (end_of g (Some (l.header k)) xs ≡ Some u)
   from_header k kl [] p u at path ends in_u =

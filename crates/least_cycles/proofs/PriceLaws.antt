@@ -2,12 +2,12 @@
 use Rattle.std.proofs.Common.{◌≡◌, ◌≢◌, ℕ, zero, suc, ◌+◌, ◌^◌, ◌<◌, ◌≤◌, ◌⊎◌, ◌↔◌, inl, inr, Bool, true, false, List, [], ◌∷◌, ◌++◌, length, length-append, slice_get, slice_set, slice_index_or, Option, Some, None, IsSome, unwrap_or, refl, sym, ap, ◌∙◌, subst, arith, ⊎_elim, get_or-set_other, get_or-set_same, length-set}
 use Rattle.std.proofs.lemmas.Bool.{cases_lt}
 use Rattle.std.proofs.lemmas.Option.{slice_get-get_or, same_Some}
-use Rattle.call_orders.specs.Arcs.{number_in_place, AreDistinct}
+use Rattle.graph_algorithms.specs.Arcs.{number_in_place, AreDistinct}
 use Rattle.cost_theory.specs.Worst.{at_some}
 use Rattle.cost_theory.specs.Least.{IsExit, least_call, least_cost}
 use Rattle.code_graph.specs.FlowGraph.{FlowGraph, graph, IsFlowGraph}
-use Rattle.natural_loops.specs.Noted.{node_address}
-use Rattle.key_chains.specs.Keys.{HasKey, AreKeys, IsLastBelow}
+use Rattle.loop_tree.specs.Noted.{node_address}
+use Rattle.graph_algorithms.specs.Keys.{HasKey, AreKeys, IsLastBelow}
 use Rattle.least_cycles.specs.Functions.{IsNodeFlagged, IsBucket}
 use Rattle.least_cycles.specs.Tables.{AreOwnerKeys, value_beside, least_by, AreSmallTables, IsPrice, ArePriced}
 

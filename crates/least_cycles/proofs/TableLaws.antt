@@ -7,8 +7,8 @@ use Rattle.cost_theory.specs.Worst.{at_some}
 use Rattle.cost_theory.specs.Accepted.{IsProgram}
 use Rattle.cost_theory.specs.Least.{Least, IsLeastIfAny, EndsWith, least_call}
 use Rattle.code_graph.specs.FlowGraph.{FlowGraph, IsFlowGraph}
-use Rattle.natural_loops.specs.Noted.{node_address}
-use Rattle.natural_loops.proofs.Laws.{one_number}
+use Rattle.loop_tree.specs.Noted.{node_address}
+use Rattle.loop_tree.proofs.Laws.{one_number}
 use Rattle.least_cycles.specs.Hops.{number_in_table}
 use Rattle.least_cycles.specs.Tables.{value_beside, AreFunctionLimits}
 

@@ -3,18 +3,18 @@ use Rattle.std.proofs.Common.{◌≡◌, ◌≢◌, ℕ, zero, suc, ◌+◌, ◌
 use Rattle.std.proofs.lemmas.Bool.{cases_lt, eqb-true, eq-eqb, ne_eqb}
 use Rattle.std.proofs.lemmas.List.{length-map}
 use Rattle.std.proofs.lemmas.Option.{slice_get-get_or, slice_get_within, get_or_from_slice_get, slice_get-map, same_Some, none-some}
-use Rattle.call_orders.specs.Arcs.{number_in_place}
+use Rattle.graph_algorithms.specs.Arcs.{number_in_place}
 use Rattle.cost_theory.specs.Graph.{is_round, is_header, is_back}
 use Rattle.cost_theory.specs.LeastTurns.{turn_step, turn_last}
 use Rattle.cost_theory.specs.Lists.{or_true, is_among, body_of}
 use Rattle.cost_theory.proofs.Laws.{leads_to_header, headers-distinct, accepted_entered}
 use Rattle.code_graph.specs.FlowGraph.{FlowGraph, graph, IsFlowGraph}
 use Rattle.code_graph.proofs.Laws.{few_once}
-use Rattle.natural_loops.specs.Noted.{node_address}
-use Rattle.natural_loops.specs.Found.{IsAscending}
-use Rattle.natural_loops.proofs.Laws.{one_number}
+use Rattle.loop_tree.specs.Noted.{node_address}
+use Rattle.loop_tree.specs.Found.{IsAscending}
+use Rattle.loop_tree.proofs.Laws.{one_number}
 use Rattle.loop_tree.specs.Tree.{LoopView, loops, IsLoopTree}
-use Rattle.key_chains.specs.Keys.{HasKey, AreKeys, option_at}
+use Rattle.graph_algorithms.specs.Keys.{HasKey, AreKeys, option_at}
 use Rattle.least_cycles.specs.Functions.{is_in_flags, IsFromFirst}
 use Rattle.least_cycles.specs.Charging.{AreHeaderLoops, IsInto, IsEntered, IsBodyOf, AreTurnKinds, header_key, AreHeaderKeys}
 use Rattle.least_cycles.proofs.PriceLaws.{owner_below}

@@ -1,14 +1,14 @@
 -- The charges of loops, function by function and in each of them the innermost loops first.
 use Rattle.std.specs.Prelude.{◌≡◌, ◌≢◌, ℕ, ◌+◌, ◌*◌, ◌^◌, ◌<◌, ◌≤◌, ◌↔◌, Bool, true, false, List, length, slice_get, slice_index, Option, Some, None}
-use Rattle.call_orders.specs.Arcs.{number_in_place, AreDistinct}
+use Rattle.graph_algorithms.specs.Arcs.{number_in_place, AreDistinct}
 use Rattle.cost_theory.specs.Graph.{is_back}
 use Rattle.cost_theory.specs.Worst.{at_some}
 use Rattle.cost_theory.specs.Least.{IsExit, least_cost}
 use Rattle.cost_theory.specs.LeastTurns.{turn_step, turn_last}
 use Rattle.code_graph.specs.FlowGraph.{FlowGraph, graph, IsFlowGraph}
-use Rattle.natural_loops.specs.Noted.{node_address}
+use Rattle.loop_tree.specs.Noted.{node_address}
 use Rattle.loop_tree.specs.Tree.{LoopView, loops, IsLoopTree}
-use Rattle.key_chains.specs.Keys.{ChainView, option_at, AreChains}
+use Rattle.graph_algorithms.specs.Keys.{ChainView, option_at, AreChains}
 use Rattle.least_laws.specs.Charged.{Charged, AreCharged, charged_trips, charge_of}
 use Rattle.least_cycles.specs.declared.charges.Charges.{Charges}
 use Rattle.least_cycles.specs.declared.plan.Plan.{Plan}

@@ -1,11 +1,11 @@
 -- Nodes by their numbers, and their edges as hops between them.
 use Rattle.std.specs.Prelude.{◌≡◌, ℕ, ◌<◌, true, Bool, false, List, map, length, slice_get, slice_index_or, Option, Some}
-use Rattle.call_orders.specs.Arcs.{number_in_place, AreDistinct}
+use Rattle.graph_algorithms.specs.Arcs.{number_in_place, AreDistinct}
 use Rattle.cost_theory.specs.Graph.{total}
 use Rattle.cost_theory.specs.Least.{IsLeastIfAny, EndsWith}
 use Rattle.cost_theory.specs.LeastTurns.{IsRun}
 use Rattle.code_graph.specs.FlowGraph.{FlowGraph, graph}
-use Rattle.natural_loops.specs.Noted.{node_address}
+use Rattle.loop_tree.specs.Noted.{node_address}
 use Rattle.least_cycles.specs.declared.Hop.{Hop}
 use Rattle.least_cycles.specs.Hops.{number_in_table}
 use Rattle.least_cycles.specs.Local.{IsHopOf}

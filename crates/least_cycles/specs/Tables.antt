@@ -1,12 +1,12 @@
 -- Least costs by node, as lists, and what stands in them while functions are done one after the other.
 use Rattle.std.specs.Prelude.{◌≡◌, ◌≢◌, ℕ, ◌+◌, ◌^◌, ◌<◌, ◌≤◌, ◌↔◌, Bool, true, List, [], ◌∷◌, length, slice_get, nat_eq, if◌then◌else◌, Option, Some, None, is_some}
-use Rattle.call_orders.specs.Arcs.{number_in_place}
+use Rattle.graph_algorithms.specs.Arcs.{number_in_place}
 use Rattle.cost_theory.specs.Graph.{Graph, total}
 use Rattle.cost_theory.specs.Worst.{at_some}
 use Rattle.cost_theory.specs.Least.{Least, IsLeastIfAny, EndsWith, IsReturn, IsExit, least_cost}
 use Rattle.code_graph.specs.FlowGraph.{FlowGraph, graph}
-use Rattle.natural_loops.specs.Noted.{node_address}
-use Rattle.key_chains.specs.Keys.{ChainView, option_at, AreChains}
+use Rattle.loop_tree.specs.Noted.{node_address}
+use Rattle.graph_algorithms.specs.Keys.{ChainView, option_at, AreChains}
 use Rattle.least_cycles.specs.Hops.{number_in_table}
 use Rattle.least_cycles.specs.Local.{lesser_cost, sum_of_both}
 use Rattle.least_cycles.specs.Functions.{is_in_flags, IsNodeFlagged}

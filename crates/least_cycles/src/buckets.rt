@@ -6,7 +6,7 @@ ghost use Rattle.least_cycles.specs.Functions.{IsBucket, ArePlacesIn};
 ghost use Rattle.least_cycles.specs.Tables.{AreOwnerKeys, AreNodeChains, AreBackKeys, AreBackChains};
 
 use code_graph::CodeGraph;
-use key_chains::{Chains, find_chains};
+use graph_algorithms::{Chains, find_chains};
 use scale_base::NoMemory;
 use std::alloc::Global;
 

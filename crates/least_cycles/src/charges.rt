@@ -1,8 +1,8 @@
 //! What edges are charged with the loops that they enter.
 
 ghost use Rattle.std.specs.Prelude.{◌≡◌, ℕ, ◌<◌, Bool, Some, length, IfOk};
-ghost use Rattle.call_orders.specs.Arcs.{number_in_place};
-ghost use Rattle.key_chains.specs.Keys.{option_at};
+ghost use Rattle.graph_algorithms.specs.Arcs.{number_in_place};
+ghost use Rattle.graph_algorithms.specs.Keys.{option_at};
 ghost use Rattle.code_graph.specs.FlowGraph.{IsFlowGraph};
 ghost use Rattle.loop_tree.specs.Tree.{IsLoopTree};
 ghost use Rattle.least_cycles.specs.Charging.{AreHeaderLoops, IsEntered, AreEnteredLoops, charge_by};

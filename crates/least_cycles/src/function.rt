@@ -1,7 +1,7 @@
 //! The least costs of runs over the edges of some nodes.
 
 ghost use Rattle.std.specs.Prelude.{◌≡◌, ◌⊎◌, ℕ, ◌*◌, ◌+◌, ◌^◌, ◌<◌, ◌≤◌, List, length, slice_get, Some, IfOk, OnOk};
-ghost use Rattle.call_orders.specs.Arcs.{number_in_place};
+ghost use Rattle.graph_algorithms.specs.Arcs.{number_in_place};
 ghost use Rattle.code_graph.specs.FlowGraph.{graph as graph_seen, IsFlowGraph};
 ghost use Rattle.least_cycles.specs.Hops.{number_in_table};
 ghost use Rattle.least_cycles.specs.Local.{IsWayOf};

@@ -1,9 +1,8 @@
 //! Least costs of walks, by passes over the edges until nothing changes.
 #![tactic(auto)]
 
-ghost use Rattle.std.specs.Prelude.{◌≡◌, ℕ, ◌*◌, ◌+◌, ◌<◌, ◌≤◌, ◌^◌, true, false, length, Some, None, slice_get, IfOk, OnOk};
-ghost use Rattle.std.specs.Prelude.{Bool};
-ghost use Rattle.call_orders.specs.Arcs.{number_in_place};
+ghost use Rattle.std.specs.Prelude.{◌≡◌, ℕ, ◌*◌, ◌+◌, ◌<◌, ◌≤◌, ◌^◌, true, false, length, Some, None, slice_get, IfOk, OnOk, Bool};
+ghost use Rattle.graph_algorithms.specs.Arcs.{number_in_place};
 ghost use Rattle.cost_theory.specs.Accepted.{AreWeights};
 ghost use Rattle.code_graph.specs.FlowGraph.{graph as graph_seen};
 ghost use Rattle.loop_tree.specs.Tree.{loops, IsLoopTree};

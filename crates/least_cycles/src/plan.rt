@@ -1,10 +1,10 @@
 //! What is known of a graph and its loops before the passes.
 
 ghost use Rattle.std.specs.Prelude.{◌≡◌, ℕ, Bool, ◌<◌, length, IfOk};
-ghost use Rattle.call_orders.specs.Arcs.{number_in_place};
+ghost use Rattle.graph_algorithms.specs.Arcs.{number_in_place};
 ghost use Rattle.code_graph.specs.FlowGraph.{graph as graph_seen, IsFlowGraph};
-ghost use Rattle.natural_loops.specs.Noted.{node_address};
-ghost use Rattle.key_chains.specs.Keys.{option_at};
+ghost use Rattle.loop_tree.specs.Noted.{node_address};
+ghost use Rattle.graph_algorithms.specs.Keys.{option_at};
 ghost use Rattle.loop_tree.specs.Tree.{IsLoopTree};
 ghost use Rattle.least_cycles.specs.Found.{AreOwn};
 ghost use Rattle.least_cycles.specs.Tables.{AreReturns, AreLeading};
@@ -12,7 +12,7 @@ ghost use Rattle.least_cycles.specs.Charging.{AreHeaderLoops, header_key, AreHea
 
 use crate::buckets::node_chains;
 use code_graph::{CodeGraph, Weights};
-use key_chains::{Chains, find_chains};
+use graph_algorithms::{Chains, find_chains};
 use loop_tree::LoopTree;
 use scale_base::NoMemory;
 use std::alloc::Global;

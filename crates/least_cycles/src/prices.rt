@@ -1,14 +1,14 @@
 //! What edges cost with the functions that they call.
 
 ghost use Rattle.std.specs.Prelude.{◌≡◌, ◌⊎◌, ◌↔◌, ℕ, ◌+◌, ◌^◌, ◌<◌, ◌≤◌, true, [], length, Some, None, IsSome, unwrap_or, IfOk};
-ghost use Rattle.call_orders.specs.Arcs.{number_in_place};
+ghost use Rattle.graph_algorithms.specs.Arcs.{number_in_place};
 ghost use Rattle.cost_theory.specs.Least.{least_call};
 ghost use Rattle.code_graph.specs.FlowGraph.{graph as graph_seen, IsFlowGraph};
 ghost use Rattle.least_cycles.specs.Functions.{IsBucket, IsFromFirst};
 ghost use Rattle.least_cycles.specs.Tables.{value_beside, least_by, AreSmallTables, IsPrice, ArePriced};
 
 use code_graph::CodeGraph;
-use natural_loops::node_at;
+use loop_tree::node_at;
 
 /// What a table has at the entry of function `f`.
 fn at_entry(graph: &CodeGraph, table: &[Option<u128>], f: usize) -> Option<u128>

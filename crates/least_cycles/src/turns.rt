@@ -1,10 +1,10 @@
 //! The least cost of one turn of a loop, and what the loop is charged with.
 
 ghost use Rattle.std.specs.Prelude.{◌≡◌, ℕ, Bool, List, ◌↔◌, ◌+◌, ◌^◌, ◌<◌, ◌≤◌, true, length, slice_index, IfOk, OnOk};
-ghost use Rattle.call_orders.specs.Arcs.{number_in_place};
+ghost use Rattle.graph_algorithms.specs.Arcs.{number_in_place};
 ghost use Rattle.cost_theory.specs.LeastTurns.{turn_step, turn_last};
 ghost use Rattle.code_graph.specs.FlowGraph.{graph as graph_seen, IsFlowGraph};
-ghost use Rattle.natural_loops.specs.Noted.{node_address};
+ghost use Rattle.loop_tree.specs.Noted.{node_address};
 ghost use Rattle.loop_tree.specs.Tree.{loops, IsLoopTree};
 ghost use Rattle.least_laws.specs.Charged.{Charged};
 ghost use Rattle.least_cycles.specs.Functions.{ArePlacesIn, AreNodeNumbers, IsNodeFlagged, IsFromFirst};

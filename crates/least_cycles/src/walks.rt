@@ -1,7 +1,7 @@
 //! The least costs of walks to a return and to an exit, function by function, callees first.
 
 ghost use Rattle.std.specs.Prelude.{◌≡◌, ◌≢◌, ℕ, Bool, ◌+◌, ◌^◌, ◌<◌, ◌≤◌, length, IfOk, OnOk};
-ghost use Rattle.call_orders.specs.Arcs.{number_in_place, AreDistinct};
+ghost use Rattle.graph_algorithms.specs.Arcs.{number_in_place, AreDistinct};
 ghost use Rattle.code_graph.specs.FlowGraph.{IsFlowGraph};
 ghost use Rattle.loop_tree.specs.Tree.{IsLoopTree};
 ghost use Rattle.least_laws.specs.Charged.{Charged};

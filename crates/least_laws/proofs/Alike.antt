@@ -4,8 +4,7 @@ use Rattle.std.proofs.lemmas.Bool.{cases_eq}
 use Rattle.cost_theory.specs.Graph.{Graph, Loops, total, only, is_round, is_header, enters, any_below}
 use Rattle.cost_theory.specs.Worst.{at_some}
 use Rattle.cost_theory.specs.Accepted.{IsCallOrder, IsInBody}
-use Rattle.cost_theory.specs.Least.{IsLeast, IsLeastIfAny, callee_value, least_call, least_cost, IsWay, way_cost, end_after}
-use Rattle.cost_theory.specs.Least.{WayToEnd}
+use Rattle.cost_theory.specs.Least.{IsLeast, IsLeastIfAny, callee_value, least_call, least_cost, IsWay, way_cost, end_after, WayToEnd}
 use Rattle.cost_theory.specs.Least.WayToEnd.{Exits, Returns}
 use Rattle.cost_theory.specs.LeastTurns.{IsRun, turn_step, turn_last}
 use Rattle.cost_theory.proofs.Laws.{sum-same, and_left, and_right, not_true, some_same, entered-header, no_numbers}

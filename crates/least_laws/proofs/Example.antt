@@ -4,8 +4,8 @@ use Rattle.cost_theory.specs.Graph.{total}
 use Rattle.cost_theory.specs.Least.{IsLeastIfAny, IsUpTo, WayToEnd, IsWay, way_cost}
 use Rattle.cost_theory.specs.Least.WayToEnd.{Exits, Returns}
 use Rattle.cost_theory.specs.LeastTurns.{IsRun, turn_step, turn_last}
-use Rattle.cost_theory.specs.Steps.{Move}
-use Rattle.cost_theory.specs.Steps.Move.{Along, Exit}
+use Rattle.cost_theory.specs.Steps.{Transition}
+use Rattle.cost_theory.specs.Steps.Transition.{Along, Exit}
 use Rattle.cost_theory.proofs.Laws.{some_same, small, small_loop, small_extent, small_program, small_accepted, no_callee}
 use Rattle.least_laws.specs.Charged.{Charged, charged_cost, leads_on, ends_exit, HasPlainReturns, AreCharged}
 use Rattle.least_laws.specs.Laws.{IsOverEdge}
@@ -102,7 +102,7 @@ small_returns = record {
   return_last = λ d e dl el same returns. (let q : false ≡ true = returns in let bad : ⊥ = cc in absurd bad);
 }
 
-abbrev small_run : List Move
+abbrev small_run : List Transition
 small_run = Along 0 ∷ Along 0 ∷ Along 1 ∷ Exit 2 ∷ []
 
 pub small_met : LeastHypothesesAreMet

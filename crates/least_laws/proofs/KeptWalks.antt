@@ -3,8 +3,8 @@ use Rattle.std.proofs.Common.{◌≡◌, ℕ, ◌+◌, ◌-◌, ◌*◌, ◌<◌
 use Rattle.cost_theory.specs.Graph.{Graph, Loops, IsWalk, end_of, total, only, is_round, is_header, enters, leaves, count_step, next_edge}
 use Rattle.cost_theory.specs.Worst.{at_some}
 use Rattle.cost_theory.specs.Accepted.{IsNode, AreCalls, StaysWithin, IsInBody}
-use Rattle.cost_theory.specs.Steps.{GraphState, Move, edge_of, go_back, after_return, after, ComesBack, IsKept, AreKept, EndsByExit, after_all, graph_start, state_after, cycles}
-use Rattle.cost_theory.specs.Steps.Move.{Along, Call, Return, Exit}
+use Rattle.cost_theory.specs.Steps.{GraphState, Transition, edge_of, go_back, after_return, after, ComesBack, IsKept, AreKept, EndsByExit, after_all, graph_start, state_after, cycles}
+use Rattle.cost_theory.specs.Steps.Transition.{Along, Call, Return, Exit}
 use Rattle.cost_theory.specs.Least.{IsUpTo, callee_value, least_call, IsWay, way_cost}
 use Rattle.cost_theory.specs.Least.WayToEnd.{Exits, Returns}
 use Rattle.cost_theory.specs.LeastTurns.{IsRun, KeepsLeast}
@@ -288,7 +288,7 @@ module _ (g : Graph) (l : Loops) (extent : ℕ → ℕ → Bool) (w : ℕ → �
       walks-le (g.source e) calls counts (c b.2 + b.1) (w e + x) (omega arith) (subst (λ u. Walks u calls counts (c b.2 + b.1)) found.1 before))
       walks
 
-  walks_step : (s : GraphState) (k : Move) (v x : ℕ) → IsSound g l s → IsKept g l s k → (after g l s k).node ≡ Some v → Walks v (after g l s k).calls (after g l s k).counts x →
+  walks_step : (s : GraphState) (k : Transition) (v x : ℕ) → IsSound g l s → IsKept g l s k → (after g l s k).node ≡ Some v → Walks v (after g l s k).calls (after g l s k).counts x →
       Walks (g.source (edge_of k)) s.calls s.counts (w (edge_of k) + x)
   walks_step s (Along e) v x sound kept to walks =
       let here : IsNode g (g.source e) × IsChain g (g.owner (g.source e)) s.calls = subst (λ p. Stands g p s.calls) kept.from sound.stands in
@@ -324,7 +324,7 @@ module _ (g : Graph) (l : Loops) (extent : ℕ → ℕ → Bool) (w : ℕ → �
       go (u ∷ calls) comes to walks = back u calls (next_edge g u) refl to walks
   walks_step s (Exit e) v x sound kept to walks = let q : None ≡ Some v = to in let bad : ⊥ = cc in absurd bad
 
-  run_walks : (ms : List Move) (s : GraphState) (v : ℕ) → s.node ≡ Some v → IsSound g l s → AreKept g l s ms → EndsByExit ms → Walks v s.calls s.counts (cycles w ms)
+  run_walks : (ms : List Transition) (s : GraphState) (v : ℕ) → s.node ≡ Some v → IsSound g l s → AreKept g l s ms → EndsByExit ms → Walks v s.calls s.counts (cycles w ms)
   run_walks [] s v at sound kept exits = absurd exits
   run_walks (k ∷ []) s v at sound kept exits =
       let here : IsKept g l s (Exit exits.0) = subst (λ x. IsKept g l s x) exits.1 kept.0 in
@@ -380,7 +380,7 @@ module _ (g : Graph) (l : Loops) (extent : ℕ → ℕ → Bool) (w : ℕ → �
           (q.0, q.1, omega arith)
 
   -- where a run stands
-  node_end : (s : GraphState) (v : ℕ) (more : List Move) → s.node ≡ Some v → IsSound g l s → AreKept g l s more → EndsByExit more → (z : ℕ) × (n.least.to_end v ≡ Some z) × (z + owed g l n v s.counts ≤ cycles w more)
+  node_end : (s : GraphState) (v : ℕ) (more : List Transition) → s.node ≡ Some v → IsSound g l s → AreKept g l s more → EndsByExit more → (z : ℕ) × (n.least.to_end v ≡ Some z) × (z + owed g l n v s.counts ≤ cycles w more)
   node_end s v more at sound kept exits =
       let here : IsNode g v × IsChain g (g.owner v) s.calls = subst (λ p. Stands g p s.calls) at sound.stands in
       walks_end s.calls v s.counts (cycles w more) here.1 (run_walks more s v at sound kept exits)
@@ -437,7 +437,7 @@ exit_behind_return g l extent w n is ms more e u d calls kept one suspended next
     (subst (λ u. (z : ℕ) × (n.least.to_end found.3.0 ≡ Some z) × (z + owed g l n found.3.0 (count_step l (Some u) (g.target d) s.counts) ≤ cycles w more)) (sym found.1) end)
 
 -- the parts of a kept list of moves
-pub kept_parts : (g : Graph) (l : Loops) (s : GraphState) (xs ys : List Move) → AreKept g l s (xs ++ ys) → AreKept g l s xs × AreKept g l (after_all g l s xs) ys
+pub kept_parts : (g : Graph) (l : Loops) (s : GraphState) (xs ys : List Transition) → AreKept g l s (xs ++ ys) → AreKept g l s xs × AreKept g l (after_all g l s xs) ys
 kept_parts g l s [] ys kept = (tt, kept)
 kept_parts g l s (x ∷ xs) ys kept = let r = kept_parts g l (after g l s x) xs ys kept.1 in ((kept.0, r.0), r.1)
 

@@ -3,11 +3,11 @@ use Rattle.std.specs.Prelude.{◌≡◌, ◌≢◌, ℕ, ◌+◌, ◌*◌, ◌<�
 use Rattle.cost_theory.specs.Graph.{Graph, Loops, total, sum_below, only, enters, is_back, next_edge}
 use Rattle.cost_theory.specs.Worst.{Numbers, AreNumbers, all_of}
 use Rattle.cost_theory.specs.Accepted.{IsProgram, AreAccepted, AreWeights}
-use Rattle.cost_theory.specs.Steps.{Move, IsKept, AreKept, EndsByExit, graph_start, state_after, after, cycles}
-use Rattle.cost_theory.specs.Steps.Move.{Along, Return}
+use Rattle.cost_theory.specs.Steps.{Transition, IsKept, AreKept, EndsByExit, graph_start, state_after, after, cycles}
+use Rattle.cost_theory.specs.Steps.Transition.{Along, Return}
 use Rattle.cost_theory.specs.Least.{IsLeastIfAny, IsUpTo}
 use Rattle.cost_theory.specs.LeastTurns.{IsRun, turn_step, turn_last}
-use Rattle.cost_theory.specs.declared.edges.Word.{Word}
+use Rattle.cost_theory.specs.declared.flow.Flow.{Flow}
 use Rattle.cost_theory.specs.Reached.{Code, IsCodeOf, HasNoBadWord, graph_of}
 use Rattle.least_laws.specs.Charged.{Charged, charged_trips, charge_of, charged_cost, leads_on, ends_exit, AreCharged, to_end_after, owed, HasPlainReturns}
 
@@ -39,7 +39,7 @@ ChargedAgree = (g : Graph) (l : Loops) (extent : ℕ → ℕ → Bool) (w : ℕ 
 
 -- In the graph over reached code a call comes back to one node, and nothing leads on from a return.
 abbrev pub ReachedCodeHasPlainReturns : Type 0
-ReachedCodeHasPlainReturns = (word : ℕ → Word) (first : ℕ) (code : Code) → IsCodeOf word first code → HasNoBadWord word first → HasPlainReturns (graph_of word code)
+ReachedCodeHasPlainReturns = (word : ℕ → Flow) (first : ℕ) (code : Code) → IsCodeOf word first code → HasNoBadWord word first → HasPlainReturns (graph_of word code)
 
 -- CHARGES
 
@@ -137,24 +137,24 @@ LeastWithinEdges = (g : Graph) (last step : ℕ → Bool) (c : ℕ → ℕ) (v x
 -- From a node that a kept run has come to, a kept run that ends by an exit takes at least the node's least cycles to an end, and what it owes there.
 abbrev pub ExitTakesCharged : Type 0
 ExitTakesCharged = (g : Graph) (l : Loops) (extent : ℕ → ℕ → Bool) (w : ℕ → ℕ) (n : Charged) → IsCharged g l extent w n →
-    (ms more : List Move) (v : ℕ) → AreKept g l (graph_start g) ms → (state_after g l ms).node ≡ Some v →
+    (ms more : List Transition) (v : ℕ) → AreKept g l (graph_start g) ms → (state_after g l ms).node ≡ Some v →
     AreKept g l (state_after g l ms) more → EndsByExit more →
     IsUpTo (option_map (λ z. z + owed g l n v (state_after g l ms).counts) (n.least.to_end v)) (cycles w more)
 
 -- After a step within a function it takes at least the least cycles to an end behind its edge,
 abbrev pub ExitTakesLeastBehind : Type 0
 ExitTakesLeastBehind = (g : Graph) (l : Loops) (extent : ℕ → ℕ → Bool) (w : ℕ → ℕ) (n : Charged) → IsCharged g l extent w n →
-    (ms more : List Move) (e : ℕ) → AreKept g l (graph_start g) ms → IsKept g l (state_after g l ms) (Along e) →
+    (ms more : List Transition) (e : ℕ) → AreKept g l (graph_start g) ms → IsKept g l (state_after g l ms) (Along e) →
     AreKept g l (after g l (state_after g l ms) (Along e)) more → EndsByExit more → IsUpTo (to_end_after g l n e) (cycles w more)
 
 -- and after a return those behind the edge by which the call comes back.
 abbrev pub ExitTakesLeastBehindReturn : Type 0
 ExitTakesLeastBehindReturn = (g : Graph) (l : Loops) (extent : ℕ → ℕ → Bool) (w : ℕ → ℕ) (n : Charged) → IsCharged g l extent w n →
-    (ms more : List Move) (e u d : ℕ) (calls : List ℕ) → AreKept g l (graph_start g) ms → IsKept g l (state_after g l ms) (Return e) →
+    (ms more : List Transition) (e u d : ℕ) (calls : List ℕ) → AreKept g l (graph_start g) ms → IsKept g l (state_after g l ms) (Return e) →
     (state_after g l ms).calls ≡ u ∷ calls → next_edge g u ≡ Some d →
     AreKept g l (after g l (state_after g l ms) (Return e)) more → EndsByExit more → IsUpTo (to_end_after g l n d) (cycles w more)
 
 -- So along a kept run that exits, what follows a step within a function takes at least the least cycles behind its edge.
 abbrev pub RunTakesLeastBehind : Type 0
 RunTakesLeastBehind = (g : Graph) (l : Loops) (extent : ℕ → ℕ → Bool) (w : ℕ → ℕ) (n : Charged) → IsCharged g l extent w n →
-    (ms more : List Move) (e : ℕ) → AreKept g l (graph_start g) (ms ++ Along e ∷ more) → EndsByExit more → IsUpTo (to_end_after g l n e) (cycles w more)
+    (ms more : List Transition) (e : ℕ) → AreKept g l (graph_start g) (ms ++ Along e ∷ more) → EndsByExit more → IsUpTo (to_end_after g l n e) (cycles w more)

@@ -2,7 +2,7 @@
 -- kept run of it that turns so often and exits.
 use Rattle.std.specs.Prelude.{◌≡◌, ℕ, Bool, List}
 use Rattle.cost_theory.specs.Graph.{Graph, Loops}
-use Rattle.cost_theory.specs.Steps.{Move, AreKept, EndsByExit, graph_start, cycles}
+use Rattle.cost_theory.specs.Steps.{Transition, AreKept, EndsByExit, graph_start, cycles}
 use Rattle.least_laws.specs.Charged.{Charged, charged_trips}
 use Rattle.least_laws.specs.Laws.{IsCharged}
 
@@ -15,7 +15,7 @@ pub record LeastHypothesesAreMet : Type 0 where
   pub charged : IsCharged graph loops extent weights numbers
   pub looped : loops.loops ≡ 1
   pub turns : charged_trips graph loops numbers.least 0 ≡ 2
-  pub run : List Move
+  pub run : List Transition
   pub kept : AreKept graph loops (graph_start graph) run
   pub exits : EndsByExit run
   pub cycles_are : cycles weights run ≡ 4

@@ -2,15 +2,15 @@
 use Rattle.std.proofs.Common.{◌≡◌, ℕ, ◌-◌, ◌<◌, ◌≤◌, Bool, true, nat_eq, List, length, slice_get, slice_index, Option, Some, None, is_some, IsSome, refl, sym, ap, ◌∙◌, arith, ⊎_elim, eqb-true, eq-eqb, unwrap_or, false}
 use Rattle.std.proofs.lemmas.Bool.{cases_lt}
 use Rattle.std.proofs.lemmas.Option.{slice_get_within, slice_get-get_or, get_or_from_slice_get}
-use Rattle.call_orders.specs.declared.Arc.{Arc}
-use Rattle.call_orders.specs.Arcs.{arc_at, number_in_place, AreDistinct, IsSorted}
+use Rattle.graph_algorithms.specs.declared.orders.Arc.{Arc}
+use Rattle.graph_algorithms.specs.Arcs.{arc_at, number_in_place, AreDistinct, IsSorted}
 use Rattle.cost_theory.specs.Graph.{Loops, IsPlain, find_below}
 use Rattle.cost_theory.specs.Accepted.{IsNode, IsPlainOrder}
 use Rattle.cost_theory.proofs.Laws.{find-holds, find-some}
 use Rattle.code_graph.specs.FlowGraph.{FlowGraph, graph, IsFlowGraph}
 use Rattle.loop_tree.specs.Tree.{IsAtPlace, ArePlainOrdered}
 use Rattle.loop_tree.specs.Arcs.{IsPlainBy, ArePlainArcs}
-use Rattle.natural_loops.proofs.Laws.{one_number}
+use Rattle.loop_tree.proofs.Laws.{one_number}
 
 -- a list from its end to its beginning
 pub record IsTurned (numbers turned : List ℕ) : Type 0 where

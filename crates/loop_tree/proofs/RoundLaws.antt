@@ -1,11 +1,11 @@
 -- Cycles of plain edges by the addresses of their nodes.
 use Rattle.std.proofs.Common.{◌≡◌, ℕ, ◌+◌, List, slice_get, Option, Some, sym, ap, ◌∙◌, arith}
 use Rattle.std.proofs.lemmas.Option.{same_Some}
-use Rattle.call_orders.specs.Arcs.{number_in_place}
-use Rattle.call_orders.specs.Cycles.{IsCycleBy}
-use Rattle.call_orders.proofs.Laws.{IsRound}
+use Rattle.graph_algorithms.specs.Arcs.{number_in_place}
+use Rattle.graph_algorithms.specs.Cycles.{IsCycleBy}
+use Rattle.graph_algorithms.proofs.Laws.{IsRound}
 use Rattle.code_graph.specs.FlowGraph.{FlowGraph, IsFlowGraph}
-use Rattle.natural_loops.proofs.Laws.{one_number}
+use Rattle.loop_tree.proofs.Laws.{one_number}
 use Rattle.loop_tree.specs.Arcs.{HasPlainEdge, IsRoundOfNodes, AreAddressesOf}
 use Rattle.loop_tree.specs.Backs.{IsStepBy}
 

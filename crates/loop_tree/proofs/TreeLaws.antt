@@ -11,19 +11,18 @@ use Rattle.code_graph.proofs.Laws.{map_is}
 use Rattle.loop_file.specs.declared.notes.LoopNote.{LoopNote}
 use Rattle.loop_file.specs.Kept.{noted_loops, note_at}
 use Rattle.loop_file.specs.Notes.{IsLoopNote, AreLoopNotes}
-use Rattle.natural_loops.specs.Noted.{node_address, header_address}
-use Rattle.natural_loops.specs.Found.{LoopsView, AreNaturalLoops, loops_seen}
-use Rattle.natural_loops.specs.Refused.{AreNoted}
-use Rattle.loop_nesting.specs.Nesting.{IsNesting, IsNextAtHeader}
-use Rattle.loop_nesting.specs.Nesting.{IsInnermostBody as IsShortest}
+use Rattle.loop_tree.specs.Noted.{node_address, header_address}
+use Rattle.loop_tree.specs.Found.{LoopsView, AreNaturalLoops, loops_seen}
+use Rattle.loop_tree.specs.Refused.{AreNoted}
+use Rattle.graph_algorithms.specs.Nesting.{IsNesting, IsNextAtHeader, IsInnermostBody as IsShortest}
 use Rattle.loop_tree.proofs.Lists.{image_some}
 use Rattle.loop_tree.specs.Tree.{LoopView, ArePlainOrdered, HasWholeExtent, IsTreeOf, IsPlainStep, IsCycleRefused}
 use Rattle.loop_tree.specs.Stored.{IsStoredTree}
 use Rattle.loop_tree.specs.Backs.{AreLoopLists, AreBacks, IsStepBy}
 use Rattle.loop_tree.specs.Trips.{IsWholeBody, AreTrips}
-use Rattle.call_orders.specs.declared.Arc.{Arc}
-use Rattle.call_orders.specs.Arcs.{IsSorted}
-use Rattle.call_orders.specs.Cycles.{IsCycleBy}
+use Rattle.graph_algorithms.specs.declared.orders.Arc.{Arc}
+use Rattle.graph_algorithms.specs.Arcs.{IsSorted}
+use Rattle.graph_algorithms.specs.Cycles.{IsCycleBy}
 use Rattle.scale_base.specs.declared.refusal.Refusal.TheVariants.{UnboundedCycle}
 use Rattle.loop_tree.specs.Arcs.{ArePlainArcs}
 use Rattle.loop_tree.proofs.BackLaws.{inside_at, inside_here, back_as, back_from, by_plain, step_as}

@@ -1,7 +1,7 @@
 -- The edges between nodes, as arcs between their numbers.
 use Rattle.std.specs.Prelude.{◌≡◌, ℕ, ◌+◌, ◌<◌, ◌≤◌, List, length, slice_get, Option, Some, None, IsSome}
-use Rattle.call_orders.specs.declared.Arc.{Arc}
-use Rattle.call_orders.specs.Arcs.{arc_at, number_in_place, AreDistinct}
+use Rattle.graph_algorithms.specs.declared.orders.Arc.{Arc}
+use Rattle.graph_algorithms.specs.Arcs.{arc_at, number_in_place, AreDistinct}
 use Rattle.code_graph.specs.FlowGraph.{FlowGraph, graph}
 
 -- edge e leads from the node of one number to that of another

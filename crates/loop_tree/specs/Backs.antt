@@ -1,10 +1,10 @@
 -- Back edges by the numbers of nodes, and what is known of the lists of loops.
 use Rattle.std.specs.Prelude.{◌≡◌, ◌↔◌, ℕ, ◌<◌, true, List, length, slice_get, slice_index, slice_index_or, Option, Some, None}
-use Rattle.call_orders.specs.declared.Arc.{Arc}
-use Rattle.call_orders.specs.Arcs.{AreDistinct}
+use Rattle.graph_algorithms.specs.declared.orders.Arc.{Arc}
+use Rattle.graph_algorithms.specs.Arcs.{AreDistinct}
 use Rattle.cost_theory.specs.Lists.{body_of, is_among}
 use Rattle.code_graph.specs.FlowGraph.{FlowGraph, graph}
-use Rattle.natural_loops.specs.Found.{IsAscending}
+use Rattle.loop_tree.specs.Found.{IsAscending}
 use Rattle.loop_tree.specs.Arcs.{IsPlainBy, IsEdgeBetween}
 
 abbrev pub IsRising : List ℕ → Type 0

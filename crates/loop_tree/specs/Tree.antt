@@ -6,13 +6,13 @@ use Rattle.scale_base.specs.declared.refusal.Refusal.TheVariants.{UnboundedCycle
 use Rattle.cost_theory.specs.Graph.{Loops, with_trips, IsPlain, is_back}
 use Rattle.cost_theory.specs.Accepted.{IsNode, AreEntered, AreAccepted, IsTooDeep, HaveWholeExtents}
 use Rattle.cost_theory.specs.Lists.{body_of}
-use Rattle.call_orders.specs.Cycles.{IsCycleBy}
+use Rattle.graph_algorithms.specs.Cycles.{IsCycleBy}
 use Rattle.code_graph.specs.FlowGraph.{FlowGraph, graph}
 use Rattle.loop_file.specs.declared.notes.LoopNote.{LoopNote}
 use Rattle.loop_file.specs.Kept.{noted_loops, note_at}
-use Rattle.natural_loops.specs.Noted.{node_address, loops_by}
-use Rattle.natural_loops.specs.Found.{IsAscending}
-use Rattle.natural_loops.specs.Refused.{AreNoted, AreLoopsRefused}
+use Rattle.loop_tree.specs.Noted.{node_address, loops_by}
+use Rattle.loop_tree.specs.Found.{IsAscending}
+use Rattle.loop_tree.specs.Refused.{AreNoted, AreLoopsRefused}
 
 pub record LoopView : Type 0 where
   -- by loop: the number of its header's node, how many back edges one entry may take, whether it is counted, how many back edges an entry

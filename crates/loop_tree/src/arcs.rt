@@ -5,9 +5,9 @@ ghost use Rattle.code_graph.specs.FlowGraph.{IsFlowGraph};
 ghost use Rattle.loop_tree.specs.Arcs.{ArePlainArcs};
 ghost use Rattle.loop_tree.specs.Backs.{IsArcOf};
 
-use call_orders::Arc;
+use graph_algorithms::Arc;
 use code_graph::CodeGraph;
-use natural_loops::node_at;
+use crate::natural::node_at;
 use scale_base::NoMemory;
 use std::alloc::Global;
 

@@ -3,7 +3,7 @@
 ghost use Rattle.std.specs.Prelude.{◌≡◌, length, map, IfOk};
 ghost use Rattle.code_graph.specs.FlowGraph.{IsFlowGraph};
 ghost use Rattle.loop_file.specs.Notes.{AreLoopNotes};
-ghost use Rattle.natural_loops.specs.Found.{loops_seen, AreNaturalLoops};
+ghost use Rattle.loop_tree.specs.Found.{loops_seen, AreNaturalLoops};
 ghost use Rattle.loop_tree.specs.Tree.{ArePlainOrdered, IsTreeOf};
 ghost use Rattle.loop_tree.specs.Backs.{AreBacks};
 
@@ -11,8 +11,8 @@ use crate::tree::LoopTree;
 use crate::trips::trips_of;
 use code_graph::CodeGraph;
 use loop_file::LoopNotes;
-use loop_nesting::nest_loops;
-use natural_loops::NaturalLoops;
+use graph_algorithms::nest_loops;
+use crate::natural::NaturalLoops;
 use scale_base::NoMemory;
 use std::alloc::Global;
 

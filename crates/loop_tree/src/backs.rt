@@ -3,11 +3,11 @@
 ghost use Rattle.std.specs.Prelude.{◌≡◌, ◌<◌, ◌↔◌, ℕ, Some, length, IfOk};
 ghost use Rattle.cost_theory.specs.Lists.{is_among};
 ghost use Rattle.code_graph.specs.FlowGraph.{IsFlowGraph};
-ghost use Rattle.loop_nesting.specs.Nesting.{bodies_of};
+ghost use Rattle.graph_algorithms.specs.Nesting.{bodies_of};
 ghost use Rattle.loop_tree.specs.Backs.{IsRising, AreDistinctHeaders, ArePlacedHeaders, AreLoopLists, IsBackBetween, AreBacks};
 
 use code_graph::CodeGraph;
-use natural_loops::node_at;
+use crate::natural::node_at;
 use scale_base::NoMemory;
 use std::alloc::Global;
 

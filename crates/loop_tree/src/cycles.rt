@@ -2,12 +2,12 @@
 
 ghost use Rattle.std.specs.Prelude.{ℕ, ◌<◌, List, length, Option, IfOk};
 ghost use Rattle.code_graph.specs.FlowGraph.{IsFlowGraph};
-ghost use Rattle.call_orders.specs.Arcs.{number_in_place};
-ghost use Rattle.call_orders.specs.Cycles.{IsCycleBy};
+ghost use Rattle.graph_algorithms.specs.Arcs.{number_in_place};
+ghost use Rattle.graph_algorithms.specs.Cycles.{IsCycleBy};
 ghost use Rattle.loop_tree.specs.Arcs.{AreAddressesOf, IsRoundOfNodes};
 ghost use Rattle.loop_tree.specs.Backs.{IsStepBy};
 
-use call_orders::least_first;
+use graph_algorithms::least_first;
 use code_graph::CodeGraph;
 use scale_base::{Cycle, NoMemory};
 use std::alloc::Global;

@@ -8,19 +8,21 @@ mod arcs;
 mod assembling;
 mod backs;
 mod cycles;
+mod natural;
 mod tree;
 mod trips;
 
 pub use arcs::plain_arcs;
 use assembling::assemble;
 use backs::back_loops;
-use call_orders::{Order, sort};
+use graph_algorithms::{Order, sort};
 use code_graph::CodeGraph;
 use cycles::cycle_of;
 use loop_file::LoopNotes;
-use natural_loops::find_loops;
+use crate::natural::find_loops;
 use scale_base::{Refusal, Stop};
 use std::alloc::Global;
+pub use natural::node_at;
 pub use tree::LoopTree;
 
 /// The loops of a graph by their notes, in the notes' order, with an order of the nodes along plain edges; or why they are

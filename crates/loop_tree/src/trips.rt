@@ -3,16 +3,16 @@
 ghost use Rattle.std.specs.Prelude.{◌≡◌, ◌↔◌, ℕ, ◌<◌, ◌≤◌, true, Some, length, slice_get, IfOk};
 ghost use Rattle.cost_theory.specs.Lists.{is_among};
 ghost use Rattle.code_graph.specs.FlowGraph.{IsFlowGraph};
-ghost use Rattle.loop_bodies.specs.Bodies as extents;
-ghost use Rattle.natural_loops.specs.Found.{AreNaturalLoops};
+ghost use Rattle.graph_algorithms.specs.Bodies as extents;
+ghost use Rattle.loop_tree.specs.Found.{AreNaturalLoops};
 ghost use Rattle.loop_tree.specs.Backs.{IsRising};
 ghost use Rattle.loop_tree.specs.Trips.{IsWholeBody, AreTripsOf, AreTrips};
 
 use crate::backs::has;
 use code_graph::CodeGraph;
-use loop_bodies::NodeRange;
+use graph_algorithms::NodeRange;
 use loop_file::{LoopNote, LoopNotes};
-use natural_loops::{NaturalLoops, extent_of};
+use crate::natural::{NaturalLoops, extent_of};
 use scale_base::NoMemory;
 use std::alloc::Global;
 

@@ -10,3 +10,4 @@ pub mod Parts
 pub mod Ranges
 pub mod TextBytes
 pub mod TextWords
+pub mod Spans

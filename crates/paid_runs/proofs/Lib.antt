@@ -6,3 +6,8 @@ pub mod Tuned
 pub mod Laws
 pub mod LegPrice
 pub mod Energies
+pub mod Aligned
+pub mod Words
+pub mod Kept
+pub mod Graphs
+pub mod Shown

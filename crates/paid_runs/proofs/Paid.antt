@@ -11,19 +11,17 @@ use Rattle.scale_base.specs.Image.{Image}
 use Rattle.scale_base.specs.Run.{HasExited, run_of}
 use Rattle.power_model.specs.Numbers.{PowerModel, IsPowerModel}
 use Rattle.power_model.specs.Price.{price, unstarted, held_energy}
-use Rattle.cost_theory.specs.Graph.{Graph}
+use Rattle.cost_theory.specs.Graph.{Graph, Loops}
 use Rattle.cost_theory.specs.Steps as steps
 use Rattle.cost_theory.proofs.Laws.{left_start, run-worst}
 use Rattle.least_laws.specs.Laws.{IsCharged}
 use Rattle.least_laws.proofs.Laws.{plain_returns}
-use Rattle.graph_runs.specs.Text.{text_of, kind_at}
-use Rattle.graph_runs.specs.RunMoves.{text_graph}
+use Rattle.code_text.specs.Text.{text_of, kind_at, Text}
+use Rattle.code_text.specs.TextGraph.{text_graph}
 use Rattle.cost_theory.specs.Worst.{Numbers}
 use Rattle.least_laws.specs.Charged.{Charged, AreCharged}
 use Rattle.cost_theory.specs.Laws.{IsAnalyzed}
-use Rattle.cost_theory.specs.Graph.{Loops}
 use Rattle.cost_theory.specs.Reached.{Code}
-use Rattle.graph_runs.specs.Text.{Text}
 use Rattle.graph_runs.specs.KeptSteps.{Carried}
 use Rattle.graph_runs.specs.Laws.{IsProgramOf}
 use Rattle.graph_runs.specs.KeptRuns.{ExitsBy, IsKeptRun}
@@ -33,10 +31,10 @@ use Rattle.stored_runs.specs.Marks.{stored_cycles, extra_cycles, shadow_first}
 use Rattle.stored_runs.specs.Legs.{originals, all_steps}
 use Rattle.stored_runs.proofs.Laws.{cost_of_legs, short_legs, long_legs}
 use Rattle.stored_runs.specs.Stubbed.{IsFollowed}
-use Rattle.marked_runs.specs.Shadows.{AreCountable}
-use Rattle.marked_runs.specs.Marked.{extra_site_weights}
-use Rattle.marked_runs.specs.Counters.{AreCounted, by_words}
-use Rattle.marked_runs.proofs.Laws.{word_of_loop, is_word, countable_of, counted_of, AreAligned, extra_sum}
+use Rattle.paid_runs.specs.Shadows.{AreCountable}
+use Rattle.paid_runs.specs.Marked.{extra_site_weights}
+use Rattle.paid_runs.specs.Counters.{AreCounted, by_words}
+use Rattle.paid_runs.proofs.Laws.{word_of_loop, is_word, countable_of, counted_of, AreAligned, extra_sum}
 use Rattle.power_model.specs.Switches.{period, costs_of}
 use Rattle.paid_runs.proofs.Energies.{cycles_from, switches_save}
 use Rattle.paid_runs.specs.Timely.{weights_of, AreTables, AreTablesOf, IsPaidRun}

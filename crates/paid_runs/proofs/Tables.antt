@@ -15,7 +15,7 @@ use Rattle.cost_theory.specs.Worst.{Numbers, cost, slack, rest, turns, left_behi
 use Rattle.cost_theory.proofs.Laws.{term-le-sum, only_true, and_left}
 use Rattle.cost_theory.specs.Reached.{edge_at}
 use Rattle.least_laws.specs.Charged.{Charged, to_end_after}
-use Rattle.graph_runs.specs.RunMoves.{text_graph}
+use Rattle.code_text.specs.TextGraph.{text_graph}
 use Rattle.level_tables.specs.Tables.{EdgeNumbers, is_switch_in_time, pays, trips_left, at_row}
 use Rattle.level_tables.proofs.Laws.{trips_left-le}
 use Rattle.stub_runs.specs.Meaning.{four_bits}

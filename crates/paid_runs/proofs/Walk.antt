@@ -15,22 +15,22 @@ use Rattle.cost_theory.specs.Worst.{Numbers, cost, slack, rest, left_behind}
 use Rattle.cost_theory.specs.Laws.{IsAnalyzed}
 use Rattle.cost_theory.specs.Reached.{Code, edge_at}
 use Rattle.cost_theory.specs.Steps as steps
-use Rattle.cost_theory.specs.Steps.Move.{Along, Call, Return, Exit}
+use Rattle.cost_theory.specs.Steps.Transition.{Along, Call, Return, Exit}
 use Rattle.cost_theory.proofs.Laws.{sound_run, sound_after, step_law, along_at, behind-rest, call_order}
 use Rattle.least_laws.specs.Charged.{Charged, to_end_after}
 use Rattle.least_laws.specs.Laws.{IsCharged}
 use Rattle.least_laws.proofs.Laws.{exit_behind}
-use Rattle.graph_runs.specs.Text.{Text}
-use Rattle.graph_runs.specs.RunMoves.{text_graph}
+use Rattle.code_text.specs.Text.{Text}
+use Rattle.code_text.specs.TextGraph.{text_graph}
 use Rattle.graph_runs.proofs.Laws.{after-append}
 use Rattle.stub_writer.specs.Stubs.{Site}
 use Rattle.stub_runs.specs.Cycles.{stepped_cycles}
 use Rattle.stored_runs.specs.Marks.{Shadow, place_at, fragments_of_class, fragments_over, stored_cycles, tail_cycles, level_stored, shadow_more, shadow_after}
 use Rattle.stored_runs.specs.Legs.{Leg, IsLeg, AreLegs, originals, all_steps}
 use Rattle.stored_runs.proofs.Laws.{cost_of_legs}
-use Rattle.marked_runs.specs.Shadows.{AreCountable, counted_move, counted_moves}
-use Rattle.marked_runs.proofs.Laws.{counts_shown, AreAligned, IsFirst, first_of_both, stored_at, stored_sum, counted_after}
-use Rattle.marked_runs.specs.Counters.{AreCounted}
+use Rattle.paid_runs.specs.Shadows.{AreCountable, counted_move, counted_moves}
+use Rattle.paid_runs.proofs.Laws.{counts_shown, AreAligned, IsFirst, first_of_both, stored_at, stored_sum, counted_after}
+use Rattle.paid_runs.specs.Counters.{AreCounted}
 use Rattle.power_model.specs.Switches.{period, costs_of, NeverRises, switches_from, AllPay}
 use Rattle.paid_runs.specs.Paid.{tail_if, IsPaidLeg}
 use Rattle.paid_runs.proofs.LegPrice.{leg_paid, no_switch}
@@ -40,16 +40,16 @@ use Rattle.paid_runs.proofs.Edges.{leg_rise, leg_pays, PaysBehind, one_switch, n
 
 -- ---- one move more
 
-kept_more : (g : Graph) (l : Loops) (s : steps.GraphState) (ms : List steps.Move) (m : steps.Move) → steps.AreKept g l s ms → steps.IsKept g l (steps.after_all g l s ms) m → steps.AreKept g l s (ms ++ m ∷ [])
+kept_more : (g : Graph) (l : Loops) (s : steps.GraphState) (ms : List steps.Transition) (m : steps.Transition) → steps.AreKept g l s ms → steps.IsKept g l (steps.after_all g l s ms) m → steps.AreKept g l s (ms ++ m ∷ [])
 kept_more g l s [] m kept one = (one, tt)
 kept_more g l s (k ∷ ks) m kept one = (kept.0, kept_more g l (steps.after g l s k) ks m kept.1 one)
 
-counted_more : (g : Graph) (l : Loops) (counts : ℕ → ℕ) (ms : List steps.Move) (m : steps.Move) → counted_moves g l counts (ms ++ m ∷ []) ≡ counted_move g l (counted_moves g l counts ms) m
+counted_more : (g : Graph) (l : Loops) (counts : ℕ → ℕ) (ms : List steps.Transition) (m : steps.Transition) → counted_moves g l counts (ms ++ m ∷ []) ≡ counted_move g l (counted_moves g l counts ms) m
 counted_more g l counts [] m = refl
 counted_more g l counts (k ∷ ks) m = counted_more g l (counted_move g l counts k) ks m
 
 -- the last of several moves is the last of those behind the first
-exits_later : (m : steps.Move) (k : steps.Move) (ms : List steps.Move) → steps.EndsByExit (m ∷ k ∷ ms) → steps.EndsByExit (k ∷ ms)
+exits_later : (m : steps.Transition) (k : steps.Transition) (ms : List steps.Transition) → steps.EndsByExit (m ∷ k ∷ ms) → steps.EndsByExit (k ∷ ms)
 exits_later m k ms e = e
 
 module _ (power : PowerModel) (t : Text) (code : Code) (l : Loops) (extent : ℕ → ℕ → Bool) (sites : List Site) (is_of : ℕ → ℕ → Bool) (n : Numbers) (least : Charged)
@@ -62,11 +62,11 @@ module _ (power : PowerModel) (t : Text) (code : Code) (l : Loops) (extent : ℕ
   abbrev w : ℕ → ℕ
   w = weights_of power t code sites
 
-  abbrev at_start : List steps.Move → steps.GraphState
+  abbrev at_start : List steps.Transition → steps.GraphState
   at_start pre = steps.state_after g l pre
 
   -- where a run stands: the moves so far are kept, and the shadow is theirs
-  pub record IsAt (pre : List steps.Move) (h : Shadow) : Type 0 where
+  pub record IsAt (pre : List steps.Transition) (h : Shadow) : Type 0 where
     pub kept : steps.AreKept g l (steps.graph_start g) pre
     pub counters : (v k : ℕ) → is_of v k ≡ true → h.counters v ≡ counted_moves g l (λ j. 0) pre k
     pub is_level : h.level < length power.levels
@@ -80,10 +80,10 @@ module _ (power : PowerModel) (t : Text) (code : Code) (l : Loops) (extent : ℕ
 
   -- ---- what the marks of an edge choose
 
-  abbrev Chosen : List steps.Move → Shadow → steps.Move → Stepped → ℕ → Type 0
+  abbrev Chosen : List steps.Transition → Shadow → steps.Transition → Stepped → ℕ → Type 0
   Chosen pre h m x j = (j ≡ h.level) ⊎ IsChosen power g l w n least (at_start pre).counts (steps.edge_of m) (tail_cycles (costs_of power) (fragments_over sites x)) h.level j
 
-  choice : (pre : List steps.Move) (h : Shadow) (m : steps.Move) (ms : List steps.Move) (x : Stepped) (xs : List Stepped) → IsAt pre h → steps.IsKept g l (at_start pre) m → IsFirst t code m ms x xs → (j : ℕ) → level_stored (fragments_over sites x) h ≡ Some j → Chosen pre h m x j
+  choice : (pre : List steps.Transition) (h : Shadow) (m : steps.Transition) (ms : List steps.Transition) (x : Stepped) (xs : List Stepped) → IsAt pre h → steps.IsKept g l (at_start pre) m → IsFirst t code m ms x xs → (j : ℕ) → level_stored (fragments_over sites x) h ≡ Some j → Chosen pre h m x j
   choice pre h m ms x xs at kept first j stored =
       let e = steps.edge_of m in
       let shown = λ (v k : ℕ) (on : is_of v k ≡ true). counts_shown g l extent (λ j. j == k) is.program is.accepted (able v k on) pre at.kept (g.source e) kept.from in
@@ -94,15 +94,15 @@ module _ (power : PowerModel) (t : Text) (code : Code) (l : Loops) (extent : ℕ
       subst (λ a. (j ≡ h.level) ⊎ IsChosen power g l w n least (at_start pre).counts e (tail_cycles (costs_of power) (fragments_of_class (place_at sites a) x.class)) h.level j) first.place got
 
   -- it is no higher level
-  not_higher : (pre : List steps.Move) (h : Shadow) (m : steps.Move) (x : Stepped) (j : ℕ) → Chosen pre h m x j → j ≤ h.level
+  not_higher : (pre : List steps.Transition) (h : Shadow) (m : steps.Transition) (x : Stepped) (j : ℕ) → Chosen pre h m x j → j ≤ h.level
   not_higher pre h m x j (inl same) = omega arith
   not_higher pre h m x j (inr c) = omega (arith, c.lower)
 
-  level_below : (pre : List steps.Move) (h : Shadow) (m : steps.Move) (x : Stepped) (o : Option ℕ) → ((j : ℕ) → o ≡ Some j → Chosen pre h m x j) → unwrap_or o h.level ≤ h.level
+  level_below : (pre : List steps.Transition) (h : Shadow) (m : steps.Transition) (x : Stepped) (o : Option ℕ) → ((j : ℕ) → o ≡ Some j → Chosen pre h m x j) → unwrap_or o h.level ≤ h.level
   level_below pre h m x None c = omega arith
   level_below pre h m x (Some j) c = not_higher pre h m x j (c j refl)
 
-  next_at : (pre : List steps.Move) (h : Shadow) (m : steps.Move) (ms : List steps.Move) (x : Stepped) (xs : List Stepped) → IsAt pre h → steps.IsKept g l (at_start pre) m → IsFirst t code m ms x xs → IsAt (pre ++ m ∷ []) (shadow_more sites h x)
+  next_at : (pre : List steps.Transition) (h : Shadow) (m : steps.Transition) (ms : List steps.Transition) (x : Stepped) (xs : List Stepped) → IsAt pre h → steps.IsKept g l (at_start pre) m → IsFirst t code m ms x xs → IsAt (pre ++ m ∷ []) (shadow_more sites h x)
   next_at pre h m ms x xs at kept first = record {
     kept = kept_more g l (steps.graph_start g) pre m at.kept kept;
     counters = λ v k on. counted_after t code l sites is_of is.program marked m ms x xs (at_start pre) h (counted_moves g l (λ j. 0) pre) kept first v k on (at.counters v k on) ∙ sym (ap (λ f. f k) (counted_more g l (λ j. 0) pre m));
@@ -112,7 +112,7 @@ module _ (power : PowerModel) (t : Text) (code : Code) (l : Loops) (extent : ℕ
   -- ---- the time
 
   -- where the level stays
-  stays_safe : (pre : List steps.Move) (m : steps.Move) (p q : model.RunPrice) (head tail : ℕ) → steps.AreKept g l (steps.graph_start g) pre → steps.IsKept g l (at_start pre) m → head + tail ≡ w (steps.edge_of m) → q.level ≡ p.level
+  stays_safe : (pre : List steps.Transition) (m : steps.Transition) (p q : model.RunPrice) (head tail : ℕ) → steps.AreKept g l (steps.graph_start g) pre → steps.IsKept g l (at_start pre) m → head + tail ≡ w (steps.edge_of m) → q.level ≡ p.level
       → q.time ≡ p.time + time_at power p.level head + switch_time power p.level q.level + time_at power q.level tail → IsSafe p (at_start pre) → IsSafe q (steps.after g l (at_start pre) m)
   stays_safe pre m p q head tail before kept parts level time safe =
       let left = steps.cycles_left g l w n (steps.after g l (at_start pre) m) in
@@ -125,7 +125,7 @@ module _ (power : PowerModel) (t : Text) (code : Code) (l : Loops) (extent : ℕ
       omega (arith, time, none, tail_rate, left_rate, enough)
 
   -- a move over an edge within a function is a local step
-  chosen_safe : (pre : List steps.Move) (m : steps.Move) (p q : model.RunPrice) (head tail j : ℕ) → steps.AreKept g l (steps.graph_start g) pre → steps.IsKept g l (at_start pre) m → head + tail ≡ w (steps.edge_of m) → q.level ≡ j → p.level < length power.levels
+  chosen_safe : (pre : List steps.Transition) (m : steps.Transition) (p q : model.RunPrice) (head tail j : ℕ) → steps.AreKept g l (steps.graph_start g) pre → steps.IsKept g l (at_start pre) m → head + tail ≡ w (steps.edge_of m) → q.level ≡ j → p.level < length power.levels
       → IsChosen power g l w n least (at_start pre).counts (steps.edge_of m) tail p.level j
       → q.time ≡ p.time + time_at power p.level head + switch_time power p.level q.level + time_at power q.level tail → IsSafe p (at_start pre) → IsSafe q (steps.after g l (at_start pre) m)
   chosen_safe pre (Along e) p q head tail j before kept parts level low c time safe =
@@ -148,7 +148,7 @@ module _ (power : PowerModel) (t : Text) (code : Code) (l : Loops) (extent : ℕ
   chosen_safe pre (Return e) p q head tail j before kept parts level low c time safe = let a = (is.program.return_end e kept.edge kept.move.0).0 in let b = c.leads in absurd cc
   chosen_safe pre (Exit e) p q head tail j before kept parts level low c time safe = let a = (is.program.exit_end e kept.edge kept.move).0 in let b = c.leads in absurd cc
 
-  leg_safe : (pre : List steps.Move) (h : Shadow) (m : steps.Move) (leg : Leg) (p : model.RunPrice) → IsAt pre h → steps.IsKept g l (at_start pre) m → stored_cycles (costs_of power) sites leg.step ≡ w (steps.edge_of m)
+  leg_safe : (pre : List steps.Transition) (h : Shadow) (m : steps.Transition) (leg : Leg) (p : model.RunPrice) → IsAt pre h → steps.IsKept g l (at_start pre) m → stored_cycles (costs_of power) sites leg.step ≡ w (steps.edge_of m)
       → ((j : ℕ) → level_stored (fragments_over sites leg.step) h ≡ Some j → Chosen pre h m leg.step j) → IsLeg sites h leg → p.level ≡ h.level → IsSafe p (at_start pre) → IsSafe (fold (metered power) p leg.steps) (steps.after g l (at_start pre) m)
   leg_safe pre h m leg p at kept weight choose is_leg same safe = by_stored (level_stored (fragments_over sites leg.step) h) refl
     where
@@ -172,7 +172,7 @@ module _ (power : PowerModel) (t : Text) (code : Code) (l : Loops) (extent : ℕ
 
   -- ---- what the switch of a leg saves
 
-  leg_saves : (pre : List steps.Move) (h : Shadow) (m : steps.Move) (ms : List steps.Move) (x : Stepped) (rest_cycles : ℕ) → IsAt pre h → steps.IsKept g l (at_start pre) m → steps.AreKept g l (steps.after g l (at_start pre) m) ms → steps.EndsByExit (m ∷ ms)
+  leg_saves : (pre : List steps.Transition) (h : Shadow) (m : steps.Transition) (ms : List steps.Transition) (x : Stepped) (rest_cycles : ℕ) → IsAt pre h → steps.IsKept g l (at_start pre) m → steps.AreKept g l (steps.after g l (at_start pre) m) ms → steps.EndsByExit (m ∷ ms)
       → rest_cycles ≡ steps.cycles w ms → (j : ℕ) → Chosen pre h m x j → PaysBehind power h.level j (tail_cycles (costs_of power) (fragments_over sites x) + rest_cycles)
   leg_saves pre h m ms x rest_cycles at kept later exits rest_is j (inl stays) = inl stays
   leg_saves pre h m [] x rest_cycles at kept later exits rest_is j (inr c) = absurd (by_exit exits.0 (subst (λ k. steps.IsKept g l (at_start pre) k) exits.1 kept) (sym (ap (λ k. g.target (steps.edge_of k)) exits.1) ∙ c.leads))
@@ -183,7 +183,7 @@ module _ (power : PowerModel) (t : Text) (code : Code) (l : Loops) (extent : ℕ
       (pays_more power h.level j (c.paying.0 + tail_cycles (costs_of power) (fragments_over sites x)) (tail_cycles (costs_of power) (fragments_over sites x) + rest_cycles) (omega (arith, enough, rest_is)) c.paying.2)
     where
       -- a move over an edge within a function is a local step
-      behind : (m : steps.Move) → steps.IsKept g l (at_start pre) m → steps.AreKept g l (steps.after g l (at_start pre) m) (k ∷ ms) → g.callee (steps.edge_of m) ≡ None → g.target (steps.edge_of m) ≡ Some c.target
+      behind : (m : steps.Transition) → steps.IsKept g l (at_start pre) m → steps.AreKept g l (steps.after g l (at_start pre) m) (k ∷ ms) → g.callee (steps.edge_of m) ≡ None → g.target (steps.edge_of m) ≡ Some c.target
           → (z : ℕ) × (to_end_after g l least (steps.edge_of m) ≡ Some z) × (z ≤ steps.cycles w (k ∷ ms))
       behind (Along e) kept2 later2 inside leads = exit_behind g l extent w least are pre (k ∷ ms) e at.kept kept2 later2 exits
       behind (Call e f) kept2 later2 inside leads = let a = kept2.move.0 in absurd cc
@@ -198,17 +198,17 @@ module _ (power : PowerModel) (t : Text) (code : Code) (l : Loops) (extent : ℕ
 
   -- ---- all legs
 
-  pub record IsWalked (pre ms : List steps.Move) (legs : List Leg) (h : Shadow) (p : model.RunPrice) : Type 0 where
+  pub record IsWalked (pre ms : List steps.Transition) (legs : List Leg) (h : Shadow) (p : model.RunPrice) : Type 0 where
     pub level : (fold (metered power) p (all_steps legs)).level ≡ (shadow_after sites h (originals legs)).level
     pub is_level : (fold (metered power) p (all_steps legs)).level < length power.levels
     pub falls : NeverRises p.level (all_steps legs)
     pub safe : IsSafe (fold (metered power) p (all_steps legs)) (steps.after_all g l (at_start pre) ms)
     pub pays : steps.EndsByExit ms → AllPay power (switches_from power p.level (all_steps legs))
 
-  pub cycles_later : (ms : List steps.Move) (legs : List Leg) (h : Shadow) → AreLegs sites h legs → AreAligned t code ms (originals legs) → stepped_cycles (costs_of power) (all_steps legs) ≡ steps.cycles w ms
+  pub cycles_later : (ms : List steps.Transition) (legs : List Leg) (h : Shadow) → AreLegs sites h legs → AreAligned t code ms (originals legs) → stepped_cycles (costs_of power) (all_steps legs) ≡ steps.cycles w ms
   cycles_later ms legs h legs_are aligned = cost_of_legs sites h legs legs_are (costs_of power) ∙ sym (stored_sum t code (costs_of power) sites ms (originals legs) aligned)
 
-  pub walk : (pre ms : List steps.Move) (legs : List Leg) (h : Shadow) (p : model.RunPrice) → IsAt pre h → steps.AreKept g l (at_start pre) ms → AreAligned t code ms (originals legs) → AreLegs sites h legs → p.level ≡ h.level → IsSafe p (at_start pre) → IsWalked pre ms legs h p
+  pub walk : (pre ms : List steps.Transition) (legs : List Leg) (h : Shadow) (p : model.RunPrice) → IsAt pre h → steps.AreKept g l (at_start pre) ms → AreAligned t code ms (originals legs) → AreLegs sites h legs → p.level ≡ h.level → IsSafe p (at_start pre) → IsWalked pre ms legs h p
   walk pre [] [] h p at kept aligned legs_are same safe = record { level = same; is_level = subst (λ i. i < length power.levels) (sym same) at.is_level; falls = tt; safe = safe; pays = λ e. tt }
   walk pre [] (leg ∷ legs) h p at kept aligned legs_are same safe = let bad = aligned.places in absurd cc
   walk pre (m ∷ ms) [] h p at kept aligned legs_are same safe = let bad = aligned.places in absurd cc
@@ -241,7 +241,7 @@ module _ (power : PowerModel) (t : Text) (code : Code) (l : Loops) (extent : ℕ
       }
     where
       -- behind the last move there is no step
-      later_pays : (ms : List steps.Move) (legs : List Leg) → steps.EndsByExit (m ∷ ms) → (i : ℕ) → AreLegs sites (shadow_more sites h leg.step) legs → AreAligned t code ms (originals legs) → (steps.EndsByExit ms → AllPay power (switches_from power i (all_steps legs))) → AllPay power (switches_from power i (all_steps legs))
+      later_pays : (ms : List steps.Transition) (legs : List Leg) → steps.EndsByExit (m ∷ ms) → (i : ℕ) → AreLegs sites (shadow_more sites h leg.step) legs → AreAligned t code ms (originals legs) → (steps.EndsByExit ms → AllPay power (switches_from power i (all_steps legs))) → AllPay power (switches_from power i (all_steps legs))
       later_pays [] [] exits i legs_are2 aligned2 go = tt
       later_pays [] (k ∷ ks) exits i legs_are2 aligned2 go = let bad = aligned2.places in absurd cc
       later_pays (k ∷ ks) legs2 exits i legs_are2 aligned2 go = go exits

@@ -10,13 +10,13 @@ use Rattle.cost_theory.specs.Laws.{IsAnalyzed}
 use Rattle.cost_theory.specs.Worst.{Numbers}
 use Rattle.least_laws.specs.Charged.{Charged, AreCharged}
 use Rattle.cost_theory.specs.Reached.{Code}
-use Rattle.graph_runs.specs.Text.{Text, text_of}
-use Rattle.graph_runs.specs.RunMoves.{text_graph}
+use Rattle.code_text.specs.Text.{Text, text_of}
+use Rattle.code_text.specs.TextGraph.{text_graph}
 use Rattle.graph_runs.specs.KeptSteps.{Carried, by_extents}
 use Rattle.graph_runs.specs.Laws.{IsProgramOf}
 use Rattle.stub_writer.specs.Stubs.{Site}
-use Rattle.marked_runs.specs.Shadows.{AreCountable}
-use Rattle.marked_runs.specs.Marked.{extra_site_weights, AreMarked, IsKeptFollowed}
+use Rattle.paid_runs.specs.Shadows.{AreCountable}
+use Rattle.paid_runs.specs.Marked.{extra_site_weights, AreMarked, IsKeptFollowed}
 use Rattle.graph_runs.specs.KeptRuns.{kept_of}
 use Rattle.power_model.specs.Switches.{period, costs_of}
 use Rattle.paid_runs.specs.Timely.{weights_of, AreTables, AreTablesOf, IsPaidRun}

@@ -4,3 +4,8 @@ pub mod Patched
 pub mod Laws
 pub mod Paid
 pub mod LegLaws
+pub mod Marked
+pub mod MarkedLaws
+pub mod Counters
+pub mod Shadows
+pub mod CountLaws

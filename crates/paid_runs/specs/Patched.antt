@@ -9,15 +9,15 @@ use Rattle.cost_theory.specs.Laws.{IsAnalyzed}
 use Rattle.cost_theory.specs.Worst.{Numbers}
 use Rattle.least_laws.specs.Charged.{Charged, AreCharged}
 use Rattle.cost_theory.specs.Reached.{Code}
-use Rattle.graph_runs.specs.Text.{text_of}
-use Rattle.graph_runs.specs.RunMoves.{text_graph}
+use Rattle.code_text.specs.Text.{text_of}
+use Rattle.code_text.specs.TextGraph.{text_graph}
 use Rattle.graph_runs.specs.KeptSteps.{Carried}
 use Rattle.graph_runs.specs.Laws.{IsProgramOf}
 use Rattle.stub_writer.specs.Stubs.{Site}
 use Rattle.stub_runs.specs.Cycles.{stepped_cycles}
 use Rattle.stored_runs.specs.Patched.{IsPatched}
-use Rattle.marked_runs.specs.Marked.{extra_site_weights}
-use Rattle.marked_runs.specs.Counters.{AreCounterWords, AreCounted, IsKeptPatched}
+use Rattle.paid_runs.specs.Marked.{extra_site_weights}
+use Rattle.paid_runs.specs.Counters.{AreCounterWords, AreCounted, IsKeptPatched}
 use Rattle.power_model.specs.Switches.{period, costs_of, NeverRises}
 use Rattle.paid_runs.specs.Timely.{weights_of, AreTablesOf, IsPaidRun}
 

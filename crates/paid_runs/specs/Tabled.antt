@@ -10,9 +10,9 @@ use Rattle.cost_theory.specs.Graph.{Graph, Loops, leaves}
 use Rattle.cost_theory.specs.Worst.{Numbers, cost, slack, rest}
 use Rattle.cost_theory.specs.Reached.{Code, edge_at}
 use Rattle.least_laws.specs.Charged.{Charged, to_end_after}
-use Rattle.graph_runs.specs.Text.{Text}
-use Rattle.graph_runs.specs.EdgeCosts.{edge_class}
-use Rattle.graph_runs.specs.RunMoves.{text_graph}
+use Rattle.code_text.specs.Text.{Text}
+use Rattle.code_text.specs.EdgeCosts.{edge_class}
+use Rattle.code_text.specs.TextGraph.{text_graph}
 use Rattle.level_tables.specs.Tables.{EdgeNumbers, meets_both, at_row}
 use Rattle.stub_writer.specs.Stubs.{Site}
 use Rattle.stub_runs.specs.Meaning.{four_bits}

@@ -10,12 +10,13 @@ use Rattle.cost_theory.specs.Worst.{Numbers, cost, slack, rest, left_behind}
 use Rattle.cost_theory.specs.Steps as steps
 use Rattle.cost_theory.specs.Reached.{Code, edge_at}
 use Rattle.least_laws.specs.Charged.{Charged, to_end_after}
-use Rattle.graph_runs.specs.Text.{Text}
-use Rattle.graph_runs.specs.EdgeCosts.{edge_class}
-use Rattle.graph_runs.specs.RunMoves.{text_graph, after_moves}
+use Rattle.code_text.specs.Text.{Text}
+use Rattle.code_text.specs.EdgeCosts.{edge_class}
+use Rattle.graph_runs.specs.RunTransitions.{after_transitions}
+use Rattle.code_text.specs.TextGraph.{text_graph}
 use Rattle.stub_writer.specs.Stubs.{Site}
 use Rattle.stored_runs.specs.Marks.{Shadow, place_at, fragments_of_class, tail_cycles, level_stored}
-use Rattle.marked_runs.specs.Marked.{stored_site_weights}
+use Rattle.paid_runs.specs.Marked.{stored_site_weights}
 use Rattle.power_model.specs.Switches.{period, energy, costs_of, NeverRises, switches_from, AllPay}
 
 abbrev pub weights_of : PowerModel → Text → Code → List Site → ℕ → ℕ
@@ -57,9 +58,9 @@ pub record AreTablesOf (power : PowerModel) (t : Text) (code : Code) (l : Loops)
 
 -- What the steps of a stored run cost, whose moves are those of the original: its cycles are those under the stored weights; no step leaves a higher level; the
 -- time so far, and the cycles left at the level that it has, are in time; and after an exit each switch has saved what it took.
-pub record IsPaidRun (power : PowerModel) (t : Text) (code : Code) (l : Loops) (sites : List Site) (start : ℕ) (n : Numbers) (moves : List steps.Move) (run : List Stepped) : Type 0 where
+pub record IsPaidRun (power : PowerModel) (t : Text) (code : Code) (l : Loops) (sites : List Site) (start : ℕ) (n : Numbers) (moves : List steps.Transition) (run : List Stepped) : Type 0 where
   pub cycles : (price power start run).cycles ≡ steps.cycles (weights_of power t code sites) moves
   pub is_level : (price power start run).level < length power.levels
   pub falls : NeverRises start run
-  pub in_time : (price power start run).time + steps.cycles_left (text_graph t code) l (weights_of power t code sites) n (after_moves t code l moves) * period power (price power start run).level ≤ power.deadline
+  pub in_time : (price power start run).time + steps.cycles_left (text_graph t code) l (weights_of power t code sites) n (after_transitions t code l moves) * period power (price power start run).level ≤ power.deadline
   pub pays : steps.EndsByExit moves → AllPay power (switches_from power start run)

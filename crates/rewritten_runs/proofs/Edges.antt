@@ -5,18 +5,17 @@ use Rattle.scale_base.specs.declared.instruction.Instr.TheVariants as instr
 use Rattle.scale_base.specs.declared.stepping.Class.{Class}
 use Rattle.scale_base.specs.Class.{class_of}
 use Rattle.scale_base.specs.Arith.{moved_by}
-use Rattle.cost_theory.specs.declared.edges.Edge.{Edge}
-use Rattle.cost_theory.specs.declared.edges.EdgeKind.{EdgeKind}
-use Rattle.cost_theory.specs.declared.edges.EdgeKind.TheVariants.{Taken, Untaken, Jump, Next, CallNext, End}
-use Rattle.cost_theory.specs.declared.edges.Word.TheVariants.{Branch, Goto, CallOf, Bad}
+use Rattle.scale_base.specs.declared.edges.Edge.{Edge}
+use Rattle.scale_base.specs.declared.edges.EdgeKind.{EdgeKind}
+use Rattle.scale_base.specs.declared.edges.EdgeKind.TheVariants.{Taken, Untaken, Jump, Next, CallNext, End}
+use Rattle.cost_theory.specs.declared.flow.Flow.TheVariants as flow
 use Rattle.cost_theory.specs.Graph.{Graph}
 use Rattle.cost_theory.specs.Reached.{Code, edge_at, edge_to, place_after, edges_of, call_returns}
 use Rattle.cost_theory.proofs.Laws.{callee-call, callee_word, edge_word, Within}
-use Rattle.graph_runs.specs.Text.{Text, instr_at, instr_kind, kind_at, is_text_address}
-use Rattle.graph_runs.specs.EdgeCosts.{class_by, edge_class, is_taken_kind}
-use Rattle.graph_runs.specs.RunMoves.{text_graph}
-use Rattle.graph_runs.specs.Laws.{IsReachedCode}
-use Rattle.graph_runs.proofs.Laws.{kind_facts}
+use Rattle.code_text.specs.Text.{Text, instr_at, instr_kind, kind_at, is_text_address}
+use Rattle.code_text.specs.EdgeCosts.{class_by, edge_class, is_taken_kind}
+use Rattle.code_text.specs.TextGraph.{text_graph, IsReachedCode}
+use Rattle.code_text.proofs.Laws.{kind_facts}
 use Rattle.scale_sites.specs.Sites.{is_branch_kind, edge_branches}
 use Rattle.scale_sites.specs.Counters.{goes_on, edge_goes_on}
 
@@ -78,7 +77,7 @@ module _ (t : Text) (code : Code) (reached : IsReachedCode t code) where
   edge_is e lt =
       let x = edge_word (kind_at t) t.entry code reached.lists reached.words e lt in
       let u = edge_at (slice_get code.edges e) in
-      let fine : kind_at t u ≢ Bad = λ bad. (let never : Within x.0 (edges_of Bad u (call_returns code (kind_at t u))) = subst (λ w. Within x.0 (edges_of w u (call_returns code (kind_at t u)))) bad x.2 in never) in
+      let fine : kind_at t u ≢ flow.Refused = λ bad. (let never : Within x.0 (edges_of flow.Refused u (call_returns code (kind_at t u))) = subst (λ w. Within x.0 (edges_of w u (call_returns code (kind_at t u)))) bad x.2 in never) in
       let f = kind_facts t u fine in
       record {
         edge = x.0;
@@ -125,7 +124,7 @@ module _ (t : Text) (code : Code) (reached : IsReachedCode t code) where
       let led : place_after x.0.kind x.0.to ≡ Some w = sym (ap edge_to x.1) ∙ to in
       ap edge_goes_on x.1 ∙ by c.0 (call_returns code (kind_at t u)) x.0 w (subst (λ q. Within x.0 (edges_of q u (call_returns code (kind_at t u)))) c.1 x.2) led
     where
-      by : (h : ℕ) (b : Bool) (x : Edge) (w : ℕ) → Within x (edges_of (CallOf h) (edge_at (slice_get code.edges e)) b) → place_after x.kind x.to ≡ Some w → goes_on x.kind ≡ true
+      by : (h : ℕ) (b : Bool) (x : Edge) (w : ℕ) → Within x (edges_of (flow.Call h) (edge_at (slice_get code.edges e)) b) → place_after x.kind x.to ≡ Some w → goes_on x.kind ≡ true
       by h true x w within led = ⊎_elim
           (λ q. sym (ap (λ y. goes_on y.kind) q))
           (λ m. ⊎_elim (λ q. let never : None ≡ Some w = ap (λ y. place_after y.kind y.to) q ∙ led in let bad : ⊥ = cc in absurd bad) (λ n. absurd n) m) within
@@ -139,7 +138,7 @@ module _ (t : Text) (code : Code) (reached : IsReachedCode t code) where
       let u = edge_at (slice_get code.edges e) in
       ap edge_branches x.get ∙ by x.edge (call_returns code (kind_at t u)) (subst (λ i. Within x.edge (edges_of (instr_kind t u i) u (call_returns code (kind_at t u)))) same x.within)
     where
-      by : (x : Edge) (b : Bool) → Within x (edges_of (Branch (moved_by (edge_at (slice_get code.edges e)) offset)) (edge_at (slice_get code.edges e)) b) → is_branch_kind x.kind ≡ true
+      by : (x : Edge) (b : Bool) → Within x (edges_of (flow.Branch (moved_by (edge_at (slice_get code.edges e)) offset)) (edge_at (slice_get code.edges e)) b) → is_branch_kind x.kind ≡ true
       by x b within = ⊎_elim (λ q. sym (ap (λ y. is_branch_kind y.kind) q)) (λ m. ⊎_elim (λ q. sym (ap (λ y. is_branch_kind y.kind) q)) (λ n. absurd n) m) within
 
   pub jump_kind : (e : ℕ) (offset : ℤ) → e < length code.edges → instr_at t (edge_at (slice_get code.edges e)) ≡ Some (instr.Jal 0 offset) → edge_branches (slice_get code.edges e) ≡ false
@@ -149,5 +148,5 @@ module _ (t : Text) (code : Code) (reached : IsReachedCode t code) where
       let u = edge_at (slice_get code.edges e) in
       ap edge_branches x.get ∙ by x.edge (call_returns code (kind_at t u)) (subst (λ i. Within x.edge (edges_of (instr_kind t u i) u (call_returns code (kind_at t u)))) same x.within)
     where
-      by : (x : Edge) (b : Bool) → Within x (edges_of (Goto (moved_by (edge_at (slice_get code.edges e)) offset)) (edge_at (slice_get code.edges e)) b) → is_branch_kind x.kind ≡ false
+      by : (x : Edge) (b : Bool) → Within x (edges_of (flow.Jump (moved_by (edge_at (slice_get code.edges e)) offset)) (edge_at (slice_get code.edges e)) b) → is_branch_kind x.kind ≡ false
       by x b within = ⊎_elim (λ q. sym (ap (λ y. is_branch_kind y.kind) q)) (λ n. absurd n) within

@@ -10,8 +10,7 @@ use Rattle.scale_base.specs.Image.{Image, is_in as in_range}
 use Rattle.scale_base.specs.Layout.{layout_of, is_keyed}
 use Rattle.scale_base.specs.Run.{Run, GoesOn, HasExited, run_of, setting_of, start_of, starting_level}
 use Rattle.scale_base.proofs.Laws.{run_stays}
-use Rattle.power_model.specs.Numbers.{PowerModel, IsPowerModel}
-use Rattle.power_model.specs.Numbers.{RunPrice as Metered}
+use Rattle.power_model.specs.Numbers.{PowerModel, IsPowerModel, RunPrice as Metered}
 use Rattle.power_model.specs.Price.{price, held_energy}
 use Rattle.power_model.proofs.Laws.{cycles-price}
 use Rattle.cost_theory.specs.Graph.{Graph, Loops}
@@ -19,11 +18,13 @@ use Rattle.least_laws.specs.Charged.{Charged}
 use Rattle.cost_theory.specs.Worst.{Numbers}
 use Rattle.cost_theory.specs.Steps as steps
 use Rattle.cost_theory.proofs.Laws.{search_below}
-use Rattle.graph_runs.specs.Text.{Text, text_of}
-use Rattle.graph_runs.specs.RunMoves.{text_graph, after_moves, StandsBy}
+use Rattle.code_text.specs.Text.{Text, text_of}
+use Rattle.graph_runs.specs.RunTransitions.{after_transitions, StandsBy}
+use Rattle.code_text.specs.TextGraph.{text_graph}
 use Rattle.graph_runs.specs.KeptSteps.{Carried, by_extents}
 use Rattle.graph_runs.specs.KeptRuns.{kept_of, KeptAt, ExitsBy}
-use Rattle.graph_runs.proofs.Laws.{text_of_layout, going_length, kind_facts, image_runs_are_below, image_runs_end}
+use Rattle.graph_runs.proofs.Laws.{text_of_layout, going_length, image_runs_are_below, image_runs_end}
+use Rattle.code_text.proofs.Laws.{kind_facts}
 use Rattle.code_graph.specs.FlowGraph.{FlowGraph, graph}
 use Rattle.loop_file.specs.declared.notes.LoopNote.{LoopNote}
 use Rattle.loop_file.specs.Kept.{noted_loops}
@@ -34,10 +35,9 @@ use Rattle.stored_runs.specs.Marks.{shadow_first, shadow_after}
 use Rattle.stored_runs.specs.Legs.{Leg, originals, steps_to}
 use Rattle.stored_runs.specs.Laws.{text_steps}
 use Rattle.stored_runs.proofs.Laws.{frame, text_of_legs, meetings_once}
-use Rattle.marked_runs.specs.Marked.{IsKeptFollowed, AreHeld}
-use Rattle.marked_runs.proofs.Laws.{kept_followed}
+use Rattle.paid_runs.specs.Marked.{IsKeptFollowed, AreHeld}
+use Rattle.paid_runs.proofs.Laws.{kept_followed, energy_sum, switches_save, runs_paid, stubs_bounded}
 use Rattle.power_model.specs.Switches.{period, costs_of, NeverRises, switches_from, saved, fee, AllPay}
-use Rattle.paid_runs.proofs.Laws.{energy_sum, switches_save, runs_paid, stubs_bounded}
 use Rattle.paid_runs.specs.Timely.{weights_of, IsPaidRun}
 use Rattle.rewritten_runs.specs.Prices.{price_of}
 use Rattle.rewritten_runs.specs.Stubs.{stored_weights, marks_by_slack, is_counted, counter_of}
@@ -240,7 +240,7 @@ module _ (power : PowerModel) (file : List ℕ) (image : Image) (notes : List Lo
   at_node : (input : List ℕ) (n : ℕ) (c : Carried) (f : Followed input n c) → (run_of image levels input n).standing ≡ GoesOn → KeptAt t v.code l (run_of image levels input n) c f.kept.moves
   at_node input n c f goes = subst (λ q. StandsBy q (KeptAt t v.code l (run_of image levels input n) c f.kept.moves)) goes f.kept.stands
 
-  calls_are : (input : List ℕ) (n : ℕ) (c : Carried) (f : Followed input n c) (goes : (run_of image levels input n).standing ≡ GoesOn) → (after_moves t v.code l f.kept.moves).calls ≡ map (λ a. a - 4) c.returns
+  calls_are : (input : List ℕ) (n : ℕ) (c : Carried) (f : Followed input n c) (goes : (run_of image levels input n).standing ≡ GoesOn) → (after_transitions t v.code l f.kept.moves).calls ≡ map (λ a. a - 4) c.returns
   calls_are input n c f goes =
       let at = at_node input n c f goes in
       let back = calls_back t (setting_of image levels input) (text_of_layout file image levels input s.stubbed.read) s.program.reached.words at.function at.calls at.stack in
@@ -258,19 +258,19 @@ module _ (power : PowerModel) (file : List ℕ) (image : Image) (notes : List Lo
       held : AreHeld t v.code l (is_counted tree) (counter_of tree) sites start (run_of image levels input n) f.kept.moves
       held = f.held goes
 
-      same : (k : ℕ) → Rattle.marked_runs.specs.Shadows.is_within_loop l k (after_moves t v.code l f.kept.moves) ≡ Rattle.marked_runs.specs.Shadows.is_within_loop l k place
-      same k = in_same l k (after_moves t v.code l f.kept.moves) (run_of image levels input n).state.pc (map (λ a. a - 4) c.returns) c.counts at.node (calls_are input n c f goes)
+      same : (k : ℕ) → Rattle.paid_runs.specs.Shadows.is_within_loop l k (after_transitions t v.code l f.kept.moves) ≡ Rattle.paid_runs.specs.Shadows.is_within_loop l k place
+      same k = in_same l k (after_transitions t v.code l f.kept.moves) (run_of image levels input n).state.pc (map (λ a. a - 4) c.returns) c.counts at.node (calls_are input n c f goes)
 
-      within : (k : ℕ) → k < l.loops → is_counted tree k ≡ true → Rattle.marked_runs.specs.Shadows.is_within_loop l k place ≡ true → slice_index (stored_run input n c f).state.window (counter_of tree k) ≡ place.counts k
+      within : (k : ℕ) → k < l.loops → is_counted tree k ≡ true → Rattle.paid_runs.specs.Shadows.is_within_loop l k place ≡ true → slice_index (stored_run input n c f).state.window (counter_of tree k) ≡ place.counts k
       within k kl ck on = f.followed.holds.counters (counter_of tree k) (s.shadows k kl ck) ∙ (held.shown.within k kl ck (same k ∙ on) ∙ at.counted k kl)
 
-      others : (w : ℕ) → IsShadow w → ((k : ℕ) → k < l.loops → is_counted tree k ≡ true → Rattle.marked_runs.specs.Shadows.is_within_loop l k place ≡ true → counter_of tree k ≢ w) → slice_index (stored_run input n c f).state.window w ≡ 0
+      others : (w : ℕ) → IsShadow w → ((k : ℕ) → k < l.loops → is_counted tree k ≡ true → Rattle.paid_runs.specs.Shadows.is_within_loop l k place ≡ true → counter_of tree k ≢ w) → slice_index (stored_run input n c f).state.window w ≡ 0
       others w shadow none = f.followed.holds.counters w shadow ∙ elim (search_below l.loops (λ k. is_counted tree k && nat_eq (counter_of tree k) w)) [
         | inl found ↦
             let k = found.0 in
             let parts = and_parts (is_counted tree k) (nat_eq (counter_of tree k) w) found.2 in
             let here : counter_of tree k ≡ w = eqb-true (counter_of tree k) w parts.1 in
-            let off = false_from_ne_true (Rattle.marked_runs.specs.Shadows.is_within_loop l k (after_moves t v.code l f.kept.moves)) (λ on. none k found.1 parts.0 (sym (same k) ∙ on) here) in
+            let off = false_from_ne_true (Rattle.paid_runs.specs.Shadows.is_within_loop l k (after_transitions t v.code l f.kept.moves)) (λ on. none k found.1 parts.0 (sym (same k) ∙ on) here) in
             ap (shadow_after sites (shadow_first start) (run_of image levels input n).steps).counters (sym here) ∙ held.shown.outside k found.1 parts.0 off
         | inr absent ↦ held.others w (λ k kl ck is. both_ways (is_counted tree k && nat_eq (counter_of tree k) w) (absent k kl) (and_from (is_counted tree k) (nat_eq (counter_of tree k) w) ck (eq-eqb (counter_of tree k) w is)))
       ]
@@ -307,8 +307,8 @@ module _ (power : PowerModel) (file : List ℕ) (image : Image) (notes : List Lo
   time_left input n c f goes =
       let at = at_node input n c f goes in
       let w = weights_of power t v.code sites in
-      let moved = left_same g l w stored (after_moves t v.code l f.kept.moves) (run_of image levels input n).state.pc (map (λ a. a - 4) c.returns) c.counts at.node (calls_are input n c f goes) at.counted in
-      let there : steps.cycles_left g l w stored (after_moves t v.code l f.kept.moves) ≡ steps.cycles_left (graph v) l (stored_weights power image v (marks_by_slack power image v tree plain)) stored (graph_place (run_of image levels input n) c) =
+      let moved = left_same g l w stored (after_transitions t v.code l f.kept.moves) (run_of image levels input n).state.pc (map (λ a. a - 4) c.returns) c.counts at.node (calls_are input n c f goes) at.counted in
+      let there : steps.cycles_left g l w stored (after_transitions t v.code l f.kept.moves) ≡ steps.cycles_left (graph v) l (stored_weights power image v (marks_by_slack power image v tree plain)) stored (graph_place (run_of image levels input n) c) =
       moved ∙ (ap (λ q. steps.cycles_left q l w stored (graph_place (run_of image levels input n) c)) s.graph_is ∙ ap (λ q. steps.cycles_left (graph v) l q stored (graph_place (run_of image levels input n) c)) s.weights_are) in
       from_start input n c f (λ m. m.time + steps.cycles_left (graph v) l (stored_weights power image v (marks_by_slack power image v tree plain)) stored (graph_place (run_of image levels input n) c) * period power m.level ≤ power.deadline)
       (subst (λ x. (price power start (stored_run input n c f).steps).time + x * period power (price power start (stored_run input n c f).steps).level ≤ power.deadline) there (paid input n c f).in_time)

@@ -21,13 +21,13 @@ use Rattle.least_laws.specs.Charged.{Charged, AreCharged}
 use Rattle.cost_theory.specs.Worst.{Numbers, AreNumbers}
 use Rattle.cost_theory.specs.Reached.{edge_at}
 use Rattle.cost_theory.proofs.Laws.{source_reached, some_get}
-use Rattle.graph_runs.specs.EdgeCosts.{weights}
-use Rattle.graph_runs.specs.RunMoves.{text_graph}
-use Rattle.graph_runs.specs.Text.{text_of, kind_at}
+use Rattle.code_text.specs.EdgeCosts.{weights}
+use Rattle.code_text.specs.TextGraph.{text_graph}
+use Rattle.code_text.specs.Text.{text_of, kind_at}
 use Rattle.code_graph.specs.FlowGraph.{FlowGraph, graph}
 use Rattle.loop_file.specs.declared.notes.LoopNote.{LoopNote}
 use Rattle.loop_file.specs.Kept.{noted_loops}
-use Rattle.natural_loops.specs.Noted.{node_address}
+use Rattle.loop_tree.specs.Noted.{node_address}
 use Rattle.loop_tree.specs.Tree.{LoopView, loops, IsInnermost}
 use Rattle.scale_sites.specs.Counters.{counted_loops}
 use Rattle.scale_sites.specs.Marks.{AreLoopsOnce}
@@ -35,8 +35,8 @@ use Rattle.scale_sites.specs.Sites.{is_branch}
 use Rattle.stub_writer.specs.Stubs.{Site, block_size, block_bytes, patches_from, stub_len, jump, out_of_reach}
 use Rattle.stored_runs.specs.Stubbed.{IsStubbed, IsSafeSite}
 use Rattle.stored_runs.proofs.Laws.{frame}
-use Rattle.marked_runs.specs.Marked as marked_specs
-use Rattle.marked_runs.proofs.Laws.{weights_of_calls}
+use Rattle.paid_runs.specs.Marked as marked_specs
+use Rattle.paid_runs.proofs.Laws.{weights_of_calls}
 use Rattle.power_model.specs.Switches.{costs_of}
 use Rattle.paid_runs.specs.Timely.{weights_of}
 use Rattle.rewritten_runs.specs.Laws.{IsSafelyRewritten, RewrittenImagesFollow}

@@ -14,14 +14,14 @@ use Rattle.least_laws.specs.Charged.{Charged}
 use Rattle.cost_theory.specs.Worst.{Numbers}
 use Rattle.cost_theory.specs.Reached.{Code, edge_at}
 use Rattle.cost_theory.proofs.Laws.{accepted_entered, header_held, is_program, some_get}
-use Rattle.graph_runs.specs.EdgeCosts.{edge_class}
+use Rattle.code_text.specs.EdgeCosts.{edge_class}
 use Rattle.graph_runs.specs.Laws.{IsProgramOf}
-use Rattle.graph_runs.specs.RunMoves.{text_graph}
-use Rattle.graph_runs.specs.Text.{Text, text_of, kind_at}
+use Rattle.code_text.specs.TextGraph.{text_graph}
+use Rattle.code_text.specs.Text.{Text, text_of, kind_at}
 use Rattle.code_graph.specs.FlowGraph.{FlowGraph}
 use Rattle.loop_file.specs.declared.notes.LoopNote.{LoopNote}
 use Rattle.loop_file.specs.Kept.{noted_loops}
-use Rattle.natural_loops.specs.Noted.{node_address}
+use Rattle.loop_tree.specs.Noted.{node_address}
 use Rattle.loop_tree.specs.Tree.{LoopView, loops}
 use Rattle.scale_base.specs.declared.fragments.Mark.{Mark}
 use Rattle.scale_base.specs.declared.fragments.Mark.TheVariants as marks
@@ -32,9 +32,9 @@ use Rattle.level_tables.specs.Tables as tables
 use Rattle.stub_writer.specs.Fragments.{IsShadow}
 use Rattle.stub_writer.specs.Stubs.{Site}
 use Rattle.stored_runs.specs.Marks.{place_at, fragments_of_class, counters_after, counters_behind}
-use Rattle.marked_runs.specs.Shadows.{AreCountable}
-use Rattle.marked_runs.specs.Marked as marked_specs
-use Rattle.marked_runs.proofs.Laws.{loops_are_countable}
+use Rattle.paid_runs.specs.Shadows.{AreCountable}
+use Rattle.paid_runs.specs.Marked as marked_specs
+use Rattle.paid_runs.proofs.Laws.{loops_are_countable}
 use Rattle.rewritten_runs.specs.Stubs.{IsWeighed, marks_by_slack, told_at, fragment_of, fragments_at, loop_of, is_counted, counter_of, set_before}
 use Rattle.rewritten_runs.proofs.Programs.{program_of}
 use Rattle.rewritten_runs.proofs.Edges.{branch_led, call_goes_on}

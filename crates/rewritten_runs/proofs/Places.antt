@@ -9,12 +9,13 @@ use Rattle.cost_theory.specs.Steps as steps
 use Rattle.cost_theory.specs.Steps.{left_call, add_call, left_calls, left_at_node, cycles_left}
 use Rattle.cost_theory.specs.Reached.{HasNoBadWord}
 use Rattle.cost_theory.proofs.Laws.{sum-same}
-use Rattle.graph_runs.specs.Text.{Text, kind_at}
+use Rattle.code_text.specs.Text.{Text, kind_at}
 use Rattle.graph_runs.specs.TextStates.{IsTextOf}
-use Rattle.graph_runs.specs.RunMoves.{after_call, IsStack}
+use Rattle.graph_runs.specs.RunTransitions.{after_call, IsStack}
 use Rattle.graph_runs.specs.KeptRuns.{AreSameBelow}
-use Rattle.graph_runs.proofs.Laws.{kind_facts, word_bound}
-use Rattle.marked_runs.specs.Shadows.{is_within_loop}
+use Rattle.graph_runs.proofs.Laws.{word_bound}
+use Rattle.code_text.proofs.Laws.{kind_facts}
+use Rattle.paid_runs.specs.Shadows.{is_within_loop}
 
 -- ---- calls
 

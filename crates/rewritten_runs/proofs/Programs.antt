@@ -3,24 +3,24 @@ use Rattle.std.proofs.Common.{◌≡◌, ℕ, zero, suc, ◌<◌, ◌≤◌, ◌
 use Rattle.std.specs.Prelude.{slice_index, slice_index_or}
 use Rattle.std.proofs.Math.Path.{fun_ext}
 use Rattle.scale_base.specs.declared.stepping.Class.{Class}
-use Rattle.cost_theory.specs.declared.edges.Edge.{Edge}
+use Rattle.scale_base.specs.declared.edges.Edge.{Edge}
 use Rattle.cost_theory.specs.Graph.{Graph, Loops, with_trips}
-use Rattle.cost_theory.specs.Accepted.{AreWeights}
+use Rattle.cost_theory.specs.Accepted.{AreWeights, AreAccepted, HasNoRecursion, HaveWholeExtents}
 use Rattle.cost_theory.specs.Worst.{Numbers, AreNumbers}
-use Rattle.graph_runs.specs.Text.{Text}
-use Rattle.graph_runs.specs.EdgeCosts.{edge_class, cost_of, weights}
-use Rattle.graph_runs.specs.RunMoves.{text_graph}
+use Rattle.code_text.specs.Text.{Text}
+use Rattle.code_text.specs.EdgeCosts.{edge_class, cost_of, weights}
+use Rattle.code_text.specs.TextGraph.{text_graph}
 use Rattle.scale_base.specs.Image.{Image}
 use Rattle.scale_base.specs.Run.{setting_of, start_of}
 use Rattle.graph_runs.specs.KeptSteps.{Carried, by_extents}
 use Rattle.graph_runs.specs.KeptRuns.{kept_of}
-use Rattle.graph_runs.proofs.Laws.{kept_by_less, weights_are}
+use Rattle.graph_runs.proofs.Laws.{kept_by_less}
+use Rattle.code_text.proofs.Laws.{weights_are}
 use Rattle.graph_runs.specs.Laws.{IsProgramOf}
-use Rattle.cost_theory.specs.Accepted.{AreAccepted, HasNoRecursion, HaveWholeExtents}
 use Rattle.loop_file.specs.declared.notes.LoopNote.{LoopNote}
 use Rattle.loop_file.specs.Kept.{noted_loops, note_at}
 use Rattle.code_graph.specs.FlowGraph.{FlowGraph, graph, IsGraphOf}
-use Rattle.natural_loops.specs.Noted.{node_address}
+use Rattle.loop_tree.specs.Noted.{node_address}
 use Rattle.loop_tree.specs.Tree.{LoopView, loops, IsTreeOf}
 use Rattle.worst_cycles.specs.Worst.{by_edge}
 

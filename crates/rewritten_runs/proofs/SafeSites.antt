@@ -15,16 +15,16 @@ use Rattle.scale_base.specs.Arith.{moved_by}
 use Rattle.scale_base.specs.Image.{Image, is_word_address}
 use Rattle.scale_base.specs.Reading.{instr_of, row_of, opcode_of, funct3_of, funct7_of, branch_of, branch_op_of, load_of, load_op_of, store_of, store_op_of, immediate_of, imm_op_of, register_of, reg_op_of}
 use Rattle.power_model.specs.Numbers.{PowerModel, IsPowerModel}
-use Rattle.cost_theory.specs.declared.edges.Edge.{Edge}
-use Rattle.cost_theory.specs.declared.edges.EdgeKind.TheVariants.{Taken, Untaken, Jump}
+use Rattle.scale_base.specs.declared.edges.Edge.{Edge}
+use Rattle.scale_base.specs.declared.edges.EdgeKind.TheVariants.{Taken, Untaken, Jump}
 use Rattle.cost_theory.specs.Graph.{Graph, Loops}
 use Rattle.least_laws.specs.Charged.{Charged}
 use Rattle.cost_theory.specs.Worst.{Numbers}
 use Rattle.cost_theory.specs.Reached.{Code, Reached, LeadsTo, edges_of, call_returns, edge_at}
 use Rattle.cost_theory.proofs.Laws.{source_reached, Within, word_edge}
-use Rattle.graph_runs.specs.EdgeCosts.{edge_class}
-use Rattle.graph_runs.specs.RunMoves.{text_graph}
-use Rattle.graph_runs.specs.Text.{Text, text_of, instr_at, instr_kind, kind_at}
+use Rattle.code_text.specs.EdgeCosts.{edge_class}
+use Rattle.code_text.specs.TextGraph.{text_graph}
+use Rattle.code_text.specs.Text.{Text, text_of, instr_at, instr_kind, kind_at}
 use Rattle.code_graph.specs.FlowGraph.{FlowGraph}
 use Rattle.loop_file.specs.declared.notes.LoopNote.{LoopNote}
 use Rattle.loop_file.specs.Kept.{noted_loops}
@@ -37,7 +37,7 @@ use Rattle.stub_writer.specs.Fragments.{IsShadow}
 use Rattle.stub_writer.specs.Stubs.{Site, Way, Place, Forked, Straight}
 use Rattle.stored_runs.specs.Marks.{place_at, fragments_of_class}
 use Rattle.stored_runs.specs.Stubbed.{IsSafe, IsSafeWay, IsOfImage, AreSafeWays, IsSafeSite, AreOrdered, AreAscending}
-use Rattle.marked_runs.proofs.Laws.{targets_are_words}
+use Rattle.paid_runs.proofs.Laws.{targets_are_words}
 use Rattle.rewritten_runs.specs.Stubs.{IsWeighed, AreSitesOf, marks_by_slack, told_at, fragment_of, fragments_at, loop_of}
 use Rattle.rewritten_runs.proofs.Edges.{edge_is}
 use Rattle.rewritten_runs.proofs.Marked.{IsMarkOf, program_is, graph_program, marks_of_edge, shadow_of, counted_is}
@@ -209,8 +209,8 @@ module _ (power : PowerModel) (ok : IsPowerModel power) (image : Image) (notes :
       let y : Edge = record { at = u; kind = Untaken; to = u + 4 } in
       let e = edge_of w.function u x w.reached (subst (λ q. Within x (edges_of q u (call_returns code (kind_at t u)))) (sym w.kind) (inl refl)) in
       let d = edge_of w.function u y w.reached (subst (λ q. Within y (edges_of q u (call_returns code (kind_at t u)))) (sym w.kind) (inr (inl refl))) in
-      let class_x : edge_class t (Some x) ≡ Some classes.Taken = ap (λ o. Rattle.graph_runs.specs.EdgeCosts.class_by o Taken) of.1 in
-      let class_y : edge_class t (Some y) ≡ Some classes.Untaken = ap (λ o. Rattle.graph_runs.specs.EdgeCosts.class_by o Untaken) of.1 in
+      let class_x : edge_class t (Some x) ≡ Some classes.Taken = ap (λ o. Rattle.code_text.specs.EdgeCosts.class_by o Taken) of.1 in
+      let class_y : edge_class t (Some y) ≡ Some classes.Untaken = ap (λ o. Rattle.code_text.specs.EdgeCosts.class_by o Untaken) of.1 in
       let one : taken.fragments ≡ frags e.0 = sym (ap (λ o. fragments_of_class o classes.Taken) place) ∙ frags_at u x classes.Taken e.0 e.1 e.2 refl class_x in
       let two : untaken.fragments ≡ frags d.0 = sym (ap (λ o. fragments_of_class o classes.Untaken) place) ∙ frags_at u y classes.Untaken d.0 d.1 d.2 refl class_y in
       let aligned = eqb-true (u % 4) 0 (and_parts (u % 4 == 0) _ word).0 in
@@ -224,7 +224,7 @@ module _ (power : PowerModel) (ok : IsPowerModel power) (image : Image) (notes :
       let to = moved_by u offset in
       let x : Edge = record { at = u; kind = Jump; to = moved_by u offset } in
       let e = edge_of w.function u x w.reached (subst (λ q. Within x (edges_of q u (call_returns code (kind_at t u)))) (sym w.kind) (inl refl)) in
-      let class_x : edge_class t (Some x) ≡ Some classes.Jump = ap (λ o. Rattle.graph_runs.specs.EdgeCosts.class_by o Jump) of.1 in
+      let class_x : edge_class t (Some x) ≡ Some classes.Jump = ap (λ o. Rattle.code_text.specs.EdgeCosts.class_by o Jump) of.1 in
       let one : way.fragments ≡ frags e.0 = sym (ap (λ o. fragments_of_class o classes.Jump) place) ∙ frags_at u x classes.Jump e.0 e.1 e.2 refl class_x in
       let even = target_even u to w.function w.reached (subst (λ q. LeadsTo q u to) (sym w.kind) refl) in
       let ta = of.2 in

@@ -17,8 +17,8 @@ use Rattle.scale_base.proofs.Laws.{contents-are}
 use Rattle.elf_patch.specs.Stored.{IsStubBase, text_end, end_in}
 use Rattle.elf_patch.proofs.Laws.{some_place}
 use Rattle.machine_laws.proofs.Laws.{text_ranges_kept}
-use Rattle.graph_runs.specs.Text.{AreApart}
-use Rattle.graph_runs.proofs.Laws.{ranges_apart}
+use Rattle.code_text.specs.Text.{AreApart}
+use Rattle.code_text.proofs.Laws.{ranges_apart}
 use Rattle.rv_encode.specs.Jumps.{distance}
 use Rattle.stub_writer.specs.Fragments.{code_len, fragment_rows}
 use Rattle.stub_writer.specs.Stubs.{Site, Place, Forked, Straight, way_rows, rows_by, stub_len, stub_len_of, stub_rows, stub_rows_of, stubs_len, block_rows, block_size, block_bytes, is_even, is_field, reaches, is_near, out_of_reach, stub_reaches_of}

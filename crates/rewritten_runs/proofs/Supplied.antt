@@ -5,12 +5,12 @@ use Rattle.power_model.specs.Numbers.{PowerModel, IsPowerModel}
 use Rattle.cost_theory.specs.Laws.{IsAnalyzed}
 use Rattle.least_laws.specs.Charged.{Charged, AreCharged}
 use Rattle.cost_theory.specs.Worst.{Numbers, AreNumbers}
-use Rattle.graph_runs.specs.EdgeCosts.{weights}
+use Rattle.code_text.specs.EdgeCosts.{weights}
 use Rattle.graph_runs.specs.KeptSteps.{Carried, by_extents}
 use Rattle.graph_runs.specs.KeptRuns.{kept_of}
 use Rattle.graph_runs.specs.Laws.{IsProgramOf}
-use Rattle.graph_runs.specs.RunMoves.{text_graph}
-use Rattle.graph_runs.specs.Text.{text_of}
+use Rattle.code_text.specs.TextGraph.{text_graph}
+use Rattle.code_text.specs.Text.{text_of}
 use Rattle.code_graph.specs.FlowGraph.{FlowGraph, graph}
 use Rattle.loop_file.specs.declared.notes.LoopNote.{LoopNote}
 use Rattle.loop_file.specs.Kept.{noted_loops}
@@ -18,8 +18,8 @@ use Rattle.loop_tree.specs.Tree.{LoopView, loops}
 use Rattle.stub_writer.specs.Fragments.{IsShadow}
 use Rattle.stub_writer.specs.Stubs.{Site}
 use Rattle.stored_runs.specs.Stubbed.{IsStubbed}
-use Rattle.marked_runs.specs.Shadows.{AreCountable}
-use Rattle.marked_runs.specs.Marked as marked_specs
+use Rattle.paid_runs.specs.Shadows.{AreCountable}
+use Rattle.paid_runs.specs.Marked as marked_specs
 use Rattle.power_model.specs.Switches.{period, costs_of}
 use Rattle.paid_runs.specs.Timely.{weights_of, AreTables}
 use Rattle.rewritten_runs.specs.Stubs.{stored_weights, marks_by_slack, is_counted, counter_of}

@@ -5,14 +5,14 @@ use Rattle.std.proofs.Math.Nat.{mul-le-mul_right}
 use Rattle.scale_base.specs.Image.{Image}
 use Rattle.power_model.specs.Numbers.{PowerModel, IsPowerModel}
 use Rattle.power_model.specs.Price.{switch_time, switch_energy}
-use Rattle.cost_theory.specs.declared.edges.EdgeKind.TheVariants as kind
+use Rattle.scale_base.specs.declared.edges.EdgeKind.TheVariants as kind
 use Rattle.cost_theory.specs.Graph.{Graph, Loops, AreWithin, only, leaves}
 use Rattle.least_laws.specs.Charged.{Charged, to_end_after}
 use Rattle.cost_theory.specs.Worst.{Numbers, cost, slack, rest, turns, left_behind}
 use Rattle.cost_theory.specs.Reached.{Code}
 use Rattle.cost_theory.proofs.Laws.{term-le-sum}
-use Rattle.graph_runs.specs.RunMoves.{text_graph}
-use Rattle.graph_runs.specs.Text.{Text, text_of}
+use Rattle.code_text.specs.TextGraph.{text_graph}
+use Rattle.code_text.specs.Text.{Text, text_of}
 use Rattle.code_graph.specs.FlowGraph.{FlowGraph, graph}
 use Rattle.loop_file.specs.declared.notes.LoopNote.{LoopNote}
 use Rattle.loop_tree.specs.Tree.{LoopView, loops}
@@ -86,11 +86,11 @@ module _ (power : PowerModel) (ok : IsPowerModel power) (image : Image) (notes :
           let on = call_goes_on t code (program_is power image notes v tree plain stored weighed).reached e f u lt e2 to in
           absurd (both (slice_get code.edges e) is2 on)
         where
-          both : (o : Option Rattle.cost_theory.specs.declared.edges.Edge.Edge) → edge_branches o ≡ true → edge_goes_on o ≡ true → ⊥
+          both : (o : Option Rattle.scale_base.specs.declared.edges.Edge.Edge) → edge_branches o ≡ true → edge_goes_on o ≡ true → ⊥
           both None b c = let never : ⊥ = cc in never
           both (Some x) b c = kinds x.kind b c
             where
-              kinds : (k : Rattle.cost_theory.specs.declared.edges.EdgeKind.EdgeKind) → Rattle.scale_sites.specs.Sites.is_branch_kind k ≡ true → Rattle.scale_sites.specs.Counters.goes_on k ≡ true → ⊥
+              kinds : (k : Rattle.scale_base.specs.declared.edges.EdgeKind.EdgeKind) → Rattle.scale_sites.specs.Sites.is_branch_kind k ≡ true → Rattle.scale_sites.specs.Counters.goes_on k ≡ true → ⊥
               kinds kind.Taken b2 c2 = let never : ⊥ = cc in never
               kinds kind.Untaken b2 c2 = let never : ⊥ = cc in never
               kinds kind.Jump b2 c2 = let never : ⊥ = cc in never

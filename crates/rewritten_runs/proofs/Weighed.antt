@@ -17,9 +17,9 @@ use Rattle.least_laws.specs.Charged.{Charged}
 use Rattle.cost_theory.specs.Worst.{Numbers}
 use Rattle.cost_theory.specs.Reached.{Code, edge_at}
 use Rattle.cost_theory.proofs.Laws.{search_below}
-use Rattle.graph_runs.specs.EdgeCosts.{edge_class, weights}
-use Rattle.graph_runs.specs.RunMoves.{text_graph}
-use Rattle.graph_runs.specs.Text.{Text, text_of, instr_at}
+use Rattle.code_text.specs.EdgeCosts.{edge_class, weights}
+use Rattle.code_text.specs.TextGraph.{text_graph}
+use Rattle.code_text.specs.Text.{Text, text_of, instr_at}
 use Rattle.code_graph.specs.FlowGraph.{FlowGraph, graph}
 use Rattle.loop_file.specs.declared.notes.LoopNote.{LoopNote}
 use Rattle.loop_tree.specs.Tree.{LoopView, loops}
@@ -33,7 +33,7 @@ use Rattle.stub_writer.specs.Stubs.{Site, Place, Forked, Straight}
 use Rattle.stub_runs.specs.Cycles.{fragment_cost}
 use Rattle.stored_runs.specs.Marks.{place_at, fragments_of_class, jumps_by, tail_cycles}
 use Rattle.stored_runs.specs.Stubbed.{IsOfImage}
-use Rattle.marked_runs.specs.Marked as marked_specs
+use Rattle.paid_runs.specs.Marked as marked_specs
 use Rattle.power_model.specs.Switches.{costs_of}
 use Rattle.paid_runs.specs.Timely.{weights_of}
 use Rattle.rewritten_runs.specs.Stubs.{IsWeighed, AreSitesOf, marks_by_slack, told_at, fragment_of, fragments_at, extra_weights, stored_weights}
@@ -190,17 +190,17 @@ module _ (power : PowerModel) (image : Image) (notes : List LoopNote) (v : FlowG
   unclassed e (Some p) lt none at =
       let is = placed image HasMark sites (at_edge e) p are.words are.some at in
       let x = edge_is t code reached e lt in
-      let bare : Rattle.graph_runs.specs.EdgeCosts.class_by (Some x.instr) x.edge.kind ≡ None =
-      ap (λ q. Rattle.graph_runs.specs.EdgeCosts.class_by q x.edge.kind) (sym (ap (instr_at t) (sym (ap edge_at x.get)) ∙ x.at)) ∙ (sym (ap (edge_class t) x.get) ∙ none) in
+      let bare : Rattle.code_text.specs.EdgeCosts.class_by (Some x.instr) x.edge.kind ≡ None =
+      ap (λ q. Rattle.code_text.specs.EdgeCosts.class_by q x.edge.kind) (sym (ap (instr_at t) (sym (ap edge_at x.get)) ∙ x.at)) ∙ (sym (ap (edge_class t) x.get) ∙ none) in
       absurd (by p is.of x.instr x.edge.kind x.at bare)
     where
-      by : (p : Place) → IsOfImage image (at_edge e) p → (i : Rattle.scale_base.specs.declared.instruction.Instr.Instr) (kind : Rattle.cost_theory.specs.declared.edges.EdgeKind.EdgeKind) → instr_at t (at_edge e) ≡ Some i → Rattle.graph_runs.specs.EdgeCosts.class_by (Some i) kind ≡ None → ⊥
+      by : (p : Place) → IsOfImage image (at_edge e) p → (i : Rattle.scale_base.specs.declared.instruction.Instr.Instr) (kind : Rattle.scale_base.specs.declared.edges.EdgeKind.EdgeKind) → instr_at t (at_edge e) ≡ Some i → Rattle.code_text.specs.EdgeCosts.class_by (Some i) kind ≡ None → ⊥
       by (Forked op rs1 rs2 untaken taken) of i kind at2 bare =
           let same : i ≡ instr.Branch op rs1 rs2 of.0 = (let a = of.1 in cc) in
-          let there = subst (λ j. Rattle.graph_runs.specs.EdgeCosts.class_by (Some j) kind ≡ None) same bare in let never : ⊥ = cc in never
+          let there = subst (λ j. Rattle.code_text.specs.EdgeCosts.class_by (Some j) kind ≡ None) same bare in let never : ⊥ = cc in never
       by (Straight way) of i kind at2 bare =
           let same : i ≡ instr.Jal 0 of.0 = (let a = of.1 in cc) in
-          let there = subst (λ j. Rattle.graph_runs.specs.EdgeCosts.class_by (Some j) kind ≡ None) same bare in let never : ⊥ = cc in never
+          let there = subst (λ j. Rattle.code_text.specs.EdgeCosts.class_by (Some j) kind ≡ None) same bare in let never : ⊥ = cc in never
 
   extra_some : (e : ℕ) (o : Option Class) → e < length code.edges → edge_class t (slice_get code.edges e) ≡ o → marked_specs.extra_by (costs_of power) sites (at_edge e) o ≡ extra_of power.costs (jumps_of g (is_branch v) marked e) (marked e)
   extra_some e (Some class) lt is =
@@ -223,7 +223,7 @@ module _ (power : PowerModel) (image : Image) (notes : List LoopNote) (v : FlowG
           let c = led_class t code reached e to.0 lt to.1 in
           let never : ⊥ = cc in absurd never
 
-  no_edge : (xs : List Rattle.cost_theory.specs.declared.edges.Edge.Edge) (e : ℕ) → length xs ≤ e → slice_get xs e ≡ None
+  no_edge : (xs : List Rattle.scale_base.specs.declared.edges.Edge.Edge) (e : ℕ) → length xs ≤ e → slice_get xs e ≡ None
   no_edge [] e h = refl
   no_edge (x ∷ xs) zero h = let bad : ⊥ = omega arith in absurd bad
   no_edge (x ∷ xs) (suc e) h = no_edge xs e (omega arith)

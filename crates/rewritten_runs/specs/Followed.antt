@@ -8,17 +8,17 @@ use Rattle.scale_base.specs.Run.{Run, Standing, GoesOn, HasExited, HasTrapped, r
 use Rattle.power_model.specs.Numbers.{PowerModel}
 use Rattle.power_model.specs.Price.{held_energy}
 use Rattle.loop_file.specs.declared.notes.LoopNote.{LoopNote}
-use Rattle.loop_file.specs.Kept.{noted_loops, IsKeptUpTo}
+use Rattle.loop_file.specs.Kept.{noted_loops}
+use Rattle.graph_runs.specs.KeptRuns.{IsKeptUpTo, kept_of}
 use Rattle.cost_theory.specs.Worst.{Numbers}
 use Rattle.cost_theory.specs.Steps as steps
 use Rattle.graph_runs.specs.KeptSteps.{Carried}
-use Rattle.graph_runs.specs.KeptRuns.{kept_of}
 use Rattle.code_graph.specs.FlowGraph.{FlowGraph, graph}
 use Rattle.loop_tree.specs.Tree.{LoopView, loops}
 use Rattle.stub_writer.specs.Fragments.{IsShadow}
 use Rattle.stored_runs.specs.Legs.{Meets}
 use Rattle.stored_runs.specs.Laws.{text_steps}
-use Rattle.marked_runs.specs.Shadows.{is_within_loop}
+use Rattle.paid_runs.specs.Shadows.{is_within_loop}
 use Rattle.power_model.specs.Switches.{period, NeverRises, switches_from, saved, fee, AllPay}
 use Rattle.rewritten_runs.specs.Prices.{price_of}
 use Rattle.rewritten_runs.specs.Stubs.{is_counted, counter_of}
@@ -91,9 +91,9 @@ pub record EndsInTime (power : PowerModel) (original stored : Image) (bound : �
 -- on every input, for every number of steps up to which the original run is kept
 pub record FollowsInTime (power : PowerModel) (original stored : Image) (notes : List LoopNote) (v : FlowGraph) (t : LoopView) (w : ℕ → ℕ) (plain numbers : Numbers) (bound : ℕ) : Type 0 where
   -- it has taken at most the worst cycles under the plain weights, so each run that stays kept ends
-  pub cycles : (input : List ℕ) (n : ℕ) → IsKeptUpTo original (length power.levels) input notes n → (price_of power original input n).cycles ≤ plain.worst 0
-  pub ends : (input : List ℕ) (n : ℕ) → IsKeptUpTo original (length power.levels) input notes n → (run_of original (length power.levels) input n).standing ≡ GoesOn → n ≤ plain.worst 0
+  pub cycles : (input : List ℕ) (n : ℕ) → IsKeptUpTo original (length power.levels) input (noted_loops notes) n → (price_of power original input n).cycles ≤ plain.worst 0
+  pub ends : (input : List ℕ) (n : ℕ) → IsKeptUpTo original (length power.levels) input (noted_loops notes) n → (run_of original (length power.levels) input n).standing ≡ GoesOn → n ≤ plain.worst 0
   pub meets : (input : List ℕ) (n : ℕ) (c : Carried) → kept_of original (length power.levels) input (noted_loops notes) n ≡ Some c → (run_of original (length power.levels) input n).standing ≡ GoesOn
       → MeetsInTime power original stored v t w numbers bound input n c
-  pub ended : (input : List ℕ) (n : ℕ) → IsKeptUpTo original (length power.levels) input notes n → HasEnded (run_of original (length power.levels) input n).standing
+  pub ended : (input : List ℕ) (n : ℕ) → IsKeptUpTo original (length power.levels) input (noted_loops notes) n → HasEnded (run_of original (length power.levels) input n).standing
       → EndsInTime power original stored bound input n

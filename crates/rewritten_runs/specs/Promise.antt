@@ -8,9 +8,10 @@ use Rattle.scale_base.specs.Run.{HasExited, run_of, starting_level}
 use Rattle.power_model.specs.Numbers.{PowerModel}
 use Rattle.power_model.specs.Price.{held_energy}
 use Rattle.loop_file.specs.declared.notes.LoopNote.{LoopNote}
-use Rattle.loop_file.specs.Kept.{IsKeptUpTo}
+use Rattle.graph_runs.specs.KeptRuns.{IsKeptUpTo}
 use Rattle.power_model.specs.Switches.{NeverRises}
 use Rattle.rewritten_runs.specs.Prices.{price_of}
+use Rattle.loop_file.specs.Kept.{noted_loops}
 
 -- The original run on an input has exited with a status after n steps; the stored run so exits too, at most so many steps later.
 pub record EndsAsPromised (power : PowerModel) (original stored : Image) (bound : ℕ) (input : List ℕ) (n status : ℕ) : Type 0 where
@@ -32,5 +33,5 @@ pub record EndsAsPromised (power : PowerModel) (original stored : Image) (bound 
 -- on every input
 abbrev pub KeepsThePromise : PowerModel → Image → List LoopNote → Image → ℕ → Type 0
 KeepsThePromise power original notes stored bound = (input : List ℕ) (n status : ℕ)
-    → IsKeptUpTo original (length power.levels) input notes n → (run_of original (length power.levels) input n).standing ≡ HasExited status
+    → IsKeptUpTo original (length power.levels) input (noted_loops notes) n → (run_of original (length power.levels) input n).standing ≡ HasExited status
     → EndsAsPromised power original stored bound input n status

@@ -15,8 +15,8 @@ use Rattle.cost_theory.specs.Graph.{Loops, sum_below, only}
 use Rattle.cost_theory.specs.Worst.{Numbers, AreNumbers}
 use Rattle.least_laws.specs.Charged.{Charged, AreCharged, to_end_after}
 use Rattle.cost_theory.specs.Reached.{Code, edge_at}
-use Rattle.graph_runs.specs.Text.{text_of}
-use Rattle.graph_runs.specs.EdgeCosts.{edge_class, weights}
+use Rattle.code_text.specs.Text.{text_of}
+use Rattle.code_text.specs.EdgeCosts.{edge_class, weights}
 use Rattle.code_graph.specs.FlowGraph.{FlowGraph, graph, IsGraphOf}
 use Rattle.loop_tree.specs.Tree.{LoopView, loops, IsTreeOf}
 use Rattle.worst_cycles.specs.Worst.{slack_at, rest_at}

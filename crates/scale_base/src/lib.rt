@@ -6,6 +6,7 @@ ghost use Rattle.std.specs.Prelude.{◌≡◌, ℕ, ◌^◌, ◌<◌, ◌↔◌,
 ghost use Rattle.scale_base.specs.Word.{Encodes};
 ghost use Rattle.scale_base.specs.Reading.{instr_of};
 
+mod edges;
 mod endings;
 mod fragments;
 mod headers;
@@ -17,7 +18,7 @@ mod refusal;
 mod stepping;
 mod summary;
 
-pub use cost_theory::{Edge, EdgeKind};
+pub use edges::{Edge, EdgeKind};
 pub use endings::{End, Kept};
 pub use fragments::{Fragment, Mark, Rows};
 pub use headers::{ProgramHeader, SectionHeader};

@@ -2,7 +2,7 @@
 
 use crate::fragments::Fragment;
 use crate::summary::Summary;
-use cost_theory::Edge;
+use crate::edges::Edge;
 
 /// A fragment of code on an edge.
 #[derive(Drop)]

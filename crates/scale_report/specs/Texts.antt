@@ -3,8 +3,8 @@
 use Rattle.std.specs.Prelude.{codes, ℕ, zero, suc, ◌+◌, ◌/◌, ◌%◌, nat_lt, if◌then◌else◌, List, [], ◌∷◌, ◌++◌, length, flat_map, Option, Some, None}
 use Rattle.std.specs.Fmt.{decimal}
 use Rattle.scale_base.specs.declared.summary.Summary.{Summary}
-use Rattle.cost_theory.specs.declared.edges.EdgeKind.{EdgeKind}
-use Rattle.cost_theory.specs.declared.edges.EdgeKind.TheVariants as edge
+use Rattle.scale_base.specs.declared.edges.EdgeKind.{EdgeKind}
+use Rattle.scale_base.specs.declared.edges.EdgeKind.TheVariants as edge
 use Rattle.scale_base.specs.declared.fragments.Fragment.{Fragment}
 use Rattle.scale_base.specs.declared.fragments.Fragment.TheVariants as fragment
 use Rattle.scale_base.specs.declared.plan.SiteLine.{SiteLine}

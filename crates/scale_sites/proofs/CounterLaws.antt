@@ -6,7 +6,7 @@ use Rattle.std.proofs.lemmas.Option.{same_Some, none-some}
 use Rattle.code_graph.specs.FlowGraph.{FlowGraph}
 use Rattle.loop_tree.specs.Tree.{LoopView, IsLoopTree}
 use Rattle.scale_sites.specs.declared.counting.BackEdge.{BackEdge}
-use Rattle.cost_theory.specs.declared.edges.Edge.{Edge}
+use Rattle.scale_base.specs.declared.edges.Edge.{Edge}
 use Rattle.scale_sites.specs.Counters.{goes_on, edge_goes_on, set_from, IsUncountable, IsFirstUncountable, HasNone}
 
 -- an edge is a back edge of one loop at most

@@ -7,12 +7,12 @@ use Rattle.std.proofs.lemmas.Option.{slice_get_within, slice_get-get_or, get_or_
 use Rattle.scale_base.specs.declared.stepping.Class.{Class}
 use Rattle.power_model.specs.declared.power.Costs.{Costs}
 use Rattle.power_model.specs.Price.{cycles_of}
-use Rattle.graph_runs.specs.EdgeCosts.{cost_of}
+use Rattle.code_text.specs.EdgeCosts.{cost_of}
 use Rattle.cost_theory.specs.Graph.{Graph, Loops, leaves, goes_back, is_header, any_below}
 use Rattle.cost_theory.specs.Lists.{or_true, is_among, body_of}
 use Rattle.code_graph.specs.FlowGraph.{FlowGraph, graph, IsFlowGraph}
-use Rattle.natural_loops.specs.Noted.{node_address}
-use Rattle.natural_loops.proofs.Laws.{one_number}
+use Rattle.loop_tree.specs.Noted.{node_address}
+use Rattle.loop_tree.proofs.Laws.{one_number}
 use Rattle.loop_tree.specs.Tree.{LoopView, loops, IsLoopTree}
 use Rattle.scale_base.specs.declared.fragments.Mark.{Mark}
 use Rattle.scale_base.specs.declared.fragments.Mark.TheVariants.{Switch, Exit, Reset, Count}

@@ -1,16 +1,14 @@
 //! The counted loops, and why they can't be counted.
 
-ghost use Rattle.std.specs.Prelude.{◌≡◌, ◌+◌, ◌<◌, ◌≤◌, ◌↔◌, ℕ, true, length, Some, None, IfOk, OnOk};
+ghost use Rattle.std.specs.Prelude.{◌≡◌, ◌+◌, ◌<◌, ◌≤◌, ◌↔◌, ℕ, true, length, Some, None, IfOk, OnOk, Bool, slice_index};
 ghost use Rattle.scale_base.specs.Answer.{AnswersBy};
 ghost use Rattle.code_graph.specs.FlowGraph.{IsFlowGraph};
 ghost use Rattle.loop_tree.specs.Tree.{IsLoopTree};
-ghost use Rattle.std.specs.Prelude.{Bool, slice_index};
 ghost use Rattle.scale_sites.specs.Counters.{goes_on, counted_loops, IsUncountable, IsFirstUncountable, HasNone, AreCounters};
 
 use code_graph::CodeGraph;
-use cost_theory::EdgeKind;
 use loop_tree::LoopTree;
-use scale_base::{NoMemory, Refusal, Stop};
+use scale_base::{EdgeKind, NoMemory, Refusal, Stop};
 use std::alloc::Global;
 use std::marker::Model;
 

@@ -4,7 +4,7 @@ ghost use Rattle.std.specs.Prelude.{◌≡◌, ◌+◌, ◌*◌, ◌<◌, ◌≤
 ghost use Rattle.scale_base.specs.declared.stepping.Class.{Class};
 ghost use Rattle.power_model.specs.Price.{cycles_of};
 ghost use Rattle.cost_theory.specs.Graph.{any_below};
-ghost use Rattle.graph_runs.specs.EdgeCosts.{cost_of};
+ghost use Rattle.code_text.specs.EdgeCosts.{cost_of};
 ghost use Rattle.code_graph.specs.FlowGraph.{graph as graph_seen, IsFlowGraph};
 ghost use Rattle.loop_tree.specs.Tree.{loops, IsLoopTree};
 ghost use Rattle.scale_sites.specs.Counters.{counted_loops};
@@ -16,11 +16,10 @@ use crate::cost;
 use crate::counting::CounterList;
 use crate::edge_marks::{Way, edge_marks};
 use code_graph::{CodeGraph, Weights};
-use cost_theory::EdgeKind;
 use loop_tree::LoopTree;
-use natural_loops::node_at;
+use loop_tree::node_at;
 use power_model::Costs;
-use scale_base::{Class, Mark, NoMemory};
+use scale_base::{Class, EdgeKind, Mark, NoMemory};
 use std::alloc::Global;
 use std::marker::Model;
 

@@ -2,8 +2,7 @@
 use Rattle.std.proofs.Common.{◌≡◌, ℕ, List, Ok, arith}
 use Rattle.scale_base.specs.Image.{Image, image_of}
 use Rattle.scale_base.proofs.Laws.{contents-are}
-use Rattle.elf_patch.specs.Stored.{IsStubBase}
-use Rattle.stored_laws.specs.Held.{held_base}
+use Rattle.elf_patch.specs.Stored.{IsStubBase, held_base}
 use Rattle.stored_laws.proofs.Laws.{held_place, file_of}
 
 -- there is one lowest place

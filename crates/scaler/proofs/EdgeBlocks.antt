@@ -4,12 +4,12 @@ use Rattle.std.specs.Prelude.{All}
 use Rattle.std.proofs.lemmas.Bool.{eq-eqb, ne_eqb}
 use Rattle.std.proofs.lemmas.List.Elements.{All-nil, All-cons, All-append}
 use Rattle.scale_base.specs.declared.fragments.Fragment.{Fragment}
-use Rattle.cost_theory.specs.declared.edges.Edge.{Edge}
-use Rattle.cost_theory.specs.declared.edges.Word.{Word}
-use Rattle.cost_theory.specs.declared.edges.Word.TheVariants.{Branch, Goto, CallOf, Back, Ends, MayEnd, Breaks, Straight, Bad}
+use Rattle.scale_base.specs.declared.edges.Edge.{Edge}
+use Rattle.cost_theory.specs.declared.flow.Flow.{Flow}
+use Rattle.cost_theory.specs.declared.flow.Flow.TheVariants as flow
 use Rattle.cost_theory.specs.Reached.{Code, edges_of, edge_at, call_returns}
 use Rattle.cost_theory.proofs.Laws.{Within, get_within, within_get, within_flat, edges-at, some_get}
-use Rattle.graph_runs.specs.Text.{Text, kind_at}
+use Rattle.code_text.specs.Text.{Text, kind_at}
 use Rattle.code_graph.specs.FlowGraph.{FlowGraph, IsGraphOf}
 use Rattle.stub_writer.specs.declared.site.StubEdge.{StubEdge}
 use Rattle.stub_writer.specs.Sites.{kind_number, fragments_by}
@@ -17,17 +17,17 @@ use Rattle.scaler.specs.Markings.{IsMarkedEdge, AreMarkedEdges}
 
 -- ---- the edges of a word
 
-few_edges : (w : Word) (u : ℕ) (b : Bool) → length (edges_of w u b) ≤ 2
-few_edges (Branch to) u b = omega arith
-few_edges (Goto to) u b = omega arith
-few_edges (CallOf to) u true = omega arith
-few_edges (CallOf to) u false = omega arith
-few_edges Back u b = omega arith
-few_edges Ends u b = omega arith
-few_edges MayEnd u b = omega arith
-few_edges Breaks u b = omega arith
-few_edges Straight u b = omega arith
-few_edges Bad u b = omega arith
+few_edges : (w : Flow) (u : ℕ) (b : Bool) → length (edges_of w u b) ≤ 2
+few_edges (flow.Branch to) u b = omega arith
+few_edges (flow.Jump to) u b = omega arith
+few_edges (flow.Call to) u true = omega arith
+few_edges (flow.Call to) u false = omega arith
+few_edges flow.Return u b = omega arith
+few_edges flow.Exit u b = omega arith
+few_edges flow.MayExit u b = omega arith
+few_edges flow.Breakpoint u b = omega arith
+few_edges flow.Next u b = omega arith
+few_edges flow.Refused u b = omega arith
 
 -- two of one kind stand at one place
 one_place : (x : Edge) (i j : ℕ) (a b : Edge) → slice_get (x ∷ []) i ≡ Some a → slice_get (x ∷ []) j ≡ Some b → i ≡ j
@@ -44,17 +44,17 @@ two_places x y off zero (suc (suc j)) a b g h e = let bad : ⊥ = cc in absurd b
 two_places x y off (suc zero) (suc (suc j)) a b g h e = let bad : ⊥ = cc in absurd bad
 two_places x y off (suc (suc i)) j a b g h e = let bad : ⊥ = cc in absurd bad
 
-word_places : (w : Word) (u : ℕ) (r : Bool) (i j : ℕ) (a b : Edge) → slice_get (edges_of w u r) i ≡ Some a → slice_get (edges_of w u r) j ≡ Some b → kind_number a.kind ≡ kind_number b.kind → i ≡ j
-word_places (Branch to) u r i j a b g h e = two_places _ _ (λ q. let bad : ⊥ = omega (arith, q) in bad) i j a b g h e
-word_places (Goto to) u r i j a b g h e = one_place _ i j a b g h
-word_places (CallOf to) u true i j a b g h e = two_places _ _ (λ q. let bad : ⊥ = omega (arith, q) in bad) i j a b g h e
-word_places (CallOf to) u false i j a b g h e = one_place _ i j a b g h
-word_places Back u r i j a b g h e = one_place _ i j a b g h
-word_places Ends u r i j a b g h e = one_place _ i j a b g h
-word_places MayEnd u r i j a b g h e = two_places _ _ (λ q. let bad : ⊥ = omega (arith, q) in bad) i j a b g h e
-word_places Breaks u r i j a b g h e = one_place _ i j a b g h
-word_places Straight u r i j a b g h e = one_place _ i j a b g h
-word_places Bad u r i j a b g h e = let bad : ⊥ = cc in absurd bad
+word_places : (w : Flow) (u : ℕ) (r : Bool) (i j : ℕ) (a b : Edge) → slice_get (edges_of w u r) i ≡ Some a → slice_get (edges_of w u r) j ≡ Some b → kind_number a.kind ≡ kind_number b.kind → i ≡ j
+word_places (flow.Branch to) u r i j a b g h e = two_places _ _ (λ q. let bad : ⊥ = omega (arith, q) in bad) i j a b g h e
+word_places (flow.Jump to) u r i j a b g h e = one_place _ i j a b g h
+word_places (flow.Call to) u true i j a b g h e = two_places _ _ (λ q. let bad : ⊥ = omega (arith, q) in bad) i j a b g h e
+word_places (flow.Call to) u false i j a b g h e = one_place _ i j a b g h
+word_places flow.Return u r i j a b g h e = one_place _ i j a b g h
+word_places flow.Exit u r i j a b g h e = one_place _ i j a b g h
+word_places flow.MayExit u r i j a b g h e = two_places _ _ (λ q. let bad : ⊥ = omega (arith, q) in bad) i j a b g h e
+word_places flow.Breakpoint u r i j a b g h e = one_place _ i j a b g h
+word_places flow.Next u r i j a b g h e = one_place _ i j a b g h
+word_places flow.Refused u r i j a b g h e = let bad : ⊥ = cc in absurd bad
 
 -- ---- the edges of all nodes
 

@@ -16,13 +16,13 @@ use Rattle.toml.specs.Data.{Members}
 use Rattle.table_keys.specs.Keys.{document_of, or_refuse, none_or_refuse, least_unknown, ◌>>=◌}
 use Rattle.loop_file.specs.declared.notes.LoopNote.{LoopNote}
 use Rattle.loop_file.specs.Loops.{read_loops, notes_of, note_of, notes_from, few_loops, loop_version, file_keys, loop_tables}
-use Rattle.cost_theory.specs.declared.edges.Edge.{Edge}
-use Rattle.cost_theory.specs.declared.edges.EdgeKind.TheVariants.{End}
+use Rattle.scale_base.specs.declared.edges.Edge.{Edge}
+use Rattle.scale_base.specs.declared.edges.EdgeKind.TheVariants.{End}
 use Rattle.cost_theory.specs.Graph.{Loops}
 use Rattle.cost_theory.specs.Worst.{Numbers}
 use Rattle.least_laws.specs.Charged.{Charged}
 use Rattle.code_graph.specs.FlowGraph.{FlowGraph, graph}
-use Rattle.natural_loops.specs.Noted.{node_address}
+use Rattle.loop_tree.specs.Noted.{node_address}
 use Rattle.loop_tree.specs.Tree.{LoopView, loops, IsTreeOf}
 use Rattle.worst_cycles.specs.Worst.{slack_at}
 use Rattle.level_tables.specs.Tables as tables

@@ -4,7 +4,7 @@ use Rattle.std.specs.Prelude.{All}
 use Rattle.std.proofs.lemmas.List.Elements.{All-nil, All-cons, All-append}
 use Rattle.scale_base.specs.declared.fragments.Fragment.{Fragment}
 use Rattle.scale_base.specs.declared.plan.SiteLine.{SiteLine}
-use Rattle.cost_theory.specs.declared.edges.Edge.{Edge}
+use Rattle.scale_base.specs.declared.edges.Edge.{Edge}
 use Rattle.scale_sites.specs.Counters.{counted_loops}
 use Rattle.rewritten_runs.specs.Stubs.{marks_by_slack, fragments_at}
 use Rattle.scaler.specs.Planned.{HasLines, IsSitesKind, line_of, lines_from}

@@ -6,7 +6,7 @@ use Rattle.std.proofs.lemmas.List.Elements.{All-map}
 use Rattle.std.proofs.lemmas.Option.{slice_get_within, get_or_from_slice_get}
 use Rattle.scale_base.specs.declared.fragments.Fragment.{Fragment}
 use Rattle.least_laws.specs.Charged.{Charged}
-use Rattle.natural_loops.specs.Noted.{node_address}
+use Rattle.loop_tree.specs.Noted.{node_address}
 use Rattle.stub_writer.specs.Fragments.{IsFragment, IsShadow}
 use Rattle.rewritten_runs.proofs.Laws.{in_get, set_distinct, shift_fits, rows_count, depth, few_marks, edge_is, IsMarkOf, program_is, graph_program, marks_of_edge, marked_led, counted_is, loop_count, shadow_of}
 use Rattle.scaler.proofs.EdgeBlocks.{map_none}
@@ -19,15 +19,15 @@ use Rattle.power_model.specs.Numbers.{PowerModel}
 use Rattle.cost_theory.specs.Graph.{Graph, Loops, IsWalk, end_of, leaves}
 use Rattle.cost_theory.specs.Accepted.{IsInBody, StaysWithin}
 use Rattle.cost_theory.specs.Worst.{Numbers}
-use Rattle.cost_theory.specs.declared.edges.Edge.{Edge}
-use Rattle.cost_theory.specs.declared.edges.EdgeKind.{EdgeKind}
-use Rattle.cost_theory.specs.declared.edges.EdgeKind.TheVariants.{Taken, Untaken, Jump, Next, CallNext, End}
-use Rattle.cost_theory.specs.declared.edges.Word.{Word}
-use Rattle.cost_theory.specs.declared.edges.Word.TheVariants.{Branch, Goto, CallOf, Back, Ends, MayEnd, Breaks, Straight, Bad}
+use Rattle.scale_base.specs.declared.edges.Edge.{Edge}
+use Rattle.scale_base.specs.declared.edges.EdgeKind.{EdgeKind}
+use Rattle.scale_base.specs.declared.edges.EdgeKind.TheVariants.{Taken, Untaken, Jump, Next, CallNext, End}
+use Rattle.cost_theory.specs.declared.flow.Flow.{Flow}
+use Rattle.cost_theory.specs.declared.flow.Flow.TheVariants as flow
 use Rattle.cost_theory.specs.Reached.{Code, place_after, edge_at, edge_to, edges_of, call_returns}
 use Rattle.cost_theory.proofs.Laws.{edge_word, source_reached, some_get, Within, accepted_entered, header_held}
-use Rattle.graph_runs.specs.Text.{Text, text_of, instr_at, instr_kind, kind_at, known, ecall_kind}
-use Rattle.graph_runs.specs.RunMoves.{text_graph}
+use Rattle.code_text.specs.Text.{Text, text_of, instr_at, instr_kind, kind_at, known, ecall_kind}
+use Rattle.code_text.specs.TextGraph.{text_graph}
 use Rattle.code_graph.specs.FlowGraph.{FlowGraph}
 use Rattle.loop_file.specs.declared.notes.LoopNote.{LoopNote}
 use Rattle.loop_file.specs.Kept.{noted_loops}
@@ -43,20 +43,20 @@ use Rattle.scaler.specs.Planned.{IsSitesKind}
 -- ---- the way on
 
 -- a word with an edge that goes on leads to the next word alone
-one_way : (w : Word) (u : ℕ) (r : Bool) (x y : Edge) (b : ℕ) → Within x (edges_of w u r) → goes_on x.kind ≡ true → Within y (edges_of w u r) → place_after y.kind y.to ≡ Some b → b ≡ u + 4
-one_way (Branch to) u r x y b h on k e = ⊎_elim (λ q. let f : false ≡ true = ap (λ (z : Edge). goes_on z.kind) q ∙ on in let bad : ⊥ = cc in absurd bad)
+one_way : (w : Flow) (u : ℕ) (r : Bool) (x y : Edge) (b : ℕ) → Within x (edges_of w u r) → goes_on x.kind ≡ true → Within y (edges_of w u r) → place_after y.kind y.to ≡ Some b → b ≡ u + 4
+one_way (flow.Branch to) u r x y b h on k e = ⊎_elim (λ q. let f : false ≡ true = ap (λ (z : Edge). goes_on z.kind) q ∙ on in let bad : ⊥ = cc in absurd bad)
     (λ m. ⊎_elim (λ q. let f : false ≡ true = ap (λ (z : Edge). goes_on z.kind) q ∙ on in let bad : ⊥ = cc in absurd bad) (λ n. absurd n) m) h
-one_way (Goto to) u r x y b h on k e = ⊎_elim (λ q. let f : false ≡ true = ap (λ (z : Edge). goes_on z.kind) q ∙ on in let bad : ⊥ = cc in absurd bad) (λ n. absurd n) h
-one_way (CallOf to) u true x y b h on k e = ⊎_elim (λ q. let f : Some (u + 4) ≡ Some b = ap (λ (z : Edge). place_after z.kind z.to) q ∙ e in cc)
+one_way (flow.Jump to) u r x y b h on k e = ⊎_elim (λ q. let f : false ≡ true = ap (λ (z : Edge). goes_on z.kind) q ∙ on in let bad : ⊥ = cc in absurd bad) (λ n. absurd n) h
+one_way (flow.Call to) u true x y b h on k e = ⊎_elim (λ q. let f : Some (u + 4) ≡ Some b = ap (λ (z : Edge). place_after z.kind z.to) q ∙ e in cc)
     (λ m. ⊎_elim (λ q. let f : None ≡ Some b = ap (λ (z : Edge). place_after z.kind z.to) q ∙ e in let bad : ⊥ = cc in absurd bad) (λ n. absurd n) m) k
-one_way (CallOf to) u false x y b h on k e = ⊎_elim (λ q. let f : false ≡ true = ap (λ (z : Edge). goes_on z.kind) q ∙ on in let bad : ⊥ = cc in absurd bad) (λ n. absurd n) h
-one_way Back u r x y b h on k e = ⊎_elim (λ q. let f : false ≡ true = ap (λ (z : Edge). goes_on z.kind) q ∙ on in let bad : ⊥ = cc in absurd bad) (λ n. absurd n) h
-one_way Ends u r x y b h on k e = ⊎_elim (λ q. let f : false ≡ true = ap (λ (z : Edge). goes_on z.kind) q ∙ on in let bad : ⊥ = cc in absurd bad) (λ n. absurd n) h
-one_way MayEnd u r x y b h on k e = ⊎_elim (λ q. let f : Some (u + 4) ≡ Some b = ap (λ (z : Edge). place_after z.kind z.to) q ∙ e in cc)
+one_way (flow.Call to) u false x y b h on k e = ⊎_elim (λ q. let f : false ≡ true = ap (λ (z : Edge). goes_on z.kind) q ∙ on in let bad : ⊥ = cc in absurd bad) (λ n. absurd n) h
+one_way flow.Return u r x y b h on k e = ⊎_elim (λ q. let f : false ≡ true = ap (λ (z : Edge). goes_on z.kind) q ∙ on in let bad : ⊥ = cc in absurd bad) (λ n. absurd n) h
+one_way flow.Exit u r x y b h on k e = ⊎_elim (λ q. let f : false ≡ true = ap (λ (z : Edge). goes_on z.kind) q ∙ on in let bad : ⊥ = cc in absurd bad) (λ n. absurd n) h
+one_way flow.MayExit u r x y b h on k e = ⊎_elim (λ q. let f : Some (u + 4) ≡ Some b = ap (λ (z : Edge). place_after z.kind z.to) q ∙ e in cc)
     (λ m. ⊎_elim (λ q. let f : None ≡ Some b = ap (λ (z : Edge). place_after z.kind z.to) q ∙ e in let bad : ⊥ = cc in absurd bad) (λ n. absurd n) m) k
-one_way Breaks u r x y b h on k e = ⊎_elim (λ q. let f : false ≡ true = ap (λ (z : Edge). goes_on z.kind) q ∙ on in let bad : ⊥ = cc in absurd bad) (λ n. absurd n) h
-one_way Straight u r x y b h on k e = ⊎_elim (λ q. let f : Some (u + 4) ≡ Some b = ap (λ (z : Edge). place_after z.kind z.to) q ∙ e in cc) (λ n. absurd n) k
-one_way Bad u r x y b h on k e = absurd h
+one_way flow.Breakpoint u r x y b h on k e = ⊎_elim (λ q. let f : false ≡ true = ap (λ (z : Edge). goes_on z.kind) q ∙ on in let bad : ⊥ = cc in absurd bad) (λ n. absurd n) h
+one_way flow.Next u r x y b h on k e = ⊎_elim (λ q. let f : Some (u + 4) ≡ Some b = ap (λ (z : Edge). place_after z.kind z.to) q ∙ e in cc) (λ n. absurd n) k
+one_way flow.Refused u r x y b h on k e = absurd h
 
 -- ---- words of the edges that are marked
 
@@ -66,16 +66,16 @@ IsMarkable (instr.Branch op rs1 rs2 offset) = Unit {0}
 IsMarkable (instr.Jal rd offset) = rd ≡ 0
 IsMarkable i = ⊥
 
-straight_off : (u : ℕ) (r : Bool) (x : Edge) → Within x (edges_of Straight u r) → IsSitesKind x.kind → ⊥
+straight_off : (u : ℕ) (r : Bool) (x : Edge) → Within x (edges_of flow.Next u r) → IsSitesKind x.kind → ⊥
 straight_off u r x h k = ⊎_elim (λ q. subst (λ (z : Edge). IsSitesKind z.kind) (sym q) k) (λ n. n) h
 
 end_off : (u : ℕ) (x : Edge) → Within x (record { at = u; kind = End; to = u } ∷ []) → IsSitesKind x.kind → ⊥
 end_off u x h k = ⊎_elim (λ q. subst (λ (z : Edge). IsSitesKind z.kind) (sym q) k) (λ n. n) h
 
-may_off : (u : ℕ) (r : Bool) (x : Edge) → Within x (edges_of MayEnd u r) → IsSitesKind x.kind → ⊥
+may_off : (u : ℕ) (r : Bool) (x : Edge) → Within x (edges_of flow.MayExit u r) → IsSitesKind x.kind → ⊥
 may_off u r x h k = ⊎_elim (λ q. subst (λ (z : Edge). IsSitesKind z.kind) (sym q) k) (λ m. ⊎_elim (λ q. subst (λ (z : Edge). IsSitesKind z.kind) (sym q) k) (λ n. n) m) h
 
-call_off : (to u : ℕ) (r : Bool) (x : Edge) → Within x (edges_of (CallOf to) u r) → IsSitesKind x.kind → ⊥
+call_off : (to u : ℕ) (r : Bool) (x : Edge) → Within x (edges_of (flow.Call to) u r) → IsSitesKind x.kind → ⊥
 call_off to u true x h k = ⊎_elim (λ q. subst (λ (z : Edge). IsSitesKind z.kind) (sym q) k) (λ m. ⊎_elim (λ q. subst (λ (z : Edge). IsSitesKind z.kind) (sym q) k) (λ n. n) m) h
 call_off to u false x h k = end_off u x h k
 
@@ -87,12 +87,12 @@ markable t u (instr.Jal rd offset) r x h k = by (rd == 0) refl (rd == 1) refl
     by : (a : Bool) → (rd == 0) ≡ a → (b : Bool) → (rd == 1) ≡ b → rd ≡ 0
     by true is b other = eqb-true rd 0 is
     by false is true other = absurd (call_off (moved_by u offset) u r x
-        (subst (λ b. Within x (edges_of (cond b (CallOf (moved_by u offset)) Bad) u r)) other (subst (λ a. Within x (edges_of (cond a (Goto (moved_by u offset)) (cond (rd == 1) (CallOf (moved_by u offset)) Bad)) u r)) is h)) k)
+        (subst (λ b. Within x (edges_of (cond b (flow.Call (moved_by u offset)) flow.Refused) u r)) other (subst (λ a. Within x (edges_of (cond a (flow.Jump (moved_by u offset)) (cond (rd == 1) (flow.Call (moved_by u offset)) flow.Refused)) u r)) is h)) k)
     by false is false other = absurd
-        (subst (λ b. Within x (edges_of (cond b (CallOf (moved_by u offset)) Bad) u r)) other (subst (λ a. Within x (edges_of (cond a (Goto (moved_by u offset)) (cond (rd == 1) (CallOf (moved_by u offset)) Bad)) u r)) is h))
+        (subst (λ b. Within x (edges_of (cond b (flow.Call (moved_by u offset)) flow.Refused) u r)) other (subst (λ a. Within x (edges_of (cond a (flow.Jump (moved_by u offset)) (cond (rd == 1) (flow.Call (moved_by u offset)) flow.Refused)) u r)) is h))
 markable t u (instr.Jalr rd rs1 offset) r x h k = by ((rd == 0) && (rs1 == 1) && Rattle.std.specs.Ordering.int_eq offset (Rattle.std.specs.Prelude.pos 0)) h
   where
-    by : (b : Bool) → Within x (edges_of (cond b Back Bad) u r) → ⊥
+    by : (b : Bool) → Within x (edges_of (cond b flow.Return flow.Refused) u r) → ⊥
     by true w = end_off u x w k
     by false w = w
 markable t u (instr.Branch op rs1 rs2 offset) r x h k = tt
@@ -103,7 +103,7 @@ markable t u (instr.Reg op rd rs1 rs2) r x h k = straight_off u r x h k
 markable t u (instr.Fence rd rs1 imm) r x h k = straight_off u r x h k
 markable t u instr.Ecall r x h k = by (known t u) h
   where
-    by_number : (b : Bool) → Within x (edges_of (cond b Ends Straight) u r) → ⊥
+    by_number : (b : Bool) → Within x (edges_of (cond b flow.Exit flow.Next) u r) → ⊥
     by_number true w = end_off u x w k
     by_number false w = straight_off u r x w k
 

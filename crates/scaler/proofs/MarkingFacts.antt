@@ -19,18 +19,18 @@ use Rattle.power_model.specs.Slowest.{slowest_of}
 use Rattle.cost_theory.specs.Accepted.{AreWeights}
 use Rattle.cost_theory.specs.Graph.{Graph, Loops, only, sum_below, is_back, is_header}
 use Rattle.cost_theory.specs.Laws.{IsAnalyzed}
-use Rattle.call_orders.specs.Arcs.{number_in_place}
+use Rattle.graph_algorithms.specs.Arcs.{number_in_place}
 use Rattle.least_laws.specs.Charged.{AreCharged}
 use Rattle.least_cycles.specs.Found.{LeastView, HasWorstInRange, IsLeastOf, AreSmallLeast, HoldsLeast}
 use Rattle.cost_theory.specs.Worst.{Numbers, AreNumbers, cost, turn_back, slack, rest}
 use Rattle.cost_theory.proofs.Laws.{sum-none, headers-distinct, accepted_entered, left-worst, turns-worst, call_order, plain_order, iteration-worst, rest-worst}
 use Rattle.cost_theory.proofs.Laws as theory
-use Rattle.graph_runs.specs.EdgeCosts.{cost_of}
-use Rattle.graph_runs.specs.Text.{text_of}
+use Rattle.code_text.specs.EdgeCosts.{cost_of}
+use Rattle.code_text.specs.Text.{text_of}
 use Rattle.code_graph.specs.FlowGraph.{FlowGraph, graph, IsGraphOf}
 use Rattle.loop_file.specs.declared.notes.LoopNote.{LoopNote}
 use Rattle.loop_file.specs.Kept.{noted_loops}
-use Rattle.natural_loops.specs.Noted.{node_address}
+use Rattle.loop_tree.specs.Noted.{node_address}
 use Rattle.loop_tree.specs.Tree.{LoopView, loops, IsTreeOf}
 use Rattle.worst_cycles.specs.Worst.{WorstView, by_edge, slack_at, rest_at, HoldsLeft, HasLeftSizes, IsLeftOf, IsWorstFound}
 use Rattle.scale_sites.specs.Counters.{AreCounters, counted_loops}

@@ -71,7 +71,7 @@ module _ (power : PowerModel) (image : Image) (v : FlowGraph) (t : LoopView) (pl
   loops_are k h =
       let at = in_get k (counted_loops t) h in
       let lt = counted_loop v t is.tree.0 at.0 k is.tree.1 at.1 in
-      let same = Rattle.std.proofs.lemmas.List.length-map t.headers (Rattle.natural_loops.specs.Noted.node_address v) in
+      let same = Rattle.std.proofs.lemmas.List.length-map t.headers (Rattle.loop_tree.specs.Noted.node_address v) in
       omega (arith, lt, same)
 
   pub marking_switches : (e i : ℕ) (mark : Mark) → e < length v.code.edges → slice_get (marks_at_edge m.sites e) i ≡ Some mark → IsLoud mark → switches (marks_at_edge m.sites e) ≡ true

@@ -18,18 +18,17 @@ use Rattle.power_model.specs.Slowest.{slowest_of, is_in_time}
 use Rattle.power_model.specs.declared.power.Costs.{Costs}
 use Rattle.machine_file.specs.Machine.{read_machine}
 use Rattle.machine_file.proofs.Laws.{model-from_bytes}
-use Rattle.elf_patch.specs.Stored.{stored_image}
-use Rattle.stored_laws.specs.Held.{held_base}
+use Rattle.elf_patch.specs.Stored.{stored_image, held_base}
 use Rattle.stored_laws.proofs.Laws.{a_held_image}
 use Rattle.machine_laws.proofs.Laws.{found_in}
 use Rattle.loop_tree.specs.Tree.{loops as tree_loops}
-use Rattle.graph_runs.specs.Text.{text_of}
+use Rattle.code_text.specs.Text.{text_of}
 use Rattle.graph_runs.specs.KeptSteps.{Carried}
-use Rattle.graph_runs.specs.KeptRuns.{kept_of}
+use Rattle.graph_runs.specs.KeptRuns.{kept_of, IsKeptUpTo}
 use Rattle.graph_runs.proofs.Laws.{image_runs_are_below, image_runs_end}
 use Rattle.loop_file.specs.declared.notes.LoopNote.{LoopNote}
 use Rattle.loop_file.specs.Loops.{read_loops}
-use Rattle.loop_file.specs.Kept.{noted_loops, IsKeptUpTo}
+use Rattle.loop_file.specs.Kept.{noted_loops}
 use Rattle.scaler.specs.Held.{IsHeld, IsProgramHeld, IsHeldProgram, Then, held_at, held_from, held_file, held_summary, unscaled}
 use Rattle.scaler.specs.Runs.{IsHeldSafely, KeptAsPrinted, KeptRunsEndAsPrinted}
 use Rattle.scaler.proofs.Bases.{file_is}
@@ -144,7 +143,7 @@ safe image machine loops stored summary short _ _ h =
     let program = program_of (text_of original) p.code notes p.tree p.code_is p.tree_is in
     let carried = λ (input : List ℕ) (n : ℕ) (c : Carried) (k : kept_of original levels input (noted_loops notes) n ≡ Some c).
     kept_by_tree p.code notes p.tree p.tree_is original levels input n c k in
-    let below = λ (input : List ℕ) (n : ℕ) (k : IsKeptUpTo original levels input notes n).
+    let below = λ (input : List ℕ) (n : ℕ) (k : IsKeptUpTo original levels input (noted_loops notes) n).
     image_runs_are_below image original levels input p.code.code (tree_loops p.code p.tree) (noted_loops notes).inside (cycles_of power.costs) p.numbers went.original_is program p.numbers_are
     n k.carried (carried input n k.carried k.kept) in
     let kept : KeptAsPrinted power original notes held (held_summary power worst level) = λ input n k.

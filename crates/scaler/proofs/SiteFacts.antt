@@ -10,7 +10,7 @@ use Rattle.power_model.specs.Numbers.{PowerModel}
 use Rattle.power_model.specs.Price.{cycles_of}
 use Rattle.cost_theory.specs.Graph.{Graph, any_below}
 use Rattle.cost_theory.specs.Worst.{Numbers, AreNumbers}
-use Rattle.graph_runs.specs.Text.{text_of}
+use Rattle.code_text.specs.Text.{text_of}
 use Rattle.code_graph.specs.FlowGraph.{FlowGraph, graph, IsGraphOf}
 use Rattle.loop_tree.specs.Tree.{LoopView, loops}
 use Rattle.worst_cycles.specs.Worst.{WorstView, by_edge, slack_at, HoldsLeft, IsWorstFound}

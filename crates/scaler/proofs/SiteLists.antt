@@ -15,14 +15,14 @@ use Rattle.code_graph.proofs.Laws.{instr_stored}
 use Rattle.std.specs.List.{list_any}
 use Rattle.scale_base.specs.Arith.{moved_by}
 use Rattle.scale_base.specs.Word.{FieldsInRange, Encodes}
-use Rattle.cost_theory.specs.declared.edges.Edge.{Edge}
-use Rattle.cost_theory.specs.declared.edges.EdgeKind.{EdgeKind}
-use Rattle.cost_theory.specs.declared.edges.EdgeKind.TheVariants.{Taken, Untaken, Jump, Next, CallNext, End}
-use Rattle.cost_theory.specs.declared.edges.Word.TheVariants.{Goto}
+use Rattle.scale_base.specs.declared.edges.Edge.{Edge}
+use Rattle.scale_base.specs.declared.edges.EdgeKind.{EdgeKind}
+use Rattle.scale_base.specs.declared.edges.EdgeKind.TheVariants.{Taken, Untaken, Jump, Next, CallNext, End}
+use Rattle.cost_theory.specs.declared.flow.Flow.TheVariants as flow
 use Rattle.cost_theory.specs.Reached.{edge_at, edges_of, call_returns}
 use Rattle.cost_theory.proofs.Laws.{some_get, Within}
-use Rattle.graph_runs.specs.EdgeCosts.{edge_class, class_by}
-use Rattle.graph_runs.specs.Text.{text_of, instr_at, instr_kind, kind_at, is_text_address}
+use Rattle.code_text.specs.EdgeCosts.{edge_class, class_by}
+use Rattle.code_text.specs.Text.{text_of, instr_at, instr_kind, kind_at, is_text_address}
 use Rattle.code_graph.specs.FlowGraph.{FlowGraph, IsGraphOf}
 use Rattle.scale_sites.specs.Sites.{is_branch_kind, edge_branches}
 use Rattle.stored_runs.specs.Marks as stored
@@ -165,7 +165,7 @@ module _ (image : Image) (v : FlowGraph) (is : IsGraphOf (text_of image) v) (fra
       let u = edge_at (slice_get v.code.edges e) in
       let eq : here.edge ≡ x = (let a = here.get in cc) in
       let same : here.instr ≡ instr.Jal 0 offset = (let a = here.at in let b = ap (instr_at t) (ap edge_at get) ∙ at in cc) in
-      let w : Within here.edge (edges_of (Goto (moved_by u offset)) u (call_returns v.code (kind_at t u))) = subst (λ i. Within here.edge (edges_of (instr_kind t u i) u (call_returns v.code (kind_at t u)))) same here.within in
+      let w : Within here.edge (edges_of (flow.Jump (moved_by u offset)) u (call_returns v.code (kind_at t u))) = subst (λ i. Within here.edge (edges_of (instr_kind t u i) u (call_returns v.code (kind_at t u)))) same here.within in
       ap (λ (z : Edge). z.kind) (sym eq) ∙ ⊎_elim (λ q. sym (ap (λ (z : Edge). z.kind) q)) (λ n. absurd n) w
 
   way_is : (e at : ℕ) (x : Edge) (class : Class) (i : Instr) (es : List StubEdge) → IsMarkable i → instr_at (text_of image) at ≡ Some i → slice_get v.code.edges e ≡ Some x → x.at ≡ at → edge_class (text_of image) (Some x) ≡ Some class

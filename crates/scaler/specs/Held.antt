@@ -12,12 +12,11 @@ use Rattle.power_model.specs.Slowest.{slowest_of, fastest}
 use Rattle.machine_file.specs.Machine.{read_machine}
 use Rattle.loop_file.specs.declared.notes.LoopNote.{LoopNote}
 use Rattle.loop_file.specs.Loops.{read_loops}
-use Rattle.elf_patch.specs.Stored.{stored_image}
-use Rattle.stored_laws.specs.Held.{held_base}
+use Rattle.elf_patch.specs.Stored.{stored_image, held_base}
 use Rattle.cost_theory.specs.Worst.{Numbers, AreNumbers}
-use Rattle.graph_runs.specs.Text.{text_of}
-use Rattle.graph_runs.specs.EdgeCosts.{weights}
-use Rattle.graph_runs.specs.RunMoves.{text_graph}
+use Rattle.code_text.specs.Text.{text_of}
+use Rattle.code_text.specs.EdgeCosts.{weights}
+use Rattle.code_text.specs.TextGraph.{text_graph}
 use Rattle.code_graph.specs.FlowGraph.{FlowGraph, IsGraphOf}
 use Rattle.code_graph.specs.Refused.{IsRefusedBy}
 use Rattle.loop_tree.specs.Tree.{LoopView, loops, IsTreeOf, IsTreeRefusal}

@@ -6,10 +6,10 @@ use Rattle.scale_base.specs.declared.plan.SiteLine.{SiteLine}
 use Rattle.scale_base.specs.Image.{Image}
 use Rattle.power_model.specs.Numbers.{PowerModel}
 use Rattle.least_laws.specs.Charged.{Charged, to_end_after}
-use Rattle.cost_theory.specs.declared.edges.Edge.{Edge}
+use Rattle.scale_base.specs.declared.edges.Edge.{Edge}
 use Rattle.cost_theory.specs.Worst.{Numbers}
 use Rattle.code_graph.specs.FlowGraph.{FlowGraph, graph, IsGraphOf}
-use Rattle.graph_runs.specs.Text.{text_of}
+use Rattle.code_text.specs.Text.{text_of}
 use Rattle.level_tables.specs.Tables as tables
 use Rattle.loop_tree.specs.Tree.{LoopView, loops, IsLoopTree}
 use Rattle.scale_base.specs.declared.fragments.Mark.{Mark}

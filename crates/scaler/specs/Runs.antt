@@ -10,8 +10,9 @@ use Rattle.power_model.specs.Slowest.{slowest_of}
 use Rattle.machine_file.specs.Machine.{read_machine}
 use Rattle.loop_file.specs.declared.notes.LoopNote.{LoopNote}
 use Rattle.loop_file.specs.Loops.{read_loops}
-use Rattle.loop_file.specs.Kept.{IsKeptUpTo}
+use Rattle.graph_runs.specs.KeptRuns.{IsKeptUpTo}
 use Rattle.rewritten_runs.specs.Prices.{price_of}
+use Rattle.loop_file.specs.Kept.{noted_loops}
 
 -- the same steps, which led to states that differ in the window at most, and stand alike
 pub record IsSameRun (one other : Run) : Type 0 where
@@ -38,12 +39,12 @@ pub record IsAsPrinted (power : PowerModel) (summary : Summary) (paid : RunPrice
 -- as long as the run is kept
 abbrev pub KeptAsPrinted : PowerModel → Image → List LoopNote → Image → Summary → Type 0
 KeptAsPrinted power original notes held summary = (input : List ℕ) (n : ℕ)
-    → IsKeptUpTo original (length power.levels) input notes n → IsAsPrinted power summary (price_of power held input n)
+    → IsKeptUpTo original (length power.levels) input (noted_loops notes) n → IsAsPrinted power summary (price_of power held input n)
 
 -- A kept run that goes on has taken at most as many steps as the printed cycles are, so each run that stays kept ends.
 abbrev pub KeptRunsEndAsPrinted : PowerModel → Image → List LoopNote → Image → Summary → Type 0
 KeptRunsEndAsPrinted power original notes held summary = (input : List ℕ) (n : ℕ)
-    → IsKeptUpTo original (length power.levels) input notes n → (run_of held (length power.levels) input n).standing ≡ GoesOn → n ≤ summary.worst
+    → IsKeptUpTo original (length power.levels) input (noted_loops notes) n → (run_of held (length power.levels) input n).standing ≡ GoesOn → n ≤ summary.worst
 
 -- The bytes of an image, of a machine file, of a loop file and of the stored image: the machine, the notes and the two images that they are.
 -- The images' runs are alike, and those that are kept end in time.

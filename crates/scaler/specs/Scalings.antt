@@ -10,7 +10,7 @@ use Rattle.elf_patch.specs.Stored.{IsStubBase}
 use Rattle.cost_theory.specs.Worst.{Numbers, AreNumbers}
 use Rattle.least_laws.specs.Charged.{Charged, AreCharged}
 use Rattle.code_graph.specs.FlowGraph.{FlowGraph, graph, IsGraphOf}
-use Rattle.graph_runs.specs.Text.{text_of}
+use Rattle.code_text.specs.Text.{text_of}
 use Rattle.loop_file.specs.Loops.{read_loops}
 use Rattle.loop_tree.specs.Tree.{LoopView, loops, IsTreeOf}
 use Rattle.machine_file.specs.Machine.{read_machine}

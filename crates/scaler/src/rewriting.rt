@@ -7,7 +7,7 @@ ghost use Rattle.scale_base.specs.Image.{Image, image_of};
 ghost use Rattle.power_model.specs.Numbers.{PowerModel, IsPowerModel};
 ghost use Rattle.scale_sites.specs.Counters.{counted_loops, AreCounters};
 ghost use Rattle.cost_theory.specs.Worst.{Numbers};
-ghost use Rattle.graph_runs.specs.Text.{text_of};
+ghost use Rattle.code_text.specs.Text.{text_of};
 ghost use Rattle.code_graph.specs.FlowGraph.{IsGraphOf};
 ghost use Rattle.loop_file.specs.declared.notes.LoopNote.{LoopNote};
 ghost use Rattle.loop_tree.specs.Tree.{IsLoopTree, IsTreeOf};

@@ -3,7 +3,7 @@
 ghost use Rattle.std.specs.Prelude.{◌≡◌, ◌≤◌, ◌<◌, ◌+◌, ◌*◌, ◌^◌, [], map, length, None, Ok, IfOk};
 ghost use Rattle.scale_base.specs.Answer.{Answers, AnswersBy};
 ghost use Rattle.power_model.specs.Price.{cycles_of, time_at};
-ghost use Rattle.graph_runs.specs.EdgeCosts.{cost_of};
+ghost use Rattle.code_text.specs.EdgeCosts.{cost_of};
 ghost use Rattle.scaler.specs.Held as held;
 ghost use Rattle.scaler.specs.Runs.{IsHeldSafely};
 

@@ -3,7 +3,7 @@
 ghost use Rattle.std.specs.Prelude.{◌≡◌, ◌<◌, ◌≤◌, ◌^◌, ℕ, true, length, slice_get, option_map, ◌+◌, None, Some, Ok, IfSome, IfOk};
 ghost use Rattle.scale_base.specs.Image.{image_of, is_word_address};
 ghost use Rattle.scale_base.specs.Word.{FieldsInRange};
-ghost use Rattle.graph_runs.specs.Text.{text_of, instr_at as instruction_at};
+ghost use Rattle.code_text.specs.Text.{text_of, instr_at as instruction_at};
 ghost use Rattle.scale_base.specs.declared.fragments.Mark.TheVariants as marks;
 ghost use Rattle.scale_sites.specs.Sites.{marks_at_edge};
 ghost use Rattle.scale_sites.specs.Weights.{switches};

@@ -1,6 +1,5 @@
 use crate::{plan, rewrite};
-use cost_theory::EdgeKind;
-use scale_base::{Fragment, Refusal, ScalePlan, Stop, Summary};
+use scale_base::{EdgeKind, Fragment, Refusal, ScalePlan, Stop, Summary};
 use std::alloc::Global;
 use std::test::Fail;
 

@@ -5,12 +5,12 @@ use Rattle.scale_base.specs.declared.ranges.Span.{Span}
 use Rattle.scale_base.specs.Spans.{overlap}
 use Rattle.scale_base.specs.Image.{Image, image_of, contents, stack, addresses_of}
 use Rattle.scale_base.proofs.Laws.{rules_kept, tables-kept, contents-are, parts_in_file, has_table}
-use Rattle.elf_patch.specs.Stored.{stored_image, text_end, window, IsStubBase}
+use Rattle.elf_patch.specs.Stored.{stored_image, text_end, window, IsStubBase, held_base}
 use Rattle.elf_patch.proofs.Laws.{page_at-mod, page_at-le, page_at-least}
 use Rattle.stored_laws.specs.StoredView.{IsStorable, stored_view}
 use Rattle.stored_laws.proofs.Fields.{stored-is}
 use Rattle.stored_laws.proofs.Whole.{law}
-use Rattle.stored_laws.specs.Held.{IsHeldImage, held_base, OfHeldImages}
+use Rattle.stored_laws.specs.Held.{IsHeldImage, OfHeldImages}
 use Rattle.stored_laws.proofs.Contents.{off_phoff, off_phnum, HasBytes, bytes_same, layout_is}
 
 -- ---- the base

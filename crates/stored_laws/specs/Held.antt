@@ -2,7 +2,7 @@
 use Rattle.std.specs.Prelude.{◌≡◌, ℕ, ◌≤◌, ◌<◌, ◌^◌, List, [], length, Some, None, Ok}
 use Rattle.scale_base.specs.Image.{Image, image_of, contents, loaded_byte}
 use Rattle.scale_base.specs.Layout.{layout_of}
-use Rattle.elf_patch.specs.Stored.{stored_image, page_from, text_end}
+use Rattle.elf_patch.specs.Stored.{stored_image, held_base}
 
 -- the file stored with an empty block at the base, and with this starting level
 abbrev pub empty_block_file : List ℕ → ℕ → ℕ → List ℕ
@@ -16,10 +16,6 @@ pub record IsHeldImage (file : List ℕ) (image : Image) (base start : ℕ) (hel
   pub layout : layout_of held ≡ record (layout_of image) { keyed = Some (record { from = base; to = base }) }
   pub keyed : held.keyed_segment ≡ Some (record { range = record { from = base; to = base }; start = start })
   pub text : held.text ≡ image.text
-
--- where the empty block of an image stands
-abbrev pub held_base : Image → ℕ
-held_base image = page_from (text_end image.text)
 
 -- Something is so of every accepted image without a key that a file of at most 4,194,304 bytes gives, and of what it is when it is held at
 -- a starting level: of the file, its image, the base of the empty block, the level, and the held image.

@@ -21,7 +21,7 @@ use Rattle.scale_base.specs.Run.{Run, Standing, GoesOn, HasExited, HasTrapped, b
 use Rattle.scale_base.specs.Run as runs
 use Rattle.scale_base.proofs.Laws.{run_step, step_zero}
 use Rattle.machine_laws.proofs.Laws.{step_length}
-use Rattle.graph_runs.specs.Text.{text_of}
+use Rattle.code_text.specs.Text.{text_of}
 use Rattle.graph_runs.proofs.Laws.{not_written, IsTrap, step_done}
 use Rattle.elf_patch.specs.Stored.{stored_image}
 use Rattle.stub_writer.specs.Stubs.{Site, Place, patches_from, block_bytes}

@@ -19,7 +19,7 @@ use Rattle.stored_laws.specs.StoredView.{IsStorable, over_file, insert_segment, 
 use Rattle.stored_laws.proofs.Laws.{text_place, law}
 use Rattle.machine_laws.proofs.Laws.{found_from_any, any_from_found, list_any-map, segments_of, part_word, in_part}
 use Rattle.machine_laws.proofs.Laws as texts
-use Rattle.graph_runs.specs.Text.{text_of}
+use Rattle.code_text.specs.Text.{text_of}
 use Rattle.graph_runs.specs.TextStates.{IsTextOf}
 use Rattle.graph_runs.proofs.Laws.{text_of_layout, word_within}
 use Rattle.stub_writer.specs.Stubs.{Site, jump, stub_len, patches_from, block_bytes}

@@ -1,6 +1,10 @@
 -- The lemmas of this crate that crates above may cite.
 pub use Rattle.stored_runs.proofs.Follow.{patched_runs, stubbed_patched}
-pub use Rattle.stored_runs.proofs.Frame.{frame}
+pub use Rattle.stored_runs.proofs.Frame.{frame, hidden}
 pub use Rattle.stored_runs.proofs.LegLaws.{cost_of_legs, long_legs, short_legs, text_of_legs}
 pub use Rattle.stored_runs.proofs.Meetings.{meetings_once}
 pub use Rattle.stored_runs.proofs.PatchedFrame.{key_below}
+pub use Rattle.stored_runs.proofs.LaidBytes.{byte_seen, laid}
+pub use Rattle.stored_runs.proofs.Placed.{patched_word, word_by, word_stays}
+pub use Rattle.stored_runs.proofs.SameStep.{SeeAlike, over, seen, step_alike}
+pub use Rattle.stored_runs.proofs.StoredBytes.{IsOff}

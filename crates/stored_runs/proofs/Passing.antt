@@ -22,7 +22,7 @@ use Rattle.scale_base.specs.State.{Setting, State, reg, word_at}
 use Rattle.scale_base.specs.Step.{Outcome, step, goes, executes, performs, branches, jumps}
 use Rattle.scale_base.specs.Run.{setting_of}
 use Rattle.machine_laws.proofs.Laws.{step_keyless, EndsKeyless}
-use Rattle.graph_runs.specs.Text.{text_of}
+use Rattle.code_text.specs.Text.{text_of}
 use Rattle.graph_runs.proofs.Laws.{word_within, word_bound, word_same, went_at, exited_at}
 use Rattle.stub_writer.specs.Stubs.{Site, Way, Place, Forked, Straight, fragments_code}
 use Rattle.stub_runs.specs.Meaning.{StepsLead, IsSound}

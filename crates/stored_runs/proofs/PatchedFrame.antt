@@ -14,7 +14,7 @@ use Rattle.scale_base.specs.Run.{setting_of}
 use Rattle.scale_base.proofs.Laws.{rules_kept, contents-are, rules_of, each_byte_none, each_byte_more}
 use Rattle.machine_laws.proofs.Laws.{found_from_any, found_passes, found_keeps, any_from_found, SegmentsKept, segments_of, one_covers}
 use Rattle.machine_laws.proofs.Laws as texts
-use Rattle.graph_runs.specs.Text.{text_of}
+use Rattle.code_text.specs.Text.{text_of}
 use Rattle.graph_runs.specs.TextStates.{IsTextOf}
 use Rattle.graph_runs.proofs.Laws.{text_of_layout, word_within}
 use Rattle.stub_writer.specs.Stubs.{Site}

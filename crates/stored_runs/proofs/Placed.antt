@@ -14,7 +14,7 @@ use Rattle.scale_base.specs.State.{Setting, word_at}
 use Rattle.scale_base.specs.Word.{word_of}
 use Rattle.scale_base.proofs.Laws.{each_byte_at, word_small}
 use Rattle.elf_patch.specs.Stored.{little}
-use Rattle.graph_runs.specs.Text.{text_of}
+use Rattle.code_text.specs.Text.{text_of}
 use Rattle.graph_runs.specs.TextStates.{IsTextOf}
 use Rattle.stub_writer.specs.Stubs.{Site, Way, Place, Forked, Straight, jump, stubs_len, block_words, block_bytes, patches_from, out_of_reach}
 use Rattle.stub_writer.proofs.Laws.{jump_fits}

@@ -1,7 +1,6 @@
 -- An instruction of the text that is no stub's does the same in both layouts, with the text and the keyed segment laid over the bytes.
-use Rattle.std.proofs.Common.{◌≡◌, ℕ, ◌+◌, ◌%◌, ◌^◌, ◌++◌, Bool, true, false, not, cond, List, take, drop, Option, Some, None, refl, ap, sym, ◌∙◌, arith}
+use Rattle.std.proofs.Common.{◌≡◌, ℕ, ◌+◌, ◌%◌, ◌^◌, ◌++◌, Bool, true, false, not, cond, List, take, drop, Option, Some, None, refl, ap, sym, ◌∙◌, arith, length-take}
 use Rattle.std.specs.Prelude.{◌==◌, ◌&&◌, ◌||◌, nat_le}
-use Rattle.std.proofs.Common.{length-take}
 use Rattle.std.proofs.lemmas.Bool.{cond-true, cond-false, and_parts}
 use Rattle.scale_base.specs.declared.instruction.LoadOp.{LoadOp}
 use Rattle.scale_base.specs.declared.instruction.StoreOp.{StoreOp}

@@ -14,8 +14,7 @@ use Rattle.elf_patch.specs.Stored.{little, put_at, put_patch, block_start, store
 use Rattle.elf_patch.proofs.Laws.{page_at-le}
 use Rattle.stored_laws.specs.StoredView.{IsStorable, over_file, insert_segment, block_segment, stored_view}
 use Rattle.stored_laws.proofs.Laws.{length-slice_range, get_or-slice_range, put-inside, Away, length-put_at, fold-away, text_place, TextPlace, Places, IsStored, stored-is}
-use Rattle.machine_laws.proofs.Laws.{find-map, list_any-map, mapped_from, found_in, found_passes, found_keeps, SegmentsKept, segments_of, one_covers, not_zeroed, file_fits}
-use Rattle.graph_runs.proofs.Laws.{share_address}
+use Rattle.machine_laws.proofs.Laws.{find-map, list_any-map, mapped_from, found_in, found_passes, found_keeps, SegmentsKept, segments_of, one_covers, not_zeroed, file_fits, share_address}
 
 -- ---- the segment that has an address
 

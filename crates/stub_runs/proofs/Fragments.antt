@@ -14,7 +14,7 @@ use Rattle.scale_base.specs.State.{Setting, State, reg, word_at}
 use Rattle.stub_writer.specs.Fragments.{hi, lo, switch_code, exit_code, count_code, reset_code}
 use Rattle.stub_runs.specs.Meaning.{Stand, StepsLead, along, along_storing, IsSound, IsRowAt, IsCounter, four_bits, level_in, row_place, switched, exited, counted, cleared}
 use Rattle.stub_runs.proofs.Points.{X5, X6, Save0, Save1, Counter, Port, point_of, at_point, own_point, regs_same, window_at}
-use Rattle.stub_runs.proofs.Moves.{Move, Put, Clear, Get, Work, Join, Upper, Row, IsWhole, moves, AllowsAll, steps_of, run_moves}
+use Rattle.stub_runs.proofs.Moves.{Move, Put, Clear, Get, Work, Join, Upper, Row, IsWhole, moves, AllowsAll, steps_of, run_transitions}
 
 -- ---- arithmetic
 
@@ -105,7 +105,7 @@ switch_does env s word sound small fits stand =
     let may : imm_result Andi (reg_result Srl (imm_result Addi (hi word) (lo word)) (imm_result Slli (level_in s) (pos 2))) (pos 15) < env.levels = omega (arith, level, fits) in
     let c : IsCounter 2 = record { low = omega arith; high = omega arith } in
     let all : AllowsAll env s.bytes p ms = (tt, (tt, (tt, (tt, (tt, (tt, (tt, (tt, (may, (tt, (tt, tt))))))))))) in
-    let ran = run_moves env s 2 p ms (whole env s 2 sound c) all stand in
+    let ran = run_transitions env s 2 p ms (whole env s 2 sound c) all stand in
     leads_as env (at_point s 2 p) s (steps_of 2 s.bytes p ms) (along_storing 8 new s.pc (switch_code word)) (at_point s 2 (moves s.bytes p ms)) (switched s word)
     (own_point s 2)
     (ap (λ v. along_storing 8 v s.pc (switch_code word)) level)
@@ -120,7 +120,7 @@ reset_does env s k sound c stand =
     let p = point_of s k in
     let ms : List Move = Clear ∷ [] in
     let all : AllowsAll env s.bytes p ms = (tt, tt) in
-    let ran = run_moves env s k p ms (whole env s k sound c) all stand in
+    let ran = run_transitions env s k p ms (whole env s k sound c) all stand in
     leads_as env (at_point s k p) s (steps_of k s.bytes p ms) (along s.pc (reset_code k)) (at_point s k (moves s.bytes p ms)) (cleared s k)
     (own_point s k) refl
     (end_as s _ _ _ _ (omega arith) (plain_window s.window k 0 c))
@@ -136,7 +136,7 @@ count_does env s k sound c stand =
     let p = point_of s k in
     let ms : List Move = count_moves in
     let all : AllowsAll env s.bytes p ms = (tt, (tt, (tt, (tt, (tt, tt))))) in
-    let ran = run_moves env s k p ms (whole env s k sound c) all stand in
+    let ran = run_transitions env s k p ms (whole env s k sound c) all stand in
     leads_as env (at_point s k p) s (steps_of k s.bytes p ms) (along s.pc (count_code k)) (at_point s k (moves s.bytes p ms)) (counted s k)
     (own_point s k) refl
     (end_as s _ _ _ _ (omega arith) (count_window s.window k (reg s.regs 5) _ c))
@@ -176,7 +176,7 @@ exit_does env s k shift table sound c short row fits stand =
     let there : IsRowAt env (s.pc + 4 + 4 + 4 + 4 + 4 + 4 + 4) (row_sum (slice_index s.window k) shift table) =
     subst (λ a. IsRowAt env (s.pc + 4 + 4 + 4 + 4 + 4 + 4 + 4) a) (sym sum) (subst (λ pc. IsRowAt env pc at) e row) in
     let all : AllowsAll env s.bytes p ms = (tt, (tt, (tt, (tt, (tt, (tt, (tt, (there, (tt, (tt, (tt, (tt, (tt, (may, (tt, (tt, tt)))))))))))))))) in
-    let ran = run_moves env s k p ms (whole env s k sound c) all stand in
+    let ran = run_transitions env s k p ms (whole env s k sound c) all stand in
     leads_as env (at_point s k p) s (steps_of k s.bytes p ms) (along_storing 13 new s.pc (exit_code k shift table)) (at_point s k (moves s.bytes p ms)) (exited s k (word_at s.bytes at))
     (own_point s k)
     (ap (λ v. along_storing 13 v s.pc (exit_code k shift table)) got)

@@ -227,7 +227,7 @@ abbrev pub steps_of : ℕ → (ℕ → ℕ) → Point → List Move → List Ste
 steps_of k bytes p [] = []
 steps_of k bytes p (m ∷ ms) = keyed_step p.pc (instr_for k m) (port_of p m) ∷ steps_of k bytes (move bytes p m) ms
 
-pub run_moves : (env : Setting) (s : State) (k : ℕ) (p : Point) (ms : List Move) → IsWhole s k → AllowsAll env s.bytes p ms → Stand env s.bytes p.pc (map (instr_for k) ms) → StepsLead env (at_point s k p) (steps_of k s.bytes p ms) (at_point s k (moves s.bytes p ms))
-run_moves env s k p [] w a h = leads_none env (at_point s k p)
-run_moves env s k p (m ∷ ms) w a h =
-    leads_first env _ _ _ _ _ (move_step env s k p m w a.0 h.0) (run_moves env s k (move s.bytes p m) ms w a.1 h.1)
+pub run_transitions : (env : Setting) (s : State) (k : ℕ) (p : Point) (ms : List Move) → IsWhole s k → AllowsAll env s.bytes p ms → Stand env s.bytes p.pc (map (instr_for k) ms) → StepsLead env (at_point s k p) (steps_of k s.bytes p ms) (at_point s k (moves s.bytes p ms))
+run_transitions env s k p [] w a h = leads_none env (at_point s k p)
+run_transitions env s k p (m ∷ ms) w a h =
+    leads_first env _ _ _ _ _ (move_step env s k p m w a.0 h.0) (run_transitions env s k (move s.bytes p m) ms w a.1 h.1)

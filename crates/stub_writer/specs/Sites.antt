@@ -6,8 +6,8 @@ use Rattle.scale_base.specs.declared.instruction.Instr.TheVariants.{Jal, Branch}
 use Rattle.scale_base.specs.Arith.{moved_by, plus}
 use Rattle.scale_base.specs.Word.{FieldsInRange}
 use Rattle.scale_base.specs.declared.fragments.Fragment.{Fragment}
-use Rattle.cost_theory.specs.declared.edges.EdgeKind.{EdgeKind}
-use Rattle.cost_theory.specs.declared.edges.EdgeKind.TheVariants as kinds
+use Rattle.scale_base.specs.declared.edges.EdgeKind.{EdgeKind}
+use Rattle.scale_base.specs.declared.edges.EdgeKind.TheVariants as kinds
 use Rattle.stub_writer.specs.declared.site.StubEdge.{StubEdge}
 use Rattle.stub_writer.specs.declared.site.StubSite.{StubSite}
 use Rattle.stub_writer.specs.Fragments.{IsFragment}

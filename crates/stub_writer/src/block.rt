@@ -11,9 +11,8 @@ use crate::site::{StubBlock, StubSite};
 use crate::stubs::{marked, push_stub, stub_len, stub_reaches, stub_rows_len};
 use crate::ways::{jump, reaches};
 use crate::words::push_word;
-use cost_theory::EdgeKind;
 use rv_encode::encode;
-use scale_base::{Fragment, Instr, NoMemory, Patch, Refusal, Rows, Stop};
+use scale_base::{EdgeKind, Fragment, Instr, NoMemory, Patch, Refusal, Rows, Stop};
 use std::alloc::Global;
 
 /// The length of all stubs, in words.

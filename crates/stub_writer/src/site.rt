@@ -2,8 +2,7 @@
 
 ghost use Rattle.std.specs.Prelude.{◌≡◌, ◌<◌, length, slice_get, Some};
 
-use cost_theory::Edge;
-use scale_base::{Fragment, Instr, Patch};
+use scale_base::{Edge, Fragment, Instr, Patch};
 use std::marker::Model;
 
 /// Fragments, one after another. Contracts see their list.

@@ -11,8 +11,7 @@ ghost use Rattle.stub_writer.specs.Sites as sites;
 use crate::site::StubSite;
 use crate::ways::{all_rows_len, codes_len, fragments_by, push_way, reaches};
 use crate::words::push_code;
-use cost_theory::EdgeKind;
-use scale_base::{BranchOp, Fragment, Instr, NoMemory};
+use scale_base::{BranchOp, EdgeKind, Fragment, Instr, NoMemory};
 
 /// The fragments of the site's edge of the kind.
 #[tactic(auto, using(crate::proofs::SiteLaws::marked_fit))]

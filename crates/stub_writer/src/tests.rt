@@ -6,8 +6,7 @@ ghost use Rattle.stub_writer.specs.Fragments.{IsFragment};
 ghost use Rattle.stub_writer.specs.Sites.{IsEdge, IsSite};
 
 use super::*;
-use cost_theory::{Edge, EdgeKind};
-use scale_base::{BranchOp, Fragment, Instr, Refusal, Rows, Stop};
+use scale_base::{BranchOp, Edge, EdgeKind, Fragment, Instr, Refusal, Rows, Stop};
 use std::alloc::Global;
 use std::test::*;
 

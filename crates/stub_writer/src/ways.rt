@@ -9,9 +9,8 @@ ghost use Rattle.stub_writer.specs.Sites as sites;
 use crate::codes::push_fragment;
 use crate::site::StubEdge;
 use crate::words::{address, push_code};
-use cost_theory::EdgeKind;
 use rv_encode::jal_fits;
-use scale_base::{Fragment, Instr, NoMemory};
+use scale_base::{EdgeKind, Fragment, Instr, NoMemory};
 
 fn kind_number(kind: EdgeKind) -> u8
     ensures is { result ≡ sites.kind_number kind }

@@ -1,11 +1,11 @@
 -- The turns of the loops round each node, one loop after the other.
 use Rattle.std.proofs.Common.{◌≡◌, ◌≢◌, ℕ, zero, suc, ◌+◌, ◌<◌, ◌≤◌, ◌⊎◌, inl, inr, Bool, true, false, List, length, Some, refl, sym, ap, ◌∙◌, subst, arith, ⊎_elim}
-use Rattle.call_orders.specs.Arcs.{number_in_place, AreDistinct}
+use Rattle.graph_algorithms.specs.Arcs.{number_in_place, AreDistinct}
 use Rattle.cost_theory.specs.Graph.{sum_below, only}
 use Rattle.cost_theory.specs.Worst.{Numbers, all_of}
 use Rattle.cost_theory.specs.Lists.{body_of}
 use Rattle.code_graph.specs.FlowGraph.{FlowGraph, IsFlowGraph}
-use Rattle.natural_loops.specs.Noted.{node_address}
+use Rattle.loop_tree.specs.Noted.{node_address}
 use Rattle.std.proofs.lemmas.Bool.{cases_lt, cases_eq}
 use Rattle.std.proofs.lemmas.Option.{slice_get-get_or}
 use Rattle.loop_tree.specs.Tree.{LoopView, loops, IsLoopTree}

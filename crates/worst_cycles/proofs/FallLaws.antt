@@ -2,14 +2,14 @@
 use Rattle.std.proofs.lemmas.List.{length-map}
 use Rattle.std.proofs.Common.{Bool, true, false, map, slice_get, ◌≡◌, ℕ, ◌+◌, ◌-◌, ◌*◌, ◌<◌, ◌≤◌, List, length, slice_index, Some, refl, sym, ap, ◌∙◌, subst, arith, ⊎_elim, mul-le-mul_right}
 use Rattle.std.proofs.lemmas.Option.{slice_get-get_or, get_or_from_slice_get}
-use Rattle.call_orders.specs.declared.Arc.{Arc}
-use Rattle.call_orders.specs.Arcs.{arc_at, number_in_place, HasArc, Leads, HasNoCycle}
-use Rattle.call_orders.specs.Arcs.Leads.{along, onward}
+use Rattle.graph_algorithms.specs.declared.orders.Arc.{Arc}
+use Rattle.graph_algorithms.specs.Arcs.{arc_at, number_in_place, HasArc, Leads, HasNoCycle}
+use Rattle.graph_algorithms.specs.Arcs.Leads.{along, onward}
 use Rattle.cost_theory.specs.Graph.{Graph, Loops, IsPlain, is_back}
 use Rattle.cost_theory.specs.Accepted.{IsProgram, IsCallOrder, IsPlainOrder}
 use Rattle.cost_theory.proofs.Laws as theory
 use Rattle.code_graph.specs.FlowGraph.{FlowGraph, graph, IsFlowGraph}
-use Rattle.natural_loops.specs.Noted.{node_address}
+use Rattle.loop_tree.specs.Noted.{node_address}
 use Rattle.loop_tree.specs.Arcs.{IsPlainBy}
 use Rattle.loop_tree.specs.Tree.{LoopView, loops, IsLoopTree}
 use Rattle.worst_cycles.specs.Needs.{AreEntries, LeadsPlainly, CallsNode, IsNeeded, AreNeeds, HasTree}

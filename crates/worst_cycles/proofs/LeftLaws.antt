@@ -2,11 +2,11 @@
 use Rattle.std.proofs.Common.{◌≡◌, ◌≢◌, ℕ, ◌+◌, ◌^◌, ◌<◌, ◌≤◌, ◌⊎◌, inl, inr, true, List, length, set, slice_get, get_or, length-set, Option, Some, None, le_refl, get_or-set_same, get_or-set_other, refl, sym, ap, ◌∙◌, subst, arith, ⊎_elim}
 use Rattle.std.proofs.lemmas.Bool.{cases_lt, cases_eq}
 use Rattle.std.proofs.lemmas.Option.{slice_get_within, get_or_from_slice_get}
-use Rattle.call_orders.specs.Arcs.{number_in_place}
+use Rattle.graph_algorithms.specs.Arcs.{number_in_place}
 use Rattle.cost_theory.specs.Graph.{Loops}
 use Rattle.cost_theory.specs.Worst.{Numbers, IsLeft}
 use Rattle.code_graph.specs.FlowGraph.{FlowGraph, IsFlowGraph}
-use Rattle.natural_loops.specs.Noted.{node_address}
+use Rattle.loop_tree.specs.Noted.{node_address}
 use Rattle.loop_tree.specs.Tree.{LoopView, loops}
 use Rattle.worst_cycles.specs.declared.plan.Plan.{Plan}
 use Rattle.worst_cycles.specs.declared.rests.Rests.{Rests}

@@ -3,11 +3,11 @@ use Rattle.std.proofs.Common.{◌≡◌, ℕ, ◌+◌, ◌-◌, ◌<◌, ◌≤�
 use Rattle.std.proofs.lemmas.Bool.{cases_lt}
 use Rattle.std.proofs.lemmas.List.{get_or_append_left, get_or-append_right}
 use Rattle.std.proofs.lemmas.Option.{slice_get_within, slice_get-get_or, same_Some, none-some}
-use Rattle.call_orders.specs.declared.Arc.{Arc}
-use Rattle.call_orders.specs.Arcs.{arc_at, number_in_place, AreDistinct, AreNumbered, IsSorted}
+use Rattle.graph_algorithms.specs.declared.orders.Arc.{Arc}
+use Rattle.graph_algorithms.specs.Arcs.{arc_at, number_in_place, AreDistinct, AreNumbered, IsSorted}
 use Rattle.code_graph.specs.FlowGraph.{FlowGraph, graph, IsFlowGraph}
 use Rattle.loop_tree.specs.Arcs.{ArePlainArcs}
-use Rattle.natural_loops.proofs.Laws.{one_number}
+use Rattle.loop_tree.proofs.Laws.{one_number}
 use Rattle.worst_cycles.specs.Needs.{AreEntries, LeadsToNode, LeadsPlainly, CallsNode, IsNeeded, StartsAtNode, AreNeeds, IsNeededFirst}
 
 -- a number has one place

@@ -1,11 +1,11 @@
--- What an edge costs, and the greatest cost of a plain path over the edges of a node.
+-- What an edge costs, and the greatest cost of a acyclic path over the edges of a node.
 use Rattle.std.proofs.Common.{◌≡◌, ◌≢◌, ℕ, ◌+◌, ◌<◌, ◌≤◌, ◌↔◌, ◌⊎◌, inl, inr, List, length, Some, None, slice_get, sym, ap, ◌∙◌, subst, arith, ⊎_elim}
 use Rattle.std.proofs.lemmas.Bool.{cases_lt}
 use Rattle.std.proofs.lemmas.Option.{same_Some, none-some}
 use Rattle.cost_theory.specs.Graph.{Graph, Loops, IsPlain}
 use Rattle.cost_theory.specs.Worst.{Numbers, cost, all_of}
 use Rattle.code_graph.specs.FlowGraph.{FlowGraph, graph}
-use Rattle.natural_loops.specs.Noted.{node_address}
+use Rattle.loop_tree.specs.Noted.{node_address}
 use Rattle.loop_tree.specs.Tree.{LoopView, loops}
 use Rattle.pass_laws.specs.Passes.{plain_at, IsPlainOver}
 use Rattle.worst_cycles.specs.declared.plan.Plan.{Plan}
@@ -81,7 +81,7 @@ plain_kept v t w n first e most x is this less = record {
       is.reached;
 }
 
--- over all edges of a node it is the greatest cost of a plain path from there
+-- over all edges of a node it is the greatest cost of a acyclic path from there
 pub plain_found : (v : FlowGraph) (t : LoopView) (w : ℕ → ℕ) (n : Numbers) (first end most at : ℕ) → IsPlainMost v t w n first end most →
     ((e : ℕ) → e < length v.code.edges → ((graph v).source e ≡ at) ↔ ((first ≤ e) × (e < end))) → end ≤ length v.code.edges → IsPlainOver (graph v) (loops v t) w n at → most ≡ n.plain at
 plain_found v t w n first end most at is edges within over_is =

@@ -1,11 +1,11 @@
 -- The order of a plan: what stands before a node in it, and the places of nodes.
 use Rattle.std.proofs.Common.{◌≡◌, ℕ, ◌<◌, ◌≤◌, true, inl, List, [], ◌∷◌, length, subst, Option, Some, slice_get, refl, sym, ap, ◌∙◌, arith}
 use Rattle.std.proofs.lemmas.Option.{slice_get_within}
-use Rattle.call_orders.specs.Arcs.{number_in_place}
+use Rattle.graph_algorithms.specs.Arcs.{number_in_place}
 use Rattle.cost_theory.specs.Graph.{IsPlain, IsPlainPath, end_of}
 use Rattle.code_graph.specs.FlowGraph.{FlowGraph, graph, IsFlowGraph}
-use Rattle.natural_loops.specs.Noted.{node_address}
-use Rattle.natural_loops.proofs.Laws.{source_number}
+use Rattle.loop_tree.specs.Noted.{node_address}
+use Rattle.loop_tree.proofs.Laws.{source_number}
 use Rattle.loop_tree.specs.Tree.{LoopView, loops}
 use Rattle.cost_theory.proofs.Laws.{accepted_entered, plain_from_entry}
 use Rattle.worst_cycles.specs.declared.plan.Plan.{Plan}

@@ -2,11 +2,11 @@
 use Rattle.std.proofs.Common.{◌≡◌, ◌≢◌, ℕ, ◌+◌, ◌<◌, ◌≤◌, ◌↔◌, inl, inr, Bool, true, false, List, length, Option, Some, None, slice_get, refl, sym, ap, ◌∙◌, subst, arith, ⊎_elim}
 use Rattle.std.proofs.lemmas.Bool.{cases_lt}
 use Rattle.std.proofs.lemmas.Option.{same_Some, none-some}
-use Rattle.call_orders.specs.Arcs.{number_in_place}
+use Rattle.graph_algorithms.specs.Arcs.{number_in_place}
 use Rattle.cost_theory.specs.Graph.{IsPlain, is_back}
 use Rattle.cost_theory.specs.Worst.{Numbers, cost}
 use Rattle.code_graph.specs.FlowGraph.{FlowGraph, graph}
-use Rattle.natural_loops.specs.Noted.{node_address}
+use Rattle.loop_tree.specs.Noted.{node_address}
 use Rattle.loop_tree.specs.Tree.{LoopView, loops, IsLoopTree}
 use Rattle.pass_laws.specs.Passes.{IsRestOver, IsClosingOver}
 use Rattle.worst_cycles.specs.declared.plan.Plan.{Plan}

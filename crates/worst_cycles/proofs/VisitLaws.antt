@@ -2,11 +2,11 @@
 use Rattle.std.proofs.Common.{◌≡◌, ◌≢◌, ℕ, ◌+◌, ◌*◌, ◌^◌, ◌<◌, ◌≤◌, inl, inr, List, length, set, slice_get, slice_index, get_or, Option, Some, None, refl, sym, ap, ◌∙◌, subst, arith, ⊎_elim, get_or-set_same, get_or-set_other}
 use Rattle.std.proofs.lemmas.Bool.{cases_eq, cases_lt}
 use Rattle.std.proofs.lemmas.Option.{slice_get-get_or, slice_get_within, get_or_from_slice_get}
-use Rattle.call_orders.specs.Arcs.{number_in_place}
+use Rattle.graph_algorithms.specs.Arcs.{number_in_place}
 use Rattle.cost_theory.specs.Graph.{Graph, Loops}
 use Rattle.cost_theory.specs.Worst.{Numbers, all_of}
 use Rattle.code_graph.specs.FlowGraph.{FlowGraph, graph, IsFlowGraph}
-use Rattle.natural_loops.specs.Noted.{node_address}
+use Rattle.loop_tree.specs.Noted.{node_address}
 use Rattle.loop_tree.specs.Tree.{LoopView, loops}
 use Rattle.worst_cycles.specs.declared.plan.Plan.{Plan}
 use Rattle.worst_cycles.specs.declared.visits.Visit.{Visit}
@@ -16,7 +16,7 @@ use Rattle.worst_cycles.specs.Visits.{headed_at, IsWorstPlan, visit_at, IsTurnsA
 use Rattle.worst_cycles.proofs.SearchLaws.{value_at}
 use Rattle.worst_cycles.proofs.BodyLaws.{node_here, same_node, by_plain, loop_count, header_number, header_address}
 
--- worst cycles are a plain path and all turns at the entry
+-- worst cycles are a acyclic path and all turns at the entry
 pub worst_at : (g : Graph) (l : Loops) (w : ℕ → ℕ) (n : Numbers) (f : ℕ) (x : Visit) → AreSolved g l w n → f < g.functions → IsVisit l n (g.entry f) x → x.plain + x.turns ≡ n.worst f
 worst_at g l w n f x s fl visit =
     let plain = visit.plain in ⊎_elim
@@ -97,9 +97,9 @@ turns_too_long v t w l b x ll bounded found more n s =
     let product : b * x ≡ (loops v t).bound l * n.iteration l = ap (λ y. b * y) (found n s) ∙ ap (λ y. y * n.iteration l) (sym (bound_at v t l b bounded)) in
     omega arith
 
--- ---- plain paths
+-- ---- acyclic paths
 
--- what is found at the next node is the greatest cost of a plain path from there
+-- what is found at the next node is the greatest cost of a acyclic path from there
 pub next_plain : (v : FlowGraph) (t : LoopView) (w : ℕ → ℕ) (plan : Plan) (visits : List Visit) (i k x : ℕ) → IsFlowGraph v → HasTree v t → IsWorstPlan v t plan → AreVisitedTo v t w plan.order.items i visits → i < length plan.order.items → k ≡ get_or plan.order.items i k →
     ((n : Numbers) → AreSolvedBy v t w n → AreKnownAt v t plan visits n (slice_index v.code.nodes k) → x ≡ n.plain (slice_index v.code.nodes k)) → (n : Numbers) → AreSolvedBy v t w n → x ≡ n.plain (node_address v (number_in_place plan.order.items i))
 next_plain v t w plan visits i k x flow tree is visited il node found n s =

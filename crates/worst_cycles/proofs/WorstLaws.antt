@@ -4,7 +4,7 @@ use Rattle.std.proofs.lemmas.Option.{slice_get-get_or}
 use Rattle.scale_base.specs.declared.refusal.Stop.{Stop}
 use Rattle.scale_base.specs.declared.refusal.Stop.TheVariants.{Refused, Memory}
 use Rattle.scale_base.specs.Answer.{AnswersBy}
-use Rattle.call_orders.specs.Arcs.{number_in_place}
+use Rattle.graph_algorithms.specs.Arcs.{number_in_place}
 use Rattle.cost_theory.specs.Graph.{Graph, Loops}
 use Rattle.cost_theory.specs.Worst.{Numbers, AreNumbers, cost}
 use Rattle.cost_theory.specs.Accepted.{IsProgram, AreAccepted, AreWeights}
@@ -13,7 +13,7 @@ use Rattle.cost_theory.proofs.Laws as theory
 use Rattle.cost_theory.proofs.Laws.{call_order, plain_order, turns-worst, left-worst, function-worst, closing-worst, accepted_entered, header_held, entered_at_headers, first_uncalled, slack-le}
 use Rattle.pass_laws.proofs.Laws.{charged_on, charged_back, charged_into, headers_different, iteration_closing, closing_over, worst_plain, plain_within_worst, plain_over}
 use Rattle.code_graph.specs.FlowGraph.{FlowGraph, graph, IsFlowGraph}
-use Rattle.natural_loops.specs.Noted.{node_address}
+use Rattle.loop_tree.specs.Noted.{node_address}
 use Rattle.loop_tree.specs.Tree.{LoopView, loops}
 use Rattle.worst_cycles.specs.declared.visits.Visit.{Visit}
 use Rattle.worst_cycles.specs.declared.parts.LeftParts.{LeftParts}

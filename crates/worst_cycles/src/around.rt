@@ -1,7 +1,7 @@
 //! The turns of the loops round each node.
 
 ghost use Rattle.std.specs.Prelude.{◌≡◌, ◌≢◌, ℕ, ◌+◌, ◌*◌, ◌^◌, ◌<◌, ◌≤◌, length, IfOk};
-ghost use Rattle.call_orders.specs.Arcs.{number_in_place, AreDistinct};
+ghost use Rattle.graph_algorithms.specs.Arcs.{number_in_place, AreDistinct};
 ghost use Rattle.code_graph.specs.FlowGraph.{IsFlowGraph};
 ghost use Rattle.worst_cycles.specs.Worst.{by_edge};
 ghost use Rattle.worst_cycles.specs.Needs.{HasTree};

@@ -1,10 +1,10 @@
 //! What is left of the callers of each function.
 
 ghost use Rattle.std.specs.Prelude.{◌≡◌, ◌≢◌, ℕ, ◌+◌, ◌*◌, ◌^◌, ◌<◌, ◌≤◌, ◌⊎◌, length, slice_index, Some, IfOk};
-ghost use Rattle.call_orders.specs.Arcs.{number_in_place, AreDistinct};
+ghost use Rattle.graph_algorithms.specs.Arcs.{number_in_place, AreDistinct};
 ghost use Rattle.cost_theory.specs.Worst.{Numbers, IsReturningCall, context_of};
 ghost use Rattle.code_graph.specs.FlowGraph.{graph as graph_seen, IsFlowGraph};
-ghost use Rattle.natural_loops.specs.Noted.{node_address};
+ghost use Rattle.loop_tree.specs.Noted.{node_address};
 ghost use Rattle.loop_tree.specs.Tree.{loops};
 ghost use Rattle.worst_cycles.specs.Worst.{by_edge};
 ghost use Rattle.worst_cycles.specs.Needs.{HasTree};

@@ -5,7 +5,7 @@ ghost use Rattle.code_graph.specs.FlowGraph.{IsFlowGraph};
 ghost use Rattle.worst_cycles.specs.Needs.{AreEntries};
 
 use code_graph::CodeGraph;
-use natural_loops::node_at;
+use loop_tree::node_at;
 use scale_base::NoMemory;
 use std::alloc::Global;
 

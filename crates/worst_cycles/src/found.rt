@@ -1,7 +1,7 @@
 //! The numbers of functions and loops, from those of nodes.
 
 ghost use Rattle.std.specs.Prelude.{◌≡◌, ℕ, ◌+◌, ◌<◌, length, IfOk};
-ghost use Rattle.call_orders.specs.Arcs.{number_in_place};
+ghost use Rattle.graph_algorithms.specs.Arcs.{number_in_place};
 ghost use Rattle.code_graph.specs.FlowGraph.{IsFlowGraph};
 ghost use Rattle.worst_cycles.specs.Needs.{AreEntries};
 ghost use Rattle.worst_cycles.specs.Visits.{visit_at, AreVisits};
@@ -12,7 +12,7 @@ use loop_tree::LoopTree;
 use scale_base::NoMemory;
 use std::alloc::Global;
 
-/// By function, a plain path from its entry and all turns there.
+/// By function, a acyclic path from its entry and all turns there.
 pub fn worst_of(
     alloc: Global,
     graph: &CodeGraph,

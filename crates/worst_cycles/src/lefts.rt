@@ -2,7 +2,7 @@
 
 ghost use Rattle.std.specs.Prelude.{◌≡◌, ◌≢◌, ℕ, ◌+◌, ◌^◌, ◌<◌, ◌≤◌, ◌⊎◌, length, slice_index_or, Option, Some, None, IfOk};
 ghost use Rattle.scale_base.specs.Answer.{AnswersBy};
-ghost use Rattle.call_orders.specs.Arcs.{number_in_place};
+ghost use Rattle.graph_algorithms.specs.Arcs.{number_in_place};
 ghost use Rattle.code_graph.specs.FlowGraph.{IsFlowGraph};
 ghost use Rattle.worst_cycles.specs.Worst.{by_edge, AreUpTo};
 ghost use Rattle.worst_cycles.specs.Needs.{HasTree};
@@ -66,7 +66,7 @@ fn raise_lefts(plan: &Plan, rests: &Rests, header: usize, iteration: u64, left: 
     }
 }
 
-/// By node, the greatest cost of a plain path from there.
+/// By node, the greatest cost of a acyclic path from there.
 fn plain_lefts(alloc: Global, visits: &[Visit]) -> Result<Vec<u64>, NoMemory>
     ensures size { IfOk result (λ left. length left.items ≡ length visits.now) }
     ensures each { IfOk result (λ left. (k : ℕ) → k < length visits.now → number_in_place left.items k ≡ (visit_at visits.now k).plain) }

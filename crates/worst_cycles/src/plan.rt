@@ -1,7 +1,7 @@
 //! What is known of the nodes before the pass.
 
 ghost use Rattle.std.specs.Prelude.{◌≡◌, ℕ, ◌<◌, length, IfOk};
-ghost use Rattle.call_orders.specs.Arcs.{number_in_place, AreDistinct};
+ghost use Rattle.graph_algorithms.specs.Arcs.{number_in_place, AreDistinct};
 ghost use Rattle.code_graph.specs.FlowGraph.{IsFlowGraph};
 ghost use Rattle.worst_cycles.specs.Worst.{AreUpTo};
 ghost use Rattle.worst_cycles.specs.Needs.{ArePlaces, HasTree};

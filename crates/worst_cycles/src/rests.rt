@@ -1,7 +1,7 @@
 //! The rests of an iteration of a loop.
 
 ghost use Rattle.std.specs.Prelude.{◌≡◌, ℕ, ◌+◌, ◌^◌, ◌<◌, ◌≤◌, true, length, slice_index, Some};
-ghost use Rattle.call_orders.specs.Arcs.{number_in_place};
+ghost use Rattle.graph_algorithms.specs.Arcs.{number_in_place};
 ghost use Rattle.cost_theory.specs.Graph.{IsPlain};
 ghost use Rattle.cost_theory.specs.Worst.{Numbers};
 ghost use Rattle.code_graph.specs.FlowGraph.{graph as graph_seen, IsFlowGraph};
@@ -16,7 +16,7 @@ use crate::visits::{Visit, cost_of};
 use code_graph::{CodeGraph, Weights};
 use loop_tree::LoopTree;
 
-/// The rests of an iteration of a loop from the nodes of its body, each the greatest cost of a plain path within the body
+/// The rests of an iteration of a loop from the nodes of its body, each the greatest cost of a acyclic path within the body
 /// and a back edge of the loop.
 #[derive(Drop)]
 pub struct Rests {

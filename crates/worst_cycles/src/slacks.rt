@@ -13,7 +13,7 @@ use crate::plan::Plan;
 use crate::visits::{Visit, cost_of};
 use code_graph::{CodeGraph, Weights};
 use loop_tree::LoopTree;
-use natural_loops::node_at;
+use loop_tree::node_at;
 use scale_base::NoMemory;
 use std::alloc::Global;
 

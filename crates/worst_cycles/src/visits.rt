@@ -1,7 +1,7 @@
 //! What is found at a node from what was found behind its edges.
 
 ghost use Rattle.std.specs.Prelude.{◌≡◌, ℕ, ◌+◌, ◌^◌, ◌<◌, ◌≤◌, length, slice_index, Some, None};
-ghost use Rattle.call_orders.specs.Arcs.{number_in_place};
+ghost use Rattle.graph_algorithms.specs.Arcs.{number_in_place};
 ghost use Rattle.cost_theory.specs.Worst.{Numbers, cost};
 ghost use Rattle.code_graph.specs.FlowGraph.{graph as graph_seen, IsFlowGraph};
 ghost use Rattle.worst_cycles.specs.Worst.{by_edge};
@@ -15,7 +15,7 @@ use loop_tree::LoopTree;
 /// What the pass finds at a node, in cycles.
 #[derive(Clone, Copy, Drop)]
 pub struct Visit {
-    /// The greatest cost of a plain path from the node.
+    /// The greatest cost of a acyclic path from the node.
     pub plain: u64,
     /// All turns of the loop whose header the node is, and 0 at other nodes.
     pub turns: u64,
@@ -55,7 +55,7 @@ pub fn cost_of(graph: &CodeGraph, weights: &Weights, plan: &Plan, visits: &[Visi
     u64::from(*weights.get(e)) + called(graph, plan, visits, e)
 }
 
-/// What a path that enters the node to which edge `e` leads costs from there on: all turns and a plain path.
+/// What a path that enters the node to which edge `e` leads costs from there on: all turns and a acyclic path.
 fn behind(graph: &CodeGraph, visits: &[Visit], e: usize) -> u64
     requires visits { AreVisits graph.now visits.now }
     requires edge { e < length graph.now.code.edges }
@@ -71,7 +71,7 @@ fn behind(graph: &CodeGraph, visits: &[Visit], e: usize) -> u64
     }
 }
 
-/// What a plain path costs over edge `e`; 0 over a back edge.
+/// What a acyclic path costs over edge `e`; 0 over a back edge.
 fn over(
     graph: &CodeGraph,
     tree: &LoopTree,
@@ -95,7 +95,7 @@ fn over(
     }
 }
 
-/// The greatest cost of a plain path from node `k`.
+/// The greatest cost of a acyclic path from node `k`.
 pub fn plain_at_node(
     graph: &CodeGraph,
     tree: &LoopTree,

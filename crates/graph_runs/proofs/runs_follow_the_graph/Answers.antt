@@ -1,4 +1,4 @@
-use Rattle.graph_runs.proofs.Programs.{runs_are_moves, runs_are_kept_moves, image_runs_are_kept_moves}
+use Rattle.graph_runs.proofs.Programs.{runs_are_moves, runs_are_kept_moves, image_runs_are_kept_transitions}
 use Rattle.graph_runs.proofs.Images.{image_starts}
 use Rattle.graph_runs.proofs.runs_follow_the_graph.Goals as goal
 
@@ -12,4 +12,4 @@ pub returns-clause-start : goal.returns-clause-start
 returns-clause-start c = image_starts
 
 pub returns-clause-image : goal.returns-clause-image
-returns-clause-image c = image_runs_are_kept_moves
+returns-clause-image c = image_runs_are_kept_transitions

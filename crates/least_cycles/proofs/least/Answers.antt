@@ -1,5 +1,5 @@
 use Rattle.std.proofs.Common.{List, Option, ℕ, length, sym, ap, ◌∙◌, subst, arith}
-use Rattle.call_orders.specs.Arcs.{number_in_place}
+use Rattle.graph_algorithms.specs.Arcs.{number_in_place}
 use Rattle.loop_tree.specs.Tree.{loops}
 use Rattle.least_cycles.specs.Hops.{number_in_table}
 use Rattle.least_cycles.specs.Tables.{least_by}

@@ -5,8 +5,8 @@ use Rattle.scale_base.specs.declared.refusal.Refusal.TheVariants.{Uncountable, T
 use Rattle.scale_base.specs.Image.{Image}
 use Rattle.cost_theory.specs.Graph.{Loops, goes_back}
 use Rattle.cost_theory.specs.Reached.{edge_at, edge_to}
-use Rattle.cost_theory.specs.declared.edges.Edge.{Edge}
-use Rattle.graph_runs.specs.Text.{text_of}
+use Rattle.scale_base.specs.declared.edges.Edge.{Edge}
+use Rattle.code_text.specs.Text.{text_of}
 use Rattle.code_graph.specs.FlowGraph.{FlowGraph, IsGraphOf}
 use Rattle.loop_file.specs.declared.notes.LoopNote.{LoopNote}
 use Rattle.loop_tree.specs.Tree.{LoopView, loops, IsTreeOf}

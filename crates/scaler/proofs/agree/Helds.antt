@@ -8,8 +8,8 @@ use Rattle.loop_file.specs.declared.notes.LoopNote.{LoopNote}
 use Rattle.loop_file.specs.Loops.{read_loops}
 use Rattle.cost_theory.specs.Graph.{Graph}
 use Rattle.cost_theory.specs.Worst.{AreNumbers}
-use Rattle.graph_runs.specs.Text.{text_of}
-use Rattle.graph_runs.specs.EdgeCosts.{weights}
+use Rattle.code_text.specs.Text.{text_of}
+use Rattle.code_text.specs.EdgeCosts.{weights}
 use Rattle.code_graph.specs.FlowGraph.{graph}
 use Rattle.loop_tree.specs.Tree.{loops}
 use Rattle.answer_laws.proofs.Laws.{weights_same, numbers_alike}

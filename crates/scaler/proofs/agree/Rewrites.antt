@@ -13,9 +13,9 @@ use Rattle.elf_patch.specs.Stored.{IsStubBase}
 use Rattle.loop_file.specs.declared.notes.LoopNote.{LoopNote}
 use Rattle.loop_file.specs.Loops.{read_loops}
 use Rattle.cost_theory.specs.Worst.{Numbers}
-use Rattle.cost_theory.specs.declared.edges.Edge.{Edge}
-use Rattle.graph_runs.specs.EdgeCosts.{edge_class}
-use Rattle.graph_runs.specs.Text.{text_of}
+use Rattle.scale_base.specs.declared.edges.Edge.{Edge}
+use Rattle.code_text.specs.EdgeCosts.{edge_class}
+use Rattle.code_text.specs.Text.{text_of}
 use Rattle.code_graph.specs.FlowGraph.{FlowGraph}
 use Rattle.code_graph.proofs.Laws.{some_is}
 use Rattle.loop_tree.specs.Tree.{LoopView, loops}

@@ -11,7 +11,7 @@ use Rattle.cost_theory.specs.Accepted.{AreWeights}
 use Rattle.cost_theory.specs.Graph.{Graph, Loops}
 use Rattle.cost_theory.specs.Worst.{Numbers, AreNumbers}
 use Rattle.least_laws.specs.Charged.{Charged, AreCharged, to_end_after}
-use Rattle.graph_runs.specs.Text.{text_of}
+use Rattle.code_text.specs.Text.{text_of}
 use Rattle.code_graph.specs.FlowGraph.{FlowGraph, graph}
 use Rattle.loop_file.specs.declared.notes.LoopNote.{LoopNote}
 use Rattle.loop_tree.specs.Tree.{LoopView, loops}

@@ -8,8 +8,8 @@ use Rattle.power_model.specs.Price.{cycles_of}
 use Rattle.cost_theory.specs.Graph.{Loops, sum_below, only}
 use Rattle.cost_theory.specs.Reached.{edge_at, edge_to}
 use Rattle.cost_theory.specs.Worst.{Numbers, AreNumbers}
-use Rattle.cost_theory.specs.declared.edges.Edge.{Edge}
-use Rattle.graph_runs.specs.Text.{text_of}
+use Rattle.scale_base.specs.declared.edges.Edge.{Edge}
+use Rattle.code_text.specs.Text.{text_of}
 use Rattle.code_graph.specs.FlowGraph.{FlowGraph, graph}
 use Rattle.loop_file.specs.declared.notes.LoopNote.{LoopNote}
 use Rattle.loop_tree.specs.Tree.{LoopView, loops}

@@ -10,14 +10,14 @@ use Rattle.scale_base.specs.declared.stepping.Class.TheVariants as classes
 use Rattle.scale_base.specs.Arith.{moved_by}
 use Rattle.scale_base.specs.Image.{Image, is_word_address}
 use Rattle.elf_patch.specs.Stored.{IsStubBase}
-use Rattle.cost_theory.specs.declared.edges.Edge.{Edge}
-use Rattle.cost_theory.specs.declared.edges.EdgeKind.TheVariants.{Taken, Untaken}
-use Rattle.cost_theory.specs.declared.edges.Word.TheVariants.{Branch}
+use Rattle.scale_base.specs.declared.edges.Edge.{Edge}
+use Rattle.scale_base.specs.declared.edges.EdgeKind.TheVariants.{Taken, Untaken}
+use Rattle.cost_theory.specs.declared.flow.Flow.TheVariants as flow
 use Rattle.cost_theory.specs.Reached.{Code, edge_at, edges_of, call_returns}
 use Rattle.cost_theory.proofs.Laws.{source_reached, Within, word_edge}
-use Rattle.graph_runs.specs.EdgeCosts.{class_by, edge_class}
-use Rattle.graph_runs.specs.Laws.{IsReachedCode}
-use Rattle.graph_runs.specs.Text.{text_of, instr_at, instr_kind, kind_at}
+use Rattle.code_text.specs.EdgeCosts.{class_by, edge_class}
+use Rattle.code_text.specs.TextGraph.{IsReachedCode}
+use Rattle.code_text.specs.Text.{text_of, instr_at, instr_kind, kind_at}
 use Rattle.stub_writer.specs.Stubs.{Site, Way, Place, Forked, Straight}
 use Rattle.stored_runs.specs.Marks.{place_at, fragments_of_class}
 use Rattle.stored_runs.specs.Stubbed.{IsOfImage, AreAscending}
@@ -105,14 +105,14 @@ module _ (image : Image) (code : Code) (reached : IsReachedCode (text_of image) 
 
   -- at a branch there is an edge of both classes
   edge_there : (e : ℕ) (op : BranchOp) (rs1 rs2 : ℕ) (offset : ℤ) → e < length code.edges → instr_at (text_of image) (edge_at (slice_get code.edges e)) ≡ Some (instr.Branch op rs1 rs2 offset) →
-      (x : Edge) (class : Class) → Within x (edges_of (Branch (moved_by (edge_at (slice_get code.edges e)) offset)) (edge_at (slice_get code.edges e)) false) → x.at ≡ edge_at (slice_get code.edges e) → class_by (Some (instr.Branch op rs1 rs2 offset)) x.kind ≡ Some class →
+      (x : Edge) (class : Class) → Within x (edges_of (flow.Branch (moved_by (edge_at (slice_get code.edges e)) offset)) (edge_at (slice_get code.edges e)) false) → x.at ≡ edge_at (slice_get code.edges e) → class_by (Some (instr.Branch op rs1 rs2 offset)) x.kind ≡ Some class →
       HasEdge (edge_at (slice_get code.edges e)) class
   edge_there e op rs1 rs2 offset lt at x class h starts c =
       let t = text_of image in
       let u = edge_at (slice_get code.edges e) in
       let from = edge_is t code reached e lt in
       let same : from.instr ≡ instr.Branch op rs1 rs2 offset = (let a = from.at in cc) in
-      let kind : kind_at t u ≡ Branch (moved_by u offset) = from.kind ∙ ap (instr_kind t u) same in
+      let kind : kind_at t u ≡ flow.Branch (moved_by u offset) = from.kind ∙ ap (instr_kind t u) same in
       let r = source_reached (kind_at t) t.entry code reached.lists reached.words e lt in
       let d = word_edge (kind_at t) t.entry code reached.lists r.0 u x r.1 (subst (λ q. Within x (edges_of q u (call_returns code q))) (sym kind) h) in
       record {

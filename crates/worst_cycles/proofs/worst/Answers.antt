@@ -1,6 +1,6 @@
 use Rattle.std.proofs.Common.{◌≡◌, ◌^◌, ◌<◌, ◌≤◌, length, Vec, Global, arith, refl, sym, ap, ◌∙◌, subst}
 use Rattle.std.proofs.lemmas.Result.{err_from_is_err_and}
-use Rattle.call_orders.specs.Arcs.{number_in_place}
+use Rattle.graph_algorithms.specs.Arcs.{number_in_place}
 use Rattle.code_graph.specs.FlowGraph.{graph}
 use Rattle.loop_tree.specs.Tree.{loops}
 use Rattle.worst_cycles.specs.declared.visits.Visit.{Visit}

@@ -2,7 +2,7 @@ use Rattle.std.proofs.Common.{◌≡◌, length, Some, None, inl, inr, refl, sub
 use Rattle.std.specs.Prelude.{slice_get}
 use Rattle.code_reach.specs.declared.marks.Mark.TheVariants.{Shared}
 use Rattle.cost_theory.specs.Reached.{HasNoBadWord}
-use Rattle.graph_runs.specs.Text.{text_of, kind_at}
+use Rattle.code_text.specs.Text.{text_of, kind_at}
 use Rattle.code_graph.specs.Finding.{reach_of, IsFirstBelow, IsLeastBad}
 use Rattle.code_graph.proofs.Lists.{none_is}
 use Rattle.code_graph.proofs.Causes.{fine_cause}

@@ -1,8 +1,8 @@
 use Rattle.std.proofs.Common.{Vec, Global, ◌≡◌, ◌+◌, ◌*◌, ◌<◌, ◌≤◌, ℕ, [], length, get_or, map, Some, Ok, Err, ap, sym, ◌∙◌, subst, arith}
 use Rattle.std.specs.Prelude.{slice_get}
 use Rattle.cost_theory.specs.Reached.{callee_of, edge_to}
-use Rattle.graph_runs.specs.Text.{text_of}
-use Rattle.graph_runs.specs.EdgeCosts.{edge_class}
+use Rattle.code_text.specs.Text.{text_of}
+use Rattle.code_text.specs.EdgeCosts.{edge_class}
 use Rattle.scale_base.specs.Answer.{AnswersBy}
 use Rattle.code_graph.specs.Building.{IsBuilt}
 use Rattle.code_graph.specs.Finding.{reach_of}

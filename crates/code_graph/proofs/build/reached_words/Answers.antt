@@ -1,5 +1,5 @@
 use Rattle.std.proofs.Common.{◌≤◌, length, sym, subst}
-use Rattle.graph_runs.specs.Text.{text_of, kind_at}
+use Rattle.code_text.specs.Text.{text_of, kind_at}
 use Rattle.code_text.proofs.Laws.{addresses_rise}
 use Rattle.code_reach.specs.Reach.{IsReachOf}
 use Rattle.code_reach.specs.Steps.{IsWordTableOf}

@@ -1,6 +1,6 @@
 use Rattle.std.proofs.Common.{◌≡◌, map, take, Some}
-use Rattle.graph_runs.specs.Text.{text_of}
-use Rattle.graph_runs.specs.EdgeCosts.{edge_class}
+use Rattle.code_text.specs.Text.{text_of}
+use Rattle.code_text.specs.EdgeCosts.{edge_class}
 use Rattle.code_graph.proofs.edges.classes_of.Given as goal
 
 abbrev pub invariant-loop-edge : goal.invariant-loop-edge

@@ -1,5 +1,5 @@
 use Rattle.std.proofs.Common.{ap, sym, ◌∙◌}
-use Rattle.graph_runs.specs.EdgeCosts.{class_by}
+use Rattle.code_text.specs.EdgeCosts.{class_by}
 use Rattle.code_graph.proofs.Causes.{instr_stored}
 use Rattle.code_graph.proofs.edges.edge_class.Goals as goal
 

@@ -1,5 +1,5 @@
 use Rattle.std.proofs.Common.{length, sym, subst}
-use Rattle.call_orders.specs.Arcs.{IsAnswer, IsCycle, AreNumbered}
+use Rattle.graph_algorithms.specs.Arcs.{IsAnswer, IsCycle, AreNumbered}
 use Rattle.code_graph.specs.Assembling.{AreCallArcs}
 use Rattle.code_graph.proofs.CallLaws.{arcs_numbered, cycle_numbered}
 use Rattle.code_graph.proofs.recursion.call_order_of.Goals as goal

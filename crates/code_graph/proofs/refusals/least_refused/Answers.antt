@@ -1,5 +1,5 @@
 use Rattle.std.proofs.Common.{length, Some, None, refl, subst}
-use Rattle.graph_runs.specs.Text.{text_of}
+use Rattle.code_text.specs.Text.{text_of}
 use Rattle.code_graph.specs.Finding.{reach_of, IsFirstBelow, IsRefusedWord}
 use Rattle.code_graph.proofs.Reaching.{least_with, least_without}
 use Rattle.code_graph.proofs.refusals.least_refused.Goals as goal

@@ -1,6 +1,6 @@
 use Rattle.std.proofs.Common.{ap, ◌∙◌, sym}
 use Rattle.std.specs.Prelude.{is_some}
-use Rattle.graph_runs.specs.Text.{text_of}
+use Rattle.code_text.specs.Text.{text_of}
 use Rattle.code_graph.proofs.Causes.{cause_misaligned, cause_none_stored, cause_stored, bad_stored}
 use Rattle.code_graph.proofs.refusals.refusal_at.Goals as goal
 

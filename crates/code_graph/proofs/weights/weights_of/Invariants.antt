@@ -1,6 +1,6 @@
 use Rattle.std.proofs.Common.{◌≡◌, map, take}
 use Rattle.power_model.specs.Price.{cycles_of}
-use Rattle.graph_runs.specs.EdgeCosts.{cost_of}
+use Rattle.code_text.specs.EdgeCosts.{cost_of}
 use Rattle.code_graph.proofs.weights.weights_of.Given as goal
 
 abbrev pub invariant-loop-class : goal.invariant-loop-class

@@ -1,5 +1,5 @@
 use Rattle.std.proofs.Common.{◌≡◌, ◌↔◌, ℕ, true, length, ap, subst, ◌∙◌, arith}
-use Rattle.graph_runs.specs.Text.{text_of, kind_at}
+use Rattle.code_text.specs.Text.{text_of, kind_at}
 use Rattle.code_reach.specs.Flow.{flag, CanReturnAt}
 use Rattle.code_reach.specs.Steps.{IsWordNumber, AreReachMarks}
 use Rattle.code_reach.specs.Outside.{IsLowest, IsOutsideOf, IsComeTo}

@@ -1,5 +1,5 @@
 use Rattle.std.proofs.Common.{◌≡◌, ◌-◌, sym, ap, ◌∙◌, arith, Some, None}
-use Rattle.graph_runs.specs.Text.{text_of, known_within, known_behind, instr_at}
+use Rattle.code_text.specs.Text.{text_of, known_within, known_behind, instr_at}
 use Rattle.code_text.proofs.KnownRows.{known_none, known_shut, known_open, before, is_word}
 use Rattle.code_text.proofs.known.+known_within.Goals as goal
 

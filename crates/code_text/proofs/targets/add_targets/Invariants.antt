@@ -2,7 +2,7 @@ use Rattle.std.proofs.Common.{◌≡◌, ℕ, ◌+◌, ◌*◌}
 use Rattle.std.specs.Prelude.{◌==◌, ◌||◌}
 use Rattle.std.specs.List.{list_any}
 use Rattle.cost_theory.specs.Graph.{any_below}
-use Rattle.graph_runs.specs.Text.{text_of, is_at, jump_of, instr_at}
+use Rattle.code_text.specs.Text.{text_of, is_at, jump_of, instr_at}
 use Rattle.code_text.proofs.targets.add_targets.Given as goal
 
 abbrev pub invariant-loop-k : goal.invariant-loop-k

@@ -1,4 +1,4 @@
-use Rattle.graph_runs.specs.Text.{text_of}
+use Rattle.code_text.specs.Text.{text_of}
 use Rattle.code_text.proofs.Walks.{walked_in}
 use Rattle.code_text.proofs.Rows.{all_put, sorted_rise}
 use Rattle.code_text.proofs.targets.targets_of.Goals as goal

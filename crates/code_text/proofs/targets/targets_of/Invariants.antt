@@ -1,7 +1,7 @@
 use Rattle.std.proofs.Common.{◌≡◌, ℕ, take}
 use Rattle.std.specs.Prelude.{◌==◌, ◌||◌}
 use Rattle.std.specs.List.{list_any}
-use Rattle.graph_runs.specs.Text.{text_of, jumps_from}
+use Rattle.code_text.specs.Text.{text_of, jumps_from}
 use Rattle.code_text.proofs.targets.targets_of.Given as goal
 
 abbrev pub invariant-loop-range : goal.invariant-loop-range

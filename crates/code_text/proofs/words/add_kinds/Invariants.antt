@@ -1,6 +1,6 @@
 use Rattle.std.proofs.Common.{◌≡◌, ◌+◌, ◌*◌, ◌++◌, map}
 use Rattle.std.specs.List.{range_with_len}
-use Rattle.graph_runs.specs.Text.{text_of, kind_at}
+use Rattle.code_text.specs.Text.{text_of, kind_at}
 use Rattle.code_text.proofs.words.add_kinds.Given as goal
 
 abbrev pub invariant-loop-k : goal.invariant-loop-k

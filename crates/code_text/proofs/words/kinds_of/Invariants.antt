@@ -1,5 +1,5 @@
 use Rattle.std.proofs.Common.{◌≡◌, take, map}
-use Rattle.graph_runs.specs.Text.{text_of, kind_at}
+use Rattle.code_text.specs.Text.{text_of, kind_at}
 use Rattle.code_text.specs.Table.{all_addresses}
 use Rattle.code_text.proofs.words.kinds_of.Given as goal
 

@@ -3,7 +3,7 @@ use Rattle.std.specs.Prelude.{FitsSigned}
 use Rattle.std.proofs.lemmas.Int.{to_z-of_z}
 use Rattle.scale_base.specs.Arith.{plus, moved_by}
 use Rattle.scale_base.specs.declared.instruction.Instr.TheVariants.{Branch}
-use Rattle.cost_theory.specs.declared.edges.EdgeKind.TheVariants.{Taken, Untaken}
+use Rattle.scale_base.specs.declared.edges.EdgeKind.TheVariants.{Taken, Untaken}
 use Rattle.foreign_scan.specs.Form.{HoldsAt, IsRunOut}
 use Rattle.foreign_scan.proofs.ReadLaws.{same_some}
 use Rattle.foreign_scan.proofs.stub.read_fork.Goals as goal

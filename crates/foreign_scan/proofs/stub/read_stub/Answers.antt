@@ -2,7 +2,7 @@ use Rattle.std.proofs.Common.{◌≡◌, ◌∙◌, ap, sym, subst, w32, of_z, t
 use Rattle.std.specs.Prelude.{FitsSigned, IfOk, IfSome, IfNone}
 use Rattle.std.proofs.lemmas.Int.{to_z-of_z}
 use Rattle.scale_base.specs.declared.instruction.Instr.TheVariants.{Branch, Jal}
-use Rattle.cost_theory.specs.declared.edges.EdgeKind.{EdgeKind}
+use Rattle.scale_base.specs.declared.edges.EdgeKind.{EdgeKind}
 use Rattle.foreign_scan.specs.declared.fragment.ForeignFragment.{ForeignFragment}
 use Rattle.foreign_scan.specs.Form.{IsStub}
 use Rattle.foreign_scan.specs.Stubs.{fragments_of, AreSameOn}

@@ -1,4 +1,4 @@
-use Rattle.graph_runs.specs.Text.{text_of, is_target}
+use Rattle.code_text.specs.Text.{text_of, is_target}
 use Rattle.code_text.proofs.Laws.{sorted_rise}
 use Rattle.image_lower.proofs.Rows.{all_noted}
 use Rattle.image_lower.proofs.far.entered_by.Goals as goal

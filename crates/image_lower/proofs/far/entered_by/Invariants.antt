@@ -1,7 +1,7 @@
 use Rattle.std.proofs.Common.{◌≡◌, ℕ, take}
 use Rattle.std.specs.Prelude.{◌==◌, ◌||◌}
 use Rattle.std.specs.List.{list_any}
-use Rattle.graph_runs.specs.Text.{text_of, is_target}
+use Rattle.code_text.specs.Text.{text_of, is_target}
 use Rattle.image_lower.specs.FarJumps.{is_noted}
 use Rattle.image_lower.proofs.far.entered_by.Given as goal
 

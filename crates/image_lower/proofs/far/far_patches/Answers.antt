@@ -1,5 +1,5 @@
 use Rattle.code_text.proofs.Laws.{walked_in}
-use Rattle.graph_runs.specs.Text.{text_of}
+use Rattle.code_text.specs.Text.{text_of}
 use Rattle.image_lower.specs.FarJumps.{far_patch}
 use Rattle.image_lower.proofs.Rows.{next_words}
 use Rattle.image_lower.proofs.far.far_patches.Goals as goal

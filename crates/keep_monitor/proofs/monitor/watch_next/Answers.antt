@@ -6,7 +6,7 @@ use Rattle.scale_base.specs.declared.stepping.Move.{Move}
 use Rattle.scale_base.specs.declared.stepping.Move.TheVariants.{Local}
 use Rattle.scale_base.specs.declared.stepping.Stepped.{Stepped}
 use Rattle.graph_runs.specs.ReturnAddresses.{returns_after, returns_by}
-use Rattle.loop_file.specs.Kept.{most_returns}
+use Rattle.graph_runs.specs.KeptRuns.{most_returns}
 use Rattle.keep_monitor.specs.Watch.{watch_returns}
 use Rattle.keep_monitor.proofs.monitor.watch_next.Goals as goal
 

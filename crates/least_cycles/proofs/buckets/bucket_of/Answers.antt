@@ -1,6 +1,6 @@
 use Rattle.std.proofs.Common.{◌≡◌, ◌<◌, ℕ, List, [], ◌∷◌, ◌++◌, Option, length, slice_set, sym, ◌∙◌, subst, arith}
-use Rattle.key_chains.specs.Keys.{IsLastBelow}
-use Rattle.loop_bodies.proofs.Laws.{place, place_less}
+use Rattle.graph_algorithms.specs.Keys.{IsLastBelow}
+use Rattle.graph_algorithms.proofs.Laws.{place, place_less}
 use Rattle.least_cycles.proofs.PriceLaws.{IsBucketFrom, bucket_first, bucket_more, bucket_last, next_is}
 use Rattle.least_cycles.proofs.buckets.bucket_of.Goals as goal
 

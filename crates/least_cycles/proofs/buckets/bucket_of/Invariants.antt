@@ -1,7 +1,7 @@
 use Rattle.std.proofs.Common.{ℕ, List, Option, length}
-use Rattle.key_chains.specs.Keys.{AreChains}
+use Rattle.graph_algorithms.specs.Keys.{AreChains}
 use Rattle.least_cycles.specs.Tables.{AreOwnerKeys}
-use Rattle.loop_bodies.proofs.Laws.{place}
+use Rattle.graph_algorithms.proofs.Laws.{place}
 use Rattle.least_cycles.proofs.PriceLaws.{IsBucketFrom}
 use Rattle.least_cycles.proofs.buckets.bucket_of.Given as goal
 

@@ -1,5 +1,5 @@
 use Rattle.std.proofs.Common.{ℕ, List, Option, length, sym, subst}
-use Rattle.key_chains.specs.Keys.{AreKeys}
+use Rattle.graph_algorithms.specs.Keys.{AreKeys}
 use Rattle.least_cycles.proofs.EndLaws.{back_keys_below}
 use Rattle.least_cycles.proofs.ends.back_chains.Goals as goal
 

@@ -1,6 +1,6 @@
 use Rattle.std.proofs.Common.{◌<◌, ◌≤◌, ℕ, Option, length, sym, subst, arith}
-use Rattle.key_chains.specs.Keys.{IsLastBelow}
-use Rattle.loop_bodies.proofs.Laws.{place, place_less}
+use Rattle.graph_algorithms.specs.Keys.{IsLastBelow}
+use Rattle.graph_algorithms.proofs.Laws.{place, place_less}
 use Rattle.least_cycles.specs.Tables.{least_by}
 use Rattle.least_cycles.specs.Ends.{AreBehindFrom}
 use Rattle.least_cycles.proofs.EndLaws.{behind_first, behind_more, behind_whole}

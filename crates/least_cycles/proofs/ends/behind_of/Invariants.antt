@@ -1,6 +1,6 @@
 use Rattle.std.proofs.Common.{ℕ, ◌≤◌, List, Option, length}
-use Rattle.key_chains.specs.Keys.{AreChains, IsLastBelow}
-use Rattle.loop_bodies.proofs.Laws.{place}
+use Rattle.graph_algorithms.specs.Keys.{AreChains, IsLastBelow}
+use Rattle.graph_algorithms.proofs.Laws.{place}
 use Rattle.least_cycles.specs.Tables.{AreBackKeys, least_by}
 use Rattle.least_cycles.specs.Ends.{AreBehindFrom}
 use Rattle.least_cycles.proofs.ends.behind_of.Given as goal

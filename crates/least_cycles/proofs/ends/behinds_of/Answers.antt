@@ -1,6 +1,6 @@
 use Rattle.std.proofs.Common.{rules, ◌≡◌, None, replicate, ◌+◌, ◌-◌, ◌<◌, ℕ, List, Option, Some, length, slice_get, slice_set, sym, ap, ◌∙◌, subst, arith}
 use Rattle.std.proofs.lemmas.Option.{slice_get-get_or}
-use Rattle.call_orders.specs.Arcs.{number_in_place}
+use Rattle.graph_algorithms.specs.Arcs.{number_in_place}
 use Rattle.cost_theory.specs.Least.{IsLeastIfAny, end_after}
 use Rattle.code_graph.specs.FlowGraph.{graph}
 use Rattle.least_cycles.specs.Hops.{number_in_table}

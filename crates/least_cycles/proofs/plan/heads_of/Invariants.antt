@@ -1,5 +1,5 @@
 use Rattle.std.proofs.Common.{◌≡◌, ◌≢◌, ℕ, ◌<◌, length, slice_get, Some, None}
-use Rattle.key_chains.specs.Keys.{option_at}
+use Rattle.graph_algorithms.specs.Keys.{option_at}
 use Rattle.least_cycles.proofs.plan.heads_of.Given as goal
 
 abbrev pub invariant-loop-l : goal.invariant-loop-l

@@ -1,6 +1,6 @@
 use Rattle.std.proofs.Common.{◌≡◌, ◌⊎◌, ◌↔◌, true, None, refl, subst}
 use Rattle.code_graph.specs.FlowGraph.{graph}
-use Rattle.call_orders.specs.Arcs.{number_in_place}
+use Rattle.graph_algorithms.specs.Arcs.{number_in_place}
 use Rattle.least_cycles.proofs.PriceLaws.{price_is, more_small}
 use Rattle.least_cycles.proofs.prices.price.Goals as goal
 

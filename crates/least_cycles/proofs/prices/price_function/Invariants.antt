@@ -1,4 +1,4 @@
-use Rattle.call_orders.specs.Arcs.{number_in_place}
+use Rattle.graph_algorithms.specs.Arcs.{number_in_place}
 use Rattle.least_cycles.specs.Functions.{IsFromFirst}
 use Rattle.least_cycles.specs.Tables.{ArePriced}
 use Rattle.least_cycles.proofs.prices.price_function.Given as goal

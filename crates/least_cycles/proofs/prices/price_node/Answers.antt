@@ -1,5 +1,5 @@
 use Rattle.std.proofs.Common.{◌≡◌, ◌⊎◌, ◌+◌, ◌<◌, length, arith, subst}
-use Rattle.call_orders.specs.Arcs.{number_in_place}
+use Rattle.graph_algorithms.specs.Arcs.{number_in_place}
 use Rattle.least_cycles.specs.Functions.{IsFromFirst, IsFromNext}
 use Rattle.least_cycles.specs.Tables.{ArePriced}
 use Rattle.least_cycles.proofs.FunctionLaws.{next_step, next_end}

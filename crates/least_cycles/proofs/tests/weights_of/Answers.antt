@@ -1,5 +1,5 @@
 use Rattle.std.proofs.Common.{◌≡◌, ℕ, List, length, sym, ap, ◌∙◌, subst, arith}
-use Rattle.call_orders.specs.Arcs.{number_in_place}
+use Rattle.graph_algorithms.specs.Arcs.{number_in_place}
 use Rattle.cost_theory.specs.Accepted.{AreWeights}
 use Rattle.code_graph.specs.FlowGraph.{graph}
 use Rattle.least_cycles.proofs.tests.weights_of.Goals as goal

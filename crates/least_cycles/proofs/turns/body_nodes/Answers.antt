@@ -1,8 +1,8 @@
 use Rattle.std.proofs.Common.{◌≡◌, ◌+◌, ◌-◌, ◌<◌, ℕ, List, length, slice_set, sym, ◌∙◌, subst, arith}
 use Rattle.std.proofs.lemmas.Option.{slice_get-get_or}
-use Rattle.call_orders.specs.Arcs.{number_in_place}
+use Rattle.graph_algorithms.specs.Arcs.{number_in_place}
 use Rattle.cost_theory.specs.Lists.{body_of}
-use Rattle.natural_loops.specs.Found.{IsAscending}
+use Rattle.loop_tree.specs.Found.{IsAscending}
 use Rattle.least_cycles.proofs.TurnLaws.{IsReversedTo, reversed_first, reversed_more, body_is, body_few}
 use Rattle.least_cycles.proofs.turns.body_nodes.Goals as goal
 

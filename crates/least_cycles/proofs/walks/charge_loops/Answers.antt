@@ -1,7 +1,7 @@
 use Rattle.std.proofs.Common.{◌≡◌, ◌<◌, ◌≤◌, ◌^◌, ℕ, Option, length, slice_set, sym, ap, ◌∙◌, subst, arith, get_or-set_other, length-set}
 use Rattle.code_graph.proofs.Laws.{few_once}
-use Rattle.key_chains.specs.Keys.{IsLastBelow}
-use Rattle.loop_bodies.proofs.Laws.{place, place_less}
+use Rattle.graph_algorithms.specs.Keys.{IsLastBelow}
+use Rattle.graph_algorithms.proofs.Laws.{place, place_less}
 use Rattle.least_laws.specs.Charged.{Charged}
 use Rattle.least_cycles.specs.Charging.{IsCharging, ArePricedAt, IsChargeKnown, AreChargedTo, IsHeaderFrom, loop_owner}
 use Rattle.least_cycles.proofs.ChargeLaws.{charges_low}

@@ -1,6 +1,6 @@
 use Rattle.std.proofs.Common.{◌≡◌, ℕ, ◌+◌, ◌<◌, Bool, List, Option, Some, length, slice_get, ap, sym, ◌∙◌, subst, arith}
 use Rattle.std.proofs.lemmas.Option.{slice_get-get_or}
-use Rattle.call_orders.specs.Arcs.{number_in_place}
+use Rattle.graph_algorithms.specs.Arcs.{number_in_place}
 use Rattle.least_cycles.specs.Functions.{IsBucket, AreKinds, IsFromFirst, AreLeastRuns}
 use Rattle.least_cycles.specs.Tables.{AreSmallTables, ArePriced, AreWritten, IsBefore}
 use Rattle.least_cycles.specs.Charging.{own_by, cost_with, ArePricedAt, AreChargedTo, loop_owner}

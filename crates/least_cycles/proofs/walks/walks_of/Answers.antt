@@ -1,6 +1,6 @@
 use Rattle.std.proofs.Common.{rules, ◌≡◌, None, replicate, length, ap, ◌∙◌, subst, arith}
 use Rattle.std.proofs.lemmas.List.{length-replicate}
-use Rattle.call_orders.specs.Arcs.{number_in_place}
+use Rattle.graph_algorithms.specs.Arcs.{number_in_place}
 use Rattle.least_cycles.specs.Tables.{IsBefore, AreWalksOf}
 use Rattle.least_cycles.specs.Charging.{own_by, AreChargedTo, loop_owner}
 use Rattle.least_cycles.proofs.WalkLaws.{walks_first, walks_whole, none_before, zero_low}

@@ -1,4 +1,4 @@
-use Rattle.call_orders.specs.Arcs.{number_in_place}
+use Rattle.graph_algorithms.specs.Arcs.{number_in_place}
 use Rattle.least_laws.specs.Charged.{Charged}
 use Rattle.least_cycles.specs.Tables.{IsBefore}
 use Rattle.least_cycles.specs.Charging.{IsCharging, HasWalks, AreCharges, AreChargedTo, loop_owner, IsScratch}

@@ -1,6 +1,6 @@
 use Rattle.std.proofs.Common.{◌≡◌, length, map, sym, ap, ◌∙◌, subst}
-use Rattle.loop_nesting.specs.Nesting.{AreLoops, IsNesting, bodies_of}
-use Rattle.natural_loops.specs.Found.{LoopsView}
+use Rattle.graph_algorithms.specs.Nesting.{AreLoops, IsNesting, bodies_of}
+use Rattle.loop_tree.specs.Found.{LoopsView}
 use Rattle.loop_file.specs.declared.notes.LoopNote.{LoopNote}
 use Rattle.loop_file.specs.Kept.{noted_loops}
 use Rattle.loop_tree.specs.Stored.{IsStoredTree}

@@ -1,5 +1,5 @@
 use Rattle.std.proofs.Common.{arith, ◌≡◌, ◌+◌, length, subst, sym}
-use Rattle.loop_nesting.specs.Nesting.{bodies_of}
+use Rattle.graph_algorithms.specs.Nesting.{bodies_of}
 use Rattle.loop_tree.specs.Backs.{AreBacks}
 use Rattle.loop_tree.proofs.BackLaws.{backs_more}
 use Rattle.loop_tree.proofs.backs.back_loops.Goals as goal

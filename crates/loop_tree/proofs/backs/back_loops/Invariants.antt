@@ -1,4 +1,4 @@
-use Rattle.loop_nesting.specs.Nesting.{bodies_of}
+use Rattle.graph_algorithms.specs.Nesting.{bodies_of}
 use Rattle.loop_tree.specs.Backs.{AreBacks}
 use Rattle.loop_tree.proofs.backs.back_loops.Given as goal
 

@@ -1,5 +1,5 @@
 use Rattle.std.proofs.Common.{◌≡◌, ℕ, ◌<◌, length, slice_get, Some}
-use Rattle.call_orders.specs.Arcs.{number_in_place}
+use Rattle.graph_algorithms.specs.Arcs.{number_in_place}
 use Rattle.loop_tree.proofs.cycles.addresses_of.Given as goal
 
 abbrev pub invariant-loop-k : goal.invariant-loop-k

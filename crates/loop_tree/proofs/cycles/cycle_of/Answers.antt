@@ -1,6 +1,6 @@
 use Rattle.std.proofs.Common.{sym, subst}
-use Rattle.call_orders.specs.Cycles.{IsCycleBy}
-use Rattle.call_orders.proofs.Laws.{cycle_turned}
+use Rattle.graph_algorithms.specs.Cycles.{IsCycleBy}
+use Rattle.graph_algorithms.proofs.Laws.{cycle_turned}
 use Rattle.loop_tree.specs.Backs.{IsStepBy}
 use Rattle.loop_tree.proofs.RoundLaws.{round_of_addresses}
 use Rattle.loop_tree.proofs.cycles.cycle_of.Goals as goal

@@ -1,6 +1,6 @@
 use Rattle.std.proofs.Common.{◌≡◌, ◌<◌, ℕ, true, take}
 use Rattle.cost_theory.specs.Lists.{is_among}
-use Rattle.loop_bodies.specs.Bodies.{in_node_ranges}
+use Rattle.graph_algorithms.specs.Bodies.{in_node_ranges}
 use Rattle.loop_tree.proofs.trips.has_ranges.Given as goal
 
 abbrev pub invariant-loop-range : goal.invariant-loop-range

@@ -1,6 +1,6 @@
 use Rattle.std.proofs.Common.{Some, sym, ap, ◌∙◌}
 use Rattle.cost_theory.specs.Reached.{edge_at}
-use Rattle.natural_loops.proofs.Laws.{source_number}
+use Rattle.loop_tree.proofs.Laws.{source_number}
 use Rattle.scale_sites.proofs.sites.source_of.Goals as goal
 
 pub node_at-requires : goal.node_at-requires

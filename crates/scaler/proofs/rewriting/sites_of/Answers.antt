@@ -1,7 +1,7 @@
 use Rattle.std.proofs.Common.{sym, ap, subst, List, ℕ}
 use Rattle.std.proofs.lemmas.Result.{err_from_is_err_and}
 use Rattle.cost_theory.specs.Accepted.{AreWeights}
-use Rattle.graph_runs.specs.Text.{text_of}
+use Rattle.code_text.specs.Text.{text_of}
 use Rattle.power_model.specs.Numbers.{PowerModel}
 use Rattle.power_model.specs.Price.{cycles_of}
 use Rattle.code_graph.specs.FlowGraph.{graph}

@@ -2,7 +2,7 @@ use Rattle.std.proofs.Common.{true, ◌≡◌, ◌<◌, ◌≤◌, ◌+◌, ◌+
 use Rattle.std.specs.Prelude.{slice_index}
 use Rattle.std.proofs.lemmas.Bool.{eq-eqb, eqb-true}
 use Rattle.cost_theory.specs.Reached.{edge_at}
-use Rattle.graph_runs.specs.Text.{text_of}
+use Rattle.code_text.specs.Text.{text_of}
 use Rattle.rewritten_runs.specs.Stubs.{marks_by_slack, fragments_at}
 use Rattle.scaler.specs.Markings.{AreMarkedEdges}
 use Rattle.scaler.proofs.EdgeBlocks.{marked_none, marked_skip, marked_push, marked_all, short_row, length_none, map_none, map_some}

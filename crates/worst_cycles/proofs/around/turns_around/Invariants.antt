@@ -1,5 +1,5 @@
 use Rattle.std.proofs.Common.{◌≡◌, ℕ, ◌*◌, ◌^◌, ◌≤◌, length}
-use Rattle.call_orders.specs.Arcs.{number_in_place}
+use Rattle.graph_algorithms.specs.Arcs.{number_in_place}
 use Rattle.worst_cycles.specs.Worst.{by_edge}
 use Rattle.worst_cycles.proofs.AroundLaws.{AreTurnsTo}
 use Rattle.worst_cycles.proofs.around.turns_around.Given as goal

@@ -1,5 +1,5 @@
 use Rattle.std.proofs.Common.{◌≡◌, ℕ, ◌<◌, length, slice_get, Some}
-use Rattle.call_orders.specs.Arcs.{number_in_place}
+use Rattle.graph_algorithms.specs.Arcs.{number_in_place}
 use Rattle.code_graph.specs.FlowGraph.{graph}
 use Rattle.worst_cycles.proofs.entries.entry_nodes.Given as goal
 

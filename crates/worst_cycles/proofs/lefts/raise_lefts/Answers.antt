@@ -1,5 +1,5 @@
 use Rattle.std.proofs.Common.{◌≡◌, ◌≢◌, ℕ, ◌+◌, ◌^◌, ◌<◌, ◌≤◌, length, length-set, set, None, Vec, Global, arith, refl, sym, ap, ◌∙◌, subst}
-use Rattle.call_orders.specs.Arcs.{number_in_place}
+use Rattle.graph_algorithms.specs.Arcs.{number_in_place}
 use Rattle.worst_cycles.proofs.SearchLaws.{value_at}
 use Rattle.worst_cycles.proofs.IterationLaws.{step_node}
 use Rattle.worst_cycles.proofs.LeftLaws.{AreRaisedTo, raised_first, raised_more, raised_past, small_set}

@@ -1,7 +1,7 @@
 use Rattle.std.proofs.Common.{◌<◌, length, Some, sym, ap, ◌∙◌, refl, arith}
 use Rattle.cost_theory.specs.Reached.{edge_at}
-use Rattle.call_orders.specs.Arcs.{number_in_place}
-use Rattle.natural_loops.proofs.Laws.{source_number}
+use Rattle.graph_algorithms.specs.Arcs.{number_in_place}
+use Rattle.loop_tree.proofs.Laws.{source_number}
 use Rattle.worst_cycles.proofs.NeedLaws.{edges_needed, need_skipped, need_added}
 use Rattle.worst_cycles.proofs.order.add_calls.Goals as goal
 use Rattle.worst_cycles.proofs.order.add_calls.Goals.{in-Some+in_ok-push, in_default}

@@ -1,5 +1,5 @@
 use Rattle.std.proofs.Common.{◌≡◌, length, true, false, sym, ap, ◌∙◌, subst}
-use Rattle.call_orders.specs.Arcs.{AreNumbered, IsAnswer, IsSorted, is_sorted}
+use Rattle.graph_algorithms.specs.Arcs.{AreNumbered, IsAnswer, IsSorted, is_sorted}
 use Rattle.worst_cycles.specs.Needs.{AreNeeds}
 use Rattle.worst_cycles.proofs.NeedLaws.{needs_numbered, sorted_needed}
 use Rattle.worst_cycles.proofs.FallLaws.{no_needs_round}

@@ -1,7 +1,7 @@
 use Rattle.std.proofs.Common.{◌≡◌, ◌<◌, length, length-set, arith, sym, ◌∙◌, subst}
 use Rattle.cost_theory.specs.Worst.{Numbers}
-use Rattle.call_orders.specs.Arcs.{number_in_place}
-use Rattle.natural_loops.specs.Noted.{node_address}
+use Rattle.graph_algorithms.specs.Arcs.{number_in_place}
+use Rattle.loop_tree.specs.Noted.{node_address}
 use Rattle.loop_tree.specs.Tree.{loops}
 use Rattle.worst_cycles.specs.Worst.{by_edge}
 use Rattle.worst_cycles.specs.Visits.{AreSolvedBy, IsVisit, AreVisitedTo}

@@ -1,8 +1,7 @@
-use Rattle.std.proofs.Common.{◌∙◌, ap}
+use Rattle.std.proofs.Common.{◌∙◌, ap, List}
 use Rattle.std.specs.List.{find}
 use Rattle.std.specs.Option.{option_map}
 use Rattle.scale_base.specs.declared.headers.ProgramHeader.{ProgramHeader}
-use Rattle.std.proofs.Common.{List}
 use Rattle.scale_base.specs.Image.{contents, keyed_of, has_key}
 use Rattle.elf_view.proofs.view.ImageView.keyed.Goals as goal
 

@@ -1,7 +1,7 @@
 use Rattle.std.proofs.Common.{rules, ◌≡◌, ◌≤◌, ◌∙◌, ℕ, Bool, List, [], true, false, ap, sym, subst, length, reverse, vec_len}
 use Rattle.std.specs.Prelude.{slice_index_or}
 use Rattle.std.proofs.lemmas.List.{length-reverse}
-use Rattle.loop_file.specs.Kept.{most_returns}
+use Rattle.graph_runs.specs.KeptRuns.{most_returns}
 use Rattle.keep_monitor.specs.Slots.{slot_of}
 use Rattle.keep_monitor.specs.Steps.{AreTurning}
 use Rattle.keep_monitor.specs.Watch.{Watched, watch}

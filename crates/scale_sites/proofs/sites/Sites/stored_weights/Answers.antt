@@ -3,7 +3,7 @@ use Rattle.std.proofs.lemmas.Bool.{cases_lt}
 use Rattle.scale_sites.specs.Weights.{extra_of}
 use Rattle.scale_sites.specs.Sites.{marks_at_edge}
 use Rattle.power_model.specs.Price.{cycles_of}
-use Rattle.graph_runs.specs.EdgeCosts.{cost_of}
+use Rattle.code_text.specs.EdgeCosts.{cost_of}
 use Rattle.scale_sites.proofs.SiteLaws.{base_small}
 use Rattle.scale_sites.proofs.sites.Sites.stored_weights.Goals as goal
 

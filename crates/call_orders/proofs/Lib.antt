@@ -1,5 +1,0 @@
-mod SearchLaws
-mod OrderLaws
-mod ChainLaws
-pub mod CycleLaws
-pub mod Laws

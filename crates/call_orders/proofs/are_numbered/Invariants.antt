@@ -1,6 +1,0 @@
-use Rattle.std.proofs.Common.{ℕ, ◌<◌}
-use Rattle.call_orders.specs.Arcs.{arc_at}
-use Rattle.call_orders.proofs.are_numbered.Given as goal
-
-abbrev pub invariant-loop-arc : goal.invariant-loop-arc
-invariant-loop-arc l = (s : ℕ) → s < l.arc-index → ((arc_at l.arcs s).from < l.count) × ((arc_at l.arcs s).to < l.count)

@@ -1,3 +1,0 @@
-pub mod Arcs
-pub mod Search
-pub mod Cycles

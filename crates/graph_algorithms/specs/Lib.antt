@@ -1,0 +1,10 @@
+pub mod Keys
+pub mod Arcs
+pub mod DepthFirst
+pub mod Cycles
+pub mod Edges
+pub mod Bodies
+pub mod BodySearch
+pub mod Groups
+pub mod Nesting
+pub mod NestingPass

@@ -1,9 +1,0 @@
-use Rattle.graph_runs.proofs.KnownNumbers.{known_numbers}
-use Rattle.graph_runs.proofs.RangesApart.{image_numbers}
-use Rattle.graph_runs.proofs.known_numbers_are_put.Goals as goal
-
-pub returns-clause-text : goal.returns-clause-text
-returns-clause-text c = known_numbers
-
-pub returns-clause-image : goal.returns-clause-image
-returns-clause-image c = image_numbers

@@ -1,5 +1,0 @@
-use Rattle.loop_bodies.proofs.BitLaws.{set_flags}
-use Rattle.loop_bodies.proofs.bits.set_bit.Goals as goal
-
-pub returns-clause-bits : goal.returns-clause-bits
-returns-clause-bits c = set_flags c.args.words.now c.args.node c.args.bit c.requires.node c.requires.bit

@@ -1,5 +1,0 @@
-use Rattle.loop_bodies.proofs.GroupLaws.{AreAdded}
-use Rattle.loop_bodies.proofs.groups.add_body.Given as goal
-
-abbrev pub invariant-loop-node : goal.invariant-loop-node
-invariant-loop-node l = AreAdded l.fn.words l.body l.bit l.node-index l.words

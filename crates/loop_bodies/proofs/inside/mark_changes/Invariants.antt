@@ -1,5 +1,0 @@
-use Rattle.loop_bodies.proofs.InsideLaws.{AreMarkedBelow}
-use Rattle.loop_bodies.proofs.inside.mark_changes.Given as goal
-
-abbrev pub invariant-loop-range : goal.invariant-loop-range
-invariant-loop-range l = AreMarkedBelow l.extent l.bit l.fn.changes l.range-index l.changes

@@ -1,6 +1,0 @@
-use Rattle.std.proofs.Common.{◌≡◌, ℕ, ◌<◌, false}
-use Rattle.loop_bodies.specs.Search.{is_marked_at}
-use Rattle.loop_bodies.proofs.sweep.is_quiet.Given as goal
-
-abbrev pub invariant-loop-waits : goal.invariant-loop-waits
-invariant-loop-waits l = (v : ℕ) → v < l.waits-index → is_marked_at l.pending v ≡ false

@@ -1,4 +1,0 @@
-pub mod Edges
-pub mod Bodies
-pub mod Search
-pub mod Groups

@@ -1,4 +1,0 @@
-pub mod NestingLaws
-pub mod PassLaws
-pub mod RankLaws
-pub mod Checks

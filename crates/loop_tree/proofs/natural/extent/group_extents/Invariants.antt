@@ -1,0 +1,5 @@
+use Rattle.loop_tree.specs.Passes.{AreExtents}
+use Rattle.loop_tree.proofs.natural.extent.group_extents.Given as goal
+
+abbrev pub invariant-loop-k : goal.invariant-loop-k
+invariant-loop-k l = AreExtents l.graph l.notes l.headers l.first l.k l.loops.items

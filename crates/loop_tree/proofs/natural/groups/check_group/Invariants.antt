@@ -1,0 +1,9 @@
+use Rattle.std.proofs.Common.{◌≡◌, ℕ, ◌<◌}
+use Rattle.loop_tree.specs.Noted.{IsNotedSideEntry}
+use Rattle.loop_tree.proofs.natural.groups.check_group.Given as goal
+
+abbrev pub invariant-loop-k : goal.invariant-loop-k
+invariant-loop-k l = record {
+  same : l.search ≡ l.fn.search;
+  none : (k a b : ℕ) → k < l.k → IsNotedSideEntry l.graph l.notes k a b → ⊥;
+}

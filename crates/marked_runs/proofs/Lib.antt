@@ -1,6 +1,0 @@
-pub mod Aligned
-pub mod Words
-pub mod Kept
-pub mod Graphs
-pub mod Laws
-pub mod Shown

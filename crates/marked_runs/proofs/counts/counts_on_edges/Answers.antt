@@ -1,8 +1,0 @@
-use Rattle.marked_runs.proofs.Shown.{counts_shown, counts_within}
-use Rattle.marked_runs.proofs.counts.counts_on_edges.Goals as goal
-
-pub returns-clause-shown : goal.returns-clause-shown
-returns-clause-shown c = counts_shown
-
-pub returns-clause-within : goal.returns-clause-within
-returns-clause-within c = counts_within

@@ -1,5 +1,0 @@
-use Rattle.natural_loops.proofs.ReadyLaws.{HaveBackEdges}
-use Rattle.natural_loops.proofs.back_edges.check_back_edges.Given as goal
-
-abbrev pub invariant-loop-k : goal.invariant-loop-k
-invariant-loop-k l = HaveBackEdges l.graph l.notes l.k

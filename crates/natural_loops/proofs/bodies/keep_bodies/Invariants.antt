@@ -1,9 +1,0 @@
-use Rattle.std.proofs.Common.{◌≡◌, map}
-use Rattle.natural_loops.specs.Passes.{AreBodies}
-use Rattle.natural_loops.proofs.bodies.keep_bodies.Given as goal
-
-abbrev pub invariant-loop-k : goal.invariant-loop-k
-invariant-loop-k l = record {
-  same : l.search ≡ l.fn.search;
-  bodies : AreBodies l.graph l.notes l.k (map (λ body. body.items) l.bodies.items);
-}

@@ -1,5 +1,0 @@
-use Rattle.natural_loops.specs.Passes.{AreExtents}
-use Rattle.natural_loops.proofs.extent.group_extents.Given as goal
-
-abbrev pub invariant-loop-k : goal.invariant-loop-k
-invariant-loop-k l = AreExtents l.graph l.notes l.headers l.first l.k l.loops.items

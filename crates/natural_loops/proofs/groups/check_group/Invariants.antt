@@ -1,9 +1,0 @@
-use Rattle.std.proofs.Common.{◌≡◌, ℕ, ◌<◌}
-use Rattle.natural_loops.specs.Noted.{IsNotedSideEntry}
-use Rattle.natural_loops.proofs.groups.check_group.Given as goal
-
-abbrev pub invariant-loop-k : goal.invariant-loop-k
-invariant-loop-k l = record {
-  same : l.search ≡ l.fn.search;
-  none : (k a b : ℕ) → k < l.k → IsNotedSideEntry l.graph l.notes k a b → ⊥;
-}

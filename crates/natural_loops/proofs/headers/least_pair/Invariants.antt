@@ -1,5 +1,0 @@
-use Rattle.natural_loops.proofs.HeaderLaws.{ArePairs}
-use Rattle.natural_loops.proofs.headers.least_pair.Given as goal
-
-abbrev pub invariant-loop-k : goal.invariant-loop-k
-invariant-loop-k l = ArePairs l.headers l.count l.k l.firsts.items l.least

@@ -1,5 +1,0 @@
-pub mod Ends
-pub mod Noted
-pub mod Found
-pub mod Refused
-pub mod Passes
