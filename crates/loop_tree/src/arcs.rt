@@ -5,9 +5,9 @@ ghost use Rattle.code_graph.specs.FlowGraph.{IsFlowGraph};
 ghost use Rattle.loop_tree.specs.Arcs.{ArePlainArcs};
 ghost use Rattle.loop_tree.specs.Backs.{IsArcOf};
 
-use graph_algorithms::Arc;
-use code_graph::CodeGraph;
 use crate::natural::node_at;
+use code_graph::CodeGraph;
+use graph_algorithms::Arc;
 use scale_base::NoMemory;
 use std::alloc::Global;
 

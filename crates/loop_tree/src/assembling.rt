@@ -7,12 +7,12 @@ ghost use Rattle.loop_tree.specs.Found.{loops_seen, AreNaturalLoops};
 ghost use Rattle.loop_tree.specs.Tree.{ArePlainOrdered, IsTreeOf};
 ghost use Rattle.loop_tree.specs.Backs.{AreBacks};
 
+use crate::natural::NaturalLoops;
 use crate::tree::LoopTree;
 use crate::trips::trips_of;
 use code_graph::CodeGraph;
-use loop_file::LoopNotes;
 use graph_algorithms::nest_loops;
-use crate::natural::NaturalLoops;
+use loop_file::LoopNotes;
 use scale_base::NoMemory;
 use std::alloc::Global;
 

@@ -6,8 +6,8 @@ ghost use Rattle.code_graph.specs.FlowGraph.{IsFlowGraph};
 ghost use Rattle.graph_algorithms.specs.Nesting.{bodies_of};
 ghost use Rattle.loop_tree.specs.Backs.{IsRising, AreDistinctHeaders, ArePlacedHeaders, AreLoopLists, IsBackBetween, AreBacks};
 
-use code_graph::CodeGraph;
 use crate::natural::node_at;
+use code_graph::CodeGraph;
 use scale_base::NoMemory;
 use std::alloc::Global;
 

@@ -7,8 +7,8 @@ ghost use Rattle.graph_algorithms.specs.Cycles.{IsCycleBy};
 ghost use Rattle.loop_tree.specs.Arcs.{AreAddressesOf, IsRoundOfNodes};
 ghost use Rattle.loop_tree.specs.Backs.{IsStepBy};
 
-use graph_algorithms::least_first;
 use code_graph::CodeGraph;
+use graph_algorithms::least_first;
 use scale_base::{Cycle, NoMemory};
 use std::alloc::Global;
 

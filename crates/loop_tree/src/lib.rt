@@ -12,17 +12,17 @@ mod natural;
 mod tree;
 mod trips;
 
+use crate::natural::find_loops;
 pub use arcs::plain_arcs;
 use assembling::assemble;
 use backs::back_loops;
-use graph_algorithms::{Order, sort};
 use code_graph::CodeGraph;
 use cycles::cycle_of;
+use graph_algorithms::{Order, sort};
 use loop_file::LoopNotes;
-use crate::natural::find_loops;
+pub use natural::node_at;
 use scale_base::{Refusal, Stop};
 use std::alloc::Global;
-pub use natural::node_at;
 pub use tree::LoopTree;
 
 /// The loops of a graph by their notes, in the notes' order, with an order of the nodes along plain edges; or why they are

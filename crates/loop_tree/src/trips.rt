@@ -9,10 +9,10 @@ ghost use Rattle.loop_tree.specs.Backs.{IsRising};
 ghost use Rattle.loop_tree.specs.Trips.{IsWholeBody, AreTripsOf, AreTrips};
 
 use crate::backs::has;
+use crate::natural::{NaturalLoops, extent_of};
 use code_graph::CodeGraph;
 use graph_algorithms::NodeRange;
 use loop_file::{LoopNote, LoopNotes};
-use crate::natural::{NaturalLoops, extent_of};
 use scale_base::NoMemory;
 use std::alloc::Global;
 

@@ -8,7 +8,10 @@ mod legs;
 mod marked;
 
 pub use legs::{legs_are_paid, switches_save_energy};
-pub use marked::{counts_on_edges, graphs_can_be_marked, kept_runs_are_followed, kept_runs_are_patched, transitions_cost_stored_weights};
+pub use marked::{
+    counts_on_edges, graphs_can_be_marked, kept_runs_are_followed, kept_runs_are_patched,
+    transitions_cost_stored_weights,
+};
 
 /// The stored run of a kept run is in time at every step of the original, and no step of it leaves a higher level; and one that exits takes
 /// no more energy than its own cycles at the starting level.

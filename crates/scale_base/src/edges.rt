@@ -1,6 +1,5 @@
 //! The edges of a program's control-flow graph.
 
-
 /// What kind of edge: a branch taken or untaken, a jump, the way to the next instruction, the way back behind a call
 /// that returns, or an end. An end leads to no node of the function: a return, an exit, a breakpoint, or a call whose
 /// run ends within the called function.

@@ -1,8 +1,8 @@
 //! What a rewriting finds.
 
+use crate::edges::Edge;
 use crate::fragments::Fragment;
 use crate::summary::Summary;
-use crate::edges::Edge;
 
 /// A fragment of code on an edge.
 #[derive(Drop)]

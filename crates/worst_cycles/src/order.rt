@@ -5,10 +5,9 @@ ghost use Rattle.code_graph.specs.FlowGraph.{IsFlowGraph};
 ghost use Rattle.loop_tree.specs.Arcs.{ArePlainArcs};
 ghost use Rattle.worst_cycles.specs.Needs.{AreEntries, AreNeeds, HasTree, IsNeededFirst};
 
-use graph_algorithms::{Arc, Order, sort};
 use code_graph::CodeGraph;
-use loop_tree::{LoopTree, plain_arcs};
-use loop_tree::node_at;
+use graph_algorithms::{Arc, Order, sort};
+use loop_tree::{LoopTree, node_at, plain_arcs};
 use scale_base::NoMemory;
 use std::alloc::Global;
 

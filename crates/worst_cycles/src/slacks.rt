@@ -12,8 +12,7 @@ ghost use Rattle.worst_cycles.specs.Lefts.{HasSolved, AreLefts, AreTurnsRound, A
 use crate::plan::Plan;
 use crate::visits::{Visit, cost_of};
 use code_graph::{CodeGraph, Weights};
-use loop_tree::LoopTree;
-use loop_tree::node_at;
+use loop_tree::{LoopTree, node_at};
 use scale_base::NoMemory;
 use std::alloc::Global;
 
