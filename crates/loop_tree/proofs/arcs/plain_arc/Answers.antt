@@ -1,6 +1,6 @@
 use Rattle.std.proofs.Common.{Some, ap, ◌∙◌}
 use Rattle.cost_theory.specs.Reached.{edge_at}
-use Rattle.loop_tree.proofs.Laws.{source_number}
+use Rattle.loop_tree.proofs.NodeLaws.{source_number}
 use Rattle.loop_tree.proofs.arcs.plain_arc.Goals as goal
 
 pub node_at-from-requires : goal.node_at-from-requires

@@ -4,7 +4,7 @@ use Rattle.std.proofs.lemmas.Option.{same_Some}
 use Rattle.cost_theory.specs.Reached.{edge_at}
 use Rattle.cost_theory.specs.Lists.{body_of, is_among}
 use Rattle.code_graph.specs.FlowGraph.{graph}
-use Rattle.loop_tree.proofs.Laws.{source_number}
+use Rattle.loop_tree.proofs.NodeLaws.{source_number}
 use Rattle.graph_algorithms.specs.Nesting.{bodies_of}
 use Rattle.loop_tree.specs.Backs.{IsRising}
 use Rattle.loop_tree.proofs.Lists.{body_read}
