@@ -146,12 +146,7 @@ impl Reply {
     }
 
     /// What `lower` gives for its two files.
-    pub fn lowered(
-        alloc: Global,
-        out: &str,
-        image: &[u8],
-        jumps: &[u8],
-    ) -> Result<Reply, NoMemory>
+    pub fn lowered(alloc: Global, out: &str, image: &[u8], jumps: &[u8]) -> Result<Reply, NoMemory>
         requires { length image.now ≤ 4194304 }
         ensures { IfOk result (λ reply. MakesStored (IsLowered image.now jumps.now) counts_text out.now (reply_view reply)) }
     {
