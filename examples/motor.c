@@ -1,11 +1,12 @@
-/* Runs the commands of a motor controller: reads up to 64 commands, one byte each, and writes the speed behind each of them. The upper
-   three bits of a command say what to do, and the lower five by how much.
+/* Runs the commands of a motor controller: reads up to 64 commands, one byte each, and writes a frame of 66 bytes: the speed behind each of
+   them, zeros behind these, and the heat that the 64 speeds make, in two bytes. The upper three bits of a command say what to do, and
+   the lower five by how much.
    Freestanding: the machine has the services read (63), write (64) and exit (93). */
 
 #define COMMANDS 64
 
 static unsigned char commands[COMMANDS];
-static unsigned char speeds[COMMANDS];
+static unsigned char frame[COMMANDS + 2];
 
 static int read_bytes(void *to, int most) {
     register int count asm("a0") = 0;
@@ -60,6 +61,14 @@ static __attribute__((noinline)) int after(int speed, int command) {
     }
 }
 
+/* The heat of a motor grows with the square of its speed. */
+static __attribute__((noinline)) int heat(void) {
+    int sum = 0;
+    for (int k = 0; k < COMMANDS; k++)
+        sum += frame[k] * frame[k] / 100;
+    return sum;
+}
+
 /* The entry sets the global pointer, by which the linker reaches the commands. */
 asm(".globl _start\n_start:\n\t.option push\n\t.option norelax\n\tla gp, __global_pointer$\n\t.option pop\n\tj job");
 
@@ -68,8 +77,11 @@ __attribute__((noreturn)) void job(void) {
     int speed = 0;
     for (int k = 0; k < count; k++) {
         speed = after(speed, commands[k]) & 255;
-        speeds[k] = speed;
+        frame[k] = speed;
     }
-    write_bytes(speeds, count);
+    int sum = heat();
+    frame[COMMANDS] = sum >> 8;
+    frame[COMMANDS + 1] = sum;
+    write_bytes(frame, COMMANDS + 2);
     leave(0);
 }

@@ -1,10 +1,11 @@
 -- What the files that a command has stored promise to whoever runs them.
-use Rattle.std.specs.Prelude.{◌≡◌, ℕ, List, [], ◌∷◌, ◌++◌, Option, Some, None, IfSome, Ok, codes}
+use Rattle.std.specs.Prelude.{◌≡◌, ℕ, ◌<◌, ◌^◌, List, [], ◌∷◌, ◌++◌, All, Option, Some, None, IfSome, Ok, codes}
 use Rattle.std.specs.FinMap.{get}
 use Rattle.scaler.specs.Held.{IsHeld}
 use Rattle.scaler.specs.Rewritten.{IsRewritten}
 use Rattle.scaler.specs.RewrittenRuns.{IsRewrittenSafely}
 use Rattle.scaler.specs.Runs.{IsHeldSafely}
+use Rattle.image_lower.specs.declared.lowering.Lowered.{Lowered}
 use Rattle.image_lower.specs.Lowered.{IsLowered}
 use Rattle.image_lower.specs.Promise.{IsLoweredSafely}
 use Rattle.host_files.specs.HostState.{Files, HostState}
@@ -24,6 +25,10 @@ pub record StoredPromise {A : Type 0} (Gives : Giving A) (Safe : Keeping A) (out
   pub told : A
   pub given : Gives (Ok ((stored, told)))
   pub safe : (printed : A) → Gives (Ok ((stored, printed))) → Safe stored printed
+
+-- what a lowered image keeps to, where each number of the loaded image is a byte
+abbrev pub KeepsLowered : (image jumps : List ℕ) → Keeping Lowered
+KeepsLowered image jumps stored counts = All (λ b. b < 2 ^ 8) image → IsLoweredSafely image jumps stored counts
 
 -- of `make`: the files of the program of this number and size stand, and beside them what `rewrite` gives for them
 pub record MadePromise (number size : ℕ) (prefix : List ℕ) (after : Files) : Type 0 where
@@ -46,7 +51,7 @@ abbrev pub Promise : Command → List (List ℕ) → Files → Type 0
 Promise (Hold image machine loops out) (i ∷ m ∷ l ∷ []) after = StoredPromise (IsHeld i m l) (IsHeldSafely i m l) (get after out)
 Promise (Rewrite image machine loops out) (i ∷ m ∷ l ∷ []) after = StoredPromise (IsRewritten i m l) (IsRewrittenSafely i m l) (get after out)
 Promise (Make number size prefix) [] after = MadePromise number size prefix after
-Promise (Lower image jumps out) (i ∷ j ∷ []) after = StoredPromise (IsLowered i j) (IsLoweredSafely i j) (get after out)
+Promise (Lower image jumps out) (i ∷ j ∷ []) after = StoredPromise (IsLowered i j) (KeepsLowered i j) (get after out)
 Promise command files after = Unit {0}
 
 abbrev pub PromisedOf : Command → Loading → Files → Type 0

@@ -225,6 +225,7 @@ impl Reply {
     }
 
     /// What is made of the files that were loaded.
+    #[tactic(auto, using(crate::proofs::Limits::limits_alone))]
     pub fn made(alloc: Global, work: &Work<'_>, files: &[Vec<u8>]) -> Result<Reply, NoMemory>
         requires { AllZip (λ want file. length file ≤ want.1) (wants_of (work_view work.now)) (files_view files.now) }
         ensures answer { IfOk result (λ reply. Makes (work_view work.now) (files_view files.now) (reply_view reply)) }
