@@ -13,9 +13,6 @@ ROOT = Path(__file__).resolve().parent.parent
 CRATES = sorted(path.parent for path in (ROOT / "crates").glob("*/src"))
 NAMES = {crate.name for crate in CRATES}
 
-# What these crates cite does not stand in a `Laws` file yet: a new line in such a file proves every crate above it anew.
-OPEN = {"image_lower"}
-
 CITED = re.compile(r"Rattle\.(\w+)\.proofs\.(\w+)|\b(\w+)::proofs::(\w+)")
 STRUCT = re.compile(r"struct (\w+)[^{;(]*\{([^}]*)\}")
 FIELD = re.compile(r"^\s*(pub(?:\([^)]*\))? )?(\w+):", re.M)
@@ -62,11 +59,10 @@ def private_fields(crate, private):
 def main():
     private = fields()
     crossed = [line for crate in CRATES for line in private_fields(crate, private)]
-    crossed += [line for crate in CRATES if crate.name not in OPEN for line in foreign_proofs(crate)]
-    still_open = sum(1 for crate in CRATES if crate.name in OPEN for _ in foreign_proofs(crate))
+    crossed += [line for crate in CRATES for line in foreign_proofs(crate)]
     for line in crossed:
         print(line)
-    print(f"boundaries: {len(CRATES)} crates, {len(crossed)} crossed, {still_open} open in {', '.join(sorted(OPEN))}")
+    print(f"boundaries: {len(CRATES)} crates, {len(crossed)} crossed")
     return 1 if crossed else 0
 
 

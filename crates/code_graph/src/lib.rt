@@ -14,6 +14,5 @@ mod tests;
 mod weights;
 
 pub use build::build_graph;
-pub use cost_theory::{Edge, EdgeKind};
 pub use graph::CodeGraph;
 pub use weights::Weights;

@@ -1,7 +1,7 @@
 use super::*;
 use elf_view::read_image;
 use power_model::Costs;
-use scale_base::{NoMemory, Refusal, Stop};
+use scale_base::{Edge, EdgeKind, NoMemory, Refusal, Stop};
 use std::alloc::Global;
 use std::test::*;
 

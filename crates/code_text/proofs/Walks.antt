@@ -9,7 +9,7 @@ use Rattle.std.proofs.lemmas.List.Folds.{list_any_at}
 use Rattle.scale_base.specs.declared.ranges.Range.{Range}
 use Rattle.scale_base.specs.Image.{Image, image_of, is_in}
 use Rattle.machine_laws.proofs.Laws.{IsTextRange, text_ranges_kept}
-use Rattle.code_text.proofs.Laws.{ranges_apart}
+use Rattle.code_text.proofs.RangesApart.{ranges_apart}
 use Rattle.code_text.specs.Walk.{IsWalked}
 
 -- where some range has an address and the word before it, each range with the address has the word before it

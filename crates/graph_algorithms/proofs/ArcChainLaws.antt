@@ -1,39 +1,67 @@
--- The chains with one arc more.
-use Rattle.std.proofs.Common.{◌≡◌, ◌≢◌, ℕ, ◌+◌, ◌<◌, List, length, sym, ap, ◌∙◌, subst, arith, Option, Some, None, ⊎_elim, set, get_or-set_same, get_or-set_other}
-use Rattle.std.proofs.lemmas.Bool.{cases_eq}
+-- The chains of arcs are those of the numbers from which they come.
+use Rattle.std.proofs.Common.{◌≡◌, ℕ, ◌<◌, ◌≤◌, List, map, length, sym, ap, ◌∙◌, subst, arith, Option, Some, None, ⊎_elim}
+use Rattle.std.proofs.lemmas.Bool.{cases_lt}
+use Rattle.std.proofs.lemmas.List.{get_or-map, length-map}
 use Rattle.graph_algorithms.specs.declared.orders.Arc.{Arc}
-use Rattle.graph_algorithms.specs.Arcs.{arc_at}
+use Rattle.graph_algorithms.specs.Arcs.{AreNumbered, arc_at}
 use Rattle.graph_algorithms.specs.DepthFirst.{arc_next, IsAbove, AreLasts, AreArcChains}
+use Rattle.graph_algorithms.specs.Keys.{ChainView, option_at, HasKey, AreKeys, AreChains}
+use Rattle.graph_algorithms.proofs.ChainLaws.{key_within}
 
-pub lasts_more : (n x : ℕ) (arcs : List Arc) (last : List (Option ℕ)) → x < length last → (arc_at arcs n).from ≡ x → AreLasts n arcs last → AreLasts (n + 1) arcs (set last x (Some n))
-lasts_more n x arcs last xl from was = record {
-  arc = λ y s h. ⊎_elim
-      (λ (e : y ≡ x). let q : Some n ≡ Some s = sym (get_or-set_same last x (Some n) None xl) ∙ ap (arc_next (set last x (Some n))) (sym e) ∙ h in let k : n ≡ s = cc in (omega arith, subst (λ k. (arc_at arcs k).from ≡ y) k (from ∙ sym e)))
-      (λ ne. let o = was.arc y s (sym (get_or-set_other last x y (Some n) None ne) ∙ h) in let lt = o.0 in (omega arith, o.1))
-      (cases_eq y x);
-  none_above = λ r lt ab. ⊎_elim
-      (λ (e : (arc_at arcs r).from ≡ x). let q : n < r = subst (λ o. IsAbove o r) (ap (arc_next (set last x (Some n))) e ∙ get_or-set_same last x (Some n) None xl) ab in let bad : ⊥ = omega arith in bad)
-      (λ ne. ⊎_elim
-      (λ (e : r ≡ n). ne (ap (λ k. (arc_at arcs k).from) e ∙ from))
-      (λ (rn : r ≡ n → ⊥). was.none_above r (let d : r ≢ n = rn in omega arith) (subst (λ o. IsAbove o r) (get_or-set_other last x (arc_at arcs r).from (Some n) None ne) ab))
-      (cases_eq r n))
-      (cases_eq (arc_at arcs r).from x);
-}
+-- where an arc comes from, as a key
+abbrev pub key_of : Arc → Option ℕ
+key_of arc = Some arc.from
 
-pub chain_more : (n x : ℕ) (arcs : List Arc) (last before : List (Option ℕ)) → n < length before → (arc_at arcs n).from ≡ x → AreLasts n arcs last → AreArcChains n arcs before → AreArcChains (n + 1) arcs (set before n (arc_next last x))
-chain_more n x arcs last before nl from lasts was = record {
-  arc = λ s r lt h. ⊎_elim
-      (λ (e : s ≡ n). let o = lasts.arc x r (sym (get_or-set_same before n (arc_next last x) None nl) ∙ ap (arc_next (set before n (arc_next last x))) (sym e) ∙ h) in let a = o.0 in (omega arith, o.1 ∙ sym from ∙ ap (λ k. (arc_at arcs k).from) (sym e)))
-      (λ (ne : s ≡ n → ⊥). let d : s ≢ n = ne in was.arc s r (omega arith) (sym (get_or-set_other before n s (arc_next last x) None ne) ∙ h))
-      (cases_eq s n);
-  none_between = λ s r sl rl same ab. ⊎_elim
-      (λ (e : r ≡ n). omega arith)
-      (λ (rn : r ≡ n → ⊥). let d : r ≢ n = rn in let rl2 : r < n = omega arith in ⊎_elim
-      (λ (e : s ≡ n).
-      let at : arc_next (set before n (arc_next last x)) s ≡ arc_next last x = ap (arc_next (set before n (arc_next last x))) e ∙ get_or-set_same before n (arc_next last x) None nl in
-      let fx : x ≡ (arc_at arcs r).from = sym (same ∙ ap (λ k. (arc_at arcs k).from) e ∙ from) in
-      absurd (lasts.none_above r rl2 (subst (λ o. IsAbove o r) (at ∙ ap (arc_next last) fx) ab)))
-      (λ (ne : s ≡ n → ⊥). let d2 : s ≢ n = ne in was.none_between s r (omega arith) rl2 same (subst (λ o. IsAbove o r) (get_or-set_other before n s (arc_next last x) None ne) ab))
-      (cases_eq s n))
-      (cases_eq r n);
-}
+key_at : (arcs : List Arc) (s : ℕ) → s < length arcs → HasKey (map key_of arcs) s (arc_at arcs s).from
+key_at arcs s lt = get_or-map key_of arcs s (record { from = 0; to = 0 }) None lt
+
+within : (arcs : List Arc) (s k : ℕ) → HasKey (map key_of arcs) s k → s < length arcs
+within arcs s k h = let lt = key_within (map key_of arcs) s k h in let e = length-map arcs key_of in omega arith
+
+some_same : (a b : ℕ) (o : Option ℕ) → o ≡ Some a → o ≡ Some b → a ≡ b
+some_same a b o p q = cc
+
+-- an arc with a key comes from that number
+from_key : (arcs : List Arc) (s k : ℕ) → HasKey (map key_of arcs) s k → (arc_at arcs s).from ≡ k
+from_key arcs s k h = some_same (arc_at arcs s).from k (option_at (map key_of arcs) s) (key_at arcs s (within arcs s k h)) h
+
+pub are_keys : (count : ℕ) (arcs : List Arc) → AreNumbered count arcs → AreKeys (map key_of arcs) count
+are_keys count arcs numbered s k h = subst (λ x. x < count) (from_key arcs s k h) (numbered s (within arcs s k h)).0
+
+module _ (count : ℕ) (arcs : List Arc) (view : ChainView) (numbered : AreNumbered count arcs) (are : AreChains (map key_of arcs) count view) where
+  in_keys : (r : ℕ) → r < length arcs → r < length (map key_of arcs)
+  in_keys r lt = let e = length-map arcs key_of in omega arith
+
+  pub lasts_are : AreLasts (length arcs) arcs view.last
+  lasts_are = record {
+    arc = λ x s h.
+        let xl : x < count = (let lt = key_within view.last x s h in let e = are.last_size in omega arith) in
+        let p = (are.last x xl).place s h in
+        (within arcs s x p.1, from_key arcs s x p.1);
+    none_above = λ r lt above.
+        let g = (are.last (arc_at arcs r).from (numbered r lt).0).greatest r (in_keys r lt) (key_at arcs r lt) in
+        let low : g.0 < r = subst (λ o. IsAbove o r) g.1 above in
+        let high : r ≤ g.0 = g.2 in
+        let bad : ⊥ = omega arith in
+        bad;
+  }
+
+  pub chains_are : AreArcChains (length arcs) arcs view.before
+  chains_are = record {
+    arc = λ s r lt h.
+        let p = (are.before s (arc_at arcs s).from (key_at arcs s lt)).place r h in
+        (p.0, from_key arcs r (arc_at arcs s).from p.1);
+    none_between = λ s r sl rl same above. ⊎_elim
+        (λ (lt : r < s).
+        let has : HasKey (map key_of arcs) r (arc_at arcs s).from = key_at arcs r rl ∙ ap Some same in
+        let g = (are.before s (arc_at arcs s).from (key_at arcs s sl)).greatest r lt has in
+        let low : g.0 < r = subst (λ o. IsAbove o r) g.1 above in
+        let high : r ≤ g.0 = g.2 in
+        let bad : ⊥ = omega arith in
+        absurd bad)
+        (λ (le : s ≤ r). le)
+        (cases_lt r s);
+  }
+
+  pub before_size : length view.before ≡ length arcs
+  before_size = are.before_size ∙ length-map arcs key_of

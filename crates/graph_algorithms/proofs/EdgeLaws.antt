@@ -4,7 +4,7 @@ use Rattle.std.specs.Prelude.{slice_get}
 use Rattle.std.proofs.lemmas.Bool.{cases_eq, cases_lt}
 use Rattle.std.proofs.lemmas.Option.{slice_get-get_or, get_or_from_slice_get}
 use Rattle.graph_algorithms.specs.Keys.{HasKey, AreKeys, IsLastBelow}
-use Rattle.graph_algorithms.proofs.Laws.{key_within}
+use Rattle.graph_algorithms.proofs.ChainLaws.{key_within}
 use Rattle.graph_algorithms.specs.Edges.{AreEdges}
 use Rattle.graph_algorithms.specs.BodySearch.{is_marked_at, IsSettled}
 

@@ -4,7 +4,7 @@ use Rattle.std.specs.Prelude.{slice_get}
 use Rattle.std.proofs.lemmas.Bool.{cases_eq, cases_lt, cases_Bool, both_ways}
 use Rattle.std.proofs.lemmas.Option.{slice_get_within}
 use Rattle.graph_algorithms.specs.Keys.{HasKey, IsLastBelow}
-use Rattle.graph_algorithms.proofs.Laws.{key_within}
+use Rattle.graph_algorithms.proofs.ChainLaws.{key_within}
 use Rattle.graph_algorithms.specs.Bodies.{HasEdge, IsIn, AreNodes, IsSideEdge, IsPairUpTo, IsLeastPair, IsLesserPair}
 use Rattle.graph_algorithms.specs.BodySearch.{is_marked_at, AreUnmarked, IsMarkedBody, IsLeastUnmarked}
 use Rattle.graph_algorithms.proofs.EdgeLaws.{IsPast, get_from_key, key_from_get}

@@ -43,6 +43,14 @@ impl Chains {
     {
         self.before[place]
     }
+
+    /// The last place that has each key, and for each place the one before it with the same key.
+    pub fn into_parts(self) -> (Vec<Option<usize>>, Vec<Option<usize>>)
+        ensures last { result.0.items ≡ self.last }
+        ensures before { result.1.items ≡ self.before }
+    {
+        (self.last, self.before)
+    }
 }
 
 /// The chains of the places of `keys`, of which each is below `count`. A place with None has no key, and is in no chain.

@@ -1,5 +1,5 @@
 -- A kept run, and its transitions over the graph.
-use Rattle.std.specs.Prelude.{◌≡◌, ℕ, zero, suc, ◌<◌, List, map, Option, Some}
+use Rattle.std.specs.Prelude.{◌≡◌, ℕ, zero, suc, ◌<◌, ◌≤◌, List, length, map, Option, Some}
 use Rattle.std.specs.List.{sum_by}
 use Rattle.scale_base.specs.declared.stepping.Class.{Class}
 use Rattle.scale_base.specs.declared.stepping.StepEnd.{StepEnd}

@@ -3,6 +3,7 @@
 ghost use Rattle.std.specs.Prelude.{◌≡◌, ◌≢◌, ◌==◌, ℕ, ◌+◌, ◌<◌, ◌≤◌, ◌^◌, if◌then◌else◌, length, reverse, slice_index, IfSome, IfOk, None, Some, vec_len, vec_capacity};
 ghost use Rattle.scale_base.specs.Image as image;
 ghost use Rattle.graph_runs.specs.ReturnAddresses.{returns_after};
+ghost use Rattle.graph_runs.specs.KeptRuns.{most_returns};
 ghost use Rattle.graph_runs.specs.KeptSteps as rules;
 ghost use Rattle.loop_file.specs.Notes.{AreLoopNotes};
 ghost use Rattle.loop_file.specs.Kept as kept;
@@ -39,7 +40,7 @@ pub fn source_of(step: &Stepped, returns: &[u32]) -> Option<u32>
 
 /// What a step breaks of the rules on calls and returns.
 pub fn broken_return(step: &Stepped, returns: &[u32]) -> Option<Kept>
-    requires { length returns.now ≤ kept.most_returns }
+    requires { length returns.now ≤ most_returns }
     ensures { result ≡ broken_by step.now (returns_after (reverse returns.now) step.now) }
 {
     match step.moved {
@@ -67,11 +68,11 @@ pub fn broken_return(step: &Stepped, returns: &[u32]) -> Option<Kept>
 /// Puts the return address of a call on the list, and takes that of a return off. There is room for it.
 pub fn move_returns(returns: &mut Vec<u32>, step: &Stepped)
     requires unbroken { broken_by step.now (returns_after (reverse returns.old.items) step.now) ≡ None }
-    requires shallow { vec_len returns.old ≤ kept.most_returns }
-    requires spare { kept.most_returns ≤ vec_capacity returns.old }
+    requires shallow { vec_len returns.old ≤ most_returns }
+    requires spare { most_returns ≤ vec_capacity returns.old }
     ensures moved { returns_after (reverse returns.old.items) step.now ≡ Some (reverse returns.new.items) }
-    ensures shallow { vec_len returns.new ≤ kept.most_returns }
-    ensures spare { kept.most_returns ≤ vec_capacity returns.new }
+    ensures shallow { vec_len returns.new ≤ most_returns }
+    ensures spare { most_returns ≤ vec_capacity returns.new }
 {
     match step.moved {
         Move::Local => {}

@@ -19,7 +19,7 @@ use Rattle.graph_algorithms.specs.Edges.{EdgeView}
 use Rattle.graph_algorithms.specs.Bodies.{IsIn, IsLeastPair}
 use Rattle.loop_file.specs.declared.notes.LoopNote.{LoopNote}
 use Rattle.loop_file.specs.Kept.{note_at, noted_loops}
-use Rattle.loop_tree.specs.Ends.{AreListedEnds}
+use Rattle.code_graph.specs.Ends.{AreEdgeEnds}
 use Rattle.loop_tree.specs.Noted.{header_address, IsBodyNode, HasBackEdge, HaveOneHeader, IsNotedSideEntry, node_address}
 use Rattle.loop_tree.specs.Found.{loops_seen, AreNaturalLoops}
 use Rattle.loop_tree.specs.Refused.{AreHeaders, AreNoted, IsPairRefused, IsDepthRefused, AreHeadersReached}
@@ -83,12 +83,12 @@ pair_low v notes headers firsts least one two numbers same pairs is =
     let few = numbers.few in
     (found, (let q : one < 4096 = omega arith in q), (let q : two < 4096 = omega arith in q))
 
--- the ends of the edges, as slices
-pub edges_at : (v : FlowGraph) (sources starts : List ℕ) (targets ends : List (Option ℕ)) (count : ℕ) (search : EdgeView) → IsFlowGraph v → count ≡ length v.code.nodes → count ≤ 131072 → AreListedEnds v sources targets → starts ≡ sources → ends ≡ targets →
-    search ≡ record { sources = starts; targets = ends; count = count } → AreGraphEdges v search
-edges_at v sources starts targets ends count search flow size few are from to e = subst (AreGraphEdges v) (sym e) (record {
+-- the ends of the edges, with the graph that has them
+pub edges_at : (v : FlowGraph) (sources : List ℕ) (targets : List (Option ℕ)) (count : ℕ) (search : EdgeView) → IsFlowGraph v → count ≡ length v.code.nodes → count ≤ 131072 → AreEdgeEnds v sources targets →
+    search ≡ record { sources = sources; targets = targets; count = count } → AreGraphEdges v search
+edges_at v sources targets count search flow size few are e = subst (AreGraphEdges v) (sym e) (record {
   graph = record { flow = flow; few = omega arith };
-  ends = subst (λ s. AreListedEnds v s ends) (sym from) (subst (AreListedEnds v sources) (sym to) are);
+  ends = are;
   count = size;
 })
 

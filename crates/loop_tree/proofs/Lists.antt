@@ -7,7 +7,7 @@ use Rattle.std.proofs.lemmas.Bool.{cases_lt}
 use Rattle.std.proofs.lemmas.List.Sorted.{searched}
 use Rattle.std.proofs.lemmas.Option.{slice_get_within, slice_get-get_or, get_or_from_slice_get, slice_get-map}
 use Rattle.cost_theory.specs.Lists.{is_among, or_true, body_of}
-use Rattle.loop_tree.proofs.Laws.{body_at as body_found}
+use Rattle.loop_tree.proofs.BodyLaws.{body_at as body_found}
 use Rattle.graph_algorithms.specs.Nesting.{bodies_of, body_at}
 use Rattle.loop_tree.specs.Backs.{IsRising}
 

@@ -10,7 +10,7 @@ use Rattle.cost_theory.proofs.Laws.{find-holds, find-some}
 use Rattle.code_graph.specs.FlowGraph.{FlowGraph, graph, IsFlowGraph}
 use Rattle.loop_tree.specs.Tree.{IsAtPlace, ArePlainOrdered}
 use Rattle.loop_tree.specs.Arcs.{IsPlainBy, ArePlainArcs}
-use Rattle.loop_tree.proofs.Laws.{one_number}
+use Rattle.loop_tree.proofs.NodeLaws.{one_number}
 
 -- a list from its end to its beginning
 pub record IsTurned (numbers turned : List ℕ) : Type 0 where

@@ -5,7 +5,7 @@ use Rattle.graph_algorithms.specs.Arcs.{number_in_place}
 use Rattle.graph_algorithms.specs.Cycles.{IsCycleBy}
 use Rattle.graph_algorithms.proofs.Laws.{IsRound}
 use Rattle.code_graph.specs.FlowGraph.{FlowGraph, IsFlowGraph}
-use Rattle.loop_tree.proofs.Laws.{one_number}
+use Rattle.loop_tree.proofs.NodeLaws.{one_number}
 use Rattle.loop_tree.specs.Arcs.{HasPlainEdge, IsRoundOfNodes, AreAddressesOf}
 use Rattle.loop_tree.specs.Backs.{IsStepBy}
 

@@ -3,7 +3,6 @@ pub mod Stored
 pub mod Arcs
 pub mod Backs
 pub mod Trips
-pub mod Ends
 pub mod Noted
 pub mod Found
 pub mod Refused

@@ -15,7 +15,7 @@ use Rattle.graph_algorithms.specs.Groups.{HasBit, IsFlagged}
 use Rattle.loop_file.specs.declared.notes.LoopNote.{LoopNote}
 use Rattle.loop_file.specs.Kept as kept
 use Rattle.loop_file.specs.Kept.{note_at}
-use Rattle.loop_tree.specs.Ends.{AreListedEnds}
+use Rattle.code_graph.specs.Ends.{AreEdgeEnds}
 use Rattle.loop_tree.specs.Noted.{header_address, IsBodyNode, HasBackEdge, IsNotedSideEntry}
 use Rattle.loop_tree.specs.Found.{IsAscending}
 use Rattle.loop_tree.specs.Refused.{IsHeaderRefused, AreHeaders, IsBackEdgeRefused, IsEntryRefused}
@@ -47,7 +47,7 @@ HaveOneNumber headers j k = (j < k) × (k < length headers) × (slice_index head
 -- the ends of the edges of a program's graph
 pub record AreGraphEdges (v : FlowGraph) (edges : EdgeView) : Type 0 where
   pub graph : IsSmallGraph v
-  pub ends : AreListedEnds v edges.sources edges.targets
+  pub ends : AreEdgeEnds v edges.sources edges.targets
   pub count : edges.count ≡ length v.code.nodes
 
 -- the same, and notes of loops with different headers, which are at these nodes

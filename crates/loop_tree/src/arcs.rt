@@ -5,7 +5,6 @@ ghost use Rattle.code_graph.specs.FlowGraph.{IsFlowGraph};
 ghost use Rattle.loop_tree.specs.Arcs.{ArePlainArcs};
 ghost use Rattle.loop_tree.specs.Backs.{IsArcOf};
 
-use crate::natural::node_at;
 use code_graph::CodeGraph;
 use graph_algorithms::Arc;
 use scale_base::NoMemory;
@@ -21,7 +20,7 @@ fn plain_arc(graph: &CodeGraph, back: Option<usize>, e: usize) -> Option<Arc>
         return None;
     }
     let to = graph.target(e)?;
-    let from = node_at(graph, graph.edge(e).at);
+    let from = graph.source(e);
     Some(Arc { from, to })
 }
 

@@ -6,7 +6,6 @@ ghost use Rattle.code_graph.specs.FlowGraph.{IsFlowGraph};
 ghost use Rattle.graph_algorithms.specs.Nesting.{bodies_of};
 ghost use Rattle.loop_tree.specs.Backs.{IsRising, AreDistinctHeaders, ArePlacedHeaders, AreLoopLists, IsBackBetween, AreBacks};
 
-use crate::natural::node_at;
 use code_graph::CodeGraph;
 use scale_base::NoMemory;
 use std::alloc::Global;
@@ -51,7 +50,7 @@ fn back_loop(
 {
     let to = graph.target(e)?;
     let number = heads[to]?;
-    let from = node_at(graph, graph.edge(e).at);
+    let from = graph.source(e);
     if has(&bodies[number], from) {
         Some(number)
     } else {

@@ -5,7 +5,6 @@ ghost use Rattle.loop_tree.specs.Refused.{AreLoopsFound};
 
 mod back_edges;
 mod bodies;
-mod ends;
 mod entries;
 mod extent;
 mod groups;
@@ -18,7 +17,6 @@ mod tests;
 use back_edges::check_back_edges;
 use bodies::keep_bodies;
 use code_graph::CodeGraph;
-pub use ends::{EdgeEnds, edge_ends};
 use entries::{check_depths, check_entries};
 pub use extent::extent_of;
 use graph_algorithms::BodySearch;
@@ -39,8 +37,7 @@ pub fn find_loops(alloc: Global, graph: &CodeGraph, notes: &LoopNotes) -> Result
     if let Some((one, two)) = least_pair(alloc, &headers, count)? {
         return Err(Stop::Refused(Refusal::SameHeader(number_of(one), number_of(two))));
     }
-    let ends = edge_ends(alloc, graph)?;
-    let mut search = BodySearch::new(alloc, &ends.sources, &ends.targets, count)?;
+    let mut search = BodySearch::new(alloc, graph.sources(), graph.targets(), count)?;
     check_back_edges(alloc, &search, graph, notes, &headers)?;
     let depths = check_entries(alloc, &mut search, graph, notes, &headers)?;
     check_depths(&headers, &depths)?;

@@ -34,7 +34,8 @@ use Rattle.stored_runs.specs.Stubbed.{IsFollowed}
 use Rattle.paid_runs.specs.Shadows.{AreCountable}
 use Rattle.paid_runs.specs.Marked.{extra_site_weights}
 use Rattle.paid_runs.specs.Counters.{AreCounted, by_words}
-use Rattle.paid_runs.proofs.Laws.{word_of_loop, is_word, countable_of, counted_of, AreAligned, extra_sum}
+use Rattle.paid_runs.proofs.Words.{word_of_loop, is_word, countable_of, counted_of}
+use Rattle.paid_runs.proofs.Aligned.{AreAligned, extra_sum}
 use Rattle.power_model.specs.Switches.{period, costs_of}
 use Rattle.paid_runs.proofs.Energies.{cycles_from, switches_save}
 use Rattle.paid_runs.specs.Timely.{weights_of, AreTables, AreTablesOf, IsPaidRun}

@@ -1,6 +1,6 @@
 -- Every kept run of a tuned image is safe.
 use Rattle.std.proofs.Common.{length, arith}
-use Rattle.paid_runs.proofs.Laws.{kept_patched}
+use Rattle.paid_runs.proofs.Kept.{kept_patched}
 use Rattle.power_model.specs.Switches.{costs_of}
 use Rattle.paid_runs.specs.Laws.{TunedRunsAreSafe}
 use Rattle.paid_runs.proofs.Paid.{paid_by, saved_by, bounded_by}

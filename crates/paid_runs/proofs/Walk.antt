@@ -29,7 +29,8 @@ use Rattle.stored_runs.specs.Marks.{Shadow, place_at, fragments_of_class, fragme
 use Rattle.stored_runs.specs.Legs.{Leg, IsLeg, AreLegs, originals, all_steps}
 use Rattle.stored_runs.proofs.Laws.{cost_of_legs}
 use Rattle.paid_runs.specs.Shadows.{AreCountable, counted_move, counted_moves}
-use Rattle.paid_runs.proofs.Laws.{counts_shown, AreAligned, IsFirst, first_of_both, stored_at, stored_sum, counted_after}
+use Rattle.paid_runs.proofs.Shown.{counts_shown}
+use Rattle.paid_runs.proofs.Aligned.{AreAligned, IsFirst, first_of_both, stored_at, stored_sum, counted_after}
 use Rattle.paid_runs.specs.Counters.{AreCounted}
 use Rattle.power_model.specs.Switches.{period, costs_of, NeverRises, switches_from, AllPay}
 use Rattle.paid_runs.specs.Paid.{tail_if, IsPaidLeg}

@@ -16,7 +16,7 @@ use crate::cost;
 use crate::counting::CounterList;
 use crate::edge_marks::{Way, edge_marks};
 use code_graph::{CodeGraph, Weights};
-use loop_tree::{LoopTree, node_at};
+use loop_tree::LoopTree;
 use power_model::Costs;
 use scale_base::{Class, EdgeKind, Mark, NoMemory};
 use std::alloc::Global;
@@ -75,15 +75,6 @@ fn is_branch(kind: EdgeKind) -> bool
     matches!(kind, EdgeKind::Taken | EdgeKind::Untaken)
 }
 
-/// The number of the node at which edge `e` starts.
-fn source_of(graph: &CodeGraph, e: usize) -> usize
-    requires flow { IsFlowGraph graph.now }
-    requires edge { e < length graph.now.code.edges }
-    ensures { slice_get graph.now.code.nodes result ≡ Some ((graph_seen graph.now).source e) }
-{
-    node_at(graph, graph.edge(e).at)
-}
-
 /// The marks of edge `e`, of so much slack.
 fn marks_of_edge(
     alloc: Global,
@@ -103,7 +94,7 @@ fn marks_of_edge(
     ensures few { IfOk result (λ m. length m.items ≤ 1600) }
 {
     let way = Way {
-        from: source_of(graph, e),
+        from: graph.source(e),
         to: graph.target(e),
     };
     let branch = is_branch(graph.edge(e).kind);
@@ -141,7 +132,7 @@ fn is_patched(graph: &CodeGraph, marks: &[Vec<Mark>], e: usize) -> bool
     requires edge { e < length graph.now.code.edges }
     ensures { result ≡ is_patched (graph_seen graph.now) (marks_in (map (λ m. m.items) marks.now)) ((graph_seen graph.now).source e) }
 {
-    let (first, end) = graph.edges_of(source_of(graph, e));
+    let (first, end) = graph.edges_of(graph.source(e));
     for d in first..end {
         if !marks[d].is_empty() {
             return true;

@@ -7,7 +7,7 @@ ghost use Rattle.worst_cycles.specs.Needs.{AreEntries, AreNeeds, HasTree, IsNeed
 
 use code_graph::CodeGraph;
 use graph_algorithms::{Arc, Order, sort};
-use loop_tree::{LoopTree, node_at, plain_arcs};
+use loop_tree::{LoopTree, plain_arcs};
 use scale_base::NoMemory;
 use std::alloc::Global;
 
@@ -26,7 +26,7 @@ fn add_calls(
 {
     for e in 0..graph.edge_count() {
         if let Some(f) = graph.callee(e) {
-            let from = node_at(graph, graph.edge(e).at);
+            let from = graph.source(e);
             arcs.push(Arc {
                 from,
                 to: entries[f],

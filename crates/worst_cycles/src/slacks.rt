@@ -12,18 +12,9 @@ ghost use Rattle.worst_cycles.specs.Lefts.{HasSolved, AreLefts, AreTurnsRound, A
 use crate::plan::Plan;
 use crate::visits::{Visit, cost_of};
 use code_graph::{CodeGraph, Weights};
-use loop_tree::{LoopTree, node_at};
+use loop_tree::LoopTree;
 use scale_base::NoMemory;
 use std::alloc::Global;
-
-/// The number of the node at which edge `e` starts.
-fn source_of(graph: &CodeGraph, e: usize) -> usize
-    requires flow { IsFlowGraph graph.now }
-    requires edge { e < length graph.now.code.edges }
-    ensures { slice_get graph.now.code.nodes result ≡ Some ((graph_seen graph.now).source e) }
-{
-    node_at(graph, graph.edge(e).at)
-}
 
 /// The slack of edge `e`, which leads to node `to`: what is left before it, less its cost and what is left behind it, and one
 /// iteration more over a back edge.
@@ -49,7 +40,7 @@ fn slack_over(
     requires leads { (graph_seen graph.now).target e ≡ slice_get graph.now.code.nodes to }
     ensures { (n : Numbers) → AreSolvedBy graph.now tree.now (by_edge weights.now) n → result ≡ slack (graph_seen graph.now) (loops graph.now tree.now) n (cost (graph_seen graph.now) n (by_edge weights.now)) e }
 {
-    let before = left[source_of(graph, e)];
+    let before = left[graph.source(e)];
     let after = cost_of(graph, weights, plan, visits, e) + left[to];
     match tree.back_loop(e) {
         Some(_) => before + visits[to].iteration - after,
@@ -128,7 +119,7 @@ fn rest_of(
     ensures { (n : Numbers) → AreSolvedBy graph.now tree.now (by_edge weights.now) n → result ≡ rest_at (graph_seen graph.now) (loops graph.now tree.now) n e }
 {
     match graph.target(e) {
-        Some(to) => left[to] + around[to] + context[graph.owner(source_of(graph, e))],
+        Some(to) => left[to] + around[to] + context[graph.owner(graph.source(e))],
         None => 0,
     }
 }

@@ -1,35 +1,34 @@
 //! The arcs that leave each number, as a chain.
 
-ghost use Rattle.std.specs.Prelude.{◌≡◌, ℕ, ◌^◌, ◌<◌, length, IfOk};
+ghost use Rattle.std.specs.Prelude.{◌≡◌, length, map, IfOk, Some};
 ghost use Rattle.graph_algorithms.specs.Arcs.{AreNumbered};
 ghost use Rattle.graph_algorithms.specs.DepthFirst.{AreLasts, AreArcChains};
 
-use crate::orders::Arc;
+use crate::Arc;
+use crate::chains::find_chains;
 use scale_base::NoMemory;
-use std::alloc::Global;
+use std::alloc::{AllocError, Global};
 
-/// The last arc from each number, and for each arc the one before it from the same number.
-#[derive(Drop)]
-pub struct Chains {
-    pub last: Vec<Option<usize>>,
-    pub before: Vec<Option<usize>>,
+/// Where each arc comes from, as a key.
+fn keys_of(alloc: Global, arcs: &[Arc]) -> Result<Vec<Option<usize>>, AllocError>
+    ensures { IfOk result (λ keys. keys.items ≡ map (λ arc. Some arc.from) arcs.now) }
+{
+    arcs.iter().map(|arc| Some(arc.from)).collect(alloc)
 }
 
-pub fn chains_of(alloc: Global, count: usize, arcs: &[Arc]) -> Result<Chains, NoMemory>
-    requires count { count < 2 ^ 32 }
-    requires arcs { length arcs.now < 2 ^ 32 }
+/// The last arc from each number, and for each arc the one before it from the same number.
+pub fn chains_of(
+    alloc: Global,
+    count: usize,
+    arcs: &[Arc],
+) -> Result<(Vec<Option<usize>>, Vec<Option<usize>>), NoMemory>
     requires numbered { AreNumbered count arcs.now }
-    ensures size { IfOk result (λ chains. length chains.last.items ≡ count) }
-    ensures lasts { IfOk result (λ chains. AreLasts (length arcs.now) arcs.now chains.last.items) }
-    ensures chain { IfOk result (λ chains. AreArcChains (length arcs.now) arcs.now chains.before.items) }
-    ensures before { IfOk result (λ chains. length chains.before.items ≡ length arcs.now) }
+    ensures size { IfOk result (λ chains. length chains.0.items ≡ count) }
+    ensures lasts { IfOk result (λ chains. AreLasts (length arcs.now) arcs.now chains.0.items) }
+    ensures chain { IfOk result (λ chains. AreArcChains (length arcs.now) arcs.now chains.1.items) }
+    ensures before { IfOk result (λ chains. length chains.1.items ≡ length arcs.now) }
 {
-    let mut last: Vec<Option<usize>> = vec![in alloc; None; count]?;
-    let mut before: Vec<Option<usize>> = vec![in alloc; None; arcs.len()]?;
-    for s in 0..arcs.len() {
-        let from = arcs[s].from;
-        before[s] = last[from];
-        last[from] = Some(s);
-    }
-    Ok(Chains { last, before })
+    let keys = keys_of(alloc, arcs)?;
+    let chains = find_chains(alloc, &keys, count)?;
+    Ok(chains.into_parts())
 }

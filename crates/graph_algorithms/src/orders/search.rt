@@ -5,7 +5,7 @@ ghost use Rattle.graph_algorithms.specs.Arcs.{AreNumbered, HasArc, number_in_pla
 ghost use Rattle.graph_algorithms.specs.DepthFirst.{IsSearch, AreMet, IsMet, IsBack, mark, arc_next, work};
 ghost use Rattle.graph_algorithms.specs.declared.orders.search.Mark.TheVariants.{Unmet};
 
-use crate::orders::Arc;
+use crate::Arc;
 use crate::orders::chains::chains_of;
 use scale_base::NoMemory;
 use std::alloc::Global;
@@ -40,12 +40,12 @@ impl Search {
         ensures search { IfOk result (λ new. IsSearch arcs.now new.before.items new.next.items new.marks.items new.path.items new.order.items) }
         ensures path { IfOk result (λ new. length new.path.items ≡ 0) }
     {
-        let chains = chains_of(alloc, count, arcs)?;
+        let (next, before) = chains_of(alloc, count, arcs)?;
         let marks = vec![in alloc; Mark::Unmet; count]?;
         Ok(Search {
             marks,
-            next: chains.last,
-            before: chains.before,
+            next,
+            before,
             path: Vec::new(alloc),
             order: Vec::new(alloc),
         })

@@ -375,18 +375,6 @@ fn refuses_loops_that_are_too_deep(rt: HostRuntime) -> Result<(), Fail> {
     Ok(())
 }
 
-#[test]
-fn gives_the_ends_of_edges(rt: HostRuntime) -> Result<(), Fail> {
-    let graph = graph_of(rt.alloc(), &SIMPLE)?;
-    let ends = edge_ends(rt.alloc(), &graph).ok().ok_or("memory")?;
-    assert_eq!(rt; ends.sources.as_slice(), &[0, 1, 1, 2, 3, 4][..]);
-    assert_eq!(rt;
-        ends.targets.as_slice(),
-        &[Some(1), Some(3), Some(2), Some(1), Some(4), None][..]
-    );
-    Ok(())
-}
-
 /// Words that each branch to themselves, and others behind them.
 fn behind_turning(alloc: Global, turning: usize, words: &[u32]) -> Result<Vec<u32>, Fail> {
     let mut text = vec![in alloc; BRANCH_0; turning]?;

@@ -1,5 +1,5 @@
 use Rattle.std.proofs.Common.{sym, ◌∙◌}
-use Rattle.code_text.proofs.Laws.{instruction_stored}
+use Rattle.code_text.proofs.StoredWords.{instruction_stored}
 use Rattle.code_text.proofs.instructions.instr_at.Goals as goal
 
 pub returns-in-Some-clause-text : goal.returns-in-Some-clause-text

@@ -1,6 +1,6 @@
 use Rattle.std.proofs.Common.{sym, ap, ◌∙◌}
 use Rattle.code_text.specs.Text.{text_of, word_kind}
-use Rattle.code_text.proofs.Laws.{kind_stored}
+use Rattle.code_text.proofs.StoredWords.{kind_stored}
 use Rattle.code_text.proofs.words.kind_at.Goals as goal
 
 pub returns-in-Some : goal.returns-in-Some

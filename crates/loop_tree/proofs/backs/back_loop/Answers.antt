@@ -4,7 +4,7 @@ use Rattle.std.proofs.lemmas.Option.{same_Some}
 use Rattle.cost_theory.specs.Reached.{edge_at}
 use Rattle.cost_theory.specs.Lists.{body_of, is_among}
 use Rattle.code_graph.specs.FlowGraph.{graph}
-use Rattle.loop_tree.proofs.Laws.{source_number}
+use Rattle.loop_tree.proofs.NodeLaws.{source_number}
 use Rattle.graph_algorithms.specs.Nesting.{bodies_of}
 use Rattle.loop_tree.specs.Backs.{IsRising}
 use Rattle.loop_tree.proofs.Lists.{body_read}
@@ -19,11 +19,6 @@ returns-in_err-number c =
       λ is. let clash = sym c.in_err-number.was ∙ back_headed c.args.graph.now c.args.headers.now (bodies_of c.args.bodies.now) c.args.heads.now c.args.e k c.in_ok-to.to c.requires.flow c.requires.loops c.requires.heads target (c.in_ok-to.ensures.within c.in_ok-to.to refl) is in
           absurd (cc clash),
     )
-
-pub node_at-from-requires : goal.node_at-from-requires
-node_at-from-requires c =
-    let k = source_number c.args.graph.now c.requires.flow c.args.e c.requires.edge in
-    record { node = (k.0, k.1 ∙ ap Some (ap edge_at c.edge.ensures)) }
 
 pub offset_bounds-bodies-number : goal.offset_bounds-bodies-number
 offset_bounds-bodies-number c =
@@ -55,10 +50,10 @@ returns-then-has c =
     let same : length (bodies_of c.args.bodies.now) ≡ length c.args.bodies.now = length-map c.args.bodies.now (λ (body : Vec ℕ Global). body.items) in
     let within : c.in_ok-number.number < length c.args.headers.now = (c.requires.heads.headed c.in_ok-to.to c.in_ok-number.number c.in_ok-number.was).0 in
     let lt : c.in_ok-number.number < length c.args.bodies.now = omega arith in
-    let among : is_among c.node_at-from.result (body_of (bodies_of c.args.bodies.now) c.in_ok-number.number) ≡ true =
-    ap (is_among c.node_at-from.result) (body_read c.args.bodies.now c.in_ok-number.number c.index-bodies-number.result lt c.index-bodies-number.is ∙ sym c.deref.ensures.value) ∙ sym c.has.ensures ∙ c.if-has.true in
-    let source : slice_get c.args.graph.now.code.nodes c.node_at-from.result ≡ Some ((graph c.args.graph.now).source c.args.e) = c.node_at-from.ensures ∙ ap Some (sym (ap edge_at c.edge.ensures)) in
-    λ k. let is = back_is c.args.graph.now c.args.headers.now (bodies_of c.args.bodies.now) c.args.heads.now c.args.e c.in_ok-to.to c.in_ok-number.number c.node_at-from.result c.requires.flow c.requires.loops c.requires.heads
+    let among : is_among c.source-from.result (body_of (bodies_of c.args.bodies.now) c.in_ok-number.number) ≡ true =
+    ap (is_among c.source-from.result) (body_read c.args.bodies.now c.in_ok-number.number c.index-bodies-number.result lt c.index-bodies-number.is ∙ sym c.deref.ensures.value) ∙ sym c.has.ensures ∙ c.if-has.true in
+    let source : slice_get c.args.graph.now.code.nodes c.source-from.result ≡ Some ((graph c.args.graph.now).source c.args.e) = c.source-from.ensures.node in
+    λ k. let is = back_is c.args.graph.now c.args.headers.now (bodies_of c.args.bodies.now) c.args.heads.now c.args.e c.in_ok-to.to c.in_ok-number.number c.source-from.result c.requires.flow c.requires.loops c.requires.heads
     (c.in_ok-to.ensures.some c.in_ok-to.to refl) (c.in_ok-to.ensures.within c.in_ok-to.to refl) c.in_ok-number.was source among k in
     ((λ e. is.0 (same_Some c.in_ok-number.number k e)), (λ b. ap Some (is.1 b)))
 
@@ -68,11 +63,11 @@ returns-else-has c =
     let same : length (bodies_of c.args.bodies.now) ≡ length c.args.bodies.now = length-map c.args.bodies.now (λ (body : Vec ℕ Global). body.items) in
     let within : c.in_ok-number.number < length c.args.headers.now = (c.requires.heads.headed c.in_ok-to.to c.in_ok-number.number c.in_ok-number.was).0 in
     let lt : c.in_ok-number.number < length c.args.bodies.now = omega arith in
-    let none : is_among c.node_at-from.result (body_of (bodies_of c.args.bodies.now) c.in_ok-number.number) ≡ false =
-    ap (is_among c.node_at-from.result) (body_read c.args.bodies.now c.in_ok-number.number c.index-bodies-number.result lt c.index-bodies-number.is ∙ sym c.deref.ensures.value) ∙ sym c.has.ensures ∙ c.if-has.false in
-    let source : slice_get c.args.graph.now.code.nodes c.node_at-from.result ≡ Some ((graph c.args.graph.now).source c.args.e) = c.node_at-from.ensures ∙ ap Some (sym (ap edge_at c.edge.ensures)) in
+    let none : is_among c.source-from.result (body_of (bodies_of c.args.bodies.now) c.in_ok-number.number) ≡ false =
+    ap (is_among c.source-from.result) (body_read c.args.bodies.now c.in_ok-number.number c.index-bodies-number.result lt c.index-bodies-number.is ∙ sym c.deref.ensures.value) ∙ sym c.has.ensures ∙ c.if-has.false in
+    let source : slice_get c.args.graph.now.code.nodes c.source-from.result ≡ Some ((graph c.args.graph.now).source c.args.e) = c.source-from.ensures.node in
     λ k. (
       (λ e. let bad : ⊥ = cc in absurd bad),
-      (λ b. absurd (back_is_none c.args.graph.now c.args.headers.now (bodies_of c.args.bodies.now) c.args.heads.now c.args.e c.in_ok-to.to c.in_ok-number.number c.node_at-from.result c.requires.flow c.requires.loops c.requires.heads
+      (λ b. absurd (back_is_none c.args.graph.now c.args.headers.now (bodies_of c.args.bodies.now) c.args.heads.now c.args.e c.in_ok-to.to c.in_ok-number.number c.source-from.result c.requires.flow c.requires.loops c.requires.heads
           (c.in_ok-to.ensures.some c.in_ok-to.to refl) (c.in_ok-to.ensures.within c.in_ok-to.to refl) c.in_ok-number.was source none k b)),
     )

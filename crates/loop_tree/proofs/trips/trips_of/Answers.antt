@@ -5,7 +5,7 @@ use Rattle.cost_theory.specs.Lists.{body_of}
 use Rattle.loop_file.specs.declared.notes.LoopNote.{LoopNote}
 use Rattle.loop_file.specs.Kept.{note_at}
 use Rattle.loop_tree.specs.Found.{LoopsView}
-use Rattle.loop_tree.proofs.Laws.{body_at}
+use Rattle.loop_tree.proofs.BodyLaws.{body_at}
 use Rattle.loop_tree.specs.Backs.{IsRising}
 use Rattle.loop_tree.specs.Trips.{AreTripsOf}
 use Rattle.loop_tree.proofs.TripLaws.{trips_more}

@@ -16,7 +16,7 @@ returns-then-not-is_empty c =
     let lt : c.loop-d.d < length c.args.graph.now.code.edges = omega arith in
     let size = c.requires.size in
     let dl : c.loop-d.d < length c.args.marks.now = omega arith in
-    let node : node_address c.args.graph.now c.source_of.result ≡ (graph c.args.graph.now).source c.args.e = get_or_from_slice_get c.args.graph.now.code.nodes c.source_of.result _ 0 c.source_of.ensures in
+    let node : node_address c.args.graph.now c.source.result ≡ (graph c.args.graph.now).source c.args.e = get_or_from_slice_get c.args.graph.now.code.nodes c.source.result _ 0 c.source.ensures.node in
     let from : (graph c.args.graph.now).source c.loop-d.d ≡ (graph c.args.graph.now).source c.args.e = (c.edges_of-first.ensures.edges c.loop-d.d lt).1 (low, c.loop-d-test.true) ∙ node in
     let seen : marks_in (map (λ (m : Vec Mark Global). m.items) c.args.marks.now) c.loop-d.d ≡ c.index-marks-d.result.items = marks_seen c.args.marks.now c.loop-d.d c.index-marks-d.result dl c.index-marks-d.is in
     sym (patched (graph c.args.graph.now) (marks_in (map (λ (m : Vec Mark Global). m.items) c.args.marks.now)) ((graph c.args.graph.now).source c.args.e) c.loop-d.d lt from
@@ -38,7 +38,7 @@ loop-d-preserved c = λ d low high.
 pub returns : goal.returns
 returns c =
     let within = c.edges_of-first.ensures.within in
-    let node : node_address c.args.graph.now c.source_of.result ≡ (graph c.args.graph.now).source c.args.e = get_or_from_slice_get c.args.graph.now.code.nodes c.source_of.result _ 0 c.source_of.ensures in
+    let node : node_address c.args.graph.now c.source.result ≡ (graph c.args.graph.now).source c.args.e = get_or_from_slice_get c.args.graph.now.code.nodes c.source.result _ 0 c.source.ensures.node in
     sym (not_patched (graph c.args.graph.now) (marks_in (map (λ (m : Vec Mark Global). m.items) c.args.marks.now)) ((graph c.args.graph.now).source c.args.e)
     (λ d lt from.
     let range = (c.edges_of-first.ensures.edges d lt).0 (from ∙ sym node) in

@@ -9,19 +9,13 @@ use Rattle.worst_cycles.proofs.order.add_calls.Goals.{in-Some+in_ok-push, in_def
 pub loop-e-init : goal.loop-e-init
 loop-e-init c = edges_needed c.args.graph.now c.args.tree.now.backs c.args.entries.now c.args.arcs.now.items c.requires.flow c.requires.arcs
 
-pub node_at-from-requires : goal.node_at-from-requires
-node_at-from-requires c =
-    let lt : c.loop-e.e < length c.args.graph.now.code.edges = omega arith in
-    let k = source_number c.args.graph.now c.requires.flow c.loop-e.e lt in
-    record { node = (k.0, k.1 ∙ ap Some (ap edge_at c.edge.ensures)) }
-
 pub loop-e-preserved : goal.loop-e-preserved
 loop-e-preserved c =
     let lt : c.loop-e.e < length c.args.graph.now.code.edges = omega arith in
     elim c.match-callee.branch [
       | in-Some+in_ok-push w ↦
           rw (w.arcs-is, w.in_ok-push.ensures.items)
-          (need_added c.args.graph.now c.args.tree.now.backs c.args.entries.now c.loop-e.e c.loop-e.arcs.items (record { from = w.node_at-from.result; to = number_in_place c.args.entries.now w.in-Some.f }) w.in-Some.f c.loop-e.invariant lt
-          (w.node_at-from.ensures ∙ ap Some (sym (ap edge_at w.edge.ensures))) (sym w.in-Some.ensures) refl)
+          (need_added c.args.graph.now c.args.tree.now.backs c.args.entries.now c.loop-e.e c.loop-e.arcs.items (record { from = w.source-from.result; to = number_in_place c.args.entries.now w.in-Some.f }) w.in-Some.f c.loop-e.invariant lt
+          w.source-from.ensures.node (sym w.in-Some.ensures) refl)
       | in_default w ↦ rw w.arcs-is (need_skipped c.args.graph.now c.args.tree.now.backs c.args.entries.now c.loop-e.e c.loop-e.arcs.items c.loop-e.invariant (sym w.in_default.ensures))
     ]

@@ -14,7 +14,7 @@ overflow_add-result c =
     omega arith
 
 pub owner-requires : goal.owner-requires
-owner-requires c = slice_get_within c.args.graph.now.code.nodes c.source_of.result _ c.source_of.ensures
+owner-requires c = slice_get_within c.args.graph.now.code.nodes c.source.result _ c.source.ensures.node
 
 pub overflow_add-result-in-Some : goal.overflow_add-result-in-Some
 overflow_add-result-in-Some c =
@@ -27,5 +27,5 @@ returns-in-Some c = λ n s.
     let leads = c.target.ensures.some c.in-Some.to c.in-Some.is in
     let within = c.target.ensures.within c.in-Some.to c.in-Some.is in
     rest_value c.args.graph.now c.args.tree.now (by_edge c.args.weights.now) c.args.left.now c.args.around.now c.args.context.now n c.args.e c.in-Some.to c.owner.result c.requires.left c.requires.around c.requires.context s leads within
-    (c.owner.ensures.owner ∙ ap (graph c.args.graph.now).owner (get_or_from_slice_get c.args.graph.now.code.nodes c.source_of.result _ 0 c.source_of.ensures)) c.owner.ensures.within
+    (c.owner.ensures.owner ∙ ap (graph c.args.graph.now).owner (get_or_from_slice_get c.args.graph.now.code.nodes c.source.result _ 0 c.source.ensures.node)) c.owner.ensures.within
     ∙ rest_there c.args.graph.now c.args.tree.now n c.args.e c.in-Some.to leads within

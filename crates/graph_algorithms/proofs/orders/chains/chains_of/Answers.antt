@@ -1,31 +1,25 @@
-use Rattle.std.proofs.Common.{rules, arith, refl, ◌≡◌, ◌+◌, ◌<◌, length, length-set, slice_set, sym, ◌∙◌, subst, None}
-use Rattle.std.proofs.lemmas.List.{get_or_read}
-use Rattle.graph_algorithms.specs.Arcs.{arc_at}
-use Rattle.graph_algorithms.specs.DepthFirst.{AreLasts, AreArcChains, arc_next}
-use Rattle.graph_algorithms.proofs.ArcChainLaws.{lasts_more, chain_more}
+use Rattle.std.proofs.Common.{◌≡◌, List, Option, ℕ, length, map, sym, subst, ap, ◌∙◌}
+use Rattle.graph_algorithms.specs.DepthFirst.{AreLasts, AreArcChains}
+use Rattle.graph_algorithms.specs.Keys.{AreKeys, AreChains}
+use Rattle.graph_algorithms.proofs.ArcChainLaws.{key_of, are_keys, lasts_are, chains_are, before_size}
 use Rattle.graph_algorithms.proofs.orders.chains.chains_of.Goals as goal
 
-pub loop-s-preserved : goal.loop-s-preserved
-loop-s-preserved c =
-    let inv = c.loop-s.invariant in
-    let sl : c.loop-s.s < length c.args.arcs.now = search rules in
-    let xl : (arc_at c.args.arcs.now c.loop-s.s).from < length c.loop-s.last.items = (let k = inv.size in let n = (c.requires.numbered c.loop-s.s sl).0 in omega arith) in
-    let bl : c.loop-s.s < length c.loop-s.before.items = (let k = inv.before in omega arith) in
-    let read : c.index.result.now ≡ arc_next c.loop-s.last.items (arc_at c.args.arcs.now c.loop-s.s).from = get_or_read c.loop-s.last.items _ _ xl c.index.ensures None in
+pub find_chains-requires : goal.find_chains-requires
+find_chains-requires c =
+    let same : c.deref.result.now ≡ map key_of c.args.arcs.now = c.deref.ensures.value ∙ c.in_ok-keys.ensures in
+    subst (λ keys. AreKeys keys c.args.count) (sym same) (are_keys c.args.count c.args.arcs.now c.requires.numbered)
+
+pub returns : goal.returns
+returns c =
+    let same : c.deref.result.now ≡ map key_of c.args.arcs.now = c.deref.ensures.value ∙ c.in_ok-keys.ensures in
+    let arcs = c.args.arcs.now in
+    let view = c.in_ok-chains.chains in
+    let are : AreChains (map key_of arcs) c.args.count view = subst (λ keys. AreChains keys c.args.count view) same c.in_ok-chains.ensures in
+    let last = sym c.into_parts.ensures.last in
+    let before = sym c.into_parts.ensures.before in
     record {
-      size = length-set c.loop-s.last.items _ _ ∙ inv.size;
-      before = length-set c.loop-s.before.items _ _ ∙ inv.before;
-      lasts = lasts_more c.loop-s.s (arc_at c.args.arcs.now c.loop-s.s).from c.args.arcs.now c.loop-s.last.items xl refl inv.lasts;
-      chain = subst (λ o. AreArcChains (c.loop-s.s + 1) c.args.arcs.now (slice_set c.loop-s.before.items c.loop-s.s o)) (sym read)
-          (chain_more c.loop-s.s (arc_at c.args.arcs.now c.loop-s.s).from c.args.arcs.now c.loop-s.last.items c.loop-s.before.items bl refl inv.lasts inv.chain);
+      size = ap length (sym last) ∙ are.last_size;
+      lasts = subst (AreLasts (length arcs) arcs) last (lasts_are c.args.count arcs view c.requires.numbered are);
+      chain = subst (AreArcChains (length arcs) arcs) before (chains_are c.args.count arcs view c.requires.numbered are);
+      before = ap length (sym before) ∙ before_size c.args.count arcs view c.requires.numbered are;
     }
-
-pub returns-clause-lasts : goal.returns-clause-lasts
-returns-clause-lasts c =
-    let e : c.loop-s.s ≡ length c.args.arcs.now = omega (arith, c.loop-s.auto.s-end, c.loop-s-test.false) in
-    subst (λ n. AreLasts n c.args.arcs.now c.loop-s.last.items) e c.loop-s.invariant.lasts
-
-pub returns-clause-chain : goal.returns-clause-chain
-returns-clause-chain c =
-    let e : c.loop-s.s ≡ length c.args.arcs.now = omega (arith, c.loop-s.auto.s-end, c.loop-s-test.false) in
-    subst (λ n. AreArcChains n c.args.arcs.now c.loop-s.before.items) e c.loop-s.invariant.chain

@@ -1,7 +1,7 @@
 use Rattle.std.proofs.Common.{◌≡◌, ◌<◌, length, Vec, Global, ℕ, sym, ap, ◌∙◌, Some, map, slice_get, arith, subst, option_map}
 use Rattle.std.proofs.lemmas.List.{length-map}
 use Rattle.std.proofs.lemmas.Option.{slice_get-map, slice_get-get_or}
-use Rattle.loop_tree.proofs.Laws.{body_at}
+use Rattle.loop_tree.proofs.BodyLaws.{body_at}
 use Rattle.cost_theory.specs.Lists.{is_among}
 use Rattle.loop_tree.specs.Tree.{LoopView}
 use Rattle.loop_tree.specs.Backs.{IsRising}
