@@ -44,9 +44,17 @@ STUB = [
     0x10030313, 0x00535333, 0x00F37313, 0xFE602E23, 0x80402303, 0x80002283, 0xFF9FE06F,
 ]  # fmt: skip
 TO_STUB = 0x7F10006F
+# A far call of a function that only returns, and an exit; the same with a near call.
+FAR_CALL = [0x00000097, 0x010080E7, 0x05D00893, 0x00000073, 0x00008067]
+NEAR_CALL = [0x00000097, 0x00C000EF, 0x05D00893, 0x00000073, 0x00008067]
+# A jump through x5 to the second of its targets, its tree, and the jump to the tree that stands in its place.
+TABLE_JUMP = [0x000102B7, 0x01428293, 0x00028067, 0x00100513, 0x0080006F, 0x00200513, 0x05D00893, 0x00000073]
+TREE = [0x01B29293, 0x0002C863, 0x000102B7, 0x00C28293, 0xFFDFE06F, 0x000102B7, 0x01428293, 0xFF9FE06F]
+TO_TREE = 0x7F90006F
 
 LOOPS = "version = 1\n"
 READ_LOOP = LOOPS + "[[loop]]\nheader = 0x10008\nranges = [[0x10008, 0x10018]]\nbound = 10\ncounted = true\n"
+JUMPS = "version = 1\n[[jump]]\nat = 0x10008\ntargets = [0x1000c, 0x10014]\n"
 HELP = """\
 scale hold IMAGE MACHINE LOOPS OUT
 scale rewrite IMAGE MACHINE LOOPS OUT
@@ -54,6 +62,7 @@ scale report IMAGE MACHINE LOOPS
 scale simulate IMAGE MACHINE INPUT OUT [LOOPS]
 scale make NUMBER SIZE PREFIX
 scale help
+scale lower IMAGE JUMPS OUT
 """
 BAD_COMMAND = "bad command; try: scale help\n"
 
@@ -75,11 +84,21 @@ def plain_image(words):
     return header(52, 1) + segment(words) + words_of(words)
 
 
-def stored_image(words, level, block=()):
-    """The words in place of the original's, then the block of stubs, and behind it the table with the segment that names the level."""
+def image_with_block(words, block, physical, flags, align):
+    """The words in place of the original's, then the block, and behind it the table with the block's segment."""
     front = header(4096 + 4 * len(block), 2) + segment(words) + words_of(words)
-    keyed = words_of([1, 4096, 0x00011000, level, 4 * len(block), 4 * len(block), 0x00100005, 4096])
-    return front.ljust(4096, b"\0") + words_of(block) + segment(words) + keyed
+    added = words_of([1, 4096, 0x00011000, physical, 4 * len(block), 4 * len(block), flags, align])
+    return front.ljust(4096, b"\0") + words_of(block) + segment(words) + added
+
+
+def stored_image(words, level, block=()):
+    """With a block of stubs, whose segment names the level."""
+    return image_with_block(words, block, level, 0x00100005, 4096)
+
+
+def lowered_image(words, block):
+    """With a block of trees."""
+    return image_with_block(words, block, 0x00011000, 5, 4)
 
 
 def summary(level, worst, time, deadline, added=0, switches=0, size=0):
@@ -87,6 +106,10 @@ def summary(level, worst, time, deadline, added=0, switches=0, size=0):
         "start level %d\nworst cycles %d\nworst time %d of %d\nstub cycles at most %d\n" % (level, worst, time, deadline, added)
         + "switch edges %d\nexit edges 0\ncount edges 0\nstub bytes %d\n" % (switches, size)
     )
+
+
+def counts(pairs, jumps, block, depth):
+    return "pairs %d\njumps %d\nblock bytes %d\ndepth %d\n" % (pairs, jumps, block, depth)
 
 
 def report(end, steps, cycles, time, energy, held, switches, level, keyed, output, kept="unchecked"):
@@ -129,6 +152,10 @@ def files():
         "held-0": stored_image(SEVEN, 0),
         "held-1": stored_image(SEVEN, 1),
         "rewritten": stored_image(rewritten, 1, STUB),
+        "far-call": plain_image(FAR_CALL),
+        "near-call": plain_image(NEAR_CALL),
+        "table-jump": plain_image(TABLE_JUMP),
+        "lowered": lowered_image([TO_TREE if word == 0x00028067 else word for word in TABLE_JUMP], TREE),
         "long": bytes(4194305),
         "m": machine().encode(),
         "m-27": machine(27).encode(),
@@ -139,6 +166,9 @@ def files():
         "m-made": machine(700, 10000000).encode(),
         "loops": LOOPS.encode(),
         "read-loop": READ_LOOP.encode(),
+        "jumps": JUMPS.encode(),
+        "other-jumps": JUMPS.replace("0x10008", "0x10004").encode(),
+        "no-jumps": b"version = 1\n",
         "none": b"",
         "one": b"x",
         "eleven": b"hello world",
@@ -162,6 +192,8 @@ LINES = [
     ("hold a b", 2, BAD_COMMAND),
     ("help me", 2, BAD_COMMAND),
     ("report seven m loops out", 2, BAD_COMMAND),
+    ("lower a b", 2, BAD_COMMAND),
+    ("lower table-jump jumps out more", 2, BAD_COMMAND),
     ("make 0 0 p", 2, BAD_COMMAND),
     ("make 0 2001 p", 2, BAD_COMMAND),
     ("make 18446744073709551616 1 p", 2, BAD_COMMAND),
@@ -182,6 +214,15 @@ LINES = [
     ("report seven m missing", 3, ""),
     ("make 0 1 p", 0, MADE_TEXT, {"p.elf": "made", "p.machine": "m-made", "p.loops": "loops", "p.input": "drawn", "p.scaled": "made-held"}),
     ("make 0 1 folder/p", 3, ""),
+    ("lower far-call no-jumps out", 0, counts(1, 0, 0, 0), {"out": "near-call"}),
+    ("lower table-jump jumps out", 0, counts(0, 1, 32, 1), {"out": "lowered"}),
+    ("lower table-jump jumps jumps", 0, counts(0, 1, 32, 1), {"jumps": "lowered"}),
+    ("lower table-jump other-jumps out", 1, "refused 64 bad jump at 0x00010004\n"),
+    ("lower table-jump none out", 1, "refused 62 jump 0 key version\n"),
+    ("lower table-jump missing out", 3, ""),
+    ("lower table-jump jumps folder/out", 3, ""),
+    ("simulate table-jump m none out", 0, report("exit 2", 6, 11, 11, 88, 88, 0, 2, 0, 0), {"out": "none"}),
+    ("simulate lowered m none out", 0, report("exit 2", 11, 18, 18, 144, 144, 0, 2, 0, 0), {"out": "none"}),
     ("simulate held-0 m none out", 0, report("exit 7", 3, 7, 28, 7, 7, 0, 0, 0, 0), {"out": "none"}),
     ("simulate rewritten m-160 none out", 0, report("exit 0", 20, 34, 102, 98, 102, 1, 0, 18, 0), {"out": "none"}),
     ("simulate rewritten m-160 one out", 0, report("exit 1", 15, 79, 158, 237, 237, 0, 1, 3, 0), {"out": "none"}),

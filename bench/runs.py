@@ -26,12 +26,13 @@ def write_machine(folder, deadline=4000000000000000000):
         file.write(machine_text("deadline", 28, deadline))
 
 
-def store(word, folder, image, machine, loops=os.path.join(DATA, "loops.toml")):
-    """Has the command of a word make an image three times; the best time in seconds, the status, and what was printed, by lines."""
+def store(word, folder, image, *files):
+    """Has the command of a word make an image of this one and these files three times; the best time in seconds, the status, and what was
+    printed, by lines."""
     path = os.path.join(folder, "image.elf")
     with open(path, "wb") as file:
         file.write(image)
-    command = [SCALE, word, path, machine, loops, os.path.join(folder, "out.elf")]
+    command = [SCALE, word, path, *files, os.path.join(folder, "out.elf")]
     best = None
     for _ in range(3):
         begin = time.perf_counter()

@@ -41,6 +41,14 @@ summary_text s =
     ++ number_line (codes "count edges ") s.count_edges
     ++ number_line (codes "stub bytes ") s.stub_bytes
 
+-- what was lowered: how many far jumps and how many listed ones, the bytes of the block of trees, and the greatest depth of a tree
+abbrev pub lowered_text : (pairs jumps block depth : ℕ) → List ℕ
+lowered_text pairs jumps block depth =
+    number_line (codes "pairs ") pairs
+    ++ number_line (codes "jumps ") jumps
+    ++ number_line (codes "block bytes ") block
+    ++ number_line (codes "depth ") depth
+
 -- the hexadecimal digit of a number below 16
 abbrev pub hex_digit : ℕ → ℕ
 hex_digit n = if nat_lt n 10 then 48 + n else 87 + n

@@ -29,6 +29,16 @@ fn prints_a_summary(rt: HostRuntime) -> Result<(), Fail> {
     Ok(())
 }
 
+#[test]
+fn prints_what_was_lowered(rt: HostRuntime) -> Result<(), Fail> {
+    let text = lowered_text(rt.alloc(), 3, 1, 32, 2).ok().ok_or("memory")?;
+    assert_eq!(rt;
+        text.as_str(),
+        "pairs 3\njumps 1\nblock bytes 32\ndepth 2\n"
+    );
+    Ok(())
+}
+
 fn line(rt: &HostRuntime, refusal: Refusal) -> Result<String, Fail> {
     Ok(refusal_text(rt.alloc(), &refusal).ok().ok_or("memory")?)
 }

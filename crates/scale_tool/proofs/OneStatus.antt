@@ -9,30 +9,35 @@ use Rattle.scaler.specs.Held.{IsHeld}
 use Rattle.scaler.specs.Planned.{IsPlanned}
 use Rattle.scaler.specs.Rewritten.{IsRewritten}
 use Rattle.scaler.proofs.Laws.{held_answers, rewritten_answers}
+use Rattle.image_lower.specs.declared.lowering.Lowered.{Lowered}
+use Rattle.image_lower.specs.Lowered.{IsLowered}
+use Rattle.image_lower.proofs.Laws.{lowered_answers}
+use Rattle.scale_report.specs.Texts.{summary_text}
 use Rattle.image_maker.specs.Making.{program}
 use Rattle.image_maker.proofs.Laws.{one_image}
 use Rattle.host_files.specs.HostState.{Files, HostState}
-use Rattle.scale_tool.specs.Answer.{Answer, AnswersTo, Giving, HasAnswer, IsAnswerOf, AreMade, MadeFiles, Makes, MakesMade, MakesReport, MakesStored, made_answer, plan_answer, stored_answer}
-use Rattle.scale_tool.specs.Command.{Command, Help, Hold, Rewrite, Report, Simulate, Make, wants_of}
+use Rattle.scale_tool.specs.Answer.{Answer, AnswersTo, Giving, HasAnswer, IsAnswerOf, AreMade, MadeFiles, Makes, MakesMade, MakesReport, MakesStored, counts_text, made_answer, plan_answer, stored_answer}
+use Rattle.scale_tool.specs.Command.{Command, Help, Hold, Rewrite, Report, Simulate, Make, Lower, wants_of}
 use Rattle.scale_tool.specs.Loading.{Loading, Missing, Long, Whole, loading_of}
 use Rattle.scale_tool.specs.Tool.{IsAnswered, IsDelivered, IsStatusOfAll}
 
 -- ---- commands that give a file
 
-stored_status : (out : List ℕ) (one other : Result (List ℕ × Summary) Refusal) → AreAlikeAnswers one other → (stored_answer out one).status ≡ (stored_answer out other).status
+stored_status : (out : List ℕ) (one other : Result (List ℕ × Summary) Refusal) → AreAlikeAnswers one other → (stored_answer summary_text out one).status ≡ (stored_answer summary_text out other).status
 stored_status out (Ok one) (Ok other) alike = refl
 stored_status out (Err one) (Err other) alike = refl
 stored_status out (Ok one) (Err other) alike = absurd alike
 stored_status out (Err one) (Ok other) alike = absurd alike
 
--- two answers that may be given for the same files are alike
-abbrev Agree : Giving → Type 0
-Agree Gives = (image machine loops : List ℕ) (one other : Result (List ℕ × Summary) Refusal) → Gives image machine loops one → Gives image machine loops other → AreAlikeAnswers one other
+-- answers about two things that may be given for the same files have one status
+abbrev Agree : {A : Type 0} → Giving A → (A → List ℕ) → List ℕ → Type 0
+Agree {A} Gives text_of out = (one other : Result (List ℕ × A) Refusal) → Gives one → Gives other → (stored_answer text_of out one).status ≡ (stored_answer text_of out other).status
 
-one_stored : (Gives : Giving) → Agree Gives → (i m l out : List ℕ) (one other : Answer) → MakesStored Gives i m l out one → MakesStored Gives i m l out other → one.status ≡ other.status
-one_stored Gives agree i m l out one other x y =
+one_stored : {A : Type 0} (Gives : Giving A) (text_of : A → List ℕ) (out : List ℕ) → Agree Gives text_of out → (one other : Answer) → MakesStored Gives text_of out one → MakesStored Gives text_of out other →
+    one.status ≡ other.status
+one_stored Gives text_of out agree one other x y =
     ap (λ (a : Answer). a.status) x.told
-    ∙ stored_status out x.given y.given (agree i m l x.given y.given x.is_given y.is_given)
+    ∙ agree x.given y.given x.is_given y.is_given
     ∙ sym (ap (λ (a : Answer). a.status) y.told)
 
 -- ---- plans
@@ -80,12 +85,16 @@ one_made number size prefix one other x y =
 
 one_made_of_files : (command : Command) (files : List (List ℕ)) (one other : Answer) → Makes command files one → Makes command files other → one.status ≡ other.status
 one_made_of_files Help [] one other x y = ap (λ (a : Answer). a.status) (x ∙ sym y)
-one_made_of_files (Hold image machine loops out) (i ∷ m ∷ l ∷ []) one other x y = one_stored IsHeld held_answers i m l out one other x y
-one_made_of_files (Rewrite image machine loops out) (i ∷ m ∷ l ∷ []) one other x y = one_stored IsRewritten rewritten_answers i m l out one other x y
+one_made_of_files (Hold image machine loops out) (i ∷ m ∷ l ∷ []) one other x y =
+    one_stored (IsHeld i m l) summary_text out (λ a b g h. stored_status out a b (held_answers i m l a b g h)) one other x y
+one_made_of_files (Rewrite image machine loops out) (i ∷ m ∷ l ∷ []) one other x y =
+    one_stored (IsRewritten i m l) summary_text out (λ a b g h. stored_status out a b (rewritten_answers i m l a b g h)) one other x y
 one_made_of_files (Report image machine loops) (i ∷ m ∷ l ∷ []) one other x y = one_report i m l one other x y
 one_made_of_files (Simulate image machine input out None) (i ∷ m ∷ n ∷ []) one other x y = ap (λ (a : Answer). a.status) (x ∙ sym y)
 one_made_of_files (Simulate image machine input out (Some loops)) (i ∷ m ∷ n ∷ l ∷ []) one other x y = ap (λ (a : Answer). a.status) (x ∙ sym y)
 one_made_of_files (Make number size prefix) [] one other x y = one_made number size prefix one other x y
+one_made_of_files (Lower image jumps out) (i ∷ j ∷ []) one other x y =
+    one_stored (IsLowered i j) counts_text out (λ a b g h. ap (λ (r : Result (List ℕ × Lowered) Refusal). (stored_answer counts_text out r).status) (lowered_answers i j a b g h)) one other x y
 one_made_of_files command files one other x y = absurd x
 
 one_of_loading : (command : Command) (loading : Loading) (one other : Answer) → AnswersTo command loading one → AnswersTo command loading other → one.status ≡ other.status

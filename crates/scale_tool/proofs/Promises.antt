@@ -15,14 +15,17 @@ use Rattle.scaler.specs.Rewritten.{IsRewritten}
 use Rattle.scaler.specs.Runs.{IsHeldSafely}
 use Rattle.scaler.specs.RewrittenRuns.{IsRewrittenSafely}
 use Rattle.scaler.proofs.Laws.{held_safe, rewritten_safe}
+use Rattle.image_lower.specs.Lowered.{IsLowered}
+use Rattle.image_lower.proofs.Laws.{lowered_safe}
+use Rattle.scale_report.specs.Texts.{summary_text}
 use Rattle.speed_sim.specs.Simulated.{simulated}
 use Rattle.image_maker.specs.Making.{headers}
 use Rattle.image_maker.proofs.Laws.{small_image, small_machine, small_loops}
 use Rattle.host_files.specs.HostState.{Files, HostState}
-use Rattle.scale_tool.specs.Answer.{Answer, Giving, AreMade, MadeFiles, Makes, MakesMade, MakesStored, AnswersTo, HasAnswer, made_answer, refused, stored_answer, unless_refused}
-use Rattle.scale_tool.specs.Command.{Command, Help, Hold, Rewrite, Report, Simulate, Make, command_of, texts, wants_of}
+use Rattle.scale_tool.specs.Answer.{Answer, Giving, AreMade, MadeFiles, Makes, MakesMade, MakesStored, AnswersTo, HasAnswer, counts_text, made_answer, refused, stored_answer, unless_refused}
+use Rattle.scale_tool.specs.Command.{Command, Help, Hold, Rewrite, Report, Simulate, Make, Lower, command_of, texts, wants_of}
 use Rattle.scale_tool.specs.Loading.{Loading, Missing, Long, Whole, loading_of, loading_one, and_then}
-use Rattle.scale_tool.specs.Promise.{Keeping, StoredPromise, MadePromise, Promise, PromisedOf, PromisedBy, Promised}
+use Rattle.scale_tool.specs.Promise.{Keeping, KeepsLowered, StoredPromise, MadePromise, Promise, PromisedOf, PromisedBy, Promised}
 use Rattle.scale_tool.specs.Tool.{with_stores, StoresStand}
 use Rattle.scale_tool.proofs.Sizes.{HasSize, command_size}
 
@@ -81,28 +84,27 @@ loaded_within (want ∷ wants) files = within_one want wants (get files want.0) 
 
 -- ---- what a command promises
 
--- what is given is safe, for files within their limits
-abbrev AreSafe : Giving → Keeping → Type 0
-AreSafe Gives Safe = (image machine loops stored : List ℕ) (summary : Summary) → length image ≤ 4194304 → length machine ≤ 1048576 → length loops ≤ 1048576
-    → Gives image machine loops (Ok ((stored, summary))) → Safe image machine loops stored summary
+-- what is given is safe
+abbrev IsSafe : {A : Type 0} → Giving A → Keeping A → Type 0
+IsSafe {A} Gives Safe = (stored : List ℕ) (told : A) → Gives (Ok ((stored, told))) → Safe stored told
 
-module _ (Gives : Giving) (Safe : Keeping) (are_safe : AreSafe Gives Safe) (i m l out : List ℕ) (files : Files) (image_short : length i ≤ 4194304) (machine_short : length m ≤ 1048576) (loops_short : length l ≤ 1048576) where
+module _ {A : Type 0} (Gives : Giving A) (Safe : Keeping A) (text_of : A → List ℕ) (out : List ℕ) (files : Files) (is_safe : IsSafe Gives Safe) where
   -- what was done is what is stored
-  given_kept : (given : Result (List ℕ × Summary) Refusal) → Gives i m l given → (stored_answer out given).status ≢ 1
-      → StoredPromise Gives Safe i m l (get (with_stores (stored_answer out given).stores files) out)
+  given_kept : (given : Result (List ℕ × A) Refusal) → Gives given → (stored_answer text_of out given).status ≢ 1
+      → StoredPromise Gives Safe (get (with_stores (stored_answer text_of out given).stores files) out)
   given_kept (Ok given) is done = record {
     stored = given.0;
     stands = get_inserted files out given.0;
-    summary = given.1;
+    told = given.1;
     given = is;
-    safe = λ printed again. are_safe i m l given.0 printed image_short machine_short loops_short again;
+    safe = λ printed again. is_safe given.0 printed again;
   }
   given_kept (Err refusal) is done = absurd (done refl)
 
-  stored_kept : (answer : Answer) → MakesStored Gives i m l out answer → answer.status ≢ 1 → StoredPromise Gives Safe i m l (get (with_stores answer.stores files) out)
+  stored_kept : (answer : Answer) → MakesStored Gives text_of out answer → answer.status ≢ 1 → StoredPromise Gives Safe (get (with_stores answer.stores files) out)
   stored_kept answer made done =
       let told = sym made.told in
-      subst (λ (a : Answer). StoredPromise Gives Safe i m l (get (with_stores a.stores files) out)) told
+      subst (λ (a : Answer). StoredPromise Gives Safe (get (with_stores a.stores files) out)) told
       (given_kept made.given made.is_given (λ e. done (ap (λ (a : Answer). a.status) made.told ∙ e)))
 
 -- an answer whose parts may be refused
@@ -177,7 +179,7 @@ module _ (number size : ℕ) (prefix : List ℕ) (files : Files) (few : size ≤
       promise = record {
         stored = scaled;
         stands = get_inserted files_4 (name (codes ".scaled")) scaled;
-        summary = summary;
+        told = summary;
         given = is;
         safe = λ printed again. rewritten_safe made.image made.machine made.loops scaled printed
             (small_image number size made.image few are.image)
@@ -203,15 +205,18 @@ kept : (command : Command) (loaded : List (List ℕ)) (files : Files) (answer : 
     Promise command loaded (with_stores answer.stores files)
 kept Help loaded files answer size within made done = tt
 kept (Hold image machine loops out) (i ∷ m ∷ l ∷ []) files answer size within made done =
-    stored_kept IsHeld IsHeldSafely held_safe i m l out files within.0 within.1.0 within.1.1.0 answer made done
+    stored_kept (IsHeld i m l) (IsHeldSafely i m l) summary_text out files (λ stored told is. held_safe i m l stored told within.0 within.1.0 within.1.1.0 is) answer made done
 kept (Hold image machine loops out) loaded files answer size within made done = absurd made
 kept (Rewrite image machine loops out) (i ∷ m ∷ l ∷ []) files answer size within made done =
-    stored_kept IsRewritten IsRewrittenSafely rewritten_safe i m l out files within.0 within.1.0 within.1.1.0 answer made done
+    stored_kept (IsRewritten i m l) (IsRewrittenSafely i m l) summary_text out files (λ stored told is. rewritten_safe i m l stored told within.0 within.1.0 within.1.1.0 is) answer made done
 kept (Rewrite image machine loops out) loaded files answer size within made done = absurd made
 kept (Report image machine loops) loaded files answer size within made done = tt
 kept (Simulate image machine input out loops) loaded files answer size within made done = tt
 kept (Make number blocks prefix) [] files answer size within made done = made_kept number blocks prefix files answer size made done
 kept (Make number blocks prefix) (file ∷ loaded) files answer size within made done = absurd made
+kept (Lower image jumps out) (i ∷ j ∷ []) files answer size within made done =
+    stored_kept (IsLowered i j) (KeepsLowered i j) counts_text out files (λ stored counts is bytes. lowered_safe i j stored counts within.0 bytes is) answer made done
+kept (Lower image jumps out) loaded files answer size within made done = absurd made
 
 of_loading : (command : Command) (loading : Loading) (files : Files) (new : Option Files) (answer : Answer) → HasSize command → Within (wants_of command) loading → AnswersTo command loading answer →
     answer.status ≢ 1 → new ≡ Some (with_stores answer.stores files) → IfSome new (λ after. PromisedOf command loading after)

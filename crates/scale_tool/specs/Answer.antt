@@ -7,16 +7,18 @@ use Rattle.scale_base.specs.declared.summary.Summary.{Summary}
 use Rattle.scale_base.specs.declared.endings.End.{End}
 use Rattle.scale_base.specs.declared.endings.End.TheVariants.{Exited, Trapped, OutOfSteps}
 use Rattle.power_model.specs.Report.{Report as RunReport}
-use Rattle.scale_report.specs.Texts.{summary_text, refusal_text, run_text, site_line}
+use Rattle.scale_report.specs.Texts.{summary_text, lowered_text, refusal_text, run_text, site_line}
 use Rattle.scaler.specs.Held.{IsHeld}
 use Rattle.scaler.specs.Planned.{IsPlanned}
 use Rattle.scaler.specs.Rewritten.{IsRewritten}
 use Rattle.speed_sim.specs.Simulated.{simulated}
+use Rattle.image_lower.specs.declared.lowering.Lowered.{Lowered}
+use Rattle.image_lower.specs.Lowered.{IsLowered}
 use Rattle.image_maker.specs.Made.{IsImageOf}
 use Rattle.image_maker.specs.MadeTexts.{machine_text, loops_text, drawn_bytes}
 use Rattle.image_maker.specs.Making.{program, headers, state_at}
 use Rattle.host_files.specs.HostState.{Files}
-use Rattle.scale_tool.specs.Command.{Command, Help, Hold, Rewrite, Report, Simulate, Make, wants_of}
+use Rattle.scale_tool.specs.Command.{Command, Help, Hold, Rewrite, Report, Simulate, Make, Lower, wants_of}
 use Rattle.scale_tool.specs.Loading.{Loading, Missing, Long, Whole, loading_of}
 
 -- names, each with what is stored under it
@@ -38,7 +40,7 @@ bad_command = record { stores = []; text = bad_command_text; status = 2 }
 
 -- how the commands are called
 abbrev pub help_text : List ℕ
-help_text = codes "scale hold IMAGE MACHINE LOOPS OUT\nscale rewrite IMAGE MACHINE LOOPS OUT\nscale report IMAGE MACHINE LOOPS\nscale simulate IMAGE MACHINE INPUT OUT [LOOPS]\nscale make NUMBER SIZE PREFIX\nscale help\n"
+help_text = codes "scale hold IMAGE MACHINE LOOPS OUT\nscale rewrite IMAGE MACHINE LOOPS OUT\nscale report IMAGE MACHINE LOOPS\nscale simulate IMAGE MACHINE INPUT OUT [LOOPS]\nscale make NUMBER SIZE PREFIX\nscale help\nscale lower IMAGE JUMPS OUT\n"
 
 -- the answer to `help`
 abbrev pub help : Answer
@@ -47,20 +49,24 @@ help = record { stores = []; text = help_text; status = 0 }
 abbrev pub refused : Refusal → Answer
 refused refusal = record { stores = []; text = refusal_text refusal; status = 1 }
 
--- one file and the summary, or the refusal
-abbrev pub stored_answer : List ℕ → Result (List ℕ × Summary) Refusal → Answer
-stored_answer out (Ok given) = record { stores = (out, given.0) ∷ []; text = summary_text given.1; status = 0 }
-stored_answer out (Err refusal) = refused refusal
+-- one file and the text about it, or the refusal
+abbrev pub stored_answer : {A : Type 0} → (A → List ℕ) → List ℕ → Result (List ℕ × A) Refusal → Answer
+stored_answer text_of out (Ok given) = record { stores = (out, given.0) ∷ []; text = text_of given.1; status = 0 }
+stored_answer text_of out (Err refusal) = refused refusal
 
--- what a command gives for its three files: a file and its summary, or the first refusal
-abbrev pub Giving : Type 1
-Giving = List ℕ → List ℕ → List ℕ → Result (List ℕ × Summary) Refusal → Type 0
+-- what a command gives for its files: a file and what is told of it, or the first refusal
+abbrev pub Giving : Type 0 → Type 1
+Giving A = Result (List ℕ × A) Refusal → Type 0
 
--- The answer to `hold` or `rewrite` with this name of OUT, by the bytes of its image, machine file and loop file: it tells what the command gives for them.
-pub record MakesStored (Gives : Giving) (image machine loops out : List ℕ) (answer : Answer) : Type 0 where
-  pub given : Result (List ℕ × Summary) Refusal
-  pub is_given : Gives image machine loops given
-  pub told : answer ≡ stored_answer out given
+-- The answer to a command that stores one file, under this name of OUT: it tells what the command gives for its files.
+pub record MakesStored {A : Type 0} (Gives : Giving A) (text_of : A → List ℕ) (out : List ℕ) (answer : Answer) : Type 0 where
+  pub given : Result (List ℕ × A) Refusal
+  pub is_given : Gives given
+  pub told : answer ≡ stored_answer text_of out given
+
+-- what is told of a lowered image
+abbrev pub counts_text : Lowered → List ℕ
+counts_text counts = lowered_text counts.pairs counts.jumps counts.block counts.depth
 
 -- the plan, or the refusal
 abbrev pub plan_answer : Result (Summary × List SiteLine) Refusal → Answer
@@ -132,12 +138,13 @@ pub record MakesMade (number size : ℕ) (prefix : List ℕ) (answer : Answer) :
 -- what the command may make of its files, as many as it loads
 abbrev pub Makes : Command → List (List ℕ) → Answer → Type 0
 Makes Help [] answer = answer ≡ help
-Makes (Hold image machine loops out) (i ∷ m ∷ l ∷ []) answer = MakesStored IsHeld i m l out answer
-Makes (Rewrite image machine loops out) (i ∷ m ∷ l ∷ []) answer = MakesStored IsRewritten i m l out answer
+Makes (Hold image machine loops out) (i ∷ m ∷ l ∷ []) answer = MakesStored (IsHeld i m l) summary_text out answer
+Makes (Rewrite image machine loops out) (i ∷ m ∷ l ∷ []) answer = MakesStored (IsRewritten i m l) summary_text out answer
 Makes (Report image machine loops) (i ∷ m ∷ l ∷ []) answer = MakesReport i m l answer
 Makes (Simulate image machine input out None) (i ∷ m ∷ n ∷ []) answer = MakesRun i m n None out answer
 Makes (Simulate image machine input out (Some loops)) (i ∷ m ∷ n ∷ l ∷ []) answer = MakesRun i m n (Some l) out answer
 Makes (Make number size prefix) [] answer = MakesMade number size prefix answer
+Makes (Lower image jumps out) (i ∷ j ∷ []) answer = MakesStored (IsLowered i j) counts_text out answer
 Makes command files answer = ⊥
 
 -- and of how they were loaded: nothing where a file is missing

@@ -1,28 +1,34 @@
 -- What the files that a command has stored promise to whoever runs them.
-use Rattle.std.specs.Prelude.{◌≡◌, ℕ, List, [], ◌∷◌, ◌++◌, Option, Some, None, IfSome, Ok, codes}
+use Rattle.std.specs.Prelude.{◌≡◌, ℕ, ◌<◌, ◌^◌, List, [], ◌∷◌, ◌++◌, All, Option, Some, None, IfSome, Ok, codes}
 use Rattle.std.specs.FinMap.{get}
-use Rattle.scale_base.specs.declared.summary.Summary.{Summary}
 use Rattle.scaler.specs.Held.{IsHeld}
 use Rattle.scaler.specs.Rewritten.{IsRewritten}
 use Rattle.scaler.specs.RewrittenRuns.{IsRewrittenSafely}
 use Rattle.scaler.specs.Runs.{IsHeldSafely}
+use Rattle.image_lower.specs.declared.lowering.Lowered.{Lowered}
+use Rattle.image_lower.specs.Lowered.{IsLowered}
+use Rattle.image_lower.specs.Promise.{IsLoweredSafely}
 use Rattle.host_files.specs.HostState.{Files, HostState}
 use Rattle.scale_tool.specs.Answer.{Giving, MadeFiles, AreMade}
-use Rattle.scale_tool.specs.Command.{Command, Hold, Rewrite, Make, wants_of}
+use Rattle.scale_tool.specs.Command.{Command, Hold, Rewrite, Make, Lower, wants_of}
 use Rattle.scale_tool.specs.Loading.{Loading, Whole, loading_of}
 
--- what a stored image with the printed summary keeps to, by the bytes of the image, machine file and loop file that it was made of
-abbrev pub Keeping : Type 1
-Keeping = (image machine loops stored : List ℕ) (summary : Summary) → Type 0
+-- what a stored image keeps to, with what is told of it
+abbrev pub Keeping : Type 0 → Type 1
+Keeping A = (stored : List ℕ) (told : A) → Type 0
 
--- of a command that stored what it gives for its files: what OUT holds afterwards is given, with some summary, and is safe with every summary that it is given with,
--- the printed one among them
-pub record StoredPromise (Gives : Giving) (Safe : Keeping) (image machine loops : List ℕ) (out : Option (List ℕ)) : Type 0 where
+-- of a command that stored what it gives for its files: what OUT holds afterwards is given, with something that is told of it, and is safe with all that it is given
+-- with, what was printed among them
+pub record StoredPromise {A : Type 0} (Gives : Giving A) (Safe : Keeping A) (out : Option (List ℕ)) : Type 0 where
   pub stored : List ℕ
   pub stands : out ≡ Some stored
-  pub summary : Summary
-  pub given : Gives image machine loops (Ok ((stored, summary)))
-  pub safe : (printed : Summary) → Gives image machine loops (Ok ((stored, printed))) → Safe image machine loops stored printed
+  pub told : A
+  pub given : Gives (Ok ((stored, told)))
+  pub safe : (printed : A) → Gives (Ok ((stored, printed))) → Safe stored printed
+
+-- what a lowered image keeps to, where each number of the loaded image is a byte
+abbrev pub KeepsLowered : (image jumps : List ℕ) → Keeping Lowered
+KeepsLowered image jumps stored counts = All (λ b. b < 2 ^ 8) image → IsLoweredSafely image jumps stored counts
 
 -- of `make`: the files of the program of this number and size stand, and beside them what `rewrite` gives for them
 pub record MadePromise (number size : ℕ) (prefix : List ℕ) (after : Files) : Type 0 where
@@ -32,17 +38,20 @@ pub record MadePromise (number size : ℕ) (prefix : List ℕ) (after : Files) :
   pub machine : get after (prefix ++ codes ".machine") ≡ Some made.machine
   pub loops : get after (prefix ++ codes ".loops") ≡ Some made.loops
   pub input : get after (prefix ++ codes ".input") ≡ Some made.input
-  pub promise : StoredPromise IsRewritten IsRewrittenSafely made.image made.machine made.loops (get after (prefix ++ codes ".scaled"))
+  pub promise : StoredPromise (IsRewritten made.image made.machine made.loops) (IsRewrittenSafely made.image made.machine made.loops) (get after (prefix ++ codes ".scaled"))
 
 -- What a command promises beside its answer, by the files that it loaded and those that stand afterwards. Of `hold`: on every input the stored image runs as the
 -- original one does, and as long as its run keeps the loops' bounds and the return addresses it takes at most the printed time, which is at most the deadline, and it
 -- ends. Of `rewrite`: on every input on which the original run exits and keeps the loops' bounds and the return addresses, the stored image gives the same output and
 -- the same exit status, ends by the deadline, never raises its level, takes no more energy than its own cycles at its starting level would, and adds at most the printed
--- number of cycles. Of `make`: its scaled image keeps what `rewrite` promises of the program, machine file and loop file that stand beside it.
+-- number of cycles. Of `make`: its scaled image keeps what `rewrite` promises of the program, machine file and loop file that stand beside it. Of `lower`: the lowered
+-- image follows each run of the original one that keeps to the lists, with the same output and ending, and takes at most the cycles of a tree of the printed depth more
+-- for each listed jump that was taken.
 abbrev pub Promise : Command → List (List ℕ) → Files → Type 0
-Promise (Hold image machine loops out) (i ∷ m ∷ l ∷ []) after = StoredPromise IsHeld IsHeldSafely i m l (get after out)
-Promise (Rewrite image machine loops out) (i ∷ m ∷ l ∷ []) after = StoredPromise IsRewritten IsRewrittenSafely i m l (get after out)
+Promise (Hold image machine loops out) (i ∷ m ∷ l ∷ []) after = StoredPromise (IsHeld i m l) (IsHeldSafely i m l) (get after out)
+Promise (Rewrite image machine loops out) (i ∷ m ∷ l ∷ []) after = StoredPromise (IsRewritten i m l) (IsRewrittenSafely i m l) (get after out)
 Promise (Make number size prefix) [] after = MadePromise number size prefix after
+Promise (Lower image jumps out) (i ∷ j ∷ []) after = StoredPromise (IsLowered i j) (KeepsLowered i j) (get after out)
 Promise command files after = Unit {0}
 
 abbrev pub PromisedOf : Command → Loading → Files → Type 0

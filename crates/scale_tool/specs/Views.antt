@@ -11,12 +11,12 @@ use Rattle.image_maker.specs.declared.maker.Made.{Made}
 use Rattle.scale_tool.specs.declared.command.Command.{Command as Parsed}
 use Rattle.scale_tool.specs.declared.command.Command.TheVariants.{Help as ParsedHelp, Work as ParsedWork}
 use Rattle.scale_tool.specs.declared.command.Work.{Work}
-use Rattle.scale_tool.specs.declared.command.Work.TheVariants.{Hold as ParsedHold, Rewrite as ParsedRewrite, Report as ParsedReport, Simulate as ParsedSimulate, Make as ParsedMake}
+use Rattle.scale_tool.specs.declared.command.Work.TheVariants.{Hold as ParsedHold, Rewrite as ParsedRewrite, Report as ParsedReport, Simulate as ParsedSimulate, Make as ParsedMake, Lower as ParsedLower}
 use Rattle.scale_tool.specs.declared.load_all.Want.{Want}
 use Rattle.scale_tool.specs.declared.reply.Reply.{Reply}
 use Rattle.scale_tool.specs.declared.reply.Store.{Store}
 use Rattle.scale_tool.specs.Answer.{Answer, MadeFiles, Stores}
-use Rattle.scale_tool.specs.Command.{Command, Help, Hold, Rewrite, Report, Simulate, Make}
+use Rattle.scale_tool.specs.Command.{Command, Help, Hold, Rewrite, Report, Simulate, Make, Lower}
 
 abbrev pub work_view : Work → Command
 work_view (ParsedHold image machine loops out) = Hold image.now machine.now loops.now out.now
@@ -24,6 +24,7 @@ work_view (ParsedRewrite image machine loops out) = Rewrite image.now machine.no
 work_view (ParsedReport image machine loops) = Report image.now machine.now loops.now
 work_view (ParsedSimulate image machine input out loops) = Simulate image.now machine.now input.now out.now (option_map (λ l. l.now) loops)
 work_view (ParsedMake number size prefix) = Make number size.blocks prefix.now
+work_view (ParsedLower image jumps out) = Lower image.now jumps.now out.now
 
 abbrev pub command_view : Parsed → Command
 command_view ParsedHelp = Help
@@ -35,8 +36,8 @@ want_views wants = map (λ want. (want.name.now, want.limit)) wants
 abbrev pub files_view : List (Vec ℕ Global) → List (List ℕ)
 files_view files = map (λ file. file.items) files
 
--- a file and its summary, or the refusal; none where memory ran out
-abbrev pub given_view : Result (Vec ℕ Global × Summary) Stop → Option (Result (List ℕ × Summary) Refusal)
+-- a file and what is told of it, or the refusal; none where memory ran out
+abbrev pub given_view : {A : Type 0} → Result (Vec ℕ Global × A) Stop → Option (Result (List ℕ × A) Refusal)
 given_view (Ok given) = Some (Ok ((given.0.items, given.1)))
 given_view (Err (Refused refusal)) = Some (Err refusal)
 given_view (Err Memory) = None

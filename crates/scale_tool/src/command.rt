@@ -1,7 +1,7 @@
 //! The words of a command line.
 
 ghost use Rattle.std.specs.Prelude.{◌≡◌, IfOk, option_map};
-ghost use Rattle.scale_tool.specs.Command.{command_of, help_of, hold_of, rewrite_of, report_words, simulate_of, make_of, texts, wants_of};
+ghost use Rattle.scale_tool.specs.Command.{command_of, help_of, hold_of, rewrite_of, report_words, simulate_of, make_of, lower_of, texts, wants_of};
 ghost use Rattle.scale_tool.specs.Views.{command_view, work_view, want_views};
 
 use crate::load_all::Want;
@@ -54,6 +54,12 @@ pub enum Work<'a> {
         size: Size,
         prefix: &'a str,
     },
+    /// Puts near jumps in place of far ones, and trees of comparisons in place of the listed jumps through registers.
+    Lower {
+        image: &'a str,
+        jumps: &'a str,
+        out: &'a str,
+    },
 }
 
 /// The command that these words are.
@@ -68,6 +74,7 @@ pub fn parse(words: &[String]) -> Option<Command<'_>>
         "report" => parse_report(words),
         "simulate" => parse_simulate(words),
         "make" => parse_make(words),
+        "lower" => parse_lower(words),
         _ => None,
     }
 }
@@ -157,6 +164,19 @@ fn parse_make(words: &[String]) -> Option<Command<'_>>
     }
 }
 
+fn parse_lower(words: &[String]) -> Option<Command<'_>>
+    ensures { option_map command_view result ≡ lower_of (texts words.now) }
+{
+    match words {
+        [image, jumps, out] => Some(Command::Work(Work::Lower {
+            image: image.as_str(),
+            jumps: jumps.as_str(),
+            out: out.as_str(),
+        })),
+        _ => None,
+    }
+}
+
 // How many bytes an image may have, how many an image that is only run, and how many any other file.
 const IMAGE_LIMIT: u64 = 4194304;
 
@@ -208,6 +228,9 @@ pub fn wants<'a>(alloc: Global, work: &Work<'a>) -> Result<Vec<Want<'a>>, AllocE
             Ok(wants)
         }
         Work::Make { .. } => Ok(Vec::new(alloc)),
+        Work::Lower { image, jumps, .. } => {
+            Ok(vec![in alloc; want(image, IMAGE_LIMIT), want(jumps, TEXT_LIMIT)]?)
+        }
     }
 }
 

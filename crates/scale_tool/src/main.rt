@@ -6,6 +6,7 @@ mod deliver;
 mod load_all;
 mod making;
 mod numbers;
+mod program_files;
 mod reply;
 #[cfg(test)]
 mod tests;

@@ -1,20 +1,23 @@
 //! What a command gives, made whole before the first of it is stored or printed.
 
-ghost use Rattle.std.specs.Prelude.{◌≡◌, ◌≤◌, length, option_map, All, IfOk, IsTrue, Some, Ok};
+ghost use Rattle.std.specs.Prelude.{◌≡◌, ◌≤◌, [], ◌∷◌, length, option_map, string_bytes, All, IfOk, IsTrue, Some, Ok};
 ghost use Rattle.std.specs.List.{AllZip};
 ghost use Rattle.std.specs.Result.{ForOk};
 ghost use Rattle.power_model.specs.Report.{report_view};
-ghost use Rattle.scale_report.specs.Texts.{HasSiteLine};
+ghost use Rattle.image_lower.specs.Lowered.{IsLowered};
+ghost use Rattle.scale_report.specs.Texts.{HasSiteLine, summary_text};
 ghost use Rattle.scaler.specs.Held.{IsHeld};
 ghost use Rattle.scaler.specs.Rewritten.{IsRewritten};
-ghost use Rattle.scale_tool.specs.Answer.{plan_answer, refused, run_answer, run_status, stored_answer, MakesMade, MakesReport, MakesRun, MakesStored, Makes};
+ghost use Rattle.scale_tool.specs.Answer.{counts_text, plan_answer, refused, run_answer, run_status, stored_answer, MakesMade, MakesReport, MakesRun, MakesStored, Makes};
 
 use crate::command::Work;
 use crate::making::made_reply;
 use crate::numbers::Size;
+use crate::program_files::ProgramFiles;
+use image_lower::Lowered;
 use power_model::RunReport;
 use scale_base::{End, NoMemory, Refusal, ScalePlan, Stop, Summary};
-use scale_report::{plan_text, refusal_text, run_text, summary_text};
+use scale_report::{lowered_text, plan_text, refusal_text, run_text, summary_text};
 use std::alloc::Global;
 
 /// A file to store.
@@ -58,25 +61,38 @@ impl Reply {
         })
     }
 
+    // One file, with the name under which it is stored.
+    fn of_file(
+        alloc: Global,
+        out: &str,
+        bytes: Vec<u8>,
+        text: String,
+        status: u8,
+    ) -> Result<Reply, NoMemory>
+        ensures { IfOk result (λ reply. reply_view reply ≡ record { stores = (out.now, bytes.items) ∷ []; text = string_bytes text; status = status }) }
+    {
+        let name = String::from_str(alloc, out)?;
+        let mut stores = Vec::new(alloc);
+        stores.push(Store { name, bytes })?;
+        Ok(Reply {
+            stores,
+            text,
+            status,
+        })
+    }
+
     // A file that a command gives, with its summary and the name under which it is stored; or the refusal.
     fn stored(
         alloc: Global,
         out: &str,
         given: Result<(Vec<u8>, Summary), Stop>,
     ) -> Result<Reply, NoMemory>
-        ensures { IfOk result (λ reply. option_map (stored_answer out.now) (given_view given) ≡ Some (reply_view reply)) }
+        ensures { IfOk result (λ reply. option_map (stored_answer summary_text out.now) (given_view given) ≡ Some (reply_view reply)) }
     {
         match given {
             Ok((bytes, summary)) => {
-                let name = String::from_str(alloc, out)?;
                 let text = summary_text(alloc, &summary)?;
-                let mut stores = Vec::new(alloc);
-                stores.push(Store { name, bytes })?;
-                Ok(Reply {
-                    stores,
-                    text,
-                    status: 0,
-                })
+                Reply::of_file(alloc, out, bytes, text, 0)
             }
             Err(Stop::Refused(refusal)) => Reply::refused(alloc, &refusal),
             Err(Stop::Memory) => Err(NoMemory),
@@ -84,35 +100,57 @@ impl Reply {
     }
 
     /// What `hold` gives for its three files.
-    pub fn held(
-        alloc: Global,
-        out: &str,
-        image: &[u8],
-        machine: &[u8],
-        loops: &[u8],
-    ) -> Result<Reply, NoMemory>
-        requires image { length image.now ≤ 4194304 }
-        requires machine { length machine.now ≤ 1048576 }
-        requires loops { length loops.now ≤ 1048576 }
-        ensures { IfOk result (λ reply. MakesStored IsHeld image.now machine.now loops.now out.now (reply_view reply)) }
+    pub fn held(alloc: Global, out: &str, files: &ProgramFiles<'_>) -> Result<Reply, NoMemory>
+        ensures { IfOk result (λ reply. MakesStored (IsHeld files.now.image.now files.now.machine.now files.now.loops.now) summary_text out.now (reply_view reply)) }
     {
-        Reply::stored(alloc, out, scaler::hold(alloc, image, machine, loops))
+        Reply::stored(
+            alloc,
+            out,
+            scaler::hold(alloc, files.image, files.machine, files.loops),
+        )
     }
 
     /// What `rewrite` gives for its three files.
-    pub fn rewritten(
+    pub fn rewritten(alloc: Global, out: &str, files: &ProgramFiles<'_>) -> Result<Reply, NoMemory>
+        ensures { IfOk result (λ reply. MakesStored (IsRewritten files.now.image.now files.now.machine.now files.now.loops.now) summary_text out.now (reply_view reply)) }
+    {
+        Reply::stored(
+            alloc,
+            out,
+            scaler::rewrite(alloc, files.image, files.machine, files.loops),
+        )
+    }
+
+    // A lowered image, with what was lowered and the name under which it is stored; or the refusal.
+    fn counted(
         alloc: Global,
         out: &str,
-        image: &[u8],
-        machine: &[u8],
-        loops: &[u8],
+        given: Result<(Vec<u8>, Lowered), Stop>,
     ) -> Result<Reply, NoMemory>
-        requires image { length image.now ≤ 4194304 }
-        requires machine { length machine.now ≤ 1048576 }
-        requires loops { length loops.now ≤ 1048576 }
-        ensures { IfOk result (λ reply. MakesStored IsRewritten image.now machine.now loops.now out.now (reply_view reply)) }
+        ensures { IfOk result (λ reply. option_map (stored_answer counts_text out.now) (given_view given) ≡ Some (reply_view reply)) }
     {
-        Reply::stored(alloc, out, scaler::rewrite(alloc, image, machine, loops))
+        match given {
+            Ok((bytes, counts)) => {
+                let Lowered {
+                    pairs,
+                    jumps,
+                    block,
+                    depth,
+                } = counts;
+                let text = lowered_text(alloc, pairs, jumps, block, depth)?;
+                Reply::of_file(alloc, out, bytes, text, 0)
+            }
+            Err(Stop::Refused(refusal)) => Reply::refused(alloc, &refusal),
+            Err(Stop::Memory) => Err(NoMemory),
+        }
+    }
+
+    /// What `lower` gives for its two files.
+    pub fn lowered(alloc: Global, out: &str, image: &[u8], jumps: &[u8]) -> Result<Reply, NoMemory>
+        requires { length image.now ≤ 4194304 }
+        ensures { IfOk result (λ reply. MakesStored (IsLowered image.now jumps.now) counts_text out.now (reply_view reply)) }
+    {
+        Reply::counted(alloc, out, image_lower::lower(alloc, image, jumps))
     }
 
     // All that a rewriting finds, or the refusal.
@@ -132,18 +170,13 @@ impl Reply {
     }
 
     /// What `report` gives for its three files.
-    pub fn reported(
-        alloc: Global,
-        image: &[u8],
-        machine: &[u8],
-        loops: &[u8],
-    ) -> Result<Reply, NoMemory>
-        requires image { length image.now ≤ 4194304 }
-        requires machine { length machine.now ≤ 1048576 }
-        requires loops { length loops.now ≤ 1048576 }
-        ensures { IfOk result (λ reply. MakesReport image.now machine.now loops.now (reply_view reply)) }
+    pub fn reported(alloc: Global, files: &ProgramFiles<'_>) -> Result<Reply, NoMemory>
+        ensures { IfOk result (λ reply. MakesReport files.now.image.now files.now.machine.now files.now.loops.now (reply_view reply)) }
     {
-        Reply::planned(alloc, scaler::plan(alloc, image, machine, loops))
+        Reply::planned(
+            alloc,
+            scaler::plan(alloc, files.image, files.machine, files.loops),
+        )
     }
 
     // What a run gives, with the name under which its output is stored.
@@ -151,16 +184,9 @@ impl Reply {
         ensures { IfOk result (λ reply. reply_view reply ≡ run_answer out.now (Ok (report_view report))) }
     {
         let status = status_of(report.end);
-        let name = String::from_str(alloc, out)?;
         let text = run_text(alloc, &report)?;
         let bytes = report.output;
-        let mut stores = Vec::new(alloc);
-        stores.push(Store { name, bytes })?;
-        Ok(Reply {
-            stores,
-            text,
-            status,
-        })
+        Reply::of_file(alloc, out, bytes, text, status)
     }
 
     /// What `simulate` gives for its files.
@@ -199,17 +225,16 @@ impl Reply {
     }
 
     /// What is made of the files that were loaded.
+    #[tactic(auto, using(crate::proofs::Limits::limits_alone))]
     pub fn made(alloc: Global, work: &Work<'_>, files: &[Vec<u8>]) -> Result<Reply, NoMemory>
         requires { AllZip (λ want file. length file ≤ want.1) (wants_of (work_view work.now)) (files_view files.now) }
         ensures answer { IfOk result (λ reply. Makes (work_view work.now) (files_view files.now) (reply_view reply)) }
         ensures status { IfOk result (λ reply. IsTrue (may_give (Some (work_view work.now)) reply.status)) }
     {
         match *work {
-            Work::Hold { out, .. } => Reply::held(alloc, out, &files[0], &files[1], &files[2]),
-            Work::Rewrite { out, .. } => {
-                Reply::rewritten(alloc, out, &files[0], &files[1], &files[2])
-            }
-            Work::Report { .. } => Reply::reported(alloc, &files[0], &files[1], &files[2]),
+            Work::Hold { out, .. } => Reply::held(alloc, out, &ProgramFiles::of(files)),
+            Work::Rewrite { out, .. } => Reply::rewritten(alloc, out, &ProgramFiles::of(files)),
+            Work::Report { .. } => Reply::reported(alloc, &ProgramFiles::of(files)),
             Work::Simulate { out, loops, .. } => match loops {
                 None => Reply::run(alloc, out, &files[0], &files[1], &files[2], None),
                 Some(_) => Reply::run(alloc, out, &files[0], &files[1], &files[2], Some(&files[3])),
@@ -219,6 +244,7 @@ impl Reply {
                 size,
                 prefix,
             } => Reply::of_number(alloc, number, size, prefix),
+            Work::Lower { out, .. } => Reply::lowered(alloc, out, &files[0], &files[1]),
         }
     }
 }

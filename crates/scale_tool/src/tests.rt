@@ -3,6 +3,7 @@
 mod faults;
 mod hostile;
 mod loops;
+mod lowers;
 mod made;
 mod plans;
 mod rewrites;
@@ -85,15 +86,17 @@ fn plain_image(
     Ok(bytes)
 }
 
-// The stored image of a plain one whose words are these now: a block of stubs at this offset and address, and its table behind it, with
-// the entry that tells the level.
-fn stored_at(
+// The file of a plain image whose words are these now: a block at this offset and address, and its table behind it, whose entry for the
+// block has this physical address, these flags and this alignment.
+fn image_with_block(
     alloc: Global,
     words: &[u32],
     block: &[u32],
-    level: u32,
     offset: u32,
     address: u32,
+    physical: u32,
+    flags: u32,
+    align: u32,
 ) -> Result<Vec<u8>, Fail> {
     let len = u32::try_from(block.len())?.wrapping_mul(4);
     let mut bytes = Vec::new(alloc);
@@ -105,9 +108,23 @@ fn stored_at(
     push_program_header(&mut bytes, words, 5)?;
     push_words(
         &mut bytes,
-        &[1, offset, address, level, len, len, 0x00100005, 4096],
+        &[1, offset, address, physical, len, len, flags, align],
     )?;
     Ok(bytes)
+}
+
+// The stored image: a block of stubs, and an entry that tells the level.
+fn stored_at(
+    alloc: Global,
+    words: &[u32],
+    block: &[u32],
+    level: u32,
+    offset: u32,
+    address: u32,
+) -> Result<Vec<u8>, Fail> {
+    image_with_block(
+        alloc, words, block, offset, address, level, 0x00100005, 4096,
+    )
 }
 
 // The same where the words are fewer than 1,000.
@@ -459,7 +476,7 @@ fn machine_and_loop_files_are_refused(rt: HostRuntime) -> Result<(), Fail> {
 #[test]
 fn words_that_are_no_command(rt: HostRuntime) -> Result<(), Fail> {
     let alloc = rt.alloc();
-    let cases: [&[&str]; 12] = [
+    let cases: [&[&str]; 14] = [
         &["hold", "a", "b"],
         &[],
         &["make", "0", "1"],
@@ -472,6 +489,8 @@ fn words_that_are_no_command(rt: HostRuntime) -> Result<(), Fail> {
         &["rewrite", "a", "b", "c", "d", "e"],
         &["report", "a", "b"],
         &["report", "a", "b", "c", "d"],
+        &["lower", "a", "b"],
+        &["lower", "a", "b", "c", "d"],
     ];
     for case in cases {
         let mut host = host_of(alloc, &[], &[], "", "")?;
@@ -500,11 +519,11 @@ fn help_is_printed(rt: HostRuntime) -> Result<(), Fail> {
     let alloc = rt.alloc();
     let words = words_of(alloc, &["help"])?;
     let mut host = MemHost::new(alloc, Vec::new(alloc));
-    host.reserve(0, 194)?;
+    host.reserve(0, 222)?;
     assert_eq!(rt; run_tool(&mut host, alloc, &words), 0);
     assert_eq!(rt;
         host.printed(),
-        b"scale hold IMAGE MACHINE LOOPS OUT\nscale rewrite IMAGE MACHINE LOOPS OUT\nscale report IMAGE MACHINE LOOPS\nscale simulate IMAGE MACHINE INPUT OUT [LOOPS]\nscale make NUMBER SIZE PREFIX\nscale help\n".as_slice()
+        b"scale hold IMAGE MACHINE LOOPS OUT\nscale rewrite IMAGE MACHINE LOOPS OUT\nscale report IMAGE MACHINE LOOPS\nscale simulate IMAGE MACHINE INPUT OUT [LOOPS]\nscale make NUMBER SIZE PREFIX\nscale help\nscale lower IMAGE JUMPS OUT\n".as_slice()
     );
     let mut failing = host_of(alloc, &[1], &[], "", "")?;
     assert_eq!(rt; run_tool(&mut failing, alloc, &words), 3);

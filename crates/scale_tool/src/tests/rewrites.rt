@@ -82,7 +82,7 @@ fn check_not_rewritten(
 }
 
 // A run over this input exits, writes nothing and prints this text.
-fn check_run(
+pub fn check_run(
     rt: &impl Abort,
     alloc: Global,
     image: &[u8],

@@ -73,8 +73,8 @@ pub returns-in-None-clause-answer : goal.returns-in-None-clause-answer
 returns-in-None-clause-answer c =
     let are = are_files _ _ _ _ _ _ None c.in-Simulate.is c.in-None.is c.args.files.now c.requires in
     made_here _ _ _ _ _ _ None c.in-Simulate.is c.in-None.is c.args.files.now c.run.result
-    (made_of_three c.in-Simulate.image.now c.in-Simulate.machine.now c.in-Simulate.input.now c.in-Simulate.out.now c.args.files.now _ _ _ _ _ _ c.run.result are c.index-files-0-in-None.is c.index-files-1-in-None.is c.index-files-2-in-None.is
-    c.deref-in-None.ensures.value c.deref-in-None-2.ensures.value c.deref-in-None-3.ensures.value c.run.ensures)
+    (made_of_three c.in-Simulate.image.now c.in-Simulate.machine.now c.in-Simulate.input.now c.in-Simulate.out.now c.args.files.now _ _ _ _ _ _ c.run.result are c.index-files-0.is c.index-files-1.is c.index-files-2.is
+    c.deref.ensures.value c.deref-in-None.ensures.value c.deref-in-None-2.ensures.value c.run.ensures)
 
 pub returns-in-Some-clause-answer : goal.returns-in-Some-clause-answer
 returns-in-Some-clause-answer c =
