@@ -16,7 +16,6 @@ use Rattle.scale_base.specs.Step.{Outcome, step}
 use Rattle.scale_base.specs.Run.{Run, Standing, GoesOn, HasExited, HasTrapped, begin, ended, one_more_by, one_more, run, run_of, setting_of, start_of, starting_level}
 use Rattle.scale_base.specs.Run as runs
 use Rattle.scale_base.proofs.Laws.{run_step}
-use Rattle.code_text.specs.Text.{text_of}
 use Rattle.stub_runs.specs.Meaning.{StepsLead}
 use Rattle.stub_runs.proofs.Laws.{leads_none, leads_on}
 use Rattle.stored_runs.proofs.Laws.{laid, byte_seen, hidden}

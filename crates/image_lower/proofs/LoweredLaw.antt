@@ -10,7 +10,6 @@ use Rattle.std.proofs.lemmas.List.Folds.{list_any-append}
 use Rattle.std.proofs.lemmas.List.Concat.{flat_map-cons}
 use Rattle.std.proofs.lemmas.Grind.{flat_map-append}
 use Rattle.scale_base.specs.declared.instruction.Instr.{Instr}
-use Rattle.scale_base.specs.declared.instruction.Instr.TheVariants as instr
 use Rattle.scale_base.specs.declared.ranges.Patch.{Patch}
 use Rattle.scale_base.specs.declared.refusal.Refusal.{Refusal}
 use Rattle.scale_base.specs.declared.refusal.Refusal.TheVariants.{LowerOutOfReach, NoRoom}
@@ -26,7 +25,6 @@ use Rattle.scale_base.specs.Word.{word_of, FieldsInRange}
 use Rattle.scale_base.proofs.Laws.{rules_kept, contents-are, has_table, rules_of, word_back, word_small}
 use Rattle.elf_patch.specs.Stored.{little, patched, IsStubBase, is_free}
 use Rattle.elf_patch.proofs.Laws.{some_place}
-use Rattle.rv_encode.specs.Jumps.{distance}
 use Rattle.stored_laws.proofs.Laws.{get_or-behind, text_place, Places}
 use Rattle.table_keys.specs.Keys.{◌>>=◌}
 use Rattle.machine_laws.proofs.Laws.{word_in_text}

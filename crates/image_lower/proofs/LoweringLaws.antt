@@ -10,7 +10,6 @@ use Rattle.scale_base.specs.declared.refusal.Refusal.TheVariants.{NoRoom, LowerO
 use Rattle.scale_base.specs.declared.ranges.Patch.{Patch}
 use Rattle.scale_base.specs.Image.{Image, image_of, contents}
 use Rattle.scale_base.specs.Word.{word_of}
-use Rattle.code_text.specs.Text.{text_of}
 use Rattle.elf_patch.specs.Stored.{little, IsStubBase}
 use Rattle.scale_base.specs.declared.refusal.Stop.{Stop}
 use Rattle.scale_base.specs.declared.refusal.Stop.TheVariants.{Refused, Memory}

@@ -1,6 +1,6 @@
 -- The files that are made: with a block added, and with patched words alone.
 use Rattle.std.proofs.Common.{◌≡◌, ℕ, ◌+◌, ◌-◌, ◌*◌, ◌%◌, ◌^◌, ◌<◌, ◌≤◌, Bool, true, false, not, ◌||◌, List, [], ◌∷◌, ◌++◌, length, map, take, drop, get_or, Some, None, Ok, refl, sym, ap, subst, ◌∙◌, arith, inl, inr, ◌⊎◌}
-use Rattle.std.specs.Prelude.{nat_lt, nat_le, ◌==◌, if◌then◌else◌, All, filter_map, Option}
+use Rattle.std.specs.Prelude.{nat_lt, ◌==◌, if◌then◌else◌, All, filter_map, Option}
 use Rattle.std.specs.List.{list_any, range_with_len, cons_option}
 use Rattle.std.proofs.lemmas.Bool.{lt-ltb, cases_lt, both_ways}
 use Rattle.std.proofs.lemmas.Bool.Decides.{nat_tests}

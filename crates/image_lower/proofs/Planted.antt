@@ -15,7 +15,6 @@ use Rattle.scale_base.specs.Image.{Image, is_in}
 use Rattle.scale_base.specs.Word.{word_of}
 use Rattle.elf_patch.specs.Stored.{little}
 use Rattle.code_text.specs.Table.{word_addresses, all_addresses}
-use Rattle.code_text.specs.Text.{Text}
 use Rattle.graph_runs.specs.TextStates.{IsTextRange}
 use Rattle.jump_lists.specs.declared.notes.JumpNote.{JumpNote}
 use Rattle.jump_lists.specs.Notes.{IsJumpNote}

@@ -1,5 +1,5 @@
 -- What `lower` gives is safe, and two answers that it may give are the same.
-use Rattle.std.proofs.Common.{◌≡◌, ℕ, ◌*◌, ◌^◌, ◌<◌, ◌≤◌, List, [], length, get_or, Option, Some, None, Result, Ok, Err, refl, sym, ap, subst, ◌∙◌, arith}
+use Rattle.std.proofs.Common.{◌≡◌, ℕ, ◌^◌, ◌<◌, ◌≤◌, List, [], length, get_or, Option, Some, None, Result, Ok, Err, refl, sym, ap, subst, ◌∙◌, arith}
 use Rattle.std.specs.Prelude.{All, IfOk, Vec}
 use Rattle.std.specs.declared.alloc.Global.{Global}
 use Rattle.scale_base.specs.declared.ranges.Keyed.{Keyed}
@@ -12,8 +12,8 @@ use Rattle.jump_lists.specs.declared.notes.JumpNote.{JumpNote}
 use Rattle.jump_lists.specs.Notes.{AreJumpNotes}
 use Rattle.jump_lists.specs.Jumps.{read_jumps}
 use Rattle.image_lower.specs.declared.lowering.Lowered.{Lowered}
-use Rattle.image_lower.specs.Block.{ascending_notes, block_len, trees_code}
-use Rattle.image_lower.specs.Lowered.{AfterPart, IsLowered, IsLoweredImage, lowered_at, lowered_file, no_bad_jump, not_scaled, summary}
+use Rattle.image_lower.specs.Block.{ascending_notes, block_len}
+use Rattle.image_lower.specs.Lowered.{AfterPart, IsLowered, lowered_at, no_bad_jump, not_scaled}
 use Rattle.image_lower.specs.Meets.{IsLoweredTo}
 use Rattle.image_lower.specs.Promise.{IsLoweredSafely, LoweredAnswersAgree}
 use Rattle.image_lower.proofs.Bases.{some_base}

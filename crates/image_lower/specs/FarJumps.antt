@@ -43,13 +43,13 @@ abbrev pub touches_table : List ℕ → Option ℕ → Bool
 touches_table file None = false
 touches_table file (Some place) = overlap (record { from = place; len = 4 }) (record { from = e_phoff file; len = 32 * e_phnum file })
 
--- the word at an address lies in that table: to change it would change what is loaded
+-- the word at an address lies in that table, where to change it would change what is loaded
 abbrev pub is_in_table : List ℕ → ℕ → Bool
 is_in_table file at = touches_table file (file_place file at)
 
 module _ (image : Image) where
   -- The JAL that stands for the word at an address, where that is the second of a far jump: both words are in one range, the address is
-  -- not the entry, nor the target of a branch or a JAL of the text, nor one of a noted jump, and the word is none of the program header table.
+  -- not the entry, nor the target of a branch or a JAL of the text, nor one of a noted jump, and the word lies outside the program header table.
   unfoldable pub far_jump : List JumpNote → ℕ → Option Instr
   far_jump notes at =
       (let t = text_of image in

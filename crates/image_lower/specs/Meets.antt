@@ -1,6 +1,6 @@
 -- Runs that keep to the lists of a jump file, and what the run of the lowered image is then.
-use Rattle.std.specs.Prelude.{◌≡◌, ℕ, ◌+◌, ◌*◌, ◌^◌, ◌<◌, ◌≤◌, max, nat_le, nat_lt, ◌==◌, ◌&&◌, Bool, false, ◌⊎◌, List, [], length, count_by, All, Option, Some, None, Ok, is_some, true}
-use Rattle.std.specs.List.{Contains, list_any, sum_by}
+use Rattle.std.specs.Prelude.{◌≡◌, ℕ, ◌+◌, ◌*◌, ◌^◌, ◌<◌, ◌≤◌, max, nat_le, nat_lt, ◌==◌, ◌&&◌, Bool, false, List, length, count_by, All, None, Ok, is_some, true}
+use Rattle.std.specs.List.{Contains, list_any}
 use Rattle.scale_base.specs.declared.stepping.Class.{Class}
 use Rattle.scale_base.specs.declared.stepping.Class.TheVariants.{Alu, Taken, Untaken, Jump}
 use Rattle.scale_base.specs.declared.stepping.Stepped.{Stepped}

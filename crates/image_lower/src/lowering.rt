@@ -223,9 +223,9 @@ fn lower_files(alloc: Global, image: &[u8], jumps: &[u8]) -> Result<(Vec<u8>, Lo
     lower_notes(alloc, &view, notes.as_slice())
 }
 
-/// Lowers an image with the lists of a jump file: a JAL stands for each far jump that it reaches and that no other way leads into, and a
-/// tree of comparisons for each listed jump. The answer is the bytes of the file made, and what was lowered. The first thing that is
-/// wrong is refused, in the order of `specs/Lowered.antt`.
+/// Lowers an image with the lists of a jump file: a JAL stands for each far jump that it reaches, that no other way leads into and that lies
+/// outside the program header table, and a tree of comparisons for each listed jump. The answer is the bytes of the file made, and what
+/// was lowered. The first thing that is wrong is refused, in the order of `specs/Lowered.antt`.
 pub fn lower(alloc: Global, image: &[u8], jumps: &[u8]) -> Result<(Vec<u8>, Lowered), Stop>
     requires { length image.now ≤ 4194304 }
     ensures given { AnswersBy (λ p. (p.0.items, p.1)) result (lowered.IsLowered image.now jumps.now) }

@@ -180,15 +180,21 @@ fn crowded(alloc: Global) -> Result<Vec<u8>, NoMemory> {
     Ok(file)
 }
 
+fn no_room(alloc: Global, file: &[u8]) -> Option<u32> {
+    if file.len() > 4_194_304 {
+        return None;
+    }
+    match lower(alloc, file, JUMP.as_bytes()) {
+        Err(Stop::Refused(Refusal::NoRoom(number))) => Some(number),
+        _ => None,
+    }
+}
+
 #[test]
 fn there_is_no_room_for_a_64th_segment(rt: HostRuntime) -> Result<(), Fail> {
     let Ok(file) = crowded(rt.alloc()) else {
         return Err(Fail::from("memory"));
     };
-    let refusal = match lower(rt.alloc(), &file, JUMP.as_bytes()) {
-        Err(Stop::Refused(Refusal::NoRoom(number))) => Some(number),
-        _ => None,
-    };
-    assert_eq!(rt; refusal, Some(5));
+    assert_eq!(rt; no_room(rt.alloc(), &file), Some(5));
     Ok(())
 }

@@ -1,5 +1,4 @@
 use Rattle.std.proofs.Common.{◌+◌, ◌*◌}
-use Rattle.code_text.specs.Text.{text_of}
 use Rattle.image_lower.specs.FarJumps.{far_patch}
 use Rattle.image_lower.proofs.Rows.{next_some}
 use Rattle.image_lower.proofs.far.add_far_patches.Goals as goal

@@ -1,7 +1,6 @@
 use Rattle.std.proofs.Common.{◌≡◌, ◌+◌, ◌*◌, ◌++◌, map}
 use Rattle.std.specs.Prelude.{filter_map}
 use Rattle.std.specs.List.{range_with_len}
-use Rattle.code_text.specs.Text.{text_of}
 use Rattle.image_lower.specs.FarJumps.{far_patch}
 use Rattle.image_lower.proofs.far.add_far_patches.Given as goal
 

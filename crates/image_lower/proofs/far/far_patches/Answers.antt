@@ -1,5 +1,4 @@
 use Rattle.code_text.proofs.Laws.{walked_in}
-use Rattle.code_text.specs.Text.{text_of}
 use Rattle.image_lower.specs.FarJumps.{far_patch}
 use Rattle.image_lower.proofs.FewPatches.{few_patches}
 use Rattle.image_lower.proofs.Rows.{next_words}

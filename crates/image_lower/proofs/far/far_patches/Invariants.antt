@@ -1,6 +1,5 @@
 use Rattle.std.proofs.Common.{◌≡◌, take}
 use Rattle.std.specs.Prelude.{filter_map}
-use Rattle.code_text.specs.Text.{text_of}
 use Rattle.code_text.specs.Table.{all_addresses}
 use Rattle.image_lower.specs.FarJumps.{far_patch}
 use Rattle.image_lower.proofs.far.far_patches.Given as goal
