@@ -17,7 +17,7 @@ use Rattle.foreign_scan.specs.KeyWords.{AreKeyWords, IsWordAt, first_word, end_w
 pub one_more : (f : ℕ → ℕ) (k : ℕ) → map f (range_with_len 0 k) ++ f k ∷ [] ≡ map f (range_with_len 0 (k + 1))
 one_more f k = sym (map-range_with_len_more f 0 k k (omega arith))
 
-keyed_is : (image : Image) (o : Option Keyed) (a : ℕ) → image.keyed_segment ≡ o → is_keyed (layout_of image) a ≡ in_option a (option_map (λ k. k.range) o)
+pub keyed_is : (image : Image) (o : Option Keyed) (a : ℕ) → image.keyed_segment ≡ o → is_keyed (layout_of image) a ≡ in_option a (option_map (λ k. k.range) o)
 unfolding layout_of
 keyed_is image o a e = ap (λ p. in_option a (option_map (λ k. k.range) p)) e
 
@@ -28,16 +28,16 @@ from_range : (r : Range) (a : ℕ) → is_in a r ≡ true → (r.from ≤ a) × 
 from_range r a e = grind (arith, nat_tests)
 
 -- a word of a keyed segment
-is_word : (image : Image) (key : Keyed) (at : ℕ) → image.keyed_segment ≡ Some key → at % 4 ≡ 0 → key.range.from ≤ at → at + 3 < key.range.to → IsKeyWord image at
+pub is_word : (image : Image) (key : Keyed) (at : ℕ) → image.keyed_segment ≡ Some key → at % 4 ≡ 0 → key.range.from ≤ at → at + 3 < key.range.to → IsKeyWord image at
 is_word image key at e even low high = (even, λ j lt. keyed_is image (Some key) (at + j) e ∙ in_range key.range (at + j) (omega arith) (omega arith))
 
-from_word : (image : Image) (key : Keyed) (at : ℕ) → image.keyed_segment ≡ Some key → IsKeyWord image at → (key.range.from ≤ at) × (at + 3 < key.range.to)
+pub from_word : (image : Image) (key : Keyed) (at : ℕ) → image.keyed_segment ≡ Some key → IsKeyWord image at → (key.range.from ≤ at) × (at + 3 < key.range.to)
 from_word image key at e word =
     let low = from_range key.range (at + 0) (sym (keyed_is image (Some key) (at + 0) e) ∙ word.1 0 (omega arith)) in
     let high = from_range key.range (at + 3) (sym (keyed_is image (Some key) (at + 3) e) ∙ word.1 3 (omega arith)) in
     (omega (arith, low.0), high.1)
 
-no_word : (image : Image) (at : ℕ) → image.keyed_segment ≡ None → IsKeyWord image at → ⊥
+pub no_word : (image : Image) (at : ℕ) → image.keyed_segment ≡ None → IsKeyWord image at → ⊥
 no_word image at e word = absurd (let h = sym (keyed_is image None (at + 0) e) ∙ word.1 0 (omega arith) in cc)
 
 -- the words of a range of numbers, by the segment

@@ -1,6 +1,13 @@
 pub mod Form
 pub mod KeyWords
+pub mod Least
+pub mod Lists
 pub mod Parts
+pub mod Rows
 pub mod RunOuts
 pub mod Scanned
 pub mod Stubs
+pub mod Sites
+pub mod Counts
+pub mod Shown
+pub mod Scans

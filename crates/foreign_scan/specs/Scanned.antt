@@ -18,16 +18,12 @@ use Rattle.foreign_scan.specs.declared.fragment.ForeignFragment.{ForeignFragment
 use Rattle.foreign_scan.specs.declared.fragment.ForeignFragment.TheVariants.{Exit, Count}
 use Rattle.foreign_scan.specs.declared.fragment.Why.{Why}
 use Rattle.foreign_scan.specs.declared.fragment.Why.TheVariants as why
+pub use Rattle.foreign_scan.specs.declared.layout.SegmentPlace.{SegmentPlace}
 use Rattle.foreign_scan.specs.Form.{IsStub, AreRowsIn}
 
 -- ---- the image beside the original
 
 -- the place, the length and the flags of a segment
-pub record SegmentPlace : Type 0 where
-  pub from : ℕ
-  pub len : ℕ
-  pub flags : ℕ
-
 abbrev pub segment_place : LoadSegment → SegmentPlace
 segment_place s = record { from = s.from; len = s.len; flags = s.flags }
 

@@ -20,3 +20,9 @@ abbrev pub AreSameOn : Instr → (found others : EdgeKind → List ForeignFragme
 AreSameOn (instr.Branch op rs1 rs2 offset) found others = (found Untaken ≡ others Untaken) × (found Taken ≡ others Taken)
 AreSameOn (instr.Jal rd offset) found others = found Jump ≡ others Jump
 AreSameOn i found others = Unit {0}
+
+-- the fragments are those of a branch or of a jump, as the instruction is
+abbrev pub IsOfInstr : Instr → StubFragments → Type 0
+IsOfInstr (instr.Branch op rs1 rs2 offset) (stub.Branch untaken taken) = Unit {0}
+IsOfInstr (instr.Jal rd offset) (stub.Jump fragments) = Unit {0}
+IsOfInstr i s = ⊥

@@ -1,18 +1,29 @@
-//! What the stubs are of an image that some other tool may have made of an original, and why such an image is not safe. One stub is read; no scan of a whole
-//! image is written.
+//! What stands in the stubs of an image that some other tool may have made of an original, or why such an image is not known to be safe.
 #![tactic(auto)]
 
+mod bytes;
+mod counts;
 mod fragment;
 mod key;
+mod layout;
+mod lists;
 mod parts;
+mod patches;
 mod reading;
+mod rows;
 mod run_out;
+mod scan;
+mod site;
+mod sites;
 mod stub;
 
 pub use fragment::{ForeignFragment, Why};
 pub use key::{KeyCode, read_key};
+pub use lists::GraphLists;
 pub use reading::read_fragment;
 pub use run_out::read_run_out;
+pub use scan::{Scanned, scan_lists};
+pub use sites::ForeignSites;
 pub use stub::{StubFragments, read_stub};
 
 #[cfg(test)]

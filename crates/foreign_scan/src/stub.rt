@@ -5,14 +5,14 @@ ghost use Rattle.scale_base.specs.declared.edges.EdgeKind.{EdgeKind};
 ghost use Rattle.scale_base.specs.Arith.{moved_by};
 ghost use Rattle.foreign_scan.specs.declared.fragment.ForeignFragment.{ForeignFragment};
 ghost use Rattle.foreign_scan.specs.Form.{HoldsAt, IsStub};
-ghost use Rattle.foreign_scan.specs.Stubs.{fragments_of, AreSameOn};
+ghost use Rattle.foreign_scan.specs.Stubs.{fragments_of, AreSameOn, IsOfInstr};
 
 use crate::fragment::ForeignFragment;
 use crate::key::KeyCode;
 use crate::parts;
 use crate::reading::holds_at;
 use crate::run_out::read_run_out;
-use scale_base::{BranchOp, Instr, NoMemory};
+use scale_base::{BranchOp, EdgeKind, Instr, NoMemory};
 use std::alloc::Global;
 
 /// The fragments that a stub holds for each edge of its instruction, in their order.
@@ -29,8 +29,27 @@ pub enum StubFragments {
     },
 }
 
+impl StubFragments {
+    /// What the stub holds for the edge of a kind.
+    pub fn fragments(&self, kind: EdgeKind) -> &[ForeignFragment]
+        ensures { result.now ≡ fragments_of self.now kind }
+    {
+        match self {
+            StubFragments::Branch { untaken, taken } => match kind {
+                EdgeKind::Untaken => untaken,
+                EdgeKind::Taken => taken,
+                _ => &[],
+            },
+            StubFragments::Jump { fragments } => match kind {
+                EdgeKind::Jump => fragments,
+                _ => &[],
+            },
+        }
+    }
+}
+
 /// The address plus a signed number.
-fn moved(at: u32, offset: i32) -> u32
+pub fn moved(at: u32, offset: i32) -> u32
     ensures { result ≡ moved_by at offset }
 {
     at.wrapping_add(offset.cast_unsigned())
@@ -77,6 +96,7 @@ fn read_fork(
     ensures found { IfOk result (λ found. IfSome found (λ s. IsStub key.now at stub (Instr.Branch op rs1 rs2 offset) (fragments_of s))) }
     ensures only { IfOk result (λ found. IfSome found (λ s. (others : EdgeKind → List ForeignFragment) → IsStub key.now at stub (Instr.Branch op rs1 rs2 offset) others → AreSameOn (Instr.Branch op rs1 rs2 offset) others (fragments_of s))) }
     ensures none { IfOk result (λ found. IfNone found ((others : EdgeKind → List ForeignFragment) → IsStub key.now at stub (Instr.Branch op rs1 rs2 offset) others → ⊥)) }
+    ensures shape { IfOk result (λ found. IfSome found (λ s. IsOfInstr (Instr.Branch op rs1 rs2 offset) s)) }
 {
     let again = match branch_again(key, u64::from(stub), op, rs1, rs2) {
         Some(again) => again,
@@ -104,6 +124,7 @@ fn read_jump(
     ensures found { IfOk result (λ found. IfSome found (λ s. IsStub key.now at stub (Instr.Jal rd offset) (fragments_of s))) }
     ensures only { IfOk result (λ found. IfSome found (λ s. (others : EdgeKind → List ForeignFragment) → IsStub key.now at stub (Instr.Jal rd offset) others → AreSameOn (Instr.Jal rd offset) others (fragments_of s))) }
     ensures none { IfOk result (λ found. IfNone found ((others : EdgeKind → List ForeignFragment) → IsStub key.now at stub (Instr.Jal rd offset) others → ⊥)) }
+    ensures shape { IfOk result (λ found. IfSome found (λ s. IsOfInstr (Instr.Jal rd offset) s)) }
 {
     match read_run_out(alloc, key, u64::from(stub), moved(at, offset))? {
         Some(fragments) => Ok(Some(StubFragments::Jump { fragments })),
@@ -124,6 +145,7 @@ pub fn read_stub(
     ensures found { IfOk result (λ found. IfSome found (λ s. IsStub key.now at stub instr.now (fragments_of s))) }
     ensures only { IfOk result (λ found. IfSome found (λ s. (others : EdgeKind → List ForeignFragment) → IsStub key.now at stub instr.now others → AreSameOn instr.now others (fragments_of s))) }
     ensures none { IfOk result (λ found. IfNone found ((others : EdgeKind → List ForeignFragment) → IsStub key.now at stub instr.now others → ⊥)) }
+    ensures shape { IfOk result (λ found. IfSome found (λ s. IsOfInstr instr.now s)) }
 {
     match *instr {
         Instr::Branch {

@@ -30,7 +30,7 @@ const HEAD: [u32; 21] = [
 ];
 
 /// The stub of `beq x10, x0, 28` at 0x10010: a Switch where it is taken.
-const SWITCHED: [u32; 14] = [
+pub const SWITCHED: [u32; 14] = [
     0x0005_0463,
     0x810F_F06F,
     0x8050_2023,
@@ -48,7 +48,7 @@ const SWITCHED: [u32; 14] = [
 ];
 
 /// The stub of `bne x10, x0, -12` at 0x10014: an Exit with its table at 0x11060, or a Count.
-const COUNTED: [u32; 24] = [
+pub const COUNTED: [u32; 24] = [
     0x0405_1463,
     0x8050_2023,
     0x8060_2223,
@@ -76,7 +76,7 @@ const COUNTED: [u32; 24] = [
 ];
 
 /// A Reset of counter 2.
-const RESET: u32 = 0x8000_2423;
+pub const RESET: u32 = 0x8000_2423;
 
 fn push_word(file: &mut Vec<u8>, word: u32) -> Result<(), Fail> {
     for byte in word.to_le_bytes() {

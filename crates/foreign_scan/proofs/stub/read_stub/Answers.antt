@@ -5,7 +5,7 @@ use Rattle.scale_base.specs.declared.instruction.Instr.TheVariants.{Branch, Jal}
 use Rattle.scale_base.specs.declared.edges.EdgeKind.{EdgeKind}
 use Rattle.foreign_scan.specs.declared.fragment.ForeignFragment.{ForeignFragment}
 use Rattle.foreign_scan.specs.Form.{IsStub}
-use Rattle.foreign_scan.specs.Stubs.{fragments_of, AreSameOn}
+use Rattle.foreign_scan.specs.Stubs.{fragments_of, AreSameOn, IsOfInstr}
 use Rattle.foreign_scan.proofs.stub.read_stub.Goals as goal
 
 pub returns-in-Branch : goal.returns-in-Branch
@@ -19,6 +19,7 @@ returns-in-Branch c =
       found = subst (λ i. IfOk c.read_fork.result (λ o. IfSome o (λ s. IsStub key at stub i (fragments_of s)))) same c.read_fork.ensures.found;
       only = subst (λ i. IfOk c.read_fork.result (λ o. IfSome o (λ s. (others : EdgeKind → List ForeignFragment) → IsStub key at stub i others → AreSameOn i others (fragments_of s)))) same c.read_fork.ensures.only;
       none = subst (λ i. IfOk c.read_fork.result (λ o. IfNone o ((others : EdgeKind → List ForeignFragment) → IsStub key at stub i others → ⊥))) same c.read_fork.ensures.none;
+      shape = subst (λ i. IfOk c.read_fork.result (λ o. IfSome o (λ s. IsOfInstr i s))) same c.read_fork.ensures.shape;
     }
 
 pub returns-in-Jal : goal.returns-in-Jal
@@ -32,4 +33,5 @@ returns-in-Jal c =
       found = subst (λ i. IfOk c.read_jump.result (λ o. IfSome o (λ s. IsStub key at stub i (fragments_of s)))) same c.read_jump.ensures.found;
       only = subst (λ i. IfOk c.read_jump.result (λ o. IfSome o (λ s. (others : EdgeKind → List ForeignFragment) → IsStub key at stub i others → AreSameOn i others (fragments_of s)))) same c.read_jump.ensures.only;
       none = subst (λ i. IfOk c.read_jump.result (λ o. IfNone o ((others : EdgeKind → List ForeignFragment) → IsStub key at stub i others → ⊥))) same c.read_jump.ensures.none;
+      shape = subst (λ i. IfOk c.read_jump.result (λ o. IfSome o (λ s. IsOfInstr i s))) same c.read_jump.ensures.shape;
     }
