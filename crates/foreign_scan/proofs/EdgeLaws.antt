@@ -85,7 +85,7 @@ node_word original code is k at e =
     let facts = kind_facts (text_of original) at (is.words r.0 at r.1) in
     and_from (at % 4 == 0) (list_any (is_in at) original.text) (eq-eqb (at % 4) 0 facts.0) facts.1
 
-node_kind : (original : Image) (code : Code) → IsReachedCode (text_of original) code → (k at : ℕ) (i : Instr) → slice_get code.nodes k ≡ Some at → instr_at (text_of original) at ≡ Some i → kind_at (text_of original) at ≡ instr_kind (text_of original) at i
+pub node_kind : (original : Image) (code : Code) → IsReachedCode (text_of original) code → (k at : ℕ) (i : Instr) → slice_get code.nodes k ≡ Some at → instr_at (text_of original) at ≡ Some i → kind_at (text_of original) at ≡ instr_kind (text_of original) at i
 node_kind original code is k at i e there =
     let r = node_reached original code is k at e in
     let facts = kind_facts (text_of original) at (is.words r.0 at r.1) in

@@ -20,3 +20,4 @@ pub mod ScanLaws
 pub mod GlueLaws
 pub mod PlaceLaws
 pub mod WhyLaws
+pub mod AgreeLaws

@@ -11,3 +11,4 @@ pub mod Sites
 pub mod Counts
 pub mod Shown
 pub mod Scans
+pub mod Agree

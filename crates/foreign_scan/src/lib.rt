@@ -5,6 +5,7 @@ mod bytes;
 mod counts;
 mod fragment;
 mod key;
+mod laws;
 mod layout;
 mod lists;
 mod parts;
@@ -19,6 +20,7 @@ mod stub;
 
 pub use fragment::{ForeignFragment, Why};
 pub use key::{KeyCode, read_key};
+pub use laws::scans_agree;
 pub use lists::GraphLists;
 pub use reading::read_fragment;
 pub use run_out::read_run_out;
