@@ -181,7 +181,7 @@ module _ (power : PowerModel) (image : Image) (notes : List LoopNote) (v : FlowG
   lt_false : (a b : ℕ) → b ≤ a → nat_lt a b ≡ false
   lt_false a b h = grind (arith, nat_tests)
 
-  abbrev reached : Rattle.graph_runs.specs.Laws.IsReachedCode (text_of image) v.code
+  abbrev reached : Rattle.code_text.specs.TextGraph.IsReachedCode (text_of image) v.code
   reached = weighed.code_is.reached
 
   -- an instruction without a class isn't marked
