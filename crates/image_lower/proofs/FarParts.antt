@@ -10,12 +10,14 @@ use Rattle.scale_base.specs.declared.instruction.ImmOp.{ImmOp}
 use Rattle.scale_base.specs.declared.instruction.RegOp.{RegOp}
 use Rattle.scale_base.specs.declared.instruction.Instr.{Instr}
 use Rattle.scale_base.specs.declared.instruction.Instr.TheVariants as instr
+use Rattle.scale_base.specs.Image.{Image}
 use Rattle.scale_base.specs.Reading.{instr_of, opcode_of, funct3_of, funct7_of, branch_of, branch_op_of, load_of, load_op_of, store_of, store_op_of, immediate_of, imm_op_of, register_of, reg_op_of}
-use Rattle.code_text.specs.Text.{Text, is_text_address, instr_at, is_target, follows}
+use Rattle.code_text.specs.Text.{Text, text_of, is_text_address, instr_at, is_target, follows}
 use Rattle.graph_runs.proofs.Laws.{entry_is}
 use Rattle.rv_encode.specs.Jumps.{distance}
 use Rattle.jump_lists.specs.declared.notes.JumpNote.{JumpNote}
-use Rattle.image_lower.specs.FarJumps.{far_target, is_noted, near_jump, pair_jump, far_jump, jal_reaches}
+use Rattle.stub_writer.specs.Stubs.{reaches}
+use Rattle.image_lower.specs.FarJumps.{far_target, is_noted, near_jump, pair_jump, is_in_table, far_jump}
 
 -- ---- the registers
 
@@ -80,7 +82,7 @@ pub record IsFar (t : Text) (pc : ℕ) (i : Instr) : Type 0 where
   pub low : rd ≤ 1
   pub even : far_target (pc - 4) imm offset % 4 ≡ 0
   pub inside : is_text_address t (far_target (pc - 4) imm offset) ≡ true
-  pub near : jal_reaches pc (far_target (pc - 4) imm offset) ≡ true
+  pub near : reaches pc (far_target (pc - 4) imm offset) ≡ true
   pub is : instr.Jal rd (distance pc (far_target (pc - 4) imm offset)) ≡ i
 
 abbrev IsFarBy : Text → ℕ → Instr → Option Instr → Option Instr → Type 0
@@ -103,8 +105,8 @@ both_words t pc rx imm rd rs offset i e before here =
     let a = passed (not (rx == 0) && (rs == rx) && nat_le rd 1) (near_jump t pc rd to) i e in
     let b = and_parts (not (rx == 0) && (rs == rx)) (nat_le rd 1) a.0 in
     let c = and_parts (not (rx == 0)) (rs == rx) b.0 in
-    let d = passed ((to % 4 == 0) && is_text_address t to && jal_reaches pc to) (Some (instr.Jal rd (distance pc to))) i a.1 in
-    let f = and_parts ((to % 4 == 0) && is_text_address t to) (jal_reaches pc to) d.0 in
+    let d = passed ((to % 4 == 0) && is_text_address t to && reaches pc to) (Some (instr.Jal rd (distance pc to))) i a.1 in
+    let f = and_parts ((to % 4 == 0) && is_text_address t to) (reaches pc to) d.0 in
     let g = and_parts (to % 4 == 0) (is_text_address t to) f.0 in
     record {
       rd = rd;
@@ -129,27 +131,38 @@ by_words t pc i (Some (instr.Auipc rx imm)) (Some (instr.Jalr rd rs offset)) e b
 by_words t pc i o p e before here = none_is t pc i e
 
 -- what a far jump's second word is
-pub record IsSecond (t : Text) (notes : List JumpNote) (pc : ℕ) (i : Instr) : Type 0 where
+pub record IsSecond (image : Image) (notes : List JumpNote) (pc : ℕ) (i : Instr) : Type 0 where
   pub aligned : pc % 4 ≡ 0
-  pub behind : follows t pc ≡ true
-  pub no_way : (is_target t pc || is_noted notes pc) ≡ false
-  pub far : IsFar t pc i
+  pub behind : follows (text_of image) pc ≡ true
+  pub no_way : (is_target (text_of image) pc || is_noted notes pc) ≡ false
+  pub off_table : is_in_table image.file pc ≡ false
+  pub far : IsFar (text_of image) pc i
 
-pub far_parts : (t : Text) (notes : List JumpNote) (pc : ℕ) (i : Instr) → far_jump t notes pc ≡ Some i → IsSecond t notes pc i
+pub far_parts : (image : Image) (notes : List JumpNote) (pc : ℕ) (i : Instr) → far_jump image notes pc ≡ Some i → IsSecond image notes pc i
 unfolding far_jump
-far_parts t notes pc i e =
-    let a = passed ((pc % 4 == 0) && follows t pc && not (is_target t pc || is_noted notes pc)) (pair_jump t pc (instr_at t (pc - 4)) (instr_at t pc)) i e in
-    let b = and_parts ((pc % 4 == 0) && follows t pc) (not (is_target t pc || is_noted notes pc)) a.0 in
+far_parts image notes pc i e =
+    let t = text_of image in
+    let a = passed ((pc % 4 == 0) && follows t pc && not (is_target t pc || is_noted notes pc) && not (is_in_table image.file pc)) (pair_jump t pc (instr_at t (pc - 4)) (instr_at t pc)) i e in
+    let d = and_parts ((pc % 4 == 0) && follows t pc && not (is_target t pc || is_noted notes pc)) (not (is_in_table image.file pc)) a.0 in
+    let b = and_parts ((pc % 4 == 0) && follows t pc) (not (is_target t pc || is_noted notes pc)) d.0 in
     let c = and_parts (pc % 4 == 0) (follows t pc) b.0 in
-    record { aligned = eqb-true (pc % 4) 0 c.0; behind = c.1; no_way = not-true (is_target t pc || is_noted notes pc) b.1; far = by_words t pc i (instr_at t (pc - 4)) (instr_at t pc) a.1 refl refl }
+    record {
+      aligned = eqb-true (pc % 4) 0 c.0;
+      behind = c.1;
+      no_way = not-true (is_target t pc || is_noted notes pc) b.1;
+      off_table = not-true (is_in_table image.file pc) d.1;
+      far = by_words t pc i (instr_at t (pc - 4)) (instr_at t pc) a.1 refl refl;
+    }
 
 -- the entry is none
-pub entry_near : (t : Text) (notes : List JumpNote) → is_some (far_jump t notes t.entry) ≡ false
+pub entry_near : (image : Image) (notes : List JumpNote) → is_some (far_jump image notes image.entry) ≡ false
 unfolding far_jump
-entry_near t notes = by (t.entry % 4 == 0) (follows t t.entry) (is_target t t.entry) (is_noted notes t.entry) (entry_is t)
+entry_near image notes =
+    let t = text_of image in
+    by (image.entry % 4 == 0) (follows t image.entry) (is_target t image.entry) (is_noted notes image.entry) (is_in_table image.file image.entry) (pair_jump t image.entry (instr_at t (image.entry - 4)) (instr_at t image.entry)) (entry_is t)
   where
-    by : (a b c d : Bool) → c ≡ true → is_some (if a && b && not (c || d) then pair_jump t t.entry (instr_at t (t.entry - 4)) (instr_at t t.entry) else None) ≡ false
-    by true true true d e = refl
-    by true false c d e = refl
-    by false b c d e = refl
-    by true true false d e = let never : ⊥ = cc in absurd never
+    by : (a b c d e : Bool) (o : Option Instr) → c ≡ true → is_some (if a && b && not (c || d) && not e then o else None) ≡ false
+    by true true true d e o same = refl
+    by true false c d e o same = refl
+    by false b c d e o same = refl
+    by true true false d e o same = let never : ⊥ = cc in absurd never

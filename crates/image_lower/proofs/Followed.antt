@@ -16,14 +16,14 @@ use Rattle.scale_base.specs.Step.{Outcome, step}
 use Rattle.scale_base.specs.Run.{Run, Standing, GoesOn, HasExited, HasTrapped, begin, ended, one_more_by, one_more, run, run_of, setting_of, start_of, starting_level}
 use Rattle.scale_base.specs.Run as runs
 use Rattle.scale_base.proofs.Laws.{run_step}
-use Rattle.code_text.specs.Text.{text_of}
 use Rattle.stub_runs.specs.Meaning.{StepsLead}
 use Rattle.stub_runs.proofs.Laws.{leads_none, leads_on}
 use Rattle.stored_runs.proofs.Laws.{laid, byte_seen, hidden}
 use Rattle.jump_lists.specs.declared.notes.JumpNote.{JumpNote}
 use Rattle.image_lower.specs.FarJumps.{far_jump}
 use Rattle.image_lower.specs.Block.{block_len, greatest_depth}
-use Rattle.image_lower.specs.Meets.{HoldsTarget, KeepsToLists, AreSameStates, IsSoFar, FollowsLowered, in_block, is_noted_jump, lowered_cycles, tree_cycles, jumps_taken}
+use Rattle.stub_runs.specs.Cycles.{stepped_cycles}
+use Rattle.image_lower.specs.Meets.{HoldsTarget, KeepsToLists, AreSameStates, IsSoFar, FollowsLowered, in_block, is_noted_jump, tree_cycles, jumps_taken}
 use Rattle.image_lower.proofs.FarParts.{entry_near}
 use Rattle.image_lower.proofs.LoweredFrame.{IsFrame}
 use Rattle.image_lower.proofs.Legs as legs
@@ -49,7 +49,7 @@ less image notes base levels input n h =
     let env = setting_of image levels input in
     let r = run env (start_of image levels) n in
     record {
-      pairs = front (λ x. is_some (far_jump (text_of image) notes x.next) ≡ true → x.pc + 4 ≡ x.next) env r r.standing h.pairs;
+      pairs = front (λ x. is_some (far_jump image notes x.next) ≡ true → x.pc + 4 ≡ x.next) env r r.standing h.pairs;
       targets = λ m lt. h.targets m (omega (arith, lt));
       outside = front (λ x. in_block base (block_len image notes) x.next ≡ false) env r r.standing h.outside;
     }
@@ -72,7 +72,7 @@ module _ (image lowered : Image) (notes : List JumpNote) (base levels : ℕ) (in
   IsRaw s = legs.IsRaw image lowered notes base levels input f s
 
   abbrev AreWithin : List Stepped → List Stepped → Type 0
-  AreWithin low raw = (costs : Class → ℕ) → lowered_cycles costs low ≤ lowered_cycles costs raw + jumps_taken notes raw * tree_cycles costs (greatest_depth notes)
+  AreWithin low raw = (costs : Class → ℕ) → stepped_cycles costs low ≤ stepped_cycles costs raw + jumps_taken notes raw * tree_cycles costs (greatest_depth notes)
 
   -- the lowered run up to a step of the raw one that goes on
   record IsGoing (r : Run) : Type 0 where
@@ -111,14 +111,14 @@ module _ (image lowered : Image) (notes : List JumpNote) (base levels : ℕ) (in
       regs = refl;
       zero = refl;
       window = refl;
-      prepared = λ rx imm far before some. absurd (both_ways (is_some (far_jump (text_of image) notes image.entry)) (entry_near (text_of image) notes) far);
+      prepared = λ rx imm far before some. absurd (both_ways (is_some (far_jump image notes image.entry)) (entry_near image notes) far);
     };
     within = λ costs. omega arith;
   }
 
   -- ---- one step more
 
-  cycles_on : (costs : Class → ℕ) (xs ys : List Stepped) → lowered_cycles costs (xs ++ ys) ≡ lowered_cycles costs xs + lowered_cycles costs ys
+  cycles_on : (costs : Class → ℕ) (xs ys : List Stepped) → stepped_cycles costs (xs ++ ys) ≡ stepped_cycles costs xs + stepped_cycles costs ys
   cycles_on costs xs ys = sum_by-append (λ (x : Stepped). costs x.class) xs ys
 
   taken_on : (xs ys : List Stepped) → jumps_taken notes (xs ++ ys) ≡ jumps_taken notes xs + jumps_taken notes ys
@@ -127,13 +127,13 @@ module _ (image lowered : Image) (notes : List JumpNote) (base levels : ℕ) (in
   within_on : (a b c d : List Stepped) → AreWithin a b → AreWithin c d → AreWithin (a ++ c) (b ++ d)
   within_on a b c d h g costs =
       let tree = tree_cycles costs (greatest_depth notes) in
-      let most = spread (lowered_cycles costs a) (lowered_cycles costs b) (lowered_cycles costs c) (lowered_cycles costs d) (jumps_taken notes b) (jumps_taken notes d) tree (h costs) (g costs) in
+      let most = spread (stepped_cycles costs a) (stepped_cycles costs b) (stepped_cycles costs c) (stepped_cycles costs d) (jumps_taken notes b) (jumps_taken notes d) tree (h costs) (g costs) in
       let e = cycles_on costs a c in
       let k = cycles_on costs b d in
       let j : jumps_taken notes (b ++ d) * tree ≡ (jumps_taken notes b + jumps_taken notes d) * tree = ap (λ n. n * tree) (taken_on b d) in
       omega (arith, most, e, k, j)
 
-  went_on : (r : Run) (g : IsGoing r) (p : legs.IsPassed image lowered notes base levels input f r.state) → (is_some (far_jump (text_of image) notes p.x.next) ≡ true → p.x.pc + 4 ≡ p.x.next) → IsGoing (ended r.steps (step one r.state).end (step one r.state).state)
+  went_on : (r : Run) (g : IsGoing r) (p : legs.IsPassed image lowered notes base levels input f r.state) → (is_some (far_jump image notes p.x.next) ≡ true → p.x.pc + 4 ≡ p.x.next) → IsGoing (ended r.steps (step one r.state).end (step one r.state).state)
   went_on r g p pair =
       let to : IsGoing (record { steps = r.steps ++ p.x ∷ []; state = p.u; standing = GoesOn }) = record {
         steps = g.steps ++ p.steps;
@@ -200,10 +200,10 @@ module _ (image lowered : Image) (notes : List JumpNote) (base levels : ℕ) (in
       } in
       subst IsOver (sym (ap (λ (o : Outcome). ended r.steps o.end o.state) e.ends)) over
 
-  more : (r : Run) (g : IsGoing r) → All (HoldsTarget image notes base r.state) notes → All (λ x. is_some (far_jump (text_of image) notes x.next) ≡ true → x.pc + 4 ≡ x.next) (one_more one r).steps → IsGoing (one_more one r) ⊎ IsOver (one_more one r)
+  more : (r : Run) (g : IsGoing r) → All (HoldsTarget image notes base r.state) notes → All (λ x. is_some (far_jump image notes x.next) ≡ true → x.pc + 4 ≡ x.next) (one_more one r).steps → IsGoing (one_more one r) ⊎ IsOver (one_more one r)
   more r g holds pairs =
       let next : one_more one r ≡ ended r.steps (step one r.state).end (step one r.state).state = ap (one_more_by one r) g.goes_on in
-      let P : Stepped → Type 0 = λ x. is_some (far_jump (text_of image) notes x.next) ≡ true → x.pc + 4 ≡ x.next in
+      let P : Stepped → Type 0 = λ x. is_some (far_jump image notes x.next) ≡ true → x.pc + 4 ≡ x.next in
       elim (legs.passes image lowered notes base levels input f r.state g.raw holds) [
         | inl p ↦
             let all : All P (r.steps ++ p.x ∷ []) = subst (λ (q : Run). All P q.steps) (next ∙ ap (λ (o : Outcome). ended r.steps o.end o.state) p.step_is) pairs in

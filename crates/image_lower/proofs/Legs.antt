@@ -36,9 +36,11 @@ use Rattle.stub_runs.proofs.Laws.{leads_none, leads_first}
 use Rattle.stored_runs.proofs.Laws.{laid, SeeAlike, over, seen, step_alike, hidden, word_by, word_stays}
 use Rattle.jump_lists.specs.declared.notes.JumpNote.{JumpNote}
 use Rattle.image_lower.specs.FarJumps.{far_jump, far_target}
-use Rattle.image_lower.specs.Trees.{tree_jump, whole_tree, tree_depth}
+use Rattle.stub_runs.specs.Cycles.{stepped_cycles}
+use Rattle.stub_writer.specs.Stubs.{jump}
+use Rattle.image_lower.specs.Trees.{whole_tree, tree_depth}
 use Rattle.image_lower.specs.Block.{register, block_len, greatest_depth}
-use Rattle.image_lower.specs.Meets.{HoldsTarget, in_block, is_noted_jump, lowered_cycles, tree_cycles, jumps_taken}
+use Rattle.image_lower.specs.Meets.{HoldsTarget, in_block, is_noted_jump, tree_cycles, jumps_taken}
 use Rattle.image_lower.specs.TreeRuns.{InstrStands, CodeStands}
 use Rattle.image_lower.proofs.FarParts.{far_parts, auipc_low}
 use Rattle.image_lower.proofs.TreeSteps.{jump_step, trees_find}
@@ -75,7 +77,7 @@ module _ (image lowered : Image) (notes : List JumpNote) (base levels : ℕ) (in
 
   -- at the second word of a far jump, the register holds what the first has put there
   abbrev pub IsPrepared : State → Type 0
-  IsPrepared s = (rx imm : ℕ) → is_some (far_jump t notes s.pc) ≡ true → instr_at t (s.pc - 4) ≡ Some (instr.Auipc rx imm) → 0 < rx → reg s.regs rx ≡ plus (s.pc - 4) imm
+  IsPrepared s = (rx imm : ℕ) → is_some (far_jump image notes s.pc) ≡ true → instr_at t (s.pc - 4) ≡ Some (instr.Auipc rx imm) → 0 < rx → reg s.regs rx ≡ plus (s.pc - 4) imm
 
   -- what is known of the state of the raw run
   pub record IsRaw (s : State) : Type 0 where
@@ -140,12 +142,12 @@ module _ (image lowered : Image) (notes : List JumpNote) (base levels : ℕ) (in
   read_here s i raw word fetched e = step_performs one s i fetched (ap instr_of (word_kept s raw word) ∙ e)
 
   prepared_next : (s u : State) (x : Stepped) → IsRaw s → step one s ≡ goes x u → can_fetch (layout_of image) s.pc ≡ true → is_word_address image s.pc ≡ true
-      → (is_some (far_jump t notes x.next) ≡ true → x.pc + 4 ≡ x.next) → IsPrepared u
+      → (is_some (far_jump image notes x.next) ≡ true → x.pc + 4 ≡ x.next) → IsPrepared u
   prepared_next s u x raw is fetched word pair rx imm far before some =
       let end_is : (step one s).end ≡ Went x = ap (λ (o : Outcome). o.end) is in
       let at = went_at one s x end_is in
       let next : u.pc ≡ x.next = sym (ap (λ (o : Outcome). o.state.pc) is) ∙ at.1 in
-      let four = pair (ap (λ pc. is_some (far_jump t notes pc)) (sym next) ∙ far) in
+      let four = pair (ap (λ pc. is_some (far_jump image notes pc)) (sym next) ∙ far) in
       let first = at.0 in
       let back : u.pc - 4 ≡ s.pc = omega (arith, next, four, first) in
       let here : instr_at t s.pc ≡ Some (instr.Auipc rx imm) = ap (instr_at t) (sym back) ∙ before in
@@ -159,7 +161,7 @@ module _ (image lowered : Image) (notes : List JumpNote) (base levels : ℕ) (in
       written : (regs : List ℕ) (r v : ℕ) → 0 < r → r < length regs → reg (with_reg regs r v) r ≡ v
       written regs r v some lt = ap (λ rs. reg rs r) (cond-false (r == 0) regs (slice_set regs r v) (grind (arith, nat_tests))) ∙ get_or-set_same regs r v 0 lt
 
-  pub raw_next : (s u : State) (x : Stepped) → IsRaw s → step one s ≡ goes x u → can_fetch (layout_of image) s.pc ≡ true → (is_some (far_jump t notes x.next) ≡ true → x.pc + 4 ≡ x.next) → IsRaw u
+  pub raw_next : (s u : State) (x : Stepped) → IsRaw s → step one s ≡ goes x u → can_fetch (layout_of image) s.pc ≡ true → (is_some (far_jump image notes x.next) ≡ true → x.pc + 4 ≡ x.next) → IsRaw u
   raw_next s u x raw is fetched pair = record {
     text = text_kept s u x is raw;
     regs = sym (ap (λ (o : Outcome). length o.state.regs) is) ∙ (step_length one s ∙ raw.regs);
@@ -177,7 +179,7 @@ module _ (image lowered : Image) (notes : List JumpNote) (base levels : ℕ) (in
     pub fetched : can_fetch (layout_of image) s.pc ≡ true
     pub steps : List Stepped
     pub leads : StepsLead other (up s) steps (up u)
-    pub within : (costs : Class → ℕ) → lowered_cycles costs steps ≤ lowered_cycles costs (x ∷ []) + jumps_taken notes (x ∷ []) * tree_cycles costs (greatest_depth notes)
+    pub within : (costs : Class → ℕ) → stepped_cycles costs steps ≤ stepped_cycles costs (x ∷ []) + jumps_taken notes (x ∷ []) * tree_cycles costs (greatest_depth notes)
 
   abbrev pub IsStop : StepEnd → Type 0
   IsStop (Went x) = ⊥
@@ -200,7 +202,7 @@ module _ (image lowered : Image) (notes : List JumpNote) (base levels : ℕ) (in
 
   -- ---- an instruction that stays as it is
 
-  no_more : (costs : Class → ℕ) (x : Stepped) (n : ℕ) → lowered_cycles costs (x ∷ []) ≤ lowered_cycles costs (x ∷ []) + n
+  no_more : (costs : Class → ℕ) (x : Stepped) (n : ℕ) → stepped_cycles costs (x ∷ []) ≤ stepped_cycles costs (x ∷ []) + n
   no_more costs x n = omega arith
 
   by_end : (s : State) (e : StepEnd) (u : State) → can_fetch (layout_of image) s.pc ≡ true → step one s ≡ record { end = e; state = u } → step other (up s) ≡ record { end = e; state = up u } → IsPassed s ⊎ IsEnded s
@@ -216,7 +218,7 @@ module _ (image lowered : Image) (notes : List JumpNote) (base levels : ℕ) (in
   by_end s (Exited x status) u fetched is is_too = inr (record { end = Exited x status; u = u; ends = is; ends_too = is_too; stops = tt })
   by_end s (Trapped trap) u fetched is is_too = inr (record { end = Trapped trap; u = u; ends = is; ends_too = is_too; stops = tt })
 
-  stays : (s : State) → IsRaw s → can_fetch (layout_of image) s.pc ≡ true → can_fetch (layout_of lowered) s.pc ≡ true → is_noted_jump notes s.pc ≡ false → far_jump t notes s.pc ≡ None → IsPassed s ⊎ IsEnded s
+  stays : (s : State) → IsRaw s → can_fetch (layout_of image) s.pc ≡ true → can_fetch (layout_of lowered) s.pc ≡ true → is_noted_jump notes s.pc ≡ false → far_jump image notes s.pc ≡ None → IsPassed s ⊎ IsEnded s
   stays s raw fetched too noted far =
       let word = fetched_word s.pc fetched in
       let same = step_alike (layout_of image) (layout_of lowered) levels input w0 (hidden lowered) (loaded_byte lowered) s (f.alike s.pc) fetched too
@@ -228,16 +230,16 @@ module _ (image lowered : Image) (notes : List JumpNote) (base levels : ℕ) (in
   jumped : (env : Setting) (s : State) (i : Instr) (rd from to : ℕ) → from ≡ to → to % 4 ≡ 0 → jumps env s i rd from ≡ goes (stepped env s i false None to) (record s { pc = to; regs = with_reg s.regs rd (pc_after s) })
   jumped env s i rd from to e even = ap (jumps env s i rd) e ∙ cond-true (to % 4 == 0) _ _ (eq-eqb (to % 4) 0 even)
 
-  one_cycle : (costs : Class → ℕ) (x : Stepped) → lowered_cycles costs (x ∷ []) ≡ costs x.class
+  one_cycle : (costs : Class → ℕ) (x : Stepped) → stepped_cycles costs (x ∷ []) ≡ costs x.class
   one_cycle costs x = omega (arith, sum_by-cons (λ y. costs y.class) x [])
 
   far_to : (pc to : ℕ) → pc < 2 ^ 32 → to < 2 ^ 32 → moved_by pc (distance pc to) ≡ to
   far_to pc to low small = ap (plus pc) (of_z-to_z w32 ((to + (2 ^ 32 - pc)) % 2 ^ 32) (omega arith)) ∙ omega arith
 
-  passes_far : (s : State) (i : Instr) → IsRaw s → can_fetch (layout_of image) s.pc ≡ true → can_fetch (layout_of lowered) s.pc ≡ true → is_noted_jump notes s.pc ≡ false → far_jump t notes s.pc ≡ Some i → IsPassed s
+  passes_far : (s : State) (i : Instr) → IsRaw s → can_fetch (layout_of image) s.pc ≡ true → can_fetch (layout_of lowered) s.pc ≡ true → is_noted_jump notes s.pc ≡ false → far_jump image notes s.pc ≡ Some i → IsPassed s
   passes_far s i raw fetched too noted e =
       let word = fetched_word s.pc fetched in
-      let p = (far_parts t notes s.pc i e).far in
+      let p = (far_parts image notes s.pc i e).far in
       let to = far_target (s.pc - 4) p.imm p.offset in
       let low = low_pc s.pc word in
       let small = word_bound t one f.text to p.inside in
@@ -294,8 +296,8 @@ module _ (image lowered : Image) (notes : List JumpNote) (base levels : ℕ) (in
       let first : step one s ≡ goes (stepped one s old false None to) (record s { pc = to }) =
       read_here s old raw word fetched tree.reads ∙ jumped one s old 0 _ to (returned to good.0 good.1) good.0 in
       let there : State = record (up s) { pc = tree.tree } in
-      let y = stepped other (up s) (tree_jump s.pc tree.tree) false None tree.tree in
-      let second = jump_step other (up s) s.pc tree.tree refl (one_stays s.bytes s.pc (tree_jump s.pc tree.tree) tree.jumps) tree.small tree.even in
+      let y = stepped other (up s) (jump s.pc tree.tree) false None tree.tree in
+      let second = jump_step other (up s) s.pc tree.tree refl (one_stays s.bytes s.pc (jump s.pc tree.tree) tree.jumps) tree.small tree.even in
       let third = trees_find other there rs to tree.note.targets (record {
         register = (tree.some, tree.few);
         regs = raw.regs;
@@ -329,7 +331,7 @@ module _ (image lowered : Image) (notes : List JumpNote) (base levels : ℕ) (in
   unfolding step
   not_fetched env s e = cond-false (can_fetch env.layout s.pc) _ _ e
 
-  passes_word : (s : State) → IsRaw s → can_fetch (layout_of image) s.pc ≡ true → is_noted_jump notes s.pc ≡ false → (o : Option Instr) → far_jump t notes s.pc ≡ o → IsPassed s ⊎ IsEnded s
+  passes_word : (s : State) → IsRaw s → can_fetch (layout_of image) s.pc ≡ true → is_noted_jump notes s.pc ≡ false → (o : Option Instr) → far_jump image notes s.pc ≡ o → IsPassed s ⊎ IsEnded s
   passes_word s raw fetched noted None far = stays s raw fetched (f.fetched_too s.pc (fetched_word s.pc fetched)) noted far
   passes_word s raw fetched noted (Some i) far = inl (passes_far s i raw fetched (f.fetched_too s.pc (fetched_word s.pc fetched)) noted far)
 
@@ -342,7 +344,7 @@ module _ (image lowered : Image) (notes : List JumpNote) (base levels : ℕ) (in
 
       by_note : can_fetch (layout_of image) s.pc ≡ true → (b : Bool) → is_noted_jump notes s.pc ≡ b → IsPassed s ⊎ IsEnded s ⊎ IsLost s
       by_note fetched true noted = inl (passes_tree s raw fetched holds noted)
-      by_note fetched false noted = widen (passes_word s raw fetched noted (far_jump t notes s.pc) refl)
+      by_note fetched false noted = widen (passes_word s raw fetched noted (far_jump image notes s.pc) refl)
 
       by_block : can_fetch (layout_of image) s.pc ≡ false → (b : Bool) → in_block base (block_len image notes) s.pc ≡ b → IsPassed s ⊎ IsEnded s ⊎ IsLost s
       by_block off true inside = inr (inr (record { trap = record { kind = traps.FetchFault; at = s.pc }; ends = not_fetched one s off; inside = inside }))

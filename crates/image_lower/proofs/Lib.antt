@@ -21,3 +21,8 @@ pub mod NoteFacts
 pub mod Planted
 pub mod MadeBy
 pub mod LoweredLaw
+pub mod FewPatches
+pub mod JumpFiles
+pub mod Bases
+pub mod SafeLowered
+pub mod Laws

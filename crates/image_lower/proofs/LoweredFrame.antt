@@ -14,7 +14,8 @@ use Rattle.graph_runs.specs.TextStates.{IsTextOf}
 use Rattle.stored_runs.proofs.Laws.{SeeAlike, hidden}
 use Rattle.jump_lists.specs.declared.notes.JumpNote.{JumpNote}
 use Rattle.image_lower.specs.FarJumps.{far_jump}
-use Rattle.image_lower.specs.Trees.{tree_jump, whole_tree, tree_depth}
+use Rattle.stub_writer.specs.Stubs.{jump}
+use Rattle.image_lower.specs.Trees.{whole_tree, tree_depth}
 use Rattle.image_lower.specs.Block.{register, block_len, greatest_depth}
 use Rattle.image_lower.specs.Meets.{in_block, is_noted_jump}
 use Rattle.image_lower.specs.TreeRuns.{InstrStands, CodeStands}
@@ -29,7 +30,7 @@ pub record IsTreeOf (image lowered : Image) (notes : List JumpNote) (levels : �
   pub reads : instr_at (text_of image) pc ≡ Some (instr.Jalr 0 (register image note) (pos 0))
   pub words : All (λ u. (u % 4 ≡ 0) × (u < 2 ^ 32)) note.targets
   pub tree : ℕ
-  pub jumps : InstrStands (setting_of lowered levels input) (loaded_byte lowered) pc (tree_jump pc tree)
+  pub jumps : InstrStands (setting_of lowered levels input) (loaded_byte lowered) pc (jump pc tree)
   pub code : CodeStands (setting_of lowered levels input) (loaded_byte lowered) tree (whole_tree (register image note) tree note.targets)
   pub small : tree < 2 ^ 32
   pub even : tree % 4 ≡ 0
@@ -45,8 +46,8 @@ pub record IsFrame (image lowered : Image) (notes : List JumpNote) (base levels 
   pub same_text : (a : ℕ) → list_any (is_in a) image.text ≡ true → list_any (is_in a) (layout_of lowered).text ≡ true
   pub fetched_too : (pc : ℕ) → is_word_address image pc ≡ true → can_fetch (layout_of lowered) pc ≡ true
   pub unfetched : (pc : ℕ) → in_block base (block_len image notes) pc ≡ false → can_fetch (layout_of image) pc ≡ false → can_fetch (layout_of lowered) pc ≡ false
-  pub plain : (pc : ℕ) → is_word_address image pc ≡ true → is_noted_jump notes pc ≡ false → far_jump (text_of image) notes pc ≡ None → word_at (loaded_byte lowered) pc ≡ word_at (loaded_byte image) pc
-  pub near : (pc : ℕ) (i : Instr) → is_word_address image pc ≡ true → is_noted_jump notes pc ≡ false → far_jump (text_of image) notes pc ≡ Some i → instr_of (word_at (loaded_byte lowered) pc) ≡ Some i
+  pub plain : (pc : ℕ) → is_word_address image pc ≡ true → is_noted_jump notes pc ≡ false → far_jump image notes pc ≡ None → word_at (loaded_byte lowered) pc ≡ word_at (loaded_byte image) pc
+  pub near : (pc : ℕ) (i : Instr) → is_word_address image pc ≡ true → is_noted_jump notes pc ≡ false → far_jump image notes pc ≡ Some i → instr_of (word_at (loaded_byte lowered) pc) ≡ Some i
   pub trees : (pc : ℕ) → is_noted_jump notes pc ≡ true → IsTreeOf image lowered notes levels input pc
   pub outside : (a : ℕ) → hidden lowered a ≡ false → loaded_byte lowered a ≡ loaded_byte image a
   pub entry : lowered.entry ≡ image.entry

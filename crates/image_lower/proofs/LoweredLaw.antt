@@ -2,7 +2,7 @@
 use Rattle.std.proofs.Common.{◌≡◌, ℕ, suc, ◌+◌, ◌-◌, ◌*◌, ◌%◌, ◌^◌, ◌<◌, ◌≤◌, Bool, true, false, ◌&&◌, ◌||◌, List, [], ◌∷◌, ◌++◌, length, get_or, Option, Some, None, Result, Ok, Err, refl, sym, ap, subst, ◌∙◌, arith, inl, inr}
 use Rattle.std.specs.Prelude.{nat_lt, nat_le, ◌==◌, if◌then◌else◌, All, is_some}
 use Rattle.std.specs.List.{list_any, list_all, Contains}
-use Rattle.std.proofs.lemmas.Bool.{and_parts, or_left, or_right, or_cases, both_ways, cases_lt, and_from, le-leb, lt-ltb}
+use Rattle.std.proofs.lemmas.Bool.{eqb-true, and_parts, or_left, or_right, or_cases, both_ways, cases_lt, and_from, le-leb, lt-ltb}
 use Rattle.std.proofs.lemmas.Bool.Decides.{nat_tests}
 use Rattle.std.proofs.lemmas.List.{length-append, append-nil, get_or_append_left}
 use Rattle.std.proofs.lemmas.List.Elements.{All-nil, All-cons, All-head, All-tail, All-append}
@@ -10,7 +10,6 @@ use Rattle.std.proofs.lemmas.List.Folds.{list_any-append}
 use Rattle.std.proofs.lemmas.List.Concat.{flat_map-cons}
 use Rattle.std.proofs.lemmas.Grind.{flat_map-append}
 use Rattle.scale_base.specs.declared.instruction.Instr.{Instr}
-use Rattle.scale_base.specs.declared.instruction.Instr.TheVariants as instr
 use Rattle.scale_base.specs.declared.ranges.Patch.{Patch}
 use Rattle.scale_base.specs.declared.refusal.Refusal.{Refusal}
 use Rattle.scale_base.specs.declared.refusal.Refusal.TheVariants.{LowerOutOfReach, NoRoom}
@@ -26,7 +25,6 @@ use Rattle.scale_base.specs.Word.{word_of, FieldsInRange}
 use Rattle.scale_base.proofs.Laws.{rules_kept, contents-are, has_table, rules_of, word_back, word_small}
 use Rattle.elf_patch.specs.Stored.{little, patched, IsStubBase, is_free}
 use Rattle.elf_patch.proofs.Laws.{some_place}
-use Rattle.rv_encode.specs.Jumps.{distance}
 use Rattle.stored_laws.proofs.Laws.{get_or-behind, text_place, Places}
 use Rattle.table_keys.specs.Keys.{◌>>=◌}
 use Rattle.machine_laws.proofs.Laws.{word_in_text}
@@ -39,12 +37,13 @@ use Rattle.jump_lists.specs.declared.notes.JumpNote.{JumpNote}
 use Rattle.jump_lists.specs.Notes.{IsJumpNote}
 use Rattle.image_lower.specs.declared.lowering.Lowered.{Lowered}
 use Rattle.image_lower.specs.FarJumps.{far_jump, far_patches, far_target}
-use Rattle.image_lower.specs.Trees.{tree_jump, fits, tree_depth}
+use Rattle.stub_writer.specs.Stubs.{jump}
+use Rattle.image_lower.specs.Trees.{fits, tree_depth}
 use Rattle.image_lower.specs.Block.{register, note_code, trees_code, tree_patches, is_twice, tree_out_of_reach, ascending_notes, trees_bytes, block_len, greatest_depth}
 use Rattle.image_lower.specs.Lowered.{refuse_at, is_full, all_patches, lowered_file, summary, finished, roomy, lowered_at}
-use Rattle.image_lower.specs.Meets.{in_block, is_noted_jump, AreOffTable, IsLoweredTo, LoweredRunsFollow}
+use Rattle.image_lower.specs.Meets.{in_block, is_noted_jump, IsLoweredTo, LoweredRunsFollow}
 use Rattle.image_lower.specs.TreeRuns.{CodeStands}
-use Rattle.image_lower.proofs.Reach.{offset_fits}
+use Rattle.image_lower.proofs.Reach.{near_fits}
 use Rattle.image_lower.proofs.Follows.{words_there}
 use Rattle.image_lower.proofs.TreeFields.{jump_fits, tree_has_words}
 use Rattle.image_lower.proofs.FarParts.{IsFar, far_parts}
@@ -53,35 +52,46 @@ use Rattle.image_lower.proofs.NoteFacts.{IsGood, good_notes, good_of, IsJumpAt, 
 use Rattle.image_lower.proofs.Planted.{IsFine, trees_some, trees_len, trees_short, code_of, words_len, IsElsewhere, HasWord, patches_elsewhere, IsPlanted, planted, IsNearPatch, near_all, near_has, address_there}
 use Rattle.image_lower.proofs.MadeMemory as memory
 use Rattle.image_lower.proofs.MadeMemory.{IsMade}
-use Rattle.image_lower.proofs.MadeBy.{IsMadeFile, made_added, made_patched}
+use Rattle.image_lower.proofs.MadeBy.{IsMadeFile, AreOffTable, made_added, made_patched}
 use Rattle.image_lower.proofs.LoweredFrame.{IsTreeOf, IsFrame}
 use Rattle.image_lower.proofs.Followed.{frame_follows}
 
 -- ---- what was stored
 
-pub record IsMadeOf (image : Image) (notes : List JumpNote) (base : ℕ) (made : List ℕ) : Type 0 where
+pub record IsMadeOf (image : Image) (notes : List JumpNote) (base : ℕ) (made : List ℕ) (counts : Lowered) : Type 0 where
   pub file_is : lowered_file image base notes ≡ made
+  pub told : counts ≡ summary image notes
+  pub again : (lowered : Image) × (image_of made ≡ Ok lowered)
   pub near : tree_out_of_reach image base (ascending_notes notes) ≡ None
   pub room : 1 ≤ length notes → is_full image.file ≡ false
 
 abbrev given : List ℕ → Lowered → Result (List ℕ × Lowered) Refusal
 given file counts = Ok ((file, counts))
 
-file_given : Result (List ℕ × Lowered) Refusal → List ℕ
-file_given (Ok p) = p.0
-file_given (Err refusal) = []
+given_of : (file : List ℕ) (counts : Lowered) → Result (List ℕ × Lowered) Refusal → List ℕ × Lowered
+given_of file counts (Ok p) = p
+given_of file counts (Err refusal) = (file, counts)
 
-given_file : (file made : List ℕ) (counts other : Lowered) → given file counts ≡ given made other → file ≡ made
-unfolding file_given
-given_file file made counts other e = ap file_given e
+-- what is given where the file is an image again
+record IsFinished (file made : List ℕ) (counts other : Lowered) : Type 0 where
+  same : file ≡ made
+  told : other ≡ counts
+  again : (image : Image) × (image_of made ≡ Ok image)
 
-finished_is : (file made : List ℕ) (counts other : Lowered) (r : Result Image Refusal) → image_of file ≡ r → finished file counts ≡ given made other → file ≡ made
+given_same : (file made : List ℕ) (counts other : Lowered) (image : Image) → image_of file ≡ Ok image → given file counts ≡ given made other → IsFinished file made counts other
+unfolding given_of
+given_same file made counts other image read e =
+    let both : (file, counts) ≡ (made, other) = ap (given_of file counts) e in
+    let same : file ≡ made = ap (λ (p : List ℕ × Lowered). p.0) both in
+    record { same = same; told = sym (ap (λ (p : List ℕ × Lowered). p.1) both); again = (image, ap image_of (sym same) ∙ read) }
+
+finished_is : (file made : List ℕ) (counts other : Lowered) (r : Result Image Refusal) → image_of file ≡ r → finished file counts ≡ given made other → IsFinished file made counts other
 unfolding finished
 finished_is file made counts other (Ok image) e h =
-    given_file file made counts other (sym (ap (λ (r : Result Image Refusal). roomy r >>= λ _. given file counts) e) ∙ h)
+    given_same file made counts other image e (sym (ap (λ (r : Result Image Refusal). roomy r >>= λ _. given file counts) e) ∙ h)
 finished_is file made counts other (Err refusal) e h = refused refusal (sym (ap (λ (r : Result Image Refusal). roomy r >>= λ _. given file counts) e) ∙ h)
   where
-    refused : (refusal : Refusal) → (roomy (Err refusal) >>= λ _. given file counts) ≡ given made other → file ≡ made
+    refused : (refusal : Refusal) → (roomy (Err refusal) >>= λ _. given file counts) ≡ given made other → IsFinished file made counts other
     refused refusal is = let never : ⊥ = cc in absurd never
 
 abbrev full_by : Bool → Result (Unit {0}) Refusal
@@ -92,17 +102,24 @@ by_fit None true rest x h = let never : ⊥ = cc in absurd never
 by_fit None false rest x h = (refl, refl, h)
 by_fit (Some at) full rest x h = let never : ⊥ = cc in absurd never
 
-made_of : (image : Image) (notes : List JumpNote) (base : ℕ) (made : List ℕ) (counts : Lowered) → lowered_at image base notes ≡ Ok ((made, counts)) → IsMadeOf image notes base made
+pub made_of : (image : Image) (notes : List JumpNote) (base : ℕ) (made : List ℕ) (counts : Lowered) → lowered_at image base notes ≡ Ok ((made, counts)) → IsMadeOf image notes base made counts
 unfolding lowered_at ascending_notes
-made_of image [] base made counts h = record {
-  file_is = finished_is (lowered_file image base []) made (summary image []) counts (image_of (lowered_file image base [])) refl h;
-  near = refl;
-  room = λ some. absurd (omega (arith, some));
-}
+made_of image [] base made counts h =
+    let f = finished_is (lowered_file image base []) made (summary image []) counts (image_of (lowered_file image base [])) refl h in
+    record {
+      file_is = f.same;
+      told = f.told;
+      again = f.again;
+      near = refl;
+      room = λ some. absurd (omega (arith, some));
+    }
 made_of image (n ∷ ns) base made counts h =
     let p = by_fit (tree_out_of_reach image base (ascending_notes (n ∷ ns))) (is_full image.file) (finished (lowered_file image base (n ∷ ns)) (summary image (n ∷ ns))) ((made, counts)) h in
+    let f = finished_is (lowered_file image base (n ∷ ns)) made (summary image (n ∷ ns)) counts (image_of (lowered_file image base (n ∷ ns))) refl p.2 in
     record {
-      file_is = finished_is (lowered_file image base (n ∷ ns)) made (summary image (n ∷ ns)) counts (image_of (lowered_file image base (n ∷ ns))) refl p.2;
+      file_is = f.same;
+      told = f.told;
+      again = f.again;
       near = p.0;
       room = λ some. p.1;
     }
@@ -138,13 +155,10 @@ at_place P xs n h c = subst P c.2 (h c.0 n c.1)
 
 noted_at : (P : JumpNote → Type 0) (pc : ℕ) (ns : List JumpNote) → All P ns → is_noted_jump ns pc ≡ true → (n : JumpNote) × P n × (n.at ≡ pc)
 noted_at P pc [] h e = let never : ⊥ = cc in absurd never
-noted_at P pc (n ∷ ns) h e = elim (or_cases (nat_le n.at pc && nat_le pc n.at) (is_noted_jump ns pc) e) [
-  | inl here ↦ let p = and_parts (nat_le n.at pc) (nat_le pc n.at) here in (n, All-head P n ns h, both n.at pc p.0 p.1)
+noted_at P pc (n ∷ ns) h e = elim (or_cases (n.at == pc) (is_noted_jump ns pc) e) [
+  | inl here ↦ (n, All-head P n ns h, eqb-true n.at pc here)
   | inr later ↦ noted_at P pc ns (All-tail P n ns h) later
 ]
-  where
-    both : (a b : ℕ) → nat_le a b ≡ true → nat_le b a ≡ true → a ≡ b
-    both a b x y = grind (arith, nat_tests)
 
 each_passes : (p : ℕ → Bool) (xs : List ℕ) → list_all p xs ≡ true → All (λ x. p x ≡ true) xs
 each_passes p [] e = All-nil (λ x. p x ≡ true)
@@ -159,13 +173,13 @@ neither false b h = (refl, h)
 abbrev IsTextPatch : Image → Patch → Type 0
 IsTextPatch image p = is_word_address image p.at ≡ true
 
-near_word : (image : Image) (notes : List JumpNote) (p : Patch) → IsNearPatch (text_of image) notes p → IsTextPatch image p
-near_word image notes p h = let s = far_parts (text_of image) notes p.at h.0 h.1 in (words_there image p.at s.aligned s.behind).0
+near_word : (image : Image) (notes : List JumpNote) (p : Patch) → IsNearPatch image notes p → IsTextPatch image p
+near_word image notes p h = let s = far_parts image notes p.at h.0 h.1 in (words_there image p.at s.aligned s.behind).0
 
 tree_words : (image : Image) (at : ℕ) (ns : List JumpNote) → All (λ (n : JumpNote). is_word_address image n.at ≡ true) ns → All (IsTextPatch image) (tree_patches image at ns)
 tree_words image at [] h = All-nil (IsTextPatch image)
 tree_words image at (n ∷ ns) h =
-    All-cons (IsTextPatch image) (record { at = n.at; word = word_of (tree_jump n.at at) }) (tree_patches image (at + 4 * length (note_code image at n)) ns)
+    All-cons (IsTextPatch image) (record { at = n.at; word = word_of (jump n.at at) }) (tree_patches image (at + 4 * length (note_code image at n)) ns)
     (All-head (λ (n : JumpNote). is_word_address image n.at ≡ true) n ns h)
     (tree_words image (at + 4 * length (note_code image at n)) ns (All-tail (λ (n : JumpNote). is_word_address image n.at ≡ true) n ns h))
 
@@ -180,12 +194,12 @@ pub record IsLowerable (image : Image) (notes : List JumpNote) (n : JumpNote) : 
 -- the file that is stored, as an image
 file_by : (file : List ℕ) (base : ℕ) (ns : List JumpNote) → image_of file ≡ Ok (contents file) → AllHold (image_rules file) → length file ≤ 4194304 → length (trees_bytes (contents file) base ns) ≤ 4194304
     → (1 ≤ length ns → 0 < length (trees_bytes (contents file) base ns)) → length (trees_bytes (contents file) base ns) % 4 ≡ 0 → base % 4096 ≡ 0 → base < 2 ^ 32 → (1 ≤ length ns → has_sections file ≡ true → e_shnum file < 65535)
-    → Places file (all_patches (contents file) base ns) → Places file (far_patches (text_of (contents file)) ns) → (ns ≡ [] → AreOffTable file (far_patches (text_of (contents file)) ns))
+    → Places file (all_patches (contents file) base ns) → Places file (far_patches (contents file) ns) → AreOffTable file (far_patches (contents file) ns)
     → IsMadeFile file (lowered_file (contents file) base ns) (all_patches (contents file) base ns) base (trees_bytes (contents file) base ns)
 unfolding contents ascending_notes
 file_by file base [] read rules short short_block some whole page low room places near_places off_table =
-    let near = far_patches (text_of (contents file)) [] in
-    subst (λ ps. IsMadeFile file (patched file near) ps base []) (sym (append-nil near)) (made_patched file near base read rules near_places (off_table refl))
+    let near = far_patches (contents file) [] in
+    subst (λ ps. IsMadeFile file (patched file near) ps base []) (sym (append-nil near)) (made_patched file near base read rules near_places off_table)
 file_by file base (n ∷ ns) read rules short short_block some whole page low room places near_places off_table =
     made_added file (all_patches (contents file) base (n ∷ ns)) base (trees_bytes (contents file) base (n ∷ ns)) read rules short short_block (some (omega arith)) whole page low (room (omega arith)) places
 
@@ -207,7 +221,7 @@ module _ (file made : List ℕ) (notes : List JumpNote) (base : ℕ) (h : IsLowe
   rules : AllHold (image_rules file)
   rules = rules_kept file image read
 
-  made_as : IsMadeOf image notes base made
+  made_as : IsMadeOf image notes base made h.counts
   unfolding contents
   made_as = made_of image notes base made h.counts h.made
 
@@ -261,13 +275,13 @@ module _ (file made : List ℕ) (notes : List JumpNote) (base : ℕ) (h : IsLowe
   -- ---- the words that are replaced
 
   abbrev far : List Patch
-  far = far_patches (text_of image) notes
+  far = far_patches image notes
 
   abbrev patches : List Patch
   patches = all_patches image base notes
 
-  far_near : All (IsNearPatch (text_of image) notes) far
-  far_near = near_all (text_of image) notes (all_addresses image.text)
+  far_near : All (IsNearPatch image notes) far
+  far_near = near_all image notes (all_addresses image.text)
 
   words : All (IsTextPatch image) patches
   words = All-append (IsTextPatch image) far (tree_patches image base (ascending_notes notes)) (λ k d lt. near_word image notes (get_or far k d) (far_near k d lt))
@@ -294,9 +308,9 @@ module _ (file made : List ℕ) (notes : List JumpNote) (base : ℕ) (h : IsLowe
   places_of : (ps : List Patch) → All (IsTextPatch image) ps → Places file ps
   places_of ps w = λ k d lt q f. text_place file (get_or ps k d).at q rules (w k d lt) f
 
-  off_table : notes ≡ [] → AreOffTable file far
+  off_table : AreOffTable file far
   unfolding contents
-  off_table = h.off_table
+  off_table = λ k d lt. let p = far_near k d lt in (far_parts image notes (get_or far k d).at p.0 p.1).off_table
 
   short : length file ≤ 4194304
   unfolding contents
@@ -366,13 +380,13 @@ module _ (file made : List ℕ) (notes : List JumpNote) (base : ℕ) (h : IsLowe
   no_tree : (pc : ℕ) → is_noted_jump notes pc ≡ false → All (IsElsewhere pc) (tree_patches image base (ascending_notes notes))
   no_tree pc off = patches_elsewhere image pc base (ascending_notes notes) (none_stand pc (ascending_notes notes) (ascending_count pc notes ∙ not_noted pc notes off))
 
-  no_near : (pc : ℕ) → far_jump (text_of image) notes pc ≡ None → All (IsElsewhere pc) far
-  no_near pc none = λ k d lt same. let p = far_near k d lt in clash p.0 (ap (far_jump (text_of image) notes) (sym same) ∙ p.1)
+  no_near : (pc : ℕ) → far_jump image notes pc ≡ None → All (IsElsewhere pc) far
+  no_near pc none = λ k d lt same. let p = far_near k d lt in clash p.0 (ap (far_jump image notes) (sym same) ∙ p.1)
     where
-      clash : (i : Instr) → far_jump (text_of image) notes pc ≡ Some i → ⊥
+      clash : (i : Instr) → far_jump image notes pc ≡ Some i → ⊥
       clash i e = let bad : None ≡ Some i = sym none ∙ e in cc
 
-  plain : (pc : ℕ) → is_word_address image pc ≡ true → is_noted_jump notes pc ≡ false → far_jump (text_of image) notes pc ≡ None → word_at (loaded_byte lowered) pc ≡ word_at (loaded_byte image) pc
+  plain : (pc : ℕ) → is_word_address image pc ≡ true → is_noted_jump notes pc ≡ false → far_jump image notes pc ≡ None → word_at (loaded_byte lowered) pc ≡ word_at (loaded_byte image) pc
   plain pc word off none =
       let elsewhere = All-append (IsElsewhere pc) far (tree_patches image base (ascending_notes notes)) (no_near pc none) (no_tree pc off) in
       word_by (loaded_byte lowered) (loaded_byte image) pc (λ j lt. memory.plain_byte file made patches base block read read_too words free h.no_key m pc j word elsewhere lt)
@@ -380,29 +394,29 @@ module _ (file made : List ℕ) (notes : List JumpNote) (base : ℕ) (h : IsLowe
   unmatched : (pc w : ℕ) (ps : List Patch) → All (IsElsewhere pc) ps → All (HasWord pc w) ps
   unmatched pc w ps none = λ k d lt same. absurd (none k d lt same)
 
-  near_words : (pc : ℕ) (i : Instr) → far_jump (text_of image) notes pc ≡ Some i → All (HasWord pc (word_of i)) far
+  near_words : (pc : ℕ) (i : Instr) → far_jump image notes pc ≡ Some i → All (HasWord pc (word_of i)) far
   near_words pc i e = λ k d lt same.
       let p = far_near k d lt in
-      p.2 ∙ ap word_of (one p.0 i (sym (ap (far_jump (text_of image) notes) (sym same) ∙ p.1) ∙ e))
+      p.2 ∙ ap word_of (one p.0 i (sym (ap (far_jump image notes) (sym same) ∙ p.1) ∙ e))
     where
       one : (i j : Instr) → Some i ≡ Some j → i ≡ j
       one i j e = cc
 
-  near_fields : (pc : ℕ) (i : Instr) → IsFar (text_of image) pc i → FieldsInRange i
-  near_fields pc i p =
-      let low = p.low in
-      let o = offset_fits (distance pc (far_target (pc - 4) p.imm p.offset)) p.near in
-      let fields : FieldsInRange (instr.Jal p.rd (distance pc (far_target (pc - 4) p.imm p.offset))) = (omega (arith, low), o.0, o.1) in
-      subst FieldsInRange p.is fields
+  near_fields : (pc : ℕ) (i : Instr) → is_word_address image pc ≡ true → IsFar (text_of image) pc i → FieldsInRange i
+  near_fields pc i word p =
+      let to = far_target (pc - 4) p.imm p.offset in
+      let low = low_word pc word in
+      let small = word_bound (text_of image) (setting_of image 0 []) (text_ok 0 []) to p.inside in
+      subst FieldsInRange p.is (near_fits pc p.rd to p.low (omega (arith, low)) (omega (arith, small)) p.near)
 
-  near : (pc : ℕ) (i : Instr) → is_word_address image pc ≡ true → is_noted_jump notes pc ≡ false → far_jump (text_of image) notes pc ≡ Some i → instr_of (word_at (loaded_byte lowered) pc) ≡ Some i
+  near : (pc : ℕ) (i : Instr) → is_word_address image pc ≡ true → is_noted_jump notes pc ≡ false → far_jump image notes pc ≡ Some i → instr_of (word_at (loaded_byte lowered) pc) ≡ Some i
   near pc i word off e =
       let w = word_in pc word in
       let trees = tree_patches image base (ascending_notes notes) in
-      let fields = near_fields pc i (far_parts (text_of image) notes pc i e).far in
+      let fields = near_fields pc i word (far_parts image notes pc i e).far in
       let there = address_there pc image.text (text_ok 0 []).each w.0 (of_image pc (in_image pc w.1)) in
       let some : list_any (λ (p : Patch). p.at == pc) patches ≡ true = list_any-append (λ (p : Patch). p.at == pc) far trees
-      ∙ or_left (list_any (λ (p : Patch). p.at == pc) far) (list_any (λ (p : Patch). p.at == pc) trees) (near_has (text_of image) notes pc i (all_addresses image.text) e there) in
+      ∙ or_left (list_any (λ (p : Patch). p.at == pc) far) (list_any (λ (p : Patch). p.at == pc) trees) (near_has image notes pc i (all_addresses image.text) e there) in
       let all = All-append (HasWord pc (word_of i)) far trees (near_words pc i e) (unmatched pc (word_of i) trees (no_tree pc off)) in
       word_back (word_at (loaded_byte lowered) pc) i (fields, word_put pc (word_of i) word all some (word_small (word_of i) i (fields, refl)))
 
@@ -458,10 +472,10 @@ module _ (file made : List ℕ) (notes : List JumpNote) (base : ℕ) (h : IsLowe
       let low = low_word (get_or n.targets k d) word in
       ((word_in (get_or n.targets k d) word).0, omega (arith, low))
 
-  no_far_here : (pc w : ℕ) → is_some (far_jump (text_of image) notes pc) ≡ false → All (HasWord pc w) far
+  no_far_here : (pc w : ℕ) → is_some (far_jump image notes pc) ≡ false → All (HasWord pc w) far
   no_far_here pc w off = λ k d lt same.
       let p = far_near k d lt in
-      absurd (both_ways (is_some (far_jump (text_of image) notes pc)) off (ap is_some (ap (far_jump (text_of image) notes) (sym same) ∙ p.1)))
+      absurd (both_ways (is_some (far_jump image notes pc)) off (ap is_some (ap (far_jump image notes) (sym same) ∙ p.1)))
 
   tree_of : (levels : ℕ) (input : List ℕ) (pc : ℕ) → IsPlanted image pc base (ascending_notes notes) → IsTreeOf image lowered notes levels input pc
   tree_of levels input pc p =
@@ -469,10 +483,10 @@ module _ (file made : List ℕ) (notes : List JumpNote) (base : ℕ) (h : IsLowe
       let is = at_place (IsLowerable image notes) (ascending_notes notes) n sorted p.there in
       let jumps = subst (λ a. IsJumpAt image a (register image n)) p.at_is is.jumps in
       let trees = tree_patches image base (ascending_notes notes) in
-      let reach = and_parts (fits (tree_jump n.at p.tree)) (list_all fits (note_code image p.tree n)) p.near in
-      let to_tree = jump_fits pc p.tree (ap (λ a. fits (tree_jump a p.tree)) (sym p.at_is) ∙ reach.0) in
-      let v = word_of (tree_jump pc p.tree) in
-      let not_far = ap (λ a. is_some (far_jump (text_of image) notes a)) (sym p.at_is) ∙ is.good.not_far in
+      let reach = and_parts (fits (jump n.at p.tree)) (list_all fits (note_code image p.tree n)) p.near in
+      let to_tree = jump_fits pc p.tree (ap (λ a. fits (jump a p.tree)) (sym p.at_is) ∙ reach.0) in
+      let v = word_of (jump pc p.tree) in
+      let not_far = ap (λ a. is_some (far_jump image notes a)) (sym p.at_is) ∙ is.good.not_far in
       let all = All-append (HasWord pc v) far trees (no_far_here pc v not_far) p.words in
       let some : list_any (λ (q : Patch). q.at == pc) patches ≡ true = list_any-append (λ (q : Patch). q.at == pc) far trees
       ∙ or_right (list_any (λ (q : Patch). q.at == pc) far) (list_any (λ (q : Patch). q.at == pc) trees) p.some in
@@ -493,7 +507,7 @@ module _ (file made : List ℕ) (notes : List JumpNote) (base : ℕ) (h : IsLowe
         jumps = record {
           fetched = fetched_word pc jumps.word;
           room = omega (arith, low);
-          encodes = (to_tree, word_put pc v jumps.word all some (word_small v (tree_jump pc p.tree) (to_tree, refl)));
+          encodes = (to_tree, word_put pc v jumps.word all some (word_small v (jump pc p.tree) (to_tree, refl)));
         };
         code = subst (λ a. CodeStands (setting_of lowered levels input) (loaded_byte lowered) a (note_code image p.tree n)) (sym p.place) code_here;
         small = omega (arith, at, base_low, block_size, block_short, len);

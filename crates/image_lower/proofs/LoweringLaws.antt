@@ -10,7 +10,6 @@ use Rattle.scale_base.specs.declared.refusal.Refusal.TheVariants.{NoRoom, LowerO
 use Rattle.scale_base.specs.declared.ranges.Patch.{Patch}
 use Rattle.scale_base.specs.Image.{Image, image_of, contents}
 use Rattle.scale_base.specs.Word.{word_of}
-use Rattle.code_text.specs.Text.{text_of}
 use Rattle.elf_patch.specs.Stored.{little, IsStubBase}
 use Rattle.scale_base.specs.declared.refusal.Stop.{Stop}
 use Rattle.scale_base.specs.declared.refusal.Stop.TheVariants.{Refused, Memory}
@@ -50,7 +49,7 @@ too_full image base (n ∷ ns) sorted some is far full =
     ∙ ap (λ (r : Result (Unit {0}) Refusal). r >>= λ _. finished (lowered_file image base (n ∷ ns)) (summary image (n ∷ ns))) (full_first image.file full)
 
 pub made : (image : Image) (base : ℕ) (notes sorted : List JumpNote) (near : List Patch) (file : List ℕ) (counts : Lowered) → 1 ≤ length notes → sorted ≡ ascending_notes notes → None ≡ tree_out_of_reach image base sorted → is_full image.file ≡ false →
-    near ≡ far_patches (text_of image) notes → file ≡ added_file image.file (near ++ tree_patches image base sorted) base (flat_map (λ i. little 4 (word_of i)) (trees_code image base sorted)) → counts ≡ summary image notes →
+    near ≡ far_patches image notes → file ≡ added_file image.file (near ++ tree_patches image base sorted) base (flat_map (λ i. little 4 (word_of i)) (trees_code image base sorted)) → counts ≡ summary image notes →
     lowered_at image base notes ≡ finished file counts
 unfolding lowered_at
 made image base [] sorted near file counts some is far full patches stored told = absurd (omega (arith, some))
@@ -67,12 +66,12 @@ counted : (pairs jumps block depth : ℕ) → Lowered
 counted pairs jumps block depth = record { pairs = pairs; jumps = jumps; block = block; depth = depth }
 
 pub told : (image : Image) (notes : List JumpNote) (near : List Patch) (len depth : ℕ) (counts : Lowered) → counts ≡ record { pairs = length near; jumps = length notes; block = len; depth = depth } →
-    near ≡ far_patches (text_of image) notes → len ≡ block_len image notes → depth ≡ greatest_depth notes → counts ≡ summary image notes
+    near ≡ far_patches image notes → len ≡ block_len image notes → depth ≡ greatest_depth notes → counts ≡ summary image notes
 unfolding counted
 told image notes near len depth counts is patches long deep =
     is ∙ (ap (λ (ps : List Patch). counted (length ps) (length notes) len depth) patches
-    ∙ (ap (λ (l : ℕ). counted (length (far_patches (text_of image) notes)) (length notes) l depth) long
-    ∙ ap (λ (d : ℕ). counted (length (far_patches (text_of image) notes)) (length notes) (block_len image notes) d) deep))
+    ∙ (ap (λ (l : ℕ). counted (length (far_patches image notes)) (length notes) l depth) long
+    ∙ ap (λ (d : ℕ). counted (length (far_patches image notes)) (length notes) (block_len image notes) d) deep))
 
 -- ---- at the stub base, which is the only one
 

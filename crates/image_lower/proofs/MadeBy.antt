@@ -1,8 +1,8 @@
 -- The files that are made: with a block added, and with patched words alone.
 use Rattle.std.proofs.Common.{◌≡◌, ℕ, ◌+◌, ◌-◌, ◌*◌, ◌%◌, ◌^◌, ◌<◌, ◌≤◌, Bool, true, false, not, ◌||◌, List, [], ◌∷◌, ◌++◌, length, map, take, drop, get_or, Some, None, Ok, refl, sym, ap, subst, ◌∙◌, arith, inl, inr, ◌⊎◌}
-use Rattle.std.specs.Prelude.{nat_lt, nat_le, ◌==◌, if◌then◌else◌, All, filter_map, Option}
+use Rattle.std.specs.Prelude.{nat_lt, ◌==◌, if◌then◌else◌, All, filter_map, Option}
 use Rattle.std.specs.List.{list_any, range_with_len, cons_option}
-use Rattle.std.proofs.lemmas.Bool.{lt-ltb, leb-true}
+use Rattle.std.proofs.lemmas.Bool.{lt-ltb, cases_lt, both_ways}
 use Rattle.std.proofs.lemmas.Bool.Decides.{nat_tests}
 use Rattle.std.proofs.lemmas.List.Elements.{filter-append, filter_map-append}
 use Rattle.std.proofs.lemmas.List.Folds.{list_any-append}
@@ -12,6 +12,7 @@ use Rattle.scale_base.specs.declared.ranges.Patch.{Patch}
 use Rattle.scale_base.specs.declared.ranges.TextPart.{TextPart}
 use Rattle.scale_base.specs.Bytes.{list_half_at, list_word_at}
 use Rattle.scale_base.specs.Rules.{AllHold}
+use Rattle.scale_base.specs.Spans.{overlap}
 use Rattle.scale_base.specs.Elf.{e_entry, e_phoff, e_phnum, e_shoff, e_shnum, has_sections, program_header, program_headers, section_header, section_headers}
 use Rattle.scale_base.specs.Image.{image_of, contents, image_rules, load_headers, is_load, loaded_headers, file_place, text_of_section, text_of_segment, text_start_of, text_end_of, text_parts, text_ranges, range_of, is_in}
 use Rattle.elf_patch.specs.Stored.{patched, block_start, keyed_number, stored_image}
@@ -19,7 +20,8 @@ use Rattle.elf_patch.specs.Added.{added_file, code_table, code_sections}
 use Rattle.elf_patch.proofs.Laws.{sections_in_file, page_at-le}
 use Rattle.stored_laws.proofs.Laws.{half-same, word-same, Known, known, Away, length-patched, patched-away, Places, stored-is, kept_header, loads-kept, loads-split}
 use Rattle.machine_laws.proofs.Laws.{list_any-ranges_of}
-use Rattle.image_lower.specs.Meets.{in_block, place_off_table, AreOffTable}
+use Rattle.image_lower.specs.FarJumps.{touches_table, is_in_table}
+use Rattle.image_lower.specs.Meets.{in_block}
 use Rattle.image_lower.proofs.AddedBytes.{IsLoaded, IsAdded, added-is}
 use Rattle.image_lower.proofs.CodeTable.{code_header, code_section_header, length-table, added-headers, added-sections, header_same, section_same, all_same}
 use Rattle.image_lower.proofs.MadeImage.{or_false}
@@ -191,6 +193,22 @@ module _ (file : List ℕ) (patches : List Patch) (base : ℕ) (block : List ℕ
 
 -- ---- a file with patched words alone
 
+-- the patched words lie outside the program header table
+abbrev pub AreOffTable : List ℕ → List Patch → Type 0
+AreOffTable file patches = All (λ p. is_in_table file p.at ≡ false) patches
+
+share_byte : (q from len i : ℕ) → q ≤ i → i < q + 4 → from ≤ i → i < from + len → overlap (record { from = q; len = 4 }) (record { from = from; len = len }) ≡ true
+share_byte q from len i a b c d = grind (arith, nat_tests)
+
+share_none : (q from len i : ℕ) → overlap (record { from = q; len = 4 }) (record { from = from; len = len }) ≡ false → from ≤ i → i < from + len → (i < q) ⊎ (q + 4 ≤ i)
+share_none q from len i e low high = elim (cases_lt i q) [
+  | inl before ↦ inl before
+  | inr above ↦ elim (cases_lt i (q + 4)) [
+    | inl inside ↦ absurd (both_ways _ e (share_byte q from len i above inside low high))
+    | inr behind ↦ inr behind
+  ]
+]
+
 module _ (file : List ℕ) (patches : List Patch) (base : ℕ) (read : image_of file ≡ Ok (contents file)) (rules : AllHold (image_rules file)) (places : Places file patches) (off_table : AreOffTable file patches) where
   abbrev new : List ℕ
   new = patched file patches
@@ -227,11 +245,8 @@ module _ (file : List ℕ) (patches : List Patch) (base : ℕ) (read : image_of 
 
   -- a byte of the program header table
   entry_byte : (i : ℕ) → e_phoff file ≤ i → i < e_phoff file + 32 * e_phnum file → get_or new i 0 ≡ get_or file i 0
-  entry_byte i low high = patched-away file patches i (λ k d lt q e. ((places k d lt q e).within, by q (subst (place_off_table file) e (off_table k d lt))))
-    where
-      by : (q : ℕ) → (nat_le (q + 4) (e_phoff file) ≡ true) ⊎ (nat_le (e_phoff file + 32 * e_phnum file) q ≡ true) → (i < q) ⊎ (q + 4 ≤ i)
-      by q (inl before) = let le = leb-true (q + 4) (e_phoff file) before in inr (omega (arith, le, low))
-      by q (inr past) = let le = leb-true (e_phoff file + 32 * e_phnum file) q past in inl (omega (arith, le, high))
+  entry_byte i low high = patched-away file patches i (λ k d lt q e.
+      ((places k d lt q e).within, share_none q (e_phoff file) (32 * e_phnum file) i (subst (λ o. touches_table file o ≡ false) e (off_table k d lt)) low high))
 
   -- a byte of the section header table
   section_byte : (i : ℕ) → has_sections file ≡ true → e_shoff file ≤ i → i < e_shoff file + 40 * e_shnum file → get_or new i 0 ≡ get_or file i 0

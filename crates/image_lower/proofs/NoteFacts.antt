@@ -1,9 +1,9 @@
 -- What is known of the notes that are lowered: of each of them, in their ascending order too.
 use Rattle.std.proofs.Common.{◌≡◌, ◌≢◌, ℕ, ℤ, pos, zero, suc, ◌+◌, ◌<◌, ◌≤◌, Bool, true, false, not, cond, List, [], ◌∷◌, length, get_or, fold, Option, Some, None, Ok, refl, sym, ap, subst, ◌∙◌, arith, inl, inr}
-use Rattle.std.specs.Prelude.{nat_lt, nat_le, ◌==◌, ◌&&◌, ◌||◌, if◌then◌else◌, is_some, option_and_then, unwrap_or, All, count_by, max, option_map}
+use Rattle.std.specs.Prelude.{nat_lt, ◌==◌, ◌&&◌, ◌||◌, if◌then◌else◌, is_some, option_and_then, unwrap_or, All, count_by, max, option_map}
 use Rattle.std.specs.List.{list_all, Contains}
 use Rattle.std.specs.Ordering.{int_eq}
-use Rattle.std.proofs.lemmas.Bool.{and_parts, or_cases, both_ways, false_from_ne_true, eqb-true, eq-eqb, cond_both}
+use Rattle.std.proofs.lemmas.Bool.{and_parts, or_cases, both_ways, eqb-true, eq-eqb, cond_both}
 use Rattle.std.proofs.lemmas.Bool.Decides.{nat_tests, Decides-int_eq}
 use Rattle.std.proofs.lemmas.List.Elements.{All-nil, All-cons}
 use Rattle.std.proofs.lemmas.List.Sums.{sum_by-cons}
@@ -46,7 +46,7 @@ good_notes image notes e = least_none (is_bad image notes) notes (none_of (least
 pub record IsGood (image : Image) (notes : List JumpNote) (n : JumpNote) : Type 0 where
   pub once : is_twice notes n.at ≡ false
   pub jumps : is_some (register_at image n.at) ≡ true
-  pub not_far : is_some (far_jump (text_of image) notes n.at) ≡ false
+  pub not_far : is_some (far_jump image notes n.at) ≡ false
   pub targets : list_all (is_word_address image) n.targets ≡ true
 
 neither : (a b : Bool) → (a || b) ≡ false → (a ≡ false) × (b ≡ false)
@@ -59,8 +59,8 @@ on false e = let never : ⊥ = cc in absurd never
 
 pub good_of : (image : Image) (notes : List JumpNote) (n : JumpNote) → is_bad image notes n ≡ false → IsGood image notes n
 good_of image notes n e =
-    let a = neither (is_twice notes n.at || not (is_some (register_at image n.at)) || is_some (far_jump (text_of image) notes n.at)) (not (list_all (is_word_address image) n.targets)) e in
-    let b = neither (is_twice notes n.at || not (is_some (register_at image n.at))) (is_some (far_jump (text_of image) notes n.at)) a.0 in
+    let a = neither (is_twice notes n.at || not (is_some (register_at image n.at)) || is_some (far_jump image notes n.at)) (not (list_all (is_word_address image) n.targets)) e in
+    let b = neither (is_twice notes n.at || not (is_some (register_at image n.at))) (is_some (far_jump image notes n.at)) a.0 in
     let c = neither (is_twice notes n.at) (not (is_some (register_at image n.at))) b.0 in
     record { once = c.0; jumps = on (is_some (register_at image n.at)) c.1; not_far = b.1; targets = on (list_all (is_word_address image) n.targets) a.1 }
 
@@ -185,31 +185,22 @@ none_stand pc (n ∷ ns) e = by (n.at == pc) refl (one_more pc n ns) (none_stand
 
 pub some_stand : (pc : ℕ) (ns : List JumpNote) → is_noted_jump ns pc ≡ true → 1 ≤ stand_at pc ns
 some_stand pc [] e = let never : ⊥ = cc in absurd never
-some_stand pc (n ∷ ns) e = elim (or_cases (nat_le n.at pc && nat_le pc n.at) (is_noted_jump ns pc) e) [
+some_stand pc (n ∷ ns) e = elim (or_cases (n.at == pc) (is_noted_jump ns pc) e) [
   | inl here ↦
-      let p = and_parts (nat_le n.at pc) (nat_le pc n.at) here in
-      let same : n.at ≡ pc = both n.at pc p.0 p.1 in
-      let one : ones (n.at == pc) ≡ 1 = ap ones (eq-eqb n.at pc same) in
+      let one : ones (n.at == pc) ≡ 1 = ap ones here in
       let more = one_more pc n ns in
       omega (arith, more, one)
   | inr later ↦ let more = one_more pc n ns in let rest = some_stand pc ns later in omega (arith, more, rest)
 ]
-  where
-    both : (a b : ℕ) → nat_le a b ≡ true → nat_le b a ≡ true → a ≡ b
-    both a b x y = grind (arith, nat_tests)
 
 pub not_noted : (pc : ℕ) (ns : List JumpNote) → is_noted_jump ns pc ≡ false → stand_at pc ns ≡ 0
 not_noted pc [] e = refl
 not_noted pc (n ∷ ns) e =
-    let p = neither (nat_le n.at pc && nat_le pc n.at) (is_noted_jump ns pc) e in
-    let other : (n.at == pc) ≡ false = false_from_ne_true (n.at == pc) (λ is. apart n.at pc (eqb-true n.at pc is) p.0) in
-    let one : ones (n.at == pc) ≡ 0 = ap ones other in
+    let p = neither (n.at == pc) (is_noted_jump ns pc) e in
+    let one : ones (n.at == pc) ≡ 0 = ap ones p.0 in
     let more = one_more pc n ns in
     let rest = not_noted pc ns p.1 in
     omega (arith, more, one, rest)
-  where
-    apart : (a b : ℕ) → a ≡ b → (nat_le a b && nat_le b a) ≡ false → ⊥
-    apart a b e f = grind (arith, nat_tests)
 
 pub once_stands : (notes : List JumpNote) (pc : ℕ) → is_twice notes pc ≡ false → stand_at pc notes ≤ 1
 once_stands notes pc e = few (stand_at pc notes) e

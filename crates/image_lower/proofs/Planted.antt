@@ -15,12 +15,12 @@ use Rattle.scale_base.specs.Image.{Image, is_in}
 use Rattle.scale_base.specs.Word.{word_of}
 use Rattle.elf_patch.specs.Stored.{little}
 use Rattle.code_text.specs.Table.{word_addresses, all_addresses}
-use Rattle.code_text.specs.Text.{Text}
 use Rattle.graph_runs.specs.TextStates.{IsTextRange}
 use Rattle.jump_lists.specs.declared.notes.JumpNote.{JumpNote}
 use Rattle.jump_lists.specs.Notes.{IsJumpNote}
 use Rattle.image_lower.specs.FarJumps.{far_jump, far_patch}
-use Rattle.image_lower.specs.Trees.{has_bit, lacks_bit, are_alike, tree_jump, tree}
+use Rattle.stub_writer.specs.Stubs.{jump}
+use Rattle.image_lower.specs.Trees.{has_bit, lacks_bit, are_alike, tree}
 use Rattle.image_lower.specs.Block.{register, note_code, trees_code, tree_patches, is_in_reach, is_tree_near, tree_out_of_reach}
 use Rattle.image_lower.proofs.TreeLaws.{alike_more, forks_more, fork_len}
 use Rattle.image_lower.proofs.TreeFields.{tree_sound}
@@ -112,7 +112,7 @@ HasWord pc w p = p.at ≡ pc → p.word ≡ w
 pub patches_elsewhere : (image : Image) (pc at : ℕ) (ns : List JumpNote) → All (λ (n : JumpNote). n.at ≢ pc) ns → All (IsElsewhere pc) (tree_patches image at ns)
 patches_elsewhere image pc at [] h = All-nil (IsElsewhere pc)
 patches_elsewhere image pc at (n ∷ ns) h =
-    All-cons (IsElsewhere pc) (record { at = n.at; word = word_of (tree_jump n.at at) }) (tree_patches image (at + 4 * length (note_code image at n)) ns)
+    All-cons (IsElsewhere pc) (record { at = n.at; word = word_of (jump n.at at) }) (tree_patches image (at + 4 * length (note_code image at n)) ns)
     (All-head (λ (n : JumpNote). n.at ≢ pc) n ns h)
     (patches_elsewhere image pc (at + 4 * length (note_code image at n)) ns (All-tail (λ (n : JumpNote). n.at ≢ pc) n ns h))
 
@@ -125,7 +125,7 @@ pub record IsPlanted (image : Image) (pc at : ℕ) (ns : List JumpNote) : Type 0
   pub behind : List Instr
   pub code : trees_code image at ns ≡ ahead ++ (note_code image tree note ++ behind)
   pub place : tree ≡ at + 4 * length ahead
-  pub words : All (HasWord pc (word_of (tree_jump pc tree))) (tree_patches image at ns)
+  pub words : All (HasWord pc (word_of (jump pc tree))) (tree_patches image at ns)
   pub some : list_any (λ (p : Patch). p.at == pc) (tree_patches image at ns) ≡ true
   pub near : is_in_reach tree note (note_code image tree note) ≡ true
 
@@ -148,9 +148,9 @@ planted_first image pc at n ns same others near =
       behind = trees_code image next ns;
       code = refl;
       place = omega arith;
-      words = All-cons (HasWord pc (word_of (tree_jump pc at))) (record { at = n.at; word = word_of (tree_jump n.at at) }) (tree_patches image next ns)
-          (λ e. ap (λ a. word_of (tree_jump a at)) same)
-          (unmatched pc (word_of (tree_jump pc at)) (tree_patches image next ns) (patches_elsewhere image pc next ns others));
+      words = All-cons (HasWord pc (word_of (jump pc at))) (record { at = n.at; word = word_of (jump n.at at) }) (tree_patches image next ns)
+          (λ e. ap (λ a. word_of (jump a at)) same)
+          (unmatched pc (word_of (jump pc at)) (tree_patches image next ns) (patches_elsewhere image pc next ns others));
       some = or_left (n.at == pc) (list_any (λ (p : Patch). p.at == pc) (tree_patches image next ns)) (eq-eqb n.at pc same);
       near = near;
     }
@@ -170,7 +170,7 @@ planted_later image pc at n ns other p =
       behind = p.behind;
       code = ap (λ (c : List Instr). first ++ c) p.code ∙ sym (append_assoc first p.ahead (note_code image p.tree p.note ++ p.behind));
       place = omega (arith, place, length-append first p.ahead);
-      words = All-cons (HasWord pc (word_of (tree_jump pc p.tree))) (record { at = n.at; word = word_of (tree_jump n.at at) }) (tree_patches image next ns) (λ e. absurd (other e)) p.words;
+      words = All-cons (HasWord pc (word_of (jump pc p.tree))) (record { at = n.at; word = word_of (jump n.at at) }) (tree_patches image next ns) (λ e. absurd (other e)) p.words;
       some = or_right (n.at == pc) (list_any (λ (q : Patch). q.at == pc) (tree_patches image next ns)) p.some;
       near = p.near;
     }
@@ -192,17 +192,17 @@ planted image pc at (n ∷ ns) some once near =
 
 -- ---- the words of near jumps
 
-module _ (t : Text) (notes : List JumpNote) where
+module _ (image : Image) (notes : List JumpNote) where
   abbrev pub IsNearPatch : Patch → Type 0
-  IsNearPatch p = (i : Instr) × (far_jump t notes p.at ≡ Some i) × (p.word ≡ word_of i)
+  IsNearPatch p = (i : Instr) × (far_jump image notes p.at ≡ Some i) × (p.word ≡ word_of i)
 
-  near_cons : (x : ℕ) (o : Option Instr) (ps : List Patch) → far_jump t notes x ≡ o → All IsNearPatch ps → All IsNearPatch (cons_option (option_map (λ i. record { at = x; word = word_of i }) o) ps)
+  near_cons : (x : ℕ) (o : Option Instr) (ps : List Patch) → far_jump image notes x ≡ o → All IsNearPatch ps → All IsNearPatch (cons_option (option_map (λ i. record { at = x; word = word_of i }) o) ps)
   near_cons x None ps e h = h
   near_cons x (Some i) ps e h = All-cons IsNearPatch (record { at = x; word = word_of i }) ps (i, e, refl) h
 
-  pub near_all : (xs : List ℕ) → All IsNearPatch (filter_map (far_patch t notes) xs)
+  pub near_all : (xs : List ℕ) → All IsNearPatch (filter_map (far_patch image notes) xs)
   near_all [] = All-nil IsNearPatch
-  near_all (x ∷ xs) = near_cons x (far_jump t notes x) (filter_map (far_patch t notes) xs) refl (near_all xs)
+  near_all (x ∷ xs) = near_cons x (far_jump image notes x) (filter_map (far_patch image notes) xs) refl (near_all xs)
 
   abbrev at_pc : ℕ → List Patch → Bool
   at_pc pc ps = list_any (λ (p : Patch). p.at == pc) ps
@@ -215,11 +215,11 @@ module _ (t : Text) (notes : List JumpNote) where
   has_later pc None x ps h = h
   has_later pc (Some j) x ps h = or_right (x == pc) (at_pc pc ps) h
 
-  pub near_has : (pc : ℕ) (i : Instr) (xs : List ℕ) → far_jump t notes pc ≡ Some i → list_any (λ a. a == pc) xs ≡ true → at_pc pc (filter_map (far_patch t notes) xs) ≡ true
+  pub near_has : (pc : ℕ) (i : Instr) (xs : List ℕ) → far_jump image notes pc ≡ Some i → list_any (λ a. a == pc) xs ≡ true → at_pc pc (filter_map (far_patch image notes) xs) ≡ true
   near_has pc i [] far e = let never : ⊥ = cc in absurd never
   near_has pc i (x ∷ xs) far e = elim (or_cases (x == pc) (list_any (λ a. a == pc) xs) e) [
-    | inl here ↦ let same = eqb-true x pc here in has_first pc i (far_jump t notes x) x (filter_map (far_patch t notes) xs) (ap (far_jump t notes) same ∙ far) same
-    | inr later ↦ has_later pc (far_jump t notes x) x (filter_map (far_patch t notes) xs) (near_has pc i xs far later)
+    | inl here ↦ let same = eqb-true x pc here in has_first pc i (far_jump image notes x) x (filter_map (far_patch image notes) xs) (ap (far_jump image notes) same ∙ far) same
+    | inr later ↦ has_later pc (far_jump image notes x) x (filter_map (far_patch image notes) xs) (near_has pc i xs far later)
   ]
 
 -- ---- each word of the text is among the addresses

@@ -9,7 +9,8 @@ use Rattle.std.proofs.lemmas.Bool.Decides.{nat_tests}
 use Rattle.std.proofs.lemmas.Int.{ints}
 use Rattle.std.proofs.lemmas.List.Elements.{All-head, All-tail}
 use Rattle.scale_base.specs.Arith.{plus, unsigned, signed}
-use Rattle.image_lower.specs.Trees.{upper_part, lower_part, first_target, has_bit, lacks_bit, are_alike}
+use Rattle.stub_writer.specs.Fragments.{hi, lo}
+use Rattle.image_lower.specs.Trees.{first_target, has_bit, lacks_bit, are_alike}
 
 -- ---- numbers that agree from a bit on
 
@@ -188,9 +189,9 @@ sign_is_bit t b v z lt e zero_is =
 
 -- ---- the two parts of a number
 
-pub parts_join : (to : ℕ) → to < 2 ^ 32 → plus (upper_part to) (unsigned (lower_part to)) ≡ to
+pub parts_join : (to : ℕ) → to < 2 ^ 32 → plus (hi to) (unsigned (lo to)) ≡ to
 parts_join to small = by (nat_lt (to % 2 ^ 12) (2 ^ 11)) refl
   where
-    by : (c : Bool) → nat_lt (to % 2 ^ 12) (2 ^ 11) ≡ c → plus (upper_part to) (unsigned (if c then pos (to % 2 ^ 12) else negsuc (2 ^ 12 - 1 - to % 2 ^ 12))) ≡ to
+    by : (c : Bool) → nat_lt (to % 2 ^ 12) (2 ^ 11) ≡ c → plus (hi to) (unsigned (if c then pos (to % 2 ^ 12) else negsuc (2 ^ 12 - 1 - to % 2 ^ 12))) ≡ to
     by true e = let low : to % 2 ^ 12 < 2 ^ 11 = grind (arith, nat_tests) in omega (arith, ints)
     by false e = let high : 2 ^ 11 ≤ to % 2 ^ 12 = grind (arith, nat_tests) in omega (arith, ints)

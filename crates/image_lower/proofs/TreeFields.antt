@@ -12,7 +12,9 @@ use Rattle.scale_base.specs.declared.instruction.Instr.{Instr}
 use Rattle.scale_base.specs.declared.instruction.Instr.TheVariants as instr
 use Rattle.scale_base.specs.Word.{FieldsInRange, IsSignedField}
 use Rattle.rv_encode.specs.Jumps.{distance}
-use Rattle.image_lower.specs.Trees.{upper_part, lower_part, first_target, tree_jump, leaf, fork, tree, fits, are_alike, has_bit, lacks_bit}
+use Rattle.stub_writer.specs.Fragments.{hi, lo}
+use Rattle.stub_writer.specs.Stubs.{jump}
+use Rattle.image_lower.specs.Trees.{first_target, leaf, fork, tree, fits, are_alike, has_bit, lacks_bit}
 use Rattle.image_lower.proofs.Reach.{offset_fits}
 use Rattle.image_lower.proofs.TreeLaws.{parts, fork_len}
 
@@ -20,13 +22,13 @@ signed_fits : (n : ℕ) → n < 2 ^ 12 → (b : Bool) → nat_lt n (2 ^ 11) ≡ 
 signed_fits n small true e = let low : n < 2 ^ 11 = grind (arith, nat_tests) in omega (arith, low)
 signed_fits n small false e = let high : 2 ^ 11 ≤ n = grind (arith, nat_tests) in omega (arith, high, small)
 
-pub jump_fits : (from to : ℕ) → fits (tree_jump from to) ≡ true → FieldsInRange (tree_jump from to)
+pub jump_fits : (from to : ℕ) → fits (jump from to) ≡ true → FieldsInRange (jump from to)
 jump_fits from to h = let p = offset_fits (distance (from % 2 ^ 32) (to % 2 ^ 32)) h in (omega arith, p.0, p.1)
 
-lui_fields : (rs c : ℕ) → rs < 32 → FieldsInRange (instr.Lui rs (upper_part c))
+lui_fields : (rs c : ℕ) → rs < 32 → FieldsInRange (instr.Lui rs (hi c))
 lui_fields rs c small = (small, omega arith, omega arith)
 
-addi_fields : (rs c : ℕ) → rs < 32 → FieldsInRange (instr.Imm Addi rs rs (lower_part c))
+addi_fields : (rs c : ℕ) → rs < 32 → FieldsInRange (instr.Imm Addi rs rs (lo c))
 addi_fields rs c small = (small, small, signed_fits (c % 2 ^ 12) (omega arith) (nat_lt (c % 2 ^ 12) (2 ^ 11)) refl)
 
 slli_fields : (rs shift : ℕ) → rs < 32 → shift < 32 → FieldsInRange (instr.Imm Slli rs rs (pos shift))
@@ -37,10 +39,10 @@ blt_fields rs n small short = (small, omega arith, omega arith, omega (arith, sh
 
 leaf_fields : (rs at to : ℕ) → rs < 32 → list_all fits (leaf rs at to) ≡ true → All FieldsInRange (leaf rs at to)
 leaf_fields rs at to small h =
-    let p = and_parts (fits (tree_jump (at + 8) to)) true h in
-    let last : All FieldsInRange (tree_jump (at + 8) to ∷ []) = All-cons FieldsInRange (tree_jump (at + 8) to) [] (jump_fits (at + 8) to p.0) (All-nil FieldsInRange) in
-    All-cons FieldsInRange (instr.Lui rs (upper_part to)) (instr.Imm Addi rs rs (lower_part to) ∷ tree_jump (at + 8) to ∷ []) (lui_fields rs to small)
-    (All-cons FieldsInRange (instr.Imm Addi rs rs (lower_part to)) (tree_jump (at + 8) to ∷ []) (addi_fields rs to small) last)
+    let p = and_parts (fits (jump (at + 8) to)) true h in
+    let last : All FieldsInRange (jump (at + 8) to ∷ []) = All-cons FieldsInRange (jump (at + 8) to) [] (jump_fits (at + 8) to p.0) (All-nil FieldsInRange) in
+    All-cons FieldsInRange (instr.Lui rs (hi to)) (instr.Imm Addi rs rs (lo to) ∷ jump (at + 8) to ∷ []) (lui_fields rs to small)
+    (All-cons FieldsInRange (instr.Imm Addi rs rs (lo to)) (jump (at + 8) to ∷ []) (addi_fields rs to small) last)
 
 fork_fields : (rs shift : ℕ) (first second : List Instr) → rs < 32 → shift < 32 → length first ≤ 1000 → All FieldsInRange first → All FieldsInRange second → All FieldsInRange (fork rs shift first second)
 fork_fields rs shift first second small low short a b =

@@ -25,8 +25,11 @@ use Rattle.rv_encode.specs.Jumps.{distance}
 use Rattle.machine_laws.proofs.Laws.{step_performs}
 use Rattle.stub_runs.specs.Meaning.{StepsLead}
 use Rattle.stub_runs.proofs.Laws.{leads_none, leads_first}
-use Rattle.image_lower.specs.Trees.{upper_part, lower_part, has_bit, lacks_bit, are_alike, tree_jump, leaf, fork, tree, tree_depth}
-use Rattle.image_lower.specs.Meets.{lowered_cycles, tree_cycles}
+use Rattle.stub_runs.specs.Cycles.{stepped_cycles}
+use Rattle.stub_writer.specs.Fragments.{hi, lo}
+use Rattle.stub_writer.specs.Stubs.{jump}
+use Rattle.image_lower.specs.Trees.{has_bit, lacks_bit, are_alike, leaf, fork, tree, tree_depth}
+use Rattle.image_lower.specs.Meets.{tree_cycles}
 use Rattle.image_lower.specs.TreeRuns.{InstrStands, CodeStands, IsAtTree, FindsTarget}
 use Rattle.image_lower.proofs.TreeArith.{Agree, some_agree, alike_agree, agree_first, agree_all, any_kept, having_agree, lacking_agree, shifted_on, sign_is_bit, parts_join}
 use Rattle.image_lower.proofs.TreeLaws.{fork_len, alike_more, forks_more, depth_more, depth_forks}
@@ -73,24 +76,24 @@ reaches_to from to h g =
     ap (plus from) (of_z-to_z w32 ((to % 2 ^ 32 + (2 ^ 32 - from % 2 ^ 32)) % 2 ^ 32) (omega arith)) ∙ omega arith
 
 -- a jump to a multiple of 4
-pub jump_step : (env : Setting) (s : State) (from to : ℕ) → s.pc ≡ from → InstrStands env s.bytes s.pc (tree_jump from to) → to < 2 ^ 32 → to % 4 ≡ 0 → step env s ≡ goes (stepped env s (tree_jump from to) false None to) (record s { pc = to })
+pub jump_step : (env : Setting) (s : State) (from to : ℕ) → s.pc ≡ from → InstrStands env s.bytes s.pc (jump from to) → to < 2 ^ 32 → to % 4 ≡ 0 → step env s ≡ goes (stepped env s (jump from to) false None to) (record s { pc = to })
 jump_step env s from to here h small even =
     let low : s.pc < 2 ^ 32 = omega (arith, h.room) in
     let there : moved_by s.pc (distance (from % 2 ^ 32) (to % 2 ^ 32)) ≡ to = ap (λ n. moved_by s.pc (distance (n % 2 ^ 32) (to % 2 ^ 32))) (sym here) ∙ reaches_to s.pc to low small in
-    performed env s (tree_jump from to) h
-    ∙ (ap (λ target. jumps env s (tree_jump from to) 0 target) there
+    performed env s (jump from to) h
+    ∙ (ap (λ target. jumps env s (jump from to) 0 target) there
     ∙ cond-true (to % 4 == 0) _ _ (eq-eqb (to % 4) 0 even))
 
 -- ---- the tree of one target
 
-cycles_one : (costs : Class → ℕ) (x : Stepped) (xs : List Stepped) → lowered_cycles costs (x ∷ xs) ≡ costs x.class + lowered_cycles costs xs
+cycles_one : (costs : Class → ℕ) (x : Stepped) (xs : List Stepped) → stepped_cycles costs (x ∷ xs) ≡ costs x.class + stepped_cycles costs xs
 cycles_one costs x xs = sum_by-cons (λ y. costs y.class) x xs
 
 -- the steps from the state to the target, which the register then holds
 pub record Finds (env : Setting) (s : State) (rs target depth : ℕ) : Type 0 where
   pub steps : List Stepped
   pub leads : StepsLead env s steps (record s { pc = target; regs = slice_set s.regs rs target })
-  pub within : (costs : Class → ℕ) → lowered_cycles costs steps ≤ tree_cycles costs depth
+  pub within : (costs : Class → ℕ) → stepped_cycles costs steps ≤ tree_cycles costs depth
 
 -- what is asked of the state and of the target
 pub record IsFit (s : State) (rs target : ℕ) : Type 0 where
@@ -105,25 +108,25 @@ leaf_finds : (env : Setting) (s : State) (rs to : ℕ) → IsFit s rs to → Cod
 leaf_finds env s rs to fit h =
     let few = fit.few in
     let long = fit.regs in
-    let upper = upper_part to in
+    let upper = hi to in
     let s1 : State = record s { pc = s.pc + 4; regs = slice_set s.regs rs upper } in
     let s2 : State = record s { pc = s.pc + 8; regs = slice_set s.regs rs to } in
     let s3 : State = record s { pc = to; regs = slice_set s.regs rs to } in
     let there : s.pc + 4 + 4 ≡ s.pc + 8 = omega arith in
-    let last : InstrStands env s.bytes (s.pc + 8) (tree_jump (s.pc + 8) to) = subst (λ a. InstrStands env s.bytes a (tree_jump (s.pc + 8) to)) there h.1.1.0 in
+    let last : InstrStands env s.bytes (s.pc + 8) (jump (s.pc + 8) to) = subst (λ a. InstrStands env s.bytes a (jump (s.pc + 8) to)) there h.1.1.0 in
     let holds : reg (slice_set s.regs rs upper) rs ≡ upper = get_or-set_same s.regs rs upper 0 (omega (arith, few, long)) in
-    let sum : imm_result Addi (reg s1.regs rs) (lower_part to) ≡ to = ap (λ v. plus v (unsigned (lower_part to))) holds ∙ parts_join to fit.small in
+    let sum : imm_result Addi (reg s1.regs rs) (lo to) ≡ to = ap (λ v. plus v (unsigned (lo to))) holds ∙ parts_join to fit.small in
     let e1 = set_step env s (instr.Lui rs upper) rs upper upper (s.pc + 4) (slice_set s.regs rs upper) h.0 refl fit.some refl refl refl in
-    let e2 = set_step env s1 (instr.Imm Addi rs rs (lower_part to)) rs (imm_result Addi (reg s1.regs rs) (lower_part to)) to (s.pc + 8) (slice_set s.regs rs to) h.1.0 refl fit.some sum (sym there) (set-set s.regs rs upper to) in
+    let e2 = set_step env s1 (instr.Imm Addi rs rs (lo to)) rs (imm_result Addi (reg s1.regs rs) (lo to)) to (s.pc + 8) (slice_set s.regs rs to) h.1.0 refl fit.some sum (sym there) (set-set s.regs rs upper to) in
     let e3 = jump_step env s2 (s.pc + 8) to refl last fit.small fit.even in
     record {
       steps = _;
       leads = leads_first env s s1 s3 _ _ e1 (leads_first env s1 s2 s3 _ _ e2 (leads_first env s2 s3 s3 _ [] e3 (leads_none env s3)));
       within = λ costs. omega (
         arith,
-        cycles_one costs (stepped env s (instr.Lui rs upper) false None (plus s.pc 4)) (stepped env s1 (instr.Imm Addi rs rs (lower_part to)) false None (plus s1.pc 4) ∷ stepped env s2 (tree_jump (s.pc + 8) to) false None to ∷ []),
-        cycles_one costs (stepped env s1 (instr.Imm Addi rs rs (lower_part to)) false None (plus s1.pc 4)) (stepped env s2 (tree_jump (s.pc + 8) to) false None to ∷ []),
-        cycles_one costs (stepped env s2 (tree_jump (s.pc + 8) to) false None to) [],
+        cycles_one costs (stepped env s (instr.Lui rs upper) false None (plus s.pc 4)) (stepped env s1 (instr.Imm Addi rs rs (lo to)) false None (plus s1.pc 4) ∷ stepped env s2 (jump (s.pc + 8) to) false None to ∷ []),
+        cycles_one costs (stepped env s1 (instr.Imm Addi rs rs (lo to)) false None (plus s1.pc 4)) (stepped env s2 (jump (s.pc + 8) to) false None to ∷ []),
+        cycles_one costs (stepped env s2 (jump (s.pc + 8) to) false None to) [],
       );
     }
 
@@ -170,14 +173,14 @@ two_more env s s1 rs target value p d deep x y e1 e2 alu branch le f =
       within = λ costs. within costs;
     }
   where
-    within : (costs : Class → ℕ) → lowered_cycles costs (x ∷ y ∷ f.steps) ≤ tree_cycles costs deep
+    within : (costs : Class → ℕ) → stepped_cycles costs (x ∷ y ∷ f.steps) ≤ tree_cycles costs deep
     within costs =
         let first : costs x.class ≡ costs classes.Alu = ap costs alu in
         let a = cycles_one costs x (y ∷ f.steps) in
         let b = cycles_one costs y f.steps in
         let c = branch costs in
         let rest = f.within costs in
-        let most = deeper (costs classes.Alu) (max (costs classes.Taken) (costs classes.Untaken)) (2 * costs classes.Alu + costs classes.Jump) d (lowered_cycles costs f.steps) deep le (omega (arith, rest)) in
+        let most = deeper (costs classes.Alu) (max (costs classes.Taken) (costs classes.Untaken)) (2 * costs classes.Alu + costs classes.Jump) d (stepped_cycles costs f.steps) deep le (omega (arith, rest)) in
         omega (arith, first, a, b, c, most)
 
 fit_on : (s : State) (rs target value p : ℕ) → IsFit s rs target → IsFit (record s { pc = p; regs = slice_set s.regs rs value }) rs target

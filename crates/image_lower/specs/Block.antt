@@ -8,11 +8,11 @@ use Rattle.scale_base.specs.declared.ranges.Patch.{Patch}
 use Rattle.scale_base.specs.Reading.{instr_of}
 use Rattle.scale_base.specs.Word.{word_of}
 use Rattle.scale_base.specs.Image.{Image, is_word_address, text_word}
-use Rattle.code_text.specs.Text.{text_of}
 use Rattle.elf_patch.specs.Stored.{little}
+use Rattle.stub_writer.specs.Stubs.{jump}
 use Rattle.jump_lists.specs.declared.notes.JumpNote.{JumpNote}
 use Rattle.image_lower.specs.FarJumps.{far_jump}
-use Rattle.image_lower.specs.Trees.{whole_tree, tree_depth, tree_jump, fits}
+use Rattle.image_lower.specs.Trees.{whole_tree, tree_depth, fits}
 
 -- ---- which noted jumps may be lowered
 
@@ -31,7 +31,7 @@ is_twice notes at = nat_lt 1 (count_by (λ n. n.at == at) notes)
 -- It is noted twice, is no such word, is the second word of a far jump that is lowered, or has a target that is no word of the text.
 abbrev pub is_bad : Image → List JumpNote → JumpNote → Bool
 is_bad image notes note =
-    is_twice notes note.at || not (is_some (register_at image note.at)) || is_some (far_jump (text_of image) notes note.at)
+    is_twice notes note.at || not (is_some (register_at image note.at)) || is_some (far_jump image notes note.at)
     || not (list_all (is_word_address image) note.targets)
 
 -- the lesser of an address and another, if there is one
@@ -60,7 +60,7 @@ ascending_notes notes = fold insert_note [] notes
 
 -- the jump from a note to a tree at an address, and those of the tree, reach what they jump to
 abbrev pub is_in_reach : (at : ℕ) → JumpNote → List Instr → Bool
-is_in_reach at n code = fits (tree_jump n.at at) && list_all fits code
+is_in_reach at n code = fits (jump n.at at) && list_all fits code
 
 module _ (image : Image) where
   abbrev pub register : JumpNote → ℕ
@@ -78,7 +78,7 @@ module _ (image : Image) where
   -- each noted jump becomes a jump to its tree
   abbrev pub tree_patches : (at : ℕ) → List JumpNote → List Patch
   tree_patches at [] = []
-  tree_patches at (n ∷ ns) = record { at = n.at; word = word_of (tree_jump n.at at) } ∷ tree_patches (at + 4 * length (note_code at n)) ns
+  tree_patches at (n ∷ ns) = record { at = n.at; word = word_of (jump n.at at) } ∷ tree_patches (at + 4 * length (note_code at n)) ns
 
   -- the jump from a note to its tree, and those of the tree
   abbrev pub is_tree_near : (at : ℕ) → JumpNote → Bool

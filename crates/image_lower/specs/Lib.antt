@@ -5,3 +5,4 @@ pub mod Block
 pub mod Lowered
 pub mod Meets
 pub mod TreeRuns
+pub mod Promise

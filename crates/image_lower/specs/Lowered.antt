@@ -9,7 +9,6 @@ use Rattle.scale_base.specs.Image.{Image, image_of}
 use Rattle.table_keys.specs.Keys.{◌>>=◌}
 use Rattle.elf_patch.specs.Stored.{IsStubBase, patched}
 use Rattle.elf_patch.specs.Added.{added_file}
-use Rattle.code_text.specs.Text.{text_of}
 use Rattle.jump_lists.specs.declared.notes.JumpNote.{JumpNote}
 use Rattle.jump_lists.specs.Jumps.{read_jumps}
 use Rattle.image_lower.specs.declared.lowering.Lowered.{Lowered}
@@ -56,11 +55,11 @@ not_full file = if is_full file then Err (NoRoom 2) else Ok tt
 module _ (image : Image) where
   -- the words that are replaced, where the trees begin at a base
   abbrev pub all_patches : (base : ℕ) → List JumpNote → List Patch
-  all_patches base notes = far_patches (text_of image) notes ++ tree_patches image base (ascending_notes notes)
+  all_patches base notes = far_patches image notes ++ tree_patches image base (ascending_notes notes)
 
   -- the file made
   abbrev pub lowered_file : (base : ℕ) → List JumpNote → List ℕ
-  lowered_file base [] = patched image.file (far_patches (text_of image) [])
+  lowered_file base [] = patched image.file (far_patches image [])
   lowered_file base (n ∷ ns) = added_file image.file (all_patches base (n ∷ ns)) base (trees_bytes image base (n ∷ ns))
 
   -- where trees are added, they are in reach, and there is a number for their section
@@ -71,7 +70,7 @@ module _ (image : Image) where
   -- what was lowered
   abbrev pub summary : List JumpNote → Lowered
   summary notes = record {
-    pairs = length (far_patches (text_of image) notes);
+    pairs = length (far_patches image notes);
     jumps = length notes;
     block = block_len image notes;
     depth = greatest_depth notes;

@@ -1,21 +1,19 @@
 -- Runs that keep to the lists of a jump file, and what the run of the lowered image is then.
-use Rattle.std.specs.Prelude.{◌≡◌, ℕ, ◌+◌, ◌*◌, ◌^◌, ◌<◌, ◌≤◌, max, nat_le, nat_lt, ◌&&◌, Bool, false, ◌⊎◌, List, [], length, count_by, All, Option, Some, None, Ok, is_some, true}
-use Rattle.std.specs.List.{Contains, list_any, sum_by}
+use Rattle.std.specs.Prelude.{◌≡◌, ℕ, ◌+◌, ◌*◌, ◌^◌, ◌<◌, ◌≤◌, max, nat_le, nat_lt, ◌==◌, ◌&&◌, Bool, false, List, length, count_by, All, None, Ok, is_some, true}
+use Rattle.std.specs.List.{Contains, list_any}
 use Rattle.scale_base.specs.declared.stepping.Class.{Class}
 use Rattle.scale_base.specs.declared.stepping.Class.TheVariants.{Alu, Taken, Untaken, Jump}
 use Rattle.scale_base.specs.declared.stepping.Stepped.{Stepped}
-use Rattle.scale_base.specs.declared.ranges.Patch.{Patch}
-use Rattle.scale_base.specs.Elf.{e_phoff, e_phnum}
-use Rattle.scale_base.specs.Image.{Image, image_of, file_place}
+use Rattle.scale_base.specs.Image.{Image, image_of}
 use Rattle.scale_base.specs.Layout.{in_text, layout_of}
 use Rattle.scale_base.specs.State.{State, reg}
 use Rattle.scale_base.specs.Run.{Run, Standing, GoesOn, HasExited, HasTrapped, run_of}
-use Rattle.code_text.specs.Text.{text_of}
 use Rattle.elf_patch.specs.Stored.{IsStubBase}
+use Rattle.stub_runs.specs.Cycles.{stepped_cycles}
 use Rattle.jump_lists.specs.declared.notes.JumpNote.{JumpNote}
 use Rattle.jump_lists.specs.Notes.{AreJumpNotes}
 use Rattle.image_lower.specs.declared.lowering.Lowered.{Lowered}
-use Rattle.image_lower.specs.FarJumps.{far_jump, far_patches}
+use Rattle.image_lower.specs.FarJumps.{far_jump}
 use Rattle.image_lower.specs.Block.{register, block_len, greatest_depth}
 use Rattle.image_lower.specs.Lowered.{lowered_at, no_bad_jump}
 
@@ -31,7 +29,7 @@ module _ (image : Image) (notes : List JumpNote) (base : ℕ) where
   -- The first n steps of a run keep to the lists: each step to the second word of a far jump comes from its first, the register of each
   -- noted jump holds one of its targets, and no step goes into the block.
   pub record KeepsToLists (levels : ℕ) (input : List ℕ) (n : ℕ) : Type 0 where
-    pub pairs : All (λ x. is_some (far_jump (text_of image) notes x.next) ≡ true → x.pc + 4 ≡ x.next) (run_of image levels input n).steps
+    pub pairs : All (λ x. is_some (far_jump image notes x.next) ≡ true → x.pc + 4 ≡ x.next) (run_of image levels input n).steps
     pub targets : (m : ℕ) → m < n → (run_of image levels input m).standing ≡ GoesOn → All (HoldsTarget (run_of image levels input m).state) notes
     pub outside : All (λ x. in_block base (block_len image notes) x.next ≡ false) (run_of image levels input n).steps
 
@@ -48,7 +46,7 @@ pub record AreSameStates (image lowered : Image) (s t : State) : Type 0 where
 
 -- it stands at a noted jump
 abbrev pub is_noted_jump : List JumpNote → ℕ → Bool
-is_noted_jump notes v = list_any (λ n. nat_le n.at v && nat_le v n.at) notes
+is_noted_jump notes v = list_any (λ n. n.at == v) notes
 
 -- How the lowered run stands where the raw one has come so far. A trap says nothing where it is at a noted jump or in the block.
 abbrev pub IsSoFar : Image → Image → List JumpNote → ℕ → Run → Run → Standing → Type 0
@@ -56,10 +54,6 @@ IsSoFar image lowered notes base raw low GoesOn = (low.standing ≡ GoesOn) × A
 IsSoFar image lowered notes base raw low (HasExited status) = (low.standing ≡ HasExited status) × (low.state.output ≡ raw.state.output)
 IsSoFar image lowered notes base raw low (HasTrapped trap) =
     is_noted_jump notes raw.state.pc ≡ false → in_block base (block_len image notes) raw.state.pc ≡ false → (low.standing ≡ HasTrapped trap) × (low.state.output ≡ raw.state.output)
-
--- the cycles of steps by the costs of their classes
-abbrev pub lowered_cycles : (Class → ℕ) → List Stepped → ℕ
-lowered_cycles costs xs = sum_by (λ x. costs x.class) xs
 
 -- what a tree of a depth costs at most
 abbrev pub tree_cycles : (Class → ℕ) → ℕ → ℕ
@@ -72,19 +66,11 @@ jumps_taken notes xs = count_by (λ x. is_noted_jump notes x.pc) xs
 -- the lowered run, at a number of its steps
 pub record FollowsLowered (image lowered : Image) (notes : List JumpNote) (base : ℕ) (raw low : Run) : Type 0 where
   pub standing : IsSoFar image lowered notes base raw low raw.standing
-  pub cycles : (costs : Class → ℕ) → lowered_cycles costs low.steps ≤ lowered_cycles costs raw.steps + jumps_taken notes raw.steps * tree_cycles costs (greatest_depth notes)
+  pub cycles : (costs : Class → ℕ) → stepped_cycles costs low.steps ≤ stepped_cycles costs raw.steps + jumps_taken notes raw.steps * tree_cycles costs (greatest_depth notes)
 
 -- ---- the law
 
--- Where no tree is added, the program header table stays in its place, so a replaced word must not lie in it.
-abbrev pub place_off_table : List ℕ → Option ℕ → Type 0
-place_off_table file (Some place) = (nat_le (place + 4) (e_phoff file) ≡ true) ⊎ (nat_le (e_phoff file + 32 * e_phnum file) place ≡ true)
-place_off_table file None = Unit {0}
-
-abbrev pub AreOffTable : List ℕ → List Patch → Type 0
-AreOffTable file patches = All (λ p. place_off_table file (file_place file p.at)) patches
-
--- an image without a key, of a file that is taken, and the one that is stored of it with these notes
+-- an image without a keyed segment, and the one that is stored of it with these notes
 pub record IsLoweredTo (image : Image) (notes : List JumpNote) (base : ℕ) (lowered : Image) : Type 0 where
   pub read : image_of image.file ≡ Ok image
   pub short : length image.file ≤ 4194304
@@ -96,7 +82,6 @@ pub record IsLoweredTo (image : Image) (notes : List JumpNote) (base : ℕ) (low
   pub counts : Lowered
   pub made : lowered_at image base notes ≡ Ok ((lowered.file, counts))
   pub lowered_read : image_of lowered.file ≡ Ok lowered
-  pub off_table : notes ≡ [] → AreOffTable image.file (far_patches (text_of image) notes)
 
 -- The lowered image follows each run of the raw one that keeps to the lists, at some number of its own steps.
 abbrev pub LoweredRunsFollow : Type 0

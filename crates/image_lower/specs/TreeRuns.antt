@@ -6,12 +6,13 @@ use Rattle.scale_base.specs.declared.stepping.Class.{Class}
 use Rattle.scale_base.specs.declared.stepping.Stepped.{Stepped}
 use Rattle.scale_base.specs.Layout.{can_fetch}
 use Rattle.scale_base.specs.State.{Setting, State, reg, word_at}
-use Rattle.scale_base.specs.Run.{GoesOn, run}
 use Rattle.scale_base.specs.Word.{Encodes}
+use Rattle.stub_runs.specs.Cycles.{stepped_cycles}
+use Rattle.stub_runs.specs.Meaning.{StepsLead}
 use Rattle.image_lower.specs.Trees.{whole_tree, tree_depth}
-use Rattle.image_lower.specs.Meets.{lowered_cycles, tree_cycles}
+use Rattle.image_lower.specs.Meets.{tree_cycles}
 
--- the word of the instruction stands at the address, and may be fetched
+-- the word of the instruction stands at the address, and may be fetched; in a keyed segment or not
 pub record InstrStands (env : Setting) (bytes : ℕ → ℕ) (at : ℕ) (i : Instr) : Type 0 where
   pub fetched : can_fetch env.layout at ≡ true
   pub room : at + 4 < 2 ^ 32
@@ -36,8 +37,8 @@ pub record IsAtTree (env : Setting) (s : State) (rs target : ℕ) (targets : Lis
 -- the steps from the state to the target
 pub record FindsTarget (env : Setting) (s : State) (target depth : ℕ) : Type 0 where
   pub steps : List Stepped
-  pub leads : run env s (length steps) ≡ record { steps = steps; state = record s { pc = target }; standing = GoesOn }
-  pub within : (costs : Class → ℕ) → lowered_cycles costs steps ≤ tree_cycles costs depth
+  pub leads : StepsLead env s steps (record s { pc = target })
+  pub within : (costs : Class → ℕ) → stepped_cycles costs steps ≤ tree_cycles costs depth
 
 -- A tree leads to the target that its register holds, and costs no more than a tree of its depth.
 abbrev pub TreesFindTargets : Type 0

@@ -1,21 +1,13 @@
 -- The tree of comparisons of a noted jump: it finds the target that a register holds by its bits, from the highest on in which two of the
 -- targets differ, and jumps to it. The register is shifted left until the bit is its sign; at a target it gets its number again.
-use Rattle.std.specs.Prelude.{ℕ, ℤ, pos, zero, suc, ◌+◌, ◌-◌, ◌*◌, ◌/◌, ◌%◌, ◌^◌, ◌==◌, ◌||◌, not, max, Bool, true, List, [], ◌∷◌, ◌++◌, length, filter, if◌then◌else◌}
+use Rattle.std.specs.Prelude.{ℕ, pos, zero, suc, ◌+◌, ◌-◌, ◌*◌, ◌/◌, ◌%◌, ◌^◌, ◌==◌, ◌&&◌, ◌||◌, not, max, Bool, true, List, [], ◌∷◌, ◌++◌, length, filter, if◌then◌else◌}
 use Rattle.std.specs.List.{list_all}
 use Rattle.scale_base.specs.declared.instruction.BranchOp.TheVariants.{Blt}
 use Rattle.scale_base.specs.declared.instruction.ImmOp.TheVariants.{Addi, Slli}
 use Rattle.scale_base.specs.declared.instruction.Instr.{Instr}
 use Rattle.scale_base.specs.declared.instruction.Instr.TheVariants as instr
-use Rattle.scale_base.specs.Reading.{signed_of}
-use Rattle.rv_encode.specs.Jumps.{distance}
-use Rattle.image_lower.specs.FarJumps.{fits_jal}
-
--- the two parts of a number: a LUI, and an added number of twelve bits
-abbrev pub upper_part : ℕ → ℕ
-upper_part c = (c + 0x800) % 2 ^ 32 / 2 ^ 12 * 2 ^ 12
-
-abbrev pub lower_part : ℕ → ℤ
-lower_part c = signed_of 12 (c % 2 ^ 12)
+use Rattle.stub_writer.specs.Fragments.{hi, lo}
+use Rattle.stub_writer.specs.Stubs.{jump, is_even, is_field}
 
 abbrev pub has_bit : ℕ → ℕ → Bool
 has_bit b x = x / 2 ^ b % 2 == 1
@@ -31,13 +23,9 @@ abbrev pub first_target : List ℕ → ℕ
 first_target [] = 0
 first_target (x ∷ xs) = x
 
--- `jal x0` from an address to another
-abbrev pub tree_jump : ℕ → ℕ → Instr
-tree_jump from to = instr.Jal 0 (distance (from % 2 ^ 32) (to % 2 ^ 32))
-
 -- the tree of one target
 abbrev pub leaf : (rs at to : ℕ) → List Instr
-leaf rs at to = instr.Lui rs (upper_part to) ∷ instr.Imm Addi rs rs (lower_part to) ∷ tree_jump (at + 8) to ∷ []
+leaf rs at to = instr.Lui rs (hi to) ∷ instr.Imm Addi rs rs (lo to) ∷ jump (at + 8) to ∷ []
 
 -- a shift, and a branch over the first tree to the second one
 abbrev pub fork : (rs shift : ℕ) → List Instr → List Instr → List Instr
@@ -64,5 +52,5 @@ whole_tree rs at targets = tree rs 32 0 at targets
 
 -- a JAL reaches what it jumps to
 abbrev pub fits : Instr → Bool
-fits (instr.Jal rd offset) = fits_jal offset
+fits (instr.Jal rd offset) = is_even offset && is_field offset
 fits i = true

@@ -1,11 +1,11 @@
 //! The block of the trees.
 
-ghost use Rattle.std.specs.Prelude.{◌≡◌, [], ◌≤◌, ◌<◌, ◌+◌, ◌*◌, ◌%◌, ◌^◌, ◌++◌, map, IfOk, OnOk, IsTrue, ◌↔◌, Some, None, length, All, true};
+ghost use Rattle.std.specs.Prelude.{◌≡◌, [], ◌≤◌, ◌<◌, ◌+◌, ◌*◌, ◌%◌, ◌^◌, ◌++◌, ◌&&◌, map, IfOk, OnOk, IsTrue, ◌↔◌, Some, None, length, All, true};
 ghost use Rattle.std.specs.List.{list_all, flat_map};
 ghost use Rattle.scale_base.specs.Word.{FieldsInRange, IsEven, IsSignedField, word_of};
 ghost use Rattle.elf_patch.specs.Stored.{little};
+ghost use Rattle.stub_writer.specs.Stubs as stubs;
 ghost use Rattle.jump_lists.specs.Notes.{IsJumpNote};
-ghost use Rattle.image_lower.specs.FarJumps as far;
 ghost use Rattle.image_lower.specs.Trees as trees;
 ghost use Rattle.image_lower.specs.Block as block;
 
@@ -31,7 +31,7 @@ fn is_near(offset: i32) -> bool
 
 #[tactic(auto, using(crate::proofs::Reach::fits_as))]
 fn fits_jal(offset: i32) -> bool
-    ensures { result ≡ far.fits_jal offset }
+    ensures { result ≡ (stubs.is_even offset && stubs.is_field offset) }
 {
     let even = is_even(offset);
     let near = is_near(offset);
@@ -171,8 +171,8 @@ pub fn greatest_depth(alloc: Global, notes: &[JumpNote]) -> Result<u32, NoMemory
 /// The word of a jump that fits.
 #[tactic(auto, using(crate::proofs::TreeFields::jump_fits))]
 fn jump_word(from: u64, to: u64) -> u32
-    requires { trees.fits (trees.tree_jump from to) ≡ true }
-    ensures { result ≡ word_of (trees.tree_jump from to) }
+    requires { trees.fits (stubs.jump from to) ≡ true }
+    ensures { result ≡ word_of (stubs.jump from to) }
 {
     match encode(&jump(from, to)) {
         Some(word) => word,

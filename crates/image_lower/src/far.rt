@@ -1,18 +1,21 @@
 //! Far jumps: an AUIPC, and right behind it a JALR by the same register.
 
-ghost use Rattle.std.specs.Prelude.{◌≡◌, [], ◌≤◌, ◌<◌, ◌+◌, ◌-◌, ◌%◌, ◌++◌, ◌||◌, ◌==◌, ◌&&◌, nat_le, IfOk, IfSome, Ok, length, option_map, filter_map, true, OnOk};
+ghost use Rattle.std.specs.Prelude.{◌≡◌, [], ◌≤◌, ◌<◌, ◌+◌, ◌-◌, ◌%◌, ◌^◌, ◌++◌, ◌||◌, ◌==◌, ◌&&◌, nat_le, IfOk, IfSome, Ok, Some, length, option_map, filter_map, true, OnOk};
 ghost use Rattle.std.specs.List.{list_any, cons_option};
+ghost use Rattle.scale_base.specs.Elf as elf;
 ghost use Rattle.scale_base.specs.Image.{image_of, is_in, is_word_address};
 ghost use Rattle.scale_base.specs.Word.{FieldsInRange};
 ghost use Rattle.code_text.specs.Text as texts;
 ghost use Rattle.code_text.specs.Walk.{IsWalked, Rise};
 ghost use Rattle.code_text.specs.Table.{word_addresses, all_addresses};
 ghost use Rattle.rv_encode.specs.Jumps as jumps;
+ghost use Rattle.stub_writer.specs.Stubs as stubs;
 ghost use Rattle.image_lower.specs.FarJumps as far;
 ghost use Rattle.image_lower.specs.Entered.{AreWaysIn};
 
+use byteorder::{ByteOrder, LittleEndian};
 use code_text::{instr_at, moved, targets_of};
-use elf_view::ImageView;
+use elf_view::{ImageView, program_header_count};
 use jump_lists::JumpNote;
 use rv_encode::{encode, jal_fits};
 use scale_base::{Instr, NoMemory, Patch, Range};
@@ -28,7 +31,7 @@ pub fn distance(from: u32, to: u32) -> i32
 /// Whether a JAL reaches its target.
 #[tactic(auto, using(crate::proofs::Reach::reaches_as))]
 pub fn reaches(from: u32, to: u32) -> bool
-    ensures { result ≡ far.jal_reaches from to }
+    ensures { result ≡ stubs.reaches from to }
 {
     jal_fits(from, to)
 }
@@ -79,6 +82,37 @@ fn pair_jump(
     }
 }
 
+/// Where the program header table begins.
+#[tactic(auto, unfolding(scale_base::specs::Bytes::list_half_at, scale_base::specs::Bytes::list_word_at))]
+fn table_offset(file: &[u8]) -> usize
+    requires { 52 ≤ length file.now }
+    ensures value { result ≡ elf.e_phoff file.now }
+    ensures small { result < 2 ^ 32 }
+{
+    LittleEndian::read_u32(&file[28..]) as usize
+}
+
+/// Whether the four bytes from a place on share one with the program header table.
+fn touches_table(file: &[u8], place: usize) -> bool
+    requires header { 52 ≤ length file.now }
+    requires within { place + 4 ≤ length file.now }
+    ensures { result ≡ far.touches_table file.now (Some place) }
+{
+    let from = table_offset(file);
+    let entries = program_header_count(file);
+    entries > 0 && place < from + 32 * entries && from < place + 4
+}
+
+/// Whether the word at an address lies in the program header table.
+fn is_in_table(view: &ImageView<'_>, at: u32) -> bool
+    ensures { result ≡ far.is_in_table view.now.file at }
+{
+    match view.file_place(at) {
+        Some(place) => touches_table(view.file(), place),
+        None => false,
+    }
+}
+
 /// Whether the address is among others, which ascend.
 fn is_among(addresses: &[u32], at: u32) -> bool
     requires { Rise addresses.now }
@@ -101,13 +135,13 @@ pub fn far_jump(
     requires rising { Rise entered.now }
     requires follows { follows ≡ texts.follows (texts.text_of view.now) at }
     requires words { at % 4 ≡ 0 → follows ≡ true → (is_word_address view.now at ≡ true) × (is_word_address view.now (at - 4) ≡ true) × (4 ≤ at) }
-    ensures jump { result ≡ far.far_jump (texts.text_of view.now) notes.now at }
+    ensures jump { result ≡ far.far_jump view.now notes.now at }
     ensures fits { IfSome result FieldsInRange }
 {
     if !follows || at % 4 != 0 {
         return None;
     }
-    if is_among(entered, at) {
+    if is_among(entered, at) || is_in_table(view, at) {
         return None;
     }
     pair_jump(view, at, instr_at(view, at - 4), instr_at(view, at))
@@ -143,7 +177,7 @@ fn far_patch(
     requires inside { is_in at range ≡ true }
     requires entered { AreWaysIn (texts.text_of view.now) notes.now entered.now }
     requires rising { Rise entered.now }
-    ensures { result ≡ far.far_patch (texts.text_of view.now) notes.now at }
+    ensures { result ≡ far.far_patch view.now notes.now at }
 {
     let instr = far_jump(view, notes, entered, at, at - range.from >= 4)?;
     let word = encode(&instr)?;
@@ -170,7 +204,7 @@ fn add_far_patches(
     requires range { IsWalked view.now range }
     requires entered { AreWaysIn (texts.text_of view.now) notes.now entered.now }
     requires rising { Rise entered.now }
-    ensures { IfOk result (λ _. patches.new.items ≡ patches.old.items ++ filter_map (far.far_patch (texts.text_of view.now) notes.now) (word_addresses range)) }
+    ensures { IfOk result (λ _. patches.new.items ≡ patches.old.items ++ filter_map (far.far_patch view.now notes.now) (word_addresses range)) }
 {
     for k in 0..range.to.saturating_sub(range.from) / 4 {
         let patch = far_patch(view, notes, entered, range, range.from + 4 * k);
@@ -188,7 +222,8 @@ pub fn far_patches(
 ) -> Result<Vec<Patch>, NoMemory>
     requires entered { AreWaysIn (texts.text_of view.now) notes.now entered.now }
     requires rising { Rise entered.now }
-    ensures { IfOk result (λ patches. patches.items ≡ far.far_patches (texts.text_of view.now) notes.now) }
+    ensures patches { IfOk result (λ patches. patches.items ≡ far.far_patches view.now notes.now) }
+    ensures few { IfOk result (λ patches. length patches.items < 2 ^ 32) }
 {
     let text = view.text();
     let mut patches = Vec::new(alloc);

@@ -5,12 +5,14 @@
 mod block;
 mod code;
 mod far;
-mod laws;
 mod lowering;
+mod runs;
 mod trees;
 
-pub use laws::{lowered_runs_follow, trees_find_targets};
 pub use lowering::{Lowered, lower};
+pub use runs::{
+    lowered_answers_agree, lowered_images_are_safe, lowered_runs_follow, trees_find_targets,
+};
 
 #[cfg(test)]
 mod tests;

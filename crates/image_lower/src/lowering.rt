@@ -12,6 +12,7 @@ ghost use Rattle.image_lower.specs.Block as block;
 ghost use Rattle.code_text.specs.Text as texts;
 ghost use Rattle.image_lower.specs.FarJumps as far;
 ghost use Rattle.image_lower.specs.Lowered as lowered;
+ghost use Rattle.image_lower.specs.Promise.{IsLoweredSafely};
 
 use crate::block::{ascending, least_bad};
 use crate::code::{code_bytes, greatest_depth, out_of_reach, tree_patches, trees_code};
@@ -30,9 +31,6 @@ pub struct Lowered {
     pub block: u32,
     pub depth: u32,
 }
-
-// A text has at most 131,072 words, so there are never more.
-const MOST_PATCHES: usize = 0xFFFF_FFFF;
 
 /// The number of the refusal of a file that is no image.
 fn number_of(refusal: &Refusal) -> u32
@@ -77,7 +75,7 @@ fn lower_far(
     view: &ImageView<'_>,
     patches: &[Patch],
 ) -> Result<(Vec<u8>, Lowered), Stop>
-    requires patches { patches.now ≡ far.far_patches (texts.text_of view.now) [] }
+    requires patches { patches.now ≡ far.far_patches view.now [] }
     requires few { length patches.now < 2 ^ 32 }
     ensures { Answers (λ p. (p.0.items, p.1)) result (lowered.finished (lowered.lowered_file view.now 0 []) (lowered.summary view.now [])) }
 {
@@ -142,7 +140,7 @@ fn lower_at(
     requires some { 1 ≤ length notes.now }
     requires few_notes { length notes.now ≤ 1024 }
     requires few { length near.now < 2 ^ 32 }
-    requires near { near.now ≡ far.far_patches (texts.text_of view.now) notes.now }
+    requires near { near.now ≡ far.far_patches view.now notes.now }
     requires notes { All (λ n. IsJumpNote n.now) sorted.now }
     requires few_sorted { length sorted.now ≤ 1024 }
     requires sorted { map (λ n. n.now) sorted.now ≡ block.ascending_notes notes.now }
@@ -178,7 +176,7 @@ fn lower_all(
     requires some { 1 ≤ length notes.now }
     requires notes { AreJumpNotes notes.now }
     requires few { length near.now < 2 ^ 32 }
-    requires near { near.now ≡ far.far_patches (texts.text_of view.now) notes.now }
+    requires near { near.now ≡ far.far_patches view.now notes.now }
     ensures { AnswersBy (λ p. (p.0.items, p.1)) result (lowered.IsLoweredImage view.now notes.now) }
 {
     let sorted = ascending(alloc, notes)?;
@@ -204,9 +202,6 @@ fn lower_notes(
         return Err(Stop::Refused(Refusal::BadJump(at)));
     }
     let near = far_patches(alloc, view, notes, &entered)?;
-    if near.len() > MOST_PATCHES {
-        return Err(Stop::Memory);
-    }
     if notes.is_empty() {
         lower_far(alloc, view, &near)
     } else {
@@ -214,11 +209,9 @@ fn lower_notes(
     }
 }
 
-/// Lowers an image with the lists of a jump file: a JAL stands for each far jump that it reaches and that no other way leads into, and a
-/// tree of comparisons for each listed jump. The answer is the bytes of the file made, and what was lowered. The first thing that is
-/// wrong is refused, in the order of `specs/Lowered.antt`.
+/// The lowered image and what was lowered, or the first refusal.
 #[tactic(auto, unfolding(crate::specs::Lowered::IsLowered))]
-pub fn lower(alloc: Global, image: &[u8], jumps: &[u8]) -> Result<(Vec<u8>, Lowered), Stop>
+fn lower_files(alloc: Global, image: &[u8], jumps: &[u8]) -> Result<(Vec<u8>, Lowered), Stop>
     requires { length image.now ≤ 4194304 }
     ensures { AnswersBy (λ p. (p.0.items, p.1)) result (lowered.IsLowered image.now jumps.now) }
 {
@@ -228,4 +221,17 @@ pub fn lower(alloc: Global, image: &[u8], jumps: &[u8]) -> Result<(Vec<u8>, Lowe
         return Err(Stop::Refused(Refusal::AlreadyScaled));
     }
     lower_notes(alloc, &view, notes.as_slice())
+}
+
+/// Lowers an image with the lists of a jump file: a JAL stands for each far jump that it reaches, that no other way leads into and that lies
+/// outside the program header table, and a tree of comparisons for each listed jump. The answer is the bytes of the file made, and what
+/// was lowered. The first thing that is wrong is refused, in the order of `specs/Lowered.antt`.
+pub fn lower(alloc: Global, image: &[u8], jumps: &[u8]) -> Result<(Vec<u8>, Lowered), Stop>
+    requires { length image.now ≤ 4194304 }
+    ensures given { AnswersBy (λ p. (p.0.items, p.1)) result (lowered.IsLowered image.now jumps.now) }
+
+    // On each input on which the original run keeps to the lists, the stored image's run follows it.
+    ensures safe { IfOk result (λ p. IsLoweredSafely image.now jumps.now p.0.items p.1) }
+{
+    lower_files(alloc, image, jumps)
 }

@@ -3,7 +3,8 @@
 ghost use Rattle.std.specs.Prelude.{◌≡◌, ◌≤◌, ◌<◌, ◌+◌, ◌-◌, ◌*◌, ◌%◌, ◌^◌, ◌++◌, ◌==◌, max, length, filter, IfOk, OnOk, All, true};
 ghost use Rattle.std.specs.List.{list_all};
 ghost use Rattle.scale_base.specs.Word.{FieldsInRange};
-ghost use Rattle.image_lower.specs.FarJumps as far;
+ghost use Rattle.stub_writer.specs.Fragments as fragments;
+ghost use Rattle.stub_writer.specs.Stubs as stubs;
 ghost use Rattle.image_lower.specs.Trees as trees;
 
 use crate::far::distance;
@@ -19,7 +20,7 @@ pub fn address(place: u64) -> u32
 
 /// `jal x0` from an address to another.
 pub fn jump(from: u64, to: u64) -> Instr
-    ensures { result ≡ trees.tree_jump from to }
+    ensures { result ≡ stubs.jump from to }
 {
     Instr::Jal {
         rd: 0,
@@ -28,13 +29,13 @@ pub fn jump(from: u64, to: u64) -> Instr
 }
 
 fn upper_part(c: u32) -> u32
-    ensures { result ≡ trees.upper_part c }
+    ensures { result ≡ fragments.hi c }
 {
     c.wrapping_add(0x800) / 4096 * 4096
 }
 
 fn lower_part(c: u32) -> i32
-    ensures { result ≡ trees.lower_part c }
+    ensures { result ≡ fragments.lo c }
 {
     let low = (c % 4096) as i32;
     if low < 2048 { low } else { low - 4096 }
