@@ -2,8 +2,8 @@
 """Prints how long `scale lower` takes on large images and jump files, and how much memory, in the greatest of all runs so far.
 
 It makes files in a temporary folder and runs the program on each, three times:
-- listed: 64, 128 and 256 jumps through registers, each of which may lead to 128 places; and 1,024 of them, as many as there may be, whose
-  trees take more than the reach of a jump, which is refused;
+- listed: 50, 100 and 200 jumps through registers, each of which may lead to 128 places, whose trees nearly fill a text; and 1,024 of them, as
+  many as there may be, whose trees are out of reach, which is refused;
 - far: a far call in every two words, of 32,768, 65,536 and 131,072 words.
 
 The largest jump file should take at most 1 second; the times should double with the size. Run it from anywhere; it builds the program
@@ -55,7 +55,7 @@ def run(folder, name, made):
 def main():
     build()
     with tempfile.TemporaryDirectory() as folder:
-        for count in [64, 128, 256, 1024]:
+        for count in [50, 100, 200, 1024]:
             run(folder, "listed", listed(count))
         for size in SIZES:
             run(folder, "far", far(size))
