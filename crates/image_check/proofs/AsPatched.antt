@@ -29,6 +29,7 @@ use Rattle.stored_runs.proofs.Laws.{key_below}
 use Rattle.foreign_scan.specs.declared.fragment.ForeignFragment.{ForeignFragment}
 use Rattle.foreign_scan.specs.declared.fragment.ForeignFragment.TheVariants.{Switch, Exit, Reset, Count}
 use Rattle.foreign_scan.specs.Form.{IsStub, AreRowsIn}
+use Rattle.foreign_scan.specs.declared.layout.SegmentPlace.{SegmentPlace}
 use Rattle.foreign_scan.specs.Scanned as scanned
 use Rattle.foreign_scan.specs.Scanned.{Found, IsOn, IsOddByte, is_changed, IsChanged, CanBePatched, IsPatch, IsScanned}
 use Rattle.image_check.specs.Safe.{Owner, owner_bound, place_by, sites_of}
@@ -37,7 +38,7 @@ use Rattle.image_check.proofs.OnEdges.{changed_place, same_place}
 
 -- ---- parts of a layout by the places of segments
 
-abbrev part_from : scanned.SegmentPlace → Part
+abbrev part_from : SegmentPlace → Part
 part_from p = record { span = record { from = p.from; len = p.len }; readable = has p.flags PF_R; writable = has p.flags PF_W }
 
 parts_from : (xs : List LoadSegment) → map part_of xs ≡ map part_from (map scanned.segment_place xs)

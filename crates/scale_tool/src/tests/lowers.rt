@@ -172,28 +172,34 @@ fn images_are_not_lowered(rt: HostRuntime) -> Result<(), Fail> {
     Ok(())
 }
 
-// The first file that is missing or too long decides.
+// The first file that is too long decides.
 #[test]
 fn files_of_lower_have_limits(rt: HostRuntime) -> Result<(), Fail> {
     let alloc = rt.alloc();
+    let longest = vec![in alloc; 0; 4194304]?;
     let long = vec![in alloc; 0; 4194305]?;
-    let cases: [(&[u8], &[u8], &str); 4] = [
-        (&long, &long, "refused 50 too large: image\n"),
-        (
-            &long[1..],
-            &long[..1048577],
-            "refused 50 too large: jumps\n",
-        ),
-        (&long[1..], &long[..1048576], "refused 61 jump file text\n"),
-        (
-            &long[1..],
-            NO_JUMPS.as_bytes(),
-            "refused 1 not an ELF file\n",
-        ),
-    ];
-    for (image, jumps, text) in cases {
-        check_lower(&rt, alloc, image, jumps, 9, 1, None, text)?;
-    }
+    let text = "refused 50 too large: image\n";
+    check_lower(&rt, alloc, &long, &long, 9, 1, None, text)?;
+    let text = "refused 50 too large: jumps\n";
+    check_lower(&rt, alloc, &longest, &long, 9, 1, None, text)?;
+    let text = "refused 1 not an ELF file\n";
+    check_lower(&rt, alloc, &longest, NO_JUMPS.as_bytes(), 9, 1, None, text)
+}
+
+#[test]
+fn jump_files_have_a_limit(rt: HostRuntime) -> Result<(), Fail> {
+    let alloc = rt.alloc();
+    let longest = vec![in alloc; 0; 1048576]?;
+    let long = vec![in alloc; 0; 1048577]?;
+    let text = "refused 50 too large: jumps\n";
+    check_lower(&rt, alloc, &long, &long, 9, 1, None, text)?;
+    let text = "refused 61 jump file text\n";
+    check_lower(&rt, alloc, &long, &longest, 9, 1, None, text)
+}
+
+#[test]
+fn lower_needs_its_jump_file(rt: HostRuntime) -> Result<(), Fail> {
+    let alloc = rt.alloc();
     let mut host = MemHost::new(alloc, Vec::new(alloc));
     host.add_file("image", b"")?;
     let words = words_of(alloc, &LOWER_WORDS)?;
