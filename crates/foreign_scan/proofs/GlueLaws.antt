@@ -9,7 +9,7 @@ use Rattle.scale_base.specs.declared.edges.Edge.{Edge}
 use Rattle.scale_base.specs.Image.{Image}
 use Rattle.foreign_scan.specs.declared.fragment.Why.TheVariants as why
 use Rattle.foreign_scan.specs.declared.lists.GraphLists.{GraphLists}
-use Rattle.foreign_scan.specs.declared.scan.Scanned.TheVariants as scan
+use Rattle.foreign_scan.specs.declared.list_scan.Scanned.TheVariants as scan
 use Rattle.foreign_scan.specs.declared.site.Site.{Site}
 use Rattle.foreign_scan.specs.Counts.{numbered, AreLimits, AreSized}
 use Rattle.foreign_scan.specs.Lists.{AreListsOf}

@@ -21,3 +21,4 @@ pub mod GlueLaws
 pub mod PlaceLaws
 pub mod WhyLaws
 pub mod AgreeLaws
+pub mod TreeLists

@@ -4,8 +4,8 @@ use Rattle.scale_base.specs.declared.edges.Edge.{Edge}
 use Rattle.cost_theory.specs.Graph.{Loops}
 use Rattle.cost_theory.specs.Reached.{Code}
 use Rattle.scale_base.specs.Image.{Image}
-use Rattle.foreign_scan.specs.declared.scan.Scanned.{Scanned}
-use Rattle.foreign_scan.specs.declared.scan.Scanned.TheVariants.{Found as IsFound, Fails}
+use Rattle.foreign_scan.specs.declared.list_scan.Scanned.{Scanned}
+use Rattle.foreign_scan.specs.declared.list_scan.Scanned.TheVariants.{Found as IsFound, Fails}
 use Rattle.foreign_scan.specs.Scanned.{Found, is_changed, IsScanned, IsFirstWhy, IsLaidAlike, IsOddByte, IsChanged, IsPatch}
 use Rattle.foreign_scan.specs.Shown.{SitesView}
 

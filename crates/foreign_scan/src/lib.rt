@@ -4,29 +4,33 @@
 mod bytes;
 mod counts;
 mod fragment;
+mod graph_scan;
 mod key;
 mod laws;
 mod layout;
+mod list_scan;
 mod lists;
 mod parts;
 mod patches;
 mod reading;
 mod rows;
 mod run_out;
-mod scan;
 mod site;
 mod sites;
 mod stub;
 
 pub use fragment::{ForeignFragment, Why};
+pub use graph_scan::scan;
 pub use key::{KeyCode, read_key};
 pub use laws::scans_agree;
+pub use list_scan::{Scanned, scan_lists};
 pub use lists::GraphLists;
 pub use reading::read_fragment;
 pub use run_out::read_run_out;
-pub use scan::{Scanned, scan_lists};
 pub use sites::ForeignSites;
 pub use stub::{StubFragments, read_stub};
 
+#[cfg(test)]
+mod scan_tests;
 #[cfg(test)]
 mod tests;

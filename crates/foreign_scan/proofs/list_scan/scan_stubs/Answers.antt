@@ -4,7 +4,7 @@ use Rattle.std.proofs.lemmas.Option.{slice_get_within, slice_get-get_or}
 use Rattle.foreign_scan.specs.Counts.{AreSized, AreLimits, numbered}
 use Rattle.foreign_scan.specs.Rows.{SiteIsForeign, IsFirstUnsound}
 use Rattle.foreign_scan.proofs.GlueLaws.{are_sized, sites_foreign, scan_found, scan_fails}
-use Rattle.foreign_scan.proofs.scan.scan_stubs.Goals as goal
+use Rattle.foreign_scan.proofs.list_scan.scan_stubs.Goals as goal
 
 pub counter_limits-requires-clause-sizes : goal.counter_limits-requires-clause-sizes
 counter_limits-requires-clause-sizes c =

@@ -1,6 +1,6 @@
 use Rattle.std.proofs.Common.{sym, ◌∙◌, rules, ◌≡◌, true}
 use Rattle.foreign_scan.proofs.WhyLaws.{patch_why, patched_well}
-use Rattle.foreign_scan.proofs.scan.why_by_words.Goals as goal
+use Rattle.foreign_scan.proofs.list_scan.why_by_words.Goals as goal
 
 pub returns-in-Some-bad_patch-clause-why : goal.returns-in-Some-bad_patch-clause-why
 returns-in-Some-bad_patch-clause-why c =

@@ -1,6 +1,6 @@
 use Rattle.std.proofs.Common.{◌≡◌}
 use Rattle.foreign_scan.proofs.GlueLaws.{ok_then}
-use Rattle.foreign_scan.proofs.scan.scan_lists.Goals as goal
+use Rattle.foreign_scan.proofs.list_scan.scan_lists.Goals as goal
 
 pub returns-in-Some : goal.returns-in-Some
 returns-in-Some c = let h = rw c.in-Some.is at c.in_ok-why.ensures.why in λ code l all. h code l all.nodes
