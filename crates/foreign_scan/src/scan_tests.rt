@@ -283,6 +283,7 @@ fn the_level_of_the_key_and_the_words_of_tables_are_not_looked_at(
     let Scanned::Found(sites) = scan_of(alloc, &SKIPS, with_text(&skips()), &key, 56)? else {
         return Err(Fail::from("the stub is found"));
     };
+    assert_eq!(rt; sites.edge_count(), 14);
     assert_eq!(rt;
         sites.fragments(4),
         [ForeignFragment::Switch { word: 0 }].as_slice()
@@ -451,6 +452,7 @@ fn a_reset_in_place_of_an_exit(rt: HostRuntime) -> Result<(), Fail> {
     let Scanned::Found(sites) = scan_of(alloc, &LOOPS, with_text(&loops()), &key, 36)? else {
         return Err(Fail::from("the stub is found"));
     };
+    assert_eq!(rt; sites.edge_count(), 9);
     assert_eq!(rt;
         sites.fragments(6),
         [ForeignFragment::Reset { counter: 2 }].as_slice()
