@@ -94,6 +94,13 @@ impl CodeGraph {
         number_of(&self.nodes, at)
     }
 
+    /// The addresses of the nodes, ascending.
+    pub fn nodes(&self) -> &[u32]
+        ensures { result.now ≡ self.now.code.nodes }
+    {
+        &self.nodes
+    }
+
     /// The number of the node at which edge `e` starts.
     pub fn source(&self, e: usize) -> usize
         requires { e < length self.now.code.edges }
@@ -117,6 +124,13 @@ impl CodeGraph {
         ensures few { result ≤ 262144 }
     {
         self.edges.len()
+    }
+
+    /// The edges, ascending by address, at one address in the order of their kinds.
+    pub fn edges(&self) -> &[Edge]
+        ensures { result.now ≡ self.now.code.edges }
+    {
+        &self.edges
     }
 
     /// Edge `e`.

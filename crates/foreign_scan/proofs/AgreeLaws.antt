@@ -19,8 +19,8 @@ use Rattle.scale_base.specs.Arith.{moved_by}
 use Rattle.scale_base.specs.Image.{Image, is_word_address}
 use Rattle.foreign_scan.specs.declared.fragment.ForeignFragment.{ForeignFragment}
 use Rattle.foreign_scan.specs.declared.fragment.ForeignFragment.TheVariants.{Exit, Count}
-use Rattle.foreign_scan.specs.declared.fragment.Why.{Why}
-use Rattle.foreign_scan.specs.declared.fragment.Why.TheVariants as why
+use Rattle.scale_base.specs.declared.verdict.Why.{Why}
+use Rattle.scale_base.specs.declared.verdict.Why.TheVariants as why
 use Rattle.foreign_scan.specs.Agree.{ScanIsNotRefused, CausesAgree, FoundAgree}
 use Rattle.foreign_scan.specs.Form.{IsRunOut, IsFork, IsStub}
 use Rattle.foreign_scan.specs.Least.{is_patch_at}

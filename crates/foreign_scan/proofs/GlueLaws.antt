@@ -7,7 +7,7 @@ use Rattle.cost_theory.specs.Graph.{Loops}
 use Rattle.cost_theory.specs.Reached.{Code}
 use Rattle.scale_base.specs.declared.edges.Edge.{Edge}
 use Rattle.scale_base.specs.Image.{Image}
-use Rattle.foreign_scan.specs.declared.fragment.Why.TheVariants as why
+use Rattle.scale_base.specs.declared.verdict.Why.TheVariants as why
 use Rattle.foreign_scan.specs.declared.lists.GraphLists.{GraphLists}
 use Rattle.foreign_scan.specs.declared.list_scan.Scanned.TheVariants as scan
 use Rattle.foreign_scan.specs.declared.site.Site.{Site}

@@ -14,7 +14,7 @@ use Rattle.scale_base.specs.Arith.{moved_by}
 use Rattle.scale_base.specs.Image.{Image}
 use Rattle.foreign_scan.specs.declared.fragment.ForeignFragment.{ForeignFragment}
 use Rattle.foreign_scan.specs.declared.fragment.ForeignFragment.TheVariants.{Switch, Exit, Reset, Count}
-use Rattle.foreign_scan.specs.declared.fragment.Why.TheVariants as why
+use Rattle.scale_base.specs.declared.verdict.Why.TheVariants as why
 use Rattle.foreign_scan.specs.declared.site.Site.{Site}
 use Rattle.foreign_scan.specs.declared.site.Site.TheVariants.{Same, Broken, Kept}
 use Rattle.foreign_scan.specs.declared.sites.EdgePlace.{EdgePlace}

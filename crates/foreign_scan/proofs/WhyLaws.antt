@@ -4,7 +4,7 @@ use Rattle.std.specs.Prelude.{IfSome}
 use Rattle.cost_theory.specs.Graph.{Loops}
 use Rattle.cost_theory.specs.Reached.{Code}
 use Rattle.scale_base.specs.Image.{Image}
-use Rattle.foreign_scan.specs.declared.fragment.Why.TheVariants as why
+use Rattle.scale_base.specs.declared.verdict.Why.TheVariants as why
 use Rattle.foreign_scan.specs.Least.{IsLeastOf, IsInRanges, is_bad_word}
 use Rattle.foreign_scan.specs.Scanned.{IsLaidAlike, IsOddByte, IsBadPatch, IsLeastAddress, IsFirstWhy}
 use Rattle.foreign_scan.specs.Scans.{IsPatchedWell}

@@ -6,7 +6,7 @@ use Rattle.cost_theory.specs.Graph.{Loops}
 use Rattle.cost_theory.specs.Reached.{Code}
 use Rattle.code_text.specs.Text.{text_of}
 use Rattle.code_text.specs.TextGraph.{IsReachedCode}
-use Rattle.foreign_scan.specs.declared.fragment.Why.{Why}
+use Rattle.scale_base.specs.declared.verdict.Why.{Why}
 use Rattle.foreign_scan.specs.Scanned.{Found, IsScanned, IsFirstWhy}
 
 -- where none of the causes holds, none holds first,

@@ -16,8 +16,8 @@ use Rattle.code_text.specs.Text.{text_of, instr_at}
 use Rattle.code_text.specs.TextGraph.{text_graph}
 use Rattle.foreign_scan.specs.declared.fragment.ForeignFragment.{ForeignFragment}
 use Rattle.foreign_scan.specs.declared.fragment.ForeignFragment.TheVariants.{Exit, Count}
-use Rattle.foreign_scan.specs.declared.fragment.Why.{Why}
-use Rattle.foreign_scan.specs.declared.fragment.Why.TheVariants as why
+use Rattle.scale_base.specs.declared.verdict.Why.{Why}
+use Rattle.scale_base.specs.declared.verdict.Why.TheVariants as why
 pub use Rattle.foreign_scan.specs.declared.layout.SegmentPlace.{SegmentPlace}
 use Rattle.foreign_scan.specs.Form.{IsStub, AreRowsIn}
 

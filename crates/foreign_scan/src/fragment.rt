@@ -1,4 +1,4 @@
-//! Fragments of code that stand in an image of other make, and why such an image is not safe.
+//! Fragments of code that stand in an image of other make.
 
 /// A fragment that is found in a stub. A counter is the number of its word in the window; a table is told by the address of its row 0.
 #[derive(Clone, Copy, Debug, PartialEq, Eq)]
@@ -11,34 +11,4 @@ pub enum ForeignFragment {
     Reset { counter: u16 },
     /// The count is one more.
     Count { counter: u16 },
-}
-
-/// Why an image is not known to be safe.
-#[derive(Clone, Copy, Debug, PartialEq, Eq)]
-pub enum Why {
-    /// It is no image, by the number of the refusal.
-    Image(u8),
-    /// It has no keyed segment.
-    NoKey,
-    /// Its entry, its other segments or its text ranges are not the original's.
-    Layout,
-    /// The byte loaded at the address is not the original's.
-    Byte(u32),
-    /// The word at the address of the text isn't the original's, and isn't a jump to a multiple of 4 in the keyed segment in place of a
-    /// reached branch or jump that links no register.
-    Patch(u32),
-    /// The stub of the instruction at the address is not in its form.
-    Stub(u32),
-    /// The counter is used, and counts no loop: its count doesn't stand once on each back edge of a loop and nowhere else, or its exit or
-    /// reset not once on each edge that leaves the loop and nowhere else.
-    Counter(u16),
-    /// The worst cycles with the stubs are over 2^48.
-    TooLong,
-    /// The level of the keyed segment is none of the machine's: it, and how many levels there are.
-    Start(u32, u32),
-    /// The worst time at the level of the keyed segment, which is over the deadline, and the deadline, in time units.
-    TooSlow(u128, u64),
-    /// A table on an edge of the instruction at the address leads from the level to a higher one, or to a lower one that isn't in time or
-    /// doesn't pay.
-    Level(u32, u8),
 }

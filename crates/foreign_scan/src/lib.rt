@@ -19,12 +19,11 @@ mod site;
 mod sites;
 mod stub;
 
-pub use fragment::{ForeignFragment, Why};
+pub use fragment::ForeignFragment;
 pub use graph_scan::scan;
 pub use key::{KeyCode, read_key};
 pub use laws::scans_agree;
-pub use list_scan::{Scanned, scan_lists};
-pub use lists::GraphLists;
+pub use list_scan::Scanned;
 pub use reading::read_fragment;
 pub use run_out::read_run_out;
 pub use sites::ForeignSites;

@@ -10,7 +10,6 @@ ghost use Rattle.foreign_scan.specs.Scans.{IsScanOf, IsPatchedWell};
 
 use crate::bytes::odd_byte;
 use crate::counts::counter_limits;
-use crate::fragment::Why;
 use crate::key::read_key;
 use crate::layout::is_laid_alike;
 use crate::lists::GraphLists;
@@ -19,7 +18,7 @@ use crate::rows::first_unsound;
 use crate::site::read_sites;
 use crate::sites::{ForeignSites, show};
 use elf_view::ImageView;
-use scale_base::NoMemory;
+use scale_base::{NoMemory, Why};
 use std::alloc::Global;
 
 /// What a scan finds, or the first cause for which the image isn't known to be safe.
@@ -75,9 +74,7 @@ fn scan_stubs(
     }
 }
 
-/// Looks at an image beside the original, with the original's graph and loops. Gives the fragments that stand in its stubs, by the edges of the graph; or the
-/// first cause why it isn't known to be safe, of those that need no numbers: `NoKey`, `Layout`, `Byte`, `Patch` or `Stub`, the last three at the least address.
-/// Takes time that is linear in the sizes of both files, times the halving of nodes at patched words. Err only for want of memory.
+/// Looks at an image beside the original, with the lists of the original's graph and loops.
 pub fn scan_lists(
     alloc: Global,
     original: &ImageView<'_>,

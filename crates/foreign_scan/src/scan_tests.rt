@@ -6,7 +6,7 @@ use code_graph::build_graph;
 use elf_view::read_image;
 use loop_file::{LoopNote, LoopNotes, RangeList};
 use loop_tree::build_loops;
-use scale_base::{NoMemory, Range};
+use scale_base::{NoMemory, Range, Why};
 use std::alloc::Global;
 use std::test::*;
 

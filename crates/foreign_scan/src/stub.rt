@@ -2,7 +2,6 @@
 
 ghost use Rattle.std.specs.Prelude.{◌≡◌, ◌↔◌, ◌+◌, ◌<◌, ◌^◌, ℕ, ℤ, List, IfOk, IfSome, IfNone, Some};
 ghost use Rattle.scale_base.specs.declared.edges.EdgeKind.{EdgeKind};
-ghost use Rattle.scale_base.specs.Arith.{moved_by};
 ghost use Rattle.foreign_scan.specs.declared.fragment.ForeignFragment.{ForeignFragment};
 ghost use Rattle.foreign_scan.specs.Form.{HoldsAt, IsStub};
 ghost use Rattle.foreign_scan.specs.Stubs.{fragments_of, AreSameOn, IsOfInstr};
@@ -46,13 +45,6 @@ impl StubFragments {
             },
         }
     }
-}
-
-/// The address plus a signed number.
-pub fn moved(at: u32, offset: i32) -> u32
-    ensures { result ≡ moved_by at offset }
-{
-    at.wrapping_add(offset.cast_unsigned())
 }
 
 fn branch(op: BranchOp, rs1: u8, rs2: u8, offset: i32) -> Instr

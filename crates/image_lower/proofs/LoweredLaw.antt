@@ -35,7 +35,7 @@ use Rattle.stored_runs.proofs.Laws.{IsOff, hidden, word_by, patched_word}
 use Rattle.code_text.specs.Table.{all_addresses}
 use Rattle.jump_lists.specs.declared.notes.JumpNote.{JumpNote}
 use Rattle.jump_lists.specs.Notes.{IsJumpNote}
-use Rattle.image_lower.specs.declared.lowering.Lowered.{Lowered}
+use Rattle.scale_base.specs.declared.summary.Lowered.{Lowered}
 use Rattle.image_lower.specs.FarJumps.{far_jump, far_patches, far_target}
 use Rattle.stub_writer.specs.Stubs.{jump}
 use Rattle.image_lower.specs.Trees.{fits, tree_depth}

@@ -17,7 +17,7 @@ use Rattle.scale_base.specs.Answer.{Answers, AnswersBy}
 use Rattle.elf_patch.specs.Added.{added_file}
 use Rattle.table_keys.specs.Keys.{◌>>=◌}
 use Rattle.jump_lists.specs.declared.notes.JumpNote.{JumpNote}
-use Rattle.image_lower.specs.declared.lowering.Lowered.{Lowered}
+use Rattle.scale_base.specs.declared.summary.Lowered.{Lowered}
 use Rattle.image_lower.specs.FarJumps.{far_patches}
 use Rattle.image_lower.specs.Block.{ascending_notes, tree_out_of_reach, tree_patches, trees_code, block_len, greatest_depth, least_address, is_bad}
 use Rattle.image_lower.specs.Lowered.{refuse_at, is_full, not_full, lowered_file, summary, finished, lowered_at, IsLoweredImage, IsLowered, AfterPart, no_bad_jump, not_scaled}

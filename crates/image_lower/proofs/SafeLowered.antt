@@ -11,7 +11,7 @@ use Rattle.elf_patch.specs.Stored.{IsStubBase}
 use Rattle.jump_lists.specs.declared.notes.JumpNote.{JumpNote}
 use Rattle.jump_lists.specs.Notes.{AreJumpNotes}
 use Rattle.jump_lists.specs.Jumps.{read_jumps}
-use Rattle.image_lower.specs.declared.lowering.Lowered.{Lowered}
+use Rattle.scale_base.specs.declared.summary.Lowered.{Lowered}
 use Rattle.image_lower.specs.Block.{ascending_notes, block_len}
 use Rattle.image_lower.specs.Lowered.{AfterPart, IsLowered, lowered_at, no_bad_jump, not_scaled}
 use Rattle.image_lower.specs.Meets.{IsLoweredTo}

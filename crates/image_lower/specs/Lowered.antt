@@ -11,7 +11,7 @@ use Rattle.elf_patch.specs.Stored.{IsStubBase, patched}
 use Rattle.elf_patch.specs.Added.{added_file}
 use Rattle.jump_lists.specs.declared.notes.JumpNote.{JumpNote}
 use Rattle.jump_lists.specs.Jumps.{read_jumps}
-use Rattle.image_lower.specs.declared.lowering.Lowered.{Lowered}
+use Rattle.scale_base.specs.declared.summary.Lowered.{Lowered}
 use Rattle.image_lower.specs.FarJumps.{far_patches}
 use Rattle.image_lower.specs.Block.{is_bad, least_address, ascending_notes, tree_patches, tree_out_of_reach, trees_bytes, block_len, greatest_depth}
 

@@ -12,7 +12,7 @@ use Rattle.elf_patch.specs.Stored.{IsStubBase}
 use Rattle.stub_runs.specs.Cycles.{stepped_cycles}
 use Rattle.jump_lists.specs.declared.notes.JumpNote.{JumpNote}
 use Rattle.jump_lists.specs.Notes.{AreJumpNotes}
-use Rattle.image_lower.specs.declared.lowering.Lowered.{Lowered}
+use Rattle.scale_base.specs.declared.summary.Lowered.{Lowered}
 use Rattle.image_lower.specs.FarJumps.{far_jump}
 use Rattle.image_lower.specs.Block.{register, block_len, greatest_depth}
 use Rattle.image_lower.specs.Lowered.{lowered_at, no_bad_jump}

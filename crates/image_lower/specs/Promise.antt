@@ -6,7 +6,7 @@ use Rattle.scale_base.specs.Run.{run_of}
 use Rattle.elf_patch.specs.Stored.{IsStubBase}
 use Rattle.jump_lists.specs.declared.notes.JumpNote.{JumpNote}
 use Rattle.jump_lists.specs.Jumps.{read_jumps}
-use Rattle.image_lower.specs.declared.lowering.Lowered.{Lowered}
+use Rattle.scale_base.specs.declared.summary.Lowered.{Lowered}
 use Rattle.image_lower.specs.Block.{block_len}
 use Rattle.image_lower.specs.Lowered.{IsLowered, lowered_file, summary}
 use Rattle.image_lower.specs.Meets.{KeepsToLists, FollowsLowered}

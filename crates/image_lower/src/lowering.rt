@@ -20,17 +20,8 @@ use crate::far::{entered_by, far_patches};
 use elf_patch::{has_sections, section_count, stub_base, write_added, write_patched};
 use elf_view::{ImageView, read_image};
 use jump_lists::{JumpNote, read_jumps};
-use scale_base::{NoMemory, Patch, Refusal, Stop};
+use scale_base::{Lowered, NoMemory, Patch, Refusal, Stop};
 use std::alloc::Global;
-
-/// What was lowered: how many far jumps and how many noted jumps, the bytes of the block, and the greatest depth of a tree.
-#[derive(Clone, Copy, Debug, PartialEq, Eq)]
-pub struct Lowered {
-    pub pairs: u32,
-    pub jumps: u32,
-    pub block: u32,
-    pub depth: u32,
-}
 
 /// The number of the refusal of a file that is no image.
 fn number_of(refusal: &Refusal) -> u32

@@ -1,7 +1,7 @@
 //! Laws of lowered images, over the definitions alone.
 
 ghost use Rattle.std.specs.Prelude.{◌≡◌, ◌≤◌, ◌<◌, ◌^◌, ℕ, List, length, All, Ok};
-ghost use Rattle.image_lower.specs.declared.lowering.Lowered.{Lowered};
+ghost use Rattle.scale_base.specs.declared.summary.Lowered.{Lowered};
 ghost use Rattle.image_lower.specs.Lowered.{IsLowered};
 ghost use Rattle.image_lower.specs.Meets.{LoweredRunsFollow};
 ghost use Rattle.image_lower.specs.Promise.{IsLoweredSafely, LoweredAnswersAgree};

@@ -1,6 +1,6 @@
 //! The monitor of a run.
 
-ghost use Rattle.std.specs.Prelude.{◌≡◌, ◌≤◌, ℕ, List, [], reverse, IfOk, IfSome, Some, true, false, length, slice_index_or, vec_len, vec_capacity};
+ghost use Rattle.std.specs.Prelude.{◌≡◌, ◌≤◌, ◌<◌, ℕ, List, [], reverse, IfOk, IfSome, Some, true, false, length, slice_get, slice_index_or, vec_len, vec_capacity};
 ghost use Rattle.scale_base.specs.declared.stepping.Move.TheVariants.{Local};
 ghost use Rattle.scale_base.specs.declared.endings.Kept.TheVariants as kinds;
 ghost use Rattle.graph_runs.specs.ReturnAddresses.{returns_after};
@@ -200,6 +200,14 @@ impl Monitor {
         let step = *step;
         self.take_step(&step);
         self.kept
+    }
+
+    /// How many back edges of loop `l` the run has taken since the loop was last entered. A step that breaks what is noted changes no count.
+    pub fn count(&self, l: usize) -> u32
+        requires { l < length self.now.notes }
+        ensures { slice_get self.now.counts l ≡ Some result }
+    {
+        self.counts[l]
     }
 
     // Watches any step.

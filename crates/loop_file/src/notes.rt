@@ -1,9 +1,9 @@
 //! The notes of a program's loops.
 
-ghost use Rattle.std.specs.Prelude.{◌≡◌, ◌<◌, ◌++◌, ◌∷◌, [], length, slice_get, Some, OnOk, OnErr};
-ghost use Rattle.loop_file.specs.Notes.{IsLoopNote, AreLoopNotes};
+ghost use Rattle.std.specs.Prelude.{◌≡◌, ◌<◌, ◌++◌, ◌∷◌, [], length, map, slice_get, Some, IfOk, OnOk, OnErr};
+ghost use Rattle.loop_file.specs.Notes.{IsLoopNote, AreLoopNotes, relaxed_note, uncounted_note};
 
-use scale_base::Range;
+use scale_base::{NoMemory, Range};
 use std::alloc::{AllocError, Global};
 use std::marker::Model;
 
@@ -37,6 +37,15 @@ impl RangeList {
         self.items.len()
     }
 
+    // The same ranges once more.
+    fn copied(&self, alloc: Global) -> Result<RangeList, NoMemory>
+        ensures { IfOk result (λ ranges. ranges ≡ self.now) }
+    {
+        Ok(RangeList {
+            items: self.items.to_vec(alloc)?,
+        })
+    }
+
     /// Range `k`.
     pub fn get(&self, k: usize) -> &Range
         requires { k < length self.now }
@@ -56,6 +65,26 @@ pub struct LoopNote {
     pub bound: u32,
     pub counted: bool,
     pub at_least: u32,
+}
+
+/// The greatest bound of a loop.
+const GREATEST_BOUND: u32 = 1_000_000_000;
+
+impl LoopNote {
+    // The note with the greatest bound, of a loop that need not turn before it is left.
+    fn relaxed(&self, alloc: Global) -> Result<LoopNote, NoMemory>
+        requires { IsLoopNote self.now }
+        ensures relaxed { IfOk result (λ note. note ≡ relaxed_note self.now) }
+        ensures note { IfOk result IsLoopNote }
+    {
+        Ok(LoopNote {
+            header: self.header,
+            ranges: self.ranges.copied(alloc)?,
+            bound: GREATEST_BOUND,
+            counted: self.counted,
+            at_least: 0,
+        })
+    }
 }
 
 /// The notes of the loops of a file, in its order: at most 4,096, each with 1 to 16 ranges and a bound of at most
@@ -113,5 +142,29 @@ impl LoopNotes {
         ensures in_range { IsLoopNote result.now }
     {
         &self.items[k]
+    }
+    /// The same notes, with each bound 1,000,000,000 and each `at_least` 0: those that a run keeps as long as no loop takes more back
+    /// edges than any file allows.
+    #[tactic(auto, using(crate::proofs::Changed::relaxed_notes))]
+    pub fn relaxed(&self, alloc: Global) -> Result<LoopNotes, NoMemory>
+        ensures { IfOk result (λ notes. notes ≡ map relaxed_note self.now) }
+    {
+        let mut items = Vec::new(alloc);
+        for note in &self.items {
+            items.push(note.relaxed(alloc)?)?;
+        }
+        Ok(LoopNotes { items })
+    }
+
+    /// The same notes, with no loop counted.
+    #[tactic(auto, using(crate::proofs::Changed::uncounted_notes))]
+    pub fn uncounted(self) -> LoopNotes
+        ensures { result ≡ map uncounted_note self }
+    {
+        let mut items = self.items;
+        for note in items.iter_mut() {
+            note.counted = false;
+        }
+        LoopNotes { items }
     }
 }

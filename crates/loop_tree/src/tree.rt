@@ -63,6 +63,13 @@ impl LoopTree {
         self.bounds[l]
     }
 
+    /// By loop, how many back edges one entry of it may take.
+    pub fn bounds(&self) -> &[u32]
+        ensures { result.now ≡ self.now.bounds }
+    {
+        &self.bounds
+    }
+
     /// Whether the back edges of loop `l` are counted, as its note says.
     pub fn counted(&self, l: usize) -> bool
         requires { l < length self.now.headers }

@@ -8,3 +8,4 @@ pub mod Switches
 pub mod PairLaws
 pub mod Inside
 pub mod MeterInside
+pub mod Survey

@@ -4,6 +4,7 @@
 mod meter;
 mod power;
 mod report;
+mod survey;
 
 ghost use Rattle.std.specs.Prelude.{◌≡◌, ℕ, List, [], ◌∷◌, ◌++◌, None, length, sum_by, All};
 ghost use Rattle.scale_base.specs.declared.stepping.Stepped.{Stepped};
@@ -14,6 +15,7 @@ ghost use Rattle.power_model.specs.Price.{price, metered, step_cycles, keyed_cyc
 pub use meter::Meter;
 pub use power::{Costs, Level, Levels, PairTable, Power, slowest};
 pub use report::RunReport;
+pub use survey::{SurveyLine, SurveyReport, Totals};
 
 /// A run with one more step has the price of the run and one step of the meter, so a meter to which the steps of a run were added
 /// holds the price of the run. A run that never stores at the port takes the time and the energy of its cycles at the starting level.

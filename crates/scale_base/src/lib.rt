@@ -17,6 +17,7 @@ mod ranges;
 mod refusal;
 mod stepping;
 mod summary;
+mod verdict;
 
 pub use edges::{Edge, EdgeKind};
 pub use endings::{End, Kept};
@@ -28,7 +29,8 @@ pub use plan::{ScalePlan, SiteLine};
 pub use ranges::{Keyed, Patch, Range, Span, TextPart};
 pub use refusal::{Field, NoMemory, Refusal, Stop};
 pub use stepping::{Class, Move, StepEnd, Stepped, Trap, TrapKind};
-pub use summary::Summary;
+pub use summary::{Lowered, Summary, Tuned};
+pub use verdict::{Checked, Verdict, Why};
 
 /// A word stands for at most one instruction, an instruction has at most one word, and reading a word by its
 /// fields gives what it stands for.

@@ -22,3 +22,29 @@ pub struct Summary {
     /// Bytes of the stub block.
     pub stub_bytes: u32,
 }
+
+/// What was lowered: how many far jumps and how many noted jumps, the bytes of the block, and the greatest depth of a tree.
+#[derive(Clone, Copy, Debug, PartialEq, Eq)]
+pub struct Lowered {
+    pub pairs: u32,
+    pub jumps: u32,
+    pub block: u32,
+    pub depth: u32,
+}
+
+/// The choice of a tuning, in numbers.
+#[derive(Clone, Copy, Debug, PartialEq, Eq)]
+pub struct Tuned {
+    /// The number of the chosen candidate: 0 is the image that runs at one level.
+    pub candidate: u32,
+    /// The summary of the chosen candidate.
+    pub summary: Summary,
+    /// The inputs that count.
+    pub inputs: u32,
+    /// The given inputs that don't count.
+    pub left_out: u32,
+    /// The energy of the choice over the inputs that count, in energy units.
+    pub energy: u128,
+    /// The energy of the image that runs at one level over the same inputs.
+    pub hold_energy: u128,
+}

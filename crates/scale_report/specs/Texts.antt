@@ -3,6 +3,7 @@
 use Rattle.std.specs.Prelude.{codes, ℕ, zero, suc, ◌+◌, ◌/◌, ◌%◌, nat_lt, if◌then◌else◌, List, [], ◌∷◌, ◌++◌, length, flat_map, Option, Some, None}
 use Rattle.std.specs.Fmt.{decimal}
 use Rattle.scale_base.specs.declared.summary.Summary.{Summary}
+use Rattle.scale_base.specs.declared.summary.Lowered.{Lowered}
 use Rattle.scale_base.specs.declared.edges.EdgeKind.{EdgeKind}
 use Rattle.scale_base.specs.declared.edges.EdgeKind.TheVariants as edge
 use Rattle.scale_base.specs.declared.fragments.Fragment.{Fragment}
@@ -42,12 +43,12 @@ summary_text s =
     ++ number_line (codes "stub bytes ") s.stub_bytes
 
 -- what was lowered: how many far jumps and how many listed ones, the bytes of the block of trees, and the greatest depth of a tree
-abbrev pub lowered_text : (pairs jumps block depth : ℕ) → List ℕ
-lowered_text pairs jumps block depth =
-    number_line (codes "pairs ") pairs
-    ++ number_line (codes "jumps ") jumps
-    ++ number_line (codes "block bytes ") block
-    ++ number_line (codes "depth ") depth
+abbrev pub lowered_text : Lowered → List ℕ
+lowered_text l =
+    number_line (codes "pairs ") l.pairs
+    ++ number_line (codes "jumps ") l.jumps
+    ++ number_line (codes "block bytes ") l.block
+    ++ number_line (codes "depth ") l.depth
 
 -- the hexadecimal digit of a number below 16
 abbrev pub hex_digit : ℕ → ℕ

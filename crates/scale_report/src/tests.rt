@@ -31,7 +31,13 @@ fn prints_a_summary(rt: HostRuntime) -> Result<(), Fail> {
 
 #[test]
 fn prints_what_was_lowered(rt: HostRuntime) -> Result<(), Fail> {
-    let text = lowered_text(rt.alloc(), 3, 1, 32, 2).ok().ok_or("memory")?;
+    let lowered = Lowered {
+        pairs: 3,
+        jumps: 1,
+        block: 32,
+        depth: 2,
+    };
+    let text = lowered_text(rt.alloc(), &lowered).ok().ok_or("memory")?;
     assert_eq!(rt;
         text.as_str(),
         "pairs 3\njumps 1\nblock bytes 32\ndepth 2\n"

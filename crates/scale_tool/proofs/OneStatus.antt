@@ -9,14 +9,14 @@ use Rattle.scaler.specs.Held.{IsHeld}
 use Rattle.scaler.specs.Planned.{IsPlanned}
 use Rattle.scaler.specs.Rewritten.{IsRewritten}
 use Rattle.scaler.proofs.Laws.{held_answers, rewritten_answers}
-use Rattle.image_lower.specs.declared.lowering.Lowered.{Lowered}
+use Rattle.scale_base.specs.declared.summary.Lowered.{Lowered}
 use Rattle.image_lower.specs.Lowered.{IsLowered}
 use Rattle.image_lower.proofs.Laws.{lowered_answers}
-use Rattle.scale_report.specs.Texts.{summary_text}
+use Rattle.scale_report.specs.Texts.{lowered_text, summary_text}
 use Rattle.image_maker.specs.Making.{program}
 use Rattle.image_maker.proofs.Laws.{one_image}
 use Rattle.host_files.specs.HostState.{Files, HostState}
-use Rattle.scale_tool.specs.Answer.{Answer, AnswersTo, Giving, HasAnswer, IsAnswerOf, AreMade, MadeFiles, Makes, MakesMade, MakesReport, MakesStored, counts_text, made_answer, plan_answer, stored_answer}
+use Rattle.scale_tool.specs.Answer.{Answer, AnswersTo, Giving, HasAnswer, IsAnswerOf, AreMade, MadeFiles, Makes, MakesMade, MakesReport, MakesStored, made_answer, plan_answer, stored_answer}
 use Rattle.scale_tool.specs.Command.{Command, Help, Hold, Rewrite, Report, Simulate, Make, Lower, wants_of}
 use Rattle.scale_tool.specs.Loading.{Loading, Missing, Long, Whole, loading_of}
 use Rattle.scale_tool.specs.Tool.{IsAnswered, IsDelivered, IsStatusOfAll}
@@ -94,7 +94,7 @@ one_made_of_files (Simulate image machine input out None) (i ∷ m ∷ n ∷ [])
 one_made_of_files (Simulate image machine input out (Some loops)) (i ∷ m ∷ n ∷ l ∷ []) one other x y = ap (λ (a : Answer). a.status) (x ∙ sym y)
 one_made_of_files (Make number size prefix) [] one other x y = one_made number size prefix one other x y
 one_made_of_files (Lower image jumps out) (i ∷ j ∷ []) one other x y =
-    one_stored (IsLowered i j) counts_text out (λ a b g h. ap (λ (r : Result (List ℕ × Lowered) Refusal). (stored_answer counts_text out r).status) (lowered_answers i j a b g h)) one other x y
+    one_stored (IsLowered i j) lowered_text out (λ a b g h. ap (λ (r : Result (List ℕ × Lowered) Refusal). (stored_answer lowered_text out r).status) (lowered_answers i j a b g h)) one other x y
 one_made_of_files command files one other x y = absurd x
 
 one_of_loading : (command : Command) (loading : Loading) (one other : Answer) → AnswersTo command loading one → AnswersTo command loading other → one.status ≡ other.status

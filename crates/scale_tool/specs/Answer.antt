@@ -12,7 +12,6 @@ use Rattle.scaler.specs.Held.{IsHeld}
 use Rattle.scaler.specs.Planned.{IsPlanned}
 use Rattle.scaler.specs.Rewritten.{IsRewritten}
 use Rattle.speed_sim.specs.Simulated.{simulated}
-use Rattle.image_lower.specs.declared.lowering.Lowered.{Lowered}
 use Rattle.image_lower.specs.Lowered.{IsLowered}
 use Rattle.image_maker.specs.Made.{IsImageOf}
 use Rattle.image_maker.specs.MadeTexts.{machine_text, loops_text, drawn_bytes}
@@ -63,10 +62,6 @@ pub record MakesStored {A : Type 0} (Gives : Giving A) (text_of : A → List ℕ
   pub given : Result (List ℕ × A) Refusal
   pub is_given : Gives given
   pub told : answer ≡ stored_answer text_of out given
-
--- what is told of a lowered image
-abbrev pub counts_text : Lowered → List ℕ
-counts_text counts = lowered_text counts.pairs counts.jumps counts.block counts.depth
 
 -- the plan, or the refusal
 abbrev pub plan_answer : Result (Summary × List SiteLine) Refusal → Answer
@@ -144,7 +139,7 @@ Makes (Report image machine loops) (i ∷ m ∷ l ∷ []) answer = MakesReport i
 Makes (Simulate image machine input out None) (i ∷ m ∷ n ∷ []) answer = MakesRun i m n None out answer
 Makes (Simulate image machine input out (Some loops)) (i ∷ m ∷ n ∷ l ∷ []) answer = MakesRun i m n (Some l) out answer
 Makes (Make number size prefix) [] answer = MakesMade number size prefix answer
-Makes (Lower image jumps out) (i ∷ j ∷ []) answer = MakesStored (IsLowered i j) counts_text out answer
+Makes (Lower image jumps out) (i ∷ j ∷ []) answer = MakesStored (IsLowered i j) lowered_text out answer
 Makes command files answer = ⊥
 
 -- and of how they were loaded: nothing where a file is missing

@@ -5,18 +5,17 @@ ghost use Rattle.std.specs.List.{AllZip};
 ghost use Rattle.std.specs.Result.{ForOk};
 ghost use Rattle.power_model.specs.Report.{report_view};
 ghost use Rattle.image_lower.specs.Lowered.{IsLowered};
-ghost use Rattle.scale_report.specs.Texts.{HasSiteLine, summary_text};
+ghost use Rattle.scale_report.specs.Texts.{HasSiteLine, lowered_text, summary_text};
 ghost use Rattle.scaler.specs.Held.{IsHeld};
 ghost use Rattle.scaler.specs.Rewritten.{IsRewritten};
-ghost use Rattle.scale_tool.specs.Answer.{counts_text, plan_answer, refused, run_answer, run_status, stored_answer, MakesMade, MakesReport, MakesRun, MakesStored, Makes};
+ghost use Rattle.scale_tool.specs.Answer.{plan_answer, refused, run_answer, run_status, stored_answer, MakesMade, MakesReport, MakesRun, MakesStored, Makes};
 
 use crate::command::Work;
 use crate::making::made_reply;
 use crate::numbers::Size;
 use crate::program_files::ProgramFiles;
-use image_lower::Lowered;
 use power_model::RunReport;
-use scale_base::{End, NoMemory, Refusal, ScalePlan, Stop, Summary};
+use scale_base::{End, Lowered, NoMemory, Refusal, ScalePlan, Stop, Summary};
 use scale_report::{lowered_text, plan_text, refusal_text, run_text, summary_text};
 use std::alloc::Global;
 
@@ -127,17 +126,11 @@ impl Reply {
         out: &str,
         given: Result<(Vec<u8>, Lowered), Stop>,
     ) -> Result<Reply, NoMemory>
-        ensures { IfOk result (λ reply. option_map (stored_answer counts_text out.now) (given_view given) ≡ Some (reply_view reply)) }
+        ensures { IfOk result (λ reply. option_map (stored_answer lowered_text out.now) (given_view given) ≡ Some (reply_view reply)) }
     {
         match given {
             Ok((bytes, counts)) => {
-                let Lowered {
-                    pairs,
-                    jumps,
-                    block,
-                    depth,
-                } = counts;
-                let text = lowered_text(alloc, pairs, jumps, block, depth)?;
+                let text = lowered_text(alloc, &counts)?;
                 Reply::of_file(alloc, out, bytes, text, 0)
             }
             Err(Stop::Refused(refusal)) => Reply::refused(alloc, &refusal),
@@ -148,7 +141,7 @@ impl Reply {
     /// What `lower` gives for its two files.
     pub fn lowered(alloc: Global, out: &str, image: &[u8], jumps: &[u8]) -> Result<Reply, NoMemory>
         requires { length image.now ≤ 4194304 }
-        ensures { IfOk result (λ reply. MakesStored (IsLowered image.now jumps.now) counts_text out.now (reply_view reply)) }
+        ensures { IfOk result (λ reply. MakesStored (IsLowered image.now jumps.now) lowered_text out.now (reply_view reply)) }
     {
         Reply::counted(alloc, out, image_lower::lower(alloc, image, jumps))
     }
