@@ -4,6 +4,7 @@
 mod fields;
 mod header;
 mod ranges;
+mod refused;
 mod segments;
 mod sorted_symbols;
 mod stems;
@@ -12,6 +13,7 @@ mod tables;
 mod text;
 mod view;
 
+pub use refused::refusal_number;
 pub use scale_base::Keyed;
 pub use segments::{end_of, overlaps};
 pub use sorted_symbols::SortedSymbols;

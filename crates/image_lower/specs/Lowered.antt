@@ -3,9 +3,10 @@ use Rattle.std.specs.Prelude.{◌≡◌, ℕ, ◌==◌, ◌&&◌, Bool, List, []
 use Rattle.scale_base.specs.declared.ranges.Keyed.{Keyed}
 use Rattle.scale_base.specs.declared.ranges.Patch.{Patch}
 use Rattle.scale_base.specs.declared.refusal.Refusal.{Refusal}
-use Rattle.scale_base.specs.declared.refusal.Refusal.TheVariants.{NotElf, UnsupportedElf, TruncatedElf, DynamicImage, BadSegment, BadText, WritableText, AlreadyScaled, BadJump, NoRoom, LowerOutOfReach}
+use Rattle.scale_base.specs.declared.refusal.Refusal.TheVariants.{AlreadyScaled, BadJump, NoRoom, LowerOutOfReach}
 use Rattle.scale_base.specs.Elf.{e_shnum, has_sections}
 use Rattle.scale_base.specs.Image.{Image, image_of}
+use Rattle.elf_view.specs.Refused.{refusal_number}
 use Rattle.table_keys.specs.Keys.{◌>>=◌}
 use Rattle.elf_patch.specs.Stored.{IsStubBase, patched}
 use Rattle.elf_patch.specs.Added.{added_file}
@@ -24,17 +25,6 @@ refuse_at refuse (Some at) = Err (refuse at)
 abbrev pub not_scaled : Option Keyed → Result (Unit {0}) Refusal
 not_scaled None = Ok tt
 not_scaled (Some keyed) = Err AlreadyScaled
-
--- the number of the refusal of a file that is no image
-abbrev pub refusal_number : Refusal → ℕ
-refusal_number NotElf = 1
-refusal_number (UnsupportedElf field) = 2
-refusal_number TruncatedElf = 3
-refusal_number DynamicImage = 4
-refusal_number (BadSegment entry) = 5
-refusal_number (BadText at) = 6
-refusal_number (WritableText at) = 7
-refusal_number refusal = 0
 
 -- the file made is an image again
 abbrev pub roomy : Result Image Refusal → Result (Unit {0}) Refusal

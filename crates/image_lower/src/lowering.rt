@@ -18,26 +18,10 @@ use crate::block::{ascending, least_bad};
 use crate::code::{code_bytes, greatest_depth, out_of_reach, tree_patches, trees_code};
 use crate::far::{entered_by, far_patches};
 use elf_patch::{has_sections, section_count, stub_base, write_added, write_patched};
-use elf_view::{ImageView, read_image};
+use elf_view::{ImageView, read_image, refusal_number};
 use jump_lists::{JumpNote, read_jumps};
 use scale_base::{Lowered, NoMemory, Patch, Refusal, Stop};
 use std::alloc::Global;
-
-/// The number of the refusal of a file that is no image.
-fn number_of(refusal: &Refusal) -> u32
-    ensures { result ≡ lowered.refusal_number refusal.now }
-{
-    match refusal {
-        Refusal::NotElf => 1,
-        Refusal::UnsupportedElf(_) => 2,
-        Refusal::TruncatedElf => 3,
-        Refusal::DynamicImage => 4,
-        Refusal::BadSegment(_) => 5,
-        Refusal::BadText(_) => 6,
-        Refusal::WritableText(_) => 7,
-        _ => 0,
-    }
-}
 
 /// The file made is an image again.
 fn check_image(alloc: Global, file: &[u8]) -> Result<(), Stop>
@@ -45,7 +29,10 @@ fn check_image(alloc: Global, file: &[u8]) -> Result<(), Stop>
 {
     match read_image(alloc, file) {
         Ok(_) => Ok(()),
-        Err(Stop::Refused(refusal)) => Err(Stop::Refused(Refusal::NoRoom(number_of(&refusal)))),
+        Err(Stop::Refused(refusal)) => {
+            let number = refusal_number(&refusal);
+            Err(Stop::Refused(Refusal::NoRoom(u32::from(number))))
+        }
         Err(Stop::Memory) => Err(Stop::Memory),
     }
 }
