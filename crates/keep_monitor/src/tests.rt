@@ -418,3 +418,12 @@ fn loops_of_one_slot_or_one_header_are_counted_apart(rt: HostRuntime) -> Result<
     );
     Ok(())
 }
+
+#[test]
+fn counts_begin_at_0(rt: HostRuntime) -> Result<(), Fail> {
+    let notes = noted(&rt, &LOOPS, 0)?;
+    assert_eq!(rt; notes.count(), 3);
+    let watch = Monitor::new(rt.alloc(), notes).ok().ok_or("memory")?;
+    assert_eq!(rt; (watch.count(0), watch.count(1), watch.count(2)), (0, 0, 0));
+    Ok(())
+}

@@ -407,3 +407,29 @@ fn keeps_notes_in_their_order(rt: HostRuntime) -> Result<(), Fail> {
     assert_eq!(rt; note.ranges.count(), 1);
     Ok(())
 }
+
+#[test]
+fn relaxes_bounds_and_drops_counters(rt: HostRuntime) -> Result<(), Fail> {
+    let view = view_of(&rt)?;
+    let text =
+        "version = 2\n[[loop]]\nheader = 1\nranges = [[1, 2]]\nbound = 7\ncounted = true\nat_least = 3\n";
+    let notes = read_loops(rt.alloc(), text.as_bytes(), &view)
+        .ok()
+        .ok_or("the file is refused")?;
+    let relaxed = notes.relaxed(rt.alloc()).ok().ok_or("memory")?;
+    assert_eq!(rt; relaxed.count(), 1);
+    let note = relaxed.note(0);
+    assert_eq!(rt;
+        (note.header, note.bound, note.counted, note.at_least),
+        (1, 1_000_000_000, true, 0)
+    );
+    assert_eq!(rt; *note.ranges.get(0), Range { from: 1, to: 2 });
+    let uncounted = notes.uncounted();
+    assert_eq!(rt; uncounted.count(), 1);
+    let note = uncounted.note(0);
+    assert_eq!(rt;
+        (note.header, note.bound, note.counted, note.at_least),
+        (1, 7, false, 3)
+    );
+    Ok(())
+}

@@ -4,4 +4,4 @@ use Rattle.loop_file.proofs.notes.LoopNotes.relaxed.Given as goal
 
 -- the notes so far
 abbrev pub invariant-loop-note : goal.invariant-loop-note
-invariant-loop-note l = l.items.items ≡ map relaxed_note (take l.note-index l.self.now)
+invariant-loop-note l = l.items.items ≡ map relaxed_note (take l.note-index l.self)
