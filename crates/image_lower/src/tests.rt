@@ -1,5 +1,5 @@
 use super::*;
-use scale_base::{NoMemory, Refusal, Stop};
+use scale_base::{Lowered, NoMemory, Refusal, Stop};
 use std::alloc::Global;
 use std::test::Fail;
 
@@ -56,6 +56,26 @@ fn is_tree_at(file: &[u8], at: usize) -> bool {
     }
 }
 
+/// What is made of an image that is not refused.
+fn lowered(alloc: Global, image: &[u8], jumps: &str) -> Result<(Vec<u8>, Lowered), Fail> {
+    if image.len() > 4_194_304 {
+        return Err(Fail::from("too long"));
+    }
+    match lower(alloc, image, jumps.as_bytes()) {
+        Ok(given) => Ok(given),
+        Err(_) => Err(Fail::from("refused")),
+    }
+}
+
+fn counted(pairs: u32, jumps: u32, block: u32, depth: u32) -> Lowered {
+    Lowered {
+        pairs,
+        jumps,
+        block,
+        depth,
+    }
+}
+
 fn bad_jump(alloc: Global, jumps: &str) -> Option<u32> {
     match lower(alloc, &TABLE_JUMP, jumps.as_bytes()) {
         Err(Stop::Refused(Refusal::BadJump(at))) => Some(at),
@@ -65,18 +85,8 @@ fn bad_jump(alloc: Global, jumps: &str) -> Option<u32> {
 
 #[test]
 fn a_near_call_stands_for_a_far_one(rt: HostRuntime) -> Result<(), Fail> {
-    let Ok((file, counts)) = lower(rt.alloc(), &FAR_CALL, NO_JUMPS.as_bytes()) else {
-        return Err(Fail::from("refused"));
-    };
-    assert_eq!(rt;
-        counts,
-        Lowered {
-            pairs: 1,
-            jumps: 0,
-            block: 0,
-            depth: 0
-        }
-    );
+    let (file, counts) = lowered(rt.alloc(), &FAR_CALL, NO_JUMPS)?;
+    assert_eq!(rt; counts, counted(1, 0, 0, 0));
     assert_eq!(rt; file.len(), 104);
     assert_eq!(rt;
         word_at(&file, 88),
@@ -87,18 +97,8 @@ fn a_near_call_stands_for_a_far_one(rt: HostRuntime) -> Result<(), Fail> {
 
 #[test]
 fn a_tree_stands_for_a_jump_through_a_table(rt: HostRuntime) -> Result<(), Fail> {
-    let Ok((file, counts)) = lower(rt.alloc(), &TABLE_JUMP, JUMP.as_bytes()) else {
-        return Err(Fail::from("refused"));
-    };
-    assert_eq!(rt;
-        counts,
-        Lowered {
-            pairs: 0,
-            jumps: 1,
-            block: 32,
-            depth: 1
-        }
-    );
+    let (file, counts) = lowered(rt.alloc(), &TABLE_JUMP, JUMP)?;
+    assert_eq!(rt; counts, counted(0, 1, 32, 1));
     assert_eq!(rt; file.len(), 4192);
     assert_eq!(rt;
         word_at(&file, 92),
@@ -116,18 +116,8 @@ fn another_word_is_no_jump(rt: HostRuntime) -> Result<(), Fail> {
 
 #[test]
 fn a_call_in_the_program_header_table_stays(rt: HostRuntime) -> Result<(), Fail> {
-    let Ok((file, counts)) = lower(rt.alloc(), &CALL_IN_TABLE, NO_JUMPS.as_bytes()) else {
-        return Err(Fail::from("refused"));
-    };
-    assert_eq!(rt;
-        counts,
-        Lowered {
-            pairs: 0,
-            jumps: 0,
-            block: 0,
-            depth: 0
-        }
-    );
+    let (file, counts) = lowered(rt.alloc(), &CALL_IN_TABLE, NO_JUMPS)?;
+    assert_eq!(rt; counts, counted(0, 0, 0, 0));
     assert!(rt; file.as_slice() == CALL_IN_TABLE.as_slice());
     Ok(())
 }
@@ -135,18 +125,8 @@ fn a_call_in_the_program_header_table_stays(rt: HostRuntime) -> Result<(), Fail>
 #[test]
 fn it_stays_beside_a_tree(rt: HostRuntime) -> Result<(), Fail> {
     let alloc = rt.alloc();
-    let Ok((file, counts)) = lower(alloc, &CALL_IN_TABLE, JUMP_BEHIND_TABLE.as_bytes()) else {
-        return Err(Fail::from("refused"));
-    };
-    assert_eq!(rt;
-        counts,
-        Lowered {
-            pairs: 0,
-            jumps: 1,
-            block: 32,
-            depth: 1
-        }
-    );
+    let (file, counts) = lowered(alloc, &CALL_IN_TABLE, JUMP_BEHIND_TABLE)?;
+    assert_eq!(rt; counts, counted(0, 1, 32, 1));
     assert_eq!(rt;
         word_at(&file, 92),
         Some([0xE7, 0x80, 0xC0, 0x01].as_slice())
