@@ -18,6 +18,7 @@ USE = re.compile(r"^\s*(?:pub |ghost )*use (Rattle\.[^\s{]+?)(?:\.\{([^}]*)\}| a
 START = re.compile(r"^(\s*)((?:(?:abbrev|unfoldable|pub|record|data) )+)([^\s:({]+)")
 WORD = re.compile(r"(?<![\w.'])[A-Za-z_][\w'-]*(?:\.[A-Za-z_][\w'-]*)?")
 CLAUSE = re.compile(r"^\s*(?:requires|ensures)\b[^{\n]*\{(.*)\}", re.M)
+CALL = re.compile(r"^pub fn run_tool\b.*?^\{", re.M | re.S)
 
 
 class File:
@@ -83,7 +84,7 @@ def file_of(module):
 def reached():
     """All definitions that the clauses of the top call cite: pairs of module and name."""
     top = File(TOP, "//")
-    todo = [place for text in CLAUSE.findall(top.body) for place in top.cited(text)]
+    todo = [place for text in CLAUSE.findall(CALL.search(top.body)[0]) for place in top.cited(text)]
     seen = set()
     while todo:
         module, name = todo.pop()

@@ -1,6 +1,8 @@
 /* Smooths samples of a sensor: reads up to 64 samples, one byte each, and writes a frame of 66 bytes: for each sample the mean of
    itself and the seven before it, weighted, zeros behind them, and a check sum over the 64 (CRC-16/CCITT).
-   Freestanding: the machine has the services read (63), write (64) and exit (93). */
+   Freestanding: the machine's services stand in services.h. */
+
+#include "services.h"
 
 #define SAMPLES 64
 #define TAPS 8
@@ -8,27 +10,6 @@
 static const unsigned char weights[TAPS] = {1, 3, 7, 11, 11, 7, 3, 1};
 static unsigned char samples[SAMPLES];
 static unsigned char frame[SAMPLES + 2];
-
-static int read_bytes(void *to, int most) {
-    register int count asm("a0") = 0;
-    register void *place asm("a1") = to;
-    register int length asm("a2") = most;
-    asm volatile("li a7, 63\n\tecall" : "+r"(count) : "r"(place), "r"(length) : "a7", "memory");
-    return count;
-}
-
-static void write_bytes(const void *from, int length) {
-    register int descriptor asm("a0") = 1;
-    register const void *place asm("a1") = from;
-    register int count asm("a2") = length;
-    asm volatile("li a7, 64\n\tecall" : "+r"(descriptor) : "r"(place), "r"(count) : "a7", "memory");
-}
-
-static __attribute__((noreturn)) void leave(int status) {
-    register int code asm("a0") = status;
-    asm volatile("li a7, 93\n\tecall" : : "r"(code) : "a7");
-    __builtin_unreachable();
-}
 
 static __attribute__((noinline)) int weighted(int last) {
     int sum = 0;

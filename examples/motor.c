@@ -1,33 +1,14 @@
 /* Runs the commands of a motor controller: reads up to 64 commands, one byte each, and writes a frame of 66 bytes: the speed behind each of
    them, zeros behind these, and the heat that the 64 speeds make, in two bytes. The upper three bits of a command say what to do, and
    the lower five by how much.
-   Freestanding: the machine has the services read (63), write (64) and exit (93). */
+   Freestanding: the machine's services stand in services.h. */
+
+#include "services.h"
 
 #define COMMANDS 64
 
 static unsigned char commands[COMMANDS];
 static unsigned char frame[COMMANDS + 2];
-
-static int read_bytes(void *to, int most) {
-    register int count asm("a0") = 0;
-    register void *place asm("a1") = to;
-    register int length asm("a2") = most;
-    asm volatile("li a7, 63\n\tecall" : "+r"(count) : "r"(place), "r"(length) : "a7", "memory");
-    return count;
-}
-
-static void write_bytes(const void *from, int length) {
-    register int descriptor asm("a0") = 1;
-    register const void *place asm("a1") = from;
-    register int count asm("a2") = length;
-    asm volatile("li a7, 64\n\tecall" : "+r"(descriptor) : "r"(place), "r"(count) : "a7", "memory");
-}
-
-static __attribute__((noreturn)) void leave(int status) {
-    register int code asm("a0") = status;
-    asm volatile("li a7, 93\n\tecall" : : "r"(code) : "a7");
-    __builtin_unreachable();
-}
 
 /* The integer square root of a number below 16,384, bit by bit. */
 static __attribute__((noinline)) int root(int square) {

@@ -11,6 +11,7 @@ use crate::key::KeyCode;
 use crate::parts;
 use crate::reading::holds_at;
 use crate::run_out::read_run_out;
+use code_text::moved;
 use scale_base::{BranchOp, EdgeKind, Instr, NoMemory};
 use std::alloc::Global;
 
