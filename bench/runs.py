@@ -26,20 +26,23 @@ def write_machine(folder, deadline=4000000000000000000):
         file.write(machine_text("deadline", 28, deadline))
 
 
-def store(word, folder, image, *files):
-    """Has the command of a word make an image of this one and these files three times; the best time in seconds, the status, and what was
-    printed, by lines."""
-    path = os.path.join(folder, "image.elf")
-    with open(path, "wb") as file:
-        file.write(image)
-    command = [SCALE, word, path, *files, os.path.join(folder, "out.elf")]
+def best_of(words):
+    """Runs the program with these words three times; the best time in seconds, the status, and what was printed, by lines."""
     best = None
     for _ in range(3):
         begin = time.perf_counter()
-        done = subprocess.run(command, capture_output=True)
+        done = subprocess.run([SCALE, *words], capture_output=True)
         took = time.perf_counter() - begin
         best = took if best is None else min(best, took)
     return best, done.returncode, done.stdout.decode().splitlines()
+
+
+def store(word, folder, image, *files):
+    """Has the command of a word make an image of this one and these files three times: as `best_of`."""
+    path = os.path.join(folder, "image.elf")
+    with open(path, "wb") as file:
+        file.write(image)
+    return best_of([word, path, *files, os.path.join(folder, "out.elf")])
 
 
 def hold(folder, image, machine, loops=os.path.join(DATA, "loops.toml")):
