@@ -157,7 +157,7 @@ module _ (power : PowerModel) (ok : IsPowerModel power) (file : List ℕ) (image
     start_small = (let few = ok.few in omega (arith, start_low, few));
   }
 
-  abbrev rewritten : Image
+  abbrev pub rewritten : Image
   rewritten = stored_view image (stored_image file (patches_from base sites) base (block_bytes base sites) start) base (block_bytes base sites) start
 
   stubbed : IsStubbed file image levels limits sites base start rewritten
@@ -184,7 +184,7 @@ module _ (power : PowerModel) (ok : IsPowerModel power) (file : List ℕ) (image
   in_time_is : (w i deadline : ℕ) → nat_le w deadline ≡ true → w ≤ deadline
   in_time_is w i deadline h = Rattle.rewritten_runs.proofs.TableLaws.leb-le w deadline h
 
-  supplied : IsSupplied power file image notes v tree plain stored extra least sites base start rewritten
+  pub supplied : IsSupplied power file image notes v tree plain stored extra least sites base start rewritten
   supplied = record {
     limits = limits;
     ok = ok;

@@ -4,6 +4,11 @@ use Rattle.std.specs.Prelude.{codes, ℕ, zero, suc, ◌+◌, ◌/◌, ◌%◌, 
 use Rattle.std.specs.Fmt.{decimal}
 use Rattle.scale_base.specs.declared.summary.Summary.{Summary}
 use Rattle.scale_base.specs.declared.summary.Lowered.{Lowered}
+use Rattle.scale_base.specs.declared.summary.Tuned.{Tuned}
+use Rattle.scale_base.specs.declared.verdict.Verdict.{Verdict}
+use Rattle.scale_base.specs.declared.verdict.Verdict.TheVariants.{Yes, No}
+use Rattle.scale_base.specs.declared.verdict.Why.{Why}
+use Rattle.scale_base.specs.declared.verdict.Why.TheVariants as why
 use Rattle.scale_base.specs.declared.edges.EdgeKind.{EdgeKind}
 use Rattle.scale_base.specs.declared.edges.EdgeKind.TheVariants as edge
 use Rattle.scale_base.specs.declared.fragments.Fragment.{Fragment}
@@ -21,6 +26,8 @@ use Rattle.scale_base.specs.declared.endings.Kept.TheVariants as kept
 use Rattle.scale_base.specs.declared.stepping.TrapKind.{TrapKind}
 use Rattle.scale_base.specs.declared.stepping.TrapKind.TheVariants as trap
 use Rattle.power_model.specs.Report.{Report}
+use Rattle.power_model.specs.Survey.{Survey, Surveyed}
+use Rattle.power_model.specs.declared.survey.Totals.{Totals}
 
 -- a line of some words and a number
 unfoldable pub number_line : List ℕ → ℕ → List ℕ
@@ -226,3 +233,79 @@ site_line l =
 -- the summary, and a line for each fragment
 abbrev pub plan_text : ScalePlan → List ℕ
 plan_text p = summary_text p.summary ++ flat_map site_line p.lines.items
+
+-- ---- the check of an image of other make
+
+-- why an image isn't known to be safe
+abbrev pub why_words : Why → List ℕ
+why_words (why.Image number) = codes "image " ++ decimal number
+why_words why.NoKey = codes "key missing"
+why_words why.Layout = codes "layout"
+why_words (why.Byte a) = codes "byte " ++ address a
+why_words (why.Patch a) = codes "patch " ++ address a
+why_words (why.Stub a) = codes "stub " ++ address a
+why_words (why.Counter counter) = codes "counter " ++ decimal counter
+why_words why.TooLong = codes "worst cycles"
+why_words (why.Start level levels) = codes "start level " ++ decimal level ++ codes " of " ++ decimal levels
+why_words (why.TooSlow need have) = codes "deadline need " ++ decimal need ++ codes " have " ++ decimal have
+why_words (why.Level a from) = codes "level " ++ address a ++ codes " from " ++ decimal from
+
+-- what a check found: that the image is safe, with the lines of its summary up to the stub cycles, or why it isn't known to be
+abbrev pub verdict_text : Verdict → List ℕ
+verdict_text (Yes checked) =
+    codes "check yes\n"
+    ++ number_line (codes "start level ") checked.start
+    ++ number_line (codes "worst cycles ") checked.worst
+    ++ times_line checked.time checked.deadline
+    ++ number_line (codes "stub cycles at most ") checked.stub_cycles
+verdict_text (No why) = codes "check no " ++ why_words why ++ 10 ∷ []
+
+-- ---- the survey over a list of inputs
+
+-- a line for each item, numbered from k on
+unfoldable pub numbered_lines : {A : Type 0} → (ℕ → A → List ℕ) → ℕ → List A → List ℕ
+numbered_lines line k [] = []
+numbered_lines line k (item ∷ items) = line k item ++ numbered_lines line (k + 1) items
+
+-- what the scaled run took
+unfoldable pub scaled_words : (cycles time energy : ℕ) → List ℕ
+scaled_words cycles time energy = codes "scaled cycles " ++ decimal cycles ++ codes " time " ++ decimal time ++ codes " energy " ++ decimal energy
+
+-- the line of an input: the cycles of the original run, and what the scaled one took
+unfoldable pub input_line : ℕ → Surveyed → List ℕ
+input_line k runs =
+    codes "input " ++ decimal k ++ codes " cycles " ++ decimal runs.paid.cycles ++ codes " "
+    ++ scaled_words runs.scaled_paid.cycles runs.scaled_paid.time runs.scaled_paid.energy ++ 10 ∷ []
+
+-- the line of a loop: the most back edges that an entry of it took
+unfoldable pub most_line : ℕ → ℕ → List ℕ
+most_line loop_no most = codes "loop " ++ decimal loop_no ++ codes " most " ++ decimal most ++ 10 ∷ []
+
+-- a line for each total
+abbrev pub totals_text : Totals → List ℕ
+totals_text t =
+    number_line (codes "inputs ") t.inputs
+    ++ number_line (codes "kept ") t.kept
+    ++ number_line (codes "late ") t.late
+    ++ number_line (codes "differ ") t.differ
+    ++ number_line (codes "original cycles ") t.cycles
+    ++ number_line (codes "scaled cycles ") t.scaled_cycles
+    ++ number_line (codes "energy ") t.energy
+    ++ number_line (codes "held ") t.held
+    ++ number_line (codes "switches ") t.switches
+
+-- a line for each input, for each loop and for each total
+abbrev pub survey_text : Survey → List ℕ
+survey_text s = numbered_lines input_line 1 s.lines ++ numbered_lines most_line 1 s.most ++ totals_text s.totals
+
+-- ---- the choice of a tuning
+
+-- the chosen candidate with its summary, how many inputs count and how many don't, and the energy of the choice and of the image that runs at one level
+abbrev pub tuned_text : Tuned → List ℕ
+tuned_text t =
+    number_line (codes "candidate ") t.candidate
+    ++ summary_text t.summary
+    ++ number_line (codes "inputs ") t.inputs
+    ++ number_line (codes "left out ") t.left_out
+    ++ number_line (codes "energy ") t.energy
+    ++ number_line (codes "hold energy ") t.hold_energy

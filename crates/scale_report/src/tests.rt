@@ -1,9 +1,10 @@
 ghost use Rattle.std.specs.Prelude.{◌≡◌};
 
 use super::*;
-use power_model::Meter;
+use power_model::{Meter, SurveyLine, SurveyReport, Totals};
 use scale_base::{
-    Cycle, Edge, EdgeKind, Field, Fragment, Name, Rows, ScalePlan, SiteLine, Trap, TrapKind,
+    Checked, Cycle, Edge, EdgeKind, Field, Fragment, Name, Rows, ScalePlan, SiteLine, Trap,
+    TrapKind, Verdict, Why,
 };
 use std::process::Abort;
 use std::test::Fail;
@@ -302,5 +303,142 @@ fn prints_plans(rt: HostRuntime) -> Result<(), Fail> {
         "{numbers}site 0x00010000 untaken switch 00000210\nsite 0x00010014 taken count 1\nsite 0x00010014 untaken exit 1 3 00000100 fedcba98\nsite 0xfffffffc jump reset 4096\n"
     )?;
     assert_eq!(rt; text.as_str(), wanted.as_str());
+    Ok(())
+}
+
+#[test]
+fn prints_verdicts(rt: HostRuntime) -> Result<(), Fail> {
+    let checked = Checked {
+        start: 1,
+        worst: 79,
+        time: 158,
+        deadline: 160,
+        stub_cycles: 18,
+    };
+    let cases = [
+        (
+            Verdict::Yes(checked),
+            "check yes\nstart level 1\nworst cycles 79\nworst time 158 of 160\nstub cycles at most 18\n",
+        ),
+        (Verdict::No(Why::Image(7)), "check no image 7\n"),
+        (Verdict::No(Why::NoKey), "check no key missing\n"),
+        (Verdict::No(Why::Layout), "check no layout\n"),
+        (
+            Verdict::No(Why::Byte(0xfedc_ba98)),
+            "check no byte 0xfedcba98\n",
+        ),
+        (
+            Verdict::No(Why::Patch(0x1_0010)),
+            "check no patch 0x00010010\n",
+        ),
+        (
+            Verdict::No(Why::Stub(0x1_0014)),
+            "check no stub 0x00010014\n",
+        ),
+        (Verdict::No(Why::Counter(510)), "check no counter 510\n"),
+        (Verdict::No(Why::TooLong), "check no worst cycles\n"),
+        (
+            Verdict::No(Why::Start(4294967295, 3)),
+            "check no start level 4294967295 of 3\n",
+        ),
+        (
+            Verdict::No(Why::TooSlow(600_000_000_000_000_000_000, 160)),
+            "check no deadline need 600000000000000000000 have 160\n",
+        ),
+        (
+            Verdict::No(Why::Level(0x1_0010, 2)),
+            "check no level 0x00010010 from 2\n",
+        ),
+    ];
+    for (verdict, wanted) in cases {
+        let text = verdict_text(rt.alloc(), &verdict).ok().ok_or("memory")?;
+        assert_eq!(rt; text.as_str(), wanted);
+    }
+    Ok(())
+}
+
+// The price of a run of so many cycles at level 1.
+fn priced(cycles: u64, time: u128, energy: u128) -> Meter {
+    Meter {
+        start: 1,
+        level: 1,
+        steps: 16,
+        cycles,
+        time,
+        energy,
+        switches: 0,
+        keyed: 0,
+    }
+}
+
+// The runs on an input: the original's cycles, and the scaled run's cycles, time and energy.
+fn runs_of(cycles: u64, scaled: u64, time: u128, energy: u128) -> SurveyLine {
+    SurveyLine {
+        end: End::Exited(0),
+        kept: Kept::Kept,
+        meter: priced(cycles, 1, 2),
+        scaled_end: End::Exited(0),
+        scaled_meter: priced(scaled, time, energy),
+        held: 3,
+        same: true,
+    }
+}
+
+const TOTALS: Totals = Totals {
+    inputs: 2,
+    kept: 1,
+    late: 3,
+    differ: 4,
+    cycles: 158,
+    scaled_cycles: 341,
+    energy: 1019,
+    held: 1023,
+    switches: 5,
+};
+
+const TOTALS_LINES: &str =
+    "inputs 2\nkept 1\nlate 3\ndiffer 4\noriginal cycles 158\nscaled cycles 341\nenergy 1019\nheld 1023\nswitches 5\n";
+
+#[test]
+fn prints_a_survey(rt: HostRuntime) -> Result<(), Fail> {
+    let report = SurveyReport {
+        lines: vec![in rt.alloc(); runs_of(43, 101, 236, 299), runs_of(115, 240, 480, 720)]?,
+        most: vec![in rt.alloc(); 11, 0]?,
+        totals: TOTALS,
+    };
+    let text = survey_text(rt.alloc(), &report).ok().ok_or("memory")?;
+    let wanted = format!(in rt.alloc();
+        "input 1 cycles 43 scaled cycles 101 time 236 energy 299\ninput 2 cycles 115 scaled cycles 240 time 480 energy 720\nloop 1 most 11\nloop 2 most 0\n{TOTALS_LINES}"
+    )?;
+    assert_eq!(rt; text.as_str(), wanted.as_str());
+    Ok(())
+}
+
+#[test]
+fn prints_a_choice(rt: HostRuntime) -> Result<(), Fail> {
+    let summary = Summary {
+        start: 1,
+        worst: 251,
+        time: 502,
+        deadline: 502,
+        stub_cycles: 18,
+        switch_edges: 1,
+        exit_edges: 0,
+        count_edges: 0,
+        stub_bytes: 56,
+    };
+    let tuned = Tuned {
+        candidate: 32,
+        summary,
+        inputs: 1,
+        left_out: 2,
+        energy: 174,
+        hold_energy: 324,
+    };
+    let text = tuned_text(rt.alloc(), &tuned).ok().ok_or("memory")?;
+    assert_eq!(rt;
+        text.as_str(),
+        "candidate 32\nstart level 1\nworst cycles 251\nworst time 502 of 502\nstub cycles at most 18\nswitch edges 1\nexit edges 0\ncount edges 0\nstub bytes 56\ninputs 1\nleft out 2\nenergy 174\nhold energy 324\n"
+    );
     Ok(())
 }

@@ -54,7 +54,7 @@ runs_alike file image held base level levels none h input n =
 
 -- ---- what they cost
 
-no_ports : (image : Image) (levels : ℕ) (input : List ℕ) (m : ℕ) → image.keyed_segment ≡ None → All (λ x. x.port ≡ None) (run_of image levels input m).steps
+pub no_ports : (image : Image) (levels : ℕ) (input : List ℕ) (m : ℕ) → image.keyed_segment ≡ None → All (λ x. x.port ≡ None) (run_of image levels input m).steps
 unfolding run_of
 no_ports image levels input m none = run_without_port (setting_of image levels input) (start_of image levels) m (no_key image none)
 

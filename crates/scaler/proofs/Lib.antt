@@ -4,6 +4,9 @@ pub mod Bases
 pub mod HeldRuns
 pub mod Safe
 pub mod SafeRewritten
+pub mod FilesAs
+pub mod SafeAs
+pub mod HeldPromise
 pub mod MarkingLaws
 pub mod LineFacts
 pub mod LineKinds

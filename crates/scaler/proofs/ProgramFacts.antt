@@ -32,7 +32,7 @@ near_by : (o : Option ℕ) (given made : List ℕ × Summary) → o ≡ None →
 near_by None given made near same = cc
 near_by (Some at) given made near same = let never : ⊥ = cc in absurd never
 
-program_given : (power : PowerModel) (original : Image) (notes : List LoopNote) (s : Scaling) (bytes : List ℕ) → IsScaled power original notes s → bytes ≡ stored_bytes original (map site_of s.stubs.items) s.base s.summary.start
+pub program_given : (power : PowerModel) (original : Image) (notes : List LoopNote) (s : Scaling) (bytes : List ℕ) → IsScaled power original notes s → bytes ≡ stored_bytes original (map site_of s.stubs.items) s.base s.summary.start
     → IsRewrittenProgram power original notes (Ok (bytes, s.summary))
 program_given power original notes s bytes h e =
     let sites = map site_of s.stubs.items in

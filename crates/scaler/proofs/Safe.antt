@@ -60,7 +60,7 @@ held_program power original notes given (inl h) = let e : Ok given ≡ Err h.ref
 held_program power original notes given (inr (inl h)) = let e : Ok given ≡ Err h.refusal = h.answer_is in absurd cc
 held_program power original notes given (inr (inr h)) = h
 
-went_through : (image machine loops : List ℕ) (given : List ℕ × Summary) → IsHeld image machine loops (Ok given) → WentThrough image machine loops given
+pub went_through : (image machine loops : List ℕ) (given : List ℕ × Summary) → IsHeld image machine loops (Ok given) → WentThrough image machine loops given
 unfolding IsHeld
 went_through image machine loops given h =
     let a = then_ok (read_machine machine) _ given h in
@@ -89,7 +89,7 @@ starts_from : (power : PowerModel) (image : Image) (worst : ℕ) (o : Option ℕ
 starts_from power image worst None given s e = absurd cc
 starts_from power image worst (Some level) given s e = record { level = level; slow = s; given_is = cc }
 
-starts_within : (power : PowerModel) (image : Image) (worst : ℕ) (given : List ℕ × Summary) (b : Bool) → cond b (Err TooLong) (held_at power image worst) ≡ Ok given → StartsAt power image worst given
+pub starts_within : (power : PowerModel) (image : Image) (worst : ℕ) (given : List ℕ × Summary) (b : Bool) → cond b (Err TooLong) (held_at power image worst) ≡ Ok given → StartsAt power image worst given
 unfolding held_at
 starts_within power image worst given true e = absurd cc
 starts_within power image worst given false e = starts_from power image worst (slowest_of power worst) given refl e

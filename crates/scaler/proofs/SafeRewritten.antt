@@ -36,7 +36,7 @@ record WentThrough (image machine loops : List ℕ) (given : List ℕ × Summary
   notes_are : read_loops original loops ≡ Ok notes
   program : IsProgramRewritten power original notes (Ok given)
 
-rewritten_program : (power : PowerModel) (original : Image) (notes : List LoopNote) (given : List ℕ × Summary) → IsRewrittenProgram power original notes (Ok given) → IsProgramRewritten power original notes (Ok given)
+pub rewritten_program : (power : PowerModel) (original : Image) (notes : List LoopNote) (given : List ℕ × Summary) → IsRewrittenProgram power original notes (Ok given) → IsProgramRewritten power original notes (Ok given)
 rewritten_program power original notes given (inl h) = let e : Ok given ≡ Err h.refusal = h.answer_is in absurd cc
 rewritten_program power original notes given (inr (inl h)) = let e : Ok given ≡ Err h.refusal = h.answer_is in absurd cc
 rewritten_program power original notes given (inr (inr (inl h))) = let e : Ok given ≡ Err h.refusal = h.answer_is in absurd cc
@@ -64,11 +64,11 @@ went_through image machine loops given h =
 
 -- ---- the law
 
-record IsNear (o : Option ℕ) (given made : List ℕ × Summary) : Type 0 where
-  near : o ≡ None
-  same : given ≡ made
+pub record IsNear (o : Option ℕ) (given made : List ℕ × Summary) : Type 0 where
+  pub near : o ≡ None
+  pub same : given ≡ made
 
-near_of : (o : Option ℕ) (given made : List ℕ × Summary) → Ok given ≡ unless_out_of_reach o made → IsNear o given made
+pub near_of : (o : Option ℕ) (given made : List ℕ × Summary) → Ok given ≡ unless_out_of_reach o made → IsNear o given made
 near_of None given made e = record { near = refl; same = cc }
 near_of (Some at) given made e = absurd cc
 

@@ -1,6 +1,7 @@
 pub mod Held
 pub mod Runs
 pub mod Rewritten
+pub mod RewrittenAs
 pub mod RewrittenRuns
 pub mod Planned
 pub mod Markings

@@ -1,17 +1,19 @@
 //! What a command makes of an image, a machine file and a loop file.
 #![tactic(auto)]
 
-ghost use Rattle.std.specs.Prelude.{◌≡◌, ◌≤◌, ℕ, List, length, Ok};
+ghost use Rattle.std.specs.Prelude.{◌≡◌, ◌≤◌, ℕ, Bool, List, length, Ok};
 ghost use Rattle.scale_base.specs.declared.summary.Summary.{Summary};
-ghost use Rattle.scaler.specs.Agree.{HeldAnswersAgree, RewrittenAnswersAgree};
+ghost use Rattle.scaler.specs.Agree.{HeldAnswersAgree, RewrittenAnswersAgree, RewrittenAsAnswersAgree};
 ghost use Rattle.scaler.specs.Held.{IsHeld};
 ghost use Rattle.scaler.specs.Rewritten.{IsRewritten};
+ghost use Rattle.scaler.specs.RewrittenAs.{IsRewrittenAs, IsStoredSafely};
 ghost use Rattle.scaler.specs.RewrittenRuns.{IsRewrittenSafely};
 ghost use Rattle.scaler.specs.Runs.{IsHeldSafely};
 
 mod lines;
 mod planning;
 mod rewriting;
+mod rewriting_as;
 mod safe_level;
 mod stubs;
 #[cfg(test)]
@@ -19,6 +21,7 @@ mod tests;
 
 pub use planning::plan;
 pub use rewriting::rewrite;
+pub use rewriting_as::rewrite_as;
 pub use safe_level::hold;
 
 /// What `hold` stores is safe: on every input and after every number of steps its run is that of the original image, and as long
@@ -35,6 +38,13 @@ pub fn rewritten_images_are_safe()
     ensures { (image machine loops stored : List ℕ) (summary : Summary) → length image ≤ 4194304 → length machine ≤ 1048576 → length loops ≤ 1048576 → IsRewritten image machine loops (Ok ((stored, summary))) → IsRewrittenSafely image machine loops stored summary }
 {}
 
+/// What `rewrite_as` stores is safe, for the machine and the notes of the files themselves: on every input on which the original run exits
+/// and keeps the loops' bounds and the return addresses, its run gives the same output and the same status, ends by the deadline, never
+/// raises its level, takes no more energy than its own cycles at its starting level, and adds at most the printed number of cycles.
+pub fn images_rewritten_as_are_safe()
+    ensures { (image machine loops : List ℕ) (min_gain : ℕ) (counters : Bool) (stored : List ℕ) (summary : Summary) → length image ≤ 4194304 → length machine ≤ 1048576 → length loops ≤ 1048576 → IsRewrittenAs image machine loops min_gain counters (Ok ((stored, summary))) → IsStoredSafely image machine loops stored summary }
+{}
+
 /// Two answers that `hold` may give for the same files are the same, but for the cycle that a refusal names.
 pub fn held_answers_agree()
     ensures { HeldAnswersAgree }
@@ -43,4 +53,9 @@ pub fn held_answers_agree()
 /// Two answers that `rewrite` may give for the same files are the same, but for the cycle that a refusal names.
 pub fn rewritten_answers_agree()
     ensures { RewrittenAnswersAgree }
+{}
+
+/// Two answers that `rewrite_as` may give for the same files and choices are the same, but for the cycle that a refusal names.
+pub fn rewritten_as_answers_agree()
+    ensures { RewrittenAsAnswersAgree }
 {}

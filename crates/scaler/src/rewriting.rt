@@ -280,6 +280,25 @@ fn rewritten_file(
     )
 }
 
+/// The image of a program with its stubs, or the first refusal of its code, of its loops, or of its numbers.
+pub fn rewrite_program(
+    alloc: Global,
+    view: &ImageView<'_>,
+    power: &Power,
+    notes: &LoopNotes,
+) -> Result<(Vec<u8>, Summary), Stop>
+    requires read { image_of view.now.file ≡ Ok view.now }
+    requires file { length view.now.file ≤ 4194304 }
+    requires no_key { view.now.keyed_segment ≡ None }
+    requires power { IsPowerModel power.now }
+    ensures { AnswersBy (λ given. (given.0.items, given.1)) result (rewritten.IsRewrittenProgram power.now view.now notes.now) }
+{
+    let marked = marked_of(alloc, view, power, notes)?;
+    let scaling = scaling_of(alloc, view, power, &marked)?;
+    let bytes = rewritten_file(alloc, view, &scaling)?;
+    Ok((bytes, scaling.summary))
+}
+
 /// The program of three files: its machine, its image, its marks and its stubs.
 #[derive(Drop)]
 pub struct Program<'a> {

@@ -25,7 +25,8 @@ use Rattle.rewritten_runs.specs.Stubs.{IsWeighed, rewritten_file, marks_by_slack
 use Rattle.rewritten_runs.proofs.Laws.{led_class, marked_led}
 use Rattle.scaler.specs.Held.{IsLoopRefused, unscaled}
 use Rattle.scaler.specs.Rewritten.{IsCounterRefused, IsTooLong, IsTooLate, IsProgramRewritten, IsRewrittenProgram, IsRewritten, rewritten_summary, unless_out_of_reach}
-use Rattle.scaler.specs.Agree.{AreAlikeAnswers, RewrittenAnswersAgree}
+use Rattle.scaler.specs.RewrittenAs.{IsRewrittenAs, with_gain, notes_with}
+use Rattle.scaler.specs.Agree.{AreAlikeAnswers, RewrittenAnswersAgree, RewrittenAsAnswersAgree}
 use Rattle.scaler.proofs.agree.Counted.{counters_not_refused, counter_refusals_same}
 use Rattle.scaler.proofs.agree.Pairs.{Answer, HasGraph, HasTree, alike_same, then_alike, codes_alike, code_not_refused, loops_alike, loops_not_refused}
 use Rattle.scaler.proofs.agree.SameFragments.{extra_worst, fragments_same}
@@ -164,3 +165,11 @@ rewritten_answers file machine notes_file =
     then_alike (image_of file) _ (λ original.
     then_alike (unscaled original.keyed_segment) _ (λ _.
     then_alike (read_loops original notes_file) _ (λ notes. programs_rewritten_alike power original notes))))
+
+pub rewritten_as_answers : RewrittenAsAnswersAgree
+unfolding IsRewrittenAs
+rewritten_as_answers file machine notes_file min_gain counters =
+    then_alike (read_machine machine) _ (λ power.
+    then_alike (image_of file) _ (λ original.
+    then_alike (unscaled original.keyed_segment) _ (λ _.
+    then_alike (read_loops original notes_file) _ (λ notes. programs_rewritten_alike (with_gain power min_gain) original (notes_with counters notes)))))

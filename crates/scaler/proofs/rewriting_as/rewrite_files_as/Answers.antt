@@ -1,0 +1,50 @@
+use Rattle.std.proofs.Common.{rules, ◌≡◌, ◌∙◌, List, ℕ, refl, sym, ap, subst}
+use Rattle.std.proofs.lemmas.Result.{err_from_is_err_and}
+use Rattle.power_model.specs.Numbers.{PowerModel, IsPowerModel}
+use Rattle.loop_file.specs.declared.notes.LoopNote.{LoopNote}
+use Rattle.scaler.specs.Rewritten.{IsRewrittenProgram}
+use Rattle.scaler.specs.RewrittenAs.{with_gain, notes_with}
+use Rattle.scaler.proofs.Bases.{file_is}
+use Rattle.scaler.proofs.Files.{HoldAnswers}
+use Rattle.scaler.proofs.FilesAs.{model_with, machine_stops, image_stops, key_stops, loops_stop, program_answers}
+use Rattle.scaler.proofs.ProgramFacts.{no_key, read_again}
+use Rattle.scaler.proofs.rewriting_as.rewrite_files_as.Goals as goal
+
+pub rewrite_program-requires-clause-read : goal.rewrite_program-requires-clause-read
+rewrite_program-requires-clause-read c = read_again c.args.image.now c.in_ok-view.view c.in_ok-view.ensures
+
+pub rewrite_program-requires-clause-file : goal.rewrite_program-requires-clause-file
+rewrite_program-requires-clause-file c = rw (file_is c.args.image.now c.in_ok-view.view c.in_ok-view.ensures) c.requires
+
+pub rewrite_program-requires-clause-no_key : goal.rewrite_program-requires-clause-no_key
+rewrite_program-requires-clause-no_key c = no_key c.in_ok-view.view.keyed_segment (search rules)
+
+pub rewrite_program-requires-clause-power : goal.rewrite_program-requires-clause-power
+rewrite_program-requires-clause-power c = subst IsPowerModel (sym c.with_gain-power.ensures) (model_with c.in_ok-power.power c.args.min_gain c.in_ok-power.ensures.in_range)
+
+pub returns-in_err-power : goal.returns-in_err-power
+returns-in_err-power c =
+    let p = err_from_is_err_and c.from_residual.result c.from_residual.ensures.1 in
+    rw (p.1, p.2) (machine_stops c.args.image.now c.args.machine.now c.args.loops.now c.args.min_gain c.args.counters c.in_err-power.field-0.0 c.in_err-power.ensures.answers)
+
+pub returns-in_err-view : goal.returns-in_err-view
+returns-in_err-view c =
+    let p = err_from_is_err_and c.from_residual-in_err-view.result c.from_residual-in_err-view.ensures.1 in
+    rw (p.1, p.2) (image_stops c.args.image.now c.args.machine.now c.args.loops.now c.args.min_gain c.args.counters c.in_ok-power.power c.in_err-view.field-0.0 c.in_ok-power.ensures.answers c.in_err-view.ensures)
+
+pub returns-in_err-check_unscaled : goal.returns-in_err-check_unscaled
+returns-in_err-check_unscaled c =
+    let p = err_from_is_err_and c.from_residual-in_err-check_unscaled.result c.from_residual-in_err-check_unscaled.ensures.1 in
+    rw (p.1, p.2) (key_stops c.args.image.now c.args.machine.now c.args.loops.now c.args.min_gain c.args.counters c.in_ok-power.power c.in_ok-view.view c.in_err-check_unscaled.field-0.0 c.in_ok-power.ensures.answers c.in_ok-view.ensures
+    (search rules))
+
+pub returns-in_err-notes : goal.returns-in_err-notes
+returns-in_err-notes c =
+    let p = err_from_is_err_and c.from_residual-in_err-notes.result c.from_residual-in_err-notes.ensures.1 in
+    rw (p.1, p.2) (loops_stop c.args.image.now c.args.machine.now c.args.loops.now c.args.min_gain c.args.counters c.in_ok-power.power c.in_ok-view.view c.in_err-notes.field-0.0 c.in_ok-power.ensures.answers c.in_ok-view.ensures (search rules) c.in_err-notes.ensures)
+
+pub returns : goal.returns
+returns c =
+    program_answers c.args.image.now c.args.machine.now c.args.loops.now c.args.min_gain c.args.counters c.in_ok-power.power c.in_ok-view.view c.in_ok-notes.notes c.rewrite_program.result c.in_ok-power.ensures.answers c.in_ok-view.ensures (search rules) c.in_ok-notes.ensures
+    (subst (λ (q : PowerModel). HoldAnswers c.rewrite_program.result (IsRewrittenProgram q c.in_ok-view.view (notes_with c.args.counters c.in_ok-notes.notes))) c.with_gain-power.ensures
+    (subst (λ (ns : List LoopNote). HoldAnswers c.rewrite_program.result (IsRewrittenProgram c.with_gain-power.result c.in_ok-view.view ns)) c.notes_with-notes.ensures c.rewrite_program.ensures))

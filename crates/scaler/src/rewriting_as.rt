@@ -1,0 +1,75 @@
+//! A rewritten program whose marks are chosen by other numbers than those of its files.
+
+ghost use Rattle.std.specs.Prelude.{◌≡◌, ◌≤◌, length, IfOk};
+ghost use Rattle.scale_base.specs.Answer.{AnswersBy};
+ghost use Rattle.scaler.specs.RewrittenAs as variant;
+
+use crate::rewriting::rewrite_program;
+use crate::safe_level::check_unscaled;
+use elf_view::read_image;
+use loop_file::{LoopNotes, read_loops};
+use machine_file::read_machine;
+use power_model::Power;
+use scale_base::{Stop, Summary};
+use std::alloc::Global;
+
+/// The machine with another number of cycles of slack from which on an edge gets a switch.
+fn with_gain(power: Power, min_gain: u32) -> Power
+    ensures { result ≡ variant.with_gain power min_gain }
+{
+    let mut power = power;
+    power.min_gain = min_gain;
+    power
+}
+
+/// The notes as they are, or with no loop counted.
+fn notes_with(counters: bool, notes: LoopNotes) -> LoopNotes
+    ensures { result ≡ variant.notes_with counters notes }
+{
+    if counters { notes } else { notes.uncounted() }
+}
+
+/// The image with its stubs by these choices, or the first refusal.
+fn rewrite_files_as(
+    alloc: Global,
+    image: &[u8],
+    machine: &[u8],
+    loops: &[u8],
+    min_gain: u32,
+    counters: bool,
+) -> Result<(Vec<u8>, Summary), Stop>
+    requires { length image.now ≤ 4194304 }
+    ensures { AnswersBy (λ given. (given.0.items, given.1)) result (variant.IsRewrittenAs image.now machine.now loops.now min_gain counters) }
+{
+    let power = read_machine(alloc, machine)?;
+    let view = read_image(alloc, image)?;
+    check_unscaled(view.keyed())?;
+    let notes = read_loops(alloc, loops, &view)?;
+    let power = with_gain(power, min_gain);
+    let notes = notes_with(counters, notes);
+    rewrite_program(alloc, &view, &power, &notes)
+}
+
+/// What `rewrite` gives where the least gain of the machine file is `min_gain` cycles of slack and, without `counters`, no loop is
+/// counted; or the first refusal, in the order of `rewrite`.
+///
+/// The files have at most the bytes that the program loads: 4,194,304 of an image, 1,048,576 of each other file. Times are in
+/// the machine file's time units.
+pub fn rewrite_as(
+    alloc: Global,
+    image: &[u8],
+    machine: &[u8],
+    loops: &[u8],
+    min_gain: u32,
+    counters: bool,
+) -> Result<(Vec<u8>, Summary), Stop>
+    requires image { length image.now ≤ 4194304 }
+    requires machine { length machine.now ≤ 1048576 }
+    requires loops { length loops.now ≤ 1048576 }
+    ensures given { AnswersBy (λ given. (given.0.items, given.1)) result (variant.IsRewrittenAs image.now machine.now loops.now min_gain counters) }
+
+    // On each input on which the original run exits and is kept, by the files' own notes, the stored run keeps the promise.
+    ensures safe { IfOk result (λ given. variant.IsStoredSafely image.now machine.now loops.now given.0.items given.1) }
+{
+    rewrite_files_as(alloc, image, machine, loops, min_gain, counters)
+}
