@@ -76,20 +76,20 @@ module _ (file : List ℕ) (power : PowerModel) (original held : Image) (base le
       let energy : (price_of power held input n).energy ≡ held_energy power (price_of power held input n) =
       paid.at_start.energy ∙ ap (λ i. energy_at power i (price_of power held input n).cycles) (sym (starts input n)) in
       record {
-    after = n;
-    from = le_refl n;
-    to = within n n refl;
-    exits = alike.standing ∙ exits;
-    output = alike.output;
-    steps_from = subst (λ k. length (run_of original (length power.levels) input n).steps ≤ k) (sym (ap length (same_steps input n))) (le_refl (length (run_of original (length power.levels) input n).steps));
-    steps_to = within (length (run_of held (length power.levels) input n).steps) (length (run_of original (length power.levels) input n).steps) (ap length (same_steps input n));
-    cycles = within (price_of power held input n).cycles (price_of power original input n).cycles (same_cycles input n);
-    is_level = is_level;
-    in_time = in_time_of (price_of power held input n).time (time_at power level worst) power.deadline paid.time paid.in_time;
-    falls = subst (λ (xs : List Stepped). NeverRises (starting_level (length power.levels) held.keyed_segment) xs) (sym (same_steps input n))
-        (never_rises (starting_level (length power.levels) held.keyed_segment) (run_of original (length power.levels) input n).steps (no_ports original (length power.levels) input n none));
-    energy = subst (λ e. e ≤ held_energy power (price_of power held input n)) (sym energy) (le_refl (held_energy power (price_of power held input n)));
-  }
+        after = n;
+        from = le_refl n;
+        to = within n n refl;
+        exits = alike.standing ∙ exits;
+        output = alike.output;
+        steps_from = subst (λ k. length (run_of original (length power.levels) input n).steps ≤ k) (sym (ap length (same_steps input n))) (le_refl (length (run_of original (length power.levels) input n).steps));
+        steps_to = within (length (run_of held (length power.levels) input n).steps) (length (run_of original (length power.levels) input n).steps) (ap length (same_steps input n));
+        cycles = within (price_of power held input n).cycles (price_of power original input n).cycles (same_cycles input n);
+        is_level = is_level;
+        in_time = in_time_of (price_of power held input n).time (time_at power level worst) power.deadline paid.time paid.in_time;
+        falls = subst (λ (xs : List Stepped). NeverRises (starting_level (length power.levels) held.keyed_segment) xs) (sym (same_steps input n))
+            (never_rises (starting_level (length power.levels) held.keyed_segment) (run_of original (length power.levels) input n).steps (no_ports original (length power.levels) input n none));
+        energy = subst (λ e. e ≤ held_energy power (price_of power held input n)) (sym energy) (le_refl (held_energy power (price_of power held input n)));
+      }
 
 -- ---- the law
 
