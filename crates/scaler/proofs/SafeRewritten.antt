@@ -26,15 +26,15 @@ use Rattle.scaler.proofs.Safe.{then_ok, is_unscaled}
 
 -- ---- what `rewrite` went through
 
-record WentThrough (image machine loops : List ℕ) (given : List ℕ × Summary) : Type 0 where
-  power : PowerModel
-  original : Image
-  notes : List LoopNote
-  power_is : read_machine machine ≡ Ok power
-  original_is : image_of image ≡ Ok original
-  no_key : original.keyed_segment ≡ None
-  notes_are : read_loops original loops ≡ Ok notes
-  program : IsProgramRewritten power original notes (Ok given)
+pub record WentThrough (image machine loops : List ℕ) (given : List ℕ × Summary) : Type 0 where
+  pub power : PowerModel
+  pub original : Image
+  pub notes : List LoopNote
+  pub power_is : read_machine machine ≡ Ok power
+  pub original_is : image_of image ≡ Ok original
+  pub no_key : original.keyed_segment ≡ None
+  pub notes_are : read_loops original loops ≡ Ok notes
+  pub program : IsProgramRewritten power original notes (Ok given)
 
 pub rewritten_program : (power : PowerModel) (original : Image) (notes : List LoopNote) (given : List ℕ × Summary) → IsRewrittenProgram power original notes (Ok given) → IsProgramRewritten power original notes (Ok given)
 rewritten_program power original notes given (inl h) = let e : Ok given ≡ Err h.refusal = h.answer_is in absurd cc
@@ -44,7 +44,7 @@ rewritten_program power original notes given (inr (inr (inr (inl h)))) = let e =
 rewritten_program power original notes given (inr (inr (inr (inr (inl h))))) = let e = h.answer_is in absurd cc
 rewritten_program power original notes given (inr (inr (inr (inr (inr h))))) = h
 
-went_through : (image machine loops : List ℕ) (given : List ℕ × Summary) → IsRewritten image machine loops (Ok given) → WentThrough image machine loops given
+pub went_through : (image machine loops : List ℕ) (given : List ℕ × Summary) → IsRewritten image machine loops (Ok given) → WentThrough image machine loops given
 unfolding IsRewritten
 went_through image machine loops given h =
     let a = then_ok (read_machine machine) _ given h in
