@@ -5,3 +5,11 @@ pub mod StepLaws
 pub mod PlainLaws
 pub mod TurnLaws
 pub mod RunLaws
+pub mod AlikeLaws
+pub mod OutcomeLaws
+pub mod BoundLaws
+pub mod CountedLaws
+pub mod CountedRuns
+pub mod CounterLaws
+pub mod BoundedRuns
+pub mod Laws

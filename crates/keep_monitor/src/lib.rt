@@ -3,11 +3,13 @@
 
 ghost use Rattle.keep_monitor.specs.Laws.{WatchedRunsAreKept};
 
+mod counter;
 mod headers;
 mod monitor;
 mod slots;
 mod steps;
 
+pub use counter::LoopCounter;
 pub use monitor::Monitor;
 pub use scale_base::Kept;
 

@@ -133,8 +133,8 @@ fn watch_turn(notes: &LoopNotes, number: usize, counts: &mut Vec<u32>, step: &St
     Kept::Kept
 }
 
-// Watches a step of a run that has broken nothing.
-fn watch_next(
+/// Watches a step of a run that has broken nothing.
+pub fn watch_next(
     notes: &LoopNotes,
     headers: &[Header],
     turning: &[usize],
@@ -152,9 +152,9 @@ fn watch_next(
     }
 }
 
-// Whether a step neither calls nor returns, nor leads into a slot of a header, where no loop has to turn before it is left.
+/// Whether a step neither calls nor returns, nor leads into a slot of a header, where no loop has to turn before it is left.
 #[inline(always)]
-fn is_plain(slots: &[bool], turning: &[usize], step: &Stepped) -> bool
+pub fn is_plain(slots: &[bool], turning: &[usize], step: &Stepped) -> bool
     requires { length slots.now ≡ 65536 }
     ensures moved { result ≡ true → step.now.moved ≡ Local }
     ensures turning { result ≡ true → length turning.now ≡ 0 }

@@ -3,4 +3,4 @@ pub mod CodeLaws
 pub mod ProgressLaws
 pub mod ReportLaws
 pub mod TallyLaws
-pub mod WatchLaws
+pub mod SeenLaws

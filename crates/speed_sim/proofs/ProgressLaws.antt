@@ -1,7 +1,8 @@
 -- One step more of a machine's run, or its end.
-use Rattle.std.proofs.Common.{◌≡◌, ℕ, ◌+◌, ◌<◌, [], ◌∷◌, ◌++◌, length, Option, Some, None, option_map, refl, sym, ◌∙◌, ap, subst}
+use Rattle.std.proofs.Common.{◌≡◌, ℕ, ◌+◌, ◌<◌, [], ◌∷◌, ◌++◌, length, Option, Some, None, refl, sym, ◌∙◌, ap, subst}
 use Rattle.std.specs.Prelude.{unwrap_or, IfSome}
 use Rattle.scale_base.specs.declared.stepping.Stepped.{Stepped}
+use Rattle.scale_base.specs.declared.stepping.StepEnd.{StepEnd}
 use Rattle.scale_base.specs.declared.stepping.StepEnd.TheVariants.{Went, Exited, Trapped}
 use Rattle.scale_base.specs.declared.stepping.Trap.{Trap}
 use Rattle.scale_base.specs.State.{Setting, State}
@@ -11,13 +12,13 @@ use Rattle.scale_base.proofs.Laws.{run_none, run_went, run_exited, run_trapped, 
 use Rattle.power_model.specs.Numbers.{RunPrice}
 use Rattle.power_model.specs.Price.{price, metered, unstarted}
 use Rattle.power_model.proofs.Laws.{one_more}
-use Rattle.keep_monitor.specs.Watch.{Watched, watch, watched_first, watched_from}
 use Rattle.speed_sim.specs.Progress.{Job, Progress, IsRunEnd}
-use Rattle.speed_sim.proofs.WatchLaws.{watched_none, watched_step, watched_ended, option_again, option_same, IsEnd}
+use Rattle.speed_sim.specs.Seen.{seen_more, seen_after, seen_from}
+use Rattle.speed_sim.proofs.SeenLaws.{seen_none, seen_step, seen_ended}
 
-pub progress_first : (job : Job) (paid : RunPrice) (watched : Option Watched) → job.start < length job.power.levels → paid ≡ unstarted job.start →
-    job.unwatched ≡ option_map (λ w. watched_first w.notes) job.unwatched → watched ≡ job.unwatched → Progress job 0 job.env job.first paid watched
-progress_first job paid watched lt new none_seen same =
+pub progress_first : {W : Type 0} (job : Job W) (paid : RunPrice) (seen : W) → job.start < length job.power.levels → paid ≡ unstarted job.start →
+    seen ≡ job.unseen → Progress job 0 job.env job.first paid seen
+progress_first job paid seen lt new same =
     let none = run_none job.env job.first in
     record {
       run_is = none ∙ ap (λ xs. going xs job.first) (sym (ap (λ r. r.steps) none));
@@ -25,7 +26,7 @@ progress_first job paid watched lt new none_seen same =
       paid_is = new ∙ ap (price job.power job.start) (sym (ap (λ r. r.steps) none));
       steps_are = ap (λ q. q.steps) new;
       is_level = subst (λ l. l < length job.power.levels) (sym (ap (λ q. q.level) new)) lt;
-      watched_is = same ∙ (none_seen ∙ option_same (λ w. watched_first w.notes) (λ w. watched_from job.env job.first w.notes 0) (λ w. sym (watched_none job.env job.first w.notes)) job.unwatched);
+      seen_is = same ∙ sym (seen_none job.env job.first job.see job.unseen);
     }
 
 -- the level after a step is one
@@ -33,11 +34,11 @@ level_stays : (levels level : ℕ) (port : Option ℕ) → level < levels → If
 level_stays levels level None lt below = lt
 level_stays levels level (Some l) lt below = below
 
-pub progress_went : (job : Job) (k : ℕ) (env : Setting) (now : State) (paid : RunPrice) (watched : Option Watched) (x : Stepped)
-    (env' : Setting) (u : State) (paid' : RunPrice) (watched' : Option Watched) →
-    Progress job k env now paid watched → outcome (Went x) u ≡ step env now → env' ≡ env → IfSome x.port (λ l. l < length job.power.levels) →
-    paid' ≡ metered job.power paid x → watched' ≡ option_map (λ w. watch w x) watched → Progress job (k + 1) env' u paid' watched'
-progress_went job k env now paid watched x env' u paid' watched' p e kept port more seen =
+pub progress_went : {W : Type 0} (job : Job W) (k : ℕ) (env : Setting) (now : State) (paid : RunPrice) (seen : W) (x : Stepped)
+    (env' : Setting) (u : State) (paid' : RunPrice) (seen' : W) →
+    Progress job k env now paid seen → outcome (Went x) u ≡ step env now → env' ≡ env → IfSome x.port (λ l. l < length job.power.levels) →
+    paid' ≡ metered job.power paid x → seen' ≡ job.see seen x → Progress job (k + 1) env' u paid' seen'
+progress_went job k env now paid seen x env' u paid' seen' p e kept port more shown =
     let xs = (run job.env job.first k).steps in
     let here : outcome (Went x) u ≡ step job.env now = e ∙ ap (λ v. step v now) p.env_is in
     let longer : run job.env job.first (k + 1) ≡ going (xs ++ x ∷ []) u = run_went job.env job.first now u k xs x p.run_is here in
@@ -50,43 +51,39 @@ progress_went job k env now paid watched x env' u paid' watched' p e kept port m
       paid_is = more ∙ (ap (λ q. metered job.power q x) p.paid_is ∙ (sym (one_more job.power job.start xs x) ∙ ap (price job.power job.start) (sym steps_are)));
       steps_are = count ∙ ap (λ n. n + 1) p.steps_are;
       is_level = subst (λ l. l < length job.power.levels) (sym level) (level_stays (length job.power.levels) paid.level x.port p.is_level port);
-      watched_is = seen ∙ (ap (option_map (λ w. watch w x)) p.watched_is ∙
-          option_again (λ w. watched_from job.env job.first w.notes k) (λ w. watch w x) (λ w. watched_from job.env job.first w.notes (k + 1))
-          (λ w. sym (watched_step job.env job.first now u w.notes k xs (Went x) p.run_is here)) job.unwatched);
+      seen_is = shown ∙ (ap (λ w. job.see w x) p.seen_is ∙ sym (seen_step job.env job.first now u job.see job.unseen k xs (Went x) p.run_is here));
     }
 
-pub over_exited : (job : Job) (k n : ℕ) (env : Setting) (now : State) (paid : RunPrice) (watched : Option Watched) (x : Stepped) (status : ℕ)
+pub over_exited : {W : Type 0} (job : Job W) (k n : ℕ) (env : Setting) (now : State) (paid : RunPrice) (seen : W) (x : Stepped) (status : ℕ)
     (u : State) (paid' : RunPrice) →
-    Progress job k env now paid watched → k < n → outcome (Exited x status) u ≡ step env now → paid' ≡ metered job.power paid x →
-    IsRunEnd job n (HasExited status) u paid' watched
-over_exited job k n env now paid watched x status u paid' p lt e more =
+    Progress job k env now paid seen → k < n → outcome (Exited x status) u ≡ step env now → paid' ≡ metered job.power paid x →
+    IsRunEnd job n (HasExited status) u paid' seen
+over_exited {W = W} job k n env now paid seen x status u paid' p lt e more =
     let xs = (run job.env job.first k).steps in
     let here : outcome (Exited x status) u ≡ step job.env now = e ∙ ap (λ v. step v now) p.env_is in
     let whole : (m : ℕ) → k < m → run job.env job.first m ≡ record { steps = xs ++ x ∷ []; state = u; standing = HasExited status } =
     λ m h. run_exited job.env job.first now u k m xs x status h p.run_is here in
-    let over : IsEnd (HasExited status) = λ w end. refl in
+    let over : (w : W) (end : StepEnd) → seen_more job.see w (HasExited status) end ≡ w = λ w end. refl in
     record {
       standing_is = ap (λ r. r.standing) (whole n lt);
       state_is = sym (ap (λ r. r.state) (whole n lt));
       paid_is = more ∙ (ap (λ q. metered job.power q x) p.paid_is ∙ (sym (one_more job.power job.start xs x) ∙ ap (λ r. price job.power job.start r.steps) (sym (whole n lt))));
-      watched_is = p.watched_is ∙ option_same (λ w. watched_from job.env job.first w.notes k) (λ w. watched_from job.env job.first w.notes n)
-          (λ w. sym (watched_ended job.env job.first w.notes k n (HasExited status) over (λ m h. ap (λ r. r.standing) (whole m h)) lt ∙
-          watched_step job.env job.first now u w.notes k xs (Exited x status) p.run_is here)) job.unwatched;
+      seen_is = p.seen_is ∙ sym (seen_ended job.env job.first job.see job.unseen k n (HasExited status) over (λ m h. ap (λ r. r.standing) (whole m h)) lt ∙
+          seen_step job.env job.first now u job.see job.unseen k xs (Exited x status) p.run_is here);
     }
 
-pub over_trapped : (job : Job) (k n : ℕ) (env : Setting) (now : State) (paid : RunPrice) (watched : Option Watched) (trap : Trap) (u : State) →
-    Progress job k env now paid watched → k < n → outcome (Trapped trap) u ≡ step env now → IsRunEnd job n (HasTrapped trap) u paid watched
-over_trapped job k n env now paid watched trap u p lt e =
+pub over_trapped : {W : Type 0} (job : Job W) (k n : ℕ) (env : Setting) (now : State) (paid : RunPrice) (seen : W) (trap : Trap) (u : State) →
+    Progress job k env now paid seen → k < n → outcome (Trapped trap) u ≡ step env now → IsRunEnd job n (HasTrapped trap) u paid seen
+over_trapped {W = W} job k n env now paid seen trap u p lt e =
     let xs = (run job.env job.first k).steps in
     let here : outcome (Trapped trap) u ≡ step job.env now = e ∙ ap (λ v. step v now) p.env_is in
     let whole : (m : ℕ) → k < m → run job.env job.first m ≡ record { steps = xs; state = u; standing = HasTrapped trap } =
     λ m h. run_trapped job.env job.first now u k m xs trap h p.run_is here in
-    let over : IsEnd (HasTrapped trap) = λ w end. refl in
+    let over : (w : W) (end : StepEnd) → seen_more job.see w (HasTrapped trap) end ≡ w = λ w end. refl in
     record {
       standing_is = ap (λ r. r.standing) (whole n lt);
       state_is = sym (ap (λ r. r.state) (whole n lt));
       paid_is = p.paid_is ∙ ap (λ r. price job.power job.start r.steps) (sym (whole n lt));
-      watched_is = p.watched_is ∙ option_same (λ w. watched_from job.env job.first w.notes k) (λ w. watched_from job.env job.first w.notes n)
-          (λ w. sym (watched_ended job.env job.first w.notes k n (HasTrapped trap) over (λ m h. ap (λ r. r.standing) (whole m h)) lt ∙
-          watched_step job.env job.first now u w.notes k xs (Trapped trap) p.run_is here)) job.unwatched;
+      seen_is = p.seen_is ∙ sym (seen_ended job.env job.first job.see job.unseen k n (HasTrapped trap) over (λ m h. ap (λ r. r.standing) (whole m h)) lt ∙
+          seen_step job.env job.first now u job.see job.unseen k xs (Trapped trap) p.run_is here);
     }

@@ -2,6 +2,7 @@
 use Rattle.std.proofs.Common.{◌≡◌, ℕ, ◌<◌, List, length, Option, Some, None, option_map, refl, sym, ◌∙◌, ap, subst}
 use Rattle.scale_base.specs.declared.endings.End.{End}
 use Rattle.scale_base.specs.declared.endings.Kept.{Kept}
+use Rattle.scale_base.specs.declared.stepping.Stepped.{Stepped}
 use Rattle.scale_base.specs.Image.{Image, loaded_byte}
 use Rattle.scale_base.specs.Layout.{Layout, layout_of}
 use Rattle.scale_base.specs.State.{Setting, State}
@@ -11,8 +12,10 @@ use Rattle.power_model.specs.Price.{price, held_energy}
 use Rattle.power_model.specs.Report.{Report}
 use Rattle.power_model.proofs.Laws.{start-price}
 use Rattle.loop_file.specs.declared.notes.LoopNote.{LoopNote}
-use Rattle.keep_monitor.specs.Watch.{Watched, watched_first, watched_from}
+use Rattle.keep_monitor.specs.Watch.{Watched, watch, watched_first, watched_from, watched_at}
+use Rattle.speed_sim.specs.Seen.{seen_from}
 use Rattle.speed_sim.specs.Simulated.{run_end, report_of}
+use Rattle.speed_sim.proofs.SeenLaws.{monitor_seen}
 
 -- the setting and the state of an image's run at its start, by their parts
 pub image_setting : (image : Image) (levels : ℕ) (input : List ℕ) (layout : Layout) (n : ℕ) (bytes : List ℕ) →
@@ -30,17 +33,6 @@ pub paid_start : (power : PowerModel) (level n : ℕ) (env : Setting) (first : S
 paid_start power level n env first paid lt h =
     subst (λ l. l < length power.levels) (sym (ap (λ q. q.start) h ∙ start-price power level (run env first n).steps)) lt
 
--- what is told of the loops
-kept_of_notes : (first last : List LoopNote → Watched) → ((loops : List LoopNote) → last (first loops).notes ≡ last loops) → (notes : Option (List LoopNote)) →
-    option_map (λ (w : Watched). w.kept) (option_map (λ w. last w.notes) (option_map first notes)) ≡ option_map (λ loops. (last loops).kept) notes
-kept_of_notes first last e None = refl
-kept_of_notes first last e (Some loops) = ap (λ (w : Watched). Some w.kept) (e loops)
-
-same_kept : (f g : List LoopNote → Watched) → ((loops : List LoopNote) → f loops ≡ g loops) → (notes : Option (List LoopNote)) →
-    option_map (λ loops. (f loops).kept) notes ≡ option_map (λ loops. (g loops).kept) notes
-same_kept f g e None = refl
-same_kept f g e (Some loops) = ap (λ (w : Watched). Some w.kept) (e loops)
-
 abbrev report_with : End → RunPrice → ℕ → List ℕ → Option Kept → Report
 report_with end paid held output kept = record { end = end; paid = paid; held = held; output = output; kept = kept }
 
@@ -49,28 +41,45 @@ same_report : (end end' : End) (paid paid' : RunPrice) (held held' : ℕ) (outpu
     report_with end paid held output kept ≡ report_with end' paid' held' output' kept'
 same_report end end' paid paid' held held' output output' kept kept' a b c d e = cc
 
-pub reported : (power : PowerModel) (image : Image) (input : List ℕ) (notes : Option (List LoopNote)) (level : ℕ) (env : Setting) (first now : State)
-    (end : End) (paid : RunPrice) (held : ℕ) (watched : Option Watched) (kept : Option Kept) →
+pub reported : (power : PowerModel) (image : Image) (input : List ℕ) (level : ℕ) (env : Setting) (first now : State) (end : End) (paid : RunPrice) (held : ℕ) →
     level ≡ starting_level (length power.levels) image.keyed_segment → env ≡ setting_of image (length power.levels) input → first ≡ start_of image (length power.levels) →
     end ≡ run_end (run env first power.steps).standing → paid ≡ price power level (run env first power.steps).steps → now ≡ (run env first power.steps).state →
-    watched ≡ option_map (λ w. watched_from env first w.notes power.steps) (option_map watched_first notes) →
-    held ≡ held_energy power paid → kept ≡ option_map (λ w. w.kept) watched →
-    record { end = end; paid = paid; held = held; output = now.output; kept = kept } ≡ report_of power image input notes
+    held ≡ held_energy power paid → record { end = end; paid = paid; held = held; output = now.output; kept = None } ≡ report_of power image input None
 unfolding report_of run_of
-reported power image input notes level env first now end paid held watched kept level_is env_is first_is end_is paid_is state_is watched_is held_is kept_is =
+reported power image input level env first now end paid held level_is env_is first_is end_is paid_is state_is held_is =
     let levels = length power.levels in
     let n = power.steps in
     let there = run (setting_of image levels input) (start_of image levels) n in
     let whole : run env first n ≡ there = ap (λ e. run e first n) env_is ∙ ap (λ s. run (setting_of image levels input) s n) first_is in
     let same : paid ≡ price power (starting_level levels image.keyed_segment) there.steps =
     paid_is ∙ (ap (λ l. price power l (run env first n).steps) level_is ∙ ap (λ r. price power (starting_level levels image.keyed_segment) r.steps) whole) in
-    let watching : (loops : List LoopNote) → watched_from env first loops n ≡ watched_from (setting_of image levels input) (start_of image levels) loops n =
-    λ loops. ap (λ e. watched_from e first loops n) env_is ∙ ap (λ s. watched_from (setting_of image levels input) s loops n) first_is in
-    same_report _ _ _ _ _ _ _ _ _ _
+    same_report _ _ _ _ _ _ _ _ None None
     (end_is ∙ ap (λ r. run_end r.standing) whole)
     same
     (held_is ∙ ap (held_energy power) same)
     (ap (λ s. s.output) state_is ∙ ap (λ r. r.state.output) whole)
-    (kept_is ∙ (ap (option_map (λ w. w.kept)) watched_is ∙
-    (kept_of_notes watched_first (λ loops. watched_from env first loops n) (λ loops. refl) notes ∙
-    same_kept (λ loops. watched_from env first loops n) (λ loops. watched_from (setting_of image levels input) (start_of image levels) loops n) watching notes)))
+    refl
+
+-- what has seen the run of an image, by the parts of its setting and of its state at the start
+pub seen_there : {W : Type 0} (image : Image) (levels : ℕ) (input : List ℕ) (env : Setting) (first : State) (see : W → Stepped → W) (w : W) (n : ℕ) →
+    env ≡ setting_of image levels input → first ≡ start_of image levels → seen_from env first see w n ≡ seen_from (setting_of image levels input) (start_of image levels) see w n
+seen_there image levels input env first see w n env_is first_is = ap (λ e. seen_from e first see w n) env_is ∙ ap (λ s. seen_from (setting_of image levels input) s see w n) first_is
+
+-- a report that says what is kept of notes
+pub with_kept : (power : PowerModel) (image : Image) (input : List ℕ) (notes : Option (List LoopNote)) (r : Report) (kept : Option Kept) → r ≡ report_of power image input None →
+    kept ≡ option_map (λ loops. (watched_at image (length power.levels) input loops power.steps).kept) notes →
+    record { end = r.end; paid = r.paid; held = r.held; output = r.output; kept = kept } ≡ report_of power image input notes
+unfolding report_of
+with_kept power image input notes r kept is kept_is =
+    same_report _ _ _ _ _ _ _ _ kept _ (ap (λ (q : Report). q.end) is) (ap (λ (q : Report). q.paid) is) (ap (λ (q : Report). q.held) is) (ap (λ (q : Report). q.output) is) kept_is
+
+-- what a monitor says of a run
+pub kept_seen : (env : Setting) (first : State) (notes : Option (List LoopNote)) (n : ℕ) (unseen watched : Option Watched) (kept : Option Kept) → unseen ≡ option_map watched_first notes →
+    watched ≡ seen_from env first (λ o x. option_map (λ w. watch w x) o) unseen n → kept ≡ option_map (λ w. w.kept) watched →
+    kept ≡ option_map (λ loops. (watched_from env first loops n).kept) notes
+kept_seen env first notes n unseen watched kept begun seen is =
+    is ∙ (ap (option_map (λ (w : Watched). w.kept)) (seen ∙ (ap (λ o. seen_from env first (λ o x. option_map (λ w. watch w x) o) o n) begun ∙ monitor_seen env first notes n)) ∙ twice notes)
+  where
+    twice : (o : Option (List LoopNote)) → option_map (λ (w : Watched). w.kept) (option_map (λ l. watched_from env first l n) o) ≡ option_map (λ loops. (watched_from env first loops n).kept) o
+    twice None = refl
+    twice (Some l) = refl

@@ -1,3 +1,4 @@
 pub mod Simulated
+pub mod Seen
 pub mod Progress
 pub mod Tallied

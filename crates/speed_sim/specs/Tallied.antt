@@ -1,5 +1,5 @@
 -- The price of a run as its numbers up to a step and the cycles behind it at the same level.
-use Rattle.std.specs.Prelude.{◌≡◌, ℕ, ◌+◌, ◌*◌, List, slice_index, Option, Some, None, option_map}
+use Rattle.std.specs.Prelude.{◌≡◌, ℕ, ◌+◌, ◌*◌, List, slice_index, Option, Some, None}
 use Rattle.scale_base.specs.declared.endings.End.{End}
 use Rattle.scale_base.specs.declared.endings.End.TheVariants as endings
 use Rattle.scale_base.specs.declared.stepping.Class.{Class}
@@ -12,7 +12,8 @@ use Rattle.power_model.specs.declared.power.Costs.{Costs}
 use Rattle.power_model.specs.Levels.{level}
 use Rattle.power_model.specs.Numbers.{PowerModel, RunPrice}
 use Rattle.power_model.specs.Price.{cycles_of, metered, time_at, energy_at}
-use Rattle.keep_monitor.specs.Watch.{Watched, watch}
+use Rattle.scale_base.specs.declared.stepping.Stepped.{Stepped}
+use Rattle.speed_sim.specs.Seen.{seen_after}
 use Rattle.speed_sim.specs.declared.tally.Tally.{Tally}
 
 -- the numbers after more steps at the same level, of so many cycles, so many of them of keyed instructions
@@ -59,15 +60,9 @@ ended_by (Went x) = None
 ended_by (Exited x status) = Some (endings.Exited status)
 ended_by (Trapped trap) = Some (endings.Trapped trap)
 
--- what was watched after a step that ended so
-abbrev pub watched_after : StepEnd → Option Watched → Option Watched
-watched_after (Went x) watched = option_map (λ w. watch w x) watched
-watched_after (Exited x status) watched = watched
-watched_after (Trapped trap) watched = watched
-
--- after a step that led there: the state, the price, what was watched, and how the run ended
-pub record IsAdvance (power : PowerModel) (o : Outcome) (s : State) (old new : RunPrice) (watched watched' : Option Watched) (ended : Option End) : Type 0 where
+-- after a step that led there: the state, the price, what has seen the run, and how the run ended
+pub record IsAdvance {W : Type 0} (power : PowerModel) (see : W → Stepped → W) (o : Outcome) (s : State) (old new : RunPrice) (seen seen' : W) (ended : Option End) : Type 0 where
   pub state : s ≡ o.state
   pub paid : IsPaid power o.end old new
-  pub seen : watched' ≡ watched_after o.end watched
+  pub seen_is : seen' ≡ seen_after see o.end seen
   pub over : ended ≡ ended_by o.end

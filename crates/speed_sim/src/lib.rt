@@ -13,9 +13,11 @@ mod running;
 mod tally;
 mod watcher;
 
+pub use allowed::start_of;
 use elf_view::read_image;
 use machine_file::read_machine;
 pub use power_model::RunReport;
+pub use reporting::{counted_report, report};
 pub use scale_base::End;
 use scale_base::Stop;
 use std::alloc::Global;
@@ -39,9 +41,9 @@ pub fn simulate(
     let view = read_image(alloc, image)?;
     let keyed = view.keyed();
     allowed::check_loops(loops, keyed)?;
-    let start = allowed::start_of(power.levels.count(), keyed)?;
+    let start = start_of(power.levels.count(), keyed)?;
     let notes = allowed::read_notes(alloc, &view, loops)?;
-    Ok(reporting::report(alloc, &view, &power, start, input, notes)?)
+    Ok(report(alloc, &view, &power, start, input, notes)?)
 }
 
 #[cfg(test)]

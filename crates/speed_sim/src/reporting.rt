@@ -1,14 +1,17 @@
 //! The report of a run.
 
-ghost use Rattle.std.specs.Prelude.{◌≡◌, ◌<◌, length, IfOk};
-ghost use Rattle.scale_base.specs.Run.{starting_level};
+ghost use Rattle.std.specs.Prelude.{◌≡◌, ◌<◌, length, None, Some, IfOk, OnOk};
+ghost use Rattle.scale_base.specs.Run.{starting_level, setting_of, start_of};
+ghost use Rattle.keep_monitor.specs.Counted.{counted_at};
 ghost use Rattle.power_model.specs.Report.{report_view};
+ghost use Rattle.speed_sim.specs.Seen.{seen_from};
 ghost use Rattle.speed_sim.specs.Simulated.{report_of};
 
 use crate::running::run_machine;
-use crate::watcher::{kept_of, watcher_of};
+use crate::watcher::{Watches, kept_of, watcher_of};
 use elf_view::ImageView;
 use flat_memory::load_pages;
+use keep_monitor::LoopCounter;
 use loop_file::LoopNotes;
 use power_model::{Power, RunReport};
 use rv_machine::{Machine, Places, decode_code};
@@ -21,6 +24,41 @@ fn keyed_range(view: &ImageView<'_>) -> Option<Range> {
         Some(keyed) => Some(keyed.range),
         None => None,
     }
+}
+
+/// The report of the run of an image from a level, with an input, whose steps a watcher sees. It says nothing of loops.
+fn watched_report<W: Watches>(
+    alloc: Global,
+    view: &ImageView<'_>,
+    power: &Power,
+    start: u8,
+    input: &[u8],
+    watcher: &mut W,
+) -> Result<RunReport, NoMemory>
+    requires start { start ≡ starting_level (length power.now.levels) view.now.keyed_segment }
+    requires is_level { start < length power.now.levels }
+    ensures report { IfOk result (λ r. report_view r ≡ report_of power.now view.now input.now None) }
+    ensures watched { let levels = length power.now.levels in OnOk result (watcher.new ≡ seen_from (setting_of view.now levels input.now) (start_of view.now levels) W.watched watcher.old power.now.steps) }
+{
+    let memory = load_pages(alloc, view)?;
+    let keyed = keyed_range(view);
+    let places = Places {
+        text: view.text(),
+        keyed,
+    };
+    let code = decode_code(alloc, &memory, &places)?;
+    let input = Vec::from_slice(alloc, input)?;
+    let levels = power.levels.count();
+    let mut machine = Machine::start(alloc, memory, view.entry(), levels, start, input)?;
+    let (end, meter) = run_machine(&mut machine, &code, power, start, watcher);
+    let world = machine.world;
+    Ok(RunReport {
+        end,
+        held: meter.held(power),
+        meter,
+        output: world.output,
+        kept: None,
+    })
 }
 
 /// The report of the run of an image from a level, with an input. Where there are notes of loops, it says whether they are kept.
@@ -36,24 +74,30 @@ pub fn report(
     requires is_level { start < length power.now.levels }
     ensures { IfOk result (λ r. report_view r ≡ report_of power.now view.now input.now notes) }
 {
-    let memory = load_pages(alloc, view)?;
-    let keyed = keyed_range(view);
-    let places = Places {
-        text: view.text(),
-        keyed,
-    };
-    let code = decode_code(alloc, &memory, &places)?;
-    let input = Vec::from_slice(alloc, input)?;
-    let levels = power.levels.count();
-    let mut machine = Machine::start(alloc, memory, view.entry(), levels, start, input)?;
     let mut watcher = watcher_of(alloc, notes)?;
-    let (end, meter) = run_machine(&mut machine, &code, power, start, &mut watcher);
-    let world = machine.world;
-    Ok(RunReport {
-        end,
-        held: meter.held(power),
-        meter,
-        output: world.output,
-        kept: kept_of(&watcher),
-    })
+    let mut report = watched_report(alloc, view, power, start, input, &mut watcher)?;
+    report.kept = kept_of(&watcher);
+    Ok(report)
+}
+
+/// The report of the run of an image from a level, with an input, whose loops a counter counts. It says whether the counter's notes are
+/// kept.
+pub fn counted_report(
+    alloc: Global,
+    view: &ImageView<'_>,
+    power: &Power,
+    start: u8,
+    input: &[u8],
+    counter: &mut LoopCounter,
+) -> Result<RunReport, NoMemory>
+    requires start { start ≡ starting_level (length power.now.levels) view.now.keyed_segment }
+    requires is_level { start < length power.now.levels }
+    ensures report { IfOk result (λ r. report_view r ≡ report_of power.now view.now input.now (Some counter.old.notes)) }
+    ensures kept { IfOk result (λ r. r.kept ≡ Some counter.new.kept) }
+    ensures counted { OnOk result (counter.new ≡ counted_at view.now (length power.now.levels) input.now counter.old.notes counter.old.most power.now.steps) }
+{
+    counter.begin();
+    let mut report = watched_report(alloc, view, power, start, input, counter)?;
+    report.kept = Some(counter.kept());
+    Ok(report)
 }

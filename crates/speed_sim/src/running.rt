@@ -1,19 +1,19 @@
 //! The run of a machine.
 
-ghost use Rattle.std.specs.Prelude.{◌≡◌, ◌<◌, ◌+◌, ◌^◌, length, option_map};
+ghost use Rattle.std.specs.Prelude.{◌≡◌, ◌<◌, ◌+◌, ◌^◌, length};
 ghost use Rattle.scale_base.specs.Step as steps;
 ghost use Rattle.scale_base.specs.Step.{PortBelow};
 ghost use Rattle.scale_base.specs.Run.{run};
 ghost use Rattle.power_model.specs.Price.{price};
 ghost use Rattle.rv_machine.specs.Code.{IsDecodedCode, IsFixed};
 ghost use Rattle.rv_machine.specs.Machine.{state_of, machine_setting, outcome_of};
-ghost use Rattle.keep_monitor.specs.Watch.{watched_first, watched_from};
 ghost use Rattle.speed_sim.specs.Simulated.{run_end};
-ghost use Rattle.speed_sim.specs.Tallied.{tallied, AreCosts, IsPaid, IsAdvance, ended_by, watched_after};
+ghost use Rattle.speed_sim.specs.Seen.{seen_after, seen_from};
+ghost use Rattle.speed_sim.specs.Tallied.{tallied, AreCosts, IsPaid, IsAdvance, ended_by};
 
 use crate::costs::CostTable;
 use crate::tally::Tally;
-use crate::watcher::{Watcher, show};
+use crate::watcher::Watches;
 use flat_memory::Memory;
 use power_model::{Meter, Power};
 use rv_machine::{Code, Decoded, Machine, step, step_decoded};
@@ -63,13 +63,13 @@ fn pay_step<M: Memory>(machine: &mut Machine<M>, power: &Power, tally: &mut Tall
 
 /// Shows a completed step after which the run goes on to the watcher, and says how the run ended otherwise.
 #[inline(always)]
-fn seen(watcher: &mut Option<Watcher>, end: &StepEnd) -> Option<End>
-    ensures watched { watcher.new ≡ watched_after end.now watcher.old }
+fn seen<W: Watches>(watcher: &mut W, end: &StepEnd) -> Option<End>
+    ensures watched { watcher.new ≡ seen_after W.watched end.now watcher.old }
     ensures ended { result ≡ ended_by end.now }
 {
     match end {
         StepEnd::Went(done) => {
-            show(watcher, done);
+            watcher.show(done);
             None
         }
         StepEnd::Exited(_, status) => Some(End::Exited(*status)),
@@ -79,20 +79,20 @@ fn seen(watcher: &mut Option<Watcher>, end: &StepEnd) -> Option<End>
 
 /// One step of the machine, with its code, priced and watched, and how the run ended, if the step ended it.
 #[inline(always)]
-fn advance<M: Memory>(
+fn advance<M: Memory, W: Watches>(
     machine: &mut Machine<M>,
     code: &Code,
     power: &Power,
     costs: &CostTable,
     tally: &mut Tally,
-    watcher: &mut Option<Watcher>,
+    watcher: &mut W,
 ) -> Option<End>
     requires code { IsDecodedCode (M.layout machine.old.memory) (M.bytes machine.old.memory) code.now }
     requires costs { AreCosts power.now.costs costs.now.by_class }
     requires levels { machine.old.levels ≡ length power.now.levels }
     requires level { tally.old.meter.level < length power.now.levels }
     requires few { tally.old.meter.steps + tally.old.steps < 2 ^ 40 }
-    ensures advance { let o = steps.step (machine_setting M.layout machine.old) (state_of M.bytes machine.old) in IsAdvance power.now o (state_of M.bytes machine.new) (tallied power.now tally.old) (tallied power.now tally.new) watcher.old watcher.new result }
+    ensures advance { let o = steps.step (machine_setting M.layout machine.old) (state_of M.bytes machine.old) in IsAdvance power.now W.watched o (state_of M.bytes machine.new) (tallied power.now tally.old) (tallied power.now tally.new) watcher.old watcher.new result }
     ensures setting { machine_setting M.layout machine.new ≡ machine_setting M.layout machine.old }
     ensures port { let o = steps.step (machine_setting M.layout machine.old) (state_of M.bytes machine.old) in PortBelow o.end machine.old.levels }
 {
@@ -104,21 +104,20 @@ fn advance<M: Memory>(
 
 /// Runs the machine, with its code, from a level for at most as many steps as its power model says. A meter has the price of each completed
 /// step, and the watcher sees each step after which the run goes on.
-pub fn run_machine<M: Memory>(
+pub fn run_machine<M: Memory, W: Watches>(
     machine: &mut Machine<M>,
     code: &Code,
     power: &Power,
     start: u8,
-    watcher: &mut Option<Watcher>,
+    watcher: &mut W,
 ) -> (End, Meter)
     requires code { IsDecodedCode (M.layout machine.old.memory) (M.bytes machine.old.memory) code.now }
     requires levels { machine.old.levels ≡ length power.now.levels }
     requires start { start < length power.now.levels }
-    requires unwatched { watcher.old ≡ option_map (λ w. watched_first w.notes) watcher.old }
     ensures end { let r = run (machine_setting M.layout machine.old) (state_of M.bytes machine.old) power.now.steps in result.0 ≡ run_end r.standing }
     ensures paid { let r = run (machine_setting M.layout machine.old) (state_of M.bytes machine.old) power.now.steps in result.1 ≡ price power.now start r.steps }
     ensures state { let r = run (machine_setting M.layout machine.old) (state_of M.bytes machine.old) power.now.steps in state_of M.bytes machine.new ≡ r.state }
-    ensures watched { let env = machine_setting M.layout machine.old in let first = state_of M.bytes machine.old in watcher.new ≡ option_map (λ w. watched_from env first w.notes power.now.steps) watcher.old }
+    ensures watched { let env = machine_setting M.layout machine.old in let first = state_of M.bytes machine.old in watcher.new ≡ seen_from env first W.watched watcher.old power.now.steps }
 {
     let costs = CostTable::new(&power.costs);
     let mut tally = Tally::new(start);

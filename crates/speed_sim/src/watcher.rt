@@ -1,13 +1,24 @@
 //! Watches a run whose loops are noted.
 
 ghost use Rattle.std.specs.Prelude.{◌≡◌, IfOk, option_map};
+ghost use Rattle.scale_base.specs.declared.stepping.Stepped.{Stepped};
 ghost use Rattle.keep_monitor.specs.Watch.{watched_first, watch};
+ghost use Rattle.keep_monitor.specs.Counted.{counted};
 
-use keep_monitor::Monitor;
+use keep_monitor::{LoopCounter, Monitor};
 use loop_file::LoopNotes;
 use scale_base::{Kept, NoMemory, Stepped};
 use std::alloc::Global;
 use std::marker::Model;
+
+/// Sees the completed steps of a run after which it goes on.
+pub trait Watches {
+    ghost watched: { Self → Stepped → Self };
+
+    /// Sees the next step.
+    fn show(&mut self, step: &Stepped)
+        ensures { self.new ≡ watched self.old step.now };
+}
 
 /// A monitor, and what it said last.
 #[derive(Drop)]
@@ -64,13 +75,23 @@ pub fn watcher_of(alloc: Global, notes: Option<LoopNotes>) -> Result<Option<Watc
     }
 }
 
-/// Shows the next step to the watcher, if there is one.
-#[inline(always)]
-pub fn show(watcher: &mut Option<Watcher>, step: &Stepped)
-    ensures { watcher.new ≡ option_map (λ w. watch w step.now) watcher.old }
-{
-    if let Some(watcher) = watcher {
-        watcher.see(step);
+impl Watches for Option<Watcher> {
+    ghost watched = { λ o x. option_map (λ w. watch w x) o };
+
+    #[inline(always)]
+    fn show(&mut self, step: &Stepped) {
+        if let Some(watcher) = self {
+            watcher.see(step);
+        }
+    }
+}
+
+impl Watches for LoopCounter {
+    ghost watched = { counted };
+
+    #[inline(always)]
+    fn show(&mut self, step: &Stepped) {
+        self.see(step);
     }
 }
 

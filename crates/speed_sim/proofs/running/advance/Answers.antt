@@ -12,14 +12,14 @@ pay_known-requires-clause-known g c =
 
 pub returns-in-Some-clause-advance : goal.returns-in-Some-clause-advance
 returns-in-Some-clause-advance g c =
-    advanced _ _ _ c.pay_known.result _ _ _ _ _ c.pay_known.ensures.outcome c.pay_known.ensures.paid c.seen.ensures.watched c.seen.ensures.ended
+    advanced _ _ _ _ c.pay_known.result _ _ _ _ _ c.pay_known.ensures.outcome c.pay_known.ensures.paid c.seen.ensures.watched c.seen.ensures.ended
 
 pub returns-in-Some-clause-port : goal.returns-in-Some-clause-port
 returns-in-Some-clause-port g c = port_of _ _ c.pay_known.result _ c.pay_known.ensures.outcome c.pay_known.ensures.port
 
 pub returns-in-None-clause-advance : goal.returns-in-None-clause-advance
 returns-in-None-clause-advance g c =
-    advanced _ _ _ c.pay_step.result _ _ _ _ _ c.pay_step.ensures.outcome c.pay_step.ensures.paid c.seen-in-None.ensures.watched c.seen-in-None.ensures.ended
+    advanced _ _ _ _ c.pay_step.result _ _ _ _ _ c.pay_step.ensures.outcome c.pay_step.ensures.paid c.seen-in-None.ensures.watched c.seen-in-None.ensures.ended
 
 pub returns-in-None-clause-port : goal.returns-in-None-clause-port
 returns-in-None-clause-port g c = port_of _ _ c.pay_step.result _ c.pay_step.ensures.outcome c.pay_step.ensures.port

@@ -11,7 +11,7 @@ use Rattle.speed_sim.proofs.running.run_machine.Goals as goal
 
 pub loop-step-init : goal.loop-step-init
 loop-step-init g c = record {
-  progress = progress_first _ _ _ c.requires.start (c.new-tally.ensures c.args.power.now) c.requires.unwatched refl;
+  progress = progress_first _ _ _ c.requires.start (c.new-tally.ensures c.args.power.now) refl;
   code = c.requires.code;
   costs = subst (λ (costs : Costs). AreCosts costs c.new-costs.result.by_class) (ap (λ (p : PowerModel). p.costs) c.power.view_is) c.new-costs.ensures;
 }
@@ -24,7 +24,7 @@ loop-step-preserved g c =
     let advance = rw c.in_default.is at c.advance.ensures.advance in
     record {
       progress = progress_on _ _ env now _ _ _ _ _ _ c.loop-step.invariant.progress advance c.advance.ensures.setting (subst (λ n. PortBelow (step env now).end n) levels c.advance.ensures.port);
-      code = code_still _ env now _ _ _ _ _ _ c.args.code.now advance c.advance.ensures.setting c.loop-step.invariant.code;
+      code = code_still _ _ env now _ _ _ _ _ _ c.args.code.now advance c.advance.ensures.setting c.loop-step.invariant.code;
       costs = c.loop-step.invariant.costs;
     }
 
@@ -32,4 +32,4 @@ pub returns-in-Some : goal.returns-in-Some
 returns-in-Some g c =
     let limit : c.power.inside.steps ≡ c.args.power.now.steps = ap (λ (p : PowerModel). p.steps) c.power.view_is in
     let over = progress_over _ _ c.args.power.now.steps _ _ _ _ _ _ _ c.in-Some.end c.loop-step.invariant.progress (omega arith) (rw c.in-Some.is at c.advance.ensures.advance) in
-    record { end = over.end_is; paid = c.meter.ensures ∙ over.paid_is; state = over.state_is; watched = over.watched_is }
+    record { end = over.end_is; paid = c.meter.ensures ∙ over.paid_is; state = over.state_is; watched = over.seen_is }

@@ -6,12 +6,13 @@ use Rattle.speed_sim.proofs.running.run_machine.Given as goal
 
 abbrev pub invariant-loop-step : goal.invariant-loop-step
 invariant-loop-step g l =
-    let job : Job = record {
+    let job : Job _ = record {
       power = l.fn.power;
       env = machine_setting g.M.Memory.layout l.initial.machine;
       first = state_of g.M.Memory.bytes l.initial.machine;
       start = l.start;
-      unwatched = l.initial.watcher;
+      see = g.W.Watches.watched;
+      unseen = l.initial.watcher;
     } in
     record {
       progress : Progress job l._step (machine_setting g.M.Memory.layout l.machine) (state_of g.M.Memory.bytes l.machine) (tallied l.fn.power l.tally) l.watcher;
