@@ -128,9 +128,9 @@ within_on env s one other lower n x a going next low = by_outcome (outcome one a
     on : (after : List ℕ) → returns_after a.returns x ≡ Some after → length after ≤ most_returns → AgreeOr one other (watch (going_with one a.returns a.counts) x) (watch (going_with other a.returns a.counts) x)
     on after moved shallow =
         let p : KeepsAll one a.returns a.counts x = keeps one lower.one_free a.returns a.counts x after moved shallow
-            (λ k kl. let b = below after moved shallow k (long k kl) in let c = lower.bounds k (long k kl) in omega (arith, b, c)) in
+        (λ k kl. let b = below after moved shallow k (long k kl) in let c = lower.bounds k (long k kl) in omega (arith, b, c)) in
         let q : KeepsAll other a.returns a.counts x = keeps other lower.other_free a.returns a.counts x after moved shallow
-            (λ k kl. let b = below after moved shallow k kl in let e = count_too one other lower.alike a.returns a.counts x k kl in omega (arith, b, e)) in
+        (λ k kl. let b = below after moved shallow k kl in let e = count_too one other lower.alike a.returns a.counts x k kl in omega (arith, b, e)) in
         inl (agree_after one other lower.alike a.returns a.counts x p q)
 
     by_outcome : Outcome one a.returns a.counts x → AgreeOr one other (watch (watched_from env s one n) x) (watch (watched_from env s other n) x)
@@ -159,7 +159,7 @@ within_bounds env s one other lower zero low =
     inl (subst (λ w. Agree one other w (watched_from env s other 0)) (sym (watched_none env s one)) (subst (λ v. Agree one other (watched_first one) v) (sym (watched_none env s other)) (agree_first one other lower.alike)))
 within_bounds env s one other lower (suc n) low =
     let h = within_more env s one other lower n (within_bounds env s one other lower n (λ j k count jl. low j k count (let l : j < suc n = omega arith in l)))
-        (λ k count. low n k count (let l : n < suc n = omega arith in l)) (run env s n).standing (step env (run env s n).state).end refl refl in
+    (λ k count. low n k count (let l : n < suc n = omega arith in l)) (run env s n).standing (step env (run env s n).state).end refl refl in
     subst (λ w. AgreeOr one other w (watched_from env s other (suc n))) (sym (watched_more env s one n))
     (subst (λ v. AgreeOr one other (watch_end (watched_from env s one n) (run env s n).standing (step env (run env s n).state).end) v) (sym (watched_more env s other n)) h)
 
@@ -190,7 +190,7 @@ tight_break env s one other n l most t j jl x a after going next moved shallow h
     let same = count_too one other t.alike a.returns a.counts x l t.loop in
     let bound = t.bound in
     let broken = breaks_one other t.free a.returns a.counts x after moved shallow l t.loop (omega (arith, same, here, bound))
-        (λ k kl ne. let b = t.others j k _ jl kl ne (reaches_here env s one other j k x a after going next moved shallow) in let e = count_too one other t.alike a.returns a.counts x k kl in omega (arith, b, e)) in
+    (λ k kl ne. let b = t.others j k _ jl kl ne (reaches_here env s one other j k x a after going next moved shallow) in let e = count_too one other t.alike a.returns a.counts x k kl in omega (arith, b, e)) in
     ap (λ (u : Watched). (watch u x).kept) a.other_is ∙ (broken ∙ ap (BrokeBound (l + 1)) (same ∙ here))
 
 tight_on : (env : Setting) (s : State) (one other : List LoopNote) (n l most : ℕ) → IsTight env s one other n l most → (j : ℕ) → j < n → (x : Stepped) (a : Agree one other (watched_from env s one j) (watched_from env s other j)) →

@@ -216,24 +216,28 @@ more env s notes n x old going next kept loops size low = by_outcome (outcome (m
         × ((watch (watched_from env s (map relaxed_note notes) n) x).notes ≡ map relaxed_note notes)
     by_outcome (inl q) =
         let after = ap (λ u. watch u x) same ∙ q.is in
-        let none : raised w old x (returns_after w.returns x) ≡ old = raised_none w old x (returns_after w.returns x) q.broken q.why in
-        (record {
-          size = ap length none ∙ size;
-          grown = λ k kl. subst (λ m. slice_index old k ≤ slice_index m k) (sym none) (omega arith);
-          low = λ k kl. subst (λ m. slice_index (watch w x).counts k ≤ slice_index m k) (sym none) (subst (λ u. slice_index u k ≤ slice_index old k) (sym (ap (λ (u : Watched). u.counts) after)) (low k kl));
-          bound = λ k count kl r. let unbroken = reached_unbroken env s (map relaxed_note notes) n k count x next r in let bad : ⊥ = cc in absurd bad;
-          one = λ k kl. inl (ap (λ m. slice_index m k) none);
-        }, ap (λ (u : Watched). u.notes) after)
+        let none : raised w old x (returns_after w.returns x) ≡ old = raised_none w old x (returns_after w.returns x) q.broken q.why in (
+          record {
+            size = ap length none ∙ size;
+            grown = λ k kl. subst (λ m. slice_index old k ≤ slice_index m k) (sym none) (omega arith);
+            low = λ k kl. subst (λ m. slice_index (watch w x).counts k ≤ slice_index m k) (sym none) (subst (λ u. slice_index u k ≤ slice_index old k) (sym (ap (λ (u : Watched). u.counts) after)) (low k kl));
+            bound = λ k count kl r. let unbroken = reached_unbroken env s (map relaxed_note notes) n k count x next r in let bad : ⊥ = cc in absurd bad;
+            one = λ k kl. inl (ap (λ m. slice_index m k) none);
+          },
+          ap (λ (u : Watched). u.notes) after,
+        )
     by_outcome (inr (inl q)) =
-        let after = ap (λ u. watch u x) same ∙ q.is in
-        (more_by env s notes n x old q.after going next kept loops size low q.returns_are q.shallow (watch w x) (λ k kl. inl (ap (λ (u : Watched). slice_index u.counts k) after)),
-        ap (λ (u : Watched). u.notes) after)
+        let after = ap (λ u. watch u x) same ∙ q.is in (
+          more_by env s notes n x old q.after going next kept loops size low q.returns_are q.shallow (watch w x) (λ k kl. inl (ap (λ (u : Watched). slice_index u.counts k) after)),
+          ap (λ (u : Watched). u.notes) after,
+        )
     by_outcome (inr (inr q)) =
-        let after = ap (λ u. watch u x) same ∙ q.is in
-        (more_by env s notes n x old q.after going next kept loops size low q.returns_are q.shallow (watch w x)
-        (λ k kl. inr (ap (λ (u : Watched). slice_index u.counts k) after ∙
-        (get_or-map-range_with_len (next_counts (going_with (map relaxed_note notes) w.returns w.counts) x) 0 (length (map relaxed_note notes)) k k 0 (subst (λ m. k < m) (sym (length-map notes relaxed_note)) kl) (omega arith) ∙ counts_of k))),
-        ap (λ (u : Watched). u.notes) after)
+        let after = ap (λ u. watch u x) same ∙ q.is in (
+          more_by env s notes n x old q.after going next kept loops size low q.returns_are q.shallow (watch w x)
+              (λ k kl. inr (ap (λ (u : Watched). slice_index u.counts k) after ∙
+              (get_or-map-range_with_len (next_counts (going_with (map relaxed_note notes) w.returns w.counts) x) 0 (length (map relaxed_note notes)) k k 0 (subst (λ m. k < m) (sym (length-map notes relaxed_note)) kl) (omega arith) ∙ counts_of k))),
+          ap (λ (u : Watched). u.notes) after,
+        )
 
 -- ---- a step more
 

@@ -91,8 +91,7 @@ fn raise_loops(
     ensures others { (k : ℕ) → ((j : ℕ) → j < length group.now → (sorted_header group.now j).number ≢ k) → slice_index most.new k ≡ slice_index most.old k }
 {
     for header in group {
-        most[header.number] =
-            raised_to(notes, header.number, counts, source, most[header.number]);
+        most[header.number] = raised_to(notes, header.number, counts, source, most[header.number]);
     }
 }
 

@@ -358,21 +358,21 @@ fn prints_verdicts(rt: HostRuntime) -> Result<(), Fail> {
 }
 
 // The price of a run of so many cycles at level 1.
-fn priced(cycles: u64, time: u128, energy: u128) -> Meter {
+fn priced(cycles: u16, time: u16, energy: u16) -> Meter {
     Meter {
         start: 1,
         level: 1,
         steps: 16,
-        cycles,
-        time,
-        energy,
+        cycles: u64::from(cycles),
+        time: u128::from(time),
+        energy: u128::from(energy),
         switches: 0,
         keyed: 0,
     }
 }
 
 // The runs on an input: the original's cycles, and the scaled run's cycles, time and energy.
-fn runs_of(cycles: u64, scaled: u64, time: u128, energy: u128) -> SurveyLine {
+fn runs_of(cycles: u16, scaled: u16, time: u16, energy: u16) -> SurveyLine {
     SurveyLine {
         end: End::Exited(0),
         kept: Kept::Kept,

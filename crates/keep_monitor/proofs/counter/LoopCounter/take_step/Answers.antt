@@ -43,17 +43,19 @@ invariant_of-self c =
     watch_returns (going_with inside.relaxed returns inside.counts.items) x (returns_after returns x) = c.watch_next-self-inside.ensures.watched in
     let most : List ℕ = c.raise.new.most in
     let back : take inside.most.len (most ++ drop (length most) inside.most.items) ≡ most = take_at most (drop (length most) inside.most.items) inside.most.len (c.raise.auto.most ∙ c.deref_mut.ensures.len) in
-    let whole = c.self.invariant.0 in
-    (record {
-      relaxed_is = whole.relaxed_is;
-      notes_fit = whole.notes_fit;
-      monitor = subst (λ (hs : List Header). IsMonitor inside.relaxed hs [] (vec_len c.watch_next-self-inside.new.returns) (vec_capacity c.watch_next-self-inside.new.returns) c.watch_next-self-inside.new.counts.items)
-          c.deref-in-Kept-6.ensures.value c.watch_next-self-inside.ensures.fits;
-      turning_fit = whole.turning_fit;
-      size = ap length back ∙ (c.raise.auto.most ∙ (ap length c.deref_mut.ensures.value ∙ whole.size));
-      bounded = λ e. judged_counts inside.notes inside.relaxed whole.notes_fit whole.relaxed_is returns inside.counts.items x inside.kept c.judge-self-inside.result
-          (reverse c.watch_next-self-inside.new.returns.items) c.watch_next-self-inside.new.counts.items c.watch_next-self-inside.result judging watching e;
-    }, c.self.invariant.1)
+    let whole = c.self.invariant.0 in (
+      record {
+        relaxed_is = whole.relaxed_is;
+        notes_fit = whole.notes_fit;
+        monitor = subst (λ (hs : List Header). IsMonitor inside.relaxed hs [] (vec_len c.watch_next-self-inside.new.returns) (vec_capacity c.watch_next-self-inside.new.returns) c.watch_next-self-inside.new.counts.items)
+            c.deref-in-Kept-6.ensures.value c.watch_next-self-inside.ensures.fits;
+        turning_fit = whole.turning_fit;
+        size = ap length back ∙ (c.raise.auto.most ∙ (ap length c.deref_mut.ensures.value ∙ whole.size));
+        bounded = λ e. judged_counts inside.notes inside.relaxed whole.notes_fit whole.relaxed_is returns inside.counts.items x inside.kept c.judge-self-inside.result
+            (reverse c.watch_next-self-inside.new.returns.items) c.watch_next-self-inside.new.counts.items c.watch_next-self-inside.result judging watching e;
+      },
+      c.self.invariant.1,
+    )
 
 pub returns-in-Kept : goal.returns-in-Kept
 returns-in-Kept c =
