@@ -1,0 +1,91 @@
+-- The cheapest of the candidates so far.
+use Rattle.std.proofs.Common.{◌≡◌, ℕ, ◌+◌, ◌<◌, ◌≤◌, Bool, true, false, cond, List, Option, Some, None, refl, sym, subst, arith, ◌⊎◌, inl, inr}
+use Rattle.std.specs.Prelude.{nat_lt}
+use Rattle.std.proofs.lemmas.Bool.{ltb-true, ltb-false}
+use Rattle.scale_base.specs.declared.summary.Summary.{Summary}
+use Rattle.gain_tuner.specs.declared.choosing.Trial.{Trial}
+use Rattle.gain_tuner.specs.Choice.{IsTrial}
+use Rattle.gain_tuner.specs.Finding.{IsSafeTrial, IsTrialOr, IsSafeChoice, cheaper_of}
+use Rattle.gain_tuner.proofs.Trials.{same_energy}
+
+module _ (image machine loops : List ℕ) (given : List (List ℕ)) where
+  abbrev TrialOf : ℕ → List ℕ → Summary → ℕ → Type 0
+  TrialOf c stored summary energy = IsTrial image machine loops given c stored summary energy
+
+  moved : (c d : ℕ) (stored : List ℕ) (summary : Summary) (energy : ℕ) → c ≡ d → TrialOf c stored summary energy → TrialOf d stored summary energy
+  moved c d stored summary energy e t = subst (λ n. TrialOf n stored summary energy) e t
+
+  -- the first of them
+  pub first_choice : (t : Trial) → IsSafeTrial image machine loops given 0 t → IsSafeChoice image machine loops given 1 t
+  first_choice t h = record {
+    cheapest = record {
+      below = omega (arith, h.candidate);
+      trial = moved 0 t.candidate t.stored.items t.summary t.energy (sym h.candidate) h.trial;
+      least = λ d other s e lt is.
+          let zero : d ≡ 0 = omega (arith, lt) in
+          let same : t.energy ≡ e = same_energy image machine loops given 0 t.stored.items other t.summary s t.energy e h.trial (moved d 0 other s e zero is) in
+          omega (arith, same);
+      first = λ d other s e lt is. absurd (omega (arith, lt, h.candidate));
+    };
+    safe = h.safe;
+  }
+
+  below_or : (d n : ℕ) → d < n + 1 → (d < n) ⊎ (d ≡ n)
+  below_or d n lt = go (nat_lt d n) refl
+    where
+      go : (b : Bool) → nat_lt d n ≡ b → (d < n) ⊎ (d ≡ n)
+      go true e = inl (ltb-true d n e)
+      go false e = let ge : n ≤ d = ltb-false d n e in inr (omega (arith, lt, ge))
+
+  -- a candidate that is out changes nothing
+  kept_out : (n : ℕ) (best : Trial) → IsSafeChoice image machine loops given n best → ((stored : List ℕ) (summary : Summary) (energy : ℕ) → TrialOf n stored summary energy → ⊥) → IsSafeChoice image machine loops given (n + 1) best
+  kept_out n best h out = record {
+    cheapest = record {
+      below = omega (arith, h.cheapest.below);
+      trial = h.cheapest.trial;
+      least = λ d other s e lt is. elim (below_or d n lt) [
+        | inl less ↦ h.cheapest.least d other s e less is
+        | inr same ↦ absurd (out other s e (moved d n other s e same is))
+      ];
+      first = h.cheapest.first;
+    };
+    safe = h.safe;
+  }
+
+  -- nor does one that takes as much
+  kept_same : (n : ℕ) (best t : Trial) → IsSafeChoice image machine loops given n best → IsSafeTrial image machine loops given n t → best.energy ≤ t.energy → IsSafeChoice image machine loops given (n + 1) best
+  kept_same n best t h is le = record {
+    cheapest = record {
+      below = omega (arith, h.cheapest.below);
+      trial = h.cheapest.trial;
+      least = λ d other s e lt it. elim (below_or d n lt) [
+        | inl less ↦ h.cheapest.least d other s e less it
+        | inr same ↦ (let eq : t.energy ≡ e = same_energy image machine loops given n t.stored.items other t.summary s t.energy e is.trial (moved d n other s e same it) in omega (arith, eq, le))
+      ];
+      first = h.cheapest.first;
+    };
+    safe = h.safe;
+  }
+
+  -- one that takes less is the choice
+  taken : (n : ℕ) (best t : Trial) → IsSafeChoice image machine loops given n best → IsSafeTrial image machine loops given n t → t.energy < best.energy → IsSafeChoice image machine loops given (n + 1) t
+  taken n best t h is lt = record {
+    cheapest = record {
+      below = omega (arith, is.candidate);
+      trial = moved n t.candidate t.stored.items t.summary t.energy (sym is.candidate) is.trial;
+      least = λ d other s e below it. elim (below_or d n below) [
+        | inl less ↦ (let le : best.energy ≤ e = h.cheapest.least d other s e less it in omega (arith, le, lt))
+        | inr same ↦ (let eq : t.energy ≡ e = same_energy image machine loops given n t.stored.items other t.summary s t.energy e is.trial (moved d n other s e same it) in omega (arith, eq))
+      ];
+      first = λ d other s e below it. (let le : best.energy ≤ e = h.cheapest.least d other s e (omega (arith, below, is.candidate)) it in omega (arith, le, lt));
+    };
+    safe = is.safe;
+  }
+
+  pub next_choice : (n : ℕ) (best : Trial) (other : Option Trial) → IsSafeChoice image machine loops given n best → IsTrialOr image machine loops given n other → IsSafeChoice image machine loops given (n + 1) (cheaper_of best other)
+  next_choice n best None h out = kept_out n best h out
+  next_choice n best (Some t) h is = go (nat_lt t.energy best.energy) refl
+    where
+      go : (b : Bool) → nat_lt t.energy best.energy ≡ b → IsSafeChoice image machine loops given (n + 1) (cond b t best)
+      go true e = taken n best t h is (ltb-true t.energy best.energy e)
+      go false e = kept_same n best t h is (ltb-false t.energy best.energy e)

@@ -1,0 +1,4 @@
+pub mod Candidates
+pub mod Spending
+pub mod Choice
+pub mod Finding

@@ -1,0 +1,33 @@
+//! The candidates with stubs.
+
+ghost use Rattle.std.specs.Prelude.{◌≤◌, ◌<◌, length, IfOk};
+ghost use Rattle.scale_base.specs.Answer.{AnswersBy};
+ghost use Rattle.scaler.specs.RewrittenAs.{IsStoredSafely};
+ghost use Rattle.gain_tuner.specs.Candidates.{IsCandidate};
+
+use scale_base::{Stop, Summary};
+use scaler::rewrite_as;
+use std::alloc::Global;
+
+/// The candidate of a number from 1 on. Two candidates have the least gain 4^k, for each k below 16: the first of them counts the loops that
+/// are noted so, the second none.
+pub fn candidate_of(
+    alloc: Global,
+    image: &[u8],
+    machine: &[u8],
+    loops: &[u8],
+    number: u32,
+) -> Result<(Vec<u8>, Summary), Stop>
+    requires image { length image.now ≤ 4194304 }
+    requires machine { length machine.now ≤ 1048576 }
+    requires loops { length loops.now ≤ 1048576 }
+    requires from { 1 ≤ number }
+    requires to { number < 33 }
+    ensures given { AnswersBy (λ given. (given.0.items, given.1)) result (IsCandidate image.now machine.now loops.now number) }
+    ensures safe { IfOk result (λ given. IsStoredSafely image.now machine.now loops.now given.0.items given.1) }
+{
+    let k = (number - 1) / 2;
+    let min_gain = 4_u32.pow(k);
+    let counters = number % 2 == 1;
+    rewrite_as(alloc, image, machine, loops, min_gain, counters)
+}

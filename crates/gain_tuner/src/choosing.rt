@@ -1,0 +1,91 @@
+//! The choice among the candidates.
+
+ghost use Rattle.std.specs.Prelude.{◌≡◌, ◌≤◌, ◌<◌, length, map, IfOk};
+ghost use Rattle.gain_tuner.specs.Finding.{IsSafeTrial, IsTrialOr, IsSafeChoice, cheaper_of};
+ghost use Rattle.gain_tuner.specs.Spending.{counts};
+
+use crate::candidates::candidate_of;
+use crate::spending::spent_over;
+use scale_base::{NoMemory, Stop, Summary};
+use std::alloc::Global;
+
+/// How many candidates there are.
+const CANDIDATES: u32 = 33;
+
+/// The files of a program, and the inputs with a flag for each that says whether it counts.
+#[derive(Drop)]
+pub struct Files<'a> {
+    pub image: &'a [u8],
+    pub machine: &'a [u8],
+    pub loops: &'a [u8],
+    pub inputs: &'a [Vec<u8>],
+    pub flags: &'a [bool],
+}
+
+/// A candidate that isn't out: its number, what is stored, and the energy of its runs on the inputs that count.
+#[derive(Drop)]
+pub struct Trial {
+    pub candidate: u32,
+    pub stored: Vec<u8>,
+    pub summary: Summary,
+    pub energy: u128,
+}
+
+/// The candidate of a number from 1 on, unless it is out.
+fn trial_of(alloc: Global, files: &Files<'_>, candidate: u32) -> Result<Option<Trial>, NoMemory>
+    requires image { length files.now.image.now ≤ 4194304 }
+    requires machine { length files.now.machine.now ≤ 1048576 }
+    requires loops { length files.now.loops.now ≤ 1048576 }
+    requires few { length files.now.inputs.now ≤ 64 }
+    requires flags { files.now.flags.now ≡ map (λ input. counts files.now.image.now files.now.machine.now files.now.loops.now input.items) files.now.inputs.now }
+    requires from { 1 ≤ candidate }
+    requires to { candidate < 33 }
+    ensures { IfOk result (IsTrialOr files.now.image.now files.now.machine.now files.now.loops.now (map (λ input. input.items) files.now.inputs.now) candidate) }
+{
+    match candidate_of(alloc, files.image, files.machine, files.loops, candidate) {
+        Ok((stored, summary)) => match spent_over(alloc, files, &stored)? {
+            Some(energy) => Ok(Some(Trial {
+                candidate,
+                stored,
+                summary,
+                energy,
+            })),
+            None => Ok(None),
+        },
+        Err(Stop::Refused(_)) => Ok(None),
+        Err(Stop::Memory) => Err(NoMemory),
+    }
+}
+
+/// Of two candidates the one of less energy, and the first where they take the same.
+fn cheaper(best: Trial, other: Option<Trial>) -> Trial
+    ensures { result ≡ cheaper_of best other }
+{
+    match other {
+        Some(trial) => {
+            if trial.energy < best.energy {
+                trial
+            } else {
+                best
+            }
+        }
+        None => best,
+    }
+}
+
+/// The candidate of the least energy, of several the least, from the one at one level on.
+pub fn cheapest(alloc: Global, files: &Files<'_>, held: Trial) -> Result<Trial, NoMemory>
+    requires image { length files.now.image.now ≤ 4194304 }
+    requires machine { length files.now.machine.now ≤ 1048576 }
+    requires loops { length files.now.loops.now ≤ 1048576 }
+    requires few { length files.now.inputs.now ≤ 64 }
+    requires flags { files.now.flags.now ≡ map (λ input. counts files.now.image.now files.now.machine.now files.now.loops.now input.items) files.now.inputs.now }
+    requires held { IsSafeTrial files.now.image.now files.now.machine.now files.now.loops.now (map (λ input. input.items) files.now.inputs.now) 0 held }
+    ensures { IfOk result (IsSafeChoice files.now.image.now files.now.machine.now files.now.loops.now (map (λ input. input.items) files.now.inputs.now) 33) }
+{
+    let mut best = held;
+    for candidate in 1..CANDIDATES {
+        best = cheaper(best, trial_of(alloc, files, candidate)?);
+    }
+    Ok(best)
+}

@@ -1,0 +1,12 @@
+//! The image of a program that takes the least energy on given inputs, of several that are safe.
+#![tactic(auto)]
+
+mod candidates;
+mod choosing;
+mod spending;
+#[cfg(test)]
+mod tests;
+mod tuning;
+
+pub use scale_base::Tuned;
+pub use tuning::tune;

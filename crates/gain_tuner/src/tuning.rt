@@ -1,0 +1,110 @@
+//! The tuning of a program.
+
+ghost use Rattle.std.specs.Prelude.{◌≡◌, ◌≤◌, ◌<◌, ◌-◌, length, map, count_by, Ok, IfOk};
+ghost use Rattle.std.specs.List.{All};
+ghost use Rattle.scale_base.specs.Answer.{AnswersBy};
+ghost use Rattle.scaler.specs.Held.{IsHeld};
+ghost use Rattle.scaler.specs.RewrittenAs.{IsStoredSafely};
+ghost use Rattle.gain_tuner.specs.Choice.{IsChoice, IsTuning};
+
+use crate::choosing::{Files, Trial, cheapest};
+use crate::spending::{counting_of, spent_over};
+use scale_base::{NoMemory, Stop, Summary, Tuned};
+use scaler::hold;
+use std::alloc::Global;
+
+/// How many flags are set.
+fn count_of(flags: &[bool]) -> usize
+    ensures { result ≡ count_by (λ flag. flag) flags.now }
+{
+    flags.iter().filter(|flag| **flag).count()
+}
+
+/// What is stored of a choice, and its numbers.
+fn choice_of(best: Trial, hold_energy: u128, flags: &[bool]) -> (Vec<u8>, Tuned)
+    requires { length flags.now ≤ 64 }
+    ensures stored { result.0.items ≡ best.stored.items }
+    ensures tuned { let count = count_by (λ flag. flag) flags.now in result.1 ≡ record { candidate = best.candidate; summary = best.summary; inputs = count; left_out = length flags.now - count; energy = best.energy; hold_energy = hold_energy } }
+{
+    let count = count_of(flags);
+    let tuned = Tuned {
+        candidate: best.candidate,
+        summary: best.summary,
+        inputs: count as u32,
+        left_out: (flags.len() - count) as u32,
+        energy: best.energy,
+        hold_energy,
+    };
+    (best.stored, tuned)
+}
+
+/// The choice for a program that can be held at one level.
+fn tune_held(
+    alloc: Global,
+    image: &[u8],
+    machine: &[u8],
+    loops: &[u8],
+    inputs: &[Vec<u8>],
+    held: (Vec<u8>, Summary),
+) -> Result<(Vec<u8>, Tuned), NoMemory>
+    requires image { length image.now ≤ 4194304 }
+    requires machine { length machine.now ≤ 1048576 }
+    requires loops { length loops.now ≤ 1048576 }
+    requires few { length inputs.now ≤ 64 }
+    requires held { IsHeld image.now machine.now loops.now (Ok ((held.0.items, held.1))) }
+    ensures choice { IfOk result (λ given. IsChoice image.now machine.now loops.now (map (λ input. input.items) inputs.now) given.0.items given.1) }
+    ensures safe { IfOk result (λ given. IsStoredSafely image.now machine.now loops.now given.0.items given.1.summary) }
+{
+    let (stored, summary) = held;
+    let flags = counting_of(alloc, image, machine, loops, inputs)?;
+    let files = Files {
+        image,
+        machine,
+        loops,
+        inputs,
+        flags: &flags,
+    };
+    let energy = spent_over(alloc, &files, &stored)?.unwrap();
+    let first = Trial {
+        candidate: 0,
+        stored,
+        summary,
+        energy,
+    };
+    let best = cheapest(alloc, &files, first)?;
+    Ok(choice_of(best, energy, &flags))
+}
+
+/// The image of the candidate whose runs take the least energy on the inputs that count, of several the least, and the numbers of that choice; or
+/// the first refusal, which is that of `hold`.
+///
+/// An input counts where the original run exits within the machine file's steps and is kept. Candidate 0 is what `hold` stores; for each k
+/// below 16, candidate 1 + 2k is what `rewrite_as` stores by the least gain 4^k, and candidate 2 + 2k the same with no loop counted. A candidate is
+/// out where it is refused, or where its run on an input that counts is out of steps. Energies are in the machine file's energy units.
+///
+/// There is one run at a time in memory, and one candidate beside the best so far. The files have at most the bytes that the program
+/// loads: 4,194,304 of an image, 1,048,576 of each other file and of an input.
+pub fn tune(
+    alloc: Global,
+    image: &[u8],
+    machine: &[u8],
+    loops: &[u8],
+    inputs: &[Vec<u8>],
+) -> Result<(Vec<u8>, Tuned), Stop>
+    requires image { length image.now ≤ 4194304 }
+    requires machine { length machine.now ≤ 1048576 }
+    requires loops { length loops.now ≤ 1048576 }
+    requires some { 1 ≤ length inputs.now }
+    requires few { length inputs.now ≤ 64 }
+    requires inputs { All (λ input. length input.items ≤ 1048576) inputs.now }
+    ensures tuned { AnswersBy (λ given. (given.0.items, given.1)) result (IsTuning image.now machine.now loops.now (map (λ input. input.items) inputs.now)) }
+
+    // The choice never takes more than the image that runs at one level.
+    ensures saves { IfOk result (λ given. given.1.energy ≤ given.1.hold_energy) }
+
+    // On each input on which the original run exits and is kept, the stored run keeps the promise.
+    ensures safe { IfOk result (λ given. IsStoredSafely image.now machine.now loops.now given.0.items given.1.summary) }
+{
+    let held = hold(alloc, image, machine, loops)?;
+    Ok(tune_held(alloc, image, machine, loops, inputs, held)?)
+}
