@@ -21,7 +21,7 @@ use Rattle.foreign_scan.specs.declared.fragment.ForeignFragment.TheVariants.{Swi
 use Rattle.foreign_scan.specs.Form.{AreRowsIn}
 use Rattle.foreign_scan.specs.Scanned.{Found, is_changed, IsChanged, IsOn, kind_place, ComesBefore, IsCountedAt, IsFirstCounted, IsLastRow, IsScanned}
 use Rattle.image_check.specs.Safe.{Owner, owner_bound, counts_it, counts_on, one_where, AreOwners}
-use Rattle.image_check.proofs.Owners.{counter_for}
+use Rattle.image_check.proofs.Owning.{counter_for}
 
 -- ---- the least of some numbers
 

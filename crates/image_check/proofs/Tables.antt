@@ -22,7 +22,7 @@ use Rattle.foreign_scan.specs.declared.fragment.ForeignFragment.TheVariants.{Swi
 use Rattle.foreign_scan.specs.Form.{IsForeign, ChoosesNone, FirstChooses}
 use Rattle.image_check.specs.Safe.{Owner, owner_bound, words_from, with_rows, all_with_rows, IsSafeWord, AreSafeWords}
 use Rattle.image_check.specs.Laws.{is_owner}
-use Rattle.image_check.proofs.Owners.{is_own}
+use Rattle.image_check.proofs.Owning.{is_own}
 
 -- ---- words of a table
 

@@ -35,7 +35,7 @@ use Rattle.foreign_scan.specs.Form.{IsRunOut, IsStub}
 use Rattle.foreign_scan.specs.Scanned.{Found, is_changed, IsChanged, CanBePatched, IsPatch}
 use Rattle.image_check.specs.Safe.{Owner, owner_bound, all_with_rows, place_by, sites_of, clears_on, clears_it, one_where, AreSafeWords, AreSafeOn, IsSafeImage}
 use Rattle.image_check.specs.Laws.{is_owner, SafeImagesAreTuned, SafeImagesKeepRuns}
-use Rattle.image_check.proofs.Owners.{patched_kind, counter_for, counters, counted, on_edge}
+use Rattle.image_check.proofs.Owning.{patched_kind, counter_for, counters, counted, on_edge}
 use Rattle.image_check.proofs.OnEdges.{reached_word}
 use Rattle.image_check.proofs.Rows.{rows}
 use Rattle.image_check.proofs.AsPatched.{patched}

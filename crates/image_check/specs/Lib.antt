@@ -1,2 +1,13 @@
 pub mod Safe
+pub mod Causes
+pub mod Known
+pub mod Checked
+pub mod SafeRuns
+pub mod Checks
+pub mod Uses
+pub mod Entries
+pub mod Weights
+pub mod Levels
 pub mod Laws
+pub mod Passing
+pub mod Agreeing

@@ -1,7 +1,18 @@
-//! Laws of images of other make: one that is safe keeps what a rewritten image promises. No check of such an image is written.
+//! Whether an image of other make is a safe rewriting of an original, and what such an image promises.
 #![tactic(auto)]
 
 ghost use Rattle.image_check.specs.Laws.{LoadedBytesAreSmall, SafeImagesAreTuned, SafeImagesKeepRuns, SafeImagesKeepThePromise};
+
+mod checking;
+mod entries;
+mod levels;
+mod owners;
+mod passing;
+mod uses;
+mod weights;
+
+pub use checking::check;
+pub use passing::{rewritten_images_are_safe_to_check, rewritten_images_pass};
 
 /// Every kept run of a safe image ends as the original's does, with the same output, in time, at no higher level than before, with no more
 /// energy than its own cycles at the starting level, and with at most so many cycles and steps more.
@@ -15,3 +26,8 @@ pub fn safe_images_keep_the_promise()
 pub fn loaded_bytes_are_small()
     ensures { LoadedBytesAreSmall }
 {}
+
+#[cfg(test)]
+mod entry_tests;
+#[cfg(test)]
+mod tests;

@@ -1,0 +1,253 @@
+-- What edges tell their tables, and which of their entries are not safe.
+use Rattle.std.proofs.Common.{◌≡◌, ◌⊎◌, ⊎_elim, ℕ, zero, suc, ◌+◌, ◌*◌, ◌/◌, ◌%◌, ◌^◌, ◌<◌, ◌≤◌, Bool, true, false, List, [], ◌∷◌, length, Option, Some, None, refl, sym, ap, ◌∙◌, subst, arith}
+use Rattle.std.specs.Prelude.{◌==◌, slice_get, slice_index, option_map, is_some, nat_lt}
+use Rattle.std.specs.List.{sum_by}
+use Rattle.std.proofs.lemmas.Bool.{cond-true, eq-eqb, lt-ltb, ltb-true, both_ways}
+use Rattle.std.proofs.lemmas.Bool.Decides.{nat_tests}
+use Rattle.std.proofs.lemmas.List.{length-map}
+use Rattle.std.proofs.lemmas.List.Sums.{sum_by-cons}
+use Rattle.std.proofs.lemmas.Option.{same_Some, get_or_from_slice_get}
+use Rattle.scale_base.specs.Image.{Image, loaded_byte, is_in}
+use Rattle.scale_base.specs.Layout.{layout_of, is_keyed, in_option}
+use Rattle.scale_base.specs.State.{word_at}
+use Rattle.scale_base.specs.declared.edges.Edge.{Edge}
+use Rattle.scale_base.specs.declared.ranges.Keyed.{Keyed}
+use Rattle.scale_base.specs.declared.stepping.Class.{Class}
+use Rattle.power_model.specs.declared.power.Costs.{Costs}
+use Rattle.power_model.specs.Price.{cycles_of}
+use Rattle.power_model.specs.Switches.{costs_of}
+use Rattle.stub_runs.specs.Cycles.{fragment_cost}
+use Rattle.cost_theory.specs.Graph.{Graph, Loops, only}
+use Rattle.cost_theory.specs.Accepted.{HasNoRecursion, AreAccepted, HaveWholeExtents}
+use Rattle.cost_theory.specs.Worst.{Numbers, cost, slack, rest}
+use Rattle.cost_theory.proofs.Laws.{some_get}
+use Rattle.least_laws.specs.Charged.{Charged, to_end_after}
+use Rattle.code_text.specs.Text.{text_of}
+use Rattle.code_text.specs.TextGraph.{text_graph}
+use Rattle.graph_runs.specs.Laws.{IsProgramOf}
+use Rattle.code_graph.specs.FlowGraph.{FlowGraph, graph}
+use Rattle.loop_tree.specs.Noted.{node_address}
+use Rattle.loop_tree.specs.Tree.{LoopView, loops}
+use Rattle.worst_cycles.specs.Worst.{slack_at, rest_at}
+use Rattle.level_tables.specs.Tables.{EdgeNumbers, at_row}
+use Rattle.stored_runs.specs.Marks.{tail_cycles}
+use Rattle.paid_runs.specs.Tabled.{told_on}
+use Rattle.flat_memory.specs.Lists.{list_bytes}
+use Rattle.foreign_scan.specs.declared.fragment.ForeignFragment.{ForeignFragment}
+use Rattle.foreign_scan.specs.declared.fragment.ForeignFragment.TheVariants.{Switch, Exit, Reset, Count}
+use Rattle.foreign_scan.specs.Form.{ChoosesNone, AreRowsIn}
+use Rattle.foreign_scan.specs.Scanned.{Found}
+use Rattle.image_check.specs.Safe.{Owner, owner_bound, with_rows, all_with_rows, clears_it, clears_on, counts_on, AreOwners}
+use Rattle.image_check.specs.Causes.{IsBadEntry, HasBadEntry}
+use Rattle.image_check.specs.Known.{owner_by, IsFoundIn}
+use Rattle.image_check.specs.Uses.{on_edge}
+use Rattle.image_check.specs.Weights.{foreign_cost}
+use Rattle.image_check.specs.Entries.{IsLeastIn, IsWordLevel, HasBadRow, IsTableLevel, AreRowPlaces}
+use Rattle.image_check.specs.Levels.{IsTailOf, key_end, AreKnownBy, IsBadAt}
+use Rattle.image_check.specs.declared.levels.Known.{Known}
+use Rattle.image_check.proofs.FoundFacts.{AreFine, on_edge_is, fine_on}
+use Rattle.image_check.proofs.Rows.{rows}
+
+-- ---- the least of the same
+
+pub least_same : (P Q : ℕ → Type 0) (o : Option ℕ) → ((i : ℕ) → P i → Q i) → ((i : ℕ) → Q i → P i) → IsLeastIn P o → IsLeastIn Q o
+least_same P Q None to from none = λ i q. none i (from i q)
+least_same P Q (Some i) to from least = (to i least.0, λ j lt q. least.1 j lt (from j q))
+
+pub told_same : (a b : EdgeNumbers) → a.slack ≡ b.slack → a.left ≡ b.left → a.least ≡ b.least → a ≡ b
+told_same a b p q r =
+    ap (λ (x : ℕ). let n : EdgeNumbers = record { slack = x; left = a.left; least = a.least } in n) p
+    ∙ (ap (λ (x : ℕ). let n : EdgeNumbers = record { slack = b.slack; left = x; least = a.least } in n) q
+    ∙ ap (λ (x : Option ℕ). let n : EdgeNumbers = record { slack = b.slack; left = b.left; least = x } in n) r)
+
+-- ---- the cycles behind a store
+
+alike : (cost : Class → ℕ) (image : Image) (l : Loops) (owner : Owner) (fs : List ForeignFragment) → sum_by (fragment_cost cost) (all_with_rows image l owner fs) ≡ sum_by (foreign_cost cost) fs
+alike cost image l owner [] = refl
+alike cost image l owner (f ∷ fs) =
+    let a = sum_by-cons (fragment_cost cost) (with_rows image l owner f) (all_with_rows image l owner fs) in
+    let b = sum_by-cons (foreign_cost cost) f fs in
+    let c = one_alike f in
+    let d = alike cost image l owner fs in
+    omega (arith, a, b, c, d)
+  where
+    one_alike : (h : ForeignFragment) → fragment_cost cost (with_rows image l owner h) ≡ foreign_cost cost h
+    one_alike (Switch word) = refl
+    one_alike (Exit counter shift table) = refl
+    one_alike (Reset counter) = refl
+    one_alike (Count counter) = refl
+
+pub tail_none : (costs : Costs) (fs : List ForeignFragment) → fs ≡ [] → IsTailOf costs fs 0
+tail_none costs fs e = λ image l owner. sym (ap (λ (xs : List ForeignFragment). tail_cycles (cycles_of costs) (all_with_rows image l owner xs)) e)
+
+pub tail_some : (costs : Costs) (fs : List ForeignFragment) (f : ForeignFragment) (rest : List ForeignFragment) (cycles : ℕ) → fs ≡ f ∷ rest → cycles ≡ sum_by (foreign_cost (cycles_of costs)) rest → IsTailOf costs fs (2 * costs.load + cycles + costs.jump)
+tail_some costs fs f rest cycles e is = λ image l owner.
+    ap (λ m. 2 * costs.load + m + costs.jump) (is ∙ sym (alike (cycles_of costs) image l owner rest)) ∙ sym (ap (λ (xs : List ForeignFragment). tail_cycles (cycles_of costs) (all_with_rows image l owner xs)) e)
+
+-- ---- rows in the keyed segment are at addresses
+
+keyed_is : (image : Image) (o : Option Keyed) (a : ℕ) → image.keyed_segment ≡ o → is_keyed (layout_of image) a ≡ in_option a (option_map (λ k. k.range) o)
+unfolding layout_of
+keyed_is image o a e = ap (λ p. in_option a (option_map (λ k. k.range) p)) e
+
+below_end : (o : Option Keyed) (a : ℕ) → in_option a (option_map (λ k. k.range) o) ≡ true → a < key_end o
+below_end None a e = let bad : ⊥ = cc in absurd bad
+below_end (Some k) a e = grind (arith, nat_tests)
+
+pub row_places : (image : Image) (table last end : ℕ) → AreRowsIn image table (last + 1) → end ≡ key_end image.keyed_segment → end < 2 ^ 32 → AreRowPlaces table last
+row_places image table last end rows is fits =
+    let first = (rows 0 (omega arith)).0 in
+    let word = (rows last (omega arith)).1 0 (omega arith) in
+    let low = below_end image.keyed_segment (table + 4 * last + 0) (sym (keyed_is image image.keyed_segment (table + 4 * last + 0) refl) ∙ word) in
+    (omega (arith, first), omega (arith, low, is, fits))
+
+module _ (x : Known) (original foreign : Image) (found : Found) (w : ℕ → ℕ) (n : Numbers) (least : Charged) (by : AreKnownBy x original foreign found w n least) where
+  abbrev v : FlowGraph
+  v = x.graph.now
+
+  abbrev g : Graph
+  g = graph x.graph.now
+
+  abbrev l : Loops
+  l = loops x.graph.now x.tree.now
+
+  abbrev owner : Owner
+  owner = owner_by x.owners.now
+
+  abbrev told : ℕ → EdgeNumbers
+  told e = told_on g l w n least e (tail_cycles (costs_of x.power.now) (all_with_rows foreign l owner (on_edge x.sites.now e)))
+
+  is : IsFoundIn original foreign x.graph.now x.tree.now found x.sites.now
+  is = by.known.found_is
+
+  -- ---- numbers
+
+  pub slack_is : (e to found_slack : ℕ) → e < length x.graph.now.code.edges → g.target e ≡ Some to → slice_get x.worst.now.slacks e ≡ Some found_slack → found_slack ≡ slack g l n (cost g n w) e
+  slack_is e to found_slack lt leads at =
+      same_Some found_slack (slack_at g l w n e) (sym at ∙ by.known.weighed.left.slack e lt) ∙ ap (λ o. only (is_some o) (slack g l n (cost g n w) e)) leads
+
+  pub rest_is : (e to found_rest : ℕ) → e < length x.graph.now.code.edges → g.target e ≡ Some to → slice_get x.worst.now.rests e ≡ Some found_rest → found_rest ≡ rest g l n e
+  rest_is e to found_rest lt leads at =
+      same_Some found_rest (rest_at g l n e) (sym at ∙ by.known.weighed.left.rest e lt) ∙ ap (λ o. only (is_some o) (rest g l n e)) leads
+
+  pub after_is : (e : ℕ) (after : Option ℕ) → e < length x.graph.now.code.edges → slice_get x.least.now.after e ≡ Some after → after ≡ to_end_after g l least e
+  after_is e after lt at = let whole = sym at ∙ by.known.weighed.after e lt in cc
+
+  pub slack_small : (e found_slack : ℕ) → e < length x.graph.now.code.edges → slice_get x.worst.now.slacks e ≡ Some found_slack → found_slack ≤ 2 ^ 50
+  slack_small e found_slack lt at = subst (λ m. m ≤ 2 ^ 50) (sym (same_Some found_slack (slack_at g l w n e) (sym at ∙ by.known.weighed.left.slack e lt))) (by.known.weighed.slack_small e lt)
+
+  pub rest_small : (e found_rest : ℕ) → e < length x.graph.now.code.edges → slice_get x.worst.now.rests e ≡ Some found_rest → found_rest ≤ 2 ^ 48
+  rest_small e found_rest lt at = subst (λ m. m ≤ 2 ^ 48) (sym (same_Some found_rest (rest_at g l n e) (sym at ∙ by.known.weighed.left.rest e lt))) (by.known.weighed.rest_small e lt)
+
+  pub after_small : (e z : ℕ) (after : Option ℕ) → e < length x.graph.now.code.edges → slice_get x.least.now.after e ≡ Some after → after ≡ Some z → z < 2 ^ 89
+  after_small e z after lt at some = by.known.weighed.after_small e z lt (sym (after_is e after lt at) ∙ some)
+
+  pub told_is : (e to found_slack found_rest tail : ℕ) (after : Option ℕ) → e < length x.graph.now.code.edges → g.target e ≡ Some to → slice_get x.worst.now.slacks e ≡ Some found_slack → slice_get x.worst.now.rests e ≡ Some found_rest
+      → slice_get x.least.now.after e ≡ Some after → tail ≡ tail_cycles (costs_of x.power.now) (all_with_rows foreign l owner (on_edge x.sites.now e))
+      → (a : EdgeNumbers) → a.slack ≡ found_slack → a.left ≡ found_rest + tail → a.least ≡ option_map (λ z. z + tail) after → a ≡ told e
+  told_is e to found_slack found_rest tail after lt leads at_slack at_rest at_after tail_is a a_slack a_left a_least = told_same a (told e)
+      (a_slack ∙ slack_is e to found_slack lt leads at_slack)
+      (a_left ∙ (ap (λ m. m + tail) (rest_is e to found_rest lt leads at_rest) ∙ ap (λ m. rest g l n e + m) tail_is))
+      (a_least ∙ (ap (λ o. option_map (λ z. z + tail) o) (after_is e after lt at_after) ∙ ap (λ m. option_map (λ z. z + m) (to_end_after g l least e)) tail_is))
+
+  -- ---- the entries of an edge
+
+  pub bad_at : (e to i : ℕ) → e < length x.graph.now.code.edges → g.target e ≡ Some to → HasBadEntry x.power.now foreign l owner n (told e) (on_edge x.sites.now e) i → IsBadAt x foreign found w n least e i
+  bad_at e to i lt leads bad =
+      let edge = some_get x.graph.now.code.edges e lt in (
+        edge.0,
+        edge.1,
+        (
+          to,
+          leads,
+          subst (λ fs. HasBadEntry x.power.now foreign l owner n (told_on g l w n least e (tail_cycles (costs_of x.power.now) (all_with_rows foreign l owner fs))) fs i) (on_edge_is original foreign x.graph.now x.tree.now found x.sites.now is e edge.0 edge.1) bad,
+        ),
+      )
+
+  pub at_bad : (e i : ℕ) → IsBadAt x foreign found w n least e i → HasBadEntry x.power.now foreign l owner n (told e) (on_edge x.sites.now e) i
+  at_bad e i (edge, there, (to, leads, bad)) =
+      subst (λ fs. HasBadEntry x.power.now foreign l owner n (told_on g l w n least e (tail_cycles (costs_of x.power.now) (all_with_rows foreign l owner fs))) fs i) (sym (on_edge_is original foreign x.graph.now x.tree.now found x.sites.now is e edge there)) bad
+
+  pub no_target : (e i : ℕ) → g.target e ≡ None → IsBadAt x foreign found w n least e i → ⊥
+  no_target e i none (edge, there, (to, leads, bad)) = let both : None ≡ Some to = sym none ∙ leads in let never : ⊥ = cc in never
+
+  -- an edge whose first fragment chooses no level
+  pub no_entry : (e i : ℕ) (fs : List ForeignFragment) → on_edge x.sites.now e ≡ fs → (HasBadEntry x.power.now foreign l owner n (told e) fs i → ⊥) → IsBadAt x foreign found w n least e i → ⊥
+  no_entry e i fs on none bad = none (subst (λ xs. HasBadEntry x.power.now foreign l owner n (told e) xs i) on (at_bad e i bad))
+
+  pub no_choice : (e i : ℕ) (f : ForeignFragment) (rest : List ForeignFragment) → on_edge x.sites.now e ≡ f ∷ rest → ChoosesNone f → IsBadAt x foreign found w n least e i → ⊥
+  no_choice e i f rest on none bad = by_kind f none (subst (λ xs. HasBadEntry x.power.now foreign l owner n (told e) xs i) on (at_bad e i bad))
+    where
+      by_kind : (h : ForeignFragment) → ChoosesNone h → HasBadEntry x.power.now foreign l owner n (told e) (h ∷ rest) i → ⊥
+      by_kind (Switch word) quiet b = quiet
+      by_kind (Exit counter shift table) quiet b = quiet
+      by_kind (Reset counter) quiet b = b
+      by_kind (Count counter) quiet b = b
+
+  pub switch_is : (e to word : ℕ) (rest : List ForeignFragment) (a : EdgeNumbers) (level : Option ℕ) → e < length x.graph.now.code.edges → g.target e ≡ Some to → on_edge x.sites.now e ≡ Switch word ∷ rest → a ≡ told e → IsWordLevel x.power.now a word level
+      → IsLeastIn (IsBadAt x foreign found w n least e) level
+  switch_is e to word rest a level lt leads on same h = least_same (IsBadEntry x.power.now (told e) word) (IsBadAt x foreign found w n least e) level
+      (λ i bad. bad_at e to i lt leads (subst (λ xs. HasBadEntry x.power.now foreign l owner n (told e) xs i) (sym on) bad))
+      (λ i bad. subst (λ xs. HasBadEntry x.power.now foreign l owner n (told e) xs i) on (at_bad e i bad))
+      (subst (λ y. IsWordLevel x.power.now y word level) same h)
+
+  pub exit_is : (e to counter shift table k bound iteration : ℕ) (rest : List ForeignFragment) (a : EdgeNumbers) (level : Option ℕ) → e < length x.graph.now.code.edges → g.target e ≡ Some to → on_edge x.sites.now e ≡ Exit counter shift table ∷ rest → a ≡ told e
+      → owner counter ≡ Some k → bound ≡ l.bound k → iteration ≡ n.iteration k → IsTableLevel x.power.now (list_bytes x.memory.now) a bound iteration shift table (bound / 2 ^ shift + 1) level → IsLeastIn (IsBadAt x foreign found w n least e) level
+  exit_is e to counter shift table k bound iteration rest a level lt leads on same own bound_is iteration_is h =
+      let here : IsTableLevel x.power.now (loaded_byte foreign) (told e) (l.bound k) (n.iteration k) shift table (l.bound k / 2 ^ shift + 1) level =
+      subst (λ b. IsTableLevel x.power.now (loaded_byte foreign) (told e) b (n.iteration k) shift table (b / 2 ^ shift + 1) level) bound_is
+      (subst (λ m. IsTableLevel x.power.now (loaded_byte foreign) (told e) bound m shift table (bound / 2 ^ shift + 1) level) iteration_is
+      (subst (λ y. IsTableLevel x.power.now (loaded_byte foreign) y bound iteration shift table (bound / 2 ^ shift + 1) level) same
+      (subst (λ bytes. IsTableLevel x.power.now bytes a bound iteration shift table (bound / 2 ^ shift + 1) level) by.bytes h))) in
+      least_same (HasBadRow x.power.now (loaded_byte foreign) (told e) (l.bound k) (n.iteration k) shift table (l.bound k / 2 ^ shift + 1)) (IsBadAt x foreign found w n least e) level
+      (λ i bad. let low = bad.1 in bad_at e to i lt leads (subst (λ xs. HasBadEntry x.power.now foreign l owner n (told e) xs i) (sym on) (k, own, (bad.0, omega (arith, low), bad.2))))
+      (λ i bad. row_of i (subst (λ xs. HasBadEntry x.power.now foreign l owner n (told e) xs i) on (at_bad e i bad))) here
+    where
+      row_of : (i : ℕ) → HasBadEntry x.power.now foreign l owner n (told e) (Exit counter shift table ∷ rest) i → HasBadRow x.power.now (loaded_byte foreign) (told e) (l.bound k) (n.iteration k) shift table (l.bound k / 2 ^ shift + 1) i
+      row_of i (m, own_m, (j, low, bad)) =
+          let both : Some m ≡ Some k = sym own_m ∙ own in
+          let one : m ≡ k = cc in (
+            j,
+            (let le : j ≤ l.bound k / 2 ^ shift = subst (λ y. j ≤ l.bound y / 2 ^ shift) one low in omega (arith, le)),
+            subst (λ y. IsBadEntry x.power.now (at_row (l.bound y) (n.iteration y) shift (told e) j) (word_at (loaded_byte foreign) (table + 4 * j)) i) one bad,
+          )
+
+  -- a counter without a loop
+  pub exit_none : (e i counter shift table : ℕ) (rest : List ForeignFragment) → on_edge x.sites.now e ≡ Exit counter shift table ∷ rest → owner counter ≡ None → IsBadAt x foreign found w n least e i → ⊥
+  exit_none e i counter shift table rest on none = no_entry e i (Exit counter shift table ∷ rest) on (λ bad. let own = bad.1 in let both : None ≡ Some bad.0 = sym none ∙ own in let never : ⊥ = cc in never)
+
+  -- ---- the loop of an exit, and its rows
+
+  pub exit_loop : (e counter shift table k : ℕ) (rest : List ForeignFragment) → e < length x.graph.now.code.edges → on_edge x.sites.now e ≡ Exit counter shift table ∷ rest → owner counter ≡ Some k → k < length x.tree.now.headers
+  exit_loop e counter shift table k rest lt on own =
+      let edge = some_get x.graph.now.code.edges e lt in
+      let fs : found edge.0.at edge.0.kind ≡ Exit counter shift table ∷ rest = sym (on_edge_is original foreign x.graph.now x.tree.now found x.sites.now is e edge.0 edge.1) ∙ on in
+      let one : clears_it counter (Exit counter shift table) ≡ 1 = cond-true (counter == counter) 1 0 (eq-eqb counter counter refl) in
+      let sum : clears_on found (slice_get x.graph.now.code.edges e) counter ≡ clears_it counter (Exit counter shift table) + sum_by (clears_it counter) rest =
+      ap (λ o. clears_on found o counter) edge.1 ∙ (ap (sum_by (clears_it counter)) fs ∙ sum_by-cons (clears_it counter) (Exit counter shift table) rest) in
+      let used = by.known.owners_are.used counter (record { edge = e; low = lt; uses = omega (arith, one, sum) }) in
+      let both : Some used.0 ≡ Some k = sym used.1 ∙ own in
+      let same : used.0 ≡ k = cc in
+      let count : l.loops ≡ length x.tree.now.headers = length-map x.tree.now.headers (node_address x.graph.now) in
+      let low : used.0 < l.loops = used.2.low in
+      omega (arith, same, count, low)
+
+  prog : IsProgramOf (text_of original) x.graph.now.code l is.tree.0
+  prog =
+      let e = sym is.code.graph_is in
+      record {
+        reached = is.code.reached;
+        calls = subst HasNoRecursion e is.code.flow.program.no_recursion;
+        loops = subst (λ y. AreAccepted y l is.tree.0) e is.tree.1.accepted;
+        whole = subst (λ y. HaveWholeExtents y l is.tree.0) e is.tree.1.whole;
+      }
+
+  pub exit_rows : (e counter shift table k bound end : ℕ) (rest : List ForeignFragment) → e < length x.graph.now.code.edges → on_edge x.sites.now e ≡ Exit counter shift table ∷ rest → owner counter ≡ Some k → bound ≡ l.bound k → end ≡ x.key_end → end < 2 ^ 32
+      → AreRowPlaces table (bound / 2 ^ shift)
+  exit_rows e counter shift table k bound end rest lt on own bound_is end_is fits =
+      let edge = some_get x.graph.now.code.edges e lt in
+      let fs : found edge.0.at edge.0.kind ≡ Exit counter shift table ∷ rest = sym (on_edge_is original foreign x.graph.now x.tree.now found x.sites.now is e edge.0 edge.1) ∙ on in
+      let owners : AreOwners (text_graph (text_of original) x.graph.now.code) x.graph.now.code l found owner = subst (λ y. AreOwners y x.graph.now.code l found owner) (sym is.code.graph_is) by.known.owners_are in
+      let all = rows original foreign x.graph.now.code l is.tree.0 owner found prog is.scanned owners edge.0.at edge.0.kind counter shift table (0, ap (λ xs. slice_get xs 0) fs) in
+      let count : owner_bound l (owner counter) ≡ bound = ap (owner_bound l) own ∙ sym bound_is in
+      row_places foreign table (bound / 2 ^ shift) end (subst (λ b. AreRowsIn foreign table (b / 2 ^ shift + 1)) count all) (end_is ∙ by.key) fits

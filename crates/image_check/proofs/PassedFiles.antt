@@ -1,0 +1,61 @@
+-- Yes is an answer of a check of what `rewrite` stores.
+use Rattle.std.proofs.Common.{◌≡◌, ℕ, ◌≤◌, List, length, Option, Some, None, Result, Ok, Err, refl, sym, ap, ◌∙◌, subst}
+use Rattle.scale_base.specs.declared.ranges.Keyed.{Keyed}
+use Rattle.scale_base.specs.declared.refusal.Refusal.{Refusal}
+use Rattle.scale_base.specs.declared.summary.Summary.{Summary}
+use Rattle.scale_base.specs.declared.verdict.Verdict.TheVariants.{Yes}
+use Rattle.scale_base.specs.Image.{Image, image_of}
+use Rattle.power_model.specs.Numbers.{PowerModel}
+use Rattle.power_model.specs.Price.{time_at}
+use Rattle.machine_file.specs.Machine.{read_machine}
+use Rattle.machine_file.proofs.Laws.{model-from_bytes}
+use Rattle.loop_file.specs.Loops.{read_loops}
+use Rattle.stub_writer.specs.Stubs.{out_of_reach}
+use Rattle.rewritten_runs.specs.Stubs.{rewritten_file, marks_by_slack}
+use Rattle.rewritten_runs.proofs.Laws.{rewritten_follow}
+use Rattle.scaler.specs.Held.{Then, unscaled}
+use Rattle.scaler.specs.Rewritten.{IsRewritten, rewritten_summary}
+use Rattle.scaler.proofs.Laws.{IsNear, RewrittenParts as WentThrough, near_of, rewritten_parts as went_through}
+use Rattle.image_check.specs.Checked.{IsPassed, IsFileVerdict, IsProgramChecked, IsChecked}
+use Rattle.image_check.specs.Passing.{checked_as, IsSafeAt, RewrittenFilesAreChecked}
+use Rattle.image_check.proofs.StoredSafe.{rewritten_safe}
+
+-- what follows a part that was answered
+then_from : {A B : Type 0} (part : Result A Refusal) (next : A → Result B Refusal → Type 0) (x : A) (y : Result B Refusal) → part ≡ Ok x → next x y → Then part next y
+then_from part next x y e h = subst (λ r. Then r next y) (sym e) h
+
+plain_key : (keyed : Option Keyed) → keyed ≡ None → unscaled keyed ≡ Ok tt
+plain_key keyed e = ap unscaled e
+
+pub files_checked : RewrittenFilesAreChecked
+unfolding IsChecked
+files_checked = λ image machine loop_file stored summary short _ _ h.
+    let went = went_through image machine loop_file (stored, summary) h in
+    let p = went.program in
+    let made = rewritten_summary went.power p.code (marks_by_slack went.power went.original p.code p.tree p.plain) p.start (p.stored.worst 0) (p.extra.worst 0) p.sites in
+    let near = near_of (out_of_reach p.base p.sites) (stored, summary) (rewritten_file went.original p.sites p.base p.start, made) p.answer_is in
+    let bytes : stored ≡ rewritten_file went.original p.sites p.base p.start = ap (λ (g : List ℕ × Summary). g.0) near.same in
+    let numbers : summary ≡ made = ap (λ (g : List ℕ × Summary). g.1) near.same in
+    let model = model-from_bytes machine went.power went.power_is in
+    let follows = rewritten_follow went.power model image went.original went.notes p.code p.tree p.plain p.stored p.extra p.least p.sites p.base p.start went.original_is went.no_key short p.weighed p.short p.slow p.stubs near.near in
+    let safe = rewritten_safe went.power model image went.original follows.rewritten went.notes p.code p.tree p.plain p.stored p.extra p.least p.sites p.base p.start went.original_is went.no_key short p.weighed p.short p.slow p.stubs near.near follows.is in
+    let passed : IsPassed went.power went.original follows.rewritten went.notes p.code p.tree (checked_as summary) = record {
+      found = safe.found;
+      owner = safe.owner;
+      n = p.stored;
+      least = p.least;
+      more = p.extra;
+      safe = safe.safe;
+      start = ap (λ (s : Summary). s.start) numbers ∙ sym safe.starts;
+      worst = ap (λ (s : Summary). s.worst) numbers;
+      time = ap (λ (s : Summary). s.time) numbers ∙ ap (λ i. time_at went.power i (p.stored.worst 0)) (sym safe.starts);
+      deadline = ap (λ (s : Summary). s.deadline) numbers;
+      stub_cycles = ap (λ (s : Summary). s.stub_cycles) numbers;
+    } in
+    let verdict : IsFileVerdict went.power went.original (image_of stored) went.notes p.code p.tree (Yes (checked_as summary)) =
+    subst (λ r. IsFileVerdict went.power went.original r went.notes p.code p.tree (Yes (checked_as summary))) (sym (ap image_of bytes ∙ follows.is)) passed in
+    then_from (read_machine machine) _ went.power (Ok (Yes (checked_as summary))) went.power_is
+    (then_from (image_of image) _ went.original (Ok (Yes (checked_as summary))) went.original_is
+    (then_from (unscaled went.original.keyed_segment) _ tt (Ok (Yes (checked_as summary))) (plain_key went.original.keyed_segment went.no_key)
+    (then_from (read_loops went.original loop_file) _ went.notes (Ok (Yes (checked_as summary))) went.notes_are
+    (p.code, p.tree, p.weighed.code_is, p.weighed.tree_is, verdict))))

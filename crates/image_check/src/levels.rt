@@ -1,0 +1,319 @@
+//! The first entry of a table that isn't safe.
+
+ghost use Rattle.std.specs.Prelude.{◌≡◌, ◌↔◌, ◌<◌, ◌≤◌, ◌+◌, ◌*◌, ◌^◌, ℕ, true, List, [], ◌∷◌, Some, None, length, option_map, IfOk, IfSome};
+ghost use Rattle.scale_base.specs.Image.{Image};
+ghost use Rattle.cost_theory.specs.Worst.{Numbers};
+ghost use Rattle.least_laws.specs.Charged.{Charged};
+ghost use Rattle.loop_tree.specs.Tree.{loops};
+ghost use Rattle.foreign_scan.specs.declared.fragment.ForeignFragment.{ForeignFragment};
+ghost use Rattle.foreign_scan.specs.Scanned.{Found};
+ghost use Rattle.image_check.specs.Known.{owner_by, HasKnown, AreKnown, IsLevelsAnswer};
+ghost use Rattle.image_check.specs.Levels.{key_end, IsTailOf, IsKnown, LeadsOn, IsFirstOn, IsToldAt, IsEdgeLevel, is_taken, IsSortLevel, IsBothLevel, IsNodeLevel, IsFirstLevel};
+
+use crate::entries::{Told, table_level, word_level};
+use crate::owners::OwnerList;
+use crate::weights::fragments_cycles;
+use code_graph::CodeGraph;
+use elf_view::ImageView;
+use flat_memory::{ListMemory, load_list};
+use foreign_scan::{ForeignFragment, ForeignSites};
+use least_cycles::LeastNumbers;
+use loop_tree::LoopTree;
+use power_model::{Costs, Power};
+use scale_base::{EdgeKind, Keyed, NoMemory};
+use std::alloc::Global;
+use worst_cycles::WorstNumbers;
+
+/// What is known of an image: the machine, what the image loads, the original's graph and loops, the fragments that are found, the loops of their counters, and the
+/// numbers under the stored weights.
+#[derive(Clone, Copy)]
+struct Known<'a> {
+    power: &'a Power,
+    memory: &'a ListMemory,
+    /// The end of the keyed segment.
+    key_end: u32,
+    graph: &'a CodeGraph,
+    tree: &'a LoopTree,
+    sites: &'a ForeignSites,
+    owners: &'a OwnerList,
+    worst: &'a WorstNumbers,
+    least: &'a LeastNumbers,
+}
+
+/// Where a keyed segment ends: 0 where there is none.
+fn key_end(key: Option<Keyed>) -> u32
+    ensures { result ≡ key_end key }
+{
+    match key {
+        Some(keyed) => keyed.range.to,
+        None => 0,
+    }
+}
+
+/// The cycles of two loads.
+fn two_loads(costs: &Costs) -> u32
+    ensures value { result ≡ 2 * costs.now.load }
+    ensures small { result ≤ 2 * 65535 }
+{
+    2 * u32::from(costs.load)
+}
+
+/// The cycles of a jump.
+fn jump_cycles(costs: &Costs) -> u32
+    ensures value { result ≡ costs.now.jump }
+    ensures small { result ≤ 65535 }
+{
+    u32::from(costs.jump)
+}
+
+/// The cycles of an edge behind its store at the port: two loads, the fragments behind the first, and the jump back.
+fn tail_cycles(fragments: &[ForeignFragment], power: &Power) -> u32
+    requires { length fragments.now ≤ 64 }
+    ensures tail { IsTailOf power.now.costs fragments.now result }
+    ensures small { result < 2 ^ 28 }
+{
+    if fragments.is_empty() {
+        return 0;
+    }
+    let behind = fragments_cycles(&fragments[1..], &power.costs);
+    two_loads(&power.costs) + behind + jump_cycles(&power.costs)
+}
+
+/// Some cycles more, if there are any.
+fn plus(least: Option<u128>, tail: u32) -> Option<u128>
+    requires small { IfSome least (λ z. z < 2 ^ 89) }
+    requires tail { tail < 2 ^ 28 }
+    ensures sum { result ≡ option_map (λ z. z + tail) least }
+    ensures small { IfSome result (λ z. z < 2 ^ 90) }
+{
+    match least {
+        Some(cycles) => Some(cycles + u128::from(tail)),
+        None => None,
+    }
+}
+
+/// What edge `e` tells its table.
+fn told_at(known: &Known<'_>, e: usize) -> Told
+    requires known { IsKnown known.now }
+    requires leads { LeadsOn known.now e }
+    ensures told { IsToldAt known.now e result }
+    ensures slack { result.slack ≤ 2 ^ 50 }
+    ensures least { IfSome result.least (λ z. z < 2 ^ 90) }
+{
+    let tail = tail_cycles(known.sites.fragments(e), known.power);
+    let slack = known.worst.slack(e);
+    let rest = known.worst.rest(e);
+    let least = plus(known.least.to_end_after(e), tail);
+    Told {
+        slack,
+        left: rest + u64::from(tail),
+        least,
+    }
+}
+
+/// The least level for which an entry of edge `e` isn't safe, where its first fragment is a Switch.
+fn switch_level(known: &Known<'_>, e: usize, word: u32) -> Option<u8>
+    requires known { IsKnown known.now }
+    requires leads { LeadsOn known.now e }
+    requires switch { IsFirstOn known.now e (ForeignFragment.Switch word) }
+    ensures { IsEdgeLevel known.now e result }
+{
+    let told = told_at(known, e);
+    word_level(known.power, &told, word)
+}
+
+/// The same where its first fragment is an Exit.
+fn exit_level(
+    known: &Known<'_>,
+    key_end: u32,
+    e: usize,
+    counter: u16,
+    shift: u8,
+    table: u32,
+) -> Option<u8>
+    requires known { IsKnown known.now }
+    requires key { key_end ≡ known.now.key_end }
+    requires leads { LeadsOn known.now e }
+    requires exit { IsFirstOn known.now e (ForeignFragment.Exit counter shift table) }
+    ensures { IsEdgeLevel known.now e result }
+{
+    let Some(k) = known.owners.get(counter) else {
+        return None;
+    };
+    let bound = known.tree.bound(k);
+    let iteration = known.worst.iteration(k);
+    let told = told_at(known, e);
+    table_level(
+        known.power,
+        known.memory,
+        &told,
+        bound,
+        iteration,
+        shift,
+        table,
+    )
+}
+
+/// The same where its first fragment is this one.
+fn fragment_level(known: &Known<'_>, e: usize, first: ForeignFragment) -> Option<u8>
+    requires known { IsKnown known.now }
+    requires leads { LeadsOn known.now e }
+    requires first { IsFirstOn known.now e first }
+    ensures { IsEdgeLevel known.now e result }
+{
+    match first {
+        ForeignFragment::Switch { word } => switch_level(known, e, word),
+        ForeignFragment::Exit {
+            counter,
+            shift,
+            table,
+        } => exit_level(known, known.key_end, e, counter, shift, table),
+        ForeignFragment::Reset { counter: _other } => None,
+        ForeignFragment::Count { counter: _other } => None,
+    }
+}
+
+/// The first of some fragments.
+fn first_of(fragments: &[ForeignFragment]) -> Option<ForeignFragment>
+    ensures some { (f : ForeignFragment) → result ≡ Some f → (rest : List ForeignFragment) × (fragments.now ≡ f ∷ rest) }
+    ensures none { result ≡ None → fragments.now ≡ [] }
+{
+    if fragments.is_empty() {
+        None
+    } else {
+        Some(fragments[0])
+    }
+}
+
+/// The same of an edge that leads to a node.
+fn leading_level(known: &Known<'_>, e: usize) -> Option<u8>
+    requires known { IsKnown known.now }
+    requires leads { LeadsOn known.now e }
+    ensures { IsEdgeLevel known.now e result }
+{
+    match first_of(known.sites.fragments(e)) {
+        None => None,
+        Some(first) => fragment_level(known, e, first),
+    }
+}
+
+/// The least level for which an entry of edge `e` isn't safe. None for an edge that leads to no node.
+fn edge_level(known: &Known<'_>, e: usize) -> Option<u8>
+    requires known { IsKnown known.now }
+    requires edge { e < length known.now.graph.now.code.edges }
+    ensures { IsEdgeLevel known.now e result }
+{
+    match known.graph.target(e) {
+        None => None,
+        Some(_to) => leading_level(known, e),
+    }
+}
+
+/// Whether an edge is a branch's taken one.
+fn is_taken(kind: EdgeKind) -> bool
+    ensures { result ≡ is_taken kind }
+{
+    match kind {
+        EdgeKind::Taken => true,
+        EdgeKind::Untaken | EdgeKind::Jump | EdgeKind::Next | EdgeKind::CallNext | EdgeKind::End =>
+            false,
+    }
+}
+
+/// Whether an edge is taken or not, as told.
+fn is_of_sort(kind: EdgeKind, taken: bool) -> bool
+    ensures { (result ≡ true) ↔ (is_taken kind ≡ taken) }
+{
+    if taken {
+        is_taken(kind)
+    } else {
+        !is_taken(kind)
+    }
+}
+
+/// The least level of edge `e`, where it is taken or not, as told.
+fn sort_level(known: &Known<'_>, e: usize, taken: bool) -> Option<u8>
+    requires known { IsKnown known.now }
+    requires edge { e < length known.now.graph.now.code.edges }
+    ensures { IsSortLevel known.now taken e result }
+{
+    let edge = known.graph.edge(e);
+    if is_of_sort(edge.kind, taken) {
+        edge_level(known, e)
+    } else {
+        None
+    }
+}
+
+/// The same of the first taken edge of node `k` that has such an entry, or of the first other one.
+fn node_level(known: &Known<'_>, k: usize, taken: bool) -> Option<u8>
+    requires known { IsKnown known.now }
+    requires node { k < length known.now.graph.now.code.nodes }
+    ensures { IsNodeLevel known.now k taken result }
+{
+    let (first, end) = known.graph.edges_of(k);
+    for e in first..end {
+        match sort_level(known, e, taken) {
+            Some(level) => return Some(level),
+            None => {}
+        }
+    }
+    None
+}
+
+/// The least level of the first edge of node `k` with such an entry, where the taken edge comes last.
+fn both_level(known: &Known<'_>, k: usize) -> Option<u8>
+    requires known { IsKnown known.now }
+    requires node { k < length known.now.graph.now.code.nodes }
+    ensures { IsBothLevel known.now k result }
+{
+    match node_level(known, k, false) {
+        Some(level) => Some(level),
+        None => node_level(known, k, true),
+    }
+}
+
+/// The address and the level of the first entry that isn't safe.
+fn first_level(known: &Known<'_>) -> Option<(u32, u8)>
+    requires { IsKnown known.now }
+    ensures { IsFirstLevel known.now result }
+{
+    for k in 0..known.graph.node_count() {
+        match both_level(known, k) {
+            Some(level) => return Some((known.graph.node(k), level)),
+            None => {}
+        }
+    }
+    None
+}
+
+/// The address and the level of the first entry of a table that leads to a higher level, or to a lower one without meeting both tests with its row's slack: at the
+/// least address, at one address on the untaken edge before the taken one, and there for the least level, over all rows. None exactly where all are safe. Reads each
+/// row of an edge's table once; takes the memory of the foreign image while it looks. Err only for want of memory.
+pub fn first_bad_level(
+    alloc: Global,
+    power: &Power,
+    foreign: &ImageView<'_>,
+    graph: &CodeGraph,
+    tree: &LoopTree,
+    sites: &ForeignSites,
+    owners: &OwnerList,
+    worst: &WorstNumbers,
+    least: &LeastNumbers,
+) -> Result<Option<(u32, u8)>, NoMemory>
+    requires { HasKnown foreign.now graph.now tree.now sites.now owners.now worst.now least.now }
+    ensures { (original : Image) (found : Found) (w : ℕ → ℕ) (n : Numbers) (charged : Charged) → AreKnown original foreign.now graph.now tree.now sites.now owners.now worst.now least.now found w n charged → IfOk result (λ answer. IsLevelsAnswer power.now foreign.now graph.now (loops graph.now tree.now) (owner_by owners.now) w n charged found answer) }
+{
+    let memory = load_list(alloc, foreign)?;
+    Ok(first_level(&Known {
+        power,
+        memory: &memory,
+        key_end: key_end(foreign.keyed()),
+        graph,
+        tree,
+        sites,
+        owners,
+        worst,
+        least,
+    }))
+}

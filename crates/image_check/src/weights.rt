@@ -1,0 +1,124 @@
+//! What the edges of an original cost with the stubs of an image of other make.
+
+ghost use Rattle.std.specs.Prelude.{◌≡◌, ◌*◌, ◌+◌, ◌<◌, ◌≤◌, ℕ, length, slice_index, IfOk, sum_by};
+ghost use Rattle.scale_base.specs.declared.stepping.Class.{Class};
+ghost use Rattle.power_model.specs.Price.{cycles_of};
+ghost use Rattle.loop_tree.specs.Tree.{LoopView};
+ghost use Rattle.image_check.specs.Known.{HasFound};
+ghost use Rattle.image_check.specs.Weights.{foreign_cost, stub_jumps, IsExtraAt, AreExtraWeights, AreStoredWeights};
+
+use code_graph::{CodeGraph, Weights};
+use foreign_scan::{ForeignFragment, ForeignSites};
+use power_model::Costs;
+use scale_base::{Class, EdgeKind, NoMemory};
+use std::alloc::Global;
+
+/// The cycles of a fragment.
+fn fragment_cycles(fragment: &ForeignFragment, costs: &Costs) -> u32
+    ensures cost { result ≡ foreign_cost (cycles_of costs.now) fragment.now }
+    ensures small { result ≤ 16 * 65535 }
+{
+    let (stores, loads, alus) = match *fragment {
+        ForeignFragment::Switch { .. } => (3, 3, 5),
+        ForeignFragment::Exit { .. } => (4, 5, 7),
+        ForeignFragment::Reset { .. } => (1, 0, 0),
+        ForeignFragment::Count { .. } => (2, 2, 1),
+    };
+    stores * u32::from(costs.store) + loads * u32::from(costs.load) + alus * u32::from(costs.alu)
+}
+
+/// The cycles of the fragments of an edge.
+pub fn fragments_cycles(fragments: &[ForeignFragment], costs: &Costs) -> u32
+    requires few { length fragments.now ≤ 64 }
+    ensures cost { result ≡ sum_by (foreign_cost (cycles_of costs.now)) fragments.now }
+    ensures small { result ≤ 64 * (16 * 65535) }
+{
+    let mut total = 0;
+    for fragment in fragments {
+        total += fragment_cycles(fragment, costs);
+    }
+    total
+}
+
+/// The jumps of the stub over an edge of a patched instruction: to the stub of a branch and back, or back from the stub of a jump.
+fn stub_jumps(kind: EdgeKind) -> u32
+    ensures jumps { result ≡ stub_jumps kind }
+    ensures few { result ≤ 2 }
+{
+    match kind {
+        EdgeKind::Taken | EdgeKind::Untaken => 2,
+        EdgeKind::Jump | EdgeKind::Next | EdgeKind::CallNext | EdgeKind::End => 1,
+    }
+}
+
+/// The cycles that edge `e` takes more with the stubs: none where its node's word is the original's.
+fn extra_cycles(graph: &CodeGraph, sites: &ForeignSites, costs: &Costs, e: usize) -> u32
+    requires found { (tree : LoopView) × HasFound graph.now tree sites.now }
+    requires edge { e < length graph.now.code.edges }
+    ensures extra { IsExtraAt costs.now graph.now sites.now e result }
+    ensures small { result ≤ 2 * 65535 + 64 * (16 * 65535) }
+{
+    if !sites.patched(graph.source(e)) {
+        return 0;
+    }
+    let jumps = stub_jumps(graph.edge(e).kind);
+    jumps * u32::from(costs.jump) + fragments_cycles(sites.fragments(e), costs)
+}
+
+/// By edge, the cycles that it takes more with the stubs.
+pub fn extra_weights(
+    alloc: Global,
+    graph: &CodeGraph,
+    sites: &ForeignSites,
+    costs: &Costs,
+) -> Result<Weights, NoMemory>
+    requires { (tree : LoopView) × HasFound graph.now tree sites.now }
+    ensures weights { IfOk result (AreExtraWeights costs.now graph.now sites.now) }
+    ensures size { IfOk result (λ w. length w ≡ length graph.now.code.edges) }
+{
+    let mut weights = Vec::new(alloc);
+    for e in 0..graph.edge_count() {
+        weights.push(extra_cycles(graph, sites, costs, e))?;
+    }
+    Ok(Weights::from_vec(weights))
+}
+
+/// No class costs more than 65,535 cycles.
+fn small_costs(costs: &Costs)
+    ensures { (class : Class) → cycles_of costs.now class ≤ 65535 }
+{
+    let alu = costs.of(Class::Alu);
+    let load = costs.of(Class::Load);
+    let store = costs.of(Class::Store);
+    let taken = costs.of(Class::Taken);
+    let untaken = costs.of(Class::Untaken);
+    let jump = costs.of(Class::Jump);
+    let mul = costs.of(Class::Mul);
+    let div = costs.of(Class::Div);
+    let ecall = costs.of(Class::Ecall);
+    let fence = costs.of(Class::Fence);
+    let _all = [
+        alu, load, store, taken, untaken, jump, mul, div, ecall, fence,
+    ];
+}
+
+/// By edge, the cycles of its step and those that it takes more with the stubs.
+pub fn stored_weights(
+    alloc: Global,
+    graph: &CodeGraph,
+    sites: &ForeignSites,
+    costs: &Costs,
+) -> Result<Weights, NoMemory>
+    requires { (tree : LoopView) × HasFound graph.now tree sites.now }
+    ensures weights { IfOk result (AreStoredWeights costs.now graph.now sites.now) }
+    ensures size { IfOk result (λ w. length w ≡ length graph.now.code.edges) }
+    ensures small { IfOk result (λ w. (e : ℕ) → e < length graph.now.code.edges → slice_index w e ≤ 4294967295) }
+{
+    small_costs(costs);
+    let base = graph.base_weights(alloc, costs)?;
+    let mut weights = Vec::new(alloc);
+    for e in 0..graph.edge_count() {
+        weights.push(*base.get(e) + extra_cycles(graph, sites, costs, e))?;
+    }
+    Ok(Weights::from_vec(weights))
+}
