@@ -22,3 +22,4 @@ pub mod PlaceLaws
 pub mod WhyLaws
 pub mod AgreeLaws
 pub mod TreeLists
+pub mod Laws

@@ -40,7 +40,7 @@ module _ (found_agree : FoundAgree) (causes : CausesAgree) (not_both : ScanIsNot
   by_image : (v v' : FlowGraph) (tree tree' : LoopView) → IsListed original notes v tree → IsListed original notes v' tree' → (r : Result Image Refusal) (one other : Verdict) → IsFileVerdict power original r notes v tree one → IsFileVerdict power original r notes v' tree' other → one ≡ other
   by_image v v' tree tree' listed listed' (Err refusal) one other h h' = h ∙ sym h'
   by_image v v' tree tree' listed listed' (Ok image) one other h h' =
-      verdicts_same power original image notes found_agree causes not_both v v' tree tree' listed listed' (levels_same power original image notes found_agree not_both v v' tree tree' listed listed') one other
+      verdicts_same power original image notes found_agree causes not_both v v' tree tree' listed listed' (levels_same power original image notes found_agree v v' tree tree' listed listed') one other
       (stage_of power original image notes v tree one h) (stage_of power original image notes v' tree' other h')
 
   refusals : (one other : Refusal) → IsProgramRefusal original notes one → IsProgramRefusal original notes other → AreAlikeRefusals one other

@@ -54,7 +54,7 @@ entry_to power image l owner n n' told told' same iterations (Count counter ∷ 
 no_bad : (power : PowerModel) (image : Image) (l : Loops) (owner : Owner) (n : Numbers) (told : EdgeNumbers) (fs : List ForeignFragment) (i : ℕ) → fs ≡ [] → HasBadEntry power image l owner n told fs i → ⊥
 no_bad power image l owner n told fs i none bad = subst (λ xs. HasBadEntry power image l owner n told xs i) none bad
 
-module _ (power : PowerModel) (original foreign : Image) (notes : List LoopNote) (found_agree : FoundAgree) (not_both : ScanIsNotRefused) where
+module _ (power : PowerModel) (original foreign : Image) (notes : List LoopNote) (found_agree : FoundAgree) where
   abbrev t : Text
   t = text_of original
 
@@ -82,7 +82,7 @@ module _ (power : PowerModel) (original foreign : Image) (notes : List LoopNote)
         let fs' = m'.found edge.at edge.kind in
         let told : ℕ → EdgeNumbers = λ x. told_on (graph_by original v) l w m.n m.least e x in
         let tail = tail_cycles (costs_of power) (all_with_rows foreign l' m'.owner fs') in
-        let same = told_alike power original foreign notes found_agree not_both v v' tree tree' one other w w' m.n m'.n m.least m'.least a.weights_are a.alike charged e bad.0 tail bad.1 leads in
+        let same = told_alike power original foreign notes found_agree v v' tree tree' one other w w' m.n m'.n m.least m'.least a.weights_are a.alike charged e bad.0 tail bad.1 leads in
         let first = subst (λ (f : Found). HasBadEntry power foreign l m.owner m.n (told (tail_cycles (costs_of power) (all_with_rows foreign l m.owner (f edge.at edge.kind)))) (f edge.at edge.kind) i) a.found_is_same bad.2 in
         let second = subst (λ (o : Owner). HasBadEntry power foreign l o m.n (told (tail_cycles (costs_of power) (all_with_rows foreign l o fs'))) fs' i) a.owner_is_same first in
         let third = subst (λ (ls : Loops). HasBadEntry power foreign ls m'.owner m.n (told (tail_cycles (costs_of power) (all_with_rows foreign ls m'.owner fs'))) fs' i) (counted.loops_same power original foreign notes v v' tree tree' one other) second in

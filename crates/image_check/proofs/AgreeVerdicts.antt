@@ -125,9 +125,9 @@ module _ (power : PowerModel) (original foreign : Image) (notes : List LoopNote)
     module _ (levels_same : (a b : Verdict) → stages.IsLevelFailed power original foreign notes v tree a → stages.IsLevelFailed power original foreign notes v' tree' b → a ≡ b) where
       behind_time : (a b : Verdict) → stages.BehindTime power original foreign notes v tree a → stages.BehindTime power original foreign notes v' tree' b → a ≡ b
       behind_time a b (inl x) (inl y) = levels_same a b x y
-      behind_time a b (inl x) (inr y) = absurd (yes.level_clash power original foreign notes found_agree not_both v' v tree' tree other one b y x.at x.from x.misled)
-      behind_time a b (inr x) (inl y) = absurd (yes.level_clash power original foreign notes found_agree not_both v v' tree tree' one other a x y.at y.from y.misled)
-      behind_time a b (inr x) (inr y) = x.is ∙ (ap (λ c. Yes c) (sym (yes.passed_same power original foreign notes found_agree not_both v v' tree tree' one other a x y.checked y.passed)) ∙ sym y.is)
+      behind_time a b (inl x) (inr y) = absurd (yes.level_clash power original foreign notes found_agree v' v tree' tree other one b y x.at x.from x.misled)
+      behind_time a b (inr x) (inl y) = absurd (yes.level_clash power original foreign notes found_agree v v' tree tree' one other a x y.at y.from y.misled)
+      behind_time a b (inr x) (inr y) = x.is ∙ (ap (λ c. Yes c) (sym (yes.passed_same power original foreign notes found_agree v v' tree tree' one other a x y.checked y.passed)) ∙ sym y.is)
 
       behind_start : (a b : Verdict) → stages.BehindStart power original foreign notes v tree a → stages.BehindStart power original foreign notes v' tree' b → a ≡ b
       behind_start a b (inl x) (inl y) = time_same v v' tree tree' one other a b x y

@@ -1,4 +1,4 @@
--- Where an image is safe, yes is the only verdict.
+-- Where an image is safe, no entry of its tables is bad, and its numbers are determined.
 use Rattle.std.proofs.Common.{◌≡◌, ◌⊎◌, inl, inr, ℕ, ◌+◌, ◌*◌, ◌/◌, ◌^◌, ◌<◌, ◌≤◌, List, [], ◌∷◌, length, refl, arith, sym, ap, ◌∙◌, subst, slice_get, Option, Some, None, Result, Ok, Err}
 use Rattle.std.specs.Prelude.{option_map, is_some}
 use Rattle.std.proofs.lemmas.Option.{slice_get_within}
@@ -57,7 +57,7 @@ safe_not_bad power image l owner n n' told told' same iterations (Exit counter s
 safe_not_bad power image l owner n n' told told' same iterations (Reset counter ∷ fs) i safe bad = bad
 safe_not_bad power image l owner n n' told told' same iterations (Count counter ∷ fs) i safe bad = bad
 
-module _ (power : PowerModel) (original foreign : Image) (notes : List LoopNote) (found_agree : FoundAgree) (not_both : ScanIsNotRefused) (v v' : FlowGraph) (tree tree' : LoopView) (one : IsListed original notes v tree) (other : IsListed original notes v' tree') where
+module _ (power : PowerModel) (original foreign : Image) (notes : List LoopNote) (found_agree : FoundAgree) (v v' : FlowGraph) (tree tree' : LoopView) (one : IsListed original notes v tree) (other : IsListed original notes v' tree') where
   abbrev t : Text
   t = text_of original
 
@@ -102,9 +102,6 @@ module _ (power : PowerModel) (original foreign : Image) (notes : List LoopNote)
 
     alike : (found' : Found) (owner' : Owner) (n' : Numbers) → IsCounted power original foreign v' tree' found' owner' n' → counted.IsCountedAlike power original foreign notes v v' tree tree' one other p.found found' p.owner owner' p.n n'
     alike found' owner' n' c = counted.counted_alike power original foreign notes v v' tree tree' one other found_agree p.found found' p.owner owner' p.n n' own c
-
-    worst_is : (found' : Found) (owner' : Owner) (n' : Numbers) → IsCounted power original foreign v' tree' found' owner' n' → p.n.worst 0 ≡ n'.worst 0
-    worst_is found' owner' n' c = (alike found' owner' n' c).alike.whole
 
     pub level_clash : (at from : ℕ) → IsMisled power original foreign v' tree' at from → ⊥
     level_clash at from m =
@@ -152,28 +149,3 @@ module _ (power : PowerModel) (original foreign : Image) (notes : List LoopNote)
         same_checked a b s w x d c =
             ap (λ y. record a { start = y }) s ∙ (ap (λ y. record a { start = b.start; worst = y }) w ∙ (ap (λ y. record a { start = b.start; worst = b.worst; time = y }) x
             ∙ (ap (λ y. record a { start = b.start; worst = b.worst; time = b.time; deadline = y }) d ∙ ap (λ y. record a { start = b.start; worst = b.worst; time = b.time; deadline = b.deadline; stub_cycles = y }) c)))
-
-    pub only_yes : (verdict' : Verdict) → stages.Staged power original foreign notes v' tree' verdict' → verdict' ≡ verdict
-    only_yes verdict' (inl s) = absurd (no_cause original foreign not_both v.code v'.code l l' p.found s.cause (counted.lists power original foreign notes v v' tree tree' one other) (counted.loops_same power original foreign notes v v' tree tree' one other) other.code_is.reached p.safe.scanned s.first)
-    only_yes verdict' (inr (inl c)) = absurd (counted.counter_clash power original foreign notes v v' tree tree' one other found_agree p.found p.owner c.counter p.safe.scanned p.safe.owners c.bad)
-    only_yes verdict' (inr (inr (inl x))) =
-        let w = worst_is x.long.found x.long.owner x.long.n x.long.counted in
-        let long = x.long.long in
-        let short = p.safe.not_long in
-        absurd (let no : ⊥ = omega (arith, w, long, short) in no)
-    only_yes verdict' (inr (inr (inr (inl x)))) =
-        let s = x.nowhere.level_is in
-        let n = x.nowhere.levels_are in
-        let none = x.nowhere.none in
-        let low = p.safe.start in
-        absurd (let no : ⊥ = omega (arith, s, n, none, low) in no)
-    only_yes verdict' (inr (inr (inr (inr (inl x))))) =
-        let c = x.late.level.counted in
-        let w = worst_is x.late.found x.late.owner x.late.n c in
-        let need : x.need ≡ time_at power (key_level power foreign) (p.n.worst 0) = x.late.need_is ∙ ap (time_at power (key_level power foreign)) (sym w) in
-        let have = x.late.have_is in
-        let late = x.late.late in
-        let in_time : time_at power (key_level power foreign) (p.n.worst 0) ≤ power.deadline = p.safe.in_time in
-        absurd (let no : ⊥ = omega (arith, need, have, late, in_time) in no)
-    only_yes verdict' (inr (inr (inr (inr (inr (inl x)))))) = absurd (level_clash x.at x.from x.misled)
-    only_yes verdict' (inr (inr (inr (inr (inr (inr x)))))) = x.is ∙ (ap (λ c. Yes c) (passed_same x.checked x.passed) ∙ sym h.is)

@@ -41,3 +41,5 @@ pub mod AgreeVerdicts
 pub mod AgreeEdges
 pub mod AgreeLevels
 pub mod AgreeAnswers
+pub mod Agreed
+pub mod Laws

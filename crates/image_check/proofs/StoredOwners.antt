@@ -45,6 +45,8 @@ use Rattle.foreign_scan.specs.Scanned.{Found, IsFirstCounted}
 use Rattle.rewritten_runs.specs.Stubs.{IsWeighed, AreSitesOf, plain_weights, marks_by_slack, told_at, fragment_of, fragments_at, loop_of}
 use Rattle.rewritten_runs.proofs.Laws.{led_class, marked_led, program_is, graph_program, counted_is, loop_is}
 use Rattle.image_check.specs.Safe.{Owner, counts_it, clears_it, one_where, counts_on, clears_on, IsCounterOf, IsUsed, AreOwners}
+use Rattle.image_check.proofs.AgreeOwners.{one_back}
+use Rattle.image_check.proofs.Rows.{on_counts, some_if}
 use Rattle.image_check.proofs.StoredTables.{found_one, found_with}
 use Rattle.image_check.proofs.StoredStubs.{HasWholeWords}
 use Rattle.image_check.proofs.StoredScan as scan
@@ -84,27 +86,8 @@ module _ (power : PowerModel) (l : Loops) (counted : List ℕ) (n : Numbers) (to
       let rest = all_clears later ms in
       omega (arith, one, rest, sum_by-cons (clears_it c) (found_one table f) (found_with later (map (fragment_of power l counted n told) ms)), sum_by-cons (mark_clears c) m ms)
 
-count_stands : (c : ℕ) (fs : List ForeignFragment) (i : ℕ) → slice_get fs i ≡ Some (Count c) → 0 < sum_by (counts_it c) fs
-count_stands c [] i e = let never : ⊥ = cc in absurd never
-count_stands c (f ∷ fs) zero e =
-    let is : f ≡ Count c = cc in
-    let one : counts_it c f ≡ 1 = ap (counts_it c) is ∙ cond-true (c == c) 1 0 (eq-eqb c c refl) in
-    omega (arith, one, sum_by-cons (counts_it c) f fs)
-count_stands c (f ∷ fs) (suc i) e = let later = count_stands c fs i e in omega (arith, later, sum_by-cons (counts_it c) f fs)
-
-same_header : (l : Loops) (j k : ℕ) (to : Option ℕ) → is_header l j to ≡ true → is_header l k to ≡ true → l.header j ≡ l.header k
-same_header l j k None a b = let never : ⊥ = cc in absurd never
-same_header l j k (Some w) a b =
-    let x : w ≡ l.header j = eqb-true w (l.header j) a in
-    let y : w ≡ l.header k = eqb-true w (l.header k) b in
-    sym x ∙ y
-
 clash : (o : Option Class) → o ≡ None → (c : Class) → o ≡ Some c → ⊥
 clash o none c some = let never : ⊥ = cc in never
-
-is_one : (b : Bool) → 0 < one_where b → b ≡ true
-is_one true h = refl
-is_one false h = absurd (let no : ⊥ = omega (arith, h) in no)
 
 module _ (power : PowerModel) (original foreign : Image) (notes : List LoopNote) (v : FlowGraph) (tree : LoopView) (plain stored : Numbers) (weighed : IsWeighed power original notes v tree plain stored) (least : Charged) (sites : List Site)
     (are : AreSitesOf original v.code (fragments_at power original v tree (marks_by_slack power original v tree plain) stored least) sites)
@@ -264,14 +247,13 @@ module _ (power : PowerModel) (original foreign : Image) (notes : List LoopNote)
   first c k f =
       let r = f.counted in
       let lt = slice_get_within code.edges f.e f.edge r.there in
-      let more = count_stands c (found f.edge.at f.edge.kind) r.counts.0 r.counts.1 in
+      let more = on_counts c (found f.edge.at f.edge.kind) r.counts.0 r.counts.1 in
       let there = ap (λ o. counts_on found o c) r.there in
       let some : 0 < counts_on found (slice_get code.edges f.e) c + clears_on found (slice_get code.edges f.e) c = omega (arith, more, there) in
       let o = used_loop c f.e lt some in
       let is = counter_is c o in
       let count = is.counts f.e lt in
-      let back = is_one (is_back g l o.loop f.e) (omega (arith, count, there, more)) in
-      let same = same_header l o.loop k (g.target f.e) (and_parts (l.inside o.loop (g.source f.e)) (is_header l o.loop (g.target f.e)) back).1 (and_parts (l.inside k (g.source f.e)) (is_header l k (g.target f.e)) r.back).1 in
+      let back = some_if (is_back g l o.loop f.e) (omega (arith, count, there, more)) in
       let gp = graph_program power original notes v tree plain stored weighed in
-      let one : o.loop ≡ k = headers-distinct g l (noted_loops notes).inside gp (accepted_entered prog.loops) o.loop k is.low r.low same in
+      let one : o.loop ≡ k = one_back g l (noted_loops notes).inside gp prog.loops o.loop k f.e is.low r.low back r.back in
       own_loop c f.e lt some o ∙ ap (λ x. Some x) one

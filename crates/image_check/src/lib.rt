@@ -12,7 +12,9 @@ mod uses;
 mod weights;
 
 pub use checking::check;
-pub use passing::{rewritten_images_are_safe_to_check, rewritten_images_pass};
+pub use passing::{
+    checked_answers_agree, rewritten_images_are_safe_to_check, rewritten_images_pass,
+};
 
 /// Every kept run of a safe image ends as the original's does, with the same output, in time, at no higher level than before, with no more
 /// energy than its own cycles at the starting level, and with at most so many cycles and steps more.

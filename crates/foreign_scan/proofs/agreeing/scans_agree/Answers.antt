@@ -1,5 +1,5 @@
 use Rattle.foreign_scan.proofs.AgreeLaws.{scan_is_not_refused, causes_agree, found_agree}
-use Rattle.foreign_scan.proofs.laws.scans_agree.Goals as goal
+use Rattle.foreign_scan.proofs.agreeing.scans_agree.Goals as goal
 
 pub returns-clause-not_both : goal.returns-clause-not_both
 returns-clause-not_both c = scan_is_not_refused
