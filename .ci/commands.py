@@ -62,6 +62,7 @@ scale report IMAGE MACHINE LOOPS
 scale simulate IMAGE MACHINE INPUT OUT [LOOPS]
 scale make NUMBER SIZE PREFIX
 scale help
+scale check IMAGE FOREIGN MACHINE LOOPS
 scale lower IMAGE JUMPS OUT
 """
 BAD_COMMAND = "bad command; try: scale help\n"
@@ -108,6 +109,10 @@ def summary(level, worst, time, deadline, added=0, switches=0, size=0):
     )
 
 
+def verdict(level, worst, time, deadline, added):
+    return "check yes\nstart level %d\nworst cycles %d\nworst time %d of %d\nstub cycles at most %d\n" % (level, worst, time, deadline, added)
+
+
 def counts(pairs, jumps, block, depth):
     return "pairs %d\njumps %d\nblock bytes %d\ndepth %d\n" % (pairs, jumps, block, depth)
 
@@ -139,6 +144,8 @@ def drawn(number, before, count):
 def files():
     """The files of all command lines, by name."""
     rewritten = [TO_STUB if word == 0x00050E63 else word for word in READ_ONE]
+    # Level 2 leads to level 0.
+    late_stub = [0x00030313 if word == 0x10030313 else word for word in STUB]
     return {
         "seven": plain_image(SEVEN),
         "own": plain_image(SEVEN),
@@ -152,6 +159,8 @@ def files():
         "held-0": stored_image(SEVEN, 0),
         "held-1": stored_image(SEVEN, 1),
         "rewritten": stored_image(rewritten, 1, STUB),
+        "too-slow": stored_image(rewritten, 0, STUB),
+        "late": stored_image(rewritten, 1, late_stub),
         "far-call": plain_image(FAR_CALL),
         "near-call": plain_image(NEAR_CALL),
         "table-jump": plain_image(TABLE_JUMP),
@@ -194,6 +203,8 @@ LINES = [
     ("report seven m loops out", 2, BAD_COMMAND),
     ("lower a b", 2, BAD_COMMAND),
     ("lower table-jump jumps out more", 2, BAD_COMMAND),
+    ("check read-one rewritten m-160", 2, BAD_COMMAND),
+    ("check read-one rewritten m-160 loops more", 2, BAD_COMMAND),
     ("make 0 0 p", 2, BAD_COMMAND),
     ("make 0 2001 p", 2, BAD_COMMAND),
     ("make 18446744073709551616 1 p", 2, BAD_COMMAND),
@@ -214,6 +225,14 @@ LINES = [
     ("report seven m missing", 3, ""),
     ("make 0 1 p", 0, MADE_TEXT, {"p.elf": "made", "p.machine": "m-made", "p.loops": "loops", "p.input": "drawn", "p.scaled": "made-held"}),
     ("make 0 1 folder/p", 3, ""),
+    ("check read-one rewritten m-160 loops", 0, verdict(1, 79, 158, 160, 18)),
+    ("check seven held-0 m loops", 0, verdict(0, 7, 28, 28, 0)),
+    ("check read-one late m-160 loops", 7, "check no level 0x00010010 from 2\n"),
+    ("check read-one too-slow m-160 loops", 7, "check no deadline need 316 have 160\n"),
+    ("check read-one read-one m-160 loops", 7, "check no key missing\n"),
+    ("check read-one none m-160 loops", 7, "check no image 1\n"),
+    ("check rewritten rewritten m-160 loops", 1, "refused 8 already scaled\n"),
+    ("check read-one missing m-160 loops", 3, ""),
     ("lower far-call no-jumps out", 0, counts(1, 0, 0, 0), {"out": "near-call"}),
     ("lower table-jump jumps out", 0, counts(0, 1, 32, 1), {"out": "lowered"}),
     ("lower table-jump jumps jumps", 0, counts(0, 1, 32, 1), {"jumps": "lowered"}),

@@ -25,6 +25,7 @@ use Rattle.loop_tree.specs.Noted.{node_address}
 use Rattle.loop_tree.specs.Tree.{loops}
 use Rattle.worst_cycles.specs.Worst.{WorstView, by_edge, HasLeftSizes, HoldsLeft, IsLeftOf, IsWorstFound}
 use Rattle.least_cycles.specs.Found.{LeastView, HasWorstInRange, IsLeastOf, HoldsLeast, AreSmallLeast}
+use Rattle.rewritten_runs.proofs.Laws.{worst_grows}
 use Rattle.paid_runs.specs.Marked.{extra_site_weights, stored_site_weights}
 use Rattle.foreign_scan.specs.Scanned.{Found}
 use Rattle.foreign_scan.specs.Shown.{SitesView}
@@ -147,6 +148,17 @@ module _ (p : Original) (is : IsOriginal p) where
 
     pub total_is : (total : ℕ) → slice_get c.worst.worst 0 ≡ Some total → total ≡ n.worst 0
     total_is total here = some_number (sym here ∙ h.worst)
+
+    -- what the stubs add is in range too
+    pub never_long : (ws : List ℕ) (refusal : Refusal) → by_edge ws ≡ added r found h.received → IsWorstFound (graph v) l (by_edge ws) (Err refusal) → ⊥
+    never_long ws refusal same long =
+        let m = long.1.0 in
+        let less = subst (λ w. AreNumbers (graph v) l w m) same long.1.1 in
+        let more = subst (λ w. AreNumbers (graph v) l w n) h.weights_are h.numbers in
+        let le = worst_grows (graph v) l is.code_is.flow.program (added r found h.received) (stored r found h.received) m n less.worst more.worst (λ e lt. omega arith) 0 is.code_is.flow.program.main in
+        let over = long.1.2 in
+        let short = h.short in
+        omega (arith, le, over, short)
 
     pub starts_nowhere : (level levels : ℕ) → level ≡ key_level p.power r.view → levels ≡ length p.power.levels → levels ≤ level → StartsNowhere p.power p.view r.view p.graph p.tree level levels
     starts_nowhere level levels a b none = record { found = found; owner = owner_by r.owners; n = n; counted = counted; short = h.short; level_is = a; levels_are = b; none = none }

@@ -11,6 +11,7 @@ ghost use Rattle.foreign_scan.specs.Scanned.{Found};
 ghost use Rattle.scaler.specs.Held.{unscaled};
 ghost use Rattle.image_check.specs.Checked.{IsChecked, IsProgramChecked, IsFileVerdict, IsImageVerdict};
 ghost use Rattle.image_check.specs.SafeRuns.{IsSafeVerdict};
+ghost use Rattle.image_check.specs.declared.checking.CostsWithStubs.{CostsWithStubs};
 ghost use Rattle.image_check.specs.Checks.{IsOriginal, IsScannedBy, IsReceived, AreShortCosts, IsInTime, AreExtraCycles};
 
 use crate::levels::first_bad_level;
@@ -81,21 +82,22 @@ fn starting_level(power: &Power, keyed: Option<Keyed>) -> u32
     }
 }
 
-/// The most cycles that stubs add to a run.
+/// The most cycles that stubs add to a run: they are in range where the worst cycles with stubs are.
 fn stub_cycles(
     alloc: Global,
     original: &Original<'_>,
     received: &Received<'_>,
 ) -> Result<u64, NoMemory>
     requires original { IsOriginal original.now }
-    requires received { (found : Found) × IsReceived original.now received.now found }
+    requires costs { (found : Found) × (costs : CostsWithStubs) × (n : Numbers) × AreShortCosts original.now received.now costs found n }
     ensures { IfOk result (λ cycles. (found : Found) → IsReceived original.now received.now found → AreExtraCycles original.now received.now found cycles) }
 {
     let power = &original.power;
     let weights = extra_weights(alloc, &original.graph, &received.sites, &power.costs)?;
     match worst(alloc, &original.graph, &original.tree, &weights) {
         Ok(worst) => Ok(worst.total()),
-        Err(_) => Err(NoMemory),
+        Err(Stop::Refused(_)) => unreachable!(),
+        Err(Stop::Memory) => Err(NoMemory),
     }
 }
 

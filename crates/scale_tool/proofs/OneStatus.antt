@@ -4,6 +4,9 @@ use Rattle.std.specs.Prelude.{Option, Some, None, IfSome, Result, Ok, Err}
 use Rattle.scale_base.specs.declared.plan.SiteLine.{SiteLine}
 use Rattle.scale_base.specs.declared.refusal.Refusal.{Refusal}
 use Rattle.scale_base.specs.declared.summary.Summary.{Summary}
+use Rattle.scale_base.specs.declared.verdict.Verdict.{Verdict}
+use Rattle.image_check.specs.Agreeing.{AreAlikeVerdicts}
+use Rattle.image_check.proofs.Laws.{checked_answers}
 use Rattle.scaler.specs.Agree.{AreAlikeAnswers}
 use Rattle.scaler.specs.Held.{IsHeld}
 use Rattle.scaler.specs.Planned.{IsPlanned}
@@ -16,8 +19,8 @@ use Rattle.scale_report.specs.Texts.{lowered_text, summary_text}
 use Rattle.image_maker.specs.Making.{program}
 use Rattle.image_maker.proofs.Laws.{one_image}
 use Rattle.host_files.specs.HostState.{Files, HostState}
-use Rattle.scale_tool.specs.Answer.{Answer, AnswersTo, Giving, HasAnswer, IsAnswerOf, AreMade, MadeFiles, Makes, MakesMade, MakesReport, MakesStored, made_answer, plan_answer, stored_answer}
-use Rattle.scale_tool.specs.Command.{Command, Help, Hold, Rewrite, Report, Simulate, Make, Lower, wants_of}
+use Rattle.scale_tool.specs.Answer.{Answer, AnswersTo, Giving, HasAnswer, IsAnswerOf, AreMade, MadeFiles, Makes, MakesMade, MakesReport, MakesStored, MakesVerdict, made_answer, plan_answer, stored_answer, verdict_answer}
+use Rattle.scale_tool.specs.Command.{Command, Help, Hold, Rewrite, Report, Simulate, Make, Lower, Check, wants_of}
 use Rattle.scale_tool.specs.Loading.{Loading, Missing, Long, Whole, loading_of}
 use Rattle.scale_tool.specs.Tool.{IsAnswered, IsDelivered, IsStatusOfAll}
 
@@ -52,6 +55,20 @@ one_report : (i m l : List ℕ) (one other : Answer) → MakesReport i m l one �
 one_report i m l one other x y =
     ap (λ (a : Answer). a.status) x.told
     ∙ plan_status i m l x.given y.given x.is_given y.is_given
+    ∙ sym (ap (λ (a : Answer). a.status) y.told)
+
+-- ---- verdicts
+
+verdict_status : (one other : Result Verdict Refusal) → AreAlikeVerdicts one other → (verdict_answer one).status ≡ (verdict_answer other).status
+verdict_status (Ok one) (Ok other) alike = ap (λ (v : Verdict). (verdict_answer (Ok v)).status) alike
+verdict_status (Err one) (Err other) alike = refl
+verdict_status (Ok one) (Err other) alike = absurd alike
+verdict_status (Err one) (Ok other) alike = absurd alike
+
+one_verdict : (i f m l : List ℕ) (one other : Answer) → MakesVerdict i f m l one → MakesVerdict i f m l other → one.status ≡ other.status
+one_verdict i f m l one other x y =
+    ap (λ (a : Answer). a.status) x.told
+    ∙ verdict_status x.given y.given (checked_answers i f m l x.given y.given x.is_given y.is_given)
     ∙ sym (ap (λ (a : Answer). a.status) y.told)
 
 -- ---- made programs
@@ -95,6 +112,7 @@ one_made_of_files (Simulate image machine input out (Some loops)) (i ∷ m ∷ n
 one_made_of_files (Make number size prefix) [] one other x y = one_made number size prefix one other x y
 one_made_of_files (Lower image jumps out) (i ∷ j ∷ []) one other x y =
     one_stored (IsLowered i j) lowered_text out (λ a b g h. ap (λ (r : Result (List ℕ × Lowered) Refusal). (stored_answer lowered_text out r).status) (lowered_answers i j a b g h)) one other x y
+one_made_of_files (Check image foreign machine loops) (i ∷ f ∷ m ∷ l ∷ []) one other x y = one_verdict i f m l one other x y
 one_made_of_files command files one other x y = absurd x
 
 one_of_loading : (command : Command) (loading : Loading) (one other : Answer) → AnswersTo command loading one → AnswersTo command loading other → one.status ≡ other.status

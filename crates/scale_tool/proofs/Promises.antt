@@ -15,6 +15,7 @@ use Rattle.scaler.specs.Rewritten.{IsRewritten}
 use Rattle.scaler.specs.Runs.{IsHeldSafely}
 use Rattle.scaler.specs.RewrittenRuns.{IsRewrittenSafely}
 use Rattle.scaler.proofs.Laws.{held_safe, rewritten_safe}
+use Rattle.image_check.proofs.Laws.{checked_safe}
 use Rattle.image_lower.specs.Lowered.{IsLowered}
 use Rattle.image_lower.proofs.Laws.{lowered_safe}
 use Rattle.scale_report.specs.Texts.{lowered_text, summary_text}
@@ -23,7 +24,7 @@ use Rattle.image_maker.specs.Making.{headers}
 use Rattle.image_maker.proofs.Laws.{small_image, small_machine, small_loops}
 use Rattle.host_files.specs.HostState.{Files, HostState}
 use Rattle.scale_tool.specs.Answer.{Answer, Giving, AreMade, MadeFiles, Makes, MakesMade, MakesStored, AnswersTo, HasAnswer, made_answer, refused, stored_answer, unless_refused}
-use Rattle.scale_tool.specs.Command.{Command, Help, Hold, Rewrite, Report, Simulate, Make, Lower, command_of, texts, wants_of}
+use Rattle.scale_tool.specs.Command.{Command, Help, Hold, Rewrite, Report, Simulate, Make, Lower, Check, command_of, texts, wants_of}
 use Rattle.scale_tool.specs.Loading.{Loading, Missing, Long, Whole, loading_of, loading_one, and_then}
 use Rattle.scale_tool.specs.Promise.{Keeping, KeepsLowered, StoredPromise, MadePromise, Promise, PromisedOf, PromisedBy, Promised}
 use Rattle.scale_tool.specs.Tool.{with_stores, StoresStand}
@@ -217,6 +218,9 @@ kept (Make number blocks prefix) (file ∷ loaded) files answer size within made
 kept (Lower image jumps out) (i ∷ j ∷ []) files answer size within made done =
     stored_kept (IsLowered i j) (KeepsLowered i j) lowered_text out files (λ stored counts is bytes. lowered_safe i j stored counts within.0 bytes is) answer made done
 kept (Lower image jumps out) loaded files answer size within made done = absurd made
+kept (Check image foreign machine loops) (i ∷ f ∷ m ∷ l ∷ []) files answer size within made done =
+    λ printed is bytes. checked_safe i f m l printed is bytes
+kept (Check image foreign machine loops) loaded files answer size within made done = absurd made
 
 of_loading : (command : Command) (loading : Loading) (files : Files) (new : Option Files) (answer : Answer) → HasSize command → Within (wants_of command) loading → AnswersTo command loading answer →
     answer.status ≢ 1 → new ≡ Some (with_stores answer.stores files) → IfSome new (λ after. PromisedOf command loading after)

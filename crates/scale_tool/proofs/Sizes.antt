@@ -2,7 +2,7 @@
 use Rattle.std.proofs.Common.{◌≡◌, ℕ, ◌≤◌, List, [], ◌∷◌, refl, arith, Bool, true, false, cond}
 use Rattle.std.specs.Prelude.{Option, Some, None, IfSome, option_map, option_and_then, nat_le, ◌&&◌, bytes_eq, codes}
 use Rattle.std.proofs.lemmas.Bool.Decides.{nat_tests}
-use Rattle.scale_tool.specs.Command.{Command, Help, Hold, Rewrite, Report, Simulate, Make, Lower, command_of, help_of, hold_of, rewrite_of, report_words, simulate_of, make_of, lower_of}
+use Rattle.scale_tool.specs.Command.{Command, Help, Hold, Rewrite, Report, Simulate, Make, Lower, Check, command_of, help_of, hold_of, rewrite_of, report_words, simulate_of, make_of, lower_of, check_of}
 use Rattle.scale_tool.specs.Numbers.{digits_within, digits_number}
 
 abbrev pub HasSize : Command → Type 0
@@ -13,6 +13,7 @@ HasSize (Report image machine loops) = Unit {0}
 HasSize (Simulate image machine input out loops) = Unit {0}
 HasSize (Make number size prefix) = size ≤ 2000
 HasSize (Lower image jumps out) = Unit {0}
+HasSize (Check image foreign machine loops) = Unit {0}
 
 -- a number that is within limits is at most the greater one
 limited_here : (low high n : ℕ) → IfSome (cond (nat_le low n && nat_le n high) (Some n) None) (λ m. m ≤ high)
@@ -68,6 +69,10 @@ lowered_size : (words : List (List ℕ)) → IfSome (lower_of words) HasSize
 lowered_size (image ∷ jumps ∷ out ∷ []) = tt
 lowered_size words = tt
 
+checked_size : (words : List (List ℕ)) → IfSome (check_of words) HasSize
+checked_size (image ∷ foreign ∷ machine ∷ loops ∷ []) = tt
+checked_size words = tt
+
 either : (b : Bool) (x y : Option Command) → IfSome x HasSize → IfSome y HasSize → IfSome (cond b x y) HasSize
 either true x y h k = h
 either false x y h k = k
@@ -81,4 +86,5 @@ command_size (word ∷ words) =
     (either (bytes_eq word (codes "report")) _ _ (reported_size words)
     (either (bytes_eq word (codes "simulate")) _ _ (simulated_size words)
     (either (bytes_eq word (codes "make")) _ _ (made_size words)
-    (either (bytes_eq word (codes "lower")) (lower_of words) None (lowered_size words) tt))))))
+    (either (bytes_eq word (codes "lower")) _ _ (lowered_size words)
+    (either (bytes_eq word (codes "check")) (check_of words) None (checked_size words) tt)))))))

@@ -4,20 +4,23 @@ use Rattle.scale_base.specs.declared.refusal.Refusal.{Refusal}
 use Rattle.scale_base.specs.declared.refusal.Refusal.TheVariants.{TooLarge}
 use Rattle.scale_base.specs.declared.plan.SiteLine.{SiteLine}
 use Rattle.scale_base.specs.declared.summary.Summary.{Summary}
+use Rattle.scale_base.specs.declared.verdict.Verdict.{Verdict}
+use Rattle.scale_base.specs.declared.verdict.Verdict.TheVariants.{Yes, No}
 use Rattle.scale_base.specs.declared.endings.End.{End}
 use Rattle.scale_base.specs.declared.endings.End.TheVariants.{Exited, Trapped, OutOfSteps}
 use Rattle.power_model.specs.Report.{Report as RunReport}
-use Rattle.scale_report.specs.Texts.{summary_text, lowered_text, refusal_text, run_text, site_line}
+use Rattle.scale_report.specs.Texts.{summary_text, lowered_text, verdict_text, refusal_text, run_text, site_line}
 use Rattle.scaler.specs.Held.{IsHeld}
 use Rattle.scaler.specs.Planned.{IsPlanned}
 use Rattle.scaler.specs.Rewritten.{IsRewritten}
 use Rattle.speed_sim.specs.Simulated.{simulated}
 use Rattle.image_lower.specs.Lowered.{IsLowered}
+use Rattle.image_check.specs.Checked.{IsChecked}
 use Rattle.image_maker.specs.Made.{IsImageOf}
 use Rattle.image_maker.specs.MadeTexts.{machine_text, loops_text, drawn_bytes}
 use Rattle.image_maker.specs.Making.{program, headers, state_at}
 use Rattle.host_files.specs.HostState.{Files}
-use Rattle.scale_tool.specs.Command.{Command, Help, Hold, Rewrite, Report, Simulate, Make, Lower, wants_of}
+use Rattle.scale_tool.specs.Command.{Command, Help, Hold, Rewrite, Report, Simulate, Make, Lower, Check, wants_of}
 use Rattle.scale_tool.specs.Loading.{Loading, Missing, Long, Whole, loading_of}
 
 -- names, each with what is stored under it
@@ -39,7 +42,7 @@ bad_command = record { stores = []; text = bad_command_text; status = 2 }
 
 -- how the commands are called
 abbrev pub help_text : List ℕ
-help_text = codes "scale hold IMAGE MACHINE LOOPS OUT\nscale rewrite IMAGE MACHINE LOOPS OUT\nscale report IMAGE MACHINE LOOPS\nscale simulate IMAGE MACHINE INPUT OUT [LOOPS]\nscale make NUMBER SIZE PREFIX\nscale help\nscale lower IMAGE JUMPS OUT\n"
+help_text = codes "scale hold IMAGE MACHINE LOOPS OUT\nscale rewrite IMAGE MACHINE LOOPS OUT\nscale report IMAGE MACHINE LOOPS\nscale simulate IMAGE MACHINE INPUT OUT [LOOPS]\nscale make NUMBER SIZE PREFIX\nscale help\nscale check IMAGE FOREIGN MACHINE LOOPS\nscale lower IMAGE JUMPS OUT\n"
 
 -- the answer to `help`
 abbrev pub help : Answer
@@ -73,6 +76,22 @@ pub record MakesReport (image machine loops : List ℕ) (answer : Answer) : Type
   pub given : Result (Summary × List SiteLine) Refusal
   pub is_given : IsPlanned image machine loops given
   pub told : answer ≡ plan_answer given
+
+-- the status of a verdict: the image is safe, or it isn't known to be
+abbrev pub verdict_status : Verdict → ℕ
+verdict_status (Yes checked) = 0
+verdict_status (No why) = 7
+
+-- the verdict, or the refusal
+abbrev pub verdict_answer : Result Verdict Refusal → Answer
+verdict_answer (Ok verdict) = record { stores = []; text = verdict_text verdict; status = verdict_status verdict }
+verdict_answer (Err refusal) = refused refusal
+
+-- The answer to `check`, by the bytes of its image, of the image of other make, and of its machine file and loop file: it tells the verdict for them, and stores nothing.
+pub record MakesVerdict (image foreign machine loops : List ℕ) (answer : Answer) : Type 0 where
+  pub given : Result Verdict Refusal
+  pub is_given : IsChecked image foreign machine loops given
+  pub told : answer ≡ verdict_answer given
 
 -- the status of a simulated run, by how it ended: it exited, whatever its own status is, or it trapped, or it was out of steps
 abbrev pub run_status : End → ℕ
@@ -140,6 +159,7 @@ Makes (Simulate image machine input out None) (i ∷ m ∷ n ∷ []) answer = Ma
 Makes (Simulate image machine input out (Some loops)) (i ∷ m ∷ n ∷ l ∷ []) answer = MakesRun i m n (Some l) out answer
 Makes (Make number size prefix) [] answer = MakesMade number size prefix answer
 Makes (Lower image jumps out) (i ∷ j ∷ []) answer = MakesStored (IsLowered i j) lowered_text out answer
+Makes (Check image foreign machine loops) (i ∷ f ∷ m ∷ l ∷ []) answer = MakesVerdict i f m l answer
 Makes command files answer = ⊥
 
 -- and of how they were loaded: nothing where a file is missing

@@ -11,6 +11,7 @@ pub data Command : Type 0 where
   Simulate : (image machine input out : List ℕ) (loops : Option (List ℕ)) → Command
   Make : (number size : ℕ) (prefix : List ℕ) → Command
   Lower : (image jumps out : List ℕ) → Command
+  Check : (image foreign machine loops : List ℕ) → Command
 
 -- the words of a command line as texts
 abbrev pub texts : List (String Global) → List (List ℕ)
@@ -47,6 +48,10 @@ abbrev pub lower_of : List (List ℕ) → Option Command
 lower_of (image ∷ jumps ∷ out ∷ []) = Some (Lower image jumps out)
 lower_of words = None
 
+abbrev pub check_of : List (List ℕ) → Option Command
+check_of (image ∷ foreign ∷ machine ∷ loops ∷ []) = Some (Check image foreign machine loops)
+check_of words = None
+
 -- the command that these words are, if they are one
 abbrev pub command_of : List (List ℕ) → Option Command
 command_of [] = None
@@ -58,6 +63,7 @@ command_of (word ∷ words) =
     else if bytes_eq word (codes "simulate") then simulate_of words
     else if bytes_eq word (codes "make") then make_of words
     else if bytes_eq word (codes "lower") then lower_of words
+    else if bytes_eq word (codes "check") then check_of words
     else None
 
 -- the files that it loads, in order, each with its limit in bytes
@@ -70,6 +76,7 @@ wants_of (Simulate image machine input out None) = (image, 8388608) ∷ (machine
 wants_of (Simulate image machine input out (Some loops)) = (image, 8388608) ∷ (machine, 1048576) ∷ (input, 1048576) ∷ (loops, 1048576) ∷ []
 wants_of (Make number size prefix) = []
 wants_of (Lower image jumps out) = (image, 4194304) ∷ (jumps, 1048576) ∷ []
+wants_of (Check image foreign machine loops) = (image, 4194304) ∷ (foreign, 8388608) ∷ (machine, 1048576) ∷ (loops, 1048576) ∷ []
 
 -- the statuses that a command gives, but for a fault and want of memory; and that of words that are none
 abbrev pub may_give : Option Command → ℕ → Bool
@@ -81,6 +88,7 @@ may_give (Some (Report image machine loops)) status = nat_le status 1
 may_give (Some (Simulate image machine input out loops)) status = nat_le status 1 || (status == 5 || status == 6)
 may_give (Some (Make number size prefix)) status = nat_le status 1 || (status == 5 || status == 6)
 may_give (Some (Lower image jumps out)) status = nat_le status 1
+may_give (Some (Check image foreign machine loops)) status = nat_le status 1 || status == 7
 
 -- it may want memory
 abbrev pub needs_memory : Option Command → Bool
@@ -92,6 +100,7 @@ needs_memory (Some (Report image machine loops)) = true
 needs_memory (Some (Simulate image machine input out loops)) = true
 needs_memory (Some (Make number size prefix)) = true
 needs_memory (Some (Lower image jumps out)) = true
+needs_memory (Some (Check image foreign machine loops)) = true
 
 -- the statuses that a run may end with
 abbrev pub may_answer : Option Command → ℕ → Bool

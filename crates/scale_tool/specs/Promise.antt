@@ -6,11 +6,15 @@ use Rattle.scaler.specs.Rewritten.{IsRewritten}
 use Rattle.scaler.specs.RewrittenRuns.{IsRewrittenSafely}
 use Rattle.scaler.specs.Runs.{IsHeldSafely}
 use Rattle.scale_base.specs.declared.summary.Lowered.{Lowered}
+use Rattle.scale_base.specs.declared.verdict.Checked.{Checked}
+use Rattle.scale_base.specs.declared.verdict.Verdict.TheVariants.{Yes}
+use Rattle.image_check.specs.Checked.{IsChecked}
+use Rattle.image_check.specs.SafeRuns.{IsCheckedSafely}
 use Rattle.image_lower.specs.Lowered.{IsLowered}
 use Rattle.image_lower.specs.Promise.{IsLoweredSafely}
 use Rattle.host_files.specs.HostState.{Files, HostState}
 use Rattle.scale_tool.specs.Answer.{Giving, MadeFiles, AreMade}
-use Rattle.scale_tool.specs.Command.{Command, Hold, Rewrite, Make, Lower, wants_of}
+use Rattle.scale_tool.specs.Command.{Command, Hold, Rewrite, Make, Lower, Check, wants_of}
 use Rattle.scale_tool.specs.Loading.{Loading, Whole, loading_of}
 
 -- what a stored image keeps to, with what is told of it
@@ -30,6 +34,12 @@ pub record StoredPromise {A : Type 0} (Gives : Giving A) (Safe : Keeping A) (out
 abbrev pub KeepsLowered : (image jumps : List ℕ) → Keeping Lowered
 KeepsLowered image jumps stored counts = All (λ b. b < 2 ^ 8) image → IsLoweredSafely image jumps stored counts
 
+-- Of a check: where it answers yes, and each number of the loaded image of other make is a byte, that image is safe with all numbers that may be given with a yes,
+-- those that were printed among them.
+abbrev pub VerdictPromise : (image foreign machine loops : List ℕ) → Type 0
+VerdictPromise image foreign machine loops =
+    (printed : Checked) → IsChecked image foreign machine loops (Ok (Yes printed)) → All (λ b. b < 256) foreign → IsCheckedSafely image foreign machine loops printed
+
 -- of `make`: the files of the program of this number and size stand, and beside them what `rewrite` gives for them
 pub record MadePromise (number size : ℕ) (prefix : List ℕ) (after : Files) : Type 0 where
   pub made : MadeFiles
@@ -46,12 +56,14 @@ pub record MadePromise (number size : ℕ) (prefix : List ℕ) (after : Files) :
 -- the same exit status, ends by the deadline, never raises its level, takes no more energy than its own cycles at its starting level would, and adds at most the printed
 -- number of cycles. Of `make`: its scaled image keeps what `rewrite` promises of the program, machine file and loop file that stand beside it. Of `lower`: the lowered
 -- image follows each run of the original one that keeps to the lists, with the same output and ending, and takes at most the cycles of a tree of the printed depth more
--- for each listed jump that was taken.
+-- for each listed jump that was taken. Of `check`, where it answers yes: the image of other make keeps what `rewrite` promises of the image that it stores, with the
+-- printed start, times and number of added cycles.
 abbrev pub Promise : Command → List (List ℕ) → Files → Type 0
 Promise (Hold image machine loops out) (i ∷ m ∷ l ∷ []) after = StoredPromise (IsHeld i m l) (IsHeldSafely i m l) (get after out)
 Promise (Rewrite image machine loops out) (i ∷ m ∷ l ∷ []) after = StoredPromise (IsRewritten i m l) (IsRewrittenSafely i m l) (get after out)
 Promise (Make number size prefix) [] after = MadePromise number size prefix after
 Promise (Lower image jumps out) (i ∷ j ∷ []) after = StoredPromise (IsLowered i j) (KeepsLowered i j) (get after out)
+Promise (Check image foreign machine loops) (i ∷ f ∷ m ∷ l ∷ []) after = VerdictPromise i f m l
 Promise command files after = Unit {0}
 
 abbrev pub PromisedOf : Command → Loading → Files → Type 0

@@ -7,16 +7,17 @@ use Rattle.scale_base.specs.declared.refusal.Stop.TheVariants.{Refused, Memory}
 use Rattle.scale_base.specs.declared.plan.ScalePlan.{ScalePlan}
 use Rattle.scale_base.specs.declared.plan.SiteLine.{SiteLine}
 use Rattle.scale_base.specs.declared.summary.Summary.{Summary}
+use Rattle.scale_base.specs.declared.verdict.Verdict.{Verdict}
 use Rattle.image_maker.specs.declared.maker.Made.{Made}
 use Rattle.scale_tool.specs.declared.command.Command.{Command as Parsed}
 use Rattle.scale_tool.specs.declared.command.Command.TheVariants.{Help as ParsedHelp, Work as ParsedWork}
 use Rattle.scale_tool.specs.declared.command.Work.{Work}
-use Rattle.scale_tool.specs.declared.command.Work.TheVariants.{Hold as ParsedHold, Rewrite as ParsedRewrite, Report as ParsedReport, Simulate as ParsedSimulate, Make as ParsedMake, Lower as ParsedLower}
+use Rattle.scale_tool.specs.declared.command.Work.TheVariants.{Hold as ParsedHold, Rewrite as ParsedRewrite, Report as ParsedReport, Simulate as ParsedSimulate, Make as ParsedMake, Lower as ParsedLower, Check as ParsedCheck}
 use Rattle.scale_tool.specs.declared.load_all.Want.{Want}
 use Rattle.scale_tool.specs.declared.reply.Reply.{Reply}
 use Rattle.scale_tool.specs.declared.reply.Store.{Store}
 use Rattle.scale_tool.specs.Answer.{Answer, MadeFiles, Stores}
-use Rattle.scale_tool.specs.Command.{Command, Help, Hold, Rewrite, Report, Simulate, Make, Lower}
+use Rattle.scale_tool.specs.Command.{Command, Help, Hold, Rewrite, Report, Simulate, Make, Lower, Check}
 
 abbrev pub work_view : Work → Command
 work_view (ParsedHold image machine loops out) = Hold image.now machine.now loops.now out.now
@@ -25,6 +26,7 @@ work_view (ParsedReport image machine loops) = Report image.now machine.now loop
 work_view (ParsedSimulate image machine input out loops) = Simulate image.now machine.now input.now out.now (option_map (λ l. l.now) loops)
 work_view (ParsedMake number size prefix) = Make number size.blocks prefix.now
 work_view (ParsedLower image jumps out) = Lower image.now jumps.now out.now
+work_view (ParsedCheck image foreign machine loops) = Check image.now foreign.now machine.now loops.now
 
 abbrev pub command_view : Parsed → Command
 command_view ParsedHelp = Help
@@ -47,6 +49,12 @@ abbrev pub plan_view : Result ScalePlan Stop → Option (Result (Summary × List
 plan_view (Ok plan) = Some (Ok ((plan.summary, plan.lines.items)))
 plan_view (Err (Refused refusal)) = Some (Err refusal)
 plan_view (Err Memory) = None
+
+-- the verdict, or the refusal; none where memory ran out
+abbrev pub verdict_view : Result Verdict Stop → Option (Result Verdict Refusal)
+verdict_view (Ok verdict) = Some (Ok verdict)
+verdict_view (Err (Refused refusal)) = Some (Err refusal)
+verdict_view (Err Memory) = None
 
 abbrev pub made_view : Made → MadeFiles
 made_view made = record { image = made.image.items; machine = made.machine.items; loops = made.loops.items; input = made.input.items }

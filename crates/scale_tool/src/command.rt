@@ -1,7 +1,7 @@
 //! The words of a command line.
 
 ghost use Rattle.std.specs.Prelude.{◌≡◌, IfOk, option_map};
-ghost use Rattle.scale_tool.specs.Command.{command_of, help_of, hold_of, rewrite_of, report_words, simulate_of, make_of, lower_of, texts, wants_of};
+ghost use Rattle.scale_tool.specs.Command.{command_of, help_of, hold_of, rewrite_of, report_words, simulate_of, make_of, lower_of, check_of, texts, wants_of};
 ghost use Rattle.scale_tool.specs.Views.{command_view, work_view, want_views};
 
 use crate::load_all::Want;
@@ -60,6 +60,13 @@ pub enum Work<'a> {
         jumps: &'a str,
         out: &'a str,
     },
+    /// Tells whether an image of other make is a safe rewriting of the program.
+    Check {
+        image: &'a str,
+        foreign: &'a str,
+        machine: &'a str,
+        loops: &'a str,
+    },
 }
 
 /// The command that these words are.
@@ -75,6 +82,7 @@ pub fn parse(words: &[String]) -> Option<Command<'_>>
         "simulate" => parse_simulate(words),
         "make" => parse_make(words),
         "lower" => parse_lower(words),
+        "check" => parse_check(words),
         _ => None,
     }
 }
@@ -177,7 +185,21 @@ fn parse_lower(words: &[String]) -> Option<Command<'_>>
     }
 }
 
-// How many bytes an image may have, how many an image that is only run, and how many any other file.
+fn parse_check(words: &[String]) -> Option<Command<'_>>
+    ensures { option_map command_view result ≡ check_of (texts words.now) }
+{
+    match words {
+        [image, foreign, machine, loops] => Some(Command::Work(Work::Check {
+            image: image.as_str(),
+            foreign: foreign.as_str(),
+            machine: machine.as_str(),
+            loops: loops.as_str(),
+        })),
+        _ => None,
+    }
+}
+
+// How many bytes an image may have, how many an image that is only run or checked, and how many any other file.
 const IMAGE_LIMIT: u64 = 4194304;
 
 const RUN_LIMIT: u64 = 8388608;
@@ -231,6 +253,17 @@ pub fn wants<'a>(alloc: Global, work: &Work<'a>) -> Result<Vec<Want<'a>>, AllocE
         Work::Lower { image, jumps, .. } => {
             Ok(vec![in alloc; want(image, IMAGE_LIMIT), want(jumps, TEXT_LIMIT)]?)
         }
+        Work::Check {
+            image,
+            foreign,
+            machine,
+            loops,
+        } => Ok(vec![in alloc;
+            want(image, IMAGE_LIMIT),
+            want(foreign, RUN_LIMIT),
+            want(machine, TEXT_LIMIT),
+            want(loops, TEXT_LIMIT),
+        ]?),
     }
 }
 

@@ -8,15 +8,15 @@ ghost use Rattle.image_lower.specs.Lowered.{IsLowered};
 ghost use Rattle.scale_report.specs.Texts.{HasSiteLine, lowered_text, summary_text};
 ghost use Rattle.scaler.specs.Held.{IsHeld};
 ghost use Rattle.scaler.specs.Rewritten.{IsRewritten};
-ghost use Rattle.scale_tool.specs.Answer.{plan_answer, refused, run_answer, run_status, stored_answer, MakesMade, MakesReport, MakesRun, MakesStored, Makes};
+ghost use Rattle.scale_tool.specs.Answer.{plan_answer, refused, run_answer, run_status, stored_answer, verdict_answer, verdict_status, MakesMade, MakesReport, MakesRun, MakesStored, MakesVerdict, Makes};
 
 use crate::command::Work;
 use crate::making::made_reply;
 use crate::numbers::Size;
-use crate::program_files::ProgramFiles;
+use crate::program_files::{ForeignFiles, ProgramFiles};
 use power_model::RunReport;
-use scale_base::{End, Lowered, NoMemory, Refusal, ScalePlan, Stop, Summary};
-use scale_report::{lowered_text, plan_text, refusal_text, run_text, summary_text};
+use scale_base::{End, Lowered, NoMemory, Refusal, ScalePlan, Stop, Summary, Verdict};
+use scale_report::{lowered_text, plan_text, refusal_text, run_text, summary_text, verdict_text};
 use std::alloc::Global;
 
 /// A file to store.
@@ -45,8 +45,18 @@ pub fn status_of(end: End) -> u8
     }
 }
 
+/// The status of a verdict.
+fn status_of_verdict(verdict: &Verdict) -> u8
+    ensures { result ≡ verdict_status verdict.now }
+{
+    match verdict {
+        Verdict::Yes(_) => 0,
+        Verdict::No(_) => 7,
+    }
+}
+
 impl Reply {
-    ghost use Rattle.scale_tool.specs.Views.{plan_view, reply_view, work_view, files_view, given_view};
+    ghost use Rattle.scale_tool.specs.Views.{plan_view, reply_view, work_view, files_view, given_view, verdict_view};
     ghost use Rattle.scale_tool.specs.Command.{wants_of, may_give};
 
     /// A refusal, and nothing to store.
@@ -172,6 +182,37 @@ impl Reply {
         )
     }
 
+    // A verdict, or the refusal.
+    fn judged(alloc: Global, given: Result<Verdict, Stop>) -> Result<Reply, NoMemory>
+        ensures { IfOk result (λ reply. option_map verdict_answer (verdict_view given) ≡ Some (reply_view reply)) }
+    {
+        match given {
+            Ok(verdict) => Ok(Reply {
+                stores: Vec::new(alloc),
+                text: verdict_text(alloc, &verdict)?,
+                status: status_of_verdict(&verdict),
+            }),
+            Err(Stop::Refused(refusal)) => Reply::refused(alloc, &refusal),
+            Err(Stop::Memory) => Err(NoMemory),
+        }
+    }
+
+    /// What `check` gives for its four files.
+    pub fn checked(alloc: Global, files: &ForeignFiles<'_>) -> Result<Reply, NoMemory>
+        ensures { IfOk result (λ reply. MakesVerdict files.now.image.now files.now.foreign.now files.now.machine.now files.now.loops.now (reply_view reply)) }
+    {
+        Reply::judged(
+            alloc,
+            image_check::check(
+                alloc,
+                files.image,
+                files.foreign,
+                files.machine,
+                files.loops,
+            ),
+        )
+    }
+
     // What a run gives, with the name under which its output is stored.
     fn told(alloc: Global, out: &str, report: RunReport) -> Result<Reply, NoMemory>
         ensures { IfOk result (λ reply. reply_view reply ≡ run_answer out.now (Ok (report_view report))) }
@@ -238,6 +279,7 @@ impl Reply {
                 prefix,
             } => Reply::of_number(alloc, number, size, prefix),
             Work::Lower { out, .. } => Reply::lowered(alloc, out, &files[0], &files[1]),
+            Work::Check { .. } => Reply::checked(alloc, &ForeignFiles::of(files)),
         }
     }
 }

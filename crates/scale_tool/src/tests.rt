@@ -1,5 +1,6 @@
 //! Whole runs over hosts in memory.
 
+mod checks;
 mod faults;
 mod hostile;
 mod loops;
@@ -476,7 +477,7 @@ fn machine_and_loop_files_are_refused(rt: HostRuntime) -> Result<(), Fail> {
 #[test]
 fn words_that_are_no_command(rt: HostRuntime) -> Result<(), Fail> {
     let alloc = rt.alloc();
-    let cases: [&[&str]; 14] = [
+    let cases: [&[&str]; 16] = [
         &["hold", "a", "b"],
         &[],
         &["make", "0", "1"],
@@ -491,6 +492,8 @@ fn words_that_are_no_command(rt: HostRuntime) -> Result<(), Fail> {
         &["report", "a", "b", "c", "d"],
         &["lower", "a", "b"],
         &["lower", "a", "b", "c", "d"],
+        &["check", "a", "b", "c"],
+        &["check", "a", "b", "c", "d", "e"],
     ];
     for case in cases {
         let mut host = host_of(alloc, &[], &[], "", "")?;
@@ -519,11 +522,11 @@ fn help_is_printed(rt: HostRuntime) -> Result<(), Fail> {
     let alloc = rt.alloc();
     let words = words_of(alloc, &["help"])?;
     let mut host = MemHost::new(alloc, Vec::new(alloc));
-    host.reserve(0, 222)?;
+    host.reserve(0, 262)?;
     assert_eq!(rt; run_tool(&mut host, alloc, &words), 0);
     assert_eq!(rt;
         host.printed(),
-        b"scale hold IMAGE MACHINE LOOPS OUT\nscale rewrite IMAGE MACHINE LOOPS OUT\nscale report IMAGE MACHINE LOOPS\nscale simulate IMAGE MACHINE INPUT OUT [LOOPS]\nscale make NUMBER SIZE PREFIX\nscale help\nscale lower IMAGE JUMPS OUT\n".as_slice()
+        b"scale hold IMAGE MACHINE LOOPS OUT\nscale rewrite IMAGE MACHINE LOOPS OUT\nscale report IMAGE MACHINE LOOPS\nscale simulate IMAGE MACHINE INPUT OUT [LOOPS]\nscale make NUMBER SIZE PREFIX\nscale help\nscale check IMAGE FOREIGN MACHINE LOOPS\nscale lower IMAGE JUMPS OUT\n".as_slice()
     );
     let mut failing = host_of(alloc, &[1], &[], "", "")?;
     assert_eq!(rt; run_tool(&mut failing, alloc, &words), 3);

@@ -19,6 +19,11 @@ first_bad_level-requires c =
     let least = c.in_ok-least.ensures.least in
     (c.args.original.now.view, r.0, _, r.1, least.0, known c.args.original.now c.requires.original c.args.received.now c.args.costs.now r.0 r.1 r.2 c.in_ok-least.least least.0 least.1 least.2 c.in_ok-least.ensures.small)
 
+pub stub_cycles-requires-clause-costs : goal.stub_cycles-requires-clause-costs
+stub_cycles-requires-clause-costs c =
+    let r = c.requires.costs in
+    (r.0, c.args.costs.now, r.1, r.2)
+
 pub returns-in-Some : goal.returns-in-Some
 returns-in-Some c =
     let r = c.requires.costs in
