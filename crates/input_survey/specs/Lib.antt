@@ -1,0 +1,5 @@
+pub mod Most
+pub mod Surveyed
+pub mod Totals
+pub mod Bounds
+pub mod Promised

@@ -1,0 +1,11 @@
+//! Surveys of the runs of an image, and of an image that was scaled, over a list of inputs.
+#![tactic(auto)]
+
+mod lines;
+mod surveying;
+#[cfg(test)]
+mod tests;
+mod totals;
+
+pub use power_model::{SurveyLine, SurveyReport, Totals};
+pub use surveying::survey;

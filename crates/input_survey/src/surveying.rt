@@ -1,0 +1,114 @@
+//! The survey.
+
+ghost use Rattle.std.specs.Prelude.{◌≡◌, ◌≤◌, ◌<◌, length, map, None, IfOk};
+ghost use Rattle.std.specs.List.{All};
+ghost use Rattle.scale_base.specs.Answer.{AnswersBy};
+ghost use Rattle.scale_base.specs.Run.{starting_level};
+ghost use Rattle.power_model.specs.Survey.{survey_view, line_view};
+ghost use Rattle.scaler.specs.Held as held;
+ghost use Rattle.input_survey.specs.Surveyed.{IsSurvey, IsSurveyed};
+ghost use Rattle.input_survey.specs.Bounds.{MostIsEnough, MostIsNeeded};
+ghost use Rattle.input_survey.specs.Promised.{LinesArePromised};
+
+use crate::lines::{Images, line_of};
+use crate::totals::totals_of;
+use elf_view::read_image;
+use keep_monitor::LoopCounter;
+use loop_file::{LoopNotes, read_loops};
+use machine_file::read_machine;
+use power_model::SurveyReport;
+use scale_base::{Keyed, NoMemory, Refusal, Stop};
+use speed_sim::start_of;
+use std::alloc::Global;
+
+/// No keyed segment is there.
+fn check_unscaled(keyed: Option<Keyed>) -> Result<(), Refusal>
+    ensures { result ≡ held.unscaled keyed }
+{
+    match keyed {
+        Some(_) => Err(Refusal::AlreadyScaled),
+        None => Ok(()),
+    }
+}
+
+/// The survey of the images, one run after the other.
+fn survey_of(
+    alloc: Global,
+    images: &Images<'_>,
+    notes: LoopNotes,
+    inputs: &[Vec<u8>],
+) -> Result<SurveyReport, NoMemory>
+    requires unscaled { images.now.original.now.keyed_segment ≡ None }
+    requires start { images.now.start ≡ starting_level (length images.now.power.now.levels) images.now.scaled.now.keyed_segment }
+    requires is_level { images.now.start < length images.now.power.now.levels }
+    requires few { length inputs.now ≤ 64 }
+    ensures { IfOk result (λ survey. IsSurvey images.now.power.now images.now.original.now images.now.scaled.now notes (map (λ input. input.items) inputs.now) (survey_view survey)) }
+{
+    let mut counter = LoopCounter::new(alloc, notes)?;
+    let mut lines = Vec::new(alloc);
+    for input in inputs {
+        lines.push(line_of(alloc, images, input, &mut counter)?)?;
+    }
+    let totals = totals_of(images.power, &lines);
+    Ok(SurveyReport {
+        lines,
+        most: counter.into_most(),
+        totals,
+    })
+}
+
+/// The survey, or the first refusal.
+fn survey_files(
+    alloc: Global,
+    image: &[u8],
+    scaled: &[u8],
+    machine: &[u8],
+    loops: &[u8],
+    inputs: &[Vec<u8>],
+) -> Result<SurveyReport, Stop>
+    requires { length inputs.now ≤ 64 }
+    ensures { AnswersBy survey_view result (IsSurveyed image.now scaled.now machine.now loops.now (map (λ input. input.items) inputs.now)) }
+{
+    let power = read_machine(alloc, machine)?;
+    let original = read_image(alloc, image)?;
+    check_unscaled(original.keyed())?;
+    let other = read_image(alloc, scaled)?;
+    let start = start_of(power.levels.count(), other.keyed())?;
+    let notes = read_loops(alloc, loops, &original)?;
+    let images = Images {
+        power: &power,
+        original: &original,
+        scaled: &other,
+        start,
+    };
+    Ok(survey_of(alloc, &images, notes, inputs)?)
+}
+
+/// The runs of an image, and of an image that was scaled, over a list of inputs: a line for each input, the most back edges that an entry of each
+/// loop took in the original's runs, and the totals. Refused are, in this order, what is wrong with the machine file, with the image, a keyed
+/// segment of it, what is wrong with the scaled image, a starting level of it that the machine hasn't got, and what is wrong with the loop
+/// file.
+///
+/// There is one run at a time in memory, and no run is made twice.
+pub fn survey(
+    alloc: Global,
+    image: &[u8],
+    scaled: &[u8],
+    machine: &[u8],
+    loops: &[u8],
+    inputs: &[Vec<u8>],
+) -> Result<SurveyReport, Stop>
+    requires image { length image.now ≤ 4194304 }
+    requires scaled { length scaled.now ≤ 8388608 }
+    requires machine { length machine.now ≤ 1048576 }
+    requires loops { length loops.now ≤ 1048576 }
+    requires some { 1 ≤ length inputs.now }
+    requires few { length inputs.now ≤ 64 }
+    requires inputs { All (λ input. length input.items ≤ 1048576) inputs.now }
+    ensures survey { AnswersBy survey_view result (IsSurveyed image.now scaled.now machine.now loops.now (map (λ input. input.items) inputs.now)) }
+    ensures enough { IfOk result (λ survey. MostIsEnough image.now machine.now loops.now (map (λ input. input.items) inputs.now) survey.most.items) }
+    ensures needed { IfOk result (λ survey. MostIsNeeded image.now machine.now loops.now (map (λ input. input.items) inputs.now) survey.most.items) }
+    ensures promised { IfOk result (λ survey. LinesArePromised image.now scaled.now machine.now loops.now (map line_view survey.lines.items)) }
+{
+    survey_files(alloc, image, scaled, machine, loops, inputs)
+}
