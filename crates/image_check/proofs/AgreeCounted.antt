@@ -1,7 +1,6 @@
 -- Two graphs of an original, with the loops of the same notes: what is found beside it, the loops of counters and the numbers are the same.
-use Rattle.std.proofs.Common.{◌≡◌, ℕ, ◌+◌, ◌*◌, ◌<◌, ◌≤◌, Bool, List, map, refl, sym, ap, ◌∙◌, subst, slice_get, Option, Some, None}
+use Rattle.std.proofs.Common.{◌≡◌, ℕ, ◌+◌, List, map, sym, ap, ◌∙◌, subst, slice_get}
 use Rattle.std.specs.Prelude.{filter}
-use Rattle.std.proofs.Math.Path.{fun_ext}
 use Rattle.scale_base.specs.declared.edges.Edge.{Edge}
 use Rattle.scale_base.specs.declared.stepping.Class.{Class}
 use Rattle.scale_base.specs.Image.{Image}
@@ -9,7 +8,7 @@ use Rattle.power_model.specs.Numbers.{PowerModel}
 use Rattle.power_model.specs.Switches.{costs_of}
 use Rattle.cost_theory.specs.Accepted.{IsProgram, AreAccepted, AreWeights}
 use Rattle.cost_theory.specs.Graph.{Graph, Loops}
-use Rattle.cost_theory.specs.Reached.{Code, edge_at}
+use Rattle.cost_theory.specs.Reached.{edge_at}
 use Rattle.cost_theory.specs.Worst.{Numbers, AreNumbers}
 use Rattle.least_laws.specs.Charged.{Charged, AreCharged}
 use Rattle.code_text.specs.EdgeCosts.{edge_class, weights}
@@ -21,7 +20,6 @@ use Rattle.loop_tree.specs.Tree.{LoopView, loops, IsTreeOf}
 use Rattle.answer_laws.specs.Alike.{AreAlikeTrees, AreAlikeNumbers, AreAlikeCharged}
 use Rattle.answer_laws.specs.Renumbered.{IsRenumbered}
 use Rattle.answer_laws.proofs.Laws.{graphs_renumbered, weights_same, trees_agree, numbers_alike, charged_alike}
-use Rattle.stub_writer.specs.Stubs.{Site}
 use Rattle.paid_runs.specs.Marked.{extra_by, extra_site_weights}
 use Rattle.foreign_scan.specs.Agree.{FoundAgree}
 use Rattle.foreign_scan.specs.Scanned.{Found, IsScanned}

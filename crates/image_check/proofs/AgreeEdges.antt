@@ -4,12 +4,12 @@ use Rattle.std.specs.List.{flat_map, sum_by}
 use Rattle.std.proofs.lemmas.List.Concat.{flat_map-cons}
 use Rattle.scale_base.specs.declared.edges.Edge.{Edge}
 use Rattle.scale_base.specs.declared.edges.EdgeKind.{EdgeKind}
-use Rattle.scale_base.specs.declared.edges.EdgeKind.TheVariants.{Taken, Untaken, Jump, Next, CallNext, End}
+use Rattle.scale_base.specs.declared.edges.EdgeKind.TheVariants.{Taken, Untaken, Next, CallNext, End}
 use Rattle.scale_base.specs.declared.instruction.Instr.{Instr}
 use Rattle.scale_base.specs.declared.instruction.Instr.TheVariants as instr
 use Rattle.scale_base.specs.declared.stepping.Class.{Class}
 use Rattle.scale_base.specs.declared.stepping.Class.TheVariants as classes
-use Rattle.scale_base.specs.Image.{Image, is_word_address}
+use Rattle.scale_base.specs.Image.{Image}
 use Rattle.power_model.specs.Numbers.{PowerModel}
 use Rattle.power_model.specs.Switches.{costs_of}
 use Rattle.cost_theory.specs.declared.flow.Flow.{Flow}
@@ -18,16 +18,16 @@ use Rattle.cost_theory.specs.Accepted.{AreWeights}
 use Rattle.cost_theory.specs.Graph.{Graph, Loops}
 use Rattle.cost_theory.specs.Reached.{Reached, Code, IsCodeOf, edge_at, edges_of, call_returns, callee_of}
 use Rattle.cost_theory.proofs.Laws.{Within, get_within, within_get, within_flat, edges-at, callee_word, source_reached}
-use Rattle.code_text.specs.EdgeCosts.{edge_class, weights}
+use Rattle.code_text.specs.EdgeCosts.{edge_class}
 use Rattle.code_text.specs.Text.{Text, text_of, instr_kind, kind_at}
 use Rattle.code_text.specs.TextGraph.{text_graph, IsReachedCode}
 use Rattle.code_text.proofs.Laws.{kind_facts, weights_are}
 use Rattle.stub_writer.specs.Stubs.{Site}
 use Rattle.stub_runs.specs.Cycles.{fragment_cost}
 use Rattle.stored_runs.specs.Marks.{place_at, fragments_of_class, jumps_by}
-use Rattle.paid_runs.specs.Marked.{extra_by, extra_site_weights}
+use Rattle.paid_runs.specs.Marked.{extra_by}
 use Rattle.paid_runs.specs.Timely.{weights_of}
-use Rattle.foreign_scan.specs.Scanned.{Found, is_changed, CanBePatched, IsChanged, kind_place, IsScanned}
+use Rattle.foreign_scan.specs.Scanned.{Found, is_changed, CanBePatched, kind_place, IsScanned}
 use Rattle.image_check.specs.Safe.{Owner, sites_of}
 use Rattle.image_check.proofs.OnEdges.{reached_word, same_place}
 

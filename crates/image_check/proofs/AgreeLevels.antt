@@ -1,20 +1,20 @@
 -- The first entry that isn't safe is one.
-use Rattle.std.proofs.Common.{◌≡◌, ◌⊎◌, inl, inr, ℕ, ◌+◌, ◌*◌, ◌/◌, ◌^◌, ◌<◌, ◌≤◌, Bool, true, false, List, [], ◌∷◌, length, refl, arith, sym, ap, ◌∙◌, subst, slice_get, Option, Some, None}
+use Rattle.std.proofs.Common.{◌≡◌, ◌⊎◌, inl, inr, ℕ, ◌+◌, ◌*◌, ◌<◌, ◌≤◌, Bool, true, false, List, [], ◌∷◌, refl, arith, sym, ap, ◌∙◌, subst, slice_get, Some}
 use Rattle.std.proofs.lemmas.Bool.{both_ways, cases_lt}
 use Rattle.scale_base.specs.declared.edges.Edge.{Edge}
 use Rattle.scale_base.specs.declared.verdict.Verdict.{Verdict}
 use Rattle.scale_base.specs.declared.verdict.Verdict.TheVariants.{No}
 use Rattle.scale_base.specs.declared.verdict.Why.TheVariants as why
-use Rattle.scale_base.specs.Image.{Image, loaded_byte, is_word_address}
+use Rattle.scale_base.specs.Image.{Image, loaded_byte}
 use Rattle.scale_base.specs.State.{word_at}
 use Rattle.power_model.specs.Numbers.{PowerModel}
 use Rattle.power_model.specs.Switches.{costs_of}
-use Rattle.cost_theory.specs.Graph.{Graph, Loops}
-use Rattle.cost_theory.specs.Reached.{Reached, edge_at, edge_to, edges_of, call_returns}
+use Rattle.cost_theory.specs.Graph.{Loops}
+use Rattle.cost_theory.specs.Reached.{Reached, edge_to, edges_of, call_returns}
 use Rattle.cost_theory.specs.Worst.{Numbers}
 use Rattle.cost_theory.proofs.Laws.{Within, edge_of_word}
 use Rattle.least_laws.specs.Charged.{Charged}
-use Rattle.code_text.specs.Text.{Text, text_of, instr_kind, kind_at}
+use Rattle.code_text.specs.Text.{Text, text_of, kind_at}
 use Rattle.code_graph.specs.FlowGraph.{FlowGraph}
 use Rattle.loop_file.specs.declared.notes.LoopNote.{LoopNote}
 use Rattle.loop_file.specs.Kept.{noted_loops}
@@ -24,10 +24,10 @@ use Rattle.stored_runs.specs.Marks.{tail_cycles}
 use Rattle.paid_runs.specs.Tabled.{told_on}
 use Rattle.foreign_scan.specs.declared.fragment.ForeignFragment.{ForeignFragment}
 use Rattle.foreign_scan.specs.declared.fragment.ForeignFragment.TheVariants.{Switch, Exit, Reset, Count}
-use Rattle.foreign_scan.specs.Agree.{ScanIsNotRefused, FoundAgree}
-use Rattle.foreign_scan.specs.Scanned.{Found, is_changed, IsChanged, kind_place, ComesBefore, IsScanned}
+use Rattle.foreign_scan.specs.Agree.{FoundAgree}
+use Rattle.foreign_scan.specs.Scanned.{Found, is_changed, kind_place, IsScanned}
 use Rattle.rewritten_runs.proofs.Laws.{program_of}
-use Rattle.image_check.specs.Safe.{Owner, all_with_rows, AreOwners}
+use Rattle.image_check.specs.Safe.{Owner, all_with_rows}
 use Rattle.image_check.specs.Causes.{IsBadEntry, HasBadEntry, IsBadLevel}
 use Rattle.image_check.specs.Checked.{graph_by, weights_with, IsMisled}
 use Rattle.image_check.proofs.Owning.{counter_for}

@@ -1,6 +1,6 @@
 -- A counter counts one loop, so the loops of counters are determined.
-use Rattle.std.proofs.Common.{◌≡◌, ◌⊎◌, inl, inr, ℕ, ◌+◌, ◌<◌, Bool, true, false, refl, arith, sym, ap, ◌∙◌, subst, slice_get, Option, Some, None, eqb-true}
-use Rattle.std.specs.Prelude.{nat_lt, ◌&&◌}
+use Rattle.std.proofs.Common.{◌≡◌, ◌⊎◌, inl, inr, ℕ, ◌+◌, ◌<◌, Bool, true, false, refl, arith, sym, ap, ◌∙◌, slice_get, Option, Some, None, eqb-true}
+use Rattle.std.specs.Prelude.{nat_lt}
 use Rattle.std.proofs.Math.Path.{fun_ext}
 use Rattle.std.proofs.lemmas.Bool.{and_parts, both_ways, ltb-true, lt-ltb}
 use Rattle.cost_theory.specs.Accepted.{IsProgram, AreAccepted}

@@ -1,8 +1,7 @@
 -- Over two lists of a program's code that differ in the numbers of functions alone, a scan finds the same.
-use Rattle.std.proofs.Common.{◌≡◌, inl, inr, ℕ, ◌+◌, ◌<◌, List, length, refl, sym, ap, ◌∙◌, subst, slice_get, Option, Some}
+use Rattle.std.proofs.Common.{◌≡◌, inl, inr, ℕ, ◌+◌, ◌<◌, List, length, sym, ap, ◌∙◌, subst, slice_get, Some}
 use Rattle.std.proofs.Math.Path.{fun_ext}
 use Rattle.scale_base.specs.declared.edges.Edge.{Edge}
-use Rattle.scale_base.specs.declared.edges.EdgeKind.{EdgeKind}
 use Rattle.scale_base.specs.declared.verdict.Why.{Why}
 use Rattle.scale_base.specs.declared.verdict.Why.TheVariants as why
 use Rattle.scale_base.specs.Image.{Image}

@@ -1,5 +1,5 @@
 -- How far a check of an image came: a verdict by the stage at which it was given.
-use Rattle.std.proofs.Common.{◌≡◌, ◌⊎◌, inl, inr, List, ℕ, ◌<◌, ◌≤◌, ◌^◌, refl, sym, ap, ◌∙◌, subst, arith}
+use Rattle.std.proofs.Common.{◌≡◌, ◌⊎◌, inl, inr, List, ℕ, ◌≤◌, ◌^◌, refl}
 use Rattle.scale_base.specs.declared.verdict.Checked.{Checked}
 use Rattle.scale_base.specs.declared.verdict.Verdict.{Verdict}
 use Rattle.scale_base.specs.declared.verdict.Verdict.TheVariants.{Yes, No}

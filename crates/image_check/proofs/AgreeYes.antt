@@ -1,12 +1,10 @@
 -- Where an image is safe, no entry of its tables is bad, and its numbers are determined.
-use Rattle.std.proofs.Common.{◌≡◌, ◌⊎◌, inl, inr, ℕ, ◌+◌, ◌*◌, ◌/◌, ◌^◌, ◌<◌, ◌≤◌, List, [], ◌∷◌, length, refl, arith, sym, ap, ◌∙◌, subst, slice_get, Option, Some, None, Result, Ok, Err}
+use Rattle.std.proofs.Common.{◌≡◌, ℕ, ◌+◌, ◌*◌, ◌<◌, List, [], ◌∷◌, sym, ap, ◌∙◌, subst, slice_get, Some}
 use Rattle.std.specs.Prelude.{option_map, is_some}
 use Rattle.std.proofs.lemmas.Option.{slice_get_within}
 use Rattle.scale_base.specs.declared.edges.Edge.{Edge}
-use Rattle.scale_base.specs.declared.refusal.Refusal.{Refusal}
 use Rattle.scale_base.specs.declared.verdict.Checked.{Checked}
 use Rattle.scale_base.specs.declared.verdict.Verdict.{Verdict}
-use Rattle.scale_base.specs.declared.verdict.Verdict.TheVariants.{Yes, No}
 use Rattle.scale_base.specs.Image.{Image, loaded_byte}
 use Rattle.scale_base.specs.State.{word_at}
 use Rattle.power_model.specs.Numbers.{PowerModel}
@@ -21,7 +19,6 @@ use Rattle.code_graph.specs.FlowGraph.{FlowGraph, graph}
 use Rattle.loop_file.specs.declared.notes.LoopNote.{LoopNote}
 use Rattle.loop_file.specs.Kept.{noted_loops}
 use Rattle.loop_tree.specs.Tree.{LoopView, loops}
-use Rattle.worst_cycles.specs.Worst.{slack_at, rest_at}
 use Rattle.answer_laws.specs.Alike.{AreAlikeNumbers, AreAlikeCharged}
 use Rattle.level_tables.specs.Tables.{EdgeNumbers, at_row}
 use Rattle.stub_runs.specs.Meaning.{four_bits}
@@ -30,14 +27,14 @@ use Rattle.paid_runs.specs.Marked.{extra_site_weights}
 use Rattle.paid_runs.specs.Tabled.{told_on, IsSafeEntry}
 use Rattle.foreign_scan.specs.declared.fragment.ForeignFragment.{ForeignFragment}
 use Rattle.foreign_scan.specs.declared.fragment.ForeignFragment.TheVariants.{Switch, Exit, Reset, Count}
-use Rattle.foreign_scan.specs.Agree.{ScanIsNotRefused, FoundAgree}
+use Rattle.foreign_scan.specs.Agree.{FoundAgree}
 use Rattle.foreign_scan.specs.Scanned.{Found}
 use Rattle.rewritten_runs.proofs.Laws.{program_of}
 use Rattle.image_check.specs.Safe.{Owner, all_with_rows, sites_of, AreSafeWords, AreSafeOn}
 use Rattle.image_check.specs.Causes.{HasBadEntry}
 use Rattle.image_check.specs.Checked.{graph_by, weights_with, key_level, IsCounted, IsMisled, IsPassed}
 use Rattle.image_check.proofs.Owning.{counter_for}
-use Rattle.image_check.proofs.AgreeScan.{no_cause}
+use Rattle.image_check.proofs.StoredLevels.{same_numbers}
 use Rattle.image_check.proofs.AgreeCounted as counted
 use Rattle.image_check.proofs.AgreeCounted.{IsListed}
 use Rattle.image_check.proofs.AgreeStages as stages
@@ -89,9 +86,7 @@ module _ (power : PowerModel) (original foreign : Image) (notes : List LoopNote)
       ∙ (numbers.rest e ∙ (ap (λ o. only (is_some o) (rest (graph v') l' n' e)) leads' ∙ ap (λ q. rest q l' n' e) (sym other.code_is.graph_is)))) in
       let ends : to_end_after g l least e ≡ to_end_after g' l' least' e =
       ap (λ q. to_end_after q l least e) one.code_is.graph_is ∙ (charged.after e ∙ ap (λ q. to_end_after q l' least' e) (sym other.code_is.graph_is)) in
-      ap (λ x. record { slack = x; left = rest g l n e + tail; least = option_map (λ z. z + tail) (to_end_after g l least e) }) slacks
-      ∙ (ap (λ x. record { slack = slack g' l' n' (cost g' n' w') e; left = x + tail; least = option_map (λ z. z + tail) (to_end_after g l least e) }) rests
-      ∙ ap (λ x. record { slack = slack g' l' n' (cost g' n' w') e; left = rest g' l' n' e + tail; least = option_map (λ z. z + tail) x }) ends)
+      same_numbers (told_on g l w n least e tail) (told_on g' l' w' n' least' e tail) slacks (ap (λ x. x + tail) rests) (ap (option_map (λ z. z + tail)) ends)
 
   module _ (verdict : Verdict) (h : stages.HasPassed power original foreign notes v tree verdict) where
     abbrev pub p : IsPassed power original foreign notes v tree h.checked

@@ -1,11 +1,10 @@
 -- Yes is an answer of a check of what `rewrite` stores.
-use Rattle.std.proofs.Common.{◌≡◌, ℕ, ◌≤◌, List, length, Option, Some, None, Result, Ok, Err, refl, sym, ap, ◌∙◌, subst}
+use Rattle.std.proofs.Common.{◌≡◌, ℕ, List, Option, None, Result, Ok, sym, ap, ◌∙◌, subst}
 use Rattle.scale_base.specs.declared.ranges.Keyed.{Keyed}
 use Rattle.scale_base.specs.declared.refusal.Refusal.{Refusal}
 use Rattle.scale_base.specs.declared.summary.Summary.{Summary}
 use Rattle.scale_base.specs.declared.verdict.Verdict.TheVariants.{Yes}
-use Rattle.scale_base.specs.Image.{Image, image_of}
-use Rattle.power_model.specs.Numbers.{PowerModel}
+use Rattle.scale_base.specs.Image.{image_of}
 use Rattle.power_model.specs.Price.{time_at}
 use Rattle.machine_file.specs.Machine.{read_machine}
 use Rattle.machine_file.proofs.Laws.{model-from_bytes}
@@ -14,10 +13,10 @@ use Rattle.stub_writer.specs.Stubs.{out_of_reach}
 use Rattle.rewritten_runs.specs.Stubs.{rewritten_file, marks_by_slack}
 use Rattle.rewritten_runs.proofs.Laws.{rewritten_follow}
 use Rattle.scaler.specs.Held.{Then, unscaled}
-use Rattle.scaler.specs.Rewritten.{IsRewritten, rewritten_summary}
-use Rattle.scaler.proofs.Laws.{IsNear, RewrittenParts as WentThrough, near_of, rewritten_parts as went_through}
-use Rattle.image_check.specs.Checked.{IsPassed, IsFileVerdict, IsProgramChecked, IsChecked}
-use Rattle.image_check.specs.Passing.{checked_as, IsSafeAt, RewrittenFilesAreChecked}
+use Rattle.scaler.specs.Rewritten.{rewritten_summary}
+use Rattle.scaler.proofs.Laws.{near_of, rewritten_parts}
+use Rattle.image_check.specs.Checked.{IsPassed, IsFileVerdict, IsChecked}
+use Rattle.image_check.specs.Passing.{checked_as, RewrittenFilesAreChecked}
 use Rattle.image_check.proofs.StoredSafe.{rewritten_safe}
 
 -- what follows a part that was answered
@@ -30,7 +29,7 @@ plain_key keyed e = ap unscaled e
 pub files_checked : RewrittenFilesAreChecked
 unfolding IsChecked
 files_checked = λ image machine loop_file stored summary short _ _ h.
-    let went = went_through image machine loop_file (stored, summary) h in
+    let went = rewritten_parts image machine loop_file (stored, summary) h in
     let p = went.program in
     let made = rewritten_summary went.power p.code (marks_by_slack went.power went.original p.code p.tree p.plain) p.start (p.stored.worst 0) (p.extra.worst 0) p.sites in
     let near = near_of (out_of_reach p.base p.sites) (stored, summary) (rewritten_file went.original p.sites p.base p.start, made) p.answer_is in

@@ -79,7 +79,7 @@ least_by p m (suc n) = by_last (p n) refl (least_by p m n)
 counts_one : (c : ℕ) → counts_it c (Count c) ≡ 1
 counts_one c = cond-true (c == c) 1 0 (eq-eqb c c refl)
 
-on_counts : (c : ℕ) (fs : List ForeignFragment) (i : ℕ) → slice_get fs i ≡ Some (Count c) → 0 < sum_by (counts_it c) fs
+pub on_counts : (c : ℕ) (fs : List ForeignFragment) (i : ℕ) → slice_get fs i ≡ Some (Count c) → 0 < sum_by (counts_it c) fs
 on_counts c [] i e = let never : ⊥ = cc in absurd never
 on_counts c (f ∷ fs) zero e =
     let is : f ≡ Count c = cc in
@@ -104,7 +104,7 @@ counts_are_on c (f ∷ fs) some = by_fragment f (λ more. counts_are_on c fs mor
         by_test true e m = (0, ap (λ x. Some (Count x)) (sym (eqb-true c counter e)))
         by_test false e m = let none : counts_it c (Count counter) ≡ 0 = cond-false (c == counter) 1 0 e in later (Count counter) (go (omega (arith, m, none)))
 
-some_if : (b : Bool) → 0 < one_where b → b ≡ true
+pub some_if : (b : Bool) → 0 < one_where b → b ≡ true
 some_if true h = refl
 some_if false h = absurd (let no : ⊥ = omega (arith, h) in no)
 

@@ -1,5 +1,5 @@
 -- The levels in a rewritten program's tables are safe entries.
-use Rattle.std.proofs.Common.{◌≡◌, ◌≢◌, ◌⊎◌, inl, inr, ℕ, zero, suc, ◌+◌, ◌*◌, ◌/◌, ◌^◌, ◌<◌, ◌≤◌, Bool, true, false, List, [], ◌∷◌, map, length, refl, arith, sym, ap, ◌∙◌, subst, slice_get, Option, Some, None}
+use Rattle.std.proofs.Common.{◌≡◌, ◌≢◌, ◌⊎◌, inl, inr, ℕ, zero, suc, ◌+◌, ◌*◌, ◌/◌, ◌^◌, ◌<◌, ◌≤◌, Bool, true, false, List, [], ◌∷◌, map, length, refl, arith, sym, ap, ◌∙◌, subst, slice_get, Some, None}
 use Rattle.std.specs.Prelude.{slice_index, option_map, is_some}
 use Rattle.std.specs.List.{list_any, range_with_len}
 use Rattle.std.proofs.lemmas.Bool.{cases_lt}
@@ -13,10 +13,10 @@ use Rattle.scale_base.specs.declared.stepping.Class.{Class}
 use Rattle.scale_base.specs.Image.{Image, loaded_byte, is_in, is_word_address}
 use Rattle.scale_base.specs.Layout.{layout_of, is_keyed}
 use Rattle.scale_base.specs.State.{word_at}
-use Rattle.power_model.specs.Numbers.{PowerModel, IsPowerModel}
+use Rattle.power_model.specs.Numbers.{PowerModel}
 use Rattle.power_model.specs.Switches.{costs_of}
-use Rattle.cost_theory.specs.Graph.{Graph, Loops, only}
-use Rattle.cost_theory.specs.Reached.{Code}
+use Rattle.cost_theory.specs.Graph.{Graph, Loops, only, any_below}
+use Rattle.cost_theory.specs.Reached.{Code, edge_at}
 use Rattle.cost_theory.specs.Worst.{Numbers, cost, slack, rest}
 use Rattle.cost_theory.proofs.Laws.{some_get}
 use Rattle.least_laws.specs.Charged.{Charged, to_end_after}
@@ -29,20 +29,18 @@ use Rattle.loop_file.specs.declared.notes.LoopNote.{LoopNote}
 use Rattle.loop_file.specs.Kept.{noted_loops}
 use Rattle.loop_tree.specs.Tree.{LoopView, loops}
 use Rattle.worst_cycles.specs.Worst.{slack_at, rest_at}
-use Rattle.level_tables.specs.Tables as tables
-use Rattle.level_tables.specs.Tables.{EdgeNumbers, meets_both, at_row, entry_of, level_word, table_row, rows_of, shift_of}
+use Rattle.level_tables.specs.Tables.{EdgeNumbers, at_row, entry_of, level_word, table_row, rows_of, shift_of}
 use Rattle.level_tables.proofs.Laws.{entry-is, word-at}
 use Rattle.scale_sites.specs.Counters.{counted_loops}
 use Rattle.scale_sites.specs.Weights.{tail_of}
 use Rattle.stub_writer.specs.Stubs.{Site, Place}
-use Rattle.stub_runs.specs.Meaning.{four_bits}
 use Rattle.stored_runs.specs.Marks.{place_at, fragments_of_class, tail_cycles}
 use Rattle.stored_runs.specs.Patched.{IsPatched}
 use Rattle.paid_runs.specs.Tabled.{told_on, IsSafeEntry}
 use Rattle.paid_runs.specs.Timely.{weights_of}
 use Rattle.foreign_scan.specs.declared.fragment.ForeignFragment.{ForeignFragment}
 use Rattle.foreign_scan.specs.declared.fragment.ForeignFragment.TheVariants.{Switch, Exit, Reset, Count}
-use Rattle.foreign_scan.specs.Scanned.{segment_places}
+use Rattle.foreign_scan.specs.Scanned.{segment_places, Found}
 use Rattle.rewritten_runs.specs.Stubs.{IsWeighed, AreSitesOf, marks_by_slack, stored_weights, told_at, tail_at, fragment_of, fragments_at, loop_of}
 use Rattle.rewritten_runs.proofs.Laws.{led_class, program_is, tail_is}
 use Rattle.image_check.specs.Safe.{Owner, owner_bound, words_from, all_with_rows, sites_of, IsSafeWord, AreSafeWords, AreSafeOn}
@@ -52,6 +50,11 @@ use Rattle.image_check.proofs.StoredStubs.{HasWholeWords}
 use Rattle.image_check.proofs.StoredScan.{IsMarkedAt}
 use Rattle.image_check.proofs.StoredOwners as owned
 use Rattle.image_check.proofs.StoredRows as rowed
+
+-- what two edges tell their tables is the same, part by part
+pub same_numbers : (a b : EdgeNumbers) → a.slack ≡ b.slack → a.left ≡ b.left → a.least ≡ b.least → a ≡ b
+same_numbers a b slacks lefts leasts =
+    ap (λ x. record a { slack = x }) slacks ∙ (ap (λ x. record a { slack = b.slack; left = x }) lefts ∙ ap (λ x. record a { slack = b.slack; left = b.left; least = x }) leasts)
 
 -- ---- words of entries
 
@@ -167,7 +170,7 @@ module _ (power : PowerModel) (original foreign : Image) (notes : List LoopNote)
   abbrev prog : IsProgramOf t code l (noted_loops notes).inside
   prog = program_is power original notes v tree plain stored weighed
 
-  abbrev found : Rattle.foreign_scan.specs.Scanned.Found
+  abbrev found : Found
   found = owned.found power original foreign notes v tree plain stored weighed least sites are limits start p marked_at low whole off
 
   abbrev owner : Owner
@@ -187,7 +190,7 @@ module _ (power : PowerModel) (original foreign : Image) (notes : List LoopNote)
       let place = rowed.edge_place power original foreign notes v tree plain stored weighed least sites are limits start p marked_at low whole off keyed places e x there in
       let way = are.ways e class lt (ap (edge_class t) there ∙ is) in
       sym (fragments_on original foreign code l owner found prog.reached scanned e x class there is)
-      ∙ (ap (λ o. fragments_of_class o class) place ∙ (ap (λ o. fragments_of_class (place_at sites (Rattle.cost_theory.specs.Reached.edge_at o)) class) (sym there) ∙ way))
+      ∙ (ap (λ o. fragments_of_class o class) place ∙ (ap (λ o. fragments_of_class (place_at sites (edge_at o)) class) (sym there) ∙ way))
 
   -- what the edge tells its table
   told_same : (e to : ℕ) (m : Mark) (ms : List Mark) (tail : ℕ) → g.target e ≡ Some to → marked e ≡ m ∷ ms → tail ≡ tail_cycles (costs_of power) (frags e) → told_on g l w stored least e tail ≡ told e
@@ -201,13 +204,11 @@ module _ (power : PowerModel) (original foreign : Image) (notes : List LoopNote)
       let rest_same : rest g l stored e ≡ rest_at (graph v) l stored e =
       sym (ap (λ o. only (is_some o) (rest (graph v) l stored e)) leads ∙ ap (λ q. rest q l stored e) (sym weighed.code_is.graph_is)) in
       let end_same : to_end_after g l least e ≡ to_end_after (graph v) l least e = ap (λ q. to_end_after q l least e) weighed.code_is.graph_is in
-      ap (λ x. record { slack = x; left = rest g l stored e + tail; least = option_map (λ z. z + tail) (to_end_after g l least e) }) slack_same
-      ∙ (ap (λ x. record { slack = (told e).slack; left = x + tail; least = option_map (λ z. z + tail) (to_end_after g l least e) }) rest_same
-      ∙ (ap (λ x. record { slack = (told e).slack; left = rest_at (graph v) l stored e + tail; least = option_map (λ z. z + tail) x }) end_same
-      ∙ ap (λ x. record { slack = (told e).slack; left = rest_at (graph v) l stored e + x; least = option_map (λ z. z + x) (to_end_after (graph v) l least e) }) tail_same))
+      same_numbers (told_on g l w stored least e tail) (told e) slack_same (ap (λ x. x + tail) rest_same ∙ ap (λ x. rest_at (graph v) l stored e + x) tail_same)
+      (ap (option_map (λ z. z + tail)) end_same ∙ ap (λ x. option_map (λ z. z + x) (to_end_after (graph v) l least e)) tail_same)
 
   own : (c k : ℕ) → owner c ≡ Some k → loop_of counted c ≡ k
-  own c k e = by (Rattle.cost_theory.specs.Graph.any_below (length code.edges) (owned.stands_on power original foreign notes v tree plain stored weighed least sites are limits start p marked_at low whole off c)) e
+  own c k e = by (any_below (length code.edges) (owned.stands_on power original foreign notes v tree plain stored weighed least sites are limits start p marked_at low whole off c)) e
     where
       by : (b : Bool) → owned.owner_if power original foreign notes v tree plain stored weighed least sites are limits start p marked_at low whole off b c ≡ Some k → loop_of counted c ≡ k
       by true q = cc

@@ -1,14 +1,12 @@
 -- The counters of a rewritten program count their loops on the edges on which a scan finds them.
-use Rattle.std.proofs.Common.{◌≡◌, ◌≢◌, inl, inr, ℕ, zero, suc, ◌+◌, ◌-◌, ◌*◌, ◌^◌, ◌<◌, ◌≤◌, ◌⊎◌, Bool, true, false, cond, List, [], ◌∷◌, map, length, refl, arith, sym, ap, ◌∙◌, subst, slice_get, Option, Some, None, eqb-true}
-use Rattle.std.specs.Prelude.{All, nat_lt, ◌==◌, ◌&&◌}
+use Rattle.std.proofs.Common.{◌≡◌, inl, inr, ℕ, ◌+◌, ◌-◌, ◌*◌, ◌^◌, ◌<◌, ◌≤◌, ◌⊎◌, Bool, true, false, List, [], ◌∷◌, map, length, refl, arith, sym, ap, ◌∙◌, slice_get, Option, Some, None}
+use Rattle.std.specs.Prelude.{nat_lt}
 use Rattle.std.specs.List.{sum_by, list_any}
-use Rattle.std.proofs.lemmas.Bool.{both_ways, ltb-true, lt-ltb, and_parts, cases_lt, eq-eqb, cond-true}
+use Rattle.std.proofs.lemmas.Bool.{both_ways, ltb-true, lt-ltb, cases_lt}
 use Rattle.std.proofs.lemmas.List.Sums.{sum_by-cons}
 use Rattle.std.proofs.lemmas.Option.{slice_get_within}
 use Rattle.scale_base.specs.declared.edges.Edge.{Edge}
-use Rattle.scale_base.specs.declared.edges.EdgeKind.{EdgeKind}
 use Rattle.scale_base.specs.declared.fragments.Fragment.{Fragment}
-use Rattle.scale_base.specs.declared.fragments.Fragment.TheVariants as fragments
 use Rattle.scale_base.specs.declared.fragments.Mark.{Mark}
 use Rattle.scale_base.specs.declared.fragments.Mark.TheVariants as marks
 use Rattle.scale_base.specs.declared.instruction.Instr.TheVariants as instr
@@ -16,12 +14,12 @@ use Rattle.scale_base.specs.declared.stepping.Class.{Class}
 use Rattle.scale_base.specs.Image.{Image, is_in, is_word_address}
 use Rattle.scale_base.specs.Layout.{layout_of, is_keyed}
 use Rattle.power_model.specs.Numbers.{PowerModel}
-use Rattle.cost_theory.specs.Graph.{Graph, Loops, any_below, is_back, is_header, leaves}
-use Rattle.cost_theory.specs.Reached.{Code, edge_at, edge_to}
+use Rattle.cost_theory.specs.Graph.{Graph, Loops, any_below, is_back}
+use Rattle.cost_theory.specs.Reached.{Code, edge_at}
 use Rattle.cost_theory.specs.Worst.{Numbers}
-use Rattle.cost_theory.proofs.Laws.{accepted_entered, any-some, search_below, headers-distinct, some_get}
+use Rattle.cost_theory.proofs.Laws.{accepted_entered, any-some, search_below, headers-distinct, some_get, none-any}
 use Rattle.least_laws.specs.Charged.{Charged}
-use Rattle.code_text.specs.Text.{Text, text_of, instr_at}
+use Rattle.code_text.specs.Text.{Text, text_of}
 use Rattle.code_text.specs.EdgeCosts.{class_by, edge_class}
 use Rattle.code_text.specs.TextGraph.{text_graph}
 use Rattle.graph_runs.specs.Laws.{IsProgramOf}
@@ -39,12 +37,10 @@ use Rattle.stub_writer.specs.Stubs.{Site, Place, Forked, Straight}
 use Rattle.stored_runs.specs.Marks.{place_at, fragments_of_class}
 use Rattle.stored_runs.specs.Stubbed.{IsOfImage}
 use Rattle.stored_runs.specs.Patched.{IsPatched}
-use Rattle.foreign_scan.specs.declared.fragment.ForeignFragment.{ForeignFragment}
-use Rattle.foreign_scan.specs.declared.fragment.ForeignFragment.TheVariants.{Count}
 use Rattle.foreign_scan.specs.Scanned.{Found, IsFirstCounted}
 use Rattle.rewritten_runs.specs.Stubs.{IsWeighed, AreSitesOf, plain_weights, marks_by_slack, told_at, fragment_of, fragments_at, loop_of}
 use Rattle.rewritten_runs.proofs.Laws.{led_class, marked_led, program_is, graph_program, counted_is, loop_is}
-use Rattle.image_check.specs.Safe.{Owner, counts_it, clears_it, one_where, counts_on, clears_on, IsCounterOf, IsUsed, AreOwners}
+use Rattle.image_check.specs.Safe.{Owner, counts_it, clears_it, counts_on, clears_on, IsCounterOf, IsUsed, AreOwners}
 use Rattle.image_check.proofs.AgreeOwners.{one_back}
 use Rattle.image_check.proofs.Rows.{on_counts, some_if}
 use Rattle.image_check.proofs.StoredTables.{found_one, found_with}
@@ -240,7 +236,7 @@ module _ (power : PowerModel) (original foreign : Image) (notes : List LoopNote)
       by : (c : ℕ) → (IsUsed g code found c → ⊥) → (b : Bool) → any_below (length code.edges) (stands_on c) ≡ b → ((k : ℕ) × (k < length code.edges) × (stands_on c k ≡ true)) ⊎ ((k : ℕ) → k < length code.edges → stands_on c k ≡ false) → owner c ≡ None
       by c none b is (inl some) = absurd (none (record { edge = some.0; low = some.1; uses = ltb-true 0 _ some.2 }))
       by c none false is (inr all) = ap (λ x. owner_if x c) is
-      by c none true is (inr all) = absurd (let f = Rattle.cost_theory.proofs.Laws.none-any (length code.edges) (stands_on c) all in both_ways (any_below (length code.edges) (stands_on c)) f is)
+      by c none true is (inr all) = absurd (let f = none-any (length code.edges) (stands_on c) all in both_ways (any_below (length code.edges) (stands_on c)) f is)
 
   -- the loop that a counter counts first is its own
   pub first : (c k : ℕ) → IsFirstCounted original foreign code l found c k → owner c ≡ Some k

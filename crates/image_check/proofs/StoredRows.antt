@@ -1,5 +1,5 @@
 -- The rows of a rewritten program's tables, what a scan finds in it, and what its edges cost by that.
-use Rattle.std.proofs.Common.{◌≡◌, ◌≢◌, inl, inr, ℕ, zero, suc, ◌+◌, ◌*◌, ◌/◌, ◌^◌, ◌<◌, ◌≤◌, Bool, true, false, List, [], ◌∷◌, map, length, refl, arith, sym, ap, ◌∙◌, subst, slice_get, Option, Some, None}
+use Rattle.std.proofs.Common.{◌≡◌, ◌≢◌, inl, inr, ℕ, zero, suc, ◌+◌, ◌*◌, ◌/◌, ◌^◌, ◌<◌, Bool, true, false, List, [], ◌∷◌, map, length, refl, arith, sym, ap, ◌∙◌, subst, slice_get, Option, Some, None}
 use Rattle.std.specs.Prelude.{All, ◌==◌}
 use Rattle.std.specs.List.{sum_by, list_any}
 use Rattle.std.proofs.Math.Path.{fun_ext}
@@ -42,7 +42,7 @@ use Rattle.stored_runs.specs.Marks.{place_at, fragments_of_class, jumps_by}
 use Rattle.stored_runs.specs.Patched.{IsPatched}
 use Rattle.paid_runs.specs.Marked.{extra_by, extra_site_weights}
 use Rattle.paid_runs.specs.Timely.{weights_of}
-use Rattle.foreign_scan.specs.Scanned.{segment_places, IsScanned}
+use Rattle.foreign_scan.specs.Scanned.{segment_places, IsScanned, Found}
 use Rattle.rewritten_runs.specs.Stubs.{IsWeighed, AreSitesOf, marks_by_slack, told_at, fragment_of, fragments_at, loop_of}
 use Rattle.rewritten_runs.proofs.Laws.{program_is, rows_count}
 use Rattle.image_check.specs.Safe.{Owner, owner_bound, sites_of}
@@ -53,6 +53,7 @@ use Rattle.image_check.proofs.StoredScan as scan
 use Rattle.image_check.proofs.StoredScan.{IsMarkedAt, HaveItsRows}
 use Rattle.image_check.proofs.StoredSites.{place_same}
 use Rattle.image_check.proofs.StoredCounts.{mark_clears}
+use Rattle.stored_runs.specs.Stubbed.{IsOfImage}
 use Rattle.image_check.proofs.StoredOwners as owned
 
 exit_clears : (c : ℕ) (ms : List Mark) (i : ℕ) → slice_get ms i ≡ Some (marks.Exit c) → 0 < sum_by (mark_clears c) ms
@@ -106,7 +107,7 @@ module _ (power : PowerModel) (original foreign : Image) (notes : List LoopNote)
   abbrev prog : IsProgramOf t code l (noted_loops notes).inside
   prog = program_is power original notes v tree plain stored weighed
 
-  abbrev found : Rattle.foreign_scan.specs.Scanned.Found
+  abbrev found : Found
   found = owned.found power original foreign notes v tree plain stored weighed least sites are limits start p marked_at low whole off
 
   abbrev owner : Owner
@@ -138,7 +139,7 @@ module _ (power : PowerModel) (original foreign : Image) (notes : List LoopNote)
           let same : fragments_of_class (Some q) class ≡ frags e.0 = ap (λ o. fragments_of_class o class) (sym d) ∙ (ap (λ a. fragments_of_class (place_at sites a) class) (sym (ap edge_at e.1 ∙ here)) ∙ way) in
           subst (All (HasItsRows l owner)) (sym same) (edge_rows e.0 lt)
 
-      by : (q : Place) → Rattle.stored_runs.specs.Stubbed.IsOfImage original at q → place_at sites at ≡ Some q → HaveItsRows l owner q
+      by : (q : Place) → IsOfImage original at q → place_at sites at ≡ Some q → HaveItsRows l owner q
       by (Forked op rs1 rs2 untaken taken) of d =
           let i = instr.Branch op rs1 rs2 of.0 in
           let x : Edge = record { at = at; kind = Taken; to = moved_by at of.0 } in

@@ -1,5 +1,5 @@
 -- What a rewritten program stores is a safe image.
-use Rattle.std.proofs.Common.{◌≡◌, ◌≢◌, ℕ, zero, suc, ◌+◌, ◌*◌, ◌%◌, ◌^◌, ◌<◌, ◌≤◌, Bool, true, false, cond, List, [], ◌∷◌, map, length, refl, arith, sym, ap, ◌∙◌, subst, slice_get, Option, Some, None, Ok}
+use Rattle.std.proofs.Common.{◌≡◌, ◌≢◌, ℕ, suc, ◌+◌, ◌*◌, ◌%◌, ◌^◌, ◌<◌, ◌≤◌, Bool, true, false, cond, List, [], ◌∷◌, map, length, refl, arith, sym, ap, ◌∙◌, subst, slice_get, Some, None, Ok}
 use Rattle.std.specs.Prelude.{All, nat_le, nat_lt, filter, ◌==◌}
 use Rattle.std.specs.List.{list_any}
 use Rattle.std.proofs.lemmas.Bool.{and_parts, and_from, eqb-true, leb-true, ltb-true, le-leb, lt-ltb}
@@ -41,6 +41,7 @@ use Rattle.image_check.proofs.StoredStubs.{HasWholeWords}
 use Rattle.image_check.proofs.StoredScan.{IsMarkedAt}
 use Rattle.image_check.proofs.StoredOwners as owned
 use Rattle.image_check.proofs.StoredRows as rowed
+use Rattle.scale_base.specs.declared.fragments.Fragment.{Fragment}
 use Rattle.image_check.proofs.StoredLevels as leveled
 
 -- ---- the file and the segments
@@ -96,7 +97,7 @@ whole_words image s base block start n even size a j word on lt =
 
 -- ---- marked instructions
 
-marked_in : (original : Image) (code : Code) (frags : ℕ → List Rattle.scale_base.specs.declared.fragments.Fragment.Fragment) (sites : List Site) (at : ℕ) (q : Place) → All (λ site. (is_word_address original site.at ≡ true) × IsOfImage original site.at site.place) sites
+marked_in : (original : Image) (code : Code) (frags : ℕ → List Fragment) (sites : List Site) (at : ℕ) (q : Place) → All (λ site. (is_word_address original site.at ≡ true) × IsOfImage original site.at site.place) sites
     → All (λ site. (e : ℕ) × (e < length code.edges) × (edge_at (slice_get code.edges e) ≡ site.at) × (frags e ≢ [])) sites → place_at sites at ≡ Some q → IsMarkedAt original code at
 marked_in original code frags [] at q words some e = let never : ⊥ = cc in absurd never
 marked_in original code frags (s ∷ sites) at q words some e =

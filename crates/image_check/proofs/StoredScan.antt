@@ -1,8 +1,9 @@
 -- A patched image keeps what a scan asks for, with the fragments of its marked edges.
-use Rattle.std.proofs.Common.{◌≡◌, ◌≢◌, inl, inr, ⊎_elim, ℕ, ℤ, zero, suc, ◌+◌, ◌*◌, ◌/◌, ◌%◌, ◌^◌, ◌<◌, ◌≤◌, Bool, true, false, not, List, [], ◌∷◌, length, refl, arith, sym, ap, ◌∙◌, subst, slice_get, Option, Some, None}
+use Rattle.std.proofs.Common.{◌≡◌, ◌≢◌, inl, inr, ⊎_elim, ℕ, ℤ, ◌+◌, ◌/◌, ◌%◌, ◌^◌, ◌<◌, ◌≤◌, Bool, true, false, not, List, [], length, refl, arith, sym, ap, ◌∙◌, subst, slice_get, Option, Some, None}
 use Rattle.std.specs.Prelude.{All, ◌==◌}
 use Rattle.std.specs.List.{list_any}
 use Rattle.std.proofs.lemmas.Bool.{eqb-true, eq-eqb, both_ways}
+use Rattle.scale_base.specs.declared.fragments.Fragment.TheVariants as fragments
 use Rattle.scale_base.specs.declared.instruction.Instr.{Instr}
 use Rattle.scale_base.specs.declared.instruction.Instr.TheVariants as instr
 use Rattle.scale_base.specs.declared.stepping.Class.{Class}
@@ -18,7 +19,6 @@ use Rattle.scale_base.specs.Run.{setting_of}
 use Rattle.scale_base.specs.State.{Setting, word_at}
 use Rattle.scale_base.proofs.Laws.{word_back}
 use Rattle.rv_encode.specs.Jumps.{distance}
-use Rattle.cost_theory.specs.declared.flow.Flow.TheVariants as flow
 use Rattle.cost_theory.specs.Graph.{Loops}
 use Rattle.cost_theory.specs.Reached.{Reached, Reached.onward, Code, LeadsTo, edge_at, edges_of, call_returns}
 use Rattle.cost_theory.proofs.Laws.{Within, word_edge, edge_of_word, source_reached}
@@ -34,9 +34,9 @@ use Rattle.stored_runs.specs.Patched.{IsSafeEdge, AreSafeEdges, HasStub, IsPatch
 use Rattle.foreign_scan.specs.declared.fragment.ForeignFragment.{ForeignFragment}
 use Rattle.foreign_scan.specs.declared.fragment.ForeignFragment.TheVariants.{Exit}
 use Rattle.foreign_scan.specs.Form.{IsStub, AreRowsIn}
-use Rattle.foreign_scan.specs.Scanned.{Found, IsLaidAlike, segment_places, IsOddByte, is_changed, CanBePatched, IsChanged, IsPatch, KeepsForm, IsOn, IsFirstCounted, IsLastRow, HasRows, AreFound, IsScanned}
+use Rattle.foreign_scan.specs.Scanned.{Found, segment_places, CanBePatched, IsChanged, IsPatch, KeepsForm, IsOn, IsFirstCounted, IsLastRow, HasRows, AreFound, IsScanned}
 use Rattle.image_check.specs.Safe.{Owner, owner_bound}
-use Rattle.image_check.proofs.StoredTables.{found_with, HasExit, exit_on, HasItsRows, exit_rows_in}
+use Rattle.image_check.proofs.StoredTables.{found_with, exit_on, HasItsRows, exit_rows_in}
 use Rattle.image_check.proofs.StoredStubs.{reaches_to, HasWholeWords, found_of, stub_is, jump_is, stub_keyed}
 
 -- an instruction that is marked is one of the text, at which an edge starts
@@ -290,7 +290,7 @@ module _ (original foreign : Image) (levels : ℕ) (limits : ℕ → ℕ) (sites
     way_rows_in at w h safe own counter shift table last on le =
         let x = exit_on h.table w.fragments counter shift table safe.ordered on in
         let first = subst (All (HasItsRows l owner)) x.parts own in
-        let long : length x.rows ≡ owner_bound l (owner counter) / 2 ^ shift + 1 = first 0 (Rattle.scale_base.specs.declared.fragments.Fragment.TheVariants.Exit counter shift x.rows) (omega arith) in
+        let long : length x.rows ≡ owner_bound l (owner counter) / 2 ^ shift + 1 = first 0 (fragments.Exit counter shift x.rows) (omega arith) in
         let high = h.high in
         exit_rows_in foreign levels [] h.table counter shift table w.fragments (last + 1) x h.even (omega (arith, high)) (omega (arith, long, le)) h.rows
 

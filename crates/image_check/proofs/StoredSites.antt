@@ -1,16 +1,13 @@
 -- The marked instructions of a patched image are the ones that a scan finds, with their fragments.
-use Rattle.std.proofs.Common.{◌≡◌, ℕ, ◌*◌, ◌+◌, ◌^◌, ◌<◌, ◌≤◌, Bool, true, false, not, List, [], refl, arith, sym, ap, ◌∙◌, subst, Option, Some, None}
-use Rattle.std.specs.Prelude.{All, ◌==◌}
+use Rattle.std.proofs.Common.{◌≡◌, ℕ, ◌+◌, ◌^◌, ◌<◌, Bool, true, false, List, [], refl, arith, sym, ap, ◌∙◌, Option, Some, None}
+use Rattle.std.specs.Prelude.{All}
 use Rattle.std.specs.List.{list_any}
-use Rattle.std.proofs.lemmas.Bool.{both_ways, false_from_ne_true}
-use Rattle.scale_base.specs.declared.instruction.Instr.{Instr}
-use Rattle.scale_base.specs.declared.instruction.Instr.TheVariants as instr
-use Rattle.scale_base.specs.declared.edges.EdgeKind.TheVariants.{Taken, Untaken, Jump}
+use Rattle.scale_base.specs.declared.edges.EdgeKind.TheVariants.{Taken}
 use Rattle.scale_base.specs.Arith.{plus, moved_by}
 use Rattle.scale_base.specs.Image.{Image, loaded_byte, is_in, is_word_address}
 use Rattle.scale_base.specs.Layout.{layout_of, is_keyed}
 use Rattle.scale_base.specs.Run.{setting_of}
-use Rattle.scale_base.specs.State.{Setting, word_at}
+use Rattle.scale_base.specs.State.{Setting}
 use Rattle.cost_theory.specs.Graph.{Loops}
 use Rattle.cost_theory.specs.Reached.{Code}
 use Rattle.code_text.specs.Text.{Text, text_of, instr_at}
@@ -19,8 +16,8 @@ use Rattle.stub_writer.specs.Stubs.{Site, Way, Place, Forked, Straight, way}
 use Rattle.stub_runs.specs.Held.{WayStands, StubStands}
 use Rattle.stored_runs.specs.Marks.{place_at}
 use Rattle.stored_runs.specs.Stubbed.{IsOfImage}
-use Rattle.stored_runs.specs.Patched.{IsSafeEdge, AreSafeEdges, IsPatched}
-use Rattle.foreign_scan.specs.Scanned.{is_changed, IsScanned}
+use Rattle.stored_runs.specs.Patched.{IsSafeEdge, AreSafeEdges, IsPatched, HasStub}
+use Rattle.foreign_scan.specs.Scanned.{is_changed, IsScanned, Found}
 use Rattle.image_check.specs.Safe.{Owner, all_with_rows, place_by, sites_of}
 use Rattle.image_check.proofs.OnEdges.{changed_place, same_place}
 use Rattle.image_check.proofs.StoredTables.{found_with, HasItsRows, found_again}
@@ -43,7 +40,7 @@ module _ (original foreign : Image) (levels : ℕ) (limits : ℕ → ℕ) (sites
   abbrev bytes : ℕ → ℕ
   bytes = loaded_byte foreign
 
-  abbrev found : Rattle.foreign_scan.specs.Scanned.Found
+  abbrev found : Found
   found = scan.found original foreign levels limits sites start p code reached marked low whole off
 
   way_again : (at : ℕ) (w : Way) (h : WayStands env bytes at w) → IsSafeEdge levels limits w → All (HasItsRows l owner) w.fragments → (to : ℕ) → w.to ≡ to → way to (all_with_rows foreign l owner (found_with h.table w.fragments)) ≡ w
@@ -62,7 +59,7 @@ module _ (original foreign : Image) (levels : ℕ) (limits : ℕ → ℕ) (sites
       let fs = found_of foreign levels [] stub (Straight w) stands in
       ap (place_by foreign l owner at fs) of.1 ∙ ap (λ x. Straight x) (way_again stub w stands safe own (moved_by at of.0) of.2)
 
-  abbrev stub_at : (at : ℕ) (q : Place) → place_at sites at ≡ Some q → Rattle.stored_runs.specs.Patched.HasStub original env bytes limits at q
+  abbrev stub_at : (at : ℕ) (q : Place) → place_at sites at ≡ Some q → HasStub original env bytes limits at q
   stub_at at q e = p.stubs [] at q (marked at q e).word e
 
   -- at the address of a word they are the same

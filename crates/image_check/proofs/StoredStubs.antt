@@ -1,7 +1,6 @@
 -- A stub that stands in the keyed segment of a stored image is in its form.
-use Rattle.std.proofs.Common.{◌≡◌, ℕ, ℤ, ◌+◌, ◌-◌, ◌*◌, ◌%◌, ◌^◌, ◌<◌, ◌≤◌, Bool, true, List, [], ◌∷◌, ◌++◌, length, refl, arith, sym, ap, ◌∙◌, subst, Some}
-use Rattle.std.specs.Prelude.{All, ◌==◌}
-use Rattle.std.specs.List.{sum_by, flat_map}
+use Rattle.std.proofs.Common.{◌≡◌, ℕ, ℤ, ◌+◌, ◌-◌, ◌*◌, ◌%◌, ◌^◌, ◌<◌, true, List, [], ◌∷◌, ◌++◌, length, arith, sym, ap, ◌∙◌, subst}
+use Rattle.std.specs.Prelude.{◌==◌}
 use Rattle.std.specs.Int.{w32}
 use Rattle.std.proofs.lemmas.Int.{of_z-to_z}
 use Rattle.std.proofs.lemmas.Bool.{and_parts, eqb-true}
@@ -12,21 +11,18 @@ use Rattle.scale_base.specs.declared.edges.EdgeKind.{EdgeKind}
 use Rattle.scale_base.specs.declared.edges.EdgeKind.TheVariants.{Taken, Untaken, Jump, Next, CallNext, End}
 use Rattle.scale_base.specs.Arith.{plus, moved_by}
 use Rattle.scale_base.specs.Image.{Image, loaded_byte}
-use Rattle.scale_base.specs.Layout.{layout_of, is_keyed, can_fetch, each_byte, fetches_byte}
-use Rattle.scale_base.specs.Reading.{instr_of}
+use Rattle.scale_base.specs.Layout.{layout_of, is_keyed, each_byte, fetches_byte}
 use Rattle.scale_base.specs.Run.{setting_of}
 use Rattle.scale_base.specs.State.{Setting, word_at}
-use Rattle.scale_base.specs.Word.{Encodes}
 use Rattle.scale_base.proofs.Laws.{word_back}
 use Rattle.rv_encode.specs.Jumps.{distance}
-use Rattle.stub_writer.specs.Fragments.{code_len}
-use Rattle.stub_writer.specs.Stubs.{Way, Place, Forked, Straight, fragments_code, way_code, jump, jump_at}
+use Rattle.stub_writer.specs.Stubs.{Way, Place, Forked, Straight, fragments_code, jump, jump_at}
 use Rattle.stub_runs.specs.Meaning.{StandsAt, Stand}
 use Rattle.stub_runs.specs.Held.{WayStands, ForkStands, StubStands}
 use Rattle.stub_runs.proofs.Laws.{codes_length}
-use Rattle.stored_runs.specs.Patched.{IsSafeEdge, AreSafeEdges}
+use Rattle.stored_runs.specs.Patched.{IsSafeEdge}
 use Rattle.foreign_scan.specs.declared.fragment.ForeignFragment.{ForeignFragment}
-use Rattle.foreign_scan.specs.Form.{HoldsAt, Hold, foreign_code, foreign_len, behind_fragments, JumpsTo, IsRunOut, IsFork, IsStub}
+use Rattle.foreign_scan.specs.Form.{HoldsAt, Hold, behind_fragments, JumpsTo, IsRunOut, IsStub}
 use Rattle.image_check.proofs.StoredTables.{found_with, found_code, found_lens, found_length, found_foreign, found_first}
 
 -- a jump's distance leads there

@@ -1,5 +1,5 @@
 -- The fragments of a stored edge as they are found in its stub, with the addresses of their tables.
-use Rattle.std.proofs.Common.{◌≡◌, ℕ, zero, suc, ◌+◌, ◌*◌, ◌/◌, ◌%◌, ◌^◌, ◌<◌, ◌≤◌, true, List, [], ◌∷◌, ◌++◌, length, refl, arith, sym, ap, ◌∙◌, subst, slice_get, Some}
+use Rattle.std.proofs.Common.{◌≡◌, ℕ, zero, suc, ◌+◌, ◌*◌, ◌/◌, ◌%◌, ◌^◌, ◌<◌, ◌≤◌, List, [], ◌∷◌, ◌++◌, length, refl, arith, sym, ap, ◌∙◌, subst}
 use Rattle.std.specs.Prelude.{All}
 use Rattle.std.specs.List.{sum_by, flat_map}
 use Rattle.std.proofs.lemmas.List.Elements.{All-nil, All-cons}
@@ -9,7 +9,7 @@ use Rattle.scale_base.specs.declared.fragments.Fragment.{Fragment}
 use Rattle.scale_base.specs.declared.fragments.Fragment.TheVariants as fragments
 use Rattle.scale_base.specs.Image.{Image, loaded_byte}
 use Rattle.scale_base.specs.Run.{setting_of}
-use Rattle.scale_base.specs.State.{Setting, word_at}
+use Rattle.scale_base.specs.State.{Setting}
 use Rattle.cost_theory.specs.Graph.{Loops}
 use Rattle.stub_writer.specs.Fragments.{fragment_code, code_len, fragment_rows, rows_len}
 use Rattle.stub_writer.specs.Stubs.{fragments_code, rows_by}
