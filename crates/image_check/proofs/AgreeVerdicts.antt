@@ -56,14 +56,14 @@ module _ (power : PowerModel) (original foreign : Image) (notes : List LoopNote)
         let none = failed.nowhere.none in
         omega (arith, low, s, n, none)
 
-    record IsInTime (a : Verdict) : Type 0 where
+    record MeetsDeadline (a : Verdict) : Type 0 where
       found : Found
       owner : Owner
       n : Numbers
       is_counted : IsCounted power original foreign v tree found owner n
       in_time : time_at power (key_level power foreign) (n.worst 0) ≤ power.deadline
 
-    time_of : (a : Verdict) → stages.BehindTime power original foreign notes v tree a → IsInTime a
+    time_of : (a : Verdict) → stages.BehindTime power original foreign notes v tree a → MeetsDeadline a
     time_of a (inl m) = record { found = m.misled.found; owner = m.misled.owner; n = m.misled.n; is_counted = m.misled.level.counted; in_time = m.misled.in_time }
     time_of a (inr p) = record {
       found = p.passed.found;

@@ -37,7 +37,7 @@ use Rattle.image_check.specs.Safe.{Owner, AreOwners, AreSafeOn, sites_of}
 use Rattle.image_check.specs.Known.{owner_by, IsFoundIn, AreWeighed, AreKnown, HasKnown, IsLevelsAnswer}
 use Rattle.image_check.specs.Weights.{AreExtraWeights, AreStoredWeights}
 use Rattle.image_check.specs.Checked.{graph_by, weights_with, key_level, IsCounted, HasLevel, CountsNoLoop, IsOverLong, StartsNowhere, IsOverdue, IsMisled, IsPassed}
-use Rattle.image_check.specs.Checks.{IsOriginal, IsScannedBy, IsReceived, AreShortCosts, IsInTime, AreExtraCycles}
+use Rattle.image_check.specs.Checks.{IsOriginal, IsScannedBy, IsReceived, AreShortCosts, MeetsDeadline, AreExtraCycles}
 use Rattle.image_check.proofs.Extras.{extra_are_weights, stored_are_weights}
 use Rattle.image_check.proofs.Ranges.{slack_in_range, rest_in_range, turns_in_range}
 
@@ -177,7 +177,7 @@ module _ (p : Original) (is : IsOriginal p) where
       late = late;
     }
 
-    pub in_time : (start total need have : ℕ) → start ≡ key_level p.power r.view → start < length p.power.levels → slice_get c.worst.worst 0 ≡ Some total → need ≡ time_at p.power start total → have ≡ p.power.deadline → need ≤ have → IsInTime p r n start
+    pub in_time : (start total need have : ℕ) → start ≡ key_level p.power r.view → start < length p.power.levels → slice_get c.worst.worst 0 ≡ Some total → need ≡ time_at p.power start total → have ≡ p.power.deadline → need ≤ have → MeetsDeadline p r n start
     in_time start total need have a lt here e f le = record {
       start_is = a;
       level = lt;
@@ -220,7 +220,7 @@ module _ (p : Original) (is : IsOriginal p) where
       charged : AreCharged g l (stored r found h.received) least
       charged = by_text (λ g. AreCharged g l (stored r found h.received) least) (subst (λ w. AreCharged (graph v) l w least) h.weights_are least_are)
 
-      pub misled : (start at from : ℕ) → IsInTime p r n start → IsFirstBadLevel p.power r.view (graph v) v.code l (owner_by r.owners) (by_edge c.weights) n least found at from → IsMisled p.power p.view r.view p.graph p.tree at from
+      pub misled : (start at from : ℕ) → MeetsDeadline p r n start → IsFirstBadLevel p.power r.view (graph v) v.code l (owner_by r.owners) (by_edge c.weights) n least found at from → IsMisled p.power p.view r.view p.graph p.tree at from
       misled start at from t bad = record {
         found = found;
         owner = owner_by r.owners;
@@ -233,7 +233,7 @@ module _ (p : Original) (is : IsOriginal p) where
             (subst (λ w. IsFirstBadLevel p.power r.view (graph v) v.code l (owner_by r.owners) w n least found at from) h.weights_are bad);
       }
 
-      pub passed : (checked : Checked) (total cycles : ℕ) → IsInTime p r n checked.start → IsLevelsAnswer p.power r.view p.graph l (owner_by r.owners) (by_edge c.weights) n least found None → slice_get c.worst.worst 0 ≡ Some total → AreExtraCycles p r found cycles
+      pub passed : (checked : Checked) (total cycles : ℕ) → MeetsDeadline p r n checked.start → IsLevelsAnswer p.power r.view p.graph l (owner_by r.owners) (by_edge c.weights) n least found None → slice_get c.worst.worst 0 ≡ Some total → AreExtraCycles p r found cycles
           → checked.worst ≡ total → checked.time ≡ time_at p.power checked.start total → checked.deadline ≡ p.power.deadline → checked.stub_cycles ≡ cycles → IsPassed p.power p.view r.view p.notes p.graph p.tree checked
       passed checked total cycles t levels here more worst time deadline stubs = record {
         found = found;

@@ -50,7 +50,7 @@ pub record AreShortCosts (p : Original) (r : Received) (c : CostsWithStubs) (fou
   pub left : IsLeftOf p.graph (loops p.graph p.tree) (by_edge c.weights) c.worst
 
 -- the worst cycles are in time at the level of the key
-pub record IsInTime (p : Original) (r : Received) (n : Numbers) (start : ℕ) : Type 0 where
+pub record MeetsDeadline (p : Original) (r : Received) (n : Numbers) (start : ℕ) : Type 0 where
   pub start_is : start ≡ key_level p.power r.view
   pub level : start < length p.power.levels
   pub in_time : time_at p.power start (n.worst 0) ≤ p.power.deadline

@@ -12,7 +12,7 @@ ghost use Rattle.scaler.specs.Held.{unscaled};
 ghost use Rattle.image_check.specs.Checked.{IsChecked, IsProgramChecked, IsFileVerdict, IsImageVerdict};
 ghost use Rattle.image_check.specs.SafeRuns.{IsSafeVerdict};
 ghost use Rattle.image_check.specs.declared.checking.CostsWithStubs.{CostsWithStubs};
-ghost use Rattle.image_check.specs.Checks.{IsOriginal, IsScannedBy, IsReceived, AreShortCosts, IsInTime, AreExtraCycles};
+ghost use Rattle.image_check.specs.Checks.{IsOriginal, IsScannedBy, IsReceived, AreShortCosts, MeetsDeadline, AreExtraCycles};
 
 use crate::levels::first_bad_level;
 use crate::owners::{OwnerList, owners_of};
@@ -110,7 +110,7 @@ fn check_levels(
     start: u8,
 ) -> Result<Verdict, NoMemory>
     requires original { IsOriginal original.now }
-    requires costs { (found : Found) × (n : Numbers) × AreShortCosts original.now received.now costs.now found n × IsInTime original.now received.now n start }
+    requires costs { (found : Found) × (n : Numbers) × AreShortCosts original.now received.now costs.now found n × MeetsDeadline original.now received.now n start }
     ensures { IfOk result (IsImageVerdict original.now.power original.now.view received.now.view original.now.notes original.now.graph original.now.tree) }
 {
     let power = &original.power;
