@@ -296,26 +296,36 @@ fn refusal_of(
     }
 }
 
+/// A machine file of one level.
+const ONE_LEVEL: &str =
+    "version = 1\ndeadline = 500\nsteps = 1000\nmin_gain = 20\nswitch_time = 10\nswitch_energy = 20\n\n[cost]\nalu = 1\nload = 2\nstore = 1\ntaken = 2\nuntaken = 1\njump = 2\nmul = 3\ndiv = 10\necall = 5\nfence = 1\n\n[[level]]\nperiod = 4\nenergy = 1\n";
+
 #[test]
-fn refusals_come_in_their_order(rt: HostRuntime) -> Result<(), Fail> {
+fn the_machine_file_and_the_image_are_refused_first(rt: HostRuntime) -> Result<(), Fail> {
     let alloc = rt.alloc();
-    let good = machine(alloc, 500, 1000)?;
-    let machine = good.as_str();
+    let machine = machine(alloc, 500, 1000)?;
     let image = plain_image(alloc, &V3)?;
-    let scaled = rewritten(alloc, &image, machine, L3)?;
-    let one_level =
-        "version = 1\ndeadline = 500\nsteps = 1000\nmin_gain = 20\nswitch_time = 10\nswitch_energy = 20\n\n[cost]\nalu = 1\nload = 2\nstore = 1\ntaken = 2\nuntaken = 1\njump = 2\nmul = 3\ndiv = 10\necall = 5\nfence = 1\n\n[[level]]\nperiod = 4\nenergy = 1\n";
+    let scaled = rewritten(alloc, &image, machine.as_str(), L3)?;
     let refused = refusal_of(alloc, b"", b"", "[", "[")?;
     assert!(rt; matches!(refused, Refusal::MachineText));
-    let refused = refusal_of(alloc, b"", b"", machine, "[")?;
+    let refused = refusal_of(alloc, b"", b"", machine.as_str(), "[")?;
     assert!(rt; matches!(refused, Refusal::NotElf));
-    let refused = refusal_of(alloc, &scaled, b"", machine, "[")?;
+    let refused = refusal_of(alloc, &scaled, b"", machine.as_str(), "[")?;
     assert!(rt; matches!(refused, Refusal::AlreadyScaled));
-    let refused = refusal_of(alloc, &image, b"", machine, "[")?;
+    Ok(())
+}
+
+#[test]
+fn the_scaled_image_is_refused_before_the_loop_file(rt: HostRuntime) -> Result<(), Fail> {
+    let alloc = rt.alloc();
+    let machine = machine(alloc, 500, 1000)?;
+    let image = plain_image(alloc, &V3)?;
+    let scaled = rewritten(alloc, &image, machine.as_str(), L3)?;
+    let refused = refusal_of(alloc, &image, b"", machine.as_str(), "[")?;
     assert!(rt; matches!(refused, Refusal::NotElf));
-    let refused = refusal_of(alloc, &image, &scaled, one_level, "[")?;
+    let refused = refusal_of(alloc, &image, &scaled, ONE_LEVEL, "[")?;
     assert!(rt; matches!(refused, Refusal::StartLevel(1, 1)));
-    let refused = refusal_of(alloc, &image, &scaled, machine, "[")?;
+    let refused = refusal_of(alloc, &image, &scaled, machine.as_str(), "[")?;
     assert!(rt; matches!(refused, Refusal::LoopText));
     Ok(())
 }
