@@ -7,9 +7,9 @@ use Rattle.cost_theory.specs.Least.{IsLeastIfAny, Least, callee_value, least_cal
 use Rattle.cost_theory.specs.Least.WayToEnd.{Exits, Returns}
 use Rattle.cost_theory.specs.LeastTurns.{IsRun, turn_step, turn_last, least_charge}
 use Rattle.cost_theory.proofs.Laws.{sum-same}
-use Rattle.least_laws.specs.Charged.{Charged, calls_so, calls_exit, charged_trips, charge_of, charged_cost, leads_on, ends_exit, AreCharged, end_behind, to_end_after, HasPlainReturns}
-use Rattle.least_laws.specs.Laws.{IsCharged, AreAlike}
-use Rattle.least_laws.proofs.Laws.{charged_agree, plain_returns}
+use Rattle.cycle_laws.specs.Charged.{Charged, calls_so, calls_exit, charged_trips, charge_of, charged_cost, leads_on, ends_exit, AreCharged, end_behind, to_end_after, HasPlainReturns}
+use Rattle.cycle_laws.specs.LeastLaws.{IsCharged, AreAlike}
+use Rattle.cycle_laws.proofs.Laws.{charged_agree, plain_returns}
 use Rattle.code_text.specs.Text.{kind_at}
 use Rattle.code_graph.specs.FlowGraph.{graph}
 use Rattle.loop_file.specs.Kept.{noted_loops}

@@ -4,7 +4,7 @@ use Rattle.scale_base.specs.declared.refusal.Refusal.{Refusal}
 use Rattle.scale_base.specs.declared.stepping.Class.{Class}
 use Rattle.cost_theory.specs.Worst.{Numbers, AreNumbers}
 use Rattle.cost_theory.specs.Accepted.{AreWeights}
-use Rattle.least_laws.specs.Charged.{Charged, AreCharged}
+use Rattle.cycle_laws.specs.Charged.{Charged, AreCharged}
 use Rattle.code_text.specs.Text.{Text}
 use Rattle.code_text.specs.EdgeCosts.{weights}
 use Rattle.code_graph.specs.FlowGraph.{FlowGraph, graph, IsFlowGraph, IsGraphOf}

@@ -15,7 +15,7 @@ use Rattle.graph_algorithms.specs.Arcs.Leads.{along, onward}
 use Rattle.graph_algorithms.specs.Cycles.{IsCycleBy}
 use Rattle.graph_algorithms.proofs.Laws.{IsRound, cycle_turned}
 use Rattle.code_text.specs.Text.{Text, kind_at}
-use Rattle.code_reach.specs.Reach.{Reach}
+use Rattle.code_graph.specs.Reach.{Reach}
 use Rattle.code_graph.specs.FlowGraph.{AreCalleesFirst}
 use Rattle.code_graph.specs.Refused.{Calls}
 use Rattle.code_graph.specs.Assembling.{AreEdgesOf, HasCall, AreCallArcs, AreCallsWithin, IsTurned}

@@ -16,7 +16,7 @@ use Rattle.scale_base.specs.Image.{Image, image_of, contents, text_ranges, text_
 use Rattle.scale_base.proofs.Laws.{rule_kept, kept-split, rules_kept, contents-are, rules_of, whole_kept}
 use Rattle.cost_theory.proofs.Laws.{within_get}
 use Rattle.code_text.specs.Table.{word_addresses, all_addresses}
-use Rattle.code_reach.proofs.Laws.{any_within}
+use Rattle.code_graph.proofs.Places.{any_within}
 use Rattle.code_graph.proofs.Lists.{Once, once_tail, once_head}
 
 -- ---- numbers that come once

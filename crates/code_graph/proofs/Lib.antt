@@ -1,3 +1,14 @@
+pub mod Places
+pub mod Tables
+pub mod ReturnLaws
+pub mod NumberedSteps
+pub mod ReachLaws
+pub mod OutsideLaws
+pub mod MarkedLaws
+pub mod FlowLaws
+pub mod ChainLaws
+pub mod LinkLaws
+pub mod MarkLaws
 pub mod Lists
 pub mod Graphs
 pub mod StepLaws

@@ -8,11 +8,11 @@ use Rattle.cost_theory.specs.declared.flow.Flow.{Flow}
 use Rattle.cost_theory.specs.declared.flow.Flow.TheVariants as flow
 use Rattle.cost_theory.specs.Reached.{callee_of, number_or_0}
 use Rattle.cost_theory.proofs.Laws.{below_suc, find-holds, find-some, some_value, some_get}
-use Rattle.code_reach.specs.declared.marks.Mark.{Mark}
-use Rattle.code_reach.specs.declared.marks.Mark.TheVariants.{Unreached, Owner}
+use Rattle.code_graph.specs.declared.reach.marks.Mark.{Mark}
+use Rattle.code_graph.specs.declared.reach.marks.Mark.TheVariants.{Unreached, Owner}
 use Rattle.code_text.specs.Text.{Text}
 use Rattle.code_text.specs.Walk.{RiseStrictly}
-use Rattle.code_reach.specs.Reach.{Reach, WordStandsAt}
+use Rattle.code_graph.specs.Reach.{Reach, WordStandsAt}
 use Rattle.code_graph.specs.Finding.{IsReachIn}
 use Rattle.code_graph.specs.Assembling.{AreReachedNodes, owner_number, number_by, entry_addresses}
 use Rattle.code_graph.proofs.Lists.{Once, some_is, ascending_once, later_more, get_left, get_end, get_pushed, length_pushed}

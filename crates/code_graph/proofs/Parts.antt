@@ -11,10 +11,10 @@ use Rattle.cost_theory.specs.declared.flow.Flow.TheVariants as flow
 use Rattle.cost_theory.specs.Reached.{Reached, DoesReturn, IsCodeOf, HasNoBadWord, HasNoSharedCode, edges_of, callee_of, call_returns, flag_beside, owner_of, number_or_0}
 use Rattle.cost_theory.specs.Reached.Reached.{main}
 use Rattle.cost_theory.proofs.Laws.{some_get, callee-call}
-use Rattle.code_reach.specs.declared.marks.Mark.{Mark}
-use Rattle.code_reach.specs.declared.marks.Mark.TheVariants.{Unreached, Owner, Shared}
+use Rattle.code_graph.specs.declared.reach.marks.Mark.{Mark}
+use Rattle.code_graph.specs.declared.reach.marks.Mark.TheVariants.{Unreached, Owner, Shared}
 use Rattle.code_text.specs.Text.{Text, kind_at}
-use Rattle.code_reach.specs.Reach.{Reach, WordStandsAt}
+use Rattle.code_graph.specs.Reach.{Reach, WordStandsAt}
 use Rattle.code_graph.specs.Finding.{IsReachIn}
 use Rattle.code_graph.specs.Assembling.{AreReachedNodes, IsNodeWord, AreEdgesOf, owner_number, number_by, entry_addresses, flag_of, flag_at}
 use Rattle.code_graph.proofs.Lists.{Once, some_is, ascending_once, number_beside-get, flag_beside-get, flag_beside-place}

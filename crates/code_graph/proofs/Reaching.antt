@@ -7,11 +7,11 @@ use Rattle.cost_theory.specs.declared.flow.Flow.{Flow}
 use Rattle.cost_theory.specs.declared.flow.Flow.TheVariants as flow
 use Rattle.cost_theory.specs.Reached.{Reached, HasNoBadWord, HasNoSharedCode}
 use Rattle.cost_theory.specs.Reached.Reached.{main, onward, back, called}
-use Rattle.code_reach.specs.declared.marks.Mark.{Mark}
-use Rattle.code_reach.specs.declared.marks.Mark.TheVariants.{Unreached, Owner, Shared}
+use Rattle.code_graph.specs.declared.reach.marks.Mark.{Mark}
+use Rattle.code_graph.specs.declared.reach.marks.Mark.TheVariants.{Unreached, Owner, Shared}
 use Rattle.code_text.specs.Text.{Text, kind_at}
-use Rattle.code_reach.specs.Reach.{Reach, IsReached, IsShared, WordStandsAt, IsReachOf}
-use Rattle.code_reach.specs.Steps.{IsWordTableOf}
+use Rattle.code_graph.specs.Reach.{Reach, IsReached, IsShared, WordStandsAt, IsReachOf}
+use Rattle.code_graph.specs.Steps.{IsWordTableOf}
 use Rattle.code_graph.specs.Finding.{IsFirstBelow, IsRefusedWord, IsLesser, IsLeastBad}
 use Rattle.code_graph.proofs.Lists.{some_is, place_or_none, beside, not_earlier}
 

@@ -25,7 +25,7 @@ use Rattle.code_text.specs.Text.{Text, kind_at}
 use Rattle.code_text.specs.EdgeCosts.{edge_class}
 use Rattle.code_text.specs.TextGraph.{text_graph}
 use Rattle.code_text.proofs.Laws.{kind_facts}
-use Rattle.code_reach.specs.Reach.{Reach}
+use Rattle.code_graph.specs.Reach.{Reach}
 use Rattle.code_graph.specs.FlowGraph.{FlowGraph, word_beside, IsFlowGraph, IsGraphOf, AreCalleesFirst}
 use Rattle.code_graph.specs.Stored.{AreFirsts, IsStoredGraph}
 use Rattle.code_graph.specs.Assembling.{AreEdgesOf, AreCallArcs, AreBlocksBy, IsOrdered, entry_addresses}

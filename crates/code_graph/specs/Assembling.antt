@@ -5,14 +5,14 @@ use Rattle.scale_base.specs.declared.edges.Edge.{Edge}
 use Rattle.scale_base.specs.declared.edges.EdgeKind.TheVariants.{Next}
 use Rattle.cost_theory.specs.declared.flow.Flow.{Flow}
 use Rattle.cost_theory.specs.Reached.{edges_of}
-use Rattle.code_reach.specs.declared.marks.Mark.{Mark}
-use Rattle.code_reach.specs.declared.marks.Mark.TheVariants.{Unreached, Owner, Shared}
+use Rattle.code_graph.specs.declared.reach.marks.Mark.{Mark}
+use Rattle.code_graph.specs.declared.reach.marks.Mark.TheVariants.{Unreached, Owner, Shared}
 use Rattle.graph_algorithms.specs.declared.orders.Arc.{Arc}
 use Rattle.graph_algorithms.specs.Arcs.{HasArc, HasNoCycle, IsSorted, IsCycle}
 use Rattle.scale_base.specs.declared.ranges.Range.{Range}
 use Rattle.scale_base.specs.declared.refusal.Refusal.{Refusal}
 use Rattle.scale_base.specs.declared.refusal.Refusal.TheVariants.{Recursion}
-use Rattle.code_reach.specs.Reach.{Reach}
+use Rattle.code_graph.specs.Reach.{Reach}
 
 -- ---- nodes and functions
 

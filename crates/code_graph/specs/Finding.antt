@@ -2,11 +2,11 @@
 use Rattle.std.specs.Prelude.{◌≡◌, ◌≢◌, ℕ, ◌<◌, ◌≤◌, slice_get, Option, Some, None}
 use Rattle.cost_theory.specs.declared.flow.Flow.TheVariants as flow
 use Rattle.cost_theory.specs.Reached.{HasNoBadWord}
-use Rattle.code_reach.specs.declared.marks.Mark.TheVariants.{Unreached}
+use Rattle.code_graph.specs.declared.reach.marks.Mark.TheVariants.{Unreached}
 use Rattle.code_text.specs.Text.{Text, kind_at}
-use Rattle.code_reach.specs.declared.reach.TextReach.{TextReach}
-use Rattle.code_reach.specs.Reach.{Reach, IsReached, IsReachOf}
-use Rattle.code_reach.specs.Steps.{IsWordTableOf}
+use Rattle.code_graph.specs.declared.reach.TextReach.{TextReach}
+use Rattle.code_graph.specs.Reach.{Reach, IsReached, IsReachOf}
+use Rattle.code_graph.specs.Steps.{IsWordTableOf}
 
 -- what a TextReach holds
 abbrev pub reach_of : TextReach → Reach

@@ -1,3 +1,8 @@
+pub mod Reach
+pub mod Steps
+pub mod Outside
+pub mod Flow
+pub mod Marks
 pub mod FlowGraph
 pub mod Refused
 pub mod Building

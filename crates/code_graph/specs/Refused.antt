@@ -10,7 +10,7 @@ use Rattle.cost_theory.specs.declared.flow.Flow.TheVariants as flow
 use Rattle.cost_theory.specs.Reached.{Reached, HasNoBadWord, HasNoSharedCode}
 use Rattle.graph_algorithms.specs.Cycles.{IsCycleBy}
 use Rattle.code_text.specs.Text.{Text, is_text_address, instr_at, kind_at}
-use Rattle.code_reach.specs.Reach.{IsReached, IsShared}
+use Rattle.code_graph.specs.Reach.{IsReached, IsShared}
 
 -- ---- reached addresses
 

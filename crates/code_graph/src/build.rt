@@ -15,7 +15,7 @@ use crate::graph::CodeGraph;
 use crate::nodes::{callees_of, entries_of, nodes_of, returning_of};
 use crate::recursion::call_order_of;
 use crate::refusals::{first_shared, least_refused, refusal_at};
-use code_reach::{TextReach, reach_text};
+use crate::reach::{TextReach, reach_text};
 use elf_view::ImageView;
 use scale_base::{NoMemory, Refusal, Stop};
 use std::alloc::Global;

@@ -7,6 +7,7 @@ mod edges;
 mod ends;
 mod graph;
 mod nodes;
+mod reach;
 mod recursion;
 mod refusals;
 #[cfg(test)]

@@ -5,7 +5,7 @@ ghost use Rattle.cost_theory.specs.Reached.{callee_of};
 ghost use Rattle.code_graph.specs.Finding.{reach_of, IsReach};
 ghost use Rattle.code_graph.specs.Assembling.{AreReachedNodes, owner_number, flag_of, entry_addresses};
 
-use code_reach::{Mark, TextReach};
+use crate::reach::{Mark, TextReach};
 use cost_theory::Flow;
 use scale_base::NoMemory;
 use std::alloc::Global;

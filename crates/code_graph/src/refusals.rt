@@ -2,14 +2,14 @@
 
 ghost use Rattle.std.specs.Prelude.{◌≡◌, ◌≢◌, ◌↔◌, ◌<◌, ◌≤◌, ℕ, true, length, slice_get, Some, None, Ok};
 ghost use Rattle.cost_theory.specs.declared.flow.Flow.TheVariants as flow;
-ghost use Rattle.code_reach.specs.declared.marks.Mark.TheVariants.{Unreached, Shared};
+ghost use Rattle.code_graph.specs.declared.reach.marks.Mark.TheVariants.{Unreached, Shared};
 ghost use Rattle.scale_base.specs.Image.{image_of};
 ghost use Rattle.code_text.specs.Text as texts;
 ghost use Rattle.code_text.specs.Text.{text_of};
 ghost use Rattle.code_graph.specs.Refused.{cause_at, instr_cause};
 ghost use Rattle.code_graph.specs.Finding.{reach_of, IsReachIn, IsFirstBelow, IsRefusedWord, IsLesser, IsLeastBad};
 
-use code_reach::{Mark, TextReach};
+use crate::reach::{Mark, TextReach};
 use cost_theory::Flow;
 use elf_view::ImageView;
 use rv_decode::decode;

@@ -23,7 +23,7 @@ use Rattle.code_text.specs.Text.{Text, text_of, instr_kind, kind_at}
 use Rattle.code_text.specs.TextGraph.{text_graph, IsReachedCode}
 use Rattle.code_text.proofs.Laws.{kind_facts, weights_are}
 use Rattle.stub_writer.specs.Stubs.{Site}
-use Rattle.stub_runs.specs.Cycles.{fragment_cost}
+use Rattle.stored_runs.specs.Cycles.{fragment_cost}
 use Rattle.stored_runs.specs.Marks.{place_at, fragments_of_class, jumps_by}
 use Rattle.paid_runs.specs.Marked.{extra_by}
 use Rattle.paid_runs.specs.Timely.{weights_of}

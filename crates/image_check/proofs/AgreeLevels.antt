@@ -13,7 +13,7 @@ use Rattle.cost_theory.specs.Graph.{Loops}
 use Rattle.cost_theory.specs.Reached.{Reached, edge_to, edges_of, call_returns}
 use Rattle.cost_theory.specs.Worst.{Numbers}
 use Rattle.cost_theory.proofs.Laws.{Within, edge_of_word}
-use Rattle.least_laws.specs.Charged.{Charged}
+use Rattle.cycle_laws.specs.Charged.{Charged}
 use Rattle.code_text.specs.Text.{Text, text_of, kind_at}
 use Rattle.code_graph.specs.FlowGraph.{FlowGraph}
 use Rattle.loop_file.specs.declared.notes.LoopNote.{LoopNote}

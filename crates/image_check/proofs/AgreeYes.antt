@@ -13,7 +13,7 @@ use Rattle.power_model.specs.Switches.{costs_of}
 use Rattle.cost_theory.specs.Graph.{Graph, Loops, only}
 use Rattle.cost_theory.specs.Reached.{edge_to}
 use Rattle.cost_theory.specs.Worst.{Numbers, cost, slack, rest}
-use Rattle.least_laws.specs.Charged.{Charged, to_end_after}
+use Rattle.cycle_laws.specs.Charged.{Charged, to_end_after}
 use Rattle.code_text.specs.Text.{Text, text_of}
 use Rattle.code_graph.specs.FlowGraph.{FlowGraph, graph}
 use Rattle.loop_file.specs.declared.notes.LoopNote.{LoopNote}
@@ -21,7 +21,7 @@ use Rattle.loop_file.specs.Kept.{noted_loops}
 use Rattle.loop_tree.specs.Tree.{LoopView, loops}
 use Rattle.answer_laws.specs.Alike.{AreAlikeNumbers, AreAlikeCharged}
 use Rattle.level_tables.specs.Tables.{EdgeNumbers, at_row}
-use Rattle.stub_runs.specs.Meaning.{four_bits}
+use Rattle.stored_runs.specs.Meaning.{four_bits}
 use Rattle.stored_runs.specs.Marks.{tail_cycles}
 use Rattle.paid_runs.specs.Marked.{extra_site_weights}
 use Rattle.paid_runs.specs.Tabled.{told_on, IsSafeEntry}

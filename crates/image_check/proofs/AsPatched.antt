@@ -21,7 +21,7 @@ use Rattle.code_text.specs.Text.{Text, text_of, instr_at}
 use Rattle.code_text.specs.TextGraph.{IsReachedCode}
 use Rattle.graph_runs.proofs.Laws.{text_of_layout, word_bound}
 use Rattle.stub_writer.specs.Stubs.{Site, Place, jump}
-use Rattle.stub_runs.specs.Held.{StubStands}
+use Rattle.stored_runs.specs.Held.{StubStands}
 use Rattle.stored_runs.specs.Marks.{place_at}
 use Rattle.stored_runs.specs.Stubbed.{IsOfImage}
 use Rattle.stored_runs.specs.Patched.{AreSafeEdges, HasStub, IsPatched}

@@ -16,7 +16,7 @@ use Rattle.cost_theory.specs.Accepted.{IsProgram, AreAccepted, AreWeights}
 use Rattle.cost_theory.specs.Graph.{Graph, Loops}
 use Rattle.cost_theory.specs.Laws.{IsAnalyzed}
 use Rattle.cost_theory.specs.Worst.{Numbers, AreNumbers}
-use Rattle.least_laws.specs.Charged.{Charged, AreCharged}
+use Rattle.cycle_laws.specs.Charged.{Charged, AreCharged}
 use Rattle.code_text.specs.Text.{Text, text_of}
 use Rattle.code_text.specs.TextGraph.{text_graph}
 use Rattle.code_graph.specs.FlowGraph.{FlowGraph, graph}

@@ -5,7 +5,7 @@ use Rattle.std.proofs.lemmas.Bool.{eqb-true, eq-eqb, ltb-true, lt-ltb, both_ways
 use Rattle.scale_base.specs.State.{word_at}
 use Rattle.power_model.specs.Numbers.{PowerModel}
 use Rattle.level_tables.specs.Tables.{EdgeNumbers, meets_both, at_row}
-use Rattle.stub_runs.specs.Meaning.{four_bits}
+use Rattle.stored_runs.specs.Meaning.{four_bits}
 use Rattle.paid_runs.specs.Tabled.{IsSafeEntry}
 use Rattle.image_check.specs.Causes.{IsBadEntry}
 use Rattle.image_check.specs.Entries.{is_safe, IsLeastIn, lesser_level, IsWordLevel, HasBadRow, IsTableLevel}

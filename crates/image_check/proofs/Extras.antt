@@ -30,7 +30,7 @@ use Rattle.code_graph.specs.FlowGraph.{FlowGraph, graph}
 use Rattle.loop_tree.specs.Tree.{LoopView, loops}
 use Rattle.worst_cycles.specs.Worst.{by_edge}
 use Rattle.stub_writer.specs.Stubs.{Site, Place}
-use Rattle.stub_runs.specs.Cycles.{fragment_cost}
+use Rattle.stored_runs.specs.Cycles.{fragment_cost}
 use Rattle.stored_runs.specs.Marks.{place_at, fragments_of_class, jumps_by}
 use Rattle.paid_runs.specs.Marked.{extra_by, extra_site_weights, stored_site_weights}
 use Rattle.foreign_scan.specs.declared.fragment.ForeignFragment.{ForeignFragment}

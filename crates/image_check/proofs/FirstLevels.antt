@@ -14,12 +14,12 @@ use Rattle.cost_theory.specs.Graph.{Loops}
 use Rattle.cost_theory.specs.Worst.{Numbers}
 use Rattle.cost_theory.proofs.Laws.{some_get}
 use Rattle.cost_theory.specs.Reached.{edge_at}
-use Rattle.least_laws.specs.Charged.{Charged}
+use Rattle.cycle_laws.specs.Charged.{Charged}
 use Rattle.code_graph.specs.FlowGraph.{FlowGraph, graph, IsFlowGraph}
 use Rattle.loop_tree.specs.Tree.{loops}
 use Rattle.loop_tree.proofs.Laws.{source_number}
 use Rattle.level_tables.specs.Tables.{EdgeNumbers, at_row}
-use Rattle.stub_runs.specs.Meaning.{four_bits}
+use Rattle.stored_runs.specs.Meaning.{four_bits}
 use Rattle.stored_runs.specs.Marks.{tail_cycles}
 use Rattle.paid_runs.specs.Tabled.{told_on, IsSafeEntry}
 use Rattle.foreign_scan.specs.declared.fragment.ForeignFragment.{ForeignFragment}

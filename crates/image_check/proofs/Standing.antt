@@ -22,9 +22,9 @@ use Rattle.rv_encode.specs.Jumps.{distance}
 use Rattle.cost_theory.specs.Graph.{Loops}
 use Rattle.stub_writer.specs.Fragments.{fragment_code, code_len, fragment_rows, rows_len, exit_code}
 use Rattle.stub_writer.specs.Stubs.{Way, way, fragments_code, way_rows, rows_by, jump, jump_at}
-use Rattle.stub_runs.specs.Meaning.{StandsAt, Stand}
-use Rattle.stub_runs.specs.Held.{Lie, KeyedFrom, WayStands, ForkStands}
-use Rattle.stub_runs.proofs.Laws.{keyed_fetched, codes_length}
+use Rattle.stored_runs.specs.Meaning.{StandsAt, Stand}
+use Rattle.stored_runs.specs.Held.{Lie, KeyedFrom, WayStands, ForkStands}
+use Rattle.stored_runs.proofs.Laws.{keyed_fetched, codes_length}
 use Rattle.foreign_scan.specs.declared.fragment.ForeignFragment.{ForeignFragment}
 use Rattle.foreign_scan.specs.declared.fragment.ForeignFragment.TheVariants.{Switch, Exit, Reset, Count}
 use Rattle.foreign_scan.specs.Form.{IsKeyWord, HoldsAt, Hold, foreign_code, foreign_len, IsForeign, ChoosesNone, FirstChooses, behind_fragments, IsRunOut, IsFork, AreRowsIn}

@@ -19,7 +19,7 @@ use Rattle.cost_theory.specs.Graph.{Graph, Loops, only, any_below}
 use Rattle.cost_theory.specs.Reached.{Code, edge_at}
 use Rattle.cost_theory.specs.Worst.{Numbers, cost, slack, rest}
 use Rattle.cost_theory.proofs.Laws.{some_get}
-use Rattle.least_laws.specs.Charged.{Charged, to_end_after}
+use Rattle.cycle_laws.specs.Charged.{Charged, to_end_after}
 use Rattle.code_text.specs.Text.{Text, text_of}
 use Rattle.code_text.specs.EdgeCosts.{edge_class}
 use Rattle.code_text.specs.TextGraph.{text_graph}

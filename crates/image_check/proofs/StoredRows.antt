@@ -25,7 +25,7 @@ use Rattle.cost_theory.specs.Graph.{Graph, Loops}
 use Rattle.cost_theory.specs.Reached.{Reached, Code, edge_at, edges_of}
 use Rattle.cost_theory.specs.Worst.{Numbers}
 use Rattle.cost_theory.proofs.Laws.{Within, edge_of_word}
-use Rattle.least_laws.specs.Charged.{Charged}
+use Rattle.cycle_laws.specs.Charged.{Charged}
 use Rattle.code_text.specs.Text.{Text, text_of, instr_at, instr_kind, kind_at}
 use Rattle.code_text.specs.EdgeCosts.{class_by, edge_class, weights}
 use Rattle.code_text.specs.TextGraph.{text_graph}
@@ -37,7 +37,7 @@ use Rattle.loop_tree.specs.Tree.{LoopView, loops}
 use Rattle.level_tables.specs.Tables as tables
 use Rattle.scale_sites.specs.Counters.{counted_loops}
 use Rattle.stub_writer.specs.Stubs.{Site, Place, Forked, Straight}
-use Rattle.stub_runs.specs.Cycles.{fragment_cost}
+use Rattle.stored_runs.specs.Cycles.{fragment_cost}
 use Rattle.stored_runs.specs.Marks.{place_at, fragments_of_class, jumps_by}
 use Rattle.stored_runs.specs.Patched.{IsPatched}
 use Rattle.paid_runs.specs.Marked.{extra_by, extra_site_weights}

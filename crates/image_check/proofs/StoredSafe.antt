@@ -14,7 +14,7 @@ use Rattle.cost_theory.specs.Graph.{Graph, Loops}
 use Rattle.cost_theory.specs.Laws.{IsAnalyzed}
 use Rattle.cost_theory.specs.Reached.{Code, edge_at}
 use Rattle.cost_theory.specs.Worst.{Numbers}
-use Rattle.least_laws.specs.Charged.{Charged, AreCharged}
+use Rattle.cycle_laws.specs.Charged.{Charged, AreCharged}
 use Rattle.code_text.specs.Text.{Text, text_of}
 use Rattle.code_text.specs.TextGraph.{text_graph}
 use Rattle.graph_runs.proofs.Laws.{text_of_layout, word_bound}
@@ -25,11 +25,10 @@ use Rattle.loop_tree.specs.Tree.{LoopView, loops}
 use Rattle.elf_patch.specs.Stored.{stored_image}
 use Rattle.stored_laws.specs.StoredView.{over_file, insert_segment, block_segment, stored_view}
 use Rattle.stub_writer.specs.Stubs.{Site, Place, out_of_reach, patches_from, block_words, block_bytes}
-use Rattle.stub_runs.proofs.Laws.{block_length}
+use Rattle.stored_runs.proofs.Laws.{block_length, frame, stubbed_patched}
 use Rattle.stored_runs.specs.Marks.{place_at}
 use Rattle.stored_runs.specs.Stubbed.{IsOfImage}
 use Rattle.stored_runs.specs.Patched.{IsPatched}
-use Rattle.stored_runs.proofs.Laws.{frame, stubbed_patched}
 use Rattle.paid_runs.specs.Marked.{extra_site_weights}
 use Rattle.paid_runs.specs.Timely.{weights_of}
 use Rattle.foreign_scan.specs.Scanned.{Found, segment_place, segment_places}

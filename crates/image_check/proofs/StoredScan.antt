@@ -27,7 +27,7 @@ use Rattle.code_text.specs.EdgeCosts.{class_by, edge_class}
 use Rattle.code_text.specs.TextGraph.{IsReachedCode}
 use Rattle.code_text.proofs.Laws.{kind_facts}
 use Rattle.stub_writer.specs.Stubs.{Site, Way, Place, Forked, Straight, jump}
-use Rattle.stub_runs.specs.Held.{WayStands, StubStands}
+use Rattle.stored_runs.specs.Held.{WayStands, StubStands}
 use Rattle.stored_runs.specs.Marks.{place_at, fragments_of_class}
 use Rattle.stored_runs.specs.Stubbed.{IsOfImage}
 use Rattle.stored_runs.specs.Patched.{IsSafeEdge, AreSafeEdges, HasStub, IsPatched}

@@ -13,7 +13,7 @@ use Rattle.cost_theory.specs.Reached.{Code}
 use Rattle.code_text.specs.Text.{Text, text_of, instr_at}
 use Rattle.code_text.specs.TextGraph.{IsReachedCode}
 use Rattle.stub_writer.specs.Stubs.{Site, Way, Place, Forked, Straight, way}
-use Rattle.stub_runs.specs.Held.{WayStands, StubStands}
+use Rattle.stored_runs.specs.Held.{WayStands, StubStands}
 use Rattle.stored_runs.specs.Marks.{place_at}
 use Rattle.stored_runs.specs.Stubbed.{IsOfImage}
 use Rattle.stored_runs.specs.Patched.{IsSafeEdge, AreSafeEdges, IsPatched, HasStub}

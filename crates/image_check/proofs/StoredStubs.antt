@@ -17,9 +17,9 @@ use Rattle.scale_base.specs.State.{Setting, word_at}
 use Rattle.scale_base.proofs.Laws.{word_back}
 use Rattle.rv_encode.specs.Jumps.{distance}
 use Rattle.stub_writer.specs.Stubs.{Way, Place, Forked, Straight, fragments_code, jump, jump_at}
-use Rattle.stub_runs.specs.Meaning.{StandsAt, Stand}
-use Rattle.stub_runs.specs.Held.{WayStands, ForkStands, StubStands}
-use Rattle.stub_runs.proofs.Laws.{codes_length}
+use Rattle.stored_runs.specs.Meaning.{StandsAt, Stand}
+use Rattle.stored_runs.specs.Held.{WayStands, ForkStands, StubStands}
+use Rattle.stored_runs.proofs.Laws.{codes_length}
 use Rattle.stored_runs.specs.Patched.{IsSafeEdge}
 use Rattle.foreign_scan.specs.declared.fragment.ForeignFragment.{ForeignFragment}
 use Rattle.foreign_scan.specs.Form.{HoldsAt, Hold, behind_fragments, JumpsTo, IsRunOut, IsStub}

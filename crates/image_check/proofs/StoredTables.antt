@@ -13,8 +13,8 @@ use Rattle.scale_base.specs.State.{Setting}
 use Rattle.cost_theory.specs.Graph.{Loops}
 use Rattle.stub_writer.specs.Fragments.{fragment_code, code_len, fragment_rows, rows_len}
 use Rattle.stub_writer.specs.Stubs.{fragments_code, rows_by}
-use Rattle.stub_runs.specs.Held.{Lie, LiesAt}
-use Rattle.stub_runs.proofs.Laws.{lie_left}
+use Rattle.stored_runs.specs.Held.{Lie, LiesAt}
+use Rattle.stored_runs.proofs.Laws.{lie_left}
 use Rattle.stored_runs.specs.Stubbed.{IsQuiet, AreOrdered}
 use Rattle.stored_runs.specs.Patched.{IsSafeFragment}
 use Rattle.foreign_scan.specs.declared.fragment.ForeignFragment.{ForeignFragment}

@@ -8,8 +8,8 @@ use Rattle.scale_base.specs.State.{word_at}
 use Rattle.power_model.specs.Numbers.{PowerModel}
 use Rattle.cost_theory.specs.Graph.{Graph, Loops, leaves}
 use Rattle.cost_theory.specs.Worst.{Numbers}
-use Rattle.least_laws.specs.Charged.{Charged}
-use Rattle.stub_runs.specs.Meaning.{four_bits}
+use Rattle.cycle_laws.specs.Charged.{Charged}
+use Rattle.stored_runs.specs.Meaning.{four_bits}
 use Rattle.stored_runs.specs.Marks.{tail_cycles}
 use Rattle.stored_runs.specs.Stubbed as stubbed
 use Rattle.stored_runs.specs.Stubbed.{AreOrdered, IsQuiet}

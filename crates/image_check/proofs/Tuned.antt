@@ -17,7 +17,7 @@ use Rattle.cost_theory.specs.Graph.{Graph, Loops, leaves}
 use Rattle.cost_theory.specs.Reached.{Reached, LeadsTo, Code, edge_at, edge_to, edges_of, call_returns, callee_of, place_after}
 use Rattle.cost_theory.specs.Worst.{Numbers}
 use Rattle.cost_theory.proofs.Laws.{callee_word, Within, edge_of_word, word_edge}
-use Rattle.least_laws.specs.Charged.{Charged}
+use Rattle.cycle_laws.specs.Charged.{Charged}
 use Rattle.code_text.specs.Text.{Text, text_of, instr_at, instr_kind, kind_at}
 use Rattle.code_text.specs.TextGraph.{text_graph}
 use Rattle.graph_runs.specs.Laws.{IsProgramOf}

@@ -8,9 +8,9 @@ use Rattle.power_model.specs.Switches.{costs_of}
 use Rattle.cost_theory.specs.Graph.{Graph, Loops}
 use Rattle.cost_theory.specs.Reached.{Code}
 use Rattle.cost_theory.specs.Worst.{Numbers}
-use Rattle.least_laws.specs.Charged.{Charged}
+use Rattle.cycle_laws.specs.Charged.{Charged}
 use Rattle.level_tables.specs.Tables.{EdgeNumbers, at_row}
-use Rattle.stub_runs.specs.Meaning.{four_bits}
+use Rattle.stored_runs.specs.Meaning.{four_bits}
 use Rattle.stored_runs.specs.Marks.{tail_cycles}
 use Rattle.paid_runs.specs.Tabled.{told_on, IsSafeEntry}
 use Rattle.foreign_scan.specs.declared.fragment.ForeignFragment.{ForeignFragment}

@@ -5,7 +5,7 @@ use Rattle.power_model.specs.Numbers.{PowerModel}
 use Rattle.cost_theory.specs.Graph.{Graph, Loops}
 use Rattle.cost_theory.specs.Reached.{Code}
 use Rattle.cost_theory.specs.Worst.{Numbers}
-use Rattle.least_laws.specs.Charged.{Charged, to_end_after}
+use Rattle.cycle_laws.specs.Charged.{Charged, to_end_after}
 use Rattle.code_text.specs.Text.{text_of}
 use Rattle.code_graph.specs.FlowGraph.{FlowGraph, graph, IsGraphOf}
 use Rattle.loop_tree.specs.Tree.{LoopView, loops, IsLoopTree}

@@ -10,7 +10,7 @@ use Rattle.power_model.specs.Price.{cycles_of}
 use Rattle.power_model.specs.Switches.{costs_of}
 use Rattle.cost_theory.specs.Graph.{Loops}
 use Rattle.cost_theory.specs.Worst.{Numbers}
-use Rattle.least_laws.specs.Charged.{Charged}
+use Rattle.cycle_laws.specs.Charged.{Charged}
 use Rattle.code_graph.specs.FlowGraph.{graph}
 use Rattle.loop_tree.specs.Tree.{loops}
 use Rattle.stored_runs.specs.Marks.{tail_cycles}

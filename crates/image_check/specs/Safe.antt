@@ -16,13 +16,13 @@ use Rattle.scale_base.specs.declared.edges.EdgeKind.{EdgeKind}
 use Rattle.scale_base.specs.declared.edges.EdgeKind.TheVariants.{Taken, Untaken, Jump}
 use Rattle.cost_theory.specs.Graph.{Graph, Loops, is_back, leaves}
 use Rattle.cost_theory.specs.Laws.{IsAnalyzed}
-use Rattle.least_laws.specs.Charged.{Charged, AreCharged}
+use Rattle.cycle_laws.specs.Charged.{Charged, AreCharged}
 use Rattle.cost_theory.specs.Reached.{Code}
 use Rattle.cost_theory.specs.Worst.{Numbers}
 use Rattle.code_text.specs.Text.{text_of, instr_at}
 use Rattle.code_text.specs.TextGraph.{text_graph}
 use Rattle.stub_writer.specs.Stubs.{Site, Place, Forked, Straight, way}
-use Rattle.stub_runs.specs.Meaning.{four_bits}
+use Rattle.stored_runs.specs.Meaning.{four_bits}
 use Rattle.stored_runs.specs.Marks.{tail_cycles}
 use Rattle.paid_runs.specs.Marked.{extra_site_weights}
 use Rattle.power_model.specs.Switches.{period, costs_of}

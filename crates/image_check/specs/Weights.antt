@@ -12,7 +12,7 @@ use Rattle.code_text.specs.Text.{text_of}
 use Rattle.code_graph.specs.FlowGraph.{FlowGraph}
 use Rattle.loop_tree.specs.Tree.{LoopView, loops}
 use Rattle.worst_cycles.specs.Worst.{by_edge}
-use Rattle.stub_runs.specs.Cycles.{fragment_cost}
+use Rattle.stored_runs.specs.Cycles.{fragment_cost}
 use Rattle.paid_runs.specs.Marked.{extra_site_weights, stored_site_weights}
 use Rattle.foreign_scan.specs.declared.fragment.ForeignFragment.{ForeignFragment}
 use Rattle.foreign_scan.specs.declared.fragment.ForeignFragment.TheVariants.{Switch, Exit, Reset, Count}

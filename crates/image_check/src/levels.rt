@@ -3,7 +3,7 @@
 ghost use Rattle.std.specs.Prelude.{◌≡◌, ◌↔◌, ◌<◌, ◌≤◌, ◌+◌, ◌*◌, ◌^◌, ℕ, true, List, [], ◌∷◌, Some, None, length, option_map, IfOk, IfSome};
 ghost use Rattle.scale_base.specs.Image.{Image};
 ghost use Rattle.cost_theory.specs.Worst.{Numbers};
-ghost use Rattle.least_laws.specs.Charged.{Charged};
+ghost use Rattle.cycle_laws.specs.Charged.{Charged};
 ghost use Rattle.loop_tree.specs.Tree.{loops};
 ghost use Rattle.foreign_scan.specs.declared.fragment.ForeignFragment.{ForeignFragment};
 ghost use Rattle.foreign_scan.specs.Scanned.{Found};

@@ -16,13 +16,12 @@ use Rattle.scale_base.specs.Step.{Outcome, step}
 use Rattle.scale_base.specs.Run.{Run, Standing, GoesOn, HasExited, HasTrapped, begin, ended, one_more_by, one_more, run, run_of, setting_of, start_of, starting_level}
 use Rattle.scale_base.specs.Run as runs
 use Rattle.scale_base.proofs.Laws.{run_step}
-use Rattle.stub_runs.specs.Meaning.{StepsLead}
-use Rattle.stub_runs.proofs.Laws.{leads_none, leads_on}
-use Rattle.stored_runs.proofs.Laws.{laid, byte_seen, hidden}
+use Rattle.stored_runs.specs.Meaning.{StepsLead}
+use Rattle.stored_runs.proofs.Laws.{leads_none, leads_on, laid, byte_seen, hidden}
 use Rattle.jump_lists.specs.declared.notes.JumpNote.{JumpNote}
 use Rattle.image_lower.specs.FarJumps.{far_jump}
 use Rattle.image_lower.specs.Block.{block_len, greatest_depth}
-use Rattle.stub_runs.specs.Cycles.{stepped_cycles}
+use Rattle.stored_runs.specs.Cycles.{stepped_cycles}
 use Rattle.image_lower.specs.Meets.{HoldsTarget, KeepsToLists, AreSameStates, IsSoFar, FollowsLowered, in_block, is_noted_jump, tree_cycles, jumps_taken}
 use Rattle.image_lower.proofs.FarParts.{entry_near}
 use Rattle.image_lower.proofs.LoweredFrame.{IsFrame}

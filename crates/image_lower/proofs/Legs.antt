@@ -31,12 +31,11 @@ use Rattle.machine_laws.proofs.Laws.{step_length, step_performs}
 use Rattle.code_text.specs.Text.{text_of, instr_at}
 use Rattle.code_text.specs.Text as texts
 use Rattle.graph_runs.proofs.Laws.{word_within, word_bound, word_same, not_written, IsTrap, step_done, went_at}
-use Rattle.stub_runs.specs.Meaning.{StepsLead}
-use Rattle.stub_runs.proofs.Laws.{leads_none, leads_first}
-use Rattle.stored_runs.proofs.Laws.{laid, SeeAlike, over, seen, step_alike, hidden, word_by, word_stays}
+use Rattle.stored_runs.specs.Meaning.{StepsLead}
+use Rattle.stored_runs.proofs.Laws.{leads_none, leads_first, laid, SeeAlike, over, seen, step_alike, hidden, word_by, word_stays}
 use Rattle.jump_lists.specs.declared.notes.JumpNote.{JumpNote}
 use Rattle.image_lower.specs.FarJumps.{far_jump, far_target}
-use Rattle.stub_runs.specs.Cycles.{stepped_cycles}
+use Rattle.stored_runs.specs.Cycles.{stepped_cycles}
 use Rattle.stub_writer.specs.Stubs.{jump}
 use Rattle.image_lower.specs.Trees.{whole_tree, tree_depth}
 use Rattle.image_lower.specs.Block.{register, block_len, greatest_depth}

@@ -23,9 +23,9 @@ use Rattle.scale_base.specs.Step.{step, goes, stepped, sets, jumps, branches, pe
 use Rattle.scale_base.proofs.Laws.{word_back}
 use Rattle.rv_encode.specs.Jumps.{distance}
 use Rattle.machine_laws.proofs.Laws.{step_performs}
-use Rattle.stub_runs.specs.Meaning.{StepsLead}
-use Rattle.stub_runs.proofs.Laws.{leads_none, leads_first}
-use Rattle.stub_runs.specs.Cycles.{stepped_cycles}
+use Rattle.stored_runs.specs.Meaning.{StepsLead}
+use Rattle.stored_runs.proofs.Laws.{leads_none, leads_first}
+use Rattle.stored_runs.specs.Cycles.{stepped_cycles}
 use Rattle.stub_writer.specs.Fragments.{hi, lo}
 use Rattle.stub_writer.specs.Stubs.{jump}
 use Rattle.image_lower.specs.Trees.{has_bit, lacks_bit, are_alike, leaf, fork, tree, tree_depth}

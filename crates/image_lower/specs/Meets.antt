@@ -9,7 +9,7 @@ use Rattle.scale_base.specs.Layout.{in_text, layout_of}
 use Rattle.scale_base.specs.State.{State, reg}
 use Rattle.scale_base.specs.Run.{Run, Standing, GoesOn, HasExited, HasTrapped, run_of}
 use Rattle.elf_patch.specs.Stored.{IsStubBase}
-use Rattle.stub_runs.specs.Cycles.{stepped_cycles}
+use Rattle.stored_runs.specs.Cycles.{stepped_cycles}
 use Rattle.jump_lists.specs.declared.notes.JumpNote.{JumpNote}
 use Rattle.jump_lists.specs.Notes.{AreJumpNotes}
 use Rattle.scale_base.specs.declared.summary.Lowered.{Lowered}

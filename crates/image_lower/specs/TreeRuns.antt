@@ -7,8 +7,8 @@ use Rattle.scale_base.specs.declared.stepping.Stepped.{Stepped}
 use Rattle.scale_base.specs.Layout.{can_fetch}
 use Rattle.scale_base.specs.State.{Setting, State, reg, word_at}
 use Rattle.scale_base.specs.Word.{Encodes}
-use Rattle.stub_runs.specs.Cycles.{stepped_cycles}
-use Rattle.stub_runs.specs.Meaning.{StepsLead}
+use Rattle.stored_runs.specs.Cycles.{stepped_cycles}
+use Rattle.stored_runs.specs.Meaning.{StepsLead}
 use Rattle.image_lower.specs.Trees.{whole_tree, tree_depth}
 use Rattle.image_lower.specs.Meets.{tree_cycles}
 

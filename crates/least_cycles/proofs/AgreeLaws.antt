@@ -9,8 +9,8 @@ use Rattle.code_graph.specs.FlowGraph.{FlowGraph, graph}
 use Rattle.loop_tree.specs.Noted.{node_address}
 use Rattle.loop_tree.proofs.Laws.{source_number}
 use Rattle.loop_tree.specs.Tree.{LoopView, loops}
-use Rattle.least_laws.specs.Charged.{Charged, calls_so, calls_exit, charged_cost, leads_on, ends_exit}
-use Rattle.least_laws.proofs.Laws.{least_same}
+use Rattle.cycle_laws.specs.Charged.{Charged, calls_so, calls_exit, charged_cost, leads_on, ends_exit}
+use Rattle.cycle_laws.proofs.Laws.{least_same}
 use Rattle.least_cycles.specs.Hops.{number_in_table}
 use Rattle.least_cycles.specs.Functions.{IsBucket, IsFromFirst}
 use Rattle.least_cycles.specs.Tables.{value_beside, least_by, AreWalksOf, ArePriced, IsBefore}

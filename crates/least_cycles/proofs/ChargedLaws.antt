@@ -3,8 +3,8 @@ use Rattle.std.proofs.Common.{◌≡◌, ◌≢◌, ℕ, ◌*◌, ◌<◌, Bool,
 use Rattle.cost_theory.specs.Graph.{Graph, Loops, is_round, is_header, is_back, enters}
 use Rattle.cost_theory.specs.Accepted.{IsProgram, AreAccepted, AreWeights}
 use Rattle.cost_theory.proofs.Laws.{and_left, and_right, and_both, not_true, some_same, entered-header, no_numbers, charge_none, charge_one}
-use Rattle.least_laws.specs.Charged.{Charged, charged_trips, charge_of, AreCharged}
-use Rattle.least_laws.proofs.Laws.{nest}
+use Rattle.cycle_laws.specs.Charged.{Charged, charged_trips, charge_of, AreCharged}
+use Rattle.cycle_laws.proofs.Laws.{nest}
 
 -- an accepted program with weights and its least cycles
 pub record IsNumbered (g : Graph) (l : Loops) (extent : ℕ → ℕ → Bool) (w : ℕ → ℕ) (n : Charged) : Type 0 where

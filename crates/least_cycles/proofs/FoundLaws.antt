@@ -10,9 +10,9 @@ use Rattle.cost_theory.specs.Least.{Least, IsLeastIfAny, IsWay, way_cost}
 use Rattle.code_graph.specs.FlowGraph.{FlowGraph, graph, IsFlowGraph}
 use Rattle.loop_tree.specs.Noted.{node_address}
 use Rattle.loop_tree.specs.Tree.{LoopView, loops, IsLoopTree}
-use Rattle.least_laws.specs.Charged.{Charged, AreCharged, charge_of, end_behind, to_end_after}
-use Rattle.least_laws.specs.Laws.{HaveFewTrips}
-use Rattle.least_laws.proofs.Laws.{charged_exist}
+use Rattle.cycle_laws.specs.Charged.{Charged, AreCharged, charge_of, end_behind, to_end_after}
+use Rattle.cycle_laws.specs.LeastLaws.{HaveFewTrips}
+use Rattle.cycle_laws.proofs.Laws.{charged_exist}
 use Rattle.least_cycles.specs.declared.charges.Charges.{Charges}
 use Rattle.least_cycles.specs.Hops.{number_in_table}
 use Rattle.least_cycles.specs.Tables.{least_by, AreWalksOf, IsAnyFunction}

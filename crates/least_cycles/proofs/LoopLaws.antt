@@ -13,8 +13,8 @@ use Rattle.loop_tree.specs.Noted.{node_address}
 use Rattle.loop_tree.proofs.Laws.{one_number, source_number}
 use Rattle.loop_tree.specs.Tree.{LoopView, loops, IsAtPlace}
 use Rattle.graph_algorithms.specs.Keys.{option_at, HasKey, IsLastBelow}
-use Rattle.least_laws.specs.Charged.{Charged, calls_exit, is_closed, charge_of, charged_cost}
-use Rattle.least_laws.proofs.Laws.{least_same}
+use Rattle.cycle_laws.specs.Charged.{Charged, calls_exit, is_closed, charge_of, charged_cost}
+use Rattle.cycle_laws.proofs.Laws.{least_same}
 use Rattle.least_cycles.specs.declared.charges.Charges.{Charges}
 use Rattle.least_cycles.specs.Hops.{number_in_table}
 use Rattle.least_cycles.specs.Functions.{IsBucket, AreKinds, ArePlacesIn, is_in_flags, IsNodeFlagged, IsFromFirst, AreLeastRuns}

@@ -8,9 +8,9 @@ use Rattle.cost_theory.specs.Least.{IsLeast, IsLeastIfAny, IsUpTo, callee_value,
 use Rattle.cost_theory.specs.LeastTurns.{IsRun, turn_step}
 use Rattle.cost_theory.proofs.Laws.{sum-le, and_right, and_both, and_false, some_same, accepted_entered, header_held, header_closes, entered-header, no_numbers, worst_equation, plain_from_entry, least_up_to, turns-worst}
 use Rattle.cost_theory.proofs.Laws as theory
-use Rattle.least_laws.specs.Charged.{Charged, is_closed, charged_trips, charge_of, charged_cost, leads_on}
-use Rattle.least_laws.specs.Laws.{HaveFewTrips}
-use Rattle.least_laws.proofs.Laws.{nest, Turn, inner_rank, closing_run, body_owner}
+use Rattle.cycle_laws.specs.Charged.{Charged, is_closed, charged_trips, charge_of, charged_cost, leads_on}
+use Rattle.cycle_laws.specs.LeastLaws.{HaveFewTrips}
+use Rattle.cycle_laws.proofs.Laws.{nest, Turn, inner_rank, closing_run, body_owner}
 use Rattle.least_cycles.proofs.ChargedLaws.{IsNumbered, charged_back}
 
 module _ (g : Graph) (l : Loops) (extent : ℕ → ℕ → Bool) (w : ℕ → ℕ) (n : Charged) (a : Numbers) (is : IsNumbered g l extent w n) (nums : AreNumbers g l w a) (few : HaveFewTrips l) where

@@ -9,7 +9,7 @@ use Rattle.code_graph.specs.FlowGraph.{FlowGraph, graph, IsFlowGraph}
 use Rattle.loop_tree.specs.Noted.{node_address}
 use Rattle.loop_tree.specs.Tree.{LoopView, loops, IsLoopTree}
 use Rattle.graph_algorithms.specs.Keys.{ChainView, option_at, AreChains}
-use Rattle.least_laws.specs.Charged.{Charged, AreCharged, charged_trips, charge_of}
+use Rattle.cycle_laws.specs.Charged.{Charged, AreCharged, charged_trips, charge_of}
 use Rattle.least_cycles.specs.declared.charges.Charges.{Charges}
 use Rattle.least_cycles.specs.declared.plan.Plan.{Plan}
 use Rattle.least_cycles.specs.declared.turns.Marks.{Marks}

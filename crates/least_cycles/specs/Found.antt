@@ -5,7 +5,7 @@ use Rattle.cost_theory.specs.Graph.{Loops}
 use Rattle.cost_theory.specs.Worst.{Numbers, AreNumbers}
 use Rattle.cost_theory.specs.Least.{Least}
 use Rattle.code_graph.specs.FlowGraph.{FlowGraph, graph}
-use Rattle.least_laws.specs.Charged.{Charged, AreCharged, to_end_after}
+use Rattle.cycle_laws.specs.Charged.{Charged, AreCharged, to_end_after}
 use Rattle.least_cycles.specs.Ends.{end_place}
 
 pub record LeastView : Type 0 where

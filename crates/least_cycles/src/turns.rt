@@ -6,7 +6,7 @@ ghost use Rattle.cost_theory.specs.LeastTurns.{turn_step, turn_last};
 ghost use Rattle.code_graph.specs.FlowGraph.{graph as graph_seen, IsFlowGraph};
 ghost use Rattle.loop_tree.specs.Noted.{node_address};
 ghost use Rattle.loop_tree.specs.Tree.{loops, IsLoopTree};
-ghost use Rattle.least_laws.specs.Charged.{Charged};
+ghost use Rattle.cycle_laws.specs.Charged.{Charged};
 ghost use Rattle.least_cycles.specs.Functions.{ArePlacesIn, AreNodeNumbers, IsNodeFlagged, IsFromFirst};
 ghost use Rattle.least_cycles.specs.Charging.{IsBodyOf, AreTurnKinds, AreChargeMarks, AreCharges, IsChargeKnown, loop_charge};
 

@@ -4,7 +4,7 @@ ghost use Rattle.std.specs.Prelude.{◌≡◌, ◌≢◌, ℕ, Bool, ◌+◌, �
 ghost use Rattle.graph_algorithms.specs.Arcs.{number_in_place, AreDistinct};
 ghost use Rattle.code_graph.specs.FlowGraph.{IsFlowGraph};
 ghost use Rattle.loop_tree.specs.Tree.{IsLoopTree};
-ghost use Rattle.least_laws.specs.Charged.{Charged};
+ghost use Rattle.cycle_laws.specs.Charged.{Charged};
 ghost use Rattle.least_cycles.specs.Tables.{AreWritten, IsBefore, IsAnyFunction};
 ghost use Rattle.least_cycles.specs.Charging.{IsCharging, HasCharging, HasWalks, AreChargeMarks, AreCharges, AreChargedTo, ArePricedAt, loop_owner, IsChargePlan, IsScratch};
 

@@ -7,7 +7,7 @@ use Rattle.scale_base.specs.declared.stepping.Class.{Class}
 use Rattle.scale_base.specs.declared.stepping.Stepped.{Stepped}
 use Rattle.power_model.specs.Numbers.{PowerModel}
 use Rattle.power_model.specs.Price.{level_after}
-use Rattle.stub_runs.specs.Cycles.{stepped_cycles}
+use Rattle.stored_runs.specs.Cycles.{stepped_cycles}
 use Rattle.stored_runs.specs.Legs.{StoresLevel}
 use Rattle.power_model.specs.Switches.{energy, costs_of, NeverRises, switches_from, saved, fee, AllPay}
 use Rattle.paid_runs.proofs.LegPrice.{AreSilent}

@@ -11,7 +11,7 @@ use Rattle.power_model.specs.Levels.{level, AreRanked}
 use Rattle.power_model.specs.Numbers.{PowerModel, RunPrice}
 use Rattle.power_model.specs.Pairs.{pair_at}
 use Rattle.power_model.specs.Price.{level_after, metered, price, unstarted, switch_energy, held_energy}
-use Rattle.stub_runs.specs.Cycles.{stepped_cycles}
+use Rattle.stored_runs.specs.Cycles.{stepped_cycles}
 use Rattle.power_model.specs.Switches.{energy, costs_of, NeverRises, Switch, switches_from, saved, fee, AllPay}
 
 -- ---- the order of levels

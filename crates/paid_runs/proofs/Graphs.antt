@@ -21,7 +21,7 @@ use Rattle.code_text.specs.TextGraph.{text_graph}
 use Rattle.graph_runs.specs.Laws.{IsProgramOf}
 use Rattle.code_text.proofs.Laws.{kind_facts, weights_are}
 use Rattle.stub_writer.specs.Stubs.{Site, Place, Forked, Straight}
-use Rattle.stub_runs.specs.Cycles.{fragment_cost}
+use Rattle.stored_runs.specs.Cycles.{fragment_cost}
 use Rattle.stored_runs.specs.Marks.{place_at, fragments_of_class, jumps_by}
 use Rattle.stored_runs.specs.Stubbed.{IsSafeSite, IsOfImage}
 use Rattle.stored_runs.specs.Patched.{IsPatched}

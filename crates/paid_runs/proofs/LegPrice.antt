@@ -9,7 +9,7 @@ use Rattle.scale_base.specs.declared.stepping.Stepped.{Stepped}
 use Rattle.power_model.specs.Numbers.{PowerModel, RunPrice}
 use Rattle.power_model.specs.Price.{level_after, metered, switch_time, time_at}
 use Rattle.stub_writer.specs.Stubs.{Site}
-use Rattle.stub_runs.specs.Cycles.{stepped_cycles}
+use Rattle.stored_runs.specs.Cycles.{stepped_cycles}
 use Rattle.stored_runs.specs.Marks.{Shadow, fragments_over, tail_cycles, level_stored}
 use Rattle.stored_runs.specs.Legs.{Leg, StoresLevel, IsLeg}
 use Rattle.power_model.specs.Switches.{period, costs_of}

@@ -14,19 +14,19 @@ use Rattle.power_model.specs.Price.{price, unstarted, held_energy}
 use Rattle.cost_theory.specs.Graph.{Graph, Loops}
 use Rattle.cost_theory.specs.Steps as steps
 use Rattle.cost_theory.proofs.Laws.{left_start, run-worst}
-use Rattle.least_laws.specs.Laws.{IsCharged}
-use Rattle.least_laws.proofs.Laws.{plain_returns}
+use Rattle.cycle_laws.specs.LeastLaws.{IsCharged}
+use Rattle.cycle_laws.proofs.Laws.{plain_returns}
 use Rattle.code_text.specs.Text.{text_of, kind_at, Text}
 use Rattle.code_text.specs.TextGraph.{text_graph}
 use Rattle.cost_theory.specs.Worst.{Numbers}
-use Rattle.least_laws.specs.Charged.{Charged, AreCharged}
+use Rattle.cycle_laws.specs.Charged.{Charged, AreCharged}
 use Rattle.cost_theory.specs.Laws.{IsAnalyzed}
 use Rattle.cost_theory.specs.Reached.{Code}
 use Rattle.graph_runs.specs.KeptSteps.{Carried}
 use Rattle.graph_runs.specs.Laws.{IsProgramOf}
 use Rattle.graph_runs.specs.KeptRuns.{ExitsBy, IsKeptRun}
 use Rattle.stub_writer.specs.Stubs.{Site}
-use Rattle.stub_runs.specs.Cycles.{stepped_cycles}
+use Rattle.stored_runs.specs.Cycles.{stepped_cycles}
 use Rattle.stored_runs.specs.Marks.{stored_cycles, extra_cycles, shadow_first}
 use Rattle.stored_runs.specs.Legs.{originals, all_steps}
 use Rattle.stored_runs.proofs.Laws.{cost_of_legs, short_legs, long_legs}

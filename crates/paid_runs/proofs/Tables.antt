@@ -14,11 +14,11 @@ use Rattle.cost_theory.specs.Graph.{Graph, Loops, AreWithin, leaves, only}
 use Rattle.cost_theory.specs.Worst.{Numbers, cost, slack, rest, turns, left_behind}
 use Rattle.cost_theory.proofs.Laws.{term-le-sum, only_true, and_left}
 use Rattle.cost_theory.specs.Reached.{edge_at}
-use Rattle.least_laws.specs.Charged.{Charged, to_end_after}
+use Rattle.cycle_laws.specs.Charged.{Charged, to_end_after}
 use Rattle.code_text.specs.TextGraph.{text_graph}
 use Rattle.level_tables.specs.Tables.{EdgeNumbers, is_switch_in_time, pays, trips_left, at_row}
 use Rattle.level_tables.proofs.Laws.{trips_left-le}
-use Rattle.stub_runs.specs.Meaning.{four_bits}
+use Rattle.stored_runs.specs.Meaning.{four_bits}
 use Rattle.stored_runs.specs.Marks.{Shadow, place_at, fragments_of_class, level_stored, tail_cycles}
 use Rattle.paid_runs.specs.Timely.{weights_of, IsChosen}
 use Rattle.paid_runs.specs.Tabled.{told_on, IsSafeEntry, AreRowsOf, IsEdgeTabledBy}

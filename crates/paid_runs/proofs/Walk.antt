@@ -17,14 +17,14 @@ use Rattle.cost_theory.specs.Reached.{Code, edge_at}
 use Rattle.cost_theory.specs.Steps as steps
 use Rattle.cost_theory.specs.Steps.Transition.{Along, Call, Return, Exit}
 use Rattle.cost_theory.proofs.Laws.{sound_run, sound_after, step_law, along_at, behind-rest, call_order}
-use Rattle.least_laws.specs.Charged.{Charged, to_end_after}
-use Rattle.least_laws.specs.Laws.{IsCharged}
-use Rattle.least_laws.proofs.Laws.{exit_behind}
+use Rattle.cycle_laws.specs.Charged.{Charged, to_end_after}
+use Rattle.cycle_laws.specs.LeastLaws.{IsCharged}
+use Rattle.cycle_laws.proofs.Laws.{exit_behind}
 use Rattle.code_text.specs.Text.{Text}
 use Rattle.code_text.specs.TextGraph.{text_graph}
 use Rattle.graph_runs.proofs.Laws.{after-append}
 use Rattle.stub_writer.specs.Stubs.{Site}
-use Rattle.stub_runs.specs.Cycles.{stepped_cycles}
+use Rattle.stored_runs.specs.Cycles.{stepped_cycles}
 use Rattle.stored_runs.specs.Marks.{Shadow, place_at, fragments_of_class, fragments_over, stored_cycles, tail_cycles, level_stored, shadow_more, shadow_after}
 use Rattle.stored_runs.specs.Legs.{Leg, IsLeg, AreLegs, originals, all_steps}
 use Rattle.stored_runs.proofs.Laws.{cost_of_legs}

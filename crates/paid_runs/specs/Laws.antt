@@ -8,7 +8,7 @@ use Rattle.power_model.specs.Price.{price, held_energy}
 use Rattle.cost_theory.specs.Graph.{Loops}
 use Rattle.cost_theory.specs.Laws.{IsAnalyzed}
 use Rattle.cost_theory.specs.Worst.{Numbers}
-use Rattle.least_laws.specs.Charged.{Charged, AreCharged}
+use Rattle.cycle_laws.specs.Charged.{Charged, AreCharged}
 use Rattle.cost_theory.specs.Reached.{Code}
 use Rattle.code_text.specs.Text.{Text, text_of}
 use Rattle.code_text.specs.TextGraph.{text_graph}

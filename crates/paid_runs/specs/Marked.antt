@@ -15,7 +15,7 @@ use Rattle.code_text.specs.TextGraph.{text_graph}
 use Rattle.graph_runs.specs.KeptSteps.{Carried}
 use Rattle.graph_runs.specs.KeptRuns.{IsKeptRun}
 use Rattle.stub_writer.specs.Stubs.{Site}
-use Rattle.stub_runs.specs.Cycles.{fragment_cost}
+use Rattle.stored_runs.specs.Cycles.{fragment_cost}
 use Rattle.stored_runs.specs.Marks.{place_at, fragments_of_class, jumps_by, counters_behind, shadow_first, shadow_after}
 use Rattle.stored_runs.specs.Stubbed.{IsFollowed}
 use Rattle.paid_runs.specs.Shadows.{AreShown, count_over}

@@ -9,13 +9,13 @@ use Rattle.power_model.specs.Switches.{costs_of}
 use Rattle.cost_theory.specs.Graph.{Graph, Loops, leaves}
 use Rattle.cost_theory.specs.Worst.{Numbers, cost, slack, rest}
 use Rattle.cost_theory.specs.Reached.{Code, edge_at}
-use Rattle.least_laws.specs.Charged.{Charged, to_end_after}
+use Rattle.cycle_laws.specs.Charged.{Charged, to_end_after}
 use Rattle.code_text.specs.Text.{Text}
 use Rattle.code_text.specs.EdgeCosts.{edge_class}
 use Rattle.code_text.specs.TextGraph.{text_graph}
 use Rattle.level_tables.specs.Tables.{EdgeNumbers, meets_both, at_row}
 use Rattle.stub_writer.specs.Stubs.{Site}
-use Rattle.stub_runs.specs.Meaning.{four_bits}
+use Rattle.stored_runs.specs.Meaning.{four_bits}
 use Rattle.stored_runs.specs.Marks.{place_at, fragments_of_class, tail_cycles}
 use Rattle.paid_runs.specs.Timely.{weights_of}
 

@@ -9,7 +9,7 @@ use Rattle.cost_theory.specs.Graph.{Graph, Loops, AreWithin}
 use Rattle.cost_theory.specs.Worst.{Numbers, cost, slack, rest, left_behind}
 use Rattle.cost_theory.specs.Steps as steps
 use Rattle.cost_theory.specs.Reached.{Code, edge_at}
-use Rattle.least_laws.specs.Charged.{Charged, to_end_after}
+use Rattle.cycle_laws.specs.Charged.{Charged, to_end_after}
 use Rattle.code_text.specs.Text.{Text}
 use Rattle.code_text.specs.EdgeCosts.{edge_class}
 use Rattle.graph_runs.specs.RunTransitions.{after_transitions}

@@ -14,7 +14,7 @@ use Rattle.power_model.specs.Numbers.{PowerModel, IsPowerModel, RunPrice as Mete
 use Rattle.power_model.specs.Price.{price, held_energy}
 use Rattle.power_model.proofs.Laws.{cycles-price}
 use Rattle.cost_theory.specs.Graph.{Graph, Loops}
-use Rattle.least_laws.specs.Charged.{Charged}
+use Rattle.cycle_laws.specs.Charged.{Charged}
 use Rattle.cost_theory.specs.Worst.{Numbers}
 use Rattle.cost_theory.specs.Steps as steps
 use Rattle.cost_theory.proofs.Laws.{search_below}

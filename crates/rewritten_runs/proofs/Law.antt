@@ -17,7 +17,7 @@ use Rattle.stored_laws.specs.StoredView.{IsStorable, stored_view}
 use Rattle.stored_laws.proofs.Laws.{law}
 use Rattle.machine_laws.proofs.Laws.{found_in, found_passes}
 use Rattle.cost_theory.specs.Graph.{Graph, Loops}
-use Rattle.least_laws.specs.Charged.{Charged, AreCharged}
+use Rattle.cycle_laws.specs.Charged.{Charged, AreCharged}
 use Rattle.cost_theory.specs.Worst.{Numbers, AreNumbers}
 use Rattle.cost_theory.specs.Reached.{edge_at}
 use Rattle.cost_theory.proofs.Laws.{source_reached, some_get}

@@ -10,7 +10,7 @@ use Rattle.scale_base.specs.Image.{Image}
 use Rattle.power_model.specs.Numbers.{PowerModel}
 use Rattle.cost_theory.specs.Graph.{Graph, Loops, is_back, is_header, leaves, goes_back}
 use Rattle.cost_theory.specs.Accepted.{IsProgram}
-use Rattle.least_laws.specs.Charged.{Charged}
+use Rattle.cycle_laws.specs.Charged.{Charged}
 use Rattle.cost_theory.specs.Worst.{Numbers}
 use Rattle.cost_theory.specs.Reached.{Code, edge_at}
 use Rattle.cost_theory.proofs.Laws.{accepted_entered, header_held, is_program, some_get}

@@ -18,7 +18,7 @@ use Rattle.power_model.specs.Numbers.{PowerModel, IsPowerModel}
 use Rattle.scale_base.specs.declared.edges.Edge.{Edge}
 use Rattle.scale_base.specs.declared.edges.EdgeKind.TheVariants.{Taken, Untaken, Jump}
 use Rattle.cost_theory.specs.Graph.{Graph, Loops}
-use Rattle.least_laws.specs.Charged.{Charged}
+use Rattle.cycle_laws.specs.Charged.{Charged}
 use Rattle.cost_theory.specs.Worst.{Numbers}
 use Rattle.cost_theory.specs.Reached.{Code, Reached, LeadsTo, edges_of, call_returns, edge_at}
 use Rattle.cost_theory.proofs.Laws.{source_reached, Within, word_edge}

@@ -22,7 +22,7 @@ use Rattle.code_text.proofs.Laws.{ranges_apart}
 use Rattle.rv_encode.specs.Jumps.{distance}
 use Rattle.stub_writer.specs.Fragments.{code_len, fragment_rows}
 use Rattle.stub_writer.specs.Stubs.{Site, Place, Forked, Straight, way_rows, rows_by, stub_len, stub_len_of, stub_rows, stub_rows_of, stubs_len, block_rows, block_size, block_bytes, is_even, is_field, reaches, is_near, out_of_reach, stub_reaches_of}
-use Rattle.stub_runs.proofs.Laws.{codes_small, block_length, words_length}
+use Rattle.stored_runs.proofs.Laws.{codes_small, block_length, words_length}
 use Rattle.stored_runs.specs.Stubbed.{IsSafe, AreSafeWays, IsSafeSite}
 
 -- ---- reach

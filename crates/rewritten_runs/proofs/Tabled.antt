@@ -7,7 +7,7 @@ use Rattle.power_model.specs.Numbers.{PowerModel, IsPowerModel}
 use Rattle.power_model.specs.Price.{switch_time, switch_energy}
 use Rattle.scale_base.specs.declared.edges.EdgeKind.TheVariants as kind
 use Rattle.cost_theory.specs.Graph.{Graph, Loops, AreWithin, only, leaves}
-use Rattle.least_laws.specs.Charged.{Charged, to_end_after}
+use Rattle.cycle_laws.specs.Charged.{Charged, to_end_after}
 use Rattle.cost_theory.specs.Worst.{Numbers, cost, slack, rest, turns, left_behind}
 use Rattle.cost_theory.specs.Reached.{Code}
 use Rattle.cost_theory.proofs.Laws.{term-le-sum}

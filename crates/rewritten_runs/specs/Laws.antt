@@ -6,7 +6,7 @@ use Rattle.power_model.specs.Numbers.{PowerModel, IsPowerModel}
 use Rattle.power_model.specs.Slowest.{slowest_of}
 use Rattle.loop_file.specs.declared.notes.LoopNote.{LoopNote}
 use Rattle.cost_theory.specs.Worst.{Numbers}
-use Rattle.least_laws.specs.Charged.{Charged}
+use Rattle.cycle_laws.specs.Charged.{Charged}
 use Rattle.code_graph.specs.FlowGraph.{FlowGraph}
 use Rattle.loop_tree.specs.Tree.{LoopView}
 use Rattle.stub_writer.specs.Stubs.{Site, out_of_reach}

@@ -13,7 +13,7 @@ use Rattle.power_model.specs.Numbers.{PowerModel}
 use Rattle.power_model.specs.Price.{cycles_of}
 use Rattle.cost_theory.specs.Graph.{Loops, sum_below, only}
 use Rattle.cost_theory.specs.Worst.{Numbers, AreNumbers}
-use Rattle.least_laws.specs.Charged.{Charged, AreCharged, to_end_after}
+use Rattle.cycle_laws.specs.Charged.{Charged, AreCharged, to_end_after}
 use Rattle.cost_theory.specs.Reached.{Code, edge_at}
 use Rattle.code_text.specs.Text.{text_of}
 use Rattle.code_text.specs.EdgeCosts.{edge_class, weights}

@@ -5,7 +5,7 @@ use Rattle.std.proofs.lemmas.List.{length-map}
 use Rattle.std.proofs.lemmas.List.Elements.{All-map}
 use Rattle.std.proofs.lemmas.Option.{slice_get_within, get_or_from_slice_get}
 use Rattle.scale_base.specs.declared.fragments.Fragment.{Fragment}
-use Rattle.least_laws.specs.Charged.{Charged}
+use Rattle.cycle_laws.specs.Charged.{Charged}
 use Rattle.loop_tree.specs.Noted.{node_address}
 use Rattle.stub_writer.specs.Fragments.{IsFragment, IsShadow}
 use Rattle.rewritten_runs.proofs.Laws.{in_get, set_distinct, shift_fits, rows_count, depth, few_marks, edge_is, IsMarkOf, program_is, graph_program, marks_of_edge, marked_led, counted_is, loop_count, shadow_of}

@@ -20,7 +20,7 @@ use Rattle.cost_theory.specs.Accepted.{AreWeights}
 use Rattle.cost_theory.specs.Graph.{Graph, Loops, only, sum_below, is_back, is_header}
 use Rattle.cost_theory.specs.Laws.{IsAnalyzed}
 use Rattle.graph_algorithms.specs.Arcs.{number_in_place}
-use Rattle.least_laws.specs.Charged.{AreCharged}
+use Rattle.cycle_laws.specs.Charged.{AreCharged}
 use Rattle.least_cycles.specs.Found.{LeastView, HasWorstInRange, IsLeastOf, AreSmallLeast, HoldsLeast}
 use Rattle.cost_theory.specs.Worst.{Numbers, AreNumbers, cost, turn_back, slack, rest}
 use Rattle.cost_theory.proofs.Laws.{sum-none, headers-distinct, accepted_entered, left-worst, turns-worst, call_order, plain_order, iteration-worst, rest-worst}

@@ -7,7 +7,7 @@ use Rattle.scale_base.specs.declared.fragments.Fragment.TheVariants as fragments
 use Rattle.scale_base.specs.Image.{Image}
 use Rattle.power_model.specs.Numbers.{PowerModel}
 use Rattle.cost_theory.specs.Graph.{leaves, goes_back}
-use Rattle.least_laws.specs.Charged.{Charged, to_end_after}
+use Rattle.cycle_laws.specs.Charged.{Charged, to_end_after}
 use Rattle.cost_theory.specs.Worst.{Numbers}
 use Rattle.code_graph.specs.FlowGraph.{FlowGraph, graph}
 use Rattle.level_tables.specs.Tables as tables

@@ -14,7 +14,7 @@ use Rattle.power_model.specs.Numbers.{PowerModel, IsPowerModel}
 use Rattle.power_model.specs.Price.{time_at}
 use Rattle.power_model.specs.Slowest.{is_in_time}
 use Rattle.cost_theory.specs.Graph.{sum_below, only}
-use Rattle.least_laws.specs.Charged.{Charged}
+use Rattle.cycle_laws.specs.Charged.{Charged}
 use Rattle.cost_theory.specs.Worst.{Numbers}
 use Rattle.elf_patch.specs.Stored.{IsStubBase}
 use Rattle.code_text.specs.Text.{text_of}

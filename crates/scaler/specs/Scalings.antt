@@ -8,7 +8,7 @@ use Rattle.power_model.specs.Price.{time_at}
 use Rattle.power_model.specs.Slowest.{slowest_of, fastest}
 use Rattle.elf_patch.specs.Stored.{IsStubBase}
 use Rattle.cost_theory.specs.Worst.{Numbers, AreNumbers}
-use Rattle.least_laws.specs.Charged.{Charged, AreCharged}
+use Rattle.cycle_laws.specs.Charged.{Charged, AreCharged}
 use Rattle.code_graph.specs.FlowGraph.{FlowGraph, graph, IsGraphOf}
 use Rattle.code_text.specs.Text.{text_of}
 use Rattle.loop_file.specs.Loops.{read_loops}

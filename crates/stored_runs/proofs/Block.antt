@@ -8,7 +8,7 @@ use Rattle.scale_base.specs.declared.fragments.Fragment.TheVariants.{Switch, Exi
 use Rattle.scale_base.specs.Image.{Image}
 use Rattle.stub_writer.specs.Fragments.{IsFragment, fragment_rows}
 use Rattle.stub_writer.specs.Stubs.{Site, Way, Place, Forked, Straight, rows_by, way_rows, stub_rows, stub_rows_of, block_rows}
-use Rattle.stub_runs.specs.Held.{IsFineWay, IsFine, AreFine, AllWords}
+use Rattle.stored_runs.specs.Held.{IsFineWay, IsFine, AreFine, AllWords}
 use Rattle.stored_runs.specs.Stubbed.{IsTable, IsSafe, IsSafeWay, AreSafeWays, IsSafeSite}
 
 safe_fragment : (levels : ℕ) (limits : ℕ → ℕ) (f : Fragment) → IsSafe levels limits f → IsFragment f

@@ -25,9 +25,9 @@ use Rattle.code_text.specs.Text.{text_of}
 use Rattle.graph_runs.proofs.Laws.{not_written, IsTrap, step_done}
 use Rattle.elf_patch.specs.Stored.{stored_image}
 use Rattle.stub_writer.specs.Stubs.{Site, Place, patches_from, block_bytes}
-use Rattle.stub_runs.specs.Meaning.{StepsLead}
-use Rattle.stub_runs.specs.Cycles.{stepped_cycles, fragment_cost}
-use Rattle.stub_runs.proofs.Laws.{leads_none, leads_on}
+use Rattle.stored_runs.specs.Meaning.{StepsLead}
+use Rattle.stored_runs.specs.Cycles.{stepped_cycles, fragment_cost}
+use Rattle.stored_runs.proofs.Steps.{leads_none, leads_on}
 use Rattle.stored_runs.specs.Marks.{Shadow, place_at, fragments_of_class, jumps_by, tail_cycles, level_stored, shadow_first, shadow_behind, shadow_more, shadow_after}
 use Rattle.stored_runs.specs.Legs.{Leg, StoresLevel, IsLeg, AreLegs, originals, all_steps, Meets, Holds, steps_to}
 use Rattle.stored_runs.specs.Stubbed.{IsStubbed, StaysInText, KeepsLimits, IsFollowed}

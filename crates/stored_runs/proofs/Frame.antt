@@ -23,7 +23,7 @@ use Rattle.code_text.specs.Text.{text_of}
 use Rattle.graph_runs.specs.TextStates.{IsTextOf}
 use Rattle.graph_runs.proofs.Laws.{text_of_layout, word_within}
 use Rattle.stub_writer.specs.Stubs.{Site, jump, stub_len, patches_from, block_bytes}
-use Rattle.stub_runs.specs.Held.{KeyedFrom, BytesLie}
+use Rattle.stored_runs.specs.Held.{KeyedFrom, BytesLie}
 use Rattle.stored_runs.specs.Marks.{place_at}
 use Rattle.stored_runs.specs.Stubbed.{AreAscending}
 use Rattle.stored_runs.proofs.SameStep.{SeeAlike}

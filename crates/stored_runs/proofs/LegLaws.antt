@@ -10,7 +10,7 @@ use Rattle.scale_base.specs.declared.stepping.Class.{Class}
 use Rattle.scale_base.specs.declared.stepping.Class.TheVariants as classes
 use Rattle.scale_base.specs.declared.stepping.Stepped.{Stepped}
 use Rattle.stub_writer.specs.Stubs.{Site, Place, Forked, Straight}
-use Rattle.stub_runs.specs.Cycles.{stepped_cycles, fragment_cost}
+use Rattle.stored_runs.specs.Cycles.{stepped_cycles, fragment_cost}
 use Rattle.stored_runs.specs.Marks.{Shadow, place_at, jumps_by, fragments_over, extra_cycles, stored_cycles, shadow_more}
 use Rattle.stored_runs.specs.Legs.{Leg, AreLegs, originals, all_steps}
 use Rattle.stored_runs.specs.Laws.{text_steps}

@@ -14,10 +14,10 @@ use Rattle.scale_base.specs.Class.{class_of}
 use Rattle.scale_base.specs.State.{State}
 use Rattle.stub_writer.specs.Fragments.{port, code_len, rows_len, switch_code, exit_code, count_code, reset_code}
 use Rattle.stub_writer.specs.Stubs.{Way, jump_at}
-use Rattle.stub_runs.specs.Meaning.{four_bits, keyed_step, along, along_storing}
-use Rattle.stub_runs.specs.Ways.{row_at, window_behind, fragment_steps, fragments_steps, turn, way_steps}
-use Rattle.stub_runs.specs.Cycles.{stepped_cycles, fragment_cost}
-use Rattle.stub_runs.proofs.Laws.{fragments_cycles}
+use Rattle.stored_runs.specs.Meaning.{four_bits, keyed_step, along, along_storing}
+use Rattle.stored_runs.specs.Ways.{row_at, window_behind, fragment_steps, fragments_steps, turn, way_steps}
+use Rattle.stored_runs.specs.Cycles.{stepped_cycles, fragment_cost}
+use Rattle.stored_runs.proofs.Cycles.{fragments_cycles}
 use Rattle.stored_runs.specs.Marks.{tail_cycles}
 use Rattle.stored_runs.specs.Legs.{StoresOnce, StoresLevel}
 use Rattle.stored_runs.specs.Stubbed.{IsQuiet, AreOrdered}

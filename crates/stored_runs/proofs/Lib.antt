@@ -1,3 +1,13 @@
+pub mod Steps
+pub mod Points
+pub mod Moves
+pub mod Fragments
+pub mod Ways
+pub mod Held
+pub mod Ranges
+pub mod BlockLaws
+pub mod Passage
+pub mod Cycles
 pub mod LaidBytes
 pub mod SameStep
 pub mod StoredBytes

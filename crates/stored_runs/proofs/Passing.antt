@@ -25,11 +25,14 @@ use Rattle.machine_laws.proofs.Laws.{step_keyless, EndsKeyless}
 use Rattle.code_text.specs.Text.{text_of}
 use Rattle.graph_runs.proofs.Laws.{word_within, word_bound, word_same, went_at, exited_at}
 use Rattle.stub_writer.specs.Stubs.{Site, Way, Place, Forked, Straight, fragments_code}
-use Rattle.stub_runs.specs.Meaning.{StepsLead, IsSound}
-use Rattle.stub_runs.specs.Ways.{turn, way_steps, windows_behind}
-use Rattle.stub_runs.specs.Held.{StandsAtPatch, text_turn, WayStands, StubStands}
-use Rattle.stub_runs.specs.Cycles.{stepped_cycles, fragment_cost}
-use Rattle.stub_runs.proofs.Laws.{leads_none, leads_first, stand_left, goes_taken, goes_untaken, goes_on, way_cycles}
+use Rattle.stored_runs.specs.Meaning.{StepsLead, IsSound}
+use Rattle.stored_runs.specs.Ways.{turn, way_steps, windows_behind}
+use Rattle.stored_runs.specs.Held.{StandsAtPatch, text_turn, WayStands, StubStands}
+use Rattle.stored_runs.specs.Cycles.{stepped_cycles, fragment_cost}
+use Rattle.stored_runs.proofs.Cycles.{way_cycles}
+use Rattle.stored_runs.proofs.Passage.{goes_taken, goes_untaken, goes_on}
+use Rattle.stored_runs.proofs.Steps.{leads_none, leads_first}
+use Rattle.stored_runs.proofs.Ways.{stand_left}
 use Rattle.stored_runs.specs.Marks.{Shadow, place_at, fragments_of_class, jumps_by, tail_cycles, level_stored, shadow_behind}
 use Rattle.stored_runs.specs.Legs.{StoresLevel}
 use Rattle.stored_runs.specs.Patched.{IsSafeEdge, HasStub}

@@ -18,9 +18,9 @@ use Rattle.code_text.specs.Text.{text_of}
 use Rattle.graph_runs.specs.TextStates.{IsTextOf}
 use Rattle.stub_writer.specs.Stubs.{Site, Way, Place, Forked, Straight, jump, stubs_len, block_words, block_bytes, patches_from, out_of_reach}
 use Rattle.stub_writer.proofs.Laws.{jump_fits}
-use Rattle.stub_runs.specs.Meaning.{StandsAt, Stand}
-use Rattle.stub_runs.specs.Held.{Lie, WayStands, StubStands}
-use Rattle.stub_runs.proofs.Laws.{block_stands, rows_lie, words_length, block_length, stub_anywhere}
+use Rattle.stored_runs.specs.Meaning.{StandsAt, Stand}
+use Rattle.stored_runs.specs.Held.{Lie, WayStands, StubStands}
+use Rattle.stored_runs.proofs.BlockLaws.{block_stands, rows_lie, words_length, block_length, stub_anywhere}
 use Rattle.stored_runs.specs.Marks.{place_at}
 use Rattle.stored_runs.specs.Stubbed.{IsSafe, IsSafeWay, AreSafeWays, IsSafeSite, IsOfImage}
 use Rattle.stored_runs.specs.Patched.{IsSafeFragment, IsSafeEdge, AreSafeEdges, HasStub}

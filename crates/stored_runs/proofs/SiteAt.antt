@@ -10,9 +10,9 @@ use Rattle.scale_base.specs.Image.{Image}
 use Rattle.scale_base.specs.State.{Setting}
 use Rattle.stub_writer.specs.Stubs.{Site, Place, jump, reaches, stub_reaches_of, is_near, out_of_reach, stub_len, stub_len_of, stub_rows, stub_rows_of, stubs_len, block_rows, patches_from, stub_code_of}
 use Rattle.stub_writer.proofs.Laws.{all_near}
-use Rattle.stub_runs.specs.Meaning.{Stand}
-use Rattle.stub_runs.specs.Held.{Lie, StubsStand}
-use Rattle.stub_runs.proofs.Laws.{lie_left, lie_right}
+use Rattle.stored_runs.specs.Meaning.{Stand}
+use Rattle.stored_runs.specs.Held.{Lie, StubsStand}
+use Rattle.stored_runs.proofs.BlockLaws.{lie_left, lie_right}
 use Rattle.stored_runs.specs.Marks.{place_at}
 use Rattle.stored_runs.specs.Stubbed.{IsSafeSite}
 use Rattle.stored_runs.proofs.StoredBytes.{word_for}

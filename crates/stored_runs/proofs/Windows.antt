@@ -13,10 +13,10 @@ use Rattle.scale_base.specs.Layout.{is_keyed}
 use Rattle.scale_base.specs.State.{Setting, reg, word_at}
 use Rattle.stub_writer.specs.Fragments.{t0, port, code_len, rows_len, fragment_rows, IsShadow}
 use Rattle.stub_writer.specs.Stubs.{rows_by, fragments_code}
-use Rattle.stub_runs.specs.Meaning.{Stand, four_bits, IsCounter, IsRowAt}
-use Rattle.stub_runs.specs.Ways.{row_at, saved_in, window_behind, Fits, windows_behind, AllFit}
-use Rattle.stub_runs.specs.Held.{Lie}
-use Rattle.stub_runs.proofs.Laws.{row_lies, one_lies, word_lies}
+use Rattle.stored_runs.specs.Meaning.{Stand, four_bits, IsCounter, IsRowAt}
+use Rattle.stored_runs.specs.Ways.{row_at, saved_in, window_behind, Fits, windows_behind, AllFit}
+use Rattle.stored_runs.specs.Held.{Lie}
+use Rattle.stored_runs.proofs.Passage.{row_lies, one_lies, word_lies}
 use Rattle.stored_runs.specs.Marks.{Shadow, level_stored, counters_after, counters_behind, shadow_behind}
 use Rattle.stored_runs.specs.Stubbed.{IsQuiet, AreOrdered}
 use Rattle.stored_runs.specs.Patched.{IsSafeFragment}

@@ -8,7 +8,7 @@ use Rattle.scale_base.specs.Layout.{is_keyed}
 use Rattle.scale_base.specs.Run.{GoesOn, run}
 use Rattle.scale_base.specs.State.{Setting, State}
 use Rattle.stub_writer.specs.Stubs.{Site}
-use Rattle.stub_runs.specs.Cycles.{stepped_cycles}
+use Rattle.stored_runs.specs.Cycles.{stepped_cycles}
 use Rattle.stored_runs.specs.Marks.{Shadow, extra_cycles, stored_cycles}
 use Rattle.stored_runs.specs.Legs.{Leg, AreLegs, originals, all_steps}
 use Rattle.stored_runs.specs.Stubbed.{IsStubbed, StaysInText, KeepsLimits, IsFollowed}

@@ -8,7 +8,7 @@ use Rattle.scale_base.specs.State.{State}
 use Rattle.scale_base.specs.Run.{Standing, GoesOn, HasExited, HasTrapped}
 use Rattle.stub_writer.specs.Fragments.{port, IsShadow}
 use Rattle.stub_writer.specs.Stubs.{Site}
-use Rattle.stub_runs.specs.Cycles.{stepped_cycles}
+use Rattle.stored_runs.specs.Cycles.{stepped_cycles}
 use Rattle.stored_runs.specs.Marks.{Shadow, fragments_over, stored_cycles, tail_cycles, level_stored, shadow_more}
 
 -- a step of the original run, and the steps of the stored run in its place

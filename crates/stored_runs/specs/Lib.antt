@@ -1,3 +1,7 @@
+pub mod Meaning
+pub mod Ways
+pub mod Held
+pub mod Cycles
 pub mod Marks
 pub mod Legs
 pub mod Stubbed

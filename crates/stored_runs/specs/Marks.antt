@@ -8,8 +8,8 @@ use Rattle.scale_base.specs.declared.stepping.Class.{Class}
 use Rattle.scale_base.specs.declared.stepping.Class.TheVariants as classes
 use Rattle.scale_base.specs.declared.stepping.Stepped.{Stepped}
 use Rattle.stub_writer.specs.Stubs.{Site, Way, Place, Forked, Straight}
-use Rattle.stub_runs.specs.Meaning.{four_bits}
-use Rattle.stub_runs.specs.Cycles.{fragment_cost}
+use Rattle.stored_runs.specs.Meaning.{four_bits}
+use Rattle.stored_runs.specs.Cycles.{fragment_cost}
 
 -- ---- which fragments stand on an edge
 

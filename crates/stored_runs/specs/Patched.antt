@@ -9,7 +9,7 @@ use Rattle.scale_base.specs.State.{Setting, word_at}
 use Rattle.scale_base.specs.Word.{Encodes}
 use Rattle.stub_writer.specs.Fragments.{IsShadow}
 use Rattle.stub_writer.specs.Stubs.{Site, Way, Place, Forked, Straight, jump}
-use Rattle.stub_runs.specs.Held.{StubStands}
+use Rattle.stored_runs.specs.Held.{StubStands}
 use Rattle.stored_runs.specs.Marks.{place_at}
 use Rattle.stored_runs.specs.Stubbed.{IsTable, AreOrdered, IsOfImage}
 

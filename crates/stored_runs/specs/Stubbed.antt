@@ -13,7 +13,7 @@ use Rattle.elf_patch.specs.Stored.{stored_image}
 use Rattle.stored_laws.specs.StoredView.{IsStorable}
 use Rattle.stub_writer.specs.Fragments.{IsShadow}
 use Rattle.stub_writer.specs.Stubs.{Site, Way, Place, Forked, Straight, out_of_reach, patches_from, block_bytes}
-use Rattle.stub_runs.specs.Meaning.{four_bits}
+use Rattle.stored_runs.specs.Meaning.{four_bits}
 use Rattle.stored_runs.specs.Marks.{shadow_first, shadow_after}
 use Rattle.stored_runs.specs.Legs.{Leg, AreLegs, originals, all_steps, Meets, Holds, steps_to}
 

@@ -4,6 +4,10 @@
 
 ghost use Rattle.stored_runs.specs.Laws.{LegsAreLong, LegsAreShort, LegsCostStoredWeights, LegsHaveOneStepOfText, MeetingsAreOnce, PatchedRunsFollow, StoredRunsFollow, StubbedArePatched};
 
+mod stub_steps;
+
+pub use stub_steps::{block_in_place, passages, stubs_at_work};
+
 /// The stored image follows the original.
 pub fn stored_runs_follow()
     ensures { StoredRunsFollow }

@@ -7,7 +7,7 @@ use Rattle.cost_theory.specs.Worst.{Numbers, cost, all_of}
 use Rattle.code_graph.specs.FlowGraph.{FlowGraph, graph}
 use Rattle.loop_tree.specs.Noted.{node_address}
 use Rattle.loop_tree.specs.Tree.{LoopView, loops}
-use Rattle.pass_laws.specs.Passes.{plain_at, IsPlainOver}
+use Rattle.cycle_laws.specs.Passes.{plain_at, IsPlainOver}
 use Rattle.worst_cycles.specs.declared.plan.Plan.{Plan}
 use Rattle.worst_cycles.specs.declared.visits.Visit.{Visit}
 use Rattle.worst_cycles.specs.Solved.{AreSolved, charge}

@@ -11,7 +11,7 @@ use Rattle.cost_theory.specs.Accepted.{IsProgram, AreAccepted, AreWeights}
 use Rattle.cost_theory.specs.Laws.{IsAnalyzed}
 use Rattle.cost_theory.proofs.Laws as theory
 use Rattle.cost_theory.proofs.Laws.{call_order, plain_order, turns-worst, left-worst, function-worst, closing-worst, accepted_entered, header_held, entered_at_headers, first_uncalled, slack-le}
-use Rattle.pass_laws.proofs.Laws.{charged_on, charged_back, charged_into, headers_different, iteration_closing, closing_over, worst_plain, plain_within_worst, plain_over}
+use Rattle.cycle_laws.proofs.Laws.{charged_on, charged_back, charged_into, headers_different, iteration_closing, closing_over, worst_plain, plain_within_worst, plain_over}
 use Rattle.code_graph.specs.FlowGraph.{FlowGraph, graph, IsFlowGraph}
 use Rattle.loop_tree.specs.Noted.{node_address}
 use Rattle.loop_tree.specs.Tree.{LoopView, loops}

@@ -9,7 +9,7 @@ use Rattle.cost_theory.specs.Lists.{body_of}
 use Rattle.code_graph.specs.FlowGraph.{FlowGraph, graph}
 use Rattle.loop_tree.specs.Noted.{node_address}
 use Rattle.loop_tree.specs.Tree.{LoopView, loops}
-use Rattle.pass_laws.specs.Passes.{IsRestOver}
+use Rattle.cycle_laws.specs.Passes.{IsRestOver}
 use Rattle.worst_cycles.specs.declared.plan.Plan.{Plan}
 use Rattle.worst_cycles.specs.declared.rests.Rests.{Rests}
 use Rattle.worst_cycles.specs.declared.visits.Visit.{Visit}

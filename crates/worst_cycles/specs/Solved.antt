@@ -3,7 +3,7 @@ use Rattle.std.specs.Prelude.{◌≡◌, ◌≢◌, ℕ, ◌+◌, ◌<◌, ◌�
 use Rattle.cost_theory.specs.Graph.{Graph, Loops, is_back}
 use Rattle.cost_theory.specs.Worst.{Numbers, cost, charged, all_of, IsLeft, IsContext, left_at, turn_back, turns_round}
 use Rattle.cost_theory.specs.Accepted.{IsNode}
-use Rattle.pass_laws.specs.Passes.{IsPlainOver, IsClosingOver}
+use Rattle.cycle_laws.specs.Passes.{IsPlainOver, IsClosingOver}
 
 -- an edge's cost with all turns of the loops that it enters from outside
 abbrev pub charge : Graph → Loops → (ℕ → ℕ) → Numbers → ℕ → ℕ

@@ -10,7 +10,7 @@ use Rattle.power_model.specs.Numbers.{PowerModel}
 use Rattle.cost_theory.specs.Accepted.{AreWeights}
 use Rattle.cost_theory.specs.Graph.{Graph, Loops}
 use Rattle.cost_theory.specs.Worst.{Numbers, AreNumbers}
-use Rattle.least_laws.specs.Charged.{Charged, AreCharged, to_end_after}
+use Rattle.cycle_laws.specs.Charged.{Charged, AreCharged, to_end_after}
 use Rattle.code_text.specs.Text.{text_of}
 use Rattle.code_graph.specs.FlowGraph.{FlowGraph, graph}
 use Rattle.loop_file.specs.declared.notes.LoopNote.{LoopNote}

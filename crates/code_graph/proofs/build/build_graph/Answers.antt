@@ -1,6 +1,6 @@
 use Rattle.std.proofs.Common.{◌≡◌, length, Some, None, inl, inr, refl, subst}
 use Rattle.std.specs.Prelude.{slice_get}
-use Rattle.code_reach.specs.declared.marks.Mark.TheVariants.{Shared}
+use Rattle.code_graph.specs.declared.reach.marks.Mark.TheVariants.{Shared}
 use Rattle.cost_theory.specs.Reached.{HasNoBadWord}
 use Rattle.code_text.specs.Text.{text_of, kind_at}
 use Rattle.code_graph.specs.Finding.{reach_of, IsFirstBelow, IsLeastBad}

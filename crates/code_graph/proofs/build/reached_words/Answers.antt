@@ -1,9 +1,9 @@
 use Rattle.std.proofs.Common.{◌≤◌, length, sym, subst}
 use Rattle.code_text.specs.Text.{text_of, kind_at}
 use Rattle.code_text.proofs.Laws.{addresses_rise}
-use Rattle.code_reach.specs.Reach.{IsReachOf}
-use Rattle.code_reach.specs.Steps.{IsWordTableOf}
-use Rattle.code_reach.proofs.Laws.{text_table, if_ok-map}
+use Rattle.code_graph.specs.Reach.{IsReachOf}
+use Rattle.code_graph.specs.Steps.{IsWordTableOf}
+use Rattle.code_graph.proofs.Tables.{text_table, if_ok-map}
 use Rattle.code_graph.specs.Finding.{IsReachIn, reach_of}
 use Rattle.code_graph.proofs.FewWords.{few_words}
 use Rattle.code_graph.proofs.build.reached_words.Goals as goal

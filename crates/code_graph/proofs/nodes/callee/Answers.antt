@@ -1,7 +1,7 @@
 use Rattle.std.proofs.Common.{length, arith, ap, sym, ◌∙◌, refl}
 use Rattle.std.proofs.lemmas.Option.{slice_get_within, slice_get_read}
 use Rattle.cost_theory.specs.Reached.{callee_of}
-use Rattle.code_reach.specs.Reach.{WordStandsAt}
+use Rattle.code_graph.specs.Reach.{WordStandsAt}
 use Rattle.code_graph.specs.Finding.{reach_of}
 use Rattle.code_graph.specs.Assembling.{entry_addresses}
 use Rattle.code_graph.proofs.NodeLaws.{callee_read, callee_none}

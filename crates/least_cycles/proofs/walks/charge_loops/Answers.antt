@@ -2,7 +2,7 @@ use Rattle.std.proofs.Common.{◌≡◌, ◌<◌, ◌≤◌, ◌^◌, ℕ, Optio
 use Rattle.code_graph.proofs.Laws.{few_once}
 use Rattle.graph_algorithms.specs.Keys.{IsLastBelow}
 use Rattle.graph_algorithms.proofs.Laws.{place, place_less}
-use Rattle.least_laws.specs.Charged.{Charged}
+use Rattle.cycle_laws.specs.Charged.{Charged}
 use Rattle.least_cycles.specs.Charging.{IsCharging, ArePricedAt, IsChargeKnown, AreChargedTo, IsHeaderFrom, loop_owner}
 use Rattle.least_cycles.proofs.ChargeLaws.{charges_low}
 use Rattle.least_cycles.proofs.LoopLaws.{place_below, number_low, loop_none, loop_is, inner_done, charged_more, charged_all}

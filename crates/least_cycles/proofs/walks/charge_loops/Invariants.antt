@@ -2,7 +2,7 @@ use Rattle.std.proofs.Common.{◌≡◌, ◌≢◌, ◌≤◌, ◌<◌, ℕ, Lis
 use Rattle.graph_algorithms.specs.Arcs.{number_in_place}
 use Rattle.graph_algorithms.specs.Keys.{AreChains, IsLastBelow}
 use Rattle.graph_algorithms.proofs.Laws.{place}
-use Rattle.least_laws.specs.Charged.{Charged}
+use Rattle.cycle_laws.specs.Charged.{Charged}
 use Rattle.least_cycles.specs.Charging.{IsCharging, AreChargeMarks, AreCharges, AreChargedTo, AreHeaderKeys, IsHeaderFrom, ArePricedAt, loop_owner}
 use Rattle.least_cycles.proofs.walks.charge_loops.Given as goal
 

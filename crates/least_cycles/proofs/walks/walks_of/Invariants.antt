@@ -1,5 +1,5 @@
 use Rattle.graph_algorithms.specs.Arcs.{number_in_place}
-use Rattle.least_laws.specs.Charged.{Charged}
+use Rattle.cycle_laws.specs.Charged.{Charged}
 use Rattle.least_cycles.specs.Tables.{IsBefore}
 use Rattle.least_cycles.specs.Charging.{IsCharging, HasWalks, AreCharges, AreChargedTo, loop_owner, IsScratch}
 use Rattle.least_cycles.proofs.walks.walks_of.Given as goal

@@ -1,5 +1,5 @@
 use Rattle.std.proofs.Common.{◌≤◌, length, List}
-use Rattle.least_laws.specs.Charged.{Charged}
+use Rattle.cycle_laws.specs.Charged.{Charged}
 use Rattle.cost_theory.specs.Worst.{Numbers}
 use Rattle.loop_file.specs.declared.notes.LoopNote.{LoopNote}
 use Rattle.rewritten_runs.specs.Stubs.{IsWeighed, marks_by_slack, fragments_at}

@@ -1,5 +1,0 @@
-use Rattle.code_reach.specs.Flow.{AreStepChains}
-use Rattle.code_reach.proofs.chains.find_chains.Given as goal
-
-abbrev pub invariant-loop-s : goal.invariant-loop-s
-invariant-loop-s l = AreStepChains l.steps l.s l.chains.last.items l.chains.before.items

@@ -1,5 +1,0 @@
-use Rattle.code_reach.specs.Outside.{IsLowest, IsOutsideOf, IsComeTo}
-use Rattle.code_reach.proofs.outside.lowest_outside.Given as goal
-
-abbrev pub invariant-loop-k : goal.invariant-loop-k
-invariant-loop-k l = IsLowest (λ u. IsComeTo l.words l.returning l.marks l.entry l.k u × IsOutsideOf l.words u) l.lowest

@@ -1,0 +1,15 @@
+pub mod Headers
+pub mod Charges
+pub mod PlainPaths
+pub mod Iterations
+pub mod WalkKinds
+pub mod KeptWalks
+pub mod OneEdge
+pub mod PlainReturns
+pub mod Alike
+pub mod Example
+pub mod LeastRuns
+pub mod Exist
+pub mod Within
+pub mod Ends
+pub mod Laws

@@ -1,0 +1,4 @@
+pub mod Passes
+pub mod Charged
+pub mod LeastLaws
+pub mod Met

@@ -1,5 +1,0 @@
-use Rattle.least_laws.proofs.PlainReturns.{plain_returns}
-use Rattle.least_laws.proofs.reached_code_has_plain_returns.Goals as goal
-
-pub returns : goal.returns
-returns c = plain_returns

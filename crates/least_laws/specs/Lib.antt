@@ -1,3 +1,0 @@
-pub mod Charged
-pub mod Laws
-pub mod Met

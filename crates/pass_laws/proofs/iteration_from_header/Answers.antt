@@ -1,5 +1,0 @@
-use Rattle.pass_laws.proofs.Iterations.{iteration_closing}
-use Rattle.pass_laws.proofs.iteration_from_header.Goals as goal
-
-pub returns : goal.returns
-returns c = iteration_closing

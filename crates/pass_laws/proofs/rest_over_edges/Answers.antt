@@ -1,5 +1,0 @@
-use Rattle.pass_laws.proofs.Iterations.{closing_over}
-use Rattle.pass_laws.proofs.rest_over_edges.Goals as goal
-
-pub returns : goal.returns
-returns c = closing_over

@@ -1,4 +1,0 @@
-pub mod Meaning
-pub mod Ways
-pub mod Held
-pub mod Cycles
