@@ -1,9 +1,9 @@
 -- What an edge takes more with the stubs of the fragments that are found, by the lists of what is found.
 use Rattle.std.proofs.Common.{◌≡◌, ⊎_elim, ℕ, zero, suc, ◌+◌, ◌*◌, ◌<◌, ◌≤◌, Bool, true, false, List, [], ◌∷◌, map, length, refl, sym, ap, ◌∙◌, subst, slice_get, Option, Some, None, arith}
-use Rattle.std.specs.Prelude.{◌==◌, ◌%◌, slice_index, slice_index_or}
+use Rattle.std.specs.Prelude.{◌==◌, ◌%◌, slice_index}
 use Rattle.std.specs.List.{sum_by, list_any}
 use Rattle.std.proofs.Math.Path.{fun_ext}
-use Rattle.std.proofs.lemmas.Bool.{and_from, eq-eqb, both_ways, cases_lt}
+use Rattle.std.proofs.lemmas.Bool.{and_from, eq-eqb, cases_lt}
 use Rattle.std.proofs.lemmas.List.Sums.{sum_by-cons}
 use Rattle.scale_base.specs.declared.instruction.Instr.{Instr}
 use Rattle.scale_base.specs.declared.instruction.Instr.TheVariants as instr
@@ -13,14 +13,12 @@ use Rattle.scale_base.specs.Class.{class_of}
 use Rattle.scale_base.specs.Arith.{moved_by}
 use Rattle.scale_base.specs.Image.{Image, is_in, is_word_address}
 use Rattle.scale_base.specs.declared.edges.Edge.{Edge}
-use Rattle.scale_base.specs.declared.edges.EdgeKind.{EdgeKind}
-use Rattle.scale_base.specs.declared.edges.EdgeKind.TheVariants.{Taken, Untaken, Jump}
 use Rattle.power_model.specs.declared.power.Costs.{Costs}
 use Rattle.power_model.specs.Price.{cycles_of}
 use Rattle.cost_theory.specs.declared.flow.Flow.TheVariants as flow
 use Rattle.cost_theory.specs.Accepted.{AreWeights}
-use Rattle.cost_theory.specs.Graph.{Graph, Loops}
-use Rattle.cost_theory.specs.Reached.{Reached, Code, edges_of, edge_at, call_returns, callee_of}
+use Rattle.cost_theory.specs.Graph.{Loops}
+use Rattle.cost_theory.specs.Reached.{Reached, edges_of, edge_at, call_returns, callee_of}
 use Rattle.cost_theory.proofs.Laws.{Within, edge_of_word, callee-call, callee_word}
 use Rattle.code_text.specs.Text.{Text, text_of, instr_at, instr_kind, kind_at}
 use Rattle.code_text.specs.EdgeCosts.{class_by, edge_class, is_taken_kind, cost_of, weights}

@@ -1,5 +1,5 @@
 -- The first entry that is not safe, of the edges of a node and of all.
-use Rattle.std.proofs.Common.{◌≡◌, ◌⊎◌, inl, inr, ⊎_elim, ℕ, ◌+◌, ◌*◌, ◌/◌, ◌^◌, ◌<◌, ◌≤◌, ◌↔◌, Bool, true, false, List, [], ◌∷◌, length, Option, Some, None, refl, sym, ap, ◌∙◌, subst, arith}
+use Rattle.std.proofs.Common.{◌≡◌, ⊎_elim, ℕ, ◌+◌, ◌*◌, ◌<◌, ◌≤◌, ◌↔◌, Bool, true, false, List, [], ◌∷◌, length, Option, Some, None, refl, sym, ap, ◌∙◌, subst, arith}
 use Rattle.std.specs.Prelude.{slice_get, slice_index}
 use Rattle.std.proofs.lemmas.Bool.{cases_lt}
 use Rattle.std.proofs.lemmas.Option.{same_Some, slice_get_within, get_or_from_slice_get}
@@ -24,12 +24,12 @@ use Rattle.stored_runs.specs.Marks.{tail_cycles}
 use Rattle.paid_runs.specs.Tabled.{told_on, IsSafeEntry}
 use Rattle.foreign_scan.specs.declared.fragment.ForeignFragment.{ForeignFragment}
 use Rattle.foreign_scan.specs.declared.fragment.ForeignFragment.TheVariants.{Switch, Exit, Reset, Count}
-use Rattle.foreign_scan.specs.Scanned.{Found, kind_place, ComesBefore}
+use Rattle.foreign_scan.specs.Scanned.{Found, kind_place}
 use Rattle.image_check.specs.Safe.{Owner, all_with_rows, AreSafeWords, AreSafeOn}
 use Rattle.image_check.specs.Causes.{IsBadEntry, HasBadEntry, IsBadLevel, IsFirstBadLevel}
 use Rattle.image_check.specs.Known.{owner_by, IsLevelsAnswer}
 use Rattle.image_check.specs.Entries.{is_safe, IsLeastIn}
-use Rattle.image_check.specs.Levels.{AreKnownBy, IsBadAt, is_taken, IsSortAt, IsSortLevelBy, IsNodeLevelBy, IsBothLevelBy}
+use Rattle.image_check.specs.Levels.{IsBadAt, is_taken, IsSortAt, IsSortLevelBy, IsNodeLevelBy, IsBothLevelBy}
 use Rattle.image_check.specs.declared.levels.Known.{Known}
 use Rattle.image_check.proofs.EntryLaws.{safe_to, bad_entry}
 

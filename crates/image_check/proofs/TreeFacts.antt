@@ -1,11 +1,11 @@
 -- Edges that leave loops and turn them back, by the numbers of nodes and loops.
-use Rattle.std.proofs.Common.{◌≡◌, ◌≢◌, ℕ, zero, suc, ◌+◌, ◌-◌, ◌<◌, ◌≤◌, ◌⊎◌, ◌↔◌, Bool, true, false, not, ◌&&◌, nat_eq, List, [], ◌∷◌, map, length, slice_get, slice_index, option_map, Option, Some, None, refl, sym, ap, ◌∙◌, subst, arith, ⊎_elim, add-one, add-zero, ◌++◌, slice_set, length-append, length-set, get_or-set_same, get_or-set_other}
+use Rattle.std.proofs.Common.{◌≡◌, ◌≢◌, ℕ, zero, suc, ◌+◌, ◌-◌, ◌<◌, ◌≤◌, ◌↔◌, Bool, true, false, not, ◌&&◌, nat_eq, List, [], ◌∷◌, map, length, slice_get, slice_index, option_map, Option, Some, None, refl, sym, ap, ◌∙◌, subst, arith, ⊎_elim, add-one, add-zero, ◌++◌, slice_set, length-append, length-set, get_or-set_same, get_or-set_other}
 use Rattle.std.specs.List.{sum_by}
 use Rattle.std.proofs.lemmas.Bool.{eqb-true, eq-eqb, cases_lt, both_ways}
 use Rattle.std.proofs.lemmas.List.{length-map}
 use Rattle.std.proofs.lemmas.List.Sums.{sum_by-cons}
 use Rattle.std.proofs.lemmas.Option.{slice_get_within, slice_get-get_or, slice_get-map, same_Some}
-use Rattle.cost_theory.specs.Graph.{Graph, Loops, leaves, is_back, only, sum_below}
+use Rattle.cost_theory.specs.Graph.{leaves, is_back, only, sum_below}
 use Rattle.cost_theory.specs.Reached.{edge_at}
 use Rattle.cost_theory.specs.Lists.{or_true, is_among, body_of}
 use Rattle.cost_theory.proofs.Laws.{sum-none, sum-same}

@@ -1,5 +1,5 @@
 -- The least level for which an entry is not safe, of an edge, of the edges of a node, and of all.
-use Rattle.std.specs.Prelude.{◌≡◌, ◌⊎◌, ℕ, ◌<◌, ◌≤◌, Bool, true, false, List, [], ◌∷◌, length, slice_get, slice_index, Option, Some, None}
+use Rattle.std.specs.Prelude.{◌≡◌, ℕ, ◌<◌, Bool, true, false, List, ◌∷◌, length, slice_get, slice_index, Option, Some, None}
 use Rattle.scale_base.specs.Image.{Image, loaded_byte}
 use Rattle.scale_base.specs.declared.ranges.Keyed.{Keyed}
 use Rattle.scale_base.specs.declared.edges.Edge.{Edge}
@@ -19,7 +19,7 @@ use Rattle.flat_memory.specs.Lists.{list_bytes}
 use Rattle.foreign_scan.specs.declared.fragment.ForeignFragment.{ForeignFragment}
 use Rattle.foreign_scan.specs.Scanned.{Found}
 use Rattle.image_check.specs.Safe.{Owner, all_with_rows}
-use Rattle.image_check.specs.Causes.{HasBadEntry, IsBadLevel}
+use Rattle.image_check.specs.Causes.{IsBadLevel}
 use Rattle.image_check.specs.Known.{owner_by, AreKnown, IsLevelsAnswer}
 use Rattle.image_check.specs.Uses.{on_edge}
 use Rattle.image_check.specs.Entries.{told_view, IsLeastIn}

@@ -1,6 +1,6 @@
 //! Whether an image of other make is safe, from its file to the verdict.
 
-ghost use Rattle.std.specs.Prelude.{◌≡◌, ◌≤◌, ◌<◌, ◌^◌, ℕ, length, Ok, IfOk};
+ghost use Rattle.std.specs.Prelude.{◌≡◌, ◌≤◌, ◌<◌, length, Ok, IfOk};
 ghost use Rattle.scale_base.specs.Answer.{AnswersBy};
 ghost use Rattle.scale_base.specs.Image.{Image, image_of};
 ghost use Rattle.scale_base.specs.Run.{starting_level as level_of_key};

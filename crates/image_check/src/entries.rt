@@ -1,6 +1,6 @@
 //! The entries of words and of tables, and which of them are safe.
 
-ghost use Rattle.std.specs.Prelude.{◌≡◌, ◌<◌, ◌≤◌, ◌+◌, ◌*◌, ◌/◌, ◌%◌, ◌^◌, ℕ, length, IfSome};
+ghost use Rattle.std.specs.Prelude.{◌≡◌, ◌<◌, ◌≤◌, ◌+◌, ◌*◌, ◌/◌, ◌%◌, ◌^◌, length, IfSome};
 ghost use Rattle.flat_memory.specs.Lists.{list_bytes};
 ghost use Rattle.level_tables.specs.Tables as tables;
 ghost use Rattle.image_check.specs.Entries.{told_view, is_safe, IsWordLevel, IsTableLevel, AreRowPlaces, lesser_level};

@@ -2,7 +2,7 @@
 
 ghost use Rattle.std.specs.Prelude.{◌≡◌, ◌<◌, ◌≤◌, ◌+◌, ◌*◌, ◌^◌, ℕ, All, Some, length, slice_index, slice_index_or, slice_set, IfOk};
 ghost use Rattle.std.specs.List.{sum_by};
-ghost use Rattle.cost_theory.specs.Graph.{leaves, sum_below};
+ghost use Rattle.cost_theory.specs.Graph.{leaves};
 ghost use Rattle.cost_theory.specs.Lists.{body_of};
 ghost use Rattle.code_graph.specs.FlowGraph.{graph as graph_seen};
 ghost use Rattle.loop_tree.specs.Tree.{loops};

@@ -1,20 +1,17 @@
 -- What a survey that was made says of bounds and of what `rewrite` stores.
-use Rattle.std.proofs.Common.{◌≡◌, ℕ, ◌≤◌, List, length, map, Result, Ok, Err, refl, sym, ap, ◌∙◌, subst}
+use Rattle.std.proofs.Common.{◌≡◌, ℕ, ◌≤◌, List, length, map, Result, Ok, Err, ap, ◌∙◌, subst}
 use Rattle.std.specs.Prelude.{IfOk}
 use Rattle.std.specs.List.{All}
 use Rattle.scale_base.specs.declared.refusal.Stop.{Stop}
-use Rattle.scale_base.specs.declared.refusal.Stop.TheVariants.{Refused, Memory}
-use Rattle.scale_base.specs.declared.summary.Summary.{Summary}
 use Rattle.scale_base.specs.Answer.{AnswersBy}
 use Rattle.scale_base.specs.Image.{Image, image_of}
 use Rattle.power_model.specs.declared.survey.SurveyReport.{SurveyReport}
 use Rattle.power_model.specs.Numbers.{PowerModel}
-use Rattle.power_model.specs.Survey.{Survey, Surveyed, survey_view, line_view}
+use Rattle.power_model.specs.Survey.{Survey, survey_view, line_view}
 use Rattle.machine_file.specs.Machine.{read_machine}
 use Rattle.loop_file.specs.declared.notes.LoopNote.{LoopNote}
 use Rattle.loop_file.specs.Loops.{read_loops}
 use Rattle.rewritten_runs.specs.Promise.{KeepsThePromise}
-use Rattle.scaler.specs.Rewritten.{IsRewritten}
 use Rattle.scaler.specs.RewrittenRuns.{IsRewrittenSafely}
 use Rattle.scaler.proofs.Laws.{rewritten_safe}
 use Rattle.input_survey.specs.Surveyed.{IsSurveyed}

@@ -18,14 +18,12 @@ use Rattle.stored_laws.specs.Held.{IsHeldImage}
 use Rattle.stored_laws.proofs.Laws.{a_held_image}
 use Rattle.loop_tree.specs.Tree.{loops as tree_loops}
 use Rattle.code_text.specs.Text.{text_of}
-use Rattle.graph_runs.specs.KeptRuns.{IsKeptUpTo}
 use Rattle.graph_runs.proofs.Laws.{image_runs_are_below}
-use Rattle.loop_file.specs.declared.notes.LoopNote.{LoopNote}
 use Rattle.loop_file.specs.Kept.{noted_loops}
 use Rattle.rewritten_runs.specs.Prices.{price_of}
 use Rattle.rewritten_runs.specs.Promise.{EndsAsPromised, KeepsThePromise}
 use Rattle.rewritten_runs.proofs.Laws.{kept_by_tree, program_of}
-use Rattle.scaler.specs.Held.{IsHeld, IsProgramHeld, held_summary}
+use Rattle.scaler.specs.Held.{IsHeld, held_summary}
 use Rattle.scaler.specs.RewrittenAs.{IsStoredSafely}
 use Rattle.scaler.specs.Runs.{IsAsPrinted}
 use Rattle.scaler.proofs.Bases.{file_is}

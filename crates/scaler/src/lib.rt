@@ -1,7 +1,7 @@
 //! What a command makes of an image, a machine file and a loop file.
 #![tactic(auto)]
 
-ghost use Rattle.std.specs.Prelude.{◌≡◌, ◌≤◌, ℕ, Bool, List, length, Ok};
+ghost use Rattle.std.specs.Prelude.{◌≤◌, ℕ, Bool, List, length, Ok};
 ghost use Rattle.scale_base.specs.declared.summary.Summary.{Summary};
 ghost use Rattle.scaler.specs.Agree.{HeldAnswersAgree, RewrittenAnswersAgree, RewrittenAsAnswersAgree};
 ghost use Rattle.scaler.specs.Held.{IsHeld};

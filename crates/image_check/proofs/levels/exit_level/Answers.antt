@@ -1,4 +1,4 @@
-use Rattle.std.proofs.Common.{◌≡◌, ◌<◌, ◌≤◌, ◌*◌, ◌^◌, ℕ, length, All, Option, Some, None, sym, ap, ◌∙◌, subst, arith}
+use Rattle.std.proofs.Common.{◌≤◌, ◌*◌, ◌^◌, All, sym, ◌∙◌, subst, arith}
 use Rattle.std.proofs.lemmas.Option.{get_or_from_slice_get, same_Some}
 use Rattle.std.proofs.Common.{List}
 use Rattle.foreign_scan.specs.declared.fragment.ForeignFragment.{ForeignFragment}
@@ -6,7 +6,7 @@ use Rattle.foreign_scan.specs.declared.fragment.ForeignFragment.TheVariants.{Exi
 use Rattle.foreign_scan.specs.Form.{IsForeign}
 use Rattle.image_check.specs.Entries.{told_view}
 use Rattle.image_check.proofs.FoundFacts.{fine_on}
-use Rattle.image_check.proofs.LevelLaws.{exit_none, exit_loop, exit_rows, exit_is}
+use Rattle.image_check.proofs.LevelLaws.{exit_loop, exit_rows, exit_is}
 use Rattle.image_check.proofs.levels.exit_level.Goals as goal
 
 pub bound-bound-requires : goal.bound-bound-requires

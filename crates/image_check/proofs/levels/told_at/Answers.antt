@@ -1,4 +1,4 @@
-use Rattle.std.proofs.Common.{◌≡◌, ◌+◌, ◌<◌, ◌≤◌, ◌^◌, ℕ, List, [], length, Option, Some, None, refl, sym, ap, ◌∙◌, subst, arith}
+use Rattle.std.proofs.Common.{◌≡◌, ◌+◌, ◌≤◌, List, [], length, refl, sym, ap, ◌∙◌, subst, arith}
 use Rattle.std.proofs.lemmas.Option.{get_or_from_slice_get}
 use Rattle.foreign_scan.specs.declared.fragment.ForeignFragment.{ForeignFragment}
 use Rattle.power_model.specs.Switches.{costs_of}
@@ -9,7 +9,7 @@ use Rattle.image_check.specs.Known.{owner_by}
 use Rattle.image_check.specs.Uses.{on_edge}
 use Rattle.image_check.specs.Entries.{told_view}
 use Rattle.image_check.proofs.FoundFacts.{fine_on}
-use Rattle.image_check.proofs.LevelLaws.{slack_small, rest_small, after_small, told_is}
+use Rattle.image_check.proofs.LevelLaws.{slack_small, rest_small, told_is}
 use Rattle.image_check.proofs.levels.told_at.Goals as goal
 
 pub fragments-requires : goal.fragments-requires

@@ -1,7 +1,6 @@
-use Rattle.std.proofs.Common.{◌≡◌, ◌+◌, ◌≤◌, get_or, arith, take, sym, subst, ap, ◌∙◌, length}
+use Rattle.std.proofs.Common.{◌≤◌, arith, sym, subst, length}
 use Rattle.std.specs.List.{sum_by}
 use Rattle.std.proofs.lemmas.List.Sums.{sum_by_more_le}
-use Rattle.cost_theory.specs.Lists.{body_of}
 use Rattle.image_check.specs.Uses.{exits_from}
 use Rattle.image_check.proofs.TreeFacts.{body_small}
 use Rattle.image_check.proofs.uses.exits_of.Goals as goal
