@@ -6,8 +6,8 @@ use Rattle.level_tables.specs.Tables.{EdgeNumbers, meets_both, at_row}
 use Rattle.image_check.specs.Causes.{IsBadEntry}
 use Rattle.image_check.specs.declared.entries.Told.{Told}
 
-abbrev pub told_view : Told → EdgeNumbers
-told_view x = record { slack = x.slack; left = x.left; least = x.least }
+abbrev pub told_numbers : Told → EdgeNumbers
+told_numbers x = record { slack = x.slack; left = x.left; least = x.least }
 
 -- whether an entry is safe
 abbrev pub is_safe : PowerModel → EdgeNumbers → (i j : ℕ) → Bool
