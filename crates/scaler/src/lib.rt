@@ -5,8 +5,9 @@ ghost use Rattle.std.specs.Prelude.{◌≤◌, ℕ, Bool, List, length, Ok};
 ghost use Rattle.scale_base.specs.declared.summary.Summary.{Summary};
 ghost use Rattle.scaler.specs.Agree.{HeldAnswersAgree, RewrittenAnswersAgree, RewrittenAsAnswersAgree};
 ghost use Rattle.scaler.specs.Held.{IsHeld};
+ghost use Rattle.scaler.specs.Promise.{IsStoredSafely};
 ghost use Rattle.scaler.specs.Rewritten.{IsRewritten};
-ghost use Rattle.scaler.specs.RewrittenAs.{IsRewrittenAs, IsStoredSafely};
+ghost use Rattle.scaler.specs.RewrittenAs.{IsRewrittenAs};
 ghost use Rattle.scaler.specs.RewrittenRuns.{IsRewrittenSafely};
 ghost use Rattle.scaler.specs.Runs.{IsHeldSafely};
 
