@@ -36,8 +36,8 @@ use Rattle.image_check.specs.Known.{owner_by, AreWeighed, AreKnown, IsLevelsAnsw
 use Rattle.image_check.specs.Weights.{AreExtraWeights, AreStoredWeights}
 use Rattle.image_check.specs.Checked.{graph_by, weights_with, key_level, IsCounted, HasLevel, CountsNoLoop, IsOverLong, StartsNowhere, IsOverdue, IsMisled, IsPassed}
 use Rattle.image_check.specs.Checks.{IsOriginal, IsScannedBy, IsReceived, AreShortCosts, MeetsDeadline, AreExtraCycles}
-use Rattle.image_check.proofs.Extras.{extra_are_weights, stored_are_weights}
-use Rattle.image_check.proofs.Ranges.{slack_in_range, rest_in_range, turns_in_range}
+use Rattle.image_check.proofs.CallEdges.{extra_are_weights, stored_are_weights}
+use Rattle.scaler.proofs.Laws.{slack_in_range, rest_in_range, turns_in_range}
 
 some_number : {a b : ℕ} → Some a ≡ Some b → a ≡ b
 some_number e = cc
@@ -88,7 +88,7 @@ module _ (p : Original) (is : IsOriginal p) where
     stored_is costs same ws h = h p.view r.view p.tree owner found received.scanned ∙ ap (λ k. stored_site_weights t v.code (cycles_of k) (sites_of p.view r.view v.code l owner found)) same
 
     pub stored_calls : AreWeights g stored
-    stored_calls = stored_are_weights p.view r.view v p.tree owner found r.sites received.scanned (costs_of p.power)
+    stored_calls = stored_are_weights p.view r.view v.code l owner found received.scanned.code.reached received.scanned.scanned (costs_of p.power)
 
     pub calls_of : (ws : List ℕ) → by_edge ws ≡ stored → AreWeights (graph v) (by_edge ws)
     calls_of ws same = subst (λ w. AreWeights (graph v) w) (sym same) (by_lists (λ g. AreWeights g stored) stored_calls)
@@ -97,7 +97,7 @@ module _ (p : Original) (is : IsOriginal p) where
     added_is costs same ws h = h p.view r.view p.tree owner found received.scanned ∙ ap (λ k. extra_site_weights t v.code (cycles_of k) (sites_of p.view r.view v.code l owner found)) same
 
     added_calls : AreWeights g added
-    added_calls = extra_are_weights p.view r.view v p.tree owner found r.sites received.scanned (costs_of p.power)
+    added_calls = extra_are_weights p.view r.view v.code l owner found received.scanned.code.reached received.scanned.scanned (costs_of p.power)
 
     pub added_calls_of : (ws : List ℕ) → by_edge ws ≡ added → AreWeights (graph v) (by_edge ws)
     added_calls_of ws same = subst (λ w. AreWeights (graph v) w) (sym same) (by_lists (λ g. AreWeights g added) added_calls)
