@@ -18,7 +18,7 @@ use scale_base::{Keyed, NoMemory, Refusal, Stop, Summary};
 use std::alloc::Global;
 use worst_cycles::worst;
 
-/// No keyed segment is there yet.
+/// No keyed segment is there yet: `AlreadyScaled` exactly where there is one.
 pub fn check_unscaled(keyed: Option<Keyed>) -> Result<(), Refusal>
     ensures { result ≡ held.unscaled keyed }
 {
