@@ -1,5 +1,5 @@
 -- What a scan finds is determined, and which of its causes holds first.
-use Rattle.std.proofs.Common.{◌≡◌, ◌≢◌, ℕ, ℤ, ◌+◌, ◌<◌, ◌≤◌, Bool, true, false, ◌⊎◌, inl, inr, ⊎_elim, List, [], length, Option, Some, None, refl, sym, ap, ◌∙◌, subst, arith}
+use Rattle.std.proofs.Common.{◌≡◌, ℕ, ℤ, Bool, ◌⊎◌, inl, inr, ⊎_elim, List, length, Some, refl, sym, ap, ◌∙◌, subst, arith}
 use Rattle.std.specs.Prelude.{slice_get}
 use Rattle.std.proofs.lemmas.Bool.{both_ways, cases_Bool, cases_order}
 use Rattle.cost_theory.specs.declared.flow.Flow.{Flow}
@@ -22,9 +22,9 @@ use Rattle.foreign_scan.specs.declared.fragment.ForeignFragment.TheVariants.{Exi
 use Rattle.scale_base.specs.declared.verdict.Why.{Why}
 use Rattle.scale_base.specs.declared.verdict.Why.TheVariants as why
 use Rattle.foreign_scan.specs.Agree.{ScanIsNotRefused, CausesAgree, FoundAgree}
-use Rattle.foreign_scan.specs.Form.{IsRunOut, IsFork, IsStub}
+use Rattle.foreign_scan.specs.Form.{IsRunOut, IsStub}
 use Rattle.foreign_scan.specs.Least.{is_patch_at}
-use Rattle.foreign_scan.specs.Scanned.{Found, CanBePatched, IsChanged, is_changed, IsPatch, KeepsForm, IsOn, IsCountedAt, IsFirstCounted, IsLastRow, HasRows, AreFound, IsBadPatch, IsBadStub, IsScanned, IsLeastAddress, IsFirstWhy}
+use Rattle.foreign_scan.specs.Scanned.{Found, CanBePatched, IsChanged, is_changed, IsPatch, KeepsForm, IsOn, IsCountedAt, IsFirstCounted, IsLastRow, HasRows, AreFound, IsBadPatch, IsBadStub, IsLeastAddress, IsFirstWhy}
 use Rattle.foreign_scan.specs.Stubs.{AreSameOn}
 use Rattle.foreign_scan.proofs.EdgeLaws.{HasEdge, node_kind}
 use Rattle.foreign_scan.proofs.HoldLaws.{one_instr}

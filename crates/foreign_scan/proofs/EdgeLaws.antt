@@ -1,15 +1,15 @@
 -- Edges of a text's graph, by their address and their kind.
-use Rattle.std.proofs.Common.{◌≡◌, ◌≢◌, ℕ, ℤ, zero, suc, ◌+◌, ◌%◌, ◌<◌, Bool, true, false, ◌&&◌, ◌⊎◌, inl, inr, ⊎_elim, List, [], ◌∷◌, length, Option, Some, None, refl, sym, ap, ◌∙◌, subst, arith}
-use Rattle.std.specs.Prelude.{slice_get, ◌==◌, nat_eq}
+use Rattle.std.proofs.Common.{◌≡◌, ◌≢◌, ℕ, ◌+◌, ◌%◌, Bool, true, false, inl, inr, ⊎_elim, [], ◌∷◌, Option, Some, None, refl, sym, ap, ◌∙◌, subst, arith}
+use Rattle.std.specs.Prelude.{slice_get, ◌==◌}
 use Rattle.std.specs.List.{list_any}
 use Rattle.std.proofs.lemmas.Bool.{cases_order, and_parts, and_from, eqb-true, eq-eqb}
 use Rattle.cost_theory.specs.declared.flow.Flow.{Flow}
 use Rattle.cost_theory.specs.declared.flow.Flow.TheVariants as flow
-use Rattle.cost_theory.specs.Graph.{Loops, is_header, is_back, is_round, goes_back}
-use Rattle.cost_theory.specs.Reached.{Reached, Code, edges_of, edge_to, edge_at, call_returns, IsCodeOf}
+use Rattle.cost_theory.specs.Graph.{Loops, is_header, goes_back}
+use Rattle.cost_theory.specs.Reached.{Reached, Code, edges_of, call_returns}
 use Rattle.cost_theory.proofs.Laws.{Within, word_edge, edge_of_word}
 use Rattle.code_text.specs.TextGraph.{IsReachedCode}
-use Rattle.code_text.specs.Text.{Text, text_of, instr_at, kind_at, instr_kind, is_text_address, jal_kind}
+use Rattle.code_text.specs.Text.{text_of, instr_at, kind_at, instr_kind, jal_kind}
 use Rattle.code_text.proofs.Laws.{kind_facts}
 use Rattle.scale_base.specs.declared.edges.Edge.{Edge}
 use Rattle.scale_base.specs.declared.edges.EdgeKind.{EdgeKind}

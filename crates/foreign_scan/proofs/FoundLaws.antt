@@ -1,5 +1,5 @@
 -- What is found in the stubs of an image, by what is known of the words of nodes.
-use Rattle.std.proofs.Common.{◌≡◌, ℕ, ℤ, zero, suc, ◌+◌, ◌<◌, Bool, true, false, ◌⊎◌, inl, inr, ⊎_elim, List, [], ◌∷◌, length, Option, Some, None, refl, sym, ap, ◌∙◌, subst, arith}
+use Rattle.std.proofs.Common.{◌≡◌, ℕ, suc, ◌⊎◌, inl, inr, ⊎_elim, List, [], ◌∷◌, Option, Some, None, refl, sym, ap, ◌∙◌, subst, arith}
 use Rattle.std.specs.Prelude.{slice_get, All}
 use Rattle.std.proofs.lemmas.Bool.{both_ways}
 use Rattle.std.proofs.lemmas.List.Elements.{All-nil, All-cons}
@@ -7,7 +7,6 @@ use Rattle.std.proofs.lemmas.Option.{slice_get_within}
 use Rattle.cost_theory.specs.Reached.{Code}
 use Rattle.code_text.specs.Text.{text_of}
 use Rattle.code_text.specs.TextGraph.{IsReachedCode}
-use Rattle.scale_base.specs.declared.edges.Edge.{Edge}
 use Rattle.scale_base.specs.declared.edges.EdgeKind.{EdgeKind}
 use Rattle.scale_base.specs.declared.edges.EdgeKind.TheVariants.{Taken, Untaken, Jump, Next, CallNext, End}
 use Rattle.scale_base.specs.declared.instruction.Instr.{Instr}
@@ -19,8 +18,8 @@ use Rattle.foreign_scan.specs.declared.site.Site.{Site}
 use Rattle.foreign_scan.specs.declared.site.Site.TheVariants.{Same, Broken, Kept}
 use Rattle.foreign_scan.specs.declared.stub.StubFragments.{StubFragments}
 use Rattle.foreign_scan.specs.declared.stub.StubFragments.TheVariants as stub
-use Rattle.foreign_scan.specs.Form.{IsForeign, IsStub}
-use Rattle.foreign_scan.specs.Rows.{StubIsForeign, SiteIsForeign}
+use Rattle.foreign_scan.specs.Form.{IsStub}
+use Rattle.foreign_scan.specs.Rows.{SiteIsForeign}
 use Rattle.foreign_scan.specs.Scanned.{Found, is_changed, IsChanged, IsPatch, KeepsForm, IsOn, AreFound, CanBePatched}
 use Rattle.foreign_scan.specs.Scans.{IsPatchedWell}
 use Rattle.foreign_scan.specs.Sites.{IsKeptAt, IsBrokenAt, IsSiteAt, AreSitesOf, site_fragments, site_beside, found_in}

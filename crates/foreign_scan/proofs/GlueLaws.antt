@@ -1,11 +1,10 @@
 -- A scan over the lists of a graph.
-use Rattle.std.proofs.Common.{◌≡◌, ℕ, zero, suc, ◌+◌, ◌<◌, ◌≤◌, true, false, List, [], ◌∷◌, length, get_or, Option, Some, None, Result, Ok, Err, refl, sym, ap, ◌∙◌, subst, arith}
+use Rattle.std.proofs.Common.{◌≡◌, ℕ, ◌<◌, List, length, Some, None, Result, Ok, Err, sym, ap, ◌∙◌, subst, arith}
 use Rattle.std.specs.Prelude.{slice_get, slice_index, All, IfOk}
 use Rattle.std.proofs.lemmas.Option.{slice_get_within, slice_get-get_or}
 use Rattle.code_text.specs.Walk.{RiseStrictly}
 use Rattle.cost_theory.specs.Graph.{Loops}
 use Rattle.cost_theory.specs.Reached.{Code}
-use Rattle.scale_base.specs.declared.edges.Edge.{Edge}
 use Rattle.scale_base.specs.Image.{Image}
 use Rattle.scale_base.specs.declared.verdict.Why.TheVariants as why
 use Rattle.foreign_scan.specs.declared.lists.GraphLists.{GraphLists}
@@ -13,7 +12,7 @@ use Rattle.foreign_scan.specs.declared.list_scan.Scanned.TheVariants as scan
 use Rattle.foreign_scan.specs.declared.site.Site.{Site}
 use Rattle.foreign_scan.specs.Counts.{numbered, AreLimits, AreSized}
 use Rattle.foreign_scan.specs.Lists.{AreListsOf}
-use Rattle.foreign_scan.specs.Rows.{is_sound, IsFirstUnsound, SiteIsForeign}
+use Rattle.foreign_scan.specs.Rows.{IsFirstUnsound, SiteIsForeign}
 use Rattle.foreign_scan.specs.Scans.{IsScanOf, IsPatchedWell}
 use Rattle.foreign_scan.specs.Shown.{SitesView, ShowsSites}
 use Rattle.foreign_scan.specs.Sites.{AreSitesOf, found_in}

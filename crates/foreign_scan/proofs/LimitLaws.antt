@@ -1,12 +1,10 @@
 -- How far counters count, as the rule on rows has it.
-use Rattle.std.proofs.Common.{◌≡◌, ◌↔◌, ℕ, zero, suc, ◌+◌, ◌*◌, ◌/◌, ◌^◌, ◌<◌, ◌≤◌, Bool, true, false, ◌&&◌, ◌||◌, ◌⊎◌, inl, inr, ⊎_elim, List, [], ◌∷◌, length, map, Option, Some, None, refl, sym, ap, ◌∙◌, subst, arith}
-use Rattle.std.specs.Prelude.{slice_get, slice_index, All, ◌==◌}
-use Rattle.std.specs.List.{list_any}
+use Rattle.std.proofs.Common.{◌≡◌, ℕ, zero, suc, ◌/◌, ◌^◌, ◌<◌, true, inl, inr, ⊎_elim, List, [], ◌∷◌, length, Option, Some, None, refl, sym, ap, ◌∙◌, subst, arith}
+use Rattle.std.specs.Prelude.{slice_get}
 use Rattle.std.proofs.Math.Nat.{zero-div}
-use Rattle.std.proofs.lemmas.Bool.{cases_Bool, cases_order, both_ways, or_cases, or_left, or_right, eqb-true, eq-eqb}
-use Rattle.std.proofs.lemmas.List.Elements.{All-head, All-tail}
-use Rattle.std.proofs.lemmas.Option.{slice_get_within, get_or_from_slice_get}
-use Rattle.cost_theory.specs.Graph.{Loops, is_back}
+use Rattle.std.proofs.lemmas.Bool.{cases_order, both_ways, or_cases, or_left, or_right, eqb-true, eq-eqb}
+use Rattle.std.proofs.lemmas.Option.{slice_get_within}
+use Rattle.cost_theory.specs.Graph.{Loops}
 use Rattle.cost_theory.specs.Reached.{Code, edge_to, edge_at}
 use Rattle.code_text.specs.Text.{text_of}
 use Rattle.code_text.specs.TextGraph.{text_graph}
@@ -19,13 +17,13 @@ use Rattle.foreign_scan.specs.declared.fragment.ForeignFragment.TheVariants.{Swi
 use Rattle.foreign_scan.specs.declared.site.Site.{Site}
 use Rattle.foreign_scan.specs.declared.stub.StubFragments.{StubFragments}
 use Rattle.foreign_scan.specs.declared.stub.StubFragments.TheVariants as stub
-use Rattle.foreign_scan.specs.Counts.{count_in, counts_with, numbered_at, numbered, is_before, bound_at, limit_of, CountsOn, IsFirstBelow, AreLimits}
-use Rattle.foreign_scan.specs.Scanned.{Found, IsOn, kind_place, ComesBefore, IsCountedAt, IsFirstCounted, IsLastRow}
+use Rattle.foreign_scan.specs.Counts.{count_in, counts_with, numbered_at, numbered, is_before, bound_at, limit_of, CountsOn, IsFirstBelow}
+use Rattle.foreign_scan.specs.Scanned.{IsOn, kind_place, ComesBefore, IsCountedAt, IsFirstCounted, IsLastRow}
 use Rattle.foreign_scan.specs.declared.lists.GraphLists.{GraphLists}
 use Rattle.foreign_scan.specs.Lists.{AreListsOf}
 use Rattle.foreign_scan.specs.Sites.{AreSitesOf, site_fragments, found_in}
 use Rattle.foreign_scan.specs.Stubs.{fragments_of}
-use Rattle.foreign_scan.proofs.CountLaws.{before_to, test_from, test_to}
+use Rattle.foreign_scan.proofs.CountLaws.{test_to}
 use Rattle.foreign_scan.proofs.ListLaws.{get_there}
 use Rattle.foreign_scan.proofs.EdgeLaws.{edges_same, same_header}
 use Rattle.foreign_scan.proofs.FoundLaws.{found_at, site_there, held_stub, kept_changed, kept_form}

@@ -1,9 +1,8 @@
 -- The bytes that the segments of an image load.
-use Rattle.std.proofs.Common.{◌≡◌, ◌≢◌, ℕ, zero, suc, ◌+◌, ◌-◌, ◌*◌, ◌%◌, ◌^◌, ◌<◌, ◌≤◌, Bool, true, false, cond, not, ◌&&◌, ◌||◌, ◌⊎◌, inl, inr, ⊎_elim, List, [], ◌∷◌, length, take, drop, map, Option, Some, None, Ok, refl, sym, ap, ◌∙◌, subst, arith, add-one}
+use Rattle.std.proofs.Common.{◌≡◌, ◌≢◌, ℕ, zero, suc, ◌+◌, ◌-◌, ◌%◌, ◌<◌, ◌≤◌, Bool, true, false, cond, not, ◌&&◌, ◌||◌, ◌⊎◌, inl, inr, List, [], ◌∷◌, length, drop, map, Option, Some, None, Ok, refl, sym, ap, ◌∙◌, subst, arith, add-one}
 use Rattle.std.specs.Prelude.{slice_get, slice_range, option_map, nat_lt, nat_le, ◌==◌, All}
 use Rattle.std.specs.List.{find, list_all, list_any}
-use Rattle.std.proofs.lemmas.Bool.{cases_Bool, cases_eq, and_parts, and_from, cond-true, cond-false, leb-true, ltb-true, lt-ltb, le-leb, eq-eqb, cond_both}
-use Rattle.std.proofs.lemmas.Bool.Decides.{nat_tests}
+use Rattle.std.proofs.lemmas.Bool.{cases_Bool, cases_eq, and_parts, and_from, cond-true, cond-false, leb-true, ltb-true, lt-ltb, le-leb, eq-eqb}
 use Rattle.std.proofs.lemmas.List.{length-map, length-take}
 use Rattle.std.proofs.lemmas.List.Elements.{All-head, All-tail}
 use Rattle.std.proofs.lemmas.Option.{slice_get-map}
@@ -15,7 +14,7 @@ use Rattle.scale_base.specs.Spans.{ends_by, overlap}
 use Rattle.scale_base.specs.Layout.{layout_of, in_text}
 use Rattle.scale_base.proofs.Laws.{contents-are}
 use Rattle.machine_laws.proofs.Laws.{found_in, mapped_from, segments_of, IsTextRange, text_ranges_kept}
-use Rattle.foreign_scan.specs.Least.{IsFrom, IsInRanges, file_range}
+use Rattle.foreign_scan.specs.Least.{IsInRanges, file_range}
 use Rattle.foreign_scan.specs.Scanned.{IsOddByte}
 
 -- ---- the first segment that covers an address

@@ -8,7 +8,6 @@ use Rattle.foreign_scan.specs.declared.site.Site.{Site}
 use Rattle.foreign_scan.specs.declared.sites.EdgePlace.{EdgePlace}
 use Rattle.foreign_scan.specs.Shown.{ArePlacesOf, AreWithin}
 use Rattle.foreign_scan.proofs.ListLaws.{get_there}
-use Rattle.foreign_scan.proofs.ReadLaws.{same_some}
 use Rattle.foreign_scan.proofs.SiteLaws.{get_pushed}
 
 pub record ArePlacesBelow (sources : List ℕ) (edges : List Edge) (n : ℕ) (places : List EdgePlace) : Type 0 where

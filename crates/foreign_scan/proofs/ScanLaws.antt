@@ -1,5 +1,5 @@
 -- What a scan answers, from what is known of the words of nodes and of rows.
-use Rattle.std.proofs.Common.{◌≡◌, ℕ, zero, suc, ◌+◌, ◌*◌, ◌/◌, ◌^◌, ◌<◌, ◌≤◌, Bool, true, false, ◌&&◌, ◌⊎◌, inl, inr, ⊎_elim, List, [], ◌∷◌, length, map, Option, Some, None, refl, sym, ap, ◌∙◌, subst, arith}
+use Rattle.std.proofs.Common.{◌≡◌, ℕ, zero, suc, ◌+◌, ◌/◌, ◌^◌, ◌<◌, true, false, ◌&&◌, inl, inr, List, [], ◌∷◌, length, Some, refl, sym, ap, ◌∙◌, subst, arith}
 use Rattle.std.specs.Prelude.{slice_get, slice_index, All, option_map}
 use Rattle.std.proofs.lemmas.Bool.{cases_Bool, cases_lt, both_ways, and_parts}
 use Rattle.std.proofs.lemmas.List.{length-map}
@@ -7,7 +7,6 @@ use Rattle.std.proofs.lemmas.List.Elements.{All-head, All-tail}
 use Rattle.std.proofs.lemmas.Option.{slice_get_within, slice_get-map, get_or_from_slice_get}
 use Rattle.cost_theory.specs.Graph.{Loops}
 use Rattle.cost_theory.specs.Reached.{Code, edge_at}
-use Rattle.scale_base.specs.declared.edges.Edge.{Edge}
 use Rattle.scale_base.specs.declared.edges.EdgeKind.{EdgeKind}
 use Rattle.scale_base.specs.declared.edges.EdgeKind.TheVariants.{Taken, Untaken, Jump, Next, CallNext, End}
 use Rattle.scale_base.specs.Arith.{moved_by}
@@ -17,7 +16,6 @@ use Rattle.foreign_scan.specs.declared.fragment.ForeignFragment.TheVariants.{Swi
 use Rattle.scale_base.specs.declared.verdict.Why.TheVariants as why
 use Rattle.foreign_scan.specs.declared.site.Site.{Site}
 use Rattle.foreign_scan.specs.declared.site.Site.TheVariants.{Same, Broken, Kept}
-use Rattle.foreign_scan.specs.declared.sites.EdgePlace.{EdgePlace}
 use Rattle.foreign_scan.specs.declared.stub.StubFragments.{StubFragments}
 use Rattle.foreign_scan.specs.declared.stub.StubFragments.TheVariants as stub
 use Rattle.foreign_scan.specs.Counts.{numbered, AreLimits}
@@ -25,15 +23,15 @@ use Rattle.foreign_scan.specs.Lists.{AreListsOf}
 use Rattle.foreign_scan.specs.declared.lists.GraphLists.{GraphLists}
 use Rattle.foreign_scan.specs.Form.{IsForeign, AreRowsIn}
 use Rattle.foreign_scan.specs.Rows.{rows_in, has_rows, all_have_rows, stub_has_rows, is_sound, IsFirstUnsound}
-use Rattle.foreign_scan.specs.Scanned.{IsOn, IsChanged, is_changed, KeepsForm, HasRows, IsLastRow, IsBadStub, IsBadPatch, IsScanned, IsFirstWhy}
+use Rattle.foreign_scan.specs.Scanned.{IsOn, IsChanged, is_changed, KeepsForm, HasRows, IsBadStub, IsScanned, IsFirstWhy}
 use Rattle.foreign_scan.specs.Scans.{IsPatchedWell, IsShownBy}
-use Rattle.foreign_scan.specs.Shown.{SitesView, fragments_at, sites_view, ArePlacesOf, ShowsSites}
-use Rattle.foreign_scan.specs.Sites.{IsKeptAt, IsBrokenAt, IsSiteAt, AreSitesOf, site_fragments, found_in, is_patched}
+use Rattle.foreign_scan.specs.Shown.{SitesView, fragments_at, ShowsSites}
+use Rattle.foreign_scan.specs.Sites.{IsKeptAt, IsSiteAt, AreSitesOf, site_fragments, found_in, is_patched}
 use Rattle.foreign_scan.specs.Stubs.{fragments_of}
 use Rattle.foreign_scan.proofs.ListLaws.{get_there}
 use Rattle.foreign_scan.proofs.EdgeLaws.{node_word}
 use Rattle.foreign_scan.proofs.ForeignLaws.{kind_foreign, stub_foreign}
-use Rattle.foreign_scan.proofs.FoundLaws.{kept_form, broken_form, found_at, are_found, kept_changed}
+use Rattle.foreign_scan.proofs.FoundLaws.{kept_form, broken_form, found_at, are_found}
 use Rattle.foreign_scan.proofs.LimitLaws.{last_row_there, last_row_only}
 use Rattle.foreign_scan.proofs.ReadLaws.{same_some}
 use Rattle.foreign_scan.proofs.RowLaws.{rows_lie, rows_test, row_of, missing_row}

@@ -1,12 +1,11 @@
 -- The causes before those of stubs.
-use Rattle.std.proofs.Common.{◌≡◌, ℕ, List, length, Option, Some, None, sym, ap, ◌∙◌, subst}
-use Rattle.std.specs.Prelude.{IfSome}
+use Rattle.std.proofs.Common.{◌≡◌, ℕ, List, length, Some, None, sym, subst}
 use Rattle.cost_theory.specs.Graph.{Loops}
 use Rattle.cost_theory.specs.Reached.{Code}
 use Rattle.scale_base.specs.Image.{Image}
 use Rattle.scale_base.specs.declared.verdict.Why.TheVariants as why
 use Rattle.foreign_scan.specs.Least.{IsLeastOf, IsInRanges, is_bad_word}
-use Rattle.foreign_scan.specs.Scanned.{IsLaidAlike, IsOddByte, IsBadPatch, IsLeastAddress, IsFirstWhy}
+use Rattle.foreign_scan.specs.Scanned.{IsLaidAlike, IsOddByte, IsBadPatch, IsFirstWhy}
 use Rattle.foreign_scan.specs.Scans.{IsPatchedWell}
 use Rattle.foreign_scan.proofs.LeastLaws.{least_some}
 use Rattle.foreign_scan.proofs.PatchLaws.{bad_from, bad_to, all_patched}

@@ -1,5 +1,5 @@
 -- The first edge on which a counter counts, and how far it counts.
-use Rattle.std.specs.Prelude.{◌≡◌, ◌⊎◌, ℕ, ◌+◌, ◌/◌, ◌^◌, ◌<◌, ◌==◌, nat_lt, ◌&&◌, ◌||◌, Bool, true, false, if◌then◌else◌, List, [], length, slice_get, slice_index, Option, Some, None}
+use Rattle.std.specs.Prelude.{◌≡◌, ℕ, ◌<◌, ◌==◌, nat_lt, ◌&&◌, ◌||◌, Bool, true, false, if◌then◌else◌, List, [], length, slice_get, slice_index, Option, Some, None}
 use Rattle.std.specs.List.{list_any}
 use Rattle.scale_base.specs.declared.edges.Edge.{Edge}
 use Rattle.foreign_scan.specs.declared.fragment.ForeignFragment.{ForeignFragment}

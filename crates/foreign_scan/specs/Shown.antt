@@ -1,5 +1,5 @@
 -- What is found in an image, by the numbers of nodes and edges.
-use Rattle.std.specs.Prelude.{◌≡◌, ◌<◌, ℕ, Bool, List, All, length, map, slice_get, Option, Some}
+use Rattle.std.specs.Prelude.{◌≡◌, ◌<◌, ℕ, Bool, List, All, length, map, slice_get, Some}
 use Rattle.scale_base.specs.declared.edges.Edge.{Edge}
 use Rattle.foreign_scan.specs.declared.fragment.ForeignFragment.{ForeignFragment}
 use Rattle.foreign_scan.specs.declared.site.Site.{Site}

@@ -7,7 +7,7 @@ ghost use Rattle.scale_base.specs.declared.instruction.ImmOp.{ImmOp};
 ghost use Rattle.scale_base.specs.Reading.{instr_of};
 ghost use Rattle.stub_writer.specs.Fragments as fragments;
 ghost use Rattle.stub_writer.specs.Fragments.{IsShadow};
-ghost use Rattle.foreign_scan.specs.Form.{HoldsAt, Hold, IsForeign, foreign_code, foreign_len};
+ghost use Rattle.foreign_scan.specs.Form.{HoldsAt, Hold, foreign_len};
 ghost use Rattle.foreign_scan.specs.KeyWords.{FragmentStandsAt};
 
 use crate::fragment::ForeignFragment;

@@ -1,10 +1,8 @@
 //! The code that a stub holds for one edge.
 
-ghost use Rattle.std.specs.Prelude.{◌≡◌, ◌↔◌, ◌+◌, ◌*◌, ◌≤◌, ◌<◌, ◌^◌, ℕ, List, length, IfOk, IfSome, IfNone, Some, IsTrue, All};
-ghost use Rattle.std.specs.List.{flat_map};
+ghost use Rattle.std.specs.Prelude.{◌≡◌, ◌↔◌, ◌+◌, ◌*◌, ◌≤◌, ◌<◌, ◌^◌, List, IfOk, IfSome, IfNone, Some, IsTrue};
 ghost use Rattle.foreign_scan.specs.declared.fragment.ForeignFragment.{ForeignFragment};
 ghost use Rattle.foreign_scan.specs.Form.{ChoosesNone, FirstChooses, JumpsTo, IsRunOut, behind_fragments};
-ghost use Rattle.foreign_scan.specs.KeyWords.{FragmentStandsAt};
 ghost use Rattle.foreign_scan.specs.RunOuts.{AreAt, IsWhole};
 
 use crate::fragment::ForeignFragment;

@@ -1,6 +1,6 @@
 //! The fragments that are found in an image, by the nodes and edges of the original's graph.
 
-ghost use Rattle.std.specs.Prelude.{◌≡◌, ◌<◌, ℕ, Some, length, slice_get, IfOk};
+ghost use Rattle.std.specs.Prelude.{◌≡◌, ◌<◌, Some, length, slice_get, IfOk};
 ghost use Rattle.foreign_scan.specs.Counts.{AreSized};
 ghost use Rattle.foreign_scan.specs.Shown.{ArePlacesOf, ShowsSites};
 

@@ -1,6 +1,6 @@
 //! The stub of one instruction.
 
-ghost use Rattle.std.specs.Prelude.{◌≡◌, ◌↔◌, ◌+◌, ◌<◌, ◌^◌, ℕ, ℤ, List, IfOk, IfSome, IfNone, Some};
+ghost use Rattle.std.specs.Prelude.{◌≡◌, ◌↔◌, ◌+◌, ◌<◌, ℤ, List, IfOk, IfSome, IfNone, Some};
 ghost use Rattle.scale_base.specs.declared.edges.EdgeKind.{EdgeKind};
 ghost use Rattle.foreign_scan.specs.declared.fragment.ForeignFragment.{ForeignFragment};
 ghost use Rattle.foreign_scan.specs.Form.{HoldsAt, IsStub};

@@ -22,7 +22,7 @@ use Rattle.loop_file.specs.declared.notes.LoopNote.{LoopNote}
 use Rattle.loop_file.specs.Loops.{read_loops}
 use Rattle.speed_sim.specs.Simulated.{simulated, report_of, run_end, loops_allowed, level_allowed, given_notes}
 use Rattle.scaler.specs.Held.{IsHeld}
-use Rattle.scaler.specs.RewrittenAs.{IsStoredSafely}
+use Rattle.scaler.specs.Promise.{IsStoredSafely}
 use Rattle.scaler.proofs.Laws.{held_parts, held_safe, found_below}
 use Rattle.gain_tuner.specs.Finding.{RunsAlways}
 use Rattle.gain_tuner.specs.Spending.{ends_by_exit, was_kept, exits_kept, counts, unless_out_of_steps, spent_by, spent_on}
@@ -52,15 +52,15 @@ simulated_keyed stored machine input power image key a b c d =
 ok_of : {A : Type 0} (r : Result A Refusal) (a : A) → r ≡ Ok a → IsOk r
 ok_of r a e = subst (λ q. IsOk q) (sym e) refl
 
-pub starts_below : (image machine loops stored : List ℕ) (summary : Summary) (s : IsStoredSafely image machine loops stored summary) → s.key.start < length s.power.levels
+pub starts_below : (image machine loops stored : List ℕ) (summary : Summary) (s : IsStoredSafely image machine loops stored summary) → s.files.key.start < length s.files.power.levels
 starts_below image machine loops stored summary s =
-    let below = found_below (is_in_time s.power summary.worst) 0 (length s.power.levels) summary.start s.slow in
-    let small : summary.start < length s.power.levels = omega (arith, below) in
-    subst (λ l. l < length s.power.levels) (sym s.starts) small
+    let below = found_below (is_in_time s.files.power summary.worst) 0 (length s.files.power.levels) summary.start s.slow in
+    let small : summary.start < length s.files.power.levels = omega (arith, below) in
+    subst (λ l. l < length s.files.power.levels) (sym s.files.starts) small
 
 pub stored_runs : (image machine loops stored : List ℕ) (summary : Summary) → IsStoredSafely image machine loops stored summary → RunsAlways stored machine None
-stored_runs image machine loops stored summary s input = ok_of (simulated stored machine input None) (report_of s.power s.rewritten input None)
-    (simulated_keyed stored machine input s.power s.rewritten s.key s.power_is s.rewritten_is s.keyed (starts_below image machine loops stored summary s))
+stored_runs image machine loops stored summary s input = ok_of (simulated stored machine input None) (report_of s.files.power s.files.rewritten input None)
+    (simulated_keyed stored machine input s.files.power s.files.rewritten s.files.key s.files.power_is s.files.rewritten_is s.files.keyed (starts_below image machine loops stored summary s))
 
 -- ---- the held image
 
@@ -99,10 +99,10 @@ module _ (image machine loops stored : List ℕ) (summary : Summary) (is : IsHel
       let stands = (h.runs input h.power.steps).standing in
       let ends : (report_of h.power h.held input None).end ≡ (report_of h.power h.original input (Some h.notes)).end =
       report_end h.power h.held input None ∙ (ap run_end stands ∙ sym (report_end h.power h.original input (Some h.notes))) in
-      let s = safely in
+      let s = safely.files in
       let other : s.power ≡ h.power = same_ok (read_machine machine) s.power h.power s.power_is h.power_is in
       let held : s.rewritten ≡ h.held = same_ok (image_of stored) s.rewritten h.held s.rewritten_is h.held_is in
-      let keyed = simulated_keyed stored machine input s.power s.rewritten s.key s.power_is s.rewritten_is s.keyed (starts_below image machine loops stored summary s) in
+      let keyed = simulated_keyed stored machine input s.power s.rewritten s.key s.power_is s.rewritten_is s.keyed (starts_below image machine loops stored summary safely) in
       let there : simulated stored machine input None ≡ Ok (report_of h.power h.held input None) =
       keyed ∙ (ap (λ (q : PowerModel). Ok (report_of q s.rewritten input None)) other ∙ ap (λ (o : Image). Ok (report_of h.power o input None)) held) in
       subst (λ (r : Result Report Refusal). IsSome (spent_by r)) (sym there)

@@ -3,7 +3,7 @@ use Rattle.std.specs.Prelude.{◌≡◌, ℕ, nat_lt, if◌then◌else◌, List,
 use Rattle.std.specs.List.{All}
 use Rattle.std.specs.Result.{IsOk}
 use Rattle.scale_base.specs.declared.summary.Summary.{Summary}
-use Rattle.scaler.specs.RewrittenAs.{IsStoredSafely}
+use Rattle.scaler.specs.Promise.{IsStoredSafely}
 use Rattle.speed_sim.specs.Simulated.{simulated}
 use Rattle.gain_tuner.specs.declared.choosing.Trial.{Trial}
 use Rattle.gain_tuner.specs.Spending.{IsSpent, spent_on}

@@ -1,35 +1,24 @@
 -- Each edge of a program's code has one number, and a patched instruction has at most two edges, which differ in their places.
-use Rattle.std.proofs.Common.{◌≡◌, ◌⊎◌, inl, inr, ⊎_elim, ℕ, zero, suc, ◌+◌, ◌*◌, ◌<◌, Bool, true, false, List, [], ◌∷◌, ◌++◌, length, refl, arith, sym, ap, ◌∙◌, subst, slice_get, Option, Some, None}
-use Rattle.std.specs.List.{flat_map, sum_by}
+use Rattle.std.proofs.Common.{◌≡◌, ◌⊎◌, inl, inr, ⊎_elim, ℕ, zero, suc, ◌+◌, ◌<◌, Bool, true, false, List, [], ◌∷◌, ◌++◌, refl, arith, sym, ap, ◌∙◌, subst, slice_get, Some}
+use Rattle.std.specs.List.{flat_map}
 use Rattle.std.proofs.lemmas.List.Concat.{flat_map-cons}
 use Rattle.scale_base.specs.declared.edges.Edge.{Edge}
 use Rattle.scale_base.specs.declared.edges.EdgeKind.{EdgeKind}
 use Rattle.scale_base.specs.declared.edges.EdgeKind.TheVariants.{Taken, Untaken, Next, CallNext, End}
 use Rattle.scale_base.specs.declared.instruction.Instr.{Instr}
 use Rattle.scale_base.specs.declared.instruction.Instr.TheVariants as instr
-use Rattle.scale_base.specs.declared.stepping.Class.{Class}
-use Rattle.scale_base.specs.declared.stepping.Class.TheVariants as classes
 use Rattle.scale_base.specs.Image.{Image}
-use Rattle.power_model.specs.Numbers.{PowerModel}
-use Rattle.power_model.specs.Switches.{costs_of}
 use Rattle.cost_theory.specs.declared.flow.Flow.{Flow}
 use Rattle.cost_theory.specs.declared.flow.Flow.TheVariants as flow
-use Rattle.cost_theory.specs.Accepted.{AreWeights}
-use Rattle.cost_theory.specs.Graph.{Graph, Loops}
-use Rattle.cost_theory.specs.Reached.{Reached, Code, IsCodeOf, edge_at, edges_of, call_returns, callee_of}
-use Rattle.cost_theory.proofs.Laws.{Within, get_within, within_get, within_flat, edges-at, callee_word, source_reached}
-use Rattle.code_text.specs.EdgeCosts.{edge_class}
+use Rattle.cost_theory.specs.Graph.{Loops}
+use Rattle.cost_theory.specs.Reached.{Reached, Code, IsCodeOf, edges_of, call_returns}
+use Rattle.cost_theory.proofs.Laws.{Within, get_within, within_get, within_flat, edges-at}
 use Rattle.code_text.specs.Text.{Text, text_of, instr_kind, kind_at}
-use Rattle.code_text.specs.TextGraph.{text_graph, IsReachedCode}
-use Rattle.code_text.proofs.Laws.{kind_facts, weights_are}
-use Rattle.stub_writer.specs.Stubs.{Site}
-use Rattle.stored_runs.specs.Cycles.{fragment_cost}
-use Rattle.stored_runs.specs.Marks.{place_at, fragments_of_class, jumps_by}
-use Rattle.paid_runs.specs.Marked.{extra_by}
-use Rattle.paid_runs.specs.Timely.{weights_of}
+use Rattle.code_text.specs.TextGraph.{IsReachedCode}
+use Rattle.code_text.proofs.Laws.{kind_facts}
 use Rattle.foreign_scan.specs.Scanned.{Found, is_changed, CanBePatched, kind_place, IsScanned}
-use Rattle.image_check.specs.Safe.{Owner, sites_of}
-use Rattle.image_check.proofs.OnEdges.{reached_word, same_place}
+use Rattle.image_check.specs.Safe.{Owner}
+use Rattle.image_check.proofs.OnEdges.{reached_word}
 
 -- ---- lists without repetition
 
@@ -122,31 +111,11 @@ same_edge t at (instr.Fence rd rs1 imm) r x y can wx wy same = absurd can
 same_edge t at instr.Ecall r x y can wx wy same = absurd can
 same_edge t at instr.Ebreak r x y can wx wy same = absurd can
 
--- ---- the edges of one call cost the same
-
-no_callee : (t : Text) (functions : List ℕ) (at : ℕ) (i : Instr) → CanBePatched i → callee_of functions (instr_kind t at i) ≡ None
-no_callee t functions at (instr.Branch op rs1 rs2 offset) can = refl
-no_callee t functions at (instr.Jal rd offset) can = ap (λ d. callee_of functions (instr_kind t at (instr.Jal d offset))) can
-no_callee t functions at (instr.Lui rd imm) can = absurd can
-no_callee t functions at (instr.Auipc rd imm) can = absurd can
-no_callee t functions at (instr.Jalr rd rs1 offset) can = absurd can
-no_callee t functions at (instr.Load op rd rs1 offset) can = absurd can
-no_callee t functions at (instr.Store op rs1 rs2 offset) can = absurd can
-no_callee t functions at (instr.Imm op rd rs1 imm) can = absurd can
-no_callee t functions at (instr.Reg op rd rs1 rs2) can = absurd can
-no_callee t functions at (instr.Fence rd rs1 imm) can = absurd can
-no_callee t functions at instr.Ecall can = absurd can
-no_callee t functions at instr.Ebreak can = absurd can
+-- ---- a patched instruction
 
 module _ (original foreign : Image) (code : Code) (l : Loops) (owner : Owner) (found : Found) (reached : IsReachedCode (text_of original) code) (scanned : IsScanned original foreign code l found) where
   abbrev t : Text
   t = text_of original
-
-  abbrev g : Graph
-  g = text_graph t code
-
-  abbrev sites : List Site
-  sites = sites_of original foreign code l owner found
 
   pub record IsPatchedAt (at : ℕ) : Type 0 where
     pub instr : Instr
@@ -159,31 +128,3 @@ module _ (original foreign : Image) (code : Code) (l : Loops) (owner : Owner) (f
       let facts = kind_facts t at (reached.words f at r) in
       let same : facts.2.0 ≡ p.old_instr = (let a = facts.2.1 in let b = p.old in cc) in
       record { instr = p.old_instr; can_be = p.can_be; kind = facts.2.2 ∙ ap (instr_kind t at) same }
-
-  callee_is : (e : ℕ) → e < length code.edges → g.callee e ≡ callee_of code.functions (kind_at t (edge_at (slice_get code.edges e)))
-  callee_is e lt = callee_word (kind_at t) code.functions code.edges e lt
-
-  call_unplaced : (e f : ℕ) → e < length code.edges → g.callee e ≡ Some f → place_at sites (edge_at (slice_get code.edges e)) ≡ None
-  call_unplaced e f lt callee = by (is_changed original foreign (edge_at (slice_get code.edges e))) refl (source_reached (kind_at t) t.entry code reached.lists reached.words e lt)
-    where
-      by : (b : Bool) → is_changed original foreign (edge_at (slice_get code.edges e)) ≡ b → (h : ℕ) × Reached (kind_at t) t.entry h (edge_at (slice_get code.edges e)) → place_at sites (edge_at (slice_get code.edges e)) ≡ None
-      by false off r = same_place original foreign code l owner found reached scanned (edge_at (slice_get code.edges e)) off
-      by true on r =
-          let p = patched_at (edge_at (slice_get code.edges e)) r.0 r.1 on in
-          let none : None ≡ Some f = sym (no_callee t code.functions (edge_at (slice_get code.edges e)) p.instr p.can_be) ∙ (sym (ap (callee_of code.functions) p.kind) ∙ (sym (callee_is e lt) ∙ callee)) in
-          let never : ⊥ = cc in absurd never
-
-  none_extra : (costs : Class → ℕ) (at : ℕ) (o : Option Class) → place_at sites at ≡ None → extra_by costs sites at o ≡ 0
-  none_extra costs at None none = refl
-  none_extra costs at (Some class) none =
-      let z : 0 * costs classes.Jump + 0 ≡ 0 = omega arith in
-      ap (λ q. jumps_by q * costs classes.Jump + sum_by (fragment_cost costs) (fragments_of_class q class)) none ∙ z
-
-  pub weights_hold : (power : PowerModel) → AreWeights g (weights_of power t code sites)
-  weights_hold power d e f dl el same callee =
-      let costs = costs_of power in
-      let other : g.callee e ≡ Some f = callee_is e el ∙ (ap (λ a. callee_of code.functions (kind_at t a)) (sym same) ∙ (sym (callee_is d dl) ∙ callee)) in
-      let plain = weights_are t code costs d e f dl el same callee in
-      let first = none_extra costs (edge_at (slice_get code.edges d)) (edge_class t (slice_get code.edges d)) (call_unplaced d f dl callee) in
-      let second = none_extra costs (edge_at (slice_get code.edges e)) (edge_class t (slice_get code.edges e)) (call_unplaced e f el other) in
-      omega (arith, plain, first, second)

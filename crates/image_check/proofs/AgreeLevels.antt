@@ -33,7 +33,8 @@ use Rattle.image_check.specs.Checked.{graph_by, weights_with, IsMisled}
 use Rattle.image_check.proofs.Owning.{counter_for}
 use Rattle.image_check.proofs.AgreeCounted as counted
 use Rattle.image_check.proofs.AgreeCounted.{IsListed}
-use Rattle.image_check.proofs.AgreeEdges.{one_edge, same_edge, weights_hold, patched_at}
+use Rattle.image_check.proofs.AgreeEdges.{one_edge, same_edge, patched_at}
+use Rattle.image_check.proofs.CallEdges.{stored_are_weights}
 use Rattle.image_check.proofs.AgreeStages as stages
 use Rattle.image_check.proofs.AgreeYes.{told_alike}
 
@@ -76,7 +77,7 @@ module _ (power : PowerModel) (original foreign : Image) (notes : List LoopNote)
         → IsBadLevel power foreign (graph_by original v') l' m'.owner w' m'.n m'.least m'.found e edge i
     bad_to e edge i there there' bad =
         let a = counted.counted_alike power original foreign notes v v' tree tree' one other found_agree m.found m'.found m.owner m'.owner m.n m'.n m.level.counted m'.level.counted in
-        let are = weights_hold original foreign v.code l m.owner m.found one.code_is.reached m.level.counted.scanned power in
+        let are = stored_are_weights original foreign v.code l m.owner m.found one.code_is.reached m.level.counted.scanned (costs_of power) in
         let charged = counted.charged_are power original foreign notes v v' tree tree' one other w w' m.least m'.least a.weights_are are m.least_is m'.least_is in
         let leads : (graph_by original v').target e ≡ Some bad.0 = ap edge_to there' ∙ (sym (ap edge_to there) ∙ bad.1) in
         let fs' = m'.found edge.at edge.kind in

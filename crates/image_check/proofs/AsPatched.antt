@@ -31,7 +31,7 @@ use Rattle.foreign_scan.specs.declared.fragment.ForeignFragment.TheVariants.{Swi
 use Rattle.foreign_scan.specs.Form.{IsStub, AreRowsIn}
 use Rattle.foreign_scan.specs.declared.layout.SegmentPlace.{SegmentPlace}
 use Rattle.foreign_scan.specs.Scanned as scanned
-use Rattle.foreign_scan.specs.Scanned.{Found, IsOn, IsOddByte, is_changed, IsChanged, CanBePatched, IsPatch, IsScanned}
+use Rattle.foreign_scan.specs.Scanned.{Found, IsOn, is_changed, IsChanged, CanBePatched, IsScanned}
 use Rattle.image_check.specs.Safe.{Owner, owner_bound, place_by, sites_of}
 use Rattle.image_check.proofs.Standing.{RowsLie, offset_is, encoded, way_stands, fork_stands}
 use Rattle.image_check.proofs.OnEdges.{changed_place, same_place}

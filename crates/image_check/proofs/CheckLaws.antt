@@ -1,14 +1,12 @@
 -- From what the parts of a check find to its verdict.
-use Rattle.std.proofs.Common.{◌≡◌, ℕ, ◌+◌, ◌*◌, ◌^◌, ◌<◌, ◌≤◌, Bool, List, length, slice_get, Option, Some, None, Result, Ok, Err, refl, sym, ap, ◌∙◌, subst, arith}
+use Rattle.std.proofs.Common.{◌≡◌, ℕ, ◌^◌, ◌<◌, ◌≤◌, List, length, slice_get, Some, None, Ok, Err, sym, ap, ◌∙◌, subst, arith}
 use Rattle.std.specs.Prelude.{slice_index}
 use Rattle.std.proofs.lemmas.List.{length-map}
 use Rattle.std.proofs.lemmas.Option.{get_or_from_slice_get}
-use Rattle.scale_base.specs.declared.edges.Edge.{Edge}
 use Rattle.scale_base.specs.declared.refusal.Refusal.{Refusal}
 use Rattle.scale_base.specs.declared.verdict.Checked.{Checked}
 use Rattle.scale_base.specs.Image.{Image}
 use Rattle.power_model.specs.declared.power.Costs.{Costs}
-use Rattle.power_model.specs.Numbers.{PowerModel}
 use Rattle.power_model.specs.Price.{cycles_of, time_at}
 use Rattle.power_model.specs.Switches.{costs_of}
 use Rattle.graph_algorithms.specs.Arcs.{number_in_place}
@@ -23,8 +21,8 @@ use Rattle.code_graph.specs.FlowGraph.{FlowGraph, graph}
 use Rattle.loop_file.specs.Kept.{noted_loops}
 use Rattle.loop_tree.specs.Noted.{node_address}
 use Rattle.loop_tree.specs.Tree.{loops}
-use Rattle.worst_cycles.specs.Worst.{WorstView, by_edge, HasLeftSizes, HoldsLeft, IsLeftOf, IsWorstFound}
-use Rattle.least_cycles.specs.Found.{LeastView, HasWorstInRange, IsLeastOf, HoldsLeast, AreSmallLeast}
+use Rattle.worst_cycles.specs.Worst.{WorstView, by_edge, HasLeftSizes, IsLeftOf, IsWorstFound}
+use Rattle.least_cycles.specs.Found.{LeastView, HasWorstInRange, HoldsLeast, AreSmallLeast}
 use Rattle.rewritten_runs.proofs.Laws.{worst_grows}
 use Rattle.paid_runs.specs.Marked.{extra_site_weights, stored_site_weights}
 use Rattle.foreign_scan.specs.Scanned.{Found}
@@ -34,12 +32,12 @@ use Rattle.image_check.specs.declared.checking.Received.{Received}
 use Rattle.image_check.specs.declared.checking.CostsWithStubs.{CostsWithStubs}
 use Rattle.image_check.specs.Causes.{IsFirstBadCounter, IsFirstBadLevel}
 use Rattle.image_check.specs.Safe.{Owner, AreOwners, AreSafeOn, sites_of}
-use Rattle.image_check.specs.Known.{owner_by, IsFoundIn, AreWeighed, AreKnown, HasKnown, IsLevelsAnswer}
+use Rattle.image_check.specs.Known.{owner_by, AreWeighed, AreKnown, IsLevelsAnswer}
 use Rattle.image_check.specs.Weights.{AreExtraWeights, AreStoredWeights}
 use Rattle.image_check.specs.Checked.{graph_by, weights_with, key_level, IsCounted, HasLevel, CountsNoLoop, IsOverLong, StartsNowhere, IsOverdue, IsMisled, IsPassed}
 use Rattle.image_check.specs.Checks.{IsOriginal, IsScannedBy, IsReceived, AreShortCosts, MeetsDeadline, AreExtraCycles}
-use Rattle.image_check.proofs.Extras.{extra_are_weights, stored_are_weights}
-use Rattle.image_check.proofs.Ranges.{slack_in_range, rest_in_range, turns_in_range}
+use Rattle.image_check.proofs.CallEdges.{extra_are_weights, stored_are_weights}
+use Rattle.scaler.proofs.Laws.{slack_in_range, rest_in_range, turns_in_range}
 
 some_number : {a b : ℕ} → Some a ≡ Some b → a ≡ b
 some_number e = cc
@@ -90,7 +88,7 @@ module _ (p : Original) (is : IsOriginal p) where
     stored_is costs same ws h = h p.view r.view p.tree owner found received.scanned ∙ ap (λ k. stored_site_weights t v.code (cycles_of k) (sites_of p.view r.view v.code l owner found)) same
 
     pub stored_calls : AreWeights g stored
-    stored_calls = stored_are_weights p.view r.view v p.tree owner found r.sites received.scanned (costs_of p.power)
+    stored_calls = stored_are_weights p.view r.view v.code l owner found received.scanned.code.reached received.scanned.scanned (costs_of p.power)
 
     pub calls_of : (ws : List ℕ) → by_edge ws ≡ stored → AreWeights (graph v) (by_edge ws)
     calls_of ws same = subst (λ w. AreWeights (graph v) w) (sym same) (by_lists (λ g. AreWeights g stored) stored_calls)
@@ -99,7 +97,7 @@ module _ (p : Original) (is : IsOriginal p) where
     added_is costs same ws h = h p.view r.view p.tree owner found received.scanned ∙ ap (λ k. extra_site_weights t v.code (cycles_of k) (sites_of p.view r.view v.code l owner found)) same
 
     added_calls : AreWeights g added
-    added_calls = extra_are_weights p.view r.view v p.tree owner found r.sites received.scanned (costs_of p.power)
+    added_calls = extra_are_weights p.view r.view v.code l owner found received.scanned.code.reached received.scanned.scanned (costs_of p.power)
 
     pub added_calls_of : (ws : List ℕ) → by_edge ws ≡ added → AreWeights (graph v) (by_edge ws)
     added_calls_of ws same = subst (λ w. AreWeights (graph v) w) (sym same) (by_lists (λ g. AreWeights g added) added_calls)

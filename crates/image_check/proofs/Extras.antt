@@ -1,9 +1,9 @@
 -- What an edge takes more with the stubs of the fragments that are found, by the lists of what is found.
 use Rattle.std.proofs.Common.{◌≡◌, ⊎_elim, ℕ, zero, suc, ◌+◌, ◌*◌, ◌<◌, ◌≤◌, Bool, true, false, List, [], ◌∷◌, map, length, refl, sym, ap, ◌∙◌, subst, slice_get, Option, Some, None, arith}
-use Rattle.std.specs.Prelude.{◌==◌, ◌%◌, slice_index, slice_index_or}
-use Rattle.std.specs.List.{sum_by, list_any}
+use Rattle.std.specs.Prelude.{slice_index}
+use Rattle.std.specs.List.{sum_by}
 use Rattle.std.proofs.Math.Path.{fun_ext}
-use Rattle.std.proofs.lemmas.Bool.{and_from, eq-eqb, both_ways, cases_lt}
+use Rattle.std.proofs.lemmas.Bool.{cases_lt}
 use Rattle.std.proofs.lemmas.List.Sums.{sum_by-cons}
 use Rattle.scale_base.specs.declared.instruction.Instr.{Instr}
 use Rattle.scale_base.specs.declared.instruction.Instr.TheVariants as instr
@@ -11,21 +11,16 @@ use Rattle.scale_base.specs.declared.stepping.Class.{Class}
 use Rattle.scale_base.specs.declared.stepping.Class.TheVariants as classes
 use Rattle.scale_base.specs.Class.{class_of}
 use Rattle.scale_base.specs.Arith.{moved_by}
-use Rattle.scale_base.specs.Image.{Image, is_in, is_word_address}
+use Rattle.scale_base.specs.Image.{Image, is_word_address}
 use Rattle.scale_base.specs.declared.edges.Edge.{Edge}
-use Rattle.scale_base.specs.declared.edges.EdgeKind.{EdgeKind}
-use Rattle.scale_base.specs.declared.edges.EdgeKind.TheVariants.{Taken, Untaken, Jump}
 use Rattle.power_model.specs.declared.power.Costs.{Costs}
 use Rattle.power_model.specs.Price.{cycles_of}
-use Rattle.cost_theory.specs.declared.flow.Flow.TheVariants as flow
-use Rattle.cost_theory.specs.Accepted.{AreWeights}
-use Rattle.cost_theory.specs.Graph.{Graph, Loops}
-use Rattle.cost_theory.specs.Reached.{Reached, Code, edges_of, edge_at, call_returns, callee_of}
-use Rattle.cost_theory.proofs.Laws.{Within, edge_of_word, callee-call, callee_word}
+use Rattle.cost_theory.specs.Graph.{Loops}
+use Rattle.cost_theory.specs.Reached.{Reached, edges_of, edge_at, call_returns}
+use Rattle.cost_theory.proofs.Laws.{Within, edge_of_word}
 use Rattle.code_text.specs.Text.{Text, text_of, instr_at, instr_kind, kind_at}
 use Rattle.code_text.specs.EdgeCosts.{class_by, edge_class, is_taken_kind, cost_of, weights}
-use Rattle.code_text.specs.TextGraph.{text_graph}
-use Rattle.code_text.proofs.Laws.{kind_facts, weights_are}
+use Rattle.code_text.proofs.Laws.{kind_facts}
 use Rattle.code_graph.specs.FlowGraph.{FlowGraph, graph}
 use Rattle.loop_tree.specs.Tree.{LoopView, loops}
 use Rattle.worst_cycles.specs.Worst.{by_edge}
@@ -42,6 +37,7 @@ use Rattle.image_check.specs.Safe.{Owner, with_rows, all_with_rows, place_by, si
 use Rattle.image_check.specs.Known.{IsFoundIn}
 use Rattle.image_check.specs.Weights.{foreign_cost, stub_jumps}
 use Rattle.rewritten_runs.proofs.Laws.{weights_listed}
+use Rattle.image_check.proofs.CallEdges.{none_more}
 use Rattle.image_check.proofs.OnEdges.{reached_word, changed_place, same_place, fragments_on}
 
 -- ---- fragments cost the same without rows
@@ -81,14 +77,10 @@ module _ (original foreign : Image) (v : FlowGraph) (tree : LoopView) (owner : O
 
   -- ---- at a word of the original
 
-  none_more : (costs : Class → ℕ) (at : ℕ) (o : Option Class) → place_at sites at ≡ None → extra_by costs sites at o ≡ 0
-  none_more costs at None none = refl
-  none_more costs at (Some class) none = subst (λ p. jumps_by p * costs classes.Jump + sum_by (fragment_cost costs) (fragments_of_class p class) ≡ 0) (sym none) (omega arith)
-
   extra_same : (costs : Class → ℕ) (e : ℕ) (edge : Edge) → slice_get v.code.edges e ≡ Some edge → is_changed original foreign edge.at ≡ false → extra_site_weights t v.code costs sites e ≡ 0
   extra_same costs e edge there off =
       ap (λ o. extra_by costs sites (edge_at o) (edge_class t o)) there
-      ∙ none_more costs edge.at (edge_class t (Some edge)) (same_place original foreign v.code l owner found is.code.reached is.scanned edge.at off)
+      ∙ none_more costs sites edge.at (edge_class t (Some edge)) (same_place original foreign v.code l owner found is.code.reached is.scanned edge.at off)
 
   -- ---- at a changed word
 
@@ -218,57 +210,6 @@ module _ (original foreign : Image) (v : FlowGraph) (tree : LoopView) (owner : O
 
     pub few_listed : length fs ≤ 64
     few_listed = subst (λ x. length x ≤ 64) (sym listed) (few_changed e edge there (patched_is e k true edge there node flag))
-
-  -- ---- the edges of one call take the same
-
-  unmarked : (u h : ℕ) → kind_at t u ≡ flow.Call h → place_at sites u ≡ None
-  unmarked u h calls = by_change (is_changed original foreign u) refl
-    where
-      facts : (u % 4 ≡ 0) × (Rattle.code_text.specs.Text.is_text_address t u ≡ true) × ((i : Instr) × (instr_at t u ≡ Some i) × (kind_at t u ≡ instr_kind t u i))
-      facts = kind_facts t u (λ bad. let never : ⊥ = cc in never)
-
-      no_call : (i : Instr) → CanBePatched i → instr_kind t u i ≡ flow.Call h → ⊥
-      no_call (instr.Branch op rs1 rs2 offset) can q = cc
-      no_call (instr.Jal rd offset) can q = let there : instr_kind t u (instr.Jal 0 offset) ≡ flow.Call h = subst (λ d. instr_kind t u (instr.Jal d offset) ≡ flow.Call h) can q in cc
-      no_call (instr.Lui rd imm) can q = absurd can
-      no_call (instr.Auipc rd imm) can q = absurd can
-      no_call (instr.Jalr rd rs1 offset) can q = absurd can
-      no_call (instr.Load op rd rs1 offset) can q = absurd can
-      no_call (instr.Store op rs1 rs2 offset) can q = absurd can
-      no_call (instr.Imm op rd rs1 imm) can q = absurd can
-      no_call (instr.Reg op rd rs1 rs2) can q = absurd can
-      no_call (instr.Fence rd rs1 imm) can q = absurd can
-      no_call instr.Ecall can q = absurd can
-      no_call instr.Ebreak can q = absurd can
-
-      by_change : (b : Bool) → is_changed original foreign u ≡ b → place_at sites u ≡ None
-      by_change false off = same_place original foreign v.code l owner found is.code.reached is.scanned u off
-      by_change true on =
-          let word : is_word_address original u ≡ true = and_from (u % 4 == 0) (list_any (is_in u) original.text) (eq-eqb (u % 4) 0 facts.0) facts.1 in
-          let p = is.scanned.patches u (word, on) in
-          let same : facts.2.0 ≡ p.old_instr = (let a = facts.2.1 in let b = p.old in cc) in
-          absurd (no_call p.old_instr p.can_be (sym (ap (instr_kind t u) same) ∙ (sym facts.2.2 ∙ calls)))
-
-  call_takes_none : (costs : Class → ℕ) (e f : ℕ) → e < length v.code.edges → (text_graph t v.code).callee e ≡ Some f → extra_site_weights t v.code costs sites e ≡ 0
-  call_takes_none costs e f lt callee =
-      let g = text_graph t v.code in
-      let c = callee-call v.code.functions (kind_at t (g.source e)) f (sym (callee_word (kind_at t) v.code.functions v.code.edges e lt) ∙ callee) in
-      none_more costs (g.source e) (edge_class t (slice_get v.code.edges e)) (unmarked (g.source e) c.0 c.1)
-
-  same_callee : (d e : ℕ) → d < length v.code.edges → e < length v.code.edges → edge_at (slice_get v.code.edges d) ≡ edge_at (slice_get v.code.edges e) → (text_graph t v.code).callee d ≡ (text_graph t v.code).callee e
-  same_callee d e dl el same =
-      callee_word (kind_at t) v.code.functions v.code.edges d dl ∙ (ap (λ u. callee_of v.code.functions (kind_at t u)) same ∙ sym (callee_word (kind_at t) v.code.functions v.code.edges e el))
-
-  pub extra_are_weights : (costs : Class → ℕ) → AreWeights (text_graph t v.code) (extra_site_weights t v.code costs sites)
-  extra_are_weights costs d e f dl el same callee =
-      let other : (text_graph t v.code).callee e ≡ Some f = sym (same_callee d e dl el same) ∙ callee in
-      call_takes_none costs d f dl callee ∙ sym (call_takes_none costs e f el other)
-
-  pub stored_are_weights : (costs : Class → ℕ) → AreWeights (text_graph t v.code) (stored_site_weights t v.code costs sites)
-  stored_are_weights costs d e f dl el same callee =
-      let a = weights_are t v.code costs d e f dl el same callee in
-      let b = extra_are_weights costs d e f dl el same callee in
-      omega (arith, a, b)
 
   -- ---- by lists of weights
 

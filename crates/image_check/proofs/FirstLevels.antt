@@ -1,5 +1,5 @@
 -- The first entry that is not safe, of the edges of a node and of all.
-use Rattle.std.proofs.Common.{◌≡◌, ◌⊎◌, inl, inr, ⊎_elim, ℕ, ◌+◌, ◌*◌, ◌/◌, ◌^◌, ◌<◌, ◌≤◌, ◌↔◌, Bool, true, false, List, [], ◌∷◌, length, Option, Some, None, refl, sym, ap, ◌∙◌, subst, arith}
+use Rattle.std.proofs.Common.{◌≡◌, ⊎_elim, ℕ, ◌+◌, ◌*◌, ◌<◌, ◌≤◌, ◌↔◌, Bool, true, false, List, [], ◌∷◌, length, Option, Some, None, refl, sym, ap, ◌∙◌, subst, arith}
 use Rattle.std.specs.Prelude.{slice_get, slice_index}
 use Rattle.std.proofs.lemmas.Bool.{cases_lt}
 use Rattle.std.proofs.lemmas.Option.{same_Some, slice_get_within, get_or_from_slice_get}
@@ -24,12 +24,12 @@ use Rattle.stored_runs.specs.Marks.{tail_cycles}
 use Rattle.paid_runs.specs.Tabled.{told_on, IsSafeEntry}
 use Rattle.foreign_scan.specs.declared.fragment.ForeignFragment.{ForeignFragment}
 use Rattle.foreign_scan.specs.declared.fragment.ForeignFragment.TheVariants.{Switch, Exit, Reset, Count}
-use Rattle.foreign_scan.specs.Scanned.{Found, kind_place, ComesBefore}
+use Rattle.foreign_scan.specs.Scanned.{Found, kind_place}
 use Rattle.image_check.specs.Safe.{Owner, all_with_rows, AreSafeWords, AreSafeOn}
 use Rattle.image_check.specs.Causes.{IsBadEntry, HasBadEntry, IsBadLevel, IsFirstBadLevel}
 use Rattle.image_check.specs.Known.{owner_by, IsLevelsAnswer}
 use Rattle.image_check.specs.Entries.{is_safe, IsLeastIn}
-use Rattle.image_check.specs.Levels.{AreKnownBy, IsBadAt, is_taken, IsSortAt, IsSortLevelBy, IsNodeLevelBy, IsBothLevelBy}
+use Rattle.image_check.specs.Levels.{IsBadAt, is_taken_edge, IsSortAt, IsSortLevelBy, IsNodeLevelBy, IsBothLevelBy}
 use Rattle.image_check.specs.declared.levels.Known.{Known}
 use Rattle.image_check.proofs.EntryLaws.{safe_to, bad_entry}
 
@@ -52,7 +52,7 @@ safe_words power image l owner n told (Count counter ∷ fs) fine = tt
 
 -- ---- kinds
 
-taken_place : (k : EdgeKind) → is_taken k ≡ true → kind_place k ≡ 1
+taken_place : (k : EdgeKind) → is_taken_edge k ≡ true → kind_place k ≡ 1
 taken_place Taken e = refl
 taken_place Untaken e = let bad : ⊥ = cc in absurd bad
 taken_place Jump e = let bad : ⊥ = cc in absurd bad
@@ -60,7 +60,7 @@ taken_place Next e = let bad : ⊥ = cc in absurd bad
 taken_place CallNext e = let bad : ⊥ = cc in absurd bad
 taken_place End e = let bad : ⊥ = cc in absurd bad
 
-other_place : (k : EdgeKind) → is_taken k ≡ false → kind_place k ≡ 0
+other_place : (k : EdgeKind) → is_taken_edge k ≡ false → kind_place k ≡ 0
 other_place Taken e = let bad : ⊥ = cc in absurd bad
 other_place Untaken e = refl
 other_place Jump e = refl
@@ -68,7 +68,7 @@ other_place Next e = refl
 other_place CallNext e = refl
 other_place End e = refl
 
-first_place : (k : EdgeKind) → kind_place k < 1 → is_taken k ≡ false
+first_place : (k : EdgeKind) → kind_place k < 1 → is_taken_edge k ≡ false
 first_place Taken lt = absurd (let no : ⊥ = omega (arith, lt) in no)
 first_place Untaken lt = refl
 first_place Jump lt = refl
@@ -96,10 +96,10 @@ module _ (x : Known) (foreign : Image) (found : Found) (w : ℕ → ℕ) (n : Nu
   pub none_more : (k : ℕ) → NoneBelow k → IsNodeLevelBy x k false foreign found w n least None → IsNodeLevelBy x k true foreign found w n least None → NoneBelow (k + 1)
   none_more k below none_other none_taken m d i edge lt there at bad = ⊎_elim
       (λ low. below m d i edge low there at bad)
-      (λ high. let same : m ≡ k = omega (arith, lt, high) in by_kind (is_taken edge.kind) refl (at ∙ ap (slice_index x.graph.now.code.nodes) same))
+      (λ high. let same : m ≡ k = omega (arith, lt, high) in by_kind (is_taken_edge edge.kind) refl (at ∙ ap (slice_index x.graph.now.code.nodes) same))
       (cases_lt m k)
     where
-      by_kind : (b : Bool) → is_taken edge.kind ≡ b → edge.at ≡ slice_index x.graph.now.code.nodes k → ⊥
+      by_kind : (b : Bool) → is_taken_edge edge.kind ≡ b → edge.at ≡ slice_index x.graph.now.code.nodes k → ⊥
       by_kind true e here = none_taken d i edge (there, here, e) bad
       by_kind false e here = none_other d i edge (there, here, e) bad
 
@@ -174,9 +174,9 @@ module _ (x : Known) (foreign : Image) (found : Found) (w : ℕ → ℕ) (n : Nu
   both_of k None none taken = (none, taken)
   both_of k (Some i) none taken = (true, λ e. none, taken)
 
-  pub sort_of : (e : ℕ) (edge : Edge) (taken : Bool) (level : Option ℕ) → slice_get x.graph.now.code.edges e ≡ Some edge → is_taken edge.kind ≡ taken → IsLeastIn (IsBadAt x foreign found w n least e) level → IsSortLevelBy x taken e foreign found w n least level
+  pub sort_of : (e : ℕ) (edge : Edge) (taken : Bool) (level : Option ℕ) → slice_get x.graph.now.code.edges e ≡ Some edge → is_taken_edge edge.kind ≡ taken → IsLeastIn (IsBadAt x foreign found w n least e) level → IsSortLevelBy x taken e foreign found w n least level
   sort_of e edge taken None there kind none = λ i other at is bad. none i bad
   sort_of e edge taken (Some i) there kind h = (edge, there, kind, h)
 
-  pub other_sort : (e : ℕ) (edge : Edge) (taken : Bool) → slice_get x.graph.now.code.edges e ≡ Some edge → (is_taken edge.kind ≡ taken → ⊥) → IsSortLevelBy x taken e foreign found w n least None
-  other_sort e edge taken there other = λ i d at is bad. other (ap (λ (y : Edge). is_taken y.kind) (same_Some edge d (sym there ∙ at)) ∙ is)
+  pub other_sort : (e : ℕ) (edge : Edge) (taken : Bool) → slice_get x.graph.now.code.edges e ≡ Some edge → (is_taken_edge edge.kind ≡ taken → ⊥) → IsSortLevelBy x taken e foreign found w n least None
+  other_sort e edge taken there other = λ i d at is bad. other (ap (λ (y : Edge). is_taken_edge y.kind) (same_Some edge d (sym there ∙ at)) ∙ is)

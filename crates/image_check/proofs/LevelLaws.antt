@@ -1,16 +1,15 @@
 -- What edges tell their tables, and which of their entries are not safe.
-use Rattle.std.proofs.Common.{◌≡◌, ◌⊎◌, ⊎_elim, ℕ, zero, suc, ◌+◌, ◌*◌, ◌/◌, ◌%◌, ◌^◌, ◌<◌, ◌≤◌, Bool, true, false, List, [], ◌∷◌, length, Option, Some, None, refl, sym, ap, ◌∙◌, subst, arith}
-use Rattle.std.specs.Prelude.{◌==◌, slice_get, slice_index, option_map, is_some, nat_lt}
+use Rattle.std.proofs.Common.{◌≡◌, ℕ, ◌+◌, ◌*◌, ◌/◌, ◌^◌, ◌<◌, ◌≤◌, true, List, [], ◌∷◌, length, Option, Some, None, refl, sym, ap, ◌∙◌, subst, arith}
+use Rattle.std.specs.Prelude.{◌==◌, slice_get, option_map, is_some}
 use Rattle.std.specs.List.{sum_by}
-use Rattle.std.proofs.lemmas.Bool.{cond-true, eq-eqb, lt-ltb, ltb-true, both_ways}
+use Rattle.std.proofs.lemmas.Bool.{cond-true, eq-eqb}
 use Rattle.std.proofs.lemmas.Bool.Decides.{nat_tests}
 use Rattle.std.proofs.lemmas.List.{length-map}
 use Rattle.std.proofs.lemmas.List.Sums.{sum_by-cons}
-use Rattle.std.proofs.lemmas.Option.{same_Some, get_or_from_slice_get}
-use Rattle.scale_base.specs.Image.{Image, loaded_byte, is_in}
+use Rattle.std.proofs.lemmas.Option.{same_Some}
+use Rattle.scale_base.specs.Image.{Image, loaded_byte}
 use Rattle.scale_base.specs.Layout.{layout_of, is_keyed, in_option}
 use Rattle.scale_base.specs.State.{word_at}
-use Rattle.scale_base.specs.declared.edges.Edge.{Edge}
 use Rattle.scale_base.specs.declared.ranges.Keyed.{Keyed}
 use Rattle.scale_base.specs.declared.stepping.Class.{Class}
 use Rattle.power_model.specs.declared.power.Costs.{Costs}
@@ -27,7 +26,7 @@ use Rattle.code_text.specs.TextGraph.{text_graph}
 use Rattle.graph_runs.specs.Laws.{IsProgramOf}
 use Rattle.code_graph.specs.FlowGraph.{FlowGraph, graph}
 use Rattle.loop_tree.specs.Noted.{node_address}
-use Rattle.loop_tree.specs.Tree.{LoopView, loops}
+use Rattle.loop_tree.specs.Tree.{loops}
 use Rattle.worst_cycles.specs.Worst.{slack_at, rest_at}
 use Rattle.level_tables.specs.Tables.{EdgeNumbers, at_row}
 use Rattle.stored_runs.specs.Marks.{tail_cycles}
@@ -37,7 +36,7 @@ use Rattle.foreign_scan.specs.declared.fragment.ForeignFragment.{ForeignFragment
 use Rattle.foreign_scan.specs.declared.fragment.ForeignFragment.TheVariants.{Switch, Exit, Reset, Count}
 use Rattle.foreign_scan.specs.Form.{ChoosesNone, AreRowsIn}
 use Rattle.foreign_scan.specs.Scanned.{Found}
-use Rattle.image_check.specs.Safe.{Owner, owner_bound, with_rows, all_with_rows, clears_it, clears_on, counts_on, AreOwners}
+use Rattle.image_check.specs.Safe.{Owner, owner_bound, with_rows, all_with_rows, clears_it, clears_on, AreOwners}
 use Rattle.image_check.specs.Causes.{IsBadEntry, HasBadEntry}
 use Rattle.image_check.specs.Known.{owner_by, IsFoundIn}
 use Rattle.image_check.specs.Uses.{on_edge}
@@ -45,7 +44,7 @@ use Rattle.image_check.specs.Weights.{foreign_cost}
 use Rattle.image_check.specs.Entries.{IsLeastIn, IsWordLevel, HasBadRow, IsTableLevel, AreRowPlaces}
 use Rattle.image_check.specs.Levels.{IsTailOf, key_end, AreKnownBy, IsBadAt}
 use Rattle.image_check.specs.declared.levels.Known.{Known}
-use Rattle.image_check.proofs.FoundFacts.{AreFine, on_edge_is, fine_on}
+use Rattle.image_check.proofs.FoundFacts.{on_edge_is}
 use Rattle.image_check.proofs.Rows.{rows}
 
 -- ---- the least of the same

@@ -13,8 +13,8 @@ pub mod TreeFacts
 pub mod FoundFacts
 pub mod UseLaws
 pub mod OwnerLaws
+pub mod CallEdges
 pub mod Extras
-pub mod Ranges
 pub mod CheckLaws
 pub mod FileLaws
 pub mod SafeChecks

@@ -1,12 +1,12 @@
 -- Which counters count loops, by the tallies of their fragments.
-use Rattle.std.proofs.Common.{◌≡◌, ◌⊎◌, inl, inr, ⊎_elim, ℕ, zero, suc, ◌+◌, ◌*◌, ◌<◌, ◌≤◌, Bool, true, false, not, ◌&&◌, List, [], ◌∷◌, length, All, Option, Some, None, refl, sym, ap, ◌∙◌, subst, arith}
+use Rattle.std.proofs.Common.{◌≡◌, inl, inr, ⊎_elim, ℕ, zero, suc, ◌+◌, ◌<◌, ◌≤◌, Bool, true, false, not, ◌&&◌, List, [], ◌∷◌, length, All, Option, Some, None, refl, sym, ap, ◌∙◌, subst, arith}
 use Rattle.std.specs.Prelude.{◌==◌, nat_le, nat_lt, slice_get, slice_index, slice_index_or}
 use Rattle.std.specs.List.{sum_by}
-use Rattle.std.proofs.lemmas.Bool.{leb-true, le-leb, lt-ltb, ltb-true, cond-false, cases_lt, both_ways, eqb-true, eq-eqb}
+use Rattle.std.proofs.lemmas.Bool.{leb-true, le-leb, lt-ltb, ltb-true, cond-false, cases_lt, eqb-true, eq-eqb}
 use Rattle.std.proofs.lemmas.List.{length-map}
 use Rattle.std.proofs.lemmas.List.Sums.{sum_by-cons}
 use Rattle.scale_base.specs.Image.{Image}
-use Rattle.cost_theory.specs.Graph.{sum_below, is_back, leaves}
+use Rattle.cost_theory.specs.Graph.{sum_below, is_back}
 use Rattle.cost_theory.proofs.Laws.{sum-same, term-le-sum, search_below, some_get, and_left, and_right, and_both}
 use Rattle.code_graph.specs.FlowGraph.{FlowGraph, graph}
 use Rattle.loop_tree.specs.Noted.{node_address}
@@ -19,7 +19,7 @@ use Rattle.foreign_scan.specs.Shown.{SitesView}
 use Rattle.image_check.specs.Safe.{counts_it, clears_it, one_where, counts_on, clears_on, IsCounterOf, IsUsed, AreOwners}
 use Rattle.image_check.specs.Causes.{IsBadCounter, IsFirstBadCounter}
 use Rattle.image_check.specs.Known.{owner_by, IsFoundIn}
-use Rattle.image_check.specs.Uses.{on_edge, counts_at, clears_at, turn_of, exit_of, of_loop, fits_on, AreTurns, AreExits, AreNamed, no_tally, tally_of, AreTallies, is_tally_of, is_bad, IsFirstBad}
+use Rattle.image_check.specs.Uses.{on_edge, counts_at, clears_at, turn_of, exit_of, fits_on, AreTurns, AreExits, AreNamed, no_tally, tally_of, AreTallies, is_tally_of, is_bad_tally, IsFirstBad}
 use Rattle.image_check.specs.declared.uses.Tally.{Tally}
 use Rattle.image_check.proofs.FoundFacts.{on_edge_is, fine_on}
 use Rattle.image_check.proofs.TreeFacts.{sum_plus, turn_back}
@@ -212,7 +212,7 @@ module _ (original foreign : Image) (v : FlowGraph) (t : LoopView) (found : Foun
       is_used c at.0 at.1 at.2
 
   -- a used counter that isn't bad counts its loop
-  fine_counter : (c : ℕ) → c < 511 → is_bad turns exits (slice_index_or tallies c no_tally) (owner_by owners c) ≡ false → IsUsed (graph v) v.code found c → (k : ℕ) × (owner_by owners c ≡ Some k) × IsCounterOf (graph v) v.code (loops v t) found c k
+  fine_counter : (c : ℕ) → c < 511 → is_bad_tally turns exits (slice_index_or tallies c no_tally) (owner_by owners c) ≡ false → IsUsed (graph v) v.code found c → (k : ℕ) × (owner_by owners c ≡ Some k) × IsCounterOf (graph v) v.code (loops v t) found c k
   fine_counter c low fine used = by_owner (owner_by owners c) refl
     where
       on : is_tally_of turns exits (slice_index_or tallies c no_tally) (owner_by owners c) ≡ true
@@ -227,7 +227,7 @@ module _ (original foreign : Image) (v : FlowGraph) (t : LoopView) (found : Foun
       by_owner None own = let off = sym (ap (is_tally_of turns exits (slice_index_or tallies c no_tally)) own) ∙ on in let bad : ⊥ = cc in absurd bad
       by_owner (Some k) own = (k, own, counts_loop c k low own (sym (ap (is_tally_of turns exits (slice_index_or tallies c no_tally)) own) ∙ on))
 
-  bad_counter : (c : ℕ) → c < 511 → is_bad turns exits (slice_index_or tallies c no_tally) (owner_by owners c) ≡ true → IsBadCounter (graph v) v.code (loops v t) found c
+  bad_counter : (c : ℕ) → c < 511 → is_bad_tally turns exits (slice_index_or tallies c no_tally) (owner_by owners c) ≡ true → IsBadCounter (graph v) v.code (loops v t) found c
   bad_counter c low bad =
       let u : Tally = slice_index_or tallies c no_tally in (
         tally_used c low (and_left (nat_lt 0 (u.counts + u.clears)) (not (is_tally_of turns exits u (owner_by owners c))) bad),

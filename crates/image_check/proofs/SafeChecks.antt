@@ -1,5 +1,5 @@
 -- What a yes over the bytes of files says of the runs of the other image.
-use Rattle.std.proofs.Common.{◌≡◌, ◌≢◌, ℕ, ◌*◌, ◌<◌, ◌≤◌, List, length, Option, Some, None, Result, Ok, Err, refl, sym, ap, ◌∙◌, subst}
+use Rattle.std.proofs.Common.{◌≡◌, ◌≢◌, ℕ, ◌<◌, ◌≤◌, List, length, Option, Some, None, Result, Ok, Err, refl, sym, ap, ◌∙◌, subst}
 use Rattle.std.specs.Prelude.{All, IfOk}
 use Rattle.scale_base.specs.declared.ranges.Keyed.{Keyed}
 use Rattle.scale_base.specs.declared.refusal.Refusal.{Refusal}
@@ -7,13 +7,11 @@ use Rattle.scale_base.specs.declared.refusal.Stop.{Stop}
 use Rattle.scale_base.specs.declared.verdict.Checked.{Checked}
 use Rattle.scale_base.specs.declared.verdict.Verdict.{Verdict}
 use Rattle.scale_base.specs.declared.verdict.Verdict.TheVariants.{Yes, No}
-use Rattle.scale_base.specs.declared.verdict.Why.TheVariants as why
 use Rattle.scale_base.specs.Answer.{AnswersBy}
 use Rattle.scale_base.specs.Image.{Image, image_of}
 use Rattle.scale_base.specs.Run.{starting_level}
 use Rattle.power_model.specs.Numbers.{PowerModel}
 use Rattle.power_model.specs.Price.{time_at}
-use Rattle.elf_view.specs.Refused.{refusal_number}
 use Rattle.machine_file.specs.Machine.{read_machine}
 use Rattle.machine_file.proofs.Laws.{model-from_bytes}
 use Rattle.loop_file.specs.declared.notes.LoopNote.{LoopNote}
@@ -23,7 +21,8 @@ use Rattle.code_graph.specs.FlowGraph.{FlowGraph, IsGraphOf}
 use Rattle.loop_tree.specs.Tree.{LoopView, IsTreeOf}
 use Rattle.rewritten_runs.specs.Promise.{KeepsThePromise}
 use Rattle.scaler.specs.Held.{Then, unscaled}
-use Rattle.image_check.specs.Checked.{key_level, IsPassed, IsFileVerdict, IsChecked}
+use Rattle.scaler.specs.Promise.{FilesKeepThePromise}
+use Rattle.image_check.specs.Checked.{IsPassed, IsFileVerdict, IsChecked}
 use Rattle.image_check.specs.SafeRuns.{IsCheckedSafely, IsSafeVerdict}
 use Rattle.image_check.proofs.FileLaws.{no_key}
 use Rattle.image_check.proofs.Loaded.{loaded_small}
@@ -96,7 +95,7 @@ checked_safe image foreign machine loop_file checked h bytes =
     let kept : KeepsThePromise w.power w.original w.notes w.other (p.more.worst 0) =
     promise_kept w.power (model-from_bytes machine w.power w.power_is) image foreign w.original w.other w.original_is w.other_is (loaded_small foreign w.other w.other_is bytes) w.plain
     w.notes w.v w.tree w.code_is w.tree_is p.found p.owner p.n p.least p.more p.safe in
-    record {
+    let files : FilesKeepThePromise image machine loop_file foreign checked.start checked.worst checked.time checked.stub_cycles = record {
       power = w.power;
       original = w.original;
       notes = w.notes;
@@ -111,9 +110,9 @@ checked_safe image foreign machine loop_file checked h bytes =
       starts = sym starts;
       time = time;
       in_time = subst (λ x. x ≤ w.power.deadline) (sym p.time) p.safe.in_time;
-      deadline = p.deadline;
       promise = subst (λ x. KeepsThePromise w.power w.original w.notes w.other x) (sym p.stub_cycles) kept;
-    }
+    } in
+    record { files = files; deadline = p.deadline }
 
 -- what a call of `check` gives
 pub safe_given : (image foreign machine loop_file : List ℕ) (result : Result Verdict Stop) → AnswersBy {X = Verdict} {Y = Verdict} (λ v. v) result (IsChecked image foreign machine loop_file) → IfOk result (IsSafeVerdict image foreign machine loop_file)

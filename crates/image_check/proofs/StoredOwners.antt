@@ -17,7 +17,7 @@ use Rattle.power_model.specs.Numbers.{PowerModel}
 use Rattle.cost_theory.specs.Graph.{Graph, Loops, any_below, is_back}
 use Rattle.cost_theory.specs.Reached.{Code, edge_at}
 use Rattle.cost_theory.specs.Worst.{Numbers}
-use Rattle.cost_theory.proofs.Laws.{accepted_entered, any-some, search_below, headers-distinct, some_get, none-any}
+use Rattle.cost_theory.proofs.Laws.{any-some, search_below, some_get, none-any}
 use Rattle.cycle_laws.specs.Charged.{Charged}
 use Rattle.code_text.specs.Text.{Text, text_of}
 use Rattle.code_text.specs.EdgeCosts.{class_by, edge_class}

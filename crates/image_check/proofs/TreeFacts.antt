@@ -1,11 +1,11 @@
 -- Edges that leave loops and turn them back, by the numbers of nodes and loops.
-use Rattle.std.proofs.Common.{◌≡◌, ◌≢◌, ℕ, zero, suc, ◌+◌, ◌-◌, ◌<◌, ◌≤◌, ◌⊎◌, ◌↔◌, Bool, true, false, not, ◌&&◌, nat_eq, List, [], ◌∷◌, map, length, slice_get, slice_index, option_map, Option, Some, None, refl, sym, ap, ◌∙◌, subst, arith, ⊎_elim, add-one, add-zero, ◌++◌, slice_set, length-append, length-set, get_or-set_same, get_or-set_other}
+use Rattle.std.proofs.Common.{◌≡◌, ◌≢◌, ℕ, zero, suc, ◌+◌, ◌-◌, ◌<◌, ◌≤◌, ◌↔◌, Bool, true, false, not, ◌&&◌, nat_eq, List, [], ◌∷◌, map, length, slice_get, slice_index, option_map, Option, Some, None, refl, sym, ap, ◌∙◌, subst, arith, ⊎_elim, add-one, add-zero, ◌++◌, slice_set, length-append, length-set, get_or-set_same, get_or-set_other}
 use Rattle.std.specs.List.{sum_by}
 use Rattle.std.proofs.lemmas.Bool.{eqb-true, eq-eqb, cases_lt, both_ways}
 use Rattle.std.proofs.lemmas.List.{length-map}
 use Rattle.std.proofs.lemmas.List.Sums.{sum_by-cons}
 use Rattle.std.proofs.lemmas.Option.{slice_get_within, slice_get-get_or, slice_get-map, same_Some}
-use Rattle.cost_theory.specs.Graph.{Graph, Loops, leaves, is_back, only, sum_below}
+use Rattle.cost_theory.specs.Graph.{leaves, is_back, only, sum_below}
 use Rattle.cost_theory.specs.Reached.{edge_at}
 use Rattle.cost_theory.specs.Lists.{or_true, is_among, body_of}
 use Rattle.cost_theory.proofs.Laws.{sum-none, sum-same}
@@ -15,7 +15,7 @@ use Rattle.loop_tree.specs.Tree.{LoopView, loops, IsLoopTree}
 use Rattle.loop_tree.proofs.Laws.{one_number}
 use Rattle.scale_sites.specs.Marks.{numbered}
 use Rattle.image_check.specs.Safe.{one_where}
-use Rattle.image_check.specs.Uses.{turn_of, exit_of, exit_from, exits_from, AreTurns, AreExits}
+use Rattle.image_check.specs.Uses.{turn_of, exit_of, exit_from, exits_at, AreTurns, AreExits}
 
 -- ---- tests and lists
 
@@ -177,12 +177,12 @@ module _ (v : FlowGraph) (t : LoopView) (extent : ℕ → ℕ → Bool) (flow : 
               ⊎_elim (λ (lt : i < j). let less : n < m = body.ascending i j n m lt at there in omega (arith, less, one))
               (λ (le : j ≤ i). let lt : j < i = omega (arith, le, ne) in let less : m < n = body.ascending j i m n lt there at in omega (arith, less, one)) (cases_lt i j)
 
-  pub body_exits : (k : ℕ) → k < length t.headers → sum_by (exits_from v t k) (body_of t.bodies k) ≡ sum_below (length v.code.edges) (exit_of (graph v) (loops v t) k)
+  pub body_exits : (k : ℕ) → k < length t.headers → sum_by (exits_at v t k) (body_of t.bodies k) ≡ sum_below (length v.code.edges) (exit_of (graph v) (loops v t) k)
   body_exits k kl =
       sum_swap (length v.code.edges) (exit_from v t k) (body_of t.bodies k)
       ∙ sum-same (length v.code.edges) (λ e. sum_by (λ n. exit_from v t k n e) (body_of t.bodies k)) (exit_of (graph v) (loops v t) k) (λ e lt. at_edge k e kl)
 
-  pub body_small : (k : ℕ) → k < length t.headers → sum_by (exits_from v t k) (body_of t.bodies k) ≤ length v.code.edges
+  pub body_small : (k : ℕ) → k < length t.headers → sum_by (exits_at v t k) (body_of t.bodies k) ≤ length v.code.edges
   body_small k kl = subst (λ x. x ≤ length v.code.edges) (sym (body_exits k kl)) (at_most (length v.code.edges))
     where
       one_most : (b : Bool) → one_where b ≤ 1
@@ -226,7 +226,7 @@ module _ (v : FlowGraph) (t : LoopView) (extent : ℕ → ℕ → Bool) (flow : 
         let before : sum_below (end + d) (exit_from v t k n) ≡ sum_below end (exit_from v t k n) = behind d (omega (arith, le)) in
         ap (λ m. sum_below m (exit_from v t k n)) more ∙ (ap (λ x. sum_below (end + d) (exit_from v t k n) + x) last ∙ (add-zero (sum_below (end + d) (exit_from v t k n)) ∙ before))
 
-    pub exits_end : sum_below end (exit_from v t k n) ≡ exits_from v t k n
+    pub exits_end : sum_below end (exit_from v t k n) ≡ exits_at v t k n
     exits_end =
         let le = within.1 in
         let whole : end + (length v.code.edges - end) ≡ length v.code.edges = omega (arith, le) in

@@ -1,8 +1,8 @@
 -- What is taken of the fragments of edges: names of loops, and tallies of counters.
-use Rattle.std.proofs.Common.{◌≡◌, ◌≢◌, ◌⊎◌, inl, inr, ⊎_elim, ℕ, zero, suc, ◌+◌, ◌*◌, ◌<◌, ◌≤◌, Bool, true, false, not, ◌&&◌, ◌||◌, List, [], ◌∷◌, ◌++◌, length, Option, Some, None, refl, sym, ap, ◌∙◌, subst, arith, if◌then◌else◌, drop, get_or, drop-cons, add-one, get_or-set_same, get_or-set_other, replicate}
-use Rattle.std.specs.Prelude.{◌==◌, nat_le, nat_lt, slice_get, slice_index, slice_index_or, slice_set}
+use Rattle.std.proofs.Common.{◌≡◌, ◌≢◌, ◌⊎◌, inl, inr, ⊎_elim, ℕ, zero, suc, ◌+◌, ◌<◌, ◌≤◌, Bool, true, false, not, ◌&&◌, ◌||◌, List, [], ◌∷◌, length, Option, Some, None, refl, sym, ap, ◌∙◌, subst, arith, if◌then◌else◌, drop, get_or, drop-cons, add-one, get_or-set_same, get_or-set_other, replicate}
+use Rattle.std.specs.Prelude.{◌==◌, nat_le, nat_lt, slice_index_or, slice_set}
 use Rattle.std.specs.List.{sum_by}
-use Rattle.std.proofs.lemmas.Bool.{leb-true, le-leb, lt-ltb, ltb-true, cond-true, cond-false, cases_lt, both_ways, eqb-true, eq-eqb}
+use Rattle.std.proofs.lemmas.Bool.{leb-true, le-leb, lt-ltb, cond-true, cond-false, cases_lt, both_ways, eqb-true, eq-eqb}
 use Rattle.std.proofs.lemmas.List.{get_or-replicate, get_or_past, length-replicate}
 use Rattle.std.proofs.lemmas.List.Sums.{sum_by-cons}
 use Rattle.cost_theory.specs.Graph.{sum_below}
@@ -15,7 +15,7 @@ use Rattle.foreign_scan.specs.Form.{IsForeign}
 use Rattle.foreign_scan.specs.Shown.{SitesView}
 use Rattle.image_check.specs.Safe.{counts_it, clears_it}
 use Rattle.image_check.specs.Known.{owner_by}
-use Rattle.image_check.specs.Uses.{on_edge, counts_at, clears_at, turn_of, exit_of, of_loop, fits_on, named_by, named, AreNamed, counter_of, is_of, no_tally, taken_one, taken, tally_of}
+use Rattle.image_check.specs.Uses.{on_edge, counts_at, clears_at, turn_of, exit_of, of_loop, fits_on, named_by, named, AreNamed, counter_used, is_same_counter, no_tally, taken_one, taken, tally_of}
 use Rattle.image_check.specs.declared.uses.Tally.{Tally}
 
 -- ---- names
@@ -92,9 +92,9 @@ or_of false b e = e
 
 pub taken_fits : (c : ℕ) (fits : Bool) (fs : List ForeignFragment) (u : Tally) → u.fits ≡ true → fits ≡ true → (taken c fits fs u).fits ≡ true
 taken_fits c fits [] u is fit = is
-taken_fits c fits (f ∷ fs) u is fit = taken_fits c fits fs (taken_one c fits f u) (and_both u.fits (not (is_of (counter_of f) c) || fits) is (or_of (not (is_of (counter_of f) c)) fits fit)) fit
+taken_fits c fits (f ∷ fs) u is fit = taken_fits c fits fs (taken_one c fits f u) (and_both u.fits (not (is_same_counter (counter_used f) c) || fits) is (or_of (not (is_same_counter (counter_used f) c)) fits fit)) fit
 
-no_use : (c : ℕ) (f : ForeignFragment) → is_of (counter_of f) c ≡ false → (counts_it c f ≡ 0) × (clears_it c f ≡ 0)
+no_use : (c : ℕ) (f : ForeignFragment) → is_same_counter (counter_used f) c ≡ false → (counts_it c f ≡ 0) × (clears_it c f ≡ 0)
 no_use c (Switch word) e = (refl, refl)
 no_use c (Exit counter shift table) e = (refl, cond-false (c == counter) 1 0 e)
 no_use c (Reset counter) e = (refl, cond-false (c == counter) 1 0 e)
@@ -105,11 +105,11 @@ pub fits_taken : (c : ℕ) (fits : Bool) (fs : List ForeignFragment) (u : Tally)
 fits_taken c fits [] u e = (e, inr ((refl, refl)))
 fits_taken c fits (f ∷ fs) u e =
     let rest = fits_taken c fits fs (taken_one c fits f u) e in
-    let old : u.fits ≡ true = and_left u.fits (not (is_of (counter_of f) c) || fits) rest.0 in
-    let this : not (is_of (counter_of f) c) || fits ≡ true = and_right u.fits (not (is_of (counter_of f) c) || fits) rest.0 in
-    (old, ⊎_elim (λ fit. inl fit) (λ zeros. by_use (is_of (counter_of f) c) refl this zeros) rest.1)
+    let old : u.fits ≡ true = and_left u.fits (not (is_same_counter (counter_used f) c) || fits) rest.0 in
+    let this : not (is_same_counter (counter_used f) c) || fits ≡ true = and_right u.fits (not (is_same_counter (counter_used f) c) || fits) rest.0 in
+    (old, ⊎_elim (λ fit. inl fit) (λ zeros. by_use (is_same_counter (counter_used f) c) refl this zeros) rest.1)
   where
-    by_use : (b : Bool) → is_of (counter_of f) c ≡ b → not (is_of (counter_of f) c) || fits ≡ true → (sum_by (counts_it c) fs ≡ 0) × (sum_by (clears_it c) fs ≡ 0)
+    by_use : (b : Bool) → is_same_counter (counter_used f) c ≡ b → not (is_same_counter (counter_used f) c) || fits ≡ true → (sum_by (counts_it c) fs ≡ 0) × (sum_by (clears_it c) fs ≡ 0)
         → (fits ≡ true) ⊎ ((sum_by (counts_it c) (f ∷ fs) ≡ 0) × (sum_by (clears_it c) (f ∷ fs) ≡ 0))
     by_use true used this zeros = inl (sym (ap (λ b. not b || fits) used) ∙ this)
     by_use false used this zeros =
@@ -210,17 +210,17 @@ plus_none : (a b : ℕ) → b ≡ 0 → a + b ≡ a
 plus_none a b e = omega (arith, e)
 
 -- a fragment that doesn't use a counter leaves its tally
-pub taken_other : (c : ℕ) (fits : Bool) (f : ForeignFragment) (u : Tally) → is_of (counter_of f) c ≡ false → taken_one c fits f u ≡ u
+pub taken_other : (c : ℕ) (fits : Bool) (f : ForeignFragment) (u : Tally) → is_same_counter (counter_used f) c ≡ false → taken_one c fits f u ≡ u
 taken_other c fits f u e =
     let none = no_use c f e in
-    ap (λ (x : ℕ). let r : Tally = record { counts = x; clears = u.clears + clears_it c f; fits = u.fits && (not (is_of (counter_of f) c) || fits) } in r) (plus_none u.counts (counts_it c f) none.0)
-    ∙ (ap (λ (x : ℕ). let r : Tally = record { counts = u.counts; clears = x; fits = u.fits && (not (is_of (counter_of f) c) || fits) } in r) (plus_none u.clears (clears_it c f) none.1)
-    ∙ ap (λ (x : Bool). let r : Tally = record { counts = u.counts; clears = u.clears; fits = x } in r) (and_free u.fits (is_of (counter_of f) c) fits e))
+    ap (λ (x : ℕ). let r : Tally = record { counts = x; clears = u.clears + clears_it c f; fits = u.fits && (not (is_same_counter (counter_used f) c) || fits) } in r) (plus_none u.counts (counts_it c f) none.0)
+    ∙ (ap (λ (x : ℕ). let r : Tally = record { counts = u.counts; clears = x; fits = u.fits && (not (is_same_counter (counter_used f) c) || fits) } in r) (plus_none u.clears (clears_it c f) none.1)
+    ∙ ap (λ (x : Bool). let r : Tally = record { counts = u.counts; clears = u.clears; fits = x } in r) (and_free u.fits (is_same_counter (counter_used f) c) fits e))
 
-pub one_skipped : (fits : ℕ → Bool) (f : ForeignFragment) (old : List Tally) → counter_of f ≡ None → (c : ℕ) → slice_index_or old c no_tally ≡ taken_one c (fits c) f (slice_index_or old c no_tally)
-one_skipped fits f old none c = sym (taken_other c (fits c) f (slice_index_or old c no_tally) (ap (λ o. is_of o c) none))
+pub one_skipped : (fits : ℕ → Bool) (f : ForeignFragment) (old : List Tally) → counter_used f ≡ None → (c : ℕ) → slice_index_or old c no_tally ≡ taken_one c (fits c) f (slice_index_or old c no_tally)
+one_skipped fits f old none c = sym (taken_other c (fits c) f (slice_index_or old c no_tally) (ap (λ o. is_same_counter o c) none))
 
-pub one_set : (fits : ℕ → Bool) (f : ForeignFragment) (old new : List Tally) (counter : ℕ) (fit : Bool) → counter_of f ≡ Some counter → counter < length old → fit ≡ fits counter
+pub one_set : (fits : ℕ → Bool) (f : ForeignFragment) (old new : List Tally) (counter : ℕ) (fit : Bool) → counter_used f ≡ Some counter → counter < length old → fit ≡ fits counter
     → new ≡ slice_set old counter (taken_one counter fit f (slice_index_or old counter no_tally)) → (c : ℕ) → slice_index_or new c no_tally ≡ taken_one c (fits c) f (slice_index_or old c no_tally)
 one_set fits f old new counter fit of low fit_is is c = by_test (c == counter) refl
   where
@@ -235,9 +235,9 @@ one_set fits f old new counter fit of low fit_is is c = by_test (c == counter) r
         let other : c ≢ counter = λ same. both_ways (c == counter) e (eq-eqb c counter same) in
         ap (λ xs. slice_index_or xs c no_tally) is
         ∙ (get_or-set_other old counter c (taken_one counter fit f (slice_index_or old counter no_tally)) no_tally other
-        ∙ sym (taken_other c (fits c) f (slice_index_or old c no_tally) (ap (λ o. is_of o c) of ∙ e)))
+        ∙ sym (taken_other c (fits c) f (slice_index_or old c no_tally) (ap (λ o. is_same_counter o c) of ∙ e)))
 
-pub low_counter : (f : ForeignFragment) (counter : ℕ) → IsForeign f → counter_of f ≡ Some counter → counter < 511
+pub low_counter : (f : ForeignFragment) (counter : ℕ) → IsForeign f → counter_used f ≡ Some counter → counter < 511
 low_counter (Switch word) counter fits of = let bad : ⊥ = cc in absurd bad
 low_counter (Exit d shift table) counter fits of = let same : d ≡ counter = cc in let low = fits.0.1 in omega (arith, same, low)
 low_counter (Reset d) counter fits of = let same : d ≡ counter = cc in let low = fits.1 in omega (arith, same, low)

@@ -17,7 +17,7 @@ use Rattle.image_check.specs.declared.checking.Received.{Received}
 use Rattle.image_check.specs.declared.checking.CostsWithStubs.{CostsWithStubs}
 use Rattle.image_check.specs.Safe.{AreOwners, sites_of}
 use Rattle.image_check.specs.Known.{owner_by, IsFoundIn}
-use Rattle.image_check.specs.Checked.{graph_by, key_level, weights_with}
+use Rattle.image_check.specs.Checked.{key_level, weights_with}
 
 -- a program: an image without a keyed segment, with its graph and its loops
 pub record IsOriginal (p : Original) : Type 0 where

@@ -1,14 +1,13 @@
 -- The least level for which an entry of a word, or of a table, is not safe.
-use Rattle.std.specs.Prelude.{◌≡◌, ℕ, ◌+◌, ◌*◌, ◌%◌, ◌^◌, ◌<◌, ◌≤◌, min, ◌==◌, ◌&&◌, ◌||◌, nat_lt, Bool, true, false, length, Option, Some, None}
+use Rattle.std.specs.Prelude.{◌≡◌, ℕ, ◌+◌, ◌*◌, ◌%◌, ◌^◌, ◌<◌, min, ◌==◌, ◌&&◌, ◌||◌, nat_lt, Bool, Option, Some, None}
 use Rattle.scale_base.specs.State.{word_at}
 use Rattle.power_model.specs.Numbers.{PowerModel}
 use Rattle.level_tables.specs.Tables.{EdgeNumbers, meets_both, at_row}
-use Rattle.stored_runs.specs.Meaning.{four_bits}
 use Rattle.image_check.specs.Causes.{IsBadEntry}
 use Rattle.image_check.specs.declared.entries.Told.{Told}
 
-abbrev pub told_view : Told → EdgeNumbers
-told_view x = record { slack = x.slack; left = x.left; least = x.least }
+abbrev pub told_numbers : Told → EdgeNumbers
+told_numbers x = record { slack = x.slack; left = x.left; least = x.least }
 
 -- whether an entry is safe
 abbrev pub is_safe : PowerModel → EdgeNumbers → (i j : ℕ) → Bool

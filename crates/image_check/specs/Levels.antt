@@ -1,5 +1,5 @@
 -- The least level for which an entry is not safe, of an edge, of the edges of a node, and of all.
-use Rattle.std.specs.Prelude.{◌≡◌, ◌⊎◌, ℕ, ◌<◌, ◌≤◌, Bool, true, false, List, [], ◌∷◌, length, slice_get, slice_index, Option, Some, None}
+use Rattle.std.specs.Prelude.{◌≡◌, ℕ, ◌<◌, Bool, true, false, List, ◌∷◌, length, slice_get, slice_index, Option, Some, None}
 use Rattle.scale_base.specs.Image.{Image, loaded_byte}
 use Rattle.scale_base.specs.declared.ranges.Keyed.{Keyed}
 use Rattle.scale_base.specs.declared.edges.Edge.{Edge}
@@ -19,10 +19,10 @@ use Rattle.flat_memory.specs.Lists.{list_bytes}
 use Rattle.foreign_scan.specs.declared.fragment.ForeignFragment.{ForeignFragment}
 use Rattle.foreign_scan.specs.Scanned.{Found}
 use Rattle.image_check.specs.Safe.{Owner, all_with_rows}
-use Rattle.image_check.specs.Causes.{HasBadEntry, IsBadLevel}
+use Rattle.image_check.specs.Causes.{IsBadLevel}
 use Rattle.image_check.specs.Known.{owner_by, AreKnown, IsLevelsAnswer}
 use Rattle.image_check.specs.Uses.{on_edge}
-use Rattle.image_check.specs.Entries.{told_view, IsLeastIn}
+use Rattle.image_check.specs.Entries.{told_numbers, IsLeastIn}
 use Rattle.image_check.specs.declared.entries.Told.{Told}
 use Rattle.image_check.specs.declared.levels.Known.{Known}
 
@@ -45,8 +45,8 @@ abbrev pub IsKnown : Known → Type 0
 IsKnown x = (original foreign : Image) × (found : Found) × (w : ℕ → ℕ) × (n : Numbers) × (least : Charged) × AreKnownBy x original foreign found w n least
 
 -- what is so, whatever the image and the numbers
-abbrev pub Whichever : Known → (Image → Found → (ℕ → ℕ) → Numbers → Charged → Type 0) → Type 0
-Whichever x P = (original foreign : Image) (found : Found) (w : ℕ → ℕ) (n : Numbers) (least : Charged) → AreKnownBy x original foreign found w n least → P foreign found w n least
+abbrev pub ForAllKnown : Known → (Image → Found → (ℕ → ℕ) → Numbers → Charged → Type 0) → Type 0
+ForAllKnown x P = (original foreign : Image) (found : Found) (w : ℕ → ℕ) (n : Numbers) (least : Charged) → AreKnownBy x original foreign found w n least → P foreign found w n least
 
 -- an edge of the graph, which leads to a node
 abbrev pub LeadsOn : Known → ℕ → Type 0
@@ -56,8 +56,8 @@ LeadsOn x e = (e < length x.graph.now.code.edges) × ((to : ℕ) × ((graph x.gr
 abbrev pub IsFirstOn : Known → ℕ → ForeignFragment → Type 0
 IsFirstOn x e f = (rest : List ForeignFragment) × (on_edge x.sites.now e ≡ f ∷ rest)
 
-abbrev pub IsToldAt : Known → ℕ → Told → Type 0
-IsToldAt x e told = Whichever x (λ foreign found w n least. told_view told
+abbrev pub IsToldOn : Known → ℕ → Told → Type 0
+IsToldOn x e told = ForAllKnown x (λ foreign found w n least. told_numbers told
     ≡ told_on (graph x.graph.now) (loops x.graph.now x.tree.now) w n least e (tail_cycles (costs_of x.power.now) (all_with_rows foreign (loops x.graph.now x.tree.now) (owner_by x.owners.now) (on_edge x.sites.now e))))
 
 -- an entry of edge e for level i isn't safe
@@ -67,27 +67,27 @@ IsBadAt x foreign found w n least e i = (edge : Edge) × (slice_get x.graph.now.
 
 -- the least level for which one isn't
 abbrev pub IsEdgeLevel : Known → ℕ → Option ℕ → Type 0
-IsEdgeLevel x e level = Whichever x (λ foreign found w n least. IsLeastIn (IsBadAt x foreign found w n least e) level)
+IsEdgeLevel x e level = ForAllKnown x (λ foreign found w n least. IsLeastIn (IsBadAt x foreign found w n least e) level)
 
-abbrev pub is_taken : EdgeKind → Bool
-is_taken Taken = true
-is_taken Untaken = false
-is_taken Jump = false
-is_taken Next = false
-is_taken CallNext = false
-is_taken End = false
+abbrev pub is_taken_edge : EdgeKind → Bool
+is_taken_edge Taken = true
+is_taken_edge Untaken = false
+is_taken_edge Jump = false
+is_taken_edge Next = false
+is_taken_edge CallNext = false
+is_taken_edge End = false
 
 -- the same of an edge that is of a sort
 abbrev pub IsSortLevelBy : Known → Bool → (e : ℕ) → Image → Found → (ℕ → ℕ) → Numbers → Charged → Option ℕ → Type 0
-IsSortLevelBy x taken e foreign found w n least None = (i : ℕ) (edge : Edge) → slice_get x.graph.now.code.edges e ≡ Some edge → is_taken edge.kind ≡ taken → IsBadAt x foreign found w n least e i → ⊥
-IsSortLevelBy x taken e foreign found w n least (Some i) = (edge : Edge) × (slice_get x.graph.now.code.edges e ≡ Some edge) × (is_taken edge.kind ≡ taken) × IsLeastIn (IsBadAt x foreign found w n least e) (Some i)
+IsSortLevelBy x taken e foreign found w n least None = (i : ℕ) (edge : Edge) → slice_get x.graph.now.code.edges e ≡ Some edge → is_taken_edge edge.kind ≡ taken → IsBadAt x foreign found w n least e i → ⊥
+IsSortLevelBy x taken e foreign found w n least (Some i) = (edge : Edge) × (slice_get x.graph.now.code.edges e ≡ Some edge) × (is_taken_edge edge.kind ≡ taken) × IsLeastIn (IsBadAt x foreign found w n least e) (Some i)
 
 abbrev pub IsSortLevel : Known → Bool → (e : ℕ) → Option ℕ → Type 0
-IsSortLevel x taken e level = Whichever x (λ foreign found w n least. IsSortLevelBy x taken e foreign found w n least level)
+IsSortLevel x taken e level = ForAllKnown x (λ foreign found w n least. IsSortLevelBy x taken e foreign found w n least level)
 
 -- an edge of node k of this sort
 abbrev pub IsSortAt : Known → (k : ℕ) → Bool → (e : ℕ) → Edge → Type 0
-IsSortAt x k taken e edge = (slice_get x.graph.now.code.edges e ≡ Some edge) × (edge.at ≡ slice_index x.graph.now.code.nodes k) × (is_taken edge.kind ≡ taken)
+IsSortAt x k taken e edge = (slice_get x.graph.now.code.edges e ≡ Some edge) × (edge.at ≡ slice_index x.graph.now.code.nodes k) × (is_taken_edge edge.kind ≡ taken)
 
 -- of the edges of a node of one sort, the first that has such an entry, and there the least level
 abbrev pub IsNodeLevelBy : Known → (k : ℕ) → Bool → Image → Found → (ℕ → ℕ) → Numbers → Charged → Option ℕ → Type 0
@@ -95,7 +95,7 @@ IsNodeLevelBy x k taken foreign found w n least None = (e i : ℕ) (edge : Edge)
 IsNodeLevelBy x k taken foreign found w n least (Some i) = (e : ℕ) × (edge : Edge) × IsSortAt x k taken e edge × IsLeastIn (IsBadAt x foreign found w n least e) (Some i)
 
 abbrev pub IsNodeLevel : Known → (k : ℕ) → Bool → Option ℕ → Type 0
-IsNodeLevel x k taken level = Whichever x (λ foreign found w n least. IsNodeLevelBy x k taken foreign found w n least level)
+IsNodeLevel x k taken level = ForAllKnown x (λ foreign found w n least. IsNodeLevelBy x k taken foreign found w n least level)
 
 -- of the edges of a node, the taken one last
 abbrev pub IsBothLevelBy : Known → (k : ℕ) → Image → Found → (ℕ → ℕ) → Numbers → Charged → Option ℕ → Type 0
@@ -103,7 +103,7 @@ IsBothLevelBy x k foreign found w n least None = IsNodeLevelBy x k false foreign
 IsBothLevelBy x k foreign found w n least (Some i) = (taken : Bool) × (taken ≡ true → IsNodeLevelBy x k false foreign found w n least None) × IsNodeLevelBy x k taken foreign found w n least (Some i)
 
 abbrev pub IsBothLevel : Known → (k : ℕ) → Option ℕ → Type 0
-IsBothLevel x k level = Whichever x (λ foreign found w n least. IsBothLevelBy x k foreign found w n least level)
+IsBothLevel x k level = ForAllKnown x (λ foreign found w n least. IsBothLevelBy x k foreign found w n least level)
 
 abbrev pub IsFirstLevel : Known → Option (ℕ × ℕ) → Type 0
-IsFirstLevel x first = Whichever x (λ foreign found w n least. IsLevelsAnswer x.power.now foreign x.graph.now (loops x.graph.now x.tree.now) (owner_by x.owners.now) w n least found first)
+IsFirstLevel x first = ForAllKnown x (λ foreign found w n least. IsLevelsAnswer x.power.now foreign x.graph.now (loops x.graph.now x.tree.now) (owner_by x.owners.now) w n least found first)

@@ -55,8 +55,8 @@ pub record AreExits (v : FlowGraph) (t : LoopView) (n : ℕ) (exits : List ℕ) 
 abbrev pub exit_from : FlowGraph → LoopView → (k n e : ℕ) → ℕ
 exit_from v t k n e = only (nat_eq ((graph v).source e) (node_address v n)) (exit_of (graph v) (loops v t) k e)
 
-abbrev pub exits_from : FlowGraph → LoopView → (k n : ℕ) → ℕ
-exits_from v t k n = sum_below (length v.code.edges) (exit_from v t k n)
+abbrev pub exits_at : FlowGraph → LoopView → (k n : ℕ) → ℕ
+exits_at v t k n = sum_below (length v.code.edges) (exit_from v t k n)
 
 -- ---- the loop that is counted
 
@@ -76,22 +76,22 @@ pub record AreNamed (v : FlowGraph) (t : LoopView) (s : SitesView) (n : ℕ) (ow
 
 -- ---- tallies
 
-abbrev pub counter_of : ForeignFragment → Option ℕ
-counter_of (Switch word) = None
-counter_of (Exit counter shift table) = Some counter
-counter_of (Reset counter) = Some counter
-counter_of (Count counter) = Some counter
+abbrev pub counter_used : ForeignFragment → Option ℕ
+counter_used (Switch word) = None
+counter_used (Exit counter shift table) = Some counter
+counter_used (Reset counter) = Some counter
+counter_used (Count counter) = Some counter
 
-abbrev pub is_of : Option ℕ → ℕ → Bool
-is_of None c = false
-is_of (Some d) c = c == d
+abbrev pub is_same_counter : Option ℕ → ℕ → Bool
+is_same_counter None c = false
+is_same_counter (Some d) c = c == d
 
 abbrev pub no_tally : Tally
 no_tally = record { counts = 0; clears = 0; fits = true }
 
 -- the tally of a counter behind one more fragment, and behind some of them; `fits` tells whether their edge fits the counter
 abbrev pub taken_one : ℕ → Bool → ForeignFragment → Tally → Tally
-taken_one c fits f u = record { counts = u.counts + counts_it c f; clears = u.clears + clears_it c f; fits = u.fits && (not (is_of (counter_of f) c) || fits) }
+taken_one c fits f u = record { counts = u.counts + counts_it c f; clears = u.clears + clears_it c f; fits = u.fits && (not (is_same_counter (counter_used f) c) || fits) }
 
 abbrev pub taken : ℕ → Bool → List ForeignFragment → Tally → Tally
 taken c fits [] u = u
@@ -110,8 +110,8 @@ abbrev pub AreTakenOne : FlowGraph → LoopView → SitesView → List (Option �
 AreTakenOne v t s owners e f old new = (c : ℕ) → slice_index_or new c no_tally ≡ taken_one c (fits_on v t s (owner_by owners c) c e) f (slice_index_or old c no_tally)
 
 -- one more edge is taken
-abbrev pub AreTaken : FlowGraph → LoopView → SitesView → List (Option ℕ) → (e : ℕ) → (old new : List Tally) → Type 0
-AreTaken v t s owners e old new = (length new ≡ 511) × ((c : ℕ) → slice_index_or new c no_tally ≡ taken c (fits_on v t s (owner_by owners c) c e) (on_edge s e) (slice_index_or old c no_tally))
+abbrev pub AreTallied : FlowGraph → LoopView → SitesView → List (Option ℕ) → (e : ℕ) → (old new : List Tally) → Type 0
+AreTallied v t s owners e old new = (length new ≡ 511) × ((c : ℕ) → slice_index_or new c no_tally ≡ taken c (fits_on v t s (owner_by owners c) c e) (on_edge s e) (slice_index_or old c no_tally))
 
 -- tallies of some edges, each of which has at most 64 fragments
 abbrev pub AreSmallTallies : ℕ → List Tally → Type 0
@@ -124,12 +124,12 @@ is_tally_of turns exits u None = false
 is_tally_of turns exits u (Some k) = u.fits && (u.counts == slice_index turns k) && (u.clears == slice_index exits k)
 
 -- a counter is used, and counts no loop
-abbrev pub is_bad : List ℕ → List ℕ → Tally → Option ℕ → Bool
-is_bad turns exits u owner = nat_lt 0 (u.counts + u.clears) && not (is_tally_of turns exits u owner)
+abbrev pub is_bad_tally : List ℕ → List ℕ → Tally → Option ℕ → Bool
+is_bad_tally turns exits u owner = nat_lt 0 (u.counts + u.clears) && not (is_tally_of turns exits u owner)
 
 -- the first counter of which that is so, if there is one
 abbrev pub IsFirstBad : (turns exits : List ℕ) → List Tally → List (Option ℕ) → Option ℕ → Type 0
-IsFirstBad turns exits tallies owners None = (c : ℕ) → c < 511 → is_bad turns exits (slice_index_or tallies c no_tally) (owner_by owners c) ≡ false
+IsFirstBad turns exits tallies owners None = (c : ℕ) → c < 511 → is_bad_tally turns exits (slice_index_or tallies c no_tally) (owner_by owners c) ≡ false
 IsFirstBad turns exits tallies owners (Some b) =
-    (b < 511) × (is_bad turns exits (slice_index_or tallies b no_tally) (owner_by owners b) ≡ true)
-    × ((c : ℕ) → c < b → is_bad turns exits (slice_index_or tallies c no_tally) (owner_by owners c) ≡ false)
+    (b < 511) × (is_bad_tally turns exits (slice_index_or tallies b no_tally) (owner_by owners b) ≡ true)
+    × ((c : ℕ) → c < b → is_bad_tally turns exits (slice_index_or tallies c no_tally) (owner_by owners c) ≡ false)

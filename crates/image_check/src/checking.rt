@@ -1,11 +1,10 @@
 //! Whether an image of other make is safe, from its file to the verdict.
 
-ghost use Rattle.std.specs.Prelude.{◌≡◌, ◌≤◌, ◌<◌, ◌^◌, ℕ, length, Ok, IfOk};
+ghost use Rattle.std.specs.Prelude.{◌≡◌, ◌≤◌, ◌<◌, length, Ok, IfOk};
 ghost use Rattle.scale_base.specs.Answer.{AnswersBy};
 ghost use Rattle.scale_base.specs.Image.{Image, image_of};
 ghost use Rattle.scale_base.specs.Run.{starting_level as level_of_key};
 ghost use Rattle.power_model.specs.Numbers.{IsPowerModel};
-ghost use Rattle.power_model.specs.Price.{time_at};
 ghost use Rattle.cost_theory.specs.Worst.{Numbers};
 ghost use Rattle.foreign_scan.specs.Scanned.{Found};
 ghost use Rattle.scaler.specs.Held.{unscaled};
@@ -25,7 +24,8 @@ use loop_file::{LoopNotes, read_loops};
 use loop_tree::{LoopTree, build_loops};
 use machine_file::read_machine;
 use power_model::Power;
-use scale_base::{Checked, Keyed, NoMemory, Refusal, Stop, Verdict, Why};
+use scale_base::{Checked, Keyed, NoMemory, Stop, Verdict, Why};
+use scaler::{check_unscaled, time_at};
 use std::alloc::Global;
 use worst_cycles::{WorstNumbers, worst};
 
@@ -52,24 +52,6 @@ pub struct Received<'a> {
 pub struct CostsWithStubs {
     pub weights: Weights,
     pub worst: WorstNumbers,
-}
-
-/// No keyed segment is there yet.
-fn check_plain(keyed: Option<Keyed>) -> Result<(), Refusal>
-    ensures { result ≡ unscaled keyed }
-{
-    match keyed {
-        Some(_) => Err(Refusal::AlreadyScaled),
-        None => Ok(()),
-    }
-}
-
-/// So many cycles in time units at a level.
-fn time_at(power: &Power, cycles: u64, level: u8) -> u128
-    requires { level < length power.now.levels }
-    ensures { result ≡ time_at power.now level cycles }
-{
-    u128::from(cycles) * u128::from(power.levels.get(level).period)
 }
 
 /// The level at which a keyed segment starts its image: the fastest one without a segment.
@@ -280,7 +262,7 @@ fn check_files(
 {
     let power = read_machine(alloc, machine)?;
     let view = read_image(alloc, image)?;
-    check_plain(view.keyed())?;
+    check_unscaled(view.keyed())?;
     let notes = read_loops(alloc, loops, &view)?;
     check_program(alloc, power, view, notes, foreign)
 }

@@ -1,9 +1,9 @@
 //! The entries of words and of tables, and which of them are safe.
 
-ghost use Rattle.std.specs.Prelude.{◌≡◌, ◌<◌, ◌≤◌, ◌+◌, ◌*◌, ◌/◌, ◌%◌, ◌^◌, ℕ, length, IfSome};
+ghost use Rattle.std.specs.Prelude.{◌≡◌, ◌<◌, ◌≤◌, ◌+◌, ◌*◌, ◌/◌, ◌%◌, ◌^◌, length, IfSome};
 ghost use Rattle.flat_memory.specs.Lists.{list_bytes};
 ghost use Rattle.level_tables.specs.Tables as tables;
-ghost use Rattle.image_check.specs.Entries.{told_view, is_safe, IsWordLevel, IsTableLevel, AreRowPlaces, lesser_level};
+ghost use Rattle.image_check.specs.Entries.{told_numbers, is_safe, IsWordLevel, IsTableLevel, AreRowPlaces, lesser_level};
 
 use flat_memory::{ListMemory, Memory};
 use power_model::Power;
@@ -20,7 +20,7 @@ pub struct Told {
 fn is_in_time(power: &Power, told: &Told, i: u8, lower: u8) -> bool
     requires level { i < length power.now.levels }
     requires lower { lower < length power.now.levels }
-    ensures { result ≡ tables.is_switch_in_time power.now (told_view told.now) i lower }
+    ensures { result ≡ tables.is_switch_in_time power.now (told_numbers told.now) i lower }
 {
     let before = (u128::from(told.left) + u128::from(told.slack))
         * u128::from(power.levels.get(i).period);
@@ -48,7 +48,7 @@ fn pays(power: &Power, told: &Told, i: u8, lower: u8) -> bool
 fn is_safe(power: &Power, told: &Told, i: u8, entry: u8) -> bool
     requires level { i < length power.now.levels }
     requires least { IfSome told.now.least (λ z. z < 2 ^ 90) }
-    ensures { result ≡ is_safe power.now (told_view told.now) i entry }
+    ensures { result ≡ is_safe power.now (told_numbers told.now) i entry }
 {
     entry == i || entry < i && is_in_time(power, told, i, entry) && pays(power, told, i, entry)
 }
@@ -56,7 +56,7 @@ fn is_safe(power: &Power, told: &Told, i: u8, entry: u8) -> bool
 /// The least level for which the entry of a word isn't safe.
 pub fn word_level(power: &Power, told: &Told, word: u32) -> Option<u8>
     requires least { IfSome told.now.least (λ z. z < 2 ^ 90) }
-    ensures { IsWordLevel power.now (told_view told.now) word result }
+    ensures { IsWordLevel power.now (told_numbers told.now) word result }
 {
     for i in 0..power.levels.count() {
         let entry = (word >> (4 * u32::from(i))) % 16;
@@ -90,7 +90,7 @@ fn told_row(told: &Told, bound: u32, iteration: u64, shift: u8, row: u32) -> Tol
     requires row { row ≤ bound / 2 ^ shift }
     requires slack { told.now.slack ≤ 2 ^ 50 }
     requires turns { bound * iteration ≤ 2 ^ 48 }
-    ensures told { told_view result ≡ tables.at_row bound iteration shift (told_view told.now) row }
+    ensures told { told_numbers result ≡ tables.at_row bound iteration shift (told_numbers told.now) row }
     ensures same { result.least ≡ told.now.least }
 {
     let trips = trips_left(bound, shift, row);
@@ -128,7 +128,7 @@ pub fn table_level(
     requires turns { bound * iteration ≤ 2 ^ 48 }
     requires least { IfSome told.now.least (λ z. z < 2 ^ 90) }
     requires rows { AreRowPlaces table (bound / 2 ^ shift) }
-    ensures { IsTableLevel power.now (list_bytes memory.now) (told_view told.now) bound iteration shift table (bound / 2 ^ shift + 1) result }
+    ensures { IsTableLevel power.now (list_bytes memory.now) (told_numbers told.now) bound iteration shift table (bound / 2 ^ shift + 1) result }
 {
     let mut least = None;
     for row in 0..(bound >> shift) + 1 {

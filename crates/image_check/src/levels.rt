@@ -8,7 +8,7 @@ ghost use Rattle.loop_tree.specs.Tree.{loops};
 ghost use Rattle.foreign_scan.specs.declared.fragment.ForeignFragment.{ForeignFragment};
 ghost use Rattle.foreign_scan.specs.Scanned.{Found};
 ghost use Rattle.image_check.specs.Known.{owner_by, HasKnown, AreKnown, IsLevelsAnswer};
-ghost use Rattle.image_check.specs.Levels.{key_end, IsTailOf, IsKnown, LeadsOn, IsFirstOn, IsToldAt, IsEdgeLevel, is_taken, IsSortLevel, IsBothLevel, IsNodeLevel, IsFirstLevel};
+ghost use Rattle.image_check.specs.Levels.{key_end, IsTailOf, IsKnown, LeadsOn, IsFirstOn, IsToldOn, IsEdgeLevel, is_taken_edge, IsSortLevel, IsBothLevel, IsNodeLevel, IsFirstLevel};
 
 use crate::entries::{Told, table_level, word_level};
 use crate::owners::OwnerList;
@@ -96,7 +96,7 @@ fn plus(least: Option<u128>, tail: u32) -> Option<u128>
 fn told_at(known: &Known<'_>, e: usize) -> Told
     requires known { IsKnown known.now }
     requires leads { LeadsOn known.now e }
-    ensures told { IsToldAt known.now e result }
+    ensures told { IsToldOn known.now e result }
     ensures slack { result.slack ≤ 2 ^ 50 }
     ensures least { IfSome result.least (λ z. z < 2 ^ 90) }
 {
@@ -211,7 +211,7 @@ fn edge_level(known: &Known<'_>, e: usize) -> Option<u8>
 
 /// Whether an edge is a branch's taken one.
 fn is_taken(kind: EdgeKind) -> bool
-    ensures { result ≡ is_taken kind }
+    ensures { result ≡ is_taken_edge kind }
 {
     match kind {
         EdgeKind::Taken => true,
@@ -222,7 +222,7 @@ fn is_taken(kind: EdgeKind) -> bool
 
 /// Whether an edge is taken or not, as told.
 fn is_of_sort(kind: EdgeKind, taken: bool) -> bool
-    ensures { (result ≡ true) ↔ (is_taken kind ≡ taken) }
+    ensures { (result ≡ true) ↔ (is_taken_edge kind ≡ taken) }
 {
     if taken {
         is_taken(kind)

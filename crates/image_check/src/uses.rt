@@ -2,7 +2,7 @@
 
 ghost use Rattle.std.specs.Prelude.{◌≡◌, ◌<◌, ◌≤◌, ◌+◌, ◌*◌, ◌^◌, ℕ, All, Some, length, slice_index, slice_index_or, slice_set, IfOk};
 ghost use Rattle.std.specs.List.{sum_by};
-ghost use Rattle.cost_theory.specs.Graph.{leaves, sum_below};
+ghost use Rattle.cost_theory.specs.Graph.{leaves};
 ghost use Rattle.cost_theory.specs.Lists.{body_of};
 ghost use Rattle.code_graph.specs.FlowGraph.{graph as graph_seen};
 ghost use Rattle.loop_tree.specs.Tree.{loops};
@@ -39,7 +39,7 @@ fn one_where(holds: bool) -> usize
 
 /// The counter that a fragment uses.
 fn counter_of(fragment: &ForeignFragment) -> Option<u16>
-    ensures { result ≡ uses.counter_of fragment.now }
+    ensures { result ≡ uses.counter_used fragment.now }
 {
     match *fragment {
         ForeignFragment::Switch { .. } => None,
@@ -209,7 +209,7 @@ fn exits_from(graph: &CodeGraph, tree: &LoopTree, sites: &ForeignSites, k: usize
     requires found { HasFound graph.now tree.now sites.now }
     requires within { k < length tree.now.headers }
     requires node { n < length graph.now.code.nodes }
-    ensures value { result ≡ uses.exits_from graph.now tree.now k n }
+    ensures value { result ≡ uses.exits_at graph.now tree.now k n }
     ensures small { result ≤ 262144 }
 {
     let (first, end) = graph.edges_of(n);
@@ -225,7 +225,7 @@ fn exits_from(graph: &CodeGraph, tree: &LoopTree, sites: &ForeignSites, k: usize
 fn exits_of(graph: &CodeGraph, tree: &LoopTree, sites: &ForeignSites, k: usize) -> usize
     requires found { HasFound graph.now tree.now sites.now }
     requires within { k < length tree.now.headers }
-    ensures { result ≡ sum_by (uses.exits_from graph.now tree.now k) (body_of tree.now.bodies k) }
+    ensures { result ≡ sum_by (uses.exits_at graph.now tree.now k) (body_of tree.now.bodies k) }
 {
     let _few = graph.edge_count();
     let mut found = 0;
@@ -290,7 +290,7 @@ pub fn named_loops(
 fn taken_one(tally: Tally, fragment: &ForeignFragment, counter: u16, fits: bool) -> Tally
     requires counts { tally.counts < 2 ^ 32 }
     requires clears { tally.clears < 2 ^ 32 }
-    requires used { uses.counter_of fragment.now ≡ Some counter }
+    requires used { uses.counter_used fragment.now ≡ Some counter }
     ensures { result ≡ uses.taken_one counter fits fragment.now tally }
 {
     Tally {
@@ -305,7 +305,7 @@ fn set_tally(tallies: &mut Vec<Tally>, fragment: &ForeignFragment, counter: u16,
     requires within { counter < length tallies.old.items }
     requires counts { (slice_index_or tallies.old.items counter uses.no_tally).counts < 2 ^ 32 }
     requires clears { (slice_index_or tallies.old.items counter uses.no_tally).clears < 2 ^ 32 }
-    requires used { uses.counter_of fragment.now ≡ Some counter }
+    requires used { uses.counter_used fragment.now ≡ Some counter }
     ensures { tallies.new.items ≡ slice_set tallies.old.items counter (uses.taken_one counter fits fragment.now (slice_index_or tallies.old.items counter uses.no_tally)) }
 {
     let number = usize::from(counter);
@@ -358,7 +358,7 @@ fn take_edge(
     requires few { e < 262144 }
     requires size { length tallies.old.items ≡ 511 }
     requires small { uses.AreSmallTallies e tallies.old.items }
-    ensures taken { uses.AreTaken graph.now tree.now sites.now owners.now e tallies.old.items tallies.new.items }
+    ensures taken { uses.AreTallied graph.now tree.now sites.now owners.now e tallies.old.items tallies.new.items }
     ensures small { uses.AreSmallTallies (e + 1) tallies.new.items }
 {
     let fragments = sites.fragments(e);
@@ -398,7 +398,7 @@ pub fn is_bad(turns: &[usize], exits: &[usize], tally: Tally, owner: Option<usiz
     requires exits { (k : ℕ) → owner ≡ Some k → k < length exits.now }
     requires counts { tally.counts < 2 ^ 32 }
     requires clears { tally.clears < 2 ^ 32 }
-    ensures { result ≡ uses.is_bad turns.now exits.now tally owner }
+    ensures { result ≡ uses.is_bad_tally turns.now exits.now tally owner }
 {
     let counts_loop = match owner {
         None => false,

@@ -1,5 +1,5 @@
 -- What the most of the loops says of bounds.
-use Rattle.std.proofs.Common.{◌≡◌, ◌≢◌, ℕ, ◌+◌, ◌-◌, ◌<◌, ◌≤◌, ◌⊎◌, inl, inr, ⊎_elim, List, length, map, refl, sym, ap, ◌∙◌, subst, arith, get_or, set, slice_index}
+use Rattle.std.proofs.Common.{◌≡◌, ◌≢◌, ℕ, ◌+◌, ◌-◌, ◌<◌, ◌⊎◌, inl, inr, List, length, map, refl, sym, ap, ◌∙◌, subst, arith, set, slice_index}
 use Rattle.std.specs.List.{Contains}
 use Rattle.std.proofs.lemmas.List.{get_or-set_same, get_or-set_other, length-map}
 use Rattle.std.proofs.lemmas.List.FromFn.{get_or-map-range_with_len, length-map-range_with_len}
@@ -14,7 +14,7 @@ use Rattle.loop_file.specs.declared.notes.LoopNote.{LoopNote}
 use Rattle.loop_file.specs.Notes.{relaxed_note}
 use Rattle.loop_file.specs.Kept.{note_at, in_extent}
 use Rattle.keep_monitor.proofs.Laws.{AreAlike, relaxed_at, relaxed_free, NeedNotTurn, AreLower, IsTight, within_bounds, no_bound, tight_breaks}
-use Rattle.input_survey.specs.Most.{ReachesAt, IsReached, IsMost}
+use Rattle.input_survey.specs.Most.{ReachesAt, IsReached}
 use Rattle.input_survey.specs.Surveyed.{IsSurvey}
 use Rattle.input_survey.specs.Bounds.{bounded_note, bounded_notes, kept_by, BreaksNoBound, IsEnough, IsNeeded}
 

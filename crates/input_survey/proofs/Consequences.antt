@@ -1,21 +1,18 @@
 -- What a survey that was made says of bounds and of what `rewrite` stores.
-use Rattle.std.proofs.Common.{◌≡◌, ℕ, ◌≤◌, List, length, map, Result, Ok, Err, refl, sym, ap, ◌∙◌, subst}
+use Rattle.std.proofs.Common.{◌≡◌, ℕ, ◌≤◌, List, length, map, Result, Ok, Err, ap, ◌∙◌, subst}
 use Rattle.std.specs.Prelude.{IfOk}
 use Rattle.std.specs.List.{All}
 use Rattle.scale_base.specs.declared.refusal.Stop.{Stop}
-use Rattle.scale_base.specs.declared.refusal.Stop.TheVariants.{Refused, Memory}
-use Rattle.scale_base.specs.declared.summary.Summary.{Summary}
 use Rattle.scale_base.specs.Answer.{AnswersBy}
 use Rattle.scale_base.specs.Image.{Image, image_of}
 use Rattle.power_model.specs.declared.survey.SurveyReport.{SurveyReport}
 use Rattle.power_model.specs.Numbers.{PowerModel}
-use Rattle.power_model.specs.Survey.{Survey, Surveyed, survey_view, line_view}
+use Rattle.power_model.specs.Survey.{Survey, survey_view, line_view}
 use Rattle.machine_file.specs.Machine.{read_machine}
 use Rattle.loop_file.specs.declared.notes.LoopNote.{LoopNote}
 use Rattle.loop_file.specs.Loops.{read_loops}
 use Rattle.rewritten_runs.specs.Promise.{KeepsThePromise}
-use Rattle.scaler.specs.Rewritten.{IsRewritten}
-use Rattle.scaler.specs.RewrittenRuns.{IsRewrittenSafely}
+use Rattle.scaler.specs.Promise.{FilesKeepThePromise}
 use Rattle.scaler.proofs.Laws.{rewritten_safe}
 use Rattle.input_survey.specs.Surveyed.{IsSurveyed}
 use Rattle.input_survey.specs.Bounds.{OfFiles, MostIsEnough, MostIsNeeded}
@@ -51,7 +48,7 @@ pub promised : (image scaled machine loops : List ℕ) (inputs : List (List ℕ)
     AnswersBy survey_view result (IsSurveyed image scaled machine loops inputs) → IfOk result (λ survey. LinesArePromised image scaled machine loops (map line_view survey.lines.items))
 promised image scaled machine loops inputs (Ok r) si sm sl h = λ summary rewritten power power_is.
     let w = went_through image scaled machine loops inputs (survey_view r) h in
-    let safe : IsRewrittenSafely image machine loops scaled summary = rewritten_safe image machine loops scaled summary si sm sl rewritten in
+    let safe : FilesKeepThePromise image machine loops scaled summary.start summary.worst summary.time summary.stub_cycles = (rewritten_safe image machine loops scaled summary si sm sl rewritten).safe.files in
     let same_power : safe.power ≡ w.power = same_ok (read_machine machine) safe.power w.power safe.power_is w.power_is in
     let same_original : safe.original ≡ w.original = same_ok (image_of image) safe.original w.original safe.original_is w.original_is in
     let same_notes : safe.notes ≡ w.notes = same_ok (read_loops safe.original loops) safe.notes w.notes safe.notes_are (ap (λ i. read_loops i loops) same_original ∙ w.notes_are) in

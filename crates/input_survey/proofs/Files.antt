@@ -13,7 +13,7 @@ use Rattle.loop_file.specs.declared.notes.LoopNote.{LoopNote}
 use Rattle.loop_file.specs.Loops.{read_loops}
 use Rattle.speed_sim.specs.Simulated.{level_allowed}
 use Rattle.scaler.specs.Held.{Then, unscaled}
-use Rattle.input_survey.specs.Surveyed.{IsSurvey, IsSurveyAnswer, IsSurveyed}
+use Rattle.input_survey.specs.Surveyed.{IsSurvey, IsSurveyed}
 
 -- what the survey answers, as it is seen
 abbrev pub SurveyAnswers : Result SurveyReport Stop → (Result Survey Refusal → Type 0) → Type 0

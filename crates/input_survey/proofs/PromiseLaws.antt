@@ -1,30 +1,26 @@
 -- The lines of a survey with what `rewrite` stores.
-use Rattle.std.proofs.Common.{◌≡◌, ◌≢◌, ℕ, zero, suc, ◌+◌, ◌-◌, ◌<◌, ◌≤◌, ◌⊎◌, inl, inr, ⊎_elim, List, [], ◌∷◌, length, Option, Some, None, Result, Ok, Err, refl, sym, ap, ◌∙◌, subst, arith, option_map}
+use Rattle.std.proofs.Common.{◌≡◌, ℕ, ◌+◌, ◌-◌, ◌<◌, ◌≤◌, ⊎_elim, List, [], ◌∷◌, length, Some, refl, sym, ap, ◌∙◌, subst, arith}
 use Rattle.std.specs.List.{All}
-use Rattle.std.specs.Prelude.{IsTrue}
 use Rattle.std.proofs.lemmas.Bool.{cases_lt}
 use Rattle.std.proofs.lemmas.List.Elements.{All-cons}
-use Rattle.scale_base.specs.declared.endings.End.{End}
-use Rattle.scale_base.specs.declared.endings.End.TheVariants.{Exited, Trapped, OutOfSteps}
+use Rattle.scale_base.specs.declared.endings.End.TheVariants.{Exited, OutOfSteps}
 use Rattle.scale_base.specs.declared.endings.Kept.{Kept}
 use Rattle.scale_base.specs.declared.endings.Kept.TheVariants as kinds
 use Rattle.scale_base.specs.Image.{Image}
-use Rattle.scale_base.specs.State.{Setting, State}
+use Rattle.scale_base.specs.State.{Setting}
 use Rattle.scale_base.specs.Run.{Run, Standing, GoesOn, HasExited, HasTrapped, run, run_of, one_more, one_more_by, setting_of, start_of, starting_level}
 use Rattle.scale_base.proofs.Laws.{run_stays}
 use Rattle.power_model.specs.Numbers.{PowerModel, RunPrice}
 use Rattle.power_model.specs.Price.{price, held_energy}
-use Rattle.power_model.specs.Report.{Report}
 use Rattle.power_model.specs.Survey.{Surveyed}
 use Rattle.loop_file.specs.declared.notes.LoopNote.{LoopNote}
-use Rattle.loop_file.specs.Kept.{noted_loops}
 use Rattle.keep_monitor.specs.Watch.{watched_at}
 use Rattle.keep_monitor.proofs.Laws.{watched_is_kept}
 use Rattle.rewritten_runs.specs.Prices.{price_of}
 use Rattle.rewritten_runs.specs.Promise.{EndsAsPromised, KeepsThePromise}
 use Rattle.speed_sim.specs.Simulated.{run_end, report_of}
-use Rattle.input_survey.specs.Surveyed.{IsLineOf, IsLine, AreLines}
-use Rattle.input_survey.specs.Promised.{KeepsLine, IsPromised}
+use Rattle.input_survey.specs.Surveyed.{IsLine, AreLines}
+use Rattle.input_survey.specs.Promised.{IsPromised}
 
 -- ---- a run that has ended
 

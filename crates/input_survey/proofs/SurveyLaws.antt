@@ -1,5 +1,5 @@
 -- A survey over one input more.
-use Rattle.std.proofs.Common.{◌≡◌, ℕ, ◌<◌, ◌≤◌, ◌⊎◌, inl, inr, ⊎_elim, List, [], ◌∷◌, ◌++◌, length, map, slice_index, refl, sym, ap, ◌∙◌, subst, arith}
+use Rattle.std.proofs.Common.{◌≡◌, ℕ, ◌<◌, List, [], ◌∷◌, ◌++◌, length, map, slice_index, refl, sym, ap, ◌∙◌, subst, arith}
 use Rattle.std.specs.List.{All}
 use Rattle.std.proofs.lemmas.List.Elements.{All-append, All-cons}
 use Rattle.scale_base.specs.Image.{Image}
@@ -10,7 +10,7 @@ use Rattle.loop_file.specs.Notes.{AreLoopNotes, relaxed_note}
 use Rattle.keep_monitor.specs.Watch.{watched_at}
 use Rattle.keep_monitor.specs.Counted.{Counted, counted_at}
 use Rattle.keep_monitor.proofs.Laws.{IsCounted, counted_is}
-use Rattle.input_survey.specs.Most.{ReachesAt, IsMost}
+use Rattle.input_survey.specs.Most.{IsMost}
 use Rattle.input_survey.proofs.MostLaws.{most_more}
 
 abbrev pub AreMosts : PowerModel → Image → List LoopNote → List (List ℕ) → List ℕ → Type 0

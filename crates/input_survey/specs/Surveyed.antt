@@ -1,5 +1,5 @@
 -- What a survey of the runs of an image, and of an image that was scaled, over a list of inputs gives, or the first refusal.
-use Rattle.std.specs.Prelude.{◌≡◌, ◌↔◌, ℕ, ◌<◌, nat_lt, Bool, true, false, not, IsTrue, List, [], ◌∷◌, length, slice_index, Some, None, Result, Ok, Err, sum_by, count_by}
+use Rattle.std.specs.Prelude.{◌≡◌, ◌↔◌, ℕ, ◌<◌, nat_lt, Bool, true, false, not, IsTrue, List, [], ◌∷◌, length, slice_index, Some, None, Result, Ok, sum_by, count_by}
 use Rattle.scale_base.specs.declared.endings.Kept.{Kept}
 use Rattle.scale_base.specs.declared.endings.Kept.TheVariants.{BrokeBound, BrokeReturn, BrokeDepth}
 use Rattle.scale_base.specs.declared.endings.Kept.TheVariants as kinds

@@ -1,5 +1,5 @@
 -- Totals that grow line by line.
-use Rattle.std.specs.Prelude.{ℕ, ◌+◌, ◌*◌, ◌^◌, ◌≤◌, not, cond}
+use Rattle.std.specs.Prelude.{◌+◌, ◌*◌, ◌^◌, ◌≤◌, not, cond}
 use Rattle.power_model.specs.declared.survey.Totals.{Totals}
 use Rattle.power_model.specs.Numbers.{PowerModel}
 use Rattle.power_model.specs.Survey.{Surveyed}

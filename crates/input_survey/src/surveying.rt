@@ -5,7 +5,6 @@ ghost use Rattle.std.specs.List.{All};
 ghost use Rattle.scale_base.specs.Answer.{AnswersBy};
 ghost use Rattle.scale_base.specs.Run.{starting_level};
 ghost use Rattle.power_model.specs.Survey.{survey_view, line_view};
-ghost use Rattle.scaler.specs.Held as held;
 ghost use Rattle.input_survey.specs.Surveyed.{IsSurvey, IsSurveyed};
 ghost use Rattle.input_survey.specs.Bounds.{MostIsEnough, MostIsNeeded};
 ghost use Rattle.input_survey.specs.Promised.{LinesArePromised};
@@ -17,19 +16,10 @@ use keep_monitor::LoopCounter;
 use loop_file::{LoopNotes, read_loops};
 use machine_file::read_machine;
 use power_model::SurveyReport;
-use scale_base::{Keyed, NoMemory, Refusal, Stop};
+use scale_base::{NoMemory, Stop};
+use scaler::check_unscaled;
 use speed_sim::start_of;
 use std::alloc::Global;
-
-/// No keyed segment is there.
-fn check_unscaled(keyed: Option<Keyed>) -> Result<(), Refusal>
-    ensures { result ≡ held.unscaled keyed }
-{
-    match keyed {
-        Some(_) => Err(Refusal::AlreadyScaled),
-        None => Ok(()),
-    }
-}
 
 /// The survey of the images, one run after the other.
 fn survey_of(

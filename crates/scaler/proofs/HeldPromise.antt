@@ -18,15 +18,13 @@ use Rattle.stored_laws.specs.Held.{IsHeldImage}
 use Rattle.stored_laws.proofs.Laws.{a_held_image}
 use Rattle.loop_tree.specs.Tree.{loops as tree_loops}
 use Rattle.code_text.specs.Text.{text_of}
-use Rattle.graph_runs.specs.KeptRuns.{IsKeptUpTo}
 use Rattle.graph_runs.proofs.Laws.{image_runs_are_below}
-use Rattle.loop_file.specs.declared.notes.LoopNote.{LoopNote}
 use Rattle.loop_file.specs.Kept.{noted_loops}
 use Rattle.rewritten_runs.specs.Prices.{price_of}
 use Rattle.rewritten_runs.specs.Promise.{EndsAsPromised, KeepsThePromise}
 use Rattle.rewritten_runs.proofs.Laws.{kept_by_tree, program_of}
-use Rattle.scaler.specs.Held.{IsHeld, IsProgramHeld, held_summary}
-use Rattle.scaler.specs.RewrittenAs.{IsStoredSafely}
+use Rattle.scaler.specs.Held.{IsHeld, held_summary}
+use Rattle.scaler.specs.Promise.{FilesKeepThePromise, IsStoredSafely}
 use Rattle.scaler.specs.Runs.{IsAsPrinted}
 use Rattle.scaler.proofs.Bases.{file_is}
 use Rattle.scaler.proofs.HeldRuns.{runs_alike, printed, no_ports, found_in_time}
@@ -118,7 +116,7 @@ held_promise image machine loops stored summary short h =
     (printed power image original held base level worst input n went.no_key lawful started.slow
     (image_runs_are_below image original (length power.levels) input p.code.code (tree_loops p.code p.tree) (noted_loops notes).inside (cycles_of power.costs) p.numbers went.original_is program p.numbers_are
     n k.carried (kept_by_tree p.code notes p.tree p.tree_is original (length power.levels) input n k.carried k.kept))) exits in
-    record {
+    let files : FilesKeepThePromise image machine loops stored summary.start summary.worst summary.time summary.stub_cycles = record {
       power = power;
       original = original;
       notes = notes;
@@ -131,8 +129,8 @@ held_promise image machine loops stored summary short h =
       key = record { range = record { from = base; to = base }; start = level };
       keyed = lawful.keyed;
       starts = sym (ap (λ (s : Summary). s.start) numbers);
-      slow = subst (λ (s : Summary). slowest_of power s.worst ≡ Some s.start) (sym numbers) started.slow;
       time = subst (λ (s : Summary). s.time ≡ time_at power s.start s.worst) (sym numbers) refl;
       in_time = subst (λ (s : Summary). s.time ≤ power.deadline) (sym numbers) (found_in_time power worst level started.slow);
       promise = subst (λ (s : Summary). KeepsThePromise power original notes held s.stub_cycles) (sym numbers) promise;
-    }
+    } in
+    record { files = files; slow = subst (λ (s : Summary). slowest_of power s.worst ≡ Some s.start) (sym numbers) started.slow }

@@ -1,13 +1,12 @@
 -- The numbers of a program under the stored weights, and their ranges.
-use Rattle.std.proofs.Common.{◌≡◌, ℕ, zero, suc, ◌+◌, ◌*◌, ◌<◌, ◌≤◌, Bool, true, false, List, length, map, slice_get, Option, Some, None, is_some, Ok, Err, refl, sym, ap, ◌∙◌, subst, arith, ⊎_elim, inl, inr, eqb-true}
+use Rattle.std.proofs.Common.{◌≡◌, ℕ, ◌+◌, ◌<◌, ◌≤◌, true, false, List, length, map, slice_get, Option, Some, None, Ok, Err, refl, sym, ap, ◌∙◌, subst, arith, ⊎_elim, inl, inr}
 use Rattle.std.specs.Prelude.{slice_index, nat_lt}
 use Rattle.std.proofs.Math.Path.{fun_ext}
-use Rattle.std.proofs.lemmas.Bool.{cases_lt, and_parts}
+use Rattle.std.proofs.lemmas.Bool.{cases_lt}
 use Rattle.std.proofs.lemmas.Bool.Decides.{nat_tests}
 use Rattle.std.proofs.lemmas.List.{length-map}
 use Rattle.std.proofs.lemmas.Option.{get_or_from_slice_get}
 use Rattle.scale_base.specs.declared.refusal.Refusal.{Refusal}
-use Rattle.scale_base.specs.declared.refusal.Refusal.TheVariants.{TooLong}
 use Rattle.scale_base.specs.declared.refusal.Stop.{Stop}
 use Rattle.scale_base.specs.declared.refusal.Stop.TheVariants.{Refused, Memory}
 use Rattle.scale_base.specs.Answer.{AnswersBy}
@@ -17,13 +16,13 @@ use Rattle.power_model.specs.Numbers.{PowerModel}
 use Rattle.power_model.specs.Price.{cycles_of}
 use Rattle.power_model.specs.Slowest.{slowest_of}
 use Rattle.cost_theory.specs.Accepted.{AreWeights}
-use Rattle.cost_theory.specs.Graph.{Graph, Loops, only, sum_below, is_back, is_header}
+use Rattle.cost_theory.specs.Graph.{Graph, only}
 use Rattle.cost_theory.specs.Laws.{IsAnalyzed}
 use Rattle.graph_algorithms.specs.Arcs.{number_in_place}
 use Rattle.cycle_laws.specs.Charged.{AreCharged}
 use Rattle.least_cycles.specs.Found.{LeastView, HasWorstInRange, IsLeastOf, AreSmallLeast, HoldsLeast}
-use Rattle.cost_theory.specs.Worst.{Numbers, AreNumbers, cost, turn_back, slack, rest}
-use Rattle.cost_theory.proofs.Laws.{sum-none, headers-distinct, accepted_entered, left-worst, turns-worst, call_order, plain_order, iteration-worst, rest-worst}
+use Rattle.cost_theory.specs.Worst.{Numbers, AreNumbers}
+use Rattle.cost_theory.proofs.Laws.{call_order, plain_order}
 use Rattle.cost_theory.proofs.Laws as theory
 use Rattle.code_text.specs.EdgeCosts.{cost_of}
 use Rattle.code_text.specs.Text.{text_of}
@@ -32,7 +31,7 @@ use Rattle.loop_file.specs.declared.notes.LoopNote.{LoopNote}
 use Rattle.loop_file.specs.Kept.{noted_loops}
 use Rattle.loop_tree.specs.Noted.{node_address}
 use Rattle.loop_tree.specs.Tree.{LoopView, loops, IsTreeOf}
-use Rattle.worst_cycles.specs.Worst.{WorstView, by_edge, slack_at, rest_at, HoldsLeft, HasLeftSizes, IsLeftOf, IsWorstFound}
+use Rattle.worst_cycles.specs.Worst.{WorstView, by_edge, HoldsLeft, HasLeftSizes, IsLeftOf, IsWorstFound}
 use Rattle.scale_sites.specs.Counters.{AreCounters, counted_loops}
 use Rattle.scale_sites.specs.Sites.{SitesView, is_branch, marks_at_edge}
 use Rattle.scale_sites.specs.Weights.{extra_of, extra_weight, jumps_of}
@@ -42,68 +41,7 @@ use Rattle.scaler.specs.declared.stubs.Marking.{Marking}
 use Rattle.scaler.specs.Markings.{IsMarking}
 use Rattle.scaler.specs.Scalings.{HasMarks, AreSitesFound, IsMarkedAt, IsMarkingFound, chosen_level, starting_of}
 use Rattle.scaler.proofs.ExtraFacts.{past_end}
-
--- ---- of what holds once at most
-
-one_at_most : (n most : ℕ) (b : ℕ → Bool) (x : ℕ → ℕ) → ((j k : ℕ) → j < n → k < n → b j ≡ true → b k ≡ true → j ≡ k) → ((k : ℕ) → k < n → x k ≤ most) → sum_below n (λ k. only (b k) (x k)) ≤ most
-one_at_most zero most b x once small = omega arith
-one_at_most (suc n) most b x once small = last (one_at_most n most b x (λ j k jl kl. once j k (omega arith) (omega arith)) (λ k kl. small k (omega arith))) (b n) refl
-  where
-    off : b n ≡ true → (k : ℕ) → k < n → (c : Bool) → b k ≡ c → only (b k) (x k) ≡ 0
-    off on k kl false is = ap (λ c. only c (x k)) is
-    off on k kl true is = let same = once k n (omega arith) (omega arith) is on in let bad : ⊥ = omega (arith, same, kl) in absurd bad
-
-    last : sum_below n (λ k. only (b k) (x k)) ≤ most → (c : Bool) → b n ≡ c → sum_below n (λ k. only (b k) (x k)) + only (b n) (x n) ≤ most
-    last s false is = let z : only (b n) (x n) ≡ 0 = ap (λ c. only c (x n)) is in omega (arith, z, s)
-    last s true is =
-        let z : only (b n) (x n) ≡ x n = ap (λ c. only c (x n)) is in
-        let none = sum-none n (λ k. only (b k) (x k)) (λ k kl. off is k kl (b k) refl) in
-        let q = small n (omega arith) in omega (arith, z, none, q)
-
--- ---- the numbers of an accepted program are in range
-
-module _ (g : Graph) (l : Loops) (extent : ℕ → ℕ → Bool) (w : ℕ → ℕ) (n : Numbers) (is : IsAnalyzed g l extent w n) where
-  header_at : (k : ℕ) (o : Option ℕ) → is_header l k o ≡ true → o ≡ Some (l.header k)
-  header_at k None h = let never : ⊥ = cc in absurd never
-  header_at k (Some v) h = ap Some (eqb-true v (l.header k) h)
-
-  back_header : (k e : ℕ) → is_back g l k e ≡ true → g.target e ≡ Some (l.header k)
-  back_header k e h = header_at k (g.target e) (and_parts (l.inside k (g.source e)) (is_header l k (g.target e)) h).1
-
-  some_is : {a b : ℕ} → Some a ≡ Some b → a ≡ b
-  some_is e = cc
-
-  turned_back : (most : ℕ) → ((e : ℕ) → e < g.edges → w e ≤ most) → (e : ℕ) → turn_back g l n e ≤ n.worst 0 + most
-  turned_back most light e =
-      let o = call_order g is.program in
-      one_at_most l.loops (n.worst 0 + most) (λ k. is_back g l k e) n.iteration
-      (λ j k jl kl bj bk. headers-distinct g l extent is.program (accepted_entered is.accepted) j k jl kl (some_is (sym (back_header j e bj) ∙ back_header k e bk)))
-      (λ k kl. iteration-worst g l extent w n is most (λ d dl none. light d dl) o.0 o.1 k kl)
-
-  pub slack_in_range : (most : ℕ) → ((e : ℕ) → e < g.edges → w e ≤ most) → (e : ℕ) → e < g.edges → slack_at g l w n e ≤ n.worst 0 + n.worst 0 + most
-  slack_in_range most light e lt =
-      let o = call_order g is.program in
-      let node = left-worst g l extent w n is.program is.accepted is.weights is.numbers o.0 o.1 (g.source e) (e, lt, refl) in
-      let back = turned_back most light e in
-      let whole : slack g l n (cost g n w) e ≤ n.left (g.source e) + turn_back g l n e = omega arith in
-      by (is_some (g.target e)) (omega (arith, node, back, whole))
-    where
-      by : (b : Bool) → slack g l n (cost g n w) e ≤ n.worst 0 + n.worst 0 + most → only b (slack g l n (cost g n w) e) ≤ n.worst 0 + n.worst 0 + most
-      by true h = h
-      by false h = omega arith
-
-  pub rest_in_range : (e : ℕ) → e < g.edges → rest_at g l n e ≤ n.worst 0
-  rest_in_range e lt = by (g.target e) refl
-    where
-      by : (o : Option ℕ) → g.target e ≡ o → rest_at g l n e ≤ n.worst 0
-      by None to = let z : rest_at g l n e ≡ 0 = ap (λ q. only (is_some q) (rest g l n e)) to in omega (arith, z)
-      by (Some v) to =
-          let o = call_order g is.program in
-          let z : rest_at g l n e ≡ rest g l n e = ap (λ q. only (is_some q) (rest g l n e)) to in
-          let r = rest-worst g l extent w n is.program is.accepted is.weights is.numbers o.0 o.1 e v lt to in omega (arith, z, r)
-
-  pub turns_in_range : (k : ℕ) → k < l.loops → l.bound k * n.iteration k ≤ n.worst 0
-  turns_in_range k kl = let o = call_order g is.program in turns-worst g l extent w n is.program is.accepted is.weights is.numbers o.0 o.1 k kl
+use Rattle.scaler.proofs.Ranges.{slack_in_range, rest_in_range, turns_in_range}
 
 -- ---- the program
 

@@ -25,7 +25,8 @@ use Rattle.rewritten_runs.specs.Promise.{EndsAsPromised, KeepsThePromise}
 use Rattle.rewritten_runs.proofs.Laws.{rewritten_follow}
 use Rattle.scaler.specs.Held.{unscaled}
 use Rattle.scaler.specs.Rewritten.{IsProgramRewritten, rewritten_summary}
-use Rattle.scaler.specs.RewrittenAs.{IsRewrittenAs, IsStoredSafely, with_gain, notes_with}
+use Rattle.scaler.specs.Promise.{FilesKeepThePromise, IsStoredSafely}
+use Rattle.scaler.specs.RewrittenAs.{IsRewrittenAs, with_gain, notes_with}
 use Rattle.scaler.proofs.FilesAs.{model_with}
 use Rattle.scaler.proofs.HeldRuns.{found_in_time}
 use Rattle.scaler.proofs.Safe.{then_ok, is_unscaled}
@@ -129,7 +130,7 @@ safe image machine loops min_gain counters stored summary short _ _ h =
     let worst : summary.worst ≡ p.stored.worst 0 = ap (λ (s : Summary). s.worst) numbers in
     let start : summary.start ≡ p.start = ap (λ (s : Summary). s.start) numbers in
     let time : summary.time ≡ time_at went.power p.start (p.stored.worst 0) = ap (λ (s : Summary). s.time) numbers in
-    record {
+    let files : FilesKeepThePromise image machine loops stored summary.start summary.worst summary.time summary.stub_cycles = record {
       power = went.power;
       original = went.original;
       notes = went.notes;
@@ -142,12 +143,12 @@ safe image machine loops min_gain counters stored summary short _ _ h =
       key = made.key;
       keyed = made.keyed;
       starts = made.starts ∙ sym start;
-      slow = subst (λ (s : Summary). slowest_of went.power s.worst ≡ Some s.start) (sym numbers) p.slow;
       time = time ∙ (ap (λ i. time_at went.power i (p.stored.worst 0)) (sym start) ∙ ap (time_at went.power summary.start) (sym worst));
       in_time = subst (λ t. t ≤ went.power.deadline) (sym time) (found_in_time went.power (p.stored.worst 0) p.start p.slow);
       promise = subst (λ b. KeepsThePromise went.power went.original went.notes made.rewritten b) (sym stub_cycles)
           (promise_of went.power min_gain counters went.original went.notes made.rewritten (p.extra.worst 0) made.promise);
-    }
+    } in
+    record { files = files; slow = subst (λ (s : Summary). slowest_of went.power s.worst ≡ Some s.start) (sym numbers) p.slow }
 
 -- what a call of `rewrite_as` gives
 pub safe_given : (image machine loops : List ℕ) (min_gain : ℕ) (counters : Bool) (result : Result (Vec ℕ Global × Summary) Stop) → length image ≤ 4194304 → length machine ≤ 1048576 → length loops ≤ 1048576

@@ -20,7 +20,8 @@ use Rattle.rewritten_runs.specs.Followed.{FollowsInTime}
 use Rattle.rewritten_runs.proofs.Laws.{rewritten_follow}
 use Rattle.scaler.specs.Held.{unscaled}
 use Rattle.scaler.specs.Rewritten.{IsRewritten, IsRewrittenProgram, IsProgramRewritten, rewritten_summary, unless_out_of_reach}
-use Rattle.scaler.specs.RewrittenRuns.{IsRewrittenSafely}
+use Rattle.scaler.specs.Promise.{FilesKeepThePromise, IsStoredSafely}
+use Rattle.scaler.specs.RewrittenRuns.{IsProgramStored, IsRewrittenSafely}
 use Rattle.scaler.proofs.HeldRuns.{found_in_time}
 use Rattle.scaler.proofs.Safe.{then_ok, is_unscaled}
 
@@ -85,7 +86,7 @@ safe image machine loops stored summary short _ _ h =
     let worst : summary.worst ≡ p.stored.worst 0 = ap (λ (s : Summary). s.worst) numbers in
     let start : summary.start ≡ p.start = ap (λ (s : Summary). s.start) numbers in
     let time : summary.time ≡ time_at went.power p.start (p.stored.worst 0) = ap (λ (s : Summary). s.time) numbers in
-    record {
+    let files : FilesKeepThePromise image machine loops stored summary.start summary.worst summary.time summary.stub_cycles = record {
       power = went.power;
       original = went.original;
       notes = went.notes;
@@ -98,10 +99,12 @@ safe image machine loops stored summary short _ _ h =
       key = made.key;
       keyed = made.keyed;
       starts = made.starts ∙ sym start;
-      slow = subst (λ (s : Summary). slowest_of went.power s.worst ≡ Some s.start) (sym numbers) p.slow;
       time = time ∙ (ap (λ i. time_at went.power i (p.stored.worst 0)) (sym start) ∙ ap (time_at went.power summary.start) (sym worst));
       in_time = subst (λ t. t ≤ went.power.deadline) (sym time) (found_in_time went.power (p.stored.worst 0) p.start p.slow);
       promise = subst (λ b. KeepsThePromise went.power went.original went.notes made.rewritten b) (sym bound) made.promise;
+    } in
+    let safe : IsStoredSafely image machine loops stored summary = record { files = files; slow = subst (λ (s : Summary). slowest_of went.power s.worst ≡ Some s.start) (sym numbers) p.slow } in
+    let program : IsProgramStored went.power went.original went.notes made.rewritten stored summary = record {
       code = p.code;
       tree = p.tree;
       plain = p.plain;
@@ -115,7 +118,8 @@ safe image machine loops stored summary short _ _ h =
       file_is = bytes ∙ ap (rewritten_file went.original p.sites p.base) (sym start);
       printed = (worst, bound);
       follows = subst (λ b. FollowsInTime went.power went.original made.rewritten went.notes p.code p.tree (stored_weights went.power went.original p.code (marks_by_slack went.power went.original p.code p.tree p.plain)) p.plain p.stored b) (sym bound) made.follows;
-    }
+    } in
+    record { safe = safe; program = program }
 
 -- what a call of `rewrite` gives
 pub safe_given : (image machine loops : List ℕ) (result : Result (Vec ℕ Global × Summary) Stop) → length image ≤ 4194304 → length machine ≤ 1048576 → length loops ≤ 1048576

@@ -2,6 +2,7 @@ pub mod Held
 pub mod Runs
 pub mod Rewritten
 pub mod RewrittenAs
+pub mod Promise
 pub mod RewrittenRuns
 pub mod Planned
 pub mod Markings

@@ -1,12 +1,13 @@
 //! What a command makes of an image, a machine file and a loop file.
 #![tactic(auto)]
 
-ghost use Rattle.std.specs.Prelude.{◌≡◌, ◌≤◌, ℕ, Bool, List, length, Ok};
+ghost use Rattle.std.specs.Prelude.{◌≤◌, ℕ, Bool, List, length, Ok};
 ghost use Rattle.scale_base.specs.declared.summary.Summary.{Summary};
 ghost use Rattle.scaler.specs.Agree.{HeldAnswersAgree, RewrittenAnswersAgree, RewrittenAsAnswersAgree};
 ghost use Rattle.scaler.specs.Held.{IsHeld};
+ghost use Rattle.scaler.specs.Promise.{IsStoredSafely};
 ghost use Rattle.scaler.specs.Rewritten.{IsRewritten};
-ghost use Rattle.scaler.specs.RewrittenAs.{IsRewrittenAs, IsStoredSafely};
+ghost use Rattle.scaler.specs.RewrittenAs.{IsRewrittenAs};
 ghost use Rattle.scaler.specs.RewrittenRuns.{IsRewrittenSafely};
 ghost use Rattle.scaler.specs.Runs.{IsHeldSafely};
 
@@ -22,7 +23,7 @@ mod tests;
 pub use planning::plan;
 pub use rewriting::rewrite;
 pub use rewriting_as::rewrite_as;
-pub use safe_level::hold;
+pub use safe_level::{check_unscaled, hold, time_at};
 
 /// What `hold` stores is safe: on every input and after every number of steps its run is that of the original image, and as long
 /// as that run keeps the loops' bounds and the return addresses it takes at most the printed cycles, at most the printed time,

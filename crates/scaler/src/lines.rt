@@ -1,7 +1,6 @@
 //! The lines of a plan: a line for each fragment of each edge.
 
 ghost use Rattle.std.specs.Prelude.{◌≡◌, ◌<◌, ◌≤◌, length, IfOk, OnOk};
-ghost use Rattle.scale_sites.specs.Counters.{counted_loops};
 ghost use Rattle.scaler.specs.Planned.{loop_number};
 ghost use Rattle.scaler.specs.Markings.{HasMarking, IsOfLoop, ArePushedAt, AreLinesOf};
 

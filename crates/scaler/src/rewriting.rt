@@ -1,8 +1,8 @@
 //! A program that lowers its speed as soon as what is left of its worst case allows it.
 
-ghost use Rattle.std.specs.Prelude.{◌≡◌, ◌≤◌, ◌<◌, ◌+◌, ℕ, Bool, List, length, map, None, Some, Ok, IfOk, slice_get};
+ghost use Rattle.std.specs.Prelude.{◌≡◌, ◌≤◌, ◌<◌, ◌+◌, ℕ, Bool, List, length, map, None, Some, Ok, IfOk};
 ghost use Rattle.std.specs.List.{All, list_any};
-ghost use Rattle.scale_base.specs.Answer.{Answers, AnswersBy};
+ghost use Rattle.scale_base.specs.Answer.{AnswersBy};
 ghost use Rattle.scale_base.specs.Image.{Image, image_of};
 ghost use Rattle.power_model.specs.Numbers.{PowerModel, IsPowerModel};
 ghost use Rattle.scale_sites.specs.Counters.{counted_loops, AreCounters};

@@ -2,6 +2,7 @@
 
 ghost use Rattle.std.specs.Prelude.{◌≡◌, ◌≤◌, length, IfOk};
 ghost use Rattle.scale_base.specs.Answer.{AnswersBy};
+ghost use Rattle.scaler.specs.Promise.{IsStoredSafely};
 ghost use Rattle.scaler.specs.RewrittenAs as variant;
 
 use crate::rewriting::rewrite_program;
@@ -69,7 +70,7 @@ pub fn rewrite_as(
     ensures given { AnswersBy (λ given. (given.0.items, given.1)) result (variant.IsRewrittenAs image.now machine.now loops.now min_gain counters) }
 
     // On each input on which the original run exits and is kept, by the files' own notes, the stored run keeps the promise.
-    ensures safe { IfOk result (λ given. variant.IsStoredSafely image.now machine.now loops.now given.0.items given.1) }
+    ensures safe { IfOk result (λ given. IsStoredSafely image.now machine.now loops.now given.0.items given.1) }
 {
     rewrite_files_as(alloc, image, machine, loops, min_gain, counters)
 }

@@ -1,6 +1,6 @@
 //! A program that runs at one level, the slowest that is safe.
 
-ghost use Rattle.std.specs.Prelude.{◌≡◌, ◌≤◌, ◌<◌, ◌+◌, ◌*◌, ◌^◌, [], map, length, None, Ok, IfOk};
+ghost use Rattle.std.specs.Prelude.{◌≡◌, ◌≤◌, ◌<◌, ◌*◌, [], map, length, None, Ok, IfOk};
 ghost use Rattle.scale_base.specs.Answer.{Answers, AnswersBy};
 ghost use Rattle.power_model.specs.Price.{cycles_of, time_at};
 ghost use Rattle.code_text.specs.EdgeCosts.{cost_of};
@@ -18,7 +18,7 @@ use scale_base::{Keyed, NoMemory, Refusal, Stop, Summary};
 use std::alloc::Global;
 use worst_cycles::worst;
 
-/// No keyed segment is there yet.
+/// No keyed segment is there yet: `AlreadyScaled` exactly where there is one.
 pub fn check_unscaled(keyed: Option<Keyed>) -> Result<(), Refusal>
     ensures { result ≡ held.unscaled keyed }
 {

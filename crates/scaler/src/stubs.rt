@@ -8,7 +8,7 @@ ghost use Rattle.scale_base.specs.declared.fragments.Mark.TheVariants as marks;
 ghost use Rattle.scale_sites.specs.Sites.{marks_at_edge};
 ghost use Rattle.scale_sites.specs.Weights.{switches};
 ghost use Rattle.scaler.specs.Scalings.{IsMarkedProgram, AreStubsFound};
-ghost use Rattle.scaler.specs.Markings.{HasMarking, Whichever, IsToldAt, IsFragmentAt, AreFragmentsAt, AreEdgesAt};
+ghost use Rattle.scaler.specs.Markings.{HasMarking, IsToldAt, IsFragmentAt, AreFragmentsAt, AreEdgesAt};
 
 use code_graph::CodeGraph;
 use elf_view::ImageView;

@@ -1,4 +1,4 @@
-use Rattle.std.proofs.Common.{◌∙◌, ◌-◌, ◌%◌}
+use Rattle.std.proofs.Common.{◌∙◌}
 use Rattle.foreign_scan.proofs.LoadedLaws.{text_address}
 use Rattle.foreign_scan.proofs.bytes.is_in_text.Goals as goal
 

@@ -1,4 +1,3 @@
-use Rattle.std.proofs.Common.{arith}
 use Rattle.std.proofs.lemmas.Option.{slice_get-get_or}
 use Rattle.foreign_scan.specs.Least.{is_odd_byte}
 use Rattle.foreign_scan.proofs.LeastLaws.{least_ranges, no_ranges}

@@ -1,4 +1,3 @@
-use Rattle.std.proofs.Common.{◌≡◌}
 use Rattle.foreign_scan.proofs.GlueLaws.{ok_then}
 use Rattle.foreign_scan.proofs.list_scan.scan_lists.Goals as goal
 

@@ -1,4 +1,4 @@
-use Rattle.std.proofs.Common.{◌<◌, length, get_or, Some, None, sym, subst, arith, ◌∙◌}
+use Rattle.std.proofs.Common.{◌<◌, length, get_or, Some, None, sym, subst, arith}
 use Rattle.std.specs.Prelude.{All}
 use Rattle.std.proofs.lemmas.Option.{slice_get_within, slice_get-get_or}
 use Rattle.foreign_scan.specs.Counts.{AreSized, AreLimits, numbered}

@@ -1,4 +1,4 @@
-use Rattle.std.proofs.Common.{◌≡◌, ◌∙◌, ap, sym, Some, w32, rules}
+use Rattle.std.proofs.Common.{◌∙◌, ap, sym, Some, w32, rules}
 use Rattle.std.specs.Prelude.{FitsSigned, option_map}
 use Rattle.std.proofs.lemmas.Int.{to_z-of_z}
 use Rattle.scale_base.specs.Arith.{moved_by}

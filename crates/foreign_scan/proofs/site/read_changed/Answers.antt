@@ -1,4 +1,4 @@
-use Rattle.foreign_scan.proofs.SiteLaws.{no_target, no_instr, kept_site, broken_site}
+use Rattle.foreign_scan.proofs.SiteLaws.{no_target, broken_site}
 use Rattle.foreign_scan.proofs.site.read_changed.Goals as goal
 
 pub returns-in-None : goal.returns-in-None

@@ -1,7 +1,7 @@
-use Rattle.std.proofs.Common.{◌≡◌, ◌<◌, length, ap, arith, subst, sym}
+use Rattle.std.proofs.Common.{◌<◌, length, ap, arith}
 use Rattle.std.proofs.lemmas.Option.{slice_get-get_or, get_or_from_slice_get}
 use Rattle.scale_base.specs.declared.edges.Edge.{Edge}
-use Rattle.foreign_scan.proofs.PlaceLaws.{places_none, places_push, places_all}
+use Rattle.foreign_scan.proofs.PlaceLaws.{places_push}
 use Rattle.foreign_scan.proofs.sites.places_of.Goals as goal
 
 pub loop-e-preserved : goal.loop-e-preserved

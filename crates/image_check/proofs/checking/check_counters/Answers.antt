@@ -1,4 +1,3 @@
-use Rattle.std.proofs.Common.{◌≡◌}
 use Rattle.image_check.proofs.CheckLaws.{counts_none}
 use Rattle.image_check.proofs.checking.check_counters.Goals as goal
 

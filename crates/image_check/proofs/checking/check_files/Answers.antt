@@ -13,10 +13,10 @@ returns-in_err-view c =
     let p = err_from_is_err_and c.from_residual-in_err-view.result c.from_residual-in_err-view.ensures.1 in
     rw (p.1, p.2) (image_stops c.args.image.now c.args.foreign.now c.args.machine.now c.args.loops.now c.in_ok-power.power c.in_err-view.field-0.0 c.in_ok-power.ensures.answers c.in_err-view.ensures)
 
-pub returns-in_err-check_plain : goal.returns-in_err-check_plain
-returns-in_err-check_plain c =
-    let p = err_from_is_err_and c.from_residual-in_err-check_plain.result c.from_residual-in_err-check_plain.ensures.1 in
-    rw (p.1, p.2) (key_stops c.args.image.now c.args.foreign.now c.args.machine.now c.args.loops.now c.in_ok-power.power c.in_ok-view.view c.in_err-check_plain.field-0.0 c.in_ok-power.ensures.answers c.in_ok-view.ensures (search rules))
+pub returns-in_err-check_unscaled : goal.returns-in_err-check_unscaled
+returns-in_err-check_unscaled c =
+    let p = err_from_is_err_and c.from_residual-in_err-check_unscaled.result c.from_residual-in_err-check_unscaled.ensures.1 in
+    rw (p.1, p.2) (key_stops c.args.image.now c.args.foreign.now c.args.machine.now c.args.loops.now c.in_ok-power.power c.in_ok-view.view c.in_err-check_unscaled.field-0.0 c.in_ok-power.ensures.answers c.in_ok-view.ensures (search rules))
 
 pub returns-in_err-notes : goal.returns-in_err-notes
 returns-in_err-notes c =

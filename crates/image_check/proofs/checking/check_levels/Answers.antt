@@ -1,4 +1,4 @@
-use Rattle.std.proofs.Common.{◌≡◌, refl, ap, rules}
+use Rattle.std.proofs.Common.{refl, ap}
 use Rattle.power_model.specs.Numbers.{PowerModel}
 use Rattle.image_check.proofs.CheckLaws.{least_calls, worst_in_range, known, misled, passed}
 use Rattle.image_check.proofs.checking.check_levels.Goals as goal

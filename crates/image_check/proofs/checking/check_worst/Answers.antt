@@ -1,4 +1,4 @@
-use Rattle.std.proofs.Common.{◌≡◌, ap}
+use Rattle.std.proofs.Common.{ap}
 use Rattle.power_model.specs.Numbers.{PowerModel}
 use Rattle.image_check.proofs.CheckLaws.{stored_is, calls_of, over_long, short_costs}
 use Rattle.image_check.proofs.checking.check_worst.Goals as goal

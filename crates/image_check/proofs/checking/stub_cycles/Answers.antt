@@ -1,4 +1,4 @@
-use Rattle.std.proofs.Common.{◌≡◌, ap}
+use Rattle.std.proofs.Common.{ap}
 use Rattle.power_model.specs.Numbers.{PowerModel}
 use Rattle.image_check.proofs.CheckLaws.{added_is, added_calls_of, extra_cycles_are, never_long}
 use Rattle.image_check.proofs.checking.stub_cycles.Goals as goal

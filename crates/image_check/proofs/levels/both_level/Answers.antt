@@ -1,4 +1,4 @@
-use Rattle.std.proofs.Common.{◌≡◌, true, false}
+use Rattle.std.proofs.Common.{false}
 use Rattle.image_check.proofs.FirstLevels.{both_of}
 use Rattle.image_check.proofs.levels.both_level.Goals as goal
 

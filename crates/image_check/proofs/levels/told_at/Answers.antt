@@ -1,4 +1,4 @@
-use Rattle.std.proofs.Common.{◌≡◌, ◌+◌, ◌<◌, ◌≤◌, ◌^◌, ℕ, List, [], length, Option, Some, None, refl, sym, ap, ◌∙◌, subst, arith}
+use Rattle.std.proofs.Common.{◌≡◌, ◌+◌, ◌≤◌, List, [], length, refl, sym, ap, ◌∙◌, subst, arith}
 use Rattle.std.proofs.lemmas.Option.{get_or_from_slice_get}
 use Rattle.foreign_scan.specs.declared.fragment.ForeignFragment.{ForeignFragment}
 use Rattle.power_model.specs.Switches.{costs_of}
@@ -7,9 +7,9 @@ use Rattle.loop_tree.specs.Tree.{loops}
 use Rattle.image_check.specs.Safe.{all_with_rows}
 use Rattle.image_check.specs.Known.{owner_by}
 use Rattle.image_check.specs.Uses.{on_edge}
-use Rattle.image_check.specs.Entries.{told_view}
+use Rattle.image_check.specs.Entries.{told_numbers}
 use Rattle.image_check.proofs.FoundFacts.{fine_on}
-use Rattle.image_check.proofs.LevelLaws.{slack_small, rest_small, after_small, told_is}
+use Rattle.image_check.proofs.LevelLaws.{slack_small, rest_small, told_is}
 use Rattle.image_check.proofs.levels.told_at.Goals as goal
 
 pub fragments-requires : goal.fragments-requires
@@ -49,7 +49,7 @@ returns-clause-told c = λ original foreign found w n least by.
     told_is c.args.known.now original foreign found w n least by c.args.e c.requires.leads.1.0 c.slack-slack.result c.rest-rest.result c.tail_cycles-tail.result c.to_end_after.result c.requires.leads.0 c.requires.leads.1.1
     c.slack-slack.ensures c.rest-rest.ensures c.to_end_after.ensures
     (c.tail_cycles-tail.ensures.tail foreign l owner ∙ ap (λ (fs : List ForeignFragment). tail_cycles (costs_of c.args.known.now.power.now) (all_with_rows foreign l owner fs)) (sym on))
-    (told_view (record { slack = c.slack-slack.result; left = c.rest-rest.result + c.from.result; least = c.plus-least.result })) refl (ap (λ m. c.rest-rest.result + m) number) c.plus-least.ensures.sum
+    (told_numbers (record { slack = c.slack-slack.result; left = c.rest-rest.result + c.from.result; least = c.plus-least.result })) refl (ap (λ m. c.rest-rest.result + m) number) c.plus-least.ensures.sum
 
 pub returns-clause-slack : goal.returns-clause-slack
 returns-clause-slack c =

@@ -1,5 +1,5 @@
-use Rattle.std.proofs.Common.{◌≡◌, ℕ, length, Option, Some, None, List, sym, subst}
-use Rattle.image_check.specs.Uses.{AreTallies, AreSmallTallies, IsFirstBad}
+use Rattle.std.proofs.Common.{ℕ, length, Option, Some, None, List, sym, subst}
+use Rattle.image_check.specs.Uses.{AreTallies, AreSmallTallies}
 use Rattle.image_check.specs.declared.uses.Tally.{Tally}
 use Rattle.image_check.proofs.OwnerLaws.{all_owners, first_bad, moved_bad}
 use Rattle.image_check.proofs.owners.owners_of.Goals as goal

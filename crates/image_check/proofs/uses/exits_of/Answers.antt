@@ -1,15 +1,14 @@
-use Rattle.std.proofs.Common.{◌≡◌, ◌+◌, ◌≤◌, get_or, arith, take, sym, subst, ap, ◌∙◌, length}
+use Rattle.std.proofs.Common.{◌≤◌, arith, sym, subst, length}
 use Rattle.std.specs.List.{sum_by}
 use Rattle.std.proofs.lemmas.List.Sums.{sum_by_more_le}
-use Rattle.cost_theory.specs.Lists.{body_of}
-use Rattle.image_check.specs.Uses.{exits_from}
+use Rattle.image_check.specs.Uses.{exits_at}
 use Rattle.image_check.proofs.TreeFacts.{body_small}
 use Rattle.image_check.proofs.uses.exits_of.Goals as goal
 
 pub overflow_add-found : goal.overflow_add-found
 overflow_add-found c =
     let is = c.requires.found.3 in
-    let f = exits_from c.args.graph.now c.args.tree.now c.args.k in
+    let f = exits_at c.args.graph.now c.args.tree.now c.args.k in
     let items = c.body-n-items.result.now in
     let more = sum_by_more_le f items c.loop-n.n-index 0 c.loop-n-test.true in
     let all : sum_by f c.body-n-items.result.now ≤ length c.args.graph.now.code.edges = subst (λ xs. sum_by f xs ≤ length c.args.graph.now.code.edges) (sym c.body-n-items.ensures) (body_small c.args.graph.now c.args.tree.now is.tree.0 is.code.flow is.tree.1 c.args.k c.requires.within) in

@@ -1,12 +1,9 @@
-use Rattle.std.proofs.Common.{◌≡◌, ◌<◌, ◌≤◌, ℕ, Bool, true, false, refl, sym, ap, ◌∙◌, subst, arith}
-use Rattle.std.specs.Prelude.{◌&&◌, nat_le}
+use Rattle.std.proofs.Common.{◌≡◌, sym, ap, ◌∙◌}
 use Rattle.std.specs.List.{sum_by}
-use Rattle.std.proofs.lemmas.Bool.{le-leb}
 use Rattle.std.proofs.lemmas.Option.{get_or_from_slice_get}
-use Rattle.foreign_scan.specs.declared.fragment.ForeignFragment.{ForeignFragment}
-use Rattle.std.proofs.Common.{List, []}
+use Rattle.std.proofs.Common.{[]}
 use Rattle.image_check.specs.Safe.{counts_it, clears_it}
-use Rattle.image_check.specs.Uses.{on_edge, counts_at, clears_at}
+use Rattle.image_check.specs.Uses.{on_edge}
 use Rattle.image_check.proofs.UseLaws.{fits_is, fits_not}
 use Rattle.image_check.proofs.uses.fits_on.Goals as goal
 

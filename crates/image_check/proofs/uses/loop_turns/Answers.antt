@@ -1,4 +1,4 @@
-use Rattle.std.proofs.Common.{◌≡◌, ◌+◌, ◌<◌, ◌^◌, length, Vec, Global, ℕ, sym, ap, ◌∙◌, subst, arith, add-one}
+use Rattle.std.proofs.Common.{◌+◌, ◌<◌, length, Vec, Global, ℕ, sym, subst, arith}
 use Rattle.image_check.specs.Uses.{AreTurns}
 use Rattle.image_check.proofs.TreeFacts.{turn_one, turns_skip, turns_more, turns_small}
 use Rattle.image_check.proofs.uses.loop_turns.Goals as goal

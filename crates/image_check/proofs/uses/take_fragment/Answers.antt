@@ -1,4 +1,4 @@
-use Rattle.std.proofs.Common.{◌≡◌, ◌<◌, ℕ, length, Some, sym, ap, ◌∙◌, arith}
+use Rattle.std.proofs.Common.{◌≡◌, sym, ap, ◌∙◌, arith}
 use Rattle.image_check.specs.Known.{owner_by}
 use Rattle.image_check.specs.Uses.{fits_on}
 use Rattle.image_check.proofs.UseLaws.{low_counter, one_set}

@@ -1,4 +1,4 @@
-use Rattle.std.proofs.Common.{◌≡◌, ◌<◌, ℕ, length, replicate, sym, ap, ◌∙◌, subst, arith, add-one}
+use Rattle.std.proofs.Common.{◌≡◌, length, sym, ap, ◌∙◌, subst, arith, add-one}
 use Rattle.std.proofs.lemmas.List.{length-replicate}
 use Rattle.image_check.specs.Known.{owner_by}
 use Rattle.image_check.specs.Uses.{fits_on, on_edge, taken, no_tally, tally_of, AreTallies}

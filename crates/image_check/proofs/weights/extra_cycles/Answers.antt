@@ -1,7 +1,5 @@
-use Rattle.std.proofs.Common.{◌≡◌, ◌+◌, ◌*◌, ap, ◌∙◌, subst, Some, slice_get, Bool}
-use Rattle.std.specs.List.{sum_by}
+use Rattle.std.proofs.Common.{ap, ◌∙◌, Some}
 use Rattle.power_model.specs.Price.{cycles_of}
-use Rattle.image_check.specs.Weights.{foreign_cost}
 use Rattle.image_check.proofs.Extras.{extra_of_same, extra_of_patched, few_listed}
 use Rattle.image_check.proofs.weights.extra_cycles.Goals as goal
 

@@ -1,4 +1,4 @@
-use Rattle.std.proofs.Common.{rules, ◌≡◌, ℕ, ◌+◌, ◌<◌, ◌≤◌, slice_index, length, below_more, subst, sym, ap, ◌∙◌, arith}
+use Rattle.std.proofs.Common.{rules, ◌≡◌, ℕ, ◌+◌, ◌<◌, slice_index, length, below_more, subst, sym}
 use Rattle.power_model.specs.Price.{cycles_of}
 use Rattle.image_check.specs.Weights.{IsExtraAt}
 use Rattle.image_check.proofs.Extras.{extras_are}

@@ -1,4 +1,4 @@
-use Rattle.std.proofs.Common.{rules, ◌≡◌, ℕ, ◌+◌, ◌<◌, ◌≤◌, slice_index, length, map, below_more, subst, sym, ap, ◌∙◌, arith}
+use Rattle.std.proofs.Common.{rules, ◌≡◌, ℕ, ◌+◌, ◌<◌, ◌≤◌, slice_index, length, map, below_more, ap, ◌∙◌, arith}
 use Rattle.power_model.specs.Price.{cycles_of}
 use Rattle.code_text.specs.EdgeCosts.{cost_of}
 use Rattle.image_check.specs.Weights.{IsExtraAt}

@@ -1,4 +1,4 @@
-use Rattle.std.proofs.Common.{◌≡◌, ◌∙◌, ◌<◌, ap, sym, subst, length, Some}
+use Rattle.std.proofs.Common.{◌∙◌, ◌<◌, ap, sym, subst, length, Some}
 use Rattle.scale_base.specs.declared.endings.Kept.{Kept}
 use Rattle.power_model.specs.Report.{report_view}
 use Rattle.input_survey.proofs.LineLaws.{line_made, report_start, report_held}

@@ -1,8 +1,8 @@
-use Rattle.std.proofs.Common.{◌≡◌, ◌∙◌, ◌<◌, ◌^◌, ◌+◌, ℕ, List, [], ◌∷◌, ◌++◌, length, map, take, slice_index, sym, ap, subst, arith}
+use Rattle.std.proofs.Common.{◌≡◌, ◌∙◌, ◌<◌, ◌^◌, ◌+◌, ℕ, List, [], ◌∷◌, ◌++◌, length, map, take, slice_index, sym, ap, subst}
 use Rattle.std.specs.List.{All}
 use Rattle.std.proofs.lemmas.List.{length-append, map_more, take_all}
 use Rattle.loop_file.specs.declared.notes.LoopNote.{LoopNote}
-use Rattle.power_model.specs.Survey.{Surveyed, line_view}
+use Rattle.power_model.specs.Survey.{line_view}
 use Rattle.input_survey.specs.Most.{IsMost}
 use Rattle.input_survey.specs.Surveyed.{IsLine, AreLines, totals_of}
 use Rattle.input_survey.proofs.LineLaws.{lines_more}

@@ -1,4 +1,4 @@
-use Rattle.std.proofs.Common.{◌≡◌, ◌<◌, ◌^◌, ℕ, length, map, take, slice_index, vec_len}
+use Rattle.std.proofs.Common.{◌≡◌, ◌<◌, ◌^◌, ℕ, length, map, take, slice_index}
 use Rattle.std.specs.List.{All}
 use Rattle.loop_file.specs.Notes.{AreLoopNotes}
 use Rattle.power_model.specs.Survey.{line_view}

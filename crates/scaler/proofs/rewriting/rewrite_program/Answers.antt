@@ -1,4 +1,4 @@
-use Rattle.std.proofs.Common.{List, ℕ, Err, inr}
+use Rattle.std.proofs.Common.{List, Err}
 use Rattle.std.proofs.lemmas.Result.{err_from_is_err_and}
 use Rattle.scale_base.specs.declared.refusal.Stop.{Stop}
 use Rattle.scale_base.specs.declared.refusal.Stop.TheVariants.{Refused, Memory}

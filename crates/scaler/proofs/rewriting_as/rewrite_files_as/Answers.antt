@@ -1,9 +1,9 @@
-use Rattle.std.proofs.Common.{rules, ◌≡◌, ◌∙◌, List, ℕ, refl, sym, ap, subst}
+use Rattle.std.proofs.Common.{rules, List, sym, subst}
 use Rattle.std.proofs.lemmas.Result.{err_from_is_err_and}
 use Rattle.power_model.specs.Numbers.{PowerModel, IsPowerModel}
 use Rattle.loop_file.specs.declared.notes.LoopNote.{LoopNote}
 use Rattle.scaler.specs.Rewritten.{IsRewrittenProgram}
-use Rattle.scaler.specs.RewrittenAs.{with_gain, notes_with}
+use Rattle.scaler.specs.RewrittenAs.{notes_with}
 use Rattle.scaler.proofs.Bases.{file_is}
 use Rattle.scaler.proofs.Files.{HoldAnswers}
 use Rattle.scaler.proofs.FilesAs.{model_with, machine_stops, image_stops, key_stops, loops_stop, program_answers}
