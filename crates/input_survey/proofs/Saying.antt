@@ -11,7 +11,7 @@ use Rattle.loop_file.specs.Loops.{read_loops}
 use Rattle.rewritten_runs.specs.Promise.{KeepsThePromise}
 use Rattle.scaler.specs.RewrittenRuns.{IsRewrittenSafely}
 use Rattle.scaler.proofs.Laws.{rewritten_safe}
-use Rattle.input_survey.specs.Bounds.{OfFiles}
+use Rattle.input_survey.specs.Bounds.{OfFiles, MostIsEnough, MostIsNeeded}
 use Rattle.input_survey.specs.Promised.{IsPromised, LinesArePromised}
 use Rattle.input_survey.specs.Said.{SurveysSayOfRuns}
 use Rattle.input_survey.proofs.Went.{WentThrough, went_through, same_ok}
@@ -39,8 +39,14 @@ module _ (image scaled machine loops : List ℕ) (inputs : List (List ℕ)) (sur
       (subst (λ n. KeepsThePromise safe.power safe.original n w.other summary.stub_cycles) same_notes
       (subst (λ o. KeepsThePromise safe.power safe.original safe.notes o summary.stub_cycles) same_other safe.promise)))
 
-  promised : length image ≤ 4194304 → length machine ≤ 1048576 → length loops ≤ 1048576 → LinesArePromised image scaled machine loops survey.lines
-  promised si sm sl = λ summary rewritten power power_is.
+  pub bounds_enough : MostIsEnough image machine loops inputs survey.most
+  bounds_enough = of_files _ (most_is_enough w.power w.original w.other w.notes inputs survey w.surveyed)
+
+  pub bounds_needed : MostIsNeeded image machine loops inputs survey.most
+  bounds_needed = of_files _ (most_is_needed w.power w.original w.other w.notes inputs survey w.surveyed)
+
+  pub lines_keep : length image ≤ 4194304 → length machine ≤ 1048576 → length loops ≤ 1048576 → LinesArePromised image scaled machine loops survey.lines
+  lines_keep si sm sl = λ summary rewritten power power_is.
       let promise = promise_of summary (rewritten_safe image machine loops scaled summary si sm sl rewritten) in
       let lines = lines_promised w.power w.original w.other w.notes summary.stub_cycles promise inputs survey.lines w.surveyed.lines in
       subst (λ p. All (IsPromised p) survey.lines) (same_ok (read_machine machine) w.power power w.power_is power_is) lines
@@ -49,7 +55,7 @@ pub surveyed_says : SurveysSayOfRuns
 surveyed_says image scaled machine loops inputs survey si sm sl h =
     let w = went_through image scaled machine loops inputs survey h in
     record {
-      enough = of_files image scaled machine loops inputs survey w _ (most_is_enough w.power w.original w.other w.notes inputs survey w.surveyed);
-      needed = of_files image scaled machine loops inputs survey w _ (most_is_needed w.power w.original w.other w.notes inputs survey w.surveyed);
-      promised = promised image scaled machine loops inputs survey w si sm sl;
+      enough = bounds_enough image scaled machine loops inputs survey w;
+      needed = bounds_needed image scaled machine loops inputs survey w;
+      promised = lines_keep image scaled machine loops inputs survey w si sm sl;
     }
