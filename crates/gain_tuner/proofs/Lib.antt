@@ -4,3 +4,6 @@ pub mod Sums
 pub mod Trials
 pub mod Chosen
 pub mod Steps
+pub mod SameTunings
+pub mod SafeTunings
+pub mod Laws

@@ -1,6 +1,7 @@
 //! The image of a program that takes the least energy on given inputs, of several that are safe.
 #![tactic(auto)]
 
+mod agreeing;
 mod candidates;
 mod choosing;
 mod spending;
@@ -8,5 +9,6 @@ mod spending;
 mod tests;
 mod tuning;
 
+pub use agreeing::{tuned_images_are_safe, tunings_agree};
 pub use scale_base::Tuned;
 pub use tuning::tune;

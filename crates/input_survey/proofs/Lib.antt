@@ -6,3 +6,6 @@ pub mod BoundLaws
 pub mod PromiseLaws
 pub mod SurveyLaws
 pub mod Consequences
+pub mod SameSurveys
+pub mod Saying
+pub mod Laws

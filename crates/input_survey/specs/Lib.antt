@@ -3,3 +3,5 @@ pub mod Surveyed
 pub mod Totals
 pub mod Bounds
 pub mod Promised
+pub mod Agreeing
+pub mod Said

@@ -1,11 +1,13 @@
 //! Surveys of the runs of an image, and of an image that was scaled, over a list of inputs.
 #![tactic(auto)]
 
+mod agreeing;
 mod lines;
 mod surveying;
 #[cfg(test)]
 mod tests;
 mod totals;
 
+pub use agreeing::{surveys_agree, surveys_say_of_runs};
 pub use power_model::{SurveyLine, SurveyReport, Totals};
 pub use surveying::survey;
