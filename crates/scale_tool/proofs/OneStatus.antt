@@ -3,28 +3,46 @@ use Rattle.std.proofs.Common.{◌≡◌, ℕ, List, [], ◌∷◌, refl, sym, ap
 use Rattle.std.specs.Prelude.{Option, Some, None, IfSome, Result, Ok, Err}
 use Rattle.scale_base.specs.declared.plan.SiteLine.{SiteLine}
 use Rattle.scale_base.specs.declared.refusal.Refusal.{Refusal}
+use Rattle.scale_base.specs.declared.summary.Lowered.{Lowered}
 use Rattle.scale_base.specs.declared.summary.Summary.{Summary}
+use Rattle.scale_base.specs.declared.summary.Tuned.{Tuned}
 use Rattle.scale_base.specs.declared.verdict.Verdict.{Verdict}
-use Rattle.image_check.specs.Agreeing.{AreAlikeVerdicts}
-use Rattle.image_check.proofs.Laws.{checked_answers}
+use Rattle.power_model.specs.Survey.{Survey as SurveyOfRuns}
 use Rattle.scaler.specs.Agree.{AreAlikeAnswers}
 use Rattle.scaler.specs.Held.{IsHeld}
 use Rattle.scaler.specs.Planned.{IsPlanned}
 use Rattle.scaler.specs.Rewritten.{IsRewritten}
 use Rattle.scaler.proofs.Laws.{held_answers, rewritten_answers}
-use Rattle.scale_base.specs.declared.summary.Lowered.{Lowered}
+use Rattle.image_check.specs.Agreeing.{AreAlikeVerdicts}
+use Rattle.image_check.specs.Checked.{IsChecked}
+use Rattle.image_check.proofs.Laws.{checked_answers}
 use Rattle.image_lower.specs.Lowered.{IsLowered}
 use Rattle.image_lower.proofs.Laws.{lowered_answers}
-use Rattle.scale_report.specs.Texts.{lowered_text, summary_text}
+use Rattle.input_survey.specs.Surveyed.{IsSurveyed}
+use Rattle.input_survey.proofs.Laws.{surveyed_answers}
+use Rattle.gain_tuner.specs.Agreeing.{AreAlikeTunings}
+use Rattle.gain_tuner.specs.Choice.{IsTuning}
+use Rattle.gain_tuner.proofs.Laws.{tuned_answers}
+use Rattle.scale_report.specs.Texts.{lowered_text, summary_text, survey_text, tuned_text}
 use Rattle.image_maker.specs.Making.{program}
 use Rattle.image_maker.proofs.Laws.{one_image}
 use Rattle.host_files.specs.HostState.{Files, HostState}
-use Rattle.scale_tool.specs.Answer.{Answer, AnswersTo, Giving, HasAnswer, IsAnswerOf, AreMade, MadeFiles, Makes, MakesMade, MakesReport, MakesStored, MakesVerdict, made_answer, plan_answer, stored_answer, verdict_answer}
-use Rattle.scale_tool.specs.Command.{Command, Help, Hold, Rewrite, Report, Simulate, Make, Lower, Check, wants_of}
+use Rattle.scale_tool.specs.Answer.{Answer, AnswersTo, Giving, HasAnswer, IsAnswerOf, AreMade, MadeFiles, Makes, MakesMade, Tells, made_answer, stored_answer, text_answer, text_of_plan, verdict_answer}
+use Rattle.scale_tool.specs.Command.{Command, Help, Hold, Rewrite, Report, Simulate, Make, Lower, Check, Survey, Tune, wants_of}
 use Rattle.scale_tool.specs.Loading.{Loading, Missing, Long, Whole, loading_of}
 use Rattle.scale_tool.specs.Tool.{IsAnswered, IsDelivered, IsStatusOfAll}
 
--- ---- commands that give a file
+-- ---- what a command gives
+
+-- answers that may be given for the same files have one status
+abbrev Agree : {A : Type 0} → Giving A → (Result A Refusal → Answer) → Type 0
+Agree {A} Gives answer_of = (one other : Result A Refusal) → Gives one → Gives other → (answer_of one).status ≡ (answer_of other).status
+
+one_told : {A : Type 0} (Gives : Giving A) (answer_of : Result A Refusal → Answer) → Agree Gives answer_of → (one other : Answer) → Tells Gives answer_of one → Tells Gives answer_of other → one.status ≡ other.status
+one_told Gives answer_of agree one other x y =
+    ap (λ (a : Answer). a.status) x.told
+    ∙ agree x.given y.given x.is_given y.is_given
+    ∙ sym (ap (λ (a : Answer). a.status) y.told)
 
 stored_status : (out : List ℕ) (one other : Result (List ℕ × Summary) Refusal) → AreAlikeAnswers one other → (stored_answer summary_text out one).status ≡ (stored_answer summary_text out other).status
 stored_status out (Ok one) (Ok other) alike = refl
@@ -32,44 +50,23 @@ stored_status out (Err one) (Err other) alike = refl
 stored_status out (Ok one) (Err other) alike = absurd alike
 stored_status out (Err one) (Ok other) alike = absurd alike
 
--- answers about two things that may be given for the same files have one status
-abbrev Agree : {A : Type 0} → Giving A → (A → List ℕ) → List ℕ → Type 0
-Agree {A} Gives text_of out = (one other : Result (List ℕ × A) Refusal) → Gives one → Gives other → (stored_answer text_of out one).status ≡ (stored_answer text_of out other).status
+tuned_status : (out : List ℕ) (one other : Result (List ℕ × Tuned) Refusal) → AreAlikeTunings one other → (stored_answer tuned_text out one).status ≡ (stored_answer tuned_text out other).status
+tuned_status out (Ok one) (Ok other) alike = refl
+tuned_status out (Err one) (Err other) alike = refl
+tuned_status out (Ok one) (Err other) alike = absurd alike
+tuned_status out (Err one) (Ok other) alike = absurd alike
 
-one_stored : {A : Type 0} (Gives : Giving A) (text_of : A → List ℕ) (out : List ℕ) → Agree Gives text_of out → (one other : Answer) → MakesStored Gives text_of out one → MakesStored Gives text_of out other →
-    one.status ≡ other.status
-one_stored Gives text_of out agree one other x y =
-    ap (λ (a : Answer). a.status) x.told
-    ∙ agree x.given y.given x.is_given y.is_given
-    ∙ sym (ap (λ (a : Answer). a.status) y.told)
-
--- ---- plans
-
-plan_status : (i m l : List ℕ) (one other : Result (Summary × List SiteLine) Refusal) → IsPlanned i m l one → IsPlanned i m l other → (plan_answer one).status ≡ (plan_answer other).status
+plan_status : (i m l : List ℕ) (one other : Result (Summary × List SiteLine) Refusal) → IsPlanned i m l one → IsPlanned i m l other → (text_answer text_of_plan one).status ≡ (text_answer text_of_plan other).status
 plan_status i m l (Ok one) (Ok other) x y = refl
 plan_status i m l (Err one) (Err other) x y = refl
 plan_status i m l (Ok one) (Err other) x y = absurd (rewritten_answers i m l (Ok ((x.0, one.0))) (Err other) x.1 y)
 plan_status i m l (Err one) (Ok other) x y = absurd (rewritten_answers i m l (Err one) (Ok ((y.0, other.0))) x y.1)
-
-one_report : (i m l : List ℕ) (one other : Answer) → MakesReport i m l one → MakesReport i m l other → one.status ≡ other.status
-one_report i m l one other x y =
-    ap (λ (a : Answer). a.status) x.told
-    ∙ plan_status i m l x.given y.given x.is_given y.is_given
-    ∙ sym (ap (λ (a : Answer). a.status) y.told)
-
--- ---- verdicts
 
 verdict_status : (one other : Result Verdict Refusal) → AreAlikeVerdicts one other → (verdict_answer one).status ≡ (verdict_answer other).status
 verdict_status (Ok one) (Ok other) alike = ap (λ (v : Verdict). (verdict_answer (Ok v)).status) alike
 verdict_status (Err one) (Err other) alike = refl
 verdict_status (Ok one) (Err other) alike = absurd alike
 verdict_status (Err one) (Ok other) alike = absurd alike
-
-one_verdict : (i f m l : List ℕ) (one other : Answer) → MakesVerdict i f m l one → MakesVerdict i f m l other → one.status ≡ other.status
-one_verdict i f m l one other x y =
-    ap (λ (a : Answer). a.status) x.told
-    ∙ verdict_status x.given y.given (checked_answers i f m l x.given y.given x.is_given y.is_given)
-    ∙ sym (ap (λ (a : Answer). a.status) y.told)
 
 -- ---- made programs
 
@@ -103,16 +100,21 @@ one_made number size prefix one other x y =
 one_made_of_files : (command : Command) (files : List (List ℕ)) (one other : Answer) → Makes command files one → Makes command files other → one.status ≡ other.status
 one_made_of_files Help [] one other x y = ap (λ (a : Answer). a.status) (x ∙ sym y)
 one_made_of_files (Hold image machine loops out) (i ∷ m ∷ l ∷ []) one other x y =
-    one_stored (IsHeld i m l) summary_text out (λ a b g h. stored_status out a b (held_answers i m l a b g h)) one other x y
+    one_told (IsHeld i m l) (stored_answer summary_text out) (λ a b g h. stored_status out a b (held_answers i m l a b g h)) one other x y
 one_made_of_files (Rewrite image machine loops out) (i ∷ m ∷ l ∷ []) one other x y =
-    one_stored (IsRewritten i m l) summary_text out (λ a b g h. stored_status out a b (rewritten_answers i m l a b g h)) one other x y
-one_made_of_files (Report image machine loops) (i ∷ m ∷ l ∷ []) one other x y = one_report i m l one other x y
+    one_told (IsRewritten i m l) (stored_answer summary_text out) (λ a b g h. stored_status out a b (rewritten_answers i m l a b g h)) one other x y
+one_made_of_files (Report image machine loops) (i ∷ m ∷ l ∷ []) one other x y = one_told (IsPlanned i m l) (text_answer text_of_plan) (plan_status i m l) one other x y
 one_made_of_files (Simulate image machine input out None) (i ∷ m ∷ n ∷ []) one other x y = ap (λ (a : Answer). a.status) (x ∙ sym y)
 one_made_of_files (Simulate image machine input out (Some loops)) (i ∷ m ∷ n ∷ l ∷ []) one other x y = ap (λ (a : Answer). a.status) (x ∙ sym y)
 one_made_of_files (Make number size prefix) [] one other x y = one_made number size prefix one other x y
 one_made_of_files (Lower image jumps out) (i ∷ j ∷ []) one other x y =
-    one_stored (IsLowered i j) lowered_text out (λ a b g h. ap (λ (r : Result (List ℕ × Lowered) Refusal). (stored_answer lowered_text out r).status) (lowered_answers i j a b g h)) one other x y
-one_made_of_files (Check image foreign machine loops) (i ∷ f ∷ m ∷ l ∷ []) one other x y = one_verdict i f m l one other x y
+    one_told (IsLowered i j) (stored_answer lowered_text out) (λ a b g h. ap (λ (r : Result (List ℕ × Lowered) Refusal). (stored_answer lowered_text out r).status) (lowered_answers i j a b g h)) one other x y
+one_made_of_files (Check image foreign machine loops) (i ∷ f ∷ m ∷ l ∷ []) one other x y =
+    one_told (IsChecked i f m l) verdict_answer (λ a b g h. verdict_status a b (checked_answers i f m l a b g h)) one other x y
+one_made_of_files (Survey image scaled machine loops inputs) (i ∷ s ∷ m ∷ l ∷ given) one other x y =
+    one_told (IsSurveyed i s m l given) (text_answer survey_text) (λ a b g h. ap (λ (r : Result SurveyOfRuns Refusal). (text_answer survey_text r).status) (surveyed_answers i s m l given a b g h)) one other x y
+one_made_of_files (Tune image machine loops out inputs) (i ∷ m ∷ l ∷ given) one other x y =
+    one_told (IsTuning i m l given) (stored_answer tuned_text out) (λ a b g h. tuned_status out a b (tuned_answers i m l given a b g h)) one other x y
 one_made_of_files command files one other x y = absurd x
 
 one_of_loading : (command : Command) (loading : Loading) (one other : Answer) → AnswersTo command loading one → AnswersTo command loading other → one.status ≡ other.status

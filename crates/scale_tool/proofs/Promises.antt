@@ -18,13 +18,17 @@ use Rattle.scaler.proofs.Laws.{held_safe, rewritten_safe}
 use Rattle.image_check.proofs.Laws.{checked_safe}
 use Rattle.image_lower.specs.Lowered.{IsLowered}
 use Rattle.image_lower.proofs.Laws.{lowered_safe}
-use Rattle.scale_report.specs.Texts.{lowered_text, summary_text}
+use Rattle.input_survey.proofs.Laws.{surveyed_says}
+use Rattle.gain_tuner.specs.Choice.{IsTuning}
+use Rattle.gain_tuner.specs.Safe.{IsTunedSafely}
+use Rattle.gain_tuner.proofs.Laws.{tuned_safe}
+use Rattle.scale_report.specs.Texts.{lowered_text, summary_text, tuned_text}
 use Rattle.speed_sim.specs.Simulated.{simulated}
 use Rattle.image_maker.specs.Making.{headers}
 use Rattle.image_maker.proofs.Laws.{small_image, small_machine, small_loops}
 use Rattle.host_files.specs.HostState.{Files, HostState}
-use Rattle.scale_tool.specs.Answer.{Answer, Giving, AreMade, MadeFiles, Makes, MakesMade, MakesStored, AnswersTo, HasAnswer, made_answer, refused, stored_answer, unless_refused}
-use Rattle.scale_tool.specs.Command.{Command, Help, Hold, Rewrite, Report, Simulate, Make, Lower, Check, command_of, texts, wants_of}
+use Rattle.scale_tool.specs.Answer.{Answer, Giving, AreMade, MadeFiles, Makes, MakesMade, Tells, AnswersTo, HasAnswer, made_answer, refused, stored_answer, unless_refused}
+use Rattle.scale_tool.specs.Command.{Command, Help, Hold, Rewrite, Report, Simulate, Make, Lower, Check, Survey, Tune, command_of, texts, wants_of}
 use Rattle.scale_tool.specs.Loading.{Loading, Missing, Long, Whole, loading_of, loading_one, and_then}
 use Rattle.scale_tool.specs.Promise.{Keeping, KeepsLowered, StoredPromise, MadePromise, Promise, PromisedOf, PromisedBy, Promised}
 use Rattle.scale_tool.specs.Tool.{with_stores, StoresStand}
@@ -86,10 +90,10 @@ loaded_within (want ∷ wants) files = within_one want wants (get files want.0) 
 -- ---- what a command promises
 
 -- what is given is safe
-abbrev IsSafe : {A : Type 0} → Giving A → Keeping A → Type 0
+abbrev IsSafe : {A : Type 0} → Giving (List ℕ × A) → Keeping A → Type 0
 IsSafe {A} Gives Safe = (stored : List ℕ) (told : A) → Gives (Ok ((stored, told))) → Safe stored told
 
-module _ {A : Type 0} (Gives : Giving A) (Safe : Keeping A) (text_of : A → List ℕ) (out : List ℕ) (files : Files) (is_safe : IsSafe Gives Safe) where
+module _ {A : Type 0} (Gives : Giving (List ℕ × A)) (Safe : Keeping A) (text_of : A → List ℕ) (out : List ℕ) (files : Files) (is_safe : IsSafe Gives Safe) where
   -- what was done is what is stored
   given_kept : (given : Result (List ℕ × A) Refusal) → Gives given → (stored_answer text_of out given).status ≢ 1
       → StoredPromise Gives Safe (get (with_stores (stored_answer text_of out given).stores files) out)
@@ -102,7 +106,7 @@ module _ {A : Type 0} (Gives : Giving A) (Safe : Keeping A) (text_of : A → Lis
   }
   given_kept (Err refusal) is done = absurd (done refl)
 
-  stored_kept : (answer : Answer) → MakesStored Gives text_of out answer → answer.status ≢ 1 → StoredPromise Gives Safe (get (with_stores answer.stores files) out)
+  stored_kept : (answer : Answer) → Tells Gives (stored_answer text_of out) answer → answer.status ≢ 1 → StoredPromise Gives Safe (get (with_stores answer.stores files) out)
   stored_kept answer made done =
       let told = sym made.told in
       subst (λ (a : Answer). StoredPromise Gives Safe (get (with_stores a.stores files) out)) told
@@ -221,6 +225,12 @@ kept (Lower image jumps out) loaded files answer size within made done = absurd 
 kept (Check image foreign machine loops) (i ∷ f ∷ m ∷ l ∷ []) files answer size within made done =
     λ printed is bytes. checked_safe i f m l printed is bytes
 kept (Check image foreign machine loops) loaded files answer size within made done = absurd made
+kept (Survey image scaled machine loops inputs) (i ∷ s ∷ m ∷ l ∷ given) files answer size within made done =
+    λ printed is. surveyed_says i s m l given printed within.0 within.1.1.0 within.1.1.1.0 is
+kept (Survey image scaled machine loops inputs) loaded files answer size within made done = absurd made
+kept (Tune image machine loops out inputs) (i ∷ m ∷ l ∷ given) files answer size within made done =
+    stored_kept (IsTuning i m l given) (IsTunedSafely i m l) tuned_text out files (λ stored tuned is. tuned_safe i m l given stored tuned within.0 within.1.0 within.1.1.0 is) answer made done
+kept (Tune image machine loops out inputs) loaded files answer size within made done = absurd made
 
 of_loading : (command : Command) (loading : Loading) (files : Files) (new : Option Files) (answer : Answer) → HasSize command → Within (wants_of command) loading → AnswersTo command loading answer →
     answer.status ≢ 1 → new ≡ Some (with_stores answer.stores files) → IfSome new (λ after. PromisedOf command loading after)

@@ -2,7 +2,7 @@
 use Rattle.std.proofs.Common.{◌≡◌, ℕ, ◌≤◌, List, [], ◌∷◌, refl, arith, Bool, true, false, cond}
 use Rattle.std.specs.Prelude.{Option, Some, None, IfSome, option_map, option_and_then, nat_le, ◌&&◌, bytes_eq, codes}
 use Rattle.std.proofs.lemmas.Bool.Decides.{nat_tests}
-use Rattle.scale_tool.specs.Command.{Command, Help, Hold, Rewrite, Report, Simulate, Make, Lower, Check, command_of, help_of, hold_of, rewrite_of, report_words, simulate_of, make_of, lower_of, check_of}
+use Rattle.scale_tool.specs.Command.{Command, Help, Hold, Rewrite, Report, Simulate, Make, Lower, Check, Survey, Tune, command_of, help_of, hold_of, rewrite_of, report_words, simulate_of, make_of, lower_of, check_of, survey_of, tune_of, inputs_of}
 use Rattle.scale_tool.specs.Numbers.{digits_within, digits_number}
 
 abbrev pub HasSize : Command → Type 0
@@ -14,6 +14,8 @@ HasSize (Simulate image machine input out loops) = Unit {0}
 HasSize (Make number size prefix) = size ≤ 2000
 HasSize (Lower image jumps out) = Unit {0}
 HasSize (Check image foreign machine loops) = Unit {0}
+HasSize (Survey image scaled machine loops inputs) = Unit {0}
+HasSize (Tune image machine loops out inputs) = Unit {0}
 
 -- a number that is within limits is at most the greater one
 limited_here : (low high n : ℕ) → IfSome (cond (nat_le low n && nat_le n high) (Some n) None) (λ m. m ≤ high)
@@ -73,6 +75,22 @@ checked_size : (words : List (List ℕ)) → IfSome (check_of words) HasSize
 checked_size (image ∷ foreign ∷ machine ∷ loops ∷ []) = tt
 checked_size words = tt
 
+with_survey : (image scaled machine loops : List ℕ) (o : Option (List (List ℕ))) → IfSome (option_map (λ inputs. Survey image scaled machine loops inputs) o) HasSize
+with_survey image scaled machine loops None = tt
+with_survey image scaled machine loops (Some inputs) = tt
+
+surveyed_size : (words : List (List ℕ)) → IfSome (survey_of words) HasSize
+surveyed_size (image ∷ scaled ∷ machine ∷ loops ∷ words) = with_survey image scaled machine loops (inputs_of words)
+surveyed_size words = tt
+
+with_tuning : (image machine loops out : List ℕ) (o : Option (List (List ℕ))) → IfSome (option_map (λ inputs. Tune image machine loops out inputs) o) HasSize
+with_tuning image machine loops out None = tt
+with_tuning image machine loops out (Some inputs) = tt
+
+tuned_size : (words : List (List ℕ)) → IfSome (tune_of words) HasSize
+tuned_size (image ∷ machine ∷ loops ∷ out ∷ words) = with_tuning image machine loops out (inputs_of words)
+tuned_size words = tt
+
 either : (b : Bool) (x y : Option Command) → IfSome x HasSize → IfSome y HasSize → IfSome (cond b x y) HasSize
 either true x y h k = h
 either false x y h k = k
@@ -87,4 +105,6 @@ command_size (word ∷ words) =
     (either (bytes_eq word (codes "simulate")) _ _ (simulated_size words)
     (either (bytes_eq word (codes "make")) _ _ (made_size words)
     (either (bytes_eq word (codes "lower")) _ _ (lowered_size words)
-    (either (bytes_eq word (codes "check")) (check_of words) None (checked_size words) tt)))))))
+    (either (bytes_eq word (codes "check")) _ _ (checked_size words)
+    (either (bytes_eq word (codes "survey")) _ _ (surveyed_size words)
+    (either (bytes_eq word (codes "tune")) (tune_of words) None (tuned_size words) tt)))))))))

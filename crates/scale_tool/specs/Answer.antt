@@ -9,18 +9,20 @@ use Rattle.scale_base.specs.declared.verdict.Verdict.TheVariants.{Yes, No}
 use Rattle.scale_base.specs.declared.endings.End.{End}
 use Rattle.scale_base.specs.declared.endings.End.TheVariants.{Exited, Trapped, OutOfSteps}
 use Rattle.power_model.specs.Report.{Report as RunReport}
-use Rattle.scale_report.specs.Texts.{summary_text, lowered_text, verdict_text, refusal_text, run_text, site_line}
+use Rattle.scale_report.specs.Texts.{summary_text, lowered_text, verdict_text, survey_text, tuned_text, refusal_text, run_text, site_line}
 use Rattle.scaler.specs.Held.{IsHeld}
 use Rattle.scaler.specs.Planned.{IsPlanned}
 use Rattle.scaler.specs.Rewritten.{IsRewritten}
 use Rattle.speed_sim.specs.Simulated.{simulated}
 use Rattle.image_lower.specs.Lowered.{IsLowered}
 use Rattle.image_check.specs.Checked.{IsChecked}
+use Rattle.input_survey.specs.Surveyed.{IsSurveyed}
+use Rattle.gain_tuner.specs.Choice.{IsTuning}
 use Rattle.image_maker.specs.Made.{IsImageOf}
 use Rattle.image_maker.specs.MadeTexts.{machine_text, loops_text, drawn_bytes}
 use Rattle.image_maker.specs.Making.{program, headers, state_at}
 use Rattle.host_files.specs.HostState.{Files}
-use Rattle.scale_tool.specs.Command.{Command, Help, Hold, Rewrite, Report, Simulate, Make, Lower, Check, wants_of}
+use Rattle.scale_tool.specs.Command.{Command, Help, Hold, Rewrite, Report, Simulate, Make, Lower, Check, Survey, Tune, wants_of}
 use Rattle.scale_tool.specs.Loading.{Loading, Missing, Long, Whole, loading_of}
 
 -- names, each with what is stored under it
@@ -42,7 +44,7 @@ bad_command = record { stores = []; text = bad_command_text; status = 2 }
 
 -- how the commands are called
 abbrev pub help_text : List ℕ
-help_text = codes "scale hold IMAGE MACHINE LOOPS OUT\nscale rewrite IMAGE MACHINE LOOPS OUT\nscale report IMAGE MACHINE LOOPS\nscale simulate IMAGE MACHINE INPUT OUT [LOOPS]\nscale make NUMBER SIZE PREFIX\nscale help\nscale check IMAGE FOREIGN MACHINE LOOPS\nscale lower IMAGE JUMPS OUT\n"
+help_text = codes "scale hold IMAGE MACHINE LOOPS OUT\nscale rewrite IMAGE MACHINE LOOPS OUT\nscale report IMAGE MACHINE LOOPS\nscale simulate IMAGE MACHINE INPUT OUT [LOOPS]\nscale make NUMBER SIZE PREFIX\nscale help\nscale check IMAGE FOREIGN MACHINE LOOPS\nscale lower IMAGE JUMPS OUT\nscale survey IMAGE SCALED MACHINE LOOPS INPUT ..\nscale tune IMAGE MACHINE LOOPS OUT INPUT ..\n"
 
 -- the answer to `help`
 abbrev pub help : Answer
@@ -51,31 +53,29 @@ help = record { stores = []; text = help_text; status = 0 }
 abbrev pub refused : Refusal → Answer
 refused refusal = record { stores = []; text = refusal_text refusal; status = 1 }
 
--- one file and the text about it, or the refusal
+-- what a command gives for its files, or the first refusal
+abbrev pub Giving : Type 0 → Type 1
+Giving A = Result A Refusal → Type 0
+
+-- The answer to a command tells what it gives for its files.
+pub record Tells {A : Type 0} (Gives : Giving A) (answer_of : Result A Refusal → Answer) (answer : Answer) : Type 0 where
+  pub given : Result A Refusal
+  pub is_given : Gives given
+  pub told : answer ≡ answer_of given
+
+-- one file under this name of OUT and the text about it, or the refusal
 abbrev pub stored_answer : {A : Type 0} → (A → List ℕ) → List ℕ → Result (List ℕ × A) Refusal → Answer
 stored_answer text_of out (Ok given) = record { stores = (out, given.0) ∷ []; text = text_of given.1; status = 0 }
 stored_answer text_of out (Err refusal) = refused refusal
 
--- what a command gives for its files: a file and what is told of it, or the first refusal
-abbrev pub Giving : Type 0 → Type 1
-Giving A = Result (List ℕ × A) Refusal → Type 0
+-- a text alone, or the refusal
+abbrev pub text_answer : {A : Type 0} → (A → List ℕ) → Result A Refusal → Answer
+text_answer text_of (Ok given) = record { stores = []; text = text_of given; status = 0 }
+text_answer text_of (Err refusal) = refused refusal
 
--- The answer to a command that stores one file, under this name of OUT: it tells what the command gives for its files.
-pub record MakesStored {A : Type 0} (Gives : Giving A) (text_of : A → List ℕ) (out : List ℕ) (answer : Answer) : Type 0 where
-  pub given : Result (List ℕ × A) Refusal
-  pub is_given : Gives given
-  pub told : answer ≡ stored_answer text_of out given
-
--- the plan, or the refusal
-abbrev pub plan_answer : Result (Summary × List SiteLine) Refusal → Answer
-plan_answer (Ok plan) = record { stores = []; text = summary_text plan.0 ++ flat_map site_line plan.1; status = 0 }
-plan_answer (Err refusal) = refused refusal
-
--- The answer to `report`, by the bytes of its image, machine file and loop file: it tells all that `rewrite` finds for them.
-pub record MakesReport (image machine loops : List ℕ) (answer : Answer) : Type 0 where
-  pub given : Result (Summary × List SiteLine) Refusal
-  pub is_given : IsPlanned image machine loops given
-  pub told : answer ≡ plan_answer given
+-- the text of a plan: the summary, and a line for each edge that gets something
+abbrev pub text_of_plan : Summary × List SiteLine → List ℕ
+text_of_plan plan = summary_text plan.0 ++ flat_map site_line plan.1
 
 -- the status of a verdict: the image is safe, or it isn't known to be
 abbrev pub verdict_status : Verdict → ℕ
@@ -86,12 +86,6 @@ verdict_status (No why) = 7
 abbrev pub verdict_answer : Result Verdict Refusal → Answer
 verdict_answer (Ok verdict) = record { stores = []; text = verdict_text verdict; status = verdict_status verdict }
 verdict_answer (Err refusal) = refused refusal
-
--- The answer to `check`, by the bytes of its image, of the image of other make, and of its machine file and loop file: it tells the verdict for them, and stores nothing.
-pub record MakesVerdict (image foreign machine loops : List ℕ) (answer : Answer) : Type 0 where
-  pub given : Result Verdict Refusal
-  pub is_given : IsChecked image foreign machine loops given
-  pub told : answer ≡ verdict_answer given
 
 -- the status of a simulated run, by how it ended: it exited, whatever its own status is, or it trapped, or it was out of steps
 abbrev pub run_status : End → ℕ
@@ -149,17 +143,19 @@ pub record MakesMade (number size : ℕ) (prefix : List ℕ) (answer : Answer) :
   pub is_given : IsRewritten made.image made.machine made.loops given
   pub told : answer ≡ made_answer prefix made given
 
--- what the command may make of its files, as many as it loads
+-- What the command may make of its files, as many as it loads. It is told of what it gives for their bytes.
 abbrev pub Makes : Command → List (List ℕ) → Answer → Type 0
 Makes Help [] answer = answer ≡ help
-Makes (Hold image machine loops out) (i ∷ m ∷ l ∷ []) answer = MakesStored (IsHeld i m l) summary_text out answer
-Makes (Rewrite image machine loops out) (i ∷ m ∷ l ∷ []) answer = MakesStored (IsRewritten i m l) summary_text out answer
-Makes (Report image machine loops) (i ∷ m ∷ l ∷ []) answer = MakesReport i m l answer
+Makes (Hold image machine loops out) (i ∷ m ∷ l ∷ []) answer = Tells (IsHeld i m l) (stored_answer summary_text out) answer
+Makes (Rewrite image machine loops out) (i ∷ m ∷ l ∷ []) answer = Tells (IsRewritten i m l) (stored_answer summary_text out) answer
+Makes (Report image machine loops) (i ∷ m ∷ l ∷ []) answer = Tells (IsPlanned i m l) (text_answer text_of_plan) answer
 Makes (Simulate image machine input out None) (i ∷ m ∷ n ∷ []) answer = MakesRun i m n None out answer
 Makes (Simulate image machine input out (Some loops)) (i ∷ m ∷ n ∷ l ∷ []) answer = MakesRun i m n (Some l) out answer
 Makes (Make number size prefix) [] answer = MakesMade number size prefix answer
-Makes (Lower image jumps out) (i ∷ j ∷ []) answer = MakesStored (IsLowered i j) lowered_text out answer
-Makes (Check image foreign machine loops) (i ∷ f ∷ m ∷ l ∷ []) answer = MakesVerdict i f m l answer
+Makes (Lower image jumps out) (i ∷ j ∷ []) answer = Tells (IsLowered i j) (stored_answer lowered_text out) answer
+Makes (Check image foreign machine loops) (i ∷ f ∷ m ∷ l ∷ []) answer = Tells (IsChecked i f m l) verdict_answer answer
+Makes (Survey image scaled machine loops inputs) (i ∷ s ∷ m ∷ l ∷ given) answer = Tells (IsSurveyed i s m l given) (text_answer survey_text) answer
+Makes (Tune image machine loops out inputs) (i ∷ m ∷ l ∷ given) answer = Tells (IsTuning i m l given) (stored_answer tuned_text out) answer
 Makes command files answer = ⊥
 
 -- and of how they were loaded: nothing where a file is missing

@@ -1,5 +1,5 @@
 -- The commands: their words, what each loads, and the statuses that it may answer.
-use Rattle.std.specs.Prelude.{ℕ, List, [], ◌∷◌, map, Option, Some, None, if◌then◌else◌, bytes_eq, codes, String, string_bytes, option_and_then, option_map, Bool, true, false, ◌==◌, ◌||◌, ◌&&◌, nat_le}
+use Rattle.std.specs.Prelude.{ℕ, List, [], ◌∷◌, length, map, Option, Some, None, if◌then◌else◌, bytes_eq, codes, String, string_bytes, option_and_then, option_map, Bool, true, false, ◌==◌, ◌||◌, ◌&&◌, nat_le}
 use Rattle.std.specs.declared.alloc.Global.{Global}
 use Rattle.scale_tool.specs.Numbers.{digits_within}
 
@@ -12,6 +12,8 @@ pub data Command : Type 0 where
   Make : (number size : ℕ) (prefix : List ℕ) → Command
   Lower : (image jumps out : List ℕ) → Command
   Check : (image foreign machine loops : List ℕ) → Command
+  Survey : (image scaled machine loops : List ℕ) (inputs : List (List ℕ)) → Command
+  Tune : (image machine loops out : List ℕ) (inputs : List (List ℕ)) → Command
 
 -- the words of a command line as texts
 abbrev pub texts : List (String Global) → List (List ℕ)
@@ -52,6 +54,18 @@ abbrev pub check_of : List (List ℕ) → Option Command
 check_of (image ∷ foreign ∷ machine ∷ loops ∷ []) = Some (Check image foreign machine loops)
 check_of words = None
 
+-- the names of inputs: 1 to 64 of them
+abbrev pub inputs_of : List (List ℕ) → Option (List (List ℕ))
+inputs_of words = if nat_le 1 (length words) && nat_le (length words) 64 then Some words else None
+
+abbrev pub survey_of : List (List ℕ) → Option Command
+survey_of (image ∷ scaled ∷ machine ∷ loops ∷ words) = option_map (λ inputs. Survey image scaled machine loops inputs) (inputs_of words)
+survey_of words = None
+
+abbrev pub tune_of : List (List ℕ) → Option Command
+tune_of (image ∷ machine ∷ loops ∷ out ∷ words) = option_map (λ inputs. Tune image machine loops out inputs) (inputs_of words)
+tune_of words = None
+
 -- the command that these words are, if they are one
 abbrev pub command_of : List (List ℕ) → Option Command
 command_of [] = None
@@ -64,7 +78,18 @@ command_of (word ∷ words) =
     else if bytes_eq word (codes "make") then make_of words
     else if bytes_eq word (codes "lower") then lower_of words
     else if bytes_eq word (codes "check") then check_of words
+    else if bytes_eq word (codes "survey") then survey_of words
+    else if bytes_eq word (codes "tune") then tune_of words
     else None
+
+-- a loop file, if one is given
+abbrev pub loop_wants : Option (List ℕ) → List (List ℕ × ℕ)
+loop_wants None = []
+loop_wants (Some loops) = (loops, 1048576) ∷ []
+
+-- inputs that are loaded, each with its limit in bytes
+abbrev pub input_wants : List (List ℕ) → List (List ℕ × ℕ)
+input_wants inputs = map (λ input. (input, 1048576)) inputs
 
 -- the files that it loads, in order, each with its limit in bytes
 abbrev pub wants_of : Command → List (List ℕ × ℕ)
@@ -72,11 +97,12 @@ wants_of Help = []
 wants_of (Hold image machine loops out) = (image, 4194304) ∷ (machine, 1048576) ∷ (loops, 1048576) ∷ []
 wants_of (Rewrite image machine loops out) = (image, 4194304) ∷ (machine, 1048576) ∷ (loops, 1048576) ∷ []
 wants_of (Report image machine loops) = (image, 4194304) ∷ (machine, 1048576) ∷ (loops, 1048576) ∷ []
-wants_of (Simulate image machine input out None) = (image, 8388608) ∷ (machine, 1048576) ∷ (input, 1048576) ∷ []
-wants_of (Simulate image machine input out (Some loops)) = (image, 8388608) ∷ (machine, 1048576) ∷ (input, 1048576) ∷ (loops, 1048576) ∷ []
+wants_of (Simulate image machine input out loops) = (image, 8388608) ∷ (machine, 1048576) ∷ (input, 1048576) ∷ loop_wants loops
 wants_of (Make number size prefix) = []
 wants_of (Lower image jumps out) = (image, 4194304) ∷ (jumps, 1048576) ∷ []
 wants_of (Check image foreign machine loops) = (image, 4194304) ∷ (foreign, 8388608) ∷ (machine, 1048576) ∷ (loops, 1048576) ∷ []
+wants_of (Survey image scaled machine loops inputs) = (image, 4194304) ∷ (scaled, 8388608) ∷ (machine, 1048576) ∷ (loops, 1048576) ∷ input_wants inputs
+wants_of (Tune image machine loops out inputs) = (image, 4194304) ∷ (machine, 1048576) ∷ (loops, 1048576) ∷ input_wants inputs
 
 -- the statuses that a command gives, but for a fault and want of memory; and that of words that are none
 abbrev pub may_give : Option Command → ℕ → Bool
@@ -89,6 +115,8 @@ may_give (Some (Simulate image machine input out loops)) status = nat_le status 
 may_give (Some (Make number size prefix)) status = nat_le status 1 || (status == 5 || status == 6)
 may_give (Some (Lower image jumps out)) status = nat_le status 1
 may_give (Some (Check image foreign machine loops)) status = nat_le status 1 || status == 7
+may_give (Some (Survey image scaled machine loops inputs)) status = nat_le status 1
+may_give (Some (Tune image machine loops out inputs)) status = nat_le status 1
 
 -- it may want memory
 abbrev pub needs_memory : Option Command → Bool
@@ -101,6 +129,8 @@ needs_memory (Some (Simulate image machine input out loops)) = true
 needs_memory (Some (Make number size prefix)) = true
 needs_memory (Some (Lower image jumps out)) = true
 needs_memory (Some (Check image foreign machine loops)) = true
+needs_memory (Some (Survey image scaled machine loops inputs)) = true
+needs_memory (Some (Tune image machine loops out inputs)) = true
 
 -- the statuses that a run may end with
 abbrev pub may_answer : Option Command → ℕ → Bool

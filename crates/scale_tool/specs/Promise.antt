@@ -12,9 +12,14 @@ use Rattle.image_check.specs.Checked.{IsChecked}
 use Rattle.image_check.specs.SafeRuns.{IsCheckedSafely}
 use Rattle.image_lower.specs.Lowered.{IsLowered}
 use Rattle.image_lower.specs.Promise.{IsLoweredSafely}
+use Rattle.power_model.specs.Survey.{Survey as SurveyOfRuns}
+use Rattle.input_survey.specs.Surveyed.{IsSurveyed}
+use Rattle.input_survey.specs.Said.{SaysOfRuns}
+use Rattle.gain_tuner.specs.Choice.{IsTuning}
+use Rattle.gain_tuner.specs.Safe.{IsTunedSafely}
 use Rattle.host_files.specs.HostState.{Files, HostState}
 use Rattle.scale_tool.specs.Answer.{Giving, MadeFiles, AreMade}
-use Rattle.scale_tool.specs.Command.{Command, Hold, Rewrite, Make, Lower, Check, wants_of}
+use Rattle.scale_tool.specs.Command.{Command, Hold, Rewrite, Make, Lower, Check, Survey, Tune, wants_of}
 use Rattle.scale_tool.specs.Loading.{Loading, Whole, loading_of}
 
 -- what a stored image keeps to, with what is told of it
@@ -23,7 +28,7 @@ Keeping A = (stored : List ℕ) (told : A) → Type 0
 
 -- of a command that stored what it gives for its files: what OUT holds afterwards is given, with something that is told of it, and is safe with all that it is given
 -- with, what was printed among them
-pub record StoredPromise {A : Type 0} (Gives : Giving A) (Safe : Keeping A) (out : Option (List ℕ)) : Type 0 where
+pub record StoredPromise {A : Type 0} (Gives : Giving (List ℕ × A)) (Safe : Keeping A) (out : Option (List ℕ)) : Type 0 where
   pub stored : List ℕ
   pub stands : out ≡ Some stored
   pub told : A
@@ -39,6 +44,11 @@ KeepsLowered image jumps stored counts = All (λ b. b < 2 ^ 8) image → IsLower
 abbrev pub VerdictPromise : (image foreign machine loops : List ℕ) → Type 0
 VerdictPromise image foreign machine loops =
     (printed : Checked) → IsChecked image foreign machine loops (Ok (Yes printed)) → All (λ b. b < 256) foreign → IsCheckedSafely image foreign machine loops printed
+
+-- Of a survey: whatever may be printed for the loaded files says so of their runs, what was printed among it.
+abbrev pub SurveyPromise : (image scaled machine loops : List ℕ) → List (List ℕ) → Type 0
+SurveyPromise image scaled machine loops inputs =
+    (printed : SurveyOfRuns) → IsSurveyed image scaled machine loops inputs (Ok printed) → SaysOfRuns image scaled machine loops inputs printed
 
 -- of `make`: the files of the program of this number and size stand, and beside them what `rewrite` gives for them
 pub record MadePromise (number size : ℕ) (prefix : List ℕ) (after : Files) : Type 0 where
@@ -57,13 +67,18 @@ pub record MadePromise (number size : ℕ) (prefix : List ℕ) (after : Files) :
 -- number of cycles. Of `make`: its scaled image keeps what `rewrite` promises of the program, machine file and loop file that stand beside it. Of `lower`: the lowered
 -- image follows each run of the original one that keeps to the lists, with the same output and ending, and takes at most the cycles of a tree of the printed depth more
 -- for each listed jump that was taken. Of `check`, where it answers yes: the image of other make keeps what `rewrite` promises of the image that it stores, with the
--- printed start, times and number of added cycles.
+-- printed start, times and number of added cycles. Of `survey`: with each bound the printed most of its loop no run on the inputs breaks a bound, with a lesser one some
+-- run does, and where the scaled image is what `rewrite` stores, it ran in time, alike and for at most its held energy on each input on which the original run was kept and
+-- exited. Of `tune`: the stored image keeps what `rewrite` promises of the image that it stores, and its runs on the inputs that count take no more energy than those of the
+-- image that `hold` stores.
 abbrev pub Promise : Command → List (List ℕ) → Files → Type 0
 Promise (Hold image machine loops out) (i ∷ m ∷ l ∷ []) after = StoredPromise (IsHeld i m l) (IsHeldSafely i m l) (get after out)
 Promise (Rewrite image machine loops out) (i ∷ m ∷ l ∷ []) after = StoredPromise (IsRewritten i m l) (IsRewrittenSafely i m l) (get after out)
 Promise (Make number size prefix) [] after = MadePromise number size prefix after
 Promise (Lower image jumps out) (i ∷ j ∷ []) after = StoredPromise (IsLowered i j) (KeepsLowered i j) (get after out)
 Promise (Check image foreign machine loops) (i ∷ f ∷ m ∷ l ∷ []) after = VerdictPromise i f m l
+Promise (Survey image scaled machine loops inputs) (i ∷ s ∷ m ∷ l ∷ given) after = SurveyPromise i s m l given
+Promise (Tune image machine loops out inputs) (i ∷ m ∷ l ∷ given) after = StoredPromise (IsTuning i m l given) (IsTunedSafely i m l) (get after out)
 Promise command files after = Unit {0}
 
 abbrev pub PromisedOf : Command → Loading → Files → Type 0

@@ -1,9 +1,10 @@
 //! The words of a command line.
 
-ghost use Rattle.std.specs.Prelude.{◌≡◌, IfOk, option_map};
-ghost use Rattle.scale_tool.specs.Command.{command_of, help_of, hold_of, rewrite_of, report_words, simulate_of, make_of, lower_of, check_of, texts, wants_of};
+ghost use Rattle.std.specs.Prelude.{◌≡◌, ◌++◌, ◌∷◌, IfOk, OnOk, option_map};
+ghost use Rattle.scale_tool.specs.Command.{command_of, help_of, hold_of, rewrite_of, report_words, simulate_of, make_of, lower_of, check_of, survey_of, tune_of, input_wants, loop_wants, texts, wants_of};
 ghost use Rattle.scale_tool.specs.Views.{command_view, work_view, want_views};
 
+use crate::input_names::InputNames;
 use crate::load_all::Want;
 use crate::numbers::{Size, program_number, program_size};
 use std::alloc::{AllocError, Global};
@@ -67,6 +68,22 @@ pub enum Work<'a> {
         machine: &'a str,
         loops: &'a str,
     },
+    /// Runs the program and its scaled image over inputs, and tells what the runs cost and how often the loops turn.
+    Survey {
+        image: &'a str,
+        scaled: &'a str,
+        machine: &'a str,
+        loops: &'a str,
+        inputs: InputNames<'a>,
+    },
+    /// Stores the rewriting whose runs over inputs take the least energy.
+    Tune {
+        image: &'a str,
+        machine: &'a str,
+        loops: &'a str,
+        out: &'a str,
+        inputs: InputNames<'a>,
+    },
 }
 
 /// The command that these words are.
@@ -83,6 +100,8 @@ pub fn parse(words: &[String]) -> Option<Command<'_>>
         "make" => parse_make(words),
         "lower" => parse_lower(words),
         "check" => parse_check(words),
+        "survey" => parse_survey(words),
+        "tune" => parse_tune(words),
         _ => None,
     }
 }
@@ -199,6 +218,36 @@ fn parse_check(words: &[String]) -> Option<Command<'_>>
     }
 }
 
+fn parse_survey(words: &[String]) -> Option<Command<'_>>
+    ensures { option_map command_view result ≡ survey_of (texts words.now) }
+{
+    match words {
+        [image, scaled, machine, loops, inputs @ ..] => Some(Command::Work(Work::Survey {
+            image: image.as_str(),
+            scaled: scaled.as_str(),
+            machine: machine.as_str(),
+            loops: loops.as_str(),
+            inputs: InputNames::of(inputs)?,
+        })),
+        _ => None,
+    }
+}
+
+fn parse_tune(words: &[String]) -> Option<Command<'_>>
+    ensures { option_map command_view result ≡ tune_of (texts words.now) }
+{
+    match words {
+        [image, machine, loops, out, inputs @ ..] => Some(Command::Work(Work::Tune {
+            image: image.as_str(),
+            machine: machine.as_str(),
+            loops: loops.as_str(),
+            out: out.as_str(),
+            inputs: InputNames::of(inputs)?,
+        })),
+        _ => None,
+    }
+}
+
 // How many bytes an image may have, how many an image that is only run or checked, and how many any other file.
 const IMAGE_LIMIT: u64 = 4194304;
 
@@ -227,28 +276,14 @@ pub fn wants<'a>(alloc: Global, work: &Work<'a>) -> Result<Vec<Want<'a>>, AllocE
             image,
             machine,
             loops,
-        } => Ok(vec![in alloc;
-            want(image, IMAGE_LIMIT),
-            want(machine, TEXT_LIMIT),
-            want(loops, TEXT_LIMIT),
-        ]?),
+        } => program_wants(alloc, image, machine, loops, &[]),
         Work::Simulate {
             image,
             machine,
             input,
             loops,
             ..
-        } => {
-            let mut wants = vec![in alloc;
-                want(image, RUN_LIMIT),
-                want(machine, TEXT_LIMIT),
-                want(input, TEXT_LIMIT),
-            ]?;
-            if let Some(loops) = loops {
-                wants.push(want(loops, TEXT_LIMIT))?;
-            }
-            Ok(wants)
-        }
+        } => run_wants(alloc, image, machine, input, loops),
         Work::Make { .. } => Ok(Vec::new(alloc)),
         Work::Lower { image, jumps, .. } => {
             Ok(vec![in alloc; want(image, IMAGE_LIMIT), want(jumps, TEXT_LIMIT)]?)
@@ -258,13 +293,92 @@ pub fn wants<'a>(alloc: Global, work: &Work<'a>) -> Result<Vec<Want<'a>>, AllocE
             foreign,
             machine,
             loops,
-        } => Ok(vec![in alloc;
-            want(image, IMAGE_LIMIT),
-            want(foreign, RUN_LIMIT),
-            want(machine, TEXT_LIMIT),
-            want(loops, TEXT_LIMIT),
-        ]?),
+        } => pair_wants(alloc, image, foreign, machine, loops, &[]),
+        Work::Survey {
+            image,
+            scaled,
+            machine,
+            loops,
+            inputs,
+        } => pair_wants(alloc, image, scaled, machine, loops, inputs.names),
+        Work::Tune {
+            image,
+            machine,
+            loops,
+            inputs,
+            ..
+        } => program_wants(alloc, image, machine, loops, inputs.names),
     }
+}
+
+// A program with its machine file and its loop file, and inputs.
+fn program_wants<'a>(
+    alloc: Global,
+    image: &'a str,
+    machine: &'a str,
+    loops: &'a str,
+    inputs: &'a [String],
+) -> Result<Vec<Want<'a>>, AllocError>
+    ensures { IfOk result (λ wants. want_views wants.items ≡ (image.now, 4194304) ∷ (machine.now, 1048576) ∷ (loops.now, 1048576) ∷ input_wants (texts inputs.now)) }
+{
+    let mut wants = vec![in alloc;
+        want(image, IMAGE_LIMIT),
+        want(machine, TEXT_LIMIT),
+        want(loops, TEXT_LIMIT),
+    ]?;
+    push_inputs(&mut wants, inputs)?;
+    Ok(wants)
+}
+
+// The same with another image behind the first.
+fn pair_wants<'a>(
+    alloc: Global,
+    image: &'a str,
+    other: &'a str,
+    machine: &'a str,
+    loops: &'a str,
+    inputs: &'a [String],
+) -> Result<Vec<Want<'a>>, AllocError>
+    ensures { IfOk result (λ wants. want_views wants.items ≡ (image.now, 4194304) ∷ (other.now, 8388608) ∷ (machine.now, 1048576) ∷ (loops.now, 1048576) ∷ input_wants (texts inputs.now)) }
+{
+    let mut wants = vec![in alloc;
+        want(image, IMAGE_LIMIT),
+        want(other, RUN_LIMIT),
+        want(machine, TEXT_LIMIT),
+        want(loops, TEXT_LIMIT),
+    ]?;
+    push_inputs(&mut wants, inputs)?;
+    Ok(wants)
+}
+
+// A program with its machine file and an input, and its loop file, if one is given.
+fn run_wants<'a>(
+    alloc: Global,
+    image: &'a str,
+    machine: &'a str,
+    input: &'a str,
+    loops: Option<&'a str>,
+) -> Result<Vec<Want<'a>>, AllocError>
+    ensures { IfOk result (λ wants. want_views wants.items ≡ (image.now, 8388608) ∷ (machine.now, 1048576) ∷ (input.now, 1048576) ∷ loop_wants (option_map (λ l. l.now) loops.entry)) }
+{
+    let mut wants = vec![in alloc;
+        want(image, RUN_LIMIT),
+        want(machine, TEXT_LIMIT),
+        want(input, TEXT_LIMIT),
+    ]?;
+    if let Some(loops) = loops {
+        wants.push(want(loops, TEXT_LIMIT))?;
+    }
+    Ok(wants)
+}
+
+fn push_inputs<'a>(wants: &mut Vec<Want<'a>>, inputs: &'a [String]) -> Result<(), AllocError>
+    ensures { OnOk result (want_views wants.new.items ≡ want_views wants.old.items ++ input_wants (texts inputs.now)) }
+{
+    for name in inputs {
+        wants.push(want(name.as_str(), TEXT_LIMIT))?;
+    }
+    Ok(())
 }
 
 fn want(name: &str, limit: u64) -> Want<'_>

@@ -3,6 +3,7 @@
 
 mod command;
 mod deliver;
+mod input_names;
 mod load_all;
 mod making;
 mod numbers;

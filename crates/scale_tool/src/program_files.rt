@@ -1,7 +1,7 @@
-//! The files of a command that holds, rewrites or reports, and those of one that checks.
+//! The files of a command: of a program, of one with another image, and inputs beside them.
 
 ghost use Rattle.std.specs.Prelude.{◌≡◌, ◌≤◌, [], ◌∷◌, length};
-ghost use Rattle.std.specs.List.{AllZip};
+ghost use Rattle.std.specs.List.{All, AllZip};
 
 /// The bytes of an image, a machine file and a loop file, each within its limit.
 #[derive(Clone, Copy)]
@@ -30,32 +30,41 @@ impl<'a> ProgramFiles<'a> {
     }
 }
 
-/// The bytes of an image, of an image of other make, and of a machine file and a loop file, each within its limit.
+/// The bytes of an image, of another image that goes with it, and of a machine file and a loop file, each within its limit.
 #[derive(Clone, Copy)]
-pub struct ForeignFiles<'a> {
+pub struct PairFiles<'a> {
     pub image: &'a [u8],
-    pub foreign: &'a [u8],
+    pub other: &'a [u8],
     pub machine: &'a [u8],
     pub loops: &'a [u8],
     ghost short_image: { length image.now ≤ 4194304 },
-    ghost short_foreign: { length foreign.now ≤ 8388608 },
+    ghost short_other: { length other.now ≤ 8388608 },
     ghost short_machine: { length machine.now ≤ 1048576 },
     ghost short_loops: { length loops.now ≤ 1048576 },
 }
 
-impl<'a> ForeignFiles<'a> {
+impl<'a> PairFiles<'a> {
     ghost use Rattle.scale_tool.specs.Views.{files_view};
 
     /// The files, in this order.
-    pub fn of(files: &'a [Vec<u8>]) -> ForeignFiles<'a>
+    pub fn of(files: &'a [Vec<u8>]) -> PairFiles<'a>
         requires { AllZip (λ limit file. length file ≤ limit) (4194304 ∷ 8388608 ∷ 1048576 ∷ 1048576 ∷ []) (files_view files.now) }
-        ensures { files_view files.now ≡ result.image.now ∷ result.foreign.now ∷ result.machine.now ∷ result.loops.now ∷ [] }
+        ensures { files_view files.now ≡ result.image.now ∷ result.other.now ∷ result.machine.now ∷ result.loops.now ∷ [] }
     {
-        ForeignFiles {
+        PairFiles {
             image: &files[0],
-            foreign: &files[1],
+            other: &files[1],
             machine: &files[2],
             loops: &files[3],
         }
     }
+}
+
+/// The bytes of 1 to 64 inputs, each within its limit.
+#[derive(Clone, Copy)]
+pub struct Inputs<'a> {
+    pub items: &'a [Vec<u8>],
+    ghost some: { 1 ≤ length items.now },
+    ghost few: { length items.now ≤ 64 },
+    ghost short: { All (λ input. length input.items ≤ 1048576) items.now },
 }

@@ -4,19 +4,24 @@ ghost use Rattle.std.specs.Prelude.{◌≡◌, ◌≤◌, [], ◌∷◌, length,
 ghost use Rattle.std.specs.List.{AllZip};
 ghost use Rattle.std.specs.Result.{ForOk};
 ghost use Rattle.power_model.specs.Report.{report_view};
+ghost use Rattle.power_model.specs.Survey.{survey_view};
+ghost use Rattle.gain_tuner.specs.Choice.{IsTuning};
+ghost use Rattle.image_check.specs.Checked.{IsChecked};
 ghost use Rattle.image_lower.specs.Lowered.{IsLowered};
-ghost use Rattle.scale_report.specs.Texts.{HasSiteLine, lowered_text, summary_text};
+ghost use Rattle.input_survey.specs.Surveyed.{IsSurveyed};
+ghost use Rattle.scale_report.specs.Texts.{HasSiteLine, lowered_text, summary_text, survey_text, tuned_text};
 ghost use Rattle.scaler.specs.Held.{IsHeld};
+ghost use Rattle.scaler.specs.Planned.{IsPlanned};
 ghost use Rattle.scaler.specs.Rewritten.{IsRewritten};
-ghost use Rattle.scale_tool.specs.Answer.{plan_answer, refused, run_answer, run_status, stored_answer, verdict_answer, verdict_status, MakesMade, MakesReport, MakesRun, MakesStored, MakesVerdict, Makes};
+ghost use Rattle.scale_tool.specs.Answer.{refused, run_answer, run_status, stored_answer, text_answer, text_of_plan, verdict_answer, verdict_status, MakesMade, MakesRun, Makes, Tells};
 
 use crate::command::Work;
 use crate::making::made_reply;
 use crate::numbers::Size;
-use crate::program_files::{ForeignFiles, ProgramFiles};
-use power_model::RunReport;
-use scale_base::{End, Lowered, NoMemory, Refusal, ScalePlan, Stop, Summary, Verdict};
-use scale_report::{lowered_text, plan_text, refusal_text, run_text, summary_text, verdict_text};
+use crate::program_files::{Inputs, PairFiles, ProgramFiles};
+use power_model::{RunReport, SurveyReport};
+use scale_base::{End, Lowered, NoMemory, Refusal, ScalePlan, Stop, Summary, Tuned, Verdict};
+use scale_report::{lowered_text, plan_text, refusal_text, run_text, summary_text, survey_text, tuned_text, verdict_text};
 use std::alloc::Global;
 
 /// A file to store.
@@ -56,7 +61,7 @@ fn status_of_verdict(verdict: &Verdict) -> u8
 }
 
 impl Reply {
-    ghost use Rattle.scale_tool.specs.Views.{plan_view, reply_view, work_view, files_view, given_view, verdict_view};
+    ghost use Rattle.scale_tool.specs.Views.{plan_view, reply_view, work_view, files_view, file_view, given_by};
     ghost use Rattle.scale_tool.specs.Command.{wants_of, may_give};
 
     /// A refusal, and nothing to store.
@@ -96,7 +101,7 @@ impl Reply {
         out: &str,
         given: Result<(Vec<u8>, Summary), Stop>,
     ) -> Result<Reply, NoMemory>
-        ensures { IfOk result (λ reply. option_map (stored_answer summary_text out.now) (given_view given) ≡ Some (reply_view reply)) }
+        ensures { IfOk result (λ reply. option_map (stored_answer summary_text out.now) (given_by file_view given) ≡ Some (reply_view reply)) }
     {
         match given {
             Ok((bytes, summary)) => {
@@ -110,7 +115,7 @@ impl Reply {
 
     /// What `hold` gives for its three files.
     pub fn held(alloc: Global, out: &str, files: &ProgramFiles<'_>) -> Result<Reply, NoMemory>
-        ensures { IfOk result (λ reply. MakesStored (IsHeld files.now.image.now files.now.machine.now files.now.loops.now) summary_text out.now (reply_view reply)) }
+        ensures { IfOk result (λ reply. Tells (IsHeld files.now.image.now files.now.machine.now files.now.loops.now) (stored_answer summary_text out.now) (reply_view reply)) }
     {
         Reply::stored(
             alloc,
@@ -121,7 +126,7 @@ impl Reply {
 
     /// What `rewrite` gives for its three files.
     pub fn rewritten(alloc: Global, out: &str, files: &ProgramFiles<'_>) -> Result<Reply, NoMemory>
-        ensures { IfOk result (λ reply. MakesStored (IsRewritten files.now.image.now files.now.machine.now files.now.loops.now) summary_text out.now (reply_view reply)) }
+        ensures { IfOk result (λ reply. Tells (IsRewritten files.now.image.now files.now.machine.now files.now.loops.now) (stored_answer summary_text out.now) (reply_view reply)) }
     {
         Reply::stored(
             alloc,
@@ -136,7 +141,7 @@ impl Reply {
         out: &str,
         given: Result<(Vec<u8>, Lowered), Stop>,
     ) -> Result<Reply, NoMemory>
-        ensures { IfOk result (λ reply. option_map (stored_answer lowered_text out.now) (given_view given) ≡ Some (reply_view reply)) }
+        ensures { IfOk result (λ reply. option_map (stored_answer lowered_text out.now) (given_by file_view given) ≡ Some (reply_view reply)) }
     {
         match given {
             Ok((bytes, counts)) => {
@@ -151,7 +156,7 @@ impl Reply {
     /// What `lower` gives for its two files.
     pub fn lowered(alloc: Global, out: &str, image: &[u8], jumps: &[u8]) -> Result<Reply, NoMemory>
         requires { length image.now ≤ 4194304 }
-        ensures { IfOk result (λ reply. MakesStored (IsLowered image.now jumps.now) lowered_text out.now (reply_view reply)) }
+        ensures { IfOk result (λ reply. Tells (IsLowered image.now jumps.now) (stored_answer lowered_text out.now) (reply_view reply)) }
     {
         Reply::counted(alloc, out, image_lower::lower(alloc, image, jumps))
     }
@@ -159,7 +164,7 @@ impl Reply {
     // All that a rewriting finds, or the refusal.
     fn planned(alloc: Global, given: Result<ScalePlan, Stop>) -> Result<Reply, NoMemory>
         requires { ForOk given (λ plan. All (λ line. HasSiteLine line.edge.kind) plan.lines.items) }
-        ensures { IfOk result (λ reply. option_map plan_answer (plan_view given) ≡ Some (reply_view reply)) }
+        ensures { IfOk result (λ reply. option_map (text_answer text_of_plan) (given_by plan_view given) ≡ Some (reply_view reply)) }
     {
         match given {
             Ok(plan) => Ok(Reply {
@@ -174,7 +179,7 @@ impl Reply {
 
     /// What `report` gives for its three files.
     pub fn reported(alloc: Global, files: &ProgramFiles<'_>) -> Result<Reply, NoMemory>
-        ensures { IfOk result (λ reply. MakesReport files.now.image.now files.now.machine.now files.now.loops.now (reply_view reply)) }
+        ensures { IfOk result (λ reply. Tells (IsPlanned files.now.image.now files.now.machine.now files.now.loops.now) (text_answer text_of_plan) (reply_view reply)) }
     {
         Reply::planned(
             alloc,
@@ -184,7 +189,7 @@ impl Reply {
 
     // A verdict, or the refusal.
     fn judged(alloc: Global, given: Result<Verdict, Stop>) -> Result<Reply, NoMemory>
-        ensures { IfOk result (λ reply. option_map verdict_answer (verdict_view given) ≡ Some (reply_view reply)) }
+        ensures { IfOk result (λ reply. option_map verdict_answer (given_by (λ verdict. verdict) given) ≡ Some (reply_view reply)) }
     {
         match given {
             Ok(verdict) => Ok(Reply {
@@ -198,17 +203,93 @@ impl Reply {
     }
 
     /// What `check` gives for its four files.
-    pub fn checked(alloc: Global, files: &ForeignFiles<'_>) -> Result<Reply, NoMemory>
-        ensures { IfOk result (λ reply. MakesVerdict files.now.image.now files.now.foreign.now files.now.machine.now files.now.loops.now (reply_view reply)) }
+    pub fn checked(alloc: Global, files: &PairFiles<'_>) -> Result<Reply, NoMemory>
+        ensures { IfOk result (λ reply. Tells (IsChecked files.now.image.now files.now.other.now files.now.machine.now files.now.loops.now) verdict_answer (reply_view reply)) }
     {
         Reply::judged(
             alloc,
             image_check::check(
                 alloc,
                 files.image,
-                files.foreign,
+                files.other,
                 files.machine,
                 files.loops,
+            ),
+        )
+    }
+
+    // A survey, or the refusal.
+    fn seen(alloc: Global, given: Result<SurveyReport, Stop>) -> Result<Reply, NoMemory>
+        ensures { IfOk result (λ reply. option_map (text_answer survey_text) (given_by survey_view given) ≡ Some (reply_view reply)) }
+    {
+        match given {
+            Ok(report) => Ok(Reply {
+                stores: Vec::new(alloc),
+                text: survey_text(alloc, &report)?,
+                status: 0,
+            }),
+            Err(Stop::Refused(refusal)) => Reply::refused(alloc, &refusal),
+            Err(Stop::Memory) => Err(NoMemory),
+        }
+    }
+
+    /// What `survey` gives for its four files and its inputs.
+    pub fn surveyed(
+        alloc: Global,
+        files: &PairFiles<'_>,
+        inputs: &Inputs<'_>,
+    ) -> Result<Reply, NoMemory>
+        ensures { IfOk result (λ reply. Tells (IsSurveyed files.now.image.now files.now.other.now files.now.machine.now files.now.loops.now (files_view inputs.now.items.now)) (text_answer survey_text) (reply_view reply)) }
+    {
+        Reply::seen(
+            alloc,
+            input_survey::survey(
+                alloc,
+                files.image,
+                files.other,
+                files.machine,
+                files.loops,
+                inputs.items,
+            ),
+        )
+    }
+
+    // The choice of a tuning, with its numbers and the name under which it is stored; or the refusal.
+    fn chosen(
+        alloc: Global,
+        out: &str,
+        given: Result<(Vec<u8>, Tuned), Stop>,
+    ) -> Result<Reply, NoMemory>
+        ensures { IfOk result (λ reply. option_map (stored_answer tuned_text out.now) (given_by file_view given) ≡ Some (reply_view reply)) }
+    {
+        match given {
+            Ok((bytes, tuned)) => {
+                let text = tuned_text(alloc, &tuned)?;
+                Reply::of_file(alloc, out, bytes, text, 0)
+            }
+            Err(Stop::Refused(refusal)) => Reply::refused(alloc, &refusal),
+            Err(Stop::Memory) => Err(NoMemory),
+        }
+    }
+
+    /// What `tune` gives for its three files and its inputs.
+    pub fn tuned(
+        alloc: Global,
+        out: &str,
+        files: &ProgramFiles<'_>,
+        inputs: &Inputs<'_>,
+    ) -> Result<Reply, NoMemory>
+        ensures { IfOk result (λ reply. Tells (IsTuning files.now.image.now files.now.machine.now files.now.loops.now (files_view inputs.now.items.now)) (stored_answer tuned_text out.now) (reply_view reply)) }
+    {
+        Reply::chosen(
+            alloc,
+            out,
+            gain_tuner::tune(
+                alloc,
+                files.image,
+                files.machine,
+                files.loops,
+                inputs.items,
             ),
         )
     }
@@ -279,7 +360,20 @@ impl Reply {
                 prefix,
             } => Reply::of_number(alloc, number, size, prefix),
             Work::Lower { out, .. } => Reply::lowered(alloc, out, &files[0], &files[1]),
-            Work::Check { .. } => Reply::checked(alloc, &ForeignFiles::of(files)),
+            Work::Check { .. } => Reply::checked(alloc, &PairFiles::of(files)),
+            Work::Survey { .. } => {
+                let (first, inputs) = files.split_at(4);
+                Reply::surveyed(alloc, &PairFiles::of(first), &Inputs { items: inputs })
+            }
+            Work::Tune { out, .. } => {
+                let (first, inputs) = files.split_at(3);
+                Reply::tuned(
+                    alloc,
+                    out,
+                    &ProgramFiles::of(first),
+                    &Inputs { items: inputs },
+                )
+            }
         }
     }
 }

@@ -14,5 +14,5 @@ pub fn bad_command() -> &'static str
 pub fn help() -> &'static str
     ensures { result.now ≡ help_text }
 {
-    "scale hold IMAGE MACHINE LOOPS OUT\nscale rewrite IMAGE MACHINE LOOPS OUT\nscale report IMAGE MACHINE LOOPS\nscale simulate IMAGE MACHINE INPUT OUT [LOOPS]\nscale make NUMBER SIZE PREFIX\nscale help\nscale check IMAGE FOREIGN MACHINE LOOPS\nscale lower IMAGE JUMPS OUT\n"
+    "scale hold IMAGE MACHINE LOOPS OUT\nscale rewrite IMAGE MACHINE LOOPS OUT\nscale report IMAGE MACHINE LOOPS\nscale simulate IMAGE MACHINE INPUT OUT [LOOPS]\nscale make NUMBER SIZE PREFIX\nscale help\nscale check IMAGE FOREIGN MACHINE LOOPS\nscale lower IMAGE JUMPS OUT\nscale survey IMAGE SCALED MACHINE LOOPS INPUT ..\nscale tune IMAGE MACHINE LOOPS OUT INPUT ..\n"
 }

@@ -1,6 +1,8 @@
-use Rattle.scale_tool.proofs.Given.{made_of_verdict}
+use Rattle.image_check.specs.Checked.{IsChecked}
+use Rattle.scale_tool.specs.Answer.{verdict_answer}
+use Rattle.scale_tool.proofs.Given.{made_of_given}
 use Rattle.scale_tool.proofs.reply.Reply.checked.Goals as goal
 
 pub returns : goal.returns
 returns c =
-    made_of_verdict c.args.files.now.image.now c.args.files.now.foreign.now c.args.files.now.machine.now c.args.files.now.loops.now c.check.result c.judged.result c.check.ensures.verdict c.judged.ensures
+    made_of_given (λ verdict. verdict) (IsChecked c.args.files.now.image.now c.args.files.now.other.now c.args.files.now.machine.now c.args.files.now.loops.now) verdict_answer c.check.result c.judged.result c.check.ensures.verdict c.judged.ensures
