@@ -1,10 +1,10 @@
 -- The least cycles to an end are within the greatest cost of an edge, once for each edge and twice for each function.
-use Rattle.std.proofs.Common.{◌≡◌, ℕ, zero, suc, ◌+◌, ◌*◌, ◌<◌, ◌≤◌, Bool, true, false, not, ◌&&◌, ◌||◌, ◌⊎◌, inl, inr, ⊎_elim, List, [], ◌∷◌, length, Option, Some, None, is_some, unwrap_or, refl, sym, ap, ◌∙◌, subst, arith, mul-le-mul_right}
+use Rattle.std.proofs.Common.{◌≡◌, ℕ, zero, suc, ◌+◌, ◌*◌, ◌<◌, ◌≤◌, Bool, true, false, ⊎_elim, List, [], ◌∷◌, length, Option, Some, None, unwrap_or, refl, sym, ap, ◌∙◌, subst, arith, mul-le-mul_right}
 use Rattle.std.proofs.lemmas.Map.Steps.{length-le_from_distinct_below}
 use Rattle.cost_theory.specs.Graph.{Graph, Loops, total}
 use Rattle.cost_theory.specs.Worst.{at_some}
 use Rattle.cost_theory.specs.Accepted.{IsCallOrder}
-use Rattle.cost_theory.specs.Least.{IsLeast, IsLeastIfAny, callee_value, least_call, least_cost, WayToEnd, IsWay, way_cost, end_after}
+use Rattle.cost_theory.specs.Least.{IsLeast, IsLeastIfAny, callee_value, least_call, WayToEnd, IsWay, way_cost, end_after}
 use Rattle.cost_theory.specs.Least.WayToEnd.{Exits, Returns}
 use Rattle.cost_theory.specs.LeastTurns.{IsRun}
 use Rattle.cost_theory.proofs.Laws.{some_value, some_same}
