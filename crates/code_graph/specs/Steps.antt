@@ -1,5 +1,6 @@
 -- Where the words of a text go on by their numbers, and in which functions they are reached by their numbers.
 use Rattle.std.specs.Prelude.{◌≡◌, ◌≢◌, ℕ, ◌+◌, ◌%◌, ◌<◌, ◌↔◌, ◌⊎◌, Bool, true, false, List, length, slice_get, Option, Some, None}
+use Rattle.scale_base.specs.Image.{PLAIN_END}
 use Rattle.cost_theory.specs.declared.flow.Flow.{Flow}
 use Rattle.cost_theory.specs.declared.flow.Flow.TheVariants as flow
 use Rattle.code_text.specs.Table.{WordTable}
@@ -14,7 +15,7 @@ use Rattle.code_graph.specs.Reach.{WordStandsAt}
 
 -- no word stands where four more would wrap
 abbrev pub AreLow : List ℕ → Type 0
-AreLow addresses = (k v : ℕ) → slice_get addresses k ≡ Some v → v < 0xFF000000
+AreLow addresses = (k v : ℕ) → slice_get addresses k ≡ Some v → v < PLAIN_END
 
 -- The table has the words of a text, of which `word` says the way on: they ascend, stand at multiples of 4, and each address that is not refused is one of theirs.
 pub record IsWordTableOf (word : ℕ → Flow) (words : WordTable) : Type 0 where

@@ -7,13 +7,13 @@ use Rattle.scale_base.specs.declared.ranges.Range.{Range}
 use Rattle.scale_base.specs.declared.ranges.Patch.{Patch}
 use Rattle.scale_base.specs.Spans.{overlap, round_up}
 use Rattle.scale_base.specs.Elf.{e_phoff, e_phnum, program_header, program_headers}
-use Rattle.scale_base.specs.Image.{Image, stack, addresses_of, is_load, file_place}
+use Rattle.scale_base.specs.Image.{Image, stack, addresses_of, is_load, file_place, KEYED_FLAGS, WINDOW_START, WINDOW_LEN}
 
 -- ---- the base of the block
 
 -- the shadow counters and the port
 abbrev pub window : Span
-window = record { from = 0xFFFFF800; len = 0x800 }
+window = record { from = WINDOW_START; len = WINDOW_LEN }
 
 -- so many bytes from the base on touch no loaded segment, not the stack and not the window
 abbrev pub is_free : Image → ℕ → ℕ → Bool
@@ -96,7 +96,7 @@ entries file k n = flat_map (kept_entry file) (range_with_len k n)
 -- the entry of a block of so many bytes
 abbrev pub block_entry : ℕ → ℕ → ℕ → ℕ → List ℕ
 block_entry place base start len =
-    flat_map (little 4) (1 ∷ place ∷ base ∷ start ∷ len ∷ len ∷ 0x00100005 ∷ 4096 ∷ [])
+    flat_map (little 4) (1 ∷ place ∷ base ∷ start ∷ len ∷ len ∷ KEYED_FLAGS ∷ 4096 ∷ [])
 
 -- the number of the first loaded segment at or above the base, or of entries where there is none
 abbrev pub keyed_number : List ℕ → ℕ → ℕ

@@ -9,11 +9,9 @@ ghost use Rattle.scale_base.specs.Image as image;
 ghost use Rattle.elf_view.specs.Ascending.{AscendFrom, are_separate, ranges_by};
 
 use crate::segments::has_key;
-use scale_base::{ProgramHeader, Range, Refusal, Stop, TextPart};
+use scale_base::{PF_W, ProgramHeader, Range, Refusal, Stop, TextPart};
 use std::alloc::{AllocError, Global};
 use std::collections::BTreeMap;
-
-const PF_W: u32 = 2;
 
 /// The addresses of a part.
 pub fn range_of(part: &TextPart) -> Range

@@ -13,7 +13,7 @@ use crate::fields::word;
 use crate::ranges::{check_not_writable, insert_range, list_ranges, range_of};
 use crate::segments::{end_of, has_key};
 use crate::tables::{has_section_headers, read_section_header, section_header_count};
-use scale_base::{ProgramHeader, Range, Refusal, SectionHeader, Span, Stop, TextPart};
+use scale_base::{PF_X, ProgramHeader, Range, Refusal, SectionHeader, Span, Stop, TextPart};
 use std::alloc::Global;
 use std::collections::BTreeMap;
 
@@ -22,8 +22,6 @@ const SHT_PROGBITS: u32 = 1;
 const SHF_ALLOC: u32 = 2;
 
 const SHF_EXECINSTR: u32 = 4;
-
-const PF_X: u32 = 1;
 
 const HEADER_LEN: u32 = 52;
 

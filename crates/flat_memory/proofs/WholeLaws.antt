@@ -1,6 +1,6 @@
 -- Who may use all the addresses of a page, and what the loaded pages hold.
 use Rattle.std.proofs.Common.{rules, ◌≡◌, ℕ, zero, suc, ◌+◌, ◌++◌, ◌-◌, ◌*◌, ◌/◌, ◌%◌, ◌<◌, ◌≤◌, Bool, true, false, not, List, [], ◌∷◌, length, get_or, Option, Some, None, is_some, refl, ap, sym, ◌∙◌, subst, arith, inl, inr, vec_len}
-use Rattle.std.specs.Prelude.{◌&&◌, ◌||◌, nat_lt, slice_index, if◌then◌else◌}
+use Rattle.std.specs.Prelude.{◌&&◌, ◌||◌, nat_le, nat_lt, slice_index, if◌then◌else◌}
 use Rattle.std.specs.List.{list_any}
 use Rattle.std.proofs.Math.Path.{fun_ext}
 use Rattle.std.proofs.lemmas.Bool.{cases_lt, cases_eq, cond-true, cond-false}
@@ -103,7 +103,7 @@ use_blocks m at whole away none h = record {
 pub all_in_stack : (from last at : ℕ) → (in_stack from && in_stack last) ≡ true → from ≤ at → at ≤ last → in_stack at ≡ true
 all_in_stack from last at h low high = grind (arith, nat_tests)
 
-pub none_in_stack : (from last at : ℕ) → (nat_lt last 0x7FFC0000 || nat_lt 0x7FFFFFFF from) ≡ true → from ≤ at → at ≤ last → in_stack at ≡ false
+pub none_in_stack : (from last at : ℕ) → (nat_lt last 0x7FFC0000 || nat_le 0x80000000 from) ≡ true → from ≤ at → at ≤ last → in_stack at ≡ false
 none_in_stack from last at h low high = grind (arith, nat_tests)
 
 -- ---- a list that grows

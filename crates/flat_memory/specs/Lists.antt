@@ -1,5 +1,6 @@
 -- What a memory of lists stands for.
 use Rattle.std.specs.Prelude.{ℕ, ◌-◌, List, slice_index, if◌then◌else◌}
+use Rattle.scale_base.specs.Image.{STACK_START}
 use Rattle.scale_base.specs.Layout.{Layout, in_stack}
 use Rattle.flat_memory.specs.Blocks.{parts_of, byte_in_blocks}
 use Rattle.flat_memory.specs.declared.block.Block.{Block}
@@ -7,7 +8,7 @@ use Rattle.flat_memory.specs.declared.list_memory.ListMemory.{ListMemory}
 
 -- the byte at an address: the stack's, or else a block's
 unfoldable pub memory_byte : List ℕ → List Block → ℕ → ℕ
-memory_byte stack blocks at = if in_stack at then slice_index stack (at - 0x7FFC0000) else byte_in_blocks blocks at
+memory_byte stack blocks at = if in_stack at then slice_index stack (at - STACK_START) else byte_in_blocks blocks at
 
 abbrev pub list_bytes : ListMemory → ℕ → ℕ
 list_bytes m = memory_byte m.stack.items m.blocks.items

@@ -1,6 +1,6 @@
 //! A segment in memory.
 
-const KEY: u32 = 0x0010_0000;
+use scale_base::KEY_FLAG;
 
 /// The bytes of a segment from an address on, with the segment's flags (`p_flags`).
 #[derive(Drop)]
@@ -32,7 +32,7 @@ impl Block {
     pub fn allows(&self, flag: u32) -> bool
         ensures { result ≡ words.allows flag self.now }
     {
-        self.flags & KEY == 0 && self.flags & flag != 0
+        self.flags & KEY_FLAG == 0 && self.flags & flag != 0
     }
 
     pub fn byte(&self, at: u32) -> u8

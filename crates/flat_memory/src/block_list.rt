@@ -10,10 +10,7 @@ ghost use Rattle.flat_memory.specs.Wholes.{BlocksAllow};
 
 use crate::block::Block;
 use crate::page::PageUse;
-
-const PF_W: u32 = 2;
-
-const PF_R: u32 = 4;
+use scale_base::{PF_R, PF_W};
 
 /// How many of the blocks begin at or below an address.
 fn place_of(blocks: &[Block], at: u32) -> usize

@@ -1,6 +1,7 @@
 //! A memory of lists of bytes.
 
 ghost use Rattle.std.specs.Prelude.{◌≡◌, vec_len, IsTrue};
+ghost use Rattle.scale_base.specs.Image.{STACK_LEN};
 ghost use Rattle.flat_memory.specs.Ordered.{are_ordered, is_ordered_text};
 
 use crate::block::Block;
@@ -13,7 +14,7 @@ pub struct ListMemory {
     pub(crate) blocks: Vec<Block>,
     pub(crate) text: Vec<Range>,
     pub(crate) keyed: Option<Range>,
-    ghost stack_len: { vec_len stack ≡ 0x40000 },
+    ghost stack_len: { vec_len stack ≡ STACK_LEN },
     ghost ordered: { IsTrue (are_ordered blocks.items) },
     ghost ordered_text: { IsTrue (is_ordered_text text.items) },
 }

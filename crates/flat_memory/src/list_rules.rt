@@ -10,18 +10,12 @@ use crate::block_list;
 use crate::list_memory::ListMemory;
 use crate::memory::Memory;
 use crate::text_ranges::in_text;
-use scale_base::Range;
-
-const PF_W: u32 = 2;
-
-const PF_R: u32 = 4;
-
-const STACK: u32 = 0x7FFC_0000;
+use scale_base::{PF_R, PF_W, Range, STACK_LEN, STACK_START};
 
 pub fn in_stack(at: u32) -> bool
     ensures { result ≡ rules.in_stack at }
 {
-    at >= STACK && at < 0x8000_0000
+    at >= STACK_START && at < STACK_START + STACK_LEN
 }
 
 fn is_in(range: &Range, at: u32) -> bool
@@ -38,7 +32,7 @@ impl Memory for ListMemory {
     #[tactic(auto, unfolding(crate::specs::Lists::memory_byte))]
     fn byte(&self, at: u32) -> u8 {
         if in_stack(at) {
-            self.stack[(at - STACK) as usize]
+            self.stack[(at - STACK_START) as usize]
         } else {
             block_list::byte_in(&self.blocks, at)
         }
@@ -47,7 +41,7 @@ impl Memory for ListMemory {
     #[tactic(auto, using(crate::proofs::ListLaws::stack_written, crate::proofs::ListLaws::blocks_written, crate::proofs::BlockLaws::whole_again))]
     fn set_byte(&mut self, at: u32, value: u8) {
         if in_stack(at) {
-            self.stack[(at - STACK) as usize] = value;
+            self.stack[(at - STACK_START) as usize] = value;
         } else {
             block_list::put_in(&mut self.blocks, at, value);
         }

@@ -11,7 +11,7 @@ ghost use Rattle.flat_memory.specs.Loaded.{IsBlockOf, AreBlocksOf, offset_byte};
 use crate::block::Block;
 use crate::list_memory::ListMemory;
 use elf_view::{ImageView, Segment};
-use scale_base::{NoMemory, Range};
+use scale_base::{NoMemory, Range, STACK_LEN};
 use std::alloc::Global;
 
 /// Whether the byte at this place of the file is loaded as zero.
@@ -81,7 +81,7 @@ pub fn load_list(alloc: Global, view: &ImageView<'_>) -> Result<ListMemory, NoMe
     ensures layout { IfOk result (λ m. list_layout m ≡ rules.layout_of view.now) }
 {
     let blocks = load_blocks(alloc, view)?;
-    let stack = zeros(alloc, 0x4_0000)?;
+    let stack = zeros(alloc, STACK_LEN as usize)?;
     let text = Vec::from_slice(alloc, view.text())?;
     let keyed = keyed_range(view);
     Ok(ListMemory {

@@ -1,6 +1,6 @@
 //! The memory of pages of an image before its first step.
 
-ghost use Rattle.std.specs.Prelude.{◌≡◌, ◌&&◌, ◌||◌, nat_lt, ◌+◌, ◌*◌, ◌≤◌, ◌<◌, ◌^◌, ℕ, IfOk, vec_len, slice_index_or, Option};
+ghost use Rattle.std.specs.Prelude.{◌≡◌, ◌&&◌, ◌||◌, nat_lt, nat_le, ◌+◌, ◌*◌, ◌≤◌, ◌<◌, ◌^◌, ℕ, IfOk, vec_len, slice_index_or, Option};
 ghost use Rattle.scale_base.specs.Image as image;
 ghost use Rattle.scale_base.specs.Layout as rules;
 ghost use Rattle.flat_memory.specs.Lists.{list_layout};
@@ -20,11 +20,8 @@ use crate::page_memory::PageMemory;
 use crate::page_table::{PageGroup, PageTable};
 use crate::text_ranges::text_whole;
 use elf_view::ImageView;
-use scale_base::NoMemory;
+use scale_base::{NoMemory, STACK_LEN, STACK_START};
 use std::alloc::Global;
-
-/// The first and the last address of the stack.
-const STACK: (u32, u32) = (0x7FFC_0000, 0x7FFF_FFFF);
 
 /// Whether the block has an address from one to another.
 fn touches(block: &Block, from: u32, last: u32) -> bool {
@@ -51,9 +48,9 @@ fn is_within_stack(from: u32, last: u32) -> bool
 
 /// Whether none of the addresses from one to another is the stack's.
 fn is_off_stack(from: u32, last: u32) -> bool
-    ensures { result ≡ (nat_lt last 0x7FFC0000 || nat_lt 0x7FFFFFFF from) }
+    ensures { result ≡ (nat_lt last image.STACK_START || nat_le (image.STACK_START + image.STACK_LEN) from) }
 {
-    last < STACK.0 || from > STACK.1
+    last < STACK_START || from >= STACK_START + STACK_LEN
 }
 
 /// Who may use each of the 4,096 addresses from one on.

@@ -10,11 +10,8 @@ ghost use Rattle.foreign_scan.specs.Sites.{site_fragments};
 use crate::fragment::ForeignFragment;
 use crate::lists::GraphLists;
 use crate::site::Site;
-use scale_base::{Edge, EdgeKind, NoMemory};
+use scale_base::{Edge, EdgeKind, NoMemory, WINDOW_WORDS};
 use std::alloc::Global;
-
-/// How many words the window has, of which the shadow counters are some.
-const WINDOW_WORDS: usize = 512;
 
 fn kind_place(kind: EdgeKind) -> u8
     ensures { result ≡ scanned.kind_place kind }

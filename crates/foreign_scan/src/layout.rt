@@ -6,10 +6,8 @@ ghost use Rattle.elf_view.specs.Segment.{segment_value};
 ghost use Rattle.foreign_scan.specs.Scanned.{segment_place, segment_places, IsLaidAlike};
 
 use elf_view::{ImageView, Segment};
-use scale_base::NoMemory;
+use scale_base::{KEY_FLAG, NoMemory};
 use std::alloc::Global;
-
-const KEY: u32 = 0x0010_0000;
 
 /// The place, the length and the flags of a segment.
 #[derive(Clone, Copy, Debug, PartialEq, Eq)]
@@ -22,7 +20,7 @@ pub struct SegmentPlace {
 fn is_plain(segment: &Segment<'_>) -> bool
     ensures { result ≡ rules.is_plain_segment (segment_value segment.now) }
 {
-    segment.flags & KEY == 0
+    segment.flags & KEY_FLAG == 0
 }
 
 fn place_of(segment: &Segment<'_>) -> SegmentPlace

@@ -1,13 +1,14 @@
 -- States of runs over a text: no step changes the text, and what is known of x17 holds.
 use Rattle.std.specs.Prelude.{◌≡◌, ℕ, ◌%◌, ◌≤◌, true, false, length, All, Some}
 use Rattle.scale_base.specs.declared.ranges.Range.{Range}
+use Rattle.scale_base.specs.Image.{PLAIN_END}
 use Rattle.scale_base.specs.Layout.{in_stack}
 use Rattle.scale_base.specs.State.{Setting, State, reg}
 use Rattle.code_text.specs.Text.{Text, is_text_address, known_within}
 
 -- whole words, below the addresses that a program may not use
 abbrev pub IsTextRange : Range → Type 0
-IsTextRange r = (r.from % 4 ≡ 0) × (r.to % 4 ≡ 0) × (r.to ≤ 0xFF000000)
+IsTextRange r = (r.from % 4 ≡ 0) × (r.to % 4 ≡ 0) × (r.to ≤ PLAIN_END)
 
 -- the text is that of the machine's layout, and no address of it lies in the stack
 pub record IsTextOf (t : Text) (env : Setting) : Type 0 where

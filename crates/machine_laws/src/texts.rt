@@ -2,7 +2,7 @@
 //! where the ranges of the text lie. System V ABI, chapter 5, "Program Loading".
 
 ghost use Rattle.std.specs.Prelude.{◌≡◌, ℕ, ◌%◌, ◌<◌, ◌≤◌, true, List, All, Some, Ok};
-ghost use Rattle.scale_base.specs.Image.{Image, image_of, loaded_byte, text_word};
+ghost use Rattle.scale_base.specs.Image.{Image, PLAIN_END, image_of, loaded_byte, text_word};
 ghost use Rattle.scale_base.specs.Layout.{can_fetch, layout_of};
 ghost use Rattle.scale_base.specs.State.{word_at};
 
@@ -19,5 +19,5 @@ pub fn text_ranges_are_aligned()
     ensures first { (file : List ℕ) (image : Image) → image_of file ≡ Ok image → All (λ r. r.from % 4 ≡ 0) image.text }
     ensures last { (file : List ℕ) (image : Image) → image_of file ≡ Ok image → All (λ r. r.to % 4 ≡ 0) image.text }
     ensures nonempty { (file : List ℕ) (image : Image) → image_of file ≡ Ok image → All (λ r. r.from < r.to) image.text }
-    ensures below { (file : List ℕ) (image : Image) → image_of file ≡ Ok image → All (λ r. r.to ≤ 0xFF000000) image.text }
+    ensures below { (file : List ℕ) (image : Image) → image_of file ≡ Ok image → All (λ r. r.to ≤ PLAIN_END) image.text }
 {}

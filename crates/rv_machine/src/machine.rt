@@ -3,7 +3,7 @@
 ghost use Rattle.std.specs.Prelude.{◌≡◌, ◌≤◌, ◌<◌, ◌^◌, slice_index, vec_len, vec_capacity};
 
 use flat_memory::Memory;
-use scale_base::NoMemory;
+use scale_base::{NoMemory, PORT, STACK_POINTER};
 use std::alloc::Global;
 
 /// What the program reads and writes. The output has at most 1,048,576 bytes, and room for so many in all.
@@ -54,9 +54,9 @@ impl<M: Memory + Drop> Machine<M> {
     {
         let output = Vec::with_capacity(alloc, 1 << 20)?;
         let mut regs = [0; 32];
-        regs[2] = 0x7FFF_FFF0;
+        regs[2] = STACK_POINTER;
         let mut window = [0; 512];
-        window[511] = u32::from(start);
+        window[PORT] = u32::from(start);
         let world = World {
             input,
             used: 0,

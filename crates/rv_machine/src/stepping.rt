@@ -18,7 +18,7 @@ use crate::services::service;
 use crate::{access, arith};
 use flat_memory::Memory;
 use rv_decode::decode;
-use scale_base::{Instr, LoadOp, StepEnd, StoreOp, Trap, TrapKind};
+use scale_base::{Instr, LoadOp, PORT, StepEnd, StoreOp, Trap, TrapKind, WINDOW_START};
 
 /// One step of the machine: one instruction. After a trap or an exit the machine is as before.
 #[inline(never)]
@@ -177,7 +177,7 @@ fn load<M: Memory>(machine: &mut Machine<M>, op: LoadOp, rd: u8, at: u32) -> Eff
         return stops(TrapKind::LoadMisaligned, at);
     }
     if access::uses_window(&machine.memory, pc, at, width) {
-        let word = machine.window[((at - 0xFFFF_F800) / 4) as usize];
+        let word = machine.window[((at - WINDOW_START) / 4) as usize];
         set(machine, rd, word);
     } else if access::can_read(&machine.memory, pc, at, width) {
         let value = loaded(&machine.memory, op, at);
@@ -232,13 +232,13 @@ fn store_word<M: Memory>(machine: &mut Machine<M>, at: u32, value: u32) -> Effec
     ensures setting { machine_setting M.layout machine.new ≡ machine_setting M.layout machine.old }
     ensures level { LevelBelow result machine.old.levels }
 {
-    let index = ((at - 0xFFFF_F800) / 4) as usize;
-    if index == 511 && value >= u32::from(machine.levels) {
+    let index = ((at - WINDOW_START) / 4) as usize;
+    if index == PORT && value >= u32::from(machine.levels) {
         return stops(TrapKind::StoreFault, at);
     }
     machine.window[index] = value;
     machine.pc = machine.pc.wrapping_add(4);
-    if index == 511 {
+    if index == PORT {
         Effect::Switched(value as u8)
     } else {
         Effect::Went

@@ -60,6 +60,10 @@ PF_R = 4
 abbrev pub KEY : ℕ
 KEY = 0x00100000
 
+-- all the flags of the keyed segment: the key, PF_R and PF_X
+abbrev pub KEYED_FLAGS : ℕ
+KEYED_FLAGS = 0x00100005
+
 abbrev pub is_load : ProgramHeader → Bool
 is_load h = h.p_type == PT_LOAD
 
@@ -97,16 +101,34 @@ table_rules file =
 
 -- ---- segments
 
+-- the first address of the stack, and its number of bytes
+abbrev pub STACK_START : ℕ
+STACK_START = 0x7FFC0000
+
+abbrev pub STACK_LEN : ℕ
+STACK_LEN = 0x40000
+
 abbrev pub stack : Span
-stack = record { from = 0x7FFC0000; len = 0x40000 }
+stack = record { from = STACK_START; len = STACK_LEN }
+
+-- the first address that no segment without the key may have
+abbrev pub PLAIN_END : ℕ
+PLAIN_END = 0xFF000000
+
+-- the first address of the window, which has the shadow words and the speed port, and its number of bytes
+abbrev pub WINDOW_START : ℕ
+WINDOW_START = 0xFFFFF800
+
+abbrev pub WINDOW_LEN : ℕ
+WINDOW_LEN = 0x800
 
 abbrev pub is_plain_place : ProgramHeader → Bool
-is_plain_place h = ends_by 0xFF000000 (memory_range h) && not (overlap (memory_range h) stack)
+is_plain_place h = ends_by PLAIN_END (memory_range h) && not (overlap (memory_range h) stack)
 
 abbrev pub is_keyed_place : ProgramHeader → Bool
 is_keyed_place h =
-    (h.p_flags == 0x00100005) && (h.p_vaddr % 4096 == 0) && (h.p_filesz == h.p_memsz) && nat_le h.p_memsz 4194304
-    && ends_by 0xFFFFF800 (memory_range h) && not (overlap (memory_range h) stack)
+    (h.p_flags == KEYED_FLAGS) && (h.p_vaddr % 4096 == 0) && (h.p_filesz == h.p_memsz) && nat_le h.p_memsz 4194304
+    && ends_by WINDOW_START (memory_range h) && not (overlap (memory_range h) stack)
 
 abbrev pub is_fit : ProgramHeader → Bool
 is_fit h = nat_le h.p_filesz h.p_memsz && (if has_key h then is_keyed_place h else is_plain_place h)

@@ -5,7 +5,7 @@ use Rattle.scale_base.specs.declared.ranges.Range.{Range}
 use Rattle.scale_base.specs.declared.ranges.Span.{Span}
 use Rattle.scale_base.specs.Spans.{in_span}
 use Rattle.scale_base.specs.Elf.{has}
-use Rattle.scale_base.specs.Image.{Image, LoadSegment, addresses_of, is_in, stack, KEY, PF_W, PF_R}
+use Rattle.scale_base.specs.Image.{Image, LoadSegment, addresses_of, is_in, stack, KEY, PF_W, PF_R, WINDOW_START}
 
 -- a segment without the key: its addresses, and who may use them
 pub record Part : Type 0 where
@@ -48,7 +48,7 @@ abbrev pub in_stack : ℕ → Bool
 in_stack at = in_span stack at
 
 abbrev pub in_window : ℕ → Bool
-in_window at = nat_le 0xFFFFF800 at
+in_window at = nat_le WINDOW_START at
 
 -- the permissions without the keyed segment and the window
 unfoldable pub may_read : Layout → ℕ → Bool

@@ -8,7 +8,7 @@ use Rattle.scale_base.specs.declared.ranges.Keyed.{Keyed}
 use Rattle.scale_base.specs.Image.{Image, loaded_byte}
 use Rattle.scale_base.specs.Layout.{layout_of}
 use Rattle.scale_base.specs.State.{Setting, State}
-use Rattle.scale_base.specs.Step.{step}
+use Rattle.scale_base.specs.Step.{step, port_index}
 
 -- how a run stands
 pub data Standing : Type 0 where
@@ -22,13 +22,17 @@ pub record Run : Type 0 where
   pub state : State
   pub standing : Standing
 
+-- the stack pointer (x2) at the start
+abbrev pub STACK_POINTER : ℕ
+STACK_POINTER = 0x7FFFFFF0
+
 -- the state at the start
 abbrev pub start : (ℕ → ℕ) → ℕ → ℕ → State
 start bytes entry level = record {
   pc = entry;
-  regs = slice_set (replicate 32 0) 2 0x7FFFFFF0;
+  regs = slice_set (replicate 32 0) 2 STACK_POINTER;
   bytes = bytes;
-  window = slice_set (replicate 512 0) 511 level;
+  window = slice_set (replicate 512 0) port_index level;
   used = 0;
   output = [];
 }

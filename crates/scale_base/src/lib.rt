@@ -11,6 +11,7 @@ mod endings;
 mod fragments;
 mod headers;
 mod instruction;
+mod layout;
 mod names;
 mod plan;
 mod ranges;
@@ -24,6 +25,10 @@ pub use endings::{End, Kept};
 pub use fragments::{Fragment, Mark, Rows};
 pub use headers::{ProgramHeader, SectionHeader};
 pub use instruction::{BranchOp, ImmOp, Instr, LoadOp, RegOp, StoreOp};
+pub use layout::{
+    KEY_FLAG, KEYED_FLAGS, PF_R, PF_W, PF_X, PLAIN_END, PORT, STACK, STACK_LEN, STACK_POINTER,
+    STACK_START, WINDOW, WINDOW_LEN, WINDOW_START, WINDOW_WORDS,
+};
 pub use names::{Cycle, Name};
 pub use plan::{ScalePlan, SiteLine};
 pub use ranges::{Keyed, Patch, Range, Span, TextPart};

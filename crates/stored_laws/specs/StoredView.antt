@@ -2,7 +2,7 @@
 use Rattle.std.specs.Prelude.{◌≡◌, ℕ, ◌+◌, ◌^◌, ◌<◌, ◌≤◌, length, List, [], ◌∷◌, map, All, IsTrue, nat_le, if◌then◌else◌, Some, None, slice_range}
 use Rattle.scale_base.specs.declared.ranges.Patch.{Patch}
 use Rattle.scale_base.specs.Spans.{round_up}
-use Rattle.scale_base.specs.Image.{Image, LoadSegment, is_word_address}
+use Rattle.scale_base.specs.Image.{Image, LoadSegment, is_word_address, KEYED_FLAGS}
 use Rattle.elf_patch.specs.Stored.{IsStubBase}
 
 -- what may be stored of an image: patches on words of its text, and a block at its base
@@ -25,7 +25,7 @@ insert_segment (x ∷ xs) s = if nat_le s.from x.from then s ∷ x ∷ xs else x
 
 -- the segment of a block at the base, behind an original file
 abbrev pub block_segment : List ℕ → ℕ → List ℕ → LoadSegment
-block_segment original base block = record { from = base; len = length block; flags = 0x00100005; file_at = round_up 4096 (length original); file = block }
+block_segment original base block = record { from = base; len = length block; flags = KEYED_FLAGS; file_at = round_up 4096 (length original); file = block }
 
 -- the original image over the stored file, with the block as its keyed segment and the level that a run starts at
 unfoldable pub stored_view : Image → List ℕ → ℕ → List ℕ → ℕ → Image

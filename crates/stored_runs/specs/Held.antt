@@ -7,6 +7,7 @@ use Rattle.scale_base.specs.Word.{FieldsInRange, Encodes}
 use Rattle.scale_base.specs.declared.stepping.Stepped.{Stepped}
 use Rattle.scale_base.specs.declared.stepping.Class.TheVariants as classes
 use Rattle.scale_base.specs.declared.stepping.Move.TheVariants as moves
+use Rattle.scale_base.specs.Image.{WINDOW_START}
 use Rattle.scale_base.specs.Layout.{is_keyed, can_fetch}
 use Rattle.scale_base.specs.Arith.{moved_by}
 use Rattle.scale_base.specs.State.{Setting, State, word_at}
@@ -90,7 +91,7 @@ pub record WayStands (env : Setting) (bytes : ℕ → ℕ) (at : ℕ) (w : Way) 
   pub code : Stand env bytes at (way_code at table w)
   pub rows : Lie env bytes table (way_rows w)
   pub even : table % 4 ≡ 0
-  pub high : table + 4 * length (way_rows w) ≤ 0xFFFFF800
+  pub high : table + 4 * length (way_rows w) ≤ WINDOW_START
 
 -- The stub of a branch: the same branch to any other address, behind it the way that is not taken, and there the way that is.
 pub record ForkStands (env : Setting) (bytes : ℕ → ℕ) (at : ℕ) (op : BranchOp) (rs1 rs2 : ℕ) (untaken taken : Way) : Type 0 where

@@ -6,6 +6,7 @@ use Rattle.scale_base.specs.Class.{class_of}
 use Rattle.scale_base.specs.Word.{Encodes}
 use Rattle.scale_base.specs.Layout.{is_keyed, can_fetch, can_read}
 use Rattle.scale_base.specs.State.{Setting, State, reg, word_at}
+use Rattle.scale_base.specs.Image.{WINDOW_START}
 use Rattle.scale_base.specs.Step.{move_of}
 use Rattle.scale_base.specs.Run.{GoesOn, run}
 use Rattle.stub_writer.specs.Fragments.{t0, t1, port}
@@ -90,7 +91,7 @@ cleared s counter = behind s 1 (slice_set s.window counter 0)
 -- the instruction at pc may read a word there, which is no word of the window
 pub record IsRowAt (env : Setting) (pc at : ℕ) : Type 0 where
   pub aligned : at % 4 ≡ 0
-  pub outside : at < 0xFFFFF800
+  pub outside : at < WINDOW_START
   pub allowed : can_read env.layout pc at 4 ≡ true
 
 -- where an Exit's row stands: the counter, shifted

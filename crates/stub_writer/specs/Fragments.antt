@@ -7,6 +7,7 @@ use Rattle.scale_base.specs.declared.instruction.RegOp.TheVariants.{Add, Srl}
 use Rattle.scale_base.specs.declared.instruction.Instr.{Instr}
 use Rattle.scale_base.specs.declared.instruction.Instr.TheVariants as instrs
 use Rattle.scale_base.specs.Reading.{signed_of}
+use Rattle.scale_base.specs.Step.{port_index}
 use Rattle.scale_base.specs.declared.fragments.Fragment.{Fragment}
 use Rattle.scale_base.specs.declared.fragments.Fragment.TheVariants.{Switch, Exit, Reset, Count}
 
@@ -18,7 +19,7 @@ t1 = 6
 
 -- the window's word of the speed port
 abbrev pub port : ℕ
-port = 511
+port = port_index
 
 -- the two parts of a number: a LUI and an added number of twelve bits
 abbrev pub hi : ℕ → ℕ
@@ -107,7 +108,7 @@ rows_len f = length (fragment_rows f)
 
 -- the word of the window is a shadow counter
 abbrev pub IsShadow : ℕ → Type 0
-IsShadow k = (2 ≤ k) × (k < 511)
+IsShadow k = (2 ≤ k) × (k < port)
 
 -- what is asked of a fragment: its counter is one, and its shift fits
 abbrev pub IsFragment : Fragment → Type 0

@@ -5,14 +5,11 @@ ghost use Rattle.stub_writer.specs.Fragments as fragments;
 ghost use Rattle.stub_writer.specs.Stubs as stubs;
 
 use crate::words::{address, push_code};
-use scale_base::{Fragment, ImmOp, Instr, LoadOp, NoMemory, RegOp, StoreOp};
+use scale_base::{Fragment, ImmOp, Instr, LoadOp, NoMemory, PORT, RegOp, StoreOp};
 
 const X5: u8 = 5;
 
 const X6: u8 = 6;
-
-/// The window's word of the speed port.
-const PORT: u16 = 511;
 
 /// Where the window's word lies, seen from x0, in bytes.
 fn slot(k: u16) -> i32
@@ -77,7 +74,7 @@ pub fn switch_code(word: u32) -> [Instr; 11]
     [
         sw(X5, 0),
         sw(X6, 1),
-        lw(X5, PORT),
+        lw(X5, PORT as u16),
         immediate(ImmOp::Slli, X5, 2),
         Instr::Lui {
             rd: X6,
@@ -91,7 +88,7 @@ pub fn switch_code(word: u32) -> [Instr; 11]
             rs2: X5,
         },
         immediate(ImmOp::Andi, X6, 15),
-        sw(X6, PORT),
+        sw(X6, PORT as u16),
         lw(X6, 1),
         lw(X5, 0),
     ]
@@ -124,7 +121,7 @@ pub fn exit_code(counter: u16, shift: u8, table: u32) -> [Instr; 16]
             rs1: X5,
             offset: lo(table),
         },
-        lw(X5, PORT),
+        lw(X5, PORT as u16),
         immediate(ImmOp::Slli, X5, 2),
         Instr::Reg {
             op: RegOp::Srl,
@@ -134,7 +131,7 @@ pub fn exit_code(counter: u16, shift: u8, table: u32) -> [Instr; 16]
         },
         immediate(ImmOp::Andi, X6, 15),
         sw(0, counter),
-        sw(X6, PORT),
+        sw(X6, PORT as u16),
         lw(X6, 1),
         lw(X5, 0),
     ]

@@ -1,6 +1,7 @@
 //! The reached addresses at which no word of a text stands.
 
 ghost use Rattle.std.specs.Prelude.{◌≡◌, ◌<◌, ◌⊎◌, length};
+ghost use Rattle.scale_base.specs.Image.{PLAIN_END};
 ghost use Rattle.cost_theory.specs.declared.flow.Flow.TheVariants as flow;
 ghost use Rattle.code_graph.specs.Outside.{lower_of, has_mark, IsLowest, IsOutsideOf, ComesBackTo, GoesOnFrom, IsComeTo};
 ghost use Rattle.code_graph.specs.Steps.{AreLow};
@@ -32,7 +33,7 @@ fn if_outside(words: &TextWords, at: u32) -> Option<u32>
 
 /// The lowest address to which a call leads and at which no word stands.
 fn called_outside(words: &TextWords, returning: &[bool], at: u32, to: u32) -> Option<u32>
-    requires low { at < 0xFF000000 }
+    requires low { at < PLAIN_END }
     requires size { length returning.now ≡ length words.now.addresses }
     ensures { IsLowest (λ u. ((u ≡ to) ⊎ ComesBackTo words.now returning.now (flow.Call to) at u) × IsOutsideOf words.now u) result }
 {
