@@ -6,9 +6,9 @@ use Rattle.worst_cycles.proofs.iteration.rests_of.Given as goal
 
 abbrev pub invariant-loop-m : goal.invariant-loop-m
 invariant-loop-m l = record {
-  places : AreBodyPlaces (body_of l.tree.bodies l.l) l.plan.places.items l.rests.steps.items;
+  places : AreBodyPlaces (body_of l.planned.tree.now.bodies l.l) l.planned.plan.now.places.items l.rests.steps.items;
   same : length l.rests.steps.items ≡ length l.initial.rests.steps.items;
   size : length l.rests.found.items ≡ l.m;
   small : (q b : ℕ) → rest_in l.rests.found.items q ≡ Some b → b ≤ 2 ^ 48 + 2 ^ 32;
-  found : AreFoundTo l.graph l.tree (by_edge l.weights) l.plan l.l l.rests.steps.items l.m l.rests.found.items;
+  found : AreFoundTo l.planned.graph.now l.planned.tree.now (by_edge l.planned.weights.now) l.planned.plan.now l.l l.rests.steps.items l.m l.rests.found.items;
 }
