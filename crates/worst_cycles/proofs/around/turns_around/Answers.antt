@@ -1,10 +1,10 @@
-use Rattle.std.proofs.Common.{◌≡◌, ℕ, ◌+◌, ◌*◌, ◌^◌, ◌<◌, ◌≤◌, length, arith, refl, sym, ap, ◌∙◌, subst}
+use Rattle.std.proofs.Common.{◌≡◌, ℕ, ◌+◌, ◌*◌, ◌^◌, ◌<◌, ◌≤◌, length, arith, sym, ap, ◌∙◌, subst}
 use Rattle.std.proofs.lemmas.Option.{get_or_from_slice_get}
 use Rattle.graph_algorithms.specs.Arcs.{number_in_place}
 use Rattle.cost_theory.specs.Lists.{body_of}
 use Rattle.worst_cycles.specs.Worst.{by_edge}
 use Rattle.worst_cycles.specs.Visits.{visit_at}
-use Rattle.worst_cycles.proofs.AroundLaws.{AreTurnsTo, turns_at_header, turns_more, turns_last, turns_small}
+use Rattle.worst_cycles.proofs.AroundLaws.{turns_at_header, turns_more, turns_last, turns_small}
 use Rattle.worst_cycles.proofs.around.turns_around.Goals as goal
 
 pub loop-l-preserved : goal.loop-l-preserved
@@ -17,8 +17,8 @@ loop-l-preserved c =
     record {
       size = c.add_turns.ensures.size ∙ c.loop-l.invariant.size;
       small = λ k. let low = turns_small c.loop-l.around.items c.add_turns.new.around.items (body_of c.args.visited.now.planned.tree.now.bodies c.loop-l.l) (c.loop-l.l * 2 ^ 48) (visit_at c.args.visited.now.visits.now c.header.result).turns (2 ^ 48) inside outside c.loop-l.invariant.small room k in omega arith;
-      turns = turns_more c.args.visited.now.planned.graph.now c.args.visited.now.planned.tree.now (by_edge c.args.visited.now.planned.weights.now) c.loop-l.l (visit_at c.args.visited.now.visits.now c.header.result).turns c.loop-l.around.items c.add_turns.new.around.items c.requires.visited.planned.flow c.requires.visited.planned.tree ll
-          (λ n s. ap (λ k. (visit_at c.args.visited.now.visits.now k).turns) (sym header) ∙ turns_at_header c.args.visited.now.planned.graph.now c.args.visited.now.planned.tree.now (by_edge c.args.visited.now.planned.weights.now) c.args.visited.now.visits.now n c.loop-l.l c.requires.visited.planned.tree c.requires.visited.visits s ll) inside outside c.loop-l.invariant.turns;
+      turns = turns_more c.args.visited.now.planned.tree.now (by_edge c.args.visited.now.planned.weights.now) c.loop-l.l (visit_at c.args.visited.now.visits.now c.header.result).turns c.loop-l.around.items c.add_turns.new.around.items c.requires.visited.planned.flow c.requires.visited.planned.tree ll
+          (λ n s. ap (λ k. (visit_at c.args.visited.now.visits.now k).turns) (sym header) ∙ turns_at_header c.loop-l.l c.requires.visited.planned.tree c.requires.visited.visits s ll) inside outside c.loop-l.invariant.turns;
     }
 
 pub returns : goal.returns

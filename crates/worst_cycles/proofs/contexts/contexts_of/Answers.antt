@@ -1,4 +1,4 @@
-use Rattle.std.proofs.Common.{◌≡◌, ℕ, ◌+◌, ◌-◌, ◌<◌, ◌≤◌, length, arith, refl, sym, ap, ◌∙◌, subst}
+use Rattle.std.proofs.Common.{◌≡◌, ◌+◌, ◌-◌, ◌<◌, length, arith, sym, ap, ◌∙◌, subst}
 use Rattle.std.proofs.lemmas.List.{get_or-replicate}
 use Rattle.graph_algorithms.specs.Arcs.{number_in_place}
 use Rattle.code_graph.specs.FlowGraph.{graph}
@@ -19,7 +19,7 @@ loop-i-init c =
       within = omega arith;
       size = let len = c.in_ok-context.ensures.len in let r : length c.in_ok-context.context.items ≡ length c.args.visited.now.planned.graph.now.code.functions = omega arith in r;
       contexts = subst (λ i. AreContextsTo c.args.visited.now.planned.graph.now c.args.visited.now.planned.tree.now (by_edge c.args.visited.now.planned.weights.now) c.args.visited.now.planned.plan.now i c.in_ok-context.context.items) same
-          (contexts_first c.args.visited.now.planned.graph.now c.args.visited.now.planned.tree.now (by_edge c.args.visited.now.planned.weights.now) c.args.visited.now.planned.plan.now c.in_ok-context.context.items c.requires.visited.planned.flow c.requires.visited.planned.plan
+          (contexts_first c.requires.visited.planned c.in_ok-context.context.items
           (λ f fl. ap (λ xs. number_in_place xs f) items ∙ get_or-replicate c.function_count.result f 0 0 (let r : f < c.function_count.result = omega arith in r)));
     }
 
@@ -30,7 +30,7 @@ raise_contexts-requires-clause-own c = λ n s.
     let i : c.loop-i.i ≡ c.loop-i.i - 1 + 1 = omega arith in
     let node = value_at c.args.visited.now.planned.plan.now.order.items (c.loop-i.i - 1) c.index.result.now 0 il c.index.ensures in
     subst (λ k. number_in_place c.loop-i.context.items ((graph c.args.visited.now.planned.graph.now).owner (node_address c.args.visited.now.planned.graph.now k)) ≡ n.context ((graph c.args.visited.now.planned.graph.now).owner (node_address c.args.visited.now.planned.graph.now k))) node
-    (own_context c.args.visited.now.planned.graph.now c.args.visited.now.planned.tree.now (by_edge c.args.visited.now.planned.weights.now) c.args.visited.now.planned.plan.now c.loop-i.context.items (c.loop-i.i - 1) n c.requires.visited.planned.flow c.requires.visited.planned.tree c.requires.visited.planned.plan il
+    (own_context c.requires.visited.planned c.loop-i.context.items (c.loop-i.i - 1) il
     (subst (λ j. AreContextsTo c.args.visited.now.planned.graph.now c.args.visited.now.planned.tree.now (by_edge c.args.visited.now.planned.weights.now) c.args.visited.now.planned.plan.now j c.loop-i.context.items) i c.loop-i.invariant.contexts) s)
 
 pub loop-i-preserved : goal.loop-i-preserved
@@ -42,7 +42,7 @@ loop-i-preserved c =
     record {
       within = omega arith;
       size = c.raise_contexts.ensures.size ∙ c.loop-i.invariant.size;
-      contexts = contexts_more c.args.visited.now.planned.graph.now c.args.visited.now.planned.tree.now (by_edge c.args.visited.now.planned.weights.now) c.args.visited.now.planned.plan.now c.loop-i.context.items c.raise_contexts.new.context.items (c.loop-i.i - 1) c.requires.visited.planned.flow c.requires.visited.planned.plan il
+      contexts = contexts_more c.requires.visited.planned c.loop-i.context.items c.raise_contexts.new.context.items (c.loop-i.i - 1) il
           (λ n s. subst (λ k. AreContextsRaised (graph c.args.visited.now.planned.graph.now) (loops c.args.visited.now.planned.graph.now c.args.visited.now.planned.tree.now) (by_edge c.args.visited.now.planned.weights.now) n (node_address c.args.visited.now.planned.graph.now k) c.loop-i.context.items c.raise_contexts.new.context.items) (sym node) (c.raise_contexts.ensures.raised n s))
           (subst (λ j. AreContextsTo c.args.visited.now.planned.graph.now c.args.visited.now.planned.tree.now (by_edge c.args.visited.now.planned.weights.now) c.args.visited.now.planned.plan.now j c.loop-i.context.items) i c.loop-i.invariant.contexts);
     }

@@ -1,6 +1,5 @@
-use Rattle.std.proofs.Common.{◌≡◌, ◌+◌, ◌^◌, ◌<◌, ◌≤◌, length, Some, None, refl, arith, subst}
+use Rattle.std.proofs.Common.{◌+◌, ◌^◌, ◌<◌, ◌≤◌, length, Some, None, refl, arith, subst}
 use Rattle.std.proofs.lemmas.Option.{none-some, same_Some}
-use Rattle.worst_cycles.specs.Worst.{by_edge}
 use Rattle.worst_cycles.specs.Rests.{IsRestOf}
 use Rattle.worst_cycles.proofs.IterationLaws.{header_rest, header_place}
 use Rattle.worst_cycles.proofs.iteration.iteration_of.Goals as goal
@@ -15,7 +14,7 @@ returns-in-Some c = (
       let place = header_place c.args.planned.now.tree.now c.args.planned.now.plan.now.places.items c.args.l c.header.result c.index.result.now c.header.ensures low c.index.ensures in
       let rest = subst (λ p. IsRestOf c.in_ok-rests.rests p (Some c.in-Some.cycles)) place c.in-Some.ensures.rest in
       same_Some c.in-Some.cycles (n.iteration c.args.l)
-      (header_rest c.args.planned.now.graph.now c.args.planned.now.tree.now (by_edge c.args.planned.now.weights.now) c.args.planned.now.plan.now c.args.l c.in_ok-rests.rests (Some c.in-Some.cycles) c.requires.planned.flow c.requires.planned.tree c.requires.planned.plan c.requires.within c.in_ok-rests.ensures.places c.in_ok-rests.ensures.sizes
+      (header_rest c.requires.planned c.args.l c.in_ok-rests.rests (Some c.in-Some.cycles) c.requires.within c.in_ok-rests.ensures.places c.in_ok-rests.ensures.sizes
       c.in_ok-rests.ensures.found rest n s),
 )
 
@@ -29,6 +28,6 @@ returns c = (
       let place = header_place c.args.planned.now.tree.now c.args.planned.now.plan.now.places.items c.args.l c.header.result c.index.result.now c.header.ensures low c.index.ensures in
       let rest = subst (λ p. IsRestOf c.in_ok-rests.rests p None) place c.in-None.ensures.rest in
       absurd (none-some (n.iteration c.args.l)
-      (header_rest c.args.planned.now.graph.now c.args.planned.now.tree.now (by_edge c.args.planned.now.weights.now) c.args.planned.now.plan.now c.args.l c.in_ok-rests.rests None c.requires.planned.flow c.requires.planned.tree c.requires.planned.plan c.requires.within c.in_ok-rests.ensures.places c.in_ok-rests.ensures.sizes
+      (header_rest c.requires.planned c.args.l c.in_ok-rests.rests None c.requires.within c.in_ok-rests.ensures.places c.in_ok-rests.ensures.sizes
       c.in_ok-rests.ensures.found rest n s)),
 )

@@ -1,5 +1,4 @@
-use Rattle.std.proofs.Common.{◌≡◌, ℕ, ◌+◌, ◌^◌, ◌<◌, ◌≤◌, true, List, [], ◌∷◌, ◌++◌, length, length-append, slice_index, Option, Some, None, arith, refl, sym, ap, subst}
-use Rattle.std.proofs.lemmas.Option.{none-some, same_Some}
+use Rattle.std.proofs.Common.{◌≡◌, ℕ, ◌+◌, ◌^◌, ◌<◌, ◌≤◌, true, List, [], ◌∷◌, ◌++◌, length, length-append, slice_index, Option, Some, arith, refl, sym, ap, subst}
 use Rattle.graph_algorithms.specs.Arcs.{number_in_place}
 use Rattle.loop_tree.specs.Tree.{loops}
 use Rattle.worst_cycles.specs.Worst.{by_edge}
@@ -14,14 +13,14 @@ index-k-requires c =
     let ml : c.loop-m.m < length c.loop-m.rests.steps.items = omega arith in
     let here : number_in_place c.loop-m.rests.steps.items c.loop-m.m ≡ c.index.result.now = value_at c.loop-m.rests.steps.items c.loop-m.m c.index.result.now 0 ml c.index.ensures in
     let low : number_in_place c.loop-m.rests.steps.items c.loop-m.m < length c.args.planned.now.plan.now.order.items =
-    (step_inside c.args.planned.now.graph.now c.args.planned.now.tree.now c.args.planned.now.plan.now c.args.l c.args.i c.loop-m.rests.steps.items c.requires.planned.flow c.requires.planned.tree c.requires.planned.plan c.requires.within c.requires.place c.requires.header c.loop-m.invariant.places c.loop-m.m ml).0 in
+    (step_inside c.requires.planned c.args.l c.args.i c.requires.within c.requires.place c.requires.header c.loop-m.invariant.places c.loop-m.m ml).0 in
     omega arith
 
 pub rest_at_node-rest-requires-clause-node : goal.rest_at_node-rest-requires-clause-node
 rest_at_node-rest-requires-clause-node c =
     let same = c.loop-m.invariant.same in
     let ml : c.loop-m.m < length c.loop-m.rests.steps.items = omega arith in
-    let step = step_inside c.args.planned.now.graph.now c.args.planned.now.tree.now c.args.planned.now.plan.now c.args.l c.args.i c.loop-m.rests.steps.items c.requires.planned.flow c.requires.planned.tree c.requires.planned.plan c.requires.within c.requires.place c.requires.header c.loop-m.invariant.places c.loop-m.m ml in
+    let step = step_inside c.requires.planned c.args.l c.args.i c.requires.within c.requires.place c.requires.header c.loop-m.invariant.places c.loop-m.m ml in
     let node = step_node c.args.planned.now.plan.now c.loop-m.rests.steps.items c.loop-m.m c.index.result.now c.index-k.result.now ml step.0 c.index.ensures c.index-k.ensures in
     subst (λ x. x < length c.args.planned.now.graph.now.code.nodes) (sym node) (c.requires.planned.plan.order.within (number_in_place c.loop-m.rests.steps.items c.loop-m.m) step.0)
 
@@ -29,7 +28,7 @@ pub rest_at_node-rest-requires-clause-inside : goal.rest_at_node-rest-requires-c
 rest_at_node-rest-requires-clause-inside c =
     let same = c.loop-m.invariant.same in
     let ml : c.loop-m.m < length c.loop-m.rests.steps.items = omega arith in
-    let step = step_inside c.args.planned.now.graph.now c.args.planned.now.tree.now c.args.planned.now.plan.now c.args.l c.args.i c.loop-m.rests.steps.items c.requires.planned.flow c.requires.planned.tree c.requires.planned.plan c.requires.within c.requires.place c.requires.header c.loop-m.invariant.places c.loop-m.m ml in
+    let step = step_inside c.requires.planned c.args.l c.args.i c.requires.within c.requires.place c.requires.header c.loop-m.invariant.places c.loop-m.m ml in
     let node = step_node c.args.planned.now.plan.now c.loop-m.rests.steps.items c.loop-m.m c.index.result.now c.index-k.result.now ml step.0 c.index.ensures c.index-k.ensures in
     subst (λ x. (loops c.args.planned.now.graph.now c.args.planned.now.tree.now).inside c.args.l (slice_index c.args.planned.now.graph.now.code.nodes x) ≡ true) (sym node) step.1
 
@@ -37,13 +36,13 @@ pub returns-then-is_over : goal.returns-then-is_over
 returns-then-is_over c =
     let same = c.loop-m.invariant.same in
     let ml : c.loop-m.m < length c.loop-m.rests.steps.items = omega arith in
-    let step = step_inside c.args.planned.now.graph.now c.args.planned.now.tree.now c.args.planned.now.plan.now c.args.l c.args.i c.loop-m.rests.steps.items c.requires.planned.flow c.requires.planned.tree c.requires.planned.plan c.requires.within c.requires.place c.requires.header c.loop-m.invariant.places c.loop-m.m ml in
+    let step = step_inside c.requires.planned c.args.l c.args.i c.requires.within c.requires.place c.requires.header c.loop-m.invariant.places c.loop-m.m ml in
     let node = step_node c.args.planned.now.plan.now c.loop-m.rests.steps.items c.loop-m.m c.index.result.now c.index-k.result.now ml step.0 c.index.ensures c.index-k.ensures in
     let over = c.is_over.ensures.over c.if-is_over.true in
     let edges = c.requires.planned.weights in (
       refl,
       rest_too_long c.args.planned.now.graph.now c.args.planned.now.tree.now (by_edge c.args.planned.now.weights.now) c.args.l (address_at c.args.planned.now.graph.now c.args.planned.now.plan.now c.loop-m.rests.steps.items c.loop-m.m) over.0 c.rest_at_node-rest.result c.requires.within step.1
-          (next_rest c.args.planned.now.graph.now c.args.planned.now.tree.now (by_edge c.args.planned.now.weights.now) c.args.planned.now.plan.now c.args.visits.now c.args.l c.args.i c.loop-m.m c.index-k.result.now c.loop-m.rests c.rest_at_node-rest.result c.requires.planned.flow c.requires.planned.tree c.requires.planned.plan c.requires.visited
+          (next_rest c.requires.planned c.args.visits.now c.args.l c.args.i c.loop-m.m c.index-k.result.now c.loop-m.rests c.rest_at_node-rest.result c.requires.visited
           c.requires.within c.requires.place c.requires.header c.loop-m.invariant.places ml c.loop-m.invariant.size c.loop-m.invariant.found node c.rest_at_node-rest.ensures)
           c.args.planned.now.plan.now.heaviest (λ e el. c.requires.planned.heaviest e (omega arith)) over.1 over.2,
     )
@@ -52,7 +51,7 @@ pub loop-m-preserved : goal.loop-m-preserved
 loop-m-preserved c =
     let same = c.loop-m.invariant.same in
     let ml : c.loop-m.m < length c.loop-m.rests.steps.items = omega arith in
-    let step = step_inside c.args.planned.now.graph.now c.args.planned.now.tree.now c.args.planned.now.plan.now c.args.l c.args.i c.loop-m.rests.steps.items c.requires.planned.flow c.requires.planned.tree c.requires.planned.plan c.requires.within c.requires.place c.requires.header c.loop-m.invariant.places c.loop-m.m ml in
+    let step = step_inside c.requires.planned c.args.l c.args.i c.requires.within c.requires.place c.requires.header c.loop-m.invariant.places c.loop-m.m ml in
     let node = step_node c.args.planned.now.plan.now c.loop-m.rests.steps.items c.loop-m.m c.index.result.now c.index-k.result.now ml step.0 c.index.ensures c.index-k.ensures in
     let items : c.push.new.self.items ≡ c.loop-m.rests.found.items ++ c.rest_at_node-rest.result ∷ [] = c.in_ok-push.ensures.items in
     let longer : length c.push.new.self.items ≡ length (c.loop-m.rests.found.items ++ c.rest_at_node-rest.result ∷ []) = ap length items in
@@ -66,7 +65,7 @@ loop-m-preserved c =
           (rests_small c.loop-m.rests.found.items c.rest_at_node-rest.result c.loop-m.invariant.small (c.is_over.ensures.within c.if-is_over.false));
       found = subst (AreFoundTo c.args.planned.now.graph.now c.args.planned.now.tree.now (by_edge c.args.planned.now.weights.now) c.args.planned.now.plan.now c.args.l c.loop-m.rests.steps.items (c.loop-m.m + 1)) (sym items)
           (found_more c.args.planned.now.graph.now c.args.planned.now.tree.now (by_edge c.args.planned.now.weights.now) c.args.planned.now.plan.now c.args.l c.loop-m.m c.loop-m.rests.steps.items c.loop-m.rests.found.items c.rest_at_node-rest.result c.loop-m.invariant.size c.loop-m.invariant.found
-          (next_rest c.args.planned.now.graph.now c.args.planned.now.tree.now (by_edge c.args.planned.now.weights.now) c.args.planned.now.plan.now c.args.visits.now c.args.l c.args.i c.loop-m.m c.index-k.result.now c.loop-m.rests c.rest_at_node-rest.result c.requires.planned.flow c.requires.planned.tree c.requires.planned.plan c.requires.visited
+          (next_rest c.requires.planned c.args.visits.now c.args.l c.args.i c.loop-m.m c.index-k.result.now c.loop-m.rests c.rest_at_node-rest.result c.requires.visited
           c.requires.within c.requires.place c.requires.header c.loop-m.invariant.places ml c.loop-m.invariant.size c.loop-m.invariant.found node c.rest_at_node-rest.ensures));
     }
 

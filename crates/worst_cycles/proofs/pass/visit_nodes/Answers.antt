@@ -33,5 +33,5 @@ loop-i-preserved c =
 pub returns : goal.returns
 returns c =
     let last : c.loop-i.i ≡ length c.args.planned.now.plan.now.order.items = omega arith in
-    all_visited c.args.planned.now.graph.now c.args.planned.now.tree.now (by_edge c.args.planned.now.weights.now) c.args.planned.now.plan.now c.loop-i.visits.items c.requires.planned.plan c.loop-i.invariant.table
+    all_visited c.requires.planned c.loop-i.invariant.table
     (subst (λ i. AreVisitedTo c.args.planned.now.graph.now c.args.planned.now.tree.now (by_edge c.args.planned.now.weights.now) c.args.planned.now.plan.now.order.items i c.loop-i.visits.items) last c.loop-i.invariant.visited)

@@ -1,6 +1,5 @@
-use Rattle.std.proofs.Common.{◌≡◌, ℕ, ◌+◌, ◌^◌, ◌<◌, ◌≤◌, length, arith, refl, sym, ap, ◌∙◌}
-use Rattle.std.proofs.lemmas.Option.{slice_get_within, get_or_from_slice_get}
-use Rattle.graph_algorithms.specs.Arcs.{number_in_place}
+use Rattle.std.proofs.Common.{◌<◌, length, arith}
+use Rattle.std.proofs.lemmas.Option.{slice_get_within}
 use Rattle.cost_theory.specs.Worst.{cost}
 use Rattle.code_graph.specs.FlowGraph.{graph}
 use Rattle.worst_cycles.specs.Worst.{by_edge}
@@ -40,8 +39,8 @@ overflow_add-result c =
     omega arith
 
 pub overflow_sub-result : goal.overflow_sub-result
-overflow_sub-result c = (back_value c.args.visited.now.planned.graph.now c.args.visited.now.planned.tree.now c.requires.visited.planned.tree.0 (by_edge c.args.visited.now.planned.weights.now) c.args.visited.now.visits.now c.args.left.now c.requires.visited.solved.0 c.args.e c.in-Some.field-0 c.source.result c.args.to c.cost_of.result c.requires.visited.planned.tree.1 c.requires.visited.visits c.requires.left c.requires.visited.solved.1 c.requires.edge c.in-Some.ensures c.source.ensures.node c.requires.leads c.requires.node
-    (c.cost_of.ensures.cost c.requires.visited.solved.0 (λ f calls. entry_worst c.args.visited.now.planned.graph.now c.args.visited.now.planned.tree.now (by_edge c.args.visited.now.planned.weights.now) c.args.visited.now.planned.plan.now.entries.items c.args.visited.now.visits.now c.requires.visited.solved.0 f c.requires.visited.planned.plan.entries c.requires.visited.visits c.requires.visited.solved.1 (c.requires.visited.planned.flow.program.callee_function c.args.e f c.requires.edge calls)))).0
+overflow_sub-result c = (back_value c.args.e c.in-Some.field-0 c.source.result c.args.to c.cost_of.result c.requires.visited.planned.tree.1 c.requires.visited.visits c.requires.left c.requires.visited.solved.1 c.requires.edge c.in-Some.ensures c.source.ensures.node c.requires.leads c.requires.node
+    (c.cost_of.ensures.cost c.requires.visited.solved.0 (λ f calls. entry_worst f c.requires.visited.planned.plan.entries c.requires.visited.visits c.requires.visited.solved.1 (c.requires.visited.planned.flow.program.callee_function c.args.e f c.requires.edge calls)))).0
 
 pub overflow_add-result-in-None : goal.overflow_add-result-in-None
 overflow_add-result-in-None c =
@@ -53,13 +52,13 @@ overflow_add-result-in-None c =
     omega arith
 
 pub overflow_sub-result-in-None : goal.overflow_sub-result-in-None
-overflow_sub-result-in-None c = (plain_value c.args.visited.now.planned.graph.now c.args.visited.now.planned.tree.now (by_edge c.args.visited.now.planned.weights.now) c.args.visited.now.visits.now c.args.left.now c.requires.visited.solved.0 c.args.e c.source.result c.args.to c.cost_of.result c.requires.visited.visits c.requires.left c.requires.visited.solved.1 c.requires.edge (plain_by c.args.visited.now.planned.graph.now c.args.visited.now.planned.tree.now c.requires.visited.planned.tree.0 c.requires.visited.planned.tree.1 c.args.e c.requires.edge c.in-None.ensures) c.source.ensures.node c.requires.leads c.requires.node
-    (c.cost_of.ensures.cost c.requires.visited.solved.0 (λ f calls. entry_worst c.args.visited.now.planned.graph.now c.args.visited.now.planned.tree.now (by_edge c.args.visited.now.planned.weights.now) c.args.visited.now.planned.plan.now.entries.items c.args.visited.now.visits.now c.requires.visited.solved.0 f c.requires.visited.planned.plan.entries c.requires.visited.visits c.requires.visited.solved.1 (c.requires.visited.planned.flow.program.callee_function c.args.e f c.requires.edge calls)))).0
+overflow_sub-result-in-None c = (plain_value c.args.e c.source.result c.args.to c.cost_of.result c.requires.visited.visits c.requires.left c.requires.visited.solved.1 c.requires.edge (plain_by c.args.visited.now.planned.graph.now c.args.visited.now.planned.tree.now c.requires.visited.planned.tree.0 c.requires.visited.planned.tree.1 c.args.e c.requires.edge c.in-None.ensures) c.source.ensures.node c.requires.leads c.requires.node
+    (c.cost_of.ensures.cost c.requires.visited.solved.0 (λ f calls. entry_worst f c.requires.visited.planned.plan.entries c.requires.visited.visits c.requires.visited.solved.1 (c.requires.visited.planned.flow.program.callee_function c.args.e f c.requires.edge calls)))).0
 
 pub returns-in-Some : goal.returns-in-Some
-returns-in-Some c = λ n s. (back_value c.args.visited.now.planned.graph.now c.args.visited.now.planned.tree.now c.requires.visited.planned.tree.0 (by_edge c.args.visited.now.planned.weights.now) c.args.visited.now.visits.now c.args.left.now n c.args.e c.in-Some.field-0 c.source.result c.args.to c.cost_of.result c.requires.visited.planned.tree.1 c.requires.visited.visits c.requires.left s c.requires.edge c.in-Some.ensures c.source.ensures.node c.requires.leads c.requires.node
-    (c.cost_of.ensures.cost n (λ f calls. entry_worst c.args.visited.now.planned.graph.now c.args.visited.now.planned.tree.now (by_edge c.args.visited.now.planned.weights.now) c.args.visited.now.planned.plan.now.entries.items c.args.visited.now.visits.now n f c.requires.visited.planned.plan.entries c.requires.visited.visits s (c.requires.visited.planned.flow.program.callee_function c.args.e f c.requires.edge calls)))).1
+returns-in-Some c = λ n s. (back_value c.args.e c.in-Some.field-0 c.source.result c.args.to c.cost_of.result c.requires.visited.planned.tree.1 c.requires.visited.visits c.requires.left s c.requires.edge c.in-Some.ensures c.source.ensures.node c.requires.leads c.requires.node
+    (c.cost_of.ensures.cost n (λ f calls. entry_worst f c.requires.visited.planned.plan.entries c.requires.visited.visits s (c.requires.visited.planned.flow.program.callee_function c.args.e f c.requires.edge calls)))).1
 
 pub returns-in-None : goal.returns-in-None
-returns-in-None c = λ n s. (plain_value c.args.visited.now.planned.graph.now c.args.visited.now.planned.tree.now (by_edge c.args.visited.now.planned.weights.now) c.args.visited.now.visits.now c.args.left.now n c.args.e c.source.result c.args.to c.cost_of.result c.requires.visited.visits c.requires.left s c.requires.edge (plain_by c.args.visited.now.planned.graph.now c.args.visited.now.planned.tree.now c.requires.visited.planned.tree.0 c.requires.visited.planned.tree.1 c.args.e c.requires.edge c.in-None.ensures) c.source.ensures.node c.requires.leads c.requires.node
-    (c.cost_of.ensures.cost n (λ f calls. entry_worst c.args.visited.now.planned.graph.now c.args.visited.now.planned.tree.now (by_edge c.args.visited.now.planned.weights.now) c.args.visited.now.planned.plan.now.entries.items c.args.visited.now.visits.now n f c.requires.visited.planned.plan.entries c.requires.visited.visits s (c.requires.visited.planned.flow.program.callee_function c.args.e f c.requires.edge calls)))).1
+returns-in-None c = λ n s. (plain_value c.args.e c.source.result c.args.to c.cost_of.result c.requires.visited.visits c.requires.left s c.requires.edge (plain_by c.args.visited.now.planned.graph.now c.args.visited.now.planned.tree.now c.requires.visited.planned.tree.0 c.requires.visited.planned.tree.1 c.args.e c.requires.edge c.in-None.ensures) c.source.ensures.node c.requires.leads c.requires.node
+    (c.cost_of.ensures.cost n (λ f calls. entry_worst f c.requires.visited.planned.plan.entries c.requires.visited.visits s (c.requires.visited.planned.flow.program.callee_function c.args.e f c.requires.edge calls)))).1

@@ -1,5 +1,4 @@
 use Rattle.std.proofs.Common.{inl, inr, refl}
-use Rattle.worst_cycles.specs.Worst.{by_edge}
 use Rattle.worst_cycles.proofs.BodyLaws.{back_by}
 use Rattle.worst_cycles.proofs.FallLaws.{plain_by}
 use Rattle.worst_cycles.proofs.OverLaws.{over_plain}
@@ -13,5 +12,5 @@ returns-in-None-clause-over c = λ n s known.
     let plain = plain_by c.args.planned.now.graph.now c.args.planned.now.tree.now c.requires.planned.tree.0 c.requires.planned.tree.1 c.args.e c.requires.edge c.in-None.ensures in
     inl (
       plain,
-      over_plain c.args.planned.now.graph.now c.args.planned.now.tree.now (by_edge c.args.planned.now.weights.now) c.args.planned.now.plan.now c.args.visits.now n c.args.e c.cost_of.result c.behind.result s c.requires.edge known plain (c.cost_of.ensures.cost n known.called) c.behind.ensures.behind,
+      over_plain c.cost_of.result c.behind.result s c.requires.edge known plain (c.cost_of.ensures.cost n known.called) c.behind.ensures.behind,
     )
