@@ -27,17 +27,24 @@ use Rattle.worst_cycles.proofs.VisitLaws.{known_before}
 pub body_within : (v : FlowGraph) (t : LoopView) (extent : ℕ → ℕ → Bool) → IsLoopTree v extent t → (l i : ℕ) → l < length t.headers → i < length (body_of t.bodies l) → number_in_place (body_of t.bodies l) i < length v.code.nodes
 body_within v t extent is l i ll il = (is.body l ll).within i (number_in_place (body_of t.bodies l) i) (slice_get-get_or (body_of t.bodies l) i 0 il)
 
+-- a loop, whose header stands at place i of the order, and the places of its body
+pub record IsBodyAt (t : LoopView) (plan : Plan) (l i : ℕ) (steps : List ℕ) : Type 0 where
+  pub within : l < length t.headers
+  pub place : i < length plan.order.items
+  pub header : number_in_place t.headers l ≡ number_in_place plan.order.items i
+  pub places : AreBodyPlaces (body_of t.bodies l) plan.places.items steps
+
 -- a place of a body is that of a node in it, and not behind the header
-pub step_inside : {v : FlowGraph} {t : LoopView} {w : List ℕ} {plan : Plan} {steps : List ℕ} → IsPlanned v t w plan → (l i : ℕ) → l < length t.headers → i < length plan.order.items → number_in_place t.headers l ≡ number_in_place plan.order.items i →
-    AreBodyPlaces (body_of t.bodies l) plan.places.items steps → (m : ℕ) → m < length steps → (number_in_place steps m < length plan.order.items) × ((loops v t).inside l (address_at v plan steps m) ≡ true) × (number_in_place steps m ≤ i)
-step_inside {v = v} {t = t} {w = w} {plan = plan} {steps = steps} is l i ll il header places m ml =
-    let b = places.each m ml in
-    let at = at_place is (number_in_place (body_of t.bodies l) b.0) (body_within v t is.tree.0 is.tree.1 l b.0 ll b.1) in
+pub step_inside : {v : FlowGraph} {t : LoopView} {w : List ℕ} {plan : Plan} {l i : ℕ} {steps : List ℕ} → IsPlanned v t w plan → IsBodyAt t plan l i steps →
+    (m : ℕ) → m < length steps → (number_in_place steps m < length plan.order.items) × ((loops v t).inside l (address_at v plan steps m) ≡ true) × (number_in_place steps m ≤ i)
+step_inside {v = v} {t = t} {w = w} {plan = plan} {l = l} {i = i} {steps = steps} is body m ml =
+    let b = body.places.each m ml in
+    let at = at_place is (number_in_place (body_of t.bodies l) b.0) (body_within v t is.tree.0 is.tree.1 l b.0 body.within b.1) in
     let within = at.0 in let step = b.2 in
     let low : number_in_place steps m < length plan.order.items = omega arith in
     let node : number_in_place plan.order.items (number_in_place steps m) ≡ number_in_place (body_of t.bodies l) b.0 = ap (number_in_place plan.order.items) b.2 ∙ at.1 in
     let inside : (loops v t).inside l (address_at v plan steps m) ≡ true = subst (λ k. (loops v t).inside l (node_address v k) ≡ true) (sym node) (inside_at v t l b.0 b.1) in
-    (low, inside, body_before is l i (number_in_place steps m) ll il low header inside)
+    (low, inside, body_before is l i (number_in_place steps m) body.within body.place low body.header inside)
 
 -- a node of the body is at one of its places
 pub step_of : {v : FlowGraph} {t : LoopView} {w : List ℕ} {plan : Plan} {steps : List ℕ} → IsPlanned v t w plan → (l : ℕ) → l < length t.headers → AreBodyPlaces (body_of t.bodies l) plan.places.items steps →
@@ -53,10 +60,10 @@ pub address_of : {v : FlowGraph} {t : LoopView} {w : List ℕ} {plan : Plan} →
 address_of {v = v} {t = t} {w = w} {plan = plan} is steps u q ul at = ap (λ p. node_address v (number_in_place plan.order.items p)) at ∙ ap (node_address v) (at_place is u ul).1
 
 -- the rests that the edges of the next node need are found
-pub rests_known : {v : FlowGraph} {t : LoopView} {w : List ℕ} {plan : Plan} {n : Numbers} → IsPlanned v t w plan → (l i m : ℕ) (rests : Rests) → l < length t.headers → i < length plan.order.items → number_in_place t.headers l ≡ number_in_place plan.order.items i →
-    AreBodyPlaces (body_of t.bodies l) plan.places.items rests.steps.items → m < length rests.steps.items → length rests.found.items ≡ m → AreFoundTo v t (by_edge w) plan l rests.steps.items m rests.found.items → AreSolvedBy v t (by_edge w) n →
+pub rests_known : {v : FlowGraph} {t : LoopView} {w : List ℕ} {plan : Plan} {l i : ℕ} {n : Numbers} → IsPlanned v t w plan → (rests : Rests) → IsBodyAt t plan l i rests.steps.items →
+    (m : ℕ) → m < length rests.steps.items → length rests.found.items ≡ m → AreFoundTo v t (by_edge w) plan l rests.steps.items m rests.found.items → AreSolvedBy v t (by_edge w) n →
     AreRestsKnownAt v t plan rests n l (address_at v plan rests.steps.items m)
-rests_known {v = v} {t = t} {w = w} {plan = plan} {n = n} is l i m rests ll il header places ml size found s e lt from u at o node to plain rest = go ((loops v t).inside l at) refl
+rests_known {v = v} {t = t} {w = w} {plan = plan} {l = l} {i = i} {n = n} is rests body m ml size found s e lt from u at o node to plain rest = go ((loops v t).inside l at) refl
   where
     ul : u < length v.code.nodes
     ul = slice_get_within v.code.nodes u at node
@@ -65,7 +72,7 @@ rests_known {v = v} {t = t} {w = w} {plan = plan} {n = n} is l i m rests ll il h
     at_u = get_or_from_slice_get v.code.nodes u at 0 node
 
     here : number_in_place rests.steps.items m < length plan.order.items
-    here = (step_inside is l i ll il header places m ml).0
+    here = (step_inside is body m ml).0
 
     starts : StartsAtNode v e (number_in_place plan.order.items (number_in_place rests.steps.items m))
     starts = node_here v (number_in_place plan.order.items (number_in_place rests.steps.items m)) (is.plan.order.within (number_in_place rests.steps.items m) here) ∙ ap Some (sym from)
@@ -80,14 +87,14 @@ rests_known {v = v} {t = t} {w = w} {plan = plan} {n = n} is l i m rests ll il h
         omega arith
 
     not_later : (q : ℕ) → m ≤ q → q < length rests.steps.items → number_in_place rests.steps.items q ≡ number_in_place plan.places.items u → ⊥
-    not_later q le ql same = let rises = places.rise m q le ql in let b = before in omega arith
+    not_later q le ql same = let rises = body.places.rise m q le ql in let b = before in omega arith
 
     there : (q : ℕ) → q < length rests.found.items → number_in_place rests.steps.items q ≡ number_in_place plan.places.items u → rest_in rests.found.items q ≡ n.closing l at
     there q ql same = let low : q < m = omega arith in found n s q low ∙ ap (n.closing l) (address_of is rests.steps.items u q ul same ∙ at_u)
 
     go : (b : Bool) → (loops v t).inside l at ≡ b → o ≡ closing_at (loops v t) n l at
     go true inside =
-        let q = step_of is l ll places u ul (subst (λ a. (loops v t).inside l a ≡ true) (sym at_u) inside) in
+        let q = step_of is l body.within body.places u ul (subst (λ a. (loops v t).inside l a ≡ true) (sym at_u) inside) in
         let closes : n.closing l at ≡ closing_at (loops v t) n l at = ap (λ b. held b (n.closing l at)) (sym inside) in
         ⊎_elim
         (λ (some : (q : ℕ) × (q < length rests.found.items) × (q < length rests.steps.items) × (number_in_place rests.steps.items q ≡ number_in_place plan.places.items u) × (o ≡ rest_in rests.found.items q)).
@@ -105,7 +112,7 @@ rests_known {v = v} {t = t} {w = w} {plan = plan} {n = n} is l i m rests ll il h
         ⊎_elim
         (λ (some : (q : ℕ) × (q < length rests.found.items) × (q < length rests.steps.items) × (number_in_place rests.steps.items q ≡ number_in_place plan.places.items u) × (o ≡ rest_in rests.found.items q)).
         let inside : (loops v t).inside l at ≡ true = subst (λ a. (loops v t).inside l a ≡ true) (address_of is rests.steps.items u some.0 ul some.3 ∙ at_u)
-        (step_inside is l i ll il header places some.0 some.2).1 in
+        (step_inside is body some.0 some.2).1 in
         let bad : ⊥ = cc in absurd bad)
         (λ (none : (o ≡ None) × (((q : ℕ) → q < length rests.steps.items → number_in_place rests.steps.items q ≢ number_in_place plan.places.items u) ⊎
         ((q : ℕ) × (length rests.found.items ≤ q) × (q < length rests.steps.items) × (number_in_place rests.steps.items q ≡ number_in_place plan.places.items u)))).
@@ -113,15 +120,15 @@ rests_known {v = v} {t = t} {w = w} {plan = plan} {n = n} is l i m rests ll il h
         rest
 
 -- the rest that is found at the next node is that of its address
-pub next_rest : {v : FlowGraph} {t : LoopView} {w : List ℕ} {plan : Plan} → IsPlanned v t w plan → (visits : List Visit) (l i m k : ℕ) (rests : Rests) (rest : Option ℕ) → AreVisitedTo v t (by_edge w) plan.order.items i visits →
-    l < length t.headers → i < length plan.order.items → number_in_place t.headers l ≡ number_in_place plan.order.items i → AreBodyPlaces (body_of t.bodies l) plan.places.items rests.steps.items → m < length rests.steps.items → length rests.found.items ≡ m →
+pub next_rest : {v : FlowGraph} {t : LoopView} {w : List ℕ} {plan : Plan} {l i : ℕ} → IsPlanned v t w plan → (visits : List Visit) (m k : ℕ) (rests : Rests) (rest : Option ℕ) → AreVisitedTo v t (by_edge w) plan.order.items i visits →
+    IsBodyAt t plan l i rests.steps.items → m < length rests.steps.items → length rests.found.items ≡ m →
     AreFoundTo v t (by_edge w) plan l rests.steps.items m rests.found.items → k ≡ number_in_place plan.order.items (number_in_place rests.steps.items m) →
     ((n : Numbers) → AreSolvedBy v t (by_edge w) n → AreKnownAt v t plan visits n (slice_index v.code.nodes k) → AreRestsKnownAt v t plan rests n l (slice_index v.code.nodes k) → rest ≡ n.closing l (slice_index v.code.nodes k)) →
     (n : Numbers) → AreSolvedBy v t (by_edge w) n → rest ≡ n.closing l (address_at v plan rests.steps.items m)
-next_rest {v = v} {t = t} {w = w} {plan = plan} is visits l i m k rests rest visited ll il header places ml size found node this n s =
-    let step = step_inside is l i ll il header places m ml in
+next_rest {v = v} {t = t} {w = w} {plan = plan} {l = l} {i = i} is visits m k rests rest visited body ml size found node this n s =
+    let step = step_inside is body m ml in
     let here = subst (λ x. AreKnownAt v t plan visits n (slice_index v.code.nodes x) → AreRestsKnownAt v t plan rests n l (slice_index v.code.nodes x) → rest ≡ n.closing l (slice_index v.code.nodes x)) node (this n s) in
-    here (known_before is visits i (number_in_place rests.steps.items m) visited s step.2 step.0) (rests_known is l i m rests ll il header places ml size found s)
+    here (known_before is visits i (number_in_place rests.steps.items m) visited s step.2 step.0) (rests_known is rests body m ml size found s)
 
 -- the number of the node at a place of the body
 pub step_node : (plan : Plan) (steps : List ℕ) (m x k : ℕ) → m < length steps → number_in_place steps m < length plan.order.items → x ≡ get_or steps m x → k ≡ get_or plan.order.items x k → k ≡ number_in_place plan.order.items (number_in_place steps m)

@@ -18,7 +18,7 @@ use Rattle.worst_cycles.specs.Lefts.{HasSolved, IsHeadedFrom, IsLeftTo, AreLefts
 use Rattle.worst_cycles.specs.Planned.{IsPlanned}
 use Rattle.worst_cycles.proofs.BodyLaws.{node_here, same_node, loop_count, header_number, header_address}
 use Rattle.worst_cycles.proofs.PlanLaws.{at_place, body_before}
-use Rattle.worst_cycles.proofs.IterationLaws.{step_inside, step_of, address_of}
+use Rattle.worst_cycles.proofs.IterationLaws.{IsBodyAt, step_inside, step_of, address_of}
 use Rattle.worst_cycles.proofs.SearchLaws.{value_at}
 use Rattle.worst_cycles.proofs.VisitLaws.{headed_is, no_turns}
 
@@ -170,7 +170,7 @@ lefts_more {v = v} {t = t} {w = w} {plan = plan} {rests = rests} {l = l} is old 
           (λ (same : number_in_place new k ≡ number_in_place old k). let low = before.under in let r : number_in_place new k ≤ n.left (node_address v k) = omega arith in r)
           (λ (some : (m : ℕ) × (b : ℕ) × (m < length rests.steps.items) × (number_in_place plan.order.items (number_in_place rests.steps.items m) ≡ k) × (k ≢ number_in_place plan.order.items i) ×
           (rest_in rests.found.items m ≡ Some b) × (number_in_place new k + iteration ≡ b + number_in_place old (number_in_place plan.order.items i))).
-          let step = step_inside is l i ll il header of.places some.0 some.2 in
+          let step = step_inside is body some.0 some.2 in
           let at : address_at v plan rests.steps.items some.0 ≡ node_address v k = ap (node_address v) some.3 in
           let size = of.sizes in
           let closes : n.closing l (node_address v k) ≡ Some some.1 = sym (of.found n s some.0 (let r : some.0 < length rests.steps.items = some.2 in r) ∙ ap (n.closing l) at) ∙ some.5 in
@@ -201,6 +201,9 @@ lefts_more {v = v} {t = t} {w = w} {plan = plan} {rests = rests} {l = l} is old 
   where
     lt : l < (loops v t).loops
     lt = let count = loop_count v t in omega arith
+
+    body : IsBodyAt t plan l i rests.steps.items
+    body = record { within = ll; place = il; header = header; places = of.places }
 
     at_header : (loops v t).header l ≡ node_address v (number_in_place plan.order.items i)
     at_header = header_address v t l ll ∙ ap (node_address v) header

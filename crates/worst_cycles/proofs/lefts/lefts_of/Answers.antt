@@ -4,7 +4,7 @@ use Rattle.worst_cycles.specs.Worst.{by_edge}
 use Rattle.worst_cycles.specs.Visits.{visit_at}
 use Rattle.worst_cycles.specs.Lefts.{AreLeftsTo}
 use Rattle.worst_cycles.proofs.WorstLaws.{header_iteration}
-use Rattle.worst_cycles.proofs.IterationLaws.{step_inside}
+use Rattle.worst_cycles.proofs.IterationLaws.{IsBodyAt, step_inside}
 use Rattle.worst_cycles.proofs.LeftLaws.{lefts_first, lefts_more, lefts_on, lefts_last, visited_before, headed_loop, iteration_small, left_small, unheaded}
 use Rattle.worst_cycles.proofs.lefts.lefts_of.Goals as goal
 
@@ -49,7 +49,9 @@ raise_lefts-requires-clause-steps c = λ m ml.
     let within = c.loop-i.invariant.within in
     let il : c.loop-i.i - 1 < length c.args.visited.now.planned.plan.now.order.items = omega arith in
     let heads = headed_loop c.requires.visited.planned (c.loop-i.i - 1) c.index-k.result.now c.in-Some.l c.index.result.now il c.index-k.ensures c.index.ensures c.in-Some.is in
-    (step_inside c.requires.visited.planned c.in-Some.l (c.loop-i.i - 1) heads.0 il heads.1 c.in_ok-rests.ensures.places m ml).0
+    let body : IsBodyAt c.args.visited.now.planned.tree.now c.args.visited.now.planned.plan.now c.in-Some.l (c.loop-i.i - 1) c.in_ok-rests.rests.steps.items =
+    record { within = heads.0; place = il; header = heads.1; places = c.in_ok-rests.ensures.places } in
+    (step_inside c.requires.visited.planned body m ml).0
 
 pub raise_lefts-requires-clause-iteration : goal.raise_lefts-requires-clause-iteration
 raise_lefts-requires-clause-iteration c =
