@@ -160,11 +160,13 @@ rests_small found rest small this m b at = ⊎_elim
     past (suc i) e = absurd (none-some b e)
 
 -- over the limit
-pub rest_too_long : (v : FlowGraph) (t : LoopView) (w : ℕ → ℕ) (l at b : ℕ) (rest : Option ℕ) → l < length t.headers → (loops v t).inside l at ≡ true → ((n : Numbers) → AreSolvedBy v t w n → rest ≡ n.closing l at) → (weight : ℕ) → ((e : ℕ) → e < length v.code.edges → w e ≤ weight) → rest ≡ Some b → 2 ^ 48 + weight < b → IsOverLimit v t w
-rest_too_long v t w l at b rest ll inside is weight light some more n s =
+pub rest_too_long : {v : FlowGraph} {t : LoopView} {w : List ℕ} {plan : Plan} → IsPlanned v t w plan → (l at b : ℕ) (rest : Option ℕ) → l < length t.headers → (loops v t).inside l at ≡ true →
+    ((n : Numbers) → AreSolvedBy v t (by_edge w) n → rest ≡ n.closing l at) → rest ≡ Some b → 2 ^ 48 + plan.heaviest < b → IsOverLimit v t (by_edge w)
+rest_too_long {v = v} {t = t} {w = w} {plan = plan} is l at b rest ll inside found some more n s =
     let count = loop_count v t in
     let lt : l < (loops v t).loops = omega arith in
-    let near : b ≤ n.worst 0 + weight = s.closing_near weight (λ e el none. light e el) l at b lt inside (sym (is n s) ∙ some) in
+    let edges = is.weights in
+    let near : b ≤ n.worst 0 + plan.heaviest = s.closing_near plan.heaviest (λ e el none. is.heaviest e (omega arith)) l at b lt inside (sym (found n s) ∙ some) in
     omega arith
 
 -- once all rests are found, that of the header is one iteration

@@ -5,7 +5,7 @@ use Rattle.std.proofs.lemmas.Option.{slice_get_within, get_or_from_slice_get}
 use Rattle.graph_algorithms.specs.Arcs.{number_in_place}
 use Rattle.cost_theory.specs.Graph.{Loops}
 use Rattle.cost_theory.specs.Worst.{Numbers, IsLeft}
-use Rattle.code_graph.specs.FlowGraph.{FlowGraph, IsFlowGraph}
+use Rattle.code_graph.specs.FlowGraph.{FlowGraph}
 use Rattle.loop_tree.specs.Noted.{node_address}
 use Rattle.loop_tree.specs.Tree.{LoopView, loops}
 use Rattle.worst_cycles.specs.declared.plan.Plan.{Plan}
@@ -288,11 +288,11 @@ small_set xs ys k x most is low small j jl =
     let before = small j jx in let r : number_in_place ys j ≤ most = omega arith in r)
     (cases_eq j k)
 
-pub left_small : {v : FlowGraph} (t : LoopView) (w : ℕ → ℕ) (plan : Plan) (left : List ℕ) (i : ℕ) → IsFlowGraph v → HasSolved v t w → length left ≡ length v.code.nodes → AreLeftsTo v t w plan i left → (k : ℕ) → k < length left → number_in_place left k ≤ 2 ^ 48
-left_small {v = v} t w plan left i flow n size to k kl =
+pub left_small : {v : FlowGraph} {t : LoopView} {w : List ℕ} {plan : Plan} → IsPlanned v t w plan → (left : List ℕ) (i : ℕ) → HasSolved v t (by_edge w) → length left ≡ length v.code.nodes → AreLeftsTo v t (by_edge w) plan i left → (k : ℕ) → k < length left → number_in_place left k ≤ 2 ^ 48
+left_small {v = v} {t = t} {w = w} {plan = plan} is left i n size to k kl =
     let low : k < length v.code.nodes = omega arith in
     let under : number_in_place left k ≤ n.0.left (node_address v k) = (to n.0 n.1 k low).under in
-    let within = n.1.left_within (node_address v k) ((flow.nodes (node_address v k)).0 (k, node_here v k low)) in
+    let within = n.1.left_within (node_address v k) ((is.flow.nodes (node_address v k)).0 (k, node_here v k low)) in
     let small : n.0.worst 0 ≤ 2 ^ 48 = n.2 in
     let r : number_in_place left k ≤ 2 ^ 48 = omega arith in r
 

@@ -17,7 +17,7 @@ use Rattle.loop_tree.specs.Noted.{node_address}
 use Rattle.loop_tree.specs.Tree.{LoopView, loops}
 use Rattle.worst_cycles.specs.declared.visits.Visit.{Visit}
 use Rattle.worst_cycles.specs.declared.parts.LeftParts.{LeftParts}
-use Rattle.worst_cycles.specs.Worst.{WorstView, IsWorstFound, IsWorstInRange, IsWorstTooLong, IsLeftOf}
+use Rattle.worst_cycles.specs.Worst.{WorstView, WorstView, IsWorstFound, IsWorstInRange, IsWorstTooLong, IsLeftOf}
 use Rattle.worst_cycles.specs.Lefts.{HasSolved, AreParts}
 use Rattle.worst_cycles.specs.Needs.{AreEntries, HasTree}
 use Rattle.worst_cycles.specs.Solved.{AreSolved}
@@ -89,21 +89,21 @@ header_iteration {v = v} {t = t} {w = w} {visits = visits} {n = n} k tree found 
     found.each n s (number_in_place t.headers k) (node_address v (number_in_place t.headers k)) (node_here v (number_in_place t.headers k) (header_number v t tree.0 tree.1 k kl)) in
     visit.iteration k within (header_address v t k kl)
 
-pub worst_in_range : {v : FlowGraph} {t : LoopView} {w : ℕ → ℕ} {entries : List ℕ} {visits others : List Visit} (worst iteration left context slacks rests : List ℕ) → (tree : HasTree v t) → IsFlowGraph v → IsWeighted (graph v) (loops v t) tree.0 w → AreEntries v entries → AreAllVisited v t w visits → AreAllVisited v t w others →
-    length worst ≡ length v.code.functions → ((f : ℕ) → f < length v.code.functions → number_in_place worst f ≡ (visit_at visits (number_in_place entries f)).plain + (visit_at visits (number_in_place entries f)).turns) →
-    length iteration ≡ length t.headers → ((k : ℕ) → k < length t.headers → number_in_place iteration k ≡ (visit_at others (number_in_place t.headers k)).iteration) →
-    number_in_place worst 0 ≤ 2 ^ 48 → IsWorstInRange (graph v) (loops v t) w (record { worst = worst; iteration = iteration; left = left; context = context; slacks = slacks; rests = rests })
-worst_in_range {v = v} {t = t} {w = w} {entries = entries} {visits = visits} {others = others} worst iteration left context slacks rests tree flow is are found others_found size each loops_size loops_each small =
+pub worst_in_range : {v : FlowGraph} {t : LoopView} {w : ℕ → ℕ} {entries : List ℕ} {visits others : List Visit} (x : WorstView) (tree : HasTree v t) → IsFlowGraph v → IsWeighted (graph v) (loops v t) tree.0 w → AreEntries v entries → AreAllVisited v t w visits → AreAllVisited v t w others →
+    length x.worst ≡ length v.code.functions → ((f : ℕ) → f < length v.code.functions → number_in_place x.worst f ≡ (visit_at visits (number_in_place entries f)).plain + (visit_at visits (number_in_place entries f)).turns) →
+    length x.iteration ≡ length t.headers → ((k : ℕ) → k < length t.headers → number_in_place x.iteration k ≡ (visit_at others (number_in_place t.headers k)).iteration) →
+    number_in_place x.worst 0 ≤ 2 ^ 48 → IsWorstInRange (graph v) (loops v t) w x
+worst_in_range {v = v} {t = t} {w = w} {entries = entries} {visits = visits} {others = others} x tree flow is are found others_found size each loops_size loops_each small =
     let n = numbers (graph v) (loops v t) tree.0 w is in
     let count = loop_count v t in
     record {
       numbers = (
         n.0,
         n.1,
-        λ f lt. slice_get-get_or worst f 0 (let low : f < length worst = omega arith in low) ∙ ap Some (each f lt ∙ entry_worst f are found n.2 lt),
+        λ f lt. slice_get-get_or x.worst f 0 (let low : f < length x.worst = omega arith in low) ∙ ap Some (each f lt ∙ entry_worst f are found n.2 lt),
         λ k lt.
             let kl : k < length t.headers = omega arith in
-            slice_get-get_or iteration k 0 (let low : k < length iteration = omega arith in low) ∙ ap Some (loops_each k kl ∙ header_iteration k tree others_found n.2 kl),
+            slice_get-get_or x.iteration k 0 (let low : k < length x.iteration = omega arith in low) ∙ ap Some (loops_each k kl ∙ header_iteration k tree others_found n.2 kl),
       );
       size = size;
       loops_size = loops_size ∙ sym (loop_count v t);

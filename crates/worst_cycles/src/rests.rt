@@ -86,7 +86,7 @@ fn rest_over(
                 None
             }
         }
-        None => rest_past(graph, weights, plan, visits, rests, e),
+        None => rest_past(planned, visits, rests, e),
     }
 }
 

@@ -61,7 +61,7 @@ returns c =
     let first : number_in_place c.in_ok-worst.worst.items 0 ≡ c.index.result.now = value_at c.in_ok-worst.worst.items 0 c.index.result.now 0 some c.index.ensures in
     let small : number_in_place c.in_ok-worst.worst.items 0 ≤ 2 ^ 48 = omega arith in
     rw c.from_parts.ensures (record {
-      found = worst_in_range c.in_ok-worst.worst.items c.in_ok-iteration.iteration.items c.in_ok-parts.parts.left.items c.in_ok-parts.parts.context.items c.in_ok-parts.parts.slacks.items c.in_ok-parts.parts.rests.items c.requires.tree c.in_ok-plan.ensures.flow is entries found others
+      found = worst_in_range (record { worst = c.in_ok-worst.worst.items; iteration = c.in_ok-iteration.iteration.items; left = c.in_ok-parts.parts.left.items; context = c.in_ok-parts.parts.context.items; slacks = c.in_ok-parts.parts.slacks.items; rests = c.in_ok-parts.parts.rests.items }) c.requires.tree c.in_ok-plan.ensures.flow is entries found others
           (c.in_ok-worst.ensures.size ∙ entries.size) (λ f lt. c.in_ok-worst.ensures.each f (omega arith)) c.in_ok-iteration.ensures.size c.in_ok-iteration.ensures.each small;
       sizes = record { left = c.in_ok-parts.ensures.left.size; context = c.in_ok-parts.ensures.context.size; slacks = c.in_ok-parts.ensures.slacks.size; rests = c.in_ok-parts.ensures.rests.size };
       left = left_of c.in_ok-worst.worst.items c.in_ok-iteration.iteration.items is c.in_ok-parts.ensures;

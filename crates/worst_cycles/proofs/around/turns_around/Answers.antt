@@ -17,7 +17,7 @@ loop-l-preserved c =
     record {
       size = c.add_turns.ensures.size ∙ c.loop-l.invariant.size;
       small = λ k. let low = turns_small c.loop-l.around.items c.add_turns.new.around.items (body_of c.args.visited.now.planned.tree.now.bodies c.loop-l.l) (c.loop-l.l * 2 ^ 48) (visit_at c.args.visited.now.visits.now c.header.result).turns (2 ^ 48) inside outside c.loop-l.invariant.small room k in omega arith;
-      turns = turns_more c.args.visited.now.planned.tree.now (by_edge c.args.visited.now.planned.weights.now) c.loop-l.l (visit_at c.args.visited.now.visits.now c.header.result).turns c.loop-l.around.items c.add_turns.new.around.items c.requires.visited.planned.flow c.requires.visited.planned.tree ll
+      turns = turns_more c.requires.visited.planned c.loop-l.l (visit_at c.args.visited.now.visits.now c.header.result).turns c.loop-l.around.items c.add_turns.new.around.items ll
           (λ n s. ap (λ k. (visit_at c.args.visited.now.visits.now k).turns) (sym header) ∙ turns_at_header c.loop-l.l c.requires.visited.planned.tree c.requires.visited.visits s ll) inside outside c.loop-l.invariant.turns;
     }
 

@@ -38,13 +38,11 @@ returns-then-is_over c =
     let ml : c.loop-m.m < length c.loop-m.rests.steps.items = omega arith in
     let step = step_inside c.requires.planned c.loop-m.invariant.body c.loop-m.m ml in
     let node = step_node c.args.planned.now.plan.now c.loop-m.rests.steps.items c.loop-m.m c.index.result.now c.index-k.result.now ml step.0 c.index.ensures c.index-k.ensures in
-    let over = c.is_over.ensures.over c.if-is_over.true in
-    let edges = c.requires.planned.weights in (
+    let over = c.is_over.ensures.over c.if-is_over.true in (
       refl,
-      rest_too_long c.args.planned.now.graph.now c.args.planned.now.tree.now (by_edge c.args.planned.now.weights.now) c.args.l (address_at c.args.planned.now.graph.now c.args.planned.now.plan.now c.loop-m.rests.steps.items c.loop-m.m) over.0 c.rest_at_node-rest.result c.requires.within step.1
+      rest_too_long c.requires.planned c.args.l (address_at c.args.planned.now.graph.now c.args.planned.now.plan.now c.loop-m.rests.steps.items c.loop-m.m) over.0 c.rest_at_node-rest.result c.requires.within step.1
           (next_rest c.requires.planned c.args.visits.now c.loop-m.m c.index-k.result.now c.loop-m.rests c.rest_at_node-rest.result c.requires.visited
-          c.loop-m.invariant.body ml c.loop-m.invariant.size c.loop-m.invariant.found node c.rest_at_node-rest.ensures)
-          c.args.planned.now.plan.now.heaviest (λ e el. c.requires.planned.heaviest e (omega arith)) over.1 over.2,
+          c.loop-m.invariant.body ml c.loop-m.invariant.size c.loop-m.invariant.found node c.rest_at_node-rest.ensures) over.1 over.2,
     )
 
 pub loop-m-preserved : goal.loop-m-preserved

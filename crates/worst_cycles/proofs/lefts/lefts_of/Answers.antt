@@ -66,7 +66,7 @@ raise_lefts-requires-clause-iteration c =
 
 pub raise_lefts-requires-clause-small : goal.raise_lefts-requires-clause-small
 raise_lefts-requires-clause-small c = λ k kl.
-    left_small c.args.visited.now.planned.tree.now (by_edge c.args.visited.now.planned.weights.now) c.args.visited.now.planned.plan.now c.loop-i.left.items c.loop-i.i c.requires.visited.planned.flow c.requires.visited.solved c.loop-i.invariant.size c.loop-i.invariant.lefts k kl
+    left_small c.requires.visited.planned c.loop-i.left.items c.loop-i.i c.requires.visited.solved c.loop-i.invariant.size c.loop-i.invariant.lefts k kl
 
 pub loop-i-preserved-in-Some : goal.loop-i-preserved-in-Some
 loop-i-preserved-in-Some c =
