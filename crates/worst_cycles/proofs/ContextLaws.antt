@@ -19,8 +19,8 @@ use Rattle.worst_cycles.proofs.BodyLaws.{node_here}
 use Rattle.worst_cycles.proofs.PlanLaws.{at_place, entry_behind}
 
 -- what is left behind a call is at most the context of the called function
-pub context_most : {g : Graph} {l : Loops} {w : ℕ → ℕ} {n : Numbers} {f e : ℕ} → IsContext g l w n f → f ≢ 0 → IsReturningCall g f e → context_of g l w n e ≤ n.context f
-context_most {g = g} {l = l} {w = w} {n = n} {f = f} {e = e} is some call = ⊎_elim
+pub context_most : {g : Graph} {f e : ℕ} (l : Loops) (w : ℕ → ℕ) (n : Numbers) → IsContext g l w n f → f ≢ 0 → IsReturningCall g f e → context_of g l w n e ≤ n.context f
+context_most {g = g} {f = f} {e = e} l w n is some call = ⊎_elim
     (λ (first : (f ≡ 0) × (n.context f ≡ 0)). absurd (some first.0))
     (λ (other : (f ≢ 0) × ((o : Option ℕ) × IsGreatestIfAny (IsReturningCall g f) (context_of g l w n) o × (n.context f ≡ unwrap_or o 0))). pick other.1.0 other.1.1 other.1.2)
     is
@@ -92,7 +92,7 @@ contexts_more {v = v} {t = t} {w = w} {plan = plan} is old new i il raised to n 
       under = ⊎_elim
           (λ (same : number_in_place new f ≡ number_in_place old f). let low = before.under in let r : number_in_place new f ≤ n.context f = omega arith in r)
           (λ (some : (e : ℕ) × ((graph v).source e ≡ node_address v (number_in_place plan.order.items i)) × IsReturningCall (graph v) f e × (number_in_place new f ≡ context_of (graph v) (loops v t) (by_edge w) n e)).
-          let most : context_of (graph v) (loops v t) (by_edge w) n some.0 ≤ n.context f = context_most (s.context f fl) (s.uncalled some.0 f some.2.edge some.2.calls) some.2 in
+          let most : context_of (graph v) (loops v t) (by_edge w) n some.0 ≤ n.context f = context_most (loops v t) (by_edge w) n (s.context f fl) (s.uncalled some.0 f some.2.edge some.2.calls) some.2 in
           let same : number_in_place new f ≡ context_of (graph v) (loops v t) (by_edge w) n some.0 = some.3 in
           let r : number_in_place new f ≤ n.context f = omega arith in r)
           (now.either f);

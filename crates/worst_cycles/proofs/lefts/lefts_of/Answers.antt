@@ -33,8 +33,8 @@ rests_of-requires-clause-header c =
 pub rests_of-requires-clause-visited : goal.rests_of-requires-clause-visited
 rests_of-requires-clause-visited c = visited_before c.args.visited.now.planned.plan.now.order.items (c.loop-i.i - 1) c.requires.visited.visits
 
-pub offset_bounds-visits-k : goal.offset_bounds-visits-k
-offset_bounds-visits-k c =
+pub offset_bounds-visited-k : goal.offset_bounds-visited-k
+offset_bounds-visited-k c =
     let within = c.loop-i.invariant.within in
     let il : c.loop-i.i - 1 < length c.args.visited.now.planned.plan.now.order.items = omega arith in
     let heads = headed_loop c.requires.visited.planned (c.loop-i.i - 1) c.index-k.result.now c.in-Some.l c.index.result.now il c.index-k.ensures c.index.ensures c.in-Some.is in

@@ -1,4 +1,4 @@
-use Rattle.std.proofs.Common.{◌<◌, length, Some, sym, refl, arith}
+use Rattle.std.proofs.Common.{◌<◌, length, sym, refl, arith}
 use Rattle.graph_algorithms.specs.Arcs.{number_in_place}
 use Rattle.worst_cycles.proofs.NeedLaws.{edges_needed, need_skipped, need_added}
 use Rattle.worst_cycles.proofs.order.add_calls.Goals as goal

@@ -1,7 +1,5 @@
 use Rattle.std.proofs.Common.{◌<◌, length, arith}
 use Rattle.std.proofs.lemmas.Option.{slice_get_within}
-use Rattle.cost_theory.specs.Worst.{cost}
-use Rattle.code_graph.specs.FlowGraph.{graph}
 use Rattle.worst_cycles.specs.Worst.{by_edge}
 use Rattle.worst_cycles.proofs.FallLaws.{plain_by}
 use Rattle.worst_cycles.proofs.WorstLaws.{entry_worst}
