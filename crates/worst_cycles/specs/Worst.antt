@@ -1,5 +1,5 @@
 -- The worst cycles of a program's functions, as lists: what WorstNumbers are seen as, and what finding them answers.
-use Rattle.std.specs.Prelude.{◌≡◌, ℕ, ◌^◌, ◌<◌, ◌≤◌, List, length, slice_get, slice_index, slice_index_or, Option, Result, Ok, Err, Some, is_some}
+use Rattle.std.specs.Prelude.{◌≡◌, ℕ, ◌^◌, ◌<◌, ◌≤◌, List, length, slice_get, slice_index, slice_index_or, Result, Ok, Err, Some, is_some}
 use Rattle.scale_base.specs.declared.refusal.Refusal.{Refusal}
 use Rattle.scale_base.specs.declared.refusal.Refusal.TheVariants.{TooLong}
 use Rattle.cost_theory.specs.Graph.{Graph, Loops, only}
