@@ -2,3 +2,4 @@ pub mod Marks
 pub mod Weights
 pub mod Counters
 pub mod Sites
+pub mod Marked

@@ -3,7 +3,9 @@
 ghost use Rattle.std.specs.Prelude.{◌≡◌, ◌≤◌, ◌<◌, ◌+◌, ◌++◌, ℕ, length, OnOk, IfOk};
 ghost use Rattle.cost_theory.specs.Graph.{leaves, goes_back};
 ghost use Rattle.scale_sites.specs.Marks.{AreBelow, numbered, leaves_any, holds_left, is_outermost, marks_at, exits_from, resets_from, counts_from};
+ghost use Rattle.scale_sites.specs.Marked.{IsMarking};
 
+use crate::marking::Marking;
 use loop_tree::LoopTree;
 use scale_base::{Mark, NoMemory};
 use std::alloc::Global;
@@ -61,58 +63,56 @@ fn leaves_any(tree: &LoopTree, way: Way, counted: &[usize]) -> bool
 }
 
 /// Whether loop `k` is the outermost of the counted loops that a step leaves.
-fn is_outermost(tree: &LoopTree, k: usize, way: Way, counted: &[usize]) -> bool
-    requires within { k < length tree.now.headers }
-    requires below { AreBelow (length tree.now.headers) counted.now }
-    ensures { result ≡ is_outermost (numbered tree.now) way.from way.to k counted.now }
+fn is_outermost(marking: &Marking<'_>, k: usize, way: Way) -> bool
+    requires marking { IsMarking marking.now }
+    requires within { k < length marking.now.tree.now.headers }
+    ensures { result ≡ is_outermost (numbered marking.now.tree.now) way.from way.to k marking.now.counted.now }
 {
-    leaves(tree, k, way) && holds_left(tree, k, way, counted)
+    leaves(marking.tree, k, way) && holds_left(marking.tree, k, way, marking.counted)
 }
 
 /// Adds the Exit of the outermost counted loop that a step leaves.
 fn push_exits(
     marks: &mut Vec<Mark>,
-    tree: &LoopTree,
+    marking: &Marking<'_>,
     way: Way,
-    counted: &[usize],
     counter: u16,
     rest: &[usize],
 ) -> Result<(), NoMemory>
+    requires marking { IsMarking marking.now }
     requires counters { counter + length rest.now ≤ 600 }
-    requires below { AreBelow (length tree.now.headers) counted.now }
-    requires rest_below { AreBelow (length tree.now.headers) rest.now }
-    ensures { OnOk result (marks.new.items ≡ marks.old.items ++ exits_from (numbered tree.now) way.from way.to counted.now counter rest.now) }
+    requires rest_below { AreBelow (length marking.now.tree.now.headers) rest.now }
+    ensures { OnOk result (marks.new.items ≡ marks.old.items ++ exits_from (numbered marking.now.tree.now) way.from way.to marking.now.counted.now counter rest.now) }
 {
     let Some((k, behind)) = rest.split_first() else {
         return Ok(());
     };
-    if is_outermost(tree, *k, way, counted) {
+    if is_outermost(marking, *k, way) {
         marks.push(Mark::Exit(counter))?;
     }
-    push_exits(marks, tree, way, counted, counter + 1, behind)
+    push_exits(marks, marking, way, counter + 1, behind)
 }
 
 /// Adds the Resets of the other counted loops that it leaves.
 fn push_resets(
     marks: &mut Vec<Mark>,
-    tree: &LoopTree,
+    marking: &Marking<'_>,
     way: Way,
-    counted: &[usize],
     counter: u16,
     rest: &[usize],
 ) -> Result<(), NoMemory>
+    requires marking { IsMarking marking.now }
     requires counters { counter + length rest.now ≤ 600 }
-    requires below { AreBelow (length tree.now.headers) counted.now }
-    requires rest_below { AreBelow (length tree.now.headers) rest.now }
-    ensures { OnOk result (marks.new.items ≡ marks.old.items ++ resets_from (numbered tree.now) way.from way.to counted.now counter rest.now) }
+    requires rest_below { AreBelow (length marking.now.tree.now.headers) rest.now }
+    ensures { OnOk result (marks.new.items ≡ marks.old.items ++ resets_from (numbered marking.now.tree.now) way.from way.to marking.now.counted.now counter rest.now) }
 {
     let Some((k, behind)) = rest.split_first() else {
         return Ok(());
     };
-    if leaves(tree, *k, way) && !is_outermost(tree, *k, way, counted) {
+    if leaves(marking.tree, *k, way) && !is_outermost(marking, *k, way) {
         marks.push(Mark::Reset(counter))?;
     }
-    push_resets(marks, tree, way, counted, counter + 1, behind)
+    push_resets(marks, marking, way, counter + 1, behind)
 }
 
 /// Adds the Count of the counted loop to whose header it goes back.
@@ -136,26 +136,26 @@ fn push_counts(
     push_counts(marks, tree, way, counter + 1, behind)
 }
 
-/// The marks of an edge: Exit or Switch, then Resets, then Count.
+/// The marks of a step along an edge of so much slack: Exit or Switch, then Resets, then Count.
 pub fn edge_marks(
     alloc: Global,
-    tree: &LoopTree,
-    counted: &[usize],
+    marking: &Marking<'_>,
+    way: Way,
     branch: bool,
     slack: u64,
-    min_gain: u32,
-    way: Way,
 ) -> Result<Vec<Mark>, NoMemory>
-    requires counters { length counted.now ≤ 509 }
-    requires below { AreBelow (length tree.now.headers) counted.now }
-    ensures { IfOk result (λ m. m.items ≡ marks_at (numbered tree.now) counted.now branch slack min_gain way.from way.to) }
+    requires { IsMarking marking.now }
+    ensures { IfOk result (λ m. m.items ≡ marks_at (numbered marking.now.tree.now) marking.now.counted.now branch slack marking.now.min_gain way.from way.to) }
 {
     let mut marks = Vec::new(alloc);
-    if branch && (!leaves_any(tree, way, counted) && slack >= u64::from(min_gain)) {
+    if branch
+        && (!leaves_any(marking.tree, way, marking.counted)
+            && slack >= u64::from(marking.min_gain))
+    {
         marks.push(Mark::Switch)?;
     }
-    push_exits(&mut marks, tree, way, counted, 2, counted)?;
-    push_resets(&mut marks, tree, way, counted, 2, counted)?;
-    push_counts(&mut marks, tree, way, 2, counted)?;
+    push_exits(&mut marks, marking, way, 2, marking.counted)?;
+    push_resets(&mut marks, marking, way, 2, marking.counted)?;
+    push_counts(&mut marks, marking.tree, way, 2, marking.counted)?;
     Ok(marks)
 }

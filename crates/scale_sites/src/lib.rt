@@ -4,6 +4,7 @@
 mod cost;
 mod counting;
 mod edge_marks;
+mod marking;
 mod sites;
 
 ghost use Rattle.scale_sites.specs.Marks.{SwitchesOnce};

@@ -8,13 +8,15 @@ ghost use Rattle.code_text.specs.EdgeCosts.{cost_of};
 ghost use Rattle.code_graph.specs.FlowGraph.{graph as graph_seen, IsFlowGraph};
 ghost use Rattle.loop_tree.specs.Tree.{loops, IsLoopTree};
 ghost use Rattle.scale_sites.specs.Counters.{counted_loops};
-ghost use Rattle.scale_sites.specs.Marks.{AreBelow, marks_of};
+ghost use Rattle.scale_sites.specs.Marks.{marks_of};
+ghost use Rattle.scale_sites.specs.Marked.{IsMarking};
 ghost use Rattle.scale_sites.specs.Weights.{switches, tail_of, extra_of, is_patched, jumps_of};
 ghost use Rattle.scale_sites.specs.Sites.{SitesView, is_branch, is_branch_kind, marks_in, marks_at_edge, AreMarks, AreJumps, AreSites};
 
 use crate::cost;
 use crate::counting::CounterList;
 use crate::edge_marks::{Way, edge_marks};
+use crate::marking::Marking;
 use code_graph::{CodeGraph, Weights};
 use loop_tree::LoopTree;
 use power_model::Costs;
@@ -78,49 +80,37 @@ fn is_branch(kind: EdgeKind) -> bool
 /// The marks of edge `e`, of so much slack.
 fn marks_of_edge(
     alloc: Global,
-    graph: &CodeGraph,
-    tree: &LoopTree,
-    counted: &[usize],
+    marking: &Marking<'_>,
     slack: u64,
-    min_gain: u32,
     e: usize,
 ) -> Result<Vec<Mark>, NoMemory>
-    requires flow { IsFlowGraph graph.now }
-    requires tree { (extent : ℕ → ℕ → Bool) × IsLoopTree graph.now extent tree.now }
-    requires counters { length counted.now ≤ 509 }
-    requires below { AreBelow (length tree.now.headers) counted.now }
-    requires edge { e < length graph.now.code.edges }
-    ensures marks { IfOk result (λ m. m.items ≡ marks_of (graph_seen graph.now) (loops graph.now tree.now) counted.now (is_branch graph.now e) slack min_gain e) }
+    requires marking { IsMarking marking.now }
+    requires edge { e < length marking.now.graph.now.code.edges }
+    ensures marks { IfOk result (λ m. m.items ≡ marks_of (graph_seen marking.now.graph.now) (loops marking.now.graph.now marking.now.tree.now) marking.now.counted.now (is_branch marking.now.graph.now e) slack marking.now.min_gain e) }
     ensures few { IfOk result (λ m. length m.items ≤ 1600) }
 {
     let way = Way {
-        from: graph.source(e),
-        to: graph.target(e),
+        from: marking.graph.source(e),
+        to: marking.graph.target(e),
     };
-    let branch = is_branch(graph.edge(e).kind);
-    let marks = edge_marks(alloc, tree, counted, branch, slack, min_gain, way)?;
+    let branch = is_branch(marking.graph.edge(e).kind);
+    let marks = edge_marks(alloc, marking, way, branch, slack)?;
     Ok(marks)
 }
 
 /// By edge, its marks.
 fn all_marks(
     alloc: Global,
-    graph: &CodeGraph,
-    tree: &LoopTree,
-    counted: &[usize],
+    marking: &Marking<'_>,
     slacks: &[u64],
-    min_gain: u32,
 ) -> Result<Vec<Vec<Mark>>, NoMemory>
-    requires flow { IsFlowGraph graph.now }
-    requires tree { (extent : ℕ → ℕ → Bool) × IsLoopTree graph.now extent tree.now }
-    requires counters { length counted.now ≤ 509 }
-    requires below { AreBelow (length tree.now.headers) counted.now }
-    requires slacks { length slacks.now ≡ length graph.now.code.edges }
-    ensures { IfOk result (λ marks. AreMarks graph.now tree.now counted.now slacks.now min_gain (length graph.now.code.edges) (map (λ m. m.items) marks.items)) }
+    requires marking { IsMarking marking.now }
+    requires slacks { length slacks.now ≡ length marking.now.graph.now.code.edges }
+    ensures { IfOk result (λ marks. AreMarks marking.now.graph.now marking.now.tree.now marking.now.counted.now slacks.now marking.now.min_gain (length marking.now.graph.now.code.edges) (map (λ m. m.items) marks.items)) }
 {
     let mut marks = Vec::new(alloc);
-    for e in 0..graph.edge_count() {
-        marks.push(marks_of_edge(alloc, graph, tree, counted, slacks[e], min_gain, e)?)?;
+    for e in 0..marking.graph.edge_count() {
+        marks.push(marks_of_edge(alloc, marking, slacks[e], e)?)?;
     }
     Ok(marks)
 }
@@ -187,7 +177,13 @@ pub fn choose(
     requires slacks { length slacks.now ≡ length graph.now.code.edges }
     ensures { IfOk result (λ s. AreSites graph.now tree.now counters.now slacks.now min_gain s) }
 {
-    let marks = all_marks(alloc, graph, tree, counters.as_slice(), slacks, min_gain)?;
+    let marking = Marking {
+        graph,
+        tree,
+        counted: counters.as_slice(),
+        min_gain,
+    };
+    let marks = all_marks(alloc, &marking, slacks)?;
     let jumps = all_jumps(alloc, graph, &marks)?;
     Ok(Sites { marks, jumps })
 }

@@ -4,4 +4,4 @@ use Rattle.scale_sites.specs.Sites.{AreMarks}
 use Rattle.scale_sites.proofs.sites.all_marks.Given as goal
 
 abbrev pub invariant-loop-e : goal.invariant-loop-e
-invariant-loop-e l = AreMarks l.graph l.tree l.counted l.slacks l.min_gain l.e (map (λ (m : Vec Mark Global). m.items) l.marks.items)
+invariant-loop-e l = AreMarks l.marking.graph.now l.marking.tree.now l.marking.counted.now l.slacks l.marking.min_gain l.e (map (λ (m : Vec Mark Global). m.items) l.marks.items)

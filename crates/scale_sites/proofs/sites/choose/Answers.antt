@@ -1,10 +1,15 @@
-use Rattle.std.proofs.Common.{◌≡◌, ◌+◌, ◌≤◌, length, sym, ap, ◌∙◌, subst, arith}
+use Rattle.std.proofs.Common.{◌≡◌, ◌+◌, ◌≤◌, length, sym, ◌∙◌, subst, arith}
 use Rattle.scale_sites.specs.Marks.{AreBelow}
 use Rattle.scale_sites.proofs.SiteLaws.{set_below}
 use Rattle.scale_sites.proofs.sites.choose.Goals as goal
 
-pub all_marks-requires-clause-below : goal.all_marks-requires-clause-below
-all_marks-requires-clause-below c =
+pub all_marks-requires-clause-marking : goal.all_marks-requires-clause-marking
+all_marks-requires-clause-marking c =
     let size : length c.args.tree.now.counted ≡ length c.args.tree.now.headers = c.requires.tree.1.counted_size in
-    subst (AreBelow (length c.args.tree.now.headers)) (sym (c.as_slice.ensures ∙ c.requires.counters))
-    (set_below c.args.tree.now.counted 0 (length c.args.tree.now.headers) (let r : 0 + length c.args.tree.now.counted ≤ length c.args.tree.now.headers = omega arith in r))
+    record {
+      flow = c.requires.flow;
+      tree = c.requires.tree;
+      counters = subst (λ xs. length xs ≤ 509) (sym c.as_slice.ensures) c.requires.few;
+      below = subst (AreBelow (length c.args.tree.now.headers)) (sym (c.as_slice.ensures ∙ c.requires.counters))
+          (set_below c.args.tree.now.counted 0 (length c.args.tree.now.headers) (let r : 0 + length c.args.tree.now.counted ≤ length c.args.tree.now.headers = omega arith in r));
+    }
