@@ -44,6 +44,10 @@ STUB = [
     0x10030313, 0x00535333, 0x00F37313, 0xFE602E23, 0x80402303, 0x80002283, 0xFF9FE06F,
 ]  # fmt: skip
 TO_STUB = 0x7F10006F
+# Skips fourteen of twenty-four divisions; its stub, for a deadline of 502 and a least gain of 1, and the jump to it.
+SKIP = [0x02050E63] + [0x0262C2B3] * 24 + [0x05D00893, 0x00000073]
+SKIP_STUB = [STUB[0], 0x800FF06F] + STUB[2:-1] + [0x808FF06F]
+TO_SKIP_STUB = 0x0000106F
 # A far call of a function that only returns, and an exit; the same with a near call.
 FAR_CALL = [0x00000097, 0x010080E7, 0x05D00893, 0x00000073, 0x00008067]
 NEAR_CALL = [0x00000097, 0x00C000EF, 0x05D00893, 0x00000073, 0x00008067]
@@ -64,6 +68,8 @@ scale make NUMBER SIZE PREFIX
 scale help
 scale check IMAGE FOREIGN MACHINE LOOPS
 scale lower IMAGE JUMPS OUT
+scale survey IMAGE SCALED MACHINE LOOPS INPUT ..
+scale tune IMAGE MACHINE LOOPS OUT INPUT ..
 """
 BAD_COMMAND = "bad command; try: scale help\n"
 
@@ -117,6 +123,21 @@ def counts(pairs, jumps, block, depth):
     return "pairs %d\njumps %d\nblock bytes %d\ndepth %d\n" % (pairs, jumps, block, depth)
 
 
+def survey_line(number, cycles, scaled_cycles, time, energy):
+    return "input %d cycles %d scaled cycles %d time %d energy %d\n" % (number, cycles, scaled_cycles, time, energy)
+
+
+def totals(inputs, kept, late, differ, cycles, scaled_cycles, energy, held, switches):
+    return (
+        "inputs %d\nkept %d\nlate %d\ndiffer %d\n" % (inputs, kept, late, differ)
+        + "original cycles %d\nscaled cycles %d\nenergy %d\nheld %d\nswitches %d\n" % (cycles, scaled_cycles, energy, held, switches)
+    )
+
+
+def tuned(candidate, told, inputs, left_out, energy, hold_energy):
+    return "candidate %d\n%sinputs %d\nleft out %d\nenergy %d\nhold energy %d\n" % (candidate, told, inputs, left_out, energy, hold_energy)
+
+
 def report(end, steps, cycles, time, energy, held, switches, level, keyed, output, kept="unchecked"):
     return (
         "end %s\nsteps %d\ncycles %d\ntime %d\nenergy %d\nheld %d\n" % (end, steps, cycles, time, energy, held)
@@ -146,6 +167,7 @@ def files():
     rewritten = [TO_STUB if word == 0x00050E63 else word for word in READ_ONE]
     # Level 2 leads to level 0.
     late_stub = [0x00030313 if word == 0x10030313 else word for word in STUB]
+    skip_rewritten = [TO_SKIP_STUB] + SKIP[1:]
     return {
         "seven": plain_image(SEVEN),
         "own": plain_image(SEVEN),
@@ -161,6 +183,9 @@ def files():
         "rewritten": stored_image(rewritten, 1, STUB),
         "too-slow": stored_image(rewritten, 0, STUB),
         "late": stored_image(rewritten, 1, late_stub),
+        "read-one-held": stored_image(READ_ONE, 1),
+        "skip": plain_image(SKIP),
+        "skip-rewritten": stored_image(skip_rewritten, 1, SKIP_STUB),
         "far-call": plain_image(FAR_CALL),
         "near-call": plain_image(NEAR_CALL),
         "table-jump": plain_image(TABLE_JUMP),
@@ -170,6 +195,7 @@ def files():
         "m-27": machine(27).encode(),
         "m-6": machine(6).encode(),
         "m-160": machine(160).encode(),
+        "m-502": machine(502).encode(),
         "m-2-steps": machine(steps=2).encode(),
         "m-100-1": machine(100, min_gain=1).encode(),
         "m-made": machine(700, 10000000).encode(),
@@ -205,6 +231,8 @@ LINES = [
     ("lower table-jump jumps out more", 2, BAD_COMMAND),
     ("check read-one rewritten m-160", 2, BAD_COMMAND),
     ("check read-one rewritten m-160 loops more", 2, BAD_COMMAND),
+    ("survey read-one rewritten m-160 loops", 2, BAD_COMMAND),
+    ("tune read-one m-160 loops out" + " one" * 65, 2, BAD_COMMAND),
     ("make 0 0 p", 2, BAD_COMMAND),
     ("make 0 2001 p", 2, BAD_COMMAND),
     ("make 18446744073709551616 1 p", 2, BAD_COMMAND),
@@ -233,6 +261,16 @@ LINES = [
     ("check read-one none m-160 loops", 7, "check no image 1\n"),
     ("check rewritten rewritten m-160 loops", 1, "refused 8 already scaled\n"),
     ("check read-one missing m-160 loops", 3, ""),
+    (
+        "survey read-one rewritten m-160 loops none one",
+        0,
+        survey_line(1, 16, 34, 102, 98) + survey_line(2, 75, 79, 158, 237) + totals(2, 2, 0, 0, 91, 113, 335, 339, 1),
+    ),
+    ("survey rewritten read-one m-160 loops none", 1, "refused 8 already scaled\n"),
+    ("survey read-one rewritten m-160 loops one missing", 3, ""),
+    ("tune skip m-502 loops out none", 0, tuned(1, summary(1, 251, 502, 502, 18, 1, 56), 1, 0, 174, 324), {"out": "skip-rewritten"}),
+    ("tune read-one m-160 loops read-one none one", 0, tuned(0, summary(1, 75, 150, 160), 2, 0, 273, 273), {"read-one": "read-one-held"}),
+    ("tune read-one m loops out none", 1, "refused 41 deadline missed: need 75 have 28\n"),
     ("lower far-call no-jumps out", 0, counts(1, 0, 0, 0), {"out": "near-call"}),
     ("lower table-jump jumps out", 0, counts(0, 1, 32, 1), {"out": "lowered"}),
     ("lower table-jump jumps jumps", 0, counts(0, 1, 32, 1), {"jumps": "lowered"}),

@@ -7,6 +7,8 @@ import time
 TOP = os.path.dirname(os.path.dirname(os.path.abspath(__file__)))
 SCALE = os.path.join(TOP, "scale")
 DATA = os.path.join(TOP, "crates", "scale_tool", "data")
+# What `./scale` builds and starts.
+PROGRAM = os.path.join(TOP, "crates", "scale_tool", "out", "scale_tool")
 
 
 def build():
@@ -26,12 +28,12 @@ def write_machine(folder, deadline=4000000000000000000):
         file.write(machine_text("deadline", 28, deadline))
 
 
-def best_of(words):
+def best_of(words, program=SCALE):
     """Runs the program with these words three times; the best time in seconds, the status, and what was printed, by lines."""
     best = None
     for _ in range(3):
         begin = time.perf_counter()
-        done = subprocess.run([SCALE, *words], capture_output=True)
+        done = subprocess.run([program, *words], capture_output=True)
         took = time.perf_counter() - begin
         best = took if best is None else min(best, took)
     return best, done.returncode, done.stdout.decode().splitlines()

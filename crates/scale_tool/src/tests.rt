@@ -10,6 +10,8 @@ mod plans;
 mod rewrites;
 mod rows;
 mod runs;
+mod surveys;
+mod tunings;
 
 use crate::tool::run_tool;
 use host_files::{MemHost, NeverFails};
@@ -477,7 +479,7 @@ fn machine_and_loop_files_are_refused(rt: HostRuntime) -> Result<(), Fail> {
 #[test]
 fn words_that_are_no_command(rt: HostRuntime) -> Result<(), Fail> {
     let alloc = rt.alloc();
-    let cases: [&[&str]; 16] = [
+    let cases: [&[&str]; 18] = [
         &["hold", "a", "b"],
         &[],
         &["make", "0", "1"],
@@ -494,6 +496,8 @@ fn words_that_are_no_command(rt: HostRuntime) -> Result<(), Fail> {
         &["lower", "a", "b", "c", "d"],
         &["check", "a", "b", "c"],
         &["check", "a", "b", "c", "d", "e"],
+        &["survey", "a", "b", "c"],
+        &["tune", "a", "b", "c"],
     ];
     for case in cases {
         let mut host = host_of(alloc, &[], &[], "", "")?;
@@ -522,11 +526,11 @@ fn help_is_printed(rt: HostRuntime) -> Result<(), Fail> {
     let alloc = rt.alloc();
     let words = words_of(alloc, &["help"])?;
     let mut host = MemHost::new(alloc, Vec::new(alloc));
-    host.reserve(0, 262)?;
+    host.reserve(0, 355)?;
     assert_eq!(rt; run_tool(&mut host, alloc, &words), 0);
     assert_eq!(rt;
         host.printed(),
-        b"scale hold IMAGE MACHINE LOOPS OUT\nscale rewrite IMAGE MACHINE LOOPS OUT\nscale report IMAGE MACHINE LOOPS\nscale simulate IMAGE MACHINE INPUT OUT [LOOPS]\nscale make NUMBER SIZE PREFIX\nscale help\nscale check IMAGE FOREIGN MACHINE LOOPS\nscale lower IMAGE JUMPS OUT\n".as_slice()
+        b"scale hold IMAGE MACHINE LOOPS OUT\nscale rewrite IMAGE MACHINE LOOPS OUT\nscale report IMAGE MACHINE LOOPS\nscale simulate IMAGE MACHINE INPUT OUT [LOOPS]\nscale make NUMBER SIZE PREFIX\nscale help\nscale check IMAGE FOREIGN MACHINE LOOPS\nscale lower IMAGE JUMPS OUT\nscale survey IMAGE SCALED MACHINE LOOPS INPUT ..\nscale tune IMAGE MACHINE LOOPS OUT INPUT ..\n".as_slice()
     );
     let mut failing = host_of(alloc, &[1], &[], "", "")?;
     assert_eq!(rt; run_tool(&mut failing, alloc, &words), 3);

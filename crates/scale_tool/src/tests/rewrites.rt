@@ -53,7 +53,7 @@ pub fn machine_of_gain(alloc: Global, deadline: u32, gain: &str) -> Result<Strin
 }
 
 // What `rewrite` stores of a plain image, when it prints this summary.
-fn rewritten(
+pub fn rewritten(
     rt: &impl Abort,
     alloc: Global,
     words: &[u32],
