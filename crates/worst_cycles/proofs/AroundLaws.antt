@@ -1,18 +1,21 @@
 -- The turns of the loops round each node, one loop after the other.
-use Rattle.std.proofs.Common.{◌≡◌, ◌≢◌, ℕ, zero, suc, ◌+◌, ◌<◌, ◌≤◌, ◌⊎◌, inl, inr, Bool, true, false, List, length, Some, refl, sym, ap, ◌∙◌, subst, arith, ⊎_elim}
+use Rattle.std.proofs.Common.{◌≡◌, ◌≢◌, ℕ, zero, suc, ◌+◌, ◌<◌, ◌≤◌, ◌⊎◌, inl, inr, Bool, true, false, List, length, refl, sym, ap, ◌∙◌, subst, arith, ⊎_elim}
 use Rattle.graph_algorithms.specs.Arcs.{number_in_place, AreDistinct}
 use Rattle.cost_theory.specs.Graph.{sum_below, only}
 use Rattle.cost_theory.specs.Worst.{Numbers, all_of}
 use Rattle.cost_theory.specs.Lists.{body_of}
-use Rattle.code_graph.specs.FlowGraph.{FlowGraph, IsFlowGraph}
+use Rattle.code_graph.specs.FlowGraph.{FlowGraph}
 use Rattle.loop_tree.specs.Noted.{node_address}
 use Rattle.std.proofs.lemmas.Bool.{cases_lt, cases_eq}
 use Rattle.std.proofs.lemmas.Option.{slice_get-get_or}
 use Rattle.loop_tree.specs.Tree.{LoopView, loops, IsLoopTree}
+use Rattle.worst_cycles.specs.declared.plan.Plan.{Plan}
 use Rattle.worst_cycles.specs.declared.visits.Visit.{Visit}
+use Rattle.worst_cycles.specs.Worst.{by_edge}
 use Rattle.worst_cycles.specs.Needs.{HasTree}
-use Rattle.worst_cycles.specs.Visits.{visit_at, IsTurnsAt, IsVisit, AreSolvedBy, AreAllVisited}
+use Rattle.worst_cycles.specs.Visits.{visit_at, IsVisit, AreSolvedBy, AreAllVisited}
 use Rattle.worst_cycles.specs.Lefts.{AreTurnsRound}
+use Rattle.worst_cycles.specs.Planned.{IsPlanned}
 use Rattle.worst_cycles.proofs.BodyLaws.{node_here, same_node, loop_count, header_number, header_address, inside_at, number_inside}
 use Rattle.worst_cycles.proofs.IterationLaws.{body_within}
 
@@ -30,9 +33,9 @@ body_distinct v t extent is l ll i j lt jl same =
     let bad : ⊥ = omega arith in bad
 
 -- what the visits have at the header of a loop
-pub turns_at_header : (v : FlowGraph) (t : LoopView) (w : ℕ → ℕ) (visits : List Visit) (n : Numbers) (l : ℕ) → HasTree v t → AreAllVisited v t w visits → AreSolvedBy v t w n → l < length t.headers →
+pub turns_at_header : {v : FlowGraph} {t : LoopView} {w : ℕ → ℕ} {visits : List Visit} {n : Numbers} (l : ℕ) → HasTree v t → AreAllVisited v t w visits → AreSolvedBy v t w n → l < length t.headers →
     (visit_at visits (number_in_place t.headers l)).turns ≡ all_of (loops v t) n l
-turns_at_header v t w visits n l tree found s ll =
+turns_at_header {v = v} {t = t} {w = w} {visits = visits} {n = n} l tree found s ll =
     let count = loop_count v t in
     let lt : l < (loops v t).loops = omega arith in
     let address = header_address v t l ll in
@@ -45,11 +48,11 @@ turns_at_header v t w visits n l tree found s ll =
     visit.turns
 
 -- one loop more
-pub turns_more : (v : FlowGraph) (t : LoopView) (w : ℕ → ℕ) (l turns : ℕ) (old new : List ℕ) → IsFlowGraph v → HasTree v t → l < length t.headers → ((n : Numbers) → AreSolvedBy v t w n → turns ≡ all_of (loops v t) n l) →
+pub turns_more : {v : FlowGraph} {t : LoopView} {w : List ℕ} {plan : Plan} → IsPlanned v t w plan → (l turns : ℕ) (old new : List ℕ) → l < length t.headers → ((n : Numbers) → AreSolvedBy v t (by_edge w) n → turns ≡ all_of (loops v t) n l) →
     ((i : ℕ) → i < length (body_of t.bodies l) → number_in_place new (number_in_place (body_of t.bodies l) i) ≡ number_in_place old (number_in_place (body_of t.bodies l) i) + turns) →
     ((k : ℕ) → ((i : ℕ) → i < length (body_of t.bodies l) → number_in_place (body_of t.bodies l) i ≢ k) → number_in_place new k ≡ number_in_place old k) →
-    AreTurnsTo v t w l old → AreTurnsTo v t w (l + 1) new
-turns_more v t w l turns old new flow tree ll all inside outside to n s k kl =
+    AreTurnsTo v t (by_edge w) l old → AreTurnsTo v t (by_edge w) (l + 1) new
+turns_more {v = v} {t = t} {w = w} {plan = plan} is l turns old new ll all inside outside to n s k kl =
     let before = to n s k kl in
     go ((loops v t).inside l (node_address v k)) refl before
   where
@@ -62,7 +65,7 @@ turns_more v t w l turns old new flow tree ll all inside outside to n s k kl =
     go : (b : Bool) → (loops v t).inside l (node_address v k) ≡ b → number_in_place old k ≡ sum_below l f → number_in_place new k ≡ sum_below (l + 1) f
     go true in_l before =
         let i = number_inside v t l (node_address v k) in_l in
-        let same : k ≡ number_in_place (body_of t.bodies l) i.0 = same_node v flow k (number_in_place (body_of t.bodies l) i.0) kl (body_within v t tree.0 tree.1 l i.0 ll i.1) i.2 in
+        let same : k ≡ number_in_place (body_of t.bodies l) i.0 = same_node v is.flow k (number_in_place (body_of t.bodies l) i.0) kl (body_within v t is.tree.0 is.tree.1 l i.0 ll i.1) i.2 in
         let more : number_in_place new k ≡ number_in_place old k + turns = subst (λ x. number_in_place new x ≡ number_in_place old x + turns) (sym same) (inside i.0 i.1) in
         let turn : f l ≡ all_of (loops v t) n l = ap (λ b. only b (all_of (loops v t) n l)) in_l in
         let whole : turns ≡ all_of (loops v t) n l = all n s in

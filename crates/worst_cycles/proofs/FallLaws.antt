@@ -51,9 +51,9 @@ plain_by v t extent is e lt plain k kl = go (is_back (graph v) (loops v t) k e) 
         let bad : ⊥ = cc in absurd bad
     go false back = back
 
-need_falls : (v : FlowGraph) (t : LoopView) (extent : ℕ → ℕ → Bool) (entries : List ℕ) (rank : ℕ → ℕ) (count : ℕ) (place : ℕ → ℕ) → IsFlowGraph v → AreEntries v entries → IsLoopTree v extent t → IsPlainOrder (graph v) (loops v t) count place → IsCallOrder (graph v) rank →
+need_falls : {v : FlowGraph} {t : LoopView} {extent : ℕ → ℕ → Bool} {entries : List ℕ} {count : ℕ} {place : ℕ → ℕ} (rank : ℕ → ℕ) → IsFlowGraph v → AreEntries v entries → IsLoopTree v extent t → IsPlainOrder (graph v) (loops v t) count place → IsCallOrder (graph v) rank →
     (e n : ℕ) → e < length v.code.edges → IsNeeded v t.backs entries e n → height (graph v) rank count place (slice_index v.code.nodes n) < height (graph v) rank count place ((graph v).source e)
-need_falls v t extent entries rank count place flow are tree is calls e n lt need = ⊎_elim
+need_falls {v = v} {t = t} {extent = extent} {entries = entries} {count = count} {place = place} rank flow are tree is calls e n lt need = ⊎_elim
     (λ (led : LeadsPlainly v t.backs e n). led_falls (graph v) (loops v t) rank count place flow.program is e (slice_index v.code.nodes n) lt (plain_by v t extent tree e lt led.0) (led.1.0 ∙ slice_get-get_or v.code.nodes n 0 led.1.1))
     (λ (called : CallsNode v entries e n).
     let at : (graph v).entry called.0 ≡ slice_index v.code.nodes n =
@@ -70,7 +70,7 @@ no_needs_round v t entries n arcs flow are tree needs a leads =
     let falls : (a b : ℕ) → HasArc arcs a b → at b < at a = λ a b h.
     let s = needs.each h.0 h.1 in
     let from_is : (graph v).source s.0 ≡ slice_index v.code.nodes a = sym (get_or_from_slice_get v.code.nodes (arc_at arcs h.0).from _ 0 s.2) ∙ ap (slice_index v.code.nodes) h.2 in
-    let low : at (arc_at arcs h.0).to < height (graph v) calls.0 plain.0 plain.1.0 ((graph v).source s.0) = need_falls v t tree.0 entries calls.0 plain.0 plain.1.0 flow are tree.1 plain.1.1 calls.1 s.0 (arc_at arcs h.0).to s.1 s.3 in
+    let low : at (arc_at arcs h.0).to < height (graph v) calls.0 plain.0 plain.1.0 ((graph v).source s.0) = need_falls calls.0 flow are tree.1 plain.1.1 calls.1 s.0 (arc_at arcs h.0).to s.1 s.3 in
     subst (λ x. at b < height (graph v) calls.0 plain.0 plain.1.0 x) from_is (subst (λ y. at y < height (graph v) calls.0 plain.0 plain.1.0 ((graph v).source s.0)) h.3 low) in
     let bad : at a < at a = leads_falls arcs at falls a a leads in
     let no_way : ⊥ = omega arith in no_way

@@ -7,15 +7,17 @@ use Rattle.std.proofs.lemmas.Option.{slice_get-get_or, slice_get_within, get_or_
 use Rattle.graph_algorithms.specs.Arcs.{number_in_place}
 use Rattle.cost_theory.specs.Worst.{Numbers}
 use Rattle.cost_theory.specs.Lists.{body_of}
-use Rattle.code_graph.specs.FlowGraph.{FlowGraph, IsFlowGraph}
+use Rattle.code_graph.specs.FlowGraph.{FlowGraph}
 use Rattle.loop_tree.specs.Noted.{node_address}
 use Rattle.loop_tree.specs.Tree.{LoopView, loops, IsLoopTree}
 use Rattle.worst_cycles.specs.declared.plan.Plan.{Plan}
 use Rattle.worst_cycles.specs.declared.rests.Rests.{Rests}
-use Rattle.worst_cycles.specs.Needs.{StartsAtNode, HasTree}
+use Rattle.worst_cycles.specs.Worst.{by_edge}
+use Rattle.worst_cycles.specs.Needs.{StartsAtNode}
 use Rattle.worst_cycles.specs.declared.visits.Visit.{Visit}
-use Rattle.worst_cycles.specs.Visits.{IsWorstPlan, AreKnownAt, AreSolvedBy, AreVisitedTo, IsOverLimit}
+use Rattle.worst_cycles.specs.Visits.{AreKnownAt, AreSolvedBy, AreVisitedTo, IsOverLimit}
 use Rattle.worst_cycles.specs.Rests.{AreBodyPlaces, rest_in, IsRestOf, held, closing_at, AreRestsKnownAt, address_at, AreFoundTo}
+use Rattle.worst_cycles.specs.Planned.{IsPlanned}
 use Rattle.worst_cycles.proofs.BodyLaws.{inside_at, number_inside, node_here, same_node, by_plain, loop_count, header_number, header_address}
 use Rattle.worst_cycles.proofs.PlanLaws.{at_place, body_before}
 use Rattle.worst_cycles.proofs.SearchLaws.{value_at}
@@ -25,36 +27,43 @@ use Rattle.worst_cycles.proofs.VisitLaws.{known_before}
 pub body_within : (v : FlowGraph) (t : LoopView) (extent : ℕ → ℕ → Bool) → IsLoopTree v extent t → (l i : ℕ) → l < length t.headers → i < length (body_of t.bodies l) → number_in_place (body_of t.bodies l) i < length v.code.nodes
 body_within v t extent is l i ll il = (is.body l ll).within i (number_in_place (body_of t.bodies l) i) (slice_get-get_or (body_of t.bodies l) i 0 il)
 
+-- a loop, whose header stands at place i of the order, and the places of its body
+pub record IsBodyAt (t : LoopView) (plan : Plan) (l i : ℕ) (steps : List ℕ) : Type 0 where
+  pub within : l < length t.headers
+  pub place : i < length plan.order.items
+  pub header : number_in_place t.headers l ≡ number_in_place plan.order.items i
+  pub places : AreBodyPlaces (body_of t.bodies l) plan.places.items steps
+
 -- a place of a body is that of a node in it, and not behind the header
-pub step_inside : (v : FlowGraph) (t : LoopView) (plan : Plan) (l i : ℕ) (steps : List ℕ) → IsFlowGraph v → HasTree v t → IsWorstPlan v t plan → l < length t.headers → i < length plan.order.items → number_in_place t.headers l ≡ number_in_place plan.order.items i →
-    AreBodyPlaces (body_of t.bodies l) plan.places.items steps → (m : ℕ) → m < length steps → (number_in_place steps m < length plan.order.items) × ((loops v t).inside l (address_at v plan steps m) ≡ true) × (number_in_place steps m ≤ i)
-step_inside v t plan l i steps flow tree is ll il header places m ml =
-    let b = places.each m ml in
-    let at = at_place v t plan is (number_in_place (body_of t.bodies l) b.0) (body_within v t tree.0 tree.1 l b.0 ll b.1) in
+pub step_inside : {v : FlowGraph} {t : LoopView} {w : List ℕ} {plan : Plan} {l i : ℕ} {steps : List ℕ} → IsPlanned v t w plan → IsBodyAt t plan l i steps →
+    (m : ℕ) → m < length steps → (number_in_place steps m < length plan.order.items) × ((loops v t).inside l (address_at v plan steps m) ≡ true) × (number_in_place steps m ≤ i)
+step_inside {v = v} {t = t} {w = w} {plan = plan} {l = l} {i = i} {steps = steps} is body m ml =
+    let b = body.places.each m ml in
+    let at = at_place is (number_in_place (body_of t.bodies l) b.0) (body_within v t is.tree.0 is.tree.1 l b.0 body.within b.1) in
     let within = at.0 in let step = b.2 in
     let low : number_in_place steps m < length plan.order.items = omega arith in
     let node : number_in_place plan.order.items (number_in_place steps m) ≡ number_in_place (body_of t.bodies l) b.0 = ap (number_in_place plan.order.items) b.2 ∙ at.1 in
     let inside : (loops v t).inside l (address_at v plan steps m) ≡ true = subst (λ k. (loops v t).inside l (node_address v k) ≡ true) (sym node) (inside_at v t l b.0 b.1) in
-    (low, inside, body_before v t plan flow tree is l i (number_in_place steps m) ll il low header inside)
+    (low, inside, body_before is l i (number_in_place steps m) body.within body.place low body.header inside)
 
 -- a node of the body is at one of its places
-pub step_of : (v : FlowGraph) (t : LoopView) (plan : Plan) (l : ℕ) (steps : List ℕ) → IsFlowGraph v → HasTree v t → IsWorstPlan v t plan → l < length t.headers → AreBodyPlaces (body_of t.bodies l) plan.places.items steps →
+pub step_of : {v : FlowGraph} {t : LoopView} {w : List ℕ} {plan : Plan} {steps : List ℕ} → IsPlanned v t w plan → (l : ℕ) → l < length t.headers → AreBodyPlaces (body_of t.bodies l) plan.places.items steps →
     (u : ℕ) → u < length v.code.nodes → (loops v t).inside l (node_address v u) ≡ true → (q : ℕ) × (q < length steps) × (number_in_place steps q ≡ number_in_place plan.places.items u)
-step_of v t plan l steps flow tree is ll places u ul inside =
+step_of {v = v} {t = t} {w = w} {plan = plan} {steps = steps} is l ll places u ul inside =
     let b = number_inside v t l (node_address v u) inside in
-    let same : u ≡ number_in_place (body_of t.bodies l) b.0 = same_node v flow u (number_in_place (body_of t.bodies l) b.0) ul (body_within v t tree.0 tree.1 l b.0 ll b.1) b.2 in
+    let same : u ≡ number_in_place (body_of t.bodies l) b.0 = same_node v is.flow u (number_in_place (body_of t.bodies l) b.0) ul (body_within v t is.tree.0 is.tree.1 l b.0 ll b.1) b.2 in
     let q = places.whole b.0 b.1 in
     (q.0, q.1, q.2 ∙ ap (number_in_place plan.places.items) (sym same))
 
 -- what stands at the place of a node is this node
-pub address_of : (v : FlowGraph) (t : LoopView) (plan : Plan) (steps : List ℕ) → IsWorstPlan v t plan → (u q : ℕ) → u < length v.code.nodes → number_in_place steps q ≡ number_in_place plan.places.items u → address_at v plan steps q ≡ node_address v u
-address_of v t plan steps is u q ul at = ap (λ p. node_address v (number_in_place plan.order.items p)) at ∙ ap (node_address v) (at_place v t plan is u ul).1
+pub address_of : {v : FlowGraph} {t : LoopView} {w : List ℕ} {plan : Plan} → IsPlanned v t w plan → (steps : List ℕ) → (u q : ℕ) → u < length v.code.nodes → number_in_place steps q ≡ number_in_place plan.places.items u → address_at v plan steps q ≡ node_address v u
+address_of {v = v} {t = t} {w = w} {plan = plan} is steps u q ul at = ap (λ p. node_address v (number_in_place plan.order.items p)) at ∙ ap (node_address v) (at_place is u ul).1
 
 -- the rests that the edges of the next node need are found
-pub rests_known : (v : FlowGraph) (t : LoopView) (w : ℕ → ℕ) (plan : Plan) (l i m : ℕ) (rests : Rests) (n : Numbers) → IsFlowGraph v → HasTree v t → IsWorstPlan v t plan → l < length t.headers → i < length plan.order.items → number_in_place t.headers l ≡ number_in_place plan.order.items i →
-    AreBodyPlaces (body_of t.bodies l) plan.places.items rests.steps.items → m < length rests.steps.items → length rests.found.items ≡ m → AreFoundTo v t w plan l rests.steps.items m rests.found.items → AreSolvedBy v t w n →
+pub rests_known : {v : FlowGraph} {t : LoopView} {w : List ℕ} {plan : Plan} {l i : ℕ} {n : Numbers} → IsPlanned v t w plan → (rests : Rests) → IsBodyAt t plan l i rests.steps.items →
+    (m : ℕ) → m < length rests.steps.items → length rests.found.items ≡ m → AreFoundTo v t (by_edge w) plan l rests.steps.items m rests.found.items → AreSolvedBy v t (by_edge w) n →
     AreRestsKnownAt v t plan rests n l (address_at v plan rests.steps.items m)
-rests_known v t w plan l i m rests n flow tree is ll il header places ml size found s e lt from u at o node to plain rest = go ((loops v t).inside l at) refl
+rests_known {v = v} {t = t} {w = w} {plan = plan} {l = l} {i = i} {n = n} is rests body m ml size found s e lt from u at o node to plain rest = go ((loops v t).inside l at) refl
   where
     ul : u < length v.code.nodes
     ul = slice_get_within v.code.nodes u at node
@@ -63,29 +72,29 @@ rests_known v t w plan l i m rests n flow tree is ll il header places ml size fo
     at_u = get_or_from_slice_get v.code.nodes u at 0 node
 
     here : number_in_place rests.steps.items m < length plan.order.items
-    here = (step_inside v t plan l i rests.steps.items flow tree is ll il header places m ml).0
+    here = (step_inside is body m ml).0
 
     starts : StartsAtNode v e (number_in_place plan.order.items (number_in_place rests.steps.items m))
-    starts = node_here v (number_in_place plan.order.items (number_in_place rests.steps.items m)) (is.order.within (number_in_place rests.steps.items m) here) ∙ ap Some (sym from)
+    starts = node_here v (number_in_place plan.order.items (number_in_place rests.steps.items m)) (is.plan.order.within (number_in_place rests.steps.items m) here) ∙ ap Some (sym from)
 
     before : number_in_place plan.places.items u < number_in_place rests.steps.items m
     before =
-        let j = is.order.ready (number_in_place rests.steps.items m) e u here lt starts (inl (by_plain v t tree.0 tree.1 e lt plain, (to ∙ sym node, ul))) in
+        let j = is.plan.order.ready (number_in_place rests.steps.items m) e u here lt starts (inl (by_plain v t is.tree.0 is.tree.1 e lt plain, (to ∙ sym node, ul))) in
         let low : j.0 < number_in_place rests.steps.items m = j.1 in
         let within : number_in_place rests.steps.items m < length plan.order.items = here in
         let jl : j.0 < length plan.order.items = omega arith in
-        let place : number_in_place plan.places.items u ≡ j.0 = ap (number_in_place plan.places.items) (sym j.2) ∙ is.places j.0 jl in
+        let place : number_in_place plan.places.items u ≡ j.0 = ap (number_in_place plan.places.items) (sym j.2) ∙ is.plan.places j.0 jl in
         omega arith
 
     not_later : (q : ℕ) → m ≤ q → q < length rests.steps.items → number_in_place rests.steps.items q ≡ number_in_place plan.places.items u → ⊥
-    not_later q le ql same = let rises = places.rise m q le ql in let b = before in omega arith
+    not_later q le ql same = let rises = body.places.rise m q le ql in let b = before in omega arith
 
     there : (q : ℕ) → q < length rests.found.items → number_in_place rests.steps.items q ≡ number_in_place plan.places.items u → rest_in rests.found.items q ≡ n.closing l at
-    there q ql same = let low : q < m = omega arith in found n s q low ∙ ap (n.closing l) (address_of v t plan rests.steps.items is u q ul same ∙ at_u)
+    there q ql same = let low : q < m = omega arith in found n s q low ∙ ap (n.closing l) (address_of is rests.steps.items u q ul same ∙ at_u)
 
     go : (b : Bool) → (loops v t).inside l at ≡ b → o ≡ closing_at (loops v t) n l at
     go true inside =
-        let q = step_of v t plan l rests.steps.items flow tree is ll places u ul (subst (λ a. (loops v t).inside l a ≡ true) (sym at_u) inside) in
+        let q = step_of is l body.within body.places u ul (subst (λ a. (loops v t).inside l a ≡ true) (sym at_u) inside) in
         let closes : n.closing l at ≡ closing_at (loops v t) n l at = ap (λ b. held b (n.closing l at)) (sym inside) in
         ⊎_elim
         (λ (some : (q : ℕ) × (q < length rests.found.items) × (q < length rests.steps.items) × (number_in_place rests.steps.items q ≡ number_in_place plan.places.items u) × (o ≡ rest_in rests.found.items q)).
@@ -102,8 +111,8 @@ rests_known v t w plan l i m rests n flow tree is ll il header places ml size fo
         let closes : None ≡ closing_at (loops v t) n l at = ap (λ b. held b (n.closing l at)) (sym outside) in
         ⊎_elim
         (λ (some : (q : ℕ) × (q < length rests.found.items) × (q < length rests.steps.items) × (number_in_place rests.steps.items q ≡ number_in_place plan.places.items u) × (o ≡ rest_in rests.found.items q)).
-        let inside : (loops v t).inside l at ≡ true = subst (λ a. (loops v t).inside l a ≡ true) (address_of v t plan rests.steps.items is u some.0 ul some.3 ∙ at_u)
-        (step_inside v t plan l i rests.steps.items flow tree is ll il header places some.0 some.2).1 in
+        let inside : (loops v t).inside l at ≡ true = subst (λ a. (loops v t).inside l a ≡ true) (address_of is rests.steps.items u some.0 ul some.3 ∙ at_u)
+        (step_inside is body some.0 some.2).1 in
         let bad : ⊥ = cc in absurd bad)
         (λ (none : (o ≡ None) × (((q : ℕ) → q < length rests.steps.items → number_in_place rests.steps.items q ≢ number_in_place plan.places.items u) ⊎
         ((q : ℕ) × (length rests.found.items ≤ q) × (q < length rests.steps.items) × (number_in_place rests.steps.items q ≡ number_in_place plan.places.items u)))).
@@ -111,15 +120,15 @@ rests_known v t w plan l i m rests n flow tree is ll il header places ml size fo
         rest
 
 -- the rest that is found at the next node is that of its address
-pub next_rest : (v : FlowGraph) (t : LoopView) (w : ℕ → ℕ) (plan : Plan) (visits : List Visit) (l i m k : ℕ) (rests : Rests) (rest : Option ℕ) → IsFlowGraph v → HasTree v t → IsWorstPlan v t plan → AreVisitedTo v t w plan.order.items i visits →
-    l < length t.headers → i < length plan.order.items → number_in_place t.headers l ≡ number_in_place plan.order.items i → AreBodyPlaces (body_of t.bodies l) plan.places.items rests.steps.items → m < length rests.steps.items → length rests.found.items ≡ m →
-    AreFoundTo v t w plan l rests.steps.items m rests.found.items → k ≡ number_in_place plan.order.items (number_in_place rests.steps.items m) →
-    ((n : Numbers) → AreSolvedBy v t w n → AreKnownAt v t plan visits n (slice_index v.code.nodes k) → AreRestsKnownAt v t plan rests n l (slice_index v.code.nodes k) → rest ≡ n.closing l (slice_index v.code.nodes k)) →
-    (n : Numbers) → AreSolvedBy v t w n → rest ≡ n.closing l (address_at v plan rests.steps.items m)
-next_rest v t w plan visits l i m k rests rest flow tree is visited ll il header places ml size found node this n s =
-    let step = step_inside v t plan l i rests.steps.items flow tree is ll il header places m ml in
+pub next_rest : {v : FlowGraph} {t : LoopView} {w : List ℕ} {plan : Plan} {l i : ℕ} → IsPlanned v t w plan → (visits : List Visit) (m k : ℕ) (rests : Rests) (rest : Option ℕ) → AreVisitedTo v t (by_edge w) plan.order.items i visits →
+    IsBodyAt t plan l i rests.steps.items → m < length rests.steps.items → length rests.found.items ≡ m →
+    AreFoundTo v t (by_edge w) plan l rests.steps.items m rests.found.items → k ≡ number_in_place plan.order.items (number_in_place rests.steps.items m) →
+    ((n : Numbers) → AreSolvedBy v t (by_edge w) n → AreKnownAt v t plan visits n (slice_index v.code.nodes k) → AreRestsKnownAt v t plan rests n l (slice_index v.code.nodes k) → rest ≡ n.closing l (slice_index v.code.nodes k)) →
+    (n : Numbers) → AreSolvedBy v t (by_edge w) n → rest ≡ n.closing l (address_at v plan rests.steps.items m)
+next_rest {v = v} {t = t} {w = w} {plan = plan} {l = l} {i = i} is visits m k rests rest visited body ml size found node this n s =
+    let step = step_inside is body m ml in
     let here = subst (λ x. AreKnownAt v t plan visits n (slice_index v.code.nodes x) → AreRestsKnownAt v t plan rests n l (slice_index v.code.nodes x) → rest ≡ n.closing l (slice_index v.code.nodes x)) node (this n s) in
-    here (known_before v t w plan visits i (number_in_place rests.steps.items m) n flow tree is visited s step.2 step.0) (rests_known v t w plan l i m rests n flow tree is ll il header places ml size found s)
+    here (known_before is visits i (number_in_place rests.steps.items m) visited s step.2 step.0) (rests_known is rests body m ml size found s)
 
 -- the number of the node at a place of the body
 pub step_node : (plan : Plan) (steps : List ℕ) (m x k : ℕ) → m < length steps → number_in_place steps m < length plan.order.items → x ≡ get_or steps m x → k ≡ get_or plan.order.items x k → k ≡ number_in_place plan.order.items (number_in_place steps m)
@@ -151,27 +160,29 @@ rests_small found rest small this m b at = ⊎_elim
     past (suc i) e = absurd (none-some b e)
 
 -- over the limit
-pub rest_too_long : (v : FlowGraph) (t : LoopView) (w : ℕ → ℕ) (l at b : ℕ) (rest : Option ℕ) → l < length t.headers → (loops v t).inside l at ≡ true → ((n : Numbers) → AreSolvedBy v t w n → rest ≡ n.closing l at) → (weight : ℕ) → ((e : ℕ) → e < length v.code.edges → w e ≤ weight) → rest ≡ Some b → 2 ^ 48 + weight < b → IsOverLimit v t w
-rest_too_long v t w l at b rest ll inside is weight light some more n s =
+pub rest_too_long : {v : FlowGraph} {t : LoopView} {w : List ℕ} {plan : Plan} → IsPlanned v t w plan → (l at b : ℕ) (rest : Option ℕ) → l < length t.headers → (loops v t).inside l at ≡ true →
+    ((n : Numbers) → AreSolvedBy v t (by_edge w) n → rest ≡ n.closing l at) → rest ≡ Some b → 2 ^ 48 + plan.heaviest < b → IsOverLimit v t (by_edge w)
+rest_too_long {v = v} {t = t} {w = w} {plan = plan} is l at b rest ll inside found some more n s =
     let count = loop_count v t in
     let lt : l < (loops v t).loops = omega arith in
-    let near : b ≤ n.worst 0 + weight = s.closing_near weight (λ e el none. light e el) l at b lt inside (sym (is n s) ∙ some) in
+    let edges = is.weights in
+    let near : b ≤ n.worst 0 + plan.heaviest = s.closing_near plan.heaviest (λ e el none. is.heaviest e (omega arith)) l at b lt inside (sym (found n s) ∙ some) in
     omega arith
 
 -- once all rests are found, that of the header is one iteration
-pub header_rest : (v : FlowGraph) (t : LoopView) (w : ℕ → ℕ) (plan : Plan) (l : ℕ) (rests : Rests) (o : Option ℕ) → IsFlowGraph v → HasTree v t → IsWorstPlan v t plan → l < length t.headers →
-    AreBodyPlaces (body_of t.bodies l) plan.places.items rests.steps.items → length rests.found.items ≡ length rests.steps.items → AreFoundTo v t w plan l rests.steps.items (length rests.steps.items) rests.found.items →
-    IsRestOf rests (number_in_place plan.places.items (number_in_place t.headers l)) o → (n : Numbers) → AreSolvedBy v t w n → o ≡ Some (n.iteration l)
-header_rest v t w plan l rests o flow tree is ll places size found rest n s =
+pub header_rest : {v : FlowGraph} {t : LoopView} {w : List ℕ} {plan : Plan} → IsPlanned v t w plan → (l : ℕ) (rests : Rests) (o : Option ℕ) → l < length t.headers →
+    AreBodyPlaces (body_of t.bodies l) plan.places.items rests.steps.items → length rests.found.items ≡ length rests.steps.items → AreFoundTo v t (by_edge w) plan l rests.steps.items (length rests.steps.items) rests.found.items →
+    IsRestOf rests (number_in_place plan.places.items (number_in_place t.headers l)) o → (n : Numbers) → AreSolvedBy v t (by_edge w) n → o ≡ Some (n.iteration l)
+header_rest {v = v} {t = t} {w = w} {plan = plan} is l rests o ll places size found rest n s =
     let count = loop_count v t in
     let lt : l < (loops v t).loops = omega arith in
-    let hl : number_in_place t.headers l < length v.code.nodes = header_number v t tree.0 tree.1 l ll in
+    let hl : number_in_place t.headers l < length v.code.nodes = header_number v t is.tree.0 is.tree.1 l ll in
     let address : (loops v t).header l ≡ node_address v (number_in_place t.headers l) = header_address v t l ll in
     let inside : (loops v t).inside l (node_address v (number_in_place t.headers l)) ≡ true = subst (λ a. (loops v t).inside l a ≡ true) address (s.held l lt) in
-    let q = step_of v t plan l rests.steps.items flow tree is ll places (number_in_place t.headers l) hl inside in
+    let q = step_of is l ll places (number_in_place t.headers l) hl inside in
     ⊎_elim
     (λ (some : (q : ℕ) × (q < length rests.found.items) × (q < length rests.steps.items) × (number_in_place rests.steps.items q ≡ number_in_place plan.places.items (number_in_place t.headers l)) × (o ≡ rest_in rests.found.items q)).
-    some.4 ∙ found n s some.0 some.2 ∙ ap (n.closing l) (address_of v t plan rests.steps.items is (number_in_place t.headers l) some.0 hl some.3 ∙ sym address) ∙ s.iteration l lt)
+    some.4 ∙ found n s some.0 some.2 ∙ ap (n.closing l) (address_of is rests.steps.items (number_in_place t.headers l) some.0 hl some.3 ∙ sym address) ∙ s.iteration l lt)
     (λ (none : (o ≡ None) × (((q : ℕ) → q < length rests.steps.items → number_in_place rests.steps.items q ≢ number_in_place plan.places.items (number_in_place t.headers l)) ⊎
     ((q : ℕ) × (length rests.found.items ≤ q) × (q < length rests.steps.items) × (number_in_place rests.steps.items q ≡ number_in_place plan.places.items (number_in_place t.headers l))))).
     ⊎_elim

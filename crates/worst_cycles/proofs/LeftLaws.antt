@@ -5,19 +5,20 @@ use Rattle.std.proofs.lemmas.Option.{slice_get_within, get_or_from_slice_get}
 use Rattle.graph_algorithms.specs.Arcs.{number_in_place}
 use Rattle.cost_theory.specs.Graph.{Loops}
 use Rattle.cost_theory.specs.Worst.{Numbers, IsLeft}
-use Rattle.code_graph.specs.FlowGraph.{FlowGraph, IsFlowGraph}
+use Rattle.code_graph.specs.FlowGraph.{FlowGraph}
 use Rattle.loop_tree.specs.Noted.{node_address}
 use Rattle.loop_tree.specs.Tree.{LoopView, loops}
 use Rattle.worst_cycles.specs.declared.plan.Plan.{Plan}
 use Rattle.worst_cycles.specs.declared.rests.Rests.{Rests}
 use Rattle.worst_cycles.specs.declared.visits.Visit.{Visit}
-use Rattle.worst_cycles.specs.Needs.{HasTree}
-use Rattle.worst_cycles.specs.Visits.{headed_at, visit_at, IsWorstPlan, AreSolvedBy, AreVisitedTo, AreAllVisited}
+use Rattle.worst_cycles.specs.Worst.{by_edge}
+use Rattle.worst_cycles.specs.Visits.{visit_at, AreSolvedBy, AreVisitedTo, AreAllVisited}
 use Rattle.worst_cycles.specs.Rests.{rest_in, address_at, AreRestsOf}
 use Rattle.worst_cycles.specs.Lefts.{HasSolved, IsHeadedFrom, IsLeftTo, AreLeftsTo, AreLefts}
+use Rattle.worst_cycles.specs.Planned.{IsPlanned}
 use Rattle.worst_cycles.proofs.BodyLaws.{node_here, same_node, loop_count, header_number, header_address}
 use Rattle.worst_cycles.proofs.PlanLaws.{at_place, body_before}
-use Rattle.worst_cycles.proofs.IterationLaws.{step_inside, step_of, address_of}
+use Rattle.worst_cycles.proofs.IterationLaws.{IsBodyAt, step_inside, step_of, address_of}
 use Rattle.worst_cycles.proofs.SearchLaws.{value_at}
 use Rattle.worst_cycles.proofs.VisitLaws.{headed_is, no_turns}
 
@@ -35,13 +36,13 @@ left_whole l n Done at x is to done =
     is.attained
 
 -- all visits are those before any place
-pub visited_before : (v : FlowGraph) (t : LoopView) (w : ℕ → ℕ) (order : List ℕ) (i : ℕ) (visits : List Visit) → AreAllVisited v t w visits → AreVisitedTo v t w order i visits
-visited_before v t w order i visits all n s j at lt node = all.each n s (number_in_place order j) at node
+pub visited_before : {v : FlowGraph} {t : LoopView} {w : ℕ → ℕ} {visits : List Visit} (order : List ℕ) (i : ℕ) → AreAllVisited v t w visits → AreVisitedTo v t w order i visits
+visited_before {v = v} {t = t} {w = w} {visits = visits} order i all n s j at lt node = all.each n s (number_in_place order j) at node
 
 -- no header stands behind the order
-pub lefts_first : (v : FlowGraph) (t : LoopView) (w : ℕ → ℕ) (plan : Plan) (left : List ℕ) (visits : List Visit) → HasTree v t → IsWorstPlan v t plan → AreAllVisited v t w visits →
-    ((k : ℕ) → k < length visits → number_in_place left k ≡ (visit_at visits k).plain) → AreLeftsTo v t w plan (length plan.order.items) left
-lefts_first v t w plan left visits tree is all each n s k kl =
+pub lefts_first : {v : FlowGraph} {t : LoopView} {w : List ℕ} {plan : Plan} {visits : List Visit} → IsPlanned v t w plan → (left : List ℕ) → AreAllVisited v t (by_edge w) visits →
+    ((k : ℕ) → k < length visits → number_in_place left k ≡ (visit_at visits k).plain) → AreLeftsTo v t (by_edge w) plan (length plan.order.items) left
+lefts_first {v = v} {t = t} {w = w} {plan = plan} {visits = visits} is left all each n s k kl =
     let size = all.table.size in
     let here : number_in_place left k ≡ (visit_at visits k).plain = each k (let r : k < length visits = omega arith in r) in
     let visit : (visit_at visits k).plain ≡ n.plain (node_address v k) = (all.each n s k (node_address v k) (node_here v k kl)).plain in
@@ -52,19 +53,19 @@ lefts_first v t w plan left visits tree is all each n s k kl =
       over_closing = λ j b jl done inside other closes.
           let count = loop_count v t in
           let low : j < length t.headers = omega arith in
-          let place = at_place v t plan is (number_in_place t.headers j) (header_number v t tree.0 tree.1 j low) in
+          let place = at_place is (number_in_place t.headers j) (header_number v t is.tree.0 is.tree.1 j low) in
           let within = place.0 in
           let bad : ⊥ = omega arith in absurd bad;
     }
 
 -- the header of an outer loop stands behind that of an inner one
-outer_behind : (v : FlowGraph) (t : LoopView) (plan : Plan) (i j : ℕ) → IsFlowGraph v → HasTree v t → IsWorstPlan v t plan → i < length plan.order.items → j < (loops v t).loops →
+outer_behind : {v : FlowGraph} {t : LoopView} {w : List ℕ} {plan : Plan} → IsPlanned v t w plan → (i j : ℕ) → i < length plan.order.items → j < (loops v t).loops →
     (loops v t).inside j (node_address v (number_in_place plan.order.items i)) ≡ true → (loops v t).header j ≢ node_address v (number_in_place plan.order.items i) → IsHeadedFrom t plan (i + 1) j
-outer_behind v t plan i j flow tree is il jl inside other =
+outer_behind {v = v} {t = t} {w = w} {plan = plan} is i j il jl inside other =
     let count = loop_count v t in
     let low : j < length t.headers = omega arith in
-    let place = at_place v t plan is (number_in_place t.headers j) (header_number v t tree.0 tree.1 j low) in
-    let before : i ≤ number_in_place plan.places.items (number_in_place t.headers j) = body_before v t plan flow tree is j (number_in_place plan.places.items (number_in_place t.headers j)) i low place.0 il (sym place.1) inside in
+    let place = at_place is (number_in_place t.headers j) (header_number v t is.tree.0 is.tree.1 j low) in
+    let before : i ≤ number_in_place plan.places.items (number_in_place t.headers j) = body_before is j (number_in_place plan.places.items (number_in_place t.headers j)) i low place.0 il (sym place.1) inside in
     ⊎_elim
     (λ (lt : i < number_in_place plan.places.items (number_in_place t.headers j)). let r : i + 1 ≤ number_in_place plan.places.items (number_in_place t.headers j) = omega arith in r)
     (λ (le : number_in_place plan.places.items (number_in_place t.headers j) ≤ i).
@@ -73,11 +74,11 @@ outer_behind v t plan i j flow tree is il jl inside other =
     (cases_lt i (number_in_place plan.places.items (number_in_place t.headers j)))
 
 -- what is left at the header of a loop is known before its body is raised
-pub header_left : (v : FlowGraph) (t : LoopView) (w : ℕ → ℕ) (plan : Plan) (left : List ℕ) (i : ℕ) (n : Numbers) → IsFlowGraph v → HasTree v t → IsWorstPlan v t plan → i < length plan.order.items → AreLeftsTo v t w plan (i + 1) left → AreSolvedBy v t w n →
+pub header_left : {v : FlowGraph} {t : LoopView} {w : List ℕ} {plan : Plan} {n : Numbers} → IsPlanned v t w plan → (left : List ℕ) (i : ℕ) → i < length plan.order.items → AreLeftsTo v t (by_edge w) plan (i + 1) left → AreSolvedBy v t (by_edge w) n →
     number_in_place left (number_in_place plan.order.items i) ≡ n.left (node_address v (number_in_place plan.order.items i))
-header_left v t w plan left i n flow tree is il to s =
+header_left {v = v} {t = t} {w = w} {plan = plan} {n = n} is left i il to s =
     left_whole (loops v t) n (IsHeadedFrom t plan (i + 1)) (node_address v (number_in_place plan.order.items i)) (number_in_place left (number_in_place plan.order.items i)) (s.left (node_address v (number_in_place plan.order.items i)))
-    (to n s (number_in_place plan.order.items i) (is.order.within i il)) (λ j jl inside other. outer_behind v t plan i j flow tree is il jl inside other)
+    (to n s (number_in_place plan.order.items i) (is.plan.order.within i il)) (λ j jl inside other. outer_behind is i j il jl inside other)
 
 -- what raising the body of a loop does, up to place m of it
 pub record AreRaisedTo (plan : Plan) (rests : Rests) (header iteration m : ℕ) (old new : List ℕ) : Type 0 where
@@ -98,10 +99,10 @@ raised_first plan rests header iteration old = record {
 }
 
 -- one node more
-pub raised_more : (plan : Plan) (rests : Rests) (header iteration m k x whole : ℕ) (o : Option ℕ) (old now new : List ℕ) → number_in_place plan.order.items (number_in_place rests.steps.items m) ≡ k → k ≢ header → m < length rests.steps.items → rest_in rests.found.items m ≡ o →
+pub raised_more : {plan : Plan} {rests : Rests} {header iteration m : ℕ} {old now : List ℕ} (k x whole : ℕ) (o : Option ℕ) (new : List ℕ) → number_in_place plan.order.items (number_in_place rests.steps.items m) ≡ k → k ≢ header → m < length rests.steps.items → rest_in rests.found.items m ≡ o →
     whole ≡ number_in_place old header → new ≡ set now k x → k < length now → number_in_place now k ≤ x → ((b : ℕ) → o ≡ Some b → b + whole ≤ x + iteration) → (x ≡ number_in_place now k) ⊎ ((b : ℕ) × (o ≡ Some b) × (x + iteration ≡ b + whole)) →
     AreRaisedTo plan rests header iteration m old now → AreRaisedTo plan rests header iteration (m + 1) old new
-raised_more plan rests header iteration m k x whole o old now new node off ml rest head is kl higher over either to = record {
+raised_more {plan = plan} {rests = rests} {header = header} {iteration = iteration} {m = m} {old = old} {now = now} k x whole o new node off ml rest head is kl higher over either to = record {
   higher = λ j. let low = to.higher j in let more = rises j in let r : number_in_place old j ≤ number_in_place new j = omega arith in r;
   over = λ q b lt some other. ⊎_elim
       (λ (before : q < m).
@@ -149,8 +150,8 @@ raised_more plan rests header iteration m k x whole o old now new node off ml re
         (to.either j)
 
 -- the header is left as it is
-pub raised_past : (plan : Plan) (rests : Rests) (header iteration m k : ℕ) (old now : List ℕ) → number_in_place plan.order.items (number_in_place rests.steps.items m) ≡ k → k ≡ header → AreRaisedTo plan rests header iteration m old now → AreRaisedTo plan rests header iteration (m + 1) old now
-raised_past plan rests header iteration m k old now node same to = record {
+pub raised_past : {plan : Plan} {rests : Rests} {header iteration m : ℕ} {old now : List ℕ} (k : ℕ) → number_in_place plan.order.items (number_in_place rests.steps.items m) ≡ k → k ≡ header → AreRaisedTo plan rests header iteration m old now → AreRaisedTo plan rests header iteration (m + 1) old now
+raised_past {plan = plan} {rests = rests} {header = header} {iteration = iteration} {m = m} {old = old} {now = now} k node same to = record {
   higher = to.higher;
   over = λ q b lt some other. ⊎_elim
       (λ (before : q < m). to.over q b before some other)
@@ -159,17 +160,17 @@ raised_past plan rests header iteration m k old now node same to = record {
   either = to.either;
 }
 
-pub lefts_more : (v : FlowGraph) (t : LoopView) (w : ℕ → ℕ) (plan : Plan) (rests : Rests) (old new : List ℕ) (i l iteration : ℕ) → IsFlowGraph v → HasTree v t → IsWorstPlan v t plan → i < length plan.order.items → l < length t.headers →
-    number_in_place t.headers l ≡ number_in_place plan.order.items i → AreRestsOf v t w plan l rests → ((n : Numbers) → AreSolvedBy v t w n → iteration ≡ n.iteration l) → AreRaised plan rests (number_in_place plan.order.items i) iteration old new →
-    AreLeftsTo v t w plan (i + 1) old → AreLeftsTo v t w plan i new
-lefts_more v t w plan rests old new i l iteration flow tree is il ll header of one raised to n s k kl =
+pub lefts_more : {v : FlowGraph} {t : LoopView} {w : List ℕ} {plan : Plan} {rests : Rests} {l : ℕ} → IsPlanned v t w plan → (old new : List ℕ) (i : ℕ) (iteration : ℕ) → i < length plan.order.items → l < length t.headers →
+    number_in_place t.headers l ≡ number_in_place plan.order.items i → AreRestsOf v t (by_edge w) plan l rests → ((n : Numbers) → AreSolvedBy v t (by_edge w) n → iteration ≡ n.iteration l) → AreRaised plan rests (number_in_place plan.order.items i) iteration old new →
+    AreLeftsTo v t (by_edge w) plan (i + 1) old → AreLeftsTo v t (by_edge w) plan i new
+lefts_more {v = v} {t = t} {w = w} {plan = plan} {rests = rests} {l = l} is old new i iteration il ll header of one raised to n s k kl =
     let before = to n s k kl in
     record {
       under = ⊎_elim
           (λ (same : number_in_place new k ≡ number_in_place old k). let low = before.under in let r : number_in_place new k ≤ n.left (node_address v k) = omega arith in r)
           (λ (some : (m : ℕ) × (b : ℕ) × (m < length rests.steps.items) × (number_in_place plan.order.items (number_in_place rests.steps.items m) ≡ k) × (k ≢ number_in_place plan.order.items i) ×
           (rest_in rests.found.items m ≡ Some b) × (number_in_place new k + iteration ≡ b + number_in_place old (number_in_place plan.order.items i))).
-          let step = step_inside v t plan l i rests.steps.items flow tree is ll il header of.places some.0 some.2 in
+          let step = step_inside is body some.0 some.2 in
           let at : address_at v plan rests.steps.items some.0 ≡ node_address v k = ap (node_address v) some.3 in
           let size = of.sizes in
           let closes : n.closing l (node_address v k) ≡ Some some.1 = sym (of.found n s some.0 (let r : some.0 < length rests.steps.items = some.2 in r) ∙ ap (n.closing l) at) ∙ some.5 in
@@ -187,7 +188,7 @@ lefts_more v t w plan rests old new i l iteration flow tree is il ll header of o
           (λ (here : number_in_place plan.places.items (number_in_place t.headers j) ≤ i).
           let count = loop_count v t in
           let low : j < length t.headers = omega arith in
-          let place = at_place v t plan is (number_in_place t.headers j) (header_number v t tree.0 tree.1 j low) in
+          let place = at_place is (number_in_place t.headers j) (header_number v t is.tree.0 is.tree.1 j low) in
           let done_at : i ≤ number_in_place plan.places.items (number_in_place t.headers j) = done in
           let same : number_in_place plan.places.items (number_in_place t.headers j) ≡ i = omega arith in
           let heads : number_in_place t.headers j ≡ number_in_place t.headers l = sym place.1 ∙ ap (number_in_place plan.order.items) same ∙ sym header in
@@ -201,6 +202,9 @@ lefts_more v t w plan rests old new i l iteration flow tree is il ll header of o
     lt : l < (loops v t).loops
     lt = let count = loop_count v t in omega arith
 
+    body : IsBodyAt t plan l i rests.steps.items
+    body = record { within = ll; place = il; header = header; places = of.places }
+
     at_header : (loops v t).header l ≡ node_address v (number_in_place plan.order.items i)
     at_header = header_address v t l ll ∙ ap (node_address v) header
 
@@ -208,26 +212,26 @@ lefts_more v t w plan rests old new i l iteration flow tree is il ll header of o
     turn = one n s
 
     whole : number_in_place old (number_in_place plan.order.items i) ≡ n.left ((loops v t).header l)
-    whole = header_left v t w plan old i n flow tree is il to s ∙ ap n.left (sym at_header)
+    whole = header_left is old i il to s ∙ ap n.left (sym at_header)
 
     not_header : k ≢ number_in_place plan.order.items i → (loops v t).header l ≢ node_address v k
-    not_header other e = other (same_node v flow k (number_in_place plan.order.items i) kl (is.order.within i il) (sym e ∙ at_header))
+    not_header other e = other (same_node v is.flow k (number_in_place plan.order.items i) kl (is.plan.order.within i il) (sym e ∙ at_header))
 
     own : (b : ℕ) → (loops v t).inside l (node_address v k) ≡ true → (loops v t).header l ≢ node_address v k → n.closing l (node_address v k) ≡ Some b → b + n.left ((loops v t).header l) ≤ number_in_place new k + n.iteration l
     own b inside other closes =
-        let q = step_of v t plan l rests.steps.items flow tree is ll of.places k kl inside in
-        let at : address_at v plan rests.steps.items q.0 ≡ node_address v k = address_of v t plan rests.steps.items is k q.0 kl q.2 in
+        let q = step_of is l ll of.places k kl inside in
+        let at : address_at v plan rests.steps.items q.0 ≡ node_address v k = address_of is rests.steps.items k q.0 kl q.2 in
         let rest : rest_in rests.found.items q.0 ≡ Some b = of.found n s q.0 q.1 ∙ ap (n.closing l) at ∙ closes in
-        let node : number_in_place plan.order.items (number_in_place rests.steps.items q.0) ≡ k = ap (number_in_place plan.order.items) q.2 ∙ (at_place v t plan is k kl).1 in
+        let node : number_in_place plan.order.items (number_in_place rests.steps.items q.0) ≡ k = ap (number_in_place plan.order.items) q.2 ∙ (at_place is k kl).1 in
         let off : number_in_place plan.order.items (number_in_place rests.steps.items q.0) ≢ number_in_place plan.order.items i = λ e. other (at_header ∙ ap (node_address v) (sym e ∙ node)) in
         let over : b + number_in_place old (number_in_place plan.order.items i) ≤ number_in_place new (number_in_place plan.order.items (number_in_place rests.steps.items q.0)) + iteration = raised.over q.0 b q.1 rest off in
         let new_at : number_in_place new (number_in_place plan.order.items (number_in_place rests.steps.items q.0)) ≡ number_in_place new k = ap (number_in_place new) node in
         let r : b + n.left ((loops v t).header l) ≤ number_in_place new k + n.iteration l = omega (arith, turn, whole) in r
 
 -- where no header is there, nothing is to be raised
-pub lefts_on : (v : FlowGraph) (t : LoopView) (w : ℕ → ℕ) (plan : Plan) (left : List ℕ) (i : ℕ) → HasTree v t → IsWorstPlan v t plan → i < length plan.order.items → ((j : ℕ) → j < (loops v t).loops → (loops v t).header j ≢ node_address v (number_in_place plan.order.items i)) →
-    AreLeftsTo v t w plan (i + 1) left → AreLeftsTo v t w plan i left
-lefts_on v t w plan left i tree is il none to n s k kl =
+pub lefts_on : {v : FlowGraph} {t : LoopView} {w : List ℕ} {plan : Plan} → IsPlanned v t w plan → (left : List ℕ) (i : ℕ) → i < length plan.order.items → ((j : ℕ) → j < (loops v t).loops → (loops v t).header j ≢ node_address v (number_in_place plan.order.items i)) →
+    AreLeftsTo v t (by_edge w) plan (i + 1) left → AreLeftsTo v t (by_edge w) plan i left
+lefts_on {v = v} {t = t} {w = w} {plan = plan} is left i il none to n s k kl =
     let before = to n s k kl in
     record {
       under = before.under;
@@ -237,7 +241,7 @@ lefts_on v t w plan left i tree is il none to n s k kl =
           (λ (here : number_in_place plan.places.items (number_in_place t.headers j) ≤ i).
           let count = loop_count v t in
           let low : j < length t.headers = omega arith in
-          let place = at_place v t plan is (number_in_place t.headers j) (header_number v t tree.0 tree.1 j low) in
+          let place = at_place is (number_in_place t.headers j) (header_number v t is.tree.0 is.tree.1 j low) in
           let done_at : i ≤ number_in_place plan.places.items (number_in_place t.headers j) = done in
           let same : number_in_place plan.places.items (number_in_place t.headers j) ≡ i = omega arith in
           absurd (none j jl (header_address v t j low ∙ ap (node_address v) (sym place.1 ∙ ap (number_in_place plan.order.items) same))))
@@ -252,22 +256,22 @@ lefts_last v t w plan left size to = record {
 }
 
 -- the loop whose header the next node is
-pub headed_loop : (v : FlowGraph) (t : LoopView) (plan : Plan) (i k l : ℕ) (o : Option ℕ) → IsWorstPlan v t plan → i < length plan.order.items → k ≡ get_or plan.order.items i k → o ≡ get_or plan.headed.items k o → o ≡ Some l →
+pub headed_loop : {v : FlowGraph} {t : LoopView} {w : List ℕ} {plan : Plan} → IsPlanned v t w plan → (i k l : ℕ) (o : Option ℕ) → i < length plan.order.items → k ≡ get_or plan.order.items i k → o ≡ get_or plan.headed.items k o → o ≡ Some l →
     (l < length t.headers) × (number_in_place t.headers l ≡ number_in_place plan.order.items i) × (number_in_place plan.order.items i ≡ k)
-headed_loop v t plan i k l o is il node has some =
-    let heads : slice_get t.headers l ≡ Some (number_in_place plan.order.items i) = is.headed.some (number_in_place plan.order.items i) l (headed_is v t plan i k o is il node has ∙ some) in
+headed_loop {v = v} {t = t} {w = w} {plan = plan} is i k l o il node has some =
+    let heads : slice_get t.headers l ≡ Some (number_in_place plan.order.items i) = is.plan.headed.some (number_in_place plan.order.items i) l (headed_is is i k o il node has ∙ some) in
     (slice_get_within t.headers l (number_in_place plan.order.items i) heads, get_or_from_slice_get t.headers l (number_in_place plan.order.items i) 0 heads, value_at plan.order.items i k 0 il node)
 
 -- an iteration is one of the rests
-pub iteration_small : (v : FlowGraph) (t : LoopView) (w : ℕ → ℕ) (plan : Plan) (l : ℕ) (rests : Rests) (n : Numbers) → IsFlowGraph v → HasTree v t → IsWorstPlan v t plan → l < length t.headers → AreRestsOf v t w plan l rests → AreSolvedBy v t w n → n.iteration l ≤ 2 ^ 48 + 2 ^ 32
-iteration_small v t w plan l rests n flow tree is ll of s =
+pub iteration_small : {v : FlowGraph} {t : LoopView} {w : List ℕ} {plan : Plan} {l : ℕ} {rests : Rests} {n : Numbers} → IsPlanned v t w plan → l < length t.headers → AreRestsOf v t (by_edge w) plan l rests → AreSolvedBy v t (by_edge w) n → n.iteration l ≤ 2 ^ 48 + 2 ^ 32
+iteration_small {v = v} {t = t} {w = w} {plan = plan} {l = l} {rests = rests} {n = n} is ll of s =
     let count = loop_count v t in
     let lt : l < (loops v t).loops = omega arith in
-    let hl : number_in_place t.headers l < length v.code.nodes = header_number v t tree.0 tree.1 l ll in
+    let hl : number_in_place t.headers l < length v.code.nodes = header_number v t is.tree.0 is.tree.1 l ll in
     let address : (loops v t).header l ≡ node_address v (number_in_place t.headers l) = header_address v t l ll in
     let inside : (loops v t).inside l (node_address v (number_in_place t.headers l)) ≡ true = subst (λ a. (loops v t).inside l a ≡ true) address (s.held l lt) in
-    let q = step_of v t plan l rests.steps.items flow tree is ll of.places (number_in_place t.headers l) hl inside in
-    of.table.small q.0 (n.iteration l) (of.found n s q.0 q.1 ∙ ap (n.closing l) (address_of v t plan rests.steps.items is (number_in_place t.headers l) q.0 hl q.2 ∙ sym address) ∙ s.iteration l lt)
+    let q = step_of is l ll of.places (number_in_place t.headers l) hl inside in
+    of.table.small q.0 (n.iteration l) (of.found n s q.0 q.1 ∙ ap (n.closing l) (address_of is rests.steps.items (number_in_place t.headers l) q.0 hl q.2 ∙ sym address) ∙ s.iteration l lt)
 
 -- an entry that is set is no greater
 pub small_set : (xs ys : List ℕ) (k x most : ℕ) → ys ≡ set xs k x → x ≤ most → ((j : ℕ) → j < length xs → number_in_place xs j ≤ most) → (j : ℕ) → j < length ys → number_in_place ys j ≤ most
@@ -284,19 +288,19 @@ small_set xs ys k x most is low small j jl =
     let before = small j jx in let r : number_in_place ys j ≤ most = omega arith in r)
     (cases_eq j k)
 
-pub left_small : (v : FlowGraph) (t : LoopView) (w : ℕ → ℕ) (plan : Plan) (left : List ℕ) (i : ℕ) → IsFlowGraph v → HasSolved v t w → length left ≡ length v.code.nodes → AreLeftsTo v t w plan i left → (k : ℕ) → k < length left → number_in_place left k ≤ 2 ^ 48
-left_small v t w plan left i flow n size to k kl =
+pub left_small : {v : FlowGraph} {t : LoopView} {w : List ℕ} {plan : Plan} → IsPlanned v t w plan → (left : List ℕ) (i : ℕ) → HasSolved v t (by_edge w) → length left ≡ length v.code.nodes → AreLeftsTo v t (by_edge w) plan i left → (k : ℕ) → k < length left → number_in_place left k ≤ 2 ^ 48
+left_small {v = v} {t = t} {w = w} {plan = plan} is left i n size to k kl =
     let low : k < length v.code.nodes = omega arith in
     let under : number_in_place left k ≤ n.0.left (node_address v k) = (to n.0 n.1 k low).under in
-    let within = n.1.left_within (node_address v k) ((flow.nodes (node_address v k)).0 (k, node_here v k low)) in
+    let within = n.1.left_within (node_address v k) ((is.flow.nodes (node_address v k)).0 (k, node_here v k low)) in
     let small : n.0.worst 0 ≤ 2 ^ 48 = n.2 in
     let r : number_in_place left k ≤ 2 ^ 48 = omega arith in r
 
 -- a node that is the header of no loop
-pub unheaded : (v : FlowGraph) (t : LoopView) (plan : Plan) (i k : ℕ) (o : Option ℕ) → IsFlowGraph v → HasTree v t → IsWorstPlan v t plan → i < length plan.order.items → k ≡ get_or plan.order.items i k → o ≡ get_or plan.headed.items k o → ((x : ℕ) → o ≡ Some x → ⊥) →
+pub unheaded : {v : FlowGraph} {t : LoopView} {w : List ℕ} {plan : Plan} → IsPlanned v t w plan → (i k : ℕ) (o : Option ℕ) → i < length plan.order.items → k ≡ get_or plan.order.items i k → o ≡ get_or plan.headed.items k o → ((x : ℕ) → o ≡ Some x → ⊥) →
     (j : ℕ) → j < (loops v t).loops → (loops v t).header j ≢ node_address v (number_in_place plan.order.items i)
-unheaded v t plan i k o flow tree is il node has none j jl =
-    no_turns v t plan (record { worst = λ x. 0; iteration = λ x. 0; plain = λ x. 0; closing = λ x y. None; left = λ x. 0; context = λ x. 0 }) (number_in_place plan.order.items i) flow tree is (is.order.within i il) (headed_is v t plan i k o is il node has ∙ is_none o none) j jl
+unheaded {v = v} {t = t} {w = w} {plan = plan} is i k o il node has none j jl =
+    no_turns is (record { worst = λ x. 0; iteration = λ x. 0; plain = λ x. 0; closing = λ x y. None; left = λ x. 0; context = λ x. 0 }) (number_in_place plan.order.items i) (is.plan.order.within i il) (headed_is is i k o il node has ∙ is_none o none) j jl
   where
     is_none : (o : Option ℕ) → ((x : ℕ) → o ≡ Some x → ⊥) → o ≡ None
     is_none None e = refl

@@ -6,6 +6,7 @@ mod PlanLaws
 mod OverLaws
 mod RestLaws
 mod SearchLaws
+mod TableLaws
 mod IterationLaws
 mod VisitLaws
 mod ContextLaws

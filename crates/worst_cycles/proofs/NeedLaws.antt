@@ -47,9 +47,9 @@ need_skipped v backs entries n arcs are none = record {
 }
 
 -- edge n calls function f
-pub need_added : (v : FlowGraph) (backs : List (Option ℕ)) (entries : List ℕ) (n : ℕ) (arcs : List Arc) (arc : Arc) (f : ℕ) → AreNeeds v backs entries n arcs → n < length v.code.edges → StartsAtNode v n arc.from → (graph v).callee n ≡ Some f → arc.to ≡ number_in_place entries f →
+pub need_added : {v : FlowGraph} {backs : List (Option ℕ)} {entries : List ℕ} {n : ℕ} {arcs : List Arc} (arc : Arc) (f : ℕ) → AreNeeds v backs entries n arcs → n < length v.code.edges → StartsAtNode v n arc.from → (graph v).callee n ≡ Some f → arc.to ≡ number_in_place entries f →
     AreNeeds v backs entries (n + 1) (arcs ++ arc ∷ [])
-need_added v backs entries n arcs arc f are below starts calls to =
+need_added {v = v} {backs = backs} {entries = entries} {n = n} {arcs = arcs} arc f are below starts calls to =
     let size : length (arcs ++ arc ∷ []) ≡ length arcs + 1 = length-append arcs (arc ∷ []) in
     let left : (s : ℕ) → s < length arcs → arc_at arcs s ≡ arc_at (arcs ++ arc ∷ []) s = λ s lt. sym (get_or_append_left arcs (arc ∷ []) _ s lt) in
     let last : (s : ℕ) → s ≡ length arcs → arc ≡ arc_at (arcs ++ arc ∷ []) s = λ s e. sym (get_or-append_right arcs (arc ∷ []) s s _ (sym e) (omega arith) ∙ ap (arc_at (arc ∷ [])) (let z : s - s ≡ 0 = omega arith in z)) in

@@ -15,8 +15,8 @@ use Rattle.worst_cycles.specs.Visits.{visit_at, IsTurnsAt, IsVisit, IsEdgeKnown,
 use Rattle.worst_cycles.proofs.BodyLaws.{node_here}
 
 -- a plain edge to a node is charged its cost with all turns at the node
-pub charge_turns : (g : Graph) (l : Loops) (w : ℕ → ℕ) (n : Numbers) (e at x : ℕ) → AreSolved g l w n → e < g.edges → IsPlain g l e → g.target e ≡ Some at → IsTurnsAt l n at x → charge g l w n e ≡ cost g n w e + x
-charge_turns g l w n e at x s lt plain to turns = ⊎_elim
+pub charge_turns : {g : Graph} {l : Loops} {w : ℕ → ℕ} {n : Numbers} (e at x : ℕ) → AreSolved g l w n → e < g.edges → IsPlain g l e → g.target e ≡ Some at → IsTurnsAt l n at x → charge g l w n e ≡ cost g n w e + x
+charge_turns {g = g} {l = l} {w = w} {n = n} e at x s lt plain to turns = ⊎_elim
     (λ (some : (k : ℕ) × (k < l.loops) × (l.header k ≡ at) × (x ≡ all_of l n k)).
     let into : charge g l w n e ≡ cost g n w e + all_of l n some.0 = s.into e some.0 lt some.1 (to ∙ ap Some (sym some.2)) (plain some.0 some.1) in
     let is : x ≡ all_of l n some.0 = some.3 in
@@ -28,13 +28,13 @@ charge_turns g l w n e at x s lt plain to turns = ⊎_elim
     turns
 
 -- what a plain edge costs with what is behind it
-pub over_plain : (v : FlowGraph) (t : LoopView) (w : ℕ → ℕ) (plan : Plan) (visits : List Visit) (n : Numbers) (e c x : ℕ) → AreSolvedBy v t w n → e < length v.code.edges → IsEdgeKnown v t plan visits n e → IsPlain (graph v) (loops v t) e →
+pub over_plain : {v : FlowGraph} {t : LoopView} {w : ℕ → ℕ} {plan : Plan} {visits : List Visit} {n : Numbers} {e : ℕ} (c x : ℕ) → AreSolvedBy v t w n → e < length v.code.edges → IsEdgeKnown v t plan visits n e → IsPlain (graph v) (loops v t) e →
     c ≡ cost (graph v) n w e → IsBehind v visits e x → c + x ≡ over v t w n e
-over_plain v t w plan visits n e c x s lt known plain costs behind = ⊎_elim
+over_plain {v = v} {t = t} {w = w} {plan = plan} {visits = visits} {n = n} {e = e} c x s lt known plain costs behind = ⊎_elim
     (λ (some : (k : ℕ) × ((graph v).target e ≡ slice_get v.code.nodes k) × (k < length v.code.nodes) × (x ≡ (visit_at visits k).turns + (visit_at visits k).plain)).
     let to : (graph v).target e ≡ Some (node_address v some.0) = some.1 ∙ node_here v some.0 some.2 in
     let visit : IsVisit (loops v t) n (node_address v some.0) (visit_at visits some.0) = known.led some.0 (node_address v some.0) (node_here v some.0 some.2) to plain in
-    let charged : charge (graph v) (loops v t) w n e ≡ cost (graph v) n w e + (visit_at visits some.0).turns = charge_turns (graph v) (loops v t) w n e (node_address v some.0) (visit_at visits some.0).turns s lt plain to visit.turns in
+    let charged : charge (graph v) (loops v t) w n e ≡ cost (graph v) n w e + (visit_at visits some.0).turns = charge_turns e (node_address v some.0) (visit_at visits some.0).turns s lt plain to visit.turns in
     let path : plain_at n ((graph v).target e) ≡ n.plain (node_address v some.0) = ap (plain_at n) to in
     let here : (visit_at visits some.0).plain ≡ n.plain (node_address v some.0) = visit.plain in
     let is : x ≡ (visit_at visits some.0).turns + (visit_at visits some.0).plain = some.3 in
@@ -51,8 +51,8 @@ pub record IsPlainMost (v : FlowGraph) (t : LoopView) (w : ℕ → ℕ) (n : Num
   pub above : (d : ℕ) → first ≤ d → d < end → IsPlain (graph v) (loops v t) d → over v t w n d ≤ most
   pub reached : (most ≡ 0) ⊎ ((d : ℕ) × (first ≤ d) × (d < end) × IsPlain (graph v) (loops v t) d × (most ≡ over v t w n d))
 
-pub plain_raised : (v : FlowGraph) (t : LoopView) (w : ℕ → ℕ) (n : Numbers) (first e most x : ℕ) → first ≤ e → IsPlainMost v t w n first e most → IsPlainCostOver v t w n e x → most < x → IsPlainMost v t w n first (e + 1) x
-plain_raised v t w n first e most x from is this more = ⊎_elim
+pub plain_raised : {v : FlowGraph} {t : LoopView} {w : ℕ → ℕ} {n : Numbers} {first e most : ℕ} (x : ℕ) → first ≤ e → IsPlainMost v t w n first e most → IsPlainCostOver v t w n e x → most < x → IsPlainMost v t w n first (e + 1) x
+plain_raised {v = v} {t = t} {w = w} {n = n} {first = first} {e = e} {most = most} x from is this more = ⊎_elim
     (λ (plain : IsPlain (graph v) (loops v t) e × (x ≡ over v t w n e)). record {
       above = λ d low high p. ⊎_elim
           (λ (before : d < e). let h : over v t w n d ≤ most = is.above d low before p in let r : over v t w n d ≤ x = omega arith in r)
@@ -63,8 +63,8 @@ plain_raised v t w n first e most x from is this more = ⊎_elim
     (λ (back : (IsPlain (graph v) (loops v t) e → ⊥) × (x ≡ 0)). let zero_is : x ≡ 0 = back.1 in let bad : ⊥ = omega arith in absurd bad)
     this
 
-pub plain_kept : (v : FlowGraph) (t : LoopView) (w : ℕ → ℕ) (n : Numbers) (first e most x : ℕ) → IsPlainMost v t w n first e most → IsPlainCostOver v t w n e x → x ≤ most → IsPlainMost v t w n first (e + 1) most
-plain_kept v t w n first e most x is this less = record {
+pub plain_kept : {v : FlowGraph} {t : LoopView} {w : ℕ → ℕ} {n : Numbers} {first e most : ℕ} (x : ℕ) → IsPlainMost v t w n first e most → IsPlainCostOver v t w n e x → x ≤ most → IsPlainMost v t w n first (e + 1) most
+plain_kept {v = v} {t = t} {w = w} {n = n} {first = first} {e = e} {most = most} x is this less = record {
   above = λ d low high p. ⊎_elim
       (λ (before : d < e). is.above d low before p)
       (λ (last : e ≤ d).
@@ -82,9 +82,9 @@ plain_kept v t w n first e most x is this less = record {
 }
 
 -- over all edges of a node it is the greatest cost of a acyclic path from there
-pub plain_found : (v : FlowGraph) (t : LoopView) (w : ℕ → ℕ) (n : Numbers) (first end most at : ℕ) → IsPlainMost v t w n first end most →
+pub plain_found : {v : FlowGraph} {t : LoopView} {w : ℕ → ℕ} {n : Numbers} {first end most : ℕ} (at : ℕ) → IsPlainMost v t w n first end most →
     ((e : ℕ) → e < length v.code.edges → ((graph v).source e ≡ at) ↔ ((first ≤ e) × (e < end))) → end ≤ length v.code.edges → IsPlainOver (graph v) (loops v t) w n at → most ≡ n.plain at
-plain_found v t w n first end most at is edges within over_is =
+plain_found {v = v} {t = t} {w = w} {n = n} {first = first} {end = end} {most = most} at is edges within over_is =
     let low : most ≤ n.plain at = ⊎_elim
     (λ (none : most ≡ 0). let r : most ≤ n.plain at = omega arith in r)
     (λ (some : (d : ℕ) × (first ≤ d) × (d < end) × IsPlain (graph v) (loops v t) d × (most ≡ over v t w n d)).

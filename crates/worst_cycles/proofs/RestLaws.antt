@@ -26,9 +26,9 @@ held_is : (b : Bool) (o : Option ℕ) (m : ℕ) → b ≡ true → o ≡ Some m 
 held_is b o m inside some = ap (λ c. held c o) inside ∙ some
 
 -- over a back edge of the loop the rest is the edge's cost,
-pub back_rest : (v : FlowGraph) (t : LoopView) (extent : ℕ → ℕ → Bool) (w : ℕ → ℕ) (n : Numbers) (e k c : ℕ) → IsLoopTree v extent t → AreSolvedBy v t w n → e < length v.code.edges → slice_get t.backs e ≡ Some (Some k) →
+pub back_rest : {v : FlowGraph} {t : LoopView} {extent : ℕ → ℕ → Bool} {w : ℕ → ℕ} {n : Numbers} (e k c : ℕ) → IsLoopTree v extent t → AreSolvedBy v t w n → e < length v.code.edges → slice_get t.backs e ≡ Some (Some k) →
     c ≡ cost (graph v) n w e → IsRestFor v t w n k e (Some c)
-back_rest v t extent w n e k c tree s lt here costs b =
+back_rest {v = v} {t = t} {extent = extent} {w = w} {n = n} e k c tree s lt here costs b =
     let back = back_by v t extent tree e k here in
     let charged : charge (graph v) (loops v t) w n e ≡ cost (graph v) n w e = s.back e k lt back.0 back.1 in (
       λ some. let same : c ≡ b = same_Some c b some in inl (back.1, (let r : b ≡ charge (graph v) (loops v t) w n e = omega arith in r)),
@@ -39,9 +39,9 @@ back_rest v t extent w n e k c tree s lt here costs b =
     )
 
 -- over one of another loop there is none,
-pub other_rest : (v : FlowGraph) (t : LoopView) (extent : ℕ → ℕ → Bool) (w : ℕ → ℕ) (n : Numbers) (e j k : ℕ) → IsLoopTree v extent t → e < length v.code.edges → slice_get t.backs e ≡ Some (Some j) → k < length t.headers → j ≢ k →
+pub other_rest : {v : FlowGraph} {t : LoopView} {extent : ℕ → ℕ → Bool} (w : ℕ → ℕ) (n : Numbers) (e j k : ℕ) → IsLoopTree v extent t → e < length v.code.edges → slice_get t.backs e ≡ Some (Some j) → k < length t.headers → j ≢ k →
     IsRestFor v t w n k e None
-other_rest v t extent w n e j k tree lt here kl other b =
+other_rest {v = v} {t = t} {extent = extent} w n e j k tree lt here kl other b =
     let back = back_by v t extent tree e j here in (
       λ some. absurd (none-some b some),
       λ rest. ⊎_elim
@@ -65,15 +65,15 @@ through v t w n e k b at kl plain to rest = ⊎_elim
     rest
 
 -- and over a plain edge it is that of its end, with the edge's charge.
-pub plain_rest : (v : FlowGraph) (t : LoopView) (w : ℕ → ℕ) (plan : Plan) (visits : List Visit) (rests : Rests) (n : Numbers) (e k : ℕ) (o : Option ℕ) → AreSolvedBy v t w n → e < length v.code.edges → k < (loops v t).loops → IsPlain (graph v) (loops v t) e →
+pub plain_rest : {v : FlowGraph} {t : LoopView} {w : ℕ → ℕ} {plan : Plan} {visits : List Visit} {n : Numbers} {e : ℕ} (rests : Rests) (k : ℕ) (o : Option ℕ) → AreSolvedBy v t w n → e < length v.code.edges → k < (loops v t).loops → IsPlain (graph v) (loops v t) e →
     IsEdgeKnown v t plan visits n e → IsRestKnown v t plan rests n k e → IsRestPast v plan w visits rests e o → IsRestFor v t w n k e o
-plain_rest v t w plan visits rests n e k o s lt kl plain known rest_known past = ⊎_elim
+plain_rest {v = v} {t = t} {w = w} {plan = plan} {visits = visits} {n = n} {e = e} rests k o s lt kl plain known rest_known past = ⊎_elim
     (λ (some : (u : ℕ) × (r : Option ℕ) × ((graph v).target e ≡ slice_get v.code.nodes u) × (u < length v.code.nodes) × IsRestOf rests (number_in_place plan.places.items u) r × IsAdded v plan w visits e u r o).
     let here = node_here v some.0 some.3 in
     let to : (graph v).target e ≡ Some (node_address v some.0) = some.2 ∙ here in
     let visit : IsVisit (loops v t) n (node_address v some.0) (visit_at visits some.0) = known.led some.0 (node_address v some.0) here to plain in
     let rest : some.1 ≡ closing_at (loops v t) n k (node_address v some.0) = rest_known some.0 (node_address v some.0) some.1 here to plain some.4 in
-    let charged : charge (graph v) (loops v t) w n e ≡ cost (graph v) n w e + (visit_at visits some.0).turns = charge_turns (graph v) (loops v t) w n e (node_address v some.0) (visit_at visits some.0).turns s lt plain to visit.turns in
+    let charged : charge (graph v) (loops v t) w n e ≡ cost (graph v) n w e + (visit_at visits some.0).turns = charge_turns e (node_address v some.0) (visit_at visits some.0).turns s lt plain to visit.turns in
     go some.0 some.1 to charged rest some.5)
     (λ (none : ((graph v).target e ≡ None) × (o ≡ None)). λ b. (
       λ (some : o ≡ Some b). absurd (none-some b (sym none.1 ∙ some)),
@@ -109,9 +109,9 @@ pub record IsRestMost (v : FlowGraph) (t : LoopView) (w : ℕ → ℕ) (n : Numb
   pub above : (d b : ℕ) → first ≤ d → d < end → IsRestOver (graph v) (loops v t) w n k d b → (m : ℕ) × (most ≡ Some m) × (b ≤ m)
   pub reached : (m : ℕ) → most ≡ Some m → (d : ℕ) × (first ≤ d) × (d < end) × IsRestOver (graph v) (loops v t) w n k d m
 
-pub rest_more : (v : FlowGraph) (t : LoopView) (w : ℕ → ℕ) (n : Numbers) (k first e : ℕ) (one other most : Option ℕ) → first ≤ e → IsRestMost v t w n k first e one → IsRestFor v t w n k e other → IsGreaterOf one other most →
+pub rest_more : {v : FlowGraph} {t : LoopView} {w : ℕ → ℕ} {n : Numbers} {k first e : ℕ} {one : Option ℕ} (other most : Option ℕ) → first ≤ e → IsRestMost v t w n k first e one → IsRestFor v t w n k e other → IsGreaterOf one other most →
     IsRestMost v t w n k first (e + 1) most
-rest_more v t w n k first e one other most from is this greater = record {
+rest_more {v = v} {t = t} {w = w} {n = n} {k = k} {first = first} {e = e} {one = one} other most from is this greater = record {
   above = λ d b low high rest. ⊎_elim
       (λ (before : d < e).
       let old = is.above d b low before rest in
@@ -130,9 +130,9 @@ rest_more v t w n k first e one other most from is this greater = record {
 }
 
 -- over all edges of a node of the body it is the rest from there
-pub rest_found : (v : FlowGraph) (t : LoopView) (w : ℕ → ℕ) (n : Numbers) (k first end at : ℕ) (most : Option ℕ) → IsRestMost v t w n k first end most →
+pub rest_found : {v : FlowGraph} {t : LoopView} {w : ℕ → ℕ} {n : Numbers} {k first end : ℕ} {most : Option ℕ} (at : ℕ) → IsRestMost v t w n k first end most →
     ((e : ℕ) → e < length v.code.edges → ((graph v).source e ≡ at) ↔ ((first ≤ e) × (e < end))) → end ≤ length v.code.edges → IsClosingOver (graph v) (loops v t) w n k at → most ≡ n.closing k at
-rest_found v t w n k first end at most is edges within closing = go most refl (n.closing k at) refl
+rest_found {v = v} {t = t} {w = w} {n = n} {k = k} {first = first} {end = end} {most = most} at is edges within closing = go most refl (n.closing k at) refl
   where
     in_range : (e : ℕ) → e < length v.code.edges → (graph v).source e ≡ at → (first ≤ e) × (e < end)
     in_range e lt from = (edges e lt).0 from

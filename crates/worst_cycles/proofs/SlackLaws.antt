@@ -1,8 +1,8 @@
 -- The slacks of edges and the rests behind them, from the tables.
-use Rattle.std.proofs.Common.{◌≡◌, ◌≢◌, ℕ, ◌+◌, ◌-◌, ◌^◌, ◌<◌, ◌≤◌, Bool, true, false, List, length, slice_get, nat_eq, Option, Some, None, is_some, refl, sym, ap, ◌∙◌, subst, arith, eqb-true}
+use Rattle.std.proofs.Common.{◌≡◌, ◌≢◌, ℕ, ◌+◌, ◌-◌, ◌^◌, ◌<◌, ◌≤◌, Bool, true, false, List, length, slice_get, nat_eq, Some, is_some, refl, sym, ap, ◌∙◌, subst, arith, eqb-true}
 use Rattle.std.proofs.lemmas.Option.{same_Some, slice_get_within, slice_get-get_or, get_or_from_slice_get}
 use Rattle.graph_algorithms.specs.Arcs.{number_in_place}
-use Rattle.cost_theory.specs.Graph.{Loops, IsPlain, is_back, is_header, sum_below, only}
+use Rattle.cost_theory.specs.Graph.{IsPlain, is_back, is_header, only}
 use Rattle.cost_theory.specs.Worst.{Numbers, cost, left_at, turn_back, turns_round, slack, rest}
 use Rattle.cost_theory.proofs.Laws.{sum-one, sum-none, only_true, only_false, and_right}
 use Rattle.code_graph.specs.FlowGraph.{FlowGraph, graph, IsFlowGraph}
@@ -18,10 +18,10 @@ use Rattle.worst_cycles.proofs.BodyLaws.{node_here, loop_count, back_by}
 use Rattle.worst_cycles.proofs.OverLaws.{charge_turns}
 
 -- over a back edge one iteration is added and no turns are charged,
-pub back_sides : (v : FlowGraph) (t : LoopView) (extent : ℕ → ℕ → Bool) (w : ℕ → ℕ) (visits : List Visit) (n : Numbers) (e k to : ℕ) → IsLoopTree v extent t → AreAllVisited v t w visits → AreSolvedBy v t w n → e < length v.code.edges →
+pub back_sides : {v : FlowGraph} {t : LoopView} {extent : ℕ → ℕ → Bool} {w : ℕ → ℕ} {visits : List Visit} {n : Numbers} (e k to : ℕ) → IsLoopTree v extent t → AreAllVisited v t w visits → AreSolvedBy v t w n → e < length v.code.edges →
     slice_get t.backs e ≡ Some (Some k) → (graph v).target e ≡ slice_get v.code.nodes to → to < length v.code.nodes →
     (charge (graph v) (loops v t) w n e ≡ cost (graph v) n w e) × (turn_back (graph v) (loops v t) n e ≡ (visit_at visits to).iteration)
-back_sides v t extent w visits n e k to tree found s lt here leads tl =
+back_sides {v = v} {t = t} {extent = extent} {w = w} {visits = visits} {n = n} e k to tree found s lt here leads tl =
     let back = back_by v t extent tree e k here in
     let target : (graph v).target e ≡ Some (node_address v to) = leads ∙ node_here v to tl in
     let at : is_header (loops v t) k ((graph v).target e) ≡ true = and_right ((loops v t).inside k ((graph v).source e)) (is_header (loops v t) k ((graph v).target e)) back.1 in
@@ -41,20 +41,20 @@ back_sides v t extent w visits n e k to tree found s lt here leads tl =
         absurd (other (same_Some j k (same_Some (Some j) (Some k) (sym also ∙ here))))
 
 -- and over a plain edge all turns at its end are charged and no iteration is added.
-pub plain_sides : (v : FlowGraph) (t : LoopView) (w : ℕ → ℕ) (visits : List Visit) (n : Numbers) (e to : ℕ) → AreAllVisited v t w visits → AreSolvedBy v t w n → e < length v.code.edges →
+pub plain_sides : {v : FlowGraph} {t : LoopView} {w : ℕ → ℕ} {visits : List Visit} {n : Numbers} (e to : ℕ) → AreAllVisited v t w visits → AreSolvedBy v t w n → e < length v.code.edges →
     IsPlain (graph v) (loops v t) e → (graph v).target e ≡ slice_get v.code.nodes to → to < length v.code.nodes →
     (charge (graph v) (loops v t) w n e ≡ cost (graph v) n w e + (visit_at visits to).turns) × (turn_back (graph v) (loops v t) n e ≡ 0)
-plain_sides v t w visits n e to found s lt plain leads tl =
+plain_sides {v = v} {t = t} {w = w} {visits = visits} {n = n} e to found s lt plain leads tl =
     let target : (graph v).target e ≡ Some (node_address v to) = leads ∙ node_here v to tl in
     let visit : IsVisit (loops v t) n (node_address v to) (visit_at visits to) = found.each n s to (node_address v to) (node_here v to tl) in (
-      charge_turns (graph v) (loops v t) w n e (node_address v to) (visit_at visits to).turns s lt plain target visit.turns,
+      charge_turns e (node_address v to) (visit_at visits to).turns s lt plain target visit.turns,
       sum-none (loops v t).loops (λ j. only (is_back (graph v) (loops v t) j e) (n.iteration j)) (λ j jl. only_false (is_back (graph v) (loops v t) j e) (n.iteration j) (plain j jl)),
     )
 
 -- what is left at both ends of an edge
-pub left_sides : (v : FlowGraph) (t : LoopView) (w : ℕ → ℕ) (left : List ℕ) (n : Numbers) (e from to : ℕ) → AreLefts v t w left → AreSolvedBy v t w n → slice_get v.code.nodes from ≡ Some ((graph v).source e) → (graph v).target e ≡ slice_get v.code.nodes to → to < length v.code.nodes →
+pub left_sides : {v : FlowGraph} {t : LoopView} {w : ℕ → ℕ} {left : List ℕ} {n : Numbers} (e from to : ℕ) → AreLefts v t w left → AreSolvedBy v t w n → slice_get v.code.nodes from ≡ Some ((graph v).source e) → (graph v).target e ≡ slice_get v.code.nodes to → to < length v.code.nodes →
     (number_in_place left from ≡ n.left ((graph v).source e)) × (number_in_place left to ≡ left_at n ((graph v).target e))
-left_sides v t w left n e from to lefts s source leads tl = (
+left_sides {v = v} {t = t} {w = w} {left = left} {n = n} e from to lefts s source leads tl = (
   lefts.each n s from (slice_get_within v.code.nodes from _ source) ∙ ap n.left (get_or_from_slice_get v.code.nodes from _ 0 source),
   lefts.each n s to tl ∙ sym (ap (left_at n) (leads ∙ node_here v to tl)),
 )
@@ -67,9 +67,9 @@ pub rest_there : (v : FlowGraph) (t : LoopView) (n : Numbers) (e to : ℕ) → (
 rest_there v t n e to leads tl = sym (only_true (is_some ((graph v).target e)) _ (ap is_some (leads ∙ node_here v to tl)))
 
 -- and the rest is made of what is left at the node, the turns round it, and the function's context.
-pub rest_value : (v : FlowGraph) (t : LoopView) (w : ℕ → ℕ) (left around context : List ℕ) (n : Numbers) (e to owner : ℕ) → AreLefts v t w left → AreTurnsRound v t w around → AreContexts v t w context → AreSolvedBy v t w n → (graph v).target e ≡ slice_get v.code.nodes to → to < length v.code.nodes →
+pub rest_value : {v : FlowGraph} {t : LoopView} {w : ℕ → ℕ} {left around context : List ℕ} {n : Numbers} (e to owner : ℕ) → AreLefts v t w left → AreTurnsRound v t w around → AreContexts v t w context → AreSolvedBy v t w n → (graph v).target e ≡ slice_get v.code.nodes to → to < length v.code.nodes →
     owner ≡ (graph v).owner ((graph v).source e) → owner < length v.code.functions → number_in_place left to + number_in_place around to + number_in_place context owner ≡ rest (graph v) (loops v t) n e
-rest_value v t w left around context n e to owner lefts rounds contexts s leads tl owner_is ol =
+rest_value {v = v} {t = t} {w = w} {left = left} {around = around} {context = context} {n = n} e to owner lefts rounds contexts s leads tl owner_is ol =
     let target : (graph v).target e ≡ Some (node_address v to) = leads ∙ node_here v to tl in
     let a : number_in_place left to ≡ left_at n ((graph v).target e) = lefts.each n s to tl ∙ sym (ap (left_at n) target) in
     let b : number_in_place around to ≡ turns_round (loops v t) n ((graph v).target e) = rounds.each n s to tl ∙ sym (ap (turns_round (loops v t) n) target) in
@@ -84,13 +84,13 @@ context_small v t w context f n contexts fl =
     omega arith
 
 -- what stands on both sides of the difference, and the difference, over a back edge
-pub back_value : (v : FlowGraph) (t : LoopView) (extent : ℕ → ℕ → Bool) (w : ℕ → ℕ) (visits : List Visit) (left : List ℕ) (n : Numbers) (e k from to price : ℕ) → IsLoopTree v extent t → AreAllVisited v t w visits → AreLefts v t w left → AreSolvedBy v t w n → e < length v.code.edges →
+pub back_value : {v : FlowGraph} {t : LoopView} {extent : ℕ → ℕ → Bool} {w : ℕ → ℕ} {visits : List Visit} {left : List ℕ} {n : Numbers} (e k from to price : ℕ) → IsLoopTree v extent t → AreAllVisited v t w visits → AreLefts v t w left → AreSolvedBy v t w n → e < length v.code.edges →
     slice_get t.backs e ≡ Some (Some k) → slice_get v.code.nodes from ≡ Some ((graph v).source e) → (graph v).target e ≡ slice_get v.code.nodes to → to < length v.code.nodes → price ≡ cost (graph v) n w e →
     (price + number_in_place left to ≤ number_in_place left from + (visit_at visits to).iteration) ×
     (number_in_place left from + (visit_at visits to).iteration - (price + number_in_place left to) ≡ slack (graph v) (loops v t) n (cost (graph v) n w) e)
-back_value v t extent w visits left n e k from to price tree found lefts s lt here source leads tl priced =
-    let sides = back_sides v t extent w visits n e k to tree found s lt here leads tl in
-    let ends = left_sides v t w left n e from to lefts s source leads tl in
+back_value {v = v} {t = t} {extent = extent} {w = w} {visits = visits} {left = left} {n = n} e k from to price tree found lefts s lt here source leads tl priced =
+    let sides = back_sides e k to tree found s lt here leads tl in
+    let ends = left_sides e from to lefts s source leads tl in
     let over : charge (graph v) (loops v t) w n e + left_at n ((graph v).target e) ≤ n.left ((graph v).source e) + turn_back (graph v) (loops v t) n e = s.over_edge e lt in
     let a : charge (graph v) (loops v t) w n e ≡ cost (graph v) n w e = sides.0 in
     let b : turn_back (graph v) (loops v t) n e ≡ (visit_at visits to).iteration = sides.1 in
@@ -101,13 +101,13 @@ back_value v t extent w visits left n e k from to price tree found lefts s lt he
     )
 
 -- and over a plain edge
-pub plain_value : (v : FlowGraph) (t : LoopView) (w : ℕ → ℕ) (visits : List Visit) (left : List ℕ) (n : Numbers) (e from to price : ℕ) → AreAllVisited v t w visits → AreLefts v t w left → AreSolvedBy v t w n → e < length v.code.edges →
+pub plain_value : {v : FlowGraph} {t : LoopView} {w : ℕ → ℕ} {visits : List Visit} {left : List ℕ} {n : Numbers} (e from to price : ℕ) → AreAllVisited v t w visits → AreLefts v t w left → AreSolvedBy v t w n → e < length v.code.edges →
     IsPlain (graph v) (loops v t) e → slice_get v.code.nodes from ≡ Some ((graph v).source e) → (graph v).target e ≡ slice_get v.code.nodes to → to < length v.code.nodes → price ≡ cost (graph v) n w e →
     ((visit_at visits to).turns + (price + number_in_place left to) ≤ number_in_place left from) ×
     (number_in_place left from - ((visit_at visits to).turns + (price + number_in_place left to)) ≡ slack (graph v) (loops v t) n (cost (graph v) n w) e)
-plain_value v t w visits left n e from to price found lefts s lt plain source leads tl priced =
-    let sides = plain_sides v t w visits n e to found s lt plain leads tl in
-    let ends = left_sides v t w left n e from to lefts s source leads tl in
+plain_value {v = v} {t = t} {w = w} {visits = visits} {left = left} {n = n} e from to price found lefts s lt plain source leads tl priced =
+    let sides = plain_sides e to found s lt plain leads tl in
+    let ends = left_sides e from to lefts s source leads tl in
     let over : charge (graph v) (loops v t) w n e + left_at n ((graph v).target e) ≤ n.left ((graph v).source e) + turn_back (graph v) (loops v t) n e = s.over_edge e lt in
     let a : charge (graph v) (loops v t) w n e ≡ cost (graph v) n w e + (visit_at visits to).turns = sides.0 in
     let b : turn_back (graph v) (loops v t) n e ≡ 0 = sides.1 in
@@ -126,9 +126,9 @@ lefts_small v t w left k flow n lefts kl =
 
 -- ---- the whole
 
-pub holds_left : (v : FlowGraph) (t : LoopView) (w : ℕ → ℕ) (parts : LeftParts) (worst iteration : List ℕ) (n : Numbers) → AreParts v t w parts → AreSolvedBy v t w n →
+pub holds_left : {v : FlowGraph} {t : LoopView} {w : ℕ → ℕ} {parts : LeftParts} {n : Numbers} (worst iteration : List ℕ) → AreParts v t w parts → AreSolvedBy v t w n →
     HoldsLeft v (loops v t) w n (record { worst = worst; iteration = iteration; left = parts.left.items; context = parts.context.items; slacks = parts.slacks.items; rests = parts.rests.items })
-holds_left v t w parts worst iteration n are s = record {
+holds_left {v = v} {t = t} {w = w} {parts = parts} {n = n} worst iteration are s = record {
   left = λ k at node.
       let kl : k < length v.code.nodes = slice_get_within v.code.nodes k at node in
       let size = are.left.size in

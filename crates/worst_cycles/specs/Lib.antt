@@ -4,3 +4,4 @@ pub mod Solved
 pub mod Visits
 pub mod Rests
 pub mod Lefts
+pub mod Planned

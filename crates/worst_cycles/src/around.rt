@@ -2,15 +2,11 @@
 
 ghost use Rattle.std.specs.Prelude.{◌≡◌, ◌≢◌, ℕ, ◌+◌, ◌*◌, ◌^◌, ◌<◌, ◌≤◌, length, IfOk};
 ghost use Rattle.graph_algorithms.specs.Arcs.{number_in_place, AreDistinct};
-ghost use Rattle.code_graph.specs.FlowGraph.{IsFlowGraph};
 ghost use Rattle.worst_cycles.specs.Worst.{by_edge};
-ghost use Rattle.worst_cycles.specs.Needs.{HasTree};
-ghost use Rattle.worst_cycles.specs.Visits.{AreAllVisited};
 ghost use Rattle.worst_cycles.specs.Lefts.{AreTurnsRound};
+ghost use Rattle.worst_cycles.specs.Planned.{IsVisitedGraph};
 
-use crate::visits::Visit;
-use code_graph::{CodeGraph, Weights};
-use loop_tree::LoopTree;
+use crate::planned::VisitedGraph;
 use scale_base::NoMemory;
 use std::alloc::Global;
 
@@ -30,21 +26,15 @@ fn add_turns(body: &[usize], turns: u64, around: &mut Vec<u64>)
 }
 
 /// By node, all turns of the loops round it.
-pub fn turns_around(
-    alloc: Global,
-    graph: &CodeGraph,
-    tree: &LoopTree,
-    weights: &Weights,
-    visits: &[Visit],
-) -> Result<Vec<u64>, NoMemory>
-    requires flow { IsFlowGraph graph.now }
-    requires tree { HasTree graph.now tree.now }
-    requires visits { AreAllVisited graph.now tree.now (by_edge weights.now) visits.now }
-    ensures { IfOk result (λ around. AreTurnsRound graph.now tree.now (by_edge weights.now) around.items) }
+pub fn turns_around(alloc: Global, visited: &VisitedGraph<'_>) -> Result<Vec<u64>, NoMemory>
+    requires visited { IsVisitedGraph visited.now }
+    ensures { IfOk result (λ around. AreTurnsRound visited.now.planned.graph.now visited.now.planned.tree.now (by_edge visited.now.planned.weights.now) around.items) }
 {
-    let mut around = vec![in alloc; 0; graph.node_count()]?;
+    let tree = visited.planned.tree;
+    let mut around = vec![in alloc; 0; visited.planned.graph.node_count()]?;
     for l in 0..tree.loop_count() {
-        add_turns(tree.body(l), visits[tree.header(l)].turns, &mut around);
+        let turns = visited.visits[tree.header(l)].turns;
+        add_turns(tree.body(l), turns, &mut around);
     }
     Ok(around)
 }

@@ -1,20 +1,19 @@
 //! What is left of the callers of each function.
 
-ghost use Rattle.std.specs.Prelude.{◌≡◌, ◌≢◌, ℕ, ◌+◌, ◌*◌, ◌^◌, ◌<◌, ◌≤◌, ◌⊎◌, length, slice_index, Some, IfOk};
-ghost use Rattle.graph_algorithms.specs.Arcs.{number_in_place, AreDistinct};
-ghost use Rattle.cost_theory.specs.Worst.{Numbers, IsReturningCall, context_of};
-ghost use Rattle.code_graph.specs.FlowGraph.{graph as graph_seen, IsFlowGraph};
+ghost use Rattle.std.specs.Prelude.{◌≡◌, ◌≢◌, ℕ, ◌+◌, ◌<◌, ◌≤◌, ◌⊎◌, length, Some, IfOk};
+ghost use Rattle.graph_algorithms.specs.Arcs.{number_in_place};
+ghost use Rattle.cost_theory.specs.Worst.{Numbers, IsReturningCall};
+ghost use Rattle.code_graph.specs.FlowGraph.{graph as graph_seen};
 ghost use Rattle.loop_tree.specs.Noted.{node_address};
 ghost use Rattle.loop_tree.specs.Tree.{loops};
 ghost use Rattle.worst_cycles.specs.Worst.{by_edge};
-ghost use Rattle.worst_cycles.specs.Needs.{HasTree};
-ghost use Rattle.worst_cycles.specs.Visits.{IsWorstPlan, AreSolvedBy, AreAllVisited};
-ghost use Rattle.worst_cycles.specs.Lefts.{HasSolved, AreLefts, AreTurnsRound, AreContexts, AreContextsRaised};
+ghost use Rattle.worst_cycles.specs.Visits.{AreSolvedBy};
+ghost use Rattle.worst_cycles.specs.Lefts.{AreLefts, AreTurnsRound, AreContexts, AreContextsRaised};
+ghost use Rattle.worst_cycles.specs.Planned.{IsVisitedGraph};
 
-use crate::plan::Plan;
-use crate::visits::{Visit, cost_of};
-use code_graph::{CodeGraph, Weights};
-use loop_tree::LoopTree;
+use crate::planned::VisitedGraph;
+use crate::visits::cost_of;
+use code_graph::CodeGraph;
 use scale_base::NoMemory;
 use std::alloc::Global;
 
@@ -46,34 +45,27 @@ fn raise(table: &mut Vec<u64>, f: usize, cycles: u64)
 
 /// Raises the contexts of the functions that node `k` calls to what is left behind these calls.
 fn raise_contexts(
-    graph: &CodeGraph,
-    tree: &LoopTree,
-    weights: &Weights,
-    plan: &Plan,
-    visits: &[Visit],
+    visited: &VisitedGraph<'_>,
     left: &[u64],
     around: &[u64],
     k: usize,
     context: &mut Vec<u64>,
 )
-    requires flow { IsFlowGraph graph.now }
-    requires plan { IsWorstPlan graph.now tree.now plan.now }
-    requires weights { length weights.now ≡ length graph.now.code.edges }
-    requires visits { AreAllVisited graph.now tree.now (by_edge weights.now) visits.now }
-    requires solved { HasSolved graph.now tree.now (by_edge weights.now) }
-    requires left { AreLefts graph.now tree.now (by_edge weights.now) left.now }
-    requires around { AreTurnsRound graph.now tree.now (by_edge weights.now) around.now }
-    requires node { k < length graph.now.code.nodes }
-    requires size { length context.old.items ≡ length graph.now.code.functions }
-    requires own { (n : Numbers) → AreSolvedBy graph.now tree.now (by_edge weights.now) n → number_in_place context.old.items ((graph_seen graph.now).owner (node_address graph.now k)) ≡ n.context ((graph_seen graph.now).owner (node_address graph.now k)) }
+    requires visited { IsVisitedGraph visited.now }
+    requires left { AreLefts visited.now.planned.graph.now visited.now.planned.tree.now (by_edge visited.now.planned.weights.now) left.now }
+    requires around { AreTurnsRound visited.now.planned.graph.now visited.now.planned.tree.now (by_edge visited.now.planned.weights.now) around.now }
+    requires node { k < length visited.now.planned.graph.now.code.nodes }
+    requires size { length context.old.items ≡ length visited.now.planned.graph.now.code.functions }
+    requires own { (n : Numbers) → AreSolvedBy visited.now.planned.graph.now visited.now.planned.tree.now (by_edge visited.now.planned.weights.now) n → number_in_place context.old.items ((graph_seen visited.now.planned.graph.now).owner (node_address visited.now.planned.graph.now k)) ≡ n.context ((graph_seen visited.now.planned.graph.now).owner (node_address visited.now.planned.graph.now k)) }
     ensures size { length context.new.items ≡ length context.old.items }
-    ensures raised { (n : Numbers) → AreSolvedBy graph.now tree.now (by_edge weights.now) n → AreContextsRaised (graph_seen graph.now) (loops graph.now tree.now) (by_edge weights.now) n (node_address graph.now k) context.old.items context.new.items }
+    ensures raised { (n : Numbers) → AreSolvedBy visited.now.planned.graph.now visited.now.planned.tree.now (by_edge visited.now.planned.weights.now) n → AreContextsRaised (graph_seen visited.now.planned.graph.now) (loops visited.now.planned.graph.now visited.now.planned.tree.now) (by_edge visited.now.planned.weights.now) n (node_address visited.now.planned.graph.now k) context.old.items context.new.items }
 {
+    let graph = visited.planned.graph;
     let own = context[graph.owner(k)];
     let (first, end) = graph.edges_of(k);
     for e in first..end {
         if let Some(f) = comes_back(graph, e) {
-            let cost = cost_of(graph, weights, plan, visits, e);
+            let cost = cost_of(&visited.planned, visited.visits, e);
             let behind = left[k].saturating_sub(cost) + around[k] + own;
             raise(context, f, behind);
         }
@@ -84,39 +76,21 @@ fn raise_contexts(
 /// they call.
 pub fn contexts_of(
     alloc: Global,
-    graph: &CodeGraph,
-    tree: &LoopTree,
-    weights: &Weights,
-    plan: &Plan,
-    visits: &[Visit],
+    visited: &VisitedGraph<'_>,
     left: &[u64],
     around: &[u64],
 ) -> Result<Vec<u64>, NoMemory>
-    requires flow { IsFlowGraph graph.now }
-    requires tree { HasTree graph.now tree.now }
-    requires plan { IsWorstPlan graph.now tree.now plan.now }
-    requires weights { length weights.now ≡ length graph.now.code.edges }
-    requires visits { AreAllVisited graph.now tree.now (by_edge weights.now) visits.now }
-    requires solved { HasSolved graph.now tree.now (by_edge weights.now) }
-    requires left { AreLefts graph.now tree.now (by_edge weights.now) left.now }
-    requires around { AreTurnsRound graph.now tree.now (by_edge weights.now) around.now }
-    ensures { IfOk result (λ context. AreContexts graph.now tree.now (by_edge weights.now) context.items) }
+    requires visited { IsVisitedGraph visited.now }
+    requires left { AreLefts visited.now.planned.graph.now visited.now.planned.tree.now (by_edge visited.now.planned.weights.now) left.now }
+    requires around { AreTurnsRound visited.now.planned.graph.now visited.now.planned.tree.now (by_edge visited.now.planned.weights.now) around.now }
+    ensures { IfOk result (λ context. AreContexts visited.now.planned.graph.now visited.now.planned.tree.now (by_edge visited.now.planned.weights.now) context.items) }
 {
-    let mut context = vec![in alloc; 0; graph.function_count()]?;
+    let plan = visited.planned.plan;
+    let mut context = vec![in alloc; 0; visited.planned.graph.function_count()]?;
     let mut i = plan.order.len();
     while i > 0 {
         i -= 1;
-        raise_contexts(
-            graph,
-            tree,
-            weights,
-            plan,
-            visits,
-            left,
-            around,
-            plan.order[i],
-            &mut context,
-        );
+        raise_contexts(visited, left, around, plan.order[i], &mut context);
     }
     Ok(context)
 }

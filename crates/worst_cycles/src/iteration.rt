@@ -3,18 +3,16 @@
 ghost use Rattle.std.specs.Prelude.{◌≡◌, ℕ, ◌+◌, ◌^◌, ◌<◌, ◌≤◌, true, false, length, Some, IfOk};
 ghost use Rattle.scale_base.specs.Answer.{AnswersBy};
 ghost use Rattle.graph_algorithms.specs.Arcs.{number_in_place};
-ghost use Rattle.code_graph.specs.FlowGraph.{IsFlowGraph};
-ghost use Rattle.worst_cycles.specs.Worst.{by_edge, AreUpTo};
-ghost use Rattle.worst_cycles.specs.Needs.{HasTree};
-ghost use Rattle.worst_cycles.specs.Visits.{IsWorstPlan, AreVisits, AreVisitedTo};
+ghost use Rattle.worst_cycles.specs.Worst.{by_edge};
+ghost use Rattle.worst_cycles.specs.Visits.{AreVisits, AreVisitedTo};
 ghost use Rattle.worst_cycles.specs.Rests.{AreBodyPlaces, AreRestsFound, IsIterationFound};
+ghost use Rattle.worst_cycles.specs.Planned.{IsPlannedGraph};
 
 use crate::pass::LIMIT;
 use crate::plan::Plan;
+use crate::planned::PlannedGraph;
 use crate::rests::{Rests, rest_at_node};
 use crate::visits::Visit;
-use code_graph::{CodeGraph, Weights};
-use loop_tree::LoopTree;
 use scale_base::{NoMemory, Refusal, Stop};
 use std::alloc::Global;
 
@@ -47,34 +45,27 @@ fn is_over(rest: Option<u64>, weight: u32) -> bool
 /// stands at place `i` of the order.
 pub fn rests_of(
     alloc: Global,
-    graph: &CodeGraph,
-    tree: &LoopTree,
-    weights: &Weights,
-    plan: &Plan,
+    planned: &PlannedGraph<'_>,
     visits: &[Visit],
     l: usize,
     i: usize,
 ) -> Result<Rests, Stop>
-    requires flow { IsFlowGraph graph.now }
-    requires tree { HasTree graph.now tree.now }
-    requires plan { IsWorstPlan graph.now tree.now plan.now }
-    requires weights { length weights.now ≡ length graph.now.code.edges }
-    requires heaviest { AreUpTo weights.now plan.now.heaviest }
-    requires visits { AreVisits graph.now visits.now }
-    requires within { l < length tree.now.headers }
-    requires place { i < length plan.now.order.items }
-    requires header { number_in_place tree.now.headers l ≡ number_in_place plan.now.order.items i }
-    requires visited { AreVisitedTo graph.now tree.now (by_edge weights.now) plan.now.order.items i visits.now }
-    ensures { AnswersBy (λ x. x) result (AreRestsFound graph.now tree.now (by_edge weights.now) plan.now l) }
+    requires planned { IsPlannedGraph planned.now }
+    requires visits { AreVisits planned.now.graph.now visits.now }
+    requires within { l < length planned.now.tree.now.headers }
+    requires place { i < length planned.now.plan.now.order.items }
+    requires header { number_in_place planned.now.tree.now.headers l ≡ number_in_place planned.now.plan.now.order.items i }
+    requires visited { AreVisitedTo planned.now.graph.now planned.now.tree.now (by_edge planned.now.weights.now) planned.now.plan.now.order.items i visits.now }
+    ensures { AnswersBy (λ x. x) result (AreRestsFound planned.now.graph.now planned.now.tree.now (by_edge planned.now.weights.now) planned.now.plan.now l) }
 {
     let mut rests = Rests {
-        steps: body_places(alloc, tree.body(l), plan)?,
+        steps: body_places(alloc, planned.tree.body(l), planned.plan)?,
         found: Vec::new(alloc),
     };
     for m in 0..rests.steps.len() {
-        let k = plan.order[rests.steps[m]];
-        let rest = rest_at_node(graph, tree, weights, plan, visits, &rests, l, k);
-        if is_over(rest, plan.heaviest) {
+        let k = planned.plan.order[rests.steps[m]];
+        let rest = rest_at_node(planned, visits, &rests, l, k);
+        if is_over(rest, planned.plan.heaviest) {
             return Err(Stop::Refused(Refusal::TooLong));
         }
         rests.found.push(rest)?;
@@ -86,28 +77,21 @@ pub fn rests_of(
 /// place `i` of the order.
 pub fn iteration_of(
     alloc: Global,
-    graph: &CodeGraph,
-    tree: &LoopTree,
-    weights: &Weights,
-    plan: &Plan,
+    planned: &PlannedGraph<'_>,
     visits: &[Visit],
     l: usize,
     i: usize,
 ) -> Result<u64, Stop>
-    requires flow { IsFlowGraph graph.now }
-    requires tree { HasTree graph.now tree.now }
-    requires plan { IsWorstPlan graph.now tree.now plan.now }
-    requires weights { length weights.now ≡ length graph.now.code.edges }
-    requires heaviest { AreUpTo weights.now plan.now.heaviest }
-    requires visits { AreVisits graph.now visits.now }
-    requires within { l < length tree.now.headers }
-    requires place { i < length plan.now.order.items }
-    requires header { number_in_place tree.now.headers l ≡ number_in_place plan.now.order.items i }
-    requires visited { AreVisitedTo graph.now tree.now (by_edge weights.now) plan.now.order.items i visits.now }
-    ensures { AnswersBy (λ x. x) result (IsIterationFound graph.now tree.now (by_edge weights.now) l) }
+    requires planned { IsPlannedGraph planned.now }
+    requires visits { AreVisits planned.now.graph.now visits.now }
+    requires within { l < length planned.now.tree.now.headers }
+    requires place { i < length planned.now.plan.now.order.items }
+    requires header { number_in_place planned.now.tree.now.headers l ≡ number_in_place planned.now.plan.now.order.items i }
+    requires visited { AreVisitedTo planned.now.graph.now planned.now.tree.now (by_edge planned.now.weights.now) planned.now.plan.now.order.items i visits.now }
+    ensures { AnswersBy (λ x. x) result (IsIterationFound planned.now.graph.now planned.now.tree.now (by_edge planned.now.weights.now) l) }
 {
-    let rests = rests_of(alloc, graph, tree, weights, plan, visits, l, i)?;
-    match rests.at(plan.places[tree.header(l)]) {
+    let rests = rests_of(alloc, planned, visits, l, i)?;
+    match rests.at(planned.plan.places[planned.tree.header(l)]) {
         Some(cycles) => Ok(cycles),
         None => Ok(0),
     }

@@ -1,21 +1,19 @@
 //! What is left of a function at each of its nodes.
 
-ghost use Rattle.std.specs.Prelude.{◌≡◌, ◌≢◌, ℕ, ◌+◌, ◌^◌, ◌<◌, ◌≤◌, ◌⊎◌, length, slice_index_or, Option, Some, None, IfOk};
+ghost use Rattle.std.specs.Prelude.{◌≡◌, ◌≢◌, ℕ, ◌+◌, ◌^◌, ◌<◌, ◌≤◌, ◌⊎◌, length, Option, Some, None, IfOk};
 ghost use Rattle.scale_base.specs.Answer.{AnswersBy};
 ghost use Rattle.graph_algorithms.specs.Arcs.{number_in_place};
-ghost use Rattle.code_graph.specs.FlowGraph.{IsFlowGraph};
-ghost use Rattle.worst_cycles.specs.Worst.{by_edge, AreUpTo};
-ghost use Rattle.worst_cycles.specs.Needs.{HasTree};
+ghost use Rattle.worst_cycles.specs.Worst.{by_edge};
 ghost use Rattle.worst_cycles.specs.Rests.{AreRests, rest_in};
-ghost use Rattle.worst_cycles.specs.Visits.{visit_at, IsWorstPlan, AreAllVisited};
-ghost use Rattle.worst_cycles.specs.Lefts.{HasSolved, AreLeftsFound};
+ghost use Rattle.worst_cycles.specs.Visits.{visit_at};
+ghost use Rattle.worst_cycles.specs.Lefts.{AreLeftsFound};
+ghost use Rattle.worst_cycles.specs.Planned.{IsVisitedGraph};
 
 use crate::iteration::rests_of;
 use crate::plan::Plan;
+use crate::planned::VisitedGraph;
 use crate::rests::Rests;
 use crate::visits::Visit;
-use code_graph::{CodeGraph, Weights};
-use loop_tree::LoopTree;
 use scale_base::{NoMemory, Stop};
 use std::alloc::Global;
 
@@ -80,31 +78,19 @@ fn plain_lefts(alloc: Global, visits: &[Visit]) -> Result<Vec<u64>, NoMemory>
 
 /// By node, what is left of its function there, without the turns that the loops round it have left. Loops are taken from the
 /// outermost inwards.
-pub fn lefts_of(
-    alloc: Global,
-    graph: &CodeGraph,
-    tree: &LoopTree,
-    weights: &Weights,
-    plan: &Plan,
-    visits: &[Visit],
-) -> Result<Vec<u64>, Stop>
-    requires flow { IsFlowGraph graph.now }
-    requires tree { HasTree graph.now tree.now }
-    requires plan { IsWorstPlan graph.now tree.now plan.now }
-    requires weights { length weights.now ≡ length graph.now.code.edges }
-    requires heaviest { AreUpTo weights.now plan.now.heaviest }
-    requires visits { AreAllVisited graph.now tree.now (by_edge weights.now) visits.now }
-    requires solved { HasSolved graph.now tree.now (by_edge weights.now) }
-    ensures { AnswersBy (λ left. left.items) result (AreLeftsFound graph.now tree.now (by_edge weights.now)) }
+pub fn lefts_of(alloc: Global, visited: &VisitedGraph<'_>) -> Result<Vec<u64>, Stop>
+    requires visited { IsVisitedGraph visited.now }
+    ensures { AnswersBy (λ left. left.items) result (AreLeftsFound visited.now.planned.graph.now visited.now.planned.tree.now (by_edge visited.now.planned.weights.now)) }
 {
-    let mut left = plain_lefts(alloc, visits)?;
+    let plan = visited.planned.plan;
+    let mut left = plain_lefts(alloc, visited.visits)?;
     let mut i = plan.order.len();
     while i > 0 {
         i -= 1;
         let k = plan.order[i];
         if let Some(l) = plan.headed[k] {
-            let rests = rests_of(alloc, graph, tree, weights, plan, visits, l, i)?;
-            raise_lefts(plan, &rests, k, visits[k].iteration, &mut left);
+            let rests = rests_of(alloc, &visited.planned, visited.visits, l, i)?;
+            raise_lefts(plan, &rests, k, visited.visits[k].iteration, &mut left);
         }
     }
     Ok(left)

@@ -19,6 +19,7 @@ mod order;
 mod parts;
 mod pass;
 mod plan;
+mod planned;
 mod rests;
 mod slacks;
 mod visits;
@@ -30,6 +31,7 @@ pub use numbers::WorstNumbers;
 use parts::parts_of;
 use pass::{LIMIT, visit_nodes};
 use plan::make_plan;
+use planned::{PlannedGraph, VisitedGraph};
 use scale_base::{Refusal, Stop};
 use std::alloc::Global;
 
@@ -49,13 +51,23 @@ pub fn worst(
     ensures left { IfOk result (λ x. IsLeftOf graph.now (loops graph.now tree.now) (by_edge weights.now) x) }
 {
     let plan = make_plan(alloc, graph, tree, weights)?;
-    let visits = visit_nodes(alloc, graph, tree, weights, &plan)?;
+    let planned = PlannedGraph {
+        graph,
+        tree,
+        weights,
+        plan: &plan,
+    };
+    let visits = visit_nodes(alloc, &planned)?;
     let worst = worst_of(alloc, graph, &plan.entries, &visits)?;
     if worst[0] > LIMIT {
         return Err(Stop::Refused(Refusal::TooLong));
     }
     let iteration = iterations_of(alloc, tree, &visits)?;
-    let parts = parts_of(alloc, graph, tree, weights, &plan, &visits)?;
+    let visited = VisitedGraph {
+        planned,
+        visits: &visits,
+    };
+    let parts = parts_of(alloc, &visited)?;
     Ok(WorstNumbers::from_parts(worst, iteration, parts))
 }
 

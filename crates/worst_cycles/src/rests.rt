@@ -1,20 +1,15 @@
 //! The rests of an iteration of a loop.
 
 ghost use Rattle.std.specs.Prelude.{◌≡◌, ℕ, ◌+◌, ◌^◌, ◌<◌, ◌≤◌, true, length, slice_index, Some};
-ghost use Rattle.graph_algorithms.specs.Arcs.{number_in_place};
-ghost use Rattle.cost_theory.specs.Graph.{IsPlain};
 ghost use Rattle.cost_theory.specs.Worst.{Numbers};
-ghost use Rattle.code_graph.specs.FlowGraph.{graph as graph_seen, IsFlowGraph};
 ghost use Rattle.loop_tree.specs.Tree.{loops};
 ghost use Rattle.worst_cycles.specs.Worst.{by_edge};
-ghost use Rattle.worst_cycles.specs.Needs.{AreEntries, HasTree};
 ghost use Rattle.worst_cycles.specs.Visits.{AreVisits, AreSolvedBy, IsEdgeKnown, AreKnownAt};
 ghost use Rattle.worst_cycles.specs.Rests.{AreRests, IsRestOf, IsRestKnown, AreRestsKnownAt, IsRestFor, IsRestPast, IsGreaterOf};
+ghost use Rattle.worst_cycles.specs.Planned.{IsPlannedGraph};
 
-use crate::plan::Plan;
+use crate::planned::PlannedGraph;
 use crate::visits::{Visit, cost_of};
-use code_graph::{CodeGraph, Weights};
-use loop_tree::LoopTree;
 
 /// The rests of an iteration of a loop from the nodes of its body, each the greatest cost of a acyclic path within the body
 /// and a back edge of the loop.
@@ -47,28 +42,18 @@ impl Rests {
 }
 
 /// The rest over edge `e`, which is plain.
-fn rest_past(
-    graph: &CodeGraph,
-    weights: &Weights,
-    plan: &Plan,
-    visits: &[Visit],
-    rests: &Rests,
-    e: usize,
-) -> Option<u64>
-    requires flow { IsFlowGraph graph.now }
-    requires entries { AreEntries graph.now plan.now.entries.items }
-    requires places { length plan.now.places.items ≡ length graph.now.code.nodes }
-    requires weights { length weights.now ≡ length graph.now.code.edges }
-    requires visits { AreVisits graph.now visits.now }
+fn rest_past(planned: &PlannedGraph<'_>, visits: &[Visit], rests: &Rests, e: usize) -> Option<u64>
+    requires planned { IsPlannedGraph planned.now }
+    requires visits { AreVisits planned.now.graph.now visits.now }
     requires rests { AreRests rests.now }
-    requires edge { e < length graph.now.code.edges }
-    ensures rest { IsRestPast graph.now plan.now (by_edge weights.now) visits.now rests.now e result }
+    requires edge { e < length planned.now.graph.now.code.edges }
+    ensures rest { IsRestPast planned.now.graph.now planned.now.plan.now (by_edge planned.now.weights.now) visits.now rests.now e result }
     ensures small { (b : ℕ) → result ≡ Some b → b ≤ 2 ^ 51 }
 {
-    match graph.target(e) {
-        Some(k) => match rests.at(plan.places[k]) {
+    match planned.graph.target(e) {
+        Some(k) => match rests.at(planned.plan.places[k]) {
             Some(rest) => {
-                let cost = cost_of(graph, weights, plan, visits, e);
+                let cost = cost_of(planned, visits, e);
                 Some(cost + visits[k].turns + rest)
             }
             None => None,
@@ -79,36 +64,29 @@ fn rest_past(
 
 /// The rest over edge `e` of an iteration of loop `l`.
 fn rest_over(
-    graph: &CodeGraph,
-    tree: &LoopTree,
-    weights: &Weights,
-    plan: &Plan,
+    planned: &PlannedGraph<'_>,
     visits: &[Visit],
     rests: &Rests,
     l: usize,
     e: usize,
 ) -> Option<u64>
-    requires flow { IsFlowGraph graph.now }
-    requires tree { HasTree graph.now tree.now }
-    requires entries { AreEntries graph.now plan.now.entries.items }
-    requires places { length plan.now.places.items ≡ length graph.now.code.nodes }
-    requires weights { length weights.now ≡ length graph.now.code.edges }
-    requires visits { AreVisits graph.now visits.now }
+    requires planned { IsPlannedGraph planned.now }
+    requires visits { AreVisits planned.now.graph.now visits.now }
     requires rests { AreRests rests.now }
-    requires within { l < length tree.now.headers }
-    requires edge { e < length graph.now.code.edges }
-    ensures rest { (n : Numbers) → AreSolvedBy graph.now tree.now (by_edge weights.now) n → IsEdgeKnown graph.now tree.now plan.now visits.now n e → IsRestKnown graph.now tree.now plan.now rests.now n l e → IsRestFor graph.now tree.now (by_edge weights.now) n l e result }
+    requires within { l < length planned.now.tree.now.headers }
+    requires edge { e < length planned.now.graph.now.code.edges }
+    ensures rest { (n : Numbers) → AreSolvedBy planned.now.graph.now planned.now.tree.now (by_edge planned.now.weights.now) n → IsEdgeKnown planned.now.graph.now planned.now.tree.now planned.now.plan.now visits.now n e → IsRestKnown planned.now.graph.now planned.now.tree.now planned.now.plan.now rests.now n l e → IsRestFor planned.now.graph.now planned.now.tree.now (by_edge planned.now.weights.now) n l e result }
     ensures small { (b : ℕ) → result ≡ Some b → b ≤ 2 ^ 51 }
 {
-    match tree.back_loop(e) {
+    match planned.tree.back_loop(e) {
         Some(j) => {
             if j == l {
-                Some(cost_of(graph, weights, plan, visits, e))
+                Some(cost_of(planned, visits, e))
             } else {
                 None
             }
         }
-        None => rest_past(graph, weights, plan, visits, rests, e),
+        None => rest_past(planned, visits, rests, e),
     }
 }
 
@@ -127,34 +105,24 @@ fn greater(one: Option<u64>, other: Option<u64>) -> Option<u64>
 
 /// The rest from node `k` of an iteration of loop `l`, in whose body the node is.
 pub fn rest_at_node(
-    graph: &CodeGraph,
-    tree: &LoopTree,
-    weights: &Weights,
-    plan: &Plan,
+    planned: &PlannedGraph<'_>,
     visits: &[Visit],
     rests: &Rests,
     l: usize,
     k: usize,
 ) -> Option<u64>
-    requires flow { IsFlowGraph graph.now }
-    requires tree { HasTree graph.now tree.now }
-    requires entries { AreEntries graph.now plan.now.entries.items }
-    requires places { length plan.now.places.items ≡ length graph.now.code.nodes }
-    requires weights { length weights.now ≡ length graph.now.code.edges }
-    requires visits { AreVisits graph.now visits.now }
+    requires planned { IsPlannedGraph planned.now }
+    requires visits { AreVisits planned.now.graph.now visits.now }
     requires rests { AreRests rests.now }
-    requires within { l < length tree.now.headers }
-    requires node { k < length graph.now.code.nodes }
-    requires inside { (loops graph.now tree.now).inside l (slice_index graph.now.code.nodes k) ≡ true }
-    ensures { (n : Numbers) → AreSolvedBy graph.now tree.now (by_edge weights.now) n → AreKnownAt graph.now tree.now plan.now visits.now n (slice_index graph.now.code.nodes k) → AreRestsKnownAt graph.now tree.now plan.now rests.now n l (slice_index graph.now.code.nodes k) → result ≡ n.closing l (slice_index graph.now.code.nodes k) }
+    requires within { l < length planned.now.tree.now.headers }
+    requires node { k < length planned.now.graph.now.code.nodes }
+    requires inside { (loops planned.now.graph.now planned.now.tree.now).inside l (slice_index planned.now.graph.now.code.nodes k) ≡ true }
+    ensures { (n : Numbers) → AreSolvedBy planned.now.graph.now planned.now.tree.now (by_edge planned.now.weights.now) n → AreKnownAt planned.now.graph.now planned.now.tree.now planned.now.plan.now visits.now n (slice_index planned.now.graph.now.code.nodes k) → AreRestsKnownAt planned.now.graph.now planned.now.tree.now planned.now.plan.now rests.now n l (slice_index planned.now.graph.now.code.nodes k) → result ≡ n.closing l (slice_index planned.now.graph.now.code.nodes k) }
 {
-    let (first, end) = graph.edges_of(k);
+    let (first, end) = planned.graph.edges_of(k);
     let mut most = None;
     for e in first..end {
-        most = greater(
-            most,
-            rest_over(graph, tree, weights, plan, visits, rests, l, e),
-        );
+        most = greater(most, rest_over(planned, visits, rests, l, e));
     }
     most
 }

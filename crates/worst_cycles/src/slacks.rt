@@ -1,48 +1,34 @@
 //! The slacks of edges, and the rests behind them.
 
-ghost use Rattle.std.specs.Prelude.{◌≡◌, ℕ, ◌+◌, ◌^◌, ◌<◌, ◌≤◌, length, slice_get, Some, IfOk};
+ghost use Rattle.std.specs.Prelude.{◌≡◌, ◌+◌, ◌<◌, length, slice_get, Some, IfOk};
 ghost use Rattle.cost_theory.specs.Worst.{Numbers, cost, slack, rest};
-ghost use Rattle.code_graph.specs.FlowGraph.{graph as graph_seen, IsFlowGraph};
+ghost use Rattle.code_graph.specs.FlowGraph.{graph as graph_seen};
 ghost use Rattle.loop_tree.specs.Tree.{loops};
 ghost use Rattle.worst_cycles.specs.Worst.{by_edge, slack_at, rest_at};
-ghost use Rattle.worst_cycles.specs.Needs.{HasTree};
-ghost use Rattle.worst_cycles.specs.Visits.{IsWorstPlan, AreSolvedBy, AreAllVisited};
-ghost use Rattle.worst_cycles.specs.Lefts.{HasSolved, AreLefts, AreTurnsRound, AreContexts, AreSlacks, AreRestsBehind};
+ghost use Rattle.worst_cycles.specs.Visits.{AreSolvedBy};
+ghost use Rattle.worst_cycles.specs.Lefts.{AreLefts, AreTurnsRound, AreContexts, AreSlacks, AreRestsBehind};
+ghost use Rattle.worst_cycles.specs.Planned.{IsVisitedGraph};
 
-use crate::plan::Plan;
-use crate::visits::{Visit, cost_of};
-use code_graph::{CodeGraph, Weights};
-use loop_tree::LoopTree;
+use crate::planned::VisitedGraph;
+use crate::visits::cost_of;
 use scale_base::NoMemory;
 use std::alloc::Global;
 
 /// The slack of edge `e`, which leads to node `to`: what is left before it, less its cost and what is left behind it, and one
 /// iteration more over a back edge.
-fn slack_over(
-    graph: &CodeGraph,
-    tree: &LoopTree,
-    weights: &Weights,
-    plan: &Plan,
-    visits: &[Visit],
-    left: &[u64],
-    e: usize,
-    to: usize,
-) -> u64
-    requires flow { IsFlowGraph graph.now }
-    requires tree { HasTree graph.now tree.now }
-    requires plan { IsWorstPlan graph.now tree.now plan.now }
-    requires weights { length weights.now ≡ length graph.now.code.edges }
-    requires visits { AreAllVisited graph.now tree.now (by_edge weights.now) visits.now }
-    requires solved { HasSolved graph.now tree.now (by_edge weights.now) }
-    requires left { AreLefts graph.now tree.now (by_edge weights.now) left.now }
-    requires edge { e < length graph.now.code.edges }
-    requires node { to < length graph.now.code.nodes }
-    requires leads { (graph_seen graph.now).target e ≡ slice_get graph.now.code.nodes to }
-    ensures { (n : Numbers) → AreSolvedBy graph.now tree.now (by_edge weights.now) n → result ≡ slack (graph_seen graph.now) (loops graph.now tree.now) n (cost (graph_seen graph.now) n (by_edge weights.now)) e }
+fn slack_over(visited: &VisitedGraph<'_>, left: &[u64], e: usize, to: usize) -> u64
+    requires visited { IsVisitedGraph visited.now }
+    requires left { AreLefts visited.now.planned.graph.now visited.now.planned.tree.now (by_edge visited.now.planned.weights.now) left.now }
+    requires edge { e < length visited.now.planned.graph.now.code.edges }
+    requires node { to < length visited.now.planned.graph.now.code.nodes }
+    requires leads { (graph_seen visited.now.planned.graph.now).target e ≡ slice_get visited.now.planned.graph.now.code.nodes to }
+    ensures { (n : Numbers) → AreSolvedBy visited.now.planned.graph.now visited.now.planned.tree.now (by_edge visited.now.planned.weights.now) n → result ≡ slack (graph_seen visited.now.planned.graph.now) (loops visited.now.planned.graph.now visited.now.planned.tree.now) n (cost (graph_seen visited.now.planned.graph.now) n (by_edge visited.now.planned.weights.now)) e }
 {
-    let before = left[graph.source(e)];
-    let after = cost_of(graph, weights, plan, visits, e) + left[to];
-    match tree.back_loop(e) {
+    let planned = &visited.planned;
+    let visits = visited.visits;
+    let before = left[planned.graph.source(e)];
+    let after = cost_of(planned, visits, e) + left[to];
+    match planned.tree.back_loop(e) {
         Some(_) => before + visits[to].iteration - after,
         None => before - (visits[to].turns + after),
     }
@@ -51,50 +37,28 @@ fn slack_over(
 /// By edge, its slack; 0 for one that leads to no node.
 pub fn slacks_of(
     alloc: Global,
-    graph: &CodeGraph,
-    tree: &LoopTree,
-    weights: &Weights,
-    plan: &Plan,
-    visits: &[Visit],
+    visited: &VisitedGraph<'_>,
     left: &[u64],
 ) -> Result<Vec<u64>, NoMemory>
-    requires flow { IsFlowGraph graph.now }
-    requires tree { HasTree graph.now tree.now }
-    requires plan { IsWorstPlan graph.now tree.now plan.now }
-    requires weights { length weights.now ≡ length graph.now.code.edges }
-    requires visits { AreAllVisited graph.now tree.now (by_edge weights.now) visits.now }
-    requires solved { HasSolved graph.now tree.now (by_edge weights.now) }
-    requires left { AreLefts graph.now tree.now (by_edge weights.now) left.now }
-    ensures { IfOk result (λ slacks. AreSlacks graph.now tree.now (by_edge weights.now) slacks.items) }
+    requires visited { IsVisitedGraph visited.now }
+    requires left { AreLefts visited.now.planned.graph.now visited.now.planned.tree.now (by_edge visited.now.planned.weights.now) left.now }
+    ensures { IfOk result (λ slacks. AreSlacks visited.now.planned.graph.now visited.now.planned.tree.now (by_edge visited.now.planned.weights.now) slacks.items) }
 {
     let mut slacks = Vec::new(alloc);
-    for e in 0..graph.edge_count() {
-        slacks.push(slack_of(graph, tree, weights, plan, visits, left, e))?;
+    for e in 0..visited.planned.graph.edge_count() {
+        slacks.push(slack_of(visited, left, e))?;
     }
     Ok(slacks)
 }
 
-fn slack_of(
-    graph: &CodeGraph,
-    tree: &LoopTree,
-    weights: &Weights,
-    plan: &Plan,
-    visits: &[Visit],
-    left: &[u64],
-    e: usize,
-) -> u64
-    requires flow { IsFlowGraph graph.now }
-    requires tree { HasTree graph.now tree.now }
-    requires plan { IsWorstPlan graph.now tree.now plan.now }
-    requires weights { length weights.now ≡ length graph.now.code.edges }
-    requires visits { AreAllVisited graph.now tree.now (by_edge weights.now) visits.now }
-    requires solved { HasSolved graph.now tree.now (by_edge weights.now) }
-    requires left { AreLefts graph.now tree.now (by_edge weights.now) left.now }
-    requires edge { e < length graph.now.code.edges }
-    ensures { (n : Numbers) → AreSolvedBy graph.now tree.now (by_edge weights.now) n → result ≡ slack_at (graph_seen graph.now) (loops graph.now tree.now) (by_edge weights.now) n e }
+fn slack_of(visited: &VisitedGraph<'_>, left: &[u64], e: usize) -> u64
+    requires visited { IsVisitedGraph visited.now }
+    requires left { AreLefts visited.now.planned.graph.now visited.now.planned.tree.now (by_edge visited.now.planned.weights.now) left.now }
+    requires edge { e < length visited.now.planned.graph.now.code.edges }
+    ensures { (n : Numbers) → AreSolvedBy visited.now.planned.graph.now visited.now.planned.tree.now (by_edge visited.now.planned.weights.now) n → result ≡ slack_at (graph_seen visited.now.planned.graph.now) (loops visited.now.planned.graph.now visited.now.planned.tree.now) (by_edge visited.now.planned.weights.now) n e }
 {
-    match graph.target(e) {
-        Some(to) => slack_over(graph, tree, weights, plan, visits, left, e, to),
+    match visited.planned.graph.target(e) {
+        Some(to) => slack_over(visited, left, e, to),
         None => 0,
     }
 }
@@ -102,22 +66,20 @@ fn slack_of(
 /// The rest behind edge `e`: what is left at the node to which it leads, all turns round that node, and the context of the
 /// function; 0 for an edge that leads to no node.
 fn rest_of(
-    graph: &CodeGraph,
-    tree: &LoopTree,
-    weights: &Weights,
+    visited: &VisitedGraph<'_>,
     left: &[u64],
     around: &[u64],
     context: &[u64],
     e: usize,
 ) -> u64
-    requires flow { IsFlowGraph graph.now }
-    requires solved { HasSolved graph.now tree.now (by_edge weights.now) }
-    requires left { AreLefts graph.now tree.now (by_edge weights.now) left.now }
-    requires around { AreTurnsRound graph.now tree.now (by_edge weights.now) around.now }
-    requires context { AreContexts graph.now tree.now (by_edge weights.now) context.now }
-    requires edge { e < length graph.now.code.edges }
-    ensures { (n : Numbers) → AreSolvedBy graph.now tree.now (by_edge weights.now) n → result ≡ rest_at (graph_seen graph.now) (loops graph.now tree.now) n e }
+    requires visited { IsVisitedGraph visited.now }
+    requires left { AreLefts visited.now.planned.graph.now visited.now.planned.tree.now (by_edge visited.now.planned.weights.now) left.now }
+    requires around { AreTurnsRound visited.now.planned.graph.now visited.now.planned.tree.now (by_edge visited.now.planned.weights.now) around.now }
+    requires context { AreContexts visited.now.planned.graph.now visited.now.planned.tree.now (by_edge visited.now.planned.weights.now) context.now }
+    requires edge { e < length visited.now.planned.graph.now.code.edges }
+    ensures { (n : Numbers) → AreSolvedBy visited.now.planned.graph.now visited.now.planned.tree.now (by_edge visited.now.planned.weights.now) n → result ≡ rest_at (graph_seen visited.now.planned.graph.now) (loops visited.now.planned.graph.now visited.now.planned.tree.now) n e }
 {
+    let graph = visited.planned.graph;
     match graph.target(e) {
         Some(to) => left[to] + around[to] + context[graph.owner(graph.source(e))],
         None => 0,
@@ -127,23 +89,20 @@ fn rest_of(
 /// By edge, the rest behind it; 0 for one that leads to no node.
 pub fn rests_behind(
     alloc: Global,
-    graph: &CodeGraph,
-    tree: &LoopTree,
-    weights: &Weights,
+    visited: &VisitedGraph<'_>,
     left: &[u64],
     around: &[u64],
     context: &[u64],
 ) -> Result<Vec<u64>, NoMemory>
-    requires flow { IsFlowGraph graph.now }
-    requires solved { HasSolved graph.now tree.now (by_edge weights.now) }
-    requires left { AreLefts graph.now tree.now (by_edge weights.now) left.now }
-    requires around { AreTurnsRound graph.now tree.now (by_edge weights.now) around.now }
-    requires context { AreContexts graph.now tree.now (by_edge weights.now) context.now }
-    ensures { IfOk result (λ rests. AreRestsBehind graph.now tree.now (by_edge weights.now) rests.items) }
+    requires visited { IsVisitedGraph visited.now }
+    requires left { AreLefts visited.now.planned.graph.now visited.now.planned.tree.now (by_edge visited.now.planned.weights.now) left.now }
+    requires around { AreTurnsRound visited.now.planned.graph.now visited.now.planned.tree.now (by_edge visited.now.planned.weights.now) around.now }
+    requires context { AreContexts visited.now.planned.graph.now visited.now.planned.tree.now (by_edge visited.now.planned.weights.now) context.now }
+    ensures { IfOk result (λ rests. AreRestsBehind visited.now.planned.graph.now visited.now.planned.tree.now (by_edge visited.now.planned.weights.now) rests.items) }
 {
     let mut rests = Vec::new(alloc);
-    for e in 0..graph.edge_count() {
-        rests.push(rest_of(graph, tree, weights, left, around, context, e))?;
+    for e in 0..visited.planned.graph.edge_count() {
+        rests.push(rest_of(visited, left, around, context, e))?;
     }
     Ok(rests)
 }

@@ -17,7 +17,7 @@ returns-in_err-visits c =
     let p = err_from_is_err_and c.from_residual-in_err-visits.result c.from_residual-in_err-visits.ensures.1 in
     let is : IsWeighted (graph c.args.graph.now) (loops c.args.graph.now c.args.tree.now) c.requires.tree.0 (by_edge c.args.weights.now) =
     record { program = c.in_ok-plan.ensures.flow.program; accepted = c.requires.tree.1.accepted; weights = c.requires.calls } in
-    rw (p.1, p.2) (record { found = stops_so c.args.graph.now c.args.tree.now c.requires.tree.0 (by_edge c.args.weights.now) (λ (visits : Vec Visit Global). visits.items) c.in_err-visits.field-0.0 is c.in_err-visits.ensures; sizes = tt; left = tt })
+    rw (p.1, p.2) (record { found = stops_so c.args.graph.now c.args.tree.now (λ (visits : Vec Visit Global). visits.items) c.in_err-visits.field-0.0 is c.in_err-visits.ensures; sizes = tt; left = tt })
 
 pub returns-then-index-gt-LIMIT : goal.returns-then-index-gt-LIMIT
 returns-then-index-gt-LIMIT c =
@@ -34,7 +34,7 @@ returns-then-index-gt-LIMIT c =
     record {
       found = (
         refl,
-        total_too_long c.args.graph.now c.args.tree.now c.requires.tree.0 (by_edge c.args.weights.now) c.deref.result.now c.in_ok-worst.worst.items c.deref-2.result.now c.in_ok-plan.ensures.flow is entries found (λ f lt. c.in_ok-worst.ensures.each f (omega arith)) more,
+        total_too_long c.in_ok-worst.worst.items c.in_ok-plan.ensures.flow is entries found (λ f lt. c.in_ok-worst.ensures.each f (omega arith)) more,
       );
       sizes = tt;
       left = tt;
@@ -61,18 +61,14 @@ returns c =
     let first : number_in_place c.in_ok-worst.worst.items 0 ≡ c.index.result.now = value_at c.in_ok-worst.worst.items 0 c.index.result.now 0 some c.index.ensures in
     let small : number_in_place c.in_ok-worst.worst.items 0 ≤ 2 ^ 48 = omega arith in
     rw c.from_parts.ensures (record {
-      found = worst_in_range c.args.graph.now c.args.tree.now (by_edge c.args.weights.now) c.deref.result.now c.in_ok-worst.worst.items c.in_ok-iteration.iteration.items c.in_ok-parts.parts.left.items c.in_ok-parts.parts.context.items c.in_ok-parts.parts.slacks.items c.in_ok-parts.parts.rests.items
-          c.deref-2.result.now c.deref-3.result.now c.requires.tree c.in_ok-plan.ensures.flow is entries found others
+      found = worst_in_range (record { worst = c.in_ok-worst.worst.items; iteration = c.in_ok-iteration.iteration.items; left = c.in_ok-parts.parts.left.items; context = c.in_ok-parts.parts.context.items; slacks = c.in_ok-parts.parts.slacks.items; rests = c.in_ok-parts.parts.rests.items }) c.requires.tree c.in_ok-plan.ensures.flow is entries found others
           (c.in_ok-worst.ensures.size ∙ entries.size) (λ f lt. c.in_ok-worst.ensures.each f (omega arith)) c.in_ok-iteration.ensures.size c.in_ok-iteration.ensures.each small;
       sizes = record { left = c.in_ok-parts.ensures.left.size; context = c.in_ok-parts.ensures.context.size; slacks = c.in_ok-parts.ensures.slacks.size; rests = c.in_ok-parts.ensures.rests.size };
-      left = left_of c.args.graph.now c.args.tree.now c.requires.tree.0 (by_edge c.args.weights.now) c.in_ok-parts.parts c.in_ok-worst.worst.items c.in_ok-iteration.iteration.items is c.in_ok-parts.ensures;
+      left = left_of c.in_ok-worst.worst.items c.in_ok-iteration.iteration.items is c.in_ok-parts.ensures;
     })
 
-pub parts_of-requires-clause-visits : goal.parts_of-requires-clause-visits
-parts_of-requires-clause-visits c = subst (AreAllVisited c.args.graph.now c.args.tree.now (by_edge c.args.weights.now)) (sym c.deref-4.ensures.value) c.in_ok-visits.ensures
-
-pub parts_of-requires-clause-solved : goal.parts_of-requires-clause-solved
-parts_of-requires-clause-solved c =
+pub parts_of-requires : goal.parts_of-requires
+parts_of-requires c =
     let is : IsWeighted (graph c.args.graph.now) (loops c.args.graph.now c.args.tree.now) c.requires.tree.0 (by_edge c.args.weights.now) =
     record { program = c.in_ok-plan.ensures.flow.program; accepted = c.requires.tree.1.accepted; weights = c.requires.calls } in
     let entries = subst (AreEntries c.args.graph.now) (sym c.deref.ensures.value) c.in_ok-plan.ensures.plan.entries in
@@ -83,4 +79,10 @@ parts_of-requires-clause-solved c =
     let some : 0 < length c.in_ok-worst.worst.items = omega arith in
     let first : number_in_place c.in_ok-worst.worst.items 0 ≡ c.index.result.now = value_at c.in_ok-worst.worst.items 0 c.index.result.now 0 some c.index.ensures in
     let small : number_in_place c.in_ok-worst.worst.items 0 ≤ 2 ^ 48 = omega arith in
-    has_solved c.args.graph.now c.args.tree.now c.requires.tree.0 (by_edge c.args.weights.now) c.deref.result.now c.in_ok-worst.worst.items c.deref-2.result.now c.in_ok-plan.ensures.flow is entries found (λ f lt. c.in_ok-worst.ensures.each f (omega arith)) small
+    record {
+      visited = record {
+        planned = record { flow = c.in_ok-plan.ensures.flow; tree = c.requires.tree; plan = c.in_ok-plan.ensures.plan; weights = c.requires.weights; heaviest = c.in_ok-plan.ensures.heaviest };
+        visits = subst (AreAllVisited c.args.graph.now c.args.tree.now (by_edge c.args.weights.now)) (sym c.deref-4.ensures.value) c.in_ok-visits.ensures;
+        solved = has_solved c.in_ok-worst.worst.items c.in_ok-plan.ensures.flow is entries found (λ f lt. c.in_ok-worst.ensures.each f (omega arith)) small;
+      };
+    }

@@ -1,27 +1,27 @@
-use Rattle.std.proofs.Common.{◌≡◌, ℕ, ◌+◌, ◌*◌, ◌^◌, ◌<◌, ◌≤◌, length, arith, refl, sym, ap, ◌∙◌, subst}
+use Rattle.std.proofs.Common.{◌≡◌, ℕ, ◌+◌, ◌*◌, ◌^◌, ◌<◌, ◌≤◌, length, arith, sym, ap, ◌∙◌, subst}
 use Rattle.std.proofs.lemmas.Option.{get_or_from_slice_get}
 use Rattle.graph_algorithms.specs.Arcs.{number_in_place}
 use Rattle.cost_theory.specs.Lists.{body_of}
 use Rattle.worst_cycles.specs.Worst.{by_edge}
 use Rattle.worst_cycles.specs.Visits.{visit_at}
-use Rattle.worst_cycles.proofs.AroundLaws.{AreTurnsTo, turns_at_header, turns_more, turns_last, turns_small}
+use Rattle.worst_cycles.proofs.AroundLaws.{turns_at_header, turns_more, turns_last, turns_small}
 use Rattle.worst_cycles.proofs.around.turns_around.Goals as goal
 
 pub loop-l-preserved : goal.loop-l-preserved
 loop-l-preserved c =
-    let ll : c.loop-l.l < length c.args.tree.now.headers = omega arith in
-    let header : number_in_place c.args.tree.now.headers c.loop-l.l ≡ c.header.result = get_or_from_slice_get c.args.tree.now.headers c.loop-l.l c.header.result 0 c.header.ensures in
-    let inside = subst (λ xs. (i : ℕ) → i < length xs → number_in_place c.add_turns.new.around.items (number_in_place xs i) ≡ number_in_place c.loop-l.around.items (number_in_place xs i) + (visit_at c.args.visits.now c.header.result).turns) c.body.ensures c.add_turns.ensures.inside in
+    let ll : c.loop-l.l < length c.args.visited.now.planned.tree.now.headers = omega arith in
+    let header : number_in_place c.args.visited.now.planned.tree.now.headers c.loop-l.l ≡ c.header.result = get_or_from_slice_get c.args.visited.now.planned.tree.now.headers c.loop-l.l c.header.result 0 c.header.ensures in
+    let inside = subst (λ xs. (i : ℕ) → i < length xs → number_in_place c.add_turns.new.around.items (number_in_place xs i) ≡ number_in_place c.loop-l.around.items (number_in_place xs i) + (visit_at c.args.visited.now.visits.now c.header.result).turns) c.body.ensures c.add_turns.ensures.inside in
     let outside = subst (λ xs. (k : ℕ) → ((i : ℕ) → i < length xs → number_in_place xs i ≡ k → ⊥) → number_in_place c.add_turns.new.around.items k ≡ number_in_place c.loop-l.around.items k) c.body.ensures c.add_turns.ensures.outside in
-    let room : (visit_at c.args.visits.now c.header.result).turns ≤ 2 ^ 48 = (c.requires.visits.table.small c.header.result).turns in
+    let room : (visit_at c.args.visited.now.visits.now c.header.result).turns ≤ 2 ^ 48 = (c.requires.visited.visits.table.small c.header.result).turns in
     record {
       size = c.add_turns.ensures.size ∙ c.loop-l.invariant.size;
-      small = λ k. let low = turns_small c.loop-l.around.items c.add_turns.new.around.items (body_of c.args.tree.now.bodies c.loop-l.l) (c.loop-l.l * 2 ^ 48) (visit_at c.args.visits.now c.header.result).turns (2 ^ 48) inside outside c.loop-l.invariant.small room k in omega arith;
-      turns = turns_more c.args.graph.now c.args.tree.now (by_edge c.args.weights.now) c.loop-l.l (visit_at c.args.visits.now c.header.result).turns c.loop-l.around.items c.add_turns.new.around.items c.requires.flow c.requires.tree ll
-          (λ n s. ap (λ k. (visit_at c.args.visits.now k).turns) (sym header) ∙ turns_at_header c.args.graph.now c.args.tree.now (by_edge c.args.weights.now) c.args.visits.now n c.loop-l.l c.requires.tree c.requires.visits s ll) inside outside c.loop-l.invariant.turns;
+      small = λ k. let low = turns_small c.loop-l.around.items c.add_turns.new.around.items (body_of c.args.visited.now.planned.tree.now.bodies c.loop-l.l) (c.loop-l.l * 2 ^ 48) (visit_at c.args.visited.now.visits.now c.header.result).turns (2 ^ 48) inside outside c.loop-l.invariant.small room k in omega arith;
+      turns = turns_more c.requires.visited.planned c.loop-l.l (visit_at c.args.visited.now.visits.now c.header.result).turns c.loop-l.around.items c.add_turns.new.around.items ll
+          (λ n s. ap (λ k. (visit_at c.args.visited.now.visits.now k).turns) (sym header) ∙ turns_at_header c.loop-l.l c.requires.visited.planned.tree c.requires.visited.visits s ll) inside outside c.loop-l.invariant.turns;
     }
 
 pub returns : goal.returns
 returns c =
-    let last : c.loop-l.l ≡ length c.args.tree.now.headers = omega arith in
-    turns_last c.args.graph.now c.args.tree.now (by_edge c.args.weights.now) c.loop-l.around.items c.loop-l.l last c.loop-l.invariant.size c.loop-l.invariant.turns
+    let last : c.loop-l.l ≡ length c.args.visited.now.planned.tree.now.headers = omega arith in
+    turns_last c.args.visited.now.planned.graph.now c.args.visited.now.planned.tree.now (by_edge c.args.visited.now.planned.weights.now) c.loop-l.around.items c.loop-l.l last c.loop-l.invariant.size c.loop-l.invariant.turns

@@ -6,7 +6,7 @@ use Rattle.worst_cycles.proofs.around.turns_around.Given as goal
 
 abbrev pub invariant-loop-l : goal.invariant-loop-l
 invariant-loop-l l = record {
-  size : length l.around.items ≡ length l.graph.code.nodes;
+  size : length l.around.items ≡ length l.visited.planned.graph.now.code.nodes;
   small : (k : ℕ) → number_in_place l.around.items k ≤ l.l * 2 ^ 48;
-  turns : AreTurnsTo l.graph l.tree (by_edge l.weights) l.l l.around.items;
+  turns : AreTurnsTo l.visited.planned.graph.now l.visited.planned.tree.now (by_edge l.visited.planned.weights.now) l.l l.around.items;
 }

@@ -11,6 +11,6 @@ use Rattle.worst_cycles.proofs.contexts.raise_contexts.Given as goal
 abbrev pub invariant-loop-e : goal.invariant-loop-e
 invariant-loop-e l = record {
   size : length l.context.items ≡ length l.fn.context.items;
-  raised : (n : Numbers) → AreSolvedBy l.graph l.tree (by_edge l.weights) n →
-      AreRaisedTo (graph l.graph) (loops l.graph l.tree) (by_edge l.weights) n (node_address l.graph l.k) l.first l.e l.fn.context.items l.context.items;
+  raised : (n : Numbers) → AreSolvedBy l.visited.planned.graph.now l.visited.planned.tree.now (by_edge l.visited.planned.weights.now) n →
+      AreRaisedTo (graph l.visited.planned.graph.now) (loops l.visited.planned.graph.now l.visited.planned.tree.now) (by_edge l.visited.planned.weights.now) n (node_address l.visited.planned.graph.now l.k) l.first l.e l.fn.context.items l.context.items;
 }

@@ -1,5 +1,4 @@
-use Rattle.std.proofs.Common.{◌≡◌, ℕ, ◌+◌, ◌^◌, ◌<◌, ◌≤◌, true, List, [], ◌∷◌, ◌++◌, length, length-append, slice_index, Option, Some, None, arith, refl, sym, ap, subst}
-use Rattle.std.proofs.lemmas.Option.{none-some, same_Some}
+use Rattle.std.proofs.Common.{◌≡◌, ℕ, ◌+◌, ◌^◌, ◌<◌, ◌≤◌, true, List, [], ◌∷◌, ◌++◌, length, length-append, slice_index, Option, Some, arith, refl, sym, ap, subst}
 use Rattle.graph_algorithms.specs.Arcs.{number_in_place}
 use Rattle.loop_tree.specs.Tree.{loops}
 use Rattle.worst_cycles.specs.Worst.{by_edge}
@@ -13,61 +12,59 @@ index-k-requires c =
     let same = c.loop-m.invariant.same in
     let ml : c.loop-m.m < length c.loop-m.rests.steps.items = omega arith in
     let here : number_in_place c.loop-m.rests.steps.items c.loop-m.m ≡ c.index.result.now = value_at c.loop-m.rests.steps.items c.loop-m.m c.index.result.now 0 ml c.index.ensures in
-    let low : number_in_place c.loop-m.rests.steps.items c.loop-m.m < length c.args.plan.now.order.items =
-    (step_inside c.args.graph.now c.args.tree.now c.args.plan.now c.args.l c.args.i c.loop-m.rests.steps.items c.requires.flow c.requires.tree c.requires.plan c.requires.within c.requires.place c.requires.header c.loop-m.invariant.places c.loop-m.m ml).0 in
+    let low : number_in_place c.loop-m.rests.steps.items c.loop-m.m < length c.args.planned.now.plan.now.order.items =
+    (step_inside c.requires.planned c.loop-m.invariant.body c.loop-m.m ml).0 in
     omega arith
 
 pub rest_at_node-rest-requires-clause-node : goal.rest_at_node-rest-requires-clause-node
 rest_at_node-rest-requires-clause-node c =
     let same = c.loop-m.invariant.same in
     let ml : c.loop-m.m < length c.loop-m.rests.steps.items = omega arith in
-    let step = step_inside c.args.graph.now c.args.tree.now c.args.plan.now c.args.l c.args.i c.loop-m.rests.steps.items c.requires.flow c.requires.tree c.requires.plan c.requires.within c.requires.place c.requires.header c.loop-m.invariant.places c.loop-m.m ml in
-    let node = step_node c.args.plan.now c.loop-m.rests.steps.items c.loop-m.m c.index.result.now c.index-k.result.now ml step.0 c.index.ensures c.index-k.ensures in
-    subst (λ x. x < length c.args.graph.now.code.nodes) (sym node) (c.requires.plan.order.within (number_in_place c.loop-m.rests.steps.items c.loop-m.m) step.0)
+    let step = step_inside c.requires.planned c.loop-m.invariant.body c.loop-m.m ml in
+    let node = step_node c.args.planned.now.plan.now c.loop-m.rests.steps.items c.loop-m.m c.index.result.now c.index-k.result.now ml step.0 c.index.ensures c.index-k.ensures in
+    subst (λ x. x < length c.args.planned.now.graph.now.code.nodes) (sym node) (c.requires.planned.plan.order.within (number_in_place c.loop-m.rests.steps.items c.loop-m.m) step.0)
 
 pub rest_at_node-rest-requires-clause-inside : goal.rest_at_node-rest-requires-clause-inside
 rest_at_node-rest-requires-clause-inside c =
     let same = c.loop-m.invariant.same in
     let ml : c.loop-m.m < length c.loop-m.rests.steps.items = omega arith in
-    let step = step_inside c.args.graph.now c.args.tree.now c.args.plan.now c.args.l c.args.i c.loop-m.rests.steps.items c.requires.flow c.requires.tree c.requires.plan c.requires.within c.requires.place c.requires.header c.loop-m.invariant.places c.loop-m.m ml in
-    let node = step_node c.args.plan.now c.loop-m.rests.steps.items c.loop-m.m c.index.result.now c.index-k.result.now ml step.0 c.index.ensures c.index-k.ensures in
-    subst (λ x. (loops c.args.graph.now c.args.tree.now).inside c.args.l (slice_index c.args.graph.now.code.nodes x) ≡ true) (sym node) step.1
+    let step = step_inside c.requires.planned c.loop-m.invariant.body c.loop-m.m ml in
+    let node = step_node c.args.planned.now.plan.now c.loop-m.rests.steps.items c.loop-m.m c.index.result.now c.index-k.result.now ml step.0 c.index.ensures c.index-k.ensures in
+    subst (λ x. (loops c.args.planned.now.graph.now c.args.planned.now.tree.now).inside c.args.l (slice_index c.args.planned.now.graph.now.code.nodes x) ≡ true) (sym node) step.1
 
 pub returns-then-is_over : goal.returns-then-is_over
 returns-then-is_over c =
     let same = c.loop-m.invariant.same in
     let ml : c.loop-m.m < length c.loop-m.rests.steps.items = omega arith in
-    let step = step_inside c.args.graph.now c.args.tree.now c.args.plan.now c.args.l c.args.i c.loop-m.rests.steps.items c.requires.flow c.requires.tree c.requires.plan c.requires.within c.requires.place c.requires.header c.loop-m.invariant.places c.loop-m.m ml in
-    let node = step_node c.args.plan.now c.loop-m.rests.steps.items c.loop-m.m c.index.result.now c.index-k.result.now ml step.0 c.index.ensures c.index-k.ensures in
-    let over = c.is_over.ensures.over c.if-is_over.true in
-    let edges = c.requires.weights in (
+    let step = step_inside c.requires.planned c.loop-m.invariant.body c.loop-m.m ml in
+    let node = step_node c.args.planned.now.plan.now c.loop-m.rests.steps.items c.loop-m.m c.index.result.now c.index-k.result.now ml step.0 c.index.ensures c.index-k.ensures in
+    let over = c.is_over.ensures.over c.if-is_over.true in (
       refl,
-      rest_too_long c.args.graph.now c.args.tree.now (by_edge c.args.weights.now) c.args.l (address_at c.args.graph.now c.args.plan.now c.loop-m.rests.steps.items c.loop-m.m) over.0 c.rest_at_node-rest.result c.requires.within step.1
-          (next_rest c.args.graph.now c.args.tree.now (by_edge c.args.weights.now) c.args.plan.now c.args.visits.now c.args.l c.args.i c.loop-m.m c.index-k.result.now c.loop-m.rests c.rest_at_node-rest.result c.requires.flow c.requires.tree c.requires.plan c.requires.visited
-          c.requires.within c.requires.place c.requires.header c.loop-m.invariant.places ml c.loop-m.invariant.size c.loop-m.invariant.found node c.rest_at_node-rest.ensures)
-          c.args.plan.now.heaviest (λ e el. c.requires.heaviest e (omega arith)) over.1 over.2,
+      rest_too_long c.requires.planned c.args.l (address_at c.args.planned.now.graph.now c.args.planned.now.plan.now c.loop-m.rests.steps.items c.loop-m.m) over.0 c.rest_at_node-rest.result c.requires.within step.1
+          (next_rest c.requires.planned c.args.visits.now c.loop-m.m c.index-k.result.now c.loop-m.rests c.rest_at_node-rest.result c.requires.visited
+          c.loop-m.invariant.body ml c.loop-m.invariant.size c.loop-m.invariant.found node c.rest_at_node-rest.ensures) over.1 over.2,
     )
 
 pub loop-m-preserved : goal.loop-m-preserved
 loop-m-preserved c =
     let same = c.loop-m.invariant.same in
     let ml : c.loop-m.m < length c.loop-m.rests.steps.items = omega arith in
-    let step = step_inside c.args.graph.now c.args.tree.now c.args.plan.now c.args.l c.args.i c.loop-m.rests.steps.items c.requires.flow c.requires.tree c.requires.plan c.requires.within c.requires.place c.requires.header c.loop-m.invariant.places c.loop-m.m ml in
-    let node = step_node c.args.plan.now c.loop-m.rests.steps.items c.loop-m.m c.index.result.now c.index-k.result.now ml step.0 c.index.ensures c.index-k.ensures in
+    let step = step_inside c.requires.planned c.loop-m.invariant.body c.loop-m.m ml in
+    let node = step_node c.args.planned.now.plan.now c.loop-m.rests.steps.items c.loop-m.m c.index.result.now c.index-k.result.now ml step.0 c.index.ensures c.index-k.ensures in
     let items : c.push.new.self.items ≡ c.loop-m.rests.found.items ++ c.rest_at_node-rest.result ∷ [] = c.in_ok-push.ensures.items in
     let longer : length c.push.new.self.items ≡ length (c.loop-m.rests.found.items ++ c.rest_at_node-rest.result ∷ []) = ap length items in
     let more : length (c.loop-m.rests.found.items ++ c.rest_at_node-rest.result ∷ []) ≡ length c.loop-m.rests.found.items + 1 = length-append c.loop-m.rests.found.items (c.rest_at_node-rest.result ∷ []) in
     let size = c.loop-m.invariant.size in
     record {
-      places = c.loop-m.invariant.places;
+      body = c.loop-m.invariant.body;
       same = c.loop-m.invariant.same;
       size = let r : length c.push.new.self.items ≡ c.loop-m.m + 1 = omega arith in r;
       small = subst (λ (xs : List (Option ℕ)). (q b : ℕ) → rest_in xs q ≡ Some b → b ≤ 2 ^ 48 + 2 ^ 32) (sym items)
           (rests_small c.loop-m.rests.found.items c.rest_at_node-rest.result c.loop-m.invariant.small (c.is_over.ensures.within c.if-is_over.false));
-      found = subst (AreFoundTo c.args.graph.now c.args.tree.now (by_edge c.args.weights.now) c.args.plan.now c.args.l c.loop-m.rests.steps.items (c.loop-m.m + 1)) (sym items)
-          (found_more c.args.graph.now c.args.tree.now (by_edge c.args.weights.now) c.args.plan.now c.args.l c.loop-m.m c.loop-m.rests.steps.items c.loop-m.rests.found.items c.rest_at_node-rest.result c.loop-m.invariant.size c.loop-m.invariant.found
-          (next_rest c.args.graph.now c.args.tree.now (by_edge c.args.weights.now) c.args.plan.now c.args.visits.now c.args.l c.args.i c.loop-m.m c.index-k.result.now c.loop-m.rests c.rest_at_node-rest.result c.requires.flow c.requires.tree c.requires.plan c.requires.visited
-          c.requires.within c.requires.place c.requires.header c.loop-m.invariant.places ml c.loop-m.invariant.size c.loop-m.invariant.found node c.rest_at_node-rest.ensures));
+      found = subst (AreFoundTo c.args.planned.now.graph.now c.args.planned.now.tree.now (by_edge c.args.planned.now.weights.now) c.args.planned.now.plan.now c.args.l c.loop-m.rests.steps.items (c.loop-m.m + 1)) (sym items)
+          (found_more c.args.planned.now.graph.now c.args.planned.now.tree.now (by_edge c.args.planned.now.weights.now) c.args.planned.now.plan.now c.args.l c.loop-m.m c.loop-m.rests.steps.items c.loop-m.rests.found.items c.rest_at_node-rest.result c.loop-m.invariant.size c.loop-m.invariant.found
+          (next_rest c.requires.planned c.args.visits.now c.loop-m.m c.index-k.result.now c.loop-m.rests c.rest_at_node-rest.result c.requires.visited
+          c.loop-m.invariant.body ml c.loop-m.invariant.size c.loop-m.invariant.found node c.rest_at_node-rest.ensures));
     }
 
 pub returns : goal.returns
@@ -76,8 +73,8 @@ returns c =
     let size = c.loop-m.invariant.size in
     let last : c.loop-m.m ≡ length c.loop-m.rests.steps.items = omega arith in
     record {
-      places = c.loop-m.invariant.places;
+      places = c.loop-m.invariant.body.places;
       sizes = (let r : length c.loop-m.rests.found.items ≡ length c.loop-m.rests.steps.items = omega arith in r);
-      table = record { rise = c.loop-m.invariant.places.rise; small = c.loop-m.invariant.small };
-      found = subst (λ m. AreFoundTo c.args.graph.now c.args.tree.now (by_edge c.args.weights.now) c.args.plan.now c.args.l c.loop-m.rests.steps.items m c.loop-m.rests.found.items) last c.loop-m.invariant.found;
+      table = record { rise = c.loop-m.invariant.body.places.rise; small = c.loop-m.invariant.small };
+      found = subst (λ m. AreFoundTo c.args.planned.now.graph.now c.args.planned.now.tree.now (by_edge c.args.planned.now.weights.now) c.args.planned.now.plan.now c.args.l c.loop-m.rests.steps.items m c.loop-m.rests.found.items) last c.loop-m.invariant.found;
     }

@@ -1,4 +1,4 @@
-use Rattle.std.proofs.Common.{◌≡◌, ◌≢◌, ℕ, ◌+◌, ◌^◌, ◌<◌, ◌≤◌, length, length-set, set, None, Vec, Global, arith, refl, sym, ap, ◌∙◌, subst}
+use Rattle.std.proofs.Common.{◌≡◌, ℕ, ◌^◌, ◌<◌, ◌≤◌, length, length-set, set, None, Vec, Global, arith, refl, sym, ap, ◌∙◌, subst}
 use Rattle.graph_algorithms.specs.Arcs.{number_in_place}
 use Rattle.worst_cycles.proofs.SearchLaws.{value_at}
 use Rattle.worst_cycles.proofs.IterationLaws.{step_node}
@@ -50,7 +50,7 @@ loop-m-preserved c =
           record {
             size = ap length items ∙ length-set c.loop-m.left.items c.index-k.result.now w.raised.result ∙ size;
             small = small_set c.loop-m.left.items c.if-k-header.left.items c.index-k.result.now w.raised.result (2 ^ 50) items w.raised.ensures.small c.loop-m.invariant.small;
-            raised = raised_more c.args.plan.now c.args.rests.now c.args.header c.args.iteration c.loop-m.m c.index-k.result.now w.raised.result c.index-whole.result.now w.index-then-k-header-2.result.now c.args.left.now.items c.loop-m.left.items c.if-k-header.left.items
+            raised = raised_more c.index-k.result.now w.raised.result c.index-whole.result.now w.index-then-k-header-2.result.now c.if-k-header.left.items
                 (sym node) w.if-k-header.true ml (value_at c.args.rests.now.found.items c.loop-m.m w.index-then-k-header-2.result.now None mf w.index-then-k-header-2.ensures)
                 (sym (value_at c.args.left.now.items c.args.header c.index-whole.result.now 0 c.requires.header c.index-whole.ensures)) items kl rises w.raised.ensures.over
                 (rw value w.raised.ensures.either) c.loop-m.invariant.raised;
@@ -60,7 +60,7 @@ loop-m-preserved c =
           record {
             size = ap length items ∙ size;
             small = rw items c.loop-m.invariant.small;
-            raised = rw items (raised_past c.args.plan.now c.args.rests.now c.args.header c.args.iteration c.loop-m.m c.index-k.result.now c.args.left.now.items c.loop-m.left.items (sym node) w.if-k-header.false c.loop-m.invariant.raised);
+            raised = rw items (raised_past c.index-k.result.now (sym node) w.if-k-header.false c.loop-m.invariant.raised);
           }
     ]
 

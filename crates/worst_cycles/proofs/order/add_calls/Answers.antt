@@ -1,7 +1,5 @@
-use Rattle.std.proofs.Common.{◌<◌, length, Some, sym, ap, ◌∙◌, refl, arith}
-use Rattle.cost_theory.specs.Reached.{edge_at}
+use Rattle.std.proofs.Common.{◌<◌, length, Some, sym, refl, arith}
 use Rattle.graph_algorithms.specs.Arcs.{number_in_place}
-use Rattle.loop_tree.proofs.Laws.{source_number}
 use Rattle.worst_cycles.proofs.NeedLaws.{edges_needed, need_skipped, need_added}
 use Rattle.worst_cycles.proofs.order.add_calls.Goals as goal
 use Rattle.worst_cycles.proofs.order.add_calls.Goals.{in-Some+in_ok-push, in_default}
@@ -15,7 +13,7 @@ loop-e-preserved c =
     elim c.match-callee.branch [
       | in-Some+in_ok-push w ↦
           rw (w.arcs-is, w.in_ok-push.ensures.items)
-          (need_added c.args.graph.now c.args.tree.now.backs c.args.entries.now c.loop-e.e c.loop-e.arcs.items (record { from = w.source-from.result; to = number_in_place c.args.entries.now w.in-Some.f }) w.in-Some.f c.loop-e.invariant lt
+          (need_added (record { from = w.source-from.result; to = number_in_place c.args.entries.now w.in-Some.f }) w.in-Some.f c.loop-e.invariant lt
           w.source-from.ensures.node (sym w.in-Some.ensures) refl)
       | in_default w ↦ rw w.arcs-is (need_skipped c.args.graph.now c.args.tree.now.backs c.args.entries.now c.loop-e.e c.loop-e.arcs.items c.loop-e.invariant (sym w.in_default.ensures))
     ]

@@ -7,8 +7,8 @@ use Rattle.worst_cycles.proofs.pass.visit_node.Goals as goal
 pub returns-then-plain-gt-LIMIT : goal.returns-then-plain-gt-LIMIT
 returns-then-plain-gt-LIMIT c = (
   refl,
-  plain_too_long c.args.graph.now c.args.tree.now (by_edge c.args.weights.now) (number_in_place c.args.plan.now.order.items c.args.i) c.plain_at_node-plain.result c.requires.flow (c.requires.plan.order.within c.args.i c.requires.place)
-      (next_plain c.args.graph.now c.args.tree.now (by_edge c.args.weights.now) c.args.plan.now c.args.visits.now c.args.i c.index.result.now c.plain_at_node-plain.result c.requires.flow c.requires.tree c.requires.plan c.requires.visited c.requires.place c.index.ensures c.plain_at_node-plain.ensures)
+  plain_too_long c.args.planned.now.graph.now c.args.planned.now.tree.now (by_edge c.args.planned.now.weights.now) (number_in_place c.args.planned.now.plan.now.order.items c.args.i) c.plain_at_node-plain.result c.requires.planned.flow (c.requires.planned.plan.order.within c.args.i c.requires.place)
+      (next_plain c.requires.planned c.args.visits.now c.args.i c.index.result.now c.plain_at_node-plain.result c.requires.visited c.requires.place c.index.ensures c.plain_at_node-plain.ensures)
       c.if-plain-gt-LIMIT.true,
 )
 
@@ -18,7 +18,7 @@ returns c = (
   λ n s.
       let turns = c.in_ok-turns.ensures.1 n s in
       record {
-        plain = next_plain c.args.graph.now c.args.tree.now (by_edge c.args.weights.now) c.args.plan.now c.args.visits.now c.args.i c.index.result.now c.plain_at_node-plain.result c.requires.flow c.requires.tree c.requires.plan c.requires.visited c.requires.place c.index.ensures c.plain_at_node-plain.ensures n s;
+        plain = next_plain c.requires.planned c.args.visits.now c.args.i c.index.result.now c.plain_at_node-plain.result c.requires.visited c.requires.place c.index.ensures c.plain_at_node-plain.ensures n s;
         turns = turns.0;
         iteration = turns.1;
       },

@@ -4,6 +4,6 @@ use Rattle.worst_cycles.proofs.pass.visit_nodes.Given as goal
 
 abbrev pub invariant-loop-i : goal.invariant-loop-i
 invariant-loop-i l = record {
-  table : AreVisits l.graph l.visits.items;
-  visited : AreVisitedTo l.graph l.tree (by_edge l.weights) l.plan.order.items l.i l.visits.items;
+  table : AreVisits l.planned.graph.now l.visits.items;
+  visited : AreVisitedTo l.planned.graph.now l.planned.tree.now (by_edge l.planned.weights.now) l.planned.plan.now.order.items l.i l.visits.items;
 }

@@ -7,5 +7,5 @@ use Rattle.worst_cycles.proofs.RestLaws.{IsRestMost}
 use Rattle.worst_cycles.proofs.rests.rest_at_node.Given as goal
 
 abbrev pub invariant-loop-e : goal.invariant-loop-e
-invariant-loop-e l = (n : Numbers) → AreSolvedBy l.graph l.tree (by_edge l.weights) n → AreKnownAt l.graph l.tree l.plan l.visits n (slice_index l.graph.code.nodes l.k) →
-    AreRestsKnownAt l.graph l.tree l.plan l.rests n l.l (slice_index l.graph.code.nodes l.k) → IsRestMost l.graph l.tree (by_edge l.weights) n l.l l.first l.e l.most
+invariant-loop-e l = (n : Numbers) → AreSolvedBy l.planned.graph.now l.planned.tree.now (by_edge l.planned.weights.now) n → AreKnownAt l.planned.graph.now l.planned.tree.now l.planned.plan.now l.visits n (slice_index l.planned.graph.now.code.nodes l.k) →
+    AreRestsKnownAt l.planned.graph.now l.planned.tree.now l.planned.plan.now l.rests n l.l (slice_index l.planned.graph.now.code.nodes l.k) → IsRestMost l.planned.graph.now l.planned.tree.now (by_edge l.planned.weights.now) n l.l l.first l.e l.most

@@ -10,5 +10,5 @@ use Rattle.worst_cycles.proofs.slacks.slacks_of.Given as goal
 abbrev pub invariant-loop-e : goal.invariant-loop-e
 invariant-loop-e l = record {
   size : length l.slacks.items ≡ l.e;
-  each : (n : Numbers) → AreSolvedBy l.graph l.tree (by_edge l.weights) n → (d : ℕ) → d < l.e → number_in_place l.slacks.items d ≡ slack_at (graph l.graph) (loops l.graph l.tree) (by_edge l.weights) n d;
+  each : (n : Numbers) → AreSolvedBy l.visited.planned.graph.now l.visited.planned.tree.now (by_edge l.visited.planned.weights.now) n → (d : ℕ) → d < l.e → number_in_place l.slacks.items d ≡ slack_at (graph l.visited.planned.graph.now) (loops l.visited.planned.graph.now l.visited.planned.tree.now) (by_edge l.visited.planned.weights.now) n d;
 }

@@ -6,5 +6,5 @@ use Rattle.worst_cycles.proofs.OverLaws.{IsPlainMost}
 use Rattle.worst_cycles.proofs.visits.plain_at_node.Given as goal
 
 abbrev pub invariant-loop-e : goal.invariant-loop-e
-invariant-loop-e l = (n : Numbers) → AreSolvedBy l.graph l.tree (by_edge l.weights) n → AreKnownAt l.graph l.tree l.plan l.visits n (slice_index l.graph.code.nodes l.k) →
-    IsPlainMost l.graph l.tree (by_edge l.weights) n l.first l.e l.most
+invariant-loop-e l = (n : Numbers) → AreSolvedBy l.planned.graph.now l.planned.tree.now (by_edge l.planned.weights.now) n → AreKnownAt l.planned.graph.now l.planned.tree.now l.planned.plan.now l.visits n (slice_index l.planned.graph.now.code.nodes l.k) →
+    IsPlainMost l.planned.graph.now l.planned.tree.now (by_edge l.planned.weights.now) n l.first l.e l.most
