@@ -215,6 +215,16 @@ impl CodeGraph {
         self.functions[f]
     }
 
+    /// The number of the node at which function `f` begins.
+    pub fn entry_node(&self, f: usize) -> usize
+        requires { f < length self.now.code.functions }
+        ensures node { slice_get self.now.code.nodes result ≡ Some ((graph self.now).entry f) }
+        ensures within { result < length self.now.code.nodes }
+    {
+        let _nodes = self.node_count();
+        self.find(self.function(f)).unwrap()
+    }
+
     /// The number of the function of node `k`.
     pub fn owner(&self, k: usize) -> usize
         requires { k < length self.now.code.nodes }

@@ -8,7 +8,6 @@ ghost use Rattle.least_cycles.specs.Functions.{IsBucket, IsFromFirst};
 ghost use Rattle.least_cycles.specs.Tables.{value_beside, least_by, AreSmallTables, IsPrice, ArePriced};
 
 use code_graph::CodeGraph;
-use loop_tree::node_at;
 
 /// What a table has at the entry of function `f`.
 fn at_entry(graph: &CodeGraph, table: &[Option<u128>], f: usize) -> Option<u128>
@@ -18,8 +17,7 @@ fn at_entry(graph: &CodeGraph, table: &[Option<u128>], f: usize) -> Option<u128>
     ensures { result ≡ value_beside graph.now.code.nodes table.now ((graph_seen graph.now).entry f) }
 {
     let _count = graph.node_count();
-    let k = node_at(graph, graph.function(f));
-    table[k]
+    table[graph.entry_node(f)]
 }
 
 /// The least cycles in the function that edge `e` calls: to its return, or to an exit in it where the call doesn't come back.

@@ -20,7 +20,6 @@ use code_graph::CodeGraph;
 use cycles::cycle_of;
 use graph_algorithms::{Order, sort};
 use loop_file::LoopNotes;
-pub use natural::node_at;
 use scale_base::{Refusal, Stop};
 use std::alloc::Global;
 pub use tree::LoopTree;

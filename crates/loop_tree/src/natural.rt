@@ -10,7 +10,6 @@ mod extent;
 mod groups;
 mod headers;
 mod loops;
-mod nodes;
 #[cfg(test)]
 mod tests;
 
@@ -23,7 +22,6 @@ use graph_algorithms::BodySearch;
 use headers::{find_headers, least_pair, number_of};
 use loop_file::LoopNotes;
 pub use loops::NaturalLoops;
-pub use nodes::node_at;
 use scale_base::{Refusal, Stop};
 use std::alloc::Global;
 

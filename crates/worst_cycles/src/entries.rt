@@ -5,7 +5,6 @@ ghost use Rattle.code_graph.specs.FlowGraph.{IsFlowGraph};
 ghost use Rattle.worst_cycles.specs.Needs.{AreEntries};
 
 use code_graph::CodeGraph;
-use loop_tree::node_at;
 use scale_base::NoMemory;
 use std::alloc::Global;
 
@@ -16,7 +15,7 @@ pub fn entry_nodes(alloc: Global, graph: &CodeGraph) -> Result<Vec<usize>, NoMem
 {
     let mut entries = Vec::new(alloc);
     for f in 0..graph.function_count() {
-        entries.push(node_at(graph, graph.function(f)))?;
+        entries.push(graph.entry_node(f))?;
     }
     Ok(entries)
 }

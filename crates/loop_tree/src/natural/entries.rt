@@ -10,7 +10,6 @@ ghost use Rattle.loop_tree.specs.Noted.{HasBackEdge};
 use crate::natural::back_edges::loop_body;
 use crate::natural::groups::check_group;
 use crate::natural::headers::number_of;
-use crate::natural::nodes::node_at;
 use code_graph::CodeGraph;
 use graph_algorithms::{BodySearch, lesser_pair};
 use loop_file::LoopNotes;
@@ -40,7 +39,7 @@ pub fn entry_of(graph: &CodeGraph, node: usize) -> usize
     requires node { node < length graph.now.code.nodes }
     ensures { slice_get graph.now.code.nodes result ≡ Some ((flow.graph graph.now).entry ((flow.graph graph.now).owner (slice_index graph.now.code.nodes node))) }
 {
-    node_at(graph, graph.function(graph.owner(node)))
+    graph.entry_node(graph.owner(node))
 }
 
 // How the body of a loop is entered past its header: the least two nodes, of which the entry of the function stands for both.
