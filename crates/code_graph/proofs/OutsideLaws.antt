@@ -9,7 +9,7 @@ use Rattle.code_graph.specs.declared.reach.marks.Mark.TheVariants.{Unreached}
 use Rattle.code_graph.specs.Flow.{flag}
 use Rattle.code_graph.specs.Reach.{WordStandsAt}
 use Rattle.code_graph.specs.Steps.{IsWordNumber}
-use Rattle.code_graph.specs.Outside.{lower_of, has_mark, IsLowest, IsOutsideOf, ComesBackTo, GoesOnTo, GoesOnFrom, IsComeTo}
+use Rattle.code_graph.specs.Outside.{lower_address, has_mark, IsLowest, IsOutsideOf, ComesBackTo, GoesOnTo, GoesOnFrom, IsComeTo}
 use Rattle.code_graph.proofs.Places.{order}
 
 pub same_least : (P Q : ℕ → Type 0) (o : Option ℕ) → ((u : ℕ) → P u → Q u) → ((u : ℕ) → Q u → P u) → IsLowest P o → IsLowest Q o
@@ -21,7 +21,7 @@ none_least P never = record { holds = λ u e. (let r : ⊥ = cc in absurd r); le
 least_none : (P : ℕ → Type 0) (v : ℕ) → IsLowest P None → P v → ⊥
 least_none P v l p = let q = l.least v p in let e : None ≡ Some q.0 = q.1 in let r : ⊥ = cc in r
 
-pub lower_least : (P Q : ℕ → Type 0) (a b : Option ℕ) → IsLowest P a → IsLowest Q b → IsLowest (λ u. P u ⊎ Q u) (lower_of a b)
+pub lower_least : (P Q : ℕ → Type 0) (a b : Option ℕ) → IsLowest P a → IsLowest Q b → IsLowest (λ u. P u ⊎ Q u) (lower_address a b)
 lower_least P Q None b p q = record { holds = λ u e. inr (q.holds u e); least = λ v s. ⊎_elim (λ x. absurd (least_none P v p x)) (λ y. q.least v y) s }
 lower_least P Q (Some a) None p q = record { holds = λ u e. inl (p.holds u e); least = λ v s. ⊎_elim (λ x. p.least v x) (λ y. absurd (least_none Q v q y)) s }
 lower_least P Q (Some a) (Some b) p q = record {
@@ -71,10 +71,10 @@ module _ (words : WordTable) where
         clash s = cc
 
     pub branch_least : (k v to : ℕ) (a b o : Option ℕ) → WordStandsAt words k v → slice_get words.kinds k ≡ Some (flow.Branch to) → IsLowest (λ u. (u ≡ to) × IsOutsideOf words u) a → IsLowest (λ u. (u ≡ v + 4) × IsOutsideOf words u) b →
-        o ≡ lower_of a b → IsLowest (λ u. GoesOnFrom words returns k u × IsOutsideOf words u) o
+        o ≡ lower_address a b → IsLowest (λ u. GoesOnFrom words returns k u × IsOutsideOf words u) o
     branch_least k v to a b o here kind la lb e =
         subst (λ x. IsLowest (λ u. GoesOnFrom words returns k u × IsOutsideOf words u) x) (sym e)
-        (same_least (λ u. ((u ≡ to) × IsOutsideOf words u) ⊎ ((u ≡ v + 4) × IsOutsideOf words u)) (λ u. GoesOnFrom words returns k u × IsOutsideOf words u) (lower_of a b) to_way from_way
+        (same_least (λ u. ((u ≡ to) × IsOutsideOf words u) ⊎ ((u ≡ v + 4) × IsOutsideOf words u)) (λ u. GoesOnFrom words returns k u × IsOutsideOf words u) (lower_address a b) to_way from_way
         (lower_least (λ u. (u ≡ to) × IsOutsideOf words u) (λ u. (u ≡ v + 4) × IsOutsideOf words u) a b la lb))
       where
         to_way : (u : ℕ) → ((u ≡ to) × IsOutsideOf words u) ⊎ ((u ≡ v + 4) × IsOutsideOf words u) → GoesOnFrom words returns k u × IsOutsideOf words u
@@ -102,10 +102,10 @@ module _ (words : WordTable) where
     module _ (marks : List Mark) (entry : ℕ) where
       -- one word more
       pub next_marked : (n : ℕ) (a b o : Option ℕ) → has_mark (slice_index_or marks n Unreached) ≡ true → IsLowest (λ u. IsComeTo words returns marks entry n u × IsOutsideOf words u) a →
-          IsLowest (λ u. GoesOnFrom words returns n u × IsOutsideOf words u) b → o ≡ lower_of a b → IsLowest (λ u. IsComeTo words returns marks entry (n + 1) u × IsOutsideOf words u) o
+          IsLowest (λ u. GoesOnFrom words returns n u × IsOutsideOf words u) b → o ≡ lower_address a b → IsLowest (λ u. IsComeTo words returns marks entry (n + 1) u × IsOutsideOf words u) o
       next_marked n a b o on la lb e =
           subst (λ x. IsLowest (λ u. IsComeTo words returns marks entry (n + 1) u × IsOutsideOf words u) x) (sym e)
-          (same_least (λ u. (IsComeTo words returns marks entry n u × IsOutsideOf words u) ⊎ (GoesOnFrom words returns n u × IsOutsideOf words u)) (λ u. IsComeTo words returns marks entry (n + 1) u × IsOutsideOf words u) (lower_of a b) to from
+          (same_least (λ u. (IsComeTo words returns marks entry n u × IsOutsideOf words u) ⊎ (GoesOnFrom words returns n u × IsOutsideOf words u)) (λ u. IsComeTo words returns marks entry (n + 1) u × IsOutsideOf words u) (lower_address a b) to from
           (lower_least (λ u. IsComeTo words returns marks entry n u × IsOutsideOf words u) (λ u. GoesOnFrom words returns n u × IsOutsideOf words u) a b la lb))
         where
           to : (u : ℕ) → (IsComeTo words returns marks entry n u × IsOutsideOf words u) ⊎ (GoesOnFrom words returns n u × IsOutsideOf words u) → IsComeTo words returns marks entry (n + 1) u × IsOutsideOf words u

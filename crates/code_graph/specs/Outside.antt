@@ -9,10 +9,10 @@ use Rattle.code_graph.specs.declared.reach.marks.Mark.TheVariants.{Unreached, Ow
 use Rattle.code_graph.specs.Flow.{flag}
 use Rattle.code_graph.specs.Reach.{WordStandsAt}
 
-abbrev pub lower_of : Option ℕ → Option ℕ → Option ℕ
-lower_of None b = b
-lower_of (Some a) None = Some a
-lower_of (Some a) (Some b) = Some (min a b)
+abbrev pub lower_address : Option ℕ → Option ℕ → Option ℕ
+lower_address None b = b
+lower_address (Some a) None = Some a
+lower_address (Some a) (Some b) = Some (min a b)
 
 abbrev pub has_mark : Mark → Bool
 has_mark Unreached = false

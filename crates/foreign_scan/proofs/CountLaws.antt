@@ -8,7 +8,7 @@ use Rattle.foreign_scan.specs.declared.fragment.ForeignFragment.{ForeignFragment
 use Rattle.foreign_scan.specs.declared.fragment.ForeignFragment.TheVariants.{Count}
 use Rattle.foreign_scan.specs.declared.site.Site.{Site}
 use Rattle.foreign_scan.specs.Sites.{site_fragments}
-use Rattle.foreign_scan.specs.Counts.{edge_before, before_by, is_before, earlier_of, counts_with, count_in, first_with, CountsOn, IsFirstBelow, AreFirstsBelow, AreEdgesWithin, limit_of, AreLimits, IsTaken, AreTaken, numbered_at, numbered}
+use Rattle.foreign_scan.specs.Counts.{edge_before, before_by, is_before, earlier_of, counts_with, count_in, first_with, CountsOn, IsFirstOfEdges, AreFirstsBelow, AreEdgesWithin, limit_of, AreCountLimits, IsTaken, AreTaken, numbered_at, numbered_fragments}
 use Rattle.foreign_scan.specs.Scanned.{kind_place, ComesBefore}
 use Rattle.machine_laws.proofs.Laws.{mapped_from}
 use Rattle.foreign_scan.proofs.ListLaws.{take_one, set_same, set_other}
@@ -158,16 +158,16 @@ within_one edges old new k e before low lt set = λ c d here. elim (cases_eq c k
 
 -- ---- one edge more
 
-skip_one : (edges : List Edge) (Is : ℕ → Type 0) (n : ℕ) (o : Option ℕ) → (Is n → ⊥) → IsFirstBelow edges Is n o → IsFirstBelow edges Is (n + 1) o
+skip_one : (edges : List Edge) (Is : ℕ → Type 0) (n : ℕ) (o : Option ℕ) → (Is n → ⊥) → IsFirstOfEdges edges Is n o → IsFirstOfEdges edges Is (n + 1) o
 skip_one edges Is n None fails h = λ e lt is. ⊎_elim (λ low. h e low is) (λ same. fails (subst Is same is)) (below_or_last e n lt)
 skip_one edges Is n (Some b) fails h = (let low = h.0 in omega (arith, low), h.1, λ e lt is. ⊎_elim (λ low. h.2 e low is) (λ same. absurd (fails (subst Is same is))) (below_or_last e n lt))
 
-take_it : (edges : List Edge) (Is : ℕ → Type 0) (n : ℕ) (o : Option ℕ) → Is n → IsFirstBelow edges Is n o → IsFirstBelow edges Is (n + 1) (Some (earlier_of edges o n))
+take_it : (edges : List Edge) (Is : ℕ → Type 0) (n : ℕ) (o : Option ℕ) → Is n → IsFirstOfEdges edges Is n o → IsFirstOfEdges edges Is (n + 1) (Some (earlier_of edges o n))
 take_it edges Is n None is h = (omega arith, is, λ e lt also. ⊎_elim (λ low. absurd (h e low also)) (λ same. ap (λ x. is_before edges x n) same ∙ not_itself edges n) (below_or_last e n lt))
 take_it edges Is n (Some b) is h =
     elim (cases_Bool (is_before edges n b)) [
       | inl holds ↦
-          subst (λ x. IsFirstBelow edges Is (n + 1) (Some x)) (sym (cond-true (is_before edges n b) n b holds)) (
+          subst (λ x. IsFirstOfEdges edges Is (n + 1) (Some x)) (sym (cond-true (is_before edges n b) n b holds)) (
             omega arith,
             is,
             λ e lt also. ⊎_elim
@@ -178,16 +178,16 @@ take_it edges Is n (Some b) is h =
                 (λ same. ap (λ x. is_before edges x n) same ∙ not_itself edges n) (below_or_last e n lt),
           )
       | inr fails ↦
-          subst (λ x. IsFirstBelow edges Is (n + 1) (Some x)) (sym (cond-false (is_before edges n b) n b fails))
+          subst (λ x. IsFirstOfEdges edges Is (n + 1) (Some x)) (sym (cond-false (is_before edges n b) n b fails))
           (let low = h.0 in omega (arith, low), h.1, λ e lt also. ⊎_elim (λ low. h.2 e low also) (λ same. ap (λ x. is_before edges x b) same ∙ fails) (below_or_last e n lt))
     ]
 
-with_edge : (edges : List Edge) (Is : ℕ → Type 0) (n : ℕ) (o : Option ℕ) (b : Bool) → (b ≡ true → Is n) → (Is n → b ≡ true) → IsFirstBelow edges Is n o → IsFirstBelow edges Is (n + 1) (first_with edges b o n)
+with_edge : (edges : List Edge) (Is : ℕ → Type 0) (n : ℕ) (o : Option ℕ) (b : Bool) → (b ≡ true → Is n) → (Is n → b ≡ true) → IsFirstOfEdges edges Is n o → IsFirstOfEdges edges Is (n + 1) (first_with edges b o n)
 with_edge edges Is n o true to from h = take_it edges Is n o (to refl) h
 with_edge edges Is n o false to from h = skip_one edges Is n o (λ is. let bad = from is in absurd cc) h
 
 pub firsts_none : (edges : List Edge) (backs : List (Option ℕ)) (on : ℕ → List ForeignFragment) (firsts : List (Option ℕ)) → ((c : ℕ) (o : Option ℕ) → slice_get firsts c ≡ Some o → o ≡ None) → AreFirstsBelow edges backs on 0 firsts
-firsts_none edges backs on firsts none = λ c o here. subst (IsFirstBelow edges (CountsOn backs on c) 0) (sym (none c o here)) (λ e lt is. omega (arith, lt))
+firsts_none edges backs on firsts none = λ c o here. subst (IsFirstOfEdges edges (CountsOn backs on c) 0) (sym (none c o here)) (λ e lt is. omega (arith, lt))
 
 -- an edge that is no back edge
 pub firsts_skip : (edges : List Edge) (backs : List (Option ℕ)) (on : ℕ → List ForeignFragment) (n : ℕ) (firsts : List (Option ℕ)) → slice_get backs n ≡ Some None → AreFirstsBelow edges backs on n firsts → AreFirstsBelow edges backs on (n + 1) firsts
@@ -206,17 +206,17 @@ pub firsts_more : (edges : List Edge) (backs : List (Option ℕ)) (on : ℕ → 
 firsts_more edges backs on n loop fs old new back are size taken h = λ c o here.
     let was = old_there old new c o size here in
     let new_is : o ≡ first_with edges (count_in c fs) was.0 n = same_some o (first_with edges (count_in c fs) was.0 n) (sym here ∙ taken c was.0 was.1) in
-    subst (IsFirstBelow edges (CountsOn backs on c) (n + 1)) (sym new_is)
+    subst (IsFirstOfEdges edges (CountsOn backs on c) (n + 1)) (sym new_is)
     (with_edge edges (CountsOn backs on c) n was.0 (count_in c fs) (λ holds. record { loop = loop; back = back; counts = ap (count_in c) (sym are) ∙ holds }) (λ is. ap (count_in c) are ∙ is.counts) (h c was.0 was.1))
 
 -- ---- limits
 
 pub limits_are : (edges : List Edge) (backs : List (Option ℕ)) (bounds : List ℕ) (on : ℕ → List ForeignFragment) (firsts : List (Option ℕ)) (limits : List ℕ) → AreFirstsBelow edges backs on (length edges) firsts
-    → limits ≡ map (limit_of backs bounds) firsts → AreLimits edges backs bounds on limits
+    → limits ≡ map (limit_of backs bounds) firsts → AreCountLimits edges backs bounds on limits
 limits_are edges backs bounds on firsts limits h are = λ c n here.
     let m = mapped_from (limit_of backs bounds) (slice_get firsts c) n (sym (slice_get-map (limit_of backs bounds) firsts c) ∙ (ap (λ xs. slice_get xs c) (sym are) ∙ here)) in
     (m.0, h c m.0 m.1, sym m.2)
 
 -- the fragments by the number of an edge
-pub numbered_here : (sources : List ℕ) (edges : List Edge) (sites : List Site) (e k : ℕ) (edge : Edge) → slice_get sources e ≡ Some k → slice_get edges e ≡ Some edge → numbered sources edges sites e ≡ site_fragments (slice_get sites k) edge.kind
+pub numbered_here : (sources : List ℕ) (edges : List Edge) (sites : List Site) (e k : ℕ) (edge : Edge) → slice_get sources e ≡ Some k → slice_get edges e ≡ Some edge → numbered_fragments sources edges sites e ≡ site_fragments (slice_get sites k) edge.kind
 numbered_here sources edges sites e k edge there here = ap (λ o. numbered_at sites o (slice_get edges e)) there ∙ ap (numbered_at sites (Some k)) here

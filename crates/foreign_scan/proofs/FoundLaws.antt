@@ -22,7 +22,7 @@ use Rattle.foreign_scan.specs.Form.{IsStub}
 use Rattle.foreign_scan.specs.Rows.{SiteIsForeign}
 use Rattle.foreign_scan.specs.Scanned.{Found, is_changed, IsChanged, IsPatch, KeepsForm, IsOn, AreFound, CanBePatched}
 use Rattle.foreign_scan.specs.Scans.{IsPatchedWell}
-use Rattle.foreign_scan.specs.Sites.{IsKeptAt, IsBrokenAt, IsSiteAt, AreSitesOf, site_fragments, site_beside, found_in}
+use Rattle.foreign_scan.specs.Sites.{IsKeptAt, IsBrokenAt, IsSiteAt, AreWordSites, site_fragments, site_beside, found_in}
 use Rattle.foreign_scan.specs.Stubs.{fragments_of, IsOfInstr}
 use Rattle.foreign_scan.proofs.ForeignLaws.{stub_foreign}
 use Rattle.foreign_scan.proofs.ListLaws.{get_there}
@@ -69,7 +69,7 @@ kept_form original foreign code found at s kept is = λ p.
 pub broken_form : (original foreign : Image) (code : Code) (found : Found) (at : ℕ) → IsBrokenAt original foreign at → IsPatch original foreign code at → KeepsForm original foreign code found at → ⊥
 broken_form original foreign code found at broken p form = broken.none p.old_instr p.offset (found at) p.old p.new (form p)
 
-module _ (original foreign : Image) (code : Code) (is : IsReachedCode (text_of original) code) (sites : List Site) (known : AreSitesOf original foreign code.nodes sites) where
+module _ (original foreign : Image) (code : Code) (is : IsReachedCode (text_of original) code) (sites : List Site) (known : AreWordSites original foreign code.nodes sites) where
   -- what stands beside a node
   pub found_at : (k at : ℕ) (site : Site) → slice_get code.nodes k ≡ Some at → slice_get sites k ≡ Some site → found_in code.nodes sites at ≡ site_fragments (Some site)
   found_at k at site node here = ap site_fragments (beside_at code.nodes sites k at site (one_number original code is) node here)

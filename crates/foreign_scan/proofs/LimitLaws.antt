@@ -17,11 +17,11 @@ use Rattle.foreign_scan.specs.declared.fragment.ForeignFragment.TheVariants.{Swi
 use Rattle.foreign_scan.specs.declared.site.Site.{Site}
 use Rattle.foreign_scan.specs.declared.stub.StubFragments.{StubFragments}
 use Rattle.foreign_scan.specs.declared.stub.StubFragments.TheVariants as stub
-use Rattle.foreign_scan.specs.Counts.{count_in, counts_with, numbered_at, numbered, is_before, bound_at, limit_of, CountsOn, IsFirstBelow}
+use Rattle.foreign_scan.specs.Counts.{count_in, counts_with, numbered_at, numbered_fragments, is_before, bound_at, limit_of, CountsOn, IsFirstOfEdges}
 use Rattle.foreign_scan.specs.Scanned.{IsOn, kind_place, ComesBefore, IsCountedAt, IsFirstCounted, IsLastRow}
 use Rattle.foreign_scan.specs.declared.lists.GraphLists.{GraphLists}
 use Rattle.foreign_scan.specs.Lists.{AreListsOf}
-use Rattle.foreign_scan.specs.Sites.{AreSitesOf, site_fragments, found_in}
+use Rattle.foreign_scan.specs.Sites.{AreWordSites, site_fragments, found_in}
 use Rattle.foreign_scan.specs.Stubs.{fragments_of}
 use Rattle.foreign_scan.proofs.CountLaws.{test_to}
 use Rattle.foreign_scan.proofs.ListLaws.{get_there}
@@ -97,9 +97,9 @@ not_before x y p q =
       ],
     )
 
-module _ (original foreign : Image) (code : Code) (l : Loops) (lists : GraphLists) (all : AreListsOf original code l lists) (sites : List Site) (known : AreSitesOf original foreign code.nodes sites) where
+module _ (original foreign : Image) (code : Code) (l : Loops) (lists : GraphLists) (all : AreListsOf original code l lists) (sites : List Site) (known : AreWordSites original foreign code.nodes sites) where
   -- the fragments by the number of an edge are those that are found on it
-  numbered_is : (e : ℕ) (edge : Edge) → slice_get code.edges e ≡ Some edge → numbered lists.sources.now code.edges sites e ≡ found_in code.nodes sites edge.at edge.kind
+  numbered_is : (e : ℕ) (edge : Edge) → slice_get code.edges e ≡ Some edge → numbered_fragments lists.sources.now code.edges sites e ≡ found_in code.nodes sites edge.at edge.kind
   numbered_is e edge there =
       let k = get_there lists.sources.now e (let lt = slice_get_within code.edges e edge there in let size = all.sources_size in omega (arith, lt, size)) in
       let node : slice_get code.nodes k.0 ≡ Some edge.at = all.source e k.0 k.1 ∙ ap (λ o. Some (edge_at o)) there in
@@ -110,7 +110,7 @@ module _ (original foreign : Image) (code : Code) (l : Loops) (lists : GraphList
       ∙ sym (ap (λ (fs : EdgeKind → List ForeignFragment). fs edge.kind) (found_at original foreign code all.reached sites known k.0 edge.at site.0 node site.1))))
 
   -- an edge on which a counter counts is counted
-  counted_to : (c e : ℕ) → CountsOn lists.backs.now (numbered lists.sources.now code.edges sites) c e
+  counted_to : (c e : ℕ) → CountsOn lists.backs.now (numbered_fragments lists.sources.now code.edges sites) c e
       → (k : ℕ) × (edge : Edge) × IsCountedAt original foreign code l (found_in code.nodes sites) c k e edge × (slice_get lists.backs.now e ≡ Some (Some k))
   counted_to c e on =
       let b = (all.back e on.loop).0 on.back in
@@ -130,7 +130,7 @@ module _ (original foreign : Image) (code : Code) (l : Loops) (lists : GraphList
         on.back,
       )
 
-  counted_from : (c k e : ℕ) (edge : Edge) → IsCountedAt original foreign code l (found_in code.nodes sites) c k e edge → CountsOn lists.backs.now (numbered lists.sources.now code.edges sites) c e
+  counted_from : (c k e : ℕ) (edge : Edge) → IsCountedAt original foreign code l (found_in code.nodes sites) c k e edge → CountsOn lists.backs.now (numbered_fragments lists.sources.now code.edges sites) c e
   counted_from c k e edge h = record {
     loop = k;
     back = (all.back e k).1 (slice_get_within code.edges e edge h.there, h.low, h.back);
@@ -153,7 +153,7 @@ module _ (original foreign : Image) (code : Code) (l : Loops) (lists : GraphList
       all.distinct j k p.low q.low header
 
   -- the first edge on which a counter counts
-  first_counted : (c b : ℕ) → IsFirstBelow code.edges (CountsOn lists.backs.now (numbered lists.sources.now code.edges sites) c) (length code.edges) (Some b)
+  first_counted : (c b : ℕ) → IsFirstOfEdges code.edges (CountsOn lists.backs.now (numbered_fragments lists.sources.now code.edges sites) c) (length code.edges) (Some b)
       → (k : ℕ) × IsFirstCounted original foreign code l (found_in code.nodes sites) c k × (slice_get lists.backs.now b ≡ Some (Some k)) × (k < l.loops)
   first_counted c b first =
       let to = counted_to c b first.1 in (
@@ -173,7 +173,7 @@ module _ (original foreign : Image) (code : Code) (l : Loops) (lists : GraphList
   limit_bound : (k b n : ℕ) → slice_get lists.backs.now b ≡ Some (Some k) → k < l.loops → n ≡ limit_of lists.backs.now lists.bounds.now (Some b) → n ≡ l.bound k
   limit_bound k b n back low e = e ∙ (ap (bound_at lists.bounds.now) back ∙ all.bound k low)
 
-  pub last_row_there : (c n shift : ℕ) (o : Option ℕ) → IsFirstBelow code.edges (CountsOn lists.backs.now (numbered lists.sources.now code.edges sites) c) (length code.edges) o → n ≡ limit_of lists.backs.now lists.bounds.now o
+  pub last_row_there : (c n shift : ℕ) (o : Option ℕ) → IsFirstOfEdges code.edges (CountsOn lists.backs.now (numbered_fragments lists.sources.now code.edges sites) c) (length code.edges) o → n ≡ limit_of lists.backs.now lists.bounds.now o
       → IsLastRow original foreign code l (found_in code.nodes sites) c shift (n / 2 ^ shift)
   last_row_there c n shift None first e = inr (
     λ k h. let on = counted_from c k h.e h.edge h.counted in first h.e (slice_get_within code.edges h.e h.edge h.counted.there) on,
@@ -181,7 +181,7 @@ module _ (original foreign : Image) (code : Code) (l : Loops) (lists : GraphList
   )
   last_row_there c n shift (Some b) first e = let f = first_counted c b first in inl (f.0, f.1, ap (λ m. m / 2 ^ shift) (limit_bound f.0 b n f.2 f.3 e))
 
-  pub last_row_only : (c n shift last : ℕ) (o : Option ℕ) → IsFirstBelow code.edges (CountsOn lists.backs.now (numbered lists.sources.now code.edges sites) c) (length code.edges) o → n ≡ limit_of lists.backs.now lists.bounds.now o
+  pub last_row_only : (c n shift last : ℕ) (o : Option ℕ) → IsFirstOfEdges code.edges (CountsOn lists.backs.now (numbered_fragments lists.sources.now code.edges sites) c) (length code.edges) o → n ≡ limit_of lists.backs.now lists.bounds.now o
       → IsLastRow original foreign code l (found_in code.nodes sites) c shift last → last ≡ n / 2 ^ shift
   last_row_only c n shift last None first e (inl h) = let on = counted_from c h.0 h.1.e h.1.edge h.1.counted in absurd (first h.1.e (slice_get_within code.edges h.1.e h.1.edge h.1.counted.there) on)
   last_row_only c n shift last None first e (inr h) = h.1 ∙ sym (ap (λ m. m / 2 ^ shift) e ∙ zero-div (2 ^ shift))

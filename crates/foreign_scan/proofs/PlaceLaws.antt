@@ -6,7 +6,7 @@ use Rattle.scale_base.specs.declared.edges.Edge.{Edge}
 use Rattle.scale_base.specs.declared.edges.EdgeKind.{EdgeKind}
 use Rattle.foreign_scan.specs.declared.site.Site.{Site}
 use Rattle.foreign_scan.specs.declared.sites.EdgePlace.{EdgePlace}
-use Rattle.foreign_scan.specs.Shown.{ArePlacesOf, AreWithin}
+use Rattle.foreign_scan.specs.Shown.{ArePlacesOf, ArePlacesWithin}
 use Rattle.foreign_scan.proofs.ListLaws.{get_there}
 use Rattle.foreign_scan.proofs.SiteLaws.{get_pushed}
 
@@ -32,7 +32,7 @@ places_push sources edges n node kind old new h source is added = subst (ArePlac
 pub places_all : (sources : List ℕ) (edges : List Edge) (n : ℕ) (places : List EdgePlace) → n ≡ length edges → ArePlacesBelow sources edges n places → ArePlacesOf sources edges places
 places_all sources edges n places e h = record { size = h.size ∙ e; each = h.each }
 
-pub places_within : (sources : List ℕ) (edges : List Edge) (sites : List Site) (places : List EdgePlace) → ((e k : ℕ) → slice_get sources e ≡ Some k → k < length sites) → ArePlacesOf sources edges places → AreWithin sites places
+pub places_within : (sources : List ℕ) (edges : List Edge) (sites : List Site) (places : List EdgePlace) → ((e k : ℕ) → slice_get sources e ≡ Some k → k < length sites) → ArePlacesOf sources edges places → ArePlacesWithin sites places
 places_within sources edges sites places low are = λ k d lt.
     let edge = get_there edges k (let size = are.size in omega (arith, lt, size)) in
     low k (get_or places k d).node (are.each k (get_or places k d) edge.0 (slice_get-get_or places k d lt) edge.1).0

@@ -18,15 +18,15 @@ use Rattle.foreign_scan.specs.declared.site.Site.{Site}
 use Rattle.foreign_scan.specs.declared.site.Site.TheVariants.{Same, Broken, Kept}
 use Rattle.foreign_scan.specs.declared.stub.StubFragments.{StubFragments}
 use Rattle.foreign_scan.specs.declared.stub.StubFragments.TheVariants as stub
-use Rattle.foreign_scan.specs.Counts.{numbered, AreLimits}
+use Rattle.foreign_scan.specs.Counts.{numbered_fragments, AreCountLimits}
 use Rattle.foreign_scan.specs.Lists.{AreListsOf}
 use Rattle.foreign_scan.specs.declared.lists.GraphLists.{GraphLists}
 use Rattle.foreign_scan.specs.Form.{IsForeign, AreRowsIn}
 use Rattle.foreign_scan.specs.Rows.{rows_in, has_rows, all_have_rows, stub_has_rows, is_sound, IsFirstUnsound}
 use Rattle.foreign_scan.specs.Scanned.{IsOn, IsChanged, is_changed, KeepsForm, HasRows, IsBadStub, IsScanned, IsFirstWhy}
 use Rattle.foreign_scan.specs.Scans.{IsPatchedWell, IsShownBy}
-use Rattle.foreign_scan.specs.Shown.{SitesView, fragments_at, ShowsSites}
-use Rattle.foreign_scan.specs.Sites.{IsKeptAt, IsSiteAt, AreSitesOf, site_fragments, found_in, is_patched}
+use Rattle.foreign_scan.specs.Shown.{ScannedSites, place_fragments, ShowsSites}
+use Rattle.foreign_scan.specs.Sites.{IsKeptAt, IsSiteAt, AreWordSites, site_fragments, found_in, is_site_patched}
 use Rattle.foreign_scan.specs.Stubs.{fragments_of}
 use Rattle.foreign_scan.proofs.ListLaws.{get_there}
 use Rattle.foreign_scan.proofs.EdgeLaws.{node_word}
@@ -65,8 +65,8 @@ foreign_at [] f i all e = absurd cc
 foreign_at (g ∷ gs) f zero all e = subst IsForeign (same_some g f e) (All-head IsForeign g gs all)
 foreign_at (g ∷ gs) f (suc i) all e = foreign_at gs f i (All-tail IsForeign g gs all) e
 
-module _ (original foreign : Image) (code : Code) (l : Loops) (lists : GraphLists) (all : AreListsOf original code l lists) (sites : List Site) (known : AreSitesOf original foreign code.nodes sites)
-    (limits : List ℕ) (size : length limits ≡ 512) (limited : AreLimits code.edges lists.backs.now lists.bounds.now (numbered lists.sources.now code.edges sites) limits) where
+module _ (original foreign : Image) (code : Code) (l : Loops) (lists : GraphLists) (all : AreListsOf original code l lists) (sites : List Site) (known : AreWordSites original foreign code.nodes sites)
+    (limits : List ℕ) (size : length limits ≡ 512) (limited : AreCountLimits code.edges lists.backs.now lists.bounds.now (numbered_fragments lists.sources.now code.edges sites) limits) where
   -- the limit of a shadow counter
   limit_at : (c : ℕ) → c < 511 → (n : ℕ) × (slice_get limits c ≡ Some n) × (slice_index limits c ≡ n)
   limit_at c low = let r = get_there limits c (omega (arith, low, size)) in (r.0, r.1, get_or_from_slice_get limits c r.0 0 r.1)
@@ -178,25 +178,25 @@ module _ (original foreign : Image) (code : Code) (l : Loops) (lists : GraphList
 
   -- ---- what is shown
 
-  patched_is : (at : ℕ) (site : Site) → IsSiteAt original foreign at site → is_patched site ≡ is_changed original foreign at
+  patched_is : (at : ℕ) (site : Site) → IsSiteAt original foreign at site → is_site_patched site ≡ is_changed original foreign at
   patched_is at Same h = sym h
   patched_is at Broken h = sym h.changed
   patched_is at (Kept s) h = sym h.changed
 
-  pub is_shown : (s : SitesView) → ShowsSites lists.sources.now code.edges sites s → IsShownBy original foreign code (found_in code.nodes sites) s
+  pub is_shown : (s : ScannedSites) → ShowsSites lists.sources.now code.edges sites s → IsShownBy original foreign code (found_in code.nodes sites) s
   is_shown s h = let places = h.0 in let are = h.1 in let view = h.2 in record {
-    nodes = ap (λ (w : SitesView). length w.patched) view ∙ (length-map sites is_patched ∙ known.size);
-    edges = ap (λ (w : SitesView). length w.fragments) view ∙ (length-map places (fragments_at sites) ∙ are.size);
+    nodes = ap (λ (w : ScannedSites). length w.patched) view ∙ (length-map sites is_site_patched ∙ known.size);
+    edges = ap (λ (w : ScannedSites). length w.fragments) view ∙ (length-map places (place_fragments sites) ∙ are.size);
     patched = λ k at node.
         let here = get_there sites k (let lt = slice_get_within code.nodes k at node in let same = known.size in omega (arith, lt, same)) in
-        ap (λ (w : SitesView). slice_get w.patched k) view ∙ (slice_get-map is_patched sites k ∙ (ap (option_map is_patched) here.1 ∙ ap Some (patched_is at here.0 (known.each k at here.0 node here.1))));
+        ap (λ (w : ScannedSites). slice_get w.patched k) view ∙ (slice_get-map is_site_patched sites k ∙ (ap (option_map is_site_patched) here.1 ∙ ap Some (patched_is at here.0 (known.each k at here.0 node here.1))));
     fragments = λ e edge there.
         let place = get_there places e (let lt = slice_get_within code.edges e edge there in let same = are.size in omega (arith, lt, same)) in
         let p = are.each e place.0 edge place.1 there in
         let node : slice_get code.nodes place.0.node ≡ Some edge.at = all.source e place.0.node p.0 ∙ ap (λ o. Some (edge_at o)) there in
         let site = get_there sites place.0.node (let lt = slice_get_within code.nodes place.0.node edge.at node in let same = known.size in omega (arith, lt, same)) in
-        let one : fragments_at sites place.0 ≡ site_fragments (Some site.0) place.0.kind = ap (λ o. site_fragments o place.0.kind) site.1 in
+        let one : place_fragments sites place.0 ≡ site_fragments (Some site.0) place.0.kind = ap (λ o. site_fragments o place.0.kind) site.1 in
         let two : site_fragments (Some site.0) place.0.kind ≡ site_fragments (Some site.0) edge.kind = ap (site_fragments (Some site.0)) p.1 in
         let three : found_in code.nodes sites edge.at edge.kind ≡ site_fragments (Some site.0) edge.kind = ap (λ (fs : EdgeKind → List ForeignFragment). fs edge.kind) (found_at original foreign code all.reached sites known place.0.node edge.at site.0 node site.1) in
-        ap (λ (w : SitesView). slice_get w.fragments e) view ∙ (slice_get-map (fragments_at sites) places e ∙ (ap (option_map (fragments_at sites)) place.1 ∙ ap Some (one ∙ (two ∙ sym three))));
+        ap (λ (w : ScannedSites). slice_get w.fragments e) view ∙ (slice_get-map (place_fragments sites) places e ∙ (ap (option_map (place_fragments sites)) place.1 ∙ ap Some (one ∙ (two ∙ sym three))));
   }

@@ -16,7 +16,7 @@ use Rattle.foreign_scan.specs.declared.stub.StubFragments.{StubFragments}
 use Rattle.foreign_scan.specs.Form.{IsStub}
 use Rattle.foreign_scan.specs.Least.{goto_target}
 use Rattle.foreign_scan.specs.Scanned.{is_changed}
-use Rattle.foreign_scan.specs.Sites.{IsKeptAt, IsBrokenAt, IsSiteAt, AreSitesOf, site_beside}
+use Rattle.foreign_scan.specs.Sites.{IsKeptAt, IsBrokenAt, IsSiteAt, AreWordSites, site_beside}
 use Rattle.foreign_scan.specs.Stubs.{fragments_of, IsOfInstr}
 use Rattle.foreign_scan.proofs.PatchLaws.{target_from, target_to}
 use Rattle.foreign_scan.proofs.ReadLaws.{same_some}
@@ -91,7 +91,7 @@ sites_more original foreign nodes n at sites site h there is = record {
       subst (λ s. IsSiteAt original foreign a s) new.1 (subst (λ b. IsSiteAt original foreign b site) same is)) (get_pushed sites site other k here);
 }
 
-pub sites_all : (original foreign : Image) (nodes : List ℕ) (n : ℕ) (sites : List Site) → n ≡ length nodes → AreSitesBelow original foreign nodes n sites → AreSitesOf original foreign nodes sites
+pub sites_all : (original foreign : Image) (nodes : List ℕ) (n : ℕ) (sites : List Site) → n ≡ length nodes → AreSitesBelow original foreign nodes n sites → AreWordSites original foreign nodes sites
 sites_all original foreign nodes n sites e h = record { size = h.size ∙ e; each = h.each }
 
 -- ---- what stands beside an address

@@ -46,8 +46,8 @@ numbered_at sites (Some k) (Some edge) = site_fragments (slice_get sites k) edge
 numbered_at sites k edge = []
 
 -- by the number of an edge
-abbrev pub numbered : List ℕ → List Edge → List Site → ℕ → List ForeignFragment
-numbered sources edges sites e = numbered_at sites (slice_get sources e) (slice_get edges e)
+abbrev pub numbered_fragments : List ℕ → List Edge → List Site → ℕ → List ForeignFragment
+numbered_fragments sources edges sites e = numbered_at sites (slice_get sources e) (slice_get edges e)
 
 -- edge e is a back edge, and the counter counts on it
 pub record CountsOn (backs : List (Option ℕ)) (on : ℕ → List ForeignFragment) (c e : ℕ) : Type 0 where
@@ -56,12 +56,12 @@ pub record CountsOn (backs : List (Option ℕ)) (on : ℕ → List ForeignFragme
   pub counts : count_in c (on e) ≡ true
 
 -- of the edges below n on which the counter counts one that none comes before
-abbrev pub IsFirstBelow : List Edge → (ℕ → Type 0) → ℕ → Option ℕ → Type 0
-IsFirstBelow edges Is n None = (e : ℕ) → e < n → Is e → ⊥
-IsFirstBelow edges Is n (Some b) = (b < n) × Is b × ((e : ℕ) → e < n → Is e → is_before edges e b ≡ false)
+abbrev pub IsFirstOfEdges : List Edge → (ℕ → Type 0) → ℕ → Option ℕ → Type 0
+IsFirstOfEdges edges Is n None = (e : ℕ) → e < n → Is e → ⊥
+IsFirstOfEdges edges Is n (Some b) = (b < n) × Is b × ((e : ℕ) → e < n → Is e → is_before edges e b ≡ false)
 
 abbrev pub AreFirstsBelow : List Edge → List (Option ℕ) → (ℕ → List ForeignFragment) → ℕ → List (Option ℕ) → Type 0
-AreFirstsBelow edges backs on n firsts = (c : ℕ) (o : Option ℕ) → slice_get firsts c ≡ Some o → IsFirstBelow edges (CountsOn backs on c) n o
+AreFirstsBelow edges backs on n firsts = (c : ℕ) (o : Option ℕ) → slice_get firsts c ≡ Some o → IsFirstOfEdges edges (CountsOn backs on c) n o
 
 -- the first edges with one fragment more, and with more of them
 abbrev pub IsTaken : List Edge → (old new : List (Option ℕ)) → ForeignFragment → ℕ → Type 0
@@ -84,8 +84,8 @@ abbrev pub AreEdgesWithin : ℕ → List (Option ℕ) → Type 0
 AreEdgesWithin n firsts = (c e : ℕ) → slice_get firsts c ≡ Some (Some e) → e < n
 
 -- by counter, how far it counts
-abbrev pub AreLimits : List Edge → List (Option ℕ) → List ℕ → (ℕ → List ForeignFragment) → List ℕ → Type 0
-AreLimits edges backs bounds on limits = (c n : ℕ) → slice_get limits c ≡ Some n → (o : Option ℕ) × IsFirstBelow edges (CountsOn backs on c) (length edges) o × (n ≡ limit_of backs bounds o)
+abbrev pub AreCountLimits : List Edge → List (Option ℕ) → List ℕ → (ℕ → List ForeignFragment) → List ℕ → Type 0
+AreCountLimits edges backs bounds on limits = (c n : ℕ) → slice_get limits c ≡ Some n → (o : Option ℕ) × IsFirstOfEdges edges (CountsOn backs on c) (length edges) o × (n ≡ limit_of backs bounds o)
 
 -- the lists go together, with so many sites
 pub record AreSized (lists : GraphLists) (sites : ℕ) : Type 0 where

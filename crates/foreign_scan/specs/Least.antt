@@ -13,9 +13,9 @@ use Rattle.foreign_scan.specs.Parts.{goto_of}
 use Rattle.foreign_scan.specs.Scanned.{is_changed}
 
 -- The answer is a bad address, and none among these that is bad is below it; or none among these is bad.
-abbrev pub IsLeastOf : (ℕ → Bool) → (ℕ → Type 0) → Option ℕ → Type 0
-IsLeastOf bad Among None = (a : ℕ) → Among a → bad a ≡ false
-IsLeastOf bad Among (Some at) = (bad at ≡ true) × ((a : ℕ) → Among a → bad a ≡ true → at ≤ a)
+abbrev pub IsLeastBadOf : (ℕ → Bool) → (ℕ → Type 0) → Option ℕ → Type 0
+IsLeastBadOf bad Among None = (a : ℕ) → Among a → bad a ≡ false
+IsLeastBadOf bad Among (Some at) = (bad at ≡ true) × ((a : ℕ) → Among a → bad a ≡ true → at ≤ a)
 
 -- the lesser of two addresses that may be missing
 abbrev pub lesser_of : Option ℕ → Option ℕ → Option ℕ
@@ -24,8 +24,8 @@ lesser_of (Some x) None = Some x
 lesser_of (Some x) (Some y) = if nat_le x y then Some x else Some y
 
 -- the addresses from one on up to another
-abbrev pub IsFrom : ℕ → ℕ → ℕ → Type 0
-IsFrom from end a = (from ≤ a) × (a < end)
+abbrev pub IsFromUpTo : ℕ → ℕ → ℕ → Type 0
+IsFromUpTo from end a = (from ≤ a) × (a < end)
 
 -- the addresses of a segment's file part
 abbrev pub file_range : LoadSegment → Range
@@ -33,7 +33,7 @@ file_range s = record { from = s.from; to = s.from + length s.file }
 
 -- the addresses of the first n ranges
 abbrev pub IsInRanges : List Range → ℕ → ℕ → Type 0
-IsInRanges ranges n a = (k : ℕ) × (r : Range) × (k < n) × (slice_get ranges k ≡ Some r) × IsFrom r.from r.to a
+IsInRanges ranges n a = (k : ℕ) × (r : Range) × (k < n) × (slice_get ranges k ≡ Some r) × IsFromUpTo r.from r.to a
 
 -- ---- bytes
 

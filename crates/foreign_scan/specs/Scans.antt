@@ -7,10 +7,10 @@ use Rattle.scale_base.specs.Image.{Image}
 use Rattle.foreign_scan.specs.declared.list_scan.Scanned.{Scanned}
 use Rattle.foreign_scan.specs.declared.list_scan.Scanned.TheVariants.{Found as IsFound, Fails}
 use Rattle.foreign_scan.specs.Scanned.{Found, is_changed, IsScanned, IsFirstWhy, IsLaidAlike, IsOddByte, IsChanged, IsPatch}
-use Rattle.foreign_scan.specs.Shown.{SitesView}
+use Rattle.foreign_scan.specs.Shown.{ScannedSites}
 
 -- what is found, by node and by edge
-pub record IsShownBy (original foreign : Image) (code : Code) (found : Found) (s : SitesView) : Type 0 where
+pub record IsShownBy (original foreign : Image) (code : Code) (found : Found) (s : ScannedSites) : Type 0 where
   pub nodes : length s.patched ≡ length code.nodes
   pub edges : length s.fragments ≡ length code.edges
   pub patched : (k at : ℕ) → slice_get code.nodes k ≡ Some at → slice_get s.patched k ≡ Some (is_changed original foreign at)

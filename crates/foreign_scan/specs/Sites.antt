@@ -38,7 +38,7 @@ IsSiteAt original foreign at Broken = IsBrokenAt original foreign at
 IsSiteAt original foreign at (Kept s) = IsKeptAt original foreign at s
 
 -- by node, what is known of its word
-pub record AreSitesOf (original foreign : Image) (nodes : List ℕ) (sites : List Site) : Type 0 where
+pub record AreWordSites (original foreign : Image) (nodes : List ℕ) (sites : List Site) : Type 0 where
   pub size : length sites ≡ length nodes
   pub each : (k at : ℕ) (site : Site) → slice_get nodes k ≡ Some at → slice_get sites k ≡ Some site → IsSiteAt original foreign at site
 
@@ -58,7 +58,7 @@ site_beside (u ∷ us) (site ∷ sites) at = if nat_eq u at then Some site else 
 abbrev pub found_in : List ℕ → List Site → Found
 found_in nodes sites at = site_fragments (site_beside nodes sites at)
 
-abbrev pub is_patched : Site → Bool
-is_patched Same = false
-is_patched Broken = true
-is_patched (Kept s) = true
+abbrev pub is_site_patched : Site → Bool
+is_site_patched Same = false
+is_site_patched Broken = true
+is_site_patched (Kept s) = true

@@ -7,7 +7,7 @@ ghost use Rattle.scale_base.specs.Layout as rules;
 ghost use Rattle.scale_base.specs.Layout.{layout_of};
 ghost use Rattle.scale_base.specs.State.{word_at};
 ghost use Rattle.elf_view.specs.Segment.{segment_value};
-ghost use Rattle.foreign_scan.specs.Least.{IsLeastOf, lesser_of, IsFrom, IsInRanges, file_range, is_odd_byte};
+ghost use Rattle.foreign_scan.specs.Least.{IsLeastBadOf, lesser_of, IsFromUpTo, IsInRanges, file_range, is_odd_byte};
 ghost use Rattle.foreign_scan.specs.Scanned.{IsOddByte, IsLeastAddress};
 
 use elf_view::{ImageView, Segment};
@@ -103,7 +103,7 @@ fn is_odd(original: &ImageView<'_>, foreign: &ImageView<'_>, at: u32) -> bool
 
 /// The least of these addresses with such a byte.
 fn odd_from(original: &ImageView<'_>, foreign: &ImageView<'_>, from: u32, end: u32) -> Option<u32>
-    ensures { IsLeastOf (is_odd_byte original.now foreign.now) (IsFrom from end) result }
+    ensures { IsLeastBadOf (is_odd_byte original.now foreign.now) (IsFromUpTo from end) result }
 {
     for at in from..end {
         if is_odd(original, foreign, at) {
@@ -150,7 +150,7 @@ fn file_parts(alloc: Global, view: &ImageView<'_>) -> Result<Vec<Range>, NoMemor
 
 /// The least of the addresses in these ranges with such a byte.
 fn odd_among(original: &ImageView<'_>, foreign: &ImageView<'_>, ranges: &[Range]) -> Option<u32>
-    ensures { IsLeastOf (is_odd_byte original.now foreign.now) (IsInRanges ranges.now (length ranges.now)) result }
+    ensures { IsLeastBadOf (is_odd_byte original.now foreign.now) (IsInRanges ranges.now (length ranges.now)) result }
 {
     let mut least = None;
     for range in ranges {

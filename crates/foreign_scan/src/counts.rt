@@ -1,7 +1,7 @@
 //! The first edge on which each counter counts, and how far it counts.
 
 ghost use Rattle.std.specs.Prelude.{◌≡◌, ◌+◌, ◌<◌, ℕ, All, Option, Some, None, length, slice_get, slice_set, slice_index_or, IfOk, IfSome};
-ghost use Rattle.foreign_scan.specs.Counts.{edge_before, is_before, earlier_of, bound_at, AreFirstsBelow, limit_of, AreEdgesWithin, AreLimits, IsTaken, AreTaken, numbered, AreSized};
+ghost use Rattle.foreign_scan.specs.Counts.{edge_before, is_before, earlier_of, bound_at, AreFirstsBelow, limit_of, AreEdgesWithin, AreCountLimits, IsTaken, AreTaken, numbered_fragments, AreSized};
 ghost use Rattle.foreign_scan.specs.Form.{IsForeign};
 ghost use Rattle.foreign_scan.specs.Rows.{SiteIsForeign};
 ghost use Rattle.foreign_scan.specs.Scanned as scanned;
@@ -123,9 +123,9 @@ fn take_edge(lists: &GraphLists<'_>, firsts: &mut [Option<usize>], sites: &[Site
     requires foreign { All SiteIsForeign sites.now }
     requires size { length firsts.old ≡ 512 }
     requires within { AreEdgesWithin (length lists.now.edges.now) firsts.old }
-    requires firsts { AreFirstsBelow lists.now.edges.now lists.now.backs.now (numbered lists.now.sources.now lists.now.edges.now sites.now) e firsts.old }
+    requires firsts { AreFirstsBelow lists.now.edges.now lists.now.backs.now (numbered_fragments lists.now.sources.now lists.now.edges.now sites.now) e firsts.old }
     ensures within { AreEdgesWithin (length lists.now.edges.now) firsts.new }
-    ensures firsts { AreFirstsBelow lists.now.edges.now lists.now.backs.now (numbered lists.now.sources.now lists.now.edges.now sites.now) (e + 1) firsts.new }
+    ensures firsts { AreFirstsBelow lists.now.edges.now lists.now.backs.now (numbered_fragments lists.now.sources.now lists.now.edges.now sites.now) (e + 1) firsts.new }
 {
     match lists.backs[e] {
         Some(_) => {
@@ -146,7 +146,7 @@ fn first_counts(
     requires foreign { All SiteIsForeign sites.now }
     ensures size { IfOk result (λ firsts. length firsts.items ≡ 512) }
     ensures within { IfOk result (λ firsts. AreEdgesWithin (length lists.now.edges.now) firsts.items) }
-    ensures firsts { IfOk result (λ firsts. AreFirstsBelow lists.now.edges.now lists.now.backs.now (numbered lists.now.sources.now lists.now.edges.now sites.now) (length lists.now.edges.now) firsts.items) }
+    ensures firsts { IfOk result (λ firsts. AreFirstsBelow lists.now.edges.now lists.now.backs.now (numbered_fragments lists.now.sources.now lists.now.edges.now sites.now) (length lists.now.edges.now) firsts.items) }
 {
     let mut firsts = no_edges(alloc)?;
     for e in 0..lists.edges.len() {
@@ -187,7 +187,7 @@ pub fn counter_limits(
     requires sizes { AreSized lists.now (length sites.now) }
     requires foreign { All SiteIsForeign sites.now }
     ensures size { IfOk result (λ limits. length limits.items ≡ 512) }
-    ensures limits { IfOk result (λ limits. AreLimits lists.now.edges.now lists.now.backs.now lists.now.bounds.now (numbered lists.now.sources.now lists.now.edges.now sites.now) limits.items) }
+    ensures limits { IfOk result (λ limits. AreCountLimits lists.now.edges.now lists.now.backs.now lists.now.bounds.now (numbered_fragments lists.now.sources.now lists.now.edges.now sites.now) limits.items) }
 {
     let firsts = first_counts(alloc, lists, sites)?;
     let mut limits = Vec::new(alloc);

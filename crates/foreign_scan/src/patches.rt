@@ -7,7 +7,7 @@ ghost use Rattle.scale_base.specs.Image.{loaded_byte};
 ghost use Rattle.scale_base.specs.Reading.{instr_of};
 ghost use Rattle.scale_base.specs.State.{word_at};
 ghost use Rattle.foreign_scan.specs.Least as least;
-ghost use Rattle.foreign_scan.specs.Least.{IsLeastOf, IsFrom, IsInRanges, goto_target, is_patchable, is_patch_at, is_bad_word};
+ghost use Rattle.foreign_scan.specs.Least.{IsLeastBadOf, IsFromUpTo, IsInRanges, goto_target, is_patchable, is_patch_at, is_bad_word};
 ghost use Rattle.foreign_scan.specs.Scanned as scanned;
 
 use crate::bytes::{is_keyed, lesser, word};
@@ -111,7 +111,7 @@ fn bad_patch_in(
     range: Range,
 ) -> Option<u32>
     requires { RiseStrictly nodes.now }
-    ensures { IsLeastOf (is_bad_word original.now foreign.now nodes.now) (IsFrom range.from range.to) result }
+    ensures { IsLeastBadOf (is_bad_word original.now foreign.now nodes.now) (IsFromUpTo range.from range.to) result }
 {
     for at in range.from..range.to {
         if is_bad_patch(original, foreign, nodes, at) {
@@ -129,7 +129,7 @@ fn bad_patch_among(
     ranges: &[Range],
 ) -> Option<u32>
     requires { RiseStrictly nodes.now }
-    ensures { IsLeastOf (is_bad_word original.now foreign.now nodes.now) (IsInRanges ranges.now (length ranges.now)) result }
+    ensures { IsLeastBadOf (is_bad_word original.now foreign.now nodes.now) (IsInRanges ranges.now (length ranges.now)) result }
 {
     let mut least = None;
     for range in ranges {
@@ -141,7 +141,7 @@ fn bad_patch_among(
 /// The least address of such a word in the text.
 pub fn bad_patch(original: &ImageView<'_>, foreign: &ImageView<'_>, nodes: &[u32]) -> Option<u32>
     requires { RiseStrictly nodes.now }
-    ensures { IsLeastOf (is_bad_word original.now foreign.now nodes.now) (IsInRanges original.now.text (length original.now.text)) result }
+    ensures { IsLeastBadOf (is_bad_word original.now foreign.now nodes.now) (IsInRanges original.now.text (length original.now.text)) result }
 {
     bad_patch_among(original, foreign, nodes, original.text())
 }

@@ -3,7 +3,7 @@
 ghost use Rattle.std.specs.Prelude.{◌≡◌, true, IfOk, Some};
 ghost use Rattle.foreign_scan.specs.Scanned as scanned;
 ghost use Rattle.foreign_scan.specs.Sites as sites;
-ghost use Rattle.foreign_scan.specs.Sites.{IsSiteAt, AreSitesOf, site_fragments};
+ghost use Rattle.foreign_scan.specs.Sites.{IsSiteAt, AreWordSites, site_fragments};
 
 use crate::fragment::ForeignFragment;
 use crate::key::KeyCode;
@@ -26,7 +26,7 @@ pub enum Site {
 
 impl Site {
     pub fn is_patched(&self) -> bool
-        ensures { result ≡ sites.is_patched self.now }
+        ensures { result ≡ sites.is_site_patched self.now }
     {
         match self {
             Site::Same => false,
@@ -98,7 +98,7 @@ pub fn read_sites(
     key: &KeyCode<'_>,
 ) -> Result<Vec<Site>, NoMemory>
     requires { key.now ≡ foreign.now }
-    ensures { IfOk result (λ sites. AreSitesOf original.now foreign.now nodes.now sites.items) }
+    ensures { IfOk result (λ sites. AreWordSites original.now foreign.now nodes.now sites.items) }
 {
     let mut sites = Vec::new(alloc);
     for at in nodes {

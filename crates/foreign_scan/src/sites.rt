@@ -26,13 +26,13 @@ pub struct ForeignSites {
 }
 
 impl Model for ForeignSites {
-    ghost use Rattle.foreign_scan.specs.Shown.{SitesView, sites_view, AreWithin};
+    ghost use Rattle.foreign_scan.specs.Shown.{ScannedSites, sites_view, ArePlacesWithin};
 
-    ghost Value = { SitesView };
+    ghost Value = { ScannedSites };
 
     ghost view = { λ s. sites_view s.sites.items s.places.items };
 
-    ghost invariant = { λ s. AreWithin s.sites.items s.places.items };
+    ghost invariant = { λ s. ArePlacesWithin s.sites.items s.places.items };
 }
 
 impl ForeignSites {

@@ -26,7 +26,7 @@ use Rattle.least_cycles.specs.Found.{LeastView, HasWorstInRange, HoldsLeast, Are
 use Rattle.rewritten_runs.proofs.Laws.{worst_grows}
 use Rattle.paid_runs.specs.Marked.{extra_site_weights, stored_site_weights}
 use Rattle.foreign_scan.specs.Scanned.{Found}
-use Rattle.foreign_scan.specs.Shown.{SitesView}
+use Rattle.foreign_scan.specs.Shown.{ScannedSites}
 use Rattle.image_check.specs.declared.checking.Original.{Original}
 use Rattle.image_check.specs.declared.checking.Received.{Received}
 use Rattle.image_check.specs.declared.checking.CostsWithStubs.{CostsWithStubs}
@@ -62,7 +62,7 @@ module _ (p : Original) (is : IsOriginal p) where
   by_lists P h = subst P is.code_is.graph_is h
 
   -- the scan finds no cause, and a counter counts no loop
-  pub counts_none : (image : Image) (found : Found) (sites : SitesView) (counter : ℕ) → IsScannedBy p image found sites → IsFirstBadCounter (graph v) v.code l found counter → CountsNoLoop p.view image p.graph p.tree counter
+  pub counts_none : (image : Image) (found : Found) (sites : ScannedSites) (counter : ℕ) → IsScannedBy p image found sites → IsFirstBadCounter (graph v) v.code l found counter → CountsNoLoop p.view image p.graph p.tree counter
   counts_none image found sites counter scanned bad = record {
     found = found;
     scanned = scanned.scanned;

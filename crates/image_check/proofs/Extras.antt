@@ -32,7 +32,7 @@ use Rattle.foreign_scan.specs.declared.fragment.ForeignFragment.{ForeignFragment
 use Rattle.foreign_scan.specs.declared.fragment.ForeignFragment.TheVariants.{Switch, Exit, Reset, Count}
 use Rattle.foreign_scan.specs.Form.{IsStub}
 use Rattle.foreign_scan.specs.Scanned.{Found, is_changed, IsChanged, CanBePatched, IsPatch}
-use Rattle.foreign_scan.specs.Shown.{SitesView}
+use Rattle.foreign_scan.specs.Shown.{ScannedSites}
 use Rattle.image_check.specs.Safe.{Owner, with_rows, all_with_rows, place_by, sites_of}
 use Rattle.image_check.specs.Known.{IsFoundIn}
 use Rattle.image_check.specs.Weights.{foreign_cost, stub_jumps}
@@ -65,7 +65,7 @@ get_some [] i lt = absurd (omega (arith, lt))
 get_some (x ∷ xs) zero lt = (x, refl)
 get_some (x ∷ xs) (suc i) lt = get_some xs i (omega (arith, lt))
 
-module _ (original foreign : Image) (v : FlowGraph) (tree : LoopView) (owner : Owner) (found : Found) (s : SitesView) (is : IsFoundIn original foreign v tree found s) where
+module _ (original foreign : Image) (v : FlowGraph) (tree : LoopView) (owner : Owner) (found : Found) (s : ScannedSites) (is : IsFoundIn original foreign v tree found s) where
   abbrev t : Text
   t = text_of original
 

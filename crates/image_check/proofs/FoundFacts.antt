@@ -16,7 +16,7 @@ use Rattle.loop_tree.specs.Tree.{LoopView, loops}
 use Rattle.foreign_scan.specs.declared.fragment.ForeignFragment.{ForeignFragment}
 use Rattle.foreign_scan.specs.Form.{IsForeign, FirstChooses, IsRunOut, IsStub}
 use Rattle.foreign_scan.specs.Scanned.{Found, is_changed, IsChanged, CanBePatched}
-use Rattle.foreign_scan.specs.Shown.{SitesView}
+use Rattle.foreign_scan.specs.Shown.{ScannedSites}
 use Rattle.image_check.specs.Known.{IsFoundIn}
 use Rattle.image_check.specs.Uses.{on_edge}
 use Rattle.image_check.proofs.OnEdges.{reached_word}
@@ -33,7 +33,7 @@ none_fine fs e = subst AreFine (sym e) (record { few = omega arith; first = tt; 
 run_fine : (image : Image) (at to : ℕ) (fs : List ForeignFragment) → IsRunOut image at to fs → AreFine fs
 run_fine image at to fs r = record { few = r.few; first = r.first; foreign = r.foreign }
 
-module _ (original foreign : Image) (v : FlowGraph) (tree : LoopView) (found : Found) (s : SitesView) (is : IsFoundIn original foreign v tree found s) where
+module _ (original foreign : Image) (v : FlowGraph) (tree : LoopView) (found : Found) (s : ScannedSites) (is : IsFoundIn original foreign v tree found s) where
   abbrev t : Text
   t = text_of original
 

@@ -15,7 +15,7 @@ use Rattle.foreign_scan.specs.declared.fragment.ForeignFragment.{ForeignFragment
 use Rattle.foreign_scan.specs.declared.fragment.ForeignFragment.TheVariants.{Switch, Exit, Reset, Count}
 use Rattle.foreign_scan.specs.Form.{IsForeign}
 use Rattle.foreign_scan.specs.Scanned.{Found}
-use Rattle.foreign_scan.specs.Shown.{SitesView}
+use Rattle.foreign_scan.specs.Shown.{ScannedSites}
 use Rattle.image_check.specs.Safe.{counts_it, clears_it, one_where, counts_on, clears_on, IsCounterOf, IsUsed, AreOwners}
 use Rattle.image_check.specs.Causes.{IsBadCounter, IsFirstBadCounter}
 use Rattle.image_check.specs.Known.{owner_by, IsFoundIn}
@@ -73,7 +73,7 @@ great_unused c (f ∷ fs) all high =
 
 -- ---- a counter
 
-module _ (original foreign : Image) (v : FlowGraph) (t : LoopView) (found : Found) (s : SitesView) (is : IsFoundIn original foreign v t found s) (owners : List (Option ℕ)) (turns exits : List ℕ) (tallies : List Tally)
+module _ (original foreign : Image) (v : FlowGraph) (t : LoopView) (found : Found) (s : ScannedSites) (is : IsFoundIn original foreign v t found s) (owners : List (Option ℕ)) (turns exits : List ℕ) (tallies : List Tally)
     (names : AreNamed v t s (length v.code.edges) owners) (turns_are : AreTurns v t (length v.code.edges) turns) (exits_are : AreExits v t (length t.headers) exits)
     (tallies_are : AreTallies v t s owners (length v.code.edges) tallies) where
   abbrev edges : ℕ

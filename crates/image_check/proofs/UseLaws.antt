@@ -12,7 +12,7 @@ use Rattle.loop_tree.specs.Tree.{LoopView, loops}
 use Rattle.foreign_scan.specs.declared.fragment.ForeignFragment.{ForeignFragment}
 use Rattle.foreign_scan.specs.declared.fragment.ForeignFragment.TheVariants.{Switch, Exit, Reset, Count}
 use Rattle.foreign_scan.specs.Form.{IsForeign}
-use Rattle.foreign_scan.specs.Shown.{SitesView}
+use Rattle.foreign_scan.specs.Shown.{ScannedSites}
 use Rattle.image_check.specs.Safe.{counts_it, clears_it}
 use Rattle.image_check.specs.Known.{owner_by}
 use Rattle.image_check.specs.Uses.{on_edge, counts_at, clears_at, turn_of, exit_of, of_loop, fits_on, named_by, named, AreNamed, counter_used, is_same_counter, no_tally, taken_one, taken, tally_of}
@@ -43,7 +43,7 @@ named_some k c (f ∷ fs) o some = ⊎_elim
 pub named_count : (k c counter : ℕ) (o : Option ℕ) → c ≡ counter → named_by k c (Count counter) o ≡ Some k
 named_count k c counter o e = ap (λ x. if nat_lt 0 x then Some k else o) (cond-true (c == counter) 1 0 (eq-eqb c counter e))
 
-module _ (v : FlowGraph) (t : LoopView) (s : SitesView) (n : ℕ) (old : List (Option ℕ)) (are : AreNamed v t s n old) where
+module _ (v : FlowGraph) (t : LoopView) (s : ScannedSites) (n : ℕ) (old : List (Option ℕ)) (are : AreNamed v t s n old) where
   -- an edge that is no back edge
   pub named_skip : ((k : ℕ) → k < length t.headers → turn_of (graph v) (loops v t) k n ≡ 0) → AreNamed v t s (n + 1) old
   named_skip plain = record {
@@ -120,7 +120,7 @@ fits_taken c fits (f ∷ fs) u e =
         let more_clears = zeros.1 in
         inr ((omega (arith, counts, more_counts, sum_by-cons (counts_it c) f fs), omega (arith, clears, more_clears, sum_by-cons (clears_it c) f fs)))
 
-module _ (v : FlowGraph) (t : LoopView) (s : SitesView) (owner : Option ℕ) (c : ℕ) where
+module _ (v : FlowGraph) (t : LoopView) (s : ScannedSites) (owner : Option ℕ) (c : ℕ) where
   pub tally_counts : (n : ℕ) → (tally_of v t s owner c n).counts ≡ sum_below n (counts_at s c)
   tally_counts zero = refl
   tally_counts (suc n) =
@@ -153,14 +153,14 @@ module _ (v : FlowGraph) (t : LoopView) (s : SitesView) (owner : Option ℕ) (c 
 
 -- ---- whether an edge fits
 
-pub fits_is : (v : FlowGraph) (t : LoopView) (s : SitesView) (owner : Option ℕ) (c e counts clears turns exits : ℕ) → counts ≡ counts_at s c e → clears ≡ clears_at s c e → turns ≡ of_loop (turn_of (graph v) (loops v t)) owner e
+pub fits_is : (v : FlowGraph) (t : LoopView) (s : ScannedSites) (owner : Option ℕ) (c e counts clears turns exits : ℕ) → counts ≡ counts_at s c e → clears ≡ clears_at s c e → turns ≡ of_loop (turn_of (graph v) (loops v t)) owner e
     → exits ≡ of_loop (exit_of (graph v) (loops v t)) owner e → counts ≤ turns → nat_le clears exits ≡ fits_on v t s owner c e
 fits_is v t s owner c e counts clears turns exits counts_is clears_is turns_is exits_is le =
     ap (λ x. nat_le x exits) clears_is ∙ (ap (nat_le (clears_at s c e)) exits_is
     ∙ sym (ap (λ b. b && nat_le (clears_at s c e) (of_loop (exit_of (graph v) (loops v t)) owner e))
     (le-leb (counts_at s c e) (of_loop (turn_of (graph v) (loops v t)) owner e) (subst (λ x. counts_at s c e ≤ x) turns_is (subst (λ x. x ≤ turns) counts_is le)))))
 
-pub fits_not : (v : FlowGraph) (t : LoopView) (s : SitesView) (owner : Option ℕ) (c e counts turns : ℕ) → counts ≡ counts_at s c e → turns ≡ of_loop (turn_of (graph v) (loops v t)) owner e
+pub fits_not : (v : FlowGraph) (t : LoopView) (s : ScannedSites) (owner : Option ℕ) (c e counts turns : ℕ) → counts ≡ counts_at s c e → turns ≡ of_loop (turn_of (graph v) (loops v t)) owner e
     → turns < counts → nat_le counts turns ≡ fits_on v t s owner c e
 fits_not v t s owner c e counts turns counts_is turns_is less =
     let off : nat_le counts turns ≡ false = over counts turns (nat_le counts turns) refl less in

@@ -11,7 +11,7 @@ use Rattle.worst_cycles.specs.Worst.{by_edge, HasLeftSizes, IsLeftOf}
 use Rattle.paid_runs.specs.Marked.{extra_site_weights}
 use Rattle.power_model.specs.Switches.{costs_of}
 use Rattle.foreign_scan.specs.Scanned.{Found}
-use Rattle.foreign_scan.specs.Shown.{SitesView}
+use Rattle.foreign_scan.specs.Shown.{ScannedSites}
 use Rattle.image_check.specs.declared.checking.Original.{Original}
 use Rattle.image_check.specs.declared.checking.Received.{Received}
 use Rattle.image_check.specs.declared.checking.CostsWithStubs.{CostsWithStubs}
@@ -27,7 +27,7 @@ pub record IsOriginal (p : Original) : Type 0 where
   pub tree_is : IsTreeOf p.graph p.notes p.tree
 
 -- the scan of an image finds no cause: what it found
-abbrev pub IsScannedBy : Original → Image → Found → SitesView → Type 0
+abbrev pub IsScannedBy : Original → Image → Found → ScannedSites → Type 0
 IsScannedBy p image found sites = IsFoundIn p.view image p.graph p.tree found sites
 
 -- its counters count loops

@@ -12,7 +12,7 @@ use Rattle.loop_tree.specs.Tree.{LoopView, loops, IsLoopTree}
 use Rattle.worst_cycles.specs.Worst.{WorstView, HoldsLeft, slack_at, rest_at}
 use Rattle.least_cycles.specs.Found.{LeastView}
 use Rattle.foreign_scan.specs.Scanned.{Found, IsScanned}
-use Rattle.foreign_scan.specs.Shown.{SitesView}
+use Rattle.foreign_scan.specs.Shown.{ScannedSites}
 use Rattle.foreign_scan.specs.Scans.{IsShownBy}
 use Rattle.image_check.specs.Safe.{Owner, AreOwners, AreSafeOn}
 use Rattle.image_check.specs.Causes.{IsFirstBadCounter, IsFirstBadLevel}
@@ -20,13 +20,13 @@ use Rattle.image_check.specs.Causes.{IsFirstBadCounter, IsFirstBadLevel}
 -- ---- the scan
 
 -- what is found in the image beside the original, whose graph and loops these are
-pub record IsFoundIn (original foreign : Image) (v : FlowGraph) (t : LoopView) (found : Found) (s : SitesView) : Type 0 where
+pub record IsFoundIn (original foreign : Image) (v : FlowGraph) (t : LoopView) (found : Found) (s : ScannedSites) : Type 0 where
   pub code : IsGraphOf (text_of original) v
   pub tree : (extent : ℕ → ℕ → Bool) × IsLoopTree v extent t
   pub scanned : IsScanned original foreign v.code (loops v t) found
   pub shown : IsShownBy original foreign v.code found s
 
-abbrev pub HasFound : FlowGraph → LoopView → SitesView → Type 0
+abbrev pub HasFound : FlowGraph → LoopView → ScannedSites → Type 0
 HasFound v t s = (original foreign : Image) × (found : Found) × IsFoundIn original foreign v t found s
 
 -- ---- counters
@@ -57,12 +57,12 @@ pub record AreWeighed (v : FlowGraph) (t : LoopView) (w : ℕ → ℕ) (n : Numb
   pub after_small : (e z : ℕ) → e < length v.code.edges → to_end_after (graph v) (loops v t) least e ≡ Some z → z < 2 ^ 89
 
 -- what is found, the loops of its counters, and the numbers
-pub record AreKnown (original foreign : Image) (v : FlowGraph) (t : LoopView) (s : SitesView) (owners : List (Option ℕ)) (worst : WorstView) (ends : LeastView) (found : Found) (w : ℕ → ℕ) (n : Numbers) (least : Charged) : Type 0 where
+pub record AreKnown (original foreign : Image) (v : FlowGraph) (t : LoopView) (s : ScannedSites) (owners : List (Option ℕ)) (worst : WorstView) (ends : LeastView) (found : Found) (w : ℕ → ℕ) (n : Numbers) (least : Charged) : Type 0 where
   pub found_is : IsFoundIn original foreign v t found s
   pub owners_are : AreOwners (graph v) v.code (loops v t) found (owner_by owners)
   pub weighed : AreWeighed v t w n least worst ends
 
-abbrev pub HasKnown : (foreign : Image) → FlowGraph → LoopView → SitesView → List (Option ℕ) → WorstView → LeastView → Type 0
+abbrev pub HasKnown : (foreign : Image) → FlowGraph → LoopView → ScannedSites → List (Option ℕ) → WorstView → LeastView → Type 0
 HasKnown foreign v t s owners worst ends = (original : Image) × (found : Found) × (w : ℕ → ℕ) × (n : Numbers) × (least : Charged) × AreKnown original foreign v t s owners worst ends found w n least
 
 -- all entries are safe, or the address and the level of the first that is not

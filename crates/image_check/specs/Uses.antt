@@ -7,7 +7,7 @@ use Rattle.loop_tree.specs.Noted.{node_address}
 use Rattle.loop_tree.specs.Tree.{LoopView, loops}
 use Rattle.foreign_scan.specs.declared.fragment.ForeignFragment.{ForeignFragment}
 use Rattle.foreign_scan.specs.declared.fragment.ForeignFragment.TheVariants.{Switch, Exit, Reset, Count}
-use Rattle.foreign_scan.specs.Shown.{SitesView}
+use Rattle.foreign_scan.specs.Shown.{ScannedSites}
 use Rattle.image_check.specs.Safe.{counts_it, clears_it, one_where}
 use Rattle.image_check.specs.Known.{owner_by}
 use Rattle.image_check.specs.declared.uses.Tally.{Tally}
@@ -15,13 +15,13 @@ use Rattle.image_check.specs.declared.uses.Tally.{Tally}
 -- ---- edges
 
 -- the fragments of an edge
-abbrev pub on_edge : SitesView → ℕ → List ForeignFragment
+abbrev pub on_edge : ScannedSites → ℕ → List ForeignFragment
 on_edge s e = slice_index_or s.fragments e []
 
-abbrev pub counts_at : SitesView → ℕ → ℕ → ℕ
+abbrev pub counts_at : ScannedSites → ℕ → ℕ → ℕ
 counts_at s c e = sum_by (counts_it c) (on_edge s e)
 
-abbrev pub clears_at : SitesView → ℕ → ℕ → ℕ
+abbrev pub clears_at : ScannedSites → ℕ → ℕ → ℕ
 clears_at s c e = sum_by (clears_it c) (on_edge s e)
 
 -- 1 for an edge that turns loop k back, and for one that leaves it
@@ -37,7 +37,7 @@ of_loop f None e = 0
 of_loop f (Some k) e = f k e
 
 -- Whether an edge has at most one count of a counter, where it turns the counter's loop, and at most one exit or reset, where it leaves the loop.
-abbrev pub fits_on : FlowGraph → LoopView → SitesView → (owner : Option ℕ) → (c e : ℕ) → Bool
+abbrev pub fits_on : FlowGraph → LoopView → ScannedSites → (owner : Option ℕ) → (c e : ℕ) → Bool
 fits_on v t s owner c e = nat_le (counts_at s c e) (of_loop (turn_of (graph v) (loops v t)) owner e) && nat_le (clears_at s c e) (of_loop (exit_of (graph v) (loops v t)) owner e)
 
 -- ---- loops
@@ -69,7 +69,7 @@ named k c [] o = o
 named k c (f ∷ fs) o = named k c fs (named_by k c f o)
 
 -- by counter, a loop of which one of the first n edges is a back edge and counts it
-pub record AreNamed (v : FlowGraph) (t : LoopView) (s : SitesView) (n : ℕ) (owners : List (Option ℕ)) : Type 0 where
+pub record AreNamed (v : FlowGraph) (t : LoopView) (s : ScannedSites) (n : ℕ) (owners : List (Option ℕ)) : Type 0 where
   pub size : length owners ≡ 511
   pub some : (c k : ℕ) → owner_by owners c ≡ Some k → (k < length t.headers) × ((e : ℕ) × (e < n) × (turn_of (graph v) (loops v t) k e ≡ 1) × (0 < counts_at s c e))
   pub none : (c k e : ℕ) → owner_by owners c ≡ None → k < length t.headers → e < n → turn_of (graph v) (loops v t) k e ≡ 1 → counts_at s c e ≡ 0
@@ -98,19 +98,19 @@ taken c fits [] u = u
 taken c fits (f ∷ fs) u = taken c fits fs (taken_one c fits f u)
 
 -- the tally of a counter after the first n edges
-abbrev pub tally_of : FlowGraph → LoopView → SitesView → (owner : Option ℕ) → (c n : ℕ) → Tally
+abbrev pub tally_of : FlowGraph → LoopView → ScannedSites → (owner : Option ℕ) → (c n : ℕ) → Tally
 tally_of v t s owner c zero = no_tally
 tally_of v t s owner c (suc n) = taken c (fits_on v t s owner c n) (on_edge s n) (tally_of v t s owner c n)
 
-abbrev pub AreTallies : FlowGraph → LoopView → SitesView → List (Option ℕ) → ℕ → List Tally → Type 0
+abbrev pub AreTallies : FlowGraph → LoopView → ScannedSites → List (Option ℕ) → ℕ → List Tally → Type 0
 AreTallies v t s owners n tallies = (length tallies ≡ 511) × ((c : ℕ) → slice_index_or tallies c no_tally ≡ tally_of v t s (owner_by owners c) c n)
 
 -- one more fragment is taken
-abbrev pub AreTakenOne : FlowGraph → LoopView → SitesView → List (Option ℕ) → (e : ℕ) → ForeignFragment → (old new : List Tally) → Type 0
+abbrev pub AreTakenOne : FlowGraph → LoopView → ScannedSites → List (Option ℕ) → (e : ℕ) → ForeignFragment → (old new : List Tally) → Type 0
 AreTakenOne v t s owners e f old new = (c : ℕ) → slice_index_or new c no_tally ≡ taken_one c (fits_on v t s (owner_by owners c) c e) f (slice_index_or old c no_tally)
 
 -- one more edge is taken
-abbrev pub AreTallied : FlowGraph → LoopView → SitesView → List (Option ℕ) → (e : ℕ) → (old new : List Tally) → Type 0
+abbrev pub AreTallied : FlowGraph → LoopView → ScannedSites → List (Option ℕ) → (e : ℕ) → (old new : List Tally) → Type 0
 AreTallied v t s owners e old new = (length new ≡ 511) × ((c : ℕ) → slice_index_or new c no_tally ≡ taken c (fits_on v t s (owner_by owners c) c e) (on_edge s e) (slice_index_or old c no_tally))
 
 -- tallies of some edges, each of which has at most 64 fragments

@@ -17,7 +17,7 @@ use Rattle.paid_runs.specs.Marked.{extra_site_weights, stored_site_weights}
 use Rattle.foreign_scan.specs.declared.fragment.ForeignFragment.{ForeignFragment}
 use Rattle.foreign_scan.specs.declared.fragment.ForeignFragment.TheVariants.{Switch, Exit, Reset, Count}
 use Rattle.foreign_scan.specs.Scanned.{Found}
-use Rattle.foreign_scan.specs.Shown.{SitesView}
+use Rattle.foreign_scan.specs.Shown.{ScannedSites}
 use Rattle.image_check.specs.Safe.{Owner, sites_of}
 use Rattle.image_check.specs.Known.{IsFoundIn}
 
@@ -42,15 +42,15 @@ stub_jumps CallNext = 1
 stub_jumps End = 1
 
 -- so much an edge takes more with the stubs of the fragments that are found
-abbrev pub IsExtraAt : Costs → FlowGraph → SitesView → (e extra : ℕ) → Type 0
+abbrev pub IsExtraAt : Costs → FlowGraph → ScannedSites → (e extra : ℕ) → Type 0
 IsExtraAt costs v s e extra = (original foreign : Image) (t : LoopView) (owner : Owner) (found : Found) → IsFoundIn original foreign v t found s
     → extra ≡ extra_site_weights (text_of original) v.code (cycles_of costs) (sites_of original foreign v.code (loops v t) owner found) e
 
 -- by edge, what it takes more, and what it costs with that
-abbrev pub AreExtraWeights : Costs → FlowGraph → SitesView → List ℕ → Type 0
+abbrev pub AreExtraWeights : Costs → FlowGraph → ScannedSites → List ℕ → Type 0
 AreExtraWeights costs v s w = (original foreign : Image) (t : LoopView) (owner : Owner) (found : Found) → IsFoundIn original foreign v t found s
     → by_edge w ≡ extra_site_weights (text_of original) v.code (cycles_of costs) (sites_of original foreign v.code (loops v t) owner found)
 
-abbrev pub AreStoredWeights : Costs → FlowGraph → SitesView → List ℕ → Type 0
+abbrev pub AreStoredWeights : Costs → FlowGraph → ScannedSites → List ℕ → Type 0
 AreStoredWeights costs v s w = (original foreign : Image) (t : LoopView) (owner : Owner) (found : Found) → IsFoundIn original foreign v t found s
     → by_edge w ≡ stored_site_weights (text_of original) v.code (cycles_of costs) (sites_of original foreign v.code (loops v t) owner found)

@@ -14,9 +14,9 @@ use Rattle.loop_file.specs.declared.notes.LoopNote.{LoopNote}
 use Rattle.loop_file.specs.Notes.{relaxed_note}
 use Rattle.loop_file.specs.Kept.{note_at, in_extent}
 use Rattle.keep_monitor.proofs.Laws.{AreAlike, relaxed_at, relaxed_free, NeedNotTurn, AreLower, IsTight, within_bounds, no_bound, tight_breaks}
-use Rattle.input_survey.specs.Most.{ReachesAt, IsReached}
+use Rattle.input_survey.specs.Most.{ReachesAt, IsCountReached}
 use Rattle.input_survey.specs.Surveyed.{IsSurvey}
-use Rattle.input_survey.specs.Bounds.{bounded_note, bounded_notes, kept_by, BreaksNoBound, IsEnough, IsNeeded}
+use Rattle.input_survey.specs.Bounds.{bounded_note, bounded_notes, kept_by, BreaksNoBound, IsEnough, IsEachNeeded}
 
 -- ---- notes with other bounds
 
@@ -51,7 +51,7 @@ no_bound_is (BrokeReturn at to) none = tt
 no_bound_is (BrokeDepth at) none = tt
 
 reached : (power : PowerModel) (image : Image) (notes : List LoopNote) (inputs : List (List ℕ)) (input : List ℕ) (j k count : ℕ) → Contains inputs input → j < power.steps →
-    ReachesAt power image notes input j k count → IsReached power image notes inputs k count
+    ReachesAt power image notes input j k count → IsCountReached power image notes inputs k count
 reached power image notes inputs input j k count listed before r = record { input = input; listed = listed; after = j; before = before; reaches = r }
 
 pub most_is_enough : (power : PowerModel) (original scaled : Image) (notes : List LoopNote) (inputs : List (List ℕ)) (survey : Survey) → IsSurvey power original scaled notes inputs survey →
@@ -80,7 +80,7 @@ most_is_enough power original scaled notes inputs survey is low input listed =
 -- ---- and none of it can be left out
 
 pub most_is_needed : (power : PowerModel) (original scaled : Image) (notes : List LoopNote) (inputs : List (List ℕ)) (survey : Survey) → IsSurvey power original scaled notes inputs survey →
-    IsNeeded power original notes inputs survey.most
+    IsEachNeeded power original notes inputs survey.most
 most_is_needed power original scaled notes inputs survey is k kl positive = by_reached (is.most k kl).reached
   where
     most : ℕ
@@ -95,7 +95,7 @@ most_is_needed power original scaled notes inputs survey is k kl positive = by_r
     other : (i : ℕ) → i ≢ k → slice_index (set survey.most k (slice_index survey.most k - 1)) i ≡ slice_index survey.most i
     other i ne = get_or-set_other survey.most k i (slice_index survey.most k - 1) 0 ne
 
-    by_reached : (slice_index survey.most k ≡ 0) ⊎ IsReached power original notes inputs k (slice_index survey.most k) →
+    by_reached : (slice_index survey.most k ≡ 0) ⊎ IsCountReached power original notes inputs k (slice_index survey.most k) →
         (input : List ℕ) × Contains inputs input × (kept_by power original (bounded_notes notes (set survey.most k (slice_index survey.most k - 1))) input ≡ BrokeBound (k + 1) (slice_index survey.most k))
     by_reached (inl none) = let bad : ⊥ = omega arith in absurd bad
     by_reached (inr r) =

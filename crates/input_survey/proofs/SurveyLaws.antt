@@ -8,7 +8,7 @@ use Rattle.power_model.specs.Numbers.{PowerModel}
 use Rattle.loop_file.specs.declared.notes.LoopNote.{LoopNote}
 use Rattle.loop_file.specs.Notes.{AreLoopNotes, relaxed_note}
 use Rattle.keep_monitor.specs.Watch.{watched_at}
-use Rattle.keep_monitor.specs.Counted.{Counted, counted_at}
+use Rattle.keep_monitor.specs.Counted.{Counted, counted_run}
 use Rattle.keep_monitor.proofs.Laws.{IsCounted, counted_is}
 use Rattle.input_survey.specs.Most.{IsMost}
 use Rattle.input_survey.proofs.MostLaws.{most_more}
@@ -23,9 +23,9 @@ pub record IsCountedOn (power : PowerModel) (image : Image) (notes : List LoopNo
   pub most : AreMosts power image notes inputs c.most
 
 pub counted_on : (power : PowerModel) (image : Image) (notes loops : List LoopNote) (inputs : List (List ℕ)) (input most : List ℕ) (c : Counted) → AreLoopNotes notes → loops ≡ notes → length most ≡ length notes →
-    AreMosts power image notes inputs most → c ≡ counted_at image (length power.levels) input loops most power.steps → IsCountedOn power image notes (inputs ++ input ∷ []) c
+    AreMosts power image notes inputs most → c ≡ counted_run image (length power.levels) input loops most power.steps → IsCountedOn power image notes (inputs ++ input ∷ []) c
 counted_on power image notes loops inputs input most c fit same size mosts is =
-    let there : c ≡ counted_at image (length power.levels) input notes most power.steps = is ∙ ap (λ ns. counted_at image (length power.levels) input ns most power.steps) same in
+    let there : c ≡ counted_run image (length power.levels) input notes most power.steps = is ∙ ap (λ ns. counted_run image (length power.levels) input ns most power.steps) same in
     subst (IsCountedOn power image notes (inputs ++ input ∷ [])) (sym there) (record {
       notes_are = counting.notes_are;
       size = counting.size;
@@ -34,7 +34,7 @@ counted_on power image notes loops inputs input most c fit same size mosts is =
     })
   where
     counting : IsCounted (setting_of image (length power.levels) input) (start_of image (length power.levels)) notes most power.steps
-        (watched_at image (length power.levels) input (map relaxed_note notes) power.steps) (watched_at image (length power.levels) input notes power.steps) (counted_at image (length power.levels) input notes most power.steps)
+        (watched_at image (length power.levels) input (map relaxed_note notes) power.steps) (watched_at image (length power.levels) input notes power.steps) (counted_run image (length power.levels) input notes most power.steps)
     counting = counted_is (setting_of image (length power.levels) input) (start_of image (length power.levels)) notes most fit size power.steps
 
 -- ---- lists with one element more

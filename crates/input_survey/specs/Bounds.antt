@@ -36,8 +36,8 @@ IsEnough power image notes inputs most =
     ((k : ℕ) → k < length notes → slice_index most k ≤ 1000000000) → (input : List ℕ) → Contains inputs input → BreaksNoBound (kept_by power image (bounded_notes notes most) input)
 
 -- with any positive most less by one some run breaks that bound
-abbrev pub IsNeeded : PowerModel → Image → List LoopNote → List (List ℕ) → List ℕ → Type 0
-IsNeeded power image notes inputs most =
+abbrev pub IsEachNeeded : PowerModel → Image → List LoopNote → List (List ℕ) → List ℕ → Type 0
+IsEachNeeded power image notes inputs most =
     (k : ℕ) → k < length notes → 0 < slice_index most k →
     (input : List ℕ) × Contains inputs input × (kept_by power image (bounded_notes notes (slice_set most k (slice_index most k - 1))) input ≡ BrokeBound (k + 1) (slice_index most k))
 
@@ -49,4 +49,4 @@ abbrev pub MostIsEnough : (image machine loops : List ℕ) → List (List ℕ) �
 MostIsEnough image machine loops inputs most = OfFiles (λ power original notes. IsEnough power original notes inputs most) image machine loops
 
 abbrev pub MostIsNeeded : (image machine loops : List ℕ) → List (List ℕ) → List ℕ → Type 0
-MostIsNeeded image machine loops inputs most = OfFiles (λ power original notes. IsNeeded power original notes inputs most) image machine loops
+MostIsNeeded image machine loops inputs most = OfFiles (λ power original notes. IsEachNeeded power original notes inputs most) image machine loops

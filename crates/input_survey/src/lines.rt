@@ -2,7 +2,7 @@
 
 ghost use Rattle.std.specs.Prelude.{◌≡◌, ◌<◌, ◌^◌, ◌↔◌, length, None, IsTrue, IfOk, OnOk};
 ghost use Rattle.scale_base.specs.Run.{starting_level};
-ghost use Rattle.keep_monitor.specs.Counted.{counted_at};
+ghost use Rattle.keep_monitor.specs.Counted.{counted_run};
 ghost use Rattle.power_model.specs.Price.{held_energy};
 ghost use Rattle.power_model.specs.Survey.{line_view};
 ghost use Rattle.input_survey.specs.Surveyed.{IsLine};
@@ -52,7 +52,7 @@ pub fn line_of(
     requires is_level { images.now.start < length images.now.power.now.levels }
     ensures line { IfOk result (λ line. IsLine images.now.power.now images.now.original.now images.now.scaled.now counter.old.notes input.now (line_view line)) }
     ensures held { IfOk result (λ line. line.held < 2 ^ 100) }
-    ensures counted { let power = images.now.power.now in OnOk result (counter.new ≡ counted_at images.now.original.now (length power.levels) input.now counter.old.notes counter.old.most power.steps) }
+    ensures counted { let power = images.now.power.now in OnOk result (counter.new ≡ counted_run images.now.original.now (length power.levels) input.now counter.old.notes counter.old.most power.steps) }
 {
     let power = images.power;
     let fastest = power.levels.count() - 1;

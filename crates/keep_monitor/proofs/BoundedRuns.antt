@@ -17,7 +17,7 @@ use Rattle.loop_file.specs.declared.notes.LoopNote.{LoopNote}
 use Rattle.loop_file.specs.Kept.{note_at}
 use Rattle.keep_monitor.specs.Steps.{broken_by}
 use Rattle.keep_monitor.specs.Watch.{Watched, watch, watch_end, watched_first, watched_from, next_counts, loop_broken}
-use Rattle.keep_monitor.specs.Reached.{Reaches}
+use Rattle.keep_monitor.specs.Reached.{ReachesCount}
 use Rattle.keep_monitor.proofs.StepLaws.{watch_stays}
 use Rattle.keep_monitor.proofs.AlikeLaws.{AreAlike, going_with, same_count}
 use Rattle.keep_monitor.proofs.OutcomeLaws.{Outcome, BreaksReturns, BreaksBound, KeepsAll, outcome, none_broken, broken_is, broken_not}
@@ -83,7 +83,7 @@ AgreeOr one other w v = Agree one other w v ⊎ BreaksOther v.kept
 -- a count after a step of a run that agrees is reached
 reaches_here : (env : Setting) (s : State) (one other : List LoopNote) (n k : ℕ) (x : Stepped) (a : Agree one other (watched_from env s one n) (watched_from env s other n)) (after : List ℕ) →
     (run env s n).standing ≡ GoesOn → (step env (run env s n).state).end ≡ Went x → returns_after a.returns x ≡ Some after → length after ≤ most_returns →
-    Reaches env s one n k (next_counts (going_with one a.returns a.counts) x k)
+    ReachesCount env s one n k (next_counts (going_with one a.returns a.counts) x k)
 reaches_here env s one other n k x a after going next moved shallow = record {
   next = x;
   returns = after;
@@ -108,7 +108,7 @@ pub record AreLower (one other : List LoopNote) : Type 0 where
 
 within_on : (env : Setting) (s : State) (one other : List LoopNote) → AreLower one other → (n : ℕ) (x : Stepped) (a : Agree one other (watched_from env s one n) (watched_from env s other n)) →
     (run env s n).standing ≡ GoesOn → (step env (run env s n).state).end ≡ Went x →
-    ((k count : ℕ) → k < length other → Reaches env s one n k count → count ≤ (note_at other k).bound) →
+    ((k count : ℕ) → k < length other → ReachesCount env s one n k count → count ≤ (note_at other k).bound) →
     AgreeOr one other (watch (watched_from env s one n) x) (watch (watched_from env s other n) x)
 within_on env s one other lower n x a going next low = by_outcome (outcome one a.returns a.counts x)
   where
@@ -142,7 +142,7 @@ within_on env s one other lower n x a going next low = by_outcome (outcome one a
 
 within_more : (env : Setting) (s : State) (one other : List LoopNote) → AreLower one other → (n : ℕ) →
     AgreeOr one other (watched_from env s one n) (watched_from env s other n) →
-    ((k count : ℕ) → k < length other → Reaches env s one n k count → count ≤ (note_at other k).bound) →
+    ((k count : ℕ) → k < length other → ReachesCount env s one n k count → count ≤ (note_at other k).bound) →
     (standing : Standing) (end : StepEnd) → (run env s n).standing ≡ standing → (step env (run env s n).state).end ≡ end →
     AgreeOr one other (watch_end (watched_from env s one n) standing end) (watch_end (watched_from env s other n) standing end)
 within_more env s one other lower n (inl a) low GoesOn (Went x) at next = within_on env s one other lower n x a at next low
@@ -153,7 +153,7 @@ within_more env s one other lower n h low (HasExited status) end at next = h
 within_more env s one other lower n h low (HasTrapped trap) end at next = h
 
 pub within_bounds : (env : Setting) (s : State) (one other : List LoopNote) → AreLower one other → (n : ℕ) →
-    ((j k count : ℕ) → j < n → k < length other → Reaches env s one j k count → count ≤ (note_at other k).bound) →
+    ((j k count : ℕ) → j < n → k < length other → ReachesCount env s one j k count → count ≤ (note_at other k).bound) →
     AgreeOr one other (watched_from env s one n) (watched_from env s other n)
 within_bounds env s one other lower zero low =
     inl (subst (λ w. Agree one other w (watched_from env s other 0)) (sym (watched_none env s one)) (subst (λ v. Agree one other (watched_first one) v) (sym (watched_none env s other)) (agree_first one other lower.alike)))
@@ -176,8 +176,8 @@ pub record IsTight (env : Setting) (s : State) (one other : List LoopNote) (n l 
   pub free : NeedNotTurn other
   pub loop : l < length other
   pub bound : (note_at other l).bound + 1 ≡ most
-  pub others : (j k count : ℕ) → j < n → k < length other → k ≢ l → Reaches env s one j k count → count ≤ (note_at other k).bound
-  pub this : (j count : ℕ) → j < n → Reaches env s one j l count → count ≤ most
+  pub others : (j k count : ℕ) → j < n → k < length other → k ≢ l → ReachesCount env s one j k count → count ≤ (note_at other k).bound
+  pub this : (j count : ℕ) → j < n → ReachesCount env s one j l count → count ≤ most
 
 abbrev AgreeOrBroke : (one other : List LoopNote) (l most : ℕ) (w v : Watched) → Type 0
 AgreeOrBroke one other l most w v = Agree one other w v ⊎ (v.kept ≡ BrokeBound (l + 1) most)
@@ -273,7 +273,7 @@ tight_up_to env s one other n l most t (suc j) jl kept =
     (subst (λ v. AgreeOrBroke one other l most (watch_end (watched_from env s one j) (run env s j).standing (step env (run env s j).state).end) v) (sym (watched_more env s other j)) h)
 
 -- the run breaks the bound at the step that reaches the most
-tight_here : (env : Setting) (s : State) (one other : List LoopNote) (n l most : ℕ) → IsTight env s one other n l most → (j : ℕ) → j < n → Reaches env s one j l most →
+tight_here : (env : Setting) (s : State) (one other : List LoopNote) (n l most : ℕ) → IsTight env s one other n l most → (j : ℕ) → j < n → ReachesCount env s one j l most →
     AgreeOrBroke one other l most (watched_from env s one j) (watched_from env s other j) → (watched_from env s other (suc j)).kept ≡ BrokeBound (l + 1) most
 tight_here env s one other n l most t j jl r (inl a) =
     let moved = sym (ap (λ (w : Watched). returns_after w.returns r.next) a.one_is) ∙ r.returns_are in
@@ -285,7 +285,7 @@ tight_here env s one other n l most t j jl r (inl a) =
 tight_here env s one other n l most t j jl r (inr b) =
     ap (λ (u : Watched). u.kept) (watched_more env s other j) ∙ broke_more (watched_from env s other j) (l + 1) most b (run env s j).standing (step env (run env s j).state).end
 
-pub tight_breaks : (env : Setting) (s : State) (one other : List LoopNote) (n l most : ℕ) → IsTight env s one other n l most → (j : ℕ) → j < n → Reaches env s one j l most →
+pub tight_breaks : (env : Setting) (s : State) (one other : List LoopNote) (n l most : ℕ) → IsTight env s one other n l most → (j : ℕ) → j < n → ReachesCount env s one j l most →
     (watched_from env s other n).kept ≡ BrokeBound (l + 1) most
 tight_breaks env s one other n l most t j jl r =
     let here = tight_here env s one other n l most t j jl r (tight_up_to env s one other n l most t j jl r.kept) in

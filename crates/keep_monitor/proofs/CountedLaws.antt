@@ -23,8 +23,8 @@ use Rattle.loop_file.specs.Notes.{AreLoopNotes, IsLoopNote, relaxed_note}
 use Rattle.loop_file.specs.Kept.{note_at}
 use Rattle.keep_monitor.specs.Steps.{broken_by}
 use Rattle.keep_monitor.specs.Watch.{Watched, watch, watch_end, watched_first, watched_from, next_counts, loop_broken}
-use Rattle.keep_monitor.specs.Counted.{Counted, counted_first, raised_at, raised, judged, count_after_kept, counted, count_end, counted_from}
-use Rattle.keep_monitor.specs.Reached.{Reaches}
+use Rattle.keep_monitor.specs.Counted.{Counted, counted_first, raised_at, raised_most, judged, count_after_kept, counted, count_end, counted_from}
+use Rattle.keep_monitor.specs.Reached.{ReachesCount}
 use Rattle.keep_monitor.proofs.CountLaws.{stepped_else}
 use Rattle.keep_monitor.proofs.StepLaws.{watch_stays}
 use Rattle.keep_monitor.proofs.AlikeLaws.{AreAlike, alike_back, relaxed_at, relaxed_alike, going_with, same_counts, same_count}
@@ -142,14 +142,14 @@ raised_well w most x k low = ⊎_elim
     })
     (cases_eq x.next (note_at w.notes k).header)
 
-pub raised_none : (w : Watched) (most : List ℕ) (x : Stepped) (o : Option (List ℕ)) (b : Kept) → broken_by x o ≡ Some b → raised w most x o ≡ most
+pub raised_none : (w : Watched) (most : List ℕ) (x : Stepped) (o : Option (List ℕ)) (b : Kept) → broken_by x o ≡ Some b → raised_most w most x o ≡ most
 raised_none w most x None b e = refl
 raised_none w most x (Some rs) b e = go (nat_lt most_returns (length rs)) refl
   where
-    go : (t : Bool) → nat_lt most_returns (length rs) ≡ t → raised w most x (Some rs) ≡ most
+    go : (t : Bool) → nat_lt most_returns (length rs) ≡ t → raised_most w most x (Some rs) ≡ most
     go true is = cond-true _ _ _ is
     go false is = let q : broken_by x (Some rs) ≡ None = cond-false _ _ _ is in let bad : ⊥ = cc in absurd bad
 
 pub raised_some : (w : Watched) (most : List ℕ) (x : Stepped) (o : Option (List ℕ)) (rs : List ℕ) → o ≡ Some rs → length rs ≤ most_returns →
-    raised w most x o ≡ map (raised_at w most x) (range_with_len 0 (length w.notes))
-raised_some w most x o rs e low = ap (raised w most x) e ∙ cond-false _ _ _ (le-ltb _ _ low)
+    raised_most w most x o ≡ map (raised_at w most x) (range_with_len 0 (length w.notes))
+raised_some w most x o rs e low = ap (raised_most w most x) e ∙ cond-false _ _ _ (le-ltb _ _ low)

@@ -19,8 +19,8 @@ use Rattle.loop_file.specs.declared.notes.LoopNote.{LoopNote}
 use Rattle.loop_file.specs.Notes.{AreLoopNotes, relaxed_note}
 use Rattle.keep_monitor.specs.Steps.{broken_by}
 use Rattle.keep_monitor.specs.Watch.{Watched, watch, watch_end, watched_first, watched_from, next_counts}
-use Rattle.keep_monitor.specs.Counted.{Counted, counted_first, raised_at, raised, judged, count_after_kept, counted, count_end, counted_from}
-use Rattle.keep_monitor.specs.Reached.{Reaches}
+use Rattle.keep_monitor.specs.Counted.{Counted, counted_first, raised_at, raised_most, judged, count_after_kept, counted, count_end, counted_from}
+use Rattle.keep_monitor.specs.Reached.{ReachesCount}
 use Rattle.keep_monitor.proofs.StepLaws.{watch_stays}
 use Rattle.keep_monitor.proofs.AlikeLaws.{AreAlike, relaxed_alike, going_with}
 use Rattle.keep_monitor.proofs.OutcomeLaws.{Outcome, BreaksReturns, BreaksBound, KeepsAll, outcome, none_broken, broken_not}
@@ -35,7 +35,7 @@ is_kept_or (BrokeReturn at to) = inr (λ e. let bad : ⊥ = cc in bad)
 is_kept_or (BrokeDepth at) = inr (λ e. let bad : ⊥ = cc in bad)
 
 pub counted_on : (c : Counted) (x : Stepped) → c.relaxed.kept ≡ kinds.Kept → counted c x ≡
-    record { notes = c.notes; kept = judged c.notes c.kept c.relaxed x; relaxed = watch c.relaxed x; most = raised c.relaxed c.most x (returns_after c.relaxed.returns x) }
+    record { notes = c.notes; kept = judged c.notes c.kept c.relaxed x; relaxed = watch c.relaxed x; most = raised_most c.relaxed c.most x (returns_after c.relaxed.returns x) }
 unfolding counted
 counted_on c x e = ap (λ k. count_after_kept k c x) e
 
@@ -69,12 +69,12 @@ pub record IsCounted (env : Setting) (s : State) (notes : List LoopNote) (most :
   pub size : length c.most ≡ length notes
   pub grown : (k : ℕ) → k < length notes → slice_index most k ≤ slice_index c.most k
   pub low : (k : ℕ) → k < length notes → slice_index w.counts k ≤ slice_index c.most k
-  pub bound : (j k count : ℕ) → j < n → k < length notes → Reaches env s (map relaxed_note notes) j k count → count ≤ slice_index c.most k
-  pub reached : (k : ℕ) → k < length notes → (slice_index c.most k ≡ slice_index most k) ⊎ ((j : ℕ) × (j < n) × Reaches env s (map relaxed_note notes) j k (slice_index c.most k))
+  pub bound : (j k count : ℕ) → j < n → k < length notes → ReachesCount env s (map relaxed_note notes) j k count → count ≤ slice_index c.most k
+  pub reached : (k : ℕ) → k < length notes → (slice_index c.most k ≡ slice_index most k) ⊎ ((j : ℕ) × (j < n) × ReachesCount env s (map relaxed_note notes) j k (slice_index c.most k))
 
 -- nothing changes, and no count is reached
 still : (env : Setting) (s : State) (notes : List LoopNote) (most : List ℕ) (n : ℕ) (w v : Watched) (c : Counted) → IsCounted env s notes most n w v c →
-    ((k count : ℕ) → Reaches env s (map relaxed_note notes) n k count → ⊥) → IsCounted env s notes most (suc n) w v c
+    ((k count : ℕ) → ReachesCount env s (map relaxed_note notes) n k count → ⊥) → IsCounted env s notes most (suc n) w v c
 still env s notes most n w v c p none = record {
   notes_are = p.notes_are;
   relaxed_is = p.relaxed_is;
@@ -86,7 +86,7 @@ still env s notes most n w v c p none = record {
   low = p.low;
   bound = λ j k count jl kl r. ⊎_elim
       (λ (l : j < n). p.bound j k count l kl r)
-      (λ (ge : n ≤ j). let same : j ≡ n = omega arith in absurd (none k count (subst (λ i. Reaches env s (map relaxed_note notes) i k count) same r)))
+      (λ (ge : n ≤ j). let same : j ≡ n = omega arith in absurd (none k count (subst (λ i. ReachesCount env s (map relaxed_note notes) i k count) same r)))
       (cases_lt j n);
   reached = λ k kl. ⊎_elim (λ e. inl e) (λ r. inr (r.0, (let l : r.0 < suc n = (let h = r.1 in omega arith) in l), r.2)) (p.reached k kl);
 }
@@ -127,8 +127,8 @@ record IsMore (env : Setting) (s : State) (notes : List LoopNote) (n : ℕ) (aft
   size : length new ≡ length notes
   grown : (k : ℕ) → k < length notes → slice_index old k ≤ slice_index new k
   low : (k : ℕ) → k < length notes → slice_index after.counts k ≤ slice_index new k
-  bound : (k count : ℕ) → k < length notes → Reaches env s (map relaxed_note notes) n k count → count ≤ slice_index new k
-  one : (k : ℕ) → k < length notes → (slice_index new k ≡ slice_index old k) ⊎ Reaches env s (map relaxed_note notes) n k (slice_index new k)
+  bound : (k count : ℕ) → k < length notes → ReachesCount env s (map relaxed_note notes) n k count → count ≤ slice_index new k
+  one : (k : ℕ) → k < length notes → (slice_index new k ≡ slice_index old k) ⊎ ReachesCount env s (map relaxed_note notes) n k (slice_index new k)
 
 same_next : (x y : Stepped) → Went x ≡ Went y → x ≡ y
 same_next x y e = let r : x ≡ y = cc in r
@@ -137,13 +137,13 @@ same_list : (a b : List ℕ) → Some a ≡ Some b → a ≡ b
 same_list a b e = let r : a ≡ b = cc in r
 
 -- a count that is reached is the one after this step
-reached_is : (env : Setting) (s : State) (loops : List LoopNote) (n k count : ℕ) (x : Stepped) → (step env (run env s n).state).end ≡ Went x → Reaches env s loops n k count →
+reached_is : (env : Setting) (s : State) (loops : List LoopNote) (n k count : ℕ) (x : Stepped) → (step env (run env s n).state).end ≡ Went x → ReachesCount env s loops n k count →
     count ≡ next_counts (watched_from env s loops n) x k
 reached_is env s loops n k count x next r =
     r.count_is ∙ ap (λ y. next_counts (watched_from env s loops n) y k) (same_next r.next x (sym r.next_is ∙ next))
 
 -- and the step keeps the rules on calls and returns
-reached_unbroken : (env : Setting) (s : State) (loops : List LoopNote) (n k count : ℕ) (x : Stepped) → (step env (run env s n).state).end ≡ Went x → Reaches env s loops n k count →
+reached_unbroken : (env : Setting) (s : State) (loops : List LoopNote) (n k count : ℕ) (x : Stepped) → (step env (run env s n).state).end ≡ Went x → ReachesCount env s loops n k count →
     broken_by x (returns_after (watched_from env s loops n).returns x) ≡ None
 reached_unbroken env s loops n k count x next r =
     let same : r.next ≡ x = same_next r.next x (sym r.next_is ∙ next) in
@@ -157,7 +157,7 @@ more_by : (env : Setting) (s : State) (notes : List LoopNote) (n : ℕ) (x : Ste
     ((k : ℕ) → k < length notes → slice_index w.counts k ≤ slice_index old k) →
     returns_after w.returns x ≡ Some rs → length rs ≤ most_returns →
     (after : Watched) → ((k : ℕ) → k < length notes → (slice_index after.counts k ≡ slice_index w.counts k) ⊎ (slice_index after.counts k ≡ next_counts w x k)) →
-    IsMore env s notes n after old (raised w old x (returns_after w.returns x))
+    IsMore env s notes n after old (raised_most w old x (returns_after w.returns x))
 more_by env s notes n x old rs going next kept loops size low moved shallow after counts = record {
   size = ap length is ∙ (length-map-range_with_len (raised_at w old x) 0 (length w.notes) ∙ long);
   grown = λ k kl. subst (λ m. slice_index old k ≤ m) (sym (each k kl)) (well k kl).grown;
@@ -178,11 +178,11 @@ more_by env s notes n x old rs going next kept loops size low moved shallow afte
     long : length (watched_from env s (map relaxed_note notes) n).notes ≡ length notes
     long = ap length loops ∙ length-map notes relaxed_note
 
-    is : raised (watched_from env s (map relaxed_note notes) n) old x (returns_after (watched_from env s (map relaxed_note notes) n).returns x)
+    is : raised_most (watched_from env s (map relaxed_note notes) n) old x (returns_after (watched_from env s (map relaxed_note notes) n).returns x)
         ≡ map (raised_at (watched_from env s (map relaxed_note notes) n) old x) (range_with_len 0 (length (watched_from env s (map relaxed_note notes) n).notes))
     is = raised_some (watched_from env s (map relaxed_note notes) n) old x _ rs moved shallow
 
-    each : (k : ℕ) → k < length notes → slice_index (raised (watched_from env s (map relaxed_note notes) n) old x (returns_after (watched_from env s (map relaxed_note notes) n).returns x)) k
+    each : (k : ℕ) → k < length notes → slice_index (raised_most (watched_from env s (map relaxed_note notes) n) old x (returns_after (watched_from env s (map relaxed_note notes) n).returns x)) k
         ≡ raised_at (watched_from env s (map relaxed_note notes) n) old x k
     each k kl = ap (λ xs. slice_index xs k) is ∙ get_or-map-range_with_len (raised_at (watched_from env s (map relaxed_note notes) n) old x) 0 _ k k 0 (subst (λ m. k < m) (sym long) kl) (omega arith)
 
@@ -198,7 +198,7 @@ more : (env : Setting) (s : State) (notes : List LoopNote) (n : ℕ) (x : Steppe
     let w = watched_from env s (map relaxed_note notes) n in
     w.kept ≡ kinds.Kept → w.notes ≡ map relaxed_note notes → length old ≡ length notes →
     ((k : ℕ) → k < length notes → slice_index w.counts k ≤ slice_index old k) →
-    IsMore env s notes n (watch w x) old (raised w old x (returns_after w.returns x)) × ((watch w x).notes ≡ map relaxed_note notes)
+    IsMore env s notes n (watch w x) old (raised_most w old x (returns_after w.returns x)) × ((watch w x).notes ≡ map relaxed_note notes)
 more env s notes n x old going next kept loops size low = by_outcome (outcome (map relaxed_note notes) w.returns w.counts x)
   where
     w : Watched
@@ -212,11 +212,11 @@ more env s notes n x old going next kept loops size low = by_outcome (outcome (m
     counts_of k = ap (λ u. next_counts u x k) (sym same)
 
     by_outcome : Outcome (map relaxed_note notes) (watched_from env s (map relaxed_note notes) n).returns (watched_from env s (map relaxed_note notes) n).counts x →
-        IsMore env s notes n (watch (watched_from env s (map relaxed_note notes) n) x) old (raised (watched_from env s (map relaxed_note notes) n) old x (returns_after (watched_from env s (map relaxed_note notes) n).returns x))
+        IsMore env s notes n (watch (watched_from env s (map relaxed_note notes) n) x) old (raised_most (watched_from env s (map relaxed_note notes) n) old x (returns_after (watched_from env s (map relaxed_note notes) n).returns x))
         × ((watch (watched_from env s (map relaxed_note notes) n) x).notes ≡ map relaxed_note notes)
     by_outcome (inl q) =
         let after = ap (λ u. watch u x) same ∙ q.is in
-        let none : raised w old x (returns_after w.returns x) ≡ old = raised_none w old x (returns_after w.returns x) q.broken q.why in (
+        let none : raised_most w old x (returns_after w.returns x) ≡ old = raised_none w old x (returns_after w.returns x) q.broken q.why in (
           record {
             size = ap length none ∙ size;
             grown = λ k kl. subst (λ m. slice_index old k ≤ slice_index m k) (sym none) (omega arith);
@@ -249,7 +249,7 @@ count_on env s notes most n v c x fit going next p kept =
     let w = watched_from env s (map relaxed_note notes) n in
     let is = counted_on c x (ap (λ (u : Watched). u.kept) p.relaxed_is ∙ kept) in
     let m = more env s notes n x c.most going next kept p.loops p.size p.low in
-    let most_is : (counted c x).most ≡ raised w c.most x (returns_after w.returns x) = ap (λ (d : Counted). d.most) is ∙ ap (λ (u : Watched). raised u c.most x (returns_after u.returns x)) p.relaxed_is in
+    let most_is : (counted c x).most ≡ raised_most w c.most x (returns_after w.returns x) = ap (λ (d : Counted). d.most) is ∙ ap (λ (u : Watched). raised_most u c.most x (returns_after u.returns x)) p.relaxed_is in
     record {
       notes_are = ap (λ (d : Counted). d.notes) is ∙ p.notes_are;
       relaxed_is = ap (λ (d : Counted). d.relaxed) is ∙ ap (λ u. watch u x) p.relaxed_is;
@@ -263,18 +263,18 @@ count_on env s notes most n v c x fit going next p kept =
           (λ (l : j < n). let a = p.bound j k count l kl r in let b = m.0.grown k kl in let e = ap (λ xs. slice_index xs k) most_is in omega (arith, a, b, e))
           (λ (ge : n ≤ j).
           let same : j ≡ n = omega arith in
-          let a = m.0.bound k count kl (subst (λ i. Reaches env s (map relaxed_note notes) i k count) same r) in let e = ap (λ xs. slice_index xs k) most_is in omega (arith, a, e))
+          let a = m.0.bound k count kl (subst (λ i. ReachesCount env s (map relaxed_note notes) i k count) same r) in let e = ap (λ xs. slice_index xs k) most_is in omega (arith, a, e))
           (cases_lt j n);
       reached = λ k kl. reached_more k kl (ap (λ xs. slice_index xs k) most_is) (m.0.one k kl);
     }
   where
-    reached_more : (k : ℕ) → k < length notes → {new : ℕ} → slice_index (counted c x).most k ≡ new → (new ≡ slice_index c.most k) ⊎ Reaches env s (map relaxed_note notes) n k new →
-        (slice_index (counted c x).most k ≡ slice_index most k) ⊎ ((j : ℕ) × (j < suc n) × Reaches env s (map relaxed_note notes) j k (slice_index (counted c x).most k))
+    reached_more : (k : ℕ) → k < length notes → {new : ℕ} → slice_index (counted c x).most k ≡ new → (new ≡ slice_index c.most k) ⊎ ReachesCount env s (map relaxed_note notes) n k new →
+        (slice_index (counted c x).most k ≡ slice_index most k) ⊎ ((j : ℕ) × (j < suc n) × ReachesCount env s (map relaxed_note notes) j k (slice_index (counted c x).most k))
     reached_more k kl e (inl old) = ⊎_elim
         (λ first. inl (e ∙ (old ∙ first)))
-        (λ r. inr (r.0, (let l : r.0 < suc n = (let h = r.1 in omega arith) in l), subst (λ m. Reaches env s (map relaxed_note notes) r.0 k m) (sym (e ∙ old)) r.2))
+        (λ r. inr (r.0, (let l : r.0 < suc n = (let h = r.1 in omega arith) in l), subst (λ m. ReachesCount env s (map relaxed_note notes) r.0 k m) (sym (e ∙ old)) r.2))
         (p.reached k kl)
-    reached_more k kl e (inr r) = inr (n, (let l : n < suc n = omega arith in l), subst (λ m. Reaches env s (map relaxed_note notes) n k m) (sym e) r)
+    reached_more k kl e (inr r) = inr (n, (let l : n < suc n = omega arith in l), subst (λ m. ReachesCount env s (map relaxed_note notes) n k m) (sym e) r)
 
 count_off : (env : Setting) (s : State) (notes : List LoopNote) (most : List ℕ) (n : ℕ) (v : Watched) (c : Counted) (x : Stepped) →
     IsCounted env s notes most n (watched_from env s (map relaxed_note notes) n) v c → ((watched_from env s (map relaxed_note notes) n).kept ≡ kinds.Kept → ⊥) →

@@ -20,7 +20,7 @@ use Rattle.keep_monitor.specs.declared.headers.Header.{Header}
 use Rattle.keep_monitor.specs.Headers.{sorted_header, AreLoopsOf}
 use Rattle.keep_monitor.specs.Steps.{broken_by, broken_loop, counts_after_step, count_after_at, AreTurning, AreCounts}
 use Rattle.keep_monitor.specs.Watch.{Watched, watch, watch_returns, next_counts}
-use Rattle.keep_monitor.specs.Counted.{Counted, raised_at, raised, judged, counted}
+use Rattle.keep_monitor.specs.Counted.{Counted, raised_at, raised_most, judged, counted}
 use Rattle.keep_monitor.proofs.CountLaws.{stepped_at, stepped_else}
 use Rattle.keep_monitor.proofs.StepLaws.{returns_kept, step_kept, watch_goes_on}
 use Rattle.keep_monitor.proofs.PlainLaws.{plain_step}
@@ -30,7 +30,7 @@ use Rattle.keep_monitor.proofs.CountedLaws.{relaxed_free, keeps_all, relaxed_kee
 use Rattle.keep_monitor.proofs.CountedRuns.{counted_on, counted_off}
 use Rattle.keep_monitor.proofs.BoundLaws.{none_within}
 
--- the most of each loop, where that of the loops of the target was raised
+-- the most of each loop, where that of the loops of the target was raised_most
 pub raise_listed : (w : Watched) (most new : List ℕ) (x : Stepped) (group : List Header) → AreLoopsOf w.notes x.next group → length new ≡ length w.notes →
     ((j : ℕ) → j < length group → get_or new (sorted_header group j).number 0 ≡ max (get_or most (sorted_header group j).number 0) (count_after_at w.notes group w.counts (source_of x.moved x.pc w.returns) j)) →
     ((k : ℕ) → ((j : ℕ) → j < length group → (sorted_header group j).number ≢ k) → get_or new k 0 ≡ get_or most k 0) →
@@ -50,7 +50,7 @@ raise_listed w most new x group of size each others = fill_by_all (raised_at w m
 
 -- a step that leads to no header raises nothing
 pub raised_plain : (w : Watched) (most : List ℕ) (x : Stepped) → x.moved ≡ Local → length most ≡ length w.notes → length w.returns ≤ most_returns →
-    ((k : ℕ) → k < length w.notes → (note_at w.notes k).header ≡ x.next → ⊥) → raised w most x (returns_after w.returns x) ≡ most
+    ((k : ℕ) → k < length w.notes → (note_at w.notes k).header ≡ x.next → ⊥) → raised_most w most x (returns_after w.returns x) ≡ most
 raised_plain w most x moved size shallow none =
     let same : returns_after w.returns x ≡ Some w.returns = ap (λ (m : Move). returns_by m w.returns x) moved in
     raised_some w most x _ w.returns same shallow ∙
@@ -104,7 +104,7 @@ relaxed_fit notes fit = record {
 pub raise_all : (w : Watched) (most new : List ℕ) (x : Stepped) (group : List Header) → AreLoopsOf w.notes x.next group → length new ≡ length w.notes →
     ((j : ℕ) → j < length group → get_or new (sorted_header group j).number 0 ≡ max (get_or most (sorted_header group j).number 0) (count_after_at w.notes group w.counts (source_of x.moved x.pc w.returns) j)) →
     ((k : ℕ) → ((j : ℕ) → j < length group → (sorted_header group j).number ≢ k) → get_or new k 0 ≡ get_or most k 0) →
-    broken_by x (returns_after w.returns x) ≡ None → new ≡ raised w most x (returns_after w.returns x)
+    broken_by x (returns_after w.returns x) ≡ None → new ≡ raised_most w most x (returns_after w.returns x)
 raise_all w most new x group of size each others none =
     let p = returns_kept w x (returns_after w.returns x) none in
     raise_listed w most new x group of size each others ∙ sym (raised_some w most x (returns_after w.returns x) p.0 p.1 (shallow_of x p.0 (ap (broken_by x) (sym p.1) ∙ none)))
@@ -136,7 +136,7 @@ same_counting notes k k' w w' m m' a b c = cc
 
 pub step_seen : (notes relaxed : List LoopNote) (returns counts most : List ℕ) (kept relaxed_kept : Kept) (x : Stepped) (returns_now counts_now most_now : List ℕ) (judged_now relaxed_now : Kept) →
     relaxed_kept ≡ kinds.Kept → judged_now ≡ judged notes kept (going_with notes returns counts) x →
-    most_now ≡ raised (going_with relaxed returns counts) most x (returns_after returns x) →
+    most_now ≡ raised_most (going_with relaxed returns counts) most x (returns_after returns x) →
     record { notes = relaxed; returns = returns_now; counts = counts_now; kept = relaxed_now } ≡ watch_returns (going_with relaxed returns counts) x (returns_after returns x) →
     counting notes relaxed returns_now counts_now most_now judged_now relaxed_now ≡ counted (counting notes relaxed returns counts most kept relaxed_kept) x
 step_seen notes relaxed returns counts most kept relaxed_kept x returns_now counts_now most_now judged_now relaxed_now going kept_is most_is watched =

@@ -38,9 +38,9 @@ abbrev pub raised_at : Watched → List ℕ → Stepped → ℕ → ℕ
 raised_at w most x k = if x.next == (note_at w.notes k).header then max (slice_index most k) (next_counts w x k) else slice_index most k
 
 -- the same of each loop, by the return addresses after the step
-abbrev pub raised : Watched → List ℕ → Stepped → Option (List ℕ) → List ℕ
-raised w most x None = most
-raised w most x (Some returns) = if nat_lt most_returns (length returns) then most else map (raised_at w most x) (range_with_len 0 (length w.notes))
+abbrev pub raised_most : Watched → List ℕ → Stepped → Option (List ℕ) → List ℕ
+raised_most w most x None = most
+raised_most w most x (Some returns) = if nat_lt most_returns (length returns) then most else map (raised_at w most x) (range_with_len 0 (length w.notes))
 
 -- whether the run is kept by other notes of the same loops, where these are the return addresses and the counts
 abbrev pub judged : List LoopNote → Kept → Watched → Stepped → Kept
@@ -55,7 +55,7 @@ count_after_kept kinds.Kept c x = record {
   notes = c.notes;
   kept = judged c.notes c.kept c.relaxed x;
   relaxed = watch c.relaxed x;
-  most = raised c.relaxed c.most x (returns_after c.relaxed.returns x);
+  most = raised_most c.relaxed c.most x (returns_after c.relaxed.returns x);
 }
 count_after_kept (BrokeBound loop_no count) c x = c
 count_after_kept (BrokeReturn at to) c x = c
@@ -79,11 +79,11 @@ counted_from env s notes most zero = counted_first notes most
 counted_from env s notes most (suc n) = count_end (counted_from env s notes most n) (run env s n).standing (step env (run env s n).state).end
 
 -- the same for the run of an image on a machine of so many levels, with an input
-abbrev pub counted_at : Image → ℕ → List ℕ → List LoopNote → List ℕ → ℕ → Counted
-counted_at image levels input notes most n = counted_from (setting_of image levels input) (start_of image levels) notes most n
+abbrev pub counted_run : Image → ℕ → List ℕ → List LoopNote → List ℕ → ℕ → Counted
+counted_run image levels input notes most n = counted_from (setting_of image levels input) (start_of image levels) notes most n
 
 -- what a counter of loops keeps: it watches by the relaxed notes, and as long as the run is kept by the notes the counts are within their bounds
-pub record IsCounter (notes relaxed : List LoopNote) (headers : List Header) (turning : List ℕ) (depth room : ℕ) (counts most : List ℕ) (kept : Kept) : Type 0 where
+pub record IsCounterOfLoops (notes relaxed : List LoopNote) (headers : List Header) (turning : List ℕ) (depth room : ℕ) (counts most : List ℕ) (kept : Kept) : Type 0 where
   pub relaxed_is : relaxed ≡ map relaxed_note notes
   pub notes_fit : AreLoopNotes notes
   pub monitor : IsMonitor relaxed headers [] depth room counts

@@ -13,7 +13,7 @@ use Rattle.keep_monitor.specs.Watch.{watched_from, next_counts}
 
 -- The step after the first n from a state reaches this count of a loop: the run goes on and has broken nothing of the notes, and the step keeps the rules on
 -- calls and returns. A count above the bound of the loop is reached by the step that breaks it.
-pub record Reaches (env : Setting) (s : State) (notes : List LoopNote) (n k count : ℕ) : Type 0 where
+pub record ReachesCount (env : Setting) (s : State) (notes : List LoopNote) (n k count : ℕ) : Type 0 where
   pub next : Stepped
   pub returns : List ℕ
   pub goes_on : (run env s n).standing ≡ GoesOn

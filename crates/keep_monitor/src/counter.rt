@@ -9,7 +9,7 @@ ghost use Rattle.loop_file.specs.Kept.{note_at};
 ghost use Rattle.keep_monitor.specs.Headers.{AreLoopsOf, AreRisingLoops, sorted_header};
 ghost use Rattle.keep_monitor.specs.Steps.{AreTurning, AreCounts, count_then, count_after_at};
 ghost use Rattle.keep_monitor.specs.Watch.{watch_returns};
-ghost use Rattle.keep_monitor.specs.Counted.{raised, judged, counted_first, counted};
+ghost use Rattle.keep_monitor.specs.Counted.{raised_most, judged, counted_first, counted};
 
 use crate::headers::{Header, headers_at, sorted_headers};
 use crate::monitor::{is_plain, watch_next};
@@ -48,14 +48,14 @@ pub struct LoopCounter {
 
 impl Model for LoopCounter {
     ghost use Rattle.std.specs.Prelude.{length, reverse, vec_len, vec_capacity};
-    ghost use Rattle.keep_monitor.specs.Counted.{Counted, IsCounter};
+    ghost use Rattle.keep_monitor.specs.Counted.{Counted, IsCounterOfLoops};
     ghost use Rattle.keep_monitor.specs.Slots.{AreSlotsOf};
 
     ghost Value = { Counted };
 
     ghost view = { λ c. record { notes = c.notes; kept = c.kept; relaxed = record { notes = c.relaxed; returns = reverse c.returns.items; counts = c.counts.items; kept = c.relaxed_kept }; most = c.most.items } };
 
-    ghost invariant = { λ c. (IsCounter c.notes c.relaxed c.headers.items c.turning.items (vec_len c.returns) (vec_capacity c.returns) c.counts.items c.most.items c.kept) × (AreSlotsOf c.relaxed (length c.relaxed) c.slots.items) };
+    ghost invariant = { λ c. (IsCounterOfLoops c.notes c.relaxed c.headers.items c.turning.items (vec_len c.returns) (vec_capacity c.returns) c.counts.items c.most.items c.kept) × (AreSlotsOf c.relaxed (length c.relaxed) c.slots.items) };
 }
 
 // The most of a loop after a step to its header.
@@ -109,7 +109,7 @@ fn raise(
     requires most { length most.old ≡ length notes.now }
     requires loops { AreLoopsOf notes.now step.now.next group.now }
     requires shallow { length returns.now ≤ most_returns }
-    ensures { most.new ≡ raised (record { notes = notes.now; returns = reverse returns.now; counts = counts.now; kept = kinds.Kept }) most.old step.now (returns_after (reverse returns.now) step.now) }
+    ensures { most.new ≡ raised_most (record { notes = notes.now; returns = reverse returns.now; counts = counts.now; kept = kinds.Kept }) most.old step.now (returns_after (reverse returns.now) step.now) }
 {
     if broken_return(step, returns).is_none() {
         raise_loops(notes, group, counts, source_of(step, returns), most);

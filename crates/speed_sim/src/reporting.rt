@@ -2,7 +2,7 @@
 
 ghost use Rattle.std.specs.Prelude.{◌≡◌, ◌<◌, length, None, Some, IfOk, OnOk};
 ghost use Rattle.scale_base.specs.Run.{starting_level, setting_of, start_of};
-ghost use Rattle.keep_monitor.specs.Counted.{counted_at};
+ghost use Rattle.keep_monitor.specs.Counted.{counted_run};
 ghost use Rattle.power_model.specs.Report.{report_view};
 ghost use Rattle.speed_sim.specs.Seen.{seen_from};
 ghost use Rattle.speed_sim.specs.Simulated.{report_of};
@@ -94,7 +94,7 @@ pub fn counted_report(
     requires is_level { start < length power.now.levels }
     ensures report { IfOk result (λ r. report_view r ≡ report_of power.now view.now input.now (Some counter.old.notes)) }
     ensures kept { IfOk result (λ r. r.kept ≡ Some counter.new.kept) }
-    ensures counted { OnOk result (counter.new ≡ counted_at view.now (length power.now.levels) input.now counter.old.notes counter.old.most power.now.steps) }
+    ensures counted { OnOk result (counter.new ≡ counted_run view.now (length power.now.levels) input.now counter.old.notes counter.old.most power.now.steps) }
 {
     counter.begin();
     let mut report = watched_report(alloc, view, power, start, input, counter)?;

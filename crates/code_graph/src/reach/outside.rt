@@ -3,7 +3,7 @@
 ghost use Rattle.std.specs.Prelude.{◌≡◌, ◌<◌, ◌⊎◌, length};
 ghost use Rattle.scale_base.specs.Image.{PLAIN_END};
 ghost use Rattle.cost_theory.specs.declared.flow.Flow.TheVariants as flow;
-ghost use Rattle.code_graph.specs.Outside.{lower_of, has_mark, IsLowest, IsOutsideOf, ComesBackTo, GoesOnFrom, IsComeTo};
+ghost use Rattle.code_graph.specs.Outside.{lower_address, has_mark, IsLowest, IsOutsideOf, ComesBackTo, GoesOnFrom, IsComeTo};
 ghost use Rattle.code_graph.specs.Steps.{AreLow};
 
 use crate::reach::marks::Mark;
@@ -12,7 +12,7 @@ use cost_theory::Flow;
 
 /// The lower of two addresses.
 fn lower(a: Option<u32>, b: Option<u32>) -> Option<u32>
-    ensures { result ≡ lower_of a b }
+    ensures { result ≡ lower_address a b }
 {
     match (a, b) {
         (Some(a), Some(b)) => Some(a.min(b)),

@@ -1,7 +1,7 @@
 use Rattle.std.proofs.Common.{◌<◌, length, get_or, Some, None, sym, subst, arith}
 use Rattle.std.specs.Prelude.{All}
 use Rattle.std.proofs.lemmas.Option.{slice_get_within, slice_get-get_or}
-use Rattle.foreign_scan.specs.Counts.{AreSized, AreLimits, numbered}
+use Rattle.foreign_scan.specs.Counts.{AreSized, AreCountLimits, numbered_fragments}
 use Rattle.foreign_scan.specs.Rows.{SiteIsForeign, IsFirstUnsound}
 use Rattle.foreign_scan.proofs.GlueLaws.{are_sized, sites_foreign, scan_found, scan_fails}
 use Rattle.foreign_scan.proofs.list_scan.scan_stubs.Goals as goal
@@ -34,7 +34,7 @@ returns-in-Some c =
     let size = c.in_ok-sites.ensures.size in
     let lt : c.in-Some.k < length c.args.lists.now.nodes.now = omega (arith, low, size, c.deref-3.ensures.len) in
     scan_fails c.args.original.now c.args.foreign.now lists c.in_ok-sites.sites.items c.in_ok-limits.limits.items c.in-Some.k (get_or lists.nodes.now c.in-Some.k 0) c.in_ok-sites.ensures c.in_ok-limits.ensures.size
-    (subst (λ xs. AreLimits lists.edges.now lists.backs.now lists.bounds.now (numbered lists.sources.now lists.edges.now xs) c.in_ok-limits.limits.items) c.deref.ensures.value c.in_ok-limits.ensures.limits)
+    (subst (λ xs. AreCountLimits lists.edges.now lists.backs.now lists.bounds.now (numbered_fragments lists.sources.now lists.edges.now xs) c.in_ok-limits.limits.items) c.deref.ensures.value c.in_ok-limits.ensures.limits)
     (subst (λ xs. IsFirstUnsound c.args.foreign.now c.in_ok-limits.limits.items xs (Some c.in-Some.k)) c.deref-3.ensures.value
     (subst (λ ns. IsFirstUnsound c.args.foreign.now ns c.deref-3.result.now (Some c.in-Some.k)) c.deref-2.ensures.value c.in-Some.ensures)) (slice_get-get_or lists.nodes.now c.in-Some.k 0 lt)
 
@@ -42,6 +42,6 @@ pub returns : goal.returns
 returns c =
     let lists = c.args.lists.now in
     scan_found c.args.original.now c.args.foreign.now lists c.in_ok-sites.sites.items c.in_ok-limits.limits.items c.in_ok-show-in-None.field-0 c.in_ok-sites.ensures c.in_ok-limits.ensures.size
-    (subst (λ xs. AreLimits lists.edges.now lists.backs.now lists.bounds.now (numbered lists.sources.now lists.edges.now xs) c.in_ok-limits.limits.items) c.deref.ensures.value c.in_ok-limits.ensures.limits)
+    (subst (λ xs. AreCountLimits lists.edges.now lists.backs.now lists.bounds.now (numbered_fragments lists.sources.now lists.edges.now xs) c.in_ok-limits.limits.items) c.deref.ensures.value c.in_ok-limits.ensures.limits)
     (subst (λ xs. IsFirstUnsound c.args.foreign.now c.in_ok-limits.limits.items xs None) c.deref-3.ensures.value
     (subst (λ ns. IsFirstUnsound c.args.foreign.now ns c.deref-3.result.now None) c.deref-2.ensures.value c.in-None.ensures)) c.in_ok-show-in-None.ensures

@@ -4,7 +4,7 @@ use Rattle.scale_base.specs.declared.stepping.Stepped.{Stepped}
 use Rattle.graph_runs.specs.ReturnAddresses.{returns_after}
 use Rattle.keep_monitor.specs.Headers.{sorted_header}
 use Rattle.keep_monitor.specs.Steps.{broken_by, count_after_at}
-use Rattle.keep_monitor.specs.Counted.{raised}
+use Rattle.keep_monitor.specs.Counted.{raised_most}
 use Rattle.keep_monitor.proofs.AlikeLaws.{going_with}
 use Rattle.keep_monitor.proofs.CounterLaws.{raise_all, none_is, some_is}
 use Rattle.keep_monitor.proofs.CountedLaws.{raised_none}

@@ -9,7 +9,7 @@ use Rattle.keep_monitor.specs.declared.headers.Header.{Header}
 use Rattle.keep_monitor.specs.Headers.{AreLoopsOf, is_of}
 use Rattle.keep_monitor.specs.Steps.{IsMonitor}
 use Rattle.keep_monitor.specs.Watch.{Watched, watch_returns}
-use Rattle.keep_monitor.specs.Counted.{Counted, counted, judged, raised}
+use Rattle.keep_monitor.specs.Counted.{Counted, counted, judged, raised_most}
 use Rattle.keep_monitor.specs.contracts.counter.LoopCounter.{the_view}
 use Rattle.keep_monitor.proofs.HeaderLaws.{loops_from_filter}
 use Rattle.keep_monitor.proofs.AlikeLaws.{going_with, relaxed_alike, alike_back}
@@ -69,11 +69,11 @@ returns-in-Kept c =
     watch_returns (going_with inside.relaxed returns inside.counts.items) x (returns_after returns x) = c.watch_next-self-inside.ensures.watched in
     let most : List ℕ = c.raise.new.most in
     let back : take inside.most.len (most ++ drop (length most) inside.most.items) ≡ most = take_at most (drop (length most) inside.most.items) inside.most.len (c.raise.auto.most ∙ c.deref_mut.ensures.len) in
-    let raising : most ≡ raised (going_with inside.relaxed returns inside.counts.items) inside.most.items x (returns_after returns x) =
+    let raising : most ≡ raised_most (going_with inside.relaxed returns inside.counts.items) inside.most.items x (returns_after returns x) =
     c.raise.ensures ∙
-    (ap (λ (rs : List ℕ). raised (going_with inside.relaxed (reverse rs) c.deref-in-Kept-5.result.now) c.deref_mut.result.now x (returns_after (reverse rs) x)) c.deref-in-Kept-4.ensures.value ∙
-    (ap (λ (cs : List ℕ). raised (going_with inside.relaxed returns cs) c.deref_mut.result.now x (returns_after returns x)) c.deref-in-Kept-5.ensures.value ∙
-    ap (λ (ms : List ℕ). raised (going_with inside.relaxed returns inside.counts.items) ms x (returns_after returns x)) c.deref_mut.ensures.value)) in
+    (ap (λ (rs : List ℕ). raised_most (going_with inside.relaxed (reverse rs) c.deref-in-Kept-5.result.now) c.deref_mut.result.now x (returns_after (reverse rs) x)) c.deref-in-Kept-4.ensures.value ∙
+    (ap (λ (cs : List ℕ). raised_most (going_with inside.relaxed returns cs) c.deref_mut.result.now x (returns_after returns x)) c.deref-in-Kept-5.ensures.value ∙
+    ap (λ (ms : List ℕ). raised_most (going_with inside.relaxed returns inside.counts.items) ms x (returns_after returns x)) c.deref_mut.ensures.value)) in
     ap (λ (m : List ℕ). counting inside.notes inside.relaxed (reverse c.watch_next-self-inside.new.returns.items) c.watch_next-self-inside.new.counts.items m c.judge-self-inside.result c.watch_next-self-inside.result) back ∙
     (step_seen inside.notes inside.relaxed returns inside.counts.items inside.most.items inside.kept inside.relaxed_kept x
     (reverse c.watch_next-self-inside.new.returns.items) c.watch_next-self-inside.new.counts.items most c.judge-self-inside.result c.watch_next-self-inside.result
