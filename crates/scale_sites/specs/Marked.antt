@@ -6,11 +6,11 @@ use Rattle.scale_sites.specs.Marks.{AreBelow}
 use Rattle.scale_sites.specs.declared.marking.Marking.{Marking}
 
 -- a graph with accepted loops, some of which are counted, no more than there are counters
-pub record IsMarked (v : FlowGraph) (t : LoopView) (counted : List ℕ) : Type 0 where
+pub record IsMarkable (v : FlowGraph) (t : LoopView) (counted : List ℕ) : Type 0 where
   pub flow : IsFlowGraph v
   pub tree : (extent : ℕ → ℕ → Bool) × IsLoopTree v extent t
   pub counters : length counted ≤ 509
   pub below : AreBelow (length t.headers) counted
 
-abbrev pub IsMarking : Marking → Type 0
-IsMarking m = IsMarked m.graph.now m.tree.now m.counted.now
+abbrev pub IsMarkableGraph : Marking → Type 0
+IsMarkableGraph m = IsMarkable m.graph.now m.tree.now m.counted.now

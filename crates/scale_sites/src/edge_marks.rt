@@ -3,7 +3,7 @@
 ghost use Rattle.std.specs.Prelude.{◌≡◌, ◌≤◌, ◌<◌, ◌+◌, ◌++◌, ℕ, length, OnOk, IfOk};
 ghost use Rattle.cost_theory.specs.Graph.{leaves, goes_back};
 ghost use Rattle.scale_sites.specs.Marks.{AreBelow, numbered, leaves_any, holds_left, is_outermost, marks_at, exits_from, resets_from, counts_from};
-ghost use Rattle.scale_sites.specs.Marked.{IsMarking};
+ghost use Rattle.scale_sites.specs.Marked.{IsMarkableGraph};
 
 use crate::marking::Marking;
 use loop_tree::LoopTree;
@@ -64,7 +64,7 @@ fn leaves_any(tree: &LoopTree, way: Way, counted: &[usize]) -> bool
 
 /// Whether loop `k` is the outermost of the counted loops that a step leaves.
 fn is_outermost(marking: &Marking<'_>, k: usize, way: Way) -> bool
-    requires marking { IsMarking marking.now }
+    requires marking { IsMarkableGraph marking.now }
     requires within { k < length marking.now.tree.now.headers }
     ensures { result ≡ is_outermost (numbered marking.now.tree.now) way.from way.to k marking.now.counted.now }
 {
@@ -79,7 +79,7 @@ fn push_exits(
     counter: u16,
     rest: &[usize],
 ) -> Result<(), NoMemory>
-    requires marking { IsMarking marking.now }
+    requires marking { IsMarkableGraph marking.now }
     requires counters { counter + length rest.now ≤ 600 }
     requires rest_below { AreBelow (length marking.now.tree.now.headers) rest.now }
     ensures { OnOk result (marks.new.items ≡ marks.old.items ++ exits_from (numbered marking.now.tree.now) way.from way.to marking.now.counted.now counter rest.now) }
@@ -101,7 +101,7 @@ fn push_resets(
     counter: u16,
     rest: &[usize],
 ) -> Result<(), NoMemory>
-    requires marking { IsMarking marking.now }
+    requires marking { IsMarkableGraph marking.now }
     requires counters { counter + length rest.now ≤ 600 }
     requires rest_below { AreBelow (length marking.now.tree.now.headers) rest.now }
     ensures { OnOk result (marks.new.items ≡ marks.old.items ++ resets_from (numbered marking.now.tree.now) way.from way.to marking.now.counted.now counter rest.now) }
@@ -144,7 +144,7 @@ pub fn edge_marks(
     branch: bool,
     slack: u64,
 ) -> Result<Vec<Mark>, NoMemory>
-    requires { IsMarking marking.now }
+    requires { IsMarkableGraph marking.now }
     ensures { IfOk result (λ m. m.items ≡ marks_at (numbered marking.now.tree.now) marking.now.counted.now branch slack marking.now.min_gain way.from way.to) }
 {
     let mut marks = Vec::new(alloc);

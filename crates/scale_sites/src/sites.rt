@@ -9,7 +9,7 @@ ghost use Rattle.code_graph.specs.FlowGraph.{graph as graph_seen, IsFlowGraph};
 ghost use Rattle.loop_tree.specs.Tree.{loops, IsLoopTree};
 ghost use Rattle.scale_sites.specs.Counters.{counted_loops};
 ghost use Rattle.scale_sites.specs.Marks.{marks_of};
-ghost use Rattle.scale_sites.specs.Marked.{IsMarking};
+ghost use Rattle.scale_sites.specs.Marked.{IsMarkableGraph};
 ghost use Rattle.scale_sites.specs.Weights.{switches, tail_of, extra_of, is_patched, jumps_of};
 ghost use Rattle.scale_sites.specs.Sites.{SitesView, is_branch, is_branch_kind, marks_in, marks_at_edge, AreMarks, AreJumps, AreSites};
 
@@ -84,7 +84,7 @@ fn marks_of_edge(
     slack: u64,
     e: usize,
 ) -> Result<Vec<Mark>, NoMemory>
-    requires marking { IsMarking marking.now }
+    requires marking { IsMarkableGraph marking.now }
     requires edge { e < length marking.now.graph.now.code.edges }
     ensures marks { IfOk result (λ m. m.items ≡ marks_of (graph_seen marking.now.graph.now) (loops marking.now.graph.now marking.now.tree.now) marking.now.counted.now (is_branch marking.now.graph.now e) slack marking.now.min_gain e) }
     ensures few { IfOk result (λ m. length m.items ≤ 1600) }
@@ -104,7 +104,7 @@ fn all_marks(
     marking: &Marking<'_>,
     slacks: &[u64],
 ) -> Result<Vec<Vec<Mark>>, NoMemory>
-    requires marking { IsMarking marking.now }
+    requires marking { IsMarkableGraph marking.now }
     requires slacks { length slacks.now ≡ length marking.now.graph.now.code.edges }
     ensures { IfOk result (λ marks. AreMarks marking.now.graph.now marking.now.tree.now marking.now.counted.now slacks.now marking.now.min_gain (length marking.now.graph.now.code.edges) (map (λ m. m.items) marks.items)) }
 {

@@ -15,7 +15,7 @@ use Rattle.worst_cycles.specs.Worst.{by_edge}
 use Rattle.worst_cycles.specs.Needs.{HasTree}
 use Rattle.worst_cycles.specs.Visits.{visit_at, IsVisit, AreSolvedBy, AreAllVisited}
 use Rattle.worst_cycles.specs.Lefts.{AreTurnsRound}
-use Rattle.worst_cycles.specs.Planned.{IsPlanned}
+use Rattle.worst_cycles.specs.Planned.{IsPlannedBy}
 use Rattle.worst_cycles.proofs.BodyLaws.{node_here, same_node, loop_count, header_number, header_address, inside_at, number_inside}
 use Rattle.worst_cycles.proofs.IterationLaws.{body_within}
 
@@ -48,7 +48,7 @@ turns_at_header {v = v} {t = t} {w = w} {visits = visits} {n = n} l tree found s
     visit.turns
 
 -- one loop more
-pub turns_more : {v : FlowGraph} {t : LoopView} {w : List ℕ} {plan : Plan} → IsPlanned v t w plan → (l turns : ℕ) (old new : List ℕ) → l < length t.headers → ((n : Numbers) → AreSolvedBy v t (by_edge w) n → turns ≡ all_of (loops v t) n l) →
+pub turns_more : {v : FlowGraph} {t : LoopView} {w : List ℕ} {plan : Plan} → IsPlannedBy v t w plan → (l turns : ℕ) (old new : List ℕ) → l < length t.headers → ((n : Numbers) → AreSolvedBy v t (by_edge w) n → turns ≡ all_of (loops v t) n l) →
     ((i : ℕ) → i < length (body_of t.bodies l) → number_in_place new (number_in_place (body_of t.bodies l) i) ≡ number_in_place old (number_in_place (body_of t.bodies l) i) + turns) →
     ((k : ℕ) → ((i : ℕ) → i < length (body_of t.bodies l) → number_in_place (body_of t.bodies l) i ≢ k) → number_in_place new k ≡ number_in_place old k) →
     AreTurnsTo v t (by_edge w) l old → AreTurnsTo v t (by_edge w) (l + 1) new

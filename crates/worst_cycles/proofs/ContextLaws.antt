@@ -14,7 +14,7 @@ use Rattle.worst_cycles.specs.Worst.{by_edge}
 use Rattle.worst_cycles.specs.Needs.{StartsAtNode}
 use Rattle.worst_cycles.specs.Visits.{AreSolvedBy}
 use Rattle.worst_cycles.specs.Lefts.{HasSolved, AreLefts, AreTurnsRound, IsContextTo, IsFromPlace, AreContextsTo, AreContexts, AreContextsRaised}
-use Rattle.worst_cycles.specs.Planned.{IsPlanned}
+use Rattle.worst_cycles.specs.Planned.{IsPlannedBy}
 use Rattle.worst_cycles.proofs.BodyLaws.{node_here}
 use Rattle.worst_cycles.proofs.PlanLaws.{at_place, entry_behind}
 
@@ -46,7 +46,7 @@ context_whole {g = g} {l = l} {w = w} {n = n} {Done = Done} {f = f} {x = x} is t
         let r : x ≡ n.context f = omega arith in r
 
 -- no edge starts behind the order
-pub contexts_first : {v : FlowGraph} {t : LoopView} {w : List ℕ} {plan : Plan} → IsPlanned v t w plan → (context : List ℕ) → ((f : ℕ) → f < length v.code.functions → number_in_place context f ≡ 0) → AreContextsTo v t (by_edge w) plan (length plan.order.items) context
+pub contexts_first : {v : FlowGraph} {t : LoopView} {w : List ℕ} {plan : Plan} → IsPlannedBy v t w plan → (context : List ℕ) → ((f : ℕ) → f < length v.code.functions → number_in_place context f ≡ 0) → AreContextsTo v t (by_edge w) plan (length plan.order.items) context
 contexts_first {v = v} {t = t} {w = w} {plan = plan} is context zero n s f fl =
     let none : number_in_place context f ≡ 0 = zero f fl in
     record {
@@ -60,7 +60,7 @@ contexts_first {v = v} {t = t} {w = w} {plan = plan} is context zero n s f fl =
     }
 
 -- the calls of a function stand behind its nodes
-calls_behind : {v : FlowGraph} {t : LoopView} {w : List ℕ} {plan : Plan} {e : ℕ} → IsPlanned v t w plan → (i : ℕ) → i < length plan.order.items → IsReturningCall (graph v) ((graph v).owner (node_address v (number_in_place plan.order.items i))) e → IsFromPlace v plan (i + 1) e
+calls_behind : {v : FlowGraph} {t : LoopView} {w : List ℕ} {plan : Plan} {e : ℕ} → IsPlannedBy v t w plan → (i : ℕ) → i < length plan.order.items → IsReturningCall (graph v) ((graph v).owner (node_address v (number_in_place plan.order.items i))) e → IsFromPlace v plan (i + 1) e
 calls_behind {v = v} {t = t} {w = w} {plan = plan} {e = e} is i il call k node =
     let f = (graph v).owner (node_address v (number_in_place plan.order.items i)) in
     let fl : f < (graph v).functions = is.flow.program.callee_function e f call.edge call.calls in
@@ -75,7 +75,7 @@ calls_behind {v = v} {t = t} {w = w} {plan = plan} {e = e} is i il call k node =
     let r : i + 1 ≤ number_in_place plan.places.items k = omega arith in r
 
 -- so the context of the function of the next node is whole
-pub own_context : {v : FlowGraph} {t : LoopView} {w : List ℕ} {plan : Plan} {n : Numbers} → IsPlanned v t w plan → (context : List ℕ) (i : ℕ) → i < length plan.order.items → AreContextsTo v t (by_edge w) plan (i + 1) context → AreSolvedBy v t (by_edge w) n →
+pub own_context : {v : FlowGraph} {t : LoopView} {w : List ℕ} {plan : Plan} {n : Numbers} → IsPlannedBy v t w plan → (context : List ℕ) (i : ℕ) → i < length plan.order.items → AreContextsTo v t (by_edge w) plan (i + 1) context → AreSolvedBy v t (by_edge w) n →
     number_in_place context ((graph v).owner (node_address v (number_in_place plan.order.items i))) ≡ n.context ((graph v).owner (node_address v (number_in_place plan.order.items i)))
 own_context {v = v} {t = t} {w = w} {plan = plan} {n = n} is context i il to s =
     let node = (is.flow.nodes (node_address v (number_in_place plan.order.items i))).0 (number_in_place plan.order.items i, node_here v (number_in_place plan.order.items i) (is.plan.order.within i il)) in
@@ -83,7 +83,7 @@ own_context {v = v} {t = t} {w = w} {plan = plan} {n = n} is context i il to s =
     let fl : f < (graph v).functions = subst (λ u. (graph v).owner u < (graph v).functions) node.2 (is.flow.program.owner_function node.0 node.1) in
     context_whole (s.context f fl) (to n s f fl) (λ e call. calls_behind is i il call)
 
-pub contexts_more : {v : FlowGraph} {t : LoopView} {w : List ℕ} {plan : Plan} → IsPlanned v t w plan → (old new : List ℕ) (i : ℕ) → i < length plan.order.items →
+pub contexts_more : {v : FlowGraph} {t : LoopView} {w : List ℕ} {plan : Plan} → IsPlannedBy v t w plan → (old new : List ℕ) (i : ℕ) → i < length plan.order.items →
     ((n : Numbers) → AreSolvedBy v t (by_edge w) n → AreContextsRaised (graph v) (loops v t) (by_edge w) n (node_address v (number_in_place plan.order.items i)) old new) → AreContextsTo v t (by_edge w) plan (i + 1) old → AreContextsTo v t (by_edge w) plan i new
 contexts_more {v = v} {t = t} {w = w} {plan = plan} is old new i il raised to n s f fl =
     let before = to n s f fl in

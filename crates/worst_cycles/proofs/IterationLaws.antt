@@ -17,7 +17,7 @@ use Rattle.worst_cycles.specs.Needs.{StartsAtNode}
 use Rattle.worst_cycles.specs.declared.visits.Visit.{Visit}
 use Rattle.worst_cycles.specs.Visits.{AreKnownAt, AreSolvedBy, AreVisitedTo, IsOverLimit}
 use Rattle.worst_cycles.specs.Rests.{AreBodyPlaces, rest_in, IsRestOf, held, closing_at, AreRestsKnownAt, address_at, AreFoundTo}
-use Rattle.worst_cycles.specs.Planned.{IsPlanned}
+use Rattle.worst_cycles.specs.Planned.{IsPlannedBy}
 use Rattle.worst_cycles.proofs.BodyLaws.{inside_at, number_inside, node_here, same_node, by_plain, loop_count, header_number, header_address}
 use Rattle.worst_cycles.proofs.PlanLaws.{at_place, body_before}
 use Rattle.worst_cycles.proofs.SearchLaws.{value_at}
@@ -35,7 +35,7 @@ pub record IsBodyAt (t : LoopView) (plan : Plan) (l i : ℕ) (steps : List ℕ) 
   pub places : AreBodyPlaces (body_of t.bodies l) plan.places.items steps
 
 -- a place of a body is that of a node in it, and not behind the header
-pub step_inside : {v : FlowGraph} {t : LoopView} {w : List ℕ} {plan : Plan} {l i : ℕ} {steps : List ℕ} → IsPlanned v t w plan → IsBodyAt t plan l i steps →
+pub step_inside : {v : FlowGraph} {t : LoopView} {w : List ℕ} {plan : Plan} {l i : ℕ} {steps : List ℕ} → IsPlannedBy v t w plan → IsBodyAt t plan l i steps →
     (m : ℕ) → m < length steps → (number_in_place steps m < length plan.order.items) × ((loops v t).inside l (address_at v plan steps m) ≡ true) × (number_in_place steps m ≤ i)
 step_inside {v = v} {t = t} {w = w} {plan = plan} {l = l} {i = i} {steps = steps} is body m ml =
     let b = body.places.each m ml in
@@ -47,7 +47,7 @@ step_inside {v = v} {t = t} {w = w} {plan = plan} {l = l} {i = i} {steps = steps
     (low, inside, body_before is l i (number_in_place steps m) body.within body.place low body.header inside)
 
 -- a node of the body is at one of its places
-pub step_of : {v : FlowGraph} {t : LoopView} {w : List ℕ} {plan : Plan} {steps : List ℕ} → IsPlanned v t w plan → (l : ℕ) → l < length t.headers → AreBodyPlaces (body_of t.bodies l) plan.places.items steps →
+pub step_of : {v : FlowGraph} {t : LoopView} {w : List ℕ} {plan : Plan} {steps : List ℕ} → IsPlannedBy v t w plan → (l : ℕ) → l < length t.headers → AreBodyPlaces (body_of t.bodies l) plan.places.items steps →
     (u : ℕ) → u < length v.code.nodes → (loops v t).inside l (node_address v u) ≡ true → (q : ℕ) × (q < length steps) × (number_in_place steps q ≡ number_in_place plan.places.items u)
 step_of {v = v} {t = t} {w = w} {plan = plan} {steps = steps} is l ll places u ul inside =
     let b = number_inside v t l (node_address v u) inside in
@@ -56,11 +56,11 @@ step_of {v = v} {t = t} {w = w} {plan = plan} {steps = steps} is l ll places u u
     (q.0, q.1, q.2 ∙ ap (number_in_place plan.places.items) (sym same))
 
 -- what stands at the place of a node is this node
-pub address_of : {v : FlowGraph} {t : LoopView} {w : List ℕ} {plan : Plan} → IsPlanned v t w plan → (steps : List ℕ) → (u q : ℕ) → u < length v.code.nodes → number_in_place steps q ≡ number_in_place plan.places.items u → address_at v plan steps q ≡ node_address v u
+pub address_of : {v : FlowGraph} {t : LoopView} {w : List ℕ} {plan : Plan} → IsPlannedBy v t w plan → (steps : List ℕ) → (u q : ℕ) → u < length v.code.nodes → number_in_place steps q ≡ number_in_place plan.places.items u → address_at v plan steps q ≡ node_address v u
 address_of {v = v} {t = t} {w = w} {plan = plan} is steps u q ul at = ap (λ p. node_address v (number_in_place plan.order.items p)) at ∙ ap (node_address v) (at_place is u ul).1
 
 -- the rests that the edges of the next node need are found
-pub rests_known : {v : FlowGraph} {t : LoopView} {w : List ℕ} {plan : Plan} {l i : ℕ} {n : Numbers} → IsPlanned v t w plan → (rests : Rests) → IsBodyAt t plan l i rests.steps.items →
+pub rests_known : {v : FlowGraph} {t : LoopView} {w : List ℕ} {plan : Plan} {l i : ℕ} {n : Numbers} → IsPlannedBy v t w plan → (rests : Rests) → IsBodyAt t plan l i rests.steps.items →
     (m : ℕ) → m < length rests.steps.items → length rests.found.items ≡ m → AreFoundTo v t (by_edge w) plan l rests.steps.items m rests.found.items → AreSolvedBy v t (by_edge w) n →
     AreRestsKnownAt v t plan rests n l (address_at v plan rests.steps.items m)
 rests_known {v = v} {t = t} {w = w} {plan = plan} {l = l} {i = i} {n = n} is rests body m ml size found s e lt from u at o node to plain rest = go ((loops v t).inside l at) refl
@@ -120,7 +120,7 @@ rests_known {v = v} {t = t} {w = w} {plan = plan} {l = l} {i = i} {n = n} is res
         rest
 
 -- the rest that is found at the next node is that of its address
-pub next_rest : {v : FlowGraph} {t : LoopView} {w : List ℕ} {plan : Plan} {l i : ℕ} → IsPlanned v t w plan → (visits : List Visit) (m k : ℕ) (rests : Rests) (rest : Option ℕ) → AreVisitedTo v t (by_edge w) plan.order.items i visits →
+pub next_rest : {v : FlowGraph} {t : LoopView} {w : List ℕ} {plan : Plan} {l i : ℕ} → IsPlannedBy v t w plan → (visits : List Visit) (m k : ℕ) (rests : Rests) (rest : Option ℕ) → AreVisitedTo v t (by_edge w) plan.order.items i visits →
     IsBodyAt t plan l i rests.steps.items → m < length rests.steps.items → length rests.found.items ≡ m →
     AreFoundTo v t (by_edge w) plan l rests.steps.items m rests.found.items → k ≡ number_in_place plan.order.items (number_in_place rests.steps.items m) →
     ((n : Numbers) → AreSolvedBy v t (by_edge w) n → AreKnownAt v t plan visits n (slice_index v.code.nodes k) → AreRestsKnownAt v t plan rests n l (slice_index v.code.nodes k) → rest ≡ n.closing l (slice_index v.code.nodes k)) →
@@ -160,7 +160,7 @@ rests_small found rest small this m b at = ⊎_elim
     past (suc i) e = absurd (none-some b e)
 
 -- over the limit
-pub rest_too_long : {v : FlowGraph} {t : LoopView} {w : List ℕ} {plan : Plan} → IsPlanned v t w plan → (l at b : ℕ) (rest : Option ℕ) → l < length t.headers → (loops v t).inside l at ≡ true →
+pub rest_too_long : {v : FlowGraph} {t : LoopView} {w : List ℕ} {plan : Plan} → IsPlannedBy v t w plan → (l at b : ℕ) (rest : Option ℕ) → l < length t.headers → (loops v t).inside l at ≡ true →
     ((n : Numbers) → AreSolvedBy v t (by_edge w) n → rest ≡ n.closing l at) → rest ≡ Some b → 2 ^ 48 + plan.heaviest < b → IsOverLimit v t (by_edge w)
 rest_too_long {v = v} {t = t} {w = w} {plan = plan} is l at b rest ll inside found some more n s =
     let count = loop_count v t in
@@ -170,7 +170,7 @@ rest_too_long {v = v} {t = t} {w = w} {plan = plan} is l at b rest ll inside fou
     omega arith
 
 -- once all rests are found, that of the header is one iteration
-pub header_rest : {v : FlowGraph} {t : LoopView} {w : List ℕ} {plan : Plan} → IsPlanned v t w plan → (l : ℕ) (rests : Rests) (o : Option ℕ) → l < length t.headers →
+pub header_rest : {v : FlowGraph} {t : LoopView} {w : List ℕ} {plan : Plan} → IsPlannedBy v t w plan → (l : ℕ) (rests : Rests) (o : Option ℕ) → l < length t.headers →
     AreBodyPlaces (body_of t.bodies l) plan.places.items rests.steps.items → length rests.found.items ≡ length rests.steps.items → AreFoundTo v t (by_edge w) plan l rests.steps.items (length rests.steps.items) rests.found.items →
     IsRestOf rests (number_in_place plan.places.items (number_in_place t.headers l)) o → (n : Numbers) → AreSolvedBy v t (by_edge w) n → o ≡ Some (n.iteration l)
 header_rest {v = v} {t = t} {w = w} {plan = plan} is l rests o ll places size found rest n s =

@@ -15,7 +15,7 @@ use Rattle.worst_cycles.specs.Worst.{by_edge}
 use Rattle.worst_cycles.specs.Visits.{visit_at, AreSolvedBy, AreVisitedTo, AreAllVisited}
 use Rattle.worst_cycles.specs.Rests.{rest_in, address_at, AreRestsOf}
 use Rattle.worst_cycles.specs.Lefts.{HasSolved, IsHeadedFrom, IsLeftTo, AreLeftsTo, AreLefts}
-use Rattle.worst_cycles.specs.Planned.{IsPlanned}
+use Rattle.worst_cycles.specs.Planned.{IsPlannedBy}
 use Rattle.worst_cycles.proofs.BodyLaws.{node_here, same_node, loop_count, header_number, header_address}
 use Rattle.worst_cycles.proofs.PlanLaws.{at_place, body_before}
 use Rattle.worst_cycles.proofs.IterationLaws.{IsBodyAt, step_inside, step_of, address_of}
@@ -40,7 +40,7 @@ pub visited_before : {v : FlowGraph} {t : LoopView} {w : ℕ → ℕ} {visits : 
 visited_before {v = v} {t = t} {w = w} {visits = visits} order i all n s j at lt node = all.each n s (number_in_place order j) at node
 
 -- no header stands behind the order
-pub lefts_first : {v : FlowGraph} {t : LoopView} {w : List ℕ} {plan : Plan} {visits : List Visit} → IsPlanned v t w plan → (left : List ℕ) → AreAllVisited v t (by_edge w) visits →
+pub lefts_first : {v : FlowGraph} {t : LoopView} {w : List ℕ} {plan : Plan} {visits : List Visit} → IsPlannedBy v t w plan → (left : List ℕ) → AreAllVisited v t (by_edge w) visits →
     ((k : ℕ) → k < length visits → number_in_place left k ≡ (visit_at visits k).plain) → AreLeftsTo v t (by_edge w) plan (length plan.order.items) left
 lefts_first {v = v} {t = t} {w = w} {plan = plan} {visits = visits} is left all each n s k kl =
     let size = all.table.size in
@@ -59,7 +59,7 @@ lefts_first {v = v} {t = t} {w = w} {plan = plan} {visits = visits} is left all 
     }
 
 -- the header of an outer loop stands behind that of an inner one
-outer_behind : {v : FlowGraph} {t : LoopView} {w : List ℕ} {plan : Plan} → IsPlanned v t w plan → (i j : ℕ) → i < length plan.order.items → j < (loops v t).loops →
+outer_behind : {v : FlowGraph} {t : LoopView} {w : List ℕ} {plan : Plan} → IsPlannedBy v t w plan → (i j : ℕ) → i < length plan.order.items → j < (loops v t).loops →
     (loops v t).inside j (node_address v (number_in_place plan.order.items i)) ≡ true → (loops v t).header j ≢ node_address v (number_in_place plan.order.items i) → IsHeadedFrom t plan (i + 1) j
 outer_behind {v = v} {t = t} {w = w} {plan = plan} is i j il jl inside other =
     let count = loop_count v t in
@@ -74,7 +74,7 @@ outer_behind {v = v} {t = t} {w = w} {plan = plan} is i j il jl inside other =
     (cases_lt i (number_in_place plan.places.items (number_in_place t.headers j)))
 
 -- what is left at the header of a loop is known before its body is raised
-pub header_left : {v : FlowGraph} {t : LoopView} {w : List ℕ} {plan : Plan} {n : Numbers} → IsPlanned v t w plan → (left : List ℕ) (i : ℕ) → i < length plan.order.items → AreLeftsTo v t (by_edge w) plan (i + 1) left → AreSolvedBy v t (by_edge w) n →
+pub header_left : {v : FlowGraph} {t : LoopView} {w : List ℕ} {plan : Plan} {n : Numbers} → IsPlannedBy v t w plan → (left : List ℕ) (i : ℕ) → i < length plan.order.items → AreLeftsTo v t (by_edge w) plan (i + 1) left → AreSolvedBy v t (by_edge w) n →
     number_in_place left (number_in_place plan.order.items i) ≡ n.left (node_address v (number_in_place plan.order.items i))
 header_left {v = v} {t = t} {w = w} {plan = plan} {n = n} is left i il to s =
     left_whole (loops v t) n (IsHeadedFrom t plan (i + 1)) (node_address v (number_in_place plan.order.items i)) (number_in_place left (number_in_place plan.order.items i)) (s.left (node_address v (number_in_place plan.order.items i)))
@@ -160,7 +160,7 @@ raised_past {plan = plan} {rests = rests} {header = header} {iteration = iterati
   either = to.either;
 }
 
-pub lefts_more : {v : FlowGraph} {t : LoopView} {w : List ℕ} {plan : Plan} {rests : Rests} {l : ℕ} → IsPlanned v t w plan → (old new : List ℕ) (i : ℕ) (iteration : ℕ) → i < length plan.order.items → l < length t.headers →
+pub lefts_more : {v : FlowGraph} {t : LoopView} {w : List ℕ} {plan : Plan} {rests : Rests} {l : ℕ} → IsPlannedBy v t w plan → (old new : List ℕ) (i : ℕ) (iteration : ℕ) → i < length plan.order.items → l < length t.headers →
     number_in_place t.headers l ≡ number_in_place plan.order.items i → AreRestsOf v t (by_edge w) plan l rests → ((n : Numbers) → AreSolvedBy v t (by_edge w) n → iteration ≡ n.iteration l) → AreRaised plan rests (number_in_place plan.order.items i) iteration old new →
     AreLeftsTo v t (by_edge w) plan (i + 1) old → AreLeftsTo v t (by_edge w) plan i new
 lefts_more {v = v} {t = t} {w = w} {plan = plan} {rests = rests} {l = l} is old new i iteration il ll header of one raised to n s k kl =
@@ -229,7 +229,7 @@ lefts_more {v = v} {t = t} {w = w} {plan = plan} {rests = rests} {l = l} is old 
         let r : b + n.left ((loops v t).header l) ≤ number_in_place new k + n.iteration l = omega (arith, turn, whole) in r
 
 -- where no header is there, nothing is to be raised
-pub lefts_on : {v : FlowGraph} {t : LoopView} {w : List ℕ} {plan : Plan} → IsPlanned v t w plan → (left : List ℕ) (i : ℕ) → i < length plan.order.items → ((j : ℕ) → j < (loops v t).loops → (loops v t).header j ≢ node_address v (number_in_place plan.order.items i)) →
+pub lefts_on : {v : FlowGraph} {t : LoopView} {w : List ℕ} {plan : Plan} → IsPlannedBy v t w plan → (left : List ℕ) (i : ℕ) → i < length plan.order.items → ((j : ℕ) → j < (loops v t).loops → (loops v t).header j ≢ node_address v (number_in_place plan.order.items i)) →
     AreLeftsTo v t (by_edge w) plan (i + 1) left → AreLeftsTo v t (by_edge w) plan i left
 lefts_on {v = v} {t = t} {w = w} {plan = plan} is left i il none to n s k kl =
     let before = to n s k kl in
@@ -256,14 +256,14 @@ lefts_last v t w plan left size to = record {
 }
 
 -- the loop whose header the next node is
-pub headed_loop : {v : FlowGraph} {t : LoopView} {w : List ℕ} {plan : Plan} → IsPlanned v t w plan → (i k l : ℕ) (o : Option ℕ) → i < length plan.order.items → k ≡ get_or plan.order.items i k → o ≡ get_or plan.headed.items k o → o ≡ Some l →
+pub headed_loop : {v : FlowGraph} {t : LoopView} {w : List ℕ} {plan : Plan} → IsPlannedBy v t w plan → (i k l : ℕ) (o : Option ℕ) → i < length plan.order.items → k ≡ get_or plan.order.items i k → o ≡ get_or plan.headed.items k o → o ≡ Some l →
     (l < length t.headers) × (number_in_place t.headers l ≡ number_in_place plan.order.items i) × (number_in_place plan.order.items i ≡ k)
 headed_loop {v = v} {t = t} {w = w} {plan = plan} is i k l o il node has some =
     let heads : slice_get t.headers l ≡ Some (number_in_place plan.order.items i) = is.plan.headed.some (number_in_place plan.order.items i) l (headed_is is i k o il node has ∙ some) in
     (slice_get_within t.headers l (number_in_place plan.order.items i) heads, get_or_from_slice_get t.headers l (number_in_place plan.order.items i) 0 heads, value_at plan.order.items i k 0 il node)
 
 -- an iteration is one of the rests
-pub iteration_small : {v : FlowGraph} {t : LoopView} {w : List ℕ} {plan : Plan} {l : ℕ} {rests : Rests} {n : Numbers} → IsPlanned v t w plan → l < length t.headers → AreRestsOf v t (by_edge w) plan l rests → AreSolvedBy v t (by_edge w) n → n.iteration l ≤ 2 ^ 48 + 2 ^ 32
+pub iteration_small : {v : FlowGraph} {t : LoopView} {w : List ℕ} {plan : Plan} {l : ℕ} {rests : Rests} {n : Numbers} → IsPlannedBy v t w plan → l < length t.headers → AreRestsOf v t (by_edge w) plan l rests → AreSolvedBy v t (by_edge w) n → n.iteration l ≤ 2 ^ 48 + 2 ^ 32
 iteration_small {v = v} {t = t} {w = w} {plan = plan} {l = l} {rests = rests} {n = n} is ll of s =
     let count = loop_count v t in
     let lt : l < (loops v t).loops = omega arith in
@@ -288,7 +288,7 @@ small_set xs ys k x most is low small j jl =
     let before = small j jx in let r : number_in_place ys j ≤ most = omega arith in r)
     (cases_eq j k)
 
-pub left_small : {v : FlowGraph} {t : LoopView} {w : List ℕ} {plan : Plan} → IsPlanned v t w plan → (left : List ℕ) (i : ℕ) → HasSolved v t (by_edge w) → length left ≡ length v.code.nodes → AreLeftsTo v t (by_edge w) plan i left → (k : ℕ) → k < length left → number_in_place left k ≤ 2 ^ 48
+pub left_small : {v : FlowGraph} {t : LoopView} {w : List ℕ} {plan : Plan} → IsPlannedBy v t w plan → (left : List ℕ) (i : ℕ) → HasSolved v t (by_edge w) → length left ≡ length v.code.nodes → AreLeftsTo v t (by_edge w) plan i left → (k : ℕ) → k < length left → number_in_place left k ≤ 2 ^ 48
 left_small {v = v} {t = t} {w = w} {plan = plan} is left i n size to k kl =
     let low : k < length v.code.nodes = omega arith in
     let under : number_in_place left k ≤ n.0.left (node_address v k) = (to n.0 n.1 k low).under in
@@ -297,7 +297,7 @@ left_small {v = v} {t = t} {w = w} {plan = plan} is left i n size to k kl =
     let r : number_in_place left k ≤ 2 ^ 48 = omega arith in r
 
 -- a node that is the header of no loop
-pub unheaded : {v : FlowGraph} {t : LoopView} {w : List ℕ} {plan : Plan} → IsPlanned v t w plan → (i k : ℕ) (o : Option ℕ) → i < length plan.order.items → k ≡ get_or plan.order.items i k → o ≡ get_or plan.headed.items k o → ((x : ℕ) → o ≡ Some x → ⊥) →
+pub unheaded : {v : FlowGraph} {t : LoopView} {w : List ℕ} {plan : Plan} → IsPlannedBy v t w plan → (i k : ℕ) (o : Option ℕ) → i < length plan.order.items → k ≡ get_or plan.order.items i k → o ≡ get_or plan.headed.items k o → ((x : ℕ) → o ≡ Some x → ⊥) →
     (j : ℕ) → j < (loops v t).loops → (loops v t).header j ≢ node_address v (number_in_place plan.order.items i)
 unheaded {v = v} {t = t} {w = w} {plan = plan} is i k o il node has none j jl =
     no_turns is (record { worst = λ x. 0; iteration = λ x. 0; plain = λ x. 0; closing = λ x y. None; left = λ x. 0; context = λ x. 0 }) (number_in_place plan.order.items i) (is.plan.order.within i il) (headed_is is i k o il node has ∙ is_none o none) j jl

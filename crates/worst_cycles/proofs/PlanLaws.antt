@@ -10,13 +10,13 @@ use Rattle.loop_tree.specs.Tree.{LoopView, loops}
 use Rattle.cost_theory.proofs.Laws.{accepted_entered, plain_from_entry}
 use Rattle.worst_cycles.specs.declared.plan.Plan.{Plan}
 use Rattle.worst_cycles.specs.Needs.{StartsAtNode}
-use Rattle.worst_cycles.specs.Planned.{IsPlanned}
+use Rattle.worst_cycles.specs.Planned.{IsPlannedBy}
 use Rattle.worst_cycles.proofs.NeedLaws.{one_place}
 use Rattle.worst_cycles.proofs.BodyLaws.{node_here, same_node, by_plain, loop_count, header_address}
 use Rattle.worst_cycles.proofs.HeaderLaws.{header_before}
 
 -- the node at the place of a node is this node
-pub at_place : {v : FlowGraph} {t : LoopView} {w : List ℕ} {plan : Plan} → IsPlanned v t w plan → (k : ℕ) → k < length v.code.nodes →
+pub at_place : {v : FlowGraph} {t : LoopView} {w : List ℕ} {plan : Plan} → IsPlannedBy v t w plan → (k : ℕ) → k < length v.code.nodes →
     (number_in_place plan.places.items k < length plan.order.items) × (number_in_place plan.order.items (number_in_place plan.places.items k) ≡ k)
 at_place {v = v} {t = t} {w = w} {plan = plan} is k lt =
     let i = is.plan.order.whole k lt in
@@ -28,7 +28,7 @@ at_place {v = v} {t = t} {w = w} {plan = plan} is k lt =
 abbrev pub IsNotBehind : FlowGraph → List ℕ → ℕ → ℕ → Type 0
 IsNotBehind v order a b = (i j : ℕ) → i < length order → j < length order → node_address v (number_in_place order i) ≡ a → node_address v (number_in_place order j) ≡ b → j ≤ i
 
-pub not_behind_same : {v : FlowGraph} {t : LoopView} {w : List ℕ} {plan : Plan} → IsPlanned v t w plan → (a : ℕ) → IsNotBehind v plan.order.items a a
+pub not_behind_same : {v : FlowGraph} {t : LoopView} {w : List ℕ} {plan : Plan} → IsPlannedBy v t w plan → (a : ℕ) → IsNotBehind v plan.order.items a a
 not_behind_same {v = v} {t = t} {w = w} {plan = plan} is a i j il jl at_i at_j =
     let one : number_in_place plan.order.items j ≡ number_in_place plan.order.items i = same_node v is.flow (number_in_place plan.order.items j) (number_in_place plan.order.items i) (is.plan.order.within j jl) (is.plan.order.within i il) (at_j ∙ sym at_i) in
     let e : j ≡ i = one_place plan.order.items is.plan.order.distinct j i jl il one in
@@ -38,7 +38,7 @@ same_some : {x : Option ℕ} {a b : ℕ} → x ≡ Some a → x ≡ Some b → a
 same_some {x = x} {a = a} {b = b} p q = let e : Some a ≡ Some b = sym p ∙ q in let r : a ≡ b = cc in r
 
 -- an edge leads plainly to a node that stands before its own
-pub not_behind_step : {v : FlowGraph} {t : LoopView} {w : List ℕ} {plan : Plan} → IsPlanned v t w plan → (a e p : ℕ) → e < (graph v).edges → IsPlain (graph v) (loops v t) e → (graph v).target e ≡ Some p →
+pub not_behind_step : {v : FlowGraph} {t : LoopView} {w : List ℕ} {plan : Plan} → IsPlannedBy v t w plan → (a e p : ℕ) → e < (graph v).edges → IsPlain (graph v) (loops v t) e → (graph v).target e ≡ Some p →
     IsNotBehind v plan.order.items a ((graph v).source e) → IsNotBehind v plan.order.items a p
 not_behind_step {v = v} {t = t} {w = w} {plan = plan} is a e p lt plain to before i j il jl at_i at_j =
     let k = source_number v is.flow e lt in
@@ -55,7 +55,7 @@ not_behind_step {v = v} {t = t} {w = w} {plan = plan} is a e p lt plain to befor
     omega arith
 
 -- a node of a body stands no later than the loop's header
-pub body_before : {v : FlowGraph} {t : LoopView} {w : List ℕ} {plan : Plan} → IsPlanned v t w plan →
+pub body_before : {v : FlowGraph} {t : LoopView} {w : List ℕ} {plan : Plan} → IsPlannedBy v t w plan →
     (l i j : ℕ) → l < length t.headers → i < length plan.order.items → j < length plan.order.items → number_in_place t.headers l ≡ number_in_place plan.order.items i →
     (loops v t).inside l (node_address v (number_in_place plan.order.items j)) ≡ true → j ≤ i
 body_before {v = v} {t = t} {w = w} {plan = plan} is l i j ll il jl header in_l =
@@ -64,13 +64,13 @@ body_before {v = v} {t = t} {w = w} {plan = plan} is l i j ll il jl header in_l 
     i j il jl (ap (node_address v) (sym header) ∙ sym (header_address v t l ll)) refl
 
 -- so the nodes of a function stand no later than its entry
-not_behind_along : {v : FlowGraph} {t : LoopView} {w : List ℕ} {plan : Plan} → IsPlanned v t w plan → (a : ℕ) (es : List ℕ) (o : Option ℕ) (p : ℕ) → IsPlainPath (graph v) (loops v t) o es → end_of (graph v) o es ≡ Some p →
+not_behind_along : {v : FlowGraph} {t : LoopView} {w : List ℕ} {plan : Plan} → IsPlannedBy v t w plan → (a : ℕ) (es : List ℕ) (o : Option ℕ) (p : ℕ) → IsPlainPath (graph v) (loops v t) o es → end_of (graph v) o es ≡ Some p →
     ((u : ℕ) → o ≡ Some u → IsNotBehind v plan.order.items a u) → IsNotBehind v plan.order.items a p
 not_behind_along {v = v} {t = t} {w = w} {plan = plan} is a [] o p path ends before = before p ends
 not_behind_along {v = v} {t = t} {w = w} {plan = plan} is a (e ∷ es) o p path ends before =
     not_behind_along is a es ((graph v).target e) p path.3 ends (λ u to. not_behind_step is a e u path.0 path.2 to (before ((graph v).source e) path.1))
 
-pub entry_behind : {v : FlowGraph} {t : LoopView} {w : List ℕ} {plan : Plan} → IsPlanned v t w plan → (i j : ℕ) → i < length plan.order.items → j < length plan.order.items →
+pub entry_behind : {v : FlowGraph} {t : LoopView} {w : List ℕ} {plan : Plan} → IsPlannedBy v t w plan → (i j : ℕ) → i < length plan.order.items → j < length plan.order.items →
     node_address v (number_in_place plan.order.items i) ≡ (graph v).entry ((graph v).owner (node_address v (number_in_place plan.order.items j))) → j ≤ i
 entry_behind {v = v} {t = t} {w = w} {plan = plan} is i j il jl entry =
     let node = (is.flow.nodes (node_address v (number_in_place plan.order.items j))).0 (number_in_place plan.order.items j, node_here v (number_in_place plan.order.items j) (is.plan.order.within j jl)) in

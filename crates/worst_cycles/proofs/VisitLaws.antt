@@ -14,7 +14,7 @@ use Rattle.worst_cycles.specs.Worst.{by_edge}
 use Rattle.worst_cycles.specs.Needs.{StartsAtNode}
 use Rattle.worst_cycles.specs.Solved.{AreSolved}
 use Rattle.worst_cycles.specs.Visits.{headed_at, visit_at, IsTurnsAt, IsVisit, IsSmallVisit, AreVisits, AreKnownAt, AreSolvedBy, IsOverLimit, AreVisitedTo, AreAllVisited}
-use Rattle.worst_cycles.specs.Planned.{IsPlanned}
+use Rattle.worst_cycles.specs.Planned.{IsPlannedBy}
 use Rattle.worst_cycles.proofs.SearchLaws.{value_at}
 use Rattle.worst_cycles.proofs.BodyLaws.{node_here, same_node, by_plain, loop_count, header_number, header_address}
 
@@ -33,7 +33,7 @@ worst_at {g = g} {l = l} {w = w} {n = n} {x = x} f s fl visit =
     visit.turns
 
 -- what is needed for the edges of a node is known, once the nodes before it are visited
-pub known_before : {v : FlowGraph} {t : LoopView} {w : List ℕ} {plan : Plan} {n : Numbers} → IsPlanned v t w plan → (visits : List Visit) (i m : ℕ) → AreVisitedTo v t (by_edge w) plan.order.items i visits → AreSolvedBy v t (by_edge w) n →
+pub known_before : {v : FlowGraph} {t : LoopView} {w : List ℕ} {plan : Plan} {n : Numbers} → IsPlannedBy v t w plan → (visits : List Visit) (i m : ℕ) → AreVisitedTo v t (by_edge w) plan.order.items i visits → AreSolvedBy v t (by_edge w) n →
     m ≤ i → m < length plan.order.items → AreKnownAt v t plan visits n (node_address v (number_in_place plan.order.items m))
 known_before {v = v} {t = t} {w = w} {plan = plan} {n = n} is visits i m visited s le ml e lt from =
     let here : StartsAtNode v e (number_in_place plan.order.items m) = node_here v (number_in_place plan.order.items m) (is.plan.order.within m ml) ∙ ap Some (sym from) in
@@ -58,7 +58,7 @@ known_before {v = v} {t = t} {w = w} {plan = plan} {n = n} is visits i m visited
 -- ---- all turns at a node
 
 -- a node that is the header of no loop
-pub no_turns : {v : FlowGraph} {t : LoopView} {w : List ℕ} {plan : Plan} → IsPlanned v t w plan → (n : Numbers) (k : ℕ) → k < length v.code.nodes → headed_at plan.headed.items k ≡ None → (j : ℕ) → j < (loops v t).loops → (loops v t).header j ≢ node_address v k
+pub no_turns : {v : FlowGraph} {t : LoopView} {w : List ℕ} {plan : Plan} → IsPlannedBy v t w plan → (n : Numbers) (k : ℕ) → k < length v.code.nodes → headed_at plan.headed.items k ≡ None → (j : ℕ) → j < (loops v t).loops → (loops v t).header j ≢ node_address v k
 no_turns {v = v} {t = t} {w = w} {plan = plan} is n k kl none j jl same =
     let count = loop_count v t in
     let low : j < length t.headers = omega arith in
@@ -67,7 +67,7 @@ no_turns {v = v} {t = t} {w = w} {plan = plan} is n k kl none j jl same =
     is.plan.headed.none k j none (slice_get-get_or t.headers j 0 low ∙ ap Some one)
 
 -- the loop that a plan has for a node of the order
-pub headed_is : {v : FlowGraph} {t : LoopView} {w : List ℕ} {plan : Plan} → IsPlanned v t w plan → (i k : ℕ) (o : Option ℕ) → i < length plan.order.items → k ≡ get_or plan.order.items i k → o ≡ get_or plan.headed.items k o → headed_at plan.headed.items (number_in_place plan.order.items i) ≡ o
+pub headed_is : {v : FlowGraph} {t : LoopView} {w : List ℕ} {plan : Plan} → IsPlannedBy v t w plan → (i k : ℕ) (o : Option ℕ) → i < length plan.order.items → k ≡ get_or plan.order.items i k → o ≡ get_or plan.headed.items k o → headed_at plan.headed.items (number_in_place plan.order.items i) ≡ o
 headed_is {v = v} {t = t} {w = w} {plan = plan} is i k o il node has =
     let here : number_in_place plan.order.items i ≡ k = value_at plan.order.items i k 0 il node in
     let size = is.plan.headed_size in
@@ -102,7 +102,7 @@ turns_too_long v t w l b x ll bounded found more n s =
 -- ---- acyclic paths
 
 -- what is found at the next node is the greatest cost of a acyclic path from there
-pub next_plain : {v : FlowGraph} {t : LoopView} {w : List ℕ} {plan : Plan} → IsPlanned v t w plan → (visits : List Visit) (i k x : ℕ) → AreVisitedTo v t (by_edge w) plan.order.items i visits → i < length plan.order.items → k ≡ get_or plan.order.items i k →
+pub next_plain : {v : FlowGraph} {t : LoopView} {w : List ℕ} {plan : Plan} → IsPlannedBy v t w plan → (visits : List Visit) (i k x : ℕ) → AreVisitedTo v t (by_edge w) plan.order.items i visits → i < length plan.order.items → k ≡ get_or plan.order.items i k →
     ((n : Numbers) → AreSolvedBy v t (by_edge w) n → AreKnownAt v t plan visits n (slice_index v.code.nodes k) → x ≡ n.plain (slice_index v.code.nodes k)) → (n : Numbers) → AreSolvedBy v t (by_edge w) n → x ≡ n.plain (node_address v (number_in_place plan.order.items i))
 next_plain {v = v} {t = t} {w = w} {plan = plan} is visits i k x visited il node found n s =
     let here : k ≡ number_in_place plan.order.items i = sym (value_at plan.order.items i k 0 il node) in
@@ -138,7 +138,7 @@ small_more visits k x low small is j = ⊎_elim
     (λ (other : j ≡ k → ⊥). subst IsSmallVisit (sym (get_or-set_other visits k j x _ other)) (small j))
     (cases_eq j k)
 
-pub all_visited : {v : FlowGraph} {t : LoopView} {w : List ℕ} {plan : Plan} {visits : List Visit} → IsPlanned v t w plan → AreVisits v visits → AreVisitedTo v t (by_edge w) plan.order.items (length plan.order.items) visits → AreAllVisited v t (by_edge w) visits
+pub all_visited : {v : FlowGraph} {t : LoopView} {w : List ℕ} {plan : Plan} {visits : List Visit} → IsPlannedBy v t w plan → AreVisits v visits → AreVisitedTo v t (by_edge w) plan.order.items (length plan.order.items) visits → AreAllVisited v t (by_edge w) visits
 all_visited {v = v} {t = t} {w = w} {plan = plan} {visits = visits} is table visited = record {
   table = table;
   each = λ n s k at node.

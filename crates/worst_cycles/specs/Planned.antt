@@ -12,7 +12,7 @@ use Rattle.worst_cycles.specs.Visits.{IsWorstPlan, AreAllVisited}
 use Rattle.worst_cycles.specs.Lefts.{HasSolved}
 
 -- a graph with accepted loops, a weight for each edge, and what is known of the nodes before the pass
-pub record IsPlanned (v : FlowGraph) (t : LoopView) (w : List ℕ) (p : Plan) : Type 0 where
+pub record IsPlannedBy (v : FlowGraph) (t : LoopView) (w : List ℕ) (p : Plan) : Type 0 where
   pub flow : IsFlowGraph v
   pub tree : HasTree v t
   pub plan : IsWorstPlan v t p
@@ -20,11 +20,11 @@ pub record IsPlanned (v : FlowGraph) (t : LoopView) (w : List ℕ) (p : Plan) : 
   pub heaviest : AreUpTo w p.heaviest
 
 abbrev pub IsPlannedGraph : PlannedGraph → Type 0
-IsPlannedGraph g = IsPlanned g.graph.now g.tree.now g.weights.now g.plan.now
+IsPlannedGraph g = IsPlannedBy g.graph.now g.tree.now g.weights.now g.plan.now
 
 -- all its nodes are visited, and its worst cycles are in range
 pub record IsVisited (v : FlowGraph) (t : LoopView) (w : List ℕ) (p : Plan) (found : List Visit) : Type 0 where
-  pub planned : IsPlanned v t w p
+  pub planned : IsPlannedBy v t w p
   pub visits : AreAllVisited v t (by_edge w) found
   pub solved : HasSolved v t (by_edge w)
 
