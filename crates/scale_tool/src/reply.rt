@@ -21,7 +21,10 @@ use crate::numbers::Size;
 use crate::program_files::{Inputs, PairFiles, ProgramFiles};
 use power_model::{RunReport, SurveyReport};
 use scale_base::{End, Lowered, NoMemory, Refusal, ScalePlan, Stop, Summary, Tuned, Verdict};
-use scale_report::{lowered_text, plan_text, refusal_text, run_text, summary_text, survey_text, tuned_text, verdict_text};
+use scale_report::{
+    lowered_text, plan_text, refusal_text, run_text, summary_text, survey_text, tuned_text,
+    verdict_text,
+};
 use std::alloc::Global;
 
 /// A file to store.
@@ -208,13 +211,7 @@ impl Reply {
     {
         Reply::judged(
             alloc,
-            image_check::check(
-                alloc,
-                files.image,
-                files.other,
-                files.machine,
-                files.loops,
-            ),
+            image_check::check(alloc, files.image, files.other, files.machine, files.loops),
         )
     }
 
@@ -284,13 +281,7 @@ impl Reply {
         Reply::chosen(
             alloc,
             out,
-            gain_tuner::tune(
-                alloc,
-                files.image,
-                files.machine,
-                files.loops,
-                inputs.items,
-            ),
+            gain_tuner::tune(alloc, files.image, files.machine, files.loops, inputs.items),
         )
     }
 
