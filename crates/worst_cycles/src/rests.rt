@@ -28,6 +28,21 @@ impl Rests {
         ensures rest { IsRestOf self.now place result }
         ensures small { (b : ℕ) → result ≡ Some b → b ≤ 2 ^ 48 + 2 ^ 32 }
     {
+        // In straight code an edge leads to the node whose rest was found last.
+        let count = self.found.len();
+        if 0 < count && count <= self.steps.len() && self.steps[count - 1] == place {
+            self.found[count - 1]
+        } else {
+            self.search(place)
+        }
+    }
+
+    /// The same by halving.
+    fn search(&self, place: usize) -> Option<u64>
+        requires rests { AreRests self.now }
+        ensures rest { IsRestOf self.now place result }
+        ensures small { (b : ℕ) → result ≡ Some b → b ≤ 2 ^ 48 + 2 ^ 32 }
+    {
         match self.steps.binary_search(&place) {
             Ok(m) => {
                 if m < self.found.len() {
