@@ -1,10 +1,10 @@
 -- The chains of arcs are those of the numbers from which they come.
-use Rattle.std.proofs.Common.{◌≡◌, ℕ, ◌<◌, ◌≤◌, List, map, length, sym, ap, ◌∙◌, subst, arith, Option, Some, None, ⊎_elim}
+use Rattle.std.proofs.Common.{◌≡◌, ℕ, ◌<◌, ◌≤◌, List, map, length, ap, ◌∙◌, subst, arith, Option, Some, None, ⊎_elim}
 use Rattle.std.proofs.lemmas.Bool.{cases_lt}
 use Rattle.std.proofs.lemmas.List.{get_or-map, length-map}
 use Rattle.graph_algorithms.specs.declared.orders.Arc.{Arc}
 use Rattle.graph_algorithms.specs.Arcs.{AreNumbered, arc_at}
-use Rattle.graph_algorithms.specs.DepthFirst.{arc_next, IsAbove, AreLasts, AreArcChains}
+use Rattle.graph_algorithms.specs.DepthFirst.{IsAbove, AreLasts, AreArcChains}
 use Rattle.graph_algorithms.specs.Keys.{ChainView, option_at, HasKey, AreKeys, AreChains}
 use Rattle.graph_algorithms.proofs.ChainLaws.{key_within}
 

@@ -6,7 +6,7 @@ use Rattle.std.proofs.lemmas.Option.{slice_get_within}
 use Rattle.graph_algorithms.specs.declared.bodies.extent.LoopExtent.{LoopExtent}
 use Rattle.graph_algorithms.specs.declared.bodies.extent.NodeRange.{NodeRange}
 use Rattle.graph_algorithms.specs.Bodies.{in_node_ranges, in_node_range}
-use Rattle.graph_algorithms.specs.Groups.{HasBit, IsFlagged, OfLoop, IsInside, IsChange, IsChangeOf, before_in, AreInside}
+use Rattle.graph_algorithms.specs.Groups.{HasBit, IsFlagged, OfLoop, IsInside, IsSpan, IsChange, IsChangeOf, before_in, AreInside}
 use Rattle.graph_algorithms.proofs.BitLaws.{has_xor, xor_left, xor_right, flag_same, same_flag, flag_other, other_flag}
 
 some_same : {A : Type 0} (a b : A) (o : Option A) → o ≡ Some a → o ≡ Some b → a ≡ b
@@ -165,19 +165,40 @@ pub record AreSummed (loops : List LoopExtent) (count n : ℕ) (words : List ℕ
   pub below : (v i : ℕ) → v < n → v < count → IsFlagged words v i ↔ OfLoop loops i (IsInside v)
   pub above : (v i : ℕ) → n ≤ v → v < count → IsFlagged words v i ↔ OfLoop loops i (IsChangeOf v)
 
-pub summed_start : (loops : List LoopExtent) (count : ℕ) (words : List ℕ) → length words ≡ count → ((v i : ℕ) → IsFlagged words v i ↔ ((v < count) × OfLoop loops i (IsChangeOf v))) → AreSummed loops count 1 words
-summed_start loops count words size are = record {
+-- ---- the nodes in front of a range of nodes, and those behind it
+false_of : (x : Bool) → (x ≡ true → ⊥) → x ≡ false
+false_of true none = absurd (none refl)
+false_of false none = refl
+
+no_change : (loop : LoopExtent) (v : ℕ) → (IsInside v loop → ⊥) → (before_in loop.ranges.items v ≡ true → ⊥) → IsChangeOf v loop → ⊥
+no_change loop v here before change = change (false_of (in_node_ranges loop.ranges.items v) here ∙ sym (false_of (before_in loop.ranges.items v) before))
+
+before_out : (loop : LoopExtent) (v : ℕ) → ((u : ℕ) → suc u ≡ v → IsInside u loop → ⊥) → before_in loop.ranges.items v ≡ true → ⊥
+before_out loop zero none h = let bad : ⊥ = cc in bad
+before_out loop (suc u) none h = none u refl h
+
+true_of : (loop : LoopExtent) (v : ℕ) → v ≡ 0 → IsChangeOf v loop → IsInside v loop
+true_of loop v first change = ⊎_elim (λ t. t) (λ (f : in_node_ranges loop.ranges.items v ≡ false). absurd (change (f ∙ sym (ap (before_in loop.ranges.items) first)))) (cases_Bool (in_node_ranges loop.ranges.items v))
+
+pub summed_from : (loops : List LoopExtent) (count n : ℕ) (nodes : NodeRange) (words : List ℕ) → ((v : ℕ) → 1 ≤ v → v < n → v < nodes.from) → IsSpan count loops nodes → length words ≡ count →
+    ((v i : ℕ) → IsFlagged words v i ↔ ((v < count) × OfLoop loops i (IsChangeOf v))) → AreSummed loops count n words
+summed_from loops count n nodes words front span size are = record {
   size = size;
-  below = λ v i lt within.
-      let first : v ≡ 0 = omega arith in (
+  below = λ v i lt within. ⊎_elim
+      (λ (first : v ≡ 0). (
         λ h. let w = ((are v i).0 h).1 in (w.0, w.1, true_of w.0 v first w.2),
         λ h. (are v i).1 (within, (h.0, h.1, λ same. both_ways (in_node_ranges h.0.ranges.items v) (same ∙ ap (before_in h.0.ranges.items) first) h.2)),
-      );
+      ))
+      (λ (ne : v ≡ 0 → ⊥). let d : v ≢ 0 = ne in
+      let far = front v (omega arith) lt in
+      let out : (u : ℕ) (loop : LoopExtent) → u ≤ v → slice_get loops i ≡ Some loop → IsInside u loop → ⊥ =
+      (λ u loop low at h. let s = (span.nodes i u loop at (omega arith) h).0 in let bad : ⊥ = omega arith in bad) in (
+        λ h. let w = ((are v i).0 h).1 in absurd (no_change w.0 v (out v w.0 (omega arith) w.1) (before_out w.0 v (λ u e. out u w.0 (omega arith) w.1)) w.2),
+        λ h. absurd (out v h.0 (omega arith) h.1 h.2),
+      ))
+      (cases_eq v 0);
   above = λ v i le within. (λ h. ((are v i).0 h).1, λ h. (are v i).1 (within, h));
 }
-  where
-    true_of : (loop : LoopExtent) (v : ℕ) → v ≡ 0 → IsChangeOf v loop → IsInside v loop
-    true_of loop v first change = ⊎_elim (λ t. t) (λ (f : in_node_ranges loop.ranges.items v ≡ false). absurd (change (f ∙ sym (ap (before_in loop.ranges.items) first)))) (cases_Bool (in_node_ranges loop.ranges.items v))
 
 module _ (loops : List LoopExtent) (count n : ℕ) (words : List ℕ) (was : AreSummed loops count (suc n) words) (within : suc n < count) where
   abbrev word : ℕ
@@ -253,5 +274,18 @@ summed_step loops count (suc n) words a b was one lt ae be =
     subst (λ k. AreSummed loops count k (set words (suc n) (bit_xor a b))) (sym more)
     (summed_next loops count n words was lt (set words (suc n) (bit_xor a b)) (ap (set words (suc n)) same) (length-set words (suc n) (bit_xor a b) ∙ was.size))
 
-pub summed_end : (loops : List LoopExtent) (count n : ℕ) (words : List ℕ) → count ≤ n → AreSummed loops count n words → AreInside loops count words
-summed_end loops count n words end was = record { size = was.size; nodes = λ v i lt. was.below v i (omega arith) lt }
+pub summed_stop : (loops : List LoopExtent) (count n : ℕ) (nodes : NodeRange) (words : List ℕ) → ((v : ℕ) → n ≤ v → v < count → nodes.to < v) → IsSpan count loops nodes → AreSummed loops count n words → AreInside loops count words
+summed_stop loops count n nodes words behind span was = record {
+  size = was.size;
+  nodes = λ v i lt. ⊎_elim
+      (λ (low : v < n). was.below v i low lt)
+      (λ (high : n ≤ v).
+      let far = behind v high lt in
+      let out : (u : ℕ) (loop : LoopExtent) → nodes.to ≤ u → u < count → slice_get loops i ≡ Some loop → IsInside u loop → ⊥ =
+      (λ u loop le less at h. let s = (span.nodes i u loop at less h).1 in let bad : ⊥ = omega arith in bad) in (
+        λ h. let w = (was.above v i high lt).0 h in
+            absurd (no_change w.0 v (out v w.0 (omega arith) lt w.1) (before_out w.0 v (λ u e. out u w.0 (omega arith) (omega arith) w.1)) w.2),
+        λ h. absurd (out v h.0 (omega arith) lt h.1 h.2),
+      ))
+      (cases_lt v n);
+}

@@ -2,7 +2,7 @@
 
 ghost use Rattle.std.specs.Prelude.{◌≡◌, ℕ, ◌<◌, ◌≤◌, ◌↔◌, ◌⊎◌, length, slice_get, Some, IfOk, IfSome};
 ghost use Rattle.graph_algorithms.specs.Bodies.{IsIn, AreNodes};
-ghost use Rattle.graph_algorithms.specs.Groups.{HasBit, IsFlagged, OfLoop, IsInSpan, AreLoopExtents, AreBodyBits, IsEnteredFrom, IsSideBit};
+ghost use Rattle.graph_algorithms.specs.Groups.{HasBit, IsFlagged, OfLoop, IsInSpan, IsSpan, AreLoopExtents, AreBodyBits, IsEnteredFrom, IsSideBit};
 
 use crate::bodies::bits::set_bit;
 use crate::bodies::edges::IncomingEdges;
@@ -32,11 +32,11 @@ pub fn search_together(
     nodes: NodeRange,
 ) -> Result<Option<Vec<u64>>, NoMemory>
     requires loops { AreLoopExtents edges.now.count loops.now }
-    requires within { nodes.to ≤ edges.now.count }
+    requires span { IsSpan edges.now.count loops.now nodes }
     ensures { IfOk result (λ found. IfSome found (λ bodies. AreBodyBits edges.now loops.now bodies.items)) }
 {
     let count = edges.count();
-    let inside = find_inside(alloc, loops, count)?;
+    let inside = find_inside(alloc, loops, nodes, count)?;
     let mut found: Vec<u64> = vec![in alloc; 0; count]?;
     let mut pending = vec![in alloc; false; count]?;
     start_loops(edges, loops, &inside, &mut found, &mut pending);

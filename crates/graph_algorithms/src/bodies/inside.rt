@@ -1,7 +1,7 @@
 //! By node, in which extents it lies.
 
 ghost use Rattle.std.specs.Prelude.{◌≡◌, ℕ, ◌<◌, ◌≤◌, ◌↔◌, ◌⊎◌, true, length, slice_index, IfOk};
-ghost use Rattle.graph_algorithms.specs.Groups.{HasBit, IsFlagged, OfLoop, IsChange, IsChangeOf, AreInside};
+ghost use Rattle.graph_algorithms.specs.Groups.{HasBit, IsFlagged, OfLoop, IsSpan, IsChange, IsChangeOf, AreInside};
 
 use crate::bodies::bits::set_bit;
 use crate::bodies::extent::{LoopExtent, NodeRange, is_in_extent};
@@ -51,14 +51,38 @@ fn mark_loops(changes: &mut [u64], loops: &[LoopExtent])
     }
 }
 
-/// By node, the loops in whose extents it lies.
-pub fn find_inside(alloc: Global, loops: &[LoopExtent], count: usize) -> Result<Vec<u64>, NoMemory>
-    requires { length loops.now ≤ 64 }
+// A range without node 0, and with the node behind it, at which an extent may end, if that is below a count.
+fn with_end(nodes: NodeRange, count: usize) -> NodeRange
+    ensures first { 1 ≤ result.from }
+    ensures front { (v : ℕ) → 1 ≤ v → v < result.from → v < nodes.from }
+    ensures within { result.to ≤ count }
+    ensures behind { (v : ℕ) → result.to ≤ v → v < count → nodes.to < v }
+{
+    NodeRange {
+        from: nodes.from.max(1),
+        to: if nodes.to < count {
+            nodes.to + 1
+        } else {
+            count
+        },
+    }
+}
+
+/// By node, the loops in whose extents it lies. The extents lie in a range of nodes, which alone is gone through.
+pub fn find_inside(
+    alloc: Global,
+    loops: &[LoopExtent],
+    nodes: NodeRange,
+    count: usize,
+) -> Result<Vec<u64>, NoMemory>
+    requires few { length loops.now ≤ 64 }
+    requires span { IsSpan count loops.now nodes }
     ensures { IfOk result (λ inside. AreInside loops.now count inside.items) }
 {
     let mut inside: Vec<u64> = vec![in alloc; 0; count]?;
     mark_loops(&mut inside, loops);
-    for node in 1..count {
+    let changes = with_end(nodes, count);
+    for node in changes.from..changes.to {
         inside[node] ^= inside[node - 1];
     }
     Ok(inside)

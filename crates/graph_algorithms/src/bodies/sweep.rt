@@ -1,8 +1,8 @@
 //! The bodies of some loops at once: bits are passed back over edges until none is new.
 
-ghost use Rattle.std.specs.Prelude.{◌≡◌, ℕ, ◌<◌, ◌≤◌, ◌↔◌, true, length};
-ghost use Rattle.graph_algorithms.specs.BodySearch.{AreUnmarked};
-ghost use Rattle.graph_algorithms.specs.Groups.{IsFlagged, OfLoop, AreLoopExtents, Gains, IsPassedOn, IsPassedBack, AreBitsSettled, IsSearched, IsTurn};
+ghost use Rattle.std.specs.Prelude.{◌≡◌, ℕ, ◌<◌, ◌≤◌, ◌↔◌, true, false, length};
+ghost use Rattle.graph_algorithms.specs.BodySearch.{is_marked_at, AreUnmarked};
+ghost use Rattle.graph_algorithms.specs.Groups.{IsFlagged, OfLoop, IsInSpan, AreLoopExtents, Gains, IsPassedOn, IsPassedBack, AreBitsSettled, IsSearched, IsTurn};
 
 use crate::bodies::edges::IncomingEdges;
 use crate::bodies::extent::{LoopExtent, NodeRange};
@@ -122,7 +122,41 @@ fn is_quiet(pending: &[bool]) -> bool
     true
 }
 
-/// Goes through the nodes of a range until none is pending, or often enough. Says whether none is.
+// Whether no node of a range is pending.
+fn is_quiet_among(pending: &[bool], nodes: NodeRange) -> bool
+    requires { nodes.to ≤ length pending.now }
+    ensures { (result ≡ true) ↔ ((v : ℕ) → IsInSpan nodes v → is_marked_at pending.now v ≡ false) }
+{
+    for node in nodes.from..nodes.to {
+        if pending[node] {
+            return false;
+        }
+    }
+    true
+}
+
+// Goes through the nodes of a range until none of them is pending, or often enough.
+fn sweep_often(
+    edges: &IncomingEdges<'_>,
+    inside: &[u64],
+    found: &mut [u64],
+    pending: &mut [bool],
+    nodes: NodeRange,
+)
+    requires nodes { nodes.to ≤ edges.now.count }
+    requires inside { length inside.now ≡ edges.now.count }
+    requires settled { AreBitsSettled edges.now inside.now found.old pending.old }
+    ensures { IsSearched edges.now inside.now found.old found.new pending.new }
+{
+    for _ in 0..MOST_SWEEPS {
+        if is_quiet_among(pending, nodes) {
+            return;
+        }
+        sweep(edges, inside, found, pending, nodes);
+    }
+}
+
+/// Goes through the nodes of a range until none of them is pending, or often enough. Says whether no node is.
 pub fn settle(
     edges: &IncomingEdges<'_>,
     inside: &[u64],
@@ -136,11 +170,6 @@ pub fn settle(
     ensures search { IsSearched edges.now inside.now found.old found.new pending.new }
     ensures quiet { (result ≡ true) ↔ AreUnmarked pending.new }
 {
-    for _ in 0..MOST_SWEEPS {
-        if is_quiet(pending) {
-            return true;
-        }
-        sweep(edges, inside, found, pending, nodes);
-    }
+    sweep_often(edges, inside, found, pending, nodes);
     is_quiet(pending)
 }

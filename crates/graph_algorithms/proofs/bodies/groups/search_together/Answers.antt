@@ -1,9 +1,15 @@
 use Rattle.std.proofs.Common.{rules, ℕ, ◌≡◌, ◌∙◌, ◌↔◌, length, replicate, sym, subst}
 use Rattle.std.proofs.lemmas.List.{take_at}
-use Rattle.graph_algorithms.specs.Groups.{IsFlagged, OfLoop, IsTurn, AreBodyBits, IsSearched, AreInside}
+use Rattle.graph_algorithms.specs.Groups.{IsFlagged, OfLoop, IsTurn, IsSpan, AreBodyBits, IsSearched, AreInside}
 use Rattle.graph_algorithms.proofs.SweepLaws.{searched_all}
 use Rattle.graph_algorithms.proofs.GroupLaws.{zero_flags}
 use Rattle.graph_algorithms.proofs.bodies.groups.search_together.Goals as goal
+
+pub find_inside-requires-clause-span : goal.find_inside-requires-clause-span
+find_inside-requires-clause-span c = subst (λ n. IsSpan n c.args.loops.now c.args.nodes) (sym c.count-count.ensures.count) c.requires.span
+
+pub settle-requires-clause-nodes : goal.settle-requires-clause-nodes
+settle-requires-clause-nodes c = c.requires.span.within
 
 pub start_loops-requires-clause-none : goal.start_loops-requires-clause-none
 start_loops-requires-clause-none c =

@@ -1,4 +1,4 @@
-use Rattle.std.proofs.Common.{◌≡◌, List, Option, ℕ, length, map, sym, subst, ap, ◌∙◌}
+use Rattle.std.proofs.Common.{◌≡◌, length, map, sym, subst, ap, ◌∙◌}
 use Rattle.graph_algorithms.specs.DepthFirst.{AreLasts, AreArcChains}
 use Rattle.graph_algorithms.specs.Keys.{AreKeys, AreChains}
 use Rattle.graph_algorithms.proofs.ArcChainLaws.{key_of, are_keys, lasts_are, chains_are, before_size}

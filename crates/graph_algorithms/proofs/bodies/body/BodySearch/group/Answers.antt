@@ -1,10 +1,13 @@
 use Rattle.std.proofs.Common.{rules, ℕ, ◌≡◌, ◌∙◌, ◌↔◌, sym, subst, IfSome}
 use Rattle.graph_algorithms.specs.Edges.{EdgeView}
-use Rattle.graph_algorithms.specs.Groups.{HasBit, IsFlagged, IsInSpan, IsSideBit, AreBodyBits}
+use Rattle.graph_algorithms.specs.Groups.{HasBit, IsFlagged, IsInSpan, IsSpan, IsSideBit, AreBodyBits}
 use Rattle.graph_algorithms.proofs.GroupLaws.{group_is}
 use Rattle.graph_algorithms.proofs.SpanLaws.{bodies_in}
 use Rattle.graph_algorithms.proofs.bodies.body.BodySearch.group.Goals as goal
 use Rattle.graph_algorithms.proofs.bodies.body.BodySearch.group.Goals.{in-Some, in-None+in_ok-bodies-in-None}
+
+pub search_together-requires-clause-span : goal.search_together-requires-clause-span
+search_together-requires-clause-span c = subst (λ n. IsSpan n c.args.loops.now c.span_of-nodes.result) c.count-count.ensures.count c.span_of-nodes.ensures
 
 pub find_aside-aside-requires-clause-nodes : goal.find_aside-aside-requires-clause-nodes
 find_aside-aside-requires-clause-nodes c =

@@ -1,5 +1,5 @@
 use Rattle.graph_algorithms.specs.Groups.{IsSearched}
-use Rattle.graph_algorithms.proofs.bodies.sweep.settle.Given as goal
+use Rattle.graph_algorithms.proofs.bodies.sweep.sweep_often.Given as goal
 
 abbrev pub invariant-loop : goal.invariant-loop
 invariant-loop l = IsSearched l.edges l.inside l.fn.found l.found l.pending

@@ -1,5 +1,5 @@
 use Rattle.graph_algorithms.proofs.SweepLaws.{searched_same, searched_then}
-use Rattle.graph_algorithms.proofs.bodies.sweep.settle.Goals as goal
+use Rattle.graph_algorithms.proofs.bodies.sweep.sweep_often.Goals as goal
 
 pub loop-init : goal.loop-init
 loop-init c = searched_same c.args.edges.now c.args.inside.now c.args.found.now c.args.pending.now c.requires.settled
