@@ -28,16 +28,16 @@ module _ (image scaled machine loops : List ℕ) (inputs : List (List ℕ)) (sur
       subst (λ p. Says p original notes) same_power (subst (λ i. Says w.power i notes) same_original (subst (λ n. Says w.power w.original n) same_notes h))
 
   -- the runs that `rewrite` promises are those of the lines
-  promise_of : (summary : Summary) (safe : IsRewrittenSafely image machine loops scaled summary) → KeepsThePromise w.power w.original w.notes w.other summary.stub_cycles
-  promise_of summary safe =
-      let same_power : safe.power ≡ w.power = same_ok (read_machine machine) safe.power w.power safe.power_is w.power_is in
-      let same_original : safe.original ≡ w.original = same_ok (image_of image) safe.original w.original safe.original_is w.original_is in
-      let same_notes : safe.notes ≡ w.notes = same_ok (read_loops safe.original loops) safe.notes w.notes safe.notes_are (ap (λ i. read_loops i loops) same_original ∙ w.notes_are) in
-      let same_other : safe.rewritten ≡ w.other = same_ok (image_of scaled) safe.rewritten w.other safe.rewritten_is w.other_is in
+  promise_of : (summary : Summary) (is : IsRewrittenSafely image machine loops scaled summary) → KeepsThePromise w.power w.original w.notes w.other summary.stub_cycles
+  promise_of summary is =
+      let same_power : is.safe.files.power ≡ w.power = same_ok (read_machine machine) is.safe.files.power w.power is.safe.files.power_is w.power_is in
+      let same_original : is.safe.files.original ≡ w.original = same_ok (image_of image) is.safe.files.original w.original is.safe.files.original_is w.original_is in
+      let same_notes : is.safe.files.notes ≡ w.notes = same_ok (read_loops is.safe.files.original loops) is.safe.files.notes w.notes is.safe.files.notes_are (ap (λ i. read_loops i loops) same_original ∙ w.notes_are) in
+      let same_other : is.safe.files.rewritten ≡ w.other = same_ok (image_of scaled) is.safe.files.rewritten w.other is.safe.files.rewritten_is w.other_is in
       subst (λ p. KeepsThePromise p w.original w.notes w.other summary.stub_cycles) same_power
-      (subst (λ i. KeepsThePromise safe.power i w.notes w.other summary.stub_cycles) same_original
-      (subst (λ n. KeepsThePromise safe.power safe.original n w.other summary.stub_cycles) same_notes
-      (subst (λ o. KeepsThePromise safe.power safe.original safe.notes o summary.stub_cycles) same_other safe.promise)))
+      (subst (λ i. KeepsThePromise is.safe.files.power i w.notes w.other summary.stub_cycles) same_original
+      (subst (λ n. KeepsThePromise is.safe.files.power is.safe.files.original n w.other summary.stub_cycles) same_notes
+      (subst (λ o. KeepsThePromise is.safe.files.power is.safe.files.original is.safe.files.notes o summary.stub_cycles) same_other is.safe.files.promise)))
 
   pub bounds_enough : MostIsEnough image machine loops inputs survey.most
   bounds_enough = of_files _ (most_is_enough w.power w.original w.other w.notes inputs survey w.surveyed)
