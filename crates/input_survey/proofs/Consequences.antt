@@ -1,63 +1,27 @@
 -- What a survey that was made says of bounds and of what `rewrite` stores.
-use Rattle.std.proofs.Common.{◌≡◌, ℕ, ◌≤◌, List, length, map, Result, Ok, Err, ap, ◌∙◌, subst}
+use Rattle.std.proofs.Common.{ℕ, ◌≤◌, List, length, map, Result, Ok, Err}
 use Rattle.std.specs.Prelude.{IfOk}
-use Rattle.std.specs.List.{All}
 use Rattle.scale_base.specs.declared.refusal.Stop.{Stop}
 use Rattle.scale_base.specs.Answer.{AnswersBy}
-use Rattle.scale_base.specs.Image.{Image, image_of}
 use Rattle.power_model.specs.declared.survey.SurveyReport.{SurveyReport}
-use Rattle.power_model.specs.Numbers.{PowerModel}
-use Rattle.power_model.specs.Survey.{Survey, survey_view, line_view}
-use Rattle.machine_file.specs.Machine.{read_machine}
-use Rattle.loop_file.specs.declared.notes.LoopNote.{LoopNote}
-use Rattle.loop_file.specs.Loops.{read_loops}
-use Rattle.rewritten_runs.specs.Promise.{KeepsThePromise}
-use Rattle.scaler.specs.Promise.{FilesKeepThePromise}
-use Rattle.scaler.proofs.Laws.{rewritten_safe}
+use Rattle.power_model.specs.Survey.{survey_view, line_view}
 use Rattle.input_survey.specs.Surveyed.{IsSurveyed}
-use Rattle.input_survey.specs.Bounds.{OfFiles, MostIsEnough, MostIsNeeded}
-use Rattle.input_survey.specs.Promised.{IsPromised, LinesArePromised}
-use Rattle.input_survey.proofs.Went.{WentThrough, went_through, same_ok}
-use Rattle.input_survey.proofs.BoundLaws.{most_is_enough, most_is_needed}
-use Rattle.input_survey.proofs.PromiseLaws.{lines_promised}
-
--- what holds of the files that were read holds of what the bytes are
-of_files : (Says : PowerModel → Image → List LoopNote → Type 0) (image scaled machine loops : List ℕ) (inputs : List (List ℕ)) (survey : Survey) (w : WentThrough image scaled machine loops inputs survey) →
-    Says w.power w.original w.notes → OfFiles Says image machine loops
-of_files Says image scaled machine loops inputs survey w h power original notes power_is original_is notes_are =
-    let same_power : w.power ≡ power = same_ok (read_machine machine) w.power power w.power_is power_is in
-    let same_original : w.original ≡ original = same_ok (image_of image) w.original original w.original_is original_is in
-    let same_notes : w.notes ≡ notes = same_ok (read_loops w.original loops) w.notes notes w.notes_are (ap (λ i. read_loops i loops) same_original ∙ notes_are) in
-    subst (λ p. Says p original notes) same_power (subst (λ i. Says w.power i notes) same_original (subst (λ n. Says w.power w.original n) same_notes h))
+use Rattle.input_survey.specs.Bounds.{MostIsEnough, MostIsNeeded}
+use Rattle.input_survey.specs.Promised.{LinesArePromised}
+use Rattle.input_survey.proofs.Went.{went_through}
+use Rattle.input_survey.proofs.Saying.{bounds_enough, bounds_needed, lines_keep}
 
 pub enough : (image scaled machine loops : List ℕ) (inputs : List (List ℕ)) (result : Result SurveyReport Stop) → AnswersBy survey_view result (IsSurveyed image scaled machine loops inputs) →
     IfOk result (λ survey. MostIsEnough image machine loops inputs survey.most.items)
-enough image scaled machine loops inputs (Ok r) h =
-    let w = went_through image scaled machine loops inputs (survey_view r) h in
-    of_files _ image scaled machine loops inputs (survey_view r) w (most_is_enough w.power w.original w.other w.notes inputs (survey_view r) w.surveyed)
+enough image scaled machine loops inputs (Ok r) h = bounds_enough image scaled machine loops inputs (survey_view r) (went_through image scaled machine loops inputs (survey_view r) h)
 enough image scaled machine loops inputs (Err stop) h = tt
 
 pub needed : (image scaled machine loops : List ℕ) (inputs : List (List ℕ)) (result : Result SurveyReport Stop) → AnswersBy survey_view result (IsSurveyed image scaled machine loops inputs) →
     IfOk result (λ survey. MostIsNeeded image machine loops inputs survey.most.items)
-needed image scaled machine loops inputs (Ok r) h =
-    let w = went_through image scaled machine loops inputs (survey_view r) h in
-    of_files _ image scaled machine loops inputs (survey_view r) w (most_is_needed w.power w.original w.other w.notes inputs (survey_view r) w.surveyed)
+needed image scaled machine loops inputs (Ok r) h = bounds_needed image scaled machine loops inputs (survey_view r) (went_through image scaled machine loops inputs (survey_view r) h)
 needed image scaled machine loops inputs (Err stop) h = tt
 
 pub promised : (image scaled machine loops : List ℕ) (inputs : List (List ℕ)) (result : Result SurveyReport Stop) → length image ≤ 4194304 → length machine ≤ 1048576 → length loops ≤ 1048576 →
     AnswersBy survey_view result (IsSurveyed image scaled machine loops inputs) → IfOk result (λ survey. LinesArePromised image scaled machine loops (map line_view survey.lines.items))
-promised image scaled machine loops inputs (Ok r) si sm sl h = λ summary rewritten power power_is.
-    let w = went_through image scaled machine loops inputs (survey_view r) h in
-    let safe : FilesKeepThePromise image machine loops scaled summary.start summary.worst summary.time summary.stub_cycles = (rewritten_safe image machine loops scaled summary si sm sl rewritten).safe.files in
-    let same_power : safe.power ≡ w.power = same_ok (read_machine machine) safe.power w.power safe.power_is w.power_is in
-    let same_original : safe.original ≡ w.original = same_ok (image_of image) safe.original w.original safe.original_is w.original_is in
-    let same_notes : safe.notes ≡ w.notes = same_ok (read_loops safe.original loops) safe.notes w.notes safe.notes_are (ap (λ i. read_loops i loops) same_original ∙ w.notes_are) in
-    let same_other : safe.rewritten ≡ w.other = same_ok (image_of scaled) safe.rewritten w.other safe.rewritten_is w.other_is in
-    let promise : KeepsThePromise w.power w.original w.notes w.other summary.stub_cycles =
-    subst (λ p. KeepsThePromise p w.original w.notes w.other summary.stub_cycles) same_power
-    (subst (λ i. KeepsThePromise safe.power i w.notes w.other summary.stub_cycles) same_original
-    (subst (λ n. KeepsThePromise safe.power safe.original n w.other summary.stub_cycles) same_notes
-    (subst (λ o. KeepsThePromise safe.power safe.original safe.notes o summary.stub_cycles) same_other safe.promise))) in
-    let lines : All (IsPromised w.power) (map line_view r.lines.items) = lines_promised w.power w.original w.other w.notes summary.stub_cycles promise inputs (map line_view r.lines.items) w.surveyed.lines in
-    subst (λ p. All (IsPromised p) (map line_view r.lines.items)) (same_ok (read_machine machine) w.power power w.power_is power_is) lines
+promised image scaled machine loops inputs (Ok r) si sm sl h = lines_keep image scaled machine loops inputs (survey_view r) (went_through image scaled machine loops inputs (survey_view r) h) si sm sl
 promised image scaled machine loops inputs (Err stop) si sm sl h = tt

@@ -5,7 +5,7 @@ pub mod Went
 pub mod BoundLaws
 pub mod PromiseLaws
 pub mod SurveyLaws
-pub mod Consequences
 pub mod SameSurveys
 pub mod Saying
+pub mod Consequences
 pub mod Laws
