@@ -250,12 +250,8 @@ fn files_of_survey_have_limits(rt: HostRuntime) -> Result<(), Fail> {
     let alloc = rt.alloc();
     let long = vec![in alloc; 0; 8388609]?;
     let cases: [(&[u8], &[u8], &str); 3] = [
-        (&long, &long, "refused 50 too large: scaled\n"),
-        (
-            &long[1..],
-            &long[1..1048578],
-            "refused 50 too large: input-1\n",
-        ),
+        (&long, &long[1..1048578], "refused 50 too large: scaled\n"),
+        (&[], &long[1..1048578], "refused 50 too large: input-1\n"),
         (
             &long[1..],
             &long[1..1048577],
