@@ -77,27 +77,12 @@ fn check_survey(
     Ok(())
 }
 
-// What is printed of `READ_ALL`, and of what `rewrite` stores of it, over 64 inputs of three bytes.
-fn text_of_64(alloc: Global) -> Result<String, Fail> {
-    let mut text = String::from_str(alloc, "")?;
-    for number in 1..65u32 {
-        text.push_str(format!(in alloc;
-            "input {number} cycles 43 scaled cycles 101 time 236 energy 299\n"
-        )?.as_str())?;
-    }
-    text.push_str(
-        "loop 1 most 3\ninputs 64\nkept 64\nlate 0\ndiffer 0\noriginal cycles 2752\nscaled cycles 6464\nenergy 19136\nheld 19392\nswitches 64\n",
-    )?;
-    Ok(text)
-}
-
 // The words, the deadline, the loop file, what `rewrite` prints, the inputs, and what is printed of them. Eleven bytes are too many for the
 // loop: the table of its stub has no row for them.
 #[test]
 fn rewritten_programs_are_surveyed(rt: HostRuntime) -> Result<(), Fail> {
     let alloc = rt.alloc();
-    let text_of_64 = text_of_64(alloc)?;
-    let cases: [(&[u32], u32, &str, &str, &[&str], &str); 3] = [
+    let cases: [(&[u32], u32, &str, &str, &[&str], &str); 2] = [
         (
             &READ_ONE,
             160,
@@ -114,14 +99,6 @@ fn rewritten_programs_are_surveyed(rt: HostRuntime) -> Result<(), Fail> {
             &["abc", "eleven byte"],
             "input 1 cycles 43 scaled cycles 101 time 236 energy 299\ninput 2 cycles 115 scaled cycles 240 time 480 energy 720\nloop 1 most 11\ninputs 2\nkept 1\nlate 0\ndiffer 1\noriginal cycles 158\nscaled cycles 341\nenergy 1019\nheld 1023\nswitches 1\n",
         ),
-        (
-            &READ_ALL,
-            500,
-            READ_LOOP,
-            READ_ALL_SUMMARY,
-            &["abc"; 64],
-            text_of_64.as_str(),
-        ),
     ];
     for (words, deadline, loops, summary, inputs, text) in cases {
         let image = plain_image(alloc, words, 0, 5)?;
@@ -133,6 +110,35 @@ fn rewritten_programs_are_surveyed(rt: HostRuntime) -> Result<(), Fail> {
         )?;
     }
     Ok(())
+}
+
+// What is printed of `READ_ALL`, and of what `rewrite` stores of it, over 64 inputs of three bytes.
+fn text_of_64(alloc: Global) -> Result<String, Fail> {
+    let mut text = String::from_str(alloc, "")?;
+    for number in 1..65u32 {
+        text.push_str(format!(in alloc;
+            "input {number} cycles 43 scaled cycles 101 time 236 energy 299\n"
+        )?.as_str())?;
+    }
+    text.push_str(
+        "loop 1 most 3\ninputs 64\nkept 64\nlate 0\ndiffer 0\noriginal cycles 2752\nscaled cycles 6464\nenergy 19136\nheld 19392\nswitches 64\n",
+    )?;
+    Ok(text)
+}
+
+#[test]
+fn as_many_inputs_as_may_be_are_surveyed(rt: HostRuntime) -> Result<(), Fail> {
+    let alloc = rt.alloc();
+    let image = plain_image(alloc, &READ_ALL, 0, 5)?;
+    let machine = machine_file(alloc, 500, DIV, 2)?;
+    let machine = machine.as_str();
+    let scaled = rewritten(&rt, alloc, &READ_ALL, machine, READ_LOOP, READ_ALL_SUMMARY)?;
+    let text = text_of_64(alloc)?;
+    let text = text.as_str();
+    let inputs = ["abc"; 64];
+    check_survey(
+        &rt, alloc, 0, &image, &scaled, machine, READ_LOOP, &inputs, 0, text,
+    )
 }
 
 // Programs that are their own scaled images, and so run at the fastest level: the words, the steps that a run may take, the loop file, the
@@ -244,12 +250,8 @@ fn files_of_survey_have_limits(rt: HostRuntime) -> Result<(), Fail> {
     let alloc = rt.alloc();
     let long = vec![in alloc; 0; 8388609]?;
     let cases: [(&[u8], &[u8], &str); 3] = [
-        (&long, &long, "refused 50 too large: scaled\n"),
-        (
-            &long[1..],
-            &long[1..1048578],
-            "refused 50 too large: input-1\n",
-        ),
+        (&long, &long[1..1048578], "refused 50 too large: scaled\n"),
+        (&[], &long[1..1048578], "refused 50 too large: input-1\n"),
         (
             &long[1..],
             &long[1..1048577],
