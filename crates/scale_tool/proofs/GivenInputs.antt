@@ -1,10 +1,11 @@
 -- The files of a survey and of a tuning: those before the inputs, and the inputs.
-use Rattle.std.proofs.Common.{◌≡◌, ℕ, suc, ◌≤◌, List, [], ◌∷◌, length, take, drop, refl, ap, arith}
-use Rattle.std.specs.Prelude.{Vec}
+use Rattle.std.proofs.Common.{◌≡◌, ◌∙◌, ℕ, suc, ◌≤◌, List, [], ◌∷◌, length, take, drop, refl, ap, arith}
+use Rattle.std.specs.Prelude.{String, Vec, string_bytes}
 use Rattle.std.specs.declared.alloc.Global.{Global}
 use Rattle.std.specs.List.{All, AllZip}
+use Rattle.std.proofs.lemmas.List.{length-map}
 use Rattle.std.proofs.lemmas.List.Elements.{All-nil, All-cons}
-use Rattle.scale_tool.specs.Command.{Command, Survey, Tune, input_wants, wants_of}
+use Rattle.scale_tool.specs.Command.{input_wants, texts}
 use Rattle.scale_tool.specs.Views.{files_view}
 
 -- a file for each that is wanted, within its limit
@@ -54,3 +55,7 @@ module _ (names : List (List ℕ)) where
   four_first image other machine loops (i ∷ []) are = absurd are.1
   four_first image other machine loops (i ∷ o ∷ []) are = absurd are.1.1
   four_first image other machine loops (i ∷ o ∷ m ∷ []) are = absurd are.1.1.1
+
+-- there are as many inputs as words that name them
+pub as_many : (n : ℕ) (limits : List ℕ) (words : List (String Global)) (files inputs : List (Vec ℕ Global)) → AreSplit n limits (texts words) files → inputs ≡ drop n files → length inputs ≡ length words
+as_many n limits words files inputs split is = ap length is ∙ (split.count ∙ length-map words (λ word. string_bytes word))

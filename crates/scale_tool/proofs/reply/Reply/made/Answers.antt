@@ -1,19 +1,20 @@
-use Rattle.std.proofs.Common.{◌≡◌, ◌≤◌, length, ℕ, List, [], ◌∷◌, get_or, Bor, subst, sym, ap, ◌∙◌}
+use Rattle.std.proofs.Common.{◌≡◌, ◌≤◌, length, ℕ, List, [], ◌∷◌, drop, get_or, Bor, subst, sym, ap, ◌∙◌, arith}
 use Rattle.std.specs.Prelude.{Vec, Some, None, IfOk, Option, Result, option_map}
 use Rattle.std.specs.declared.alloc.Global.{Global}
-use Rattle.std.specs.List.{AllZip}
+use Rattle.std.specs.List.{All}
 use Rattle.scale_base.specs.declared.refusal.NoMemory.{NoMemory}
 use Rattle.scale_tool.specs.declared.command.Work.{Work}
 use Rattle.scale_tool.specs.declared.command.Work.TheVariants.{Simulate as ParsedSimulate}
 use Rattle.scale_tool.specs.declared.reply.Reply.{Reply}
 use Rattle.scale_tool.specs.Answer.{MakesRun, Makes}
 use Rattle.scale_tool.specs.Views.{reply_view, work_view, files_view}
-use Rattle.scale_tool.specs.Command.{Command, Simulate, wants_of}
+use Rattle.scale_tool.specs.Command.{Command, Simulate, texts, wants_of}
+use Rattle.scale_tool.proofs.GivenInputs.{AreSplit, AreWanted, as_many, four_first, three_first}
 use Rattle.scale_tool.proofs.reply.Reply.made.Goals as goal
 
 -- a file for each that is wanted, within its limit
 abbrev AreFiles : Command → List (Vec ℕ Global) → Type 0
-AreFiles command files = AllZip (λ (want : List ℕ × ℕ) (file : List ℕ). length file ≤ want.1) (wants_of command) (files_view files)
+AreFiles command files = AreWanted (wants_of command) files
 
 -- what a run gives, by its three or four files
 abbrev Gives : (i m n : List ℕ) → Option (List ℕ) → List ℕ → Result Reply NoMemory → Type 0
@@ -82,3 +83,33 @@ returns-in-Some-clause-answer c =
     made_here _ _ _ _ _ _ (Some c.in-Some.field-0) c.in-Simulate.is c.in-Some.is c.args.files.now c.run-in-Some.result
     (made_of_four c.in-Simulate.image.now c.in-Simulate.machine.now c.in-Simulate.input.now c.in-Simulate.out.now c.in-Some.field-0.now c.args.files.now _ _ _ _ _ _ _ _ c.run-in-Some.result are c.index-files-0-in-Some.is c.index-files-1-in-Some.is c.index-files-2-in-Some.is c.index-files-3.is
     c.deref-in-Some.ensures.value c.deref-in-Some-2.ensures.value c.deref-in-Some-3.ensures.value c.deref-in-Some-4.ensures.value c.run-in-Some.ensures)
+
+pub invariant_of-surveyed : goal.invariant_of-surveyed
+invariant_of-surveyed c =
+    let files : List (Vec ℕ Global) = c.args.files.now in
+    let inputs = c.in-Survey.inputs in
+    let are = subst (λ (p : Work). AreFiles (work_view p) files) c.in-Survey.is c.requires in
+    let split = four_first (texts inputs.names.now) (c.in-Survey.image.now, 4194304) (c.in-Survey.scaled.now, 8388608) (c.in-Survey.machine.now, 1048576) (c.in-Survey.loops.now, 1048576) files are in
+    let count : length c.split_at.result.1.now ≡ length inputs.names.now = as_many 4 _ inputs.names.now files c.split_at.result.1.now split c.split_at.ensures.back in
+    let some = inputs.some in
+    let few = inputs.few in
+    record {
+      some = omega arith;
+      few = omega arith;
+      short = subst (λ (xs : List (Vec ℕ Global)). All (λ input. length input.items ≤ 1048576) xs) (sym c.split_at.ensures.back) split.short;
+    }
+
+pub invariant_of-tuned : goal.invariant_of-tuned
+invariant_of-tuned c =
+    let files : List (Vec ℕ Global) = c.args.files.now in
+    let inputs = c.in-Tune.inputs in
+    let are = subst (λ (p : Work). AreFiles (work_view p) files) c.in-Tune.is c.requires in
+    let split = three_first (texts inputs.names.now) (c.in-Tune.image.now, 4194304) (c.in-Tune.machine.now, 1048576) (c.in-Tune.loops.now, 1048576) files are in
+    let count : length c.split_at-in-Tune.result.1.now ≡ length inputs.names.now = as_many 3 _ inputs.names.now files c.split_at-in-Tune.result.1.now split c.split_at-in-Tune.ensures.back in
+    let some = inputs.some in
+    let few = inputs.few in
+    record {
+      some = omega arith;
+      few = omega arith;
+      short = subst (λ (xs : List (Vec ℕ Global)). All (λ input. length input.items ≤ 1048576) xs) (sym c.split_at-in-Tune.ensures.back) split.short;
+    }
