@@ -1,14 +1,13 @@
 -- Marks by the numbers of nodes are marks by their addresses; and the edges of an instruction.
-use Rattle.std.proofs.Common.{◌≡◌, ◌≢◌, ℕ, zero, suc, ◌+◌, ◌<◌, ◌≤◌, ◌⊎◌, Bool, true, false, not, ◌&&◌, ◌||◌, ◌==◌, nat_eq, List, [], ◌∷◌, ◌++◌, map, length, length-append, get_or, slice_get, slice_index, slice_index_or, option_map, Option, Some, None, Vec, Global, refl, sym, ap, ◌∙◌, subst, arith, ⊎_elim, eqb-true, eq-eqb}
+use Rattle.std.proofs.Common.{◌≡◌, ℕ, zero, suc, ◌+◌, ◌<◌, ◌≤◌, Bool, true, false, not, ◌&&◌, ◌||◌, ◌==◌, nat_eq, List, [], ◌∷◌, ◌++◌, map, length, length-append, get_or, slice_get, slice_index, slice_index_or, option_map, Option, Some, None, Vec, Global, refl, sym, ap, ◌∙◌, arith, ⊎_elim, eqb-true, eq-eqb}
 use Rattle.std.proofs.lemmas.Bool.{cases_lt}
 use Rattle.std.proofs.lemmas.Bool.Decides.{nat_tests}
-use Rattle.std.proofs.lemmas.List.{length-map}
-use Rattle.std.proofs.lemmas.Option.{slice_get_within, slice_get-get_or, get_or_from_slice_get, slice_get-map, same_Some}
+use Rattle.std.proofs.lemmas.Option.{slice_get-get_or, get_or_from_slice_get, slice_get-map}
 use Rattle.scale_base.specs.declared.stepping.Class.{Class}
 use Rattle.power_model.specs.declared.power.Costs.{Costs}
 use Rattle.power_model.specs.Price.{cycles_of}
 use Rattle.code_text.specs.EdgeCosts.{cost_of}
-use Rattle.cost_theory.specs.Graph.{Graph, Loops, leaves, goes_back, is_header, any_below}
+use Rattle.cost_theory.specs.Graph.{Graph, Loops, leaves, goes_back, any_below}
 use Rattle.cost_theory.specs.Lists.{or_true, is_among, body_of}
 use Rattle.code_graph.specs.FlowGraph.{FlowGraph, graph, IsFlowGraph}
 use Rattle.loop_tree.specs.Noted.{node_address}

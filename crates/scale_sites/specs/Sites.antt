@@ -1,17 +1,13 @@
 -- The marks and the jumps of all edges of a program.
-use Rattle.std.specs.Prelude.{◌≡◌, ℕ, ◌+◌, ◌<◌, ◌≤◌, Bool, true, false, List, [], ◌∷◌, length, slice_get, slice_index, slice_index_or, Option, Some, None, map}
-use Rattle.power_model.specs.declared.power.Costs.{Costs}
-use Rattle.power_model.specs.Price.{cycles_of}
+use Rattle.std.specs.Prelude.{◌≡◌, ℕ, ◌<◌, ◌≤◌, Bool, true, false, List, [], length, slice_get, slice_index, slice_index_or, Option, Some, None}
 use Rattle.scale_base.specs.declared.edges.Edge.{Edge}
 use Rattle.scale_base.specs.declared.edges.EdgeKind.{EdgeKind}
 use Rattle.scale_base.specs.declared.edges.EdgeKind.TheVariants.{Taken, Untaken, Jump, Next, CallNext, End}
-use Rattle.code_text.specs.EdgeCosts.{cost_of}
 use Rattle.code_graph.specs.FlowGraph.{FlowGraph, graph}
-use Rattle.loop_tree.specs.Noted.{node_address}
 use Rattle.loop_tree.specs.Tree.{LoopView, loops}
 use Rattle.scale_base.specs.declared.fragments.Mark.{Mark}
 use Rattle.scale_sites.specs.Marks.{marks_of}
-use Rattle.scale_sites.specs.Weights.{jumps_of, extra_weight, stored_weight}
+use Rattle.scale_sites.specs.Weights.{jumps_of}
 
 pub record SitesView : Type 0 where
   -- by edge, its marks, and the jumps of its stub

@@ -1,4 +1,4 @@
-use Rattle.std.proofs.Common.{◌≡◌, ◌+◌, ◌≤◌, ◌++◌, List, ℕ, [], ◌∷◌, length, length-append, Vec, Global, Some, true, false, arith, sym, ap, ◌∙◌, subst}
+use Rattle.std.proofs.Common.{◌≡◌, ◌+◌, ◌≤◌, ◌++◌, ℕ, [], ◌∷◌, length, length-append, Vec, Global, Some, arith, ap, ◌∙◌}
 use Rattle.scale_sites.proofs.CounterLaws.{set_more, set_skip, set_last}
 use Rattle.scale_sites.proofs.counting.counted_of.Goals as goal
 use Rattle.scale_sites.proofs.counting.counted_of.Goals.{then-counted+in_ok-push, else-counted}

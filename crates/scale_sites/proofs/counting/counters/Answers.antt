@@ -1,6 +1,3 @@
-use Rattle.std.proofs.Common.{◌≡◌, ◌+◌, ◌≤◌, inl, inr, sym, ap, ◌∙◌, refl}
-use Rattle.cost_theory.specs.Reached.{edge_at}
-use Rattle.scale_base.specs.declared.refusal.Refusal.TheVariants.{Uncountable}
 use Rattle.scale_sites.proofs.counting.counters.Goals as goal
 
 pub edge-at-requires : goal.edge-at-requires

@@ -1,5 +1,4 @@
-use Rattle.std.proofs.Common.{◌≡◌, ◌+◌, ◌<◌, length, arith, refl, sym, ap, subst}
-use Rattle.scale_sites.specs.declared.counting.BackEdge.{BackEdge}
+use Rattle.std.proofs.Common.{◌≡◌, ◌+◌, length, arith, refl, sym, subst}
 use Rattle.scale_sites.proofs.CounterLaws.{AreFirst, first_on, first_more, first_last, none_last}
 use Rattle.scale_sites.proofs.counting.first_uncountable.Goals as goal
 use Rattle.scale_sites.proofs.counting.first_uncountable.Goals.{in-Some, in_default}

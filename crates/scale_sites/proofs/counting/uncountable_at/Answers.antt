@@ -1,7 +1,7 @@
-use Rattle.std.proofs.Common.{◌≡◌, Some, true, false, sym, ap, ◌∙◌, subst}
-use Rattle.std.proofs.lemmas.Option.{same_Some, none-some}
+use Rattle.std.proofs.Common.{Some, sym, ap, ◌∙◌, subst}
+use Rattle.std.proofs.lemmas.Option.{same_Some}
 use Rattle.scale_sites.specs.Counters.{IsUncountable}
-use Rattle.scale_sites.proofs.CounterLaws.{known_loop, is_known, not_known, not_counted, no_loop}
+use Rattle.scale_sites.proofs.CounterLaws.{known_loop, is_known}
 use Rattle.scale_sites.proofs.counting.uncountable_at.Goals as goal
 
 pub counted-requires : goal.counted-requires

@@ -1,6 +1,5 @@
-use Rattle.std.proofs.Common.{◌≡◌, ◌+◌, ◌++◌, [], ◌∷◌, map, Vec, Global, sym, ap, ◌∙◌, subst}
+use Rattle.std.proofs.Common.{◌≡◌, ◌++◌, [], ◌∷◌, map, Vec, Global, ap, ◌∙◌}
 use Rattle.scale_base.specs.declared.fragments.Mark.{Mark}
-use Rattle.scale_sites.specs.Sites.{AreMarks}
 use Rattle.scale_sites.proofs.SiteLaws.{map_push, marks_push}
 use Rattle.scale_sites.proofs.sites.all_marks.Goals as goal
 

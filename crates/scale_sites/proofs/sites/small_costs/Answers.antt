@@ -1,5 +1,4 @@
-use Rattle.std.proofs.Common.{◌≡◌, ◌<◌, ◌≤◌, arith}
-use Rattle.scale_base.specs.declared.stepping.Class.{Class}
+use Rattle.std.proofs.Common.{◌≤◌, arith}
 use Rattle.scale_base.specs.declared.stepping.Class.TheVariants.{Alu, Load, Store, Taken, Untaken, Jump, Mul, Div, Ecall, Fence}
 use Rattle.power_model.specs.Price.{cycles_of}
 use Rattle.scale_sites.proofs.sites.small_costs.Goals as goal

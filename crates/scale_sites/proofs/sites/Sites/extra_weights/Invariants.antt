@@ -1,6 +1,4 @@
-use Rattle.std.proofs.Common.{◌≡◌, ℕ, ◌+◌, ◌<◌, length, slice_index, map}
-use Rattle.power_model.specs.Price.{cycles_of}
-use Rattle.code_text.specs.EdgeCosts.{cost_of}
+use Rattle.std.proofs.Common.{◌≡◌, ℕ, ◌<◌, length, slice_index}
 use Rattle.scale_sites.specs.Weights.{extra_of}
 use Rattle.scale_sites.specs.Sites.{marks_at_edge}
 use Rattle.scale_sites.proofs.sites.Sites.extra_weights.Given as goal
