@@ -3,8 +3,8 @@
 rewritings that it chooses from and their runs.
 
 It makes files in a temporary folder: a program that reads a byte and turns a counted loop 1,024 times for each of its units, what `rewrite` stores of
-it, and inputs of one byte, from 64 on. A run of the program takes 300,000 to 700,000 steps, and one of its scaled image some more. Each command is run
-three times, of which the best counts:
+it, and inputs of one byte, from 64 on. A run of the program takes 300,000 to 700,000 steps, and one of its scaled image more than twice as many. Each
+command is run three times, of which the best counts:
 - survey: `survey` over 64 inputs;
 - runs alone: `simulate` of the program with its loop file, and of its scaled image, over each of these;
 - tune: `tune` over 8 inputs;
