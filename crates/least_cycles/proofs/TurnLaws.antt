@@ -183,16 +183,16 @@ module _ (b : Body) (e : ℕ) (is : IsBody b) (from : (loops b.graph.now b.tree.
     pub turn_off : false ≡ turn_last (graph b.graph.now) (loops b.graph.now b.tree.now) b.number e
     turn_off = sym (last_is (Some (node_address b.graph.now k)) to ∙ off_header)
 
-    pub stay_off : (yes : Bool) → ((yes ≡ true) ↔ ((i : ℕ) × (i < length b.nodes.now) × (number_in_place b.nodes.now i ≡ k))) → yes ≡ turn_step (graph b.graph.now) (loops b.graph.now b.tree.now) b.number e
-    stay_off yes means =
+    pub stay_off : (here : Bool) → ((here ≡ true) ↔ ((i : ℕ) × (i < length b.nodes.now) × (number_in_place b.nodes.now i ≡ k))) → here ≡ turn_step (graph b.graph.now) (loops b.graph.now b.tree.now) b.number e
+    stay_off here means =
         sym (step_is (Some (node_address b.graph.now k)) to ∙ ap (λ c. (loops b.graph.now b.tree.now).inside b.number (node_address b.graph.now k) && not c) off_header ∙ with_true ((loops b.graph.now b.tree.now).inside b.number (node_address b.graph.now k)) ∙ inside)
       where
         with_true : (c : Bool) → (c && true) ≡ c
         with_true true = refl
         with_true false = refl
 
-        inside : (loops b.graph.now b.tree.now).inside b.number (node_address b.graph.now k) ≡ yes
-        inside = same_bool ((loops b.graph.now b.tree.now).inside b.number (node_address b.graph.now k)) yes (λ in_l. means.1 (is.nodes.whole k kl in_l))
+        inside : (loops b.graph.now b.tree.now).inside b.number (node_address b.graph.now k) ≡ here
+        inside = same_bool ((loops b.graph.now b.tree.now).inside b.number (node_address b.graph.now k)) here (λ in_l. means.1 (is.nodes.whole k kl in_l))
             (λ yes_in. let i = means.0 yes_in in subst (λ x. (loops b.graph.now b.tree.now).inside b.number (node_address b.graph.now x) ≡ true) i.2 (is.nodes.inside i.0 i.1))
 
 -- ---- marks

@@ -44,7 +44,7 @@ small-requires c = λ x at.
     let least = subst (λ (turns : List Bool). AreLeastRuns v turns c.mark_body.new.stays.items (cost_with c.args.costs.now c.args.charges.now) c.args.body.now.nodes.now c.in_ok-table.table.items) c.deref-3.ensures.value
     (subst (λ (stays : List Bool). AreLeastRuns v c.deref-3.result.now stays (cost_with c.args.costs.now c.args.charges.now) c.args.body.now.nodes.now c.in_ok-table.table.items) c.deref-4.ensures.value c.in_ok-table.ensures.least) in
     let found = turn_found v c.args.body.now.tree.now k.0 k.1 k.3.charging c.args.body.now.number c.args.body.now.nodes.now c.args.costs.now k.2 c.mark_body.new.turns.items c.mark_body.new.stays.items c.args.charges.now c.requires.body.loop_number c.requires.body.nodes k.3.priced c.requires.charges.entered k.3.inner c.mark_body.ensures c.index.result.now c.in_ok-table.table.items spot.0 spot.1 least in
-    let same : k.1.turn c.args.body.now.number ≡ x = same_Some (k.1.turn c.args.l) x (sym found ∙ sym (value_at c.in_ok-table.table.items c.index.result.now c.index-2.result.now tl c.index-2.ensures) ∙ at) in
+    let same : k.1.turn c.args.body.now.number ≡ x = same_Some (k.1.turn c.args.body.now.number) x (sym found ∙ sym (value_at c.in_ok-table.table.items c.index.result.now c.index-2.result.now tl c.index-2.ensures) ∙ at) in
     let most = k.3.charging.turns c.args.body.now.number c.requires.body.loop_number c.requires.turning in
     omega arith
 
