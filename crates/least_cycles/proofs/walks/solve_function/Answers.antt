@@ -164,10 +164,12 @@ returns-clause-found c = record {
       let found : ArePricedAt v w n f costs lasts = priced_at v t w n charging c.args.i old_r old_x are f bucket costs lasts at is priced in
       let paid : AreChargedTo v t n (λ k. loop_owner v t k ≡ f) charges.found.items =
       subst (λ (order : List ℕ). AreChargedTo v t n (λ k. loop_owner v t k ≡ number_in_place order c.args.i) charges.found.items) c.call_order.ensures
-      (c.in_ok-charge_loops.ensures.charged w n charging
-      (subst (λ (order : List ℕ). ArePricedAt v w n (number_in_place order c.args.i) c.deref-5.result.now c.deref-6.result.now) (sym c.call_order.ensures)
-      (subst (λ (x : List ℕ). ArePricedAt v w n f x c.deref-6.result.now) (sym c.deref-5.ensures.value)
-      (subst (λ (x : List Bool). ArePricedAt v w n f costs x) (sym c.deref-6.ensures.value) found)))) in
+      (c.in_ok-charge_loops.ensures.charged w n (record {
+        charging = charging;
+        priced = subst (λ (order : List ℕ). ArePricedAt v w n (number_in_place order c.args.i) c.deref-5.result.now c.deref-6.result.now) (sym c.call_order.ensures)
+            (subst (λ (x : List ℕ). ArePricedAt v w n f x c.deref-6.result.now) (sym c.deref-5.ensures.value)
+            (subst (λ (x : List Bool). ArePricedAt v w n f costs x) (sym c.deref-6.ensures.value) found));
+      })) in
       charged_next v t w n charging f c.args.i c.args.found.now.charges.found.items charges.found.items at (c.requires.found.charged n charging) paid
       (λ k kl other. c.in_ok-charge_loops.ensures.others k kl (λ same. other (same ∙ ap (λ (order : List ℕ). number_in_place order c.args.i) c.call_order.ensures)));
   walks = λ n charging.
@@ -193,10 +195,12 @@ returns-clause-found c = record {
       let found : ArePricedAt v w n f costs lasts = priced_at v t w n charging c.args.i old_r old_x are f bucket costs lasts at is priced in
       let paid : AreChargedTo v t n (λ k. loop_owner v t k ≡ f) charges.found.items =
       subst (λ (order : List ℕ). AreChargedTo v t n (λ k. loop_owner v t k ≡ number_in_place order c.args.i) charges.found.items) c.call_order.ensures
-      (c.in_ok-charge_loops.ensures.charged w n charging
-      (subst (λ (order : List ℕ). ArePricedAt v w n (number_in_place order c.args.i) c.deref-5.result.now c.deref-6.result.now) (sym c.call_order.ensures)
-      (subst (λ (x : List ℕ). ArePricedAt v w n f x c.deref-6.result.now) (sym c.deref-5.ensures.value)
-      (subst (λ (x : List Bool). ArePricedAt v w n f costs x) (sym c.deref-6.ensures.value) found)))) in
+      (c.in_ok-charge_loops.ensures.charged w n (record {
+        charging = charging;
+        priced = subst (λ (order : List ℕ). ArePricedAt v w n (number_in_place order c.args.i) c.deref-5.result.now c.deref-6.result.now) (sym c.call_order.ensures)
+            (subst (λ (x : List ℕ). ArePricedAt v w n f x c.deref-6.result.now) (sym c.deref-5.ensures.value)
+            (subst (λ (x : List Bool). ArePricedAt v w n f costs x) (sym c.deref-6.ensures.value) found));
+      })) in
       let found_r = c.in_ok-returns.returns.items in
       let found_x = c.in_ok-exits.exits.items in
       let least_r : AreLeastRuns v c.args.program.now.plan.now.returning.items c.args.program.now.plan.now.leading.items price bucket found_r =
