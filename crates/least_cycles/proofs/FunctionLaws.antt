@@ -2,7 +2,7 @@
 use Rattle.std.proofs.Common.{◌≡◌, ℕ, zero, suc, ◌+◌, ◌<◌, ◌≤◌, ◌⊎◌, inl, inr, Bool, true, false, List, [], ◌∷◌, ◌++◌, length, length-append, get_or, slice_get, option_map, Option, Some, None, is_some, IsSome, IfSome, refl, sym, ap, ◌∙◌, subst, arith, ⊎_elim}
 use Rattle.std.proofs.lemmas.Bool.{cases_lt}
 use Rattle.std.proofs.lemmas.List.{length-map}
-use Rattle.std.proofs.lemmas.Option.{slice_get_within, slice_get-get_or, get_or_from_slice_get, slice_get-map, same_Some, none-some}
+use Rattle.std.proofs.lemmas.Option.{slice_get_within, slice_get-get_or, get_or_from_slice_get, slice_get-map, same_Some}
 use Rattle.graph_algorithms.specs.Arcs.{number_in_place}
 use Rattle.cost_theory.specs.Graph.{Graph, total}
 use Rattle.cost_theory.specs.Least.{IsLeastIfAny, EndsWith}
@@ -14,8 +14,8 @@ use Rattle.least_cycles.specs.declared.Hop.{Hop}
 use Rattle.least_cycles.specs.declared.Way.{Way}
 use Rattle.least_cycles.specs.declared.Way.TheVariants.{Last, To, Stop}
 use Rattle.least_cycles.specs.Hops.{HeadBelow, IsHop, AreHops, AreLeastCosts, number_in_table}
-use Rattle.least_cycles.specs.Local.{IsWayOf, IsHopOf, AreLocal}
-use Rattle.least_cycles.specs.Functions.{IsBucket, AreNodeNumbers, ArePlacesIn, AreKinds, addresses, is_in_flags, IsNodeFlagged, AreHopsOf, IsFromFirst, IsFromNext, AreLeastRuns, AreLeastIn}
+use Rattle.least_cycles.specs.Local.{AreLocal}
+use Rattle.least_cycles.specs.Functions.{IsBucket, AreKinds, addresses, is_in_flags, IsNodeFlagged, IsFromFirst, IsFromNext, AreLeastRuns, AreLeastIn}
 use Rattle.least_cycles.specs.declared.function.Runs.{Runs}
 use Rattle.least_cycles.specs.Passes.{AreRuns, run_cost, IsWayIn, IsHopIn, AreHopsIn, AreLeastOf}
 use Rattle.least_cycles.specs.Tables.{AreLeading}
