@@ -178,20 +178,19 @@ module _ (v : FlowGraph) (t : LoopView) (w : ℕ → ℕ) (n : Charged) (is : Is
   pub done_entry : (f : ℕ) → f < length v.code.functions → IsBefore v i f → SameAtEntry f
   done_entry f fl done = entry_same f fl (done_same f done)
 
--- ---- the function at the next place
+  -- ---- the function at the next place
 
--- the costs of its edges without charges
-pub priced_at : (v : FlowGraph) (t : LoopView) (w : ℕ → ℕ) (n : Charged) (i f : ℕ) (bucket : List ℕ) (returns exits : List (Option ℕ)) (costs : List ℕ) (lasts : List Bool) → (is : IsCharging v t w n) →
-    AreWalksOf v (own_by v t w n) is.limit (IsBefore v i) returns exits → slice_get v.order i ≡ Some f → IsBucket v f bucket → ArePriced v w returns exits (IsFromFirst v bucket (length bucket)) costs lasts → ArePricedAt v w n f costs lasts
-priced_at v t w n i f bucket returns exits costs lasts is are at bucket_is priced = record {
-  cost = λ e el own. priced.cost e el (from_first v f bucket e is.flow bucket_is el own) ∙ ap (λ x. w e + x) (call_same v t w n is i returns exits are e (callees e el own) ((graph v).target e));
-  last = λ e el own.
-      let means = priced.last e el (from_first v f bucket e is.flow bucket_is el own) in
-      (λ yes. exit_to v t w n is i returns exits are e (callees e el own) (means.0 yes), λ exit. means.1 (exit_back v t w n is i returns exits are e (callees e el own) exit));
-}
-  where
-    callees : (e : ℕ) → e < length v.code.edges → (graph v).owner ((graph v).source e) ≡ f → (h : ℕ) → (graph v).callee e ≡ Some h → SameAtEntry v t w n is i returns exits are h
-    callees e el own h calls = done_entry v t w n is i returns exits are h (is.flow.program.callee_function e h el calls) (callees_before v i f is.flow at e h el (inr own) calls)
+  -- the costs of its edges without charges
+  pub priced_at : (f : ℕ) (bucket costs : List ℕ) (lasts : List Bool) → slice_get v.order i ≡ Some f → IsBucket v f bucket → ArePriced v w returns exits (IsFromFirst v bucket (length bucket)) costs lasts → ArePricedAt v w n f costs lasts
+  priced_at f bucket costs lasts at bucket_is priced = record {
+    cost = λ e el own. priced.cost e el (from_first v f bucket e is.flow bucket_is el own) ∙ ap (λ x. w e + x) (call_same e (callees e el own) ((graph v).target e));
+    last = λ e el own.
+        let means = priced.last e el (from_first v f bucket e is.flow bucket_is el own) in
+        (λ yes. exit_to e (callees e el own) (means.0 yes), λ exit. means.1 (exit_back e (callees e el own) exit));
+  }
+    where
+      callees : (e : ℕ) → e < length v.code.edges → (graph v).owner ((graph v).source e) ≡ f → (h : ℕ) → (graph v).callee e ≡ Some h → SameAtEntry h
+      callees e el own h calls = done_entry h (is.flow.program.callee_function e h el calls) (callees_before v i f is.flow at e h el (inr own) calls)
 
 -- ---- all functions
 

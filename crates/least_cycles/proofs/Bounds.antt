@@ -29,23 +29,25 @@ module _ (g : Graph) (l : Loops) (last : ℕ → Type 0) (e : ℕ) (lt : e < g.e
   as_path [] p path ends = (lt, ends, plain, tt)
   as_path (x ∷ xs) p path ends = (path.0, path.1, path.2, as_path xs (g.target x) path.3 ends)
 
-path_le : (g : Graph) (l : Loops) (c d : ℕ → ℕ) → ((e : ℕ) → e < g.edges → c e ≤ d e) → (es : List ℕ) (p : Option ℕ) → IsPlainPath g l p es → total c es ≤ total d es
-path_le g l c d less [] p path = omega arith
-path_le g l c d less (e ∷ es) p path = let a = less e path.0 in let b = path_le g l c d less es (g.target e) path.3 in omega arith
+module _ (g : Graph) (l : Loops) (c d : ℕ → ℕ) (less : (e : ℕ) → e < g.edges → c e ≤ d e) where
+  path_le : (es : List ℕ) (p : Option ℕ) → IsPlainPath g l p es → total c es ≤ total d es
+  path_le [] p path = omega arith
+  path_le (e ∷ es) p path = let a = less e path.0 in let b = path_le es (g.target e) path.3 in omega arith
 
--- The worst cycles of functions are limits, where no edge costs more than it is charged there.
-pub limits_hold : (g : Graph) (l : Loops) (extent : ℕ → ℕ → Bool) (w : ℕ → ℕ) (n : Numbers) → IsAnalyzed g l extent w n → n.worst 0 ≤ 2 ^ 48 → (own : ℕ → ℕ) →
-    ((e : ℕ) → e < g.edges → own e + at_some (g.callee e) n.worst ≤ charged g l n (cost g n w) e) → AreFunctionLimits g own n.worst
-limits_hold g l extent w n is few own less = record {
-  small = λ f fl. let a = function-worst g l extent w n is.program is.accepted is.weights is.numbers (call_order g is.program).0 (call_order g is.program).1 f fl in omega arith;
-  way = λ e lt none.
-      let way = plain_from_entry g l extent is.program is.accepted e lt in
-      let start = Some (g.entry (g.owner (g.source e))) in
-      let fl = is.program.owner_function e lt in
-      let path = as_path g l (λ d. d ≡ e) e lt refl (end_plain g l e none) way.0 start way.1 way.2 in
-      let a = path_le g l (λ d. own d + at_some (g.callee d) n.worst) (charged g l n (cost g n w)) less (way.0 ++ e ∷ []) start path in
-      let b = (is.numbers.loops.plain (g.entry (g.owner (g.source e)))).most (way.0 ++ e ∷ []) path in
-      let c = (is.numbers.loops.left (g.entry (g.owner (g.source e)))).over_plain in
-      let d = worst_equation g l extent w n is.program is.accepted is.weights is.numbers (g.owner (g.source e)) fl in
-      (way.0 ++ e ∷ [], as_walk g l (λ d. d ≡ e) e lt refl (end_plain g l e none) way.0 start way.1 way.2, omega arith);
-}
+module _ (g : Graph) (l : Loops) (extent : ℕ → ℕ → Bool) (w : ℕ → ℕ) (n : Numbers) (is : IsAnalyzed g l extent w n) where
+  -- The worst cycles of functions are limits, where no edge costs more than it is charged there.
+  pub limits_hold : n.worst 0 ≤ 2 ^ 48 → (own : ℕ → ℕ) →
+      ((e : ℕ) → e < g.edges → own e + at_some (g.callee e) n.worst ≤ charged g l n (cost g n w) e) → AreFunctionLimits g own n.worst
+  limits_hold few own less = record {
+    small = λ f fl. let a = function-worst g l extent w n is.program is.accepted is.weights is.numbers (call_order g is.program).0 (call_order g is.program).1 f fl in omega arith;
+    way = λ e lt none.
+        let way = plain_from_entry g l extent is.program is.accepted e lt in
+        let start = Some (g.entry (g.owner (g.source e))) in
+        let fl = is.program.owner_function e lt in
+        let path = as_path g l (λ d. d ≡ e) e lt refl (end_plain g l e none) way.0 start way.1 way.2 in
+        let a = path_le g l (λ d. own d + at_some (g.callee d) n.worst) (charged g l n (cost g n w)) less (way.0 ++ e ∷ []) start path in
+        let b = (is.numbers.loops.plain (g.entry (g.owner (g.source e)))).most (way.0 ++ e ∷ []) path in
+        let c = (is.numbers.loops.left (g.entry (g.owner (g.source e)))).over_plain in
+        let d = worst_equation g l extent w n is.program is.accepted is.weights is.numbers (g.owner (g.source e)) fl in
+        (way.0 ++ e ∷ [], as_walk g l (λ d. d ≡ e) e lt refl (end_plain g l e none) way.0 start way.1 way.2, omega arith);
+  }

@@ -51,13 +51,6 @@ both_low m n (Some a) (Some b) x low_p low_q at =
     let same : a + b ≡ x = same_Some (a + b) x at in
     omega arith
 
-pub end_low : (v : FlowGraph) (returns exits behind : List (Option ℕ)) (most a x : ℕ) → AreSmallWalks v returns exits → ((h y : ℕ) → number_in_table behind h ≡ Some y → y ≤ most) → (least_by v returns exits behind).to_end a ≡ Some x → x ≤ 2 ^ 67 + most
-end_low v returns exits behind most a x small low at =
-    lesser_low (2 ^ 67 + most) (value_beside v.code.nodes exits a) (sum_of_both (value_beside v.code.nodes returns a) (number_in_table behind ((graph v).owner a))) x
-    (λ y is. let r = beside_low (2 ^ 67) v.code.nodes exits a y small.small_exit is in omega arith)
-    (λ y is. both_low (2 ^ 67) most (value_beside v.code.nodes returns a) (number_in_table behind ((graph v).owner a)) y (λ z e. beside_low (2 ^ 67) v.code.nodes returns a z small.small_return e) (λ z e. low ((graph v).owner a) z e) is)
-    at
-
 back_value : (g : Graph) (n : Least) (f e m : ℕ) → IsBackTo g n f e → end_after g n e ≡ m → (u : ℕ) × (n.to_end u ≡ Some m)
 back_value g n f e m back is = (back.2.0, value (n.to_end back.2.0) refl back.2.2)
   where
@@ -68,15 +61,22 @@ back_value g n f e m back is = (back.2.0, value (n.to_end back.2.0) refl back.2.
     value None eq some = let bad : ⊥ = cc in absurd bad
     value (Some y) eq some = let same : y ≡ m = sym (ap (λ (o : Option ℕ). unwrap_or o 0) eq) ∙ sym after ∙ is in ap Some same
 
-pub behind_low : (v : FlowGraph) (returns exits behind : List (Option ℕ)) (most f : ℕ) (o : Option ℕ) → AreSmallWalks v returns exits → ((h y : ℕ) → number_in_table behind h ≡ Some y → y ≤ most) →
-    IsLeastIfAny (IsBackTo (graph v) (least_by v returns exits behind) f) (end_after (graph v) (least_by v returns exits behind)) o → (x : ℕ) → o ≡ Some x → x ≤ 2 ^ 67 + most
-behind_low v returns exits behind most f None small low least x at = let bad : ⊥ = cc in absurd bad
-behind_low v returns exits behind most f (Some m) small low least x at =
-    let r = least.reached in
-    let at_end = back_value (graph v) (least_by v returns exits behind) f r.0 m r.1 r.2 in
-    let l = end_low v returns exits behind most at_end.0 m small low at_end.1 in
-    let same : m ≡ x = same_Some m x at in
-    omega arith
+module _ (v : FlowGraph) (returns exits behind : List (Option ℕ)) (most : ℕ) (small : AreSmallWalks v returns exits) (low : (h y : ℕ) → number_in_table behind h ≡ Some y → y ≤ most) where
+  pub end_low : (a x : ℕ) → (least_by v returns exits behind).to_end a ≡ Some x → x ≤ 2 ^ 67 + most
+  end_low a x at =
+      lesser_low (2 ^ 67 + most) (value_beside v.code.nodes exits a) (sum_of_both (value_beside v.code.nodes returns a) (number_in_table behind ((graph v).owner a))) x
+      (λ y is. let r = beside_low (2 ^ 67) v.code.nodes exits a y small.small_exit is in omega arith)
+      (λ y is. both_low (2 ^ 67) most (value_beside v.code.nodes returns a) (number_in_table behind ((graph v).owner a)) y (λ z e. beside_low (2 ^ 67) v.code.nodes returns a z small.small_return e) (λ z e. low ((graph v).owner a) z e) is)
+      at
+
+  pub behind_low : (f : ℕ) (o : Option ℕ) → IsLeastIfAny (IsBackTo (graph v) (least_by v returns exits behind) f) (end_after (graph v) (least_by v returns exits behind)) o → (x : ℕ) → o ≡ Some x → x ≤ 2 ^ 67 + most
+  behind_low f None least x at = let bad : ⊥ = cc in absurd bad
+  behind_low f (Some m) least x at =
+      let r = least.reached in
+      let at_end = back_value (graph v) (least_by v returns exits behind) f r.0 m r.1 r.2 in
+      let l = end_low at_end.0 m at_end.1 in
+      let same : m ≡ x = same_Some m x at in
+      omega arith
 
 -- ---- one edge more
 
@@ -89,7 +89,7 @@ back_key v n keys f e are back = are.each e back.0 ∙ ap (λ t. back_from t ((g
 pub behind_more : (v : FlowGraph) (n : Least) (keys : List (Option ℕ)) (f from e : ℕ) (least o : Option ℕ) → AreBackKeys v (length v.code.edges) keys → IsLastBelow keys from f (Some e) → e < length v.code.edges → o ≡ end_place n ((graph v).target e) →
     AreBehindFrom v n f from least → AreBehindFrom v n f e (lesser_cost least o)
 behind_more v n keys f from e least o are last el is before =
-    least-lesser (λ d. IsBackTo (graph v) n f d × (from ≤ d)) (λ d. IsBackTo (graph v) n f d × (d ≡ e)) (λ d. IsBackTo (graph v) n f d × (e ≤ d)) (end_after (graph v) n) least o before (here o is)
+    least-lesser (λ d. IsBackTo (graph v) n f d × (from ≤ d)) (λ d. IsBackTo (graph v) n f d × (d ≡ e)) (λ d. IsBackTo (graph v) n f d × (e ≤ d)) (end_after (graph v) n)
     (λ d old. (old.0, (let low = old.1 in let lt = (last.place e refl).0 in let r : e ≤ d = omega arith in r)))
     (λ d one. (one.0, (let same = one.1 in let r : e ≤ d = omega arith in r)))
     (λ d all. ⊎_elim
@@ -100,6 +100,7 @@ behind_more v n keys f from e least o are last el is before =
     let r : (IsBackTo (graph v) n f d × (from ≤ d)) ⊎ (IsBackTo (graph v) n f d × (d ≡ e)) = inr (all.0, (let q : d ≡ e = omega arith in q)) in r)
     (λ (high : from ≤ d). let r : (IsBackTo (graph v) n f d × (from ≤ d)) ⊎ (IsBackTo (graph v) n f d × (d ≡ e)) = inl (all.0, high) in r)
     (cases_lt d from))
+    least o before (here o is)
   where
     key : back_from ((graph v).target e) ((graph v).callee e) ≡ Some f
     key = sym (are.each e el) ∙ (last.place e refl).1
@@ -256,7 +257,7 @@ low_behind v returns exits behind i flow few are h x at =
 pub next_low : (v : FlowGraph) (returns exits behind : List (Option ℕ)) (i f : ℕ) (o : Option ℕ) → i < length v.order → AreSmallWalks v returns exits → AreBehind v returns exits (i + 1) behind →
     IsLeastIfAny (IsBackTo (graph v) (least_by v returns exits behind) f) (end_after (graph v) (least_by v returns exits behind)) o → (x : ℕ) → o ≡ Some x → x + i * 2 ^ 67 ≤ length v.order * 2 ^ 67
 next_low v returns exits behind i f o il small are least x at =
-    let low = behind_low v returns exits behind ((length v.order - (i + 1)) * 2 ^ 67) f o small (λ h y is. let old = are.low h y is in let r : y ≤ (length v.order - (i + 1)) * 2 ^ 67 = omega arith in r) least x at in
+    let low = behind_low v returns exits behind ((length v.order - (i + 1)) * 2 ^ 67) small (λ h y is. let old = are.low h y is in let r : y ≤ (length v.order - (i + 1)) * 2 ^ 67 = omega arith in r) f o least x at in
     omega arith
 
 -- an address is that of a node, or it is not

@@ -54,18 +54,19 @@ ends_more v n k ends o are is kl = record {
       (cases_lt j k);
 }
 
-pub after_more : (v : FlowGraph) (n : Least) (charge : ℕ → ℕ) (e : ℕ) (after : List (Option ℕ)) (o : Option ℕ) → AreAfterTo v n charge e after → o ≡ plus_charge (charge e) (end_place n ((graph v).target e)) → AreAfterTo v n charge (e + 1) (after ++ o ∷ [])
-after_more v n charge e after o are is = record {
-  size = let s = are.size in let a : length (after ++ o ∷ []) ≡ length after + 1 = length-append after (o ∷ []) in omega arith;
-  each = λ d dl. ⊎_elim
-      (λ (low : d < e). push_before after o d (let s = are.size in omega arith) ∙ are.each d low)
-      (λ (high : e ≤ d).
-      let s = are.size in
-      let last : d ≡ length after = omega arith in
-      let same : d ≡ e = omega arith in
-      ap (slice_get (after ++ o ∷ [])) last ∙ push_last after o ∙ ap Some (is ∙ ap (λ x. plus_charge (charge x) (end_place n ((graph v).target x))) (sym same)))
-      (cases_lt d e);
-}
+module _ (v : FlowGraph) (n : Least) (charge : ℕ → ℕ) where
+  pub after_more : (e : ℕ) (after : List (Option ℕ)) (o : Option ℕ) → AreAfterTo v n charge e after → o ≡ plus_charge (charge e) (end_place n ((graph v).target e)) → AreAfterTo v n charge (e + 1) (after ++ o ∷ [])
+  after_more e after o are is = record {
+    size = let s = are.size in let a : length (after ++ o ∷ []) ≡ length after + 1 = length-append after (o ∷ []) in omega arith;
+    each = λ d dl. ⊎_elim
+        (λ (low : d < e). push_before after o d (let s = are.size in omega arith) ∙ are.each d low)
+        (λ (high : e ≤ d).
+        let s = are.size in
+        let last : d ≡ length after = omega arith in
+        let same : d ≡ e = omega arith in
+        ap (slice_get (after ++ o ∷ [])) last ∙ push_last after o ∙ ap Some (is ∙ ap (λ x. plus_charge (charge x) (end_place n ((graph v).target x))) (sym same)))
+        (cases_lt d e);
+  }
 
 pub end_small : (n : Least) (most : ℕ) → ((a x : ℕ) → n.to_end a ≡ Some x → x ≤ most) → (p o : Option ℕ) → o ≡ end_place n p → (x : ℕ) → o ≡ Some x → x ≤ most
 end_small n most low None o is x at = absurd (none-some x (sym is ∙ at))
@@ -202,7 +203,7 @@ module _ (v : FlowGraph) (t : LoopView) (w : ℕ → ℕ) (charges : Charges) (r
       same_option a b e = let r : a ≡ b = cc in r
 
       within : (a z : ℕ) → numbers.to_end a ≡ Some z → z ≤ 2 ^ 67 + 2 ^ 84
-      within a z at = end_low v returns exits behind (2 ^ 84) a z small_are (low_behind v returns exits behind 0 is.flow few done) at
+      within a z at = end_low v returns exits behind (2 ^ 84) small_are (low_behind v returns exits behind 0 is.flow few done) a z at
 
       charged_low : (c : ℕ) → c ≤ 2 ^ 48 → (o : Option ℕ) → ((x : ℕ) → o ≡ Some x → x ≤ 2 ^ 67 + 2 ^ 84) → (z : ℕ) → plus_charge c o ≡ Some z → z < 2 ^ 89
       charged_low c low None small z at = absurd (none-some z at)

@@ -9,7 +9,9 @@ use Rattle.code_graph.specs.FlowGraph.{FlowGraph, graph, IsFlowGraph}
 use Rattle.loop_tree.specs.Noted.{node_address}
 use Rattle.graph_algorithms.specs.Keys.{HasKey, AreKeys, IsLastBelow}
 use Rattle.least_cycles.specs.Functions.{IsNodeFlagged, IsBucket}
-use Rattle.least_cycles.specs.Tables.{AreOwnerKeys, value_beside, least_by, AreSmallTables, IsPrice, ArePriced}
+use Rattle.least_cycles.specs.declared.prices.Tables.{Tables}
+use Rattle.least_cycles.specs.Tables.{AreOwnerKeys, value_beside, least_by, AreSmallTables}
+use Rattle.least_cycles.specs.Passes.{ArePriceTables, IsPriceBy, ArePricedBy}
 
 same_or : (a b : ℕ) → (a ≡ b) ⊎ (a ≢ b)
 same_or a b = grind arith
@@ -49,83 +51,86 @@ call_small v returns exits e p flow tables el = by_place p
     by_place None = go exits tables.small_exit ((graph v).callee e) refl
     by_place (Some u) = go returns tables.small_return ((graph v).callee e) refl
 
-pub more_small : (v : FlowGraph) (returns exits : List (Option ℕ)) (e : ℕ) (more : Option ℕ) → IsFlowGraph v → AreSmallTables v returns exits → e < length v.code.edges → unwrap_or more 0 ≡ least_call (graph v) (least_by v returns exits []) e ((graph v).target e) → (x : ℕ) → more ≡ Some x → x ≤ 2 ^ 48
-more_small v returns exits e more flow tables el is x some =
-    let same : unwrap_or more 0 ≡ x = ap (λ (o : Option ℕ). unwrap_or o 0) some in
-    let low = call_small v returns exits e ((graph v).target e) flow tables el in
+pub more_small : (x : Tables) (e : ℕ) (more : Option ℕ) → ArePriceTables x → e < length x.graph.now.code.edges → unwrap_or more 0 ≡ least_call (graph x.graph.now) (least_by x.graph.now x.returns.now x.exits.now []) e ((graph x.graph.now).target e) → (n : ℕ) → more ≡ Some n → n ≤ 2 ^ 48
+more_small x e more are el is n some =
+    let same : unwrap_or more 0 ≡ n = ap (λ (o : Option ℕ). unwrap_or o 0) some in
+    let low = call_small x.graph.now x.returns.now x.exits.now e ((graph x.graph.now).target e) are.flow are.tables el in
     omega arith
 
-pub price_is : (v : FlowGraph) (own : ℕ → ℕ) (returns exits : List (Option ℕ)) (e c s : ℕ) (more : Option ℕ) (last : Bool) → IsFlowGraph v → AreSmallTables v returns exits → e < length v.code.edges → c ≡ own e → c ≤ 2 ^ 48 → s ≡ unwrap_or more 0 →
-    unwrap_or more 0 ≡ least_call (graph v) (least_by v returns exits []) e ((graph v).target e) →
-    ((graph v).target e ≡ None → IsSome more → (f : ℕ) × ((graph v).callee e ≡ Some f) × IsSome (value_beside v.code.nodes exits ((graph v).entry f))) →
-    ((f : ℕ) → (graph v).target e ≡ None → (graph v).callee e ≡ Some f → IsSome (value_beside v.code.nodes exits ((graph v).entry f)) → IsSome more) →
-    ((last ≡ true) ↔ (((graph v).exits e ≡ true) ⊎ (((graph v).target e ≡ None) × IsSome more))) → IsPrice v own returns exits e (c + s) last
-price_is v own returns exits e c s more last flow tables el mine low is cost some whole ends = record {
-  cost_is = let r : c + s ≡ own e + least_call (graph v) (least_by v returns exits []) e ((graph v).target e) = omega arith in r;
-  last_is = (λ yes. to (ends.0 yes), λ exit. ends.1 (back exit));
-  end = λ yes. none (ends.0 yes);
-  within = let small = call_small v returns exits e ((graph v).target e) flow tables el in omega arith;
+-- what is found of the call on an edge, and whether the edge is the last of a walk to an exit
+pub record IsCalled (x : Tables) (e : ℕ) (more : Option ℕ) (last : Bool) : Type 0 where
+  pub cost : unwrap_or more 0 ≡ least_call (graph x.graph.now) (least_by x.graph.now x.returns.now x.exits.now []) e ((graph x.graph.now).target e)
+  pub some : (graph x.graph.now).target e ≡ None → IsSome more → (f : ℕ) × ((graph x.graph.now).callee e ≡ Some f) × IsSome (value_beside x.graph.now.code.nodes x.exits.now ((graph x.graph.now).entry f))
+  pub whole : (f : ℕ) → (graph x.graph.now).target e ≡ None → (graph x.graph.now).callee e ≡ Some f → IsSome (value_beside x.graph.now.code.nodes x.exits.now ((graph x.graph.now).entry f)) → IsSome more
+  pub ends : (last ≡ true) ↔ (((graph x.graph.now).exits e ≡ true) ⊎ (((graph x.graph.now).target e ≡ None) × IsSome more))
+
+pub price_is : (x : Tables) (e s : ℕ) (more : Option ℕ) (last : Bool) → ArePriceTables x → e < length x.graph.now.code.edges → s ≡ unwrap_or more 0 → IsCalled x e more last → IsPriceBy x e (number_in_place x.own.now e + s) last
+price_is x e s more last are el is call = record {
+  cost_is = let cost = call.cost in let r : number_in_place x.own.now e + s ≡ number_in_place x.own.now e + least_call (graph x.graph.now) (least_by x.graph.now x.returns.now x.exits.now []) e ((graph x.graph.now).target e) = omega arith in r;
+  last_is = (λ yes. to (call.ends.0 yes), λ exit. call.ends.1 (back exit));
+  end = λ yes. none (call.ends.0 yes);
+  within = let cost = call.cost in let low = are.low e in let small = call_small x.graph.now x.returns.now x.exits.now e ((graph x.graph.now).target e) are.flow are.tables el in omega arith;
 }
   where
-    to : ((graph v).exits e ≡ true) ⊎ (((graph v).target e ≡ None) × IsSome more) → IsExit (graph v) (least_by v returns exits []) e
+    to : ((graph x.graph.now).exits e ≡ true) ⊎ (((graph x.graph.now).target e ≡ None) × IsSome more) → IsExit (graph x.graph.now) (least_by x.graph.now x.returns.now x.exits.now []) e
     to (inl exit) = inl exit
-    to (inr call) = inr (call.0, some call.0 call.1)
+    to (inr c) = inr (c.0, call.some c.0 c.1)
 
-    back : IsExit (graph v) (least_by v returns exits []) e → ((graph v).exits e ≡ true) ⊎ (((graph v).target e ≡ None) × IsSome more)
+    back : IsExit (graph x.graph.now) (least_by x.graph.now x.returns.now x.exits.now []) e → ((graph x.graph.now).exits e ≡ true) ⊎ (((graph x.graph.now).target e ≡ None) × IsSome more)
     back (inl exit) = inl exit
-    back (inr call) = inr (call.0, whole call.1.0 call.0 call.1.1 call.1.2)
+    back (inr c) = inr (c.0, call.whole c.1.0 c.0 c.1.1 c.1.2)
 
-    none : ((graph v).exits e ≡ true) ⊎ (((graph v).target e ≡ None) × IsSome more) → (graph v).target e ≡ None
-    none (inl exit) = (flow.program.exit_end e el exit).0
-    none (inr call) = call.0
+    none : ((graph x.graph.now).exits e ≡ true) ⊎ (((graph x.graph.now).target e ≡ None) × IsSome more) → (graph x.graph.now).target e ≡ None
+    none (inl exit) = (are.flow.program.exit_end e el exit).0
+    none (inr c) = c.0
 
-pub priced_more : (v : FlowGraph) (own : ℕ → ℕ) (returns exits : List (Option ℕ)) (Set Next : ℕ → Type 0) (costs : List ℕ) (lasts : List Bool) (e cost : ℕ) (last : Bool) → ArePriced v own returns exits Set costs lasts → e < length v.code.edges → IsPrice v own returns exits e cost last →
-    ((d : ℕ) → d < length v.code.edges → Next d → Set d ⊎ (d ≡ e)) → ArePriced v own returns exits Next (slice_set costs e cost) (slice_set lasts e last)
-priced_more v own returns exits Set Next costs lasts e cost last are el is next = record {
-  costs_size = length-set costs e cost ∙ are.costs_size;
-  lasts_size = length-set lasts e last ∙ are.lasts_size;
-  cost = λ d dl done. ⊎_elim
-      (λ (same : d ≡ e). subst (λ x. number_in_place (slice_set costs e cost) x ≡ least_cost (graph v) own (least_by v returns exits []) x) (sym same) (price_here ∙ is.cost_is))
-      (λ (other : d ≢ e). get_or-set_other costs e d cost 0 other ∙ are.cost d dl (old d dl other done))
-      (same_or d e);
-  last = λ d dl done. ⊎_elim
-      (λ (same : d ≡ e). subst (λ x. IsNodeFlagged (slice_set lasts e last) x ↔ IsExit (graph v) (least_by v returns exits []) x) (sym same) (λ yes. is.last_is.0 (sym flag_here ∙ yes), λ exit. flag_here ∙ is.last_is.1 exit))
-      (λ (other : d ≢ e). (λ yes. (are.last d dl (old d dl other done)).0 (sym (flag_there d other) ∙ yes), λ exit. flag_there d other ∙ (are.last d dl (old d dl other done)).1 exit))
-      (same_or d e);
-  ends = λ d dl yes. ⊎_elim
-      (λ (same : d ≡ e). subst (λ x. (graph v).target x ≡ None) (sym same) (is.end (sym flag_here ∙ ap (slice_index (slice_set lasts e last)) (sym same) ∙ yes)))
-      (λ (other : d ≢ e). are.ends d dl (sym (flag_there d other) ∙ yes))
-      (same_or d e);
-  within = λ d. ⊎_elim
-      (λ (same : d ≡ e). let at : number_in_place (slice_set costs e cost) d ≡ cost = ap (number_in_place (slice_set costs e cost)) same ∙ price_here in let low = is.within in let r : number_in_place (slice_set costs e cost) d ≤ 2 ^ 49 = omega arith in r)
-      (λ (other : d ≢ e). subst (λ x. x ≤ 2 ^ 49) (sym (get_or-set_other costs e d cost 0 other)) (are.within d))
-      (same_or d e);
-}
-  where
-    slice_index : List Bool → ℕ → Bool
-    slice_index xs i = slice_index_or xs i false
+module _ (x : Tables) (Set Next : ℕ → Type 0) (costs : List ℕ) (lasts : List Bool) (are : ArePricedBy x Set costs lasts) where
+  pub priced_more : (e cost : ℕ) (last : Bool) → e < length x.graph.now.code.edges → IsPriceBy x e cost last → ((d : ℕ) → d < length x.graph.now.code.edges → Next d → Set d ⊎ (d ≡ e)) → ArePricedBy x Next (slice_set costs e cost) (slice_set lasts e last)
+  priced_more e cost last el is next = record {
+    costs_size = length-set costs e cost ∙ are.costs_size;
+    lasts_size = length-set lasts e last ∙ are.lasts_size;
+    cost = λ d dl done. ⊎_elim
+        (λ (same : d ≡ e). subst (λ i. number_in_place (slice_set costs e cost) i ≡ least_cost (graph x.graph.now) (number_in_place x.own.now) (least_by x.graph.now x.returns.now x.exits.now []) i) (sym same) (price_here ∙ is.cost_is))
+        (λ (other : d ≢ e). get_or-set_other costs e d cost 0 other ∙ are.cost d dl (old d dl other done))
+        (same_or d e);
+    last = λ d dl done. ⊎_elim
+        (λ (same : d ≡ e). subst (λ i. IsNodeFlagged (slice_set lasts e last) i ↔ IsExit (graph x.graph.now) (least_by x.graph.now x.returns.now x.exits.now []) i) (sym same) (λ yes. is.last_is.0 (sym flag_here ∙ yes), λ exit. flag_here ∙ is.last_is.1 exit))
+        (λ (other : d ≢ e). (λ yes. (are.last d dl (old d dl other done)).0 (sym (flag_there d other) ∙ yes), λ exit. flag_there d other ∙ (are.last d dl (old d dl other done)).1 exit))
+        (same_or d e);
+    ends = λ d dl yes. ⊎_elim
+        (λ (same : d ≡ e). subst (λ i. (graph x.graph.now).target i ≡ None) (sym same) (is.end (sym flag_here ∙ ap (slice_index (slice_set lasts e last)) (sym same) ∙ yes)))
+        (λ (other : d ≢ e). are.ends d dl (sym (flag_there d other) ∙ yes))
+        (same_or d e);
+    within = λ d. ⊎_elim
+        (λ (same : d ≡ e). let at : number_in_place (slice_set costs e cost) d ≡ cost = ap (number_in_place (slice_set costs e cost)) same ∙ price_here in let low = is.within in let r : number_in_place (slice_set costs e cost) d ≤ 2 ^ 49 = omega arith in r)
+        (λ (other : d ≢ e). subst (λ n. n ≤ 2 ^ 49) (sym (get_or-set_other costs e d cost 0 other)) (are.within d))
+        (same_or d e);
+  }
+    where
+      slice_index : List Bool → ℕ → Bool
+      slice_index xs i = slice_index_or xs i false
 
-    price_here : number_in_place (slice_set costs e cost) e ≡ cost
-    price_here = get_or-set_same costs e cost 0 (let s = are.costs_size in omega arith)
+      price_here : number_in_place (slice_set costs e cost) e ≡ cost
+      price_here = get_or-set_same costs e cost 0 (let s = are.costs_size in omega arith)
 
-    flag_here : slice_index_or (slice_set lasts e last) e false ≡ last
-    flag_here = get_or-set_same lasts e last false (let s = are.lasts_size in omega arith)
+      flag_here : slice_index_or (slice_set lasts e last) e false ≡ last
+      flag_here = get_or-set_same lasts e last false (let s = are.lasts_size in omega arith)
 
-    flag_there : (d : ℕ) → d ≢ e → slice_index_or (slice_set lasts e last) d false ≡ slice_index_or lasts d false
-    flag_there d other = get_or-set_other lasts e d last false other
+      flag_there : (d : ℕ) → d ≢ e → slice_index_or (slice_set lasts e last) d false ≡ slice_index_or lasts d false
+      flag_there d other = get_or-set_other lasts e d last false other
 
-    old : (d : ℕ) → d < length v.code.edges → d ≢ e → Next d → Set d
-    old d dl other done = ⊎_elim (λ (s : Set d). s) (λ (same : d ≡ e). absurd (other same)) (next d dl done)
+      old : (d : ℕ) → d < length x.graph.now.code.edges → d ≢ e → Next d → Set d
+      old d dl other done = ⊎_elim (λ (s : Set d). s) (λ (same : d ≡ e). absurd (other same)) (next d dl done)
 
-pub priced_for : (v : FlowGraph) (own : ℕ → ℕ) (returns exits : List (Option ℕ)) (Set Next : ℕ → Type 0) (costs : List ℕ) (lasts : List Bool) → ArePriced v own returns exits Set costs lasts → ((d : ℕ) → d < length v.code.edges → Next d → Set d) → ArePriced v own returns exits Next costs lasts
-priced_for v own returns exits Set Next costs lasts are less = record {
-  costs_size = are.costs_size;
-  lasts_size = are.lasts_size;
-  cost = λ d dl done. are.cost d dl (less d dl done);
-  last = λ d dl done. are.last d dl (less d dl done);
-  ends = are.ends;
-  within = are.within;
-}
+  pub priced_for : ((d : ℕ) → d < length x.graph.now.code.edges → Next d → Set d) → ArePricedBy x Next costs lasts
+  priced_for less = record {
+    costs_size = are.costs_size;
+    lasts_size = are.lasts_size;
+    cost = λ d dl done. are.cost d dl (less d dl done);
+    last = λ d dl done. are.last d dl (less d dl done);
+    ends = are.ends;
+    within = are.within;
+  }
 
 -- ---- nodes of functions
 

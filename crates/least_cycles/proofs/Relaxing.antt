@@ -215,33 +215,32 @@ pub record IsPassed (n most : ℕ) (hops : List Hop) (initial table : List (Opti
   pub same : changed ≡ false → table ≡ initial
   pub still : changed ≡ false → (i : ℕ) → i < k → IfSome (slice_get hops i) (λ h. improves table h ≡ false)
 
-pub passed-changed : (n most : ℕ) (hops : List Hop) (initial table : List (Option ℕ)) (changed : Bool) (k : ℕ) (h : Hop) → IsPassed n most hops initial table changed k
-    → slice_get hops k ≡ Some h → IsHop n most h → improves table h ≡ true → IsPassed n most hops initial (relaxed table h) true (k + 1)
-passed-changed n most hops initial table changed k h before at good better = record {
-  table_kept = relaxed-kept n most hops table before.table_kept k h at good;
-  falls = λ t. (let less : fall (n * most) (relaxed table h) < fall (n * most) table = relaxed-falls n most hops table before.table_kept k h at good better in
-      let from : fall (n * most) table ≤ fall (n * most) initial = so_far changed refl in
-      let r : fall (n * most) (relaxed table h) < fall (n * most) initial = omega arith in r);
-  same = λ f. absurd (let bad : ⊥ = cc in bad);
-  still = λ f. absurd (let bad : ⊥ = cc in bad);
-}
-  where
-    so_far : (b : Bool) → changed ≡ b → fall (n * most) table ≤ fall (n * most) initial
-    so_far true is = let lt : fall (n * most) table < fall (n * most) initial = before.falls is in omega arith
-    so_far false is = let q : fall (n * most) table ≡ fall (n * most) initial = ap (fall (n * most)) (before.same is) in omega arith
+module _ (n most : ℕ) (hops : List Hop) (initial table : List (Option ℕ)) (changed : Bool) (k : ℕ) (h : Hop) (before : IsPassed n most hops initial table changed k) (at : slice_get hops k ≡ Some h) where
+  pub passed-changed : IsHop n most h → improves table h ≡ true → IsPassed n most hops initial (relaxed table h) true (k + 1)
+  passed-changed good better = record {
+    table_kept = relaxed-kept n most hops table before.table_kept k h at good;
+    falls = λ t. (let less : fall (n * most) (relaxed table h) < fall (n * most) table = relaxed-falls n most hops table before.table_kept k h at good better in
+        let from : fall (n * most) table ≤ fall (n * most) initial = so_far changed refl in
+        let r : fall (n * most) (relaxed table h) < fall (n * most) initial = omega arith in r);
+    same = λ f. absurd (let bad : ⊥ = cc in bad);
+    still = λ f. absurd (let bad : ⊥ = cc in bad);
+  }
+    where
+      so_far : (b : Bool) → changed ≡ b → fall (n * most) table ≤ fall (n * most) initial
+      so_far true is = let lt : fall (n * most) table < fall (n * most) initial = before.falls is in omega arith
+      so_far false is = let q : fall (n * most) table ≡ fall (n * most) initial = ap (fall (n * most)) (before.same is) in omega arith
 
-pub passed-same : (n most : ℕ) (hops : List Hop) (initial table : List (Option ℕ)) (changed : Bool) (k : ℕ) (h : Hop) → IsPassed n most hops initial table changed k
-    → slice_get hops k ≡ Some h → improves table h ≡ false → IsPassed n most hops initial (relaxed table h) changed (k + 1)
-passed-same n most hops initial table changed k h before at worse =
-    subst (λ t. IsPassed n most hops initial t changed (k + 1)) (sym (relaxed-same table h worse)) (record {
-      table_kept = before.table_kept;
-      falls = before.falls;
-      same = before.same;
-      still = λ f i lt. ⊎_elim (λ low. before.still f i low) (λ is. subst (λ o. IfSome o (λ x. improves table x ≡ false)) (sym at ∙ ap (slice_get hops) (sym is)) worse) (below_suc i k lt);
-    })
-  where
-    below_suc : (i k : ℕ) → i < k + 1 → (i < k) ⊎ (i ≡ k)
-    below_suc i k h = grind arith
+  pub passed-same : improves table h ≡ false → IsPassed n most hops initial (relaxed table h) changed (k + 1)
+  passed-same worse =
+      subst (λ t. IsPassed n most hops initial t changed (k + 1)) (sym (relaxed-same table h worse)) (record {
+        table_kept = before.table_kept;
+        falls = before.falls;
+        same = before.same;
+        still = λ f i lt. ⊎_elim (λ low. before.still f i low) (λ is. subst (λ o. IfSome o (λ x. improves table x ≡ false)) (sym at ∙ ap (slice_get hops) (sym is)) worse) (below_suc i k lt);
+      })
+    where
+      below_suc : (i k : ℕ) → i < k + 1 → (i < k) ⊎ (i ≡ k)
+      below_suc i k h = grind arith
 
 pub get-some : (xs : List Hop) (i : ℕ) (d : Hop) → i < length xs → slice_get xs i ≡ Some (slice_index_or xs i d)
 get-some [] i d lt = let bad : ⊥ = omega arith in absurd bad

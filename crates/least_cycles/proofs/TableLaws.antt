@@ -110,23 +110,25 @@ ends_more g last last' less (e ∷ es) p walk = (
       walk.2,
 )
 
-total_within : (g : Graph) (last : ℕ → Type 0) (c d : ℕ → ℕ) → ((e : ℕ) → e < g.edges → c e ≤ d e) → (es : List ℕ) (p : Option ℕ) → EndsWith g last p es → total c es ≤ total d es
-total_within g last c d less [] p walk = absurd walk
-total_within g last c d less (e ∷ es) p walk =
-    let one = less e walk.0 in
-    let rest : total c es ≤ total d es = ⊎_elim
-    (λ (b : (es ≡ []) × last e). let r : total c es ≤ total d es = (let x : total c es ≡ 0 = ap (total c) b.0 in omega arith) in r)
-    (λ (b : IsSome (g.target e) × EndsWith g last (g.target e) es). total_within g last c d less es (g.target e) b.1)
-    walk.2 in
-    omega arith
+module _ (g : Graph) (last : ℕ → Type 0) (c d : ℕ → ℕ) (less : (e : ℕ) → e < g.edges → c e ≤ d e) where
+  total_within : (es : List ℕ) (p : Option ℕ) → EndsWith g last p es → total c es ≤ total d es
+  total_within [] p walk = absurd walk
+  total_within (e ∷ es) p walk =
+      let one = less e walk.0 in
+      let rest : total c es ≤ total d es = ⊎_elim
+      (λ (b : (es ≡ []) × last e). let r : total c es ≤ total d es = (let x : total c es ≡ 0 = ap (total c) b.0 in omega arith) in r)
+      (λ (b : IsSome (g.target e) × EndsWith g last (g.target e) es). total_within es (g.target e) b.1)
+      walk.2 in
+      omega arith
 
-pub within_limit : (g : Graph) (own limit : ℕ → ℕ) → IsProgram g → AreFunctionLimits g own limit → (last : ℕ → Type 0) (c : ℕ → ℕ) → ((e : ℕ) → e < g.edges → c e ≤ own e + at_some (g.callee e) limit) → ((e : ℕ) → e < g.edges → last e → g.target e ≡ None) →
-    (f x : ℕ) → f < g.functions → IsLeastIfAny (EndsWith g last (Some (g.entry f))) (total c) (Some x) → x ≤ limit f
-within_limit g own limit program limits last c less ends f x fl some =
-    let e = last_edge g program f last some.reached.0 (Some (g.entry f)) (λ u is. subst (λ y. g.owner y ≡ f) (same_Some (g.entry f) u is) (program.entry_owner f fl)) some.reached.1 in
-    let way = limits.way e.0 e.1 (ends e.0 e.1 e.2) in
-    let walk : EndsWith g (λ d. d ≡ e.0) (Some (g.entry f)) way.0 = subst (λ h. EndsWith g (λ d. d ≡ e.0) (Some (g.entry h)) way.0) e.3 way.1 in
-    let low : total (λ d. own d + at_some (g.callee d) limit) way.0 ≤ limit f = subst (λ h. total (λ d. own d + at_some (g.callee d) limit) way.0 ≤ limit h) e.3 way.2 in
-    let least = some.least way.0 (ends_more g (λ d. d ≡ e.0) last (λ d same. subst last (sym same) e.2) way.0 (Some (g.entry f)) walk) in
-    let sums = total_within g (λ d. d ≡ e.0) c (λ d. own d + at_some (g.callee d) limit) less way.0 (Some (g.entry f)) walk in
-    omega arith
+module _ (g : Graph) (own limit : ℕ → ℕ) (program : IsProgram g) (limits : AreFunctionLimits g own limit) where
+  pub within_limit : (last : ℕ → Type 0) (c : ℕ → ℕ) → ((e : ℕ) → e < g.edges → c e ≤ own e + at_some (g.callee e) limit) → ((e : ℕ) → e < g.edges → last e → g.target e ≡ None) →
+      (f x : ℕ) → f < g.functions → IsLeastIfAny (EndsWith g last (Some (g.entry f))) (total c) (Some x) → x ≤ limit f
+  within_limit last c less ends f x fl some =
+      let e = last_edge g program f last some.reached.0 (Some (g.entry f)) (λ u is. subst (λ y. g.owner y ≡ f) (same_Some (g.entry f) u is) (program.entry_owner f fl)) some.reached.1 in
+      let way = limits.way e.0 e.1 (ends e.0 e.1 e.2) in
+      let walk : EndsWith g (λ d. d ≡ e.0) (Some (g.entry f)) way.0 = subst (λ h. EndsWith g (λ d. d ≡ e.0) (Some (g.entry h)) way.0) e.3 way.1 in
+      let low : total (λ d. own d + at_some (g.callee d) limit) way.0 ≤ limit f = subst (λ h. total (λ d. own d + at_some (g.callee d) limit) way.0 ≤ limit h) e.3 way.2 in
+      let least = some.least way.0 (ends_more g (λ d. d ≡ e.0) last (λ d same. subst last (sym same) e.2) way.0 (Some (g.entry f)) walk) in
+      let sums = total_within g (λ d. d ≡ e.0) c (λ d. own d + at_some (g.callee d) limit) less way.0 (Some (g.entry f)) walk in
+      omega arith

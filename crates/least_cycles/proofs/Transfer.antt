@@ -150,34 +150,34 @@ module _ (g : Graph) (last step : ℕ → Bool) (c : ℕ → ℕ) (nodes edges :
       }
 
 -- the least of two kinds of things
-pub least-lesser : {A : Type 0} (P Q R : A → Type 0) (value : A → ℕ) (p q : Option ℕ) → IsLeastIfAny P value p → IsLeastIfAny Q value q
-    → ((a : A) → P a → R a) → ((a : A) → Q a → R a) → ((a : A) → R a → P a ⊎ Q a) → IsLeastIfAny R value (lesser_cost p q)
-least-lesser P Q R value None None lp lq pr qr rpq = λ a r. ⊎_elim (λ h. lp a h) (λ h. lq a h) (rpq a r)
-least-lesser P Q R value None (Some y) lp lq pr qr rpq = record {
-  reached = (lq.reached.0, qr lq.reached.0 lq.reached.1, lq.reached.2);
-  least = λ a r. ⊎_elim (λ h. absurd (lp a h)) (λ h. lq.least a h) (rpq a r);
-}
-least-lesser P Q R value (Some x) None lp lq pr qr rpq = record {
-  reached = (lp.reached.0, pr lp.reached.0 lp.reached.1, lp.reached.2);
-  least = λ a r. ⊎_elim (λ h. lp.least a h) (λ h. absurd (lq a h)) (rpq a r);
-}
-least-lesser P Q R value (Some x) (Some y) lp lq pr qr rpq = by_test (nat_le x y) refl
-  where
-    le-true : (x y : ℕ) → nat_le x y ≡ true → x ≤ y
-    le-true x y h = grind (arith, nat_tests)
+module _ {A : Type 0} (P Q R : A → Type 0) (value : A → ℕ) (pr : (a : A) → P a → R a) (qr : (a : A) → Q a → R a) (rpq : (a : A) → R a → P a ⊎ Q a) where
+  pub least-lesser : (p q : Option ℕ) → IsLeastIfAny P value p → IsLeastIfAny Q value q → IsLeastIfAny R value (lesser_cost p q)
+  least-lesser None None lp lq = λ a r. ⊎_elim (λ h. lp a h) (λ h. lq a h) (rpq a r)
+  least-lesser None (Some y) lp lq = record {
+    reached = (lq.reached.0, qr lq.reached.0 lq.reached.1, lq.reached.2);
+    least = λ a r. ⊎_elim (λ h. absurd (lp a h)) (λ h. lq.least a h) (rpq a r);
+  }
+  least-lesser (Some x) None lp lq = record {
+    reached = (lp.reached.0, pr lp.reached.0 lp.reached.1, lp.reached.2);
+    least = λ a r. ⊎_elim (λ h. lp.least a h) (λ h. absurd (lq a h)) (rpq a r);
+  }
+  least-lesser (Some x) (Some y) lp lq = by_test (nat_le x y) refl
+    where
+      le-true : (x y : ℕ) → nat_le x y ≡ true → x ≤ y
+      le-true x y h = grind (arith, nat_tests)
 
-    le-false : (x y : ℕ) → nat_le x y ≡ false → y ≤ x
-    le-false x y h = grind (arith, nat_tests)
+      le-false : (x y : ℕ) → nat_le x y ≡ false → y ≤ x
+      le-false x y h = grind (arith, nat_tests)
 
-    by_test : (b : Bool) → nat_le x y ≡ b → IsLeastIfAny R value (cond b (Some x) (Some y))
-    by_test true is = record {
-      reached = (lp.reached.0, pr lp.reached.0 lp.reached.1, lp.reached.2);
-      least = λ a r. ⊎_elim (λ h. lp.least a h) (λ h. (let le : y ≤ value a = lq.least a h in let xy : x ≤ y = le-true x y is in let r : x ≤ value a = omega arith in r)) (rpq a r);
-    }
-    by_test false is = record {
-      reached = (lq.reached.0, qr lq.reached.0 lq.reached.1, lq.reached.2);
-      least = λ a r. ⊎_elim (λ h. (let le : x ≤ value a = lp.least a h in let yx : y ≤ x = le-false x y is in let r : y ≤ value a = omega arith in r)) (λ h. lq.least a h) (rpq a r);
-    }
+      by_test : (b : Bool) → nat_le x y ≡ b → IsLeastIfAny R value (cond b (Some x) (Some y))
+      by_test true is = record {
+        reached = (lp.reached.0, pr lp.reached.0 lp.reached.1, lp.reached.2);
+        least = λ a r. ⊎_elim (λ h. lp.least a h) (λ h. (let le : y ≤ value a = lq.least a h in let xy : x ≤ y = le-true x y is in let r : x ≤ value a = omega arith in r)) (rpq a r);
+      }
+      by_test false is = record {
+        reached = (lq.reached.0, qr lq.reached.0 lq.reached.1, lq.reached.2);
+        least = λ a r. ⊎_elim (λ h. (let le : x ≤ value a = lp.least a h in let yx : y ≤ x = le-false x y is in let r : y ≤ value a = omega arith in r)) (λ h. lq.least a h) (rpq a r);
+      }
 
 abbrev pub IsExitWay : Graph → Least → ℕ → EndWay → Type 0
 IsExitWay g n v Exits = is_some (n.to_exit v) ≡ true
@@ -229,8 +229,8 @@ return-least g n v (Some r) (Some m) is least = record {
 pub end-least : (g : Graph) (n : Least) (v : ℕ) (behind : Option ℕ) → IsLeastIfAny (IsReturnTo g n v) (end_after g n) behind
     → n.to_end v ≡ lesser_cost (n.to_exit v) (sum_of_both (n.to_return v) behind) → IsLeastIfAny (IsWay g n v) (way_cost g n v) (n.to_end v)
 end-least g n v behind least is = subst (λ o. IsLeastIfAny (IsWay g n v) (way_cost g n v) o) (sym is)
-    (least-lesser (IsExitWay g n v) (IsReturnWay g n v) (IsWay g n v) (way_cost g n v) (n.to_exit v) (sum_of_both (n.to_return v) behind)
-    (exit-least g n v (n.to_exit v) refl) (return-least g n v (n.to_return v) behind refl least) exits returns either)
+    (least-lesser (IsExitWay g n v) (IsReturnWay g n v) (IsWay g n v) (way_cost g n v) exits returns either (n.to_exit v) (sum_of_both (n.to_return v) behind)
+    (exit-least g n v (n.to_exit v) refl) (return-least g n v (n.to_return v) behind refl least))
   where
     exits : (way : EndWay) → IsExitWay g n v way → IsWay g n v way
     exits Exits h = h

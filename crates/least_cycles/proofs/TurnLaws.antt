@@ -15,8 +15,10 @@ use Rattle.loop_tree.specs.Found.{IsAscending}
 use Rattle.loop_tree.proofs.Laws.{one_number}
 use Rattle.loop_tree.specs.Tree.{LoopView, loops, IsLoopTree}
 use Rattle.graph_algorithms.specs.Keys.{HasKey, AreKeys, option_at}
+use Rattle.least_cycles.specs.declared.turns.Body.{Body}
 use Rattle.least_cycles.specs.Functions.{is_in_flags, IsFromFirst}
-use Rattle.least_cycles.specs.Charging.{AreHeaderLoops, IsInto, IsEntered, IsBodyOf, AreTurnKinds, header_key, AreHeaderKeys}
+use Rattle.least_cycles.specs.Charging.{AreHeaderLoops, IsInto, IsEntered, IsBodyOf, header_key, AreHeaderKeys}
+use Rattle.least_cycles.specs.Passes.{IsLoopBody, AreKindsIn}
 use Rattle.least_cycles.proofs.PriceLaws.{owner_below}
 
 same_or : (a b : ℕ) → (a ≡ b) ⊎ (a ≢ b)
@@ -165,62 +167,65 @@ same_bool true b to back = sym (to refl)
 same_bool false true to back = back refl
 same_bool false false to back = refl
 
-module _ (v : FlowGraph) (t : LoopView) (extent : ℕ → ℕ → Bool) (l e : ℕ) (flow : IsFlowGraph v) (tree : IsLoopTree v extent t) (ll : l < length t.headers) (from : (loops v t).inside l ((graph v).source e) ≡ true) where
-  last_is : (o : Option ℕ) → (graph v).target e ≡ o → turn_last (graph v) (loops v t) l e ≡ is_header (loops v t) l o
-  last_is o to = ap (λ b. b && is_header (loops v t) l ((graph v).target e)) from ∙ ap (λ p. is_header (loops v t) l p) to
+module _ (b : Body) (e : ℕ) (is : IsLoopBody b) (from : (loops b.graph.now b.tree.now).inside b.number ((graph b.graph.now).source e) ≡ true) where
+  last_is : (o : Option ℕ) → (graph b.graph.now).target e ≡ o → turn_last (graph b.graph.now) (loops b.graph.now b.tree.now) b.number e ≡ is_header (loops b.graph.now b.tree.now) b.number o
+  last_is o to = ap (λ x. x && is_header (loops b.graph.now b.tree.now) b.number ((graph b.graph.now).target e)) from ∙ ap (λ p. is_header (loops b.graph.now b.tree.now) b.number p) to
 
-  step_is : (o : Option ℕ) → (graph v).target e ≡ o → turn_step (graph v) (loops v t) l e ≡ (is_round (loops v t) l o && not (is_header (loops v t) l o))
-  step_is o to = ap (λ b. b && (is_round (loops v t) l ((graph v).target e) && not (is_header (loops v t) l ((graph v).target e)))) from ∙ ap (λ p. is_round (loops v t) l p && not (is_header (loops v t) l p)) to
+  step_is : (o : Option ℕ) → (graph b.graph.now).target e ≡ o → turn_step (graph b.graph.now) (loops b.graph.now b.tree.now) b.number e ≡ (is_round (loops b.graph.now b.tree.now) b.number o && not (is_header (loops b.graph.now b.tree.now) b.number o))
+  step_is o to = ap (λ x. x && (is_round (loops b.graph.now b.tree.now) b.number ((graph b.graph.now).target e) && not (is_header (loops b.graph.now b.tree.now) b.number ((graph b.graph.now).target e)))) from
+      ∙ ap (λ p. is_round (loops b.graph.now b.tree.now) b.number p && not (is_header (loops b.graph.now b.tree.now) b.number p)) to
 
-  module _ (k : ℕ) (kl : k < length v.code.nodes) (to : (graph v).target e ≡ Some (node_address v k)) where
-    off_header : k ≢ number_in_place t.headers l → nat_eq (node_address v k) ((loops v t).header l) ≡ false
-    off_header other = ne_eqb (node_address v k) ((loops v t).header l) (λ same. other (same_node v flow k (number_in_place t.headers l) kl (header_number v t extent tree l ll) (same ∙ header_address v t l ll)))
+  module _ (k : ℕ) (kl : k < length b.graph.now.code.nodes) (to : (graph b.graph.now).target e ≡ Some (node_address b.graph.now k)) (other : k ≢ number_in_place b.tree.now.headers b.number) where
+    off_header : nat_eq (node_address b.graph.now k) ((loops b.graph.now b.tree.now).header b.number) ≡ false
+    off_header = ne_eqb (node_address b.graph.now k) ((loops b.graph.now b.tree.now).header b.number)
+        (λ same. other (same_node b.graph.now is.flow k (number_in_place b.tree.now.headers b.number) kl (header_number b.graph.now b.tree.now is.tree.0 is.tree.1 b.number is.loop_number) (same ∙ header_address b.graph.now b.tree.now b.number is.loop_number)))
 
-    pub turn_off : k ≢ number_in_place t.headers l → false ≡ turn_last (graph v) (loops v t) l e
-    turn_off other = sym (last_is (Some (node_address v k)) to ∙ off_header other)
+    pub turn_off : false ≡ turn_last (graph b.graph.now) (loops b.graph.now b.tree.now) b.number e
+    turn_off = sym (last_is (Some (node_address b.graph.now k)) to ∙ off_header)
 
-    pub stay_off : (nodes : List ℕ) (b : Bool) → IsBodyOf v t l nodes → k ≢ number_in_place t.headers l → ((b ≡ true) ↔ ((i : ℕ) × (i < length nodes) × (number_in_place nodes i ≡ k))) → b ≡ turn_step (graph v) (loops v t) l e
-    stay_off nodes b is other means =
-        sym (step_is (Some (node_address v k)) to ∙ ap (λ c. (loops v t).inside l (node_address v k) && not c) (off_header other) ∙ with_true ((loops v t).inside l (node_address v k)) ∙ inside)
+    pub stay_off : (here : Bool) → ((here ≡ true) ↔ ((i : ℕ) × (i < length b.nodes.now) × (number_in_place b.nodes.now i ≡ k))) → here ≡ turn_step (graph b.graph.now) (loops b.graph.now b.tree.now) b.number e
+    stay_off here means =
+        sym (step_is (Some (node_address b.graph.now k)) to ∙ ap (λ c. (loops b.graph.now b.tree.now).inside b.number (node_address b.graph.now k) && not c) off_header ∙ with_true ((loops b.graph.now b.tree.now).inside b.number (node_address b.graph.now k)) ∙ inside)
       where
         with_true : (c : Bool) → (c && true) ≡ c
         with_true true = refl
         with_true false = refl
 
-        inside : (loops v t).inside l (node_address v k) ≡ b
-        inside = same_bool ((loops v t).inside l (node_address v k)) b (λ in_l. means.1 (is.whole k kl in_l))
-            (λ yes_in. let i = means.0 yes_in in subst (λ x. (loops v t).inside l (node_address v x) ≡ true) i.2 (is.inside i.0 i.1))
+        inside : (loops b.graph.now b.tree.now).inside b.number (node_address b.graph.now k) ≡ here
+        inside = same_bool ((loops b.graph.now b.tree.now).inside b.number (node_address b.graph.now k)) here (λ in_l. means.1 (is.nodes.whole k kl in_l))
+            (λ yes_in. let i = means.0 yes_in in subst (λ x. (loops b.graph.now b.tree.now).inside b.number (node_address b.graph.now x) ≡ true) i.2 (is.nodes.inside i.0 i.1))
 
 -- ---- marks
 
-pub kinds_more : (v : FlowGraph) (t : LoopView) (l e : ℕ) (Set Next : ℕ → Type 0) (turns stays : List Bool) (turn stay : Bool) → AreTurnKinds v t l Set turns stays → e < length v.code.edges → turn ≡ turn_last (graph v) (loops v t) l e → stay ≡ turn_step (graph v) (loops v t) l e →
-    ((d : ℕ) → d < length v.code.edges → Next d → Set d ⊎ (d ≡ e)) → AreTurnKinds v t l Next (slice_set turns e turn) (slice_set stays e stay)
-kinds_more v t l e Set Next turns stays turn stay are el is_turn is_stay next = record {
-  turns_size = length-set turns e turn ∙ are.turns_size;
-  stays_size = length-set stays e stay ∙ are.stays_size;
-  turn = λ d dl done. ⊎_elim
-      (λ (same : d ≡ e). subst (λ x. is_in_flags (slice_set turns e turn) x ≡ turn_last (graph v) (loops v t) l x) (sym same) (get_or-set_same turns e turn false (let s = are.turns_size in omega arith) ∙ is_turn))
-      (λ (other : d ≢ e). get_or-set_other turns e d turn false other ∙ are.turn d dl (old d dl other done))
-      (same_or d e);
-  stay = λ d dl done. ⊎_elim
-      (λ (same : d ≡ e). subst (λ x. is_in_flags (slice_set stays e stay) x ≡ turn_step (graph v) (loops v t) l x) (sym same) (get_or-set_same stays e stay false (let s = are.stays_size in omega arith) ∙ is_stay))
-      (λ (other : d ≢ e). get_or-set_other stays e d stay false other ∙ are.stay d dl (old d dl other done))
-      (same_or d e);
-}
-  where
-    old : (d : ℕ) → d < length v.code.edges → d ≢ e → Next d → Set d
-    old d dl other done = ⊎_elim (λ (s : Set d). s) (λ (same : d ≡ e). absurd (other same)) (next d dl done)
+module _ (b : Body) (Set Next : ℕ → Type 0) (turns stays : List Bool) (are : AreKindsIn b Set turns stays) where
+  pub kinds_more : (e : ℕ) (turn stay : Bool) → e < length b.graph.now.code.edges → turn ≡ turn_last (graph b.graph.now) (loops b.graph.now b.tree.now) b.number e → stay ≡ turn_step (graph b.graph.now) (loops b.graph.now b.tree.now) b.number e →
+      ((d : ℕ) → d < length b.graph.now.code.edges → Next d → Set d ⊎ (d ≡ e)) → AreKindsIn b Next (slice_set turns e turn) (slice_set stays e stay)
+  kinds_more e turn stay el is_turn is_stay next = record {
+    turns_size = length-set turns e turn ∙ are.turns_size;
+    stays_size = length-set stays e stay ∙ are.stays_size;
+    turn = λ d dl done. ⊎_elim
+        (λ (same : d ≡ e). subst (λ x. is_in_flags (slice_set turns e turn) x ≡ turn_last (graph b.graph.now) (loops b.graph.now b.tree.now) b.number x) (sym same) (get_or-set_same turns e turn false (let s = are.turns_size in omega arith) ∙ is_turn))
+        (λ (other : d ≢ e). get_or-set_other turns e d turn false other ∙ are.turn d dl (old d dl other done))
+        (same_or d e);
+    stay = λ d dl done. ⊎_elim
+        (λ (same : d ≡ e). subst (λ x. is_in_flags (slice_set stays e stay) x ≡ turn_step (graph b.graph.now) (loops b.graph.now b.tree.now) b.number x) (sym same) (get_or-set_same stays e stay false (let s = are.stays_size in omega arith) ∙ is_stay))
+        (λ (other : d ≢ e). get_or-set_other stays e d stay false other ∙ are.stay d dl (old d dl other done))
+        (same_or d e);
+  }
+    where
+      old : (d : ℕ) → d < length b.graph.now.code.edges → d ≢ e → Next d → Set d
+      old d dl other done = ⊎_elim (λ (s : Set d). s) (λ (same : d ≡ e). absurd (other same)) (next d dl done)
 
-pub kinds_for : (v : FlowGraph) (t : LoopView) (l : ℕ) (Set Next : ℕ → Type 0) (turns stays : List Bool) → AreTurnKinds v t l Set turns stays → ((d : ℕ) → d < length v.code.edges → Next d → Set d) → AreTurnKinds v t l Next turns stays
-kinds_for v t l Set Next turns stays are less = record {
-  turns_size = are.turns_size;
-  stays_size = are.stays_size;
-  turn = λ d dl done. are.turn d dl (less d dl done);
-  stay = λ d dl done. are.stay d dl (less d dl done);
-}
+  pub kinds_for : ((d : ℕ) → d < length b.graph.now.code.edges → Next d → Set d) → AreKindsIn b Next turns stays
+  kinds_for less = record {
+    turns_size = are.turns_size;
+    stays_size = are.stays_size;
+    turn = λ d dl done. are.turn d dl (less d dl done);
+    stay = λ d dl done. are.stay d dl (less d dl done);
+  }
 
-pub kinds_first : (v : FlowGraph) (t : LoopView) (l : ℕ) (nodes : List ℕ) (turns stays : List Bool) → length turns ≡ length v.code.edges → length stays ≡ length v.code.edges → AreTurnKinds v t l (IsFromFirst v nodes 0) turns stays
-kinds_first v t l nodes turns stays one two = record {
+pub kinds_first : (b : Body) (turns stays : List Bool) → length turns ≡ length b.graph.now.code.edges → length stays ≡ length b.graph.now.code.edges → AreKindsIn b (IsFromFirst b.graph.now b.nodes.now 0) turns stays
+kinds_first b turns stays one two = record {
   turns_size = one;
   stays_size = two;
   turn = λ d dl done. let lt : done.0 < 0 = done.1 in let bad : ⊥ = omega arith in absurd bad;

@@ -203,35 +203,32 @@ module _ (g : Graph) (l : Loops) (extent : ℕ → ℕ → Bool) (w : ℕ → �
     loop_below : (k : ℕ) → k < l.loops → n.turn k ≤ a.iteration k
     loop_below k kl = turn_here (g.owner (l.header k)) (λ h hl less. functions_below (order (g.owner (l.header k))) h less hl) k kl refl
 
-pub turn_within : (g : Graph) (l : Loops) (extent : ℕ → ℕ → Bool) (w : ℕ → ℕ) (n : Charged) (a : Numbers) → IsNumbered g l extent w n → AreNumbers g l w a → HaveFewTrips l → (k : ℕ) → k < l.loops → n.turn k ≤ a.iteration k
-turn_within g l extent w n a is nums few k kl = let o = theory.call_order g is.program in loop_below g l extent w n a is nums few o.0 o.1 k kl
+  pub turn_within : (k : ℕ) → k < l.loops → n.turn k ≤ a.iteration k
+  turn_within k kl = let o = theory.call_order g is.program in loop_below o.0 o.1 k kl
 
-pub charge_within : (g : Graph) (l : Loops) (extent : ℕ → ℕ → Bool) (w : ℕ → ℕ) (n : Charged) (a : Numbers) → IsNumbered g l extent w n → AreNumbers g l w a → HaveFewTrips l →
-    (e : ℕ) → e < g.edges → charge_of g l n e ≤ sum_below l.loops (λ k. only (enters l k (g.source e) (g.target e)) (all_of l a k))
-charge_within g l extent w n a is nums few e el = charge-le g l extent w n a is nums few e el (λ j jl en. turn_within g l extent w n a is nums few j jl)
+  pub charge_within : (e : ℕ) → e < g.edges → charge_of g l n e ≤ sum_below l.loops (λ k. only (enters l k (g.source e) (g.target e)) (all_of l a k))
+  charge_within e el = charge-le e el (λ j jl en. turn_within j jl)
 
--- all turns that a loop has to take, at the least cost of each
-pub trips_within : (g : Graph) (l : Loops) (extent : ℕ → ℕ → Bool) (w : ℕ → ℕ) (n : Charged) (a : Numbers) → IsNumbered g l extent w n → AreNumbers g l w a → HaveFewTrips l →
-    (k : ℕ) → k < l.loops → charged_trips g l n.least k * n.turn k ≤ a.worst 0
-trips_within g l extent w n a is nums few k kl =
-    let o = theory.call_order g is.program in
-    let one : charged_trips g l n.least k * n.turn k ≤ l.bound k * n.turn k = mul-le-mul_right (n.turn k) (trips-le g l extent w n a is nums few k kl) in
-    let two : n.turn k * l.bound k ≤ a.iteration k * l.bound k = mul-le-mul_right (l.bound k) (turn_within g l extent w n a is nums few k kl) in
-    let p : n.turn k * l.bound k ≡ l.bound k * n.turn k = omega arith in
-    let q : a.iteration k * l.bound k ≡ l.bound k * a.iteration k = omega arith in
-    let top : l.bound k * a.iteration k ≤ a.worst 0 = turns-worst g l extent w a is.program is.accepted is.weights nums o.0 o.1 k kl in
-    omega arith
+  -- all turns that a loop has to take, at the least cost of each
+  pub trips_within : (k : ℕ) → k < l.loops → charged_trips g l n.least k * n.turn k ≤ a.worst 0
+  trips_within k kl =
+      let o = theory.call_order g is.program in
+      let one : charged_trips g l n.least k * n.turn k ≤ l.bound k * n.turn k = mul-le-mul_right (n.turn k) (trips-le k kl) in
+      let two : n.turn k * l.bound k ≤ a.iteration k * l.bound k = mul-le-mul_right (l.bound k) (turn_within k kl) in
+      let p : n.turn k * l.bound k ≡ l.bound k * n.turn k = omega arith in
+      let q : a.iteration k * l.bound k ≡ l.bound k * a.iteration k = omega arith in
+      let top : l.bound k * a.iteration k ≤ a.worst 0 = turns-worst g l extent w a is.program is.accepted is.weights nums o.0 o.1 k kl in
+      omega arith
 
--- a loop that has to turn turns within the worst cycles
-pub turn_worst : (g : Graph) (l : Loops) (extent : ℕ → ℕ → Bool) (w : ℕ → ℕ) (n : Charged) (a : Numbers) → IsNumbered g l extent w n → AreNumbers g l w a → HaveFewTrips l →
-    (k : ℕ) → k < l.loops → 0 < l.least_trips k → n.turn k ≤ a.worst 0
-turn_worst g l extent w n a is nums few k kl turning =
-    let o = theory.call_order g is.program in
-    let bound = few k kl in
-    let one : 1 * n.turn k ≤ l.bound k * n.turn k = mul-le-mul_right (n.turn k) (omega arith) in
-    let two : n.turn k * l.bound k ≤ a.iteration k * l.bound k = mul-le-mul_right (l.bound k) (turn_within g l extent w n a is nums few k kl) in
-    let p : n.turn k * l.bound k ≡ l.bound k * n.turn k = omega arith in
-    let q : a.iteration k * l.bound k ≡ l.bound k * a.iteration k = omega arith in
-    let r : 1 * n.turn k ≡ n.turn k = omega arith in
-    let top : l.bound k * a.iteration k ≤ a.worst 0 = turns-worst g l extent w a is.program is.accepted is.weights nums o.0 o.1 k kl in
-    omega arith
+  -- a loop that has to turn turns within the worst cycles
+  pub turn_worst : (k : ℕ) → k < l.loops → 0 < l.least_trips k → n.turn k ≤ a.worst 0
+  turn_worst k kl turning =
+      let o = theory.call_order g is.program in
+      let bound = few k kl in
+      let one : 1 * n.turn k ≤ l.bound k * n.turn k = mul-le-mul_right (n.turn k) (omega arith) in
+      let two : n.turn k * l.bound k ≤ a.iteration k * l.bound k = mul-le-mul_right (l.bound k) (turn_within k kl) in
+      let p : n.turn k * l.bound k ≡ l.bound k * n.turn k = omega arith in
+      let q : a.iteration k * l.bound k ≡ l.bound k * a.iteration k = omega arith in
+      let r : 1 * n.turn k ≡ n.turn k = omega arith in
+      let top : l.bound k * a.iteration k ≤ a.worst 0 = turns-worst g l extent w a is.program is.accepted is.weights nums o.0 o.1 k kl in
+      omega arith

@@ -1,13 +1,24 @@
 //! What edges cost with the functions that they call.
 
-ghost use Rattle.std.specs.Prelude.{◌≡◌, ◌⊎◌, ◌↔◌, ℕ, ◌+◌, ◌^◌, ◌<◌, ◌≤◌, true, [], length, Some, None, IsSome, unwrap_or, IfOk};
-ghost use Rattle.graph_algorithms.specs.Arcs.{number_in_place};
+ghost use Rattle.std.specs.Prelude.{◌≡◌, ◌⊎◌, ◌↔◌, ℕ, ◌+◌, ◌^◌, ◌<◌, ◌≤◌, true, [], length, Some, None, IsSome, unwrap_or};
 ghost use Rattle.cost_theory.specs.Least.{least_call};
 ghost use Rattle.code_graph.specs.FlowGraph.{graph as graph_seen, IsFlowGraph};
 ghost use Rattle.least_cycles.specs.Functions.{IsBucket, IsFromFirst};
-ghost use Rattle.least_cycles.specs.Tables.{value_beside, least_by, AreSmallTables, IsPrice, ArePriced};
+ghost use Rattle.least_cycles.specs.Tables.{value_beside, least_by};
+ghost use Rattle.least_cycles.specs.Passes.{ArePriceTables, IsPriceBy, ArePricedBy};
 
 use code_graph::CodeGraph;
+
+/// What is known of a graph where a function of it is priced.
+#[derive(Clone, Copy)]
+pub struct Tables<'a> {
+    pub graph: &'a CodeGraph,
+    /// By edge, its cost without the function that it calls.
+    pub own: &'a [u64],
+    /// By node, the least costs of walks to a return and to an exit, at least of the functions that are called.
+    pub returns: &'a [Option<u128>],
+    pub exits: &'a [Option<u128>],
+}
 
 /// What a table has at the entry of function `f`.
 fn at_entry(graph: &CodeGraph, table: &[Option<u128>], f: usize) -> Option<u128>
@@ -68,48 +79,33 @@ fn is_last(graph: &CodeGraph, e: usize, exits_in_call: bool) -> bool
 }
 
 /// What edge `e` costs with the function that it calls, and whether it is the last of a walk to an exit.
-fn price(
-    graph: &CodeGraph,
-    own: &[u64],
-    returns: &[Option<u128>],
-    exits: &[Option<u128>],
-    e: usize,
-) -> (u64, bool)
-    requires flow { IsFlowGraph graph.now }
-    requires edge { e < length graph.now.code.edges }
-    requires own { length own.now ≡ length graph.now.code.edges }
-    requires low { (d : ℕ) → number_in_place own.now d ≤ 2 ^ 48 }
-    requires tables { AreSmallTables graph.now returns.now exits.now }
-    ensures { IsPrice graph.now (number_in_place own.now) returns.now exits.now e result.0 result.1 }
+fn price(tables: &Tables<'_>, e: usize) -> (u64, bool)
+    requires tables { ArePriceTables tables.now }
+    requires edge { e < length tables.now.graph.now.code.edges }
+    ensures { IsPriceBy tables.now e result.0 result.1 }
 {
-    let more = called(graph, returns, exits, e);
-    let last = is_last(graph, e, more.is_some());
-    (own[e] + small(more), last)
+    let more = called(tables.graph, tables.returns, tables.exits, e);
+    let last = is_last(tables.graph, e, more.is_some());
+    (tables.own[e] + small(more), last)
 }
 
 /// Prices the edges of the node at place `i` of a function.
 fn price_node(
-    graph: &CodeGraph,
-    own: &[u64],
-    returns: &[Option<u128>],
-    exits: &[Option<u128>],
+    tables: &Tables<'_>,
     bucket: &[usize],
     i: usize,
     costs: &mut Vec<u64>,
     lasts: &mut Vec<bool>,
 )
-    requires flow { IsFlowGraph graph.now }
-    requires bucket { (f : ℕ) × IsBucket graph.now f bucket.now }
+    requires tables { ArePriceTables tables.now }
+    requires bucket { (f : ℕ) × IsBucket tables.now.graph.now f bucket.now }
     requires place { i < length bucket.now }
-    requires own { length own.now ≡ length graph.now.code.edges }
-    requires low { (d : ℕ) → number_in_place own.now d ≤ 2 ^ 48 }
-    requires tables { AreSmallTables graph.now returns.now exits.now }
-    requires priced { ArePriced graph.now (number_in_place own.now) returns.now exits.now (IsFromFirst graph.now bucket.now i) costs.old.items lasts.old.items }
-    ensures { ArePriced graph.now (number_in_place own.now) returns.now exits.now (IsFromFirst graph.now bucket.now (i + 1)) costs.new.items lasts.new.items }
+    requires priced { ArePricedBy tables.now (IsFromFirst tables.now.graph.now bucket.now i) costs.old.items lasts.old.items }
+    ensures { ArePricedBy tables.now (IsFromFirst tables.now.graph.now bucket.now (i + 1)) costs.new.items lasts.new.items }
 {
-    let (first, end) = graph.edges_of(bucket[i]);
+    let (first, end) = tables.graph.edges_of(bucket[i]);
     for e in first..end {
-        let (cost, last) = price(graph, own, returns, exits, e);
+        let (cost, last) = price(tables, e);
         costs[e] = cost;
         lasts[e] = last;
     }
@@ -117,23 +113,17 @@ fn price_node(
 
 /// Prices the edges of the nodes of a function.
 pub fn price_function(
-    graph: &CodeGraph,
-    own: &[u64],
-    returns: &[Option<u128>],
-    exits: &[Option<u128>],
+    tables: &Tables<'_>,
     bucket: &[usize],
     costs: &mut Vec<u64>,
     lasts: &mut Vec<bool>,
 )
-    requires flow { IsFlowGraph graph.now }
-    requires bucket { (f : ℕ) × IsBucket graph.now f bucket.now }
-    requires own { length own.now ≡ length graph.now.code.edges }
-    requires low { (d : ℕ) → number_in_place own.now d ≤ 2 ^ 48 }
-    requires tables { AreSmallTables graph.now returns.now exits.now }
-    requires priced { ArePriced graph.now (number_in_place own.now) returns.now exits.now (IsFromFirst graph.now bucket.now 0) costs.old.items lasts.old.items }
-    ensures { ArePriced graph.now (number_in_place own.now) returns.now exits.now (IsFromFirst graph.now bucket.now (length bucket.now)) costs.new.items lasts.new.items }
+    requires tables { ArePriceTables tables.now }
+    requires bucket { (f : ℕ) × IsBucket tables.now.graph.now f bucket.now }
+    requires priced { ArePricedBy tables.now (IsFromFirst tables.now.graph.now bucket.now 0) costs.old.items lasts.old.items }
+    ensures { ArePricedBy tables.now (IsFromFirst tables.now.graph.now bucket.now (length bucket.now)) costs.new.items lasts.new.items }
 {
     for i in 0..bucket.len() {
-        price_node(graph, own, returns, exits, bucket, i, costs, lasts);
+        price_node(tables, bucket, i, costs, lasts);
     }
 }

@@ -8,10 +8,11 @@ ghost use Rattle.loop_tree.specs.Noted.{node_address};
 ghost use Rattle.loop_tree.specs.Tree.{loops, IsLoopTree};
 ghost use Rattle.cycle_laws.specs.Charged.{Charged};
 ghost use Rattle.least_cycles.specs.Functions.{ArePlacesIn, AreNodeNumbers, IsNodeFlagged, IsFromFirst};
-ghost use Rattle.least_cycles.specs.Charging.{IsBodyOf, AreTurnKinds, AreChargeMarks, AreCharges, IsChargeKnown, loop_charge};
+ghost use Rattle.least_cycles.specs.Charging.{IsBodyOf, AreChargeMarks, AreCharges, IsChargeKnown, loop_charge};
+ghost use Rattle.least_cycles.specs.Passes.{IsLoopBody, AreSpots, AreKindsIn, IsPricedFunction, IsLoopKnown};
 
 use crate::charges::Charges;
-use crate::function::least_in;
+use crate::function::{Runs, least_in};
 use crate::prices::small;
 use code_graph::CodeGraph;
 use loop_tree::LoopTree;
@@ -25,6 +26,28 @@ pub struct Marks {
     pub spots: Vec<usize>,
     pub turns: Vec<bool>,
     pub stays: Vec<bool>,
+}
+
+/// A loop of a graph and the nodes of its body.
+#[derive(Clone, Copy)]
+pub struct Body<'a> {
+    pub graph: &'a CodeGraph,
+    pub tree: &'a LoopTree,
+    /// The number of the loop.
+    pub number: usize,
+    pub nodes: &'a [usize],
+}
+
+/// A function of a graph with its loops, whose edges are priced.
+#[derive(Clone, Copy)]
+pub struct PricedFunction<'a> {
+    pub graph: &'a CodeGraph,
+    pub tree: &'a LoopTree,
+    /// The number of the function.
+    pub number: usize,
+    /// By edge, its cost without a charge, and whether it is the last of a walk to an exit.
+    pub costs: &'a [u64],
+    pub lasts: &'a [bool],
 }
 
 /// Whether node `k` is one of some nodes.
@@ -66,87 +89,57 @@ fn body_nodes(
     Ok(nodes)
 }
 
-/// Whether edge `e` of the body of loop `l` ends a turn, and whether it goes on within one.
-fn turn_kind(
-    graph: &CodeGraph,
-    tree: &LoopTree,
-    l: usize,
-    nodes: &[usize],
-    spots: &[usize],
-    e: usize,
-) -> (bool, bool)
-    requires flow { IsFlowGraph graph.now }
-    requires tree { (extent : ℕ → ℕ → Bool) × IsLoopTree graph.now extent tree.now }
-    requires loop_number { l < length tree.now.headers }
-    requires nodes { IsBodyOf graph.now tree.now l nodes.now }
-    requires spots { ArePlacesIn nodes.now spots.now }
-    requires size { length spots.now ≡ length graph.now.code.nodes }
-    requires edge { e < length graph.now.code.edges }
-    requires from { (loops graph.now tree.now).inside l ((graph_seen graph.now).source e) ≡ true }
-    ensures turn { result.0 ≡ turn_last (graph_seen graph.now) (loops graph.now tree.now) l e }
-    ensures stay { result.1 ≡ turn_step (graph_seen graph.now) (loops graph.now tree.now) l e }
+/// Whether edge `e` of the body of a loop ends a turn, and whether it goes on within one.
+fn turn_kind(body: &Body<'_>, spots: &[usize], e: usize) -> (bool, bool)
+    requires body { IsLoopBody body.now }
+    requires spots { AreSpots body.now spots.now }
+    requires edge { e < length body.now.graph.now.code.edges }
+    requires from { (loops body.now.graph.now body.now.tree.now).inside body.now.number ((graph_seen body.now.graph.now).source e) ≡ true }
+    ensures turn { result.0 ≡ turn_last (graph_seen body.now.graph.now) (loops body.now.graph.now body.now.tree.now) body.now.number e }
+    ensures stay { result.1 ≡ turn_step (graph_seen body.now.graph.now) (loops body.now.graph.now body.now.tree.now) body.now.number e }
 {
-    let Some(k) = graph.target(e) else {
+    let Some(k) = body.graph.target(e) else {
         return (false, false);
     };
-    if k == tree.header(l) {
+    if k == body.tree.header(body.number) {
         (true, false)
     } else {
-        (false, is_in(nodes, spots, k))
+        (false, is_in(body.nodes, spots, k))
     }
 }
 
-/// Marks the edges of the node at place `i` of the body of loop `l`.
+/// Marks the edges of the node at place `i` of the body of a loop.
 fn mark_node(
-    graph: &CodeGraph,
-    tree: &LoopTree,
-    l: usize,
-    nodes: &[usize],
+    body: &Body<'_>,
     spots: &[usize],
     i: usize,
     turns: &mut Vec<bool>,
     stays: &mut Vec<bool>,
 )
-    requires flow { IsFlowGraph graph.now }
-    requires tree { (extent : ℕ → ℕ → Bool) × IsLoopTree graph.now extent tree.now }
-    requires loop_number { l < length tree.now.headers }
-    requires nodes { IsBodyOf graph.now tree.now l nodes.now }
-    requires spots { ArePlacesIn nodes.now spots.now }
-    requires size { length spots.now ≡ length graph.now.code.nodes }
-    requires place { i < length nodes.now }
-    requires marked { AreTurnKinds graph.now tree.now l (IsFromFirst graph.now nodes.now i) turns.old.items stays.old.items }
-    ensures { AreTurnKinds graph.now tree.now l (IsFromFirst graph.now nodes.now (i + 1)) turns.new.items stays.new.items }
+    requires body { IsLoopBody body.now }
+    requires spots { AreSpots body.now spots.now }
+    requires place { i < length body.now.nodes.now }
+    requires marked { AreKindsIn body.now (IsFromFirst body.now.graph.now body.now.nodes.now i) turns.old.items stays.old.items }
+    ensures { AreKindsIn body.now (IsFromFirst body.now.graph.now body.now.nodes.now (i + 1)) turns.new.items stays.new.items }
 {
-    let (first, end) = graph.edges_of(nodes[i]);
+    let (first, end) = body.graph.edges_of(body.nodes[i]);
     for e in first..end {
-        let (turn, stay) = turn_kind(graph, tree, l, nodes, spots, e);
+        let (turn, stay) = turn_kind(body, spots, e);
         turns[e] = turn;
         stays[e] = stay;
     }
 }
 
-/// Marks the edges of the body of loop `l`.
-fn mark_body(
-    graph: &CodeGraph,
-    tree: &LoopTree,
-    l: usize,
-    nodes: &[usize],
-    spots: &[usize],
-    turns: &mut Vec<bool>,
-    stays: &mut Vec<bool>,
-)
-    requires flow { IsFlowGraph graph.now }
-    requires tree { (extent : ℕ → ℕ → Bool) × IsLoopTree graph.now extent tree.now }
-    requires loop_number { l < length tree.now.headers }
-    requires nodes { IsBodyOf graph.now tree.now l nodes.now }
-    requires spots { ArePlacesIn nodes.now spots.now }
-    requires size { length spots.now ≡ length graph.now.code.nodes }
-    requires turns { length turns.old.items ≡ length graph.now.code.edges }
-    requires stays { length stays.old.items ≡ length graph.now.code.edges }
-    ensures { AreTurnKinds graph.now tree.now l (IsFromFirst graph.now nodes.now (length nodes.now)) turns.new.items stays.new.items }
+/// Marks the edges of the body of a loop.
+fn mark_body(body: &Body<'_>, spots: &[usize], turns: &mut Vec<bool>, stays: &mut Vec<bool>)
+    requires body { IsLoopBody body.now }
+    requires spots { AreSpots body.now spots.now }
+    requires turns { length turns.old.items ≡ length body.now.graph.now.code.edges }
+    requires stays { length stays.old.items ≡ length body.now.graph.now.code.edges }
+    ensures { AreKindsIn body.now (IsFromFirst body.now.graph.now body.now.nodes.now (length body.now.nodes.now)) turns.new.items stays.new.items }
 {
-    for i in 0..nodes.len() {
-        mark_node(graph, tree, l, nodes, spots, i, turns, stays);
+    for i in 0..body.nodes.len() {
+        mark_node(body, spots, i, turns, stays);
     }
 }
 
@@ -179,83 +172,74 @@ fn are_shut(graph: &CodeGraph, nodes: &[usize], lasts: &[bool]) -> bool
     true
 }
 
-/// The least cost of one turn of loop `l`, by the costs of the edges of its body and the charges of the loops within it.
+/// The least cost of one turn of a loop, by the costs of the edges of its body and the charges of the loops within it.
 fn turn_of(
     alloc: Global,
-    graph: &CodeGraph,
-    tree: &LoopTree,
-    l: usize,
-    nodes: &[usize],
+    body: &Body<'_>,
     costs: &[u64],
     marks: &mut Marks,
     charges: &Charges,
 ) -> Result<u64, NoMemory>
-    requires loop_number { l < length tree.now.headers }
-    requires turning { 0 < slice_index tree.now.least_trips l }
-    requires nodes { IsBodyOf graph.now tree.now l nodes.now }
-    requires few { length nodes.now ≤ 131072 }
-    requires marks { AreChargeMarks graph.now marks.old }
-    requires spots { ArePlacesIn nodes.now marks.old.spots.items }
-    requires costs { length costs.now ≡ length graph.now.code.edges }
+    requires body { IsLoopBody body.now }
+    requires turning { 0 < slice_index body.now.tree.now.least_trips body.now.number }
+    requires few { length body.now.nodes.now ≤ 131072 }
+    requires marks { AreChargeMarks body.now.graph.now marks.old }
+    requires spots { ArePlacesIn body.now.nodes.now marks.old.spots.items }
+    requires costs { length costs.now ≡ length body.now.graph.now.code.edges }
     requires low { (e : ℕ) → number_in_place costs.now e ≤ 2 ^ 49 }
-    requires charges { AreCharges graph.now tree.now charges.now }
-    requires known { (w : ℕ → ℕ) × (n : Charged) × (lasts : List Bool) × IsChargeKnown graph.now tree.now w n l costs.now lasts charges.now.found.items }
-    ensures turn { IfOk result (λ x. (w : ℕ → ℕ) (n : Charged) (lasts : List Bool) → IsChargeKnown graph.now tree.now w n l costs.now lasts charges.now.found.items → x ≡ n.turn l) }
-    ensures marks { OnOk result (AreChargeMarks graph.now marks.new) }
+    requires charges { AreCharges body.now.graph.now body.now.tree.now charges.now }
+    requires known { (w : ℕ → ℕ) × (n : Charged) × (lasts : List Bool) × IsChargeKnown body.now.graph.now body.now.tree.now w n body.now.number costs.now lasts charges.now.found.items }
+    ensures turn { IfOk result (λ x. (w : ℕ → ℕ) (n : Charged) (lasts : List Bool) → IsChargeKnown body.now.graph.now body.now.tree.now w n body.now.number costs.now lasts charges.now.found.items → x ≡ n.turn body.now.number) }
+    ensures marks { OnOk result (AreChargeMarks body.now.graph.now marks.new) }
 {
-    let _count = graph.node_count();
-    mark_body(
-        graph,
-        tree,
-        l,
-        nodes,
-        &marks.spots,
-        &mut marks.turns,
-        &mut marks.stays,
-    );
+    let _count = body.graph.node_count();
+    mark_body(body, &marks.spots, &mut marks.turns, &mut marks.stays);
     let table = least_in(
         alloc,
-        graph,
-        nodes,
-        &marks.spots,
-        &marks.turns,
-        &marks.stays,
-        costs,
-        charges,
+        &Runs {
+            graph: body.graph,
+            nodes: body.nodes,
+            places: &marks.spots,
+            lasts: &marks.turns,
+            steps: &marks.stays,
+            costs,
+            charges,
+        },
     )?;
-    Ok(small(table[marks.spots[tree.header(l)]]))
+    Ok(small(table[marks.spots[body.tree.header(body.number)]]))
 }
 
 /// What loop `l` is charged with: nothing where it may be left by an exit, and else the turns that it has to take, each at the
 /// least cost of one.
 pub fn charge_of_loop(
     alloc: Global,
-    graph: &CodeGraph,
-    tree: &LoopTree,
+    priced: &PricedFunction<'_>,
     l: usize,
-    costs: &[u64],
-    lasts: &[bool],
     marks: &mut Marks,
     charges: &Charges,
 ) -> Result<u64, NoMemory>
-    requires loop_number { l < length tree.now.headers }
-    requires marks { AreChargeMarks graph.now marks.old }
-    requires costs { length costs.now ≡ length graph.now.code.edges }
-    requires lasts { length lasts.now ≡ length graph.now.code.edges }
-    requires low { (e : ℕ) → number_in_place costs.now e ≤ 2 ^ 49 }
-    requires charges { AreCharges graph.now tree.now charges.now }
-    requires known { (w : ℕ → ℕ) × (n : Charged) × IsChargeKnown graph.now tree.now w n l costs.now lasts.now charges.now.found.items }
-    ensures charge { IfOk result (λ x. (w : ℕ → ℕ) (n : Charged) → IsChargeKnown graph.now tree.now w n l costs.now lasts.now charges.now.found.items → x ≡ loop_charge graph.now tree.now n l) }
-    ensures marks { OnOk result (AreChargeMarks graph.now marks.new) }
+    requires priced { IsPricedFunction priced.now }
+    requires loop_number { l < length priced.now.tree.now.headers }
+    requires marks { AreChargeMarks priced.now.graph.now marks.old }
+    requires charges { AreCharges priced.now.graph.now priced.now.tree.now charges.now }
+    requires known { (w : ℕ → ℕ) × (n : Charged) × IsLoopKnown priced.now w n l charges.now.found.items }
+    ensures charge { IfOk result (λ x. (w : ℕ → ℕ) (n : Charged) → IsLoopKnown priced.now w n l charges.now.found.items → x ≡ loop_charge priced.now.graph.now priced.now.tree.now n l) }
+    ensures marks { OnOk result (AreChargeMarks priced.now.graph.now marks.new) }
 {
-    let trips = tree.least_trips(l);
+    let trips = priced.tree.least_trips(l);
     if trips == 0 {
         return Ok(0);
     }
-    let nodes = body_nodes(alloc, graph, tree, l, &mut marks.spots)?;
-    if !are_shut(graph, &nodes, lasts) {
+    let nodes = body_nodes(alloc, priced.graph, priced.tree, l, &mut marks.spots)?;
+    if !are_shut(priced.graph, &nodes, priced.lasts) {
         return Ok(0);
     }
-    let turn = turn_of(alloc, graph, tree, l, &nodes, costs, marks, charges)?;
+    let body = Body {
+        graph: priced.graph,
+        tree: priced.tree,
+        number: l,
+        nodes: &nodes,
+    };
+    let turn = turn_of(alloc, &body, priced.costs, marks, charges)?;
     Ok(u64::from(trips) * turn)
 }

@@ -2,18 +2,18 @@
 
 ghost use Rattle.std.specs.Prelude.{◌≡◌, ◌≢◌, ℕ, Bool, ◌+◌, ◌^◌, ◌<◌, ◌≤◌, length, IfOk, OnOk};
 ghost use Rattle.graph_algorithms.specs.Arcs.{number_in_place, AreDistinct};
-ghost use Rattle.code_graph.specs.FlowGraph.{IsFlowGraph};
 ghost use Rattle.loop_tree.specs.Tree.{IsLoopTree};
 ghost use Rattle.cycle_laws.specs.Charged.{Charged};
 ghost use Rattle.least_cycles.specs.Tables.{AreWritten, IsBefore, IsAnyFunction};
-ghost use Rattle.least_cycles.specs.Charging.{IsCharging, HasCharging, HasWalks, AreChargeMarks, AreCharges, AreChargedTo, ArePricedAt, loop_owner, IsChargePlan, IsScratch};
+ghost use Rattle.least_cycles.specs.Charging.{IsCharging, HasCharging, HasWalks, AreChargeMarks, AreCharges, AreChargedTo, loop_owner, IsChargePlan, IsScratch};
+ghost use Rattle.least_cycles.specs.Passes.{IsPricedFunction, AreCostsKnown, IsPlannedProgram, AreFoundSoFar};
 
 use crate::buckets::bucket_of;
 use crate::charges::{Charges, entries_of};
-use crate::function::least_in;
+use crate::function::{Runs, least_in};
 use crate::plan::Plan;
-use crate::prices::price_function;
-use crate::turns::{Marks, charge_of_loop};
+use crate::prices::{Tables, price_function};
+use crate::turns::{Marks, PricedFunction, charge_of_loop};
 use code_graph::CodeGraph;
 use loop_tree::LoopTree;
 use scale_base::NoMemory;
@@ -24,6 +24,21 @@ use std::alloc::Global;
 pub struct Walks {
     pub returns: Vec<Option<u128>>,
     pub exits: Vec<Option<u128>>,
+}
+
+/// What is found of some functions: the least costs of walks, and what their loops are charged with.
+#[derive(Drop)]
+pub struct Found {
+    pub walks: Walks,
+    pub charges: Charges,
+}
+
+/// A graph with its loops, and what is known of them before the passes.
+#[derive(Clone, Copy)]
+pub struct Program<'a> {
+    pub graph: &'a CodeGraph,
+    pub tree: &'a LoopTree,
+    pub plan: &'a Plan,
 }
 
 /// What is used for one function after the other: the place of each node in its function, and by edge its cost without a charge and
@@ -48,41 +63,32 @@ fn write_back(bucket: &[usize], found: &[Option<u128>], table: &mut Vec<Option<u
     }
 }
 
-/// Finds what the loops of function `f` are charged with, those within others first.
+/// Finds what the loops of a function are charged with, those within others first.
 fn charge_loops(
     alloc: Global,
-    graph: &CodeGraph,
-    tree: &LoopTree,
+    priced: &PricedFunction<'_>,
     plan: &Plan,
-    f: usize,
-    costs: &[u64],
-    lasts: &[bool],
     marks: &mut Marks,
     charges: &mut Charges,
 ) -> Result<(), NoMemory>
-    requires flow { IsFlowGraph graph.now }
-    requires tree { (extent : ℕ → ℕ → Bool) × IsLoopTree graph.now extent tree.now }
-    requires plan { IsChargePlan graph.now tree.now plan.now }
-    requires function { f < length graph.now.code.functions }
-    requires costs { length costs.now ≡ length graph.now.code.edges }
-    requires lasts { length lasts.now ≡ length graph.now.code.edges }
-    requires low { (e : ℕ) → number_in_place costs.now e ≤ 2 ^ 49 }
-    requires marks { AreChargeMarks graph.now marks.old }
-    requires charges { AreCharges graph.now tree.now charges.old }
-    requires known { (w : ℕ → ℕ) × (n : Charged) × IsCharging graph.now tree.now w n × ArePricedAt graph.now w n f costs.now lasts.now }
-    ensures charged { OnOk result ((w : ℕ → ℕ) (n : Charged) → IsCharging graph.now tree.now w n → ArePricedAt graph.now w n f costs.now lasts.now → AreChargedTo graph.now tree.now n (λ k. loop_owner graph.now tree.now k ≡ f) charges.new.found.items) }
-    ensures others { OnOk result ((k : ℕ) → k < length tree.now.headers → loop_owner graph.now tree.now k ≢ f → number_in_place charges.new.found.items k ≡ number_in_place charges.old.found.items k) }
-    ensures charges { OnOk result (AreCharges graph.now tree.now charges.new) }
-    ensures marks { OnOk result (AreChargeMarks graph.now marks.new) }
+    requires priced { IsPricedFunction priced.now }
+    requires plan { IsChargePlan priced.now.graph.now priced.now.tree.now plan.now }
+    requires marks { AreChargeMarks priced.now.graph.now marks.old }
+    requires charges { AreCharges priced.now.graph.now priced.now.tree.now charges.old }
+    requires known { (w : ℕ → ℕ) × (n : Charged) × AreCostsKnown priced.now w n }
+    ensures charged { OnOk result ((w : ℕ → ℕ) (n : Charged) → AreCostsKnown priced.now w n → AreChargedTo priced.now.graph.now priced.now.tree.now n (λ k. loop_owner priced.now.graph.now priced.now.tree.now k ≡ priced.now.number) charges.new.found.items) }
+    ensures others { OnOk result ((k : ℕ) → k < length priced.now.tree.now.headers → loop_owner priced.now.graph.now priced.now.tree.now k ≢ priced.now.number → number_in_place charges.new.found.items k ≡ number_in_place charges.old.found.items k) }
+    ensures charges { OnOk result (AreCharges priced.now.graph.now priced.now.tree.now charges.new) }
+    ensures marks { OnOk result (AreChargeMarks priced.now.graph.now marks.new) }
 {
-    let _count = graph.node_count();
-    let order = tree.plain_order();
-    let mut next = plan.headers.last(f);
+    let _count = priced.graph.node_count();
+    let order = priced.tree.plain_order();
+    let mut next = plan.headers.last(priced.number);
     while let Some(i) = next {
         let Some(l) = plan.heads[order[i]] else {
             unreachable!()
         };
-        let charge = charge_of_loop(alloc, graph, tree, l, costs, lasts, marks, charges)?;
+        let charge = charge_of_loop(alloc, priced, l, marks, charges)?;
         charges.found[l] = charge;
         next = plan.headers.before(i);
     }
@@ -92,73 +98,66 @@ fn charge_loops(
 /// Finds the least costs in the function at place `i` of the order of calls.
 fn solve_function(
     alloc: Global,
-    graph: &CodeGraph,
-    tree: &LoopTree,
-    plan: &Plan,
+    program: &Program<'_>,
     i: usize,
     scratch: &mut Scratch,
-    charges: &mut Charges,
-    walks: &mut Walks,
+    found: &mut Found,
 ) -> Result<(), NoMemory>
-    requires flow { IsFlowGraph graph.now }
-    requires tree { (extent : ℕ → ℕ → Bool) × IsLoopTree graph.now extent tree.now }
-    requires plan { IsChargePlan graph.now tree.now plan.now }
-    requires place { i < length graph.now.order }
-    requires charging { HasCharging graph.now tree.now (number_in_place plan.now.own.items) }
-    requires scratch { IsScratch graph.now scratch.old }
-    requires charges { AreCharges graph.now tree.now charges.old }
-    requires charged { (n : Charged) → IsCharging graph.now tree.now (number_in_place plan.now.own.items) n → AreChargedTo graph.now tree.now n (λ k. IsBefore graph.now i (loop_owner graph.now tree.now k)) charges.old.found.items }
-    requires walks { HasWalks graph.now tree.now (number_in_place plan.now.own.items) (IsBefore graph.now i) walks.old.returns.items walks.old.exits.items }
-    ensures scratch { OnOk result (IsScratch graph.now scratch.new) }
-    ensures charges { OnOk result (AreCharges graph.now tree.now charges.new) }
-    ensures charged { OnOk result ((n : Charged) → IsCharging graph.now tree.now (number_in_place plan.now.own.items) n → AreChargedTo graph.now tree.now n (λ k. IsBefore graph.now (i + 1) (loop_owner graph.now tree.now k)) charges.new.found.items) }
-    ensures walks { OnOk result (HasWalks graph.now tree.now (number_in_place plan.now.own.items) (IsBefore graph.now (i + 1)) walks.new.returns.items walks.new.exits.items) }
+    requires program { IsPlannedProgram program.now }
+    requires place { i < length program.now.graph.now.order }
+    requires scratch { IsScratch program.now.graph.now scratch.old }
+    requires found { AreFoundSoFar program.now (IsBefore program.now.graph.now i) found.old }
+    ensures scratch { OnOk result (IsScratch program.now.graph.now scratch.new) }
+    ensures found { OnOk result (AreFoundSoFar program.now (IsBefore program.now.graph.now (i + 1)) found.new) }
 {
+    let graph = program.graph;
+    let plan = program.plan;
     let f = graph.call_order()[i];
     let _count = graph.node_count();
     let bucket = bucket_of(alloc, graph, &plan.nodes, f, &mut scratch.places)?;
     price_function(
-        graph,
-        &plan.own,
-        &walks.returns,
-        &walks.exits,
+        &Tables {
+            graph,
+            own: &plan.own,
+            returns: &found.walks.returns,
+            exits: &found.walks.exits,
+        },
         &bucket,
         &mut scratch.costs,
         &mut scratch.lasts,
     );
     charge_loops(
         alloc,
-        graph,
-        tree,
+        &PricedFunction {
+            graph,
+            tree: program.tree,
+            number: f,
+            costs: &scratch.costs,
+            lasts: &scratch.lasts,
+        },
         plan,
-        f,
-        &scratch.costs,
-        &scratch.lasts,
         &mut scratch.marks,
-        charges,
+        &mut found.charges,
     )?;
-    let returns = least_in(
-        alloc,
+    let to_return = Runs {
         graph,
-        &bucket,
-        &scratch.places,
-        &plan.returning,
-        &plan.leading,
-        &scratch.costs,
-        charges,
-    )?;
+        nodes: &bucket,
+        places: &scratch.places,
+        lasts: &plan.returning,
+        steps: &plan.leading,
+        costs: &scratch.costs,
+        charges: &found.charges,
+    };
+    let returns = least_in(alloc, &to_return)?;
     let exits = least_in(
         alloc,
-        graph,
-        &bucket,
-        &scratch.places,
-        &scratch.lasts,
-        &plan.leading,
-        &scratch.costs,
-        charges,
+        &Runs {
+            lasts: &scratch.lasts,
+            ..to_return
+        },
     )?;
-    write_back(&bucket, &returns, &mut walks.returns);
-    write_back(&bucket, &exits, &mut walks.exits);
+    write_back(&bucket, &returns, &mut found.walks.returns);
+    write_back(&bucket, &exits, &mut found.walks.exits);
     Ok(())
 }
 
@@ -196,25 +195,18 @@ pub fn walks_of(
 {
     let nodes = graph.node_count();
     let mut scratch = empty_scratch(alloc, graph)?;
-    let mut charges = Charges {
+    let charges = Charges {
         entries: entries_of(alloc, graph, tree, &plan.heads)?,
         found: vec![in alloc; 0; tree.loop_count()]?,
     };
-    let mut walks = Walks {
+    let walks = Walks {
         returns: vec![in alloc; None; nodes]?,
         exits: vec![in alloc; None; nodes]?,
     };
+    let mut found = Found { walks, charges };
+    let program = Program { graph, tree, plan };
     for i in 0..graph.call_order().len() {
-        solve_function(
-            alloc,
-            graph,
-            tree,
-            plan,
-            i,
-            &mut scratch,
-            &mut charges,
-            &mut walks,
-        )?;
+        solve_function(alloc, &program, i, &mut scratch, &mut found)?;
     }
-    Ok((walks, charges))
+    Ok((found.walks, found.charges))
 }

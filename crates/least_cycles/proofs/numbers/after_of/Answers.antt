@@ -11,7 +11,7 @@ pub charged-requires : goal.charged-requires
 charged-requires c = λ x at.
     let v = c.args.graph.now in
     let n = least_by v c.args.walks.now.returns.items c.args.walks.now.exits.items c.args.behind.now in
-    let low = end_small n (2 ^ 67 + 2 ^ 84) (λ a y is. end_low v c.args.walks.now.returns.items c.args.walks.now.exits.items c.args.behind.now (2 ^ 84) a y c.requires.walks c.requires.low is) ((graph v).target c.loop-e.e) c.end_over-end.result c.end_over-end.ensures x at in
+    let low = end_small n (2 ^ 67 + 2 ^ 84) (λ a y is. end_low v c.args.walks.now.returns.items c.args.walks.now.exits.items c.args.behind.now (2 ^ 84) c.requires.walks c.requires.low a y is) ((graph v).target c.loop-e.e) c.end_over-end.result c.end_over-end.ensures x at in
     omega arith
 
 pub loop-e-preserved : goal.loop-e-preserved

@@ -6,12 +6,14 @@ use Rattle.least_cycles.proofs.turns.turn_kind.Goals as goal
 
 pub returns-else-k-header-clause-turn : goal.returns-else-k-header-clause-turn
 returns-else-k-header-clause-turn c =
-    let v = c.args.graph.now in
+    let body = c.args.body.now in
     let kl = c.target.ensures.within c.in-Some.k c.in-Some.is in
-    turn_off v c.args.tree.now c.requires.tree.0 c.args.l c.args.e c.requires.flow c.requires.tree.1 c.requires.loop_number c.requires.from c.in-Some.k kl (led_to v c.args.e c.in-Some.k (c.target.ensures.some c.in-Some.k c.in-Some.is) kl) (λ same. c.if-k-header.false (same ∙ get_or_from_slice_get c.args.tree.now.headers c.args.l c.header.result 0 c.header.ensures))
+    turn_off body c.args.e c.requires.body c.requires.from c.in-Some.k kl (led_to body.graph.now c.args.e c.in-Some.k (c.target.ensures.some c.in-Some.k c.in-Some.is) kl)
+    (λ same. c.if-k-header.false (same ∙ get_or_from_slice_get body.tree.now.headers body.number c.header.result 0 c.header.ensures))
 
 pub returns-else-k-header-clause-stay : goal.returns-else-k-header-clause-stay
 returns-else-k-header-clause-stay c =
-    let v = c.args.graph.now in
+    let body = c.args.body.now in
     let kl = c.target.ensures.within c.in-Some.k c.in-Some.is in
-    stay_off v c.args.tree.now c.requires.tree.0 c.args.l c.args.e c.requires.flow c.requires.tree.1 c.requires.loop_number c.requires.from c.in-Some.k kl (led_to v c.args.e c.in-Some.k (c.target.ensures.some c.in-Some.k c.in-Some.is) kl) c.args.nodes.now c.is_in.result c.requires.nodes (λ same. c.if-k-header.false (same ∙ get_or_from_slice_get c.args.tree.now.headers c.args.l c.header.result 0 c.header.ensures)) c.is_in.ensures
+    stay_off body c.args.e c.requires.body c.requires.from c.in-Some.k kl (led_to body.graph.now c.args.e c.in-Some.k (c.target.ensures.some c.in-Some.k c.in-Some.is) kl)
+    (λ same. c.if-k-header.false (same ∙ get_or_from_slice_get body.tree.now.headers body.number c.header.result 0 c.header.ensures)) c.is_in.result c.is_in.ensures
