@@ -4,7 +4,5 @@
 mod runs;
 mod texts;
 
-pub use runs::{
-    an_empty_key_changes_no_run, registers_along_runs, runs_without_a_key, steps_of_straight_code,
-};
+pub use runs::{an_empty_key_changes_no_run, registers_along_runs, runs_without_a_key};
 pub use texts::{text_ranges_are_aligned, text_words_are_loaded};

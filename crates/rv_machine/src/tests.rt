@@ -86,6 +86,16 @@ fn load_of_text(rt: HostRuntime) {
         };
         assert_eq!(rt; *value, want, "register {r}");
     }
+    // The window is as it began, its last word the fastest of three levels; no input was read, and nothing was written.
+    for (k, value) in machine.window.iter().enumerate() {
+        assert_eq!(rt;
+            *value,
+            if k == 511 { 2 } else { 0 },
+            "word {k} of the window"
+        );
+    }
+    assert_eq!(rt; machine.world.used, 0);
+    assert!(rt; machine.world.output.is_empty());
 }
 
 /// The first step of an image of one word.
