@@ -10,8 +10,6 @@ mod nodes;
 mod reach;
 mod recursion;
 mod refusals;
-#[cfg(test)]
-mod tests;
 mod weights;
 
 pub use build::build_graph;

@@ -69,8 +69,3 @@ pub fn reach_text(alloc: Global, view: &ImageView<'_>) -> Result<TextReach, NoMe
         outside,
     })
 }
-
-#[cfg(test)]
-mod flow_tests;
-#[cfg(test)]
-mod tests;

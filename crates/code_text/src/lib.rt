@@ -6,8 +6,6 @@ ghost use Rattle.code_text.specs.Laws.{KindsAreOfStoredWords, InstructionsAreOfS
 mod instructions;
 mod known;
 mod targets;
-#[cfg(test)]
-mod tests;
 mod words;
 
 pub use instructions::{instr_at, moved};

@@ -15,4 +15,3 @@ pub mod SpanLaws
 pub mod NestingLaws
 pub mod NestingPassLaws
 pub mod RankLaws
-pub mod NestingChecks

@@ -18,6 +18,3 @@ pub use body::BodySearch;
 pub use entries::lesser_pair;
 pub use extent::{LoopExtent, NodeRange};
 pub use groups::GroupBodies;
-
-#[cfg(test)]
-mod tests;

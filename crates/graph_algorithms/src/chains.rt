@@ -8,9 +8,6 @@ use scale_base::NoMemory;
 use std::alloc::Global;
 use std::marker::Model;
 
-#[cfg(test)]
-mod tests;
-
 /// The chains of the places of a list by their keys. Contracts see two lists: the last place of each key, and for each
 /// place the one before it with the same key.
 #[derive(Drop)]

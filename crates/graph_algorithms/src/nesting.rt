@@ -48,6 +48,3 @@ pub fn nest_loops(
     }
     Ok(Nesting::new(innermost, parent))
 }
-
-#[cfg(test)]
-mod tests;

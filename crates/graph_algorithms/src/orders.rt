@@ -7,8 +7,6 @@ ghost use Rattle.graph_algorithms.specs.Arcs.{AreNumbered, HasNoCycle, IsAnswer,
 mod chains;
 mod cycles;
 mod search;
-#[cfg(test)]
-mod tests;
 
 pub use cycles::least_first;
 use scale_base::NoMemory;

@@ -144,6 +144,3 @@ pub fn least(
     let after = after_of(alloc, graph, &walks, &behind, &charges)?;
     Ok(LeastNumbers::from_parts(walks.returns, ends, after))
 }
-
-#[cfg(test)]
-mod tests;

@@ -44,6 +44,3 @@ pub fn build_loops(alloc: Global, graph: &CodeGraph, notes: &LoopNotes) -> Resul
         }
     }
 }
-
-#[cfg(test)]
-mod tests;

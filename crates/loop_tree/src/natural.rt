@@ -10,8 +10,6 @@ mod extent;
 mod groups;
 mod headers;
 mod loops;
-#[cfg(test)]
-mod tests;
 
 use back_edges::check_back_edges;
 use bodies::keep_bodies;

@@ -70,6 +70,3 @@ pub fn worst(
     let parts = parts_of(alloc, &visited)?;
     Ok(WorstNumbers::from_parts(worst, iteration, parts))
 }
-
-#[cfg(test)]
-mod tests;

@@ -11,7 +11,7 @@ use scale_base::NoMemory;
 use std::alloc::Global;
 
 /// The functions in which a word is reached: none, one, by the number of its first word, or two and more.
-#[derive(Clone, Copy, Debug, PartialEq, Eq)]
+#[derive(Clone, Copy)]
 pub enum Mark {
     Unreached,
     Owner(usize),

@@ -2,7 +2,7 @@
 
 /// Where a word goes on, by the numbers of words: to the word that it jumps to or calls, and to the next one.
 /// A number that is no word's stands for a place outside the text, from which nothing goes on.
-#[derive(Clone, Copy, Debug, PartialEq, Eq)]
+#[derive(Clone, Copy)]
 pub enum Step {
     /// A return from the function.
     Return,

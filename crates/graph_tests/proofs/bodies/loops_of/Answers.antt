@@ -1,11 +1,11 @@
-use Rattle.std.proofs.Common.{rules, arith, ◌≡◌, ◌∙◌, ℕ, zero, suc, ◌<◌, ◌≤◌, true, false, ◌&&◌, ◌||◌, nat_lt, List, [], ◌∷◌, ◌++◌, length, length-append, ap, sym, refl, subst, Some, ◌⊎◌, inl, inr, ⊎_elim}
+use Rattle.std.proofs.Common.{rules, arith, ◌≡◌, ◌∙◌, ℕ, zero, suc, ◌<◌, ◌≤◌, true, false, ◌&&◌, ◌||◌, nat_lt, List, [], ◌∷◌, ◌++◌, length, length-append, ap, sym, subst, Some, ◌⊎◌, inl, inr, ⊎_elim}
 use Rattle.std.specs.Prelude.{slice_get}
 use Rattle.std.proofs.lemmas.Bool.{le-leb, lt-ltb}
 use Rattle.graph_algorithms.specs.declared.bodies.extent.LoopExtent.{LoopExtent}
 use Rattle.graph_algorithms.specs.declared.bodies.extent.NodeRange.{NodeRange}
 use Rattle.graph_algorithms.specs.Bodies.{in_node_ranges}
 use Rattle.graph_algorithms.specs.Groups.{IsInside, AreLoopExtents}
-use Rattle.graph_algorithms.proofs.bodies.tests.loops_of.Goals as goal
+use Rattle.graph_tests.proofs.bodies.loops_of.Goals as goal
 
 push_cases : (xs : List LoopExtent) (x v : LoopExtent) (p : ℕ) → slice_get (xs ++ x ∷ []) p ≡ Some v → (slice_get xs p ≡ Some v) ⊎ (x ≡ v)
 push_cases [] x v zero h = let same : x ≡ v = cc in inr same

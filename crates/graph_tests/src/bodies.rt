@@ -1,7 +1,9 @@
+//! The bodies of loops, one by one and in groups.
+
 ghost use Rattle.std.specs.Prelude.{◌≡◌, ◌<◌, IfOk};
 ghost use Rattle.graph_algorithms.specs.Groups.{AreLoopExtents};
 
-use super::*;
+use graph_algorithms::{BodySearch, GroupBodies, LoopExtent, NodeRange, has_bit};
 use std::alloc::Global;
 use std::process::Abort;
 use std::test::Fail;
@@ -21,21 +23,22 @@ const TARGETS: [Option<usize>; 9] = [
     Some(5),
 ];
 
-fn sorted_body(
-    rt: &HostRuntime,
+/// The loop with a header and an extent has this body.
+fn expect_body(
+    rt: &impl Abort,
+    alloc: Global,
     search: &mut BodySearch<'_>,
     header: usize,
     extent: &[NodeRange],
-) -> Result<Vec<usize>, Fail>
+    want: &[usize],
+) -> Result<(), Fail>
     requires { header < search.old.count }
     ensures { search.new ≡ search.old }
 {
-    let mut body = search
-        .body(rt.alloc(), header, extent)
-        .ok()
-        .ok_or("memory")?;
+    let mut body = search.body(alloc, header, extent).ok().ok_or("memory")?;
     body.sort_unstable();
-    Ok(body)
+    assert_eq!(rt; body.as_slice(), want, "{header} in {extent:?}");
+    Ok(())
 }
 
 #[test]
@@ -44,40 +47,18 @@ fn bodies_are_the_nodes_that_lead_back_within_the_extent(rt: HostRuntime) -> Res
         .ok()
         .ok_or("memory")?;
     let all = [NodeRange { from: 0, to: 6 }];
-    let body = sorted_body(&rt, &mut search, 1, &all)?;
-    assert_eq!(rt; body.as_slice(), &[0, 1, 2, 3, 4, 5][..]);
+    expect_body(&rt, rt.alloc(), &mut search, 1, &all, &[0, 1, 2, 3, 4, 5])?;
     let inner = [NodeRange { from: 1, to: 4 }];
-    let body = sorted_body(&rt, &mut search, 1, &inner)?;
-    assert_eq!(rt; body.as_slice(), &[1, 2, 3][..]);
+    expect_body(&rt, rt.alloc(), &mut search, 1, &inner, &[1, 2, 3])?;
     let apart = [NodeRange { from: 1, to: 2 }, NodeRange { from: 2, to: 5 }];
-    let body = sorted_body(&rt, &mut search, 1, &apart)?;
-    assert_eq!(rt; body.as_slice(), &[1, 2, 3][..]);
-    Ok(())
-}
-
-#[test]
-fn a_node_may_lead_to_itself(rt: HostRuntime) -> Result<(), Fail> {
-    let mut search = BodySearch::new(rt.alloc(), &SOURCES, &TARGETS, 6)
-        .ok()
-        .ok_or("memory")?;
-    let extent = [NodeRange { from: 5, to: 6 }];
-    let body = sorted_body(&rt, &mut search, 5, &extent)?;
-    assert_eq!(rt; body.as_slice(), &[5][..]);
-    Ok(())
-}
-
-#[test]
-fn a_header_that_no_edge_leads_back_to_has_no_body(rt: HostRuntime) -> Result<(), Fail> {
-    let mut search = BodySearch::new(rt.alloc(), &SOURCES, &TARGETS, 6)
-        .ok()
-        .ok_or("memory")?;
+    expect_body(&rt, rt.alloc(), &mut search, 1, &apart, &[1, 2, 3])?;
+    // A node may lead to itself.
+    let last = [NodeRange { from: 5, to: 6 }];
+    expect_body(&rt, rt.alloc(), &mut search, 5, &last, &[5])?;
+    // A header outside the extent has no body, and none that no edge leads back to.
     let outside = [NodeRange { from: 2, to: 6 }];
-    let body = sorted_body(&rt, &mut search, 1, &outside)?;
-    assert_eq!(rt; body.len(), 0);
-    let all = [NodeRange { from: 0, to: 6 }];
-    let body = sorted_body(&rt, &mut search, 0, &all)?;
-    assert_eq!(rt; body.len(), 0);
-    Ok(())
+    expect_body(&rt, rt.alloc(), &mut search, 1, &outside, &[])?;
+    expect_body(&rt, rt.alloc(), &mut search, 0, &all, &[])
 }
 
 #[test]

@@ -1,4 +1,6 @@
-use super::*;
+//! Chains of the places of a list by their keys.
+
+use graph_algorithms::find_chains;
 use std::test::Fail;
 
 #[test]

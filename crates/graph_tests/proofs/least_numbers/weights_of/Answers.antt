@@ -2,7 +2,7 @@ use Rattle.std.proofs.Common.{◌≡◌, ℕ, List, length, sym, ap, ◌∙◌, 
 use Rattle.graph_algorithms.specs.Arcs.{number_in_place}
 use Rattle.cost_theory.specs.Accepted.{AreWeights}
 use Rattle.code_graph.specs.FlowGraph.{graph}
-use Rattle.least_cycles.proofs.tests.weights_of.Goals as goal
+use Rattle.graph_tests.proofs.least_numbers.weights_of.Goals as goal
 
 pub returns-clause-size : goal.returns-clause-size
 returns-clause-size c =

@@ -1,6 +1,6 @@
 use Rattle.std.proofs.Common.{◌≡◌, ◌≤◌, ◌^◌, ℕ, List, Some, slice_get, slice_index, arith}
 use Rattle.std.proofs.lemmas.Option.{get_or_from_slice_get}
-use Rattle.least_cycles.proofs.tests.all_least.Goals as goal
+use Rattle.graph_tests.proofs.least_numbers.all_least.Goals as goal
 
 small_first : (xs : List ℕ) (x : ℕ) → slice_get xs 0 ≡ Some x → slice_index xs 0 ≤ 2 ^ 48 → x ≤ 2 ^ 48
 small_first xs x at small = let same : slice_index xs 0 ≡ x = get_or_from_slice_get xs 0 x 0 at in omega arith

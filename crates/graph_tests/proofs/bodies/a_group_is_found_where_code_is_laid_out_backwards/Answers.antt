@@ -2,7 +2,7 @@ use Rattle.std.proofs.Common.{◌≡◌, ℕ, zero, suc, ◌<◌, Bool, true, fa
 use Rattle.std.specs.Prelude.{slice_get}
 use Rattle.std.proofs.lemmas.Bool.{ltb-true}
 use Rattle.graph_algorithms.specs.Edges.{AreEdges}
-use Rattle.graph_algorithms.proofs.bodies.tests.a_group_is_found_where_code_is_laid_out_backwards.Goals as goal
+use Rattle.graph_tests.proofs.bodies.a_group_is_found_where_code_is_laid_out_backwards.Goals as goal
 
 abbrev are_low : List ℕ → ℕ → Bool
 are_low [] n = true

@@ -1,7 +1,7 @@
 use Rattle.std.proofs.Common.{◌≡◌, ℕ, ◌<◌, Some, length}
 use Rattle.graph_algorithms.specs.Arcs.{number_in_place}
 use Rattle.code_graph.specs.FlowGraph.{graph}
-use Rattle.least_cycles.proofs.tests.weights_of.Given as goal
+use Rattle.graph_tests.proofs.least_numbers.weights_of.Given as goal
 
 abbrev pub invariant-loop-e : goal.invariant-loop-e
 invariant-loop-e l = record {

@@ -1,0 +1,23 @@
+//! Tests of the calls of the crates over the graph of a program, from the words of its text to its least cycles.
+#![tactic(auto)]
+
+#[cfg(test)]
+mod bodies;
+#[cfg(test)]
+mod chains;
+#[cfg(test)]
+mod graphs;
+#[cfg(test)]
+mod least_numbers;
+#[cfg(test)]
+mod loops;
+#[cfg(test)]
+mod nesting;
+#[cfg(test)]
+mod orders;
+#[cfg(test)]
+mod programs;
+#[cfg(test)]
+mod text_words;
+#[cfg(test)]
+mod worst_numbers;

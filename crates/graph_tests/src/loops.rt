@@ -1,0 +1,523 @@
+//! The loops of programs: their bodies and nesting, their back edges and trips, and what is refused.
+
+use crate::programs::{
+    BACK_1, BACK_3, BRANCH_0, BRANCH_2, BRANCH_3, CALL_2, CALL_5, ECALL, EXIT, JUMP_2, JUMP_BACK_1,
+    JUMP_BACK_2, JUMP_BACK_3, NO_OPERATION, RETURN, START, graph_of, loop_refusal_text,
+};
+use loop_file::{LoopNote, LoopNotes, RangeList};
+use loop_tree::{LoopTree, build_loops};
+use scale_base::{Range, Refusal, Stop};
+use std::alloc::Global;
+use std::process::Abort;
+use std::test::Fail;
+
+/// A branch by six words, and one back by five.
+const BRANCH_6: u32 = 0xC63;
+
+const BACK_5: u32 = 0xFE00_06E3;
+
+/// A loop by the number of the header's word, that of the first word of the range and that of the one behind it.
+type Places = (u8, u8, u8);
+
+/// Word 1 is the header of a loop with word 2.
+const SIMPLE: [u32; 5] = [NO_OPERATION, BRANCH_2, JUMP_BACK_1, EXIT, ECALL];
+
+/// Words 1 to 4 turn back to word 1, and word 0 also leads to word 3.
+const TWO_ENTRIES: [u32; 7] = [
+    BRANCH_3,
+    NO_OPERATION,
+    BRANCH_3,
+    NO_OPERATION,
+    JUMP_BACK_3,
+    EXIT,
+    ECALL,
+];
+
+/// Words 0 to 3 turn back to word 0.
+const FROM_START: [u32; 6] = [
+    NO_OPERATION,
+    BRANCH_3,
+    NO_OPERATION,
+    JUMP_BACK_3,
+    EXIT,
+    ECALL,
+];
+
+/// The call at word 1 comes back to word 2, which word 3 leads to by way of word 1.
+const CALL_AT_END: [u32; 7] = [JUMP_2, CALL_5, BRANCH_2, JUMP_BACK_2, EXIT, ECALL, RETURN];
+
+/// Words 0 to 2 turn back to word 0; the function at word 3 turns back from word 4.
+const TWO_FUNCTIONS: [u32; 8] = [
+    BRANCH_6,
+    CALL_2,
+    JUMP_BACK_2,
+    BRANCH_2,
+    JUMP_BACK_1,
+    RETURN,
+    EXIT,
+    ECALL,
+];
+
+/// Words 2 and 3 are a loop within one of words 1 to 4.
+const NESTED: [u32; 8] = [
+    NO_OPERATION,
+    NO_OPERATION,
+    NO_OPERATION,
+    BACK_1,
+    BACK_3,
+    NO_OPERATION,
+    EXIT,
+    ECALL,
+];
+
+const INNER: Places = (2, 2, 4);
+
+const OUTER: Places = (1, 1, 5);
+
+/// Seventeen words, and seventeen branches, of which each leads back to the last word that none before it leads to.
+const DEEP: [u32; 36] = [
+    NO_OPERATION,
+    NO_OPERATION,
+    NO_OPERATION,
+    NO_OPERATION,
+    NO_OPERATION,
+    NO_OPERATION,
+    NO_OPERATION,
+    NO_OPERATION,
+    NO_OPERATION,
+    NO_OPERATION,
+    NO_OPERATION,
+    NO_OPERATION,
+    NO_OPERATION,
+    NO_OPERATION,
+    NO_OPERATION,
+    NO_OPERATION,
+    NO_OPERATION,
+    0xFE00_0EE3,
+    0xFE00_0AE3,
+    0xFE00_06E3,
+    0xFE00_02E3,
+    0xFC00_0EE3,
+    0xFC00_0AE3,
+    0xFC00_06E3,
+    0xFC00_02E3,
+    0xFA00_0EE3,
+    0xFA00_0AE3,
+    0xFA00_06E3,
+    0xFA00_02E3,
+    0xF800_0EE3,
+    0xF800_0AE3,
+    0xF800_06E3,
+    0xF800_02E3,
+    0xF600_0EE3,
+    EXIT,
+    ECALL,
+];
+
+/// Notes of loops of the bound 5, which turn at least 3 times. The second is counted.
+fn notes_of(alloc: Global, loops: &[Places]) -> Result<LoopNotes, Fail> {
+    let mut notes = LoopNotes::new(alloc);
+    for (header, from, to) in loops {
+        let mut items = Vec::new(alloc);
+        items.push(Range {
+            from: START + 4 * u32::from(*from),
+            to: START + 4 * u32::from(*to),
+        })?;
+        let note = LoopNote {
+            header: START + 4 * u32::from(*header),
+            ranges: RangeList::from_vec(items),
+            bound: 5,
+            counted: notes.count() == 1,
+            at_least: 3,
+        };
+        if notes.count() >= 4096 {
+            return Err("there are few loops".into());
+        }
+        notes.push(note)?;
+    }
+    Ok(notes)
+}
+
+/// The loops of a program, or why they are refused.
+fn tree_of(
+    alloc: Global,
+    words: &[u32],
+    loops: &[Places],
+) -> Result<Result<LoopTree, Refusal>, Fail> {
+    let graph = graph_of(alloc, words)?;
+    let notes = notes_of(alloc, loops)?;
+    match build_loops(alloc, &graph, &notes) {
+        Ok(tree) => Ok(Ok(tree)),
+        Err(Stop::Refused(refusal)) => Ok(Err(refusal)),
+        Err(Stop::Memory) => Err("there is memory".into()),
+    }
+}
+
+/// Each header with the body of its loop.
+fn loops_text(alloc: Global, tree: &LoopTree) -> Result<String, Fail> {
+    let mut text = String::new(alloc);
+    for l in 0..tree.loop_count() {
+        let head = format!(in alloc; "{}:", tree.header(l))?;
+        text.push_str(&head)?;
+        for node in tree.body(l) {
+            let next = format!(in alloc; " {node}")?;
+            text.push_str(&next)?;
+        }
+        text.push_str("; ")?;
+    }
+    Ok(text)
+}
+
+/// What is found of a program's loops.
+fn answer(alloc: Global, words: &[u32], loops: &[Places]) -> Result<String, Fail> {
+    match tree_of(alloc, words, loops)? {
+        Ok(tree) => loops_text(alloc, &tree),
+        Err(refusal) => loop_refusal_text(alloc, &refusal),
+    }
+}
+
+fn expect(
+    rt: &impl Abort,
+    alloc: Global,
+    name: &str,
+    words: &[u32],
+    loops: &[Places],
+    expected: &str,
+) -> Result<(), Fail> {
+    let got = answer(alloc, words, loops)?;
+    assert_eq!(rt; got.as_str(), expected, "{name}");
+    Ok(())
+}
+
+/// The loops of a program, and the nodes of each by its header.
+#[test]
+fn finds_the_bodies_of_loops(rt: HostRuntime) -> Result<(), Fail> {
+    // Of the deep loops two alone.
+    let mut two_deep = [NO_OPERATION; 22];
+    two_deep[17] = BACK_1;
+    two_deep[19] = BACK_5;
+    two_deep[20] = EXIT;
+    two_deep[21] = ECALL;
+    let cases: [(&str, &[u32], &[Places], &str); 8] = [
+        ("no loop", &[NO_OPERATION, EXIT, ECALL], &[], ""),
+        ("simple", &SIMPLE, &[(1, 1, 3)], "1: 1 2; "),
+        (
+            "the header is in its extent in any case",
+            &SIMPLE,
+            &[(1, 2, 3)],
+            "1: 1 2; ",
+        ),
+        ("a wider extent", &SIMPLE, &[(1, 1, 5)], "1: 1 2; "),
+        ("from the start", &FROM_START, &[(0, 0, 4)], "0: 0 1 2 3; "),
+        (
+            "a call at the end",
+            &CALL_AT_END,
+            &[(2, 1, 7)],
+            "2: 1 2 3; ",
+        ),
+        // Each loop lies in the range of the other, and none of its nodes in the other's body.
+        (
+            "two functions",
+            &TWO_FUNCTIONS,
+            &[(0, 0, 6), (3, 0, 6)],
+            "0: 0 1 2; 3: 3 4; ",
+        ),
+        (
+            "nested",
+            &two_deep,
+            &[(16, 16, 18), (14, 14, 20)],
+            "16: 16 17; 14: 14 15 16 17 18 19; ",
+        ),
+    ];
+    for (name, words, loops, want) in cases {
+        expect(&rt, rt.alloc(), name, words, loops, want)?;
+    }
+    Ok(())
+}
+
+/// The loops of a program, and why they are refused.
+#[test]
+fn refuses_loops(rt: HostRuntime) -> Result<(), Fail> {
+    let cases: [(&str, &[u32], &[Places], &str); 15] = [
+        (
+            "the second header",
+            &SIMPLE,
+            &[(1, 1, 3), (9, 1, 3), (8, 1, 3)],
+            "not reached 2",
+        ),
+        (
+            "before the same header",
+            &SIMPLE,
+            &[(1, 1, 3), (1, 1, 3), (8, 1, 3)],
+            "not reached 3",
+        ),
+        (
+            "a header beyond",
+            &NESTED,
+            &[OUTER, (8, 8, 9)],
+            "not reached 2",
+        ),
+        (
+            "the least loops with one header",
+            &SIMPLE,
+            &[
+                (1, 1, 3),
+                (0, 0, 1),
+                (0, 0, 3),
+                (1, 1, 3),
+                (0, 0, 1),
+                (1, 0, 1),
+            ],
+            "same header 1 4",
+        ),
+        (
+            "two loops with one header",
+            &SIMPLE,
+            &[(0, 0, 3), (3, 0, 1), (2, 0, 1), (3, 0, 1)],
+            "same header 2 4",
+        ),
+        (
+            "no edge turns back",
+            &SIMPLE,
+            &[(1, 1, 3), (0, 0, 5), (3, 0, 5)],
+            "no back edge 2",
+        ),
+        (
+            "an edge from outside the extent",
+            &SIMPLE,
+            &[(1, 3, 5)],
+            "no back edge 1",
+        ),
+        // A side entry of a loop before it is told later.
+        (
+            "before a side entry",
+            &TWO_ENTRIES,
+            &[(1, 1, 5), (0, 0, 7)],
+            "no back edge 2",
+        ),
+        // Word 0 leads back to word 1 too, and lies in the range.
+        (
+            "the start in the body",
+            &SIMPLE,
+            &[(1, 0, 5)],
+            "side entry 1 0x10000 0x10000",
+        ),
+        (
+            "an edge past the header",
+            &TWO_ENTRIES,
+            &[(1, 1, 5)],
+            "side entry 1 0x10000 0x1000c",
+        ),
+        (
+            "another header",
+            &FROM_START,
+            &[(2, 0, 4)],
+            "side entry 1 0x10000 0x10000",
+        ),
+        (
+            "the second loop",
+            &FROM_START,
+            &[(0, 0, 4), (3, 0, 4)],
+            "side entry 2 0x10000 0x10000",
+        ),
+        (
+            "no loop is noted",
+            &SIMPLE,
+            &[],
+            "unbounded cycle 0x10004 0x10008",
+        ),
+        (
+            "names a cycle from its least address",
+            &[JUMP_2, NO_OPERATION, JUMP_BACK_1],
+            &[],
+            "unbounded cycle 0x10004 0x10008",
+        ),
+        // The outer loop is noted, and the inner one isn't.
+        (
+            "names a cycle beside a loop",
+            &NESTED,
+            &[OUTER],
+            "unbounded cycle 0x10008 0x1000c",
+        ),
+    ];
+    for (name, words, loops, want) in cases {
+        expect(&rt, rt.alloc(), name, words, loops, want)?;
+    }
+    Ok(())
+}
+
+/// Words that each branch to themselves, and others behind them.
+fn behind_turning(alloc: Global, turning: usize, words: &[u32]) -> Result<Vec<u32>, Fail> {
+    let mut text = vec![in alloc; BRANCH_0; turning]?;
+    text.extend_from_slice(words)?;
+    Ok(text)
+}
+
+/// The loops of so many words that branch to themselves.
+fn turning_loops(alloc: Global, turning: u8) -> Result<Vec<Places>, Fail> {
+    let mut loops = Vec::new(alloc);
+    for k in 0..turning {
+        loops.push((k, k, k + 1))?;
+    }
+    Ok(loops)
+}
+
+#[test]
+fn names_the_first_loop_that_is_entered_aside_among_more_than_64(
+    rt: HostRuntime,
+) -> Result<(), Fail> {
+    let text = behind_turning(rt.alloc(), 66, &TWO_ENTRIES)?;
+    let mut loops = turning_loops(rt.alloc(), 66)?;
+    let want = "side entry 67 0x10108 0x10114";
+    // Words 67 to 70 turn back to word 67, and word 66 also leads to word 69.
+    loops.push((67, 67, 71))?;
+    expect(&rt, rt.alloc(), "one", &text, &loops, want)?;
+    // The same words, with word 69 for the header, which word 67 leads to past word 68.
+    loops.push((69, 66, 71))?;
+    expect(&rt, rt.alloc(), "two", &text, &loops, want)
+}
+
+/// The deep loops from one on, the outermost first, behind so many words that branch to themselves, with their loops.
+fn deep_loops(alloc: Global, turning: u8, first: u8) -> Result<Vec<Places>, Fail> {
+    if turning > 60 {
+        return Err("there are at most 60".into());
+    }
+    let mut loops = turning_loops(alloc, turning)?;
+    for k in first..17 {
+        loops.push((turning + k, turning + k, turning + 34 - k))?;
+    }
+    Ok(loops)
+}
+
+/// Seventeen loops within one another are too deep, and sixteen are not, behind so many loops of one word.
+fn expect_sixteen(rt: &impl Abort, alloc: Global, turning: u8, refused: &str) -> Result<(), Fail> {
+    let text = behind_turning(alloc, usize::from(turning), &DEEP)?;
+    let loops = deep_loops(alloc, turning, 0)?;
+    expect(rt, alloc, "seventeen", &text, &loops, refused)?;
+    // The last branch, that of the outermost loop, is left out.
+    let mut fewer = DEEP;
+    fewer[33] = NO_OPERATION;
+    let text = behind_turning(alloc, usize::from(turning), &fewer)?;
+    let loops = deep_loops(alloc, turning, 1)?;
+    let Ok(tree) = tree_of(alloc, &text, &loops)? else {
+        return Err("sixteen loops within one another are accepted".into());
+    };
+    assert_eq!(rt; tree.loop_count(), usize::from(turning) + 16);
+    Ok(())
+}
+
+#[test]
+fn refuses_loops_that_are_too_deep(rt: HostRuntime) -> Result<(), Fail> {
+    expect_sixteen(&rt, rt.alloc(), 0, "too deep 17")?;
+    // More than 64 loops.
+    expect_sixteen(&rt, rt.alloc(), 60, "too deep 77")
+}
+
+#[test]
+fn orders_nodes_along_branches(rt: HostRuntime) -> Result<(), Fail> {
+    // A branch to the third word, which jumps back to the second.
+    let words = [BRANCH_2, JUMP_2, JUMP_BACK_1, EXIT, ECALL];
+    let Ok(tree) = tree_of(rt.alloc(), &words, &[])? else {
+        return Err("no order".into());
+    };
+    assert_eq!(rt; tree.loop_count(), 0);
+    assert_eq!(rt; tree.plain_order(), [0, 2, 1, 3, 4].as_slice());
+    Ok(())
+}
+
+/// By node the innermost loop round it, and by loop the next one round it.
+fn nesting_of(
+    alloc: Global,
+    words: &[u32],
+    loops: &[Places],
+) -> Result<(Vec<Option<usize>>, Vec<Option<usize>>), Fail> {
+    let graph = graph_of(alloc, words)?;
+    let notes = notes_of(alloc, loops)?;
+    let Ok(tree) = build_loops(alloc, &graph, &notes) else {
+        return Err("the loops are accepted".into());
+    };
+    let mut innermost = Vec::new(alloc);
+    for k in 0..graph.node_count() {
+        innermost.push(tree.innermost(k))?;
+    }
+    let mut parent = Vec::new(alloc);
+    for l in 0..tree.loop_count() {
+        parent.push(tree.parent(l))?;
+    }
+    Ok((innermost, parent))
+}
+
+#[test]
+fn nests_loops(rt: HostRuntime) -> Result<(), Fail> {
+    // The inner loop is noted first.
+    let (innermost, parent) = nesting_of(rt.alloc(), &NESTED, &[INNER, OUTER])?;
+    let around = [None, Some(1), Some(0), Some(0), Some(1), None, None, None];
+    assert_eq!(rt; innermost.as_slice(), around.as_slice());
+    assert_eq!(rt; parent.as_slice(), [Some(1), None].as_slice());
+    // Word 5 branches to itself.
+    let mut words = NESTED;
+    words[5] = BRANCH_0;
+    let (innermost, parent) = nesting_of(rt.alloc(), &words, &[INNER, OUTER, (5, 5, 6)])?;
+    let around = [
+        None,
+        Some(1),
+        Some(0),
+        Some(0),
+        Some(1),
+        Some(2),
+        None,
+        None,
+    ];
+    assert_eq!(rt; innermost.as_slice(), around.as_slice());
+    assert_eq!(rt; parent.as_slice(), [Some(1), None, None].as_slice());
+    Ok(())
+}
+
+#[test]
+fn keeps_notes_of_loops_with_their_back_edges(rt: HostRuntime) -> Result<(), Fail> {
+    let Ok(tree) = tree_of(rt.alloc(), &NESTED, &[INNER, OUTER])? else {
+        return Err("no tree".into());
+    };
+    assert_eq!(rt; tree.loop_count(), 2);
+    assert_eq!(rt; tree.header(0), 2);
+    assert_eq!(rt; tree.header(1), 1);
+    assert_eq!(rt; tree.bound(0), 5);
+    assert!(rt; tree.counted(1));
+    assert_eq!(rt; tree.body(0), [2, 3].as_slice());
+    assert_eq!(rt; tree.body(1), [1, 2, 3, 4].as_slice());
+    assert!(rt; tree.in_body(1, 4));
+    assert!(rt; !tree.in_body(0, 4));
+    assert_eq!(rt; tree.plain_order(), [0, 1, 2, 3, 4, 5, 6, 7].as_slice());
+    // Of a branch the edge by which it is taken comes first.
+    let backs = [
+        None,
+        None,
+        None,
+        Some(0),
+        None,
+        Some(1),
+        None,
+        None,
+        None,
+        None,
+    ];
+    assert_eq!(rt; tree.backs(), backs.as_slice());
+    Ok(())
+}
+
+#[test]
+fn trips_are_those_of_whole_extents(rt: HostRuntime) -> Result<(), Fail> {
+    let Ok(tree) = tree_of(rt.alloc(), &NESTED, &[INNER, OUTER])? else {
+        return Err("no tree".into());
+    };
+    assert_eq!(rt; tree.loop_count(), 2);
+    assert_eq!(rt; (tree.least_trips(0), tree.least_trips(1)), (3, 3));
+    // The word behind the loop is in its range, and not in its body.
+    let Ok(tree) = tree_of(rt.alloc(), &NESTED, &[INNER, (1, 1, 6)])? else {
+        return Err("no tree".into());
+    };
+    assert_eq!(rt; tree.loop_count(), 2);
+    assert_eq!(rt; tree.body(1), [1, 2, 3, 4].as_slice());
+    assert_eq!(rt; (tree.least_trips(0), tree.least_trips(1)), (3, 0));
+    Ok(())
+}

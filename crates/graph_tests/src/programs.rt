@@ -1,0 +1,149 @@
+//! Programs of some words: the words that several tests use, the image and the graph of a program, and its loops.
+
+ghost use Rattle.std.specs.Prelude.{ℕ, Bool, IfOk};
+ghost use Rattle.loop_tree.specs.Tree.{IsLoopTree};
+
+use code_graph::{CodeGraph, build_graph};
+use elf_view::read_image;
+use image_maker::plain_image;
+use loop_file::read_loops;
+use loop_tree::{LoopTree, build_loops};
+use scale_base::{Cycle, Refusal, Stop};
+use std::alloc::Global;
+use std::test::Fail;
+
+/// The address of the first word.
+pub const START: u32 = 0x10000;
+
+pub const NO_OPERATION: u32 = 0x13;
+
+/// The number of the exit is put into register 17.
+pub const EXIT: u32 = 0x05D0_0893;
+
+pub const ECALL: u32 = 0x73;
+
+pub const BREAKPOINT: u32 = 0x0010_0073;
+
+pub const RETURN: u32 = 0x0000_8067;
+
+/// Calls of the function so many words on.
+pub const CALL_2: u32 = 0x0080_00EF;
+
+pub const CALL_3: u32 = 0x00C0_00EF;
+
+pub const CALL_4: u32 = 0x0100_00EF;
+
+pub const CALL_5: u32 = 0x0140_00EF;
+
+/// Jumps by so many words.
+pub const JUMP_0: u32 = 0x6F;
+
+pub const JUMP_2: u32 = 0x0080_006F;
+
+pub const JUMP_BACK_1: u32 = 0xFFDF_F06F;
+
+pub const JUMP_BACK_2: u32 = 0xFF9F_F06F;
+
+pub const JUMP_BACK_3: u32 = 0xFF5F_F06F;
+
+/// Branches by so many words.
+pub const BRANCH_0: u32 = 0x63;
+
+pub const BRANCH_2: u32 = 0x463;
+
+pub const BRANCH_3: u32 = 0x663;
+
+/// Branches back by so many words.
+pub const BACK_1: u32 = 0xFE00_0EE3;
+
+pub const BACK_2: u32 = 0xFE00_0CE3;
+
+pub const BACK_3: u32 = 0xFE00_0AE3;
+
+/// The image of a program of some words.
+pub fn image_of(alloc: Global, words: &[u32]) -> Result<Vec<u8>, Fail> {
+    if words.len() > 131_072 {
+        return Err("there are fewer words".into());
+    }
+    Ok(plain_image(alloc, words).ok().ok_or("there is memory")?)
+}
+
+/// The graph of an image's code, or why it is refused.
+pub fn graph_or_refusal(alloc: Global, file: &[u8]) -> Result<Result<CodeGraph, Refusal>, Fail> {
+    let view = read_image(alloc, file).ok().ok_or("the file is an image")?;
+    match build_graph(alloc, &view) {
+        Ok(graph) => Ok(Ok(graph)),
+        Err(Stop::Refused(refusal)) => Ok(Err(refusal)),
+        Err(Stop::Memory) => Err("there is memory".into()),
+    }
+}
+
+/// The graph of a program.
+pub fn graph_of(alloc: Global, words: &[u32]) -> Result<CodeGraph, Fail> {
+    let file = image_of(alloc, words)?;
+    let found = graph_or_refusal(alloc, &file)?;
+    Ok(found.ok().ok_or("the code is accepted")?)
+}
+
+/// A program's graph and the loops of a loop file.
+#[derive(Drop)]
+pub struct Program {
+    pub graph: CodeGraph,
+    pub tree: LoopTree,
+}
+
+pub fn program_of(alloc: Global, words: &[u32], loops: &str) -> Result<Program, Fail>
+    ensures { IfOk result (λ p. (extent : ℕ → ℕ → Bool) × IsLoopTree p.graph extent p.tree) }
+{
+    let file = image_of(alloc, words)?;
+    let view = read_image(alloc, &file).ok().ok_or("the file is an image")?;
+    let notes = read_loops(alloc, loops.as_bytes(), &view)
+        .ok()
+        .ok_or("the loop file is read")?;
+    let graph = build_graph(alloc, &view)
+        .ok()
+        .ok_or("the code is accepted")?;
+    let Ok(tree) = build_loops(alloc, &graph, &notes) else {
+        return Err("the loops are accepted".into());
+    };
+    Ok(Program { graph, tree })
+}
+
+fn cycle_text(alloc: Global, name: &str, cycle: &Cycle) -> Result<String, Fail> {
+    let mut text = String::from_str(alloc, name)?;
+    for k in 0..cycle.count() {
+        let next = format!(in alloc; " {:#x}", *cycle.get(k))?;
+        text.push_str(&next)?;
+    }
+    Ok(text)
+}
+
+/// Why code is refused, and where.
+pub fn code_refusal_text(alloc: Global, refusal: &Refusal) -> Result<String, Fail> {
+    let (name, at) = match refusal {
+        Refusal::IllegalWord(at) => ("illegal word", *at),
+        Refusal::OutsideText(at) => ("outside text", *at),
+        Refusal::MisalignedTarget(at) => ("misaligned target", *at),
+        Refusal::OddLink(at) => ("odd link", *at),
+        Refusal::IndirectJump(at) => ("indirect jump", *at),
+        Refusal::SharedCode(at) => ("shared code", *at),
+        Refusal::Recursion(cycle) => return cycle_text(alloc, "recursion", cycle),
+        _ => ("other", 0),
+    };
+    Ok(format!(in alloc; "{name} {at:#x}")?)
+}
+
+/// Why loops are refused, by their numbers from 1 on.
+pub fn loop_refusal_text(alloc: Global, refusal: &Refusal) -> Result<String, Fail> {
+    match refusal {
+        Refusal::HeaderNotReached(k) => Ok(format!(in alloc; "not reached {k}")?),
+        Refusal::SameHeader(one, two) => Ok(format!(in alloc; "same header {one} {two}")?),
+        Refusal::NoBackEdge(k) => Ok(format!(in alloc; "no back edge {k}")?),
+        Refusal::SideEntry(k, from, to) => {
+            Ok(format!(in alloc; "side entry {k} {from:#x} {to:#x}")?)
+        }
+        Refusal::TooDeep(k) => Ok(format!(in alloc; "too deep {k}")?),
+        Refusal::UnboundedCycle(cycle) => cycle_text(alloc, "unbounded cycle", cycle),
+        _ => Ok(String::from_str(alloc, "other")?),
+    }
+}
