@@ -28,7 +28,7 @@ const DIV: &str = "div = 10\n";
 
 const HOLD_WORDS: [&str; 5] = ["hold", "image", "machine", "loops", "out"];
 
-const BAD_COMMAND: &[u8] = b"bad command; try: scale help\n";
+const BAD_COMMAND: &str = "bad command; try: scale help\n";
 
 // A machine file of three levels: with this deadline, this line on divisions and this period of level 1.
 fn machine_file(alloc: Global, deadline: u32, div: &str, period: u32) -> Result<String, Fail> {
@@ -198,6 +198,30 @@ fn host_of(
     Ok(host)
 }
 
+// The status with which the command of these words ends. All tests but one call the tool here: a caller's proof then needs nothing of its contract.
+fn status_of(host: &mut MemHost, alloc: Global, words: &[String]) -> u8 {
+    run_tool(host, alloc, words)
+}
+
+// The command of these words answers this status, prints this text, and a call of the host has failed where the status says so.
+fn check_answer(
+    rt: &impl Abort,
+    alloc: Global,
+    host: &mut MemHost,
+    words: &[String],
+    status: u8,
+    text: &str,
+) -> Result<(), Fail> {
+    assert_eq!(rt; status_of(host, alloc, words), status, "{text}");
+    assert_eq!(rt; host.printed(), text.as_bytes());
+    assert_eq!(rt;
+        host.fault_count(),
+        if status == 3 { 1 } else { 0 },
+        "{text}"
+    );
+    Ok(())
+}
+
 // The command of these words refuses these files with this text, and stores nothing.
 fn check_refused_by(
     rt: &impl Abort,
@@ -210,8 +234,7 @@ fn check_refused_by(
 ) -> Result<(), Fail> {
     let mut host = host_of(alloc, &[], image, machine, loops)?;
     let words = words_of(alloc, words)?;
-    assert_eq!(rt; run_tool(&mut host, alloc, &words), 1, "{text}");
-    assert_eq!(rt; host.printed(), text.as_bytes());
+    check_answer(rt, alloc, &mut host, &words, 1, text)?;
     assert!(rt; host.file("out").is_none(), "{text}");
     Ok(())
 }
@@ -248,12 +271,10 @@ fn hold_stores_the_image_and_prints_the_summary(rt: HostRuntime) -> Result<(), F
         let machine = machine_file(alloc, deadline, DIV, 2)?;
         let mut host = host_of(alloc, &[], &image, machine.as_str(), NO_LOOPS)?;
         let words = words_of(alloc, &HOLD_WORDS)?;
-        assert_eq!(rt; run_tool(&mut host, alloc, &words), 0);
+        check_answer(&rt, alloc, &mut host, &words, 0, summary)?;
         let held = held_image(alloc, &EXIT_SEVEN, level)?;
         assert_eq!(rt; held.len(), 4160);
         assert_eq!(rt; host.file("out").ok_or("no file")?, held.as_slice());
-        assert_eq!(rt; host.printed(), summary.as_bytes());
-        assert_eq!(rt; host.fault_count(), 0);
     }
     Ok(())
 }
@@ -300,8 +321,7 @@ fn check_held(
     let summary = format!(in alloc;
         "start level 0\nworst cycles {worst}\nworst time {time} of {deadline}\nstub cycles at most 0\nswitch edges 0\nexit edges 0\ncount edges 0\nstub bytes 0\n"
     )?;
-    assert_eq!(rt; run_tool(&mut host, alloc, &words), 0, "{worst}");
-    assert_eq!(rt; host.printed(), summary.as_str().as_bytes());
+    check_answer(rt, alloc, &mut host, &words, 0, summary.as_str())?;
     assert_eq!(rt; host.file("out").ok_or("no file")?, stored);
     Ok(())
 }
@@ -502,8 +522,7 @@ fn words_that_are_no_command(rt: HostRuntime) -> Result<(), Fail> {
     for case in cases {
         let mut host = host_of(alloc, &[], &[], "", "")?;
         let words = words_of(alloc, case)?;
-        assert_eq!(rt; run_tool(&mut host, alloc, &words), 2);
-        assert_eq!(rt; host.printed(), BAD_COMMAND);
+        check_answer(&rt, alloc, &mut host, &words, 2, BAD_COMMAND)?;
     }
     Ok(())
 }
@@ -515,9 +534,14 @@ fn a_file_is_too_large(rt: HostRuntime) -> Result<(), Fail> {
     host.add_file("a", &vec![in alloc; 0; 4194305]?)?;
     host.reserve(16, 33554432)?;
     let words = words_of(alloc, &["hold", "a", "machine", "loops", "out"])?;
-    assert_eq!(rt; run_tool(&mut host, alloc, &words), 1);
-    assert_eq!(rt; host.printed(), b"refused 50 too large: a\n".as_slice());
-    Ok(())
+    check_answer(
+        &rt,
+        alloc,
+        &mut host,
+        &words,
+        1,
+        "refused 50 too large: a\n",
+    )
 }
 
 // It needs no room but for its text, and it can't be printed where the host fails.
@@ -527,13 +551,14 @@ fn help_is_printed(rt: HostRuntime) -> Result<(), Fail> {
     let words = words_of(alloc, &["help"])?;
     let mut host = MemHost::new(alloc, Vec::new(alloc));
     host.reserve(0, 355)?;
-    assert_eq!(rt; run_tool(&mut host, alloc, &words), 0);
-    assert_eq!(rt;
-        host.printed(),
-        b"scale hold IMAGE MACHINE LOOPS OUT\nscale rewrite IMAGE MACHINE LOOPS OUT\nscale report IMAGE MACHINE LOOPS\nscale simulate IMAGE MACHINE INPUT OUT [LOOPS]\nscale make NUMBER SIZE PREFIX\nscale help\nscale check IMAGE FOREIGN MACHINE LOOPS\nscale lower IMAGE JUMPS OUT\nscale survey IMAGE SCALED MACHINE LOOPS INPUT ..\nscale tune IMAGE MACHINE LOOPS OUT INPUT ..\n".as_slice()
-    );
+    check_answer(
+        &rt,
+        alloc,
+        &mut host,
+        &words,
+        0,
+        "scale hold IMAGE MACHINE LOOPS OUT\nscale rewrite IMAGE MACHINE LOOPS OUT\nscale report IMAGE MACHINE LOOPS\nscale simulate IMAGE MACHINE INPUT OUT [LOOPS]\nscale make NUMBER SIZE PREFIX\nscale help\nscale check IMAGE FOREIGN MACHINE LOOPS\nscale lower IMAGE JUMPS OUT\nscale survey IMAGE SCALED MACHINE LOOPS INPUT ..\nscale tune IMAGE MACHINE LOOPS OUT INPUT ..\n",
+    )?;
     let mut failing = host_of(alloc, &[1], &[], "", "")?;
-    assert_eq!(rt; run_tool(&mut failing, alloc, &words), 3);
-    assert!(rt; failing.printed().is_empty());
-    Ok(())
+    check_answer(&rt, alloc, &mut failing, &words, 3, "")
 }

@@ -49,11 +49,9 @@ fn check_verdict(
 ) -> Result<(), Fail> {
     let mut host = check_host(alloc, call, image, foreign, machine, loops)?;
     let words = words_of(alloc, &CHECK_WORDS)?;
-    assert_eq!(rt; run_tool(&mut host, alloc, &words), status, "{call} {text}");
-    assert_eq!(rt; host.printed(), text.as_bytes());
+    check_answer(rt, alloc, &mut host, &words, status, text)?;
     assert_eq!(rt; host.file("image").ok_or("no file")?, image);
     assert_eq!(rt; host.file("foreign").ok_or("no file")?, foreign);
-    assert_eq!(rt; host.fault_count(), if status == 3 { 1 } else { 0 });
     Ok(())
 }
 
@@ -196,8 +194,7 @@ fn check_needs_each_file(rt: HostRuntime) -> Result<(), Fail> {
             }
         }
         host.reserve(16, 1024)?;
-        assert_eq!(rt; run_tool(&mut host, alloc, &words), 3, "{missing}");
-        assert!(rt; host.printed().is_empty());
+        check_answer(&rt, alloc, &mut host, &words, 3, "")?;
         assert!(rt; host.file(missing).is_none());
     }
     Ok(())

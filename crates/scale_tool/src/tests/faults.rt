@@ -40,14 +40,8 @@ fn a_call_fails(rt: HostRuntime) -> Result<(), Fail> {
         let machine = machine_file(alloc, deadline, DIV, 2)?;
         let mut host = host_of(alloc, &[call], image, machine.as_str(), NO_LOOPS)?;
         let words = words_of(alloc, given)?;
-        assert_eq!(rt;
-            run_tool(&mut host, alloc, &words),
-            status,
-            "{given:?} {call}"
-        );
+        check_answer(&rt, alloc, &mut host, &words, status, printed)?;
         assert_eq!(rt; host.file("out"), out, "{given:?} {call}");
-        assert_eq!(rt; host.printed(), printed.as_bytes());
-        assert_eq!(rt; host.fault_count(), if status == 3 { 1 } else { 0 });
     }
     Ok(())
 }
@@ -71,14 +65,8 @@ fn room_for_the_stored_image(rt: HostRuntime) -> Result<(), Fail> {
         let mut host = MemHost::new(alloc, Vec::new(alloc));
         add_files(&mut host, &image, machine.as_str())?;
         host.reserve(stores, bytes)?;
-        assert_eq!(rt;
-            run_tool(&mut host, alloc, &words),
-            status,
-            "{stores} {bytes}"
-        );
+        check_answer(&rt, alloc, &mut host, &words, status, printed)?;
         assert_eq!(rt; host.file("out"), out, "{stores} {bytes}");
-        assert_eq!(rt; host.printed(), printed.as_bytes());
-        assert_eq!(rt; host.fault_count(), if status == 3 { 1 } else { 0 });
     }
     Ok(())
 }

@@ -65,8 +65,7 @@ fn check_hold(
     let words = words_of(alloc, &HOLD_WORDS)?;
     let status = if stored.is_some() { 0 } else { 1 };
     let len = image.len();
-    assert_eq!(rt; run_tool(&mut host, alloc, &words), status, "{len} {text}");
-    assert_eq!(rt; host.printed(), text.as_bytes());
+    check_answer(rt, alloc, &mut host, &words, status, text)?;
     assert!(rt; host.file("out") == stored, "{len} {text}");
     Ok(())
 }
@@ -340,11 +339,14 @@ fn the_longest_text_is_rewritten(rt: HostRuntime) -> Result<(), Fail> {
     let machine = machine_file(alloc, 1348144, DIV, 2)?;
     let mut host = host_of(alloc, &[], &image, machine.as_str(), NO_LOOPS)?;
     let words = words_of(alloc, &REWRITE_WORDS)?;
-    assert_eq!(rt; run_tool(&mut host, alloc, &words), 0);
-    assert_eq!(rt;
-        host.printed(),
-        b"start level 1\nworst cycles 674072\nworst time 1348144 of 1348144\nstub cycles at most 168516\nswitch edges 9362\nexit edges 0\ncount edges 0\nstub bytes 524272\n".as_slice()
-    );
+    check_answer(
+        &rt,
+        alloc,
+        &mut host,
+        &words,
+        0,
+        "start level 1\nworst cycles 674072\nworst time 1348144 of 1348144\nstub cycles at most 168516\nswitch edges 9362\nexit edges 0\ncount edges 0\nstub bytes 524272\n",
+    )?;
     let scaled = skips_scaled(alloc)?;
     assert_eq!(rt; scaled.len(), 1052720);
     assert!(rt; host.file("out") == Some(scaled.as_slice()));
@@ -359,10 +361,12 @@ fn the_longest_text_runs(rt: HostRuntime) -> Result<(), Fail> {
     let scaled = skips_scaled(alloc)?;
     let mut host = run_host(alloc, &scaled, machine.as_str(), "", None)?;
     let words = run_words(alloc, None)?;
-    assert_eq!(rt; run_tool(&mut host, alloc, &words), 0);
-    assert_eq!(rt;
-        host.printed(),
-        b"end exit 0\nsteps 196606\ncycles 252782\ntime 505616\nenergy 758324\nheld 758346\nswitches 1\nlevel 0\nkeyed 168516\noutput 0\nkept unchecked\n".as_slice()
-    );
-    Ok(())
+    check_answer(
+        &rt,
+        alloc,
+        &mut host,
+        &words,
+        0,
+        "end exit 0\nsteps 196606\ncycles 252782\ntime 505616\nenergy 758324\nheld 758346\nswitches 1\nlevel 0\nkeyed 168516\noutput 0\nkept unchecked\n",
+    )
 }

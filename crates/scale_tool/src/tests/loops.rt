@@ -36,8 +36,7 @@ fn check_cycles(
     let summary = format!(in alloc;
         "start level 0\nworst cycles {worst}\nworst time {deadline} of {deadline}\nstub cycles at most 0\nswitch edges 0\nexit edges 0\ncount edges 0\nstub bytes 0\n"
     )?;
-    assert_eq!(rt; run_tool(&mut host, alloc, &words_given), 0, "{worst}");
-    assert_eq!(rt; host.printed(), summary.as_str().as_bytes());
+    check_answer(rt, alloc, &mut host, &words_given, 0, summary.as_str())?;
     let stored = held_image(alloc, words, 0)?;
     assert_eq!(rt; host.file("out").ok_or("no file")?, stored.as_slice());
     Ok(())

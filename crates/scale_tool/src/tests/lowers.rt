@@ -81,10 +81,8 @@ fn check_lower(
     host.add_file("jumps", jumps)?;
     host.reserve(16, 33554432)?;
     let words = words_of(alloc, &LOWER_WORDS)?;
-    assert_eq!(rt; run_tool(&mut host, alloc, &words), status, "{call} {text}");
-    assert_eq!(rt; host.printed(), text.as_bytes());
+    check_answer(rt, alloc, &mut host, &words, status, text)?;
     assert_eq!(rt; host.file("out"), out, "{call} {text}");
-    assert_eq!(rt; host.fault_count(), if status == 3 { 1 } else { 0 });
     Ok(())
 }
 
@@ -203,9 +201,7 @@ fn lower_needs_its_jump_file(rt: HostRuntime) -> Result<(), Fail> {
     let mut host = MemHost::new(alloc, Vec::new(alloc));
     host.add_file("image", b"")?;
     let words = words_of(alloc, &LOWER_WORDS)?;
-    assert_eq!(rt; run_tool(&mut host, alloc, &words), 3);
-    assert!(rt; host.printed().is_empty());
-    Ok(())
+    check_answer(&rt, alloc, &mut host, &words, 3, "")
 }
 
 // The images, the deadline for which the lowered one is held, and its worst cycles; then the runs of both.
@@ -220,11 +216,14 @@ fn lowered_images_are_held_and_run(rt: HostRuntime) -> Result<(), Fail> {
     let machine = machine_file(alloc, 76, DIV, 2)?;
     let mut host = host_of(alloc, &[], &lowered, machine.as_str(), NO_LOOPS)?;
     let words = words_of(alloc, &HOLD_WORDS)?;
-    assert_eq!(rt; run_tool(&mut host, alloc, &words), 0);
-    assert_eq!(rt;
-        host.printed(),
-        b"start level 0\nworst cycles 19\nworst time 76 of 76\nstub cycles at most 0\nswitch edges 0\nexit edges 0\ncount edges 0\nstub bytes 0\n".as_slice()
-    );
+    check_answer(
+        &rt,
+        alloc,
+        &mut host,
+        &words,
+        0,
+        "start level 0\nworst cycles 19\nworst time 76 of 76\nstub cycles at most 0\nswitch edges 0\nexit edges 0\ncount edges 0\nstub bytes 0\n",
+    )?;
     let held = host.file("out").ok_or("no file")?;
     let runs: [(&[u8], &str); 3] = [
         (

@@ -22,8 +22,7 @@ fn report_prints_the_plan(rt: HostRuntime) -> Result<(), Fail> {
     for (deadline, status, text) in cases {
         let machine = machine_of_gain(alloc, deadline, "min_gain = 1\n")?;
         let mut host = host_of(alloc, &[], &image, machine.as_str(), NO_LOOPS)?;
-        assert_eq!(rt; run_tool(&mut host, alloc, &words), status, "{text}");
-        assert_eq!(rt; host.printed(), text.as_bytes());
+        check_answer(&rt, alloc, &mut host, &words, status, text)?;
         // There is still room for as many files.
         assert_eq!(rt; host.room().0, 16, "{text}");
     }

@@ -64,8 +64,7 @@ pub fn rewritten(
     let image = plain_image(alloc, words, 0, 5)?;
     let mut host = host_of(alloc, &[], &image, machine, loops)?;
     let words = words_of(alloc, &REWRITE_WORDS)?;
-    assert_eq!(rt; run_tool(&mut host, alloc, &words), 0, "{summary}");
-    assert_eq!(rt; host.printed(), summary.as_bytes());
+    check_answer(rt, alloc, &mut host, &words, 0, summary)?;
     Ok(host.file("out").ok_or("no file")?.to_vec(alloc)?)
 }
 
@@ -92,8 +91,7 @@ pub fn check_run(
 ) -> Result<(), Fail> {
     let mut host = run_host(alloc, image, machine, input, None)?;
     let words = run_words(alloc, None)?;
-    assert_eq!(rt; run_tool(&mut host, alloc, &words), 0, "{text}");
-    assert_eq!(rt; host.printed(), text.as_bytes());
+    check_answer(rt, alloc, &mut host, &words, 0, text)?;
     assert_eq!(rt; host.file("out").ok_or("no file")?, b"".as_slice());
     Ok(())
 }

@@ -67,8 +67,7 @@ fn check_run(
 ) -> Result<(), Fail> {
     let mut host = run_host(alloc, image, machine, "", None)?;
     let words = run_words(alloc, None)?;
-    assert_eq!(rt; run_tool(&mut host, alloc, &words), status, "{text}");
-    assert_eq!(rt; host.printed(), text.as_bytes());
+    check_answer(rt, alloc, &mut host, &words, status, text)?;
     assert_eq!(rt; host.file("out").ok_or("no file")?, output);
     Ok(())
 }
@@ -86,9 +85,7 @@ fn check_watched(
 ) -> Result<(), Fail> {
     let mut host = run_host(alloc, image, machine, input, Some(loops))?;
     let words = run_words(alloc, Some(loops))?;
-    assert_eq!(rt; run_tool(&mut host, alloc, &words), status, "{text}");
-    assert_eq!(rt; host.printed(), text.as_bytes());
-    Ok(())
+    check_answer(rt, alloc, &mut host, &words, status, text)
 }
 
 // The words, the deadline for which they are held, and the status and the text of the run.
@@ -120,7 +117,7 @@ fn held_images_run_at_their_level(rt: HostRuntime) -> Result<(), Fail> {
         let machine = machine_file(alloc, deadline, DIV, 2)?;
         let mut host = host_of(alloc, &[], &image, machine.as_str(), NO_LOOPS)?;
         let given = words_of(alloc, &HOLD_WORDS)?;
-        assert_eq!(rt; run_tool(&mut host, alloc, &given), 0, "{text}");
+        assert_eq!(rt; status_of(&mut host, alloc, &given), 0, "{text}");
         let held = host.file("out").ok_or("no file")?;
         check_run(&rt, alloc, held, machine.as_str(), status, text, b"")?;
     }
@@ -242,11 +239,14 @@ fn keyed_images_are_refused(rt: HostRuntime) -> Result<(), Fail> {
     let image = held_image(alloc, &EXIT_SEVEN, 1)?;
     let mut host = run_host(alloc, &image, machine.as_str(), "", None)?;
     let words = run_words(alloc, None)?;
-    assert_eq!(rt; run_tool(&mut host, alloc, &words), 1);
-    assert_eq!(rt;
-        host.printed(),
-        b"refused 9 start level 1 of 1\n".as_slice()
-    );
+    check_answer(
+        &rt,
+        alloc,
+        &mut host,
+        &words,
+        1,
+        "refused 9 start level 1 of 1\n",
+    )?;
     assert!(rt; host.file("out").is_none());
     // A loop file is refused, whatever the level.
     let text = "refused 8 already scaled\n";
@@ -294,7 +294,7 @@ fn an_image_with_sections_runs(rt: HostRuntime) -> Result<(), Fail> {
     )?;
     let mut host = host_of(alloc, &[], &image, machine.as_str(), NO_LOOPS)?;
     let words = words_of(alloc, &HOLD_WORDS)?;
-    assert_eq!(rt; run_tool(&mut host, alloc, &words), 0);
+    assert_eq!(rt; status_of(&mut host, alloc, &words), 0);
     check_run(
         &rt,
         alloc,

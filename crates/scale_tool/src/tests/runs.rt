@@ -81,10 +81,8 @@ fn check_run(rt: &impl Abort, alloc: Global, case: Case<'_>) -> Result<(), Fail>
     let machine = machine_of_steps(alloc, steps, 28, DIV, 2)?;
     let mut host = run_host(alloc, &image, machine.as_str(), "hello", loops)?;
     let words = run_words(alloc, loops)?;
-    assert_eq!(rt; run_tool(&mut host, alloc, &words), status, "{text}");
-    assert_eq!(rt; host.printed(), text.as_bytes());
+    check_answer(rt, alloc, &mut host, &words, status, text)?;
     assert_eq!(rt; host.file("out").ok_or("no file")?, output.as_bytes());
-    assert_eq!(rt; host.fault_count(), 0);
     Ok(())
 }
 
@@ -221,8 +219,7 @@ fn runs_that_are_refused(rt: HostRuntime) -> Result<(), Fail> {
         let machine = machine_file(alloc, 28, div, 2)?;
         let mut host = run_host(alloc, image, machine.as_str(), "hello", loops)?;
         let words = run_words(alloc, loops)?;
-        assert_eq!(rt; run_tool(&mut host, alloc, &words), 1, "{text}");
-        assert_eq!(rt; host.printed(), text.as_bytes());
+        check_answer(&rt, alloc, &mut host, &words, 1, text)?;
         assert!(rt; host.file("out").is_none(), "{text}");
     }
     Ok(())
@@ -273,8 +270,7 @@ fn files_of_runs_have_limits(rt: HostRuntime) -> Result<(), Fail> {
         host.add_file("loops", loops)?;
         host.reserve(16, 33554432)?;
         let words = words_of(alloc, &RUN_WORDS_WITH_LOOPS)?;
-        assert_eq!(rt; run_tool(&mut host, alloc, &words), 1, "{text}");
-        assert_eq!(rt; host.printed(), text.as_bytes());
+        check_answer(&rt, alloc, &mut host, &words, 1, text)?;
     }
     Ok(())
 }
@@ -289,7 +285,5 @@ fn a_file_of_a_run_is_missing(rt: HostRuntime) -> Result<(), Fail> {
     host.add_file("machine", b"")?;
     host.reserve(16, 33554432)?;
     let words = run_words(alloc, None)?;
-    assert_eq!(rt; run_tool(&mut host, alloc, &words), 3);
-    assert!(rt; host.printed().is_empty());
-    Ok(())
+    check_answer(&rt, alloc, &mut host, &words, 3, "")
 }

@@ -69,11 +69,9 @@ fn check_survey(
 ) -> Result<(), Fail> {
     let mut host = survey_host(alloc, call, image, scaled, machine, loops, inputs)?;
     let words = words_and_inputs(alloc, &SURVEY_WORDS, inputs.len())?;
-    assert_eq!(rt; run_tool(&mut host, alloc, &words), status, "{call} {text}");
-    assert_eq!(rt; host.printed(), text.as_bytes());
+    check_answer(rt, alloc, &mut host, &words, status, text)?;
     assert_eq!(rt; host.file("image").ok_or("no file")?, image);
     assert_eq!(rt; host.file("scaled").ok_or("no file")?, scaled);
-    assert_eq!(rt; host.fault_count(), if status == 3 { 1 } else { 0 });
     Ok(())
 }
 
@@ -239,9 +237,7 @@ fn check_long(
     let mut host = survey_host(alloc, 0, &[], scaled, "", "", &[""])?;
     host.add_file("input-1", input)?;
     let words = words_and_inputs(alloc, &SURVEY_WORDS, 2)?;
-    assert_eq!(rt; run_tool(&mut host, alloc, &words), 1, "{text}");
-    assert_eq!(rt; host.printed(), text.as_bytes());
-    Ok(())
+    check_answer(rt, alloc, &mut host, &words, 1, text)
 }
 
 // The scaled image may be twice as long as the original, and the first file that is too long decides.
@@ -277,8 +273,7 @@ fn survey_needs_each_file(rt: HostRuntime) -> Result<(), Fail> {
             }
         }
         host.reserve(0, 1024)?;
-        assert_eq!(rt; run_tool(&mut host, alloc, &words), 3, "{missing}");
-        assert!(rt; host.printed().is_empty());
+        check_answer(&rt, alloc, &mut host, &words, 3, "")?;
         assert!(rt; host.file(missing).is_none());
     }
     Ok(())
@@ -292,8 +287,7 @@ fn too_few_or_too_many_inputs_are_no_command(rt: HostRuntime) -> Result<(), Fail
         for count in [0, 65] {
             let words = words_and_inputs(alloc, &[word, "a", "b", "c", "d"], count)?;
             let mut host = host_of(alloc, &[], &[], "", "")?;
-            assert_eq!(rt; run_tool(&mut host, alloc, &words), 2, "{word} {count}");
-            assert_eq!(rt; host.printed(), BAD_COMMAND);
+            check_answer(&rt, alloc, &mut host, &words, 2, BAD_COMMAND)?;
         }
     }
     Ok(())

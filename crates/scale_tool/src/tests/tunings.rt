@@ -35,11 +35,9 @@ fn check_tune(
     let mut host = host_of(alloc, &[call], image, machine, loops)?;
     add_inputs(&mut host, alloc, inputs)?;
     let words = words_and_inputs(alloc, &TUNE_WORDS, inputs.len())?;
-    assert_eq!(rt; run_tool(&mut host, alloc, &words), status, "{call} {text}");
-    assert_eq!(rt; host.printed(), text.as_bytes());
+    check_answer(rt, alloc, &mut host, &words, status, text)?;
     assert_eq!(rt; host.file("out"), out, "{call} {text}");
     assert_eq!(rt; host.file("image").ok_or("no file")?, image);
-    assert_eq!(rt; host.fault_count(), if status == 3 { 1 } else { 0 });
     Ok(())
 }
 
@@ -240,14 +238,12 @@ fn inputs_of_tunings_are_missing_or_too_long(rt: HostRuntime) -> Result<(), Fail
     let words = words_and_inputs(alloc, &TUNE_WORDS, 2)?;
     let mut host = host_of(alloc, &[], &[], "", "")?;
     host.add_file("input-0", b"")?;
-    assert_eq!(rt; run_tool(&mut host, alloc, &words), 3);
-    assert!(rt; host.printed().is_empty());
+    check_answer(&rt, alloc, &mut host, &words, 3, "")?;
+    let mut host = host_of(alloc, &[], &[], "", "")?;
+    host.add_file("input-0", b"")?;
     host.add_file("input-1", &vec![in alloc; 0; 1048577]?)?;
-    assert_eq!(rt; run_tool(&mut host, alloc, &words), 1);
-    assert_eq!(rt;
-        host.printed(),
-        b"refused 50 too large: input-1\n".as_slice()
-    );
+    let text = "refused 50 too large: input-1\n";
+    check_answer(&rt, alloc, &mut host, &words, 1, text)?;
     assert!(rt; host.file("out").is_none());
     Ok(())
 }
