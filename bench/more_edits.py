@@ -3,8 +3,8 @@
 
     more_edits.py [NAME ..]   those of these crates; without a name, those of all crates that have some
 
-Prints what `rt must-fail` says of each edit, crate by crate, and ends with 1 where one isn't refused, or couldn't be tried. An edit takes 15 to 40
-seconds of a processor, the first of a crate as long as a check of the crate, and libraries below it that aren't proved yet are proved first. Works on a
+Prints what `rt must-fail` says of each edit, crate by crate, and ends with 1 where one isn't refused, or couldn't be tried. An edit takes some 15
+to 60 seconds of a processor, the first of a crate as long as a check of the crate, and libraries below it that aren't proved yet are proved first. Works on a
 copy of the repository in a temporary folder, with what was proved so far (`out/`), where these edits stand in place of those of `must-fail/`: the
 repository stays as it is.
 """
