@@ -28,8 +28,3 @@ pub use reading::read_fragment;
 pub use run_out::read_run_out;
 pub use sites::ForeignSites;
 pub use stub::{StubFragments, read_stub};
-
-#[cfg(test)]
-mod scan_tests;
-#[cfg(test)]
-mod tests;

@@ -5,8 +5,6 @@ mod agreeing;
 mod candidates;
 mod choosing;
 mod spending;
-#[cfg(test)]
-mod tests;
 mod tuning;
 
 pub use agreeing::{tuned_images_are_safe, tunings_agree};

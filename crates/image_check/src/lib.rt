@@ -28,8 +28,3 @@ pub fn safe_images_keep_the_promise()
 pub fn loaded_bytes_are_small()
     ensures { LoadedBytesAreSmall }
 {}
-
-#[cfg(test)]
-mod entry_tests;
-#[cfg(test)]
-mod tests;

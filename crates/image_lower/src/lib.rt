@@ -13,6 +13,3 @@ pub use lowering::lower;
 pub use runs::{
     lowered_answers_agree, lowered_images_are_safe, lowered_runs_follow, trees_find_targets,
 };
-
-#[cfg(test)]
-mod tests;

@@ -4,8 +4,6 @@
 mod agreeing;
 mod lines;
 mod surveying;
-#[cfg(test)]
-mod tests;
 mod totals;
 
 pub use agreeing::{surveys_agree, surveys_say_of_runs};

@@ -17,8 +17,6 @@ mod rewriting;
 mod rewriting_as;
 mod safe_level;
 mod stubs;
-#[cfg(test)]
-mod tests;
 
 pub use planning::plan;
 pub use rewriting::rewrite;

@@ -45,6 +45,3 @@ pub fn simulate(
     let notes = allowed::read_notes(alloc, &view, loops)?;
     Ok(report(alloc, &view, &power, start, input, notes)?)
 }
-
-#[cfg(test)]
-mod tests;

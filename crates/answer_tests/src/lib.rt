@@ -1,0 +1,19 @@
+//! Tests of the crates that answer for whole files: images, machine files, loop files, jump files and inputs.
+#![tactic(auto)]
+
+#[cfg(test)]
+mod checking;
+#[cfg(test)]
+mod fixtures;
+#[cfg(test)]
+mod lowering;
+#[cfg(test)]
+mod rewriting;
+#[cfg(test)]
+mod scanning;
+#[cfg(test)]
+mod simulating;
+#[cfg(test)]
+mod surveying;
+#[cfg(test)]
+mod tuning;
