@@ -14,4 +14,3 @@ unfolding step
 step_performs env s i fetched read =
     cond-true (can_fetch env.layout s.pc) (executes env s (instr_of (word_at s.bytes s.pc))) (stops s traps.FetchFault s.pc) fetched
     ∙ ap (executes env s) read
-
