@@ -2,6 +2,8 @@
 #![tactic(auto)]
 
 ghost use Rattle.image_check.specs.Laws.{LoadedBytesAreSmall, SafeImagesAreTuned, SafeImagesKeepRuns, SafeImagesKeepThePromise};
+ghost use Rattle.image_check.specs.PacedChecks.{LeastBudgetsDecide};
+ghost use Rattle.image_check.specs.PacedLaws.{PacedImagesAreBudgeted, PacedImagesKeepRuns, PacedImagesKeepThePromise, SafeImagesArePaced};
 
 mod checking;
 mod entries;
@@ -22,6 +24,20 @@ pub fn safe_images_keep_the_promise()
     ensures tuned { SafeImagesAreTuned }
     ensures runs { SafeImagesKeepRuns }
     ensures promise { SafeImagesKeepThePromise }
+{}
+
+/// So does every kept run of a paced image, whose levels keep budgets: a switch may use what the budget of the level behind it has more, and so
+/// stand on an edge without slack. A safe image is a paced one whose budgets are all the deadline.
+pub fn paced_images_keep_the_promise()
+    ensures safe { SafeImagesArePaced }
+    ensures budgeted { PacedImagesAreBudgeted }
+    ensures runs { PacedImagesKeepRuns }
+    ensures promise { PacedImagesKeepThePromise }
+{}
+
+/// There are budgets by which an image is paced just where its entries pay and the least budgets that they need are up to the deadline.
+pub fn least_budgets_decide()
+    ensures { LeastBudgetsDecide }
 {}
 
 /// The bytes that the image of a file loads are below 256, as the other law asks.

@@ -4,7 +4,7 @@ pub use Rattle.rewritten_runs.proofs.Edges.{branch_kind, edge_is, led_class}
 pub use Rattle.rewritten_runs.proofs.Ended.{over_stays, taken, taken_within}
 pub use Rattle.rewritten_runs.proofs.FewMarks.{depth, few_marks}
 pub use Rattle.rewritten_runs.proofs.Grows.{worst_grows}
-pub use Rattle.rewritten_runs.proofs.Law.{rewritten_follow, storable, supplied}
+pub use Rattle.rewritten_runs.proofs.Law.{budgeted_follow, chosen_follow, rewritten_follow, storable, supplied}
 pub use Rattle.rewritten_runs.proofs.MarkLists.{at_set, counts_are, marks_all, resets_are}
 pub use Rattle.rewritten_runs.proofs.MarkOrder.{IsQuietMark, in_get, set_distinct}
 pub use Rattle.rewritten_runs.proofs.Marked.{IsCounter, IsMarkOf, counted_is, graph_program, loop_count, loop_is, marked_led, marks_are}
