@@ -1,4 +1,6 @@
 pub mod Safe
+pub mod Paced
+pub mod PacedLaws
 pub mod Causes
 pub mod Known
 pub mod Checked

@@ -2,6 +2,7 @@
 #![tactic(auto)]
 
 ghost use Rattle.image_check.specs.Laws.{LoadedBytesAreSmall, SafeImagesAreTuned, SafeImagesKeepRuns, SafeImagesKeepThePromise};
+ghost use Rattle.image_check.specs.PacedLaws.{PacedImagesAreBudgeted, PacedImagesKeepRuns, PacedImagesKeepThePromise, SafeImagesArePaced};
 
 mod checking;
 mod entries;
@@ -22,6 +23,15 @@ pub fn safe_images_keep_the_promise()
     ensures tuned { SafeImagesAreTuned }
     ensures runs { SafeImagesKeepRuns }
     ensures promise { SafeImagesKeepThePromise }
+{}
+
+/// So does every kept run of a paced image, whose levels keep budgets: a switch may use what the budget of the level behind it has more, and so
+/// stand on an edge without slack. A safe image is a paced one whose budgets are all the deadline.
+pub fn paced_images_keep_the_promise()
+    ensures safe { SafeImagesArePaced }
+    ensures budgeted { PacedImagesAreBudgeted }
+    ensures runs { PacedImagesKeepRuns }
+    ensures promise { PacedImagesKeepThePromise }
 {}
 
 /// The bytes that the image of a file loads are below 256, as the other law asks.

@@ -2,7 +2,7 @@
 //! left is in time, and that the least cycles to an end pay for the switch.
 #![tactic(auto)]
 
-ghost use Rattle.paid_runs.specs.Laws.{StoredRunsArePaid, StoredRunsSaveEnergy, StubsAreBounded, TablesOfKeepTime, TunedRunsAreSafe};
+ghost use Rattle.paid_runs.specs.Laws.{BudgetedRunsAreSafe, StoredRunsArePaid, StoredRunsSaveEnergy, StubsAreBounded, TablesKeepBudgets, TablesOfKeepTime, TunedImagesAreBudgeted, TunedRunsAreSafe};
 
 mod legs;
 mod marked;
@@ -36,4 +36,16 @@ pub fn tables_keep_time()
 /// level, and with at most so many cycles and steps more.
 pub fn tuned_runs_are_safe()
     ensures { TunedRunsAreSafe }
+{}
+
+/// Tables whose entries meet the test of budgets and pay keep a run within its budgets, so a switch may stand on an edge without slack.
+pub fn tables_keep_budgets()
+    ensures { TablesKeepBudgets }
+{}
+
+/// Every kept run of an image whose tables keep budgets is safe, and within the budget of its level behind each step of the original. A tuned
+/// image is one whose budgets are all the deadline.
+pub fn budgeted_runs_are_safe()
+    ensures safe { BudgetedRunsAreSafe }
+    ensures tuned { TunedImagesAreBudgeted }
 {}

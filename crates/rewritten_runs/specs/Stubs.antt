@@ -67,18 +67,25 @@ told_at power image v t marked n least e = record {
 abbrev pub loop_of : List ℕ → ℕ → ℕ
 loop_of counted counter = slice_index counted (counter - first_counter)
 
--- the fragment of a mark on an edge that tells its switch this
+-- the fragment of a mark on an edge that tells its switch this, with levels that meet a test
+abbrev pub fragment_by : PowerModel → (tables.EdgeNumbers → ℕ → ℕ → Bool) → Loops → List ℕ → Numbers → tables.EdgeNumbers → Mark → Fragment
+fragment_by power test l counted n told marks.Switch = fragments.Switch (tables.word_by power test told)
+fragment_by power test l counted n told (marks.Exit counter) =
+    fragments.Exit counter (tables.shift_of (l.bound (loop_of counted counter))) (tables.all_rows_by power test (l.bound (loop_of counted counter)) (n.iteration (loop_of counted counter)) told)
+fragment_by power test l counted n told (marks.Reset counter) = fragments.Reset counter
+fragment_by power test l counted n told (marks.Count counter) = fragments.Count counter
+
+-- where the test is both that of time and that of payment
 abbrev pub fragment_of : PowerModel → Loops → List ℕ → Numbers → tables.EdgeNumbers → Mark → Fragment
-fragment_of power l counted n told marks.Switch = fragments.Switch (tables.level_word power told)
-fragment_of power l counted n told (marks.Exit counter) =
-    fragments.Exit counter (tables.shift_of (l.bound (loop_of counted counter))) (tables.rows_of power (l.bound (loop_of counted counter)) (n.iteration (loop_of counted counter)) told)
-fragment_of power l counted n told (marks.Reset counter) = fragments.Reset counter
-fragment_of power l counted n told (marks.Count counter) = fragments.Count counter
+fragment_of power l counted n told mark = fragment_by power (tables.meets_both power) l counted n told mark
 
 -- by edge, its fragments
+abbrev pub fragments_with : PowerModel → (tables.EdgeNumbers → ℕ → ℕ → Bool) → Image → FlowGraph → LoopView → (ℕ → List Mark) → Numbers → Charged → ℕ → List Fragment
+fragments_with power test image v t marked n least e =
+    map (fragment_by power test (loops v t) (counted_loops t) n (told_at power image v t marked n least e)) (marked e)
+
 abbrev pub fragments_at : PowerModel → Image → FlowGraph → LoopView → (ℕ → List Mark) → Numbers → Charged → ℕ → List Fragment
-fragments_at power image v t marked n least e =
-    map (fragment_of power (loops v t) (counted_loops t) n (told_at power image v t marked n least e)) (marked e)
+fragments_at power image v t marked n least e = fragments_with power (tables.meets_both power) image v t marked n least e
 
 -- ---- the marked instructions
 
@@ -141,13 +148,24 @@ pub record IsWeighed (power : PowerModel) (image : Image) (notes : List LoopNote
   pub plain_are : AreNumbers (graph v) (loops v t) (plain_weights power image v) plain
   pub stored_are : AreNumbers (graph v) (loops v t) (stored_weights power image v (marks_by_slack power image v t plain)) stored
 
+-- The same where the marks are handed in, whatever chose them: there are no plain weights then.
+pub record IsWeighedBy (power : PowerModel) (image : Image) (notes : List LoopNote) (v : FlowGraph) (t : LoopView) (marked : ℕ → List Mark) (stored : Numbers) : Type 0 where
+  pub code_is : IsGraphOf (text_of image) v
+  pub tree_is : IsTreeOf v notes t
+  pub counters : AreCounters v t (Ok (counted_loops t))
+  pub stored_are : AreNumbers (graph v) (loops v t) (stored_weights power image v marked) stored
+
 -- Its stubs, too: the least cycles under the stored weights, which the tables need, the numbers under the extra weights, and the marked instructions with the
 -- place of their block. A block that is too long for any place is looked for one of 4,194,304 bytes: its last stub is out of reach.
-pub record HasStubs (power : PowerModel) (image : Image) (v : FlowGraph) (t : LoopView) (plain stored extra : Numbers) (least : Charged) (sites : List Site) (base : ℕ) : Type 0 where
-  pub least_are : AreCharged (graph v) (loops v t) (stored_weights power image v (marks_by_slack power image v t plain)) least
-  pub extra_are : AreNumbers (graph v) (loops v t) (extra_weights power v (marks_by_slack power image v t plain)) extra
-  pub sites_are : AreSitesOf image v.code (fragments_at power image v t (marks_by_slack power image v t plain) stored least) sites
+pub record HasStubsBy (power : PowerModel) (test : tables.EdgeNumbers → ℕ → ℕ → Bool) (image : Image) (v : FlowGraph) (t : LoopView) (marked : ℕ → List Mark) (stored extra : Numbers) (least : Charged) (sites : List Site) (base : ℕ) : Type 0 where
+  pub least_are : AreCharged (graph v) (loops v t) (stored_weights power image v marked) least
+  pub extra_are : AreNumbers (graph v) (loops v t) (extra_weights power v marked) extra
+  pub sites_are : AreSitesOf image v.code (fragments_with power test image v t marked stored least) sites
   pub base_is : IsStubBase image (min (block_size sites) 4194304) base
+
+-- with the marks by slack, and levels that are in time and pay
+abbrev pub HasStubs : PowerModel → Image → FlowGraph → LoopView → (plain stored extra : Numbers) → Charged → List Site → (base : ℕ) → Type 0
+HasStubs power image v t plain stored extra least sites base = HasStubsBy power (tables.meets_both power) image v t (marks_by_slack power image v t plain) stored extra least sites base
 
 -- ---- what is stored
 

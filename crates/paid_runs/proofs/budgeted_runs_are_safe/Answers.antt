@@ -1,0 +1,8 @@
+use Rattle.paid_runs.proofs.Tuned.{budgeted_safe, tuned_budgeted}
+use Rattle.paid_runs.proofs.budgeted_runs_are_safe.Goals as goal
+
+pub returns-clause-safe : goal.returns-clause-safe
+returns-clause-safe c = budgeted_safe
+
+pub returns-clause-tuned : goal.returns-clause-tuned
+returns-clause-tuned c = tuned_budgeted
