@@ -1,11 +1,11 @@
 -- Switches within budgets: each level has a time by which a job that runs at it is to end, at most the deadline. A switch may use what the budget of the level behind it has
 -- more than that of the level before it, and not only the slack of its own edge. With the deadline as the budget of each level it is the test of time of Tables.
-use Rattle.std.specs.Prelude.{◌≡◌, ℕ, zero, suc, ◌+◌, ◌-◌, ◌*◌, ◌<◌, ◌≤◌, max, ◌==◌, Bool, true, cond, ◌&&◌, nat_le, List, [], ◌∷◌, All, length, slice_index}
+use Rattle.std.specs.Prelude.{◌≡◌, ℕ, zero, suc, ◌+◌, ◌-◌, ◌*◌, ◌<◌, ◌≤◌, max, ◌==◌, Bool, true, cond, ◌&&◌, nat_le, List, [], ◌∷◌, All, length, if◌then◌else◌}
 use Rattle.power_model.specs.Levels.{level}
 use Rattle.power_model.specs.Numbers.{PowerModel}
 use Rattle.power_model.specs.Price.{switch_time}
 use Rattle.power_model.specs.Switches.{period}
-use Rattle.level_tables.specs.declared.budgets.LevelBudgets.{LevelBudgets}
+use Rattle.level_tables.specs.declared.by_level.LevelBudgets.{LevelBudgets}
 use Rattle.level_tables.specs.Tables.{EdgeNumbers, pays}
 
 -- The worst cycles are within the budget of the starting level, and no budget is later than the deadline.
@@ -23,9 +23,9 @@ is_switch_in_budget power budget edge i l =
 abbrev pub meets_in_budget : PowerModel → (budget : ℕ → ℕ) → EdgeNumbers → ℕ → ℕ → Bool
 meets_in_budget power budget edge i l = is_switch_in_budget power budget edge i l && pays power edge.least i l
 
--- the budgets of levels, as they are handed in
+-- the budgets of levels, as they are handed in: the starting level has its own
 abbrev pub budget_at : LevelBudgets → ℕ → ℕ
-budget_at budgets i = slice_index budgets.times i
+budget_at budgets i = if i == budgets.start then budgets.first else budgets.others
 
 -- ---- the budgets of the first switch
 

@@ -35,7 +35,7 @@ use Rattle.stored_runs.specs.Marks.{place_at, fragments_of_class, counters_after
 use Rattle.paid_runs.specs.Shadows.{AreCountable}
 use Rattle.paid_runs.specs.Marked as marked_specs
 use Rattle.paid_runs.proofs.Laws.{loops_are_countable}
-use Rattle.rewritten_runs.specs.Stubs.{Rule, IsWeighedBy, marks_by, told_at, fragment_by, fragments_by, loop_of, is_counted, counter_of, set_before}
+use Rattle.rewritten_runs.specs.Stubs.{Rule, IsWeighedBy, marks_by, told_at, fragment_by, fragments_with, loop_of, is_counted, counter_of, set_before}
 use Rattle.rewritten_runs.proofs.Programs.{program_of}
 use Rattle.rewritten_runs.proofs.Edges.{branch_led, call_goes_on}
 use Rattle.rewritten_runs.proofs.MarkLists.{set_at, at_set, effect, through, marks_all, exits_are, resets_are, counts_are, counter_through, others_through}
@@ -221,7 +221,7 @@ module _ {rule : Rule} (power : PowerModel) (image : Image) (notes : List LoopNo
 
   -- ---- what the fragments do to the counters
 
-  module _ (sites : List Site) (least : Charged) (ways : (e : ℕ) (class : Class) → e < length code.edges → edge_class t (slice_get code.edges e) ≡ Some class → fragments_of_class (place_at sites (edge_at (slice_get code.edges e))) class ≡ fragments_by power rule.test image v tree marked stored least e) where
+  module _ (sites : List Site) (least : Charged) (ways : (e : ℕ) (class : Class) → e < length code.edges → edge_class t (slice_get code.edges e) ≡ Some class → fragments_of_class (place_at sites (edge_at (slice_get code.edges e))) class ≡ fragments_with power rule.test image v tree marked stored least e) where
     behind : (e : ℕ) (class : Class) → e < length code.edges → edge_class t (slice_get code.edges e) ≡ Some class → (c : ℕ → ℕ) (w : ℕ) → counters_behind (fragments_of_class (place_at sites (edge_at (slice_get code.edges e))) class) c w ≡ through w (marked e) (c w)
     behind e class lt is c w = ap (λ fs. counters_behind fs c w) (ways e class lt is) ∙ all_act power rule.test l counted stored (told_at power image v tree marked stored least e) (marked e) c w
 

@@ -38,7 +38,7 @@ use Rattle.stub_writer.specs.Stubs.{Site, Way, Place, Forked, Straight}
 use Rattle.stored_runs.specs.Marks.{place_at, fragments_of_class}
 use Rattle.stored_runs.specs.Stubbed.{IsSafe, IsSafeWay, IsOfImage, AreSafeWays, IsSafeSite, AreOrdered, AreAscending}
 use Rattle.paid_runs.proofs.Laws.{targets_are_words}
-use Rattle.rewritten_runs.specs.Stubs.{Rule, IsWeighedBy, AreSitesOf, marks_by, told_at, fragment_by, fragments_by, loop_of}
+use Rattle.rewritten_runs.specs.Stubs.{Rule, IsWeighedBy, AreSitesOf, marks_by, told_at, fragment_by, fragments_with, loop_of}
 use Rattle.rewritten_runs.proofs.Edges.{edge_is}
 use Rattle.rewritten_runs.proofs.Marked.{IsMarkOf, program_is, graph_program, marks_of_edge, shadow_of, counted_is}
 use Rattle.rewritten_runs.proofs.MarkOrder.{marks_ordered, in_get, set_distinct}
@@ -86,7 +86,7 @@ place_of_site (s ∷ sites) up (suc k) d lt =
     ap (λ b. cond b (Some s.place) (place_at sites site.at)) off ∙ place_of_site sites up.1 k d (omega arith)
 
 module _ {rule : Rule} (power : PowerModel) (ok : IsPowerModel power) (image : Image) (notes : List LoopNote) (v : FlowGraph) (tree : LoopView) (plain stored : Numbers) (weighed : IsWeighedBy power image notes v tree rule plain stored)
-    (least : Charged) (sites : List Site) (are : AreSitesOf image v.code (fragments_by power rule.test image v tree (marks_by v tree rule) stored least) sites)
+    (least : Charged) (sites : List Site) (are : AreSitesOf image v.code (fragments_with power rule.test image v tree (marks_by v tree rule) stored least) sites)
     (few_marks : (e : ℕ) → e < length v.code.edges → length (marks_by v tree rule e) ≤ 17) where
   abbrev t : Text
   t = text_of image
@@ -107,7 +107,7 @@ module _ {rule : Rule} (power : PowerModel) (ok : IsPowerModel power) (image : I
   marked = marks_by v tree rule
 
   abbrev frags : ℕ → List Fragment
-  frags = fragments_by power rule.test image v tree marked stored least
+  frags = fragments_with power rule.test image v tree marked stored least
 
   abbrev levels : ℕ
   levels = length power.levels

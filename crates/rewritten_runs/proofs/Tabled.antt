@@ -33,7 +33,7 @@ use Rattle.paid_runs.specs.Counters.{by_words}
 use Rattle.paid_runs.proofs.Laws.{is_word}
 use Rattle.level_tables.specs.Budgets.{is_switch_in_budget}
 use Rattle.rewritten_runs.specs.Laws.{KeepsBudgets}
-use Rattle.rewritten_runs.specs.Stubs.{Rule, IsWeighedBy, AreSitesOf, marks_by, told_at, tail_at, fragment_by, fragments_by, loop_of, is_counted, counter_of, stored_weights}
+use Rattle.rewritten_runs.specs.Stubs.{Rule, IsWeighedBy, AreSitesOf, marks_by, told_at, tail_at, fragment_by, fragments_with, loop_of, is_counted, counter_of, stored_weights}
 use Rattle.rewritten_runs.proofs.Edges.{call_goes_on}
 use Rattle.rewritten_runs.proofs.Marked.{IsMarkOf, program_is, countable, marked_led, marks_of_edge, counted_is, loop_is}
 use Rattle.rewritten_runs.proofs.TableLaws.{IsMet, word_met, row_met, row_turns, leb-le}
@@ -57,7 +57,7 @@ paid_by power None tail i j h = let never : ⊥ = cc in absurd never
 paid_by power (Some z) tail i j h = record { z = z; is = refl; pays = leb-le (switch_energy power i j) ((z + tail) * (energy power i - energy power j)) h }
 
 module _ {rule : Rule} (power : PowerModel) (ok : IsPowerModel power) (image : Image) (notes : List LoopNote) (v : FlowGraph) (tree : LoopView) (plain stored : Numbers) (weighed : IsWeighedBy power image notes v tree rule plain stored)
-    (least : Charged) (sites : List Site) (are : AreSitesOf image v.code (fragments_by power rule.test image v tree (marks_by v tree rule) stored least) sites)
+    (least : Charged) (sites : List Site) (are : AreSitesOf image v.code (fragments_with power rule.test image v tree (marks_by v tree rule) stored least) sites)
     (budget : ℕ → ℕ) (strong : KeepsBudgets power budget rule) where
   abbrev t : Text
   t = text_of image
@@ -128,15 +128,15 @@ module _ {rule : Rule} (power : PowerModel) (ok : IsPowerModel power) (image : I
   -- a level that has met the tests with some of the slack is chosen
   chosen_by : (e u i j more : ℕ) (counts : ℕ → ℕ) (m : Mark) (ms : List Mark) → e < length code.edges → marked e ≡ m ∷ ms → g.callee e ≡ None → g.target e ≡ Some u → more ≤ left_behind g l stored counts e
       → IsMet rule.test (record (told e) { slack = (told e).slack + more }) i j
-      → IsChosenWithin power budget g l w stored least counts e (tail_cycles (costs_of power) (fragments_by power rule.test image v tree marked stored least e)) i j
+      → IsChosenWithin power budget g l w stored least counts e (tail_cycles (costs_of power) (fragments_with power rule.test image v tree marked stored least e)) i j
   chosen_by e u i j more counts m ms lt are_m no_call to small met =
-      let tail : tail_cycles (costs_of power) (fragments_by power rule.test image v tree marked stored least e) ≡ tail_at power marked e =
+      let tail : tail_cycles (costs_of power) (fragments_with power rule.test image v tree marked stored least e) ≡ tail_at power marked e =
       ap (λ q. tail_cycles (costs_of power) (map (fragment_by power rule.test l counted stored (told e)) q)) are_m ∙ (tail_by power rule.test l counted stored (told e) m ms ∙ ap (tail_of power.costs) (sym are_m)) in
       let s = slack_is e u to in
       let r = rest_is e u to in
       let both = and_parts (is_switch_in_budget power budget (record (told e) { slack = (told e).slack + more }) i j) (tables.pays power (told e).least i j) (strong (record (told e) { slack = (told e).slack + more }) i j met.meets) in
       let grown = time_grows (told e).left ((told e).slack + more) (slack g l stored (cost g stored w) e + left_behind g l stored counts e) (period power j) (period power i) (switch_time power i j) (budget i) (budget j) both.0 (omega (arith, s, small)) in
-      let left : rest g l stored e + tail_cycles (costs_of power) (fragments_by power rule.test image v tree marked stored least e) ≡ (told e).left = omega (arith, r, tail) in
+      let left : rest g l stored e + tail_cycles (costs_of power) (fragments_with power rule.test image v tree marked stored least e) ≡ (told e).left = omega (arith, r, tail) in
       let to_end : to_end_after g l least e ≡ to_end_after (graph v) l least e = ap (λ q. to_end_after q l least e) weighed.code_is.graph_is in
       let paid = paid_by power (to_end_after (graph v) l least e) (tail_at power marked e) i j both.1 in
       record {
@@ -163,7 +163,7 @@ module _ {rule : Rule} (power : PowerModel) (ok : IsPowerModel power) (image : I
   leaves_inside k u (Some x) h = (Rattle.std.proofs.lemmas.Bool.and_parts (l.inside k u) _ h).0
 
   abbrev Chosen : ℕ → Shadow → (ℕ → ℕ) → ℕ → Type 0
-  Chosen e h counts j = (j ≡ h.level) ⊎ IsChosenWithin power budget g l w stored least counts e (tail_cycles (costs_of power) (fragments_by power rule.test image v tree marked stored least e)) h.level j
+  Chosen e h counts j = (j ≡ h.level) ⊎ IsChosenWithin power budget g l w stored least counts e (tail_cycles (costs_of power) (fragments_with power rule.test image v tree marked stored least e)) h.level j
 
   at_edge : (e : ℕ) (h : Shadow) (counts : ℕ → ℕ) (j : ℕ) → e < length code.edges → h.level < length power.levels → AreWithin l counts
       → ((k : ℕ) → k < l.loops → is_counted tree k ≡ true → l.inside k (g.source e) ≡ true → h.counters (counter_of tree k) ≡ counts k)
@@ -209,7 +209,7 @@ module _ {rule : Rule} (power : PowerModel) (ok : IsPowerModel power) (image : I
     chosen = λ e class lt is h counts j low within shown stores.
         let held = λ (k : ℕ) (kl : k < l.loops) (ck : is_counted tree k ≡ true) (inside : l.inside k (g.source e) ≡ true). shown (counter_of tree k) k (is_word l (is_counted tree) (counter_of tree) k kl ck) inside in
         let ways = are.ways e class lt is in
-        let there : level_stored (fragments_by power rule.test image v tree marked stored least e) h ≡ Some j = ap (λ fs. level_stored fs h) (sym ways) ∙ stores in
+        let there : level_stored (fragments_with power rule.test image v tree marked stored least e) h ≡ Some j = ap (λ fs. level_stored fs h) (sym ways) ∙ stores in
         subst (λ fs. (j ≡ h.level) ⊎ IsChosenWithin power budget g l w stored least counts e (tail_cycles (costs_of power) fs) h.level j) (sym ways)
         (at_edge e h counts j lt low within held (marked e) refl (marks_of_edge power image notes v tree plain stored weighed e) there);
   }

@@ -36,7 +36,7 @@ use Rattle.stored_runs.specs.Stubbed.{IsOfImage}
 use Rattle.paid_runs.specs.Marked as marked_specs
 use Rattle.power_model.specs.Switches.{costs_of}
 use Rattle.paid_runs.specs.Timely.{weights_of}
-use Rattle.rewritten_runs.specs.Stubs.{Rule, IsWeighedBy, AreSitesOf, marks_by, told_at, fragment_by, fragment_of, fragments_by, extra_weights, stored_weights}
+use Rattle.rewritten_runs.specs.Stubs.{Rule, IsWeighedBy, AreSitesOf, marks_by, told_at, fragment_by, fragment_of, fragments_with, extra_weights, stored_weights}
 use Rattle.rewritten_runs.proofs.Edges.{edge_is, led_class, branch_kind, jump_kind}
 use Rattle.rewritten_runs.proofs.Marked.{program_is, marked_led}
 
@@ -99,7 +99,7 @@ any_from (suc n) q k lt2 h = ⊎_elim
     (cases_lt k n)
 
 module _ {rule : Rule} (power : PowerModel) (image : Image) (notes : List LoopNote) (v : FlowGraph) (tree : LoopView) (plain stored : Numbers) (weighed : IsWeighedBy power image notes v tree rule plain stored)
-    (least : Charged) (sites : List Site) (are : AreSitesOf image v.code (fragments_by power rule.test image v tree (marks_by v tree rule) stored least) sites) where
+    (least : Charged) (sites : List Site) (are : AreSitesOf image v.code (fragments_with power rule.test image v tree (marks_by v tree rule) stored least) sites) where
   abbrev t : Text
   t = text_of image
 
@@ -116,7 +116,7 @@ module _ {rule : Rule} (power : PowerModel) (image : Image) (notes : List LoopNo
   marked = marks_by v tree rule
 
   abbrev frags : ℕ → List Fragment
-  frags = fragments_by power rule.test image v tree marked stored least
+  frags = fragments_with power rule.test image v tree marked stored least
 
   abbrev at_edge : ℕ → ℕ
   at_edge e = edge_at (slice_get code.edges e)

@@ -104,12 +104,12 @@ abbrev pub fragment_of : PowerModel → Loops → List ℕ → Numbers → table
 fragment_of power l counted n told mark = fragment_by power (tables.meets_both power) l counted n told mark
 
 -- by edge, its fragments
-abbrev pub fragments_by : PowerModel → (tables.EdgeNumbers → ℕ → ℕ → Bool) → Image → FlowGraph → LoopView → (ℕ → List Mark) → Numbers → Charged → ℕ → List Fragment
-fragments_by power test image v t marked n least e =
+abbrev pub fragments_with : PowerModel → (tables.EdgeNumbers → ℕ → ℕ → Bool) → Image → FlowGraph → LoopView → (ℕ → List Mark) → Numbers → Charged → ℕ → List Fragment
+fragments_with power test image v t marked n least e =
     map (fragment_by power test (loops v t) (counted_loops t) n (told_at power image v t marked n least e)) (marked e)
 
 abbrev pub fragments_at : PowerModel → Image → FlowGraph → LoopView → (ℕ → List Mark) → Numbers → Charged → ℕ → List Fragment
-fragments_at power image v t marked n least e = fragments_by power (tables.meets_both power) image v t marked n least e
+fragments_at power image v t marked n least e = fragments_with power (tables.meets_both power) image v t marked n least e
 
 -- ---- the marked instructions
 
@@ -172,17 +172,28 @@ pub record IsWeighedBy (power : PowerModel) (image : Image) (notes : List LoopNo
   pub plain_are : AreNumbers (graph v) (loops v t) (plain_weights power image v) plain
   pub stored_are : AreNumbers (graph v) (loops v t) (stored_weights power image v (marks_by v t rule)) stored
 
+-- The same where the marks are handed in, whatever chose them: there are no plain weights then.
+pub record IsWeighedWith (power : PowerModel) (image : Image) (notes : List LoopNote) (v : FlowGraph) (t : LoopView) (marked : ℕ → List Mark) (stored : Numbers) : Type 0 where
+  pub code_is : IsGraphOf (text_of image) v
+  pub tree_is : IsTreeOf v notes t
+  pub counters : AreCounters v t (Ok (counted_loops t))
+  pub stored_are : AreNumbers (graph v) (loops v t) (stored_weights power image v marked) stored
+
 -- by the rule of slacks
 abbrev pub IsWeighed : PowerModel → Image → List LoopNote → FlowGraph → LoopView → (plain stored : Numbers) → Type 0
 IsWeighed power image notes v t plain stored = IsWeighedBy power image notes v t (by_slack power image v t plain) plain stored
 
 -- Its stubs, too: the least cycles under the stored weights, which the tables need, the numbers under the extra weights, and the marked instructions with the
 -- place of their block. A block that is too long for any place is looked for one of 4,194,304 bytes: its last stub is out of reach.
-pub record HasStubsBy (power : PowerModel) (image : Image) (v : FlowGraph) (t : LoopView) (rule : Rule) (stored extra : Numbers) (least : Charged) (sites : List Site) (base : ℕ) : Type 0 where
-  pub least_are : AreCharged (graph v) (loops v t) (stored_weights power image v (marks_by v t rule)) least
-  pub extra_are : AreNumbers (graph v) (loops v t) (extra_weights power v (marks_by v t rule)) extra
-  pub sites_are : AreSitesOf image v.code (fragments_by power rule.test image v t (marks_by v t rule) stored least) sites
+pub record HasStubsWith (power : PowerModel) (test : tables.EdgeNumbers → ℕ → ℕ → Bool) (image : Image) (v : FlowGraph) (t : LoopView) (marked : ℕ → List Mark) (stored extra : Numbers) (least : Charged) (sites : List Site) (base : ℕ) : Type 0 where
+  pub least_are : AreCharged (graph v) (loops v t) (stored_weights power image v marked) least
+  pub extra_are : AreNumbers (graph v) (loops v t) (extra_weights power v marked) extra
+  pub sites_are : AreSitesOf image v.code (fragments_with power test image v t marked stored least) sites
   pub base_is : IsStubBase image (min (block_size sites) 4194304) base
+
+-- the marks and the test of a rule
+abbrev pub HasStubsBy : PowerModel → Image → FlowGraph → LoopView → Rule → (stored extra : Numbers) → Charged → List Site → (base : ℕ) → Type 0
+HasStubsBy power image v t rule stored extra least sites base = HasStubsWith power rule.test image v t (marks_by v t rule) stored extra least sites base
 
 abbrev pub HasStubs : PowerModel → Image → FlowGraph → LoopView → (plain stored extra : Numbers) → Charged → List Site → (base : ℕ) → Type 0
 HasStubs power image v t plain stored extra least sites base = HasStubsBy power image v t (by_slack power image v t plain) stored extra least sites base

@@ -1,4 +1,4 @@
-use Rattle.level_tables.proofs.Constant.{both_in_budget, both_in_time}
+use Rattle.level_tables.proofs.Budgets.{both_in_budget, both_in_time}
 use Rattle.level_tables.proofs.Least.{first_are, least_are}
 use Rattle.level_tables.proofs.budget_laws.Goals as goal
 

@@ -1,6 +1,6 @@
 use Rattle.std.proofs.Common.{◌≡◌, ◌<◌, ℕ, false}
-use Rattle.level_tables.specs.Budgets.{budget_at, meets_in_budget}
-use Rattle.level_tables.proofs.budgets.entry_within.Given as goal
+use Rattle.level_tables.specs.Budgets.{meets_in_budget, budget_at}
+use Rattle.level_tables.proofs.entry_within.Given as goal
 
 abbrev pub invariant-loop-l : goal.invariant-loop-l
 invariant-loop-l l = record {

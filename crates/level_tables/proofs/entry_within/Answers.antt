@@ -1,8 +1,8 @@
 use Rattle.std.proofs.Common.{arith, rules}
 use Rattle.level_tables.specs.Tables.{EdgeNumbers}
-use Rattle.level_tables.specs.Budgets.{budget_at, meets_in_budget}
+use Rattle.level_tables.specs.Budgets.{meets_in_budget, budget_at}
 use Rattle.level_tables.proofs.Searching.{first-some, first-none}
-use Rattle.level_tables.proofs.budgets.entry_within.Goals as goal
+use Rattle.level_tables.proofs.entry_within.Goals as goal
 
 pub returns-then-pays-clause-entry : goal.returns-then-pays-clause-entry
 returns-then-pays-clause-entry c =

@@ -1,0 +1,13 @@
+//! Images whose switches of level stand on chosen edges, and whose levels keep budgets.
+#![tactic(auto)]
+
+mod pacing;
+mod scaling;
+mod stubs;
+mod wanted;
+
+pub use pacing::pace;
+pub use wanted::SwitchSite;
+
+#[cfg(test)]
+mod tests;
