@@ -23,8 +23,7 @@ use Rattle.scale_sites.specs.Counters.{counted_loops, edge_goes_on, goes_on}
 use Rattle.scale_sites.specs.Sites.{is_branch}
 use Rattle.scale_sites.specs.Weights.{some_mark, is_patched, jumps_of, extra_of, extra_weight}
 use Rattle.rewritten_runs.specs.Stubs.{IsWeighed, IsWeighedWith, extra_weights, stored_weights}
-use Rattle.rewritten_runs.proofs.Edges.{call_goes_on}
-use Rattle.rewritten_runs.proofs.Marked.{IsMarkOf, program_is, graph_program, countable, counted_is}
+use Rattle.rewritten_runs.proofs.Laws.{IsMarkOf, call_goes_on, countable, counted_is, graph_program, program_is}
 use Rattle.paced_images.specs.Wanted.{same_kind, marked_where}
 use Rattle.paced_images.specs.Markings.{ChoosesSites}
 use Rattle.paced_images.proofs.WantedKinds.{marks_of_edge, marked_led}

@@ -19,7 +19,7 @@ use Rattle.scale_sites.specs.Sites.{SitesView, is_branch, marks_at_edge}
 use Rattle.scale_sites.specs.Weights.{extra_of, extra_weight}
 use Rattle.rewritten_runs.specs.Stubs.{extra_weights, stored_weights}
 use Rattle.rewritten_runs.proofs.Laws.{worst_grows}
-use Rattle.scaler.proofs.ExtraFacts.{past_end}
+use Rattle.scaler.proofs.Laws.{past_end}
 use Rattle.paced_images.proofs.CallWeights.{extra_are_weights}
 use Rattle.paced_images.specs.Wanted.{marked_where}
 use Rattle.paced_images.specs.Scalings.{HasMarks, IsInRange, IsExtraFound}

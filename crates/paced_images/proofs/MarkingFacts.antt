@@ -16,8 +16,7 @@ use Rattle.power_model.specs.Numbers.{PowerModel}
 use Rattle.power_model.specs.Price.{cycles_of}
 use Rattle.power_model.specs.Price.{time_at}
 use Rattle.power_model.specs.Slowest.{slowest_of, is_in_time}
-use Rattle.scaler.proofs.Laws.{found_below}
-use Rattle.scaler.proofs.HeldRuns.{found_in_time}
+use Rattle.scaler.proofs.Laws.{found_below, found_in_time, numbers_of, past_end, rest_in_range, slack_in_range, turns_in_range}
 use Rattle.cost_theory.specs.Accepted.{AreWeights}
 use Rattle.cost_theory.specs.Graph.{Graph, only}
 use Rattle.cost_theory.specs.Laws.{IsAnalyzed}
@@ -37,10 +36,9 @@ use Rattle.scale_sites.specs.Counters.{AreCounters, counted_loops}
 use Rattle.scale_sites.specs.Sites.{SitesView, is_branch, marks_at_edge}
 use Rattle.scale_sites.specs.Weights.{extra_of, extra_weight, jumps_of}
 use Rattle.rewritten_runs.specs.Stubs.{IsWeighedWith, plain_weights, extra_weights, stored_weights}
-use Rattle.rewritten_runs.proofs.Laws.{listed_weights, weights_listed, weights_count}
+use Rattle.rewritten_runs.proofs.Laws.{listed_weights, weights_count, weights_listed}
 use Rattle.level_tables.specs.declared.by_level.LevelBudgets.{LevelBudgets}
 use Rattle.level_tables.specs.Budgets.{budget_at}
-use Rattle.scaler.proofs.MarkingFacts.{numbers_of}
 use Rattle.scaler.specs.Scalings.{chosen_level, starting_of}
 use Rattle.paced_images.specs.declared.stubs.Marking.{Marking}
 use Rattle.paced_images.specs.Markings.{IsMarking, ChoosesSites}
@@ -48,8 +46,6 @@ use Rattle.paced_images.specs.Paced.{paced_budget}
 use Rattle.paced_images.specs.Scalings.{HasMarks, IsMarkedAt, IsMarkingFound}
 use Rattle.paced_images.specs.Wanted.{marked_where}
 use Rattle.paced_images.proofs.CallWeights.{stored_are_weights}
-use Rattle.scaler.proofs.ExtraFacts.{past_end}
-use Rattle.scaler.proofs.Ranges.{slack_in_range, rest_in_range, turns_in_range}
 
 -- ---- the program
 

@@ -20,8 +20,8 @@ use Rattle.scale_sites.specs.Sites.{marks_at_edge}
 use Rattle.scale_sites.specs.Weights.{switches}
 use Rattle.scale_sites.proofs.Laws.{switches-one}
 use Rattle.rewritten_runs.specs.Stubs.{told_at, fragment_by, loop_of}
-use Rattle.rewritten_runs.proofs.Laws.{marks_all, resets_are, counts_are, IsMarkOf, marks_are, IsQuietMark, in_get, set_distinct}
-use Rattle.scaler.proofs.MarkingLaws.{IsLoud, counted_loop}
+use Rattle.rewritten_runs.proofs.Laws.{IsMarkOf, IsQuietMark, counts_are, in_get, marks_all, marks_are, resets_are, set_distinct}
+use Rattle.scaler.proofs.Laws.{IsLoud, counted_loop}
 use Rattle.paced_images.specs.declared.stubs.Marking.{Marking}
 use Rattle.paced_images.specs.Markings.{IsMarking, test_of}
 use Rattle.paced_images.specs.Wanted.{marked_where}

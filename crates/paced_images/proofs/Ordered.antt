@@ -13,8 +13,7 @@ use Rattle.scale_sites.specs.Marks.{first_counter, is_outermost, switch_of, exit
 use Rattle.scale_sites.proofs.Laws.{switches-one}
 use Rattle.stored_runs.specs.Stubbed.{IsQuiet, AreOrdered}
 use Rattle.rewritten_runs.specs.Stubs.{fragment_by}
-use Rattle.rewritten_runs.proofs.MarkOrder.{IsQuietMark}
-use Rattle.rewritten_runs.proofs.MarkLists.{marks_all, resets_are, counts_are}
+use Rattle.rewritten_runs.proofs.Laws.{IsQuietMark, counts_are, marks_all, resets_are}
 
 quiet_fragment : (power : PowerModel) (test : tables.EdgeNumbers → ℕ → ℕ → Bool) (l : Loops) (counted : List ℕ) (n : Numbers) (told : tables.EdgeNumbers) (m : Mark) → IsQuietMark m → IsQuiet (fragment_by power test l counted n told m)
 quiet_fragment power test l counted n told marks.Switch h = absurd h

@@ -25,11 +25,10 @@ use Rattle.stub_writer.specs.Stubs.{Site}
 use Rattle.stored_runs.specs.Marks.{place_at, fragments_of_class, counters_after, counters_behind}
 use Rattle.paid_runs.specs.Marked as marked_specs
 use Rattle.rewritten_runs.specs.Stubs.{IsWeighed, IsWeighedWith, AreSitesOf, told_at, fragment_by, fragments_with, is_counted, counter_of, set_before}
-use Rattle.rewritten_runs.proofs.Marked.{program_is, graph_program, counted_at, counted_is}
+use Rattle.rewritten_runs.proofs.Laws.{counted_at, counted_is, counter_through, effect, graph_program, others_through, program_is, through}
 use Rattle.paced_images.specs.Markings.{ChoosesSites}
 use Rattle.paced_images.specs.Wanted.{marked_where}
 use Rattle.paced_images.proofs.WantedKinds as Kinds
-use Rattle.rewritten_runs.proofs.MarkLists.{effect, through, counter_through, others_through}
 
 -- ---- fragments act as their marks do
 

@@ -15,7 +15,7 @@ use Rattle.loop_file.specs.Loops.{read_loops}
 use Rattle.scaler.specs.Held.{unscaled}
 use Rattle.paced_images.specs.declared.wanted.SwitchSite.{SwitchSite}
 use Rattle.paced_images.specs.Paced.{IsPaced, IsPacedProgram}
-use Rattle.scaler.proofs.Files.{HoldAnswers, then_stops, then_goes}
+use Rattle.scaler.proofs.Laws.{HoldAnswers, then_goes, then_stops}
 
 module _ (image machine loops : List ℕ) (wanted : List SwitchSite) where
   pub machine_stops : (stop : Stop) → Stops stop (read_machine machine) → HoldAnswers (Err stop) (IsPaced image machine loops wanted)

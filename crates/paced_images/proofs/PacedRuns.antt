@@ -22,17 +22,15 @@ use Rattle.loop_tree.specs.Tree.{loops}
 use Rattle.scale_sites.specs.Counters.{counted_loops}
 use Rattle.stub_writer.specs.Stubs.{Site, block_bytes, patches_from}
 use Rattle.stored_runs.specs.Stubbed.{IsStubbed}
-use Rattle.stored_runs.proofs.Follow.{stubbed_patched}
+use Rattle.stored_runs.proofs.Laws.{stubbed_patched}
 use Rattle.paid_runs.specs.Marked as marked_specs
 use Rattle.paid_runs.specs.Patched.{IsBudgeted}
 use Rattle.paid_runs.specs.Timely.{weights_of}
-use Rattle.paid_runs.proofs.Laws.{budgeted_safe, tables_keep_budgets, weights_of_calls}
-use Rattle.paid_runs.proofs.Words.{counters_of, counted_of}
+use Rattle.paid_runs.proofs.Laws.{budgeted_safe, counted_of, counters_of, tables_keep_budgets, weights_of_calls}
 use Rattle.rewritten_runs.specs.Promise.{KeepsThePromise}
 use Rattle.rewritten_runs.specs.Stubs.{IsWeighed, is_counted, counter_of}
-use Rattle.rewritten_runs.proofs.Laws.{kept_by_tree}
-use Rattle.rewritten_runs.proofs.Marked.{program_is, graph_program, countable, limited}
-use Rattle.scaler.proofs.HeldRuns.{found_in_time}
+use Rattle.rewritten_runs.proofs.Laws.{countable, graph_program, kept_by_tree, limited, program_is}
+use Rattle.scaler.proofs.Laws.{found_in_time}
 use Rattle.paced_images.specs.declared.wanted.SwitchSite.{SwitchSite}
 use Rattle.paced_images.specs.Paced.{paced_budget, paced_test}
 use Rattle.paced_images.specs.Wanted.{wanted_by}

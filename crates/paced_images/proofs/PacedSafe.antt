@@ -20,11 +20,7 @@ use Rattle.rewritten_runs.specs.Promise.{KeepsThePromise}
 use Rattle.scaler.specs.Held.{unscaled}
 use Rattle.scaler.specs.Rewritten.{rewritten_summary}
 use Rattle.scaler.specs.Promise.{FilesKeepThePromise, IsStoredSafely}
-use Rattle.scaler.proofs.Bases.{file_is}
-use Rattle.scaler.proofs.HeldRuns.{found_in_time}
-use Rattle.scaler.proofs.ProgramFacts.{read_again}
-use Rattle.scaler.proofs.Safe.{then_ok, is_unscaled}
-use Rattle.scaler.proofs.SafeRewritten.{near_of}
+use Rattle.scaler.proofs.Laws.{file_is, found_in_time, is_unscaled, near_of, read_again, then_ok}
 use Rattle.paced_images.specs.declared.wanted.SwitchSite.{SwitchSite}
 use Rattle.paced_images.specs.Paced.{IsPaced, IsPacedProgram, IsProgramPaced}
 use Rattle.paced_images.specs.Wanted.{marked_at}

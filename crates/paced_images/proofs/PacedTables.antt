@@ -30,7 +30,7 @@ use Rattle.paid_runs.specs.Tabled.{told_on, IsEntryBy, IsEdgeTabledBy, AreTabled
 use Rattle.paid_runs.specs.Counters.{by_words}
 use Rattle.paid_runs.proofs.Laws.{is_word}
 use Rattle.rewritten_runs.specs.Stubs.{IsWeighed, IsWeighedWith, AreSitesOf, told_at, tail_at, fragment_by, fragments_with, loop_of, is_counted, counter_of, stored_weights}
-use Rattle.rewritten_runs.proofs.Marked.{IsMarkOf, counted_is, loop_is}
+use Rattle.rewritten_runs.proofs.Laws.{IsMarkOf, counted_is, loop_is}
 use Rattle.paced_images.specs.Markings.{ChoosesSites}
 use Rattle.paced_images.specs.Wanted.{marked_where}
 use Rattle.paced_images.proofs.CallWeights.{calls_unmarked}

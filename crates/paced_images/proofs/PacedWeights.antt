@@ -37,9 +37,7 @@ use Rattle.paid_runs.specs.Marked as marked_specs
 use Rattle.power_model.specs.Switches.{costs_of}
 use Rattle.paid_runs.specs.Timely.{weights_of}
 use Rattle.rewritten_runs.specs.Stubs.{IsWeighed, IsWeighedWith, AreSitesOf, told_at, fragment_by, fragments_with, extra_weights, stored_weights}
-use Rattle.rewritten_runs.proofs.Edges.{edge_is, led_class, branch_kind, jump_kind}
-use Rattle.rewritten_runs.proofs.Marked.{program_is}
-use Rattle.rewritten_runs.proofs.Weighed.{placed}
+use Rattle.rewritten_runs.proofs.Laws.{branch_kind, edge_is, jump_kind, led_class, placed, program_is}
 use Rattle.paced_images.specs.Markings.{ChoosesSites}
 use Rattle.paced_images.specs.Wanted.{marked_where}
 use Rattle.paced_images.proofs.WantedKinds.{marked_led}

@@ -35,11 +35,7 @@ use Rattle.stored_runs.specs.Marks.{place_at, fragments_of_class}
 use Rattle.stored_runs.specs.Stubbed.{IsSafe, IsSafeWay, IsOfImage, AreSafeWays, IsSafeSite, AreOrdered}
 use Rattle.paid_runs.proofs.Laws.{targets_are_words}
 use Rattle.rewritten_runs.specs.Stubs.{IsWeighed, IsWeighedWith, AreSitesOf, told_at, fragment_by, fragments_with, loop_of}
-use Rattle.rewritten_runs.proofs.Edges.{edge_is}
-use Rattle.rewritten_runs.proofs.Marked.{IsMarkOf, program_is, graph_program, shadow_of, counted_is}
-use Rattle.rewritten_runs.proofs.MarkOrder.{in_get, set_distinct}
-use Rattle.rewritten_runs.proofs.TableLaws.{shift_fits}
-use Rattle.rewritten_runs.proofs.SafeSites.{branch_fits, place_of_site}
+use Rattle.rewritten_runs.proofs.Laws.{IsMarkOf, branch_fits, counted_is, edge_is, graph_program, in_get, place_of_site, program_is, set_distinct, shadow_of, shift_fits}
 use Rattle.std.specs.List.{range_with_len}
 use Rattle.stored_runs.specs.Stubbed.{IsTable}
 use Rattle.level_tables.specs.Tables as tables

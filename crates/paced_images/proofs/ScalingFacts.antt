@@ -40,7 +40,7 @@ use Rattle.paced_images.specs.Paced.{IsPacedProgram, paced_test}
 use Rattle.paced_images.specs.Wanted.{wanted_by, marked_where}
 use Rattle.scaler.specs.Scalings.{IsBlockGiven}
 use Rattle.paced_images.specs.Scalings.{IsMarkedAt, IsMarkingFound, IsUnfitScaling, IsExtraFound, IsInRange, AreStubsOf, IsMarkedProgram, IsScaled, IsScalingFound, IsMarkedFound, HasMarks, AreStubsFound}
-use Rattle.scaler.proofs.Safe.{found_below}
+use Rattle.scaler.proofs.Laws.{found_below}
 
 -- ---- stops
 

@@ -20,8 +20,8 @@ use Rattle.stub_writer.specs.Stubs.{Site, block_size, block_bytes, patches_from,
 use Rattle.stored_laws.specs.StoredView.{IsStorable}
 use Rattle.stored_runs.specs.Stubbed.{AreAscending, IsSafeSite}
 use Rattle.rewritten_runs.specs.Stubs.{IsWeighedWith, HasStubsWith, loop_of}
-use Rattle.rewritten_runs.proofs.Short.{block_short, block_bytes_len}
-use Rattle.scaler.proofs.Safe.{found_below}
+use Rattle.rewritten_runs.proofs.Laws.{block_bytes_len, block_short}
+use Rattle.scaler.proofs.Laws.{found_below}
 use Rattle.paced_images.specs.declared.scaling.Scaling.{Scaling}
 use Rattle.paced_images.specs.declared.wanted.SwitchSite.{SwitchSite}
 use Rattle.paced_images.specs.Paced.{paced_test}

@@ -8,8 +8,8 @@ use Rattle.scale_base.specs.declared.fragments.Fragment.{Fragment}
 use Rattle.cycle_laws.specs.Charged.{Charged}
 use Rattle.loop_tree.specs.Noted.{node_address}
 use Rattle.stub_writer.specs.Fragments.{IsFragment, IsShadow}
-use Rattle.rewritten_runs.proofs.Laws.{in_get, set_distinct, shift_fits, depth, few_marks, edge_is, IsMarkOf, program_is, graph_program, marks_are, counted_is, loop_count, shadow_of}
-use Rattle.scaler.proofs.EdgeBlocks.{map_none}
+use Rattle.rewritten_runs.proofs.Laws.{IsMarkOf, counted_is, depth, edge_is, few_marks, graph_program, in_get, loop_count, marks_are, program_is, set_distinct, shadow_of, shift_fits}
+use Rattle.scaler.proofs.Laws.{IsMarkable, map_none, markable, numbers_of, weighed_by}
 use Rattle.scale_base.specs.declared.instruction.Instr.{Instr}
 use Rattle.scale_base.specs.Image.{Image}
 use Rattle.power_model.specs.Numbers.{PowerModel}
@@ -36,8 +36,6 @@ use Rattle.scale_sites.specs.Marks.{AreLoopsOnce}
 use Rattle.rewritten_runs.specs.Stubs.{IsWeighed, IsWeighedWith, marks_by_slack, plain_weights, stored_weights, told_at, fragment_by, fragments_with, loop_of}
 use Rattle.level_tables.specs.Tables.{EdgeNumbers, shift_of, row_by, all_rows_by}
 use Rattle.std.proofs.lemmas.List.FromFn.{length-map-range_with_len}
-use Rattle.scaler.proofs.MarkingFacts.{numbers_of, weighed_by}
-use Rattle.scaler.proofs.MarkedKinds.{IsMarkable, markable}
 use Rattle.paced_images.specs.Wanted.{same_kind, marked_where}
 use Rattle.paced_images.specs.Markings.{ChoosesSites}
 use Rattle.scaler.specs.Planned.{IsSitesKind}

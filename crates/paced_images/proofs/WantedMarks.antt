@@ -13,7 +13,7 @@ use Rattle.scale_sites.specs.Counters.{AreCounters, counted_loops}
 use Rattle.scale_sites.specs.Marks.{marks_of}
 use Rattle.scale_sites.specs.Sites.{SitesView, AreWantedSites, is_branch, flag_at, marks_where, marks_at_edge}
 use Rattle.scale_sites.specs.Weights.{jumps_of}
-use Rattle.scaler.proofs.SiteFacts.{jumps_same}
+use Rattle.scaler.proofs.Laws.{jumps_same}
 use Rattle.paced_images.specs.declared.wanted.SwitchSite.{SwitchSite}
 use Rattle.paced_images.specs.Flags.{AreFlags}
 use Rattle.paced_images.specs.Markings.{ChoosesSites}

@@ -7,4 +7,4 @@ pub use Rattle.paid_runs.proofs.Aligned.{AreAligned, IsFirst, counted_after, ext
 pub use Rattle.paid_runs.proofs.Graphs.{loops_are_countable, targets_are_words, weights_of_calls}
 pub use Rattle.paid_runs.proofs.Kept.{kept_followed, kept_patched}
 pub use Rattle.paid_runs.proofs.Shown.{counts_shown}
-pub use Rattle.paid_runs.proofs.Words.{countable_of, counted_of, is_word, word_of_loop}
+pub use Rattle.paid_runs.proofs.Words.{countable_of, counted_of, counters_of, is_word, word_of_loop}

@@ -1,8 +1,7 @@
 use Rattle.std.proofs.Common.{rules}
 use Rattle.std.proofs.lemmas.Result.{err_from_is_err_and}
-use Rattle.scaler.proofs.Bases.{file_is}
+use Rattle.scaler.proofs.Laws.{file_is, no_key, read_again}
 use Rattle.paced_images.proofs.PacedFiles.{machine_stops, image_stops, key_stops, loops_stop, program_answers}
-use Rattle.scaler.proofs.ProgramFacts.{no_key, read_again}
 use Rattle.paced_images.proofs.pacing.pace_files.Goals as goal
 
 pub pace_program-requires-clause-read : goal.pace_program-requires-clause-read

@@ -11,7 +11,7 @@ use Rattle.paced_images.specs.declared.scaling.Scaling.{Scaling}
 use Rattle.paced_images.specs.declared.wanted.SwitchSite.{SwitchSite}
 use Rattle.paced_images.specs.Paced.{IsPacedProgram}
 use Rattle.paced_images.specs.Scalings.{IsMarkedFound, IsScalingFound}
-use Rattle.scaler.proofs.Files.{HoldAnswers}
+use Rattle.scaler.proofs.Laws.{HoldAnswers}
 use Rattle.paced_images.proofs.ProgramFacts.{program_given}
 use Rattle.paced_images.proofs.pacing.pace_program.Goals as goal
 

@@ -1,7 +1,7 @@
 use Rattle.std.proofs.Common.{length, sym, subst}
 use Rattle.std.proofs.lemmas.Result.{err_from_is_err_and}
 use Rattle.paced_images.specs.Flags.{AreFlags}
-use Rattle.scaler.proofs.ScalingFacts.{counted_as}
+use Rattle.scaler.proofs.Laws.{counted_as}
 use Rattle.paced_images.proofs.ScalingFacts.{counters_stop, marking_stops}
 use Rattle.paced_images.proofs.WantedMarks.{has_marks}
 use Rattle.paced_images.proofs.scaling.marked_of.Goals as goal

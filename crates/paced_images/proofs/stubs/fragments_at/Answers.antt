@@ -6,7 +6,7 @@ use Rattle.loop_tree.specs.Tree.{loops}
 use Rattle.rewritten_runs.specs.Stubs.{told_at, fragment_by}
 use Rattle.paced_images.specs.Wanted.{marked_where}
 use Rattle.paced_images.specs.Markings.{test_of}
-use Rattle.scaler.proofs.MarkingLaws.{get_some, map_take_more, take_all, step_is}
+use Rattle.scaler.proofs.Laws.{get_some, map_take_more, step_is, take_all}
 use Rattle.paced_images.proofs.stubs.fragments_at.Goals as goal
 
 pub loop-mark-init : goal.loop-mark-init

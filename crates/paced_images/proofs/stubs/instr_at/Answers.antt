@@ -1,7 +1,7 @@
 use Rattle.std.proofs.Common.{sym, ap, ◌∙◌}
 use Rattle.std.specs.Prelude.{is_some}
 use Rattle.code_graph.proofs.Laws.{instr_stored}
-use Rattle.scaler.proofs.SiteLists.{decoded}
+use Rattle.scaler.proofs.Laws.{decoded}
 use Rattle.paced_images.proofs.stubs.instr_at.Goals as goal
 
 pub returns-clause-some : goal.returns-clause-some

@@ -7,7 +7,7 @@ use Rattle.rewritten_runs.specs.Stubs.{fragments_with}
 use Rattle.paced_images.specs.Wanted.{marked_where}
 use Rattle.paced_images.specs.Markings.{test_of}
 use Rattle.scaler.specs.Markings.{AreMarkedEdges}
-use Rattle.scaler.proofs.EdgeBlocks.{marked_none, marked_skip, marked_push, marked_all, short_row, length_none, map_none, map_some}
+use Rattle.scaler.proofs.Laws.{length_none, map_none, map_some, marked_all, marked_none, marked_push, marked_skip, short_row}
 use Rattle.paced_images.proofs.stubs.stub_edges.Goals as goal
 use Rattle.paced_images.proofs.stubs.stub_edges.Goals.{then-not-is_empty+in_ok-fragments+in_ok-push, else-not-is_empty}
 

@@ -6,9 +6,8 @@ use Rattle.rewritten_runs.specs.Stubs.{fragments_with}
 use Rattle.paced_images.specs.Wanted.{marked_where}
 use Rattle.paced_images.specs.Markings.{test_of}
 use Rattle.scaler.specs.Markings.{AreMarkedEdges, AreEdgesOfNode}
-use Rattle.scaler.proofs.EdgeBlocks.{length_none}
+use Rattle.scaler.proofs.Laws.{AreStubsBelow, decoded_some, edge_decodes, length_none, sites_found, some_edge, stubs_none, stubs_push, stubs_skip}
 use Rattle.paced_images.proofs.WantedKinds.{good_fragments, fragments_mark}
-use Rattle.scaler.proofs.SiteLists.{AreStubsBelow, stubs_none, stubs_skip, stubs_push, sites_found, some_edge, edge_decodes, decoded_some}
 use Rattle.paced_images.proofs.stubs.stub_sites.Goals as goal
 use Rattle.paced_images.proofs.stubs.stub_sites.Goals.{then-not-is_empty+in-Some+in_ok-push, then-not-is_empty+in_default, else-not-is_empty}
 

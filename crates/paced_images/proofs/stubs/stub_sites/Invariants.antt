@@ -5,7 +5,7 @@ use Rattle.loop_file.specs.declared.notes.LoopNote.{LoopNote}
 use Rattle.rewritten_runs.specs.Stubs.{IsWeighedWith, fragments_with}
 use Rattle.paced_images.specs.Wanted.{marked_where}
 use Rattle.paced_images.specs.Markings.{IsMarking, test_of}
-use Rattle.scaler.proofs.SiteLists.{AreStubsBelow}
+use Rattle.scaler.proofs.Laws.{AreStubsBelow}
 use Rattle.paced_images.proofs.stubs.stub_sites.Given as goal
 
 abbrev pub invariant-loop-k : goal.invariant-loop-k
