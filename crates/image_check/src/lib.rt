@@ -1,4 +1,5 @@
 //! Whether an image of other make is a safe rewriting of an original, and what such an image promises.
+//! Tests: crates/answer_tests/src/checking.rt.
 #![tactic(auto)]
 
 ghost use Rattle.image_check.specs.Laws.{LoadedBytesAreSmall, SafeImagesAreTuned, SafeImagesKeepRuns, SafeImagesKeepThePromise};

@@ -1,5 +1,6 @@
 //! Stored runs of kept runs end in time, never raise their level, and save energy, where the levels in their tables meet two tests: that what is
 //! left is in time, and that the least cycles to an end pay for the switch.
+//! Tests: none, since nothing of it runs.
 #![tactic(auto)]
 
 ghost use Rattle.paid_runs.specs.Laws.{BudgetedRunsAreSafe, StoredRunsArePaid, StoredRunsKeepBudgets, StoredRunsSaveEnergy, StubsAreBounded, TablesKeepBudgets, TablesOfKeepTime, TunedImagesAreBudgeted, TunedRunsAreSafe};

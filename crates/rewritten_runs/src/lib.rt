@@ -1,4 +1,5 @@
 //! Runs of rewritten images: they follow those of the original, in time, and never faster than before.
+//! Tests: none, since nothing of it runs.
 #![tactic(auto)]
 
 ghost use Rattle.rewritten_runs.specs.Laws.{BudgetedImagesFollow, ChosenImagesFollow, RewrittenImagesFollow};

@@ -1,4 +1,5 @@
 //! Where a program gets switches of level and counters of turns, and what their stubs cost.
+//! Tests: crates/answer_tests/src/rewriting.rt.
 #![tactic(auto)]
 
 mod cost;

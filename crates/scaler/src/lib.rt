@@ -1,4 +1,5 @@
 //! What a command makes of an image, a machine file and a loop file.
+//! Tests: crates/answer_tests/src/rewriting.rt.
 #![tactic(auto)]
 
 ghost use Rattle.std.specs.Prelude.{◌≤◌, ℕ, Bool, List, length, Ok};
