@@ -1,4 +1,5 @@
 //! Images whose switches of level stand on chosen edges, and whose levels keep budgets.
+//! Tests: crates/answer_tests/src/paced_images.rt.
 #![tactic(auto)]
 
 mod pacing;
@@ -8,6 +9,3 @@ mod wanted;
 
 pub use pacing::pace;
 pub use wanted::SwitchSite;
-
-#[cfg(test)]
-mod tests;
