@@ -36,11 +36,11 @@ impl TargetList {
     }
 
     /// Address `k`.
-    pub fn get(&self, k: usize) -> u32
+    pub fn get(&self, k: usize) -> &u32
         requires { k < length self.now }
-        ensures { slice_get self.now k ≡ Some result }
+        ensures { slice_get self.now k ≡ Some result.now }
     {
-        self.items[k]
+        &self.items[k]
     }
 
     /// The addresses.

@@ -1,6 +1,6 @@
 //! The report of a run.
 
-ghost use Rattle.std.specs.Prelude.{◌≡◌, ◌<◌, length, None, Some, IfOk, OnOk};
+ghost use Rattle.std.specs.Prelude.{◌≡◌, ◌<◌, length, None, Some, IfOk, OnOk, option_map};
 ghost use Rattle.scale_base.specs.Run.{starting_level, setting_of, start_of};
 ghost use Rattle.keep_monitor.specs.Counted.{counted_run};
 ghost use Rattle.power_model.specs.Report.{report_view};
@@ -19,7 +19,9 @@ use scale_base::{NoMemory, Range};
 use std::alloc::Global;
 
 /// Where the keyed segment lies, if there is one.
-fn keyed_range(view: &ImageView<'_>) -> Option<Range> {
+fn keyed_range(view: &ImageView<'_>) -> Option<Range>
+    ensures { result ≡ option_map (λ k. k.range) view.now.keyed_segment }
+{
     match view.keyed() {
         Some(keyed) => Some(keyed.range),
         None => None,
