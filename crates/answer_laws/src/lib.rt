@@ -1,6 +1,7 @@
 //! Laws that two answers about one program agree: the graphs of its code, its loops and its numbers, or why these are refused.
 //! Two graphs may differ in the numbers of functions after the first, and two refusals in the cycle that they name.
 //! The definitions stand in `specs/`. The laws are the contracts of functions with empty bodies.
+//! Tests: none, since nothing of it runs.
 #![tactic(auto)]
 
 ghost use Rattle.answer_laws.specs.Laws.{GraphIsNotRefused, CodeRefusalsAgree, GraphsAreRenumbered, WeightsAgree, TreeIsNotRefused, LoopRefusalsAgree, TreesAgree, NumbersAreAlike, ChargedAreAlike};

@@ -1,4 +1,5 @@
 //! The control-flow graph of a program's reached code: nodes by address, edges, functions, calls, basic blocks and the weights of edges.
+//! Tests: crates/graph_tests/src/graphs.rt.
 #![tactic(auto)]
 
 mod blocks;

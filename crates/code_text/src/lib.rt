@@ -1,4 +1,5 @@
 //! The words of the text of an image: the address of each, and what it says of the way on. RISC-V Unprivileged ISA, RV32I.
+//! Tests: crates/graph_tests/src/text_words.rt.
 #![tactic(auto)]
 
 ghost use Rattle.code_text.specs.Laws.{KindsAreOfStoredWords, InstructionsAreOfStoredWords, KnownNumbersArePut, ImageNumbersArePut};

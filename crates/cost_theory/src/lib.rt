@@ -5,6 +5,7 @@
 //! Worst cycles with bounded loops are the longest path of worst-case execution time analysis (Wilhelm and others, ACM
 //! Transactions on Embedded Computing Systems, 2008). The cycles left along a run are the remaining worst-case cycles of
 //! intra-task voltage scheduling (Shin, Kim and Lee, IEEE Design & Test of Computers, 2001).
+//! Tests: none, since nothing of it runs.
 #![tactic(auto)]
 
 mod flow;

@@ -1,5 +1,6 @@
 //! Laws of the worst and of the least cycles of a program: numbers of its nodes, each from the edges of one node and the numbers behind them,
 //! as one pass over the nodes, backwards along plain edges, finds them; the least ones where loops turn at least so often before they are left.
+//! Tests: none, since nothing of it runs.
 #![tactic(auto)]
 
 ghost use Rattle.cycle_laws.specs.Passes.{ChargedOn, ChargedBack, ChargedInto, HeadersAreDifferent, BackIsOfHeader, PlainOver, ClosingOver, IterationIsClosing, WorstIsPlain, PlainWithinWorst};

@@ -1,4 +1,5 @@
 //! Reads ELF images, borrowed from their bytes.
+//! Tests: crates/file_tests/src/elf_files.rt.
 #![tactic(auto)]
 
 mod fields;
@@ -19,6 +20,3 @@ pub use segments::{end_of, overlaps};
 pub use sorted_symbols::SortedSymbols;
 pub use tables::{program_header_count, read_program_header};
 pub use view::{ImageView, Segment, read_image};
-
-#[cfg(test)]
-mod tests;

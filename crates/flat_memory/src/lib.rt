@@ -1,4 +1,5 @@
 //! Memories of a program: a byte at each address, and who may use it.
+//! Tests: crates/machine_tests/src/memories.rt.
 #![tactic(auto)]
 
 mod block;
@@ -20,6 +21,3 @@ pub use loading::load_list;
 pub use memory::Memory;
 pub use page_loading::load_pages;
 pub use page_memory::PageMemory;
-
-#[cfg(test)]
-mod tests;

@@ -1,4 +1,5 @@
 //! What stands in the stubs of an image that some other tool may have made of an original, or why such an image is not known to be safe.
+//! Tests: crates/answer_tests/src/scanning.rt.
 #![tactic(auto)]
 
 mod agreeing;

@@ -1,4 +1,5 @@
 //! The image of a program that takes the least energy on given inputs, of several that are safe.
+//! Tests: crates/answer_tests/src/tuning.rt.
 #![tactic(auto)]
 
 mod agreeing;

@@ -1,5 +1,6 @@
 //! Algorithms over numbers, for graphs and their loops: the places of a list by their keys, an order of numbers along arcs, the
 //! bodies of natural loops, and how loops are nested.
+//! Tests: bodies.rt, chains.rt, nesting.rt and orders.rt in crates/graph_tests/src/.
 #![tactic(auto)]
 
 mod bodies;

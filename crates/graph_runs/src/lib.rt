@@ -1,6 +1,7 @@
 //! Runs of the machine over the graph of the reached code of a text: each completed step is a transition over an edge that costs what
 //! the step costs. Costs are cycles, by the class of the instruction. RISC-V Unprivileged ISA, RV32I; the worst cycles are those of
 //! WCET analysis, the greatest cost of a walk that keeps the loops' bounds.
+//! Tests: none, since nothing of it runs.
 #![tactic(auto)]
 
 ghost use Rattle.graph_runs.specs.Met.{RunHypothesesAreMet};

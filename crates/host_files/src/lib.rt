@@ -1,4 +1,5 @@
 //! The outside of a program: named files and printed bytes, behind one trait.
+//! Tests: crates/file_tests/src/hosts.rt.
 #![tactic(auto)]
 
 mod host;
@@ -6,8 +7,6 @@ mod mem_host;
 mod never_fails;
 mod real_host;
 mod stored;
-#[cfg(test)]
-mod tests;
 
 pub use host::{Host, HostError, Loaded};
 pub use mem_host::MemHost;

@@ -43,3 +43,5 @@ pub mod AgreeLevels
 pub mod AgreeAnswers
 pub mod Agreed
 pub mod Laws
+pub mod Paced
+pub mod PacedChecks

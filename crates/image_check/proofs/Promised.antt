@@ -1,4 +1,4 @@
--- A safe image keeps the promise.
+-- A safe image keeps the promise, and so does a paced one.
 use Rattle.std.proofs.Common.{◌≡◌, ℕ, zero, suc, ◌+◌, ◌-◌, ◌^◌, ◌<◌, ◌≤◌, Bool, List, [], ◌∷◌, length, Option, Some, None, refl, arith, sym, ap, ◌∙◌, subst}
 use Rattle.std.specs.Prelude.{slice_get, slice_index}
 use Rattle.std.proofs.lemmas.Option.{get_or_from_slice_get}
@@ -25,7 +25,8 @@ use Rattle.rewritten_runs.specs.Promise.{EndsAsPromised}
 use Rattle.rewritten_runs.specs.Followed.{HasEnded}
 use Rattle.rewritten_runs.proofs.Laws.{program_of, kept_by_tree, over_stays, taken, taken_within}
 use Rattle.image_check.specs.Laws.{SafeImagesKeepThePromise}
-use Rattle.image_check.proofs.Tuned.{safe_runs}
+use Rattle.image_check.specs.PacedLaws.{PacedImagesKeepThePromise}
+use Rattle.image_check.proofs.Tuned.{safe_runs, paced_runs}
 
 module _ (power : PowerModel) (original foreign : Image) (sites : List Site) (code : Code) (l : Loops) (is_of : ℕ → ℕ → Bool) (n more : Numbers) (input : List ℕ) (steps status : ℕ) (c : Carried)
     (is_level : starting_level (length power.levels) foreign.keyed_segment < length power.levels)
@@ -127,3 +128,10 @@ promise_kept = λ power ok original_file file original foreign original_is forei
     let k = kept_by_tree v notes tree tree_is original (length power.levels) input steps kept.carried kept.kept in
     let r = safe_runs power ok original_file file original foreign original_is foreign_is bytes no_key v.code (loops v tree) (noted_loops notes).inside prog (small_bounds v notes tree tree_is) found owner n least more s input steps kept.carried k in
     promised power original foreign _ v.code (loops v tree) _ n more input steps status kept.carried s.start r exited
+
+pub paced_promise : PacedImagesKeepThePromise
+paced_promise = λ power ok budget original_file file original foreign original_is foreign_is bytes no_key notes v tree graph_is tree_is found owner n least more s input steps status kept exited.
+    let prog = program_of (text_of original) v notes tree graph_is tree_is in
+    let k = kept_by_tree v notes tree tree_is original (length power.levels) input steps kept.carried kept.kept in
+    let r = paced_runs power ok budget original_file file original foreign original_is foreign_is bytes no_key v.code (loops v tree) (noted_loops notes).inside prog (small_bounds v notes tree tree_is) found owner n least more s input steps kept.carried k in
+    promised power original foreign _ v.code (loops v tree) _ n more input steps status kept.carried s.start r.0 exited

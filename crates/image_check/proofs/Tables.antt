@@ -1,5 +1,5 @@
--- The tables of a safe image: its entries are levels, and lead to a lower one only where it may be chosen.
-use Rattle.std.proofs.Common.{◌≡◌, inl, inr, ℕ, zero, suc, ◌+◌, ◌*◌, ◌/◌, ◌^◌, ◌<◌, ◌≤◌, true, List, [], ◌∷◌, length, refl, arith, sym, ap, ◌∙◌, subst, Some, None}
+-- The tables of an image whose entries meet a test: they are levels, and lead to a lower one only where the test is met.
+use Rattle.std.proofs.Common.{◌≡◌, inl, inr, ℕ, zero, suc, ◌+◌, ◌*◌, ◌/◌, ◌^◌, ◌<◌, ◌≤◌, Bool, true, List, [], ◌∷◌, length, refl, arith, sym, ap, ◌∙◌, subst, Some, None}
 use Rattle.std.specs.Prelude.{All, slice_index}
 use Rattle.std.proofs.lemmas.List.Elements.{All-nil, All-cons}
 use Rattle.scale_base.specs.declared.fragments.Fragment.TheVariants as fragments
@@ -16,11 +16,11 @@ use Rattle.stored_runs.specs.Stubbed.{AreOrdered, IsQuiet}
 use Rattle.stored_runs.specs.Patched.{IsSafeFragment}
 use Rattle.power_model.specs.Switches.{costs_of}
 use Rattle.level_tables.specs.Tables.{EdgeNumbers, at_row}
-use Rattle.paid_runs.specs.Tabled.{told_on, IsSafeEntry, IsEdgeTabledBy}
+use Rattle.paid_runs.specs.Tabled.{told_on, IsEntryBy, IsEdgeTabledBy}
 use Rattle.foreign_scan.specs.declared.fragment.ForeignFragment.{ForeignFragment}
 use Rattle.foreign_scan.specs.declared.fragment.ForeignFragment.TheVariants.{Switch, Exit, Reset, Count}
 use Rattle.foreign_scan.specs.Form.{IsForeign, ChoosesNone, FirstChooses}
-use Rattle.image_check.specs.Safe.{Owner, owner_bound, words_from, with_rows, all_with_rows, IsSafeWord, AreSafeWords}
+use Rattle.image_check.specs.Safe.{Owner, owner_bound, words_from, with_rows, all_with_rows, IsWordBy, AreWordsBy}
 use Rattle.image_check.specs.Laws.{is_owner}
 use Rattle.image_check.proofs.Owning.{is_own}
 
@@ -39,15 +39,15 @@ word_of_row image table (suc n) (suc j) lt =
 
 -- ---- entries
 
-not_higher : (power : PowerModel) (told : EdgeNumbers) (i j : ℕ) → IsSafeEntry power told i j → j ≤ i
-not_higher power told i j (inl same) = omega (arith, same)
-not_higher power told i j (inr lower) = let low = lower.0 in omega (arith, low)
+not_higher : (meets : EdgeNumbers → ℕ → ℕ → Bool) (told : EdgeNumbers) (i j : ℕ) → IsEntryBy meets told i j → j ≤ i
+not_higher meets told i j (inl same) = omega (arith, same)
+not_higher meets told i j (inr lower) = let low = lower.0 in omega (arith, low)
 
--- the entries of a safe word are levels
-pub is_table : (power : PowerModel) (told : EdgeNumbers) (word : ℕ) → word < 2 ^ 32 → IsSafeWord power told word → stubbed.IsTable (length power.levels) word
-is_table power told word small safe = (small, λ i low. let at_most = not_higher power told i (four_bits word i) (safe i low) in omega (arith, at_most, low))
+-- the entries of such a word are levels
+pub is_table : (power : PowerModel) (meets : EdgeNumbers → ℕ → ℕ → Bool) (told : EdgeNumbers) (word : ℕ) → word < 2 ^ 32 → IsWordBy power meets told word → stubbed.IsTable (length power.levels) word
+is_table power meets told word small safe = (small, λ i low. let at_most = not_higher meets told i (four_bits word i) (safe i low) in omega (arith, at_most, low))
 
-module _ (power : PowerModel) (image : Image) (l : Loops) (owner : Owner) (n : Numbers) (bytes : (a : ℕ) → loaded_byte image a < 256) where
+module _ (power : PowerModel) (meets : EdgeNumbers → ℕ → ℕ → Bool) (image : Image) (l : Loops) (owner : Owner) (n : Numbers) (bytes : (a : ℕ) → loaded_byte image a < 256) where
   abbrev limits : ℕ → ℕ
   limits c = owner_bound l (owner c)
 
@@ -97,11 +97,11 @@ module _ (power : PowerModel) (image : Image) (l : Loops) (owner : Owner) (n : N
       (rows_are (table + 4) count (λ j lt. (let e : table + 4 * suc j ≡ table + 4 + 4 * j = omega arith in subst (λ a. stubbed.IsTable (length power.levels) (word_at (loaded_byte image) a)) e (h (suc j) (omega (arith, lt))))))
 
   -- the fragments of an edge are safe, where its words are, and each exit's counter has a loop
-  pub safe_all : (told : EdgeNumbers) (fs : List ForeignFragment) → All IsForeign fs → FirstChooses fs → ((counter shift table : ℕ) (rest : List ForeignFragment) → fs ≡ Exit counter shift table ∷ rest → (k : ℕ) × (owner counter ≡ Some k)) → AreSafeWords power image l owner n told fs
+  pub safe_all : (told : EdgeNumbers) (fs : List ForeignFragment) → All IsForeign fs → FirstChooses fs → ((counter shift table : ℕ) (rest : List ForeignFragment) → fs ≡ Exit counter shift table ∷ rest → (k : ℕ) × (owner counter ≡ Some k)) → AreWordsBy power meets image l owner n told fs
       → All (IsSafeFragment (length power.levels) limits) (all_with_rows image l owner fs)
   safe_all told [] h q own safe = All-nil (IsSafeFragment (length power.levels) limits)
   safe_all told (Switch word ∷ fs) h q own safe =
-      All-cons (IsSafeFragment (length power.levels) limits) (fragments.Switch word) (all_with_rows image l owner fs) (is_table power told word (h 0 (Switch word) (omega arith)) safe)
+      All-cons (IsSafeFragment (length power.levels) limits) (fragments.Switch word) (all_with_rows image l owner fs) (is_table power meets told word (h 0 (Switch word) (omega arith)) safe)
       (quiet_all fs (λ k d lt. h (suc k) d (omega (arith, lt))) q)
   safe_all told (Exit counter shift table ∷ fs) h q own safe =
       let o = own counter shift table fs refl in
@@ -111,7 +111,7 @@ module _ (power : PowerModel) (image : Image) (l : Loops) (owner : Owner) (n : N
       let long = words_count image table count in
       let entries : (j : ℕ) → j < count → stubbed.IsTable (length power.levels) (word_at (loaded_byte image) (table + 4 * j)) = λ j lt.
       let same : owner_bound l (owner counter) / 2 ^ shift ≡ l.bound o.0 / 2 ^ shift = ap (λ b. b / 2 ^ shift) bound in
-      is_table power (at_row (l.bound o.0) (n.iteration o.0) shift told j) (word_at (loaded_byte image) (table + 4 * j)) (small_word (table + 4 * j)) (safe o.0 o.1 j (omega (arith, lt, same))) in
+      is_table power meets (at_row (l.bound o.0) (n.iteration o.0) shift told j) (word_at (loaded_byte image) (table + 4 * j)) (small_word (table + 4 * j)) (safe o.0 o.1 j (omega (arith, lt, same))) in
       All-cons (IsSafeFragment (length power.levels) limits) (fragments.Exit counter shift (words_from image table count)) (all_with_rows image l owner fs)
       (form.0, form.1, omega (arith, long), rows_are table count entries)
       (quiet_all fs (λ k d lt. h (suc k) d (omega (arith, lt))) q)
@@ -123,8 +123,8 @@ module _ (power : PowerModel) (image : Image) (l : Loops) (owner : Owner) (n : N
   -- the tables of an edge that leads to a node
   module _ (g : Graph) (w : ℕ → ℕ) (least : Charged) (e to : ℕ) (inside : g.callee e ≡ None) (leads : g.target e ≡ Some to) where
     pub tabled : (fs : List ForeignFragment) → ((counter shift table : ℕ) (rest : List ForeignFragment) → fs ≡ Exit counter shift table ∷ rest → (k : ℕ) × (owner counter ≡ Some k) × (k < l.loops) × (leaves l k (g.source e) (g.target e) ≡ true))
-        → AreSafeWords power image l owner n (told_on g l w n least e (tail_cycles (costs_of power) (all_with_rows image l owner fs))) fs
-        → IsEdgeTabledBy power g l w n least (is_owner owner) e (all_with_rows image l owner fs)
+        → AreWordsBy power meets image l owner n (told_on g l w n least e (tail_cycles (costs_of power) (all_with_rows image l owner fs))) fs
+        → IsEdgeTabledBy power meets g l w n least (is_owner owner) e (all_with_rows image l owner fs)
     tabled [] own safe = tt
     tabled (Switch word ∷ fs) own safe = record { inside = inside; target = to; leads = leads; table = safe }
     tabled (Exit counter shift table ∷ fs) own safe =
@@ -144,7 +144,7 @@ module _ (power : PowerModel) (image : Image) (l : Loops) (owner : Owner) (n : N
             enough = omega (arith, long, same);
             entries = λ j i lt low.
                 let row : j < count = omega (arith, lt, long) in
-                subst (λ x. IsSafeEntry power (at_row (l.bound o.0) (n.iteration o.0) shift (told_on g l w n least e (tail_cycles (costs_of power) (all_with_rows image l owner (Exit counter shift table ∷ fs)))) j) i (four_bits x i))
+                subst (λ x. IsEntryBy meets (at_row (l.bound o.0) (n.iteration o.0) shift (told_on g l w n least e (tail_cycles (costs_of power) (all_with_rows image l owner (Exit counter shift table ∷ fs)))) j) i (four_bits x i))
                 (sym (word_of_row image table count j row)) (safe o.0 o.1 j (omega (arith, row, same)) i low);
           };
         }

@@ -1,4 +1,4 @@
--- A safe image is a tuned one.
+-- A safe image is a tuned one, and a paced image one whose tables keep budgets.
 use Rattle.std.proofs.Common.{◌≡◌, inl, inr, ⊎_elim, ℕ, ◌+◌, ◌%◌, ◌^◌, ◌<◌, ◌≤◌, Bool, true, false, List, ◌∷◌, length, refl, arith, sym, ap, ◌∙◌, subst, slice_get, Option, Some, None}
 use Rattle.std.specs.Prelude.{◌==◌}
 use Rattle.std.specs.List.{sum_by}
@@ -24,25 +24,35 @@ use Rattle.graph_runs.specs.Laws.{IsProgramOf}
 use Rattle.stub_writer.specs.Stubs.{Site, way}
 use Rattle.stored_runs.specs.Marks.{tail_cycles}
 use Rattle.stored_runs.specs.Patched.{IsSafeEdge, AreSafeEdges}
-use Rattle.paid_runs.proofs.Laws.{targets_are_words, tables_of_keep_time, tuned_safe}
+use Rattle.paid_runs.proofs.Laws.{targets_are_words, tables_of_keep_time, tables_keep_budgets, budgeted_safe, tuned_safe}
 use Rattle.power_model.specs.Switches.{costs_of}
-use Rattle.level_tables.specs.Tables.{EdgeNumbers}
+use Rattle.level_tables.specs.Tables.{EdgeNumbers, meets_both}
+use Rattle.level_tables.specs.Budgets.{meets_in_budget}
 use Rattle.paid_runs.specs.Timely.{weights_of}
-use Rattle.paid_runs.specs.Tabled.{told_on, IsEdgeTabledBy, AreTabledOf}
+use Rattle.paid_runs.specs.Tabled.{told_on, IsEdgeTabledBy, AreTabledBy}
 use Rattle.foreign_scan.specs.declared.fragment.ForeignFragment.{ForeignFragment}
 use Rattle.foreign_scan.specs.declared.fragment.ForeignFragment.TheVariants.{Exit}
 use Rattle.foreign_scan.specs.Form.{IsRunOut, IsStub}
-use Rattle.foreign_scan.specs.Scanned.{Found, is_changed, IsChanged, CanBePatched, IsPatch}
-use Rattle.image_check.specs.Safe.{Owner, owner_bound, all_with_rows, place_by, sites_of, clears_on, clears_it, one_where, AreSafeWords, AreSafeOn, IsSafeImage}
+use Rattle.foreign_scan.specs.Scanned.{Found, is_changed, IsChanged, CanBePatched, IsPatch, IsScanned}
+use Rattle.image_check.specs.Safe.{Owner, owner_bound, all_with_rows, place_by, sites_of, clears_on, clears_it, one_where, AreOwners, AreWordsBy, AreOnBy, IsSafeImage}
 use Rattle.image_check.specs.Laws.{is_owner, SafeImagesAreTuned, SafeImagesKeepRuns}
+use Rattle.image_check.specs.Paced.{IsPacedImage}
+use Rattle.image_check.specs.PacedLaws.{PacedImagesAreBudgeted, PacedImagesKeepRuns}
 use Rattle.image_check.proofs.Owning.{patched_kind, counter_for, counters, counted, on_edge}
 use Rattle.image_check.proofs.OnEdges.{reached_word}
 use Rattle.image_check.proofs.Rows.{rows}
 use Rattle.image_check.proofs.AsPatched.{patched}
 use Rattle.image_check.proofs.Tables.{safe_all, ordered, few, tabled}
 
-module _ (power : PowerModel) (original foreign : Image) (code : Code) (l : Loops) (extent : ℕ → ℕ → Bool) (found : Found) (owner : Owner) (n : Numbers) (least : Charged) (more : Numbers) (bytes : (a : ℕ) → loaded_byte foreign a < 256)
-    (prog : IsProgramOf (text_of original) code l extent) (s : IsSafeImage power original foreign code l extent found owner n least more) where
+-- what is used of an image here, whatever test its entries meet
+pub record AreScannedBy (power : PowerModel) (original foreign : Image) (code : Code) (l : Loops) (found : Found) (owner : Owner) (n : Numbers) (least : Charged) (meets : EdgeNumbers → ℕ → ℕ → Bool) : Type 0 where
+  pub scanned : IsScanned original foreign code l found
+  pub owners : AreOwners (text_graph (text_of original) code) code l found owner
+  pub levels : (e : ℕ) → e < (text_graph (text_of original) code).edges
+      → AreOnBy power meets foreign (text_graph (text_of original) code) l owner (weights_of power (text_of original) code (sites_of original foreign code l owner found)) n least found e (slice_get code.edges e)
+
+module _ (power : PowerModel) (original foreign : Image) (code : Code) (l : Loops) (extent : ℕ → ℕ → Bool) (found : Found) (owner : Owner) (n : Numbers) (least : Charged) (meets : EdgeNumbers → ℕ → ℕ → Bool) (bytes : (a : ℕ) → loaded_byte foreign a < 256)
+    (prog : IsProgramOf (text_of original) code l extent) (s : AreScannedBy power original foreign code l found owner n least meets) where
   abbrev t : Text
   t = text_of original
 
@@ -81,8 +91,8 @@ module _ (power : PowerModel) (original foreign : Image) (code : Code) (l : Loop
 
   -- the words of an edge
   safe_words : (e : ℕ) (edge : Edge) → e < g.edges → slice_get code.edges e ≡ Some edge → (to : ℕ) → g.target e ≡ Some to
-      → AreSafeWords power foreign l owner n (told_by e (found edge.at edge.kind)) (found edge.at edge.kind)
-  safe_words e edge lt there to leads = subst (AreSafeOn power foreign g l owner w n least found e) there (s.levels e lt) to leads
+      → AreWordsBy power meets foreign l owner n (told_by e (found edge.at edge.kind)) (found edge.at edge.kind)
+  safe_words e edge lt there to leads = subst (AreOnBy power meets foreign g l owner w n least found e) there (s.levels e lt) to leads
 
   -- ---- a patched instruction
 
@@ -99,13 +109,13 @@ module _ (power : PowerModel) (original foreign : Image) (code : Code) (l : Loop
       let fs_is : found x.at x.kind ≡ found v x.kind = ap (λ a. found a x.kind) here in
       let fs = found v x.kind in
       let own : (counter shift table : ℕ) (others : List ForeignFragment) → fs ≡ Exit counter shift table ∷ others → (k : ℕ) × (owner counter ≡ Some k) = λ counter shift table others is. (let o = own_of e.0 x e.1 e.2 counter shift table others (fs_is ∙ is) in (o.0, o.1)) in
-      let words = subst (λ xs. AreSafeWords power foreign l owner n (told_by e.0 xs) xs) fs_is safe in
+      let words = subst (λ xs. AreWordsBy power meets foreign l owner n (told_by e.0 xs) xs) fs_is safe in
       let many = r.few in
-      let same = few power foreign l owner n bytes fs in
+      let same = few power meets foreign l owner n bytes fs in
       record {
         few = omega (arith, many, same);
-        safe = safe_all power foreign l owner n bytes (told_by e.0 fs) fs r.foreign r.first own words;
-        ordered = ordered power foreign l owner n bytes fs r.first;
+        safe = safe_all power meets foreign l owner n bytes (told_by e.0 fs) fs r.foreign r.first own words;
+        ordered = ordered power meets foreign l owner n bytes fs r.first;
         small = small;
         even = even;
       }
@@ -175,15 +185,15 @@ module _ (power : PowerModel) (original foreign : Image) (code : Code) (l : Loop
   local_by e edge instr.Ecall r can kind within = absurd can
   local_by e edge instr.Ebreak r can kind within = absurd can
 
-  table_on : (e : ℕ) (edge : Edge) → e < g.edges → slice_get code.edges e ≡ Some edge → IsEdgeTabledBy power g l w n least (is_owner owner) e (all_with_rows foreign l owner (found edge.at edge.kind))
+  table_on : (e : ℕ) (edge : Edge) → e < g.edges → slice_get code.edges e ≡ Some edge → IsEdgeTabledBy power meets g l w n least (is_owner owner) e (all_with_rows foreign l owner (found edge.at edge.kind))
   table_on e edge lt there = by_change (is_changed original foreign edge.at) refl
     where
       source : (v : ℕ) × ((f : ℕ) × Reached (kind_at t) t.entry f v) × Within edge (edges_of (kind_at t v) v (call_returns code (kind_at t v))) × (edge.at ≡ v)
       source = edge_of_word (kind_at t) t.entry code prog.reached.lists e edge there
 
-      by_change : (b : Bool) → is_changed original foreign edge.at ≡ b → IsEdgeTabledBy power g l w n least (is_owner owner) e (all_with_rows foreign l owner (found edge.at edge.kind))
+      by_change : (b : Bool) → is_changed original foreign edge.at ≡ b → IsEdgeTabledBy power meets g l w n least (is_owner owner) e (all_with_rows foreign l owner (found edge.at edge.kind))
       by_change false off =
-          subst (λ fs. IsEdgeTabledBy power g l w n least (is_owner owner) e (all_with_rows foreign l owner fs))
+          subst (λ fs. IsEdgeTabledBy power meets g l w n least (is_owner owner) e (all_with_rows foreign l owner fs))
           (sym (s.scanned.found_are.plain edge.at edge.kind (λ c. both_ways (is_changed original foreign edge.at) off c.1))) tt
       by_change true on =
           let word : is_word_address original edge.at ≡ true = ap (is_word_address original) source.3 ∙ reached_word original foreign code l owner found prog.reached s.scanned source.1.0 source.0 source.1.1 in
@@ -195,33 +205,65 @@ module _ (power : PowerModel) (original foreign : Image) (code : Code) (l : Loop
           let local = local_by e edge p.old_instr r p.can_be kind (subst (λ k. Within edge (edges_of k edge.at r)) kind within) in
           let target : g.target e ≡ Some local.1.0 = ◌∙◌ {c = Some local.1.0} (ap edge_to there) local.1.1 in
           let inside : g.callee e ≡ None = callee_word (kind_at t) code.functions code.edges e lt ∙ (ap (λ o. callee_of code.functions (kind_at t (edge_at o))) there ∙ local.0) in
-          tabled power foreign l owner n bytes g w least e local.1.0 inside target (found edge.at edge.kind) (own_of e edge lt there) (safe_words e edge lt there local.1.0 target)
+          tabled power meets foreign l owner n bytes g w least e local.1.0 inside target (found edge.at edge.kind) (own_of e edge lt there) (safe_words e edge lt there local.1.0 target)
 
-  pub all_tabled : AreTabledOf power t code l sites (is_owner owner) n least
+  pub all_tabled : AreTabledBy power meets t code l sites (is_owner owner) n least
   all_tabled = λ e class lt is_class.
       let x = on_edge original foreign code l extent owner found prog s.scanned s.owners e class lt is_class in
-      subst (IsEdgeTabledBy power g l w n least (is_owner owner) e) (sym x.2) (table_on e x.0 lt x.1)
+      subst (IsEdgeTabledBy power meets g l w n least (is_owner owner) e) (sym x.2) (table_on e x.0 lt x.1)
 
 small_limits : (l : Loops) (o : Option ℕ) → ((k : ℕ) → o ≡ Some k → k < l.loops) → ((k : ℕ) → k < l.loops → l.bound k ≤ 2 ^ 31) → owner_bound l o ≤ 2 ^ 31
 small_limits l None low h = omega arith
 small_limits l (Some k) low h = h k (low k refl)
 
+scanned_safe : (power : PowerModel) (original foreign : Image) (code : Code) (l : Loops) (extent : ℕ → ℕ → Bool) (found : Found) (owner : Owner) (n : Numbers) (least : Charged) (more : Numbers)
+    → IsSafeImage power original foreign code l extent found owner n least more → AreScannedBy power original foreign code l found owner n least (meets_both power)
+scanned_safe power original foreign code l extent found owner n least more s = record { scanned = s.scanned; owners = s.owners; levels = s.levels }
+
+scanned_paced : (power : PowerModel) (budget : ℕ → ℕ) (original foreign : Image) (code : Code) (l : Loops) (extent : ℕ → ℕ → Bool) (found : Found) (owner : Owner) (n : Numbers) (least : Charged) (more : Numbers)
+    → IsPacedImage power budget original foreign code l extent found owner n least more → AreScannedBy power original foreign code l found owner n least (meets_in_budget power budget)
+scanned_paced power budget original foreign code l extent found owner n least more s = record { scanned = s.scanned; owners = s.owners; levels = s.levels }
+
 pub safe_tuned : SafeImagesAreTuned
-safe_tuned = λ power ok original_file file original foreign original_is foreign_is bytes no_key code l extent prog bounds found owner n least more s. record {
-  power_is = ok;
-  patched_is = patched original_file file original foreign original_is foreign_is bytes no_key code l owner found prog.reached s.scanned (rows original foreign code l extent owner found prog s.scanned s.owners) (length power.levels) (λ c. owner_bound l (owner c))
-      (edges power original foreign code l extent found owner n least more bytes prog s) s.start ok.few (λ c. small_limits l (owner c) (λ k own. (counter_for original foreign code l extent owner found prog s.scanned s.owners c k own).low) bounds);
-  program = prog;
-  counters = counters original foreign code l extent owner found prog s.scanned s.owners;
-  counted = counted original foreign code l extent owner found prog s.scanned s.owners;
-  analyzed = s.analyzed;
-  least_is = s.least_is;
-  added = s.added;
-  tables = tables_of_keep_time power (text_of original) code l (sites_of original foreign code l owner found) (is_owner owner) n least (all_tabled power original foreign code l extent found owner n least more bytes prog s);
-  worst = s.in_time;
-}
+safe_tuned = λ power ok original_file file original foreign original_is foreign_is bytes no_key code l extent prog bounds found owner n least more s.
+    let by = scanned_safe power original foreign code l extent found owner n least more s in
+    record {
+      power_is = ok;
+      patched_is = patched original_file file original foreign original_is foreign_is bytes no_key code l owner found prog.reached s.scanned (rows original foreign code l extent owner found prog s.scanned s.owners) (length power.levels) (λ c. owner_bound l (owner c))
+          (edges power original foreign code l extent found owner n least (meets_both power) bytes prog by) s.start ok.few (λ c. small_limits l (owner c) (λ k own. (counter_for original foreign code l extent owner found prog s.scanned s.owners c k own).low) bounds);
+      program = prog;
+      counters = counters original foreign code l extent owner found prog s.scanned s.owners;
+      counted = counted original foreign code l extent owner found prog s.scanned s.owners;
+      analyzed = s.analyzed;
+      least_is = s.least_is;
+      added = s.added;
+      tables = tables_of_keep_time power (text_of original) code l (sites_of original foreign code l owner found) (is_owner owner) n least (all_tabled power original foreign code l extent found owner n least (meets_both power) bytes prog by);
+      worst = s.in_time;
+    }
 
 pub safe_runs : SafeImagesKeepRuns
 safe_runs = λ power ok original_file file original foreign original_is foreign_is bytes no_key code l extent prog bounds found owner n least more s input steps c kept.
     tuned_safe power original foreign (λ k. owner_bound l (owner k)) (sites_of original foreign code l owner found) (starting_level (length power.levels) foreign.keyed_segment) code l extent (is_owner owner) n least more
     (safe_tuned power ok original_file file original foreign original_is foreign_is bytes no_key code l extent prog bounds found owner n least more s) input steps c kept
+
+pub paced_budgeted : PacedImagesAreBudgeted
+paced_budgeted = λ power ok budget original_file file original foreign original_is foreign_is bytes no_key code l extent prog bounds found owner n least more s.
+    let by = scanned_paced power budget original foreign code l extent found owner n least more s in
+    record {
+      power_is = ok;
+      patched_is = patched original_file file original foreign original_is foreign_is bytes no_key code l owner found prog.reached s.scanned (rows original foreign code l extent owner found prog s.scanned s.owners) (length power.levels) (λ c. owner_bound l (owner c))
+          (edges power original foreign code l extent found owner n least (meets_in_budget power budget) bytes prog by) s.start ok.few (λ c. small_limits l (owner c) (λ k own. (counter_for original foreign code l extent owner found prog s.scanned s.owners c k own).low) bounds);
+      program = prog;
+      counters = counters original foreign code l extent owner found prog s.scanned s.owners;
+      counted = counted original foreign code l extent owner found prog s.scanned s.owners;
+      analyzed = s.analyzed;
+      least_is = s.least_is;
+      added = s.added;
+      tables = tables_keep_budgets power budget (text_of original) code l (sites_of original foreign code l owner found) (is_owner owner) n least (all_tabled power original foreign code l extent found owner n least (meets_in_budget power budget) bytes prog by);
+      budgets = s.budgets;
+    }
+
+pub paced_runs : PacedImagesKeepRuns
+paced_runs = λ power ok budget original_file file original foreign original_is foreign_is bytes no_key code l extent prog bounds found owner n least more s input steps c kept.
+    budgeted_safe power budget original foreign (λ k. owner_bound l (owner k)) (sites_of original foreign code l owner found) (starting_level (length power.levels) foreign.keyed_segment) code l extent (is_owner owner) n least more
+    (paced_budgeted power ok budget original_file file original foreign original_is foreign_is bytes no_key code l extent prog bounds found owner n least more s) input steps c kept

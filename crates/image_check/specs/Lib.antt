@@ -1,4 +1,7 @@
 pub mod Safe
+pub mod Paced
+pub mod PacedLaws
+pub mod PacedChecks
 pub mod Causes
 pub mod Known
 pub mod Checked

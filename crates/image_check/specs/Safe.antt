@@ -26,9 +26,9 @@ use Rattle.stored_runs.specs.Meaning.{four_bits}
 use Rattle.stored_runs.specs.Marks.{tail_cycles}
 use Rattle.paid_runs.specs.Marked.{extra_site_weights}
 use Rattle.power_model.specs.Switches.{period, costs_of}
-use Rattle.level_tables.specs.Tables.{EdgeNumbers, at_row}
+use Rattle.level_tables.specs.Tables.{EdgeNumbers, meets_both, at_row}
 use Rattle.paid_runs.specs.Timely.{weights_of}
-use Rattle.paid_runs.specs.Tabled.{told_on, IsSafeEntry}
+use Rattle.paid_runs.specs.Tabled.{told_on, IsEntryBy}
 use Rattle.foreign_scan.specs.declared.fragment.ForeignFragment.{ForeignFragment}
 use Rattle.foreign_scan.specs.declared.fragment.ForeignFragment.TheVariants.{Switch, Exit, Reset, Count}
 use Rattle.foreign_scan.specs.Scanned.{Found, is_changed, IsScanned}
@@ -124,26 +124,36 @@ pub record AreOwners (g : Graph) (code : Code) (l : Loops) (found : Found) (owne
 
 -- ---- levels
 
--- the entry of a word for each level is the level itself, or a lower one that meets both tests
-abbrev pub IsSafeWord : PowerModel → EdgeNumbers → ℕ → Type 0
-IsSafeWord power told word = (i : ℕ) → i < length power.levels → IsSafeEntry power told i (four_bits word i)
+-- The entry of a word for each level is the level itself, or a lower one that meets a test. The test of an edge's numbers and two levels is a parameter.
+abbrev pub IsWordBy : PowerModel → (EdgeNumbers → ℕ → ℕ → Bool) → EdgeNumbers → ℕ → Type 0
+IsWordBy power meets told word = (i : ℕ) → i < length power.levels → IsEntryBy meets told i (four_bits word i)
 
 -- the words of the first fragment of an edge, where it chooses a level. The row j of a table counts on the turns that are left behind its counts.
-abbrev pub AreSafeWords : PowerModel → Image → Loops → Owner → Numbers → EdgeNumbers → List ForeignFragment → Type 0
-AreSafeWords power image l owner n told [] = Unit {0}
-AreSafeWords power image l owner n told (Switch word ∷ fs) = IsSafeWord power told word
-AreSafeWords power image l owner n told (Exit counter shift table ∷ fs) =
+abbrev pub AreWordsBy : PowerModel → (EdgeNumbers → ℕ → ℕ → Bool) → Image → Loops → Owner → Numbers → EdgeNumbers → List ForeignFragment → Type 0
+AreWordsBy power meets image l owner n told [] = Unit {0}
+AreWordsBy power meets image l owner n told (Switch word ∷ fs) = IsWordBy power meets told word
+AreWordsBy power meets image l owner n told (Exit counter shift table ∷ fs) =
     (k : ℕ) → owner counter ≡ Some k → (j : ℕ) → j ≤ l.bound k / 2 ^ shift
-    → IsSafeWord power (at_row (l.bound k) (n.iteration k) shift told j) (word_at (loaded_byte image) (table + 4 * j))
-AreSafeWords power image l owner n told (Reset counter ∷ fs) = Unit {0}
-AreSafeWords power image l owner n told (Count counter ∷ fs) = Unit {0}
+    → IsWordBy power meets (at_row (l.bound k) (n.iteration k) shift told j) (word_at (loaded_byte image) (table + 4 * j))
+AreWordsBy power meets image l owner n told (Reset counter ∷ fs) = Unit {0}
+AreWordsBy power meets image l owner n told (Count counter ∷ fs) = Unit {0}
 
 -- the same of an edge that leads to a node
-abbrev pub AreSafeOn : PowerModel → Image → Graph → Loops → Owner → (ℕ → ℕ) → Numbers → Charged → Found → ℕ → Option Edge → Type 0
-AreSafeOn power image g l owner w n least found e None = Unit {0}
-AreSafeOn power image g l owner w n least found e (Some edge) =
+abbrev pub AreOnBy : PowerModel → (EdgeNumbers → ℕ → ℕ → Bool) → Image → Graph → Loops → Owner → (ℕ → ℕ) → Numbers → Charged → Found → ℕ → Option Edge → Type 0
+AreOnBy power meets image g l owner w n least found e None = Unit {0}
+AreOnBy power meets image g l owner w n least found e (Some edge) =
     (to : ℕ) → g.target e ≡ Some to → let fs = found edge.at edge.kind in
-    AreSafeWords power image l owner n (told_on g l w n least e (tail_cycles (costs_of power) (all_with_rows image l owner fs))) fs
+    AreWordsBy power meets image l owner n (told_on g l w n least e (tail_cycles (costs_of power) (all_with_rows image l owner fs))) fs
+
+-- where the test is both that of time and that of payment
+abbrev pub IsSafeWord : PowerModel → EdgeNumbers → ℕ → Type 0
+IsSafeWord power told word = IsWordBy power (meets_both power) told word
+
+abbrev pub AreSafeWords : PowerModel → Image → Loops → Owner → Numbers → EdgeNumbers → List ForeignFragment → Type 0
+AreSafeWords power image l owner n told fs = AreWordsBy power (meets_both power) image l owner n told fs
+
+abbrev pub AreSafeOn : PowerModel → Image → Graph → Loops → Owner → (ℕ → ℕ) → Numbers → Charged → Found → ℕ → Option Edge → Type 0
+AreSafeOn power image g l owner w n least found e edge = AreOnBy power (meets_both power) image g l owner w n least found e edge
 
 -- ---- the safe image
 

@@ -1,7 +1,10 @@
 //! Whether an image of other make is a safe rewriting of an original, and what such an image promises.
+//! Tests: crates/answer_tests/src/checking.rt.
 #![tactic(auto)]
 
 ghost use Rattle.image_check.specs.Laws.{LoadedBytesAreSmall, SafeImagesAreTuned, SafeImagesKeepRuns, SafeImagesKeepThePromise};
+ghost use Rattle.image_check.specs.PacedChecks.{LeastBudgetsDecide};
+ghost use Rattle.image_check.specs.PacedLaws.{PacedImagesAreBudgeted, PacedImagesKeepRuns, PacedImagesKeepThePromise, SafeImagesArePaced};
 
 mod checking;
 mod entries;
@@ -22,6 +25,20 @@ pub fn safe_images_keep_the_promise()
     ensures tuned { SafeImagesAreTuned }
     ensures runs { SafeImagesKeepRuns }
     ensures promise { SafeImagesKeepThePromise }
+{}
+
+/// So does every kept run of a paced image, whose levels keep budgets: a switch may use what the budget of the level behind it has more, and so
+/// stand on an edge without slack. A safe image is a paced one whose budgets are all the deadline.
+pub fn paced_images_keep_the_promise()
+    ensures safe { SafeImagesArePaced }
+    ensures budgeted { PacedImagesAreBudgeted }
+    ensures runs { PacedImagesKeepRuns }
+    ensures promise { PacedImagesKeepThePromise }
+{}
+
+/// There are budgets by which an image is paced just where its entries pay and the least budgets that they need are up to the deadline.
+pub fn least_budgets_decide()
+    ensures { LeastBudgetsDecide }
 {}
 
 /// The bytes that the image of a file loads are below 256, as the other law asks.

@@ -1,5 +1,6 @@
 //! Lowers images: near jumps in place of far ones, and trees of comparisons in place of jumps through registers whose targets are
 //! listed. RISC-V Unprivileged ISA, RV32I.
+//! Tests: crates/answer_tests/src/lowering.rt.
 #![tactic(auto)]
 
 mod block;

@@ -1,4 +1,5 @@
 //! Assembles lines, makes plain images of words, and makes images to try the scaler on.
+//! Tests: crates/file_tests/src/made_files.rt.
 #![tactic(auto)]
 
 mod agreement;
@@ -17,6 +18,3 @@ pub use assembler::assemble;
 pub use line::{AsmError, Line};
 pub use maker::{Made, make};
 pub use plain::plain_image;
-
-#[cfg(test)]
-mod tests;

@@ -1,4 +1,5 @@
 //! Surveys of the runs of an image, and of an image that was scaled, over a list of inputs.
+//! Tests: crates/answer_tests/src/surveying.rt.
 #![tactic(auto)]
 
 mod agreeing;

@@ -1,4 +1,5 @@
 //! Reads jump files: where the jumps of a program that go through a register lead, in TOML.
+//! Tests: crates/file_tests/src/jump_files.rt.
 #![tactic(auto)]
 
 ghost use Rattle.scale_base.specs.Answer.{Answers};
@@ -25,6 +26,3 @@ pub fn read_jumps(alloc: Global, bytes: &[u8]) -> Result<JumpNotes, Stop>
         None => Err(Stop::Refused(Refusal::JumpText)),
     }
 }
-
-#[cfg(test)]
-mod tests;

@@ -1,4 +1,5 @@
 //! Watches the steps of a run: whether it keeps the bounds of its loops and its return addresses, and what it broke first.
+//! Tests: crates/machine_tests/src/watched_runs.rt.
 #![tactic(auto)]
 
 ghost use Rattle.keep_monitor.specs.Laws.{WatchedRunsAreKept};
@@ -17,6 +18,3 @@ pub use scale_base::Kept;
 pub fn watched_runs_are_kept()
     ensures { WatchedRunsAreKept }
 {}
-
-#[cfg(test)]
-mod tests;

@@ -1,4 +1,5 @@
 //! Least costs of walks, by passes over the edges until nothing changes.
+//! Tests: crates/graph_tests/src/least_numbers.rt.
 #![tactic(auto)]
 
 ghost use Rattle.std.specs.Prelude.{◌≡◌, ℕ, ◌*◌, ◌+◌, ◌<◌, ◌≤◌, ◌^◌, true, false, length, Some, None, slice_get, IfOk, OnOk, Bool};

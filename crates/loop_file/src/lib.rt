@@ -1,4 +1,5 @@
 //! Reads loop files: the bounds of a program's loops, in TOML.
+//! Tests: crates/file_tests/src/loop_files.rt.
 #![tactic(auto)]
 
 ghost use Rattle.scale_base.specs.Answer.{Answers};
@@ -29,6 +30,3 @@ pub fn read_loops(alloc: Global, bytes: &[u8], view: &ImageView<'_>) -> Result<L
         None => Err(Stop::Refused(Refusal::LoopText)),
     }
 }
-
-#[cfg(test)]
-mod tests;

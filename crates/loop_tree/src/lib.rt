@@ -1,4 +1,5 @@
 //! The loops of a program's graph, and an order of its nodes along the edges that are no back edges.
+//! Tests: crates/graph_tests/src/loops.rt.
 #![tactic(auto)]
 
 ghost use Rattle.scale_base.specs.Answer.{AnswersBy};

@@ -1,4 +1,5 @@
 //! Reads machine files: the costs, the levels and the deadline of a machine, in TOML.
+//! Tests: crates/file_tests/src/machine_files.rt.
 #![tactic(auto)]
 
 ghost use Rattle.std.specs.Prelude.{◌≡◌, ℕ, List, Ok, IfOk};
@@ -34,6 +35,3 @@ pub fn read_machine(alloc: Global, bytes: &[u8]) -> Result<Power, Stop>
 pub fn machines_keep_their_ranges()
     ensures { (bytes : List ℕ) (power : PowerModel) → read_machine bytes ≡ Ok power → IsPowerModel power }
 {}
-
-#[cfg(test)]
-mod tests;

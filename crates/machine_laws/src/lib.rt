@@ -1,4 +1,5 @@
 //! Laws of the machine and of the text of an image, over the definitions alone.
+//! Tests: none, since nothing of it runs.
 #![tactic(auto)]
 
 mod runs;

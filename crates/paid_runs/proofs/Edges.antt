@@ -86,10 +86,10 @@ spread a b c x = grind arith
 spread4 : (a b c d x : ℕ) → (a + b + c + d) * x ≡ a * x + b * x + c * x + d * x
 spread4 a b c d x = grind arith
 
--- t is the switch's time, p and q the periods before and behind it
-pub one_switch : (time head tail slack rest left p q t deadline : ℕ) → p ≤ q → left ≤ rest → (rest + tail) * q + t ≤ (rest + tail + slack) * p → time + (head + tail + slack + left) * p ≤ deadline
-    → time + head * p + t + tail * q + left * q ≤ deadline
-one_switch time head tail slack rest left p q t deadline slower at_most test safe =
+-- t is the switch's time, p and q the periods before and behind it, from and to the budgets of both levels
+pub one_switch : (time head tail slack rest left p q t from to : ℕ) → p ≤ q → left ≤ rest → (rest + tail) * q + t + from ≤ (rest + tail + slack) * p + to → time + (head + tail + slack + left) * p ≤ from
+    → time + head * p + t + tail * q + left * q ≤ to
+one_switch time head tail slack rest left p q t from to slower at_most test safe =
     -- a larger rest makes the test harder
     let spare : (rest - left) * p ≤ (rest - left) * q = mul-le-mul_left (rest - left) slower in
     let split : rest ≡ left + (rest - left) = omega arith in

@@ -1,6 +1,7 @@
 pub mod Edges
 pub mod Walk
 pub mod Paid
+pub mod Constant
 pub mod Tables
 pub mod Tuned
 pub mod Laws

@@ -31,6 +31,7 @@ use Rattle.stored_runs.specs.Marks.{stored_cycles, extra_cycles, shadow_first}
 use Rattle.stored_runs.specs.Legs.{originals, all_steps}
 use Rattle.stored_runs.proofs.Laws.{cost_of_legs, short_legs, long_legs}
 use Rattle.stored_runs.specs.Stubbed.{IsFollowed}
+use Rattle.level_tables.specs.Budgets.{AreBudgets}
 use Rattle.paid_runs.specs.Shadows.{AreCountable}
 use Rattle.paid_runs.specs.Marked.{extra_site_weights}
 use Rattle.paid_runs.specs.Counters.{AreCounted, by_words}
@@ -39,17 +40,20 @@ use Rattle.paid_runs.proofs.Aligned.{AreAligned, extra_sum}
 use Rattle.power_model.specs.Switches.{period, costs_of}
 use Rattle.paid_runs.proofs.Energies.{cycles_from, switches_save}
 use Rattle.paid_runs.specs.Timely.{weights_of, AreTables, AreTablesOf, IsPaidRun}
-use Rattle.paid_runs.specs.Laws.{StoredRunsArePaid, StoredRunsSaveEnergy, StubsAreBounded}
+use Rattle.paid_runs.specs.Budgets.{AreTablesWithin, IsInBudget}
+use Rattle.paid_runs.proofs.Constant.{tables_within}
+use Rattle.paid_runs.specs.Laws.{StoredRunsArePaid, StoredRunsKeepBudgets, StoredRunsSaveEnergy, StubsAreBounded}
 use Rattle.paid_runs.proofs.Walk.{walk, cycles_later}
 
--- a followed run of a program whose counters count, and whose tables keep time
-pub paid_by : (power : PowerModel) → IsPowerModel power → (image stored : Image) (sites : List Site) (start : ℕ) (code : Code) (l : Loops) (extent : ℕ → ℕ → Bool) (is_of : ℕ → ℕ → Bool) → IsProgramOf (text_of image) code l extent →
+-- A followed run of a program whose counters count, and whose tables keep budgets.
+pub paid_within : (power : PowerModel) (budget : ℕ → ℕ) → IsPowerModel power → (image stored : Image) (sites : List Site) (start : ℕ) (code : Code) (l : Loops) (extent : ℕ → ℕ → Bool) (is_of : ℕ → ℕ → Bool) → IsProgramOf (text_of image) code l extent →
     ((v k : ℕ) → is_of v k ≡ true → k < l.loops) → ((v k : ℕ) → is_of v k ≡ true → AreCountable (text_graph (text_of image) code) l (λ j. j == k)) → AreCounted (text_of image) code l sites is_of → (n : Numbers) (least : Charged) →
     IsAnalyzed (text_graph (text_of image) code) l extent (weights_of power (text_of image) code sites) n → AreCharged (text_graph (text_of image) code) l (weights_of power (text_of image) code sites) least →
-    AreTablesOf power (text_of image) code l sites is_of n least → start < length power.levels → n.worst 0 * period power start ≤ power.deadline →
+    AreTablesWithin power budget (text_of image) code l sites is_of n least → start < length power.levels → AreBudgets power budget start (n.worst 0) →
     (input : List ℕ) (steps : ℕ) (c : Carried) (kept : IsKeptRun (text_of image) code l (costs_of power) (run_of image (length power.levels) input steps) c) (f : IsFollowed image stored (length power.levels) sites start input steps) →
     IsPaidRun power (text_of image) code l sites start n kept.moves (run_of stored (length power.levels) input f.after).steps
-paid_by power ok image stored sites start code l extent is_of prog loops able marked n least is are tables low worst input count c kept f =
+    × IsInBudget power budget (text_of image) code l sites start n kept.moves (run_of stored (length power.levels) input f.after).steps
+paid_within power budget ok image stored sites start code l extent is_of prog loops able marked n least is are tables low budgets input count c kept f =
     let t = text_of image in
     let g : Graph = text_graph t code in
     let w = weights_of power t code sites in
@@ -60,7 +64,8 @@ paid_by power ok image stored sites start code l extent is_of prog loops able ma
       classes = kept.classes ∙ ap (map (λ x. Some x.class)) (sym f.originals_are);
     } in
     let first : n.worst 0 ≡ steps.cycles_left g l w n (steps.graph_start g) = sym (left_start g l extent w n is.program is.accepted is.weights is.numbers) in
-    let safe : 0 + steps.cycles_left g l w n (steps.graph_start g) * period power start ≤ power.deadline = subst (λ x. 0 + x * period power start ≤ power.deadline) first (omega (arith, worst)) in
+    let worst = budgets.first in
+    let safe : 0 + steps.cycles_left g l w n (steps.graph_start g) * period power start ≤ budget start = subst (λ x. 0 + x * period power start ≤ budget start) first (omega (arith, worst)) in
     let charged : IsCharged g l extent w least = record {
       program = is.program;
       returns = plain_returns (kind_at t) t.entry code prog.reached.lists prog.reached.words;
@@ -68,18 +73,37 @@ paid_by power ok image stored sites start code l extent is_of prog loops able ma
       weights = is.weights;
       numbers = are;
     } in
-    let walked = walk power t code l extent sites is_of n least ok.ranked loops able marked is charged tables [] moves legs (shadow_first start) (unstarted start)
+    let walked = walk power budget t code l extent sites is_of n least ok.ranked loops able marked is charged tables [] moves legs (shadow_first start) (unstarted start)
     (record { kept = tt; counters = λ v k on. refl; is_level = low }) kept.kept aligned f.are refl safe in
-    let later = cycles_later power t code l extent sites is_of n least ok.ranked loops able marked is charged tables moves legs (shadow_first start) f.are aligned in
+    let later = cycles_later power budget t code l extent sites is_of n least ok.ranked loops able marked is charged tables moves legs (shadow_first start) f.are aligned in
     let same = f.steps in
     let total : (price power start (all_steps legs)).cycles ≡ steps.cycles w moves = cycles_from power (unstarted start) (all_steps legs) ∙ omega (arith, later) in
-    subst (λ xs. IsPaidRun power t code l sites start n moves xs) (sym same) (record {
-      cycles = total;
-      is_level = walked.is_level;
-      falls = walked.falls;
-      in_time = walked.safe;
-      pays = walked.pays;
-    })
+    let kept_in : IsInBudget power budget t code l sites start n moves (all_steps legs) = walked.safe in
+    let late = budgets.within (price power start (all_steps legs)).level walked.is_level in
+    subst (λ xs. IsPaidRun power t code l sites start n moves xs × IsInBudget power budget t code l sites start n moves xs) (sym same) (
+      record {
+        cycles = total;
+        is_level = walked.is_level;
+        falls = walked.falls;
+        in_time = omega (arith, kept_in, late);
+        pays = walked.pays;
+      },
+      kept_in,
+    )
+
+-- where each budget is the deadline
+pub within_deadline : (power : PowerModel) (start worst : ℕ) → worst * period power start ≤ power.deadline → AreBudgets power (λ i. power.deadline) start worst
+within_deadline power start worst enough = record { first = enough; within = λ i low. omega arith }
+
+pub paid_by : (power : PowerModel) → IsPowerModel power → (image stored : Image) (sites : List Site) (start : ℕ) (code : Code) (l : Loops) (extent : ℕ → ℕ → Bool) (is_of : ℕ → ℕ → Bool) → IsProgramOf (text_of image) code l extent →
+    ((v k : ℕ) → is_of v k ≡ true → k < l.loops) → ((v k : ℕ) → is_of v k ≡ true → AreCountable (text_graph (text_of image) code) l (λ j. j == k)) → AreCounted (text_of image) code l sites is_of → (n : Numbers) (least : Charged) →
+    IsAnalyzed (text_graph (text_of image) code) l extent (weights_of power (text_of image) code sites) n → AreCharged (text_graph (text_of image) code) l (weights_of power (text_of image) code sites) least →
+    AreTablesOf power (text_of image) code l sites is_of n least → start < length power.levels → n.worst 0 * period power start ≤ power.deadline →
+    (input : List ℕ) (steps : ℕ) (c : Carried) (kept : IsKeptRun (text_of image) code l (costs_of power) (run_of image (length power.levels) input steps) c) (f : IsFollowed image stored (length power.levels) sites start input steps) →
+    IsPaidRun power (text_of image) code l sites start n kept.moves (run_of stored (length power.levels) input f.after).steps
+paid_by power ok image stored sites start code l extent is_of prog loops able marked n least is are tables low worst input count c kept f =
+    (paid_within power (λ i. power.deadline) ok image stored sites start code l extent is_of prog loops able marked n least is are (tables_within power (text_of image) code l sites is_of n least tables)
+    low (within_deadline power start (n.worst 0) worst) input count c kept f).0
 
 pub saved_by : (power : PowerModel) → IsPowerModel power → (image stored : Image) (sites : List Site) (start : ℕ) (code : Code) (l : Loops) (n : Numbers) → start < length power.levels →
     (input : List ℕ) (steps status : ℕ) (c : Carried) (kept : IsKeptRun (text_of image) code l (costs_of power) (run_of image (length power.levels) input steps) c) (f : IsFollowed image stored (length power.levels) sites start input steps) →
@@ -99,6 +123,11 @@ pub runs_paid : StoredRunsArePaid
 runs_paid = λ power ok image stored sites start code l extent counted word prog able marked n least is are tables low worst input count c f.
     paid_by power ok image stored sites start code l extent (by_words l counted word) prog (λ v k on. (word_of_loop l counted word v k on).0) (countable_of l counted word (text_graph (text_of image) code) able)
     (counted_of l counted word (text_of image) code sites marked) n least is are (tables_of power (text_of image) code l sites counted word n least tables) low worst input count c f.kept f.followed
+
+pub runs_within : StoredRunsKeepBudgets
+runs_within = λ power ok budget image stored sites start code l extent counted word prog able marked n least is are tables low budgets input count c f.
+    paid_within power budget ok image stored sites start code l extent (by_words l counted word) prog (λ v k on. (word_of_loop l counted word v k on).0) (countable_of l counted word (text_graph (text_of image) code) able)
+    (counted_of l counted word (text_of image) code sites marked) n least is are tables low budgets input count c f.kept f.followed
 
 pub energy_saved : StoredRunsSaveEnergy
 energy_saved = λ power ok image stored sites start code l extent counted word prog able marked n least is are tables low worst input count status c f exited.

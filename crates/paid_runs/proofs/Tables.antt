@@ -13,16 +13,21 @@ use Rattle.power_model.specs.Switches.{period, energy, costs_of}
 use Rattle.cost_theory.specs.Graph.{Graph, Loops, AreWithin, leaves, only}
 use Rattle.cost_theory.specs.Worst.{Numbers, cost, slack, rest, turns, left_behind}
 use Rattle.cost_theory.proofs.Laws.{term-le-sum, only_true, and_left}
-use Rattle.cost_theory.specs.Reached.{edge_at}
+use Rattle.cost_theory.specs.Reached.{Code, edge_at}
+use Rattle.code_text.specs.Text.{Text}
+use Rattle.stub_writer.specs.Stubs.{Site}
 use Rattle.cycle_laws.specs.Charged.{Charged, to_end_after}
 use Rattle.code_text.specs.TextGraph.{text_graph}
-use Rattle.level_tables.specs.Tables.{EdgeNumbers, is_switch_in_time, pays, trips_left, at_row}
-use Rattle.level_tables.proofs.Laws.{trips_left-le}
+use Rattle.level_tables.specs.Tables.{EdgeNumbers, pays, trips_left, at_row, meets_both}
+use Rattle.level_tables.specs.Budgets.{is_switch_in_budget, meets_in_budget}
+use Rattle.level_tables.proofs.Laws.{both_in_budget, trips_left-le}
 use Rattle.stored_runs.specs.Meaning.{four_bits}
 use Rattle.stored_runs.specs.Marks.{Shadow, place_at, fragments_of_class, level_stored, tail_cycles}
-use Rattle.paid_runs.specs.Timely.{weights_of, IsChosen}
-use Rattle.paid_runs.specs.Tabled.{told_on, IsSafeEntry, AreRowsOf, IsEdgeTabledBy}
-use Rattle.paid_runs.specs.Laws.{TablesOfKeepTime}
+use Rattle.paid_runs.specs.Timely.{weights_of}
+use Rattle.paid_runs.specs.Budgets.{IsChosenWithin, AreTablesWithin}
+use Rattle.paid_runs.specs.Tabled.{told_on, IsEntryBy, AreRowsBy, IsEdgeTabledBy, AreTabledBy}
+use Rattle.paid_runs.specs.Laws.{TablesOfKeepTime, TablesKeepBudgets}
+use Rattle.paid_runs.proofs.Constant.{tables_in_time}
 
 le_of : (x y : ℕ) → nat_le x y ≡ true → x ≤ y
 le_of x y e = grind (arith, nat_tests)
@@ -37,24 +42,25 @@ paid_by : (power : PowerModel) (o : Option ℕ) (tail i j : ℕ) → pays power 
 paid_by power None tail i j h = let never : ⊥ = cc in absurd never
 paid_by power (Some z) tail i j h = record { z = z; is = refl; pays = le_of (switch_energy power i j) ((z + tail) * (energy power i - energy power j)) h }
 
-module _ (power : PowerModel) (g : Graph) (l : Loops) (w : ℕ → ℕ) (n : Numbers) (least : Charged) (is_of : ℕ → ℕ → Bool) (counts : ℕ → ℕ) (within : AreWithin l counts) (e : ℕ) where
+-- The entries meet a test that is at least as strong as that of the budgets.
+module _ (power : PowerModel) (budget : ℕ → ℕ) (meets : EdgeNumbers → ℕ → ℕ → Bool) (strong : (told : EdgeNumbers) (i j : ℕ) → meets told i j ≡ true → meets_in_budget power budget told i j ≡ true) (g : Graph) (l : Loops) (w : ℕ → ℕ) (n : Numbers) (least : Charged) (is_of : ℕ → ℕ → Bool) (counts : ℕ → ℕ) (within : AreWithin l counts) (e : ℕ) where
   -- what the edge tells, with so much slack
   abbrev told_with : (tail spare : ℕ) → EdgeNumbers
   told_with tail spare = record { slack = spare; left = rest g l n e + tail; least = option_map (λ z. z + tail) (to_end_after g l least e) }
 
   may_choose : (tail target spare i j : ℕ) → g.callee e ≡ None → g.target e ≡ Some target → spare ≤ slack g l n (cost g n w) e + left_behind g l n counts e
-      → IsSafeEntry power (told_with tail spare) i j → (j ≡ i) ⊎ IsChosen power g l w n least counts e tail i j
+      → IsEntryBy meets (told_with tail spare) i j → (j ≡ i) ⊎ IsChosenWithin power budget g l w n least counts e tail i j
   may_choose tail target spare i j inside leads enough (inl same) = inl same
   may_choose tail target spare i j inside leads enough (inr (lower, met)) =
-      let both = and_parts (is_switch_in_time power (told_with tail spare) i j) (pays power (option_map (λ z. z + tail) (to_end_after g l least e)) i j) met in
-      let time = le_of ((rest g l n e + tail) * period power j + switch_time power i j) ((rest g l n e + tail + spare) * period power i) both.0 in
+      let both = and_parts (is_switch_in_budget power budget (told_with tail spare) i j) (pays power (option_map (λ z. z + tail) (to_end_after g l least e)) i j) (strong (told_with tail spare) i j met) in
+      let time = le_of ((rest g l n e + tail) * period power j + switch_time power i j + budget i) ((rest g l n e + tail + spare) * period power i + budget j) both.0 in
       let paid = paid_by power (to_end_after g l least e) tail i j both.1 in
       inr (record {
         lower = lower;
         inside = inside;
         target = target;
         leads = leads;
-        in_time = (let more : (rest g l n e + tail + spare) * period power i ≤ (rest g l n e + tail + (slack g l n (cost g n w) e + left_behind g l n counts e)) * period power i = mul-le-mul_right (period power i) (omega (arith, enough)) in
+        in_budget = (let more : (rest g l n e + tail + spare) * period power i ≤ (rest g l n e + tail + (slack g l n (cost g n w) e + left_behind g l n counts e)) * period power i = mul-le-mul_right (period power i) (omega (arith, enough)) in
             omega (arith, more, time));
         paying = (paid.z, paid.is, paid.pays);
       })
@@ -76,30 +82,38 @@ module _ (power : PowerModel) (g : Graph) (l : Loops) (w : ℕ → ℕ) (n : Num
   module _ (h : Shadow) (low : h.level < length power.levels)
       (shown : (v k : ℕ) → is_of v k ≡ true → l.inside k (g.source e) ≡ true → h.counters v ≡ counts k) where
     by_rows : (counter shift : ℕ) (rows : List ℕ) (tail target j : ℕ) → g.callee e ≡ None → g.target e ≡ Some target
-        → AreRowsOf power g l n (told_on g l w n least e tail) is_of e counter shift rows → four_bits (slice_index rows (h.counters counter / 2 ^ shift)) h.level ≡ j
-        → (j ≡ h.level) ⊎ IsChosen power g l w n least counts e tail h.level j
+        → AreRowsBy power meets g l n (told_on g l w n least e tail) is_of e counter shift rows → four_bits (slice_index rows (h.counters counter / 2 ^ shift)) h.level ≡ j
+        → (j ≡ h.level) ⊎ IsChosenWithin power budget g l w n least counts e tail h.level j
     by_rows counter shift rows tail target j inside leads r stored =
         let count : h.counters counter ≡ counts r.loop = shown counter r.loop r.counts (starts_in r.loop (g.source e) (g.target e) r.left) in
         let row : h.counters counter / 2 ^ shift ≡ counts r.loop / 2 ^ shift = ap (λ x. x / 2 ^ shift) count in
         let there : counts r.loop / 2 ^ shift < length rows = (div-lt_iff_lt-mul (pow_pos shift)).1 (lt_of_le_of_lt (within r.loop r.low) ((div-lt_iff_lt-mul (pow_pos shift)).0 r.enough)) in
         may_choose tail target (slack g l n (cost g n w) e + trips_left (l.bound r.loop) shift (counts r.loop / 2 ^ shift) * n.iteration r.loop) h.level j inside leads (row_spare r.loop shift r.low r.left)
-        (subst (λ x. IsSafeEntry power (at_row (l.bound r.loop) (n.iteration r.loop) shift (told_on g l w n least e tail) (counts r.loop / 2 ^ shift)) h.level x)
+        (subst (λ x. IsEntryBy meets (at_row (l.bound r.loop) (n.iteration r.loop) shift (told_on g l w n least e tail) (counts r.loop / 2 ^ shift)) h.level x)
         (ap (λ q. four_bits (slice_index rows q) h.level) (sym row) ∙ stored) (r.entries (counts r.loop / 2 ^ shift) h.level there low))
 
-    by_fragments : (fs : List Fragment) (j : ℕ) → IsEdgeTabledBy power g l w n least is_of e fs → level_stored fs h ≡ Some j
-        → (j ≡ h.level) ⊎ IsChosen power g l w n least counts e (tail_cycles (costs_of power) fs) h.level j
+    by_fragments : (fs : List Fragment) (j : ℕ) → IsEdgeTabledBy power meets g l w n least is_of e fs → level_stored fs h ≡ Some j
+        → (j ≡ h.level) ⊎ IsChosenWithin power budget g l w n least counts e (tail_cycles (costs_of power) fs) h.level j
     by_fragments [] j tabled stored = cc
     by_fragments (Switch table ∷ fs) j tabled stored =
         let same : four_bits table h.level ≡ j = cc in
         may_choose (tail_cycles (costs_of power) (Switch table ∷ fs)) tabled.target (slack g l n (cost g n w) e) h.level j tabled.inside tabled.leads (omega (arith))
-        (subst (λ x. IsSafeEntry power (told_on g l w n least e (tail_cycles (costs_of power) (Switch table ∷ fs))) h.level x) same (tabled.table h.level low))
+        (subst (λ x. IsEntryBy meets (told_on g l w n least e (tail_cycles (costs_of power) (Switch table ∷ fs))) h.level x) same (tabled.table h.level low))
     by_fragments (Exit counter shift rows ∷ fs) j tabled stored =
         by_rows counter shift rows (tail_cycles (costs_of power) (Exit counter shift rows ∷ fs)) tabled.target j tabled.inside tabled.leads tabled.table (let same : four_bits (slice_index rows (h.counters counter / 2 ^ shift)) h.level ≡ j = cc in same)
     by_fragments (Reset counter ∷ fs) j tabled stored = cc
     by_fragments (Count counter ∷ fs) j tabled stored = cc
 
-pub tables_of_keep_time : TablesOfKeepTime
-tables_of_keep_time = λ power t code l sites is_of n least tabled. record {
+tabled_within : (power : PowerModel) (budget : ℕ → ℕ) (meets : EdgeNumbers → ℕ → ℕ → Bool) → ((told : EdgeNumbers) (i j : ℕ) → meets told i j ≡ true → meets_in_budget power budget told i j ≡ true) →
+    (t : Text) (code : Code) (l : Loops) (sites : List Site) (is_of : ℕ → ℕ → Bool) (n : Numbers) (least : Charged) → AreTabledBy power meets t code l sites is_of n least → AreTablesWithin power budget t code l sites is_of n least
+tabled_within power budget meets strong t code l sites is_of n least tabled = record {
   chosen = λ e class few is h counts j low within shown stored.
-      by_fragments power (text_graph t code) l (weights_of power t code sites) n least is_of counts within e h low shown (fragments_of_class (place_at sites (edge_at (slice_get code.edges e))) class) j (tabled e class few is) stored;
+      by_fragments power budget meets strong (text_graph t code) l (weights_of power t code sites) n least is_of counts within e h low shown (fragments_of_class (place_at sites (edge_at (slice_get code.edges e))) class) j (tabled e class few is) stored;
 }
+
+pub tables_keep_budgets : TablesKeepBudgets
+tables_keep_budgets = λ power budget t code l sites is_of n least tabled. tabled_within power budget (meets_in_budget power budget) (λ told i j met. met) t code l sites is_of n least tabled
+
+pub tables_of_keep_time : TablesOfKeepTime
+tables_of_keep_time = λ power t code l sites is_of n least tabled.
+    tables_in_time power t code l sites is_of n least (tabled_within power (λ i. power.deadline) (meets_both power) (both_in_budget power) t code l sites is_of n least tabled)

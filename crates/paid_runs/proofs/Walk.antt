@@ -36,7 +36,8 @@ use Rattle.power_model.specs.Switches.{period, costs_of, NeverRises, switches_fr
 use Rattle.paid_runs.specs.Paid.{tail_if, IsPaidLeg}
 use Rattle.paid_runs.proofs.LegPrice.{leg_paid, no_switch}
 use Rattle.paid_runs.proofs.Energies.{period_le}
-use Rattle.paid_runs.specs.Timely.{weights_of, IsChosen, AreTablesOf}
+use Rattle.paid_runs.specs.Timely.{weights_of}
+use Rattle.paid_runs.specs.Budgets.{IsChosenWithin, AreTablesWithin}
 use Rattle.paid_runs.proofs.Edges.{leg_rise, leg_pays, PaysBehind, one_switch, no_switch_safe, pays_more}
 
 -- ---- one move more
@@ -53,10 +54,10 @@ counted_more g l counts (k ∷ ks) m = counted_more g l (counted_move g l counts
 exits_later : (m : steps.Transition) (k : steps.Transition) (ms : List steps.Transition) → steps.EndsByExit (m ∷ k ∷ ms) → steps.EndsByExit (k ∷ ms)
 exits_later m k ms e = e
 
-module _ (power : PowerModel) (t : Text) (code : Code) (l : Loops) (extent : ℕ → ℕ → Bool) (sites : List Site) (is_of : ℕ → ℕ → Bool) (n : Numbers) (least : Charged)
+module _ (power : PowerModel) (budget : ℕ → ℕ) (t : Text) (code : Code) (l : Loops) (extent : ℕ → ℕ → Bool) (sites : List Site) (is_of : ℕ → ℕ → Bool) (n : Numbers) (least : Charged)
     (ranked : AreRanked power.levels) (loops : (v k : ℕ) → is_of v k ≡ true → k < l.loops) (able : (v k : ℕ) → is_of v k ≡ true → AreCountable (text_graph t code) l (λ j. j == k)) (marked : AreCounted t code l sites is_of)
     (is : IsAnalyzed (text_graph t code) l extent (weights_of power t code sites) n) (are : IsCharged (text_graph t code) l extent (weights_of power t code sites) least)
-    (tables : AreTablesOf power t code l sites is_of n least) where
+    (tables : AreTablesWithin power budget t code l sites is_of n least) where
   abbrev g : Graph
   g = text_graph t code
 
@@ -72,9 +73,9 @@ module _ (power : PowerModel) (t : Text) (code : Code) (l : Loops) (extent : ℕ
     pub counters : (v k : ℕ) → is_of v k ≡ true → h.counters v ≡ counted_moves g l (λ j. 0) pre k
     pub is_level : h.level < length power.levels
 
-  -- in time with what is left at the level
+  -- within the budget of the level with what is left
   abbrev pub IsSafe : model.RunPrice → steps.GraphState → Type 0
-  IsSafe p s = p.time + steps.cycles_left g l w n s * period power p.level ≤ power.deadline
+  IsSafe p s = p.time + steps.cycles_left g l w n s * period power p.level ≤ budget p.level
 
   abbrev Fragments : Stepped → Type 0
   Fragments x = Unit {0}
@@ -82,7 +83,7 @@ module _ (power : PowerModel) (t : Text) (code : Code) (l : Loops) (extent : ℕ
   -- ---- what the marks of an edge choose
 
   abbrev Chosen : List steps.Transition → Shadow → steps.Transition → Stepped → ℕ → Type 0
-  Chosen pre h m x j = (j ≡ h.level) ⊎ IsChosen power g l w n least (at_start pre).counts (steps.edge_of m) (tail_cycles (costs_of power) (fragments_over sites x)) h.level j
+  Chosen pre h m x j = (j ≡ h.level) ⊎ IsChosenWithin power budget g l w n least (at_start pre).counts (steps.edge_of m) (tail_cycles (costs_of power) (fragments_over sites x)) h.level j
 
   choice : (pre : List steps.Transition) (h : Shadow) (m : steps.Transition) (ms : List steps.Transition) (x : Stepped) (xs : List Stepped) → IsAt pre h → steps.IsKept g l (at_start pre) m → IsFirst t code m ms x xs → (j : ℕ) → level_stored (fragments_over sites x) h ≡ Some j → Chosen pre h m x j
   choice pre h m ms x xs at kept first j stored =
@@ -92,7 +93,7 @@ module _ (power : PowerModel) (t : Text) (code : Code) (l : Loops) (extent : ℕ
       let here : level_stored (fragments_of_class (place_at sites (edge_at (slice_get code.edges e))) x.class) h ≡ Some j = ap (λ a. level_stored (fragments_of_class (place_at sites a) x.class) h) first.place ∙ stored in
       let got = tables.chosen e x.class kept.edge first.class h (at_start pre).counts j at.is_level sound.within
       (λ v k on inside. at.counters v k on ∙ (shown v k on).within k (loops v k on) (eq-eqb k k refl) (or_left (is_round l k (at_start pre).node) (list_any (l.inside k) (at_start pre).calls) (ap (is_round l k) kept.from ∙ inside))) here in
-      subst (λ a. (j ≡ h.level) ⊎ IsChosen power g l w n least (at_start pre).counts e (tail_cycles (costs_of power) (fragments_of_class (place_at sites a) x.class)) h.level j) first.place got
+      subst (λ a. (j ≡ h.level) ⊎ IsChosenWithin power budget g l w n least (at_start pre).counts e (tail_cycles (costs_of power) (fragments_of_class (place_at sites a) x.class)) h.level j) first.place got
 
   -- it is no higher level
   not_higher : (pre : List steps.Transition) (h : Shadow) (m : steps.Transition) (x : Stepped) (j : ℕ) → Chosen pre h m x j → j ≤ h.level
@@ -122,12 +123,13 @@ module _ (power : PowerModel) (t : Text) (code : Code) (l : Loops) (extent : ℕ
       let none : switch_time power p.level q.level ≡ 0 = ap (switch_time power p.level) level ∙ no_switch power p.level in
       let tail_rate : time_at power q.level tail ≡ tail * period power p.level = ap (λ i. tail * period power i) level in
       let left_rate : left * period power q.level ≡ left * period power p.level = ap (λ i. left * period power i) level in
-      let enough = no_switch_safe p.time head tail left (steps.cycles_left g l w n (at_start pre)) (period power p.level) power.deadline (omega (arith, parts, falls)) safe in
-      omega (arith, time, none, tail_rate, left_rate, enough)
+      let enough = no_switch_safe p.time head tail left (steps.cycles_left g l w n (at_start pre)) (period power p.level) (budget p.level) (omega (arith, parts, falls)) safe in
+      let same : budget q.level ≡ budget p.level = ap budget level in
+      omega (arith, time, none, tail_rate, left_rate, enough, same)
 
   -- a move over an edge within a function is a local step
   chosen_safe : (pre : List steps.Transition) (m : steps.Transition) (p q : model.RunPrice) (head tail j : ℕ) → steps.AreKept g l (steps.graph_start g) pre → steps.IsKept g l (at_start pre) m → head + tail ≡ w (steps.edge_of m) → q.level ≡ j → p.level < length power.levels
-      → IsChosen power g l w n least (at_start pre).counts (steps.edge_of m) tail p.level j
+      → IsChosenWithin power budget g l w n least (at_start pre).counts (steps.edge_of m) tail p.level j
       → q.time ≡ p.time + time_at power p.level head + switch_time power p.level q.level + time_at power q.level tail → IsSafe p (at_start pre) → IsSafe q (steps.after g l (at_start pre) m)
   chosen_safe pre (Along e) p q head tail j before kept parts level low c time safe =
       let s = at_start pre in
@@ -140,11 +142,12 @@ module _ (power : PowerModel) (t : Text) (code : Code) (l : Loops) (extent : ℕ
       let slower = period_le power.levels j p.level ranked (omega (arith, c.lower)) low in
       let more = slack g l n (cost g n w) e + left_behind g l n s.counts e in
       let whole : (head + tail + more + left) * period power p.level ≡ steps.cycles_left g l w n s * period power p.level = ap (λ x. x * period power p.level) (omega (arith, parts, falls)) in
-      let enough = one_switch p.time head tail more (rest g l n e) left (period power p.level) (period power j) (switch_time power p.level j) power.deadline slower most c.in_time (omega (arith, whole, safe)) in
+      let enough = one_switch p.time head tail more (rest g l n e) left (period power p.level) (period power j) (switch_time power p.level j) (budget p.level) (budget j) slower most c.in_budget (omega (arith, whole, safe)) in
       let switch : switch_time power p.level q.level ≡ switch_time power p.level j = ap (switch_time power p.level) level in
       let tail_rate : time_at power q.level tail ≡ tail * period power j = ap (λ i. tail * period power i) level in
       let left_rate : left * period power q.level ≡ left * period power j = ap (λ i. left * period power i) level in
-      omega (arith, time, switch, tail_rate, left_rate, enough)
+      let same : budget q.level ≡ budget j = ap budget level in
+      omega (arith, time, switch, tail_rate, left_rate, enough, same)
   chosen_safe pre (Call e f) p q head tail j before kept parts level low c time safe = let a = kept.move.0 in let b = c.inside in absurd cc
   chosen_safe pre (Return e) p q head tail j before kept parts level low c time safe = let a = (is.program.return_end e kept.edge kept.move.0).0 in let b = c.leads in absurd cc
   chosen_safe pre (Exit e) p q head tail j before kept parts level low c time safe = let a = (is.program.exit_end e kept.edge kept.move).0 in let b = c.leads in absurd cc
@@ -161,8 +164,8 @@ module _ (power : PowerModel) (t : Text) (code : Code) (l : Loops) (extent : ℕ
       by_choice j stored to (inr c) =
           let tail : paid.tail ≡ tail_cycles (costs_of power) (fragments_over sites leg.step) = paid.tail_is ∙ ap (λ o. tail_if o (tail_cycles (costs_of power) (fragments_over sites leg.step))) stored in
           let low : p.level < length power.levels = subst (λ i. i < length power.levels) (sym same) at.is_level in
-          let chosen = subst (λ i. IsChosen power g l w n least (at_start pre).counts (steps.edge_of m) paid.tail i j) (sym same)
-          (subst (λ x. IsChosen power g l w n least (at_start pre).counts (steps.edge_of m) x h.level j) (sym tail) c) in
+          let chosen = subst (λ i. IsChosenWithin power budget g l w n least (at_start pre).counts (steps.edge_of m) paid.tail i j) (sym same)
+          (subst (λ x. IsChosenWithin power budget g l w n least (at_start pre).counts (steps.edge_of m) x h.level j) (sym tail) c) in
           chosen_safe pre m p (fold (metered power) p leg.steps) paid.head paid.tail j at.kept kept (paid.parts ∙ weight) to low chosen paid.time safe
 
       by_stored : (o : Option ℕ) → level_stored (fragments_over sites leg.step) h ≡ o → IsSafe (fold (metered power) p leg.steps) (steps.after g l (at_start pre) m)

@@ -20,8 +20,11 @@ use Rattle.paid_runs.specs.Marked.{extra_site_weights, AreMarked, IsKeptFollowed
 use Rattle.graph_runs.specs.KeptRuns.{kept_of}
 use Rattle.power_model.specs.Switches.{period, costs_of}
 use Rattle.paid_runs.specs.Timely.{weights_of, AreTables, AreTablesOf, IsPaidRun}
-use Rattle.paid_runs.specs.Tabled.{AreTabledOf}
-use Rattle.paid_runs.specs.Patched.{IsTuned, IsTunedRun}
+use Rattle.paid_runs.specs.Tabled.{AreTabledOf, AreTabledBy}
+use Rattle.paid_runs.specs.Budgets.{AreTablesWithin, IsInBudget}
+use Rattle.paid_runs.specs.Counters.{by_words}
+use Rattle.level_tables.specs.Budgets.{AreBudgets, meets_in_budget}
+use Rattle.paid_runs.specs.Patched.{IsTuned, IsTunedRun, IsBudgeted}
 
 -- The stored run of each kept run is paid, where the worst cycles at the starting level are in time.
 abbrev pub StoredRunsArePaid : Type 0
@@ -58,3 +61,34 @@ TunedRunsAreSafe = (power : PowerModel) (image patched : Image) (limits : ℕ �
 abbrev pub TablesOfKeepTime : Type 0
 TablesOfKeepTime = (power : PowerModel) (t : Text) (code : Code) (l : Loops) (sites : List Site) (is_of : ℕ → ℕ → Bool) (n : Numbers) (least : Charged) →
     AreTabledOf power t code l sites is_of n least → AreTablesOf power t code l sites is_of n least
+
+-- ---- budgets
+
+-- Every kept run of an image whose tables keep budgets is safe, and within the budget of its level behind each step of the original.
+abbrev pub BudgetedRunsAreSafe : Type 0
+BudgetedRunsAreSafe = (power : PowerModel) (budget : ℕ → ℕ) (image patched : Image) (limits : ℕ → ℕ) (sites : List Site) (start : ℕ)
+    (code : Code) (l : Loops) (extent : ℕ → ℕ → Bool) (is_of : ℕ → ℕ → Bool) (n : Numbers) (least : Charged) (more : Numbers) → IsBudgeted power budget image patched limits sites start code l extent is_of n least more →
+    (input : List ℕ) (steps : ℕ) (c : Carried) → kept_of image (length power.levels) input (by_extents l extent) steps ≡ Some c →
+    (r : IsTunedRun power image patched sites start code l is_of n more input steps c)
+    × IsInBudget power budget (text_of image) code l sites start n r.followed.kept.moves (run_of patched (length power.levels) input r.followed.followed.after).steps
+
+-- The stored run of each kept run is paid and within its budgets, where each counted loop has one word.
+abbrev pub StoredRunsKeepBudgets : Type 0
+StoredRunsKeepBudgets = (power : PowerModel) → IsPowerModel power → (budget : ℕ → ℕ) (image stored : Image) (sites : List Site) (start : ℕ) (code : Code) (l : Loops) (extent : ℕ → ℕ → Bool) (counted : ℕ → Bool) (word : ℕ → ℕ) → IsProgramOf (text_of image) code l extent →
+    AreCountable (text_graph (text_of image) code) l counted → AreMarked (text_of image) code l sites counted word → (n : Numbers) (least : Charged) → IsAnalyzed (text_graph (text_of image) code) l extent (weights_of power (text_of image) code sites) n →
+    AreCharged (text_graph (text_of image) code) l (weights_of power (text_of image) code sites) least → AreTablesWithin power budget (text_of image) code l sites (by_words l counted word) n least → start < length power.levels → AreBudgets power budget start (n.worst 0) →
+    (input : List ℕ) (steps : ℕ) (c : Carried) (f : IsKeptFollowed image stored (length power.levels) sites start input code l counted word (costs_of power) steps c) →
+    IsPaidRun power (text_of image) code l sites start n f.kept.moves (run_of stored (length power.levels) input f.followed.after).steps
+    × IsInBudget power budget (text_of image) code l sites start n f.kept.moves (run_of stored (length power.levels) input f.followed.after).steps
+
+-- Tables whose entries meet the test of budgets keep a run within them and pay.
+abbrev pub TablesKeepBudgets : Type 0
+TablesKeepBudgets = (power : PowerModel) (budget : ℕ → ℕ) (t : Text) (code : Code) (l : Loops) (sites : List Site) (is_of : ℕ → ℕ → Bool) (n : Numbers) (least : Charged) →
+    AreTabledBy power (meets_in_budget power budget) t code l sites is_of n least → AreTablesWithin power budget t code l sites is_of n least
+
+-- A tuned image is one whose budgets are all the deadline.
+abbrev pub TunedImagesAreBudgeted : Type 0
+TunedImagesAreBudgeted = (power : PowerModel) (image patched : Image) (limits : ℕ → ℕ) (sites : List Site) (start : ℕ)
+    (code : Code) (l : Loops) (extent : ℕ → ℕ → Bool) (is_of : ℕ → ℕ → Bool) (n : Numbers) (least : Charged) (more : Numbers) →
+    (IsTuned power image patched limits sites start code l extent is_of n least more → IsBudgeted power (λ i. power.deadline) image patched limits sites start code l extent is_of n least more)
+    × (IsBudgeted power (λ i. power.deadline) image patched limits sites start code l extent is_of n least more → IsTuned power image patched limits sites start code l extent is_of n least more)

@@ -1,5 +1,6 @@
 pub mod Timely
 pub mod Tabled
+pub mod Budgets
 pub mod Patched
 pub mod Laws
 pub mod Paid

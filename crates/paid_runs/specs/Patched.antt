@@ -16,10 +16,12 @@ use Rattle.graph_runs.specs.Laws.{IsProgramOf}
 use Rattle.stub_writer.specs.Stubs.{Site}
 use Rattle.stored_runs.specs.Cycles.{stepped_cycles}
 use Rattle.stored_runs.specs.Patched.{IsPatched}
+use Rattle.level_tables.specs.Budgets.{AreBudgets}
 use Rattle.paid_runs.specs.Marked.{extra_site_weights}
 use Rattle.paid_runs.specs.Counters.{AreCounterWords, AreCounted, IsKeptPatched}
 use Rattle.power_model.specs.Switches.{period, costs_of, NeverRises}
 use Rattle.paid_runs.specs.Timely.{weights_of, AreTablesOf, IsPaidRun}
+use Rattle.paid_runs.specs.Budgets.{AreTablesWithin}
 
 pub record IsTuned (power : PowerModel) (image patched : Image) (limits : ℕ → ℕ) (sites : List Site) (start : ℕ)
     (code : Code) (l : Loops) (extent : ℕ → ℕ → Bool) (is_of : ℕ → ℕ → Bool) (n : Numbers) (least : Charged) (more : Numbers) : Type 0 where
@@ -34,6 +36,20 @@ pub record IsTuned (power : PowerModel) (image patched : Image) (limits : ℕ �
   pub added : IsAnalyzed (text_graph (text_of image) code) l extent (extra_site_weights (text_of image) code (costs_of power) sites) more
   pub tables : AreTablesOf power (text_of image) code l sites is_of n least
   pub worst : n.worst 0 * period power start ≤ power.deadline
+
+-- The same with a budget for each level: the tables keep it, and the worst cycles at the starting level are within its budget.
+pub record IsBudgeted (power : PowerModel) (budget : ℕ → ℕ) (image patched : Image) (limits : ℕ → ℕ) (sites : List Site) (start : ℕ)
+    (code : Code) (l : Loops) (extent : ℕ → ℕ → Bool) (is_of : ℕ → ℕ → Bool) (n : Numbers) (least : Charged) (more : Numbers) : Type 0 where
+  pub power_is : IsPowerModel power
+  pub patched_is : IsPatched image patched (length power.levels) limits sites start
+  pub program : IsProgramOf (text_of image) code l extent
+  pub counters : AreCounterWords (text_graph (text_of image) code) l limits is_of
+  pub counted : AreCounted (text_of image) code l sites is_of
+  pub analyzed : IsAnalyzed (text_graph (text_of image) code) l extent (weights_of power (text_of image) code sites) n
+  pub least_is : AreCharged (text_graph (text_of image) code) l (weights_of power (text_of image) code sites) least
+  pub added : IsAnalyzed (text_graph (text_of image) code) l extent (extra_site_weights (text_of image) code (costs_of power) sites) more
+  pub tables : AreTablesWithin power budget (text_of image) code l sites is_of n least
+  pub budgets : AreBudgets power budget start (n.worst 0)
 
 -- what a run of it is, whose original is kept up to a step
 pub record IsTunedRun (power : PowerModel) (image patched : Image) (sites : List Site) (start : ℕ) (code : Code) (l : Loops) (is_of : ℕ → ℕ → Bool) (n more : Numbers) (input : List ℕ) (steps : ℕ) (c : Carried) : Type 0 where

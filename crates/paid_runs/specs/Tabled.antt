@@ -27,40 +27,48 @@ told_on g l w n least e tail = record {
   least = option_map (λ z. z + tail) (to_end_after g l least e);
 }
 
--- from level i an entry leads to i itself, or to a lower level that meets both tests
+-- From level i an entry leads to i itself, or to a lower level that meets a test. The test of an edge's numbers and two levels is a parameter: today's tables meet
+-- `meets_both power`, and those with budgets `meets_in_budget power budget`.
+abbrev pub IsEntryBy : (EdgeNumbers → ℕ → ℕ → Bool) → EdgeNumbers → (i j : ℕ) → Type 0
+IsEntryBy meets told i j = (j ≡ i) ⊎ ((j < i) × (meets told i j ≡ true))
+
+-- the same for the tests of time and of payment
 abbrev pub IsSafeEntry : PowerModel → EdgeNumbers → (i j : ℕ) → Type 0
-IsSafeEntry power told i j = (j ≡ i) ⊎ ((j < i) × (meets_both power told i j ≡ true))
+IsSafeEntry power told i j = IsEntryBy (meets_both power) told i j
 
 -- the table behind a loop that its counter counts: a row for each count up to the bound
-pub record AreRowsOf (power : PowerModel) (g : Graph) (l : Loops) (n : Numbers) (told : EdgeNumbers) (is_of : ℕ → ℕ → Bool) (e counter shift : ℕ) (rows : List ℕ) : Type 0 where
+pub record AreRowsBy (power : PowerModel) (meets : EdgeNumbers → ℕ → ℕ → Bool) (g : Graph) (l : Loops) (n : Numbers) (told : EdgeNumbers) (is_of : ℕ → ℕ → Bool) (e counter shift : ℕ) (rows : List ℕ) : Type 0 where
   pub loop : ℕ
   pub low : loop < l.loops
   pub counts : is_of counter loop ≡ true
   pub left : leaves l loop (g.source e) (g.target e) ≡ true
   pub enough : l.bound loop / 2 ^ shift < length rows
-  pub entries : (j i : ℕ) → j < length rows → i < length power.levels → IsSafeEntry power (at_row (l.bound loop) (n.iteration loop) shift told j) i (four_bits (slice_index rows j) i)
+  pub entries : (j i : ℕ) → j < length rows → i < length power.levels → IsEntryBy meets (at_row (l.bound loop) (n.iteration loop) shift told j) i (four_bits (slice_index rows j) i)
 
-abbrev pub IsTableOf : PowerModel → Graph → Loops → Numbers → EdgeNumbers → (ℕ → ℕ → Bool) → ℕ → Fragment → Type 0
-IsTableOf power g l n told is_of e (Switch table) = (i : ℕ) → i < length power.levels → IsSafeEntry power told i (four_bits table i)
-IsTableOf power g l n told is_of e (Exit counter shift rows) = AreRowsOf power g l n told is_of e counter shift rows
-IsTableOf power g l n told is_of e (Reset counter) = ⊥
-IsTableOf power g l n told is_of e (Count counter) = ⊥
+abbrev pub IsTableBy : PowerModel → (EdgeNumbers → ℕ → ℕ → Bool) → Graph → Loops → Numbers → EdgeNumbers → (ℕ → ℕ → Bool) → ℕ → Fragment → Type 0
+IsTableBy power meets g l n told is_of e (Switch table) = (i : ℕ) → i < length power.levels → IsEntryBy meets told i (four_bits table i)
+IsTableBy power meets g l n told is_of e (Exit counter shift rows) = AreRowsBy power meets g l n told is_of e counter shift rows
+IsTableBy power meets g l n told is_of e (Reset counter) = ⊥
+IsTableBy power meets g l n told is_of e (Count counter) = ⊥
 
 -- an edge within a function, with the table of its first fragment
-pub record IsEdgeTabled (power : PowerModel) (g : Graph) (l : Loops) (w : ℕ → ℕ) (n : Numbers) (least : Charged) (is_of : ℕ → ℕ → Bool) (e tail : ℕ) (f : Fragment) : Type 0 where
+pub record IsEdgeWithTable (power : PowerModel) (meets : EdgeNumbers → ℕ → ℕ → Bool) (g : Graph) (l : Loops) (w : ℕ → ℕ) (n : Numbers) (least : Charged) (is_of : ℕ → ℕ → Bool) (e tail : ℕ) (f : Fragment) : Type 0 where
   pub inside : g.callee e ≡ None
   pub target : ℕ
   pub leads : g.target e ≡ Some target
-  pub table : IsTableOf power g l n (told_on g l w n least e tail) is_of e f
+  pub table : IsTableBy power meets g l n (told_on g l w n least e tail) is_of e f
 
 -- only the first fragment of an edge has a table
-abbrev pub IsEdgeTabledBy : PowerModel → Graph → Loops → (ℕ → ℕ) → Numbers → Charged → (ℕ → ℕ → Bool) → ℕ → List Fragment → Type 0
-IsEdgeTabledBy power g l w n least is_of e [] = Unit {0}
-IsEdgeTabledBy power g l w n least is_of e (Switch table ∷ fs) = IsEdgeTabled power g l w n least is_of e (tail_cycles (costs_of power) (Switch table ∷ fs)) (Switch table)
-IsEdgeTabledBy power g l w n least is_of e (Exit counter shift rows ∷ fs) = IsEdgeTabled power g l w n least is_of e (tail_cycles (costs_of power) (Exit counter shift rows ∷ fs)) (Exit counter shift rows)
-IsEdgeTabledBy power g l w n least is_of e (Reset counter ∷ fs) = Unit {0}
-IsEdgeTabledBy power g l w n least is_of e (Count counter ∷ fs) = Unit {0}
+abbrev pub IsEdgeTabledBy : PowerModel → (EdgeNumbers → ℕ → ℕ → Bool) → Graph → Loops → (ℕ → ℕ) → Numbers → Charged → (ℕ → ℕ → Bool) → ℕ → List Fragment → Type 0
+IsEdgeTabledBy power meets g l w n least is_of e [] = Unit {0}
+IsEdgeTabledBy power meets g l w n least is_of e (Switch table ∷ fs) = IsEdgeWithTable power meets g l w n least is_of e (tail_cycles (costs_of power) (Switch table ∷ fs)) (Switch table)
+IsEdgeTabledBy power meets g l w n least is_of e (Exit counter shift rows ∷ fs) = IsEdgeWithTable power meets g l w n least is_of e (tail_cycles (costs_of power) (Exit counter shift rows ∷ fs)) (Exit counter shift rows)
+IsEdgeTabledBy power meets g l w n least is_of e (Reset counter ∷ fs) = Unit {0}
+IsEdgeTabledBy power meets g l w n least is_of e (Count counter ∷ fs) = Unit {0}
+
+abbrev pub AreTabledBy : PowerModel → (EdgeNumbers → ℕ → ℕ → Bool) → Text → Code → Loops → List Site → (ℕ → ℕ → Bool) → Numbers → Charged → Type 0
+AreTabledBy power meets t code l sites is_of n least = (e : ℕ) (class : Class) → e < (text_graph t code).edges → edge_class t (slice_get code.edges e) ≡ Some class
+    → IsEdgeTabledBy power meets (text_graph t code) l (weights_of power t code sites) n least is_of e (fragments_of_class (place_at sites (edge_at (slice_get code.edges e))) class)
 
 abbrev pub AreTabledOf : PowerModel → Text → Code → Loops → List Site → (ℕ → ℕ → Bool) → Numbers → Charged → Type 0
-AreTabledOf power t code l sites is_of n least = (e : ℕ) (class : Class) → e < (text_graph t code).edges → edge_class t (slice_get code.edges e) ≡ Some class
-    → IsEdgeTabledBy power (text_graph t code) l (weights_of power t code sites) n least is_of e (fragments_of_class (place_at sites (edge_at (slice_get code.edges e))) class)
+AreTabledOf power t code l sites is_of n least = AreTabledBy power (meets_both power) t code l sites is_of n least

@@ -1,8 +1,9 @@
 //! Stored runs of kept runs end in time, never raise their level, and save energy, where the levels in their tables meet two tests: that what is
 //! left is in time, and that the least cycles to an end pay for the switch.
+//! Tests: none, since nothing of it runs.
 #![tactic(auto)]
 
-ghost use Rattle.paid_runs.specs.Laws.{StoredRunsArePaid, StoredRunsSaveEnergy, StubsAreBounded, TablesOfKeepTime, TunedRunsAreSafe};
+ghost use Rattle.paid_runs.specs.Laws.{BudgetedRunsAreSafe, StoredRunsArePaid, StoredRunsKeepBudgets, StoredRunsSaveEnergy, StubsAreBounded, TablesKeepBudgets, TablesOfKeepTime, TunedImagesAreBudgeted, TunedRunsAreSafe};
 
 mod legs;
 mod marked;
@@ -36,4 +37,17 @@ pub fn tables_keep_time()
 /// level, and with at most so many cycles and steps more.
 pub fn tuned_runs_are_safe()
     ensures { TunedRunsAreSafe }
+{}
+
+/// Tables whose entries meet the test of budgets and pay keep a run within its budgets, so a switch may stand on an edge without slack.
+pub fn tables_keep_budgets()
+    ensures { TablesKeepBudgets }
+{}
+
+/// Every kept run of an image whose tables keep budgets is safe, and within the budget of its level behind each step of the original. A tuned
+/// image is one whose budgets are all the deadline.
+pub fn budgeted_runs_are_safe()
+    ensures safe { BudgetedRunsAreSafe }
+    ensures stored { StoredRunsKeepBudgets }
+    ensures tuned { TunedImagesAreBudgeted }
 {}

@@ -1,4 +1,5 @@
 //! The levels and costs of a machine, and what the steps of a run cost on it.
+//! Tests: crates/file_tests/src/prices.rt.
 #![tactic(auto)]
 
 mod meter;
@@ -38,6 +39,3 @@ pub fn pair_law()
     ensures pairs { PairsHoldNumbers }
     ensures one { EachChangeTakesOne }
 {}
-
-#[cfg(test)]
-mod tests;

@@ -23,7 +23,7 @@ use Rattle.scale_base.specs.declared.fragments.Mark.TheVariants as marks
 use Rattle.scale_sites.specs.Counters.{counted_loops, edge_goes_on, goes_on}
 use Rattle.scale_sites.specs.Sites.{is_branch, edge_branches, is_branch_kind}
 use Rattle.scale_sites.specs.Weights.{some_mark, is_patched, jumps_of, extra_of, extra_weight}
-use Rattle.rewritten_runs.specs.Stubs.{IsWeighed, marks_by_slack, extra_weights, stored_weights}
+use Rattle.rewritten_runs.specs.Stubs.{Rule, IsWeighedBy, marks_by, extra_weights, stored_weights}
 use Rattle.rewritten_runs.proofs.Edges.{call_goes_on}
 use Rattle.rewritten_runs.proofs.Marked.{IsMarkOf, program_is, graph_program, countable, counted_is, marked_led, marks_of_edge}
 
@@ -44,7 +44,7 @@ none_below : (n : ℕ) (p : ℕ → Bool) → ((k : ℕ) → k < n → p k ≡ f
 none_below zero p h = refl
 none_below (suc n) p h = Rattle.std.proofs.lemmas.Bool.or_from (any_below n p) (p n) (none_below n p (λ k lt2. h k (omega arith))) (h n (omega arith))
 
-module _ (power : PowerModel) (image : Image) (notes : List LoopNote) (v : FlowGraph) (tree : LoopView) (plain stored : Numbers) (weighed : IsWeighed power image notes v tree plain stored) where
+module _ {rule : Rule} (power : PowerModel) (image : Image) (notes : List LoopNote) (v : FlowGraph) (tree : LoopView) (plain stored : Numbers) (weighed : IsWeighedBy power image notes v tree rule plain stored) where
   abbrev t : Text
   t = text_of image
 
@@ -55,7 +55,7 @@ module _ (power : PowerModel) (image : Image) (notes : List LoopNote) (v : FlowG
   g = text_graph (text_of image) v.code
 
   abbrev marked : ℕ → List Mark
-  marked = marks_by_slack power image v tree plain
+  marked = marks_by v tree rule
 
   pub calls_unmarked : (e f : ℕ) → e < length v.code.edges → g.callee e ≡ Some f → marked e ≡ []
   calls_unmarked e f lt callee = by (marked e) refl (marks_of_edge power image notes v tree plain stored weighed e)

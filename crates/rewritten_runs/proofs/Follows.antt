@@ -36,15 +36,15 @@ use Rattle.stored_runs.specs.Legs.{Leg, originals, steps_to}
 use Rattle.stored_runs.specs.Laws.{text_steps}
 use Rattle.stored_runs.proofs.Laws.{frame, text_of_legs, meetings_once}
 use Rattle.paid_runs.specs.Marked.{IsKeptFollowed, AreHeld}
-use Rattle.paid_runs.proofs.Laws.{kept_followed, energy_sum, switches_save, runs_paid, stubs_bounded}
+use Rattle.paid_runs.proofs.Laws.{kept_followed, energy_sum, switches_save, runs_within, stubs_bounded}
 use Rattle.power_model.specs.Switches.{period, costs_of, NeverRises, switches_from, saved, fee, AllPay}
 use Rattle.paid_runs.specs.Timely.{weights_of, IsPaidRun}
 use Rattle.rewritten_runs.specs.Prices.{price_of}
-use Rattle.rewritten_runs.specs.Stubs.{stored_weights, marks_by_slack, is_counted, counter_of}
+use Rattle.rewritten_runs.specs.Stubs.{Rule, stored_weights, marks_by, is_counted, counter_of}
 use Rattle.rewritten_runs.specs.Promise.{KeepsThePromise}
 use Rattle.rewritten_runs.specs.Followed.{graph_place, ShowsCounts, IsMeeting, MeetsInTime, HasEnded, SwitchesPay, EndsInTime, FollowsInTime}
 use Rattle.rewritten_runs.proofs.Ended.{over_stays, taken, taken_within}
-use Rattle.rewritten_runs.proofs.Supplied.{IsSupplied}
+use Rattle.rewritten_runs.proofs.Supplied.{IsSuppliedBy}
 use Rattle.rewritten_runs.proofs.Places.{calls_back, left_same, in_same}
 
 -- each class costs a cycle at least
@@ -60,8 +60,8 @@ each_cost power ok class.Div = ok.costs.div
 each_cost power ok class.Ecall = ok.costs.ecall
 each_cost power ok class.Fence = ok.costs.fence
 
-module _ (power : PowerModel) (file : List ℕ) (image : Image) (notes : List LoopNote) (v : FlowGraph) (tree : LoopView) (plain stored extra : Numbers) (least : Charged) (sites : List Site) (base start : ℕ) (rewritten : Image)
-    (s : IsSupplied power file image notes v tree plain stored extra least sites base start rewritten)
+module _ {budget : ℕ → ℕ} {rule : Rule} (power : PowerModel) (file : List ℕ) (image : Image) (notes : List LoopNote) (v : FlowGraph) (tree : LoopView) (plain stored extra : Numbers) (least : Charged) (sites : List Site) (base start : ℕ) (rewritten : Image)
+    (s : IsSuppliedBy power budget file image notes v tree rule plain stored extra least sites base start rewritten)
     (off_key : (a : ℕ) → list_any (in_range a) image.text ≡ true → is_keyed (layout_of rewritten) a ≡ false) where
   abbrev levels : ℕ
   levels = length power.levels
@@ -101,7 +101,7 @@ module _ (power : PowerModel) (file : List ℕ) (image : Image) (notes : List Lo
 
   paid : (input : List ℕ) (n : ℕ) (c : Carried) (f : Followed input n c) → IsPaidRun power t v.code l sites start stored f.kept.moves (stored_run input n c f).steps
   paid input n c f =
-      runs_paid power s.ok image rewritten sites start v.code l extent (is_counted tree) (counter_of tree) s.program s.countable s.marked stored least s.analyzed s.least_are s.tables s.stubbed.start_is_level s.in_time input n c f
+      (runs_within power s.ok budget image rewritten sites start v.code l extent (is_counted tree) (counter_of tree) s.program s.countable s.marked stored least s.analyzed s.least_are s.tables s.stubbed.start_is_level s.budgets input n c f).0
 
   -- a fact of what the stored run costs, from its starting level
   from_start : (input : List ℕ) (n : ℕ) (c : Carried) (f : Followed input n c) (P : Metered → Type 0) → P (price power start (stored_run input n c f).steps) → P (price_of power rewritten input f.followed.after)
@@ -303,14 +303,14 @@ module _ (power : PowerModel) (file : List ℕ) (image : Image) (notes : List Lo
       (ap (is_keyed (layout_of rewritten)) one.states.pc ∙ off) (ap (is_keyed (layout_of rewritten)) other.states.pc ∙ off) (one.text ∙ sym other.text)
 
   time_left : (input : List ℕ) (n : ℕ) (c : Carried) (f : Followed input n c) → (run_of image levels input n).standing ≡ GoesOn → (price_of power rewritten input f.followed.after).time
-      + steps.cycles_left (graph v) (loops v tree) (stored_weights power image v (marks_by_slack power image v tree plain)) stored (graph_place (run_of image levels input n) c) * period power (price_of power rewritten input f.followed.after).level ≤ power.deadline
+      + steps.cycles_left (graph v) (loops v tree) (stored_weights power image v (marks_by v tree rule)) stored (graph_place (run_of image levels input n) c) * period power (price_of power rewritten input f.followed.after).level ≤ power.deadline
   time_left input n c f goes =
       let at = at_node input n c f goes in
       let w = weights_of power t v.code sites in
       let moved = left_same g l w stored (after_transitions t v.code l f.kept.moves) (run_of image levels input n).state.pc (map (λ a. a - 4) c.returns) c.counts at.node (calls_are input n c f goes) at.counted in
-      let there : steps.cycles_left g l w stored (after_transitions t v.code l f.kept.moves) ≡ steps.cycles_left (graph v) l (stored_weights power image v (marks_by_slack power image v tree plain)) stored (graph_place (run_of image levels input n) c) =
+      let there : steps.cycles_left g l w stored (after_transitions t v.code l f.kept.moves) ≡ steps.cycles_left (graph v) l (stored_weights power image v (marks_by v tree rule)) stored (graph_place (run_of image levels input n) c) =
       moved ∙ (ap (λ q. steps.cycles_left q l w stored (graph_place (run_of image levels input n) c)) s.graph_is ∙ ap (λ q. steps.cycles_left (graph v) l q stored (graph_place (run_of image levels input n) c)) s.weights_are) in
-      from_start input n c f (λ m. m.time + steps.cycles_left (graph v) l (stored_weights power image v (marks_by_slack power image v tree plain)) stored (graph_place (run_of image levels input n) c) * period power m.level ≤ power.deadline)
+      from_start input n c f (λ m. m.time + steps.cycles_left (graph v) l (stored_weights power image v (marks_by v tree rule)) stored (graph_place (run_of image levels input n) c) * period power m.level ≤ power.deadline)
       (subst (λ x. (price power start (stored_run input n c f).steps).time + x * period power (price power start (stored_run input n c f).steps).level ≤ power.deadline) there (paid input n c f).in_time)
 
   after_steps : (input : List ℕ) (n : ℕ) (c : Carried) (f : Followed input n c) → (run_of image levels input n).standing ≡ GoesOn → f.followed.after ≡ length (stored_run input n c f).steps
@@ -320,7 +320,7 @@ module _ (power : PowerModel) (file : List ℕ) (image : Image) (notes : List Lo
       omega (arith, f.followed.after_is, no_more, e)
 
   meets : (input : List ℕ) (n : ℕ) (c : Carried) → kept_of image levels input (noted_loops notes) n ≡ Some c → (run_of image levels input n).standing ≡ GoesOn
-      → MeetsInTime power image rewritten v tree (stored_weights power image v (marks_by_slack power image v tree plain)) stored (extra.worst 0) input n c
+      → MeetsInTime power image rewritten v tree (stored_weights power image v (marks_by v tree rule)) stored (extra.worst 0) input n c
   meets input n c k goes =
       let f = followed input n c k in
       let b = bounded input n c f in
@@ -337,7 +337,7 @@ module _ (power : PowerModel) (file : List ℕ) (image : Image) (notes : List Lo
         time_left = time_left input n c f goes;
       }
 
-  pub follows : FollowsInTime power image rewritten notes v tree (stored_weights power image v (marks_by_slack power image v tree plain)) plain stored (extra.worst 0)
+  pub follows : FollowsInTime power image rewritten notes v tree (stored_weights power image v (marks_by v tree rule)) plain stored (extra.worst 0)
   follows = record {
     cycles = λ input n kept.
         let one = cycles-price power (starting_level levels image.keyed_segment) (run_of image levels input n).steps in

@@ -1,6 +1,6 @@
 -- A rewritten image follows the original in time, and keeps the promise.
 use Rattle.std.proofs.Common.{◌≡◌, ℕ, zero, suc, ◌+◌, ◌*◌, ◌<◌, ◌≤◌, ◌⊎◌, inl, inr, Bool, true, false, List, [], ◌∷◌, length, slice_get, Option, Some, None, Ok, refl, sym, ap, ◌∙◌, subst, arith}
-use Rattle.std.specs.Prelude.{All, IsTrue, min, find, nat_le}
+use Rattle.std.specs.Prelude.{All, IsTrue, min, find}
 use Rattle.std.specs.List.{range_with_len, list_any}
 use Rattle.std.proofs.lemmas.List.Elements.{All-nil, All-cons}
 use Rattle.std.proofs.lemmas.Option.{get_or_from_slice_get}
@@ -35,14 +35,16 @@ use Rattle.scale_sites.specs.Sites.{is_branch}
 use Rattle.stub_writer.specs.Stubs.{Site, block_size, block_bytes, patches_from, stub_len, jump, out_of_reach}
 use Rattle.stored_runs.specs.Stubbed.{IsStubbed, IsSafeSite}
 use Rattle.stored_runs.proofs.Laws.{frame}
+use Rattle.level_tables.specs.Budgets.{AreBudgets}
 use Rattle.paid_runs.specs.Marked as marked_specs
 use Rattle.paid_runs.proofs.Laws.{weights_of_calls}
 use Rattle.power_model.specs.Switches.{costs_of}
 use Rattle.paid_runs.specs.Timely.{weights_of}
-use Rattle.rewritten_runs.specs.Laws.{IsSafelyRewritten, RewrittenImagesFollow}
-use Rattle.rewritten_runs.specs.Stubs.{IsWeighed, HasStubs, marks_by_slack, stored_weights, extra_weights, rewritten_file, loop_of}
+use Rattle.rewritten_runs.specs.Laws.{IsSafelyRewrittenBy, RewrittenImagesFollow, KeepsBudgets, BudgetedImagesFollow, ChosenImagesFollow}
+use Rattle.level_tables.proofs.Laws.{both_in_budget}
+use Rattle.rewritten_runs.specs.Stubs.{Rule, by_slack, by_choice, IsWeighedBy, IsWeighed, HasStubsBy, HasStubs, marks_by, stored_weights, extra_weights, rewritten_file, loop_of}
 use Rattle.rewritten_runs.proofs.Programs.{kept_by_tree}
-use Rattle.rewritten_runs.proofs.Supplied.{IsSupplied}
+use Rattle.rewritten_runs.proofs.Supplied.{IsSuppliedBy, IsSupplied}
 use Rattle.rewritten_runs.proofs.Follows.{follows, keeps}
 use Rattle.rewritten_runs.proofs.Marked.{program_is, graph_program, countable, are_marked, limited, shadows, loop_count, counted_is}
 use Rattle.rewritten_runs.proofs.MarkOrder.{in_get, set_distinct}
@@ -87,9 +89,9 @@ found_below p a (suc n) x e =
       | inr h ↦ omega (arith, found_below p (a + 1) n x h.1)
     ]
 
-module _ (power : PowerModel) (ok : IsPowerModel power) (file : List ℕ) (image : Image) (notes : List LoopNote) (v : FlowGraph) (tree : LoopView) (plain stored extra : Numbers) (least : Charged) (sites : List Site) (base start : ℕ)
-    (read : image_of file ≡ Ok image) (no_key : image.keyed_segment ≡ None) (short_file : length file ≤ 4194304) (weighed : IsWeighed power image notes v tree plain stored) (slow : slowest_of power (stored.worst 0) ≡ Some start)
-    (stubs : HasStubs power image v tree plain stored extra least sites base) (near : out_of_reach base sites ≡ None) where
+module _ (budget : ℕ → ℕ) (rule : Rule) (power : PowerModel) (strong : KeepsBudgets power budget rule) (ok : IsPowerModel power) (file : List ℕ) (image : Image) (notes : List LoopNote) (v : FlowGraph) (tree : LoopView) (plain stored extra : Numbers) (least : Charged) (sites : List Site) (base start : ℕ)
+    (read : image_of file ≡ Ok image) (no_key : image.keyed_segment ≡ None) (short_file : length file ≤ 4194304) (weighed : IsWeighedBy power image notes v tree rule plain stored) (start_low : start < length power.levels) (budgets : AreBudgets power budget start (stored.worst 0))
+    (stubs : HasStubsBy power image v tree rule stored extra least sites base) (near : out_of_reach base sites ≡ None) where
   abbrev l : Loops
   l = loops v tree
 
@@ -120,7 +122,7 @@ module _ (power : PowerModel) (ok : IsPowerModel power) (file : List ℕ) (image
   are_loops : AreLoopsOnce l (counted_loops tree)
   are_loops k h = let at = in_get k (counted_loops tree) h in (counted_is power image notes v tree plain stored weighed at.0 k at.1).loop
 
-  few : (e : ℕ) → e < length v.code.edges → length (marks_by_slack power image v tree plain e) ≤ 17
+  few : (e : ℕ) → e < length v.code.edges → length (marks_by v tree rule e) ≤ 17
   few e lt =
       let r = source_reached (kind_at (text_of image)) image.entry v.code prog.reached.lists prog.reached.words e lt in
       let node = (prog.reached.lists.nodes (edge_at (slice_get v.code.edges e))).1 r in
@@ -131,7 +133,7 @@ module _ (power : PowerModel) (ok : IsPowerModel power) (file : List ℕ) (image
       let is = weighed.tree_is.tree.innermost node.0 o.0 o.1 in
       let gp = graph_program power image notes v tree plain stored weighed in
       let d = depth g l extent gp prog.loops tree.counted flag_count are_loops (set_distinct 0 tree.counted) (edge_at (slice_get v.code.edges e)) o.0 (innermost_of (edge_at (slice_get v.code.edges e)) o.0 (subst (λ a. IsInnermost l a o.0) address is)) in
-      few_marks g l extent gp prog.loops tree.counted flag_count are_loops (set_distinct 0 tree.counted) e (is_branch v e) _ power.min_gain lt d
+      few_marks g l extent gp prog.loops tree.counted flag_count are_loops (set_distinct 0 tree.counted) e (is_branch v e) _ rule.least_gain lt d
 
   -- ---- the stored image
 
@@ -144,11 +146,8 @@ module _ (power : PowerModel) (ok : IsPowerModel power) (file : List ℕ) (image
   same_len : min (block_size sites) 4194304 ≡ length (block_bytes base sites)
   same_len = let n = block_bytes_len base sites in omega (arith, n, size_small)
 
-  start_low : start < levels
-  start_low = let lt = found_below (is_in_time power (stored.worst 0)) 0 levels start slow in omega (arith, lt)
-
-  pub storable : IsStorable image (patches_from base sites) base (block_bytes base sites) start
-  storable = record {
+  pub storable_by : IsStorable image (patches_from base sites) base (block_bytes base sites) start
+  storable_by = record {
     file = (let n = ap length (file_is file image read) in omega (arith, n, short_file));
     no_key = no_key;
     words = patched_words image base sites (λ k d lt. (stubs.sites_are.words k d lt).0);
@@ -163,8 +162,8 @@ module _ (power : PowerModel) (ok : IsPowerModel power) (file : List ℕ) (image
   stubbed : IsStubbed file image levels limits sites base start rewritten
   stubbed = record {
     read = read;
-    storable = storable;
-    stored_is = law file image (patches_from base sites) base (block_bytes base sites) start read storable;
+    storable = storable_by;
+    stored_is = law file image (patches_from base sites) base (block_bytes base sites) start read storable_by;
     near = near;
     ascending = stubs.sites_are.ascending;
     safe = safe;
@@ -175,17 +174,14 @@ module _ (power : PowerModel) (ok : IsPowerModel power) (file : List ℕ) (image
 
   -- ---- what the laws ask
 
-  same_stored : weights_of power (text_of image) v.code sites ≡ stored_weights power image v (marks_by_slack power image v tree plain)
+  same_stored : weights_of power (text_of image) v.code sites ≡ stored_weights power image v (marks_by v tree rule)
   same_stored = stored_same power image notes v tree plain stored weighed least sites stubs.sites_are
 
-  same_extra : marked_specs.extra_site_weights (text_of image) v.code (costs_of power) sites ≡ extra_weights power v (marks_by_slack power image v tree plain)
+  same_extra : marked_specs.extra_site_weights (text_of image) v.code (costs_of power) sites ≡ extra_weights power v (marks_by v tree rule)
   same_extra = extra_same power image notes v tree plain stored weighed least sites stubs.sites_are
 
-  in_time_is : (w i deadline : ℕ) → nat_le w deadline ≡ true → w ≤ deadline
-  in_time_is w i deadline h = Rattle.rewritten_runs.proofs.TableLaws.leb-le w deadline h
-
-  pub supplied : IsSupplied power file image notes v tree plain stored extra least sites base start rewritten
-  supplied = record {
+  pub supplied_by : IsSuppliedBy power budget file image notes v tree rule plain stored extra least sites base start rewritten
+  supplied_by = record {
     limits = limits;
     ok = ok;
     graph_is = weighed.code_is.graph_is;
@@ -209,16 +205,17 @@ module _ (power : PowerModel) (ok : IsPowerModel power) (file : List ℕ) (image
       numbers = subst (λ (q : Graph). AreNumbers q l (marked_specs.extra_site_weights (text_of image) v.code (costs_of power) sites) extra) (sym weighed.code_is.graph_is) (subst (λ (w : ℕ → ℕ). AreNumbers (graph v) l w extra) (sym same_extra) stubs.extra_are);
     };
     least_are = subst (λ (q : Graph). AreCharged q l (weights_of power (text_of image) v.code sites) least) (sym weighed.code_is.graph_is) (subst (λ (w : ℕ → ℕ). AreCharged (graph v) l w least) (sym same_stored) stubs.least_are);
-    tables = are_tables power ok image notes v tree plain stored weighed least sites stubs.sites_are;
+    tables = are_tables power ok image notes v tree plain stored weighed least sites stubs.sites_are budget strong;
     plain_are = subst (λ (q : Graph). AreNumbers q l (weights (text_of image) v.code (costs_of power)) plain) (sym weighed.code_is.graph_is) weighed.plain_are;
-    in_time = in_time_is (time_at power start (stored.worst 0)) start power.deadline (found_passes (is_in_time power (stored.worst 0)) (range_with_len 0 levels) start slow);
+    budgets = budgets;
+    in_time = (let first = budgets.first in let late = budgets.within start start_low in omega (arith, first, late));
     weights_are = same_stored;
   }
 
   off_key : (a : ℕ) → list_any (is_in a) image.text ≡ true → is_keyed (layout_of rewritten) a ≡ false
-  off_key a on = ((frame file image rewritten sites base start levels [] read storable stubbed.stored_is stubs.sites_are.ascending).alike a on).right
+  off_key a on = ((frame file image rewritten sites base start levels [] read storable_by stubbed.stored_is stubs.sites_are.ascending).alike a on).right
 
-  pub rewritten_is_safe : IsSafelyRewritten power image notes v tree plain stored (extra.worst 0) start (rewritten_file image sites base start)
+  pub rewritten_is_safe : IsSafelyRewrittenBy power image notes v tree rule plain stored (extra.worst 0) start (rewritten_file image sites base start)
   rewritten_is_safe = record {
     rewritten = rewritten;
     is = ap (λ f. image_of (stored_image f (patches_from base sites) base (block_bytes base sites) start)) (file_is file image read) ∙ stubbed.stored_is;
@@ -226,10 +223,42 @@ module _ (power : PowerModel) (ok : IsPowerModel power) (file : List ℕ) (image
     key = key_of base (block_bytes base sites) start;
     keyed = view_key image (stored_image file (patches_from base sites) base (block_bytes base sites) start) base (block_bytes base sites) start;
     starts = refl;
-    promise = keeps power file image notes v tree plain stored extra least sites base start rewritten supplied off_key;
-    follows = follows power file image notes v tree plain stored extra least sites base start rewritten supplied off_key;
+    promise = keeps power file image notes v tree plain stored extra least sites base start rewritten supplied_by off_key;
+    follows = follows power file image notes v tree plain stored extra least sites base start rewritten supplied_by off_key;
   }
+
+pub budgeted_follow : BudgetedImagesFollow
+budgeted_follow = λ power ok budget rule strong file image notes v t plain stored extra least sites base start read no_key short weighed low budgets stubs near.
+    rewritten_is_safe budget rule power strong ok file image notes v t plain stored extra least sites base start read no_key short weighed low budgets stubs near
+
+pub chosen_follow : ChosenImagesFollow
+chosen_follow = λ power ok budget chosen. budgeted_follow power ok budget (by_choice power budget chosen) (λ told i j met. met)
+
+-- ---- by the rule of slacks, with the deadline as each budget
+
+slack_keeps : (power : PowerModel) (image : Image) (v : FlowGraph) (tree : LoopView) (plain : Numbers) → KeepsBudgets power (λ i. power.deadline) (by_slack power image v tree plain)
+slack_keeps power image v tree plain told i j met = both_in_budget power told i j met
+
+module _ (power : PowerModel) (ok : IsPowerModel power) (file : List ℕ) (image : Image) (notes : List LoopNote) (v : FlowGraph) (tree : LoopView) (plain stored extra : Numbers) (least : Charged) (sites : List Site) (base start : ℕ)
+    (read : image_of file ≡ Ok image) (no_key : image.keyed_segment ≡ None) (short_file : length file ≤ 4194304) (weighed : IsWeighed power image notes v tree plain stored) (slow : slowest_of power (stored.worst 0) ≡ Some start)
+    (stubs : HasStubs power image v tree plain stored extra least sites base) (near : out_of_reach base sites ≡ None) where
+  slow_low : start < length power.levels
+  slow_low = let lt = found_below (is_in_time power (stored.worst 0)) 0 (length power.levels) start slow in omega (arith, lt)
+
+  slow_budgets : AreBudgets power (λ i. power.deadline) start (stored.worst 0)
+  slow_budgets = record {
+    first = Rattle.rewritten_runs.proofs.TableLaws.leb-le (time_at power start (stored.worst 0)) power.deadline (found_passes (is_in_time power (stored.worst 0)) (range_with_len 0 (length power.levels)) start slow);
+    within = λ i low. omega arith;
+  }
+
+  pub storable : IsStorable image (patches_from base sites) base (block_bytes base sites) start
+  storable = storable_by (λ i. power.deadline) (by_slack power image v tree plain) power (slack_keeps power image v tree plain) ok file image notes v tree plain stored extra least sites base start read no_key short_file weighed slow_low slow_budgets stubs near
+
+  pub supplied : IsSupplied power file image notes v tree plain stored extra least sites base start (stored_view image (stored_image file (patches_from base sites) base (block_bytes base sites) start) base (block_bytes base sites) start)
+  supplied = supplied_by (λ i. power.deadline) (by_slack power image v tree plain) power (slack_keeps power image v tree plain) ok file image notes v tree plain stored extra least sites base start read no_key short_file weighed slow_low slow_budgets stubs near
 
 pub rewritten_follow : RewrittenImagesFollow
 rewritten_follow = λ power ok file image notes v t plain stored extra least sites base start read no_key short weighed _ slow stubs near.
-    rewritten_is_safe power ok file image notes v t plain stored extra least sites base start read no_key short weighed slow stubs near
+    budgeted_follow power ok (λ i. power.deadline) (by_slack power image v t plain) (slack_keeps power image v t plain) file image notes v t plain stored extra least sites base start read no_key short weighed
+    (slow_low power ok file image notes v t plain stored extra least sites base start read no_key short weighed slow stubs near)
+    (slow_budgets power ok file image notes v t plain stored extra least sites base start read no_key short weighed slow stubs near) stubs near

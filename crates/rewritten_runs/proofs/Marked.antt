@@ -35,22 +35,22 @@ use Rattle.stored_runs.specs.Marks.{place_at, fragments_of_class, counters_after
 use Rattle.paid_runs.specs.Shadows.{AreCountable}
 use Rattle.paid_runs.specs.Marked as marked_specs
 use Rattle.paid_runs.proofs.Laws.{loops_are_countable}
-use Rattle.rewritten_runs.specs.Stubs.{IsWeighed, marks_by_slack, told_at, fragment_of, fragments_at, loop_of, is_counted, counter_of, set_before}
+use Rattle.rewritten_runs.specs.Stubs.{Rule, IsWeighedBy, marks_by, told_at, fragment_by, fragments_with, loop_of, is_counted, counter_of, set_before}
 use Rattle.rewritten_runs.proofs.Programs.{program_of}
 use Rattle.rewritten_runs.proofs.Edges.{branch_led, call_goes_on}
 use Rattle.rewritten_runs.proofs.MarkLists.{set_at, at_set, effect, through, marks_all, exits_are, resets_are, counts_are, counter_through, others_through}
 
 -- ---- fragments act as their marks do
 
-acts : (power : PowerModel) (l : Loops) (counted : List ℕ) (n : Numbers) (told : tables.EdgeNumbers) (m : Mark) (c : ℕ → ℕ) (w : ℕ) → counters_after (fragment_of power l counted n told m) c w ≡ effect m w (c w)
-acts power l counted n told marks.Switch c w = refl
-acts power l counted n told (marks.Exit i) c w = refl
-acts power l counted n told (marks.Reset i) c w = refl
-acts power l counted n told (marks.Count i) c w = refl
+acts : (power : PowerModel) (test : tables.EdgeNumbers → ℕ → ℕ → Bool) (l : Loops) (counted : List ℕ) (n : Numbers) (told : tables.EdgeNumbers) (m : Mark) (c : ℕ → ℕ) (w : ℕ) → counters_after (fragment_by power test l counted n told m) c w ≡ effect m w (c w)
+acts power test l counted n told marks.Switch c w = refl
+acts power test l counted n told (marks.Exit i) c w = refl
+acts power test l counted n told (marks.Reset i) c w = refl
+acts power test l counted n told (marks.Count i) c w = refl
 
-pub all_act : (power : PowerModel) (l : Loops) (counted : List ℕ) (n : Numbers) (told : tables.EdgeNumbers) (ms : List Mark) (c : ℕ → ℕ) (w : ℕ) → counters_behind (map (fragment_of power l counted n told) ms) c w ≡ through w ms (c w)
-all_act power l counted n told [] c w = refl
-all_act power l counted n told (m ∷ ms) c w = all_act power l counted n told ms (counters_after (fragment_of power l counted n told m) c) w ∙ ap (through w ms) (acts power l counted n told m c w)
+pub all_act : (power : PowerModel) (test : tables.EdgeNumbers → ℕ → ℕ → Bool) (l : Loops) (counted : List ℕ) (n : Numbers) (told : tables.EdgeNumbers) (ms : List Mark) (c : ℕ → ℕ) (w : ℕ) → counters_behind (map (fragment_by power test l counted n told) ms) c w ≡ through w ms (c w)
+all_act power test l counted n told [] c w = refl
+all_act power test l counted n told (m ∷ ms) c w = all_act power test l counted n told ms (counters_after (fragment_by power test l counted n told m) c) w ∙ ap (through w ms) (acts power test l counted n told m c w)
 
 -- ---- what is so of the marks of a step
 
@@ -103,7 +103,7 @@ flag_is (b ∷ flags) (suc k) h = flag_is flags k h
 goes_apart : (a b : Bool) → (a && b) ≡ true → b ≡ true
 goes_apart a b h = (and_parts a b h).1
 
-module _ (power : PowerModel) (image : Image) (notes : List LoopNote) (v : FlowGraph) (tree : LoopView) (plain stored : Numbers) (weighed : IsWeighed power image notes v tree plain stored) where
+module _ {rule : Rule} (power : PowerModel) (image : Image) (notes : List LoopNote) (v : FlowGraph) (tree : LoopView) (plain stored : Numbers) (weighed : IsWeighedBy power image notes v tree rule plain stored) where
   abbrev t : Text
   t = text_of image
 
@@ -120,7 +120,7 @@ module _ (power : PowerModel) (image : Image) (notes : List LoopNote) (v : FlowG
   counted = counted_loops tree
 
   abbrev marked : ℕ → List Mark
-  marked = marks_by_slack power image v tree plain
+  marked = marks_by v tree rule
 
   pub program_is : IsProgramOf t code l (noted_loops notes).inside
   program_is = program_of t v notes tree weighed.code_is weighed.tree_is
@@ -195,7 +195,7 @@ module _ (power : PowerModel) (image : Image) (notes : List LoopNote) (v : FlowG
   IsMarkAt e = IsMarkOf l counted (is_branch v e) (g.source e) (g.target e)
 
   pub marks_of_edge : (e : ℕ) → All (IsMarkAt e) (marked e)
-  marks_of_edge e = marks_are l counted (is_branch v e) _ power.min_gain (g.source e) (g.target e)
+  marks_of_edge e = marks_are l counted (is_branch v e) _ rule.least_gain (g.source e) (g.target e)
 
   -- an edge with a mark leads to a node
   pub marked_led : (e : ℕ) → e < length code.edges → marked e ≢ [] → (w : ℕ) × (g.target e ≡ Some w)
@@ -221,15 +221,15 @@ module _ (power : PowerModel) (image : Image) (notes : List LoopNote) (v : FlowG
 
   -- ---- what the fragments do to the counters
 
-  module _ (sites : List Site) (least : Charged) (ways : (e : ℕ) (class : Class) → e < length code.edges → edge_class t (slice_get code.edges e) ≡ Some class → fragments_of_class (place_at sites (edge_at (slice_get code.edges e))) class ≡ fragments_at power image v tree marked stored least e) where
+  module _ (sites : List Site) (least : Charged) (ways : (e : ℕ) (class : Class) → e < length code.edges → edge_class t (slice_get code.edges e) ≡ Some class → fragments_of_class (place_at sites (edge_at (slice_get code.edges e))) class ≡ fragments_with power rule.test image v tree marked stored least e) where
     behind : (e : ℕ) (class : Class) → e < length code.edges → edge_class t (slice_get code.edges e) ≡ Some class → (c : ℕ → ℕ) (w : ℕ) → counters_behind (fragments_of_class (place_at sites (edge_at (slice_get code.edges e))) class) c w ≡ through w (marked e) (c w)
-    behind e class lt is c w = ap (λ fs. counters_behind fs c w) (ways e class lt is) ∙ all_act power l counted stored (told_at power image v tree marked stored least e) (marked e) c w
+    behind e class lt is c w = ap (λ fs. counters_behind fs c w) (ways e class lt is) ∙ all_act power rule.test l counted stored (told_at power image v tree marked stored least e) (marked e) c w
 
     pub are_marked : marked_specs.AreMarked t code l sites (is_counted tree) (counter_of tree)
     are_marked = record {
       loops = λ e class lt is k kl ck c. behind e class lt is c (counter_of tree k)
-          ∙ counter_through l counted (is_branch v e) _ power.min_gain (g.source e) (g.target e) (set_before tree.counted k) k (c (counter_of tree k)) (counted_at k ck) (back_stays k (g.source e) (g.target e) kl);
-      others = λ e class lt is w none c. behind e class lt is c w ∙ others_through l counted (is_branch v e) _ power.min_gain (g.source e) (g.target e) w (c w) (off w none);
+          ∙ counter_through l counted (is_branch v e) _ rule.least_gain (g.source e) (g.target e) (set_before tree.counted k) k (c (counter_of tree k)) (counted_at k ck) (back_stays k (g.source e) (g.target e) kl);
+      others = λ e class lt is w none c. behind e class lt is c w ∙ others_through l counted (is_branch v e) _ rule.least_gain (g.source e) (g.target e) w (c w) (off w none);
     }
       where
         off : (w : ℕ) → ((k : ℕ) → k < l.loops → is_counted tree k ≡ true → counter_of tree k ≡ w → ⊥) → (w < first_counter) ⊎ (first_counter + length counted ≤ w)

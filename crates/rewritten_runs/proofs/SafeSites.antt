@@ -38,11 +38,11 @@ use Rattle.stub_writer.specs.Stubs.{Site, Way, Place, Forked, Straight}
 use Rattle.stored_runs.specs.Marks.{place_at, fragments_of_class}
 use Rattle.stored_runs.specs.Stubbed.{IsSafe, IsSafeWay, IsOfImage, AreSafeWays, IsSafeSite, AreOrdered, AreAscending}
 use Rattle.paid_runs.proofs.Laws.{targets_are_words}
-use Rattle.rewritten_runs.specs.Stubs.{IsWeighed, AreSitesOf, marks_by_slack, told_at, fragment_of, fragments_at, loop_of}
+use Rattle.rewritten_runs.specs.Stubs.{Rule, IsWeighedBy, AreSitesOf, marks_by, told_at, fragment_by, fragments_with, loop_of}
 use Rattle.rewritten_runs.proofs.Edges.{edge_is}
 use Rattle.rewritten_runs.proofs.Marked.{IsMarkOf, program_is, graph_program, marks_of_edge, shadow_of, counted_is}
 use Rattle.rewritten_runs.proofs.MarkOrder.{marks_ordered, in_get, set_distinct}
-use Rattle.rewritten_runs.proofs.TableLaws.{word_is_table, shift_fits, rows_count, rows_are_tables}
+use Rattle.rewritten_runs.proofs.TableLaws.{word_is_table, shift_fits, rows_by_count, rows_are_tables}
 
 -- ---- the registers of a branch
 
@@ -85,9 +85,9 @@ place_of_site (s ∷ sites) up (suc k) d lt =
     let off : (s.at == site.at) ≡ false = ne_eqb s.at site.at (λ e. omega (arith, later, e)) in
     ap (λ b. cond b (Some s.place) (place_at sites site.at)) off ∙ place_of_site sites up.1 k d (omega arith)
 
-module _ (power : PowerModel) (ok : IsPowerModel power) (image : Image) (notes : List LoopNote) (v : FlowGraph) (tree : LoopView) (plain stored : Numbers) (weighed : IsWeighed power image notes v tree plain stored)
-    (least : Charged) (sites : List Site) (are : AreSitesOf image v.code (fragments_at power image v tree (marks_by_slack power image v tree plain) stored least) sites)
-    (few_marks : (e : ℕ) → e < length v.code.edges → length (marks_by_slack power image v tree plain e) ≤ 17) where
+module _ {rule : Rule} (power : PowerModel) (ok : IsPowerModel power) (image : Image) (notes : List LoopNote) (v : FlowGraph) (tree : LoopView) (plain stored : Numbers) (weighed : IsWeighedBy power image notes v tree rule plain stored)
+    (least : Charged) (sites : List Site) (are : AreSitesOf image v.code (fragments_with power rule.test image v tree (marks_by v tree rule) stored least) sites)
+    (few_marks : (e : ℕ) → e < length v.code.edges → length (marks_by v tree rule e) ≤ 17) where
   abbrev t : Text
   t = text_of image
 
@@ -104,10 +104,10 @@ module _ (power : PowerModel) (ok : IsPowerModel power) (image : Image) (notes :
   counted = counted_loops tree
 
   abbrev marked : ℕ → List Mark
-  marked = marks_by_slack power image v tree plain
+  marked = marks_by v tree rule
 
   abbrev frags : ℕ → List Fragment
-  frags = fragments_at power image v tree marked stored least
+  frags = fragments_with power rule.test image v tree marked stored least
 
   abbrev levels : ℕ
   levels = length power.levels
@@ -132,35 +132,35 @@ module _ (power : PowerModel) (ok : IsPowerModel power) (image : Image) (notes :
 
   -- ---- the fragments of an edge
 
-  safe_mark : (e : ℕ) (m : Mark) → IsMarkOf l counted (is_branch v e) (g.source e) (g.target e) m → IsSafe levels limits (fragment_of power l counted stored (told_at power image v tree marked stored least e) m)
-  safe_mark e marks.Switch is = word_is_table power (told_at power image v tree marked stored least e) ok.few
+  safe_mark : (e : ℕ) (m : Mark) → IsMarkOf l counted (is_branch v e) (g.source e) (g.target e) m → IsSafe levels limits (fragment_by power rule.test l counted stored (told_at power image v tree marked stored least e) m)
+  safe_mark e marks.Switch is = word_is_table power rule.test (told_at power image v tree marked stored least e) ok.few
   safe_mark e (marks.Exit c) is =
       let k = loop_of counted c in
       let small = bound_small k in
       let fits = shift_fits (l.bound k) (omega (arith, small)) in
-      let rows = rows_count power (l.bound k) (stored.iteration k) (told_at power image v tree marked stored least e) in (
+      let rows = rows_by_count power rule.test (l.bound k) (stored.iteration k) (told_at power image v tree marked stored least e) in (
         subst IsShadow (sym is.is) (shadow_of power image notes v tree plain stored weighed is.place is.loop is.get),
         fits.0,
         omega (arith, rows, fits.1),
         omega (arith, rows),
-        rows_are_tables power (l.bound k) (stored.iteration k) (told_at power image v tree marked stored least e) ok.few,
+        rows_are_tables power rule.test (l.bound k) (stored.iteration k) (told_at power image v tree marked stored least e) ok.few,
       )
   safe_mark e (marks.Reset c) is = subst IsShadow (sym is.is) (shadow_of power image notes v tree plain stored weighed is.place is.loop is.get)
   safe_mark e (marks.Count c) is = subst IsShadow (sym is.is) (shadow_of power image notes v tree plain stored weighed is.place is.loop is.get)
 
   safe_fragments : (e : ℕ) → All (IsSafe levels limits) (frags e)
-  safe_fragments e = All-map (IsSafe levels limits) (fragment_of power l counted stored (told_at power image v tree marked stored least e)) (marked e)
+  safe_fragments e = All-map (IsSafe levels limits) (fragment_by power rule.test l counted stored (told_at power image v tree marked stored least e)) (marked e)
       (λ k d lt. safe_mark e _ (marks_of_edge power image notes v tree plain stored weighed e k d lt))
 
   few_fragments : (e : ℕ) → e < length code.edges → length (frags e) ≤ 17
   few_fragments e lt =
-      let same = length-map (marked e) (fragment_of power l counted stored (told_at power image v tree marked stored least e)) in
+      let same = length-map (marked e) (fragment_by power rule.test l counted stored (told_at power image v tree marked stored least e)) in
       let few = few_marks e lt in omega (arith, same, few)
 
   ordered_fragments : (e : ℕ) → e < length code.edges → AreOrdered (frags e)
   ordered_fragments e lt =
-      marks_ordered power g l (noted_loops notes).inside counted stored (told_at power image v tree marked stored least e) (graph_program power image notes v tree plain stored weighed) prog.loops
-      (λ k h. let at = in_get k counted h in (counted_is power image notes v tree plain stored weighed at.0 k at.1).loop) (set_distinct 0 tree.counted) e (is_branch v e) _ power.min_gain lt
+      marks_ordered power rule.test g l (noted_loops notes).inside counted stored (told_at power image v tree marked stored least e) (graph_program power image notes v tree plain stored weighed) prog.loops
+      (λ k h. let at = in_get k counted h in (counted_is power image notes v tree plain stored weighed at.0 k at.1).loop) (set_distinct 0 tree.counted) e (is_branch v e) _ rule.least_gain lt
 
   -- ---- ways
 

@@ -18,13 +18,16 @@ use Rattle.loop_tree.specs.Tree.{LoopView, loops}
 use Rattle.stub_writer.specs.Fragments.{IsShadow}
 use Rattle.stub_writer.specs.Stubs.{Site}
 use Rattle.stored_runs.specs.Stubbed.{IsStubbed}
+use Rattle.level_tables.specs.Budgets.{AreBudgets}
 use Rattle.paid_runs.specs.Shadows.{AreCountable}
 use Rattle.paid_runs.specs.Marked as marked_specs
 use Rattle.power_model.specs.Switches.{period, costs_of}
-use Rattle.paid_runs.specs.Timely.{weights_of, AreTables}
-use Rattle.rewritten_runs.specs.Stubs.{stored_weights, marks_by_slack, is_counted, counter_of}
+use Rattle.paid_runs.specs.Timely.{weights_of}
+use Rattle.paid_runs.specs.Budgets.{AreTablesWithin}
+use Rattle.paid_runs.specs.Counters.{by_words}
+use Rattle.rewritten_runs.specs.Stubs.{Rule, by_slack, stored_weights, marks_by, is_counted, counter_of}
 
-pub record IsSupplied (power : PowerModel) (file : List ℕ) (image : Image) (notes : List LoopNote) (v : FlowGraph) (tree : LoopView) (plain stored extra : Numbers) (least : Charged) (sites : List Site) (base start : ℕ) (rewritten : Image) : Type 0 where
+pub record IsSuppliedBy (power : PowerModel) (budget : ℕ → ℕ) (file : List ℕ) (image : Image) (notes : List LoopNote) (v : FlowGraph) (tree : LoopView) (rule : Rule) (plain stored extra : Numbers) (least : Charged) (sites : List Site) (base start : ℕ) (rewritten : Image) : Type 0 where
   pub limits : ℕ → ℕ
   pub ok : IsPowerModel power
   pub graph_is : text_graph (text_of image) v.code ≡ graph v
@@ -39,7 +42,13 @@ pub record IsSupplied (power : PowerModel) (file : List ℕ) (image : Image) (no
   pub analyzed : IsAnalyzed (text_graph (text_of image) v.code) (loops v tree) (noted_loops notes).inside (weights_of power (text_of image) v.code sites) stored
   pub extra_analyzed : IsAnalyzed (text_graph (text_of image) v.code) (loops v tree) (noted_loops notes).inside (marked_specs.extra_site_weights (text_of image) v.code (costs_of power) sites) extra
   pub least_are : AreCharged (text_graph (text_of image) v.code) (loops v tree) (weights_of power (text_of image) v.code sites) least
-  pub tables : AreTables power (text_of image) v.code (loops v tree) sites (is_counted tree) (counter_of tree) stored least
+  pub tables : AreTablesWithin power budget (text_of image) v.code (loops v tree) sites (by_words (loops v tree) (is_counted tree) (counter_of tree)) stored least
   pub plain_are : AreNumbers (text_graph (text_of image) v.code) (loops v tree) (weights (text_of image) v.code (costs_of power)) plain
+  pub budgets : AreBudgets power budget start (stored.worst 0)
   pub in_time : stored.worst 0 * period power start ≤ power.deadline
-  pub weights_are : weights_of power (text_of image) v.code sites ≡ stored_weights power image v (marks_by_slack power image v tree plain)
+  pub weights_are : weights_of power (text_of image) v.code sites ≡ stored_weights power image v (marks_by v tree rule)
+
+-- by the rule of slacks, with the deadline as each budget
+abbrev pub IsSupplied : PowerModel → (file : List ℕ) → Image → List LoopNote → FlowGraph → LoopView → (plain stored extra : Numbers) → Charged → List Site → (base start : ℕ) → (rewritten : Image) → Type 0
+IsSupplied power file image notes v tree plain stored extra least sites base start rewritten =
+    IsSuppliedBy power (λ i. power.deadline) file image notes v tree (by_slack power image v tree plain) plain stored extra least sites base start rewritten

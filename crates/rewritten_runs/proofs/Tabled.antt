@@ -2,6 +2,7 @@
 use Rattle.std.proofs.Common.{◌≡◌, ◌≢◌, ℕ, zero, suc, ◌+◌, ◌-◌, ◌*◌, ◌/◌, ◌^◌, ◌<◌, ◌≤◌, ◌⊎◌, inl, inr, Bool, true, false, nat_le, List, [], ◌∷◌, map, length, slice_get, Option, Some, None, refl, sym, ap, ◌∙◌, subst, arith}
 use Rattle.std.specs.Prelude.{All, slice_index, option_map, is_some}
 use Rattle.std.proofs.Math.Nat.{mul-le-mul_right}
+use Rattle.std.proofs.lemmas.Bool.{and_parts}
 use Rattle.scale_base.specs.Image.{Image}
 use Rattle.power_model.specs.Numbers.{PowerModel, IsPowerModel}
 use Rattle.power_model.specs.Price.{switch_time, switch_energy}
@@ -26,17 +27,22 @@ use Rattle.level_tables.specs.Tables as tables
 use Rattle.stub_writer.specs.Stubs.{Site}
 use Rattle.stored_runs.specs.Marks.{Shadow, tail_cycles, level_stored}
 use Rattle.power_model.specs.Switches.{period, energy, costs_of}
-use Rattle.paid_runs.specs.Timely.{weights_of, IsChosen, AreTables}
-use Rattle.rewritten_runs.specs.Stubs.{IsWeighed, AreSitesOf, marks_by_slack, told_at, tail_at, fragment_of, fragments_at, loop_of, is_counted, counter_of, stored_weights}
+use Rattle.paid_runs.specs.Timely.{weights_of}
+use Rattle.paid_runs.specs.Budgets.{IsChosenWithin, AreTablesWithin}
+use Rattle.paid_runs.specs.Counters.{by_words}
+use Rattle.paid_runs.proofs.Laws.{is_word}
+use Rattle.level_tables.specs.Budgets.{is_switch_in_budget}
+use Rattle.rewritten_runs.specs.Laws.{KeepsBudgets}
+use Rattle.rewritten_runs.specs.Stubs.{Rule, IsWeighedBy, AreSitesOf, marks_by, told_at, tail_at, fragment_by, fragments_with, loop_of, is_counted, counter_of, stored_weights}
 use Rattle.rewritten_runs.proofs.Edges.{call_goes_on}
 use Rattle.rewritten_runs.proofs.Marked.{IsMarkOf, program_is, countable, marked_led, marks_of_edge, counted_is, loop_is}
 use Rattle.rewritten_runs.proofs.TableLaws.{IsMet, word_met, row_met, row_turns, leb-le}
-use Rattle.rewritten_runs.proofs.Weighed.{tail_is, stored_same}
+use Rattle.rewritten_runs.proofs.Weighed.{tail_by, stored_same}
 
 -- the one test on time, with the slack of a row
-time_grows : (left slack more p q s : ℕ) → nat_le (left * p + s) ((left + slack) * q) ≡ true → slack ≤ more → left * p + s ≤ (left + more) * q
-time_grows left slack more p q s h le =
-    let small = leb-le (left * p + s) ((left + slack) * q) h in
+time_grows : (left slack more p q s from to : ℕ) → nat_le (left * p + s + from) ((left + slack) * q + to) ≡ true → slack ≤ more → left * p + s + from ≤ (left + more) * q + to
+time_grows left slack more p q s from to h le =
+    let small = leb-le (left * p + s + from) ((left + slack) * q + to) h in
     let big : (left + slack) * q ≤ (left + more) * q = mul-le-mul_right q (omega arith) in
     omega (arith, small, big)
 
@@ -50,8 +56,9 @@ paid_by : (power : PowerModel) (o : Option ℕ) (tail i j : ℕ) → tables.pays
 paid_by power None tail i j h = let never : ⊥ = cc in absurd never
 paid_by power (Some z) tail i j h = record { z = z; is = refl; pays = leb-le (switch_energy power i j) ((z + tail) * (energy power i - energy power j)) h }
 
-module _ (power : PowerModel) (ok : IsPowerModel power) (image : Image) (notes : List LoopNote) (v : FlowGraph) (tree : LoopView) (plain stored : Numbers) (weighed : IsWeighed power image notes v tree plain stored)
-    (least : Charged) (sites : List Site) (are : AreSitesOf image v.code (fragments_at power image v tree (marks_by_slack power image v tree plain) stored least) sites) where
+module _ {rule : Rule} (power : PowerModel) (ok : IsPowerModel power) (image : Image) (notes : List LoopNote) (v : FlowGraph) (tree : LoopView) (plain stored : Numbers) (weighed : IsWeighedBy power image notes v tree rule plain stored)
+    (least : Charged) (sites : List Site) (are : AreSitesOf image v.code (fragments_with power rule.test image v tree (marks_by v tree rule) stored least) sites)
+    (budget : ℕ → ℕ) (strong : KeepsBudgets power budget rule) where
   abbrev t : Text
   t = text_of image
 
@@ -68,7 +75,7 @@ module _ (power : PowerModel) (ok : IsPowerModel power) (image : Image) (notes :
   counted = counted_loops tree
 
   abbrev marked : ℕ → List Mark
-  marked = marks_by_slack power image v tree plain
+  marked = marks_by v tree rule
 
   abbrev w : ℕ → ℕ
   w = weights_of power (text_of image) v.code sites
@@ -120,23 +127,24 @@ module _ (power : PowerModel) (ok : IsPowerModel power) (image : Image) (notes :
 
   -- a level that has met the tests with some of the slack is chosen
   chosen_by : (e u i j more : ℕ) (counts : ℕ → ℕ) (m : Mark) (ms : List Mark) → e < length code.edges → marked e ≡ m ∷ ms → g.callee e ≡ None → g.target e ≡ Some u → more ≤ left_behind g l stored counts e
-      → IsMet power (record (told e) { slack = (told e).slack + more }) i j
-      → IsChosen power g l w stored least counts e (tail_cycles (costs_of power) (fragments_at power image v tree marked stored least e)) i j
+      → IsMet rule.test (record (told e) { slack = (told e).slack + more }) i j
+      → IsChosenWithin power budget g l w stored least counts e (tail_cycles (costs_of power) (fragments_with power rule.test image v tree marked stored least e)) i j
   chosen_by e u i j more counts m ms lt are_m no_call to small met =
-      let tail : tail_cycles (costs_of power) (fragments_at power image v tree marked stored least e) ≡ tail_at power marked e =
-      ap (λ q. tail_cycles (costs_of power) (map (fragment_of power l counted stored (told e)) q)) are_m ∙ (tail_is power l counted stored (told e) m ms ∙ ap (tail_of power.costs) (sym are_m)) in
+      let tail : tail_cycles (costs_of power) (fragments_with power rule.test image v tree marked stored least e) ≡ tail_at power marked e =
+      ap (λ q. tail_cycles (costs_of power) (map (fragment_by power rule.test l counted stored (told e)) q)) are_m ∙ (tail_by power rule.test l counted stored (told e) m ms ∙ ap (tail_of power.costs) (sym are_m)) in
       let s = slack_is e u to in
       let r = rest_is e u to in
-      let grown = time_grows (told e).left ((told e).slack + more) (slack g l stored (cost g stored w) e + left_behind g l stored counts e) (period power j) (period power i) (switch_time power i j) met.in_time (omega (arith, s, small)) in
-      let left : rest g l stored e + tail_cycles (costs_of power) (fragments_at power image v tree marked stored least e) ≡ (told e).left = omega (arith, r, tail) in
+      let both = and_parts (is_switch_in_budget power budget (record (told e) { slack = (told e).slack + more }) i j) (tables.pays power (told e).least i j) (strong (record (told e) { slack = (told e).slack + more }) i j met.meets) in
+      let grown = time_grows (told e).left ((told e).slack + more) (slack g l stored (cost g stored w) e + left_behind g l stored counts e) (period power j) (period power i) (switch_time power i j) (budget i) (budget j) both.0 (omega (arith, s, small)) in
+      let left : rest g l stored e + tail_cycles (costs_of power) (fragments_with power rule.test image v tree marked stored least e) ≡ (told e).left = omega (arith, r, tail) in
       let to_end : to_end_after g l least e ≡ to_end_after (graph v) l least e = ap (λ q. to_end_after q l least e) weighed.code_is.graph_is in
-      let paid = paid_by power (to_end_after (graph v) l least e) (tail_at power marked e) i j met.pays in
+      let paid = paid_by power (to_end_after (graph v) l least e) (tail_at power marked e) i j both.1 in
       record {
         lower = met.lower;
         inside = no_call;
         target = u;
         leads = to;
-        in_time = subst (λ x. x * period power j + switch_time power i j ≤ (x + (slack g l stored (cost g stored w) e + left_behind g l stored counts e)) * period power i) (sym left) grown;
+        in_budget = subst (λ x. x * period power j + switch_time power i j + budget i ≤ (x + (slack g l stored (cost g stored w) e + left_behind g l stored counts e)) * period power i + budget j) (sym left) grown;
         paying = (paid.z, to_end ∙ paid.is, subst (λ x. switch_energy power i j ≤ (paid.z + x) * (energy power i - energy power j)) (sym tail) paid.pays);
       }
 
@@ -155,22 +163,22 @@ module _ (power : PowerModel) (ok : IsPowerModel power) (image : Image) (notes :
   leaves_inside k u (Some x) h = (Rattle.std.proofs.lemmas.Bool.and_parts (l.inside k u) _ h).0
 
   abbrev Chosen : ℕ → Shadow → (ℕ → ℕ) → ℕ → Type 0
-  Chosen e h counts j = (j ≡ h.level) ⊎ IsChosen power g l w stored least counts e (tail_cycles (costs_of power) (fragments_at power image v tree marked stored least e)) h.level j
+  Chosen e h counts j = (j ≡ h.level) ⊎ IsChosenWithin power budget g l w stored least counts e (tail_cycles (costs_of power) (fragments_with power rule.test image v tree marked stored least e)) h.level j
 
   at_edge : (e : ℕ) (h : Shadow) (counts : ℕ → ℕ) (j : ℕ) → e < length code.edges → h.level < length power.levels → AreWithin l counts
       → ((k : ℕ) → k < l.loops → is_counted tree k ≡ true → l.inside k (g.source e) ≡ true → h.counters (counter_of tree k) ≡ counts k)
       → (ms : List Mark) → marked e ≡ ms → All (IsMarkOf l counted (is_branch v e) (g.source e) (g.target e)) ms
-      → level_stored (map (fragment_of power l counted stored (told e)) ms) h ≡ Some j → Chosen e h counts j
+      → level_stored (map (fragment_by power rule.test l counted stored (told e)) ms) h ≡ Some j → Chosen e h counts j
   at_edge e h counts j lt low within held [] is all stores = let never : ⊥ = cc in absurd never
   at_edge e h counts j lt low within held (marks.Switch ∷ ms) is all stores =
       let m = all 0 marks.Switch (omega arith) in
       let some : marked e ≢ [] = λ q. (let never : ⊥ = cc in never) in
       let to = marked_led power image notes v tree plain stored weighed e lt some in
       let no_call = inside e to.0 marks.Switch lt m (inl refl) to.1 in
-      let read_so : tables.nibble (tables.level_word power (told e)) h.level ≡ j = cc in
+      let read_so : tables.nibble (tables.word_by power rule.test (told e)) h.level ≡ j = cc in
       Rattle.std.proofs.Common.⊎_elim (λ same. inl same)
-      (λ met. inr (chosen_by e to.0 h.level j 0 counts marks.Switch ms lt is no_call to.1 (omega arith) (subst (λ q. IsMet power q h.level j) (sym (no_more (told e))) met)))
-      (word_met power (told e) h.level j ok.few low read_so)
+      (λ met. inr (chosen_by e to.0 h.level j 0 counts marks.Switch ms lt is no_call to.1 (omega arith) (subst (λ q. IsMet rule.test q h.level j) (sym (no_more (told e))) met)))
+      (word_met power rule.test (told e) h.level j ok.few low read_so)
   at_edge e h counts j lt low within held (marks.Exit c ∷ ms) is all stores =
       let m = all 0 (marks.Exit c) (omega arith) in
       let some : marked e ≢ [] = λ q. (let never : ⊥ = cc in never) in
@@ -183,24 +191,25 @@ module _ (power : PowerModel) (ok : IsPowerModel power) (image : Image) (notes :
       let count : h.counters c ≡ counts k = ap h.counters word ∙ held k kc.loop kc.flag (leaves_inside k (g.source e) (g.target e) m.holds) in
       let b = l.bound k in
       let it = stored.iteration k in
-      let read_so : tables.nibble (slice_index (tables.rows_of power (l.bound (loop_of counted c)) (stored.iteration (loop_of counted c)) (told e)) (h.counters c / 2 ^ tables.shift_of (l.bound (loop_of counted c)))) h.level ≡ j = cc in
-      let read_too : tables.nibble (slice_index (tables.rows_of power b it (told e)) (counts k / 2 ^ tables.shift_of b)) h.level ≡ j =
-      subst (λ n. tables.nibble (slice_index (tables.rows_of power b it (told e)) (n / 2 ^ tables.shift_of b)) h.level ≡ j) count
-      (subst (λ q. tables.nibble (slice_index (tables.rows_of power (l.bound q) (stored.iteration q) (told e)) (h.counters c / 2 ^ tables.shift_of (l.bound q))) h.level ≡ j) here read_so) in
+      let read_so : tables.nibble (slice_index (tables.all_rows_by power rule.test (l.bound (loop_of counted c)) (stored.iteration (loop_of counted c)) (told e)) (h.counters c / 2 ^ tables.shift_of (l.bound (loop_of counted c)))) h.level ≡ j = cc in
+      let read_too : tables.nibble (slice_index (tables.all_rows_by power rule.test b it (told e)) (counts k / 2 ^ tables.shift_of b)) h.level ≡ j =
+      subst (λ n. tables.nibble (slice_index (tables.all_rows_by power rule.test b it (told e)) (n / 2 ^ tables.shift_of b)) h.level ≡ j) count
+      (subst (λ q. tables.nibble (slice_index (tables.all_rows_by power rule.test (l.bound q) (stored.iteration q) (told e)) (h.counters c / 2 ^ tables.shift_of (l.bound q))) h.level ≡ j) here read_so) in
       let more = tables.trips_left b (tables.shift_of b) (counts k / 2 ^ tables.shift_of b) * it in
       let few = row_turns b it (counts k) in
       let behind = left_of e k counts kc.loop m.holds in
       Rattle.std.proofs.Common.⊎_elim (λ same. inl same)
       (λ met. inr (chosen_by e to.0 h.level j more counts (marks.Exit c) ms lt is no_call to.1 (omega (arith, few, behind)) met))
-      (row_met power b it (told e) (counts k) h.level j (within k kc.loop) ok.few low read_too)
+      (row_met power rule.test b it (told e) (counts k) h.level j (within k kc.loop) ok.few low read_too)
   at_edge e h counts j lt low within held (marks.Reset c ∷ ms) is all stores = let never : ⊥ = cc in absurd never
   at_edge e h counts j lt low within held (marks.Count c ∷ ms) is all stores = let never : ⊥ = cc in absurd never
 
-  pub are_tables : AreTables power t code l sites (is_counted tree) (counter_of tree) stored least
+  pub are_tables : AreTablesWithin power budget t code l sites (by_words l (is_counted tree) (counter_of tree)) stored least
   are_tables = record {
-    chosen = λ e class lt is h counts j low within held stores.
+    chosen = λ e class lt is h counts j low within shown stores.
+        let held = λ (k : ℕ) (kl : k < l.loops) (ck : is_counted tree k ≡ true) (inside : l.inside k (g.source e) ≡ true). shown (counter_of tree k) k (is_word l (is_counted tree) (counter_of tree) k kl ck) inside in
         let ways = are.ways e class lt is in
-        let there : level_stored (fragments_at power image v tree marked stored least e) h ≡ Some j = ap (λ fs. level_stored fs h) (sym ways) ∙ stores in
-        subst (λ fs. (j ≡ h.level) ⊎ IsChosen power g l w stored least counts e (tail_cycles (costs_of power) fs) h.level j) (sym ways)
+        let there : level_stored (fragments_with power rule.test image v tree marked stored least e) h ≡ Some j = ap (λ fs. level_stored fs h) (sym ways) ∙ stores in
+        subst (λ fs. (j ≡ h.level) ⊎ IsChosenWithin power budget g l w stored least counts e (tail_cycles (costs_of power) fs) h.level j) (sym ways)
         (at_edge e h counts j lt low within held (marked e) refl (marks_of_edge power image notes v tree plain stored weighed e) there);
   }

@@ -36,29 +36,32 @@ use Rattle.stored_runs.specs.Stubbed.{IsOfImage}
 use Rattle.paid_runs.specs.Marked as marked_specs
 use Rattle.power_model.specs.Switches.{costs_of}
 use Rattle.paid_runs.specs.Timely.{weights_of}
-use Rattle.rewritten_runs.specs.Stubs.{IsWeighed, AreSitesOf, marks_by_slack, told_at, fragment_of, fragments_at, extra_weights, stored_weights}
+use Rattle.rewritten_runs.specs.Stubs.{Rule, IsWeighedBy, AreSitesOf, marks_by, told_at, fragment_by, fragment_of, fragments_with, extra_weights, stored_weights}
 use Rattle.rewritten_runs.proofs.Edges.{edge_is, led_class, branch_kind, jump_kind}
 use Rattle.rewritten_runs.proofs.Marked.{program_is, marked_led}
 
 -- ---- fragments cost what their marks do
 
-one_cost : (power : PowerModel) (l : Loops) (counted : List ℕ) (n : Numbers) (told : tables.EdgeNumbers) (m : Mark) → fragment_cost (cycles_of power.costs) (fragment_of power l counted n told m) ≡ Rattle.scale_sites.specs.Weights.mark_cost power.costs m
-one_cost power l counted n told marks.Switch = omega arith
-one_cost power l counted n told (marks.Exit i) = omega arith
-one_cost power l counted n told (marks.Reset i) = omega arith
-one_cost power l counted n told (marks.Count i) = omega arith
+one_cost : (power : PowerModel) (test : tables.EdgeNumbers → ℕ → ℕ → Bool) (l : Loops) (counted : List ℕ) (n : Numbers) (told : tables.EdgeNumbers) (m : Mark) → fragment_cost (cycles_of power.costs) (fragment_by power test l counted n told m) ≡ Rattle.scale_sites.specs.Weights.mark_cost power.costs m
+one_cost power test l counted n told marks.Switch = omega arith
+one_cost power test l counted n told (marks.Exit i) = omega arith
+one_cost power test l counted n told (marks.Reset i) = omega arith
+one_cost power test l counted n told (marks.Count i) = omega arith
 
-pub marks_cost_is : (power : PowerModel) (l : Loops) (counted : List ℕ) (n : Numbers) (told : tables.EdgeNumbers) (ms : List Mark) → sum_by (fragment_cost (cycles_of power.costs)) (map (fragment_of power l counted n told) ms) ≡ marks_cost power.costs ms
-marks_cost_is power l counted n told [] = refl
-marks_cost_is power l counted n told (m ∷ ms) =
-    let one = one_cost power l counted n told m in
-    let rest = marks_cost_is power l counted n told ms in
-    let sum = sum_by-cons (fragment_cost (cycles_of power.costs)) (fragment_of power l counted n told m) (map (fragment_of power l counted n told) ms) in
+pub marks_cost_is : (power : PowerModel) (test : tables.EdgeNumbers → ℕ → ℕ → Bool) (l : Loops) (counted : List ℕ) (n : Numbers) (told : tables.EdgeNumbers) (ms : List Mark) → sum_by (fragment_cost (cycles_of power.costs)) (map (fragment_by power test l counted n told) ms) ≡ marks_cost power.costs ms
+marks_cost_is power test l counted n told [] = refl
+marks_cost_is power test l counted n told (m ∷ ms) =
+    let one = one_cost power test l counted n told m in
+    let rest = marks_cost_is power test l counted n told ms in
+    let sum = sum_by-cons (fragment_cost (cycles_of power.costs)) (fragment_by power test l counted n told m) (map (fragment_by power test l counted n told) ms) in
     omega (arith, one, rest, sum)
 
 -- the cycles behind the store, where there are marks
+pub tail_by : (power : PowerModel) (test : tables.EdgeNumbers → ℕ → ℕ → Bool) (l : Loops) (counted : List ℕ) (n : Numbers) (told : tables.EdgeNumbers) (m : Mark) (ms : List Mark) → tail_cycles (cycles_of power.costs) (map (fragment_by power test l counted n told) (m ∷ ms)) ≡ tail_of power.costs (m ∷ ms)
+tail_by power test l counted n told m ms = let rest = marks_cost_is power test l counted n told ms in omega (arith, rest)
+
 pub tail_is : (power : PowerModel) (l : Loops) (counted : List ℕ) (n : Numbers) (told : tables.EdgeNumbers) (m : Mark) (ms : List Mark) → tail_cycles (cycles_of power.costs) (map (fragment_of power l counted n told) (m ∷ ms)) ≡ tail_of power.costs (m ∷ ms)
-tail_is power l counted n told m ms = let rest = marks_cost_is power l counted n told ms in omega (arith, rest)
+tail_is power l counted n told m ms = tail_by power (tables.meets_both power) l counted n told m ms
 
 -- ---- marked instructions
 
@@ -95,8 +98,8 @@ any_from (suc n) q k lt2 h = ⊎_elim
     (λ (high : n ≤ k). let same : k ≡ n = omega arith in or_right (any_below n q) (q n) (subst (λ j. q j ≡ true) same h))
     (cases_lt k n)
 
-module _ (power : PowerModel) (image : Image) (notes : List LoopNote) (v : FlowGraph) (tree : LoopView) (plain stored : Numbers) (weighed : IsWeighed power image notes v tree plain stored)
-    (least : Charged) (sites : List Site) (are : AreSitesOf image v.code (fragments_at power image v tree (marks_by_slack power image v tree plain) stored least) sites) where
+module _ {rule : Rule} (power : PowerModel) (image : Image) (notes : List LoopNote) (v : FlowGraph) (tree : LoopView) (plain stored : Numbers) (weighed : IsWeighedBy power image notes v tree rule plain stored)
+    (least : Charged) (sites : List Site) (are : AreSitesOf image v.code (fragments_with power rule.test image v tree (marks_by v tree rule) stored least) sites) where
   abbrev t : Text
   t = text_of image
 
@@ -110,10 +113,10 @@ module _ (power : PowerModel) (image : Image) (notes : List LoopNote) (v : FlowG
   g = text_graph (text_of image) v.code
 
   abbrev marked : ℕ → List Mark
-  marked = marks_by_slack power image v tree plain
+  marked = marks_by v tree rule
 
   abbrev frags : ℕ → List Fragment
-  frags = fragments_at power image v tree marked stored least
+  frags = fragments_with power rule.test image v tree marked stored least
 
   abbrev at_edge : ℕ → ℕ
   at_edge e = edge_at (slice_get code.edges e)
@@ -144,7 +147,7 @@ module _ (power : PowerModel) (image : Image) (notes : List LoopNote) (v : FlowG
       let c = led_class t code (program_is power image notes v tree plain stored weighed).reached e to.0 lt to.1 in
       let w = are.ways e c.0 lt c.1 in
       let off : frags e ≡ [] = sym w ∙ ap (λ p. fragments_of_class p c.0) none in
-      map_some (fragment_of power l (counted_loops tree) stored (told_at power image v tree marked stored least e)) (marked e) some off
+      map_some (fragment_by power rule.test l (counted_loops tree) stored (told_at power image v tree marked stored least e)) (marked e) some off
 
   -- an instruction is patched where it is marked
   patched_by : (e : ℕ) (o : Option Place) → e < length code.edges → place_at sites (at_edge e) ≡ o → jumps_of g (is_branch v) marked e ≡ jumps_by o
@@ -164,7 +167,7 @@ module _ (power : PowerModel) (image : Image) (notes : List LoopNote) (v : FlowG
   patched_by e (Some p) lt place =
       let is = placed image HasMark sites (at_edge e) p are.words are.some place in
       let d = is.holds.0 in
-      let some : marked d ≢ [] = no_map (fragment_of power l (counted_loops tree) stored (told_at power image v tree marked stored least d)) (marked d) is.holds.3 in
+      let some : marked d ≢ [] = no_map (fragment_by power rule.test l (counted_loops tree) stored (told_at power image v tree marked stored least d)) (marked d) is.holds.3 in
       let on : is_patched g marked (at_edge e) ≡ true = any_from g.edges (λ q. nat_eq (g.source q) (at_edge e) && some_mark (marked q)) d is.holds.1
       (and_from (nat_eq (g.source d) (at_edge e)) (some_mark (marked d)) (eq-eqb (g.source d) (at_edge e) is.holds.2) (has_some_mark (marked d) some)) in
       ap (λ b. cond b (cond (is_branch v e) 2 1) 0) on ∙ by p is.of
@@ -205,7 +208,7 @@ module _ (power : PowerModel) (image : Image) (notes : List LoopNote) (v : FlowG
   extra_some : (e : ℕ) (o : Option Class) → e < length code.edges → edge_class t (slice_get code.edges e) ≡ o → marked_specs.extra_by (costs_of power) sites (at_edge e) o ≡ extra_of power.costs (jumps_of g (is_branch v) marked e) (marked e)
   extra_some e (Some class) lt is =
       let jumps = patched_by e (place_at sites (at_edge e)) lt refl in
-      let cost = ap (sum_by (fragment_cost (costs_of power))) (are.ways e class lt is) ∙ marks_cost_is power l (counted_loops tree) stored (told_at power image v tree marked stored least e) (marked e) in
+      let cost = ap (sum_by (fragment_cost (costs_of power))) (are.ways e class lt is) ∙ marks_cost_is power rule.test l (counted_loops tree) stored (told_at power image v tree marked stored least e) (marked e) in
       let first : jumps_by (place_at sites (at_edge e)) * power.costs.jump ≡ jumps_of g (is_branch v) marked e * power.costs.jump = ap (λ n. n * power.costs.jump) (sym jumps) in
       omega (arith, first, cost)
   extra_some e None lt is =

@@ -1,7 +1,7 @@
 -- The stubs of a program: the marks that the slacks of its edges give them, what the marked edges cost, the levels that their switches go to, and the marked
 -- instructions with their fragments.
 -- The marks are chosen under the plain weights of the edges; all numbers behind the tables are those under the stored weights.
-use Rattle.std.specs.Prelude.{◌≡◌, ◌≢◌, ℕ, zero, suc, ◌+◌, ◌-◌, ◌<◌, min, nat_lt, Bool, true, false, List, [], ◌∷◌, map, length, All, slice_get, slice_index, slice_index_or, Some, option_map, Ok}
+use Rattle.std.specs.Prelude.{◌≡◌, ◌≢◌, ℕ, zero, suc, ◌+◌, ◌-◌, ◌<◌, min, nat_lt, Bool, true, false, cond, List, [], ◌∷◌, map, length, All, slice_get, slice_index, slice_index_or, Some, option_map, Ok}
 use Rattle.std.specs.List.{list_any}
 use Rattle.scale_base.specs.declared.fragments.Fragment.{Fragment}
 use Rattle.scale_base.specs.declared.fragments.Fragment.TheVariants as fragments
@@ -27,6 +27,7 @@ use Rattle.scale_sites.specs.Marks.{marks_of, first_counter}
 use Rattle.scale_sites.specs.Sites.{is_branch}
 use Rattle.scale_sites.specs.Weights.{extra_weight, tail_of}
 use Rattle.level_tables.specs.Tables as tables
+use Rattle.level_tables.specs.Budgets.{meets_in_budget}
 use Rattle.stub_writer.specs.Stubs.{Site, block_size, block_bytes, patches_from}
 use Rattle.stored_runs.specs.Marks.{place_at, fragments_of_class}
 use Rattle.stored_runs.specs.Stubbed.{IsOfImage, AreAscending}
@@ -37,10 +38,34 @@ use Rattle.stored_runs.specs.Stubbed.{IsOfImage, AreAscending}
 abbrev pub plain_weights : PowerModel → Image → FlowGraph → ℕ → ℕ
 plain_weights power image v = weights (text_of image) v.code (cycles_of power.costs)
 
--- by edge, the marks that its slack gives it, where these are the numbers under the plain weights
+-- How the levels of a program are chosen: what each edge gains by a switch, the least gain that marks an edge of a branch, and the test that an entry of a table meets.
+pub record Rule : Type 0 where
+  pub gain : ℕ → ℕ
+  pub least_gain : ℕ
+  pub test : tables.EdgeNumbers → ℕ → ℕ → Bool
+
+-- by edge, the marks that a rule gives it
+abbrev pub marks_by : FlowGraph → LoopView → Rule → ℕ → List Mark
+marks_by v t rule e = marks_of (graph v) (loops v t) (counted_loops t) (is_branch v e) (rule.gain e) rule.least_gain e
+
+-- The rule of slacks: an edge gains its slack, where these are the numbers under the plain weights, and an entry is in time and pays.
+abbrev pub by_slack : PowerModel → Image → FlowGraph → LoopView → Numbers → Rule
+by_slack power image v t plain = record {
+  gain = λ e. slack_at (graph v) (loops v t) (plain_weights power image v) plain e;
+  least_gain = power.min_gain;
+  test = λ told i j. tables.meets_both power told i j;
+}
+
+-- The rule of budgets: any edges of branches are chosen, and an entry is within the budgets and pays.
+abbrev pub by_choice : PowerModel → (budget : ℕ → ℕ) → (chosen : ℕ → Bool) → Rule
+by_choice power budget chosen = record {
+  gain = λ e. cond (chosen e) 1 0;
+  least_gain = 1;
+  test = λ told i j. meets_in_budget power budget told i j;
+}
+
 abbrev pub marks_by_slack : PowerModel → Image → FlowGraph → LoopView → Numbers → ℕ → List Mark
-marks_by_slack power image v t plain e =
-    marks_of (graph v) (loops v t) (counted_loops t) (is_branch v e) (slack_at (graph v) (loops v t) (plain_weights power image v) plain e) power.min_gain e
+marks_by_slack power image v t plain e = marks_by v t (by_slack power image v t plain) e
 
 -- what an edge costs more in the stored image, by its own marks and those of its instruction, and what it costs there; 0 for a number that is none of an edge
 abbrev pub extra_weights : PowerModel → FlowGraph → (ℕ → List Mark) → ℕ → ℕ
@@ -67,18 +92,24 @@ told_at power image v t marked n least e = record {
 abbrev pub loop_of : List ℕ → ℕ → ℕ
 loop_of counted counter = slice_index counted (counter - first_counter)
 
--- the fragment of a mark on an edge that tells its switch this
+-- the fragment of a mark on an edge that tells its switch this, where the entries meet a test
+abbrev pub fragment_by : PowerModel → (tables.EdgeNumbers → ℕ → ℕ → Bool) → Loops → List ℕ → Numbers → tables.EdgeNumbers → Mark → Fragment
+fragment_by power test l counted n told marks.Switch = fragments.Switch (tables.word_by power test told)
+fragment_by power test l counted n told (marks.Exit counter) =
+    fragments.Exit counter (tables.shift_of (l.bound (loop_of counted counter))) (tables.all_rows_by power test (l.bound (loop_of counted counter)) (n.iteration (loop_of counted counter)) told)
+fragment_by power test l counted n told (marks.Reset counter) = fragments.Reset counter
+fragment_by power test l counted n told (marks.Count counter) = fragments.Count counter
+
 abbrev pub fragment_of : PowerModel → Loops → List ℕ → Numbers → tables.EdgeNumbers → Mark → Fragment
-fragment_of power l counted n told marks.Switch = fragments.Switch (tables.level_word power told)
-fragment_of power l counted n told (marks.Exit counter) =
-    fragments.Exit counter (tables.shift_of (l.bound (loop_of counted counter))) (tables.rows_of power (l.bound (loop_of counted counter)) (n.iteration (loop_of counted counter)) told)
-fragment_of power l counted n told (marks.Reset counter) = fragments.Reset counter
-fragment_of power l counted n told (marks.Count counter) = fragments.Count counter
+fragment_of power l counted n told mark = fragment_by power (tables.meets_both power) l counted n told mark
 
 -- by edge, its fragments
+abbrev pub fragments_with : PowerModel → (tables.EdgeNumbers → ℕ → ℕ → Bool) → Image → FlowGraph → LoopView → (ℕ → List Mark) → Numbers → Charged → ℕ → List Fragment
+fragments_with power test image v t marked n least e =
+    map (fragment_by power test (loops v t) (counted_loops t) n (told_at power image v t marked n least e)) (marked e)
+
 abbrev pub fragments_at : PowerModel → Image → FlowGraph → LoopView → (ℕ → List Mark) → Numbers → Charged → ℕ → List Fragment
-fragments_at power image v t marked n least e =
-    map (fragment_of power (loops v t) (counted_loops t) n (told_at power image v t marked n least e)) (marked e)
+fragments_at power image v t marked n least e = fragments_with power (tables.meets_both power) image v t marked n least e
 
 -- ---- the marked instructions
 
@@ -133,21 +164,39 @@ counter_of t k = first_counter + set_before t.counted k
 
 -- ---- a program with its numbers
 
--- The graph and the loops of an image, whose counted loops can be counted, with its numbers under the plain and under the stored weights.
-pub record IsWeighed (power : PowerModel) (image : Image) (notes : List LoopNote) (v : FlowGraph) (t : LoopView) (plain stored : Numbers) : Type 0 where
+-- The graph and the loops of an image, whose counted loops can be counted, with its numbers under the plain weights and under those with the marks of a rule.
+pub record IsWeighedBy (power : PowerModel) (image : Image) (notes : List LoopNote) (v : FlowGraph) (t : LoopView) (rule : Rule) (plain stored : Numbers) : Type 0 where
   pub code_is : IsGraphOf (text_of image) v
   pub tree_is : IsTreeOf v notes t
   pub counters : AreCounters v t (Ok (counted_loops t))
   pub plain_are : AreNumbers (graph v) (loops v t) (plain_weights power image v) plain
-  pub stored_are : AreNumbers (graph v) (loops v t) (stored_weights power image v (marks_by_slack power image v t plain)) stored
+  pub stored_are : AreNumbers (graph v) (loops v t) (stored_weights power image v (marks_by v t rule)) stored
+
+-- The same where the marks are handed in, whatever chose them: there are no plain weights then.
+pub record IsWeighedWith (power : PowerModel) (image : Image) (notes : List LoopNote) (v : FlowGraph) (t : LoopView) (marked : ℕ → List Mark) (stored : Numbers) : Type 0 where
+  pub code_is : IsGraphOf (text_of image) v
+  pub tree_is : IsTreeOf v notes t
+  pub counters : AreCounters v t (Ok (counted_loops t))
+  pub stored_are : AreNumbers (graph v) (loops v t) (stored_weights power image v marked) stored
+
+-- by the rule of slacks
+abbrev pub IsWeighed : PowerModel → Image → List LoopNote → FlowGraph → LoopView → (plain stored : Numbers) → Type 0
+IsWeighed power image notes v t plain stored = IsWeighedBy power image notes v t (by_slack power image v t plain) plain stored
 
 -- Its stubs, too: the least cycles under the stored weights, which the tables need, the numbers under the extra weights, and the marked instructions with the
 -- place of their block. A block that is too long for any place is looked for one of 4,194,304 bytes: its last stub is out of reach.
-pub record HasStubs (power : PowerModel) (image : Image) (v : FlowGraph) (t : LoopView) (plain stored extra : Numbers) (least : Charged) (sites : List Site) (base : ℕ) : Type 0 where
-  pub least_are : AreCharged (graph v) (loops v t) (stored_weights power image v (marks_by_slack power image v t plain)) least
-  pub extra_are : AreNumbers (graph v) (loops v t) (extra_weights power v (marks_by_slack power image v t plain)) extra
-  pub sites_are : AreSitesOf image v.code (fragments_at power image v t (marks_by_slack power image v t plain) stored least) sites
+pub record HasStubsWith (power : PowerModel) (test : tables.EdgeNumbers → ℕ → ℕ → Bool) (image : Image) (v : FlowGraph) (t : LoopView) (marked : ℕ → List Mark) (stored extra : Numbers) (least : Charged) (sites : List Site) (base : ℕ) : Type 0 where
+  pub least_are : AreCharged (graph v) (loops v t) (stored_weights power image v marked) least
+  pub extra_are : AreNumbers (graph v) (loops v t) (extra_weights power v marked) extra
+  pub sites_are : AreSitesOf image v.code (fragments_with power test image v t marked stored least) sites
   pub base_is : IsStubBase image (min (block_size sites) 4194304) base
+
+-- the marks and the test of a rule
+abbrev pub HasStubsBy : PowerModel → Image → FlowGraph → LoopView → Rule → (stored extra : Numbers) → Charged → List Site → (base : ℕ) → Type 0
+HasStubsBy power image v t rule stored extra least sites base = HasStubsWith power rule.test image v t (marks_by v t rule) stored extra least sites base
+
+abbrev pub HasStubs : PowerModel → Image → FlowGraph → LoopView → (plain stored extra : Numbers) → Charged → List Site → (base : ℕ) → Type 0
+HasStubs power image v t plain stored extra least sites base = HasStubsBy power image v t (by_slack power image v t plain) stored extra least sites base
 
 -- ---- what is stored
 

@@ -1,4 +1,5 @@
 //! Words of RV32IM to instructions, by the RISC-V unprivileged manual: its chapters on RV32I and on the "M" extension.
+//! Tests: crates/machine_tests/src/instructions.rt.
 #![tactic(auto)]
 
 ghost use Rattle.std.specs.Prelude.{◌≡◌, ℕ, ◌+◌, ◌*◌, ◌^◌, ◌<◌, ◌≤◌, ◌↔◌, Some, IfSome, IfNone};
@@ -148,6 +149,3 @@ fn reg_class(op: RegOp) -> Class
         _ => Class::Alu,
     }
 }
-
-#[cfg(test)]
-mod tests;

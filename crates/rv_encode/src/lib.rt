@@ -1,4 +1,5 @@
 //! Instructions of RV32IM to words, by the RISC-V unprivileged manual: its chapters on RV32I and on the "M" extension.
+//! Tests: crates/machine_tests/src/instructions.rt.
 #![tactic(auto)]
 
 ghost use Rattle.std.specs.Prelude.{◌≡◌, ℕ, ◌↔◌, Some, IfSome, IfNone, IsTrue, ◌<◌};
@@ -214,6 +215,3 @@ pub fn jal_fits(from: u32, to: u32) -> bool
     let distance = to.wrapping_sub(from).cast_signed();
     is_even(distance) && fits_21(distance)
 }
-
-#[cfg(test)]
-mod tests;

@@ -1,5 +1,6 @@
 //! The types that the crates share, with the image of an ELF file, the meaning of a word of RV32IM, and the run of an
 //! image.
+//! Tests: none of its own; those of the crates above use its types.
 #![tactic(auto)]
 
 ghost use Rattle.std.specs.Prelude.{◌≡◌, ℕ, ◌^◌, ◌<◌, ◌↔◌, Some};

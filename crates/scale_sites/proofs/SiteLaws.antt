@@ -18,7 +18,7 @@ use Rattle.scale_base.specs.declared.fragments.Mark.TheVariants.{Switch, Exit, R
 use Rattle.scale_sites.specs.Marks.{numbered, AreBelow, first_counter, leaves_any, holds_left, is_outermost, mark_if, exits_from, resets_from, counts_from, switch_of, marks_at}
 use Rattle.scale_sites.specs.Weights.{some_mark, is_patched, jumps_of}
 use Rattle.scale_sites.specs.Counters.{set_from}
-use Rattle.scale_sites.specs.Sites.{is_branch, marks_by, marks_in, AreMarks, AreJumps}
+use Rattle.scale_sites.specs.Sites.{is_branch, marks_by, marks_in, AreMarksBy, AreMarks, AreJumps}
 
 -- ---- numbers and addresses
 
@@ -230,8 +230,8 @@ pub map_push : (xs : List (Vec Mark Global)) (x : Vec Mark Global) → map (λ (
 map_push [] x = refl
 map_push (y ∷ ys) x = ap (λ zs. y.items ∷ zs) (map_push ys x)
 
-pub marks_push : (v : FlowGraph) (t : LoopView) (counted slacks : List ℕ) (min_gain n : ℕ) (marks : List (List Mark)) (ms : List Mark) → AreMarks v t counted slacks min_gain n marks → ms ≡ marks_by v t counted slacks min_gain n → length ms ≤ 1600 → AreMarks v t counted slacks min_gain (n + 1) (marks ++ ms ∷ [])
-marks_push v t counted slacks min_gain n marks ms are is few =
+pub marks_push : (marked : ℕ → List Mark) (n : ℕ) (marks : List (List Mark)) (ms : List Mark) → AreMarksBy marked n marks → ms ≡ marked n → length ms ≤ 1600 → AreMarksBy marked (n + 1) (marks ++ ms ∷ [])
+marks_push marked n marks ms are is few =
     let size : length marks ≡ n = are.size in
     let more : length (marks ++ ms ∷ []) ≡ length marks + 1 = length-append marks (ms ∷ []) in
     record {
@@ -241,7 +241,7 @@ marks_push v t counted slacks min_gain n marks ms are is few =
           (λ (high : n ≤ e).
           let same : e ≡ length marks = omega arith in
           let at : e ≡ n = omega arith in
-          ap (slice_get (marks ++ ms ∷ [])) same ∙ push_last marks ms ∙ ap Some is ∙ ap (λ d. Some (marks_by v t counted slacks min_gain d)) (sym at))
+          ap (slice_get (marks ++ ms ∷ [])) same ∙ push_last marks ms ∙ ap Some is ∙ ap (λ d. Some (marked d)) (sym at))
           (cases_lt e n);
       few = push_all (λ (xs : List Mark). length xs ≤ 1600) [] marks ms (let r : 0 ≤ 1600 = omega arith in r) few are.few;
     }

@@ -41,11 +41,22 @@ marks_in marks e = slice_index_or marks e []
 abbrev pub marks_at_edge : SitesView → ℕ → List Mark
 marks_at_edge s e = marks_in s.marks e
 
+-- the flag of an edge, by a list
+abbrev pub flag_at : List Bool → ℕ → Bool
+flag_at flags e = slice_index_or flags e false
+
+-- by edge, the marks where those that are wanted have a switch, unless they leave a counted loop
+abbrev pub marks_where : FlowGraph → LoopView → List ℕ → (ℕ → Bool) → ℕ → List Mark
+marks_where v t counted wanted e = marks_of (graph v) (loops v t) counted (wanted e) 0 0 e
+
 -- the marks of the first n edges, and the jumps over them
-pub record AreMarks (v : FlowGraph) (t : LoopView) (counted slacks : List ℕ) (min_gain n : ℕ) (marks : List (List Mark)) : Type 0 where
+pub record AreMarksBy (marked : ℕ → List Mark) (n : ℕ) (marks : List (List Mark)) : Type 0 where
   pub size : length marks ≡ n
-  pub each : (e : ℕ) → e < n → slice_get marks e ≡ Some (marks_by v t counted slacks min_gain e)
+  pub each : (e : ℕ) → e < n → slice_get marks e ≡ Some (marked e)
   pub few : (e : ℕ) → length (marks_in marks e) ≤ 1600
+
+abbrev pub AreMarks : FlowGraph → LoopView → (counted slacks : List ℕ) → (min_gain n : ℕ) → List (List Mark) → Type 0
+AreMarks v t counted slacks min_gain n marks = AreMarksBy (marks_by v t counted slacks min_gain) n marks
 
 pub record AreJumps (v : FlowGraph) (marks : List (List Mark)) (n : ℕ) (jumps : List ℕ) : Type 0 where
   pub size : length jumps ≡ n
@@ -53,11 +64,18 @@ pub record AreJumps (v : FlowGraph) (marks : List (List Mark)) (n : ℕ) (jumps 
   pub few : (e : ℕ) → slice_index jumps e ≤ 2
 
 -- the marks of all edges, and the jumps of the stubs of their instructions
-pub record AreSites (v : FlowGraph) (t : LoopView) (counted slacks : List ℕ) (min_gain : ℕ) (s : SitesView) : Type 0 where
-  pub marks : (e : ℕ) → e < length v.code.edges → slice_get s.marks e ≡ Some (marks_by v t counted slacks min_gain e)
+pub record AreSitesBy (v : FlowGraph) (marked : ℕ → List Mark) (s : SitesView) : Type 0 where
+  pub marks : (e : ℕ) → e < length v.code.edges → slice_get s.marks e ≡ Some (marked e)
   pub jumps : (e : ℕ) → e < length v.code.edges → slice_get s.jumps e ≡ Some (jumps_of (graph v) (is_branch v) (marks_at_edge s) e)
   pub marks_size : length s.marks ≡ length v.code.edges
   pub jumps_size : length s.jumps ≡ length v.code.edges
+
+-- where slack chooses, and where a list of flags does
+abbrev pub AreSites : FlowGraph → LoopView → (counted slacks : List ℕ) → (min_gain : ℕ) → SitesView → Type 0
+AreSites v t counted slacks min_gain s = AreSitesBy v (marks_by v t counted slacks min_gain) s
+
+abbrev pub AreWantedSites : FlowGraph → LoopView → (counted : List ℕ) → List Bool → SitesView → Type 0
+AreWantedSites v t counted wanted s = AreSitesBy v (marks_where v t counted (flag_at wanted)) s
 
 -- what every Sites keeps
 pub record IsSites (s : SitesView) : Type 0 where

@@ -1,4 +1,5 @@
 //! Where a program gets switches of level and counters of turns, and what their stubs cost.
+//! Tests: crates/answer_tests/src/rewriting.rt.
 #![tactic(auto)]
 
 mod cost;
@@ -11,7 +12,7 @@ ghost use Rattle.scale_sites.specs.Marks.{SwitchesOnce};
 ghost use Rattle.scale_sites.specs.Weights.{ExtraSplits};
 
 pub use counting::{CounterList, counters};
-pub use sites::{Sites, choose};
+pub use sites::{Sites, choose, choose_where};
 
 /// On accepted loops at most one mark of an edge is a switch. The extra cycles of a branch's edge with a switch are a jump, those up
 /// to the port store, and the tail.

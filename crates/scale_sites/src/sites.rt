@@ -11,7 +11,7 @@ ghost use Rattle.scale_sites.specs.Counters.{counted_loops};
 ghost use Rattle.scale_sites.specs.Marks.{marks_of};
 ghost use Rattle.scale_sites.specs.Marked.{IsMarkableGraph};
 ghost use Rattle.scale_sites.specs.Weights.{switches, tail_of, extra_of, is_patched, jumps_of};
-ghost use Rattle.scale_sites.specs.Sites.{SitesView, is_branch, is_branch_kind, marks_in, marks_at_edge, AreMarks, AreJumps, AreSites};
+ghost use Rattle.scale_sites.specs.Sites.{SitesView, is_branch, is_branch_kind, marks_in, marks_at_edge, flag_at, marks_where, AreMarksBy, AreMarks, AreJumps, AreSites, AreWantedSites};
 
 use crate::cost;
 use crate::counting::CounterList;
@@ -77,24 +77,24 @@ fn is_branch(kind: EdgeKind) -> bool
     matches!(kind, EdgeKind::Taken | EdgeKind::Untaken)
 }
 
-/// The marks of edge `e`, of so much slack.
+/// The marks of edge `e`, of so much slack, which may have a switch or not.
 fn marks_of_edge(
     alloc: Global,
     marking: &Marking<'_>,
+    may: bool,
     slack: u64,
     e: usize,
 ) -> Result<Vec<Mark>, NoMemory>
     requires marking { IsMarkableGraph marking.now }
     requires edge { e < length marking.now.graph.now.code.edges }
-    ensures marks { IfOk result (λ m. m.items ≡ marks_of (graph_seen marking.now.graph.now) (loops marking.now.graph.now marking.now.tree.now) marking.now.counted.now (is_branch marking.now.graph.now e) slack marking.now.min_gain e) }
+    ensures marks { IfOk result (λ m. m.items ≡ marks_of (graph_seen marking.now.graph.now) (loops marking.now.graph.now marking.now.tree.now) marking.now.counted.now may slack marking.now.min_gain e) }
     ensures few { IfOk result (λ m. length m.items ≤ 1600) }
 {
     let way = Way {
         from: marking.graph.source(e),
         to: marking.graph.target(e),
     };
-    let branch = is_branch(marking.graph.edge(e).kind);
-    let marks = edge_marks(alloc, marking, way, branch, slack)?;
+    let marks = edge_marks(alloc, marking, way, may, slack)?;
     Ok(marks)
 }
 
@@ -110,7 +110,26 @@ fn all_marks(
 {
     let mut marks = Vec::new(alloc);
     for e in 0..marking.graph.edge_count() {
-        marks.push(marks_of_edge(alloc, marking, slacks[e], e)?)?;
+        let branch = is_branch(marking.graph.edge(e).kind);
+        marks.push(marks_of_edge(alloc, marking, branch, slacks[e], e)?)?;
+    }
+    Ok(marks)
+}
+
+/// By edge, its marks where those with a flag have a switch.
+fn wanted_marks(
+    alloc: Global,
+    marking: &Marking<'_>,
+    wanted: &[bool],
+) -> Result<Vec<Vec<Mark>>, NoMemory>
+    requires marking { IsMarkableGraph marking.now }
+    requires no_gain { marking.now.min_gain ≡ 0 }
+    requires wanted { length wanted.now ≡ length marking.now.graph.now.code.edges }
+    ensures { IfOk result (λ marks. AreMarksBy (marks_where marking.now.graph.now marking.now.tree.now marking.now.counted.now (flag_at wanted.now)) (length marking.now.graph.now.code.edges) (map (λ m. m.items) marks.items)) }
+{
+    let mut marks = Vec::new(alloc);
+    for e in 0..marking.graph.edge_count() {
+        marks.push(marks_of_edge(alloc, marking, wanted[e], 0, e)?)?;
     }
     Ok(marks)
 }
@@ -184,6 +203,32 @@ pub fn choose(
         min_gain,
     };
     let marks = all_marks(alloc, &marking, slacks)?;
+    let jumps = all_jumps(alloc, graph, &marks)?;
+    Ok(Sites { marks, jumps })
+}
+
+/// The marks of all edges, by flags that are handed in: a Switch where an edge with a flag leaves no counted loop.
+pub fn choose_where(
+    alloc: Global,
+    graph: &CodeGraph,
+    tree: &LoopTree,
+    counters: &CounterList,
+    wanted: &[bool],
+) -> Result<Sites, NoMemory>
+    requires flow { IsFlowGraph graph.now }
+    requires tree { (extent : ℕ → ℕ → Bool) × IsLoopTree graph.now extent tree.now }
+    requires counters { counters.now ≡ counted_loops tree.now }
+    requires few { length counters.now ≤ 509 }
+    requires wanted { length wanted.now ≡ length graph.now.code.edges }
+    ensures { IfOk result (λ s. AreWantedSites graph.now tree.now counters.now wanted.now s) }
+{
+    let marking = Marking {
+        graph,
+        tree,
+        counted: counters.as_slice(),
+        min_gain: 0,
+    };
+    let marks = wanted_marks(alloc, &marking, wanted)?;
     let jumps = all_jumps(alloc, graph, &marks)?;
     Ok(Sites { marks, jumps })
 }

@@ -1,4 +1,5 @@
 //! What a command makes of an image, a machine file and a loop file.
+//! Tests: crates/answer_tests/src/rewriting.rt.
 #![tactic(auto)]
 
 ghost use Rattle.std.specs.Prelude.{◌≤◌, ℕ, Bool, List, length, Ok};
@@ -19,9 +20,9 @@ mod safe_level;
 mod stubs;
 
 pub use planning::plan;
-pub use rewriting::rewrite;
+pub use rewriting::{EdgeCounts, block_of, count_edges, rewrite, starting_level};
 pub use rewriting_as::rewrite_as;
-pub use safe_level::{check_unscaled, hold, time_at};
+pub use safe_level::{check_unscaled, hold, time_at, weights_of};
 
 /// What `hold` stores is safe: on every input and after every number of steps its run is that of the original image, and as long
 /// as that run keeps the loops' bounds and the return addresses it takes at most the printed cycles, at most the printed time,

@@ -57,7 +57,7 @@ fn sites_of(
 }
 
 /// The slowest level at which so many cycles are in time.
-fn starting_level(power: &Power, worst: u64) -> Result<u8, Refusal>
+pub fn starting_level(power: &Power, worst: u64) -> Result<u8, Refusal>
     ensures { result ≡ scalings.chosen_level power.now worst }
 {
     match slowest(power, worst) {
@@ -117,10 +117,10 @@ fn stub_cycles(
 
 /// How many edges have a switch, an exit of a loop, and a count of a turn.
 #[derive(Clone, Copy)]
-struct EdgeCounts {
-    switch: u32,
-    exit: u32,
-    count: u32,
+pub struct EdgeCounts {
+    pub switch: u32,
+    pub exit: u32,
+    pub count: u32,
 }
 
 fn has_switch(marks: &[Mark]) -> bool
@@ -141,7 +141,7 @@ fn has_count(marks: &[Mark]) -> bool
     marks.iter().any(|mark| matches!(mark, Mark::Count(_)))
 }
 
-fn count_edges(graph: &CodeGraph, sites: &Sites) -> EdgeCounts
+pub fn count_edges(graph: &CodeGraph, sites: &Sites) -> EdgeCounts
     requires { length sites.now.marks ≡ length graph.now.code.edges }
     ensures switch { result.switch ≡ edges_with is_switch graph.now (marks_at_edge sites.now) }
     ensures exit { result.exit ≡ edges_with is_exit_mark graph.now (marks_at_edge sites.now) }
@@ -162,7 +162,7 @@ fn count_edges(graph: &CodeGraph, sites: &Sites) -> EdgeCounts
 }
 
 /// The block of stubs, and the base at which it stands.
-fn block_of(
+pub fn block_of(
     alloc: Global,
     view: &ImageView<'_>,
     stubs: &[StubSite],

@@ -1,4 +1,5 @@
 //! Simulated runs of images: how they end, what they cost, what they write, and whether they keep the notes of their loops.
+//! Tests: crates/answer_tests/src/simulating.rt.
 #![tactic(auto)]
 
 ghost use Rattle.std.specs.Prelude.{option_map};

@@ -1,4 +1,5 @@
 //! What a stored image is read as.
+//! Tests: none, since nothing of it runs.
 #![tactic(auto)]
 
 ghost use Rattle.std.specs.Prelude.{◌≡◌, ℕ, List, Ok};

@@ -1,5 +1,6 @@
 //! Runs of a stored image with stubs: they follow the runs of the original, and each step of the original is one leg of the stored run,
 //! which costs the stored weight of its edge and stores at the speed port what the edge's marks choose.
+//! Tests: none, since nothing of it runs.
 #![tactic(auto)]
 
 ghost use Rattle.stored_runs.specs.Laws.{LegsAreLong, LegsAreShort, LegsCostStoredWeights, LegsHaveOneStepOfText, MeetingsAreOnce, PatchedRunsFollow, StoredRunsFollow, StubbedArePatched};

@@ -1,4 +1,5 @@
 //! Writes the code of stubs: for each marked branch or jump its fragments, the way on, and the jump that takes its place.
+//! Tests: crates/graph_tests/src/stubs.rt.
 #![tactic(auto)]
 
 mod block;
@@ -11,6 +12,3 @@ mod words;
 pub use block::{block_len, emit};
 pub use codes::{count_code, exit_code, reset_code, switch_code};
 pub use site::{EdgeList, FragmentList, StubBlock, StubEdge, StubSite};
-
-#[cfg(test)]
-mod tests;

@@ -1,4 +1,5 @@
 //! The keys of a TOML table: which are missing, which are unknown, and the numbers that they hold.
+//! Tests: crates/file_tests/src/toml_tables.rt.
 #![tactic(auto)]
 
 ghost use Rattle.std.specs.Prelude.{◌≡◌, ℕ, ◌≤◌, map, option_map, IfSome, IfOk};
@@ -105,6 +106,3 @@ fn all_tables<'t>(alloc: Global, items: &'t [Value]) -> Result<Option<Vec<&'t Ta
     }
     Ok(Some(tables))
 }
-
-#[cfg(test)]
-mod tests;

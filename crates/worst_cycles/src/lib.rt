@@ -1,4 +1,5 @@
 //! The worst cycles of a program's functions, and the greatest cost of an iteration of each of its loops.
+//! Tests: crates/graph_tests/src/worst_numbers.rt.
 #![tactic(auto)]
 
 ghost use Rattle.std.specs.Prelude.{◌≡◌, ℕ, Bool, length, IfOk};

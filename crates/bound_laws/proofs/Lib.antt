@@ -1,0 +1,15 @@
+pub mod Moduli
+pub mod Effects
+pub mod Modes
+pub mod Ways
+pub mod Inductions
+pub mod TurningRuns
+pub mod Keeping
+pub mod Arcs
+pub mod Transfers
+pub mod Lines
+pub mod Memory
+pub mod Frames
+pub mod ValueRuns
+pub mod LoadedBytes
+pub mod Deriving

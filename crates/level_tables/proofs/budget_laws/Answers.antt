@@ -1,0 +1,12 @@
+use Rattle.level_tables.proofs.Budgets.{both_in_budget, both_in_time}
+use Rattle.level_tables.proofs.Least.{first_are, least_are}
+use Rattle.level_tables.proofs.budget_laws.Goals as goal
+
+pub returns-clause-deadline : goal.returns-clause-deadline
+returns-clause-deadline c = λ power edge i l. (both_in_budget power edge i l, both_in_time power edge i l)
+
+pub returns-clause-first : goal.returns-clause-first
+returns-clause-first c = first_are
+
+pub returns-clause-least : goal.returns-clause-least
+returns-clause-least c = least_are

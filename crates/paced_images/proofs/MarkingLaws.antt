@@ -1,0 +1,139 @@
+-- What a marking says of the marks of an edge, and of the loops of their counters.
+use Rattle.std.proofs.Common.{◌≡◌, ℕ, zero, suc, ◌+◌, ◌-◌, ◌*◌, ◌^◌, ◌<◌, ◌≤◌, Bool, true, not, ◌&&◌, List, [], ◌∷◌, ◌++◌, length, slice_get, Option, Some, None, refl, sym, ap, ◌∙◌, subst, arith, append_assoc}
+use Rattle.std.specs.Prelude.{All, slice_index, IfSome}
+use Rattle.std.proofs.lemmas.List.Elements.{All-append}
+use Rattle.std.proofs.lemmas.Option.{slice_get_within, get_or_from_slice_get}
+use Rattle.scale_base.specs.declared.fragments.Fragment.TheVariants as fragments
+use Rattle.scale_base.specs.Image.{Image}
+use Rattle.power_model.specs.Numbers.{PowerModel}
+use Rattle.cost_theory.specs.Graph.{leaves, goes_back}
+use Rattle.cycle_laws.specs.Charged.{Charged, to_end_after}
+use Rattle.cost_theory.specs.Worst.{Numbers}
+use Rattle.code_graph.specs.FlowGraph.{FlowGraph, graph}
+use Rattle.level_tables.specs.Tables as tables
+use Rattle.loop_tree.specs.Tree.{LoopView, loops}
+use Rattle.scale_base.specs.declared.fragments.Mark.{Mark}
+use Rattle.scale_base.specs.declared.fragments.Mark.TheVariants as marks
+use Rattle.scale_sites.specs.Counters.{counted_loops}
+use Rattle.scale_sites.specs.Marks.{first_counter, is_outermost, switch_of, exits_from, resets_from, counts_from, AreLoopsOnce}
+use Rattle.scale_sites.specs.Sites.{marks_at_edge}
+use Rattle.scale_sites.specs.Weights.{switches}
+use Rattle.scale_sites.proofs.Laws.{switches-one}
+use Rattle.rewritten_runs.specs.Stubs.{told_at, fragment_by, loop_of}
+use Rattle.rewritten_runs.proofs.Laws.{IsMarkOf, IsQuietMark, counts_are, in_get, marks_all, marks_are, resets_are, set_distinct}
+use Rattle.scaler.proofs.Laws.{IsLoud, counted_loop}
+use Rattle.paced_images.specs.declared.stubs.Marking.{Marking}
+use Rattle.paced_images.specs.Markings.{IsMarking, test_of}
+use Rattle.paced_images.specs.Wanted.{marked_where}
+
+-- ---- the first mark
+
+loud_switches : (m : Mark) (ms : List Mark) → IsLoud m → switches (m ∷ ms) ≡ true
+loud_switches marks.Switch ms h = refl
+loud_switches (marks.Exit c) ms h = refl
+loud_switches (marks.Reset c) ms h = absurd h
+loud_switches (marks.Count c) ms h = absurd h
+
+not_both : (m : Mark) → IsLoud m → IsQuietMark m → ⊥
+not_both marks.Switch h q = q
+not_both (marks.Exit c) h q = q
+not_both (marks.Reset c) h q = h
+not_both (marks.Count c) h q = h
+
+none_loud : (ms : List Mark) (i : ℕ) (m : Mark) → All IsQuietMark ms → slice_get ms i ≡ Some m → IsLoud m → ⊥
+none_loud [] i m all at h = let never : ⊥ = cc in never
+none_loud (q ∷ ms) zero m all at h = let e : q ≡ m = cc in not_both m h (subst IsQuietMark e (all 0 q (omega arith)))
+none_loud (q ∷ ms) (suc i) m all at h = none_loud ms i m (λ k d lt. all (suc k) d (omega arith)) at h
+
+first_loud : (first rest : List Mark) (i : ℕ) (m : Mark) → length first ≤ 1 → All IsQuietMark rest → slice_get (first ++ rest) i ≡ Some m → IsLoud m → switches (first ++ rest) ≡ true
+first_loud [] rest i m few all at h = absurd (none_loud rest i m all at h)
+first_loud (x ∷ []) rest zero m few all at h = let e : x ≡ m = cc in loud_switches x rest (subst IsLoud (sym e) h)
+first_loud (x ∷ []) rest (suc i) m few all at h = absurd (none_loud rest i m all at h)
+first_loud (x ∷ y ∷ first) rest i m few all at h = let bad : ⊥ = omega arith in absurd bad
+
+module _ (power : PowerModel) (image : Image) (v : FlowGraph) (t : LoopView) (wanted : ℕ → Bool) (stored : Numbers) (least : Charged) (m : Marking) (is : IsMarking power image v t wanted stored least m) where
+  loops_are : AreLoopsOnce (loops v t) (counted_loops t)
+  loops_are k h =
+      let at = in_get k (counted_loops t) h in
+      let lt = counted_loop v t is.tree.0 at.0 k is.tree.1 at.1 in
+      let same = Rattle.std.proofs.lemmas.List.length-map t.headers (Rattle.loop_tree.specs.Noted.node_address v) in
+      omega (arith, lt, same)
+
+  pub marking_switches : (e i : ℕ) (mark : Mark) → e < length v.code.edges → slice_get (marks_at_edge m.sites e) i ≡ Some mark → IsLoud mark → switches (marks_at_edge m.sites e) ≡ true
+  marking_switches e i mark lt at loud =
+      let l = loops v t in
+      let u = (graph v).source e in
+      let p = (graph v).target e in
+      let counted = counted_loops t in
+      let s = switch_of l u p counted (wanted e) 0 0 in
+      let x = exits_from l u p counted first_counter counted in
+      let r = resets_from l u p counted first_counter counted in
+      let c = counts_from l u p first_counter counted in
+      let few = switches-one (graph v) l is.tree.0 is.code.flow.program is.tree.1.accepted counted loops_are e (wanted e) 0 0 first_counter lt (set_distinct 0 t.counted) in
+      let one : All IsQuietMark r = subst (All IsQuietMark) (sym (resets_are l u p counted first_counter counted)) (marks_all IsQuietMark (λ k. leaves l k u p && not (is_outermost l u p k counted)) marks.Reset first_counter counted (λ j k q on. tt)) in
+      let two : All IsQuietMark c = subst (All IsQuietMark) (sym (counts_are l u p first_counter counted)) (marks_all IsQuietMark (λ k. goes_back l k u p) marks.Count first_counter counted (λ j k q on. tt)) in
+      let whole : marks_at_edge m.sites e ≡ (s ++ x) ++ (r ++ c) = is.marks e lt ∙ sym (append_assoc s x (r ++ c)) in
+      ap switches whole ∙ first_loud (s ++ x) (r ++ c) i mark few (All-append IsQuietMark r c one two) (sym (ap (λ ms. slice_get ms i) whole) ∙ at) loud
+
+  -- ---- the loop of a counter
+
+  pub record IsExitOf (counter : ℕ) : Type 0 where
+    pub place : ℕ
+    pub loop : ℕ
+    pub counter_is : counter ≡ 2 + place
+    pub within : place < length m.counters
+    pub get : slice_index m.counters place ≡ loop
+    pub small : loop < length t.headers
+    pub loop_is : loop_of (counted_loops t) counter ≡ loop
+
+  all_get : {A : Type 0} (P : A → Type 0) (xs : List A) (i : ℕ) (x : A) → All P xs → slice_get xs i ≡ Some x → P x
+  all_get P [] i x all at = let never : ⊥ = cc in absurd never
+  all_get P (y ∷ xs) zero x all at = let e : y ≡ x = cc in subst P e (all 0 y (omega arith))
+  all_get P (y ∷ xs) (suc i) x all at = all_get P xs i x (λ k d lt. all (suc k) d (omega arith)) at
+
+  pub exit_is : (e i counter : ℕ) → e < length v.code.edges → slice_get (marks_at_edge m.sites e) i ≡ Some (marks.Exit counter) → IsExitOf counter
+  exit_is e i counter lt at =
+      let all = marks_are (loops v t) (counted_loops t) (wanted e) 0 0 ((graph v).source e) ((graph v).target e) in
+      let f = all_get (IsMarkOf (loops v t) (counted_loops t) (wanted e) ((graph v).source e) ((graph v).target e)) (marked_where v t wanted e) i (marks.Exit counter) all (sym (ap (λ ms. slice_get ms i) (is.marks e lt)) ∙ at) in
+      let within = slice_get_within (counted_loops t) f.place f.loop f.get in
+      let same : length m.counters ≡ length (counted_loops t) = ap length is.counters in
+      let back : counter - first_counter ≡ f.place = (let q = f.is in omega (arith, q)) in
+      record {
+        place = f.place;
+        loop = f.loop;
+        counter_is = f.is;
+        within = omega (arith, within, same);
+        get = ap (λ cs. slice_index cs f.place) is.counters ∙ get_or_from_slice_get (counted_loops t) f.place f.loop 0 f.get;
+        small = counted_loop v t is.tree.0 f.place f.loop is.tree.1 f.get;
+        loop_is = ap (slice_index (counted_loops t)) back ∙ get_or_from_slice_get (counted_loops t) f.place f.loop 0 f.get;
+      }
+
+  -- the bound and an iteration of the loop
+  pub turns_fit : (k bound iteration : ℕ) → k < length t.headers → slice_get t.bounds k ≡ Some bound → slice_get m.worst.iteration k ≡ Some iteration → bound * iteration ≤ 2 ^ 48
+  turns_fit k bound iteration lt b i =
+      let one : (loops v t).bound k ≡ bound = get_or_from_slice_get t.bounds k bound 0 b in
+      let two : stored.iteration k ≡ iteration = (let e = is.iteration k lt in cc) in
+      let small = is.turns_small k lt in
+      subst (λ x. x * iteration ≤ 2 ^ 48) one (subst (λ x. (loops v t).bound k * x ≤ 2 ^ 48) two small)
+
+  pub exit_fragment : (e counter k bound iteration shift : ℕ) (rows : List ℕ) (told : tables.EdgeNumbers) → k < length t.headers → loop_of (counted_loops t) counter ≡ k → slice_get t.bounds k ≡ Some bound → slice_get m.worst.iteration k ≡ Some iteration
+      → shift ≡ tables.shift_of bound → rows ≡ tables.all_rows_by power (test_of power m) bound iteration told → told ≡ told_at power image v t (marked_where v t wanted) stored least e
+      → fragments.Exit counter shift rows ≡ fragment_by power (test_of power m) (loops v t) (counted_loops t) stored (told_at power image v t (marked_where v t wanted) stored least e) (marks.Exit counter)
+  exit_fragment e counter k bound iteration shift rows told lt here b i s r tl =
+      let one : bound ≡ (loops v t).bound (loop_of (counted_loops t) counter) = sym (get_or_from_slice_get t.bounds k bound 0 b) ∙ ap (loops v t).bound (sym here) in
+      let two : iteration ≡ stored.iteration (loop_of (counted_loops t) counter) = (let q : iteration ≡ stored.iteration k = (let e2 = is.iteration k lt in cc) in q ∙ ap stored.iteration (sym here)) in
+      let three : shift ≡ tables.shift_of ((loops v t).bound (loop_of (counted_loops t) counter)) = s ∙ ap tables.shift_of one in
+      let four = r ∙ (ap (λ x. tables.all_rows_by power (test_of power m) x iteration told) one ∙ (ap (λ x. tables.all_rows_by power (test_of power m) ((loops v t).bound (loop_of (counted_loops t) counter)) x told) two
+      ∙ ap (tables.all_rows_by power (test_of power m) ((loops v t).bound (loop_of (counted_loops t) counter)) (stored.iteration (loop_of (counted_loops t) counter))) tl)) in
+      ap (λ x. fragments.Exit counter x rows) three ∙ ap (fragments.Exit counter (tables.shift_of ((loops v t).bound (loop_of (counted_loops t) counter)))) four
+
+  -- the least cycles behind an edge
+  pub after_is : (e : ℕ) (o : Option ℕ) → e < length v.code.edges → slice_get m.least.after e ≡ Some o → o ≡ to_end_after (graph v) (loops v t) least e
+  after_is e o lt here = let q = is.after e lt in cc
+
+  pub after_small : (e : ℕ) (o : Option ℕ) → e < length v.code.edges → slice_get m.least.after e ≡ Some o → IfSome o (λ z. z < 2 ^ 89)
+  after_small e o lt here = by o (after_is e o lt here)
+    where
+      by : (o : Option ℕ) → o ≡ to_end_after (graph v) (loops v t) least e → IfSome o (λ z. z < 2 ^ 89)
+      by None same = tt
+      by (Some z) same = is.after_small e z lt (sym same)

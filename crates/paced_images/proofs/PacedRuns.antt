@@ -1,0 +1,172 @@
+-- The stored image of a paced program keeps the promise: its tables keep budgets.
+use Rattle.std.proofs.Common.{◌≡◌, ℕ, ◌+◌, ◌<◌, ◌≤◌, ◌==◌, Bool, true, false, cond, List, length, Some, None, Ok, refl, sym, ap, subst, arith, eq-eqb}
+use Rattle.scale_base.specs.declared.ranges.Keyed.{Keyed}
+use Rattle.scale_base.specs.Image.{Image, image_of}
+use Rattle.scale_base.specs.Run.{starting_level}
+use Rattle.power_model.specs.Numbers.{PowerModel, IsPowerModel}
+use Rattle.power_model.specs.Price.{time_at}
+use Rattle.power_model.specs.Switches.{costs_of}
+use Rattle.elf_patch.specs.Stored.{stored_image}
+use Rattle.stored_laws.specs.StoredView.{stored_view}
+use Rattle.stored_laws.proofs.Laws.{law}
+use Rattle.cost_theory.specs.Graph.{Graph, Loops}
+use Rattle.cost_theory.specs.Worst.{Numbers, AreNumbers}
+use Rattle.cycle_laws.specs.Charged.{AreCharged}
+use Rattle.code_text.specs.Text.{text_of}
+use Rattle.code_text.specs.TextGraph.{text_graph}
+use Rattle.code_graph.specs.FlowGraph.{graph}
+use Rattle.graph_runs.specs.Laws.{IsProgramOf}
+use Rattle.loop_file.specs.declared.notes.LoopNote.{LoopNote}
+use Rattle.loop_file.specs.Kept.{noted_loops}
+use Rattle.loop_tree.specs.Tree.{loops}
+use Rattle.scale_sites.specs.Counters.{counted_loops}
+use Rattle.stub_writer.specs.Stubs.{Site, block_bytes, patches_from}
+use Rattle.stored_runs.specs.Stubbed.{IsStubbed}
+use Rattle.stored_runs.proofs.Laws.{stubbed_patched}
+use Rattle.paid_runs.specs.Marked as marked_specs
+use Rattle.paid_runs.specs.Patched.{IsBudgeted}
+use Rattle.paid_runs.specs.Timely.{weights_of}
+use Rattle.paid_runs.proofs.Laws.{budgeted_safe, counted_of, counters_of, tables_keep_budgets, weights_of_calls}
+use Rattle.rewritten_runs.specs.Promise.{KeepsThePromise}
+use Rattle.rewritten_runs.specs.Stubs.{IsWeighed, is_counted, counter_of}
+use Rattle.rewritten_runs.proofs.Laws.{countable, graph_program, kept_by_tree, limited, program_is}
+use Rattle.scaler.proofs.Laws.{found_in_time}
+use Rattle.paced_images.specs.declared.wanted.SwitchSite.{SwitchSite}
+use Rattle.paced_images.specs.Paced.{paced_budget, paced_test}
+use Rattle.paced_images.specs.Wanted.{wanted_by}
+use Rattle.paced_images.proofs.Ended.{promised}
+use Rattle.paced_images.proofs.PacedCounts.{are_marked}
+use Rattle.paced_images.proofs.PacedTables.{tabled}
+use Rattle.paced_images.proofs.PacedWeights.{stored_same, extra_same}
+use Rattle.paced_images.proofs.SafeStubs.{bound_small}
+use Rattle.paced_images.proofs.Storing.{IsMade, can_store, safe as safe_stubs, start_low}
+use Rattle.paced_images.proofs.WantedKinds as Kinds
+use Rattle.paced_images.proofs.WantedMarks.{chooses}
+
+-- what a stored image is read as has the original's text, and the block as its keyed segment
+pub view_text : (image : Image) (file : List ℕ) (base : ℕ) (block : List ℕ) (start : ℕ) → (stored_view image file base block start).text ≡ image.text
+unfolding stored_view
+view_text image file base block start = refl
+
+abbrev pub key_of : ℕ → List ℕ → ℕ → Keyed
+key_of base block start = record { range = record { from = base; to = base + length block }; start = start }
+
+pub view_key : (image : Image) (file : List ℕ) (base : ℕ) (block : List ℕ) (start : ℕ) → (stored_view image file base block start).keyed_segment ≡ Some (key_of base block start)
+unfolding stored_view
+view_key image file base block start = refl
+
+-- budgets are within the deadline
+budget_within : (power : PowerModel) (start worst i : ℕ) → time_at power start worst ≤ power.deadline → paced_budget power start worst i ≤ power.deadline
+budget_within power start worst i le = by (i == start)
+  where
+    by : (b : Bool) → cond b (time_at power start worst) power.deadline ≤ power.deadline
+    by true = le
+    by false = omega arith
+
+budget_first : (power : PowerModel) (start worst : ℕ) → paced_budget power start worst start ≡ time_at power start worst
+budget_first power start worst = ap (λ b. cond b (time_at power start worst) power.deadline) (eq-eqb start start refl)
+
+module _ (power : PowerModel) (ok : IsPowerModel power) (image : Image) (notes : List LoopNote) (wanted : List SwitchSite) (sites : List Site) (base start : ℕ) (read : image_of image.file ≡ Ok image) (no_key : image.keyed_segment ≡ None) (short : length image.file ≤ 4194304) (is : IsMade power image notes wanted sites base start) where
+  abbrev chosen : ℕ → Bool
+  chosen = wanted_by is.code wanted
+
+  abbrev test : Rattle.level_tables.specs.Tables.EdgeNumbers → ℕ → ℕ → Bool
+  test = paced_test power start (is.stored.worst 0)
+
+  abbrev budget : ℕ → ℕ
+  budget = paced_budget power start (is.stored.worst 0)
+
+  abbrev l : Loops
+  l = loops is.code is.tree
+
+  abbrev extent : ℕ → ℕ → Bool
+  extent = (noted_loops notes).inside
+
+  abbrev levels : ℕ
+  levels = length power.levels
+
+  abbrev limits : ℕ → ℕ
+  limits w = l.bound (Rattle.rewritten_runs.specs.Stubs.loop_of (counted_loops is.tree) w)
+
+  kinds : Rattle.paced_images.specs.Markings.ChoosesSites is.code chosen
+  kinds = chooses is.code wanted
+
+  abbrev plain : Numbers
+  plain = Kinds.plain power image notes is.code is.tree chosen is.stored is.weighed kinds
+
+  abbrev other : Numbers
+  other = Kinds.other power image notes is.code is.tree chosen is.stored is.weighed kinds
+
+  weighed : IsWeighed power image notes is.code is.tree plain other
+  weighed = Kinds.weighed power image notes is.code is.tree chosen is.stored is.weighed kinds
+
+  prog : IsProgramOf (text_of image) is.code.code l extent
+  prog = program_is power image notes is.code is.tree plain other weighed
+
+  abbrev pub stored : Image
+  stored = stored_view image (stored_image image.file (patches_from base sites) base (block_bytes base sites) start) base (block_bytes base sites) start
+
+  stubbed : IsStubbed image.file image levels limits sites base start stored
+  stubbed = record {
+    read = read;
+    storable = can_store power ok image notes wanted sites base start read no_key short is;
+    stored_is = law image.file image (patches_from base sites) base (block_bytes base sites) start read (can_store power ok image notes wanted sites base start read no_key short is);
+    near = is.near;
+    ascending = is.stubs.sites_are.ascending;
+    safe = safe_stubs power ok image notes wanted sites base start read no_key short is;
+    start_is_level = start_low power ok image notes wanted sites base start read no_key short is;
+    few_levels = ok.few;
+    small_limits = λ k. let b = bound_small power ok image notes is.code is.tree chosen is.stored is.weighed kinds test is.least sites is.stubs.sites_are (Rattle.rewritten_runs.specs.Stubs.loop_of (counted_loops is.tree) k) in omega (arith, b);
+  }
+
+  same_stored : weights_of power (text_of image) is.code.code sites ≡ Rattle.rewritten_runs.specs.Stubs.stored_weights power image is.code (Rattle.paced_images.specs.Wanted.marked_where is.code is.tree chosen)
+  same_stored = stored_same power image notes is.code is.tree chosen is.stored is.weighed kinds test is.least sites is.stubs.sites_are
+
+  same_extra : marked_specs.extra_site_weights (text_of image) is.code.code (costs_of power) sites ≡ Rattle.rewritten_runs.specs.Stubs.extra_weights power is.code (Rattle.paced_images.specs.Wanted.marked_where is.code is.tree chosen)
+  same_extra = extra_same power image notes is.code is.tree chosen is.stored is.weighed kinds test is.least sites is.stubs.sites_are
+
+  in_time : time_at power start (is.stored.worst 0) ≤ power.deadline
+  in_time = found_in_time power (is.stored.worst 0) start is.slow
+
+  abbrev is_of : ℕ → ℕ → Bool
+  is_of = Rattle.paid_runs.specs.Counters.by_words l (is_counted is.tree) (counter_of is.tree)
+
+  pub budgeted : IsBudgeted power budget image stored limits sites start is.code.code l extent is_of is.stored is.least is.extra
+  budgeted = record {
+    power_is = ok;
+    patched_is = stubbed_patched image.file image levels limits sites base start stored stubbed;
+    program = prog;
+    counters = counters_of l (is_counted is.tree) (counter_of is.tree) (text_graph (text_of image) is.code.code) limits (countable power image notes is.code is.tree plain other weighed) (limited power image notes is.code is.tree plain other weighed);
+    counted = counted_of l (is_counted is.tree) (counter_of is.tree) (text_of image) is.code.code sites (are_marked power image notes is.code is.tree chosen is.stored is.weighed kinds test is.least sites is.stubs.sites_are);
+    analyzed = record {
+      program = graph_program power image notes is.code is.tree plain other weighed;
+      accepted = prog.loops;
+      weights = (weights_of_calls image levels limits sites is.code.code (costs_of power) (safe_stubs power ok image notes wanted sites base start read no_key short is)).0;
+      numbers = subst (λ (q : Graph). AreNumbers q l (weights_of power (text_of image) is.code.code sites) is.stored) (sym is.weighed.code_is.graph_is) (subst (λ (w : ℕ → ℕ). AreNumbers (graph is.code) l w is.stored) (sym same_stored) is.weighed.stored_are);
+    };
+    added = record {
+      program = graph_program power image notes is.code is.tree plain other weighed;
+      accepted = prog.loops;
+      weights = (weights_of_calls image levels limits sites is.code.code (costs_of power) (safe_stubs power ok image notes wanted sites base start read no_key short is)).1;
+      numbers = subst (λ (q : Graph). AreNumbers q l (marked_specs.extra_site_weights (text_of image) is.code.code (costs_of power) sites) is.extra) (sym is.weighed.code_is.graph_is) (subst (λ (w : ℕ → ℕ). AreNumbers (graph is.code) l w is.extra) (sym same_extra) is.stubs.extra_are);
+    };
+    least_is = subst (λ (q : Graph). AreCharged q l (weights_of power (text_of image) is.code.code sites) is.least) (sym is.weighed.code_is.graph_is) (subst (λ (w : ℕ → ℕ). AreCharged (graph is.code) l w is.least) (sym same_stored) is.stubs.least_are);
+    tables = tables_keep_budgets power budget (text_of image) is.code.code l sites is_of is.stored is.least (tabled power ok.few image notes is.code is.tree chosen is.stored is.weighed kinds test is.least sites is.stubs.sites_are);
+    budgets = record {
+      first = (let e = budget_first power start (is.stored.worst 0) in omega (arith, e));
+      within = λ i low. budget_within power start (is.stored.worst 0) i in_time;
+    };
+  }
+
+  pub stored_is : image_of (stored_image image.file (patches_from base sites) base (block_bytes base sites) start) ≡ Ok stored
+  stored_is = stubbed.stored_is
+
+  starts : starting_level levels stored.keyed_segment ≡ start
+  starts = (stubbed_patched image.file image levels limits sites base start stored stubbed).start_is
+
+  pub keeps : KeepsThePromise power image notes stored (is.extra.worst 0)
+  keeps input steps status kept exited =
+      let k = kept_by_tree is.code notes is.tree is.weighed.tree_is image levels input steps kept.carried kept.kept in
+      let r = budgeted_safe power budget image stored limits sites start is.code.code l extent is_of is.stored is.least is.extra budgeted input steps kept.carried k in
+      let is_level : starting_level levels stored.keyed_segment < levels = (let lt = start_low power ok image notes wanted sites base start read no_key short is in omega (arith, lt, starts)) in
+      promised power image stored sites is.code.code l is_of is.stored is.extra input steps status kept.carried is_level (subst (λ i. Rattle.paid_runs.specs.Patched.IsTunedRun power image stored sites i is.code.code l is_of is.stored is.extra input steps kept.carried) (sym starts) r.0) exited

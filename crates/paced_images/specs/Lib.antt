@@ -1,0 +1,5 @@
+pub mod Wanted
+pub mod Flags
+pub mod Paced
+pub mod Markings
+pub mod Scalings

@@ -1,0 +1,89 @@
+-- What `pace` gives: the image with stubs on the edges that are named and on those of counted loops, whose tables keep budgets, and which starts at the slowest level at which
+-- its worst case, stubs and all, is in time. A switch may stand on an edge without slack: the time that the starting level leaves before the deadline is lent to the levels below.
+-- It is a relation, as what `rewrite` gives. A site that names no edge of a branch or of a jump of the reached code, or one that leaves a counted loop, changes nothing.
+use Rattle.std.specs.Prelude.{◌≡◌, ◌⊎◌, ℕ, ◌<◌, ◌≤◌, ◌==◌, Bool, List, Some, None, Result, Err, if◌then◌else◌}
+use Rattle.scale_base.specs.declared.refusal.Refusal.{Refusal}
+use Rattle.scale_base.specs.declared.refusal.Refusal.TheVariants.{DeadlineMissed, TooLong}
+use Rattle.scale_base.specs.declared.summary.Summary.{Summary}
+use Rattle.scale_base.specs.Image.{Image, image_of}
+use Rattle.power_model.specs.Numbers.{PowerModel}
+use Rattle.power_model.specs.Price.{time_at}
+use Rattle.power_model.specs.Slowest.{slowest_of, fastest}
+use Rattle.machine_file.specs.Machine.{read_machine}
+use Rattle.loop_file.specs.declared.notes.LoopNote.{LoopNote}
+use Rattle.loop_file.specs.Loops.{read_loops}
+use Rattle.cost_theory.specs.Worst.{Numbers}
+use Rattle.cycle_laws.specs.Charged.{Charged}
+use Rattle.code_graph.specs.FlowGraph.{FlowGraph}
+use Rattle.loop_tree.specs.Tree.{LoopView}
+use Rattle.level_tables.specs.Tables.{EdgeNumbers}
+use Rattle.level_tables.specs.Budgets.{meets_in_budget}
+use Rattle.stub_writer.specs.Stubs.{Site, out_of_reach}
+use Rattle.rewritten_runs.specs.Stubs.{IsWeighedWith, HasStubsWith, rewritten_file}
+use Rattle.scaler.specs.Held.{IsCodeRefused, IsLoopRefused, Then, unscaled}
+use Rattle.scaler.specs.Rewritten.{IsCounterRefused, rewritten_summary, unless_out_of_reach}
+use Rattle.paced_images.specs.declared.wanted.SwitchSite.{SwitchSite}
+use Rattle.paced_images.specs.Wanted.{marked_at}
+
+-- ---- budgets
+
+-- the starting level's is the time of the worst cycles there; that of the levels below is the deadline
+abbrev pub paced_budget : PowerModel → (start worst : ℕ) → ℕ → ℕ
+paced_budget power start worst i = if i == start then time_at power start worst else power.deadline
+
+abbrev pub paced_test : PowerModel → (start worst : ℕ) → EdgeNumbers → ℕ → ℕ → Bool
+paced_test power start worst = meets_in_budget power (paced_budget power start worst)
+
+-- ---- what the program of an image and its loops give
+
+-- the worst cycles under the stored weights are more than 2^48
+pub record IsTooLong (power : PowerModel) (image : Image) (notes : List LoopNote) (wanted : List SwitchSite) (answer : Result (List ℕ × Summary) Refusal) : Type 0 where
+  pub code : FlowGraph
+  pub tree : LoopView
+  pub stored : Numbers
+  pub weighed : IsWeighedWith power image notes code tree (marked_at code tree wanted) stored
+  pub long : 281474976710656 < stored.worst 0
+  pub answer_is : answer ≡ Err TooLong
+
+-- they are in range, and even at the fastest level too late
+pub record IsTooLate (power : PowerModel) (image : Image) (notes : List LoopNote) (wanted : List SwitchSite) (answer : Result (List ℕ × Summary) Refusal) : Type 0 where
+  pub code : FlowGraph
+  pub tree : LoopView
+  pub stored : Numbers
+  pub weighed : IsWeighedWith power image notes code tree (marked_at code tree wanted) stored
+  pub short : stored.worst 0 ≤ 281474976710656
+  pub late : slowest_of power (stored.worst 0) ≡ None
+  pub answer_is : answer ≡ Err (DeadlineMissed (time_at power (fastest power) (stored.worst 0)) power.deadline)
+
+-- they are in time from a starting level on: the program gets its stubs, unless one is out of reach
+pub record IsProgramPaced (power : PowerModel) (image : Image) (notes : List LoopNote) (wanted : List SwitchSite) (answer : Result (List ℕ × Summary) Refusal) : Type 0 where
+  pub code : FlowGraph
+  pub tree : LoopView
+  pub stored : Numbers
+  pub extra : Numbers
+  pub least : Charged
+  pub sites : List Site
+  pub base : ℕ
+  pub start : ℕ
+  pub weighed : IsWeighedWith power image notes code tree (marked_at code tree wanted) stored
+  pub short : stored.worst 0 ≤ 281474976710656
+  pub slow : slowest_of power (stored.worst 0) ≡ Some start
+  pub stubs : HasStubsWith power (paced_test power start (stored.worst 0)) image code tree (marked_at code tree wanted) stored extra least sites base
+  pub answer_is : answer ≡ unless_out_of_reach (out_of_reach base sites)
+      (rewritten_file image sites base start, rewritten_summary power code (marked_at code tree wanted) start (stored.worst 0) (extra.worst 0) sites)
+
+abbrev pub IsPacedProgram : PowerModel → Image → List LoopNote → List SwitchSite → Result (List ℕ × Summary) Refusal → Type 0
+IsPacedProgram power image notes wanted answer =
+    IsCodeRefused image answer ⊎ (IsLoopRefused image notes answer ⊎ (IsCounterRefused image notes answer
+    ⊎ (IsTooLong power image notes wanted answer ⊎ (IsTooLate power image notes wanted answer ⊎ IsProgramPaced power image notes wanted answer))))
+
+-- ---- what the files give
+
+-- The stored bytes and the summary, or the first refusal, in the order of what `rewrite` gives.
+unfoldable pub IsPaced : (image machine loop_file : List ℕ) (wanted : List SwitchSite) → Result (List ℕ × Summary) Refusal → Type 0
+IsPaced image machine loop_file wanted answer =
+    Then (read_machine machine) (λ power.
+    Then (image_of image) (λ original.
+    Then (unscaled original.keyed_segment) (λ _.
+    Then (read_loops original loop_file) (λ notes.
+    IsPacedProgram power original notes wanted)))) answer
