@@ -9,6 +9,8 @@ import re
 import sys
 from pathlib import Path
 
+from clauses import clauses
+
 ROOT = Path(__file__).resolve().parent.parent
 CRATES = sorted(path.parent for path in (ROOT / "crates").glob("*/src"))
 NAMES = {crate.name for crate in CRATES}
@@ -18,7 +20,6 @@ STRUCT = re.compile(r"struct (\w+)[^{;(]*\{([^}]*)\}")
 FIELD = re.compile(r"^\s*(pub(?:\([^)]*\))? )?(\w+):", re.M)
 RECORD_FIELD = re.compile(r"^\s+pub (\w+) :", re.M)
 FUNCTION = re.compile(r"^( *)pub fn (\w+)(.*?)\n\1\{", re.M | re.S)
-CLAUSE = re.compile(r"^\s*(?:requires|ensures)\b[^{\n]*\{(.*)\}", re.M)
 
 
 def sources(crate, suffix):
@@ -50,7 +51,7 @@ def fields():
 def private_fields(crate, private):
     for path in sources(crate, ".rt"):
         for function in FUNCTION.finditer(path.read_text()):
-            for clause in CLAUSE.findall(function.group(3)):
+            for clause in clauses(function.group(3)):
                 for name in re.findall(r"\.([a-z_]\w*)", clause):
                     if name in private:
                         yield f"{path.relative_to(ROOT)}: a clause of {function.group(2)} names the private field {name}"

@@ -8,6 +8,8 @@ import re
 import sys
 from pathlib import Path
 
+from clauses import clauses
+
 ROOT = Path(__file__).resolve().parent.parent
 CRATES = ROOT / "crates"
 PAGE = ROOT / "docs" / "DEFINITIONS.md"
@@ -17,7 +19,6 @@ HEADING = "## All names, by file\n"
 USE = re.compile(r"^\s*(?:pub |ghost )*use (Rattle\.[^\s{]+?)(?:\.\{([^}]*)\}| as (\w+))?;?$", re.M)
 START = re.compile(r"^(\s*)((?:(?:abbrev|unfoldable|pub|record|data) )+)([^\s:({]+)")
 WORD = re.compile(r"(?<![\w.'])[A-Za-z_][\w'-]*(?:\.[A-Za-z_][\w'-]*)?")
-CLAUSE = re.compile(r"^\s*(?:requires|ensures)\b[^{\n]*\{(.*)\}", re.M)
 CALL = re.compile(r"^pub fn run_tool\b.*?^\{", re.M | re.S)
 
 
@@ -84,7 +85,7 @@ def file_of(module):
 def reached():
     """All definitions that the clauses of the top call cite: pairs of module and name."""
     top = File(TOP, "//")
-    todo = [place for text in CLAUSE.findall(CALL.search(top.body)[0]) for place in top.cited(text)]
+    todo = [place for text in clauses(CALL.search(top.body)[0]) for place in top.cited(text)]
     seen = set()
     while todo:
         module, name = todo.pop()
