@@ -7,6 +7,7 @@ mod mem_host;
 mod never_fails;
 mod real_host;
 mod stored;
+mod whole_file;
 
 pub use host::{Host, HostError, Loaded};
 pub use mem_host::MemHost;

@@ -2,6 +2,7 @@
 
 ghost use Rattle.std.specs.Prelude.{◌≡◌, None};
 
+use crate::whole_file::store_whole;
 use crate::{Host, HostError, Loaded};
 use std::alloc::Global;
 use std::fs;
@@ -16,7 +17,7 @@ pub struct RealHost<R> {
     store_faults: u64,
 }
 
-impl<R: Files + Print> RealHost<R> {
+impl<R: Files + Print + AllocGlobal> RealHost<R> {
     /// A host of which no call has failed yet.
     pub fn new(runtime: R) -> Self
         ensures { (⟦<RealHost<R> as Host>⟧.state result).faults ≡ 0 × (⟦<RealHost<R> as Host>⟧.state result).store_faults ≡ 0 }
@@ -38,7 +39,7 @@ fn read_file<R: Files>(rt: &R, alloc: Global, name: &str, limit: u64) -> io::Res
     Ok(bytes)
 }
 
-impl<R: Files + Print> Host for RealHost<R> {
+impl<R: Files + Print + AllocGlobal> Host for RealHost<R> {
     ghost state = { λ host. record { files = None; printed = None; room = None; faults = host.faults; store_faults = host.store_faults } };
 
     ghost steady_tells = { λ host steady. (steady, steady) };
@@ -56,7 +57,7 @@ impl<R: Files + Print> Host for RealHost<R> {
     }
 
     fn store(&mut self, name: &str, bytes: &[u8]) -> Result<(), HostError> {
-        match fs::write(&self.runtime, name, bytes) {
+        match store_whole(&self.runtime, self.runtime.alloc(), name, bytes) {
             Ok(()) => Ok(()),
             Err(_) => {
                 self.faults = self.faults.saturating_add(1);
