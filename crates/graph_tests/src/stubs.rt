@@ -28,7 +28,7 @@ const COUNTED: [u32; 35] = [
 ];
 
 /// A marked edge with one fragment.
-#[tactic(auto, using(stub_writer::proofs::SiteLaws::one_fragment))]
+#[tactic(auto, using(crate::proofs::Sites::one_fragment))]
 fn edge(
     alloc: Global,
     at: u32,
@@ -48,7 +48,7 @@ fn edge(
 }
 
 /// One more marked edge.
-#[tactic(auto, using(stub_writer::proofs::SiteLaws::one_edge_more))]
+#[tactic(auto, using(crate::proofs::Sites::one_edge_more))]
 fn push_edge(edges: &mut Vec<StubEdge>, edge: StubEdge) -> Result<(), Fail>
     requires edge { IsEdge edge }
     requires each { All IsEdge edges.old.items }
@@ -60,7 +60,7 @@ fn push_edge(edges: &mut Vec<StubEdge>, edge: StubEdge) -> Result<(), Fail>
 }
 
 /// A branch of x10 and x0 with its marked edges, as the only site.
-#[tactic(auto, using(stub_writer::proofs::SiteLaws::one_site))]
+#[tactic(auto, using(crate::proofs::Sites::one_site))]
 fn branch(
     alloc: Global,
     at: u32,
