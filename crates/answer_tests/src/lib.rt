@@ -8,6 +8,8 @@ mod fixtures;
 #[cfg(test)]
 mod lowering;
 #[cfg(test)]
+mod pacing;
+#[cfg(test)]
 mod rewriting;
 #[cfg(test)]
 mod scanning;

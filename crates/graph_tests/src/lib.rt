@@ -1,4 +1,4 @@
-//! Tests of the calls of the crates over the graph of a program, from the words of its text to its least cycles.
+//! Tests of the calls of the crates over the graph of a program, from the words of its text to its least cycles, and of its levels and stubs.
 #![tactic(auto)]
 
 #[cfg(test)]
@@ -10,6 +10,8 @@ mod graphs;
 #[cfg(test)]
 mod least_numbers;
 #[cfg(test)]
+mod levels;
+#[cfg(test)]
 mod loops;
 #[cfg(test)]
 mod nesting;
@@ -17,6 +19,8 @@ mod nesting;
 mod orders;
 #[cfg(test)]
 mod programs;
+#[cfg(test)]
+mod stubs;
 #[cfg(test)]
 mod text_words;
 #[cfg(test)]

@@ -1,0 +1,97 @@
+//! What is read of jump files, and why they are refused.
+
+use crate::fixtures::{Reader, answer, expect_answers};
+use jump_lists::read_jumps;
+use std::alloc::{AllocError, Global};
+use std::test::Fail;
+
+#[test]
+fn reads_the_jumps_of_a_file(rt: HostRuntime) -> Result<(), Fail> {
+    let text =
+        "version = 1\n[[jump]]\nat = 0x10008\ntargets = [0x1000C, 0x10014]\n[[jump]]\nat = 0\ntargets = [4294967292]\n";
+    let notes = read_jumps(rt.alloc(), text.as_bytes())
+        .ok()
+        .ok_or("refused")?;
+    assert_eq!(rt; notes.count(), 2);
+    let note = notes.get(0);
+    assert_eq!(rt; note.at, 0x1_0008);
+    assert_eq!(rt; note.targets.as_slice(), [0x1_000C, 0x1_0014].as_slice());
+    let note = notes.get(1);
+    assert_eq!(rt; note.at, 0);
+    assert_eq!(rt; note.targets.count(), 1);
+    assert_eq!(rt; note.targets.get(0), 4_294_967_292);
+    Ok(())
+}
+
+/// Jump files, and what is answered: what is wrong with the file comes first.
+static FILES: [(&str, &str); 8] = [
+    ("version = 1\n", "read 0"),
+    ("version = 1\njump = []\n", "read 0"),
+    ("version = ", "61 jump file text"),
+    ("jump = 3\nodd = 1\n", "62 jump 0 key version"),
+    ("version = 2\nodd = 1\n", "63 jump 0 value version"),
+    (
+        "version = 1\njump = 3\nodd = 1\nbad = 1\n",
+        "62 jump 0 key bad",
+    ),
+    ("version = 1\njump = 3\n", "63 jump 0 value jump"),
+    ("version = 1\njump = [3]\n", "63 jump 0 value jump"),
+];
+
+/// What stands in the table of the first jump, and what is answered.
+static JUMPS: [(&str, &str); 8] = [
+    (
+        "at = 4\ntargets = [4]\n[[jump]]\nodd = 1\n",
+        "62 jump 2 key at",
+    ),
+    ("at = 2\nodd = 1\n", "62 jump 1 key targets"),
+    (
+        "at = 2\ntargets = []\nodd = 1\nbad = 1\n",
+        "62 jump 1 key bad",
+    ),
+    ("at = 2\ntargets = []\n", "63 jump 1 value at"),
+    ("at = 4294967296\ntargets = [4]\n", "63 jump 1 value at"),
+    ("at = 4\ntargets = []\n", "63 jump 1 value targets"),
+    ("at = 4\ntargets = [4, 8, 4]\n", "63 jump 1 value targets"),
+    (
+        "at = 4\ntargets = [4, \"main\"]\n",
+        "63 jump 1 value targets",
+    ),
+];
+
+#[test]
+fn answers_in_order(rt: HostRuntime) -> Result<(), Fail> {
+    for (rows, before) in [(FILES.as_slice(), ""), (&JUMPS, "version = 1\n[[jump]]\n")] {
+        expect_answers(&rt, rt.alloc(), Reader::Jumps, before, rows, "")?;
+    }
+    Ok(())
+}
+
+/// A file of so many jumps, of which each has so many targets.
+fn file_of(alloc: Global, jumps: u32, targets: u32) -> Result<String, AllocError> {
+    let mut text = String::from_str(alloc, "version = 1\n")?;
+    for _ in 0..jumps {
+        text.push_str("[[jump]]\nat = 0\ntargets = [")?;
+        for k in 0..targets {
+            let target = format!(in alloc; "{}, ", u64::from(k) * 4)?;
+            text.push_str(target.as_str())?;
+        }
+        text.push_str("]\n")?;
+    }
+    Ok(text)
+}
+
+#[test]
+fn takes_as_many_as_are_allowed_and_no_more(rt: HostRuntime) -> Result<(), Fail> {
+    for (jumps, targets, expected) in [
+        (1024, 1, "read 1024"),
+        (1025, 1, "63 jump 0 value jump"),
+        (1, 128, "read 1"),
+        (1, 129, "63 jump 1 value targets"),
+    ] {
+        let text = file_of(rt.alloc(), jumps, targets)?;
+        let got = answer(rt.alloc(), Reader::Jumps, text.as_bytes())?;
+        assert_eq!(rt; got.as_str(), expected);
+    }
+    Ok(())
+}

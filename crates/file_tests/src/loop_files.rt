@@ -1,0 +1,357 @@
+//! What is read of loop files, and why they are refused.
+
+use crate::fixtures::{Reader, SECTIONS, answer, expect_answers, view_of};
+use loop_file::{LoopNote, LoopNotes, RangeList, read_loops};
+use scale_base::Range;
+use std::test::Fail;
+
+/// Loop files, and what is answered.
+static FILES: [(&str, &str); 23] = [
+    ("version = 1\n", "read 0"),
+    ("# no loops\nversion = 0x1", "read 0"),
+    ("version = 1\nloop = []\n", "read 0"),
+    (
+        "version = 1\nloop = [{header = 1, ranges = [[1, 2]], bound = 1}]\n",
+        "read 1 at 1 least 0",
+    ),
+    ("version = \n", "14 loop file text"),
+    ("version = 1\nversion = 1\n", "14 loop file text"),
+    ("", "15 loop 0 key version"),
+    ("loop = 5\n", "15 loop 0 key version"),
+    ("odd = 1\n", "15 loop 0 key version"),
+    ("version = 2\n", "read 0"),
+    ("version = 2\nloop = []\n", "read 0"),
+    ("version = 2\nodd = 1\n", "15 loop 0 key odd"),
+    ("version = 3\n", "16 loop 0 value version"),
+    ("version = 2.0\n", "16 loop 0 value version"),
+    ("version = 0\nodd = 1\n", "16 loop 0 value version"),
+    ("version = 1.0\n", "16 loop 0 value version"),
+    ("version = \"1\"\nloop = 5\n", "16 loop 0 value version"),
+    ("version = 1\nb = 1\naa = 2\nloop = 5\n", "15 loop 0 key aa"),
+    ("version = 1\nloops = 5\n", "15 loop 0 key loops"),
+    ("version = 1\nloop = 5\n", "16 loop 0 value loop"),
+    ("version = 1\n[loop]\n", "16 loop 0 value loop"),
+    ("version = 1\nloop = [{}, 5]\n", "16 loop 0 value loop"),
+    ("version = 1\nloop = [{}]\n", "15 loop 1 key header"),
+];
+
+/// What stands in the table of the first loop, and what is answered.
+static LOOPS: [(&str, &str); 18] = [
+    ("", "15 loop 1 key header"),
+    ("bound = 1\nodd = 1\n", "15 loop 1 key header"),
+    ("header = -1\nbound = 1\nodd = 1\n", "15 loop 1 key ranges"),
+    (
+        "header = 1\nranges = 1\ncounter = true\n",
+        "15 loop 1 key bound",
+    ),
+    (
+        "header = \"none\"\nranges = 1\nbound = -1\nodd = 1\nb = 1\n",
+        "15 loop 1 key b",
+    ),
+    (
+        "header = -1\nranges = 1\nbound = -1\ncounted = 1\n",
+        "16 loop 1 value header",
+    ),
+    (
+        "header = \"none\"\nranges = 1\nbound = -1\ncounted = 1\n",
+        "17 loop 1 symbol",
+    ),
+    (
+        "header = 1\nranges = 1\nbound = -1\ncounted = 1\n",
+        "16 loop 1 value ranges",
+    ),
+    (
+        "header = 1\nranges = [[1, \"none\"]]\nbound = -1\ncounted = 1\n",
+        "17 loop 1 symbol",
+    ),
+    (
+        "header = 1\nranges = [[1, 2]]\nbound = -1\ncounted = 1\n",
+        "16 loop 1 value bound",
+    ),
+    (
+        "header = 1\nranges = [[1, 2]]\nbound = 1000000001\n",
+        "16 loop 1 value bound",
+    ),
+    (
+        "header = 1\nranges = [[1, 2]]\nbound = \"1\"\n",
+        "16 loop 1 value bound",
+    ),
+    (
+        "header = 1\nranges = [[1, 2]]\nbound = 1_000_000_000\ncounted = 1\n",
+        "16 loop 1 value counted",
+    ),
+    (
+        "header = 1\nranges = [[1, 2]]\nbound = 0\ncounted = \"true\"\n",
+        "16 loop 1 value counted",
+    ),
+    (
+        "header = 1\nranges = [[1, 2]]\nbound = -1\n[[loop]]\n",
+        "16 loop 1 value bound",
+    ),
+    (
+        "header = 1\nranges = [[1, 2]]\nbound = 1\n[[loop]]\nbound = 1\n",
+        "15 loop 2 key header",
+    ),
+    (
+        "header = 1\nranges = [[1, 2]]\nbound = 1\n[[loop]]\nheader = \"none\"\nranges = [[1, 2]]\nbound = 1\n",
+        "17 loop 2 symbol",
+    ),
+    (
+        "header = 1\nranges = [[1, 2]]\nbound = 1\n[[loop]]\nheader = 1\nranges = [[1, 2]]\nbound = 1\n",
+        "read 2 at 1 least 0",
+    ),
+];
+
+/// What stands in the table of the first loop of version 2, whose header is 1 and whose range is 1 to 2, and what is answered.
+static LEAST: [(&str, &str); 16] = [
+    ("bound = 10\n", "read 1 at 1 least 0"),
+    ("bound = 10\nat_least = 0\n", "read 1 at 1 least 0"),
+    ("bound = 10\nat_least = 10\n", "read 1 at 1 least 10"),
+    ("at_least = 0x9\nbound = 10\n", "read 1 at 1 least 9"),
+    ("bound = 0\nat_least = 0\n", "read 1 at 1 least 0"),
+    (
+        "bound = 1000000000\nat_least = 1_000_000_000\n",
+        "read 1 at 1 least 1000000000",
+    ),
+    ("bound = 10\nat_least = 11\n", "16 loop 1 value at_least"),
+    ("bound = 0\nat_least = 1\n", "16 loop 1 value at_least"),
+    ("bound = 10\nat_least = -1\n", "16 loop 1 value at_least"),
+    ("bound = 10\nat_least = 1.0\n", "16 loop 1 value at_least"),
+    ("bound = 10\nat_least = \"1\"\n", "16 loop 1 value at_least"),
+    ("bound = 10\nat_least = true\n", "16 loop 1 value at_least"),
+    (
+        "bound = 10\nat_least = 11\ncounted = 1\n",
+        "16 loop 1 value counted",
+    ),
+    ("bound = -1\nat_least = 11\n", "16 loop 1 value bound"),
+    ("at_least = 11\n", "15 loop 1 key bound"),
+    (
+        "bound = 10\nat_least = 11\nat_most = 1\natleast = 1\n",
+        "15 loop 1 key at_most",
+    ),
+];
+
+/// The same of version 1, which doesn't know the key.
+static UNKNOWN: [(&str, &str); 4] = [
+    ("bound = 10\nat_least = 0\n", "15 loop 1 key at_least"),
+    ("bound = -1\nat_least = 11\n", "15 loop 1 key at_least"),
+    ("at_least = 1\n", "15 loop 1 key bound"),
+    (
+        "bound = 10\nat_least = 0\nagain = 1\n",
+        "15 loop 1 key again",
+    ),
+];
+
+/// Headers of a loop, and what is answered.
+static ADDRESSES: [(&str, &str); 37] = [
+    ("0", "read 1 at 0 least 0"),
+    ("4294967295", "read 1 at 4294967295 least 0"),
+    ("0xFF", "read 1 at 255 least 0"),
+    ("4294967296", "16 loop 1 value header"),
+    ("-1", "16 loop 1 value header"),
+    ("1.0", "16 loop 1 value header"),
+    ("true", "16 loop 1 value header"),
+    ("[1]", "16 loop 1 value header"),
+    ("\"_start\"", "read 1 at 65716 least 0"),
+    ("\"_start+8\"", "read 1 at 65724 least 0"),
+    ("\"_start+0x1fF\"", "read 1 at 66227 least 0"),
+    ("\"_start+008\"", "read 1 at 65724 least 0"),
+    ("\"a+b+4\"", "read 1 at 65728 least 0"),
+    ("\"top\"", "read 1 at 4294967295 least 0"),
+    ("\"top+0x0\"", "read 1 at 4294967295 least 0"),
+    ("\"top+1\"", "16 loop 1 value header"),
+    ("\"_start+4294901579\"", "read 1 at 4294967295 least 0"),
+    ("\"_start+4294901580\"", "16 loop 1 value header"),
+    ("\"\"", "16 loop 1 value header"),
+    ("\"+1\"", "16 loop 1 value header"),
+    ("\"_start+\"", "16 loop 1 value header"),
+    ("\"_start+0x\"", "16 loop 1 value header"),
+    ("\"_start+0X1\"", "16 loop 1 value header"),
+    ("\"_start+0x1g\"", "16 loop 1 value header"),
+    ("\"_start+f\"", "16 loop 1 value header"),
+    ("\"_start+-1\"", "16 loop 1 value header"),
+    ("\"_start+ 1\"", "16 loop 1 value header"),
+    ("\"_start+1_0\"", "16 loop 1 value header"),
+    ("\"a+b\"", "16 loop 1 value header"),
+    ("\"_start+4294967296\"", "16 loop 1 value header"),
+    ("\"none+4294967296\"", "16 loop 1 value header"),
+    ("\"none+0x100000000\"", "16 loop 1 value header"),
+    ("\"none+4294967295\"", "17 loop 1 symbol"),
+    ("\"none\"", "17 loop 1 symbol"),
+    ("\"gone\"", "17 loop 1 symbol"),
+    ("\"_star\"", "17 loop 1 symbol"),
+    ("\"a++4\"", "17 loop 1 symbol"),
+];
+
+/// Ranges of a loop whose header is 1, and what is answered.
+static RANGES: [(&str, &str); 22] = [
+    ("[]", "16 loop 1 value ranges"),
+    ("[1, 2]", "16 loop 1 value ranges"),
+    ("[[]]", "16 loop 1 value ranges"),
+    ("[[1]]", "16 loop 1 value ranges"),
+    ("[[1, 2, 3]]", "16 loop 1 value ranges"),
+    ("[[2, 2]]", "16 loop 1 value ranges"),
+    ("[[3, 2]]", "16 loop 1 value ranges"),
+    ("[[-1, 2]]", "16 loop 1 value ranges"),
+    ("[[1, 4294967296]]", "16 loop 1 value ranges"),
+    ("[[1, 2], [2, 2], [2, 3]]", "16 loop 1 value ranges"),
+    (
+        "[[\"_start\", \"_start+4\"], [0, 4294967295]]",
+        "read 1 at 1 least 0",
+    ),
+    (
+        "[[1, 2], [1, 2], [1, 2], [1, 2], [1, 2], [1, 2], [1, 2], [1, 2], [1, 2], [1, 2], [1, 2], [1, 2], [1, 2], [1, 2], [1, 2], [1, 2]]",
+        "read 1 at 1 least 0",
+    ),
+    (
+        "[[1, 2], [1, 2], [1, 2], [1, 2], [1, 2], [1, 2], [1, 2], [1, 2], [1, 2], [1, 2], [1, 2], [1, 2], [1, 2], [1, 2], [1, 2], [1, 2], [1, 2]]",
+        "16 loop 1 value ranges",
+    ),
+    ("[[\"none\", 3], [1, 2]]", "17 loop 1 symbol"),
+    ("[[1, 2], [3, \"none\"]]", "17 loop 1 symbol"),
+    ("[[\"none\", \"none\"]]", "17 loop 1 symbol"),
+    ("[[\"none\", 0]]", "17 loop 1 symbol"),
+    ("[[\"none\", 3], [2, 2]]", "16 loop 1 value ranges"),
+    ("[[2, 2], [\"none\", 3]]", "16 loop 1 value ranges"),
+    ("[[\"none\", -1]]", "16 loop 1 value ranges"),
+    ("[[-1, \"none\"]]", "16 loop 1 value ranges"),
+    ("[[\"none\", 3], 5]", "16 loop 1 value ranges"),
+];
+
+/// A loop of version 2 whose header is not known.
+static UNREAD: [(&str, &str); 1] = [("at_least = 2\n", "17 loop 1 symbol")];
+
+/// The rows, and the texts before and behind them.
+#[test]
+fn answers_in_order(rt: HostRuntime) -> Result<(), Fail> {
+    let view = view_of(rt.alloc(), &SECTIONS)?;
+    let reader = Reader::Loops(&view);
+    for (rows, before, behind) in [
+        (FILES.as_slice(), "", ""),
+        (&LOOPS, "version = 1\n[[loop]]\n", ""),
+        (
+            &ADDRESSES,
+            "version = 1\n[[loop]]\nbound = 1\nranges = [[1, 2]]\nheader = ",
+            "\n",
+        ),
+        (
+            &RANGES,
+            "version = 1\n[[loop]]\nheader = 1\nbound = 1\nranges = ",
+            "\n",
+        ),
+        (
+            &LEAST,
+            "version = 2\n[[loop]]\nheader = 1\nranges = [[1, 2]]\n",
+            "",
+        ),
+        (
+            &UNKNOWN,
+            "version = 1\n[[loop]]\nheader = 1\nranges = [[1, 2]]\n",
+            "",
+        ),
+        (
+            &UNREAD,
+            "version = 2\n[[loop]]\nheader = \"none\"\nranges = [[1, 2]]\nbound = 1\n",
+            "",
+        ),
+    ] {
+        expect_answers(&rt, rt.alloc(), reader, before, rows, behind)?;
+    }
+    let got = answer(rt.alloc(), reader, b"version = 1 # \xff")?;
+    assert_eq!(rt; got.as_str(), "14 loop file text");
+    Ok(())
+}
+
+#[test]
+fn takes_4096_loops(rt: HostRuntime) -> Result<(), Fail> {
+    let view = view_of(rt.alloc(), &SECTIONS)?;
+    let mut text = String::from_str(rt.alloc(), "version = 1\n")?;
+    for _ in 0..4096 {
+        text.push_str("[[loop]]\nheader = 1\nranges = [[1, 2]]\nbound = 1\n")?;
+    }
+    for expected in ["read 4096 at 1 least 0", "18 too many loops: 4097"] {
+        let got = answer(rt.alloc(), Reader::Loops(&view), text.as_bytes())?;
+        assert_eq!(rt; got.as_str(), expected);
+        text.push_str("[[loop]]\n")?;
+    }
+    Ok(())
+}
+
+#[test]
+fn gives_what_is_noted(rt: HostRuntime) -> Result<(), Fail> {
+    let view = view_of(rt.alloc(), &SECTIONS)?;
+    let text =
+        "version = 1\n[[loop]]\nheader = \"_start\"\nranges = [[0, 4], [\"_start\", \"_start+0x10\"]]\nbound = 7\ncounted = true\n[[loop]]\nheader = 1\nranges = [[1, 2]]\nbound = 0\n";
+    let notes = read_loops(rt.alloc(), text.as_bytes(), &view)
+        .ok()
+        .ok_or("the file is refused")?;
+    assert_eq!(rt; notes.count(), 2);
+    let first = notes.note(0);
+    assert_eq!(rt;
+        (first.header, first.bound, first.counted),
+        (0x100B4, 7, true)
+    );
+    assert_eq!(rt; first.ranges.count(), 2);
+    assert_eq!(rt; *first.ranges.get(0), Range { from: 0, to: 4 });
+    let second_range = Range {
+        from: 0x100B4,
+        to: 0x100C4,
+    };
+    assert_eq!(rt; *first.ranges.get(1), second_range);
+    let second = notes.note(1);
+    assert_eq!(rt;
+        (second.header, second.bound, second.counted),
+        (1, 0, false)
+    );
+    Ok(())
+}
+
+#[test]
+fn keeps_notes_in_their_order(rt: HostRuntime) -> Result<(), Fail> {
+    let mut notes = LoopNotes::new(rt.alloc());
+    assert_eq!(rt; notes.count(), 0);
+    let mut items = Vec::new(rt.alloc());
+    items.push(Range { from: 0, to: 4 })?;
+    let note = LoopNote {
+        header: 0,
+        ranges: RangeList::from_vec(items),
+        bound: 1_000_000_000,
+        counted: true,
+        at_least: 1_000_000_000,
+    };
+    notes.push(note)?;
+    assert_eq!(rt; notes.count(), 1);
+    let note = notes.note(0);
+    assert_eq!(rt;
+        (note.header, note.bound, note.counted),
+        (0, 1_000_000_000, true)
+    );
+    assert_eq!(rt; note.ranges.count(), 1);
+    Ok(())
+}
+
+#[test]
+fn relaxes_bounds_and_drops_counters(rt: HostRuntime) -> Result<(), Fail> {
+    let view = view_of(rt.alloc(), &SECTIONS)?;
+    let text =
+        "version = 2\n[[loop]]\nheader = 1\nranges = [[1, 2]]\nbound = 7\ncounted = true\nat_least = 3\n";
+    let notes = read_loops(rt.alloc(), text.as_bytes(), &view)
+        .ok()
+        .ok_or("the file is refused")?;
+    let relaxed = notes.relaxed(rt.alloc()).ok().ok_or("memory")?;
+    assert_eq!(rt; relaxed.count(), 1);
+    let note = relaxed.note(0);
+    assert_eq!(rt;
+        (note.header, note.bound, note.counted, note.at_least),
+        (1, 1_000_000_000, true, 0)
+    );
+    assert_eq!(rt; *note.ranges.get(0), Range { from: 1, to: 2 });
+    let uncounted = notes.uncounted();
+    assert_eq!(rt; uncounted.count(), 1);
+    let note = uncounted.note(0);
+    assert_eq!(rt;
+        (note.header, note.bound, note.counted, note.at_least),
+        (1, 7, false, 3)
+    );
+    Ok(())
+}
