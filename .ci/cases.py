@@ -1,4 +1,4 @@
-"""Command lines of `scale` with the files that they are run over, from text files in `crates/scale_tool/cases`, whose `README.md` has their form."""
+"""Command lines of `scale` and the files that they are run over, from texts whose form `crates/scale_tool/cases/README.md` has."""
 
 import json
 import os
@@ -101,39 +101,57 @@ def told(lines):
 
 
 class Shelf:
-    """Files by their names, made when they are first asked for; those of a shelf behind it are seen too."""
+    """Files and macros by their names; files are made when they are first asked for. Those of a shelf behind it are seen too."""
 
     def __init__(self, behind=None):
         self.behind, self.places, self.lines, self.made, self.used = behind, {}, {}, {}, set()
 
     def add(self, name, place, kind, rest):
-        """A file: of an `image` with its base and lines, of lines of text, or of a phrase."""
+        """An `image` with its base and lines, a `text`, a `phrase` for a file, or a `macro` with its words and lines."""
         if self.holder(name):
             raise Wrong("there are two of the name " + name)
         self.places[name], self.lines[name] = place, (kind, rest)
 
     def holder(self, name):
-        """The shelf on which a file stands."""
+        """The shelf on which a name stands."""
         return self if name in self.lines else self.behind.holder(name) if self.behind else None
+
+    def take(self, name, kind):
+        """What stands under a name, which must be of this kind."""
+        holder = self.holder(name)
+        if not holder or holder.lines[name][0] != kind:
+            raise Wrong("no such %s: %s" % (kind, name))
+        holder.used.add(name)
+        return holder.lines[name][1]
 
     def image(self, name):
         """The lines of an image."""
-        holder = self.holder(name)
-        kind, rest = holder.lines[name] if holder else (None, None)
-        if kind != "image":
-            raise Wrong("no such image: " + name)
-        holder.used.add(name)
-        base, lines = rest
+        base, lines = self.take(name, "image")
         return images.Image(lines, self.image(base) if base else None)
+
+    def unfolded(self, lines):
+        """Lines in which those of macros stand in the place of each line that names one."""
+        made = []
+        for line in lines:
+            name, values = images.instruction(line)
+            holder = self.holder(name)
+            if not holder or holder.lines[name][0] != "macro":
+                made.append(line)
+                continue
+            words, part = self.take(name, "macro")
+            if len(words) != len(values):
+                raise Wrong("%s stands for %d values" % (name, len(words)))
+            made += [re.sub(r"\\(\w+)", lambda word: dict(zip(words, values))[word[1]], each) for each in part]
+        return made
 
     def file(self, name):
         """The bytes of a file."""
         holder = self.holder(name)
-        if not holder:
+        kind, rest = holder.lines[name] if holder else ("macro", None)
+        if kind == "macro":
             raise Wrong("no such file: " + name)
         holder.used.add(name)
         if name not in holder.made:
-            kind, rest = holder.lines[name]
             try:
                 holder.made[name] = self.image(name).bytes() if kind == "image" else self.bytes(rest) if kind == "phrase" else rest.encode()
             except (Wrong, images.Wrong) as error:
@@ -248,6 +266,11 @@ class Reader:
             self.at += 1
         return lines
 
+    def code(self):
+        """The lines of code that follow."""
+        lines = [line.split("#")[0].strip() for line in self.body()]
+        return repeated([line for line in lines if line])
+
     def read(self):
         """Its files, cases and claims."""
         case = None
@@ -267,11 +290,13 @@ class Reader:
     def read_line(self, place, line, case):
         """One line with what belongs to it; gives the case to which the next line belongs."""
         image = re.fullmatch(r"image (%s)(?: of (%s))?" % (NAME, NAME), line)
+        macro = re.fullmatch(r"macro (%s)((?: \w+)*)" % NAME, line)
         file = re.fullmatch(r"file (%s)(?: = (.+))?" % NAME, line)
         claim = re.fullmatch(r"(data/%s) is (.+)" % NAME, line)
         if image:
-            lines = [part.split("#")[0].strip() for part in self.body()]
-            self.shelf.add(image[1], place, "image", (image[2], repeated([part for part in lines if part])))
+            self.shelf.add(image[1], place, "image", (image[2], self.shelf.unfolded(self.code())))
+        elif macro:
+            self.shelf.add(macro[1], place, "macro", (macro[2].split(), self.code()))
         elif file and file[2]:
             self.shelf.add(file[1], place, "phrase", file[2])
         elif file:

@@ -1,10 +1,10 @@
 #!/usr/bin/env python3
-"""Runs the program `scale` itself on the command lines of `crates/scale_tool/cases`, and compares the status, all that it prints and all that it stores.
+"""Runs the program `scale` itself on the command lines of `crates/scale_tool/cases`, and compares all that comes of them.
 
     commands.py PROGRAM ..   these programs; with none, the one that `./scale` builds
 
 Each command line is run in a temporary folder that has the files which it names and no others. What differs is told with its case, and
-the status is then 1; so it is where a case can't be read, or a file of the cases is one that nothing uses.
+the status is then 1; so it is where a case can't be read, or where there is a file that no case uses. `commands_test.py` tests this.
 """
 
 import os
@@ -121,7 +121,7 @@ def made(program, line):
 
 
 def check_alike(program, one, other):
-    """That both make the same program, whose image and scaled image exit, and that the scaled one spends at most what it would at its starting level."""
+    """That both make the same program, whose images exit, and that the scaled one spends at most what it would at its starting level."""
     text, found = made(program, one)
     again, found_again = made(program, other)
     compare_text("what %s prints" % other, text, again)
@@ -144,33 +144,36 @@ def claimed(claims):
             yield "%s: %s" % (place, error)
 
 
-def differences(program, found):
+def differences(program, found, alike):
     """What differs in the runs of one program."""
     for case in found:
         try:
             check(program, case)
         except Differs as error:
             yield "%s: %s\n  %s" % (case.place, case.line, error)
-    for one, other in ALIKE:
+    for one, other in alike:
         try:
             check_alike(program, one, other)
         except Differs as error:
             yield "scale %s\n  %s" % (one, error)
 
 
-def check_all(programs):
-    """The number of command lines that were run, and what was wrong."""
-    found, claims, shelves = cases.read_all(CASES)
+def check_all(programs, folder=CASES, alike=ALIKE):
+    """The number of command lines that were run, of the cases of a folder and of `make`, and what was wrong."""
+    found, claims, shelves = cases.read_all(folder)
     wrong, count = list(claimed(claims)), 0
-    with tempfile.TemporaryDirectory(prefix="scale-program-") as folder:
+    with tempfile.TemporaryDirectory(prefix="scale-program-") as copies:
         for number, built in enumerate(programs):
             # A copy of its own, so that it can be run whatever its mode.
-            program = os.path.join(folder, "scale-%d" % number)
+            program = os.path.join(copies, "scale-%d" % number)
             shutil.copyfile(built, program)
             os.chmod(program, 0o755)
-            told = list(differences(program, found))
-            wrong += ["%s\n" % built] * bool(told) + told[:MOST] + ["%d more differ\n" % (len(told) - MOST)] * (len(told) > MOST)
-            count += len(found) + 2 * len(ALIKE)
+            told = list(differences(program, found, alike))
+            if told:
+                wrong += ["%s\n" % built] + told[:MOST]
+            if len(told) > MOST:
+                wrong.append("%d more differ\n" % (len(told) - MOST))
+            count += len(found) + 2 * len(alike)
     wrong += ["%s\n" % line for line in cases.unused(shelves)]
     return count, wrong
 

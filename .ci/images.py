@@ -3,14 +3,14 @@
 An image without further words is plain: a header, one program header, and the code, which begins at the address 0x10000. Lines change it:
 
     name:                       a label
-    beq x10, x0, name           an instruction; a target is a label, an address as 0x10014, or `. + 8` or `. - 8`, so many bytes from it
+    beq x10, x0, name           an instruction; its target is a label, an address as 0x10014, or so many bytes away, as `. + 8`
     .word 0x13, 7               words of four bytes
     .string "_start"            a text, and a byte 0 behind it
     .header entry = 0x10002     fields of the header, by their names in ELF without e_
-    .segment memsz = 16         a program header: a plain image's, but for these fields, by their names without p_; with none there is one
+    .segment memsz = 16         a program header: a plain image's, but for these fields, by their names without p_; there is one at least
     .section offset = 200       a section header, where it stands; its other fields are 0
     .symbol value = 0x10000     a symbol, where it stands; its other fields are 0
-    .at 0x10010                 what follows, up to the next such line, stands in the place of the code, or of the block, from this address on
+    .at 0x10010                 what follows, up to the next such line, stands from this address on in place of the code or the block
     .stubs 1                    what follows is a block of stubs, behind the text; its segment names level 1
     .trees                      what follows is a block of trees, behind the text
 """
@@ -38,7 +38,10 @@ OF_BRANCH = {"beq": 0, "bne": 1, "blt": 4, "bge": 5, "bltu": 6, "bgeu": 7}
 OF_UPPER = {"lui": 0x37, "auipc": 0x17}
 ALONE = {"ecall": 0x00000073, "ebreak": 0x00100073, "nop": 0x00000013, "ret": 0x00008067}
 
-HEADER = ("type", "machine", "version", "entry", "phoff", "shoff", "flags", "ehsize", "phentsize", "phnum", "shentsize", "shnum", "shstrndx")
+HEADER = (
+    "type", "machine", "version", "entry", "phoff", "shoff", "flags",
+    "ehsize", "phentsize", "phnum", "shentsize", "shnum", "shstrndx",
+)  # fmt: skip
 SEGMENT = ("type", "offset", "vaddr", "paddr", "filesz", "memsz", "flags", "align")
 SECTION = ("name", "type", "flags", "addr", "offset", "size", "link", "info", "addralign", "entsize")
 SYMBOL = ("name", "value", "size", "info", "other", "shndx")
@@ -95,8 +98,8 @@ def jump_word(link, offset):
 def word_of(name, operands):
     """The word of an instruction that names no target.
 
-    >>> [hex(word_of(*instruction(line))) for line in ("addi x10, x0, 7", "div x5, x5, x6", "sw x6, -4(x0)", "lui x5, 0x10", "srai x5, x5, 4")]
-    ['0x700513', '0x262c2b3', '0xfe602e23', '0x102b7', '0x4042d293']
+    >>> [hex(word_of(*instruction(line))) for line in ("addi x10, x0, 7", "div x5, x5, x6", "sw x6, -4(x0)", "lui x5, 0x10")]
+    ['0x700513', '0x262c2b3', '0xfe602e23', '0x102b7']
     """
     if name in ALONE and not operands:
         return ALONE[name]
