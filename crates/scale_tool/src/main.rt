@@ -1,4 +1,6 @@
 //! The program `scale`: it chooses levels of speed for a program, so that it meets its deadline.
+//!
+//! Its tests are the command lines in `cases/`, on which `.ci/commands.py` runs it.
 #![tactic(auto)]
 
 mod command;
@@ -9,8 +11,6 @@ mod making;
 mod numbers;
 mod program_files;
 mod reply;
-#[cfg(test)]
-mod tests;
 mod texts;
 mod tool;
 mod words;
