@@ -2,6 +2,7 @@
 """Tests `tools/build.py` on small trees, with a stand-in for `rt` that proves nothing and takes the locks that `rt` takes."""
 
 import os
+import re
 import signal
 import subprocess
 import sys
@@ -47,6 +48,8 @@ for it in below(name):
         sys.exit(f"{it} isn't built")
 kept = "out/rlib/stamp" if verb == "lib" else f"out/{name}.stamp"
 if not os.path.exists(kept) or open(kept).read() != stamp(name) or verb == "run" and not os.path.exists(f"out/{name}"):
+    with open(f"{room}/{name}.number", "w") as file:
+        file.write(str(os.getpid()))
     note("begin")
     os.makedirs("out/rlib", exist_ok=True)
     if os.path.exists(kept):
@@ -82,6 +85,14 @@ if not os.path.exists(kept) or open(kept).read() != stamp(name) or verb == "run"
 if verb == "run":
     sys.exit(subprocess.call([f"out/{name}"]))
 """
+
+
+def has_ended(number):
+    """Whether a process has ended, also where nothing has asked for its status yet."""
+    try:
+        return re.search(r"\) (.)", Path(f"/proc/{number}/stat").read_text())[1] == "Z"
+    except OSError:
+        return True
 
 
 class Builds(unittest.TestCase):
@@ -202,10 +213,9 @@ class Builds(unittest.TestCase):
         self.write("top", "long")
         call = self.begin("--run")
         self.wait_for("begin top")
-        child = subprocess.run(["pgrep", "-P", str(call.pid)], capture_output=True, text=True, check=True).stdout.strip()
         call.send_signal(number)
         err = call.communicate(timeout=60)[1]
-        return call.returncode, err, child
+        return call.returncode, err, (self.room / "top.number").read_text()
 
     def test_an_interrupt_ends_all_and_the_next_call_goes_on(self):
         for number in (signal.SIGINT, signal.SIGTERM):
@@ -213,7 +223,7 @@ class Builds(unittest.TestCase):
                 status, err, child = self.stopped_by(number)
                 self.assertEqual(-number, status)
                 self.assertIn("teller: interrupted; ", err)
-                self.assertFalse(Path(f"/proc/{child}").exists())
+                self.assertTrue(has_ended(child))
                 self.is_clean()
                 self.proved()
                 self.assertFalse((self.top / "crates/top/out/rlib/stamp").exists())
@@ -226,10 +236,10 @@ class Builds(unittest.TestCase):
         status, _, child = self.stopped_by(signal.SIGKILL)
         self.assertEqual(-signal.SIGKILL, status)
         for _ in range(100):
-            if not Path(f"/proc/{child}").exists():
+            if has_ended(child):
                 break
             time.sleep(0.05)
-        self.assertFalse(Path(f"/proc/{child}").exists())
+        self.assertTrue(has_ended(child))
         self.proved()
         self.write("top", "short")
         self.assertEqual(0, self.build()[0])
@@ -237,12 +247,16 @@ class Builds(unittest.TestCase):
         self.is_clean()
 
     def test_two_at_once_build_once(self):
-        one, other = self.begin("--run", "one"), self.begin("--run", "other")
+        self.write("top", "long")
+        one = self.begin("--run", "one")
+        self.wait_for("begin top")
+        other = self.begin("--run", "other")
+        self.assertIn("teller: waiting for another build", other.stderr.readline())
+        (self.room / "go").touch()
         said = [call.communicate(timeout=60) for call in (one, other)]
         self.assertEqual([2, 2], [one.returncode, other.returncode])
         self.assertEqual(["1: one\n", "1: other\n"], [out for out, _ in said])
         self.assertEqual(5, len(self.proved()))
-        self.assertEqual(1, sum("teller: waiting for another build" in err for _, err in said))
 
     def test_what_is_killed_runs_once_more_alone(self):
         self.write("left", "huge")

@@ -189,13 +189,15 @@ class Build:
         self.made = folder_of(program, "out", program)
         self.built, self.alone, self.running = set(), set(), []
         self.begun = self.spoken = time.time()
+        self.told = 0
 
     def say(self, text):
         print(f"{self.name}: {text}", file=sys.stderr, flush=True)
 
     def count(self):
-        seconds = time.time() - self.begun
-        return f"{len(self.built)} of {len(self.below)} crates proved, {seconds / 60:.0f} min" if seconds >= 60 else f"{len(self.built)} of {len(self.below)} crates proved, {seconds:.0f} s"
+        seconds = int(time.time() - self.begun)
+        took = f"{seconds // 60} min" if seconds >= 60 else f"{seconds} s"
+        return f"{len(self.built)} of {len(self.below)} crates proved, {took}"
 
     # Before and after.
 
@@ -207,14 +209,14 @@ class Build:
         try:
             rows, self.below = read_list(self.program)
             self.lanes = Lanes(self.program, rows, self.below)
-            if not shutil.which("rt"):
-                raise Stop("the program isn't built, and there is no `rt` on PATH to prove and build it: README names the kit that has it")
             self.lock()
             if os.access(self.made, os.X_OK) and self.newest() <= os.stat(self.made).st_mtime:
                 # (another call has built it, or what is newer is no source of it)
                 os.utime(self.made)
-            else:
+            elif shutil.which("rt"):
                 self.build()
+            else:
+                raise Stop("the program isn't built, and there is no `rt` on PATH to prove and build it: README names the kit that has it")
         except Interrupted as stop:
             self.say(str(stop))
             signal.signal(self.signal, signal.SIG_DFL)
@@ -273,12 +275,12 @@ class Build:
         while len(self.built) < len(self.below):
             left = [it for it in self.below if it not in self.built and it not in [run.crate for run in self.running]]
             self.start_some(sorted((it for it in left if self.below[it] <= self.built), key=lambda it: -ahead[it]), own, most, memory)
+            self.tell()
             time.sleep(LOOK)
             self.stop_on_signal()
             self.reap()
             for run in [it for it in self.running if it.status is not None]:
                 self.take_result(run)
-            self.tell()
 
     def start_some(self, ready, own, most, memory):
         """Starts of what can be proved as much as there is room for. Each gets a processor, the first also those that are left over."""
@@ -343,8 +345,6 @@ class Build:
         if time.time() >= self.spoken + (SPEAK if is_more else SPEAK_ANYWAY):
             self.spoken, self.told = time.time(), len(self.built)
             self.say(f"{self.count()}; now {', '.join(it.crate for it in self.running)}")
-
-    told = 0
 
     def end_all(self):
         """Kills what still runs, waits until that and all that it started has ended, and moves back what it had."""
