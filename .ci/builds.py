@@ -2,6 +2,7 @@
 """Tests `tools/build.py` on small trees, with a stand-in for `rt` that proves nothing and takes the locks that `rt` takes."""
 
 import os
+import re
 import signal
 import subprocess
 import sys
@@ -24,9 +25,10 @@ tool: top low
 RT = """#!/usr/bin/env python3
 import fcntl, hashlib, os, subprocess, sys, time
 verb, name, top = sys.argv[1], os.path.basename(os.getcwd()), os.path.abspath("../..")
+room, events = os.environ["ROOM"], f"{os.environ['ROOM']}/events"
 
 def note(what):
-    with open(f"{os.environ['ROOM']}/events", "a") as file:
+    with open(events, "a") as file:
         file.write(f"{what} {name} {sys.argv[3]}\\n")
 
 rows = [row.partition("#")[0].partition(":") for row in open(f"{top}/crates.txt")]
@@ -46,6 +48,8 @@ for it in below(name):
         sys.exit(f"{it} isn't built")
 kept = "out/rlib/stamp" if verb == "lib" else f"out/{name}.stamp"
 if not os.path.exists(kept) or open(kept).read() != stamp(name) or verb == "run" and not os.path.exists(f"out/{name}"):
+    with open(f"{room}/{name}.number", "w") as file:
+        file.write(str(os.getpid()))
     note("begin")
     os.makedirs("out/rlib", exist_ok=True)
     if os.path.exists(kept):
@@ -57,18 +61,12 @@ if not os.path.exists(kept) or open(kept).read() != stamp(name) or verb == "run"
     ends, _ = os.pipe()
     guard = subprocess.Popen(["sh", "-c", "read _; kill -9 0"], stdin=ends, preexec_fn=os.setpgrp)
     if "long" in text(name):
-        wait = f"while [ ! -e {os.environ['ROOM']}/go ]; do sleep 0.1; done"
+        wait = f"while [ ! -e {room}/go ]; do sleep 0.1; done"
         subprocess.run(["sh", "-c", wait], preexec_fn=lambda: os.setpgid(0, guard.pid))
-    others = lambda: [it for it in os.listdir(f"{os.environ['ROOM']}/now") if it != name]
-    open(f"{os.environ['ROOM']}/now/{name}", "w").close()
-    for _ in range(60 if name in ("left", "right") else 5):
-        if others():
-            time.sleep(0.5)
-            break
+    while "pair" in text(name) and not all(f"begin {it} " in open(events).read() for it in ("left", "right")):
         time.sleep(0.05)
-    is_killed = "huge" in text(name) and others()
-    os.remove(f"{os.environ['ROOM']}/now/{name}")
-    if is_killed:
+    if "huge" in text(name) and not os.path.exists(f"{room}/killed"):
+        open(f"{room}/killed", "w").close()
         sys.exit(256 - 9)
     if "wrong" in text(name):
         print("the first line", *range(100), f"the {name} is wrong at {os.getcwd()}/src", sep="\\n")
@@ -80,7 +78,7 @@ if not os.path.exists(kept) or open(kept).read() != stamp(name) or verb == "run"
     if verb == "lib":
         os.remove(f"out/{name}")
     with open(f"out/{name}", "w") as file:
-        file.write(f"#!/bin/sh\\necho {text('left').strip()} $#: $*\\nexit 2\\n")
+        file.write(f"#!/bin/sh\\necho $#: $*\\nexit 2\\n")
     with open(kept, "w") as file:
         file.write(stamp(name))
     note("end")
@@ -89,13 +87,21 @@ if verb == "run":
 """
 
 
+def has_ended(number):
+    """Whether a process has ended, also where nothing has asked for its status yet."""
+    try:
+        return re.search(r"\) (.)", Path(f"/proc/{number}/stat").read_text())[1] == "Z"
+    except OSError:
+        return True
+
+
 class Builds(unittest.TestCase):
     def setUp(self):
         room = tempfile.TemporaryDirectory()
         self.addCleanup(room.cleanup)
         self.room = Path(room.name)
         self.top, self.events, self.bin = (self.room / it for it in ("top", "events", "bin"))
-        for folder in (self.top / ".git", self.top / "tools", self.room / "now", self.bin):
+        for folder in (self.top / ".git", self.top / "tools", self.bin):
             folder.mkdir(parents=True)
         (self.top / "tools" / "build.py").write_bytes(BUILD.read_bytes())
         (self.top / "crates.txt").write_text(LIST)
@@ -140,21 +146,20 @@ class Builds(unittest.TestCase):
         self.assertFalse(self.made.exists() and self.made.read_text() == "half")
 
     def test_each_crate_once_above_what_it_uses(self):
+        count = min(len(os.sched_getaffinity(0)), 4)
+        for crate in ("left", "right") if count > 1 else ():
+            # Each waits until the other runs too.
+            self.write(crate, f"as {crate} was, of a pair")
         status, out, err = self.build("--run", "some", "words here")
-        self.assertEqual((2, "as left was 2: some words here\n"), (status, out))
-        events = self.events.read_text().splitlines()
+        self.assertEqual((2, "2: some words here\n"), (status, out))
+        # What runs alone has all processors.
+        self.assertIn(f"begin low {count}\n", self.events.read_text())
         proved = self.proved()
-        self.assertEqual({"low", "left", "right", "top", "tool"}, set(proved))
-        self.assertEqual((5, "low", ["top", "tool"]), (len(proved), proved[0], proved[3:]))
+        self.assertEqual((5, "low", {"left", "right"}, ["top", "tool"]), (len(proved), proved[0], {*proved[1:3]}, proved[3:]))
         self.assertIn("teller: 5 of 5 crates proved, ", err)
         self.is_clean()
-        count = min(len(os.sched_getaffinity(0)), 4)
-        # What runs alone has all processors; where there are several, the pair ran side by side.
-        self.assertIn(f"begin low {count}", events)
-        if count > 1:
-            self.assertEqual([True, True], [line.startswith("begin") for line in events[2:4]])
         # What is built is taken, and the program alone is run.
-        self.assertEqual((2, "as left was 0:\n", ""), self.build("--run"))
+        self.assertEqual((2, "0:\n", ""), self.build("--run"))
         self.assertEqual((0, "", ""), self.build())
         self.assertEqual([], self.proved())
 
@@ -162,7 +167,7 @@ class Builds(unittest.TestCase):
         self.build()
         self.proved()
         self.write("left", "as left is")
-        self.assertEqual((2, "as left is 1: word\n"), self.build("--run", "word")[:2])
+        self.assertEqual((2, "1: word\n"), self.build("--run", "word")[:2])
         self.assertEqual({"left", "top", "tool"}, set(self.proved()))
         self.write("beside", "no part of it")
         self.assertEqual((0, "", ""), self.build())
@@ -186,7 +191,7 @@ class Builds(unittest.TestCase):
         self.assertEqual((70, ""), (status, out))
         log = self.top / "crates" / "right" / "out" / "build.log"
         self.assertIn(f"\n    the right is wrong at {self.top}/crates/right/src\n", err)
-        self.assertIn(f"teller: right isn't proved or built: {log} has all that was said; ", err)
+        self.assertIn(f"teller: right isn't proved or built; {log} has all that was said; ", err)
         self.assertNotIn("the first line", err)
         self.assertIn("the first line", log.read_text())
         self.assertNotIn("top", self.proved())
@@ -208,18 +213,17 @@ class Builds(unittest.TestCase):
         self.write("top", "long")
         call = self.begin("--run")
         self.wait_for("begin top")
-        child = subprocess.run(["pgrep", "-P", str(call.pid)], capture_output=True, text=True, check=True).stdout.strip()
         call.send_signal(number)
         err = call.communicate(timeout=60)[1]
-        return call.returncode, err, child
+        return call.returncode, err, (self.room / "top.number").read_text()
 
     def test_an_interrupt_ends_all_and_the_next_call_goes_on(self):
         for number in (signal.SIGINT, signal.SIGTERM):
             with self.subTest(number):
                 status, err, child = self.stopped_by(number)
-                self.assertEqual(128 + number, status)
-                self.assertIn("teller: interrupted; 3 of 5 crates proved, ", err)
-                self.assertFalse(Path(f"/proc/{child}").exists())
+                self.assertEqual(-number, status)
+                self.assertIn("teller: interrupted; ", err)
+                self.assertTrue(has_ended(child))
                 self.is_clean()
                 self.proved()
                 self.assertFalse((self.top / "crates/top/out/rlib/stamp").exists())
@@ -232,10 +236,10 @@ class Builds(unittest.TestCase):
         status, _, child = self.stopped_by(signal.SIGKILL)
         self.assertEqual(-signal.SIGKILL, status)
         for _ in range(100):
-            if not Path(f"/proc/{child}").exists():
+            if has_ended(child):
                 break
             time.sleep(0.05)
-        self.assertFalse(Path(f"/proc/{child}").exists())
+        self.assertTrue(has_ended(child))
         self.proved()
         self.write("top", "short")
         self.assertEqual(0, self.build()[0])
@@ -243,27 +247,34 @@ class Builds(unittest.TestCase):
         self.is_clean()
 
     def test_two_at_once_build_once(self):
-        one, other = self.begin("--run", "one"), self.begin("--run", "other")
+        self.write("top", "long")
+        one = self.begin("--run", "one")
+        self.wait_for("begin top")
+        other = self.begin("--run", "other")
+        self.assertIn("teller: waiting for another build", other.stderr.readline())
+        (self.room / "go").touch()
         said = [call.communicate(timeout=60) for call in (one, other)]
         self.assertEqual([2, 2], [one.returncode, other.returncode])
-        self.assertEqual(["as left was 1: one\n", "as left was 1: other\n"], [out for out, _ in said])
+        self.assertEqual(["1: one\n", "1: other\n"], [out for out, _ in said])
         self.assertEqual(5, len(self.proved()))
-        self.assertEqual(1, sum("teller: waiting for another build" in err for _, err in said))
 
     def test_what_is_killed_runs_once_more_alone(self):
         self.write("left", "huge")
         status, _, err = self.build()
         self.assertEqual(0, status)
-        self.assertEqual({"left", "right", "top", "low", "tool"}, set(self.proved()))
-        if len(os.sched_getaffinity(0)) > 1:
-            self.assertIn("teller: left was killed, most likely for want of memory: once more", err)
+        self.assertIn("teller: left was killed, most likely for want of memory: once more", err)
+        events = [line.rpartition(" ")[0] for line in self.events.read_text().splitlines()]
+        self.assertEqual(["begin left", "end left"], [it for it in events if "left" in it][1:])
+        again = len(events) - 1 - events[::-1].index("begin left")
+        self.assertLess(events.index("end right"), again)
+        self.assertEqual("end left", events[again + 1])
 
     def test_without_rt(self):
         (self.bin / "rt").unlink()
         env = {**self.path, "PATH": str(self.bin)}
         status, out, err = self.build("--run", "word", env=env)
         self.assertEqual((70, ""), (status, out))
-        self.assertIn("no rt on PATH", err)
+        self.assertIn("no `rt` on PATH", err)
 
 
 if __name__ == "__main__":
