@@ -51,8 +51,9 @@ def edits_of(crate, folders):
 
 
 def copy_to(copy, edits):
-    """Copies the repository, with these edits, by crate, as those that `rt must-fail` tries."""
-    shutil.copytree(ROOT, copy, symlinks=True, ignore=shutil.ignore_patterns(".git", "out", *FOLDERS))
+    """Copies the repository and its libraries, with these edits, by crate, as those that `rt must-fail` tries."""
+    # What checks kept in `out/incremental` is large, and `rt` itself takes it from where it is.
+    shutil.copytree(ROOT, copy, symlinks=True, ignore=shutil.ignore_patterns(".git", "incremental", *FOLDERS))
     for crate, of_crate in edits.items():
         folder = copy / "crates" / crate / "must-fail"
         folder.mkdir()
