@@ -12,6 +12,7 @@ use scale_report::{
     verdict_text,
 };
 use std::alloc::Global;
+use std::process::Abort;
 use std::test::Fail;
 
 const SUMMARY: Summary = Summary {
@@ -65,10 +66,25 @@ fn name(alloc: Global, text: &str) -> Result<Name, Fail> {
     Ok(Name::new(String::from_str(alloc, text)?))
 }
 
+/// Expects of each refusal its line.
+fn expect_lines(
+    rt: &impl Abort,
+    alloc: Global,
+    refusals: &[(Refusal, &str)],
+) -> Result<(), Fail> {
+    for (refusal, words) in refusals {
+        let text = refusal_text(alloc, refusal).ok().ok_or("memory")?;
+        let wanted = format!(in alloc; "refused {words}\n")?;
+        assert_eq!(rt; text.as_str(), wanted.as_str());
+    }
+    Ok(())
+}
+
 #[test]
-fn prints_refusals(rt: HostRuntime) -> Result<(), Fail> {
-    let alloc = rt.alloc();
-    let cases: [(Refusal, &str); 19] = [
+fn prints_refusals_of_files(rt: HostRuntime) -> Result<(), Fail> {
+    let key = Refusal::MachineKey(name(rt.alloc(), "cost.div")?);
+    let value = Refusal::LoopValue(0, name(rt.alloc(), "version")?);
+    let refusals = [
         (
             Refusal::UnsupportedElf(Field::Encoding),
             "2 unsupported ELF: data",
@@ -79,16 +95,18 @@ fn prints_refusals(rt: HostRuntime) -> Result<(), Fail> {
         ),
         (Refusal::AlreadyScaled, "8 already scaled"),
         (Refusal::StartLevel(4, 3), "9 start level 4 of 3"),
-        (
-            Refusal::MachineKey(name(alloc, "cost.div")?),
-            "11 machine file key cost.div",
-        ),
-        (
-            Refusal::LoopValue(0, name(alloc, "version")?),
-            "16 loop 0 value version",
-        ),
+        (key, "11 machine file key cost.div"),
+        (value, "16 loop 0 value version"),
         (Refusal::UnknownSymbol(4096), "17 loop 4096 symbol"),
         (Refusal::TooManyLoops(4097), "18 too many loops: 4097"),
+    ];
+    expect_lines(&rt, rt.alloc(), &refusals)
+}
+
+#[test]
+fn prints_refusals_of_programs(rt: HostRuntime) -> Result<(), Fail> {
+    let cycle = Cycle::from_vec(vec![in rt.alloc(); 0x10008, 0x1000c]?);
+    let refusals = [
         (Refusal::HeaderNotReached(1), "30 loop 1 header not reached"),
         (Refusal::SameHeader(1, 2), "31 loops 1 2 same header"),
         (Refusal::NoBackEdge(3), "32 loop 3 no back edge"),
@@ -99,7 +117,7 @@ fn prints_refusals(rt: HostRuntime) -> Result<(), Fail> {
         (Refusal::CrossingLoops(5, 7), "34 loops 5 7 cross"),
         (Refusal::TooDeep(33), "35 loop 33 too deep"),
         (
-            Refusal::UnboundedCycle(Cycle::from_vec(vec![in alloc; 0x10008, 0x1000c]?)),
+            Refusal::UnboundedCycle(cycle),
             "36 unbounded cycle: 0x00010008 0x0001000c",
         ),
         (
@@ -116,12 +134,7 @@ fn prints_refusals(rt: HostRuntime) -> Result<(), Fail> {
             "44 stub out of reach at 0x00010000",
         ),
     ];
-    for (refusal, words) in &cases {
-        let text = refusal_text(alloc, refusal).ok().ok_or("memory")?;
-        let wanted = format!(in alloc; "refused {words}\n")?;
-        assert_eq!(rt; text.as_str(), wanted.as_str());
-    }
-    Ok(())
+    expect_lines(&rt, rt.alloc(), &refusals)
 }
 
 /// The report of a run of two steps that changed to level 2, and wrote three bytes.
