@@ -17,6 +17,7 @@ It works on a copy of the repository in a temporary folder, where the edits that
 
 import argparse
 import os
+import re
 import resource
 import shutil
 import subprocess
@@ -30,7 +31,8 @@ ROOT = Path(__file__).resolve().parent.parent
 FOLDERS = ("must-fail", "more-edits")
 # What a crate's tries take of memory, in bytes.
 MEMORY = 3_000_000_000
-TOLD = "rt: must-fail "
+# What `rt must-fail` says of an edit, of some in several lines.
+TOLD = re.compile(r"^rt: must-fail (.*(?:\n(?!rt: ).*)*)", re.M)
 
 
 class Watch(threading.Thread):
@@ -70,13 +72,12 @@ def try_crate(copy, crate, edits):
     here = {**os.environ, "TMPDIR": str(room), "RT_JOBS": "1"}
     done = subprocess.run(["rt", "must-fail", crate], cwd=copy, env=here, stdout=subprocess.PIPE, stderr=subprocess.STDOUT, errors="replace")
     watch.ended.set()
-    lines = done.stdout.splitlines()
-    told = [line.removeprefix(TOLD) for line in lines if line.startswith(TOLD)]
-    # `rt` tries and tells them by their names. Where something else fails, as a crate below, its last words tell what.
-    numbers = {f"{crate}/{name}": number for number, name in enumerate(sorted(edit.name for edit in edits))}
-    taken = [watch.seconds.get(str(numbers.get(line.partition(":")[0])), 0) for line in told]
-    print("\n".join(f"{seconds:4} s  {line}" for seconds, line in zip(taken, told)) if told else "\n".join(lines[-20:]), flush=True)
-    return sum(": refused, " in line for line in told)
+    told = TOLD.findall(done.stdout)
+    # `rt` numbers and tells them by their names. Where something else fails, as a crate below, its last words tell what.
+    numbers = {f"{crate}/{name}": str(number) for number, name in enumerate(sorted(edit.name for edit in edits))}
+    lines = [f"{watch.seconds.get(numbers[text.partition(':')[0]], 0):4} s  {text.rstrip()}" for text in told]
+    print("\n".join(lines or done.stdout.splitlines()[-20:]), flush=True)
+    return sum(".edit: refused, " in text for text in told)
 
 
 def jobs_at_once():
