@@ -67,11 +67,7 @@ fn name(alloc: Global, text: &str) -> Result<Name, Fail> {
 }
 
 /// Expects of each refusal its line.
-fn expect_lines(
-    rt: &impl Abort,
-    alloc: Global,
-    refusals: &[(Refusal, &str)],
-) -> Result<(), Fail> {
+fn expect_lines(rt: &impl Abort, alloc: Global, refusals: &[(Refusal, &str)]) -> Result<(), Fail> {
     for (refusal, words) in refusals {
         let text = refusal_text(alloc, refusal).ok().ok_or("memory")?;
         let wanted = format!(in alloc; "refused {words}\n")?;
