@@ -13,11 +13,10 @@ fn reads_segments_and_text(rt: HostRuntime) -> Result<(), Fail> {
         (SECTIONS.as_slice(), 0x100B4, 2, 0x100B4, 0x100C4),
     ] {
         let view = view_of(rt.alloc(), file)?;
-        assert_eq!(rt; view.entry(), entry);
-        assert_eq!(rt; view.file().len(), file.len());
-        assert_eq!(rt; view.text(), [Range { from, to }].as_slice());
-        assert_eq!(rt; view.keyed(), None);
-        assert_eq!(rt; view.segment_count(), segments);
+        let found = (view.entry(), view.file().len(), view.segment_count());
+        assert_eq!(rt; found, (entry, file.len(), segments));
+        let found = (view.text(), view.keyed());
+        assert_eq!(rt; found, ([Range { from, to }].as_slice(), None));
     }
     Ok(())
 }
@@ -32,16 +31,13 @@ fn finds_words_in_their_segment(rt: HostRuntime) -> Result<(), Fail> {
         (0x10002, None, Some(86)),
         (0x1000C, None, None),
     ] {
-        assert_eq!(rt; view.word_at(at), word, "the word at {at}");
-        assert_eq!(rt; view.file_place(at), place, "the place of {at}");
+        let found = (view.word_at(at), view.file_place(at));
+        assert_eq!(rt; found, (word, place), "at {at}");
     }
     assert_eq!(rt; view.segment_count(), 1);
     let segment = view.segment(0);
-    assert_eq!(rt;
-        (segment.from, segment.len, segment.flags),
-        (0x10000, 12, 5)
-    );
-    assert_eq!(rt; (segment.file_at, segment.file.len()), (84, 12));
+    let numbers = [segment.from, segment.len, segment.flags, segment.file_at];
+    assert_eq!(rt; (numbers, segment.file.len()), ([0x10000, 12, 5, 84], 12));
     Ok(())
 }
 
@@ -94,8 +90,8 @@ fn finds_symbols(rt: HostRuntime) -> Result<(), Fail> {
         let view = view_of(rt.alloc(), file)?;
         let sorted = view.sorted_symbols(rt.alloc()).ok().ok_or("memory")?;
         for (name, value) in names {
-            assert_eq!(rt; view.symbol(name), *value, "{name}");
-            assert_eq!(rt; sorted.value(name), *value, "{name} among the sorted");
+            let found = (view.symbol(name), sorted.value(name));
+            assert_eq!(rt; found, (*value, *value), "{name}");
         }
     }
     Ok(())

@@ -31,21 +31,41 @@ fn errors_are_told(rt: HostRuntime) -> Result<(), Fail> {
     Ok(())
 }
 
+/// A call of a host.
+enum Call {
+    Store(&'static str, &'static [u8]),
+    Print(&'static [u8]),
+}
+
+/// Whether it fails.
+fn fails(host: &mut MemHost, call: &Call) -> bool {
+    match call {
+        Call::Store(name, bytes) => host.store(name, bytes).is_err(),
+        Call::Print(bytes) => host.print(bytes).is_err(),
+    }
+}
+
+/// The second call fails, and so does each for which there is no room.
+static CALLS: [(Call, bool); 6] = [
+    (Call::Store("a", b"12"), false),
+    (Call::Store("a", b"3"), true),
+    (Call::Store("a", b"3"), false),
+    (Call::Store("a", b"4"), true),
+    (Call::Print(b"56"), false),
+    (Call::Print(b"5678"), true),
+];
+
 #[test]
 fn a_listed_call_fails(rt: HostRuntime) -> Result<(), Fail> {
     let alloc = rt.alloc();
     let mut host = MemHost::new(alloc, [2].to_vec(alloc)?);
     host.reserve(2, 10)?;
-    host.store("a", b"12")?;
-    assert_eq!(rt; host.store("a", b"3").is_err(), true);
-    host.store("a", b"3")?;
-    assert_eq!(rt; host.store("a", b"4").is_err(), true);
-    host.print(b"56")?;
-    assert_eq!(rt; host.print(b"5678").is_err(), true);
+    for (call, expected) in &CALLS {
+        assert_eq!(rt; fails(&mut host, call), *expected);
+    }
     assert_eq!(rt; host.file("a").ok_or("no file")?, b"3".as_slice());
     assert_eq!(rt; host.printed(), b"56".as_slice());
-    assert_eq!(rt; host.room(), (0, 3));
-    assert_eq!(rt; host.fault_count(), 3);
+    assert_eq!(rt; (host.room(), host.fault_count()), ((0, 3), 3));
     Ok(())
 }
 

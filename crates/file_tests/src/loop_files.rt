@@ -277,6 +277,34 @@ fn takes_4096_loops(rt: HostRuntime) -> Result<(), Fail> {
     Ok(())
 }
 
+/// Of each loop its header, its bound, whether it is counted, its least number of turns and its ranges.
+fn notes_text(alloc: Global, notes: &LoopNotes) -> Result<String, Fail> {
+    let mut text = String::new(alloc);
+    for k in 0..notes.count() {
+        push_note(&mut text, alloc, notes.note(k))?;
+    }
+    Ok(text)
+}
+
+fn push_note(text: &mut String, alloc: Global, note: &LoopNote) -> Result<(), Fail> {
+    let LoopNote {
+        header,
+        bound,
+        counted,
+        at_least,
+        ..
+    } = note;
+    let numbers = format!(in alloc; "{header:#x} {bound} {counted} {at_least}")?;
+    text.push_str(&numbers)?;
+    for k in 0..note.ranges.count() {
+        let range = note.ranges.get(k);
+        let ends = format!(in alloc; " {:#x} to {:#x}", range.from, range.to)?;
+        text.push_str(&ends)?;
+    }
+    text.push_str("; ")?;
+    Ok(())
+}
+
 #[test]
 fn gives_what_is_noted(rt: HostRuntime) -> Result<(), Fail> {
     let view = view_of(rt.alloc(), &SECTIONS)?;
@@ -284,24 +312,11 @@ fn gives_what_is_noted(rt: HostRuntime) -> Result<(), Fail> {
         "version = 1\n[[loop]]\nheader = \"_start\"\nranges = [[0, 4], [\"_start\", \"_start+0x10\"]]\nbound = 7\ncounted = true\n[[loop]]\nheader = 1\nranges = [[1, 2]]\nbound = 0\n";
     let notes = read_loops(rt.alloc(), text.as_bytes(), &view)
         .ok()
-        .ok_or("the file is refused")?;
-    assert_eq!(rt; notes.count(), 2);
-    let first = notes.note(0);
+        .ok_or("refused")?;
+    let found = notes_text(rt.alloc(), &notes)?;
     assert_eq!(rt;
-        (first.header, first.bound, first.counted),
-        (0x100B4, 7, true)
-    );
-    assert_eq!(rt; first.ranges.count(), 2);
-    assert_eq!(rt; *first.ranges.get(0), Range { from: 0, to: 4 });
-    let second_range = Range {
-        from: 0x100B4,
-        to: 0x100C4,
-    };
-    assert_eq!(rt; *first.ranges.get(1), second_range);
-    let second = notes.note(1);
-    assert_eq!(rt;
-        (second.header, second.bound, second.counted),
-        (1, 0, false)
+        found.as_str(),
+        "0x100b4 7 true 0 0x0 to 0x4 0x100b4 to 0x100c4; 0x1 0 false 0 0x1 to 0x2; "
     );
     Ok(())
 }
@@ -309,24 +324,23 @@ fn gives_what_is_noted(rt: HostRuntime) -> Result<(), Fail> {
 #[test]
 fn keeps_notes_in_their_order(rt: HostRuntime) -> Result<(), Fail> {
     let mut notes = LoopNotes::new(rt.alloc());
-    assert_eq!(rt; notes.count(), 0);
-    let mut items = Vec::new(rt.alloc());
-    items.push(Range { from: 0, to: 4 })?;
-    let note = LoopNote {
-        header: 0,
-        ranges: RangeList::from_vec(items),
-        bound: 1_000_000_000,
-        counted: true,
-        at_least: 1_000_000_000,
-    };
-    notes.push(note)?;
-    assert_eq!(rt; notes.count(), 1);
-    let note = notes.note(0);
+    for header in [8, 0] {
+        let note = LoopNote {
+            header,
+            ranges: RangeList::from_vec(vec![in rt.alloc(); Range { from: 0, to: 4 }]?),
+            bound: 1_000_000_000,
+            counted: true,
+            at_least: 1_000_000_000,
+        };
+        if notes.count() < 4096 {
+            notes.push(note)?;
+        }
+    }
+    let found = notes_text(rt.alloc(), &notes)?;
     assert_eq!(rt;
-        (note.header, note.bound, note.counted),
-        (0, 1_000_000_000, true)
+        found.as_str(),
+        "0x8 1000000000 true 1000000000 0x0 to 0x4; 0x0 1000000000 true 1000000000 0x0 to 0x4; "
     );
-    assert_eq!(rt; note.ranges.count(), 1);
     Ok(())
 }
 
@@ -337,21 +351,11 @@ fn relaxes_bounds_and_drops_counters(rt: HostRuntime) -> Result<(), Fail> {
         "version = 2\n[[loop]]\nheader = 1\nranges = [[1, 2]]\nbound = 7\ncounted = true\nat_least = 3\n";
     let notes = read_loops(rt.alloc(), text.as_bytes(), &view)
         .ok()
-        .ok_or("the file is refused")?;
+        .ok_or("refused")?;
     let relaxed = notes.relaxed(rt.alloc()).ok().ok_or("memory")?;
-    assert_eq!(rt; relaxed.count(), 1);
-    let note = relaxed.note(0);
-    assert_eq!(rt;
-        (note.header, note.bound, note.counted, note.at_least),
-        (1, 1_000_000_000, true, 0)
-    );
-    assert_eq!(rt; *note.ranges.get(0), Range { from: 1, to: 2 });
-    let uncounted = notes.uncounted();
-    assert_eq!(rt; uncounted.count(), 1);
-    let note = uncounted.note(0);
-    assert_eq!(rt;
-        (note.header, note.bound, note.counted, note.at_least),
-        (1, 7, false, 3)
-    );
+    let found = notes_text(rt.alloc(), &relaxed)?;
+    assert_eq!(rt; found.as_str(), "0x1 1000000000 true 0 0x1 to 0x2; ");
+    let found = notes_text(rt.alloc(), &notes.uncounted())?;
+    assert_eq!(rt; found.as_str(), "0x1 7 false 3 0x1 to 0x2; ");
     Ok(())
 }

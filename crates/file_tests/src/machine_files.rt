@@ -260,10 +260,9 @@ fn reads_costs_and_levels(rt: HostRuntime) -> Result<(), Fail> {
         .ok()
         .ok_or("refused")?;
     assert_eq!(rt;
-        (power.deadline, power.steps, power.min_gain),
-        (28, 1_000_000, 20)
+        (power.deadline, power.steps, power.min_gain, power.costs.div),
+        (28, 1_000_000, 20, 10)
     );
-    assert_eq!(rt; power.costs.div, 10);
     assert_eq!(rt; power.levels.count(), 3);
     assert_eq!(rt;
         power.levels.get(1),

@@ -203,10 +203,13 @@ fn makes_files(rt: HostRuntime) -> Result<(), Fail> {
             return Err("too many blocks".into());
         }
         let made = make(rt.alloc(), number, size).ok().ok_or("memory")?;
-        assert_eq!(rt; sums(&made.image), image, "the image of {number}");
-        assert_eq!(rt; sums(&made.machine), machine, "the machine of {number}");
-        assert_eq!(rt; sums(&made.loops), loops, "the loops of {number}");
-        assert_eq!(rt; sums(&made.input), input, "the input of {number}");
+        let found = [
+            sums(&made.image),
+            sums(&made.machine),
+            sums(&made.loops),
+            sums(&made.input),
+        ];
+        assert_eq!(rt; found, [image, machine, loops, input], "{number}");
     }
     Ok(())
 }

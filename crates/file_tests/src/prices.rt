@@ -86,14 +86,10 @@ fn prices_at_the_level_before(rt: HostRuntime) {
     meter.add(&power, &step(Class::Store, true, Some(0)));
     meter.add(&power, &step(Class::Load, true, None));
     meter.add(&power, &step(Class::Store, false, Some(1)));
-    assert_eq!(rt; meter.steps, 4);
-    assert_eq!(rt; meter.cycles, 14);
-    assert_eq!(rt; meter.time, 41);
-    assert_eq!(rt; meter.energy, 131);
-    assert_eq!(rt; meter.switches, 2);
-    assert_eq!(rt; meter.level, 1);
-    assert_eq!(rt; meter.keyed, 3);
-    assert_eq!(rt; meter.held(&power), 112);
+    let counted = [meter.steps, meter.cycles, meter.switches, meter.keyed];
+    assert_eq!(rt; (counted, meter.level), ([4, 14, 2, 3], 1));
+    let paid = [meter.time, meter.energy, meter.held(&power)];
+    assert_eq!(rt; paid, [41, 131, 112]);
 }
 
 #[test]

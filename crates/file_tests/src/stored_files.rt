@@ -3,6 +3,8 @@
 use crate::fixtures::{PLAIN, THREE_ENTRIES, view_of};
 use elf_patch::{stub_base, write_image};
 use scale_base::{Keyed, Patch, Range};
+use std::alloc::Global;
+use std::process::Abort;
 use std::test::Fail;
 
 /// The table of the stored image of `PLAIN` with an empty block.
@@ -21,6 +23,17 @@ static FOUR_ENTRIES: [u8; 128] = [
     0, 4, 0, 0, 0,
 ];
 
+/// Expects that parts stand at places of a stored file, of which the last one ends it.
+fn expect_parts(rt: &impl Abort, stored: &[u8], parts: &[(usize, &[u8])]) {
+    for (at, part) in parts {
+        let found = match stored.get(*at..) {
+            Some(rest) => rest.starts_with(part),
+            None => false,
+        };
+        assert!(rt; found, "at {at}");
+    }
+}
+
 #[test]
 fn stores_an_image_with_an_empty_block(rt: HostRuntime) -> Result<(), Fail> {
     let view = view_of(rt.alloc(), &PLAIN)?;
@@ -32,11 +45,21 @@ fn stores_an_image_with_an_empty_block(rt: HostRuntime) -> Result<(), Fail> {
         .ok()
         .ok_or("memory")?;
     assert_eq!(rt; stored.len(), 4160);
-    assert_eq!(rt; &stored[4096..], PLAIN_TABLE.as_slice());
-    assert_eq!(rt; &stored[28..32], [0, 16, 0, 0].as_slice());
-    assert_eq!(rt; &stored[44..46], [2, 0].as_slice());
-    assert_eq!(rt; &stored[84..96], &PLAIN[84..]);
-    let again = view_of(rt.alloc(), &stored)?;
+    expect_parts(
+        &rt,
+        &stored,
+        &[
+            (28, &[0, 16, 0, 0]),
+            (44, &[2, 0]),
+            (84, &[19, 5, 112, 0, 147, 8, 208, 5, 115, 0, 0, 0]),
+            (4096, &PLAIN_TABLE),
+        ],
+    );
+    expect_key(&rt, rt.alloc(), &stored)
+}
+
+/// Expects of a stored file an empty keyed segment at 0x11000, for a start at level 0.
+fn expect_key(rt: &impl Abort, alloc: Global, stored: &[u8]) -> Result<(), Fail> {
     let key = Keyed {
         range: Range {
             from: 0x11000,
@@ -44,7 +67,7 @@ fn stores_an_image_with_an_empty_block(rt: HostRuntime) -> Result<(), Fail> {
         },
         start: 0,
     };
-    assert_eq!(rt; again.keyed(), Some(key));
+    assert_eq!(rt; view_of(alloc, stored)?.keyed(), Some(key));
     Ok(())
 }
 
@@ -64,11 +87,14 @@ fn stores_a_patch_and_a_block(rt: HostRuntime) -> Result<(), Fail> {
         .ok()
         .ok_or("memory")?;
     assert_eq!(rt; stored.len(), 4228);
-    assert_eq!(rt; &stored[4096..4100], [1, 2, 3, 4].as_slice());
-    assert_eq!(rt; &stored[4100..], FOUR_ENTRIES.as_slice());
-    assert_eq!(rt;
-        &stored[148..160],
-        [19, 5, 112, 0, 19, 0, 0, 0, 115, 0, 0, 0].as_slice()
+    expect_parts(
+        &rt,
+        &stored,
+        &[
+            (148, &[19, 5, 112, 0, 19, 0, 0, 0, 115, 0, 0, 0]),
+            (4096, &[1, 2, 3, 4]),
+            (4100, &FOUR_ENTRIES),
+        ],
     );
     Ok(())
 }

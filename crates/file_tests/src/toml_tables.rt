@@ -14,8 +14,8 @@ fn finds_keys_and_numbers(rt: HostRuntime) -> Result<(), Fail> {
         (&["rows", "b", "aa", "one"], None, None),
     ];
     for (known, missing, unknown) in keys {
-        assert_eq!(rt; first_missing(&table, known), missing);
-        assert_eq!(rt; least_unknown(&table, known), unknown);
+        let found = (first_missing(&table, known), least_unknown(&table, known));
+        assert_eq!(rt; found, (missing, unknown));
     }
     for (low, high, number) in [(3, 3, Some(3)), (4, 9, None), (0, 2, None)] {
         assert_eq!(rt; number_at(&table, "aa", low, high), number);

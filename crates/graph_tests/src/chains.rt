@@ -7,16 +7,19 @@ use std::test::Fail;
 fn chains_lead_down_from_the_last_place(rt: HostRuntime) -> Result<(), Fail> {
     let keys = [Some(2), None, Some(0), Some(2), Some(2), None, Some(0)];
     let chains = find_chains(rt.alloc(), &keys, 4).ok().ok_or("memory")?;
-    assert_eq!(rt; chains.last(0), Some(6));
-    assert_eq!(rt; chains.last(1), None);
-    assert_eq!(rt; chains.last(2), Some(4));
-    assert_eq!(rt; chains.last(3), None);
-    assert_eq!(rt; chains.before(6), Some(2));
-    assert_eq!(rt; chains.before(2), None);
-    assert_eq!(rt; chains.before(4), Some(3));
-    assert_eq!(rt; chains.before(3), Some(0));
-    assert_eq!(rt; chains.before(0), None);
-    assert_eq!(rt; chains.before(5), None);
+    for (key, place) in [(0, Some(6)), (1, None), (2, Some(4)), (3, None)] {
+        assert_eq!(rt; chains.last(key), place, "the last of {key}");
+    }
+    for (place, before) in [
+        (6, Some(2)),
+        (2, None),
+        (4, Some(3)),
+        (3, Some(0)),
+        (0, None),
+        (5, None),
+    ] {
+        assert_eq!(rt; chains.before(place), before, "before {place}");
+    }
     Ok(())
 }
 
@@ -25,8 +28,7 @@ fn no_place_has_a_key(rt: HostRuntime) -> Result<(), Fail> {
     let chains = find_chains(rt.alloc(), &[None, None], 1)
         .ok()
         .ok_or("memory")?;
-    assert_eq!(rt; chains.last(0), None);
-    assert_eq!(rt; chains.before(1), None);
+    assert_eq!(rt; (chains.last(0), chains.before(1)), (None, None));
     let empty = find_chains(rt.alloc(), &[], 1).ok().ok_or("memory")?;
     assert_eq!(rt; empty.last(0), None);
     Ok(())

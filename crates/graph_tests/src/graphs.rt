@@ -7,7 +7,7 @@ use crate::programs::{
 };
 use code_graph::CodeGraph;
 use power_model::Costs;
-use scale_base::{Edge, EdgeKind};
+use scale_base::Edge;
 use std::alloc::Global;
 use std::process::Abort;
 use std::test::Fail;
@@ -252,7 +252,7 @@ fn functions_text(alloc: Global, graph: &CodeGraph) -> Result<String, Fail> {
 
 #[test]
 fn reaches_code_in_functions(rt: HostRuntime) -> Result<(), Fail> {
-    let cases: [(&str, &[u32], &str); 2] = [
+    let cases: [(&str, &[u32], &str); 3] = [
         // 0: call of 4; 1: stop; 4: jump to itself
         (
             "does not go on behind a call that never returns",
@@ -280,6 +280,12 @@ fn reaches_code_in_functions(rt: HostRuntime) -> Result<(), Fail> {
             ],
             "0x10000 of 0; 0x10004 of 0; 0x10008 of 0; 0x10010 of 1; 0x10014 of 2; 0x10018 of 1;  0x10000 0x10010 0x10014",
         ),
+        // 0: call of 2, which exits; no way leads back to 1
+        (
+            "leaves out what is not reached",
+            &[CALL_2, 0, EXIT, ECALL],
+            "0x10000 of 0; 0x10008 of 1; 0x1000c of 1;  0x10000 0x10008",
+        ),
     ];
     for (name, words, want) in cases {
         let graph = graph_of(rt.alloc(), words)?;
@@ -289,39 +295,67 @@ fn reaches_code_in_functions(rt: HostRuntime) -> Result<(), Fail> {
     Ok(())
 }
 
+/// Each node with its function and its edges, and how it ends.
+fn nodes_text(alloc: Global, graph: &CodeGraph) -> Result<String, Fail> {
+    let mut text = String::new(alloc);
+    for k in 0..graph.node_count() {
+        let (from, to) = graph.edges_of(k);
+        let ends = match (graph.is_return(k), graph.is_exit(k)) {
+            (false, false) => "",
+            (true, _) => ", returns",
+            (false, true) => ", exits",
+        };
+        let next = format!(in alloc;
+            "{:#x} of {}, {from} to {to}{ends}; ",
+            graph.node(k),
+            graph.owner(k)
+        )?;
+        text.push_str(&next)?;
+    }
+    Ok(text)
+}
+
+/// Each edge with its source, and its target or the function that it calls.
+fn edges_text(alloc: Global, graph: &CodeGraph) -> Result<String, Fail> {
+    let mut text = String::new(alloc);
+    for e in 0..graph.edge_count() {
+        let Edge { at, kind, to } = graph.edge(e);
+        let edge = format!(in alloc; "{} {kind:?} {at:#x} to {to:#x}", graph.source(e))?;
+        text.push_str(&edge)?;
+        let behind = match (graph.target(e), graph.callee(e)) {
+            (Some(target), _) => format!(in alloc; " leads to {target}")?,
+            (None, Some(callee)) => format!(in alloc; " calls {callee}")?,
+            (None, None) => String::new(alloc),
+        };
+        text.push_str(&behind)?;
+        text.push_str("; ")?;
+    }
+    Ok(text)
+}
+
 /// A call of the third word, which exits; no way leads back to the second.
 #[test]
 fn leaves_out_what_is_not_reached(rt: HostRuntime) -> Result<(), Fail> {
     let graph = graph_of(rt.alloc(), &[CALL_2, 0, EXIT, ECALL])?;
-    assert_eq!(rt; graph.node_count(), 3);
-    assert_eq!(rt; graph.find(0x10004), None);
-    assert_eq!(rt; graph.find(0x10008), Some(1));
-    assert_eq!(rt; graph.node(2), 0x1000C);
-    assert_eq!(rt; graph.edge_count(), 3);
+    let text = nodes_text(rt.alloc(), &graph)?;
     assert_eq!(rt;
-        graph.edge(0),
-        Edge {
-            at: 0x10000,
-            kind: EdgeKind::End,
-            to: 0x10000
-        }
+        text.as_str(),
+        "0x10000 of 0, 0 to 1; 0x10008 of 1, 1 to 2; 0x1000c of 1, 2 to 3, exits; "
     );
-    assert_eq!(rt; graph.edges_of(1), (1, 2));
-    assert_eq!(rt; graph.source(1), 1);
-    assert_eq!(rt; graph.target(1), Some(2));
-    let sources = graph.sources();
-    assert_eq!(rt; sources, [0, 1, 2].as_slice());
-    let targets = graph.targets();
-    assert_eq!(rt; targets, [None, Some(2), None].as_slice());
-    assert_eq!(rt; graph.callee(0), Some(1));
-    assert_eq!(rt; graph.callee(1), None);
-    assert!(rt; !graph.is_return(2));
-    assert!(rt; graph.is_exit(2));
-    assert_eq!(rt; graph.function_count(), 2);
-    assert_eq!(rt; graph.function(1), 0x10008);
-    assert_eq!(rt; graph.owner(2), 1);
-    let order = graph.call_order();
-    assert_eq!(rt; order, [1, 0].as_slice());
+    let text = edges_text(rt.alloc(), &graph)?;
+    assert_eq!(rt;
+        text.as_str(),
+        "0 End 0x10000 to 0x10000 calls 1; 1 Next 0x10008 to 0x1000c leads to 2; 2 End 0x1000c to 0x1000c; "
+    );
+    let found = (graph.find(0x10004), graph.find(0x10008));
+    assert_eq!(rt; found, (None, Some(1)));
+    let arcs = (graph.sources(), graph.targets(), graph.call_order());
+    let expected: (&[usize], &[Option<usize>], &[usize]) = (
+        &[0, 1, 2],
+        &[None, Some(2), None],
+        &[1, 0],
+    );
+    assert_eq!(rt; arcs, expected);
     Ok(())
 }
 

@@ -447,47 +447,89 @@ fn nesting_of(
     Ok((innermost, parent))
 }
 
+/// A program, its loops, by node the innermost loop round it, and by loop the next one round it.
 #[test]
 fn nests_loops(rt: HostRuntime) -> Result<(), Fail> {
-    // The inner loop is noted first.
-    let (innermost, parent) = nesting_of(rt.alloc(), &NESTED, &[INNER, OUTER])?;
-    let around = [None, Some(1), Some(0), Some(0), Some(1), None, None, None];
-    assert_eq!(rt; innermost.as_slice(), around.as_slice());
-    assert_eq!(rt; parent.as_slice(), [Some(1), None].as_slice());
     // Word 5 branches to itself.
     let mut words = NESTED;
     words[5] = BRANCH_0;
-    let (innermost, parent) = nesting_of(rt.alloc(), &words, &[INNER, OUTER, (5, 5, 6)])?;
-    let around = [
-        None,
-        Some(1),
-        Some(0),
-        Some(0),
-        Some(1),
-        Some(2),
-        None,
-        None,
+    let cases: [(&[u32], &[Places], [Option<usize>; 8], &[Option<usize>]); 2] = [
+        // The inner loop is noted first.
+        (
+            &NESTED,
+            &[INNER, OUTER],
+            [None, Some(1), Some(0), Some(0), Some(1), None, None, None],
+            &[Some(1), None],
+        ),
+        (
+            &words,
+            &[INNER, OUTER, (5, 5, 6)],
+            [
+                None,
+                Some(1),
+                Some(0),
+                Some(0),
+                Some(1),
+                Some(2),
+                None,
+                None,
+            ],
+            &[Some(1), None, None],
+        ),
     ];
-    assert_eq!(rt; innermost.as_slice(), around.as_slice());
-    assert_eq!(rt; parent.as_slice(), [Some(1), None, None].as_slice());
+    for (words, loops, innermost, parents) in cases {
+        let found = nesting_of(rt.alloc(), words, loops)?;
+        assert_eq!(rt;
+            (found.0.as_slice(), found.1.as_slice()),
+            (innermost.as_slice(), parents)
+        );
+    }
+    Ok(())
+}
+
+/// Of each loop the header, the bound, whether it is counted, and the least number of its turns.
+fn notes_text(alloc: Global, tree: &LoopTree) -> Result<String, Fail> {
+    let mut text = String::new(alloc);
+    for l in 0..tree.loop_count() {
+        let next = format!(in alloc;
+            "{} {} {} {}; ",
+            tree.header(l),
+            tree.bound(l),
+            tree.counted(l),
+            tree.least_trips(l)
+        )?;
+        text.push_str(&next)?;
+    }
+    Ok(text)
+}
+
+/// Trips are those of whole extents: where the word behind a loop is in its range, and not in its body, the loop need not turn.
+#[test]
+fn keeps_notes_of_loops(rt: HostRuntime) -> Result<(), Fail> {
+    for (outer, want) in [
+        (OUTER, "2 5 false 3; 1 5 true 3; "),
+        ((1, 1, 6), "2 5 false 3; 1 5 true 0; "),
+    ] {
+        let Ok(tree) = tree_of(rt.alloc(), &NESTED, &[INNER, outer])? else {
+            return Err("no tree".into());
+        };
+        let notes = notes_text(rt.alloc(), &tree)?;
+        let bodies = loops_text(rt.alloc(), &tree)?;
+        assert_eq!(rt;
+            (notes.as_str(), bodies.as_str()),
+            (want, "2: 2 3; 1: 1 2 3 4; ")
+        );
+    }
     Ok(())
 }
 
 #[test]
-fn keeps_notes_of_loops_with_their_back_edges(rt: HostRuntime) -> Result<(), Fail> {
+fn finds_back_edges(rt: HostRuntime) -> Result<(), Fail> {
     let Ok(tree) = tree_of(rt.alloc(), &NESTED, &[INNER, OUTER])? else {
         return Err("no tree".into());
     };
     assert_eq!(rt; tree.loop_count(), 2);
-    assert_eq!(rt; tree.header(0), 2);
-    assert_eq!(rt; tree.header(1), 1);
-    assert_eq!(rt; tree.bound(0), 5);
-    assert!(rt; tree.counted(1));
-    assert_eq!(rt; tree.body(0), [2, 3].as_slice());
-    assert_eq!(rt; tree.body(1), [1, 2, 3, 4].as_slice());
-    assert!(rt; tree.in_body(1, 4));
-    assert!(rt; !tree.in_body(0, 4));
-    assert_eq!(rt; tree.plain_order(), [0, 1, 2, 3, 4, 5, 6, 7].as_slice());
+    assert_eq!(rt; (tree.in_body(1, 4), tree.in_body(0, 4)), (true, false));
     // Of a branch the edge by which it is taken comes first.
     let backs = [
         None,
@@ -501,23 +543,9 @@ fn keeps_notes_of_loops_with_their_back_edges(rt: HostRuntime) -> Result<(), Fai
         None,
         None,
     ];
-    assert_eq!(rt; tree.backs(), backs.as_slice());
-    Ok(())
-}
-
-#[test]
-fn trips_are_those_of_whole_extents(rt: HostRuntime) -> Result<(), Fail> {
-    let Ok(tree) = tree_of(rt.alloc(), &NESTED, &[INNER, OUTER])? else {
-        return Err("no tree".into());
-    };
-    assert_eq!(rt; tree.loop_count(), 2);
-    assert_eq!(rt; (tree.least_trips(0), tree.least_trips(1)), (3, 3));
-    // The word behind the loop is in its range, and not in its body.
-    let Ok(tree) = tree_of(rt.alloc(), &NESTED, &[INNER, (1, 1, 6)])? else {
-        return Err("no tree".into());
-    };
-    assert_eq!(rt; tree.loop_count(), 2);
-    assert_eq!(rt; tree.body(1), [1, 2, 3, 4].as_slice());
-    assert_eq!(rt; (tree.least_trips(0), tree.least_trips(1)), (3, 0));
+    assert_eq!(rt;
+        (tree.plain_order(), tree.backs()),
+        ([0, 1, 2, 3, 4, 5, 6, 7].as_slice(), backs.as_slice())
+    );
     Ok(())
 }

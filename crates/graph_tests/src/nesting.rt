@@ -6,10 +6,9 @@ use std::test::Fail;
 #[test]
 fn takes_no_loops(rt: HostRuntime) -> Result<(), Fail> {
     let nesting = nest_loops(rt.alloc(), &[], &[], 2)?;
-    assert_eq!(rt; nesting.innermost(0), None);
-    assert_eq!(rt; nesting.innermost(1), None);
+    let found = (nesting.innermost(0), nesting.innermost(1));
+    assert_eq!(rt; found, (None, None));
     let (innermost, parent) = nesting.into_parts();
-    assert_eq!(rt; innermost.len(), 2);
-    assert_eq!(rt; parent.len(), 0);
+    assert_eq!(rt; (innermost.len(), parent.len()), (2, 0));
     Ok(())
 }

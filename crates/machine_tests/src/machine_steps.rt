@@ -3,7 +3,7 @@
 use crate::fixtures::{READS_ALL, WRITES_A_BYTE, plain, view_of};
 use flat_memory::{ListMemory, load_list};
 use rv_encode::encode;
-use rv_machine::{Machine, StepEnd, step};
+use rv_machine::{Machine, StepEnd, World, step};
 use scale_base::{Class, Instr, Move, RegOp, Stepped, Trap, TrapKind};
 use std::alloc::Global;
 use std::test::Fail;
@@ -85,27 +85,22 @@ fn load_of_text(rt: HostRuntime) -> Result<(), Fail> {
         keyed: false,
         port: None,
     };
-    assert_eq!(rt; step(&mut machine), StepEnd::Went(went));
     let fault = Trap {
         kind: TrapKind::LoadFault,
         at: 0x0001_0000,
     };
-    assert_eq!(rt; step(&mut machine), StepEnd::Trapped(fault));
-    assert_eq!(rt; machine.pc, 0x0001_0004);
+    let steps = [step(&mut machine), step(&mut machine)];
+    assert_eq!(rt; steps, [StepEnd::Went(went), StepEnd::Trapped(fault)]);
     let mut regs = [0; 32];
     regs[2] = 0x7FFF_FFF0;
     regs[5] = 0x0001_0000;
-    assert_eq!(rt; machine.regs, regs);
+    assert_eq!(rt; (machine.pc, machine.regs), (0x0001_0004, regs));
     // The window is as it began, its last word the fastest of three levels; no input was read, and nothing was written.
-    for (k, value) in machine.window.iter().enumerate() {
-        assert_eq!(rt;
-            *value,
-            if k == 511 { 2 } else { 0 },
-            "word {k} of the window"
-        );
-    }
-    assert_eq!(rt; machine.world.used, 0);
-    assert!(rt; machine.world.output.is_empty());
+    let mut window = [0; 512];
+    window[511] = 2;
+    assert!(rt; machine.window == window);
+    let World { used, output, .. } = &machine.world;
+    assert_eq!(rt; (*used, output.len()), (0, 0));
     Ok(())
 }
 
@@ -142,10 +137,12 @@ fn services(rt: HostRuntime) -> Result<(), Fail> {
     for (words, input, count, output, used) in programs {
         let mut machine = started(rt.alloc(), words, input)?;
         let (end, steps) = run(&mut machine, 1000);
-        assert!(rt; matches!(end, Some(StepEnd::Exited(_, 0))));
-        assert_eq!(rt; steps, count);
-        assert_eq!(rt; machine.world.output.as_slice(), output);
-        assert_eq!(rt; machine.world.used, used);
+        let exits = matches!(end, Some(StepEnd::Exited(_, 0)));
+        let world = &machine.world;
+        assert_eq!(rt;
+            (exits, steps, world.output.as_slice(), world.used),
+            (true, count, output, used)
+        );
     }
     Ok(())
 }

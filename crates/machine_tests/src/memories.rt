@@ -25,13 +25,13 @@ fn a_plain_image(rt: HostRuntime) -> Result<(), Fail> {
         (0x8000_0000, 0, false, false, false),
         (0xFFFF_FFFC, 0, false, false, false),
     ] {
-        assert_eq!(rt; memory.byte(at), byte, "at {at}");
-        assert_eq!(rt; uses(&memory, at), [read, write, fetch, false], "at {at}");
+        let found = (memory.byte(at), uses(&memory, at));
+        assert_eq!(rt; found, (byte, [read, write, fetch, false]), "at {at}");
     }
     assert!(rt; memory.may_write(0x7FFF_FFFF));
     memory.set_byte(0x7FFF_FFFF, 7);
-    assert_eq!(rt; memory.byte(0x7FFF_FFFF), 7);
-    assert_eq!(rt; memory.byte(0x7FFF_FFFE), 0);
+    let found = (memory.byte(0x7FFF_FFFF), memory.byte(0x7FFF_FFFE));
+    assert_eq!(rt; found, (7, 0));
     Ok(())
 }
 
@@ -64,9 +64,8 @@ fn a_loaded_header(rt: HostRuntime) -> Result<(), Fail> {
         (0x0001_0034, 1, false),
         (0x0001_0054, 0x93, false),
     ] {
-        assert_eq!(rt; memory.byte(at), byte, "at {at}");
-        assert_eq!(rt; memory.may_read(at), read, "at {at}");
-        assert!(rt; !memory.may_write(at));
+        let found = (memory.byte(at), memory.may_read(at), memory.may_write(at));
+        assert_eq!(rt; found, (byte, read, false), "at {at}");
     }
     Ok(())
 }
@@ -201,8 +200,8 @@ fn whole_pages(rt: HostRuntime) -> Result<(), Fail> {
         (0x7FFF_FFFF, WRITABLE),
         (0x8000_0000, NONE),
     ] {
-        assert_eq!(rt; uses(&pages, at), expected, "at {at}");
-        assert_eq!(rt; uses(&list, at), expected, "at {at} of the list");
+        let found = (uses(&pages, at), uses(&list, at));
+        assert_eq!(rt; found, (expected, expected), "at {at}");
     }
     Ok(())
 }
@@ -226,7 +225,7 @@ fn written_pages(rt: HostRuntime) -> Result<(), Fail> {
     ] {
         assert_eq!(rt; memory.byte(at), byte, "at {at}");
     }
-    assert_eq!(rt; memory.word(0x0002_1FFC), 0x0403_0201);
-    assert_eq!(rt; memory.word(0x0002_2000), 5);
+    let words = (memory.word(0x0002_1FFC), memory.word(0x0002_2000));
+    assert_eq!(rt; words, (0x0403_0201, 5));
     Ok(())
 }
