@@ -13,8 +13,15 @@ use Rattle.code_graph.specs.FlowGraph.{FlowGraph, graph, word_beside, IsFlowGrap
 use Rattle.code_graph.specs.Stored.{IsStoredGraph}
 use Rattle.code_graph.proofs.Lists.{Once, ascending_once, ascending_rise, some_is, word_beside-get, number_beside-get}
 
+pub rising_nodes : (v : FlowGraph) → IsFlowGraph v → RiseStrictly v.code.nodes
+rising_nodes v is = ascending_rise v.code.nodes is.ascending
+
 pub once_nodes : (v : FlowGraph) → IsFlowGraph v → Once v.code.nodes
 once_nodes v is = ascending_once v.code.nodes is.ascending
+
+-- an edge starts at a node
+pub source_node : (v : FlowGraph) (e : ℕ) → IsFlowGraph v → e < length v.code.edges → (k : ℕ) × (slice_get v.code.nodes k ≡ Some (edge_at (slice_get v.code.edges e)))
+source_node v e is lt = (is.nodes (edge_at (slice_get v.code.edges e))).1 (e, lt, refl)
 
 module _ (v : FlowGraph) (callees : List (Option ℕ)) (firsts sources : List ℕ) (targets : List (Option ℕ)) (is : IsStoredGraph v callees firsts sources targets) where
   -- the word of the node at which an edge starts
@@ -71,3 +78,7 @@ module _ (v : FlowGraph) (callees : List (Option ℕ)) (firsts sources : List �
 
   pub callees_size : length callees ≡ length v.code.nodes
   callees_size = ap length is.callees_are ∙ length-map v.kinds (callee_of v.code.functions) ∙ is.kinds
+
+-- an entry that is read
+pub edge_read : (edges items : List Edge) (e : ℕ) (x : Edge) → items ≡ edges → e < length edges → x ≡ get_or items e x → slice_get edges e ≡ Some x
+edge_read edges items e x same lt at = slice_get_read edges (length edges) e x refl lt (at ∙ ap (λ xs. get_or xs e x) same)

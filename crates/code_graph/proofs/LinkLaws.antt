@@ -87,6 +87,17 @@ no_link zero k s h = cc
 no_link (suc n) zero s h = cc
 no_link (suc n) (suc k) s h = no_link n k s h
 
+-- no word yet
+pub chain_none : (steps : List Step) (last before : List (Option ℕ)) → length last ≡ length steps → length before ≡ length steps → last ≡ replicate (length steps) None → AreStepChains steps 0 last before
+chain_none steps last before ll bl none = record {
+  last_size = ll;
+  before_size = bl;
+  last_key = λ k s h. absurd (no_link (length steps) k s (ap (λ xs. slice_index_or xs k None) (sym none) ∙ h));
+  before_key = λ k s r kl sl ks h. absurd (omega arith);
+  last_all = λ k x kl xl kx. absurd (omega arith);
+  before_all = λ k s x kl sl ks kx lt. absurd (omega arith);
+}
+
 pub same_link : (xs : List (Option ℕ)) (i : ℕ) (d e : Option ℕ) → i < length xs → slice_index_or xs i d ≡ slice_index_or xs i e
 same_link [] i d e lt = let bad : ⊥ = omega arith in absurd bad
 same_link (x ∷ xs) zero d e lt = refl

@@ -239,6 +239,13 @@ module _ (steps : List Step) (returns : List Bool) (first : ℕ) (marks : List M
   pub number_new : function_number (set numbers h (Some (length functions))) h ≡ Some (length functions)
   number_new = number_here h refl
 
+-- the mark of a function's first word
+pub due_owner : (steps : List Step) (returns : List Bool) (first h : ℕ) → ReachedAt steps returns first h h → IsDue steps returns first (Owner h) h
+due_owner steps returns first h reached = record {
+  one = λ f s. (let same : h ≡ f = cc in subst (λ x. ReachedAt steps returns first x h) same reached);
+  two = λ s. (let bad : ⊥ = cc in absurd bad);
+}
+
 -- ---- where a word goes on
 module _ (steps : List Step) (returns : List Bool) (first u : ℕ) (m : Mark) (due : IsDue steps returns first m u) where
   pub due_jump : (k : ℕ) → jumped_word (step_at steps u) ≡ Some k → k < length steps → IsDue steps returns first m k

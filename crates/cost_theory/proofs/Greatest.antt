@@ -52,6 +52,9 @@ greatest_as P Q value (Some a) to from p = record {
   most = λ x q. p.most x (from x q);
 }
 
+pub greatest_none : {A : Type 0} (P : A → Type 0) (value : A → ℕ) → ((x : A) → P x → ⊥) → IsGreatestIfAny P value None
+greatest_none P value none = none
+
 -- lists that begin with e
 abbrev pub After : ℕ → (List ℕ → Type 0) → List ℕ → Type 0
 After e P [] = ⊥

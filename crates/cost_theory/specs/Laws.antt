@@ -200,6 +200,12 @@ LeftWithinRestOfReturn = (g : Graph) (l : Loops) (extent : ℕ → ℕ → Bool)
 
 -- LEAST CYCLES
 
+-- From a node that a kept run has come to, a kept run that ends by an exit takes at least the node's least cycles to an end.
+abbrev pub ExitTakesLeast : Type 0
+ExitTakesLeast = (g : Graph) (l : Loops) (w : ℕ → ℕ) (n : Least) → IsProgram g → AreWeights g w → AreLeast g w n →
+    (ms more : List Transition) (v : ℕ) → AreKept g l (graph_start g) ms → (state_after g l ms).node ≡ Some v →
+    AreKept g l (state_after g l ms) more → EndsByExit more → IsUpTo (n.to_end v) (cycles w more)
+
 -- Where each loop is left only after its least number of turns, a walk costs at least the least charged cost of its kind.
 abbrev pub TurnsTakeLeast : Type 0
 TurnsTakeLeast = (g : Graph) (l : Loops) (extent : ℕ → ℕ → Bool) (c least turn : ℕ → ℕ) → IsProgram g → AreAccepted g l extent →

@@ -70,3 +70,6 @@ keyed_number-at file base k le before here =
 fold-snoc : {A B : Type 0} (f : B → A → B) (b : B) (xs : List A) (y : A) → fold f b (xs ++ y ∷ []) ≡ f (fold f b xs) y
 fold-snoc f b [] y = refl
 fold-snoc f b (x ∷ xs) y = fold-snoc f (f b x) xs y
+
+pub patched-more : (file : List ℕ) (patches : List Patch) (k : ℕ) (d : Patch) → k < length patches → fold (put_patch file) file (take (k + 1) patches) ≡ put_patch file (fold (put_patch file) file (take k patches)) (get_or patches k d)
+patched-more file patches k d lt = rw (take_more patches k d lt) (fold-snoc (put_patch file) file (take k patches) (get_or patches k d))

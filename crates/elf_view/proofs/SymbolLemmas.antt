@@ -71,12 +71,22 @@ pub section-is : (file : List ℕ) (k : ℕ) (d : SectionHeader) → k < e_shnum
 unfolding section_headers
 section-is file k d lt = get_or-map-range_with_len (section_header file) 0 (e_shnum file) k k d lt (omega arith)
 
+pub table_lies : (file : List ℕ) (s : SectionHeader) → is_symbol_table file s ≡ true → s.sh_offset + s.sh_size ≤ length file
+table_lies file s e =
+    let a = both_true ((s.sh_type == 2) && lies_in (length file) s) (is_string_table (length file) (slice_get (section_headers file) s.sh_link)) e in
+    le_of _ _ (both_true (s.sh_type == 2) (lies_in (length file) s) a.0).1
+
 strings_lie : (len : ℕ) (o : Option SectionHeader) (s : SectionHeader) → is_string_table len o ≡ true → o ≡ Some s → s.sh_offset + s.sh_size ≤ len
 strings_lie len None s e is = absurd cc
 strings_lie len (Some t) s e is =
     let same : t ≡ s = cc in
     let low = le_of _ _ (both_true (t.sh_type == 3) (lies_in len t) e).1 in
     rw (← same) low
+
+pub table_strings_lie : (file : List ℕ) (table s : SectionHeader) → is_symbol_table file table ≡ true → slice_get (section_headers file) table.sh_link ≡ Some s → s.sh_offset + s.sh_size ≤ length file
+table_strings_lie file table s e is =
+    let a = both_true ((table.sh_type == 2) && lies_in (length file) table) (is_string_table (length file) (slice_get (section_headers file) table.sh_link)) e in
+    strings_lie (length file) (slice_get (section_headers file) table.sh_link) s a.1 is
 
 -- a search through the sections: section k is taken, is passed, and none is left
 pub section_taken : (file : List ℕ) (p : SectionHeader → Bool) (k : ℕ) (s : SectionHeader) → k < e_shnum file → s ≡ section_header file k → p s ≡ true → Some s ≡ find p (drop k (section_headers file))

@@ -148,6 +148,9 @@ pub record Searched (xs : List Block) (at k : ℕ) : Type 0 where
 not_yet : (b : Block) (at : ℕ) → at < b.from → holds at b ≡ false
 not_yet b at lt = grind (arith, nat_tests)
 
+pub searched_none : (xs : List Block) (at place : ℕ) → IsPlaceOf xs at place → Searched xs at place
+searched_none xs at place h = record { bound = h.bound; below = h.below; above = λ i d le lt. not_yet (get_or xs i d) at (h.above i d le lt) }
+
 get_same : (xs : List Block) (k : ℕ) (d e : Block) → k < length xs → get_or xs k d ≡ get_or xs k e
 get_same [] k d e lt = absurd (omega arith)
 get_same (x ∷ xs) zero d e lt = refl

@@ -108,6 +108,16 @@ none_in_stack from last at h low high = grind (arith, nat_tests)
 
 -- ---- a list that grows
 
+pub indexed_more : {A : Type 0} (P : ℕ → A → Type 0) (xs ys : List A) (x : A) (n : ℕ) → length xs ≡ n → ys ≡ xs ++ x ∷ [] → ((j : ℕ) (o : A) → j < n → o ≡ get_or xs j o → P j o) → P n x →
+    (j : ℕ) (o : A) → j < n + 1 → o ≡ get_or ys j o → P j o
+indexed_more P xs ys x n size is before here j o lt e =
+    elim (cases_eq j n) [
+      | inl same ↦
+          (let last : o ≡ x = e ∙ (ap (λ zs. get_or zs j o) is ∙ get_or_push xs x o j (size ∙ sym same)) in
+          subst (λ i. P i o) (sym same) (subst (λ y. P n y) (sym last) here))
+      | inr ne ↦ before j o (omega arith) (e ∙ (ap (λ zs. get_or zs j o) is ∙ get_or_append_left xs (x ∷ []) o j (omega arith)))
+    ]
+
 -- ---- a whole table
 
 index_past : {A : Type 0} (xs : List A) (k : ℕ) (d : A) → length xs ≤ k → get_or xs k d ≡ d

@@ -23,13 +23,13 @@ use elf_view::ImageView;
 use scale_base::{NoMemory, STACK_LEN, STACK_START};
 use std::alloc::Global;
 
-/// Whether the block has an address from one to another. It decides which pages are made, so speed and memory alone.
+/// Whether the block has an address from one to another.
 fn touches(block: &Block, from: u32, last: u32) -> bool {
     let begins = from <= block.from && !block.is_empty();
     block.from <= last && (begins || block.holds(from))
 }
 
-/// Whether the stack or a block has an address from one to another. It decides which pages are made, so speed and memory alone.
+/// Whether the stack or a block has an address from one to another.
 fn is_used(list: &ListMemory, from: u32, last: u32) -> bool {
     for block in &list.blocks {
         if touches(block, from, last) {
@@ -127,8 +127,7 @@ fn load_table(alloc: Global, list: &ListMemory) -> Result<PageTable, NoMemory>
     Ok(PageTable { groups })
 }
 
-/// The memory of an image before its first step, by pages. Which of the addresses that a segment or the stack has lie in a page, and which are
-/// looked up in the list of ranges, is free: it decides speed and memory alone.
+/// The memory of an image before its first step, by pages: those of each address that a segment or the stack has.
 pub fn load_pages(alloc: Global, view: &ImageView<'_>) -> Result<PageMemory, NoMemory>
     ensures bytes { IfOk result (λ m. page_bytes m ≡ image.loaded_byte view.now) }
     ensures layout { IfOk result (λ m. page_layout m ≡ rules.layout_of view.now) }

@@ -101,6 +101,19 @@ none_size : (n : ℕ) (x : Option ℕ) → length (replicate n x) ≡ n
 none_size zero x = refl
 none_size (suc n) x = ap suc (none_size n x)
 
+-- no place yet
+pub chains_start : (keys : List (Option ℕ)) (count : ℕ) (lasts befores : List (Option ℕ)) → lasts ≡ replicate count None → befores ≡ replicate (length keys) None → AreChainsBelow keys count 0 lasts befores
+chains_start keys count lasts befores l b = record {
+  last_size = ap length l ∙ none_size count None;
+  before_size = ap length b ∙ none_size (length keys) None;
+  last = λ k kl. record {
+    place = λ s h. absurd (none_some s (option_at lasts k) (ap (λ xs. option_at xs k) l ∙ none_at count k) h);
+    greatest = λ r rl has. absurd (let bad : ⊥ = omega arith in bad);
+  };
+  before = λ s k sl has. absurd (let bad : ⊥ = omega arith in bad);
+  keyless = λ s none. ap (λ xs. option_at xs s) b ∙ none_at (length keys) s;
+}
+
 -- all places
 pub chains_end : (keys : List (Option ℕ)) (count n : ℕ) (lasts befores : List (Option ℕ)) → n ≡ length keys → AreChainsBelow keys count n lasts befores → AreChains keys count (record { last = lasts; before = befores })
 chains_end keys count n lasts befores end was = record {

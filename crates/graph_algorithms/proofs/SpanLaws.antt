@@ -50,6 +50,15 @@ pub record AreJoined (range : NodeRange) (extent : List NodeRange) (n : ℕ) (wh
 pub joined_none : (range : NodeRange) (extent : List NodeRange) → AreJoined range extent 0 range
 joined_none range extent = record { kept = ((let x : range.from ≤ range.from = omega arith in x), (let x : range.to ≤ range.to = omega arith in x)); parts = λ p r lt. let bad : ⊥ = omega arith in absurd bad }
 
+pub joined_next : (range : NodeRange) (extent : List NodeRange) (n : ℕ) (part whole more : NodeRange) → slice_get extent n ≡ Some part → HasRange more whole → HasRange more part → AreJoined range extent n whole → AreJoined range extent (n + 1) more
+joined_next range extent n part whole more at one two was = record {
+  kept = has_then more whole range one was.kept;
+  parts = λ p r lt h. ⊎_elim
+      (λ (here : p ≡ n). subst (HasRange more) (some_same part r (slice_get extent n) at (ap (slice_get extent) (sym here) ∙ h)) two)
+      (λ (ne : p ≡ n → ⊥). let d : p ≢ n = ne in has_then more whole r one (was.parts p r (omega arith) h))
+      (cases_eq p n);
+}
+
 pub joined_all : (range : NodeRange) (extent : List NodeRange) (n : ℕ) (whole : NodeRange) → length extent ≤ n → AreJoined range extent n whole → (v : ℕ) → in_node_ranges extent v ≡ true → IsInSpan whole v
 joined_all range extent n whole end was v h =
     let w = in_one extent v h in
@@ -62,6 +71,14 @@ AreSpanned loops n whole = (i v : ℕ) (loop : LoopExtent) → i < n → slice_g
 
 pub spanned_none : (loops : List LoopExtent) (whole : NodeRange) → AreSpanned loops 0 whole
 spanned_none loops whole i v loop lt = let bad : ⊥ = omega arith in absurd bad
+
+pub spanned_next : (loops : List LoopExtent) (n : ℕ) (loop : LoopExtent) (whole more : NodeRange) → slice_get loops n ≡ Some loop → HasRange more whole → ((v : ℕ) → in_node_ranges loop.ranges.items v ≡ true → IsInSpan more v) → AreSpanned loops n whole → AreSpanned loops (n + 1) more
+spanned_next loops n loop whole more at one two was i v x lt h inside = ⊎_elim
+    (λ (here : i ≡ n).
+    let same : x ≡ loop = some_same x loop (slice_get loops n) (ap (slice_get loops) (sym here) ∙ h) at in
+    two v (subst (IsInside v) same inside))
+    (λ (ne : i ≡ n → ⊥). let d : i ≢ n = ne in has_among more whole v one (was i v x (omega arith) h inside))
+    (cases_eq i n)
 
 pub spanned_all : (loops : List LoopExtent) (count n : ℕ) (whole range : NodeRange) → length loops ≤ n → AreSpanned loops n whole → range.to ≤ count → ((v : ℕ) → v < count → IsInSpan whole v → IsInSpan range v) → IsSpan count loops range
 spanned_all loops count n whole range end was within all = record {

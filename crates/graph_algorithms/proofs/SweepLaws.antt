@@ -16,6 +16,8 @@ some_same : {A : Type 0} (a b : A) (o : Option A) → o ≡ Some a → o ≡ Som
 some_same a b o p q = cc
 
 -- ---- gains
+pub gains_same : (P : ℕ → ℕ → Type 0) (found : List ℕ) (pending : List Bool) → Gains P found pending found pending
+gains_same P found pending = record { found_size = refl; pending_size = refl; kept = λ v i h. h; only = λ v i h. inl h; quiet = λ v h. (refl, h) }
 
 pub gains_then : (P Q : ℕ → ℕ → Type 0) (f g h : List ℕ) (p q r : List Bool) → ((v i : ℕ) → Q v i → P v i) → Gains P f p g q → Gains Q g q h r → Gains P f p h r
 gains_then P Q f g h p q r weaker one two = record {

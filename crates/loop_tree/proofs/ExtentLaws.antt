@@ -26,6 +26,13 @@ below_next v is middle m at h lt k a kl g = ⊎_elim
     (λ (ne : k ≡ middle → ⊥). let d : k ≢ middle = ne in let less = is.ascending k middle a m (omega arith) g h in omega arith)
     (cases_eq k middle)
 
+-- the nodes from one that isn't
+pub above_next : (v : FlowGraph) → IsFlowGraph v → (middle m at : ℕ) → slice_get v.code.nodes middle ≡ Some m → at ≤ m → (k a : ℕ) → middle ≤ k → slice_get v.code.nodes k ≡ Some a → at ≤ a
+above_next v is middle m at h le k a kl g = ⊎_elim
+    (λ (e : k ≡ middle). let same : a ≡ m = some_same a m (slice_get v.code.nodes middle) (ap (slice_get v.code.nodes) (sym e) ∙ g) h in omega arith)
+    (λ (ne : k ≡ middle → ⊥). let d : k ≢ middle = ne in let less = is.ascending middle k m a (omega arith) h g in omega arith)
+    (cases_eq k middle)
+
 -- ---- ranges
 lt_same : (nodes : List ℕ) (at n k a : ℕ) → IsCountBelow nodes at n → slice_get nodes k ≡ Some a → nat_lt k n ≡ nat_lt a at
 lt_same nodes at n k a count g = ⊎_elim
@@ -77,6 +84,12 @@ none_taken : (p : Range → Bool) (rs : List Range) → list_any p (take 0 rs) �
 none_taken p [] = refl
 none_taken p (r ∷ rs) = refl
 
+pub ranges_start : (v : FlowGraph) → IsFlowGraph v → (note : LoopNote) (header : ℕ) (s : NodeRange) (extent : List NodeRange) → extent ≡ s ∷ [] → s.from ≡ header → s.to ≡ header + 1 →
+    slice_get v.code.nodes header ≡ Some note.header → AreFirstRanges v note 0 extent
+ranges_start v is note header s extent e sf st at k a g =
+    ap (λ xs. bodies.in_node_ranges xs k) e ∙ (or_false (bodies.in_node_range k s) ∙ (header_same v is header note.header s k a sf st at g ∙
+    (sym (or_false (a == note.header)) ∙ ap (λ x. (a == note.header) || x) (sym (none_taken (image.is_in a) note.ranges)))))
+
 pub ranges_next : (v : FlowGraph) (note : LoopNote) (n : ℕ) (r : Range) (s : NodeRange) (extent longer : List NodeRange) → longer ≡ extent ++ s ∷ [] → slice_get note.ranges n ≡ Some r →
     IsCountBelow v.code.nodes r.from s.from → IsCountBelow v.code.nodes r.to s.to → AreFirstRanges v note n extent → AreFirstRanges v note (n + 1) longer
 ranges_next v note n r s extent longer e at from to was k a g =
@@ -89,3 +102,6 @@ ranges_next v note n r s extent longer e at from to was k a g =
     (ap (λ x. ((a == note.header) || list_any (image.is_in a) (take n note.ranges)) || (x || false)) (range_same v.code.nodes r s k a from to g) ∙
     (or_step (a == note.header) (list_any (image.is_in a) (take n note.ranges)) (image.is_in a r) ∙
     ap (λ x. (a == note.header) || x) (sym more)))))
+
+pub ranges_end : (v : FlowGraph) (note : LoopNote) (n : ℕ) (extent : List NodeRange) → length note.ranges ≤ n → AreFirstRanges v note n extent → IsExtent v note extent
+ranges_end v note n extent end was k a g = was k a g ∙ ap (λ xs. (a == note.header) || list_any (image.is_in a) xs) (take_all n note.ranges end)

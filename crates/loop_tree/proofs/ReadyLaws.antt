@@ -108,6 +108,9 @@ body_last (y ∷ ys) x = body_last ys x
 abbrev pub IsKeptBody : FlowGraph → LoopNote → List ℕ → Type 0
 IsKeptBody v note body = IsNumberedBody v note body × IsAscending (length v.code.nodes) body
 
+pub bodies_start : (v : FlowGraph) (notes : List LoopNote) → AreBodies v notes 0 []
+bodies_start v notes = record { size = refl; body = λ k lt. let bad : ⊥ = omega arith in absurd bad }
+
 pub bodies_next : (v : FlowGraph) (notes : List LoopNote) (n : ℕ) (note : LoopNote) (body : List ℕ) (bodies longer : List (List ℕ)) → slice_get notes n ≡ Some note → longer ≡ bodies ++ body ∷ [] → IsKeptBody v note body → AreBodies v notes n bodies → AreBodies v notes (n + 1) longer
 bodies_next v notes n note body bodies longer at e is was = record {
   size = (let l = ap length e in let a = length-append bodies (body ∷ []) in let s = was.size in omega arith);

@@ -18,6 +18,13 @@ trips_le v note body trips are = ⊎_elim
     some_or_none : (n : ℕ) → (n ≡ 0) ⊎ (0 < n)
     some_or_none n = grind arith
 
+pub no_trips : (v : FlowGraph) (note : LoopNote) (body : List ℕ) → note.at_least ≡ 0 → AreTripsOf v note body 0
+no_trips v note body none = record {
+  whole = λ w. sym none;
+  more = λ no. refl;
+  turns = λ some. (let bad : ⊥ = omega arith in absurd bad);
+}
+
 -- one loop more
 pub trips_more : (v : FlowGraph) (notes : List LoopNote) (bodies : List (List ℕ)) (n x : ℕ) (trips more : List ℕ) → AreTrips v notes bodies n trips → more ≡ trips ++ x ∷ [] → AreTripsOf v (note_at notes n) (body_of bodies n) x → AreTrips v notes bodies (n + 1) more
 trips_more v notes bodies n x trips more are e here = subst (λ xs. AreTrips v notes bodies (n + 1) xs) (sym e) (record {

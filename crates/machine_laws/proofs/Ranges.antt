@@ -113,3 +113,7 @@ list_some : {A : Type 0} (P : A → Type 0) (xs : List A) (i : ℕ) → All P xs
 list_some P [] i h = tt
 list_some P (x ∷ xs) zero h = All-head P x xs h
 list_some P (x ∷ xs) (suc i) h = list_some P xs i (All-tail P x xs h)
+
+-- the range at a place of the text, if there is one
+pub text_range_at : (file : List ℕ) (image : Image) (i : ℕ) → image_of file ≡ Ok image → IfSome (slice_get image.text i) IsTextRange
+text_range_at file image i e = list_some IsTextRange image.text i (text_ranges_kept file image e)

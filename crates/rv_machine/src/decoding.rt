@@ -12,7 +12,7 @@ use rv_decode::decode;
 use scale_base::{NoMemory, Range};
 use std::alloc::Global;
 
-/// Whether the range has an address from one to another. It decides which words are decoded beforehand, so speed and memory alone.
+/// Whether the range has an address from one to another.
 fn meets(range: &Range, from: u32, last: u32) -> bool {
     range.from <= last && from < range.to
 }
@@ -25,7 +25,7 @@ pub struct Places<'a> {
 }
 
 impl Places<'_> {
-    /// Whether one of them has an address from one to another. It decides which words are decoded beforehand, so speed and memory alone.
+    /// Whether one of them has an address from one to another.
     fn meet(&self, from: u32, last: u32) -> bool {
         if let Some(range) = &self.keyed {
             if meets(range, from, last) {
@@ -108,9 +108,7 @@ fn code_group<M: Memory>(
     Ok(Some(CodeGroup { pages }))
 }
 
-/// The instructions of the words in these places, as far as no step can change them. What stands elsewhere isn't known. Of which words the
-/// instruction is known is free: it decides speed and memory alone. A known instruction is performed as a fetched one is, by the same code: it
-/// saves its fetch and its decoding, and is no second engine.
+/// The instructions of the words in these places, as far as no step can change them. What stands elsewhere isn't known.
 pub fn decode_code<M: Memory>(
     alloc: Global,
     memory: &M,

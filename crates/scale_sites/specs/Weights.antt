@@ -62,9 +62,12 @@ is_patched g marks u = any_below g.edges (λ e. nat_eq (g.source e) u && some_ma
 abbrev pub jumps_of : Graph → (ℕ → Bool) → (ℕ → List Mark) → ℕ → ℕ
 jumps_of g branch marks e = cond (is_patched g marks (g.source e)) (cond (branch e) 2 1) 0
 
--- the extra weights
+-- the extra and the stored weights
 abbrev pub extra_weight : Graph → Costs → (ℕ → Bool) → (ℕ → List Mark) → ℕ → ℕ
 extra_weight g costs branch marks e = extra_of costs (jumps_of g branch marks e) (marks e)
+
+abbrev pub stored_weight : Graph → Costs → (ℕ → Bool) → (ℕ → List Mark) → (ℕ → ℕ) → ℕ → ℕ
+stored_weight g costs branch marks w e = w e + extra_weight g costs branch marks e
 
 -- The law: the extra cycles of a branch's edge with a switch are a jump, those up to the port store, and the tail.
 abbrev pub ExtraSplits : Type 0

@@ -59,6 +59,10 @@ pub reach_first : (list : List StubSite) (k at : ℕ) (site : StubSite) → IsNe
 reach_first list k at site h near =
     let p = and_parts (reaches site.at at) (stub_reaches_of at (site_of site).place) (near_first list k at site h near) in p.1
 
+pub jump_first : (list : List StubSite) (k at : ℕ) (site : StubSite) → IsNext list k site → out_of_reach at (map site_of (drop k list)) ≡ None → reaches site.at at ≡ true
+jump_first list k at site h near =
+    let p = and_parts (reaches site.at at) (stub_reaches_of at (site_of site).place) (near_first list k at site h near) in p.0
+
 pub near_rest : (list : List StubSite) (k at at2 : ℕ) (site : StubSite) → IsNext list k site → at2 ≡ at + 4 * stub_len (site_of site) → out_of_reach at (map site_of (drop k list)) ≡ None → out_of_reach at2 (map site_of (drop (k + 1) list)) ≡ None
 near_rest list k at at2 site h e near =
     let p = near_here list k at site h near in ap (λ a. out_of_reach a (map site_of (drop (k + 1) list))) e ∙ p.1
@@ -73,6 +77,14 @@ stubs_rest list k at at2 rows rows2 site now new total h e f before pushed =
     ∙ (append_assoc now (code_bytes here) (code_bytes rest)
     ∙ (ap (λ l. now ++ l) (sym (code_bytes_append here rest))
     ∙ (ap (λ ss. now ++ code_bytes (stubs_code at rows ss)) (sym (sites_from list k site h)) ∙ before)))))
+
+pub patches_rest : (list : List StubSite) (k at at2 : ℕ) (site : StubSite) (now new total : List Patch) → IsNext list k site → at2 ≡ at + 4 * stub_len (site_of site) → now ++ patches_from at (map site_of (drop k list)) ≡ total → new ≡ now ++ record { at = site.at; word = word_of (jump site.at at) } ∷ [] → new ++ patches_from at2 (map site_of (drop (k + 1) list)) ≡ total
+patches_rest list k at at2 site now new total h e before pushed =
+    let rest = patches_from (at + 4 * stub_len (site_of site)) (map site_of (drop (k + 1) list)) in
+    ap (λ a. new ++ patches_from a (map site_of (drop (k + 1) list))) e
+    ∙ (ap (λ l. l ++ rest) pushed
+    ∙ (append_assoc now (record { at = site.at; word = word_of (jump site.at at) } ∷ []) rest
+    ∙ (ap (λ ss. now ++ patches_from at ss) (sym (sites_from list k site h)) ∙ before)))
 
 -- bytes of words in two parts
 pub words_append : (xs ys : List ℕ) → flat_map word_bytes (xs ++ ys) ≡ flat_map word_bytes xs ++ flat_map word_bytes ys

@@ -24,6 +24,14 @@ abbrev pub AreTurnsTo : FlowGraph → LoopView → (ℕ → ℕ) → ℕ → Lis
 AreTurnsTo v t w l around = (n : Numbers) → AreSolvedBy v t w n → (k : ℕ) → k < length v.code.nodes →
     number_in_place around k ≡ sum_below l (λ j. only ((loops v t).inside j (node_address v k)) (all_of (loops v t) n j))
 
+-- the numbers of a body are different
+pub body_distinct : (v : FlowGraph) (t : LoopView) (extent : ℕ → ℕ → Bool) → IsLoopTree v extent t → (l : ℕ) → l < length t.headers → AreDistinct (body_of t.bodies l)
+body_distinct v t extent is l ll i j lt jl same =
+    let il : i < length (body_of t.bodies l) = omega arith in
+    let low : number_in_place (body_of t.bodies l) i < number_in_place (body_of t.bodies l) j =
+    (is.body l ll).ascending i j (number_in_place (body_of t.bodies l) i) (number_in_place (body_of t.bodies l) j) lt (slice_get-get_or (body_of t.bodies l) i 0 il) (slice_get-get_or (body_of t.bodies l) j 0 jl) in
+    let bad : ⊥ = omega arith in bad
+
 -- what the visits have at the header of a loop
 pub turns_at_header : {v : FlowGraph} {t : LoopView} {w : ℕ → ℕ} {visits : List Visit} {n : Numbers} (l : ℕ) → HasTree v t → AreAllVisited v t w visits → AreSolvedBy v t w n → l < length t.headers →
     (visit_at visits (number_in_place t.headers l)).turns ≡ all_of (loops v t) n l
