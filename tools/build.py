@@ -274,7 +274,8 @@ class Build:
         most, memory = processors(), 0.85 * free_memory()
         while len(self.built) < len(self.below):
             left = [it for it in self.below if it not in self.built and it not in [run.crate for run in self.running]]
-            self.start_some(sorted((it for it in left if self.below[it] <= self.built), key=lambda it: -ahead[it]), own, most, memory)
+            ready = sorted((it for it in left if self.below[it] <= self.built), key=lambda it: -ahead[it])
+            self.start_some(ready, own, ahead, most, memory)
             self.tell()
             time.sleep(LOOK)
             self.stop_on_signal()
@@ -282,15 +283,17 @@ class Build:
             for run in [it for it in self.running if it.status is not None]:
                 self.take_result(run)
 
-    def start_some(self, ready, own, most, memory):
-        """Starts of what can be proved as much as there is room for. Each gets a processor, the first also those that are left over."""
+    def start_some(self, ready, own, ahead, most, memory):
+        """Starts of what can be proved as much as there is room for, a job each. The first gets those that are left over, and two where the end waits for it."""
         for others, crate in zip(range(len(ready))[::-1], ready):
             idle, room = most - sum(it.jobs for it in self.running), memory - sum(it.need for it in self.running)
             need = need_of(crate, own, self.below)
             is_alone = crate in self.alone or any(it.crate in self.alone for it in self.running)
             if self.running and (idle < 1 or room < need or is_alone):
                 return
-            jobs = max(min(idle - others, MOST_JOBS, 1 + int((room / need - 1) / JOB_SHARE)), 1)
+            leads = all(ahead[crate] > ahead[it.crate] for it in self.running)
+            jobs = max(idle - others, min(2, most) if leads else 1)
+            jobs = max(min(jobs, MOST_JOBS, 1 + int((room / need - 1) / JOB_SHARE)), 1)
             self.start(crate, jobs, need * (1 + JOB_SHARE * (jobs - 1)))
 
     def start(self, crate, jobs, need):
