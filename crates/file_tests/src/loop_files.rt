@@ -3,6 +3,7 @@
 use crate::fixtures::{Reader, SECTIONS, answer, expect_answers, view_of};
 use loop_file::{LoopNote, LoopNotes, RangeList, read_loops};
 use scale_base::Range;
+use std::alloc::Global;
 use std::test::Fail;
 
 /// Loop files, and what is answered.
