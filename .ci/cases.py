@@ -129,20 +129,17 @@ class Shelf:
         base, lines = self.take(name, "image")
         return images.Image(lines, self.image(base) if base else None)
 
-    def unfolded(self, lines):
-        """Lines in which those of macros stand in the place of each line that names one."""
-        made = []
-        for line in lines:
-            name, values = images.instruction(line)
-            holder = self.holder(name)
-            if not holder or holder.lines[name][0] != "macro":
-                made.append(line)
-                continue
-            words, part = self.take(name, "macro")
-            if len(words) != len(values):
-                raise Wrong("%s stands for %d values" % (name, len(words)))
-            made += [re.sub(r"\\(\w+)", lambda word: dict(zip(words, values))[word[1]], each) for each in part]
-        return made
+    def unfolded(self, line):
+        """The lines of the macro that a line names, or the line itself."""
+        name, values = images.instruction(line)
+        holder = self.holder(name)
+        if not holder or holder.lines[name][0] != "macro":
+            return [line]
+        words, part = self.take(name, "macro")
+        if len(words) != len(values):
+            raise Wrong("%s stands for %d values" % (name, len(words)))
+        given = dict(zip(words, values))
+        return [re.sub(r"\\(\w+)", lambda word: given[word[1]], each) for each in part]
 
     def file(self, name):
         """The bytes of a file."""
@@ -294,7 +291,9 @@ class Reader:
         file = re.fullmatch(r"file (%s)(?: = (.+))?" % NAME, line)
         claim = re.fullmatch(r"(data/%s) is (.+)" % NAME, line)
         if image:
-            self.shelf.add(image[1], place, "image", (image[2], self.shelf.unfolded(self.code())))
+            lines = self.code()
+            unfolded = {line: self.shelf.unfolded(line) for line in set(lines)}
+            self.shelf.add(image[1], place, "image", (image[2], [each for line in lines for each in unfolded[line]]))
         elif macro:
             self.shelf.add(macro[1], place, "macro", (macro[2].split(), self.code()))
         elif file and file[2]:

@@ -33,8 +33,8 @@ ALIKE = [
 ]
 
 
-class Differs(Exception):
-    """What was wanted and didn't come."""
+class TooLong(Exception):
+    """A run doesn't end."""
 
 
 def shown(content):
@@ -42,25 +42,23 @@ def shown(content):
     return "".join("    %s\n" % line for line in content.decode(errors="backslashreplace").splitlines()) or "    (nothing)\n"
 
 
-def compare(what, wanted, got):
-    """That a status or names are as wanted."""
-    if wanted != got:
-        raise Differs("%s: wanted %s, got %s\n" % (what, wanted, got))
+def difference(what, wanted, got):
+    """What is to be told of a status or of names: nothing where they are as wanted."""
+    return "" if wanted == got else "  %s: wanted %s, got %s\n" % (what, wanted, got)
 
 
-def compare_text(what, wanted, got):
-    """That a text is as wanted."""
-    if wanted != got:
-        raise Differs("%s: wanted\n%s  got\n%s" % (what, shown(wanted), shown(got)))
+def text_difference(what, wanted, got):
+    """What is to be told of a text."""
+    return "" if wanted == got else "  %s: wanted\n%s  got\n%s" % (what, shown(wanted), shown(got))
 
 
-def compare_file(name, wanted, got):
-    """That a file is as wanted; else where they first differ."""
+def file_difference(name, wanted, got):
+    """What is to be told of a file: where it first differs."""
     if wanted == got:
-        return
+        return ""
     at = next((k for k, (one, other) in enumerate(zip(wanted, got)) if one != other), min(len(wanted), len(got)))
     parts = [" ".join("%02x" % byte for byte in content[at : at + 16]) or "its end" for content in (wanted, got)]
-    raise Differs("%s: %d bytes wanted, %d got; from byte %d on: wanted %s, got %s\n" % (name, len(wanted), len(got), at, *parts))
+    return "  %s: %d bytes wanted, %d got; from byte %d on: wanted %s, got %s\n" % (name, len(wanted), len(got), at, *parts)
 
 
 def files_in(folder):
@@ -83,12 +81,14 @@ def run(program, folder, words, output=subprocess.PIPE, limit=None):
     try:
         return subprocess.run([program] + words, cwd=folder, **how)
     except subprocess.TimeoutExpired:
-        raise Differs("it ran for more than %d seconds\n" % SECONDS) from None
+        raise TooLong("  it ran for more than %d seconds\n" % SECONDS) from None
 
 
 def check(program, case):
-    """Runs a case."""
+    """Runs a case; gives what differs."""
     given = {name: content for name, content in case.given().items() if name not in case.folders}
+    wanted = {**dict.fromkeys(case.folders), **given, **case.kept()}
+    free = {name for name, phrase in case.stored.items() if phrase == "anything"}
     with tempfile.TemporaryDirectory(prefix="scale-commands-") as folder:
         for name in case.folders:
             os.mkdir(os.path.join(folder, name))
@@ -101,61 +101,57 @@ def check(program, case):
             with open(os.path.join(folder, case.output), "wb") as output:
                 done = run(program, folder, case.arguments(), output, case.limit)
         found = files_in(folder)
-    compare("status", case.status, done.returncode)
-    compare_text("standard output", case.text(), done.stdout or b"")
-    compare_text("standard error", b"", done.stderr)
-    wanted = {**dict.fromkeys(case.folders), **given, **case.kept()}
-    free = {name for name, phrase in case.stored.items() if phrase == "anything"}
-    compare("files", sorted(set(wanted) - free), sorted(set(found) - free))
-    for name in set(wanted) - free - set(case.folders):
-        compare_file(name, wanted[name], found[name])
+    told = difference("status", case.status, done.returncode)
+    told += text_difference("standard output", case.text(), done.stdout or b"")
+    told += text_difference("standard error", b"", done.stderr)
+    told += difference("files", sorted(set(wanted) - free), sorted(set(found) - free))
+    for name in sorted((set(wanted) & set(found)) - free - set(case.folders)):
+        told += file_difference(name, wanted[name], found[name])
+    return told
 
 
 def made(program, line):
-    """What `make` prints and stores."""
+    """What `make` answers, prints and stores."""
     with tempfile.TemporaryDirectory(prefix="scale-commands-") as folder:
         done = run(program, folder, line.split())
-        compare("status", 0, done.returncode)
-        compare_text("standard error", b"", done.stderr)
-        return done.stdout, files_in(folder)
+        return done.returncode, done.stdout, files_in(folder)
 
 
 def check_alike(program, one, other):
-    """That both make the same program, whose images exit, and that the scaled one spends at most what it would at its starting level."""
-    text, found = made(program, one)
-    again, found_again = made(program, other)
-    compare_text("what %s prints" % other, text, again)
-    compare("files", MADE, sorted(found))
-    for name in MADE:
-        compare_file(name, found[name], found_again.get(name, b""))
-    runs = text.decode().split("end exit 0\n")
-    compare("ends of runs", 2, len(runs) - 1)
-    scaled = dict(line.split(" ", 1) for line in runs[2].splitlines())
-    if int(scaled["energy"]) > int(scaled["held"]):
-        raise Differs("energy: wanted at most %s, got %s\n" % (scaled["held"], scaled["energy"]))
+    """What differs where both make the same program, whose images exit, and whose scaled one spends at most its held energy."""
+    status, text, found = made(program, one)
+    again, text_again, found_again = made(program, other)
+    told = difference("statuses", (0, 0), (status, again)) + text_difference("what the second one prints", text, text_again)
+    told += difference("files", (MADE, MADE), (sorted(found), sorted(found_again)))
+    for name in sorted(set(found) & set(found_again)):
+        told += file_difference(name, found[name], found_again[name])
+    _, *runs = text.decode().split("end exit 0\n")
+    told += difference("runs that exit", 2, len(runs))
+    for scaled in runs[1:]:
+        numbers = dict(line.split(" ", 1) for line in scaled.splitlines())
+        told += difference("energy at most held", True, int(numbers["energy"]) <= int(numbers["held"]))
+    return told
 
 
 def claimed(claims):
     """What differs of the claims on files of the crate's `data`."""
     for place, shelf, data, phrase in claims:
-        try:
-            compare_file(data, shelf.bytes(phrase), shelf.bytes(data))
-        except Differs as error:
-            yield "%s: %s" % (place, error)
+        told = file_difference(data, shelf.bytes(phrase), shelf.bytes(data))
+        if told:
+            yield "%s:\n%s" % (place, told)
 
 
 def differences(program, found, alike):
     """What differs in the runs of one program."""
-    for case in found:
+    runs = [("%s: %s" % (case.place, case.line), check, (case,)) for case in found]
+    runs += [("scale " + pair[0], check_alike, pair) for pair in alike]
+    for name, checked, given in runs:
         try:
-            check(program, case)
-        except Differs as error:
-            yield "%s: %s\n  %s" % (case.place, case.line, error)
-    for one, other in alike:
-        try:
-            check_alike(program, one, other)
-        except Differs as error:
-            yield "scale %s\n  %s" % (one, error)
+            told = checked(program, *given)
+        except TooLong as error:
+            told = str(error)
+        if told:
+            yield "%s\n%s" % (name, told)
 
 
 def check_all(programs, folder=CASES, alike=ALIKE):

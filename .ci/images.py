@@ -186,7 +186,7 @@ def length(line):
 
 
 def labelled(lines, start, labels):
-    """The lines without their labels, whose addresses are added."""
+    """The lines without their labels, whose addresses are added, and the address behind them."""
     here, rest = start, []
     for line in lines:
         if line.endswith(":"):
@@ -194,7 +194,7 @@ def labelled(lines, start, labels):
         else:
             rest.append(line)
             here += length(line)
-    return rest
+    return rest, here
 
 
 def address_of(target, labels):
@@ -256,7 +256,7 @@ class Image:
         self.block, self.level = None, None
         part = self.code
         for line in self.lines:
-            name, _, rest = line.partition(" ")
+            name, _, rest = line.partition(" ") if line.startswith(".") else (None, None, None)
             if name == ".header":
                 self.header.update(fields(HEADER, rest))
             elif name == ".segment":
@@ -285,13 +285,13 @@ class Image:
     def bytes(self):
         """The file."""
         labels = {}
-        code = labelled(self.code, ENTRY, labels)
-        end = page_behind(ENTRY + sum(map(length, code)))
-        block = labelled(self.block or [], end, labels)
-        parts = [(ENTRY, bytearray(assembled(code, ENTRY, labels))), (end, bytearray(assembled(block, end, labels)))]
+        code, end = labelled(self.code, ENTRY, labels)
+        behind = page_behind(end)
+        block, _ = labelled(self.block or [], behind, labels)
+        parts = [(ENTRY, bytearray(assembled(code, ENTRY, labels))), (behind, bytearray(assembled(block, behind, labels)))]
         for address, lines in self.patches:
             start, part = next(((start, part) for start, part in reversed(parts) if start <= address), (0, b""))
-            patch = assembled(labelled(lines, address, labels), address, labels)
+            patch = assembled(labelled(lines, address, labels)[0], address, labels)
             if address + len(patch) > start + len(part):
                 raise Wrong("nothing stands at 0x%x" % address)
             part[address - start : address - start + len(patch)] = patch
