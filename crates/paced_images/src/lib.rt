@@ -1,5 +1,5 @@
 //! Images whose switches of level stand on chosen edges, and whose levels keep budgets.
-//! Tests: crates/answer_tests/src/paced_images.rt.
+//! Tests: crates/answer_tests/src/pacing.rt.
 #![tactic(auto)]
 
 mod pacing;
