@@ -152,8 +152,8 @@ keys_below v keys flow are s k has =
     let same : (graph v).owner (node_address v s) ≡ k = same_Some ((graph v).owner (node_address v s)) k (sym (are.each s nl) ∙ has) in
     subst (λ f. f < length v.code.functions) same (owner_below v s flow nl)
 
--- The nodes of function f from some number on, of which the next lies below; and their places.
-pub record IsBucketFrom (v : FlowGraph) (keys : List (Option ℕ)) (f : ℕ) (next : Option ℕ) (bucket places : List ℕ) : Type 0 where
+-- The nodes of function f from some number on, of which the next lies below.
+pub record IsBucketFrom (v : FlowGraph) (keys : List (Option ℕ)) (f : ℕ) (next : Option ℕ) (bucket : List ℕ) : Type 0 where
   pub from : ℕ
   pub last : IsLastBelow keys from f next
   pub high : (i : ℕ) → i < length bucket → from ≤ number_in_place bucket i
@@ -162,11 +162,9 @@ pub record IsBucketFrom (v : FlowGraph) (keys : List (Option ℕ)) (f : ℕ) (ne
   pub own : (i : ℕ) → i < length bucket → (graph v).owner (node_address v (number_in_place bucket i)) ≡ f
   pub whole : (k : ℕ) → from ≤ k → k < length v.code.nodes → (graph v).owner (node_address v k) ≡ f → (i : ℕ) × (i < length bucket) × (number_in_place bucket i ≡ k)
   pub once : AreDistinct bucket
-  pub each : (i : ℕ) → i < length bucket → number_in_place places (number_in_place bucket i) ≡ i
-  pub places_size : length places ≡ length v.code.nodes
 
-pub bucket_first : (v : FlowGraph) (keys : List (Option ℕ)) (f : ℕ) (next : Option ℕ) (places : List ℕ) → AreOwnerKeys v (length v.code.nodes) keys → IsLastBelow keys (length keys) f next → length places ≡ length v.code.nodes → IsBucketFrom v keys f next [] places
-bucket_first v keys f next places are last size = record {
+pub bucket_first : (v : FlowGraph) (keys : List (Option ℕ)) (f : ℕ) (next : Option ℕ) → AreOwnerKeys v (length v.code.nodes) keys → IsLastBelow keys (length keys) f next → IsBucketFrom v keys f next []
+bucket_first v keys f next are last = record {
   from = length v.code.nodes;
   last = subst (λ n. IsLastBelow keys n f next) are.size last;
   high = λ i il. let bad : ⊥ = omega arith in absurd bad;
@@ -175,12 +173,10 @@ bucket_first v keys f next places are last size = record {
   own = λ i il. let bad : ⊥ = omega arith in absurd bad;
   whole = λ k low high own. let bad : ⊥ = omega arith in absurd bad;
   once = λ i j lt jl. let bad : ⊥ = omega arith in absurd bad;
-  each = λ i il. let bad : ⊥ = omega arith in absurd bad;
-  places_size = size;
 }
 
-pub next_is : (v : FlowGraph) (keys : List (Option ℕ)) (f k : ℕ) (bucket places : List ℕ) → AreOwnerKeys v (length v.code.nodes) keys → IsBucketFrom v keys f (Some k) bucket places → (k < length v.code.nodes) × HasKey keys k f
-next_is v keys f k bucket places are is =
+pub next_is : (v : FlowGraph) (keys : List (Option ℕ)) (f k : ℕ) (bucket : List ℕ) → AreOwnerKeys v (length v.code.nodes) keys → IsBucketFrom v keys f (Some k) bucket → (k < length v.code.nodes) × HasKey keys k f
+next_is v keys f k bucket are is =
     let at = is.last.place k refl in
     let low = at.0 in
     let room = is.room in
@@ -195,9 +191,8 @@ at_push : (xs : List ℕ) (x : ℕ) → number_in_place (xs ++ x ∷ []) (length
 at_push [] x = refl
 at_push (y ∷ ys) x = at_push ys x
 
-pub bucket_more : (v : FlowGraph) (keys : List (Option ℕ)) (f k : ℕ) (next : Option ℕ) (bucket places : List ℕ) → AreOwnerKeys v (length v.code.nodes) keys → IsBucketFrom v keys f (Some k) bucket places → IsLastBelow keys k f next →
-    IsBucketFrom v keys f next (bucket ++ k ∷ []) (slice_set places k (length bucket))
-bucket_more v keys f k next bucket places are is last = record {
+pub bucket_more : (v : FlowGraph) (keys : List (Option ℕ)) (f k : ℕ) (next : Option ℕ) (bucket : List ℕ) → AreOwnerKeys v (length v.code.nodes) keys → IsBucketFrom v keys f (Some k) bucket → IsLastBelow keys k f next → IsBucketFrom v keys f next (bucket ++ k ∷ [])
+bucket_more v keys f k next bucket are is last = record {
   from = k;
   last = last;
   high = λ i il. either i il (λ x. k ≤ x) (λ low. let h = is.high i low in let b = below in let r : k ≤ number_in_place bucket i = omega arith in r) (omega arith);
@@ -224,23 +219,13 @@ bucket_more v keys f k next bucket places are is last = record {
       let eq : number_in_place bucket i ≡ k = sym (before_push bucket k i il) ∙ same ∙ ap (number_in_place (bucket ++ k ∷ [])) last_one ∙ at_push bucket k in
       let bad : ⊥ = omega arith in absurd bad)
       (cases_lt j (length bucket));
-  each = λ i il. ⊎_elim
-      (λ (low : i < length bucket).
-      let up = is.high i low in let lower = below in
-      let other : number_in_place bucket i ≢ k = (λ same. let bad : ⊥ = omega arith in bad) in
-      ap (number_in_place (slice_set places k (length bucket))) (before_push bucket k i low) ∙ get_or-set_other places k (number_in_place bucket i) (length bucket) 0 other ∙ is.each i low)
-      (λ (high : length bucket ≤ i).
-      let last_one : i ≡ length bucket = (let s = size in omega arith) in
-      ap (number_in_place (slice_set places k (length bucket))) (ap (number_in_place (bucket ++ k ∷ [])) last_one ∙ at_push bucket k) ∙ get_or-set_same places k (length bucket) 0 (let s = is.places_size in let h = here.0 in omega arith) ∙ sym last_one)
-      (cases_lt i (length bucket));
-  places_size = length-set places k (length bucket) ∙ is.places_size;
 }
   where
     size : length (bucket ++ k ∷ []) ≡ length bucket + 1
     size = length-append bucket (k ∷ [])
 
     here : (k < length v.code.nodes) × HasKey keys k f
-    here = next_is v keys f k bucket places are is
+    here = next_is v keys f k bucket are is
 
     below : k < is.from
     below = (is.last.place k refl).0
@@ -254,8 +239,8 @@ bucket_more v keys f k next bucket places are is last = record {
         (λ (high : length bucket ≤ i). let last_one : i ≡ length bucket = (let s = size in omega arith) in subst P (sym (ap (number_in_place (bucket ++ k ∷ [])) last_one ∙ at_push bucket k)) new)
         (cases_lt i (length bucket))
 
-pub bucket_last : (v : FlowGraph) (keys : List (Option ℕ)) (f : ℕ) (bucket places : List ℕ) → AreOwnerKeys v (length v.code.nodes) keys → IsBucketFrom v keys f None bucket places → IsBucket v f bucket
-bucket_last v keys f bucket places are is = record {
+pub bucket_last : (v : FlowGraph) (keys : List (Option ℕ)) (f : ℕ) (bucket : List ℕ) → AreOwnerKeys v (length v.code.nodes) keys → IsBucketFrom v keys f None bucket → IsBucket v f bucket
+bucket_last v keys f bucket are is = record {
   within = is.within;
   own = is.own;
   whole = λ k kl own. ⊎_elim

@@ -1,6 +1,6 @@
 -- The bodies of loops by the numbers of nodes, the edges of a turn, and the edges that enter loops.
-use Rattle.std.proofs.Common.{◌≡◌, ◌≢◌, ℕ, zero, suc, ◌+◌, ◌-◌, ◌<◌, ◌≤◌, ◌⊎◌, ◌↔◌, Bool, true, false, not, ◌&&◌, nat_eq, List, [], ◌∷◌, ◌++◌, map, length, length-append, slice_get, slice_set, option_map, Option, Some, None, refl, sym, ap, ◌∙◌, subst, arith, ⊎_elim, get_or-set_other, get_or-set_same, length-set}
-use Rattle.std.proofs.lemmas.Bool.{cases_lt, eqb-true, eq-eqb, ne_eqb}
+use Rattle.std.proofs.Common.{◌≡◌, ◌≢◌, ℕ, zero, suc, ◌<◌, ◌⊎◌, ◌↔◌, Bool, true, false, not, ◌&&◌, nat_eq, List, [], ◌∷◌, map, length, slice_get, slice_set, option_map, Option, Some, None, refl, sym, ap, ◌∙◌, subst, arith, ⊎_elim, get_or-set_other, get_or-set_same, length-set}
+use Rattle.std.proofs.lemmas.Bool.{eqb-true, eq-eqb, ne_eqb}
 use Rattle.std.proofs.lemmas.List.{length-map}
 use Rattle.std.proofs.lemmas.Option.{slice_get-get_or, slice_get_within, get_or_from_slice_get, slice_get-map, same_Some, none-some}
 use Rattle.graph_algorithms.specs.Arcs.{number_in_place}
@@ -9,15 +9,13 @@ use Rattle.cost_theory.specs.LeastTurns.{turn_step, turn_last}
 use Rattle.cost_theory.specs.Lists.{or_true, is_among, body_of}
 use Rattle.cost_theory.proofs.Laws.{leads_to_header, headers-distinct, accepted_entered}
 use Rattle.code_graph.specs.FlowGraph.{FlowGraph, graph, IsFlowGraph}
-use Rattle.code_graph.proofs.Laws.{few_once}
 use Rattle.loop_tree.specs.Noted.{node_address}
-use Rattle.loop_tree.specs.Found.{IsAscending}
 use Rattle.loop_tree.proofs.Laws.{one_number}
 use Rattle.loop_tree.specs.Tree.{LoopView, loops, IsLoopTree}
 use Rattle.graph_algorithms.specs.Keys.{HasKey, AreKeys, option_at}
 use Rattle.least_cycles.specs.declared.turns.Body.{Body}
 use Rattle.least_cycles.specs.Functions.{is_in_flags, IsFromFirst}
-use Rattle.least_cycles.specs.Charging.{AreHeaderLoops, IsInto, IsEntered, IsBodyOf, header_key, AreHeaderKeys}
+use Rattle.least_cycles.specs.Charging.{AreHeaderLoops, IsInto, IsEntered, header_key, AreHeaderKeys}
 use Rattle.least_cycles.specs.Passes.{IsLoopBody, AreKindsIn}
 use Rattle.least_cycles.proofs.PriceLaws.{owner_below}
 
@@ -231,127 +229,3 @@ kinds_first b turns stays one two = record {
   turn = λ d dl done. let lt : done.0 < 0 = done.1 in let bad : ⊥ = omega arith in absurd bad;
   stay = λ d dl done. let lt : done.0 < 0 = done.1 in let bad : ⊥ = omega arith in absurd bad;
 }
-
--- ---- a body, the last first
-
--- the numbers of a list from place i on, the last first, and the place of each
-pub record IsReversedTo (body : List ℕ) (i : ℕ) (nodes spots : List ℕ) (count : ℕ) : Type 0 where
-  pub size : length nodes + i ≡ length body
-  pub each : (j m : ℕ) → j < length nodes → j + m + 1 ≡ length body → number_in_place nodes j ≡ number_in_place body m
-  pub spot : (j : ℕ) → j < length nodes → number_in_place spots (number_in_place nodes j) ≡ j
-  pub spots_size : length spots ≡ count
-
-pub reversed_first : (body spots : List ℕ) (count : ℕ) → length spots ≡ count → IsReversedTo body (length body) [] spots count
-reversed_first body spots count size = record {
-  size = omega arith;
-  each = λ j m jl sum. let bad : ⊥ = omega arith in absurd bad;
-  spot = λ j jl. let bad : ⊥ = omega arith in absurd bad;
-  spots_size = size;
-}
-
-pub reversed_more : (body : List ℕ) (i n : ℕ) (nodes spots : List ℕ) (count : ℕ) → IsAscending count body → n ≡ length nodes → IsReversedTo body (i + 1) nodes spots count → IsReversedTo body i (nodes ++ number_in_place body i ∷ []) (slice_set spots (number_in_place body i) n) count
-reversed_more body i n nodes spots count ascends is_n is = record {
-  size = let s = size in let old = is.size in omega arith;
-  each = λ j m jl sum. ⊎_elim
-      (λ (low : j < length nodes). before_push nodes x j low ∙ is.each j m low sum)
-      (λ (high : length nodes ≤ j).
-      let s = size in let old = is.size in
-      let here : j ≡ length nodes = omega arith in
-      let place : i ≡ m = omega arith in
-      ap (number_in_place (nodes ++ x ∷ [])) here ∙ at_push nodes x ∙ ap (number_in_place body) place)
-      (cases_lt j (length nodes));
-  spot = λ j jl. ⊎_elim
-      (λ (low : j < length nodes).
-      ap (number_in_place (slice_set spots x n)) (before_push nodes x j low) ∙ get_or-set_other spots x (number_in_place nodes j) n 0 (other j low) ∙ is.spot j low)
-      (λ (high : length nodes ≤ j).
-      let s = size in
-      let here : j ≡ length nodes = omega arith in
-      ap (number_in_place (slice_set spots x n)) (ap (number_in_place (nodes ++ x ∷ [])) here ∙ at_push nodes x) ∙ get_or-set_same spots x n 0 (let c = is.spots_size in let w = within in omega arith) ∙ is_n ∙ sym here)
-      (cases_lt j (length nodes));
-  spots_size = length-set spots x n ∙ is.spots_size;
-}
-  where
-    x : ℕ
-    x = number_in_place body i
-
-    size : length (nodes ++ x ∷ []) ≡ length nodes + 1
-    size = length-append nodes (x ∷ [])
-
-    il : i < length body
-    il = let old = is.size in omega arith
-
-    within : x < count
-    within = ascends.within i x (slice_get-get_or body i 0 il)
-
-    before_push : (xs : List ℕ) (y j : ℕ) → j < length xs → number_in_place (xs ++ y ∷ []) j ≡ number_in_place xs j
-    before_push [] y j lt = let bad : ⊥ = omega arith in absurd bad
-    before_push (u ∷ us) y zero lt = refl
-    before_push (u ∷ us) y (suc j) lt = before_push us y j (omega arith)
-
-    at_push : (xs : List ℕ) (y : ℕ) → number_in_place (xs ++ y ∷ []) (length xs) ≡ y
-    at_push [] y = refl
-    at_push (u ∷ us) y = at_push us y
-
-    other : (j : ℕ) → j < length nodes → number_in_place nodes j ≢ x
-    other j low same =
-        let old = is.size in
-        let m = length body - (j + 1) in
-        let sum : j + m + 1 ≡ length body = omega arith in
-        let at : number_in_place nodes j ≡ number_in_place body m = is.each j m low sum in
-        let ml : m < length body = omega arith in
-        let rises : x < number_in_place body m = ascends.ascending i m x (number_in_place body m) (omega arith) (slice_get-get_or body i 0 il) (slice_get-get_or body m 0 ml) in
-        let bad : ⊥ = omega arith in bad
-
-module _ (v : FlowGraph) (t : LoopView) (extent : ℕ → ℕ → Bool) (l : ℕ) (nodes spots : List ℕ) (flow : IsFlowGraph v) (tree : IsLoopTree v extent t) (ll : l < length t.headers) (is : IsReversedTo (body_of t.bodies l) 0 nodes spots (length v.code.nodes)) where
-  abbrev body : List ℕ
-  body = body_of t.bodies l
-
-  ascends : IsAscending (length v.code.nodes) body
-  ascends = tree.body l ll
-
-  place : (j : ℕ) → j < length nodes → (m : ℕ) × (j + m + 1 ≡ length body) × (m < length body) × (number_in_place nodes j ≡ number_in_place body m)
-  place j jl =
-      let size = is.size in
-      let m = length body - (j + 1) in
-      let sum : j + m + 1 ≡ length body = omega arith in
-      (m, sum, omega arith, is.each j m jl sum)
-
-  pub body_is : IsBodyOf v t l nodes
-  body_is = record {
-    within = λ j jl. let p = place j jl in let w = ascends.within p.0 (number_in_place body p.0) (slice_get-get_or body p.0 0 p.2) in let same = p.3 in omega arith;
-    inside = λ j jl. let p = place j jl in subst (λ x. (loops v t).inside l (node_address v x) ≡ true) (sym p.3) (inside_at v t l p.0 p.2);
-    whole = λ k kl in_l.
-        let m = number_inside v t l (node_address v k) in_l in
-        let ml = m.1 in
-        let size = is.size in
-        let w = ascends.within m.0 (number_in_place body m.0) (slice_get-get_or body m.0 0 m.1) in
-        let same : k ≡ number_in_place body m.0 = same_node v flow k (number_in_place body m.0) kl w m.2 in
-        let j = length body - (m.0 + 1) in
-        let sum : j + m.0 + 1 ≡ length body = omega arith in
-        let jl : j < length nodes = omega arith in
-        (j, jl, is.each j m.0 jl sum ∙ sym same);
-    once = λ i j lt jl same.
-        let size = is.size in
-        let il : i < length nodes = omega arith in
-        let a = place i il in
-        let b = place j jl in
-        let sum_a = a.1 in let sum_b = b.1 in
-        let rises = ascends.ascending b.0 a.0 (number_in_place body b.0) (number_in_place body a.0) (omega arith) (slice_get-get_or body b.0 0 b.2) (slice_get-get_or body a.0 0 a.2) in
-        let at_a = a.3 in let at_b = b.3 in
-        let bad : ⊥ = omega arith in bad;
-  }
-
-  pub body_few : length v.code.nodes ≤ 131072 → length nodes ≤ 131072
-  body_few few =
-      let size = is.size in
-      let low : length body ≤ length v.code.nodes = few_once body (length v.code.nodes) one (λ i x at. ascends.within i x at) in
-      omega arith
-    where
-      one : (i j x : ℕ) → slice_get body i ≡ Some x → slice_get body j ≡ Some x → i ≡ j
-      one i j x p q = ⊎_elim
-          (λ (lt : i < j). let rises = ascends.ascending i j x x lt p q in let bad : ⊥ = omega arith in absurd bad)
-          (λ (ge : j ≤ i). ⊎_elim
-          (λ (lt : j < i). let rises = ascends.ascending j i x x lt q p in let bad : ⊥ = omega arith in absurd bad)
-          (λ (le : i ≤ j). let r : i ≡ j = omega arith in r)
-          (cases_lt j i))
-          (cases_lt i j)

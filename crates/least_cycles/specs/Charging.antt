@@ -14,7 +14,7 @@ use Rattle.least_cycles.specs.declared.charges.Charges.{Charges}
 use Rattle.least_cycles.specs.declared.plan.Plan.{Plan}
 use Rattle.least_cycles.specs.declared.turns.Marks.{Marks}
 use Rattle.least_cycles.specs.declared.walks.Scratch.{Scratch}
-use Rattle.least_cycles.specs.Functions.{is_in_flags, IsNodeFlagged}
+use Rattle.least_cycles.specs.Functions.{is_in_flags, IsNodeFlagged, AreRanksIn}
 use Rattle.least_cycles.specs.Tables.{AreNodeChains, AreReturns, AreLeading, AreFunctionLimits, AreWalksOf, AreScratch}
 
 -- ---- the numbers
@@ -152,6 +152,7 @@ pub record IsChargePlan (v : FlowGraph) (t : LoopView) (plan : Plan) : Type 0 wh
   pub own_size : length plan.own.items ≡ length v.code.edges
   pub own_low : (e : ℕ) → number_in_place plan.own.items e ≤ 2 ^ 48
   pub nodes : AreNodeChains v plan.nodes
+  pub ranks : AreRanksIn t.order plan.ranks.items
   pub returning : AreReturns v (length v.code.edges) plan.returning.items
   pub leading : AreLeading v (length v.code.edges) plan.leading.items
   pub heads_size : length plan.heads.items ≡ length v.code.nodes

@@ -1,5 +1,5 @@
 -- Nodes by their numbers, and their edges as hops between them.
-use Rattle.std.specs.Prelude.{◌≡◌, ℕ, ◌<◌, true, Bool, false, List, map, length, slice_get, slice_index_or, Option, Some}
+use Rattle.std.specs.Prelude.{◌≡◌, ℕ, ◌+◌, ◌<◌, true, Bool, false, List, map, length, slice_get, slice_index_or, Option, Some}
 use Rattle.graph_algorithms.specs.Arcs.{number_in_place, AreDistinct}
 use Rattle.cost_theory.specs.Graph.{total}
 use Rattle.cost_theory.specs.Least.{IsLeastIfAny, EndsWith}
@@ -25,6 +25,10 @@ pub record AreNodeNumbers (v : FlowGraph) (nodes : List ℕ) : Type 0 where
 -- by node, its place among some nodes
 pub record ArePlacesIn (bucket places : List ℕ) : Type 0 where
   pub each : (i : ℕ) → i < length bucket → number_in_place places (number_in_place bucket i) ≡ i
+
+-- by node, its place in an order, counted from the last
+pub record AreRanksIn (order ranks : List ℕ) : Type 0 where
+  pub each : (i : ℕ) → i < length order → number_in_place ranks (number_in_place order i) + i + 1 ≡ length order
 
 abbrev pub addresses : FlowGraph → List ℕ → List ℕ
 addresses v bucket = map (node_address v) bucket

@@ -1,10 +1,13 @@
 //! The nodes of each function.
 
 ghost use Rattle.std.specs.Prelude.{◌≡◌, ℕ, ◌<◌, ◌≤◌, length, IfOk};
+ghost use Rattle.std.specs.List.Sorted.{IsNonDecreasingBy};
+ghost use Rattle.graph_algorithms.specs.Arcs.{number_in_place};
 ghost use Rattle.code_graph.specs.FlowGraph.{IsFlowGraph};
 ghost use Rattle.least_cycles.specs.Functions.{IsBucket, ArePlacesIn};
 ghost use Rattle.least_cycles.specs.Tables.{AreOwnerKeys, AreNodeChains, AreBackKeys, AreBackChains};
 
+use crate::order::ranked;
 use code_graph::CodeGraph;
 use graph_algorithms::{Chains, find_chains};
 use scale_base::NoMemory;
@@ -31,11 +34,33 @@ pub fn node_chains(alloc: Global, graph: &CodeGraph) -> Result<Chains, NoMemory>
     Ok(chains)
 }
 
-/// The nodes of function `f`, and the place of each among them.
+/// The nodes of function `f`.
+fn nodes_of(
+    alloc: Global,
+    graph: &CodeGraph,
+    chains: &Chains,
+    f: usize,
+) -> Result<Vec<usize>, NoMemory>
+    requires chains { AreNodeChains graph.now chains.now }
+    requires function { f < length graph.now.code.functions }
+    ensures bucket { IfOk result (λ bucket. IsBucket graph.now f bucket.items) }
+    ensures few { IfOk result (λ bucket. length bucket.items ≤ length graph.now.code.nodes) }
+{
+    let mut bucket = Vec::new(alloc);
+    let mut next = chains.last(f);
+    while let Some(k) = next {
+        bucket.push(k)?;
+        next = chains.before(k);
+    }
+    Ok(bucket)
+}
+
+/// The nodes of function `f` by their ranks, and the place of each among them.
 pub fn bucket_of(
     alloc: Global,
     graph: &CodeGraph,
     chains: &Chains,
+    ranks: &[usize],
     f: usize,
     places: &mut Vec<usize>,
 ) -> Result<Vec<usize>, NoMemory>
@@ -44,15 +69,11 @@ pub fn bucket_of(
     requires size { length places.old.items ≡ length graph.now.code.nodes }
     ensures bucket { IfOk result (λ bucket. IsBucket graph.now f bucket.items) }
     ensures few { IfOk result (λ bucket. length bucket.items ≤ length graph.now.code.nodes) }
+    ensures order { IfOk result (λ bucket. IsNonDecreasingBy (number_in_place ranks.now) bucket.items) }
     ensures places { IfOk result (λ bucket. ArePlacesIn bucket.items places.new.items) }
     ensures size { length places.new.items ≡ length places.old.items }
 {
-    let mut bucket = Vec::new(alloc);
-    let mut next = chains.last(f);
-    while let Some(k) = next {
-        places[k] = bucket.len();
-        bucket.push(k)?;
-        next = chains.before(k);
-    }
+    let nodes = nodes_of(alloc, graph, chains, f)?;
+    let bucket = ranked(alloc, &nodes, ranks, places)?;
     Ok(bucket)
 }

@@ -15,6 +15,7 @@ mod charges;
 mod ends;
 mod function;
 mod numbers;
+mod order;
 mod plan;
 mod prices;
 mod turns;

@@ -11,6 +11,7 @@ ghost use Rattle.least_cycles.specs.Tables.{AreReturns, AreLeading};
 ghost use Rattle.least_cycles.specs.Charging.{AreHeaderLoops, header_key, AreHeaderKeys, AreHeaderChains, IsChargePlan};
 
 use crate::buckets::node_chains;
+use crate::order::ranks_of;
 use code_graph::{CodeGraph, Weights};
 use graph_algorithms::{Chains, find_chains};
 use loop_tree::LoopTree;
@@ -23,6 +24,8 @@ pub struct Plan {
     pub own: Vec<u64>,
     /// The chains of the nodes by their functions.
     pub nodes: Chains,
+    /// By node, its place in the plain order, counted from the last.
+    pub ranks: Vec<usize>,
     /// By edge, whether it is a return, and whether it leads to a node.
     pub returning: Vec<bool>,
     pub leading: Vec<bool>,
@@ -142,6 +145,7 @@ pub fn make_plan(
     let count = graph.node_count();
     let own = own_costs(alloc, graph, weights)?;
     let nodes = node_chains(alloc, graph)?;
+    let ranks = ranks_of(alloc, graph, tree)?;
     let returning = returns_of(alloc, graph)?;
     let leading = leading_of(alloc, graph)?;
     let heads = heads_of(alloc, tree, count)?;
@@ -149,6 +153,7 @@ pub fn make_plan(
     Ok(Plan {
         own,
         nodes,
+        ranks,
         returning,
         leading,
         heads,

@@ -1,6 +1,7 @@
 //! The least cost of one turn of a loop, and what the loop is charged with.
 
 ghost use Rattle.std.specs.Prelude.{◌≡◌, ℕ, Bool, List, ◌↔◌, ◌+◌, ◌^◌, ◌<◌, ◌≤◌, true, length, slice_index, IfOk, OnOk};
+ghost use Rattle.std.specs.List.Sorted.{IsNonDecreasingBy};
 ghost use Rattle.graph_algorithms.specs.Arcs.{number_in_place};
 ghost use Rattle.cost_theory.specs.LeastTurns.{turn_step, turn_last};
 ghost use Rattle.code_graph.specs.FlowGraph.{graph as graph_seen, IsFlowGraph};
@@ -13,6 +14,7 @@ ghost use Rattle.least_cycles.specs.Passes.{IsLoopBody, AreSpots, AreKindsIn, Is
 
 use crate::charges::Charges;
 use crate::function::{Runs, least_in};
+use crate::order::ranked;
 use crate::prices::small;
 use code_graph::CodeGraph;
 use loop_tree::LoopTree;
@@ -60,11 +62,12 @@ fn is_in(nodes: &[usize], spots: &[usize], k: usize) -> bool
     i < nodes.len() && nodes[i] == k
 }
 
-/// The nodes of the body of loop `l`, the last first, and the place of each among them.
+/// The nodes of the body of loop `l` by their ranks, and the place of each among them.
 fn body_nodes(
     alloc: Global,
     graph: &CodeGraph,
     tree: &LoopTree,
+    ranks: &[usize],
     l: usize,
     spots: &mut Vec<usize>,
 ) -> Result<Vec<usize>, NoMemory>
@@ -74,18 +77,12 @@ fn body_nodes(
     requires size { length spots.old.items ≡ length graph.now.code.nodes }
     ensures nodes { IfOk result (λ nodes. IsBodyOf graph.now tree.now l nodes.items) }
     ensures few { IfOk result (λ nodes. length nodes.items ≤ 131072) }
+    ensures order { IfOk result (λ nodes. IsNonDecreasingBy (number_in_place ranks.now) nodes.items) }
     ensures spots { IfOk result (λ nodes. ArePlacesIn nodes.items spots.new.items) }
     ensures size { length spots.new.items ≡ length spots.old.items }
 {
     let _count = graph.node_count();
-    let body = tree.body(l);
-    let mut nodes = Vec::new(alloc);
-    let mut i = body.len();
-    while i > 0 {
-        i -= 1;
-        spots[body[i]] = nodes.len();
-        nodes.push(body[i])?;
-    }
+    let nodes = ranked(alloc, tree.body(l), ranks, spots)?;
     Ok(nodes)
 }
 
@@ -214,6 +211,7 @@ fn turn_of(
 pub fn charge_of_loop(
     alloc: Global,
     priced: &PricedFunction<'_>,
+    ranks: &[usize],
     l: usize,
     marks: &mut Marks,
     charges: &Charges,
@@ -230,7 +228,7 @@ pub fn charge_of_loop(
     if trips == 0 {
         return Ok(0);
     }
-    let nodes = body_nodes(alloc, priced.graph, priced.tree, l, &mut marks.spots)?;
+    let nodes = body_nodes(alloc, priced.graph, priced.tree, ranks, l, &mut marks.spots)?;
     if !are_shut(priced.graph, &nodes, priced.lasts) {
         return Ok(0);
     }

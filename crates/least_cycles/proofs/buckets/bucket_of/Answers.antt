@@ -1,70 +1,27 @@
-use Rattle.std.proofs.Common.{◌≡◌, ◌<◌, ℕ, List, [], ◌∷◌, ◌++◌, Option, length, slice_set, sym, ◌∙◌, subst, arith}
-use Rattle.graph_algorithms.specs.Keys.{IsLastBelow}
-use Rattle.graph_algorithms.proofs.Laws.{place, place_less}
-use Rattle.least_cycles.proofs.PriceLaws.{IsBucketFrom, bucket_first, bucket_more, bucket_last, next_is}
+use Rattle.std.proofs.Common.{ℕ, ◌≤◌, List, length, sym, subst, arith}
+use Rattle.std.proofs.lemmas.List.Sorted.{length_permutation}
+use Rattle.least_cycles.specs.Functions.{IsBucket}
+use Rattle.least_cycles.proofs.OrderLaws.{bucket_permuted}
 use Rattle.least_cycles.proofs.buckets.bucket_of.Goals as goal
 
-pub loop-next-init : goal.loop-next-init
-loop-next-init c = λ keys owners chains.
-    subst (λ (bucket : List ℕ). IsBucketFrom c.args.graph.now keys c.args.f c.last-next.result bucket c.args.places.now.items) (sym c.new-bucket.ensures.items)
-    (bucket_first c.args.graph.now keys c.args.f c.last-next.result c.args.places.now.items owners (subst (λ (o : Option ℕ). IsLastBelow keys (length keys) c.args.f o) (sym c.last-next.ensures) (chains.last c.args.f c.requires.function)) c.requires.size)
+pub ranked-requires-clause-within : goal.ranked-requires-clause-within
+ranked-requires-clause-within c =
+    let is : IsBucket c.args.graph.now c.args.f c.deref.result.now = subst (λ (nodes : List ℕ). IsBucket c.args.graph.now c.args.f nodes) (sym c.deref.ensures.value) c.in_ok-nodes.ensures.bucket in
+    λ i il. let within = is.within i il in let size = c.requires.size in omega arith
 
-pub index_mut-requires : goal.index_mut-requires
-index_mut-requires c =
-    let t = c.requires.chains in
-    let is = subst (λ (o : Option ℕ). IsBucketFrom c.args.graph.now t.0 c.args.f o c.loop-next.bucket.items c.loop-next.places.items) c.in-Some.is (c.loop-next.invariant t.0 t.1 t.2) in
-    let here = (next_is c.args.graph.now t.0 c.args.f c.in-Some.k c.loop-next.bucket.items c.loop-next.places.items t.1 is).0 in
-    let size = is.places_size in
-    let ok = c.loop-next.places.ok.0 in
-    omega arith
-
-pub before-next-requires : goal.before-next-requires
-before-next-requires c =
-    let t = c.requires.chains in
-    let is = subst (λ (o : Option ℕ). IsBucketFrom c.args.graph.now t.0 c.args.f o c.loop-next.bucket.items c.loop-next.places.items) c.in-Some.is (c.loop-next.invariant t.0 t.1 t.2) in
-    let here = (next_is c.args.graph.now t.0 c.args.f c.in-Some.k c.loop-next.bucket.items c.loop-next.places.items t.1 is).0 in
-    let size = t.1.size in
-    let before = t.2.before_size in
-    omega arith
-
-pub loop-next-smaller : goal.loop-next-smaller
-loop-next-smaller c =
-    let t = c.requires.chains in
-    let is = subst (λ (o : Option ℕ). IsBucketFrom c.args.graph.now t.0 c.args.f o c.loop-next.bucket.items c.loop-next.places.items) c.in-Some.is (c.loop-next.invariant t.0 t.1 t.2) in
-    let key = (next_is c.args.graph.now t.0 c.args.f c.in-Some.k c.loop-next.bucket.items c.loop-next.places.items t.1 is).1 in
-    let before = subst (λ (o : Option ℕ). IsLastBelow t.0 c.in-Some.k c.args.f o) (sym c.before-next.ensures) (t.2.before c.in-Some.k c.args.f key) in
-    subst (λ (o : Option ℕ). place c.before-next.result < place o) (sym c.in-Some.is)
-    (place_less c.before-next.result c.in-Some.k (λ r e. (before.place r e).0))
-
-pub loop-next-preserved : goal.loop-next-preserved
-loop-next-preserved c = λ keys owners chains.
-    let v = c.args.graph.now in
-    let is = subst (λ (o : Option ℕ). IsBucketFrom c.args.graph.now keys c.args.f o c.loop-next.bucket.items c.loop-next.places.items) c.in-Some.is (c.loop-next.invariant keys owners chains) in
-    let key = (next_is v keys c.args.f c.in-Some.k c.loop-next.bucket.items c.loop-next.places.items owners is).1 in
-    let before = subst (λ (o : Option ℕ). IsLastBelow keys c.in-Some.k c.args.f o) (sym c.before-next.ensures) (chains.before c.in-Some.k c.args.f key) in
-    let size : length c.loop-next.bucket.items ≡ c.len.result = sym (c.len.ensures ∙ c.loop-next.bucket.ok.0) in
-    subst (λ (items : List ℕ). IsBucketFrom c.args.graph.now keys c.args.f c.before-next.result items (slice_set c.loop-next.places.items c.in-Some.k c.len.result)) (sym c.in_ok-push.ensures.items)
-    (subst (λ n. IsBucketFrom c.args.graph.now keys c.args.f c.before-next.result (c.loop-next.bucket.items ++ c.in-Some.k ∷ []) (slice_set c.loop-next.places.items c.in-Some.k n)) size
-    (bucket_more v keys c.args.f c.in-Some.k c.before-next.result c.loop-next.bucket.items c.loop-next.places.items owners is before))
+pub ranked-requires-clause-once : goal.ranked-requires-clause-once
+ranked-requires-clause-once c =
+    let is : IsBucket c.args.graph.now c.args.f c.deref.result.now = subst (λ (nodes : List ℕ). IsBucket c.args.graph.now c.args.f nodes) (sym c.deref.ensures.value) c.in_ok-nodes.ensures.bucket in
+    is.once
 
 pub returns-clause-bucket : goal.returns-clause-bucket
 returns-clause-bucket c =
-    let t = c.requires.chains in
-    let is = subst (λ (o : Option ℕ). IsBucketFrom c.args.graph.now t.0 c.args.f o c.loop-next.bucket.items c.loop-next.places.items) c.in_default.is (c.loop-next.invariant t.0 t.1 t.2) in
-    bucket_last c.args.graph.now t.0 c.args.f c.loop-next.bucket.items c.loop-next.places.items t.1 is
+    let is : IsBucket c.args.graph.now c.args.f c.deref.result.now = subst (λ (nodes : List ℕ). IsBucket c.args.graph.now c.args.f nodes) (sym c.deref.ensures.value) c.in_ok-nodes.ensures.bucket in
+    bucket_permuted c.deref.result.now c.in_ok-bucket.bucket.items c.in_ok-bucket.ensures.nodes c.args.graph.now c.args.f is
 
 pub returns-clause-few : goal.returns-clause-few
 returns-clause-few c =
-    let t = c.requires.chains in
-    let room = (c.loop-next.invariant t.0 t.1 t.2).room in
-    omega arith
-
-pub returns-clause-places : goal.returns-clause-places
-returns-clause-places c =
-    let t = c.requires.chains in
-    record { each = (c.loop-next.invariant t.0 t.1 t.2).each }
-
-pub returns-clause-size : goal.returns-clause-size
-returns-clause-size c =
-    let t = c.requires.chains in
-    (c.loop-next.invariant t.0 t.1 t.2).places_size ∙ sym c.requires.size
+    let size = length_permutation c.deref.result.now c.in_ok-bucket.bucket.items c.in_ok-bucket.ensures.nodes in
+    let same = c.deref.ensures.value in
+    let few = c.in_ok-nodes.ensures.few in
+    subst (λ n. n ≤ length c.args.graph.now.code.nodes) (sym size) (subst (λ (nodes : List ℕ). length nodes ≤ length c.args.graph.now.code.nodes) (sym same) few)

@@ -19,10 +19,10 @@ price_function-requires-clause-tables c =
     let old_x = c.args.found.now.walks.exits.items in
     record {
       flow = c.requires.program.flow;
-      own = ap length c.deref.ensures.value ∙ c.requires.program.plan.own_size;
-      low = subst (λ (own : List ℕ). (e : ℕ) → number_in_place own e ≤ 2 ^ 48) (sym c.deref.ensures.value) c.requires.program.plan.own_low;
-      tables = subst (λ (r : List (Option ℕ)). AreSmallTables v r c.deref-3.result.now) (sym c.deref-2.ensures.value)
-          (subst (λ (x : List (Option ℕ)). AreSmallTables v old_r x) (sym c.deref-3.ensures.value)
+      own = ap length c.deref-2.ensures.value ∙ c.requires.program.plan.own_size;
+      low = subst (λ (own : List ℕ). (e : ℕ) → number_in_place own e ≤ 2 ^ 48) (sym c.deref-2.ensures.value) c.requires.program.plan.own_low;
+      tables = subst (λ (r : List (Option ℕ)). AreSmallTables v r c.deref-4.result.now) (sym c.deref-3.ensures.value)
+          (subst (λ (x : List (Option ℕ)). AreSmallTables v old_r x) (sym c.deref-4.ensures.value)
           (tables_small v (own_by v c.args.program.now.tree.now (number_in_place c.args.program.now.plan.now.own.items) k.0) k.1.limit (IsBefore v c.args.i) old_r old_x k.1.limits (c.requires.found.walks k.0 k.1)));
     }
 
@@ -34,9 +34,9 @@ charge_loops-requires-clause-priced c =
       tree = c.requires.program.tree;
       function = subst (λ (order : List ℕ). number_in_place order c.args.i < length v.code.functions) (sym c.call_order.ensures)
           (c.requires.program.flow.order.within c.args.i (number_in_place v.order c.args.i) (slice_get-get_or v.order c.args.i 0 c.requires.place));
-      costs = ap length c.deref-5.ensures.value ∙ c.price_function.ensures.costs_size;
-      lasts = ap length c.deref-6.ensures.value ∙ c.price_function.ensures.lasts_size;
-      low = subst (λ (costs : List ℕ). (e : ℕ) → number_in_place costs e ≤ 2 ^ 49) (sym c.deref-5.ensures.value) c.price_function.ensures.within;
+      costs = ap length c.deref-6.ensures.value ∙ c.price_function.ensures.costs_size;
+      lasts = ap length c.deref-7.ensures.value ∙ c.price_function.ensures.lasts_size;
+      low = subst (λ (costs : List ℕ). (e : ℕ) → number_in_place costs e ≤ 2 ^ 49) (sym c.deref-6.ensures.value) c.price_function.ensures.within;
     }
 
 pub charge_loops-requires-clause-known : goal.charge_loops-requires-clause-known
@@ -53,18 +53,18 @@ charge_loops-requires-clause-known c =
     let costs = c.price_function.new.costs.items in
     let lasts = c.price_function.new.lasts.items in
     let priced : ArePriced v w old_r old_x (IsFromFirst v bucket (length bucket)) costs lasts =
-    subst (λ (own : List ℕ). ArePriced v (number_in_place own) old_r old_x (IsFromFirst v bucket (length bucket)) costs lasts) c.deref.ensures.value
-    (subst (λ (b : List ℕ). ArePriced v (number_in_place c.deref.result.now) old_r old_x (IsFromFirst v b (length b)) costs lasts) c.deref-4.ensures.value
-    (subst (λ (x : List (Option ℕ)). ArePriced v (number_in_place c.deref.result.now) old_r x (IsFromFirst v c.deref-4.result.now (length c.deref-4.result.now)) costs lasts) c.deref-3.ensures.value
-    (subst (λ (r : List (Option ℕ)). ArePriced v (number_in_place c.deref.result.now) r c.deref-3.result.now (IsFromFirst v c.deref-4.result.now (length c.deref-4.result.now)) costs lasts) c.deref-2.ensures.value c.price_function.ensures))) in
+    subst (λ (own : List ℕ). ArePriced v (number_in_place own) old_r old_x (IsFromFirst v bucket (length bucket)) costs lasts) c.deref-2.ensures.value
+    (subst (λ (b : List ℕ). ArePriced v (number_in_place c.deref-2.result.now) old_r old_x (IsFromFirst v b (length b)) costs lasts) c.deref-5.ensures.value
+    (subst (λ (x : List (Option ℕ)). ArePriced v (number_in_place c.deref-2.result.now) old_r x (IsFromFirst v c.deref-5.result.now (length c.deref-5.result.now)) costs lasts) c.deref-4.ensures.value
+    (subst (λ (r : List (Option ℕ)). ArePriced v (number_in_place c.deref-2.result.now) r c.deref-4.result.now (IsFromFirst v c.deref-5.result.now (length c.deref-5.result.now)) costs lasts) c.deref-3.ensures.value c.price_function.ensures))) in
     let found : ArePricedAt v w k.0 f costs lasts = priced_at v c.args.program.now.tree.now w k.0 k.1 c.args.i old_r old_x (c.requires.found.walks k.0 k.1) f bucket costs lasts at is priced in (
       w,
       k.0,
       record {
         charging = k.1;
-        priced = subst (λ (order : List ℕ). ArePricedAt v w k.0 (number_in_place order c.args.i) c.deref-5.result.now c.deref-6.result.now) (sym c.call_order.ensures)
-            (subst (λ (x : List ℕ). ArePricedAt v w k.0 f x c.deref-6.result.now) (sym c.deref-5.ensures.value)
-            (subst (λ (x : List Bool). ArePricedAt v w k.0 f costs x) (sym c.deref-6.ensures.value) found));
+        priced = subst (λ (order : List ℕ). ArePricedAt v w k.0 (number_in_place order c.args.i) c.deref-6.result.now c.deref-7.result.now) (sym c.call_order.ensures)
+            (subst (λ (x : List ℕ). ArePricedAt v w k.0 f x c.deref-7.result.now) (sym c.deref-6.ensures.value)
+            (subst (λ (x : List Bool). ArePricedAt v w k.0 f costs x) (sym c.deref-7.ensures.value) found));
       },
     )
 
@@ -76,23 +76,23 @@ least_in-requires c =
     let is = c.in_ok-bucket.ensures.bucket in
     record {
       flow = c.requires.program.flow;
-      nodes = subst (AreNodeNumbers v) (sym c.deref-7.ensures.value) (record { within = is.within; once = is.once });
+      nodes = subst (AreNodeNumbers v) (sym c.deref-8.ensures.value) (record { within = is.within; once = is.once });
       few =
-          let same : length c.deref-7.result.now ≡ length bucket = ap length c.deref-7.ensures.value in
+          let same : length c.deref-8.result.now ≡ length bucket = ap length c.deref-8.ensures.value in
           let low = c.in_ok-bucket.ensures.few in
           let few = c.node_count-count.ensures.few in
           let count = c.node_count-count.ensures.count in
           omega arith;
-      places = subst (λ (b : List ℕ). ArePlacesIn b c.deref-8.result.now) (sym c.deref-7.ensures.value)
-          (subst (λ (x : List ℕ). ArePlacesIn bucket x) (sym c.deref-8.ensures.value) c.in_ok-bucket.ensures.places);
-      size = ap length c.deref-8.ensures.value ∙ c.in_ok-bucket.ensures.size ∙ c.requires.scratch.places;
-      kinds = subst (λ (b : List ℕ). AreKinds v b c.deref-9.result.now c.deref-10.result.now) (sym c.deref-7.ensures.value)
-          (subst (λ (x : List Bool). AreKinds v bucket x c.deref-10.result.now) (sym c.deref-9.ensures.value)
-          (subst (λ (x : List Bool). AreKinds v bucket c.args.program.now.plan.now.returning.items x) (sym c.deref-10.ensures.value)
+      places = subst (λ (b : List ℕ). ArePlacesIn b c.deref-9.result.now) (sym c.deref-8.ensures.value)
+          (subst (λ (x : List ℕ). ArePlacesIn bucket x) (sym c.deref-9.ensures.value) c.in_ok-bucket.ensures.places);
+      size = ap length c.deref-9.ensures.value ∙ c.in_ok-bucket.ensures.size ∙ c.requires.scratch.places;
+      kinds = subst (λ (b : List ℕ). AreKinds v b c.deref-10.result.now c.deref-11.result.now) (sym c.deref-8.ensures.value)
+          (subst (λ (x : List Bool). AreKinds v bucket x c.deref-11.result.now) (sym c.deref-10.ensures.value)
+          (subst (λ (x : List Bool). AreKinds v bucket c.args.program.now.plan.now.returning.items x) (sym c.deref-11.ensures.value)
           (bucket_kinds v (number_in_place c.call_order.result.now c.args.i) bucket c.args.program.now.plan.now.returning.items c.args.program.now.plan.now.leading.items c.requires.program.flow is plan.leading plan.returning.size
           (λ e el marked. (c.requires.program.flow.program.return_end e el ((plan.returning.each e el).0 marked)).0))));
-      costs = ap length c.deref-11.ensures.value ∙ c.price_function.ensures.costs_size;
-      low = subst (λ (costs : List ℕ). (e : ℕ) → number_in_place costs e ≤ 2 ^ 49) (sym c.deref-11.ensures.value) c.price_function.ensures.within;
+      costs = ap length c.deref-12.ensures.value ∙ c.price_function.ensures.costs_size;
+      low = subst (λ (costs : List ℕ). (e : ℕ) → number_in_place costs e ≤ 2 ^ 49) (sym c.deref-12.ensures.value) c.price_function.ensures.within;
       charges = small_charges v c.args.program.now.tree.now c.charge_loops.new.charges c.in_ok-charge_loops.ensures.charges;
     }
 
@@ -104,22 +104,22 @@ least_in-requires-2 c =
     let is = c.in_ok-bucket.ensures.bucket in
     record {
       flow = c.requires.program.flow;
-      nodes = subst (AreNodeNumbers v) (sym c.deref-7.ensures.value) (record { within = is.within; once = is.once });
+      nodes = subst (AreNodeNumbers v) (sym c.deref-8.ensures.value) (record { within = is.within; once = is.once });
       few =
-          let same : length c.deref-7.result.now ≡ length bucket = ap length c.deref-7.ensures.value in
+          let same : length c.deref-8.result.now ≡ length bucket = ap length c.deref-8.ensures.value in
           let low = c.in_ok-bucket.ensures.few in
           let few = c.node_count-count.ensures.few in
           let count = c.node_count-count.ensures.count in
           omega arith;
-      places = subst (λ (b : List ℕ). ArePlacesIn b c.deref-8.result.now) (sym c.deref-7.ensures.value)
-          (subst (λ (x : List ℕ). ArePlacesIn bucket x) (sym c.deref-8.ensures.value) c.in_ok-bucket.ensures.places);
-      size = ap length c.deref-8.ensures.value ∙ c.in_ok-bucket.ensures.size ∙ c.requires.scratch.places;
-      kinds = subst (λ (b : List ℕ). AreKinds v b c.deref-12.result.now c.deref-10.result.now) (sym c.deref-7.ensures.value)
-          (subst (λ (x : List Bool). AreKinds v bucket x c.deref-10.result.now) (sym c.deref-12.ensures.value)
-          (subst (λ (x : List Bool). AreKinds v bucket c.price_function.new.lasts.items x) (sym c.deref-10.ensures.value)
+      places = subst (λ (b : List ℕ). ArePlacesIn b c.deref-9.result.now) (sym c.deref-8.ensures.value)
+          (subst (λ (x : List ℕ). ArePlacesIn bucket x) (sym c.deref-9.ensures.value) c.in_ok-bucket.ensures.places);
+      size = ap length c.deref-9.ensures.value ∙ c.in_ok-bucket.ensures.size ∙ c.requires.scratch.places;
+      kinds = subst (λ (b : List ℕ). AreKinds v b c.deref-13.result.now c.deref-11.result.now) (sym c.deref-8.ensures.value)
+          (subst (λ (x : List Bool). AreKinds v bucket x c.deref-11.result.now) (sym c.deref-13.ensures.value)
+          (subst (λ (x : List Bool). AreKinds v bucket c.price_function.new.lasts.items x) (sym c.deref-11.ensures.value)
           (bucket_kinds v (number_in_place c.call_order.result.now c.args.i) bucket c.price_function.new.lasts.items c.args.program.now.plan.now.leading.items c.requires.program.flow is plan.leading c.price_function.ensures.lasts_size c.price_function.ensures.ends)));
-      costs = ap length c.deref-11.ensures.value ∙ c.price_function.ensures.costs_size;
-      low = subst (λ (costs : List ℕ). (e : ℕ) → number_in_place costs e ≤ 2 ^ 49) (sym c.deref-11.ensures.value) c.price_function.ensures.within;
+      costs = ap length c.deref-12.ensures.value ∙ c.price_function.ensures.costs_size;
+      low = subst (λ (costs : List ℕ). (e : ℕ) → number_in_place costs e ≤ 2 ^ 49) (sym c.deref-12.ensures.value) c.price_function.ensures.within;
       charges = small_charges v c.args.program.now.tree.now c.charge_loops.new.charges c.in_ok-charge_loops.ensures.charges;
     }
 
@@ -128,7 +128,7 @@ write_back-requires-clause-within c =
     let v = c.args.program.now.graph.now in
     let k = c.requires.program.charging in
     let size = (c.requires.found.walks k.0 k.1).returns_size in
-    subst (λ (b : List ℕ). (j : ℕ) → j < length b → number_in_place b j < length c.args.found.now.walks.returns.items) (sym c.deref-13.ensures.value)
+    subst (λ (b : List ℕ). (j : ℕ) → j < length b → number_in_place b j < length c.args.found.now.walks.returns.items) (sym c.deref-14.ensures.value)
     (λ j jl. let low = c.in_ok-bucket.ensures.bucket.within j jl in let r : number_in_place c.in_ok-bucket.bucket.items j < length c.args.found.now.walks.returns.items = omega arith in r)
 
 pub write_back-requires-2-clause-within : goal.write_back-requires-2-clause-within
@@ -136,7 +136,7 @@ write_back-requires-2-clause-within c =
     let v = c.args.program.now.graph.now in
     let k = c.requires.program.charging in
     let size = (c.requires.found.walks k.0 k.1).exits_size in
-    subst (λ (b : List ℕ). (j : ℕ) → j < length b → number_in_place b j < length c.args.found.now.walks.exits.items) (sym c.deref-15.ensures.value)
+    subst (λ (b : List ℕ). (j : ℕ) → j < length b → number_in_place b j < length c.args.found.now.walks.exits.items) (sym c.deref-16.ensures.value)
     (λ j jl. let low = c.in_ok-bucket.ensures.bucket.within j jl in let r : number_in_place c.in_ok-bucket.bucket.items j < length c.args.found.now.walks.exits.items = omega arith in r)
 
 pub returns-clause-found : goal.returns-clause-found
@@ -157,18 +157,18 @@ returns-clause-found c = record {
       let charges = c.charge_loops.new.charges in
       let are = c.requires.found.walks n charging in
       let priced : ArePriced v w old_r old_x (IsFromFirst v bucket (length bucket)) costs lasts =
-      subst (λ (own : List ℕ). ArePriced v (number_in_place own) old_r old_x (IsFromFirst v bucket (length bucket)) costs lasts) c.deref.ensures.value
-      (subst (λ (b : List ℕ). ArePriced v (number_in_place c.deref.result.now) old_r old_x (IsFromFirst v b (length b)) costs lasts) c.deref-4.ensures.value
-      (subst (λ (x : List (Option ℕ)). ArePriced v (number_in_place c.deref.result.now) old_r x (IsFromFirst v c.deref-4.result.now (length c.deref-4.result.now)) costs lasts) c.deref-3.ensures.value
-      (subst (λ (r : List (Option ℕ)). ArePriced v (number_in_place c.deref.result.now) r c.deref-3.result.now (IsFromFirst v c.deref-4.result.now (length c.deref-4.result.now)) costs lasts) c.deref-2.ensures.value c.price_function.ensures))) in
+      subst (λ (own : List ℕ). ArePriced v (number_in_place own) old_r old_x (IsFromFirst v bucket (length bucket)) costs lasts) c.deref-2.ensures.value
+      (subst (λ (b : List ℕ). ArePriced v (number_in_place c.deref-2.result.now) old_r old_x (IsFromFirst v b (length b)) costs lasts) c.deref-5.ensures.value
+      (subst (λ (x : List (Option ℕ)). ArePriced v (number_in_place c.deref-2.result.now) old_r x (IsFromFirst v c.deref-5.result.now (length c.deref-5.result.now)) costs lasts) c.deref-4.ensures.value
+      (subst (λ (r : List (Option ℕ)). ArePriced v (number_in_place c.deref-2.result.now) r c.deref-4.result.now (IsFromFirst v c.deref-5.result.now (length c.deref-5.result.now)) costs lasts) c.deref-3.ensures.value c.price_function.ensures))) in
       let found : ArePricedAt v w n f costs lasts = priced_at v t w n charging c.args.i old_r old_x are f bucket costs lasts at is priced in
       let paid : AreChargedTo v t n (λ k. loop_owner v t k ≡ f) charges.found.items =
       subst (λ (order : List ℕ). AreChargedTo v t n (λ k. loop_owner v t k ≡ number_in_place order c.args.i) charges.found.items) c.call_order.ensures
       (c.in_ok-charge_loops.ensures.charged w n (record {
         charging = charging;
-        priced = subst (λ (order : List ℕ). ArePricedAt v w n (number_in_place order c.args.i) c.deref-5.result.now c.deref-6.result.now) (sym c.call_order.ensures)
-            (subst (λ (x : List ℕ). ArePricedAt v w n f x c.deref-6.result.now) (sym c.deref-5.ensures.value)
-            (subst (λ (x : List Bool). ArePricedAt v w n f costs x) (sym c.deref-6.ensures.value) found));
+        priced = subst (λ (order : List ℕ). ArePricedAt v w n (number_in_place order c.args.i) c.deref-6.result.now c.deref-7.result.now) (sym c.call_order.ensures)
+            (subst (λ (x : List ℕ). ArePricedAt v w n f x c.deref-7.result.now) (sym c.deref-6.ensures.value)
+            (subst (λ (x : List Bool). ArePricedAt v w n f costs x) (sym c.deref-7.ensures.value) found));
       })) in
       charged_next v t w n charging f c.args.i c.args.found.now.charges.found.items charges.found.items at (c.requires.found.charged n charging) paid
       (λ k kl other. c.in_ok-charge_loops.ensures.others k kl (λ same. other (same ∙ ap (λ (order : List ℕ). number_in_place order c.args.i) c.call_order.ensures)));
@@ -188,37 +188,37 @@ returns-clause-found c = record {
       let price = cost_with costs charges in
       let are = c.requires.found.walks n charging in
       let priced : ArePriced v w old_r old_x (IsFromFirst v bucket (length bucket)) costs lasts =
-      subst (λ (own : List ℕ). ArePriced v (number_in_place own) old_r old_x (IsFromFirst v bucket (length bucket)) costs lasts) c.deref.ensures.value
-      (subst (λ (b : List ℕ). ArePriced v (number_in_place c.deref.result.now) old_r old_x (IsFromFirst v b (length b)) costs lasts) c.deref-4.ensures.value
-      (subst (λ (x : List (Option ℕ)). ArePriced v (number_in_place c.deref.result.now) old_r x (IsFromFirst v c.deref-4.result.now (length c.deref-4.result.now)) costs lasts) c.deref-3.ensures.value
-      (subst (λ (r : List (Option ℕ)). ArePriced v (number_in_place c.deref.result.now) r c.deref-3.result.now (IsFromFirst v c.deref-4.result.now (length c.deref-4.result.now)) costs lasts) c.deref-2.ensures.value c.price_function.ensures))) in
+      subst (λ (own : List ℕ). ArePriced v (number_in_place own) old_r old_x (IsFromFirst v bucket (length bucket)) costs lasts) c.deref-2.ensures.value
+      (subst (λ (b : List ℕ). ArePriced v (number_in_place c.deref-2.result.now) old_r old_x (IsFromFirst v b (length b)) costs lasts) c.deref-5.ensures.value
+      (subst (λ (x : List (Option ℕ)). ArePriced v (number_in_place c.deref-2.result.now) old_r x (IsFromFirst v c.deref-5.result.now (length c.deref-5.result.now)) costs lasts) c.deref-4.ensures.value
+      (subst (λ (r : List (Option ℕ)). ArePriced v (number_in_place c.deref-2.result.now) r c.deref-4.result.now (IsFromFirst v c.deref-5.result.now (length c.deref-5.result.now)) costs lasts) c.deref-3.ensures.value c.price_function.ensures))) in
       let found : ArePricedAt v w n f costs lasts = priced_at v t w n charging c.args.i old_r old_x are f bucket costs lasts at is priced in
       let paid : AreChargedTo v t n (λ k. loop_owner v t k ≡ f) charges.found.items =
       subst (λ (order : List ℕ). AreChargedTo v t n (λ k. loop_owner v t k ≡ number_in_place order c.args.i) charges.found.items) c.call_order.ensures
       (c.in_ok-charge_loops.ensures.charged w n (record {
         charging = charging;
-        priced = subst (λ (order : List ℕ). ArePricedAt v w n (number_in_place order c.args.i) c.deref-5.result.now c.deref-6.result.now) (sym c.call_order.ensures)
-            (subst (λ (x : List ℕ). ArePricedAt v w n f x c.deref-6.result.now) (sym c.deref-5.ensures.value)
-            (subst (λ (x : List Bool). ArePricedAt v w n f costs x) (sym c.deref-6.ensures.value) found));
+        priced = subst (λ (order : List ℕ). ArePricedAt v w n (number_in_place order c.args.i) c.deref-6.result.now c.deref-7.result.now) (sym c.call_order.ensures)
+            (subst (λ (x : List ℕ). ArePricedAt v w n f x c.deref-7.result.now) (sym c.deref-6.ensures.value)
+            (subst (λ (x : List Bool). ArePricedAt v w n f costs x) (sym c.deref-7.ensures.value) found));
       })) in
       let found_r = c.in_ok-returns.returns.items in
       let found_x = c.in_ok-exits.exits.items in
       let least_r : AreLeastRuns v c.args.program.now.plan.now.returning.items c.args.program.now.plan.now.leading.items price bucket found_r =
-      subst (λ (b : List ℕ). AreLeastRuns v c.args.program.now.plan.now.returning.items c.args.program.now.plan.now.leading.items price b found_r) c.deref-7.ensures.value
-      (subst (λ (x : List Bool). AreLeastRuns v x c.args.program.now.plan.now.leading.items price c.deref-7.result.now found_r) c.deref-9.ensures.value
-      (subst (λ (x : List Bool). AreLeastRuns v c.deref-9.result.now x price c.deref-7.result.now found_r) c.deref-10.ensures.value
-      (subst (λ (x : List ℕ). AreLeastRuns v c.deref-9.result.now c.deref-10.result.now (cost_with x charges) c.deref-7.result.now found_r) c.deref-11.ensures.value c.in_ok-returns.ensures.least))) in
+      subst (λ (b : List ℕ). AreLeastRuns v c.args.program.now.plan.now.returning.items c.args.program.now.plan.now.leading.items price b found_r) c.deref-8.ensures.value
+      (subst (λ (x : List Bool). AreLeastRuns v x c.args.program.now.plan.now.leading.items price c.deref-8.result.now found_r) c.deref-10.ensures.value
+      (subst (λ (x : List Bool). AreLeastRuns v c.deref-10.result.now x price c.deref-8.result.now found_r) c.deref-11.ensures.value
+      (subst (λ (x : List ℕ). AreLeastRuns v c.deref-10.result.now c.deref-11.result.now (cost_with x charges) c.deref-8.result.now found_r) c.deref-12.ensures.value c.in_ok-returns.ensures.least))) in
       let least_x : AreLeastRuns v lasts c.args.program.now.plan.now.leading.items price bucket found_x =
-      subst (λ (b : List ℕ). AreLeastRuns v lasts c.args.program.now.plan.now.leading.items price b found_x) c.deref-7.ensures.value
-      (subst (λ (x : List Bool). AreLeastRuns v x c.args.program.now.plan.now.leading.items price c.deref-7.result.now found_x) c.deref-12.ensures.value
-      (subst (λ (x : List Bool). AreLeastRuns v c.deref-12.result.now x price c.deref-7.result.now found_x) c.deref-10.ensures.value
-      (subst (λ (x : List ℕ). AreLeastRuns v c.deref-12.result.now c.deref-10.result.now (cost_with x charges) c.deref-7.result.now found_x) c.deref-11.ensures.value c.in_ok-exits.ensures.least))) in
+      subst (λ (b : List ℕ). AreLeastRuns v lasts c.args.program.now.plan.now.leading.items price b found_x) c.deref-8.ensures.value
+      (subst (λ (x : List Bool). AreLeastRuns v x c.args.program.now.plan.now.leading.items price c.deref-8.result.now found_x) c.deref-13.ensures.value
+      (subst (λ (x : List Bool). AreLeastRuns v c.deref-13.result.now x price c.deref-8.result.now found_x) c.deref-11.ensures.value
+      (subst (λ (x : List ℕ). AreLeastRuns v c.deref-13.result.now c.deref-11.result.now (cost_with x charges) c.deref-8.result.now found_x) c.deref-12.ensures.value c.in_ok-exits.ensures.least))) in
       let written_r : AreWritten (length bucket) bucket found_r old_r c.write_back.new.table.items =
-      subst (λ (b : List ℕ). AreWritten (length b) b found_r old_r c.write_back.new.table.items) c.deref-13.ensures.value
-      (subst (λ (x : List (Option ℕ)). AreWritten (length c.deref-13.result.now) c.deref-13.result.now x old_r c.write_back.new.table.items) c.deref-14.ensures.value c.write_back.ensures) in
+      subst (λ (b : List ℕ). AreWritten (length b) b found_r old_r c.write_back.new.table.items) c.deref-14.ensures.value
+      (subst (λ (x : List (Option ℕ)). AreWritten (length c.deref-14.result.now) c.deref-14.result.now x old_r c.write_back.new.table.items) c.deref-15.ensures.value c.write_back.ensures) in
       let written_x : AreWritten (length bucket) bucket found_x old_x c.write_back-2.new.table.items =
-      subst (λ (b : List ℕ). AreWritten (length b) b found_x old_x c.write_back-2.new.table.items) c.deref-15.ensures.value
-      (subst (λ (x : List (Option ℕ)). AreWritten (length c.deref-15.result.now) c.deref-15.result.now x old_x c.write_back-2.new.table.items) c.deref-16.ensures.value c.write_back-2.ensures) in
+      subst (λ (b : List ℕ). AreWritten (length b) b found_x old_x c.write_back-2.new.table.items) c.deref-16.ensures.value
+      (subst (λ (x : List (Option ℕ)). AreWritten (length c.deref-16.result.now) c.deref-16.result.now x old_x c.write_back-2.new.table.items) c.deref-17.ensures.value c.write_back-2.ensures) in
       walks_more v (own_by v t w n) charging.limit (IsBefore v c.args.i) (IsBefore v (c.args.i + 1)) f bucket old_r old_x found_r found_x c.write_back.new.table.items c.write_back-2.new.table.items price lasts c.args.program.now.plan.now.returning.items
       c.requires.program.flow charging.limits are (c.requires.program.flow.order.within c.args.i f at) (not_before v c.args.i f c.requires.program.flow at) (λ h done. next_before v c.args.i f h at done) (callees_before v c.args.i f c.requires.program.flow at)
       is (cost_found v t w n charging f old_r old_x bucket costs lasts charges is priced c.in_ok-charge_loops.ensures.charges.entered paid) (λ e el own. priced.last e el (from_first v f bucket e c.requires.program.flow is el own)) c.requires.program.plan.returning
