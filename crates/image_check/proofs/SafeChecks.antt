@@ -114,8 +114,8 @@ checked_safe image foreign machine loop_file checked h bytes =
     } in
     record { files = files; deadline = p.deadline }
 
--- what a call of `check` gives
-pub safe_given : (image foreign machine loop_file : List ℕ) (result : Result Verdict Stop) → AnswersBy {X = Verdict} {Y = Verdict} (λ v. v) result (IsChecked image foreign machine loop_file) → IfOk result (IsSafeVerdict image foreign machine loop_file)
-safe_given image foreign machine loop_file (Ok (Yes checked)) h = checked_safe image foreign machine loop_file checked h
-safe_given image foreign machine loop_file (Ok (No cause)) h = tt
-safe_given image foreign machine loop_file (Err stop) h = tt
+-- what a call of `check` gives: the numbers of a slice of bytes are below 256
+pub safe_given : (image foreign machine loop_file : List ℕ) (result : Result Verdict Stop) → All (λ b. b < 256) foreign → AnswersBy {X = Verdict} {Y = Verdict} (λ v. v) result (IsChecked image foreign machine loop_file) → IfOk result (IsSafeVerdict image foreign machine loop_file)
+safe_given image foreign machine loop_file (Ok (Yes checked)) bytes h = checked_safe image foreign machine loop_file checked h bytes
+safe_given image foreign machine loop_file (Ok (No cause)) bytes h = tt
+safe_given image foreign machine loop_file (Err stop) bytes h = tt

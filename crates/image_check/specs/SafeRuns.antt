@@ -1,5 +1,5 @@
 -- What a yes of `check` says of an image of other make, over the bytes of files.
-use Rattle.std.specs.Prelude.{◌≡◌, ℕ, ◌<◌, List, All}
+use Rattle.std.specs.Prelude.{◌≡◌, ℕ, List}
 use Rattle.scale_base.specs.declared.verdict.Checked.{Checked}
 use Rattle.scale_base.specs.declared.verdict.Verdict.{Verdict}
 use Rattle.scale_base.specs.declared.verdict.Verdict.TheVariants.{Yes, No}
@@ -12,7 +12,7 @@ pub record IsCheckedSafely (image foreign machine loop_file : List ℕ) (checked
   pub files : FilesKeepThePromise image machine loop_file foreign checked.start checked.worst checked.time checked.stub_cycles
   pub deadline : checked.deadline ≡ files.power.deadline
 
--- on yes, where each number of the other image's file is a byte
+-- on yes
 abbrev pub IsSafeVerdict : (image foreign machine loops : List ℕ) → Verdict → Type 0
-IsSafeVerdict image foreign machine loop_file (Yes checked) = All (λ b. b < 256) foreign → IsCheckedSafely image foreign machine loop_file checked
+IsSafeVerdict image foreign machine loop_file (Yes checked) = IsCheckedSafely image foreign machine loop_file checked
 IsSafeVerdict image foreign machine loop_file (No cause) = Unit {0}

@@ -20,6 +20,7 @@ use Rattle.jump_lists.specs.declared.notes.JumpNote.{JumpNote}
 use Rattle.scale_base.specs.declared.summary.Lowered.{Lowered}
 use Rattle.image_lower.specs.FarJumps.{far_patches}
 use Rattle.image_lower.specs.Block.{ascending_notes, tree_out_of_reach, tree_patches, trees_code, block_len, greatest_depth, least_address, is_bad}
+use Rattle.image_lower.proofs.Bases.{some_base}
 use Rattle.image_lower.specs.Lowered.{refuse_at, is_full, not_full, lowered_file, summary, finished, lowered_at, IsLoweredImage, IsLowered, AfterPart, no_bad_jump, not_scaled}
 
 by : Bool → Result (Unit {0}) Refusal
@@ -73,33 +74,33 @@ told image notes near len depth counts is patches long deep =
     ∙ (ap (λ (l : ℕ). counted (length (far_patches image notes)) (length notes) l depth) long
     ∙ ap (λ (d : ℕ). counted (length (far_patches image notes)) (length notes) (block_len image notes) d) deep))
 
--- ---- at the stub base, which is the only one
-
-one_base : (image : Image) (notes : List JumpNote) (len base other : ℕ) → len ≡ block_len image notes → IsStubBase image len base → IsStubBase image (block_len image notes) other → base ≡ other
-one_base image notes len base other e place there =
-    let P : ℕ → Type 0 = λ n. IsStubBase image n base in
-    let here : IsStubBase image (block_len image notes) base = subst P e place in
-    let low = here.least other there.place in
-    let high = there.least base here.place in
-    omega (arith, low, high)
+-- ---- at the stub base
 
 pub by_base : {X : Type 0} (view : X → List ℕ × Lowered) (r : Result X Stop) (image : Image) (notes : List JumpNote) (len base : ℕ) → len ≡ block_len image notes → IsStubBase image len base → Answers view r (lowered_at image base notes) →
     AnswersBy view r (IsLoweredImage image notes)
-by_base view (Ok x) image notes len base e place h = λ other there. sym h ∙ ap (λ (b : ℕ). lowered_at image b notes) (one_base image notes len base other e place there)
-by_base view (Err (Refused refusal)) image notes len base e place h = λ other there. sym h ∙ ap (λ (b : ℕ). lowered_at image b notes) (one_base image notes len base other e place there)
+by_base view (Ok x) image notes len base e place h = record { base = base; base_is = subst (λ n. IsStubBase image n base) e place; answer_is = sym h }
+by_base view (Err (Refused refusal)) image notes len base e place h = record { base = base; base_is = subst (λ n. IsStubBase image n base) e place; answer_is = sym h }
 by_base view (Err Memory) image notes len base e place h = tt
 
--- without noted jumps it does not matter
+-- without noted jumps it does not matter which it is
+no_block : (image : Image) → block_len image [] ≤ 4194304
+unfolding ascending_notes
+no_block image = omega arith
+
 without_notes : (image : Image) (notes : List JumpNote) (base : ℕ) → length notes ≡ 0 → lowered_at image base notes ≡ finished (lowered_file image 0 []) (summary image [])
 unfolding lowered_at
 without_notes image [] base none = refl
 without_notes image (n ∷ ns) base none = absurd (omega (arith, none))
 
-pub by_none : {X : Type 0} (view : X → List ℕ × Lowered) (r : Result X Stop) (image : Image) (notes : List JumpNote) → length notes ≡ 0 → Answers view r (finished (lowered_file image 0 []) (summary image [])) →
+base_without : (image : Image) (notes : List JumpNote) → image_of image.file ≡ Ok image → length notes ≡ 0 → (base : ℕ) × IsStubBase image (block_len image notes) base
+base_without image [] read none = some_base image.file image (block_len image []) read (no_block image)
+base_without image (n ∷ ns) read none = absurd (omega (arith, none))
+
+pub by_none : {X : Type 0} (view : X → List ℕ × Lowered) (r : Result X Stop) (image : Image) (notes : List JumpNote) → image_of image.file ≡ Ok image → length notes ≡ 0 → Answers view r (finished (lowered_file image 0 []) (summary image [])) →
     AnswersBy view r (IsLoweredImage image notes)
-by_none view (Ok x) image notes none h = λ other there. sym h ∙ sym (without_notes image notes other none)
-by_none view (Err (Refused refusal)) image notes none h = λ other there. sym h ∙ sym (without_notes image notes other none)
-by_none view (Err Memory) image notes none h = tt
+by_none view (Ok x) image notes read none h = let base = base_without image notes read none in record { base = base.0; base_is = base.1; answer_is = sym h ∙ sym (without_notes image notes base.0 none) }
+by_none view (Err (Refused refusal)) image notes read none h = let base = base_without image notes read none in record { base = base.0; base_is = base.1; answer_is = sym h ∙ sym (without_notes image notes base.0 none) }
+by_none view (Err Memory) image notes read none h = tt
 
 -- ---- the parts before
 

@@ -12,34 +12,13 @@ use Rattle.jump_lists.specs.declared.notes.JumpNote.{JumpNote}
 use Rattle.jump_lists.specs.Notes.{AreJumpNotes}
 use Rattle.jump_lists.specs.Jumps.{read_jumps}
 use Rattle.scale_base.specs.declared.summary.Lowered.{Lowered}
-use Rattle.image_lower.specs.Block.{ascending_notes, block_len}
-use Rattle.image_lower.specs.Lowered.{AfterPart, IsLowered, lowered_at, no_bad_jump, not_scaled}
+use Rattle.image_lower.specs.Block.{block_len}
+use Rattle.image_lower.specs.Lowered.{AfterPart, IsLoweredImage, IsLowered, lowered_at, no_bad_jump, not_scaled}
 use Rattle.image_lower.specs.Meets.{IsLoweredTo}
 use Rattle.image_lower.specs.Promise.{IsLoweredSafely, LoweredAnswersAgree}
-use Rattle.image_lower.proofs.Bases.{some_base}
 use Rattle.image_lower.proofs.JumpFiles.{read_kept}
-use Rattle.image_lower.proofs.Kept.{len_fold}
 use Rattle.image_lower.proofs.LoweringLaws.{file_is}
 use Rattle.image_lower.proofs.LoweredLaw.{made_of, runs_follow}
-use Rattle.image_lower.proofs.NoteFacts.{good_notes, good_of, jump_at, all_ascending}
-use Rattle.image_lower.proofs.Planted.{IsFine, trees_short}
-
--- ---- the base
-
-block_small : (image : Image) (notes : List JumpNote) → All (IsFine image) notes → length notes ≤ 1024 → block_len image notes ≤ 4194304
-unfolding ascending_notes
-block_small image notes fine few =
-    let short = trees_short image 0 (ascending_notes notes) (all_ascending (IsFine image) notes fine) in
-    let size = len_fold [] notes in
-    omega (arith, short, size, few)
-
--- a base for notes that may be lowered
-base_of : (file : List ℕ) (image : Image) (notes : List JumpNote) → image_of file ≡ Ok image → AreJumpNotes notes → no_bad_jump image notes ≡ Ok tt → (base : ℕ) × IsStubBase image (block_len image notes) base
-base_of file image notes read noted good =
-    let fine : All (IsFine image) notes = λ k d lt.
-    let n = get_or notes k d in
-    (noted.each k d lt, (jump_at file image n read (good_of image notes n (good_notes image notes good k d lt)).jumps).few) in
-    some_base file image (block_len image notes) read (block_small image notes fine noted.few)
 
 -- ---- what `lower` went through
 
@@ -75,19 +54,18 @@ went_through image jumps given h =
     let b = passed (image_of image) _ given a.on in
     let c = passed (not_scaled b.value.keyed_segment) _ given b.on in
     let d = passed (no_bad_jump b.value a.value) _ given c.on in
-    let noted = read_kept jumps a.value a.was in
-    let base = base_of image b.value a.value b.was noted d.was in
+    let is = d.on in
     record {
       original = b.value;
       notes = a.value;
-      base = base.0;
+      base = is.base;
       notes_are = a.was;
       original_is = b.was;
       no_key = unscaled b.value.keyed_segment c.was;
-      noted = noted;
+      noted = read_kept jumps a.value a.was;
       good = d.was;
-      base_is = base.1;
-      made = sym (d.on base.0 base.1);
+      base_is = is.base_is;
+      made = sym is.answer_is;
     }
 
 -- ---- the law
@@ -139,12 +117,18 @@ both_after : {A B : Type 0} (part : Result A Refusal) (next : A → Result B Ref
 both_after (Ok x) next one other h g go = go x refl h g
 both_after (Err refusal) next one other h g go = h ∙ sym g
 
+-- there is one stub base
+same_answer : (image : Image) (notes : List JumpNote) (one other : Result (List ℕ × Lowered) Refusal) → IsLoweredImage image notes one → IsLoweredImage image notes other → one ≡ other
+same_answer image notes one other h g =
+    let low = h.base_is.least g.base g.base_is.place in
+    let high = g.base_is.least h.base h.base_is.place in
+    let same : h.base ≡ g.base = omega (arith, low, high) in
+    h.answer_is ∙ (ap (λ (b : ℕ). lowered_at image b notes) same ∙ sym g.answer_is)
+
 pub answers : LoweredAnswersAgree
 unfolding IsLowered
 answers = λ image jumps one other h g.
     both_after (read_jumps jumps) _ one other h g (λ notes listed h1 g1.
     both_after (image_of image) _ one other h1 g1 (λ original read h2 g2.
     both_after (not_scaled original.keyed_segment) _ one other h2 g2 (λ plain scaled h3 g3.
-    both_after (no_bad_jump original notes) _ one other h3 g3 (λ fine good a b.
-    let base = base_of image original notes read (read_kept jumps notes listed) good in
-    a base.0 base.1 ∙ sym (b base.0 base.1)))))
+    both_after (no_bad_jump original notes) _ one other h3 g3 (λ fine good a b. same_answer original notes one other a b))))

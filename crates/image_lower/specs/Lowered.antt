@@ -79,8 +79,10 @@ AfterPart (Err refusal) next answer = answer ≡ Err refusal
 AfterPart (Ok part) next answer = next part answer
 
 -- the block stands at the stub base
-abbrev pub IsLoweredImage : Image → List JumpNote → Result (List ℕ × Lowered) Refusal → Type 0
-IsLoweredImage image notes answer = (base : ℕ) → IsStubBase image (block_len image notes) base → answer ≡ lowered_at image base notes
+pub record IsLoweredImage (image : Image) (notes : List JumpNote) (answer : Result (List ℕ × Lowered) Refusal) : Type 0 where
+  pub base : ℕ
+  pub base_is : IsStubBase image (block_len image notes) base
+  pub answer_is : answer ≡ lowered_at image base notes
 
 -- The stored bytes and what was lowered, or the first refusal: of the jump file, of the image, of a keyed segment, of a noted jump, of the
 -- reach of a tree, and of the file made.
