@@ -4,6 +4,7 @@ use crate::fixtures::{PLAIN, SECTIONS, SYMBOLS, told, view_of};
 use elf_view::{end_of, overlaps, read_image};
 use scale_base::{Range, Span};
 use std::alloc::Global;
+use std::process::Abort;
 use std::test::Fail;
 
 #[test]
@@ -78,23 +79,30 @@ static NAMES_OF_SECTIONS: [(&str, Option<u32>); 5] = [
 /// Names where there is no symbol.
 static NO_NAMES: [(&str, Option<u32>); 2] = [("_start", None), ("", None)];
 
-/// The table of symbols and the sorted symbols answer alike. The section headers of `SECTIONS` end at its byte 400.
-#[test]
-fn finds_symbols(rt: HostRuntime) -> Result<(), Fail> {
-    for (file, names) in [
-        (PLAIN.as_slice(), NO_NAMES.as_slice()),
-        (&SECTIONS, &NAMES_OF_SECTIONS),
-        (&SECTIONS[..400], &NO_NAMES),
-        (&SYMBOLS, &NAMES),
-    ] {
-        let view = view_of(rt.alloc(), file)?;
-        let sorted = view.sorted_symbols(rt.alloc()).ok().ok_or("memory")?;
-        for (name, value) in names {
-            let found = (view.symbol(name), sorted.value(name));
-            assert_eq!(rt; found, (*value, *value), "{name}");
-        }
+/// The table of symbols and the sorted symbols answer alike.
+fn expect_symbols(
+    rt: &impl Abort,
+    alloc: Global,
+    file: &[u8],
+    names: &[(&str, Option<u32>)],
+) -> Result<(), Fail> {
+    let view = view_of(alloc, file)?;
+    let sorted = view.sorted_symbols(alloc).ok().ok_or("memory")?;
+    for (name, value) in names {
+        let found = (view.symbol(name), sorted.value(name));
+        assert_eq!(rt; found, (*value, *value), "{name}");
     }
     Ok(())
+}
+
+/// The section headers of `SECTIONS` end at its byte 400.
+#[test]
+fn finds_symbols(rt: HostRuntime) -> Result<(), Fail> {
+    let alloc = rt.alloc();
+    expect_symbols(&rt, alloc, &PLAIN, &NO_NAMES)?;
+    expect_symbols(&rt, alloc, &SECTIONS, &NAMES_OF_SECTIONS)?;
+    expect_symbols(&rt, alloc, &SECTIONS[..400], &NO_NAMES)?;
+    expect_symbols(&rt, alloc, &SYMBOLS, &NAMES)
 }
 
 /// What is printed of the refusal of a file.
