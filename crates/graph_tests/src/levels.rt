@@ -1,6 +1,6 @@
 //! The levels that switches go to.
 
-ghost use Rattle.std.specs.Prelude.{◌≡◌, length};
+ghost use Rattle.std.specs.Prelude.{◌≡◌, ◌≤◌, length};
 
 use level_tables::{entry, exit_rows, shift, word};
 use power_model::{Costs, Level, Levels, PairTable, Power};
