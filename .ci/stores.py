@@ -1,7 +1,7 @@
 #!/usr/bin/env python3
 """Shows what the program leaves on a disk: a file that is stored whole, or the old one as it was.
 
-    stores.py PROGRAM ..   these programs; with none, the one that `./scale` builds
+    stores.py PROGRAM ..   these programs; with none, the one that `./scale` has built
 
 The contracts say nothing of the system's files, so each way in which a store can fail is met here, in a temporary folder: a file size limit, a
 signal in the middle, no room, a folder and a file that may not be written. What is no regular file is written through. At the first
@@ -34,10 +34,10 @@ def expect(what, have, want):
         raise Wrong(f"{what}: {have!r} in place of {want!r}")
 
 
-def run(program, folder, out, prepare=None, **how):
+def run(program, folder, out, prepare=None):
     """The program's status, where it stores under `out`; that of a signal is negative."""
-    done = subprocess.run([program, *WORDS, out], cwd=folder, stdout=subprocess.PIPE, stderr=subprocess.STDOUT, timeout=SECONDS, preexec_fn=prepare, **how)
-    return done.returncode
+    how = {"stdout": subprocess.PIPE, "stderr": subprocess.STDOUT, "timeout": SECONDS}
+    return subprocess.run([program, *WORDS, out], cwd=folder, preexec_fn=prepare, **how).returncode
 
 
 def read(*path):
@@ -178,16 +178,19 @@ WAYS = [replaces_old, stops_at_size_limit, is_killed, has_no_room, may_not_write
 
 
 def main():
-    programs = sys.argv[1:] or [os.path.join(TOP, "scale")]
-    for program in map(os.path.abspath, programs):
+    programs = sys.argv[1:] or [os.path.join(TOP, "crates", "scale_tool", "out", "scale_tool")]
+    for path in programs:
         with tempfile.TemporaryDirectory(prefix="stores-") as room:
+            # (who gives up the rights of root may not come to the program where it stands)
             os.chmod(room, 0o755)
+            shutil.copy(path, os.path.join(room, "program"))
+            program = os.path.join("..", "program")
             whole = stores_new(program, room)
             for way in WAYS:
                 try:
                     said = way(program, room, whole)
                 except Wrong as wrong:
-                    print(f"stores: {program}: {way.__name__}: {wrong}")
+                    print(f"stores: {path}: {way.__name__}: {wrong}")
                     return 1
                 if said:
                     print(f"stores: {said}")
