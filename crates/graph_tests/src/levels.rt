@@ -1,6 +1,6 @@
 //! The levels that switches go to.
 
-ghost use Rattle.std.specs.Prelude.{◌≡◌, length};
+ghost use Rattle.std.specs.Prelude.{◌≡◌, ◌≤◌, length};
 
 use level_tables::{entry, exit_rows, shift, word};
 use power_model::{Costs, Level, Levels, PairTable, Power};
@@ -84,19 +84,38 @@ fn holds_an_entry_for_each_level(rt: HostRuntime) {
     }
 }
 
-/// By bound the shift, and how many rows there are.
+/// A row of the exit of a loop whose iterations take 3 cycles, where a switch takes 10 time units. With as many cycles left as back edges that are
+/// not taken for certain, a slack of 10 is just enough to go from the level of 1 time unit to that of 4.
+fn row_of(power: &Power, bound: u32, slack: u64, left: u32, row: u8) -> Option<u32>
+    requires { slack ≤ 10 }
+{
+    let rows = exit_rows(power, bound, 3, slack, u64::from(left), Some(1000));
+    if row < rows.count() {
+        Some(rows.get(row))
+    } else {
+        None
+    }
+}
+
+/// By bound the shift, how many rows there are, and the back edges that are not taken for certain in the first and in the last row.
 #[test]
 fn has_a_row_for_each_shifted_count(rt: HostRuntime) {
     let power = machine(PairTable::uniform(10));
-    for (bound, by, count) in [
-        (1000, 6, 16),
-        (0, 0, 1),
-        (15, 0, 16),
-        (16, 1, 9),
-        (4_294_967_295, 28, 16),
+    for (bound, by, count, first, last) in [
+        (1000, 6, 16, (0, 937), (15, 0)),
+        (0, 0, 1, (0, 0), (0, 0)),
+        (15, 0, 16, (0, 15), (15, 0)),
+        (16, 1, 9, (0, 15), (8, 0)),
+        (4_294_967_295, 28, 16, (0, 4_026_531_840), (15, 0)),
     ] {
         assert_eq!(rt; shift(bound), by);
         assert_eq!(rt; exit_rows(&power, bound, 0, 0, 0, None).count(), count);
+        for (row, trips) in [first, last] {
+            let enough = row_of(&power, bound, 10, trips, row);
+            assert_eq!(rt; enough, Some(0), "row {row} of {bound}");
+            let less = row_of(&power, bound, 9, trips, row);
+            assert_eq!(rt; less, Some(if trips == 0 { 0x200 } else { 0x100 }));
+        }
     }
     let rows = exit_rows(&power, 10, 20, 0, 12, Some(12));
     assert_eq!(rt; rows.count(), 11);
