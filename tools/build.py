@@ -39,6 +39,8 @@ SHOWN = 20
 LOOK, SPEAK, SPEAK_ANYWAY, LAST = 0.1, 10, 60, 10
 # More jobs than these make a proof no faster. Each after the first takes that share of its memory.
 MOST_JOBS, JOB_SHARE = 4, 0.6
+# How much longer the system lets a process wait whose end nothing waits for.
+NICE = 10
 PR_SET_PDEATHSIG, PR_SET_CHILD_SUBREAPER = 1, 36
 
 
@@ -270,7 +272,7 @@ class Build:
 
     def build_all(self):
         own = {it: sum(map(os.path.getsize, files_of(it))) for it in self.below}
-        ahead = chains(own, self.below)
+        ahead = chains({it: sum(map(os.path.getsize, files_of(it, ["src"]))) for it in self.below}, self.below)
         most, memory = processors(), 0.85 * free_memory()
         while len(self.built) < len(self.below):
             left = [it for it in self.below if it not in self.built and it not in [run.crate for run in self.running]]
@@ -284,19 +286,17 @@ class Build:
                 self.take_result(run)
 
     def start_some(self, ready, own, ahead, most, memory):
-        """Starts of what can be proved as much as there is room for, a job each. The first gets those that are left over, and two where the end waits for it."""
-        for others, crate in zip(range(len(ready))[::-1], ready):
-            idle, room = most - sum(it.jobs for it in self.running), memory - sum(it.need for it in self.running)
-            need = need_of(crate, own, self.below)
-            is_alone = crate in self.alone or any(it.crate in self.alone for it in self.running)
-            if self.running and (idle < 1 or room < need or is_alone):
-                return
+        """Starts of what can be proved as much as there is room for. What the end waits for gets all jobs; what is beside it has two, and waits for it."""
+        for crate in ready:
+            room, need = memory - sum(it.need for it in self.running), need_of(crate, own, self.below)
             leads = all(ahead[crate] > ahead[it.crate] for it in self.running)
-            jobs = max(idle - others, min(2, most) if leads else 1)
-            jobs = max(min(jobs, MOST_JOBS, 1 + int((room / need - 1) / JOB_SHARE)), 1)
-            self.start(crate, jobs, need * (1 + JOB_SHARE * (jobs - 1)))
+            is_alone = crate in self.alone or any(it.crate in self.alone for it in self.running)
+            if self.running and ((len(self.running) >= most and not leads) or room < need or is_alone):
+                return
+            jobs = max(min(most, MOST_JOBS if leads else 2, 1 + int((room / need - 1) / JOB_SHARE)), 1)
+            self.start(crate, jobs, need * (1 + JOB_SHARE * (jobs - 1)), 0 if leads else NICE)
 
-    def start(self, crate, jobs, need):
+    def start(self, crate, jobs, need, nice):
         lane = self.lanes.take(crate)
         if crate == self.program:
             # (so that what is there in the end is what was made)
@@ -305,7 +305,7 @@ class Build:
         words = ["rt", "run" if crate == self.program else "lib", "--jobs", str(jobs)]
         with open(self.lanes.path(lane, crate, "out", "build.log"), "w", encoding="utf-8") as log:
             how = {"stdin": subprocess.DEVNULL, "stdout": log, "stderr": subprocess.STDOUT}
-            how.update(cwd=self.lanes.path(lane, crate), start_new_session=True, preexec_fn=end_with_parent)
+            how.update(cwd=self.lanes.path(lane, crate), start_new_session=True, preexec_fn=lambda: begin(nice))
             self.running.append(Run(crate, lane, jobs, need, subprocess.Popen(words, **how)))
 
     def reap(self):
@@ -363,12 +363,12 @@ class Build:
         self.running = []
 
 
-def chains(own, below):
+def chains(code, below):
     """How much is to be proved until the end, from each crate on: the longest chain of crates of which each uses the one before it."""
     found = {}
     for name in reversed(list(below)):
-        # (a crate of no lines takes as long as so many bytes more)
-        found[name] = 60_000 + own[name] + max((found[it] for it in found if name in below[it]), default=0)
+        # (a crate takes the longer the more code it has, and one without any as long as so many bytes; laws take little)
+        found[name] = 3_000 + code[name] + max((found[it] for it in found if name in below[it]), default=0)
     return found
 
 
@@ -392,8 +392,9 @@ def prctl(*words):
     ctypes.CDLL(None).prctl(*words)
 
 
-def end_with_parent():
-    """Has this process killed when the one that started it ends, however that ends."""
+def begin(nice):
+    """Has this process wait for others so much longer, and killed when the one that started it ends, however that ends."""
+    os.nice(nice)
     prctl(PR_SET_PDEATHSIG, signal.SIGKILL)
 
 
