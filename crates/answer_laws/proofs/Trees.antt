@@ -31,11 +31,6 @@ map_apart f (x ∷ xs) (y ∷ ys) apart same =
     let rest : xs ≡ ys = map_apart f xs ys (λ i j a b at_i at_j. apart (suc i) (suc j) a b at_i at_j) tail in
     ap (λ z. z ∷ xs) first ∙ ap (λ zs. y ∷ zs) rest
 
-no_number : (xs : List ℕ) (k : ℕ) → length xs ≤ k → slice_index xs k ≡ 0
-no_number [] k le = refl
-no_number (x ∷ xs) zero le = let bad : ⊥ = omega arith in absurd bad
-no_number (x ∷ xs) (suc k) le = no_number xs k (omega arith)
-
 no_body : (bodies : List (List ℕ)) (k : ℕ) → length bodies ≤ k → body_of bodies k ≡ []
 no_body [] k le = refl
 no_body (b ∷ bs) zero le = let bad : ⊥ = omega arith in absurd bad

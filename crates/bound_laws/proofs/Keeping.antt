@@ -71,10 +71,6 @@ not_broken l counts x within late = none-any l.loops (breaks l counts x) (λ k k
     in_time k false e h = ap (λ b. b && nat_lt (counts k) (l.least_trips k)) e
     in_time k true e h = ap (λ b. b && nat_lt (counts k) (l.least_trips k)) e ∙ le-ltb (counts k) (l.least_trips k) (h e)
 
--- what is kept is kept where no loop is asked about
-pub kept_unasked : (env : Setting) (s : State) (l : Loops) (n : ℕ) (d : Carried) → kept_at env s l n ≡ Some d → kept_at env s (unasked l) n ≡ Some d
-kept_unasked env s l n d h = kept_too (unasked l) l (λ c x. refl) env s (λ n c d x whole k. refl) n d h
-
 few_turns : (count least width bound : ℕ) → 0 < least → count * least ≤ width → width / least ≤ bound → count ≤ bound
 few_turns count least width bound p a b = let q : count ≤ width / least = (le-div_iff_mul-le p).1 a in omega arith
 

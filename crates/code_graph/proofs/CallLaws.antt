@@ -9,12 +9,6 @@ use Rattle.graph_algorithms.specs.Arcs.{HasArc, arc_at, AreNumbered, IsCycle}
 use Rattle.code_graph.specs.Assembling.{HasCall, AreCallArcs, AreCallsWithin}
 use Rattle.code_graph.proofs.Lists.{get_left, get_end, get_pushed, some_is}
 
-pub arcs_start : (owners : List ℕ) (callees : List (Option ℕ)) → AreCallArcs 0 owners callees []
-arcs_start owners callees = record {
-  called = λ f h has. (let lt = has.1 in let bad : ⊥ = omega arith in absurd bad);
-  arc = λ f h call. (let lt = call.1 in let bad : ⊥ = omega arith in absurd bad);
-}
-
 -- the arc at a place
 arc_of : (arcs : List Arc) (s : ℕ) (a : Arc) → slice_get arcs s ≡ Some a → arc_at arcs s ≡ a
 arc_of arcs s a at = get_or_from_slice_get arcs s a (record { from = 0; to = 0 }) at

@@ -83,9 +83,6 @@ parts_none steps flags queue done k left e = waits_less steps flags queue done (
     let q = and_parts (left x) (not (is_key steps k x)) l in
     and_from (left x) _ q.0 (not_from_false (is_part steps k x) (or_from (is_key steps k x) (x + 1 == k) (not-true (is_key steps k x) q.1) (ne_eqb (x + 1) k (λ (h : x + 1 ≡ k). (let bad : ⊥ = omega arith in bad))))))
 
-pub waits_first : (steps : List Step) (flags : List Bool) (queue : List ℕ) (done : ℕ) → Waits steps flags queue done (λ x. nat_le 0 x)
-waits_first steps flags queue done x xl none has = inr (le-leb 0 x (omega arith))
-
 pub waits_seed : (steps : List Step) (flags : List Bool) (queue : List ℕ) (done s : ℕ) → Waits steps flags queue done (but (λ x. nat_le s x) s) → Waits steps flags queue done (λ x. nat_le (s + 1) x)
 waits_seed steps flags queue done s = waits_less steps flags queue done (but (λ x. nat_le s x) s) (λ x. nat_le (s + 1) x)
     (λ x xl l.
@@ -93,10 +90,6 @@ waits_seed steps flags queue done s = waits_less steps flags queue done (but (λ
     let ne = eqb-false x s (not-true (x == s) p.1) in
     let le = leb-true s x p.0 in
     le-leb (s + 1) x (let r : s + 1 ≤ x = omega (arith, ne) in r))
-
-pub waits_last : (steps : List Step) (flags : List Bool) (queue : List ℕ) (done : ℕ) → Waits steps flags queue done (λ x. nat_le (length steps) x) → Waits steps flags queue done (λ x. false)
-waits_last steps flags queue done = waits_less steps flags queue done (λ x. nat_le (length steps) x) (λ x. false)
-    (λ x xl l. let le = leb-true (length steps) x l in (let bad : ⊥ = omega arith in absurd bad))
 
 none_flag : (n s : ℕ) → flag (replicate n false) s ≡ false
 none_flag zero s = refl

@@ -1,5 +1,5 @@
 -- The edges of nodes, one node after another.
-use Rattle.std.proofs.Common.{◌≡◌, ℕ, ◌+◌, ◌*◌, ◌<◌, ◌≤◌, Bool, true, false, List, [], ◌∷◌, ◌++◌, length, length-append, take, get_or, map, Option, Some, None, refl, sym, ap, ◌∙◌, subst, arith, ⊎_elim, append-nil, le_refl}
+use Rattle.std.proofs.Common.{◌≡◌, ℕ, ◌+◌, ◌*◌, ◌<◌, ◌≤◌, Bool, true, false, List, [], ◌∷◌, ◌++◌, length, length-append, take, get_or, map, Option, Some, None, refl, sym, ap, ◌∙◌, subst, arith, ⊎_elim, append-nil}
 use Rattle.std.specs.Prelude.{slice_get}
 use Rattle.std.specs.List.{flat_map}
 use Rattle.std.proofs.lemmas.Bool.{cases_lt}
@@ -49,15 +49,6 @@ next_leads flow.Next v b x h kind = ⊎_elim (λ e. goes_on x v e) (λ n. absurd
 next_leads flow.Refused v b x h kind = absurd h
 
 -- ---- the numbers of first edges
-
-pub firsts_start : (nodes : List ℕ) → AreFirsts 0 nodes [] (0 ∷ [])
-firsts_start nodes = record {
-  size = refl;
-  last = refl;
-  rising = λ j k jk kn. let e : j ≡ k = omega arith in subst (λ i. get_or (0 ∷ []) j 0 ≤ get_or (0 ∷ []) i 0) e (le_refl (get_or (0 ∷ []) j 0));
-  own = λ k e kn low high. let bad : ⊥ = omega arith in absurd bad;
-  whole = λ e el. let bad : ⊥ = omega arith in absurd bad;
-}
 
 number_left : (xs : List ℕ) (y i : ℕ) → i < length xs → get_or (xs ++ y ∷ []) i 0 ≡ get_or xs i 0
 number_left xs y i lt = get_or_from_slice_get (xs ++ y ∷ []) i (get_or xs i 0) 0 (get_left xs (y ∷ []) i (get_or xs i 0) (slice_get-get_or xs i 0 lt))
@@ -176,9 +167,6 @@ module _ (nodes : List ℕ) (kinds : List Flow) (callees : List (Option ℕ)) (r
       let size : length new ≡ length edges + length (edges_of (get_or kinds k (flow.Branch 0)) (get_or nodes k 0) b) = ap length more ∙ length-append edges (edges_of (get_or kinds k (flow.Branch 0)) (get_or nodes k 0) b) in
       let two = few_edges (get_or kinds k (flow.Branch 0)) (get_or nodes k 0) b in
       omega arith
-
-pub edges_start : (nodes : List ℕ) (kinds : List Flow) (callees : List (Option ℕ)) (returning : List Bool) → AreEdgesOf 0 nodes kinds callees returning []
-edges_start nodes kinds callees returning = record { edges_are = λ word words callee called. refl }
 
 pub edges_whole : (n : ℕ) (nodes : List ℕ) (kinds : List Flow) (callees : List (Option ℕ)) (returning : List Bool) (edges : List Edge) → length nodes ≡ n → AreEdgesOf n nodes kinds callees returning edges →
     (word : ℕ → Flow) → kinds ≡ map word nodes → (callee : Flow → Option ℕ) → callees ≡ map callee kinds → edges ≡ flat_map (λ v. edges_of (word v) v (flag_at returning (callee (word v)))) nodes

@@ -1,27 +1,18 @@
 -- Facts of a graph that is given by lists.
 use Rattle.std.proofs.Common.{◌≡◌, ℕ, ◌+◌, ◌<◌, ◌≤◌, List, length, get_or, Option, Some, refl, sym, ap, ◌∙◌, subst, arith}
 use Rattle.std.specs.Prelude.{slice_get}
-use Rattle.std.proofs.lemmas.Option.{slice_get_within, slice_get-get_or, slice_get-map, slice_get_read}
+use Rattle.std.proofs.lemmas.Option.{slice_get_within, slice_get-get_or, slice_get-map}
 use Rattle.std.proofs.lemmas.List.{length-map}
 use Rattle.cost_theory.specs.declared.flow.Flow.{Flow}
-use Rattle.scale_base.specs.declared.edges.Edge.{Edge}
 use Rattle.cost_theory.specs.Accepted.{IsNode}
-use Rattle.cost_theory.specs.Reached.{edge_at, edge_to, edge_callee, callee_of, owner_of}
+use Rattle.cost_theory.specs.Reached.{edge_at, edge_callee, callee_of, owner_of}
 use Rattle.cost_theory.proofs.Laws.{callee_word}
-use Rattle.code_text.specs.Walk.{RiseStrictly}
 use Rattle.code_graph.specs.FlowGraph.{FlowGraph, graph, word_beside, IsFlowGraph}
 use Rattle.code_graph.specs.Stored.{IsStoredGraph}
-use Rattle.code_graph.proofs.Lists.{Once, ascending_once, ascending_rise, some_is, word_beside-get, number_beside-get}
-
-pub rising_nodes : (v : FlowGraph) → IsFlowGraph v → RiseStrictly v.code.nodes
-rising_nodes v is = ascending_rise v.code.nodes is.ascending
+use Rattle.code_graph.proofs.Lists.{Once, ascending_once, some_is, word_beside-get, number_beside-get}
 
 pub once_nodes : (v : FlowGraph) → IsFlowGraph v → Once v.code.nodes
 once_nodes v is = ascending_once v.code.nodes is.ascending
-
--- an edge starts at a node
-pub source_node : (v : FlowGraph) (e : ℕ) → IsFlowGraph v → e < length v.code.edges → (k : ℕ) × (slice_get v.code.nodes k ≡ Some (edge_at (slice_get v.code.edges e)))
-source_node v e is lt = (is.nodes (edge_at (slice_get v.code.edges e))).1 (e, lt, refl)
 
 module _ (v : FlowGraph) (callees : List (Option ℕ)) (firsts sources : List ℕ) (targets : List (Option ℕ)) (is : IsStoredGraph v callees firsts sources targets) where
   -- the word of the node at which an edge starts
@@ -72,13 +63,5 @@ module _ (v : FlowGraph) (callees : List (Option ℕ)) (firsts sources : List �
         let last : get_or firsts (length v.code.nodes) 0 ≡ length v.code.edges = is.firsts_are.last in
         (omega arith, omega arith)
 
-  -- the node to which an edge leads is one
-  pub target_node : (e a : ℕ) → e < length v.code.edges → edge_to (slice_get v.code.edges e) ≡ Some a → (k : ℕ) × (slice_get v.code.nodes k ≡ Some a)
-  target_node e a lt to = (is.flow.nodes a).1 (is.flow.program.stays e a lt to).0
-
   pub callees_size : length callees ≡ length v.code.nodes
   callees_size = ap length is.callees_are ∙ length-map v.kinds (callee_of v.code.functions) ∙ is.kinds
-
--- an entry that is read
-pub edge_read : (edges items : List Edge) (e : ℕ) (x : Edge) → items ≡ edges → e < length edges → x ≡ get_or items e x → slice_get edges e ≡ Some x
-edge_read edges items e x same lt at = slice_get_read edges (length edges) e x refl lt (at ∙ ap (λ xs. get_or xs e x) same)

@@ -94,12 +94,6 @@ module _ (v : FlowGraph) (firsts sources : List ℕ) (targets : List (Option ℕ
       let node : IsNode (graph v) a = (are.flow.nodes a).0 (k, at) in
       subst (λ u. (graph v).owner u < length v.code.functions) node.2 (are.flow.program.owner_function node.0 node.1)
 
-  pub owner_below : (k o : ℕ) → slice_get v.code.owners k ≡ Some o → o < length v.code.functions
-  owner_below k o at =
-      let kl : k < length v.code.nodes = (let lt = slice_get_within v.code.owners k o at in let s = are.owners in omega arith) in
-      let node = some_get v.code.nodes k kl in
-      subst (λ n. n < length v.code.functions) (owner_is k node.0 node.1 ∙ get_or_from_slice_get v.code.owners k o 0 at) (owner_within k node.0 node.1)
-
   entry_is : (f : ℕ) → f < length v.code.functions → (graph v).entry f ≡ get_or v.code.functions f 0
   entry_is f lt = ap number_or_0 (slice_get-get_or v.code.functions f 0 lt)
 

@@ -1,5 +1,5 @@
 -- One word more in the chains.
-use Rattle.std.proofs.Common.{◌≡◌, ◌≢◌, ℕ, ◌+◌, ◌<◌, true, List, length, refl, sym, ap, ◌∙◌, arith, Option, Some, None, ⊎_elim, set, get_or-set_same, get_or-set_other, length-set, replicate, zero, suc, [], ◌∷◌}
+use Rattle.std.proofs.Common.{◌≡◌, ◌≢◌, ℕ, ◌+◌, ◌<◌, true, List, length, refl, sym, ap, ◌∙◌, arith, Option, Some, None, ⊎_elim, set, get_or-set_same, get_or-set_other, length-set, zero, suc, [], ◌∷◌}
 use Rattle.std.specs.Prelude.{slice_index_or}
 use Rattle.std.proofs.lemmas.Bool.{cases_eq, le-leb}
 use Rattle.code_graph.specs.declared.reach.step.Step.{Step}
@@ -81,22 +81,6 @@ chain_skip steps n last before chain none = record {
   where
     other : (k s : ℕ) → k < length steps → s < n + 1 → key_of (step_at steps s) ≡ Some k → s < n
     other k s kl sl ks = ⊎_elim (λ (e : s ≡ n). absurd (none k kl (ap (λ x. key_of (step_at steps x)) (sym e) ∙ ks))) (λ ne. (let q : s < n = omega (arith, ne) in q)) (cases_eq s n)
-
-no_link : (n k s : ℕ) → slice_index_or (replicate n None) k None ≡ Some s → ⊥
-no_link zero k s h = cc
-no_link (suc n) zero s h = cc
-no_link (suc n) (suc k) s h = no_link n k s h
-
--- no word yet
-pub chain_none : (steps : List Step) (last before : List (Option ℕ)) → length last ≡ length steps → length before ≡ length steps → last ≡ replicate (length steps) None → AreStepChains steps 0 last before
-chain_none steps last before ll bl none = record {
-  last_size = ll;
-  before_size = bl;
-  last_key = λ k s h. absurd (no_link (length steps) k s (ap (λ xs. slice_index_or xs k None) (sym none) ∙ h));
-  before_key = λ k s r kl sl ks h. absurd (omega arith);
-  last_all = λ k x kl xl kx. absurd (omega arith);
-  before_all = λ k s x kl sl ks kx lt. absurd (omega arith);
-}
 
 pub same_link : (xs : List (Option ℕ)) (i : ℕ) (d e : Option ℕ) → i < length xs → slice_index_or xs i d ≡ slice_index_or xs i e
 same_link [] i d e lt = let bad : ⊥ = omega arith in absurd bad

@@ -1,8 +1,8 @@
 -- The forward pass: marks rise, and where each word is settled they cover all that is reached.
 use Rattle.std.proofs.Common.{◌≡◌, ◌≢◌, ℕ, zero, suc, ◌+◌, ◌*◌, ◌<◌, ◌≤◌, ◌↔◌, Bool, true, false, List, [], ◌∷◌, ◌++◌, length, refl, sym, ap, ◌∙◌, subst, arith, Option, Some, None, ◌⊎◌, inl, inr, ⊎_elim, set, get_or-set_same, get_or-set_other, length-append, length-set, replicate}
-use Rattle.std.specs.Prelude.{◌==◌, All, slice_index, slice_index_or, if◌then◌else◌}
+use Rattle.std.specs.Prelude.{◌==◌, slice_index, slice_index_or, if◌then◌else◌}
 use Rattle.std.proofs.lemmas.Bool.{cases_eq, eqb-true, eqb-false}
-use Rattle.std.proofs.lemmas.List.Elements.{All-push, All-nil}
+use Rattle.std.proofs.lemmas.List.Elements.{All-push}
 use Rattle.std.proofs.lemmas.List.{get_or_append_left}
 use Rattle.code_graph.specs.declared.reach.step.Step.{Step}
 use Rattle.code_graph.specs.declared.reach.marks.Mark.{Mark}
@@ -233,19 +233,6 @@ module _ (steps : List Step) (returns : List Bool) (first : ℕ) (marks : List M
     covered = pass.covered;
   }
 
-  pub number_grows : MarksGrow marks numbers queue marks (set numbers h (Some (length functions))) queue
-  number_grows = record { longer = omega arith; front = λ p lt. refl; above = λ v f c. c; fresh = λ v. inl refl; numbered = number_keeps }
-
-  pub number_new : function_number (set numbers h (Some (length functions))) h ≡ Some (length functions)
-  number_new = number_here h refl
-
--- the mark of a function's first word
-pub due_owner : (steps : List Step) (returns : List Bool) (first h : ℕ) → ReachedAt steps returns first h h → IsDue steps returns first (Owner h) h
-due_owner steps returns first h reached = record {
-  one = λ f s. (let same : h ≡ f = cc in subst (λ x. ReachedAt steps returns first x h) same reached);
-  two = λ s. (let bad : ⊥ = cc in absurd bad);
-}
-
 -- ---- where a word goes on
 module _ (steps : List Step) (returns : List Bool) (first u : ℕ) (m : Mark) (due : IsDue steps returns first m u) where
   pub due_jump : (k : ℕ) → jumped_word (step_at steps u) ≡ Some k → k < length steps → IsDue steps returns first m k
@@ -397,24 +384,9 @@ unreached_one m f a b = cc
 unreached_two : (m : Mark) → m ≡ Unreached → m ≡ Shared → ⊥
 unreached_two m a b = cc
 
-no_some : (o : Option ℕ) (i : ℕ) → o ≡ None → o ≡ Some i → ⊥
-no_some o i a b = cc
-
 module _ (steps : List Step) (returns : List Bool) (first : ℕ) (marks : List Mark) (functions : List ℕ) (numbers : List (Option ℕ)) (queue : List ℕ) (ml : length marks ≡ length steps) (nl : length numbers ≡ length steps) (me : marks ≡ replicate (length steps) Unreached) (fe : functions ≡ []) (ne : numbers ≡ replicate (length steps) None) (qe : queue ≡ []) where
   no_mark : (v : ℕ) → mark_at marks v ≡ Unreached
   no_mark v = ap (λ xs. mark_at xs v) me ∙ none_mark (length steps) v
-
-  pub start_pass : IsMarkPass steps returns first marks functions numbers queue
-  start_pass = record {
-    marks_size = ml;
-    numbers_size = nl;
-    due = λ v. record { one = λ f s. absurd (unreached_one (mark_at marks v) f (no_mark v) s); two = λ s. absurd (unreached_two (mark_at marks v) (no_mark v) s) };
-    listed = λ h i. (λ s. absurd (no_some (function_number numbers h) i (no_number (length steps) numbers ne h) s), λ w. absurd (let a = w.0 in let b = ap length fe in omega arith));
-    called = λ h i s. absurd (no_some (function_number numbers h) i (no_number (length steps) numbers ne h) s);
-    counted = (let b = ap length qe in omega arith);
-    within = subst (λ xs. All (λ k. k < length steps) xs) (sym qe) (All-nil (λ k. k < length steps));
-    covered = λ p lt. absurd (let b = ap length qe in omega arith);
-  }
 
   start_settled : (u : ℕ) → IsMarkSettled steps returns marks numbers u
   start_settled u = record {

@@ -19,16 +19,6 @@ use Rattle.code_graph.proofs.Lists.{Once, some_is, ascending_once, later_more, g
 
 -- ---- nodes, a word further
 
-pub nodes_start : (r : Reach) → AreReachedNodes r 0 [] [] []
-nodes_start r = record {
-  kinds_size = refl;
-  owners_size = refl;
-  few = omega arith;
-  each = λ j a at. let bad : ⊥ = cc in absurd bad;
-  whole = λ k i a below number at. let bad : ⊥ = omega arith in absurd bad;
-  ascending = λ i j a b ij at_i at_j. let bad : ⊥ = cc in absurd bad;
-}
-
 pub nodes_none : (r : Reach) (n : ℕ) (nodes : List ℕ) (kinds : List Flow) (owners : List ℕ) → AreReachedNodes r n nodes kinds owners → owner_number r n ≡ None → AreReachedNodes r (n + 1) nodes kinds owners
 nodes_none r n nodes kinds owners are none = record {
   kinds_size = are.kinds_size;

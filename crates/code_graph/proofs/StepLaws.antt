@@ -1,13 +1,12 @@
 -- Flags, numbers and ranges, an element further.
-use Rattle.std.proofs.Common.{◌≡◌, ℕ, ◌+◌, ◌<◌, Bool, true, false, List, [], ◌∷◌, ◌++◌, length, get_or, Option, Some, None, refl, sym, ap, ◌∙◌, subst, arith, ◌⊎◌, inl, inr, ⊎_elim}
+use Rattle.std.proofs.Common.{◌≡◌, ℕ, ◌+◌, ◌<◌, Bool, true, false, List, [], ◌∷◌, ◌++◌, length, get_or, Option, Some, None, sym, ap, ◌∙◌, subst, arith, ◌⊎◌, inl, inr, ⊎_elim}
 use Rattle.std.specs.Prelude.{slice_get, ◌↔◌}
 use Rattle.std.proofs.lemmas.Option.{slice_get_within, slice_get-get_or, get_or_from_slice_get}
-use Rattle.scale_base.specs.declared.ranges.Range.{Range}
 use Rattle.scale_base.specs.declared.edges.Edge.{Edge}
 use Rattle.cost_theory.specs.Reached.{edge_at, edge_to}
 use Rattle.cost_theory.proofs.Laws.{below_suc}
 use Rattle.code_graph.specs.Ends.{AreEnds}
-use Rattle.code_graph.specs.Assembling.{AreHeads, AreUp, AreStretches, IsEntryNode, LeadsApart, stretch}
+use Rattle.code_graph.specs.Assembling.{AreHeads, AreUp, IsEntryNode, LeadsApart}
 use Rattle.code_graph.proofs.Lists.{get_left, get_end, get_pushed, length_pushed}
 
 -- ---- flags that are up
@@ -17,14 +16,6 @@ flag_here flags k d lt is = slice_get-get_or flags k d lt ∙ ap Some is
 
 pub flag_down : (flags : List Bool) (k : ℕ) (d : Bool) → get_or flags k d ≡ false → slice_get flags k ≡ Some true → ⊥
 flag_down flags k d is up = let same : true ≡ false = sym (get_or_from_slice_get flags k true d up) ∙ is in let bad : ⊥ = cc in bad
-
-pub up_start : (flags : List Bool) → AreUp 0 flags []
-up_start flags = record {
-  few = omega arith;
-  up = λ b k at. let bad : ⊥ = cc in absurd bad;
-  whole = λ k kn is. let bad : ⊥ = omega arith in absurd bad;
-  ascending = λ b c j k bc at_b at_c. let bad : ⊥ = cc in absurd bad;
-}
 
 pub up_same : (n : ℕ) (flags : List Bool) (numbers : List ℕ) → (slice_get flags n ≡ Some true → ⊥) → AreUp n flags numbers → AreUp (n + 1) flags numbers
 up_same n flags numbers down are = record {
@@ -57,30 +48,7 @@ up_more n flags numbers more pushed here are = subst (AreUp (n + 1) flags) (sym 
       (get_pushed numbers n c k at_c);
 })
 
--- ---- ranges
-
-pub stretches_start : (nodes starts : List ℕ) → AreStretches 0 nodes starts []
-stretches_start nodes starts = record { size = refl; each = λ b block at. let bad : ⊥ = cc in absurd bad }
-
-pub stretches_more : (n : ℕ) (nodes starts : List ℕ) (blocks more : List Range) (block : Range) → more ≡ blocks ++ block ∷ [] → block ≡ stretch nodes starts n → AreStretches n nodes starts blocks → AreStretches (n + 1) nodes starts more
-stretches_more n nodes starts blocks more block pushed is are = subst (AreStretches (n + 1) nodes starts) (sym pushed) (record {
-  size = (let s = are.size in let long = length_pushed blocks block in omega arith);
-  each = λ b x at. ⊎_elim
-      (λ (old : slice_get blocks b ≡ Some x). are.each b x old)
-      (λ (new : (b ≡ length blocks) × (block ≡ x)). let e : b ≡ n = new.0 ∙ are.size in sym new.1 ∙ is ∙ ap (stretch nodes starts) (sym e))
-      (get_pushed blocks block b x at);
-})
-
 -- ---- ends
-
-pub ends_start : (nodes : List ℕ) (edges : List Edge) → AreEnds 0 nodes edges [] []
-ends_start nodes edges = record {
-  sources_size = refl;
-  targets_size = refl;
-  source = λ e k at. let bad : ⊥ = cc in absurd bad;
-  target = λ e k at. let bad : ⊥ = cc in absurd bad;
-  end = λ e at. let bad : ⊥ = cc in absurd bad;
-}
 
 pub ends_more : (n : ℕ) (nodes : List ℕ) (edges : List Edge) (sources more_sources : List ℕ) (targets more_targets : List (Option ℕ)) (x : Edge) (s : ℕ) (t : Option ℕ) → slice_get edges n ≡ Some x →
     more_sources ≡ sources ++ s ∷ [] → more_targets ≡ targets ++ t ∷ [] → slice_get nodes s ≡ Some x.at →
@@ -110,15 +78,6 @@ ends_more n nodes edges sources more_sources targets more_targets x s t at pushe
 -- ---- nodes that begin blocks
 
 module _ (nodes owners functions : List ℕ) (edges : List Edge) (firsts sources : List ℕ) (targets : List (Option ℕ)) where
-  pub heads_start : (heads : List Bool) → length heads ≡ length nodes → ((k : ℕ) → k < length nodes → (slice_get heads k ≡ Some true) ↔ IsEntryNode nodes owners functions k) →
-      AreHeads 0 nodes owners functions edges firsts sources targets heads
-  heads_start heads size up = record {
-    size = size;
-    entry = λ k kn is. (up k kn).1 is;
-    apart = λ e k en is. let bad : ⊥ = omega arith in absurd bad;
-    only = λ k is. inl ((up k (let lt = slice_get_within heads k true is in omega arith)).0 is);
-  }
-
   pub heads_more : (n : ℕ) (heads more : List Bool) (o : Option ℕ) → length more ≡ length heads →
       ((k : ℕ) → (slice_get more k ≡ Some true) ↔ ((slice_get heads k ≡ Some true) ⊎ (o ≡ Some k))) →
       ((k : ℕ) → (o ≡ Some k) ↔ LeadsApart edges firsts sources targets n k) →
@@ -138,17 +97,3 @@ module _ (nodes owners functions : List ℕ) (edges : List Edge) (firsts sources
         (λ (new : o ≡ Some k). inr (n, (let r : n < n + 1 = omega arith in r), (led k).0 new))
         ((up k).0 is);
   }
-
--- the flags of entries, a node further
-pub entries_more : (nodes owners functions : List ℕ) (n : ℕ) (flags more : List Bool) (b : Bool) → more ≡ flags ++ b ∷ [] → length flags ≡ n → ((b ≡ true) ↔ IsEntryNode nodes owners functions n) →
-    ((j : ℕ) → j < n → (slice_get flags j ≡ Some true) ↔ IsEntryNode nodes owners functions j) → (j : ℕ) → j < n + 1 → (slice_get more j ≡ Some true) ↔ IsEntryNode nodes owners functions j
-entries_more nodes owners functions n flags more b pushed size is old j jn = subst (λ fs. (slice_get fs j ≡ Some true) ↔ IsEntryNode nodes owners functions j) (sym pushed) (
-  λ up. ⊎_elim
-      (λ (before : slice_get flags j ≡ Some true). (old j (let lt = slice_get_within flags j true before in omega arith)).0 before)
-      (λ (new : (j ≡ length flags) × (b ≡ true)). let e : j ≡ n = new.0 ∙ size in subst (IsEntryNode nodes owners functions) (sym e) (is.0 new.1))
-      (get_pushed flags b j true up),
-  λ entry. ⊎_elim
-      (λ (lt : j < n). get_left flags (b ∷ []) j true ((old j lt).1 entry))
-      (λ (e : j ≡ n). ap (slice_get (flags ++ b ∷ [])) (e ∙ sym size) ∙ get_end flags b ∙ ap Some (is.1 (subst (IsEntryNode nodes owners functions) e entry)))
-      (below_suc j n (omega arith)),
-)

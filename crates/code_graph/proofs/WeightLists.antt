@@ -1,5 +1,5 @@
 -- The weights of the graph of a text as a list and as costs of its edges.
-use Rattle.std.proofs.Common.{◌≡◌, ℕ, zero, suc, List, [], ◌∷◌, length, map, slice_get, Some, refl, sym, ap, ◌∙◌, subst}
+use Rattle.std.proofs.Common.{◌≡◌, ℕ, zero, suc, List, [], ◌∷◌, map, slice_get, Some, refl, sym, ap, ◌∙◌, subst}
 use Rattle.std.specs.Prelude.{slice_index_or}
 use Rattle.std.proofs.Math.Path.{fun_ext}
 use Rattle.scale_base.specs.declared.stepping.Class.{Class}
@@ -31,10 +31,3 @@ pub weights_hold : (t : Text) (v : FlowGraph) (costs : Class → ℕ) → IsGrap
 weights_hold t v costs is =
     subst (λ (g : Graph). AreWeights g (number_in_place (listed_weights v costs))) is.graph_is
     (subst (λ (w : ℕ → ℕ). AreWeights (text_graph t v.code) w) (sym (weights_listed t v costs is)) (weights_are t v.code costs))
-
-pub weights_count : (t : Text) (v : FlowGraph) (costs : Class → ℕ) → IsGraphOf t v → length (listed_weights v costs) ≡ length v.code.edges
-weights_count t v costs is = ap (λ cs. length (map (cost_of costs) cs)) is.classes ∙ go v.code.edges
-  where
-    go : (edges : List Edge) → length (map (cost_of costs) (map (λ x. edge_class t (Some x)) edges)) ≡ length edges
-    go [] = refl
-    go (x ∷ xs) = ap suc (go xs)

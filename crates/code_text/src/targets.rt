@@ -35,7 +35,7 @@ fn add_targets(targets: &mut Vec<u32>, view: &ImageView<'_>, range: Range) -> Re
     Ok(())
 }
 
-/// The entry and where the branches and JALs of the text go, ascending.
+/// The entry and where the branches and JALs of the text go, ascending. How often one of them stands there is free.
 pub fn targets_of(alloc: Global, view: &ImageView<'_>) -> Result<Vec<u32>, NoMemory>
     ensures targets { IfOk result (λ targets. AreTargetsOf (texts.text_of view.now) targets.items) }
     ensures rising { IfOk result (λ targets. Rise targets.items) }

@@ -66,9 +66,6 @@ pub total-append : (c : ℕ → ℕ) (xs ys : List ℕ) → total c (xs ++ ys) �
 total-append c [] ys = omega arith
 total-append c (x ∷ xs) ys = let ih : total c (xs ++ ys) ≡ total c xs + total c ys = total-append c xs ys in omega arith
 
-pub total_one : (c : ℕ → ℕ) (e : ℕ) → total c (e ∷ []) ≡ c e
-total_one c e = omega arith
-
 -- both tests of a conjunction that holds
 pub and_left : (a b : Bool) → (a && b) ≡ true → a ≡ true
 and_left true b e = refl

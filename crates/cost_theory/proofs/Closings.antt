@@ -6,7 +6,7 @@ use Rattle.cost_theory.proofs.Basics.{search_below, and_left, and_both}
 use Rattle.cost_theory.proofs.Append.{leads_to_header}
 use Rattle.cost_theory.proofs.Nesting.{some_same, header_held, one_loop, IsAtHeader, step_at_header, accepted_entered}
 
--- a acyclic path within loop k
+-- a plain path within loop k
 abbrev pub IsPlainWithin : Graph → Loops → ℕ → Option ℕ → List ℕ → Type 0
 IsPlainWithin g l k p [] = Unit {0}
 IsPlainWithin g l k p (e ∷ es) = (e < g.edges) × (p ≡ Some (g.source e)) × IsPlain g l e × (is_round l k (g.target e) ≡ true) × IsPlainWithin g l k (g.target e) es
@@ -24,7 +24,7 @@ module _ (g : Graph) (l : Loops) (extent : ℕ → ℕ → Bool) (prog : IsProgr
   close_snoc k [] p e path ends lt back = (lt, ends, inl (back, refl))
   close_snoc k (x ∷ es) p e path ends lt back = (path.0, path.1, inr (path.2, path.3, close_snoc k es (g.target x) e path.4 ends lt back))
 
-  -- a acyclic path within k into the body of j passes j's header
+  -- a plain path within k into the body of j passes j's header
   pub within_to_header : (k j : ℕ) → j < l.loops → (es : List ℕ) (p : Option ℕ) (v : ℕ) → IsAtHeader l j p → IsPlainWithin g l k p es → end_of g p es ≡ Some v → l.inside j v ≡ true →
       (xs : List ℕ) × IsPlainWithin g l k p xs × (end_of g p xs ≡ Some (l.header j))
   within_to_header k j jl [] p v at path ends in_v =
@@ -45,7 +45,7 @@ module _ (g : Graph) (l : Loops) (extent : ℕ → ℕ → Bool) (prog : IsProgr
   pub header_at_header : (k j : ℕ) → k < l.loops → j < l.loops → l.inside k (l.header j) ≡ true → IsAtHeader l j (Some (l.header k))
   header_at_header k j kl jl j_in_k k_in_j = ap (λ i. Some (l.header i)) (one_loop g l extent prog (accepted_entered acc) k j kl jl j_in_k k_in_j)
 
-  -- a nonempty walk within the extent from a node that a acyclic path within k reaches, to the header
+  -- a nonempty walk within the extent from a node that a plain path within k reaches, to the header
   pub close_walk : (k : ℕ) → k < l.loops → extent k (l.header k) ≡ true → (es : List ℕ) (e : ℕ) (xs : List ℕ) →
       g.owner (g.source e) ≡ g.owner (l.header k) →
       IsPlainWithin g l k (Some (l.header k)) xs → end_of g (Some (l.header k)) xs ≡ Some (g.source e) →

@@ -12,7 +12,7 @@ module _ (g : Graph) (l : Loops) (c : ℕ → ℕ) (n : Numbers) (nest : AreNest
   abbrev pub IsAtHeaders : ℕ → Type 0
   IsAtHeaders v = (k : ℕ) → k < l.loops → l.inside k v ≡ true → v ≡ l.header k
 
-  -- there what is left is a acyclic path
+  -- there what is left is a plain path
   pub left-plain : (v : ℕ) → IsAtHeaders v → n.left v ≡ n.plain v
   left-plain v at = ⊎_elim (λ e. e)
       (λ (m : (k : ℕ) × (b : ℕ) × (k < l.loops) × (l.inside k v ≡ true) × (l.header k ≢ v) × (n.closing k v ≡ Some b) ×

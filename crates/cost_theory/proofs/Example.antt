@@ -1,11 +1,9 @@
 -- The definitions are met: a node that branches to itself or to an exit is an accepted program with a loop at its entry.
 use Rattle.std.proofs.Common.{◌≡◌, ℕ, zero, suc, ◌+◌, ◌<◌, Bool, true, false, nat_eq, List, [], ◌∷◌, Option, Some, None, refl, sym, ap, subst, arith, eqb-true}
 use Rattle.cost_theory.specs.Graph.{Graph, Loops, IsWalk, end_of, IsPlain}
-use Rattle.cost_theory.specs.Worst.{Numbers, AreNumbers}
-use Rattle.cost_theory.specs.Accepted.{IsNode, IsProgram, IsInBody, AreAccepted, IsCallOrder, IsPlainOrder}
+use Rattle.cost_theory.specs.Accepted.{IsNode, IsProgram, IsInBody, AreAccepted, IsPlainOrder}
 use Rattle.cost_theory.proofs.Nesting.{some_same}
 use Rattle.cost_theory.proofs.Orders.{order-no_cycle}
-use Rattle.cost_theory.proofs.Contexts.{numbers_exist}
 
 abbrev pub small_source : ℕ → ℕ
 small_source zero = 0
@@ -108,10 +106,3 @@ small_accepted = record {
 
     from : (v : ℕ) → IsInBody small 0 (λ u. nat_eq u 0) v → nat_eq v 0 ≡ true
     from v b = subst (λ u. nat_eq u 0 ≡ true) (sym (some_same v (small_source b.2.0) b.2.2.1)) b.2.4.0
-
-pub small_calls : IsCallOrder small (λ f. 0)
-small_calls = record { below = λ f fl. omega arith; falls = λ u f call. absurd (no_callee f call.3) }
-
--- so it has its numbers, under any weights
-pub small_numbers : (w : ℕ → ℕ) → (n : Numbers) × AreNumbers small small_loop w n
-small_numbers w = numbers_exist small small_loop small_extent w small_program small_accepted 2 (λ v. v) small_order (λ f. 0) small_calls

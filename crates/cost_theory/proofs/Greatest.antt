@@ -52,9 +52,6 @@ greatest_as P Q value (Some a) to from p = record {
   most = λ x q. p.most x (from x q);
 }
 
-pub greatest_none : {A : Type 0} (P : A → Type 0) (value : A → ℕ) → ((x : A) → P x → ⊥) → IsGreatestIfAny P value None
-greatest_none P value none = none
-
 -- lists that begin with e
 abbrev pub After : ℕ → (List ℕ → Type 0) → List ℕ → Type 0
 After e P [] = ⊥
@@ -228,10 +225,6 @@ best_run g anywhere last step c (suc m) None = where_true anywhere (Some 0)
 best_run g anywhere last step c (suc m) (Some v) = best_below g anywhere last step c (λ e. best_run g anywhere last step c m (g.target e)) v g.edges
 
 module _ (g : Graph) (anywhere : Bool) (last step : ℕ → Bool) (c : ℕ → ℕ) where
-  pub run_below : (es : List ℕ) (p : Option ℕ) → IsRun g anywhere last step p es → BeginsBelow g.edges es
-  run_below [] p run = tt
-  run_below (e ∷ es) p run = run.0
-
   pub nowhere : IsGreatestIfAny (IsRun g anywhere last step None) (total c) (where_true anywhere (Some 0))
   nowhere = go anywhere
     where

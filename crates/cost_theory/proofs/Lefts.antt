@@ -83,7 +83,7 @@ left_same l n n' v plain left turn closing heads is = record {
       )) is.attained;
 }
 
--- the candidates for what is left, beside the acyclic paths
+-- the candidates for what is left, beside the plain paths
 abbrev pub moved : ℕ → Option ℕ → Option ℕ
 moved x None = None
 moved x (Some b) = Some (b + x)

@@ -12,7 +12,7 @@ use Rattle.cost_theory.proofs.Orders.{left-worst}
 
 module _ (g : Graph) (l : Loops) (extent : ℕ → ℕ → Bool) (w : ℕ → ℕ) (n : Numbers) (is : IsAnalyzed g l extent w n)
     (m : ℕ) (small : (e : ℕ) → e < g.edges → g.callee e ≡ None → w e ≤ m) where
-  -- a plain edge before a acyclic path
+  -- a plain edge before a plain path
   pub plain_before : (e u : ℕ) → e < g.edges → IsPlain g l e → g.target e ≡ Some u → charged g l n (cost g n w) e + n.plain u ≤ n.plain (g.source e)
   plain_before e u lt plain to =
       let best : IsGreatest (IsPlainPath g l (Some u)) (total (charged g l n (cost g n w))) (n.plain u) = is.numbers.loops.plain u in

@@ -19,7 +19,7 @@ module _ (g : Graph) (l : Loops) (extent : ℕ → ℕ → Bool) (prog : IsProgr
       let ih : IsPlainPath g l (g.target x) (es ++ e ∷ []) × (end_of g (g.target x) (es ++ e ∷ []) ≡ g.target e) = path_snoc es (g.target x) e path.3 ends lt plain in
       ((path.0, path.1, path.2, ih.0), ih.1)
 
-  -- a acyclic path into a body passes its header
+  -- a plain path into a body passes its header
   pub path_to_header : (k : ℕ) → k < l.loops → (es : List ℕ) (p : Option ℕ) (v : ℕ) → IsAtHeader l k p → IsPlainPath g l p es → end_of g p es ≡ Some v → l.inside k v ≡ true →
       (xs : List ℕ) × IsPlainPath g l p xs × (end_of g p xs ≡ Some (l.header k))
   path_to_header k kl [] p v at path ends in_v =
@@ -36,7 +36,7 @@ module _ (g : Graph) (l : Loops) (extent : ℕ → ℕ → Bool) (prog : IsProgr
           let more : (xs : List ℕ) × IsPlainPath g l (g.target e) xs × (end_of g (g.target e) xs ≡ Some (l.header k)) = ih (subst (λ o. is_round l k o ≡ false) path.1 r) in
           (e ∷ more.0, (path.0, path.1, path.2, more.1), more.2)
 
-  -- what a walk reaches a acyclic path reaches
+  -- what a walk reaches a plain path reaches
   pub plain_reach : (p : Option ℕ) → ((k : ℕ) → k < l.loops → IsAtHeader l k p) → (es xs : List ℕ) (q : Option ℕ) (v : ℕ) →
       IsPlainPath g l p xs → end_of g p xs ≡ q → IsWalk g q es → end_of g q es ≡ Some v →
       (xs : List ℕ) × IsPlainPath g l p xs × (end_of g p xs ≡ Some v)
@@ -54,7 +54,7 @@ module _ (g : Graph) (l : Loops) (extent : ℕ → ℕ → Bool) (prog : IsProgr
       to_header : (k : ℕ) → is_back g l k e ≡ true → g.target e ≡ Some (l.header k)
       to_header k back = leads_to_header g l e k back
 
-  -- so each node of a function is reached by a acyclic path from its entry
+  -- so each node of a function is reached by a plain path from its entry
   pub plain_from_entry : (e : ℕ) → e < g.edges →
       (xs : List ℕ) × IsPlainPath g l (Some (g.entry (g.owner (g.source e)))) xs × (end_of g (Some (g.entry (g.owner (g.source e)))) xs ≡ Some (g.source e))
   plain_from_entry e lt =

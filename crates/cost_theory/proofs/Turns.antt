@@ -280,7 +280,7 @@ module _ (g : Graph) (l : Loops) (c : ℕ → ℕ) (n : Numbers) (nest : AreNest
   pub turn_of : AreLoopNumbers g l c n → (k : ℕ) → k < l.loops → Turn g l c n k
   turn_of nums k kl = turns_below nums (suc (nest.rank k)) k kl (omega arith)
 
-  -- a acyclic path, filled with all turns of the loops that it enters
+  -- a plain path, filled with all turns of the loops that it enters
   pub fill_path : AreLoopNumbers g l c n → (es : List ℕ) (p : Option ℕ) → IsPlainPath g l p es →
       (xs : List ℕ) × IsWalk g p xs × (total c xs ≡ total (charged g l n c) es) × ((counts : ℕ → ℕ) → AreWithin l counts → IsBounded g l counts xs)
   fill_path nums [] p path = ([], tt, refl, λ counts within. tt)

@@ -92,7 +92,7 @@ AreCrossing l j k =
 abbrev pub IsTooDeep : Loops → ℕ → Type 0
 IsTooDeep l k = 16 < sum_below l.loops (λ j. only (l.inside j (l.header k)) 1)
 
--- a nonempty acyclic path leads from a node to itself
+-- a nonempty plain path leads from a node to itself
 abbrev pub IsPlainCycle : Graph → Loops → ℕ → List ℕ → Type 0
 IsPlainCycle g l v es = (es ≢ []) × IsPlainPath g l (Some v) es × (end_of g (Some v) es ≡ Some v)
 

@@ -98,7 +98,7 @@ abbrev pub IsPlainPath : Graph → Loops → Option ℕ → List ℕ → Type 0
 IsPlainPath g l p [] = Unit {0}
 IsPlainPath g l p (e ∷ es) = (e < g.edges) × (p ≡ Some (g.source e)) × IsPlain g l e × IsPlainPath g l (g.target e) es
 
--- a acyclic path within loop k, closed by one back edge of k
+-- a plain path within loop k, closed by one back edge of k
 abbrev pub IsClosing : Graph → Loops → ℕ → Option ℕ → List ℕ → Type 0
 IsClosing g l k p [] = ⊥
 IsClosing g l k p (e ∷ es) =

@@ -6,9 +6,9 @@ use Rattle.cost_theory.specs.Graph.{Graph, Loops, total, next_edge}
 use Rattle.cost_theory.specs.Worst.{Numbers, AreNumbers, cost, charged, left_at, turn_back, slack, left_behind, turns_round, all_of, rest}
 use Rattle.cost_theory.specs.Accepted.{IsNode, IsProgram, AreCrossing, IsTooDeep, AreEntered, IsWithin, AreAccepted, AreWeights, HasNoRecursion, IsCallOrder, IsPlainOrder, IsPlainCycle}
 use Rattle.cost_theory.specs.Reached.{Code, IsCodeOf, HasNoBadWord, HasNoSharedCode, graph_of}
-use Rattle.cost_theory.specs.Steps.{Transition, IsKept, AreKept, EndsByExit, graph_start, state_after, after, edge_of, cycles, cycles_left}
+use Rattle.cost_theory.specs.Steps.{Transition, IsKept, AreKept, graph_start, state_after, after, edge_of, cycles, cycles_left}
 use Rattle.cost_theory.specs.Steps.Transition.{Along, Call, Return}
-use Rattle.cost_theory.specs.Least.{Least, AreLeast, IsUpTo}
+use Rattle.cost_theory.specs.Least.{IsUpTo}
 use Rattle.cost_theory.specs.LeastTurns.{IsRun, KeepsLeast, IsKind, turn_step, turn_last}
 
 -- an accepted program with its loops, weights of its edges, and the numbers under these weights
@@ -199,12 +199,6 @@ LeftWithinRestOfReturn = (g : Graph) (l : Loops) (extent : ℕ → ℕ → Bool)
     cycles_left g l w n (after g l (state_after g l ms) (Return e)) ≤ rest g l n d
 
 -- LEAST CYCLES
-
--- From a node that a kept run has come to, a kept run that ends by an exit takes at least the node's least cycles to an end.
-abbrev pub ExitTakesLeast : Type 0
-ExitTakesLeast = (g : Graph) (l : Loops) (w : ℕ → ℕ) (n : Least) → IsProgram g → AreWeights g w → AreLeast g w n →
-    (ms more : List Transition) (v : ℕ) → AreKept g l (graph_start g) ms → (state_after g l ms).node ≡ Some v →
-    AreKept g l (state_after g l ms) more → EndsByExit more → IsUpTo (n.to_end v) (cycles w more)
 
 -- Where each loop is left only after its least number of turns, a walk costs at least the least charged cost of its kind.
 abbrev pub TurnsTakeLeast : Type 0

@@ -25,7 +25,7 @@ pub record Numbers : Type 0 where
   pub worst : ℕ → ℕ
   -- by loop: the greatest cost of one iteration
   pub iteration : ℕ → ℕ
-  -- by node: the greatest cost of a acyclic path
+  -- by node: the greatest cost of a plain path
   pub plain : ℕ → ℕ
   -- by loop and node: the greatest cost of the rest of an iteration, where there is one
   pub closing : ℕ → ℕ → Option ℕ
@@ -46,7 +46,7 @@ all_of l n k = l.bound k * n.iteration k
 abbrev pub charged : Graph → Loops → Numbers → (ℕ → ℕ) → ℕ → ℕ
 charged g l n c e = c e + sum_below l.loops (λ k. only (enters l k (g.source e) (g.target e)) (all_of l n k))
 
--- What is left at a node is the greatest of two kinds: the acyclic paths from there; and for each loop round the node whose
+-- What is left at a node is the greatest of two kinds: the plain paths from there; and for each loop round the node whose
 -- header it isn't, where an iteration has a rest from there, that rest and what is left at the header, less one iteration.
 -- It is stated without subtraction, since that difference may be negative.
 pub record IsLeft (l : Loops) (n : Numbers) (v : ℕ) : Type 0 where

@@ -17,7 +17,7 @@ mod reached;
 
 pub use flow::Flow;
 pub use kept_runs::{left_within_the_rest, run_law, step_law};
-pub use least_cycles::{exits_take_the_least, turns_take_the_least};
+pub use least_cycles::turns_take_the_least;
 pub use loops::entered_loops_are_nested;
 pub use numbers::{
     iterations_near_the_worst, numbers_are_determined, numbers_exist, parts_within_the_worst,

@@ -11,7 +11,7 @@ module _ (g : Graph) (l : Loops) (extent : ℕ → ℕ → Bool) (w : ℕ → �
   abbrev charge : ℕ → ℕ
   charge = charged g l n (cost g n w)
 
-  -- what is left at an entry is a acyclic path from it
+  -- what is left at an entry is a plain path from it
   entry_plain : (f : ℕ) → f < g.functions → n.left (g.entry f) ≡ n.plain (g.entry f)
   entry_plain f fl = left-plain g l (cost g n w) n (nested g l extent is.program (accepted_entered is.accepted)) is.numbers.loops (g.entry f)
       (λ k kl in_k. entry_header g l extent is.program (accepted_entered is.accepted) f k fl kl in_k)
@@ -53,7 +53,7 @@ module _ (g : Graph) (l : Loops) (extent : ℕ → ℕ → Bool) (w : ℕ → �
       let b : n.plain v ≤ n.left v = (is.numbers.loops.left v).over_plain in
       omega arith
 
-  -- a acyclic path from a place costs at most the greatest, which one of them costs
+  -- a plain path from a place costs at most the greatest, which one of them costs
   path_within : (p : Option ℕ) (es : List ℕ) → IsPlainPath g l p es → total charge es ≤ plain_at n p
   path_within None [] path = le_refl 0
   path_within None (e ∷ es) path = let q : None ≡ Some (g.source e) = path.1 in let bad : ⊥ = cc in absurd bad

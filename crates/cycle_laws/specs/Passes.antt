@@ -40,12 +40,12 @@ BackIsOfHeader = (g : Graph) (l : Loops) (extent : ℕ → ℕ → Bool) (w : �
 
 -- PLAIN PATHS
 
--- the greatest cost of a acyclic path from a place: nothing behind the end of a walk
+-- the greatest cost of a plain path from a place: nothing behind the end of a walk
 abbrev pub plain_at : Numbers → Option ℕ → ℕ
 plain_at n None = 0
 plain_at n (Some u) = n.plain u
 
--- The greatest cost of a acyclic path from a node is the greatest over its plain edges of the edge and a path from behind it,
+-- The greatest cost of a plain path from a node is the greatest over its plain edges of the edge and a path from behind it,
 -- or 0.
 pub record IsPlainOver (g : Graph) (l : Loops) (w : ℕ → ℕ) (n : Numbers) (v : ℕ) : Type 0 where
   pub most : (e : ℕ) → e < g.edges → g.source e ≡ v → IsPlain g l e →
@@ -85,14 +85,14 @@ IterationIsClosing = (g : Graph) (l : Loops) (extent : ℕ → ℕ → Bool) (w 
 
 -- WORST CYCLES
 
--- The worst cycles of a function are a acyclic path from its entry, with all turns of the loop whose header the entry is.
+-- The worst cycles of a function are a plain path from its entry, with all turns of the loop whose header the entry is.
 abbrev pub WorstIsPlain : Type 0
 WorstIsPlain = (g : Graph) (l : Loops) (extent : ℕ → ℕ → Bool) (w : ℕ → ℕ) (n : Numbers) → IsAnalyzed g l extent w n →
     (f : ℕ) → f < g.functions →
     (((k : ℕ) → k < l.loops → l.header k ≢ g.entry f) → n.worst f ≡ n.plain (g.entry f)) ×
     ((k : ℕ) → k < l.loops → l.header k ≡ g.entry f → n.worst f ≡ n.plain (g.entry f) + all_of l n k)
 
--- A acyclic path from any node costs at most the program's worst cycles.
+-- A plain path from any node costs at most the program's worst cycles.
 abbrev pub PlainWithinWorst : Type 0
 PlainWithinWorst = (g : Graph) (l : Loops) (extent : ℕ → ℕ → Bool) (w : ℕ → ℕ) (n : Numbers) → IsAnalyzed g l extent w n →
     (v : ℕ) → IsNode g v → n.plain v ≤ n.worst 0

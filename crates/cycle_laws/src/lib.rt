@@ -21,7 +21,7 @@ pub fn headers_are_told_apart()
     ensures of_header { BackIsOfHeader }
 {}
 
-/// The greatest cost of a acyclic path from a node, from its plain edges and the numbers behind them.
+/// The greatest cost of a plain path from a node, from its plain edges and the numbers behind them.
 pub fn plain_over_edges()
     ensures { PlainOver }
 {}
@@ -36,8 +36,8 @@ pub fn iteration_from_header()
     ensures { IterationIsClosing }
 {}
 
-/// The worst cycles of a function are a acyclic path from its entry, with all turns of the loop whose header the entry is.
-/// No acyclic path costs more than the program's worst cycles.
+/// The worst cycles of a function are a plain path from its entry, with all turns of the loop whose header the entry is.
+/// No plain path costs more than the program's worst cycles.
 pub fn worst_from_plain()
     ensures of_function { WorstIsPlain }
     ensures within { PlainWithinWorst }

@@ -26,9 +26,6 @@ both_true false b e = absurd cc
 le_of : (x y : ℕ) → nat_le x y ≡ true → x ≤ y
 le_of x y e = grind (arith, nat_tests)
 
-at_base : ℕ → ℕ → Span
-at_base base len = record { from = base; len = len }
-
 -- a span that ends at or below the base
 below : (base len : ℕ) (s : Span) → s.from + s.len ≤ base → overlap (record { from = base; len = len }) s ≡ false
 below base len s le = grind (arith, nat_tests)

@@ -1,17 +1,15 @@
 -- Bytes that are put in their place, and the entries of the table one at a time.
-use Rattle.std.proofs.Common.{◌≡◌, ℕ, zero, suc, ◌+◌, ◌-◌, ◌<◌, ◌≤◌, Bool, true, false, not, ◌&&◌, List, [], ◌∷◌, ◌++◌, length, map, get_or, take, take_all, drop, fold, refl, sym, ap, ◌∙◌, append_assoc, arith, inl, inr}
+use Rattle.std.proofs.Common.{◌≡◌, ℕ, zero, suc, ◌+◌, ◌-◌, ◌<◌, ◌≤◌, Bool, true, false, not, ◌&&◌, List, [], ◌∷◌, ◌++◌, length, map, take, take_all, drop, refl, sym, ap, ◌∙◌, append_assoc, arith, inl, inr}
 use Rattle.std.specs.Prelude.{nat_le}
 use Rattle.std.specs.List.{range_with_len, prefix_len}
 use Rattle.std.proofs.lemmas.Bool.{cases_lt}
-use Rattle.std.proofs.lemmas.List.{append-nil, drop_all, drop-drop, length-drop, take_more}
+use Rattle.std.proofs.lemmas.List.{append-nil, drop_all, drop-drop, length-drop}
 use Rattle.std.proofs.lemmas.Grind.{flat_map-append}
 use Rattle.std.proofs.lemmas.List.FromFn.{map-range_with_len_more}
 use borrow.Rule.Slice.PartMut.{put_mid}
-use Rattle.scale_base.specs.declared.headers.ProgramHeader.{ProgramHeader}
-use Rattle.scale_base.specs.declared.ranges.Patch.{Patch}
 use Rattle.scale_base.specs.Elf.{e_phnum, program_header, program_headers}
 use Rattle.scale_base.specs.Image.{is_load}
-use Rattle.elf_patch.specs.Stored.{put, put_patch, entries, kept_entry, keyed_number}
+use Rattle.elf_patch.specs.Stored.{put, entries, kept_entry, keyed_number}
 
 -- what a write at the front of a tail leaves
 pub put-is : (xs bytes new : List ℕ) (at n : ℕ) → n ≡ length bytes → at ≤ length xs → new ≡ bytes ++ drop n (take (length xs - at) (drop at xs)) → put_mid at (length xs - at) xs new ≡ put xs at bytes
@@ -48,9 +46,6 @@ prefix_from p f a (suc n) k low high before here =
           rw off (omega arith)
     ]
 
-is_above : ℕ → ProgramHeader → Bool
-is_above base h = is_load h && nat_le base h.p_vaddr
-
 not_false : (b : Bool) → b ≡ false → not b ≡ true
 not_false true e = absurd cc
 not_false false e = refl
@@ -66,10 +61,3 @@ keyed_number-at file base k le before here =
     let e = prefix_from (λ h. not (is_load h && nat_le base h.p_vaddr)) (program_header file) 0 (e_phnum file) k (omega arith) (omega arith)
     (λ j l h. not_false _ (before j h)) (λ h. not_true _ (here (omega arith))) in
     sym (e ∙ (let z : k - 0 ≡ k = omega arith in z))
-
-fold-snoc : {A B : Type 0} (f : B → A → B) (b : B) (xs : List A) (y : A) → fold f b (xs ++ y ∷ []) ≡ f (fold f b xs) y
-fold-snoc f b [] y = refl
-fold-snoc f b (x ∷ xs) y = fold-snoc f (f b x) xs y
-
-pub patched-more : (file : List ℕ) (patches : List Patch) (k : ℕ) (d : Patch) → k < length patches → fold (put_patch file) file (take (k + 1) patches) ≡ put_patch file (fold (put_patch file) file (take k patches)) (get_or patches k d)
-patched-more file patches k d lt = rw (take_more patches k d lt) (fold-snoc (put_patch file) file (take k patches) (get_or patches k d))

@@ -1,13 +1,11 @@
 -- Names in a string table, and entries one at a time.
-use Rattle.std.proofs.Common.{◌≡◌, ℕ, zero, suc, ◌+◌, ◌-◌, ◌<◌, ◌≤◌, Bool, true, false, ◌&&◌, List, [], ◌∷◌, ◌++◌, length, map, get_or, drop, Option, Some, None, refl, sym, ap, ◌∙◌, arith, add-one, drop-cons}
-use Rattle.std.specs.Prelude.{nat_eq, slice_get, ◌==◌}
+use Rattle.std.proofs.Common.{◌≡◌, ℕ, zero, suc, ◌+◌, ◌-◌, ◌<◌, ◌≤◌, Bool, true, false, ◌&&◌, List, [], ◌∷◌, ◌++◌, length, map, get_or, drop, Some, None, refl, sym, ap, ◌∙◌, arith, add-one, drop-cons}
+use Rattle.std.specs.Prelude.{nat_eq, slice_get}
 use Rattle.std.specs.List.{find, range_with_len, starts_with}
 use Rattle.std.proofs.lemmas.Bool.Decides.{nat_tests}
 use Rattle.std.proofs.lemmas.List.{drop_all}
 use Rattle.std.proofs.lemmas.List.FromFn.{length-map-range_with_len, get_or-map-range_with_len}
 use Rattle.scale_base.specs.declared.headers.SectionHeader.{SectionHeader}
-use Rattle.scale_base.specs.Symbols.{lies_in, is_string_table, is_symbol_table}
-use Rattle.elf_view.proofs.Booleans.{both_true, le_of}
 use Rattle.scale_base.specs.Elf.{e_shnum, section_header, section_headers}
 
 sym_eq : (y : ℕ) → (nat_eq 0 y && true) ≡ (true && nat_eq y 0)
@@ -21,16 +19,6 @@ pub starts_with-text : (bytes name : List ℕ) → length name < length bytes �
 starts_with-text [] name lt = absurd (omega arith)
 starts_with-text (y ∷ ys) [] lt = sym_eq y
 starts_with-text (y ∷ ys) (x ∷ xs) lt = join (nat_eq x y) (starts_with nat_eq ys (xs ++ 0 ∷ [])) (starts_with nat_eq ys xs) (nat_eq (get_or ys (length xs) 0) 0) (starts_with-text ys xs (omega arith))
-
-neither : (a b : Bool) → b ≡ false → false ≡ (a && b)
-neither true b e = sym e
-neither false b e = refl
-
-pub starts_with-short : (bytes name : List ℕ) → length bytes ≤ length name → false ≡ starts_with nat_eq bytes (name ++ 0 ∷ [])
-starts_with-short [] [] le = refl
-starts_with-short [] (x ∷ xs) le = refl
-starts_with-short (y ∷ ys) [] le = absurd (omega arith)
-starts_with-short (y ∷ ys) (x ∷ xs) le = neither (nat_eq x y) (starts_with nat_eq ys (xs ++ 0 ∷ [])) (sym (starts_with-short ys xs (omega arith)))
 
 pub find-next : (p : ℕ → Bool) (n k : ℕ) → k < n → p k ≡ false → find p (range_with_len k (n - k)) ≡ find p (range_with_len (k + 1) (n - (k + 1)))
 find-next p n k lt e =
@@ -70,23 +58,6 @@ length-sections file = length-map-range_with_len (section_header file) 0 (e_shnu
 pub section-is : (file : List ℕ) (k : ℕ) (d : SectionHeader) → k < e_shnum file → get_or (section_headers file) k d ≡ section_header file k
 unfolding section_headers
 section-is file k d lt = get_or-map-range_with_len (section_header file) 0 (e_shnum file) k k d lt (omega arith)
-
-pub table_lies : (file : List ℕ) (s : SectionHeader) → is_symbol_table file s ≡ true → s.sh_offset + s.sh_size ≤ length file
-table_lies file s e =
-    let a = both_true ((s.sh_type == 2) && lies_in (length file) s) (is_string_table (length file) (slice_get (section_headers file) s.sh_link)) e in
-    le_of _ _ (both_true (s.sh_type == 2) (lies_in (length file) s) a.0).1
-
-strings_lie : (len : ℕ) (o : Option SectionHeader) (s : SectionHeader) → is_string_table len o ≡ true → o ≡ Some s → s.sh_offset + s.sh_size ≤ len
-strings_lie len None s e is = absurd cc
-strings_lie len (Some t) s e is =
-    let same : t ≡ s = cc in
-    let low = le_of _ _ (both_true (t.sh_type == 3) (lies_in len t) e).1 in
-    rw (← same) low
-
-pub table_strings_lie : (file : List ℕ) (table s : SectionHeader) → is_symbol_table file table ≡ true → slice_get (section_headers file) table.sh_link ≡ Some s → s.sh_offset + s.sh_size ≤ length file
-table_strings_lie file table s e is =
-    let a = both_true ((table.sh_type == 2) && lies_in (length file) table) (is_string_table (length file) (slice_get (section_headers file) table.sh_link)) e in
-    strings_lie (length file) (slice_get (section_headers file) table.sh_link) s a.1 is
 
 -- a search through the sections: section k is taken, is passed, and none is left
 pub section_taken : (file : List ℕ) (p : SectionHeader → Bool) (k : ℕ) (s : SectionHeader) → k < e_shnum file → s ≡ section_header file k → p s ≡ true → Some s ≡ find p (drop k (section_headers file))

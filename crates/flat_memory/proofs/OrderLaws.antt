@@ -10,7 +10,7 @@ use Rattle.scale_base.specs.declared.ranges.Span.{Span}
 use Rattle.scale_base.specs.Spans.{in_span, each_pair}
 use Rattle.scale_base.specs.Image.{is_in}
 use Rattle.flat_memory.specs.Blocks.{span_of, holds, byte_in_blocks, allows, may_be_used}
-use Rattle.flat_memory.specs.Ordered.{comes_before, are_ordered, IsPlaceOf, HasBlock, range_before, is_ordered_text}
+use Rattle.flat_memory.specs.Ordered.{comes_before, are_ordered, HasBlock, range_before, is_ordered_text}
 use Rattle.flat_memory.specs.declared.block.Block.{Block}
 use Rattle.flat_memory.proofs.BlockLaws.{read, IsFirst}
 
@@ -144,12 +144,6 @@ pub record Searched (xs : List Block) (at k : ℕ) : Type 0 where
   pub bound : k ≤ length xs
   pub below : (i : ℕ) (d : Block) → i < k → (get_or xs i d).from ≤ at
   pub above : (i : ℕ) (d : Block) → k ≤ i → i < length xs → holds at (get_or xs i d) ≡ false
-
-not_yet : (b : Block) (at : ℕ) → at < b.from → holds at b ≡ false
-not_yet b at lt = grind (arith, nat_tests)
-
-pub searched_none : (xs : List Block) (at place : ℕ) → IsPlaceOf xs at place → Searched xs at place
-searched_none xs at place h = record { bound = h.bound; below = h.below; above = λ i d le lt. not_yet (get_or xs i d) at (h.above i d le lt) }
 
 get_same : (xs : List Block) (k : ℕ) (d e : Block) → k < length xs → get_or xs k d ≡ get_or xs k e
 get_same [] k d e lt = absurd (omega arith)

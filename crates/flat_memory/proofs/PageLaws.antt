@@ -205,14 +205,6 @@ paged_put_rest groups at value rest rest' none e = fun_ext (λ a.
       | inr ne ↦ same_rest groups rest rest' a (ap (λ f. f a) e ∙ written_other rest at value a ne) ∙ sym (written_other (paged_bytes groups rest) at value a ne)
     ])
 
--- the table of one page that has other bytes says the same of all of them
-pub use_stays : (old new : List (Option PageGroup)) (n m : ℕ) (change : List ℕ → List ℕ) → IsPutAt old new n change → use_of (page_at new m) ≡ use_of (page_at old m)
-use_stays old new n m change put =
-    elim (cases_eq m n) [
-      | inl e ↦ ap (λ k. use_of (page_at new k)) e ∙ (put.here.whole ∙ ap (λ k. use_of (page_at old k)) (sym e))
-      | inr ne ↦ ap use_of (put.others m ne)
-    ]
-
 -- the byte of a page that is there
 pub page_byte : (groups : List (Option PageGroup)) (rest : ℕ → ℕ) (at : ℕ) (p : Page) → page_at groups (at / 4096) ≡ Some p → slice_index p.bytes.items (at % 4096) ≡ paged_bytes groups rest at
 page_byte groups rest at p is = sym (paged_here groups rest at (ap is_some is) ∙ ap (λ o. slice_index (bytes_of_page o) (at % 4096)) is)

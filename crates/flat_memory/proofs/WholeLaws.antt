@@ -1,11 +1,10 @@
 -- Who may use all the addresses of a page, and what the loaded pages hold.
-use Rattle.std.proofs.Common.{rules, ◌≡◌, ℕ, zero, suc, ◌+◌, ◌++◌, ◌-◌, ◌*◌, ◌/◌, ◌%◌, ◌<◌, ◌≤◌, Bool, true, false, not, List, [], ◌∷◌, length, get_or, Option, Some, None, is_some, refl, ap, sym, ◌∙◌, subst, arith, inl, inr, vec_len}
+use Rattle.std.proofs.Common.{rules, ◌≡◌, ℕ, zero, suc, ◌+◌, ◌-◌, ◌*◌, ◌/◌, ◌%◌, ◌<◌, ◌≤◌, Bool, true, false, not, List, [], ◌∷◌, length, get_or, Option, Some, None, is_some, refl, ap, sym, ◌∙◌, subst, arith, inl, inr, vec_len}
 use Rattle.std.specs.Prelude.{◌&&◌, ◌||◌, nat_le, nat_lt, slice_index, if◌then◌else◌}
 use Rattle.std.specs.List.{list_any}
 use Rattle.std.proofs.Math.Path.{fun_ext}
-use Rattle.std.proofs.lemmas.Bool.{cases_lt, cases_eq, cond-true, cond-false}
+use Rattle.std.proofs.lemmas.Bool.{cases_lt, cond-true, cond-false}
 use Rattle.std.proofs.lemmas.Bool.Decides.{nat_tests}
-use Rattle.std.proofs.lemmas.List.{get_or_append_left, get_or_push}
 use Rattle.scale_base.specs.declared.ranges.Range.{Range}
 use Rattle.scale_base.specs.Spans.{in_span}
 use Rattle.scale_base.specs.Image.{is_in, PF_R, PF_W}
@@ -105,18 +104,6 @@ all_in_stack from last at h low high = grind (arith, nat_tests)
 
 pub none_in_stack : (from last at : ℕ) → (nat_lt last 0x7FFC0000 || nat_le 0x80000000 from) ≡ true → from ≤ at → at ≤ last → in_stack at ≡ false
 none_in_stack from last at h low high = grind (arith, nat_tests)
-
--- ---- a list that grows
-
-pub indexed_more : {A : Type 0} (P : ℕ → A → Type 0) (xs ys : List A) (x : A) (n : ℕ) → length xs ≡ n → ys ≡ xs ++ x ∷ [] → ((j : ℕ) (o : A) → j < n → o ≡ get_or xs j o → P j o) → P n x →
-    (j : ℕ) (o : A) → j < n + 1 → o ≡ get_or ys j o → P j o
-indexed_more P xs ys x n size is before here j o lt e =
-    elim (cases_eq j n) [
-      | inl same ↦
-          (let last : o ≡ x = e ∙ (ap (λ zs. get_or zs j o) is ∙ get_or_push xs x o j (size ∙ sym same)) in
-          subst (λ i. P i o) (sym same) (subst (λ y. P n y) (sym last) here))
-      | inr ne ↦ before j o (omega arith) (e ∙ (ap (λ zs. get_or zs j o) is ∙ get_or_append_left xs (x ∷ []) o j (omega arith)))
-    ]
 
 -- ---- a whole table
 

@@ -127,7 +127,8 @@ fn load_table(alloc: Global, list: &ListMemory) -> Result<PageTable, NoMemory>
     Ok(PageTable { groups })
 }
 
-/// The memory of an image before its first step, by pages: those of each address that a segment or the stack has.
+/// The memory of an image before its first step, by pages. Pages are made where a segment or the stack has an address, but no
+/// clause says which: the lists of the image answer for an address without a page, so that costs time alone.
 pub fn load_pages(alloc: Global, view: &ImageView<'_>) -> Result<PageMemory, NoMemory>
     ensures bytes { IfOk result (λ m. page_bytes m ≡ image.loaded_byte view.now) }
     ensures layout { IfOk result (λ m. page_layout m ≡ rules.layout_of view.now) }

@@ -87,10 +87,6 @@ again edges (Some b) e =
           ap (λ x. cond (is_before edges e x) e x) here ∙ (cond-false (is_before edges e b) e b fails ∙ sym here)
     ]
 
-pub with_again : (edges : List Edge) (b : Bool) (o : Option ℕ) (e : ℕ) → first_with edges true o e ≡ Some (earlier_of edges (first_with edges b o e) e)
-with_again edges false o e = refl
-with_again edges true o e = ap Some (sym (again edges o e))
-
 pub earlier_within : (edges : List Edge) (o : Option ℕ) (e n : ℕ) → e < n → ((b : ℕ) → o ≡ Some b → b < n) → earlier_of edges o e < n
 earlier_within edges None e n lt within = lt
 earlier_within edges (Some b) e n lt within =
@@ -98,11 +94,6 @@ earlier_within edges (Some b) e n lt within =
       | inl holds ↦ subst (λ x. x < n) (sym (cond-true (is_before edges e b) e b holds)) lt
       | inr fails ↦ subst (λ x. x < n) (sym (cond-false (is_before edges e b) e b fails)) (within b refl)
     ]
-
--- one fragment more
-pub count_none : (c : ℕ) (fs : List ForeignFragment) → count_in c (take 0 fs) ≡ false
-count_none c [] = refl
-count_none c (f ∷ fs) = refl
 
 any_end : (c : ℕ) (fs : List ForeignFragment) (f : ForeignFragment) → count_in c (fs ++ f ∷ []) ≡ (count_in c fs || counts_with c f)
 any_end c [] f = or_false (counts_with c f)
@@ -130,9 +121,6 @@ pub taken_more : (edges : List Edge) (start old new : List (Option ℕ)) (fs : L
 taken_more edges start old new fs f i e there before one = λ c o here.
     one c (first_with edges (count_in c (take i fs)) o e) (before c o here)
     ∙ ap Some (with_both edges (count_in c (take i fs)) (counts_with c f) o e ∙ ap (λ b. first_with edges b o e) (sym (count_more c i fs f there)))
-
-pub taken_none : (edges : List Edge) (old : List (Option ℕ)) (fs : List ForeignFragment) (e : ℕ) → AreTaken edges old old (take 0 fs) e
-taken_none edges old fs e = λ c o here. here ∙ ap (λ b. Some (first_with edges b o e)) (sym (count_none c fs))
 
 -- the first edge of one counter is set
 pub taken_one : (edges : List Edge) (old new : List (Option ℕ)) (f : ForeignFragment) (counter k e : ℕ) → f ≡ Count counter → k ≡ counter → k < length old → new ≡ slice_set old k (Some (earlier_of edges (slice_index_or old k None) e)) → IsTaken edges old new f e
@@ -185,9 +173,6 @@ take_it edges Is n (Some b) is h =
 with_edge : (edges : List Edge) (Is : ℕ → Type 0) (n : ℕ) (o : Option ℕ) (b : Bool) → (b ≡ true → Is n) → (Is n → b ≡ true) → IsFirstOfEdges edges Is n o → IsFirstOfEdges edges Is (n + 1) (first_with edges b o n)
 with_edge edges Is n o true to from h = take_it edges Is n o (to refl) h
 with_edge edges Is n o false to from h = skip_one edges Is n o (λ is. let bad = from is in absurd cc) h
-
-pub firsts_none : (edges : List Edge) (backs : List (Option ℕ)) (on : ℕ → List ForeignFragment) (firsts : List (Option ℕ)) → ((c : ℕ) (o : Option ℕ) → slice_get firsts c ≡ Some o → o ≡ None) → AreFirstsBelow edges backs on 0 firsts
-firsts_none edges backs on firsts none = λ c o here. subst (IsFirstOfEdges edges (CountsOn backs on c) 0) (sym (none c o here)) (λ e lt is. omega (arith, lt))
 
 -- an edge that is no back edge
 pub firsts_skip : (edges : List Edge) (backs : List (Option ℕ)) (on : ℕ → List ForeignFragment) (n : ℕ) (firsts : List (Option ℕ)) → slice_get backs n ≡ Some None → AreFirstsBelow edges backs on n firsts → AreFirstsBelow edges backs on (n + 1) firsts

@@ -1,8 +1,7 @@
 -- A scan over the lists of a graph.
 use Rattle.std.proofs.Common.{◌≡◌, ℕ, ◌<◌, List, length, Some, None, Result, Ok, Err, sym, ap, ◌∙◌, subst, arith}
-use Rattle.std.specs.Prelude.{slice_get, slice_index, All, IfOk}
-use Rattle.std.proofs.lemmas.Option.{slice_get_within, slice_get-get_or}
-use Rattle.code_text.specs.Walk.{RiseStrictly}
+use Rattle.std.specs.Prelude.{slice_get, All, IfOk}
+use Rattle.std.proofs.lemmas.Option.{slice_get_within}
 use Rattle.cost_theory.specs.Graph.{Loops}
 use Rattle.cost_theory.specs.Reached.{Code}
 use Rattle.scale_base.specs.Image.{Image}
@@ -18,13 +17,6 @@ use Rattle.foreign_scan.specs.Shown.{ScannedSites, ShowsSites}
 use Rattle.foreign_scan.specs.Sites.{AreWordSites, found_in}
 use Rattle.foreign_scan.proofs.FoundLaws.{all_foreign}
 use Rattle.foreign_scan.proofs.ScanLaws.{is_scanned, is_first_why, is_shown}
-
-rises : (xs : List ℕ) → ((i j v u : ℕ) → i < j → slice_get xs i ≡ Some v → slice_get xs j ≡ Some u → v < u) → RiseStrictly xs
-rises xs h = λ i j low lt. h i j (slice_index xs i) (slice_index xs j) low (slice_get-get_or xs i 0 (omega (arith, low, lt))) (slice_get-get_or xs j 0 lt)
-
--- the nodes ascend
-pub nodes_rise : (original : Image) (code : Code) (l : Loops) (lists : GraphLists) → AreListsOf original code l lists → RiseStrictly lists.nodes.now
-nodes_rise original code l lists all = subst RiseStrictly all.nodes (rises code.nodes all.reached.lists.ascending)
 
 pub are_sized : (original foreign : Image) (code : Code) (l : Loops) (lists : GraphLists) (sites : List Site) → AreListsOf original code l lists → AreWordSites original foreign lists.nodes.now sites → AreSized lists (length sites)
 are_sized original foreign code l lists sites all known = record {

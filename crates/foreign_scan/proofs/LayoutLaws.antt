@@ -1,15 +1,15 @@
 -- The places of segments without the key.
-use Rattle.std.proofs.Common.{◌≡◌, ℕ, ◌+◌, ◌≤◌, List, [], ◌∷◌, ◌++◌, length, take, map, Some, sym, ap, ◌∙◌}
+use Rattle.std.proofs.Common.{◌≡◌, ℕ, ◌+◌, List, [], ◌∷◌, ◌++◌, take, map, Some, sym, ap, ◌∙◌}
 use Rattle.std.specs.Prelude.{slice_get, ◌==◌, ◌&&◌}
 use Rattle.std.specs.Bool.{Decides}
 use Rattle.std.proofs.lemmas.Bool.Decides.{Decides-like, Decides-and, Decides-eqb}
 use Rattle.scale_base.specs.declared.ranges.Range.{Range}
 use Rattle.std.specs.List.{filter}
-use Rattle.std.proofs.lemmas.List.{map-append, take_all}
+use Rattle.std.proofs.lemmas.List.{map-append}
 use Rattle.std.proofs.lemmas.List.Elements.{filter-append}
-use Rattle.scale_base.specs.Image.{Image, LoadSegment}
+use Rattle.scale_base.specs.Image.{LoadSegment}
 use Rattle.scale_base.specs.Layout.{is_plain_segment}
-use Rattle.foreign_scan.specs.Scanned.{SegmentPlace, segment_place, segment_places}
+use Rattle.foreign_scan.specs.Scanned.{SegmentPlace, segment_place}
 use Rattle.foreign_scan.proofs.ListLaws.{take_one}
 
 pub places_more : (segments : List LoadSegment) (k : ℕ) (s : LoadSegment) (old new : List SegmentPlace) → slice_get segments k ≡ Some s → old ≡ map segment_place (filter is_plain_segment (take k segments))
@@ -19,9 +19,6 @@ places_more segments k s old new there before added =
     ∙ (sym (map-append segment_place (filter is_plain_segment (take k segments)) (filter is_plain_segment (s ∷ [])))
     ∙ (ap (map segment_place) (sym (filter-append is_plain_segment (take k segments) (s ∷ [])))
     ∙ ap (λ xs. map segment_place (filter is_plain_segment xs)) (sym (take_one segments k s there)))))
-
-pub places_all : (image : Image) (k : ℕ) (places : List SegmentPlace) → length image.segments ≤ k → places ≡ map segment_place (filter is_plain_segment (take k image.segments)) → places ≡ segment_places image
-places_all image k places done are = are ∙ ap (λ xs. map segment_place (filter is_plain_segment xs)) (take_all k image.segments done)
 
 -- ---- equal ranges and places
 

@@ -32,10 +32,3 @@ set_other (x ∷ xs) zero zero v differ = absurd (differ refl)
 set_other (x ∷ xs) zero (suc j) v differ = refl
 set_other (x ∷ xs) (suc k) zero v differ = refl
 set_other (x ∷ xs) (suc k) (suc j) v differ = set_other xs k j v (λ e. differ (ap suc e))
-
--- the front of a list, one element more
-pub front_more : {A : Type 0} (xs : List A) (k : ℕ) (x : A) (old new : List A) → slice_get xs k ≡ Some x → old ≡ take k xs → new ≡ old ++ x ∷ [] → new ≡ take (k + 1) xs
-front_more xs k x old new there before added = added ∙ (ap (λ ys. ys ++ x ∷ []) before ∙ sym (take_one xs k x there))
-
-pub front_whole : {A : Type 0} (xs : List A) (k : ℕ) (ys : List A) → length xs ≤ k → ys ≡ take k xs → ys ≡ xs
-front_whole xs k ys done are = are ∙ take_all k xs done

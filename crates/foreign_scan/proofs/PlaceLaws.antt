@@ -1,5 +1,5 @@
 -- The nodes and kinds of edges.
-use Rattle.std.proofs.Common.{◌≡◌, ℕ, ◌+◌, ◌<◌, List, [], ◌∷◌, ◌++◌, length, get_or, Some, refl, sym, ap, ◌∙◌, subst, ⊎_elim, arith, length-append}
+use Rattle.std.proofs.Common.{◌≡◌, ℕ, ◌+◌, ◌<◌, List, [], ◌∷◌, ◌++◌, length, get_or, Some, sym, ap, ◌∙◌, subst, ⊎_elim, arith, length-append}
 use Rattle.std.specs.Prelude.{slice_get}
 use Rattle.std.proofs.lemmas.Option.{slice_get-get_or}
 use Rattle.scale_base.specs.declared.edges.Edge.{Edge}
@@ -14,9 +14,6 @@ pub record ArePlacesBelow (sources : List ℕ) (edges : List Edge) (n : ℕ) (pl
   pub size : length places ≡ n
   pub each : (e : ℕ) (place : EdgePlace) (edge : Edge) → slice_get places e ≡ Some place → slice_get edges e ≡ Some edge → (slice_get sources e ≡ Some place.node) × (place.kind ≡ edge.kind)
 
-pub places_none : (sources : List ℕ) (edges : List Edge) → ArePlacesBelow sources edges 0 []
-places_none sources edges = record { size = refl; each = λ e place edge here there. absurd cc }
-
 pub places_push : (sources : List ℕ) (edges : List Edge) (n node : ℕ) (kind : EdgeKind) (old new : List EdgePlace) → ArePlacesBelow sources edges n old → slice_get sources n ≡ Some node → ((edge : Edge) → slice_get edges n ≡ Some edge → kind ≡ edge.kind)
     → new ≡ old ++ (record { node = node; kind = kind }) ∷ [] → ArePlacesBelow sources edges (n + 1) new
 places_push sources edges n node kind old new h source is added = subst (ArePlacesBelow sources edges (n + 1)) (sym added) (record {
@@ -28,9 +25,6 @@ places_push sources edges n node kind old new h source is added = subst (ArePlac
         sym (ap (λ (p : EdgePlace). p.kind) last.1) ∙ is edge (ap (slice_get edges) (sym at) ∙ there),
       )) (get_pushed old (record { node = node; kind = kind }) place e here);
 })
-
-pub places_all : (sources : List ℕ) (edges : List Edge) (n : ℕ) (places : List EdgePlace) → n ≡ length edges → ArePlacesBelow sources edges n places → ArePlacesOf sources edges places
-places_all sources edges n places e h = record { size = h.size ∙ e; each = h.each }
 
 pub places_within : (sources : List ℕ) (edges : List Edge) (sites : List Site) (places : List EdgePlace) → ((e k : ℕ) → slice_get sources e ≡ Some k → k < length sites) → ArePlacesOf sources edges places → ArePlacesWithin sites places
 places_within sources edges sites places low are = λ k d lt.

@@ -27,9 +27,6 @@ pub record AreRead (image : Image) (at : ℕ) (fs : List ForeignFragment) (end c
   pub ends : end ≡ behind_fragments at fs
   pub near : end ≤ at + 64 * count
 
-pub none_read : (image : Image) (at : ℕ) → AreRead image at [] at 0
-none_read image at = record { few = refl; foreign = λ k d lt. absurd (omega (arith, lt)); code = tt; ends = omega arith; near = omega arith }
-
 one_code : (f : ForeignFragment) → flat_map foreign_code (f ∷ []) ≡ foreign_code f
 one_code f = append-nil (foreign_code f)
 
@@ -50,19 +47,11 @@ more_read image at fs end count len f h s is lt =
     one_of zero d below = s.foreign
     one_of (suc k) d below = absurd (omega (arith, below))
 
-pub at_end : (image : Image) (at : ℕ) (fs : List ForeignFragment) (end count : ℕ) → count ≤ 64 → AreRead image at fs end count → AreAt image at fs
-at_end image at fs end count le h = record { few = omega (arith, h.few); foreign = h.foreign; code = h.code }
-
 -- ---- the first one chooses
 
 pub first_from : (fs : List ForeignFragment) → ((j : ℕ) (d : ForeignFragment) → 1 ≤ j → j < length fs → ChoosesNone (get_or fs j d)) → FirstChooses fs
 first_from [] h = tt
 first_from (f ∷ fs) h = λ k d lt. h (suc k) d (omega arith) (omega (arith, lt))
-
-pub first_to : (fs : List ForeignFragment) → FirstChooses fs → (j : ℕ) (d : ForeignFragment) → 1 ≤ j → j < length fs → ChoosesNone (get_or fs j d)
-first_to [] h j d low lt = absurd (omega (arith, lt))
-first_to (f ∷ fs) h zero d low lt = absurd (omega (arith, low))
-first_to (f ∷ fs) h (suc j) d low lt = h j d (omega (arith, lt))
 
 -- ---- the jump
 
@@ -86,9 +75,6 @@ goto_from (Some instr.Ecall) offset e = absurd cc
 goto_from (Some instr.Ebreak) offset e = absurd cc
 
 -- ---- run-outs
-
-pub run_out_is : (image : Image) (at to : ℕ) (fs : List ForeignFragment) (end : ℕ) → AreAt image at fs → end ≡ behind_fragments at fs → FirstChooses fs → JumpsTo image end to → IsRunOut image at to fs
-run_out_is image at to fs end h e first j = record { few = h.few; first = first; foreign = h.foreign; code = h.code; jump = subst (λ n. JumpsTo image n to) e j }
 
 whole_ends : (image : Image) (at : ℕ) (fs gs : List ForeignFragment) → length fs ≤ 64 → IsWhole image at gs → Ends image at fs gs
 whole_ends image at fs gs le (inl many) = inl (omega (arith, le, many))

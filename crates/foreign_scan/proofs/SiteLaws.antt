@@ -1,5 +1,5 @@
 -- What is known of the words of nodes, word by word.
-use Rattle.std.proofs.Common.{◌≡◌, ℕ, ℤ, zero, suc, ◌+◌, true, false, ◌⊎◌, inl, inr, ⊎_elim, List, [], ◌∷◌, ◌++◌, length, Option, Some, None, refl, sym, ap, ◌∙◌, subst, arith, length-append}
+use Rattle.std.proofs.Common.{◌≡◌, ℕ, ℤ, zero, suc, true, false, ◌⊎◌, inl, inr, ⊎_elim, List, [], ◌∷◌, ◌++◌, length, Option, Some, None, refl, sym, ap, ◌∙◌, subst, arith}
 use Rattle.std.specs.Prelude.{slice_get, nat_eq}
 use Rattle.std.proofs.lemmas.Bool.{cond-true, cond-false, eq-eqb, eqb-true, ne_eqb}
 use Rattle.scale_base.specs.declared.edges.EdgeKind.{EdgeKind}
@@ -12,12 +12,10 @@ use Rattle.machine_laws.proofs.Laws.{found_in}
 use Rattle.scale_base.specs.State.{word_at}
 use Rattle.foreign_scan.specs.declared.fragment.ForeignFragment.{ForeignFragment}
 use Rattle.foreign_scan.specs.declared.site.Site.{Site}
-use Rattle.foreign_scan.specs.declared.stub.StubFragments.{StubFragments}
 use Rattle.foreign_scan.specs.Form.{IsStub}
 use Rattle.foreign_scan.specs.Least.{goto_target}
 use Rattle.foreign_scan.specs.Scanned.{is_changed}
-use Rattle.foreign_scan.specs.Sites.{IsKeptAt, IsBrokenAt, IsSiteAt, AreWordSites, site_beside}
-use Rattle.foreign_scan.specs.Stubs.{fragments_of, IsOfInstr}
+use Rattle.foreign_scan.specs.Sites.{IsBrokenAt, IsSiteAt, site_beside}
 use Rattle.foreign_scan.proofs.PatchLaws.{target_from, target_to}
 use Rattle.foreign_scan.proofs.ReadLaws.{same_some}
 
@@ -29,26 +27,6 @@ no_target original foreign at o changed is none = record {
   changed = changed;
   none = λ old offset others eo en stub. let e = sym none ∙ (is ∙ target_to (word_instr foreign at) at offset en) in absurd cc;
 }
-
-pub no_instr : (original foreign : Image) (at : ℕ) (o : Option Instr) → is_changed original foreign at ≡ true → o ≡ word_instr original at → o ≡ None → IsBrokenAt original foreign at
-no_instr original foreign at o changed is none = record {
-  changed = changed;
-  none = λ old offset others eo en stub. let e = sym none ∙ (is ∙ eo) in absurd cc;
-}
-
-pub kept_site : (original foreign key : Image) (at to : ℕ) (t : Option ℕ) (o : Option Instr) (old : Instr) (s : StubFragments) → key ≡ foreign → is_changed original foreign at ≡ true
-    → t ≡ goto_target (word_instr foreign at) at → t ≡ Some to → o ≡ word_instr original at → o ≡ Some old → IsStub key at to old (fragments_of s) → IsOfInstr old s → IsKeptAt original foreign at s
-kept_site original foreign key at to t o old s same changed is some read there stub shape =
-    let jump = target_from (word_instr foreign at) at to (sym is ∙ some) in
-    record {
-      changed = changed;
-      old_instr = old;
-      old = sym read ∙ there;
-      offset = jump.0;
-      new = jump.1;
-      stub = subst (λ a. IsStub foreign at a old (fragments_of s)) (sym jump.2) (subst (λ i. IsStub i at to old (fragments_of s)) same stub);
-      shape = shape;
-    }
 
 pub jal_same : (y z : ℤ) → Some (instr.Jal 0 y) ≡ Some (instr.Jal 0 z) → y ≡ z
 jal_same y z e = cc
@@ -77,22 +55,6 @@ get_pushed [] x y zero e = inr (refl, same_some x y e)
 get_pushed [] x y (suc j) e = absurd cc
 get_pushed (z ∷ zs) x y zero e = inl e
 get_pushed (z ∷ zs) x y (suc j) e = ⊎_elim (λ h. inl h) (λ h. inr (ap suc h.0, h.1)) (get_pushed zs x y j e)
-
-pub sites_none : (original foreign : Image) (nodes : List ℕ) → AreSitesBelow original foreign nodes 0 []
-sites_none original foreign nodes = record { size = refl; each = λ k at site node here. absurd cc }
-
-pub sites_more : (original foreign : Image) (nodes : List ℕ) (n at : ℕ) (sites : List Site) (site : Site) → AreSitesBelow original foreign nodes n sites → slice_get nodes n ≡ Some at → IsSiteAt original foreign at site
-    → AreSitesBelow original foreign nodes (n + 1) (sites ++ site ∷ [])
-sites_more original foreign nodes n at sites site h there is = record {
-  size = let more = length-append sites (site ∷ []) in let was = h.size in omega (arith, more, was);
-  each = λ k a other node here. ⊎_elim
-      (λ old. h.each k a other node old)
-      (λ new. let same : at ≡ a = same_some at a (sym there ∙ (ap (slice_get nodes) (sym (new.0 ∙ h.size)) ∙ node)) in
-      subst (λ s. IsSiteAt original foreign a s) new.1 (subst (λ b. IsSiteAt original foreign b site) same is)) (get_pushed sites site other k here);
-}
-
-pub sites_all : (original foreign : Image) (nodes : List ℕ) (n : ℕ) (sites : List Site) → n ≡ length nodes → AreSitesBelow original foreign nodes n sites → AreWordSites original foreign nodes sites
-sites_all original foreign nodes n sites e h = record { size = h.size ∙ e; each = h.each }
 
 -- ---- what stands beside an address
 

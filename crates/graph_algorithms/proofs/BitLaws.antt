@@ -1,5 +1,5 @@
 -- Bits of words.
-use Rattle.std.proofs.Common.{◌≡◌, ◌≢◌, ℕ, zero, suc, ◌+◌, ◌-◌, ◌*◌, ◌%◌, ◌^◌, ◌<◌, ◌↔◌, min, max, List, [], ◌∷◌, length, get_or, set, replicate, refl, sym, ap, ◌∙◌, subst, arith, ◌⊎◌, inl, inr, ⊎_elim, get_or-set_same, get_or-set_other, bit_and, bit_or, bit_xor, w64}
+use Rattle.std.proofs.Common.{◌≡◌, ◌≢◌, ℕ, zero, suc, ◌+◌, ◌-◌, ◌*◌, ◌%◌, ◌^◌, ◌<◌, ◌↔◌, min, max, List, length, get_or, set, replicate, refl, sym, ap, ◌∙◌, subst, arith, ◌⊎◌, inl, inr, ⊎_elim, get_or-set_same, get_or-set_other, bit_and, bit_or, bit_xor, w64}
 use Rattle.std.specs.Int.{bit_at, bit_not}
 use Rattle.std.proofs.lemmas.Nat.{one_shl}
 use Rattle.std.proofs.lemmas.Nat.Bits.{bit_at-zero, bit_at-lt, bit_at_and, bit_at_or, bit_at_xor, bit_at-pow_same, bit_at-pow_other, bit_at_not, bit_at_above}
@@ -108,11 +108,6 @@ flag_other words node v word i ne h = ap (λ x. bit_at x i) (get_or-set_other wo
 
 pub other_flag : (words : List ℕ) (node v word i : ℕ) → v ≢ node → IsFlagged (set words node word) v i → IsFlagged words v i
 other_flag words node v word i ne h = ap (λ x. bit_at x i) (sym (get_or-set_other words node v word 0 ne)) ∙ h
-
-pub flag_within : (words : List ℕ) (v i : ℕ) → IsFlagged words v i → v < length words
-flag_within [] v i h = absurd (no_bit i h)
-flag_within (w ∷ ws) zero i h = omega arith
-flag_within (w ∷ ws) (suc v) i h = let ih = flag_within ws v i h in omega arith
 
 pub no_flag : (n v i : ℕ) → IsFlagged (replicate {A = ℕ} n 0) v i → ⊥
 no_flag zero v i h = no_bit i h

@@ -89,9 +89,6 @@ module _ (found : List Bool) (body : List ℕ) (node : ℕ) (was : IsMarkedBody 
       apart : (i v : ℕ) → slice_get body i ≡ Some v → v ≡ node → ⊥
       apart i v old e = both_ways (is_marked_at found v) (ap (is_marked_at found) e ∙ none) (was.flagged i v old)
 
-pub grows_same : (found : List Bool) (body : List ℕ) → BodyGrows found body found body
-grows_same found body = record { kept = λ v h. h; longer = omega arith; front = λ p lt. refl }
-
 pub grows_then : (f g h : List Bool) (b c d : List ℕ) → BodyGrows f b g c → BodyGrows g c h d → BodyGrows f b h d
 grows_then f g h b c d one two = record {
   kept = λ v k. two.kept v (one.kept v k);
@@ -119,9 +116,6 @@ marked_none found body none empty = record {
 -- the marks that are left are those of the body's nodes from a place on
 abbrev pub AreLeft : List Bool → List ℕ → ℕ → Type 0
 AreLeft found body index = (v : ℕ) → is_marked_at found v ≡ true → (p : ℕ) × (index ≤ p) × (slice_get body p ≡ Some v)
-
-pub left_start : (found : List Bool) (body : List ℕ) → IsMarkedBody found body → AreLeft found body 0
-left_start found body marked v h = let w = marked.listed v h in (w.0, (let r : 0 ≤ w.0 = omega arith in r), w.1)
 
 pub left_next : (found : List Bool) (body : List ℕ) (index node : ℕ) → node < length found → slice_get body index ≡ Some node → AreLeft found body index → AreLeft (set found node false) body (index + 1)
 left_next found body index node lt at left v h = ⊎_elim

@@ -1,5 +1,5 @@
 -- The chains with one place more.
-use Rattle.std.proofs.Common.{◌≡◌, ◌≢◌, ℕ, zero, suc, ◌+◌, ◌<◌, ◌≤◌, List, [], ◌∷◌, length, refl, sym, ap, ◌∙◌, subst, arith, Option, Some, None, ⊎_elim, set, get_or-set_same, get_or-set_other, length-set, replicate}
+use Rattle.std.proofs.Common.{◌≡◌, ◌≢◌, ℕ, zero, suc, ◌+◌, ◌<◌, ◌≤◌, List, [], ◌∷◌, length, sym, ap, ◌∙◌, subst, arith, Option, Some, None, ⊎_elim, set, get_or-set_same, get_or-set_other, length-set}
 use Rattle.std.proofs.lemmas.Bool.{cases_eq}
 use Rattle.graph_algorithms.specs.Keys.{option_at, HasKey, IsLastBelow, AreChains}
 
@@ -90,28 +90,6 @@ chains_skip keys count n lasts befores was none = record {
   before = λ s k sl has. was.before s k
       (⊎_elim (λ (e : s ≡ n). absurd (none_some k (option_at keys n) none (ap (option_at keys) (sym e) ∙ has))) (λ (ne : s ≡ n → ⊥). let d : s ≢ n = ne in let q : s < n = omega arith in q) (cases_eq s n)) has;
   keyless = was.keyless;
-}
-
-none_at : (n s : ℕ) → option_at (replicate n None) s ≡ None
-none_at zero s = refl
-none_at (suc n) zero = refl
-none_at (suc n) (suc s) = none_at n s
-
-none_size : (n : ℕ) (x : Option ℕ) → length (replicate n x) ≡ n
-none_size zero x = refl
-none_size (suc n) x = ap suc (none_size n x)
-
--- no place yet
-pub chains_start : (keys : List (Option ℕ)) (count : ℕ) (lasts befores : List (Option ℕ)) → lasts ≡ replicate count None → befores ≡ replicate (length keys) None → AreChainsBelow keys count 0 lasts befores
-chains_start keys count lasts befores l b = record {
-  last_size = ap length l ∙ none_size count None;
-  before_size = ap length b ∙ none_size (length keys) None;
-  last = λ k kl. record {
-    place = λ s h. absurd (none_some s (option_at lasts k) (ap (λ xs. option_at xs k) l ∙ none_at count k) h);
-    greatest = λ r rl has. absurd (let bad : ⊥ = omega arith in bad);
-  };
-  before = λ s k sl has. absurd (let bad : ⊥ = omega arith in bad);
-  keyless = λ s none. ap (λ xs. option_at xs s) b ∙ none_at (length keys) s;
 }
 
 -- all places

@@ -1,5 +1,5 @@
 -- Edges and their chains.
-use Rattle.std.proofs.Common.{◌≡◌, ◌≢◌, ℕ, ◌+◌, ◌<◌, ◌≤◌, List, length, refl, sym, ap, ◌∙◌, subst, arith, Option, Some, None, ⊎_elim, Bool, true}
+use Rattle.std.proofs.Common.{◌≡◌, ◌≢◌, ℕ, ◌+◌, ◌<◌, ◌≤◌, List, refl, sym, ap, ◌∙◌, subst, arith, Option, Some, None, ⊎_elim, Bool, true}
 use Rattle.std.specs.Prelude.{slice_get}
 use Rattle.std.proofs.lemmas.Bool.{cases_eq, cases_lt}
 use Rattle.std.proofs.lemmas.Option.{slice_get-get_or, get_or_from_slice_get}
@@ -38,13 +38,6 @@ some_same : {A : Type 0} (a b : A) (o : Option A) → o ≡ Some a → o ≡ Som
 some_same a b o p q = cc
 
 module _ (sources : List ℕ) (targets : List (Option ℕ)) (extent : ℕ → Bool) (node : ℕ) where
-  pub passed_start : (found : List Bool) (next : Option ℕ) → IsLastBelow targets (length targets) node next → ArePassed sources targets extent found node next
-  passed_start found next last e v past key at inside =
-      let w = last.greatest e (key_within targets e node key) key in
-      let lt = past w.0 w.1 in
-      let le = w.2 in
-      absurd (let bad : ⊥ = omega arith in bad)
-
   pub passed_next : (found found_then : List Bool) (edge source : ℕ) (next : Option ℕ) → ((v : ℕ) → is_marked_at found v ≡ true → is_marked_at found_then v ≡ true) →
       slice_get sources edge ≡ Some source → (extent source ≡ true → is_marked_at found_then source ≡ true) → IsLastBelow targets edge node next →
       ArePassed sources targets extent found node (Some edge) → ArePassed sources targets extent found_then node next

@@ -171,9 +171,6 @@ pub record IsSideBelow (sources : List ℕ) (targets : List (Option ℕ)) (found
   pub free : is_marked_at found from ≡ false
 
 module _ (sources : List ℕ) (targets : List (Option ℕ)) (found : List Bool) (header : ℕ) (body : List ℕ) where
-  pub side_start : IsLeastPair (IsSideBelow sources targets found header body 0) None
-  side_start a b side = let lt = side.below in absurd (let bad : ⊥ = omega arith in bad)
-
   longer : (n a b : ℕ) → IsSideBelow sources targets found header body n a b → IsSideBelow sources targets found header body (n + 1) a b
   longer n a b side = record { edge = side.edge; place = side.place; below = (let lt = side.below in omega arith); at = side.at; aside = side.aside; free = side.free }
 

@@ -1,5 +1,5 @@
 -- The words of a group of loops.
-use Rattle.std.proofs.Common.{◌≡◌, ◌≢◌, ℕ, ◌+◌, ◌^◌, ◌<◌, ◌≤◌, ◌↔◌, Bool, List, length, get_or, replicate, refl, sym, ap, ◌∙◌, subst, arith, Option, Some, ◌⊎◌, inl, inr, ⊎_elim, bit_and, bit_or, w64}
+use Rattle.std.proofs.Common.{◌≡◌, ◌≢◌, ℕ, ◌+◌, ◌^◌, ◌<◌, ◌≤◌, ◌↔◌, Bool, List, length, get_or, replicate, sym, ap, ◌∙◌, subst, arith, Option, Some, ◌⊎◌, inl, inr, ⊎_elim, bit_and, bit_or, w64}
 use Rattle.std.specs.Prelude.{slice_get}
 use Rattle.std.specs.Int.{bit_at, bit_not}
 use Rattle.std.proofs.lemmas.Bool.{cases_eq}
@@ -21,28 +21,6 @@ pub record AreAdded (old body : List ℕ) (bit n : ℕ) (new : List ℕ) : Type 
   pub kept : (v i : ℕ) → IsFlagged old v i → IsFlagged new v i
   pub only : (v i : ℕ) → IsFlagged new v i → IsFlagged old v i ⊎ (IsIn body v × (i ≡ bit))
   pub done : (p v : ℕ) → p < n → slice_get body p ≡ Some v → IsFlagged new v bit
-
-pub added_none : (old body : List ℕ) (bit : ℕ) → AreAdded old body bit 0 old
-added_none old body bit = record { size = refl; kept = λ v i h. h; only = λ v i h. inl h; done = λ p v lt. let bad : ⊥ = omega arith in absurd bad }
-
-pub added_next : (old body was new : List ℕ) (bit n node : ℕ) → slice_get body n ≡ Some node → length new ≡ length was → ((v i : ℕ) → IsFlagged new v i ↔ (IsFlagged was v i ⊎ ((v ≡ node) × (i ≡ bit)))) →
-    AreAdded old body bit n was → AreAdded old body bit (n + 1) new
-added_next old body was new bit n node at size set below = record {
-  size = size ∙ below.size;
-  kept = λ v i h. (set v i).1 (inl (below.kept v i h));
-  only = λ v i h. ⊎_elim (λ w. below.only v i w) (λ (x : (v ≡ node) × (i ≡ bit)). inr ((n, at ∙ ap Some (sym x.0)), x.1)) ((set v i).0 h);
-  done = λ p v lt h. ⊎_elim
-      (λ (e : p ≡ n). let same : v ≡ node = some_same v node (slice_get body n) (ap (slice_get body) (sym e) ∙ h) at in (set v bit).1 (inr (same, refl)))
-      (λ (ne : p ≡ n → ⊥). let d : p ≢ n = ne in (set v bit).1 (inl (below.done p v (omega arith) h)))
-      (cases_eq p n);
-}
-
-pub added_all : (old body new : List ℕ) (bit n : ℕ) → length body ≤ n → AreAdded old body bit n new → (v i : ℕ) → IsFlagged new v i ↔ (IsFlagged old v i ⊎ (IsIn body v × (i ≡ bit)))
-added_all old body new bit n end was v i = (
-  was.only v i,
-  λ h. ⊎_elim (λ k. was.kept v i k)
-      (λ (x : IsIn body v × (i ≡ bit)). let lt = slice_get_within body x.0.0 v x.0.1 in subst (λ j. IsFlagged new v j) (sym x.1) (was.done x.0.0 v (omega arith) x.0.1)) h,
-)
 
 -- ---- of the first n loops something is so
 pub record AreBitsBelow (loops : List LoopExtent) (count : ℕ) (P : ℕ → ℕ → LoopExtent → Type 0) (n : ℕ) (words : List ℕ) : Type 0 where

@@ -84,37 +84,6 @@ pub record AreMarkedBelow (ranges : List NodeRange) (bit : ℕ) (old : List ℕ)
   pub only : (v i : ℕ) → IsFlagged new v i → IsFlagged old v i ⊎ ((i ≡ bit) × (v < length old) × IsChange ranges v)
   pub done : (v p : ℕ) (r : NodeRange) → p < n → slice_get ranges p ≡ Some r → IsEnd r v → v < length old → IsChange ranges v → IsFlagged new v bit
 
--- one change more, or none
-abbrev pub IsMarkedAt : List NodeRange → ℕ → ℕ → List ℕ → List ℕ → Type 0
-IsMarkedAt ranges bit node old new = (v i : ℕ) → IsFlagged new v i ↔ (IsFlagged old v i ⊎ ((v ≡ node) × (i ≡ bit) × (v < length old) × IsChange ranges v))
-
-pub marked_none : (ranges : List NodeRange) (bit : ℕ) (old : List ℕ) → AreMarkedBelow ranges bit old 0 old
-marked_none ranges bit old = record { size = refl; kept = λ v i h. h; only = λ v i h. inl h; done = λ v p r lt. let bad : ⊥ = omega arith in absurd bad }
-
-pub marked_range : (ranges : List NodeRange) (bit n : ℕ) (r : NodeRange) (old was mid new : List ℕ) → slice_get ranges n ≡ Some r → length mid ≡ length was → length new ≡ length mid →
-    IsMarkedAt ranges bit r.from was mid → IsMarkedAt ranges bit r.to mid new → AreMarkedBelow ranges bit old n was → AreMarkedBelow ranges bit old (n + 1) new
-marked_range ranges bit n r old was mid new at ms ns one two below = record {
-  size = ns ∙ (ms ∙ below.size);
-  kept = λ v i h. (two v i).1 (inl ((one v i).1 (inl (below.kept v i h))));
-  only = λ v i h. ⊎_elim
-      (λ (k : IsFlagged mid v i). ⊎_elim
-      (λ (w : IsFlagged was v i). below.only v i w)
-      (λ (x : (v ≡ r.from) × (i ≡ bit) × (v < length was) × IsChange ranges v). let lt = x.2 in let s = below.size in inr (x.1, (let q : v < length old = omega arith in q), x.3))
-      ((one v i).0 k))
-      (λ (x : (v ≡ r.to) × (i ≡ bit) × (v < length mid) × IsChange ranges v). let lt = x.2 in let s = below.size in inr (x.1, (let q : v < length old = omega arith in q), x.3))
-      ((two v i).0 h);
-  done = λ v p s lt g e within change. ⊎_elim
-      (λ (here : p ≡ n).
-      let same : s ≡ r = some_same s r (slice_get ranges n) (ap (slice_get ranges) (sym here) ∙ g) at in
-      let size = below.size in
-      ⊎_elim
-      (λ (f : v ≡ s.from). (two v bit).1 (inl ((one v bit).1 (inr (f ∙ ap (λ x. x.from) same, refl, (let q : v < length was = omega arith in q), change)))))
-      (λ (t : v ≡ s.to). (two v bit).1 (inr (t ∙ ap (λ x. x.to) same, refl, (let q : v < length mid = omega arith in q), change)))
-      e)
-      (λ (ne : p ≡ n → ⊥). let d : p ≢ n = ne in (two v bit).1 (inl ((one v bit).1 (inl (below.done v p s (omega arith) g e within change)))))
-      (cases_eq p n);
-}
-
 pub marked_all : (ranges : List NodeRange) (bit n : ℕ) (old new : List ℕ) → length ranges ≤ n → AreMarkedBelow ranges bit old n new →
     (v i : ℕ) → IsFlagged new v i ↔ (IsFlagged old v i ⊎ ((i ≡ bit) × (v < length old) × IsChange ranges v))
 marked_all ranges bit n old new end below v i = (
@@ -131,9 +100,6 @@ marked_all ranges bit n old new end below v i = (
 -- ---- the first n loops
 abbrev pub AreLoopsMarked : List LoopExtent → ℕ → ℕ → List ℕ → Type 0
 AreLoopsMarked loops count n changes = (v i : ℕ) → IsFlagged changes v i ↔ ((i < n) × (v < count) × OfLoop loops i (IsChangeOf v))
-
-pub loops_none : (loops : List LoopExtent) (count : ℕ) (changes : List ℕ) → ((v i : ℕ) → IsFlagged changes v i → ⊥) → AreLoopsMarked loops count 0 changes
-loops_none loops count changes none v i = (λ h. absurd (none v i h), λ h. let lt = h.0 in absurd (let bad : ⊥ = omega arith in bad))
 
 pub loops_next : (loops : List LoopExtent) (count n : ℕ) (loop : LoopExtent) (old new : List ℕ) → slice_get loops n ≡ Some loop → length old ≡ count →
     ((v i : ℕ) → IsFlagged new v i ↔ (IsFlagged old v i ⊎ ((i ≡ n) × (v < length old) × IsChange loop.ranges.items v))) → AreLoopsMarked loops count n old → AreLoopsMarked loops count (n + 1) new

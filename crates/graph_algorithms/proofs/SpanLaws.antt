@@ -1,7 +1,7 @@
 -- Ranges that have the nodes of some extents.
-use Rattle.std.proofs.Common.{◌≡◌, ◌≢◌, ℕ, suc, ◌+◌, ◌<◌, ◌≤◌, Bool, true, false, ◌&&◌, ◌||◌, nat_le, nat_lt, List, [], ◌∷◌, length, refl, sym, ap, ◌∙◌, subst, arith, Option, Some, ◌⊎◌, inl, inr, ⊎_elim}
+use Rattle.std.proofs.Common.{◌≡◌, ℕ, suc, ◌<◌, ◌≤◌, Bool, true, false, ◌&&◌, ◌||◌, nat_le, nat_lt, List, [], ◌∷◌, length, refl, ap, ◌∙◌, subst, arith, Some, ◌⊎◌, inl, inr, ⊎_elim}
 use Rattle.std.specs.Prelude.{slice_get}
-use Rattle.std.proofs.lemmas.Bool.{cases_eq, leb-true, ltb-true}
+use Rattle.std.proofs.lemmas.Bool.{leb-true, ltb-true}
 use Rattle.std.proofs.lemmas.Option.{slice_get_within}
 use Rattle.graph_algorithms.specs.declared.bodies.extent.LoopExtent.{LoopExtent}
 use Rattle.graph_algorithms.specs.declared.bodies.extent.NodeRange.{NodeRange}
@@ -9,9 +9,6 @@ use Rattle.graph_algorithms.specs.Edges.{EdgeView, AreEdges}
 use Rattle.graph_algorithms.specs.Bodies.{LeadsWithin, in_node_ranges, in_node_range}
 use Rattle.graph_algorithms.specs.Bodies.LeadsWithin.{at_once, onward}
 use Rattle.graph_algorithms.specs.Groups.{IsFlagged, IsInside, IsInSpan, IsSpan, AreBodyBits}
-
-some_same : {A : Type 0} (a b : A) (o : Option A) → o ≡ Some a → o ≡ Some b → a ≡ b
-some_same a b o p q = cc
 
 or_cases : (a b : Bool) → (a || b) ≡ true → (a ≡ true) ⊎ (b ≡ true)
 or_cases true b h = inl refl
@@ -36,9 +33,6 @@ in_one (r ∷ rs) v h = ⊎_elim
 abbrev pub HasRange : NodeRange → NodeRange → Type 0
 HasRange whole part = (whole.from ≤ part.from) × (part.to ≤ whole.to)
 
-has_then : (a b c : NodeRange) → HasRange a b → HasRange b c → HasRange a c
-has_then a b c one two = let p = one.0 in let q = one.1 in let r = two.0 in let s = two.1 in ((let x : a.from ≤ c.from = omega arith in x), (let x : c.to ≤ a.to = omega arith in x))
-
 has_among : (a b : NodeRange) (v : ℕ) → HasRange a b → IsInSpan b v → IsInSpan a v
 has_among a b v one two = let p = one.0 in let q = one.1 in let r = two.0 in let s = two.1 in ((let x : a.from ≤ v = omega arith in x), (let x : v < a.to = omega arith in x))
 
@@ -49,15 +43,6 @@ pub record AreJoined (range : NodeRange) (extent : List NodeRange) (n : ℕ) (wh
 
 pub joined_none : (range : NodeRange) (extent : List NodeRange) → AreJoined range extent 0 range
 joined_none range extent = record { kept = ((let x : range.from ≤ range.from = omega arith in x), (let x : range.to ≤ range.to = omega arith in x)); parts = λ p r lt. let bad : ⊥ = omega arith in absurd bad }
-
-pub joined_next : (range : NodeRange) (extent : List NodeRange) (n : ℕ) (part whole more : NodeRange) → slice_get extent n ≡ Some part → HasRange more whole → HasRange more part → AreJoined range extent n whole → AreJoined range extent (n + 1) more
-joined_next range extent n part whole more at one two was = record {
-  kept = has_then more whole range one was.kept;
-  parts = λ p r lt h. ⊎_elim
-      (λ (here : p ≡ n). subst (HasRange more) (some_same part r (slice_get extent n) at (ap (slice_get extent) (sym here) ∙ h)) two)
-      (λ (ne : p ≡ n → ⊥). let d : p ≢ n = ne in has_then more whole r one (was.parts p r (omega arith) h))
-      (cases_eq p n);
-}
 
 pub joined_all : (range : NodeRange) (extent : List NodeRange) (n : ℕ) (whole : NodeRange) → length extent ≤ n → AreJoined range extent n whole → (v : ℕ) → in_node_ranges extent v ≡ true → IsInSpan whole v
 joined_all range extent n whole end was v h =
@@ -71,14 +56,6 @@ AreSpanned loops n whole = (i v : ℕ) (loop : LoopExtent) → i < n → slice_g
 
 pub spanned_none : (loops : List LoopExtent) (whole : NodeRange) → AreSpanned loops 0 whole
 spanned_none loops whole i v loop lt = let bad : ⊥ = omega arith in absurd bad
-
-pub spanned_next : (loops : List LoopExtent) (n : ℕ) (loop : LoopExtent) (whole more : NodeRange) → slice_get loops n ≡ Some loop → HasRange more whole → ((v : ℕ) → in_node_ranges loop.ranges.items v ≡ true → IsInSpan more v) → AreSpanned loops n whole → AreSpanned loops (n + 1) more
-spanned_next loops n loop whole more at one two was i v x lt h inside = ⊎_elim
-    (λ (here : i ≡ n).
-    let same : x ≡ loop = some_same x loop (slice_get loops n) (ap (slice_get loops) (sym here) ∙ h) at in
-    two v (subst (IsInside v) same inside))
-    (λ (ne : i ≡ n → ⊥). let d : i ≢ n = ne in has_among more whole v one (was i v x (omega arith) h inside))
-    (cases_eq i n)
 
 pub spanned_all : (loops : List LoopExtent) (count n : ℕ) (whole range : NodeRange) → length loops ≤ n → AreSpanned loops n whole → range.to ≤ count → ((v : ℕ) → v < count → IsInSpan whole v → IsInSpan range v) → IsSpan count loops range
 spanned_all loops count n whole range end was within all = record {

@@ -1,5 +1,5 @@
 -- Bits that are passed back over edges.
-use Rattle.std.proofs.Common.{◌≡◌, ◌≢◌, ℕ, ◌*◌, ◌%◌, ◌^◌, ◌<◌, ◌↔◌, Bool, true, false, List, length, get_or, set, refl, sym, ap, ◌∙◌, subst, arith, Option, Some, ◌⊎◌, inl, inr, ⊎_elim, get_or-set_same, get_or-set_other, length-set, bit_and, bit_or}
+use Rattle.std.proofs.Common.{◌≡◌, ◌≢◌, ℕ, ◌*◌, ◌%◌, ◌^◌, ◌<◌, ◌↔◌, Bool, true, false, List, length, get_or, set, sym, ap, ◌∙◌, subst, arith, Option, Some, ◌⊎◌, inl, inr, ⊎_elim, get_or-set_same, get_or-set_other, length-set, bit_and, bit_or}
 use Rattle.std.specs.Prelude.{slice_get, slice_index}
 use Rattle.std.specs.Int.{bit_at}
 use Rattle.std.proofs.lemmas.Bool.{cases_eq, both_ways}
@@ -16,8 +16,6 @@ some_same : {A : Type 0} (a b : A) (o : Option A) → o ≡ Some a → o ≡ Som
 some_same a b o p q = cc
 
 -- ---- gains
-pub gains_same : (P : ℕ → ℕ → Type 0) (found : List ℕ) (pending : List Bool) → Gains P found pending found pending
-gains_same P found pending = record { found_size = refl; pending_size = refl; kept = λ v i h. h; only = λ v i h. inl h; quiet = λ v h. (refl, h) }
 
 pub gains_then : (P Q : ℕ → ℕ → Type 0) (f g h : List ℕ) (p q r : List Bool) → ((v i : ℕ) → Q v i → P v i) → Gains P f p g q → Gains Q g q h r → Gains P f p h r
 gains_then P Q f g h p q r weaker one two = record {
@@ -29,9 +27,6 @@ gains_then P Q f g h p q r weaker one two = record {
 }
 
 module _ (found : List ℕ) (pending : List Bool) (inside : List ℕ) (node bits more : ℕ) (lt : node < length found) (size : length pending ≡ length found) (e : more ≡ bit_or (get_or found node 0) (bit_and bits (get_or inside node 0))) where
-  abbrev New : ℕ → ℕ → Type 0
-  New v i = (v ≡ node) × IsPassedOn inside bits v i
-
   in_more : (i : ℕ) → IsFlagged found node i → HasBit more i
   in_more i h = ap (λ x. bit_at x i) e ∙ or_left (get_or found node 0) (bit_and bits (get_or inside node 0)) i h
 

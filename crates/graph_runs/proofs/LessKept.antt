@@ -17,9 +17,6 @@ use Rattle.graph_runs.specs.KeptRuns.{watched, kept_at}
 use Rattle.graph_runs.specs.Laws.{KeptRunsAreKeptByLess}
 use Rattle.graph_runs.proofs.KeptLaws.{AreLate, kept_parts}
 
-some_carried : (x y : Carried) → Some x ≡ Some y → x ≡ y
-some_carried x y e = let r : x ≡ y = cc in r
-
 module _ (l : Loops) (trips : ℕ → ℕ) (less : (k : ℕ) → k < l.loops → trips k ≤ l.least_trips k) where
   still_late : (m : Move) (pc next k count : ℕ) → k < l.loops → (leaves_by m l pc next k ≡ true → l.least_trips k ≤ count) →
       (leaves_by m (with_trips l trips) pc next k && nat_lt count (trips k)) ≡ false

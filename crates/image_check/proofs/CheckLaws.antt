@@ -34,7 +34,7 @@ use Rattle.image_check.specs.Causes.{IsFirstBadCounter, IsFirstBadLevel}
 use Rattle.image_check.specs.Safe.{Owner, AreOwners, AreSafeOn, sites_of}
 use Rattle.image_check.specs.Known.{owner_by, AreWeighed, AreKnown, IsLevelsAnswer}
 use Rattle.image_check.specs.Weights.{AreExtraWeights, AreStoredWeights}
-use Rattle.image_check.specs.Checked.{graph_by, weights_with, key_level, IsCounted, HasLevel, CountsNoLoop, IsOverLong, StartsNowhere, IsOverdue, IsMisled, IsPassed}
+use Rattle.image_check.specs.Checked.{graph_by, weights_with, key_level, IsCounted, HasLevel, CountsNoLoop, IsOverLong, IsMisled, IsPassed}
 use Rattle.image_check.specs.Checks.{IsOriginal, IsScannedBy, IsReceived, AreShortCosts, MeetsDeadline, AreExtraCycles}
 use Rattle.image_check.proofs.CallEdges.{extra_are_weights, stored_are_weights}
 use Rattle.scaler.proofs.Laws.{slack_in_range, rest_in_range, turns_in_range}
@@ -158,22 +158,8 @@ module _ (p : Original) (is : IsOriginal p) where
         let short = h.short in
         omega (arith, le, over, short)
 
-    pub starts_nowhere : (level levels : ℕ) → level ≡ key_level p.power r.view → levels ≡ length p.power.levels → levels ≤ level → StartsNowhere p.power p.view r.view p.graph p.tree level levels
-    starts_nowhere level levels a b none = record { found = found; owner = owner_by r.owners; n = n; counted = counted; short = h.short; level_is = a; levels_are = b; none = none }
-
     has_level : (start : ℕ) → start ≡ key_level p.power r.view → start < length p.power.levels → HasLevel p.power p.view r.view p.graph p.tree found (owner_by r.owners) n
     has_level start a lt = record { counted = counted; short = h.short; level = subst (λ x. x < length p.power.levels) a lt }
-
-    pub overdue : (start total need have : ℕ) → start ≡ key_level p.power r.view → start < length p.power.levels → slice_get c.worst.worst 0 ≡ Some total → need ≡ time_at p.power start total → have ≡ p.power.deadline → have < need → IsOverdue p.power p.view r.view p.graph p.tree need have
-    overdue start total need have a lt here e f late = record {
-      found = found;
-      owner = owner_by r.owners;
-      n = n;
-      level = has_level start a lt;
-      need_is = e ∙ (ap (λ i. time_at p.power i total) a ∙ ap (time_at p.power (key_level p.power r.view)) (total_is total here));
-      have_is = f;
-      late = late;
-    }
 
     pub in_time : (start total need have : ℕ) → start ≡ key_level p.power r.view → start < length p.power.levels → slice_get c.worst.worst 0 ≡ Some total → need ≡ time_at p.power start total → have ≡ p.power.deadline → need ≤ have → MeetsDeadline p r n start
     in_time start total need have a lt here e f le = record {

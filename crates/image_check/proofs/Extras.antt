@@ -24,7 +24,7 @@ use Rattle.code_text.proofs.Laws.{kind_facts}
 use Rattle.code_graph.specs.FlowGraph.{FlowGraph, graph}
 use Rattle.loop_tree.specs.Tree.{LoopView, loops}
 use Rattle.worst_cycles.specs.Worst.{by_edge}
-use Rattle.stub_writer.specs.Stubs.{Site, Place}
+use Rattle.stub_writer.specs.Stubs.{Site}
 use Rattle.stored_runs.specs.Cycles.{fragment_cost}
 use Rattle.stored_runs.specs.Marks.{place_at, fragments_of_class, jumps_by}
 use Rattle.paid_runs.specs.Marked.{extra_by, extra_site_weights, stored_site_weights}
@@ -110,9 +110,6 @@ module _ (original foreign : Image) (v : FlowGraph) (tree : LoopView) (owner : O
     within =
         let here : Within edge (edges_of (kind_at t edge.at) edge.at (call_returns v.code (kind_at t edge.at))) = subst (λ u. Within edge (edges_of (kind_at t u) u (call_returns v.code (kind_at t u)))) (sym source.3) source.2 in
         subst (λ w. Within edge (edges_of w edge.at (call_returns v.code (kind_at t edge.at)))) kind_is here
-
-    place_of : Instr → Place
-    place_of i = place_by foreign l owner edge.at (found edge.at) (Some i)
 
     jumps_are : (i : Instr) → CanBePatched i → (r : Bool) → Within edge (edges_of (instr_kind t edge.at i) edge.at r) → jumps_by (Some (place_by foreign l owner edge.at (found edge.at) (Some i))) ≡ stub_jumps edge.kind
     jumps_are (instr.Branch op rs1 rs2 offset) can r w = ⊎_elim

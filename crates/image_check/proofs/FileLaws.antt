@@ -17,7 +17,7 @@ use Rattle.code_graph.specs.FlowGraph.{FlowGraph}
 use Rattle.loop_tree.specs.Tree.{LoopView, loops}
 use Rattle.foreign_scan.specs.Scanned.{IsFirstWhy}
 use Rattle.scaler.specs.Held.{Then, unscaled}
-use Rattle.image_check.specs.Checked.{IsFirstCause, IsImageVerdict, IsFileVerdict, IsProgramChecked, IsChecked}
+use Rattle.image_check.specs.Checked.{IsFirstCause, IsProgramChecked, IsChecked}
 
 -- ---- causes
 
@@ -79,8 +79,3 @@ pub program_answers : (image foreign machine loop_file : List ℕ) (power : Powe
 unfolding IsChecked
 program_answers image foreign machine loop_file power original notes result a b c d h =
     then_goes (read_machine machine) power _ result a (then_goes (image_of image) original _ result b (then_goes (unscaled original.keyed_segment) tt _ result c (then_goes (read_loops original loop_file) notes _ result d h)))
-
--- ---- the other image
-
-pub file_verdict : (power : PowerModel) (original : Image) (read : Result Image Refusal) (foreign : Image) (notes : List LoopNote) (v : FlowGraph) (tree : LoopView) (verdict : Verdict) → read ≡ Ok foreign → IsImageVerdict power original foreign notes v tree verdict → IsFileVerdict power original read notes v tree verdict
-file_verdict power original read foreign notes v tree verdict e h = subst (λ r. IsFileVerdict power original r notes v tree verdict) (sym e) h

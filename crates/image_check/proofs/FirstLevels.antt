@@ -15,7 +15,7 @@ use Rattle.cost_theory.specs.Worst.{Numbers}
 use Rattle.cost_theory.proofs.Laws.{some_get}
 use Rattle.cost_theory.specs.Reached.{edge_at}
 use Rattle.cycle_laws.specs.Charged.{Charged}
-use Rattle.code_graph.specs.FlowGraph.{FlowGraph, graph, IsFlowGraph}
+use Rattle.code_graph.specs.FlowGraph.{graph, IsFlowGraph}
 use Rattle.loop_tree.specs.Tree.{loops}
 use Rattle.loop_tree.proofs.Laws.{source_number}
 use Rattle.level_tables.specs.Tables.{EdgeNumbers, at_row}
@@ -77,17 +77,11 @@ first_place CallNext lt = refl
 first_place End lt = refl
 
 module _ (x : Known) (foreign : Image) (found : Found) (w : ℕ → ℕ) (n : Numbers) (least : Charged) where
-  abbrev v : FlowGraph
-  v = x.graph.now
-
   abbrev l : Loops
   l = loops x.graph.now x.tree.now
 
   abbrev owner : Owner
   owner = owner_by x.owners.now
-
-  abbrev Bad : ℕ → ℕ → Type 0
-  Bad e i = IsBadAt x foreign found w n least e i
 
   -- none of the edges of the first nodes
   abbrev pub NoneBelow : ℕ → Type 0

@@ -20,7 +20,6 @@ pub mod FileLaws
 pub mod SafeChecks
 pub mod LevelLaws
 pub mod FirstLevels
-pub mod TailLaws
 pub mod StoredTables
 pub mod StoredStubs
 pub mod StoredScan

@@ -27,11 +27,6 @@ use Rattle.image_check.proofs.UseLaws.{tally_counts, tally_clears, tally_fits, a
 
 -- ---- lists and sums
 
-pub owner_past : (owners : List (Option ℕ)) (c : ℕ) → length owners ≤ c → owner_by owners c ≡ None
-owner_past [] c le = refl
-owner_past (o ∷ os) zero le = absurd (let no : ⊥ = omega (arith, le) in no)
-owner_past (o ∷ os) (suc c) le = owner_past os c (omega (arith, le))
-
 sum_some : (n : ℕ) (f : ℕ → ℕ) → 0 < sum_below n f → (k : ℕ) × (k < n) × (0 < f k)
 sum_some zero f some = absurd (let no : ⊥ = omega (arith, some) in no)
 sum_some (suc n) f some = by_last (f n) refl (λ h. sum_some n f h)

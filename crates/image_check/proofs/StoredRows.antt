@@ -21,14 +21,13 @@ use Rattle.scale_base.specs.Image.{Image, is_in, is_word_address}
 use Rattle.scale_base.specs.Layout.{layout_of, is_keyed}
 use Rattle.power_model.specs.Numbers.{PowerModel}
 use Rattle.power_model.specs.Switches.{costs_of}
-use Rattle.cost_theory.specs.Graph.{Graph, Loops}
+use Rattle.cost_theory.specs.Graph.{Loops}
 use Rattle.cost_theory.specs.Reached.{Reached, Code, edge_at, edges_of}
 use Rattle.cost_theory.specs.Worst.{Numbers}
 use Rattle.cost_theory.proofs.Laws.{Within, edge_of_word}
 use Rattle.cycle_laws.specs.Charged.{Charged}
 use Rattle.code_text.specs.Text.{Text, text_of, instr_at, instr_kind, kind_at}
 use Rattle.code_text.specs.EdgeCosts.{class_by, edge_class, weights}
-use Rattle.code_text.specs.TextGraph.{text_graph}
 use Rattle.graph_runs.specs.Laws.{IsProgramOf}
 use Rattle.code_graph.specs.FlowGraph.{FlowGraph}
 use Rattle.loop_file.specs.declared.notes.LoopNote.{LoopNote}
@@ -94,9 +93,6 @@ module _ (power : PowerModel) (original foreign : Image) (notes : List LoopNote)
 
   abbrev l : Loops
   l = loops v tree
-
-  abbrev g : Graph
-  g = text_graph t code
 
   abbrev marked : ℕ → List Mark
   marked = marks_by_slack power original v tree plain

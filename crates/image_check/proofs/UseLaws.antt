@@ -1,5 +1,5 @@
 -- What is taken of the fragments of edges: names of loops, and tallies of counters.
-use Rattle.std.proofs.Common.{◌≡◌, ◌≢◌, ◌⊎◌, inl, inr, ⊎_elim, ℕ, zero, suc, ◌+◌, ◌<◌, ◌≤◌, Bool, true, false, not, ◌&&◌, ◌||◌, List, [], ◌∷◌, length, Option, Some, None, refl, sym, ap, ◌∙◌, subst, arith, if◌then◌else◌, drop, get_or, drop-cons, add-one, get_or-set_same, get_or-set_other, replicate}
+use Rattle.std.proofs.Common.{◌≡◌, ◌≢◌, ◌⊎◌, inl, inr, ⊎_elim, ℕ, zero, suc, ◌+◌, ◌<◌, ◌≤◌, Bool, true, false, not, ◌&&◌, ◌||◌, List, [], ◌∷◌, length, Option, Some, refl, sym, ap, ◌∙◌, subst, arith, if◌then◌else◌, drop, get_or-set_same, get_or-set_other, replicate}
 use Rattle.std.specs.Prelude.{◌==◌, nat_le, nat_lt, slice_index_or, slice_set}
 use Rattle.std.specs.List.{sum_by}
 use Rattle.std.proofs.lemmas.Bool.{leb-true, le-leb, lt-ltb, cond-true, cond-false, cases_lt, both_ways, eqb-true, eq-eqb}
@@ -38,10 +38,6 @@ named_some k c (f ∷ fs) o some = ⊎_elim
     let here : 0 < counts_it c f = omega (arith, some, none, sum_by-cons (counts_it c) f fs) in
     named_none k c fs (named_by k c f o) none ∙ cond-true (nat_lt 0 (counts_it c f)) (Some k) o (lt-ltb 0 (counts_it c f) here))
     (λ more. named_some k c fs (named_by k c f o) more) (some_or_none (sum_by (counts_it c) fs))
-
--- a fragment names its counter's loop, and no other
-pub named_count : (k c counter : ℕ) (o : Option ℕ) → c ≡ counter → named_by k c (Count counter) o ≡ Some k
-named_count k c counter o e = ap (λ x. if nat_lt 0 x then Some k else o) (cond-true (c == counter) 1 0 (eq-eqb c counter e))
 
 module _ (v : FlowGraph) (t : LoopView) (s : ScannedSites) (n : ℕ) (old : List (Option ℕ)) (are : AreNamed v t s n old) where
   -- an edge that is no back edge
@@ -173,35 +169,6 @@ fits_not v t s owner c e counts turns counts_is turns_is less =
 
 -- ---- one fragment, and the fragments of an edge
 
-counts_small : (c : ℕ) (f : ForeignFragment) → (counts_it c f ≤ 1) × (clears_it c f ≤ 1)
-counts_small c (Switch word) = (omega arith, omega arith)
-counts_small c (Exit counter shift table) = (omega arith, at_most (c == counter))
-  where
-    at_most : (b : Bool) → (if b then 1 else 0) ≤ 1
-    at_most true = omega arith
-    at_most false = omega arith
-counts_small c (Reset counter) = (omega arith, at_most (c == counter))
-  where
-    at_most : (b : Bool) → (if b then 1 else 0) ≤ 1
-    at_most true = omega arith
-    at_most false = omega arith
-counts_small c (Count counter) = (at_most (c == counter), omega arith)
-  where
-    at_most : (b : Bool) → (if b then 1 else 0) ≤ 1
-    at_most true = omega arith
-    at_most false = omega arith
-
-pub one_small : (c : ℕ) (fits : Bool) (f : ForeignFragment) (u now : Tally) (n : ℕ) → now ≡ taken_one c fits f u → (u.counts ≤ n) × (u.clears ≤ n) → (now.counts ≤ n + 1) × (now.clears ≤ n + 1)
-one_small c fits f u now n is small =
-    let a = small.0 in
-    let b = small.1 in
-    let most = counts_small c f in
-    let x = most.0 in
-    let y = most.1 in
-    let counts : now.counts ≡ u.counts + counts_it c f = ap (λ (w : Tally). w.counts) is in
-    let clears : now.clears ≡ u.clears + clears_it c f = ap (λ (w : Tally). w.clears) is in
-    (omega (arith, a, x, counts), omega (arith, b, y, clears))
-
 and_free : (a b c : Bool) → b ≡ false → (a && (not b || c)) ≡ a
 and_free true b c e = ap (λ x. not x || c) e
 and_free false b c e = refl
@@ -216,9 +183,6 @@ taken_other c fits f u e =
     ap (λ (x : ℕ). let r : Tally = record { counts = x; clears = u.clears + clears_it c f; fits = u.fits && (not (is_same_counter (counter_used f) c) || fits) } in r) (plus_none u.counts (counts_it c f) none.0)
     ∙ (ap (λ (x : ℕ). let r : Tally = record { counts = u.counts; clears = x; fits = u.fits && (not (is_same_counter (counter_used f) c) || fits) } in r) (plus_none u.clears (clears_it c f) none.1)
     ∙ ap (λ (x : Bool). let r : Tally = record { counts = u.counts; clears = u.clears; fits = x } in r) (and_free u.fits (is_same_counter (counter_used f) c) fits e))
-
-pub one_skipped : (fits : ℕ → Bool) (f : ForeignFragment) (old : List Tally) → counter_used f ≡ None → (c : ℕ) → slice_index_or old c no_tally ≡ taken_one c (fits c) f (slice_index_or old c no_tally)
-one_skipped fits f old none c = sym (taken_other c (fits c) f (slice_index_or old c no_tally) (ap (λ o. is_same_counter o c) none))
 
 pub one_set : (fits : ℕ → Bool) (f : ForeignFragment) (old new : List Tally) (counter : ℕ) (fit : Bool) → counter_used f ≡ Some counter → counter < length old → fit ≡ fits counter
     → new ≡ slice_set old counter (taken_one counter fit f (slice_index_or old counter no_tally)) → (c : ℕ) → slice_index_or new c no_tally ≡ taken_one c (fits c) f (slice_index_or old c no_tally)
@@ -248,11 +212,6 @@ drop_end [] zero le = refl
 drop_end [] (suc n) le = refl
 drop_end (x ∷ xs) zero le = absurd (let no : ⊥ = omega (arith, le) in no)
 drop_end (x ∷ xs) (suc n) le = drop_end xs n (omega (arith, le))
-
-pub edge_more : (fits : Bool) (c : ℕ) (fs : List ForeignFragment) (j : ℕ) (f : ForeignFragment) (u now end : Tally) → j < length fs → get_or fs j f ≡ f → taken c fits (drop j fs) u ≡ end → now ≡ taken_one c fits f u → taken c fits (drop (j + 1) fs) now ≡ end
-edge_more fits c fs j f u now end lt at before is =
-    let next : drop j fs ≡ f ∷ drop (j + 1) fs = drop-cons fs j f lt ∙ (ap (λ x. x ∷ drop (suc j) fs) at ∙ ap (λ m. f ∷ drop m fs) (sym (add-one j))) in
-    ap (taken c fits (drop (j + 1) fs)) is ∙ (sym (ap (λ xs. taken c fits xs u) next) ∙ before)
 
 pub edge_last : (fits : Bool) (c : ℕ) (fs : List ForeignFragment) (j : ℕ) (now end : Tally) → length fs ≤ j → taken c fits (drop j fs) now ≡ end → now ≡ end
 edge_last fits c fs j now end le before = sym (ap (λ xs. taken c fits xs now) (drop_end fs j le)) ∙ before

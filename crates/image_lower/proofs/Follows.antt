@@ -1,6 +1,6 @@
 -- A word that follows another one in a range of the text, and that one, are words of the text.
 use Rattle.std.proofs.Common.{◌≡◌, ℕ, ◌-◌, ◌%◌, ◌≤◌, Bool, true, false, List, [], ◌∷◌, refl, arith}
-use Rattle.std.specs.Prelude.{◌&&◌, ◌||◌, ◌==◌, nat_le, nat_lt}
+use Rattle.std.specs.Prelude.{◌&&◌, ◌||◌, ◌==◌, nat_le}
 use Rattle.std.specs.List.{list_any}
 use Rattle.std.proofs.lemmas.Bool.{and_parts, and_from, leb-true, eq-eqb}
 use Rattle.scale_base.specs.declared.ranges.Range.{Range}
@@ -26,6 +26,3 @@ words_there image at aligned h =
       and_from ((at - 4) % 4 == 0) (list_any (is_in (at - 4)) image.text) (eq-eqb ((at - 4) % 4) 0 (omega (arith, aligned, four))) (any_weaker (λ r. is_in (at - 4) r && is_in at r) (is_in (at - 4)) image.text (λ r e. (and_parts (is_in (at - 4) r) (is_in at r) e).0) p.1),
       four,
     )
-
-pub in_range : (r : Range) (at : ℕ) → is_in at r ≡ true → r.from ≤ at
-in_range r at h = leb-true r.from at (and_parts (nat_le r.from at) (nat_lt at r.to) h).0

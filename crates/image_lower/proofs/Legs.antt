@@ -32,7 +32,7 @@ use Rattle.code_text.specs.Text.{text_of, instr_at}
 use Rattle.code_text.specs.Text as texts
 use Rattle.graph_runs.proofs.Laws.{word_within, word_bound, word_same, not_written, IsTrap, step_done, went_at}
 use Rattle.stored_runs.specs.Meaning.{StepsLead}
-use Rattle.stored_runs.proofs.Laws.{leads_none, leads_first, laid, SeeAlike, over, seen, step_alike, hidden, word_by, word_stays}
+use Rattle.stored_runs.proofs.Laws.{leads_none, leads_first, laid, SeeAlike, over, step_alike, hidden, word_by, word_stays}
 use Rattle.jump_lists.specs.declared.notes.JumpNote.{JumpNote}
 use Rattle.image_lower.specs.FarJumps.{far_jump, far_target}
 use Rattle.stored_runs.specs.Cycles.{stepped_cycles}
@@ -48,10 +48,6 @@ use Rattle.image_lower.proofs.LoweredFrame.{IsFrame}
 -- nothing is hidden
 abbrev none : ℕ → Bool
 none a = false
-
--- an outcome by its parts
-went_state : (o : Outcome) (x : Stepped) (u : State) → o ≡ goes x u → o.state ≡ u
-went_state o x u e = ap (λ (p : Outcome). p.state) e
 
 module _ (image lowered : Image) (notes : List JumpNote) (base levels : ℕ) (input : List ℕ) (f : IsFrame image lowered notes base levels input) where
   abbrev pub one : Setting
@@ -70,9 +66,6 @@ module _ (image lowered : Image) (notes : List JumpNote) (base levels : ℕ) (in
   -- the state of the lowered run
   abbrev pub up : State → State
   up s = over (hidden lowered) (loaded_byte lowered) w0 s
-
-  abbrev pub upped : Outcome → Outcome
-  upped o = seen (hidden lowered) (loaded_byte lowered) w0 o
 
   -- at the second word of a far jump, the register holds what the first has put there
   abbrev pub IsPrepared : State → Type 0

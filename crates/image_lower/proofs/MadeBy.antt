@@ -216,9 +216,6 @@ module _ (file : List ℕ) (patches : List Patch) (base : ℕ) (read : image_of 
   fits : All (λ p. (q : ℕ) → file_place file p.at ≡ Some q → q + 4 ≤ length file) patches
   fits = λ k d lt q e. (places k d lt q e).within
 
-  known_file : Known file
-  known_file = known file rules
-
   header_byte : (i : ℕ) → i < 52 → get_or new i 0 ≡ get_or file i 0
   header_byte i lt = patched-away file patches i (away file patches i places lt)
 

@@ -291,10 +291,6 @@ module _ (file made : List ℕ) (patches : List Patch) (base : ℕ) (block : Lis
   unfolding layout_of contents
   text_is a = m.text a
 
-  pub text_off_too : (a : ℕ) → in_text k a ≡ true → inside a ≡ false
-  unfolding layout_of contents
-  text_off_too a on = text_off a on
-
   parts_of : (f : Part → Bool) (a : ℕ) → list_any (λ p. f p && in_span p.span a) k.parts ≡ list_any (allows file f a) hs
   unfolding layout_of contents
   parts_of f a = any_allows file f a hs

@@ -2,7 +2,7 @@
 use Rattle.std.proofs.Common.{◌≡◌, ℕ, suc, ◌+◌, ◌-◌, ◌<◌, ◌≤◌, Bool, true, false, List, [], ◌∷◌, ◌++◌, length, get_or, take, drop, fold, map, refl, arith, ap, sym, ◌∙◌, add-one, append_assoc, Bor, Option, Some}
 use Rattle.std.specs.Prelude.{nat_lt, if◌then◌else◌, insert}
 use Rattle.std.proofs.Math.Seq.{drop-cons, take-suc}
-use Rattle.std.proofs.lemmas.List.{drop_all, map-append, take-map, drop-map, length-map, take_all}
+use Rattle.std.proofs.lemmas.List.{map-append, take-map, drop-map, length-map, take_all}
 use Rattle.std.proofs.Math.ListN.{get_or-map}
 use Rattle.std.proofs.lemmas.List.Sums.{fold-append}
 use Rattle.std.proofs.lemmas.Bool.{lt-ltb}
@@ -40,12 +40,6 @@ place_found ys k d note lt before h =
     let cut : drop k ys ≡ y ∷ rest = drop-cons ys k d lt in
     let step : insert_note (drop k ys) note ≡ note ∷ y ∷ rest = ap (λ zs. insert_note zs note) cut ∙ pick (nat_lt note.at y.at) (note ∷ y ∷ rest) (y ∷ insert_note rest note) before in
     h ∙ ap (λ zs. take k ys ++ zs) (step ∙ ap (λ zs. note ∷ zs) (sym cut))
-
--- it stands behind all
-pub place_last : (ys : List JumpNote) (k : ℕ) (note : JumpNote) → length ys ≤ k → insert_note ys note ≡ take k ys ++ insert_note (drop k ys) note → insert_note ys note ≡ put_note ys k note
-place_last ys k note all h =
-    let none : drop k ys ≡ [] = drop_all k ys all in
-    h ∙ ap (λ zs. take k ys ++ zs) (ap (λ zs. insert_note zs note) none ∙ ap (λ zs. note ∷ zs) (sym none))
 
 -- ---- in a list of borrowed notes
 

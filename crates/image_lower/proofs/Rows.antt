@@ -1,14 +1,12 @@
 -- One word or one note more, at a step of a loop.
-use Rattle.std.proofs.Common.{◌≡◌, ℕ, ◌+◌, ◌<◌, ◌≤◌, Bool, true, false, List, [], ◌∷◌, ◌++◌, length, get_or, take, map, Option, refl, sym, ap, ◌∙◌, arith, add-one, append_assoc}
+use Rattle.std.proofs.Common.{◌≡◌, ℕ, ◌+◌, ◌<◌, ◌≤◌, Bool, List, [], ◌∷◌, ◌++◌, length, get_or, take, map, Option, sym, ap, ◌∙◌, arith, append_assoc}
 use Rattle.std.specs.Prelude.{◌==◌, ◌||◌, filter_map}
 use Rattle.std.specs.List.{range_with_len, list_any, cons_option}
 use Rattle.std.specs.List.Sorted.{IsPermutation}
 use Rattle.std.proofs.lemmas.List.Sorted.{list_any-IsPermutation}
-use Rattle.std.proofs.Math.Seq.{take-suc}
 use Rattle.std.proofs.lemmas.List.{take_all}
 use Rattle.std.proofs.lemmas.List.FromFn.{map-range_with_len_more}
 use Rattle.std.proofs.lemmas.List.Elements.{filter_map-append}
-use Rattle.std.proofs.lemmas.List.Folds.{list_any-append}
 use Rattle.scale_base.specs.declared.ranges.Range.{Range}
 use Rattle.code_text.specs.Table.{word_addresses, all_addresses}
 use Rattle.code_text.proofs.Laws.{next_range}
@@ -28,24 +26,6 @@ next_words g ranges i d before new lt was added =
     ∙ (sym (filter_map-append g (all_addresses (take i ranges)) (word_addresses (get_or ranges i d))) ∙ ap (filter_map g) (next_range word_addresses ranges i d lt)))
 
 -- ---- notes
-
-or_assoc : (a b c : Bool) → ((a || b) || c) ≡ (a || (b || c))
-or_assoc true b c = refl
-or_assoc false b c = refl
-
-or_false : (b : Bool) → (b || false) ≡ b
-or_false true = refl
-or_false false = refl
-
--- the targets of one note more
-pub next_noted : (notes : List JumpNote) (i : ℕ) (d : JumpNote) (first : ℕ → Bool) (before added : List ℕ) (v : ℕ) → i < length notes → added ≡ (get_or notes i d).targets →
-    (first v || is_noted (take i notes) v) ≡ list_any (λ u. u == v) before → (first v || is_noted (take (i + 1) notes) v) ≡ list_any (λ u. u == v) (before ++ added)
-next_noted notes i d first before added v lt same was =
-    let p : JumpNote → Bool = λ n. list_any (λ u. u == v) n.targets in
-    let grown : is_noted (take (i + 1) notes) v ≡ (is_noted (take i notes) v || p (get_or notes i d)) =
-    rw (add-one, take-suc notes i d lt) (list_any-append p (take i notes) (get_or notes i d ∷ []) ∙ ap (λ b. is_noted (take i notes) v || b) (or_false (p (get_or notes i d)))) in
-    ap (λ b. first v || b) grown ∙ (sym (or_assoc (first v) (is_noted (take i notes) v) (p (get_or notes i d)))
-    ∙ (ap (λ b. b || p (get_or notes i d)) was ∙ (ap (λ xs. list_any (λ u. u == v) before || list_any (λ u. u == v) xs) (sym same) ∙ sym (list_any-append (λ u. u == v) before added))))
 
 -- those of all notes, in any order
 pub all_noted : (first : ℕ → Bool) (notes : List JumpNote) (xs ys : List ℕ) (i : ℕ) → length notes ≤ i → ((v : ℕ) → (first v || is_noted (take i notes) v) ≡ list_any (λ u. u == v) xs) → IsPermutation xs ys →

@@ -1,5 +1,5 @@
 -- One more word.
-use Rattle.std.proofs.Common.{◌≡◌, ◌<◌, ◌≤◌, ℕ, ◌+◌, ◌*◌, ◌^◌, Bool, true, false, cond, List, [], ◌∷◌, ◌++◌, length, get_or, take, drop, take_all, Option, Some, None, refl, sym, ap, ◌∙◌, arith, inl, inr, subst}
+use Rattle.std.proofs.Common.{◌≡◌, ◌<◌, ◌≤◌, ℕ, ◌+◌, Bool, true, false, cond, List, [], ◌∷◌, ◌++◌, length, get_or, take, drop, take_all, Option, Some, None, refl, sym, ap, ◌∙◌, arith, inl, inr, subst}
 use Rattle.std.specs.Prelude.{◌==◌, count_by, slice_get, slice_index, MatchOption, option_map, pos, ◌-ℤ◌}
 use Rattle.std.specs.Ordering.{nat_cmp}
 use Rattle.std.specs.BTreeMap.{BTreeMap, get}
@@ -72,14 +72,6 @@ one_address lines l a b labels h g = h.place ∙ ap (line_address lines) (one_li
 -- the address of a label that is there
 place_of : (lines : List Line) (table : BTreeMap ℕ ℕ) (l to : ℕ) → IsLabelTable lines (length lines) table → get nat_cmp table l ≡ Some to → LabelStandsAt lines l to
 place_of lines table l to h e = (rw e at (h l)).1
-
-pub place_fits : (lines : List Line) (table : BTreeMap ℕ ℕ) (l to : ℕ) → length lines ≤ 131072 → IsLabelTable lines (length lines) table → get nat_cmp table l ≡ Some to → to < 2 ^ 31
-place_fits lines table l to few h e =
-    let stands = place_of lines table l to h e in
-    let front = count_front has_word lines stands.line in
-    let all = count_by-le-length has_word lines in
-    let place = stands.place in
-    omega arith
 
 -- what a line means is one instruction
 pub record MeansOne (lines : List Line) (k : ℕ) (i : Instr) : Type 0 where
@@ -184,31 +176,9 @@ first_unfit lines k i words meant unfit before = record {
   ];
 }
 
--- all lines
-pub all_words : (lines : List Line) (k : ℕ) (words : List ℕ) → HasLabels lines → length lines ≤ k → k ≤ length lines → AreWords lines k words → IsAssembled lines words
-all_words lines k words labels low high are =
-    let same : k ≡ length lines = omega arith in
-    record {
-      labels = labels;
-      count = are.count ∙ ap (words_before lines) same;
-      each = λ j i m. let y = means_word lines j i m in let within = slice_get_within lines j y.0 y.1 in are.each j i (omega arith) m;
-    }
-
--- where the word of line k stands
-pub word_place : (lines : List Line) (k : ℕ) (words : List ℕ) → length lines ≤ 131072 → AreWords lines k words → (0x10000 + 4 * length words ≡ line_address lines k) × (length words ≤ 131072)
-word_place lines k words few are =
-    let front = count_front has_word lines k in
-    let all = count_by-le-length has_word lines in
-    let c = are.count in
-    (omega arith, omega arith)
-
 pub assembled-short : (lines : List Line) (words : List ℕ) → length lines ≤ 131072 → IsAssembled lines words → length words ≤ 131072
 assembled-short lines words few h =
     let front = count_front has_word lines (length lines) in
     let all = count_by-le-length has_word lines in
     let c = h.count in
     omega arith
-
--- words of an image
-pub assembled-some : (lines : List Line) (words : List ℕ) → 0 < words_before lines (length lines) → IsAssembled lines words → 0 < length words
-assembled-some lines words some h = let c = h.count in omega arith

@@ -1,13 +1,9 @@
 -- The lines of a survey, one after another, and what they come to.
-use Rattle.std.proofs.Common.{◌≡◌, ◌↔◌, ℕ, ◌+◌, Bool, List, [], ◌∷◌, ◌++◌, length, cond, not, Some, None, refl, sym, ap, ◌∙◌, subst}
+use Rattle.std.proofs.Common.{◌≡◌, ◌↔◌, ℕ, Bool, List, [], ◌∷◌, ◌++◌, length, Some, None, refl, sym, ap, ◌∙◌, subst}
 use Rattle.std.specs.Prelude.{IsTrue}
-use Rattle.std.specs.List.{sum_by}
-use Rattle.std.proofs.lemmas.List.{length-append}
-use Rattle.std.proofs.lemmas.List.Sums.{fold-append}
 use Rattle.scale_base.specs.declared.endings.Kept.{Kept}
 use Rattle.scale_base.specs.Image.{Image}
 use Rattle.scale_base.specs.Run.{run_of, starting_level}
-use Rattle.power_model.specs.declared.survey.Totals.{Totals}
 use Rattle.power_model.specs.Numbers.{PowerModel}
 use Rattle.power_model.specs.Price.{held_energy}
 use Rattle.power_model.specs.Report.{Report}
@@ -15,8 +11,7 @@ use Rattle.power_model.specs.Survey.{Surveyed}
 use Rattle.power_model.proofs.Laws.{start-price}
 use Rattle.loop_file.specs.declared.notes.LoopNote.{LoopNote}
 use Rattle.speed_sim.specs.Simulated.{report_of}
-use Rattle.input_survey.specs.Surveyed.{IsLineOf, IsLine, AreLines, is_kept, is_late, totals_of}
-use Rattle.input_survey.specs.Totals.{with_line}
+use Rattle.input_survey.specs.Surveyed.{IsLineOf, IsLine, AreLines}
 
 pub lines_more : (power : PowerModel) (original scaled : Image) (notes : List LoopNote) (inputs : List (List ℕ)) (lines : List Surveyed) (input : List ℕ) (line : Surveyed) →
     AreLines power original scaled notes inputs lines → IsLine power original scaled notes input line → AreLines power original scaled notes (inputs ++ input ∷ []) (lines ++ line ∷ [])
@@ -24,22 +19,6 @@ lines_more power original scaled notes [] [] input line are is = (is, tt)
 lines_more power original scaled notes [] (l ∷ ls) input line are is = absurd are
 lines_more power original scaled notes (i ∷ is) [] input line are it = absurd are
 lines_more power original scaled notes (i ∷ is) (l ∷ ls) input line are it = (are.0, lines_more power original scaled notes is ls input line are.1 it)
-
--- one line more
-pub sum_more : (f : Surveyed → ℕ) (lines : List Surveyed) (line : Surveyed) → sum_by f (lines ++ line ∷ []) ≡ sum_by f lines + f line
-sum_more f lines line = fold-append (λ a x. a + f x) 0 lines (line ∷ [])
-
-pub totals_more : (power : PowerModel) (lines : List Surveyed) (line : Surveyed) → totals_of power (lines ++ line ∷ []) ≡ with_line power (totals_of power lines) line
-totals_more power lines line =
-    same_totals (length-append lines (line ∷ []))
-    (sum_more (λ l. cond (is_kept l.kept) 1 0) lines line) (sum_more (λ l. cond (is_late power l) 1 0) lines line) (sum_more (λ l. cond (not l.same) 1 0) lines line)
-    (sum_more (λ l. l.paid.cycles) lines line) (sum_more (λ l. l.scaled_paid.cycles) lines line) (sum_more (λ l. l.scaled_paid.energy) lines line)
-    (sum_more (λ l. l.held) lines line) (sum_more (λ l. l.scaled_paid.switches) lines line)
-  where
-    same_totals : {a a' b b' c c' d d' e e' f f' g g' h h' i i' : ℕ} → a ≡ a' → b ≡ b' → c ≡ c' → d ≡ d' → e ≡ e' → f ≡ f' → g ≡ g' → h ≡ h' → i ≡ i' →
-        (let t : Totals = record { inputs = a; kept = b; late = c; differ = d; cycles = e; scaled_cycles = f; energy = g; held = h; switches = i } in t) ≡
-        record { inputs = a'; kept = b'; late = c'; differ = d'; cycles = e'; scaled_cycles = f'; energy = g'; held = h'; switches = i' }
-    same_totals p q r s t u v w x = cc
 
 -- ---- a line from the reports of its runs
 

@@ -14,12 +14,6 @@ contains_one x y (k, low, is) = let zero : k ≡ 0 = omega arith in sym is ∙ a
 pub here_one : (x : List ℕ) → Contains (x ∷ []) x
 here_one x = (0, omega arith, refl)
 
-pub most_first : (power : PowerModel) (image : Image) (notes : List LoopNote) (k : ℕ) → IsMost power image notes [] k 0
-most_first power image notes k = record { bound = λ count r. none count r.listed; reached = inl refl }
-  where
-    none : (count : ℕ) {x : List ℕ} → Contains [] x → count ≤ 0
-    none count (i, low, is) = let bad : ⊥ = omega arith in absurd bad
-
 pub most_more : (power : PowerModel) (image : Image) (notes : List LoopNote) (inputs : List (List ℕ)) (input : List ℕ) (k old new : ℕ) → IsMost power image notes inputs k old → old ≤ new →
     ((j count : ℕ) → j < power.steps → ReachesAt power image notes input j k count → count ≤ new) →
     (new ≡ old) ⊎ ((j : ℕ) × (j < power.steps) × ReachesAt power image notes input j k new) →

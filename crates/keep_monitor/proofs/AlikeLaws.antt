@@ -23,20 +23,6 @@ pub record AreAlike (one other : List LoopNote) : Type 0 where
   pub header : (k : ℕ) → k < length one → (note_at one k).header ≡ (note_at other k).header
   pub extent : (k : ℕ) → k < length one → (v : ℕ) → in_extent (note_at one k) v ≡ in_extent (note_at other k) v
 
-pub alike_back : (one other : List LoopNote) → AreAlike one other → AreAlike other one
-alike_back one other a = record {
-  size = sym a.size;
-  header = λ k kl. sym (a.header k (subst (λ n. k < n) (sym a.size) kl));
-  extent = λ k kl v. sym (a.extent k (subst (λ n. k < n) (sym a.size) kl) v);
-}
-
-pub alike_through : (one other third : List LoopNote) → AreAlike one other → AreAlike other third → AreAlike one third
-alike_through one other third a b = record {
-  size = a.size ∙ b.size;
-  header = λ k kl. a.header k kl ∙ b.header k (subst (λ n. k < n) a.size kl);
-  extent = λ k kl v. a.extent k kl v ∙ b.extent k (subst (λ n. k < n) a.size kl) v;
-}
-
 pub relaxed_at : (notes : List LoopNote) (k : ℕ) → k < length notes → note_at (map relaxed_note notes) k ≡ relaxed_note (note_at notes k)
 relaxed_at notes k kl = get_or-map relaxed_note notes k _ _ kl
 

@@ -1,8 +1,6 @@
 -- The least loop whose bounds a step breaks is the lesser of that whose count is above its bound and that which is left early.
-use Rattle.std.proofs.Common.{◌≡◌, ℕ, zero, suc, ◌+◌, ◌<◌, ◌≤◌, ◌==◌, Bool, true, false, not, ◌&&◌, ◌||◌, nat_lt, cond, ◌⊎◌, inl, inr, ⊎_elim, List, [], ◌∷◌, ◌++◌, length, get_or, Option, Some, None, is_some, option_map, refl, sym, ap, ◌∙◌, subst, arith, eq-eqb}
+use Rattle.std.proofs.Common.{◌≡◌, ℕ, zero, suc, ◌+◌, ◌<◌, ◌≤◌, ◌==◌, Bool, true, false, not, ◌&&◌, ◌||◌, nat_lt, cond, ◌⊎◌, ⊎_elim, List, length, get_or, Option, Some, None, is_some, option_map, refl, sym, ap, ◌∙◌, subst, arith, eq-eqb}
 use Rattle.std.proofs.lemmas.Bool.{cond-true, cond-false, ne_eqb, lt-ltb, le-ltb, or_parts, ltb-false, cases_lt, cases_eq, cases_Bool}
-use Rattle.std.proofs.lemmas.List.{get_or_push, length-append}
-use Rattle.std.proofs.Math.ListN.{get_or-append}
 use Rattle.scale_base.specs.declared.endings.Kept.TheVariants.{BrokeBound}
 use Rattle.scale_base.specs.declared.stepping.Move.{Move}
 use Rattle.scale_base.specs.declared.stepping.Move.TheVariants.{Local, Call, Return}
@@ -155,68 +153,3 @@ count_is notes counts source next k = ⊎_elim
     (λ (e : (note_at notes k).header ≡ next). stepped_here notes counts source next k e ∙ sym (cond-true _ _ _ (eq-eqb _ _ (sym e))))
     (λ (ne : (note_at notes k).header ≡ next → ⊥). stepped_else notes counts source next k ne ∙ sym (cond-false _ _ _ (ne_eqb _ _ (λ e. ne (sym e)))))
     (cases_eq (note_at notes k).header next)
-
--- ---- the list of the loops that have to turn
-
-pub turning_none : (notes : List LoopNote) → AreTurning notes 0 []
-turning_none notes = record {
-  within = λ j jl. (let bad : ⊥ = omega arith in absurd bad);
-  rise = λ i j il jl. (let bad : ⊥ = omega arith in absurd bad);
-  whole = λ k kl turns. (let bad : ⊥ = omega arith in absurd bad);
-}
-
--- a loop more that has to turn
-pub turning_more : (notes : List LoopNote) (n : ℕ) (numbers more : List ℕ) → AreTurning notes n numbers → more ≡ numbers ++ n ∷ [] → AreTurning notes (n + 1) more
-turning_more notes n numbers more are e = subst (λ (ns : List ℕ). AreTurning notes (n + 1) ns) (sym e) (record {
-  within = λ j jl. within j (low j jl);
-  rise = λ i j il jl. rise i j il (low j jl);
-  whole = λ k kl turns. ⊎_elim
-      (λ (l : k < n).
-      let spot = are.whole k l turns in
-      let sl : spot.0 < length numbers = spot.1 in
-      (spot.0, (let q : spot.0 < length (numbers ++ n ∷ []) = omega (arith, size) in q), get_or-append numbers (n ∷ []) 0 spot.0 sl ∙ spot.2))
-      (λ (s : k ≡ n). (length numbers, omega (arith, size), get_or_push numbers n 0 (length numbers) refl ∙ sym s))
-      (at_end k n kl);
-})
-  where
-    size : length (numbers ++ n ∷ []) ≡ length numbers + 1
-    size = length-append numbers (n ∷ [])
-
-    low : (j : ℕ) → j < length (numbers ++ n ∷ []) → (j < length numbers) ⊎ (j ≡ length numbers)
-    low j jl = let q : j < length numbers + 1 = omega (arith, size) in go j (length numbers) q
-      where
-        go : (j m : ℕ) → j < m + 1 → (j < m) ⊎ (j ≡ m)
-        go j m h = grind arith
-
-    here : get_or (numbers ++ n ∷ []) (length numbers) 0 ≡ n
-    here = get_or_push numbers n 0 (length numbers) refl
-
-    there : (j : ℕ) → j < length numbers → get_or (numbers ++ n ∷ []) j 0 ≡ get_or numbers j 0
-    there j jl = get_or-append numbers (n ∷ []) 0 j jl
-
-    within : (j : ℕ) → (j < length numbers) ⊎ (j ≡ length numbers) → get_or (numbers ++ n ∷ []) j 0 < n + 1
-    within j (inl l) = let e : get_or (numbers ++ n ∷ []) j 0 ≡ get_or numbers j 0 = there j l in let q : get_or numbers j 0 < n = are.within j l in omega arith
-    within j (inr s) = let e : get_or (numbers ++ n ∷ []) j 0 ≡ n = ap (λ i. get_or (numbers ++ n ∷ []) i 0) s ∙ here in omega arith
-
-    rise : (i j : ℕ) → i < j → (j < length numbers) ⊎ (j ≡ length numbers) → get_or (numbers ++ n ∷ []) i 0 < get_or (numbers ++ n ∷ []) j 0
-    rise i j il (inl l) =
-        let a : get_or (numbers ++ n ∷ []) i 0 ≡ get_or numbers i 0 = there i (omega arith) in
-        let b : get_or (numbers ++ n ∷ []) j 0 ≡ get_or numbers j 0 = there j l in
-        let r : get_or numbers i 0 < get_or numbers j 0 = are.rise i j il l in
-        omega arith
-    rise i j il (inr s) =
-        let a : get_or (numbers ++ n ∷ []) i 0 ≡ get_or numbers i 0 = there i (omega arith) in
-        let b : get_or (numbers ++ n ∷ []) j 0 ≡ n = ap (λ i. get_or (numbers ++ n ∷ []) i 0) s ∙ here in
-        let r : get_or numbers i 0 < n = are.within i (omega arith) in
-        omega arith
-
--- and one that need not
-pub turning_same : (notes : List LoopNote) (n : ℕ) (numbers : List ℕ) → AreTurning notes n numbers → (0 < (note_at notes n).at_least → ⊥) → AreTurning notes (n + 1) numbers
-turning_same notes n numbers are none = record {
-  within = λ j jl. (let q : get_or numbers j 0 < n = are.within j jl in let r : get_or numbers j 0 < n + 1 = omega arith in r);
-  rise = are.rise;
-  whole = λ k kl turns. ⊎_elim
-      (λ (l : k < n). are.whole k l turns)
-      (λ (s : k ≡ n). absurd (none (subst (λ i. 0 < (note_at notes i).at_least) s turns)))
-      (at_end k n kl);
-}

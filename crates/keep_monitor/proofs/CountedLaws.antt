@@ -27,7 +27,7 @@ use Rattle.keep_monitor.specs.Counted.{Counted, counted_first, raised_at, raised
 use Rattle.keep_monitor.specs.Reached.{ReachesCount}
 use Rattle.keep_monitor.proofs.CountLaws.{stepped_else}
 use Rattle.keep_monitor.proofs.StepLaws.{watch_stays}
-use Rattle.keep_monitor.proofs.AlikeLaws.{AreAlike, alike_back, relaxed_at, relaxed_alike, going_with, same_counts, same_count}
+use Rattle.keep_monitor.proofs.AlikeLaws.{AreAlike, relaxed_at, relaxed_alike, going_with, same_counts, same_count}
 use Rattle.keep_monitor.proofs.OutcomeLaws.{Outcome, BreaksReturns, BreaksBound, KeepsAll, outcome, none_broken, broken_not}
 use Rattle.keep_monitor.proofs.BoundLaws.{NeedNotTurn, within_none, none_within}
 

@@ -133,9 +133,6 @@ record IsMore (env : Setting) (s : State) (notes : List LoopNote) (n : ℕ) (aft
 same_next : (x y : Stepped) → Went x ≡ Went y → x ≡ y
 same_next x y e = let r : x ≡ y = cc in r
 
-same_list : (a b : List ℕ) → Some a ≡ Some b → a ≡ b
-same_list a b e = let r : a ≡ b = cc in r
-
 -- a count that is reached is the one after this step
 reached_is : (env : Setting) (s : State) (loops : List LoopNote) (n k count : ℕ) (x : Stepped) → (step env (run env s n).state).end ≡ Went x → ReachesCount env s loops n k count →
     count ≡ next_counts (watched_from env s loops n) x k

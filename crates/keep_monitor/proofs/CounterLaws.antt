@@ -1,5 +1,5 @@
 -- What a counter of loops does at a step, by what it keeps.
-use Rattle.std.proofs.Common.{◌≡◌, ◌≢◌, ℕ, ◌<◌, ◌≤◌, Bool, true, false, nat_lt, ◌==◌, max, ⊎_elim, List, [], length, map, replicate, get_or, Option, Some, None, refl, sym, ap, ◌∙◌, subst, arith, eq-eqb, is_none}
+use Rattle.std.proofs.Common.{◌≡◌, ◌≢◌, ℕ, ◌<◌, ◌≤◌, Bool, true, nat_lt, ◌==◌, max, ⊎_elim, List, [], length, map, replicate, get_or, Option, Some, None, refl, sym, ap, ◌∙◌, subst, arith, eq-eqb, is_none}
 use Rattle.std.proofs.lemmas.Bool.{cond-true, cond-false, ne_eqb, le-ltb, cases_eq}
 use Rattle.std.proofs.lemmas.List.{length-map, get_or-map, get_or-replicate, length-replicate}
 use Rattle.std.proofs.lemmas.List.FromFn.{fill_by_all, get_or-map-range_with_len, length-map-range_with_len}
@@ -112,10 +112,6 @@ raise_all w most new x group of size each others none =
 pub none_is : (o : Option Kept) → is_none o ≡ true → o ≡ None
 none_is None e = refl
 none_is (Some b) e = let bad : ⊥ = cc in absurd bad
-
-pub some_is : (o : Option Kept) → is_none o ≡ false → (b : Kept) × (o ≡ Some b)
-some_is None e = let bad : ⊥ = cc in absurd bad
-some_is (Some b) e = (b, refl)
 
 -- ---- a step of the counter, by what it keeps
 

@@ -15,7 +15,7 @@ end_plain g l e none k kl = ap (goes_back l k (g.source e)) none ∙ never (l.in
     never true = refl
     never false = refl
 
--- a acyclic path and a last edge are a walk that ends with it, and a acyclic path
+-- a plain path and a last edge are a walk that ends with it, and a plain path
 module _ (g : Graph) (l : Loops) (last : ℕ → Type 0) (e : ℕ) (lt : e < g.edges) (is_last : last e) (plain : IsPlain g l e) where
   leads : (p : Option ℕ) (xs : List ℕ) → IsPlainPath g l p xs → end_of g p xs ≡ Some (g.source e) → is_some p ≡ true
   leads p [] path ends = ap is_some ends

@@ -1,8 +1,8 @@
 -- The hops of some nodes, node by node, and the least costs by them.
-use Rattle.std.proofs.Common.{◌≡◌, ℕ, zero, suc, ◌+◌, ◌<◌, ◌≤◌, ◌⊎◌, inl, inr, Bool, true, false, List, [], ◌∷◌, ◌++◌, length, length-append, get_or, slice_get, option_map, Option, Some, None, is_some, IsSome, IfSome, refl, sym, ap, ◌∙◌, subst, arith, ⊎_elim}
+use Rattle.std.proofs.Common.{◌≡◌, ℕ, zero, suc, ◌+◌, ◌<◌, ◌≤◌, ◌⊎◌, inl, inr, Bool, true, false, List, [], ◌∷◌, ◌++◌, length, length-append, slice_get, option_map, Option, Some, None, is_some, IsSome, IfSome, refl, sym, ap, ◌∙◌, subst, arith, ⊎_elim}
 use Rattle.std.proofs.lemmas.Bool.{cases_lt}
 use Rattle.std.proofs.lemmas.List.{length-map}
-use Rattle.std.proofs.lemmas.Option.{slice_get_within, slice_get-get_or, get_or_from_slice_get, slice_get-map, same_Some}
+use Rattle.std.proofs.lemmas.Option.{slice_get_within, slice_get-get_or, slice_get-map, same_Some}
 use Rattle.graph_algorithms.specs.Arcs.{number_in_place}
 use Rattle.cost_theory.specs.Graph.{Graph, total}
 use Rattle.cost_theory.specs.Least.{IsLeastIfAny, EndsWith}
@@ -20,9 +20,6 @@ use Rattle.least_cycles.specs.declared.function.Runs.{Runs}
 use Rattle.least_cycles.specs.Passes.{AreRuns, run_cost, IsWayIn, IsHopIn, AreHopsIn, AreLeastOf}
 use Rattle.least_cycles.specs.Tables.{AreLeading}
 use Rattle.least_cycles.proofs.Transfer.{local-least}
-
-value_at : {X : Type 0} (xs : List X) (i : ℕ) (x d : X) → i < length xs → x ≡ get_or xs i x → get_or xs i d ≡ x
-value_at xs i x d lt is = get_or_from_slice_get xs i x d (slice_get-get_or xs i x lt ∙ ap Some (sym is))
 
 node_here : (v : FlowGraph) (k : ℕ) → k < length v.code.nodes → slice_get v.code.nodes k ≡ Some (node_address v k)
 node_here v k lt = slice_get-get_or v.code.nodes k 0 lt

@@ -306,7 +306,7 @@ module _ (v : FlowGraph) (t : LoopView) (w : ℕ → ℕ) (n : Charged) (is : Is
 
   -- ---- the order of headers
 
-  -- from the header on, a acyclic path into a body
+  -- from the header on, a plain path into a body
   from_header : (k : ℕ) → k < length t.headers → (es : List ℕ) (p : Option ℕ) (u : ℕ) → IsAtHeader l k p → IsPlainPath g l p es → end_of g p es ≡ Some u → l.inside k u ≡ true →
       (xs : List ℕ) × IsPlainPath g l (Some (l.header k)) xs × (end_of g (Some (l.header k)) xs ≡ Some u)
   from_header k kl [] p u at path ends in_u =

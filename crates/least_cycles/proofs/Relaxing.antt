@@ -1,6 +1,5 @@
 -- One hop relaxed: the table stays one of walks, and falls; a table that no hop improves is the least.
 use Rattle.std.proofs.Common.{◌≡◌, ◌≢◌, ℕ, zero, suc, ◌+◌, ◌*◌, ◌<◌, ◌≤◌, Bool, true, false, cond, ◌⊎◌, inl, inr, nat_lt, List, [], ◌∷◌, length, slice_get, slice_set, slice_index_or, Option, Some, None, is_some, IfSome, refl, sym, ap, ◌∙◌, subst, arith, ⊎_elim, get_or-set_other, get_or-set_same, length-set, mul-le-mul_right, replicate, fold}
-use Rattle.std.proofs.lemmas.List.{length-replicate}
 use Rattle.std.specs.List.{sum_by}
 use Rattle.std.proofs.lemmas.List.Sums.{sum_by-set}
 use Rattle.std.proofs.lemmas.Bool.Decides.{nat_tests}
@@ -250,20 +249,3 @@ get-some (x ∷ xs) (suc i) d lt = get-some xs i d (omega arith)
 from : (n a : ℕ) → fold (λ (a : ℕ) (o : Option ℕ). a + absent o) a (replicate n None) ≡ a + n
 from zero a = omega arith
 from (suc n) a = let ih : fold (λ (a : ℕ) (o : Option ℕ). a + absent o) (a + 1) (replicate n None) ≡ a + 1 + n = from n (a + 1) in omega arith
-
--- the table before the first pass
-pub none-kept : (n most : ℕ) (hops : List Hop) → IsHopTable n most hops (replicate n None)
-none-kept n most hops = record {
-  len = length-replicate n None;
-  few = at_most n;
-  reached = λ v x at. absurd (nothing n v x at);
-  low = λ v x at. absurd (nothing n v x at);
-}
-  where
-    at_most : (n : ℕ) → sum_by absent (replicate n None) ≤ n
-    at_most n = let s : fold (λ a o. a + absent o) 0 (replicate n None) ≡ 0 + n = from n 0 in omega arith
-
-    nothing : (n v x : ℕ) → number_in_table (replicate n None) v ≡ Some x → ⊥
-    nothing zero v x at = let bad : ⊥ = cc in bad
-    nothing (suc n) zero x at = let bad : ⊥ = cc in bad
-    nothing (suc n) (suc v) x at = nothing n v x at

@@ -39,17 +39,6 @@ pub called_back : (g : Graph) (n : Least) (e f u : ℕ) (o : Option ℕ) → g.c
 called_back g n e f u o calls to is =
     ap (λ (x : Option ℕ). unwrap_or x 0) is ∙ sym (ap (least_call g n e) to ∙ ap (λ (c : Option ℕ). at_some c (λ h. unwrap_or (n.to_return (g.entry h)) 0)) calls)
 
-pub called_out : (g : Graph) (n : Least) (e f : ℕ) (o : Option ℕ) → g.callee e ≡ Some f → g.target e ≡ None → o ≡ n.to_exit (g.entry f) → unwrap_or o 0 ≡ least_call g n e (g.target e)
-called_out g n e f o calls to is =
-    ap (λ (x : Option ℕ). unwrap_or x 0) is ∙ sym (ap (least_call g n e) to ∙ ap (λ (c : Option ℕ). at_some c (λ h. unwrap_or (n.to_exit (g.entry h)) 0)) calls)
-
-uncalled_at : (g : Graph) (n : Least) (e : ℕ) (p : Option ℕ) → g.callee e ≡ None → least_call g n e p ≡ 0
-uncalled_at g n e None calls = ap (λ (c : Option ℕ). at_some c (λ h. unwrap_or (n.to_exit (g.entry h)) 0)) calls
-uncalled_at g n e (Some u) calls = ap (λ (c : Option ℕ). at_some c (λ h. unwrap_or (n.to_return (g.entry h)) 0)) calls
-
-pub uncalled : (g : Graph) (n : Least) (e : ℕ) → g.callee e ≡ None → 0 ≡ least_call g n e (g.target e)
-uncalled g n e calls = sym (uncalled_at g n e (g.target e) calls)
-
 -- ---- walks in one function
 
 module _ (g : Graph) (program : IsProgram g) (f : ℕ) where

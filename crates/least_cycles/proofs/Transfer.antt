@@ -19,9 +19,6 @@ none_some (Some x) is h = let bad : ⊥ = cc in bad
 some_eq : (a b : ℕ) → Some a ≡ Some b → a ≡ b
 some_eq a b e = let r : a ≡ b = cc in r
 
-hop_eq : (a b : Hop) → Some a ≡ Some b → a ≡ b
-hop_eq a b e = let r : a ≡ b = cc in r
-
 module _ (g : Graph) (last step : ℕ → Bool) (c : ℕ → ℕ) (nodes edges : List ℕ) (hops : List Hop) (local : AreLocal g last step c nodes edges hops) where
   abbrev Run : Option ℕ → List ℕ → Type 0
   Run p es = IsRun g false last step p es

@@ -12,7 +12,7 @@ use Rattle.loop_tree.specs.Noted.{node_address}
 use Rattle.loop_tree.proofs.Laws.{source_number}
 use Rattle.least_cycles.specs.Hops.{number_in_table}
 use Rattle.least_cycles.specs.Functions.{IsNodeFlagged, IsBucket, IsFromFirst, AreLeastIn}
-use Rattle.least_cycles.specs.Tables.{value_beside, least_by, AreFunctionLimits, AreWithinLimits, AreSmallTables, ArePriced, AreReturns, AreWalksOf, AreWritten, AreScratch, IsBefore, IsAnyFunction}
+use Rattle.least_cycles.specs.Tables.{value_beside, least_by, AreFunctionLimits, AreWithinLimits, AreSmallTables, AreReturns, AreWalksOf, AreWritten, IsBefore, IsAnyFunction}
 use Rattle.least_cycles.proofs.TableLaws.{at_number, least_moved, within_limit}
 use Rattle.least_cycles.proofs.PriceLaws.{owner_below}
 
@@ -244,19 +244,6 @@ tables_small v own limit Done returns exits limits are = record {
   small_return = λ f x fl at. let low = are.low_return f x fl at in let most = limits.small f fl in omega arith;
   small_exit = λ f x fl at. let low = are.low_exit f x fl at in let most = limits.small f fl in omega arith;
 }
-
-pub priced_first : (v : FlowGraph) (own : ℕ → ℕ) (returns exits : List (Option ℕ)) (bucket costs : List ℕ) (lasts : List Bool) → AreScratch v costs lasts → ArePriced v own returns exits (IsFromFirst v bucket 0) costs lasts
-priced_first v own returns exits bucket costs lasts are = record {
-  costs_size = are.costs_size;
-  lasts_size = are.lasts_size;
-  cost = λ e el done. let lt : done.0 < 0 = done.1 in let bad : ⊥ = omega arith in absurd bad;
-  last = λ e el done. let lt : done.0 < 0 = done.1 in let bad : ⊥ = omega arith in absurd bad;
-  ends = are.ends;
-  within = are.within;
-}
-
-pub priced_scratch : (v : FlowGraph) (own : ℕ → ℕ) (returns exits : List (Option ℕ)) (Set : ℕ → Type 0) (costs : List ℕ) (lasts : List Bool) → ArePriced v own returns exits Set costs lasts → AreScratch v costs lasts
-priced_scratch v own returns exits Set costs lasts are = record { costs_size = are.costs_size; lasts_size = are.lasts_size; ends = are.ends; within = are.within }
 
 -- ---- at first
 

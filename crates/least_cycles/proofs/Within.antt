@@ -137,7 +137,7 @@ module _ (g : Graph) (l : Loops) (extent : ℕ → ℕ → Bool) (w : ℕ → �
           charge-le e el (λ j jl en. turn_here j jl (ap g.owner (some_same _ _ (sym (entered-header g l w no_numbers (nest g l extent w is.program is.accepted) e j el jl en) ∙ to)) ∙ ((is.program.stays e t el to).1 ∙ own))) in
           omega arith
 
-      -- a acyclic path to a return
+      -- a plain path to a return
       module _ (d : ℕ) (dl : d < g.edges) (returns : g.returns d ≡ true) where
         ends : (g.target d ≡ None) × (g.callee d ≡ None)
         ends = is.program.return_end d dl returns

@@ -87,10 +87,6 @@ pub record ArePriced (v : FlowGraph) (own : ℕ → ℕ) (returns exits : List (
   pub ends : (e : ℕ) → e < length v.code.edges → IsNodeFlagged lasts e → (graph v).target e ≡ None
   pub within : (e : ℕ) → number_in_place costs e ≤ 2 ^ 49
 
--- the edges of a function
-abbrev pub IsEdgeOf : FlowGraph → ℕ → ℕ → Type 0
-IsEdgeOf v f e = (graph v).owner ((graph v).source e) ≡ f
-
 -- flags of the returns
 pub record AreReturns (v : FlowGraph) (n : ℕ) (flags : List Bool) : Type 0 where
   pub size : length flags ≡ n

@@ -1,37 +1,17 @@
 -- Ranges of addresses as ranges of nodes.
-use Rattle.std.proofs.Common.{◌≡◌, ◌≢◌, ℕ, ◌+◌, ◌<◌, ◌≤◌, Bool, true, false, ◌&&◌, ◌||◌, ◌==◌, nat_le, nat_lt, List, [], ◌∷◌, ◌++◌, length, take, get_or, refl, sym, ap, ◌∙◌, arith, Option, Some, ⊎_elim}
+use Rattle.std.proofs.Common.{◌≡◌, ℕ, ◌+◌, ◌<◌, ◌≤◌, Bool, true, false, ◌&&◌, ◌||◌, ◌==◌, nat_le, nat_lt, List, [], ◌∷◌, ◌++◌, take, get_or, refl, sym, ap, ◌∙◌, Some, ⊎_elim}
 use Rattle.std.specs.Prelude.{slice_get}
 use Rattle.std.specs.List.{list_any}
-use Rattle.std.proofs.lemmas.Bool.{cases_eq, cases_lt, lt-ltb, le-ltb, le-leb, lt-leb, eq-eqb, ne_eqb}
+use Rattle.std.proofs.lemmas.Bool.{cases_lt, lt-ltb, le-ltb, le-leb, lt-leb}
 use Rattle.std.proofs.lemmas.List.Folds.{list_any-append, list_any_more}
-use Rattle.std.proofs.lemmas.List.{take_all}
 use Rattle.std.proofs.lemmas.Option.{slice_get_within, get_or_from_slice_get}
 use Rattle.scale_base.specs.declared.ranges.Range.{Range}
 use Rattle.scale_base.specs.Image as image
-use Rattle.code_graph.specs.FlowGraph.{FlowGraph, IsFlowGraph}
+use Rattle.code_graph.specs.FlowGraph.{FlowGraph}
 use Rattle.graph_algorithms.specs.declared.bodies.extent.NodeRange.{NodeRange}
 use Rattle.graph_algorithms.specs.Bodies as bodies
 use Rattle.loop_file.specs.declared.notes.LoopNote.{LoopNote}
-use Rattle.loop_tree.specs.Passes.{IsCountBelow, IsExtent}
-use Rattle.loop_tree.proofs.NodeLaws.{one_number}
-
-some_same : {A : Type 0} (a b : A) (o : Option A) → o ≡ Some a → o ≡ Some b → a ≡ b
-some_same a b o p q = cc
-
--- ---- a search by halves
--- the nodes up to one that is below the address
-pub below_next : (v : FlowGraph) → IsFlowGraph v → (middle m at : ℕ) → slice_get v.code.nodes middle ≡ Some m → m < at → (k a : ℕ) → k < middle + 1 → slice_get v.code.nodes k ≡ Some a → a < at
-below_next v is middle m at h lt k a kl g = ⊎_elim
-    (λ (e : k ≡ middle). let same : a ≡ m = some_same a m (slice_get v.code.nodes middle) (ap (slice_get v.code.nodes) (sym e) ∙ g) h in omega arith)
-    (λ (ne : k ≡ middle → ⊥). let d : k ≢ middle = ne in let less = is.ascending k middle a m (omega arith) g h in omega arith)
-    (cases_eq k middle)
-
--- the nodes from one that isn't
-pub above_next : (v : FlowGraph) → IsFlowGraph v → (middle m at : ℕ) → slice_get v.code.nodes middle ≡ Some m → at ≤ m → (k a : ℕ) → middle ≤ k → slice_get v.code.nodes k ≡ Some a → at ≤ a
-above_next v is middle m at h le k a kl g = ⊎_elim
-    (λ (e : k ≡ middle). let same : a ≡ m = some_same a m (slice_get v.code.nodes middle) (ap (slice_get v.code.nodes) (sym e) ∙ g) h in omega arith)
-    (λ (ne : k ≡ middle → ⊥). let d : k ≢ middle = ne in let less = is.ascending middle k m a (omega arith) h g in omega arith)
-    (cases_eq k middle)
+use Rattle.loop_tree.specs.Passes.{IsCountBelow}
 
 -- ---- ranges
 lt_same : (nodes : List ℕ) (at n k a : ℕ) → IsCountBelow nodes at n → slice_get nodes k ≡ Some a → nat_lt k n ≡ nat_lt a at
@@ -52,43 +32,15 @@ both a b c d p q = ap (λ x. x && b) p ∙ ap (λ x. c && x) q
 range_same : (nodes : List ℕ) (r : Range) (s : NodeRange) (k a : ℕ) → IsCountBelow nodes r.from s.from → IsCountBelow nodes r.to s.to → slice_get nodes k ≡ Some a → bodies.in_node_range k s ≡ image.is_in a r
 range_same nodes r s k a from to g = both (nat_le s.from k) (nat_lt k s.to) (nat_le r.from a) (nat_lt a r.to) (le_same nodes r.from s.from k a from g) (lt_same nodes r.to s.to k a to g)
 
--- the header's range
-header_same : (v : FlowGraph) → IsFlowGraph v → (header h : ℕ) (s : NodeRange) (k a : ℕ) → s.from ≡ header → s.to ≡ header + 1 → slice_get v.code.nodes header ≡ Some h → slice_get v.code.nodes k ≡ Some a → bodies.in_node_range k s ≡ (a == h)
-header_same v is header h s k a sf st at g = ⊎_elim
-    (λ (e : k ≡ header). let same : a ≡ h = some_same a h (slice_get v.code.nodes header) (ap (slice_get v.code.nodes) (sym e) ∙ g) at in
-    both (nat_le s.from k) (nat_lt k s.to) true true (le-leb s.from k (omega arith)) (lt-ltb k s.to (omega arith)) ∙ sym (eq-eqb a h same))
-    (λ (ne : k ≡ header → ⊥).
-    let d : k ≢ header = ne in
-    let apart : a ≡ h → ⊥ = λ same. ne (one_number v is k header a g (at ∙ ap Some (sym same))) in
-    ⊎_elim
-    (λ (lt : k < header). ap (λ x. x && nat_lt k s.to) (lt-leb s.from k (omega arith)) ∙ sym (ne_eqb a h apart))
-    (λ (ge : header ≤ k). both (nat_le s.from k) (nat_lt k s.to) true false (le-leb s.from k (omega arith)) (le-ltb k s.to (omega arith)) ∙ sym (ne_eqb a h apart))
-    (cases_lt k header))
-    (cases_eq k header)
-
 -- ---- an extent, with the first ranges of a note
 abbrev pub AreFirstRanges : FlowGraph → LoopNote → ℕ → List NodeRange → Type 0
 AreFirstRanges v note n extent = (k at : ℕ) → slice_get v.code.nodes k ≡ Some at → bodies.in_node_ranges extent k ≡ ((at == note.header) || list_any (image.is_in at) (take n note.ranges))
-
-or_false : (a : Bool) → (a || false) ≡ a
-or_false true = refl
-or_false false = refl
 
 or_step : (a b c : Bool) → ((a || b) || (c || false)) ≡ (a || (b || c))
 or_step true b c = refl
 or_step false true c = refl
 or_step false false true = refl
 or_step false false false = refl
-
-none_taken : (p : Range → Bool) (rs : List Range) → list_any p (take 0 rs) ≡ false
-none_taken p [] = refl
-none_taken p (r ∷ rs) = refl
-
-pub ranges_start : (v : FlowGraph) → IsFlowGraph v → (note : LoopNote) (header : ℕ) (s : NodeRange) (extent : List NodeRange) → extent ≡ s ∷ [] → s.from ≡ header → s.to ≡ header + 1 →
-    slice_get v.code.nodes header ≡ Some note.header → AreFirstRanges v note 0 extent
-ranges_start v is note header s extent e sf st at k a g =
-    ap (λ xs. bodies.in_node_ranges xs k) e ∙ (or_false (bodies.in_node_range k s) ∙ (header_same v is header note.header s k a sf st at g ∙
-    (sym (or_false (a == note.header)) ∙ ap (λ x. (a == note.header) || x) (sym (none_taken (image.is_in a) note.ranges)))))
 
 pub ranges_next : (v : FlowGraph) (note : LoopNote) (n : ℕ) (r : Range) (s : NodeRange) (extent longer : List NodeRange) → longer ≡ extent ++ s ∷ [] → slice_get note.ranges n ≡ Some r →
     IsCountBelow v.code.nodes r.from s.from → IsCountBelow v.code.nodes r.to s.to → AreFirstRanges v note n extent → AreFirstRanges v note (n + 1) longer
@@ -102,6 +54,3 @@ ranges_next v note n r s extent longer e at from to was k a g =
     (ap (λ x. ((a == note.header) || list_any (image.is_in a) (take n note.ranges)) || (x || false)) (range_same v.code.nodes r s k a from to g) ∙
     (or_step (a == note.header) (list_any (image.is_in a) (take n note.ranges)) (image.is_in a r) ∙
     ap (λ x. (a == note.header) || x) (sym more)))))
-
-pub ranges_end : (v : FlowGraph) (note : LoopNote) (n : ℕ) (extent : List NodeRange) → length note.ranges ≤ n → AreFirstRanges v note n extent → IsExtent v note extent
-ranges_end v note n extent end was k a g = was k a g ∙ ap (λ xs. (a == note.header) || list_any (image.is_in a) xs) (take_all n note.ranges end)

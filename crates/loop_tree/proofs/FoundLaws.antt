@@ -3,7 +3,7 @@ use Rattle.std.proofs.Common.{◌≡◌, ℕ, zero, suc, ◌+◌, ◌<◌, ◌�
 use Rattle.std.specs.Prelude.{slice_get, slice_index, Result, Ok, Err}
 use Rattle.std.proofs.lemmas.Bool.{both_ways, eq-eqb, eqb-true}
 use Rattle.std.proofs.lemmas.List.{length-map}
-use Rattle.std.proofs.lemmas.Option.{slice_get-get_or, slice_get_within, get_or_from_slice_get}
+use Rattle.std.proofs.lemmas.Option.{slice_get-get_or, get_or_from_slice_get}
 use Rattle.std.specs.Result.{IsErrAnd}
 use Rattle.scale_base.specs.Answer.{AnswersBy}
 use Rattle.scale_base.specs.declared.refusal.Stop.{Stop}
@@ -30,12 +30,6 @@ use Rattle.loop_tree.proofs.NodeLaws.{one_number, source_number}
 module _ (v : FlowGraph) (is : IsFlowGraph v) (notes : List LoopNote) (headers : List ℕ) (numbers : AreHeaderNumbers v notes headers) where
   pub reached : AreHeadersReached v notes
   reached k lt = (is.nodes (header_address notes k)).0 (get_or headers k 0, numbers.at k lt)
-
-  pub number_below : (k x : ℕ) → slice_get headers k ≡ Some x → x < length v.code.nodes
-  number_below k x h =
-      let lt = slice_get_within headers k x h in
-      let within = slice_get_within v.code.nodes (get_or headers k 0) (header_address notes k) (numbers.at k (let s = numbers.size in omega arith)) in
-      subst (λ y. y < length v.code.nodes) (get_or_from_slice_get headers k x 0 h) within
 
   -- one header, by address and by number
   to_number : (j k : ℕ) → k < length notes → HaveOneHeader notes j k → HaveOneNumber headers j k

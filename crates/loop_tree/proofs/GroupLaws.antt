@@ -221,9 +221,6 @@ only_same a b e = ap (λ x. only x 1) e
 -- the bodies of a group more
 module _ (v : FlowGraph) (flow : IsFlowGraph v) (notes : List LoopNote) (first n : ℕ) (depths deeper bodies : List ℕ) (was : AreDepths v notes first depths) (size : length bodies ≡ length v.code.nodes)
     (node : (i j a : ℕ) → i < n → slice_get v.code.nodes j ≡ Some a → IsFlagged bodies j i ↔ IsBodyNode v notes (first + i) a) (low : (i j : ℕ) → IsFlagged bodies j i → i < n) where
-  here_at : ℕ → ℕ → Bool
-  here_at i at = flagged_at v.code.nodes bodies i at
-
   abbrev inside_then : ℕ → ℕ → Bool
   inside_then k at = if nat_lt k first then was.inside k at else flagged_at v.code.nodes bodies (k - first) at
 

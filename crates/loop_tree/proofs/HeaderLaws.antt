@@ -1,5 +1,5 @@
 -- The headers of loops.
-use Rattle.std.proofs.Common.{◌≡◌, ◌≢◌, ℕ, zero, suc, ◌+◌, ◌<◌, ◌≤◌, false, List, [], ◌∷◌, ◌++◌, length, get_or, set, replicate, refl, sym, ap, ◌∙◌, subst, arith, Option, Some, None, inl, inr, ⊎_elim, get_or-set_same, get_or-set_other, length-set, length-append}
+use Rattle.std.proofs.Common.{◌≡◌, ◌≢◌, ℕ, ◌+◌, ◌<◌, ◌≤◌, false, List, [], ◌∷◌, ◌++◌, length, get_or, set, sym, ap, ◌∙◌, subst, arith, Option, Some, None, inl, inr, ⊎_elim, get_or-set_same, get_or-set_other, length-set, length-append}
 use Rattle.std.specs.Prelude.{slice_get}
 use Rattle.std.proofs.lemmas.Bool.{cases_eq, cases_lt}
 use Rattle.std.proofs.lemmas.List.{get_or_append_left, get_or_at}
@@ -14,7 +14,6 @@ use Rattle.scale_base.specs.declared.refusal.Refusal.{Refusal}
 use Rattle.scale_base.specs.declared.refusal.Refusal.TheVariants.{HeaderNotReached}
 use Rattle.loop_tree.specs.Noted.{header_address, IsHeaderReached}
 use Rattle.loop_tree.specs.Refused.{IsHeaderRefused}
-use Rattle.loop_tree.specs.Passes.{AreHeaderNumbers, HaveOneNumber}
 
 -- the note of a number
 pub note_is : (notes : List LoopNote) (k : ℕ) (note : LoopNote) → slice_get notes k ≡ Some note → note_at notes k ≡ note
@@ -24,9 +23,6 @@ note_is notes k note h = get_or_from_slice_get notes k note (record { header = 0
 pub record AreFirstHeaders (v : FlowGraph) (notes : List LoopNote) (n : ℕ) (headers : List ℕ) : Type 0 where
   pub size : length headers ≡ n
   pub at : (k : ℕ) → k < n → slice_get v.code.nodes (get_or headers k 0) ≡ Some (header_address notes k)
-
-pub headers_start : (v : FlowGraph) (notes : List LoopNote) → AreFirstHeaders v notes 0 []
-headers_start v notes = record { size = refl; at = λ k lt. let bad : ⊥ = omega arith in absurd bad }
 
 pub headers_next : (v : FlowGraph) (notes : List LoopNote) (n header : ℕ) (note : LoopNote) (headers longer : List ℕ) → longer ≡ headers ++ header ∷ [] → slice_get notes n ≡ Some note →
     slice_get v.code.nodes header ≡ Some note.header → AreFirstHeaders v notes n headers → AreFirstHeaders v notes (n + 1) longer
@@ -42,9 +38,6 @@ headers_next v notes n header note headers longer e at_note at was = record {
       ap (slice_get v.code.nodes) (ap (λ xs. get_or xs k 0) e ∙ get_or_append_left headers (header ∷ []) 0 k (let s = was.size in omega arith)) ∙ was.at k below)
       (cases_eq k n);
 }
-
-pub headers_end : (v : FlowGraph) (notes : List LoopNote) (n : ℕ) (headers : List ℕ) → length notes ≤ 4096 → n ≡ length notes → AreFirstHeaders v notes n headers → AreHeaderNumbers v notes headers
-headers_end v notes n headers few e was = record { few = few; size = was.size ∙ e; at = λ k lt. was.at k (omega arith) }
 
 -- the headers up to one are reached
 pub reached_below : (v : FlowGraph) (notes : List LoopNote) (n : ℕ) (headers : List ℕ) → IsFlowGraph v → AreFirstHeaders v notes n headers → (k : ℕ) → k < n → IsHeaderReached v notes k
@@ -75,22 +68,6 @@ pub record ArePairs (headers : List ℕ) (count n : ℕ) (firsts : List (Option 
   pub size : length firsts ≡ count
   pub firsts_are : (x : ℕ) → x < count → IsFirstOf headers n x (option_at firsts x)
   pub pairs : IsLeastPair (IsPairBelow headers n) least
-
-none_at : (n x : ℕ) → option_at (replicate n None) x ≡ None
-none_at zero x = refl
-none_at (suc n) zero = refl
-none_at (suc n) (suc x) = none_at n x
-
-none_size : (n : ℕ) (x : Option ℕ) → length (replicate n x) ≡ n
-none_size zero x = refl
-none_size (suc n) x = ap suc (none_size n x)
-
-pub pairs_start : (headers : List ℕ) (count : ℕ) (firsts : List (Option ℕ)) → firsts ≡ replicate count None → ArePairs headers count 0 firsts None
-pairs_start headers count firsts e = record {
-  size = ap length e ∙ none_size count None;
-  firsts_are = λ x lt. subst (IsFirstOf headers 0 x) (sym (ap (λ xs. option_at xs x) e ∙ none_at count x)) (λ k bad. absurd (let b : ⊥ = omega arith in b));
-  pairs = λ j k bad. absurd (let lt = bad.1 in let b : ⊥ = omega arith in b);
-}
 
 module _ (headers : List ℕ) (count n header : ℕ) (firsts : List (Option ℕ)) (least : Option (ℕ × ℕ)) (was : ArePairs headers count n firsts least) (here : get_or headers n 0 ≡ header) (low : header < count) where
   -- the numbers of other headers
@@ -155,8 +132,3 @@ module _ (headers : List ℕ) (count n header : ℕ) (firsts : List (Option ℕ)
     where
       none : (k : ℕ) → k < n → get_or headers k 0 ≡ header → ⊥
       none = subst (IsFirstOf headers n header) unseen (was.firsts_are header low)
-
-pub pairs_end : (headers : List ℕ) (count n : ℕ) (firsts : List (Option ℕ)) (least : Option (ℕ × ℕ)) → n ≡ length headers → ArePairs headers count n firsts least → IsLeastPair (HaveOneNumber headers) least
-pairs_end headers count n firsts least e was = least_same (IsPairBelow headers n) (HaveOneNumber headers) least
-    (λ j k p. (p.0, (let a = p.1 in let r : k < length headers = omega arith in r), p.2))
-    (λ j k p. (p.0, (let a = p.1 in let r : k < n = omega arith in r), p.2)) was.pairs

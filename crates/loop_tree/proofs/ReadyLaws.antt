@@ -12,7 +12,7 @@ use Rattle.graph_algorithms.specs.Bodies.{IsIn, IsLeastPair}
 use Rattle.loop_file.specs.declared.notes.LoopNote.{LoopNote}
 use Rattle.loop_file.specs.Kept.{note_at}
 use Rattle.loop_tree.specs.Noted.{header_address, HasBackEdge, IsNotedSideEntry}
-use Rattle.loop_tree.specs.Refused.{AreHeaders, IsBackEdgeRefused, IsEntryRefused}
+use Rattle.loop_tree.specs.Refused.{AreHeaders, IsBackEdgeRefused}
 use Rattle.loop_tree.specs.Found.{IsAscending}
 use Rattle.loop_tree.specs.Passes.{IsReady, GoesBack, IsNumberedBody, IsSidePair, AreBodies, AreDepths, AreEntriesFound, AreEnteredBelow, IsEnteredBy, IsDeepest, depth_at}
 use Rattle.loop_tree.proofs.HeaderLaws.{note_is}
@@ -79,22 +79,6 @@ none_next v notes n here was k a b lt h = ⊎_elim
     (λ (ne : k ≡ n → ⊥). let d : k ≢ n = ne in was k a b (omega arith) h)
     (cases_eq k n)
 
--- the first loop that is entered aside
-pub entry_refused : (v : FlowGraph) (search : EdgeView) (notes : List LoopNote) (headers : List ℕ) → IsReady v search notes headers → (n : ℕ) (refusal : Refusal) → n < length notes → ((k : ℕ) → k < length notes → HasBackEdge v notes k) →
-    ((k a b : ℕ) → k < n → IsNotedSideEntry v notes k a b → ⊥) → IsEnteredBy v notes n refusal → IsEntryRefused v notes refusal
-entry_refused v search notes headers is n refusal lt back_edges was by = record {
-  headers = is.apart;
-  back_edges = back_edges;
-  k = n;
-  from = by.from;
-  to = by.to;
-  within = lt;
-  entered = by.entered;
-  least = by.least;
-  first = was;
-  refusal_is = by.refusal_is;
-}
-
 -- ---- the bodies that are kept
 body_old : (xs : List (List ℕ)) (x : List ℕ) (k : ℕ) → k < length xs → body_of (xs ++ x ∷ []) k ≡ body_of xs k
 body_old [] x k lt = let bad : ⊥ = omega arith in absurd bad
@@ -107,9 +91,6 @@ body_last (y ∷ ys) x = body_last ys x
 
 abbrev pub IsKeptBody : FlowGraph → LoopNote → List ℕ → Type 0
 IsKeptBody v note body = IsNumberedBody v note body × IsAscending (length v.code.nodes) body
-
-pub bodies_start : (v : FlowGraph) (notes : List LoopNote) → AreBodies v notes 0 []
-bodies_start v notes = record { size = refl; body = λ k lt. let bad : ⊥ = omega arith in absurd bad }
 
 pub bodies_next : (v : FlowGraph) (notes : List LoopNote) (n : ℕ) (note : LoopNote) (body : List ℕ) (bodies longer : List (List ℕ)) → slice_get notes n ≡ Some note → longer ≡ bodies ++ body ∷ [] → IsKeptBody v note body → AreBodies v notes n bodies → AreBodies v notes (n + 1) longer
 bodies_next v notes n note body bodies longer at e is was = record {

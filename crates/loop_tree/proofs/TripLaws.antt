@@ -1,5 +1,5 @@
 -- How often loops turn at least, by the numbers of nodes.
-use Rattle.std.proofs.Common.{◌≡◌, ◌↔◌, ℕ, zero, suc, ◌+◌, ◌<◌, ◌≤◌, Bool, true, false, ◌&&◌, ◌||◌, nat_le, nat_lt, List, [], ◌∷◌, ◌++◌, length, get_or, slice_get, Option, Some, None, ◌⊎◌, inl, inr, ⊎_elim, refl, sym, ap, ◌∙◌, subst, arith}
+use Rattle.std.proofs.Common.{◌≡◌, ◌↔◌, ℕ, zero, suc, ◌+◌, ◌<◌, ◌≤◌, Bool, true, false, ◌&&◌, ◌||◌, nat_le, nat_lt, List, [], ◌∷◌, ◌++◌, length, get_or, slice_get, Option, Some, None, ◌⊎◌, inl, inr, ⊎_elim, sym, ap, ◌∙◌, subst, arith}
 use Rattle.std.specs.List.{list_any}
 use Rattle.std.proofs.lemmas.List.{get_or_push, length-append}
 use Rattle.std.proofs.Math.ListN.{get_or-append}
@@ -17,13 +17,6 @@ trips_le v note body trips are = ⊎_elim
   where
     some_or_none : (n : ℕ) → (n ≡ 0) ⊎ (0 < n)
     some_or_none n = grind arith
-
-pub no_trips : (v : FlowGraph) (note : LoopNote) (body : List ℕ) → note.at_least ≡ 0 → AreTripsOf v note body 0
-no_trips v note body none = record {
-  whole = λ w. sym none;
-  more = λ no. refl;
-  turns = λ some. (let bad : ⊥ = omega arith in absurd bad);
-}
 
 -- one loop more
 pub trips_more : (v : FlowGraph) (notes : List LoopNote) (bodies : List (List ℕ)) (n x : ℕ) (trips more : List ℕ) → AreTrips v notes bodies n trips → more ≡ trips ++ x ∷ [] → AreTripsOf v (note_at notes n) (body_of bodies n) x → AreTrips v notes bodies (n + 1) more

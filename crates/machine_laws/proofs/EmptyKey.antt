@@ -157,8 +157,5 @@ module _ (k l : Layout) (levels : ℕ) (input w : List ℕ) (same : Alike k l) w
       ap (one_more (setting l levels input)) (run_alike s n)
       ∙ more_same (run (setting k levels input) s n) (run (setting k levels input) s n).standing
 
-pub step_same : (l : Layout) (base levels : ℕ) (input : List ℕ) (s : State) (w : List ℕ) → l.keyed ≡ None → step (setting (with_empty_key l base) levels input) (with_window s w) ≡ seen w (step (setting l levels input) s)
-step_same l base levels input s w none = step_alike l (with_empty_key l base) levels input w (alike l base none) s
-
 pub run_same : (l : Layout) (base levels : ℕ) (input : List ℕ) (s : State) (w : List ℕ) (n : ℕ) → l.keyed ≡ None → run (setting (with_empty_key l base) levels input) (with_window s w) n ≡ run_with_window (run (setting l levels input) s n) w
 run_same l base levels input s w n none = run_alike l (with_empty_key l base) levels input w (alike l base none) s n

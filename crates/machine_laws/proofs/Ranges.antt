@@ -1,6 +1,6 @@
 -- The ranges of the text are those of its parts, in another order.
-use Rattle.std.proofs.Common.{◌≡◌, ℕ, zero, suc, ◌%◌, ◌<◌, ◌≤◌, Bool, true, false, cond, ◌||◌, List, [], ◌∷◌, map, fold, Ok, refl, sym, ap, subst, ◌∙◌, arith}
-use Rattle.std.specs.Prelude.{nat_lt, slice_get, IfSome}
+use Rattle.std.proofs.Common.{◌≡◌, ℕ, ◌%◌, ◌<◌, ◌≤◌, Bool, true, false, cond, ◌||◌, List, [], ◌∷◌, map, fold, Ok, refl, sym, ap, subst, ◌∙◌, arith}
+use Rattle.std.specs.Prelude.{nat_lt}
 use Rattle.std.specs.List.{list_any, list_all, All}
 use Rattle.std.proofs.lemmas.Bool.{and_parts, cond_both, ltb-true}
 use Rattle.std.proofs.lemmas.List.Elements.{All-nil, All-cons, All-head, All-tail}
@@ -108,12 +108,3 @@ pub text_ranges_kept : (file : List ℕ) (image : Image) → image_of file ≡ O
 text_ranges_kept file image e =
     let P : Image → Type 0 = λ i. All IsTextRange i.text in
     subst P (contents-are file image e) (ranges_kept file image e)
-
-list_some : {A : Type 0} (P : A → Type 0) (xs : List A) (i : ℕ) → All P xs → IfSome (slice_get xs i) P
-list_some P [] i h = tt
-list_some P (x ∷ xs) zero h = All-head P x xs h
-list_some P (x ∷ xs) (suc i) h = list_some P xs i (All-tail P x xs h)
-
--- the range at a place of the text, if there is one
-pub text_range_at : (file : List ℕ) (image : Image) (i : ℕ) → image_of file ≡ Ok image → IfSome (slice_get image.text i) IsTextRange
-text_range_at file image i e = list_some IsTextRange image.text i (text_ranges_kept file image e)

@@ -39,7 +39,7 @@ use Rattle.paced_images.specs.Markings.{test_of}
 use Rattle.paced_images.specs.Paced.{IsPacedProgram, paced_test}
 use Rattle.paced_images.specs.Wanted.{wanted_by, marked_where}
 use Rattle.scaler.specs.Scalings.{IsBlockGiven}
-use Rattle.paced_images.specs.Scalings.{IsMarkedAt, IsMarkingFound, IsUnfitScaling, IsExtraFound, IsInRange, AreStubsOf, IsMarkedProgram, IsScaled, IsScalingFound, IsMarkedFound, HasMarks, AreStubsFound}
+use Rattle.paced_images.specs.Scalings.{IsMarkedAt, IsMarkingFound, IsUnfitScaling, IsExtraFound, AreStubsOf, IsMarkedProgram, IsScaled, IsScalingFound, IsMarkedFound, HasMarks, AreStubsFound}
 use Rattle.scaler.proofs.Laws.{found_below}
 
 -- ---- stops
@@ -85,14 +85,8 @@ module _ (power : PowerModel) (image : Image) (notes : List LoopNote) (sites : L
     weighed : IsWeighedWith power image notes v t (marked_where v t wanted) stored
     weighed = record { code_is = is; tree_is = tree; counters = counts; stored_are = at.stored_are }
 
-    pub in_range : IsInRange power v t m.sites
-    in_range = (image, notes, wanted, stored, weighed, at.marks, at.short)
-
     pub marked_program : IsMarkedProgram power image v t m
     marked_program = (notes, wanted, stored, least, weighed, at.marking)
-
-    pub sites_size : length m.sites.marks ≡ length v.code.edges
-    sites_size = at.marks.size
 
     pub start_low : start < length power.levels
     start_low = let lt = found_below (is_in_time power (stored.worst 0)) 0 (length power.levels) start at.slow in omega (arith, lt)

@@ -50,10 +50,6 @@ counted_more : (g : Graph) (l : Loops) (counts : ℕ → ℕ) (ms : List steps.T
 counted_more g l counts [] m = refl
 counted_more g l counts (k ∷ ks) m = counted_more g l (counted_move g l counts k) ks m
 
--- the last of several moves is the last of those behind the first
-exits_later : (m : steps.Transition) (k : steps.Transition) (ms : List steps.Transition) → steps.EndsByExit (m ∷ k ∷ ms) → steps.EndsByExit (k ∷ ms)
-exits_later m k ms e = e
-
 module _ (power : PowerModel) (budget : ℕ → ℕ) (t : Text) (code : Code) (l : Loops) (extent : ℕ → ℕ → Bool) (sites : List Site) (is_of : ℕ → ℕ → Bool) (n : Numbers) (least : Charged)
     (ranked : AreRanked power.levels) (loops : (v k : ℕ) → is_of v k ≡ true → k < l.loops) (able : (v k : ℕ) → is_of v k ≡ true → AreCountable (text_graph t code) l (λ j. j == k)) (marked : AreCounted t code l sites is_of)
     (is : IsAnalyzed (text_graph t code) l extent (weights_of power t code sites) n) (are : IsCharged (text_graph t code) l extent (weights_of power t code sites) least)
@@ -76,9 +72,6 @@ module _ (power : PowerModel) (budget : ℕ → ℕ) (t : Text) (code : Code) (l
   -- within the budget of the level with what is left
   abbrev pub IsSafe : model.RunPrice → steps.GraphState → Type 0
   IsSafe p s = p.time + steps.cycles_left g l w n s * period power p.level ≤ budget p.level
-
-  abbrev Fragments : Stepped → Type 0
-  Fragments x = Unit {0}
 
   -- ---- what the marks of an edge choose
 

@@ -139,9 +139,6 @@ module _ {rule : Rule} (power : PowerModel) (image : Image) (notes : List LoopNo
   pub counted_at : (k : ℕ) → is_counted tree k ≡ true → slice_get counted (set_before tree.counted k) ≡ Some k
   counted_at k ck = let e : 0 + k ≡ k = omega arith in set_at tree.counted 0 k (flag_set tree.counted k ck) ∙ ap Some e
 
-  pub counted_place : (k : ℕ) → is_counted tree k ≡ true → set_before tree.counted k < length counted
-  counted_place k ck = slice_get_within counted (set_before tree.counted k) k (counted_at k ck)
-
   pub record IsCounted (j k : ℕ) : Type 0 where
     pub flag : is_counted tree k ≡ true
     pub place : set_before tree.counted k ≡ j
@@ -243,9 +240,6 @@ module _ {rule : Rule} (power : PowerModel) (image : Image) (notes : List LoopNo
                 let is = counted_is (w - first_counter) got.0 got.1 in
                 let place = is.place in
                 absurd (none got.0 is.loop is.flag (omega (arith, place, high)))
-
-  pub limits : ℕ → ℕ
-  limits w = l.bound (loop_of counted w)
 
   pub limited : marked_specs.AreLimits l (is_counted tree) (counter_of tree) (λ w. l.bound (loop_of counted w))
   limited = λ k kl ck. let e = loop_is (set_before tree.counted k) k (counted_at k ck) in let same : l.bound k ≡ l.bound (loop_of counted (counter_of tree k)) = ap l.bound (sym e) in omega (arith, same)

@@ -19,9 +19,6 @@ use Rattle.paid_runs.specs.Shadows.{is_within_loop}
 
 -- ---- calls
 
-abbrev pub before_call : ℕ → ℕ
-before_call a = a - 4
-
 pub calls_back : (t : Text) (env : Setting) → IsTextOf t env → HasNoBadWord (kind_at t) t.entry → (f : ℕ) (calls : List ℕ) → IsStack (kind_at t) t.entry f calls → map (λ a. a - 4) (map after_call calls) ≡ calls
 calls_back t env ok fine f [] st = refl
 calls_back t env ok fine f (u ∷ us) st =

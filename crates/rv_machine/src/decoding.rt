@@ -109,6 +109,8 @@ fn code_group<M: Memory>(
 }
 
 /// The instructions of the words in these places, as far as no step can change them. What stands elsewhere isn't known.
+/// The clause says what is so of each known instruction, and not which words are known: any other word is decoded at its step,
+/// to the same end, so that costs time alone.
 pub fn decode_code<M: Memory>(
     alloc: Global,
     memory: &M,

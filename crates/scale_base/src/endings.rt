@@ -17,8 +17,8 @@ pub enum End {
 #[derive(Clone, Copy, Debug, PartialEq, Eq)]
 pub enum Kept {
     Kept,
-    /// A loop took more back edges than its bound since it was last entered: the loop by its number, from 1, and how many it
-    /// has taken.
+    /// A loop took more back edges than its bound since it was last entered, or it was left before it had taken as many as its
+    /// least number: the loop by its number, from 1, and how many it has taken.
     BrokeBound { loop_no: u32, count: u32 },
     /// A return didn't go back to the last return address: where the return stands, and where it went.
     BrokeReturn { at: u32, to: u32 },

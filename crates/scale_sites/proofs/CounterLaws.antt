@@ -131,18 +131,3 @@ pub is_known : (v : FlowGraph) (t : LoopView) (extent : ℕ → ℕ → Bool) (l
 is_known v t extent l e edge tree at on here counted =
     let back = (tree.backs e l).0 here in
     record { edge = back.0; within = back.1; back = back.2; counted = counted; on = ap edge_goes_on at ∙ on }
-
-pub not_known : (v : FlowGraph) (t : LoopView) (k e : ℕ) (edge : Edge) → slice_get v.code.edges e ≡ Some edge → goes_on edge.kind ≡ false → IsUncountable v t k e → ⊥
-not_known v t k e edge at on is = let a : edge_goes_on (slice_get v.code.edges e) ≡ false = ap edge_goes_on at ∙ on in let b = is.on in let bad : ⊥ = cc in bad
-
-pub not_counted : (v : FlowGraph) (t : LoopView) (extent : ℕ → ℕ → Bool) (k l e : ℕ) → IsLoopTree v extent t → slice_get t.backs e ≡ Some (Some l) → slice_get t.counted l ≡ Some false → IsUncountable v t k e → ⊥
-not_counted v t extent k l e tree here counted is =
-    let one : l ≡ k = same_Some l k (known_loop v t extent k l e tree here is) in
-    let flag : Some false ≡ Some true = sym counted ∙ ap (slice_get t.counted) one ∙ is.counted in
-    let bad : ⊥ = cc in bad
-
-pub no_loop : (v : FlowGraph) (t : LoopView) (extent : ℕ → ℕ → Bool) (k e : ℕ) → IsLoopTree v extent t → slice_get t.backs e ≡ Some None → IsUncountable v t k e → ⊥
-no_loop v t extent k e tree here is =
-    let at : slice_get t.backs e ≡ Some (Some k) = (tree.backs e k).1 (is.edge, is.within, is.back) in
-    let q : Some (Some k) ≡ Some None = sym at ∙ here in
-    let bad : ⊥ = cc in bad

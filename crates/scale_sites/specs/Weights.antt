@@ -66,9 +66,6 @@ jumps_of g branch marks e = cond (is_patched g marks (g.source e)) (cond (branch
 abbrev pub extra_weight : Graph → Costs → (ℕ → Bool) → (ℕ → List Mark) → ℕ → ℕ
 extra_weight g costs branch marks e = extra_of costs (jumps_of g branch marks e) (marks e)
 
-abbrev pub stored_weight : Graph → Costs → (ℕ → Bool) → (ℕ → List Mark) → (ℕ → ℕ) → ℕ → ℕ
-stored_weight g costs branch marks w e = w e + extra_weight g costs branch marks e
-
 -- The law: the extra cycles of a branch's edge with a switch are a jump, those up to the port store, and the tail.
 abbrev pub ExtraSplits : Type 0
 ExtraSplits = (costs : Costs) (ms : List Mark) → switches ms ≡ true → extra_of costs 2 ms ≡ costs.jump + first_store costs ms + tail_of costs ms

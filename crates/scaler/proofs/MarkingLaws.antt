@@ -1,13 +1,13 @@
 -- What a marking says of the marks of an edge, and of the loops of their counters.
-use Rattle.std.proofs.Common.{◌≡◌, ℕ, zero, suc, ◌+◌, ◌-◌, ◌*◌, ◌^◌, ◌<◌, ◌≤◌, Bool, true, not, ◌&&◌, List, [], ◌∷◌, ◌++◌, map, length, slice_get, Option, Some, None, refl, sym, ap, ◌∙◌, subst, arith, append_assoc}
-use Rattle.std.specs.Prelude.{All, slice_index, IfSome}
+use Rattle.std.proofs.Common.{◌≡◌, ℕ, zero, suc, ◌+◌, ◌-◌, ◌*◌, ◌^◌, ◌<◌, ◌≤◌, Bool, true, not, ◌&&◌, List, [], ◌∷◌, ◌++◌, map, length, slice_get, Some, refl, sym, ap, ◌∙◌, subst, arith, append_assoc}
+use Rattle.std.specs.Prelude.{All, slice_index}
 use Rattle.std.proofs.lemmas.List.Elements.{All-append}
 use Rattle.std.proofs.lemmas.Option.{slice_get_within, get_or_from_slice_get}
 use Rattle.scale_base.specs.declared.fragments.Fragment.TheVariants as fragments
 use Rattle.scale_base.specs.Image.{Image}
 use Rattle.power_model.specs.Numbers.{PowerModel}
 use Rattle.cost_theory.specs.Graph.{leaves, goes_back}
-use Rattle.cycle_laws.specs.Charged.{Charged, to_end_after}
+use Rattle.cycle_laws.specs.Charged.{Charged}
 use Rattle.cost_theory.specs.Worst.{Numbers}
 use Rattle.code_graph.specs.FlowGraph.{FlowGraph, graph}
 use Rattle.level_tables.specs.Tables as tables
@@ -141,17 +141,6 @@ module _ (power : PowerModel) (image : Image) (v : FlowGraph) (t : LoopView) (pl
       let four = r ∙ (ap (λ x. tables.rows_of power x iteration told) one ∙ (ap (λ x. tables.rows_of power ((loops v t).bound (loop_of (counted_loops t) counter)) x told) two
       ∙ ap (tables.rows_of power ((loops v t).bound (loop_of (counted_loops t) counter)) (stored.iteration (loop_of (counted_loops t) counter))) tl)) in
       ap (λ x. fragments.Exit counter x rows) three ∙ ap (fragments.Exit counter (tables.shift_of ((loops v t).bound (loop_of (counted_loops t) counter)))) four
-
-  -- the least cycles behind an edge
-  pub after_is : (e : ℕ) (o : Option ℕ) → e < length v.code.edges → slice_get m.least.after e ≡ Some o → o ≡ to_end_after (graph v) (loops v t) least e
-  after_is e o lt here = let q = is.after e lt in cc
-
-  pub after_small : (e : ℕ) (o : Option ℕ) → e < length v.code.edges → slice_get m.least.after e ≡ Some o → IfSome o (λ z. z < 2 ^ 89)
-  after_small e o lt here = by o (after_is e o lt here)
-    where
-      by : (o : Option ℕ) → o ≡ to_end_after (graph v) (loops v t) least e → IfSome o (λ z. z < 2 ^ 89)
-      by None same = tt
-      by (Some z) same = is.after_small e z lt (sym same)
 
 -- ---- lists, one element more
 

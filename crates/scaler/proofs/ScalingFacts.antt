@@ -37,7 +37,7 @@ use Rattle.scaler.specs.declared.rewriting.Marked.{Marked}
 use Rattle.scaler.specs.declared.rewriting.Scaling.{Scaling}
 use Rattle.scaler.specs.declared.stubs.Marking.{Marking}
 use Rattle.scaler.specs.Rewritten.{IsRewrittenProgram, rewritten_summary, unless_out_of_reach}
-use Rattle.scaler.specs.Scalings.{IsMarkedAt, IsMarkingFound, IsUnfitScaling, IsExtraFound, IsInRange, AreStubsOf, IsBlockGiven, IsMarkedProgram, IsScaled, IsScalingFound, IsMarkedFound, HasMarks, AreStubsFound}
+use Rattle.scaler.specs.Scalings.{IsMarkedAt, IsMarkingFound, IsUnfitScaling, IsExtraFound, AreStubsOf, IsBlockGiven, IsMarkedProgram, IsScaled, IsScalingFound, IsMarkedFound, HasMarks, AreStubsFound}
 use Rattle.scaler.proofs.Safe.{found_below}
 
 -- ---- stops
@@ -86,14 +86,8 @@ module _ (power : PowerModel) (image : Image) (notes : List LoopNote) (v : FlowG
     weighed : IsWeighed power image notes v t plain stored
     weighed = record { code_is = is; tree_is = tree; counters = counts; plain_are = at.plain_are; stored_are = at.stored_are }
 
-    pub in_range : IsInRange power v t m.sites
-    in_range = (image, notes, plain, stored, weighed, at.marks, at.short)
-
     pub marked_program : IsMarkedProgram power image v t m
     marked_program = (notes, plain, stored, least, weighed, at.marking)
-
-    pub sites_size : length m.sites.marks ≡ length v.code.edges
-    sites_size = at.marks.size
 
     pub start_low : start < length power.levels
     start_low = let lt = found_below (is_in_time power (stored.worst 0)) 0 (length power.levels) start at.slow in omega (arith, lt)

@@ -21,9 +21,6 @@ use Rattle.stored_laws.proofs.Table.{keyed_header}
 
 -- ---- lists of which each two pass a test
 
-and_rest : (a b c d : Bool) → a ≡ true → b ≡ true → c ≡ true → d ≡ true → ((a && b) && (c && d)) ≡ true
-and_rest a b c d e f g h = rw (e, f, g, h) refl
-
 pub pairs-join : {A : Type 0} (test : A → A → Bool) (xs ys : List A) → each_pair test xs ≡ true → each_pair test ys ≡ true → list_all (λ x. list_all (test x) ys) xs ≡ true → each_pair test (xs ++ ys) ≡ true
 pairs-join test [] ys a b c = b
 pairs-join test (x ∷ xs) ys a b c =

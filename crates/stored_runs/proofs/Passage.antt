@@ -1,21 +1,20 @@
 -- From a patched instruction through its stub; the closing jump that traps; the rows that an Exit reads.
-use Rattle.std.proofs.Common.{◌≡◌, ℕ, suc, zero, ◌+◌, ◌*◌, ◌%◌, ◌^◌, ◌<◌, ◌≤◌, true, false, List, [], ◌∷◌, length, get_or, arith, ◌∙◌, ap, subst}
-use Rattle.std.specs.Prelude.{◌==◌, ◌&&◌}
-use Rattle.std.proofs.lemmas.Bool.{cond-false, or_right, and_from}
+use Rattle.std.proofs.Common.{◌≡◌, ℕ, suc, zero, ◌+◌, ◌*◌, ◌%◌, ◌^◌, ◌<◌, true, false, List, [], ◌∷◌, length, get_or, arith, ◌∙◌, ap, subst}
+use Rattle.std.specs.Prelude.{◌&&◌}
+use Rattle.std.proofs.lemmas.Bool.{or_right, and_from}
 use Rattle.scale_base.specs.declared.instruction.BranchOp.{BranchOp}
 use Rattle.scale_base.specs.declared.stepping.Class.TheVariants as classes
 use Rattle.scale_base.specs.declared.stepping.TrapKind.TheVariants as traps
 use Rattle.scale_base.specs.Arith.{is_taken}
 use Rattle.scale_base.specs.Layout.{is_keyed, may_read, reads_byte}
 use Rattle.scale_base.specs.State.{Setting, State, reg, word_at}
-use Rattle.scale_base.specs.Step.{step, jumps, stops}
 use Rattle.scale_base.proofs.Laws.{each_byte_none, each_byte_more}
-use Rattle.stub_writer.specs.Stubs.{Way, Forked, Straight, way_len, way_rows, jump, taken_at, stub_code_of}
-use Rattle.stored_runs.specs.Meaning.{StandsAt, Stand, StepsLead, IsSound, IsRowAt}
+use Rattle.stub_writer.specs.Stubs.{Way, Forked, Straight, way_len, way_rows, taken_at, stub_code_of}
+use Rattle.stored_runs.specs.Meaning.{Stand, StepsLead, IsSound, IsRowAt}
 use Rattle.stored_runs.specs.Ways.{turn, WayFits, behind_way, way_steps, taken_steps, untaken_steps}
-use Rattle.stored_runs.specs.Held.{StandsAtPatch, text_turn, KeyedFrom, LiesAt, Lie, WayStands, ForkStands}
-use Rattle.stored_runs.proofs.Steps.{performed, leads_first}
-use Rattle.stored_runs.proofs.Ways.{reaches_to, sound_at, patch_does, way_does, taken_does, untaken_does, fork_taken_to, fork_passed}
+use Rattle.stored_runs.specs.Held.{StandsAtPatch, text_turn, LiesAt, Lie, WayStands, ForkStands}
+use Rattle.stored_runs.proofs.Steps.{leads_first}
+use Rattle.stored_runs.proofs.Ways.{sound_at, patch_does, way_does, taken_does, untaken_does, fork_taken_to, fork_passed}
 
 pub passes_taken : (env : Setting) (s : State) (stub table : ℕ) (op : BranchOp) (rs1 rs2 : ℕ) (untaken taken : Way) → IsSound env s → StandsAtPatch env s stub → Stand env s.bytes stub (stub_code_of stub table (Forked op rs1 rs2 untaken taken)) → is_taken op (reg s.regs rs1) (reg s.regs rs2) ≡ true → 4 + 4 * way_len untaken < 2 ^ 12 → taken_at stub untaken < 2 ^ 32 → WayFits env s (table + 4 * length (way_rows untaken)) (taken_at stub untaken) taken → StepsLead env s (text_turn s.pc stub ∷ taken_steps (record s { pc = stub }) table untaken taken) (behind_way s (table + 4 * length (way_rows untaken)) taken)
 passes_taken env s stub table op rs1 rs2 untaken taken sound patched stand is near room fits =
@@ -63,27 +62,6 @@ goes_on env s stub way sound patched f fits =
     let t : State = record s { pc = stub } in
     leads_first env s t _ _ _ (patch_does env s stub patched.there patched.pc patched.small patched.even)
     (way_does env t f.table way (sound_at env s stub sound) fits f.code)
-
--- the closing jump to a target that is no multiple of 4 traps, with the target
-pub jump_traps : (env : Setting) (s : State) (to : ℕ) → StandsAt env s.bytes s.pc (jump s.pc to) → to < 2 ^ 32 → (to % 4 == 0) ≡ false → step env s ≡ stops s traps.MisalignedTarget to
-jump_traps env s to h small odd =
-    let from : s.pc < 2 ^ 32 = omega (arith, h.room) in
-    performed env s (jump s.pc to) h
-    ∙ (ap (λ target. jumps env s (jump s.pc to) 0 target) (reaches_to s.pc to from small) ∙ cond-false (to % 4 == 0) _ _ odd)
-
--- an instruction of the keyed segment may read a row of it
-pub row_is_there : (env : Setting) (base to pc at : ℕ) → KeyedFrom env base to → is_keyed env.layout pc ≡ true → base ≤ at → at + 4 ≤ to → at % 4 ≡ 0 → to ≤ 0xFFFFF800 → IsRowAt env pc at
-row_is_there env base to pc at keyed here low high even below =
-    let test = reads_byte env.layout pc in
-    let byte : (k : ℕ) → k < 4 → test (at + k) ≡ true = λ k lt.
-    or_right (may_read env.layout (at + k)) (is_keyed env.layout pc && is_keyed env.layout (at + k))
-    (and_from (is_keyed env.layout pc) (is_keyed env.layout (at + k)) here (keyed.keyed (at + k) (omega arith) (omega arith))) in
-    let none = each_byte_none test at in
-    let one = each_byte_more test at 0 none (byte 0 (omega arith)) in
-    let two = each_byte_more test at 1 one (byte 1 (omega arith)) in
-    let three = each_byte_more test at 2 two (byte 2 (omega arith)) in
-    let four = each_byte_more test at 3 three (byte 3 (omega arith)) in
-    record { aligned = even; outside = omega arith; allowed = four }
 
 -- an instruction of the keyed segment may read a word that lies in it
 pub row_lies : (env : Setting) (bytes : ℕ → ℕ) (pc at word : ℕ) → is_keyed env.layout pc ≡ true → LiesAt env bytes at word → at % 4 ≡ 0 → at < 0xFFFFF800 → IsRowAt env pc at

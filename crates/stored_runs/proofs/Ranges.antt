@@ -1,11 +1,8 @@
 -- The fields of the instructions are in range.
-use Rattle.std.proofs.Common.{ℕ, ◌-◌, ◌%◌, ◌^◌, ◌<◌, List, [], ◌∷◌, arith}
+use Rattle.std.proofs.Common.{ℕ, ◌-◌, ◌%◌, ◌^◌, ◌<◌, arith}
 use Rattle.std.specs.Prelude.{nat_lt}
-use Rattle.std.specs.List.{All}
 use Rattle.std.proofs.lemmas.Bool.{cond_both}
 use Rattle.std.proofs.lemmas.Bool.Decides.{nat_tests}
-use Rattle.std.proofs.lemmas.List.Elements.{All-cons, All-nil}
-use Rattle.scale_base.specs.declared.instruction.Instr.{Instr}
 use Rattle.scale_base.specs.Word.{FieldsInRange, IsSignedField}
 use Rattle.scale_base.specs.declared.fragments.Fragment.{Fragment}
 use Rattle.scale_base.specs.declared.fragments.Fragment.TheVariants.{Switch, Exit, Reset, Count}
@@ -85,10 +82,3 @@ fragment_fits table (Exit counter shift rows) h =
 fragment_fits table (Reset counter) h = (sw_fits 0 counter (omega arith), tt)
 fragment_fits table (Count counter) h =
     (sw_fits 5 0 (omega arith), (lw_fits 5 counter (omega arith), ((omega arith, omega arith, omega arith), (sw_fits 5 counter (omega arith), (lw_fits 5 0 (omega arith), tt)))))
-
-pub all_of : (is : List Instr) → AllInRange is → All FieldsInRange is
-all_of [] h = All-nil FieldsInRange
-all_of (i ∷ is) h = All-cons FieldsInRange i is h.0 (all_of is h.1)
-
-pub fragment_all : (table : ℕ) (f : Fragment) → IsFragment f → All FieldsInRange (fragment_code table f)
-fragment_all table f h = all_of (fragment_code table f) (fragment_fits table f h)

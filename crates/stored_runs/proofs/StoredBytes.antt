@@ -53,14 +53,6 @@ found_any p q (y ∷ ys) x e none =
     neither true b h = let never : ⊥ = cc in absurd never
     neither false b h = (refl, h)
 
-any_found : {A : Type 0} (p : A → Bool) (xs : List A) → list_any p xs ≡ false → find p xs ≡ None
-any_found p [] e = refl
-any_found p (x ∷ xs) e = step (p x) e (any_found p xs)
-  where
-    step : (b : Bool) → (b || list_any p xs) ≡ false → (list_any p xs ≡ false → find p xs ≡ None) → cond b (Some x) (find p xs) ≡ None
-    step true h go = let never : ⊥ = cc in absurd never
-    step false h go = go h
-
 -- ---- the file parts of segments
 
 pub sharing : (a b : Span) (x : ℕ) → overlap a b ≡ false → in_span a x ≡ true → in_span b x ≡ true → ⊥

@@ -1,12 +1,9 @@
 -- Which jumps fit, and how many rows a fragment has.
-use Rattle.std.proofs.Common.{◌≡◌, ℕ, ℤ, pos, negsuc, ◌%◌, ◌^◌, ◌≤◌, Bool, true, false, arith, refl, sym}
+use Rattle.std.proofs.Common.{◌≡◌, ℕ, ℤ, pos, negsuc, ◌%◌, ◌^◌, Bool, true, false, arith, refl, sym}
 use Rattle.std.specs.Prelude.{nat_lt, ◌==◌, ◌&&◌, IsTrue, ◌↔◌}
 use Rattle.std.proofs.lemmas.Bool.{and_parts, and_from}
 use Rattle.std.proofs.lemmas.Bool.Decides.{nat_tests}
 use Rattle.scale_base.specs.Word.{FieldsInRange, IsSignedField, IsEven}
-use Rattle.scale_base.specs.declared.fragments.Fragment.{Fragment}
-use Rattle.scale_base.specs.declared.fragments.Fragment.TheVariants.{Switch, Exit, Reset, Count}
-use Rattle.stub_writer.specs.Fragments.{IsFragment, rows_len}
 use Rattle.stub_writer.specs.Stubs.{jump, reaches, is_even, is_field}
 use Rattle.rv_encode.specs.Jumps.{distance, Reaches}
 
@@ -35,9 +32,3 @@ pub reaches_as : (from to : ℕ) (r : Bool) → (IsTrue r ↔ Reaches (from % 2 
 reaches_as from to true h = sym (true_reaches from to (h.0 refl))
 reaches_as from to false h =
     is_false (reaches from to) (λ e. let no : false ≡ true = h.1 (reach_fits (distance (from % 2 ^ 32) (to % 2 ^ 32)) e) in cc)
-
-pub rows_count : (f : Fragment) → IsFragment f → rows_len f ≤ 16
-rows_count (Switch word) h = omega arith
-rows_count (Exit counter shift rows) h = h.2
-rows_count (Reset counter) h = omega arith
-rows_count (Count counter) h = omega arith

@@ -1,21 +1,20 @@
 -- The fragments of a site, and bytes of code in parts.
-use Rattle.std.proofs.Common.{◌≡◌, ℕ, suc, ◌+◌, ◌*◌, ◌<◌, ◌≤◌, Bool, true, false, List, [], ◌∷◌, ◌++◌, length, map, arith, subst, sym, ◌∙◌, ap, refl, append_assoc, drop, get_or, add-one, Option, Some, None}
+use Rattle.std.proofs.Common.{◌≡◌, ℕ, suc, ◌+◌, ◌*◌, ◌<◌, ◌≤◌, Bool, true, false, List, [], ◌∷◌, ◌++◌, length, map, arith, sym, ◌∙◌, ap, refl, append_assoc, drop, get_or, add-one, Option, Some, None}
 use Rattle.std.proofs.Math.Seq.{drop-cons}
 use Rattle.stub_writer.specs.declared.site.StubSite.{StubSite}
-use Rattle.scale_base.specs.declared.ranges.Patch.{Patch}
 use Rattle.std.proofs.lemmas.Bool.{and_parts, cond_both}
 use Rattle.std.specs.Prelude.{◌==◌, if◌then◌else◌}
 use Rattle.std.specs.List.{All, flat_map}
 use Rattle.std.proofs.lemmas.List.{map-append}
 use Rattle.std.proofs.lemmas.Grind.{flat_map-append}
-use Rattle.std.proofs.lemmas.List.Elements.{All-nil, All-cons, All-push}
+use Rattle.std.proofs.lemmas.List.Elements.{All-nil}
 use Rattle.scale_base.specs.declared.instruction.Instr.{Instr}
 use Rattle.scale_base.specs.Word.{word_of}
 use Rattle.scale_base.specs.declared.fragments.Fragment.{Fragment}
 use Rattle.stub_writer.specs.declared.site.StubEdge.{StubEdge}
 use Rattle.stub_writer.specs.Fragments.{IsFragment}
-use Rattle.stub_writer.specs.Stubs.{code_bytes, word_bytes, reaches, jump, is_near, out_of_reach, stub_reaches_of, stub_len, stub_rows, stubs_code, stub_code_of, patches_from}
-use Rattle.stub_writer.specs.Sites.{IsEdge, IsSite, site_of, fragments_by, kind_number}
+use Rattle.stub_writer.specs.Stubs.{code_bytes, word_bytes, reaches, is_near, out_of_reach, stub_reaches_of, stub_len, stub_rows, stubs_code, stub_code_of}
+use Rattle.stub_writer.specs.Sites.{IsEdge, site_of, fragments_by, kind_number}
 
 abbrev pub AreFragments : List Fragment → Type 0
 AreFragments fs = (length fs ≤ 17) × All IsFragment fs
@@ -59,10 +58,6 @@ pub reach_first : (list : List StubSite) (k at : ℕ) (site : StubSite) → IsNe
 reach_first list k at site h near =
     let p = and_parts (reaches site.at at) (stub_reaches_of at (site_of site).place) (near_first list k at site h near) in p.1
 
-pub jump_first : (list : List StubSite) (k at : ℕ) (site : StubSite) → IsNext list k site → out_of_reach at (map site_of (drop k list)) ≡ None → reaches site.at at ≡ true
-jump_first list k at site h near =
-    let p = and_parts (reaches site.at at) (stub_reaches_of at (site_of site).place) (near_first list k at site h near) in p.0
-
 pub near_rest : (list : List StubSite) (k at at2 : ℕ) (site : StubSite) → IsNext list k site → at2 ≡ at + 4 * stub_len (site_of site) → out_of_reach at (map site_of (drop k list)) ≡ None → out_of_reach at2 (map site_of (drop (k + 1) list)) ≡ None
 near_rest list k at at2 site h e near =
     let p = near_here list k at site h near in ap (λ a. out_of_reach a (map site_of (drop (k + 1) list))) e ∙ p.1
@@ -78,29 +73,6 @@ stubs_rest list k at at2 rows rows2 site now new total h e f before pushed =
     ∙ (ap (λ l. now ++ l) (sym (code_bytes_append here rest))
     ∙ (ap (λ ss. now ++ code_bytes (stubs_code at rows ss)) (sym (sites_from list k site h)) ∙ before)))))
 
-pub patches_rest : (list : List StubSite) (k at at2 : ℕ) (site : StubSite) (now new total : List Patch) → IsNext list k site → at2 ≡ at + 4 * stub_len (site_of site) → now ++ patches_from at (map site_of (drop k list)) ≡ total → new ≡ now ++ record { at = site.at; word = word_of (jump site.at at) } ∷ [] → new ++ patches_from at2 (map site_of (drop (k + 1) list)) ≡ total
-patches_rest list k at at2 site now new total h e before pushed =
-    let rest = patches_from (at + 4 * stub_len (site_of site)) (map site_of (drop (k + 1) list)) in
-    ap (λ a. new ++ patches_from a (map site_of (drop (k + 1) list))) e
-    ∙ (ap (λ l. l ++ rest) pushed
-    ∙ (append_assoc now (record { at = site.at; word = word_of (jump site.at at) } ∷ []) rest
-    ∙ (ap (λ ss. now ++ patches_from at ss) (sym (sites_from list k site h)) ∙ before)))
-
 -- bytes of words in two parts
 pub words_append : (xs ys : List ℕ) → flat_map word_bytes (xs ++ ys) ≡ flat_map word_bytes xs ++ flat_map word_bytes ys
 words_append xs ys = flat_map-append word_bytes xs ys
-
--- ---- sites of one kind
-
-pub one_fragment : (f : Fragment) (old new : List Fragment) → old ≡ [] → new ≡ old ++ f ∷ [] → IsFragment f → AreFragments new
-one_fragment f old new none more h =
-    let e : new ≡ f ∷ [] = more ∙ ap (λ l. l ++ f ∷ []) none in
-    subst AreFragments (sym e) (omega arith, All-cons IsFragment f [] h (All-nil IsFragment))
-
-pub one_edge_more : (old new : List StubEdge) (e : StubEdge) → new ≡ old ++ e ∷ [] → IsEdge e → All IsEdge old → All IsEdge new
-one_edge_more old new e more h all = subst (All IsEdge) (sym more) (All-push IsEdge old e all h)
-
-pub one_site : (s : StubSite) (old new : List StubSite) → old ≡ [] → new ≡ old ++ s ∷ [] → IsSite s → All IsSite new
-one_site s old new none more h =
-    let e : new ≡ s ∷ [] = more ∙ ap (λ l. l ++ s ∷ []) none in
-    subst (All IsSite) (sym e) (All-cons IsSite s [] h (All-nil IsSite))

@@ -200,8 +200,8 @@ fn block(alloc: Global, list: &[StubSite], base: u32) -> Result<StubBlock, NoMem
     Ok(StubBlock { bytes, patches })
 }
 
-/// The block of the stubs at the base, and the patches. `StubOutOfReach` names the least marked instruction of which a jump to or
-/// from its stub is too far for JAL.
+/// The block of the stubs at the base, and the patches. `StubOutOfReach` names the first marked instruction in the list of which
+/// a jump to or from its stub is too far for JAL: the least one where the sites ascend, which is not asked for.
 pub fn emit(alloc: Global, list: &[StubSite], base: u32) -> Result<StubBlock, Stop>
     requires few { length list.now ≤ 131072 }
     requires each { All sites.IsSite list.now }

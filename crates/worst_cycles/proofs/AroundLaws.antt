@@ -1,14 +1,13 @@
 -- The turns of the loops round each node, one loop after the other.
 use Rattle.std.proofs.Common.{◌≡◌, ◌≢◌, ℕ, zero, suc, ◌+◌, ◌<◌, ◌≤◌, ◌⊎◌, inl, inr, Bool, true, false, List, length, refl, sym, ap, ◌∙◌, subst, arith, ⊎_elim}
-use Rattle.graph_algorithms.specs.Arcs.{number_in_place, AreDistinct}
+use Rattle.graph_algorithms.specs.Arcs.{number_in_place}
 use Rattle.cost_theory.specs.Graph.{sum_below, only}
 use Rattle.cost_theory.specs.Worst.{Numbers, all_of}
 use Rattle.cost_theory.specs.Lists.{body_of}
 use Rattle.code_graph.specs.FlowGraph.{FlowGraph}
 use Rattle.loop_tree.specs.Noted.{node_address}
 use Rattle.std.proofs.lemmas.Bool.{cases_lt, cases_eq}
-use Rattle.std.proofs.lemmas.Option.{slice_get-get_or}
-use Rattle.loop_tree.specs.Tree.{LoopView, loops, IsLoopTree}
+use Rattle.loop_tree.specs.Tree.{LoopView, loops}
 use Rattle.worst_cycles.specs.declared.plan.Plan.{Plan}
 use Rattle.worst_cycles.specs.declared.visits.Visit.{Visit}
 use Rattle.worst_cycles.specs.Worst.{by_edge}
@@ -23,14 +22,6 @@ use Rattle.worst_cycles.proofs.IterationLaws.{body_within}
 abbrev pub AreTurnsTo : FlowGraph → LoopView → (ℕ → ℕ) → ℕ → List ℕ → Type 0
 AreTurnsTo v t w l around = (n : Numbers) → AreSolvedBy v t w n → (k : ℕ) → k < length v.code.nodes →
     number_in_place around k ≡ sum_below l (λ j. only ((loops v t).inside j (node_address v k)) (all_of (loops v t) n j))
-
--- the numbers of a body are different
-pub body_distinct : (v : FlowGraph) (t : LoopView) (extent : ℕ → ℕ → Bool) → IsLoopTree v extent t → (l : ℕ) → l < length t.headers → AreDistinct (body_of t.bodies l)
-body_distinct v t extent is l ll i j lt jl same =
-    let il : i < length (body_of t.bodies l) = omega arith in
-    let low : number_in_place (body_of t.bodies l) i < number_in_place (body_of t.bodies l) j =
-    (is.body l ll).ascending i j (number_in_place (body_of t.bodies l) i) (number_in_place (body_of t.bodies l) j) lt (slice_get-get_or (body_of t.bodies l) i 0 il) (slice_get-get_or (body_of t.bodies l) j 0 jl) in
-    let bad : ⊥ = omega arith in bad
 
 -- what the visits have at the header of a loop
 pub turns_at_header : {v : FlowGraph} {t : LoopView} {w : ℕ → ℕ} {visits : List Visit} {n : Numbers} (l : ℕ) → HasTree v t → AreAllVisited v t w visits → AreSolvedBy v t w n → l < length t.headers →

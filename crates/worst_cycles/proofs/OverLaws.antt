@@ -1,4 +1,4 @@
--- What an edge costs, and the greatest cost of a acyclic path over the edges of a node.
+-- What an edge costs, and the greatest cost of a plain path over the edges of a node.
 use Rattle.std.proofs.Common.{◌≡◌, ◌≢◌, ℕ, ◌+◌, ◌<◌, ◌≤◌, ◌↔◌, ◌⊎◌, inl, inr, List, length, Some, None, slice_get, sym, ap, ◌∙◌, subst, arith, ⊎_elim}
 use Rattle.std.proofs.lemmas.Bool.{cases_lt}
 use Rattle.std.proofs.lemmas.Option.{same_Some, none-some}
@@ -81,7 +81,7 @@ plain_kept {v = v} {t = t} {w = w} {n = n} {first = first} {e = e} {most = most}
       is.reached;
 }
 
--- over all edges of a node it is the greatest cost of a acyclic path from there
+-- over all edges of a node it is the greatest cost of a plain path from there
 pub plain_found : {v : FlowGraph} {t : LoopView} {w : ℕ → ℕ} {n : Numbers} {first end most : ℕ} (at : ℕ) → IsPlainMost v t w n first end most →
     ((e : ℕ) → e < length v.code.edges → ((graph v).source e ≡ at) ↔ ((first ≤ e) × (e < end))) → end ≤ length v.code.edges → IsPlainOver (graph v) (loops v t) w n at → most ≡ n.plain at
 plain_found {v = v} {t = t} {w = w} {n = n} {first = first} {end = end} {most = most} at is edges within over_is =

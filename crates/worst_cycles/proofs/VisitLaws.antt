@@ -18,7 +18,7 @@ use Rattle.worst_cycles.specs.Planned.{IsPlannedBy}
 use Rattle.worst_cycles.proofs.SearchLaws.{value_at}
 use Rattle.worst_cycles.proofs.BodyLaws.{node_here, same_node, by_plain, loop_count, header_number, header_address}
 
--- worst cycles are a acyclic path and all turns at the entry
+-- worst cycles are a plain path and all turns at the entry
 pub worst_at : {g : Graph} {l : Loops} {w : ℕ → ℕ} {n : Numbers} {x : Visit} (f : ℕ) → AreSolved g l w n → f < g.functions → IsVisit l n (g.entry f) x → x.plain + x.turns ≡ n.worst f
 worst_at {g = g} {l = l} {w = w} {n = n} {x = x} f s fl visit =
     let plain = visit.plain in ⊎_elim
@@ -99,9 +99,9 @@ turns_too_long v t w l b x ll bounded found more n s =
     let product : b * x ≡ (loops v t).bound l * n.iteration l = ap (λ y. b * y) (found n s) ∙ ap (λ y. y * n.iteration l) (sym (bound_at v t l b bounded)) in
     omega arith
 
--- ---- acyclic paths
+-- ---- plain paths
 
--- what is found at the next node is the greatest cost of a acyclic path from there
+-- what is found at the next node is the greatest cost of a plain path from there
 pub next_plain : {v : FlowGraph} {t : LoopView} {w : List ℕ} {plan : Plan} → IsPlannedBy v t w plan → (visits : List Visit) (i k x : ℕ) → AreVisitedTo v t (by_edge w) plan.order.items i visits → i < length plan.order.items → k ≡ get_or plan.order.items i k →
     ((n : Numbers) → AreSolvedBy v t (by_edge w) n → AreKnownAt v t plan visits n (slice_index v.code.nodes k) → x ≡ n.plain (slice_index v.code.nodes k)) → (n : Numbers) → AreSolvedBy v t (by_edge w) n → x ≡ n.plain (node_address v (number_in_place plan.order.items i))
 next_plain {v = v} {t = t} {w = w} {plan = plan} is visits i k x visited il node found n s =

@@ -73,11 +73,11 @@ IsBehind v visits e x =
     ((k : ℕ) × ((graph v).target e ≡ slice_get v.code.nodes k) × (k < length v.code.nodes) × (x ≡ (visit_at visits k).turns + (visit_at visits k).plain)) ⊎
     (((graph v).target e ≡ None) × (x ≡ 0))
 
--- the edge's charge and a acyclic path from behind it
+-- the edge's charge and a plain path from behind it
 abbrev pub over : FlowGraph → LoopView → (ℕ → ℕ) → Numbers → ℕ → ℕ
 over v t w n e = charge (graph v) (loops v t) w n e + plain_at n ((graph v).target e)
 
--- x is what a acyclic path costs over an edge, and 0 where the edge isn't plain
+-- x is what a plain path costs over an edge, and 0 where the edge isn't plain
 abbrev pub IsPlainCostOver : FlowGraph → LoopView → (ℕ → ℕ) → Numbers → ℕ → ℕ → Type 0
 IsPlainCostOver v t w n e x = (IsPlain (graph v) (loops v t) e × (x ≡ over v t w n e)) ⊎ ((IsPlain (graph v) (loops v t) e → ⊥) × (x ≡ 0))
 

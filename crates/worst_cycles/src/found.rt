@@ -12,7 +12,7 @@ use loop_tree::LoopTree;
 use scale_base::NoMemory;
 use std::alloc::Global;
 
-/// By function, a acyclic path from its entry and all turns there.
+/// By function, a plain path from its entry and all turns there.
 pub fn worst_of(
     alloc: Global,
     graph: &CodeGraph,

@@ -64,7 +64,7 @@ fn raise_lefts(plan: &Plan, rests: &Rests, header: usize, iteration: u64, left: 
     }
 }
 
-/// By node, the greatest cost of a acyclic path from there.
+/// By node, the greatest cost of a plain path from there.
 fn plain_lefts(alloc: Global, visits: &[Visit]) -> Result<Vec<u64>, NoMemory>
     ensures size { IfOk result (λ left. length left.items ≡ length visits.now) }
     ensures each { IfOk result (λ left. (k : ℕ) → k < length visits.now → number_in_place left.items k ≡ (visit_at visits.now k).plain) }

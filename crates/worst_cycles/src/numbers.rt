@@ -83,7 +83,8 @@ impl WorstNumbers {
         self.context[f]
     }
 
-    /// The slack of edge `e`: what is left before it, less its cost and what is left behind it. 0 for an `End` edge.
+    /// The slack of edge `e` in cycles: what is left before it, and one iteration more where it is a back edge, less its cost
+    /// with all turns of the loops that it enters and what is left behind it. 0 for an edge that leads to no node.
     pub fn slack(&self, e: usize) -> u64
         requires { e < length self.now.slacks }
         ensures { slice_get self.now.slacks e ≡ Some result }
@@ -91,7 +92,7 @@ impl WorstNumbers {
         self.slacks[e]
     }
 
-    /// The rest behind edge `e`: what is left at most of the program after it. 0 for an `End` edge.
+    /// The rest behind edge `e` in cycles: what is left at most of the program after it. 0 for an edge that leads to no node.
     pub fn rest(&self, e: usize) -> u64
         requires { e < length self.now.rests }
         ensures { slice_get self.now.rests e ≡ Some result }

@@ -11,7 +11,7 @@ ghost use Rattle.worst_cycles.specs.Planned.{IsPlannedGraph};
 use crate::planned::PlannedGraph;
 use crate::visits::{Visit, cost_of};
 
-/// The rests of an iteration of a loop from the nodes of its body, each the greatest cost of a acyclic path within the body
+/// The rests of an iteration of a loop from the nodes of its body, each the greatest cost of a plain path within the body
 /// and a back edge of the loop.
 #[derive(Drop)]
 pub struct Rests {

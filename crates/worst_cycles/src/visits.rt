@@ -14,7 +14,7 @@ use code_graph::CodeGraph;
 /// What the pass finds at a node, in cycles.
 #[derive(Clone, Copy, Drop)]
 pub struct Visit {
-    /// The greatest cost of a acyclic path from the node.
+    /// The greatest cost of a plain path from the node.
     pub plain: u64,
     /// All turns of the loop whose header the node is, and 0 at other nodes.
     pub turns: u64,
@@ -51,7 +51,7 @@ pub fn cost_of(planned: &PlannedGraph<'_>, visits: &[Visit], e: usize) -> u64
     u64::from(*planned.weights.get(e)) + called(planned, visits, e)
 }
 
-/// What a path that enters the node to which edge `e` leads costs from there on: all turns and a acyclic path.
+/// What a path that enters the node to which edge `e` leads costs from there on: all turns and a plain path.
 fn behind(graph: &CodeGraph, visits: &[Visit], e: usize) -> u64
     requires visits { AreVisits graph.now visits.now }
     requires edge { e < length graph.now.code.edges }
@@ -67,7 +67,7 @@ fn behind(graph: &CodeGraph, visits: &[Visit], e: usize) -> u64
     }
 }
 
-/// What a acyclic path costs over edge `e`; 0 over a back edge.
+/// What a plain path costs over edge `e`; 0 over a back edge.
 fn over(planned: &PlannedGraph<'_>, visits: &[Visit], e: usize) -> u64
     requires planned { IsPlannedGraph planned.now }
     requires visits { AreVisits planned.now.graph.now visits.now }
@@ -81,7 +81,7 @@ fn over(planned: &PlannedGraph<'_>, visits: &[Visit], e: usize) -> u64
     }
 }
 
-/// The greatest cost of a acyclic path from node `k`.
+/// The greatest cost of a plain path from node `k`.
 pub fn plain_at_node(planned: &PlannedGraph<'_>, visits: &[Visit], k: usize) -> u64
     requires planned { IsPlannedGraph planned.now }
     requires visits { AreVisits planned.now.graph.now visits.now }

@@ -17,7 +17,7 @@ use std::alloc::Global;
 pub struct GroupBodies {
     /// By node, the loops whose bodies have it.
     pub bodies: Vec<u64>,
-    /// A range that has the nodes of the bodies.
+    /// A range that has the nodes of the bodies; how much wider it is is free.
     pub nodes: NodeRange,
     /// The loops whose bodies an edge from outside enters past the header.
     pub aside: u64,

@@ -1,11 +1,10 @@
 -- Over two graphs of a program, with the loops of the same notes, the marks of edges and the weights are the same, and the numbers under these agree.
-use Rattle.std.proofs.Common.{◌≡◌, ℕ, ◌+◌, List, length, slice_get, sym, ap, ◌∙◌, subst}
-use Rattle.std.specs.List.{list_any}
+use Rattle.std.proofs.Common.{◌≡◌, ℕ, ◌+◌, List, slice_get, sym, ap, ◌∙◌, subst}
 use Rattle.std.proofs.Math.Path.{fun_ext}
 use Rattle.scale_base.specs.Image.{Image}
 use Rattle.power_model.specs.Numbers.{PowerModel}
 use Rattle.power_model.specs.Price.{cycles_of}
-use Rattle.cost_theory.specs.Graph.{Loops, sum_below, only}
+use Rattle.cost_theory.specs.Graph.{Loops}
 use Rattle.cost_theory.specs.Reached.{edge_at, edge_to}
 use Rattle.cost_theory.specs.Worst.{Numbers, AreNumbers}
 use Rattle.scale_base.specs.declared.edges.Edge.{Edge}
@@ -18,7 +17,7 @@ use Rattle.scale_base.specs.declared.fragments.Mark.{Mark}
 use Rattle.scale_sites.specs.Counters.{counted_loops, set_from}
 use Rattle.scale_sites.specs.Marks.{marks_at, marks_of}
 use Rattle.scale_sites.specs.Sites.{is_branch, edge_branches}
-use Rattle.rewritten_runs.specs.Stubs.{IsWeighed, plain_weights, marks_by_slack, extra_weights, stored_weights, edges_with}
+use Rattle.rewritten_runs.specs.Stubs.{IsWeighed, plain_weights, marks_by_slack, extra_weights, stored_weights}
 use Rattle.answer_laws.specs.Renumbered.{IsRenumbered}
 use Rattle.answer_laws.specs.Alike.{AreAlikeTrees, AreAlikeNumbers}
 use Rattle.answer_laws.proofs.Laws.{numbers_alike, weights_same, trees_agree}
@@ -27,9 +26,6 @@ use Rattle.scaler.proofs.agree.Pairs.{renumbered}
 -- what goes by the list of edges alone
 extra_moved : (power : PowerModel) (v v' : FlowGraph) (marked : ℕ → List Mark) → v.code.edges ≡ v'.code.edges → extra_weights power v marked ≡ extra_weights power v' marked
 extra_moved power v v' marked e = ap {B = ℕ → ℕ} (λ (es : List Edge). extra_weights power (record v { code = record v.code { edges = es } }) marked) e
-
-pub count_moved : (is : Mark → _) (v v' : FlowGraph) (marked : ℕ → List Mark) → v.code.edges ≡ v'.code.edges → edges_with is v marked ≡ edges_with is v' marked
-count_moved is v v' marked e = ap (λ (es : List Edge). sum_below (length es) (λ i. only (list_any is (marked i)) 1)) e
 
 module _ (power : PowerModel) (image : Image) (notes : List LoopNote) (v v' : FlowGraph) (t t' : LoopView) (plain plain' stored stored' : Numbers)
     (one : IsWeighed power image notes v t plain stored) (other : IsWeighed power image notes v' t' plain' stored') where

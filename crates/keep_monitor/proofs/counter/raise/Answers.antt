@@ -6,7 +6,7 @@ use Rattle.keep_monitor.specs.Headers.{sorted_header}
 use Rattle.keep_monitor.specs.Steps.{broken_by, count_after_at}
 use Rattle.keep_monitor.specs.Counted.{raised_most}
 use Rattle.keep_monitor.proofs.AlikeLaws.{going_with}
-use Rattle.keep_monitor.proofs.CounterLaws.{raise_all, none_is, some_is}
+use Rattle.keep_monitor.proofs.CounterLaws.{raise_all, none_is}
 use Rattle.keep_monitor.proofs.CountedLaws.{raised_none}
 use Rattle.keep_monitor.proofs.counter.raise.Goals as goal
 

@@ -12,7 +12,7 @@ use Rattle.keep_monitor.specs.Watch.{Watched, watch_returns}
 use Rattle.keep_monitor.specs.Counted.{Counted, counted, judged, raised_most}
 use Rattle.keep_monitor.specs.contracts.counter.LoopCounter.{the_view}
 use Rattle.keep_monitor.proofs.HeaderLaws.{loops_from_filter}
-use Rattle.keep_monitor.proofs.AlikeLaws.{going_with, relaxed_alike, alike_back}
+use Rattle.keep_monitor.proofs.AlikeLaws.{going_with, relaxed_alike}
 use Rattle.keep_monitor.proofs.CountedRuns.{counted_off}
 use Rattle.keep_monitor.proofs.CounterLaws.{alike_loops, counting, step_seen, judged_counts}
 use Rattle.keep_monitor.proofs.counter.LoopCounter.take_step.Goals as goal

@@ -5,7 +5,7 @@ use Rattle.graph_algorithms.specs.Groups.{AreGroup, AreLoopExtents}
 use Rattle.loop_tree.specs.Noted.{IsNotedSideEntry}
 use Rattle.loop_tree.specs.Passes.{IsEntryTested, IsGroupEntered}
 use Rattle.loop_tree.proofs.EntryLaws.{depth_small}
-use Rattle.loop_tree.proofs.ReadyLaws.{header_within, none_next, entry_refused}
+use Rattle.loop_tree.proofs.ReadyLaws.{header_within, none_next}
 use Rattle.loop_tree.proofs.FoundLaws.{passed_on}
 use Rattle.loop_tree.proofs.GroupLaws.{loops_are, clean_at, depths_group}
 use Rattle.loop_tree.proofs.natural.groups.check_group.Goals as goal
