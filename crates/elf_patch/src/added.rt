@@ -24,13 +24,6 @@ const ALLOCATED_CODE: u32 = 6;
 
 const WORD: u32 = 4;
 
-// Where the section headers of a file stand.
-#[derive(Clone, Copy)]
-struct Sections {
-    at: usize,
-    count: usize,
-}
-
 /// Adds the entry of the block.
 fn push_code_entry(out: &mut Vec<u8>, block_at: u32, base: u32, len: u32) -> Result<(), NoMemory>
     ensures { OnOk result (out.new.items ≡ out.old.items ++ added.code_entry block_at base len) }

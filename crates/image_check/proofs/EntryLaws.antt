@@ -60,6 +60,9 @@ module _ (P Q R : ℕ → Type 0) (either : (i : ℕ) → R i → P i ⊎ Q i) (
       (cases_lt i j)
 
 module _ (power : PowerModel) (bytes : ℕ → ℕ) (told : EdgeNumbers) (bound iteration shift table : ℕ) where
+  pub no_rows : IsTableLevel power bytes told bound iteration shift table 0 None
+  no_rows = λ i bad. let lt = bad.1 in absurd (omega (arith, lt))
+
   -- one row more
   pub row_more : (row : ℕ) (row_told : EdgeNumbers) (word : ℕ) (least level : Option ℕ) → row_told ≡ at_row bound iteration shift told row → word ≡ word_at bytes (table + 4 * row)
       → IsTableLevel power bytes told bound iteration shift table row least → IsWordLevel power row_told word level → IsTableLevel power bytes told bound iteration shift table (row + 1) (lesser_level least level)

@@ -1,5 +1,5 @@
 -- What edges tell their tables, and which of their entries are not safe.
-use Rattle.std.proofs.Common.{◌≡◌, ℕ, ◌+◌, ◌*◌, ◌/◌, ◌^◌, ◌<◌, ◌≤◌, true, List, ◌∷◌, length, Option, Some, None, refl, sym, ap, ◌∙◌, subst, arith}
+use Rattle.std.proofs.Common.{◌≡◌, ℕ, ◌+◌, ◌*◌, ◌/◌, ◌^◌, ◌<◌, ◌≤◌, true, List, [], ◌∷◌, length, Option, Some, None, refl, sym, ap, ◌∙◌, subst, arith}
 use Rattle.std.specs.Prelude.{◌==◌, slice_get, option_map, is_some}
 use Rattle.std.specs.List.{sum_by}
 use Rattle.std.proofs.lemmas.Bool.{cond-true, eq-eqb}
@@ -11,7 +11,11 @@ use Rattle.scale_base.specs.Image.{Image, loaded_byte}
 use Rattle.scale_base.specs.Layout.{layout_of, is_keyed, in_option}
 use Rattle.scale_base.specs.State.{word_at}
 use Rattle.scale_base.specs.declared.ranges.Keyed.{Keyed}
+use Rattle.scale_base.specs.declared.stepping.Class.{Class}
+use Rattle.power_model.specs.declared.power.Costs.{Costs}
+use Rattle.power_model.specs.Price.{cycles_of}
 use Rattle.power_model.specs.Switches.{costs_of}
+use Rattle.stored_runs.specs.Cycles.{fragment_cost}
 use Rattle.cost_theory.specs.Graph.{Graph, Loops, only}
 use Rattle.cost_theory.specs.Accepted.{HasNoRecursion, AreAccepted, HaveWholeExtents}
 use Rattle.cost_theory.specs.Worst.{Numbers, cost, slack, rest}
@@ -20,7 +24,7 @@ use Rattle.cycle_laws.specs.Charged.{Charged, to_end_after}
 use Rattle.code_text.specs.Text.{text_of}
 use Rattle.code_text.specs.TextGraph.{text_graph}
 use Rattle.graph_runs.specs.Laws.{IsProgramOf}
-use Rattle.code_graph.specs.FlowGraph.{graph}
+use Rattle.code_graph.specs.FlowGraph.{FlowGraph, graph}
 use Rattle.loop_tree.specs.Noted.{node_address}
 use Rattle.loop_tree.specs.Tree.{loops}
 use Rattle.worst_cycles.specs.Worst.{slack_at, rest_at}
@@ -32,12 +36,13 @@ use Rattle.foreign_scan.specs.declared.fragment.ForeignFragment.{ForeignFragment
 use Rattle.foreign_scan.specs.declared.fragment.ForeignFragment.TheVariants.{Switch, Exit, Reset, Count}
 use Rattle.foreign_scan.specs.Form.{ChoosesNone, AreRowsIn}
 use Rattle.foreign_scan.specs.Scanned.{Found}
-use Rattle.image_check.specs.Safe.{Owner, owner_bound, all_with_rows, clears_it, clears_on, AreOwners}
+use Rattle.image_check.specs.Safe.{Owner, owner_bound, with_rows, all_with_rows, clears_it, clears_on, AreOwners}
 use Rattle.image_check.specs.Causes.{IsBadEntry, HasBadEntry}
 use Rattle.image_check.specs.Known.{owner_by, IsFoundIn}
 use Rattle.image_check.specs.Uses.{on_edge}
+use Rattle.image_check.specs.Weights.{foreign_cost}
 use Rattle.image_check.specs.Entries.{IsLeastIn, IsWordLevel, HasBadRow, IsTableLevel, AreRowPlaces}
-use Rattle.image_check.specs.Levels.{key_end, AreKnownBy, IsBadAt}
+use Rattle.image_check.specs.Levels.{IsTailOf, key_end, AreKnownBy, IsBadAt}
 use Rattle.image_check.specs.declared.levels.Known.{Known}
 use Rattle.image_check.proofs.FoundFacts.{on_edge_is}
 use Rattle.image_check.proofs.Rows.{rows}
@@ -53,6 +58,30 @@ told_same a b p q r =
     ap (λ (x : ℕ). let n : EdgeNumbers = record { slack = x; left = a.left; least = a.least } in n) p
     ∙ (ap (λ (x : ℕ). let n : EdgeNumbers = record { slack = b.slack; left = x; least = a.least } in n) q
     ∙ ap (λ (x : Option ℕ). let n : EdgeNumbers = record { slack = b.slack; left = b.left; least = x } in n) r)
+
+-- ---- the cycles behind a store
+
+alike : (cost : Class → ℕ) (image : Image) (l : Loops) (owner : Owner) (fs : List ForeignFragment) → sum_by (fragment_cost cost) (all_with_rows image l owner fs) ≡ sum_by (foreign_cost cost) fs
+alike cost image l owner [] = refl
+alike cost image l owner (f ∷ fs) =
+    let a = sum_by-cons (fragment_cost cost) (with_rows image l owner f) (all_with_rows image l owner fs) in
+    let b = sum_by-cons (foreign_cost cost) f fs in
+    let c = one_alike f in
+    let d = alike cost image l owner fs in
+    omega (arith, a, b, c, d)
+  where
+    one_alike : (h : ForeignFragment) → fragment_cost cost (with_rows image l owner h) ≡ foreign_cost cost h
+    one_alike (Switch word) = refl
+    one_alike (Exit counter shift table) = refl
+    one_alike (Reset counter) = refl
+    one_alike (Count counter) = refl
+
+pub tail_none : (costs : Costs) (fs : List ForeignFragment) → fs ≡ [] → IsTailOf costs fs 0
+tail_none costs fs e = λ image l owner. sym (ap (λ (xs : List ForeignFragment). tail_cycles (cycles_of costs) (all_with_rows image l owner xs)) e)
+
+pub tail_some : (costs : Costs) (fs : List ForeignFragment) (f : ForeignFragment) (rest : List ForeignFragment) (cycles : ℕ) → fs ≡ f ∷ rest → cycles ≡ sum_by (foreign_cost (cycles_of costs)) rest → IsTailOf costs fs (2 * costs.load + cycles + costs.jump)
+tail_some costs fs f rest cycles e is = λ image l owner.
+    ap (λ m. 2 * costs.load + m + costs.jump) (is ∙ sym (alike (cycles_of costs) image l owner rest)) ∙ sym (ap (λ (xs : List ForeignFragment). tail_cycles (cycles_of costs) (all_with_rows image l owner xs)) e)
 
 -- ---- rows in the keyed segment are at addresses
 
@@ -72,6 +101,9 @@ row_places image table last end rows is fits =
     (omega (arith, first), omega (arith, low, is, fits))
 
 module _ (x : Known) (original foreign : Image) (found : Found) (w : ℕ → ℕ) (n : Numbers) (least : Charged) (by : AreKnownBy x original foreign found w n least) where
+  abbrev v : FlowGraph
+  v = x.graph.now
+
   abbrev g : Graph
   g = graph x.graph.now
 
@@ -105,6 +137,9 @@ module _ (x : Known) (original foreign : Image) (found : Found) (w : ℕ → ℕ
 
   pub rest_small : (e found_rest : ℕ) → e < length x.graph.now.code.edges → slice_get x.worst.now.rests e ≡ Some found_rest → found_rest ≤ 2 ^ 48
   rest_small e found_rest lt at = subst (λ m. m ≤ 2 ^ 48) (sym (same_Some found_rest (rest_at g l n e) (sym at ∙ by.known.weighed.left.rest e lt))) (by.known.weighed.rest_small e lt)
+
+  pub after_small : (e z : ℕ) (after : Option ℕ) → e < length x.graph.now.code.edges → slice_get x.least.now.after e ≡ Some after → after ≡ Some z → z < 2 ^ 89
+  after_small e z after lt at some = by.known.weighed.after_small e z lt (sym (after_is e after lt at) ∙ some)
 
   pub told_is : (e to found_slack found_rest tail : ℕ) (after : Option ℕ) → e < length x.graph.now.code.edges → g.target e ≡ Some to → slice_get x.worst.now.slacks e ≡ Some found_slack → slice_get x.worst.now.rests e ≡ Some found_rest
       → slice_get x.least.now.after e ≡ Some after → tail ≡ tail_cycles (costs_of x.power.now) (all_with_rows foreign l owner (on_edge x.sites.now e))
@@ -175,6 +210,10 @@ module _ (x : Known) (original foreign : Image) (found : Found) (w : ℕ → ℕ
             (let le : j ≤ l.bound k / 2 ^ shift = subst (λ y. j ≤ l.bound y / 2 ^ shift) one low in omega (arith, le)),
             subst (λ y. IsBadEntry x.power.now (at_row (l.bound y) (n.iteration y) shift (told e) j) (word_at (loaded_byte foreign) (table + 4 * j)) i) one bad,
           )
+
+  -- a counter without a loop
+  pub exit_none : (e i counter shift table : ℕ) (rest : List ForeignFragment) → on_edge x.sites.now e ≡ Exit counter shift table ∷ rest → owner counter ≡ None → IsBadAt x foreign found w n least e i → ⊥
+  exit_none e i counter shift table rest on none = no_entry e i (Exit counter shift table ∷ rest) on (λ bad. let own = bad.1 in let both : None ≡ Some bad.0 = sym none ∙ own in let never : ⊥ = cc in never)
 
   -- ---- the loop of an exit, and its rows
 

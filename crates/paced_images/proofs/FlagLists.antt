@@ -33,3 +33,6 @@ flags_push v sites n flags flag are is =
 
 pub flags_none : (v : FlowGraph) (sites : List SwitchSite) (flags : List Bool) → flags ≡ [] → AreFlags v sites 0 flags
 flags_none v sites flags none = record { size = ap length none; each = λ e lt. (let bad : ⊥ = omega (arith, lt) in absurd bad) }
+
+pub flags_all : (v : FlowGraph) (sites : List SwitchSite) (n m : ℕ) (flags : List Bool) → n ≡ m → AreFlags v sites n flags → AreFlags v sites m flags
+flags_all v sites n m flags same are = Rattle.std.proofs.Common.subst (λ k. AreFlags v sites k flags) same are
