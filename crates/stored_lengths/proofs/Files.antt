@@ -29,7 +29,8 @@ entries_short file a zero = omega arith
 entries_short file a (suc n) =
     let one = entry_short file a in
     let rest = entries_short file (a + 1) n in
-    omega (arith, one, rest, length-append (kept_entry file a) (entries file (a + 1) n))
+    let e : length (entries file a (suc n)) ≡ length (kept_entry file a ++ entries file (a + 1) n) = refl in
+    omega (arith, one, rest, e, length-append (kept_entry file a) (entries file (a + 1) n))
 
 table_short : (file : List ℕ) (place base start len : ℕ) → length (stored_table file place base start len) ≤ 32 * (e_phnum file + 1)
 unfolding stored_table

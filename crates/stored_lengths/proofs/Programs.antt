@@ -1,5 +1,5 @@
 -- What the commands store of a program is short.
-use Rattle.std.proofs.Common.{◌≡◌, ℕ, ◌+◌, ◌*◌, ◌≤◌, Bool, true, List, [], ◌∷◌, length, Option, Some, None, Result, Ok, Err, sym, ap, subst, ◌∙◌, arith, inl, inr}
+use Rattle.std.proofs.Common.{◌≡◌, ℕ, ◌+◌, ◌*◌, ◌≤◌, Bool, true, false, List, [], ◌∷◌, length, Option, Some, None, Result, Ok, Err, sym, ap, subst, ◌∙◌, arith, inl, inr}
 use Rattle.std.specs.Prelude.{All, IsTrue, cond, min, nat_lt}
 use Rattle.std.proofs.lemmas.List.Elements.{All-nil, All-cons}
 use Rattle.scale_base.specs.declared.ranges.Patch.{Patch}
@@ -18,7 +18,7 @@ use Rattle.stub_writer.specs.Stubs.{Site, block_bytes, block_size, jump, out_of_
 use Rattle.stored_runs.specs.Stubbed.{IsSafeSite}
 use Rattle.rewritten_runs.specs.Stubs.{marks_by_slack, rewritten_file}
 use Rattle.rewritten_runs.proofs.Laws.{block_bytes_len, supplied}
-use Rattle.scaler.specs.Held.{held_at, held_file, held_from, unscaled}
+use Rattle.scaler.specs.Held.{held_at, held_file, held_from, held_summary, unscaled}
 use Rattle.scaler.specs.Rewritten.{IsProgramRewritten, IsRewrittenProgram, rewritten_summary}
 use Rattle.scaler.specs.RewrittenAs.{IsRewrittenAs, notes_with, with_gain}
 use Rattle.scaler.proofs.Laws.{file_is, held_parts, is_unscaled, near_of, read_again, rewritten_parts, then_ok}
@@ -43,21 +43,23 @@ stubbed_short image levels limits sites base start e short is safe near =
 
 -- ---- what is held
 
-held_level : (power : PowerModel) (image : Image) (worst : ℕ) (o : Option ℕ) (given : List ℕ × Summary) → held_from power image worst o ≡ Ok given → (level : ℕ) × (given.0 ≡ held_file image level)
-held_level power image worst None given e = absurd cc
-held_level power image worst (Some level) given e = (level, cc)
+level_from : (power : PowerModel) (image : Image) (worst : ℕ) (o : Option ℕ) (given : List ℕ × Summary) → held_from power image worst o ≡ Ok given → (level : ℕ) × (given.0 ≡ held_file image level)
+level_from power image worst None given e = absurd cc
+level_from power image worst (Some level) given e =
+    let same : given ≡ (held_file image level, held_summary power worst level) = cc in
+    (level, ap (λ (g : List ℕ × Summary). g.0) same)
 
-held_within : (power : PowerModel) (image : Image) (worst : ℕ) (given : List ℕ × Summary) (b : Bool) → cond b (Err TooLong) (held_at power image worst) ≡ Ok given → (level : ℕ) × (given.0 ≡ held_file image level)
+level_within : (power : PowerModel) (image : Image) (worst : ℕ) (given : List ℕ × Summary) (b : Bool) → cond b (Err TooLong) (held_at power image worst) ≡ Ok given → (level : ℕ) × (given.0 ≡ held_file image level)
 unfolding held_at
-held_within power image worst given true e = absurd cc
-held_within power image worst given false e = held_level power image worst (slowest_of power worst) given e
+level_within power image worst given true e = absurd cc
+level_within power image worst given false e = level_from power image worst (slowest_of power worst) given e
 
 pub held_short : HeldImagesAreShort
 held_short image machine loops stored summary short h =
     let went = held_parts image machine loops (stored, summary) h in
     let original = went.original in
     let worst = went.program.numbers.worst 0 in
-    let at = held_within went.power original worst (stored, summary) (nat_lt 281474976710656 worst) (sym went.program.answer_is) in
+    let at = level_within went.power original worst (stored, summary) (nat_lt 281474976710656 worst) (sym went.program.answer_is) in
     let bytes : stored ≡ stored_image image [] (held_base original) [] at.0 = at.1 ∙ ap (λ f. stored_image f [] (held_base original) [] at.0) (file_is image original went.original_is) in
     let none : All (λ (p : Patch). IsTrue (is_word_address original p.at)) [] = All-nil (λ p. IsTrue (is_word_address original p.at)) in
     subst (λ (b : List ℕ). length b ≤ 8388608) (sym bytes) (file_short image original [] (held_base original) [] at.0 went.original_is short none (omega arith))
@@ -67,7 +69,7 @@ held_short image machine loops stored summary short h =
 program_short : (power : PowerModel) (file : List ℕ) (image : Image) (notes : List LoopNote) (given : List ℕ × Summary) → IsPowerModel power → image_of file ≡ Ok image → image.keyed_segment ≡ None → length file ≤ 4194304
     → IsProgramRewritten power image notes (Ok given) → length given.0 ≤ 8388608
 program_short power file image notes given ok read no_key short p =
-    let made = (rewritten_file image p.sites p.base p.start, rewritten_summary power p.code (marks_by_slack power image p.code p.tree p.plain) p.start (p.stored.worst 0) (p.extra.worst 0) p.sites) in
+    let made : List ℕ × Summary = (rewritten_file image p.sites p.base p.start, rewritten_summary power p.code (marks_by_slack power image p.code p.tree p.plain) p.start (p.stored.worst 0) (p.extra.worst 0) p.sites) in
     let near = near_of (out_of_reach p.base p.sites) given made p.answer_is in
     let sup = supplied power ok file image notes p.code p.tree p.plain p.stored p.extra p.least p.sites p.base p.start read no_key short p.weighed p.slow p.stubs near.near in
     let same = file_is file image read in
@@ -107,7 +109,7 @@ program_of power image notes given (inr (inr (inr (inr (inr h))))) = h
 pub rewritten_as_short : ImagesRewrittenAsAreShort
 unfolding IsRewrittenAs
 rewritten_as_short image machine loops min_gain counters stored summary short h =
-    let given = (stored, summary) in
+    let given : List ℕ × Summary = (stored, summary) in
     let a = then_ok (read_machine machine) _ given h in
     let b = then_ok (image_of image) _ given a.2 in
     let c = then_ok (unscaled b.0.keyed_segment) _ given b.2 in

@@ -14,8 +14,9 @@ use Rattle.gain_tuner.specs.Choice.{IsTuning}
 
 -- the file of an image with stubs at the place of their block, all in reach, whatever chose the stubs
 abbrev pub StubbedFilesAreShort : Type 0
-StubbedFilesAreShort = (image : Image) (levels : ℕ) (limits : ℕ → ℕ) (sites : List Site) (base start : ℕ) → image_of image.file ≡ Ok image → length image.file ≤ 4194304
-    → IsStubBase image (min (block_size sites) 4194304) base → All (IsSafeSite image levels limits) sites → out_of_reach base sites ≡ None
+StubbedFilesAreShort = (image : Image) (levels : ℕ) (limits : ℕ → ℕ) (sites : List Site) (base start : ℕ)
+    → image_of image.file ≡ Ok image → length image.file ≤ 4194304 → IsStubBase image (min (block_size sites) 4194304) base
+    → All (IsSafeSite image levels limits) sites → out_of_reach base sites ≡ None
     → length (rewritten_file image sites base start) ≤ 8388608
 
 -- what `hold` stores
@@ -30,10 +31,10 @@ RewrittenImagesAreShort = (image machine loops stored : List ℕ) (summary : Sum
 
 -- what `rewrite_as` stores
 abbrev pub ImagesRewrittenAsAreShort : Type 0
-ImagesRewrittenAsAreShort = (image machine loops : List ℕ) (min_gain : ℕ) (counters : Bool) (stored : List ℕ) (summary : Summary) → length image ≤ 4194304
-    → IsRewrittenAs image machine loops min_gain counters (Ok ((stored, summary))) → length stored ≤ 8388608
+ImagesRewrittenAsAreShort = (image machine loops : List ℕ) (min_gain : ℕ) (counters : Bool) (stored : List ℕ) (summary : Summary)
+    → length image ≤ 4194304 → IsRewrittenAs image machine loops min_gain counters (Ok ((stored, summary))) → length stored ≤ 8388608
 
 -- what `tune` stores
 abbrev pub TunedImagesAreShort : Type 0
-TunedImagesAreShort = (image machine loops : List ℕ) (inputs : List (List ℕ)) (stored : List ℕ) (tuned : Tuned) → length image ≤ 4194304
-    → IsTuning image machine loops inputs (Ok ((stored, tuned))) → length stored ≤ 8388608
+TunedImagesAreShort = (image machine loops : List ℕ) (inputs : List (List ℕ)) (stored : List ℕ) (tuned : Tuned)
+    → length image ≤ 4194304 → IsTuning image machine loops inputs (Ok ((stored, tuned))) → length stored ≤ 8388608
