@@ -1,12 +1,11 @@
 -- A stored file has the bytes of the original up to its block, the block, and a table of at most 65 program headers.
-use Rattle.std.proofs.Common.{◌≡◌, ℕ, zero, suc, ◌+◌, ◌-◌, ◌*◌, ◌≤◌, Bool, true, false, cond, List, [], ◌∷◌, ◌++◌, length, take, drop, get_or, Ok, refl, sym, ap, subst, arith}
+use Rattle.std.proofs.Common.{◌≡◌, ℕ, zero, suc, ◌+◌, ◌-◌, ◌*◌, ◌≤◌, Bool, true, false, cond, List, ◌∷◌, ◌++◌, length, drop, get_or, Ok, refl, sym, subst, arith}
 use Rattle.std.specs.Prelude.{All, IsTrue, not, nat_le, ◌&&◌, ◌==◌}
-use Rattle.std.specs.List.{range_with_len}
 use Rattle.std.proofs.lemmas.List.{length-append, length-drop, length-take}
 use Rattle.std.proofs.lemmas.List.Sums.{prefix_len-le-length}
 use Rattle.scale_base.specs.declared.ranges.Patch.{Patch}
 use Rattle.scale_base.specs.Elf.{e_phoff, e_phnum, program_header, program_headers}
-use Rattle.scale_base.specs.Image.{Image, image_of, contents, is_load, is_word_address}
+use Rattle.scale_base.specs.Image.{Image, image_of, is_load, is_word_address}
 use Rattle.scale_base.proofs.Laws.{contents-are, rules_kept}
 use Rattle.elf_view.proofs.Laws.{length-headers}
 use Rattle.elf_patch.specs.Stored.{block_entry, block_start, entries, entry_bytes, kept_entry, keyed_number, stored_image, stored_table}

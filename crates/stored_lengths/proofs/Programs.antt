@@ -1,5 +1,5 @@
 -- What the commands store of a program is short.
-use Rattle.std.proofs.Common.{◌≡◌, ℕ, ◌+◌, ◌*◌, ◌≤◌, Bool, true, false, List, [], ◌∷◌, length, Option, Some, None, Result, Ok, Err, sym, ap, subst, ◌∙◌, arith, inl, inr}
+use Rattle.std.proofs.Common.{◌≡◌, ℕ, suc, ◌+◌, ◌*◌, ◌≤◌, Bool, true, false, List, [], ◌∷◌, length, Option, Some, None, Ok, Err, sym, ap, subst, ◌∙◌, arith, inl, inr}
 use Rattle.std.specs.Prelude.{All, IsTrue, cond, min, nat_lt}
 use Rattle.std.proofs.lemmas.List.Elements.{All-nil, All-cons}
 use Rattle.scale_base.specs.declared.ranges.Patch.{Patch}
@@ -15,7 +15,6 @@ use Rattle.loop_file.specs.declared.notes.LoopNote.{LoopNote}
 use Rattle.loop_file.specs.Loops.{read_loops}
 use Rattle.elf_patch.specs.Stored.{held_base, stored_image}
 use Rattle.stub_writer.specs.Stubs.{Site, block_bytes, block_size, jump, out_of_reach, patches_from, stub_len}
-use Rattle.stored_runs.specs.Stubbed.{IsSafeSite}
 use Rattle.rewritten_runs.specs.Stubs.{marks_by_slack, rewritten_file}
 use Rattle.rewritten_runs.proofs.Laws.{block_bytes_len, supplied}
 use Rattle.scaler.specs.Held.{held_at, held_file, held_from, held_summary, unscaled}
