@@ -25,7 +25,8 @@ fn body_places(alloc: Global, body: &[usize], plan: &Plan) -> Result<Vec<usize>,
     for k in body {
         steps.push(plan.places[*k])?;
     }
-    steps.sort_unstable();
+    // They stand in few runs where loops lie one in the other, and a stable sort takes each run as it is.
+    steps.sort()?;
     Ok(steps)
 }
 
