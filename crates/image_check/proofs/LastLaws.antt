@@ -97,6 +97,16 @@ pub safe_before : (power : PowerModel) (exit : ExitTold) (i j r s : ℕ) → r �
 safe_before power exit i j r s le e =
     safe_more power exit.told.left (told_row exit s).slack (told_row exit r).slack i j exit.told.least (slack_less exit r s le) (safe_to power (told_row exit s) i j e)
 
+-- ---- an entry that isn't bad where it stands last
+
+pub not_there : (power : PowerModel) (exit : ExitTold) (start : ℕ) (places : LastPlaces) (i j last : ℕ) → last ≡ last_of places i j → last ≤ start → IsBadLast power exit start places i j → ⊥
+not_there power exit start places i j last is low (there, unsafe) = omega (arith, is, there)
+
+pub safe_there : (power : PowerModel) (exit : ExitTold) (start : ℕ) (places : LastPlaces) (i j last : ℕ) → last ≡ last_of places i j → is_safe power (told_row exit (last - 1 - start)) i j ≡ true
+    → IsBadLast power exit start places i j → ⊥
+safe_there power exit start places i j last is safe (there, unsafe) =
+    both_ways (is_safe power (told_row exit (last_of places i j - 1 - start)) i j) unsafe (subst (λ m. is_safe power (told_row exit (m - 1 - start)) i j ≡ true) is safe)
+
 -- ---- the last rows decide
 
 module _ (power : PowerModel) (bytes : ℕ → ℕ) (exit : ExitTold) (first table start : ℕ) (places : LastPlaces)

@@ -105,6 +105,7 @@ fn is_safe_in_row(power: &Power, exit: &ExitTold, row: u32, i: u8, entry: u8) ->
 /// Whether an entry for level i isn't safe in the last row that has it, of the rows from word `start` on.
 fn has_bad_last(power: &Power, exit: &ExitTold, start: u32, places: &LastPlaces, i: u8) -> bool
     requires level { i < length power.now.levels }
+    requires few { i < 8 }
     requires rows { (j : ℕ) → j < 16 → last_of places.now i j ≤ start + last_row exit.now + 1 }
     requires least { IfSome exit.now.told.least (λ z. z < 2 ^ 90) }
     ensures { (result ≡ true) ↔ HasBadLast power.now exit.now start places.now i }

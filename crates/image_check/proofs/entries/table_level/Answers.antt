@@ -1,4 +1,4 @@
-use Rattle.std.proofs.Common.{◌≡◌, ◌+◌, ◌*◌, arith, below_more}
+use Rattle.std.proofs.Common.{◌≡◌, ◌+◌, ◌-◌, ◌*◌, ◌/◌, arith, below_more}
 use Rattle.std.proofs.lemmas.Bool.{iff_false}
 use Rattle.flat_memory.specs.Lists.{list_bytes}
 use Rattle.image_check.proofs.LastLaws.{some_level, no_level}
@@ -12,3 +12,19 @@ loop-i-preserved c = record {
   few = c.loop-i.invariant.few;
   fine = below_more _ _ c.loop-i.invariant.fine (iff_false c.has_bad_last.ensures c.if-has_bad_last.false);
 }
+
+pub returns-then-has_bad_last : goal.returns-then-has_bad_last
+returns-then-has_bad_last c =
+    let start = c.args.table / 4 - c.args.rows.now.first in
+    let even = c.requires.rows.0 in
+    let low = c.requires.rows.1 in
+    some_level c.args.power.now (list_bytes c.args.rows.now.memory) c.args.exit.now c.args.rows.now.first c.args.table start c.places_before-places.result (omega (arith, even, low)) c.loop-i.invariant.few c.places_before-places.ensures
+    c.loop-i.i (omega (arith, c.loop-i-test.true)) (c.has_bad_last.ensures.0 c.if-has_bad_last.true) c.loop-i.invariant.fine
+
+pub returns : goal.returns
+returns c =
+    let start = c.args.table / 4 - c.args.rows.now.first in
+    let even = c.requires.rows.0 in
+    let low = c.requires.rows.1 in
+    no_level c.args.power.now (list_bytes c.args.rows.now.memory) c.args.exit.now c.args.rows.now.first c.args.table start c.places_before-places.result (omega (arith, even, low)) c.loop-i.invariant.few c.places_before-places.ensures
+    (λ k lt. c.loop-i.invariant.fine k (omega (arith, lt)))
