@@ -1,6 +1,7 @@
-use Rattle.std.proofs.Common.{◌≡◌, ◌+◌, ◌-◌, ◌*◌, ◌/◌, arith, below_more}
+use Rattle.std.proofs.Common.{◌≡◌, ◌+◌, ◌-◌, ◌*◌, ◌/◌, length, ap, arith, below_more}
 use Rattle.std.proofs.lemmas.Bool.{iff_false}
 use Rattle.flat_memory.specs.Lists.{list_bytes}
+use Rattle.power_model.specs.Numbers.{PowerModel}
 use Rattle.image_check.proofs.LastLaws.{some_level, no_level}
 use Rattle.image_check.proofs.entries.table_level.Goals as goal
 
@@ -19,7 +20,7 @@ returns-then-has_bad_last c =
     let even = c.requires.rows.0 in
     let low = c.requires.rows.1 in
     some_level c.args.power.now (list_bytes c.args.rows.now.memory) c.args.exit.now c.args.rows.now.first c.args.table start c.places_before-places.result (omega (arith, even, low)) c.loop-i.invariant.few c.places_before-places.ensures
-    c.loop-i.i (omega (arith, c.loop-i-test.true)) (c.has_bad_last.ensures.0 c.if-has_bad_last.true) c.loop-i.invariant.fine
+    c.loop-i.i (let count = c.count-i-end.ensures.count in let same = ap (λ (p : PowerModel). length p.levels) c.power.view_is in omega (arith, count, same)) (c.has_bad_last.ensures.0 c.if-has_bad_last.true) c.loop-i.invariant.fine
 
 pub returns : goal.returns
 returns c =
@@ -27,4 +28,4 @@ returns c =
     let even = c.requires.rows.0 in
     let low = c.requires.rows.1 in
     no_level c.args.power.now (list_bytes c.args.rows.now.memory) c.args.exit.now c.args.rows.now.first c.args.table start c.places_before-places.result (omega (arith, even, low)) c.loop-i.invariant.few c.places_before-places.ensures
-    (λ k lt. c.loop-i.invariant.fine k (omega (arith, lt)))
+    (λ k lt. c.loop-i.invariant.fine k (let count = c.count-i-end.ensures.count in let same = ap (λ (p : PowerModel). length p.levels) c.power.view_is in omega (arith, count, same, lt)))
