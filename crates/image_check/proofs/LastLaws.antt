@@ -1,6 +1,6 @@
 -- Where entries stand last, and that the last row with each entry decides about a table.
-use Rattle.std.proofs.Common.{◌≡◌, ◌⊎◌, inl, inr, ⊎_elim, ℕ, ◌+◌, ◌-◌, ◌*◌, ◌/◌, ◌%◌, ◌^◌, ◌<◌, ◌≤◌, min, Bool, true, false, List, [], ◌∷◌, ◌++◌, length, Option, Some, None, refl, sym, ap, ◌∙◌, subst, arith}
-use Rattle.std.specs.Prelude.{nat_le, slice_index, slice_index_or, replicate}
+use Rattle.std.proofs.Common.{◌≡◌, inl, inr, ⊎_elim, ℕ, ◌+◌, ◌-◌, ◌*◌, ◌/◌, ◌^◌, ◌<◌, ◌≤◌, min, true, List, [], ◌∷◌, ◌++◌, length, Option, Some, None, refl, sym, ap, ◌∙◌, subst, arith}
+use Rattle.std.specs.Prelude.{slice_index, replicate}
 use Rattle.std.proofs.Math.Nat.{mul-le-mul_right, le_trans, mod-lt}
 use Rattle.std.proofs.lemmas.Bool.{leb-true, le-leb, and_parts, and_from, cases_lt, cases_eq, both_ways, false_from_ne_true}
 use Rattle.std.proofs.lemmas.List.{get_or-replicate, get_or_append_left, get_or_push, length_push}
@@ -8,15 +8,14 @@ use Rattle.scale_base.specs.State.{word_at}
 use Rattle.power_model.specs.Levels.{level}
 use Rattle.power_model.specs.Numbers.{PowerModel}
 use Rattle.power_model.specs.Price.{switch_time}
-use Rattle.level_tables.specs.Tables.{EdgeNumbers, is_switch_in_time, pays, meets_both, trips_left, at_row}
+use Rattle.level_tables.specs.Tables.{is_switch_in_time, pays, meets_both, trips_left}
 use Rattle.stored_runs.specs.Meaning.{four_bits}
 use Rattle.paid_runs.specs.Tabled.{IsSafeEntry}
-use Rattle.image_check.specs.Causes.{IsBadEntry}
 use Rattle.image_check.specs.LastRows.{words_from, IsLastBefore, last_of, AreLastBefore, IsOneMore, AreBlocks}
 use Rattle.image_check.specs.Entries.{told_numbers, is_safe, HasBadRow, last_row, told_row, IsExitLevel, IsBadLast, HasBadLast}
 use Rattle.image_check.specs.declared.last_rows.LastPlaces.{LastPlaces}
 use Rattle.image_check.specs.declared.told.ExitTold.{ExitTold}
-use Rattle.image_check.proofs.EntryLaws.{safe_to, safe_from, bad_entry}
+use Rattle.image_check.proofs.EntryLaws.{safe_to, bad_entry}
 
 -- ---- words one by one
 
@@ -134,7 +133,7 @@ module _ (power : PowerModel) (bytes : ℕ → ℕ) (exit : ExitTold) (first tab
       let h = last i j (omega (arith, level, few)) small in
       let entry : four_bits (words_from bytes first (start + row)) i ≡ j = ap (λ x. four_bits x i) (row_word (start + row) row refl) in
       let there : start + row < last_of places i j = ⊎_elim (λ (lt : start + row < last_of places i j). lt)
-          (λ (le : last_of places i j ≤ start + row). absurd (h.behind (start + row) le (omega (arith, low)) entry)) (cases_lt (start + row) (last_of places i j)) in
+      (λ (le : last_of places i j ≤ start + row). absurd (h.behind (start + row) le (omega (arith, low)) entry)) (cases_lt (start + row) (last_of places i j)) in
       let later : row ≤ last_of places i j - 1 - start = omega (arith, there) in (
         j,
         small,

@@ -1,4 +1,4 @@
-use Rattle.std.proofs.Common.{◌≡◌, ◌+◌, ◌-◌, ◌*◌, ◌/◌, length, ap, arith, below_more}
+use Rattle.std.proofs.Common.{◌-◌, ◌/◌, length, ap, arith, below_more}
 use Rattle.std.proofs.lemmas.Bool.{iff_false}
 use Rattle.flat_memory.specs.Lists.{list_bytes}
 use Rattle.power_model.specs.Numbers.{PowerModel}

@@ -1,4 +1,4 @@
-use Rattle.std.proofs.Common.{◌≡◌, ◌+◌, ◌*◌, ◌/◌, ◌++◌, ◌∷◌, [], length, sym, ap, subst, arith}
+use Rattle.std.proofs.Common.{◌≡◌, ◌+◌, ◌*◌, length, sym, ap, subst, arith}
 use Rattle.flat_memory.specs.Lists.{list_bytes}
 use Rattle.image_check.specs.LastRows.{words_from, AreLastBefore, AreBlocks}
 use Rattle.image_check.proofs.LastLaws.{one_block_more}
