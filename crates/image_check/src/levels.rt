@@ -25,8 +25,8 @@ use scale_base::{EdgeKind, NoMemory};
 use std::alloc::Global;
 use worst_cycles::WorstNumbers;
 
-/// What is known of an image: the machine, what the image loads and where entries stand last there, the original's graph and loops, the fragments that are found, the loops of their counters, and the
-/// numbers under the stored weights.
+/// What is known of an image: the machine, what the image loads and where entries stand last there, the original's graph and loops, the fragments that are found,
+/// the loops of their counters, and the numbers under the stored weights.
 #[derive(Clone, Copy)]
 struct Known<'a> {
     power: &'a Power,
