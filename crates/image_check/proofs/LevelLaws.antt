@@ -1,5 +1,5 @@
 -- What edges tell their tables, and which of their entries are not safe.
-use Rattle.std.proofs.Common.{◌≡◌, ℕ, ◌+◌, ◌*◌, ◌/◌, ◌^◌, ◌<◌, ◌≤◌, true, List, [], ◌∷◌, length, Option, Some, None, refl, sym, ap, ◌∙◌, subst, arith}
+use Rattle.std.proofs.Common.{◌≡◌, ℕ, ◌+◌, ◌*◌, ◌/◌, ◌%◌, ◌^◌, ◌<◌, ◌≤◌, true, List, [], ◌∷◌, length, Option, Some, None, refl, sym, ap, ◌∙◌, subst, arith}
 use Rattle.std.specs.Prelude.{◌==◌, slice_get, option_map, is_some}
 use Rattle.std.specs.List.{sum_by}
 use Rattle.std.proofs.lemmas.Bool.{cond-true, eq-eqb}
@@ -41,8 +41,9 @@ use Rattle.image_check.specs.Causes.{IsBadEntry, HasBadEntry}
 use Rattle.image_check.specs.Known.{owner_by, IsFoundIn}
 use Rattle.image_check.specs.Uses.{on_edge}
 use Rattle.image_check.specs.Weights.{foreign_cost}
-use Rattle.image_check.specs.Entries.{IsLeastIn, IsWordLevel, HasBadRow, IsTableLevel, AreRowPlaces}
-use Rattle.image_check.specs.Levels.{IsTailOf, key_end, AreKnownBy, IsBadAt}
+use Rattle.image_check.specs.LastRows.{first_of_key, count_of_key}
+use Rattle.image_check.specs.Entries.{IsLeastIn, IsWordLevel, HasBadRow, IsTableLevel, AreRowsAmong}
+use Rattle.image_check.specs.Levels.{IsTailOf, AreKnownBy, IsBadAt}
 use Rattle.image_check.specs.declared.levels.Known.{Known}
 use Rattle.image_check.proofs.FoundFacts.{on_edge_is}
 use Rattle.image_check.proofs.Rows.{rows}
@@ -83,22 +84,28 @@ pub tail_some : (costs : Costs) (fs : List ForeignFragment) (f : ForeignFragment
 tail_some costs fs f rest cycles e is = λ image l owner.
     ap (λ m. 2 * costs.load + m + costs.jump) (is ∙ sym (alike (cycles_of costs) image l owner rest)) ∙ sym (ap (λ (xs : List ForeignFragment). tail_cycles (cycles_of costs) (all_with_rows image l owner xs)) e)
 
--- ---- rows in the keyed segment are at addresses
+-- ---- rows in the keyed segment are among its words
 
 keyed_is : (image : Image) (o : Option Keyed) (a : ℕ) → image.keyed_segment ≡ o → is_keyed (layout_of image) a ≡ in_option a (option_map (λ k. k.range) o)
 unfolding layout_of
 keyed_is image o a e = ap (λ p. in_option a (option_map (λ k. k.range) p)) e
 
-below_end : (o : Option Keyed) (a : ℕ) → in_option a (option_map (λ k. k.range) o) ≡ true → a < key_end o
-below_end None a e = let bad : ⊥ = cc in absurd bad
-below_end (Some k) a e = grind (arith, nat_tests)
+key_words : (o : Option Keyed) (table last : ℕ) → table % 4 ≡ 0 → in_option (table + 4 * 0 + 0) (option_map (λ k. k.range) o) ≡ true
+    → in_option (table + 4 * last + 3) (option_map (λ k. k.range) o) ≡ true → AreRowsAmong (first_of_key o) (count_of_key o) table last
+key_words None table last even low high = let bad : ⊥ = cc in absurd bad
+key_words (Some k) table last even low high =
+    let from : k.range.from ≤ table = grind (arith, nat_tests) in
+    let to : table + 4 * last + 3 < k.range.to = grind (arith, nat_tests) in
+    (even, omega (arith, from), omega (arith, from, to, even))
 
-pub row_places : (image : Image) (table last end : ℕ) → AreRowsIn image table (last + 1) → end ≡ key_end image.keyed_segment → end < 2 ^ 32 → AreRowPlaces table last
-row_places image table last end rows is fits =
-    let first = (rows 0 (omega arith)).0 in
-    let word = (rows last (omega arith)).1 0 (omega arith) in
-    let low = below_end image.keyed_segment (table + 4 * last + 0) (sym (keyed_is image image.keyed_segment (table + 4 * last + 0) refl) ∙ word) in
-    (omega (arith, first), omega (arith, low, is, fits))
+pub rows_among : (image : Image) (table last first count : ℕ) → AreRowsIn image table (last + 1) → first ≡ first_of_key image.keyed_segment → count ≡ count_of_key image.keyed_segment → AreRowsAmong first count table last
+rows_among image table last first count rows first_is count_is =
+    let key = image.keyed_segment in
+    let low = rows 0 (omega arith) in
+    let high = rows last (omega arith) in
+    let even : table % 4 ≡ 0 = let zero = low.0 in omega (arith, zero) in
+    subst (λ n. AreRowsAmong n count table last) (sym first_is) (subst (λ n. AreRowsAmong (first_of_key key) n table last) (sym count_is)
+    (key_words key table last even (sym (keyed_is image key (table + 4 * 0 + 0) refl) ∙ low.1 0 (omega arith)) (sym (keyed_is image key (table + 4 * last + 3) refl) ∙ high.1 3 (omega arith))))
 
 module _ (x : Known) (original foreign : Image) (found : Found) (w : ℕ → ℕ) (n : Numbers) (least : Charged) (by : AreKnownBy x original foreign found w n least) where
   abbrev v : FlowGraph
@@ -191,7 +198,7 @@ module _ (x : Known) (original foreign : Image) (found : Found) (w : ℕ → ℕ
       (subst (λ y. IsWordLevel x.power.now y word level) same h)
 
   pub exit_is : (e to counter shift table k bound iteration : ℕ) (rest : List ForeignFragment) (a : EdgeNumbers) (level : Option ℕ) → e < length x.graph.now.code.edges → g.target e ≡ Some to → on_edge x.sites.now e ≡ Exit counter shift table ∷ rest → a ≡ told e
-      → owner counter ≡ Some k → bound ≡ l.bound k → iteration ≡ n.iteration k → IsTableLevel x.power.now (list_bytes x.memory.now) a bound iteration shift table (bound / 2 ^ shift + 1) level → IsLeastIn (IsBadAt x foreign found w n least e) level
+      → owner counter ≡ Some k → bound ≡ l.bound k → iteration ≡ n.iteration k → IsTableLevel x.power.now (list_bytes x.rows.now.memory) a bound iteration shift table (bound / 2 ^ shift + 1) level → IsLeastIn (IsBadAt x foreign found w n least e) level
   exit_is e to counter shift table k bound iteration rest a level lt leads on same own bound_is iteration_is h =
       let here : IsTableLevel x.power.now (loaded_byte foreign) (told e) (l.bound k) (n.iteration k) shift table (l.bound k / 2 ^ shift + 1) level =
       subst (λ b. IsTableLevel x.power.now (loaded_byte foreign) (told e) b (n.iteration k) shift table (b / 2 ^ shift + 1) level) bound_is
@@ -241,12 +248,12 @@ module _ (x : Known) (original foreign : Image) (found : Found) (w : ℕ → ℕ
         whole = subst (λ y. HaveWholeExtents y l is.tree.0) e is.tree.1.whole;
       }
 
-  pub exit_rows : (e counter shift table k bound end : ℕ) (rest : List ForeignFragment) → e < length x.graph.now.code.edges → on_edge x.sites.now e ≡ Exit counter shift table ∷ rest → owner counter ≡ Some k → bound ≡ l.bound k → end ≡ x.key_end → end < 2 ^ 32
-      → AreRowPlaces table (bound / 2 ^ shift)
-  exit_rows e counter shift table k bound end rest lt on own bound_is end_is fits =
+  pub exit_rows : (e counter shift table k bound : ℕ) (rest : List ForeignFragment) → e < length x.graph.now.code.edges → on_edge x.sites.now e ≡ Exit counter shift table ∷ rest → owner counter ≡ Some k → bound ≡ l.bound k
+      → AreRowsAmong x.rows.now.first x.rows.now.count table (bound / 2 ^ shift)
+  exit_rows e counter shift table k bound rest lt on own bound_is =
       let edge = some_get x.graph.now.code.edges e lt in
       let fs : found edge.0.at edge.0.kind ≡ Exit counter shift table ∷ rest = sym (on_edge_is original foreign x.graph.now x.tree.now found x.sites.now is e edge.0 edge.1) ∙ on in
       let owners : AreOwners (text_graph (text_of original) x.graph.now.code) x.graph.now.code l found owner = subst (λ y. AreOwners y x.graph.now.code l found owner) (sym is.code.graph_is) by.known.owners_are in
       let all = rows original foreign x.graph.now.code l is.tree.0 owner found prog is.scanned owners edge.0.at edge.0.kind counter shift table (0, ap (λ xs. slice_get xs 0) fs) in
       let count : owner_bound l (owner counter) ≡ bound = ap (owner_bound l) own ∙ sym bound_is in
-      row_places foreign table (bound / 2 ^ shift) end (subst (λ b. AreRowsIn foreign table (b / 2 ^ shift + 1)) count all) (end_is ∙ by.key) fits
+      rows_among foreign table (bound / 2 ^ shift) x.rows.now.first x.rows.now.count (subst (λ b. AreRowsIn foreign table (b / 2 ^ shift + 1)) count all) by.first by.count

@@ -9,6 +9,7 @@ pub mod Tuned
 pub mod Promised
 pub mod Loaded
 pub mod EntryLaws
+pub mod LastLaws
 pub mod TreeFacts
 pub mod FoundFacts
 pub mod UseLaws

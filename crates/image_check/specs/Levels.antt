@@ -1,7 +1,6 @@
 -- The least level for which an entry is not safe, of an edge, of the edges of a node, and of all.
 use Rattle.std.specs.Prelude.{◌≡◌, ℕ, ◌<◌, Bool, true, false, List, ◌∷◌, length, slice_get, slice_index, Option, Some, None}
 use Rattle.scale_base.specs.Image.{Image, loaded_byte}
-use Rattle.scale_base.specs.declared.ranges.Keyed.{Keyed}
 use Rattle.scale_base.specs.declared.edges.Edge.{Edge}
 use Rattle.scale_base.specs.declared.edges.EdgeKind.{EdgeKind}
 use Rattle.scale_base.specs.declared.edges.EdgeKind.TheVariants.{Taken, Untaken, Jump, Next, CallNext, End}
@@ -22,24 +21,21 @@ use Rattle.image_check.specs.Safe.{Owner, all_with_rows}
 use Rattle.image_check.specs.Causes.{IsBadLevel}
 use Rattle.image_check.specs.Known.{owner_by, AreKnown, IsLevelsAnswer}
 use Rattle.image_check.specs.Uses.{on_edge}
+use Rattle.image_check.specs.LastRows.{first_of_key, count_of_key}
 use Rattle.image_check.specs.Entries.{told_numbers, IsLeastIn}
-use Rattle.image_check.specs.declared.entries.Told.{Told}
+use Rattle.image_check.specs.declared.told.Told.{Told}
 use Rattle.image_check.specs.declared.levels.Known.{Known}
 
 -- the cycles behind the store of an edge with these fragments, whatever rows their tables have
 abbrev pub IsTailOf : Costs → List ForeignFragment → ℕ → Type 0
 IsTailOf costs fs tail = (image : Image) (l : Loops) (owner : Owner) → tail ≡ tail_cycles (cycles_of costs) (all_with_rows image l owner fs)
 
--- where a keyed segment ends
-abbrev pub key_end : Option Keyed → ℕ
-key_end None = 0
-key_end (Some k) = k.range.to
-
 -- what is known, of an image that loads the bytes of the memory
 pub record AreKnownBy (x : Known) (original foreign : Image) (found : Found) (w : ℕ → ℕ) (n : Numbers) (least : Charged) : Type 0 where
   pub known : AreKnown original foreign x.graph.now x.tree.now x.sites.now x.owners.now x.worst.now x.least.now found w n least
-  pub bytes : list_bytes x.memory.now ≡ loaded_byte foreign
-  pub key : x.key_end ≡ key_end foreign.keyed_segment
+  pub bytes : list_bytes x.rows.now.memory ≡ loaded_byte foreign
+  pub first : x.rows.now.first ≡ first_of_key foreign.keyed_segment
+  pub count : x.rows.now.count ≡ count_of_key foreign.keyed_segment
 
 abbrev pub IsKnown : Known → Type 0
 IsKnown x = (original foreign : Image) × (found : Found) × (w : ℕ → ℕ) × (n : Numbers) × (least : Charged) × AreKnownBy x original foreign found w n least

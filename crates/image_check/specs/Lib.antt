@@ -8,6 +8,7 @@ pub mod Checked
 pub mod SafeRuns
 pub mod Checks
 pub mod Uses
+pub mod LastRows
 pub mod Entries
 pub mod Weights
 pub mod Levels

@@ -1,20 +1,14 @@
 //! The entries of words and of tables, and which of them are safe.
 
-ghost use Rattle.std.specs.Prelude.{◌≡◌, ◌<◌, ◌≤◌, ◌+◌, ◌*◌, ◌/◌, ◌%◌, ◌^◌, length, IfSome};
+ghost use Rattle.std.specs.Prelude.{◌≡◌, ◌↔◌, ◌<◌, ◌≤◌, ◌+◌, ◌/◌, ◌^◌, ℕ, true, length, IfSome};
 ghost use Rattle.flat_memory.specs.Lists.{list_bytes};
 ghost use Rattle.level_tables.specs.Tables as tables;
-ghost use Rattle.image_check.specs.Entries.{told_numbers, is_safe, IsWordLevel, IsTableLevel, AreRowPlaces, lesser_level};
+ghost use Rattle.image_check.specs.LastRows.{last_of};
+ghost use Rattle.image_check.specs.Entries.{told_numbers, is_safe, IsWordLevel, IsExitLevel, AreRowsAmong, HasBadLast, last_row, told_row};
 
-use flat_memory::{ListMemory, Memory};
+use crate::last_rows::{LastPlaces, LastRows};
+use crate::told::{ExitTold, Told};
 use power_model::Power;
-
-/// What an edge tells its table, in cycles: its slack, what is left at most behind the store at the port, and at least, where an end is ahead.
-#[derive(Clone, Copy, Debug, Drop)]
-pub struct Told {
-    pub slack: u64,
-    pub left: u64,
-    pub least: Option<u128>,
-}
 
 /// Whether a change from level i to a lower one is in time: what is left, at the lower level, and the change take no longer than what is left and the slack, at i.
 fn is_in_time(power: &Power, told: &Told, i: u8, lower: u8) -> bool
@@ -83,58 +77,61 @@ fn trips_left(bound: u32, shift: u8, row: u32) -> u32
     }
 }
 
-/// What a row of a table is told: the edge's slack, and that of the turns which the row's counts leave.
-fn told_row(told: &Told, bound: u32, iteration: u64, shift: u8, row: u32) -> Told
-    requires bound { bound ≤ 1000000000 }
-    requires shift { shift < 32 }
-    requires row { row ≤ bound / 2 ^ shift }
-    requires slack { told.now.slack ≤ 2 ^ 50 }
-    requires turns { bound * iteration ≤ 2 ^ 48 }
-    ensures told { told_numbers result ≡ tables.at_row bound iteration shift (told_numbers told.now) row }
-    ensures same { result.least ≡ told.now.least }
+/// What an exit tells a row of its table: its numbers, with the slack also of the turns which the row's counts leave.
+fn told_row(exit: &ExitTold, row: u32) -> Told
+    requires { row ≤ last_row exit.now }
+    ensures told { told_numbers result ≡ told_row exit.now row }
+    ensures same { result.least ≡ exit.now.told.least }
 {
-    let trips = trips_left(bound, shift, row);
+    let trips = trips_left(exit.bound, exit.shift, row);
     Told {
-        slack: told.slack + u64::from(trips) * iteration,
-        left: told.left,
-        least: told.least,
+        slack: exit.told.slack + u64::from(trips) * exit.iteration,
+        left: exit.told.left,
+        least: exit.told.least,
     }
 }
 
-/// The lesser of two levels that may be missing.
-fn lesser(one: Option<u8>, other: Option<u8>) -> Option<u8>
-    ensures { result ≡ lesser_level one other }
+/// Whether an entry for level i is safe in a row.
+fn is_safe_in_row(power: &Power, exit: &ExitTold, row: u32, i: u8, entry: u8) -> bool
+    requires level { i < length power.now.levels }
+    requires row { row ≤ last_row exit.now }
+    requires least { IfSome exit.now.told.least (λ z. z < 2 ^ 90) }
+    ensures { result ≡ is_safe power.now (told_row exit.now row) i entry }
 {
-    match (one, other) {
-        (Some(i), Some(j)) => Some(i.min(j)),
-        (None, level) => level,
-        (level, None) => level,
-    }
+    let told = told_row(exit, row);
+    is_safe(power, &told, i, entry)
 }
 
-/// The least level for which an entry isn't safe in one of the rows 0 to `bound >> shift` of a table, each with the slack of the turns that its counts leave.
-pub fn table_level(
-    power: &Power,
-    memory: &ListMemory,
-    told: &Told,
-    bound: u32,
-    iteration: u64,
-    shift: u8,
-    table: u32,
-) -> Option<u8>
-    requires bound { bound ≤ 1000000000 }
-    requires shift { shift < 32 }
-    requires slack { told.now.slack ≤ 2 ^ 50 }
-    requires turns { bound * iteration ≤ 2 ^ 48 }
-    requires least { IfSome told.now.least (λ z. z < 2 ^ 90) }
-    requires rows { AreRowPlaces table (bound / 2 ^ shift) }
-    ensures { IsTableLevel power.now (list_bytes memory.now) (told_numbers told.now) bound iteration shift table (bound / 2 ^ shift + 1) result }
+/// Whether an entry for level i isn't safe in the last row that has it, of the rows from word `start` on.
+fn has_bad_last(power: &Power, exit: &ExitTold, start: u32, places: &LastPlaces, i: u8) -> bool
+    requires level { i < length power.now.levels }
+    requires few { i < 8 }
+    requires rows { (j : ℕ) → j < 16 → last_of places.now i j ≤ start + last_row exit.now + 1 }
+    requires least { IfSome exit.now.told.least (λ z. z < 2 ^ 90) }
+    ensures { (result ≡ true) ↔ HasBadLast power.now exit.now start places.now i }
 {
-    let mut least = None;
-    for row in 0..(bound >> shift) + 1 {
-        let row_told = told_row(told, bound, iteration, shift, row);
-        let word = memory.word(table + 4 * row);
-        least = lesser(least, word_level(power, &row_told, word));
+    for entry in 0..16u8 {
+        let last = places.get(i, entry);
+        if last > start && !is_safe_in_row(power, exit, last - 1 - start, i, entry) {
+            return true;
+        }
     }
-    least
+    false
+}
+
+/// The least level for which an entry isn't safe in one of the rows of an exit's table. An entry that is safe in a row is safe in the rows before it, so the last
+/// row that has the entry decides: fewer than 64 words are read, however many rows there are.
+pub fn table_level(power: &Power, rows: &LastRows, exit: &ExitTold, table: u32) -> Option<u8>
+    requires rows { AreRowsAmong rows.now.first rows.now.count table (last_row exit.now) }
+    requires least { IfSome exit.now.told.least (λ z. z < 2 ^ 90) }
+    ensures { IsExitLevel power.now (list_bytes rows.now.memory) exit.now table result }
+{
+    let start = table / 4 - rows.first;
+    let places = rows.places_before(start + (exit.bound >> exit.shift) + 1);
+    for i in 0..power.levels.count() {
+        if has_bad_last(power, exit, start, &places, i) {
+            return Some(i);
+        }
+    }
+    None
 }

@@ -8,46 +8,35 @@ ghost use Rattle.loop_tree.specs.Tree.{loops};
 ghost use Rattle.foreign_scan.specs.declared.fragment.ForeignFragment.{ForeignFragment};
 ghost use Rattle.foreign_scan.specs.Scanned.{Found};
 ghost use Rattle.image_check.specs.Known.{owner_by, HasKnown, AreKnown, IsLevelsAnswer};
-ghost use Rattle.image_check.specs.Levels.{key_end, IsTailOf, IsKnown, LeadsOn, IsFirstOn, IsToldOn, IsEdgeLevel, is_taken_edge, IsSortLevel, IsBothLevel, IsNodeLevel, IsFirstLevel};
+ghost use Rattle.image_check.specs.Levels.{IsTailOf, IsKnown, LeadsOn, IsFirstOn, IsToldOn, IsEdgeLevel, is_taken_edge, IsSortLevel, IsBothLevel, IsNodeLevel, IsFirstLevel};
 
-use crate::entries::{Told, table_level, word_level};
+use crate::entries::{table_level, word_level};
+use crate::last_rows::{LastRows, read_rows};
 use crate::owners::OwnerList;
+use crate::told::{ExitTold, Told};
 use crate::weights::fragments_cycles;
 use code_graph::CodeGraph;
 use elf_view::ImageView;
-use flat_memory::{ListMemory, load_list};
 use foreign_scan::{ForeignFragment, ForeignSites};
 use least_cycles::LeastNumbers;
 use loop_tree::LoopTree;
 use power_model::{Costs, Power};
-use scale_base::{EdgeKind, Keyed, NoMemory};
+use scale_base::{EdgeKind, NoMemory};
 use std::alloc::Global;
 use worst_cycles::WorstNumbers;
 
-/// What is known of an image: the machine, what the image loads, the original's graph and loops, the fragments that are found, the loops of their counters, and the
-/// numbers under the stored weights.
+/// What is known of an image: the machine, what the image loads and where entries stand last there, the original's graph and loops, the fragments that are found,
+/// the loops of their counters, and the numbers under the stored weights.
 #[derive(Clone, Copy)]
 struct Known<'a> {
     power: &'a Power,
-    memory: &'a ListMemory,
-    /// The end of the keyed segment.
-    key_end: u32,
+    rows: &'a LastRows,
     graph: &'a CodeGraph,
     tree: &'a LoopTree,
     sites: &'a ForeignSites,
     owners: &'a OwnerList,
     worst: &'a WorstNumbers,
     least: &'a LeastNumbers,
-}
-
-/// Where a keyed segment ends: 0 where there is none.
-fn key_end(key: Option<Keyed>) -> u32
-    ensures { result ≡ key_end key }
-{
-    match key {
-        Some(keyed) => keyed.range.to,
-        None => 0,
-    }
 }
 
 /// The cycles of two loads.
@@ -123,16 +112,8 @@ fn switch_level(known: &Known<'_>, e: usize, word: u32) -> Option<u8>
 }
 
 /// The same where its first fragment is an Exit.
-fn exit_level(
-    known: &Known<'_>,
-    key_end: u32,
-    e: usize,
-    counter: u16,
-    shift: u8,
-    table: u32,
-) -> Option<u8>
+fn exit_level(known: &Known<'_>, e: usize, counter: u16, shift: u8, table: u32) -> Option<u8>
     requires known { IsKnown known.now }
-    requires key { key_end ≡ known.now.key_end }
     requires leads { LeadsOn known.now e }
     requires exit { IsFirstOn known.now e (ForeignFragment.Exit counter shift table) }
     ensures { IsEdgeLevel known.now e result }
@@ -143,15 +124,13 @@ fn exit_level(
     let bound = known.tree.bound(k);
     let iteration = known.worst.iteration(k);
     let told = told_at(known, e);
-    table_level(
-        known.power,
-        known.memory,
-        &told,
+    let exit = ExitTold {
+        told,
         bound,
         iteration,
         shift,
-        table,
-    )
+    };
+    table_level(known.power, known.rows, &exit, table)
 }
 
 /// The same where its first fragment is this one.
@@ -167,7 +146,7 @@ fn fragment_level(known: &Known<'_>, e: usize, first: ForeignFragment) -> Option
             counter,
             shift,
             table,
-        } => exit_level(known, known.key_end, e, counter, shift, table),
+        } => exit_level(known, e, counter, shift, table),
         ForeignFragment::Reset { counter: _other } => None,
         ForeignFragment::Count { counter: _other } => None,
     }
@@ -289,7 +268,8 @@ fn first_level(known: &Known<'_>) -> Option<(u32, u8)>
 
 /// The address and the level of the first entry of a table that leads to a higher level, or to a lower one without meeting both tests with its row's slack: at the
 /// least address, at one address on the untaken edge before the taken one, and there for the least level, over all rows. None exactly where all are safe. Reads each
-/// row of an edge's table once; takes the memory of the foreign image while it looks. Err only for want of memory.
+/// word of the keyed segment once, and then fewer than 64 for an exit, however many rows its table has; takes the memory of the foreign image, and twice that
+/// of its keyed segment, while it looks. Err only for want of memory.
 pub fn first_bad_level(
     alloc: Global,
     power: &Power,
@@ -304,11 +284,10 @@ pub fn first_bad_level(
     requires { HasKnown foreign.now graph.now tree.now sites.now owners.now worst.now least.now }
     ensures { (original : Image) (found : Found) (w : ℕ → ℕ) (n : Numbers) (charged : Charged) → AreKnown original foreign.now graph.now tree.now sites.now owners.now worst.now least.now found w n charged → IfOk result (λ answer. IsLevelsAnswer power.now foreign.now graph.now (loops graph.now tree.now) (owner_by owners.now) w n charged found answer) }
 {
-    let memory = load_list(alloc, foreign)?;
+    let rows = read_rows(alloc, foreign)?;
     Ok(first_level(&Known {
         power,
-        memory: &memory,
-        key_end: key_end(foreign.keyed()),
+        rows: &rows,
         graph,
         tree,
         sites,

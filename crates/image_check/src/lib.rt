@@ -8,9 +8,11 @@ ghost use Rattle.image_check.specs.PacedLaws.{PacedImagesAreBudgeted, PacedImage
 
 mod checking;
 mod entries;
+mod last_rows;
 mod levels;
 mod owners;
 mod passing;
+mod told;
 mod uses;
 mod weights;
 

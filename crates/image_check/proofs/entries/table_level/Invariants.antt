@@ -1,6 +1,9 @@
-use Rattle.flat_memory.specs.Lists.{list_bytes}
-use Rattle.image_check.specs.Entries.{told_numbers, IsTableLevel}
+use Rattle.std.proofs.Common.{ℕ, ◌<◌, ◌≤◌, length}
+use Rattle.image_check.specs.Entries.{HasBadLast}
 use Rattle.image_check.proofs.entries.table_level.Given as goal
 
-abbrev pub invariant-loop-row : goal.invariant-loop-row
-invariant-loop-row l = IsTableLevel l.power (list_bytes l.memory) (told_numbers l.told) l.bound l.iteration l.shift l.table l.row l.least
+abbrev pub invariant-loop-i : goal.invariant-loop-i
+invariant-loop-i l = record {
+  few : length l.power.levels ≤ 8;
+  fine : (k : ℕ) → k < l.i → HasBadLast l.power l.exit l.start l.places k → ⊥;
+}

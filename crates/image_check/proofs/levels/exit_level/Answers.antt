@@ -21,18 +21,18 @@ iteration-iteration-requires c =
     let size = k.6.known.weighed.iterations_size in
     omega (arith, low, size)
 
-pub table_level-requires-clause-bound : goal.table_level-requires-clause-bound
-table_level-requires-clause-bound c = c.requires.known.6.known.found_is.tree.1.bound c.in-Some.k c.bound-bound.result c.bound-bound.ensures
+pub invariant_of-exit-clause-small_bound : goal.invariant_of-exit-clause-small_bound
+invariant_of-exit-clause-small_bound c = c.requires.known.6.known.found_is.tree.1.bound c.in-Some.k c.bound-bound.result c.bound-bound.ensures
 
-pub table_level-requires-clause-shift : goal.table_level-requires-clause-shift
-table_level-requires-clause-shift c =
+pub invariant_of-exit-clause-small_shift : goal.invariant_of-exit-clause-small_shift
+invariant_of-exit-clause-small_shift c =
     let k = c.requires.known in
     let fine = fine_on k.0 k.1 c.args.known.now.graph.now c.args.known.now.tree.now k.2 c.args.known.now.sites.now k.6.known.found_is c.args.e c.requires.leads.0 in
     let all = subst (λ (fs : List ForeignFragment). All IsForeign fs) c.requires.exit.1 fine.foreign in
     (all 0 (Exit c.args.counter c.args.shift c.args.table) (omega arith)).1
 
-pub table_level-requires-clause-turns : goal.table_level-requires-clause-turns
-table_level-requires-clause-turns c =
+pub invariant_of-exit-clause-small_turns : goal.invariant_of-exit-clause-small_turns
+invariant_of-exit-clause-small_turns c =
     let k = c.requires.known in
     let low = exit_loop c.args.known.now k.0 k.1 k.2 k.3 k.4 k.5 k.6 c.args.e c.args.counter c.args.shift c.args.table c.in-Some.k c.requires.exit.0 c.requires.leads.0 c.requires.exit.1 (sym c.in-Some.ensures) in
     let bound_is = get_or_from_slice_get c.args.known.now.tree.now.bounds c.in-Some.k c.bound-bound.result 0 c.bound-bound.ensures in
@@ -43,8 +43,8 @@ pub table_level-requires-clause-rows : goal.table_level-requires-clause-rows
 table_level-requires-clause-rows c =
     let k = c.requires.known in
     let bound_is = get_or_from_slice_get c.args.known.now.tree.now.bounds c.in-Some.k c.bound-bound.result 0 c.bound-bound.ensures in
-    exit_rows c.args.known.now k.0 k.1 k.2 k.3 k.4 k.5 k.6 c.args.e c.args.counter c.args.shift c.args.table c.in-Some.k c.bound-bound.result c.args.key_end c.requires.exit.0 c.requires.leads.0 c.requires.exit.1 (sym c.in-Some.ensures)
-    (sym bound_is) c.requires.key (omega (arith, c.ranges.key_end.fits))
+    exit_rows c.args.known.now k.0 k.1 k.2 k.3 k.4 k.5 k.6 c.args.e c.args.counter c.args.shift c.args.table c.in-Some.k c.bound-bound.result c.requires.exit.0 c.requires.leads.0 c.requires.exit.1 (sym c.in-Some.ensures)
+    (sym bound_is)
 
 pub returns : goal.returns
 returns c = λ original foreign found w n least by.

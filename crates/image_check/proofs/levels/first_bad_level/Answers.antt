@@ -1,5 +1,3 @@
-use Rattle.std.proofs.Common.{ap, ◌∙◌}
-use Rattle.image_check.specs.Levels.{key_end}
 use Rattle.image_check.proofs.levels.first_bad_level.Goals as goal
 
 pub first_level-requires : goal.first_level-requires
@@ -12,14 +10,16 @@ first_level-requires c = (
   c.requires.4,
   record {
     known = c.requires.5;
-    bytes = c.in_ok-memory.ensures.bytes;
-    key = c.key_end.ensures ∙ ap key_end c.keyed.ensures;
+    bytes = c.in_ok-rows.ensures.bytes;
+    first = c.in_ok-rows.ensures.first;
+    count = c.in_ok-rows.ensures.count;
   },
 )
 
 pub returns : goal.returns
 returns c = λ original found w n charged known. c.first_level.ensures original c.args.foreign.now found w n charged (record {
   known = known;
-  bytes = c.in_ok-memory.ensures.bytes;
-  key = c.key_end.ensures ∙ ap key_end c.keyed.ensures;
+  bytes = c.in_ok-rows.ensures.bytes;
+  first = c.in_ok-rows.ensures.first;
+  count = c.in_ok-rows.ensures.count;
 })

@@ -1,4 +1,5 @@
-use Rattle.std.proofs.Common.{◌≡◌, ◌+◌, ◌≤◌, List, [], length, refl, sym, ap, ◌∙◌, subst, arith}
+use Rattle.std.proofs.Common.{◌≡◌, ℕ, ◌+◌, ◌^◌, ◌<◌, ◌≤◌, List, [], length, Option, Some, None, refl, sym, ap, ◌∙◌, subst, arith}
+use Rattle.std.specs.Prelude.{IfSome}
 use Rattle.std.proofs.lemmas.Option.{get_or_from_slice_get}
 use Rattle.foreign_scan.specs.declared.fragment.ForeignFragment.{ForeignFragment}
 use Rattle.power_model.specs.Switches.{costs_of}
@@ -9,7 +10,7 @@ use Rattle.image_check.specs.Known.{owner_by}
 use Rattle.image_check.specs.Uses.{on_edge}
 use Rattle.image_check.specs.Entries.{told_numbers}
 use Rattle.image_check.proofs.FoundFacts.{fine_on}
-use Rattle.image_check.proofs.LevelLaws.{slack_small, rest_small, told_is}
+use Rattle.image_check.proofs.LevelLaws.{slack_small, rest_small, after_small, told_is}
 use Rattle.image_check.proofs.levels.told_at.Goals as goal
 
 pub fragments-requires : goal.fragments-requires
@@ -32,6 +33,15 @@ rest-rest-requires c = let lt = c.requires.leads.0 in let size = c.requires.know
 
 pub to_end_after-requires : goal.to_end_after-requires
 to_end_after-requires c = let lt = c.requires.leads.0 in let size = c.requires.known.6.known.weighed.after_size in omega (arith, lt, size)
+
+small_if : (o : Option ℕ) (n : ℕ) → ((z : ℕ) → o ≡ Some z → z < n) → IfSome o (λ z. z < n)
+small_if None n h = tt
+small_if (Some z) n h = h z refl
+
+pub plus-least-requires-clause-small : goal.plus-least-requires-clause-small
+plus-least-requires-clause-small c =
+    let known = c.requires.known in
+    small_if c.to_end_after.result (2 ^ 89) (λ z e. after_small c.args.known.now known.0 known.1 known.2 known.3 known.4 known.5 known.6 c.args.e z c.to_end_after.result c.requires.leads.0 c.to_end_after.ensures e)
 
 pub overflow_add-result : goal.overflow_add-result
 overflow_add-result c =
