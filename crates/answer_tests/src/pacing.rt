@@ -23,7 +23,7 @@ fn paced(
         return Err(Fail::from("files that are too long"));
     }
     Ok(
-        pace(alloc, image, machine.as_bytes(), NO_LOOPS.as_bytes(), sites)
+        pace(alloc, image, machine.as_bytes(), NO_LOOPS.as_bytes(), sites, true)
             .ok()
             .ok_or("paced")?,
     )

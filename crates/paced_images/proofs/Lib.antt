@@ -15,5 +15,6 @@ mod PacedWeights
 mod PacedCounts
 mod PacedTables
 mod Ended
+mod Uncounted
 mod PacedRuns
 mod PacedSafe

@@ -5,6 +5,7 @@ ghost use Rattle.scale_base.specs.Answer.{AnswersBy};
 ghost use Rattle.scale_base.specs.Image.{image_of};
 ghost use Rattle.power_model.specs.Numbers.{IsPowerModel};
 ghost use Rattle.scaler.specs.Promise.{IsStoredSafely};
+ghost use Rattle.scaler.specs.RewrittenAs as variant;
 ghost use Rattle.paced_images.specs.Paced.{IsPaced, IsPacedProgram};
 
 use crate::scaling::{marked_of, scaling_of, stored_file};
@@ -37,6 +38,13 @@ fn pace_program(
     Ok((bytes, scaling.summary))
 }
 
+/// The notes as they are, or with no loop counted.
+fn notes_with(counted: bool, notes: LoopNotes) -> LoopNotes
+    ensures { result ≡ variant.notes_with counted notes }
+{
+    if counted { notes } else { notes.uncounted() }
+}
+
 /// The image with its stubs, or the first refusal.
 fn pace_files(
     alloc: Global,
@@ -44,18 +52,21 @@ fn pace_files(
     machine: &[u8],
     loops: &[u8],
     sites: &[SwitchSite],
+    counted: bool,
 ) -> Result<(Vec<u8>, Summary), Stop>
     requires { length image.now ≤ 4194304 }
-    ensures { AnswersBy (λ given. (given.0.items, given.1)) result (IsPaced image.now machine.now loops.now sites.now) }
+    ensures { AnswersBy (λ given. (given.0.items, given.1)) result (IsPaced image.now machine.now loops.now sites.now counted) }
 {
     let power = read_machine(alloc, machine)?;
     let view = read_image(alloc, image)?;
     check_unscaled(view.keyed())?;
     let notes = read_loops(alloc, loops, &view)?;
+    let notes = notes_with(counted, notes);
     pace_program(alloc, &view, &power, &notes, sites)
 }
 
 /// The image with switches of level on the edges that the sites name, and with those of its counted loops, as `rewrite` makes it in all else.
+/// Without `counted` no loop is counted, whatever the loop file notes.
 /// The tables keep budgets: the starting level has the time of the worst cycles there, and each other level the deadline, so that a switch
 /// lowers the level also where its own edge has no slack. Or the first refusal, in the order of `rewrite`.
 ///
@@ -70,14 +81,15 @@ pub fn pace(
     machine: &[u8],
     loops: &[u8],
     sites: &[SwitchSite],
+    counted: bool,
 ) -> Result<(Vec<u8>, Summary), Stop>
     requires image { length image.now ≤ 4194304 }
     requires machine { length machine.now ≤ 1048576 }
     requires loops { length loops.now ≤ 1048576 }
-    ensures given { AnswersBy (λ given. (given.0.items, given.1)) result (IsPaced image.now machine.now loops.now sites.now) }
+    ensures given { AnswersBy (λ given. (given.0.items, given.1)) result (IsPaced image.now machine.now loops.now sites.now counted) }
 
     // On each input on which the original run exits and is kept, the stored run keeps the promise.
     ensures safe { IfOk result (λ given. IsStoredSafely image.now machine.now loops.now given.0.items given.1) }
 {
-    pace_files(alloc, image, machine, loops, sites)
+    pace_files(alloc, image, machine, loops, sites, counted)
 }
