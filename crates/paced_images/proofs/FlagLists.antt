@@ -73,14 +73,14 @@ module _ (v : FlowGraph) (site : SwitchSite) where
           (λ (high : n ≤ e). ⊎_elim (λ (far : n < e). off e lt (λ same. omega arith)) (λ (le : e ≤ n). at e (omega arith)) (cases_lt n e)) (cases_lt e n)
 
   pub raised_not : (n : ℕ) (old flags : List Bool) → named n ≡ false → AreRaised v site n old flags → AreRaised v site (n + 1) old flags
-  raised_not n old flags no are = record { size = are.size; each = λ e lt. are.each e lt ∙ ap (λ b. flag_at old e || b) (same e) }
+  raised_not n old flags off are = record { size = are.size; each = λ e lt. are.each e lt ∙ ap (λ b. flag_at old e || b) (same e) }
     where
       same : (e : ℕ) → (nat_lt e n && named e) ≡ (nat_lt e (n + 1) && named e)
       same e = by (named e) refl
         where
           by : (b : Bool) → named e ≡ b → (nat_lt e n && b) ≡ (nat_lt e (n + 1) && b)
           by false is = and-false (nat_lt e n) ∙ sym (and-false (nat_lt e (n + 1)))
-          by true is = ap (λ t. t && true) (tests_same e n (λ at. let two : true ≡ false = sym is ∙ (ap named at ∙ no) in let bad : ⊥ = cc in bad))
+          by true is = ap (λ t. t && true) (tests_same e n (λ at. let two : true ≡ false = sym is ∙ (ap named at ∙ off) in let bad : ⊥ = cc in bad))
 
   pub raised_all : (n m : ℕ) (old flags : List Bool) → ((e : ℕ) → e < length old → named e ≡ true → (e < n) × (e < m)) → AreRaised v site n old flags → AreRaised v site m old flags
   raised_all n m old flags low are = record { size = are.size; each = λ e lt. are.each e lt ∙ ap (λ b. flag_at old e || b) (same e lt) }

@@ -50,9 +50,9 @@ pub fn edges_at(graph: &CodeGraph, at: u32) -> (usize, usize)
 }
 
 /// Raises the flag of each edge that a site names.
-fn raise(flags: &mut [bool], graph: &CodeGraph, site: SwitchSite)
-    requires { length flags.old ≡ length graph.now.code.edges }
-    ensures { AreRaised graph.now site (length graph.now.code.edges) flags.old flags.new }
+fn raise(flags: &mut Vec<bool>, graph: &CodeGraph, site: SwitchSite)
+    requires { length flags.old.items ≡ length graph.now.code.edges }
+    ensures { AreRaised graph.now site (length graph.now.code.edges) flags.old.items flags.new.items }
 {
     let (first, end) = edges_at(graph, site.at);
     for e in first..end {
