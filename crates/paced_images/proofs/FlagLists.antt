@@ -1,7 +1,6 @@
 -- Flags are raised site by site.
-use Rattle.std.proofs.Common.{◌≡◌, ℕ, zero, suc, ◌+◌, ◌<◌, ◌≤◌, Bool, true, false, ◌&&◌, List, [], ◌∷◌, length, take, replicate, slice_get, slice_set, Option, Some, None, refl, sym, ap, ◌∙◌, arith, eqb-true, ⊎_elim}
-use Rattle.std.specs.Prelude.{◌||◌, ◌==◌, ◌↔◌, nat_lt, slice_index, slice_index_or}
-use Rattle.std.specs.List.{list_any}
+use Rattle.std.proofs.Common.{◌≡◌, ℕ, ◌+◌, ◌<◌, ◌≤◌, Bool, true, false, ◌&&◌, List, [], length, take, replicate, slice_get, slice_set, Option, Some, None, refl, sym, ap, ◌∙◌, arith, eqb-true, ⊎_elim}
+use Rattle.std.specs.Prelude.{◌||◌, ◌==◌, nat_lt, slice_index_or}
 use Rattle.std.proofs.lemmas.Bool.{and_parts, cases_lt}
 use Rattle.std.proofs.lemmas.Bool.Decides.{nat_tests}
 use Rattle.std.proofs.lemmas.List.{get_or-set_same, get_or-set_other, get_or-replicate, length-set, length-replicate}
@@ -14,7 +13,7 @@ use Rattle.code_graph.specs.FlowGraph.{FlowGraph}
 use Rattle.scale_sites.specs.Sites.{flag_at}
 use Rattle.paced_images.specs.declared.wanted.SwitchSite.{SwitchSite}
 use Rattle.paced_images.specs.Flags.{AreFlags, AreRaised}
-use Rattle.paced_images.specs.Wanted.{same_kind, names, names_some, any_names, wanted_by}
+use Rattle.paced_images.specs.Wanted.{same_kind, names, names_some, any_names}
 
 -- ---- what a site names starts at its address
 

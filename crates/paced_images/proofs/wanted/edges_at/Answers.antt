@@ -1,4 +1,4 @@
-use Rattle.std.proofs.Common.{◌≡◌, ℕ, ◌<◌, ◌≤◌, Some, sym, subst, ◌∙◌, arith}
+use Rattle.std.proofs.Common.{◌≡◌, ◌<◌, ◌≤◌, subst, arith}
 use Rattle.std.specs.Prelude.{◌↔◌, slice_get, slice_index}
 use Rattle.std.proofs.lemmas.Option.{get_or_from_slice_get, slice_get_within}
 use Rattle.cost_theory.specs.Reached.{edge_at}
@@ -14,10 +14,10 @@ returns-in-Some-clause-edges c = λ e lt.
 
 pub returns-in-None-clause-edges : goal.returns-in-None-clause-edges
 returns-in-None-clause-edges c = λ e lt. (
-      λ at.
-          let k = (c.node_count-nodes.ensures.graph.nodes c.args.at).1 (e, lt, at) in
-          let found = (c.find.ensures k.0).1 k.1 in
-          let none = c.in-None.is in
-          let bad : ⊥ = cc in absurd bad,
-      λ r. let low = r.1 in absurd (omega (arith, low)),
-    )
+  λ at.
+      let k = (c.node_count-nodes.ensures.graph.nodes c.args.at).1 (e, lt, at) in
+      let found = (c.find.ensures k.0).1 k.1 in
+      let none = c.in-None.is in
+      let bad : ⊥ = cc in absurd bad,
+  λ r. let low = r.1 in absurd (omega (arith, low)),
+)
