@@ -7,6 +7,7 @@ mod MarkingFacts
 mod ScalingFacts
 mod ProgramFacts
 mod PacedFiles
+mod UsefulFacts
 mod FlagLists
 mod Ordered
 mod SafeStubs

@@ -31,7 +31,7 @@ fn same_kind(one: EdgeKind, other: EdgeKind) -> bool
 }
 
 /// Whether a site names an edge.
-fn names(site: SwitchSite, edge: Edge) -> bool
+pub fn names(site: SwitchSite, edge: Edge) -> bool
     ensures { result ≡ names site edge }
 {
     site.at == edge.at && same_kind(edge.kind, site.kind)
