@@ -51,7 +51,7 @@ pub fn pace(
     requires loops { length loops.now ≤ 1048576 }
     ensures given { AnswersBy (λ given. (given.0.items, given.1)) result (IsPaced image.now machine.now loops.now sites.now counted) }
 
-    // On each input on which the original run exits and is kept, the stored run keeps the promise.
+    // On each input on which the original run exits and is kept, by the files' own notes, the stored run keeps the promise.
     ensures safe { IfOk result (λ given. IsStoredSafely image.now machine.now loops.now given.0.items given.1) }
 {
     pace_files(alloc, image, machine, loops, sites, counted)
