@@ -127,13 +127,20 @@ abbrev pub unless_refused : {A : Type 0} → Result A Refusal → (A → Answer)
 unless_refused (Ok part) next = next part
 unless_refused (Err refusal) next = refused refusal
 
+-- all files, the summary, and the two reports
+abbrev pub runs_answer : List ℕ → MadeFiles → List ℕ × Summary → (first second : RunReport) → Answer
+runs_answer prefix made scaled first second =
+    record { stores = made_stores prefix made scaled.0; text = summary_text scaled.1 ++ run_text first ++ run_text second; status = run_status second.end }
+
+-- how both images run: the made one with its loop file, and the scaled one without one; or the first refusal
+abbrev pub scaled_answer : List ℕ → MadeFiles → List ℕ × Summary → Answer
+scaled_answer prefix made scaled =
+    unless_refused (simulated made.image made.machine made.input (Some made.loops)) (λ first.
+    unless_refused (simulated scaled.0 made.machine made.input None) (runs_answer prefix made scaled first))
+
 -- all files, the summary, and the reports of the run of the made image with its loop file and of that of the scaled image without one; or the first refusal
 abbrev pub made_answer : List ℕ → MadeFiles → Result (List ℕ × Summary) Refusal → Answer
-made_answer prefix made given =
-    unless_refused given (λ scaled.
-    unless_refused (simulated made.image made.machine made.input (Some made.loops)) (λ first.
-    unless_refused (simulated scaled.0 made.machine made.input None) (λ second.
-    record { stores = made_stores prefix made scaled.0; text = summary_text scaled.1 ++ run_text first ++ run_text second; status = run_status second.end })))
+made_answer prefix made given = unless_refused given (scaled_answer prefix made)
 
 -- The answer to `make`: it tells what is made of the number and the size, what `rewrite` gives for that, and how both images run.
 pub record MakesMade (number size : ℕ) (prefix : List ℕ) (answer : Answer) : Type 0 where

@@ -4,9 +4,9 @@ ghost use Rattle.std.specs.Prelude.{◌≡◌, ◌≤◌, ◌++◌, length, stri
 ghost use Rattle.power_model.specs.Report.{report_view};
 ghost use Rattle.scale_base.specs.Answer.{AnswersBy};
 ghost use Rattle.scale_report.specs.Texts.{run_text, summary_text};
-ghost use Rattle.scale_tool.specs.Answer.{made_stores};
-ghost use Rattle.scale_tool.specs.Views.{made_view, reply_view, store_view, store_views};
-ghost use Rattle.scale_tool.specs.Scaled.{IsMadeReply};
+ghost use Rattle.scale_tool.specs.Answer.{made_stores, runs_answer, scaled_answer};
+ghost use Rattle.scale_tool.specs.Views.{file_view, made_view, reply_view, store_view, store_views};
+ghost use Rattle.scale_tool.specs.Scaled.{IsMadeReply, told_answer};
 
 use crate::reply::{Reply, Store, status_of};
 use image_maker::Made;
@@ -56,14 +56,34 @@ fn text_of(
     Ok(text)
 }
 
-/// What is told of a made program: its image runs with its loop file, and what it is rewritten to without one.
-pub fn made_reply(alloc: Global, prefix: &str, made: Made) -> Result<Reply, Stop>
-    requires image { length made.image.items ≤ 4194304 }
-    requires machine { length made.machine.items ≤ 1048576 }
-    requires loops { length made.loops.items ≤ 1048576 }
-    ensures { AnswersBy reply_view result (IsMadeReply prefix.now (made_view made)) }
+// All files, and the text of the three.
+fn reply_of(
+    alloc: Global,
+    prefix: &str,
+    made: Made,
+    scaled: (Vec<u8>, Summary),
+    first: &RunReport,
+    second: &RunReport,
+) -> Result<Reply, NoMemory>
+    ensures { IfOk result (λ reply. reply_view reply ≡ runs_answer prefix.now (made_view made) (file_view scaled) (report_view first.now) (report_view second.now)) }
 {
-    let (scaled, summary) = rewrite(alloc, &made.image, &made.machine, &made.loops)?;
+    let (bytes, summary) = scaled;
+    Ok(Reply {
+        text: text_of(alloc, &summary, first, second)?,
+        stores: stores_of(alloc, prefix, made, bytes)?,
+        status: status_of(second.end),
+    })
+}
+
+// How the made image runs with its loop file, and the scaled one without one.
+fn scaled_reply(
+    alloc: Global,
+    prefix: &str,
+    made: Made,
+    scaled: (Vec<u8>, Summary),
+) -> Result<Reply, Stop>
+    ensures { AnswersBy reply_view result (λ reply. told_answer reply ≡ scaled_answer prefix.now (made_view made) (file_view scaled)) }
+{
     let first = simulate(
         alloc,
         &made.image,
@@ -71,11 +91,17 @@ pub fn made_reply(alloc: Global, prefix: &str, made: Made) -> Result<Reply, Stop
         &made.input,
         Some(&made.loops),
     )?;
-    let second = simulate(alloc, &scaled, &made.machine, &made.input, None)?;
-    let text = text_of(alloc, &summary, &first, &second)?;
-    Ok(Reply {
-        stores: stores_of(alloc, prefix, made, scaled)?,
-        text,
-        status: status_of(second.end),
-    })
+    let second = simulate(alloc, &scaled.0, &made.machine, &made.input, None)?;
+    Ok(reply_of(alloc, prefix, made, scaled, &first, &second)?)
+}
+
+/// What is told of a made program: its image runs with its loop file, and what it is rewritten to without one.
+pub fn made_reply(alloc: Global, prefix: &str, made: Made) -> Result<Reply, Stop>
+    requires image { length made.image.items ≤ 4194304 }
+    requires machine { length made.machine.items ≤ 1048576 }
+    requires loops { length made.loops.items ≤ 1048576 }
+    ensures { AnswersBy reply_view result (IsMadeReply prefix.now (made_view made)) }
+{
+    let scaled = rewrite(alloc, &made.image, &made.machine, &made.loops)?;
+    scaled_reply(alloc, prefix, made, scaled)
 }
