@@ -6,3 +6,4 @@ pub mod PlacedLaws
 pub mod LoadLaws
 pub mod PageLaws
 pub mod WholeLaws
+pub mod UsedLaws

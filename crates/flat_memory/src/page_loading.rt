@@ -1,8 +1,10 @@
 //! The memory of pages of an image before its first step.
 
-ghost use Rattle.std.specs.Prelude.{◌≡◌, ◌&&◌, ◌||◌, nat_lt, nat_le, ◌+◌, ◌*◌, ◌≤◌, ◌<◌, ◌^◌, ℕ, IfOk, vec_len, slice_index_or, Option};
+ghost use Rattle.std.specs.Prelude.{◌≡◌, ◌↔◌, true, ◌&&◌, ◌||◌, nat_lt, nat_le, ◌+◌, ◌*◌, ◌≤◌, ◌<◌, ◌^◌, ℕ, IfOk, vec_len, slice_index_or, Option};
 ghost use Rattle.scale_base.specs.Image as image;
 ghost use Rattle.scale_base.specs.Layout as rules;
+ghost use Rattle.std.specs.List.{list_any};
+ghost use Rattle.flat_memory.specs.Blocks.{holds};
 ghost use Rattle.flat_memory.specs.Lists.{list_layout};
 ghost use Rattle.flat_memory.specs.Pages.{UseHolds};
 ghost use Rattle.flat_memory.specs.Paged.{page_bytes, page_layout};
@@ -24,13 +26,19 @@ use scale_base::{NoMemory, STACK_LEN, STACK_START};
 use std::alloc::Global;
 
 /// Whether the block has an address from one to another.
-fn touches(block: &Block, from: u32, last: u32) -> bool {
+fn touches(block: &Block, from: u32, last: u32) -> bool
+    requires { from ≤ last }
+    ensures { (result ≡ true) ↔ ((a : ℕ) × (from ≤ a) × (a ≤ last) × (holds a block.now ≡ true)) }
+{
     let begins = from <= block.from && !block.is_empty();
     block.from <= last && (begins || block.holds(from))
 }
 
 /// Whether the stack or a block has an address from one to another.
-fn is_used(list: &ListMemory, from: u32, last: u32) -> bool {
+fn is_used(list: &ListMemory, from: u32, last: u32) -> bool
+    requires { from ≤ last }
+    ensures { (result ≡ true) ↔ ((a : ℕ) × (from ≤ a) × (a ≤ last) × ((rules.in_stack a || list_any (holds a) list.now.blocks.items) ≡ true)) }
+{
     for block in &list.blocks {
         if touches(block, from, last) {
             return true;
