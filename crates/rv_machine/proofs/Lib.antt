@@ -1,3 +1,4 @@
 pub mod AccessLaws
 pub mod CodeLaws
 pub mod Laws
+pub mod PlaceLaws

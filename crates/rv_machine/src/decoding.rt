@@ -1,6 +1,9 @@
 //! The instructions of a memory before the first step.
 
-ghost use Rattle.std.specs.Prelude.{◌≡◌, ◌+◌, ◌*◌, ◌≤◌, ◌<◌, ◌%◌, ◌^◌, not, IfOk};
+ghost use Rattle.std.specs.Prelude.{◌≡◌, ℕ, ◌+◌, ◌*◌, ◌≤◌, ◌<◌, ◌%◌, ◌^◌, true, not, IfOk};
+ghost use Rattle.scale_base.specs.Image.{is_in};
+ghost use Rattle.scale_base.specs.Layout.{in_option};
+ghost use Rattle.rv_machine.specs.Places.{is_text, has_address, IsTextInOrder, AreFull};
 ghost use Rattle.scale_base.specs.Layout as rules;
 ghost use Rattle.rv_machine.specs.Code.{IsDecodedCode, MayBeFixed, MayBePage, MayBeGroup};
 
@@ -13,7 +16,11 @@ use scale_base::{NoMemory, Range};
 use std::alloc::Global;
 
 /// Whether the range has an address from one to another.
-fn meets(range: &Range, from: u32, last: u32) -> bool {
+fn meets(range: &Range, from: u32, last: u32) -> bool
+    requires { from ≤ last }
+    ensures each { (a : ℕ) → from ≤ a → a ≤ last → is_in a range.now ≡ true → result ≡ true }
+    ensures some { range.now.from < range.now.to → result ≡ true → (a : ℕ) × (from ≤ a) × (a ≤ last) × (is_in a range.now ≡ true) }
+{
     range.from <= last && from < range.to
 }
 
@@ -26,7 +33,12 @@ pub struct Places<'a> {
 
 impl Places<'_> {
     /// Whether one of them has an address from one to another.
-    fn meet(&self, from: u32, last: u32) -> bool {
+    fn meet(&self, from: u32, last: u32) -> bool
+        requires { from ≤ last }
+        ensures keyed { (a : ℕ) → from ≤ a → a ≤ last → in_option a self.now.keyed ≡ true → result ≡ true }
+        ensures text { (a : ℕ) → IsTextInOrder self.now → from ≤ a → a ≤ last → is_text self.now a ≡ true → result ≡ true }
+        ensures some { AreFull self.now → result ≡ true → (a : ℕ) × (from ≤ a) × (a ≤ last) × (has_address self.now a ≡ true) }
+    {
         if let Some(range) = &self.keyed {
             if meets(range, from, last) {
                 return true;
