@@ -1,12 +1,7 @@
-use Rattle.std.proofs.Common.{◌<◌, ◌^◌, List, ℕ, arith}
-use Rattle.std.proofs.lemmas.List.{get_or_default}
 use Rattle.image_check.specs.Checked.{IsChecked}
 use Rattle.scale_tool.specs.Answer.{verdict_answer}
 use Rattle.scale_tool.proofs.Given.{made_of_given}
 use Rattle.scale_tool.proofs.reply.Reply.checked.Goals as goal
-
-pub returns-clause-bytes : goal.returns-clause-bytes
-returns-clause-bytes c = λ k d lt. let fit = c.type_inv.files.other k in let same = get_or_default c.args.files.now.other.now k d 0 lt in omega (arith, fit, same)
 
 pub returns-clause-told : goal.returns-clause-told
 returns-clause-told c =
