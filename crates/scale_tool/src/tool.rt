@@ -6,6 +6,7 @@ ghost use Rattle.host_files.specs.Host.{count_if, is_failed};
 ghost use Rattle.scale_tool.specs.Answer.{IsAnswerOf, refused};
 ghost use Rattle.scale_tool.specs.Command.{Help, command_of, texts, may_give, may_answer, needs_memory, wants_of};
 ghost use Rattle.scale_tool.specs.Loading.{Missing, loading_of};
+ghost use Rattle.scale_tool.specs.Passing.{Passes};
 ghost use Rattle.scale_tool.specs.Promise.{Promised};
 ghost use Rattle.scale_tool.specs.Tool.{Ends, IsAnswered, IsStatusOfAll, StopsWithin, StoresStand, IsReadyFor};
 ghost use Rattle.scale_tool.specs.Views.{work_view, reply_view};
@@ -17,6 +18,7 @@ use crate::load_all::{AllLoaded, load_all};
 use crate::reply::Reply;
 use crate::texts;
 use host_files::{Host, HostError};
+use image_check::rewritten_images_pass;
 use scale_base::{Name, NoMemory, Refusal};
 use std::alloc::Global;
 
@@ -100,7 +102,7 @@ fn run<H: Host>(host: &mut H, alloc: Global, words: &[String]) -> Result<u8, Hos
 /// runs it. With 3, `fault_leaves` says how far the answer came, and `promise_behind_a_fault` what the stores promise, where all of them stand nevertheless. That the tool is
 /// complete is `complete` with `answered`, `statuses` and `fault`: where nothing refuses the files the status is no 1, so the command was done, unless the host failed
 /// or memory ran out.
-#[tactic(auto, using(crate::proofs::Promises::answered_keep_promise, crate::proofs::Promises::stored_keep_promise, crate::proofs::OneStatus::status_of_all))]
+#[tactic(auto, using(crate::proofs::Promises::answered_keep_promise, crate::proofs::Promises::stored_keep_promise, crate::proofs::OneStatus::status_of_all, crate::proofs::Passing::answered_passes))]
 pub fn run_tool<H: Host>(host: &mut H, alloc: Global, words: &[String]) -> u8
     // 2 exactly where the words are no command, and 4 for a command that needs memory.
     ensures statuses { IsTrue (may_answer (command_of (texts words.now)) result) }
@@ -118,6 +120,9 @@ pub fn run_tool<H: Host>(host: &mut H, alloc: Global, words: &[String]) -> u8
     ensures promise_behind_a_fault { StoresStand (command_of (texts words.now)) (H.state host.old) (H.state host.new) →
         Promised (command_of (texts words.now)) (H.state host.old) (H.state host.new) }
 
+    // `check` of what `rewrite` stores of the same files: yes, with the numbers that `rewrite` printed.
+    ensures passes { result ≢ 3 → result ≢ 4 → Passes (command_of (texts words.now)) result (H.state host.old) (H.state host.new) }
+
     // 3 only where the host failed, and never over a steady host that has what it takes.
     ensures fault { result ≡ 3 → Rose (H.state host.old).faults (H.state host.new).faults }
     ensures no_fault { result ≢ 3 → (H.state host.new).faults ≡ (H.state host.old).faults }
@@ -127,6 +132,8 @@ pub fn run_tool<H: Host>(host: &mut H, alloc: Global, words: &[String]) -> u8
     // 4: nothing has happened.
     ensures memory { result ≡ 4 → IsUntouched (H.state host.old) (H.state host.new) }
 {
+    // The law behind `passes`.
+    rewritten_images_pass();
     match run(host, alloc, words) {
         Ok(status) => status,
         Err(HostError::Failed) => 3,
