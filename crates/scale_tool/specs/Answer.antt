@@ -147,8 +147,8 @@ pub record MakesMade (number size : ℕ) (prefix : List ℕ) (answer : Answer) :
 abbrev pub AreBytes : List ℕ → Type 0
 AreBytes file = All (λ b. b < 2 ^ 8) file
 
--- What the command may make of its files, as many as it loads. It is told of what it gives for their bytes. What a lowered image and one that passed a check promise is said
--- of bytes alone, so `lower` and `check` make something of bytes alone.
+-- What the command may make of its files, as many as it loads. It is told of what it gives for their bytes. `lower` takes an original of bytes, and `check` an image of other
+-- make of bytes, since what they promise is said of bytes.
 abbrev pub Makes : Command → List (List ℕ) → Answer → Type 0
 Makes Help [] answer = answer ≡ help
 Makes (Hold image machine loops out) (i ∷ m ∷ l ∷ []) answer = Tells (IsHeld i m l) (stored_answer summary_text out) answer

@@ -57,12 +57,7 @@ impl<'a> PairFiles<'a> {
     }
 
     // That the numbers of a slice of bytes are bytes is known of a parameter alone.
-    fn new(
-        image: &'a [u8],
-        other: &'a [u8],
-        machine: &'a [u8],
-        loops: &'a [u8],
-    ) -> PairFiles<'a>
+    fn new(image: &'a [u8], other: &'a [u8], machine: &'a [u8], loops: &'a [u8]) -> PairFiles<'a>
         requires image { length image.now ≤ 4194304 }
         requires other { length other.now ≤ 8388608 }
         requires machine { length machine.now ≤ 1048576 }
