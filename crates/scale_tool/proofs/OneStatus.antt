@@ -108,9 +108,9 @@ one_made_of_files (Simulate image machine input out None) (i ∷ m ∷ n ∷ [])
 one_made_of_files (Simulate image machine input out (Some loops)) (i ∷ m ∷ n ∷ l ∷ []) one other x y = ap (λ (a : Answer). a.status) (x ∙ sym y)
 one_made_of_files (Make number size prefix) [] one other x y = one_made number size prefix one other x y
 one_made_of_files (Lower image jumps out) (i ∷ j ∷ []) one other x y =
-    one_told (IsLowered i j) (stored_answer lowered_text out) (λ a b g h. ap (λ (r : Result (List ℕ × Lowered) Refusal). (stored_answer lowered_text out r).status) (lowered_answers i j a b g h)) one other x y
+    one_told (IsLowered i j) (stored_answer lowered_text out) (λ a b g h. ap (λ (r : Result (List ℕ × Lowered) Refusal). (stored_answer lowered_text out r).status) (lowered_answers i j a b g h)) one other x.1 y.1
 one_made_of_files (Check image foreign machine loops) (i ∷ f ∷ m ∷ l ∷ []) one other x y =
-    one_told (IsChecked i f m l) verdict_answer (λ a b g h. verdict_status a b (checked_answers i f m l a b g h)) one other x y
+    one_told (IsChecked i f m l) verdict_answer (λ a b g h. verdict_status a b (checked_answers i f m l a b g h)) one other x.1 y.1
 one_made_of_files (Survey image scaled machine loops inputs) (i ∷ s ∷ m ∷ l ∷ given) one other x y =
     one_told (IsSurveyed i s m l given) (text_answer survey_text) (λ a b g h. ap (λ (r : Result SurveyOfRuns Refusal). (text_answer survey_text r).status) (surveyed_answers i s m l given a b g h)) one other x y
 one_made_of_files (Tune image machine loops out inputs) (i ∷ m ∷ l ∷ given) one other x y =

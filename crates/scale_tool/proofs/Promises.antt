@@ -1,7 +1,6 @@
 -- Each command that was done keeps its promise.
-use Rattle.std.proofs.Common.{◌≡◌, ◌≢◌, ℕ, ◌≤◌, List, [], ◌∷◌, ◌++◌, length, refl, sym, ap, subst, ◌∙◌, arith, Bool, true, false}
-use Rattle.std.specs.Prelude.{Option, Some, None, option_map, IfSome, cond, Result, Ok, Err, nat_le, bytes_eq, codes, String}
-use Rattle.std.proofs.lemmas.Bool.Decides.{nat_tests}
+use Rattle.std.proofs.Common.{◌≡◌, ◌≢◌, ℕ, ◌≤◌, List, [], ◌∷◌, ◌++◌, length, refl, sym, ap, subst, ◌∙◌, Bool, true, false}
+use Rattle.std.specs.Prelude.{Option, Some, None, option_map, IfSome, cond, Result, Ok, Err, bytes_eq, codes, String}
 use Rattle.std.specs.declared.alloc.Global.{Global}
 use Rattle.std.specs.Cmp.Lexicographic.{nat_list_cmp_total}
 use Rattle.std.specs.FinMap.{get, insert, get-insert}
@@ -17,6 +16,7 @@ use Rattle.scaler.specs.RewrittenRuns.{IsRewrittenSafely}
 use Rattle.scaler.proofs.Laws.{held_safe, rewritten_safe}
 use Rattle.image_check.proofs.Laws.{checked_safe}
 use Rattle.image_lower.specs.Lowered.{IsLowered}
+use Rattle.image_lower.specs.Promise.{IsLoweredSafely}
 use Rattle.image_lower.proofs.Laws.{lowered_safe}
 use Rattle.input_survey.proofs.Laws.{surveyed_says}
 use Rattle.gain_tuner.specs.Choice.{IsTuning}
@@ -29,9 +29,10 @@ use Rattle.image_maker.proofs.Laws.{small_image, small_machine, small_loops}
 use Rattle.host_files.specs.HostState.{Files, HostState}
 use Rattle.scale_tool.specs.Answer.{Answer, Giving, AreMade, MadeFiles, Makes, MakesMade, Tells, AnswersTo, HasAnswer, made_answer, refused, stored_answer, unless_refused}
 use Rattle.scale_tool.specs.Command.{Command, Help, Hold, Rewrite, Report, Simulate, Make, Lower, Check, Survey, Tune, command_of, texts, wants_of}
-use Rattle.scale_tool.specs.Loading.{Loading, Missing, Long, Whole, loading_of, loading_one, and_then}
-use Rattle.scale_tool.specs.Promise.{Keeping, KeepsLowered, StoredPromise, MadePromise, Promise, PromisedOf, PromisedBy, Promised}
-use Rattle.scale_tool.specs.Tool.{with_stores, StoresStand}
+use Rattle.scale_tool.specs.Loading.{Loading, Missing, Long, Whole, IfLoaded, IfWhole, loading_of}
+use Rattle.scale_tool.specs.Promise.{Keeping, StoredPromise, MadePromise, Promise, Promised}
+use Rattle.scale_tool.specs.Tool.{with_stores, IsAnswered, IsDelivered, StoresStand}
+use Rattle.scale_tool.proofs.Limits.{EachWithin, loaded_within}
 use Rattle.scale_tool.proofs.Sizes.{HasSize, command_size}
 
 get_inserted : (files : Files) (name bytes : List ℕ) → get (insert files name bytes) name ≡ Some bytes
@@ -54,38 +55,6 @@ differ_behind prefix a b differ = not_true (bytes_eq (prefix ++ a) (prefix ++ b)
     not_true true e =
         let same : a ≡ b = append_cancel_left prefix a b ((bytes_eq-Decides (prefix ++ a) (prefix ++ b)).0 e) in
         absurd (cc ((bytes_eq-Decides a b).1 same))
-
--- ---- the limits of the files that were loaded
-
--- each file is within the limit of its name
-abbrev EachWithin : List (List ℕ × ℕ) → List (List ℕ) → Type 0
-EachWithin (want ∷ wants) (file ∷ files) = (length file ≤ want.1) × EachWithin wants files
-EachWithin wants files = Unit {0}
-
-abbrev Within : List (List ℕ × ℕ) → Loading → Type 0
-Within wants Missing = Unit {0}
-Within wants (Long name) = Unit {0}
-Within wants (Whole loaded) = EachWithin wants loaded
-
-le_of : (x y : ℕ) → nat_le x y ≡ true → x ≤ y
-le_of x y e = grind (arith, nat_tests)
-
-within_next : (want : List ℕ × ℕ) (wants : List (List ℕ × ℕ)) (bytes : List ℕ) (rest : Loading) → length bytes ≤ want.1 → Within wants rest → Within (want ∷ wants) (and_then bytes rest)
-within_next want wants bytes Missing short h = tt
-within_next want wants bytes (Long name) short h = tt
-within_next want wants bytes (Whole loaded) short h = (short, h)
-
-within_test : (want : List ℕ × ℕ) (wants : List (List ℕ × ℕ)) (bytes : List ℕ) (rest : Loading) (b : Bool) → nat_le (length bytes) want.1 ≡ b → Within wants rest → Within (want ∷ wants) (cond b (and_then bytes rest) (Long want.0))
-within_test want wants bytes rest true e h = within_next want wants bytes rest (le_of (length bytes) want.1 e) h
-within_test want wants bytes rest false e h = tt
-
-within_one : (want : List ℕ × ℕ) (wants : List (List ℕ × ℕ)) (file : Option (List ℕ)) (rest : Loading) → Within wants rest → Within (want ∷ wants) (loading_one want.0 want.1 file rest)
-within_one want wants None rest h = tt
-within_one want wants (Some bytes) rest h = within_test want wants bytes rest (nat_le (length bytes) want.1) refl h
-
-loaded_within : (wants : List (List ℕ × ℕ)) (files : Files) → Within wants (loading_of wants files)
-loaded_within [] files = tt
-loaded_within (want ∷ wants) files = within_one want wants (get files want.0) (loading_of wants files) (loaded_within wants files)
 
 -- ---- what a command promises
 
@@ -220,10 +189,10 @@ kept (Simulate image machine input out loops) loaded files answer size within ma
 kept (Make number blocks prefix) [] files answer size within made done = made_kept number blocks prefix files answer size made done
 kept (Make number blocks prefix) (file ∷ loaded) files answer size within made done = absurd made
 kept (Lower image jumps out) (i ∷ j ∷ []) files answer size within made done =
-    stored_kept (IsLowered i j) (KeepsLowered i j) lowered_text out files (λ stored counts is bytes. lowered_safe i j stored counts within.0 bytes is) answer made done
+    stored_kept (IsLowered i j) (IsLoweredSafely i j) lowered_text out files (λ stored counts is. lowered_safe i j stored counts within.0 made.0 is) answer made.1 done
 kept (Lower image jumps out) loaded files answer size within made done = absurd made
 kept (Check image foreign machine loops) (i ∷ f ∷ m ∷ l ∷ []) files answer size within made done =
-    λ printed is bytes. checked_safe i f m l printed is bytes
+    λ printed is. checked_safe i f m l printed is made.0
 kept (Check image foreign machine loops) loaded files answer size within made done = absurd made
 kept (Survey image scaled machine loops inputs) (i ∷ s ∷ m ∷ l ∷ given) files answer size within made done =
     λ printed is. surveyed_says i s m l given printed within.0 within.1.1.0 within.1.1.1.0 is
@@ -232,8 +201,8 @@ kept (Tune image machine loops out inputs) (i ∷ m ∷ l ∷ given) files answe
     stored_kept (IsTuning i m l given) (IsTunedSafely i m l) tuned_text out files (λ stored tuned is. tuned_safe i m l given stored tuned within.0 within.1.0 within.1.1.0 is) answer made done
 kept (Tune image machine loops out inputs) loaded files answer size within made done = absurd made
 
-of_loading : (command : Command) (loading : Loading) (files : Files) (new : Option Files) (answer : Answer) → HasSize command → Within (wants_of command) loading → AnswersTo command loading answer →
-    answer.status ≢ 1 → new ≡ Some (with_stores answer.stores files) → IfSome new (λ after. PromisedOf command loading after)
+of_loading : (command : Command) (loading : Loading) (files : Files) (new : Option Files) (answer : Answer) → HasSize command → IfWhole loading (EachWithin (wants_of command)) → AnswersTo command loading answer →
+    answer.status ≢ 1 → new ≡ Some (with_stores answer.stores files) → IfSome new (λ after. IfWhole loading (λ loaded. Promise command loaded after))
 of_loading command Missing files new answer size within is done stand = absurd is
 of_loading command (Long name) files None answer size within is done stand = tt
 of_loading command (Long name) files (Some after) answer size within is done stand = tt
@@ -242,7 +211,7 @@ of_loading command (Whole loaded) files new answer size within is done stand =
 
 of_files : (asked : Option Command) (old new : Option Files) → IfSome asked HasSize →
     IfSome old (λ files. HasAnswer asked files (λ answer. (answer.status ≢ 1) × (new ≡ option_map (with_stores answer.stores) old))) →
-    IfSome old (λ files. IfSome new (λ after. PromisedBy asked files after))
+    IfSome old (λ files. IfSome new (λ after. IfLoaded asked files (λ command loaded. Promise command loaded after)))
 of_files asked None new size given = tt
 of_files None (Some files) None size given = tt
 of_files None (Some files) (Some after) size given = tt
@@ -252,3 +221,12 @@ of_files (Some command) (Some files) new size given =
 -- stores that stand keep their promise, whatever was answered
 pub stored_keep_promise : (words : List (String Global)) (old new : HostState) → StoresStand (command_of (texts words)) old new → Promised (command_of (texts words)) old new
 stored_keep_promise words old new stand = of_files (command_of (texts words)) old.files new.files (command_size (texts words)) stand
+
+-- so does an answer that was given and is no refusal
+pub answered_keep_promise : (words : List (String Global)) (status : ℕ) (old new : HostState) → IsAnswered (command_of (texts words)) status old new → status ≢ 1 → Promised (command_of (texts words)) old new
+answered_keep_promise words status old new answered done = stored_keep_promise words old new (stand (command_of (texts words)) old.files answered)
+  where
+    stand : (asked : Option Command) (o : Option Files) → IfSome o (λ files. HasAnswer asked files (λ answer. (status ≡ answer.status) × IsDelivered answer.stores answer.text old new)) →
+        IfSome o (λ files. HasAnswer asked files (λ answer. (answer.status ≢ 1) × (new.files ≡ option_map (with_stores answer.stores) old.files)))
+    stand asked None given = tt
+    stand asked (Some files) given = (given.0, given.1, ((λ e. done (given.2.0 ∙ e)), given.2.1.files))

@@ -1,5 +1,5 @@
 -- What a command may answer: its stores in order, the text that it prints, and its status.
-use Rattle.std.specs.Prelude.{◌≡◌, ℕ, List, [], ◌∷◌, ◌++◌, flat_map, Option, Some, None, Result, Ok, Err, codes}
+use Rattle.std.specs.Prelude.{◌≡◌, ℕ, ◌<◌, ◌^◌, List, [], ◌∷◌, ◌++◌, flat_map, All, Option, Some, None, Result, Ok, Err, codes}
 use Rattle.scale_base.specs.declared.refusal.Refusal.{Refusal}
 use Rattle.scale_base.specs.declared.refusal.Refusal.TheVariants.{TooLarge}
 use Rattle.scale_base.specs.declared.plan.SiteLine.{SiteLine}
@@ -150,7 +150,12 @@ pub record MakesMade (number size : ℕ) (prefix : List ℕ) (answer : Answer) :
   pub is_given : IsRewritten made.image made.machine made.loops given
   pub told : answer ≡ made_answer prefix made given
 
--- What the command may make of its files, as many as it loads. It is told of what it gives for their bytes.
+-- the numbers of a file are bytes, as those of each file that was loaded
+abbrev pub AreBytes : List ℕ → Type 0
+AreBytes file = All (λ b. b < 2 ^ 8) file
+
+-- What the command may make of its files, as many as it loads. It is told of what it gives for their bytes. `lower` takes an original of bytes, and `check` an image of other
+-- make of bytes, since what they promise is said of bytes.
 abbrev pub Makes : Command → List (List ℕ) → Answer → Type 0
 Makes Help [] answer = answer ≡ help
 Makes (Hold image machine loops out) (i ∷ m ∷ l ∷ []) answer = Tells (IsHeld i m l) (stored_answer summary_text out) answer
@@ -159,8 +164,8 @@ Makes (Report image machine loops) (i ∷ m ∷ l ∷ []) answer = Tells (IsPlan
 Makes (Simulate image machine input out None) (i ∷ m ∷ n ∷ []) answer = MakesRun i m n None out answer
 Makes (Simulate image machine input out (Some loops)) (i ∷ m ∷ n ∷ l ∷ []) answer = MakesRun i m n (Some l) out answer
 Makes (Make number size prefix) [] answer = MakesMade number size prefix answer
-Makes (Lower image jumps out) (i ∷ j ∷ []) answer = Tells (IsLowered i j) (stored_answer lowered_text out) answer
-Makes (Check image foreign machine loops) (i ∷ f ∷ m ∷ l ∷ []) answer = Tells (IsChecked i f m l) verdict_answer answer
+Makes (Lower image jumps out) (i ∷ j ∷ []) answer = AreBytes i × Tells (IsLowered i j) (stored_answer lowered_text out) answer
+Makes (Check image foreign machine loops) (i ∷ f ∷ m ∷ l ∷ []) answer = AreBytes f × Tells (IsChecked i f m l) verdict_answer answer
 Makes (Survey image scaled machine loops inputs) (i ∷ s ∷ m ∷ l ∷ given) answer = Tells (IsSurveyed i s m l given) (text_answer survey_text) answer
 Makes (Tune image machine loops out inputs) (i ∷ m ∷ l ∷ given) answer = Tells (IsTuning i m l given) (stored_answer tuned_text out) answer
 Makes command files answer = ⊥

@@ -3,6 +3,7 @@ pub mod Command
 pub mod Loaded
 pub mod Loading
 pub mod Numbers
+pub mod Passing
 pub mod Promise
 pub mod Scaled
 pub mod Tool

@@ -1,11 +1,10 @@
 -- What the files that a command has stored promise to whoever runs them.
-use Rattle.std.specs.Prelude.{◌≡◌, ℕ, ◌<◌, ◌^◌, List, [], ◌∷◌, ◌++◌, All, Option, Some, None, IfSome, Ok, codes}
+use Rattle.std.specs.Prelude.{◌≡◌, ℕ, List, [], ◌∷◌, ◌++◌, Option, Some, IfSome, Ok, codes}
 use Rattle.std.specs.FinMap.{get}
 use Rattle.scaler.specs.Held.{IsHeld}
 use Rattle.scaler.specs.Rewritten.{IsRewritten}
 use Rattle.scaler.specs.RewrittenRuns.{IsRewrittenSafely}
 use Rattle.scaler.specs.Runs.{IsHeldSafely}
-use Rattle.scale_base.specs.declared.summary.Lowered.{Lowered}
 use Rattle.scale_base.specs.declared.verdict.Checked.{Checked}
 use Rattle.scale_base.specs.declared.verdict.Verdict.TheVariants.{Yes}
 use Rattle.image_check.specs.Checked.{IsChecked}
@@ -19,8 +18,8 @@ use Rattle.gain_tuner.specs.Choice.{IsTuning}
 use Rattle.gain_tuner.specs.Safe.{IsTunedSafely}
 use Rattle.host_files.specs.HostState.{Files, HostState}
 use Rattle.scale_tool.specs.Answer.{Giving, MadeFiles, AreMade}
-use Rattle.scale_tool.specs.Command.{Command, Hold, Rewrite, Make, Lower, Check, Survey, Tune, wants_of}
-use Rattle.scale_tool.specs.Loading.{Loading, Whole, loading_of}
+use Rattle.scale_tool.specs.Command.{Command, Hold, Rewrite, Make, Lower, Check, Survey, Tune}
+use Rattle.scale_tool.specs.Loading.{IfLoaded}
 
 -- what a stored image keeps to, with what is told of it
 abbrev pub Keeping : Type 0 → Type 1
@@ -35,15 +34,10 @@ pub record StoredPromise {A : Type 0} (Gives : Giving (List ℕ × A)) (Safe : K
   pub given : Gives (Ok ((stored, told)))
   pub safe : (printed : A) → Gives (Ok ((stored, printed))) → Safe stored printed
 
--- what a lowered image keeps to, where each number of the loaded image is a byte
-abbrev pub KeepsLowered : (image jumps : List ℕ) → Keeping Lowered
-KeepsLowered image jumps stored counts = All (λ b. b < 2 ^ 8) image → IsLoweredSafely image jumps stored counts
-
--- Of a check: where it answers yes, and each number of the loaded image of other make is a byte, that image is safe with all numbers that may be given with a yes,
--- those that were printed among them.
+-- Of a check: where it answers yes, the image of other make is safe with all numbers that may be given with a yes, those that were printed among them.
 abbrev pub VerdictPromise : (image foreign machine loops : List ℕ) → Type 0
 VerdictPromise image foreign machine loops =
-    (printed : Checked) → IsChecked image foreign machine loops (Ok (Yes printed)) → All (λ b. b < 256) foreign → IsCheckedSafely image foreign machine loops printed
+    (printed : Checked) → IsChecked image foreign machine loops (Ok (Yes printed)) → IsCheckedSafely image foreign machine loops printed
 
 -- Of a survey: whatever may be printed for the loaded files says so of their runs, what was printed among it.
 abbrev pub SurveyPromise : (image scaled machine loops : List ℕ) → List (List ℕ) → Type 0
@@ -75,20 +69,12 @@ abbrev pub Promise : Command → List (List ℕ) → Files → Type 0
 Promise (Hold image machine loops out) (i ∷ m ∷ l ∷ []) after = StoredPromise (IsHeld i m l) (IsHeldSafely i m l) (get after out)
 Promise (Rewrite image machine loops out) (i ∷ m ∷ l ∷ []) after = StoredPromise (IsRewritten i m l) (IsRewrittenSafely i m l) (get after out)
 Promise (Make number size prefix) [] after = MadePromise number size prefix after
-Promise (Lower image jumps out) (i ∷ j ∷ []) after = StoredPromise (IsLowered i j) (KeepsLowered i j) (get after out)
+Promise (Lower image jumps out) (i ∷ j ∷ []) after = StoredPromise (IsLowered i j) (IsLoweredSafely i j) (get after out)
 Promise (Check image foreign machine loops) (i ∷ f ∷ m ∷ l ∷ []) after = VerdictPromise i f m l
 Promise (Survey image scaled machine loops inputs) (i ∷ s ∷ m ∷ l ∷ given) after = SurveyPromise i s m l given
 Promise (Tune image machine loops out inputs) (i ∷ m ∷ l ∷ given) after = StoredPromise (IsTuning i m l given) (IsTunedSafely i m l) (get after out)
 Promise command files after = Unit {0}
 
-abbrev pub PromisedOf : Command → Loading → Files → Type 0
-PromisedOf command (Whole files) after = Promise command files after
-PromisedOf command loading after = Unit {0}
-
-abbrev pub PromisedBy : Option Command → Files → Files → Type 0
-PromisedBy None files after = Unit {0}
-PromisedBy (Some command) files after = PromisedOf command (loading_of (wants_of command) files) after
-
 -- what the files that are told afterwards promise, by those that are told before
 abbrev pub Promised : Option Command → HostState → HostState → Type 0
-Promised asked old new = IfSome old.files (λ files. IfSome new.files (λ after. PromisedBy asked files after))
+Promised asked old new = IfSome old.files (λ files. IfSome new.files (λ after. IfLoaded asked files (λ command loaded. Promise command loaded after)))

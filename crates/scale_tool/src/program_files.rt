@@ -2,6 +2,7 @@
 
 ghost use Rattle.std.specs.Prelude.{◌≡◌, ◌≤◌, [], ◌∷◌, length};
 ghost use Rattle.std.specs.List.{All, AllZip};
+ghost use Rattle.scale_tool.specs.Answer.{AreBytes};
 
 /// The bytes of an image, a machine file and a loop file, each within its limit.
 #[derive(Clone, Copy)]
@@ -41,6 +42,7 @@ pub struct PairFiles<'a> {
     ghost short_other: { length other.now ≤ 8388608 },
     ghost short_machine: { length machine.now ≤ 1048576 },
     ghost short_loops: { length loops.now ≤ 1048576 },
+    ghost bytes: { AreBytes other.now },
 }
 
 impl<'a> PairFiles<'a> {
@@ -51,11 +53,22 @@ impl<'a> PairFiles<'a> {
         requires { AllZip (λ limit file. length file ≤ limit) (4194304 ∷ 8388608 ∷ 1048576 ∷ 1048576 ∷ []) (files_view files.now) }
         ensures { files_view files.now ≡ result.image.now ∷ result.other.now ∷ result.machine.now ∷ result.loops.now ∷ [] }
     {
+        PairFiles::new(&files[0], &files[1], &files[2], &files[3])
+    }
+
+    // That the numbers of a slice of bytes are bytes is known of a parameter alone.
+    fn new(image: &'a [u8], other: &'a [u8], machine: &'a [u8], loops: &'a [u8]) -> PairFiles<'a>
+        requires image { length image.now ≤ 4194304 }
+        requires other { length other.now ≤ 8388608 }
+        requires machine { length machine.now ≤ 1048576 }
+        requires loops { length loops.now ≤ 1048576 }
+        ensures { (result.image.now ≡ image.now) × (result.other.now ≡ other.now) × (result.machine.now ≡ machine.now) × (result.loops.now ≡ loops.now) }
+    {
         PairFiles {
-            image: &files[0],
-            other: &files[1],
-            machine: &files[2],
-            loops: &files[3],
+            image,
+            other,
+            machine,
+            loops,
         }
     }
 }

@@ -13,7 +13,7 @@ ghost use Rattle.scale_report.specs.Texts.{HasSiteLine, lowered_text, summary_te
 ghost use Rattle.scaler.specs.Held.{IsHeld};
 ghost use Rattle.scaler.specs.Planned.{IsPlanned};
 ghost use Rattle.scaler.specs.Rewritten.{IsRewritten};
-ghost use Rattle.scale_tool.specs.Answer.{refused, run_answer, run_status, stored_answer, text_answer, text_of_plan, verdict_answer, verdict_status, MakesMade, MakesRun, Makes, Tells};
+ghost use Rattle.scale_tool.specs.Answer.{AreBytes, refused, run_answer, run_status, stored_answer, text_answer, text_of_plan, verdict_answer, verdict_status, MakesMade, MakesRun, Makes, Tells};
 
 use crate::command::Work;
 use crate::making::made_reply;
@@ -159,7 +159,8 @@ impl Reply {
     /// What `lower` gives for its two files.
     pub fn lowered(alloc: Global, out: &str, image: &[u8], jumps: &[u8]) -> Result<Reply, NoMemory>
         requires { length image.now ≤ 4194304 }
-        ensures { IfOk result (λ reply. Tells (IsLowered image.now jumps.now) (stored_answer lowered_text out.now) (reply_view reply)) }
+        ensures bytes { AreBytes image.now }
+        ensures told { IfOk result (λ reply. Tells (IsLowered image.now jumps.now) (stored_answer lowered_text out.now) (reply_view reply)) }
     {
         Reply::counted(alloc, out, image_lower::lower(alloc, image, jumps))
     }
@@ -207,7 +208,8 @@ impl Reply {
 
     /// What `check` gives for its four files.
     pub fn checked(alloc: Global, files: &PairFiles<'_>) -> Result<Reply, NoMemory>
-        ensures { IfOk result (λ reply. Tells (IsChecked files.now.image.now files.now.other.now files.now.machine.now files.now.loops.now) verdict_answer (reply_view reply)) }
+        ensures bytes { AreBytes files.now.other.now }
+        ensures told { IfOk result (λ reply. Tells (IsChecked files.now.image.now files.now.other.now files.now.machine.now files.now.loops.now) verdict_answer (reply_view reply)) }
     {
         Reply::judged(
             alloc,

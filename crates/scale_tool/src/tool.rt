@@ -6,6 +6,7 @@ ghost use Rattle.host_files.specs.Host.{count_if, is_failed};
 ghost use Rattle.scale_tool.specs.Answer.{IsAnswerOf, refused};
 ghost use Rattle.scale_tool.specs.Command.{Help, command_of, texts, may_give, may_answer, needs_memory, wants_of};
 ghost use Rattle.scale_tool.specs.Loading.{Missing, loading_of};
+ghost use Rattle.scale_tool.specs.Passing.{Passes};
 ghost use Rattle.scale_tool.specs.Promise.{Promised};
 ghost use Rattle.scale_tool.specs.Tool.{Ends, IsAnswered, IsStatusOfAll, StopsWithin, StoresStand, IsReadyFor};
 ghost use Rattle.scale_tool.specs.Views.{work_view, reply_view};
@@ -17,6 +18,7 @@ use crate::load_all::{AllLoaded, load_all};
 use crate::reply::Reply;
 use crate::texts;
 use host_files::{Host, HostError};
+use image_check::rewritten_images_pass;
 use scale_base::{Name, NoMemory, Refusal};
 use std::alloc::Global;
 
@@ -95,19 +97,31 @@ fn run<H: Host>(host: &mut H, alloc: Global, words: &[String]) -> Result<u8, Hos
 }
 
 /// Does what the words of a command line say, and answers the status.
-#[tactic(auto, using(crate::proofs::Promises::stored_keep_promise, crate::proofs::OneStatus::status_of_all))]
+///
+/// How the clauses go together: with 0, 5, 6 and 7 the command was done, so `answered` says what was stored and printed, and `promise` what that means for whoever
+/// runs it. With 3, `fault_leaves` says how far the answer came, and `promise_behind_a_fault` what the stores promise, where all of them stand nevertheless. That the tool is
+/// complete is `complete` with `answered`, `statuses` and `fault`: where nothing refuses the files the status is no 1, so the command was done, unless the host failed
+/// or memory ran out.
+#[tactic(auto, using(crate::proofs::Promises::answered_keep_promise, crate::proofs::Promises::stored_keep_promise, crate::proofs::OneStatus::status_of_all, crate::proofs::Passing::answered_passes))]
 pub fn run_tool<H: Host>(host: &mut H, alloc: Global, words: &[String]) -> u8
     // 2 exactly where the words are no command, and 4 for a command that needs memory.
     ensures statuses { IsTrue (may_answer (command_of (texts words.now)) result) }
 
-    // Any other status: the command's whole answer over the files that are told.
+    // Any status but 3 and 4: the command's whole answer over the files that are told.
     ensures answered { result ≢ 3 → result ≢ 4 → IsAnswered (command_of (texts words.now)) result (H.state host.old) (H.state host.new) }
 
-    // Every answer that may be given has the same status: where the files are refused it is 1, and else it isn't.
+    // All answers that are right for the files have one status, the one that was given: 1 where the files are refused, and else another one.
     ensures complete { result ≢ 3 → result ≢ 4 → IsStatusOfAll (command_of (texts words.now)) result (H.state host.old) }
 
-    // What the command's stores promise, also where only the print behind them failed.
-    ensures promise { StoresStand (command_of (texts words.now)) (H.state host.old) (H.state host.new) → Promised (command_of (texts words.now)) (H.state host.old) (H.state host.new) }
+    // What was done keeps the command's promise: with 0, with 5 and 6 of `make` too, and with 7.
+    ensures promise { result ≢ 1 → result ≢ 3 → result ≢ 4 → Promised (command_of (texts words.now)) (H.state host.old) (H.state host.new) }
+
+    // So do the stores of an answer that is no refusal, wherever all of them stand, as where only the print behind them failed.
+    ensures promise_behind_a_fault { StoresStand (command_of (texts words.now)) (H.state host.old) (H.state host.new) →
+        Promised (command_of (texts words.now)) (H.state host.old) (H.state host.new) }
+
+    // `check` of what `rewrite` stores of the same files: yes, with the numbers that `rewrite` printed.
+    ensures passes { result ≢ 3 → result ≢ 4 → Passes (command_of (texts words.now)) result (H.state host.old) (H.state host.new) }
 
     // 3 only where the host failed, and never over a steady host that has what it takes.
     ensures fault { result ≡ 3 → Rose (H.state host.old).faults (H.state host.new).faults }
@@ -118,6 +132,8 @@ pub fn run_tool<H: Host>(host: &mut H, alloc: Global, words: &[String]) -> u8
     // 4: nothing has happened.
     ensures memory { result ≡ 4 → IsUntouched (H.state host.old) (H.state host.new) }
 {
+    // The law behind `passes`.
+    rewritten_images_pass();
     match run(host, alloc, words) {
         Ok(status) => status,
         Err(HostError::Failed) => 3,
