@@ -62,23 +62,35 @@ flags_of : (p : List ℕ → Bool) (inputs : List (Vec ℕ Global)) → map (λ 
 flags_of p [] = refl
 flags_of p (v ∷ inputs) = ap (λ bs. p v.items ∷ bs) (flags_of p inputs)
 
+-- so many flags are set as inputs count, of as many as there are
+pub record AreCounted (image machine loops : List ℕ) (inputs : List (Vec ℕ Global)) (flags : List Bool) : Type 0 where
+  pub count : count_by (λ b. b) flags ≡ length (counting image machine loops (items_of inputs))
+  pub size : length flags ≡ length (items_of inputs)
+  pub most : count_by (λ b. b) flags ≤ length flags
+
+pub counted_flags : (image machine loops : List ℕ) (inputs : List (Vec ℕ Global)) (flags : List Bool) → flags ≡ map (λ v. counts image machine loops v.items) inputs → AreCounted image machine loops inputs flags
+counted_flags image machine loops inputs flags are =
+    let flagged : flags ≡ map (counts image machine loops) (items_of inputs) = are ∙ flags_of (counts image machine loops) inputs in
+    record {
+      count = ap (λ (bs : List Bool). count_by (λ b. b) bs) flagged ∙ flags_count (counts image machine loops) (items_of inputs);
+      size = ap length flagged ∙ length-map (items_of inputs) (counts image machine loops);
+      most = count_by-le-length (λ b. b) flags;
+    }
+
 pub choice_made : (image machine loops : List ℕ) (inputs : List (Vec ℕ Global)) (flags : List Bool) (best : Trial) (held : List ℕ) (summary : Summary) (hold_energy : ℕ) (stored : List ℕ) (tuned : Tuned) →
     flags ≡ map (λ v. counts image machine loops v.items) inputs → IsSafeChoice image machine loops (items_of inputs) 33 best → IsTrial image machine loops (items_of inputs) 0 held summary hold_energy →
     stored ≡ best.stored.items →
     tuned ≡ record { candidate = best.candidate; summary = best.summary; inputs = count_by (λ b. b) flags; left_out = length flags - count_by (λ b. b) flags; energy = best.energy; hold_energy = hold_energy } →
     IsChoice image machine loops (items_of inputs) stored tuned
 choice_made image machine loops inputs flags best held summary hold_energy stored tuned are h first file numbers =
-    let flagged : flags ≡ map (counts image machine loops) (items_of inputs) = are ∙ flags_of (counts image machine loops) inputs in
-    let count : count_by (λ b. b) flags ≡ length (counting image machine loops (items_of inputs)) = ap (λ (bs : List Bool). count_by (λ b. b) bs) flagged ∙ flags_count (counts image machine loops) (items_of inputs) in
-    let size : length flags ≡ length (items_of inputs) = ap length flagged ∙ length-map (items_of inputs) (counts image machine loops) in
-    let most : count_by (λ b. b) flags ≤ length flags = count_by-le-length (λ b. b) flags in
+    let are_counted = counted_flags image machine loops inputs flags are in
     let made : Tuned = record { candidate = best.candidate; summary = best.summary; inputs = count_by (λ b. b) flags; left_out = length flags - count_by (λ b. b) flags; energy = best.energy; hold_energy = hold_energy } in
     let whole : IsChoice image machine loops (items_of inputs) best.stored.items made = record {
       cheapest = h.cheapest;
       held = held;
       held_summary = summary;
       hold = first;
-      inputs = count;
-      left_out = omega (arith, most, size);
+      inputs = are_counted.count;
+      left_out = omega (arith, are_counted.most, are_counted.size);
     } in
     subst (λ (s : List ℕ). IsChoice image machine loops (items_of inputs) s tuned) (sym file) (subst (λ (t : Tuned). IsChoice image machine loops (items_of inputs) best.stored.items t) (sym numbers) whole)
