@@ -1,6 +1,6 @@
 -- The cheapest of the candidates of a family so far.
 use Rattle.std.proofs.Common.{◌≡◌, ℕ, ◌+◌, ◌<◌, ◌≤◌, Bool, true, false, cond, List, Option, Some, None, Result, Ok, Err, refl, sym, subst, arith, ◌⊎◌, inl, inr}
-use Rattle.std.specs.Prelude.{nat_lt, Vec}
+use Rattle.std.specs.Prelude.{nat_lt, IfOk, Vec}
 use Rattle.std.specs.declared.alloc.Global.{Global}
 use Rattle.std.proofs.lemmas.Bool.{ltb-true, ltb-false}
 use Rattle.scale_base.specs.declared.refusal.Stop.{Stop}
@@ -42,6 +42,11 @@ module _ (Candidate : ℕ → Answer → Type 0) (is_one : IsOne Candidate) (ima
   tried_given (Ok made) c tried h is = tried_or (Ok (made.0.items, made.1)) c tried h is
   tried_given (Err (Refused refusal)) c tried h is = tried_or (Err refusal) c tried h is
   tried_given (Err Memory) c tried h is = absurd is
+
+  pub tried_result : {E : Type 0} (made : Result (Vec ℕ Global × Summary) Stop) (c : ℕ) (result : Result (Option Trial) E) → AnswersBy (λ g. (g.0.items, g.1)) made (Candidate c) → IfOk result (IsTried image machine loops given c made)
+      → IfOk result (IsTrialOrOf Candidate image machine loops given c)
+  tried_result made c (Ok tried) h is = tried_given made c tried h is
+  tried_result made c (Err stop) h is = tt
 
   -- ---- the choice
 

@@ -55,7 +55,7 @@ bound_with power cycles j = greatest 0 (map (λ i. pair_bound power cycles i j) 
 
 -- the greatest bound: where time costs nothing, and at the price of each two levels
 unfoldable pub least_energy : PowerModel → ℕ → ℕ
-least_energy power cycles = greatest (cycles * (level power.levels 0).energy) (map (bound_with power cycles) (range_with_len 0 (length power.levels)))
+least_energy power cycles = greatest (bound_at power cycles 0 1) (map (bound_with power cycles) (range_with_len 0 (length power.levels)))
 
 -- ---- over runs
 

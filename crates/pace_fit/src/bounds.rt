@@ -76,7 +76,7 @@ pub fn least_energy(power: &Power, cycles: u64) -> u128
     ensures exact { result ≡ bounds.least_energy power.now cycles }
     ensures small { result ≤ 2 ^ 121 }
 {
-    let mut most = u128::from(cycles) * u128::from(power.levels.get(0).energy);
+    let mut most = bound_at(power, cycles, 0, 1);
     for j in 0..power.levels.count() {
         most = most.max(bound_with(power, cycles, j));
     }

@@ -1,7 +1,5 @@
-use Rattle.std.proofs.Common.{◌≡◌, ℕ, List, refl, sym, inl, ◌∙◌}
+use Rattle.std.proofs.Common.{Ok, refl, inl, ◌∙◌}
 use Rattle.gain_tuner.specs.Candidates.{IsCandidate}
-use Rattle.gain_tuner.specs.Choice.{IsTrial}
-use Rattle.gain_tuner.specs.Finding.{IsSafeTrial}
 use Rattle.gain_tuner.proofs.Chosen.{tried_safe}
 use Rattle.gain_tuner.proofs.Runs.{original_runs}
 use Rattle.gain_tuner.proofs.Steps.{items_of, choice_made}
@@ -12,7 +10,13 @@ pub counting_of-requires : goal.counting_of-requires
 counting_of-requires c = original_runs c.args.image.now c.args.machine.now c.args.loops.now c.args.held.0.items c.args.held.1 c.requires.held
 
 pub cheapest-requires-clause-held : goal.cheapest-requires-clause-held
-cheapest-requires-clause-held c = ?
+cheapest-requires-clause-held c =
+    tried_safe (IsCandidate c.args.image.now c.args.machine.now c.args.loops.now) (candidates_one c.args.image.now c.args.machine.now c.args.loops.now) c.args.image.now c.args.machine.now c.args.loops.now (items_of c.args.inputs.now)
+    (Ok (c.args.held.0.items, c.args.held.1)) 0 c.in_ok-first.first (inl (refl, c.requires.held)) c.in_ok-first.ensures
 
 pub returns-clause-choice : goal.returns-clause-choice
-returns-clause-choice c = ?
+returns-clause-choice c =
+    let first = tried_safe (IsCandidate c.args.image.now c.args.machine.now c.args.loops.now) (candidates_one c.args.image.now c.args.machine.now c.args.loops.now) c.args.image.now c.args.machine.now c.args.loops.now (items_of c.args.inputs.now)
+    (Ok (c.args.held.0.items, c.args.held.1)) 0 c.in_ok-first.first (inl (refl, c.requires.held)) c.in_ok-first.ensures in
+    choice_made c.args.image.now c.args.machine.now c.args.loops.now c.args.inputs.now c.deref-2.result.now c.in_ok-best.best c.in_ok-first.first.stored.items c.in_ok-first.first.summary c.in_ok-first.first.energy
+    c.choice_of.result.0.items c.choice_of.result.1 (c.deref-2.ensures.value ∙ c.in_ok-flags.ensures) c.in_ok-best.ensures first.trial c.choice_of.ensures.stored c.choice_of.ensures.tuned
