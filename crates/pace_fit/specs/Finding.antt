@@ -6,7 +6,7 @@ use Rattle.scaler.specs.Held.{IsHeld}
 use Rattle.scaler.specs.Promise.{IsStoredSafely}
 use Rattle.gain_tuner.specs.declared.choosing.Files.{Files}
 use Rattle.gain_tuner.specs.declared.choosing.Trial.{Trial}
-use Rattle.gain_tuner.specs.Finding.{IsTrialOrOf, Made, RunsAlways}
+use Rattle.gain_tuner.specs.Finding.{IsTrialOrOf, Made}
 use Rattle.gain_tuner.specs.Spending.{counts, counting, IsSpent}
 use Rattle.pace_fit.specs.declared.candidates.Proposal.{Proposal}
 use Rattle.pace_fit.specs.Fitting.{IsProposed}
@@ -27,8 +27,9 @@ given_inputs files = map (λ input. input.items) files.inputs.now
 abbrev pub counted_inputs : Files → List (List ℕ)
 counted_inputs files = counting files.image.now files.machine.now files.loops.now (given_inputs files)
 
-abbrev pub RunsOriginal : Files → Type 0
-RunsOriginal files = RunsAlways files.image.now files.machine.now (Some files.loops.now)
+-- the program can be held at one level
+abbrev pub HasHeld : (image machine loop_file : List ℕ) → Type 0
+HasHeld image machine loop_file = (held : List ℕ × Summary) × IsHeld image machine loop_file (Ok held)
 
 -- ---- trials
 

@@ -1,16 +1,14 @@
 //! The least energy of runs, whatever level each of their cycles is run at.
 
 ghost use Rattle.std.specs.Prelude.{◌≡◌, ◌≤◌, ◌<◌, ◌^◌, ℕ, List, length, IfOk, Ok};
-ghost use Rattle.std.specs.Result.{IsOk};
 ghost use Rattle.power_model.specs.Numbers.{IsPowerModel};
-ghost use Rattle.machine_file.specs.Machine as machines;
+ghost use Rattle.machine_file.specs.Machine.{read_machine};
 ghost use Rattle.pace_fit.specs.Least as bounds;
-ghost use Rattle.pace_fit.specs.Finding.{AreLoaded, RunsOriginal, counted_inputs};
+ghost use Rattle.pace_fit.specs.Finding.{AreLoaded, HasHeld, counted_inputs};
 
 use gain_tuner::{Files, report_of};
-use machine_file::read_machine;
 use power_model::{Level, Power};
-use scale_base::{NoMemory, Stop};
+use scale_base::NoMemory;
 use std::alloc::Global;
 
 /// What a cycle at a level takes where a unit of time costs a / b units of energy, times b.
@@ -83,22 +81,9 @@ pub fn least_energy(power: &Power, cycles: u64) -> u128
     most
 }
 
-/// The machine of a file that isn't refused.
-fn power_of(alloc: Global, machine: &[u8]) -> Result<Power, NoMemory>
-    requires { IsOk (machines.read_machine machine.now) }
-    ensures power { IfOk result (λ power. machines.read_machine machine.now ≡ Ok power) }
-    ensures in_range { IfOk result IsPowerModel }
-{
-    match read_machine(alloc, machine) {
-        Ok(power) => Ok(power),
-        Err(Stop::Memory) => Err(NoMemory),
-        Err(Stop::Refused(_)) => unreachable!(),
-    }
-}
-
 /// The cycles of the run of the original on an input.
 fn cycles_on(alloc: Global, files: &Files<'_>, input: &[u8]) -> Result<u64, NoMemory>
-    requires { RunsOriginal files.now }
+    requires { HasHeld files.now.image.now files.now.machine.now files.now.loops.now }
     ensures cycles { IfOk result (λ n. n ≡ bounds.cycles_on files.now.image.now files.now.machine.now files.now.loops.now input.now) }
     ensures small { IfOk result (λ n. n ≤ 2 ^ 56) }
 {
@@ -107,17 +92,17 @@ fn cycles_on(alloc: Global, files: &Files<'_>, input: &[u8]) -> Result<u64, NoMe
 }
 
 /// The least energy of the runs of the original on the inputs that count.
-pub fn least_over(alloc: Global, files: &Files<'_>) -> Result<u128, NoMemory>
+pub fn least_over(alloc: Global, files: &Files<'_>, power: &Power) -> Result<u128, NoMemory>
     requires files { AreLoaded files.now }
-    requires machine { IsOk (machines.read_machine files.now.machine.now) }
-    requires runs { RunsOriginal files.now }
+    requires power { IsPowerModel power.now }
+    requires machine { read_machine files.now.machine.now ≡ Ok power.now }
+    requires held { HasHeld files.now.image.now files.now.machine.now files.now.loops.now }
     ensures { IfOk result (bounds.IsLeastOver files.now.image.now files.now.machine.now files.now.loops.now (counted_inputs files.now)) }
 {
-    let power = power_of(alloc, files.machine)?;
     let mut energy: u128 = 0;
     for (k, input) in files.inputs.iter().enumerate() {
         if files.flags[k] {
-            energy += least_energy(&power, cycles_on(alloc, files, input)?);
+            energy += least_energy(power, cycles_on(alloc, files, input)?);
         }
     }
     Ok(energy)

@@ -31,7 +31,6 @@ pub fn trial_of(
         files.machine,
         files.loops,
         &proposal.sites,
-        proposal.counted,
     );
     trial_from(alloc, files, candidate, made)
 }

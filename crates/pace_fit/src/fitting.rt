@@ -3,6 +3,8 @@
 ghost use Rattle.std.specs.Prelude.{◌≡◌, ◌≤◌, ◌<◌, length, map, Ok, IfOk};
 ghost use Rattle.std.specs.List.{All};
 ghost use Rattle.scale_base.specs.Answer.{AnswersBy};
+ghost use Rattle.power_model.specs.Numbers.{IsPowerModel};
+ghost use Rattle.machine_file.specs.Machine as machines;
 ghost use Rattle.scaler.specs.Held.{IsHeld};
 ghost use Rattle.scaler.specs.Promise.{IsStoredSafely};
 ghost use Rattle.pace_fit.specs.Fitting.{IsFitted, IsFitting, IsRewriteEnergy};
@@ -11,7 +13,9 @@ ghost use Rattle.pace_fit.specs.Finding.{AreLoaded, counted_inputs, given_inputs
 use crate::bounds::least_over;
 use crate::candidates::Proposal;
 use crate::choosing::chosen;
-use gain_tuner::{Files, counting_of, count_of, held_trial, trial_from};
+use gain_tuner::{Files, count_of, counting_of, held_trial, trial_from};
+use machine_file::read_machine;
+use power_model::Power;
 use scale_base::{NoMemory, Stop, Summary};
 use scaler::{hold, rewrite};
 use std::alloc::Global;
@@ -53,10 +57,13 @@ fn rewrite_energy(alloc: Global, files: &Files<'_>) -> Result<Option<u128>, NoMe
 fn fit(
     alloc: Global,
     files: &Files<'_>,
+    power: &Power,
     proposals: &[Proposal],
     held: (Vec<u8>, Summary),
 ) -> Result<(Vec<u8>, Fitted), NoMemory>
     requires files { AreLoaded files.now }
+    requires power { IsPowerModel power.now }
+    requires machine { machines.read_machine files.now.machine.now ≡ Ok power.now }
     requires proposals { length proposals.now ≤ 64 }
     requires held { IsHeld files.now.image.now files.now.machine.now files.now.loops.now (Ok ((held.0.items, held.1))) }
     ensures fitted { IfOk result (λ given. IsFitted files.now.image.now files.now.machine.now files.now.loops.now (given_inputs files.now) proposals.now given.0.items given.1) }
@@ -75,7 +82,7 @@ fn fit(
         energy: best.energy,
         hold_energy,
         rewrite_energy: rewrite_energy(alloc, files)?,
-        least_energy: least_over(alloc, files)?,
+        least_energy: least_over(alloc, files, power)?,
     };
     Ok((best.stored, fitted))
 }
@@ -112,6 +119,7 @@ pub fn choose(
     // On each input on which the original run exits and is kept, the stored run keeps the promise.
     ensures safe { IfOk result (λ given. IsStoredSafely image.now machine.now loops.now given.0.items given.1.summary) }
 {
+    let power = read_machine(alloc, machine)?;
     let held = hold(alloc, image, machine, loops)?;
     let flags = counting_of(alloc, image, machine, loops, inputs)?;
     let files = Files {
@@ -121,5 +129,5 @@ pub fn choose(
         inputs,
         flags: &flags,
     };
-    Ok(fit(alloc, &files, proposals, held)?)
+    Ok(fit(alloc, &files, &power, proposals, held)?)
 }
