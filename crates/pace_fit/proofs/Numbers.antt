@@ -1,5 +1,6 @@
 -- The numbers of a fitting, and its refusal.
-use Rattle.std.proofs.Common.{◌≡◌, ℕ, ◌-◌, ◌+◌, ◌≤◌, Bool, List, length, map, Option, Some, None, Result, Ok, Err, refl, sym, ap, ◌∙◌, subst, arith, length-map}
+use Rattle.std.proofs.Common.{◌≡◌, ℕ, ◌-◌, ◌+◌, ◌≤◌, Bool, List, length, map, Option, Some, None, Result, Ok, Err, refl, sym, ap, ◌∙◌, subst, arith}
+use Rattle.std.proofs.lemmas.List.{length-map}
 use Rattle.std.specs.Prelude.{count_by, option_map, IfOk, Vec}
 use Rattle.std.specs.declared.alloc.Global.{Global}
 use Rattle.scale_base.specs.declared.refusal.Refusal.{Refusal}
@@ -83,3 +84,14 @@ module _ (files : Files) where
 
   pub counted : AreLoaded files → AreCounted files.image.now files.machine.now files.loops.now files.inputs.now files.flags.now
   counted h = counted_flags files.image.now files.machine.now files.loops.now files.inputs.now files.flags.now h.flags
+
+  pub flags_few : AreLoaded files → length files.flags.now ≤ 64
+  flags_few h =
+      let size : length files.flags.now ≡ length (given_inputs files) = (counted h).size in
+      let same : length (given_inputs files) ≡ length files.inputs.now = length-map files.inputs.now (λ (v : Vec ℕ Global). v.items) in
+      omega (arith, size, same, h.few)
+
+  pub left_of : AreLoaded files → (inputs left : ℕ) → inputs ≡ count_by (λ b. b) files.flags.now → left ≡ length files.flags.now - count_by (λ b. b) files.flags.now → inputs + left ≡ length (given_inputs files)
+  left_of h inputs left e e' =
+      let a = counted h in
+      omega (arith, a.size, a.most, e, e')

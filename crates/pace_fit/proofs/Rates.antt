@@ -51,11 +51,19 @@ pair_is power cycles i j slower faster n e e' h =
     h ∙ (ap (λ (l : Level). bound_at power cycles (faster.energy - l.energy) (l.period - faster.period)) e
     ∙ ap (λ (l : Level). bound_at power cycles (l.energy - (level power.levels i).energy) ((level power.levels i).period - l.period)) e')
 
+pub pair_ranked : (levels : List Level) → AreRanked levels → (i j : ℕ) (slower faster : Level) → i < j → j < length levels → slower ≡ level levels i → faster ≡ level levels j → IsSlower slower faster
+pair_ranked levels ranked i j slower faster lt below e e' =
+    subst (λ (l : Level). IsSlower slower l) (sym e') (subst (λ (l : Level). IsSlower l (level levels j)) (sym e) (ranked_below levels ranked i j lt below))
+
 pub greatest_more : (f : ℕ → ℕ) (m k most : ℕ) → most ≡ greatest m (map f (range_with_len 0 k)) → max most (f k) ≡ greatest m (map f (range_with_len 0 (k + 1)))
 greatest_more f m k most e =
     let same : 0 + k ≡ k = omega arith in
     let more = map-range_with_len_more f 0 k k same in
     ap (λ n. max n (f k)) e ∙ (sym (fold-append (λ a b. max a b) m (map f (range_with_len 0 k)) (f k ∷ [])) ∙ ap (greatest m) (sym more))
+
+pub least_energy_is : (power : PowerModel) (cycles j most : ℕ) → j ≡ length power.levels → most ≡ greatest (bound_at power cycles 0 1) (map (bound_with power cycles) (range_with_len 0 j)) → most ≡ least_energy power cycles
+unfolding least_energy
+least_energy_is power cycles j most last e = e ∙ ap (λ n. greatest (bound_at power cycles 0 1) (map (bound_with power cycles) (range_with_len 0 n))) last
 
 pub most_small : (most bound limit : ℕ) → most ≤ limit → bound ≤ limit → max most bound ≤ limit
 most_small most bound limit h h' = max-le h h'

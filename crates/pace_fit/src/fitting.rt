@@ -1,6 +1,6 @@
 //! The fitting of a program to inputs.
 
-ghost use Rattle.std.specs.Prelude.{◌≡◌, ◌≤◌, ◌<◌, length, map, Ok, IfOk};
+ghost use Rattle.std.specs.Prelude.{◌≡◌, ◌≤◌, ◌-◌, length, map, count_by, Ok, IfOk};
 ghost use Rattle.std.specs.List.{All};
 ghost use Rattle.scale_base.specs.Answer.{AnswersBy};
 ghost use Rattle.power_model.specs.Numbers.{IsPowerModel};
@@ -41,8 +41,24 @@ pub struct Fitted {
     pub least_energy: u128,
 }
 
+/// How many inputs count, by their flags.
+fn inputs_of(flags: &[bool]) -> u32
+    requires { length flags.now ≤ 64 }
+    ensures { result ≡ count_by (λ flag. flag) flags.now }
+{
+    count_of(flags) as u32
+}
+
+/// How many don't.
+fn left_out_of(flags: &[bool]) -> u32
+    requires { length flags.now ≤ 64 }
+    ensures { result ≡ length flags.now - count_by (λ flag. flag) flags.now }
+{
+    (flags.len() - count_of(flags)) as u32
+}
+
 /// The energy of the image that `rewrite` stores on the inputs that count, unless it is out.
-fn rewrite_energy(alloc: Global, files: &Files<'_>) -> Result<Option<u128>, NoMemory>
+fn rewritten_over(alloc: Global, files: &Files<'_>) -> Result<Option<u128>, NoMemory>
     requires { AreLoaded files.now }
     ensures { IfOk result (IsRewriteEnergy files.now.image.now files.now.machine.now files.now.loops.now (counted_inputs files.now)) }
 {
@@ -73,16 +89,19 @@ fn fit(
     let first = held_trial(alloc, files, held)?;
     let hold_energy = first.energy;
     let best = chosen(alloc, files, proposals, first)?;
-    let count = count_of(files.flags);
+    let rewrite_energy = rewritten_over(alloc, files)?;
+    let least_energy = least_over(alloc, files, power)?;
+    let inputs = inputs_of(files.flags);
+    let left_out = left_out_of(files.flags);
     let fitted = Fitted {
         candidate: best.candidate,
         summary: best.summary,
-        inputs: count as u32,
-        left_out: (files.flags.len() - count) as u32,
+        inputs,
+        left_out,
         energy: best.energy,
         hold_energy,
-        rewrite_energy: rewrite_energy(alloc, files)?,
-        least_energy: least_over(alloc, files, power)?,
+        rewrite_energy,
+        least_energy,
     };
     Ok((best.stored, fitted))
 }

@@ -4,7 +4,9 @@ use Rattle.pace_fit.proofs.Cycles.{steps_most}
 use Rattle.pace_fit.proofs.bounds.cycles_on.Goals as goal
 
 pub report_of-requires : goal.report_of-requires
-report_of-requires c = ?
+report_of-requires c =
+    let held = c.requires in
+    original_runs c.args.files.now.image.now c.args.files.now.machine.now c.args.files.now.loops.now held.0.0 held.0.1 held.1
 
 pub returns-clause-small : goal.returns-clause-small
 returns-clause-small c = ?
