@@ -17,7 +17,8 @@ use Rattle.gain_tuner.specs.declared.choosing.Trial.{Trial}
 use Rattle.gain_tuner.specs.Finding.{IsSafeTrialOf, IsTrialOrOf, IsTried, Made}
 use Rattle.gain_tuner.proofs.Laws.{Answer, AreCounted, counted_flags}
 use Rattle.pace_fit.specs.declared.candidates.Proposal.{Proposal}
-use Rattle.pace_fit.specs.Fitting.{HasEnergy, HasEnergyIfAny, IsHoldEnergy, IsProposed, IsRewriteEnergy}
+use Rattle.pace_fit.specs.declared.fitting.Fitted.{Fitted}
+use Rattle.pace_fit.specs.Fitting.{HasEnergy, HasEnergyIfAny, IsFitting, IsHoldEnergy, IsProposed, IsRewriteEnergy}
 use Rattle.pace_fit.specs.Finding.{AreLoaded, IsHeldTrial, IsProposalTried, counted_inputs, given_inputs}
 
 -- ---- results
@@ -31,9 +32,14 @@ if_ok_both (Ok a) f h h' = f a h h'
 if_ok_both (Err e) f h h' = tt
 
 -- the first refusal of all is that of the machine file
-pub machine_stops : (image machine loops : List ℕ) (stop : Stop) → Stops stop (read_machine machine) → AnswersBy {X = Vec ℕ Global × Summary} {Y = List ℕ × Summary} (λ given. (given.0.items, given.1)) (Err stop) (IsHeld image machine loops)
+machine_stops : (image machine loops : List ℕ) (stop : Stop) → Stops stop (read_machine machine) → AnswersBy {X = Vec ℕ Global × Summary} {Y = List ℕ × Summary} (λ given. (given.0.items, given.1)) (Err stop) (IsHeld image machine loops)
 unfolding IsHeld
 machine_stops image machine loops stop h = then_stops (read_machine machine) _ stop h
+
+pub fitting_stops : (image machine loops : List ℕ) (inputs : List (List ℕ)) (proposals : List Proposal) (stop : Stop) → Stops stop (read_machine machine) →
+    AnswersBy {X = Vec ℕ Global × Fitted} {Y = List ℕ × Fitted} (λ given. (given.0.items, given.1)) (Err stop) (IsFitting image machine loops inputs proposals)
+fitting_stops image machine loops inputs proposals (Refused refusal) h = machine_stops image machine loops (Refused refusal) h
+fitting_stops image machine loops inputs proposals Memory h = tt
 
 module _ (files : Files) where
   -- ---- trials
