@@ -12,6 +12,6 @@ pub returns : goal.returns
 returns c =
     let files = c.args.files.now in
     proposal_tried files c.args.proposal.now c.args.candidate c.trial_from.result c.pace-made.result
-    (subst (λ (sites : List SwitchSite). AnswersBy {X = Vec ℕ Global × Summary} {Y = List ℕ × Summary} (λ given. (given.0.items, given.1)) c.pace-made.result (IsPaced files.image.now files.machine.now files.loops.now sites))
+    (subst (λ (sites : List SwitchSite). AnswersBy {X = Vec ℕ Global × Summary} {Y = List ℕ × Summary} (λ given. (given.0.items, given.1)) c.pace-made.result (IsPaced files.image.now files.machine.now files.loops.now sites c.args.proposal.now.counted))
     c.deref.ensures.value c.pace-made.ensures.given)
     c.trial_from.ensures
