@@ -1,5 +1,5 @@
 //! Where a program's switches of level might stand, so that its runs take less energy. What is proposed is for others to try: nothing is promised of it.
-//! Tests: crates/answer_tests/src/searching.rt.
+//! Tests: none of its own. The crate that builds and runs what is proposed tries it.
 #![tactic(auto)]
 
 mod candidates;
@@ -13,4 +13,4 @@ mod sums;
 mod tracing;
 mod walking;
 
-pub use proposing::{SwitchSite, propose};
+pub use proposing::propose;

@@ -8,23 +8,21 @@ use crate::numbers::{Numbers, numbers_of};
 use crate::pricing::{MarkSet, Priced, RunPasses, Search};
 use crate::sums::{Sums, WHOLE};
 use crate::tracing::EdgeTrace;
-use code_graph::{CodeGraph, build_graph};
+use crate::walking::{WALKS, WalkPlan, walked};
+use code_graph::build_graph;
 use elf_view::{ImageView, read_image};
 use loop_file::read_loops;
 use loop_tree::build_loops;
 use machine_file::read_machine;
+use paced_images::SwitchSite;
 use power_model::Power;
-use scale_base::{EdgeKind, NoMemory, Stop};
+use scale_base::{NoMemory, Stop};
 use scaler::check_unscaled;
 use speed_sim::{End, start_of, watched_report};
 use std::alloc::Global;
 
-/// PLACEHOLDER
-#[derive(Clone, Copy)]
-pub struct SwitchSite {
-    pub at: u32,
-    pub kind: EdgeKind,
-}
+/// How many shares of the cycles of the runs on inputs make one walk's: three times as many as there are walks.
+const SHARES: u128 = 33;
 
 /// Inputs, with a flag for each that says whether it counts.
 #[derive(Drop)]
@@ -70,7 +68,64 @@ fn traced_input(
     }
 }
 
-/// What the runs do at the edges, in all.
+/// The cycles that the walks count for, in all 33 thirds of as many: those of the runs on inputs, and where there are none those of a worst run each.
+fn walked_cycles(numbers: &Numbers, inputs: &Sums) -> u128 {
+    let cycles = inputs.cycles() / u128::from(WHOLE);
+    if cycles > 0 {
+        cycles
+    } else {
+        u128::from(numbers.worst).saturating_mul(SHARES)
+    }
+}
+
+/// The weight of a walk of so many cycles, where the runs on inputs take so many: all walks alike, and together a third of the runs on inputs.
+fn walk_weight(all: u128, cycles: u64) -> u64 {
+    if cycles == 0 {
+        return 0;
+    }
+    let weight = all.saturating_mul(u128::from(WHOLE)) / SHARES / u128::from(cycles);
+    if weight < u128::from(u64::MAX) {
+        weight as u64
+    } else {
+        u64::MAX
+    }
+}
+
+/// Adds what the walks do at the edges.
+fn add_walks(
+    alloc: Global,
+    plan: &WalkPlan<'_>,
+    all: u128,
+    sums: &mut Sums,
+    trace: &mut EdgeTrace,
+) -> Result<(), NoMemory> {
+    for number in 0..WALKS {
+        if let Some(cycles) = walked(alloc, plan, number, trace)? {
+            sums.add(trace, cycles, walk_weight(all, cycles));
+        }
+    }
+    Ok(())
+}
+
+/// Adds what the walks do at the edges of the candidates.
+fn add_walk_runs(
+    alloc: Global,
+    plan: &WalkPlan<'_>,
+    all: u128,
+    candidates: &[Candidate],
+    runs: &mut Vec<RunPasses>,
+    trace: &mut EdgeTrace,
+) -> Result<(), NoMemory> {
+    for number in 0..WALKS {
+        if let Some(cycles) = walked(alloc, plan, number, trace)? {
+            let weight = walk_weight(all, cycles);
+            runs.push(RunPasses::new(alloc, candidates, trace, cycles, weight)?)?;
+        }
+    }
+    Ok(())
+}
+
+/// What the runs on the inputs do at the edges, in all.
 fn sums_of(
     alloc: Global,
     view: &ImageView<'_>,
@@ -88,7 +143,7 @@ fn sums_of(
     Ok(sums)
 }
 
-/// What each run does at the edges of the candidates.
+/// What each run on an input does at the edges of the candidates.
 fn runs_of(
     alloc: Global,
     view: &ImageView<'_>,
@@ -145,18 +200,21 @@ fn search_program(
     alloc: Global,
     view: &ImageView<'_>,
     power: &Power,
-    graph: &CodeGraph,
+    plan: &WalkPlan<'_>,
     numbers: &Numbers,
     inputs: &Inputs<'_>,
+    mut trace: EdgeTrace,
 ) -> Result<Vec<Vec<SwitchSite>>, Stop> {
-    let mut trace = EdgeTrace::new(alloc, graph, &power.costs)?;
-    let edges = graph.edge_count();
-    let sums = sums_of(alloc, view, power, inputs, edges, &mut trace)?;
+    let edges = numbers.edges.len();
+    let mut sums = sums_of(alloc, view, power, inputs, edges, &mut trace)?;
+    let all = walked_cycles(numbers, &sums);
+    add_walks(alloc, plan, all, &mut sums, &mut trace)?;
     let candidates = candidates_of(alloc, power, numbers, &sums)?;
     if candidates.is_empty() {
         return Ok(Vec::new(alloc));
     }
-    let runs = runs_of(alloc, view, power, inputs, &candidates, &mut trace)?;
+    let mut runs = runs_of(alloc, view, power, inputs, &candidates, &mut trace)?;
+    add_walk_runs(alloc, plan, all, &candidates, &mut runs, &mut trace)?;
     let search = Search {
         power,
         numbers,
@@ -183,13 +241,15 @@ fn search_files(
     let graph = build_graph(alloc, &view)?;
     let tree = build_loops(alloc, &graph, &notes)?;
     let numbers = numbers_of(alloc, &graph, &tree, &power)?;
-    search_program(alloc, &view, &power, &graph, &numbers, inputs)
+    let plan = WalkPlan::new(alloc, &graph, &tree, &numbers)?;
+    let trace = EdgeTrace::new(alloc, &graph, &power.costs)?;
+    search_program(alloc, &view, &power, &plan, &numbers, inputs, trace)
 }
 
 /// Up to 8 lists of up to 8 edges on which switches may save energy, as `pace` takes them with no loop counted; the most promising list first. None
 /// are given where the files are refused, or where nothing promises to save at least one percent of what the runs take at one level.
 ///
-/// The choice is by the runs of the original on the inputs that count and exit. It is the same for the same files, and nothing is promised of it: what it
+/// The choice is by the runs of the original on the inputs that count and exit, and by some random walks of its graph that keep the loop file. It is the same for the same files, and nothing is promised of it: what it
 /// proposes has to be made, and run, by others. The files have at most the bytes that the program loads: 4,194,304 of an image, 1,048,576 of each
 /// other file. One error: memory ran out.
 pub fn propose(

@@ -234,7 +234,9 @@ impl Watches for EdgeTrace {
     ghost watched = { λ _ _. tt };
 
     fn show(&mut self, step: &Stepped) {
-        self.spend(u64::from(self.costs.of(step.class)));
+        let costs = self.costs;
+        let cost = u64::from(costs.of(step.class));
+        self.spend(cost);
         match step.class {
             Class::Taken => self.leave(step.pc, EdgeKind::Taken),
             Class::Untaken => self.leave(step.pc, EdgeKind::Untaken),

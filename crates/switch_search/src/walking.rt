@@ -181,7 +181,7 @@ impl Walker {
             node: plan.graph.entry_node(0),
             counts: vec![in alloc; 0; plan.tree.loop_count()]?,
             calls: Vec::with_capacity(alloc, MOST_CALLS)?,
-            dice: Dice::new(number as u64 + 1),
+            dice: Dice::new((number as u64).wrapping_add(1)),
             bias,
         })
     }
