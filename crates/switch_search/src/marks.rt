@@ -53,6 +53,19 @@ fn least_behind(least: Option<u128>, tail: u64) -> Option<u128> {
     }
 }
 
+/// What a switch adds to the worst case at most. An edge with more slack than the code of the switch takes is on no worst way, but the
+/// other edge of its branch may be, which pays for the jumps.
+fn added_cycles(numbers: &EdgeNumbers, branch: bool, code: u64, jumps: u64) -> u64 {
+    if branch {
+        let each = code.saturating_sub(numbers.slack);
+        let over = numbers.passes.saturating_mul(each);
+        numbers.visits.saturating_mul(jumps).saturating_add(over)
+    } else {
+        let each = code.saturating_add(jumps).saturating_sub(numbers.slack);
+        numbers.passes.saturating_mul(each)
+    }
+}
+
 /// A switch on edge `e`, if it may have one.
 pub fn mark_of(numbers: &EdgeNumbers, e: usize, costs: &StubCosts) -> Option<Mark> {
     if !may_switch(numbers.edge.kind) {
@@ -64,19 +77,8 @@ pub fn mark_of(numbers: &EdgeNumbers, e: usize, costs: &StubCosts) -> Option<Mar
     } else {
         costs.jump
     };
-    // The worst case goes over the other edge of a branch where that one costs more.
-    let each = if branch {
-        costs
-            .code
-            .saturating_sub(numbers.slack)
-            .saturating_add(jumps)
-    } else {
-        costs
-            .code
-            .saturating_add(jumps)
-            .saturating_sub(numbers.slack)
-    };
-    let again = numbers.passes.saturating_sub(1).saturating_mul(each);
+    let added = added_cycles(numbers, branch, costs.code, jumps);
+    let again = added.saturating_sub(added.checked_div(numbers.passes).unwrap_or(0));
     Some(Mark {
         edge: e,
         other: numbers.other,
@@ -88,7 +90,7 @@ pub fn mark_of(numbers: &EdgeNumbers, e: usize, costs: &StubCosts) -> Option<Mar
             .saturating_add(costs.tail)
             .saturating_add(again),
         least: least_behind(numbers.least, costs.tail),
-        added: numbers.passes.saturating_mul(each),
+        added,
     })
 }
 

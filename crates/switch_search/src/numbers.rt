@@ -21,7 +21,8 @@ use std::alloc::Global;
 use worst_cycles::{WorstNumbers, worst};
 
 /// An edge, the other one of its branch, the loop of which it is a back edge, and its numbers in cycles: its cost, its slack, what is left at most
-/// and at least of the run behind it; and how often a run goes through its instruction at most.
+/// and at least of the run behind it; and how often a run goes through its
+/// instruction at most, and over the edge itself.
 #[derive(Clone, Copy)]
 pub struct EdgeNumbers {
     pub edge: Edge,
@@ -31,6 +32,7 @@ pub struct EdgeNumbers {
     pub slack: u64,
     pub rest: u64,
     pub least: Option<u128>,
+    pub visits: u64,
     pub passes: u64,
 }
 
@@ -47,7 +49,7 @@ pub struct Numbers {
 struct Plain<'a> {
     weights: &'a Weights,
     backs: &'a [Option<usize>],
-    passes: &'a [u64],
+    visits: &'a [u64],
 }
 
 impl Plain<'_> {
@@ -57,6 +59,18 @@ impl Plain<'_> {
             u64::from(*self.weights.get(e))
         } else {
             0
+        }
+    }
+
+    /// How often a run goes over edge `e` at most: not more often than through either of its nodes.
+    fn passes(&self, graph: &CodeGraph, e: usize) -> u64 {
+        if e >= graph.edge_count() {
+            return 0;
+        }
+        let from = number_at(self.visits, graph.source(e));
+        match graph.target(e) {
+            Some(v) => from.min(number_at(self.visits, v)),
+            None => from,
         }
     }
 
@@ -91,7 +105,8 @@ fn edge_numbers(
             slack: worst.slack(e),
             rest: worst.rest(e),
             least: least.to_end_after(e),
-            passes: number_at(plain.passes, graph.source(e)),
+            visits: number_at(plain.visits, graph.source(e)),
+            passes: plain.passes(graph, e),
         })?;
     }
     Ok(edges)
@@ -110,11 +125,11 @@ pub fn numbers_of(
     let worst = worst(alloc, graph, tree, &weights)?;
     let start = starting_level(power, worst.total())?;
     let least = least(alloc, graph, tree, &weights)?;
-    let passes = most_passes(alloc, graph, tree)?;
+    let visits = most_passes(alloc, graph, tree)?;
     let plain = Plain {
         weights: &weights,
         backs: tree.backs(),
-        passes: &passes,
+        visits: &visits,
     };
     let edges = edge_numbers(alloc, graph, &plain, &worst, &least)?;
     Ok(Numbers {
