@@ -3,7 +3,7 @@ use Rattle.std.proofs.Common.{◌≡◌, ℕ, zero, suc, ◌+◌, ◌<◌, Bool,
 use Rattle.std.specs.Prelude.{IsSome, sum_by, unwrap_or, count_by}
 use Rattle.std.specs.List.{All, filter}
 use Rattle.std.proofs.lemmas.List.{take_more}
-use Rattle.std.proofs.lemmas.List.Elements.{All-push, All-head, All-tail, filter-append}
+use Rattle.std.proofs.lemmas.List.Elements.{All-nil, All-push, All-head, All-tail, filter-append}
 use Rattle.std.proofs.lemmas.List.Sums.{sum_by_push, sum_by-cons, length-filter}
 use Rattle.gain_tuner.specs.Spending.{IsSpent, spent_on}
 
@@ -24,6 +24,9 @@ module _ (p : List ℕ → Bool) (xs : List (List ℕ)) (k : ℕ) (x : List ℕ)
   left_more e = ap (filter p) more ∙ (filter-append p (take k xs) (x ∷ []) ∙ (ap (λ b. filter p (take k xs) ++ cond b (x ∷ []) []) e ∙ nothing (filter p (take k xs))))
 
 module _ (stored machine : List ℕ) where
+  pub none_spent : IsSpent stored machine [] 0
+  none_spent = record { ends = All-nil (λ input. IsSome (spent_on stored machine input)); sum = refl }
+
   one_more : (ys : List (List ℕ)) (x : List ℕ) (energy one : ℕ) → spent_on stored machine x ≡ Some one → IsSpent stored machine ys energy → IsSpent stored machine (ys ++ x ∷ []) (energy + one)
   one_more ys x energy one e h =
       let f : List ℕ → ℕ = λ input. unwrap_or (spent_on stored machine input) 0 in

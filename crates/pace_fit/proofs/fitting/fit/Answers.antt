@@ -1,4 +1,4 @@
-use Rattle.std.proofs.Common.{sym, ◌∙◌}
+use Rattle.std.proofs.Common.{◌∙◌}
 use Rattle.pace_fit.proofs.Numbers.{counted, flags_few, held_trial_is, hold_found, left_of}
 use Rattle.pace_fit.proofs.fitting.fit.Goals as goal
 

@@ -1,4 +1,4 @@
-use Rattle.std.proofs.Common.{ℕ, List, Option, None, subst}
+use Rattle.std.proofs.Common.{ℕ, Option, None, subst}
 use Rattle.std.specs.Prelude.{Vec}
 use Rattle.std.specs.declared.alloc.Global.{Global}
 use Rattle.scale_base.specs.declared.summary.Summary.{Summary}
