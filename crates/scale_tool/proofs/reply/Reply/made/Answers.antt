@@ -1,4 +1,4 @@
-use Rattle.std.proofs.Common.{◌≡◌, ◌≤◌, length, ℕ, List, [], ◌∷◌, drop, get_or, Bor, subst, sym, ap, ◌∙◌, arith}
+use Rattle.std.proofs.Common.{◌≡◌, ◌≤◌, length, ℕ, List, [], ◌∷◌, get_or, Bor, subst, sym, ap, ◌∙◌, arith}
 use Rattle.std.specs.Prelude.{Vec, Some, None, IfOk, Option, Result, option_map}
 use Rattle.std.specs.declared.alloc.Global.{Global}
 use Rattle.std.specs.List.{All}
@@ -9,7 +9,7 @@ use Rattle.scale_tool.specs.declared.reply.Reply.{Reply}
 use Rattle.scale_tool.specs.Answer.{MakesRun, Makes}
 use Rattle.scale_tool.specs.Views.{reply_view, work_view, files_view}
 use Rattle.scale_tool.specs.Command.{Command, Simulate, texts, wants_of}
-use Rattle.scale_tool.proofs.GivenInputs.{AreSplit, AreWanted, as_many, four_first, three_first}
+use Rattle.scale_tool.proofs.GivenInputs.{AreWanted, as_many, four_first, three_first}
 use Rattle.scale_tool.proofs.reply.Reply.made.Goals as goal
 
 -- a file for each that is wanted, within its limit
