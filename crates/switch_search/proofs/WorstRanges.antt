@@ -1,8 +1,7 @@
 -- Worst cycles that were found are in the range that least cycles need.
-use Rattle.std.proofs.Common.{◌≡◌, ℕ, ◌≤◌, arith, length, slice_get, Some}
+use Rattle.std.proofs.Common.{◌≡◌, ℕ, arith, slice_get, Some}
 use Rattle.std.proofs.lemmas.Option.{get_or_from_slice_get}
 use Rattle.cost_theory.specs.Graph.{Loops}
-use Rattle.cost_theory.specs.Worst.{Numbers}
 use Rattle.code_graph.specs.FlowGraph.{FlowGraph, graph, IsFlowGraph}
 use Rattle.worst_cycles.specs.Worst.{WorstView, IsWorstInRange}
 use Rattle.least_cycles.specs.Found.{HasWorstInRange}

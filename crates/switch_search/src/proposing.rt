@@ -68,7 +68,7 @@ fn traced_input(
     }
 }
 
-/// The cycles that the walks count for, in all 33 thirds of as many: those of the runs on inputs, and where there are none those of a worst run each.
+/// The cycles of which each walk counts for a share: those of the runs on inputs, and where there are none, as many as make a share a worst run.
 fn walked_cycles(numbers: &Numbers, inputs: &Sums) -> u128 {
     let cycles = inputs.cycles() / u128::from(WHOLE);
     if cycles > 0 {
@@ -246,12 +246,13 @@ fn search_files(
     search_program(alloc, &view, &power, &plan, &numbers, inputs, trace)
 }
 
-/// Up to 8 lists of up to 8 edges on which switches may save energy, as `pace` takes them with no loop counted; the most promising list first. None
-/// are given where the files are refused, or where nothing promises to save at least one percent of what the runs take at one level.
+/// Up to 8 lists of up to 8 edges on which switches may save energy, as `pace` takes them with no loop counted; the most promising list first.
+/// None are given where the files are refused, or where nothing promises to save at least one percent of what the runs take at one level.
 ///
-/// The choice is by the runs of the original on the inputs that count and exit, and by some random walks of its graph that keep the loop file. It is the same for the same files, and nothing is promised of it: what it
-/// proposes has to be made, and run, by others. The files have at most the bytes that the program loads: 4,194,304 of an image, 1,048,576 of each
-/// other file. One error: memory ran out.
+/// The choice is by the runs of the original on the inputs that count and exit, and by some random walks of its graph that keep the loop file:
+/// a third as much in all, and alone where no input counts. It is the same for the same files. Nothing is promised of it: what it proposes has
+/// to be made and run by others. The files have at most the bytes that the program loads: 4,194,304 of an image, 1,048,576 of each other
+/// file. One error: memory ran out.
 pub fn propose(
     alloc: Global,
     image: &[u8],
