@@ -88,19 +88,19 @@ def broken(program, deadline, added, k):
     return [what for what, is_so in told.items() if is_so], (number(paced[1], "energy"), number(held[1], "energy"))
 
 
-def fit(program, factor, worst):
-    """What is broken, the ratios of the energies on the fitted inputs together and on each new one, and the bytes that are added."""
+def fit(program, factor, worst, inputs=FITTED):
+    """Fits an image to these inputs: what is broken, the ratios of the energies on the fitted inputs together and on each new one, and the bytes that are added."""
     deadline = int(factor * worst)
     program.with_deadline(deadline)
     run(program.tools.scale, "hold", *program.files(), program.path("held"))
-    status, text = run(program.tools.pace, "fit", *program.files(), program.path("fitted"), *(program.path(f"input{k}") for k in FITTED))
+    status, text = run(program.tools.pace, "fit", *program.files(), program.path("fitted"), *(program.path(f"input{k}") for k in inputs))
     if status:
         return [f"status {status}"], None, [], 0
     added = number(text, "stub cycles at most")
     found = {k: broken(program, deadline, added, k) for k in FITTED + NEW}
     faults = [f"input {k}: {what}" for k in found for what in found[k][0]]
     fitted = [found[k][1] for k in FITTED if found[k][1]]
-    if fitted and sum(one for one, _ in fitted) > sum(other for _, other in fitted):
+    if inputs and fitted and sum(one for one, _ in fitted) > sum(other for _, other in fitted):
         faults.append("more energy than that of hold on the inputs that were fitted to")
     ratio = sum(one for one, _ in fitted) / sum(other for _, other in fitted) if fitted else None
     return faults, ratio, [one / other for one, other in (found[k][1] for k in NEW if found[k][1])], number(text, "stub bytes")

@@ -1,0 +1,88 @@
+#!/usr/bin/env python3
+"""Runs the program `pace` itself, on words and on made programs, and checks what comes of it.
+
+    fits.py SCALE PACE ..   these builds of `pace`, with a build of `scale` beside them
+
+Words: help and the version with status 0, words that are none with 2 and nothing on standard output, a file that is missing with 3, files that are refused
+with 1, a disk that is full with 3. Made programs: what `bench/fit.py` checks of each run, at three deadlines, with inputs and without. What is wrong is told,
+and the status is then 1.
+"""
+
+import os
+import shutil
+import subprocess
+import sys
+import tempfile
+
+TOP = os.path.dirname(os.path.dirname(os.path.abspath(__file__)))
+sys.path.insert(0, os.path.join(TOP, "bench"))
+
+import fit  # noqa: E402
+
+PROGRAMS, SIZE = (2001, 2002, 2003), 40
+FILES = ["v1.elf", "m.toml", "loops.toml"]
+DATA = os.path.join(TOP, "crates", "scale_tool", "data")
+
+
+def run(program, folder, *words, output=subprocess.PIPE):
+    return subprocess.run([program, *words], cwd=folder, stdout=output, stderr=subprocess.PIPE, timeout=60)
+
+
+def check_words(pace, folder):
+    """What is wrong of the answers to words."""
+    for name in FILES:
+        shutil.copy(os.path.join(DATA, name), folder)
+    fitted = ["fit", *FILES, "out"]
+    cases = [
+        (["--help"], 0, b"fit"),
+        (["fit", "--help"], 0, b"IMAGE"),
+        (["--version"], 0, b"pace "),
+        ([], 2, b""),
+        (["hold"], 2, b""),
+        (fitted[:4], 2, b""),
+        ([*fitted, *["m.toml"] * 65], 2, b""),
+        (["fit", "missing", *FILES[1:], "out"], 3, b""),
+        (["fit", "m.toml", *FILES[1:], "out"], 1, b"refused 1 not an ELF file\n"),
+        (["fit", FILES[0], FILES[2], FILES[2], "out"], 1, b"refused "),
+        (fitted, 0, b"start level "),
+    ]
+    for words, status, begin in cases:
+        done = run(pace, folder, *words)
+        if done.returncode != status or (begin not in done.stdout if begin else done.stdout):
+            yield "pace %s: status %d, %r on standard output" % (" ".join(words[:8]), done.returncode, done.stdout[:80])
+    with open("/dev/full", "wb") as full:
+        done = run(pace, folder, *fitted, output=full)
+    if done.returncode != 3:
+        yield "pace fit .. > /dev/full: status %d" % done.returncode
+
+
+class Tools:
+    def __init__(self, scale, pace):
+        self.scale, self.pace = scale, pace
+
+
+def check_programs(scale, pace):
+    """What is wrong of fitted images."""
+    for which in PROGRAMS:
+        with tempfile.TemporaryDirectory(prefix="pace-fits-") as folder:
+            program = fit.Program(Tools(scale, pace), folder, which, SIZE)
+            worst = program.worst()
+            for factor in fit.DEADLINES:
+                for inputs in (fit.FITTED, ()):
+                    for fault in fit.fit(program, factor, worst, inputs)[0]:
+                        yield "%s, deadline %s times the worst cycles, %d inputs: %s" % (program.name, factor, len(inputs), fault)
+
+
+def main():
+    scale, *programs = map(os.path.abspath, sys.argv[1:])
+    wrong = []
+    for pace in programs:
+        with tempfile.TemporaryDirectory(prefix="pace-fits-") as folder:
+            wrong += check_words(pace, folder)
+        wrong += check_programs(scale, pace)
+    print("\n".join([*wrong, "%d builds of pace%s" % (len(programs), ", and not all as expected" if wrong else " as expected")]))
+    return 1 if wrong else 0
+
+
+if __name__ == "__main__":
+    sys.exit(main())
