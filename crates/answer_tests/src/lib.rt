@@ -4,6 +4,8 @@
 #[cfg(test)]
 mod checking;
 #[cfg(test)]
+mod fitting;
+#[cfg(test)]
 mod fixtures;
 #[cfg(test)]
 mod lowering;

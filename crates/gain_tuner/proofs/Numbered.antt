@@ -14,7 +14,7 @@ use Rattle.scaler.specs.RewrittenAs.{IsRewrittenAs}
 use Rattle.scaler.proofs.Laws.{held_answers, rewritten_as_answers}
 use Rattle.gain_tuner.specs.Candidates.{IsCandidate, IsGained}
 
-abbrev Answer : Type 0
+abbrev pub Answer : Type 0
 Answer = Result (List ℕ × Summary) Refusal
 
 -- ---- the numbers

@@ -32,7 +32,7 @@ use Rattle.gain_tuner.specs.Spending.{ends_by_exit, was_kept, exits_kept, counts
 then_is : {A B : Type 0} (part : Result A Refusal) (a : A) (next : A → Result B Refusal) → part ≡ Ok a → (part >>= next) ≡ next a
 then_is part a next e = ap (λ q. q >>= next) e
 
-simulated_plain : (image machine loops input : List ℕ) (power : PowerModel) (original : Image) (notes : List LoopNote) → read_machine machine ≡ Ok power → image_of image ≡ Ok original → original.keyed_segment ≡ None →
+pub simulated_plain : (image machine loops input : List ℕ) (power : PowerModel) (original : Image) (notes : List LoopNote) → read_machine machine ≡ Ok power → image_of image ≡ Ok original → original.keyed_segment ≡ None →
     read_loops original loops ≡ Ok notes → simulated image machine input (Some loops) ≡ Ok (report_of power original input (Some notes))
 unfolding simulated
 simulated_plain image machine loops input power original notes a b c d =

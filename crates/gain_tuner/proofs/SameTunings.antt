@@ -7,15 +7,20 @@ use Rattle.scale_base.specs.declared.summary.Tuned.{Tuned}
 use Rattle.scaler.specs.Held.{IsHeld}
 use Rattle.scaler.proofs.Laws.{held_answers}
 use Rattle.gain_tuner.specs.Agreeing.{TuningsAgree}
+use Rattle.gain_tuner.specs.Candidates.{IsCandidate}
 use Rattle.gain_tuner.specs.Choice.{IsCheapest, IsChoice, IsTrial}
+use Rattle.gain_tuner.specs.Spending.{counting}
 use Rattle.gain_tuner.proofs.Numbered.{candidates_alike}
-use Rattle.gain_tuner.proofs.Trials.{refused_out, same_energy}
+use Rattle.gain_tuner.proofs.Trials.{candidates_one, refused_out, same_energy}
 
 abbrev tuned_by : (candidate : ℕ) (summary : Summary) (inputs left_out energy hold_energy : ℕ) → Tuned
 tuned_by candidate summary inputs left_out energy hold_energy =
     record { candidate = candidate; summary = summary; inputs = inputs; left_out = left_out; energy = energy; hold_energy = hold_energy }
 
 module _ (image machine loops : List ℕ) (given : List (List ℕ)) where
+  energies : (c : ℕ) (one other : List ℕ) (m m' : Summary) (e e' : ℕ) → IsTrial image machine loops given c one m e → IsTrial image machine loops given c other m' e' → e ≡ e'
+  energies c = same_energy (IsCandidate image machine loops) (candidates_one image machine loops) machine (counting image machine loops given) c
+
   -- of two candidates that are the cheapest neither is the first
   not_before : (n c c' : ℕ) (one other : List ℕ) (m m' : Summary) (e e' : ℕ) → IsCheapest image machine loops given n c one m e → IsCheapest image machine loops given n c' other m' e' → c < c' → ⊥
   not_before n c c' one other m m' e e' h h' before =
@@ -39,8 +44,8 @@ module _ (image machine loops : List ℕ) (given : List (List ℕ)) where
       let there : IsTrial image machine loops given t'.candidate stored t.summary t.energy = subst (λ c. IsTrial image machine loops given c stored t.summary t.energy) candidate h.cheapest.trial in
       let answer : (stored, t.summary) ≡ (stored', t'.summary) =
       candidates_alike image machine loops t'.candidate (Ok (stored, t.summary)) (Ok (stored', t'.summary)) there.answer_is h'.cheapest.trial.answer_is in
-      let energy : t.energy ≡ t'.energy = same_energy image machine loops given t'.candidate stored stored' t.summary t'.summary t.energy t'.energy there h'.cheapest.trial in
-      let hold : t.hold_energy ≡ t'.hold_energy = same_energy image machine loops given 0 h.held h'.held h.held_summary h'.held_summary t.hold_energy t'.hold_energy h.hold h'.hold in
+      let energy : t.energy ≡ t'.energy = energies t'.candidate stored stored' t.summary t'.summary t.energy t'.energy there h'.cheapest.trial in
+      let hold : t.hold_energy ≡ t'.hold_energy = energies 0 h.held h'.held h.held_summary h'.held_summary t.hold_energy t'.hold_energy h.hold h'.hold in
       let inputs : t.inputs ≡ t'.inputs = h.inputs ∙ sym h'.inputs in
       let left : t.left_out ≡ t'.left_out = same_left t.inputs t.left_out t'.inputs t'.left_out (length given) inputs h.left_out h'.left_out in
       ap (λ (g : List ℕ × Summary). (g.0, tuned_by t.candidate g.1 t.inputs t.left_out t.energy t.hold_energy)) answer

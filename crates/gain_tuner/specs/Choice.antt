@@ -7,17 +7,24 @@ use Rattle.scaler.specs.Held.{IsHeld}
 use Rattle.gain_tuner.specs.Candidates.{IsCandidate}
 use Rattle.gain_tuner.specs.Spending.{counting, IsSpent}
 
--- a candidate that isn't out: it isn't refused, its run on no input that counts is out of steps, and this is the sum of their energies
-pub record IsTrial (image machine loop_file : List ℕ) (given : List (List ℕ)) (c : ℕ) (stored : List ℕ) (summary : Summary) (energy : ℕ) : Type 0 where
-  pub answer_is : IsCandidate image machine loop_file c (Ok ((stored, summary)))
-  pub spent : IsSpent stored machine (counting image machine loop_file given) energy
+-- a candidate of a family that isn't out: it isn't refused, no run on these inputs is out of steps, and this is the sum of their energies
+pub record IsTrialOf (Candidate : ℕ → Result (List ℕ × Summary) Refusal → Type 0) (machine : List ℕ) (inputs : List (List ℕ)) (c : ℕ) (stored : List ℕ) (summary : Summary) (energy : ℕ) : Type 0 where
+  pub answer_is : Candidate c (Ok ((stored, summary)))
+  pub spent : IsSpent stored machine inputs energy
 
--- of the candidates below n that aren't out the one with the least sum, of several the least
-pub record IsCheapest (image machine loop_file : List ℕ) (given : List (List ℕ)) (n c : ℕ) (stored : List ℕ) (summary : Summary) (energy : ℕ) : Type 0 where
+-- of the candidates of a family below n that aren't out the one with the least sum, of several the least
+pub record IsCheapestOf (Candidate : ℕ → Result (List ℕ × Summary) Refusal → Type 0) (machine : List ℕ) (inputs : List (List ℕ)) (n c : ℕ) (stored : List ℕ) (summary : Summary) (energy : ℕ) : Type 0 where
   pub below : c < n
-  pub trial : IsTrial image machine loop_file given c stored summary energy
-  pub least : (d : ℕ) (other : List ℕ) (s : Summary) (e : ℕ) → d < n → IsTrial image machine loop_file given d other s e → energy ≤ e
-  pub first : (d : ℕ) (other : List ℕ) (s : Summary) (e : ℕ) → d < c → IsTrial image machine loop_file given d other s e → energy < e
+  pub trial : IsTrialOf Candidate machine inputs c stored summary energy
+  pub least : (d : ℕ) (other : List ℕ) (s : Summary) (e : ℕ) → d < n → IsTrialOf Candidate machine inputs d other s e → energy ≤ e
+  pub first : (d : ℕ) (other : List ℕ) (s : Summary) (e : ℕ) → d < c → IsTrialOf Candidate machine inputs d other s e → energy < e
+
+-- the same of the candidates of a tuning, on the inputs that count
+abbrev pub IsTrial : (image machine loop_file : List ℕ) → List (List ℕ) → ℕ → List ℕ → Summary → ℕ → Type 0
+IsTrial image machine loop_file given = IsTrialOf (IsCandidate image machine loop_file) machine (counting image machine loop_file given)
+
+abbrev pub IsCheapest : (image machine loop_file : List ℕ) → List (List ℕ) → ℕ → ℕ → List ℕ → Summary → ℕ → Type 0
+IsCheapest image machine loop_file given = IsCheapestOf (IsCandidate image machine loop_file) machine (counting image machine loop_file given)
 
 -- the stored image and the numbers of the choice among 33 candidates
 pub record IsChoice (image machine loop_file : List ℕ) (given : List (List ℕ)) (stored : List ℕ) (tuned : Tuned) : Type 0 where

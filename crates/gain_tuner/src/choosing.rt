@@ -1,7 +1,9 @@
 //! The choice among the candidates.
 
-ghost use Rattle.std.specs.Prelude.{◌≡◌, ◌≤◌, ◌<◌, length, map, IfOk};
-ghost use Rattle.gain_tuner.specs.Finding.{IsSafeTrial, IsTrialOr, IsSafeChoice, cheaper_of};
+ghost use Rattle.std.specs.Prelude.{◌≡◌, ◌≤◌, ◌<◌, length, map, Ok, IfOk};
+ghost use Rattle.scaler.specs.Held.{IsHeld};
+ghost use Rattle.scaler.specs.Promise.{IsStoredSafely};
+ghost use Rattle.gain_tuner.specs.Finding.{IsSafeTrial, IsSafeTrialOf, IsTrialOr, IsTried, IsSafeChoice, Made, cheaper_of};
 ghost use Rattle.gain_tuner.specs.Spending.{counts};
 
 use crate::candidates::candidate_of;
@@ -31,18 +33,43 @@ pub struct Trial {
     pub energy: u128,
 }
 
-/// The candidate of a number from 1 on, unless it is out.
-fn trial_of(alloc: Global, files: &Files<'_>, candidate: u32) -> Result<Option<Trial>, NoMemory>
+/// The trial of the image that runs at one level, which is never out.
+pub fn held_trial(
+    alloc: Global,
+    files: &Files<'_>,
+    held: (Vec<u8>, Summary),
+) -> Result<Trial, NoMemory>
     requires image { length files.now.image.now ≤ 4194304 }
     requires machine { length files.now.machine.now ≤ 1048576 }
     requires loops { length files.now.loops.now ≤ 1048576 }
     requires few { length files.now.inputs.now ≤ 64 }
     requires flags { files.now.flags.now ≡ map (λ input. counts files.now.image.now files.now.machine.now files.now.loops.now input.items) files.now.inputs.now }
-    requires from { 1 ≤ candidate }
-    requires to { candidate < 33 }
-    ensures { IfOk result (IsTrialOr files.now.image.now files.now.machine.now files.now.loops.now (map (λ input. input.items) files.now.inputs.now) candidate) }
+    requires held { IsHeld files.now.image.now files.now.machine.now files.now.loops.now (Ok ((held.0.items, held.1))) }
+    ensures { IfOk result (IsSafeTrialOf (Made (Ok ((held.0.items, held.1)))) files.now.image.now files.now.machine.now files.now.loops.now (map (λ input. input.items) files.now.inputs.now) 0) }
 {
-    match candidate_of(alloc, files.image, files.machine, files.loops, candidate) {
+    let (stored, summary) = held;
+    let energy = spent_over(alloc, files, &stored)?.unwrap();
+    Ok(Trial {
+        candidate: 0,
+        stored,
+        summary,
+        energy,
+    })
+}
+
+/// The trial of what was made of a candidate, unless it is out.
+pub fn trial_from(
+    alloc: Global,
+    files: &Files<'_>,
+    candidate: u32,
+    made: Result<(Vec<u8>, Summary), Stop>,
+) -> Result<Option<Trial>, NoMemory>
+    requires few { length files.now.inputs.now ≤ 64 }
+    requires flags { files.now.flags.now ≡ map (λ input. counts files.now.image.now files.now.machine.now files.now.loops.now input.items) files.now.inputs.now }
+    requires safe { IfOk made (λ given. IsStoredSafely files.now.image.now files.now.machine.now files.now.loops.now given.0.items given.1) }
+    ensures { IfOk result (IsTried files.now.image.now files.now.machine.now files.now.loops.now (map (λ input. input.items) files.now.inputs.now) candidate made) }
+{
+    match made {
         Ok((stored, summary)) => match spent_over(alloc, files, &stored)? {
             Some(energy) => Ok(Some(Trial {
                 candidate,
@@ -57,8 +84,23 @@ fn trial_of(alloc: Global, files: &Files<'_>, candidate: u32) -> Result<Option<T
     }
 }
 
+/// The candidate of a number from 1 on, unless it is out.
+fn trial_of(alloc: Global, files: &Files<'_>, candidate: u32) -> Result<Option<Trial>, NoMemory>
+    requires image { length files.now.image.now ≤ 4194304 }
+    requires machine { length files.now.machine.now ≤ 1048576 }
+    requires loops { length files.now.loops.now ≤ 1048576 }
+    requires few { length files.now.inputs.now ≤ 64 }
+    requires flags { files.now.flags.now ≡ map (λ input. counts files.now.image.now files.now.machine.now files.now.loops.now input.items) files.now.inputs.now }
+    requires from { 1 ≤ candidate }
+    requires to { candidate < 33 }
+    ensures { IfOk result (IsTrialOr files.now.image.now files.now.machine.now files.now.loops.now (map (λ input. input.items) files.now.inputs.now) candidate) }
+{
+    let made = candidate_of(alloc, files.image, files.machine, files.loops, candidate);
+    trial_from(alloc, files, candidate, made)
+}
+
 /// Of two candidates the one of less energy, and the first where they take the same.
-fn cheaper(best: Trial, other: Option<Trial>) -> Trial
+pub fn cheaper(best: Trial, other: Option<Trial>) -> Trial
     ensures { result ≡ cheaper_of best other }
 {
     match other {

@@ -13,7 +13,7 @@ use speed_sim::{RunReport, simulate};
 use std::alloc::Global;
 
 /// The report of a run that isn't refused.
-fn report_of(
+pub fn report_of(
     alloc: Global,
     image: &[u8],
     machine: &[u8],

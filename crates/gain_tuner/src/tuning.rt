@@ -7,14 +7,14 @@ ghost use Rattle.scaler.specs.Held.{IsHeld};
 ghost use Rattle.scaler.specs.Promise.{IsStoredSafely};
 ghost use Rattle.gain_tuner.specs.Choice.{IsChoice, IsTuning};
 
-use crate::choosing::{Files, Trial, cheapest};
-use crate::spending::{counting_of, spent_over};
+use crate::choosing::{Files, Trial, cheapest, held_trial};
+use crate::spending::counting_of;
 use scale_base::{NoMemory, Stop, Summary, Tuned};
 use scaler::hold;
 use std::alloc::Global;
 
 /// How many flags are set.
-fn count_of(flags: &[bool]) -> usize
+pub fn count_of(flags: &[bool]) -> usize
     ensures { result ≡ count_by (λ flag. flag) flags.now }
 {
     flags.iter().filter(|flag| **flag).count()
@@ -55,7 +55,6 @@ fn tune_held(
     ensures choice { IfOk result (λ given. IsChoice image.now machine.now loops.now (map (λ input. input.items) inputs.now) given.0.items given.1) }
     ensures safe { IfOk result (λ given. IsStoredSafely image.now machine.now loops.now given.0.items given.1.summary) }
 {
-    let (stored, summary) = held;
     let flags = counting_of(alloc, image, machine, loops, inputs)?;
     let files = Files {
         image,
@@ -64,13 +63,8 @@ fn tune_held(
         inputs,
         flags: &flags,
     };
-    let energy = spent_over(alloc, &files, &stored)?.unwrap();
-    let first = Trial {
-        candidate: 0,
-        stored,
-        summary,
-        energy,
-    };
+    let first = held_trial(alloc, &files, held)?;
+    let energy = first.energy;
     let best = cheapest(alloc, &files, first)?;
     Ok(choice_of(best, energy, &flags))
 }

@@ -1,0 +1,117 @@
+//! Images that are chosen of proposals.
+
+use crate::fixtures::*;
+use pace_fit::{Fitted, Proposal, choose};
+use paced_images::SwitchSite;
+use scale_base::{EdgeKind, Stop};
+use std::alloc::Global;
+use std::test::Fail;
+
+/// Passes over fourteen of twenty-four divisions, by the branch at 0x10000.
+const SKIP_FOURTEEN: [u32; 27] = [
+    0x02050E63, 0x0262C2B3, 0x0262C2B3, 0x0262C2B3, 0x0262C2B3, 0x0262C2B3, 0x0262C2B3, 0x0262C2B3,
+    0x0262C2B3, 0x0262C2B3, 0x0262C2B3, 0x0262C2B3, 0x0262C2B3, 0x0262C2B3, 0x0262C2B3, 0x0262C2B3,
+    0x0262C2B3, 0x0262C2B3, 0x0262C2B3, 0x0262C2B3, 0x0262C2B3, 0x0262C2B3, 0x0262C2B3, 0x0262C2B3,
+    0x0262C2B3, 0x05D00893, 0x00000073,
+];
+
+/// The way over the divisions.
+const SKIPPED: SwitchSite = SwitchSite {
+    at: 0x10000,
+    kind: EdgeKind::Taken,
+};
+
+/// No edge of the program.
+const NOWHERE: SwitchSite = SwitchSite {
+    at: 0x20000,
+    kind: EdgeKind::Taken,
+};
+
+/// Proposals of a site each.
+fn proposals_of(alloc: Global, sites: &[SwitchSite]) -> Result<Vec<Proposal>, Fail> {
+    let mut proposals = Vec::new(alloc);
+    for site in sites {
+        let mut one = Vec::new(alloc);
+        one.push(*site)?;
+        proposals.push(Proposal {
+            sites: one,
+            counted: true,
+        })?;
+    }
+    Ok(proposals)
+}
+
+/// What is chosen of files that the program would load.
+fn fitted(
+    alloc: Global,
+    deadline: u32,
+    sizes: &[usize],
+    sites: &[SwitchSite],
+) -> Result<Result<(Vec<u8>, Fitted), Stop>, Fail> {
+    let image = plain_image(alloc, &SKIP_FOURTEEN)?;
+    let machine = machine_for(deadline).text(alloc)?;
+    let inputs = inputs_of(alloc, sizes)?;
+    let proposals = proposals_of(alloc, sites)?;
+    if image.len() > 4_194_304 || machine.len() > 1_048_576 {
+        return Err(Fail::from("files that are too long"));
+    }
+    if inputs.len() > 64 || !are_short(&inputs) || proposals.len() > 64 {
+        return Err(Fail::from("inputs or proposals"));
+    }
+    let loops = NO_LOOPS.as_bytes();
+    if loops.len() > 1_048_576 {
+        return Err(Fail::from("loops"));
+    }
+    Ok(choose(
+        alloc,
+        &image,
+        machine.as_bytes(),
+        loops,
+        &inputs,
+        &proposals,
+    ))
+}
+
+/// The inputs, the sites of the proposals, the candidate that is chosen, and the energies: its own, that of the image at one level, that of
+/// the rewritten one, and the least of the 108 cycles of a run, which are all in time at the slowest level.
+#[test]
+fn the_first_of_the_cheapest_and_without_inputs_the_first_that_is_built(
+    rt: HostRuntime,
+) -> Result<(), Fail> {
+    let alloc = rt.alloc();
+    let rows: [(&[usize], &[SwitchSite], u32, [u128; 4]); 7] = [
+        (&[0], &[], 0, [324, 324, 174, 108]),
+        (&[0], &[SKIPPED], 1, [174, 324, 174, 108]),
+        (&[0], &[NOWHERE], 0, [324, 324, 174, 108]),
+        (
+            &[0, 0],
+            &[NOWHERE, SKIPPED, SKIPPED],
+            2,
+            [348, 648, 348, 216],
+        ),
+        (&[], &[], 0, [0, 0, 0, 0]),
+        (&[], &[SKIPPED], 1, [0, 0, 0, 0]),
+        (&[], &[NOWHERE, SKIPPED], 1, [0, 0, 0, 0]),
+    ];
+    for (sizes, sites, candidate, energies) in rows {
+        let (_, choice) = fitted(alloc, 502, sizes, sites)?.ok().ok_or("fitted")?;
+        let rewritten = choice.rewrite_energy.ok_or("rewritten")?;
+        let found = [
+            choice.energy,
+            choice.hold_energy,
+            rewritten,
+            choice.least_energy,
+        ];
+        assert_eq!(rt; choice.candidate, candidate);
+        assert_eq!(rt; found, energies);
+        assert_eq!(rt; (choice.inputs as usize, choice.left_out), (sizes.len(), 0));
+    }
+    let refused = fitted(alloc, 232, &[0], &[SKIPPED])?;
+    assert!(rt;
+        matches!(
+            refused.err().map(cause_of),
+            Some(Cause::DeadlineMissed(_, 232))
+        )
+    );
+    Ok(())
+}

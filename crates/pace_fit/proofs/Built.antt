@@ -1,0 +1,74 @@
+-- The first proposal of which an image can be built, where no input counts.
+use Rattle.std.proofs.Common.{◌≡◌, ℕ, ◌+◌, ◌<◌, ◌≤◌, List, [], ◌∷◌, length, Option, Some, None, Result, Ok, Err, refl, sym, ap, ◌∙◌, subst, arith, inl, inr}
+use Rattle.std.specs.Prelude.{slice_get}
+use Rattle.std.proofs.lemmas.Bool.Decides.{eqb_tells}
+use Rattle.scale_base.specs.declared.refusal.Refusal.{Refusal}
+use Rattle.scale_base.specs.declared.summary.Summary.{Summary}
+use Rattle.gain_tuner.specs.declared.choosing.Files.{Files}
+use Rattle.gain_tuner.specs.declared.choosing.Trial.{Trial}
+use Rattle.gain_tuner.specs.Finding.{IsTrialOrOf, Made}
+use Rattle.gain_tuner.specs.Spending.{IsSpent}
+use Rattle.gain_tuner.proofs.Laws.{Answer, none_spent}
+use Rattle.pace_fit.specs.declared.candidates.Proposal.{Proposal}
+use Rattle.pace_fit.specs.Fitting.{AreRefused, IsBuilt, IsCheapestFit, IsChosen, IsFirstBuilt, IsHeldOnly, IsProposed}
+use Rattle.pace_fit.specs.Finding.{IsHeldTrial, IsProposalTried, counted_inputs, given_inputs}
+use Rattle.pace_fit.proofs.Fits.{same_item}
+
+module _ (files : Files) (none : counted_inputs files ≡ []) where
+  spent_none : (stored : List ℕ) → IsSpent stored files.machine.now (counted_inputs files) 0
+  spent_none stored = subst (λ xs. IsSpent stored files.machine.now xs 0) (sym none) (none_spent stored files.machine.now)
+
+  pub no_energy : (stored : List ℕ) (energy : ℕ) → IsSpent stored files.machine.now (counted_inputs files) energy → energy ≡ 0
+  no_energy stored energy h = (subst (λ xs. IsSpent stored files.machine.now xs energy) none h).sum
+
+  -- a proposal that is out is refused
+  pub out_refused : (proposal : Proposal) (c : ℕ) → IsProposalTried files proposal c None → (refusal : Refusal) × IsProposed files.image.now files.machine.now files.loops.now proposal (Err refusal)
+  out_refused proposal c h = by h.answer h.proposed h.tried_is
+    where
+      by : (answer : Answer) → IsProposed files.image.now files.machine.now files.loops.now proposal answer → IsTrialOrOf (Made answer) files.image.now files.machine.now files.loops.now (given_inputs files) c None
+          → (refusal : Refusal) × IsProposed files.image.now files.machine.now files.loops.now proposal (Err refusal)
+      by (Ok made) is out = absurd (out made.0 made.1 0 (record { answer_is = refl; spent = spent_none made.0 }))
+      by (Err refusal) is out = (refusal, is)
+
+  module _ (proposals : List Proposal) where
+    pub refused_more : (n : ℕ) (proposal : Proposal) → slice_get proposals n ≡ Some proposal → AreRefused files.image.now files.machine.now files.loops.now proposals n → IsProposalTried files proposal (n + 1) None
+        → AreRefused files.image.now files.machine.now files.loops.now proposals (n + 1)
+    refused_more n proposal there h is = λ k other lt at. elim (eqb_tells k n) [
+      | inl same ↦ (
+          let item : proposal ≡ other = same_item proposals n proposal other there (subst (λ m. slice_get proposals m ≡ Some other) same.1 at) in
+          subst (λ (p : Proposal). (refusal : Refusal) × IsProposed files.image.now files.machine.now files.loops.now p (Err refusal)) item (out_refused proposal (n + 1) is))
+      | inr more ↦ h k other (apart k n lt more.1) at
+    ]
+      where
+        apart : (k n : ℕ) → k < n + 1 → (k ≡ n → ⊥) → k < n
+        apart k n lt other = omega (arith, lt, other)
+
+    pub built_here : (n : ℕ) (proposal : Proposal) (t : Trial) → slice_get proposals n ≡ Some proposal → AreRefused files.image.now files.machine.now files.loops.now proposals n → IsProposalTried files proposal (n + 1) (Some t)
+        → IsFirstBuilt files.image.now files.machine.now files.loops.now proposals t.candidate t.stored.items t.summary
+    built_here n proposal t there h is = inl (record {
+      k = n;
+      proposal = proposal;
+      number = is.tried_is.candidate;
+      there = there;
+      built = subst (λ (a : Answer). IsProposed files.image.now files.machine.now files.loops.now proposal a) (sym is.tried_is.trial.answer_is) is.proposed;
+      before = h;
+    })
+
+    pub held_only : (t : Trial) → IsHeldTrial files t → AreRefused files.image.now files.machine.now files.loops.now proposals (length proposals)
+        → IsFirstBuilt files.image.now files.machine.now files.loops.now proposals t.candidate t.stored.items t.summary
+    held_only t h refused = inr (record { number = h.candidate; held = h.held; refused = refused })
+
+-- ---- by the inputs that count
+
+pub none_of : (xs : List (List ℕ)) → length xs ≡ 0 → xs ≡ []
+none_of [] e = refl
+none_of (x ∷ xs) e = absurd (omega (arith, e))
+
+module _ (image machine loops : List ℕ) (proposals : List Proposal) (c : ℕ) (stored : List ℕ) (summary : Summary) (energy : ℕ) where
+  pub chosen_some : (xs : List (List ℕ)) → 1 ≤ length xs → IsCheapestFit image machine loops xs proposals c stored summary energy → IsChosen image machine loops xs proposals c stored summary energy
+  chosen_some [] some h = absurd (omega (arith, some))
+  chosen_some (x ∷ xs) some h = h
+
+  pub chosen_none : (xs : List (List ℕ)) → length xs ≡ 0 → IsFirstBuilt image machine loops proposals c stored summary → energy ≡ 0 → IsChosen image machine loops xs proposals c stored summary energy
+  chosen_none [] e h zero = (h, zero)
+  chosen_none (x ∷ xs) e h zero = absurd (omega (arith, e))

@@ -1,0 +1,6 @@
+mod Splits
+mod Cycles
+mod Rates
+mod Fits
+mod Built
+mod Numbers

@@ -1,0 +1,85 @@
+-- The numbers of a fitting, and its refusal.
+use Rattle.std.proofs.Common.{◌≡◌, ℕ, ◌-◌, ◌+◌, ◌≤◌, Bool, List, length, map, Option, Some, None, Result, Ok, Err, refl, sym, ap, ◌∙◌, subst, arith, length-map}
+use Rattle.std.specs.Prelude.{count_by, option_map, IfOk, Vec}
+use Rattle.std.specs.declared.alloc.Global.{Global}
+use Rattle.scale_base.specs.declared.refusal.Refusal.{Refusal}
+use Rattle.scale_base.specs.declared.refusal.Stop.{Stop}
+use Rattle.scale_base.specs.declared.refusal.Stop.TheVariants.{Refused, Memory}
+use Rattle.scale_base.specs.declared.summary.Summary.{Summary}
+use Rattle.scale_base.specs.Answer.{AnswersBy, Stops}
+use Rattle.machine_file.specs.Machine.{read_machine}
+use Rattle.scaler.specs.Held.{IsHeld}
+use Rattle.scaler.specs.Rewritten.{IsRewritten}
+use Rattle.scaler.proofs.Laws.{then_stops}
+use Rattle.gain_tuner.specs.declared.choosing.Files.{Files}
+use Rattle.gain_tuner.specs.declared.choosing.Trial.{Trial}
+use Rattle.gain_tuner.specs.Finding.{IsSafeTrialOf, IsTrialOrOf, IsTried, Made}
+use Rattle.gain_tuner.proofs.Laws.{Answer, AreCounted, counted_flags}
+use Rattle.pace_fit.specs.declared.candidates.Proposal.{Proposal}
+use Rattle.pace_fit.specs.Fitting.{HasEnergy, HasEnergyIfAny, IsHoldEnergy, IsProposed, IsRewriteEnergy}
+use Rattle.pace_fit.specs.Finding.{AreLoaded, IsHeldTrial, IsProposalTried, counted_inputs, given_inputs}
+
+-- ---- results
+
+pub if_ok : {A E : Type 0} {P Q : A → Type 0} (result : Result A E) → ((a : A) → P a → Q a) → IfOk result P → IfOk result Q
+if_ok (Ok a) f h = f a h
+if_ok (Err e) f h = tt
+
+pub if_ok_both : {A E : Type 0} {P Q R : A → Type 0} (result : Result A E) → ((a : A) → P a → Q a → R a) → IfOk result P → IfOk result Q → IfOk result R
+if_ok_both (Ok a) f h h' = f a h h'
+if_ok_both (Err e) f h h' = tt
+
+-- the first refusal of all is that of the machine file
+pub machine_stops : (image machine loops : List ℕ) (stop : Stop) → Stops stop (read_machine machine) → AnswersBy {X = Vec ℕ Global × Summary} {Y = List ℕ × Summary} (λ given. (given.0.items, given.1)) (Err stop) (IsHeld image machine loops)
+unfolding IsHeld
+machine_stops image machine loops stop h = then_stops (read_machine machine) _ stop h
+
+module _ (files : Files) where
+  -- ---- trials
+
+  proposed_by : (proposal : Proposal) (c : ℕ) (tried : Option Trial) (made : Result (Vec ℕ Global × Summary) Stop) →
+      AnswersBy (λ given. (given.0.items, given.1)) made (IsProposed files.image.now files.machine.now files.loops.now proposal) → IsTried files.image.now files.machine.now files.loops.now (given_inputs files) c made tried → IsProposalTried files proposal c tried
+  proposed_by proposal c tried (Ok made) h is = record { answer = Ok (made.0.items, made.1); proposed = h; tried_is = is }
+  proposed_by proposal c tried (Err (Refused refusal)) h is = record { answer = Err refusal; proposed = h; tried_is = is }
+  proposed_by proposal c tried (Err Memory) h is = absurd is
+
+  pub proposal_tried : {E : Type 0} (proposal : Proposal) (c : ℕ) (result : Result (Option Trial) E) (made : Result (Vec ℕ Global × Summary) Stop) →
+      AnswersBy (λ given. (given.0.items, given.1)) made (IsProposed files.image.now files.machine.now files.loops.now proposal) → IfOk result (IsTried files.image.now files.machine.now files.loops.now (given_inputs files) c made)
+      → IfOk result (IsProposalTried files proposal c)
+  proposal_tried proposal c (Ok tried) made h is = proposed_by proposal c tried made h is
+  proposal_tried proposal c (Err stop) made h is = tt
+
+  -- ---- energies
+
+  abbrev energy_of : Option Trial → Option ℕ
+  energy_of tried = option_map (λ t. t.energy) tried
+
+  has_energy : (answer : Answer) (t : Trial) → IsSafeTrialOf (Made answer) files.image.now files.machine.now files.loops.now (given_inputs files) 0 t → HasEnergy files.machine.now (counted_inputs files) answer t.energy
+  has_energy answer t is = record { stored = t.stored.items; summary = t.summary; made_is = sym is.trial.answer_is; spent = is.trial.spent }
+
+  has_if_any : (answer : Answer) (tried : Option Trial) → IsTrialOrOf (Made answer) files.image.now files.machine.now files.loops.now (given_inputs files) 0 tried → HasEnergyIfAny files.machine.now (counted_inputs files) answer (energy_of tried)
+  has_if_any answer (Some t) is = has_energy answer t is
+  has_if_any answer None out = λ energy e. out e.stored e.summary energy (record { answer_is = sym e.made_is; spent = e.spent })
+
+  pub rewrite_found : (made : Result (Vec ℕ Global × Summary) Stop) (tried : Option Trial) → AnswersBy (λ given. (given.0.items, given.1)) made (IsRewritten files.image.now files.machine.now files.loops.now) →
+      IsTried files.image.now files.machine.now files.loops.now (given_inputs files) 0 made tried → IsRewriteEnergy files.image.now files.machine.now files.loops.now (counted_inputs files) (energy_of tried)
+  rewrite_found (Ok made) tried h is = (Ok (made.0.items, made.1), h, has_if_any (Ok (made.0.items, made.1)) tried is)
+  rewrite_found (Err (Refused refusal)) tried h is = (Err refusal, h, has_if_any (Err refusal) tried is)
+  rewrite_found (Err Memory) tried h is = absurd is
+
+  pub hold_found : (held : List ℕ × Summary) (t : Trial) → IsHeld files.image.now files.machine.now files.loops.now (Ok held) → IsSafeTrialOf (Made (Ok held)) files.image.now files.machine.now files.loops.now (given_inputs files) 0 t →
+      IsHoldEnergy files.image.now files.machine.now files.loops.now (counted_inputs files) t.energy
+  hold_found held t h is = (Ok held, h, has_energy (Ok held) t is)
+
+  pub held_trial_is : (held : List ℕ × Summary) (t : Trial) → IsHeld files.image.now files.machine.now files.loops.now (Ok held) → IsSafeTrialOf (Made (Ok held)) files.image.now files.machine.now files.loops.now (given_inputs files) 0 t → IsHeldTrial files t
+  held_trial_is held t h is = record {
+    candidate = is.candidate;
+    held = subst (λ (a : Answer). IsHeld files.image.now files.machine.now files.loops.now a) (sym is.trial.answer_is) h;
+    spent = is.trial.spent;
+    safe = is.safe;
+  }
+
+  -- ---- counts
+
+  pub counted : AreLoaded files → AreCounted files.image.now files.machine.now files.loops.now files.inputs.now files.flags.now
+  counted h = counted_flags files.image.now files.machine.now files.loops.now files.inputs.now files.flags.now h.flags

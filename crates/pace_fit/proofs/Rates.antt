@@ -1,0 +1,95 @@
+-- One level, one pair of levels, or one input more of a bound.
+use Rattle.std.proofs.Common.{◌≡◌, ℕ, zero, suc, ◌+◌, ◌-◌, ◌*◌, ◌^◌, ◌/◌, ◌<◌, ◌≤◌, Bool, true, false, List, [], ◌∷◌, ◌++◌, map, length, take, get_or, Some, Result, Ok, refl, sym, ap, ◌∙◌, subst, arith, inl, inr}
+use Rattle.std.specs.Prelude.{min, max, fold, sum_by, Vec}
+use Rattle.std.specs.List.{filter, range_with_len}
+use Rattle.std.specs.declared.alloc.Global.{Global}
+use Rattle.std.proofs.lemmas.Bool.Decides.{eqb_tells}
+use Rattle.std.proofs.lemmas.List.FromFn.{map-range_with_len_more}
+use Rattle.std.proofs.lemmas.List.Sums.{fold_more, fold-append, sum_by_push}
+use Rattle.std.proofs.Math.Nat.{div-le_self, max-le, min-le_left, mul-le-mul}
+use Rattle.power_model.specs.declared.power.Level.{Level}
+use Rattle.power_model.specs.Levels.{AreRanked, IsSlower, level, no_level}
+use Rattle.power_model.specs.Numbers.{PowerModel}
+use Rattle.gain_tuner.specs.declared.choosing.Files.{Files}
+use Rattle.gain_tuner.specs.Spending.{counts, counting}
+use Rattle.gain_tuner.proofs.Laws.{flag_at, input_at, input_below, items_of, kept_more, left_more}
+use Rattle.pace_fit.specs.Least.{bound_at, bound_with, cycles_on, greatest, least_energy, pair_bound}
+
+-- ---- levels
+
+pub rate_more : (f : Level → ℕ) (m : ℕ) (levels : List Level) (k least : ℕ) → k < length levels → least ≡ fold (λ n l. min n (f l)) m (take k levels) →
+    min least (f (level levels k)) ≡ fold (λ n l. min n (f l)) m (take (k + 1) levels)
+rate_more f m levels k least lt e = ap (λ n. min n (f (level levels k))) e ∙ sym (fold_more (λ n l. min n (f l)) m levels k no_level lt)
+
+pub least_small : (least rate most : ℕ) → least < most → min least rate < most
+least_small least rate most lt = let le = min-le_left least rate in omega (arith, le, lt)
+
+pub ranked_below : (levels : List Level) → AreRanked levels → (i j : ℕ) → i < j → j < length levels → IsSlower (level levels i) (level levels j)
+ranked_below levels ranked i zero lt below = absurd (omega (arith, lt))
+ranked_below levels ranked i (suc j) lt below = elim (eqb_tells i j) [
+  | inl same ↦ subst (λ n. IsSlower (level levels n) (level levels (suc j))) (sym same.1) (next j below)
+  | inr other ↦ after (ranked_below levels ranked i j (apart i j lt other.1) (less j below)) (next j below)
+]
+  where
+    apart : (i j : ℕ) → i < suc j → (i ≡ j → ⊥) → i < j
+    apart i j lt other = omega (arith, lt, other)
+
+    less : (j : ℕ) → suc j < length levels → j < length levels
+    less j below = omega (arith, below)
+
+    next : (j : ℕ) → suc j < length levels → IsSlower (level levels j) (level levels (suc j))
+    next j below = let e : j + 1 ≡ suc j = omega arith in subst (λ n. IsSlower (level levels j) (level levels n)) e (ranked j (omega (arith, below)))
+
+    after : IsSlower (level levels i) (level levels j) → IsSlower (level levels j) (level levels (suc j)) → IsSlower (level levels i) (level levels (suc j))
+    after one two = record { period = omega (arith, one.period, two.period); energy = omega (arith, one.energy, two.energy) }
+
+-- ---- bounds
+
+pub pair_is : (power : PowerModel) (cycles i j : ℕ) (slower faster : Level) (n : ℕ) → slower ≡ level power.levels i → faster ≡ level power.levels j →
+    n ≡ bound_at power cycles (faster.energy - slower.energy) (slower.period - faster.period) → n ≡ pair_bound power cycles i j
+pair_is power cycles i j slower faster n e e' h =
+    h ∙ (ap (λ (l : Level). bound_at power cycles (faster.energy - l.energy) (l.period - faster.period)) e
+    ∙ ap (λ (l : Level). bound_at power cycles (l.energy - (level power.levels i).energy) ((level power.levels i).period - l.period)) e')
+
+pub greatest_more : (f : ℕ → ℕ) (m k most : ℕ) → most ≡ greatest m (map f (range_with_len 0 k)) → max most (f k) ≡ greatest m (map f (range_with_len 0 (k + 1)))
+greatest_more f m k most e =
+    let same : 0 + k ≡ k = omega arith in
+    let more = map-range_with_len_more f 0 k k same in
+    ap (λ n. max n (f k)) e ∙ (sym (fold-append (λ a b. max a b) m (map f (range_with_len 0 k)) (f k ∷ [])) ∙ ap (greatest m) (sym more))
+
+pub most_small : (most bound limit : ℕ) → most ≤ limit → bound ≤ limit → max most bound ≤ limit
+most_small most bound limit h h' = max-le h h'
+
+pub paid_small : (cycles rate : ℕ) → cycles ≤ 2 ^ 56 → rate < 2 ^ 65 → cycles * rate ≤ 2 ^ 121
+paid_small cycles rate h h' =
+    let le : rate ≤ 2 ^ 65 = omega (arith, h') in
+    let most : cycles * rate ≤ 2 ^ 56 * 2 ^ 65 = mul-le-mul h le in
+    let same : 2 ^ 56 * 2 ^ 65 ≡ 2 ^ 121 = refl in
+    subst (λ n. cycles * rate ≤ n) same most
+
+pub bound_small : (paid deadline b : ℕ) → paid ≤ 2 ^ 121 → (paid - deadline) / b ≤ 2 ^ 121
+bound_small paid deadline b h = let le = div-le_self (paid - deadline) b in omega (arith, le, h)
+
+-- ---- inputs
+
+module _ (f : List ℕ → ℕ) (p : List ℕ → Bool) (xs : List (List ℕ)) (k : ℕ) (x : List ℕ) (lt : k < length xs) (at : get_or xs k [] ≡ x) where
+  sum_in : (energy one : ℕ) → p x ≡ true → one ≡ f x → energy ≡ sum_by f (filter p (take k xs)) → energy + one ≡ sum_by f (filter p (take (k + 1) xs))
+  sum_in energy one kept is e = ap (λ n. n + one) e ∙ (ap (λ n. sum_by f (filter p (take k xs)) + n) is ∙ (sym (sum_by_push f (filter p (take k xs)) x) ∙ ap (sum_by f) (sym (kept_more p xs k x lt at kept))))
+
+  sum_out : (energy : ℕ) → p x ≡ false → energy ≡ sum_by f (filter p (take k xs)) → energy ≡ sum_by f (filter p (take (k + 1) xs))
+  sum_out energy left e = e ∙ ap (sum_by f) (sym (left_more p xs k x lt at left))
+
+module _ (power : PowerModel) (image machine loops : List ℕ) (inputs : List (Vec ℕ Global)) (flags : List Bool) (are : flags ≡ map (λ v. counts image machine loops v.items) inputs)
+    (k : ℕ) (v : Vec ℕ Global) (lt : k < length inputs) (at : v ≡ get_or inputs k v) where
+  abbrev pub least_sum : ℕ → ℕ
+  least_sum n = sum_by (λ input. least_energy power (cycles_on image machine loops input)) (counting image machine loops (take n (items_of inputs)))
+
+  pub least_in : (d : Bool) → get_or flags k d ≡ true → (z : List ℕ) (cycles one energy : ℕ) → z ≡ v.items → cycles ≡ cycles_on image machine loops z → one ≡ least_energy power cycles → energy ≡ least_sum k → energy + one ≡ least_sum (k + 1)
+  least_in d flag z cycles one energy e is exact h = sum_in (λ input. least_energy power (cycles_on image machine loops input)) (counts image machine loops) (items_of inputs) k v.items
+      (input_below image machine loops [] inputs flags are k v lt at) (input_at image machine loops [] inputs flags are k v lt at) energy one
+      (sym (flag_at image machine loops [] inputs flags are k v lt at d) ∙ flag) (exact ∙ (ap (least_energy power) is ∙ ap (λ (y : List ℕ). least_energy power (cycles_on image machine loops y)) e)) h
+
+  pub least_out : (d : Bool) → get_or flags k d ≡ false → (energy : ℕ) → energy ≡ least_sum k → energy ≡ least_sum (k + 1)
+  least_out d flag energy h = sum_out (λ input. least_energy power (cycles_on image machine loops input)) (counts image machine loops) (items_of inputs) k v.items
+      (input_below image machine loops [] inputs flags are k v lt at) (input_at image machine loops [] inputs flags are k v lt at) energy
+      (sym (flag_at image machine loops [] inputs flags are k v lt at d) ∙ flag) h

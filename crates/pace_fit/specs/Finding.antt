@@ -1,0 +1,50 @@
+-- What the parts of a fitting find, on the way to what it gives.
+use Rattle.std.specs.Prelude.{◌≡◌, ℕ, ◌≤◌, List, map, length, Option, Some, Result, Ok}
+use Rattle.scale_base.specs.declared.refusal.Refusal.{Refusal}
+use Rattle.scale_base.specs.declared.summary.Summary.{Summary}
+use Rattle.scaler.specs.Held.{IsHeld}
+use Rattle.scaler.specs.Promise.{IsStoredSafely}
+use Rattle.gain_tuner.specs.declared.choosing.Files.{Files}
+use Rattle.gain_tuner.specs.declared.choosing.Trial.{Trial}
+use Rattle.gain_tuner.specs.Finding.{IsTrialOrOf, Made}
+use Rattle.gain_tuner.specs.Spending.{counts, counting, IsSpent}
+use Rattle.pace_fit.specs.declared.candidates.Proposal.{Proposal}
+use Rattle.pace_fit.specs.Fitting.{IsProposed}
+
+-- ---- the files
+
+-- they have at most the bytes that the program loads, and the flags say which inputs count
+pub record AreLoaded (files : Files) : Type 0 where
+  pub image : length files.image.now ≤ 4194304
+  pub machine : length files.machine.now ≤ 1048576
+  pub loops : length files.loops.now ≤ 1048576
+  pub few : length files.inputs.now ≤ 64
+  pub flags : files.flags.now ≡ map (λ input. counts files.image.now files.machine.now files.loops.now input.items) files.inputs.now
+
+abbrev pub given_inputs : Files → List (List ℕ)
+given_inputs files = map (λ input. input.items) files.inputs.now
+
+abbrev pub counted_inputs : Files → List (List ℕ)
+counted_inputs files = counting files.image.now files.machine.now files.loops.now (given_inputs files)
+
+-- the program can be held at one level
+abbrev pub HasHeld : (image machine loop_file : List ℕ) → Type 0
+HasHeld image machine loop_file = (held : List ℕ × Summary) × IsHeld image machine loop_file (Ok held)
+
+-- ---- trials
+
+abbrev pub IsSafe : Files → Trial → Type 0
+IsSafe files t = IsStoredSafely files.image.now files.machine.now files.loops.now t.stored.items t.summary
+
+-- the trial of the image that `hold` stores
+pub record IsHeldTrial (files : Files) (t : Trial) : Type 0 where
+  pub candidate : t.candidate ≡ 0
+  pub held : IsHeld files.image.now files.machine.now files.loops.now (Ok ((t.stored.items, t.summary)))
+  pub spent : IsSpent t.stored.items files.machine.now (counted_inputs files) t.energy
+  pub safe : IsSafe files t
+
+-- the trial of the image that `pace` makes of a proposal, or none where that is out
+pub record IsProposalTried (files : Files) (proposal : Proposal) (c : ℕ) (tried : Option Trial) : Type 0 where
+  pub answer : Result (List ℕ × Summary) Refusal
+  pub proposed : IsProposed files.image.now files.machine.now files.loops.now proposal answer
+  pub tried_is : IsTrialOrOf (Made answer) files.image.now files.machine.now files.loops.now (given_inputs files) c tried

@@ -1,0 +1,133 @@
+//! The fitting of a program to inputs.
+
+ghost use Rattle.std.specs.Prelude.{◌≡◌, ◌≤◌, ◌<◌, length, map, Ok, IfOk};
+ghost use Rattle.std.specs.List.{All};
+ghost use Rattle.scale_base.specs.Answer.{AnswersBy};
+ghost use Rattle.power_model.specs.Numbers.{IsPowerModel};
+ghost use Rattle.machine_file.specs.Machine as machines;
+ghost use Rattle.scaler.specs.Held.{IsHeld};
+ghost use Rattle.scaler.specs.Promise.{IsStoredSafely};
+ghost use Rattle.pace_fit.specs.Fitting.{IsFitted, IsFitting, IsRewriteEnergy};
+ghost use Rattle.pace_fit.specs.Finding.{AreLoaded, counted_inputs, given_inputs};
+
+use crate::bounds::least_over;
+use crate::candidates::Proposal;
+use crate::choosing::chosen;
+use gain_tuner::{Files, count_of, counting_of, held_trial, trial_from};
+use machine_file::read_machine;
+use power_model::Power;
+use scale_base::{NoMemory, Stop, Summary};
+use scaler::{hold, rewrite};
+use std::alloc::Global;
+
+/// The choice of a fitting, in numbers.
+#[derive(Clone, Copy, Debug, PartialEq, Eq)]
+pub struct Fitted {
+    /// The number of the chosen candidate: 0 is the image that runs at one level, k + 1 that of proposal k.
+    pub candidate: u32,
+    /// The summary of the chosen candidate.
+    pub summary: Summary,
+    /// The inputs that count.
+    pub inputs: u32,
+    /// The given inputs that don't count.
+    pub left_out: u32,
+    /// The energy of the choice over the inputs that count, in energy units.
+    pub energy: u128,
+    /// The energy of the image that runs at one level over the same inputs.
+    pub hold_energy: u128,
+    /// The energy of the image that `rewrite` stores over the same inputs, unless it is refused or a run is out of steps.
+    pub rewrite_energy: Option<u128>,
+    /// What one who knows each run's cycles beforehand takes at least over the same inputs, with changes of level for nothing.
+    pub least_energy: u128,
+}
+
+/// The energy of the image that `rewrite` stores on the inputs that count, unless it is out.
+fn rewrite_energy(alloc: Global, files: &Files<'_>) -> Result<Option<u128>, NoMemory>
+    requires { AreLoaded files.now }
+    ensures { IfOk result (IsRewriteEnergy files.now.image.now files.now.machine.now files.now.loops.now (counted_inputs files.now)) }
+{
+    let made = rewrite(alloc, files.image, files.machine, files.loops);
+    match trial_from(alloc, files, 0, made)? {
+        Some(trial) => Ok(Some(trial.energy)),
+        None => Ok(None),
+    }
+}
+
+/// The fitting of a program that can be held at one level.
+fn fit(
+    alloc: Global,
+    files: &Files<'_>,
+    power: &Power,
+    proposals: &[Proposal],
+    held: (Vec<u8>, Summary),
+) -> Result<(Vec<u8>, Fitted), NoMemory>
+    requires files { AreLoaded files.now }
+    requires power { IsPowerModel power.now }
+    requires machine { machines.read_machine files.now.machine.now ≡ Ok power.now }
+    requires proposals { length proposals.now ≤ 64 }
+    requires held { IsHeld files.now.image.now files.now.machine.now files.now.loops.now (Ok ((held.0.items, held.1))) }
+    ensures fitted { IfOk result (λ given. IsFitted files.now.image.now files.now.machine.now files.now.loops.now (given_inputs files.now) proposals.now given.0.items given.1) }
+    ensures saves { IfOk result (λ given. given.1.energy ≤ given.1.hold_energy) }
+    ensures safe { IfOk result (λ given. IsStoredSafely files.now.image.now files.now.machine.now files.now.loops.now given.0.items given.1.summary) }
+{
+    let first = held_trial(alloc, files, held)?;
+    let hold_energy = first.energy;
+    let best = chosen(alloc, files, proposals, first)?;
+    let count = count_of(files.flags);
+    let fitted = Fitted {
+        candidate: best.candidate,
+        summary: best.summary,
+        inputs: count as u32,
+        left_out: (files.flags.len() - count) as u32,
+        energy: best.energy,
+        hold_energy,
+        rewrite_energy: rewrite_energy(alloc, files)?,
+        least_energy: least_over(alloc, files, power)?,
+    };
+    Ok((best.stored, fitted))
+}
+
+/// Of the image that `hold` stores and the images that `pace` makes of the proposals the one whose runs take the least energy on the inputs
+/// that count, of several the first, and the numbers of that choice; or the first refusal, which is that of `hold`.
+///
+/// An input counts where the original run exits within the machine file's steps and is kept. Candidate 0 is what `hold` stores, candidate
+/// k + 1 what `pace` makes of proposal k. A candidate is out where it is refused, or where its run on an input that counts is out of steps.
+/// Where no input counts, all energies are 0, and the choice is the first proposal of which an image can be made, or else what `hold` stores.
+/// Energies are in the machine file's energy units.
+///
+/// There is one run at a time in memory, and one candidate beside the best so far. The files have at most the bytes that the program
+/// loads: 4,194,304 of an image, 1,048,576 of each other file and of an input.
+pub fn choose(
+    alloc: Global,
+    image: &[u8],
+    machine: &[u8],
+    loops: &[u8],
+    inputs: &[Vec<u8>],
+    proposals: &[Proposal],
+) -> Result<(Vec<u8>, Fitted), Stop>
+    requires image { length image.now ≤ 4194304 }
+    requires machine { length machine.now ≤ 1048576 }
+    requires loops { length loops.now ≤ 1048576 }
+    requires few { length inputs.now ≤ 64 }
+    requires inputs { All (λ input. length input.items ≤ 1048576) inputs.now }
+    requires proposals { length proposals.now ≤ 64 }
+    ensures fitted { AnswersBy (λ given. (given.0.items, given.1)) result (IsFitting image.now machine.now loops.now (map (λ input. input.items) inputs.now) proposals.now) }
+
+    // The choice never takes more than the image that runs at one level.
+    ensures saves { IfOk result (λ given. given.1.energy ≤ given.1.hold_energy) }
+
+    // On each input on which the original run exits and is kept, the stored run keeps the promise.
+    ensures safe { IfOk result (λ given. IsStoredSafely image.now machine.now loops.now given.0.items given.1.summary) }
+{
+    let power = read_machine(alloc, machine)?;
+    let held = hold(alloc, image, machine, loops)?;
+    let flags = counting_of(alloc, image, machine, loops, inputs)?;
+    let files = Files {
+        image,
+        machine,
+        loops,
+        inputs,
+        flags: &flags,
+    };
+    Ok(fit(alloc, &files, &power, proposals, held)?)
+}

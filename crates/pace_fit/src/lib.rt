@@ -1,0 +1,12 @@
+//! Of the image of a program that runs at one level and the images of proposals the one whose runs on given inputs take the least energy.
+//! Tests: crates/answer_tests/src/fitting.rt.
+#![tactic(auto)]
+
+mod bounds;
+mod candidates;
+mod choosing;
+mod fitting;
+
+pub use bounds::least_energy;
+pub use candidates::Proposal;
+pub use fitting::{Fitted, choose};
