@@ -33,16 +33,15 @@ impl fmt::Display for FragmentWords<'_> {
     }
 }
 
-// The name of the kind of an edge that may have fragments.
-fn kind_name(kind: EdgeKind) -> &'static str
-    requires { HasSiteLine kind }
+/// The name of the kind of an edge that may have fragments, and no letter for any other.
+pub fn kind_name(kind: EdgeKind) -> &'static str
     ensures { result.now ≡ kind_name kind }
 {
     match kind {
         EdgeKind::Taken => "taken",
         EdgeKind::Untaken => "untaken",
         EdgeKind::Jump => "jump",
-        _ => unreachable!(),
+        EdgeKind::Next | EdgeKind::CallNext | EdgeKind::End => "",
     }
 }
 
