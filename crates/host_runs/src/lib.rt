@@ -5,10 +5,12 @@
 
 mod delivering;
 mod loading;
+mod program_files;
 mod reply;
 mod words;
 
 pub use delivering::{deliver, store_all};
 pub use loading::{AllLoaded, Want, load_all};
+pub use program_files::ProgramFiles;
 pub use reply::{Reply, Store};
 pub use words::{NoWords, words_of};

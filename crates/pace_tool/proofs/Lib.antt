@@ -1,0 +1,2 @@
+mod OneStatus
+mod Promises
