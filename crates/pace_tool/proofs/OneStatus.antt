@@ -23,7 +23,7 @@ use Rattle.pace_tool.specs.Texts.{fitted_text}
 -- a choice has an image that runs at one level, and a refusal says that there is none
 not_refused : (image machine loops : List ℕ) (inputs : List (List ℕ)) (proposals : List Proposal) (stored : List ℕ) (fitted : Fitted) (refusal : Refusal) →
     IsFitted image machine loops inputs proposals stored fitted → IsHeld image machine loops (Err refusal) → ⊥
-not_refused image machine loops inputs proposals stored fitted refusal h refused = at h.hold.0 h.hold.1.0 h.hold.1.1.made_is
+not_refused image machine loops inputs proposals stored fitted refusal h refused = at h.hold.0 h.hold.1 h.hold.2.made_is
   where
     at : (made : Result (List ℕ × Summary) Refusal) → IsHeld image machine loops made → {given : List ℕ × Summary} → made ≡ Ok given → ⊥
     at (Ok given) is e = held_answers image machine loops (Ok given) (Err refusal) is refused

@@ -6,7 +6,7 @@ use Rattle.pace_fit.specs.declared.candidates.Proposal.{Proposal}
 use Rattle.pace_fit.specs.declared.fitting.Fitted.{Fitted}
 
 -- the energy of what `rewrite` stores, or none where it refuses or a run is out of steps
-abbrev pub rewrite_line : Option ℕ → List ℕ
+unfoldable pub rewrite_line : Option ℕ → List ℕ
 rewrite_line (Some energy) = number_line (codes "rewrite energy ") energy
 rewrite_line None = codes "rewrite energy none\n"
 
@@ -23,7 +23,7 @@ proposal_lines (Some proposal) = switch_lines proposal.sites.items
 proposal_lines None = []
 
 -- the switches of a candidate: the image of `hold`, which is candidate 0, has none, and candidate k + 1 has those of proposal k
-abbrev pub switches_text : List Proposal → ℕ → List ℕ
+unfoldable pub switches_text : List Proposal → ℕ → List ℕ
 switches_text proposals candidate = if candidate == 0 then codes "no switches: hold's image is stored\n" else proposal_lines (slice_get proposals (candidate - 1))
 
 -- the chosen candidate: its summary, how many inputs count and how many don't, the energy of the choice, of the image that runs at one level and of the one that `rewrite`

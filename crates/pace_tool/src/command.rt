@@ -1,32 +1,13 @@
 //! The commands.
 
-ghost use Rattle.std.specs.Prelude.{◌≡◌, ◌≤◌, ◌++◌, ◌∷◌, length, IfOk, OnOk, IfSome};
+ghost use Rattle.std.specs.Prelude.{◌≡◌, ◌++◌, ◌∷◌, IfOk, OnOk};
 ghost use Rattle.host_runs.specs.Views.{want_views};
 ghost use Rattle.pace_tool.specs.Command.{input_wants, wants_of};
 ghost use Rattle.pace_tool.specs.Views.{command_view, texts};
 
+use crate::input_names::InputNames;
 use host_runs::Want;
 use std::alloc::{AllocError, Global};
-
-/// The names of up to 64 inputs.
-#[derive(Clone, Copy)]
-pub struct InputNames<'a> {
-    pub names: &'a [&'a str],
-    ghost few: { length names.now ≤ 64 },
-}
-
-impl<'a> InputNames<'a> {
-    /// These names, where they aren't too many.
-    pub fn of(names: &'a [&'a str]) -> Option<InputNames<'a>>
-        ensures { IfSome result (λ inputs. inputs.names ≡ names.entry) }
-    {
-        if names.len() <= 64 {
-            Some(InputNames { names })
-        } else {
-            None
-        }
-    }
-}
 
 /// A command, with the names of its files.
 #[derive(Clone, Copy)]
@@ -83,9 +64,15 @@ fn push_inputs<'a>(wants: &mut Vec<Want<'a>>, inputs: &'a [&'a str]) -> Result<(
     ensures { OnOk result (want_views wants.new.items ≡ want_views wants.old.items ++ input_wants (texts inputs.now)) }
 {
     for name in inputs {
-        wants.push(want(name, TEXT_LIMIT))?;
+        wants.push(input_want(name))?;
     }
     Ok(())
+}
+
+fn input_want<'a>(name: &&'a str) -> Want<'a>
+    ensures { (result.name.now ≡ name.now.now) × (result.limit ≡ 1048576) }
+{
+    want(name, TEXT_LIMIT)
 }
 
 fn want(name: &str, limit: u64) -> Want<'_>

@@ -20,6 +20,7 @@ fn push_number(text: &mut String, words: &str, number: u128) -> Result<(), Alloc
 }
 
 // Adds the line of the energy of what `rewrite` stores, if it has one.
+#[tactic(auto, unfolding(crate::specs::Texts::rewrite_line))]
 fn push_rewrite(text: &mut String, energy: Option<u128>) -> Result<(), AllocError>
     ensures { OnOk result (string_bytes text.new ≡ string_bytes text.old ++ rewrite_line energy) }
 {
@@ -31,8 +32,8 @@ fn push_rewrite(text: &mut String, energy: Option<u128>) -> Result<(), AllocErro
 
 // Adds the line of a switch.
 #[tactic(auto, unfolding(crate::specs::Texts::switch_line))]
-fn push_switch(text: &mut String, site: SwitchSite) -> Result<(), AllocError>
-    ensures { OnOk result (string_bytes text.new ≡ string_bytes text.old ++ switch_line site) }
+fn push_switch(text: &mut String, site: &SwitchSite) -> Result<(), AllocError>
+    ensures { OnOk result (string_bytes text.new ≡ string_bytes text.old ++ switch_line site.now) }
 {
     let at = Address(site.at);
     let kind = kind_name(site.kind);
@@ -44,12 +45,13 @@ fn push_sites(text: &mut String, sites: &[SwitchSite]) -> Result<(), AllocError>
     ensures { OnOk result (string_bytes text.new ≡ string_bytes text.old ++ switch_lines sites.now) }
 {
     for site in sites {
-        push_switch(text, *site)?;
+        push_switch(text, site)?;
     }
     Ok(())
 }
 
 // Adds the lines of the switches of the chosen candidate.
+#[tactic(auto, unfolding(crate::specs::Texts::switches_text))]
 fn push_switches(
     text: &mut String,
     proposals: &[Proposal],

@@ -1,6 +1,7 @@
 //! The words of the command line, as `clap` reads them.
 
-use crate::command::{Command, InputNames};
+use crate::command::Command;
+use crate::input_names::InputNames;
 use clap::{Arg, ArgAction, ArgMatches, Command as CommandLine, Error};
 use std::alloc::{AllocError, Global};
 
@@ -43,17 +44,20 @@ pub fn matches_of<'a>(alloc: Global, words: &'a [String]) -> Result<ArgMatches<'
 }
 
 /// The command that was matched.
-pub fn command_of<'a>(matches: &'a ArgMatches<'a>) -> Option<Command<'a>> {
+pub fn command_of<'m>(matches: &'m ArgMatches<'_>) -> Option<Command<'m>> {
     let fit = matches.subcommand_matches("fit")?;
-    let names = match fit.get_strs("INPUT") {
-        Some(names) => names,
-        None => &[],
-    };
+    match fit.get_strs("INPUT") {
+        Some(names) => fit_of(fit, names),
+        None => fit_of(fit, &[]),
+    }
+}
+
+fn fit_of<'m>(fit: &'m ArgMatches<'_>, inputs: &'m [&'m str]) -> Option<Command<'m>> {
     Some(Command::Fit {
         image: fit.get_str("IMAGE")?,
         machine: fit.get_str("MACHINE")?,
         loops: fit.get_str("LOOPS")?,
         out: fit.get_str("OUT")?,
-        inputs: InputNames::of(names)?,
+        inputs: InputNames::of(inputs)?,
     })
 }
