@@ -1,4 +1,4 @@
-//! The commands.
+//! The command and its files.
 
 ghost use Rattle.std.specs.Prelude.{◌≡◌, ◌++◌, ◌∷◌, IfOk, OnOk};
 ghost use Rattle.host_runs.specs.Views.{want_views};
@@ -9,17 +9,15 @@ use crate::input_names::InputNames;
 use host_runs::Want;
 use std::alloc::{AllocError, Global};
 
-/// A command, with the names of its files.
+/// The command `fit`, with the names of its files: it stores the image whose runs over inputs take the least energy, of those that are proposed and the one
+/// that runs at one level.
 #[derive(Clone, Copy)]
-pub enum Command<'a> {
-    /// Stores the image whose runs over inputs take the least energy, of those that are proposed and the one that runs at one level.
-    Fit {
-        image: &'a str,
-        machine: &'a str,
-        loops: &'a str,
-        out: &'a str,
-        inputs: InputNames<'a>,
-    },
+pub struct Fit<'a> {
+    pub image: &'a str,
+    pub machine: &'a str,
+    pub loops: &'a str,
+    pub out: &'a str,
+    pub inputs: InputNames<'a>,
 }
 
 // How many bytes an image may have, and how many any other file.
@@ -28,18 +26,16 @@ const IMAGE_LIMIT: u64 = 4194304;
 const TEXT_LIMIT: u64 = 1048576;
 
 /// The files that are loaded, in order.
-pub fn wants<'a>(alloc: Global, command: &Command<'a>) -> Result<Vec<Want<'a>>, AllocError>
+pub fn wants<'a>(alloc: Global, command: &Fit<'a>) -> Result<Vec<Want<'a>>, AllocError>
     ensures { IfOk result (λ wants. want_views wants.items ≡ wants_of (command_view command.now)) }
 {
-    match *command {
-        Command::Fit {
-            image,
-            machine,
-            loops,
-            inputs,
-            ..
-        } => fit_wants(alloc, image, machine, loops, inputs.names),
-    }
+    fit_wants(
+        alloc,
+        command.image,
+        command.machine,
+        command.loops,
+        command.inputs.names,
+    )
 }
 
 fn fit_wants<'a>(

@@ -9,7 +9,7 @@ ghost use Rattle.pace_tool.specs.Command.{may_give, wants_of};
 ghost use Rattle.pace_tool.specs.Texts as texts;
 ghost use Rattle.pace_tool.specs.Views.{command_view};
 
-use crate::command::Command;
+use crate::command::Fit;
 use crate::texts::fitted_text;
 use host_runs::{ProgramFiles, Reply};
 use pace_fit::{Fitted, Proposal, choose};
@@ -95,15 +95,16 @@ pub fn fit_reply(
 
 /// What is made of the files that were loaded.
 #[tactic(auto, using(host_runs::proofs::Limits::limits_alone))]
-pub fn made(alloc: Global, command: &Command<'_>, files: &[Vec<u8>]) -> Result<Reply, NoMemory>
+pub fn made(alloc: Global, command: &Fit<'_>, files: &[Vec<u8>]) -> Result<Reply, NoMemory>
     requires { AllZip (λ want file. length file ≤ want.1) (wants_of (command_view command.now)) (files_view files.now) }
     ensures answer { IfOk result (λ reply. Makes (command_view command.now) (files_view files.now) (reply_view reply)) }
     ensures status { IfOk result (λ reply. IsTrue (may_give reply.status)) }
 {
-    match *command {
-        Command::Fit { out, inputs, .. } => {
-            let (first, given) = files.split_at(3);
-            fit_reply(alloc, out, &ProgramFiles::of(first), &Inputs { items: given })
-        }
-    }
+    let (first, given) = files.split_at(3);
+    fit_reply(
+        alloc,
+        command.out,
+        &ProgramFiles::of(first),
+        &Inputs { items: given },
+    )
 }

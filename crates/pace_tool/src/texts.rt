@@ -19,6 +19,12 @@ fn push_number(text: &mut String, words: &str, number: u128) -> Result<(), Alloc
     write!(text, "{words}{number}\n")
 }
 
+fn push_count(text: &mut String, words: &str, count: u32) -> Result<(), AllocError>
+    ensures { OnOk result (string_bytes text.new ≡ string_bytes text.old ++ number_line words.now count) }
+{
+    push_number(text, words, u128::from(count))
+}
+
 // Adds the line of the energy of what `rewrite` stores, if it has one.
 #[tactic(auto, unfolding(crate::specs::Texts::rewrite_line))]
 fn push_rewrite(text: &mut String, energy: Option<u128>) -> Result<(), AllocError>
@@ -78,8 +84,8 @@ pub fn fitted_text(
     ensures { IfOk result (λ text. string_bytes text ≡ fitted_text proposals.now fitted.now) }
 {
     let mut text = summary_text(alloc, &fitted.summary)?;
-    push_number(&mut text, "inputs ", u128::from(fitted.inputs))?;
-    push_number(&mut text, "left out ", u128::from(fitted.left_out))?;
+    push_count(&mut text, "inputs ", fitted.inputs)?;
+    push_count(&mut text, "left out ", fitted.left_out)?;
     push_number(&mut text, "energy ", fitted.energy)?;
     push_number(&mut text, "hold energy ", fitted.hold_energy)?;
     push_rewrite(&mut text, fitted.rewrite_energy)?;

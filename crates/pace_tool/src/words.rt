@@ -1,6 +1,6 @@
 //! The words of the command line, as `clap` reads them.
 
-use crate::command::Command;
+use crate::command::Fit;
 use crate::input_names::InputNames;
 use clap::{Arg, ArgAction, ArgMatches, Command as CommandLine, Error};
 use std::alloc::{AllocError, Global};
@@ -44,7 +44,7 @@ pub fn matches_of<'a>(alloc: Global, words: &'a [String]) -> Result<ArgMatches<'
 }
 
 /// The command that was matched.
-pub fn command_of<'m>(matches: &'m ArgMatches<'_>) -> Option<Command<'m>> {
+pub fn command_of<'m>(matches: &'m ArgMatches<'_>) -> Option<Fit<'m>> {
     let fit = matches.subcommand_matches("fit")?;
     match fit.get_strs("INPUT") {
         Some(names) => fit_of(fit, names),
@@ -52,8 +52,8 @@ pub fn command_of<'m>(matches: &'m ArgMatches<'_>) -> Option<Command<'m>> {
     }
 }
 
-fn fit_of<'m>(fit: &'m ArgMatches<'_>, inputs: &'m [&'m str]) -> Option<Command<'m>> {
-    Some(Command::Fit {
+fn fit_of<'m>(fit: &'m ArgMatches<'_>, inputs: &'m [&'m str]) -> Option<Fit<'m>> {
+    Some(Fit {
         image: fit.get_str("IMAGE")?,
         machine: fit.get_str("MACHINE")?,
         loops: fit.get_str("LOOPS")?,

@@ -32,7 +32,7 @@ loop-name-init c = sym (append-nil (want_views c.args.wants.now.items))
 pub loop-name-preserved : goal.loop-name-preserved
 loop-name-preserved c =
     one_more c.args.wants.now.items c.loop-name.wants.items c.push.new.self.items c.input_want.result c.args.inputs.now c.loop-name.name-index _ c.loop-name-test.true c.in_ok-push.ensures.items
-    (λ i. ((c.input_want.ensures.0 ∙ ap (λ (n : Bor (List ℕ)). n.now) c.name-item.is) i, c.input_want.ensures.1 i)) c.loop-name.invariant
+    (λ i. (c.input_want.ensures.0 i, c.input_want.ensures.1 i)) c.loop-name.invariant
 
 pub returns : goal.returns
 returns c =

@@ -1,7 +1,7 @@
 use Rattle.std.proofs.Common.{List, ℕ, ◌++◌, ap, take_all, sym, ◌∙◌, string_bytes}
 use Rattle.std.proofs.lemmas.List.{append-nil}
 use Rattle.paced_images.specs.declared.wanted.SwitchSite.{SwitchSite}
-use Rattle.pace_tool.specs.Texts.{switch_line, switch_lines}
+use Rattle.pace_tool.specs.Texts.{switch_lines}
 use Rattle.pace_tool.proofs.SwitchLines.{lines-more}
 use Rattle.pace_tool.proofs.texts.push_sites.Goals as goal
 
@@ -11,8 +11,7 @@ loop-site-init c = sym (append-nil (string_bytes c.args.text.now))
 pub loop-site-preserved : goal.loop-site-preserved
 loop-site-preserved c =
     c.in_ok-push_switch.ensures
-    ∙ ap (λ (text : List ℕ). text ++ switch_line c.site-item.result) c.loop-site.invariant
-    ∙ lines-more (string_bytes c.args.text.now) c.args.sites.now c.loop-site.site-index c.site-item.result c.loop-site-test.true c.site-item.is
+    ∙ lines-more (string_bytes c.args.text.now) (string_bytes c.loop-site.text) c.args.sites.now c.loop-site.site-index _ c.loop-site-test.true c.loop-site.invariant
 
 pub returns : goal.returns
 returns c =
