@@ -1,7 +1,7 @@
 //! Images whose switches stand on chosen edges.
 
 use crate::fixtures::*;
-use paced_images::{SwitchSite, pace};
+use paced_images::{SwitchSite, pace, useful_sites};
 use scale_base::{EdgeKind, Summary};
 use std::alloc::Global;
 use std::test::Fail;
@@ -23,10 +23,34 @@ fn paced(
         return Err(Fail::from("files that are too long"));
     }
     Ok(
-        pace(alloc, image, machine.as_bytes(), NO_LOOPS.as_bytes(), sites)
-            .ok()
-            .ok_or("paced")?,
+        pace(
+            alloc,
+            image,
+            machine.as_bytes(),
+            NO_LOOPS.as_bytes(),
+            sites,
+            true,
+        )
+        .ok()
+        .ok_or("paced")?,
     )
+}
+
+/// How many of some sites are of use to a machine with this deadline.
+fn useful(alloc: Global, image: &[u8], deadline: u32, sites: &[SwitchSite]) -> Result<usize, Fail> {
+    let machine = machine_for(deadline).text(alloc)?;
+    if image.len() > 4_194_304 || machine.len() > 1_048_576 {
+        return Err(Fail::from("files that are too long"));
+    }
+    let kept = useful_sites(
+        alloc,
+        image,
+        machine.as_bytes(),
+        NO_LOOPS.as_bytes(),
+        sites,
+        true,
+    );
+    Ok(kept.ok().ok_or("useful")?.len())
 }
 
 /// Whether a word stands at a multiple of four in a file.
@@ -85,5 +109,25 @@ fn lowers_the_level_of_a_straight_program(rt: HostRuntime) -> Result<(), Fail> {
     assert_eq!(rt; (numbers.start, numbers.switch_edges), (1, 1));
     // From level 1 to level 0, and from level 2 to no other.
     assert!(rt; has_word(&bytes, 0x20030313));
+    Ok(())
+}
+
+#[test]
+fn keeps_the_sites_whose_switch_lowers_a_level(rt: HostRuntime) -> Result<(), Fail> {
+    let alloc = rt.alloc();
+    let image = plain_image(alloc, &STRAIGHT)?;
+    let sites = [
+        SwitchSite {
+            at: 0x20000,
+            kind: EdgeKind::Jump,
+        },
+        SwitchSite {
+            at: 0x10020,
+            kind: EdgeKind::Jump,
+        },
+    ];
+    assert_eq!(rt; useful(alloc, &image, 500, &sites)?, 1);
+    // Here the starting level leaves too little time for level 0.
+    assert_eq!(rt; useful(alloc, &image, 330, &sites)?, 0);
     Ok(())
 }

@@ -1,5 +1,5 @@
 -- The first proposal of which an image can be built, where no input counts.
-use Rattle.std.proofs.Common.{◌≡◌, ℕ, ◌+◌, ◌<◌, ◌≤◌, List, [], ◌∷◌, length, Option, Some, None, Result, Ok, Err, refl, sym, ap, ◌∙◌, subst, arith, inl, inr}
+use Rattle.std.proofs.Common.{◌≡◌, ℕ, ◌+◌, ◌<◌, ◌≤◌, List, [], ◌∷◌, length, Some, None, Ok, Err, refl, sym, subst, arith, inl, inr}
 use Rattle.std.specs.Prelude.{slice_get}
 use Rattle.std.proofs.lemmas.Bool.Decides.{eqb_tells}
 use Rattle.scale_base.specs.declared.refusal.Refusal.{Refusal}
@@ -10,7 +10,7 @@ use Rattle.gain_tuner.specs.Finding.{IsTrialOrOf, Made}
 use Rattle.gain_tuner.specs.Spending.{IsSpent}
 use Rattle.gain_tuner.proofs.Laws.{Answer, none_spent}
 use Rattle.pace_fit.specs.declared.candidates.Proposal.{Proposal}
-use Rattle.pace_fit.specs.Fitting.{AreRefused, IsBuilt, IsCheapestFit, IsChosen, IsFirstBuilt, IsHeldOnly, IsProposed}
+use Rattle.pace_fit.specs.Fitting.{AreRefused, IsCheapestFit, IsChosen, IsFirstBuilt, IsProposed}
 use Rattle.pace_fit.specs.Finding.{IsHeldTrial, IsProposalTried, counted_inputs, given_inputs}
 use Rattle.pace_fit.proofs.Fits.{same_item}
 

@@ -1,8 +1,8 @@
 -- The numbers of a fitting, and its refusal.
-use Rattle.std.proofs.Common.{◌≡◌, ℕ, ◌-◌, ◌+◌, ◌≤◌, Bool, List, length, map, Option, Some, None, Result, Ok, Err, refl, sym, ap, ◌∙◌, subst, arith, length-map}
+use Rattle.std.proofs.Common.{◌≡◌, ℕ, ◌-◌, ◌+◌, ◌≤◌, List, length, Option, Some, None, Result, Ok, Err, sym, subst, arith}
+use Rattle.std.proofs.lemmas.List.{length-map}
 use Rattle.std.specs.Prelude.{count_by, option_map, IfOk, Vec}
 use Rattle.std.specs.declared.alloc.Global.{Global}
-use Rattle.scale_base.specs.declared.refusal.Refusal.{Refusal}
 use Rattle.scale_base.specs.declared.refusal.Stop.{Stop}
 use Rattle.scale_base.specs.declared.refusal.Stop.TheVariants.{Refused, Memory}
 use Rattle.scale_base.specs.declared.summary.Summary.{Summary}
@@ -16,7 +16,8 @@ use Rattle.gain_tuner.specs.declared.choosing.Trial.{Trial}
 use Rattle.gain_tuner.specs.Finding.{IsSafeTrialOf, IsTrialOrOf, IsTried, Made}
 use Rattle.gain_tuner.proofs.Laws.{Answer, AreCounted, counted_flags}
 use Rattle.pace_fit.specs.declared.candidates.Proposal.{Proposal}
-use Rattle.pace_fit.specs.Fitting.{HasEnergy, HasEnergyIfAny, IsHoldEnergy, IsProposed, IsRewriteEnergy}
+use Rattle.pace_fit.specs.declared.fitting.Fitted.{Fitted}
+use Rattle.pace_fit.specs.Fitting.{HasEnergy, HasEnergyIfAny, IsFitting, IsHoldEnergy, IsProposed, IsRewriteEnergy}
 use Rattle.pace_fit.specs.Finding.{AreLoaded, IsHeldTrial, IsProposalTried, counted_inputs, given_inputs}
 
 -- ---- results
@@ -30,9 +31,14 @@ if_ok_both (Ok a) f h h' = f a h h'
 if_ok_both (Err e) f h h' = tt
 
 -- the first refusal of all is that of the machine file
-pub machine_stops : (image machine loops : List ℕ) (stop : Stop) → Stops stop (read_machine machine) → AnswersBy {X = Vec ℕ Global × Summary} {Y = List ℕ × Summary} (λ given. (given.0.items, given.1)) (Err stop) (IsHeld image machine loops)
+machine_stops : (image machine loops : List ℕ) (stop : Stop) → Stops stop (read_machine machine) → AnswersBy {X = Vec ℕ Global × Summary} {Y = List ℕ × Summary} (λ given. (given.0.items, given.1)) (Err stop) (IsHeld image machine loops)
 unfolding IsHeld
 machine_stops image machine loops stop h = then_stops (read_machine machine) _ stop h
+
+pub fitting_stops : (image machine loops : List ℕ) (inputs : List (List ℕ)) (proposals : List Proposal) (stop : Stop) → Stops stop (read_machine machine) →
+    AnswersBy {X = Vec ℕ Global × Fitted} {Y = List ℕ × Fitted} (λ given. (given.0.items, given.1)) (Err stop) (IsFitting image machine loops inputs proposals)
+fitting_stops image machine loops inputs proposals (Refused refusal) h = machine_stops image machine loops (Refused refusal) h
+fitting_stops image machine loops inputs proposals Memory h = tt
 
 module _ (files : Files) where
   -- ---- trials
@@ -83,3 +89,14 @@ module _ (files : Files) where
 
   pub counted : AreLoaded files → AreCounted files.image.now files.machine.now files.loops.now files.inputs.now files.flags.now
   counted h = counted_flags files.image.now files.machine.now files.loops.now files.inputs.now files.flags.now h.flags
+
+  pub flags_few : AreLoaded files → length files.flags.now ≤ 64
+  flags_few h =
+      let size : length files.flags.now ≡ length (given_inputs files) = (counted h).size in
+      let same : length (given_inputs files) ≡ length files.inputs.now = length-map files.inputs.now (λ (v : Vec ℕ Global). v.items) in
+      omega (arith, size, same, h.few)
+
+  pub left_of : AreLoaded files → (inputs left : ℕ) → inputs ≡ count_by (λ b. b) files.flags.now → left ≡ length files.flags.now - count_by (λ b. b) files.flags.now → inputs + left ≡ length (given_inputs files)
+  left_of h inputs left e e' =
+      let a = counted h in
+      omega (arith, a.size, a.most, e, e')

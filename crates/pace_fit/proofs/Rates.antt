@@ -1,19 +1,21 @@
 -- One level, one pair of levels, or one input more of a bound.
-use Rattle.std.proofs.Common.{◌≡◌, ℕ, zero, suc, ◌+◌, ◌-◌, ◌*◌, ◌^◌, ◌/◌, ◌<◌, ◌≤◌, Bool, true, false, List, [], ◌∷◌, ◌++◌, map, length, take, get_or, Some, Result, Ok, refl, sym, ap, ◌∙◌, subst, arith, inl, inr}
+use Rattle.std.proofs.Common.{◌≡◌, ℕ, zero, suc, ◌+◌, ◌-◌, ◌*◌, ◌^◌, ◌/◌, ◌<◌, ◌≤◌, Bool, true, false, List, [], ◌∷◌, map, length, take, get_or, Ok, refl, sym, ap, ◌∙◌, subst, arith, inl, inr}
 use Rattle.std.specs.Prelude.{min, max, fold, sum_by, Vec}
 use Rattle.std.specs.List.{filter, range_with_len}
 use Rattle.std.specs.declared.alloc.Global.{Global}
 use Rattle.std.proofs.lemmas.Bool.Decides.{eqb_tells}
 use Rattle.std.proofs.lemmas.List.FromFn.{map-range_with_len_more}
 use Rattle.std.proofs.lemmas.List.Sums.{fold_more, fold-append, sum_by_push}
+use Rattle.std.proofs.lemmas.List.{length-map}
+use Rattle.std.proofs.Math.Seq.{take-length}
 use Rattle.std.proofs.Math.Nat.{div-le_self, max-le, min-le_left, mul-le-mul}
 use Rattle.power_model.specs.declared.power.Level.{Level}
 use Rattle.power_model.specs.Levels.{AreRanked, IsSlower, level, no_level}
 use Rattle.power_model.specs.Numbers.{PowerModel}
-use Rattle.gain_tuner.specs.declared.choosing.Files.{Files}
+use Rattle.machine_file.specs.Machine.{read_machine}
 use Rattle.gain_tuner.specs.Spending.{counts, counting}
 use Rattle.gain_tuner.proofs.Laws.{flag_at, input_at, input_below, items_of, kept_more, left_more}
-use Rattle.pace_fit.specs.Least.{bound_at, bound_with, cycles_on, greatest, least_energy, pair_bound}
+use Rattle.pace_fit.specs.Least.{IsLeastOver, bound_at, bound_with, cycles_on, greatest, least_energy, pair_bound}
 
 -- ---- levels
 
@@ -51,11 +53,19 @@ pair_is power cycles i j slower faster n e e' h =
     h ∙ (ap (λ (l : Level). bound_at power cycles (faster.energy - l.energy) (l.period - faster.period)) e
     ∙ ap (λ (l : Level). bound_at power cycles (l.energy - (level power.levels i).energy) ((level power.levels i).period - l.period)) e')
 
+pub pair_ranked : (levels : List Level) → AreRanked levels → (i j : ℕ) (slower faster : Level) → i < j → j < length levels → slower ≡ level levels i → faster ≡ level levels j → IsSlower slower faster
+pair_ranked levels ranked i j slower faster lt below e e' =
+    subst (λ (l : Level). IsSlower slower l) (sym e') (subst (λ (l : Level). IsSlower l (level levels j)) (sym e) (ranked_below levels ranked i j lt below))
+
 pub greatest_more : (f : ℕ → ℕ) (m k most : ℕ) → most ≡ greatest m (map f (range_with_len 0 k)) → max most (f k) ≡ greatest m (map f (range_with_len 0 (k + 1)))
 greatest_more f m k most e =
     let same : 0 + k ≡ k = omega arith in
     let more = map-range_with_len_more f 0 k k same in
     ap (λ n. max n (f k)) e ∙ (sym (fold-append (λ a b. max a b) m (map f (range_with_len 0 k)) (f k ∷ [])) ∙ ap (greatest m) (sym more))
+
+pub least_energy_is : (power : PowerModel) (cycles j most : ℕ) → j ≡ length power.levels → most ≡ greatest (bound_at power cycles 0 1) (map (bound_with power cycles) (range_with_len 0 j)) → most ≡ least_energy power cycles
+unfolding least_energy
+least_energy_is power cycles j most last e = e ∙ ap (λ n. greatest (bound_at power cycles 0 1) (map (bound_with power cycles) (range_with_len 0 n))) last
 
 pub most_small : (most bound limit : ℕ) → most ≤ limit → bound ≤ limit → max most bound ≤ limit
 most_small most bound limit h h' = max-le h h'
@@ -93,3 +103,20 @@ module _ (power : PowerModel) (image machine loops : List ℕ) (inputs : List (V
   least_out d flag energy h = sum_out (λ input. least_energy power (cycles_on image machine loops input)) (counts image machine loops) (items_of inputs) k v.items
       (input_below image machine loops [] inputs flags are k v lt at) (input_at image machine loops [] inputs flags are k v lt at) energy
       (sym (flag_at image machine loops [] inputs flags are k v lt at d) ∙ flag) h
+
+pub least_all : (power : PowerModel) (image machine loops : List ℕ) (inputs : List (Vec ℕ Global)) (n energy : ℕ) → read_machine machine ≡ Ok power → n ≡ length inputs →
+    energy ≡ sum_by (λ input. least_energy power (cycles_on image machine loops input)) (counting image machine loops (take n (items_of inputs))) → IsLeastOver image machine loops (counting image machine loops (items_of inputs)) energy
+least_all power image machine loops inputs n energy power_is last h =
+    let size : length (items_of inputs) ≡ length inputs = length-map inputs (λ (v : Vec ℕ Global). v.items) in
+    let all : take n (items_of inputs) ≡ items_of inputs = ap (λ m. take m (items_of inputs)) (last ∙ sym size) ∙ take-length (items_of inputs) in
+    record {
+      power = power;
+      power_is = power_is;
+      sum = h ∙ ap (λ (xs : List (List ℕ)). sum_by (λ input. least_energy power (cycles_on image machine loops input)) (counting image machine loops xs)) all;
+    }
+
+pub small_more : (k energy one : ℕ) → energy ≤ k * 2 ^ 121 → one ≤ 2 ^ 121 → energy + one ≤ (k + 1) * 2 ^ 121
+small_more k energy one h h' = omega arith
+
+pub small_same : (k energy : ℕ) → energy ≤ k * 2 ^ 121 → energy ≤ (k + 1) * 2 ^ 121
+small_same k energy h = omega arith

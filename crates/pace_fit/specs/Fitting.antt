@@ -14,7 +14,7 @@ use Rattle.pace_fit.specs.Least.{IsLeastOver}
 
 -- what `pace` gives of a proposal
 abbrev pub IsProposed : (image machine loop_file : List ℕ) → Proposal → Result (List ℕ × Summary) Refusal → Type 0
-IsProposed image machine loop_file proposal answer = IsPaced image machine loop_file proposal.sites.items answer
+IsProposed image machine loop_file proposal answer = IsPaced image machine loop_file proposal.sites.items proposal.counted answer
 
 -- ---- the choice where some input counts
 
@@ -83,16 +83,16 @@ abbrev pub IsRewriteEnergy : (image machine loop_file : List ℕ) → List (List
 IsRewriteEnergy image machine loop_file inputs energy = (made : Result (List ℕ × Summary) Refusal) × IsRewritten image machine loop_file made × HasEnergyIfAny machine inputs made energy
 
 -- the stored image and the numbers of the choice
-pub record IsFitted (image machine loop_file : List ℕ) (inputs : List (List ℕ)) (proposals : List Proposal) (stored : List ℕ) (fitted : Fitted) : Type 0 where
-  pub chosen : IsChosen image machine loop_file (counting image machine loop_file inputs) proposals fitted.candidate stored fitted.summary fitted.energy
-  pub hold : IsHoldEnergy image machine loop_file (counting image machine loop_file inputs) fitted.hold_energy
-  pub rewrite : IsRewriteEnergy image machine loop_file (counting image machine loop_file inputs) fitted.rewrite_energy
-  pub least : IsLeastOver image machine loop_file (counting image machine loop_file inputs) fitted.least_energy
+pub record IsFitted (image machine loop_file : List ℕ) (given : List (List ℕ)) (proposals : List Proposal) (stored : List ℕ) (fitted : Fitted) : Type 0 where
+  pub chosen : IsChosen image machine loop_file (counting image machine loop_file given) proposals fitted.candidate stored fitted.summary fitted.energy
+  pub hold : IsHoldEnergy image machine loop_file (counting image machine loop_file given) fitted.hold_energy
+  pub rewrite : IsRewriteEnergy image machine loop_file (counting image machine loop_file given) fitted.rewrite_energy
+  pub least : IsLeastOver image machine loop_file (counting image machine loop_file given) fitted.least_energy
   -- the inputs that count, and the others
-  pub inputs : fitted.inputs ≡ length (counting image machine loop_file inputs)
-  pub left_out : fitted.inputs + fitted.left_out ≡ length inputs
+  pub inputs : fitted.inputs ≡ length (counting image machine loop_file given)
+  pub left_out : fitted.inputs + fitted.left_out ≡ length given
 
 -- The stored bytes with the numbers of the choice, or the first refusal, which is that of `hold`.
 abbrev pub IsFitting : (image machine loop_file : List ℕ) → List (List ℕ) → List Proposal → Result (List ℕ × Fitted) Refusal → Type 0
-IsFitting image machine loop_file inputs proposals (Ok choice) = IsFitted image machine loop_file inputs proposals choice.0 choice.1
-IsFitting image machine loop_file inputs proposals (Err refusal) = IsHeld image machine loop_file (Err refusal)
+IsFitting image machine loop_file given proposals (Ok choice) = IsFitted image machine loop_file given proposals choice.0 choice.1
+IsFitting image machine loop_file given proposals (Err refusal) = IsHeld image machine loop_file (Err refusal)

@@ -54,7 +54,7 @@ fn bound_with(power: &Power, cycles: u64, j: u8) -> u128
     ensures small { result ≤ 2 ^ 121 }
 {
     let faster = power.levels.get(j);
-    let mut most = 0;
+    let mut most: u128 = 0;
     for i in 0..j {
         let slower = power.levels.get(i);
         let a = faster.energy - slower.energy;

@@ -31,6 +31,7 @@ pub fn trial_of(
         files.machine,
         files.loops,
         &proposal.sites,
+        proposal.counted,
     );
     trial_from(alloc, files, candidate, made)
 }

@@ -20,7 +20,8 @@ fn cheapest(
     requires files { AreLoaded files.now }
     requires proposals { length proposals.now ≤ 64 }
     requires held { IsHeldTrial files.now held }
-    ensures fit { IfOk result (λ t. IsCheapestFit files.now.image.now files.now.machine.now files.now.loops.now (counted_inputs files.now) proposals.now t.candidate t.stored.items t.summary t.energy) }
+    ensures fit { IfOk result (λ t. IsCheapestFit files.now.image.now files.now.machine.now files.now.loops.now (counted_inputs files.now)
+        proposals.now t.candidate t.stored.items t.summary t.energy) }
     ensures saves { IfOk result (λ t. t.energy ≤ held.energy) }
     ensures safe { IfOk result (IsSafe files.now) }
 {
@@ -42,7 +43,8 @@ fn first_built(
     requires proposals { length proposals.now ≤ 64 }
     requires held { IsHeldTrial files.now held }
     requires none { counted_inputs files.now ≡ [] }
-    ensures first { IfOk result (λ t. IsFirstBuilt files.now.image.now files.now.machine.now files.now.loops.now proposals.now t.candidate t.stored.items t.summary) }
+    ensures first { IfOk result (λ t. IsFirstBuilt files.now.image.now files.now.machine.now files.now.loops.now
+        proposals.now t.candidate t.stored.items t.summary) }
     ensures energy { IfOk result (λ t. t.energy ≡ 0) }
     ensures safe { IfOk result (IsSafe files.now) }
 {
@@ -64,7 +66,8 @@ pub fn chosen(
     requires files { AreLoaded files.now }
     requires proposals { length proposals.now ≤ 64 }
     requires held { IsHeldTrial files.now held }
-    ensures chosen { IfOk result (λ t. IsChosen files.now.image.now files.now.machine.now files.now.loops.now (counted_inputs files.now) proposals.now t.candidate t.stored.items t.summary t.energy) }
+    ensures chosen { IfOk result (λ t. IsChosen files.now.image.now files.now.machine.now files.now.loops.now (counted_inputs files.now)
+        proposals.now t.candidate t.stored.items t.summary t.energy) }
     ensures saves { IfOk result (λ t. t.energy ≤ held.energy) }
     ensures safe { IfOk result (IsSafe files.now) }
 {

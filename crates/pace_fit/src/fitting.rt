@@ -1,6 +1,6 @@
 //! The fitting of a program to inputs.
 
-ghost use Rattle.std.specs.Prelude.{◌≡◌, ◌≤◌, ◌<◌, length, map, Ok, IfOk};
+ghost use Rattle.std.specs.Prelude.{◌≡◌, ◌≤◌, ◌-◌, length, map, count_by, Ok, IfOk};
 ghost use Rattle.std.specs.List.{All};
 ghost use Rattle.scale_base.specs.Answer.{AnswersBy};
 ghost use Rattle.power_model.specs.Numbers.{IsPowerModel};
@@ -41,8 +41,24 @@ pub struct Fitted {
     pub least_energy: u128,
 }
 
+/// How many inputs count, by their flags.
+fn inputs_of(flags: &[bool]) -> u32
+    requires { length flags.now ≤ 64 }
+    ensures { result ≡ count_by (λ flag. flag) flags.now }
+{
+    count_of(flags) as u32
+}
+
+/// How many don't.
+fn left_out_of(flags: &[bool]) -> u32
+    requires { length flags.now ≤ 64 }
+    ensures { result ≡ length flags.now - count_by (λ flag. flag) flags.now }
+{
+    (flags.len() - count_of(flags)) as u32
+}
+
 /// The energy of the image that `rewrite` stores on the inputs that count, unless it is out.
-fn rewrite_energy(alloc: Global, files: &Files<'_>) -> Result<Option<u128>, NoMemory>
+fn rewritten_over(alloc: Global, files: &Files<'_>) -> Result<Option<u128>, NoMemory>
     requires { AreLoaded files.now }
     ensures { IfOk result (IsRewriteEnergy files.now.image.now files.now.machine.now files.now.loops.now (counted_inputs files.now)) }
 {
@@ -66,23 +82,28 @@ fn fit(
     requires machine { machines.read_machine files.now.machine.now ≡ Ok power.now }
     requires proposals { length proposals.now ≤ 64 }
     requires held { IsHeld files.now.image.now files.now.machine.now files.now.loops.now (Ok ((held.0.items, held.1))) }
-    ensures fitted { IfOk result (λ given. IsFitted files.now.image.now files.now.machine.now files.now.loops.now (given_inputs files.now) proposals.now given.0.items given.1) }
+    ensures fitted { IfOk result (λ given. IsFitted files.now.image.now files.now.machine.now files.now.loops.now
+        (given_inputs files.now) proposals.now given.0.items given.1) }
     ensures saves { IfOk result (λ given. given.1.energy ≤ given.1.hold_energy) }
-    ensures safe { IfOk result (λ given. IsStoredSafely files.now.image.now files.now.machine.now files.now.loops.now given.0.items given.1.summary) }
+    ensures safe { IfOk result (λ given. IsStoredSafely files.now.image.now files.now.machine.now files.now.loops.now
+        given.0.items given.1.summary) }
 {
     let first = held_trial(alloc, files, held)?;
     let hold_energy = first.energy;
     let best = chosen(alloc, files, proposals, first)?;
-    let count = count_of(files.flags);
+    let rewrite_energy = rewritten_over(alloc, files)?;
+    let least_energy = least_over(alloc, files, power)?;
+    let inputs = inputs_of(files.flags);
+    let left_out = left_out_of(files.flags);
     let fitted = Fitted {
         candidate: best.candidate,
         summary: best.summary,
-        inputs: count as u32,
-        left_out: (files.flags.len() - count) as u32,
+        inputs,
+        left_out,
         energy: best.energy,
         hold_energy,
-        rewrite_energy: rewrite_energy(alloc, files)?,
-        least_energy: least_over(alloc, files, power)?,
+        rewrite_energy,
+        least_energy,
     };
     Ok((best.stored, fitted))
 }
@@ -92,8 +113,8 @@ fn fit(
 ///
 /// An input counts where the original run exits within the machine file's steps and is kept. Candidate 0 is what `hold` stores, candidate
 /// k + 1 what `pace` makes of proposal k. A candidate is out where it is refused, or where its run on an input that counts is out of steps.
-/// Where no input counts, all energies are 0, and the choice is the first proposal of which an image can be made, or else what `hold` stores.
-/// Energies are in the machine file's energy units.
+/// Where no input counts, all energies are 0, and the choice is the first proposal of which an image can be made, or else what `hold`
+/// stores. Energies are in the machine file's energy units.
 ///
 /// There is one run at a time in memory, and one candidate beside the best so far. The files have at most the bytes that the program
 /// loads: 4,194,304 of an image, 1,048,576 of each other file and of an input.
@@ -111,7 +132,8 @@ pub fn choose(
     requires few { length inputs.now ≤ 64 }
     requires inputs { All (λ input. length input.items ≤ 1048576) inputs.now }
     requires proposals { length proposals.now ≤ 64 }
-    ensures fitted { AnswersBy (λ given. (given.0.items, given.1)) result (IsFitting image.now machine.now loops.now (map (λ input. input.items) inputs.now) proposals.now) }
+    ensures fitted { AnswersBy (λ given. (given.0.items, given.1)) result
+        (IsFitting image.now machine.now loops.now (map (λ input. input.items) inputs.now) proposals.now) }
 
     // The choice never takes more than the image that runs at one level.
     ensures saves { IfOk result (λ given. given.1.energy ≤ given.1.hold_energy) }

@@ -1,38 +1,131 @@
--- One flag more.
-use Rattle.std.proofs.Common.{◌≡◌, ℕ, zero, suc, ◌+◌, ◌<◌, ◌≤◌, Bool, List, [], ◌∷◌, ◌++◌, length, slice_get, Some, refl, sym, ap, ◌∙◌, arith, ⊎_elim}
-use Rattle.std.proofs.lemmas.Bool.{cases_lt}
-use Rattle.std.proofs.lemmas.List.{length-append}
+-- Flags are raised site by site.
+use Rattle.std.proofs.Common.{◌≡◌, ℕ, ◌+◌, ◌<◌, ◌≤◌, Bool, true, false, ◌&&◌, List, [], length, take, replicate, slice_get, slice_set, Option, Some, None, refl, sym, ap, ◌∙◌, arith, eqb-true, ⊎_elim}
+use Rattle.std.specs.Prelude.{◌||◌, ◌==◌, nat_lt, slice_index_or}
+use Rattle.std.proofs.lemmas.Bool.{and_parts, cases_lt}
+use Rattle.std.proofs.lemmas.Bool.Decides.{nat_tests}
+use Rattle.std.proofs.lemmas.List.{get_or-set_same, get_or-set_other, get_or-replicate, length-set, length-replicate}
+use Rattle.std.proofs.lemmas.List.Folds.{list_any_more}
+use Rattle.std.proofs.lemmas.Option.{get_or_from_slice_get, slice_get-get_or}
+use Rattle.std.proofs.Math.Bool.{and-false, or-false, or-true}
+use Rattle.scale_base.specs.declared.edges.Edge.{Edge}
+use Rattle.cost_theory.specs.Reached.{edge_at}
 use Rattle.code_graph.specs.FlowGraph.{FlowGraph}
+use Rattle.scale_sites.specs.Sites.{flag_at}
 use Rattle.paced_images.specs.declared.wanted.SwitchSite.{SwitchSite}
-use Rattle.paced_images.specs.Flags.{AreFlags}
-use Rattle.paced_images.specs.Wanted.{wanted_by}
+use Rattle.paced_images.specs.Flags.{AreFlags, AreRaised}
+use Rattle.paced_images.specs.Wanted.{same_kind, names, names_some, any_names}
 
-before : (xs : List Bool) (x : Bool) (e : ℕ) → e < length xs → slice_get (xs ++ x ∷ []) e ≡ slice_get xs e
-before [] x e lt = let bad : ⊥ = omega arith in absurd bad
-before (y ∷ ys) x zero lt = refl
-before (y ∷ ys) x (suc e) lt = before ys x e (omega arith)
+-- ---- what a site names starts at its address
 
-last : (xs : List Bool) (x : Bool) → slice_get (xs ++ x ∷ []) (length xs) ≡ Some x
-last [] x = refl
-last (y ∷ ys) x = last ys x
+pub named_at : (site : SwitchSite) (o : Option Edge) → names_some site o ≡ true → edge_at o ≡ site.at
+named_at site None on = let bad : ⊥ = cc in absurd bad
+named_at site (Some edge) on = sym (eqb-true site.at edge.at (and_parts (site.at == edge.at) (same_kind edge.kind site.kind) on).0)
 
-pub flags_push : (v : FlowGraph) (sites : List SwitchSite) (n : ℕ) (flags : List Bool) (flag : Bool) → AreFlags v sites n flags → flag ≡ wanted_by v sites n → AreFlags v sites (n + 1) (flags ++ flag ∷ [])
-flags_push v sites n flags flag are is =
-    let size : length flags ≡ n = are.size in
-    let more : length (flags ++ flag ∷ []) ≡ length flags + 1 = length-append flags (flag ∷ []) in
+tests_same : (e n : ℕ) → (e ≡ n → ⊥) → nat_lt e n ≡ nat_lt e (n + 1)
+tests_same e n other = ⊎_elim
+    (λ (low : e < n).
+    let one : nat_lt e n ≡ true = grind (arith, nat_tests) in
+    let two : nat_lt e (n + 1) ≡ true = grind (arith, nat_tests) in
+    one ∙ sym two)
+    (λ (high : n ≤ e).
+    let far : n < e = ⊎_elim (λ (lt : n < e). lt) (λ (le : e ≤ n). absurd (other (omega arith))) (cases_lt n e) in
+    let one : nat_lt e n ≡ false = grind (arith, nat_tests) in
+    let two : nat_lt e (n + 1) ≡ false = grind (arith, nat_tests) in
+    one ∙ sym two)
+    (cases_lt e n)
+
+-- ---- one site
+
+module _ (v : FlowGraph) (site : SwitchSite) where
+  abbrev named : ℕ → Bool
+  named e = names_some site (slice_get v.code.edges e)
+
+  -- an edge that is not named keeps its flag, whether it was passed or not
+  kept : (flag : Bool) (e n : ℕ) → (e < n → named e ≡ false) → flag ≡ (flag || (nat_lt e n && named e))
+  kept flag e n off = by (nat_lt e n) refl
+    where
+      by : (b : Bool) → nat_lt e n ≡ b → flag ≡ (flag || (b && named e))
+      by false is = sym (or-false flag)
+      by true is =
+          let lt : e < n = grind (arith, nat_tests) in
+          sym (ap (λ b. flag || b) (off lt) ∙ or-false flag)
+
+  pub raised_none : (n : ℕ) (flags : List Bool) → ((e : ℕ) → e < length flags → e < n → named e ≡ false) → AreRaised v site n flags flags
+  raised_none n flags off = record { size = refl; each = λ e lt. kept (flag_at flags e) e n (off e lt) }
+
+  pub raised_here : (n : ℕ) (old flags : List Bool) → n < length old → named n ≡ true → AreRaised v site n old flags → AreRaised v site (n + 1) old (slice_set flags n true)
+  raised_here n old flags within on are = record { size = length-set flags n true ∙ are.size; each = each }
+    where
+      at : (e : ℕ) → e ≡ n → flag_at (slice_set flags n true) e ≡ (flag_at old e || (nat_lt e (n + 1) && named e))
+      at e same =
+          let size = are.size in
+          let set : flag_at (slice_set flags n true) n ≡ true = get_or-set_same flags n true false (omega arith) in
+          let test : nat_lt n (n + 1) ≡ true = grind (arith, nat_tests) in
+          let up : (flag_at old n || (nat_lt n (n + 1) && named n)) ≡ true = ap (λ b. flag_at old n || (b && named n)) test ∙ (ap (λ b. flag_at old n || b) on ∙ or-true (flag_at old n)) in
+          ap (flag_at (slice_set flags n true)) same ∙ (set ∙ (sym up ∙ ap (λ d. flag_at old d || (nat_lt d (n + 1) && named d)) (sym same)))
+
+      off : (e : ℕ) → e < length old → (e ≡ n → ⊥) → flag_at (slice_set flags n true) e ≡ (flag_at old e || (nat_lt e (n + 1) && named e))
+      off e lt other = get_or-set_other flags n e true false other ∙ (are.each e lt ∙ ap (λ b. flag_at old e || (b && named e)) (tests_same e n other))
+
+      each : (e : ℕ) → e < length old → flag_at (slice_set flags n true) e ≡ (flag_at old e || (nat_lt e (n + 1) && named e))
+      each e lt = ⊎_elim (λ (low : e < n). off e lt (λ same. omega arith))
+          (λ (high : n ≤ e). ⊎_elim (λ (far : n < e). off e lt (λ same. omega arith)) (λ (le : e ≤ n). at e (omega arith)) (cases_lt n e)) (cases_lt e n)
+
+  pub raised_not : (n : ℕ) (old flags : List Bool) → named n ≡ false → AreRaised v site n old flags → AreRaised v site (n + 1) old flags
+  raised_not n old flags off are = record { size = are.size; each = λ e lt. are.each e lt ∙ ap (λ b. flag_at old e || b) (same e) }
+    where
+      same : (e : ℕ) → (nat_lt e n && named e) ≡ (nat_lt e (n + 1) && named e)
+      same e = by (named e) refl
+        where
+          by : (b : Bool) → named e ≡ b → (nat_lt e n && b) ≡ (nat_lt e (n + 1) && b)
+          by false is = and-false (nat_lt e n) ∙ sym (and-false (nat_lt e (n + 1)))
+          by true is = ap (λ t. t && true) (tests_same e n (λ at. let two : true ≡ false = sym is ∙ (ap named at ∙ off) in let bad : ⊥ = cc in bad))
+
+  pub raised_all : (n m : ℕ) (old flags : List Bool) → ((e : ℕ) → e < length old → named e ≡ true → (e < n) × (e < m)) → AreRaised v site n old flags → AreRaised v site m old flags
+  raised_all n m old flags low are = record { size = are.size; each = λ e lt. are.each e lt ∙ ap (λ b. flag_at old e || b) (same e lt) }
+    where
+      same : (e : ℕ) → e < length old → (nat_lt e n && named e) ≡ (nat_lt e m && named e)
+      same e lt = by (named e) refl
+        where
+          by : (b : Bool) → named e ≡ b → (nat_lt e n && b) ≡ (nat_lt e m && b)
+          by false is = and-false (nat_lt e n) ∙ sym (and-false (nat_lt e m))
+          by true is =
+              let p = low e lt is in
+              let first = p.0 in
+              let second = p.1 in
+              let one : nat_lt e n ≡ true = grind (arith, nat_tests) in
+              let two : nat_lt e m ≡ true = grind (arith, nat_tests) in
+              ap (λ t. t && true) (one ∙ sym two)
+
+-- ---- all sites
+
+none_named : (o : Option Edge) → any_names [] o ≡ false
+none_named None = refl
+none_named (Some edge) = refl
+
+pub flags_none : (v : FlowGraph) (sites : List SwitchSite) (n : ℕ) (flags : List Bool) → flags ≡ replicate n false → AreFlags v (take 0 sites) n flags
+flags_none v sites n flags is =
+    let size : length flags ≡ n = ap length is ∙ length-replicate n false in
     record {
-      size = let r : length (flags ++ flag ∷ []) ≡ n + 1 = omega arith in r;
-      each = λ e lt. ⊎_elim
-          (λ (low : e < n). before flags flag e (let r : e < length flags = omega arith in r) ∙ are.each e low)
-          (λ (high : n ≤ e).
-          let same : e ≡ length flags = omega arith in
-          let at : e ≡ n = omega arith in
-          ap (slice_get (flags ++ flag ∷ [])) same ∙ (last flags flag ∙ (ap Some is ∙ ap (λ d. Some (wanted_by v sites d)) (sym at))))
-          (cases_lt e n);
+      size = size;
+      each = λ e lt. slice_get-get_or flags e false (omega arith) ∙ ap Some (ap (λ xs. flag_at xs e) is ∙ (get_or-replicate n e false false lt ∙ sym (none_named (slice_get v.code.edges e))));
     }
 
-pub flags_none : (v : FlowGraph) (sites : List SwitchSite) (flags : List Bool) → flags ≡ [] → AreFlags v sites 0 flags
-flags_none v sites flags none = record { size = ap length none; each = λ e lt. (let bad : ⊥ = omega (arith, lt) in absurd bad) }
+more_named : (sites : List SwitchSite) (i : ℕ) (d : SwitchSite) (o : Option Edge) → i < length sites → any_names (take (i + 1) sites) o ≡ (any_names (take i sites) o || names_some (slice_index_or sites i d) o)
+more_named sites i d None lt = refl
+more_named sites i d (Some edge) lt = list_any_more (λ site. names site edge) sites i d lt
 
-pub flags_all : (v : FlowGraph) (sites : List SwitchSite) (n m : ℕ) (flags : List Bool) → n ≡ m → AreFlags v sites n flags → AreFlags v sites m flags
-flags_all v sites n m flags same are = Rattle.std.proofs.Common.subst (λ k. AreFlags v sites k flags) same are
+pub flags_more : (v : FlowGraph) (sites : List SwitchSite) (i : ℕ) (d : SwitchSite) (n : ℕ) (old new : List Bool) → i < length sites → AreFlags v (take i sites) n old → AreRaised v (slice_index_or sites i d) n old new → AreFlags v (take (i + 1) sites) n new
+flags_more v sites i d n old new within are raised =
+    let size = are.size in
+    let same = raised.size in
+    record {
+      size = same ∙ size;
+      each = λ e lt.
+          let o = slice_get v.code.edges e in
+          let site = slice_index_or sites i d in
+          let test : nat_lt e n ≡ true = grind (arith, nat_tests) in
+          let before : flag_at old e ≡ any_names (take i sites) (slice_get v.code.edges e) = get_or_from_slice_get old e (any_names (take i sites) (slice_get v.code.edges e)) false (are.each e lt) in
+          slice_get-get_or new e false (omega arith)
+          ∙ ap Some (raised.each e (omega arith) ∙ (ap (λ b. flag_at old e || (b && names_some site o)) test ∙ (ap (λ b. b || names_some site o) before ∙ sym (more_named sites i d o within))));
+    }

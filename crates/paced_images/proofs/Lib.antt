@@ -7,6 +7,7 @@ mod MarkingFacts
 mod ScalingFacts
 mod ProgramFacts
 mod PacedFiles
+mod UsefulFacts
 mod FlagLists
 mod Ordered
 mod SafeStubs
@@ -15,5 +16,6 @@ mod PacedWeights
 mod PacedCounts
 mod PacedTables
 mod Ended
+mod Uncounted
 mod PacedRuns
 mod PacedSafe

@@ -1,10 +1,9 @@
 -- From the files to the program whose switches are wanted on some edges: what stops, and what goes on.
-use Rattle.std.proofs.Common.{◌≡◌, ℕ, List, Result, Ok, Err}
-use Rattle.std.specs.Prelude.{Vec}
-use Rattle.std.specs.declared.alloc.Global.{Global}
+use Rattle.std.proofs.Common.{◌≡◌, ℕ, Bool, List, Result, Ok, Err, sym, subst}
 use Rattle.scale_base.specs.declared.refusal.Refusal.{Refusal}
 use Rattle.scale_base.specs.declared.refusal.Stop.{Stop}
 use Rattle.scale_base.specs.declared.refusal.Stop.TheVariants.{Refused}
+use Rattle.scale_base.specs.declared.summary.Summary.{Summary}
 use Rattle.scale_base.specs.declared.summary.Summary.{Summary}
 use Rattle.scale_base.specs.Answer.{Stops}
 use Rattle.scale_base.specs.Image.{Image, image_of}
@@ -12,35 +11,38 @@ use Rattle.power_model.specs.Numbers.{PowerModel}
 use Rattle.machine_file.specs.Machine.{read_machine}
 use Rattle.loop_file.specs.declared.notes.LoopNote.{LoopNote}
 use Rattle.loop_file.specs.Loops.{read_loops}
-use Rattle.scaler.specs.Held.{unscaled}
+use Rattle.scaler.specs.Held.{Then, unscaled}
+use Rattle.scaler.specs.RewrittenAs.{notes_with}
 use Rattle.paced_images.specs.declared.wanted.SwitchSite.{SwitchSite}
 use Rattle.paced_images.specs.Paced.{IsPaced, IsPacedProgram}
 use Rattle.scaler.proofs.Laws.{HoldAnswers, then_goes, then_stops}
 
-module _ (image machine loops : List ℕ) (wanted : List SwitchSite) where
-  pub machine_stops : (stop : Stop) → Stops stop (read_machine machine) → HoldAnswers (Err stop) (IsPaced image machine loops wanted)
+then_is : {X Y : Type 0} (part : Result X Refusal) (x : X) (next : X → Result Y Refusal → Type 0) (answer : Result Y Refusal) → part ≡ Ok x → next x answer → Then part next answer
+then_is part x next answer e h = subst (λ q. Then q next answer) (sym e) h
+
+module _ (image machine loops : List ℕ) (wanted : List SwitchSite) (counted : Bool) where
+  pub machine_stops : (stop : Stop) → Stops stop (read_machine machine) → HoldAnswers (Err stop) (IsPaced image machine loops wanted counted)
   unfolding IsPaced
   machine_stops stop h = then_stops (read_machine machine) _ stop h
 
-  pub image_stops : (power : PowerModel) (stop : Stop) → read_machine machine ≡ Ok power → Stops stop (image_of image) → HoldAnswers (Err stop) (IsPaced image machine loops wanted)
+  pub image_stops : (power : PowerModel) (stop : Stop) → read_machine machine ≡ Ok power → Stops stop (image_of image) → HoldAnswers (Err stop) (IsPaced image machine loops wanted counted)
   unfolding IsPaced
   image_stops power stop a h = then_goes (read_machine machine) power _ (Err stop) a (then_stops (image_of image) _ stop h)
 
   pub key_stops : (power : PowerModel) (original : Image) (refusal : Refusal) → read_machine machine ≡ Ok power → image_of image ≡ Ok original → unscaled original.keyed_segment ≡ Err refusal →
-      HoldAnswers (Err (Refused refusal)) (IsPaced image machine loops wanted)
+      HoldAnswers (Err (Refused refusal)) (IsPaced image machine loops wanted counted)
   unfolding IsPaced
   key_stops power original refusal a b h =
       then_goes (read_machine machine) power _ (Err (Refused refusal)) a (then_goes (image_of image) original _ (Err (Refused refusal)) b (then_stops (unscaled original.keyed_segment) _ (Refused refusal) h))
 
   pub loops_stop : (power : PowerModel) (original : Image) (stop : Stop) → read_machine machine ≡ Ok power → image_of image ≡ Ok original → unscaled original.keyed_segment ≡ Ok tt →
-      Stops stop (read_loops original loops) → HoldAnswers (Err stop) (IsPaced image machine loops wanted)
+      Stops stop (read_loops original loops) → HoldAnswers (Err stop) (IsPaced image machine loops wanted counted)
   unfolding IsPaced
   loops_stop power original stop a b c h =
       then_goes (read_machine machine) power _ (Err stop) a (then_goes (image_of image) original _ (Err stop) b (then_goes (unscaled original.keyed_segment) tt _ (Err stop) c (then_stops (read_loops original loops) _ stop h)))
 
-  pub program_answers : (power : PowerModel) (original : Image) (notes : List LoopNote) (result : Result (Vec ℕ Global × Summary) Stop) → read_machine machine ≡ Ok power → image_of image ≡ Ok original →
-      unscaled original.keyed_segment ≡ Ok tt → read_loops original loops ≡ Ok notes → HoldAnswers result (IsPacedProgram power original notes wanted) →
-      HoldAnswers result (IsPaced image machine loops wanted)
+  pub files_answer : (power : PowerModel) (original : Image) (notes : List LoopNote) (answer : Result (List ℕ × Summary) Refusal) → read_machine machine ≡ Ok power → image_of image ≡ Ok original →
+      unscaled original.keyed_segment ≡ Ok tt → read_loops original loops ≡ Ok notes → IsPacedProgram power original (notes_with counted notes) wanted answer → IsPaced image machine loops wanted counted answer
   unfolding IsPaced
-  program_answers power original notes result a b c d h =
-      then_goes (read_machine machine) power _ result a (then_goes (image_of image) original _ result b (then_goes (unscaled original.keyed_segment) tt _ result c (then_goes (read_loops original loops) notes _ result d h)))
+  files_answer power original notes answer a b c d h =
+      then_is (read_machine machine) power _ answer a (then_is (image_of image) original _ answer b (then_is (unscaled original.keyed_segment) tt _ answer c (then_is (read_loops original loops) notes _ answer d h)))

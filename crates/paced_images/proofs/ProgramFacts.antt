@@ -1,32 +1,22 @@
 -- From the program of three files to what is stored of it.
-use Rattle.std.proofs.Common.{◌≡◌, ℕ, List, map, Option, Some, None, Result, Ok, sym, ap, ◌∙◌, subst, inr}
-use Rattle.scale_base.specs.declared.refusal.Refusal.{Refusal}
+use Rattle.std.proofs.Common.{◌≡◌, ℕ, Bool, List, map, Option, Some, None, Ok, ap, ◌∙◌, inr}
 use Rattle.scale_base.specs.declared.summary.Summary.{Summary}
-use Rattle.scale_base.specs.Image.{Image, image_of}
+use Rattle.scale_base.specs.Image.{Image}
 use Rattle.power_model.specs.Numbers.{PowerModel}
-use Rattle.machine_file.specs.Machine.{read_machine}
 use Rattle.loop_file.specs.declared.notes.LoopNote.{LoopNote}
-use Rattle.loop_file.specs.Loops.{read_loops}
 use Rattle.stub_writer.specs.Stubs.{out_of_reach}
 use Rattle.stub_writer.specs.Sites.{site_of}
 use Rattle.rewritten_runs.specs.Stubs.{rewritten_file as stored_bytes}
+use Rattle.paced_images.specs.declared.programs.Program.{Program}
 use Rattle.paced_images.specs.declared.scaling.Scaling.{Scaling}
-use Rattle.scaler.specs.Held.{Then, unscaled}
+use Rattle.scaler.specs.RewrittenAs.{notes_with}
 use Rattle.scaler.specs.Rewritten.{rewritten_summary, unless_out_of_reach}
 use Rattle.paced_images.specs.declared.wanted.SwitchSite.{SwitchSite}
 use Rattle.paced_images.specs.Paced.{IsPaced, IsPacedProgram}
+use Rattle.paced_images.specs.Programs.{IsProgramFrom}
+use Rattle.paced_images.proofs.PacedFiles.{files_answer}
 use Rattle.paced_images.specs.Scalings.{IsScaled}
 use Rattle.paced_images.specs.Wanted.{marked_at}
-
-then_is : {X Y : Type 0} (part : Result X Refusal) (x : X) (next : X → Result Y Refusal → Type 0) (answer : Result Y Refusal) → part ≡ Ok x → next x answer → Then part next answer
-then_is part x next answer e h = subst (λ q. Then q next answer) (sym e) h
-
--- what the program of the files answers is what they answer
-pub files_answer : (image machine loops : List ℕ) (sites : List SwitchSite) (power : PowerModel) (original : Image) (notes : List LoopNote) (answer : Result (List ℕ × Summary) Refusal) → read_machine machine ≡ Ok power → image_of image ≡ Ok original →
-    unscaled original.keyed_segment ≡ Ok tt → read_loops original loops ≡ Ok notes → IsPacedProgram power original notes sites answer → IsPaced image machine loops sites answer
-unfolding IsPaced
-files_answer image machine loops sites power original notes answer a b c d h =
-    then_is (read_machine machine) power _ answer a (then_is (image_of image) original _ answer b (then_is (unscaled original.keyed_segment) tt _ answer c (then_is (read_loops original loops) notes _ answer d h)))
 
 near_by : (o : Option ℕ) (given made : List ℕ × Summary) → o ≡ None → given ≡ made → Ok given ≡ unless_out_of_reach o made
 near_by None given made near same = cc
@@ -53,3 +43,9 @@ program_given power original notes wanted s bytes h e =
       stubs = h.stubs;
       answer_is = near_by (out_of_reach s.base sites) (bytes, s.summary) (file, summary) h.near (ap (λ (b : List ℕ). (b, s.summary)) e ∙ ap (λ (z : Summary). (file, z)) h.summary);
     })))))
+
+-- the file of its stubs, and its summary, are what is given for the files
+pub files_given : (image machine loops : List ℕ) (sites : List SwitchSite) (counted : Bool) (p : Program) (bytes : List ℕ) → IsProgramFrom image machine loops sites counted p → bytes ≡ stored_bytes p.view (map site_of p.scaling.stubs.items) p.scaling.base p.scaling.summary.start
+    → IsPaced image machine loops sites counted (Ok ((bytes, p.scaling.summary)))
+files_given image machine loops sites counted p bytes h e =
+    files_answer image machine loops sites counted p.power p.view h.notes (Ok ((bytes, p.scaling.summary))) h.power_is h.view_is h.unscaled h.notes_are (program_given p.power p.view (notes_with counted h.notes) sites p.scaling bytes h.scaled e)

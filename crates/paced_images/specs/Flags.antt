@@ -1,10 +1,16 @@
 -- The wanted edges, as a list of flags.
-use Rattle.std.specs.Prelude.{◌≡◌, ℕ, ◌<◌, Bool, List, length, slice_get, Some}
+use Rattle.std.specs.Prelude.{◌≡◌, ℕ, ◌<◌, nat_lt, ◌&&◌, ◌||◌, Bool, List, length, slice_get, Some}
 use Rattle.code_graph.specs.FlowGraph.{FlowGraph}
+use Rattle.scale_sites.specs.Sites.{flag_at}
 use Rattle.paced_images.specs.declared.wanted.SwitchSite.{SwitchSite}
-use Rattle.paced_images.specs.Wanted.{wanted_by}
+use Rattle.paced_images.specs.Wanted.{names_some, wanted_by}
 
 -- of the first n edges
 pub record AreFlags (v : FlowGraph) (sites : List SwitchSite) (n : ℕ) (flags : List Bool) : Type 0 where
   pub size : length flags ≡ n
   pub each : (e : ℕ) → e < n → slice_get flags e ≡ Some (wanted_by v sites e)
+
+-- the flags with those raised of the edges below n that a site names
+pub record AreRaised (v : FlowGraph) (site : SwitchSite) (n : ℕ) (old new : List Bool) : Type 0 where
+  pub size : length new ≡ length old
+  pub each : (e : ℕ) → e < length old → flag_at new e ≡ (flag_at old e || (nat_lt e n && names_some site (slice_get v.code.edges e)))

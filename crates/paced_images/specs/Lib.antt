@@ -3,3 +3,5 @@ pub mod Flags
 pub mod Paced
 pub mod Markings
 pub mod Scalings
+pub mod Programs
+pub mod Useful

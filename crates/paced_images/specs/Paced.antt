@@ -22,6 +22,7 @@ use Rattle.stub_writer.specs.Stubs.{Site, out_of_reach}
 use Rattle.rewritten_runs.specs.Stubs.{IsWeighedWith, HasStubsWith, rewritten_file}
 use Rattle.scaler.specs.Held.{IsCodeRefused, IsLoopRefused, Then, unscaled}
 use Rattle.scaler.specs.Rewritten.{IsCounterRefused, rewritten_summary, unless_out_of_reach}
+use Rattle.scaler.specs.RewrittenAs.{notes_with}
 use Rattle.paced_images.specs.declared.wanted.SwitchSite.{SwitchSite}
 use Rattle.paced_images.specs.Wanted.{marked_at}
 
@@ -79,11 +80,11 @@ IsPacedProgram power image notes wanted answer =
 
 -- ---- what the files give
 
--- The stored bytes and the summary, or the first refusal, in the order of what `rewrite` gives.
-unfoldable pub IsPaced : (image machine loop_file : List ℕ) (wanted : List SwitchSite) → Result (List ℕ × Summary) Refusal → Type 0
-IsPaced image machine loop_file wanted answer =
+-- The stored bytes and the summary, or the first refusal, in the order of what `rewrite` gives. The loops are counted as the loop file notes, or none is.
+unfoldable pub IsPaced : (image machine loop_file : List ℕ) (wanted : List SwitchSite) (counted : Bool) → Result (List ℕ × Summary) Refusal → Type 0
+IsPaced image machine loop_file wanted counted answer =
     Then (read_machine machine) (λ power.
     Then (image_of image) (λ original.
     Then (unscaled original.keyed_segment) (λ _.
     Then (read_loops original loop_file) (λ notes.
-    IsPacedProgram power original notes wanted)))) answer
+    IsPacedProgram power original (notes_with counted notes) wanted)))) answer

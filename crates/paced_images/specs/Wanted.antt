@@ -49,6 +49,10 @@ same_kind End other = false
 abbrev pub names : SwitchSite → Edge → Bool
 names site edge = (site.at == edge.at) && same_kind edge.kind site.kind
 
+abbrev pub names_some : SwitchSite → Option Edge → Bool
+names_some site None = false
+names_some site (Some edge) = names site edge
+
 abbrev pub any_names : List SwitchSite → Option Edge → Bool
 any_names sites None = false
 any_names sites (Some edge) = list_any (λ site. names site edge) sites

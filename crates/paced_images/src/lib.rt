@@ -3,9 +3,12 @@
 #![tactic(auto)]
 
 mod pacing;
+mod programs;
 mod scaling;
 mod stubs;
+mod useful;
 mod wanted;
 
 pub use pacing::pace;
+pub use useful::useful_sites;
 pub use wanted::SwitchSite;

@@ -1,41 +1,15 @@
 //! A program that lowers its speed where it is told to, as far as its worst case allows.
 
-ghost use Rattle.std.specs.Prelude.{◌≡◌, ◌≤◌, length, None, Ok, IfOk};
+ghost use Rattle.std.specs.Prelude.{◌≤◌, length, IfOk};
 ghost use Rattle.scale_base.specs.Answer.{AnswersBy};
-ghost use Rattle.scale_base.specs.Image.{image_of};
-ghost use Rattle.power_model.specs.Numbers.{IsPowerModel};
 ghost use Rattle.scaler.specs.Promise.{IsStoredSafely};
-ghost use Rattle.paced_images.specs.Paced.{IsPaced, IsPacedProgram};
+ghost use Rattle.paced_images.specs.Paced.{IsPaced};
 
-use crate::scaling::{marked_of, scaling_of, stored_file};
+use crate::programs::program_of;
+use crate::scaling::stored_file;
 use crate::wanted::SwitchSite;
-use elf_view::{ImageView, read_image};
-use loop_file::{LoopNotes, read_loops};
-use machine_file::read_machine;
-use power_model::Power;
 use scale_base::{Stop, Summary};
-use scaler::check_unscaled;
 use std::alloc::Global;
-
-/// The image of a program with its stubs, or the first refusal of its code, of its loops, or of its numbers.
-fn pace_program(
-    alloc: Global,
-    view: &ImageView<'_>,
-    power: &Power,
-    notes: &LoopNotes,
-    sites: &[SwitchSite],
-) -> Result<(Vec<u8>, Summary), Stop>
-    requires read { image_of view.now.file ≡ Ok view.now }
-    requires file { length view.now.file ≤ 4194304 }
-    requires no_key { view.now.keyed_segment ≡ None }
-    requires power { IsPowerModel power.now }
-    ensures { AnswersBy (λ given. (given.0.items, given.1)) result (IsPacedProgram power.now view.now notes.now sites.now) }
-{
-    let marked = marked_of(alloc, view, power, notes, sites)?;
-    let scaling = scaling_of(alloc, view, power, &marked)?;
-    let bytes = stored_file(alloc, view, &scaling)?;
-    Ok((bytes, scaling.summary))
-}
 
 /// The image with its stubs, or the first refusal.
 fn pace_files(
@@ -44,18 +18,18 @@ fn pace_files(
     machine: &[u8],
     loops: &[u8],
     sites: &[SwitchSite],
+    counted: bool,
 ) -> Result<(Vec<u8>, Summary), Stop>
     requires { length image.now ≤ 4194304 }
-    ensures { AnswersBy (λ given. (given.0.items, given.1)) result (IsPaced image.now machine.now loops.now sites.now) }
+    ensures { AnswersBy (λ given. (given.0.items, given.1)) result (IsPaced image.now machine.now loops.now sites.now counted) }
 {
-    let power = read_machine(alloc, machine)?;
-    let view = read_image(alloc, image)?;
-    check_unscaled(view.keyed())?;
-    let notes = read_loops(alloc, loops, &view)?;
-    pace_program(alloc, &view, &power, &notes, sites)
+    let program = program_of(alloc, image, machine, loops, sites, counted)?;
+    let bytes = stored_file(alloc, &program.view, &program.scaling)?;
+    Ok((bytes, program.scaling.summary))
 }
 
 /// The image with switches of level on the edges that the sites name, and with those of its counted loops, as `rewrite` makes it in all else.
+/// Without `counted` no loop is counted, whatever the loop file notes.
 /// The tables keep budgets: the starting level has the time of the worst cycles there, and each other level the deadline, so that a switch
 /// lowers the level also where its own edge has no slack. Or the first refusal, in the order of `rewrite`.
 ///
@@ -70,14 +44,15 @@ pub fn pace(
     machine: &[u8],
     loops: &[u8],
     sites: &[SwitchSite],
+    counted: bool,
 ) -> Result<(Vec<u8>, Summary), Stop>
     requires image { length image.now ≤ 4194304 }
     requires machine { length machine.now ≤ 1048576 }
     requires loops { length loops.now ≤ 1048576 }
-    ensures given { AnswersBy (λ given. (given.0.items, given.1)) result (IsPaced image.now machine.now loops.now sites.now) }
+    ensures given { AnswersBy (λ given. (given.0.items, given.1)) result (IsPaced image.now machine.now loops.now sites.now counted) }
 
-    // On each input on which the original run exits and is kept, the stored run keeps the promise.
+    // On each input on which the original run exits and is kept, by the files' own notes, the stored run keeps the promise.
     ensures safe { IfOk result (λ given. IsStoredSafely image.now machine.now loops.now given.0.items given.1) }
 {
-    pace_files(alloc, image, machine, loops, sites)
+    pace_files(alloc, image, machine, loops, sites, counted)
 }

@@ -36,14 +36,20 @@ pub struct Marking {
 /// What an edge tells its switch: its slack, the cycles left at most behind the store at the speed port, and the least cycles from
 /// there to the end of the run.
 #[derive(Clone, Copy, Drop)]
-struct Told {
-    slack: u64,
-    left: u64,
-    least: Option<u128>,
+pub struct Told {
+    pub slack: u64,
+    pub left: u64,
+    pub least: Option<u128>,
 }
 
 /// What edge `e`, which has a Switch or an Exit, tells its switch.
-fn told_at(power: &Power, graph: &CodeGraph, tree: &LoopTree, marking: &Marking, e: usize) -> Told
+pub fn told_at(
+    power: &Power,
+    graph: &CodeGraph,
+    tree: &LoopTree,
+    marking: &Marking,
+    e: usize,
+) -> Told
     requires marking { HasMarking power.now graph.now tree.now marking.now }
     requires edge { e < length graph.now.code.edges }
     requires switches { switches (marks_at_edge marking.now.sites e) ≡ true }

@@ -1,9 +1,9 @@
 //! The edges on which switches are wanted.
 
-ghost use Rattle.std.specs.Prelude.{◌≡◌, ◌≤◌, ◌<◌, ℕ, length, slice_get, IfOk};
-ghost use Rattle.std.specs.List.{list_any};
+ghost use Rattle.std.specs.Prelude.{◌≡◌, ◌≤◌, ◌<◌, ◌↔◌, ℕ, length, slice_get, IfOk};
+ghost use Rattle.cost_theory.specs.Reached.{edge_at};
 ghost use Rattle.paced_images.specs.Wanted.{same_kind, names};
-ghost use Rattle.paced_images.specs.Flags.{AreFlags};
+ghost use Rattle.paced_images.specs.Flags.{AreFlags, AreRaised};
 
 use code_graph::CodeGraph;
 use scale_base::{Edge, EdgeKind, NoMemory};
@@ -31,10 +31,35 @@ fn same_kind(one: EdgeKind, other: EdgeKind) -> bool
 }
 
 /// Whether a site names an edge.
-fn names(site: SwitchSite, edge: Edge) -> bool
+pub fn names(site: SwitchSite, edge: Edge) -> bool
     ensures { result ≡ names site edge }
 {
     site.at == edge.at && same_kind(edge.kind, site.kind)
+}
+
+/// The number of the first edge that starts at an address, and one past that of the last. Both are 0 where none starts there.
+pub fn edges_at(graph: &CodeGraph, at: u32) -> (usize, usize)
+    ensures within { (result.0 ≤ result.1) × (result.1 ≤ length graph.now.code.edges) }
+    ensures edges { (e : ℕ) → e < length graph.now.code.edges → (edge_at (slice_get graph.now.code.edges e) ≡ at) ↔ ((result.0 ≤ e) × (e < result.1)) }
+{
+    let _nodes = graph.node_count();
+    match graph.find(at) {
+        Some(k) => graph.edges_of(k),
+        None => (0, 0),
+    }
+}
+
+/// Raises the flag of each edge that a site names.
+fn raise(flags: &mut Vec<bool>, graph: &CodeGraph, site: SwitchSite)
+    requires { length flags.old.items ≡ length graph.now.code.edges }
+    ensures { AreRaised graph.now site (length graph.now.code.edges) flags.old.items flags.new.items }
+{
+    let (first, end) = edges_at(graph, site.at);
+    for e in first..end {
+        if names(site, graph.edge(e)) {
+            flags[e] = true;
+        }
+    }
 }
 
 /// By edge, whether some of the sites name it.
@@ -45,17 +70,9 @@ pub fn wanted_flags(
 ) -> Result<Vec<bool>, NoMemory>
     ensures { IfOk result (λ flags. AreFlags graph.now sites.now (length graph.now.code.edges) flags.items) }
 {
-    let mut flags = Vec::new(alloc);
-    for e in 0..graph.edge_count() {
-        let edge = graph.edge(e);
-        flags.push(any_names(sites, edge))?;
+    let mut flags = vec![in alloc; false; graph.edge_count()]?;
+    for site in sites {
+        raise(&mut flags, graph, *site);
     }
     Ok(flags)
-}
-
-/// Whether one of the sites names an edge.
-fn any_names(sites: &[SwitchSite], edge: Edge) -> bool
-    ensures { result ≡ list_any (λ site. names site edge) sites.now }
-{
-    sites.iter().any(|site| names(*site, edge))
 }

@@ -1,4 +1,17 @@
+use Rattle.std.proofs.Common.{ℕ, List, subst}
+use Rattle.std.specs.Prelude.{Vec}
+use Rattle.std.specs.declared.alloc.Global.{Global}
+use Rattle.scale_base.specs.declared.summary.Summary.{Summary}
+use Rattle.scale_base.specs.Answer.{AnswersBy}
+use Rattle.paced_images.specs.declared.wanted.SwitchSite.{SwitchSite}
+use Rattle.paced_images.specs.Paced.{IsPaced}
+use Rattle.pace_fit.proofs.Numbers.{proposal_tried}
 use Rattle.pace_fit.proofs.candidates.trial_of.Goals as goal
 
 pub returns : goal.returns
-returns c = ?
+returns c =
+    let files = c.args.files.now in
+    proposal_tried files c.args.proposal.now c.args.candidate c.trial_from.result c.pace-made.result
+    (subst (λ (sites : List SwitchSite). AnswersBy {X = Vec ℕ Global × Summary} {Y = List ℕ × Summary} (λ given. (given.0.items, given.1)) c.pace-made.result (IsPaced files.image.now files.machine.now files.loops.now sites c.args.proposal.now.counted))
+    c.deref.ensures.value c.pace-made.ensures.given)
+    c.trial_from.ensures

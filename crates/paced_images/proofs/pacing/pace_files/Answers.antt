@@ -1,39 +1,37 @@
-use Rattle.std.proofs.Common.{rules}
+use Rattle.std.proofs.Common.{ℕ, Bool, List, Err}
 use Rattle.std.proofs.lemmas.Result.{err_from_is_err_and}
-use Rattle.scaler.proofs.Laws.{file_is, no_key, read_again}
-use Rattle.paced_images.proofs.PacedFiles.{machine_stops, image_stops, key_stops, loops_stop, program_answers}
+use Rattle.scale_base.specs.declared.refusal.Stop.{Stop}
+use Rattle.scale_base.specs.declared.refusal.Stop.TheVariants.{Refused, Memory}
+use Rattle.scale_base.specs.Answer.{AnswersBy}
+use Rattle.scaler.specs.RewrittenAs.{notes_with}
+use Rattle.scaler.proofs.Laws.{HoldAnswers, file_is, no_key, read_again}
+use Rattle.paced_images.specs.declared.programs.Program.{Program}
+use Rattle.paced_images.specs.declared.wanted.SwitchSite.{SwitchSite}
+use Rattle.paced_images.specs.Paced.{IsPaced}
+use Rattle.paced_images.specs.Programs.{IsProgramFound}
+use Rattle.paced_images.proofs.ProgramFacts.{files_given}
 use Rattle.paced_images.proofs.pacing.pace_files.Goals as goal
 
-pub pace_program-requires-clause-read : goal.pace_program-requires-clause-read
-pace_program-requires-clause-read c = read_again c.args.image.now c.in_ok-view.view c.in_ok-view.ensures
+program_stops : (image machine loops : List ℕ) (sites : List SwitchSite) (counted : Bool) (stop : Stop) → AnswersBy {X = Program} {Y = Program} (λ p. p) (Err stop) (IsProgramFound image machine loops sites counted) → HoldAnswers (Err stop) (IsPaced image machine loops sites counted)
+program_stops image machine loops sites counted (Refused refusal) h = h
+program_stops image machine loops sites counted Memory h = tt
 
-pub pace_program-requires-clause-file : goal.pace_program-requires-clause-file
-pace_program-requires-clause-file c = rw (file_is c.args.image.now c.in_ok-view.view c.in_ok-view.ensures) c.requires
+pub stored_file-requires-clause-read : goal.stored_file-requires-clause-read
+stored_file-requires-clause-read c = let p = c.in_ok-program.program in read_again c.args.image.now p.view c.in_ok-program.ensures.view_is
 
-pub pace_program-requires-clause-no_key : goal.pace_program-requires-clause-no_key
-pace_program-requires-clause-no_key c = no_key c.in_ok-view.view.keyed_segment (search rules)
+pub stored_file-requires-clause-file : goal.stored_file-requires-clause-file
+stored_file-requires-clause-file c = let p = c.in_ok-program.program in rw (file_is c.args.image.now p.view c.in_ok-program.ensures.view_is) c.requires
 
-pub returns-in_err-power : goal.returns-in_err-power
-returns-in_err-power c =
+pub stored_file-requires-clause-no_key : goal.stored_file-requires-clause-no_key
+stored_file-requires-clause-no_key c = let p = c.in_ok-program.program in no_key p.view.keyed_segment c.in_ok-program.ensures.unscaled
+
+pub stored_file-requires-clause-scaled : goal.stored_file-requires-clause-scaled
+stored_file-requires-clause-scaled c = let p = c.in_ok-program.program in let h = c.in_ok-program.ensures in (p.power, notes_with c.args.counted h.notes, c.args.sites.now, h.in_range, h.scaled)
+
+pub returns-in_err-program : goal.returns-in_err-program
+returns-in_err-program c =
     let p = err_from_is_err_and c.from_residual.result c.from_residual.ensures.1 in
-    rw (p.1, p.2) (machine_stops c.args.image.now c.args.machine.now c.args.loops.now c.args.sites.now c.in_err-power.field-0.0 c.in_err-power.ensures.answers)
-
-pub returns-in_err-view : goal.returns-in_err-view
-returns-in_err-view c =
-    let p = err_from_is_err_and c.from_residual-in_err-view.result c.from_residual-in_err-view.ensures.1 in
-    rw (p.1, p.2) (image_stops c.args.image.now c.args.machine.now c.args.loops.now c.args.sites.now c.in_ok-power.power c.in_err-view.field-0.0 c.in_ok-power.ensures.answers c.in_err-view.ensures)
-
-pub returns-in_err-check_unscaled : goal.returns-in_err-check_unscaled
-returns-in_err-check_unscaled c =
-    let p = err_from_is_err_and c.from_residual-in_err-check_unscaled.result c.from_residual-in_err-check_unscaled.ensures.1 in
-    rw (p.1, p.2) (key_stops c.args.image.now c.args.machine.now c.args.loops.now c.args.sites.now c.in_ok-power.power c.in_ok-view.view c.in_err-check_unscaled.field-0.0 c.in_ok-power.ensures.answers c.in_ok-view.ensures
-    (search rules))
-
-pub returns-in_err-notes : goal.returns-in_err-notes
-returns-in_err-notes c =
-    let p = err_from_is_err_and c.from_residual-in_err-notes.result c.from_residual-in_err-notes.ensures.1 in
-    rw (p.1, p.2) (loops_stop c.args.image.now c.args.machine.now c.args.loops.now c.args.sites.now c.in_ok-power.power c.in_ok-view.view c.in_err-notes.field-0.0 c.in_ok-power.ensures.answers c.in_ok-view.ensures (search rules) c.in_err-notes.ensures)
+    rw (p.1, p.2) (program_stops c.args.image.now c.args.machine.now c.args.loops.now c.args.sites.now c.args.counted c.in_err-program.field-0.0 c.in_err-program.ensures)
 
 pub returns : goal.returns
-returns c =
-    program_answers c.args.image.now c.args.machine.now c.args.loops.now c.args.sites.now c.in_ok-power.power c.in_ok-view.view c.in_ok-notes.notes c.pace_program.result c.in_ok-power.ensures.answers c.in_ok-view.ensures (search rules) c.in_ok-notes.ensures c.pace_program.ensures
+returns c = files_given c.args.image.now c.args.machine.now c.args.loops.now c.args.sites.now c.args.counted c.in_ok-program.program c.in_ok-bytes.bytes.items c.in_ok-program.ensures c.in_ok-bytes.ensures

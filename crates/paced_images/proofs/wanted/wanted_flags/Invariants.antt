@@ -1,5 +1,6 @@
+use Rattle.std.proofs.Common.{length, take}
 use Rattle.paced_images.specs.Flags.{AreFlags}
 use Rattle.paced_images.proofs.wanted.wanted_flags.Given as goal
 
-abbrev pub invariant-loop-e : goal.invariant-loop-e
-invariant-loop-e l = AreFlags l.graph l.sites l.e l.flags.items
+abbrev pub invariant-loop-site : goal.invariant-loop-site
+invariant-loop-site l = AreFlags l.graph (take l.site-index l.sites) (length l.graph.code.edges) l.flags.items

@@ -1,0 +1,90 @@
+-- Which sites are of use: those whose switch goes to a lower level from some level that a run may have there. A run begins at the starting level, and never raises it.
+use Rattle.std.specs.Prelude.{◌≡◌, ℕ, nat_le, nat_lt, ◌<◌, ◌&&◌, Bool, false, List, length, slice_get, Some, Result, Ok, Err}
+use Rattle.std.specs.List.{filter, list_any}
+use Rattle.scale_base.specs.declared.refusal.Refusal.{Refusal}
+use Rattle.scale_base.specs.declared.summary.Summary.{Summary}
+use Rattle.scale_base.specs.declared.fragments.Mark.{Mark}
+use Rattle.scale_base.specs.Image.{Image, image_of}
+use Rattle.power_model.specs.Numbers.{PowerModel}
+use Rattle.power_model.specs.Slowest.{slowest_of}
+use Rattle.machine_file.specs.Machine.{read_machine}
+use Rattle.loop_file.specs.declared.notes.LoopNote.{LoopNote}
+use Rattle.loop_file.specs.Loops.{read_loops}
+use Rattle.cost_theory.specs.Graph.{any_below}
+use Rattle.cost_theory.specs.Worst.{Numbers}
+use Rattle.cycle_laws.specs.Charged.{Charged, AreCharged}
+use Rattle.code_graph.specs.FlowGraph.{FlowGraph, graph}
+use Rattle.level_tables.specs.Tables.{EdgeNumbers, entry_by}
+use Rattle.loop_tree.specs.Tree.{LoopView, loops}
+use Rattle.rewritten_runs.specs.Stubs.{IsWeighedWith, stored_weights, told_at, is_switch}
+use Rattle.scaler.specs.RewrittenAs.{notes_with}
+use Rattle.paced_images.specs.declared.scaling.Marked.{Marked}
+use Rattle.paced_images.specs.declared.wanted.SwitchSite.{SwitchSite}
+use Rattle.paced_images.specs.Markings.{Whichever, test_of}
+use Rattle.paced_images.specs.Paced.{IsPaced, paced_test}
+use Rattle.paced_images.specs.Wanted.{names_some, marked_where, marked_at}
+
+-- ---- what a switch lowers
+
+-- from some level up to the starting one, a switch on an edge with these numbers goes to a lower one
+abbrev pub lowers_some : PowerModel → (EdgeNumbers → ℕ → ℕ → Bool) → (start : ℕ) → EdgeNumbers → Bool
+lowers_some power test start told = any_below (length power.levels) (λ i. nat_le i start && nat_lt (entry_by test told i) i)
+
+-- an edge has a switch, and that does
+abbrev pub is_lowered : PowerModel → (EdgeNumbers → ℕ → ℕ → Bool) → (start : ℕ) → Image → FlowGraph → LoopView → (ℕ → List Mark) → Numbers → Charged → ℕ → Bool
+is_lowered power test start image v t marked n least e = list_any is_switch (marked e) && lowers_some power test start (told_at power image v t marked n least e)
+
+-- a site names such an edge
+abbrev pub names_lowered : PowerModel → (EdgeNumbers → ℕ → ℕ → Bool) → (start : ℕ) → Image → FlowGraph → LoopView → (ℕ → List Mark) → Numbers → Charged → SwitchSite → ℕ → Bool
+names_lowered power test start image v t marked n least site e = names_some site (slice_get v.code.edges e) && is_lowered power test start image v t marked n least e
+
+abbrev pub is_useful : PowerModel → (EdgeNumbers → ℕ → ℕ → Bool) → (start : ℕ) → Image → FlowGraph → LoopView → (ℕ → List Mark) → Numbers → Charged → SwitchSite → Bool
+is_useful power test start image v t marked n least site = any_below (length v.code.edges) (names_lowered power test start image v t marked n least site)
+
+-- ---- by a marked program
+
+abbrev pub IsLoweredAt : PowerModel → Marked → ℕ → Bool → Type 0
+IsLoweredAt power m e b = Whichever power m.graph m.tree m.marking (λ image wanted stored least.
+    b ≡ is_lowered power (test_of power m.marking) m.start image m.graph m.tree (marked_where m.graph m.tree wanted) stored least e)
+
+abbrev pub IsNamedAt : PowerModel → Marked → SwitchSite → ℕ → Bool → Type 0
+IsNamedAt power m site e b = Whichever power m.graph m.tree m.marking (λ image wanted stored least.
+    b ≡ names_lowered power (test_of power m.marking) m.start image m.graph m.tree (marked_where m.graph m.tree wanted) stored least site e)
+
+-- of the edges below a number
+abbrev pub NoneNamed : PowerModel → Marked → SwitchSite → ℕ → Type 0
+NoneNamed power m site n = Whichever power m.graph m.tree m.marking (λ image wanted stored least. (e : ℕ) → e < n →
+    names_lowered power (test_of power m.marking) m.start image m.graph m.tree (marked_where m.graph m.tree wanted) stored least site e ≡ false)
+
+abbrev pub IsUsefulAt : PowerModel → Marked → SwitchSite → Bool → Type 0
+IsUsefulAt power m site b = Whichever power m.graph m.tree m.marking (λ image wanted stored least.
+    b ≡ is_useful power (test_of power m.marking) m.start image m.graph m.tree (marked_where m.graph m.tree wanted) stored least site)
+
+abbrev pub AreKeptBy : PowerModel → Marked → List SwitchSite → List SwitchSite → Type 0
+AreKeptBy power m sites kept = Whichever power m.graph m.tree m.marking (λ image wanted stored least.
+    kept ≡ filter (is_useful power (test_of power m.marking) m.start image m.graph m.tree (marked_where m.graph m.tree wanted) stored least) sites)
+
+-- ---- what the files give
+
+-- the sites that are of use, by the numbers of the program with switches on all of them
+pub record AreKept (image machine loop_file : List ℕ) (wanted : List SwitchSite) (counted : Bool) (kept : List SwitchSite) : Type 0 where
+  pub power : PowerModel
+  pub original : Image
+  pub notes : List LoopNote
+  pub power_is : read_machine machine ≡ Ok power
+  pub original_is : image_of image ≡ Ok original
+  pub notes_are : read_loops original loop_file ≡ Ok notes
+  pub code : FlowGraph
+  pub tree : LoopView
+  pub stored : Numbers
+  pub least : Charged
+  pub start : ℕ
+  pub weighed : IsWeighedWith power original (notes_with counted notes) code tree (marked_at code tree wanted) stored
+  pub least_are : AreCharged (graph code) (loops code tree) (stored_weights power original code (marked_at code tree wanted)) least
+  pub slow : slowest_of power (stored.worst 0) ≡ Some start
+  pub kept_are : kept ≡ filter (is_useful power (paced_test power start (stored.worst 0)) start original code tree (marked_at code tree wanted) stored least) wanted
+
+-- where `pace` gives an image of all sites, those of use; or what it refuses
+abbrev pub AreUseful : (image machine loop_file : List ℕ) (wanted : List SwitchSite) (counted : Bool) → Result (List SwitchSite) Refusal → Type 0
+AreUseful image machine loop_file wanted counted (Ok kept) = (given : List ℕ × Summary) × IsPaced image machine loop_file wanted counted (Ok given) × AreKept image machine loop_file wanted counted kept
+AreUseful image machine loop_file wanted counted (Err refusal) = IsPaced image machine loop_file wanted counted (Err refusal)

@@ -1,0 +1,127 @@
+//! The sites whose switches are of use.
+
+ghost use Rattle.std.specs.Prelude.{◌≡◌, ◌≤◌, ◌<◌, ◌^◌, ◌&&◌, nat_le, nat_lt, length, IfOk, IfSome};
+ghost use Rattle.std.specs.List.{list_any};
+ghost use Rattle.scale_base.specs.Answer.{AnswersBy};
+ghost use Rattle.level_tables.specs.Budgets.{meets_in_budget, budget_at};
+ghost use Rattle.level_tables.specs.Tables.{entry_by};
+ghost use Rattle.rewritten_runs.specs.Stubs.{is_switch};
+ghost use Rattle.paced_images.specs.Markings.{HasMarking, told_view};
+ghost use Rattle.paced_images.specs.Useful as useful;
+
+use crate::programs::program_of;
+use crate::scaling::Marked;
+use crate::stubs::{Told, told_at};
+use crate::wanted::{SwitchSite, edges_at, names};
+use level_tables::{LevelBudgets, entry_within};
+use power_model::Power;
+use scale_base::{Mark, NoMemory, Stop};
+use std::alloc::Global;
+
+fn has_switch(marks: &[Mark]) -> bool
+    ensures { result ≡ list_any is_switch marks.now }
+{
+    marks.iter().any(|mark| matches!(mark, Mark::Switch))
+}
+
+/// Whether a switch goes to a lower level from level `i`, and that is at most the starting one.
+fn lowers_from(power: &Power, budgets: &LevelBudgets, start: u8, told: &Told, i: u8) -> bool
+    requires level { i < length power.now.levels }
+    requires least { IfSome told.now.least (λ z. z < 2 ^ 90) }
+    ensures { result ≡ (nat_le i start && nat_lt (entry_by (meets_in_budget power.now (budget_at budgets.now)) (told_view told.now) i) i) }
+{
+    i <= start && entry_within(power, budgets, i, told.slack, told.left, told.least) < i
+}
+
+/// Whether it does so from some level.
+fn lowers_some(power: &Power, budgets: &LevelBudgets, start: u8, told: &Told) -> bool
+    requires { IfSome told.now.least (λ z. z < 2 ^ 90) }
+    ensures { result ≡ useful.lowers_some power.now (meets_in_budget power.now (budget_at budgets.now)) start (told_view told.now) }
+{
+    for i in 0..power.levels.count() {
+        if lowers_from(power, budgets, start, told, i) {
+            return true;
+        }
+    }
+    false
+}
+
+/// Whether edge `e` has a switch that lowers a level.
+fn is_lowered(power: &Power, marked: &Marked, e: usize) -> bool
+    requires marking { HasMarking power.now marked.now.graph marked.now.tree marked.now.marking }
+    requires edge { e < length marked.now.graph.code.edges }
+    ensures { useful.IsLoweredAt power.now marked.now e result }
+{
+    let marking = &marked.marking;
+    if !has_switch(marking.sites.marks(e)) {
+        return false;
+    }
+    let told = told_at(power, &marked.graph, &marked.tree, marking, e);
+    lowers_some(power, &marking.budgets, marked.start, &told)
+}
+
+/// Whether a site names edge `e`, and that has such a switch.
+fn names_lowered(power: &Power, marked: &Marked, site: SwitchSite, e: usize) -> bool
+    requires marking { HasMarking power.now marked.now.graph marked.now.tree marked.now.marking }
+    requires edge { e < length marked.now.graph.code.edges }
+    ensures { useful.IsNamedAt power.now marked.now site e result }
+{
+    names(site, marked.graph.edge(e)) && is_lowered(power, marked, e)
+}
+
+/// Whether a site names an edge with such a switch.
+fn is_useful(power: &Power, marked: &Marked, site: SwitchSite) -> bool
+    requires { HasMarking power.now marked.now.graph marked.now.tree marked.now.marking }
+    ensures { useful.IsUsefulAt power.now marked.now site result }
+{
+    let (first, end) = edges_at(&marked.graph, site.at);
+    for e in first..end {
+        if names_lowered(power, marked, site, e) {
+            return true;
+        }
+    }
+    false
+}
+
+/// The sites that are of use, in their order.
+fn kept_sites(
+    alloc: Global,
+    power: &Power,
+    marked: &Marked,
+    sites: &[SwitchSite],
+) -> Result<Vec<SwitchSite>, NoMemory>
+    requires { HasMarking power.now marked.now.graph marked.now.tree marked.now.marking }
+    ensures { IfOk result (λ kept. useful.AreKeptBy power.now marked.now sites.now kept.items) }
+{
+    let mut kept = Vec::new(alloc);
+    for site in sites {
+        if is_useful(power, marked, *site) {
+            kept.push(*site)?;
+        }
+    }
+    Ok(kept)
+}
+
+/// The sites whose switch can lower a level in the image that `pace` makes of all of them, in their order: the table of their edge leads
+/// from some level, up to the starting one, to a lower one. A site that names no edge with a switch isn't among them. Or the refusal
+/// of `pace`.
+///
+/// In the image that `pace` makes of these alone there is less to pay, so its tables may lead to other levels.
+///
+/// The files have at most the bytes that the program loads, as with `pace`.
+pub fn useful_sites(
+    alloc: Global,
+    image: &[u8],
+    machine: &[u8],
+    loops: &[u8],
+    sites: &[SwitchSite],
+    counted: bool,
+) -> Result<Vec<SwitchSite>, Stop>
+    requires image { length image.now ≤ 4194304 }
+    requires machine { length machine.now ≤ 1048576 }
+    requires loops { length loops.now ≤ 1048576 }
+    ensures { AnswersBy (λ kept. kept.items) result (useful.AreUseful image.now machine.now loops.now sites.now counted) }
+{
+    let program = program_of(alloc, image, machine, loops, sites, counted)?;
+    Ok(kept_sites(alloc, &program.power, &program.marked, sites)?)
+}
