@@ -1,4 +1,5 @@
--- What is so of the runs of each command.
+-- What is so of the runs of each command, and the other lemmas of this crate that crates above may cite.
+pub use Rattle.host_runs.proofs.Given.{made_of_given}
 use Rattle.std.proofs.Common.{◌≡◌, ◌≢◌, ℕ, List, refl, sym, ap, subst, ◌∙◌, Bool}
 use Rattle.std.specs.Prelude.{Option, Some, None, option_map, IfSome, cond, Result, Ok, Err}
 use Rattle.std.specs.Cmp.Lexicographic.{nat_list_cmp_total}
@@ -12,7 +13,7 @@ use Rattle.host_runs.specs.Command.{Answering, AnswersTo, IsAnswerOf, HasAnswer,
 use Rattle.host_runs.specs.Delivered.{with_stores, IsDelivered}
 use Rattle.host_runs.specs.Loading.{Wants, Loading, Missing, Long, Whole, IfWhole, loading_of}
 use Rattle.host_runs.specs.Promise.{Keeping, Promising, Promised, StoredPromise}
-use Rattle.host_runs.proofs.Limits.{EachWithin, loaded_within}
+pub use Rattle.host_runs.proofs.Limits.{EachWithin, limits_alone, loaded_within}
 
 -- ---- one status
 

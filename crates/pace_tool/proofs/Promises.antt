@@ -10,7 +10,7 @@ use Rattle.host_runs.specs.Command.{IsAnswered, StoresStand}
 use Rattle.host_runs.specs.Delivered.{with_stores}
 use Rattle.host_runs.specs.Promise.{Promised, StoredPromise}
 use Rattle.host_runs.proofs.Laws as runs
-use Rattle.host_runs.proofs.Limits.{EachWithin}
+use Rattle.host_runs.proofs.Laws.{EachWithin}
 use Rattle.pace_tool.specs.Answer.{Fits, IsFittedSafely, MakesFit, Makes}
 use Rattle.pace_tool.specs.Command.{Command, Fit, wants_of}
 use Rattle.pace_tool.specs.Promise.{FitsAny, Promise}

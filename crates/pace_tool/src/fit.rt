@@ -10,6 +10,7 @@ ghost use Rattle.pace_tool.specs.Texts as texts;
 ghost use Rattle.pace_tool.specs.Views.{command_view};
 
 use crate::command::Fit;
+use crate::proposals::proposals_of;
 use crate::texts::fitted_text;
 use host_runs::{ProgramFiles, Reply};
 use pace_fit::{Fitted, Proposal, choose};
@@ -22,17 +23,6 @@ pub struct Inputs<'a> {
     pub items: &'a [Vec<u8>],
     ghost few: { length items.now ≤ 64 },
     ghost short: { All (λ input. length input.items ≤ 1048576) items.now },
-}
-
-// What is proposed for a program. Any proposals are right: the choice among their images is what counts.
-fn proposals_of(
-    alloc: Global,
-    _files: &ProgramFiles<'_>,
-    _inputs: &Inputs<'_>,
-) -> Result<Vec<Proposal>, NoMemory>
-    ensures { IfOk result (λ proposals. length proposals.items ≤ 64) }
-{
-    Ok(Vec::new(alloc))
 }
 
 // The choice among the proposals, with its numbers and the name under which it is stored; or the refusal.
@@ -94,7 +84,7 @@ pub fn fit_reply(
 }
 
 /// What is made of the files that were loaded.
-#[tactic(auto, using(host_runs::proofs::Limits::limits_alone))]
+#[tactic(auto, using(host_runs::proofs::Laws::limits_alone))]
 pub fn made(alloc: Global, command: &Fit<'_>, files: &[Vec<u8>]) -> Result<Reply, NoMemory>
     requires { AllZip (λ want file. length file ≤ want.1) (wants_of (command_view command.now)) (files_view files.now) }
     ensures answer { IfOk result (λ reply. Makes (command_view command.now) (files_view files.now) (reply_view reply)) }

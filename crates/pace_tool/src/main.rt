@@ -7,6 +7,7 @@ mod command;
 mod fit;
 mod input_names;
 mod pace;
+mod proposals;
 mod texts;
 mod words;
 

@@ -1,6 +1,6 @@
 use Rattle.host_runs.specs.Answer.{stored_answer}
 use Rattle.host_runs.specs.Views.{file_view, files_view}
-use Rattle.host_runs.proofs.Given.{made_of_given}
+use Rattle.host_runs.proofs.Laws.{made_of_given}
 use Rattle.pace_tool.specs.Answer.{Fits}
 use Rattle.pace_tool.specs.Texts.{fitted_text}
 use Rattle.pace_tool.proofs.Given.{fits_given}
