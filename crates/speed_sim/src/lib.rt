@@ -18,10 +18,11 @@ pub use allowed::start_of;
 use elf_view::read_image;
 use machine_file::read_machine;
 pub use power_model::RunReport;
-pub use reporting::{counted_report, report};
+pub use reporting::{counted_report, report, watched_report};
 pub use scale_base::End;
 use scale_base::Stop;
 use std::alloc::Global;
+pub use watcher::Watches;
 
 /// The run of an image on a machine, with an input: at most as many steps as the machine file says. Refused are, in this
 /// order, what is wrong with the machine file, with the image, a loop file given with an image that has a keyed segment, a

@@ -28,8 +28,9 @@ fn keyed_range(view: &ImageView<'_>) -> Option<Range>
     }
 }
 
-/// The report of the run of an image from a level, with an input, whose steps a watcher sees. It says nothing of loops.
-fn watched_report<W: Watches>(
+/// The report of the run of an image from a level, with an input, whose completed steps after which it goes on a watcher sees, one after
+/// another. It says nothing of loops. All the memory that the run needs is taken before its first step.
+pub fn watched_report<W: Watches>(
     alloc: Global,
     view: &ImageView<'_>,
     power: &Power,

@@ -1,0 +1,172 @@
+//! Switches that may stand on edges, and what they cost.
+
+ghost use Rattle.std.specs.Prelude.{◌<◌, ◌^◌, IfSome};
+
+use crate::numbers::{EdgeNumbers, Numbers};
+use crate::tracing::may_switch;
+use level_tables::{LevelBudgets, entry_within};
+use power_model::{Costs, Power};
+use scale_base::EdgeKind;
+
+/// What a switch costs, in cycles: its code, of which the tail stands behind the store at the speed port, and a jump.
+#[derive(Clone, Copy)]
+pub struct StubCosts {
+    code: u64,
+    tail: u64,
+    jump: u64,
+}
+
+impl StubCosts {
+    pub fn new(costs: &Costs) -> StubCosts {
+        let store = u64::from(costs.store);
+        let load = u64::from(costs.load);
+        let alu = u64::from(costs.alu);
+        let jump = u64::from(costs.jump);
+        StubCosts {
+            code: 3 * store + 3 * load + 5 * alu,
+            tail: 2 * load + jump,
+            jump,
+        }
+    }
+}
+
+/// A switch on edge `edge`, with the other edge of its branch. The numbers are in cycles: what a pass takes more, what a pass of either edge of
+/// the instruction takes more; the slack, and what is left at most and at least behind the store at the speed port, with the switch's own
+/// costs; and what it adds to the worst case at most.
+#[derive(Clone, Copy)]
+pub struct Mark {
+    pub edge: usize,
+    pub other: Option<usize>,
+    pub code: u64,
+    pub jumps: u64,
+    pub slack: u64,
+    pub left: u64,
+    pub least: Option<u128>,
+    pub added: u64,
+}
+
+/// The least cycles behind a switch, with its tail.
+fn least_behind(least: Option<u128>, tail: u64) -> Option<u128> {
+    match least {
+        Some(cycles) => Some(cycles.saturating_add(u128::from(tail))),
+        None => None,
+    }
+}
+
+/// What a switch adds to the worst case at most. An edge with more slack than the code of the switch takes is on no worst way, but the
+/// other edge of its branch may be, which pays for the jumps.
+fn added_cycles(numbers: &EdgeNumbers, branch: bool, code: u64, jumps: u64) -> u64 {
+    if branch {
+        let each = code.saturating_sub(numbers.slack);
+        let over = numbers.passes.saturating_mul(each);
+        numbers.visits.saturating_mul(jumps).saturating_add(over)
+    } else {
+        let each = code.saturating_add(jumps).saturating_sub(numbers.slack);
+        numbers.passes.saturating_mul(each)
+    }
+}
+
+/// A switch on edge `e`, if it may have one.
+pub fn mark_of(numbers: &EdgeNumbers, e: usize, costs: &StubCosts) -> Option<Mark> {
+    if !may_switch(numbers.edge.kind) {
+        return None;
+    }
+    let branch = !matches!(numbers.edge.kind, EdgeKind::Jump);
+    let jumps = if branch {
+        costs.jump.saturating_mul(2)
+    } else {
+        costs.jump
+    };
+    let added = added_cycles(numbers, branch, costs.code, jumps);
+    let again = added.saturating_sub(added.checked_div(numbers.passes).unwrap_or(0));
+    Some(Mark {
+        edge: e,
+        other: numbers.other,
+        code: costs.code,
+        jumps,
+        slack: numbers.slack.saturating_sub(costs.code),
+        left: numbers
+            .rest
+            .saturating_add(costs.tail)
+            .saturating_add(again),
+        least: least_behind(numbers.least, costs.tail),
+        added,
+    })
+}
+
+/// The energy units of a cycle at a level.
+pub fn energy_at(power: &Power, level: u8) -> u128 {
+    if level < power.levels.count() {
+        u128::from(power.levels.get(level).energy)
+    } else {
+        0
+    }
+}
+
+/// The energy units of a change of level.
+pub fn change_energy(power: &Power, from: u8, to: u8) -> u128 {
+    if from < 8 && to < 8 {
+        u128::from(power.switch_energy_of(from, to))
+    } else {
+        0
+    }
+}
+
+/// The time that the worst cycles take at the starting level, if it is in time there.
+fn first_budget(power: &Power, start: u8, worst: u64) -> Option<u64> {
+    if start >= power.levels.count() {
+        return None;
+    }
+    let time = u128::from(worst) * u128::from(power.levels.get(start).period);
+    let deadline = power.deadline;
+    if time <= u128::from(deadline) {
+        Some(time as u64)
+    } else {
+        None
+    }
+}
+
+/// More cycles than any run takes at least.
+const FEW: u128 = 0x200_0000_0000_0000_0000_0000;
+
+/// Cycles that are few enough for the tables.
+fn small(least: Option<u128>) -> Option<u128>
+    ensures { IfSome result (λ z. z < 2 ^ 90) }
+{
+    match least {
+        Some(cycles) if cycles < FEW => Some(cycles),
+        _ => None,
+    }
+}
+
+/// The level to which a switch leads from a level, where other switches add so many cycles to the worst case: the level itself where
+/// the starting level is another one by then.
+pub fn entry(power: &Power, numbers: &Numbers, mark: &Mark, more: u64, from: u8) -> u8 {
+    let worst = numbers
+        .worst
+        .saturating_add(mark.added)
+        .saturating_add(more);
+    match first_budget(power, numbers.start, worst) {
+        Some(first) => {
+            let deadline = power.deadline;
+            let budgets = LevelBudgets {
+                start: numbers.start,
+                first,
+                others: deadline,
+            };
+            entry_by(power, &budgets, mark, more, from)
+        }
+        None => from,
+    }
+}
+
+/// The same within budgets.
+fn entry_by(power: &Power, budgets: &LevelBudgets, mark: &Mark, more: u64, from: u8) -> u8 {
+    if from < power.levels.count() {
+        let left = mark.left.saturating_add(more);
+        let least = small(mark.least);
+        entry_within(power, budgets, from, mark.slack, left, least)
+    } else {
+        from
+    }
+}

@@ -1,0 +1,91 @@
+//! What runs do at each edge, in all.
+
+use crate::tracing::{EdgeTrace, Passed};
+use scale_base::NoMemory;
+use std::alloc::Global;
+
+/// The weight of a run on an input. Other runs may have less.
+pub const WHOLE: u64 = 65536;
+
+/// Of the runs that go over an edge, in all and each by its weight: how many there are, their cycles behind the first pass, their passes, and
+/// their passes of the branch's other edge behind the first one.
+#[derive(Clone, Copy)]
+pub struct EdgeSum {
+    pub runs: u128,
+    pub behind: u128,
+    pub passes: u128,
+    pub other_behind: u128,
+}
+
+impl EdgeSum {
+    /// Of no runs.
+    pub fn none() -> EdgeSum {
+        EdgeSum {
+            runs: 0,
+            behind: 0,
+            passes: 0,
+            other_behind: 0,
+        }
+    }
+}
+
+/// By edge, what the runs do there, and the cycles of all of them.
+#[derive(Drop)]
+pub struct Sums {
+    edges: Vec<EdgeSum>,
+    cycles: u128,
+}
+
+/// A number by a weight.
+fn weighed(number: u64, weight: u64) -> u128 {
+    u128::from(number) * u128::from(weight)
+}
+
+/// The sums with a run of so many cycles that goes over the edge.
+fn added(sum: EdgeSum, passed: Passed, other_behind: u64, cycles: u64, weight: u64) -> EdgeSum {
+    let behind = weighed(cycles.saturating_sub(passed.first), weight);
+    EdgeSum {
+        runs: sum.runs.saturating_add(u128::from(weight)),
+        behind: sum.behind.saturating_add(behind),
+        passes: sum.passes.saturating_add(weighed(passed.passes, weight)),
+        other_behind: sum
+            .other_behind
+            .saturating_add(weighed(other_behind, weight)),
+    }
+}
+
+impl Sums {
+    /// Of no runs, for so many edges.
+    pub fn new(alloc: Global, edges: usize) -> Result<Sums, NoMemory> {
+        Ok(Sums {
+            edges: vec![in alloc; EdgeSum::none(); edges]?,
+            cycles: 0,
+        })
+    }
+
+    /// Adds a run of so many cycles that was traced.
+    pub fn add(&mut self, trace: &EdgeTrace, cycles: u64, weight: u64) {
+        self.cycles = self.cycles.saturating_add(weighed(cycles, weight));
+        for e in 0..self.edges.len() {
+            let passed = trace.passed(e);
+            if passed.passes > 0 {
+                let behind = trace.other_behind(e);
+                self.edges[e] = added(self.edges[e], passed, behind, cycles, weight);
+            }
+        }
+    }
+
+    /// What the runs do at edge `e`.
+    pub fn edge(&self, e: usize) -> EdgeSum {
+        if e < self.edges.len() {
+            self.edges[e]
+        } else {
+            EdgeSum::none()
+        }
+    }
+
+    /// The cycles of all runs.
+    pub fn cycles(&self) -> u128 {
+        self.cycles
+    }
+}
