@@ -1,0 +1,5 @@
+mod Given
+mod GivenInputs
+mod OneStatus
+mod Promises
+mod SwitchLines

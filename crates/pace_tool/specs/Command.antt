@@ -1,0 +1,22 @@
+-- The commands: what each loads, and the statuses that it may answer.
+use Rattle.std.specs.Prelude.{ℕ, List, [], ◌∷◌, map, Bool, ◌==◌, ◌||◌, nat_le}
+use Rattle.host_runs.specs.Loading.{Wants}
+
+pub data Command : Type 0 where
+  Fit : (image machine loops out : List ℕ) (inputs : List (List ℕ)) → Command
+
+-- inputs that are loaded, each with its limit in bytes
+abbrev pub input_wants : List (List ℕ) → Wants
+input_wants inputs = map (λ input. (input, 1048576)) inputs
+
+-- the files that it loads, in order, each with its limit in bytes
+abbrev pub wants_of : Command → Wants
+wants_of (Fit image machine loops out inputs) = (image, 4194304) ∷ (machine, 1048576) ∷ (loops, 1048576) ∷ input_wants inputs
+
+-- the statuses that a command gives, but for a fault and want of memory
+abbrev pub may_give : ℕ → Bool
+may_give status = nat_le status 1
+
+-- the statuses that a run may end with
+abbrev pub may_answer : ℕ → Bool
+may_answer status = may_give status || (status == 3 || status == 4)

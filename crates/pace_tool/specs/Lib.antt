@@ -1,0 +1,5 @@
+pub mod Answer
+pub mod Command
+pub mod Promise
+pub mod Texts
+pub mod Views

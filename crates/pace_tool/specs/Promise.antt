@@ -1,0 +1,22 @@
+-- What the files that a command has stored promise to whoever runs them.
+use Rattle.std.specs.Prelude.{ℕ, List, [], ◌∷◌, Result}
+use Rattle.std.specs.FinMap.{get}
+use Rattle.host_files.specs.HostState.{Files}
+use Rattle.scale_base.specs.declared.refusal.Refusal.{Refusal}
+use Rattle.pace_fit.specs.declared.candidates.Proposal.{Proposal}
+use Rattle.pace_fit.specs.declared.fitting.Fitted.{Fitted}
+use Rattle.host_runs.specs.Promise.{StoredPromise}
+use Rattle.pace_tool.specs.Answer.{Fits, IsFittedSafely}
+use Rattle.pace_tool.specs.Command.{Command, Fit}
+
+-- what `fit` may give, of whatever proposals
+abbrev pub FitsAny : (image machine loops : List ℕ) → List (List ℕ) → Result (List ℕ × Fitted) Refusal → Type 0
+FitsAny image machine loops inputs given = (proposals : List Proposal) × Fits image machine loops inputs proposals given
+
+-- What a command promises beside its answer, by the files that it loaded and those that stand afterwards. Of `fit`: on every input on which the original run exits and keeps the
+-- loops' bounds and the return addresses, the stored image gives the same output and the same exit status, ends by the deadline, never raises its level, takes no more energy than
+-- its own cycles at its starting level would, and adds at most the printed number of cycles; and its runs on the inputs that count take no more energy than those of the image
+-- that `hold` stores.
+abbrev pub Promise : Command → List (List ℕ) → Files → Type 0
+Promise (Fit image machine loops out inputs) (i ∷ m ∷ l ∷ given) after = StoredPromise (FitsAny i m l given) (IsFittedSafely i m l) (get after out)
+Promise command files after = Unit {0}

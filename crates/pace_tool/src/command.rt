@@ -1,0 +1,78 @@
+//! The command and its files.
+
+ghost use Rattle.std.specs.Prelude.{◌≡◌, ◌++◌, ◌∷◌, IfOk, OnOk};
+ghost use Rattle.host_runs.specs.Views.{want_views};
+ghost use Rattle.pace_tool.specs.Command.{input_wants, wants_of};
+ghost use Rattle.pace_tool.specs.Views.{command_view, texts};
+
+use crate::input_names::InputNames;
+use host_runs::Want;
+use std::alloc::{AllocError, Global};
+
+/// The command `fit`, with the names of its files: it stores the image whose runs over inputs take the least energy, of those that are proposed and the one
+/// that runs at one level.
+#[derive(Clone, Copy)]
+pub struct Fit<'a> {
+    pub image: &'a str,
+    pub machine: &'a str,
+    pub loops: &'a str,
+    pub out: &'a str,
+    pub inputs: InputNames<'a>,
+}
+
+// How many bytes an image may have, and how many any other file.
+const IMAGE_LIMIT: u64 = 4194304;
+
+const TEXT_LIMIT: u64 = 1048576;
+
+/// The files that are loaded, in order.
+pub fn wants<'a>(alloc: Global, command: &Fit<'a>) -> Result<Vec<Want<'a>>, AllocError>
+    ensures { IfOk result (λ wants. want_views wants.items ≡ wants_of (command_view command.now)) }
+{
+    fit_wants(
+        alloc,
+        command.image,
+        command.machine,
+        command.loops,
+        command.inputs.names,
+    )
+}
+
+fn fit_wants<'a>(
+    alloc: Global,
+    image: &'a str,
+    machine: &'a str,
+    loops: &'a str,
+    inputs: &'a [&'a str],
+) -> Result<Vec<Want<'a>>, AllocError>
+    ensures { IfOk result (λ wants. want_views wants.items ≡ (image.now, 4194304) ∷ (machine.now, 1048576) ∷ (loops.now, 1048576) ∷ input_wants (texts inputs.now)) }
+{
+    let mut wants = vec![in alloc;
+        want(image, IMAGE_LIMIT),
+        want(machine, TEXT_LIMIT),
+        want(loops, TEXT_LIMIT),
+    ]?;
+    push_inputs(&mut wants, inputs)?;
+    Ok(wants)
+}
+
+fn push_inputs<'a>(wants: &mut Vec<Want<'a>>, inputs: &'a [&'a str]) -> Result<(), AllocError>
+    ensures { OnOk result (want_views wants.new.items ≡ want_views wants.old.items ++ input_wants (texts inputs.now)) }
+{
+    for name in inputs {
+        wants.push(input_want(name))?;
+    }
+    Ok(())
+}
+
+fn input_want<'a>(name: &&'a str) -> Want<'a>
+    ensures { (result.name.now ≡ name.now.now) × (result.limit ≡ 1048576) }
+{
+    want(name, TEXT_LIMIT)
+}
+
+fn want(name: &str, limit: u64) -> Want<'_>
+    ensures { (result.name.now ≡ name.now) × (result.limit ≡ limit) }
+{
+    Want { name, limit }
+}

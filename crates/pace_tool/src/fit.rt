@@ -1,0 +1,100 @@
+//! What `fit` gives for its files.
+
+ghost use Rattle.std.specs.Prelude.{◌≡◌, ◌≤◌, length, option_map, Some, IfOk, IsTrue};
+ghost use Rattle.std.specs.List.{All, AllZip};
+ghost use Rattle.host_runs.specs.Answer.{Tells, stored_answer};
+ghost use Rattle.host_runs.specs.Views.{file_view, files_view, given_by, reply_view};
+ghost use Rattle.pace_tool.specs.Answer.{Fits, MakesFit, Makes};
+ghost use Rattle.pace_tool.specs.Command.{may_give, wants_of};
+ghost use Rattle.pace_tool.specs.Texts as texts;
+ghost use Rattle.pace_tool.specs.Views.{command_view};
+
+use crate::command::Fit;
+use crate::proposals::proposals_of;
+use crate::texts::fitted_text;
+use host_runs::{ProgramFiles, Reply};
+use pace_fit::{Fitted, Proposal, choose};
+use scale_base::{NoMemory, Stop};
+use std::alloc::Global;
+
+/// The bytes of up to 64 inputs, each within its limit.
+#[derive(Clone, Copy)]
+pub struct Inputs<'a> {
+    pub items: &'a [Vec<u8>],
+    ghost few: { length items.now ≤ 64 },
+    ghost short: { All (λ input. length input.items ≤ 1048576) items.now },
+}
+
+// The choice among the proposals, with its numbers and the name under which it is stored; or the refusal.
+fn told(
+    alloc: Global,
+    out: &str,
+    proposals: &[Proposal],
+    given: Result<(Vec<u8>, Fitted), Stop>,
+) -> Result<Reply, NoMemory>
+    ensures { IfOk result (λ reply. option_map (stored_answer (texts.fitted_text proposals.now) out.now) (given_by file_view given) ≡ Some (reply_view reply)) }
+{
+    match given {
+        Ok((bytes, fitted)) => {
+            let text = fitted_text(alloc, proposals, &fitted)?;
+            Reply::of_file(alloc, out, bytes, text, 0)
+        }
+        Err(Stop::Refused(refusal)) => Reply::refused(alloc, &refusal),
+        Err(Stop::Memory) => Err(NoMemory),
+    }
+}
+
+// The choice among proposals.
+fn chosen_of(
+    alloc: Global,
+    out: &str,
+    files: &ProgramFiles<'_>,
+    inputs: &Inputs<'_>,
+    proposals: &[Proposal],
+) -> Result<Reply, NoMemory>
+    requires { length proposals.now ≤ 64 }
+    ensures { IfOk result (λ reply. Tells (Fits files.now.image.now files.now.machine.now files.now.loops.now (files_view inputs.now.items.now) proposals.now) (stored_answer (texts.fitted_text proposals.now) out.now) (reply_view reply)) }
+{
+    told(
+        alloc,
+        out,
+        proposals,
+        choose(
+            alloc,
+            files.image,
+            files.machine,
+            files.loops,
+            inputs.items,
+            proposals,
+        ),
+    )
+}
+
+/// What `fit` gives for its three files and its inputs.
+pub fn fit_reply(
+    alloc: Global,
+    out: &str,
+    files: &ProgramFiles<'_>,
+    inputs: &Inputs<'_>,
+) -> Result<Reply, NoMemory>
+    ensures { IfOk result (λ reply. MakesFit files.now.image.now files.now.machine.now files.now.loops.now (files_view inputs.now.items.now) out.now (reply_view reply)) }
+{
+    let proposals = proposals_of(alloc, files, inputs)?;
+    chosen_of(alloc, out, files, inputs, &proposals)
+}
+
+/// What is made of the files that were loaded.
+#[tactic(auto, using(host_runs::proofs::Laws::limits_alone))]
+pub fn made(alloc: Global, command: &Fit<'_>, files: &[Vec<u8>]) -> Result<Reply, NoMemory>
+    requires { AllZip (λ want file. length file ≤ want.1) (wants_of (command_view command.now)) (files_view files.now) }
+    ensures answer { IfOk result (λ reply. Makes (command_view command.now) (files_view files.now) (reply_view reply)) }
+    ensures status { IfOk result (λ reply. IsTrue (may_give reply.status)) }
+{
+    let (first, given) = files.split_at(3);
+    fit_reply(
+        alloc,
+        command.out,
+        &ProgramFiles::of(first),
+        &Inputs { items: given },
+    )
+}

@@ -1,0 +1,89 @@
+//! The commands over a host.
+
+ghost use Rattle.std.specs.Prelude.{◌≡◌, ◌≢◌, IfOk, IfErr, IfSome, IsSome, IsTrue};
+ghost use Rattle.host_files.specs.HostState.{IsUntouched, Rose};
+ghost use Rattle.host_files.specs.Host.{count_if, is_failed};
+ghost use Rattle.host_runs.specs.Command.{Ends, IsAnswerOf, IsAnswered, IsReadyFor, IsStatusOfAll, StopsWithin, StoresStand};
+ghost use Rattle.host_runs.specs.Loading.{Missing, loading_of};
+ghost use Rattle.host_runs.specs.Promise.{Promised};
+ghost use Rattle.host_runs.specs.Views.{reply_view};
+ghost use Rattle.pace_tool.specs.Answer.{Makes};
+ghost use Rattle.pace_tool.specs.Command.{may_answer, may_give, wants_of};
+ghost use Rattle.pace_tool.specs.Promise.{Promise};
+ghost use Rattle.pace_tool.specs.Views.{command_view};
+
+use crate::command::{Fit, wants};
+use crate::fit::made;
+use host_files::{Host, HostError};
+use host_runs::{AllLoaded, Reply, deliver, load_all};
+use std::alloc::Global;
+
+/// Loads the files, and makes what is made of them.
+fn reply_to<H: Host>(host: &mut H, alloc: Global, command: &Fit<'_>) -> Result<Reply, HostError>
+    ensures told { IfOk result (λ reply. IfSome (H.state host.old).files (λ files. IsAnswerOf (wants_of (command_view command.now)) (Makes (command_view command.now)) files (reply_view reply))) }
+    ensures status { IfOk result (λ reply. IsTrue (may_give reply.status)) }
+    ensures untouched { IsUntouched (H.state host.old) (H.state host.new) }
+    ensures faults { (H.state host.new).faults ≡ count_if (is_failed result) (H.state host.old).faults }
+    ensures steady { IfErr result (λ error. error ≡ HostError.Failed → IsSome (H.state host.old).room → IfSome (H.state host.old).files (λ files. loading_of (wants_of (command_view command.now)) files ≡ Missing)) }
+{
+    let wants = wants(alloc, command)?;
+    match load_all(host, alloc, &wants) {
+        Ok(AllLoaded::Whole(files)) => Ok(made(alloc, command, &files)?),
+        Ok(AllLoaded::TooLong(number)) => Ok(Reply::too_large(alloc, wants[number].name)?),
+        Err(error) => Err(error),
+    }
+}
+
+/// Loads the files, and stores and prints what is made of them.
+fn run<H: Host>(host: &mut H, alloc: Global, command: &Fit<'_>) -> Result<u8, HostError>
+    ensures status { IfOk result (λ status. IsTrue (may_give status)) }
+    ensures ends { Ends (wants_of (command_view command.now)) (Makes (command_view command.now)) result (H.state host.old) (H.state host.new) }
+    ensures faults { (H.state host.new).faults ≡ count_if (is_failed result) (H.state host.old).faults }
+{
+    match reply_to(host, alloc, command) {
+        Ok(reply) => match deliver(host, &reply.stores, reply.text.as_bytes()) {
+            Ok(()) => Ok(reply.status),
+            // It takes no memory.
+            Err(_) => Err(HostError::Failed),
+        },
+        Err(error) => Err(error),
+    }
+}
+
+/// Does what a command says, and answers the status.
+///
+/// How the clauses go together: with 0 the command was done, so `answered` says what was stored and printed, and `promise` what that means for whoever runs it. With 3,
+/// `fault_leaves` says how far the answer came, and `promise_behind_a_fault` what the stores promise, where all of them stand nevertheless.
+#[tactic(auto, using(crate::proofs::Promises::answered_keep_promise, crate::proofs::Promises::stored_keep_promise, crate::proofs::OneStatus::status_of_all))]
+pub fn run_pace<H: Host>(host: &mut H, alloc: Global, command: &Fit<'_>) -> u8
+    // 0, and 1 where the files are refused; 3 and 4 where there is no answer.
+    ensures statuses { IsTrue (may_answer result) }
+
+    // Any status but 3 and 4: the command's whole answer over the files that are told.
+    ensures answered { result ≢ 3 → result ≢ 4 → IsAnswered (wants_of (command_view command.now)) (Makes (command_view command.now)) result (H.state host.old) (H.state host.new) }
+
+    // All answers that are right for the files have one status, the one that was given: 1 where the files are refused, and else 0.
+    ensures complete { result ≢ 3 → result ≢ 4 → IsStatusOfAll (wants_of (command_view command.now)) (Makes (command_view command.now)) result (H.state host.old) }
+
+    // What was done keeps the command's promise.
+    ensures promise { result ≡ 0 → Promised (wants_of (command_view command.now)) (Promise (command_view command.now)) (H.state host.old) (H.state host.new) }
+
+    // So do the stores of an answer that is no refusal, wherever all of them stand, as where only the print behind them failed.
+    ensures promise_behind_a_fault { StoresStand (wants_of (command_view command.now)) (Makes (command_view command.now)) (H.state host.old) (H.state host.new) →
+        Promised (wants_of (command_view command.now)) (Promise (command_view command.now)) (H.state host.old) (H.state host.new) }
+
+    // 3 only where the host failed, and never over a steady host that has what it takes.
+    ensures fault { result ≡ 3 → Rose (H.state host.old).faults (H.state host.new).faults }
+    ensures no_fault { result ≢ 3 → (H.state host.new).faults ≡ (H.state host.old).faults }
+    ensures fault_leaves { result ≡ 3 → StopsWithin (wants_of (command_view command.now)) (Makes (command_view command.now)) (H.state host.old) (H.state host.new) }
+    ensures ready { IsReadyFor (wants_of (command_view command.now)) (Makes (command_view command.now)) (H.state host.old) → result ≢ 3 }
+
+    // 4: nothing has happened.
+    ensures memory { result ≡ 4 → IsUntouched (H.state host.old) (H.state host.new) }
+{
+    match run(host, alloc, command) {
+        Ok(status) => status,
+        Err(HostError::Failed) => 3,
+        Err(HostError::OutOfMemory) => 4,
+    }
+}

@@ -1,0 +1,95 @@
+//! The texts that the program prints.
+
+ghost use Rattle.std.specs.Prelude.{◌≡◌, ◌++◌, IfOk, OnOk, string_bytes};
+ghost use Rattle.scale_report.specs.Texts.{number_line};
+ghost use Rattle.pace_tool.specs.Texts.{fitted_text, rewrite_line, switch_line, switch_lines, switches_text};
+
+use pace_fit::{Fitted, Proposal};
+use paced_images::SwitchSite;
+use scale_base::NoMemory;
+use scale_report::{Address, kind_name, summary_text};
+use std::alloc::{AllocError, Global};
+use std::fmt::Write;
+
+// Adds a line of some words and a number.
+#[tactic(auto, unfolding(scale_report::specs::Texts::number_line))]
+fn push_number(text: &mut String, words: &str, number: u128) -> Result<(), AllocError>
+    ensures { OnOk result (string_bytes text.new ≡ string_bytes text.old ++ number_line words.now number) }
+{
+    write!(text, "{words}{number}\n")
+}
+
+fn push_count(text: &mut String, words: &str, count: u32) -> Result<(), AllocError>
+    ensures { OnOk result (string_bytes text.new ≡ string_bytes text.old ++ number_line words.now count) }
+{
+    push_number(text, words, u128::from(count))
+}
+
+// Adds the line of the energy of what `rewrite` stores, if it has one.
+#[tactic(auto, unfolding(crate::specs::Texts::rewrite_line))]
+fn push_rewrite(text: &mut String, energy: Option<u128>) -> Result<(), AllocError>
+    ensures { OnOk result (string_bytes text.new ≡ string_bytes text.old ++ rewrite_line energy) }
+{
+    match energy {
+        Some(energy) => push_number(text, "rewrite energy ", energy),
+        None => text.push_str("rewrite energy none\n"),
+    }
+}
+
+// Adds the line of a switch.
+#[tactic(auto, unfolding(crate::specs::Texts::switch_line))]
+fn push_switch(text: &mut String, site: &SwitchSite) -> Result<(), AllocError>
+    ensures { OnOk result (string_bytes text.new ≡ string_bytes text.old ++ switch_line site.now) }
+{
+    let at = Address(site.at);
+    let kind = kind_name(site.kind);
+    write!(text, "switch {at} {kind}\n")
+}
+
+// Adds a line for each switch.
+fn push_sites(text: &mut String, sites: &[SwitchSite]) -> Result<(), AllocError>
+    ensures { OnOk result (string_bytes text.new ≡ string_bytes text.old ++ switch_lines sites.now) }
+{
+    for site in sites {
+        push_switch(text, site)?;
+    }
+    Ok(())
+}
+
+// Adds the lines of the switches of the chosen candidate.
+#[tactic(auto, unfolding(crate::specs::Texts::switches_text))]
+fn push_switches(
+    text: &mut String,
+    proposals: &[Proposal],
+    candidate: u32,
+) -> Result<(), AllocError>
+    ensures { OnOk result (string_bytes text.new ≡ string_bytes text.old ++ switches_text proposals.now candidate) }
+{
+    if candidate == 0 {
+        return text.push_str("no switches: hold's image is stored\n");
+    }
+    match proposals.get(candidate as usize - 1) {
+        Some(proposal) => push_sites(text, &proposal.sites),
+        None => Ok(()),
+    }
+}
+
+/// The choice of a fitting: its summary, how many inputs count and how many don't, the energy of the choice, of the image that runs at one level and
+/// of the one that `rewrite` stores, the least energy of those inputs, and a line for each switch.
+pub fn fitted_text(
+    alloc: Global,
+    proposals: &[Proposal],
+    fitted: &Fitted,
+) -> Result<String, NoMemory>
+    ensures { IfOk result (λ text. string_bytes text ≡ fitted_text proposals.now fitted.now) }
+{
+    let mut text = summary_text(alloc, &fitted.summary)?;
+    push_count(&mut text, "inputs ", fitted.inputs)?;
+    push_count(&mut text, "left out ", fitted.left_out)?;
+    push_number(&mut text, "energy ", fitted.energy)?;
+    push_number(&mut text, "hold energy ", fitted.hold_energy)?;
+    push_rewrite(&mut text, fitted.rewrite_energy)?;
+    push_number(&mut text, "least energy ", fitted.least_energy)?;
+    push_switches(&mut text, proposals, fitted.candidate)?;
+    Ok(text)
+}
