@@ -20,7 +20,7 @@ fit_kept : (image machine loops : List ℕ) (inputs : List (List ℕ)) (out : Li
     StoredPromise (FitsAny image machine loops inputs) (IsFittedSafely image machine loops) (get (with_stores answer.stores files) out)
 fit_kept image machine loops inputs out files answer made done =
     let kept = runs.stored_kept (Fits image machine loops inputs made.proposals) (IsFittedSafely image machine loops) (fitted_text made.proposals) out files
-        (λ stored told is. is.safe) answer made.tells done in
+    (λ stored told is. is.safe) answer made.tells done in
     record {
       stored = kept.stored;
       stands = kept.stands;

@@ -27,13 +27,7 @@ fn print_error(rt: &HostRuntime, error: &Error) -> u8 {
         return 4;
     }
     match error.print(rt) {
-        Ok(()) => {
-            if error.use_stderr() {
-                2
-            } else {
-                0
-            }
-        }
+        Ok(()) => { if error.use_stderr() { 2 } else { 0 } }
         Err(_) => 3,
     }
 }

@@ -16,10 +16,7 @@ use switch_search::propose;
 const PROPOSALS: usize = 64;
 
 // The lists as proposals in which no loop is counted.
-fn proposals_from(
-    alloc: Global,
-    lists: Vec<Vec<SwitchSite>>,
-) -> Result<Vec<Proposal>, NoMemory>
+fn proposals_from(alloc: Global, lists: Vec<Vec<SwitchSite>>) -> Result<Vec<Proposal>, NoMemory>
     ensures { IfOk result (λ proposals. length proposals.items ≤ 64) }
 {
     let mut proposals = Vec::new(alloc);
@@ -45,13 +42,7 @@ pub fn proposals_of(
 {
     match hold(alloc, files.image, files.machine, files.loops) {
         Ok(_held) => {
-            let counts = counting_of(
-                alloc,
-                files.image,
-                files.machine,
-                files.loops,
-                inputs.items,
-            )?;
+            let counts = counting_of(alloc, files.image, files.machine, files.loops, inputs.items)?;
             let lists = propose(
                 alloc,
                 files.image,

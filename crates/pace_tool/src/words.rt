@@ -21,9 +21,15 @@ fn fit_line<'a>(alloc: Global) -> Result<CommandLine<'a>, AllocError> {
         .action(ArgAction::Append)
         .help("Up to 64 inputs that the program is fitted to");
     CommandLine::new(alloc, "fit")
-        .about("Stores the image of a program whose switches of speed save the most energy on its inputs")
+        .about(
+            "Stores the image of a program whose switches of speed save the most energy on its inputs",
+        )
         .arg(required(alloc, "IMAGE", "The program, an ELF file"))?
-        .arg(required(alloc, "MACHINE", "The machine file: levels, switches, deadline"))?
+        .arg(required(
+            alloc,
+            "MACHINE",
+            "The machine file: levels, switches, deadline",
+        ))?
         .arg(required(alloc, "LOOPS", "The loop file: how often loops turn"))?
         .arg(required(alloc, "OUT", "The name of the image that is stored"))?
         .arg(inputs)
