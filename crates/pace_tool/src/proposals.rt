@@ -12,21 +12,53 @@ use scaler::hold;
 use std::alloc::Global;
 use switch_search::propose;
 
-// How many proposals are tried at most.
-const PROPOSALS: usize = 64;
+// How many lists are tried at most.
+const LISTS: usize = 62;
+
+// The sites of the first list.
+fn first_of(alloc: Global, lists: &[Vec<SwitchSite>]) -> Result<Vec<SwitchSite>, NoMemory> {
+    match lists.first() {
+        Some(sites) => Ok(Vec::from_slice(alloc, sites)?),
+        None => Ok(Vec::new(alloc)),
+    }
+}
 
 // The lists as proposals in which no loop is counted.
-fn proposals_from(alloc: Global, lists: Vec<Vec<SwitchSite>>) -> Result<Vec<Proposal>, NoMemory>
-    ensures { IfOk result (λ proposals. length proposals.items ≤ 64) }
+fn uncounted_of(alloc: Global, lists: Vec<Vec<SwitchSite>>) -> Result<Vec<Proposal>, NoMemory>
+    ensures { IfOk result (λ proposals. length proposals.items ≤ 62) }
 {
     let mut proposals = Vec::new(alloc);
     for sites in lists {
-        if proposals.len() < PROPOSALS {
+        if proposals.len() < LISTS {
             proposals.push(Proposal {
                 sites,
                 counted: false,
             })?;
         }
+    }
+    Ok(proposals)
+}
+
+// The lists as proposals in which no loop is counted; and where some input counts, so that the runs tell what counting costs, the loops alone that are noted so, and
+// the first list with them.
+fn proposals_from(
+    alloc: Global,
+    lists: Vec<Vec<SwitchSite>>,
+    has_counting: bool,
+) -> Result<Vec<Proposal>, NoMemory>
+    ensures { IfOk result (λ proposals. length proposals.items ≤ 64) }
+{
+    let first = first_of(alloc, &lists)?;
+    let mut proposals = uncounted_of(alloc, lists)?;
+    if has_counting {
+        proposals.push(Proposal {
+            sites: Vec::new(alloc),
+            counted: true,
+        })?;
+        proposals.push(Proposal {
+            sites: first,
+            counted: true,
+        })?;
     }
     Ok(proposals)
 }
@@ -51,7 +83,8 @@ pub fn proposals_of(
                 inputs.items,
                 &counts,
             )?;
-            proposals_from(alloc, lists)
+            let has_counting = counts.iter().any(|counts| *counts);
+            proposals_from(alloc, lists, has_counting)
         }
         Err(Stop::Refused(_)) => Ok(Vec::new(alloc)),
         Err(Stop::Memory) => Err(NoMemory),
