@@ -13,9 +13,9 @@ It makes files in a temporary folder and runs the program on each, three times. 
 - deep back and deep random: deep, where the words between the headers and the back edges are jumps as in backward and random; turning: deep
   back, where each loop turns at least once.
 
-A time should be at most 5 times that of straight code, or of the forward jumps, but for the last three, whose times are printed beside it: each pass over
-loops takes the sum of their bodies, here 16 times the words, and in a random order the processor's caches don't help. Works on any folder; it
-builds the program first where that isn't built yet.
+A time should be at most 5 times that of straight code, or of the forward jumps, but for deep random: each pass over loops takes the sum of their
+bodies, here 16 times the words, and in a random order the processor's caches don't help. Works on any folder; it builds the program first where that
+isn't built yet.
 """
 
 import os
@@ -33,7 +33,7 @@ SIZE = 131072
 DEPTH = 16
 FACTOR = 5
 # Whose times have no limit.
-FREE = ("deep back", "deep random", "turning")
+FREE = ("deep random",)
 # Seconds that a command may take.
 LONGEST = 30
 # beq x5,x6,+8
