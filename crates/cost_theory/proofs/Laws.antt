@@ -24,6 +24,6 @@ pub use Rattle.cost_theory.proofs.Reaching.{Within, edge_of_word, edges-at, flat
 pub use Rattle.cost_theory.proofs.Rest.{first_uncalled, plain_from_entry, rest-worst}
 pub use Rattle.cost_theory.proofs.Runs.{left_start, run-worst, sound_after, sound_run, sound_start, step_law}
 pub use Rattle.cost_theory.proofs.Slack.{closing_present, slack-le}
-pub use Rattle.cost_theory.proofs.StepLaws.{along_at, behind-rest, run-within}
+pub use Rattle.cost_theory.proofs.StepLaws.{along_at, behind-rest, behind-turns, run-within}
 pub use Rattle.cost_theory.proofs.Turns.{AreNested, back_charged, charged_entering, entered-header}
 pub use Rattle.cost_theory.proofs.Unique.{greatest_some, same_numbers}

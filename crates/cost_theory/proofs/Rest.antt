@@ -1,8 +1,8 @@
 -- The rest of an edge is at most the worst cycles, and the cycles left after it are at most its rest.
 use Rattle.std.proofs.Common.{◌≡◌, ◌≢◌, ℕ, zero, suc, ◌+◌, ◌-◌, ◌<◌, ◌≤◌, Bool, true, false, not, ◌&&◌, List, [], ◌∷◌, ◌++◌, Option, Some, None, unwrap_or, refl, sym, ap, ◌∙◌, subst, arith, ⊎_elim, le_refl}
 use native.Mathlib.Decide.{ℕ_discrete}
-use Rattle.cost_theory.specs.Graph.{Graph, Loops, IsWalk, end_of, sum_below, only, is_round, is_header, enters, is_back, IsPlain, IsPlainPath, next_edge}
-use Rattle.cost_theory.specs.Worst.{Numbers, IsGreatestIfAny, cost, charged, AreNumbers, all_of, at_some, turns, turns_round, left_at, rest, IsReturningCall, context_of}
+use Rattle.cost_theory.specs.Graph.{Graph, Loops, IsWalk, end_of, sum_below, only, is_round, is_header, enters, is_back, IsPlain, IsPlainPath, AreWithin, next_edge}
+use Rattle.cost_theory.specs.Worst.{Numbers, IsGreatestIfAny, cost, charged, AreNumbers, all_of, at_some, turns, turns_round, turns_taken, left_at, rest, IsReturningCall, context_of}
 use Rattle.cost_theory.specs.Accepted.{IsNode, IsCall, IsProgram, AreWeights, AreAccepted, IsCallOrder}
 use Rattle.cost_theory.specs.Steps.{add_call, left_calls, left_at_node}
 use Rattle.cost_theory.proofs.Basics.{search_below, only-turns, sum-add, sum-le, and_left}
@@ -214,22 +214,32 @@ module _ (g : Graph) (l : Loops) (extent : ℕ → ℕ → Bool) (w : ℕ → �
             (λ k kl. only-turns (l.inside k u) (l.bound k) (counts k) (n.iteration k)) in
             omega arith
 
-    -- the cycles left at a node are at most what is left there, all turns round it and the context
-    pub left-rest : (v : ℕ) (calls : List ℕ) (counts : ℕ → ℕ) → IsNode g v → IsChain g (g.owner v) calls →
-        left_at_node g l w n (Some v) calls counts ≤ n.left v + turns_round l n (Some v) + n.context (g.owner v)
-    left-rest v calls counts node chain =
+    -- the cycles left at a node, with what the turns cost that are taken, are at most what is left there, all turns round it and the context
+    pub left-rest : (v : ℕ) (calls : List ℕ) (counts : ℕ → ℕ) → IsNode g v → IsChain g (g.owner v) calls → AreWithin l counts →
+        left_at_node g l w n (Some v) calls counts + turns_taken l n counts (Some v) ≤ n.left v + turns_round l n (Some v) + n.context (g.owner v)
+    left-rest v calls counts node chain within =
         let fl : g.owner v < g.functions = subst (λ x. g.owner x < g.functions) node.2 (prog.owner_function node.0 node.1) in
         let h : left_calls g l w n counts calls ≤ n.context (g.owner v) = calls-context calls (g.owner v) counts fl chain in
-        let t : sum_below l.loops (λ k. only (l.inside k v) (turns l n counts k)) ≤ turns_round l n (Some v) =
-        sum-le l.loops (λ k. only (l.inside k v) (turns l n counts k)) (λ k. only (l.inside k v) (all_of l n k))
-        (λ k kl. only-turns (l.inside k v) (l.bound k) (counts k) (n.iteration k)) in
+        let s : sum_below l.loops (λ k. only (l.inside k v) (turns l n counts k) + only (l.inside k v) (counts k * n.iteration k)) ≡
+        sum_below l.loops (λ k. only (l.inside k v) (turns l n counts k)) + turns_taken l n counts (Some v) =
+        sum-add l.loops (λ k. only (l.inside k v) (turns l n counts k)) (λ k. only (l.inside k v) (counts k * n.iteration k)) in
+        let t : sum_below l.loops (λ k. only (l.inside k v) (turns l n counts k) + only (l.inside k v) (counts k * n.iteration k)) ≤ turns_round l n (Some v) =
+        sum-le l.loops (λ k. only (l.inside k v) (turns l n counts k) + only (l.inside k v) (counts k * n.iteration k)) (λ k. only (l.inside k v) (all_of l n k))
+        (λ k kl. all_turns (l.inside k v) (l.bound k) (counts k) (n.iteration k) (within k kl)) in
         omega arith
+      where
+        all_turns : (b : Bool) (bound count turn : ℕ) → count ≤ bound → only b ((bound - count) * turn) + only b (count * turn) ≤ only b (bound * turn)
+        all_turns false bound count turn most = omega arith
+        all_turns true bound count turn most =
+            let parts : bound - count + count ≡ bound = omega (arith, most) in
+            let all : (bound - count + count) * turn ≡ bound * turn = ap (λ x. x * turn) parts in
+            omega (arith, all)
 
     -- so after a local step they are at most the edge's rest
-    pub left_after-rest : (e v : ℕ) (calls : List ℕ) (counts : ℕ → ℕ) → e < g.edges → g.target e ≡ Some v → IsChain g (g.owner v) calls →
-        left_at_node g l w n (Some v) calls counts ≤ rest g l n e
-    left_after-rest e v calls counts lt to chain =
-        let h : left_at_node g l w n (Some v) calls counts ≤ n.left v + turns_round l n (Some v) + n.context (g.owner v) = left-rest v calls counts (prog.stays e v lt to).0 chain in
+    pub left_after-rest : (e v : ℕ) (calls : List ℕ) (counts : ℕ → ℕ) → e < g.edges → g.target e ≡ Some v → IsChain g (g.owner v) calls → AreWithin l counts →
+        left_at_node g l w n (Some v) calls counts + turns_taken l n counts (Some v) ≤ rest g l n e
+    left_after-rest e v calls counts lt to chain within =
+        let h : left_at_node g l w n (Some v) calls counts + turns_taken l n counts (Some v) ≤ n.left v + turns_round l n (Some v) + n.context (g.owner v) = left-rest v calls counts (prog.stays e v lt to).0 chain within in
         let q : n.context (g.owner v) ≡ n.context (g.owner (g.source e)) = ap n.context (prog.stays e v lt to).1 in
         let t : left_at n (g.target e) + turns_round l n (g.target e) ≡ n.left v + turns_round l n (Some v) = ap (λ o. left_at n o + turns_round l n o) to in
         omega arith

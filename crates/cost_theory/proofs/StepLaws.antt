@@ -1,7 +1,7 @@
 -- The step law at the states of kept runs.
 use Rattle.std.proofs.Common.{◌≡◌, ℕ, ◌+◌, ◌<◌, ◌≤◌, Bool, List, ◌∷◌, Some, None, IsSome, ap, ◌∙◌, subst, arith}
 use Rattle.cost_theory.specs.Graph.{Graph, Loops, count_step, AreWithin, next_edge}
-use Rattle.cost_theory.specs.Worst.{Numbers, cost, slack, left_behind, rest}
+use Rattle.cost_theory.specs.Worst.{Numbers, cost, slack, left_behind, turns_taken, rest}
 use Rattle.cost_theory.specs.Accepted.{IsNode, IsCallOrder}
 use Rattle.cost_theory.specs.Steps.{GraphState, Transition, edge_of, go_back, after_return, after, IsKept, AreKept, after_all, graph_start, state_after, cycles, left_at_node, cycles_left}
 use Rattle.cost_theory.specs.Steps.Transition.{Along, Call, Return}
@@ -61,13 +61,24 @@ module _ (g : Graph) (l : Loops) (extent : ℕ → ℕ → Bool) (w : ℕ → �
 
   module _ (order : ℕ → ℕ) (falls : IsCallOrder g order) where
     -- a state behind an edge
-    pub behind-rest : (s : GraphState) (e v : ℕ) → IsSound g l s → e < g.edges → g.target e ≡ Some v → s.node ≡ Some v → cycles_left g l w n s ≤ rest g l n e
-    behind-rest s e v sound lt to at =
+    pub behind-turns : (s : GraphState) (e v : ℕ) → IsSound g l s → e < g.edges → g.target e ≡ Some v → s.node ≡ Some v → cycles_left g l w n s + turns_taken l n s.counts (g.target e) ≤ rest g l n e
+    behind-turns s e v sound lt to at =
         let here : IsNode g v × IsChain g (g.owner v) s.calls = subst (λ p. Stands g p s.calls) at sound.stands in
-        let h : left_at_node g l w n (Some v) s.calls s.counts ≤ rest g l n e =
-        left_after-rest g l extent w n is.program is.accepted is.weights is.numbers order falls e v s.calls s.counts lt to here.1 in
+        let h : left_at_node g l w n (Some v) s.calls s.counts + turns_taken l n s.counts (Some v) ≤ rest g l n e =
+        left_after-rest g l extent w n is.program is.accepted is.weights is.numbers order falls e v s.calls s.counts lt to here.1 sound.within in
         let q : cycles_left g l w n s ≡ left_at_node g l w n (Some v) s.calls s.counts = left_here g l extent w n is.program is.accepted is.weights is.numbers s v at in
+        let t : turns_taken l n s.counts (g.target e) ≡ turns_taken l n s.counts (Some v) = ap (turns_taken l n s.counts) to in
         omega arith
+
+    pub behind-rest : (s : GraphState) (e v : ℕ) → IsSound g l s → e < g.edges → g.target e ≡ Some v → s.node ≡ Some v → cycles_left g l w n s ≤ rest g l n e
+    behind-rest s e v sound lt to at = let h = behind-turns s e v sound lt to at in omega (arith, h)
+
+    pub along-turns : (ms : List Transition) (e : ℕ) → AreKept g l (graph_start g) ms → IsKept g l (state_after g l ms) (Along e) →
+        cycles_left g l w n (after g l (state_after g l ms) (Along e)) + turns_taken l n (after g l (state_after g l ms) (Along e)).counts (g.target e) ≤ rest g l n e
+    along-turns ms e kept step =
+        let v : (v : ℕ) × (g.target e ≡ Some v) = some_value (g.target e) step.move.1 in
+        behind-turns (after g l (state_after g l ms) (Along e)) e v.0
+        (sound_after g l extent is.program (state_after g l ms) (Along e) (sound_run g l extent is.program ms kept) step) step.edge v.1 v.1
 
     pub along-rest : (ms : List Transition) (e : ℕ) → AreKept g l (graph_start g) ms → IsKept g l (state_after g l ms) (Along e) →
         cycles_left g l w n (after g l (state_after g l ms) (Along e)) ≤ rest g l n e

@@ -3,7 +3,7 @@ use Rattle.std.specs.Prelude.{◌≡◌, ◌≢◌, ℕ, ◌+◌, ◌<◌, ◌�
 use Rattle.scale_base.specs.declared.edges.Edge.{Edge}
 use Rattle.cost_theory.specs.declared.flow.Flow.{Flow}
 use Rattle.cost_theory.specs.Graph.{Graph, Loops, total, next_edge}
-use Rattle.cost_theory.specs.Worst.{Numbers, AreNumbers, cost, charged, left_at, turn_back, slack, left_behind, turns_round, all_of, rest}
+use Rattle.cost_theory.specs.Worst.{Numbers, AreNumbers, cost, charged, left_at, turn_back, slack, left_behind, turns_round, turns_taken, all_of, rest}
 use Rattle.cost_theory.specs.Accepted.{IsNode, IsProgram, AreCrossing, IsTooDeep, AreEntered, IsWithin, AreAccepted, AreWeights, HasNoRecursion, IsCallOrder, IsPlainOrder, IsPlainCycle}
 use Rattle.cost_theory.specs.Reached.{Code, IsCodeOf, HasNoBadWord, HasNoSharedCode, graph_of}
 use Rattle.cost_theory.specs.Steps.{Transition, IsKept, AreKept, graph_start, state_after, after, edge_of, cycles, cycles_left}
@@ -190,6 +190,12 @@ abbrev pub LeftWithinRest : Type 0
 LeftWithinRest = (g : Graph) (l : Loops) (extent : ℕ → ℕ → Bool) (w : ℕ → ℕ) (n : Numbers) → IsAnalyzed g l extent w n →
     (ms : List Transition) (e : ℕ) → AreKept g l (graph_start g) ms → IsKept g l (state_after g l ms) (Along e) →
     cycles_left g l w n (after g l (state_after g l ms) (Along e)) ≤ rest g l n e
+
+-- and so they are with what the turns cost that the loops round its target have taken by then,
+abbrev pub LeftWithinRestOfTurns : Type 0
+LeftWithinRestOfTurns = (g : Graph) (l : Loops) (extent : ℕ → ℕ → Bool) (w : ℕ → ℕ) (n : Numbers) → IsAnalyzed g l extent w n →
+    (ms : List Transition) (e : ℕ) → AreKept g l (graph_start g) ms → IsKept g l (state_after g l ms) (Along e) →
+    cycles_left g l w n (after g l (state_after g l ms) (Along e)) + turns_taken l n (after g l (state_after g l ms) (Along e)).counts (g.target e) ≤ rest g l n e
 
 -- and after a return at most the rest behind the edge by which the call comes back.
 abbrev pub LeftWithinRestOfReturn : Type 0

@@ -122,6 +122,10 @@ IsContext g l w n f =
     ((f ≡ 0) × (n.context f ≡ 0)) ⊎
     ((f ≢ 0) × ((o : Option ℕ) × IsGreatestIfAny (IsReturningCall g f) (context_of g l w n) o × (n.context f ≡ unwrap_or o 0)))
 
+-- what the turns that the loops round a place have taken cost at most
+abbrev pub turns_taken : Loops → Numbers → (ℕ → ℕ) → Option ℕ → ℕ
+turns_taken l n counts p = sum_below l.loops (λ k. only (is_round l k p) (counts k * n.iteration k))
+
 -- the rest: what is left at most of the program after an edge to a node
 abbrev pub rest : Graph → Loops → Numbers → ℕ → ℕ
 rest g l n e = left_at n (g.target e) + turns_round l n (g.target e) + n.context (g.owner (g.source e))

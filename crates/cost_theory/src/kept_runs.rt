@@ -1,6 +1,6 @@
 //! Laws of kept runs: runs along which no loop turns more often than its bound and each return goes back behind its call.
 
-ghost use Rattle.cost_theory.specs.Laws.{WorstLeftAtStart, StepLowers, StepAlong, StepCall, RunWithinWorst, CyclesWithinWorst, LeftWithinRest, LeftWithinRestOfReturn};
+ghost use Rattle.cost_theory.specs.Laws.{WorstLeftAtStart, StepLowers, StepAlong, StepCall, RunWithinWorst, CyclesWithinWorst, LeftWithinRest, LeftWithinRestOfTurns, LeftWithinRestOfReturn};
 
 /// At the start the worst cycles are left, and each kept step lowers the cycles left by at least its weight. A step within
 /// a function, and a call that comes back, lower them by a sum.
@@ -20,5 +20,6 @@ pub fn run_law()
 /// After a step over an edge within a function, or back from a call, the cycles left are at most the rest behind that edge.
 pub fn left_within_the_rest()
     ensures along { LeftWithinRest }
+    ensures turns { LeftWithinRestOfTurns }
     ensures back { LeftWithinRestOfReturn }
 {}

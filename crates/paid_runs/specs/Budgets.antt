@@ -18,13 +18,13 @@ use Rattle.graph_runs.specs.RunTransitions.{after_transitions}
 use Rattle.code_text.specs.TextGraph.{text_graph}
 use Rattle.stub_writer.specs.Stubs.{Site}
 use Rattle.stored_runs.specs.Marks.{Shadow, place_at, fragments_of_class, tail_cycles, level_stored}
-use Rattle.paid_runs.specs.Timely.{weights_of, IsPaying}
+use Rattle.paid_runs.specs.Timely.{weights_of, taken_behind, IsPaying}
 
--- From level i to level j on an edge with so many cycles behind the store: what is left at most takes no more time at j, with the switch, than what was left at least before
--- would at i, and what the budget of j has more.
-abbrev pub IsSwitchInBudget : PowerModel → (budget : ℕ → ℕ) → Graph → Loops → (ℕ → ℕ) → Numbers → (counts : ℕ → ℕ) → (e tail i j : ℕ) → Type 0
-IsSwitchInBudget power budget g l w n counts e tail i j =
-    (rest g l n e + tail) * period power j + switch_time power i j + budget i ≤ (rest g l n e + tail + (slack g l n (cost g n w) e + left_behind g l n counts e)) * period power i + budget j
+-- From level i to level j on an edge with so many cycles behind the store, where `gone` of its rest is known to be gone: what is left at most takes no more time at j, with the
+-- switch, than what was left at least before would at i, and what the budget of j has more.
+abbrev pub IsSwitchInBudget : PowerModel → (budget : ℕ → ℕ) → Graph → Loops → (ℕ → ℕ) → Numbers → (counts : ℕ → ℕ) → (e tail gone i j : ℕ) → Type 0
+IsSwitchInBudget power budget g l w n counts e tail gone i j =
+    (rest g l n e + tail - gone) * period power j + switch_time power i j + budget i ≤ (rest g l n e + tail - gone + (slack g l n (cost g n w) e + left_behind g l n counts e)) * period power i + budget j
 
 -- a lower level that an edge within a function may lead to
 pub record IsChosenWithin (power : PowerModel) (budget : ℕ → ℕ) (g : Graph) (l : Loops) (w : ℕ → ℕ) (n : Numbers) (least : Charged) (counts : ℕ → ℕ) (e tail i j : ℕ) : Type 0 where
@@ -32,7 +32,9 @@ pub record IsChosenWithin (power : PowerModel) (budget : ℕ → ℕ) (g : Graph
   pub inside : g.callee e ≡ None
   pub target : ℕ
   pub leads : g.target e ≡ Some target
-  pub in_budget : IsSwitchInBudget power budget g l w n counts e tail i j
+  pub gone : ℕ
+  pub is_gone : gone ≤ taken_behind g l n counts e
+  pub in_budget : IsSwitchInBudget power budget g l w n counts e tail gone i j
   pub paying : IsPaying power g l least e tail i j
 
 -- The marks on each edge store the level that was there, or one that may be chosen, as long as the counters of the loops round the edge's source hold their counts, within the

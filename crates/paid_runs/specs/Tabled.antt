@@ -2,20 +2,20 @@
 -- behind a loop counts on the turns that its counts have left at least. `is_of c k` tells that the window's word c counts loop k.
 use Rattle.std.specs.Prelude.{◌≡◌, ◌⊎◌, ℕ, ◌+◌, ◌/◌, ◌^◌, ◌<◌, Bool, true, List, [], ◌∷◌, length, slice_index, slice_get, Some, None, option_map}
 use Rattle.scale_base.specs.declared.fragments.Fragment.{Fragment}
-use Rattle.scale_base.specs.declared.fragments.Fragment.TheVariants.{Switch, Exit, Reset, Count}
+use Rattle.scale_base.specs.declared.fragments.Fragment.TheVariants.{Switch, Exit, Reset, Count, Lowest, Tally}
 use Rattle.scale_base.specs.declared.stepping.Class.{Class}
 use Rattle.power_model.specs.Numbers.{PowerModel}
 use Rattle.power_model.specs.Switches.{costs_of}
-use Rattle.cost_theory.specs.Graph.{Graph, Loops, leaves}
+use Rattle.cost_theory.specs.Graph.{Graph, Loops, is_back, leaves}
 use Rattle.cost_theory.specs.Worst.{Numbers, cost, slack, rest}
 use Rattle.cost_theory.specs.Reached.{Code, edge_at}
 use Rattle.cycle_laws.specs.Charged.{Charged, to_end_after}
 use Rattle.code_text.specs.Text.{Text}
 use Rattle.code_text.specs.EdgeCosts.{edge_class}
 use Rattle.code_text.specs.TextGraph.{text_graph}
-use Rattle.level_tables.specs.Tables.{EdgeNumbers, meets_both, at_row}
+use Rattle.level_tables.specs.Tables.{EdgeNumbers, meets_both, at_row, behind_turns}
 use Rattle.stub_writer.specs.Stubs.{Site}
-use Rattle.stored_runs.specs.Meaning.{four_bits}
+use Rattle.stored_runs.specs.Meaning.{four_bits, is_due}
 use Rattle.stored_runs.specs.Marks.{place_at, fragments_of_class, tail_cycles}
 use Rattle.paid_runs.specs.Timely.{weights_of}
 
@@ -45,11 +45,25 @@ pub record AreRowsBy (power : PowerModel) (meets : EdgeNumbers → ℕ → ℕ �
   pub enough : l.bound loop / 2 ^ shift < length rows
   pub entries : (j i : ℕ) → j < length rows → i < length power.levels → IsEntryBy meets (at_row (l.bound loop) (n.iteration loop) shift told j) i (four_bits (slice_index rows j) i)
 
+-- the lowest level is an entry of every level
+abbrev pub AreAllLowest : PowerModel → (EdgeNumbers → ℕ → ℕ → Bool) → EdgeNumbers → Type 0
+AreAllLowest power meets told = (i : ℕ) → i < length power.levels → IsEntryBy meets told i 0
+
+-- on a back edge of a loop that its counter counts, from each count on with which it stores
+pub record IsTallyBy (power : PowerModel) (meets : EdgeNumbers → ℕ → ℕ → Bool) (g : Graph) (l : Loops) (n : Numbers) (told : EdgeNumbers) (is_of : ℕ → ℕ → Bool) (e counter shift from : ℕ) : Type 0 where
+  pub loop : ℕ
+  pub low : loop < l.loops
+  pub counts : is_of counter loop ≡ true
+  pub back : is_back g l loop e ≡ true
+  pub lowest : (count : ℕ) → count ≤ l.bound loop → is_due shift from count ≡ true → AreAllLowest power meets (behind_turns (count + 1) (n.iteration loop) told)
+
 abbrev pub IsTableBy : PowerModel → (EdgeNumbers → ℕ → ℕ → Bool) → Graph → Loops → Numbers → EdgeNumbers → (ℕ → ℕ → Bool) → ℕ → Fragment → Type 0
 IsTableBy power meets g l n told is_of e (Switch table) = (i : ℕ) → i < length power.levels → IsEntryBy meets told i (four_bits table i)
 IsTableBy power meets g l n told is_of e (Exit counter shift rows) = AreRowsBy power meets g l n told is_of e counter shift rows
 IsTableBy power meets g l n told is_of e (Reset counter) = ⊥
 IsTableBy power meets g l n told is_of e (Count counter) = ⊥
+IsTableBy power meets g l n told is_of e (Lowest down) = down ≡ true → AreAllLowest power meets told
+IsTableBy power meets g l n told is_of e (Tally counter shift from) = IsTallyBy power meets g l n told is_of e counter shift from
 
 -- an edge within a function, with the table of its first fragment
 pub record IsEdgeWithTable (power : PowerModel) (meets : EdgeNumbers → ℕ → ℕ → Bool) (g : Graph) (l : Loops) (w : ℕ → ℕ) (n : Numbers) (least : Charged) (is_of : ℕ → ℕ → Bool) (e tail : ℕ) (f : Fragment) : Type 0 where
@@ -65,6 +79,8 @@ IsEdgeTabledBy power meets g l w n least is_of e (Switch table ∷ fs) = IsEdgeW
 IsEdgeTabledBy power meets g l w n least is_of e (Exit counter shift rows ∷ fs) = IsEdgeWithTable power meets g l w n least is_of e (tail_cycles (costs_of power) (Exit counter shift rows ∷ fs)) (Exit counter shift rows)
 IsEdgeTabledBy power meets g l w n least is_of e (Reset counter ∷ fs) = Unit {0}
 IsEdgeTabledBy power meets g l w n least is_of e (Count counter ∷ fs) = Unit {0}
+IsEdgeTabledBy power meets g l w n least is_of e (Lowest down ∷ fs) = IsEdgeWithTable power meets g l w n least is_of e (tail_cycles (costs_of power) (Lowest down ∷ fs)) (Lowest down)
+IsEdgeTabledBy power meets g l w n least is_of e (Tally counter shift from ∷ fs) = IsEdgeWithTable power meets g l w n least is_of e (tail_cycles (costs_of power) (Tally counter shift from ∷ fs)) (Tally counter shift from)
 
 abbrev pub AreTabledBy : PowerModel → (EdgeNumbers → ℕ → ℕ → Bool) → Text → Code → Loops → List Site → (ℕ → ℕ → Bool) → Numbers → Charged → Type 0
 AreTabledBy power meets t code l sites is_of n least = (e : ℕ) (class : Class) → e < (text_graph t code).edges → edge_class t (slice_get code.edges e) ≡ Some class

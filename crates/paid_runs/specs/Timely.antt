@@ -5,8 +5,8 @@ use Rattle.scale_base.specs.declared.stepping.Class.{Class}
 use Rattle.scale_base.specs.declared.stepping.Stepped.{Stepped}
 use Rattle.power_model.specs.Numbers.{PowerModel}
 use Rattle.power_model.specs.Price.{price, switch_time, switch_energy}
-use Rattle.cost_theory.specs.Graph.{Graph, Loops, AreWithin}
-use Rattle.cost_theory.specs.Worst.{Numbers, cost, slack, rest, left_behind}
+use Rattle.cost_theory.specs.Graph.{Graph, Loops, AreWithin, count_step}
+use Rattle.cost_theory.specs.Worst.{Numbers, cost, slack, rest, left_behind, turns_taken}
 use Rattle.cost_theory.specs.Steps as steps
 use Rattle.cost_theory.specs.Reached.{Code, edge_at}
 use Rattle.cycle_laws.specs.Charged.{Charged, to_end_after}
@@ -22,11 +22,15 @@ use Rattle.power_model.specs.Switches.{period, energy, costs_of, NeverRises, swi
 abbrev pub weights_of : PowerModel → Text → Code → List Site → ℕ → ℕ
 weights_of power t code sites = stored_site_weights t code (costs_of power) sites
 
--- From level i to level j on an edge with so many cycles behind the store: what is left at most takes no more time at j, with the switch, than what was left
--- at least before would at i.
-abbrev pub IsSwitchInTime : PowerModel → Graph → Loops → (ℕ → ℕ) → Numbers → (counts : ℕ → ℕ) → (e tail i j : ℕ) → Type 0
-IsSwitchInTime power g l w n counts e tail i j =
-    (rest g l n e + tail) * period power j + switch_time power i j ≤ (rest g l n e + tail + (slack g l n (cost g n w) e + left_behind g l n counts e)) * period power i
+-- what the turns have taken, behind an edge, of the loops round its target
+abbrev pub taken_behind : Graph → Loops → Numbers → (counts : ℕ → ℕ) → ℕ → ℕ
+taken_behind g l n counts e = turns_taken l n (count_step l (Some (g.source e)) (g.target e) counts) (g.target e)
+
+-- From level i to level j on an edge with so many cycles behind the store, where `gone` of its rest is known to be gone: what is left at most takes no more time at j, with
+-- the switch, than what was left at least before would at i.
+abbrev pub IsSwitchInTime : PowerModel → Graph → Loops → (ℕ → ℕ) → Numbers → (counts : ℕ → ℕ) → (e tail gone i j : ℕ) → Type 0
+IsSwitchInTime power g l w n counts e tail gone i j =
+    (rest g l n e + tail - gone) * period power j + switch_time power i j ≤ (rest g l n e + tail - gone + (slack g l n (cost g n w) e + left_behind g l n counts e)) * period power i
 
 -- The least cycles behind the store, to an end of the run behind the edge, pay for the switch.
 abbrev pub IsPaying : PowerModel → Graph → Loops → Charged → (e tail i j : ℕ) → Type 0
@@ -38,7 +42,9 @@ pub record IsChosen (power : PowerModel) (g : Graph) (l : Loops) (w : ℕ → �
   pub inside : g.callee e ≡ None
   pub target : ℕ
   pub leads : g.target e ≡ Some target
-  pub in_time : IsSwitchInTime power g l w n counts e tail i j
+  pub gone : ℕ
+  pub is_gone : gone ≤ taken_behind g l n counts e
+  pub in_time : IsSwitchInTime power g l w n counts e tail gone i j
   pub paying : IsPaying power g l least e tail i j
 
 -- The marks on each edge store the level that was there, or one that may be chosen, as long as the counters of the loops round the edge's source hold

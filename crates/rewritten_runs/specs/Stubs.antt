@@ -99,6 +99,9 @@ fragment_by power test l counted n told (marks.Exit counter) =
     fragments.Exit counter (tables.shift_of (l.bound (loop_of counted counter))) (tables.all_rows_by power test (l.bound (loop_of counted counter)) (n.iteration (loop_of counted counter)) told)
 fragment_by power test l counted n told (marks.Reset counter) = fragments.Reset counter
 fragment_by power test l counted n told (marks.Count counter) = fragments.Count counter
+fragment_by power test l counted n told marks.Lowest = fragments.Lowest (tables.goes_lowest power test told)
+fragment_by power test l counted n told (marks.Tally counter) =
+    fragments.Tally counter (tables.tally_shift (l.bound (loop_of counted counter))) (tables.tally_from power test (l.bound (loop_of counted counter)) (n.iteration (loop_of counted counter)) told)
 
 abbrev pub fragment_of : PowerModel → Loops → List ℕ → Numbers → tables.EdgeNumbers → Mark → Fragment
 fragment_of power l counted n told mark = fragment_by power (tables.meets_both power) l counted n told mark
@@ -129,18 +132,24 @@ is_switch marks.Switch = true
 is_switch (marks.Exit counter) = false
 is_switch (marks.Reset counter) = false
 is_switch (marks.Count counter) = false
+is_switch marks.Lowest = true
+is_switch (marks.Tally counter) = true
 
 abbrev pub is_exit_mark : Mark → Bool
 is_exit_mark marks.Switch = false
 is_exit_mark (marks.Exit counter) = true
 is_exit_mark (marks.Reset counter) = false
 is_exit_mark (marks.Count counter) = false
+is_exit_mark marks.Lowest = false
+is_exit_mark (marks.Tally counter) = false
 
 abbrev pub is_count : Mark → Bool
 is_count marks.Switch = false
 is_count (marks.Exit counter) = false
 is_count (marks.Reset counter) = false
 is_count (marks.Count counter) = true
+is_count marks.Lowest = false
+is_count (marks.Tally counter) = true
 
 -- how many edges have a mark of a kind
 abbrev pub edges_with : (Mark → Bool) → FlowGraph → (ℕ → List Mark) → ℕ

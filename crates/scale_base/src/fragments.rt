@@ -15,6 +15,10 @@ pub enum Mark {
     Reset(u16),
     /// A counted loop takes a back edge.
     Count(u16),
+    /// The lowest level is chosen.
+    Lowest,
+    /// A counted loop takes a back edge, and from a count on the lowest level is chosen.
+    Tally(u16),
 }
 
 /// The words of the rows of a table: `len` of them, and behind them zeros. Contracts see their list.
@@ -82,4 +86,8 @@ pub enum Fragment {
     Reset { counter: u16 },
     /// Adds one to the counter.
     Count { counter: u16 },
+    /// Stores level 0 at the speed port where `down`, and else nothing there.
+    Lowest { down: bool },
+    /// Adds one to the counter, and where that then is at least `from` when it is shifted to the right, stores level 0 at the speed port.
+    Tally { counter: u16, shift: u8, from: u16 },
 }

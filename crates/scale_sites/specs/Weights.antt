@@ -3,7 +3,7 @@ use Rattle.std.specs.Prelude.{◌≡◌, ℕ, ◌+◌, ◌*◌, Bool, true, fals
 use Rattle.power_model.specs.declared.power.Costs.{Costs}
 use Rattle.cost_theory.specs.Graph.{Graph, any_below}
 use Rattle.scale_base.specs.declared.fragments.Mark.{Mark}
-use Rattle.scale_base.specs.declared.fragments.Mark.TheVariants.{Switch, Exit, Reset, Count}
+use Rattle.scale_base.specs.declared.fragments.Mark.TheVariants.{Switch, Exit, Reset, Count, Lowest, Tally}
 
 -- the cost of so many stores, loads and alu instructions
 abbrev pub bill : Costs → ℕ → ℕ → ℕ → ℕ
@@ -15,6 +15,8 @@ mark_cost costs Switch = bill costs 3 3 5
 mark_cost costs (Exit k) = bill costs 4 5 7
 mark_cost costs (Reset k) = bill costs 1 0 0
 mark_cost costs (Count k) = bill costs 2 2 1
+mark_cost costs Lowest = bill costs 1 0 0
+mark_cost costs (Tally k) = bill costs 3 2 5
 
 abbrev pub marks_cost : Costs → List Mark → ℕ
 marks_cost costs [] = 0
@@ -27,14 +29,29 @@ switches (Switch ∷ ms) = true
 switches (Exit k ∷ ms) = true
 switches (Reset k ∷ ms) = false
 switches (Count k ∷ ms) = false
+switches (Lowest ∷ ms) = true
+switches (Tally k ∷ ms) = true
 
 abbrev pub behind_first : List Mark → List Mark
 behind_first [] = []
 behind_first (m ∷ ms) = ms
 
--- the cycles behind the port store: two loads, the marks that follow, and the closing jump
+-- the cycles of a fragment behind its port store, where it has one
+abbrev pub mark_tail : Costs → Mark → ℕ
+mark_tail costs Switch = 2 * costs.load
+mark_tail costs (Exit k) = 2 * costs.load
+mark_tail costs (Reset k) = 2 * costs.load
+mark_tail costs (Count k) = 2 * costs.load
+mark_tail costs Lowest = 0
+mark_tail costs (Tally k) = costs.load
+
+abbrev pub first_tail : Costs → List Mark → ℕ
+first_tail costs [] = 2 * costs.load
+first_tail costs (m ∷ ms) = mark_tail costs m
+
+-- the cycles behind the port store: those of the first mark, the marks that follow, and the closing jump
 abbrev pub tail_of : Costs → List Mark → ℕ
-tail_of costs ms = 2 * costs.load + marks_cost costs (behind_first ms) + costs.jump
+tail_of costs ms = first_tail costs ms + marks_cost costs (behind_first ms) + costs.jump
 
 -- the cycles of a switching fragment up to its port store
 abbrev pub before_store : Costs → Mark → ℕ
@@ -42,6 +59,8 @@ before_store costs Switch = bill costs 3 1 5
 before_store costs (Exit k) = bill costs 4 3 7
 before_store costs (Reset k) = 0
 before_store costs (Count k) = 0
+before_store costs Lowest = bill costs 1 0 0
+before_store costs (Tally k) = bill costs 3 1 5
 
 abbrev pub first_store : Costs → List Mark → ℕ
 first_store costs [] = 0

@@ -1,15 +1,15 @@
 -- What the marks on an edge do: the cycles that they add to it, the level that they choose, and the shadow counters behind them.
 -- An edge is told by a step over it: by its address and its class, since of a branch one edge is taken and one is not.
-use Rattle.std.specs.Prelude.{ℕ, ◌+◌, ◌*◌, ◌/◌, ◌^◌, ◌==◌, List, [], ◌∷◌, fold, slice_index, Option, Some, None, unwrap_or, if◌then◌else◌}
+use Rattle.std.specs.Prelude.{ℕ, cond, ◌+◌, ◌*◌, ◌/◌, ◌^◌, ◌==◌, List, [], ◌∷◌, fold, slice_index, Option, Some, None, unwrap_or, if◌then◌else◌}
 use Rattle.std.specs.List.{sum_by}
 use Rattle.scale_base.specs.declared.fragments.Fragment.{Fragment}
-use Rattle.scale_base.specs.declared.fragments.Fragment.TheVariants.{Switch, Exit, Reset, Count}
+use Rattle.scale_base.specs.declared.fragments.Fragment.TheVariants.{Switch, Exit, Reset, Count, Lowest, Tally}
 use Rattle.scale_base.specs.declared.stepping.Class.{Class}
 use Rattle.scale_base.specs.declared.stepping.Class.TheVariants as classes
 use Rattle.scale_base.specs.declared.stepping.Stepped.{Stepped}
 use Rattle.stub_writer.specs.Stubs.{Site, Way, Place, Forked, Straight}
-use Rattle.stored_runs.specs.Meaning.{four_bits}
-use Rattle.stored_runs.specs.Cycles.{fragment_cost}
+use Rattle.stored_runs.specs.Meaning.{four_bits, is_due}
+use Rattle.stored_runs.specs.Cycles.{fragment_cost, fragment_tail}
 
 -- ---- which fragments stand on an edge
 
@@ -47,10 +47,10 @@ extra_cycles costs sites x = jumps_by (place_at sites x.pc) * costs classes.Jump
 abbrev pub stored_cycles : (Class → ℕ) → List Site → Stepped → ℕ
 stored_cycles costs sites x = costs x.class + extra_cycles costs sites x
 
--- the cycles of an edge behind its store at the port: two loads, the fragments that follow, and the jump back
+-- the cycles of an edge behind the store of its first fragment at the port: the rest of that, the fragments that follow, and the jump back
 abbrev pub tail_cycles : (Class → ℕ) → List Fragment → ℕ
 tail_cycles costs [] = 0
-tail_cycles costs (f ∷ fs) = 2 * costs classes.Load + sum_by (fragment_cost costs) fs + costs classes.Jump
+tail_cycles costs (f ∷ fs) = fragment_tail costs f + sum_by (fragment_cost costs) fs + costs classes.Jump
 
 -- ---- the level and the shadow counters
 
@@ -67,6 +67,8 @@ shadow_first level = record { level = level; counters = λ k. 0 }
 abbrev pub level_stored : List Fragment → Shadow → Option ℕ
 level_stored (Switch word ∷ fs) h = Some (four_bits word h.level)
 level_stored (Exit counter shift rows ∷ fs) h = Some (four_bits (slice_index rows (h.counters counter / 2 ^ shift)) h.level)
+level_stored (Lowest down ∷ fs) h = cond down (Some 0) None
+level_stored (Tally counter shift from ∷ fs) h = cond (is_due shift from (h.counters counter)) (Some 0) None
 level_stored fs h = None
 
 -- the counters behind one fragment
@@ -75,6 +77,8 @@ counters_after (Switch word) c k = c k
 counters_after (Exit counter shift rows) c k = if k == counter then 0 else c k
 counters_after (Reset counter) c k = if k == counter then 0 else c k
 counters_after (Count counter) c k = if k == counter then c k + 1 else c k
+counters_after (Lowest down) c k = c k
+counters_after (Tally counter shift from) c k = if k == counter then c k + 1 else c k
 
 abbrev pub counters_behind : List Fragment → (ℕ → ℕ) → ℕ → ℕ
 counters_behind [] c = c

@@ -1,5 +1,5 @@
 -- Code that stands in the keyed segment, steps along it, and what each fragment does.
-use Rattle.std.specs.Prelude.{◌≡◌, ℕ, zero, suc, ◌+◌, ◌*◌, ◌/◌, ◌%◌, ◌^◌, ◌<◌, ◌≤◌, true, false, List, [], ◌∷◌, length, slice_index, slice_set, Option, Some, None}
+use Rattle.std.specs.Prelude.{◌≡◌, Bool, nat_le, ℕ, zero, suc, ◌+◌, ◌*◌, ◌/◌, ◌%◌, ◌^◌, ◌<◌, ◌≤◌, true, false, List, [], ◌∷◌, length, slice_index, slice_set, Option, Some, None}
 use Rattle.scale_base.specs.declared.instruction.Instr.{Instr}
 use Rattle.scale_base.specs.declared.stepping.Stepped.{Stepped}
 use Rattle.scale_base.specs.Class.{class_of}
@@ -60,6 +60,10 @@ pub record IsSound (env : Setting) (s : State) : Type 0 where
 -- four bits of a word, lowest first
 abbrev pub four_bits : (word k : ℕ) → ℕ
 four_bits word k = word / 2 ^ (4 * k) % 16
+
+-- whether a Tally that finds such a count stores at the port: it counts one more
+abbrev pub is_due : (shift from count : ℕ) → Bool
+is_due shift from count = nat_le from ((count + 1) / 2 ^ shift)
 
 -- the state behind the code, with other words of the window
 abbrev pub behind : State → ℕ → List ℕ → State

@@ -1,7 +1,7 @@
 -- An image and one of which some instructions are patched: each leads to its stub, which may stand anywhere in the keyed segment.
 use Rattle.std.specs.Prelude.{◌≡◌, ℕ, ◌/◌, ◌%◌, ◌^◌, ◌<◌, ◌≤◌, true, false, List, length, All, Some, None, Ok}
 use Rattle.scale_base.specs.declared.fragments.Fragment.{Fragment}
-use Rattle.scale_base.specs.declared.fragments.Fragment.TheVariants.{Switch, Exit, Reset, Count}
+use Rattle.scale_base.specs.declared.fragments.Fragment.TheVariants.{Switch, Exit, Reset, Count, Lowest, Tally}
 use Rattle.scale_base.specs.Image.{Image, image_of, loaded_byte, is_word_address}
 use Rattle.scale_base.specs.Layout.{layout_of, in_text, is_keyed}
 use Rattle.scale_base.specs.Run.{setting_of, starting_level}
@@ -19,6 +19,8 @@ IsSafeFragment levels limits (Switch word) = IsTable levels word
 IsSafeFragment levels limits (Exit counter shift rows) = IsShadow counter × (shift < 32) × (limits counter / 2 ^ shift < length rows) × All (IsTable levels) rows
 IsSafeFragment levels limits (Reset counter) = IsShadow counter
 IsSafeFragment levels limits (Count counter) = IsShadow counter
+IsSafeFragment levels limits (Lowest down) = Unit {0}
+IsSafeFragment levels limits (Tally counter shift from) = IsShadow counter × (shift < 32) × (1 ≤ from) × (from < 2048) × (limits counter + 1 < 2 ^ 31)
 
 -- the fragments of an edge, and the address to which it leads
 pub record IsSafeEdge (levels : ℕ) (limits : ℕ → ℕ) (w : Way) : Type 0 where

@@ -1,7 +1,7 @@
 -- An image and the one that is stored of it with stubs, and the runs of the original that the stored one follows.
 use Rattle.std.specs.Prelude.{◌≡◌, ℕ, ℤ, ◌+◌, ◌/◌, ◌%◌, ◌^◌, ◌<◌, ◌≤◌, true, List, [], ◌∷◌, length, All, Some, None, Ok}
 use Rattle.scale_base.specs.declared.fragments.Fragment.{Fragment}
-use Rattle.scale_base.specs.declared.fragments.Fragment.TheVariants.{Switch, Exit, Reset, Count}
+use Rattle.scale_base.specs.declared.fragments.Fragment.TheVariants.{Switch, Exit, Reset, Count, Lowest, Tally}
 use Rattle.scale_base.specs.declared.instruction.Instr.TheVariants as instr
 use Rattle.scale_base.specs.Image.{Image, image_of, loaded_byte, is_word_address}
 use Rattle.scale_base.specs.Layout.{layout_of}
@@ -30,6 +30,8 @@ IsSafe levels limits (Switch word) = IsTable levels word
 IsSafe levels limits (Exit counter shift rows) = IsShadow counter × (shift < 32) × (length rows ≤ 16) × (limits counter / 2 ^ shift < length rows) × All (IsTable levels) rows
 IsSafe levels limits (Reset counter) = IsShadow counter
 IsSafe levels limits (Count counter) = IsShadow counter
+IsSafe levels limits (Lowest down) = Unit {0}
+IsSafe levels limits (Tally counter shift from) = IsShadow counter × (shift < 32) × (1 ≤ from) × (from < 2048) × (limits counter + 1 < 2 ^ 31)
 
 -- a fragment that stores nothing at the port
 abbrev pub IsQuiet : Fragment → Type 0
@@ -37,6 +39,8 @@ IsQuiet (Switch word) = ⊥
 IsQuiet (Exit counter shift rows) = ⊥
 IsQuiet (Reset counter) = Unit {0}
 IsQuiet (Count counter) = Unit {0}
+IsQuiet (Lowest down) = ⊥
+IsQuiet (Tally counter shift from) = ⊥
 
 -- at most the first one stores at the port
 abbrev pub AreOrdered : List Fragment → Type 0

@@ -1,15 +1,15 @@
 -- What a list of fragments, a way and a stub do: the window behind them, and the steps.
-use Rattle.std.specs.Prelude.{◌≡◌, ℕ, ◌+◌, ◌*◌, ◌/◌, ◌%◌, ◌^◌, ◌<◌, true, List, [], ◌∷◌, ◌++◌, length, slice_index, slice_set, None}
+use Rattle.std.specs.Prelude.{◌≡◌, ℕ, cond, ◌+◌, ◌*◌, ◌/◌, ◌%◌, ◌^◌, ◌<◌, ◌≤◌, true, List, [], ◌∷◌, ◌++◌, length, slice_index, slice_set, None}
 use Rattle.scale_base.specs.declared.stepping.Stepped.{Stepped}
 use Rattle.scale_base.specs.declared.stepping.Class.{Class}
 use Rattle.scale_base.specs.declared.stepping.Class.TheVariants as classes
 use Rattle.scale_base.specs.declared.stepping.Move.TheVariants as moves
 use Rattle.scale_base.specs.State.{Setting, State, reg, word_at}
 use Rattle.scale_base.specs.declared.fragments.Fragment.{Fragment}
-use Rattle.scale_base.specs.declared.fragments.Fragment.TheVariants.{Switch, Exit, Reset, Count}
-use Rattle.stub_writer.specs.Fragments.{t0, t1, port, code_len, rows_len, switch_code, exit_code, count_code, reset_code}
+use Rattle.scale_base.specs.declared.fragments.Fragment.TheVariants.{Switch, Exit, Reset, Count, Lowest, Tally}
+use Rattle.stub_writer.specs.Fragments.{t0, t1, port, code_len, rows_len, switch_code, exit_code, count_code, reset_code, lowest_code, tally_code}
 use Rattle.stub_writer.specs.Stubs.{Way, jump_at, taken_at, way_rows}
-use Rattle.stored_runs.specs.Meaning.{along, along_storing, four_bits, IsRowAt, IsCounter}
+use Rattle.stored_runs.specs.Meaning.{along, along_storing, four_bits, is_due, IsRowAt, IsCounter}
 
 -- the row that an Exit reads
 abbrev pub row_at : (bytes : ℕ → ℕ) (table counter shift : ℕ) → List ℕ → ℕ
@@ -22,6 +22,8 @@ saved_in regs w = slice_set (slice_set w 0 (reg regs t0)) 1 (reg regs t1)
 abbrev pub new_level : (bytes : ℕ → ℕ) (table : ℕ) → Fragment → List ℕ → ℕ
 new_level bytes table (Switch word) w = four_bits word (slice_index w port)
 new_level bytes table (Exit counter shift rows) w = four_bits (row_at bytes table counter shift w) (slice_index w port)
+new_level bytes table (Lowest down) w = cond down 0 (slice_index w port)
+new_level bytes table (Tally counter shift from) w = cond (is_due shift from (slice_index w counter)) 0 (slice_index w port)
 new_level bytes table f w = slice_index w port
 
 abbrev pub window_behind : (bytes : ℕ → ℕ) (regs : List ℕ) (table : ℕ) → Fragment → List ℕ → List ℕ
@@ -31,6 +33,9 @@ window_behind bytes regs table (Exit counter shift rows) w =
 window_behind bytes regs table (Reset counter) w = slice_set w counter 0
 window_behind bytes regs table (Count counter) w =
     slice_set (slice_set w 0 (reg regs t0)) counter ((slice_index w counter + 1) % 2 ^ 32)
+window_behind bytes regs table (Lowest down) w = slice_set w (cond down port 1) 0
+window_behind bytes regs table (Tally counter shift from) w =
+    slice_set (slice_set (slice_set w 0 (reg regs t0)) counter ((slice_index w counter + 1) % 2 ^ 32)) (cond (is_due shift from (slice_index w counter)) port 1) 0
 
 abbrev pub fragment_steps : (bytes : ℕ → ℕ) (table at : ℕ) → Fragment → List ℕ → List Stepped
 fragment_steps bytes table at (Switch word) w = along_storing 8 (four_bits word (slice_index w port)) at (switch_code word)
@@ -38,6 +43,9 @@ fragment_steps bytes table at (Exit counter shift rows) w =
     along_storing 13 (four_bits (row_at bytes table counter shift w) (slice_index w port)) at (exit_code counter shift (table % 2 ^ 32))
 fragment_steps bytes table at (Reset counter) w = along at (reset_code counter)
 fragment_steps bytes table at (Count counter) w = along at (count_code counter)
+fragment_steps bytes table at (Lowest down) w = cond down (along_storing 0 0 at (lowest_code down)) (along at (lowest_code down))
+fragment_steps bytes table at (Tally counter shift from) w =
+    cond (is_due shift from (slice_index w counter)) (along_storing 8 0 at (tally_code counter shift from)) (along at (tally_code counter shift from))
 
 -- what is asked of a fragment: its counter is one, its row is there, and what it stores is a level
 abbrev pub Fits : Setting → (bytes : ℕ → ℕ) (table at : ℕ) → Fragment → List ℕ → Type 0
@@ -47,6 +55,8 @@ Fits env bytes table at (Exit counter shift rows) w =
     × (four_bits (row_at bytes table counter shift w) (slice_index w port) < env.levels)
 Fits env bytes table at (Reset counter) w = IsCounter counter
 Fits env bytes table at (Count counter) w = IsCounter counter
+Fits env bytes table at (Lowest down) w = Unit {0}
+Fits env bytes table at (Tally counter shift from) w = IsCounter counter × (shift < 32) × (1 ≤ from) × (from < 2048) × (slice_index w counter + 1 < 2 ^ 31)
 
 -- ---- the same of fragments one after another
 
