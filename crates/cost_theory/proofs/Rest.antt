@@ -1,5 +1,5 @@
 -- The rest of an edge is at most the worst cycles, and the cycles left after it are at most its rest.
-use Rattle.std.proofs.Common.{◌≡◌, ◌≢◌, ℕ, zero, suc, ◌+◌, ◌-◌, ◌<◌, ◌≤◌, Bool, true, false, not, ◌&&◌, List, [], ◌∷◌, ◌++◌, Option, Some, None, unwrap_or, refl, sym, ap, ◌∙◌, subst, arith, ⊎_elim, le_refl}
+use Rattle.std.proofs.Common.{◌≡◌, ◌≢◌, ℕ, zero, suc, ◌+◌, ◌-◌, ◌*◌, ◌<◌, ◌≤◌, Bool, true, false, not, ◌&&◌, List, [], ◌∷◌, ◌++◌, Option, Some, None, unwrap_or, refl, sym, ap, ◌∙◌, subst, arith, ⊎_elim, le_refl}
 use native.Mathlib.Decide.{ℕ_discrete}
 use Rattle.cost_theory.specs.Graph.{Graph, Loops, IsWalk, end_of, sum_below, only, is_round, is_header, enters, is_back, IsPlain, IsPlainPath, AreWithin, next_edge}
 use Rattle.cost_theory.specs.Worst.{Numbers, IsGreatestIfAny, cost, charged, AreNumbers, all_of, at_some, turns, turns_round, turns_taken, left_at, rest, IsReturningCall, context_of}

@@ -1,5 +1,5 @@
 -- The loops as lists, as the values of types see them.
-use Rattle.std.specs.Prelude.{ℕ, zero, suc, Bool, true, false, List, [], ◌∷◌, length, slice_index, nat_eq, Option}
+use Rattle.std.specs.Prelude.{ℕ, zero, suc, Bool, true, false, List, [], ◌∷◌, length, slice_index, nat_eq}
 use Rattle.cost_theory.specs.Graph.{Loops}
 
 -- by number of the loop: its header, its bound, and the addresses of its body. That it has to turn is not told here.
