@@ -30,6 +30,7 @@ fn paced(
             NO_LOOPS.as_bytes(),
             sites,
             true,
+            &[],
         )
         .ok()
         .ok_or("paced")?,
@@ -49,6 +50,7 @@ fn useful(alloc: Global, image: &[u8], deadline: u32, sites: &[SwitchSite]) -> R
         NO_LOOPS.as_bytes(),
         sites,
         true,
+        &[],
     );
     Ok(kept.ok().ok_or("useful")?.len())
 }
@@ -68,18 +70,22 @@ fn is_the_rewritten_image_where_the_worst_case_leaves_no_time(rt: HostRuntime) -
         SwitchSite {
             at: 0x20000,
             kind: EdgeKind::Jump,
+            lowest: false,
         },
         SwitchSite {
             at: 0x10010,
             kind: EdgeKind::Taken,
+            lowest: false,
         },
         SwitchSite {
             at: 0x10004,
             kind: EdgeKind::Next,
+            lowest: false,
         },
         SwitchSite {
             at: 0x10010,
             kind: EdgeKind::Taken,
+            lowest: false,
         },
     ];
     let (bytes, summary) = rewritten(alloc, &image, &machine, NO_LOOPS)?
@@ -104,6 +110,7 @@ fn lowers_the_level_of_a_straight_program(rt: HostRuntime) -> Result<(), Fail> {
     let jump = SwitchSite {
         at: 0x10020,
         kind: EdgeKind::Jump,
+        lowest: false,
     };
     let (bytes, numbers) = paced(alloc, &image, &machine, &[jump])?;
     assert_eq!(rt; (numbers.start, numbers.switch_edges), (1, 1));
@@ -120,10 +127,12 @@ fn keeps_the_sites_whose_switch_lowers_a_level(rt: HostRuntime) -> Result<(), Fa
         SwitchSite {
             at: 0x20000,
             kind: EdgeKind::Jump,
+            lowest: false,
         },
         SwitchSite {
             at: 0x10020,
             kind: EdgeKind::Jump,
+            lowest: false,
         },
     ];
     assert_eq!(rt; useful(alloc, &image, 500, &sites)?, 1);
