@@ -8,10 +8,11 @@ use paced_images::{SwitchSite, pace};
 use scale_base::NoMemory;
 use std::alloc::Global;
 
-/// What is proposed: edges with a switch, and whether the noted loops are counted.
+/// What is proposed: edges with a switch, the addresses of the headers of loops that are tallied, and whether the noted loops are counted.
 #[derive(Drop)]
 pub struct Proposal {
     pub sites: Vec<SwitchSite>,
+    pub tallied: Vec<u32>,
     pub counted: bool,
 }
 
@@ -32,7 +33,7 @@ pub fn trial_of(
         files.loops,
         &proposal.sites,
         proposal.counted,
-        &[],
+        &proposal.tallied,
     );
     trial_from(alloc, files, candidate, made)
 }

@@ -11,5 +11,7 @@ mod useful;
 mod wanted;
 
 pub use pacing::pace;
+pub use programs::{Program, program_of};
+pub use scaling::{Marked, Scaling};
 pub use useful::useful_sites;
 pub use wanted::SwitchSite;

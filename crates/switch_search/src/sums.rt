@@ -7,14 +7,14 @@ use std::alloc::Global;
 /// The weight of a run on an input. Other runs may have less.
 pub const WHOLE: u64 = 65536;
 
-/// Of the runs that go over an edge, in all and each by its weight: how many there are, their cycles behind the first pass, their passes, and
-/// their passes of the branch's other edge behind the first one.
+/// Of the runs that go over an edge, in all and each by its weight: how many there are, their cycles behind the first pass and from the first to the
+/// last one, and their passes.
 #[derive(Clone, Copy)]
 pub struct EdgeSum {
     pub runs: u128,
     pub behind: u128,
+    pub span: u128,
     pub passes: u128,
-    pub other_behind: u128,
 }
 
 impl EdgeSum {
@@ -23,8 +23,8 @@ impl EdgeSum {
         EdgeSum {
             runs: 0,
             behind: 0,
+            span: 0,
             passes: 0,
-            other_behind: 0,
         }
     }
 }
@@ -42,15 +42,14 @@ fn weighed(number: u64, weight: u64) -> u128 {
 }
 
 /// The sums with a run of so many cycles that goes over the edge.
-fn added(sum: EdgeSum, passed: Passed, other_behind: u64, cycles: u64, weight: u64) -> EdgeSum {
+fn added(sum: EdgeSum, passed: Passed, cycles: u64, weight: u64) -> EdgeSum {
     let behind = weighed(cycles.saturating_sub(passed.first), weight);
+    let span = weighed(passed.last.saturating_sub(passed.first), weight);
     EdgeSum {
         runs: sum.runs.saturating_add(u128::from(weight)),
         behind: sum.behind.saturating_add(behind),
+        span: sum.span.saturating_add(span),
         passes: sum.passes.saturating_add(weighed(passed.passes, weight)),
-        other_behind: sum
-            .other_behind
-            .saturating_add(weighed(other_behind, weight)),
     }
 }
 
@@ -69,8 +68,7 @@ impl Sums {
         for e in 0..self.edges.len() {
             let passed = trace.passed(e);
             if passed.passes > 0 {
-                let behind = trace.other_behind(e);
-                self.edges[e] = added(self.edges[e], passed, behind, cycles, weight);
+                self.edges[e] = added(self.edges[e], passed, cycles, weight);
             }
         }
     }
