@@ -29,8 +29,6 @@ impl fmt::Display for FragmentWords<'_> {
             }
             Fragment::Reset { .. } => write!(f, "reset {no}"),
             Fragment::Count { .. } => write!(f, "count {no}"),
-            Fragment::Lowest { .. } => write!(f, "lowest"),
-            Fragment::Tally { .. } => write!(f, "tally {no}"),
         }
     }
 }
