@@ -14,7 +14,7 @@ use Rattle.scale_base.specs.State.{Setting, State, reg, word_at}
 use Rattle.stub_writer.specs.Fragments.{port, hi, lo, switch_code, exit_code, count_code, reset_code, lowest_code, tally_code}
 use Rattle.stored_runs.specs.Meaning.{Stand, StepsLead, along, along_storing, behind, IsSound, IsRowAt, IsCounter, four_bits, is_due, level_in, row_place, switched, exited, counted, cleared}
 use Rattle.stored_runs.proofs.Points.{X5, X6, Save0, Save1, Counter, Port, Slot, slot_index, with_held, point_of, at_point, own_point, regs_same, window_at, window_same, write_slot}
-use Rattle.stored_runs.proofs.Moves.{Move, Put, Clear, Steer, Get, Work, Join, Upper, Row, aimed, IsWhole, moves, AllowsAll, steps_of, run_transitions}
+use Rattle.stored_runs.proofs.Moves.{Move, Put, Clear, Steer, Get, Work, Join, Upper, Row, IsWhole, moves, AllowsAll, steps_of, run_transitions}
 use Rattle.stored_runs.proofs.TallyWords.{steered_is}
 
 -- ---- arithmetic
