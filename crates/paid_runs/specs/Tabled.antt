@@ -1,6 +1,6 @@
 -- Tables of marked edges: each entry is the level itself, or a lower one that meets the tests of time and of payment for the numbers of its edge. A row of a table
 -- behind a loop counts on the turns that its counts have left at least. `is_of c k` tells that the window's word c counts loop k.
-use Rattle.std.specs.Prelude.{◌≡◌, ◌⊎◌, ℕ, ◌+◌, ◌/◌, ◌^◌, ◌<◌, Bool, true, List, [], ◌∷◌, length, slice_index, slice_get, Some, None, option_map}
+use Rattle.std.specs.Prelude.{◌≡◌, ◌⊎◌, ℕ, ◌+◌, ◌/◌, ◌^◌, ◌<◌, ◌≤◌, Bool, true, List, [], ◌∷◌, length, slice_index, slice_get, Some, None, option_map}
 use Rattle.scale_base.specs.declared.fragments.Fragment.{Fragment}
 use Rattle.scale_base.specs.declared.fragments.Fragment.TheVariants.{Switch, Exit, Reset, Count, Lowest, Tally}
 use Rattle.scale_base.specs.declared.stepping.Class.{Class}
