@@ -32,6 +32,7 @@ pub record IsChosenWithin (power : PowerModel) (budget : ℕ → ℕ) (g : Graph
   pub inside : g.callee e ≡ None
   pub target : ℕ
   pub leads : g.target e ≡ Some target
+  -- so much of what is left at most has gone with the turns taken
   pub gone : ℕ
   pub is_gone : gone ≤ taken_behind g l n counts e
   pub in_budget : IsSwitchInBudget power budget g l w n counts e tail gone i j
