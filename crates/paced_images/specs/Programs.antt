@@ -14,16 +14,16 @@ use Rattle.paced_images.specs.Scalings.{IsMarked, IsScaled}
 use Rattle.paced_images.specs.Wanted.{notes_by}
 
 -- what the bytes of an image, of a machine file and of a loop file are, with the marks and the stubs of the program
-pub record IsProgramFrom (image machine loop_file : List ℕ) (sites : List SwitchSite) (counted : Bool) (tallied : List ℕ) (p : Program) : Type 0 where
+pub record IsProgramFrom (image machine loop_file : List ℕ) (sites : List SwitchSite) (counted : Bool) (tallied : List ℕ) (share : ℕ) (p : Program) : Type 0 where
   pub power_is : read_machine machine ≡ Ok p.power
   pub in_range : IsPowerModel p.power
   pub view_is : image_of image ≡ Ok p.view
   pub unscaled : unscaled p.view.keyed_segment ≡ Ok tt
   pub notes : List LoopNote
   pub notes_are : read_loops p.view loop_file ≡ Ok notes
-  pub marked : IsMarked p.power p.view (notes_by counted tallied notes) sites tallied p.marked
-  pub scaled : IsScaled p.power p.view (notes_by counted tallied notes) sites tallied p.scaling
+  pub marked : IsMarked p.power p.view (notes_by counted tallied notes) sites tallied share p.marked
+  pub scaled : IsScaled p.power p.view (notes_by counted tallied notes) sites tallied share p.scaling
 
-abbrev pub IsProgramFound : (image machine loop_file : List ℕ) (sites : List SwitchSite) (counted : Bool) (tallied : List ℕ) → Result Program Refusal → Type 0
-IsProgramFound image machine loop_file sites counted tallied (Ok p) = IsProgramFrom image machine loop_file sites counted tallied p
-IsProgramFound image machine loop_file sites counted tallied (Err refusal) = IsPaced image machine loop_file sites counted tallied (Err refusal)
+abbrev pub IsProgramFound : (image machine loop_file : List ℕ) (sites : List SwitchSite) (counted : Bool) (tallied : List ℕ) (share : ℕ) → Result Program Refusal → Type 0
+IsProgramFound image machine loop_file sites counted tallied share (Ok p) = IsProgramFrom image machine loop_file sites counted tallied share p
+IsProgramFound image machine loop_file sites counted tallied share (Err refusal) = IsPaced image machine loop_file sites counted tallied share (Err refusal)

@@ -39,7 +39,7 @@ pub record HasMarks (v : FlowGraph) (t : LoopView) (wanted : Wanted) (s : SitesV
 
 -- ---- the numbers
 
-pub record IsMarkedAt (power : PowerModel) (image : Image) (v : FlowGraph) (t : LoopView) (wanted : Wanted) (stored : Numbers) (least : Charged) (m : Marking) (start : ℕ) : Type 0 where
+pub record IsMarkedAt (power : PowerModel) (image : Image) (v : FlowGraph) (t : LoopView) (wanted : Wanted) (stored : Numbers) (least : Charged) (share : ℕ) (m : Marking) (start : ℕ) : Type 0 where
   pub stored_are : AreNumbers (graph v) (loops v t) (stored_weights power image v (marked_where v t wanted)) stored
   pub least_are : AreCharged (graph v) (loops v t) (stored_weights power image v (marked_where v t wanted)) least
   pub marks : HasMarks v t wanted m.sites
@@ -47,7 +47,7 @@ pub record IsMarkedAt (power : PowerModel) (image : Image) (v : FlowGraph) (t : 
   pub short : stored.worst 0 ≤ 281474976710656
   pub worst : slice_get m.worst.worst 0 ≡ Some (stored.worst 0)
   pub slow : slowest_of power (stored.worst 0) ≡ Some start
-  pub budgets : (i : ℕ) → budget_at m.budgets i ≡ paced_budget power start (stored.worst 0) i
+  pub budgets : (i : ℕ) → budget_at m.budgets i ≡ paced_budget power start (stored.worst 0) share i
 
 -- too many cycles under the stored weights, or too late
 pub record IsUnfitScaling (power : PowerModel) (image : Image) (v : FlowGraph) (t : LoopView) (wanted : Wanted) (stored : Numbers) (refusal : Refusal) : Type 0 where
@@ -55,9 +55,9 @@ pub record IsUnfitScaling (power : PowerModel) (image : Image) (v : FlowGraph) (
   pub why : ((281474976710656 < stored.worst 0) × (refusal ≡ TooLong)) ⊎
       ((stored.worst 0 ≤ 281474976710656) × (slowest_of power (stored.worst 0) ≡ None) × (refusal ≡ DeadlineMissed (time_at power (fastest power) (stored.worst 0)) power.deadline))
 
-abbrev pub IsMarkingFound : PowerModel → Image → FlowGraph → LoopView → Wanted → Result (Marking × ℕ) Refusal → Type 0
-IsMarkingFound power image v t wanted (Ok x) = (stored : Numbers) × (least : Charged) × IsMarkedAt power image v t wanted stored least x.0 x.1
-IsMarkingFound power image v t wanted (Err refusal) = (stored : Numbers) × IsUnfitScaling power image v t wanted stored refusal
+abbrev pub IsMarkingFound : PowerModel → Image → FlowGraph → LoopView → Wanted → (share : ℕ) → Result (Marking × ℕ) Refusal → Type 0
+IsMarkingFound power image v t wanted share (Ok x) = (stored : Numbers) × (least : Charged) × IsMarkedAt power image v t wanted stored least share x.0 x.1
+IsMarkingFound power image v t wanted share (Err refusal) = (stored : Numbers) × IsUnfitScaling power image v t wanted stored refusal
 
 -- ---- the stubs
 
@@ -88,7 +88,7 @@ IsExtraFound power v t wanted (Err refusal) = ⊥
 -- ---- together
 
 -- what is stored of the program of an image besides its file
-pub record IsScaled (power : PowerModel) (image : Image) (notes : List LoopNote) (sites : List SwitchSite) (tallied : List ℕ) (s : Scaling) : Type 0 where
+pub record IsScaled (power : PowerModel) (image : Image) (notes : List LoopNote) (sites : List SwitchSite) (tallied : List ℕ) (share : ℕ) (s : Scaling) : Type 0 where
   pub code : FlowGraph
   pub tree : LoopView
   pub stored : Numbers
@@ -97,23 +97,23 @@ pub record IsScaled (power : PowerModel) (image : Image) (notes : List LoopNote)
   pub weighed : IsWeighedWith power image notes code tree (marked_at code tree sites tallied) stored
   pub short : stored.worst 0 ≤ 281474976710656
   pub slow : slowest_of power (stored.worst 0) ≡ Some s.summary.start
-  pub stubs : HasStubsWith power (paced_test power s.summary.start (stored.worst 0)) image code tree (marked_at code tree sites tallied) stored extra least (map site_of s.stubs.items) s.base
+  pub stubs : HasStubsWith power (paced_test power s.summary.start (stored.worst 0) share) image code tree (marked_at code tree sites tallied) stored extra least (map site_of s.stubs.items) s.base
   pub near : out_of_reach s.base (map site_of s.stubs.items) ≡ None
   pub bytes : s.block.bytes.items ≡ block_bytes s.base (map site_of s.stubs.items)
   pub patches : s.block.patches.items ≡ patches_from s.base (map site_of s.stubs.items)
   pub summary : s.summary ≡ rewritten_summary power code (marked_at code tree sites tallied) s.summary.start (stored.worst 0) (extra.worst 0) (map site_of s.stubs.items)
 
-abbrev pub IsScalingFound : PowerModel → Image → List LoopNote → List SwitchSite → (tallied : List ℕ) → Result Scaling Refusal → Type 0
-IsScalingFound power image notes sites tallied (Ok s) = IsScaled power image notes sites tallied s
-IsScalingFound power image notes sites tallied (Err refusal) = IsPacedProgram power image notes sites tallied (Err refusal)
+abbrev pub IsScalingFound : PowerModel → Image → List LoopNote → List SwitchSite → (tallied : List ℕ) (share : ℕ) → Result Scaling Refusal → Type 0
+IsScalingFound power image notes sites tallied share (Ok s) = IsScaled power image notes sites tallied share s
+IsScalingFound power image notes sites tallied share (Err refusal) = IsPacedProgram power image notes sites tallied share (Err refusal)
 
 -- the graph and the loops of an image, whose counted loops can be counted, with its marking and its starting level
-pub record IsMarked (power : PowerModel) (image : Image) (notes : List LoopNote) (sites : List SwitchSite) (tallied : List ℕ) (m : Marked) : Type 0 where
+pub record IsMarked (power : PowerModel) (image : Image) (notes : List LoopNote) (sites : List SwitchSite) (tallied : List ℕ) (share : ℕ) (m : Marked) : Type 0 where
   pub code_is : IsGraphOf (text_of image) m.graph
   pub tree_is : IsTreeOf m.graph notes m.tree
   pub counters : AreCounters m.graph m.tree (Ok (counted_loops m.tree))
-  pub found : IsMarkingFound power image m.graph m.tree (wanted_of m.graph m.tree sites tallied) (Ok (m.marking, m.start))
+  pub found : IsMarkingFound power image m.graph m.tree (wanted_of m.graph m.tree sites tallied) share (Ok (m.marking, m.start))
 
-abbrev pub IsMarkedFound : PowerModel → Image → List LoopNote → List SwitchSite → (tallied : List ℕ) → Result Marked Refusal → Type 0
-IsMarkedFound power image notes sites tallied (Ok m) = IsMarked power image notes sites tallied m
-IsMarkedFound power image notes sites tallied (Err refusal) = IsPacedProgram power image notes sites tallied (Err refusal)
+abbrev pub IsMarkedFound : PowerModel → Image → List LoopNote → List SwitchSite → (tallied : List ℕ) (share : ℕ) → Result Marked Refusal → Type 0
+IsMarkedFound power image notes sites tallied share (Ok m) = IsMarked power image notes sites tallied share m
+IsMarkedFound power image notes sites tallied share (Err refusal) = IsPacedProgram power image notes sites tallied share (Err refusal)

@@ -78,7 +78,7 @@ AreKeptBy power m sites kept = Whichever power m.graph m.tree m.marking (λ imag
 -- ---- what the files give
 
 -- the sites that are of use, by the numbers of the program with switches on all of them
-pub record AreKept (image machine loop_file : List ℕ) (wanted : List SwitchSite) (counted : Bool) (tallied : List ℕ) (kept : List SwitchSite) : Type 0 where
+pub record AreKept (image machine loop_file : List ℕ) (wanted : List SwitchSite) (counted : Bool) (tallied : List ℕ) (share : ℕ) (kept : List SwitchSite) : Type 0 where
   pub power : PowerModel
   pub original : Image
   pub notes : List LoopNote
@@ -93,9 +93,9 @@ pub record AreKept (image machine loop_file : List ℕ) (wanted : List SwitchSit
   pub weighed : IsWeighedWith power original (notes_by counted tallied notes) code tree (marked_at code tree wanted tallied) stored
   pub least_are : AreCharged (graph code) (loops code tree) (stored_weights power original code (marked_at code tree wanted tallied)) least
   pub slow : slowest_of power (stored.worst 0) ≡ Some start
-  pub kept_are : kept ≡ filter (is_useful power (paced_test power start (stored.worst 0)) start original code tree (marked_at code tree wanted tallied) stored least) wanted
+  pub kept_are : kept ≡ filter (is_useful power (paced_test power start (stored.worst 0) share) start original code tree (marked_at code tree wanted tallied) stored least) wanted
 
 -- where `pace` gives an image of all sites, those of use; or what it refuses
-abbrev pub AreUseful : (image machine loop_file : List ℕ) (wanted : List SwitchSite) (counted : Bool) (tallied : List ℕ) → Result (List SwitchSite) Refusal → Type 0
-AreUseful image machine loop_file wanted counted tallied (Ok kept) = (given : List ℕ × Summary) × IsPaced image machine loop_file wanted counted tallied (Ok given) × AreKept image machine loop_file wanted counted tallied kept
-AreUseful image machine loop_file wanted counted tallied (Err refusal) = IsPaced image machine loop_file wanted counted tallied (Err refusal)
+abbrev pub AreUseful : (image machine loop_file : List ℕ) (wanted : List SwitchSite) (counted : Bool) (tallied : List ℕ) (share : ℕ) → Result (List SwitchSite) Refusal → Type 0
+AreUseful image machine loop_file wanted counted tallied share (Ok kept) = (given : List ℕ × Summary) × IsPaced image machine loop_file wanted counted tallied share (Ok given) × AreKept image machine loop_file wanted counted tallied share kept
+AreUseful image machine loop_file wanted counted tallied share (Err refusal) = IsPaced image machine loop_file wanted counted tallied share (Err refusal)

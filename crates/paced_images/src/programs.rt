@@ -32,15 +32,17 @@ pub fn program_of<'a>(
     sites: &[SwitchSite],
     counted: bool,
     tallied: &[u32],
+    share: u8,
 ) -> Result<Program<'a>, Stop>
-    ensures { AnswersBy (λ p. p) result (IsProgramFound image.now machine.now loops.now sites.now counted tallied.now) }
+    requires { share ≤ 4 }
+    ensures { AnswersBy (λ p. p) result (IsProgramFound image.now machine.now loops.now sites.now counted tallied.now share) }
 {
     let power = read_machine(alloc, machine)?;
     let view = read_image(alloc, image)?;
     check_unscaled(view.keyed())?;
     let notes = read_loops(alloc, loops, &view)?;
     let notes = notes_by(alloc, &notes, counted, tallied)?;
-    let marked = marked_of(alloc, &view, &power, &notes, sites, tallied)?;
+    let marked = marked_of(alloc, &view, &power, &notes, sites, tallied, share)?;
     let scaling = scaling_of(alloc, &view, &power, &marked)?;
     Ok(Program {
         power,

@@ -35,18 +35,32 @@ use std::alloc::Global;
 use stub_writer::{StubBlock, StubSite, block_len};
 use worst_cycles::worst;
 
-/// The time of the worst cycles at the starting level for that level, and the deadline for the others.
-fn budgets_of(power: &Power, start: u8, worst: u64) -> LevelBudgets
+/// The time of the worst cycles at the starting level for that level, the deadline for the lowest one, and `share` quarters of what lies between
+/// them for those between.
+fn budgets_of(power: &Power, start: u8, worst: u64, share: u8) -> LevelBudgets
     requires level { start < length power.now.levels }
     requires in_time { time_at power.now start worst ≤ power.now.deadline }
-    ensures { (i : ℕ) → budget_at result i ≡ paced_budget power.now start worst i }
+    requires share { share ≤ 4 }
+    ensures { (i : ℕ) → budget_at result i ≡ paced_budget power.now start worst share i }
 {
     let deadline = power.deadline;
+    let first = time_at(power, worst, start) as u64;
     LevelBudgets {
         start,
-        first: time_at(power, worst, start) as u64,
-        others: deadline,
+        first,
+        above: 0,
+        between: first + shared(deadline - first, share),
+        lowest: deadline,
     }
+}
+
+/// So many quarters of a time.
+fn shared(time: u64, share: u8) -> u64
+    requires { share ≤ 4 }
+    ensures share { result ≡ share * time / 4 }
+    ensures within { result ≤ time }
+{
+    (u128::from(time) * u128::from(share) / 4) as u64
 }
 
 /// The numbers of a program with these marks under its stored weights, if they are in time, with its starting level and its budgets.
@@ -57,17 +71,19 @@ pub fn marking_with(
     counters: CounterList,
     sites: Sites,
     power: &Power,
+    share: u8,
 ) -> Result<(Marking, u8), Stop>
     requires program { (image : Image) × (notes : List LoopNote) × IsGraphOf (text_of image) graph.now × IsTreeOf graph.now notes tree.now }
     requires counters { AreCounters graph.now tree.now (Ok counters) }
     requires marks { (wanted : Wanted) × scalings.HasMarks graph.now tree.now wanted sites }
-    ensures { (image : Image) (wanted : Wanted) → IsGraphOf (text_of image) graph.now → scalings.HasMarks graph.now tree.now wanted sites → AnswersBy (λ x. x) result (scalings.IsMarkingFound power.now image graph.now tree.now wanted) }
+    requires share { share ≤ 4 }
+    ensures { (image : Image) (wanted : Wanted) → IsGraphOf (text_of image) graph.now → scalings.HasMarks graph.now tree.now wanted sites → AnswersBy (λ x. x) result (scalings.IsMarkingFound power.now image graph.now tree.now wanted share) }
 {
     let weights = sites.stored_weights(alloc, graph, &power.costs)?;
     let worst = worst(alloc, graph, tree, &weights)?;
     let start = starting_level(power, worst.total())?;
     let least = least(alloc, graph, tree, &weights)?;
-    let budgets = budgets_of(power, start, worst.total());
+    let budgets = budgets_of(power, start, worst.total(), share);
     Ok((
         Marking {
             counters,
@@ -144,16 +160,18 @@ pub fn marked_of(
     notes: &LoopNotes,
     sites: &[SwitchSite],
     tallied: &[u32],
+    share: u8,
 ) -> Result<Marked, Stop>
     requires image { image_of view.now.file ≡ Ok view.now }
     requires power { IsPowerModel power.now }
-    ensures { AnswersBy (λ m. m) result (scalings.IsMarkedFound power.now view.now notes.now sites.now tallied.now) }
+    requires share { share ≤ 4 }
+    ensures { AnswersBy (λ m. m) result (scalings.IsMarkedFound power.now view.now notes.now sites.now tallied.now share) }
 {
     let graph = build_graph(alloc, view)?;
     let tree = build_loops(alloc, &graph, notes)?;
     let counters = counters(alloc, &graph, &tree)?;
     let marks = wanted_marks(alloc, &graph, &tree, &counters, sites, tallied)?;
-    let (marking, start) = marking_with(alloc, &graph, &tree, counters, marks, power)?;
+    let (marking, start) = marking_with(alloc, &graph, &tree, counters, marks, power, share)?;
     Ok(Marked {
         graph,
         tree,
@@ -171,8 +189,8 @@ pub fn scaling_of(
 ) -> Result<Scaling, Stop>
     requires image { image_of view.now.file ≡ Ok view.now }
     requires power { IsPowerModel power.now }
-    requires marked { (notes : List LoopNote) × (sites : List SwitchSite) × (tallied : List ℕ) × scalings.IsMarked power.now view.now notes sites tallied marked.now }
-    ensures { (notes : List LoopNote) (sites : List SwitchSite) (tallied : List ℕ) → scalings.IsMarked power.now view.now notes sites tallied marked.now → AnswersBy (λ s. s) result (scalings.IsScalingFound power.now view.now notes sites tallied) }
+    requires marked { (notes : List LoopNote) × (sites : List SwitchSite) × (tallied : List ℕ) × (share : ℕ) × scalings.IsMarked power.now view.now notes sites tallied share marked.now }
+    ensures { (notes : List LoopNote) (sites : List SwitchSite) (tallied : List ℕ) (share : ℕ) → scalings.IsMarked power.now view.now notes sites tallied share marked.now → AnswersBy (λ s. s) result (scalings.IsScalingFound power.now view.now notes sites tallied share) }
 {
     let graph = &marked.graph;
     let tree = &marked.tree;
@@ -211,7 +229,7 @@ pub fn stored_file(
     requires read { image_of view.now.file ≡ Ok view.now }
     requires file { length view.now.file ≤ 4194304 }
     requires no_key { view.now.keyed_segment ≡ None }
-    requires scaled { (power : PowerModel) × (notes : List LoopNote) × (sites : List SwitchSite) × (tallied : List ℕ) × IsPowerModel power × scalings.IsScaled power view.now notes sites tallied scaling.now }
+    requires scaled { (power : PowerModel) × (notes : List LoopNote) × (sites : List SwitchSite) × (tallied : List ℕ) × (share : ℕ) × IsPowerModel power × scalings.IsScaled power view.now notes sites tallied share scaling.now }
     ensures { IfOk result (λ out. out.items ≡ rewritten_file view.now (map site_of scaling.now.stubs.items) scaling.now.base scaling.now.summary.start) }
 {
     let block = &scaling.block;

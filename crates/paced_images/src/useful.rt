@@ -158,12 +158,14 @@ pub fn useful_sites(
     sites: &[SwitchSite],
     counted: bool,
     tallied: &[u32],
+    share: u8,
 ) -> Result<Vec<SwitchSite>, Stop>
     requires image { length image.now ≤ 4194304 }
     requires machine { length machine.now ≤ 1048576 }
     requires loops { length loops.now ≤ 1048576 }
-    ensures { AnswersBy (λ kept. kept.items) result (useful.AreUseful image.now machine.now loops.now sites.now counted tallied.now) }
+    requires share { share ≤ 4 }
+    ensures { AnswersBy (λ kept. kept.items) result (useful.AreUseful image.now machine.now loops.now sites.now counted tallied.now share) }
 {
-    let program = program_of(alloc, image, machine, loops, sites, counted, tallied)?;
+    let program = program_of(alloc, image, machine, loops, sites, counted, tallied, share)?;
     Ok(kept_sites(alloc, &program.power, &program.marked, sites)?)
 }
