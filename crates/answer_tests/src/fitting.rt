@@ -37,6 +37,8 @@ fn proposals_of(alloc: Global, sites: &[SwitchSite]) -> Result<Vec<Proposal>, Fa
         one.push(*site)?;
         proposals.push(Proposal {
             sites: one,
+            tallied: Vec::new(alloc),
+            share: 4,
             counted: true,
         })?;
     }

@@ -17,11 +17,13 @@ pub struct Sources<'a> {
     pub loops: &'a [u8],
 }
 
-/// Edges with a switch, and the addresses of the headers of loops that are tallied.
+/// Edges with a switch, the addresses of the headers of loops that are tallied, and the share of the lent time that levels between the starting and the
+/// lowest one get, in quarters.
 #[derive(Drop)]
 pub struct Proposal {
     pub sites: Vec<SwitchSite>,
     pub tallied: Vec<u32>,
+    pub share: u8,
 }
 
 /// What the candidates and the loops are.
@@ -129,7 +131,7 @@ impl<'a> Places<'a> {
                             sites.push(SwitchSite {
                                 at: edge.at,
                                 kind: edge.kind,
-                                lowest: set.lowest,
+                                lowest: set.form.lowest,
                             })?;
                         }
                     }
@@ -141,7 +143,11 @@ impl<'a> Places<'a> {
                 }
             }
         }
-        Ok(Proposal { sites, tallied })
+        Ok(Proposal {
+            sites,
+            tallied,
+            share: set.form.share,
+        })
     }
 
     /// What the stubs of a candidate do.
@@ -199,6 +205,7 @@ impl<'a> Places<'a> {
             &proposal.sites,
             false,
             &proposal.tallied,
+            proposal.share.min(4),
         ) {
             Ok(program) => {
                 let mut acts = Vec::new(alloc);

@@ -11,9 +11,9 @@ use scale_base::NoMemory;
 use std::alloc::Global;
 
 /// How many candidates there are at most, and how many of them are edges.
-pub const MOST: usize = 32;
+pub const MOST: usize = 24;
 
-const MOST_EDGES: usize = 24;
+const MOST_EDGES: usize = 16;
 
 /// How many loops are looked at.
 const MOST_LONG: usize = 16;

@@ -2,7 +2,7 @@
 
 use crate::candidates::{Candidate, MOST};
 use crate::pricing::Search;
-use crate::sets::{MarkSet, Priced};
+use crate::sets::{Form, MarkSet, Priced};
 use scale_base::NoMemory;
 use std::alloc::Global;
 
@@ -37,7 +37,7 @@ fn best_addition(search: &mut Search<'_>, from: Priced) -> Result<Priced, NoMemo
         return Ok(best);
     }
     for c in 0..search.places.candidates.len() {
-        if !from.set.contains(c) {
+        if !from.set.contains(c) && may_have(search, from.set.form, c) {
             best = better(best, search.priced(from.set.with(c))?);
         }
     }
@@ -76,7 +76,7 @@ fn best_swap(search: &mut Search<'_>, from: Priced, c: usize) -> Result<Priced, 
     let rest = from.set.without(c);
     let mut best = from;
     for d in 0..search.places.candidates.len() {
-        if !from.set.contains(d) {
+        if !from.set.contains(d) && may_have(search, from.set.form, d) {
             best = better(best, search.priced(rest.with(d))?);
         }
     }
@@ -113,17 +113,26 @@ fn is_loop(search: &Search<'_>, c: usize) -> bool {
 fn singles(
     alloc: Global,
     search: &mut Search<'_>,
-    lowest: bool,
+    form: Form,
     loops: bool,
 ) -> Result<Vec<Priced>, NoMemory> {
     let mut singles = Vec::new(alloc);
     for c in 0..search.places.candidates.len() {
-        if is_loop(search, c) == loops {
-            singles.push(search.priced(MarkSet::empty(lowest).with(c))?)?;
+        if is_loop(search, c) == loops && (form.tallies || !loops) {
+            singles.push(search.priced(MarkSet::empty(form).with(c))?)?;
         }
     }
     singles.sort_by_key(|single| single.energy)?;
     Ok(singles)
+}
+
+/// Whether candidate `c` may be in a set of a form: no loop where none is tallied; and where no level between the starting and the lowest one gets
+/// any time, what saves nothing alone saves nothing with others.
+fn may_have(search: &Search<'_>, form: Form, c: usize) -> bool {
+    if is_loop(search, c) && !form.tallies {
+        return false;
+    }
+    form.share > 0 || search.is_hopeful(&MarkSet::empty(form).with(c))
 }
 
 /// Whether a set is among others.
@@ -174,47 +183,61 @@ fn offer_first(
     Ok(())
 }
 
-/// The sets of one form that grow from nothing and from single marks of each sort; behind them the single marks.
+/// Appends the sets of one form that grow from nothing and from single marks of each sort, and to other ones those single marks.
 fn sets_of(
     alloc: Global,
     search: &mut Search<'_>,
-    lowest: bool,
-    grown: &mut Vec<Priced>,
-    single: &mut Vec<Priced>,
+    form: Form,
+    sets: &mut Vec<Priced>,
+    alone: &mut Vec<Priced>,
 ) -> Result<(), NoMemory> {
-    let edges = singles(alloc, search, lowest, false)?;
-    let loops = if lowest {
-        singles(alloc, search, lowest, true)?
-    } else {
-        Vec::new(alloc)
-    };
-    let nothing = search.priced(MarkSet::empty(lowest))?;
+    let edges = singles(alloc, search, form, false)?;
+    let loops = singles(alloc, search, form, true)?;
+    let nothing = search.priced(MarkSet::empty(form))?;
     let set = improved(search, nothing)?;
-    offer(search, grown, set)?;
-    offer_grown(search, grown, &edges)?;
-    offer_grown(search, grown, &loops)?;
-    for one in &edges {
-        single.push(*one)?;
-    }
-    for one in &loops {
-        single.push(*one)?;
-    }
+    offer(search, sets, set)?;
+    offer_grown(search, sets, &edges)?;
+    offer_grown(search, sets, &loops)?;
+    alone.extend_from_slice(&edges)?;
+    alone.extend_from_slice(&loops)?;
     Ok(())
 }
+
+/// Switches to the lowest level and tallied loops.
+const LOWEST: Form = Form {
+    lowest: true,
+    tallies: true,
+    share: 0,
+};
+
+/// Switches by words alone.
+const WORDS: Form = Form {
+    lowest: false,
+    tallies: false,
+    share: 4,
+};
+
+/// Switches by words and tallied loops.
+const BOTH: Form = Form {
+    lowest: false,
+    tallies: true,
+    share: 2,
+};
 
 /// The sets that are proposed, the most promising first, and behind them the best single marks. Where the runs begin at the lowest level but
 /// one, a switch by a word does nothing that one to the lowest level doesn't do.
 pub fn best_sets(alloc: Global, search: &mut Search<'_>) -> Result<Vec<Priced>, NoMemory> {
     let mut grown = Vec::new(alloc);
-    let mut single = Vec::new(alloc);
-    sets_of(alloc, search, true, &mut grown, &mut single)?;
+    let mut alone = Vec::new(alloc);
+    sets_of(alloc, search, LOWEST, &mut grown, &mut alone)?;
     if search.places.numbers.start > 1 {
-        sets_of(alloc, search, false, &mut grown, &mut single)?;
+        sets_of(alloc, search, WORDS, &mut grown, &mut alone)?;
+        sets_of(alloc, search, BOTH, &mut grown, &mut alone)?;
     }
     grown.sort_by_key(|set| set.energy)?;
-    single.sort_by_key(|set| set.energy)?;
+    alone.sort_by_key(|set| set.energy)?;
     let mut sets = Vec::new(alloc);
     offer_first(search, &mut sets, &grown, MOST_GROWN)?;
-    offer_first(search, &mut sets, &single, MOST_SETS)?;
+    offer_first(search, &mut sets, &alone, MOST_SETS)?;
     Ok(sets)
 }

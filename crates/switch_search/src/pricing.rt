@@ -88,7 +88,7 @@ impl<'a> Search<'a> {
 
     /// Those of the stub of one candidate.
     fn mark_cycles(&self, set: &MarkSet, mark: &CandidateRun, begin: u64, end: u64) -> u64 {
-        let each = if set.lowest {
+        let each = if set.form.lowest {
             self.costs.lowest
         } else {
             self.costs.word
@@ -177,6 +177,14 @@ impl<'a> Search<'a> {
             }
         }
         None
+    }
+
+    /// Whether nothing is known of a set, or that it saves something.
+    pub fn is_hopeful(&self, set: &MarkSet) -> bool {
+        match self.found(set) {
+            Some(priced) => priced.energy < self.held,
+            None => true,
+        }
     }
 
     /// A set with the energy of the runs: more than any takes, too, where no more sets may be priced.

@@ -2,19 +2,28 @@
 
 use crate::candidates::MOST;
 
-/// Some of the candidates, by their numbers, with switches to the lowest level on edges, or switches by words.
+/// What form the marks of a set have: switches to the lowest level on edges, or switches by words; whether loops may be tallied; and the share of the
+/// lent time that levels between the starting and the lowest one get, in quarters.
+#[derive(Clone, Copy, PartialEq, Eq)]
+pub struct Form {
+    pub lowest: bool,
+    pub tallies: bool,
+    pub share: u8,
+}
+
+/// Some of the candidates, by their numbers, in a form.
 #[derive(Clone, Copy, PartialEq, Eq)]
 pub struct MarkSet {
-    flags: [bool; 32],
-    pub lowest: bool,
+    flags: [bool; 24],
+    pub form: Form,
 }
 
 impl MarkSet {
     /// None of them.
-    pub fn empty(lowest: bool) -> MarkSet {
+    pub fn empty(form: Form) -> MarkSet {
         MarkSet {
-            flags: [false; 32],
-            lowest,
+            flags: [false; 24],
+            form,
         }
     }
 
