@@ -134,7 +134,7 @@ impl<'a> Search<'a> {
         let mut energy: u128 = 0;
         for event in &self.events(set, acts, run)? {
             let to = event.from(level);
-            if event.at < run.cycles && to != level {
+            if event.at < run.run.cycles && to != level {
                 energy = energy
                     .saturating_add(self.part_energy(set, run, begin, event.at, level))
                     .saturating_add(change_energy(self.power, level, to));
@@ -142,16 +142,32 @@ impl<'a> Search<'a> {
                 level = to;
             }
         }
-        let rest = self.part_energy(set, run, begin, run.cycles.saturating_add(1), level);
+        let rest = self.part_energy(set, run, begin, run.run.cycles.saturating_add(1), level);
         Ok(energy.saturating_add(rest))
     }
 
-    /// The energy of the runs with the stubs of a set, by their weights.
+    /// Whether a set is out by a run on an input: its stubs take more than so many thousandths of the run's cycles, and it doesn't save at least as much as
+    /// they take.
+    fn is_out(&self, set: &MarkSet, run: &RunMarks, energy: u128) -> bool {
+        let level = self.places.numbers.start;
+        let cycles = run.run.cycles;
+        let stubs = self.stub_cycles(set, run, 0, cycles.saturating_add(1));
+        let few = u128::from(stubs).saturating_mul(1000) <= u128::from(cycles).saturating_mul(FEW);
+        let unit = energy_at(self.power, level);
+        let held = u128::from(cycles).saturating_mul(unit);
+        let spent = energy.saturating_add(u128::from(stubs).saturating_mul(unit));
+        run.run.is_input && !few && spent > held
+    }
+
+    /// The energy of the runs with the stubs of a set, by their weights: more than any takes where that of one is out.
     fn runs_energy(&self, set: &MarkSet, acts: &Acts) -> Result<u128, NoMemory> {
         let mut energy: u128 = 0;
         for run in self.runs {
             let own = self.run_energy(set, acts, run)?;
-            energy = energy.saturating_add(own.saturating_mul(u128::from(run.weight)));
+            if self.is_out(set, run, own) {
+                return Ok(u128::MAX);
+            }
+            energy = energy.saturating_add(own.saturating_mul(u128::from(run.run.weight)));
         }
         Ok(energy)
     }
@@ -211,4 +227,7 @@ impl<'a> Search<'a> {
 }
 
 /// How many percent of the worst cycles the stubs may add.
-const MOST_ADDED: u64 = 3;
+const MOST_ADDED: u64 = 10;
+
+/// How many thousandths of its cycles the stubs of a run may take where they save nothing.
+const FEW: u128 = 18;

@@ -8,9 +8,9 @@ use crate::growing::best_sets;
 use crate::marks::StubCosts;
 use crate::numbers::{Numbers, numbers_of};
 use crate::pricing::Search;
-use crate::runs::RunMarks;
+use crate::runs::{RunMarks, RunWeight};
 use crate::sets::Priced;
-use crate::sums::{Sums, WHOLE};
+use crate::sums::{Sums, weight_of};
 use crate::tracing::EdgeTrace;
 use crate::turning::LoopPlan;
 use crate::walking::{WALKS, WalkPlan, walked};
@@ -25,8 +25,8 @@ use scaler::check_unscaled;
 use speed_sim::{End, start_of, watched_report};
 use std::alloc::Global;
 
-/// How many shares of the cycles of the runs on inputs make one walk's: three times as many as there are walks.
-const SHARES: u128 = 33;
+/// How many shares a run on an input has, where each walk has as many as there are such runs: three times as many as there are walks.
+const SHARES: u64 = 33;
 
 /// Inputs, with a flag for each that says whether it counts.
 #[derive(Drop)]
@@ -72,40 +72,17 @@ fn traced_input(
     }
 }
 
-/// The cycles of which each walk counts for a share: those of the runs on inputs, and where there are none, as many as make a share a worst run.
-fn walked_cycles(numbers: &Numbers, inputs: &Sums) -> u128 {
-    let cycles = inputs.cycles() / u128::from(WHOLE);
-    if cycles > 0 {
-        cycles
-    } else {
-        u128::from(numbers.worst).saturating_mul(SHARES)
-    }
-}
-
-/// The weight of a walk of so many cycles, where the runs on inputs take so many: all walks alike, and together a third of the runs on inputs.
-fn walk_weight(all: u128, cycles: u64) -> u64 {
-    if cycles == 0 {
-        return 0;
-    }
-    let weight = all.saturating_mul(u128::from(WHOLE)) / SHARES / u128::from(cycles);
-    if weight < u128::from(u64::MAX) {
-        weight as u64
-    } else {
-        u64::MAX
-    }
-}
-
 /// Adds what the walks do at the edges.
 fn add_walks(
     alloc: Global,
     plan: &WalkPlan<'_>,
-    all: u128,
+    inputs: u64,
     sums: &mut Sums,
     trace: &mut EdgeTrace,
 ) -> Result<(), NoMemory> {
     for number in 0..WALKS {
         if let Some(cycles) = walked(alloc, plan, number, trace)? {
-            sums.add(trace, cycles, walk_weight(all, cycles));
+            sums.add(trace, cycles, weight_of(inputs, cycles));
         }
     }
     Ok(())
@@ -115,15 +92,14 @@ fn add_walks(
 fn add_walk_runs(
     alloc: Global,
     plan: &WalkPlan<'_>,
-    all: u128,
+    inputs: u64,
     given: &Given<'_>,
     runs: &mut Vec<RunMarks>,
     trace: &mut EdgeTrace,
 ) -> Result<(), NoMemory> {
     for number in 0..WALKS {
         if let Some(cycles) = walked(alloc, plan, number, trace)? {
-            let weight = walk_weight(all, cycles);
-            runs.push(given.run(alloc, trace, cycles, weight)?)?;
+            runs.push(given.run(alloc, trace, cycles, inputs, false)?)?;
         }
     }
     Ok(())
@@ -141,7 +117,7 @@ fn sums_of(
     let mut sums = Sums::new(alloc, edges)?;
     for k in 0..inputs.inputs.len() {
         if let Some(cycles) = traced_input(alloc, view, power, inputs, k, trace)? {
-            sums.add(trace, cycles, WHOLE);
+            sums.add(trace, cycles, weight_of(SHARES, cycles));
         }
     }
     Ok(sums)
@@ -161,7 +137,8 @@ impl Given<'_> {
         alloc: Global,
         trace: &EdgeTrace,
         cycles: u64,
-        weight: u64,
+        shares: u64,
+        is_input: bool,
     ) -> Result<RunMarks, NoMemory> {
         let places = &self.places;
         RunMarks::new(
@@ -171,8 +148,11 @@ impl Given<'_> {
             places.plans,
             self.jump,
             trace,
-            cycles,
-            weight,
+            RunWeight {
+                cycles,
+                weight: weight_of(shares, cycles),
+                is_input,
+            },
         )
     }
 }
@@ -189,7 +169,7 @@ fn runs_of(
     let mut runs = Vec::new(alloc);
     for k in 0..inputs.inputs.len() {
         if let Some(cycles) = traced_input(alloc, view, power, inputs, k, trace)? {
-            runs.push(given.run(alloc, trace, cycles, WHOLE)?)?;
+            runs.push(given.run(alloc, trace, cycles, SHARES, true)?)?;
         }
     }
     Ok(runs)
@@ -235,8 +215,8 @@ fn search_program(
 ) -> Result<Vec<Proposal>, Stop> {
     let Program { files, view, power, plan, graph, tree, numbers } = *program;
     let mut sums = sums_of(alloc, view, power, inputs, numbers.edges.len(), &mut trace)?;
-    let all = walked_cycles(numbers, &sums);
-    add_walks(alloc, plan, all, &mut sums, &mut trace)?;
+    let count = sums.runs().max(1);
+    add_walks(alloc, plan, count, &mut sums, &mut trace)?;
     let plans = loops_of(alloc, power, graph, tree, numbers, &sums)?;
     let candidates = candidates_of(alloc, power, numbers, &sums, &plans)?;
     if candidates.is_empty() {
@@ -251,7 +231,7 @@ fn search_program(
     };
     let given = Given { places, jump: costs.jump };
     let mut runs = runs_of(alloc, view, power, inputs, &given, &mut trace)?;
-    add_walk_runs(alloc, plan, all, &given, &mut runs, &mut trace)?;
+    add_walk_runs(alloc, plan, count, &given, &mut runs, &mut trace)?;
     let mut search = Search {
         alloc,
         files,

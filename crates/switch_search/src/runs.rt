@@ -147,11 +147,18 @@ fn candidate_on(candidates: &[Candidate], e: Option<usize>) -> Option<usize> {
         .position(|c| matches!(c, Candidate::Edge(d) if *d == e))
 }
 
-/// A run: its cycles, its weight, and what it does at each candidate.
-#[derive(Drop)]
-pub struct RunMarks {
+/// A run: its cycles, its weight, and whether it is one on an input.
+#[derive(Clone, Copy)]
+pub struct RunWeight {
     pub cycles: u64,
     pub weight: u64,
+    pub is_input: bool,
+}
+
+/// A run, and what it does at each candidate.
+#[derive(Drop)]
+pub struct RunMarks {
+    pub run: RunWeight,
     pub marks: Vec<CandidateRun>,
 }
 
@@ -164,8 +171,7 @@ impl RunMarks {
         plans: &[LoopPlan],
         jump: u64,
         trace: &EdgeTrace,
-        cycles: u64,
-        weight: u64,
+        run: RunWeight,
     ) -> Result<RunMarks, NoMemory> {
         let mut marks = Vec::new(alloc);
         for candidate in candidates {
@@ -182,10 +188,6 @@ impl RunMarks {
             };
             marks.push(mark)?;
         }
-        Ok(RunMarks {
-            cycles,
-            weight,
-            marks,
-        })
+        Ok(RunMarks { run, marks })
     }
 }

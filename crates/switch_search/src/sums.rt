@@ -4,8 +4,16 @@ use crate::tracing::{EdgeTrace, Passed};
 use scale_base::NoMemory;
 use std::alloc::Global;
 
-/// The weight of a run on an input. Other runs may have less.
-pub const WHOLE: u64 = 65536;
+/// The weight of a run of so many cycles, which has so many shares: runs with the same shares count the same in all, whatever their lengths are.
+pub fn weight_of(shares: u64, cycles: u64) -> u64 {
+    let whole = u128::from(shares) * 0x1_0000_0000_0000;
+    let weight = whole.checked_div(u128::from(cycles)).unwrap_or(0);
+    if weight < u128::from(u64::MAX) {
+        weight as u64
+    } else {
+        u64::MAX
+    }
+}
 
 /// Of the runs that go over an edge, in all and each by its weight: how many there are, their cycles behind the first pass and from the first to the
 /// last one, and their passes.
@@ -34,6 +42,7 @@ impl EdgeSum {
 pub struct Sums {
     edges: Vec<EdgeSum>,
     cycles: u128,
+    runs: u64,
 }
 
 /// A number by a weight.
@@ -59,11 +68,13 @@ impl Sums {
         Ok(Sums {
             edges: vec![in alloc; EdgeSum::none(); edges]?,
             cycles: 0,
+            runs: 0,
         })
     }
 
     /// Adds a run of so many cycles that was traced.
     pub fn add(&mut self, trace: &EdgeTrace, cycles: u64, weight: u64) {
+        self.runs = self.runs.saturating_add(1);
         self.cycles = self.cycles.saturating_add(weighed(cycles, weight));
         for e in 0..self.edges.len() {
             let passed = trace.passed(e);
@@ -80,6 +91,11 @@ impl Sums {
         } else {
             EdgeSum::none()
         }
+    }
+
+    /// How many runs there are.
+    pub fn runs(&self) -> u64 {
+        self.runs
     }
 
     /// The cycles of all runs.
