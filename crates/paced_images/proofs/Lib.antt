@@ -1,3 +1,4 @@
+mod FormedMarks
 mod WantedKinds
 mod WantedMarks
 mod MarkingLaws
