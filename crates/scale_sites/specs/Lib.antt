@@ -3,4 +3,3 @@ pub mod Weights
 pub mod Counters
 pub mod Sites
 pub mod Marked
-pub mod Forms

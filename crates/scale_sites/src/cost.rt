@@ -16,8 +16,6 @@ fn mark_cost(mark: &Mark, costs: &Costs) -> u32
         Mark::Exit(_) => (4, 5, 7),
         Mark::Reset(_) => (1, 0, 0),
         Mark::Count(_) => (2, 2, 1),
-        Mark::Lowest => (1, 0, 0),
-        Mark::Tally(_) => (3, 2, 5),
     };
     stores * u32::from(costs.store) + loads * u32::from(costs.load) + alus * u32::from(costs.alu)
 }
@@ -47,21 +45,11 @@ pub fn extra_of(marks: &[Mark], jumps: u8, costs: &Costs) -> u32
     u32::from(jumps) * u32::from(costs.jump) + marks_cost(marks, costs)
 }
 
-/// The cycles of a mark's fragment behind its port store.
-fn mark_tail(mark: &Mark, costs: &Costs) -> u32 {
-    let loads = match *mark {
-        Mark::Switch | Mark::Exit(_) | Mark::Reset(_) | Mark::Count(_) => 2,
-        Mark::Lowest => 0,
-        Mark::Tally(_) => 1,
-    };
-    loads * u32::from(costs.load)
-}
-
 /// The cycles of an edge behind its port store: two loads, the marks behind the first, and the closing jump.
 pub fn tail_of(marks: &[Mark], costs: &Costs) -> u32
     requires few { length marks.now ≤ 1600 }
     requires switches { switches marks.now ≡ true }
     ensures { result ≡ tail_of costs.now marks.now }
 {
-    mark_tail(&marks[0], costs) + marks_cost(&marks[1..], costs) + u32::from(costs.jump)
+    2 * u32::from(costs.load) + marks_cost(&marks[1..], costs) + u32::from(costs.jump)
 }

@@ -12,7 +12,7 @@ ghost use Rattle.scale_sites.specs.Marks.{SwitchesOnce};
 ghost use Rattle.scale_sites.specs.Weights.{ExtraSplits};
 
 pub use counting::{CounterList, counters};
-pub use sites::{Sites, choose, choose_where, form_sites};
+pub use sites::{Sites, choose, choose_where};
 
 /// On accepted loops at most one mark of an edge is a switch. The extra cycles of a branch's edge with a switch are a jump, those up
 /// to the port store, and the tail.

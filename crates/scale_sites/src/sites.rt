@@ -1,7 +1,6 @@
 //! The marks and the jumps of all edges.
 
-ghost use Rattle.scale_sites.specs.Forms.{formed};
-ghost use Rattle.std.specs.Prelude.{◌-◌, ◌≡◌, ◌+◌, ◌*◌, ◌<◌, ◌≤◌, ℕ, Bool, true, [], length, map, slice_get, slice_index, slice_index_or, Some, IfOk};
+ghost use Rattle.std.specs.Prelude.{◌≡◌, ◌+◌, ◌*◌, ◌<◌, ◌≤◌, ℕ, Bool, true, [], length, map, slice_get, slice_index, slice_index_or, Some, IfOk};
 ghost use Rattle.scale_base.specs.declared.stepping.Class.{Class};
 ghost use Rattle.power_model.specs.Price.{cycles_of};
 ghost use Rattle.cost_theory.specs.Graph.{any_below};
@@ -232,88 +231,6 @@ pub fn choose_where(
     let marks = wanted_marks(alloc, &marking, wanted)?;
     let jumps = all_jumps(alloc, graph, &marks)?;
     Ok(Sites { marks, jumps })
-}
-
-/// The counter of the first Count of a loop that is tallied.
-fn first_tally(marks: &[Mark], tallied: &[bool]) -> Option<u16> {
-    for mark in marks {
-        if let Mark::Count(counter) = *mark {
-            if tallied[usize::from(counter - 2)] {
-                return Some(counter);
-            }
-        }
-    }
-    None
-}
-
-/// What becomes of a mark behind the Tally of a counter.
-fn behind_tally(counter: u16, mark: Mark) -> Option<Mark> {
-    match mark {
-        Mark::Switch | Mark::Lowest | Mark::Tally(_) => None,
-        Mark::Exit(other) | Mark::Reset(other) => Some(Mark::Reset(other)),
-        Mark::Count(other) => { if other == counter { None } else { Some(mark) } }
-    }
-}
-
-/// What becomes of a mark where no counter of the edge is tallied.
-fn plain_form(lowest: bool, tallied: &[bool], mark: Mark) -> Mark {
-    match mark {
-        Mark::Switch => { if lowest { Mark::Lowest } else { mark } }
-        Mark::Exit(counter) => {
-            if tallied[usize::from(counter - 2)] {
-                Mark::Reset(counter)
-            } else {
-                mark
-            }
-        }
-        _ => mark,
-    }
-}
-
-/// The marks of an edge in the forms that are wanted.
-fn formed(alloc: Global, marks: &[Mark], lowest: bool, tallied: &[bool]) -> Result<Vec<Mark>, NoMemory> {
-    let mut forms = Vec::new(alloc);
-    match first_tally(marks, tallied) {
-        Some(counter) => {
-            forms.push(Mark::Tally(counter))?;
-            for mark in marks {
-                if let Some(form) = behind_tally(counter, *mark) {
-                    forms.push(form)?;
-                }
-            }
-        }
-        None => {
-            for mark in marks {
-                forms.push(plain_form(lowest, tallied, *mark))?;
-            }
-        }
-    }
-    Ok(forms)
-}
-
-/// The same sites with marks in other forms: `lowest` tells by edge whether its switch goes to the lowest level, and `tallied` by the place of a counted
-/// loop whether its turns are tallied.
-pub fn form_sites(
-    alloc: Global,
-    graph: &CodeGraph,
-    sites: Sites,
-    lowest: &[bool],
-    tallied: &[bool],
-) -> Result<Sites, NoMemory>
-    requires size { length sites.marks ≡ length graph.now.code.edges }
-    requires lowest { length lowest.now ≡ length graph.now.code.edges }
-    ensures marks { IfOk result (λ s. (e : ℕ) → e < length graph.now.code.edges → marks_at_edge s e ≡ formed (flag_at lowest.now e) (λ i. flag_at tallied.now (i - 2)) (marks_at_edge sites e)) }
-    ensures jumps { IfOk result (λ s. s.jumps ≡ sites.jumps) }
-    ensures size { IfOk result (λ s. length s.marks ≡ length sites.marks) }
-{
-    let mut marks = Vec::new(alloc);
-    for e in 0..graph.edge_count() {
-        marks.push(formed(alloc, sites.marks(e), lowest[e], tallied)?)?;
-    }
-    Ok(Sites {
-        marks,
-        jumps: sites.jumps,
-    })
 }
 
 /// No class costs more than 65,535 cycles.
