@@ -29,8 +29,10 @@ impl fmt::Display for FragmentWords<'_> {
             }
             Fragment::Reset { .. } => write!(f, "reset {no}"),
             Fragment::Count { .. } => write!(f, "count {no}"),
-            Fragment::Lowest { down: true } => write!(f, "lowest yes"),
-            Fragment::Lowest { down: false } => write!(f, "lowest no"),
+            Fragment::Lowest { down } => {
+                let off = if *down { "" } else { " off" };
+                write!(f, "lowest{off}")
+            }
             Fragment::Tally { shift, from, .. } => write!(f, "tally {no} {shift} {from}"),
         }
     }
