@@ -10,6 +10,7 @@ mod ProgramFacts
 mod PacedFiles
 mod UsefulFacts
 mod FlagLists
+mod Taken
 mod Ordered
 mod SafeStubs
 mod Storing
