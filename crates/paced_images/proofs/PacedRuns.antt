@@ -59,7 +59,7 @@ view_key image file base block start = refl
 -- budgets are within the deadline
 quarters : (share time : ℕ) → share ≤ 4 → share * time / 4 ≤ time
 quarters share time few =
-    let more : share * time ≤ 4 * time = mul-le-mul_right few in
+    let more : share * time ≤ 4 * time = mul-le-mul_right {m = share} {n = 4} time few in
     omega (arith, more)
 
 budget_within : (power : PowerModel) (start worst share i : ℕ) → share ≤ 4 → time_at power start worst ≤ power.deadline → paced_budget power start worst share i ≤ power.deadline

@@ -1,6 +1,6 @@
 -- The marks that flags choose, in the forms that flags tell, are those that are wanted.
-use Rattle.std.proofs.Common.{◌≡◌, ℕ, zero, suc, ◌-◌, ◌<◌, Bool, true, false, List, [], ◌∷◌, map, length, slice_get, Option, Some, None, Ok, refl, sym, ap, ◌∙◌}
-use Rattle.std.specs.Prelude.{slice_index, ◌||◌, ◌==◌}
+use Rattle.std.proofs.Common.{◌≡◌, ℕ, zero, suc, ◌-◌, ◌<◌, Bool, true, false, List, [], ◌∷◌, map, length, slice_get, Option, Some, None, Result, Ok, Err, refl, sym, ap, ◌∙◌}
+use Rattle.std.specs.Prelude.{slice_index, ◌||◌, ◌==◌, IfOk}
 use Rattle.std.proofs.Math.Path.{fun_ext}
 use Rattle.std.specs.List.{list_any}
 use Rattle.std.proofs.lemmas.Bool.{and_parts}
@@ -47,6 +47,11 @@ chooses v sites e on = by (slice_get v.code.edges e) refl on
     by : (o : Option Edge) → slice_get v.code.edges e ≡ o → any_names sites o ≡ true → (edge : Edge) × (slice_get v.code.edges e ≡ Some edge) × (same_kind edge.kind edge.kind ≡ true)
     by None get on = let never : ⊥ = cc in absurd never
     by (Some edge) get on = (edge, get, any_kind sites edge on)
+
+-- what follows of a result where it is one
+pub if_ok : {A E : Type 0} (P Q : A → Type 0) (r : Result A E) → ((x : A) → P x → Q x) → IfOk r P → IfOk r Q
+if_ok P Q (Ok x) f h = f x h
+if_ok P Q (Err e) f h = tt
 
 -- ---- the marks
 
