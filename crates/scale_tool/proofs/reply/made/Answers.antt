@@ -5,12 +5,13 @@ use Rattle.std.specs.List.{All}
 use Rattle.scale_base.specs.declared.refusal.NoMemory.{NoMemory}
 use Rattle.scale_tool.specs.declared.command.Work.{Work}
 use Rattle.scale_tool.specs.declared.command.Work.TheVariants.{Simulate as ParsedSimulate}
-use Rattle.scale_tool.specs.declared.reply.Reply.{Reply}
+use Rattle.host_runs.specs.declared.reply.Reply.{Reply}
 use Rattle.scale_tool.specs.Answer.{MakesRun, Makes}
-use Rattle.scale_tool.specs.Views.{reply_view, work_view, files_view}
+use Rattle.host_runs.specs.Views.{reply_view, files_view}
+use Rattle.scale_tool.specs.Views.{work_view}
 use Rattle.scale_tool.specs.Command.{Command, Simulate, texts, wants_of}
 use Rattle.scale_tool.proofs.GivenInputs.{AreWanted, as_many, four_first, three_first}
-use Rattle.scale_tool.proofs.reply.Reply.made.Goals as goal
+use Rattle.scale_tool.proofs.reply.made.Goals as goal
 
 -- a file for each that is wanted, within its limit
 abbrev AreFiles : Command → List (Vec ℕ Global) → Type 0

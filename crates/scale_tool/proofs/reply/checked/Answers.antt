@@ -1,7 +1,7 @@
 use Rattle.image_check.specs.Checked.{IsChecked}
 use Rattle.scale_tool.specs.Answer.{verdict_answer}
-use Rattle.scale_tool.proofs.Given.{made_of_given}
-use Rattle.scale_tool.proofs.reply.Reply.checked.Goals as goal
+use Rattle.host_runs.proofs.Laws.{made_of_given}
+use Rattle.scale_tool.proofs.reply.checked.Goals as goal
 
 pub returns-clause-told : goal.returns-clause-told
 returns-clause-told c =

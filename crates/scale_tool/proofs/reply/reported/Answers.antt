@@ -1,8 +1,9 @@
 use Rattle.scaler.specs.Planned.{IsPlanned}
-use Rattle.scale_tool.specs.Answer.{text_answer, text_of_plan}
+use Rattle.host_runs.specs.Answer.{text_answer}
+use Rattle.scale_tool.specs.Answer.{text_of_plan}
 use Rattle.scale_tool.specs.Views.{plan_view}
-use Rattle.scale_tool.proofs.Given.{made_of_given}
-use Rattle.scale_tool.proofs.reply.Reply.reported.Goals as goal
+use Rattle.host_runs.proofs.Laws.{made_of_given}
+use Rattle.scale_tool.proofs.reply.reported.Goals as goal
 
 pub returns : goal.returns
 returns c =

@@ -1,9 +1,9 @@
 use Rattle.scale_report.specs.Texts.{summary_text}
 use Rattle.scaler.specs.Held.{IsHeld}
-use Rattle.scale_tool.specs.Answer.{stored_answer}
-use Rattle.scale_tool.specs.Views.{file_view}
-use Rattle.scale_tool.proofs.Given.{made_of_given}
-use Rattle.scale_tool.proofs.reply.Reply.held.Goals as goal
+use Rattle.host_runs.specs.Answer.{stored_answer}
+use Rattle.host_runs.specs.Views.{file_view}
+use Rattle.host_runs.proofs.Laws.{made_of_given}
+use Rattle.scale_tool.proofs.reply.held.Goals as goal
 
 pub returns : goal.returns
 returns c =

@@ -1,10 +1,10 @@
 use Rattle.scale_report.specs.Texts.{survey_text}
 use Rattle.power_model.specs.Survey.{survey_view}
 use Rattle.input_survey.specs.Surveyed.{IsSurveyed}
-use Rattle.scale_tool.specs.Answer.{text_answer}
-use Rattle.scale_tool.specs.Views.{files_view}
-use Rattle.scale_tool.proofs.Given.{made_of_given}
-use Rattle.scale_tool.proofs.reply.Reply.surveyed.Goals as goal
+use Rattle.host_runs.specs.Answer.{text_answer}
+use Rattle.host_runs.specs.Views.{files_view}
+use Rattle.host_runs.proofs.Laws.{made_of_given}
+use Rattle.scale_tool.proofs.reply.surveyed.Goals as goal
 
 pub returns : goal.returns
 returns c =

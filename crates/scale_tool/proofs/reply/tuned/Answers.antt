@@ -1,9 +1,9 @@
 use Rattle.scale_report.specs.Texts.{tuned_text}
 use Rattle.gain_tuner.specs.Choice.{IsTuning}
-use Rattle.scale_tool.specs.Answer.{stored_answer}
-use Rattle.scale_tool.specs.Views.{file_view, files_view}
-use Rattle.scale_tool.proofs.Given.{made_of_given}
-use Rattle.scale_tool.proofs.reply.Reply.tuned.Goals as goal
+use Rattle.host_runs.specs.Answer.{stored_answer}
+use Rattle.host_runs.specs.Views.{file_view, files_view}
+use Rattle.host_runs.proofs.Laws.{made_of_given}
+use Rattle.scale_tool.proofs.reply.tuned.Goals as goal
 
 pub returns : goal.returns
 returns c =
