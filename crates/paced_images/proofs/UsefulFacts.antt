@@ -12,7 +12,7 @@ use Rattle.scale_sites.specs.Sites.{marks_at_edge}
 use Rattle.scale_sites.specs.Weights.{switches}
 use Rattle.level_tables.specs.Tables.{EdgeNumbers}
 use Rattle.scaler.proofs.Laws.{IsLoud}
-use Rattle.paced_images.specs.Useful.{is_site_mark}
+use Rattle.paced_images.specs.Useful.{is_site_mark, lowers_some}
 use Rattle.code_graph.specs.FlowGraph.{FlowGraph}
 use Rattle.loop_tree.specs.Tree.{LoopView}
 use Rattle.paced_images.specs.declared.stubs.Marking.{Marking}
@@ -39,11 +39,11 @@ pub record IsLoudIn (ms : List Mark) : Type 0 where
 
 mark_in : (power : PowerModel) (test : EdgeNumbers → ℕ → ℕ → Bool) (told : EdgeNumbers) (ms : List Mark) → list_any (is_site_mark power test told) ms ≡ true → IsLoudIn ms
 mark_in power test told [] on = let bad : ⊥ = cc in absurd bad
-mark_in power test told (m ∷ ms) on = by (is_site_mark power test told m) refl on
+mark_in power test told (m ∷ ms) on = by (is_site_mark power test told m) refl on (mark_in power test told ms)
   where
-    by : (b : Bool) → is_site_mark power test told m ≡ b → (b || list_any (is_site_mark power test told) ms) ≡ true → IsLoudIn (m ∷ ms)
-    by true is q = record { place = 0; mark = m; get = refl; loud = loud power test told m is }
-    by false is q = let r = mark_in power test told ms q in record { place = suc r.place; mark = r.mark; get = r.get; loud = r.loud }
+    by : (b : Bool) → is_site_mark power test told m ≡ b → (b || list_any (is_site_mark power test told) ms) ≡ true → (list_any (is_site_mark power test told) ms ≡ true → IsLoudIn ms) → IsLoudIn (m ∷ ms)
+    by true is q rest = record { place = 0; mark = m; get = refl; loud = loud power test told m is }
+    by false is q rest = let r = rest q in record { place = suc r.place; mark = r.mark; get = r.get; loud = r.loud }
 
 -- where the first mark stores no level, no site gave the edge one that does
 pub not_lowered : (power : PowerModel) (v : FlowGraph) (t : LoopView) (m : Marking) (h : HasMarking power v t m) (e : ℕ) → e < length v.code.edges → switches (marks_at_edge m.sites e) ≡ false
@@ -54,6 +54,14 @@ not_lowered power v t m h e lt off test told marked b same =
     let first = marking_switches power h.0 v t h.1 h.2 h.3 m h.4 e at.place at.mark lt at.get at.loud in
     let two : true ≡ false = sym first ∙ off in let bad : ⊥ = cc in bad) in
     sym (ap (λ x. x && b) (ap (list_any (is_site_mark power test told)) (sym same) ∙ none))
+
+-- by what its numbers are shown as
+pub lowered_as : (power : PowerModel) (test : EdgeNumbers → ℕ → ℕ → Bool) (start : ℕ) (shown told : EdgeNumbers) (ms marked : List Mark) (a b : Bool) → ms ≡ marked → shown ≡ told → a ≡ list_any (is_site_mark power test shown) ms → b ≡ lowers_some power test start shown
+    → (a && b) ≡ (list_any (is_site_mark power test told) marked && lowers_some power test start told)
+lowered_as power test start shown told ms marked a b same tells one other =
+    ap (λ x. x && b) one ∙ (ap (λ x. list_any (is_site_mark power test shown) ms && x) other
+    ∙ (ap (λ xs. list_any (is_site_mark power test shown) xs && lowers_some power test start shown) same
+    ∙ ap (λ q. list_any (is_site_mark power test q) marked && lowers_some power test start q) tells))
 
 -- ---- what a site names
 

@@ -1,5 +1,6 @@
 //! The program of three files, with switches on the edges that sites name, and with tallied loops.
 
+ghost use Rattle.std.specs.Prelude.{◌≤◌};
 ghost use Rattle.scale_base.specs.Answer.{AnswersBy};
 ghost use Rattle.paced_images.specs.Programs.{IsProgramFound};
 
