@@ -1,4 +1,4 @@
-use Rattle.std.proofs.Common.{ℕ, Bool, ◌≤◌, length, List}
+use Rattle.std.proofs.Common.{◌≤◌, length, List}
 use Rattle.cycle_laws.specs.Charged.{Charged}
 use Rattle.cost_theory.specs.Worst.{Numbers}
 use Rattle.loop_file.specs.declared.notes.LoopNote.{LoopNote}

@@ -1,4 +1,4 @@
-use Rattle.std.proofs.Common.{◌≡◌, ◌&&◌, true, refl, sym, ap, ◌∙◌}
+use Rattle.std.proofs.Common.{◌&&◌, refl, sym, ap, ◌∙◌}
 use Rattle.scale_sites.specs.Weights.{switches}
 use Rattle.rewritten_runs.specs.Stubs.{told_at}
 use Rattle.paced_images.specs.Useful.{lowers_some}
