@@ -1,5 +1,5 @@
 -- Where every level goes to the lowest one.
-use Rattle.std.proofs.Common.{◌≡◌, ℕ, zero, suc, ◌+◌, ◌-◌, ◌*◌, ◌/◌, ◌%◌, ◌^◌, ◌<◌, ◌≤◌, ◌==◌, Bool, true, false, ◌&&◌, nat_le, length, ◌⊎◌, inl, inr, Option, Some, None, unwrap_or, refl, sym, ap, ◌∙◌, subst, arith}
+use Rattle.std.proofs.Common.{◌≡◌, ℕ, zero, suc, ◌+◌, ◌-◌, ◌*◌, ◌/◌, ◌%◌, ◌^◌, ◌<◌, ◌≤◌, Bool, true, false, ◌&&◌, nat_le, length, ◌⊎◌, inl, inr, Option, Some, None, unwrap_or, refl, sym, ap, ◌∙◌, subst, arith}
 use Rattle.std.proofs.Math.Nat.{mul-le-mul_left, mul-le-mul_right, add-mul, div-mul-le_self}
 use Rattle.std.proofs.lemmas.Bool.{and_parts, eq-eqb, eqb-true}
 use Rattle.std.proofs.lemmas.Bool.Decides.{nat_tests}
@@ -8,7 +8,7 @@ use Rattle.power_model.specs.Levels.{level, AreRanked}
 use Rattle.power_model.specs.Numbers.{PowerModel, IsPowerModel}
 use Rattle.power_model.specs.Price.{switch_time}
 use Rattle.level_tables.specs.Search.{least_below}
-use Rattle.level_tables.specs.Tables.{EdgeNumbers, IsEntryFor, entry_by, nibbles, nibble, word_by, pays, behind_turns, goes_lowest, meets_both, tally_shift, tally_from}
+use Rattle.level_tables.specs.Tables.{EdgeNumbers, IsEntryFor, entry_by, nibbles, nibble, word_by, pays, behind_turns, goes_lowest, tally_shift, tally_from}
 use Rattle.level_tables.specs.Budgets.{is_switch_in_budget, meets_in_budget}
 use Rattle.level_tables.specs.Laws.{LowestGoes, TalliesAreSafe, TalliesAreSafeInTime}
 use Rattle.level_tables.proofs.Searching.{IsFound, first-none, first-some, least-is}

@@ -1,5 +1,5 @@
 -- What the parts of `pace` find, on the way to what it gives. What is wanted of the marks is a parameter, whatever chose it.
-use Rattle.std.specs.Prelude.{◌≡◌, ◌⊎◌, ℕ, ◌<◌, ◌≤◌, Bool, List, length, map, All, slice_get, slice_index, Some, None, Result, Ok, Err}
+use Rattle.std.specs.Prelude.{◌≡◌, ◌⊎◌, ℕ, ◌<◌, ◌≤◌, List, length, map, All, slice_get, slice_index, Some, None, Result, Ok, Err}
 use Rattle.scale_base.specs.declared.refusal.Refusal.{Refusal}
 use Rattle.scale_base.specs.declared.refusal.Refusal.TheVariants.{DeadlineMissed, TooLong}
 use Rattle.scale_base.specs.Image.{Image}

@@ -10,10 +10,13 @@ use scale_base::NoMemory;
 use std::alloc::Global;
 
 /// Whether an address is among others.
-pub fn is_among(at: u32, tallied: &[u32]) -> bool
-    ensures { result ≡ is_among at tallied.now }
+pub fn is_among(at: u32, others: &[u32]) -> bool
+    ensures { result ≡ is_among at others.now }
 {
-    tallied.iter().any(|header| *header == at)
+    let Some((first, rest)) = others.split_first() else {
+        return false;
+    };
+    *first == at || is_among(at, rest)
 }
 
 /// The same ranges once more.

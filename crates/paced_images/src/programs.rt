@@ -1,5 +1,6 @@
 //! The program of three files, with switches on the edges that sites name, and with tallied loops.
 
+ghost use Rattle.std.specs.Prelude.{◌≤◌};
 ghost use Rattle.scale_base.specs.Answer.{AnswersBy};
 ghost use Rattle.paced_images.specs.Programs.{IsProgramFound};
 
@@ -40,8 +41,8 @@ pub fn program_of<'a>(
     let power = read_machine(alloc, machine)?;
     let view = read_image(alloc, image)?;
     check_unscaled(view.keyed())?;
-    let notes = read_loops(alloc, loops, &view)?;
-    let notes = notes_by(alloc, &notes, counted, tallied)?;
+    let noted = read_loops(alloc, loops, &view)?;
+    let notes = notes_by(alloc, &noted, counted, tallied)?;
     let marked = marked_of(alloc, &view, &power, &notes, sites, tallied, share)?;
     let scaling = scaling_of(alloc, &view, &power, &marked)?;
     Ok(Program {

@@ -1,6 +1,6 @@
 //! A program whose marks are wanted ones: its marks, its numbers and its stubs.
 
-ghost use Rattle.std.specs.Prelude.{◌≡◌, ◌<◌, ◌≤◌, ℕ, List, length, map, None, Ok, IfOk};
+ghost use Rattle.std.specs.Prelude.{◌≡◌, ◌<◌, ◌≤◌, ◌*◌, ◌/◌, ℕ, Bool, List, length, map, None, Ok, IfOk};
 ghost use Rattle.power_model.specs.Price.{time_at};
 ghost use Rattle.level_tables.specs.Budgets.{budget_at};
 ghost use Rattle.paced_images.specs.Paced.{paced_budget};

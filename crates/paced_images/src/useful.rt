@@ -23,12 +23,10 @@ fn has_site_mark(power: &Power, budgets: &LevelBudgets, told: &Told, marks: &[Ma
     requires { IfSome told.now.least (λ z. z < 2 ^ 90) }
     ensures { result ≡ list_any (useful.is_site_mark power.now (meets_in_budget power.now (budget_at budgets.now)) (told_view told.now)) marks.now }
 {
-    for mark in marks {
-        if is_site_mark(power, budgets, told, *mark) {
-            return true;
-        }
-    }
-    false
+    let Some((first, rest)) = marks.split_first() else {
+        return false;
+    };
+    is_site_mark(power, budgets, told, *first) || has_site_mark(power, budgets, told, rest)
 }
 
 /// Whether a mark is one.

@@ -1,7 +1,6 @@
 //! The marks and the jumps of all edges.
 
-ghost use Rattle.scale_sites.specs.Forms.{formed};
-ghost use Rattle.std.specs.Prelude.{◌-◌, ◌≡◌, ◌+◌, ◌*◌, ◌<◌, ◌≤◌, ℕ, Bool, true, [], length, map, slice_get, slice_index, slice_index_or, Some, IfOk};
+ghost use Rattle.std.specs.Prelude.{◌≡◌, ◌+◌, ◌*◌, ◌<◌, ◌≤◌, ℕ, Bool, true, List, [], length, map, slice_get, slice_index, slice_index_or, Some, IfOk};
 ghost use Rattle.scale_base.specs.declared.stepping.Class.{Class};
 ghost use Rattle.power_model.specs.Price.{cycles_of};
 ghost use Rattle.cost_theory.specs.Graph.{any_below};
@@ -12,11 +11,14 @@ ghost use Rattle.scale_sites.specs.Counters.{counted_loops};
 ghost use Rattle.scale_sites.specs.Marks.{marks_of};
 ghost use Rattle.scale_sites.specs.Marked.{IsMarkableGraph};
 ghost use Rattle.scale_sites.specs.Weights.{switches, tail_of, extra_of, is_patched, jumps_of};
-ghost use Rattle.scale_sites.specs.Sites.{SitesView, is_branch, is_branch_kind, marks_in, marks_at_edge, flag_at, marks_where, AreMarksBy, AreMarks, AreJumps, AreSites, AreWantedSites};
+ghost use Rattle.scale_sites.specs.Sites.{SitesView, is_branch, is_branch_kind, marks_in, marks_at_edge, flag_at, marks_where, AreMarksBy, AreMarks, AreJumps, AreSitesBy, AreSites, AreWantedSites};
+ghost use Rattle.scale_sites.specs.Forms.{formed_where};
+ghost use Rattle.scale_base.specs.declared.fragments.Mark.{Mark};
 
 use crate::cost;
 use crate::counting::CounterList;
 use crate::edge_marks::{Way, edge_marks};
+use crate::forms::{flag, form_marks};
 use crate::marking::Marking;
 use code_graph::{CodeGraph, Weights};
 use loop_tree::LoopTree;
@@ -52,6 +54,22 @@ impl Sites {
         &self.marks[e]
     }
 
+    /// How many edges there are.
+    fn count(&self) -> usize
+        ensures { result ≡ length self.now.marks }
+    {
+        self.marks.len()
+    }
+
+    /// The marks of edge `e`, of which there are few.
+    fn few_marks(&self, e: usize) -> &[Mark]
+        requires { e < length self.now.marks }
+        ensures marks { result.now ≡ marks_at_edge self.now e }
+        ensures few { length result.now ≤ 1600 }
+    {
+        &self.marks[e]
+    }
+
     /// The cycles that edge `e` costs besides its own.
     pub fn extra(&self, e: usize, costs: &Costs) -> u32
         requires { e < length self.now.marks }
@@ -61,7 +79,7 @@ impl Sites {
         cost::extra_of(&self.marks[e], self.jumps[e], costs)
     }
 
-    /// The cycles of edge `e` behind its port store. The edge has a Switch or an Exit.
+    /// The cycles of edge `e` behind its port store. Its first mark is one that may store there.
     pub fn tail(&self, e: usize, costs: &Costs) -> u32
         requires edge { e < length self.now.marks }
         requires switches { switches (marks_at_edge self.now e) ≡ true }
@@ -234,65 +252,24 @@ pub fn choose_where(
     Ok(Sites { marks, jumps })
 }
 
-/// The counter of the first Count of a loop that is tallied.
-fn first_tally(marks: &[Mark], tallied: &[bool]) -> Option<u16> {
-    for mark in marks {
-        if let Mark::Count(counter) = *mark {
-            if tallied[usize::from(counter - 2)] {
-                return Some(counter);
-            }
-        }
+/// By edge, what stands for its marks.
+fn formed_marks(
+    alloc: Global,
+    sites: &Sites,
+    lowest: &[bool],
+    tallied: &[bool],
+) -> Result<Vec<Vec<Mark>>, NoMemory>
+    ensures { IfOk result (λ marks. AreMarksBy (formed_where lowest.now tallied.now (marks_at_edge sites.now)) (length sites.now.marks) (map (λ m. m.items) marks.items)) }
+{
+    let mut marks = Vec::new(alloc);
+    for e in 0..sites.count() {
+        marks.push(form_marks(alloc, sites.few_marks(e), flag(lowest, e), tallied)?)?;
     }
-    None
+    Ok(marks)
 }
 
-/// What becomes of a mark behind the Tally of a counter.
-fn behind_tally(counter: u16, mark: Mark) -> Option<Mark> {
-    match mark {
-        Mark::Switch | Mark::Lowest | Mark::Tally(_) => None,
-        Mark::Exit(other) | Mark::Reset(other) => Some(Mark::Reset(other)),
-        Mark::Count(other) => { if other == counter { None } else { Some(mark) } }
-    }
-}
-
-/// What becomes of a mark where no counter of the edge is tallied.
-fn plain_form(lowest: bool, tallied: &[bool], mark: Mark) -> Mark {
-    match mark {
-        Mark::Switch => { if lowest { Mark::Lowest } else { mark } }
-        Mark::Exit(counter) => {
-            if tallied[usize::from(counter - 2)] {
-                Mark::Reset(counter)
-            } else {
-                mark
-            }
-        }
-        _ => mark,
-    }
-}
-
-/// The marks of an edge in the forms that are wanted.
-fn formed(alloc: Global, marks: &[Mark], lowest: bool, tallied: &[bool]) -> Result<Vec<Mark>, NoMemory> {
-    let mut forms = Vec::new(alloc);
-    match first_tally(marks, tallied) {
-        Some(counter) => {
-            forms.push(Mark::Tally(counter))?;
-            for mark in marks {
-                if let Some(form) = behind_tally(counter, *mark) {
-                    forms.push(form)?;
-                }
-            }
-        }
-        None => {
-            for mark in marks {
-                forms.push(plain_form(lowest, tallied, *mark))?;
-            }
-        }
-    }
-    Ok(forms)
-}
-
-/// The same sites with marks in other forms: `lowest` tells by edge whether its switch goes to the lowest level, and `tallied` by the place of a counted
-/// loop whether its turns are tallied.
+/// The sites where other marks stand for those of the edges: the flags of `lowest` are by edge, and tell where a Switch is one to the lowest level; those of
+/// `tallied` are by counted loop, and tell whether its back edges have tallies.
 pub fn form_sites(
     alloc: Global,
     graph: &CodeGraph,
@@ -300,20 +277,13 @@ pub fn form_sites(
     lowest: &[bool],
     tallied: &[bool],
 ) -> Result<Sites, NoMemory>
-    requires size { length sites.marks ≡ length graph.now.code.edges }
-    requires lowest { length lowest.now ≡ length graph.now.code.edges }
-    ensures marks { IfOk result (λ s. (e : ℕ) → e < length graph.now.code.edges → marks_at_edge s e ≡ formed (flag_at lowest.now e) (λ i. flag_at tallied.now (i - 2)) (marks_at_edge sites e)) }
-    ensures jumps { IfOk result (λ s. s.jumps ≡ sites.jumps) }
-    ensures size { IfOk result (λ s. length s.marks ≡ length sites.marks) }
+    requires flow { IsFlowGraph graph.now }
+    requires edges { length sites.marks ≡ length graph.now.code.edges }
+    ensures { IfOk result (λ s. (marked : ℕ → List Mark) → AreSitesBy graph.now marked sites → AreSitesBy graph.now (formed_where lowest.now tallied.now marked) s) }
 {
-    let mut marks = Vec::new(alloc);
-    for e in 0..graph.edge_count() {
-        marks.push(formed(alloc, sites.marks(e), lowest[e], tallied)?)?;
-    }
-    Ok(Sites {
-        marks,
-        jumps: sites.jumps,
-    })
+    let marks = formed_marks(alloc, &sites, lowest, tallied)?;
+    let jumps = all_jumps(alloc, graph, &marks)?;
+    Ok(Sites { marks, jumps })
 }
 
 /// No class costs more than 65,535 cycles.
