@@ -4,7 +4,7 @@ use crate::candidates::Candidate;
 use crate::numbers::Numbers;
 use crate::sets::MarkSet;
 use crate::turning::LoopPlan;
-use paced_images::{SwitchSite, program_of};
+use paced_images::{Scaling, SwitchSite, program_of};
 use scale_base::{Edge, Fragment, NoMemory, Stop};
 use std::alloc::Global;
 use stub_writer::{StubEdge, StubSite};
@@ -189,6 +189,19 @@ impl<'a> Places<'a> {
         }
     }
 
+    /// What the candidates' stubs do.
+    fn acts_of(&self, alloc: Global, scaling: &Scaling) -> Result<Acts, NoMemory> {
+        let mut acts = Vec::new(alloc);
+        for candidate in self.candidates {
+            acts.push(self.act(alloc, &scaling.stubs, *candidate)?)?;
+        }
+        Ok(Acts {
+            start: scaling.summary.start,
+            added: scaling.summary.stub_cycles,
+            acts,
+        })
+    }
+
     /// What the stubs of a set do, as they are built; none where it is refused.
     pub fn acts(
         &self,
@@ -197,29 +210,32 @@ impl<'a> Places<'a> {
         set: &MarkSet,
     ) -> Result<Option<Acts>, NoMemory> {
         let proposal = self.proposal(alloc, set)?;
-        match program_of(
-            alloc,
-            files.image,
-            files.machine,
-            files.loops,
-            &proposal.sites,
-            false,
-            &proposal.tallied,
-            proposal.share.min(4),
-        ) {
-            Ok(program) => {
-                let mut acts = Vec::new(alloc);
-                for candidate in self.candidates {
-                    acts.push(self.act(alloc, &program.scaling.stubs, *candidate)?)?;
-                }
-                Ok(Some(Acts {
-                    start: program.scaling.summary.start,
-                    added: program.scaling.summary.stub_cycles,
-                    acts,
-                }))
-            }
-            Err(Stop::Memory) => Err(NoMemory),
-            Err(Stop::Refused(_)) => Ok(None),
+        match scaling_of(alloc, files, &proposal)? {
+            Some(scaling) => Ok(Some(self.acts_of(alloc, &scaling)?)),
+            None => Ok(None),
         }
+    }
+}
+
+/// The stubs of a proposal, unless it is refused.
+fn scaling_of(
+    alloc: Global,
+    files: &Sources<'_>,
+    proposal: &Proposal,
+) -> Result<Option<Scaling>, NoMemory> {
+    let share = proposal.share.min(4);
+    match program_of(
+        alloc,
+        files.image,
+        files.machine,
+        files.loops,
+        &proposal.sites,
+        false,
+        &proposal.tallied,
+        share,
+    ) {
+        Ok(program) => Ok(Some(program.scaling)),
+        Err(Stop::Memory) => Err(NoMemory),
+        Err(Stop::Refused(_)) => Ok(None),
     }
 }

@@ -196,8 +196,7 @@ fn tally_cycles(plan: &LoopPlan, sums: &Sums) -> u128 {
 /// Whether tallying a loop may save anything: the runs are in it for a while, and it doesn't take much.
 fn is_worth_it(plan: &LoopPlan, long: &LongLoop, sums: &Sums) -> bool {
     let cycles = sums.cycles();
-    long.span.saturating_mul(20) >= cycles
-        && tally_cycles(plan, sums).saturating_mul(5) <= cycles
+    long.span.saturating_mul(20) >= cycles && tally_cycles(plan, sums).saturating_mul(5) <= cycles
 }
 
 /// The loops that may be tallied, those first in which the runs are longest.

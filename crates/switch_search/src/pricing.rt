@@ -102,7 +102,11 @@ impl<'a> Search<'a> {
             Some(d) => set.contains(d),
             None => false,
         };
-        let other = if twin { 0 } else { mark.other.within(begin, end) };
+        let other = if twin {
+            0
+        } else {
+            mark.other.within(begin, end)
+        };
         code.within(begin, end)
             .saturating_add(mark.jumps.within(begin, end))
             .saturating_add(other)

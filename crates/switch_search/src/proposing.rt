@@ -191,7 +191,10 @@ fn proposals_of(
 /// How many sets are priced at most: fewer where the program is large, since the stubs of each are built.
 fn tries_of(numbers: &Numbers) -> usize {
     let each = numbers.edges.len().saturating_add(1);
-    20_000_000usize.checked_div(each).unwrap_or(0).saturating_add(40)
+    20_000_000usize
+        .checked_div(each)
+        .unwrap_or(0)
+        .saturating_add(40)
 }
 
 /// What a program is, and how it is searched.
@@ -213,7 +216,15 @@ fn search_program(
     inputs: &Inputs<'_>,
     mut trace: EdgeTrace,
 ) -> Result<Vec<Proposal>, Stop> {
-    let Program { files, view, power, plan, graph, tree, numbers } = *program;
+    let Program {
+        files,
+        view,
+        power,
+        plan,
+        graph,
+        tree,
+        numbers,
+    } = *program;
     let mut sums = sums_of(alloc, view, power, inputs, numbers.edges.len(), &mut trace)?;
     let count = sums.runs().max(1);
     add_walks(alloc, plan, count, &mut sums, &mut trace)?;
@@ -229,7 +240,10 @@ fn search_program(
         candidates: &candidates,
         plans: &plans,
     };
-    let given = Given { places, jump: costs.jump };
+    let given = Given {
+        places,
+        jump: costs.jump,
+    };
     let mut runs = runs_of(alloc, view, power, inputs, &given, &mut trace)?;
     add_walk_runs(alloc, plan, count, &given, &mut runs, &mut trace)?;
     let mut search = Search {

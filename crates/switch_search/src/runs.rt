@@ -52,7 +52,11 @@ impl Span {
     /// The cycles that lie from one time to another.
     pub fn within(&self, begin: u64, end: u64) -> u64 {
         if self.to <= self.from {
-            return if begin <= self.from && self.from < end { self.cycles } else { 0 };
+            return if begin <= self.from && self.from < end {
+                self.cycles
+            } else {
+                0
+            };
         }
         let from = self.from.max(begin);
         let to = self.to.min(end);
