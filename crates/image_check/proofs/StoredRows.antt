@@ -48,6 +48,7 @@ use Rattle.image_check.specs.Safe.{Owner, owner_bound, sites_of}
 use Rattle.image_check.proofs.OnEdges.{reached_word}
 use Rattle.image_check.proofs.StoredTables.{HasItsRows}
 use Rattle.image_check.proofs.StoredStubs.{HasWholeWords}
+use Rattle.image_check.proofs.StoredPlaces.{all_on}
 use Rattle.image_check.proofs.StoredScan as scan
 use Rattle.image_check.proofs.StoredScan.{IsMarkedAt, HaveItsRows}
 use Rattle.image_check.proofs.StoredSites.{place_same}
@@ -77,11 +78,13 @@ rows_of_marks power l counted n told owner (m ∷ ms) own =
         rows_count power b (n.iteration (loop_of counted c)) told ∙ ap (λ o. owner_bound l o / 2 ^ tables.shift_of b + 1) (sym (h c refl))
     by (marks.Reset c) h = tt
     by (marks.Count c) h = tt
+    by marks.Lowest h = tt
+    by (marks.Tally c) h = tt
 
 module _ (power : PowerModel) (original foreign : Image) (notes : List LoopNote) (v : FlowGraph) (tree : LoopView) (plain stored : Numbers) (weighed : IsWeighed power original notes v tree plain stored) (least : Charged) (sites : List Site)
     (are : AreSitesOf original v.code (fragments_at power original v tree (marks_by_slack power original v tree plain) stored least) sites)
     (limits : ℕ → ℕ) (start : ℕ) (p : IsPatched original foreign (length power.levels) limits sites start)
-    (marked_at : (at : ℕ) (q : Place) → place_at sites at ≡ Some q → IsMarkedAt original v.code at)
+    (marked_at : (at : ℕ) (q : Place) → place_at sites at ≡ Some q → IsMarkedAt original v.code at q)
     (low : (at : ℕ) → is_word_address original at ≡ true → at < 2 ^ 32)
     (whole : HasWholeWords foreign) (off : (a : ℕ) → list_any (is_in a) original.text ≡ true → is_keyed (layout_of foreign) a ≡ false)
     (keyed : foreign.keyed_segment ≢ None) (places : segment_places foreign ≡ segment_places original) where
@@ -120,32 +123,9 @@ module _ (power : PowerModel) (original foreign : Image) (notes : List LoopNote)
       owned.owner_of power original foreign notes v tree plain stored weighed least sites are limits start p marked_at low whole off c e lt (omega (arith, some, clears)))
 
   its : (at : ℕ) (q : Place) → place_at sites at ≡ Some q → HaveItsRows l owner q
-  its at q d = by q (p.stubs [] at q (marked_at at q d).word d).of_image d
-    where
-      source : (f : ℕ) × Reached (kind_at t) t.entry f at
-      source = scan.source original foreign (length power.levels) limits sites start p code prog.reached marked_at low whole off at (marked_at at q d)
-
-      there : (i : Instr) (x : Edge) → instr_at t at ≡ Some i → ((r : Bool) → Within x (edges_of (instr_kind t at i) at r)) → (e : ℕ) × (slice_get code.edges e ≡ Some x)
-      there i x is within = scan.edge_there original foreign (length power.levels) limits sites start p code prog.reached marked_at low whole off at source.0 i x source.1 is within
-
-      rows : (q : Place) (x : Edge) (class : Class) → place_at sites at ≡ Some q → x.at ≡ at → edge_class t (Some x) ≡ Some class → (e : ℕ) × (slice_get code.edges e ≡ Some x) → All (HasItsRows l owner) (fragments_of_class (Some q) class)
-      rows q x class d here is e =
-          let lt = slice_get_within code.edges e.0 x e.1 in
-          let way = are.ways e.0 class lt (ap (edge_class t) e.1 ∙ is) in
-          let same : fragments_of_class (Some q) class ≡ frags e.0 = ap (λ o. fragments_of_class o class) (sym d) ∙ (ap (λ a. fragments_of_class (place_at sites a) class) (sym (ap edge_at e.1 ∙ here)) ∙ way) in
-          subst (All (HasItsRows l owner)) (sym same) (edge_rows e.0 lt)
-
-      by : (q : Place) → IsOfImage original at q → place_at sites at ≡ Some q → HaveItsRows l owner q
-      by (Forked op rs1 rs2 untaken taken) of d =
-          let i = instr.Branch op rs1 rs2 of.0 in
-          let x : Edge = record { at = at; kind = Taken; to = moved_by at of.0 } in
-          let y : Edge = record { at = at; kind = Untaken; to = at + 4 } in (
-            rows (Forked op rs1 rs2 untaken taken) y classes.Untaken d refl (ap (λ o. class_by o Untaken) of.1) (there i y of.1 (λ r. inr (inl refl))),
-            rows (Forked op rs1 rs2 untaken taken) x classes.Taken d refl (ap (λ o. class_by o Taken) of.1) (there i x of.1 (λ r. inl refl)),
-          )
-      by (Straight w) of d =
-          let x : Edge = record { at = at; kind = Jump; to = moved_by at of.0 } in
-          rows (Straight w) x classes.Jump d refl (ap (λ o. class_by o Jump) of.1) (there (instr.Jal 0 of.0) x of.1 (λ r. inl refl))
+  its at q d =
+      let m = marked_at at q d in
+      all_on original code prog.reached frags sites are (HasItsRows l owner) edge_rows at m.edge m.low m.starts q d (p.stubs [] at q m.word d).of_image
 
   -- ---- the scan
 
