@@ -2,7 +2,9 @@
 
 ghost use Rattle.std.specs.Prelude.{◌≡◌, ◌≤◌, length};
 
-use level_tables::{entry, exit_rows, shift, word};
+use level_tables::{
+    LevelBudgets, entry, exit_rows, lowest_within, shift, tally_from_within, tally_shift, word,
+};
 use power_model::{Costs, Level, Levels, PairTable, Power};
 
 /// Three levels of 4, 2 and 1 time units and 1, 3 and 8 energy units per cycle.
@@ -121,4 +123,61 @@ fn has_a_row_for_each_shifted_count(rt: HostRuntime) {
     assert_eq!(rt; rows.count(), 11);
     let expected: [u32; 16] = [0, 0, 0, 0, 0, 0, 0, 0, 0x100, 0x200, 0x210, 0, 0, 0, 0, 0];
     assert_eq!(rt; rows.words, expected);
+}
+
+/// A switch takes 10 time units, so with `left` cycles left every level goes to the lowest one where the slack is at least 3 * left + 10, less what the budget
+/// of the fastest level is shorter, and where the least that is left is at least 10.
+#[test]
+fn goes_to_the_lowest_level_from_each(rt: HostRuntime) {
+    let power = machine(PairTable::uniform(10));
+    let alike = LevelBudgets::alike(28);
+    for (slack, least, lowest) in [
+        (40, Some(10), true),
+        (39, Some(10), false),
+        (40, Some(9), false),
+        (40, None, false),
+    ] {
+        let goes = lowest_within(&power, &alike, slack, 10, least);
+        assert_eq!(rt; goes, lowest, "slack {slack}");
+    }
+    let shorter = LevelBudgets {
+        start: 2,
+        first: 95,
+        others: 100,
+    };
+    for (slack, lowest) in [(35, true), (34, false)] {
+        let goes = lowest_within(&power, &shorter, slack, 10, Some(10));
+        assert_eq!(rt; goes, lowest, "slack {slack}");
+    }
+}
+
+/// By bound and cycles of a turn the least shifted count behind which so much less is left that every level goes to the lowest one; 2047 where none does.
+#[test]
+fn goes_to_the_lowest_level_from_a_count_on(rt: HostRuntime) {
+    for (bound, by) in [
+        (0, 0),
+        (2045, 0),
+        (2046, 1),
+        (4091, 1),
+        (4092, 2),
+        (4_294_967_295, 22),
+    ] {
+        assert_eq!(rt; tally_shift(bound), by, "bound {bound}");
+    }
+    let power = machine(PairTable::uniform(10));
+    let alike = LevelBudgets::alike(28);
+    for (bound, iteration, slack, left, least, from) in [
+        (1000, 3, 40, 100, Some(10), 30),
+        (1000, 3, 10, 100, Some(10), 34),
+        (1000, 3, 9, 100, Some(10), 2047),
+        (1000, 3, 40, 100, Some(9), 2047),
+        (1000, 3, 40, 10, Some(10), 1),
+        (5000, 3, 40, 100, Some(10), 8),
+        (4_294_967_295, 1, 10, 8_581_545_984, Some(10), 2046),
+        (4_294_967_295, 1, 10, 8_581_545_985, Some(10), 2047),
+        (4_294_967_295, u64::MAX, 10, u64::MAX, Some(10), 1),
+    ] {
+        let found = tally_from_within(&power, &alike, bound, iteration, slack, left, least);
+        assert_eq!(rt; found, from, "bound {bound}, {left} left, slack {slack}");
+    }
 }

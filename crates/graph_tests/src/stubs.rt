@@ -27,6 +27,15 @@ const COUNTED: [u32; 35] = [
     0x00000100, 0x00000200, 0x00000210,
 ];
 
+/// The words of a branch's stub with a Lowest that may go down where it isn't taken, and one that may not where it is.
+const LOWERED: [u32; 5] = [0x00051663, 0xFE002E23, 0x810FF06F, 0x80002223, 0xFF9FE06F];
+
+/// The words of a branch's stub with a Tally where it is taken.
+const TALLIED: [u32; 13] = [
+    0x00051463, 0x814FF06F, 0x80502023, 0x80C02283, 0x00128293, 0x80502623, 0x0042D293, 0xC1828293,
+    0x41F2D293, 0x8082F293, 0xFE02AE23, 0x80002283, 0xFD9FE06F,
+];
+
 /// A marked edge with one fragment.
 #[tactic(auto, using(crate::proofs::Sites::one_fragment))]
 fn edge(
@@ -167,6 +176,51 @@ fn a_counted_loop_with_its_rows(rt: HostRuntime) -> Result<(), Fail> {
     );
     let patch = block.patches.first().ok_or("there is a patch")?;
     assert_eq!(rt; patch.word, 0x7ED0006F);
+    Ok(())
+}
+
+#[test]
+fn the_lowest_level_on_both_ways(rt: HostRuntime) -> Result<(), Fail> {
+    let alloc = rt.alloc();
+    let mut edges = Vec::new(alloc);
+    let down = Fragment::Lowest { down: true };
+    let untaken = edge(alloc, 0x10014, EdgeKind::Untaken, 0x10018, down)?;
+    push_edge(&mut edges, untaken)?;
+    let as_it_is = Fragment::Lowest { down: false };
+    let taken = edge(alloc, 0x10014, EdgeKind::Taken, 0x10008, as_it_is)?;
+    push_edge(&mut edges, taken)?;
+    let sites = branch(alloc, 0x10014, BranchOp::Bne, -12, edges)?;
+    assert_eq!(rt; block_len(&sites), 20);
+    let block = emit(alloc, &sites, 0x11000)
+        .ok()
+        .ok_or("the stub is in reach")?;
+    assert_eq!(rt;
+        words_of(alloc, &block.bytes)?.as_slice(),
+        LOWERED.as_slice()
+    );
+    Ok(())
+}
+
+#[test]
+fn a_loop_that_goes_down_from_a_count_on(rt: HostRuntime) -> Result<(), Fail> {
+    let alloc = rt.alloc();
+    let turned = Fragment::Tally {
+        counter: 3,
+        shift: 4,
+        from: 1000,
+    };
+    let mut edges = Vec::new(alloc);
+    let taken = edge(alloc, 0x10014, EdgeKind::Taken, 0x10008, turned)?;
+    push_edge(&mut edges, taken)?;
+    let sites = branch(alloc, 0x10014, BranchOp::Bne, -12, edges)?;
+    assert_eq!(rt; block_len(&sites), 52);
+    let block = emit(alloc, &sites, 0x11000)
+        .ok()
+        .ok_or("the stub is in reach")?;
+    assert_eq!(rt;
+        words_of(alloc, &block.bytes)?.as_slice(),
+        TALLIED.as_slice()
+    );
     Ok(())
 }
 

@@ -1,6 +1,6 @@
 -- Switches within budgets: each level has a time by which a job that runs at it is to end, at most the deadline. A switch may use what the budget of the level behind it has
 -- more than that of the level before it, and not only the slack of its own edge. With the deadline as the budget of each level it is the test of time of Tables.
-use Rattle.std.specs.Prelude.{◌≡◌, ℕ, zero, suc, ◌+◌, ◌-◌, ◌*◌, ◌<◌, ◌≤◌, max, ◌==◌, Bool, true, cond, ◌&&◌, nat_le, List, [], ◌∷◌, All, length, if◌then◌else◌}
+use Rattle.std.specs.Prelude.{◌≡◌, ℕ, zero, suc, ◌+◌, ◌-◌, ◌*◌, ◌<◌, ◌≤◌, max, ◌==◌, Bool, true, cond, ◌&&◌, nat_le, nat_lt, List, [], ◌∷◌, All, length, if◌then◌else◌}
 use Rattle.power_model.specs.Levels.{level}
 use Rattle.power_model.specs.Numbers.{PowerModel}
 use Rattle.power_model.specs.Price.{switch_time}
@@ -23,9 +23,12 @@ is_switch_in_budget power budget edge i l =
 abbrev pub meets_in_budget : PowerModel → (budget : ℕ → ℕ) → EdgeNumbers → ℕ → ℕ → Bool
 meets_in_budget power budget edge i l = is_switch_in_budget power budget edge i l && pays power edge.least i l
 
--- the budgets of levels, as they are handed in: the starting level has its own
+-- the budgets of levels, as they are handed in: the starting level has its own, and so has the lowest one
 abbrev pub budget_at : LevelBudgets → ℕ → ℕ
-budget_at budgets i = if i == budgets.start then budgets.first else budgets.others
+budget_at budgets i =
+    if i == budgets.start then budgets.first else
+    (if i == 0 then budgets.lowest else
+    (if nat_lt i budgets.start then budgets.between else budgets.above))
 
 -- ---- the budgets of the first switch
 

@@ -3,12 +3,15 @@
 ghost use Rattle.std.specs.Prelude.{◌≡◌, ℕ};
 ghost use Rattle.level_tables.specs.Budgets.{budget_at};
 
-/// By level, the time by which a job that runs at it is to end, in time units: one for the level at which jobs start, and one for the others.
+/// By level, the time by which a job that runs at it is to end, in time units: one for the level at which jobs start, one for the lowest level, one for
+/// those between the two, and one for those above the start.
 #[derive(Clone, Copy, Drop)]
 pub struct LevelBudgets {
     pub start: u8,
     pub first: u64,
-    pub others: u64,
+    pub lowest: u64,
+    pub between: u64,
+    pub above: u64,
 }
 
 impl LevelBudgets {
@@ -19,7 +22,9 @@ impl LevelBudgets {
         LevelBudgets {
             start: 0,
             first: time,
-            others: time,
+            lowest: time,
+            between: time,
+            above: time,
         }
     }
 
@@ -29,8 +34,12 @@ impl LevelBudgets {
     {
         if level == self.start {
             self.first
+        } else if level == 0 {
+            self.lowest
+        } else if level < self.start {
+            self.between
         } else {
-            self.others
+            self.above
         }
     }
 }

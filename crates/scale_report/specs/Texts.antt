@@ -1,6 +1,6 @@
 -- The texts that the program prints, byte for byte. Each line ends with one line feed. Numbers are decimal, without leading zeros;
 -- an address is `0x` and eight lower-case hexadecimal digits.
-use Rattle.std.specs.Prelude.{codes, ℕ, zero, suc, ◌+◌, ◌/◌, ◌%◌, nat_lt, if◌then◌else◌, List, [], ◌∷◌, ◌++◌, length, flat_map, Option, Some, None}
+use Rattle.std.specs.Prelude.{codes, cond, ℕ, zero, suc, ◌+◌, ◌/◌, ◌%◌, nat_lt, if◌then◌else◌, List, [], ◌∷◌, ◌++◌, length, flat_map, Option, Some, None}
 use Rattle.std.specs.Fmt.{decimal}
 use Rattle.scale_base.specs.declared.summary.Summary.{Summary}
 use Rattle.scale_base.specs.declared.summary.Lowered.{Lowered}
@@ -224,6 +224,8 @@ fragment_words loop_no (fragment.Switch word) = codes "switch " ++ word_digits w
 fragment_words loop_no (fragment.Exit counter shift rows) = codes "exit " ++ decimal loop_no ++ codes " " ++ decimal shift ++ spaced_words rows
 fragment_words loop_no (fragment.Reset counter) = codes "reset " ++ decimal loop_no
 fragment_words loop_no (fragment.Count counter) = codes "count " ++ decimal loop_no
+fragment_words loop_no (fragment.Lowest down) = codes "lowest" ++ cond down [] (codes " off")
+fragment_words loop_no (fragment.Tally counter shift from) = codes "tally " ++ decimal loop_no ++ codes " " ++ decimal shift ++ codes " " ++ decimal from
 
 -- the line of a fragment
 unfoldable pub site_line : SiteLine → List ℕ

@@ -29,6 +29,11 @@ impl fmt::Display for FragmentWords<'_> {
             }
             Fragment::Reset { .. } => write!(f, "reset {no}"),
             Fragment::Count { .. } => write!(f, "count {no}"),
+            Fragment::Lowest { down } => {
+                let off = if *down { "" } else { " off" };
+                write!(f, "lowest{off}")
+            }
+            Fragment::Tally { shift, from, .. } => write!(f, "tally {no} {shift} {from}"),
         }
     }
 }

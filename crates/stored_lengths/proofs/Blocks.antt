@@ -9,7 +9,7 @@ use Rattle.std.proofs.lemmas.List.{length-append}
 use Rattle.std.proofs.lemmas.List.Sums.{sum_by-cons}
 use Rattle.std.proofs.lemmas.List.Concat.{flat_map-cons}
 use Rattle.scale_base.specs.declared.fragments.Fragment.{Fragment}
-use Rattle.scale_base.specs.declared.fragments.Fragment.TheVariants.{Switch, Exit, Reset, Count}
+use Rattle.scale_base.specs.declared.fragments.Fragment.TheVariants.{Switch, Exit, Reset, Count, Lowest, Tally}
 use Rattle.scale_base.specs.Image.{Image, image_of, is_in}
 use Rattle.elf_patch.specs.Stored.{IsStubBase}
 use Rattle.elf_patch.proofs.Laws.{some_place}
@@ -53,6 +53,8 @@ rows_within levels limits (Switch word) h = omega arith
 rows_within levels limits (Exit counter shift rows) h = h.2
 rows_within levels limits (Reset counter) h = omega arith
 rows_within levels limits (Count counter) h = omega arith
+rows_within levels limits (Lowest down) h = omega arith
+rows_within levels limits (Tally counter shift from) h = omega arith
 
 all_rows_within : (levels : ℕ) (limits : ℕ → ℕ) (fs : List Fragment) → All (IsSafe levels limits) fs → length (rows_by fs) ≤ sum_by code_len fs
 all_rows_within levels limits [] h = omega arith

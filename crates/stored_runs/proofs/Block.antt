@@ -4,7 +4,7 @@ use Rattle.std.specs.Prelude.{All}
 use Rattle.std.proofs.lemmas.List.Elements.{All-nil, All-cons}
 use Rattle.std.proofs.lemmas.List.Concat.{flat_map-cons}
 use Rattle.scale_base.specs.declared.fragments.Fragment.{Fragment}
-use Rattle.scale_base.specs.declared.fragments.Fragment.TheVariants.{Switch, Exit, Reset, Count}
+use Rattle.scale_base.specs.declared.fragments.Fragment.TheVariants.{Switch, Exit, Reset, Count, Lowest, Tally}
 use Rattle.scale_base.specs.Image.{Image}
 use Rattle.stub_writer.specs.Fragments.{IsFragment, fragment_rows}
 use Rattle.stub_writer.specs.Stubs.{Site, Way, Place, Forked, Straight, rows_by, way_rows, stub_rows, stub_rows_of, block_rows}
@@ -16,6 +16,8 @@ safe_fragment levels limits (Switch word) h = tt
 safe_fragment levels limits (Exit counter shift rows) h = (h.0, h.1, h.2)
 safe_fragment levels limits (Reset counter) h = h
 safe_fragment levels limits (Count counter) h = h
+safe_fragment levels limits (Lowest down) h = tt
+safe_fragment levels limits (Tally counter shift from) h = (h.0, h.1, h.2, h.3)
 
 safe_fragments : (levels : ℕ) (limits : ℕ → ℕ) (fs : List Fragment) → All (IsSafe levels limits) fs → All IsFragment fs
 safe_fragments levels limits [] h = All-nil IsFragment
@@ -48,6 +50,8 @@ fragment_words levels limits (Switch word) h = tt
 fragment_words levels limits (Exit counter shift rows) h = table_words levels rows h.4
 fragment_words levels limits (Reset counter) h = tt
 fragment_words levels limits (Count counter) h = tt
+fragment_words levels limits (Lowest down) h = tt
+fragment_words levels limits (Tally counter shift from) h = tt
 
 fragments_words : (levels : ℕ) (limits : ℕ → ℕ) (fs : List Fragment) → All (IsSafe levels limits) fs → AllWords (rows_by fs)
 fragments_words levels limits [] h = tt

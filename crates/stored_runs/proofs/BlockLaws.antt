@@ -12,7 +12,7 @@ use Rattle.scale_base.specs.Word.{word_of, FieldsInRange}
 use Rattle.scale_base.specs.State.{Setting}
 use Rattle.scale_base.proofs.Laws.{word_small}
 use Rattle.scale_base.specs.declared.fragments.Fragment.{Fragment}
-use Rattle.scale_base.specs.declared.fragments.Fragment.TheVariants.{Switch, Exit, Reset, Count}
+use Rattle.scale_base.specs.declared.fragments.Fragment.TheVariants.{Switch, Exit, Reset, Count, Lowest, Tally}
 use Rattle.stub_writer.specs.Fragments.{IsFragment, fragment_code, code_len, rows_len}
 use Rattle.stub_writer.specs.Stubs.{Site, Way, Place, Forked, Straight, way_len, way_rows, fragments_code, jump, jump_at, way_code, taken_at, stub_code_of, stub_len, stub_len_of, stub_rows, stub_rows_of, stubs_code, stubs_len, block_rows, block_words, block_bytes, reaches, stub_reaches_of, is_near, out_of_reach, word_bytes}
 use Rattle.stored_runs.specs.Meaning.{Stand}
@@ -44,6 +44,8 @@ codes_small (f ∷ fs) = let rest = codes_small fs in let one = code_small f in 
     code_small (Exit counter shift rows) = omega arith
     code_small (Reset counter) = omega arith
     code_small (Count counter) = omega arith
+    code_small (Lowest down) = omega arith
+    code_small (Tally counter shift from) = omega arith
 
 -- ---- ranges
 

@@ -1,20 +1,21 @@
 -- What each fragment does: its moves from the values that the state has.
-use Rattle.std.proofs.Common.{◌≡◌, ℕ, ℤ, pos, negsuc, ◌+◌, ◌-◌, ◌*◌, ◌/◌, ◌%◌, ◌^◌, ◌<◌, ◌≤◌, true, false, List, [], ◌∷◌, refl, arith, sym, ◌∙◌, ap, subst, get_or-set_other, bit_and}
+use Rattle.std.proofs.Common.{◌≡◌, ℕ, ℤ, pos, negsuc, ◌+◌, ◌-◌, ◌*◌, ◌/◌, ◌%◌, ◌^◌, ◌<◌, ◌≤◌, Bool, true, false, cond, List, [], ◌∷◌, refl, arith, sym, ◌∙◌, ap, subst, get_or-set_other, bit_and}
 use Rattle.std.specs.Prelude.{slice_index, slice_set, nat_lt}
 use Rattle.std.proofs.lemmas.List.{set-get_or}
 use Rattle.std.proofs.lemmas.Bool.{cond_both}
 use Rattle.std.proofs.lemmas.Bool.Decides.{nat_tests}
 use Rattle.std.proofs.lemmas.Int.{ints}
 use Rattle.std.proofs.lemmas.Nat.{and_mask}
-use Rattle.scale_base.specs.declared.instruction.ImmOp.TheVariants.{Addi, Andi, Slli, Srli}
+use Rattle.scale_base.specs.declared.instruction.ImmOp.TheVariants.{Addi, Andi, Slli, Srli, Srai}
 use Rattle.scale_base.specs.declared.instruction.RegOp.TheVariants.{Add, Srl}
 use Rattle.scale_base.specs.declared.stepping.Stepped.{Stepped}
 use Rattle.scale_base.specs.Arith.{moved_by, plus, unsigned, imm_result, reg_result}
 use Rattle.scale_base.specs.State.{Setting, State, reg, word_at}
-use Rattle.stub_writer.specs.Fragments.{hi, lo, switch_code, exit_code, count_code, reset_code}
-use Rattle.stored_runs.specs.Meaning.{Stand, StepsLead, along, along_storing, IsSound, IsRowAt, IsCounter, four_bits, level_in, row_place, switched, exited, counted, cleared}
-use Rattle.stored_runs.proofs.Points.{X5, X6, Save0, Save1, Counter, Port, point_of, at_point, own_point, regs_same, window_at}
-use Rattle.stored_runs.proofs.Moves.{Move, Put, Clear, Get, Work, Join, Upper, Row, IsWhole, moves, AllowsAll, steps_of, run_transitions}
+use Rattle.stub_writer.specs.Fragments.{port, hi, lo, switch_code, exit_code, count_code, reset_code, lowest_code, tally_code}
+use Rattle.stored_runs.specs.Meaning.{Stand, StepsLead, along, along_storing, behind, IsSound, IsRowAt, IsCounter, four_bits, is_due, level_in, row_place, switched, exited, counted, cleared}
+use Rattle.stored_runs.proofs.Points.{X5, X6, Save0, Save1, Counter, Port, Slot, slot_index, with_held, point_of, at_point, own_point, regs_same, window_at, window_same, write_slot}
+use Rattle.stored_runs.proofs.Moves.{Move, Put, Clear, Steer, Get, Work, Join, Upper, Row, IsWhole, moves, AllowsAll, steps_of, run_transitions}
+use Rattle.stored_runs.proofs.TallyWords.{steered_is}
 
 -- ---- arithmetic
 
@@ -118,7 +119,7 @@ switch_does env s word sound small fits stand =
 pub reset_does : (env : Setting) (s : State) (k : ℕ) → IsSound env s → IsCounter k → Stand env s.bytes s.pc (reset_code k) → StepsLead env s (along s.pc (reset_code k)) (cleared s k)
 reset_does env s k sound c stand =
     let p = point_of s k in
-    let ms : List Move = Clear ∷ [] in
+    let ms : List Move = Clear Counter ∷ [] in
     let all : AllowsAll env s.bytes p ms = (tt, tt) in
     let ran = run_transitions env s k p ms (whole env s k sound c) all stand in
     leads_as env (at_point s k p) s (steps_of k s.bytes p ms) (along s.pc (reset_code k)) (at_point s k (moves s.bytes p ms)) (cleared s k)
@@ -148,7 +149,7 @@ abbrev exit_moves : (shift table : ℕ) → List Move
 exit_moves shift table =
     Put Save0 X5 ∷ Put Save1 X6 ∷ Get X5 Counter ∷ Work Srli X5 (pos shift) ∷ Work Slli X5 (pos 2) ∷ Upper X6 (hi table)
     ∷ Join Add X5 X6 ∷ Row (lo table) ∷ Get X5 Port ∷ Work Slli X5 (pos 2) ∷ Join Srl X6 X5 ∷ Work Andi X6 (pos 15)
-    ∷ Clear ∷ Put Port X6 ∷ Get X6 Save1 ∷ Get X5 Save0 ∷ []
+    ∷ Clear Counter ∷ Put Port X6 ∷ Get X6 Save1 ∷ Get X5 Save0 ∷ []
 
 -- the address that the Exit reads, as the machine has it
 abbrev row_sum : (count shift table : ℕ) → ℕ
@@ -183,3 +184,88 @@ exit_does env s k shift table sound c short row fits stand =
     (end_as s _ _ _ _ (omega arith)
     (ap (λ v. window_at s.window k (record p { save0 = reg s.regs 5; save1 = reg s.regs 6; counter = 0; level = v })) got))
     ran
+
+-- ---- Lowest
+
+-- one word is put anew
+one_window : (s : State) (k : ℕ) (slot : Slot) (v : ℕ) → IsCounter k → window_at s.window k (with_held (point_of s k) slot v) ≡ slice_set s.window (slot_index k slot) v
+one_window s k slot v c =
+    sym (write_slot s.window k (point_of s k) slot v c) ∙ ap (λ w. slice_set w (slot_index k slot) v) (window_same s.window k)
+
+pub lowest_does : (env : Setting) (s : State) (down : Bool) → IsSound env s → Stand env s.bytes s.pc (lowest_code down) → StepsLead env s (cond down (along_storing 0 0 s.pc (lowest_code down)) (along s.pc (lowest_code down))) (behind s 1 (slice_set s.window (cond down port 1) 0))
+lowest_does env s true sound stand =
+    let p = point_of s 2 in
+    let ms : List Move = Clear Port ∷ [] in
+    let c : IsCounter 2 = record { low = omega arith; high = omega arith } in
+    let some : 0 < env.levels = omega (arith, sound.level) in
+    let all : AllowsAll env s.bytes p ms = (some, tt) in
+    let ran = run_transitions env s 2 p ms (whole env s 2 sound c) all stand in
+    leads_as env (at_point s 2 p) s (steps_of 2 s.bytes p ms) (along_storing 0 0 s.pc (lowest_code true)) (at_point s 2 (moves s.bytes p ms)) (behind s 1 (slice_set s.window port 0))
+    (own_point s 2) refl
+    (end_as s _ _ _ _ (omega arith) (one_window s 2 Port 0 c))
+    ran
+lowest_does env s false sound stand =
+    let p = point_of s 2 in
+    let ms : List Move = Clear Save1 ∷ [] in
+    let c : IsCounter 2 = record { low = omega arith; high = omega arith } in
+    let all : AllowsAll env s.bytes p ms = (tt, tt) in
+    let ran = run_transitions env s 2 p ms (whole env s 2 sound c) all stand in
+    leads_as env (at_point s 2 p) s (steps_of 2 s.bytes p ms) (along s.pc (lowest_code false)) (at_point s 2 (moves s.bytes p ms)) (behind s 1 (slice_set s.window 1 0))
+    (own_point s 2) refl
+    (end_as s _ _ _ _ (omega arith) (one_window s 2 Save1 0 c))
+    ran
+
+-- ---- Tally
+
+abbrev tally_moves : (shift from : ℕ) (due : Bool) → List Move
+tally_moves shift from due =
+    Put Save0 X5 ∷ Get X5 Counter ∷ Work Addi X5 (pos 1) ∷ Put Counter X5 ∷ Work Srli X5 (pos shift) ∷ Work Addi X5 (negsuc (from - 1))
+    ∷ Work Srai X5 (pos 31) ∷ Work Andi X5 (negsuc 2039) ∷ Steer due ∷ Get X5 Save0 ∷ []
+
+-- the save slot of t0, the counter and one word more are put anew
+tally_window : (s : State) (k a v : ℕ) (slot : Slot) → IsCounter k
+    → window_at s.window k (with_held (with_held (with_held (point_of s k) Save0 a) Counter v) slot 0) ≡ slice_set (slice_set (slice_set s.window 0 a) k v) (slot_index k slot) 0
+tally_window s k a v slot c =
+    let p0 = with_held (point_of s k) Save0 a in
+    let p1 = with_held p0 Counter v in
+    sym (write_slot s.window k p1 slot 0 c)
+    ∙ ap (λ w. slice_set w (slot_index k slot) 0) (sym (write_slot s.window k p0 Counter v c) ∙ ap (λ w. slice_set w k v) (one_window s k Save0 a c))
+
+-- the counter is one more, t0 is in its save slot, and 0 is at the port, or in the save slot of t1
+abbrev tallied : State → (counter : ℕ) → Bool → State
+tallied s counter due =
+    behind s 10 (slice_set (slice_set (slice_set s.window 0 (reg s.regs 5)) counter ((slice_index s.window counter + 1) % 2 ^ 32)) (cond due port 1) 0)
+
+abbrev tally_steps : State → (counter shift from : ℕ) → Bool → List Stepped
+tally_steps s counter shift from due =
+    cond due (along_storing 8 0 s.pc (tally_code counter shift from)) (along s.pc (tally_code counter shift from))
+
+tally_by : (env : Setting) (s : State) (k shift from : ℕ) → IsSound env s → IsCounter k → shift < 32 → 1 ≤ from → from < 2048 → slice_index s.window k + 1 < 2 ^ 31 → Stand env s.bytes s.pc (tally_code k shift from) → (due : Bool) → is_due shift from (slice_index s.window k) ≡ due
+    → StepsLead env s (tally_steps s k shift from due) (tallied s k due)
+tally_by env s k shift from sound c short least most small stand true e =
+    let p = point_of s k in
+    let ms = tally_moves shift from true in
+    let some : 0 < env.levels = omega (arith, sound.level) in
+    let there = steered_is shift from (slice_index s.window k) short least most small true e in
+    let all : AllowsAll env s.bytes p ms = (tt, (tt, (tt, (tt, (tt, (tt, (tt, (tt, ((there, some), (tt, tt)))))))))) in
+    let ran = run_transitions env s k p ms (whole env s k sound c) all stand in
+    leads_as env (at_point s k p) s (steps_of k s.bytes p ms) (along_storing 8 0 s.pc (tally_code k shift from)) (at_point s k (moves s.bytes p ms)) (tallied s k true)
+    (own_point s k) refl
+    (end_as s _ _ _ _ (omega arith) (tally_window s k (reg s.regs 5) ((slice_index s.window k + 1) % 2 ^ 32) Port c))
+    ran
+tally_by env s k shift from sound c short least most small stand false e =
+    let p = point_of s k in
+    let ms = tally_moves shift from false in
+    let some : 0 < env.levels = omega (arith, sound.level) in
+    let there = steered_is shift from (slice_index s.window k) short least most small false e in
+    let all : AllowsAll env s.bytes p ms = (tt, (tt, (tt, (tt, (tt, (tt, (tt, (tt, ((there, some), (tt, tt)))))))))) in
+    let ran = run_transitions env s k p ms (whole env s k sound c) all stand in
+    leads_as env (at_point s k p) s (steps_of k s.bytes p ms) (along s.pc (tally_code k shift from)) (at_point s k (moves s.bytes p ms)) (tallied s k false)
+    (own_point s k) refl
+    (end_as s _ _ _ _ (omega arith) (tally_window s k (reg s.regs 5) ((slice_index s.window k + 1) % 2 ^ 32) Save1 c))
+    ran
+
+pub tally_does : (env : Setting) (s : State) (k shift from : ℕ) → IsSound env s → IsCounter k → shift < 32 → 1 ≤ from → from < 2048 → slice_index s.window k + 1 < 2 ^ 31 → Stand env s.bytes s.pc (tally_code k shift from)
+    → StepsLead env s (tally_steps s k shift from (is_due shift from (slice_index s.window k))) (tallied s k (is_due shift from (slice_index s.window k)))
+tally_does env s k shift from sound c short least most small stand =
+    tally_by env s k shift from sound c short least most small stand (is_due shift from (slice_index s.window k)) refl

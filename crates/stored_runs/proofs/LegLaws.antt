@@ -5,7 +5,7 @@ use Rattle.std.specs.List.{sum_by}
 use Rattle.std.proofs.lemmas.List.Sums.{sum_by-cons, sum_by-append}
 use Rattle.std.proofs.lemmas.List.Concat.{flat_map-cons}
 use Rattle.scale_base.specs.declared.fragments.Fragment.{Fragment}
-use Rattle.scale_base.specs.declared.fragments.Fragment.TheVariants.{Switch, Exit, Reset, Count}
+use Rattle.scale_base.specs.declared.fragments.Fragment.TheVariants.{Switch, Exit, Reset, Count, Lowest, Tally}
 use Rattle.scale_base.specs.declared.stepping.Class.{Class}
 use Rattle.scale_base.specs.declared.stepping.Class.TheVariants as classes
 use Rattle.scale_base.specs.declared.stepping.Stepped.{Stepped}
@@ -67,6 +67,8 @@ fragment_least costs h (Switch word) = omega (arith, h classes.Store, h classes.
 fragment_least costs h (Exit counter shift rows) = omega (arith, h classes.Store, h classes.Load, h classes.Alu)
 fragment_least costs h (Reset counter) = omega (arith, h classes.Store)
 fragment_least costs h (Count counter) = omega (arith, h classes.Store, h classes.Load, h classes.Alu)
+fragment_least costs h (Lowest down) = omega (arith, h classes.Store)
+fragment_least costs h (Tally counter shift from) = omega (arith, h classes.Store, h classes.Load, h classes.Alu)
 
 fragments_least : (costs : Class → ℕ) → ((class : Class) → 1 ≤ costs class) → (fs : List Fragment) → sum_by (fragment_cost (λ class. 1)) fs ≤ sum_by (fragment_cost costs) fs
 fragments_least costs h [] = omega arith

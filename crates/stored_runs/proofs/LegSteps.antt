@@ -1,20 +1,20 @@
 -- The steps of a passage: where they are fetched, what they cost, and what they store at the port.
-use Rattle.std.proofs.Common.{◌≡◌, ℕ, zero, suc, ◌+◌, ◌*◌, ◌%◌, ◌^◌, ◌<◌, true, false, List, [], ◌∷◌, ◌++◌, length, drop, refl, arith, sym, ◌∙◌, ap, subst, append_assoc}
+use Rattle.std.proofs.Common.{◌≡◌, ℕ, zero, suc, ◌+◌, ◌*◌, ◌%◌, ◌^◌, ◌<◌, Bool, true, false, cond, List, [], ◌∷◌, ◌++◌, length, drop, refl, arith, sym, ◌∙◌, ap, subst, append_assoc}
 use Rattle.std.specs.Prelude.{All, slice_index, Option, Some, None}
 use Rattle.std.specs.List.{sum_by}
 use Rattle.std.proofs.lemmas.List.Elements.{All-nil, All-cons, All-append}
 use Rattle.std.proofs.lemmas.List.Sums.{sum_by-cons, sum_by-append}
 use Rattle.scale_base.specs.declared.fragments.Fragment.{Fragment}
-use Rattle.scale_base.specs.declared.fragments.Fragment.TheVariants.{Switch, Exit, Reset, Count}
+use Rattle.scale_base.specs.declared.fragments.Fragment.TheVariants.{Switch, Exit, Reset, Count, Lowest, Tally}
 use Rattle.scale_base.specs.declared.instruction.Instr.{Instr}
 use Rattle.scale_base.specs.declared.stepping.Class.{Class}
 use Rattle.scale_base.specs.declared.stepping.Class.TheVariants as classes
 use Rattle.scale_base.specs.declared.stepping.Stepped.{Stepped}
 use Rattle.scale_base.specs.Class.{class_of}
 use Rattle.scale_base.specs.State.{State}
-use Rattle.stub_writer.specs.Fragments.{port, code_len, rows_len, switch_code, exit_code, count_code, reset_code}
+use Rattle.stub_writer.specs.Fragments.{port, code_len, rows_len, switch_code, exit_code, count_code, reset_code, lowest_code, tally_code}
 use Rattle.stub_writer.specs.Stubs.{Way, jump_at}
-use Rattle.stored_runs.specs.Meaning.{four_bits, keyed_step, along, along_storing}
+use Rattle.stored_runs.specs.Meaning.{four_bits, is_due, keyed_step, along, along_storing}
 use Rattle.stored_runs.specs.Ways.{row_at, window_behind, fragment_steps, fragments_steps, turn, way_steps}
 use Rattle.stored_runs.specs.Cycles.{stepped_cycles, fragment_cost}
 use Rattle.stored_runs.proofs.Cycles.{fragments_cycles}
@@ -76,11 +76,17 @@ storing_parts (suc n) level at (i ∷ is) lt =
       tail_is = rest.tail_is;
     }
 
+either_keyed : (stores : Bool) (n at : ℕ) (is : List Instr) → All IsKeyed (cond stores (along_storing n 0 at is) (along at is))
+either_keyed true n at is = storing_keyed n 0 at is
+either_keyed false n at is = along_keyed at is
+
 fragment_keyed : (bytes : ℕ → ℕ) (table at : ℕ) (f : Fragment) (w : List ℕ) → All IsKeyed (fragment_steps bytes table at f w)
 fragment_keyed bytes table at (Switch word) w = storing_keyed 8 (four_bits word (slice_index w port)) at (switch_code word)
 fragment_keyed bytes table at (Exit counter shift rows) w = storing_keyed 13 (four_bits (row_at bytes table counter shift w) (slice_index w port)) at (exit_code counter shift (table % 2 ^ 32))
 fragment_keyed bytes table at (Reset counter) w = along_keyed at (reset_code counter)
 fragment_keyed bytes table at (Count counter) w = along_keyed at (count_code counter)
+fragment_keyed bytes table at (Lowest down) w = either_keyed down 0 at (lowest_code down)
+fragment_keyed bytes table at (Tally counter shift from) w = either_keyed (is_due shift from (slice_index w counter)) 8 at (tally_code counter shift from)
 
 pub fragments_keyed : (bytes : ℕ → ℕ) (regs : List ℕ) (table at : ℕ) (fs : List Fragment) (w : List ℕ) → All IsKeyed (fragments_steps bytes regs table at fs w)
 fragments_keyed bytes regs table at [] w = All-nil IsKeyed
@@ -92,6 +98,8 @@ fragment_silent bytes table at (Switch word) w quiet = absurd quiet
 fragment_silent bytes table at (Exit counter shift rows) w quiet = absurd quiet
 fragment_silent bytes table at (Reset counter) w quiet = along_silent at (reset_code counter)
 fragment_silent bytes table at (Count counter) w quiet = along_silent at (count_code counter)
+fragment_silent bytes table at (Lowest down) w quiet = absurd quiet
+fragment_silent bytes table at (Tally counter shift from) w quiet = absurd quiet
 
 fragments_silent : (bytes : ℕ → ℕ) (regs : List ℕ) (table at : ℕ) (fs : List Fragment) (w : List ℕ) → All IsQuiet fs → All IsSilent (fragments_steps bytes regs table at fs w)
 fragments_silent bytes regs table at [] w quiet = All-nil IsSilent
@@ -142,6 +150,13 @@ rest_cycles costs bytes regs table at to last fs w =
     let both = sum_by-append (λ x. costs x.class) (fragments_steps bytes regs table at fs w) (turn last to classes.Jump ∷ []) in
     omega (arith, body, both)
 
+-- code that stores level 0 or nothing, and steps that store nothing
+either_stores : (stores : Bool) (n at : ℕ) (is : List Instr) (rest : List Stepped) (both : (Class → ℕ) → ℕ) → n < length is → All IsSilent rest → ((costs : Class → ℕ) → sum_by (λ i. costs (class_of i false)) (drop (suc n) is) + stepped_cycles costs rest ≡ both costs)
+    → StoresLevel (cond stores (Some 0) None) both (cond stores (along_storing n 0 at is) (along at is) ++ rest)
+either_stores true n at is rest both lt silent sum =
+    stores_then 0 (λ costs. sum_by (λ i. costs (class_of i false)) (drop (suc n) is)) both (along_storing n 0 at is) rest (storing_parts n 0 at is lt) silent sum
+either_stores false n at is rest both lt silent sum = All-append IsSilent (along at is) rest (along_silent at is) silent
+
 way_stores_by : (bytes : ℕ → ℕ) (regs : List ℕ) (table at to last : ℕ) (fs : List Fragment) (w : List ℕ) → AreOrdered fs → StoresLevel (port_by bytes table fs w) (λ costs. tail_cycles costs fs) (fragments_steps bytes regs table at fs w ++ turn last to classes.Jump ∷ [])
 way_stores_by bytes regs table at to last [] w ordered = All-cons IsSilent (turn last to classes.Jump) [] refl (All-nil IsSilent)
 way_stores_by bytes regs table at to last (Switch word ∷ fs) w ordered =
@@ -165,6 +180,22 @@ way_stores_by bytes regs table at to last (Exit counter shift rows ∷ fs) w ord
     subst (StoresOnce v (λ costs. tail_cycles costs (f ∷ fs))) (sym (append_assoc here (fragments_steps bytes regs later (at + 4 * 16) fs w2) (turn last to classes.Jump ∷ [])))
     (stores_then v (λ costs. sum_by (λ i. costs (class_of i false)) (drop 14 code)) (λ costs. tail_cycles costs (f ∷ fs)) here rest stores (silent_way bytes regs later (at + 4 * 16) to last fs w2 ordered)
     (λ costs. omega (arith, rest_cycles costs bytes regs later (at + 4 * 16) to last fs w2)))
+way_stores_by bytes regs table at to last (Lowest down ∷ fs) w ordered =
+    let f : Fragment = Lowest down in
+    let later = table + 4 * rows_len f in
+    let w2 = window_behind bytes regs table f w in
+    let rest = fragments_steps bytes regs later (at + 4 * 1) fs w2 ++ turn last to classes.Jump ∷ [] in
+    subst (StoresLevel (port_by bytes table (f ∷ fs) w) (λ costs. tail_cycles costs (f ∷ fs))) (sym (append_assoc (fragment_steps bytes table at f w) (fragments_steps bytes regs later (at + 4 * 1) fs w2) (turn last to classes.Jump ∷ [])))
+    (either_stores down 0 at (lowest_code down) rest (λ costs. tail_cycles costs (f ∷ fs)) (omega arith) (silent_way bytes regs later (at + 4 * 1) to last fs w2 ordered)
+    (λ costs. omega (arith, rest_cycles costs bytes regs later (at + 4 * 1) to last fs w2)))
+way_stores_by bytes regs table at to last (Tally counter shift from ∷ fs) w ordered =
+    let f : Fragment = Tally counter shift from in
+    let later = table + 4 * rows_len f in
+    let w2 = window_behind bytes regs table f w in
+    let rest = fragments_steps bytes regs later (at + 4 * 10) fs w2 ++ turn last to classes.Jump ∷ [] in
+    subst (StoresLevel (port_by bytes table (f ∷ fs) w) (λ costs. tail_cycles costs (f ∷ fs))) (sym (append_assoc (fragment_steps bytes table at f w) (fragments_steps bytes regs later (at + 4 * 10) fs w2) (turn last to classes.Jump ∷ [])))
+    (either_stores (is_due shift from (slice_index w counter)) 8 at (tally_code counter shift from) rest (λ costs. tail_cycles costs (f ∷ fs)) (omega arith) (silent_way bytes regs later (at + 4 * 10) to last fs w2 ordered)
+    (λ costs. omega (arith, rest_cycles costs bytes regs later (at + 4 * 10) to last fs w2)))
 way_stores_by bytes regs table at to last (Reset counter ∷ fs) w ordered = silent_way bytes regs table at to last (Reset counter ∷ fs) w (All-cons IsQuiet (Reset counter) fs tt ordered)
 way_stores_by bytes regs table at to last (Count counter ∷ fs) w ordered = silent_way bytes regs table at to last (Count counter ∷ fs) w (All-cons IsQuiet (Count counter) fs tt ordered)
 

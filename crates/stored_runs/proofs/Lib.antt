@@ -1,6 +1,7 @@
 pub mod Steps
 pub mod Points
 pub mod Moves
+pub mod TallyWords
 pub mod Fragments
 pub mod Ways
 pub mod Held

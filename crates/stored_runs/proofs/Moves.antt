@@ -1,5 +1,5 @@
 -- The few kinds of instruction that the fragments are made of, each as a move from point to point.
-use Rattle.std.proofs.Common.{◌≡◌, ℕ, ℤ, ◌+◌, ◌*◌, ◌%◌, ◌^◌, ◌<◌, Bool, true, false, List, [], ◌∷◌, map, length, refl, arith, ◌∙◌, ap, Option, Some, None, rules}
+use Rattle.std.proofs.Common.{◌≡◌, ℕ, ℤ, negsuc, ◌+◌, ◌*◌, ◌%◌, ◌^◌, ◌<◌, Bool, true, false, List, [], ◌∷◌, map, length, refl, sym, arith, ◌∙◌, ap, Option, Some, None, rules}
 use Rattle.std.specs.Prelude.{slice_index, slice_set, ◌==◌, ◌&&◌, not, nat_lt}
 use Rattle.std.proofs.lemmas.Bool.{cond-true, cond-false}
 use Rattle.std.proofs.lemmas.Bool.Decides.{nat_tests}
@@ -23,16 +23,23 @@ use Rattle.stored_runs.proofs.Points.{Temp, X5, X6, Slot, Save0, Save1, Counter,
 
 pub data Move : Type 0 where
   Put : Slot → Temp → Move
-  Clear : Move
+  Clear : Slot → Move
+  Steer : Bool → Move
   Get : Temp → Slot → Move
   Work : ImmOp → Temp → ℤ → Move
   Join : RegOp → Temp → Temp → Move
   Upper : Temp → ℕ → Move
   Row : ℤ → Move
 
+-- where a store 4 below t0 goes that is to hit the port or else the save slot of t1
+abbrev pub aimed : Bool → Slot
+aimed true = Port
+aimed false = Save1
+
 abbrev pub instr_for : ℕ → Move → Instr
 instr_for k (Put slot t) = sw (temp_reg t) (slot_index k slot)
-instr_for k Clear = sw 0 k
+instr_for k (Clear slot) = sw 0 (slot_index k slot)
+instr_for k (Steer at_port) = instrs.Store Sw 5 0 (negsuc 3)
 instr_for k (Get t slot) = lw (temp_reg t) (slot_index k slot)
 instr_for k (Work op t z) = instrs.Imm op (temp_reg t) (temp_reg t) z
 instr_for k (Join op t u) = instrs.Reg op (temp_reg t) (temp_reg t) (temp_reg u)
@@ -42,7 +49,8 @@ instr_for k (Row z) = instrs.Load Lw 6 5 z
 -- the values after the move
 abbrev pub change : (ℕ → ℕ) → Point → Move → Point
 change bytes p (Put slot t) = with_held p slot (value p t)
-change bytes p Clear = with_held p Counter 0
+change bytes p (Clear slot) = with_held p slot 0
+change bytes p (Steer at_port) = with_held p (aimed at_port) 0
 change bytes p (Get t slot) = with_value p t (held_in p slot)
 change bytes p (Work op t z) = with_value p t (imm_result op (value p t) z)
 change bytes p (Join op t u) = with_value p t (reg_result op (value p t) (value p u))
@@ -58,10 +66,18 @@ move bytes p m = forward p.pc (change bytes p m)
 -- what the move stores at the port
 abbrev pub port_of : Point → Move → Option ℕ
 port_of p (Put Port t) = Some (value p t)
+port_of p (Clear Port) = Some 0
+port_of p (Steer true) = Some 0
 port_of p m = None
+
+-- the address of a word of the window
+abbrev pub place : ℕ → ℕ
+place n = 0xFFFFF800 + 4 * n
 
 abbrev pub Allows : Setting → Point → Move → Type 0
 Allows env p (Put Port t) = value p t < env.levels
+Allows env p (Clear Port) = 0 < env.levels
+Allows env p (Steer at_port) = (moved_by p.t0 (negsuc 3) ≡ place (slot_index 2 (aimed at_port))) × (0 < env.levels)
 Allows env p (Row z) = IsRowAt env p.pc (moved_by p.t0 z)
 Allows env p m = Unit {0}
 
@@ -73,9 +89,6 @@ pub record IsWhole (s : State) (k : ℕ) : Type 0 where
   pub counter : IsCounter k
 
 -- ---- the window's addresses
-
-abbrev place : ℕ → ℕ
-place n = 0xFFFFF800 + 4 * n
 
 place_is : (a n : ℕ) → a ≡ 0 → n < 512 → moved_by a (slot n) ≡ place n
 place_is a n e h = omega (arith, ints)
@@ -182,12 +195,30 @@ put_move env s k p Port t w a h =
     put_at env (at_point s k p) i (moved_by z (slot 511)) (place 511) (reg (regs_at s.regs p) (temp_reg t)) (value p t) _ (place_is z 511 (read_zero s.regs p w.zero) (omega arith)) (read_temp s.regs p t w.regs)
     (port_put env s k p i (value p t) w.counter a h)
 
+-- zero is stored
+zero_put : (env : Setting) (s : State) (k : ℕ) (p : Point) (m : Move) (slot : Slot) (at : ℕ) → IsWhole s k → Allows env p (Clear slot) → StandsAt env s.bytes p.pc (instr_for k m) → at ≡ place (slot_index k slot) → port_of p m ≡ port_of p (Clear slot)
+    → stores env (at_point s k p) (instr_for k m) Sw at (reg (regs_at s.regs p) 0) ≡ goes (keyed_step p.pc (instr_for k m) (port_of p m)) (at_point s k (forward p.pc (with_held p slot 0)))
+zero_put env s k p m Save0 at w a h there port =
+    put_at env (at_point s k p) (instr_for k m) at (place 0) _ 0 _ there (read_zero s.regs p w.zero) (plain_put env s k p (instr_for k m) Save0 0 w.counter (omega arith) h)
+    ∙ ap (λ o. goes (keyed_step p.pc (instr_for k m) o) (at_point s k (forward p.pc (with_held p Save0 0)))) (sym port)
+zero_put env s k p m Save1 at w a h there port =
+    put_at env (at_point s k p) (instr_for k m) at (place 1) _ 0 _ there (read_zero s.regs p w.zero) (plain_put env s k p (instr_for k m) Save1 0 w.counter (omega arith) h)
+    ∙ ap (λ o. goes (keyed_step p.pc (instr_for k m) o) (at_point s k (forward p.pc (with_held p Save1 0)))) (sym port)
+zero_put env s k p m Counter at w a h there port =
+    put_at env (at_point s k p) (instr_for k m) at (place k) _ 0 _ there (read_zero s.regs p w.zero) (plain_put env s k p (instr_for k m) Counter 0 w.counter (omega arith) h)
+    ∙ ap (λ o. goes (keyed_step p.pc (instr_for k m) o) (at_point s k (forward p.pc (with_held p Counter 0)))) (sym port)
+zero_put env s k p m Port at w a h there port =
+    put_at env (at_point s k p) (instr_for k m) at (place 511) _ 0 _ there (read_zero s.regs p w.zero) (port_put env s k p (instr_for k m) 0 w.counter a h)
+    ∙ ap (λ o. goes (keyed_step p.pc (instr_for k m) o) (at_point s k (forward p.pc (with_held p Port 0)))) (sym port)
+
 performed_move : (env : Setting) (s : State) (k : ℕ) (p : Point) (m : Move) → IsWhole s k → Allows env p m → StandsAt env s.bytes p.pc (instr_for k m) → performs env (at_point s k p) (instr_for k m) (instr_for k m) ≡ goes (keyed_step p.pc (instr_for k m) (port_of p m)) (at_point s k (move s.bytes p m))
 performed_move env s k p (Put slot t) w a h = put_move env s k p slot t w a h
-performed_move env s k p Clear w a h =
-    let z = reg (regs_at s.regs p) 0 in
-    put_at env (at_point s k p) (sw 0 k) (moved_by z (slot k)) (place k) z 0 _ (place_is z k (read_zero s.regs p w.zero) (omega arith)) (read_zero s.regs p w.zero)
-    (plain_put env s k p (sw 0 k) Counter 0 w.counter (omega arith) h)
+performed_move env s k p (Clear slot) w a h =
+    zero_put env s k p (Clear slot) slot _ w a h (place_is _ (slot_index k slot) (read_zero s.regs p w.zero) (index_small k slot w.counter)) refl
+performed_move env s k p (Steer true) w a h =
+    zero_put env s k p (Steer true) Port _ w a.1 h (ap (λ x. moved_by x (negsuc 3)) (read_temp s.regs p X5 w.regs) ∙ a.0) refl
+performed_move env s k p (Steer false) w a h =
+    zero_put env s k p (Steer false) Save1 _ w tt h (ap (λ x. moved_by x (negsuc 3)) (read_temp s.regs p X5 w.regs) ∙ a.0) refl
 performed_move env s k p (Get t slot) w a h =
     let i = instr_for k (Get t slot) in
     let n = slot_index k slot in

@@ -4,7 +4,6 @@ use Rattle.std.specs.Prelude.{◌&&◌}
 use Rattle.std.proofs.lemmas.Bool.{or_right, and_from}
 use Rattle.scale_base.specs.declared.instruction.BranchOp.{BranchOp}
 use Rattle.scale_base.specs.declared.stepping.Class.TheVariants as classes
-use Rattle.scale_base.specs.declared.stepping.TrapKind.TheVariants as traps
 use Rattle.scale_base.specs.Arith.{is_taken}
 use Rattle.scale_base.specs.Layout.{is_keyed, may_read, reads_byte}
 use Rattle.scale_base.specs.State.{Setting, State, reg, word_at}

@@ -6,7 +6,7 @@ use Rattle.std.proofs.lemmas.Bool.{cond-true, and_parts}
 use Rattle.std.proofs.lemmas.List.Elements.{All-nil, All-cons}
 use Rattle.scale_base.specs.declared.instruction.Instr.{Instr}
 use Rattle.scale_base.specs.declared.fragments.Fragment.{Fragment}
-use Rattle.scale_base.specs.declared.fragments.Fragment.TheVariants.{Switch, Exit, Reset, Count}
+use Rattle.scale_base.specs.declared.fragments.Fragment.TheVariants.{Switch, Exit, Reset, Count, Lowest, Tally}
 use Rattle.scale_base.specs.Image.{Image, loaded_byte, is_word_address, is_in}
 use Rattle.scale_base.specs.Layout.{layout_of, can_fetch, may_fetch, each_byte, fetches_byte}
 use Rattle.scale_base.specs.Run.{setting_of, starting_level}
@@ -104,6 +104,8 @@ safe_fragment levels limits (Switch word) h = h
 safe_fragment levels limits (Exit counter shift rows) h = (h.0, h.1, h.3, h.4)
 safe_fragment levels limits (Reset counter) h = h
 safe_fragment levels limits (Count counter) h = h
+safe_fragment levels limits (Lowest down) h = tt
+safe_fragment levels limits (Tally counter shift from) h = h
 
 safe_fragments : (levels : ℕ) (limits : ℕ → ℕ) (fs : List Fragment) → All (IsSafe levels limits) fs → All (IsSafeFragment levels limits) fs
 safe_fragments levels limits [] h = All-nil (IsSafeFragment levels limits)

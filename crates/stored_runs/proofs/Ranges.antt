@@ -1,11 +1,11 @@
 -- The fields of the instructions are in range.
-use Rattle.std.proofs.Common.{ℕ, ◌-◌, ◌%◌, ◌^◌, ◌<◌, arith}
+use Rattle.std.proofs.Common.{ℕ, ◌-◌, ◌%◌, ◌^◌, ◌<◌, cond, arith}
 use Rattle.std.specs.Prelude.{nat_lt}
 use Rattle.std.proofs.lemmas.Bool.{cond_both}
 use Rattle.std.proofs.lemmas.Bool.Decides.{nat_tests}
 use Rattle.scale_base.specs.Word.{FieldsInRange, IsSignedField}
 use Rattle.scale_base.specs.declared.fragments.Fragment.{Fragment}
-use Rattle.scale_base.specs.declared.fragments.Fragment.TheVariants.{Switch, Exit, Reset, Count}
+use Rattle.scale_base.specs.declared.fragments.Fragment.TheVariants.{Switch, Exit, Reset, Count, Lowest, Tally}
 use Rattle.stub_writer.specs.Fragments.{lo, sw, lw, fragment_code, IsFragment}
 use Rattle.stored_runs.specs.Held.{AllInRange}
 
@@ -82,3 +82,21 @@ fragment_fits table (Exit counter shift rows) h =
 fragment_fits table (Reset counter) h = (sw_fits 0 counter (omega arith), tt)
 fragment_fits table (Count counter) h =
     (sw_fits 5 0 (omega arith), (lw_fits 5 counter (omega arith), ((omega arith, omega arith, omega arith), (sw_fits 5 counter (omega arith), (lw_fits 5 0 (omega arith), tt)))))
+fragment_fits table (Lowest down) h = (sw_fits 0 (cond down 511 1) (omega arith), tt)
+fragment_fits table (Tally counter shift from) h =
+    let few : from - 1 < 2 ^ 11 = omega (arith, h.3) in (
+      sw_fits 5 0 (omega arith),
+      (
+        lw_fits 5 counter (omega arith),
+        (
+          (omega arith, omega arith, omega arith),
+          (
+            sw_fits 5 counter (omega arith),
+            (
+              (omega arith, omega arith, h.1),
+              ((omega arith, omega arith, few), ((omega arith, omega arith, omega arith), ((omega arith, omega arith, omega arith), ((omega arith, omega arith, omega arith), (lw_fits 5 0 (omega arith), tt))))),
+            ),
+          ),
+        ),
+      ),
+    )

@@ -1,5 +1,5 @@
 -- Fragments one after another, a way, and a stub.
-use Rattle.std.proofs.Common.{◌≡◌, ℕ, ℤ, pos, ◌+◌, ◌-◌, ◌*◌, ◌%◌, ◌^◌, ◌<◌, true, false, List, [], ◌∷◌, ◌++◌, length, refl, arith, sym, ◌∙◌, ap, subst, None, length-append, length-set, get_or-set_other}
+use Rattle.std.proofs.Common.{◌≡◌, ℕ, ℤ, pos, ◌+◌, ◌-◌, ◌*◌, ◌%◌, ◌^◌, ◌<◌, Bool, true, false, cond, List, [], ◌∷◌, ◌++◌, length, refl, arith, sym, ◌∙◌, ap, subst, None, length-append, length-set, get_or-set_other}
 use Rattle.std.specs.Prelude.{slice_index, slice_set, ◌==◌}
 use Rattle.std.specs.List.{sum_by}
 use Rattle.std.proofs.lemmas.List.{get_or-set_same}
@@ -19,15 +19,15 @@ use Rattle.scale_base.specs.Step.{step, goes, executes, jumps, branches}
 use Rattle.scale_base.specs.declared.stepping.Move.TheVariants as moves
 use Rattle.rv_encode.specs.Jumps.{distance}
 use Rattle.scale_base.specs.declared.fragments.Fragment.{Fragment}
-use Rattle.scale_base.specs.declared.fragments.Fragment.TheVariants.{Switch, Exit, Reset, Count}
+use Rattle.scale_base.specs.declared.fragments.Fragment.TheVariants.{Switch, Exit, Reset, Count, Lowest, Tally}
 use Rattle.stub_writer.specs.Fragments.{t0, port, exit_code, fragment_code, code_len, rows_len}
 use Rattle.stub_writer.specs.Stubs.{Way, Forked, fragments_code, way_code, way_len, way_rows, jump, jump_at, taken_at, stub_code_of}
-use Rattle.stored_runs.specs.Meaning.{StandsAt, Stand, StepsLead, IsSound, behind, four_bits, along_storing}
+use Rattle.stored_runs.specs.Meaning.{StandsAt, Stand, StepsLead, IsSound, behind, four_bits, is_due, along_storing}
 use Rattle.stored_runs.specs.Ways.{new_level, saved_in, row_at, window_behind, fragment_steps, Fits, windows_behind, fragments_steps, AllFit, turn, way_steps, behind_way, WayFits}
 use Rattle.stored_runs.specs.Held.{IsInText, text_turn}
 use Rattle.scale_base.proofs.Laws.{word_back}
 use Rattle.stored_runs.proofs.Steps.{performed, leads_none, leads_first, leads_on}
-use Rattle.stored_runs.proofs.Fragments.{switch_does, exit_does, reset_does, count_does}
+use Rattle.stored_runs.proofs.Fragments.{switch_does, exit_does, reset_does, count_does, lowest_does, tally_does}
 
 -- ---- code that stands, in parts
 
@@ -46,6 +46,8 @@ code_length table (Switch word) = refl
 code_length table (Exit counter shift rows) = refl
 code_length table (Reset counter) = refl
 code_length table (Count counter) = refl
+code_length table (Lowest down) = refl
+code_length table (Tally counter shift from) = refl
 
 pub codes_length : (table : ℕ) (fs : List Fragment) → length (fragments_code table fs) ≡ sum_by code_len fs
 codes_length table [] = refl
@@ -65,12 +67,21 @@ fragment_does env s table (Exit counter shift rows) sound fits stand =
     (exit_does env s counter shift table sound fits.0 fits.1 fits.2 fits.3 code)
 fragment_does env s table (Reset counter) sound fits stand = reset_does env s counter sound fits stand
 fragment_does env s table (Count counter) sound fits stand = count_does env s counter sound fits stand
+fragment_does env s table (Lowest down) sound fits stand = lowest_does env s down sound stand
+fragment_does env s table (Tally counter shift from) sound fits stand = tally_does env s counter shift from sound fits.0 fits.1 fits.2 fits.3 fits.4 stand
 
 window_length : (bytes : ℕ → ℕ) (regs : List ℕ) (table : ℕ) (f : Fragment) (w : List ℕ) → length (window_behind bytes regs table f w) ≡ length w
 window_length bytes regs table (Switch word) w = simp length-set
 window_length bytes regs table (Exit counter shift rows) w = simp length-set
 window_length bytes regs table (Reset counter) w = simp length-set
 window_length bytes regs table (Count counter) w = simp length-set
+window_length bytes regs table (Lowest down) w = simp length-set
+window_length bytes regs table (Tally counter shift from) w = simp length-set
+
+-- 0 is stored at the port, or in the save slot of t1
+zero_kept : (env : Setting) (w : List ℕ) (b : Bool) → length w ≡ 512 → slice_index w port < env.levels → slice_index (slice_set w (cond b port 1) 0) port < env.levels
+zero_kept env w true len h = subst (λ v. v < env.levels) (sym (get_or-set_same w 511 0 0 (omega arith))) (omega arith)
+zero_kept env w false len h = subst (λ v. v < env.levels) (sym (get_or-set_other w 1 511 0 0 (omega arith))) h
 
 level_kept : (env : Setting) (bytes : ℕ → ℕ) (regs : List ℕ) (table at : ℕ) (f : Fragment) (w : List ℕ) → length w ≡ 512 → slice_index w port < env.levels → Fits env bytes table at f w → slice_index (window_behind bytes regs table f w) port < env.levels
 level_kept env bytes regs table at (Switch word) w len h fits =
@@ -88,6 +99,13 @@ level_kept env bytes regs table at (Count counter) w len h fits =
     let same : slice_index (slice_set x counter ((slice_index w counter + 1) % 2 ^ 32)) 511 ≡ slice_index w 511 =
     get_or-set_other x counter 511 _ 0 (omega arith) ∙ get_or-set_other w 0 511 (reg regs t0) 0 (omega arith) in
     subst (λ v. v < env.levels) (sym same) h
+level_kept env bytes regs table at (Lowest down) w len h fits = zero_kept env w down len h
+level_kept env bytes regs table at (Tally counter shift from) w len h fits =
+    let x = slice_set w 0 (reg regs t0) in
+    let y = slice_set x counter ((slice_index w counter + 1) % 2 ^ 32) in
+    let long : length y ≡ 512 = simp length-set len in
+    let same : slice_index y 511 ≡ slice_index w 511 = get_or-set_other x counter 511 _ 0 (omega (arith, fits.0.high)) ∙ get_or-set_other w 0 511 (reg regs t0) 0 (omega arith) in
+    zero_kept env y (is_due shift from (slice_index w counter)) long (subst (λ v. v < env.levels) (sym same) h)
 
 sound_behind : (env : Setting) (s : State) (table : ℕ) (f : Fragment) → IsSound env s → Fits env s.bytes table s.pc f s.window → IsSound env (behind s (code_len f) (window_behind s.bytes s.regs table f s.window))
 sound_behind env s table f sound fits = record {

@@ -1,6 +1,6 @@
 -- The window along the fragments of an edge: they fit, and it holds the level and the counters that the marks lead to.
 use Rattle.std.proofs.Common.{◌≡◌, ℕ, suc, ◌+◌, ◌*◌, ◌/◌, ◌%◌, ◌^◌, ◌<◌, ◌≤◌, Bool, true, false, cond, List, [], ◌∷◌, ◌++◌, length, length-append, get_or, refl, arith, sym, ◌∙◌, ap, subst, length-set, get_or-set_other}
-use Rattle.std.specs.Prelude.{slice_index, slice_set, ◌==◌, All, if◌then◌else◌, Option, Some, None}
+use Rattle.std.specs.Prelude.{slice_index, slice_set, ◌==◌, All, if◌then◌else◌, Option, Some, None, unwrap_or}
 use Rattle.std.proofs.lemmas.Nat.{le-div, pow_pos}
 use Rattle.std.proofs.Math.Nat.{div-mul-le_self}
 use Rattle.std.proofs.lemmas.List.{get_or-set_same, get_or_append_left}
@@ -8,12 +8,12 @@ use Rattle.std.proofs.lemmas.List.Elements.{All-cons}
 use Rattle.std.proofs.lemmas.List.Concat.{flat_map-cons}
 use Rattle.std.proofs.lemmas.Bool.{eqb-true, eqb-false}
 use Rattle.scale_base.specs.declared.fragments.Fragment.{Fragment}
-use Rattle.scale_base.specs.declared.fragments.Fragment.TheVariants.{Switch, Exit, Reset, Count}
+use Rattle.scale_base.specs.declared.fragments.Fragment.TheVariants.{Switch, Exit, Reset, Count, Lowest, Tally}
 use Rattle.scale_base.specs.Layout.{is_keyed}
 use Rattle.scale_base.specs.State.{Setting, reg, word_at}
 use Rattle.stub_writer.specs.Fragments.{t0, port, code_len, rows_len, fragment_rows, IsShadow}
 use Rattle.stub_writer.specs.Stubs.{rows_by, fragments_code}
-use Rattle.stored_runs.specs.Meaning.{Stand, four_bits, IsCounter, IsRowAt}
+use Rattle.stored_runs.specs.Meaning.{Stand, four_bits, is_due, IsCounter, IsRowAt}
 use Rattle.stored_runs.specs.Ways.{row_at, saved_in, window_behind, Fits, windows_behind, AllFit}
 use Rattle.stored_runs.specs.Held.{Lie}
 use Rattle.stored_runs.proofs.Passage.{row_lies, one_lies, word_lies}
@@ -65,11 +65,38 @@ is_counter k h = record { low = h.0; high = h.1 }
 with_counters : (levels level : ℕ) (c d : ℕ → ℕ) (w : List ℕ) → ((k : ℕ) → c k ≡ d k) → IsWindow levels level c w → IsWindow levels level d w
 with_counters levels level c d w same h = record { size = h.size; port = h.port; is_level = h.is_level; counters = λ k s. h.counters k s ∙ same k }
 
+-- a counter is one more, and t0 is in its save slot
+put_count : (levels level : ℕ) (c : ℕ → ℕ) (w : List ℕ) (counter a : ℕ) → IsShadow counter → c counter + 1 < 2 ^ 32 → IsWindow levels level c w
+    → IsWindow levels level (λ k. if k == counter then c k + 1 else c k) (slice_set (slice_set w 0 a) counter ((slice_index w counter + 1) % 2 ^ 32))
+put_count levels level c w counter a shadow small h =
+    let saved = put_slot levels level c w 0 a (omega arith) h in
+    let here : slice_index w counter ≡ c counter = h.counters counter shadow in
+    let more : (slice_index w counter + 1) % 2 ^ 32 ≡ c counter + 1 = omega (arith, here, small) in
+    with_counters levels level (λ k. if k == counter then (slice_index w counter + 1) % 2 ^ 32 else c k) (λ k. if k == counter then c k + 1 else c k) (slice_set (slice_set w 0 a) counter ((slice_index w counter + 1) % 2 ^ 32)) (λ k. at_word k (k == counter) refl more)
+    (put_counter levels level c (slice_set w 0 a) counter ((slice_index w counter + 1) % 2 ^ 32) shadow saved)
+  where
+    at_word : (k : ℕ) (b : Bool) → (k == counter) ≡ b → (slice_index w counter + 1) % 2 ^ 32 ≡ c counter + 1 → cond b ((slice_index w counter + 1) % 2 ^ 32) (c k) ≡ cond b (c k + 1) (c k)
+    at_word k true e more = let same : k ≡ counter = eqb-true k counter e in more ∙ ap (λ j. c j + 1) (sym same)
+    at_word k false e more = refl
+
+-- 0 is stored at the port, or in the save slot of t1
+put_zero : (levels level : ℕ) (c : ℕ → ℕ) (w : List ℕ) (b : Bool) → IsWindow levels level c w → IsWindow levels (cond b 0 level) c (slice_set w (cond b port 1) 0)
+put_zero levels level c w true h = put_level levels level c w 0 (omega (arith, h.is_level)) h
+put_zero levels level c w false h = put_slot levels level c w 1 0 (omega arith) h
+
+level_then : (b : Bool) (level : ℕ) → cond b 0 level ≡ unwrap_or (cond b (Some 0) None) level
+level_then true level = refl
+level_then false level = refl
+
 -- ---- fragments that store nothing at the port
 
 pub record AreQuietly (env : Setting) (bytes : ℕ → ℕ) (regs : List ℕ) (table at level : ℕ) (fs : List Fragment) (c : ℕ → ℕ) (w : List ℕ) : Type 0 where
   pub fit : AllFit env bytes regs table at fs w
   pub window : IsWindow env.levels level (counters_behind fs c) (windows_behind bytes regs table fs w)
+
+one_more_at_most : (b : Bool) (n : ℕ) → cond b (n + 1) n ≤ n + 1
+one_more_at_most true n = omega arith
+one_more_at_most false n = omega arith
 
 -- a counter grows by at most one
 grows : (f : Fragment) (c : ℕ → ℕ) (k : ℕ) → counters_after f c k ≤ c k + 1
@@ -84,11 +111,9 @@ grows (Reset counter) c k = at_most (k == counter)
     at_most : (b : Bool) → cond b 0 (c k) ≤ c k + 1
     at_most true = omega arith
     at_most false = omega arith
-grows (Count counter) c k = at_most (k == counter)
-  where
-    at_most : (b : Bool) → cond b (c k + 1) (c k) ≤ c k + 1
-    at_most true = omega arith
-    at_most false = omega arith
+grows (Count counter) c k = one_more_at_most (k == counter) (c k)
+grows (Lowest down) c k = omega arith
+grows (Tally counter shift from) c k = one_more_at_most (k == counter) (c k)
 
 record IsOneQuiet (env : Setting) (bytes : ℕ → ℕ) (regs : List ℕ) (table at level : ℕ) (f : Fragment) (c : ℕ → ℕ) (w : List ℕ) : Type 0 where
   fit : Fits env bytes table at f w
@@ -100,18 +125,9 @@ one_quiet env bytes regs limits table at level (Switch word) c w quiet safe smal
 one_quiet env bytes regs limits table at level (Exit counter shift rows) c w quiet safe small h = absurd quiet
 one_quiet env bytes regs limits table at level (Reset counter) c w quiet safe small h = record { fit = is_counter counter safe; window = put_counter env.levels level c w counter 0 safe h }
 one_quiet env bytes regs limits table at level (Count counter) c w quiet safe small h =
-    let saved = put_slot env.levels level c w 0 (reg regs t0) (omega arith) h in
-    let here : slice_index w counter ≡ c counter = h.counters counter safe in
-    let more : (slice_index w counter + 1) % 2 ^ 32 ≡ c counter + 1 = omega (arith, here, small counter) in
-    record {
-      fit = is_counter counter safe;
-      window = with_counters env.levels level (λ k. if k == counter then (slice_index w counter + 1) % 2 ^ 32 else c k) (counters_after (Count counter) c) (window_behind bytes regs table (Count counter) w) (λ k. at_word k (k == counter) refl more)
-          (put_counter env.levels level c (slice_set w 0 (reg regs t0)) counter ((slice_index w counter + 1) % 2 ^ 32) safe saved);
-    }
-  where
-    at_word : (k : ℕ) (b : Bool) → (k == counter) ≡ b → (slice_index w counter + 1) % 2 ^ 32 ≡ c counter + 1 → cond b ((slice_index w counter + 1) % 2 ^ 32) (c k) ≡ cond b (c k + 1) (c k)
-    at_word k true e more = let same : k ≡ counter = eqb-true k counter e in more ∙ ap (λ j. c j + 1) (sym same)
-    at_word k false e more = refl
+    record { fit = is_counter counter safe; window = put_count env.levels level c w counter (reg regs t0) safe (small counter) h }
+one_quiet env bytes regs limits table at level (Lowest down) c w quiet safe small h = absurd quiet
+one_quiet env bytes regs limits table at level (Tally counter shift from) c w quiet safe small h = absurd quiet
 
 pub are_quiet : (env : Setting) (bytes : ℕ → ℕ) (regs : List ℕ) (limits : ℕ → ℕ) (table at level : ℕ) (fs : List Fragment) (c : ℕ → ℕ) (w : List ℕ) → All IsQuiet fs → All (IsSafeFragment env.levels limits) fs → ((k : ℕ) → c k + length fs < 2 ^ 32) → IsWindow env.levels level c w
     → AreQuietly env bytes regs table at level fs c w
@@ -138,6 +154,8 @@ port_by bytes table (Switch word ∷ fs) w = Some (four_bits word (slice_index w
 port_by bytes table (Exit counter shift rows ∷ fs) w = Some (four_bits (row_at bytes table counter shift w) (slice_index w port))
 port_by bytes table (Reset counter ∷ fs) w = None
 port_by bytes table (Count counter ∷ fs) w = None
+port_by bytes table (Lowest down ∷ fs) w = cond down (Some 0) None
+port_by bytes table (Tally counter shift from ∷ fs) w = cond (is_due shift from (slice_index w counter)) (Some 0) None
 
 -- they fit, and the window behind them is that of the marks
 pub record IsEdge (env : Setting) (bytes : ℕ → ℕ) (regs : List ℕ) (table at : ℕ) (fs : List Fragment) (h : Shadow) (w : List ℕ) : Type 0 where
@@ -217,3 +235,30 @@ edge_fits env bytes regs limits table at (Reset counter ∷ fs) h w ordered safe
 edge_fits env bytes regs limits table at (Count counter ∷ fs) h w ordered safe few within small win block =
     let all = are_quiet env bytes regs limits table at h.level (Count counter ∷ fs) h.counters w (All-cons IsQuiet (Count counter) fs tt ordered) safe (λ k. omega (arith, within k, small k, few)) win in
     record { fit = all.fit; window = all.window; stored = refl }
+edge_fits env bytes regs limits table at (Lowest down ∷ fs) h w ordered safe few within small win block =
+    let f : Fragment = Lowest down in
+    let here = put_zero env.levels h.level h.counters w down win in
+    let rest = are_quiet env bytes regs limits (table + 4 * rows_len f) (at + 4 * 1) (cond down 0 h.level) fs h.counters (window_behind bytes regs table f w) ordered
+    (λ k d lt. safe (suc k) d (omega arith)) (λ k. omega (arith, within k, small k, few)) here in
+    record {
+      fit = (tt, rest.fit);
+      window = subst (λ v. IsWindow env.levels v (counters_behind fs h.counters) (windows_behind bytes regs table (f ∷ fs) w)) (level_then down h.level) rest.window;
+      stored = refl;
+    }
+edge_fits env bytes regs limits table at (Tally counter shift from ∷ fs) h w ordered safe few within small win block =
+    let f : Fragment = Tally counter shift from in
+    let is = safe 0 f (omega arith) in
+    let c = h.counters in
+    let held : slice_index w counter ≡ c counter = win.counters counter is.0 in
+    let low : c counter + 1 < 2 ^ 31 = omega (arith, within counter, is.4) in
+    let due : is_due shift from (slice_index w counter) ≡ is_due shift from (c counter) = ap (is_due shift from) held in
+    let new = cond (is_due shift from (slice_index w counter)) 0 h.level in
+    let counted = put_count env.levels h.level c w counter (reg regs t0) is.0 (omega (arith, low)) win in
+    let here = put_zero env.levels h.level (counters_after f c) (slice_set (slice_set w 0 (reg regs t0)) counter ((slice_index w counter + 1) % 2 ^ 32)) (is_due shift from (slice_index w counter)) counted in
+    let rest = are_quiet env bytes regs limits (table + 4 * rows_len f) (at + 4 * 10) new fs (counters_after f c) (window_behind bytes regs table f w) ordered
+    (λ k d lt. safe (suc k) d (omega arith)) (λ k. omega (arith, within k, small k, few, grows f c k)) here in
+    record {
+      fit = ((is_counter counter is.0, is.1, is.2, is.3, omega (arith, held, low)), rest.fit);
+      window = subst (λ v. IsWindow env.levels v (counters_behind fs (counters_after f c)) (windows_behind bytes regs table (f ∷ fs) w)) (ap (λ b. cond b 0 h.level) due ∙ level_then (is_due shift from (c counter)) h.level) rest.window;
+      stored = ap (λ b. cond b (Some 0) None) due;
+    }

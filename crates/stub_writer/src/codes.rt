@@ -1,6 +1,6 @@
 //! The instructions of each fragment, t0 being x5 and t1 x6 (RISC-V ABIs Specification, integer registers).
 
-ghost use Rattle.std.specs.Prelude.{◌≡◌, ◌++◌, ◌<◌, OnOk};
+ghost use Rattle.std.specs.Prelude.{◌≡◌, ◌++◌, ◌<◌, ◌≤◌, OnOk};
 ghost use Rattle.stub_writer.specs.Fragments as fragments;
 ghost use Rattle.stub_writer.specs.Stubs as stubs;
 
@@ -159,6 +159,38 @@ pub fn count_code(counter: u16) -> [Instr; 5]
     ]
 }
 
+/// The code of a Lowest.
+pub fn lowest_code(down: bool) -> [Instr; 1]
+    ensures { result ≡ fragments.lowest_code down }
+{
+    [sw(0, if down { PORT as u16 } else { 1 })]
+}
+
+/// The code of a Tally.
+pub fn tally_code(counter: u16, shift: u8, from: u16) -> [Instr; 10]
+    requires counter { counter < 512 }
+    requires from { 1 ≤ from }
+    ensures { result ≡ fragments.tally_code counter shift from }
+{
+    [
+        sw(X5, 0),
+        lw(X5, counter),
+        immediate(ImmOp::Addi, X5, 1),
+        sw(X5, counter),
+        immediate(ImmOp::Srli, X5, shift as i32),
+        immediate(ImmOp::Addi, X5, -(from as i32)),
+        immediate(ImmOp::Srai, X5, 31),
+        immediate(ImmOp::Andi, X5, -2040),
+        Instr::Store {
+            op: StoreOp::Sw,
+            rs1: X5,
+            rs2: 0,
+            offset: -4,
+        },
+        lw(X5, 0),
+    ]
+}
+
 /// Adds the code of a fragment, of which the rows stand at `table`.
 pub fn push_fragment(out: &mut Vec<u8>, table: u64, fragment: &Fragment) -> Result<(), NoMemory>
     requires { fragments.IsFragment fragment.now }
@@ -172,5 +204,11 @@ pub fn push_fragment(out: &mut Vec<u8>, table: u64, fragment: &Fragment) -> Resu
         ),
         Fragment::Reset { counter } => push_code(out, &reset_code(*counter)),
         Fragment::Count { counter } => push_code(out, &count_code(*counter)),
+        Fragment::Lowest { down } => push_code(out, &lowest_code(*down)),
+        Fragment::Tally {
+            counter,
+            shift,
+            from,
+        } => push_code(out, &tally_code(*counter, *shift, *from)),
     }
 }

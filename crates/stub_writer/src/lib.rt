@@ -10,5 +10,5 @@ mod ways;
 mod words;
 
 pub use block::{block_len, emit};
-pub use codes::{count_code, exit_code, reset_code, switch_code};
+pub use codes::{count_code, exit_code, lowest_code, reset_code, switch_code, tally_code};
 pub use site::{EdgeList, FragmentList, StubBlock, StubEdge, StubSite};

@@ -47,6 +47,8 @@ pub fn code_len(fragment: &Fragment) -> u64
         Fragment::Exit { .. } => 16,
         Fragment::Reset { .. } => 1,
         Fragment::Count { .. } => 5,
+        Fragment::Lowest { .. } => 1,
+        Fragment::Tally { .. } => 10,
     }
 }
 

@@ -8,5 +8,9 @@ pub told_at-told-requires-clause-switches : goal.told_at-told-requires-clause-sw
 told_at-told-requires-clause-switches c = let h = c.requires.marking in
     marking_switches c.args.power.now h.0 c.args.graph.now c.args.tree.now h.1 h.2 h.3 c.args.marking.now h.4 c.args.e c.requires.mark.0 marks.Switch c.requires.edge (c.requires.mark.1 ∙ ap Some c.in-Switch.is) tt
 
+pub unreachable-in-Lowest : goal.unreachable-in-Lowest
+unreachable-in-Lowest c = let h = c.requires.marking in
+    marking_plain c.args.power.now h.0 c.args.graph.now c.args.tree.now h.1 h.2 h.3 c.args.marking.now h.4 c.args.e c.requires.mark.0 marks.Lowest c.requires.edge (c.requires.mark.1 ∙ ap Some c.in-Lowest.is)
+
 pub returns-in-Exit : goal.returns-in-Exit
 returns-in-Exit c = subst (λ m. IsFragmentAt c.args.power.now c.args.graph.now c.args.tree.now c.args.marking.now c.args.e m c.exit_of.result) (sym c.in-Exit.is) c.exit_of.ensures
