@@ -1,9 +1,8 @@
 -- How often the marks of an edge count, and set back, a counter.
-use Rattle.std.proofs.Common.{◌≡◌, ◌⊎◌, inl, inr, ℕ, zero, suc, ◌+◌, ◌<◌, ◌≤◌, Bool, true, false, cond, not, ◌&&◌, List, [], ◌∷◌, ◌++◌, length, slice_get, Option, Some, refl, sym, ap, subst, ◌∙◌, arith, eq-eqb, ne_eqb}
-use Rattle.std.specs.Prelude.{All, ◌==◌, if◌then◌else◌, nat_le}
+use Rattle.std.proofs.Common.{◌≡◌, ◌⊎◌, inl, inr, ℕ, zero, suc, ◌+◌, ◌<◌, ◌≤◌, Bool, true, false, cond, not, ◌&&◌, List, [], ◌∷◌, ◌++◌, length, slice_get, Option, Some, refl, ap, ◌∙◌, arith, eq-eqb, ne_eqb}
+use Rattle.std.specs.Prelude.{◌==◌, if◌then◌else◌, nat_le}
 use Rattle.std.specs.List.{sum_by}
 use Rattle.std.proofs.lemmas.Bool.{cond-true, cond-false}
-use Rattle.std.proofs.lemmas.List.Elements.{All-nil, All-cons, All-append}
 use Rattle.std.proofs.lemmas.List.Sums.{sum_by-append, sum_by-cons}
 use Rattle.cost_theory.specs.Graph.{Loops, leaves, goes_back}
 use Rattle.scale_base.specs.declared.fragments.Mark.{Mark}
@@ -26,15 +25,6 @@ mark_clears c (marks.Reset i) = if c == i then 1 else 0
 mark_clears c (marks.Count i) = 0
 mark_clears c marks.Lowest = 0
 mark_clears c (marks.Tally i) = 0
-
--- a mark whose fragment is of one of the forms that a scan finds
-abbrev pub IsPlainMark : Mark → Type 0
-IsPlainMark marks.Switch = Unit {0}
-IsPlainMark (marks.Exit i) = Unit {0}
-IsPlainMark (marks.Reset i) = Unit {0}
-IsPlainMark (marks.Count i) = Unit {0}
-IsPlainMark marks.Lowest = ⊥
-IsPlainMark (marks.Tally i) = ⊥
 
 -- ---- marks for the loops of a list, one counter each
 
@@ -92,28 +82,6 @@ module _ (f : Mark → ℕ) (make : ℕ → Mark) where
       omega (arith, one, rest, s)
 
 -- ---- all marks of a step, in their four parts
-
-module _ (P : Mark → Type 0) (make : ℕ → Mark) (all : (i : ℕ) → P (make i)) where
-  if_all : (b : Bool) (i : ℕ) → All P (mark_if b (make i))
-  if_all true i = All-cons P (make i) [] (all i) (All-nil P)
-  if_all false i = All-nil P
-
-  for_all : (test : ℕ → Bool) (i : ℕ) (ks : List ℕ) → All P (marks_for test make i ks)
-  for_all test i [] = All-nil P
-  for_all test i (k ∷ ks) = All-append P (mark_if (test k) (make i)) (marks_for test make (i + 1) ks) (if_all (test k) i) (for_all test (i + 1) ks)
-
--- they are plain
-pub plain_marks : (l : Loops) (counted : List ℕ) (branch : Bool) (slack min_gain u : ℕ) (p : Option ℕ) → All IsPlainMark (marks_at l counted branch slack min_gain u p)
-plain_marks l counted branch slack min_gain u p =
-    let s = switch_of l u p counted branch slack min_gain in
-    let e = exits_from l u p counted first_counter counted in
-    let r = resets_from l u p counted first_counter counted in
-    let c = counts_from l u p first_counter counted in
-    let one : All IsPlainMark s = if_all IsPlainMark (λ i. marks.Switch) (λ i. tt) (branch && (not (leaves_any l u p counted) && nat_le min_gain slack)) 0 in
-    let two : All IsPlainMark e = subst (All IsPlainMark) (sym (exits_are l u p counted first_counter counted)) (for_all IsPlainMark marks.Exit (λ i. tt) (λ k. is_outermost l u p k counted) first_counter counted) in
-    let three : All IsPlainMark r = subst (All IsPlainMark) (sym (resets_are l u p counted first_counter counted)) (for_all IsPlainMark marks.Reset (λ i. tt) (λ k. leaves l k u p && not (is_outermost l u p k counted)) first_counter counted) in
-    let four : All IsPlainMark c = subst (All IsPlainMark) (sym (counts_are l u p first_counter counted)) (for_all IsPlainMark marks.Count (λ i. tt) (λ k. goes_back l k u p) first_counter counted) in
-    All-append IsPlainMark s (e ++ (r ++ c)) one (All-append IsPlainMark e (r ++ c) two (All-append IsPlainMark r c three four))
 
 all_sum : (f : Mark → ℕ) → f marks.Switch ≡ 0 → (l : Loops) (counted : List ℕ) (branch : Bool) (slack min_gain u : ℕ) (p : Option ℕ) → sum_by f (marks_at l counted branch slack min_gain u p)
     ≡ sum_by f (marks_for (λ k. is_outermost l u p k counted) marks.Exit first_counter counted)

@@ -33,12 +33,11 @@ use Rattle.stored_runs.specs.Patched.{IsPatched}
 use Rattle.paid_runs.specs.Marked.{extra_site_weights}
 use Rattle.paid_runs.specs.Timely.{weights_of}
 use Rattle.foreign_scan.specs.Scanned.{Found, segment_place, segment_places}
-use Rattle.rewritten_runs.specs.Stubs.{IsWeighed, HasStubs, rewritten_file, marks_by_slack, fragment_of, fragments_at, told_at}
-use Rattle.rewritten_runs.proofs.Laws.{IsSupplied, program_is, supplied}
+use Rattle.rewritten_runs.specs.Stubs.{IsWeighed, HasStubs, rewritten_file, by_slack, marks_by_slack, fragment_of, fragments_at, told_at}
+use Rattle.rewritten_runs.proofs.Laws.{IsPlainMark, IsSupplied, program_is, rule_marks, supplied}
 use Rattle.image_check.specs.Passing.{IsSafeAt, RewrittenImagesAreSafe}
 use Rattle.image_check.specs.Safe.{Owner, sites_of, IsSafeImage}
 use Rattle.image_check.proofs.StoredTables.{IsPlain}
-use Rattle.image_check.proofs.StoredCounts.{IsPlainMark, plain_marks}
 use Rattle.image_check.proofs.StoredPlaces.{all_on}
 use Rattle.image_check.proofs.StoredStubs.{HasWholeWords}
 use Rattle.image_check.proofs.StoredScan.{IsMarkedAt}
@@ -49,7 +48,6 @@ use Rattle.scale_base.specs.declared.fragments.Mark.{Mark}
 use Rattle.scale_base.specs.declared.fragments.Mark.TheVariants as marks
 use Rattle.level_tables.specs.Tables.{EdgeNumbers}
 use Rattle.scale_sites.specs.Counters.{counted_loops}
-use Rattle.scale_sites.specs.Sites.{is_branch}
 use Rattle.image_check.proofs.StoredLevels as leveled
 
 -- ---- the file and the segments
@@ -180,8 +178,7 @@ module _ (power : PowerModel) (ok : IsPowerModel power) (file : List ℕ) (origi
 
   plain_fragments : (e : ℕ) → e < length code.edges → All IsPlain (frags e)
   plain_fragments e lt =
-      plain_of_marks power l (counted_loops tree) stored (told_at power original v tree marked stored least e) (marked e)
-      (plain_marks l (counted_loops tree) (is_branch v e) _ power.min_gain (g.source e) (g.target e))
+      plain_of_marks power l (counted_loops tree) stored (told_at power original v tree marked stored least e) (marked e) (rule_marks v tree (by_slack power original v tree plain) e)
 
   marked_at : (at : ℕ) (q : Place) → place_at sites at ≡ Some q → IsMarkedAt original code at q
   marked_at at q e =
