@@ -1,5 +1,5 @@
 -- The marks that a rule gives an edge are switches, exits, resets and counts, and none is a Lowest or a Tally.
-use Rattle.std.proofs.Common.{ℕ, ◌<◌, Bool, true, false, not, ◌&&◌, nat_le, List, [], ◌++◌, Option, sym, subst}
+use Rattle.std.proofs.Common.{ℕ, Bool, true, false, not, ◌&&◌, nat_le, List, [], ◌++◌, Option, sym, subst}
 use Rattle.std.specs.Prelude.{All}
 use Rattle.std.proofs.lemmas.List.Elements.{All-nil, All-cons, All-append}
 use Rattle.cost_theory.specs.Graph.{Loops, leaves, goes_back}

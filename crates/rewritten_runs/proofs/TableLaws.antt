@@ -58,7 +58,7 @@ pub tally_fits : (power : PowerModel) (test : EdgeNumbers → ℕ → ℕ → Bo
     → (tally_shift bound < 32) × (bound / 2 ^ tally_shift bound ≤ 2045) × (1 ≤ tally_from power test bound iteration site) × (tally_from power test bound iteration site < 2048)
 tally_fits power test bound iteration site small =
     let s = tally_found bound small (least_below 32 (λ s. nat_le (bound / 2 ^ s) 2045)) (least-is 32 (λ s. nat_le (bound / 2 ^ s) 2045)) in
-    let passes = λ k. goes_lowest power test (behind_turns (k * 2 ^ tally_shift bound) iteration site) in
+    let passes : ℕ → Bool = λ k. goes_lowest power test (behind_turns (k * 2 ^ tally_shift bound) iteration site) in
     let f = from_found passes (least_below 2047 (λ k. nat_le 1 k && passes k)) (least-is 2047 (λ k. nat_le 1 k && passes k)) in
     (s.0, s.1, f.0, f.1)
 
