@@ -1,33 +1,28 @@
 -- The rows of a rewritten program's tables, what a scan finds in it, and what its edges cost by that.
-use Rattle.std.proofs.Common.{◌≡◌, ◌≢◌, inl, inr, ℕ, zero, suc, ◌+◌, ◌*◌, ◌/◌, ◌^◌, ◌<◌, Bool, true, false, List, [], ◌∷◌, map, length, refl, arith, sym, ap, ◌∙◌, subst, slice_get, Option, Some, None}
+use Rattle.std.proofs.Common.{◌≡◌, ◌≢◌, ℕ, zero, suc, ◌+◌, ◌*◌, ◌/◌, ◌^◌, ◌<◌, true, false, List, [], ◌∷◌, map, length, refl, arith, sym, ap, ◌∙◌, slice_get, Option, Some, None}
 use Rattle.std.specs.Prelude.{All, ◌==◌}
 use Rattle.std.specs.List.{sum_by, list_any}
 use Rattle.std.proofs.Math.Path.{fun_ext}
 use Rattle.std.proofs.lemmas.Bool.{eq-eqb, cond-true}
 use Rattle.std.proofs.lemmas.List.Elements.{All-nil, All-cons}
 use Rattle.std.proofs.lemmas.List.Sums.{sum_by-cons}
-use Rattle.std.proofs.lemmas.Option.{slice_get_within}
 use Rattle.scale_base.specs.declared.edges.Edge.{Edge}
-use Rattle.scale_base.specs.declared.edges.EdgeKind.TheVariants.{Taken, Untaken, Jump}
 use Rattle.scale_base.specs.declared.fragments.Fragment.{Fragment}
 use Rattle.scale_base.specs.declared.fragments.Mark.{Mark}
 use Rattle.scale_base.specs.declared.fragments.Mark.TheVariants as marks
-use Rattle.scale_base.specs.declared.instruction.Instr.{Instr}
-use Rattle.scale_base.specs.declared.instruction.Instr.TheVariants as instr
 use Rattle.scale_base.specs.declared.stepping.Class.{Class}
 use Rattle.scale_base.specs.declared.stepping.Class.TheVariants as classes
-use Rattle.scale_base.specs.Arith.{moved_by}
 use Rattle.scale_base.specs.Image.{Image, is_in, is_word_address}
 use Rattle.scale_base.specs.Layout.{layout_of, is_keyed}
 use Rattle.power_model.specs.Numbers.{PowerModel}
 use Rattle.power_model.specs.Switches.{costs_of}
 use Rattle.cost_theory.specs.Graph.{Loops}
-use Rattle.cost_theory.specs.Reached.{Reached, Code, edge_at, edges_of}
+use Rattle.cost_theory.specs.Reached.{Code, edge_at}
 use Rattle.cost_theory.specs.Worst.{Numbers}
-use Rattle.cost_theory.proofs.Laws.{Within, edge_of_word}
+use Rattle.cost_theory.proofs.Laws.{edge_of_word}
 use Rattle.cycle_laws.specs.Charged.{Charged}
-use Rattle.code_text.specs.Text.{Text, text_of, instr_at, instr_kind, kind_at}
-use Rattle.code_text.specs.EdgeCosts.{class_by, edge_class, weights}
+use Rattle.code_text.specs.Text.{Text, text_of, kind_at}
+use Rattle.code_text.specs.EdgeCosts.{edge_class, weights}
 use Rattle.graph_runs.specs.Laws.{IsProgramOf}
 use Rattle.code_graph.specs.FlowGraph.{FlowGraph}
 use Rattle.loop_file.specs.declared.notes.LoopNote.{LoopNote}
@@ -35,7 +30,7 @@ use Rattle.loop_file.specs.Kept.{noted_loops}
 use Rattle.loop_tree.specs.Tree.{LoopView, loops}
 use Rattle.level_tables.specs.Tables as tables
 use Rattle.scale_sites.specs.Counters.{counted_loops}
-use Rattle.stub_writer.specs.Stubs.{Site, Place, Forked, Straight}
+use Rattle.stub_writer.specs.Stubs.{Site, Place}
 use Rattle.stored_runs.specs.Cycles.{fragment_cost}
 use Rattle.stored_runs.specs.Marks.{place_at, fragments_of_class, jumps_by}
 use Rattle.stored_runs.specs.Patched.{IsPatched}
@@ -53,7 +48,6 @@ use Rattle.image_check.proofs.StoredScan as scan
 use Rattle.image_check.proofs.StoredScan.{IsMarkedAt, HaveItsRows}
 use Rattle.image_check.proofs.StoredSites.{place_same}
 use Rattle.image_check.proofs.StoredCounts.{mark_clears}
-use Rattle.stored_runs.specs.Stubbed.{IsOfImage}
 use Rattle.image_check.proofs.StoredOwners as owned
 
 exit_clears : (c : ℕ) (ms : List Mark) (i : ℕ) → slice_get ms i ≡ Some (marks.Exit c) → 0 < sum_by (mark_clears c) ms

@@ -21,7 +21,7 @@ use Rattle.scale_base.proofs.Laws.{word_back}
 use Rattle.rv_encode.specs.Jumps.{distance}
 use Rattle.cost_theory.specs.Graph.{Loops}
 use Rattle.cost_theory.specs.Reached.{Reached, Reached.onward, Code, LeadsTo, edge_at, edges_of, call_returns}
-use Rattle.cost_theory.proofs.Laws.{Within, word_edge, edge_of_word, source_reached}
+use Rattle.cost_theory.proofs.Laws.{Within, edge_of_word}
 use Rattle.code_text.specs.Text.{Text, text_of, instr_at, instr_kind, kind_at}
 use Rattle.code_text.specs.EdgeCosts.{class_by, edge_class}
 use Rattle.code_text.specs.TextGraph.{IsReachedCode}
