@@ -32,6 +32,7 @@ pub fn trial_of(
         files.loops,
         &proposal.sites,
         proposal.counted,
+        &[],
     );
     trial_from(alloc, files, candidate, made)
 }

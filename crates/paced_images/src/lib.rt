@@ -1,7 +1,8 @@
-//! Images whose switches of level stand on chosen edges, and whose levels keep budgets.
+//! Images whose switches of level stand on chosen edges, whose chosen loops go to the lowest level from a count of turns on, and whose levels keep budgets.
 //! Tests: crates/answer_tests/src/pacing.rt.
 #![tactic(auto)]
 
+mod noted;
 mod pacing;
 mod programs;
 mod scaling;

@@ -175,6 +175,7 @@ fn sites_of(
             sites.push(SwitchSite {
                 at: edge.at,
                 kind: edge.kind,
+                lowest: false,
             })?;
         }
     }
