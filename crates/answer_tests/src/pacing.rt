@@ -2,7 +2,8 @@
 
 use crate::fixtures::*;
 use paced_images::{SwitchSite, pace, useful_sites};
-use scale_base::{EdgeKind, Summary};
+use scale_base::{EdgeKind, End, Summary};
+use speed_sim::simulate;
 use std::alloc::Global;
 use std::test::Fail;
 
@@ -12,14 +13,16 @@ const STRAIGHT: [u32; 15] = [
     0x0040006F, 0x0262C2B3, 0x0262C2B3, 0x0262C2B3, 0x0262C2B3, 0x05D00893, 0x00000073,
 ];
 
-/// What `pace` makes of files that the program would load.
-fn paced(
+/// What `pace` makes of files that the program would load, where loops at some headers are tallied.
+fn paced_with(
     alloc: Global,
     image: &[u8],
     machine: &str,
+    loops: &str,
     sites: &[SwitchSite],
+    tallied: &[u32],
 ) -> Result<(Vec<u8>, Summary), Fail> {
-    if image.len() > 4_194_304 || machine.len() > 1_048_576 {
+    if image.len() > 4_194_304 || machine.len() > 1_048_576 || loops.len() > 1_048_576 {
         return Err(Fail::from("files that are too long"));
     }
     Ok(
@@ -27,15 +30,25 @@ fn paced(
             alloc,
             image,
             machine.as_bytes(),
-            NO_LOOPS.as_bytes(),
+            loops.as_bytes(),
             sites,
             true,
-            &[],
+            tallied,
             4,
         )
         .ok()
         .ok_or("paced")?,
     )
+}
+
+/// What it makes of a program without loops.
+fn paced(
+    alloc: Global,
+    image: &[u8],
+    machine: &str,
+    sites: &[SwitchSite],
+) -> Result<(Vec<u8>, Summary), Fail> {
+    paced_with(alloc, image, machine, NO_LOOPS, sites, &[])
 }
 
 /// How many of some sites are of use to a machine with this deadline.
@@ -141,5 +154,64 @@ fn keeps_the_sites_whose_switch_lowers_a_level(rt: HostRuntime) -> Result<(), Fa
     assert_eq!(rt; useful(alloc, &image, 500, &sites)?, 1);
     // Here the starting level leaves too little time for level 0.
     assert_eq!(rt; useful(alloc, &image, 330, &sites)?, 0);
+    Ok(())
+}
+
+/// sw x0,-4(x0), which stores level 0 at the speed port, and sw x0,-2044(x0), which stores it where nothing reads it.
+const LOWERS: u32 = 0xFE002E23;
+
+const LOWERS_NOTHING: u32 = 0x80002223;
+
+#[test]
+fn goes_to_the_lowest_level_by_one_instruction(rt: HostRuntime) -> Result<(), Fail> {
+    let alloc = rt.alloc();
+    let image = plain_image(alloc, &STRAIGHT)?;
+    let sites = [SwitchSite {
+        at: 0x10020,
+        kind: EdgeKind::Jump,
+        lowest: true,
+    }];
+    let machine = machine_for(500).text(alloc)?;
+    let (bytes, numbers) = paced(alloc, &image, &machine, &sites)?;
+    assert_eq!(rt; (numbers.start, numbers.switch_edges), (1, 1));
+    assert!(rt; has_word(&bytes, LOWERS) && !has_word(&bytes, LOWERS_NOTHING));
+    assert_eq!(rt; useful(alloc, &image, 500, &sites)?, 1);
+    // Here the starting level leaves too little time for it.
+    let machine = machine_for(330).text(alloc)?;
+    let (bytes, numbers) = paced(alloc, &image, &machine, &sites)?;
+    assert_eq!(rt; numbers.switch_edges, 1);
+    assert!(rt; has_word(&bytes, LOWERS_NOTHING) && !has_word(&bytes, LOWERS));
+    assert_eq!(rt; useful(alloc, &image, 330, &sites)?, 0);
+    Ok(())
+}
+
+#[test]
+fn goes_to_the_lowest_level_from_a_turn_of_a_loop_on(rt: HostRuntime) -> Result<(), Fail> {
+    let alloc = rt.alloc();
+    let image = plain_image(alloc, &READ_ALL)?;
+    let machine = machine_for(900).text(alloc)?;
+    let (bytes, numbers) = paced_with(alloc, &image, &machine, READ_LOOP, &[], &[0x10008])?;
+    // Ten turns of 25 cycles, and 21 more.
+    assert_eq!(rt; (numbers.start, numbers.worst), (1, 271));
+    assert_eq!(rt;
+        (
+            numbers.switch_edges,
+            numbers.exit_edges,
+            numbers.count_edges
+        ),
+        (1, 0, 1)
+    );
+    // From the fourth turn on: addi x5,x5,-4; and the store at -4 from x5, which is -2040 or 0.
+    for word in [0xFFC28293, 0x8082F293, 0xFE02AE23] {
+        assert!(rt; has_word(&bytes, word));
+    }
+    let report = simulate(alloc, &bytes, machine.as_bytes(), b"abcdef", None)
+        .ok()
+        .ok_or("a run")?;
+    let meter = &report.meter;
+    assert_eq!(rt; report.end, End::Exited(0));
+    assert_eq!(rt; (meter.start, meter.level, meter.switches), (1, 0, 1));
+    // 98 cycles at level 1, the switch, and 73 cycles at level 0.
+    assert_eq!(rt; (meter.cycles, meter.time), (171, 196 + 10 + 292));
     Ok(())
 }
