@@ -13,16 +13,23 @@ const STRAIGHT: [u32; 15] = [
     0x0040006F, 0x0262C2B3, 0x0262C2B3, 0x0262C2B3, 0x0262C2B3, 0x05D00893, 0x00000073,
 ];
 
-/// What `pace` makes of files that the program would load, where loops at some headers are tallied.
-fn paced_with(
+/// Eight turns of a loop from 0x10004 to its branch at 0x10018, of four divisions each, and an exit.
+const TURNS: [u32; 9] = [
+    0x00800313, 0x0262C2B3, 0x0262C2B3, 0x0262C2B3, 0x0262C2B3, 0xFFF30313, 0xFE0316E3, 0x05D00893,
+    0x00000073,
+];
+
+const TURNS_LOOP: &str =
+    "version = 1\n[[loop]]\nheader = 0x10004\nranges = [[0x10004, 0x1001C]]\nbound = 7\n";
+
+/// What `pace` makes of files that the program would load.
+fn paced(
     alloc: Global,
     image: &[u8],
     machine: &str,
-    loops: &str,
     sites: &[SwitchSite],
-    tallied: &[u32],
 ) -> Result<(Vec<u8>, Summary), Fail> {
-    if image.len() > 4_194_304 || machine.len() > 1_048_576 || loops.len() > 1_048_576 {
+    if image.len() > 4_194_304 || machine.len() > 1_048_576 {
         return Err(Fail::from("files that are too long"));
     }
     Ok(
@@ -30,10 +37,10 @@ fn paced_with(
             alloc,
             image,
             machine.as_bytes(),
-            loops.as_bytes(),
+            NO_LOOPS.as_bytes(),
             sites,
             true,
-            tallied,
+            &[],
             4,
         )
         .ok()
@@ -41,14 +48,18 @@ fn paced_with(
     )
 }
 
-/// What it makes of a program without loops.
-fn paced(
-    alloc: Global,
-    image: &[u8],
-    machine: &str,
-    sites: &[SwitchSite],
-) -> Result<(Vec<u8>, Summary), Fail> {
-    paced_with(alloc, image, machine, NO_LOOPS, sites, &[])
+/// The same of `TURNS`, whose loop is tallied.
+fn tallied(alloc: Global, image: &[u8], machine: &str) -> Result<(Vec<u8>, Summary), Fail> {
+    if image.len() > 4_194_304 || machine.len() > 1_048_576 {
+        return Err(Fail::from("files that are too long"));
+    }
+    let loops = TURNS_LOOP.as_bytes();
+    let machine = machine.as_bytes();
+    Ok(
+        pace(alloc, image, machine, loops, &[], false, &[0x10004], 0)
+            .ok()
+            .ok_or("tallied")?,
+    )
 }
 
 /// How many of some sites are of use to a machine with this deadline.
@@ -157,61 +168,78 @@ fn keeps_the_sites_whose_switch_lowers_a_level(rt: HostRuntime) -> Result<(), Fa
     Ok(())
 }
 
-/// sw x0,-4(x0), which stores level 0 at the speed port, and sw x0,-2044(x0), which stores it where nothing reads it.
-const LOWERS: u32 = 0xFE002E23;
-
-const LOWERS_NOTHING: u32 = 0x80002223;
-
+/// With the stub of its branch a turn takes 59 cycles. On a back edge 470 are left at most, less 59 for each turn taken; the starting level takes 934 time units of 1,200
+/// for all 467 cycles, and at the lowest level each cycle takes 2 more: so from 6 turns on, with 116 left, there is time for the switch.
 #[test]
-fn goes_to_the_lowest_level_by_one_instruction(rt: HostRuntime) -> Result<(), Fail> {
+fn lowers_the_level_from_a_turn_on(rt: HostRuntime) -> Result<(), Fail> {
     let alloc = rt.alloc();
-    let image = plain_image(alloc, &STRAIGHT)?;
-    let sites = [SwitchSite {
-        at: 0x10020,
-        kind: EdgeKind::Jump,
-        lowest: true,
-    }];
-    let machine = machine_for(500).text(alloc)?;
-    let (bytes, numbers) = paced(alloc, &image, &machine, &sites)?;
-    assert_eq!(rt; (numbers.start, numbers.switch_edges), (1, 1));
-    assert!(rt; has_word(&bytes, LOWERS) && !has_word(&bytes, LOWERS_NOTHING));
-    assert_eq!(rt; useful(alloc, &image, 500, &sites)?, 1);
-    // Here the starting level leaves too little time for it.
-    let machine = machine_for(330).text(alloc)?;
-    let (bytes, numbers) = paced(alloc, &image, &machine, &sites)?;
-    assert_eq!(rt; numbers.switch_edges, 1);
-    assert!(rt; has_word(&bytes, LOWERS_NOTHING) && !has_word(&bytes, LOWERS));
-    assert_eq!(rt; useful(alloc, &image, 330, &sites)?, 0);
+    let image = plain_image(alloc, &TURNS)?;
+    let machine = machine_for(1200).text(alloc)?;
+    let (bytes, summary) = tallied(alloc, &image, &machine)?;
+    let expected = Summary {
+        start: 1,
+        worst: 467,
+        time: 934,
+        deadline: 1200,
+        stub_cycles: 117,
+        switch_edges: 1,
+        exit_edges: 0,
+        count_edges: 1,
+        stub_bytes: 56,
+    };
+    assert_eq!(rt; summary, expected);
+    // addi t0,t0,-6 and andi t0,t0,-2040
+    assert!(rt; has_word(&bytes, 0xFFA28293) && has_word(&bytes, 0x8082F293));
+    let run = simulate(alloc, &bytes, machine.as_bytes(), &[], None)
+        .ok()
+        .ok_or("a run")?;
+    let meter = &run.meter;
+    assert_eq!(rt; run.end, End::Exited(0));
+    assert_eq!(rt;
+        (
+            meter.cycles,
+            meter.time,
+            meter.energy,
+            meter.switches,
+            meter.level
+        ),
+        (467, 1176, 1189, 1, 0)
+    );
     Ok(())
 }
 
+/// Behind the jump 48 cycles are left, which take 96 time units more at the lowest level, and the switch takes 10. The starting level takes 262 for all 131.
 #[test]
-fn goes_to_the_lowest_level_from_a_turn_of_a_loop_on(rt: HostRuntime) -> Result<(), Fail> {
+fn stores_the_lowest_level_by_one_instruction(rt: HostRuntime) -> Result<(), Fail> {
     let alloc = rt.alloc();
-    let image = plain_image(alloc, &READ_ALL)?;
-    let machine = machine_for(900).text(alloc)?;
-    let (bytes, numbers) = paced_with(alloc, &image, &machine, READ_LOOP, &[], &[0x10008])?;
-    // Ten turns of 25 cycles, and 21 more.
-    assert_eq!(rt; (numbers.start, numbers.worst), (1, 271));
-    assert_eq!(rt;
-        (
-            numbers.switch_edges,
-            numbers.exit_edges,
-            numbers.count_edges
-        ),
-        (1, 0, 1)
-    );
-    // From the fourth turn on: addi x5,x5,-4; and the store at -4 from x5, which is -2040 or 0.
-    for word in [0xFFC28293, 0x8082F293, 0xFE02AE23] {
-        assert!(rt; has_word(&bytes, word));
+    let image = plain_image(alloc, &STRAIGHT)?;
+    let jump = SwitchSite {
+        at: 0x10020,
+        kind: EdgeKind::Jump,
+        lowest: true,
+    };
+    // sw x0,-4(x0) where there is time for it, and sw x0,-2044(x0) where there is none
+    let rows = [
+        (368, 0xFE002E23, 0x80002223, 1),
+        (367, 0x80002223, 0xFE002E23, 0),
+    ];
+    for (deadline, word, other, of_use) in rows {
+        let machine = machine_for(deadline).text(alloc)?;
+        let (bytes, numbers) = paced(alloc, &image, &machine, &[jump])?;
+        assert_eq!(rt;
+            (
+                numbers.start,
+                numbers.worst,
+                numbers.stub_cycles,
+                numbers.stub_bytes
+            ),
+            (1, 131, 3, 8)
+        );
+        assert!(rt;
+            has_word(&bytes, word) && !has_word(&bytes, other),
+            "deadline {deadline}"
+        );
+        assert_eq!(rt; useful(alloc, &image, deadline, &[jump])?, of_use);
     }
-    let report = simulate(alloc, &bytes, machine.as_bytes(), b"abcdef", None)
-        .ok()
-        .ok_or("a run")?;
-    let meter = &report.meter;
-    assert_eq!(rt; report.end, End::Exited(0));
-    assert_eq!(rt; (meter.start, meter.level, meter.switches), (1, 0, 1));
-    // 98 cycles at level 1, the switch, and 73 cycles at level 0.
-    assert_eq!(rt; (meter.cycles, meter.time), (171, 196 + 10 + 292));
     Ok(())
 }
