@@ -219,7 +219,11 @@ fn stores_the_lowest_level_by_one_instruction(rt: HostRuntime) -> Result<(), Fai
         lowest: true,
     };
     // sw x0,-4(x0) where there is time for it, and sw x0,-2044(x0) where there is none
-    for (deadline, word, other) in [(368, 0xFE002E23, 0x80002223), (367, 0x80002223, 0xFE002E23)] {
+    let rows = [
+        (368, 0xFE002E23, 0x80002223, 1),
+        (367, 0x80002223, 0xFE002E23, 0),
+    ];
+    for (deadline, word, other, of_use) in rows {
         let machine = machine_for(deadline).text(alloc)?;
         let (bytes, numbers) = paced(alloc, &image, &machine, &[jump])?;
         assert_eq!(rt;
@@ -235,6 +239,7 @@ fn stores_the_lowest_level_by_one_instruction(rt: HostRuntime) -> Result<(), Fai
             has_word(&bytes, word) && !has_word(&bytes, other),
             "deadline {deadline}"
         );
+        assert_eq!(rt; useful(alloc, &image, deadline, &[jump])?, of_use);
     }
     Ok(())
 }
