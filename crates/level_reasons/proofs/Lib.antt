@@ -1,0 +1,5 @@
+pub mod TextLines
+pub mod Numbers
+pub mod LackFacts
+pub mod EdgeFacts
+pub mod Lines

@@ -1,0 +1,4 @@
+pub mod Reasons
+pub mod Kept
+pub mod Ways
+pub mod ReasonTexts

@@ -1,0 +1,14 @@
+//! Why the level of a program isn't lowered: a reason for each edge of a branch or of a jump on which cycles of the worst case fall away, and for each loop.
+//! Tests: crates/answer_tests/src/reasons.rt.
+#![tactic(auto)]
+
+mod edges;
+mod lacks;
+mod loops;
+mod numbered;
+mod shown;
+mod texts;
+mod ways;
+
+pub use shown::{EdgeLine, EdgeReason, LoopLine, LoopReason, Shown};
+pub use texts::reasons_text;
