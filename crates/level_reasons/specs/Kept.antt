@@ -1,13 +1,17 @@
 -- A program with its numbers, as the code keeps them.
 use Rattle.std.specs.Prelude.{◌≡◌, ℕ, ◌^◌, ◌<◌, Bool, length, slice_get, Some}
+use Rattle.power_model.specs.Numbers.{IsPowerModel}
+use Rattle.code_graph.specs.FlowGraph.{IsFlowGraph}
 use Rattle.loop_tree.specs.Tree.{IsLoopTree}
 use Rattle.level_tables.specs.Tables.{EdgeNumbers}
 use Rattle.level_reasons.specs.declared.numbered.Numbered.{Numbered}
 use Rattle.level_reasons.specs.declared.numbered.Told.{Told}
 use Rattle.level_reasons.specs.Reasons.{ProgramNumbers}
 
--- loops of a graph, a starting level, and as many numbers as there are edges and loops
+-- a machine, a graph and its loops, a starting level, and as many numbers as there are edges and loops
 pub record IsNumbered (x : Numbered) : Type 0 where
+  pub power : IsPowerModel x.power.now
+  pub flow : IsFlowGraph x.graph.now
   pub tree : (extent : ℕ → ℕ → Bool) × IsLoopTree x.graph.now extent x.tree.now
   pub start : x.start < length x.power.now.levels
   pub slacks_size : length x.worst.now.slacks ≡ length x.graph.now.code.edges

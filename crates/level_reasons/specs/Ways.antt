@@ -17,6 +17,10 @@ pub record IsWayAmong (v : FlowGraph) (t : LoopView) (k n e : ℕ) : Type 0 wher
   pub before : place < n
   pub starts : (graph v).source e ≡ node_address v (number_in_place (body_of t.bodies k) place)
 
+-- these, and the ways out that are edges from a number on and below another
+abbrev pub IsWaySoFar : FlowGraph → LoopView → (k n first end e : ℕ) → Type 0
+IsWaySoFar v t k n first end e = IsWayAmong v t k n e ⊎ (IsWayOut v t k e × (first ≤ e) × (e < end))
+
 -- what is kept of a way out
 pub record IsWayOf (power : PowerModel) (level : ℕ) (told : EdgeNumbers) (way : Way) : Type 0 where
   pub lack : IsLack power level told way.lack

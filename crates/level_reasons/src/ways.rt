@@ -1,6 +1,6 @@
 //! The ways out of a loop.
 
-ghost use Rattle.std.specs.Prelude.{◌≡◌, ◌↔◌, ◌+◌, ◌<◌, ◌^◌, true, Some, None, length, IfSome};
+ghost use Rattle.std.specs.Prelude.{◌≡◌, ◌+◌, ◌<◌, ◌^◌, true, Some, None, length, IfSome};
 ghost use Rattle.cost_theory.specs.Lists.{body_of};
 ghost use Rattle.code_graph.specs.FlowGraph.{graph};
 ghost use Rattle.loop_tree.specs.Tree.{loops};
@@ -87,7 +87,8 @@ fn nearest_at(program: &Numbered<'_>, l: usize, i: usize, found: Option<Way>) ->
     ensures small { IfSome result (λ way. way.lack < 2 ^ 98) }
 {
     let mut nearest = found;
-    let (first, end) = program.graph.edges_of(program.tree.body(l)[i]);
+    let k = program.tree.body(l)[i];
+    let (first, end) = program.graph.edges_of(k);
     for e in first..end {
         if leads_out(program, l, e) {
             nearest = Some(nearer(nearest, way_at(program, e)));
