@@ -143,11 +143,31 @@ fn goes_to_the_lowest_level_from_each(rt: HostRuntime) {
     let shorter = LevelBudgets {
         start: 2,
         first: 95,
-        others: 100,
+        lowest: 100,
+        between: 100,
+        above: 0,
     };
     for (slack, lowest) in [(35, true), (34, false)] {
         let goes = lowest_within(&power, &shorter, slack, 10, Some(10));
         assert_eq!(rt; goes, lowest, "slack {slack}");
+    }
+    // What is left takes 40 time units at the lowest level and the switch 10, and at the level before it took (10 + slack) * 2 or (10 + slack) * 1; the budgets lend 30 and 40.
+    let lent = LevelBudgets {
+        start: 2,
+        first: 60,
+        lowest: 100,
+        between: 70,
+        above: 0,
+    };
+    let all = LevelBudgets {
+        between: 100,
+        ..lent
+    };
+    for (slack, lowest, without) in [(0, true, false), (14, true, false), (15, true, true)] {
+        let goes = lowest_within(&power, &lent, slack, 10, Some(10));
+        assert_eq!(rt; goes, lowest, "slack {slack}, a share");
+        let goes = lowest_within(&power, &all, slack, 10, Some(10));
+        assert_eq!(rt; goes, without, "slack {slack}, no share");
     }
 }
 

@@ -1,5 +1,5 @@
 -- Along the moves of a kept run and their legs: level, time and switches.
-use Rattle.std.proofs.Common.{◌≡◌, ℕ, ◌+◌, ◌*◌, ◌<◌, ◌≤◌, Bool, true, List, [], ◌∷◌, ◌++◌, length, refl, sym, ap, ◌∙◌, subst, arith, Option, Some, None, ◌⊎◌, inl, inr}
+use Rattle.std.proofs.Common.{◌≡◌, ℕ, ◌+◌, ◌-◌, ◌*◌, ◌<◌, ◌≤◌, Bool, true, List, [], ◌∷◌, ◌++◌, length, refl, sym, ap, ◌∙◌, subst, arith, Option, Some, None, ◌⊎◌, inl, inr}
 use Rattle.std.specs.Prelude.{unwrap_or, fold, slice_get, ◌==◌}
 use Rattle.std.specs.List.{list_any}
 use Rattle.std.proofs.lemmas.Bool.{or_left, eq-eqb}
@@ -11,12 +11,12 @@ use Rattle.power_model.specs.Numbers as model
 use Rattle.power_model.specs.Numbers.{PowerModel}
 use Rattle.power_model.specs.Price.{metered, switch_time, time_at}
 use Rattle.cost_theory.specs.Graph.{Graph, Loops, is_round}
-use Rattle.cost_theory.specs.Worst.{Numbers, cost, slack, rest, left_behind}
+use Rattle.cost_theory.specs.Worst.{Numbers, cost, slack, rest, left_behind, turns_taken}
 use Rattle.cost_theory.specs.Laws.{IsAnalyzed}
 use Rattle.cost_theory.specs.Reached.{Code, edge_at}
 use Rattle.cost_theory.specs.Steps as steps
 use Rattle.cost_theory.specs.Steps.Transition.{Along, Call, Return, Exit}
-use Rattle.cost_theory.proofs.Laws.{sound_run, sound_after, step_law, along_at, behind-rest, call_order}
+use Rattle.cost_theory.proofs.Laws.{sound_run, sound_after, step_law, along_at, behind-turns, call_order}
 use Rattle.cycle_laws.specs.Charged.{Charged, to_end_after}
 use Rattle.cycle_laws.specs.LeastLaws.{IsCharged}
 use Rattle.cycle_laws.proofs.Laws.{exit_behind}
@@ -131,11 +131,15 @@ module _ (power : PowerModel) (budget : ℕ → ℕ) (t : Text) (code : Code) (l
       let falls = along_at g l extent w n is s e sound kept in
       let order = call_order g is.program in
       let next = sound_after g l extent is.program s (Along e) sound kept in
-      let most = behind-rest g l extent w n is order.0 order.1 (steps.after g l s (Along e)) e c.target next kept.edge c.leads c.leads in
+      let turns = behind-turns g l extent w n is order.0 order.1 (steps.after g l s (Along e)) e c.target next kept.edge c.leads c.leads in
+      let taken : c.gone ≤ turns_taken l n (steps.after g l s (Along e)).counts (g.target e) = c.is_gone in
+      let most : left ≤ rest g l n e - c.gone = omega (arith, turns, taken) in
+      let behind : rest g l n e + tail - c.gone ≡ rest g l n e - c.gone + tail = omega (arith, turns, taken) in
       let slower = period_le power.levels j p.level ranked (omega (arith, c.lower)) low in
       let more = slack g l n (cost g n w) e + left_behind g l n s.counts e in
       let whole : (head + tail + more + left) * period power p.level ≡ steps.cycles_left g l w n s * period power p.level = ap (λ x. x * period power p.level) (omega (arith, parts, falls)) in
-      let enough = one_switch p.time head tail more (rest g l n e) left (period power p.level) (period power j) (switch_time power p.level j) (budget p.level) (budget j) slower most c.in_budget (omega (arith, whole, safe)) in
+      let test = subst (λ x. x * period power j + switch_time power p.level j + budget p.level ≤ (x + more) * period power p.level + budget j) behind c.in_budget in
+      let enough = one_switch p.time head tail more (rest g l n e - c.gone) left (period power p.level) (period power j) (switch_time power p.level j) (budget p.level) (budget j) slower most test (omega (arith, whole, safe)) in
       let switch : switch_time power p.level q.level ≡ switch_time power p.level j = ap (switch_time power p.level) level in
       let tail_rate : time_at power q.level tail ≡ tail * period power j = ap (λ i. tail * period power i) level in
       let left_rate : left * period power q.level ≡ left * period power j = ap (λ i. left * period power i) level in

@@ -1,7 +1,7 @@
 -- Tables of levels that keep a run within budgets: each level has a time by which a run that stands at it is to end, at most the deadline. A run that has level i after a step has
 -- so much time left for all that is left of its worst case at that level; a switch may use what the budget of the level behind it has more, besides the slack of its edge.
 -- Where each budget is the deadline, it is the rule of Timely.
-use Rattle.std.specs.Prelude.{◌≡◌, ◌⊎◌, ℕ, ◌+◌, ◌*◌, ◌<◌, ◌≤◌, Bool, true, List, length, slice_get, Some, None}
+use Rattle.std.specs.Prelude.{◌≡◌, ◌⊎◌, ℕ, ◌+◌, ◌-◌, ◌*◌, ◌<◌, ◌≤◌, Bool, true, List, length, slice_get, Some, None}
 use Rattle.scale_base.specs.declared.stepping.Class.{Class}
 use Rattle.scale_base.specs.declared.stepping.Stepped.{Stepped}
 use Rattle.power_model.specs.Numbers.{PowerModel}
@@ -32,6 +32,7 @@ pub record IsChosenWithin (power : PowerModel) (budget : ℕ → ℕ) (g : Graph
   pub inside : g.callee e ≡ None
   pub target : ℕ
   pub leads : g.target e ≡ Some target
+  -- so much of what is left at most has gone with the turns taken
   pub gone : ℕ
   pub is_gone : gone ≤ taken_behind g l n counts e
   pub in_budget : IsSwitchInBudget power budget g l w n counts e tail gone i j

@@ -1,12 +1,12 @@
 -- Tables of marked edges: each entry is the level itself, or a lower one that meets the tests of time and of payment for the numbers of its edge. A row of a table
 -- behind a loop counts on the turns that its counts have left at least. `is_of c k` tells that the window's word c counts loop k.
-use Rattle.std.specs.Prelude.{◌≡◌, ◌⊎◌, ℕ, ◌+◌, ◌/◌, ◌^◌, ◌<◌, Bool, true, List, [], ◌∷◌, length, slice_index, slice_get, Some, None, option_map}
+use Rattle.std.specs.Prelude.{◌≡◌, ◌⊎◌, ℕ, ◌+◌, ◌/◌, ◌^◌, ◌<◌, ◌≤◌, Bool, true, List, [], ◌∷◌, length, slice_index, slice_get, Some, None, option_map}
 use Rattle.scale_base.specs.declared.fragments.Fragment.{Fragment}
 use Rattle.scale_base.specs.declared.fragments.Fragment.TheVariants.{Switch, Exit, Reset, Count, Lowest, Tally}
 use Rattle.scale_base.specs.declared.stepping.Class.{Class}
 use Rattle.power_model.specs.Numbers.{PowerModel}
 use Rattle.power_model.specs.Switches.{costs_of}
-use Rattle.cost_theory.specs.Graph.{Graph, Loops, is_back, leaves}
+use Rattle.cost_theory.specs.Graph.{Graph, Loops, is_round, is_back, leaves}
 use Rattle.cost_theory.specs.Worst.{Numbers, cost, slack, rest}
 use Rattle.cost_theory.specs.Reached.{Code, edge_at}
 use Rattle.cycle_laws.specs.Charged.{Charged, to_end_after}
@@ -49,12 +49,13 @@ pub record AreRowsBy (power : PowerModel) (meets : EdgeNumbers → ℕ → ℕ �
 abbrev pub AreAllLowest : PowerModel → (EdgeNumbers → ℕ → ℕ → Bool) → EdgeNumbers → Type 0
 AreAllLowest power meets told = (i : ℕ) → i < length power.levels → IsEntryBy meets told i 0
 
--- on a back edge of a loop that its counter counts, from each count on with which it stores
+-- On a back edge of a loop that its counter counts: with each count with which it stores, the lowest level is an entry behind the turns that are then taken.
 pub record IsTallyBy (power : PowerModel) (meets : EdgeNumbers → ℕ → ℕ → Bool) (g : Graph) (l : Loops) (n : Numbers) (told : EdgeNumbers) (is_of : ℕ → ℕ → Bool) (e counter shift from : ℕ) : Type 0 where
   pub loop : ℕ
   pub low : loop < l.loops
   pub counts : is_of counter loop ≡ true
   pub back : is_back g l loop e ≡ true
+  pub held : is_round l loop (g.target e) ≡ true
   pub lowest : (count : ℕ) → count ≤ l.bound loop → is_due shift from count ≡ true → AreAllLowest power meets (behind_turns (count + 1) (n.iteration loop) told)
 
 abbrev pub IsTableBy : PowerModel → (EdgeNumbers → ℕ → ℕ → Bool) → Graph → Loops → Numbers → EdgeNumbers → (ℕ → ℕ → Bool) → ℕ → Fragment → Type 0

@@ -22,7 +22,7 @@ use Rattle.power_model.specs.Switches.{period, energy, costs_of, NeverRises, swi
 abbrev pub weights_of : PowerModel → Text → Code → List Site → ℕ → ℕ
 weights_of power t code sites = stored_site_weights t code (costs_of power) sites
 
--- what the turns have taken, behind an edge, of the loops round its target
+-- what the turns cost at most that the loops round an edge's target have taken behind it
 abbrev pub taken_behind : Graph → Loops → Numbers → (counts : ℕ → ℕ) → ℕ → ℕ
 taken_behind g l n counts e = turns_taken l n (count_step l (Some (g.source e)) (g.target e) counts) (g.target e)
 
@@ -42,6 +42,7 @@ pub record IsChosen (power : PowerModel) (g : Graph) (l : Loops) (w : ℕ → �
   pub inside : g.callee e ≡ None
   pub target : ℕ
   pub leads : g.target e ≡ Some target
+  -- so much of what is left at most has gone with the turns taken
   pub gone : ℕ
   pub is_gone : gone ≤ taken_behind g l n counts e
   pub in_time : IsSwitchInTime power g l w n counts e tail gone i j

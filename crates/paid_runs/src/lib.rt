@@ -26,8 +26,8 @@ pub fn stubs_are_bounded()
     ensures { StubsAreBounded }
 {}
 
-/// Tables whose entries meet the two tests keep a run in time and pay: an edge's slack is left behind it, and a row of a table behind a loop
-/// counts on no more turns than the loop's count leaves.
+/// Tables whose entries meet the two tests keep a run in time and pay: an edge's slack is left behind it, a row of a table behind a loop
+/// counts on no more turns than the loop's count leaves, and a back edge that counts takes no more turns off its rest than the loop has taken.
 pub fn tables_keep_time()
     ensures { TablesOfKeepTime }
 {}

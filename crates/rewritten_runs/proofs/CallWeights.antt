@@ -74,6 +74,11 @@ module _ {rule : Rule} (power : PowerModel) (image : Image) (notes : List LoopNo
           let k = counted_is power image notes v tree plain stored weighed is.place is.loop is.get in
           let off : goes_back l is.loop (g.source e) (g.target e) ≡ false = ((countable power image notes v tree plain stored weighed).calls is.loop e f w k.loop k.flag lt callee to).0 in
           let on = is.holds in let never : ⊥ = cc in never
+      by_mark marks.Lowest w to is = not_both (slice_get v.code.edges e) is (call_goes_on t v.code (program_is power image notes v tree plain stored weighed).reached e f w lt callee to)
+      by_mark (marks.Tally c) w to is =
+          let k = counted_is power image notes v tree plain stored weighed is.place is.loop is.get in
+          let off : goes_back l is.loop (g.source e) (g.target e) ≡ false = ((countable power image notes v tree plain stored weighed).calls is.loop e f w k.loop k.flag lt callee to).0 in
+          let on = is.holds in let never : ⊥ = cc in never
 
       by : (ms : List Mark) → marked e ≡ ms → All (IsMarkOf l (counted_loops tree) (is_branch v e) (g.source e) (g.target e)) ms → marked e ≡ []
       by [] same all = same

@@ -1,5 +1,6 @@
 pub mod Programs
 pub mod MarkLists
+pub mod PlainMarks
 pub mod TableLaws
 pub mod Edges
 pub mod Marked

@@ -40,6 +40,8 @@ effect marks.Switch w x = x
 effect (marks.Exit i) w x = if w == i then 0 else x
 effect (marks.Reset i) w x = if w == i then 0 else x
 effect (marks.Count i) w x = if w == i then x + 1 else x
+effect marks.Lowest w x = x
+effect (marks.Tally i) w x = if w == i then x + 1 else x
 
 abbrev pub through : ℕ → List Mark → ℕ → ℕ
 through w [] x = x

@@ -41,12 +41,16 @@ IsQuietMark marks.Switch = ⊥
 IsQuietMark (marks.Exit c) = ⊥
 IsQuietMark (marks.Reset c) = Unit {0}
 IsQuietMark (marks.Count c) = Unit {0}
+IsQuietMark marks.Lowest = ⊥
+IsQuietMark (marks.Tally c) = ⊥
 
 quiet_fragment : (power : PowerModel) (test : tables.EdgeNumbers → ℕ → ℕ → Bool) (l : Loops) (counted : List ℕ) (n : Numbers) (told : tables.EdgeNumbers) (m : Mark) → IsQuietMark m → IsQuiet (fragment_by power test l counted n told m)
 quiet_fragment power test l counted n told marks.Switch h = absurd h
 quiet_fragment power test l counted n told (marks.Exit c) h = absurd h
 quiet_fragment power test l counted n told (marks.Reset c) h = tt
 quiet_fragment power test l counted n told (marks.Count c) h = tt
+quiet_fragment power test l counted n told marks.Lowest h = absurd h
+quiet_fragment power test l counted n told (marks.Tally c) h = absurd h
 
 all_quiet : (power : PowerModel) (test : tables.EdgeNumbers → ℕ → ℕ → Bool) (l : Loops) (counted : List ℕ) (n : Numbers) (told : tables.EdgeNumbers) (ms : List Mark) → All IsQuietMark ms → All IsQuiet (map (fragment_by power test l counted n told) ms)
 all_quiet power test l counted n told ms h = All-map IsQuiet (fragment_by power test l counted n told) ms (λ k d lt. quiet_fragment power test l counted n told _ (h k d lt))

@@ -47,6 +47,8 @@ acts power test l counted n told marks.Switch c w = refl
 acts power test l counted n told (marks.Exit i) c w = refl
 acts power test l counted n told (marks.Reset i) c w = refl
 acts power test l counted n told (marks.Count i) c w = refl
+acts power test l counted n told marks.Lowest c w = refl
+acts power test l counted n told (marks.Tally i) c w = refl
 
 pub all_act : (power : PowerModel) (test : tables.EdgeNumbers → ℕ → ℕ → Bool) (l : Loops) (counted : List ℕ) (n : Numbers) (told : tables.EdgeNumbers) (ms : List Mark) (c : ℕ → ℕ) (w : ℕ) → counters_behind (map (fragment_by power test l counted n told) ms) c w ≡ through w ms (c w)
 all_act power test l counted n told [] c w = refl
@@ -67,6 +69,8 @@ IsMarkOf l counted branch u p marks.Switch = branch ≡ true
 IsMarkOf l counted branch u p (marks.Exit c) = IsCounter counted c (λ k. leaves l k u p ≡ true)
 IsMarkOf l counted branch u p (marks.Reset c) = IsCounter counted c (λ k. leaves l k u p ≡ true)
 IsMarkOf l counted branch u p (marks.Count c) = IsCounter counted c (λ k. goes_back l k u p ≡ true)
+IsMarkOf l counted branch u p marks.Lowest = branch ≡ true
+IsMarkOf l counted branch u p (marks.Tally c) = IsCounter counted c (λ k. goes_back l k u p ≡ true)
 
 switch_marks : (P : Mark → Type 0) (b : Bool) → (b ≡ true → P marks.Switch) → All P (mark_if b marks.Switch)
 switch_marks P true h = All-cons P marks.Switch [] (h refl) (All-nil P)
@@ -211,6 +215,8 @@ module _ {rule : Rule} (power : PowerModel) (image : Image) (notes : List LoopNo
       by_mark (marks.Exit c) is = left_to is.loop (g.source e) (g.target e) is.holds
       by_mark (marks.Reset c) is = left_to is.loop (g.source e) (g.target e) is.holds
       by_mark (marks.Count c) is = back_to is.loop (g.source e) (g.target e) is.holds
+      by_mark marks.Lowest is = branch_led t code program_is.reached e lt is
+      by_mark (marks.Tally c) is = back_to is.loop (g.source e) (g.target e) is.holds
 
       by : (ms : List Mark) → marked e ≡ ms → All (IsMarkAt e) ms → (w : ℕ) × (g.target e ≡ Some w)
       by [] is all = absurd (some is)

@@ -42,7 +42,7 @@ use Rattle.rewritten_runs.specs.Stubs.{Rule, IsWeighedBy, AreSitesOf, marks_by, 
 use Rattle.rewritten_runs.proofs.Edges.{edge_is}
 use Rattle.rewritten_runs.proofs.Marked.{IsMarkOf, program_is, graph_program, marks_of_edge, shadow_of, counted_is}
 use Rattle.rewritten_runs.proofs.MarkOrder.{marks_ordered, in_get, set_distinct}
-use Rattle.rewritten_runs.proofs.TableLaws.{word_is_table, shift_fits, rows_by_count, rows_are_tables}
+use Rattle.rewritten_runs.proofs.TableLaws.{word_is_table, shift_fits, tally_fits, rows_by_count, rows_are_tables}
 
 -- ---- the registers of a branch
 
@@ -147,6 +147,17 @@ module _ {rule : Rule} (power : PowerModel) (ok : IsPowerModel power) (image : I
       )
   safe_mark e (marks.Reset c) is = subst IsShadow (sym is.is) (shadow_of power image notes v tree plain stored weighed is.place is.loop is.get)
   safe_mark e (marks.Count c) is = subst IsShadow (sym is.is) (shadow_of power image notes v tree plain stored weighed is.place is.loop is.get)
+  safe_mark e marks.Lowest is = tt
+  safe_mark e (marks.Tally c) is =
+      let k = loop_of counted c in
+      let small = bound_small k in
+      let fits = tally_fits power rule.test (l.bound k) (stored.iteration k) (told_at power image v tree marked stored least e) (omega (arith, small)) in (
+        subst IsShadow (sym is.is) (shadow_of power image notes v tree plain stored weighed is.place is.loop is.get),
+        fits.0,
+        fits.2,
+        fits.3,
+        omega (arith, small),
+      )
 
   safe_fragments : (e : ℕ) → All (IsSafe levels limits) (frags e)
   safe_fragments e = All-map (IsSafe levels limits) (fragment_by power rule.test l counted stored (told_at power image v tree marked stored least e)) (marked e)

@@ -55,6 +55,8 @@ row_short levels limits (fragments.Switch word) h = omega arith
 row_short levels limits (fragments.Exit counter shift rows) h = let few = h.2 in omega (arith, few)
 row_short levels limits (fragments.Reset counter) h = omega arith
 row_short levels limits (fragments.Count counter) h = omega arith
+row_short levels limits (fragments.Lowest down) h = omega arith
+row_short levels limits (fragments.Tally counter shift from) h = omega arith
 
 rows_short : (levels : ℕ) (limits : ℕ → ℕ) (fs : List Fragment) → All (IsSafe levels limits) fs → length (rows_by fs) ≤ sum_by code_len fs
 rows_short levels limits [] h = omega arith

@@ -1,5 +1,5 @@
 -- The tables of switches and exits: their words, their rows, and what a level that they name has met.
-use Rattle.std.proofs.Common.{◌≡◌, ℕ, ◌+◌, ◌-◌, ◌*◌, ◌/◌, ◌^◌, ◌<◌, ◌≤◌, ◌⊎◌, inl, inr, Bool, true, false, nat_le, length, slice_index, Option, Some, None, unwrap_or, sym, ap, ◌∙◌, subst, arith}
+use Rattle.std.proofs.Common.{◌≡◌, ℕ, ◌+◌, ◌-◌, ◌*◌, ◌/◌, ◌^◌, ◌<◌, ◌≤◌, ◌⊎◌, inl, inr, Bool, true, false, ◌&&◌, nat_le, length, slice_index, Option, Some, None, unwrap_or, sym, ap, ◌∙◌, subst, arith}
 use Rattle.std.specs.Prelude.{All}
 use Rattle.std.specs.List.{range_with_len}
 use Rattle.std.proofs.Math.Nat.{mul-le-mul_right}
@@ -9,7 +9,7 @@ use Rattle.std.proofs.lemmas.List.Elements.{All-map}
 use Rattle.std.proofs.lemmas.List.FromFn.{length-map-range_with_len}
 use Rattle.power_model.specs.Numbers.{PowerModel}
 use Rattle.level_tables.specs.Search.{least_below}
-use Rattle.level_tables.specs.Tables.{EdgeNumbers, meets_both, entry_by, nibble, word_by, shift_of, trips_left, at_row, row_by, all_rows_by, rows_of}
+use Rattle.level_tables.specs.Tables.{EdgeNumbers, meets_both, entry_by, nibble, word_by, shift_of, trips_left, at_row, row_by, all_rows_by, rows_of, behind_turns, goes_lowest, tally_shift, tally_from}
 use Rattle.level_tables.proofs.Laws.{IsFound, least-is, nibbles-fit, entry-least, entries-low, word_by-at, row_by-at, trips_left-le}
 use Rattle.stored_runs.specs.Stubbed.{IsTable}
 
@@ -41,6 +41,26 @@ shift_found bound small (Some s) found = (found.0, leb-le (bound / 2 ^ s) 15 fou
 
 pub shift_fits : (bound : ℕ) → bound < 2 ^ 32 → (shift_of bound < 32) × (bound / 2 ^ shift_of bound ≤ 15)
 shift_fits bound small = shift_found bound small (least_below 32 (λ s. nat_le (bound / 2 ^ s) 15)) (least-is 32 (λ s. nat_le (bound / 2 ^ s) 15))
+
+tally_found : (bound : ℕ) → bound < 2 ^ 32 → (o : Option ℕ) → IsFound 32 (λ s. nat_le (bound / 2 ^ s) 2045) o → (unwrap_or o 0 < 32) × (bound / 2 ^ unwrap_or o 0 ≤ 2045)
+tally_found bound small None none =
+    let fails : nat_le (bound / 2 ^ 28) 2045 ≡ false = none 28 (omega arith) in
+    let passes : nat_le (bound / 2 ^ 28) 2045 ≡ true = (let le : bound / 2 ^ 28 ≤ 2045 = omega arith in grind (arith, nat_tests)) in
+    let bad : ⊥ = cc in absurd bad
+tally_found bound small (Some s) found = (found.0, leb-le (bound / 2 ^ s) 2045 found.1)
+
+from_found : (test : ℕ → Bool) (o : Option ℕ) → IsFound 2047 (λ k. nat_le 1 k && test k) o → (1 ≤ unwrap_or o 2047) × (unwrap_or o 2047 < 2048)
+from_found test None none = (omega arith, omega arith)
+from_found test (Some k) found = (leb-le 1 k (and_parts (nat_le 1 k) (test k) found.1).0, (let low = found.0 in omega (arith, low)))
+
+-- the numbers of a Tally fit its instructions
+pub tally_fits : (power : PowerModel) (test : EdgeNumbers → ℕ → ℕ → Bool) (bound iteration : ℕ) (site : EdgeNumbers) → bound < 2 ^ 32
+    → (tally_shift bound < 32) × (bound / 2 ^ tally_shift bound ≤ 2045) × (1 ≤ tally_from power test bound iteration site) × (tally_from power test bound iteration site < 2048)
+tally_fits power test bound iteration site small =
+    let s = tally_found bound small (least_below 32 (λ s. nat_le (bound / 2 ^ s) 2045)) (least-is 32 (λ s. nat_le (bound / 2 ^ s) 2045)) in
+    let passes : ℕ → Bool = λ k. goes_lowest power test (behind_turns (k * 2 ^ tally_shift bound) iteration site) in
+    let f = from_found passes (least_below 2047 (λ k. nat_le 1 k && passes k)) (least-is 2047 (λ k. nat_le 1 k && passes k)) in
+    (s.0, s.1, f.0, f.1)
 
 pub rows_count : (power : PowerModel) (bound iteration : ℕ) (site : EdgeNumbers) → length (rows_of power bound iteration site) ≡ bound / 2 ^ shift_of bound + 1
 rows_count power bound iteration site = rows_by_count power (meets_both power) bound iteration site

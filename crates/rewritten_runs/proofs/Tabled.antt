@@ -36,6 +36,7 @@ use Rattle.rewritten_runs.specs.Laws.{KeepsBudgets}
 use Rattle.rewritten_runs.specs.Stubs.{Rule, IsWeighedBy, AreSitesOf, marks_by, told_at, tail_at, fragment_by, fragments_with, loop_of, is_counted, counter_of, stored_weights}
 use Rattle.rewritten_runs.proofs.Edges.{call_goes_on}
 use Rattle.rewritten_runs.proofs.Marked.{IsMarkOf, program_is, countable, marked_led, marks_of_edge, counted_is, loop_is}
+use Rattle.rewritten_runs.proofs.PlainMarks.{IsPlainMark, rule_marks}
 use Rattle.rewritten_runs.proofs.TableLaws.{IsMet, word_met, row_met, row_turns, leb-le}
 use Rattle.rewritten_runs.proofs.Weighed.{tail_by, stored_same}
 
@@ -113,6 +114,10 @@ module _ {rule : Rule} (power : PowerModel) (ok : IsPowerModel power) (image : I
       by (Some f) e2 (marks.Reset c) is2 (inr q) = let r = q.1 in let never : ⊥ = cc in absurd never
       by (Some f) e2 (marks.Count c) is2 (inl q) = let never : ⊥ = cc in absurd never
       by (Some f) e2 (marks.Count c) is2 (inr q) = let r = q.1 in let never : ⊥ = cc in absurd never
+      by (Some f) e2 marks.Lowest is2 (inl q) = let never : ⊥ = cc in absurd never
+      by (Some f) e2 marks.Lowest is2 (inr q) = let r = q.1 in let never : ⊥ = cc in absurd never
+      by (Some f) e2 (marks.Tally c) is2 (inl q) = let never : ⊥ = cc in absurd never
+      by (Some f) e2 (marks.Tally c) is2 (inr q) = let r = q.1 in let never : ⊥ = cc in absurd never
 
   -- the slack that is told, in the graph and under the weights of the laws
   slack_is : (e u : ℕ) → g.target e ≡ Some u → (told e).slack ≡ slack g l stored (cost g stored w) e
@@ -136,7 +141,7 @@ module _ {rule : Rule} (power : PowerModel) (ok : IsPowerModel power) (image : I
       let r = rest_is e u to in
       let both = and_parts (is_switch_in_budget power budget (record (told e) { slack = (told e).slack + more }) i j) (tables.pays power (told e).least i j) (strong (record (told e) { slack = (told e).slack + more }) i j met.meets) in
       let grown = time_grows (told e).left ((told e).slack + more) (slack g l stored (cost g stored w) e + left_behind g l stored counts e) (period power j) (period power i) (switch_time power i j) (budget i) (budget j) both.0 (omega (arith, s, small)) in
-      let left : rest g l stored e + tail_cycles (costs_of power) (fragments_with power rule.test image v tree marked stored least e) ≡ (told e).left = omega (arith, r, tail) in
+      let left : rest g l stored e + tail_cycles (costs_of power) (fragments_with power rule.test image v tree marked stored least e) - 0 ≡ (told e).left = omega (arith, r, tail) in
       let to_end : to_end_after g l least e ≡ to_end_after (graph v) l least e = ap (λ q. to_end_after q l least e) weighed.code_is.graph_is in
       let paid = paid_by power (to_end_after (graph v) l least e) (tail_at power marked e) i j both.1 in
       record {
@@ -144,6 +149,8 @@ module _ {rule : Rule} (power : PowerModel) (ok : IsPowerModel power) (image : I
         inside = no_call;
         target = u;
         leads = to;
+        gone = 0;
+        is_gone = omega arith;
         in_budget = subst (λ x. x * period power j + switch_time power i j + budget i ≤ (x + (slack g l stored (cost g stored w) e + left_behind g l stored counts e)) * period power i + budget j) (sym left) grown;
         paying = (paid.z, to_end ∙ paid.is, subst (λ x. switch_energy power i j ≤ (paid.z + x) * (energy power i - energy power j)) (sym tail) paid.pays);
       }
@@ -167,10 +174,10 @@ module _ {rule : Rule} (power : PowerModel) (ok : IsPowerModel power) (image : I
 
   at_edge : (e : ℕ) (h : Shadow) (counts : ℕ → ℕ) (j : ℕ) → e < length code.edges → h.level < length power.levels → AreWithin l counts
       → ((k : ℕ) → k < l.loops → is_counted tree k ≡ true → l.inside k (g.source e) ≡ true → h.counters (counter_of tree k) ≡ counts k)
-      → (ms : List Mark) → marked e ≡ ms → All (IsMarkOf l counted (is_branch v e) (g.source e) (g.target e)) ms
+      → (ms : List Mark) → marked e ≡ ms → All (IsMarkOf l counted (is_branch v e) (g.source e) (g.target e)) ms → All IsPlainMark ms
       → level_stored (map (fragment_by power rule.test l counted stored (told e)) ms) h ≡ Some j → Chosen e h counts j
-  at_edge e h counts j lt low within held [] is all stores = let never : ⊥ = cc in absurd never
-  at_edge e h counts j lt low within held (marks.Switch ∷ ms) is all stores =
+  at_edge e h counts j lt low within held [] is all plain_only stores = let never : ⊥ = cc in absurd never
+  at_edge e h counts j lt low within held (marks.Switch ∷ ms) is all plain_only stores =
       let m = all 0 marks.Switch (omega arith) in
       let some : marked e ≢ [] = λ q. (let never : ⊥ = cc in never) in
       let to = marked_led power image notes v tree plain stored weighed e lt some in
@@ -179,7 +186,7 @@ module _ {rule : Rule} (power : PowerModel) (ok : IsPowerModel power) (image : I
       Rattle.std.proofs.Common.⊎_elim (λ same. inl same)
       (λ met. inr (chosen_by e to.0 h.level j 0 counts marks.Switch ms lt is no_call to.1 (omega arith) (subst (λ q. IsMet rule.test q h.level j) (sym (no_more (told e))) met)))
       (word_met power rule.test (told e) h.level j ok.few low read_so)
-  at_edge e h counts j lt low within held (marks.Exit c ∷ ms) is all stores =
+  at_edge e h counts j lt low within held (marks.Exit c ∷ ms) is all plain_only stores =
       let m = all 0 (marks.Exit c) (omega arith) in
       let some : marked e ≢ [] = λ q. (let never : ⊥ = cc in never) in
       let to = marked_led power image notes v tree plain stored weighed e lt some in
@@ -201,8 +208,10 @@ module _ {rule : Rule} (power : PowerModel) (ok : IsPowerModel power) (image : I
       Rattle.std.proofs.Common.⊎_elim (λ same. inl same)
       (λ met. inr (chosen_by e to.0 h.level j more counts (marks.Exit c) ms lt is no_call to.1 (omega (arith, few, behind)) met))
       (row_met power rule.test b it (told e) (counts k) h.level j (within k kc.loop) ok.few low read_too)
-  at_edge e h counts j lt low within held (marks.Reset c ∷ ms) is all stores = let never : ⊥ = cc in absurd never
-  at_edge e h counts j lt low within held (marks.Count c ∷ ms) is all stores = let never : ⊥ = cc in absurd never
+  at_edge e h counts j lt low within held (marks.Reset c ∷ ms) is all plain_only stores = let never : ⊥ = cc in absurd never
+  at_edge e h counts j lt low within held (marks.Count c ∷ ms) is all plain_only stores = let never : ⊥ = cc in absurd never
+  at_edge e h counts j lt low within held (marks.Lowest ∷ ms) is all plain_only stores = absurd (plain_only 0 marks.Lowest (omega arith))
+  at_edge e h counts j lt low within held (marks.Tally c ∷ ms) is all plain_only stores = absurd (plain_only 0 (marks.Tally c) (omega arith))
 
   pub are_tables : AreTablesWithin power budget t code l sites (by_words l (is_counted tree) (counter_of tree)) stored least
   are_tables = record {
@@ -211,5 +220,5 @@ module _ {rule : Rule} (power : PowerModel) (ok : IsPowerModel power) (image : I
         let ways = are.ways e class lt is in
         let there : level_stored (fragments_with power rule.test image v tree marked stored least e) h ≡ Some j = ap (λ fs. level_stored fs h) (sym ways) ∙ stores in
         subst (λ fs. (j ≡ h.level) ⊎ IsChosenWithin power budget g l w stored least counts e (tail_cycles (costs_of power) fs) h.level j) (sym ways)
-        (at_edge e h counts j lt low within held (marked e) refl (marks_of_edge power image notes v tree plain stored weighed e) there);
+        (at_edge e h counts j lt low within held (marked e) refl (marks_of_edge power image notes v tree plain stored weighed e) (rule_marks v tree rule e) there);
   }

@@ -2,4 +2,6 @@ mod Costing
 pub mod OneExit
 mod CounterLaws
 mod SiteLaws
+pub mod FormLaws
+pub mod FirstMarks
 pub mod Laws

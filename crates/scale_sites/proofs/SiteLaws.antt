@@ -18,7 +18,8 @@ use Rattle.scale_base.specs.declared.fragments.Mark.TheVariants.{Switch, Exit, R
 use Rattle.scale_sites.specs.Marks.{numbered, AreBelow, first_counter, leaves_any, holds_left, is_outermost, mark_if, exits_from, resets_from, counts_from, switch_of, marks_at}
 use Rattle.scale_sites.specs.Weights.{some_mark, is_patched, jumps_of}
 use Rattle.scale_sites.specs.Counters.{set_from}
-use Rattle.scale_sites.specs.Sites.{is_branch, marks_by, marks_in, AreMarksBy, AreMarks, AreJumps}
+use Rattle.scale_sites.specs.Forms.{formed, formed_where, tallied_by}
+use Rattle.scale_sites.specs.Sites.{SitesView, is_branch, flag_at, marks_in, marks_at_edge, AreMarksBy, AreJumps, AreSitesBy}
 
 -- ---- numbers and addresses
 
@@ -261,6 +262,19 @@ jumps_push v marks n jumps j are is few =
           (cases_lt e n);
       few = push_all (λ (x : ℕ). x ≤ 2) 0 jumps j (let r : 0 ≤ 2 = omega arith in r) few are.few;
     }
+
+-- ---- sites where other marks stand
+
+pub sites_formed : (v : FlowGraph) (lowest tallied : List Bool) (s : SitesView) (marks : List (List Mark)) (jumps : List ℕ) → AreMarksBy (formed_where lowest tallied (marks_at_edge s)) (length s.marks) marks → AreJumps v marks (length v.code.edges) jumps
+    → length s.marks ≡ length v.code.edges → (marked : ℕ → List Mark) → AreSitesBy v marked s → AreSitesBy v (formed_where lowest tallied marked) (record { marks = marks; jumps = jumps })
+sites_formed v lowest tallied s marks jumps are over size marked given = record {
+  marks = λ e lt.
+      let here : marks_at_edge s e ≡ marked e = get_or_from_slice_get s.marks e (marked e) [] (given.marks e lt) in
+      are.each e (let r : e < length s.marks = omega (arith, lt, size) in r) ∙ ap (λ ms. Some (formed (flag_at lowest e) (tallied_by tallied) ms)) here;
+  jumps = over.each;
+  marks_size = are.size ∙ size;
+  jumps_size = over.size;
+}
 
 -- ---- a list of marks that is empty or not
 

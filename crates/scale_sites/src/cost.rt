@@ -1,7 +1,7 @@
 //! What marks cost.
 
 ghost use Rattle.std.specs.Prelude.{◌≡◌, ◌≤◌, ◌*◌, ◌+◌, length, true};
-ghost use Rattle.scale_sites.specs.Weights.{mark_cost, marks_cost, switches, tail_of, extra_of};
+ghost use Rattle.scale_sites.specs.Weights.{mark_cost, marks_cost, mark_tail, switches, tail_of, extra_of};
 
 use power_model::Costs;
 use scale_base::Mark;
@@ -16,6 +16,8 @@ fn mark_cost(mark: &Mark, costs: &Costs) -> u32
         Mark::Exit(_) => (4, 5, 7),
         Mark::Reset(_) => (1, 0, 0),
         Mark::Count(_) => (2, 2, 1),
+        Mark::Lowest => (1, 0, 0),
+        Mark::Tally(_) => (3, 2, 5),
     };
     stores * u32::from(costs.store) + loads * u32::from(costs.load) + alus * u32::from(costs.alu)
 }
@@ -45,11 +47,25 @@ pub fn extra_of(marks: &[Mark], jumps: u8, costs: &Costs) -> u32
     u32::from(jumps) * u32::from(costs.jump) + marks_cost(marks, costs)
 }
 
-/// The cycles of an edge behind its port store: two loads, the marks behind the first, and the closing jump.
+/// The cycles of a mark's fragment behind its port store: the loads of what it saved.
+fn mark_tail(mark: &Mark, costs: &Costs) -> u32
+    ensures tail { result ≡ mark_tail costs.now mark.now }
+    ensures small { result ≤ 2 * 65535 }
+{
+    let loads = match *mark {
+        Mark::Switch | Mark::Exit(_) | Mark::Reset(_) | Mark::Count(_) => 2,
+        Mark::Lowest => 0,
+        Mark::Tally(_) => 1,
+    };
+    loads * u32::from(costs.load)
+}
+
+/// The cycles of an edge behind its port store: those of the first mark, the marks behind it, and the closing jump.
 pub fn tail_of(marks: &[Mark], costs: &Costs) -> u32
     requires few { length marks.now ≤ 1600 }
     requires switches { switches marks.now ≡ true }
     ensures { result ≡ tail_of costs.now marks.now }
 {
-    2 * u32::from(costs.load) + marks_cost(&marks[1..], costs) + u32::from(costs.jump)
+    let jump = u32::from(costs.jump);
+    mark_tail(&marks[0], costs) + marks_cost(&marks[1..], costs) + jump
 }

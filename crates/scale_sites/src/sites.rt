@@ -1,6 +1,6 @@
 //! The marks and the jumps of all edges.
 
-ghost use Rattle.std.specs.Prelude.{◌≡◌, ◌+◌, ◌*◌, ◌<◌, ◌≤◌, ℕ, Bool, true, [], length, map, slice_get, slice_index, slice_index_or, Some, IfOk};
+ghost use Rattle.std.specs.Prelude.{◌≡◌, ◌+◌, ◌*◌, ◌<◌, ◌≤◌, ℕ, Bool, true, List, [], length, map, slice_get, slice_index, slice_index_or, Some, IfOk};
 ghost use Rattle.scale_base.specs.declared.stepping.Class.{Class};
 ghost use Rattle.power_model.specs.Price.{cycles_of};
 ghost use Rattle.cost_theory.specs.Graph.{any_below};
@@ -11,11 +11,14 @@ ghost use Rattle.scale_sites.specs.Counters.{counted_loops};
 ghost use Rattle.scale_sites.specs.Marks.{marks_of};
 ghost use Rattle.scale_sites.specs.Marked.{IsMarkableGraph};
 ghost use Rattle.scale_sites.specs.Weights.{switches, tail_of, extra_of, is_patched, jumps_of};
-ghost use Rattle.scale_sites.specs.Sites.{SitesView, is_branch, is_branch_kind, marks_in, marks_at_edge, flag_at, marks_where, AreMarksBy, AreMarks, AreJumps, AreSites, AreWantedSites};
+ghost use Rattle.scale_sites.specs.Sites.{SitesView, is_branch, is_branch_kind, marks_in, marks_at_edge, flag_at, marks_where, AreMarksBy, AreMarks, AreJumps, AreSitesBy, AreSites, AreWantedSites};
+ghost use Rattle.scale_sites.specs.Forms.{formed_where};
+ghost use Rattle.scale_base.specs.declared.fragments.Mark.{Mark};
 
 use crate::cost;
 use crate::counting::CounterList;
 use crate::edge_marks::{Way, edge_marks};
+use crate::forms::{flag, form_marks};
 use crate::marking::Marking;
 use code_graph::{CodeGraph, Weights};
 use loop_tree::LoopTree;
@@ -51,6 +54,22 @@ impl Sites {
         &self.marks[e]
     }
 
+    /// How many edges there are.
+    fn count(&self) -> usize
+        ensures { result ≡ length self.now.marks }
+    {
+        self.marks.len()
+    }
+
+    /// The marks of edge `e`, of which there are few.
+    fn few_marks(&self, e: usize) -> &[Mark]
+        requires { e < length self.now.marks }
+        ensures marks { result.now ≡ marks_at_edge self.now e }
+        ensures few { length result.now ≤ 1600 }
+    {
+        &self.marks[e]
+    }
+
     /// The cycles that edge `e` costs besides its own.
     pub fn extra(&self, e: usize, costs: &Costs) -> u32
         requires { e < length self.now.marks }
@@ -60,7 +79,7 @@ impl Sites {
         cost::extra_of(&self.marks[e], self.jumps[e], costs)
     }
 
-    /// The cycles of edge `e` behind its port store. The edge has a Switch or an Exit.
+    /// The cycles of edge `e` behind its port store. Its first mark is one that may store there.
     pub fn tail(&self, e: usize, costs: &Costs) -> u32
         requires edge { e < length self.now.marks }
         requires switches { switches (marks_at_edge self.now e) ≡ true }
@@ -229,6 +248,40 @@ pub fn choose_where(
         min_gain: 0,
     };
     let marks = wanted_marks(alloc, &marking, wanted)?;
+    let jumps = all_jumps(alloc, graph, &marks)?;
+    Ok(Sites { marks, jumps })
+}
+
+/// By edge, what stands for its marks.
+fn formed_marks(
+    alloc: Global,
+    sites: &Sites,
+    lowest: &[bool],
+    tallied: &[bool],
+) -> Result<Vec<Vec<Mark>>, NoMemory>
+    ensures { IfOk result (λ marks. AreMarksBy (formed_where lowest.now tallied.now (marks_at_edge sites.now)) (length sites.now.marks) (map (λ m. m.items) marks.items)) }
+{
+    let mut marks = Vec::new(alloc);
+    for e in 0..sites.count() {
+        marks.push(form_marks(alloc, sites.few_marks(e), flag(lowest, e), tallied)?)?;
+    }
+    Ok(marks)
+}
+
+/// The sites where other marks stand for those of the edges: the flags of `lowest` are by edge, and tell where a Switch is one to the lowest level; those of
+/// `tallied` are by counted loop, and tell whether its back edges have tallies.
+pub fn form_sites(
+    alloc: Global,
+    graph: &CodeGraph,
+    sites: Sites,
+    lowest: &[bool],
+    tallied: &[bool],
+) -> Result<Sites, NoMemory>
+    requires flow { IsFlowGraph graph.now }
+    requires edges { length sites.marks ≡ length graph.now.code.edges }
+    ensures { IfOk result (λ s. (marked : ℕ → List Mark) → AreSitesBy graph.now marked sites → AreSitesBy graph.now (formed_where lowest.now tallied.now marked) s) }
+{
+    let marks = formed_marks(alloc, &sites, lowest, tallied)?;
     let jumps = all_jumps(alloc, graph, &marks)?;
     Ok(Sites { marks, jumps })
 }

@@ -6,7 +6,7 @@ use Rattle.std.specs.List.{All, AllZip}
 use Rattle.std.proofs.lemmas.List.{length-map}
 use Rattle.std.proofs.lemmas.List.Elements.{All-nil, All-cons}
 use Rattle.scale_tool.specs.Command.{input_wants, texts}
-use Rattle.scale_tool.specs.Views.{files_view}
+use Rattle.host_runs.specs.Views.{files_view}
 
 -- a file for each that is wanted, within its limit
 abbrev pub AreWanted : List (List ℕ × ℕ) → List (Vec ℕ Global) → Type 0

@@ -1,6 +1,6 @@
 -- All answers that may be given have one status.
 use Rattle.std.proofs.Common.{◌≡◌, ℕ, List, [], ◌∷◌, refl, sym, ap, subst, ◌∙◌}
-use Rattle.std.specs.Prelude.{Option, Some, None, IfSome, Result, Ok, Err}
+use Rattle.std.specs.Prelude.{Option, Some, None, Result, Ok, Err}
 use Rattle.scale_base.specs.declared.plan.SiteLine.{SiteLine}
 use Rattle.scale_base.specs.declared.refusal.Refusal.{Refusal}
 use Rattle.scale_base.specs.declared.summary.Lowered.{Lowered}
@@ -26,23 +26,15 @@ use Rattle.gain_tuner.proofs.Laws.{tuned_answers}
 use Rattle.scale_report.specs.Texts.{lowered_text, summary_text, survey_text, tuned_text}
 use Rattle.image_maker.specs.Making.{program}
 use Rattle.image_maker.proofs.Laws.{one_image}
-use Rattle.host_files.specs.HostState.{Files, HostState}
-use Rattle.scale_tool.specs.Answer.{Answer, AnswersTo, Giving, HasAnswer, IsAnswerOf, AreMade, MadeFiles, Makes, MakesMade, Tells, made_answer, stored_answer, text_answer, text_of_plan, verdict_answer}
-use Rattle.scale_tool.specs.Command.{Command, Help, Hold, Rewrite, Report, Simulate, Make, Lower, Check, Survey, Tune, wants_of}
-use Rattle.scale_tool.specs.Loading.{Loading, Missing, Long, Whole, loading_of}
-use Rattle.scale_tool.specs.Tool.{IsAnswered, IsDelivered, IsStatusOfAll}
+use Rattle.host_files.specs.HostState.{HostState}
+use Rattle.host_runs.specs.Answer.{Answer, stored_answer, text_answer}
+use Rattle.host_runs.proofs.Laws as runs
+use Rattle.host_runs.proofs.Laws.{one_told}
+use Rattle.scale_tool.specs.Answer.{AreMade, MadeFiles, Makes, MakesAsked, MakesMade, made_answer, text_of_plan, verdict_answer}
+use Rattle.scale_tool.specs.Command.{Command, Help, Hold, Rewrite, Report, Simulate, Make, Lower, Check, Survey, Tune, wants_asked}
+use Rattle.scale_tool.specs.Tool.{IsAnswered, IsStatusOfAll}
 
 -- ---- what a command gives
-
--- answers that may be given for the same files have one status
-abbrev Agree : {A : Type 0} → Giving A → (Result A Refusal → Answer) → Type 0
-Agree {A} Gives answer_of = (one other : Result A Refusal) → Gives one → Gives other → (answer_of one).status ≡ (answer_of other).status
-
-one_told : {A : Type 0} (Gives : Giving A) (answer_of : Result A Refusal → Answer) → Agree Gives answer_of → (one other : Answer) → Tells Gives answer_of one → Tells Gives answer_of other → one.status ≡ other.status
-one_told Gives answer_of agree one other x y =
-    ap (λ (a : Answer). a.status) x.told
-    ∙ agree x.given y.given x.is_given y.is_given
-    ∙ sym (ap (λ (a : Answer). a.status) y.told)
 
 stored_status : (out : List ℕ) (one other : Result (List ℕ × Summary) Refusal) → AreAlikeAnswers one other → (stored_answer summary_text out one).status ≡ (stored_answer summary_text out other).status
 stored_status out (Ok one) (Ok other) alike = refl
@@ -117,20 +109,10 @@ one_made_of_files (Tune image machine loops out inputs) (i ∷ m ∷ l ∷ given
     one_told (IsTuning i m l given) (stored_answer tuned_text out) (λ a b g h. tuned_status out a b (tuned_answers i m l given a b g h)) one other x y
 one_made_of_files command files one other x y = absurd x
 
-one_of_loading : (command : Command) (loading : Loading) (one other : Answer) → AnswersTo command loading one → AnswersTo command loading other → one.status ≡ other.status
-one_of_loading command Missing one other x y = absurd x
-one_of_loading command (Long name) one other x y = ap (λ (a : Answer). a.status) (x ∙ sym y)
-one_of_loading command (Whole files) one other x y = one_made_of_files command files one other x y
-
-one_status : (asked : Option Command) (files : Files) (one other : Answer) → IsAnswerOf asked files one → IsAnswerOf asked files other → one.status ≡ other.status
-one_status None files one other x y = ap (λ (a : Answer). a.status) (x ∙ sym y)
-one_status (Some command) files one other x y = one_of_loading command (loading_of (wants_of command) files) one other x y
+one_made_of_asked : (asked : Option Command) (files : List (List ℕ)) (one other : Answer) → MakesAsked asked files one → MakesAsked asked files other → one.status ≡ other.status
+one_made_of_asked None files one other x y = ap (λ (a : Answer). a.status) (x ∙ sym y)
+one_made_of_asked (Some command) files one other x y = one_made_of_files command files one other x y
 
 -- a status that was answered is that of every answer
 pub status_of_all : (asked : Option Command) (status : ℕ) (old new : HostState) → IsAnswered asked status old new → IsStatusOfAll asked status old
-status_of_all asked status old new answered = of_files old.files answered
-  where
-    of_files : (o : Option Files) → IfSome o (λ files. HasAnswer asked files (λ answer. (status ≡ answer.status) × IsDelivered answer.stores answer.text old new)) →
-        IfSome o (λ files. (answer : Answer) → IsAnswerOf asked files answer → status ≡ answer.status)
-    of_files None given = tt
-    of_files (Some files) given = λ answer is. given.2.0 ∙ one_status asked files given.0 answer given.1 is
+status_of_all asked = runs.status_of_all (wants_asked asked) (MakesAsked asked) (one_made_of_asked asked)

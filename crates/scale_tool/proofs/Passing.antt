@@ -9,12 +9,15 @@ use Rattle.scale_report.specs.Texts.{verdict_text}
 use Rattle.image_check.specs.Agreeing.{RewrittenImagesPass}
 use Rattle.image_check.specs.Passing.{checked_as}
 use Rattle.host_files.specs.HostState.{Files, HostState}
-use Rattle.scale_tool.specs.Answer.{Answer, AnswersTo, HasAnswer, Makes, verdict_answer}
-use Rattle.scale_tool.specs.Command.{Command, Check, wants_of}
-use Rattle.scale_tool.specs.Loading.{Loading, Missing, Long, Whole, IfLoaded, IfWhole, loading_of}
+use Rattle.host_runs.specs.Answer.{Answer}
+use Rattle.host_runs.specs.Command.{AnswersTo, HasAnswer}
+use Rattle.host_runs.specs.Delivered.{IsDelivered}
+use Rattle.host_runs.specs.Loading.{Loading, Missing, Long, Whole, IfWhole, loading_of}
+use Rattle.host_runs.proofs.Laws.{EachWithin, loaded_within}
+use Rattle.scale_tool.specs.Answer.{Makes, MakesAsked, verdict_answer}
+use Rattle.scale_tool.specs.Command.{Command, Check, wants_asked, wants_of}
 use Rattle.scale_tool.specs.Passing.{Passes, PassesRewritten}
-use Rattle.scale_tool.specs.Tool.{IsAnswered, IsDelivered}
-use Rattle.scale_tool.proofs.Limits.{EachWithin, loaded_within}
+use Rattle.scale_tool.specs.Tool.{IsAnswered}
 
 module _ (law : RewrittenImagesPass) (status : ℕ) (old new : HostState) where
   -- this answer was given, with this status
@@ -31,13 +34,14 @@ module _ (law : RewrittenImagesPass) (status : ℕ) (old new : HostState) where
       yes_given summary given answer (law i m l f summary given within.0 within.1.1.0 within.1.1.1.0 stored made.1.is_given) made.1.told is
   of_files command loaded answer within made is = tt
 
-  of_loading : (command : Command) (loading : Loading) (answer : Answer) → IfWhole loading (EachWithin (wants_of command)) → AnswersTo command loading answer → IsGiven answer →
+  of_loading : (command : Command) (loading : Loading) (answer : Answer) → IfWhole loading (EachWithin (wants_of command)) → AnswersTo (Makes command) loading answer → IsGiven answer →
       IfWhole loading (λ loaded. PassesRewritten command loaded status old new)
   of_loading command Missing answer within answers is = tt
   of_loading command (Long name) answer within answers is = tt
   of_loading command (Whole loaded) answer within answers is = of_files command loaded answer within answers is
 
-  of_told : (asked : Option Command) (told : Option Files) → IfSome told (λ files. HasAnswer asked files IsGiven) → IfSome told (λ files. IfLoaded asked files (λ command loaded. PassesRewritten command loaded status old new))
+  of_told : (asked : Option Command) (told : Option Files) → IfSome told (λ files. HasAnswer (wants_asked asked) (MakesAsked asked) files IsGiven) →
+      IfSome told (λ files. IfSome asked (λ command. IfWhole (loading_of (wants_of command) files) (λ loaded. PassesRewritten command loaded status old new)))
   of_told asked None given = tt
   of_told None (Some files) given = tt
   of_told (Some command) (Some files) given = of_loading command (loading_of (wants_of command) files) given.0 (loaded_within (wants_of command) files) given.1 given.2

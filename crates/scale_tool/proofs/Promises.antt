@@ -1,6 +1,6 @@
 -- Each command that was done keeps its promise.
 use Rattle.std.proofs.Common.{◌≡◌, ◌≢◌, ℕ, ◌≤◌, List, [], ◌∷◌, ◌++◌, length, refl, sym, ap, subst, ◌∙◌, Bool, true, false}
-use Rattle.std.specs.Prelude.{Option, Some, None, option_map, IfSome, cond, Result, Ok, Err, bytes_eq, codes, String}
+use Rattle.std.specs.Prelude.{Option, Some, None, IfSome, cond, Result, Ok, Err, bytes_eq, codes, String}
 use Rattle.std.specs.declared.alloc.Global.{Global}
 use Rattle.std.specs.Cmp.Lexicographic.{nat_list_cmp_total}
 use Rattle.std.specs.FinMap.{get, insert, get-insert}
@@ -27,18 +27,15 @@ use Rattle.speed_sim.specs.Simulated.{simulated}
 use Rattle.image_maker.specs.Making.{headers}
 use Rattle.image_maker.proofs.Laws.{small_image, small_machine, small_loops}
 use Rattle.host_files.specs.HostState.{Files, HostState}
-use Rattle.scale_tool.specs.Answer.{Answer, Giving, AreMade, MadeFiles, Makes, MakesMade, Tells, AnswersTo, HasAnswer, made_answer, refused, stored_answer, unless_refused}
-use Rattle.scale_tool.specs.Command.{Command, Help, Hold, Rewrite, Report, Simulate, Make, Lower, Check, Survey, Tune, command_of, texts, wants_of}
-use Rattle.scale_tool.specs.Loading.{Loading, Missing, Long, Whole, IfLoaded, IfWhole, loading_of}
-use Rattle.scale_tool.specs.Promise.{Keeping, StoredPromise, MadePromise, Promise, Promised}
-use Rattle.scale_tool.specs.Tool.{with_stores, IsAnswered, IsDelivered, StoresStand}
-use Rattle.scale_tool.proofs.Limits.{EachWithin, loaded_within}
+use Rattle.host_runs.specs.Answer.{Answer, refused}
+use Rattle.host_runs.specs.Delivered.{with_stores}
+use Rattle.host_runs.proofs.Laws as runs
+use Rattle.host_runs.proofs.Laws.{EachWithin, get_inserted, stored_kept}
+use Rattle.scale_tool.specs.Answer.{AreMade, MadeFiles, Makes, MakesAsked, MakesMade, made_answer, unless_refused}
+use Rattle.scale_tool.specs.Command.{Command, Help, Hold, Rewrite, Report, Simulate, Make, Lower, Check, Survey, Tune, command_of, texts, wants_asked, wants_of}
+use Rattle.scale_tool.specs.Promise.{MadePromise, Promise, PromiseAsked, Promised}
+use Rattle.scale_tool.specs.Tool.{IsAnswered, StoresStand}
 use Rattle.scale_tool.proofs.Sizes.{HasSize, command_size}
-
-get_inserted : (files : Files) (name bytes : List ℕ) → get (insert files name bytes) name ≡ Some bytes
-get_inserted files name bytes =
-    get-insert nat_list_cmp_total files name bytes name
-    ∙ ap (λ (b : Bool). cond b (Some bytes) (get files name)) (is_eq-slice_cmp name name ∙ (bytes_eq-Decides name name).1 refl)
 
 -- another name
 get_beside : (files : Files) (name bytes other : List ℕ) → bytes_eq other name ≡ false → get (insert files name bytes) other ≡ get files other
@@ -57,29 +54,6 @@ differ_behind prefix a b differ = not_true (bytes_eq (prefix ++ a) (prefix ++ b)
         absurd (cc ((bytes_eq-Decides a b).1 same))
 
 -- ---- what a command promises
-
--- what is given is safe
-abbrev IsSafe : {A : Type 0} → Giving (List ℕ × A) → Keeping A → Type 0
-IsSafe {A} Gives Safe = (stored : List ℕ) (told : A) → Gives (Ok ((stored, told))) → Safe stored told
-
-module _ {A : Type 0} (Gives : Giving (List ℕ × A)) (Safe : Keeping A) (text_of : A → List ℕ) (out : List ℕ) (files : Files) (is_safe : IsSafe Gives Safe) where
-  -- what was done is what is stored
-  given_kept : (given : Result (List ℕ × A) Refusal) → Gives given → (stored_answer text_of out given).status ≢ 1
-      → StoredPromise Gives Safe (get (with_stores (stored_answer text_of out given).stores files) out)
-  given_kept (Ok given) is done = record {
-    stored = given.0;
-    stands = get_inserted files out given.0;
-    told = given.1;
-    given = is;
-    safe = λ printed again. is_safe given.0 printed again;
-  }
-  given_kept (Err refusal) is done = absurd (done refl)
-
-  stored_kept : (answer : Answer) → Tells Gives (stored_answer text_of out) answer → answer.status ≢ 1 → StoredPromise Gives Safe (get (with_stores answer.stores files) out)
-  stored_kept answer made done =
-      let told = sym made.told in
-      subst (λ (a : Answer). StoredPromise Gives Safe (get (with_stores a.stores files) out)) told
-      (given_kept made.given made.is_given (λ e. done (ap (λ (a : Answer). a.status) made.told ∙ e)))
 
 -- an answer whose parts may be refused
 by_part : {A : Type 0} (part : Result A Refusal) (next : A → Answer) (P : Answer → Type 0) → ((e : Refusal) → P (refused e)) → ((a : A) → part ≡ Ok a → P (next a)) → P (unless_refused part next)
@@ -201,32 +175,23 @@ kept (Tune image machine loops out inputs) (i ∷ m ∷ l ∷ given) files answe
     stored_kept (IsTuning i m l given) (IsTunedSafely i m l) tuned_text out files (λ stored tuned is. tuned_safe i m l given stored tuned within.0 within.1.0 within.1.1.0 is) answer made done
 kept (Tune image machine loops out inputs) loaded files answer size within made done = absurd made
 
-of_loading : (command : Command) (loading : Loading) (files : Files) (new : Option Files) (answer : Answer) → HasSize command → IfWhole loading (EachWithin (wants_of command)) → AnswersTo command loading answer →
-    answer.status ≢ 1 → new ≡ Some (with_stores answer.stores files) → IfSome new (λ after. IfWhole loading (λ loaded. Promise command loaded after))
-of_loading command Missing files new answer size within is done stand = absurd is
-of_loading command (Long name) files None answer size within is done stand = tt
-of_loading command (Long name) files (Some after) answer size within is done stand = tt
-of_loading command (Whole loaded) files new answer size within is done stand =
-    subst (λ (o : Option Files). IfSome o (λ after. Promise command loaded after)) (sym stand) (kept command loaded files answer size within is done)
+kept_asked : (asked : Option Command) (loaded : List (List ℕ)) (files : Files) (answer : Answer) → IfSome asked HasSize → EachWithin (wants_asked asked) loaded → MakesAsked asked loaded answer →
+    answer.status ≢ 1 → PromiseAsked asked loaded (with_stores answer.stores files)
+kept_asked None loaded files answer size within made done = tt
+kept_asked (Some command) loaded files answer size within made done = kept command loaded files answer size within made done
 
-of_files : (asked : Option Command) (old new : Option Files) → IfSome asked HasSize →
-    IfSome old (λ files. HasAnswer asked files (λ answer. (answer.status ≢ 1) × (new ≡ option_map (with_stores answer.stores) old))) →
-    IfSome old (λ files. IfSome new (λ after. IfLoaded asked files (λ command loaded. Promise command loaded after)))
-of_files asked None new size given = tt
-of_files None (Some files) None size given = tt
-of_files None (Some files) (Some after) size given = tt
-of_files (Some command) (Some files) new size given =
-    of_loading command (loading_of (wants_of command) files) files new given.0 size (loaded_within (wants_of command) files) given.1 given.2.0 given.2.1
+module _ (words : List (String Global)) where
+  abbrev asked : Option Command
+  asked = command_of (texts words)
 
--- stores that stand keep their promise, whatever was answered
-pub stored_keep_promise : (words : List (String Global)) (old new : HostState) → StoresStand (command_of (texts words)) old new → Promised (command_of (texts words)) old new
-stored_keep_promise words old new stand = of_files (command_of (texts words)) old.files new.files (command_size (texts words)) stand
+  kept_here : (loaded : List (List ℕ)) (files : Files) (answer : Answer) → EachWithin (wants_asked asked) loaded → MakesAsked asked loaded answer → answer.status ≢ 1 →
+      PromiseAsked asked loaded (with_stores answer.stores files)
+  kept_here loaded files answer within made done = kept_asked asked loaded files answer (command_size (texts words)) within made done
 
--- so does an answer that was given and is no refusal
-pub answered_keep_promise : (words : List (String Global)) (status : ℕ) (old new : HostState) → IsAnswered (command_of (texts words)) status old new → status ≢ 1 → Promised (command_of (texts words)) old new
-answered_keep_promise words status old new answered done = stored_keep_promise words old new (stand (command_of (texts words)) old.files answered)
-  where
-    stand : (asked : Option Command) (o : Option Files) → IfSome o (λ files. HasAnswer asked files (λ answer. (status ≡ answer.status) × IsDelivered answer.stores answer.text old new)) →
-        IfSome o (λ files. HasAnswer asked files (λ answer. (answer.status ≢ 1) × (new.files ≡ option_map (with_stores answer.stores) old.files)))
-    stand asked None given = tt
-    stand asked (Some files) given = (given.0, given.1, ((λ e. done (given.2.0 ∙ e)), given.2.1.files))
+  -- stores that stand keep their promise, whatever was answered
+  pub stored_keep_promise : (old new : HostState) → StoresStand (command_of (texts words)) old new → Promised (command_of (texts words)) old new
+  stored_keep_promise = runs.stored_keep_promise (wants_asked asked) (MakesAsked asked) (PromiseAsked asked) kept_here
+
+  -- so does an answer that was given and is no refusal
+  pub answered_keep_promise : (status : ℕ) (old new : HostState) → IsAnswered (command_of (texts words)) status old new → status ≢ 1 → Promised (command_of (texts words)) old new
+  answered_keep_promise = runs.answered_keep_promise (wants_asked asked) (MakesAsked asked) (PromiseAsked asked) kept_here

@@ -1,7 +1,6 @@
 -- What a command may answer: its stores in order, the text that it prints, and its status.
 use Rattle.std.specs.Prelude.{◌≡◌, ℕ, ◌<◌, ◌^◌, List, [], ◌∷◌, ◌++◌, flat_map, All, Option, Some, None, Result, Ok, Err, codes}
 use Rattle.scale_base.specs.declared.refusal.Refusal.{Refusal}
-use Rattle.scale_base.specs.declared.refusal.Refusal.TheVariants.{TooLarge}
 use Rattle.scale_base.specs.declared.plan.SiteLine.{SiteLine}
 use Rattle.scale_base.specs.declared.summary.Summary.{Summary}
 use Rattle.scale_base.specs.declared.verdict.Verdict.{Verdict}
@@ -9,7 +8,7 @@ use Rattle.scale_base.specs.declared.verdict.Verdict.TheVariants.{Yes, No}
 use Rattle.scale_base.specs.declared.endings.End.{End}
 use Rattle.scale_base.specs.declared.endings.End.TheVariants.{Exited, Trapped, OutOfSteps}
 use Rattle.power_model.specs.Report.{Report as RunReport}
-use Rattle.scale_report.specs.Texts.{summary_text, lowered_text, verdict_text, survey_text, tuned_text, refusal_text, run_text, site_line}
+use Rattle.scale_report.specs.Texts.{summary_text, lowered_text, verdict_text, survey_text, tuned_text, run_text, site_line}
 use Rattle.scaler.specs.Held.{IsHeld}
 use Rattle.scaler.specs.Planned.{IsPlanned}
 use Rattle.scaler.specs.Rewritten.{IsRewritten}
@@ -21,18 +20,9 @@ use Rattle.gain_tuner.specs.Choice.{IsTuning}
 use Rattle.image_maker.specs.Made.{IsImageOf}
 use Rattle.image_maker.specs.MadeTexts.{machine_text, loops_text, drawn_bytes}
 use Rattle.image_maker.specs.Making.{program, headers, state_at}
-use Rattle.host_files.specs.HostState.{Files}
-use Rattle.scale_tool.specs.Command.{Command, Help, Hold, Rewrite, Report, Simulate, Make, Lower, Check, Survey, Tune, wants_of}
-use Rattle.scale_tool.specs.Loading.{Loading, Missing, Long, Whole, loading_of}
-
--- names, each with what is stored under it
-abbrev pub Stores : Type 0
-Stores = List (List ℕ × List ℕ)
-
-pub record Answer : Type 0 where
-  pub stores : Stores
-  pub text : List ℕ
-  pub status : ℕ
+use Rattle.host_runs.specs.Answer.{Answer, Stores, Tells, refused, stored_answer, text_answer}
+use Rattle.host_runs.specs.Command.{Answering}
+use Rattle.scale_tool.specs.Command.{Command, Help, Hold, Rewrite, Report, Simulate, Make, Lower, Check, Survey, Tune}
 
 -- the line for words that are no command
 abbrev pub bad_command_text : List ℕ
@@ -49,29 +39,6 @@ help_text = codes "scale hold IMAGE MACHINE LOOPS OUT\nscale rewrite IMAGE MACHI
 -- the answer to `help`
 abbrev pub help : Answer
 help = record { stores = []; text = help_text; status = 0 }
-
-abbrev pub refused : Refusal → Answer
-refused refusal = record { stores = []; text = refusal_text refusal; status = 1 }
-
--- what a command gives for its files, or the first refusal
-abbrev pub Giving : Type 0 → Type 1
-Giving A = Result A Refusal → Type 0
-
--- The answer to a command tells what it gives for its files.
-pub record Tells {A : Type 0} (Gives : Giving A) (answer_of : Result A Refusal → Answer) (answer : Answer) : Type 0 where
-  pub given : Result A Refusal
-  pub is_given : Gives given
-  pub told : answer ≡ answer_of given
-
--- one file under this name of OUT and the text about it, or the refusal
-abbrev pub stored_answer : {A : Type 0} → (A → List ℕ) → List ℕ → Result (List ℕ × A) Refusal → Answer
-stored_answer text_of out (Ok given) = record { stores = (out, given.0) ∷ []; text = text_of given.1; status = 0 }
-stored_answer text_of out (Err refusal) = refused refusal
-
--- a text alone, or the refusal
-abbrev pub text_answer : {A : Type 0} → (A → List ℕ) → Result A Refusal → Answer
-text_answer text_of (Ok given) = record { stores = []; text = text_of given; status = 0 }
-text_answer text_of (Err refusal) = refused refusal
 
 -- the text of a plan: the summary, and a line for each edge that gets something
 abbrev pub text_of_plan : Summary × List SiteLine → List ℕ
@@ -170,17 +137,7 @@ Makes (Survey image scaled machine loops inputs) (i ∷ s ∷ m ∷ l ∷ given)
 Makes (Tune image machine loops out inputs) (i ∷ m ∷ l ∷ given) answer = Tells (IsTuning i m l given) (stored_answer tuned_text out) answer
 Makes command files answer = ⊥
 
--- and of how they were loaded: nothing where a file is missing
-abbrev pub AnswersTo : Command → Loading → Answer → Type 0
-AnswersTo command Missing answer = ⊥
-AnswersTo command (Long name) answer = answer ≡ refused (TooLarge name)
-AnswersTo command (Whole files) answer = Makes command files answer
-
--- the answer is one to a command over these files, or the one to words that are none; there is none where a file that the command loads is missing
-abbrev pub IsAnswerOf : Option Command → Files → Answer → Type 0
-IsAnswerOf None files answer = answer ≡ bad_command
-IsAnswerOf (Some command) files answer = AnswersTo command (loading_of (wants_of command) files) answer
-
--- there is an answer of which this holds
-abbrev pub HasAnswer : Option Command → Files → (Answer → Type 0) → Type 0
-HasAnswer asked files P = (answer : Answer) × IsAnswerOf asked files answer × P answer
+-- what may be made of the files of what was asked, and the answer to words that are no command
+abbrev pub MakesAsked : Option Command → Answering
+MakesAsked None files answer = answer ≡ bad_command
+MakesAsked (Some command) files answer = Makes command files answer

@@ -1,6 +1,7 @@
 -- The commands: their words, what each loads, and the statuses that it may answer.
 use Rattle.std.specs.Prelude.{ℕ, List, [], ◌∷◌, length, map, Option, Some, None, if◌then◌else◌, bytes_eq, codes, String, string_bytes, option_and_then, option_map, Bool, true, false, ◌==◌, ◌||◌, ◌&&◌, nat_le}
 use Rattle.std.specs.declared.alloc.Global.{Global}
+use Rattle.host_runs.specs.Loading.{Wants}
 use Rattle.scale_tool.specs.Numbers.{digits_within}
 
 pub data Command : Type 0 where
@@ -83,16 +84,16 @@ command_of (word ∷ words) =
     else None
 
 -- a loop file, if one is given
-abbrev pub loop_wants : Option (List ℕ) → List (List ℕ × ℕ)
+abbrev pub loop_wants : Option (List ℕ) → Wants
 loop_wants None = []
 loop_wants (Some loops) = (loops, 1048576) ∷ []
 
 -- inputs that are loaded, each with its limit in bytes
-abbrev pub input_wants : List (List ℕ) → List (List ℕ × ℕ)
+abbrev pub input_wants : List (List ℕ) → Wants
 input_wants inputs = map (λ input. (input, 1048576)) inputs
 
 -- the files that it loads, in order, each with its limit in bytes
-abbrev pub wants_of : Command → List (List ℕ × ℕ)
+abbrev pub wants_of : Command → Wants
 wants_of Help = []
 wants_of (Hold image machine loops out) = (image, 4194304) ∷ (machine, 1048576) ∷ (loops, 1048576) ∷ []
 wants_of (Rewrite image machine loops out) = (image, 4194304) ∷ (machine, 1048576) ∷ (loops, 1048576) ∷ []
@@ -103,6 +104,11 @@ wants_of (Lower image jumps out) = (image, 4194304) ∷ (jumps, 1048576) ∷ []
 wants_of (Check image foreign machine loops) = (image, 4194304) ∷ (foreign, 8388608) ∷ (machine, 1048576) ∷ (loops, 1048576) ∷ []
 wants_of (Survey image scaled machine loops inputs) = (image, 4194304) ∷ (scaled, 8388608) ∷ (machine, 1048576) ∷ (loops, 1048576) ∷ input_wants inputs
 wants_of (Tune image machine loops out inputs) = (image, 4194304) ∷ (machine, 1048576) ∷ (loops, 1048576) ∷ input_wants inputs
+
+-- the files that are loaded for what was asked: none for words that are no command
+abbrev pub wants_asked : Option Command → Wants
+wants_asked None = []
+wants_asked (Some command) = wants_of command
 
 -- the statuses that a command gives, but for a fault and want of memory; and that of words that are none
 abbrev pub may_give : Option Command → ℕ → Bool

@@ -1,11 +1,8 @@
 pub mod Answer
 pub mod Command
-pub mod Loaded
-pub mod Loading
 pub mod Numbers
 pub mod Passing
 pub mod Promise
 pub mod Scaled
 pub mod Tool
 pub mod Views
-pub mod Words

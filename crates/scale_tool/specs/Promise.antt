@@ -1,5 +1,5 @@
 -- What the files that a command has stored promise to whoever runs them.
-use Rattle.std.specs.Prelude.{◌≡◌, ℕ, List, [], ◌∷◌, ◌++◌, Option, Some, IfSome, Ok, codes}
+use Rattle.std.specs.Prelude.{◌≡◌, ℕ, List, [], ◌∷◌, ◌++◌, Option, Some, None, Ok, codes}
 use Rattle.std.specs.FinMap.{get}
 use Rattle.scaler.specs.Held.{IsHeld}
 use Rattle.scaler.specs.Rewritten.{IsRewritten}
@@ -17,22 +17,10 @@ use Rattle.input_survey.specs.Said.{SaysOfRuns}
 use Rattle.gain_tuner.specs.Choice.{IsTuning}
 use Rattle.gain_tuner.specs.Safe.{IsTunedSafely}
 use Rattle.host_files.specs.HostState.{Files, HostState}
-use Rattle.scale_tool.specs.Answer.{Giving, MadeFiles, AreMade}
-use Rattle.scale_tool.specs.Command.{Command, Hold, Rewrite, Make, Lower, Check, Survey, Tune}
-use Rattle.scale_tool.specs.Loading.{IfLoaded}
-
--- what a stored image keeps to, with what is told of it
-abbrev pub Keeping : Type 0 → Type 1
-Keeping A = (stored : List ℕ) (told : A) → Type 0
-
--- of a command that stored what it gives for its files: what OUT holds afterwards is given, with something that is told of it, and is safe with all that it is given
--- with, what was printed among them
-pub record StoredPromise {A : Type 0} (Gives : Giving (List ℕ × A)) (Safe : Keeping A) (out : Option (List ℕ)) : Type 0 where
-  pub stored : List ℕ
-  pub stands : out ≡ Some stored
-  pub told : A
-  pub given : Gives (Ok ((stored, told)))
-  pub safe : (printed : A) → Gives (Ok ((stored, printed))) → Safe stored printed
+use Rattle.host_runs.specs.Promise.{Promising, StoredPromise}
+use Rattle.host_runs.specs.Promise as runs
+use Rattle.scale_tool.specs.Answer.{MadeFiles, AreMade}
+use Rattle.scale_tool.specs.Command.{Command, Hold, Rewrite, Make, Lower, Check, Survey, Tune, wants_asked}
 
 -- Of a check: where it answers yes, the image of other make is safe with all numbers that may be given with a yes, those that were printed among them.
 abbrev pub VerdictPromise : (image foreign machine loops : List ℕ) → Type 0
@@ -75,6 +63,11 @@ Promise (Survey image scaled machine loops inputs) (i ∷ s ∷ m ∷ l ∷ give
 Promise (Tune image machine loops out inputs) (i ∷ m ∷ l ∷ given) after = StoredPromise (IsTuning i m l given) (IsTunedSafely i m l) (get after out)
 Promise command files after = Unit {0}
 
+-- what is promised for what was asked, and nothing for words that are no command
+abbrev pub PromiseAsked : Option Command → Promising
+PromiseAsked None loaded after = Unit {0}
+PromiseAsked (Some command) loaded after = Promise command loaded after
+
 -- what the files that are told afterwards promise, by those that are told before
 abbrev pub Promised : Option Command → HostState → HostState → Type 0
-Promised asked old new = IfSome old.files (λ files. IfSome new.files (λ after. IfLoaded asked files (λ command loaded. Promise command loaded after)))
+Promised asked = runs.Promised (wants_asked asked) (PromiseAsked asked)

@@ -3,7 +3,8 @@ use Rattle.std.specs.Prelude.{◌≡◌, ℕ, List, Result, Ok, Err}
 use Rattle.scale_base.specs.declared.refusal.Refusal.{Refusal}
 use Rattle.scale_base.specs.declared.summary.Summary.{Summary}
 use Rattle.scaler.specs.Rewritten.{IsRewritten}
-use Rattle.scale_tool.specs.Answer.{Answer, MadeFiles, made_answer, refused}
+use Rattle.host_runs.specs.Answer.{Answer, refused}
+use Rattle.scale_tool.specs.Answer.{MadeFiles, made_answer}
 
 -- the answer that is told, or the refusal's
 abbrev pub told_answer : Result Answer Refusal → Answer

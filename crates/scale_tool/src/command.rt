@@ -1,12 +1,13 @@
 //! The words of a command line.
 
 ghost use Rattle.std.specs.Prelude.{◌≡◌, ◌++◌, ◌∷◌, IfOk, OnOk, option_map};
+ghost use Rattle.host_runs.specs.Views.{want_views};
 ghost use Rattle.scale_tool.specs.Command.{command_of, help_of, hold_of, rewrite_of, report_words, simulate_of, make_of, lower_of, check_of, survey_of, tune_of, input_wants, loop_wants, texts, wants_of};
-ghost use Rattle.scale_tool.specs.Views.{command_view, work_view, want_views};
+ghost use Rattle.scale_tool.specs.Views.{command_view, work_view};
 
 use crate::input_names::InputNames;
-use crate::load_all::Want;
 use crate::numbers::{Size, program_number, program_size};
+use host_runs::Want;
 use std::alloc::{AllocError, Global};
 
 /// A command.

@@ -4,22 +4,19 @@
 #![tactic(auto)]
 
 mod command;
-mod deliver;
 mod input_names;
-mod load_all;
 mod making;
 mod numbers;
 mod program_files;
 mod reply;
 mod texts;
 mod tool;
-mod words;
 
 use host_files::RealHost;
+use host_runs::{NoWords, words_of};
 use std::env;
 use std::process::ExitCode;
 use tool::run_tool;
-use words::{NoWords, words_of};
 
 // Where there are no words to look at, nothing is printed: 8 where they aren't text, 4 where memory ran out.
 fn main(rt: HostRuntime) -> ExitCode {

@@ -4,11 +4,13 @@ ghost use Rattle.std.specs.Prelude.{◌≡◌, ◌≤◌, ◌++◌, length, stri
 ghost use Rattle.power_model.specs.Report.{report_view};
 ghost use Rattle.scale_base.specs.Answer.{AnswersBy};
 ghost use Rattle.scale_report.specs.Texts.{run_text, summary_text};
+ghost use Rattle.host_runs.specs.Views.{file_view, reply_view, store_view, store_views};
 ghost use Rattle.scale_tool.specs.Answer.{made_stores, runs_answer, scaled_answer};
-ghost use Rattle.scale_tool.specs.Views.{file_view, made_view, reply_view, store_view, store_views};
+ghost use Rattle.scale_tool.specs.Views.{made_view};
 ghost use Rattle.scale_tool.specs.Scaled.{IsMadeReply, told_answer};
 
-use crate::reply::{Reply, Store, status_of};
+use crate::reply::status_of;
+use host_runs::{Reply, Store};
 use image_maker::Made;
 use power_model::RunReport;
 use scale_base::{NoMemory, Stop, Summary};

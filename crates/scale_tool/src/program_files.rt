@@ -1,35 +1,8 @@
-//! The files of a command: of a program, of one with another image, and inputs beside them.
+//! The files of a command: of a program with another image, and inputs beside them.
 
 ghost use Rattle.std.specs.Prelude.{◌≡◌, ◌≤◌, [], ◌∷◌, length};
 ghost use Rattle.std.specs.List.{All, AllZip};
 ghost use Rattle.scale_tool.specs.Answer.{AreBytes};
-
-/// The bytes of an image, a machine file and a loop file, each within its limit.
-#[derive(Clone, Copy)]
-pub struct ProgramFiles<'a> {
-    pub image: &'a [u8],
-    pub machine: &'a [u8],
-    pub loops: &'a [u8],
-    ghost short_image: { length image.now ≤ 4194304 },
-    ghost short_machine: { length machine.now ≤ 1048576 },
-    ghost short_loops: { length loops.now ≤ 1048576 },
-}
-
-impl<'a> ProgramFiles<'a> {
-    ghost use Rattle.scale_tool.specs.Views.{files_view};
-
-    /// The files, in this order.
-    pub fn of(files: &'a [Vec<u8>]) -> ProgramFiles<'a>
-        requires { AllZip (λ limit file. length file ≤ limit) (4194304 ∷ 1048576 ∷ 1048576 ∷ []) (files_view files.now) }
-        ensures { files_view files.now ≡ result.image.now ∷ result.machine.now ∷ result.loops.now ∷ [] }
-    {
-        ProgramFiles {
-            image: &files[0],
-            machine: &files[1],
-            loops: &files[2],
-        }
-    }
-}
 
 /// The bytes of an image, of another image that goes with it, and of a machine file and a loop file, each within its limit.
 #[derive(Clone, Copy)]
@@ -46,7 +19,7 @@ pub struct PairFiles<'a> {
 }
 
 impl<'a> PairFiles<'a> {
-    ghost use Rattle.scale_tool.specs.Views.{files_view};
+    ghost use Rattle.host_runs.specs.Views.{files_view};
 
     /// The files, in this order.
     pub fn of(files: &'a [Vec<u8>]) -> PairFiles<'a>

@@ -1,6 +1,6 @@
 //! What a command gives, made whole before the first of it is stored or printed.
 
-ghost use Rattle.std.specs.Prelude.{◌≡◌, ◌≤◌, [], ◌∷◌, length, option_map, string_bytes, All, IfOk, IsTrue, Some, Ok};
+ghost use Rattle.std.specs.Prelude.{◌≡◌, ◌≤◌, length, option_map, All, IfOk, IsTrue, Some, Ok};
 ghost use Rattle.std.specs.List.{AllZip};
 ghost use Rattle.std.specs.Result.{ForOk};
 ghost use Rattle.power_model.specs.Report.{report_view};
@@ -13,34 +13,23 @@ ghost use Rattle.scale_report.specs.Texts.{HasSiteLine, lowered_text, summary_te
 ghost use Rattle.scaler.specs.Held.{IsHeld};
 ghost use Rattle.scaler.specs.Planned.{IsPlanned};
 ghost use Rattle.scaler.specs.Rewritten.{IsRewritten};
-ghost use Rattle.scale_tool.specs.Answer.{AreBytes, refused, run_answer, run_status, stored_answer, text_answer, text_of_plan, verdict_answer, verdict_status, MakesMade, MakesRun, Makes, Tells};
+ghost use Rattle.host_runs.specs.Answer.{Tells, stored_answer, text_answer};
+ghost use Rattle.host_runs.specs.Views.{file_view, files_view, given_by, reply_view};
+ghost use Rattle.scale_tool.specs.Answer.{AreBytes, run_answer, run_status, text_of_plan, verdict_answer, verdict_status, MakesMade, MakesRun, Makes};
+ghost use Rattle.scale_tool.specs.Command.{may_give, wants_of};
+ghost use Rattle.scale_tool.specs.Views.{plan_view, work_view};
 
 use crate::command::Work;
 use crate::making::made_reply;
 use crate::numbers::Size;
-use crate::program_files::{Inputs, PairFiles, ProgramFiles};
+use crate::program_files::{Inputs, PairFiles};
+use host_runs::{ProgramFiles, Reply};
 use power_model::{RunReport, SurveyReport};
-use scale_base::{End, Lowered, NoMemory, Refusal, ScalePlan, Stop, Summary, Tuned, Verdict};
+use scale_base::{End, Lowered, NoMemory, ScalePlan, Stop, Summary, Tuned, Verdict};
 use scale_report::{
-    lowered_text, plan_text, refusal_text, run_text, summary_text, survey_text, tuned_text,
-    verdict_text,
+    lowered_text, plan_text, run_text, summary_text, survey_text, tuned_text, verdict_text,
 };
 use std::alloc::Global;
-
-/// A file to store.
-#[derive(Drop)]
-pub struct Store {
-    pub name: String,
-    pub bytes: Vec<u8>,
-}
-
-/// The files to store, in order, the text to print, and the status.
-#[derive(Drop)]
-pub struct Reply {
-    pub stores: Vec<Store>,
-    pub text: String,
-    pub status: u8,
-}
 
 /// The status of a run.
 pub fn status_of(end: End) -> u8
@@ -53,7 +42,7 @@ pub fn status_of(end: End) -> u8
     }
 }
 
-/// The status of a verdict.
+// The status of a verdict.
 fn status_of_verdict(verdict: &Verdict) -> u8
     ensures { result ≡ verdict_status verdict.now }
 {
@@ -63,310 +52,274 @@ fn status_of_verdict(verdict: &Verdict) -> u8
     }
 }
 
-impl Reply {
-    ghost use Rattle.scale_tool.specs.Views.{plan_view, reply_view, work_view, files_view, file_view, given_by};
-    ghost use Rattle.scale_tool.specs.Command.{wants_of, may_give};
+// A file that a command gives, with its summary and the name under which it is stored; or the refusal.
+fn stored(
+    alloc: Global,
+    out: &str,
+    given: Result<(Vec<u8>, Summary), Stop>,
+) -> Result<Reply, NoMemory>
+    ensures { IfOk result (λ reply. option_map (stored_answer summary_text out.now) (given_by file_view given) ≡ Some (reply_view reply)) }
+{
+    match given {
+        Ok((bytes, summary)) => {
+            let text = summary_text(alloc, &summary)?;
+            Reply::of_file(alloc, out, bytes, text, 0)
+        }
+        Err(Stop::Refused(refusal)) => Reply::refused(alloc, &refusal),
+        Err(Stop::Memory) => Err(NoMemory),
+    }
+}
 
-    /// A refusal, and nothing to store.
-    pub fn refused(alloc: Global, refusal: &Refusal) -> Result<Reply, NoMemory>
-        ensures { IfOk result (λ reply. reply_view reply ≡ refused refusal.now) }
-    {
-        Ok(Reply {
+// What `hold` gives for its three files.
+fn held(alloc: Global, out: &str, files: &ProgramFiles<'_>) -> Result<Reply, NoMemory>
+    ensures { IfOk result (λ reply. Tells (IsHeld files.now.image.now files.now.machine.now files.now.loops.now) (stored_answer summary_text out.now) (reply_view reply)) }
+{
+    stored(
+        alloc,
+        out,
+        scaler::hold(alloc, files.image, files.machine, files.loops),
+    )
+}
+
+// What `rewrite` gives for its three files.
+fn rewritten(alloc: Global, out: &str, files: &ProgramFiles<'_>) -> Result<Reply, NoMemory>
+    ensures { IfOk result (λ reply. Tells (IsRewritten files.now.image.now files.now.machine.now files.now.loops.now) (stored_answer summary_text out.now) (reply_view reply)) }
+{
+    stored(
+        alloc,
+        out,
+        scaler::rewrite(alloc, files.image, files.machine, files.loops),
+    )
+}
+
+// A lowered image, with what was lowered and the name under which it is stored; or the refusal.
+fn counted(
+    alloc: Global,
+    out: &str,
+    given: Result<(Vec<u8>, Lowered), Stop>,
+) -> Result<Reply, NoMemory>
+    ensures { IfOk result (λ reply. option_map (stored_answer lowered_text out.now) (given_by file_view given) ≡ Some (reply_view reply)) }
+{
+    match given {
+        Ok((bytes, counts)) => {
+            let text = lowered_text(alloc, &counts)?;
+            Reply::of_file(alloc, out, bytes, text, 0)
+        }
+        Err(Stop::Refused(refusal)) => Reply::refused(alloc, &refusal),
+        Err(Stop::Memory) => Err(NoMemory),
+    }
+}
+
+// What `lower` gives for its two files.
+fn lowered(alloc: Global, out: &str, image: &[u8], jumps: &[u8]) -> Result<Reply, NoMemory>
+    requires { length image.now ≤ 4194304 }
+    ensures bytes { AreBytes image.now }
+    ensures told { IfOk result (λ reply. Tells (IsLowered image.now jumps.now) (stored_answer lowered_text out.now) (reply_view reply)) }
+{
+    counted(alloc, out, image_lower::lower(alloc, image, jumps))
+}
+
+// All that a rewriting finds, or the refusal.
+fn planned(alloc: Global, given: Result<ScalePlan, Stop>) -> Result<Reply, NoMemory>
+    requires { ForOk given (λ plan. All (λ line. HasSiteLine line.edge.kind) plan.lines.items) }
+    ensures { IfOk result (λ reply. option_map (text_answer text_of_plan) (given_by plan_view given) ≡ Some (reply_view reply)) }
+{
+    match given {
+        Ok(plan) => Ok(Reply {
             stores: Vec::new(alloc),
-            text: refusal_text(alloc, refusal)?,
-            status: 1,
-        })
+            text: plan_text(alloc, &plan)?,
+            status: 0,
+        }),
+        Err(Stop::Refused(refusal)) => Reply::refused(alloc, &refusal),
+        Err(Stop::Memory) => Err(NoMemory),
     }
+}
 
-    // One file, with the name under which it is stored.
-    fn of_file(
-        alloc: Global,
-        out: &str,
-        bytes: Vec<u8>,
-        text: String,
-        status: u8,
-    ) -> Result<Reply, NoMemory>
-        ensures { IfOk result (λ reply. reply_view reply ≡ record { stores = (out.now, bytes.items) ∷ []; text = string_bytes text; status = status }) }
-    {
-        let name = String::from_str(alloc, out)?;
-        let mut stores = Vec::new(alloc);
-        stores.push(Store { name, bytes })?;
-        Ok(Reply {
-            stores,
-            text,
-            status,
-        })
+// What `report` gives for its three files.
+fn reported(alloc: Global, files: &ProgramFiles<'_>) -> Result<Reply, NoMemory>
+    ensures { IfOk result (λ reply. Tells (IsPlanned files.now.image.now files.now.machine.now files.now.loops.now) (text_answer text_of_plan) (reply_view reply)) }
+{
+    planned(
+        alloc,
+        scaler::plan(alloc, files.image, files.machine, files.loops),
+    )
+}
+
+// A verdict, or the refusal.
+fn judged(alloc: Global, given: Result<Verdict, Stop>) -> Result<Reply, NoMemory>
+    ensures { IfOk result (λ reply. option_map verdict_answer (given_by (λ verdict. verdict) given) ≡ Some (reply_view reply)) }
+{
+    match given {
+        Ok(verdict) => Ok(Reply {
+            stores: Vec::new(alloc),
+            text: verdict_text(alloc, &verdict)?,
+            status: status_of_verdict(&verdict),
+        }),
+        Err(Stop::Refused(refusal)) => Reply::refused(alloc, &refusal),
+        Err(Stop::Memory) => Err(NoMemory),
     }
+}
 
-    // A file that a command gives, with its summary and the name under which it is stored; or the refusal.
-    fn stored(
-        alloc: Global,
-        out: &str,
-        given: Result<(Vec<u8>, Summary), Stop>,
-    ) -> Result<Reply, NoMemory>
-        ensures { IfOk result (λ reply. option_map (stored_answer summary_text out.now) (given_by file_view given) ≡ Some (reply_view reply)) }
-    {
-        match given {
-            Ok((bytes, summary)) => {
-                let text = summary_text(alloc, &summary)?;
-                Reply::of_file(alloc, out, bytes, text, 0)
-            }
-            Err(Stop::Refused(refusal)) => Reply::refused(alloc, &refusal),
-            Err(Stop::Memory) => Err(NoMemory),
-        }
+// What `check` gives for its four files.
+fn checked(alloc: Global, files: &PairFiles<'_>) -> Result<Reply, NoMemory>
+    ensures bytes { AreBytes files.now.other.now }
+    ensures told { IfOk result (λ reply. Tells (IsChecked files.now.image.now files.now.other.now files.now.machine.now files.now.loops.now) verdict_answer (reply_view reply)) }
+{
+    judged(
+        alloc,
+        image_check::check(alloc, files.image, files.other, files.machine, files.loops),
+    )
+}
+
+// A survey, or the refusal.
+fn seen(alloc: Global, given: Result<SurveyReport, Stop>) -> Result<Reply, NoMemory>
+    ensures { IfOk result (λ reply. option_map (text_answer survey_text) (given_by survey_view given) ≡ Some (reply_view reply)) }
+{
+    match given {
+        Ok(report) => Ok(Reply {
+            stores: Vec::new(alloc),
+            text: survey_text(alloc, &report)?,
+            status: 0,
+        }),
+        Err(Stop::Refused(refusal)) => Reply::refused(alloc, &refusal),
+        Err(Stop::Memory) => Err(NoMemory),
     }
+}
 
-    /// What `hold` gives for its three files.
-    pub fn held(alloc: Global, out: &str, files: &ProgramFiles<'_>) -> Result<Reply, NoMemory>
-        ensures { IfOk result (λ reply. Tells (IsHeld files.now.image.now files.now.machine.now files.now.loops.now) (stored_answer summary_text out.now) (reply_view reply)) }
-    {
-        Reply::stored(
+// What `survey` gives for its four files and its inputs.
+fn surveyed(
+    alloc: Global,
+    files: &PairFiles<'_>,
+    inputs: &Inputs<'_>,
+) -> Result<Reply, NoMemory>
+    ensures { IfOk result (λ reply. Tells (IsSurveyed files.now.image.now files.now.other.now files.now.machine.now files.now.loops.now (files_view inputs.now.items.now)) (text_answer survey_text) (reply_view reply)) }
+{
+    seen(
+        alloc,
+        input_survey::survey(
             alloc,
-            out,
-            scaler::hold(alloc, files.image, files.machine, files.loops),
-        )
-    }
+            files.image,
+            files.other,
+            files.machine,
+            files.loops,
+            inputs.items,
+        ),
+    )
+}
 
-    /// What `rewrite` gives for its three files.
-    pub fn rewritten(alloc: Global, out: &str, files: &ProgramFiles<'_>) -> Result<Reply, NoMemory>
-        ensures { IfOk result (λ reply. Tells (IsRewritten files.now.image.now files.now.machine.now files.now.loops.now) (stored_answer summary_text out.now) (reply_view reply)) }
-    {
-        Reply::stored(
-            alloc,
-            out,
-            scaler::rewrite(alloc, files.image, files.machine, files.loops),
-        )
-    }
-
-    // A lowered image, with what was lowered and the name under which it is stored; or the refusal.
-    fn counted(
-        alloc: Global,
-        out: &str,
-        given: Result<(Vec<u8>, Lowered), Stop>,
-    ) -> Result<Reply, NoMemory>
-        ensures { IfOk result (λ reply. option_map (stored_answer lowered_text out.now) (given_by file_view given) ≡ Some (reply_view reply)) }
-    {
-        match given {
-            Ok((bytes, counts)) => {
-                let text = lowered_text(alloc, &counts)?;
-                Reply::of_file(alloc, out, bytes, text, 0)
-            }
-            Err(Stop::Refused(refusal)) => Reply::refused(alloc, &refusal),
-            Err(Stop::Memory) => Err(NoMemory),
+// The choice of a tuning, with its numbers and the name under which it is stored; or the refusal.
+fn chosen(
+    alloc: Global,
+    out: &str,
+    given: Result<(Vec<u8>, Tuned), Stop>,
+) -> Result<Reply, NoMemory>
+    ensures { IfOk result (λ reply. option_map (stored_answer tuned_text out.now) (given_by file_view given) ≡ Some (reply_view reply)) }
+{
+    match given {
+        Ok((bytes, tuned)) => {
+            let text = tuned_text(alloc, &tuned)?;
+            Reply::of_file(alloc, out, bytes, text, 0)
         }
+        Err(Stop::Refused(refusal)) => Reply::refused(alloc, &refusal),
+        Err(Stop::Memory) => Err(NoMemory),
     }
+}
 
-    /// What `lower` gives for its two files.
-    pub fn lowered(alloc: Global, out: &str, image: &[u8], jumps: &[u8]) -> Result<Reply, NoMemory>
-        requires { length image.now ≤ 4194304 }
-        ensures bytes { AreBytes image.now }
-        ensures told { IfOk result (λ reply. Tells (IsLowered image.now jumps.now) (stored_answer lowered_text out.now) (reply_view reply)) }
-    {
-        Reply::counted(alloc, out, image_lower::lower(alloc, image, jumps))
+// What `tune` gives for its three files and its inputs.
+fn tuned(
+    alloc: Global,
+    out: &str,
+    files: &ProgramFiles<'_>,
+    inputs: &Inputs<'_>,
+) -> Result<Reply, NoMemory>
+    ensures { IfOk result (λ reply. Tells (IsTuning files.now.image.now files.now.machine.now files.now.loops.now (files_view inputs.now.items.now)) (stored_answer tuned_text out.now) (reply_view reply)) }
+{
+    chosen(
+        alloc,
+        out,
+        gain_tuner::tune(alloc, files.image, files.machine, files.loops, inputs.items),
+    )
+}
+
+// What a run gives, with the name under which its output is stored.
+fn told(alloc: Global, out: &str, report: RunReport) -> Result<Reply, NoMemory>
+    ensures { IfOk result (λ reply. reply_view reply ≡ run_answer out.now (Ok (report_view report))) }
+{
+    let status = status_of(report.end);
+    let text = run_text(alloc, &report)?;
+    let bytes = report.output;
+    Reply::of_file(alloc, out, bytes, text, status)
+}
+
+// What `simulate` gives for its files.
+fn run(
+    alloc: Global,
+    out: &str,
+    image: &[u8],
+    machine: &[u8],
+    input: &[u8],
+    loops: Option<&[u8]>,
+) -> Result<Reply, NoMemory>
+    ensures { IfOk result (λ reply. MakesRun image.now machine.now input.now (option_map (λ l. l.now) loops.entry) out.now (reply_view reply)) }
+{
+    match speed_sim::simulate(alloc, image, machine, input, loops) {
+        Ok(report) => told(alloc, out, report),
+        Err(Stop::Refused(refusal)) => Reply::refused(alloc, &refusal),
+        Err(Stop::Memory) => Err(NoMemory),
     }
+}
 
-    // All that a rewriting finds, or the refusal.
-    fn planned(alloc: Global, given: Result<ScalePlan, Stop>) -> Result<Reply, NoMemory>
-        requires { ForOk given (λ plan. All (λ line. HasSiteLine line.edge.kind) plan.lines.items) }
-        ensures { IfOk result (λ reply. option_map (text_answer text_of_plan) (given_by plan_view given) ≡ Some (reply_view reply)) }
-    {
-        match given {
-            Ok(plan) => Ok(Reply {
-                stores: Vec::new(alloc),
-                text: plan_text(alloc, &plan)?,
-                status: 0,
-            }),
-            Err(Stop::Refused(refusal)) => Reply::refused(alloc, &refusal),
-            Err(Stop::Memory) => Err(NoMemory),
+// What `make` gives for a number and a size, with the names of its files beginning alike.
+fn of_number(
+    alloc: Global,
+    number: u64,
+    size: Size,
+    prefix: &str,
+) -> Result<Reply, NoMemory>
+    ensures { IfOk result (λ reply. MakesMade number size.blocks prefix.now (reply_view reply)) }
+{
+    let made = image_maker::make(alloc, number, size.blocks)?;
+    match made_reply(alloc, prefix, made) {
+        Ok(reply) => Ok(reply),
+        Err(Stop::Refused(refusal)) => Reply::refused(alloc, &refusal),
+        Err(Stop::Memory) => Err(NoMemory),
+    }
+}
+
+/// What is made of the files that were loaded.
+#[tactic(auto, using(host_runs::proofs::Laws::limits_alone))]
+pub fn made(alloc: Global, work: &Work<'_>, files: &[Vec<u8>]) -> Result<Reply, NoMemory>
+    requires { AllZip (λ want file. length file ≤ want.1) (wants_of (work_view work.now)) (files_view files.now) }
+    ensures answer { IfOk result (λ reply. Makes (work_view work.now) (files_view files.now) (reply_view reply)) }
+    ensures status { IfOk result (λ reply. IsTrue (may_give (Some (work_view work.now)) reply.status)) }
+{
+    match *work {
+        Work::Hold { out, .. } => held(alloc, out, &ProgramFiles::of(files)),
+        Work::Rewrite { out, .. } => rewritten(alloc, out, &ProgramFiles::of(files)),
+        Work::Report { .. } => reported(alloc, &ProgramFiles::of(files)),
+        Work::Simulate { out, loops, .. } => match loops {
+            None => run(alloc, out, &files[0], &files[1], &files[2], None),
+            Some(_) => run(alloc, out, &files[0], &files[1], &files[2], Some(&files[3])),
+        },
+        Work::Make {
+            number,
+            size,
+            prefix,
+        } => of_number(alloc, number, size, prefix),
+        Work::Lower { out, .. } => lowered(alloc, out, &files[0], &files[1]),
+        Work::Check { .. } => checked(alloc, &PairFiles::of(files)),
+        Work::Survey { .. } => {
+            let (first, inputs) = files.split_at(4);
+            surveyed(alloc, &PairFiles::of(first), &Inputs { items: inputs })
         }
-    }
-
-    /// What `report` gives for its three files.
-    pub fn reported(alloc: Global, files: &ProgramFiles<'_>) -> Result<Reply, NoMemory>
-        ensures { IfOk result (λ reply. Tells (IsPlanned files.now.image.now files.now.machine.now files.now.loops.now) (text_answer text_of_plan) (reply_view reply)) }
-    {
-        Reply::planned(
-            alloc,
-            scaler::plan(alloc, files.image, files.machine, files.loops),
-        )
-    }
-
-    // A verdict, or the refusal.
-    fn judged(alloc: Global, given: Result<Verdict, Stop>) -> Result<Reply, NoMemory>
-        ensures { IfOk result (λ reply. option_map verdict_answer (given_by (λ verdict. verdict) given) ≡ Some (reply_view reply)) }
-    {
-        match given {
-            Ok(verdict) => Ok(Reply {
-                stores: Vec::new(alloc),
-                text: verdict_text(alloc, &verdict)?,
-                status: status_of_verdict(&verdict),
-            }),
-            Err(Stop::Refused(refusal)) => Reply::refused(alloc, &refusal),
-            Err(Stop::Memory) => Err(NoMemory),
-        }
-    }
-
-    /// What `check` gives for its four files.
-    pub fn checked(alloc: Global, files: &PairFiles<'_>) -> Result<Reply, NoMemory>
-        ensures bytes { AreBytes files.now.other.now }
-        ensures told { IfOk result (λ reply. Tells (IsChecked files.now.image.now files.now.other.now files.now.machine.now files.now.loops.now) verdict_answer (reply_view reply)) }
-    {
-        Reply::judged(
-            alloc,
-            image_check::check(alloc, files.image, files.other, files.machine, files.loops),
-        )
-    }
-
-    // A survey, or the refusal.
-    fn seen(alloc: Global, given: Result<SurveyReport, Stop>) -> Result<Reply, NoMemory>
-        ensures { IfOk result (λ reply. option_map (text_answer survey_text) (given_by survey_view given) ≡ Some (reply_view reply)) }
-    {
-        match given {
-            Ok(report) => Ok(Reply {
-                stores: Vec::new(alloc),
-                text: survey_text(alloc, &report)?,
-                status: 0,
-            }),
-            Err(Stop::Refused(refusal)) => Reply::refused(alloc, &refusal),
-            Err(Stop::Memory) => Err(NoMemory),
-        }
-    }
-
-    /// What `survey` gives for its four files and its inputs.
-    pub fn surveyed(
-        alloc: Global,
-        files: &PairFiles<'_>,
-        inputs: &Inputs<'_>,
-    ) -> Result<Reply, NoMemory>
-        ensures { IfOk result (λ reply. Tells (IsSurveyed files.now.image.now files.now.other.now files.now.machine.now files.now.loops.now (files_view inputs.now.items.now)) (text_answer survey_text) (reply_view reply)) }
-    {
-        Reply::seen(
-            alloc,
-            input_survey::survey(
+        Work::Tune { out, .. } => {
+            let (first, inputs) = files.split_at(3);
+            tuned(
                 alloc,
-                files.image,
-                files.other,
-                files.machine,
-                files.loops,
-                inputs.items,
-            ),
-        )
-    }
-
-    // The choice of a tuning, with its numbers and the name under which it is stored; or the refusal.
-    fn chosen(
-        alloc: Global,
-        out: &str,
-        given: Result<(Vec<u8>, Tuned), Stop>,
-    ) -> Result<Reply, NoMemory>
-        ensures { IfOk result (λ reply. option_map (stored_answer tuned_text out.now) (given_by file_view given) ≡ Some (reply_view reply)) }
-    {
-        match given {
-            Ok((bytes, tuned)) => {
-                let text = tuned_text(alloc, &tuned)?;
-                Reply::of_file(alloc, out, bytes, text, 0)
-            }
-            Err(Stop::Refused(refusal)) => Reply::refused(alloc, &refusal),
-            Err(Stop::Memory) => Err(NoMemory),
-        }
-    }
-
-    /// What `tune` gives for its three files and its inputs.
-    pub fn tuned(
-        alloc: Global,
-        out: &str,
-        files: &ProgramFiles<'_>,
-        inputs: &Inputs<'_>,
-    ) -> Result<Reply, NoMemory>
-        ensures { IfOk result (λ reply. Tells (IsTuning files.now.image.now files.now.machine.now files.now.loops.now (files_view inputs.now.items.now)) (stored_answer tuned_text out.now) (reply_view reply)) }
-    {
-        Reply::chosen(
-            alloc,
-            out,
-            gain_tuner::tune(alloc, files.image, files.machine, files.loops, inputs.items),
-        )
-    }
-
-    // What a run gives, with the name under which its output is stored.
-    fn told(alloc: Global, out: &str, report: RunReport) -> Result<Reply, NoMemory>
-        ensures { IfOk result (λ reply. reply_view reply ≡ run_answer out.now (Ok (report_view report))) }
-    {
-        let status = status_of(report.end);
-        let text = run_text(alloc, &report)?;
-        let bytes = report.output;
-        Reply::of_file(alloc, out, bytes, text, status)
-    }
-
-    /// What `simulate` gives for its files.
-    pub fn run(
-        alloc: Global,
-        out: &str,
-        image: &[u8],
-        machine: &[u8],
-        input: &[u8],
-        loops: Option<&[u8]>,
-    ) -> Result<Reply, NoMemory>
-        ensures { IfOk result (λ reply. MakesRun image.now machine.now input.now (option_map (λ l. l.now) loops.entry) out.now (reply_view reply)) }
-    {
-        match speed_sim::simulate(alloc, image, machine, input, loops) {
-            Ok(report) => Reply::told(alloc, out, report),
-            Err(Stop::Refused(refusal)) => Reply::refused(alloc, &refusal),
-            Err(Stop::Memory) => Err(NoMemory),
-        }
-    }
-
-    /// What `make` gives for a number and a size, with the names of its files beginning alike.
-    pub fn of_number(
-        alloc: Global,
-        number: u64,
-        size: Size,
-        prefix: &str,
-    ) -> Result<Reply, NoMemory>
-        ensures { IfOk result (λ reply. MakesMade number size.blocks prefix.now (reply_view reply)) }
-    {
-        let made = image_maker::make(alloc, number, size.blocks)?;
-        match made_reply(alloc, prefix, made) {
-            Ok(reply) => Ok(reply),
-            Err(Stop::Refused(refusal)) => Reply::refused(alloc, &refusal),
-            Err(Stop::Memory) => Err(NoMemory),
-        }
-    }
-
-    /// What is made of the files that were loaded.
-    #[tactic(auto, using(crate::proofs::Limits::limits_alone))]
-    pub fn made(alloc: Global, work: &Work<'_>, files: &[Vec<u8>]) -> Result<Reply, NoMemory>
-        requires { AllZip (λ want file. length file ≤ want.1) (wants_of (work_view work.now)) (files_view files.now) }
-        ensures answer { IfOk result (λ reply. Makes (work_view work.now) (files_view files.now) (reply_view reply)) }
-        ensures status { IfOk result (λ reply. IsTrue (may_give (Some (work_view work.now)) reply.status)) }
-    {
-        match *work {
-            Work::Hold { out, .. } => Reply::held(alloc, out, &ProgramFiles::of(files)),
-            Work::Rewrite { out, .. } => Reply::rewritten(alloc, out, &ProgramFiles::of(files)),
-            Work::Report { .. } => Reply::reported(alloc, &ProgramFiles::of(files)),
-            Work::Simulate { out, loops, .. } => match loops {
-                None => Reply::run(alloc, out, &files[0], &files[1], &files[2], None),
-                Some(_) => Reply::run(alloc, out, &files[0], &files[1], &files[2], Some(&files[3])),
-            },
-            Work::Make {
-                number,
-                size,
-                prefix,
-            } => Reply::of_number(alloc, number, size, prefix),
-            Work::Lower { out, .. } => Reply::lowered(alloc, out, &files[0], &files[1]),
-            Work::Check { .. } => Reply::checked(alloc, &PairFiles::of(files)),
-            Work::Survey { .. } => {
-                let (first, inputs) = files.split_at(4);
-                Reply::surveyed(alloc, &PairFiles::of(first), &Inputs { items: inputs })
-            }
-            Work::Tune { out, .. } => {
-                let (first, inputs) = files.split_at(3);
-                Reply::tuned(
-                    alloc,
-                    out,
-                    &ProgramFiles::of(first),
-                    &Inputs { items: inputs },
-                )
-            }
+                out,
+                &ProgramFiles::of(first),
+                &Inputs { items: inputs },
+            )
         }
     }
 }

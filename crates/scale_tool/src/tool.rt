@@ -3,31 +3,21 @@
 ghost use Rattle.std.specs.Prelude.{◌≡◌, ◌≢◌, Some, None, IfOk, IfErr, IfSome, IsSome, IsTrue};
 ghost use Rattle.host_files.specs.HostState.{IsUntouched, Rose};
 ghost use Rattle.host_files.specs.Host.{count_if, is_failed};
-ghost use Rattle.scale_tool.specs.Answer.{IsAnswerOf, refused};
+ghost use Rattle.host_runs.specs.Loading.{Missing, loading_of};
+ghost use Rattle.host_runs.specs.Views.{reply_view};
 ghost use Rattle.scale_tool.specs.Command.{Help, command_of, texts, may_give, may_answer, needs_memory, wants_of};
-ghost use Rattle.scale_tool.specs.Loading.{Missing, loading_of};
 ghost use Rattle.scale_tool.specs.Passing.{Passes};
 ghost use Rattle.scale_tool.specs.Promise.{Promised};
-ghost use Rattle.scale_tool.specs.Tool.{Ends, IsAnswered, IsStatusOfAll, StopsWithin, StoresStand, IsReadyFor};
-ghost use Rattle.scale_tool.specs.Views.{work_view, reply_view};
-ghost use Rattle.scale_base.specs.declared.refusal.Refusal.TheVariants.{TooLarge};
+ghost use Rattle.scale_tool.specs.Tool.{Ends, IsAnswerOf, IsAnswered, IsReadyFor, IsStatusOfAll, MayEnd, StopsWithin, StoresStand};
+ghost use Rattle.scale_tool.specs.Views.{work_view};
 
 use crate::command::{Command, Work, parse, wants};
-use crate::deliver::deliver;
-use crate::load_all::{AllLoaded, load_all};
-use crate::reply::Reply;
+use crate::reply::made;
 use crate::texts;
 use host_files::{Host, HostError};
+use host_runs::{AllLoaded, Reply, deliver, load_all};
 use image_check::rewritten_images_pass;
-use scale_base::{Name, NoMemory, Refusal};
 use std::alloc::Global;
-
-fn too_large(alloc: Global, name: &str) -> Result<Reply, NoMemory>
-    ensures { IfOk result (λ reply. reply_view reply ≡ refused (TooLarge name.now)) }
-{
-    let name = Name::new(String::from_str(alloc, name)?);
-    Reply::refused(alloc, &Refusal::TooLarge(name))
-}
 
 /// Loads the files, and makes what is made of them.
 fn reply_to<H: Host>(host: &mut H, alloc: Global, work: &Work<'_>) -> Result<Reply, HostError>
@@ -39,8 +29,8 @@ fn reply_to<H: Host>(host: &mut H, alloc: Global, work: &Work<'_>) -> Result<Rep
 {
     let wants = wants(alloc, work)?;
     match load_all(host, alloc, &wants) {
-        Ok(AllLoaded::Whole(files)) => Ok(Reply::made(alloc, work, &files)?),
-        Ok(AllLoaded::TooLong(number)) => Ok(too_large(alloc, wants[number].name)?),
+        Ok(AllLoaded::Whole(files)) => Ok(made(alloc, work, &files)?),
+        Ok(AllLoaded::TooLong(number)) => Ok(Reply::too_large(alloc, wants[number].name)?),
         Err(error) => Err(error),
     }
 }
@@ -48,6 +38,7 @@ fn reply_to<H: Host>(host: &mut H, alloc: Global, work: &Work<'_>) -> Result<Rep
 /// Loads the files, and stores and prints what is made of them.
 fn run_work<H: Host>(host: &mut H, alloc: Global, work: &Work<'_>) -> Result<u8, HostError>
     requires { IsTrue (needs_memory (Some (work_view work.now))) }
+    ensures may { MayEnd (Some (work_view work.now)) result }
     ensures ends { Ends (Some (work_view work.now)) result (H.state host.old) (H.state host.new) }
     ensures faults { (H.state host.new).faults ≡ count_if (is_failed result) (H.state host.old).faults }
 {
@@ -64,6 +55,7 @@ fn run_work<H: Host>(host: &mut H, alloc: Global, work: &Work<'_>) -> Result<u8,
 /// Tells how the commands are called.
 #[tactic(auto, using(crate::proofs::Ready::room_for_help))]
 fn print_help<H: Host>(host: &mut H) -> Result<u8, HostError>
+    ensures may { MayEnd (Some Help) result }
     ensures ends { Ends (Some Help) result (H.state host.old) (H.state host.new) }
     ensures faults { (H.state host.new).faults ≡ count_if (is_failed result) (H.state host.old).faults }
 {
@@ -76,6 +68,7 @@ fn print_help<H: Host>(host: &mut H) -> Result<u8, HostError>
 /// Says that words are no command.
 #[tactic(auto, using(crate::proofs::Ready::room_for_words))]
 fn refuse_words<H: Host>(host: &mut H) -> Result<u8, HostError>
+    ensures may { MayEnd None result }
     ensures ends { Ends None result (H.state host.old) (H.state host.new) }
     ensures faults { (H.state host.new).faults ≡ count_if (is_failed result) (H.state host.old).faults }
 {
@@ -86,6 +79,7 @@ fn refuse_words<H: Host>(host: &mut H) -> Result<u8, HostError>
 }
 
 fn run<H: Host>(host: &mut H, alloc: Global, words: &[String]) -> Result<u8, HostError>
+    ensures may { MayEnd (command_of (texts words.now)) result }
     ensures ends { Ends (command_of (texts words.now)) result (H.state host.old) (H.state host.new) }
     ensures faults { (H.state host.new).faults ≡ count_if (is_failed result) (H.state host.old).faults }
 {

@@ -98,6 +98,8 @@ mark_holds power l other counted n told branch u p marks.Switch h small = tt
 mark_holds power l other counted n told branch u p (marks.Exit c) h small = counter_holds counted c _ h small
 mark_holds power l other counted n told branch u p (marks.Reset c) h small = counter_holds counted c _ h small
 mark_holds power l other counted n told branch u p (marks.Count c) h small = counter_holds counted c _ h small
+mark_holds power l other counted n told branch u p marks.Lowest h small = tt
+mark_holds power l other counted n told branch u p (marks.Tally c) h small = counter_holds counted c _ h small
 
 -- the fragments of a marking are of loops that have numbers
 pub of_loop : (power : PowerModel) (image : Image) (v : FlowGraph) (t : LoopView) (plain stored : Numbers) (least : Charged) (m : Marking) → IsMarking power image v t plain stored least m → length t.headers ≤ 4096

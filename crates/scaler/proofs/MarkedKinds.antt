@@ -8,7 +8,7 @@ use Rattle.scale_base.specs.declared.fragments.Fragment.{Fragment}
 use Rattle.cycle_laws.specs.Charged.{Charged}
 use Rattle.loop_tree.specs.Noted.{node_address}
 use Rattle.stub_writer.specs.Fragments.{IsFragment, IsShadow}
-use Rattle.rewritten_runs.proofs.Laws.{in_get, set_distinct, shift_fits, rows_count, depth, few_marks, edge_is, IsMarkOf, program_is, graph_program, marks_of_edge, marked_led, counted_is, loop_count, shadow_of}
+use Rattle.rewritten_runs.proofs.Laws.{in_get, set_distinct, shift_fits, tally_fits, rows_count, depth, few_marks, edge_is, IsMarkOf, program_is, graph_program, marks_of_edge, marked_led, counted_is, loop_count, shadow_of}
 use Rattle.scaler.proofs.EdgeBlocks.{map_none}
 use Rattle.std.proofs.lemmas.Bool.{eqb-true}
 use Rattle.scale_base.specs.declared.instruction.Instr.{Instr}
@@ -37,6 +37,7 @@ use Rattle.scale_base.specs.declared.fragments.Mark.TheVariants as marks
 use Rattle.scale_sites.specs.Counters.{counted_loops, goes_on, edge_goes_on, IsUncountable}
 use Rattle.scale_sites.specs.Marks.{AreLoopsOnce}
 use Rattle.scale_sites.specs.Sites.{is_branch, is_branch_kind, edge_branches}
+use Rattle.level_tables.specs.Tables as tables
 use Rattle.rewritten_runs.specs.Stubs.{IsWeighed, marks_by_slack, told_at, fragment_of, fragments_at, loop_of}
 use Rattle.scaler.specs.Planned.{IsSitesKind}
 
@@ -197,21 +198,26 @@ module _ (power : PowerModel) (image : Image) (notes : List LoopNote) (v : FlowG
           by_in true is q iq both = let there = stays_on k e a kl lt on to is in let bad : (true && not true) ≡ true = sym (ap (λ b. b && not (l.inside k a)) is ∙ ap (λ b. true && not b) there) ∙ both in cc
           by_in false is q iq both = let bad : (false && not (l.inside k a)) ≡ true = sym (ap (λ b. b && not (l.inside k a)) is) ∙ both in cc
 
-      by_mark : (a : ℕ) → g.target e ≡ Some a → (m : Mark) → IsMarkOf l (counted_loops tree) (is_branch v e) (g.source e) (g.target e) m → ⊥
-      by_mark a to marks.Switch is = kinds (slice_get code.edges e) on is
-      by_mark a to (marks.Exit c) is = not_left a to is.loop (counted_is power image notes v tree plain stored weighed is.place is.loop is.get).loop is.holds
-      by_mark a to (marks.Reset c) is = not_left a to is.loop (counted_is power image notes v tree plain stored weighed is.place is.loop is.get).loop is.holds
-      by_mark a to (marks.Count c) is =
+      flag_set : (flags : List Bool) (k : ℕ) → Rattle.std.specs.Prelude.slice_index_or flags k false ≡ true → slice_get flags k ≡ Some true
+      flag_set [] k h = let never : ⊥ = cc in absurd never
+      flag_set (b ∷ flags) zero h = ap Some h
+      flag_set (b ∷ flags) (suc k) h = flag_set flags k h
+
+      by_count : (c : ℕ) → IsMarkOf l (counted_loops tree) (is_branch v e) (g.source e) (g.target e) (marks.Count c) → ⊥
+      by_count c is =
           let k = counted_is power image notes v tree plain stored weighed is.place is.loop is.get in
           let size = loop_count power image notes v tree plain stored weighed in
           let kl = k.loop in
           let bad : IsUncountable v tree is.loop e = record { edge = lt; within = omega (arith, kl, size); back = is.holds; counted = flag_set tree.counted is.loop k.flag; on = on } in
           weighed.counters.0 is.loop e bad
-        where
-          flag_set : (flags : List Bool) (k : ℕ) → Rattle.std.specs.Prelude.slice_index_or flags k false ≡ true → slice_get flags k ≡ Some true
-          flag_set [] k h = let never : ⊥ = cc in absurd never
-          flag_set (b ∷ flags) zero h = ap Some h
-          flag_set (b ∷ flags) (suc k) h = flag_set flags k h
+
+      by_mark : (a : ℕ) → g.target e ≡ Some a → (m : Mark) → IsMarkOf l (counted_loops tree) (is_branch v e) (g.source e) (g.target e) m → ⊥
+      by_mark a to marks.Switch is = kinds (slice_get code.edges e) on is
+      by_mark a to (marks.Exit c) is = not_left a to is.loop (counted_is power image notes v tree plain stored weighed is.place is.loop is.get).loop is.holds
+      by_mark a to (marks.Reset c) is = not_left a to is.loop (counted_is power image notes v tree plain stored weighed is.place is.loop is.get).loop is.holds
+      by_mark a to (marks.Count c) is = by_count c is
+      by_mark a to marks.Lowest is = kinds (slice_get code.edges e) on is
+      by_mark a to (marks.Tally c) is = by_count c is
 
       by : (a : ℕ) → g.target e ≡ Some a → (ms : List Mark) → ms ≢ [] → All (IsMarkOf l (counted_loops tree) (is_branch v e) (g.source e) (g.target e)) ms → ⊥
       by a to [] ne all = ne refl
@@ -270,6 +276,12 @@ module _ (power : PowerModel) (image : Image) (notes : List LoopNote) (v : FlowG
       (subst IsShadow (sym is.is) (shadow_of power image notes v tree plain stored weighed is.place is.loop is.get), fits.0, omega (arith, rows, fits.1))
   fragment_is least e (marks.Reset c) is = subst IsShadow (sym is.is) (shadow_of power image notes v tree plain stored weighed is.place is.loop is.get)
   fragment_is least e (marks.Count c) is = subst IsShadow (sym is.is) (shadow_of power image notes v tree plain stored weighed is.place is.loop is.get)
+  fragment_is least e marks.Lowest is = tt
+  fragment_is least e (marks.Tally c) is =
+      let k = loop_of (counted_loops tree) c in
+      let small = bound_small k in
+      let fits = tally_fits power (tables.meets_both power) (l.bound k) (stored.iteration k) (told_at power image v tree (marks_by_slack power image v tree plain) stored least e) (omega (arith, small)) in
+      (subst IsShadow (sym is.is) (shadow_of power image notes v tree plain stored weighed is.place is.loop is.get), fits.0, fits.2, fits.3)
 
   innermost_of : (u : ℕ) (o : Option ℕ) → IsInnermost l u o → ((o ≡ None) × ((k : ℕ) → k < l.loops → l.inside k u ≡ true → ⊥)) ⊎ ((j : ℕ) × (j < l.loops) × (l.inside j u ≡ true) × ((k w : ℕ) → k < l.loops → l.inside k u ≡ true → l.inside j w ≡ true → l.inside k w ≡ true))
   innermost_of u None h = inl (refl, h)

@@ -21,7 +21,7 @@ use Rattle.scale_sites.specs.Weights.{switches}
 use Rattle.scale_sites.proofs.Laws.{switches-one}
 use Rattle.worst_cycles.specs.Worst.{slack_at}
 use Rattle.rewritten_runs.specs.Stubs.{marks_by_slack, plain_weights, told_at, fragment_of, loop_of}
-use Rattle.rewritten_runs.proofs.Laws.{marks_all, resets_are, counts_are, at_set, IsMarkOf, marks_are, IsQuietMark, in_get, set_distinct}
+use Rattle.rewritten_runs.proofs.Laws.{marks_all, resets_are, counts_are, at_set, IsMarkOf, marks_are, IsPlainMark, IsQuietMark, in_get, plain_marks, set_distinct}
 use Rattle.scaler.specs.declared.stubs.Marking.{Marking}
 use Rattle.scaler.specs.Markings.{IsMarking}
 
@@ -32,18 +32,24 @@ IsLoud marks.Switch = Unit {0}
 IsLoud (marks.Exit c) = Unit {0}
 IsLoud (marks.Reset c) = ⊥
 IsLoud (marks.Count c) = ⊥
+IsLoud marks.Lowest = Unit {0}
+IsLoud (marks.Tally c) = Unit {0}
 
 loud_switches : (m : Mark) (ms : List Mark) → IsLoud m → switches (m ∷ ms) ≡ true
 loud_switches marks.Switch ms h = refl
 loud_switches (marks.Exit c) ms h = refl
 loud_switches (marks.Reset c) ms h = absurd h
 loud_switches (marks.Count c) ms h = absurd h
+loud_switches marks.Lowest ms h = refl
+loud_switches (marks.Tally c) ms h = refl
 
 not_both : (m : Mark) → IsLoud m → IsQuietMark m → ⊥
 not_both marks.Switch h q = q
 not_both (marks.Exit c) h q = q
 not_both (marks.Reset c) h q = h
 not_both (marks.Count c) h q = h
+not_both marks.Lowest h q = q
+not_both (marks.Tally c) h q = q
 
 none_loud : (ms : List Mark) (i : ℕ) (m : Mark) → All IsQuietMark ms → slice_get ms i ≡ Some m → IsLoud m → ⊥
 none_loud [] i m all at h = let never : ⊥ = cc in never
@@ -89,6 +95,13 @@ module _ (power : PowerModel) (image : Image) (v : FlowGraph) (t : LoopView) (pl
       let two : All IsQuietMark c = subst (All IsQuietMark) (sym (counts_are l u p first_counter counted)) (marks_all IsQuietMark (λ k. goes_back l k u p) marks.Count first_counter counted (λ j k q on. tt)) in
       let whole : marks_at_edge m.sites e ≡ (s ++ x) ++ (r ++ c) = is.marks e lt ∙ sym (append_assoc s x (r ++ c)) in
       ap switches whole ∙ first_loud (s ++ x) (r ++ c) i mark few (All-append IsQuietMark r c one two) (sym (ap (λ ms. slice_get ms i) whole) ∙ at) loud
+
+  -- only marks of rules stand on an edge
+  pub marking_plain : (e i : ℕ) (mark : Mark) → e < length v.code.edges → slice_get (marks_at_edge m.sites e) i ≡ Some mark → IsPlainMark mark
+  marking_plain e i mark lt at =
+      let ms = marks_by_slack power image v t plain e in
+      let here : slice_get ms i ≡ Some mark = sym (ap (λ xs. slice_get xs i) (is.marks e lt)) ∙ at in
+      subst IsPlainMark (get_or_from_slice_get ms i mark mark here) (plain_marks (loops v t) (counted_loops t) (is_branch v e) (at_slack e) power.min_gain ((graph v).source e) ((graph v).target e) i mark (slice_get_within ms i mark here))
 
   -- ---- the loop of a counter
 

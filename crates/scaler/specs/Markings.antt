@@ -97,6 +97,8 @@ IsOfLoop counted (fragments.Switch word) = Unit {0}
 IsOfLoop counted (fragments.Exit counter shift rows) = IsLoopCounter counted counter
 IsOfLoop counted (fragments.Reset counter) = IsLoopCounter counted counter
 IsOfLoop counted (fragments.Count counter) = IsLoopCounter counted counter
+IsOfLoop counted (fragments.Lowest down) = Unit {0}
+IsOfLoop counted (fragments.Tally counter shift from) = IsLoopCounter counted counter
 
 -- the lines of an edge's fragments behind some lines
 abbrev pub ArePushedAt : PowerModel → FlowGraph → LoopView → Marking → ℕ → List SiteLine → List SiteLine → Type 0

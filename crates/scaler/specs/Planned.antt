@@ -1,7 +1,7 @@
 -- What `plan` gives: the summary of the file that `rewrite` would store, and a line for each fragment of each edge.
 use Rattle.std.specs.Prelude.{◌≡◌, ℕ, ◌+◌, List, [], ◌∷◌, ◌++◌, map, Result, Ok, Err}
 use Rattle.scale_base.specs.declared.fragments.Fragment.{Fragment}
-use Rattle.scale_base.specs.declared.fragments.Fragment.TheVariants.{Switch, Exit, Reset, Count}
+use Rattle.scale_base.specs.declared.fragments.Fragment.TheVariants.{Switch, Exit, Reset, Count, Lowest, Tally}
 use Rattle.scale_base.specs.declared.plan.SiteLine.{SiteLine}
 use Rattle.scale_base.specs.declared.refusal.Refusal.{Refusal}
 use Rattle.scale_base.specs.declared.summary.Summary.{Summary}
@@ -23,12 +23,14 @@ use Rattle.scaler.specs.Rewritten.{IsRewritten}
 
 -- ---- the lines
 
--- the number of the loop of a fragment, from 1 on as in the loop file; 0 for a switch
+-- the number of the loop of a fragment, from 1 on as in the loop file; 0 for one without a loop
 abbrev pub loop_number : List ℕ → Fragment → ℕ
 loop_number counted (Switch word) = 0
 loop_number counted (Exit counter shift rows) = loop_of counted counter + 1
 loop_number counted (Reset counter) = loop_of counted counter + 1
 loop_number counted (Count counter) = loop_of counted counter + 1
+loop_number counted (Lowest down) = 0
+loop_number counted (Tally counter shift from) = loop_of counted counter + 1
 
 abbrev pub line_of : List ℕ → Edge → Fragment → SiteLine
 line_of counted edge fragment = record { edge = edge; loop_no = loop_number counted fragment; fragment = fragment }

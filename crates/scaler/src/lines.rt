@@ -19,9 +19,11 @@ fn loop_number(counters: &CounterList, fragment: &Fragment) -> u32
 {
     let counter = match fragment {
         Fragment::Switch { .. } => return 0,
+        Fragment::Lowest { .. } => return 0,
         Fragment::Exit { counter, .. } => *counter,
         Fragment::Reset { counter } => *counter,
         Fragment::Count { counter } => *counter,
+        Fragment::Tally { counter, .. } => *counter,
     };
     *counters.get(usize::from(counter - 2)) as u32 + 1
 }

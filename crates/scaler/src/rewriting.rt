@@ -126,7 +126,7 @@ pub struct EdgeCounts {
 fn has_switch(marks: &[Mark]) -> bool
     ensures { result ≡ list_any is_switch marks.now }
 {
-    marks.iter().any(|mark| matches!(mark, Mark::Switch))
+    marks.iter().any(|mark| matches!(mark, Mark::Switch | Mark::Lowest | Mark::Tally(_)))
 }
 
 fn has_exit(marks: &[Mark]) -> bool
@@ -138,7 +138,9 @@ fn has_exit(marks: &[Mark]) -> bool
 fn has_count(marks: &[Mark]) -> bool
     ensures { result ≡ list_any is_count marks.now }
 {
-    marks.iter().any(|mark| matches!(mark, Mark::Count(_)))
+    marks
+        .iter()
+        .any(|mark| matches!(mark, Mark::Count(_) | Mark::Tally(_)))
 }
 
 pub fn count_edges(graph: &CodeGraph, sites: &Sites) -> EdgeCounts

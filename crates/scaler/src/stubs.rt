@@ -122,6 +122,8 @@ pub fn fragment_of(
         Mark::Exit(counter) => exit_of(power, graph, tree, marking, e, counter),
         Mark::Reset(counter) => Fragment::Reset { counter },
         Mark::Count(counter) => Fragment::Count { counter },
+        // none of these is put on an edge here
+        Mark::Lowest | Mark::Tally(_) => unreachable!(),
     }
 }
 

@@ -81,7 +81,7 @@ module _ (power : PowerModel) (image : Image) (notes : List LoopNote) (v v' : Fl
         ap (λ (x : Option ℕ). told s' (r' + tail_at power marked e) (option_map (λ y. y + tail_at power marked e) x)) (charged.after e) ∙
         ap (λ (m : ℕ → List Mark). told s' (r' + tail_at power m e) (option_map (λ y. y + tail_at power m e) z')) same_marks
 
-    -- the counter of an exit is that of a counted loop
+    -- the counter of an exit, or of a tally, is that of a counted loop
     fragment_same : (e : ℕ) (x : tables.EdgeNumbers) (m : Mark) → IsMarkOf (loops v t) (counted_loops t) (is_branch v e) ((graph v).source e) ((graph v).target e) m →
         fragment_of power (loops v t) (counted_loops t) stored x m ≡ fragment_of power (loops v t) (counted_loops t) stored' x m
     fragment_same e x marks.Switch is = refl
@@ -94,6 +94,14 @@ module _ (power : PowerModel) (image : Image) (notes : List LoopNote) (v v' : Fl
         ap (λ (n : ℕ). fragments.Exit c (tables.shift_of ((loops v t).bound k)) (tables.rows_of power ((loops v t).bound k) n x)) turns
     fragment_same e x (marks.Reset c) is = refl
     fragment_same e x (marks.Count c) is = refl
+    fragment_same e x marks.Lowest is = refl
+    fragment_same e x (marks.Tally c) is =
+        let k = loop_of (counted_loops t) c in
+        let at : k ≡ is.loop = ap (loop_of (counted_loops t)) is.is ∙ loop_is power image notes v t plain stored one is.place is.loop is.get in
+        let turn : stored.iteration is.loop ≡ stored'.iteration is.loop =
+        (stored_alike power image notes v v' t t' plain plain' stored stored' one other).iteration is.loop (counted_is power image notes v t plain stored one is.place is.loop is.get).loop in
+        let turns : stored.iteration k ≡ stored'.iteration k = ap stored.iteration at ∙ (turn ∙ sym (ap stored'.iteration at)) in
+        ap (λ (n : ℕ). fragments.Tally c (tables.tally_shift ((loops v t).bound k)) (tables.tally_from power (tables.meets_both power) ((loops v t).bound k) n x)) turns
 
     fragments_at_same : (e : ℕ) → fragments_at power image v t marked stored least e ≡ fragments_at power image v' t' marked' stored' least' e
     fragments_at_same e =

@@ -2,9 +2,9 @@ use Rattle.std.proofs.Common.{◌≡◌, ◌∙◌, ◌+◌, ◌++◌, ◌<◌, 
 use Rattle.std.specs.Prelude.{String, string_bytes}
 use Rattle.std.specs.declared.alloc.Global.{Global}
 use Rattle.std.proofs.lemmas.List.{append-nil, append_assoc, map-append, map_more, take_all}
-use Rattle.scale_tool.specs.declared.load_all.Want.{Want}
+use Rattle.host_runs.specs.declared.loading.Want.{Want}
 use Rattle.scale_tool.specs.Command.{input_wants, texts}
-use Rattle.scale_tool.specs.Views.{want_views}
+use Rattle.host_runs.specs.Views.{want_views}
 use Rattle.scale_tool.proofs.command.push_inputs.Goals as goal
 
 abbrev wanted : String Global → List ℕ × ℕ

@@ -1,6 +1,6 @@
 use Rattle.std.proofs.Common.{◌≡◌, ◌++◌, map, take}
 use Rattle.std.specs.Prelude.{string_bytes}
-use Rattle.scale_tool.specs.Views.{want_views}
+use Rattle.host_runs.specs.Views.{want_views}
 use Rattle.scale_tool.proofs.command.push_inputs.Given as goal
 
 -- the names so far have been added

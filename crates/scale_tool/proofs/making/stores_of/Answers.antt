@@ -1,5 +1,5 @@
 use Rattle.std.proofs.Common.{[], ◌∷◌, ap, ◌∙◌}
-use Rattle.scale_tool.specs.Views.{store_views}
+use Rattle.host_runs.specs.Views.{store_views}
 use Rattle.scale_tool.proofs.making.stores_of.Goals as goal
 
 pub returns : goal.returns

@@ -1,0 +1,10 @@
+use Rattle.scale_report.specs.Texts.{summary_text}
+use Rattle.scaler.specs.Held.{IsHeld}
+use Rattle.host_runs.specs.Answer.{stored_answer}
+use Rattle.host_runs.specs.Views.{file_view}
+use Rattle.host_runs.proofs.Laws.{made_of_given}
+use Rattle.scale_tool.proofs.reply.held.Goals as goal
+
+pub returns : goal.returns
+returns c =
+    made_of_given file_view (IsHeld c.args.files.now.image.now c.args.files.now.machine.now c.args.files.now.loops.now) (stored_answer summary_text c.args.out.now) c.hold.result c.stored.result c.hold.ensures.given c.stored.ensures
