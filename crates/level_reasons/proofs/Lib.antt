@@ -6,3 +6,5 @@ pub mod Lines
 pub mod BodyFacts
 pub mod NearFacts
 pub mod LoopFacts
+pub mod ProgramFacts
+pub mod FileFacts

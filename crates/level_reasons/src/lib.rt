@@ -6,9 +6,11 @@ mod edges;
 mod lacks;
 mod loops;
 mod numbered;
+mod program;
 mod shown;
 mod texts;
 mod ways;
 
+pub use program::reasons;
 pub use shown::{EdgeLine, EdgeReason, LoopLine, LoopReason, Shown};
 pub use texts::reasons_text;
