@@ -1,10 +1,10 @@
 -- The reasons of edges on which a job stays at its level.
-use Rattle.std.proofs.Common.{◌≡◌, ℕ, ◌+◌, ◌-◌, ◌*◌, ◌<◌, Bool, true, false, ◌&&◌, nat_le, nat_lt, slice_get, Option, Some, refl, sym, ap, ◌∙◌, subst, arith, ⊎_elim}
+use Rattle.std.proofs.Common.{◌≡◌, ℕ, ◌+◌, ◌-◌, ◌*◌, ◌<◌, Bool, true, false, ◌&&◌, nat_le, nat_lt, slice_get, Option, Some, sym, ap, ◌∙◌, subst, arith, ⊎_elim}
 use Rattle.std.proofs.lemmas.Bool.{and_cases, both_ways}
 use Rattle.power_model.specs.Levels.{level}
 use Rattle.power_model.specs.Numbers.{PowerModel}
 use Rattle.power_model.specs.Price.{switch_time}
-use Rattle.level_tables.specs.Tables.{EdgeNumbers, pays, meets_both, entry_of, IsEntry}
+use Rattle.level_tables.specs.Tables.{EdgeNumbers, pays, entry_of}
 use Rattle.level_tables.proofs.Laws.{entry-is}
 use Rattle.scale_base.specs.declared.edges.Edge.{Edge}
 use Rattle.code_graph.specs.FlowGraph.{FlowGraph}

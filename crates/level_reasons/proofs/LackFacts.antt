@@ -1,10 +1,10 @@
 -- What the slack of an edge lacks for a switch to the next lower level.
-use Rattle.std.proofs.Common.{◌≡◌, ℕ, ◌+◌, ◌-◌, ◌*◌, ◌/◌, ◌%◌, ◌^◌, ◌<◌, ◌≤◌, min, Bool, true, false, nat_le, length, refl, sym, ap, ◌∙◌, subst, arith, ◌⊎◌, ⊎_elim}
+use Rattle.std.proofs.Common.{◌≡◌, ℕ, ◌+◌, ◌-◌, ◌*◌, ◌<◌, ◌≤◌, true, sym, ap, ◌∙◌, subst, arith, ⊎_elim}
 use Rattle.std.specs.Int.{div_ceil}
 use Rattle.std.proofs.Math.Nat.{mul-le-mul_right}
-use Rattle.std.proofs.lemmas.Bool.{leb-true, leb-false, le-leb, lt-leb, both_ways, cases_lt}
-use Rattle.power_model.specs.Levels.{level, ArePositive}
-use Rattle.power_model.specs.Numbers.{PowerModel, IsPowerModel}
+use Rattle.std.proofs.lemmas.Bool.{leb-true, le-leb, lt-leb, both_ways, cases_lt}
+use Rattle.power_model.specs.Levels.{level}
+use Rattle.power_model.specs.Numbers.{PowerModel}
 use Rattle.power_model.specs.Price.{switch_time}
 use Rattle.level_tables.specs.Tables.{EdgeNumbers}
 use Rattle.level_reasons.specs.Reasons.{IsLack, goes_down, with_more}

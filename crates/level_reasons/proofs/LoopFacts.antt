@@ -1,13 +1,12 @@
 -- How many turns a loop has to have left, by its nearest way out.
-use Rattle.std.proofs.Common.{◌≡◌, ℕ, ◌+◌, ◌-◌, ◌*◌, ◌<◌, ◌≤◌, true, false, Option, Some, None, ◌⊎◌, ⊎_elim, refl, sym, ap, ◌∙◌, subst, arith}
+use Rattle.std.proofs.Common.{◌≡◌, ℕ, ◌+◌, ◌*◌, ◌<◌, ◌≤◌, false, Some, ⊎_elim, ap, ◌∙◌, arith}
 use Rattle.power_model.specs.Levels.{level}
 use Rattle.power_model.specs.Numbers.{PowerModel}
 use Rattle.level_tables.specs.Tables.{EdgeNumbers}
 use Rattle.level_reasons.specs.declared.ways.Way.{Way}
-use Rattle.level_reasons.specs.declared.shown.LoopReason.{LoopReason}
 use Rattle.level_reasons.specs.declared.shown.LoopReason.TheVariants.{NeedsTurns, Never}
-use Rattle.level_reasons.specs.Reasons.{IsLack, IsNearest, IsLoopReason, goes_down, with_more, percent_down, percent_up}
-use Rattle.level_reasons.specs.Ways.{IsWayOf, IsNearestKept, AreTurnsFor}
+use Rattle.level_reasons.specs.Reasons.{IsLoopReason, goes_down, with_more, percent_down, percent_up}
+use Rattle.level_reasons.specs.Ways.{IsNearestKept, AreTurnsFor}
 use Rattle.level_reasons.proofs.LackFacts.{lack_by, lack_is, lack_enough}
 
 module _ (power : PowerModel) (i : ℕ) (told : ℕ → EdgeNumbers) (Is : ℕ → Type 0) (pos : 0 < (level power.levels i).period) (above : 0 < i) (way : Way) (kept : IsNearestKept power i told Is (Some way)) where

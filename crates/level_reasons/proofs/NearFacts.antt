@@ -1,9 +1,9 @@
 -- The nearest of some ways out, and one more.
-use Rattle.std.proofs.Common.{◌≡◌, ℕ, ◌+◌, ◌<◌, ◌≤◌, Option, Some, None, ◌⊎◌, ⊎_elim, inl, inr, refl, sym, ap, ◌∙◌, subst, arith}
+use Rattle.std.proofs.Common.{◌≡◌, ℕ, ◌<◌, ◌≤◌, Option, Some, None, ◌⊎◌, ⊎_elim, inl, inr, refl, sym, ap, ◌∙◌, subst, arith}
 use Rattle.power_model.specs.Numbers.{PowerModel}
 use Rattle.level_tables.specs.Tables.{EdgeNumbers}
 use Rattle.level_reasons.specs.declared.ways.Way.{Way}
-use Rattle.level_reasons.specs.Reasons.{IsLack, IsNearest}
+use Rattle.level_reasons.specs.Reasons.{IsLack}
 use Rattle.level_reasons.specs.Ways.{IsWayOf, IsNearestKept, IsNearerOf}
 use Rattle.level_reasons.proofs.LackFacts.{lack_once}
 

@@ -1,5 +1,5 @@
 -- The numbers of a program, and what stops them.
-use Rattle.std.proofs.Common.{◌≡◌, ℕ, ◌+◌, ◌<◌, ◌≤◌, ◌^◌, true, false, cond, List, length, slice_get, Option, Some, None, Result, Ok, Err, inr, refl, sym, ap, ◌∙◌, subst, arith}
+use Rattle.std.proofs.Common.{◌≡◌, ℕ, ◌<◌, ◌≤◌, true, cond, List, length, slice_get, Option, Some, None, Result, Ok, Err, inr, refl, sym, ap, ◌∙◌, subst, arith}
 use Rattle.std.specs.Prelude.{nat_lt}
 use Rattle.std.proofs.lemmas.Bool.{lt-ltb, le-ltb}
 use Rattle.std.proofs.lemmas.List.{length-map}
@@ -16,16 +16,14 @@ use Rattle.power_model.specs.Slowest.{slowest_of, fastest, is_in_time}
 use Rattle.graph_algorithms.specs.Arcs.{number_in_place}
 use Rattle.cost_theory.specs.Accepted.{AreWeights}
 use Rattle.cost_theory.specs.Worst.{Numbers, AreNumbers}
-use Rattle.cycle_laws.specs.Charged.{Charged, AreCharged, to_end_after}
+use Rattle.cycle_laws.specs.Charged.{Charged, AreCharged}
 use Rattle.code_text.specs.Text.{text_of}
-use Rattle.code_text.specs.EdgeCosts.{weights}
-use Rattle.code_text.specs.TextGraph.{text_graph}
 use Rattle.code_graph.specs.FlowGraph.{FlowGraph, graph, IsGraphOf}
 use Rattle.loop_file.specs.declared.notes.LoopNote.{LoopNote}
 use Rattle.loop_tree.specs.Noted.{node_address}
 use Rattle.loop_tree.specs.Tree.{LoopView, loops, IsTreeOf}
-use Rattle.worst_cycles.specs.Worst.{WorstView, by_edge, HoldsLeft, IsLeftOf, IsWorstFound}
-use Rattle.least_cycles.specs.Found.{LeastView, HasWorstInRange, IsLeastOf}
+use Rattle.worst_cycles.specs.Worst.{WorstView, by_edge, HoldsLeft, IsWorstFound}
+use Rattle.least_cycles.specs.Found.{HasWorstInRange}
 use Rattle.rewritten_runs.specs.Stubs.{plain_weights}
 use Rattle.rewritten_runs.proofs.Laws.{listed_weights, weights_listed, weights_hold, numbers_listed}
 use Rattle.scaler.specs.Held.{IsHeldProgram, held_at, held_from, held_within}

@@ -1,7 +1,7 @@
 -- What keeps a level from being lowered: at each edge of a branch or of a jump on which cycles of the worst case fall away, and in each loop.
 -- The program stays as it is: its numbers are those of the original image, without the cycles of a stub.
 -- That the slack of an edge pays for a slower speed behind it is intra-task voltage scheduling (Shin, Kim and Lee, IEEE Design & Test of Computers, 2001).
-use Rattle.std.specs.Prelude.{◌≡◌, ℕ, ◌+◌, ◌-◌, ◌*◌, ◌/◌, ◌<◌, ◌≤◌, ◌⊎◌, Bool, true, false, ◌&&◌, nat_lt, List, [], ◌∷◌, length, slice_get, slice_index, Option, Some, None, Result, Ok, Err}
+use Rattle.std.specs.Prelude.{◌≡◌, ℕ, ◌+◌, ◌-◌, ◌*◌, ◌/◌, ◌<◌, ◌≤◌, ◌⊎◌, Bool, true, false, ◌&&◌, nat_lt, List, [], ◌∷◌, length, slice_get, slice_index, Option, Some, None}
 use Rattle.std.specs.List.{filter, range_with_len}
 use Rattle.std.specs.Int.{div_ceil}
 use Rattle.scale_base.specs.declared.edges.Edge.{Edge}

@@ -1,4 +1,4 @@
-use Rattle.std.proofs.Common.{◌≡◌, ◌+◌, List, [], ◌∷◌, ◌++◌, Vec, Global, sym, ap, ◌∙◌, subst}
+use Rattle.std.proofs.Common.{◌≡◌, ◌+◌, [], ◌∷◌, ◌++◌, Vec, Global, sym, ap, ◌∙◌, subst}
 use Rattle.std.specs.List.{filter, range_with_len}
 use Rattle.level_reasons.specs.declared.shown.EdgeLine.{EdgeLine}
 use Rattle.level_reasons.specs.Kept.{told_view}

@@ -1,4 +1,4 @@
-use Rattle.std.proofs.Common.{◌≡◌, ◌+◌, ◌<◌, refl, ap, ◌∙◌, arith}
+use Rattle.std.proofs.Common.{◌+◌, ◌<◌, refl, ap, ◌∙◌, arith}
 use Rattle.level_reasons.specs.Kept.{told_view}
 use Rattle.level_reasons.specs.Reasons.{percent_down, percent_up}
 use Rattle.level_reasons.proofs.EdgeFacts.{lacks_none, lacks_some, stays_unpaid}
@@ -11,8 +11,7 @@ returns-then-lack-eq0 c =
 
 pub returns : goal.returns
 returns c =
-    let some : 0 < c.lack_of-lack.result = omega arith in
-    (
+    let some : 0 < c.lack_of-lack.result = omega arith in (
       c.requires.above,
       c.requires.stays,
       lacks_some c.args.power.now c.args.level (told_view c.args.told) c.lack_of-lack.result c.lack_of-lack.ensures.lack some,

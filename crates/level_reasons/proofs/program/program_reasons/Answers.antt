@@ -1,4 +1,3 @@
-use Rattle.std.proofs.Common.{◌≡◌, ℕ, ◌<◌, length, refl}
 use Rattle.std.proofs.lemmas.Result.{err_from_is_err_and}
 use Rattle.loop_file.specs.Kept.{noted_loops}
 use Rattle.rewritten_runs.specs.Stubs.{plain_weights}

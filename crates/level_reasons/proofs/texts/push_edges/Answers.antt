@@ -1,4 +1,4 @@
-use Rattle.std.proofs.Common.{List, ℕ, ◌++◌, ap, take_all, string_bytes, append-nil, sym, ◌∙◌}
+use Rattle.std.proofs.Common.{List, ◌++◌, ap, take_all, string_bytes, append-nil, sym, ◌∙◌}
 use Rattle.std.specs.List.{flat_map}
 use Rattle.level_reasons.specs.ReasonTexts.{edge_line}
 use Rattle.level_reasons.specs.declared.shown.EdgeLine.{EdgeLine}

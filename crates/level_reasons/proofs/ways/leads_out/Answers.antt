@@ -1,4 +1,4 @@
-use Rattle.std.proofs.Common.{◌≡◌, true, not, refl, sym, ap, ◌∙◌}
+use Rattle.std.proofs.Common.{not, refl, sym, ap, ◌∙◌}
 use Rattle.level_reasons.proofs.BodyFacts.{leaves_is}
 use Rattle.level_reasons.proofs.ways.leads_out.Goals as goal
 

@@ -1,4 +1,4 @@
-use Rattle.std.proofs.Common.{◌≡◌, List, ℕ, length, sym, ap, ◌∙◌, subst, arith}
+use Rattle.std.proofs.Common.{◌≡◌, length, ap, subst, arith}
 use Rattle.cost_theory.specs.Lists.{body_of}
 use Rattle.level_reasons.specs.Reasons.{IsWayOut}
 use Rattle.level_reasons.specs.Ways.{IsWayAmong}
