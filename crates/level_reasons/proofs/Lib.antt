@@ -8,3 +8,5 @@ pub mod NearFacts
 pub mod LoopFacts
 pub mod ProgramFacts
 pub mod FileFacts
+pub mod HeldFacts
+pub mod Laws

@@ -1,6 +1,7 @@
 -- The reasons of a program: what the bytes of an image, of a machine file and of a loop file give.
 use Rattle.std.specs.Prelude.{◌≡◌, ℕ, ◌^◌, ◌≤◌, List, Some, Result, Ok, Err}
 use Rattle.scale_base.specs.declared.refusal.Refusal.{Refusal}
+use Rattle.scale_base.specs.declared.summary.Summary.{Summary}
 use Rattle.scale_base.specs.Image.{Image, image_of}
 use Rattle.power_model.specs.Numbers.{PowerModel}
 use Rattle.power_model.specs.Slowest.{slowest_of}
@@ -62,3 +63,8 @@ pub record HasReasons (image machine loop_file : List ℕ) (shown : Shown) : Typ
 abbrev pub AreReasons : List ℕ → List ℕ → List ℕ → Result Shown Refusal → Type 0
 AreReasons image machine loop_file (Ok shown) = HasReasons image machine loop_file shown
 AreReasons image machine loop_file (Err refusal) = IsHeld image machine loop_file (Err refusal)
+
+-- The law: a program that has reasons is one that `hold` stores, at the same level and with the same worst cycles.
+abbrev pub ShownProgramsAreHeld : Type 0
+ShownProgramsAreHeld = (image machine loop_file : List ℕ) (shown : Shown) → AreReasons image machine loop_file (Ok shown)
+    → (stored : List ℕ) × (summary : Summary) × IsHeld image machine loop_file (Ok ((stored, summary))) × (summary.start ≡ shown.start) × (summary.worst ≡ shown.worst)
