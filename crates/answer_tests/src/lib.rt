@@ -12,6 +12,8 @@ mod lowering;
 #[cfg(test)]
 mod pacing;
 #[cfg(test)]
+mod reasons;
+#[cfg(test)]
 mod rewriting;
 #[cfg(test)]
 mod scanning;

@@ -2,7 +2,8 @@
 
 use crate::fixtures::*;
 use paced_images::{SwitchSite, pace, useful_sites};
-use scale_base::{EdgeKind, Summary};
+use scale_base::{EdgeKind, End, Summary};
+use speed_sim::simulate;
 use std::alloc::Global;
 use std::test::Fail;
 
@@ -11,6 +12,15 @@ const STRAIGHT: [u32; 15] = [
     0x0262C2B3, 0x0262C2B3, 0x0262C2B3, 0x0262C2B3, 0x0262C2B3, 0x0262C2B3, 0x0262C2B3, 0x0262C2B3,
     0x0040006F, 0x0262C2B3, 0x0262C2B3, 0x0262C2B3, 0x0262C2B3, 0x05D00893, 0x00000073,
 ];
+
+/// Eight turns of a loop from 0x10004 to its branch at 0x10018, of four divisions each, and an exit.
+const TURNS: [u32; 9] = [
+    0x00800313, 0x0262C2B3, 0x0262C2B3, 0x0262C2B3, 0x0262C2B3, 0xFFF30313, 0xFE0316E3, 0x05D00893,
+    0x00000073,
+];
+
+const TURNS_LOOP: &str =
+    "version = 1\n[[loop]]\nheader = 0x10004\nranges = [[0x10004, 0x1001C]]\nbound = 7\n";
 
 /// What `pace` makes of files that the program would load.
 fn paced(
@@ -35,6 +45,20 @@ fn paced(
         )
         .ok()
         .ok_or("paced")?,
+    )
+}
+
+/// The same of `TURNS`, whose loop is tallied.
+fn tallied(alloc: Global, image: &[u8], machine: &str) -> Result<(Vec<u8>, Summary), Fail> {
+    if image.len() > 4_194_304 || machine.len() > 1_048_576 {
+        return Err(Fail::from("files that are too long"));
+    }
+    let loops = TURNS_LOOP.as_bytes();
+    let machine = machine.as_bytes();
+    Ok(
+        pace(alloc, image, machine, loops, &[], false, &[0x10004], 0)
+            .ok()
+            .ok_or("tallied")?,
     )
 }
 
@@ -141,5 +165,81 @@ fn keeps_the_sites_whose_switch_lowers_a_level(rt: HostRuntime) -> Result<(), Fa
     assert_eq!(rt; useful(alloc, &image, 500, &sites)?, 1);
     // Here the starting level leaves too little time for level 0.
     assert_eq!(rt; useful(alloc, &image, 330, &sites)?, 0);
+    Ok(())
+}
+
+/// With the stub of its branch a turn takes 59 cycles. On a back edge 470 are left at most, less 59 for each turn taken; the starting level takes 934 time units of 1,200
+/// for all 467 cycles, and at the lowest level each cycle takes 2 more: so from 6 turns on, with 116 left, there is time for the switch.
+#[test]
+fn lowers_the_level_from_a_turn_on(rt: HostRuntime) -> Result<(), Fail> {
+    let alloc = rt.alloc();
+    let image = plain_image(alloc, &TURNS)?;
+    let machine = machine_for(1200).text(alloc)?;
+    let (bytes, summary) = tallied(alloc, &image, &machine)?;
+    let expected = Summary {
+        start: 1,
+        worst: 467,
+        time: 934,
+        deadline: 1200,
+        stub_cycles: 117,
+        switch_edges: 1,
+        exit_edges: 0,
+        count_edges: 1,
+        stub_bytes: 56,
+    };
+    assert_eq!(rt; summary, expected);
+    // addi t0,t0,-6 and andi t0,t0,-2040
+    assert!(rt; has_word(&bytes, 0xFFA28293) && has_word(&bytes, 0x8082F293));
+    let run = simulate(alloc, &bytes, machine.as_bytes(), &[], None)
+        .ok()
+        .ok_or("a run")?;
+    let meter = &run.meter;
+    assert_eq!(rt; run.end, End::Exited(0));
+    assert_eq!(rt;
+        (
+            meter.cycles,
+            meter.time,
+            meter.energy,
+            meter.switches,
+            meter.level
+        ),
+        (467, 1176, 1189, 1, 0)
+    );
+    Ok(())
+}
+
+/// Behind the jump 48 cycles are left, which take 96 time units more at the lowest level, and the switch takes 10. The starting level takes 262 for all 131.
+#[test]
+fn stores_the_lowest_level_by_one_instruction(rt: HostRuntime) -> Result<(), Fail> {
+    let alloc = rt.alloc();
+    let image = plain_image(alloc, &STRAIGHT)?;
+    let jump = SwitchSite {
+        at: 0x10020,
+        kind: EdgeKind::Jump,
+        lowest: true,
+    };
+    // sw x0,-4(x0) where there is time for it, and sw x0,-2044(x0) where there is none
+    let rows = [
+        (368, 0xFE002E23, 0x80002223, 1),
+        (367, 0x80002223, 0xFE002E23, 0),
+    ];
+    for (deadline, word, other, of_use) in rows {
+        let machine = machine_for(deadline).text(alloc)?;
+        let (bytes, numbers) = paced(alloc, &image, &machine, &[jump])?;
+        assert_eq!(rt;
+            (
+                numbers.start,
+                numbers.worst,
+                numbers.stub_cycles,
+                numbers.stub_bytes
+            ),
+            (1, 131, 3, 8)
+        );
+        assert!(rt;
+            has_word(&bytes, word) && !has_word(&bytes, other),
+            "deadline {deadline}"
+        );
+        assert_eq!(rt; useful(alloc, &image, deadline, &[jump])?, of_use);
+    }
     Ok(())
 }

@@ -15,7 +15,7 @@ use Rattle.scale_base.specs.declared.stepping.Class.{Class}
 use Rattle.power_model.specs.declared.power.Costs.{Costs}
 use Rattle.power_model.specs.Price.{cycles_of}
 use Rattle.power_model.specs.Switches.{costs_of}
-use Rattle.stored_runs.specs.Cycles.{fragment_cost}
+use Rattle.stored_runs.specs.Cycles.{fragment_cost, fragment_tail}
 use Rattle.cost_theory.specs.Graph.{Graph, Loops, only}
 use Rattle.cost_theory.specs.Accepted.{HasNoRecursion, AreAccepted, HaveWholeExtents}
 use Rattle.cost_theory.specs.Worst.{Numbers, cost, slack, rest}
@@ -80,9 +80,17 @@ alike cost image l owner (f ∷ fs) =
 pub tail_none : (costs : Costs) (fs : List ForeignFragment) → fs ≡ [] → IsTailOf costs fs 0
 tail_none costs fs e = λ image l owner. sym (ap (λ (xs : List ForeignFragment). tail_cycles (cycles_of costs) (all_with_rows image l owner xs)) e)
 
+-- Behind the store of a fragment are two loads.
+two_loads : (costs : Costs) (image : Image) (l : Loops) (owner : Owner) (f : ForeignFragment) → fragment_tail (cycles_of costs) (with_rows image l owner f) ≡ 2 * costs.load
+two_loads costs image l owner (Switch word) = refl
+two_loads costs image l owner (Exit counter shift table) = refl
+two_loads costs image l owner (Reset counter) = refl
+two_loads costs image l owner (Count counter) = refl
+
 pub tail_some : (costs : Costs) (fs : List ForeignFragment) (f : ForeignFragment) (rest : List ForeignFragment) (cycles : ℕ) → fs ≡ f ∷ rest → cycles ≡ sum_by (foreign_cost (cycles_of costs)) rest → IsTailOf costs fs (2 * costs.load + cycles + costs.jump)
 tail_some costs fs f rest cycles e is = λ image l owner.
-    ap (λ m. 2 * costs.load + m + costs.jump) (is ∙ sym (alike (cycles_of costs) image l owner rest)) ∙ sym (ap (λ (xs : List ForeignFragment). tail_cycles (cycles_of costs) (all_with_rows image l owner xs)) e)
+    ap (λ m. 2 * costs.load + m + costs.jump) (is ∙ sym (alike (cycles_of costs) image l owner rest))
+    ∙ ap (λ x. x + sum_by (fragment_cost (cycles_of costs)) (all_with_rows image l owner rest) + costs.jump) (sym (two_loads costs image l owner f)) ∙ sym (ap (λ (xs : List ForeignFragment). tail_cycles (cycles_of costs) (all_with_rows image l owner xs)) e)
 
 -- ---- rows in the keyed segment are among its words
 

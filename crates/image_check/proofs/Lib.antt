@@ -23,6 +23,7 @@ pub mod LevelLaws
 pub mod FirstLevels
 pub mod StoredTables
 pub mod StoredStubs
+pub mod StoredPlaces
 pub mod StoredScan
 pub mod StoredSites
 pub mod StoredCounts

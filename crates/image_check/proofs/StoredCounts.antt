@@ -15,12 +15,16 @@ mark_counts c marks.Switch = 0
 mark_counts c (marks.Exit i) = 0
 mark_counts c (marks.Reset i) = 0
 mark_counts c (marks.Count i) = if c == i then 1 else 0
+mark_counts c marks.Lowest = 0
+mark_counts c (marks.Tally i) = if c == i then 1 else 0
 
 abbrev pub mark_clears : ℕ → Mark → ℕ
 mark_clears c marks.Switch = 0
 mark_clears c (marks.Exit i) = if c == i then 1 else 0
 mark_clears c (marks.Reset i) = if c == i then 1 else 0
 mark_clears c (marks.Count i) = 0
+mark_clears c marks.Lowest = 0
+mark_clears c (marks.Tally i) = 0
 
 -- ---- marks for the loops of a list, one counter each
 

@@ -122,6 +122,8 @@ module _ (power : PowerModel) (few : length power.levels ≤ 8) (image : Image) 
   words_by (marks.Exit c ∷ ms) (Switch word ∷ fs) e same = let first = first_of _ _ _ _ e in let never : ⊥ = cc in absurd never
   words_by (marks.Reset c ∷ ms) (Switch word ∷ fs) e same = let first = first_of _ _ _ _ e in let never : ⊥ = cc in absurd never
   words_by (marks.Count c ∷ ms) (Switch word ∷ fs) e same = let first = first_of _ _ _ _ e in let never : ⊥ = cc in absurd never
+  words_by (marks.Lowest ∷ ms) (Switch word ∷ fs) e same = let first = first_of _ _ _ _ e in let never : ⊥ = cc in absurd never
+  words_by (marks.Tally c ∷ ms) (Switch word ∷ fs) e same = let first = first_of _ _ _ _ e in let never : ⊥ = cc in absurd never
   words_by [] (Exit counter shift table ∷ fs) e same = let never : ⊥ = cc in absurd never
   words_by (marks.Switch ∷ ms) (Exit counter shift table ∷ fs) e same = let first = first_of _ _ _ _ e in let never : ⊥ = cc in absurd never
   words_by (marks.Exit c ∷ ms) (Exit counter shift table ∷ fs) e same =
@@ -130,6 +132,8 @@ module _ (power : PowerModel) (few : length power.levels ≤ 8) (image : Image) 
       exit_words c counter shift table (same (marks.Exit c) ms refl) parts.counter_is parts.shift_is parts.rows_are
   words_by (marks.Reset c ∷ ms) (Exit counter shift table ∷ fs) e same = let first = first_of _ _ _ _ e in let never : ⊥ = cc in absurd never
   words_by (marks.Count c ∷ ms) (Exit counter shift table ∷ fs) e same = let first = first_of _ _ _ _ e in let never : ⊥ = cc in absurd never
+  words_by (marks.Lowest ∷ ms) (Exit counter shift table ∷ fs) e same = let first = first_of _ _ _ _ e in let never : ⊥ = cc in absurd never
+  words_by (marks.Tally c ∷ ms) (Exit counter shift table ∷ fs) e same = let first = first_of _ _ _ _ e in let never : ⊥ = cc in absurd never
   words_by ms (Reset counter ∷ fs) e same = tt
   words_by ms (Count counter ∷ fs) e same = tt
 
@@ -138,7 +142,7 @@ module _ (power : PowerModel) (few : length power.levels ≤ 8) (image : Image) 
 module _ (power : PowerModel) (original foreign : Image) (notes : List LoopNote) (v : FlowGraph) (tree : LoopView) (plain stored : Numbers) (weighed : IsWeighed power original notes v tree plain stored) (least : Charged) (sites : List Site)
     (are : AreSitesOf original v.code (fragments_at power original v tree (marks_by_slack power original v tree plain) stored least) sites)
     (limits : ℕ → ℕ) (start : ℕ) (p : IsPatched original foreign (length power.levels) limits sites start)
-    (marked_at : (at : ℕ) (q : Place) → place_at sites at ≡ Some q → IsMarkedAt original v.code at)
+    (marked_at : (at : ℕ) (q : Place) → place_at sites at ≡ Some q → IsMarkedAt original v.code at q)
     (low : (at : ℕ) → is_word_address original at ≡ true → at < 2 ^ 32)
     (whole : HasWholeWords foreign) (off : (a : ℕ) → list_any (is_in a) original.text ≡ true → is_keyed (layout_of foreign) a ≡ false)
     (keyed : foreign.keyed_segment ≢ None) (places : segment_places foreign ≡ segment_places original)

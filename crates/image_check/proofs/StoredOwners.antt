@@ -57,12 +57,16 @@ module _ (power : PowerModel) (l : Loops) (counted : List ℕ) (n : Numbers) (to
   one_counts table (marks.Exit i) = refl
   one_counts table (marks.Reset i) = refl
   one_counts table (marks.Count i) = refl
+  one_counts table marks.Lowest = refl
+  one_counts table (marks.Tally i) = refl
 
   one_clears : (table : ℕ) (m : Mark) → clears_it c (found_one table (fragment_of power l counted n told m)) ≡ mark_clears c m
   one_clears table marks.Switch = refl
   one_clears table (marks.Exit i) = refl
   one_clears table (marks.Reset i) = refl
   one_clears table (marks.Count i) = refl
+  one_clears table marks.Lowest = refl
+  one_clears table (marks.Tally i) = refl
 
   all_counts : (table : ℕ) (ms : List Mark) → sum_by (counts_it c) (found_with table (map (fragment_of power l counted n told) ms)) ≡ sum_by (mark_counts c) ms
   all_counts table [] = refl
@@ -88,7 +92,7 @@ clash o none c some = let never : ⊥ = cc in never
 module _ (power : PowerModel) (original foreign : Image) (notes : List LoopNote) (v : FlowGraph) (tree : LoopView) (plain stored : Numbers) (weighed : IsWeighed power original notes v tree plain stored) (least : Charged) (sites : List Site)
     (are : AreSitesOf original v.code (fragments_at power original v tree (marks_by_slack power original v tree plain) stored least) sites)
     (limits : ℕ → ℕ) (start : ℕ) (p : IsPatched original foreign (length power.levels) limits sites start)
-    (marked_at : (at : ℕ) (q : Place) → place_at sites at ≡ Some q → IsMarkedAt original v.code at)
+    (marked_at : (at : ℕ) (q : Place) → place_at sites at ≡ Some q → IsMarkedAt original v.code at q)
     (low : (at : ℕ) → is_word_address original at ≡ true → at < 2 ^ 32)
     (whole : HasWholeWords foreign) (off : (a : ℕ) → list_any (is_in a) original.text ≡ true → is_keyed (layout_of foreign) a ≡ false) where
   abbrev t : Text

@@ -1,33 +1,28 @@
 -- The rows of a rewritten program's tables, what a scan finds in it, and what its edges cost by that.
-use Rattle.std.proofs.Common.{◌≡◌, ◌≢◌, inl, inr, ℕ, zero, suc, ◌+◌, ◌*◌, ◌/◌, ◌^◌, ◌<◌, Bool, true, false, List, [], ◌∷◌, map, length, refl, arith, sym, ap, ◌∙◌, subst, slice_get, Option, Some, None}
+use Rattle.std.proofs.Common.{◌≡◌, ◌≢◌, ℕ, zero, suc, ◌+◌, ◌*◌, ◌/◌, ◌^◌, ◌<◌, true, false, List, [], ◌∷◌, map, length, refl, arith, sym, ap, ◌∙◌, slice_get, Option, Some, None}
 use Rattle.std.specs.Prelude.{All, ◌==◌}
 use Rattle.std.specs.List.{sum_by, list_any}
 use Rattle.std.proofs.Math.Path.{fun_ext}
 use Rattle.std.proofs.lemmas.Bool.{eq-eqb, cond-true}
 use Rattle.std.proofs.lemmas.List.Elements.{All-nil, All-cons}
 use Rattle.std.proofs.lemmas.List.Sums.{sum_by-cons}
-use Rattle.std.proofs.lemmas.Option.{slice_get_within}
 use Rattle.scale_base.specs.declared.edges.Edge.{Edge}
-use Rattle.scale_base.specs.declared.edges.EdgeKind.TheVariants.{Taken, Untaken, Jump}
 use Rattle.scale_base.specs.declared.fragments.Fragment.{Fragment}
 use Rattle.scale_base.specs.declared.fragments.Mark.{Mark}
 use Rattle.scale_base.specs.declared.fragments.Mark.TheVariants as marks
-use Rattle.scale_base.specs.declared.instruction.Instr.{Instr}
-use Rattle.scale_base.specs.declared.instruction.Instr.TheVariants as instr
 use Rattle.scale_base.specs.declared.stepping.Class.{Class}
 use Rattle.scale_base.specs.declared.stepping.Class.TheVariants as classes
-use Rattle.scale_base.specs.Arith.{moved_by}
 use Rattle.scale_base.specs.Image.{Image, is_in, is_word_address}
 use Rattle.scale_base.specs.Layout.{layout_of, is_keyed}
 use Rattle.power_model.specs.Numbers.{PowerModel}
 use Rattle.power_model.specs.Switches.{costs_of}
 use Rattle.cost_theory.specs.Graph.{Loops}
-use Rattle.cost_theory.specs.Reached.{Reached, Code, edge_at, edges_of}
+use Rattle.cost_theory.specs.Reached.{Code, edge_at}
 use Rattle.cost_theory.specs.Worst.{Numbers}
-use Rattle.cost_theory.proofs.Laws.{Within, edge_of_word}
+use Rattle.cost_theory.proofs.Laws.{edge_of_word}
 use Rattle.cycle_laws.specs.Charged.{Charged}
-use Rattle.code_text.specs.Text.{Text, text_of, instr_at, instr_kind, kind_at}
-use Rattle.code_text.specs.EdgeCosts.{class_by, edge_class, weights}
+use Rattle.code_text.specs.Text.{Text, text_of, kind_at}
+use Rattle.code_text.specs.EdgeCosts.{edge_class, weights}
 use Rattle.graph_runs.specs.Laws.{IsProgramOf}
 use Rattle.code_graph.specs.FlowGraph.{FlowGraph}
 use Rattle.loop_file.specs.declared.notes.LoopNote.{LoopNote}
@@ -35,7 +30,7 @@ use Rattle.loop_file.specs.Kept.{noted_loops}
 use Rattle.loop_tree.specs.Tree.{LoopView, loops}
 use Rattle.level_tables.specs.Tables as tables
 use Rattle.scale_sites.specs.Counters.{counted_loops}
-use Rattle.stub_writer.specs.Stubs.{Site, Place, Forked, Straight}
+use Rattle.stub_writer.specs.Stubs.{Site, Place}
 use Rattle.stored_runs.specs.Cycles.{fragment_cost}
 use Rattle.stored_runs.specs.Marks.{place_at, fragments_of_class, jumps_by}
 use Rattle.stored_runs.specs.Patched.{IsPatched}
@@ -48,11 +43,11 @@ use Rattle.image_check.specs.Safe.{Owner, owner_bound, sites_of}
 use Rattle.image_check.proofs.OnEdges.{reached_word}
 use Rattle.image_check.proofs.StoredTables.{HasItsRows}
 use Rattle.image_check.proofs.StoredStubs.{HasWholeWords}
+use Rattle.image_check.proofs.StoredPlaces.{all_on}
 use Rattle.image_check.proofs.StoredScan as scan
 use Rattle.image_check.proofs.StoredScan.{IsMarkedAt, HaveItsRows}
 use Rattle.image_check.proofs.StoredSites.{place_same}
 use Rattle.image_check.proofs.StoredCounts.{mark_clears}
-use Rattle.stored_runs.specs.Stubbed.{IsOfImage}
 use Rattle.image_check.proofs.StoredOwners as owned
 
 exit_clears : (c : ℕ) (ms : List Mark) (i : ℕ) → slice_get ms i ≡ Some (marks.Exit c) → 0 < sum_by (mark_clears c) ms
@@ -77,11 +72,13 @@ rows_of_marks power l counted n told owner (m ∷ ms) own =
         rows_count power b (n.iteration (loop_of counted c)) told ∙ ap (λ o. owner_bound l o / 2 ^ tables.shift_of b + 1) (sym (h c refl))
     by (marks.Reset c) h = tt
     by (marks.Count c) h = tt
+    by marks.Lowest h = tt
+    by (marks.Tally c) h = tt
 
 module _ (power : PowerModel) (original foreign : Image) (notes : List LoopNote) (v : FlowGraph) (tree : LoopView) (plain stored : Numbers) (weighed : IsWeighed power original notes v tree plain stored) (least : Charged) (sites : List Site)
     (are : AreSitesOf original v.code (fragments_at power original v tree (marks_by_slack power original v tree plain) stored least) sites)
     (limits : ℕ → ℕ) (start : ℕ) (p : IsPatched original foreign (length power.levels) limits sites start)
-    (marked_at : (at : ℕ) (q : Place) → place_at sites at ≡ Some q → IsMarkedAt original v.code at)
+    (marked_at : (at : ℕ) (q : Place) → place_at sites at ≡ Some q → IsMarkedAt original v.code at q)
     (low : (at : ℕ) → is_word_address original at ≡ true → at < 2 ^ 32)
     (whole : HasWholeWords foreign) (off : (a : ℕ) → list_any (is_in a) original.text ≡ true → is_keyed (layout_of foreign) a ≡ false)
     (keyed : foreign.keyed_segment ≢ None) (places : segment_places foreign ≡ segment_places original) where
@@ -120,32 +117,9 @@ module _ (power : PowerModel) (original foreign : Image) (notes : List LoopNote)
       owned.owner_of power original foreign notes v tree plain stored weighed least sites are limits start p marked_at low whole off c e lt (omega (arith, some, clears)))
 
   its : (at : ℕ) (q : Place) → place_at sites at ≡ Some q → HaveItsRows l owner q
-  its at q d = by q (p.stubs [] at q (marked_at at q d).word d).of_image d
-    where
-      source : (f : ℕ) × Reached (kind_at t) t.entry f at
-      source = scan.source original foreign (length power.levels) limits sites start p code prog.reached marked_at low whole off at (marked_at at q d)
-
-      there : (i : Instr) (x : Edge) → instr_at t at ≡ Some i → ((r : Bool) → Within x (edges_of (instr_kind t at i) at r)) → (e : ℕ) × (slice_get code.edges e ≡ Some x)
-      there i x is within = scan.edge_there original foreign (length power.levels) limits sites start p code prog.reached marked_at low whole off at source.0 i x source.1 is within
-
-      rows : (q : Place) (x : Edge) (class : Class) → place_at sites at ≡ Some q → x.at ≡ at → edge_class t (Some x) ≡ Some class → (e : ℕ) × (slice_get code.edges e ≡ Some x) → All (HasItsRows l owner) (fragments_of_class (Some q) class)
-      rows q x class d here is e =
-          let lt = slice_get_within code.edges e.0 x e.1 in
-          let way = are.ways e.0 class lt (ap (edge_class t) e.1 ∙ is) in
-          let same : fragments_of_class (Some q) class ≡ frags e.0 = ap (λ o. fragments_of_class o class) (sym d) ∙ (ap (λ a. fragments_of_class (place_at sites a) class) (sym (ap edge_at e.1 ∙ here)) ∙ way) in
-          subst (All (HasItsRows l owner)) (sym same) (edge_rows e.0 lt)
-
-      by : (q : Place) → IsOfImage original at q → place_at sites at ≡ Some q → HaveItsRows l owner q
-      by (Forked op rs1 rs2 untaken taken) of d =
-          let i = instr.Branch op rs1 rs2 of.0 in
-          let x : Edge = record { at = at; kind = Taken; to = moved_by at of.0 } in
-          let y : Edge = record { at = at; kind = Untaken; to = at + 4 } in (
-            rows (Forked op rs1 rs2 untaken taken) y classes.Untaken d refl (ap (λ o. class_by o Untaken) of.1) (there i y of.1 (λ r. inr (inl refl))),
-            rows (Forked op rs1 rs2 untaken taken) x classes.Taken d refl (ap (λ o. class_by o Taken) of.1) (there i x of.1 (λ r. inl refl)),
-          )
-      by (Straight w) of d =
-          let x : Edge = record { at = at; kind = Jump; to = moved_by at of.0 } in
-          rows (Straight w) x classes.Jump d refl (ap (λ o. class_by o Jump) of.1) (there (instr.Jal 0 of.0) x of.1 (λ r. inl refl))
+  its at q d =
+      let m = marked_at at q d in
+      all_on original code prog.reached frags sites are (HasItsRows l owner) edge_rows at m.edge m.low m.starts q d (p.stubs [] at q m.word d).of_image
 
   -- ---- the scan
 

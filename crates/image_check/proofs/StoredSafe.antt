@@ -2,6 +2,7 @@
 use Rattle.std.proofs.Common.{◌≡◌, ◌≢◌, ℕ, suc, ◌+◌, ◌*◌, ◌%◌, ◌^◌, ◌<◌, ◌≤◌, Bool, true, false, cond, List, [], ◌∷◌, map, length, refl, arith, sym, ap, ◌∙◌, subst, slice_get, Some, None, Ok}
 use Rattle.std.specs.Prelude.{All, nat_le, nat_lt, filter, ◌==◌}
 use Rattle.std.specs.List.{list_any}
+use Rattle.std.proofs.lemmas.List.Elements.{All-nil, All-cons}
 use Rattle.std.proofs.lemmas.Bool.{and_parts, and_from, eqb-true, leb-true, ltb-true, le-leb, lt-ltb}
 use Rattle.scale_base.specs.Image.{Image, LoadSegment, image_of, contents, is_in, is_word_address}
 use Rattle.scale_base.specs.Layout.{layout_of, is_plain_segment, is_keyed}
@@ -32,15 +33,21 @@ use Rattle.stored_runs.specs.Patched.{IsPatched}
 use Rattle.paid_runs.specs.Marked.{extra_site_weights}
 use Rattle.paid_runs.specs.Timely.{weights_of}
 use Rattle.foreign_scan.specs.Scanned.{Found, segment_place, segment_places}
-use Rattle.rewritten_runs.specs.Stubs.{IsWeighed, HasStubs, rewritten_file}
-use Rattle.rewritten_runs.proofs.Laws.{IsSupplied, supplied}
+use Rattle.rewritten_runs.specs.Stubs.{IsWeighed, HasStubs, rewritten_file, by_slack, marks_by_slack, fragment_of, fragments_at, told_at}
+use Rattle.rewritten_runs.proofs.Laws.{IsPlainMark, IsSupplied, program_is, rule_marks, supplied}
 use Rattle.image_check.specs.Passing.{IsSafeAt, RewrittenImagesAreSafe}
 use Rattle.image_check.specs.Safe.{Owner, sites_of, IsSafeImage}
+use Rattle.image_check.proofs.StoredTables.{IsPlain}
+use Rattle.image_check.proofs.StoredPlaces.{all_on}
 use Rattle.image_check.proofs.StoredStubs.{HasWholeWords}
 use Rattle.image_check.proofs.StoredScan.{IsMarkedAt}
 use Rattle.image_check.proofs.StoredOwners as owned
 use Rattle.image_check.proofs.StoredRows as rowed
 use Rattle.scale_base.specs.declared.fragments.Fragment.{Fragment}
+use Rattle.scale_base.specs.declared.fragments.Mark.{Mark}
+use Rattle.scale_base.specs.declared.fragments.Mark.TheVariants as marks
+use Rattle.level_tables.specs.Tables.{EdgeNumbers}
+use Rattle.scale_sites.specs.Counters.{counted_loops}
 use Rattle.image_check.proofs.StoredLevels as leveled
 
 -- ---- the file and the segments
@@ -96,19 +103,41 @@ whole_words image s base block start n even size a j word on lt =
 
 -- ---- marked instructions
 
+-- at the address of an instruction of the text an edge starts
+record IsEdgeAt (original : Image) (code : Code) (at : ℕ) : Type 0 where
+  word : is_word_address original at ≡ true
+  edge : ℕ
+  low : edge < length code.edges
+  starts : edge_at (slice_get code.edges edge) ≡ at
+
 marked_in : (original : Image) (code : Code) (frags : ℕ → List Fragment) (sites : List Site) (at : ℕ) (q : Place) → All (λ site. (is_word_address original site.at ≡ true) × IsOfImage original site.at site.place) sites
-    → All (λ site. (e : ℕ) × (e < length code.edges) × (edge_at (slice_get code.edges e) ≡ site.at) × (frags e ≢ [])) sites → place_at sites at ≡ Some q → IsMarkedAt original code at
+    → All (λ site. (e : ℕ) × (e < length code.edges) × (edge_at (slice_get code.edges e) ≡ site.at) × (frags e ≢ [])) sites → place_at sites at ≡ Some q → IsEdgeAt original code at
 marked_in original code frags [] at q words some e = let never : ⊥ = cc in absurd never
 marked_in original code frags (s ∷ sites) at q words some e =
     step (s.at == at) refl e (λ f. marked_in original code frags sites at q (λ k d lt. words (suc k) d (omega (arith, lt))) (λ k d lt. some (suc k) d (omega (arith, lt))) f)
   where
-    step : (b : Bool) → (s.at == at) ≡ b → cond b (Some s.place) (place_at sites at) ≡ Some q → (place_at sites at ≡ Some q → IsMarkedAt original code at) → IsMarkedAt original code at
+    step : (b : Bool) → (s.at == at) ≡ b → cond b (Some s.place) (place_at sites at) ≡ Some q → (place_at sites at ≡ Some q → IsEdgeAt original code at) → IsEdgeAt original code at
     step true is f go =
         let same : s.at ≡ at = eqb-true s.at at is in
         let w = words 0 s (omega arith) in
         let x = some 0 s (omega arith) in
         record { word = ap (is_word_address original) (sym same) ∙ w.0; edge = x.0; low = x.1; starts = x.2 ∙ same }
     step false is f go = go f
+
+-- fragments of plain marks are of the forms that a scan finds
+plain_of_marks : (power : PowerModel) (l : Loops) (counted : List ℕ) (n : Numbers) (told : EdgeNumbers) (ms : List Mark) → All IsPlainMark ms → All IsPlain (map (fragment_of power l counted n told) ms)
+plain_of_marks power l counted n told [] plain = All-nil IsPlain
+plain_of_marks power l counted n told (m ∷ ms) plain =
+    All-cons IsPlain (fragment_of power l counted n told m) (map (fragment_of power l counted n told) ms) (by m (plain 0 m (omega arith)))
+    (plain_of_marks power l counted n told ms (λ k d lt. plain (suc k) d (omega (arith, lt))))
+  where
+    by : (m : Mark) → IsPlainMark m → IsPlain (fragment_of power l counted n told m)
+    by marks.Switch p = tt
+    by (marks.Exit c) p = tt
+    by (marks.Reset c) p = tt
+    by (marks.Count c) p = tt
+    by marks.Lowest p = absurd p
+    by (marks.Tally c) p = absurd p
 
 -- one file is of one image
 one_image : (file : List ℕ) (one other : Image) → image_of file ≡ Ok one → image_of file ≡ Ok other → one ≡ other
@@ -141,8 +170,27 @@ module _ (power : PowerModel) (ok : IsPowerModel power) (file : List ℕ) (origi
   patched : IsPatched original rewritten (length power.levels) sup.limits sites start
   patched = stubbed_patched file original (length power.levels) sup.limits sites base start rewritten sup.stubbed
 
-  marked_at : (at : ℕ) (q : Place) → place_at sites at ≡ Some q → IsMarkedAt original code at
-  marked_at at q e = marked_in original code _ sites at q stubs.sites_are.words stubs.sites_are.some e
+  abbrev marked : ℕ → List Mark
+  marked = marks_by_slack power original v tree plain
+
+  abbrev frags : ℕ → List Fragment
+  frags = fragments_at power original v tree marked stored least
+
+  plain_fragments : (e : ℕ) → e < length code.edges → All IsPlain (frags e)
+  plain_fragments e lt =
+      plain_of_marks power l (counted_loops tree) stored (told_at power original v tree marked stored least e) (marked e) (rule_marks v tree (by_slack power original v tree plain) e)
+
+  marked_at : (at : ℕ) (q : Place) → place_at sites at ≡ Some q → IsMarkedAt original code at q
+  marked_at at q e =
+      let m = marked_in original code frags sites at q stubs.sites_are.words stubs.sites_are.some e in
+      let reached = (program_is power original notes v tree plain stored weighed).reached in
+      record {
+        word = m.word;
+        edge = m.edge;
+        low = m.low;
+        starts = m.starts;
+        plain = all_on original code reached frags sites stubs.sites_are IsPlain plain_fragments at m.edge m.low m.starts q e (patched.stubs [] at q m.word e).of_image;
+      }
 
   low : (at : ℕ) → is_word_address original at ≡ true → at < 2 ^ 32
   low at word = let b = word_bound t (setting_of original 0 []) (text_of_layout file original 0 [] read) at (and_parts (at % 4 == 0) (list_any (is_in at) original.text) word).1 in omega (arith, b)

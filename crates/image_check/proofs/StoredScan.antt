@@ -21,7 +21,7 @@ use Rattle.scale_base.proofs.Laws.{word_back}
 use Rattle.rv_encode.specs.Jumps.{distance}
 use Rattle.cost_theory.specs.Graph.{Loops}
 use Rattle.cost_theory.specs.Reached.{Reached, Reached.onward, Code, LeadsTo, edge_at, edges_of, call_returns}
-use Rattle.cost_theory.proofs.Laws.{Within, word_edge, edge_of_word, source_reached}
+use Rattle.cost_theory.proofs.Laws.{Within, edge_of_word}
 use Rattle.code_text.specs.Text.{Text, text_of, instr_at, instr_kind, kind_at}
 use Rattle.code_text.specs.EdgeCosts.{class_by, edge_class}
 use Rattle.code_text.specs.TextGraph.{IsReachedCode}
@@ -36,27 +36,28 @@ use Rattle.foreign_scan.specs.declared.fragment.ForeignFragment.TheVariants.{Exi
 use Rattle.foreign_scan.specs.Form.{IsStub, AreRowsIn}
 use Rattle.foreign_scan.specs.Scanned.{Found, segment_places, CanBePatched, IsChanged, IsPatch, KeepsForm, IsOn, IsFirstCounted, IsLastRow, HasRows, AreFound, IsScanned}
 use Rattle.image_check.specs.Safe.{Owner, owner_bound}
-use Rattle.image_check.proofs.StoredTables.{found_with, exit_on, HasItsRows, exit_rows_in}
+use Rattle.image_check.proofs.StoredTables.{IsPlain, found_with, exit_on, HasItsRows, exit_rows_in}
+use Rattle.image_check.proofs.StoredPlaces.{AllOn, source_of, kind_of, edge_of}
 use Rattle.image_check.proofs.StoredStubs.{reaches_to, HasWholeWords, found_of, stub_is, jump_is, stub_keyed}
 
--- an instruction that is marked is one of the text, at which an edge starts
-pub record IsMarkedAt (original : Image) (code : Code) (at : ℕ) : Type 0 where
+-- an instruction that is marked is one of the text, at which an edge starts, and its fragments are of the forms that a scan finds
+pub record IsMarkedAt (original : Image) (code : Code) (at : ℕ) (q : Place) : Type 0 where
   pub word : is_word_address original at ≡ true
   pub edge : ℕ
   pub low : edge < length code.edges
   pub starts : edge_at (slice_get code.edges edge) ≡ at
+  pub plain : AllOn IsPlain q
 
 -- each way has the rows that its counter needs
 abbrev pub HaveItsRows : Loops → Owner → Place → Type 0
-HaveItsRows l owner (Forked op rs1 rs2 untaken taken) = All (HasItsRows l owner) untaken.fragments × All (HasItsRows l owner) taken.fragments
-HaveItsRows l owner (Straight w) = All (HasItsRows l owner) w.fragments
+HaveItsRows l owner q = AllOn (HasItsRows l owner) q
 
 not_same : (x y : ℕ) → not (x == y) ≡ true → x ≡ y → ⊥
 not_same x y on e = let same = eq-eqb x y e in let never : true ≡ false = sym on ∙ ap not same in let bad : ⊥ = cc in bad
 
 module _ (original foreign : Image) (levels : ℕ) (limits : ℕ → ℕ) (sites : List Site) (start : ℕ) (p : IsPatched original foreign levels limits sites start)
     (code : Code) (reached : IsReachedCode (text_of original) code)
-    (marked : (at : ℕ) (q : Place) → place_at sites at ≡ Some q → IsMarkedAt original code at)
+    (marked : (at : ℕ) (q : Place) → place_at sites at ≡ Some q → IsMarkedAt original code at q)
     (low : (at : ℕ) → is_word_address original at ≡ true → at < 2 ^ 32)
     (whole : HasWholeWords foreign) (off : (a : ℕ) → list_any (is_in a) original.text ≡ true → is_keyed (layout_of foreign) a ≡ false) where
   abbrev t : Text
@@ -90,23 +91,15 @@ module _ (original foreign : Image) (levels : ℕ) (limits : ℕ → ℕ) (sites
 
   -- ---- the instruction at a marked address
 
-  pub source : (at : ℕ) → IsMarkedAt original code at → (f : ℕ) × Reached (kind_at t) t.entry f at
-  source at m =
-      let r = source_reached (kind_at t) t.entry code reached.lists reached.words m.edge m.low in
-      (r.0, subst (λ v. Reached (kind_at t) t.entry r.0 v) m.starts r.1)
+  source : (at : ℕ) {q : Place} → IsMarkedAt original code at q → (f : ℕ) × Reached (kind_at t) t.entry f at
+  source at m = source_of t code reached at m.edge m.low m.starts
 
   kind_is : (at f : ℕ) (i : Instr) → Reached (kind_at t) t.entry f at → instr_at t at ≡ Some i → kind_at t at ≡ instr_kind t at i
-  kind_is at f i r e =
-      let facts = kind_facts t at (reached.words f at r) in
-      let same : facts.2.0 ≡ i = (let a = facts.2.1 in cc) in
-      facts.2.2 ∙ ap (instr_kind t at) same
+  kind_is at f i r e = kind_of t code reached at f i r e
 
   -- an edge of it
-  pub edge_there : (at f : ℕ) (i : Instr) (x : Edge) → Reached (kind_at t) t.entry f at → instr_at t at ≡ Some i → ((r : Bool) → Within x (edges_of (instr_kind t at i) at r)) → (e : ℕ) × (slice_get code.edges e ≡ Some x)
-  edge_there at f i x r is within =
-      let e = word_edge (kind_at t) t.entry code reached.lists f at x r
-      (subst (λ k. Within x (edges_of k at (call_returns code (kind_at t at)))) (sym (kind_is at f i r is)) (within (call_returns code (kind_at t at)))) in
-      (e.0, e.2)
+  edge_there : (at f : ℕ) (i : Instr) (x : Edge) → Reached (kind_at t) t.entry f at → instr_at t at ≡ Some i → ((r : Bool) → Within x (edges_of (instr_kind t at i) at r)) → (e : ℕ) × (slice_get code.edges e ≡ Some x)
+  edge_there at f i x r is within = edge_of t code reached at f i x r is within
 
   -- what it is patched to
   new_is : (at : ℕ) (q : Place) (e : place_at sites at ≡ Some q) → instr_of (word_at bytes at) ≡ Some (jump at (stub_at at q e).stub)
@@ -120,7 +113,7 @@ module _ (original foreign : Image) (levels : ℕ) (limits : ℕ → ℕ) (sites
       ap (moved_by at) (sym same) ∙ reaches_to at stub (low at (marked at q e).word) (stub_at at q e).small
 
   -- it is another word than the original's
-  differs : (at : ℕ) (q : Place) → IsMarkedAt original code at → IsOfImage original at q → (stub : ℕ) → stub < 2 ^ 32 → StubStands env bytes stub q → instr_of (word_at bytes at) ≡ Some (jump at stub) → word_at bytes at ≡ word_at (loaded_byte original) at → ⊥
+  differs : (at : ℕ) (q : Place) → IsMarkedAt original code at q → IsOfImage original at q → (stub : ℕ) → stub < 2 ^ 32 → StubStands env bytes stub q → instr_of (word_at bytes at) ≡ Some (jump at stub) → word_at bytes at ≡ word_at (loaded_byte original) at → ⊥
   differs at (Forked op rs1 rs2 untaken taken) m of stub small stands new same =
       let a : Some (jump at stub) ≡ Some (instr.Branch op rs1 rs2 of.0) = sym new ∙ (ap instr_of same ∙ of.1) in let never : ⊥ = cc in never
   differs at (Straight w) m of stub small stands new same =
@@ -182,26 +175,26 @@ module _ (original foreign : Image) (levels : ℕ) (limits : ℕ → ℕ) (sites
 
   -- ---- stubs
 
-  stub_for : (at stub : ℕ) (q : Place) (stands : StubStands env bytes stub q) → IsOfImage original at q → AreSafeEdges levels limits q → (i : Instr) → instr_at t at ≡ Some i → IsStub foreign at stub i (found_of foreign levels [] stub q stands)
-  stub_for at stub (Forked op rs1 rs2 untaken taken) stands of safe i is =
+  stub_for : (at stub : ℕ) (q : Place) (stands : StubStands env bytes stub q) → IsOfImage original at q → AreSafeEdges levels limits q → AllOn IsPlain q → (i : Instr) → instr_at t at ≡ Some i → IsStub foreign at stub i (found_of foreign levels [] stub q stands)
+  stub_for at stub (Forked op rs1 rs2 untaken taken) stands of safe plain i is =
       let b = of.1 in
       let same : instr.Branch op rs1 rs2 of.0 ≡ i = cc in
       subst (λ j. IsStub foreign at stub j (found_of foreign levels [] stub (Forked op rs1 rs2 untaken taken) stands)) same
-      (stub_is foreign levels [] whole limits at stub op rs1 rs2 of.0 untaken taken stands of.2 of.3 safe.0 safe.1)
-  stub_for at stub (Straight w) stands of safe i is =
+      (stub_is foreign levels [] whole limits at stub op rs1 rs2 of.0 untaken taken stands of.2 of.3 safe.0 safe.1 plain.0 plain.1)
+  stub_for at stub (Straight w) stands of safe plain i is =
       let b = of.1 in
       let same : instr.Jal 0 of.0 ≡ i = cc in
-      subst (λ j. IsStub foreign at stub j (found_of foreign levels [] stub (Straight w) stands)) same (jump_is foreign levels [] whole limits at stub 0 of.0 w stands of.2 safe)
+      subst (λ j. IsStub foreign at stub j (found_of foreign levels [] stub (Straight w) stands)) same (jump_is foreign levels [] whole limits at stub 0 of.0 w stands of.2 safe plain)
 
   pub keeps : (at : ℕ) → IsChanged original foreign at → KeepsForm original foreign code found at
   keeps at c r = by_place at (λ fs. IsStub foreign at (moved_by at r.offset) r.old_instr fs) (λ none. absurd (changed_marked at c none))
       (λ q e.
       let s = stub_at at q e in
-      subst (λ a. IsStub foreign at a r.old_instr (found_of foreign levels [] s.stub q s.stands)) (sym (offset_leads at q e r.offset r.new)) (stub_for at s.stub q s.stands s.of_image s.edges r.old_instr r.old))
+      subst (λ a. IsStub foreign at a r.old_instr (found_of foreign levels [] s.stub q s.stands)) (sym (offset_leads at q e r.offset r.new)) (stub_for at s.stub q s.stands s.of_image s.edges (marked at q e).plain r.old_instr r.old))
 
   -- ---- fragments stand on edges of changed words
 
-  no_edge : (at stub : ℕ) (q : Place) (stands : StubStands env bytes stub q) → IsOfImage original at q → IsMarkedAt original code at → (kind : EdgeKind)
+  no_edge : (at stub : ℕ) (q : Place) (stands : StubStands env bytes stub q) → IsOfImage original at q → IsMarkedAt original code at q → (kind : EdgeKind)
       → ((e : ℕ) (edge : Edge) → slice_get code.edges e ≡ Some edge → edge.at ≡ at → edge.kind ≡ kind → ⊥) → found_of foreign levels [] stub q stands kind ≡ []
   no_edge at stub (Forked op rs1 rs2 untaken taken) stands of m Taken none =
       let s = source at m in

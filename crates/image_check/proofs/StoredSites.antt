@@ -20,14 +20,15 @@ use Rattle.stored_runs.specs.Patched.{IsSafeEdge, AreSafeEdges, IsPatched, HasSt
 use Rattle.foreign_scan.specs.Scanned.{is_changed, IsScanned, Found}
 use Rattle.image_check.specs.Safe.{Owner, all_with_rows, place_by, sites_of}
 use Rattle.image_check.proofs.OnEdges.{changed_place, same_place}
-use Rattle.image_check.proofs.StoredTables.{found_with, HasItsRows, found_again}
+use Rattle.image_check.proofs.StoredTables.{IsPlain, found_with, HasItsRows, found_again}
+use Rattle.image_check.proofs.StoredPlaces.{AllOn}
 use Rattle.image_check.proofs.StoredStubs.{HasWholeWords, found_of}
 use Rattle.image_check.proofs.StoredScan as scan
 use Rattle.image_check.proofs.StoredScan.{IsMarkedAt, HaveItsRows}
 
 module _ (original foreign : Image) (levels : ℕ) (limits : ℕ → ℕ) (sites : List Site) (start : ℕ) (p : IsPatched original foreign levels limits sites start)
     (code : Code) (l : Loops) (owner : Owner) (reached : IsReachedCode (text_of original) code)
-    (marked : (at : ℕ) (q : Place) → place_at sites at ≡ Some q → IsMarkedAt original code at)
+    (marked : (at : ℕ) (q : Place) → place_at sites at ≡ Some q → IsMarkedAt original code at q)
     (low : (at : ℕ) → is_word_address original at ≡ true → at < 2 ^ 32)
     (whole : HasWholeWords foreign) (off : (a : ℕ) → list_any (is_in a) original.text ≡ true → is_keyed (layout_of foreign) a ≡ false)
     (its : (at : ℕ) (q : Place) → place_at sites at ≡ Some q → HaveItsRows l owner q) where
@@ -43,21 +44,23 @@ module _ (original foreign : Image) (levels : ℕ) (limits : ℕ → ℕ) (sites
   abbrev found : Found
   found = scan.found original foreign levels limits sites start p code reached marked low whole off
 
-  way_again : (at : ℕ) (w : Way) (h : WayStands env bytes at w) → IsSafeEdge levels limits w → All (HasItsRows l owner) w.fragments → (to : ℕ) → w.to ≡ to → way to (all_with_rows foreign l owner (found_with h.table w.fragments)) ≡ w
-  way_again at w h safe own to there =
+  way_again : (at : ℕ) (w : Way) (h : WayStands env bytes at w) → IsSafeEdge levels limits w → All IsPlain w.fragments → All (HasItsRows l owner) w.fragments → (to : ℕ) → w.to ≡ to
+      → way to (all_with_rows foreign l owner (found_with h.table w.fragments)) ≡ w
+  way_again at w h safe plain own to there =
       let high = h.high in
-      ap (way to) (found_again foreign levels [] l owner h.table w.fragments safe.ordered own (omega (arith, high)) h.rows) ∙ ap (λ a. way a w.fragments) (sym there)
+      ap (way to) (found_again foreign levels [] l owner h.table w.fragments safe.ordered plain own (omega (arith, high)) h.rows) ∙ ap (λ a. way a w.fragments) (sym there)
 
-  place_again : (at stub : ℕ) (q : Place) (stands : StubStands env bytes stub q) → IsOfImage original at q → AreSafeEdges levels limits q → HaveItsRows l owner q → place_by foreign l owner at (found_of foreign levels [] stub q stands) (instr_at t at) ≡ q
-  place_again at stub (Forked op rs1 rs2 untaken taken) stands of safe own =
+  place_again : (at stub : ℕ) (q : Place) (stands : StubStands env bytes stub q) → IsOfImage original at q → AreSafeEdges levels limits q → AllOn IsPlain q → HaveItsRows l owner q
+      → place_by foreign l owner at (found_of foreign levels [] stub q stands) (instr_at t at) ≡ q
+  place_again at stub (Forked op rs1 rs2 untaken taken) stands of safe plain own =
       let fs = found_of foreign levels [] stub (Forked op rs1 rs2 untaken taken) stands in
       let second = way (moved_by at of.0) (all_with_rows foreign l owner (fs Taken)) in
       ap (place_by foreign l owner at fs) of.1
-      ∙ (ap (λ w. Forked op rs1 rs2 w second) (way_again (stub + 4) untaken stands.untaken_way safe.0 own.0 (plus at 4) of.2)
-      ∙ ap (λ w. Forked op rs1 rs2 untaken w) (way_again stands.to taken stands.taken_way safe.1 own.1 (moved_by at of.0) of.3))
-  place_again at stub (Straight w) stands of safe own =
+      ∙ (ap (λ w. Forked op rs1 rs2 w second) (way_again (stub + 4) untaken stands.untaken_way safe.0 plain.0 own.0 (plus at 4) of.2)
+      ∙ ap (λ w. Forked op rs1 rs2 untaken w) (way_again stands.to taken stands.taken_way safe.1 plain.1 own.1 (moved_by at of.0) of.3))
+  place_again at stub (Straight w) stands of safe plain own =
       let fs = found_of foreign levels [] stub (Straight w) stands in
-      ap (place_by foreign l owner at fs) of.1 ∙ ap (λ x. Straight x) (way_again stub w stands safe own (moved_by at of.0) of.2)
+      ap (place_by foreign l owner at fs) of.1 ∙ ap (λ x. Straight x) (way_again stub w stands safe plain own (moved_by at of.0) of.2)
 
   abbrev stub_at : (at : ℕ) (q : Place) → place_at sites at ≡ Some q → HasStub original env bytes limits at q
   stub_at at q e = p.stubs [] at q (marked at q e).word e
@@ -80,5 +83,5 @@ module _ (original foreign : Image) (levels : ℕ) (limits : ℕ → ℕ) (sites
           (λ r d.
           let same : r ≡ q = (let both : Some r ≡ Some q = sym d ∙ e in cc) in
           let s = stub_at at r d in
-          place_again at s.stub r s.stands s.of_image s.edges (its at r d) ∙ same) in
+          place_again at s.stub r s.stands s.of_image s.edges (marked at r d).plain (its at r d) ∙ same) in
           changed_place original foreign code l owner found reached is at c ∙ ap (λ x. Some x) again

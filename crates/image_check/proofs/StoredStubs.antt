@@ -1,6 +1,6 @@
 -- A stub that stands in the keyed segment of a stored image is in its form.
 use Rattle.std.proofs.Common.{◌≡◌, ℕ, ℤ, ◌+◌, ◌-◌, ◌*◌, ◌%◌, ◌^◌, ◌<◌, true, List, [], ◌∷◌, ◌++◌, length, arith, sym, ap, ◌∙◌, subst}
-use Rattle.std.specs.Prelude.{◌==◌}
+use Rattle.std.specs.Prelude.{All, ◌==◌}
 use Rattle.std.specs.Int.{w32}
 use Rattle.std.proofs.lemmas.Int.{of_z-to_z}
 use Rattle.std.proofs.lemmas.Bool.{and_parts, eqb-true}
@@ -23,7 +23,7 @@ use Rattle.stored_runs.proofs.Laws.{codes_length}
 use Rattle.stored_runs.specs.Patched.{IsSafeEdge}
 use Rattle.foreign_scan.specs.declared.fragment.ForeignFragment.{ForeignFragment}
 use Rattle.foreign_scan.specs.Form.{HoldsAt, Hold, behind_fragments, JumpsTo, IsRunOut, IsStub}
-use Rattle.image_check.proofs.StoredTables.{found_with, found_code, found_lens, found_length, found_foreign, found_first}
+use Rattle.image_check.proofs.StoredTables.{IsPlain, found_with, found_code, found_lens, found_length, found_foreign, found_first}
 
 -- a jump's distance leads there
 pub reaches_to : (from to : ℕ) → from < 2 ^ 32 → to < 2 ^ 32 → moved_by from (distance (from % 2 ^ 32) (to % 2 ^ 32)) ≡ to
@@ -79,12 +79,12 @@ module _ (image : Image) (levels : ℕ) (input : List ℕ) (whole : HasWholeWord
   }
 
   -- a way is a run-out
-  pub run_out : (limits : ℕ → ℕ) (at : ℕ) (w : Way) (h : WayStands env (loaded_byte image) at w) → IsSafeEdge levels limits w → IsRunOut image at w.to (found_with h.table w.fragments)
-  run_out limits at w h safe =
+  pub run_out : (limits : ℕ → ℕ) (at : ℕ) (w : Way) (h : WayStands env (loaded_byte image) at w) → IsSafeEdge levels limits w → All IsPlain w.fragments → IsRunOut image at w.to (found_with h.table w.fragments)
+  run_out limits at w h safe plain =
       let code = fragments_code h.table w.fragments in
       let fs = found_with h.table w.fragments in
       let last = jump (jump_at at w) w.to in
-      let lens = found_lens h.table w.fragments in
+      let lens = found_lens h.table w.fragments plain in
       let size = found_length h.table w.fragments in
       let few = safe.few in
       let place : jump_at at w ≡ behind_fragments at fs = ap (λ n. at + 4 * n) (sym lens) in
@@ -94,24 +94,25 @@ module _ (image : Image) (levels : ℕ) (input : List ℕ) (whole : HasWholeWord
         few = omega (arith, size, few);
         first = found_first h.table w.fragments safe.ordered;
         foreign = found_foreign levels limits h.table w.fragments safe.safe;
-        code = subst (Hold image at) (sym (found_code h.table w.fragments)) (holds_left at code (last ∷ []) h.code);
+        code = subst (Hold image at) (sym (found_code h.table w.fragments plain)) (holds_left at code (last ∷ []) h.code);
         jump = subst (λ a. JumpsTo image a w.to) place (jumps_to (jump_at at w) w.to safe.small there);
       }
 
   -- a stub is in its form
   pub stub_is : (limits : ℕ → ℕ) (v stub : ℕ) (op : BranchOp) (rs1 rs2 : ℕ) (offset : ℤ) (untaken taken : Way) (h : ForkStands env (loaded_byte image) stub op rs1 rs2 untaken taken) → untaken.to ≡ plus v 4 → taken.to ≡ moved_by v offset
-      → IsSafeEdge levels limits untaken → IsSafeEdge levels limits taken → IsStub image v stub (instr.Branch op rs1 rs2 offset) (found_of image levels input stub (Forked op rs1 rs2 untaken taken) h)
-  stub_is limits v stub op rs1 rs2 offset untaken taken h next there safe_untaken safe_taken = record {
+      → IsSafeEdge levels limits untaken → IsSafeEdge levels limits taken → All IsPlain untaken.fragments → All IsPlain taken.fragments
+      → IsStub image v stub (instr.Branch op rs1 rs2 offset) (found_of image levels input stub (Forked op rs1 rs2 untaken taken) h)
+  stub_is limits v stub op rs1 rs2 offset untaken taken h next there safe_untaken safe_taken plain_untaken plain_taken = record {
     offset = h.offset;
     again = holds_one stub (instr.Branch op rs1 rs2 h.offset) h.branch;
-    passed = subst (λ a. IsRunOut image (stub + 4) a (found_with h.untaken_way.table untaken.fragments)) next (run_out limits (stub + 4) untaken h.untaken_way safe_untaken);
+    passed = subst (λ a. IsRunOut image (stub + 4) a (found_with h.untaken_way.table untaken.fragments)) next (run_out limits (stub + 4) untaken h.untaken_way safe_untaken plain_untaken);
     taken = subst (λ a. IsRunOut image a (moved_by v offset) (found_with h.taken_way.table taken.fragments)) (sym h.leads)
-        (subst (λ a. IsRunOut image h.to a (found_with h.taken_way.table taken.fragments)) there (run_out limits h.to taken h.taken_way safe_taken));
+        (subst (λ a. IsRunOut image h.to a (found_with h.taken_way.table taken.fragments)) there (run_out limits h.to taken h.taken_way safe_taken plain_taken));
   }
 
-  pub jump_is : (limits : ℕ → ℕ) (v stub rd : ℕ) (offset : ℤ) (w : Way) (h : WayStands env (loaded_byte image) stub w) → w.to ≡ moved_by v offset → IsSafeEdge levels limits w
+  pub jump_is : (limits : ℕ → ℕ) (v stub rd : ℕ) (offset : ℤ) (w : Way) (h : WayStands env (loaded_byte image) stub w) → w.to ≡ moved_by v offset → IsSafeEdge levels limits w → All IsPlain w.fragments
       → IsStub image v stub (instr.Jal rd offset) (found_of image levels input stub (Straight w) h)
-  jump_is limits v stub rd offset w h there safe = subst (λ a. IsRunOut image stub a (found_with h.table w.fragments)) there (run_out limits stub w h safe)
+  jump_is limits v stub rd offset w h there safe plain = subst (λ a. IsRunOut image stub a (found_with h.table w.fragments)) there (run_out limits stub w h safe plain)
 
   -- the first word of a stub lies in the keyed segment
   pub stub_keyed : (stub : ℕ) (p : Place) → StubStands env (loaded_byte image) stub p → is_keyed (layout_of image) stub ≡ true

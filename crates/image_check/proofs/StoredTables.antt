@@ -23,11 +23,23 @@ use Rattle.foreign_scan.specs.Form.{foreign_code, foreign_len, IsForeign, Choose
 use Rattle.foreign_scan.specs.Scanned.{IsOn}
 use Rattle.image_check.specs.Safe.{Owner, owner_bound, words_from, with_rows, all_with_rows}
 
+-- a fragment of one of the forms that a scan finds
+abbrev pub IsPlain : Fragment → Type 0
+IsPlain (fragments.Switch word) = Unit {0}
+IsPlain (fragments.Exit counter shift rows) = Unit {0}
+IsPlain (fragments.Reset counter) = Unit {0}
+IsPlain (fragments.Count counter) = Unit {0}
+IsPlain (fragments.Lowest down) = ⊥
+IsPlain (fragments.Tally counter shift from) = ⊥
+
+-- A fragment as it is found. Of the two forms that no scan finds something stands here that chooses and counts as they do.
 abbrev pub found_one : (table : ℕ) → Fragment → ForeignFragment
 found_one table (fragments.Switch word) = Switch word
 found_one table (fragments.Exit counter shift rows) = Exit counter shift (table % 2 ^ 32)
 found_one table (fragments.Reset counter) = Reset counter
 found_one table (fragments.Count counter) = Count counter
+found_one table (fragments.Lowest down) = Switch 0
+found_one table (fragments.Tally counter shift from) = Count counter
 
 abbrev pub found_with : (table : ℕ) → List Fragment → List ForeignFragment
 found_with table [] = []
@@ -35,31 +47,36 @@ found_with table (f ∷ fs) = found_one table f ∷ found_with (table + 4 * rows
 
 -- ---- code
 
-one_code : (table : ℕ) (f : Fragment) → foreign_code (found_one table f) ≡ fragment_code table f
-one_code table (fragments.Switch word) = refl
-one_code table (fragments.Exit counter shift rows) = refl
-one_code table (fragments.Reset counter) = refl
-one_code table (fragments.Count counter) = refl
+one_code : (table : ℕ) (f : Fragment) → IsPlain f → foreign_code (found_one table f) ≡ fragment_code table f
+one_code table (fragments.Switch word) plain = refl
+one_code table (fragments.Exit counter shift rows) plain = refl
+one_code table (fragments.Reset counter) plain = refl
+one_code table (fragments.Count counter) plain = refl
+one_code table (fragments.Lowest down) plain = absurd plain
+one_code table (fragments.Tally counter shift from) plain = absurd plain
 
-pub found_code : (table : ℕ) (fs : List Fragment) → flat_map foreign_code (found_with table fs) ≡ fragments_code table fs
-found_code table [] = refl
-found_code table (f ∷ fs) =
+pub found_code : (table : ℕ) (fs : List Fragment) → All IsPlain fs → flat_map foreign_code (found_with table fs) ≡ fragments_code table fs
+found_code table [] plain = refl
+found_code table (f ∷ fs) plain =
     let later = table + 4 * rows_len f in
     flat_map-cons foreign_code (found_one table f) (found_with later fs)
-    ∙ (ap (λ c. c ++ flat_map foreign_code (found_with later fs)) (one_code table f) ∙ ap (λ c. fragment_code table f ++ c) (found_code later fs))
+    ∙ (ap (λ c. c ++ flat_map foreign_code (found_with later fs)) (one_code table f (plain 0 f (omega arith)))
+    ∙ ap (λ c. fragment_code table f ++ c) (found_code later fs (λ k d lt. plain (suc k) d (omega (arith, lt)))))
 
-one_len : (table : ℕ) (f : Fragment) → foreign_len (found_one table f) ≡ code_len f
-one_len table (fragments.Switch word) = refl
-one_len table (fragments.Exit counter shift rows) = refl
-one_len table (fragments.Reset counter) = refl
-one_len table (fragments.Count counter) = refl
+one_len : (table : ℕ) (f : Fragment) → IsPlain f → foreign_len (found_one table f) ≡ code_len f
+one_len table (fragments.Switch word) plain = refl
+one_len table (fragments.Exit counter shift rows) plain = refl
+one_len table (fragments.Reset counter) plain = refl
+one_len table (fragments.Count counter) plain = refl
+one_len table (fragments.Lowest down) plain = absurd plain
+one_len table (fragments.Tally counter shift from) plain = absurd plain
 
-pub found_lens : (table : ℕ) (fs : List Fragment) → sum_by foreign_len (found_with table fs) ≡ sum_by code_len fs
-found_lens table [] = refl
-found_lens table (f ∷ fs) =
+pub found_lens : (table : ℕ) (fs : List Fragment) → All IsPlain fs → sum_by foreign_len (found_with table fs) ≡ sum_by code_len fs
+found_lens table [] plain = refl
+found_lens table (f ∷ fs) plain =
     let later = table + 4 * rows_len f in
-    let one = one_len table f in
-    let rest = found_lens later fs in
+    let one = one_len table f (plain 0 f (omega arith)) in
+    let rest = found_lens later fs (λ k d lt. plain (suc k) d (omega (arith, lt))) in
     omega (arith, one, rest, sum_by-cons foreign_len (found_one table f) (found_with later fs), sum_by-cons code_len f fs)
 
 pub found_length : (table : ℕ) (fs : List Fragment) → length (found_with table fs) ≡ length fs
@@ -73,6 +90,8 @@ one_foreign levels limits table (fragments.Switch word) h = h.0
 one_foreign levels limits table (fragments.Exit counter shift rows) h = (h.0, h.1, omega arith)
 one_foreign levels limits table (fragments.Reset counter) h = h
 one_foreign levels limits table (fragments.Count counter) h = h
+one_foreign levels limits table (fragments.Lowest down) h = omega arith
+one_foreign levels limits table (fragments.Tally counter shift from) h = h.0
 
 pub found_foreign : (levels : ℕ) (limits : ℕ → ℕ) (table : ℕ) (fs : List Fragment) → All (IsSafeFragment levels limits) fs → All IsForeign (found_with table fs)
 found_foreign levels limits table [] h = All-nil IsForeign
@@ -85,6 +104,8 @@ one_quiet table (fragments.Switch word) q = absurd q
 one_quiet table (fragments.Exit counter shift rows) q = absurd q
 one_quiet table (fragments.Reset counter) q = tt
 one_quiet table (fragments.Count counter) q = tt
+one_quiet table (fragments.Lowest down) q = absurd q
+one_quiet table (fragments.Tally counter shift from) q = absurd q
 
 all_quiet : (table : ℕ) (fs : List Fragment) → All IsQuiet fs → All ChoosesNone (found_with table fs)
 all_quiet table [] q = All-nil ChoosesNone
@@ -117,6 +138,8 @@ one_exit at (fragments.Exit c s rows) fs counter shift table e =
     record { rows = rows; others = fs; parts = ap (λ x. fragments.Exit x s rows ∷ fs) first ∙ ap (λ x. fragments.Exit counter x rows ∷ fs) second; place = sym third }
 one_exit at (fragments.Reset c) fs counter shift table e = let never : ⊥ = cc in absurd never
 one_exit at (fragments.Count c) fs counter shift table e = let never : ⊥ = cc in absurd never
+one_exit at (fragments.Lowest down) fs counter shift table e = let never : ⊥ = cc in absurd never
+one_exit at (fragments.Tally c s from) fs counter shift table e = let never : ⊥ = cc in absurd never
 
 pub exit_on : (at : ℕ) (fs : List Fragment) (counter shift table : ℕ) → AreOrdered fs → IsOn (Exit counter shift table) (found_with at fs) → HasExit counter shift table at fs
 exit_on at [] counter shift table q (i, e) = let never : ⊥ = cc in absurd never
@@ -131,6 +154,8 @@ HasItsRows l owner (fragments.Switch word) = Unit {0}
 HasItsRows l owner (fragments.Exit counter shift rows) = length rows ≡ owner_bound l (owner counter) / 2 ^ shift + 1
 HasItsRows l owner (fragments.Reset counter) = Unit {0}
 HasItsRows l owner (fragments.Count counter) = Unit {0}
+HasItsRows l owner (fragments.Lowest down) = Unit {0}
+HasItsRows l owner (fragments.Tally counter shift from) = Unit {0}
 
 module _ (image : Image) (levels : ℕ) (input : List ℕ) where
   abbrev env : Setting
@@ -158,6 +183,8 @@ module _ (image : Image) (levels : ℕ) (input : List ℕ) where
     quiet_again table (fragments.Exit counter shift rows) q = absurd q
     quiet_again table (fragments.Reset counter) q = refl
     quiet_again table (fragments.Count counter) q = refl
+    quiet_again table (fragments.Lowest down) q = absurd q
+    quiet_again table (fragments.Tally counter shift from) q = absurd q
 
     quiets_again : (table : ℕ) (fs : List Fragment) → All IsQuiet fs → all_with_rows image l owner (found_with table fs) ≡ fs
     quiets_again table [] q = refl
@@ -165,22 +192,25 @@ module _ (image : Image) (levels : ℕ) (input : List ℕ) where
         let later = table + 4 * rows_len f in
         ap (λ x. x ∷ all_with_rows image l owner (found_with later fs)) (quiet_again table f (q 0 f (omega arith))) ∙ ap (λ xs. f ∷ xs) (quiets_again later fs (λ k d lt. q (suc k) d (omega (arith, lt))))
 
-    one_again : (table : ℕ) (f : Fragment) → HasItsRows l owner f → table < 2 ^ 32 → Lie env (loaded_byte image) table (fragment_rows f) → with_rows image l owner (found_one table f) ≡ f
-    one_again table (fragments.Switch word) its low h = refl
-    one_again table (fragments.Exit counter shift rows) its low h =
+    one_again : (table : ℕ) (f : Fragment) → IsPlain f → HasItsRows l owner f → table < 2 ^ 32 → Lie env (loaded_byte image) table (fragment_rows f) → with_rows image l owner (found_one table f) ≡ f
+    one_again table (fragments.Switch word) plain its low h = refl
+    one_again table (fragments.Exit counter shift rows) plain its low h =
         let small : table % 2 ^ 32 ≡ table = omega (arith, low) in
         ap (fragments.Exit counter shift)
         (ap (λ a. words_from image a (owner_bound l (owner counter) / 2 ^ shift + 1)) small ∙ (ap (words_from image table) (sym its) ∙ words_are table rows h))
-    one_again table (fragments.Reset counter) its low h = refl
-    one_again table (fragments.Count counter) its low h = refl
+    one_again table (fragments.Reset counter) plain its low h = refl
+    one_again table (fragments.Count counter) plain its low h = refl
+    one_again table (fragments.Lowest down) plain its low h = absurd plain
+    one_again table (fragments.Tally counter shift from) plain its low h = absurd plain
 
     -- with their rows they are the fragments again
-    pub found_again : (table : ℕ) (fs : List Fragment) → AreOrdered fs → All (HasItsRows l owner) fs → table < 2 ^ 32 → Lie env (loaded_byte image) table (rows_by fs) → all_with_rows image l owner (found_with table fs) ≡ fs
-    found_again table [] q its low h = refl
-    found_again table (f ∷ fs) q its low h =
+    pub found_again : (table : ℕ) (fs : List Fragment) → AreOrdered fs → All IsPlain fs → All (HasItsRows l owner) fs → table < 2 ^ 32 → Lie env (loaded_byte image) table (rows_by fs)
+        → all_with_rows image l owner (found_with table fs) ≡ fs
+    found_again table [] q plain its low h = refl
+    found_again table (f ∷ fs) q plain its low h =
         let own = lie_left env (loaded_byte image) table (fragment_rows f) (rows_by fs) (subst (Lie env (loaded_byte image) table) (flat_map-cons fragment_rows f fs) h) in
         let later = table + 4 * rows_len f in
-        ap (λ x. x ∷ all_with_rows image l owner (found_with later fs)) (one_again table f (its 0 f (omega arith)) low own) ∙ ap (λ xs. f ∷ xs) (quiets_again later fs q)
+        ap (λ x. x ∷ all_with_rows image l owner (found_with later fs)) (one_again table f (plain 0 f (omega arith)) (its 0 f (omega arith)) low own) ∙ ap (λ xs. f ∷ xs) (quiets_again later fs q)
 
   -- the rows of an exit lie in the keyed segment
   pub exit_rows_in : (at counter shift table : ℕ) (fs : List Fragment) (n : ℕ) (x : HasExit counter shift table at fs) → at % 4 ≡ 0 → at < 2 ^ 32 → n ≤ length x.rows → Lie env (loaded_byte image) at (rows_by fs) → AreRowsIn image table n

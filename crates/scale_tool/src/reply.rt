@@ -187,11 +187,7 @@ fn seen(alloc: Global, given: Result<SurveyReport, Stop>) -> Result<Reply, NoMem
 }
 
 // What `survey` gives for its four files and its inputs.
-fn surveyed(
-    alloc: Global,
-    files: &PairFiles<'_>,
-    inputs: &Inputs<'_>,
-) -> Result<Reply, NoMemory>
+fn surveyed(alloc: Global, files: &PairFiles<'_>, inputs: &Inputs<'_>) -> Result<Reply, NoMemory>
     ensures { IfOk result (λ reply. Tells (IsSurveyed files.now.image.now files.now.other.now files.now.machine.now files.now.loops.now (files_view inputs.now.items.now)) (text_answer survey_text) (reply_view reply)) }
 {
     seen(
@@ -270,12 +266,7 @@ fn run(
 }
 
 // What `make` gives for a number and a size, with the names of its files beginning alike.
-fn of_number(
-    alloc: Global,
-    number: u64,
-    size: Size,
-    prefix: &str,
-) -> Result<Reply, NoMemory>
+fn of_number(alloc: Global, number: u64, size: Size, prefix: &str) -> Result<Reply, NoMemory>
     ensures { IfOk result (λ reply. MakesMade number size.blocks prefix.now (reply_view reply)) }
 {
     let made = image_maker::make(alloc, number, size.blocks)?;

@@ -96,7 +96,7 @@ fn run<H: Host>(host: &mut H, alloc: Global, words: &[String]) -> Result<u8, Hos
 /// runs it. With 3, `fault_leaves` says how far the answer came, and `promise_behind_a_fault` what the stores promise, where all of them stand nevertheless. That the tool is
 /// complete is `complete` with `answered`, `statuses` and `fault`: where nothing refuses the files the status is no 1, so the command was done, unless the host failed
 /// or memory ran out.
-#[tactic(auto, using(crate::proofs::Promises::answered_keep_promise, crate::proofs::Promises::stored_keep_promise, crate::proofs::OneStatus::status_of_all, crate::proofs::Passing::answered_passes))]
+#[tactic(auto, using(crate::proofs::OneStatus::status_of_all, crate::proofs::Passing::answered_passes))]
 pub fn run_tool<H: Host>(host: &mut H, alloc: Global, words: &[String]) -> u8
     // 2 exactly where the words are no command, and 4 for a command that needs memory.
     ensures statuses { IsTrue (may_answer (command_of (texts words.now)) result) }

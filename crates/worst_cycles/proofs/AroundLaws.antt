@@ -1,13 +1,14 @@
 -- The turns of the loops round each node, one loop after the other.
 use Rattle.std.proofs.Common.{◌≡◌, ◌≢◌, ℕ, zero, suc, ◌+◌, ◌<◌, ◌≤◌, ◌⊎◌, inl, inr, Bool, true, false, List, length, refl, sym, ap, ◌∙◌, subst, arith, ⊎_elim}
-use Rattle.graph_algorithms.specs.Arcs.{number_in_place}
+use Rattle.graph_algorithms.specs.Arcs.{number_in_place, AreDistinct}
 use Rattle.cost_theory.specs.Graph.{sum_below, only}
 use Rattle.cost_theory.specs.Worst.{Numbers, all_of}
 use Rattle.cost_theory.specs.Lists.{body_of}
 use Rattle.code_graph.specs.FlowGraph.{FlowGraph}
 use Rattle.loop_tree.specs.Noted.{node_address}
 use Rattle.std.proofs.lemmas.Bool.{cases_lt, cases_eq}
-use Rattle.loop_tree.specs.Tree.{LoopView, loops}
+use Rattle.std.proofs.lemmas.Option.{slice_get-get_or}
+use Rattle.loop_tree.specs.Tree.{LoopView, IsLoopTree, loops}
 use Rattle.worst_cycles.specs.declared.plan.Plan.{Plan}
 use Rattle.worst_cycles.specs.declared.visits.Visit.{Visit}
 use Rattle.worst_cycles.specs.Worst.{by_edge}
@@ -101,3 +102,11 @@ turns_small old new body most turns room inside outside small low k =
     let r : number_in_place new k ≤ most + room = omega arith in r)
     (λ (none : (i : ℕ) → i < length body → number_in_place body i ≢ k). let kept = outside k none in let r : number_in_place new k ≤ most + room = omega arith in r)
     (among_or body k (length body))
+
+-- no number comes twice in a body
+pub body_distinct : (v : FlowGraph) (t : LoopView) (extent : ℕ → ℕ → Bool) → IsLoopTree v extent t → (l : ℕ) → l < length t.headers → AreDistinct (body_of t.bodies l)
+body_distinct v t extent is l ll i j ij jl same =
+    let il : i < length (body_of t.bodies l) = omega arith in
+    let up : number_in_place (body_of t.bodies l) i < number_in_place (body_of t.bodies l) j =
+    (is.body l ll).ascending i j (number_in_place (body_of t.bodies l) i) (number_in_place (body_of t.bodies l) j) ij (slice_get-get_or (body_of t.bodies l) i 0 il) (slice_get-get_or (body_of t.bodies l) j 0 jl) in
+    omega arith

@@ -52,3 +52,10 @@ returns c =
     let zero : c.loop-i.i ≡ 0 = omega arith in
     contexts_last c.args.visited.now.planned.graph.now c.args.visited.now.planned.tree.now (by_edge c.args.visited.now.planned.weights.now) c.args.visited.now.planned.plan.now c.loop-i.context.items c.loop-i.invariant.size
     (subst (λ i. AreContextsTo c.args.visited.now.planned.graph.now c.args.visited.now.planned.tree.now (by_edge c.args.visited.now.planned.weights.now) c.args.visited.now.planned.plan.now i c.loop-i.context.items) zero c.loop-i.invariant.contexts)
+
+pub raise_contexts-requires-clause-node : goal.raise_contexts-requires-clause-node
+raise_contexts-requires-clause-node c =
+    let within = c.loop-i.invariant.within in
+    let il : c.loop-i.i - 1 < length c.args.visited.now.planned.plan.now.order.items = omega arith in
+    let node : number_in_place c.args.visited.now.planned.plan.now.order.items (c.loop-i.i - 1) ≡ c.index.result.now = value_at c.args.visited.now.planned.plan.now.order.items (c.loop-i.i - 1) c.index.result.now 0 il c.index.ensures in
+    subst (λ k. k < length c.args.visited.now.planned.graph.now.code.nodes) node (c.requires.visited.planned.plan.order.within (c.loop-i.i - 1) il)

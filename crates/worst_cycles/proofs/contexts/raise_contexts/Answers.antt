@@ -72,3 +72,13 @@ returns-clause-raised c = λ n s.
     raised_last c.args.visited.now.planned.graph.now c.args.visited.now.planned.tree.now c.args.k
     (λ e lt from. (c.edges_of-first.ensures.edges e lt).0 from)
     (subst (λ e. AreRaisedTo (graph c.args.visited.now.planned.graph.now) (loops c.args.visited.now.planned.graph.now c.args.visited.now.planned.tree.now) (by_edge c.args.visited.now.planned.weights.now) n (node_address c.args.visited.now.planned.graph.now c.args.k) c.edges_of-first.result.0 e c.args.context.now.items c.loop-e.context.items) last (c.loop-e.invariant.raised n s))
+
+pub raise-requires : goal.raise-requires
+raise-requires c =
+    let within = c.edges_of-first.ensures.within in
+    let lt : c.loop-e.e < length c.args.visited.now.planned.graph.now.code.edges = omega arith in
+    let call = c.comes_back.ensures.some c.in-Some.f c.in-Some.is in
+    subst (λ n. c.in-Some.f < n) (sym (c.loop-e.invariant.size ∙ c.requires.size)) (c.requires.visited.planned.flow.program.callee_function c.loop-e.e c.in-Some.f lt call.calls)
+
+pub returns-clause-size : goal.returns-clause-size
+returns-clause-size c = c.loop-e.invariant.size

@@ -1,10 +1,11 @@
 use Rattle.std.proofs.Common.{◌≡◌, ℕ, ◌+◌, ◌^◌, ◌<◌, ◌≤◌, true, List, [], ◌∷◌, ◌++◌, length, length-append, slice_index, Option, Some, arith, refl, sym, ap, subst}
 use Rattle.graph_algorithms.specs.Arcs.{number_in_place}
+use Rattle.cost_theory.specs.Lists.{body_of}
 use Rattle.loop_tree.specs.Tree.{loops}
 use Rattle.worst_cycles.specs.Worst.{by_edge}
 use Rattle.worst_cycles.specs.Rests.{rest_in, address_at, AreFoundTo}
 use Rattle.worst_cycles.proofs.SearchLaws.{value_at}
-use Rattle.worst_cycles.proofs.IterationLaws.{step_inside, step_node, next_rest, found_more, rests_small, rest_too_long}
+use Rattle.worst_cycles.proofs.IterationLaws.{step_inside, step_node, next_rest, found_more, rests_small, rest_too_long, body_within}
 use Rattle.worst_cycles.proofs.iteration.rests_of.Goals as goal
 
 pub index-k-requires : goal.index-k-requires
@@ -77,4 +78,12 @@ returns c =
       sizes = (let r : length c.loop-m.rests.found.items ≡ length c.loop-m.rests.steps.items = omega arith in r);
       table = record { rise = c.loop-m.invariant.body.places.rise; small = c.loop-m.invariant.small };
       found = subst (λ m. AreFoundTo c.args.planned.now.graph.now c.args.planned.now.tree.now (by_edge c.args.planned.now.weights.now) c.args.planned.now.plan.now c.args.l c.loop-m.rests.steps.items m c.loop-m.rests.found.items) last c.loop-m.invariant.found;
+    }
+
+pub body_places-requires : goal.body_places-requires
+body_places-requires c =
+    let size = c.requires.planned.plan.places_size in
+    record {
+      within = subst (λ xs. (i : ℕ) → i < length xs → number_in_place xs i < length c.args.planned.now.plan.now.places.items) (sym c.body.ensures)
+          (λ i il. subst (λ n. number_in_place (body_of c.args.planned.now.tree.now.bodies c.args.l) i < n) (sym size) (body_within c.args.planned.now.graph.now c.args.planned.now.tree.now c.requires.planned.tree.0 c.requires.planned.tree.1 c.args.l i c.requires.within il));
     }

@@ -3,6 +3,7 @@ use Rattle.graph_algorithms.specs.Arcs.{number_in_place}
 use Rattle.worst_cycles.specs.Worst.{by_edge}
 use Rattle.worst_cycles.specs.Visits.{visit_at}
 use Rattle.worst_cycles.specs.Lefts.{AreLeftsTo}
+use Rattle.worst_cycles.proofs.SearchLaws.{value_at}
 use Rattle.worst_cycles.proofs.WorstLaws.{header_iteration}
 use Rattle.worst_cycles.proofs.IterationLaws.{IsBodyAt, step_inside}
 use Rattle.worst_cycles.proofs.LeftLaws.{lefts_first, lefts_more, lefts_on, lefts_last, visited_before, headed_loop, iteration_small, left_small, unheaded}
@@ -101,3 +102,28 @@ returns c =
     let zero : c.loop-i.i ≡ 0 = omega arith in
     lefts_last c.args.visited.now.planned.graph.now c.args.visited.now.planned.tree.now (by_edge c.args.visited.now.planned.weights.now) c.args.visited.now.planned.plan.now c.loop-i.left.items c.loop-i.invariant.size
     (subst (λ i. AreLeftsTo c.args.visited.now.planned.graph.now c.args.visited.now.planned.tree.now (by_edge c.args.visited.now.planned.weights.now) c.args.visited.now.planned.plan.now i c.loop-i.left.items) zero c.loop-i.invariant.lefts)
+
+pub index-requires : goal.index-requires
+index-requires c =
+    let within = c.loop-i.invariant.within in
+    let il : c.loop-i.i - 1 < length c.args.visited.now.planned.plan.now.order.items = omega arith in
+    let node : number_in_place c.args.visited.now.planned.plan.now.order.items (c.loop-i.i - 1) ≡ c.index-k.result.now = value_at c.args.visited.now.planned.plan.now.order.items (c.loop-i.i - 1) c.index-k.result.now 0 il c.index-k.ensures in
+    let low : c.index-k.result.now < length c.args.visited.now.planned.graph.now.code.nodes = subst (λ k. k < length c.args.visited.now.planned.graph.now.code.nodes) node (c.requires.visited.planned.plan.order.within (c.loop-i.i - 1) il) in
+    let there : c.index-k.result.now < length c.args.visited.now.planned.plan.now.headed.items = subst (λ n. c.index-k.result.now < n) (sym c.requires.visited.planned.plan.headed_size) low in
+    omega arith
+
+pub bounds-visited-k : goal.bounds-visited-k
+bounds-visited-k c =
+    let within = c.loop-i.invariant.within in
+    let il : c.loop-i.i - 1 < length c.args.visited.now.planned.plan.now.order.items = omega arith in
+    let node : number_in_place c.args.visited.now.planned.plan.now.order.items (c.loop-i.i - 1) ≡ c.index-k.result.now = value_at c.args.visited.now.planned.plan.now.order.items (c.loop-i.i - 1) c.index-k.result.now 0 il c.index-k.ensures in
+    let low : c.index-k.result.now < length c.args.visited.now.planned.graph.now.code.nodes = subst (λ k. k < length c.args.visited.now.planned.graph.now.code.nodes) node (c.requires.visited.planned.plan.order.within (c.loop-i.i - 1) il) in
+    subst (λ n. c.index-k.result.now < n) (sym c.requires.visited.visits.table.size) low
+
+pub raise_lefts-requires-clause-header : goal.raise_lefts-requires-clause-header
+raise_lefts-requires-clause-header c =
+    let within = c.loop-i.invariant.within in
+    let il : c.loop-i.i - 1 < length c.args.visited.now.planned.plan.now.order.items = omega arith in
+    let node : number_in_place c.args.visited.now.planned.plan.now.order.items (c.loop-i.i - 1) ≡ c.index-k.result.now = value_at c.args.visited.now.planned.plan.now.order.items (c.loop-i.i - 1) c.index-k.result.now 0 il c.index-k.ensures in
+    let low : c.index-k.result.now < length c.args.visited.now.planned.graph.now.code.nodes = subst (λ k. k < length c.args.visited.now.planned.graph.now.code.nodes) node (c.requires.visited.planned.plan.order.within (c.loop-i.i - 1) il) in
+    subst (λ n. c.index-k.result.now < n) (sym c.loop-i.invariant.size) low

@@ -1,6 +1,7 @@
 use Rattle.std.proofs.Common.{◌≡◌, ◌<◌, length, length-set, arith, sym, ◌∙◌, subst}
-use Rattle.cost_theory.specs.Worst.{Numbers}
+use Rattle.std.proofs.lemmas.Grind.{common_steps}
 use Rattle.graph_algorithms.specs.Arcs.{number_in_place}
+use Rattle.cost_theory.specs.Worst.{Numbers}
 use Rattle.loop_tree.specs.Noted.{node_address}
 use Rattle.loop_tree.specs.Tree.{loops}
 use Rattle.worst_cycles.specs.Worst.{by_edge}
@@ -35,3 +36,13 @@ returns c =
     let last : c.loop-i.i ≡ length c.args.planned.now.plan.now.order.items = omega arith in
     all_visited c.requires.planned c.loop-i.invariant.table
     (subst (λ i. AreVisitedTo c.args.planned.now.graph.now c.args.planned.now.tree.now (by_edge c.args.planned.now.weights.now) c.args.planned.now.plan.now.order.items i c.loop-i.visits.items) last c.loop-i.invariant.visited)
+
+pub index_mut-requires : goal.index_mut-requires
+index_mut-requires c =
+    let il : c.loop-i.i < length c.args.planned.now.plan.now.order.items = omega arith in
+    let node : number_in_place c.args.planned.now.plan.now.order.items c.loop-i.i ≡ c.index.result.now = value_at c.args.planned.now.plan.now.order.items c.loop-i.i c.index.result.now 0 il c.index.ensures in
+    let low : c.index.result.now < length c.loop-i.visits.items = subst (λ n. c.index.result.now < n) (sym c.loop-i.invariant.table.size) (subst (λ k. k < length c.args.planned.now.graph.now.code.nodes) node (c.requires.planned.plan.order.within c.loop-i.i il)) in
+    omega arith
+
+pub loop-i-init : goal.loop-i-init
+loop-i-init c = grind (arith, common_steps)

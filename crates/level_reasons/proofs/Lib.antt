@@ -1,0 +1,12 @@
+pub mod TextLines
+pub mod Numbers
+pub mod LackFacts
+pub mod EdgeFacts
+pub mod Lines
+pub mod BodyFacts
+pub mod NearFacts
+pub mod LoopFacts
+pub mod ProgramFacts
+pub mod FileFacts
+pub mod HeldFacts
+pub mod Laws

@@ -1,0 +1,7 @@
+use Rattle.std.proofs.Common.{◌≡◌, ◌++◌, take, string_bytes}
+use Rattle.std.specs.List.{flat_map}
+use Rattle.level_reasons.specs.ReasonTexts.{edge_line}
+use Rattle.level_reasons.proofs.texts.push_edges.Given as goal
+
+abbrev pub invariant-loop-line : goal.invariant-loop-line
+invariant-loop-line l = string_bytes l.text ≡ string_bytes l.initial.text ++ flat_map edge_line (take l.line-index l.lines)
