@@ -6,6 +6,7 @@ use paced_images::SwitchSite;
 use scale_base::{EdgeKind, Stop};
 use std::alloc::Global;
 use std::test::Fail;
+use switch_search::propose;
 
 /// Passes over fourteen of twenty-four divisions, by the branch at 0x10000.
 const SKIP_FOURTEEN: [u32; 27] = [
@@ -117,5 +118,27 @@ fn the_first_of_the_cheapest_and_without_inputs_the_first_that_is_built(
             Some(Cause::DeadlineMissed(_, 232))
         )
     );
+    Ok(())
+}
+
+/// A run that passes over the divisions can do the rest at the lowest level.
+#[test]
+fn a_switch_is_proposed_on_the_way_over_the_divisions(rt: HostRuntime) -> Result<(), Fail> {
+    let alloc = rt.alloc();
+    let image = plain_image(alloc, &SKIP_FOURTEEN)?;
+    let machine = machine_for(502).text(alloc)?;
+    let inputs = inputs_of(alloc, &[0])?;
+    let loops = NO_LOOPS.as_bytes();
+    if image.len() > 4_194_304 || machine.len() > 1_048_576 || loops.len() > 1_048_576 {
+        return Err(Fail::from("files that are too long"));
+    }
+    if inputs.len() != 1 {
+        return Err(Fail::from("inputs"));
+    }
+    let proposals = propose(alloc, &image, machine.as_bytes(), loops, &inputs, &[true])?;
+    let first = proposals.first().ok_or("proposals")?;
+    let site = first.sites.first().ok_or("switches")?;
+    assert_eq!(rt; (site.at, site.kind, site.lowest), (0x10000, EdgeKind::Taken, true));
+    assert_eq!(rt; (first.sites.len(), first.tallied.len()), (1, 0));
     Ok(())
 }

@@ -1,6 +1,6 @@
 //! The proposals, and the trials of their images.
 
-ghost use Rattle.std.specs.Prelude.{◌≤◌, IfOk};
+ghost use Rattle.std.specs.Prelude.{◌≤◌, length, IfOk};
 ghost use Rattle.pace_fit.specs.Finding.{AreLoaded, IsProposalTried};
 
 use gain_tuner::{Files, Trial, trial_from};
@@ -8,7 +8,7 @@ use paced_images::{SwitchSite, pace};
 use scale_base::NoMemory;
 use std::alloc::Global;
 
-/// What is proposed: edges with a switch, the addresses of the headers of loops that are tallied, the share of the lent time that levels between the
+/// What is proposed: up to 8 edges with a switch, the addresses of the headers of up to 8 loops that are tallied, the share of the lent time that levels between the
 /// starting and the lowest one get, in quarters, and whether the noted loops are counted.
 #[derive(Drop)]
 pub struct Proposal {
@@ -16,6 +16,8 @@ pub struct Proposal {
     pub tallied: Vec<u32>,
     pub share: u8,
     pub counted: bool,
+    ghost few: { length sites.items ≤ 8 },
+    ghost short: { length tallied.items ≤ 8 },
     ghost quarters: { share ≤ 4 },
 }
 

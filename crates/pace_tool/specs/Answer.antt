@@ -1,5 +1,5 @@
 -- What a command may answer: its stores in order, the text that it prints, and its status.
-use Rattle.std.specs.Prelude.{ℕ, ◌≤◌, List, [], ◌∷◌, Result, Ok, Err}
+use Rattle.std.specs.Prelude.{ℕ, ◌≤◌, List, [], ◌∷◌, length, Result, Ok, Err}
 use Rattle.scale_base.specs.declared.refusal.Refusal.{Refusal}
 use Rattle.scaler.specs.Promise.{IsStoredSafely}
 use Rattle.pace_fit.specs.declared.candidates.Proposal.{Proposal}
@@ -24,9 +24,10 @@ pub record Fits (image machine loops : List ℕ) (inputs : List (List ℕ)) (pro
   pub fitting : IsFitting image machine loops inputs proposals given
   pub safe : IsSafeIfAny image machine loops given
 
--- The answer to `fit` with this name of OUT: it tells what is given of some proposals. Which ones is left open, since nothing that is promised rests on them.
+-- The answer to `fit` with this name of OUT: it tells what is given of some proposals, at most 64. Which ones is left open, since nothing that is promised rests on them.
 pub record MakesFit (image machine loops : List ℕ) (inputs : List (List ℕ)) (out : List ℕ) (answer : Answer) : Type 0 where
   pub proposals : List Proposal
+  pub few : length proposals ≤ 64
   pub tells : Tells (Fits image machine loops inputs proposals) (stored_answer (fitted_text proposals) out) answer
 
 -- What the command may make of its files, as many as it loads. It is told of what it gives for their bytes.

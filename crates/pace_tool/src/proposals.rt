@@ -19,7 +19,9 @@ const FOUND: usize = 62;
 fn first_of(
     alloc: Global,
     found: &[switch_search::Proposal],
-) -> Result<Vec<SwitchSite>, NoMemory> {
+) -> Result<Vec<SwitchSite>, NoMemory>
+    ensures { IfOk result (λ sites. length sites.items ≤ 8) }
+{
     match found.first() {
         Some(proposal) => Ok(Vec::from_slice(alloc, &proposal.sites)?),
         None => Ok(Vec::new(alloc)),
@@ -39,7 +41,7 @@ fn uncounted_of(
             proposals.push(Proposal {
                 sites: proposal.sites,
                 tallied: proposal.tallied,
-                share: proposal.share.min(4),
+                share: proposal.share,
                 counted: false,
             })?;
         }
@@ -48,7 +50,9 @@ fn uncounted_of(
 }
 
 // Some switches, with the loops counted that are noted so.
-fn counted_with(alloc: Global, sites: Vec<SwitchSite>) -> Proposal {
+fn counted_with(alloc: Global, sites: Vec<SwitchSite>) -> Proposal
+    requires { length sites.items ≤ 8 }
+{
     Proposal {
         sites,
         tallied: Vec::new(alloc),

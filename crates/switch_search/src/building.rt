@@ -1,5 +1,7 @@
 //! What the stubs of a set of marks do, as they are built.
 
+ghost use Rattle.std.specs.Prelude.{◌≤◌, length, IfOk};
+
 use crate::candidates::Candidate;
 use crate::numbers::Numbers;
 use crate::sets::MarkSet;
@@ -17,13 +19,16 @@ pub struct Sources<'a> {
     pub loops: &'a [u8],
 }
 
-/// Edges with a switch, the addresses of the headers of loops that are tallied, and the share of the lent time that levels between the starting and the
-/// lowest one get, in quarters.
+/// Up to 8 edges with a switch, the addresses of the headers of up to 8 loops that are tallied, and the share of the lent time that levels between
+/// the starting and the lowest one get, in quarters.
 #[derive(Drop)]
 pub struct Proposal {
     pub sites: Vec<SwitchSite>,
     pub tallied: Vec<u32>,
     pub share: u8,
+    ghost few: { length sites.items ≤ 8 },
+    ghost short: { length tallied.items ≤ 8 },
+    ghost quarters: { share ≤ 4 },
 }
 
 /// What the candidates and the loops are.
@@ -119,34 +124,73 @@ impl<'a> Places<'a> {
         }
     }
 
-    /// A set as a proposal.
-    pub fn proposal(&self, alloc: Global, set: &MarkSet) -> Result<Proposal, NoMemory> {
+    /// The switch of candidate `c`, if it is an edge of a set.
+    fn site(&self, set: &MarkSet, c: usize) -> Option<SwitchSite> {
+        if c >= self.candidates.len() || !set.contains(c) {
+            return None;
+        }
+        match self.candidates[c] {
+            Candidate::Edge(e) => {
+                let edge = self.edge(e)?;
+                Some(SwitchSite {
+                    at: edge.at,
+                    kind: edge.kind,
+                    lowest: set.form.lowest,
+                })
+            }
+            Candidate::Loop(_) => None,
+        }
+    }
+
+    /// The address of the header of candidate `c`, if it is a loop of a set.
+    fn header(&self, set: &MarkSet, c: usize) -> Option<u32> {
+        if c >= self.candidates.len() || !set.contains(c) {
+            return None;
+        }
+        match self.candidates[c] {
+            Candidate::Loop(j) => Some(self.plan(j)?.header),
+            Candidate::Edge(_) => None,
+        }
+    }
+
+    /// The switches of a set.
+    fn sites(&self, alloc: Global, set: &MarkSet) -> Result<Vec<SwitchSite>, NoMemory>
+        ensures { IfOk result (λ sites. length sites.items ≤ 8) }
+    {
         let mut sites = Vec::new(alloc);
-        let mut tallied = Vec::new(alloc);
-        for (c, candidate) in self.candidates.iter().enumerate() {
-            if set.contains(c) {
-                match *candidate {
-                    Candidate::Edge(e) => {
-                        if let Some(edge) = self.edge(e) {
-                            sites.push(SwitchSite {
-                                at: edge.at,
-                                kind: edge.kind,
-                                lowest: set.form.lowest,
-                            })?;
-                        }
-                    }
-                    Candidate::Loop(j) => {
-                        if let Some(plan) = self.plan(j) {
-                            tallied.push(plan.header)?;
-                        }
-                    }
+        for c in 0..self.candidates.len() {
+            if let Some(site) = self.site(set, c) {
+                if sites.len() < 8 {
+                    sites.push(site)?;
                 }
             }
         }
+        Ok(sites)
+    }
+
+    /// The headers of the loops of a set.
+    fn headers(&self, alloc: Global, set: &MarkSet) -> Result<Vec<u32>, NoMemory>
+        ensures { IfOk result (λ headers. length headers.items ≤ 8) }
+    {
+        let mut headers = Vec::new(alloc);
+        for c in 0..self.candidates.len() {
+            if let Some(header) = self.header(set, c) {
+                if headers.len() < 8 {
+                    headers.push(header)?;
+                }
+            }
+        }
+        Ok(headers)
+    }
+
+    /// A set as a proposal.
+    pub fn proposal(&self, alloc: Global, set: &MarkSet) -> Result<Proposal, NoMemory> {
+        let sites = self.sites(alloc, set)?;
+        let tallied = self.headers(alloc, set)?;
         Ok(Proposal {
             sites,
             tallied,
-            share: set.form.share,
+            share: set.form.share.min(4),
         })
     }
 
@@ -223,7 +267,6 @@ fn scaling_of(
     files: &Sources<'_>,
     proposal: &Proposal,
 ) -> Result<Option<Scaling>, NoMemory> {
-    let share = proposal.share.min(4);
     match program_of(
         alloc,
         files.image,
@@ -232,7 +275,7 @@ fn scaling_of(
         &proposal.sites,
         false,
         &proposal.tallied,
-        share,
+        proposal.share,
     ) {
         Ok(program) => Ok(Some(program.scaling)),
         Err(Stop::Memory) => Err(NoMemory),
