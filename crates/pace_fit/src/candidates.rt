@@ -1,12 +1,8 @@
-//! The proposals, and the trials of their images.
+//! What is proposed.
 
-ghost use Rattle.std.specs.Prelude.{◌≤◌, length, IfOk};
-ghost use Rattle.pace_fit.specs.Finding.{AreLoaded, IsProposalTried};
+ghost use Rattle.std.specs.Prelude.{◌≤◌, length};
 
-use gain_tuner::{Files, Trial, trial_from};
-use paced_images::{SwitchSite, pace};
-use scale_base::NoMemory;
-use std::alloc::Global;
+use paced_images::SwitchSite;
 
 /// What is proposed: up to 8 edges with a switch, the addresses of the headers of up to 8 loops that are tallied, the share of the lent time that levels between the
 /// starting and the lowest one get, in quarters, and whether the noted loops are counted.
@@ -19,27 +15,4 @@ pub struct Proposal {
     ghost few: { length sites.items ≤ 8 },
     ghost short: { length tallied.items ≤ 8 },
     ghost quarters: { share ≤ 4 },
-}
-
-/// The trial of the image of a proposal, unless it is out.
-pub fn trial_of(
-    alloc: Global,
-    files: &Files<'_>,
-    proposal: &Proposal,
-    candidate: u32,
-) -> Result<Option<Trial>, NoMemory>
-    requires { AreLoaded files.now }
-    ensures { IfOk result (IsProposalTried files.now proposal.now candidate) }
-{
-    let made = pace(
-        alloc,
-        files.image,
-        files.machine,
-        files.loops,
-        &proposal.sites,
-        proposal.counted,
-        &proposal.tallied,
-        proposal.share,
-    );
-    trial_from(alloc, files, candidate, made)
 }

@@ -6,6 +6,7 @@ mod bounds;
 mod candidates;
 mod choosing;
 mod fitting;
+mod trials;
 
 pub use bounds::least_energy;
 pub use candidates::Proposal;
