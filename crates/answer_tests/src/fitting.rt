@@ -19,12 +19,14 @@ const SKIP_FOURTEEN: [u32; 27] = [
 const SKIPPED: SwitchSite = SwitchSite {
     at: 0x10000,
     kind: EdgeKind::Taken,
+    lowest: false,
 };
 
 /// No edge of the program.
 const NOWHERE: SwitchSite = SwitchSite {
     at: 0x20000,
     kind: EdgeKind::Taken,
+    lowest: false,
 };
 
 /// Proposals of a site each.
@@ -35,6 +37,8 @@ fn proposals_of(alloc: Global, sites: &[SwitchSite]) -> Result<Vec<Proposal>, Fa
         one.push(*site)?;
         proposals.push(Proposal {
             sites: one,
+            tallied: Vec::new(alloc),
+            share: 4,
             counted: true,
         })?;
     }

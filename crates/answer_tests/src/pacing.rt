@@ -30,6 +30,8 @@ fn paced(
             NO_LOOPS.as_bytes(),
             sites,
             true,
+            &[],
+            4,
         )
         .ok()
         .ok_or("paced")?,
@@ -49,6 +51,8 @@ fn useful(alloc: Global, image: &[u8], deadline: u32, sites: &[SwitchSite]) -> R
         NO_LOOPS.as_bytes(),
         sites,
         true,
+        &[],
+        4,
     );
     Ok(kept.ok().ok_or("useful")?.len())
 }
@@ -63,23 +67,28 @@ fn has_word(file: &[u8], word: u32) -> bool {
 fn is_the_rewritten_image_where_the_worst_case_leaves_no_time(rt: HostRuntime) -> Result<(), Fail> {
     let alloc = rt.alloc();
     let image = plain_image(alloc, &READ_ONE)?;
-    let machine = machine_for(158).text(alloc)?;
+    // Here jobs start at the fastest level, so that no level is above the start.
+    let machine = machine_for(79).text(alloc)?;
     let sites = [
         SwitchSite {
             at: 0x20000,
             kind: EdgeKind::Jump,
+            lowest: false,
         },
         SwitchSite {
             at: 0x10010,
             kind: EdgeKind::Taken,
+            lowest: false,
         },
         SwitchSite {
             at: 0x10004,
             kind: EdgeKind::Next,
+            lowest: false,
         },
         SwitchSite {
             at: 0x10010,
             kind: EdgeKind::Taken,
+            lowest: false,
         },
     ];
     let (bytes, summary) = rewritten(alloc, &image, &machine, NO_LOOPS)?
@@ -104,11 +113,12 @@ fn lowers_the_level_of_a_straight_program(rt: HostRuntime) -> Result<(), Fail> {
     let jump = SwitchSite {
         at: 0x10020,
         kind: EdgeKind::Jump,
+        lowest: false,
     };
     let (bytes, numbers) = paced(alloc, &image, &machine, &[jump])?;
     assert_eq!(rt; (numbers.start, numbers.switch_edges), (1, 1));
-    // From level 1 to level 0, and from level 2 to no other.
-    assert!(rt; has_word(&bytes, 0x20030313));
+    // From level 1 to level 0, and so from level 2, which is never there.
+    assert!(rt; has_word(&bytes, 0x00030313));
     Ok(())
 }
 
@@ -120,10 +130,12 @@ fn keeps_the_sites_whose_switch_lowers_a_level(rt: HostRuntime) -> Result<(), Fa
         SwitchSite {
             at: 0x20000,
             kind: EdgeKind::Jump,
+            lowest: false,
         },
         SwitchSite {
             at: 0x10020,
             kind: EdgeKind::Jump,
+            lowest: false,
         },
     ];
     assert_eq!(rt; useful(alloc, &image, 500, &sites)?, 1);

@@ -14,7 +14,7 @@ use Rattle.pace_fit.specs.Least.{IsLeastOver}
 
 -- what `pace` gives of a proposal
 abbrev pub IsProposed : (image machine loop_file : List ℕ) → Proposal → Result (List ℕ × Summary) Refusal → Type 0
-IsProposed image machine loop_file proposal answer = IsPaced image machine loop_file proposal.sites.items proposal.counted answer
+IsProposed image machine loop_file proposal answer = IsPaced image machine loop_file proposal.sites.items proposal.counted proposal.tallied.items proposal.share answer
 
 -- ---- the choice where some input counts
 

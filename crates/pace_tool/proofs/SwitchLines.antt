@@ -3,7 +3,7 @@ use Rattle.std.proofs.Common.{◌≡◌, ℕ, ◌+◌, ◌<◌, List, [], ◌∷
 use Rattle.std.specs.List.{flat_map}
 use Rattle.std.proofs.lemmas.List.{take_more, flat_map_more}
 use Rattle.paced_images.specs.declared.wanted.SwitchSite.{SwitchSite}
-use Rattle.pace_tool.specs.Texts.{switch_line, switch_lines}
+use Rattle.pace_tool.specs.Texts.{switch_line, switch_lines, tally_line, tally_lines}
 
 pub lines-more : (text now : List ℕ) (sites : List SwitchSite) (k : ℕ) (d : SwitchSite) → k < length sites → now ≡ text ++ switch_lines (take k sites)
     → now ++ switch_line (get_or sites k d) ≡ text ++ switch_lines (take (k + 1) sites)
@@ -11,6 +11,13 @@ lines-more text now sites k d h so_far =
     ap (λ (t : List ℕ). t ++ switch_line (get_or sites k d)) so_far
     ∙ flat_map_more switch_line text (take k sites) (get_or sites k d)
     ∙ ap (λ (xs : List SwitchSite). text ++ flat_map switch_line xs) (sym (take_more sites k d h))
+
+pub tallies-more : (text now : List ℕ) (headers : List ℕ) (k d : ℕ) → k < length headers → now ≡ text ++ tally_lines (take k headers)
+    → now ++ tally_line (get_or headers k d) ≡ text ++ tally_lines (take (k + 1) headers)
+tallies-more text now headers k d h so_far =
+    ap (λ (t : List ℕ). t ++ tally_line (get_or headers k d)) so_far
+    ∙ flat_map_more tally_line text (take k headers) (get_or headers k d)
+    ∙ ap (λ (xs : List ℕ). text ++ flat_map tally_line xs) (sym (take_more headers k d h))
 
 -- ---- the parts of a text
 

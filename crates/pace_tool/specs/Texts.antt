@@ -1,5 +1,5 @@
 -- The texts that the program prints, byte for byte, in the forms of those of `scale`.
-use Rattle.std.specs.Prelude.{codes, ℕ, ◌-◌, ◌==◌, List, [], ◌∷◌, ◌++◌, flat_map, slice_get, if◌then◌else◌, Option, Some, None}
+use Rattle.std.specs.Prelude.{codes, Bool, true, false, ℕ, ◌-◌, ◌==◌, List, [], ◌∷◌, ◌++◌, flat_map, slice_get, if◌then◌else◌, Option, Some, None}
 use Rattle.scale_report.specs.Texts.{address, kind_name, number_line, summary_text}
 use Rattle.paced_images.specs.declared.wanted.SwitchSite.{SwitchSite}
 use Rattle.pace_fit.specs.declared.candidates.Proposal.{Proposal}
@@ -10,16 +10,28 @@ unfoldable pub rewrite_line : Option ℕ → List ℕ
 rewrite_line (Some energy) = number_line (codes "rewrite energy ") energy
 rewrite_line None = codes "rewrite energy none\n"
 
--- the line of a switch: the address of its branch or jump, and which of its edges it is on
+-- the form of a switch: by a word of levels, or to the lowest level
+abbrev pub form_name : Bool → List ℕ
+form_name true = codes "lowest "
+form_name false = codes "switch "
+
+-- the line of a switch: its form, the address of its branch or jump, and which of its edges it is on
 unfoldable pub switch_line : SwitchSite → List ℕ
-switch_line site = codes "switch " ++ address site.at ++ codes " " ++ kind_name site.kind ++ 10 ∷ []
+switch_line site = form_name site.lowest ++ address site.at ++ codes " " ++ kind_name site.kind ++ 10 ∷ []
 
 abbrev pub switch_lines : List SwitchSite → List ℕ
 switch_lines sites = flat_map switch_line sites
 
--- a line for each switch of a proposal
+-- the line of a loop that is tallied: the address of its header
+unfoldable pub tally_line : ℕ → List ℕ
+tally_line header = codes "tally " ++ address header ++ 10 ∷ []
+
+abbrev pub tally_lines : List ℕ → List ℕ
+tally_lines headers = flat_map tally_line headers
+
+-- a line for each switch of a proposal and for each loop that it tallies
 abbrev pub proposal_lines : Option Proposal → List ℕ
-proposal_lines (Some proposal) = switch_lines proposal.sites.items
+proposal_lines (Some proposal) = switch_lines proposal.sites.items ++ tally_lines proposal.tallied.items
 proposal_lines None = []
 
 -- the switches of a candidate: the image of `hold`, which is candidate 0, has none, and candidate k + 1 has those of proposal k
@@ -27,7 +39,7 @@ unfoldable pub switches_text : List Proposal → ℕ → List ℕ
 switches_text proposals candidate = if candidate == 0 then codes "no switches: hold's image is stored\n" else proposal_lines (slice_get proposals (candidate - 1))
 
 -- the chosen candidate: its summary, how many inputs count and how many don't, the energy of the choice, of the image that runs at one level and of the one that `rewrite`
--- stores, the least energy of those inputs, and its switches
+-- stores, the least energy of those inputs, its switches and its tallied loops
 abbrev pub fitted_text : List Proposal → Fitted → List ℕ
 fitted_text proposals f =
     summary_text f.summary

@@ -12,26 +12,34 @@ use scaler::hold;
 use std::alloc::Global;
 use switch_search::propose;
 
-// How many lists are tried at most.
-const LISTS: usize = 62;
+// How many of what is found are tried at most.
+const FOUND: usize = 62;
 
-// The sites of the first list.
-fn first_of(alloc: Global, lists: &[Vec<SwitchSite>]) -> Result<Vec<SwitchSite>, NoMemory> {
-    match lists.first() {
-        Some(sites) => Ok(Vec::from_slice(alloc, sites)?),
+// The switches of the first proposal.
+fn first_of(
+    alloc: Global,
+    found: &[switch_search::Proposal],
+) -> Result<Vec<SwitchSite>, NoMemory> {
+    match found.first() {
+        Some(proposal) => Ok(Vec::from_slice(alloc, &proposal.sites)?),
         None => Ok(Vec::new(alloc)),
     }
 }
 
-// The lists as proposals in which no loop is counted.
-fn uncounted_of(alloc: Global, lists: Vec<Vec<SwitchSite>>) -> Result<Vec<Proposal>, NoMemory>
+// What is found, with no loop counted but those that are tallied.
+fn uncounted_of(
+    alloc: Global,
+    found: Vec<switch_search::Proposal>,
+) -> Result<Vec<Proposal>, NoMemory>
     ensures { IfOk result (λ proposals. length proposals.items ≤ 62) }
 {
     let mut proposals = Vec::new(alloc);
-    for sites in lists {
-        if proposals.len() < LISTS {
+    for proposal in found {
+        if proposals.len() < FOUND {
             proposals.push(Proposal {
-                sites,
+                sites: proposal.sites,
+                tallied: proposal.tallied,
+                share: proposal.share.min(4),
                 counted: false,
             })?;
         }
@@ -39,26 +47,30 @@ fn uncounted_of(alloc: Global, lists: Vec<Vec<SwitchSite>>) -> Result<Vec<Propos
     Ok(proposals)
 }
 
-// The lists as proposals in which no loop is counted; and where some input counts, so that the runs tell what counting costs, the loops alone that are noted so, and
-// the first list with them.
+// Some switches, with the loops counted that are noted so.
+fn counted_with(alloc: Global, sites: Vec<SwitchSite>) -> Proposal {
+    Proposal {
+        sites,
+        tallied: Vec::new(alloc),
+        share: 4,
+        counted: true,
+    }
+}
+
+// What is found, with no loop counted; and where some input counts, so that the runs tell what counting costs, the loops alone that are noted so, and
+// the switches of the first proposal with them.
 fn proposals_from(
     alloc: Global,
-    lists: Vec<Vec<SwitchSite>>,
+    found: Vec<switch_search::Proposal>,
     has_counting: bool,
 ) -> Result<Vec<Proposal>, NoMemory>
     ensures { IfOk result (λ proposals. length proposals.items ≤ 64) }
 {
-    let first = first_of(alloc, &lists)?;
-    let mut proposals = uncounted_of(alloc, lists)?;
+    let first = first_of(alloc, &found)?;
+    let mut proposals = uncounted_of(alloc, found)?;
     if has_counting {
-        proposals.push(Proposal {
-            sites: Vec::new(alloc),
-            counted: true,
-        })?;
-        proposals.push(Proposal {
-            sites: first,
-            counted: true,
-        })?;
+        proposals.push(counted_with(alloc, Vec::new(alloc)))?;
+        proposals.push(counted_with(alloc, first))?;
     }
     Ok(proposals)
 }
@@ -75,7 +87,7 @@ pub fn proposals_of(
     match hold(alloc, files.image, files.machine, files.loops) {
         Ok(_held) => {
             let counts = counting_of(alloc, files.image, files.machine, files.loops, inputs.items)?;
-            let lists = propose(
+            let found = propose(
                 alloc,
                 files.image,
                 files.machine,
@@ -84,7 +96,7 @@ pub fn proposals_of(
                 &counts,
             )?;
             let has_counting = counts.iter().any(|counts| *counts);
-            proposals_from(alloc, lists, has_counting)
+            proposals_from(alloc, found, has_counting)
         }
         Err(Stop::Refused(_)) => Ok(Vec::new(alloc)),
         Err(Stop::Memory) => Err(NoMemory),

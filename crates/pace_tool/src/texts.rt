@@ -1,8 +1,8 @@
 //! The texts that the program prints.
 
-ghost use Rattle.std.specs.Prelude.{◌≡◌, ◌++◌, IfOk, OnOk, string_bytes};
+ghost use Rattle.std.specs.Prelude.{◌≡◌, ◌++◌, IfOk, OnOk, Some, string_bytes};
 ghost use Rattle.scale_report.specs.Texts.{number_line};
-ghost use Rattle.pace_tool.specs.Texts.{fitted_text, rewrite_line, switch_line, switch_lines, switches_text};
+ghost use Rattle.pace_tool.specs.Texts.{fitted_text, form_name, proposal_lines, rewrite_line, switch_line, switch_lines, switches_text, tally_line, tally_lines};
 
 use pace_fit::{Fitted, Proposal};
 use paced_images::SwitchSite;
@@ -36,14 +36,31 @@ fn push_rewrite(text: &mut String, energy: Option<u128>) -> Result<(), AllocErro
     }
 }
 
+// The form of a switch.
+fn form_name(lowest: bool) -> &'static str
+    ensures { string_bytes result.now ≡ form_name lowest }
+{
+    if lowest { "lowest " } else { "switch " }
+}
+
 // Adds the line of a switch.
 #[tactic(auto, unfolding(crate::specs::Texts::switch_line))]
 fn push_switch(text: &mut String, site: &SwitchSite) -> Result<(), AllocError>
     ensures { OnOk result (string_bytes text.new ≡ string_bytes text.old ++ switch_line site.now) }
 {
+    let form = form_name(site.lowest);
     let at = Address(site.at);
     let kind = kind_name(site.kind);
-    write!(text, "switch {at} {kind}\n")
+    write!(text, "{form}{at} {kind}\n")
+}
+
+// Adds the line of a loop that is tallied.
+#[tactic(auto, unfolding(crate::specs::Texts::tally_line))]
+fn push_tally(text: &mut String, header: u32) -> Result<(), AllocError>
+    ensures { OnOk result (string_bytes text.new ≡ string_bytes text.old ++ tally_line header) }
+{
+    let at = Address(header);
+    write!(text, "tally {at}\n")
 }
 
 // Adds a line for each switch.
@@ -56,7 +73,25 @@ fn push_sites(text: &mut String, sites: &[SwitchSite]) -> Result<(), AllocError>
     Ok(())
 }
 
-// Adds the lines of the switches of the chosen candidate.
+// Adds a line for each loop that is tallied.
+fn push_tallies(text: &mut String, headers: &[u32]) -> Result<(), AllocError>
+    ensures { OnOk result (string_bytes text.new ≡ string_bytes text.old ++ tally_lines headers.now) }
+{
+    for header in headers {
+        push_tally(text, *header)?;
+    }
+    Ok(())
+}
+
+// Adds the lines of a proposal.
+fn push_proposal(text: &mut String, proposal: &Proposal) -> Result<(), AllocError>
+    ensures { OnOk result (string_bytes text.new ≡ string_bytes text.old ++ proposal_lines (Some proposal.now)) }
+{
+    push_sites(text, &proposal.sites)?;
+    push_tallies(text, &proposal.tallied)
+}
+
+// Adds the lines of the chosen candidate.
 #[tactic(auto, unfolding(crate::specs::Texts::switches_text))]
 fn push_switches(
     text: &mut String,
@@ -69,13 +104,14 @@ fn push_switches(
         return text.push_str("no switches: hold's image is stored\n");
     }
     match proposals.get(candidate as usize - 1) {
-        Some(proposal) => push_sites(text, &proposal.sites),
+        Some(proposal) => push_proposal(text, proposal),
         None => Ok(()),
     }
 }
 
 /// The choice of a fitting: its summary, how many inputs count and how many don't, the energy of the choice, of the image that runs at one level and
-/// of the one that `rewrite` stores, the least energy of those inputs, and a line for each switch.
+/// of the one that `rewrite` stores, the least energy of those inputs, and a line for each switch and each loop that is
+/// tallied.
 pub fn fitted_text(
     alloc: Global,
     proposals: &[Proposal],

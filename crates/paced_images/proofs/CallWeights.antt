@@ -23,8 +23,8 @@ use Rattle.scale_sites.specs.Counters.{counted_loops, edge_goes_on, goes_on}
 use Rattle.scale_sites.specs.Sites.{is_branch}
 use Rattle.scale_sites.specs.Weights.{some_mark, is_patched, jumps_of, extra_of, extra_weight}
 use Rattle.rewritten_runs.specs.Stubs.{IsWeighed, IsWeighedWith, extra_weights, stored_weights}
-use Rattle.rewritten_runs.proofs.Laws.{IsMarkOf, call_goes_on, countable, counted_is, graph_program, program_is}
-use Rattle.paced_images.specs.Wanted.{same_kind, marked_where}
+use Rattle.rewritten_runs.proofs.Laws.{IsCounter, IsMarkOf, call_goes_on, countable, counted_is, graph_program, program_is}
+use Rattle.paced_images.specs.Wanted.{Wanted, same_kind, marked_where}
 use Rattle.paced_images.specs.Markings.{ChoosesSites}
 use Rattle.paced_images.proofs.WantedKinds.{marks_of_edge, marked_led}
 use Rattle.paced_images.proofs.WantedKinds as Kinds
@@ -33,7 +33,7 @@ none_below : (n : ℕ) (p : ℕ → Bool) → ((k : ℕ) → k < n → p k ≡ f
 none_below zero p h = refl
 none_below (suc n) p h = Rattle.std.proofs.lemmas.Bool.or_from (any_below n p) (p n) (none_below n p (λ k lt2. h k (omega arith))) (h n (omega arith))
 
-module _ (power : PowerModel) (image : Image) (notes : List LoopNote) (v : FlowGraph) (tree : LoopView) (wanted : ℕ → Bool) (stored : Numbers) (by_marks : IsWeighedWith power image notes v tree (marked_where v tree wanted) stored) (kinds_are : ChoosesSites v wanted) where
+module _ (power : PowerModel) (image : Image) (notes : List LoopNote) (v : FlowGraph) (tree : LoopView) (wanted : Wanted) (stored : Numbers) (by_marks : IsWeighedWith power image notes v tree (marked_where v tree wanted) stored) (kinds_are : ChoosesSites v wanted.switch) where
   abbrev plain : Numbers
   plain = Kinds.plain power image notes v tree wanted stored by_marks kinds_are
 
@@ -66,8 +66,17 @@ module _ (power : PowerModel) (image : Image) (notes : List LoopNote) (v : FlowG
       off kind.CallNext a b = cc
       off kind.End a b = cc
 
-      by_mark : (m : Mark) (w : ℕ) → g.target e ≡ Some w → IsMarkOf l (counted_loops tree) (wanted e) (g.source e) (g.target e) m → ⊥
-      by_mark marks.Switch w to is = let x = kinds_are e is in off x.0.kind (sym (ap edge_goes_on x.1) ∙ call_goes_on t v.code (program_is power image notes v tree plain other weighed).reached e f w lt callee to) x.2
+      no_site : (w : ℕ) → g.target e ≡ Some w → wanted.switch e ≡ true → ⊥
+      no_site w to is = let x = kinds_are e is in off x.0.kind (sym (ap edge_goes_on x.1) ∙ call_goes_on t v.code (program_is power image notes v tree plain other weighed).reached e f w lt callee to) x.2
+
+      no_count : (c w : ℕ) → g.target e ≡ Some w → IsCounter (counted_loops tree) c (λ k. goes_back l k (g.source e) (g.target e) ≡ true) → ⊥
+      no_count c w to is =
+          let k = counted_is power image notes v tree plain other weighed is.place is.loop is.get in
+          let off : goes_back l is.loop (g.source e) (g.target e) ≡ false = ((countable power image notes v tree plain other weighed).calls is.loop e f w k.loop k.flag lt callee to).0 in
+          let on = is.holds in let never : ⊥ = cc in never
+
+      by_mark : (m : Mark) (w : ℕ) → g.target e ≡ Some w → IsMarkOf l (counted_loops tree) (wanted.switch e) (g.source e) (g.target e) m → ⊥
+      by_mark marks.Switch w to is = no_site w to is
       by_mark (marks.Exit c) w to is =
           let k = counted_is power image notes v tree plain other weighed is.place is.loop is.get in
           let off = ((countable power image notes v tree plain other weighed).calls is.loop e f w k.loop k.flag lt callee to).1 in
@@ -76,12 +85,11 @@ module _ (power : PowerModel) (image : Image) (notes : List LoopNote) (v : FlowG
           let k = counted_is power image notes v tree plain other weighed is.place is.loop is.get in
           let off = ((countable power image notes v tree plain other weighed).calls is.loop e f w k.loop k.flag lt callee to).1 in
           let on = subst (λ p. leaves l is.loop (g.source e) p ≡ true) to is.holds in let never : ⊥ = cc in never
-      by_mark (marks.Count c) w to is =
-          let k = counted_is power image notes v tree plain other weighed is.place is.loop is.get in
-          let off : goes_back l is.loop (g.source e) (g.target e) ≡ false = ((countable power image notes v tree plain other weighed).calls is.loop e f w k.loop k.flag lt callee to).0 in
-          let on = is.holds in let never : ⊥ = cc in never
+      by_mark (marks.Count c) w to is = no_count c w to is
+      by_mark marks.Lowest w to is = no_site w to is
+      by_mark (marks.Tally c) w to is = no_count c w to is
 
-      by : (ms : List Mark) → marked e ≡ ms → All (IsMarkOf l (counted_loops tree) (wanted e) (g.source e) (g.target e)) ms → marked e ≡ []
+      by : (ms : List Mark) → marked e ≡ ms → All (IsMarkOf l (counted_loops tree) (wanted.switch e) (g.source e) (g.target e)) ms → marked e ≡ []
       by [] same all = same
       by (m ∷ ms) same all =
           let some : marked e ≢ [] = λ q. (let never : ⊥ = cc in never) in

@@ -1,5 +1,5 @@
 -- The cycles that stubs add, under the extra weights.
-use Rattle.std.proofs.Common.{◌≡◌, ℕ, ◌<◌, ◌≤◌, Bool, true, false, List, length, slice_get, Some, Ok, Err, sym, ap, ◌∙◌, subst, arith, ⊎_elim}
+use Rattle.std.proofs.Common.{◌≡◌, ℕ, ◌<◌, ◌≤◌, true, false, List, length, slice_get, Some, Ok, Err, sym, ap, ◌∙◌, subst, arith, ⊎_elim}
 use Rattle.std.specs.Prelude.{slice_index, nat_lt}
 use Rattle.std.proofs.Math.Path.{fun_ext}
 use Rattle.std.proofs.lemmas.Bool.{cases_lt}
@@ -21,7 +21,7 @@ use Rattle.rewritten_runs.specs.Stubs.{extra_weights, stored_weights}
 use Rattle.rewritten_runs.proofs.Laws.{worst_grows}
 use Rattle.scaler.proofs.Laws.{past_end}
 use Rattle.paced_images.proofs.CallWeights.{extra_are_weights}
-use Rattle.paced_images.specs.Wanted.{marked_where}
+use Rattle.paced_images.specs.Wanted.{Wanted, marked_where}
 use Rattle.paced_images.specs.Scalings.{HasMarks, IsInRange, IsExtraFound}
 
 module _ (power : PowerModel) (v : FlowGraph) (t : LoopView) (s : SitesView) (ws : List ℕ) (size : length ws ≡ length v.code.edges)
@@ -29,7 +29,7 @@ module _ (power : PowerModel) (v : FlowGraph) (t : LoopView) (s : SitesView) (ws
   each : (e : ℕ) → e < length v.code.edges → slice_index ws e ≡ extra_of power.costs (slice_index s.jumps e) (marks_at_edge s e)
   each e lt = given e lt ∙ ap (λ k. extra_of k (slice_index s.jumps e) (marks_at_edge s e)) same_costs
 
-  pub extra_is : (wanted : ℕ → Bool) → HasMarks v t wanted s → by_edge ws ≡ extra_weights power v (marked_where v t wanted)
+  pub extra_is : (wanted : Wanted) → HasMarks v t wanted s → by_edge ws ≡ extra_weights power v (marked_where v t wanted)
   extra_is wanted has = fun_ext (λ e. ⊎_elim
       (λ (lt : e < length v.code.edges).
       let test : nat_lt e (length v.code.edges) ≡ true = grind (arith, nat_tests) in
@@ -48,7 +48,7 @@ module _ (power : PowerModel) (v : FlowGraph) (t : LoopView) (s : SitesView) (ws
       (subst (λ (q : Graph). AreWeights q (extra_weights power v (marked_where v t r.2))) w.code_is.graph_is (extra_are_weights power r.0 r.1 v t r.2 r.3 w r.5.kinds))
 
   -- a refusal can't come
-  pub extra_stop : IsInRange power v t s → (wanted : ℕ → Bool) (stop : Stop) → AnswersBy {X = WorstView} {Y = WorstView} (λ n. n) (Err stop) (IsWorstFound (graph v) (loops v t) (by_edge ws)) → AnswersBy {X = ℕ} {Y = ℕ} (λ n. n) (Err stop) (IsExtraFound power v t wanted)
+  pub extra_stop : IsInRange power v t s → (wanted : Wanted) (stop : Stop) → AnswersBy {X = WorstView} {Y = WorstView} (λ n. n) (Err stop) (IsWorstFound (graph v) (loops v t) (by_edge ws)) → AnswersBy {X = ℕ} {Y = ℕ} (λ n. n) (Err stop) (IsExtraFound power v t wanted)
   extra_stop r wanted Memory h = tt
   extra_stop r wanted (Refused refusal) h =
       let w = r.4 in
@@ -59,7 +59,7 @@ module _ (power : PowerModel) (v : FlowGraph) (t : LoopView) (s : SitesView) (ws
       let short = r.6 in
       let bad : ⊥ = omega (arith, le, long, short) in bad
 
-  pub extra_found : (wanted : ℕ → Bool) → HasMarks v t wanted s → (x : WorstView) (total : ℕ) → IsInRange power v t s → IsWorstFound (graph v) (loops v t) (by_edge ws) (Ok x) → slice_get x.worst 0 ≡ Some total → IsExtraFound power v t wanted (Ok total)
+  pub extra_found : (wanted : Wanted) → HasMarks v t wanted s → (x : WorstView) (total : ℕ) → IsInRange power v t s → IsWorstFound (graph v) (loops v t) (by_edge ws) (Ok x) → slice_get x.worst 0 ≡ Some total → IsExtraFound power v t wanted (Ok total)
   extra_found wanted has x total r found here =
       let n = found.numbers.0 in
       let e : slice_get x.worst 0 ≡ Some (n.worst 0) = found.numbers.2 0 r.4.code_is.flow.program.main in

@@ -12,8 +12,8 @@ use Rattle.cost_theory.specs.Reached.{edge_at}
 use Rattle.code_graph.specs.FlowGraph.{FlowGraph}
 use Rattle.scale_sites.specs.Sites.{flag_at}
 use Rattle.paced_images.specs.declared.wanted.SwitchSite.{SwitchSite}
-use Rattle.paced_images.specs.Flags.{AreFlags, AreRaised}
-use Rattle.paced_images.specs.Wanted.{same_kind, names, names_some, any_names}
+use Rattle.paced_images.specs.Flags.{AreFlags, AreRaised, AreLowest}
+use Rattle.paced_images.specs.Wanted.{same_kind, names, names_some, any_names, any_lowest}
 
 -- ---- what a site names starts at its address
 
@@ -129,3 +129,53 @@ flags_more v sites i d n old new within are raised =
           slice_get-get_or new e false (omega arith)
           ∙ ap Some (raised.each e (omega arith) ∙ (ap (λ b. flag_at old e || (b && names_some site o)) test ∙ (ap (λ b. b || names_some site o) before ∙ sym (more_named sites i d o within))));
     }
+
+-- ---- those that go to the lowest level
+
+none_lowest : (o : Option Edge) → any_lowest [] o ≡ false
+none_lowest None = refl
+none_lowest (Some edge) = refl
+
+pub lowest_none : (v : FlowGraph) (sites : List SwitchSite) (n : ℕ) (flags : List Bool) → flags ≡ replicate n false → AreLowest v (take 0 sites) n flags
+lowest_none v sites n flags is =
+    let size : length flags ≡ n = ap length is ∙ length-replicate n false in
+    record {
+      size = size;
+      each = λ e lt. slice_get-get_or flags e false (omega arith) ∙ ap Some (ap (λ xs. flag_at xs e) is ∙ (get_or-replicate n e false false lt ∙ sym (none_lowest (slice_get v.code.edges e))));
+    }
+
+-- a site with the lowest level adds the edges that it names, and another one none
+more_lowest : (sites : List SwitchSite) (i : ℕ) (d : SwitchSite) (o : Option Edge) → i < length sites → any_lowest (take (i + 1) sites) o ≡ (any_lowest (take i sites) o || (names_some (slice_index_or sites i d) o && (slice_index_or sites i d).lowest))
+more_lowest sites i d None lt = refl
+more_lowest sites i d (Some edge) lt = list_any_more (λ site. names site edge && site.lowest) sites i d lt
+
+and_true : (a b : Bool) → b ≡ true → (a && b) ≡ a
+and_true true b on = on
+and_true false b on = refl
+
+pub lowest_more : (v : FlowGraph) (sites : List SwitchSite) (i : ℕ) (d : SwitchSite) (n : ℕ) (old new : List Bool) → i < length sites → (slice_index_or sites i d).lowest ≡ true → AreLowest v (take i sites) n old → AreRaised v (slice_index_or sites i d) n old new → AreLowest v (take (i + 1) sites) n new
+lowest_more v sites i d n old new within low are raised =
+    let size = are.size in
+    let same = raised.size in
+    record {
+      size = same ∙ size;
+      each = λ e lt.
+          let o = slice_get v.code.edges e in
+          let site = slice_index_or sites i d in
+          let test : nat_lt e n ≡ true = grind (arith, nat_tests) in
+          let before : flag_at old e ≡ any_lowest (take i sites) (slice_get v.code.edges e) = get_or_from_slice_get old e (any_lowest (take i sites) (slice_get v.code.edges e)) false (are.each e lt) in
+          slice_get-get_or new e false (omega arith)
+          ∙ ap Some (raised.each e (omega arith) ∙ (ap (λ b. flag_at old e || (b && names_some site o)) test ∙ (ap (λ b. b || names_some site o) before
+          ∙ (ap (λ b. any_lowest (take i sites) o || b) (sym (and_true (names_some site o) site.lowest low)) ∙ sym (more_lowest sites i d o within)))));
+    }
+
+pub lowest_same : (v : FlowGraph) (sites : List SwitchSite) (i : ℕ) (d : SwitchSite) (n : ℕ) (flags : List Bool) → i < length sites → (slice_index_or sites i d).lowest ≡ false → AreLowest v (take i sites) n flags → AreLowest v (take (i + 1) sites) n flags
+lowest_same v sites i d n flags within off are = record {
+  size = are.size;
+  each = λ e lt.
+      let o = slice_get v.code.edges e in
+      let site = slice_index_or sites i d in
+      let none : (any_lowest (take i sites) o || (names_some site o && site.lowest)) ≡ any_lowest (take i sites) o =
+      ap (λ b. any_lowest (take i sites) o || (names_some site o && b)) off ∙ (ap (λ b. any_lowest (take i sites) o || b) (and-false (names_some site o)) ∙ or-false (any_lowest (take i sites) o)) in
+      are.each e lt ∙ ap Some (sym (more_lowest sites i d o within ∙ none));
+}

@@ -1,3 +1,4 @@
+mod FormedMarks
 mod WantedKinds
 mod WantedMarks
 mod MarkingLaws
@@ -9,6 +10,7 @@ mod ProgramFacts
 mod PacedFiles
 mod UsefulFacts
 mod FlagLists
+mod Taken
 mod Ordered
 mod SafeStubs
 mod Storing

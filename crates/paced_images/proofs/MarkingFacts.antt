@@ -1,5 +1,5 @@
 -- The numbers of a program under the stored weights, and their ranges.
-use Rattle.std.proofs.Common.{◌≡◌, ℕ, ◌+◌, ◌<◌, ◌≤◌, Bool, true, false, List, length, map, slice_get, Option, Some, None, Ok, Err, refl, sym, ap, ◌∙◌, subst, arith, ⊎_elim, inl, inr}
+use Rattle.std.proofs.Common.{◌≡◌, ℕ, ◌+◌, ◌<◌, ◌≤◌, true, false, List, length, map, slice_get, Option, Some, None, Ok, Err, refl, sym, ap, ◌∙◌, subst, arith, ⊎_elim, inl, inr}
 use Rattle.std.specs.Prelude.{slice_index, nat_lt}
 use Rattle.std.proofs.Math.Path.{fun_ext}
 use Rattle.std.proofs.lemmas.Bool.{cases_lt}
@@ -44,16 +44,16 @@ use Rattle.paced_images.specs.declared.stubs.Marking.{Marking}
 use Rattle.paced_images.specs.Markings.{IsMarking, ChoosesSites}
 use Rattle.paced_images.specs.Paced.{paced_budget}
 use Rattle.paced_images.specs.Scalings.{HasMarks, IsMarkedAt, IsMarkingFound}
-use Rattle.paced_images.specs.Wanted.{marked_where}
+use Rattle.paced_images.specs.Wanted.{Wanted, marked_where}
 use Rattle.paced_images.proofs.CallWeights.{stored_are_weights}
 
 -- ---- the program
 
 module _ (power : PowerModel) (image : Image) (notes : List LoopNote) (v : FlowGraph) (t : LoopView) (is : IsGraphOf (text_of image) v) (tree : IsTreeOf v notes t) (counts : AreCounters v t (Ok (counted_loops t))) where
-  pub by_marks : (wanted : ℕ → Bool) (stored : Numbers) → AreNumbers (graph v) (loops v t) (stored_weights power image v (marked_where v t wanted)) stored → IsWeighedWith power image notes v t (marked_where v t wanted) stored
+  pub by_marks : (wanted : Wanted) (stored : Numbers) → AreNumbers (graph v) (loops v t) (stored_weights power image v (marked_where v t wanted)) stored → IsWeighedWith power image notes v t (marked_where v t wanted) stored
   by_marks wanted stored s = record { code_is = is; tree_is = tree; counters = counts; stored_are = s }
 
-  pub calls_alike : (wanted : ℕ → Bool) → ChoosesSites v wanted → AreWeights (graph v) (stored_weights power image v (marked_where v t wanted))
+  pub calls_alike : (wanted : Wanted) → ChoosesSites v wanted.switch → AreWeights (graph v) (stored_weights power image v (marked_where v t wanted))
   calls_alike wanted kinds =
       let s = numbers_of power image notes v t is tree counts (stored_weights power image v (marked_where v t wanted)) in
       subst (λ (q : Graph). AreWeights q (stored_weights power image v (marked_where v t wanted))) is.graph_is
@@ -61,7 +61,7 @@ module _ (power : PowerModel) (image : Image) (notes : List LoopNote) (v : FlowG
 
   -- ---- the weights
 
-  module _ (s : SitesView) (wanted : ℕ → Bool) (has : HasMarks v t wanted s) (ws : List ℕ) (size : length ws ≡ length v.code.edges) (costs : Costs) (same_costs : costs ≡ power.costs)
+  module _ (share : ℕ) (s : SitesView) (wanted : Wanted) (has : HasMarks v t wanted s) (ws : List ℕ) (size : length ws ≡ length v.code.edges) (costs : Costs) (same_costs : costs ≡ power.costs)
       (given : (e : ℕ) → e < length v.code.edges → slice_index ws e ≡ slice_index (map (cost_of (cycles_of costs)) v.classes) e + extra_of costs (slice_index s.jumps e) (marks_at_edge s e))
       (small : (e : ℕ) → e < length v.code.edges → slice_index ws e ≤ 4294967295) where
     abbrev w : ℕ → ℕ
@@ -104,7 +104,7 @@ module _ (power : PowerModel) (image : Image) (notes : List LoopNote) (v : FlowG
     light : (e : ℕ) → e < (graph v).edges → w e ≤ 4294967295
     light e lt = let a = at_edge e lt in let b = small e lt in omega (arith, a, b)
 
-    pub worst_stopped : (stop : Stop) → AnswersBy {X = WorstView} {Y = WorstView} (λ n. n) (Err stop) (IsWorstFound (graph v) (loops v t) (by_edge ws)) → AnswersBy {X = Marking × ℕ} {Y = Marking × ℕ} (λ x. x) (Err stop) (IsMarkingFound power image v t wanted)
+    pub worst_stopped : (stop : Stop) → AnswersBy {X = WorstView} {Y = WorstView} (λ n. n) (Err stop) (IsWorstFound (graph v) (loops v t) (by_edge ws)) → AnswersBy {X = Marking × ℕ} {Y = Marking × ℕ} (λ x. x) (Err stop) (IsMarkingFound power image v t wanted share)
     worst_stopped Memory h = tt
     worst_stopped (Refused refusal) h = (h.1.0, record { stored_are = stored_numbers h.1.0 h.1.1; why = inl ((omega (arith, h.1.2)), h.0) })
 
@@ -129,12 +129,12 @@ module _ (power : PowerModel) (image : Image) (notes : List LoopNote) (v : FlowG
       pub least_in_range : HasWorstInRange v (loops v t) (number_in_place ws)
       least_in_range = (n, found.numbers.1, short)
 
-      late_by : (o : Option ℕ) → slowest_of power total ≡ o → (refusal : Refusal) → Err refusal ≡ starting_of power total o → IsMarkingFound power image v t wanted (Err refusal)
+      late_by : (o : Option ℕ) → slowest_of power total ≡ o → (refusal : Refusal) → Err refusal ≡ starting_of power total o → IsMarkingFound power image v t wanted share (Err refusal)
       late_by None slow refusal e =
           (n, record { stored_are = are; why = inr (short, subst (λ k. slowest_of power k ≡ None) total_worst slow, (let q : refusal ≡ Rattle.scale_base.specs.declared.refusal.Refusal.TheVariants.DeadlineMissed (Rattle.power_model.specs.Price.time_at power (Rattle.power_model.specs.Slowest.fastest power) total) power.deadline = cc in subst (λ k. refusal ≡ Rattle.scale_base.specs.declared.refusal.Refusal.TheVariants.DeadlineMissed (Rattle.power_model.specs.Price.time_at power (Rattle.power_model.specs.Slowest.fastest power) k) power.deadline) total_worst q)) })
       late_by (Some start) slow refusal e = let never : ⊥ = cc in absurd never
 
-      pub late : (refusal : Refusal) → Err refusal ≡ chosen_level power total → IsMarkingFound power image v t wanted (Err refusal)
+      pub late : (refusal : Refusal) → Err refusal ≡ chosen_level power total → IsMarkingFound power image v t wanted share (Err refusal)
       late refusal e = late_by (slowest_of power total) refl refusal e
 
       slow_by : (o : Option ℕ) → slowest_of power total ≡ o → (start : ℕ) → Ok start ≡ starting_of power total o → slowest_of power (n.worst 0) ≡ Some start
@@ -145,9 +145,9 @@ module _ (power : PowerModel) (image : Image) (notes : List LoopNote) (v : FlowG
       analyzed = record { program = is.flow.program; accepted = tree.tree.accepted; weights = calls_alike wanted has.kinds; numbers = are }
 
       pub marking_found : (start : ℕ) → Ok start ≡ chosen_level power total → HasLeftSizes v x → IsLeftOf v (loops v t) (by_edge ws) x → (counted : List ℕ) → counted ≡ counted_loops t → (ends : LeastView) → IsLeastOf v (loops v t) (number_in_place ws) ends → AreSmallLeast v ends
-          → (b : LevelBudgets) → ((i : ℕ) → budget_at b i ≡ paced_budget power start total i) → (m : Marking) → m ≡ record { counters = counted; sites = s; worst = x; least = ends; budgets = b } → IsMarkingFound power image v t wanted (Ok (m, start))
+          → (b : LevelBudgets) → ((i : ℕ) → budget_at b i ≡ paced_budget power start total share i) → (m : Marking) → m ≡ record { counters = counted; sites = s; worst = x; least = ends; budgets = b } → IsMarkingFound power image v t wanted share (Ok (m, start))
       marking_found start started sizes left counted counted_is ends found_least ends_small b budgets m m_is =
-          (n, found_least.0, subst (λ (q : Marking). IsMarkedAt power image v t wanted n found_least.0 q start) (sym m_is) whole)
+          (n, found_least.0, subst (λ (q : Marking). IsMarkedAt power image v t wanted n found_least.0 share q start) (sym m_is) whole)
         where
           holds : HoldsLeast v (loops v t) found_least.0 ends
           holds = found_least.2
@@ -180,7 +180,7 @@ module _ (power : PowerModel) (image : Image) (notes : List LoopNote) (v : FlowG
             after_small = λ e z lt to. ends_small.after e z (holds.after e lt ∙ ap Some to);
           }
 
-          whole : IsMarkedAt power image v t wanted n found_least.0 (record { counters = counted; sites = s; worst = x; least = ends; budgets = b }) start
+          whole : IsMarkedAt power image v t wanted n found_least.0 share (record { counters = counted; sites = s; worst = x; least = ends; budgets = b }) start
           whole = record {
             stored_are = are;
             least_are = least_are;
@@ -188,7 +188,7 @@ module _ (power : PowerModel) (image : Image) (notes : List LoopNote) (v : FlowG
             marking = marking;
             short = short;
             worst = here;
-            budgets = λ i. budgets i ∙ ap (λ k. paced_budget power start k i) total_worst;
+            budgets = λ i. budgets i ∙ ap (λ k. paced_budget power start k share i) total_worst;
             slow = slow_by (slowest_of power total) refl start started;
           }
 

@@ -1,7 +1,6 @@
 -- What a marking says of the marks of an edge, and of the loops of their counters.
-use Rattle.std.proofs.Common.{◌≡◌, ℕ, zero, suc, ◌+◌, ◌-◌, ◌*◌, ◌^◌, ◌<◌, ◌≤◌, Bool, true, not, ◌&&◌, List, [], ◌∷◌, ◌++◌, length, slice_get, Some, refl, sym, ap, ◌∙◌, subst, arith, append_assoc}
+use Rattle.std.proofs.Common.{◌≡◌, ℕ, zero, suc, ◌+◌, ◌-◌, ◌*◌, ◌^◌, ◌<◌, ◌≤◌, Bool, true, List, [], ◌∷◌, length, slice_get, Some, refl, sym, ap, ◌∙◌, subst, arith}
 use Rattle.std.specs.Prelude.{All, slice_index}
-use Rattle.std.proofs.lemmas.List.Elements.{All-append}
 use Rattle.std.proofs.lemmas.Option.{slice_get_within, get_or_from_slice_get}
 use Rattle.scale_base.specs.declared.fragments.Fragment.TheVariants as fragments
 use Rattle.scale_base.specs.Image.{Image}
@@ -15,16 +14,18 @@ use Rattle.loop_tree.specs.Tree.{LoopView, loops}
 use Rattle.scale_base.specs.declared.fragments.Mark.{Mark}
 use Rattle.scale_base.specs.declared.fragments.Mark.TheVariants as marks
 use Rattle.scale_sites.specs.Counters.{counted_loops}
-use Rattle.scale_sites.specs.Marks.{first_counter, is_outermost, switch_of, exits_from, resets_from, counts_from, AreLoopsOnce}
-use Rattle.scale_sites.specs.Sites.{marks_at_edge}
+use Rattle.scale_sites.specs.Forms.{IsQuietMark, IsFirstAlone}
+use Rattle.scale_sites.specs.Marks.{first_counter, AreLoopsOnce}
+use Rattle.scale_sites.specs.Sites.{marks_at_edge, marks_where}
 use Rattle.scale_sites.specs.Weights.{switches}
-use Rattle.scale_sites.proofs.Laws.{switches-one}
+use Rattle.scale_sites.proofs.Laws.{marks_store_first, formed_stores_first}
 use Rattle.rewritten_runs.specs.Stubs.{told_at, fragment_by, loop_of}
-use Rattle.rewritten_runs.proofs.Laws.{IsMarkOf, IsQuietMark, counts_are, in_get, marks_all, marks_are, resets_are, set_distinct}
+use Rattle.rewritten_runs.proofs.Laws.{IsCounter, IsMarkOf, in_get, marks_are, set_distinct}
 use Rattle.scaler.proofs.Laws.{IsLoud, counted_loop}
 use Rattle.paced_images.specs.declared.stubs.Marking.{Marking}
 use Rattle.paced_images.specs.Markings.{IsMarking, test_of}
-use Rattle.paced_images.specs.Wanted.{marked_where}
+use Rattle.paced_images.proofs.FormedMarks.{forms_are}
+use Rattle.paced_images.specs.Wanted.{Wanted, marked_where}
 
 -- ---- the first mark
 
@@ -33,25 +34,28 @@ loud_switches marks.Switch ms h = refl
 loud_switches (marks.Exit c) ms h = refl
 loud_switches (marks.Reset c) ms h = absurd h
 loud_switches (marks.Count c) ms h = absurd h
+loud_switches marks.Lowest ms h = refl
+loud_switches (marks.Tally c) ms h = refl
 
 not_both : (m : Mark) → IsLoud m → IsQuietMark m → ⊥
 not_both marks.Switch h q = q
 not_both (marks.Exit c) h q = q
 not_both (marks.Reset c) h q = h
 not_both (marks.Count c) h q = h
+not_both marks.Lowest h q = q
+not_both (marks.Tally c) h q = q
 
 none_loud : (ms : List Mark) (i : ℕ) (m : Mark) → All IsQuietMark ms → slice_get ms i ≡ Some m → IsLoud m → ⊥
 none_loud [] i m all at h = let never : ⊥ = cc in never
 none_loud (q ∷ ms) zero m all at h = let e : q ≡ m = cc in not_both m h (subst IsQuietMark e (all 0 q (omega arith)))
 none_loud (q ∷ ms) (suc i) m all at h = none_loud ms i m (λ k d lt. all (suc k) d (omega arith)) at h
 
-first_loud : (first rest : List Mark) (i : ℕ) (m : Mark) → length first ≤ 1 → All IsQuietMark rest → slice_get (first ++ rest) i ≡ Some m → IsLoud m → switches (first ++ rest) ≡ true
-first_loud [] rest i m few all at h = absurd (none_loud rest i m all at h)
-first_loud (x ∷ []) rest zero m few all at h = let e : x ≡ m = cc in loud_switches x rest (subst IsLoud (sym e) h)
-first_loud (x ∷ []) rest (suc i) m few all at h = absurd (none_loud rest i m all at h)
-first_loud (x ∷ y ∷ first) rest i m few all at h = let bad : ⊥ = omega arith in absurd bad
+first_loud : (ms : List Mark) (i : ℕ) (m : Mark) → IsFirstAlone ms → slice_get ms i ≡ Some m → IsLoud m → switches ms ≡ true
+first_loud [] i m alone at h = let never : ⊥ = cc in absurd never
+first_loud (x ∷ ms) zero m alone at h = let e : x ≡ m = cc in loud_switches x ms (subst IsLoud (sym e) h)
+first_loud (x ∷ ms) (suc i) m alone at h = absurd (none_loud ms i m alone at h)
 
-module _ (power : PowerModel) (image : Image) (v : FlowGraph) (t : LoopView) (wanted : ℕ → Bool) (stored : Numbers) (least : Charged) (m : Marking) (is : IsMarking power image v t wanted stored least m) where
+module _ (power : PowerModel) (image : Image) (v : FlowGraph) (t : LoopView) (wanted : Wanted) (stored : Numbers) (least : Charged) (m : Marking) (is : IsMarking power image v t wanted stored least m) where
   loops_are : AreLoopsOnce (loops v t) (counted_loops t)
   loops_are k h =
       let at = in_get k (counted_loops t) h in
@@ -61,23 +65,13 @@ module _ (power : PowerModel) (image : Image) (v : FlowGraph) (t : LoopView) (wa
 
   pub marking_switches : (e i : ℕ) (mark : Mark) → e < length v.code.edges → slice_get (marks_at_edge m.sites e) i ≡ Some mark → IsLoud mark → switches (marks_at_edge m.sites e) ≡ true
   marking_switches e i mark lt at loud =
-      let l = loops v t in
-      let u = (graph v).source e in
-      let p = (graph v).target e in
-      let counted = counted_loops t in
-      let s = switch_of l u p counted (wanted e) 0 0 in
-      let x = exits_from l u p counted first_counter counted in
-      let r = resets_from l u p counted first_counter counted in
-      let c = counts_from l u p first_counter counted in
-      let few = switches-one (graph v) l is.tree.0 is.code.flow.program is.tree.1.accepted counted loops_are e (wanted e) 0 0 first_counter lt (set_distinct 0 t.counted) in
-      let one : All IsQuietMark r = subst (All IsQuietMark) (sym (resets_are l u p counted first_counter counted)) (marks_all IsQuietMark (λ k. leaves l k u p && not (is_outermost l u p k counted)) marks.Reset first_counter counted (λ j k q on. tt)) in
-      let two : All IsQuietMark c = subst (All IsQuietMark) (sym (counts_are l u p first_counter counted)) (marks_all IsQuietMark (λ k. goes_back l k u p) marks.Count first_counter counted (λ j k q on. tt)) in
-      let whole : marks_at_edge m.sites e ≡ (s ++ x) ++ (r ++ c) = is.marks e lt ∙ sym (append_assoc s x (r ++ c)) in
-      ap switches whole ∙ first_loud (s ++ x) (r ++ c) i mark few (All-append IsQuietMark r c one two) (sym (ap (λ ms. slice_get ms i) whole) ∙ at) loud
+      let alone = marks_store_first (graph v) (loops v t) is.tree.0 (counted_loops t) is.code.flow.program is.tree.1.accepted loops_are (set_distinct 0 t.counted) e (wanted.switch e) 0 0 lt in
+      let formed_alone = formed_stores_first (wanted.lowest e) wanted.tallied (marks_where v t (counted_loops t) wanted.switch e) alone in
+      first_loud (marks_at_edge m.sites e) i mark (subst IsFirstAlone (sym (is.marks e lt)) formed_alone) at loud
 
   -- ---- the loop of a counter
 
-  pub record IsExitOf (counter : ℕ) : Type 0 where
+  pub record IsLoopOf (counter : ℕ) : Type 0 where
     pub place : ℕ
     pub loop : ℕ
     pub counter_is : counter ≡ 2 + place
@@ -91,10 +85,8 @@ module _ (power : PowerModel) (image : Image) (v : FlowGraph) (t : LoopView) (wa
   all_get P (y ∷ xs) zero x all at = let e : y ≡ x = cc in subst P e (all 0 y (omega arith))
   all_get P (y ∷ xs) (suc i) x all at = all_get P xs i x (λ k d lt. all (suc k) d (omega arith)) at
 
-  pub exit_is : (e i counter : ℕ) → e < length v.code.edges → slice_get (marks_at_edge m.sites e) i ≡ Some (marks.Exit counter) → IsExitOf counter
-  exit_is e i counter lt at =
-      let all = marks_are (loops v t) (counted_loops t) (wanted e) 0 0 ((graph v).source e) ((graph v).target e) in
-      let f = all_get (IsMarkOf (loops v t) (counted_loops t) (wanted e) ((graph v).source e) ((graph v).target e)) (marked_where v t wanted e) i (marks.Exit counter) all (sym (ap (λ ms. slice_get ms i) (is.marks e lt)) ∙ at) in
+  counter_is : (P : ℕ → Type 0) (counter : ℕ) → IsCounter (counted_loops t) counter P → IsLoopOf counter
+  counter_is P counter f =
       let within = slice_get_within (counted_loops t) f.place f.loop f.get in
       let same : length m.counters ≡ length (counted_loops t) = ap length is.counters in
       let back : counter - first_counter ≡ f.place = (let q = f.is in omega (arith, q)) in
@@ -107,6 +99,20 @@ module _ (power : PowerModel) (image : Image) (v : FlowGraph) (t : LoopView) (wa
         small = counted_loop v t is.tree.0 f.place f.loop is.tree.1 f.get;
         loop_is = ap (slice_index (counted_loops t)) back ∙ get_or_from_slice_get (counted_loops t) f.place f.loop 0 f.get;
       }
+
+  mark_is : (e i : ℕ) (mark : Mark) → e < length v.code.edges → slice_get (marks_at_edge m.sites e) i ≡ Some mark → IsMarkOf (loops v t) (counted_loops t) (wanted.switch e) ((graph v).source e) ((graph v).target e) mark
+  mark_is e i mark lt at =
+      let l = loops v t in
+      let u = (graph v).source e in
+      let p = (graph v).target e in
+      let all = forms_are l (counted_loops t) (wanted.switch e) u p (wanted.lowest e) wanted.tallied (marks_where v t (counted_loops t) wanted.switch e) (marks_are l (counted_loops t) (wanted.switch e) 0 0 u p) in
+      all_get (IsMarkOf l (counted_loops t) (wanted.switch e) u p) (marked_where v t wanted e) i mark all (sym (ap (λ ms. slice_get ms i) (is.marks e lt)) ∙ at)
+
+  pub exit_is : (e i counter : ℕ) → e < length v.code.edges → slice_get (marks_at_edge m.sites e) i ≡ Some (marks.Exit counter) → IsLoopOf counter
+  exit_is e i counter lt at = counter_is (λ k. leaves (loops v t) k ((graph v).source e) ((graph v).target e) ≡ true) counter (mark_is e i (marks.Exit counter) lt at)
+
+  pub tally_is : (e i counter : ℕ) → e < length v.code.edges → slice_get (marks_at_edge m.sites e) i ≡ Some (marks.Tally counter) → IsLoopOf counter
+  tally_is e i counter lt at = counter_is (λ k. goes_back (loops v t) k ((graph v).source e) ((graph v).target e) ≡ true) counter (mark_is e i (marks.Tally counter) lt at)
 
   -- the bound and an iteration of the loop
   pub turns_fit : (k bound iteration : ℕ) → k < length t.headers → slice_get t.bounds k ≡ Some bound → slice_get m.worst.iteration k ≡ Some iteration → bound * iteration ≤ 2 ^ 48
@@ -126,3 +132,18 @@ module _ (power : PowerModel) (image : Image) (v : FlowGraph) (t : LoopView) (wa
       let four = r ∙ (ap (λ x. tables.all_rows_by power (test_of power m) x iteration told) one ∙ (ap (λ x. tables.all_rows_by power (test_of power m) ((loops v t).bound (loop_of (counted_loops t) counter)) x told) two
       ∙ ap (tables.all_rows_by power (test_of power m) ((loops v t).bound (loop_of (counted_loops t) counter)) (stored.iteration (loop_of (counted_loops t) counter))) tl)) in
       ap (λ x. fragments.Exit counter x rows) three ∙ ap (fragments.Exit counter (tables.shift_of ((loops v t).bound (loop_of (counted_loops t) counter)))) four
+
+  pub tally_fragment : (e counter k bound iteration shift from : ℕ) (told : tables.EdgeNumbers) → k < length t.headers → loop_of (counted_loops t) counter ≡ k → slice_get t.bounds k ≡ Some bound → slice_get m.worst.iteration k ≡ Some iteration
+      → shift ≡ tables.tally_shift bound → from ≡ tables.tally_from power (test_of power m) bound iteration told → told ≡ told_at power image v t (marked_where v t wanted) stored least e
+      → fragments.Tally counter shift from ≡ fragment_by power (test_of power m) (loops v t) (counted_loops t) stored (told_at power image v t (marked_where v t wanted) stored least e) (marks.Tally counter)
+  tally_fragment e counter k bound iteration shift from told lt here b i s f tl =
+      let one : bound ≡ (loops v t).bound (loop_of (counted_loops t) counter) = sym (get_or_from_slice_get t.bounds k bound 0 b) ∙ ap (loops v t).bound (sym here) in
+      let two : iteration ≡ stored.iteration (loop_of (counted_loops t) counter) = (let q : iteration ≡ stored.iteration k = (let e2 = is.iteration k lt in cc) in q ∙ ap stored.iteration (sym here)) in
+      let three : shift ≡ tables.tally_shift ((loops v t).bound (loop_of (counted_loops t) counter)) = s ∙ ap tables.tally_shift one in
+      let four = f ∙ (ap (λ x. tables.tally_from power (test_of power m) x iteration told) one ∙ (ap (λ x. tables.tally_from power (test_of power m) ((loops v t).bound (loop_of (counted_loops t) counter)) x told) two
+      ∙ ap (tables.tally_from power (test_of power m) ((loops v t).bound (loop_of (counted_loops t) counter)) (stored.iteration (loop_of (counted_loops t) counter))) tl)) in
+      ap (λ x. fragments.Tally counter x from) three ∙ ap (fragments.Tally counter (tables.tally_shift ((loops v t).bound (loop_of (counted_loops t) counter)))) four
+
+  pub lowest_fragment : (e : ℕ) (down : Bool) (told : tables.EdgeNumbers) → down ≡ tables.goes_lowest power (test_of power m) told → told ≡ told_at power image v t (marked_where v t wanted) stored least e
+      → fragments.Lowest down ≡ fragment_by power (test_of power m) (loops v t) (counted_loops t) stored (told_at power image v t (marked_where v t wanted) stored least e) marks.Lowest
+  lowest_fragment e down told d tl = ap fragments.Lowest (d ∙ ap (tables.goes_lowest power (test_of power m)) tl)

@@ -1,5 +1,6 @@
 -- The stored image of a paced program keeps the promise: its tables keep budgets.
-use Rattle.std.proofs.Common.{◌≡◌, ℕ, ◌+◌, ◌<◌, ◌≤◌, ◌==◌, Bool, true, false, cond, List, length, Some, None, Ok, refl, sym, ap, subst, arith, eq-eqb}
+use Rattle.std.proofs.Common.{◌≡◌, ℕ, ◌+◌, ◌-◌, ◌*◌, ◌/◌, ◌<◌, ◌≤◌, ◌==◌, nat_lt, Bool, true, false, cond, List, length, Some, None, Ok, refl, sym, ap, subst, arith, eq-eqb}
+use Rattle.std.proofs.Math.Nat.{mul-le-mul_right}
 use Rattle.scale_base.specs.declared.ranges.Keyed.{Keyed}
 use Rattle.scale_base.specs.Image.{Image, image_of}
 use Rattle.scale_base.specs.Run.{starting_level}
@@ -33,7 +34,7 @@ use Rattle.rewritten_runs.proofs.Laws.{countable, graph_program, kept_by_tree, l
 use Rattle.scaler.proofs.Laws.{found_in_time}
 use Rattle.paced_images.specs.declared.wanted.SwitchSite.{SwitchSite}
 use Rattle.paced_images.specs.Paced.{paced_budget, paced_test}
-use Rattle.paced_images.specs.Wanted.{wanted_by}
+use Rattle.paced_images.specs.Wanted.{Wanted, wanted_of}
 use Rattle.paced_images.proofs.Ended.{promised}
 use Rattle.paced_images.proofs.PacedCounts.{are_marked}
 use Rattle.paced_images.proofs.PacedTables.{tabled}
@@ -56,25 +57,33 @@ unfolding stored_view
 view_key image file base block start = refl
 
 -- budgets are within the deadline
-budget_within : (power : PowerModel) (start worst i : ℕ) → time_at power start worst ≤ power.deadline → paced_budget power start worst i ≤ power.deadline
-budget_within power start worst i le = by (i == start)
+quarters : (share time : ℕ) → share ≤ 4 → share * time / 4 ≤ time
+quarters share time few =
+    let more : share * time ≤ 4 * time = mul-le-mul_right {m = share} {n = 4} time few in
+    omega (arith, more)
+
+budget_within : (power : PowerModel) (start worst share i : ℕ) → share ≤ 4 → time_at power start worst ≤ power.deadline → paced_budget power start worst share i ≤ power.deadline
+budget_within power start worst share i few le = by (i == start) (i == 0) (nat_lt i start)
   where
-    by : (b : Bool) → cond b (time_at power start worst) power.deadline ≤ power.deadline
-    by true = le
-    by false = omega arith
+    by : (a b c : Bool) → cond a (time_at power start worst) (cond b power.deadline (cond c (time_at power start worst + share * (power.deadline - time_at power start worst) / 4) 0)) ≤ power.deadline
+    by true b c = le
+    by false true c = omega arith
+    by false false true = let part = quarters share (power.deadline - time_at power start worst) few in omega (arith, part, le)
+    by false false false = omega arith
 
-budget_first : (power : PowerModel) (start worst : ℕ) → paced_budget power start worst start ≡ time_at power start worst
-budget_first power start worst = ap (λ b. cond b (time_at power start worst) power.deadline) (eq-eqb start start refl)
+budget_first : (power : PowerModel) (start worst share : ℕ) → paced_budget power start worst share start ≡ time_at power start worst
+budget_first power start worst share =
+    ap (λ b. cond b (time_at power start worst) (cond (start == 0) power.deadline (cond (nat_lt start start) (time_at power start worst + share * (power.deadline - time_at power start worst) / 4) 0))) (eq-eqb start start refl)
 
-module _ (power : PowerModel) (ok : IsPowerModel power) (image : Image) (notes : List LoopNote) (wanted : List SwitchSite) (sites : List Site) (base start : ℕ) (read : image_of image.file ≡ Ok image) (no_key : image.keyed_segment ≡ None) (short : length image.file ≤ 4194304) (is : IsMade power image notes wanted sites base start) where
-  abbrev chosen : ℕ → Bool
-  chosen = wanted_by is.code wanted
+module _ (power : PowerModel) (ok : IsPowerModel power) (image : Image) (notes : List LoopNote) (wanted : List SwitchSite) (tallied : List ℕ) (share : ℕ) (sites : List Site) (base start : ℕ) (read : image_of image.file ≡ Ok image) (no_key : image.keyed_segment ≡ None) (short : length image.file ≤ 4194304) (few_quarters : share ≤ 4) (is : IsMade power image notes wanted tallied share sites base start) where
+  abbrev chosen : Wanted
+  chosen = wanted_of is.code is.tree wanted tallied
 
   abbrev test : Rattle.level_tables.specs.Tables.EdgeNumbers → ℕ → ℕ → Bool
-  test = paced_test power start (is.stored.worst 0)
+  test = paced_test power start (is.stored.worst 0) share
 
   abbrev budget : ℕ → ℕ
-  budget = paced_budget power start (is.stored.worst 0)
+  budget = paced_budget power start (is.stored.worst 0) share
 
   abbrev l : Loops
   l = loops is.code is.tree
@@ -88,7 +97,7 @@ module _ (power : PowerModel) (ok : IsPowerModel power) (image : Image) (notes :
   abbrev limits : ℕ → ℕ
   limits w = l.bound (Rattle.rewritten_runs.specs.Stubs.loop_of (counted_loops is.tree) w)
 
-  kinds : Rattle.paced_images.specs.Markings.ChoosesSites is.code chosen
+  kinds : Rattle.paced_images.specs.Markings.ChoosesSites is.code chosen.switch
   kinds = chooses is.code wanted
 
   abbrev plain : Numbers
@@ -109,12 +118,12 @@ module _ (power : PowerModel) (ok : IsPowerModel power) (image : Image) (notes :
   stubbed : IsStubbed image.file image levels limits sites base start stored
   stubbed = record {
     read = read;
-    storable = can_store power ok image notes wanted sites base start read no_key short is;
-    stored_is = law image.file image (patches_from base sites) base (block_bytes base sites) start read (can_store power ok image notes wanted sites base start read no_key short is);
+    storable = can_store power ok image notes wanted tallied share sites base start read no_key short is;
+    stored_is = law image.file image (patches_from base sites) base (block_bytes base sites) start read (can_store power ok image notes wanted tallied share sites base start read no_key short is);
     near = is.near;
     ascending = is.stubs.sites_are.ascending;
-    safe = safe_stubs power ok image notes wanted sites base start read no_key short is;
-    start_is_level = start_low power ok image notes wanted sites base start read no_key short is;
+    safe = safe_stubs power ok image notes wanted tallied share sites base start read no_key short is;
+    start_is_level = start_low power ok image notes wanted tallied share sites base start read no_key short is;
     few_levels = ok.few;
     small_limits = λ k. let b = bound_small power ok image notes is.code is.tree chosen is.stored is.weighed kinds test is.least sites is.stubs.sites_are (Rattle.rewritten_runs.specs.Stubs.loop_of (counted_loops is.tree) k) in omega (arith, b);
   }
@@ -141,20 +150,20 @@ module _ (power : PowerModel) (ok : IsPowerModel power) (image : Image) (notes :
     analyzed = record {
       program = graph_program power image notes is.code is.tree plain other weighed;
       accepted = prog.loops;
-      weights = (weights_of_calls image levels limits sites is.code.code (costs_of power) (safe_stubs power ok image notes wanted sites base start read no_key short is)).0;
+      weights = (weights_of_calls image levels limits sites is.code.code (costs_of power) (safe_stubs power ok image notes wanted tallied share sites base start read no_key short is)).0;
       numbers = subst (λ (q : Graph). AreNumbers q l (weights_of power (text_of image) is.code.code sites) is.stored) (sym is.weighed.code_is.graph_is) (subst (λ (w : ℕ → ℕ). AreNumbers (graph is.code) l w is.stored) (sym same_stored) is.weighed.stored_are);
     };
     added = record {
       program = graph_program power image notes is.code is.tree plain other weighed;
       accepted = prog.loops;
-      weights = (weights_of_calls image levels limits sites is.code.code (costs_of power) (safe_stubs power ok image notes wanted sites base start read no_key short is)).1;
+      weights = (weights_of_calls image levels limits sites is.code.code (costs_of power) (safe_stubs power ok image notes wanted tallied share sites base start read no_key short is)).1;
       numbers = subst (λ (q : Graph). AreNumbers q l (marked_specs.extra_site_weights (text_of image) is.code.code (costs_of power) sites) is.extra) (sym is.weighed.code_is.graph_is) (subst (λ (w : ℕ → ℕ). AreNumbers (graph is.code) l w is.extra) (sym same_extra) is.stubs.extra_are);
     };
     least_is = subst (λ (q : Graph). AreCharged q l (weights_of power (text_of image) is.code.code sites) is.least) (sym is.weighed.code_is.graph_is) (subst (λ (w : ℕ → ℕ). AreCharged (graph is.code) l w is.least) (sym same_stored) is.stubs.least_are);
-    tables = tables_keep_budgets power budget (text_of image) is.code.code l sites is_of is.stored is.least (tabled power ok.few image notes is.code is.tree chosen is.stored is.weighed kinds test is.least sites is.stubs.sites_are);
+    tables = tables_keep_budgets power budget (text_of image) is.code.code l sites is_of is.stored is.least (tabled power ok image notes is.code is.tree chosen is.stored is.weighed kinds budget is.least sites is.stubs.sites_are);
     budgets = record {
-      first = (let e = budget_first power start (is.stored.worst 0) in omega (arith, e));
-      within = λ i low. budget_within power start (is.stored.worst 0) i in_time;
+      first = (let e = budget_first power start (is.stored.worst 0) share in omega (arith, e));
+      within = λ i low. budget_within power start (is.stored.worst 0) share i few_quarters in_time;
     };
   }
 
@@ -168,5 +177,5 @@ module _ (power : PowerModel) (ok : IsPowerModel power) (image : Image) (notes :
   keeps input steps status kept exited =
       let k = kept_by_tree is.code notes is.tree is.weighed.tree_is image levels input steps kept.carried kept.kept in
       let r = budgeted_safe power budget image stored limits sites start is.code.code l extent is_of is.stored is.least is.extra budgeted input steps kept.carried k in
-      let is_level : starting_level levels stored.keyed_segment < levels = (let lt = start_low power ok image notes wanted sites base start read no_key short is in omega (arith, lt, starts)) in
+      let is_level : starting_level levels stored.keyed_segment < levels = (let lt = start_low power ok image notes wanted tallied share sites base start read no_key short is in omega (arith, lt, starts)) in
       promised power image stored sites is.code.code l is_of is.stored is.extra input steps status kept.carried is_level (subst (λ i. Rattle.paid_runs.specs.Patched.IsTunedRun power image stored sites i is.code.code l is_of is.stored is.extra input steps kept.carried) (sym starts) r.0) exited

@@ -20,26 +20,25 @@ use Rattle.rewritten_runs.specs.Promise.{KeepsThePromise}
 use Rattle.scaler.specs.Held.{unscaled}
 use Rattle.scaler.specs.Rewritten.{rewritten_summary}
 use Rattle.scaler.specs.Promise.{FilesKeepThePromise, IsStoredSafely}
-use Rattle.scaler.specs.RewrittenAs.{notes_with}
 use Rattle.scaler.proofs.Laws.{file_is, found_in_time, is_unscaled, near_of, read_again, then_ok}
 use Rattle.paced_images.specs.declared.wanted.SwitchSite.{SwitchSite}
 use Rattle.paced_images.specs.Paced.{IsPaced, IsPacedProgram, IsProgramPaced}
-use Rattle.paced_images.specs.Wanted.{marked_at}
+use Rattle.paced_images.specs.Wanted.{notes_by, marked_at}
 use Rattle.paced_images.proofs.Storing.{IsMade}
 use Rattle.paced_images.proofs.Uncounted.{promise_of}
 use Rattle.paced_images.proofs.PacedRuns.{stored as stored_image_of, stored_is, keeps, view_text, view_key, key_of}
 
-paced_program : (power : PowerModel) (original : Image) (notes : List LoopNote) (wanted : List SwitchSite) (given : List ℕ × Summary) → IsPacedProgram power original notes wanted (Ok given) → IsProgramPaced power original notes wanted (Ok given)
-paced_program power original notes wanted given (inl h) = let e : Ok given ≡ Err h.refusal = h.answer_is in absurd cc
-paced_program power original notes wanted given (inr (inl h)) = let e : Ok given ≡ Err h.refusal = h.answer_is in absurd cc
-paced_program power original notes wanted given (inr (inr (inl h))) = let e : Ok given ≡ Err h.refusal = h.answer_is in absurd cc
-paced_program power original notes wanted given (inr (inr (inr (inl h)))) = let e = h.answer_is in absurd cc
-paced_program power original notes wanted given (inr (inr (inr (inr (inl h))))) = let e = h.answer_is in absurd cc
-paced_program power original notes wanted given (inr (inr (inr (inr (inr h))))) = h
+paced_program : (power : PowerModel) (original : Image) (notes : List LoopNote) (wanted : List SwitchSite) (tallied : List ℕ) (share : ℕ) (given : List ℕ × Summary) → IsPacedProgram power original notes wanted tallied share (Ok given) → IsProgramPaced power original notes wanted tallied share (Ok given)
+paced_program power original notes wanted tallied share given (inl h) = let e : Ok given ≡ Err h.refusal = h.answer_is in absurd cc
+paced_program power original notes wanted tallied share given (inr (inl h)) = let e : Ok given ≡ Err h.refusal = h.answer_is in absurd cc
+paced_program power original notes wanted tallied share given (inr (inr (inl h))) = let e : Ok given ≡ Err h.refusal = h.answer_is in absurd cc
+paced_program power original notes wanted tallied share given (inr (inr (inr (inl h)))) = let e = h.answer_is in absurd cc
+paced_program power original notes wanted tallied share given (inr (inr (inr (inr (inl h))))) = let e = h.answer_is in absurd cc
+paced_program power original notes wanted tallied share given (inr (inr (inr (inr (inr h))))) = h
 
 -- ---- what it went through
 
-record WentThrough (image machine loops : List ℕ) (wanted : List SwitchSite) (counted : Bool) (given : List ℕ × Summary) : Type 0 where
+record WentThrough (image machine loops : List ℕ) (wanted : List SwitchSite) (counted : Bool) (tallied : List ℕ) (share : ℕ) (given : List ℕ × Summary) : Type 0 where
   power : PowerModel
   original : Image
   notes : List LoopNote
@@ -47,11 +46,11 @@ record WentThrough (image machine loops : List ℕ) (wanted : List SwitchSite) (
   original_is : image_of image ≡ Ok original
   no_key : original.keyed_segment ≡ None
   notes_are : read_loops original loops ≡ Ok notes
-  program : IsProgramPaced power original (notes_with counted notes) wanted (Ok given)
+  program : IsProgramPaced power original (notes_by counted tallied notes) wanted tallied share (Ok given)
 
-went_through : (image machine loops : List ℕ) (wanted : List SwitchSite) (counted : Bool) (given : List ℕ × Summary) → IsPaced image machine loops wanted counted (Ok given) → WentThrough image machine loops wanted counted given
+went_through : (image machine loops : List ℕ) (wanted : List SwitchSite) (counted : Bool) (tallied : List ℕ) (share : ℕ) (given : List ℕ × Summary) → IsPaced image machine loops wanted counted tallied share (Ok given) → WentThrough image machine loops wanted counted tallied share given
 unfolding IsPaced
-went_through image machine loops wanted counted given h =
+went_through image machine loops wanted counted tallied share given h =
     let a = then_ok (read_machine machine) _ given h in
     let b = then_ok (image_of image) _ given a.2 in
     let c = then_ok (unscaled b.0.keyed_segment) _ given b.2 in
@@ -64,29 +63,29 @@ went_through image machine loops wanted counted given h =
       original_is = b.1;
       no_key = is_unscaled b.0.keyed_segment c.1;
       notes_are = d.1;
-      program = paced_program a.0 b.0 (notes_with counted d.0) wanted given d.2;
+      program = paced_program a.0 b.0 (notes_by counted tallied d.0) wanted tallied share given d.2;
     }
 
 -- ---- the law
 
-pub safe : (image machine loops : List ℕ) (wanted : List SwitchSite) (counted : Bool) (stored : List ℕ) (summary : Summary) → length image ≤ 4194304 → length machine ≤ 1048576 → length loops ≤ 1048576 → IsPaced image machine loops wanted counted (Ok ((stored, summary)))
+pub safe : (image machine loops : List ℕ) (wanted : List SwitchSite) (counted : Bool) (tallied : List ℕ) (share : ℕ) (stored : List ℕ) (summary : Summary) → length image ≤ 4194304 → length machine ≤ 1048576 → length loops ≤ 1048576 → share ≤ 4 → IsPaced image machine loops wanted counted tallied share (Ok ((stored, summary)))
     → IsStoredSafely image machine loops stored summary
-safe image machine loops wanted counted stored summary short _ _ h =
-    let went = went_through image machine loops wanted counted (stored, summary) h in
+safe image machine loops wanted counted tallied share stored summary short _ _ quarters h =
+    let went = went_through image machine loops wanted counted tallied share (stored, summary) h in
     let p = went.program in
     let power = went.power in
-    let notes = notes_with counted went.notes in
+    let notes = notes_by counted tallied went.notes in
     let original = went.original in
-    let near = near_of (out_of_reach p.base p.sites) (stored, summary) (rewritten_file original p.sites p.base p.start, rewritten_summary power p.code (marked_at p.code p.tree wanted) p.start (p.stored.worst 0) (p.extra.worst 0) p.sites) p.answer_is in
+    let near = near_of (out_of_reach p.base p.sites) (stored, summary) (rewritten_file original p.sites p.base p.start, rewritten_summary power p.code (marked_at p.code p.tree wanted tallied) p.start (p.stored.worst 0) (p.extra.worst 0) p.sites) p.answer_is in
     let bytes : stored ≡ rewritten_file original p.sites p.base p.start = ap (λ (g : List ℕ × Summary). g.0) near.same in
     let numbers = ap (λ (g : List ℕ × Summary). g.1) near.same in
     let model = model-from_bytes machine power went.power_is in
     let of = file_is image original went.original_is in
-    let is : IsMade power original notes wanted p.sites p.base p.start = record { code = p.code; tree = p.tree; stored = p.stored; extra = p.extra; least = p.least; weighed = p.weighed; slow = p.slow; stubs = p.stubs; near = near.near } in
+    let is : IsMade power original notes wanted tallied share p.sites p.base p.start = record { code = p.code; tree = p.tree; stored = p.stored; extra = p.extra; least = p.least; weighed = p.weighed; slow = p.slow; stubs = p.stubs; near = near.near } in
     let read = read_again image original went.original_is in
     let fits : length original.file ≤ 4194304 = rw of short in
-    let made = stored_is power model original notes wanted p.sites p.base p.start read went.no_key fits is in
-    let kept = keeps power model original notes wanted p.sites p.base p.start read went.no_key fits is in
+    let made = stored_is power model original notes wanted tallied share p.sites p.base p.start read went.no_key fits quarters is in
+    let kept = keeps power model original notes wanted tallied share p.sites p.base p.start read went.no_key fits quarters is in
     let stub_cycles : summary.stub_cycles ≡ p.extra.worst 0 = ap (λ (s : Summary). s.stub_cycles) numbers in
     let worst : summary.worst ≡ p.stored.worst 0 = ap (λ (s : Summary). s.worst) numbers in
     let start : summary.start ≡ p.start = ap (λ (s : Summary). s.start) numbers in
@@ -95,7 +94,7 @@ safe image machine loops wanted counted stored summary short _ _ h =
       power = went.power;
       original = went.original;
       notes = went.notes;
-      rewritten = stored_image_of power model original notes wanted p.sites p.base p.start read went.no_key fits is;
+      rewritten = stored_image_of power model original notes wanted tallied share p.sites p.base p.start read went.no_key fits quarters is;
       power_is = went.power_is;
       original_is = went.original_is;
       notes_are = went.notes_are;
@@ -106,13 +105,13 @@ safe image machine loops wanted counted stored summary short _ _ h =
       starts = sym start;
       time = time ∙ (ap (λ i. time_at went.power i (p.stored.worst 0)) (sym start) ∙ ap (time_at went.power summary.start) (sym worst));
       in_time = subst (λ t. t ≤ went.power.deadline) (sym time) (found_in_time went.power (p.stored.worst 0) p.start p.slow);
-      promise = subst (λ b. KeepsThePromise power original went.notes (stored_image_of power model original notes wanted p.sites p.base p.start read went.no_key fits is) b) (sym stub_cycles)
-          (promise_of power counted original went.notes (stored_image_of power model original notes wanted p.sites p.base p.start read went.no_key fits is) (p.extra.worst 0) kept);
+      promise = subst (λ b. KeepsThePromise power original went.notes (stored_image_of power model original notes wanted tallied share p.sites p.base p.start read went.no_key fits quarters is) b) (sym stub_cycles)
+          (promise_of power counted tallied original went.notes (stored_image_of power model original notes wanted tallied share p.sites p.base p.start read went.no_key fits quarters is) (p.extra.worst 0) kept);
     } in
     record { files = files; slow = subst (λ (s : Summary). slowest_of went.power s.worst ≡ Some s.start) (sym numbers) p.slow }
 
 -- what a call of `pace` gives
-pub safe_given : (image machine loops : List ℕ) (wanted : List SwitchSite) (counted : Bool) (result : Result (Vec ℕ Global × Summary) Stop) → length image ≤ 4194304 → length machine ≤ 1048576 → length loops ≤ 1048576
-    → AnswersBy (λ given. (given.0.items, given.1)) result (IsPaced image machine loops wanted counted) → IfOk result (λ given. IsStoredSafely image machine loops given.0.items given.1)
-safe_given image machine loops wanted counted (Ok given) si sm sl h = safe image machine loops wanted counted given.0.items given.1 si sm sl h
-safe_given image machine loops wanted counted (Err stop) si sm sl h = tt
+pub safe_given : (image machine loops : List ℕ) (wanted : List SwitchSite) (counted : Bool) (tallied : List ℕ) (share : ℕ) (result : Result (Vec ℕ Global × Summary) Stop) → length image ≤ 4194304 → length machine ≤ 1048576 → length loops ≤ 1048576 → share ≤ 4
+    → AnswersBy (λ given. (given.0.items, given.1)) result (IsPaced image machine loops wanted counted tallied share) → IfOk result (λ given. IsStoredSafely image machine loops given.0.items given.1)
+safe_given image machine loops wanted counted tallied share (Ok given) si sm sl few h = safe image machine loops wanted counted tallied share given.0.items given.1 si sm sl few h
+safe_given image machine loops wanted counted tallied share (Err stop) si sm sl few h = tt

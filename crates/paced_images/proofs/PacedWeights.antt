@@ -30,7 +30,7 @@ use Rattle.scale_sites.specs.Sites.{is_branch}
 use Rattle.scale_sites.specs.Weights.{marks_cost, some_mark, is_patched, jumps_of, extra_of, extra_weight, tail_of}
 use Rattle.level_tables.specs.Tables as tables
 use Rattle.stub_writer.specs.Stubs.{Site, Place, Forked, Straight}
-use Rattle.stored_runs.specs.Cycles.{fragment_cost}
+use Rattle.stored_runs.specs.Cycles.{fragment_cost, fragment_tail}
 use Rattle.stored_runs.specs.Marks.{place_at, fragments_of_class, jumps_by, tail_cycles}
 use Rattle.stored_runs.specs.Stubbed.{IsOfImage}
 use Rattle.paid_runs.specs.Marked as marked_specs
@@ -39,7 +39,7 @@ use Rattle.paid_runs.specs.Timely.{weights_of}
 use Rattle.rewritten_runs.specs.Stubs.{IsWeighed, IsWeighedWith, AreSitesOf, told_at, fragment_by, fragments_with, extra_weights, stored_weights}
 use Rattle.rewritten_runs.proofs.Laws.{branch_kind, edge_is, jump_kind, led_class, placed, program_is}
 use Rattle.paced_images.specs.Markings.{ChoosesSites}
-use Rattle.paced_images.specs.Wanted.{marked_where}
+use Rattle.paced_images.specs.Wanted.{Wanted, marked_where}
 use Rattle.paced_images.proofs.WantedKinds.{marked_led}
 use Rattle.paced_images.proofs.WantedKinds as Kinds
 
@@ -50,6 +50,8 @@ one_cost power test l counted n told marks.Switch = omega arith
 one_cost power test l counted n told (marks.Exit i) = omega arith
 one_cost power test l counted n told (marks.Reset i) = omega arith
 one_cost power test l counted n told (marks.Count i) = omega arith
+one_cost power test l counted n told marks.Lowest = omega arith
+one_cost power test l counted n told (marks.Tally i) = omega arith
 
 pub marks_cost_is : (power : PowerModel) (test : tables.EdgeNumbers → ℕ → ℕ → Bool) (l : Loops) (counted : List ℕ) (n : Numbers) (told : tables.EdgeNumbers) (ms : List Mark) → sum_by (fragment_cost (cycles_of power.costs)) (map (fragment_by power test l counted n told) ms) ≡ marks_cost power.costs ms
 marks_cost_is power test l counted n told [] = refl
@@ -59,9 +61,20 @@ marks_cost_is power test l counted n told (m ∷ ms) =
     let sum = sum_by-cons (fragment_cost (cycles_of power.costs)) (fragment_by power test l counted n told m) (map (fragment_by power test l counted n told) ms) in
     omega (arith, one, rest, sum)
 
+-- what of a fragment lies behind its store
+one_tail : (power : PowerModel) (test : tables.EdgeNumbers → ℕ → ℕ → Bool) (l : Loops) (counted : List ℕ) (n : Numbers) (told : tables.EdgeNumbers) (m : Mark) → fragment_tail (cycles_of power.costs) (fragment_by power test l counted n told m) ≡ Rattle.scale_sites.specs.Weights.mark_tail power.costs m
+one_tail power test l counted n told marks.Switch = refl
+one_tail power test l counted n told (marks.Exit i) = refl
+one_tail power test l counted n told (marks.Reset i) = refl
+one_tail power test l counted n told (marks.Count i) = refl
+one_tail power test l counted n told marks.Lowest = refl
+one_tail power test l counted n told (marks.Tally i) = refl
+
 -- the cycles behind the store, where there are marks
 pub tail_is : (power : PowerModel) (test : tables.EdgeNumbers → ℕ → ℕ → Bool) (l : Loops) (counted : List ℕ) (n : Numbers) (told : tables.EdgeNumbers) (m : Mark) (ms : List Mark) → tail_cycles (cycles_of power.costs) (map (fragment_by power test l counted n told) (m ∷ ms)) ≡ tail_of power.costs (m ∷ ms)
-tail_is power test l counted n told m ms = let rest = marks_cost_is power test l counted n told ms in omega (arith, rest)
+tail_is power test l counted n told m ms =
+    let one = one_tail power test l counted n told m in
+    let rest = marks_cost_is power test l counted n told ms in omega (arith, one, rest)
 
 none_below : (n : ℕ) (p : ℕ → Bool) → ((k : ℕ) → k < n → p k ≡ false) → any_below n p ≡ false
 none_below zero p h = refl
@@ -74,7 +87,7 @@ any_from (suc n) q k lt2 h = ⊎_elim
     (λ (high : n ≤ k). let same : k ≡ n = omega arith in or_right (any_below n q) (q n) (subst (λ j. q j ≡ true) same h))
     (cases_lt k n)
 
-module _ (power : PowerModel) (image : Image) (notes : List LoopNote) (v : FlowGraph) (tree : LoopView) (wanted : ℕ → Bool) (stored : Numbers) (by_marks : IsWeighedWith power image notes v tree (marked_where v tree wanted) stored) (kinds_are : ChoosesSites v wanted)
+module _ (power : PowerModel) (image : Image) (notes : List LoopNote) (v : FlowGraph) (tree : LoopView) (wanted : Wanted) (stored : Numbers) (by_marks : IsWeighedWith power image notes v tree (marked_where v tree wanted) stored) (kinds_are : ChoosesSites v wanted.switch)
     (test : tables.EdgeNumbers → ℕ → ℕ → Bool) (least : Charged) (sites : List Site) (are : AreSitesOf image v.code (fragments_with power test image v tree (marked_where v tree wanted) stored least) sites) where
   abbrev plain : Numbers
   plain = Kinds.plain power image notes v tree wanted stored by_marks kinds_are

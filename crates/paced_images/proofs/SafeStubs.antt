@@ -35,13 +35,13 @@ use Rattle.stored_runs.specs.Marks.{place_at, fragments_of_class}
 use Rattle.stored_runs.specs.Stubbed.{IsSafe, IsSafeWay, IsOfImage, AreSafeWays, IsSafeSite, AreOrdered}
 use Rattle.paid_runs.proofs.Laws.{targets_are_words}
 use Rattle.rewritten_runs.specs.Stubs.{IsWeighed, IsWeighedWith, AreSitesOf, told_at, fragment_by, fragments_with, loop_of}
-use Rattle.rewritten_runs.proofs.Laws.{IsMarkOf, branch_fits, counted_is, edge_is, graph_program, in_get, place_of_site, program_is, set_distinct, shadow_of, shift_fits}
+use Rattle.rewritten_runs.proofs.Laws.{IsMarkOf, branch_fits, counted_is, edge_is, graph_program, in_get, place_of_site, program_is, set_distinct, shadow_of, shift_fits, tally_fits}
 use Rattle.std.specs.List.{range_with_len}
 use Rattle.stored_runs.specs.Stubbed.{IsTable}
 use Rattle.level_tables.specs.Tables as tables
 use Rattle.level_tables.proofs.Laws.{nibbles-fit, entries-low, entry-least, word_by-at}
 use Rattle.paced_images.specs.Markings.{ChoosesSites}
-use Rattle.paced_images.specs.Wanted.{marked_where}
+use Rattle.paced_images.specs.Wanted.{Wanted, marked_where}
 use Rattle.paced_images.proofs.Ordered.{marks_ordered}
 use Rattle.paced_images.proofs.WantedKinds.{rows_by_count, marks_of_edge, good_fragments}
 use Rattle.paced_images.proofs.WantedKinds as Kinds
@@ -58,7 +58,7 @@ rows_by_tables : (power : PowerModel) (test : tables.EdgeNumbers → ℕ → ℕ
 rows_by_tables power test bound iteration site few =
     All-map (IsTable (length power.levels)) (tables.row_by power test bound iteration site) (range_with_len 0 (bound / 2 ^ tables.shift_of bound + 1)) (λ k d lt. word_by_table power test _ few)
 
-module _ (power : PowerModel) (ok : IsPowerModel power) (image : Image) (notes : List LoopNote) (v : FlowGraph) (tree : LoopView) (wanted : ℕ → Bool) (stored : Numbers) (by_marks : IsWeighedWith power image notes v tree (marked_where v tree wanted) stored) (kinds_are : ChoosesSites v wanted)
+module _ (power : PowerModel) (ok : IsPowerModel power) (image : Image) (notes : List LoopNote) (v : FlowGraph) (tree : LoopView) (wanted : Wanted) (stored : Numbers) (by_marks : IsWeighedWith power image notes v tree (marked_where v tree wanted) stored) (kinds_are : ChoosesSites v wanted.switch)
     (test : tables.EdgeNumbers → ℕ → ℕ → Bool) (least : Charged) (sites : List Site) (are : AreSitesOf image v.code (fragments_with power test image v tree (marked_where v tree wanted) stored least) sites) where
   abbrev plain : Numbers
   plain = Kinds.plain power image notes v tree wanted stored by_marks kinds_are
@@ -113,7 +113,7 @@ module _ (power : PowerModel) (ok : IsPowerModel power) (image : Image) (notes :
 
   -- ---- the fragments of an edge
 
-  safe_mark : (e : ℕ) (m : Mark) → IsMarkOf l counted (wanted e) (g.source e) (g.target e) m → IsSafe levels limits (fragment_by power test l counted stored (told_at power image v tree marked stored least e) m)
+  safe_mark : (e : ℕ) (m : Mark) → IsMarkOf l counted (wanted.switch e) (g.source e) (g.target e) m → IsSafe levels limits (fragment_by power test l counted stored (told_at power image v tree marked stored least e) m)
   safe_mark e marks.Switch is = word_by_table power test (told_at power image v tree marked stored least e) ok.few
   safe_mark e (marks.Exit c) is =
       let k = loop_of counted c in
@@ -128,6 +128,17 @@ module _ (power : PowerModel) (ok : IsPowerModel power) (image : Image) (notes :
       )
   safe_mark e (marks.Reset c) is = subst IsShadow (sym is.is) (shadow_of power image notes v tree plain other weighed is.place is.loop is.get)
   safe_mark e (marks.Count c) is = subst IsShadow (sym is.is) (shadow_of power image notes v tree plain other weighed is.place is.loop is.get)
+  safe_mark e marks.Lowest is = tt
+  safe_mark e (marks.Tally c) is =
+      let k = loop_of counted c in
+      let small = bound_small k in
+      let fits = tally_fits power test (l.bound k) (stored.iteration k) (told_at power image v tree marked stored least e) (omega (arith, small)) in (
+        subst IsShadow (sym is.is) (shadow_of power image notes v tree plain other weighed is.place is.loop is.get),
+        fits.0,
+        fits.2,
+        fits.3,
+        omega (arith, small),
+      )
 
   safe_fragments : (e : ℕ) → All (IsSafe levels limits) (frags e)
   safe_fragments e = All-map (IsSafe levels limits) (fragment_by power test l counted stored (told_at power image v tree marked stored least e)) (marked e)
@@ -139,7 +150,7 @@ module _ (power : PowerModel) (ok : IsPowerModel power) (image : Image) (notes :
   ordered_fragments : (e : ℕ) → e < length code.edges → AreOrdered (frags e)
   ordered_fragments e lt =
       marks_ordered power test g l (noted_loops notes).inside counted stored (told_at power image v tree marked stored least e) (graph_program power image notes v tree plain other weighed) prog.loops
-      (λ k h. let at = in_get k counted h in (counted_is power image notes v tree plain other weighed at.0 k at.1).loop) (set_distinct 0 tree.counted) e (wanted e) 0 0 lt
+      (λ k h. let at = in_get k counted h in (counted_is power image notes v tree plain other weighed at.0 k at.1).loop) (set_distinct 0 tree.counted) e (wanted.switch e) (wanted.lowest e) wanted.tallied 0 0 lt
 
   -- ---- ways
 

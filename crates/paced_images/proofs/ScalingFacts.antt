@@ -37,28 +37,28 @@ use Rattle.paced_images.specs.declared.stubs.Marking.{Marking}
 use Rattle.paced_images.specs.declared.wanted.SwitchSite.{SwitchSite}
 use Rattle.paced_images.specs.Markings.{test_of}
 use Rattle.paced_images.specs.Paced.{IsPacedProgram, paced_test}
-use Rattle.paced_images.specs.Wanted.{wanted_by, marked_where}
+use Rattle.paced_images.specs.Wanted.{Wanted, wanted_of, marked_where}
 use Rattle.scaler.specs.Scalings.{IsBlockGiven}
 use Rattle.paced_images.specs.Scalings.{IsMarkedAt, IsMarkingFound, IsUnfitScaling, IsExtraFound, AreStubsOf, IsMarkedProgram, IsScaled, IsScalingFound, IsMarkedFound, HasMarks, AreStubsFound}
 use Rattle.scaler.proofs.Laws.{found_below}
 
 -- ---- stops
 
-abbrev Stopped : PowerModel → Image → List LoopNote → List SwitchSite → Stop → Type 0
-Stopped power image notes sites stop = AnswersBy {X = Scaling} {Y = Scaling} (λ s. s) (Err stop) (IsScalingFound power image notes sites)
+abbrev Stopped : PowerModel → Image → List LoopNote → List SwitchSite → (tallied : List ℕ) (share : ℕ) → Stop → Type 0
+Stopped power image notes sites tallied share stop = AnswersBy {X = Scaling} {Y = Scaling} (λ s. s) (Err stop) (IsScalingFound power image notes sites tallied share)
 
-abbrev IsUnmarked : PowerModel → Image → List LoopNote → List SwitchSite → Stop → Type 0
-IsUnmarked power image notes sites stop = AnswersBy {X = Marked} {Y = Marked} (λ m. m) (Err stop) (IsMarkedFound power image notes sites)
+abbrev IsUnmarked : PowerModel → Image → List LoopNote → List SwitchSite → (tallied : List ℕ) (share : ℕ) → Stop → Type 0
+IsUnmarked power image notes sites tallied share stop = AnswersBy {X = Marked} {Y = Marked} (λ m. m) (Err stop) (IsMarkedFound power image notes sites tallied share)
 
-pub counters_stop : (power : PowerModel) (image : Image) (notes : List LoopNote) (sites : List SwitchSite) (v : FlowGraph) (t : LoopView) (stop : Stop) → IsGraphOf (text_of image) v → IsTreeOf v notes t → AnswersBy {X = List ℕ} {Y = List ℕ} (λ c. c) (Err stop) (AreCounters v t) → IsUnmarked power image notes sites stop
-counters_stop power image notes sites v t Memory is tree h = tt
-counters_stop power image notes sites v t (Refused refusal) is tree h = inr (inr (inl (record { code = v; tree = t; refusal = refusal; code_is = is; tree_is = tree; why = h; answer_is = refl })))
+pub counters_stop : (power : PowerModel) (image : Image) (notes : List LoopNote) (sites : List SwitchSite) (tallied : List ℕ) (share : ℕ) (v : FlowGraph) (t : LoopView) (stop : Stop) → IsGraphOf (text_of image) v → IsTreeOf v notes t → AnswersBy {X = List ℕ} {Y = List ℕ} (λ c. c) (Err stop) (AreCounters v t) → IsUnmarked power image notes sites tallied share stop
+counters_stop power image notes sites tallied share v t Memory is tree h = tt
+counters_stop power image notes sites tallied share v t (Refused refusal) is tree h = inr (inr (inl (record { code = v; tree = t; refusal = refusal; code_is = is; tree_is = tree; why = h; answer_is = refl })))
 
-module _ (power : PowerModel) (image : Image) (notes : List LoopNote) (sites : List SwitchSite) (v : FlowGraph) (t : LoopView) (is : IsGraphOf (text_of image) v) (tree : IsTreeOf v notes t) (counts : AreCounters v t (Ok (counted_loops t))) where
-  abbrev wanted : ℕ → Bool
-  wanted = wanted_by v sites
+module _ (power : PowerModel) (image : Image) (notes : List LoopNote) (sites : List SwitchSite) (tallied : List ℕ) (share : ℕ) (v : FlowGraph) (t : LoopView) (is : IsGraphOf (text_of image) v) (tree : IsTreeOf v notes t) (counts : AreCounters v t (Ok (counted_loops t))) where
+  abbrev wanted : Wanted
+  wanted = wanted_of v t sites tallied
 
-  unfit : (refusal : Refusal) (stored : Numbers) → IsUnfitScaling power image v t wanted stored refusal → IsPacedProgram power image notes sites (Err refusal)
+  unfit : (refusal : Refusal) (stored : Numbers) → IsUnfitScaling power image v t wanted stored refusal → IsPacedProgram power image notes sites tallied share (Err refusal)
   unfit refusal stored u =
       let weighed : IsWeighedWith power image notes v t (marked_where v t wanted) stored = record { code_is = is; tree_is = tree; counters = counts; stored_are = u.stored_are } in
       ⊎_elim
@@ -66,20 +66,20 @@ module _ (power : PowerModel) (image : Image) (notes : List LoopNote) (sites : L
       (λ late. inr (inr (inr (inr (inl (record { code = v; tree = t; stored = stored; weighed = weighed; short = late.0; late = late.1; answer_is = ap (λ r. Err r) late.2 }))))))
       u.why
 
-  pub marking_stops : (stop : Stop) → AnswersBy {X = Marking × ℕ} {Y = Marking × ℕ} (λ x. x) (Err stop) (IsMarkingFound power image v t wanted) → IsUnmarked power image notes sites stop
+  pub marking_stops : (stop : Stop) → AnswersBy {X = Marking × ℕ} {Y = Marking × ℕ} (λ x. x) (Err stop) (IsMarkingFound power image v t wanted share) → IsUnmarked power image notes sites tallied share stop
   marking_stops Memory h = tt
   marking_stops (Refused refusal) h = unfit refusal h.0 h.1
 
   -- ---- the marking is there
 
-  module _ (m : Marking) (start : ℕ) (found : IsMarkingFound power image v t wanted (Ok (m, start))) where
+  module _ (m : Marking) (start : ℕ) (found : IsMarkingFound power image v t wanted share (Ok (m, start))) where
     abbrev stored : Numbers
     stored = found.0
 
     abbrev least : Charged
     least = found.1
 
-    abbrev at : IsMarkedAt power image v t wanted stored least m start
+    abbrev at : IsMarkedAt power image v t wanted stored least share m start
     at = found.2
 
     weighed : IsWeighedWith power image notes v t (marked_where v t wanted) stored
@@ -91,13 +91,13 @@ module _ (power : PowerModel) (image : Image) (notes : List LoopNote) (sites : L
     pub start_low : start < length power.levels
     start_low = let lt = found_below (is_in_time power (stored.worst 0)) 0 (length power.levels) start at.slow in omega (arith, lt)
 
-    pub cycles_stop : (stop : Stop) → ((wanted : ℕ → Bool) → HasMarks v t wanted m.sites → AnswersBy {X = ℕ} {Y = ℕ} (λ n. n) (Err stop) (IsExtraFound power v t wanted)) → Stopped power image notes sites stop
+    pub cycles_stop : (stop : Stop) → ((wanted : Wanted) → HasMarks v t wanted m.sites → AnswersBy {X = ℕ} {Y = ℕ} (λ n. n) (Err stop) (IsExtraFound power v t wanted)) → Stopped power image notes sites tallied share stop
     cycles_stop Memory h = tt
     cycles_stop (Refused refusal) h = absurd (h wanted at.marks)
 
     -- ---- and the stubs
 
-    module _ (cycles : ℕ) (extra_is : (wanted : ℕ → Bool) → HasMarks v t wanted m.sites → IsExtraFound power v t wanted (Ok cycles))
+    module _ (cycles : ℕ) (extra_is : (wanted : Wanted) → HasMarks v t wanted m.sites → IsExtraFound power v t wanted (Ok cycles))
         (stubs : List StubSite) (stubs_are : AreStubsFound power image v t m stubs) where
       abbrev extra : Numbers
       extra = (extra_is wanted at.marks).0
@@ -114,10 +114,10 @@ module _ (power : PowerModel) (image : Image) (notes : List LoopNote) (sites : L
       pub each_stub : All Rattle.stub_writer.specs.Sites.IsSite stubs
       each_stub = are.each
 
-      test_is : test_of power m ≡ paced_test power start (stored.worst 0)
+      test_is : test_of power m ≡ paced_test power start (stored.worst 0) share
       test_is = ap (meets_in_budget power) (fun_ext at.budgets)
 
-      has_stubs : (base : ℕ) → IsStubBase image (min (block_size (map site_of stubs)) 4194304) base → HasStubsWith power (paced_test power start (stored.worst 0)) image v t (marked_where v t wanted) stored extra least (map site_of stubs) base
+      has_stubs : (base : ℕ) → IsStubBase image (min (block_size (map site_of stubs)) 4194304) base → HasStubsWith power (paced_test power start (stored.worst 0) share) image v t (marked_where v t wanted) stored extra least (map site_of stubs) base
       has_stubs base b = record { least_are = at.least_are; extra_are = (extra_is wanted at.marks).1; sites_are = subst (λ q. AreSitesOf image v.code (fragments_with power q image v t (marked_where v t wanted) stored least) (map site_of stubs)) test_is are.are; base_is = b }
 
       far_by : (o : Option ℕ) (block : Block) (given : List ℕ × Summary) (refusal : Refusal) → block_unless_far o block ≡ Err refusal → Err refusal ≡ unless_out_of_reach o given
@@ -128,7 +128,7 @@ module _ (power : PowerModel) (image : Image) (notes : List LoopNote) (sites : L
       near_by None block made e = (refl, cc)
       near_by (Some far) block made e = let never : ⊥ = cc in absurd never
 
-      pub block_stops : (stop : Stop) → AnswersBy {X = StubBlock × ℕ} {Y = StubBlock × ℕ} (λ x. x) (Err stop) (IsBlockGiven image stubs) → Stopped power image notes sites stop
+      pub block_stops : (stop : Stop) → AnswersBy {X = StubBlock × ℕ} {Y = StubBlock × ℕ} (λ x. x) (Err stop) (IsBlockGiven image stubs) → Stopped power image notes sites tallied share stop
       block_stops Memory h = tt
       block_stops (Refused refusal) h = inr (inr (inr (inr (inr (record {
         code = v;
@@ -156,7 +156,7 @@ module _ (power : PowerModel) (image : Image) (notes : List LoopNote) (sites : L
       pub scaled : (s : Scaling) → s.stubs.items ≡ stubs → IsBlockGiven image stubs (Ok (s.block, s.base)) → s.summary.start ≡ start → slice_get m.worst.worst 0 ≡ Some s.summary.worst
           → s.summary.time ≡ time_at power s.summary.start s.summary.worst → s.summary.deadline ≡ power.deadline → s.summary.stub_cycles ≡ cycles
           → s.summary.switch_edges ≡ edges_with is_switch v (marks_at_edge m.sites) → s.summary.exit_edges ≡ edges_with is_exit_mark v (marks_at_edge m.sites) → s.summary.count_edges ≡ edges_with is_count v (marks_at_edge m.sites)
-          → s.summary.stub_bytes ≡ block_size (map site_of stubs) → IsScaled power image notes sites s
+          → s.summary.stub_bytes ≡ block_size (map site_of stubs) → IsScaled power image notes sites tallied share s
       scaled s same given started total time deadline added switch exit count size = record {
         code = v;
         tree = t;
@@ -166,7 +166,7 @@ module _ (power : PowerModel) (image : Image) (notes : List LoopNote) (sites : L
         weighed = weighed;
         short = at.short;
         slow = at.slow ∙ ap Some (sym started);
-        stubs = subst (λ (k : ℕ). HasStubsWith power (paced_test power k (stored.worst 0)) image v t (marked_where v t wanted) stored extra least (map site_of s.stubs.items) s.base) (sym started) (subst (λ l. HasStubsWith power (paced_test power start (stored.worst 0)) image v t (marked_where v t wanted) stored extra least (map site_of l) s.base) (sym same) (has_stubs s.base given.0));
+        stubs = subst (λ (k : ℕ). HasStubsWith power (paced_test power k (stored.worst 0) share) image v t (marked_where v t wanted) stored extra least (map site_of s.stubs.items) s.base) (sym started) (subst (λ l. HasStubsWith power (paced_test power start (stored.worst 0) share) image v t (marked_where v t wanted) stored extra least (map site_of l) s.base) (sym same) (has_stubs s.base given.0));
         near = subst (λ l. out_of_reach s.base (map site_of l) ≡ None) (sym same) near.0;
         bytes = ap (λ (b : Block). b.bytes) near.1 ∙ ap (λ l. block_bytes s.base (map site_of l)) (sym same);
         patches = ap (λ (b : Block). b.patches) near.1 ∙ ap (λ l. patches_from s.base (map site_of l)) (sym same);

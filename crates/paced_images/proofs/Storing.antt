@@ -26,24 +26,24 @@ use Rattle.paced_images.specs.declared.scaling.Scaling.{Scaling}
 use Rattle.paced_images.specs.declared.wanted.SwitchSite.{SwitchSite}
 use Rattle.paced_images.specs.Paced.{paced_test}
 use Rattle.paced_images.specs.Scalings.{IsScaled}
-use Rattle.paced_images.specs.Wanted.{wanted_by, marked_at}
+use Rattle.paced_images.specs.Wanted.{wanted_of, marked_at}
 use Rattle.paced_images.proofs.SafeStubs.{safe_sites}
 use Rattle.paced_images.proofs.WantedMarks.{chooses}
 
 -- what is known of a program with its stubs at a base, and its starting level
-pub record IsMade (power : PowerModel) (image : Image) (notes : List LoopNote) (wanted : List SwitchSite) (sites : List Site) (base start : ℕ) : Type 0 where
+pub record IsMade (power : PowerModel) (image : Image) (notes : List LoopNote) (wanted : List SwitchSite) (tallied : List ℕ) (share : ℕ) (sites : List Site) (base start : ℕ) : Type 0 where
   pub code : FlowGraph
   pub tree : LoopView
   pub stored : Numbers
   pub extra : Numbers
   pub least : Charged
-  pub weighed : IsWeighedWith power image notes code tree (marked_at code tree wanted) stored
+  pub weighed : IsWeighedWith power image notes code tree (marked_at code tree wanted tallied) stored
   pub slow : slowest_of power (stored.worst 0) ≡ Some start
-  pub stubs : HasStubsWith power (paced_test power start (stored.worst 0)) image code tree (marked_at code tree wanted) stored extra least sites base
+  pub stubs : HasStubsWith power (paced_test power start (stored.worst 0) share) image code tree (marked_at code tree wanted tallied) stored extra least sites base
   pub near : out_of_reach base sites ≡ None
 
-pub made_of : (power : PowerModel) (image : Image) (notes : List LoopNote) (wanted : List SwitchSite) (s : Scaling) → IsScaled power image notes wanted s → IsMade power image notes wanted (map site_of s.stubs.items) s.base s.summary.start
-made_of power image notes wanted s is = record { code = is.code; tree = is.tree; stored = is.stored; extra = is.extra; least = is.least; weighed = is.weighed; slow = is.slow; stubs = is.stubs; near = is.near }
+pub made_of : (power : PowerModel) (image : Image) (notes : List LoopNote) (wanted : List SwitchSite) (tallied : List ℕ) (share : ℕ) (s : Scaling) → IsScaled power image notes wanted tallied share s → IsMade power image notes wanted tallied share (map site_of s.stubs.items) s.base s.summary.start
+made_of power image notes wanted tallied share s is = record { code = is.code; tree = is.tree; stored = is.stored; extra = is.extra; least = is.least; weighed = is.weighed; slow = is.slow; stubs = is.stubs; near = is.near }
 
 -- the patches are on words of the text
 patched_words : (image : Image) (at : ℕ) (sites : List Site) → All (λ s. is_word_address image s.at ≡ true) sites → All (λ p. IsTrue (is_word_address image p.at)) (patches_from at sites)
@@ -51,12 +51,12 @@ patched_words image at [] h = All-nil (λ p. IsTrue (is_word_address image p.at)
 patched_words image at (site ∷ sites) h =
     All-cons (λ p. IsTrue (is_word_address image p.at)) (record { at = site.at; word = word_of (jump site.at at) }) (patches_from (at + 4 * stub_len site) sites) (h 0 site (omega arith)) (patched_words image (at + 4 * stub_len site) sites (λ k d lt. h (suc k) d (omega arith)))
 
-module _ (power : PowerModel) (ok : IsPowerModel power) (image : Image) (notes : List LoopNote) (wanted : List SwitchSite) (sites : List Site) (base start : ℕ) (read : image_of image.file ≡ Ok image) (no_key : image.keyed_segment ≡ None) (short : length image.file ≤ 4194304) (is : IsMade power image notes wanted sites base start) where
+module _ (power : PowerModel) (ok : IsPowerModel power) (image : Image) (notes : List LoopNote) (wanted : List SwitchSite) (tallied : List ℕ) (share : ℕ) (sites : List Site) (base start : ℕ) (read : image_of image.file ≡ Ok image) (no_key : image.keyed_segment ≡ None) (short : length image.file ≤ 4194304) (is : IsMade power image notes wanted tallied share sites base start) where
   abbrev pub limits : ℕ → ℕ
   limits w = (loops is.code is.tree).bound (loop_of (counted_loops is.tree) w)
 
   pub safe : All (IsSafeSite image (length power.levels) limits) sites
-  safe = safe_sites power ok image notes is.code is.tree (wanted_by is.code wanted) is.stored is.weighed (chooses is.code wanted) (paced_test power start (is.stored.worst 0)) is.least sites is.stubs.sites_are
+  safe = safe_sites power ok image notes is.code is.tree (wanted_of is.code is.tree wanted tallied) is.stored is.weighed (chooses is.code wanted) (paced_test power start (is.stored.worst 0) share) is.least sites is.stubs.sites_are
 
   size_small : block_size sites ≤ 4194304
   size_small = block_short image.file image (length power.levels) limits sites base (min (block_size sites) 4194304) read (omega arith) is.stubs.base_is safe is.near

@@ -1,6 +1,6 @@
 -- The sites that are of use, edge by edge and level by level.
 use Rattle.std.proofs.Common.{◌≡◌, ℕ, suc, ◌+◌, ◌<◌, ◌≤◌, Bool, true, false, cond, ◌&&◌, List, [], ◌∷◌, ◌++◌, length, take, slice_get, Option, Some, refl, sym, ap, ◌∙◌, arith, ⊎_elim}
-use Rattle.std.specs.Prelude.{slice_index_or}
+use Rattle.std.specs.Prelude.{◌||◌, slice_index_or}
 use Rattle.std.specs.List.{filter, list_any}
 use Rattle.std.proofs.lemmas.Bool.{cases_lt, false_from_ne_true}
 use Rattle.std.proofs.lemmas.List.Elements.{filter_more}
@@ -10,7 +10,9 @@ use Rattle.scale_base.specs.declared.fragments.Mark.{Mark}
 use Rattle.scale_base.specs.declared.fragments.Mark.TheVariants as marks
 use Rattle.scale_sites.specs.Sites.{marks_at_edge}
 use Rattle.scale_sites.specs.Weights.{switches}
-use Rattle.rewritten_runs.specs.Stubs.{is_switch}
+use Rattle.level_tables.specs.Tables.{EdgeNumbers}
+use Rattle.scaler.proofs.Laws.{IsLoud}
+use Rattle.paced_images.specs.Useful.{is_site_mark, lowers_some}
 use Rattle.code_graph.specs.FlowGraph.{FlowGraph}
 use Rattle.loop_tree.specs.Tree.{LoopView}
 use Rattle.paced_images.specs.declared.stubs.Marking.{Marking}
@@ -19,25 +21,47 @@ use Rattle.paced_images.specs.Wanted.{names, names_some}
 use Rattle.paced_images.specs.Markings.{HasMarking}
 use Rattle.paced_images.proofs.MarkingLaws.{marking_switches}
 
--- ---- a switch among the marks of an edge
+-- ---- the mark of a site among those of an edge
 
-switch_in : (ms : List Mark) → list_any is_switch ms ≡ true → (i : ℕ) × (slice_get ms i ≡ Some marks.Switch)
-switch_in [] on = let bad : ⊥ = cc in absurd bad
-switch_in (marks.Switch ∷ ms) on = (0, refl)
-switch_in (marks.Exit k ∷ ms) on = let r = switch_in ms on in (suc r.0, r.1)
-switch_in (marks.Reset k ∷ ms) on = let r = switch_in ms on in (suc r.0, r.1)
-switch_in (marks.Count k ∷ ms) on = let r = switch_in ms on in (suc r.0, r.1)
+loud : (power : PowerModel) (test : EdgeNumbers → ℕ → ℕ → Bool) (told : EdgeNumbers) (m : Mark) → is_site_mark power test told m ≡ true → IsLoud m
+loud power test told marks.Switch on = tt
+loud power test told (marks.Exit k) on = tt
+loud power test told (marks.Reset k) on = let bad : ⊥ = cc in absurd bad
+loud power test told (marks.Count k) on = let bad : ⊥ = cc in absurd bad
+loud power test told marks.Lowest on = tt
+loud power test told (marks.Tally k) on = tt
 
-pub switch_first : (power : PowerModel) (v : FlowGraph) (t : LoopView) (m : Marking) (h : HasMarking power v t m) (e : ℕ) → e < length v.code.edges → list_any is_switch (marks_at_edge m.sites e) ≡ true → switches (marks_at_edge m.sites e) ≡ true
-switch_first power v t m h e lt on =
-    let at = switch_in (marks_at_edge m.sites e) on in
-    marking_switches power h.0 v t h.1 h.2 h.3 m h.4 e at.0 marks.Switch lt at.1 tt
+pub record IsLoudIn (ms : List Mark) : Type 0 where
+  pub place : ℕ
+  pub mark : Mark
+  pub get : slice_get ms place ≡ Some mark
+  pub loud : IsLoud mark
 
-pub not_lowered : (ms marked : List Mark) (b : Bool) → ms ≡ marked → list_any is_switch ms ≡ false → false ≡ (list_any is_switch marked && b)
-not_lowered ms marked b same off = sym (ap (λ x. x && b) (ap (list_any is_switch) (sym same) ∙ off))
+mark_in : (power : PowerModel) (test : EdgeNumbers → ℕ → ℕ → Bool) (told : EdgeNumbers) (ms : List Mark) → list_any (is_site_mark power test told) ms ≡ true → IsLoudIn ms
+mark_in power test told [] on = let bad : ⊥ = cc in absurd bad
+mark_in power test told (m ∷ ms) on = by (is_site_mark power test told m) refl on (mark_in power test told ms)
+  where
+    by : (b : Bool) → is_site_mark power test told m ≡ b → (b || list_any (is_site_mark power test told) ms) ≡ true → (list_any (is_site_mark power test told) ms ≡ true → IsLoudIn ms) → IsLoudIn (m ∷ ms)
+    by true is q rest = record { place = 0; mark = m; get = refl; loud = loud power test told m is }
+    by false is q rest = let r = rest q in record { place = suc r.place; mark = r.mark; get = r.get; loud = r.loud }
 
-pub lowered_as : (ms marked : List Mark) (a b : Bool) → ms ≡ marked → list_any is_switch ms ≡ true → a ≡ b → a ≡ (list_any is_switch marked && b)
-lowered_as ms marked a b same on e = e ∙ sym (ap (λ x. x && b) (ap (list_any is_switch) (sym same) ∙ on))
+-- where the first mark stores no level, no site gave the edge one that does
+pub not_lowered : (power : PowerModel) (v : FlowGraph) (t : LoopView) (m : Marking) (h : HasMarking power v t m) (e : ℕ) → e < length v.code.edges → switches (marks_at_edge m.sites e) ≡ false
+    → (test : EdgeNumbers → ℕ → ℕ → Bool) (told : EdgeNumbers) (marked : List Mark) (b : Bool) → marks_at_edge m.sites e ≡ marked → false ≡ (list_any (is_site_mark power test told) marked && b)
+not_lowered power v t m h e lt off test told marked b same =
+    let none : list_any (is_site_mark power test told) (marks_at_edge m.sites e) ≡ false = false_from_ne_true (list_any (is_site_mark power test told) (marks_at_edge m.sites e)) (λ on.
+    let at = mark_in power test told (marks_at_edge m.sites e) on in
+    let first = marking_switches power h.0 v t h.1 h.2 h.3 m h.4 e at.place at.mark lt at.get at.loud in
+    let two : true ≡ false = sym first ∙ off in let bad : ⊥ = cc in bad) in
+    sym (ap (λ x. x && b) (ap (list_any (is_site_mark power test told)) (sym same) ∙ none))
+
+-- by what its numbers are shown as
+pub lowered_as : (power : PowerModel) (test : EdgeNumbers → ℕ → ℕ → Bool) (start : ℕ) (shown told : EdgeNumbers) (ms marked : List Mark) (a b : Bool) → ms ≡ marked → shown ≡ told → a ≡ list_any (is_site_mark power test shown) ms → b ≡ lowers_some power test start shown
+    → (a && b) ≡ (list_any (is_site_mark power test told) marked && lowers_some power test start told)
+lowered_as power test start shown told ms marked a b same tells one other =
+    ap (λ x. x && b) one ∙ (ap (λ x. list_any (is_site_mark power test shown) ms && x) other
+    ∙ (ap (λ xs. list_any (is_site_mark power test shown) xs && lowers_some power test start shown) same
+    ∙ ap (λ q. list_any (is_site_mark power test q) marked && lowers_some power test start q) tells))
 
 -- ---- what a site names
 

@@ -1,4 +1,4 @@
--- Marks stand on the edges of branches and of jumps alone, whatever edges of these are wanted.
+-- Marks stand on the edges of branches and of jumps alone, whatever is wanted of these.
 use Rattle.std.proofs.Common.{◌≡◌, ◌≢◌, ℕ, zero, suc, ◌≤◌, ◌+◌, ◌<◌, ◌⊎◌, inl, inr, Bool, true, false, not, ◌&&◌, List, [], ◌∷◌, length, slice_get, Option, Some, None, refl, sym, ap, ◌∙◌, subst, arith, ⊎_elim}
 use Rattle.std.specs.Prelude.{All, slice_index, ◌||◌, ◌/◌, ◌^◌}
 use Rattle.std.proofs.lemmas.List.{length-map}
@@ -8,7 +8,7 @@ use Rattle.scale_base.specs.declared.fragments.Fragment.{Fragment}
 use Rattle.cycle_laws.specs.Charged.{Charged}
 use Rattle.loop_tree.specs.Noted.{node_address}
 use Rattle.stub_writer.specs.Fragments.{IsFragment, IsShadow}
-use Rattle.rewritten_runs.proofs.Laws.{IsMarkOf, counted_is, depth, edge_is, few_marks, graph_program, in_get, loop_count, marks_are, program_is, set_distinct, shadow_of, shift_fits}
+use Rattle.rewritten_runs.proofs.Laws.{IsCounter, IsMarkOf, counted_is, depth, edge_is, few_marks, graph_program, in_get, loop_count, marks_are, program_is, set_distinct, shadow_of, shift_fits, tally_fits}
 use Rattle.scaler.proofs.Laws.{IsMarkable, map_none, markable, numbers_of, weighed_by}
 use Rattle.scale_base.specs.declared.instruction.Instr.{Instr}
 use Rattle.scale_base.specs.Image.{Image}
@@ -33,11 +33,14 @@ use Rattle.scale_base.specs.declared.fragments.Mark.{Mark}
 use Rattle.scale_base.specs.declared.fragments.Mark.TheVariants as marks
 use Rattle.scale_sites.specs.Counters.{counted_loops, goes_on, edge_goes_on, IsUncountable}
 use Rattle.scale_sites.specs.Marks.{AreLoopsOnce}
+use Rattle.scale_sites.specs.Sites.{marks_where}
+use Rattle.scale_sites.proofs.Laws.{formed_few}
 use Rattle.rewritten_runs.specs.Stubs.{IsWeighed, IsWeighedWith, marks_by_slack, plain_weights, stored_weights, told_at, fragment_by, fragments_with, loop_of}
 use Rattle.level_tables.specs.Tables.{EdgeNumbers, shift_of, row_by, all_rows_by}
 use Rattle.std.proofs.lemmas.List.FromFn.{length-map-range_with_len}
-use Rattle.paced_images.specs.Wanted.{same_kind, marked_where}
+use Rattle.paced_images.specs.Wanted.{Wanted, same_kind, marked_where}
 use Rattle.paced_images.specs.Markings.{ChoosesSites}
+use Rattle.paced_images.proofs.FormedMarks.{forms_are}
 use Rattle.scaler.specs.Planned.{IsSitesKind}
 
 -- a word with an edge that goes on leads to the next word alone
@@ -67,7 +70,7 @@ no_way g (e ∷ es) v walk ends = let bad = walk.1 in cc
 some_same : (a b : ℕ) → Some a ≡ Some b → a ≡ b
 some_same a b e = cc
 
-module _ (power : PowerModel) (image : Image) (notes : List LoopNote) (v : FlowGraph) (tree : LoopView) (wanted : ℕ → Bool) (stored : Numbers) (by_marks : IsWeighedWith power image notes v tree (marked_where v tree wanted) stored) (kinds_are : ChoosesSites v wanted) where
+module _ (power : PowerModel) (image : Image) (notes : List LoopNote) (v : FlowGraph) (tree : LoopView) (wanted : Wanted) (stored : Numbers) (by_marks : IsWeighedWith power image notes v tree (marked_where v tree wanted) stored) (kinds_are : ChoosesSites v wanted.switch) where
   -- the program with the marks that its slacks would give it: what is known of its graph and its loops is known
   abbrev pub plain : Numbers
   plain = (numbers_of power image notes v tree by_marks.code_is by_marks.tree_is by_marks.counters (plain_weights power image v)).0
@@ -102,8 +105,8 @@ module _ (power : PowerModel) (image : Image) (notes : List LoopNote) (v : FlowG
 
   -- ---- the marks of an edge
 
-  pub marks_of_edge : (e : ℕ) → All (IsMarkOf l (counted_loops tree) (wanted e) (g.source e) (g.target e)) (marked_where v tree wanted e)
-  marks_of_edge e = marks_are l (counted_loops tree) (wanted e) 0 0 (g.source e) (g.target e)
+  pub marks_of_edge : (e : ℕ) → All (IsMarkOf l (counted_loops tree) (wanted.switch e) (g.source e) (g.target e)) (marked_where v tree wanted e)
+  marks_of_edge e = forms_are l (counted_loops tree) (wanted.switch e) (g.source e) (g.target e) (wanted.lowest e) wanted.tallied (marks_where v tree (counted_loops tree) wanted.switch e) (marks_are l (counted_loops tree) (wanted.switch e) 0 0 (g.source e) (g.target e))
 
   -- an edge with a mark leads to a node
   pub marked_led : (e : ℕ) → e < length code.edges → marked_where v tree wanted e ≢ [] → (w : ℕ) × (g.target e ≡ Some w)
@@ -129,13 +132,18 @@ module _ (power : PowerModel) (image : Image) (notes : List LoopNote) (v : FlowG
       kind_to CallNext to h = let bad : ⊥ = cc in absurd bad
       kind_to End to h = let bad : ⊥ = cc in absurd bad
 
-      by_mark : (m : Mark) → IsMarkOf l (counted_loops tree) (wanted e) (g.source e) (g.target e) m → (w : ℕ) × (g.target e ≡ Some w)
-      by_mark marks.Switch is = let x = kinds_are e is in let r = kind_to x.0.kind x.0.to x.2 in (r.0, ap edge_to x.1 ∙ r.1)
+      site_to : wanted.switch e ≡ true → (w : ℕ) × (g.target e ≡ Some w)
+      site_to on = let x = kinds_are e on in let r = kind_to x.0.kind x.0.to x.2 in (r.0, ap edge_to x.1 ∙ r.1)
+
+      by_mark : (m : Mark) → IsMarkOf l (counted_loops tree) (wanted.switch e) (g.source e) (g.target e) m → (w : ℕ) × (g.target e ≡ Some w)
+      by_mark marks.Switch is = site_to is
       by_mark (marks.Exit c) is = left_to is.loop (g.source e) (g.target e) is.holds
       by_mark (marks.Reset c) is = left_to is.loop (g.source e) (g.target e) is.holds
       by_mark (marks.Count c) is = back_to is.loop (g.source e) (g.target e) is.holds
+      by_mark marks.Lowest is = site_to is
+      by_mark (marks.Tally c) is = back_to is.loop (g.source e) (g.target e) is.holds
 
-      by : (ms : List Mark) → marked_where v tree wanted e ≡ ms → All (IsMarkOf l (counted_loops tree) (wanted e) (g.source e) (g.target e)) ms → (w : ℕ) × (g.target e ≡ Some w)
+      by : (ms : List Mark) → marked_where v tree wanted e ≡ ms → All (IsMarkOf l (counted_loops tree) (wanted.switch e) (g.source e) (g.target e)) ms → (w : ℕ) × (g.target e ≡ Some w)
       by [] is all = absurd (some is)
       by (m ∷ ms) is all = by_mark m (all 0 m (omega arith))
 
@@ -188,23 +196,31 @@ module _ (power : PowerModel) (image : Image) (notes : List LoopNote) (v : FlowG
           by_in true is q iq both = let there = stays_on k e a kl lt on to is in let bad : (true && not true) ≡ true = sym (ap (λ b. b && not (l.inside k a)) is ∙ ap (λ b. true && not b) there) ∙ both in cc
           by_in false is q iq both = let bad : (false && not (l.inside k a)) ≡ true = sym (ap (λ b. b && not (l.inside k a)) is) ∙ both in cc
 
-      by_mark : (a : ℕ) → g.target e ≡ Some a → (m : Mark) → IsMarkOf l (counted_loops tree) (wanted e) (g.source e) (g.target e) m → ⊥
-      by_mark a to marks.Switch is = let x = kinds_are e is in off x.0.kind (sym (ap edge_goes_on x.1) ∙ on) x.2
-      by_mark a to (marks.Exit c) is = not_left a to is.loop (counted_is power image notes v tree plain other weighed is.place is.loop is.get).loop is.holds
-      by_mark a to (marks.Reset c) is = not_left a to is.loop (counted_is power image notes v tree plain other weighed is.place is.loop is.get).loop is.holds
-      by_mark a to (marks.Count c) is =
+      no_site : wanted.switch e ≡ true → ⊥
+      no_site is = let x = kinds_are e is in off x.0.kind (sym (ap edge_goes_on x.1) ∙ on) x.2
+
+      flag_set : (flags : List Bool) (k : ℕ) → Rattle.std.specs.Prelude.slice_index_or flags k false ≡ true → slice_get flags k ≡ Some true
+      flag_set [] k h = let never : ⊥ = cc in absurd never
+      flag_set (b ∷ flags) zero h = ap Some h
+      flag_set (b ∷ flags) (suc k) h = flag_set flags k h
+
+      no_count : (c : ℕ) → IsCounter (counted_loops tree) c (λ k. goes_back l k (g.source e) (g.target e) ≡ true) → ⊥
+      no_count c is =
           let k = counted_is power image notes v tree plain other weighed is.place is.loop is.get in
           let size = loop_count power image notes v tree plain other weighed in
           let kl = k.loop in
           let bad : IsUncountable v tree is.loop e = record { edge = lt; within = omega (arith, kl, size); back = is.holds; counted = flag_set tree.counted is.loop k.flag; on = on } in
           weighed.counters.0 is.loop e bad
-        where
-          flag_set : (flags : List Bool) (k : ℕ) → Rattle.std.specs.Prelude.slice_index_or flags k false ≡ true → slice_get flags k ≡ Some true
-          flag_set [] k h = let never : ⊥ = cc in absurd never
-          flag_set (b ∷ flags) zero h = ap Some h
-          flag_set (b ∷ flags) (suc k) h = flag_set flags k h
 
-      by : (a : ℕ) → g.target e ≡ Some a → (ms : List Mark) → ms ≢ [] → All (IsMarkOf l (counted_loops tree) (wanted e) (g.source e) (g.target e)) ms → ⊥
+      by_mark : (a : ℕ) → g.target e ≡ Some a → (m : Mark) → IsMarkOf l (counted_loops tree) (wanted.switch e) (g.source e) (g.target e) m → ⊥
+      by_mark a to marks.Switch is = no_site is
+      by_mark a to (marks.Exit c) is = not_left a to is.loop (counted_is power image notes v tree plain other weighed is.place is.loop is.get).loop is.holds
+      by_mark a to (marks.Reset c) is = not_left a to is.loop (counted_is power image notes v tree plain other weighed is.place is.loop is.get).loop is.holds
+      by_mark a to (marks.Count c) is = no_count c is
+      by_mark a to marks.Lowest is = no_site is
+      by_mark a to (marks.Tally c) is = no_count c is
+
+      by : (a : ℕ) → g.target e ≡ Some a → (ms : List Mark) → ms ≢ [] → All (IsMarkOf l (counted_loops tree) (wanted.switch e) (g.source e) (g.target e)) ms → ⊥
       by a to [] ne all = ne refl
       by a to (m ∷ ms) ne all = by_mark a to m (all 0 m (omega arith))
 
@@ -252,7 +268,7 @@ module _ (power : PowerModel) (image : Image) (notes : List LoopNote) (v : FlowG
         by None e = let z : slice_index tree.bounds k ≡ 0 = none_index tree.bounds k e in omega (arith, z)
         by (Some n) e = let z = get_or_from_slice_get tree.bounds k n 0 e in let small = weighed.tree_is.tree.bound k n e in omega (arith, z, small)
 
-    fragment_is : (least : Charged) (e : ℕ) (m : Mark) → IsMarkOf l (counted_loops tree) (wanted e) (g.source e) (g.target e) m → IsFragment (fragment_by power test l (counted_loops tree) stored (told_at power image v tree (marked_where v tree wanted) stored least e) m)
+    fragment_is : (least : Charged) (e : ℕ) (m : Mark) → IsMarkOf l (counted_loops tree) (wanted.switch e) (g.source e) (g.target e) m → IsFragment (fragment_by power test l (counted_loops tree) stored (told_at power image v tree (marked_where v tree wanted) stored least e) m)
     fragment_is least e marks.Switch is = tt
     fragment_is least e (marks.Exit c) is =
         let k = loop_of (counted_loops tree) c in
@@ -262,6 +278,12 @@ module _ (power : PowerModel) (image : Image) (notes : List LoopNote) (v : FlowG
         (subst IsShadow (sym is.is) (shadow_of power image notes v tree plain other weighed is.place is.loop is.get), fits.0, omega (arith, rows, fits.1))
     fragment_is least e (marks.Reset c) is = subst IsShadow (sym is.is) (shadow_of power image notes v tree plain other weighed is.place is.loop is.get)
     fragment_is least e (marks.Count c) is = subst IsShadow (sym is.is) (shadow_of power image notes v tree plain other weighed is.place is.loop is.get)
+    fragment_is least e marks.Lowest is = tt
+    fragment_is least e (marks.Tally c) is =
+        let k = loop_of (counted_loops tree) c in
+        let small = bound_small k in
+        let fits = tally_fits power test (l.bound k) (stored.iteration k) (told_at power image v tree (marked_where v tree wanted) stored least e) (omega (arith, small)) in
+        (subst IsShadow (sym is.is) (shadow_of power image notes v tree plain other weighed is.place is.loop is.get), fits.0, fits.2, fits.3)
 
     innermost_of : (u : ℕ) (o : Option ℕ) → IsInnermost l u o → ((o ≡ None) × ((k : ℕ) → k < l.loops → l.inside k u ≡ true → ⊥)) ⊎ ((j : ℕ) × (j < l.loops) × (l.inside j u ≡ true) × ((k w : ℕ) → k < l.loops → l.inside k u ≡ true → l.inside j w ≡ true → l.inside k w ≡ true))
     innermost_of u None h = inl (refl, h)
@@ -281,7 +303,9 @@ module _ (power : PowerModel) (image : Image) (notes : List LoopNote) (v : FlowG
         let address : node_address v node.0 ≡ edge_at (slice_get v.code.edges e) = get_or_from_slice_get v.code.nodes node.0 (edge_at (slice_get v.code.edges e)) 0 node.1 in
         let is = weighed.tree_is.tree.innermost node.0 o.0 o.1 in
         let d = depth g l extent program prog.loops tree.counted flag_count are_loops (set_distinct 0 tree.counted) (edge_at (slice_get v.code.edges e)) o.0 (innermost_of (edge_at (slice_get v.code.edges e)) o.0 (subst (λ a. IsInnermost l a o.0) address is)) in
-        few_marks g l extent program prog.loops tree.counted flag_count are_loops (set_distinct 0 tree.counted) e (wanted e) 0 0 lt d
+        let all = few_marks g l extent program prog.loops tree.counted flag_count are_loops (set_distinct 0 tree.counted) e (wanted.switch e) 0 0 lt d in
+        let some = formed_few (wanted.lowest e) wanted.tallied (marks_where v tree (counted_loops tree) wanted.switch e) in
+        omega (arith, all, some)
 
     pub good_fragments : (least : Charged) (e : ℕ) → e < length v.code.edges → (length (frags least e) ≤ 17) × All IsFragment (frags least e)
     good_fragments least e lt =

@@ -1,4 +1,4 @@
--- The marks of a program's edges, its numbers under the stored weights and its budgets, as the code keeps them. What edges are wanted is a parameter.
+-- The marks of a program's edges, its numbers under the stored weights and its budgets, as the code keeps them. What is wanted of the marks is a parameter.
 use Rattle.std.specs.Prelude.{◌≡◌, ℕ, ◌*◌, ◌^◌, ◌<◌, ◌≤◌, Bool, true, List, length, slice_get, slice_index, Some}
 use Rattle.scale_base.specs.declared.fragments.Fragment.{Fragment}
 use Rattle.scale_base.specs.Image.{Image}
@@ -20,19 +20,19 @@ use Rattle.paced_images.specs.declared.stubs.Marking.{Marking}
 use Rattle.paced_images.specs.declared.stubs.Told.{Told}
 use Rattle.level_tables.specs.Budgets.{meets_in_budget, budget_at}
 use Rattle.scale_base.specs.declared.edges.Edge.{Edge}
-use Rattle.paced_images.specs.Wanted.{same_kind, marked_where}
+use Rattle.paced_images.specs.Wanted.{Wanted, same_kind, marked_where}
 
 -- only edges of branches and of jumps are wanted
 abbrev pub ChoosesSites : FlowGraph → (ℕ → Bool) → Type 0
 ChoosesSites v wanted = (e : ℕ) → wanted e ≡ true → (edge : Edge) × (slice_get v.code.edges e ≡ Some edge) × (same_kind edge.kind edge.kind ≡ true)
 
 -- the marks, the numbers under the stored weights, and the least cycles, all in range
-pub record IsMarking (power : PowerModel) (image : Image) (v : FlowGraph) (t : LoopView) (wanted : ℕ → Bool) (stored : Numbers) (least : Charged) (m : Marking) : Type 0 where
+pub record IsMarking (power : PowerModel) (image : Image) (v : FlowGraph) (t : LoopView) (wanted : Wanted) (stored : Numbers) (least : Charged) (m : Marking) : Type 0 where
   pub code : IsGraphOf (text_of image) v
   pub tree : (extent : ℕ → ℕ → Bool) × IsLoopTree v extent t
   pub counters : m.counters ≡ counted_loops t
   pub few : length (counted_loops t) ≤ 509
-  pub kinds : ChoosesSites v wanted
+  pub kinds : ChoosesSites v wanted.switch
   pub size : length m.sites.marks ≡ length v.code.edges
   pub marks : (e : ℕ) → e < length v.code.edges → marks_at_edge m.sites e ≡ marked_where v t wanted e
   pub slacks_size : length m.worst.slacks ≡ length v.code.edges
@@ -52,11 +52,11 @@ abbrev pub test_of : PowerModel → Marking → tables.EdgeNumbers → ℕ → �
 test_of power m = meets_in_budget power (budget_at m.budgets)
 
 abbrev pub HasMarking : PowerModel → FlowGraph → LoopView → Marking → Type 0
-HasMarking power v t m = (image : Image) × (wanted : ℕ → Bool) × (stored : Numbers) × (least : Charged) × IsMarking power image v t wanted stored least m
+HasMarking power v t m = (image : Image) × (wanted : Wanted) × (stored : Numbers) × (least : Charged) × IsMarking power image v t wanted stored least m
 
 -- what is found, whatever the numbers of the marking
-abbrev pub Whichever : PowerModel → FlowGraph → LoopView → Marking → (Image → (ℕ → Bool) → Numbers → Charged → Type 0) → Type 0
-Whichever power v t m P = (image : Image) (wanted : ℕ → Bool) (stored : Numbers) (least : Charged) → IsMarking power image v t wanted stored least m → P image wanted stored least
+abbrev pub Whichever : PowerModel → FlowGraph → LoopView → Marking → (Image → Wanted → Numbers → Charged → Type 0) → Type 0
+Whichever power v t m P = (image : Image) (wanted : Wanted) (stored : Numbers) (least : Charged) → IsMarking power image v t wanted stored least m → P image wanted stored least
 
 abbrev pub told_view : Told → tables.EdgeNumbers
 told_view x = record { slack = x.slack; left = x.left; least = x.least }

@@ -1,7 +1,9 @@
 -- What `pace` gives: the image with stubs on the edges that are named and on those of counted loops, whose tables keep budgets, and which starts at the slowest level at which
--- its worst case, stubs and all, is in time. A switch may stand on an edge without slack: the time that the starting level leaves before the deadline is lent to the levels below.
--- It is a relation, as what `rewrite` gives. A site that names no edge of a branch or of a jump of the reached code, or one that leaves a counted loop, changes nothing.
-use Rattle.std.specs.Prelude.{◌≡◌, ◌⊎◌, ℕ, ◌<◌, ◌≤◌, ◌==◌, Bool, List, Some, None, Result, Err, if◌then◌else◌}
+-- its worst case, stubs and all, is in time. A switch may stand on an edge without slack: the time that the starting level leaves before the deadline is lent to the levels below,
+-- all of it to the lowest one, and a share of it to those between.
+-- It is a relation, as what `rewrite` gives. A site that names no edge of a branch or of a jump of the reached code, or one that leaves a counted loop or is a back edge of a
+-- tallied one, changes nothing; and nor does an address among `tallied` at which no loop has its header.
+use Rattle.std.specs.Prelude.{◌≡◌, ◌⊎◌, ℕ, ◌+◌, ◌-◌, ◌*◌, ◌/◌, ◌<◌, ◌≤◌, ◌==◌, nat_lt, Bool, List, Some, None, Result, Err, if◌then◌else◌}
 use Rattle.scale_base.specs.declared.refusal.Refusal.{Refusal}
 use Rattle.scale_base.specs.declared.refusal.Refusal.TheVariants.{DeadlineMissed, TooLong}
 use Rattle.scale_base.specs.declared.summary.Summary.{Summary}
@@ -22,42 +24,46 @@ use Rattle.stub_writer.specs.Stubs.{Site, out_of_reach}
 use Rattle.rewritten_runs.specs.Stubs.{IsWeighedWith, HasStubsWith, rewritten_file}
 use Rattle.scaler.specs.Held.{IsCodeRefused, IsLoopRefused, Then, unscaled}
 use Rattle.scaler.specs.Rewritten.{IsCounterRefused, rewritten_summary, unless_out_of_reach}
-use Rattle.scaler.specs.RewrittenAs.{notes_with}
 use Rattle.paced_images.specs.declared.wanted.SwitchSite.{SwitchSite}
-use Rattle.paced_images.specs.Wanted.{marked_at}
+use Rattle.paced_images.specs.Wanted.{notes_by, marked_at}
 
 -- ---- budgets
 
--- the starting level's is the time of the worst cycles there; that of the levels below is the deadline
-abbrev pub paced_budget : PowerModel → (start worst : ℕ) → ℕ → ℕ
-paced_budget power start worst i = if i == start then time_at power start worst else power.deadline
+-- The starting level's is the time of the worst cycles there, and that of the lowest level the deadline. A level between them has the time of the starting level, and so many
+-- quarters of what that leaves: a switch from there to the lowest level may use the rest. No run is at a level above the starting one, so it needs no time.
+abbrev pub paced_budget : PowerModel → (start worst share : ℕ) → ℕ → ℕ
+paced_budget power start worst share i =
+    if i == start then time_at power start worst
+    else if i == 0 then power.deadline
+    else if nat_lt i start then time_at power start worst + share * (power.deadline - time_at power start worst) / 4
+    else 0
 
-abbrev pub paced_test : PowerModel → (start worst : ℕ) → EdgeNumbers → ℕ → ℕ → Bool
-paced_test power start worst = meets_in_budget power (paced_budget power start worst)
+abbrev pub paced_test : PowerModel → (start worst share : ℕ) → EdgeNumbers → ℕ → ℕ → Bool
+paced_test power start worst share = meets_in_budget power (paced_budget power start worst share)
 
 -- ---- what the program of an image and its loops give
 
 -- the worst cycles under the stored weights are more than 2^48
-pub record IsTooLong (power : PowerModel) (image : Image) (notes : List LoopNote) (wanted : List SwitchSite) (answer : Result (List ℕ × Summary) Refusal) : Type 0 where
+pub record IsTooLong (power : PowerModel) (image : Image) (notes : List LoopNote) (wanted : List SwitchSite) (tallied : List ℕ) (answer : Result (List ℕ × Summary) Refusal) : Type 0 where
   pub code : FlowGraph
   pub tree : LoopView
   pub stored : Numbers
-  pub weighed : IsWeighedWith power image notes code tree (marked_at code tree wanted) stored
+  pub weighed : IsWeighedWith power image notes code tree (marked_at code tree wanted tallied) stored
   pub long : 281474976710656 < stored.worst 0
   pub answer_is : answer ≡ Err TooLong
 
 -- they are in range, and even at the fastest level too late
-pub record IsTooLate (power : PowerModel) (image : Image) (notes : List LoopNote) (wanted : List SwitchSite) (answer : Result (List ℕ × Summary) Refusal) : Type 0 where
+pub record IsTooLate (power : PowerModel) (image : Image) (notes : List LoopNote) (wanted : List SwitchSite) (tallied : List ℕ) (answer : Result (List ℕ × Summary) Refusal) : Type 0 where
   pub code : FlowGraph
   pub tree : LoopView
   pub stored : Numbers
-  pub weighed : IsWeighedWith power image notes code tree (marked_at code tree wanted) stored
+  pub weighed : IsWeighedWith power image notes code tree (marked_at code tree wanted tallied) stored
   pub short : stored.worst 0 ≤ 281474976710656
   pub late : slowest_of power (stored.worst 0) ≡ None
   pub answer_is : answer ≡ Err (DeadlineMissed (time_at power (fastest power) (stored.worst 0)) power.deadline)
 
 -- they are in time from a starting level on: the program gets its stubs, unless one is out of reach
-pub record IsProgramPaced (power : PowerModel) (image : Image) (notes : List LoopNote) (wanted : List SwitchSite) (answer : Result (List ℕ × Summary) Refusal) : Type 0 where
+pub record IsProgramPaced (power : PowerModel) (image : Image) (notes : List LoopNote) (wanted : List SwitchSite) (tallied : List ℕ) (share : ℕ) (answer : Result (List ℕ × Summary) Refusal) : Type 0 where
   pub code : FlowGraph
   pub tree : LoopView
   pub stored : Numbers
@@ -66,25 +72,25 @@ pub record IsProgramPaced (power : PowerModel) (image : Image) (notes : List Loo
   pub sites : List Site
   pub base : ℕ
   pub start : ℕ
-  pub weighed : IsWeighedWith power image notes code tree (marked_at code tree wanted) stored
+  pub weighed : IsWeighedWith power image notes code tree (marked_at code tree wanted tallied) stored
   pub short : stored.worst 0 ≤ 281474976710656
   pub slow : slowest_of power (stored.worst 0) ≡ Some start
-  pub stubs : HasStubsWith power (paced_test power start (stored.worst 0)) image code tree (marked_at code tree wanted) stored extra least sites base
+  pub stubs : HasStubsWith power (paced_test power start (stored.worst 0) share) image code tree (marked_at code tree wanted tallied) stored extra least sites base
   pub answer_is : answer ≡ unless_out_of_reach (out_of_reach base sites)
-      (rewritten_file image sites base start, rewritten_summary power code (marked_at code tree wanted) start (stored.worst 0) (extra.worst 0) sites)
+      (rewritten_file image sites base start, rewritten_summary power code (marked_at code tree wanted tallied) start (stored.worst 0) (extra.worst 0) sites)
 
-abbrev pub IsPacedProgram : PowerModel → Image → List LoopNote → List SwitchSite → Result (List ℕ × Summary) Refusal → Type 0
-IsPacedProgram power image notes wanted answer =
+abbrev pub IsPacedProgram : PowerModel → Image → List LoopNote → List SwitchSite → (tallied : List ℕ) (share : ℕ) → Result (List ℕ × Summary) Refusal → Type 0
+IsPacedProgram power image notes wanted tallied share answer =
     IsCodeRefused image answer ⊎ (IsLoopRefused image notes answer ⊎ (IsCounterRefused image notes answer
-    ⊎ (IsTooLong power image notes wanted answer ⊎ (IsTooLate power image notes wanted answer ⊎ IsProgramPaced power image notes wanted answer))))
+    ⊎ (IsTooLong power image notes wanted tallied answer ⊎ (IsTooLate power image notes wanted tallied answer ⊎ IsProgramPaced power image notes wanted tallied share answer))))
 
 -- ---- what the files give
 
--- The stored bytes and the summary, or the first refusal, in the order of what `rewrite` gives. The loops are counted as the loop file notes, or none is.
-unfoldable pub IsPaced : (image machine loop_file : List ℕ) (wanted : List SwitchSite) (counted : Bool) → Result (List ℕ × Summary) Refusal → Type 0
-IsPaced image machine loop_file wanted counted answer =
+-- The stored bytes and the summary, or the first refusal, in the order of what `rewrite` gives. Tallied loops are counted, and the others as the loop file notes, or none of them.
+unfoldable pub IsPaced : (image machine loop_file : List ℕ) (wanted : List SwitchSite) (counted : Bool) (tallied : List ℕ) (share : ℕ) → Result (List ℕ × Summary) Refusal → Type 0
+IsPaced image machine loop_file wanted counted tallied share answer =
     Then (read_machine machine) (λ power.
     Then (image_of image) (λ original.
     Then (unscaled original.keyed_segment) (λ _.
     Then (read_loops original loop_file) (λ notes.
-    IsPacedProgram power original (notes_with counted notes) wanted)))) answer
+    IsPacedProgram power original (notes_by counted tallied notes) wanted tallied share)))) answer

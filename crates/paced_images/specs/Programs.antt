@@ -7,23 +7,23 @@ use Rattle.machine_file.specs.Machine.{read_machine}
 use Rattle.loop_file.specs.declared.notes.LoopNote.{LoopNote}
 use Rattle.loop_file.specs.Loops.{read_loops}
 use Rattle.scaler.specs.Held.{unscaled}
-use Rattle.scaler.specs.RewrittenAs.{notes_with}
 use Rattle.paced_images.specs.declared.programs.Program.{Program}
 use Rattle.paced_images.specs.declared.wanted.SwitchSite.{SwitchSite}
 use Rattle.paced_images.specs.Paced.{IsPaced}
 use Rattle.paced_images.specs.Scalings.{IsMarked, IsScaled}
+use Rattle.paced_images.specs.Wanted.{notes_by}
 
 -- what the bytes of an image, of a machine file and of a loop file are, with the marks and the stubs of the program
-pub record IsProgramFrom (image machine loop_file : List ℕ) (sites : List SwitchSite) (counted : Bool) (p : Program) : Type 0 where
+pub record IsProgramFrom (image machine loop_file : List ℕ) (sites : List SwitchSite) (counted : Bool) (tallied : List ℕ) (share : ℕ) (p : Program) : Type 0 where
   pub power_is : read_machine machine ≡ Ok p.power
   pub in_range : IsPowerModel p.power
   pub view_is : image_of image ≡ Ok p.view
   pub unscaled : unscaled p.view.keyed_segment ≡ Ok tt
   pub notes : List LoopNote
   pub notes_are : read_loops p.view loop_file ≡ Ok notes
-  pub marked : IsMarked p.power p.view (notes_with counted notes) sites p.marked
-  pub scaled : IsScaled p.power p.view (notes_with counted notes) sites p.scaling
+  pub marked : IsMarked p.power p.view (notes_by counted tallied notes) sites tallied share p.marked
+  pub scaled : IsScaled p.power p.view (notes_by counted tallied notes) sites tallied share p.scaling
 
-abbrev pub IsProgramFound : (image machine loop_file : List ℕ) (sites : List SwitchSite) (counted : Bool) → Result Program Refusal → Type 0
-IsProgramFound image machine loop_file sites counted (Ok p) = IsProgramFrom image machine loop_file sites counted p
-IsProgramFound image machine loop_file sites counted (Err refusal) = IsPaced image machine loop_file sites counted (Err refusal)
+abbrev pub IsProgramFound : (image machine loop_file : List ℕ) (sites : List SwitchSite) (counted : Bool) (tallied : List ℕ) (share : ℕ) → Result Program Refusal → Type 0
+IsProgramFound image machine loop_file sites counted tallied share (Ok p) = IsProgramFrom image machine loop_file sites counted tallied share p
+IsProgramFound image machine loop_file sites counted tallied share (Err refusal) = IsPaced image machine loop_file sites counted tallied share (Err refusal)

@@ -1,5 +1,5 @@
--- What the parts of `pace` find, on the way to what it gives. The edges that are wanted are a parameter, whatever chose them.
-use Rattle.std.specs.Prelude.{◌≡◌, ◌⊎◌, ℕ, ◌<◌, ◌≤◌, Bool, List, length, map, All, slice_get, slice_index, Some, None, Result, Ok, Err}
+-- What the parts of `pace` find, on the way to what it gives. What is wanted of the marks is a parameter, whatever chose it.
+use Rattle.std.specs.Prelude.{◌≡◌, ◌⊎◌, ℕ, ◌<◌, ◌≤◌, List, length, map, All, slice_get, slice_index, Some, None, Result, Ok, Err}
 use Rattle.scale_base.specs.declared.refusal.Refusal.{Refusal}
 use Rattle.scale_base.specs.declared.refusal.Refusal.TheVariants.{DeadlineMissed, TooLong}
 use Rattle.scale_base.specs.Image.{Image}
@@ -27,19 +27,19 @@ use Rattle.paced_images.specs.declared.scaling.Scaling.{Scaling}
 use Rattle.paced_images.specs.declared.wanted.SwitchSite.{SwitchSite}
 use Rattle.paced_images.specs.Markings.{IsMarking, ChoosesSites, test_of}
 use Rattle.paced_images.specs.Paced.{IsPacedProgram, paced_budget, paced_test}
-use Rattle.paced_images.specs.Wanted.{wanted_by, marked_where, marked_at}
+use Rattle.paced_images.specs.Wanted.{Wanted, wanted_of, marked_where, marked_at}
 
 -- ---- the marks
 
-pub record HasMarks (v : FlowGraph) (t : LoopView) (wanted : ℕ → Bool) (s : SitesView) : Type 0 where
-  pub kinds : ChoosesSites v wanted
+pub record HasMarks (v : FlowGraph) (t : LoopView) (wanted : Wanted) (s : SitesView) : Type 0 where
+  pub kinds : ChoosesSites v wanted.switch
   pub size : length s.marks ≡ length v.code.edges
   pub marks : (e : ℕ) → e < length v.code.edges → marks_at_edge s e ≡ marked_where v t wanted e
   pub jumps : (e : ℕ) → e < length v.code.edges → slice_index s.jumps e ≡ jumps_of (graph v) (is_branch v) (marked_where v t wanted) e
 
 -- ---- the numbers
 
-pub record IsMarkedAt (power : PowerModel) (image : Image) (v : FlowGraph) (t : LoopView) (wanted : ℕ → Bool) (stored : Numbers) (least : Charged) (m : Marking) (start : ℕ) : Type 0 where
+pub record IsMarkedAt (power : PowerModel) (image : Image) (v : FlowGraph) (t : LoopView) (wanted : Wanted) (stored : Numbers) (least : Charged) (share : ℕ) (m : Marking) (start : ℕ) : Type 0 where
   pub stored_are : AreNumbers (graph v) (loops v t) (stored_weights power image v (marked_where v t wanted)) stored
   pub least_are : AreCharged (graph v) (loops v t) (stored_weights power image v (marked_where v t wanted)) least
   pub marks : HasMarks v t wanted m.sites
@@ -47,73 +47,73 @@ pub record IsMarkedAt (power : PowerModel) (image : Image) (v : FlowGraph) (t : 
   pub short : stored.worst 0 ≤ 281474976710656
   pub worst : slice_get m.worst.worst 0 ≡ Some (stored.worst 0)
   pub slow : slowest_of power (stored.worst 0) ≡ Some start
-  pub budgets : (i : ℕ) → budget_at m.budgets i ≡ paced_budget power start (stored.worst 0) i
+  pub budgets : (i : ℕ) → budget_at m.budgets i ≡ paced_budget power start (stored.worst 0) share i
 
 -- too many cycles under the stored weights, or too late
-pub record IsUnfitScaling (power : PowerModel) (image : Image) (v : FlowGraph) (t : LoopView) (wanted : ℕ → Bool) (stored : Numbers) (refusal : Refusal) : Type 0 where
+pub record IsUnfitScaling (power : PowerModel) (image : Image) (v : FlowGraph) (t : LoopView) (wanted : Wanted) (stored : Numbers) (refusal : Refusal) : Type 0 where
   pub stored_are : AreNumbers (graph v) (loops v t) (stored_weights power image v (marked_where v t wanted)) stored
   pub why : ((281474976710656 < stored.worst 0) × (refusal ≡ TooLong)) ⊎
       ((stored.worst 0 ≤ 281474976710656) × (slowest_of power (stored.worst 0) ≡ None) × (refusal ≡ DeadlineMissed (time_at power (fastest power) (stored.worst 0)) power.deadline))
 
-abbrev pub IsMarkingFound : PowerModel → Image → FlowGraph → LoopView → (ℕ → Bool) → Result (Marking × ℕ) Refusal → Type 0
-IsMarkingFound power image v t wanted (Ok x) = (stored : Numbers) × (least : Charged) × IsMarkedAt power image v t wanted stored least x.0 x.1
-IsMarkingFound power image v t wanted (Err refusal) = (stored : Numbers) × IsUnfitScaling power image v t wanted stored refusal
+abbrev pub IsMarkingFound : PowerModel → Image → FlowGraph → LoopView → Wanted → (share : ℕ) → Result (Marking × ℕ) Refusal → Type 0
+IsMarkingFound power image v t wanted share (Ok x) = (stored : Numbers) × (least : Charged) × IsMarkedAt power image v t wanted stored least share x.0 x.1
+IsMarkingFound power image v t wanted share (Err refusal) = (stored : Numbers) × IsUnfitScaling power image v t wanted stored refusal
 
 -- ---- the stubs
 
 -- the marked instructions, in the form that their code is written from
-pub record AreStubsOf (power : PowerModel) (image : Image) (v : FlowGraph) (t : LoopView) (wanted : ℕ → Bool) (stored : Numbers) (least : Charged) (m : Marking) (stubs : List StubSite) : Type 0 where
+pub record AreStubsOf (power : PowerModel) (image : Image) (v : FlowGraph) (t : LoopView) (wanted : Wanted) (stored : Numbers) (least : Charged) (m : Marking) (stubs : List StubSite) : Type 0 where
   pub few : length stubs ≤ 131072
   pub each : All IsSite stubs
   pub are : AreSitesOf image v.code (fragments_with power (test_of power m) image v t (marked_where v t wanted) stored least) (map site_of stubs)
 
 -- the marking of the program of an image
 abbrev pub IsMarkedProgram : PowerModel → Image → FlowGraph → LoopView → Marking → Type 0
-IsMarkedProgram power image v t m = (notes : List LoopNote) × (wanted : ℕ → Bool) × (stored : Numbers) × (least : Charged) × IsWeighedWith power image notes v t (marked_where v t wanted) stored × IsMarking power image v t wanted stored least m
+IsMarkedProgram power image v t m = (notes : List LoopNote) × (wanted : Wanted) × (stored : Numbers) × (least : Charged) × IsWeighedWith power image notes v t (marked_where v t wanted) stored × IsMarking power image v t wanted stored least m
 
 -- its stubs, whatever its numbers
 abbrev pub AreStubsFound : PowerModel → Image → FlowGraph → LoopView → Marking → List StubSite → Type 0
-AreStubsFound power image v t m stubs = (notes : List LoopNote) (wanted : ℕ → Bool) (stored : Numbers) (least : Charged) → IsWeighedWith power image notes v t (marked_where v t wanted) stored → IsMarking power image v t wanted stored least m → AreStubsOf power image v t wanted stored least m stubs
+AreStubsFound power image v t m stubs = (notes : List LoopNote) (wanted : Wanted) (stored : Numbers) (least : Charged) → IsWeighedWith power image notes v t (marked_where v t wanted) stored → IsMarking power image v t wanted stored least m → AreStubsOf power image v t wanted stored least m stubs
 
 -- ---- what stubs add
 
 -- the marks are those of a program whose worst cycles are in range under the stored weights
 abbrev pub IsInRange : PowerModel → FlowGraph → LoopView → SitesView → Type 0
-IsInRange power v t s = (image : Image) × (notes : List LoopNote) × (wanted : ℕ → Bool) × (stored : Numbers) × IsWeighedWith power image notes v t (marked_where v t wanted) stored × HasMarks v t wanted s × (stored.worst 0 ≤ 281474976710656)
+IsInRange power v t s = (image : Image) × (notes : List LoopNote) × (wanted : Wanted) × (stored : Numbers) × IsWeighedWith power image notes v t (marked_where v t wanted) stored × HasMarks v t wanted s × (stored.worst 0 ≤ 281474976710656)
 
-abbrev pub IsExtraFound : PowerModel → FlowGraph → LoopView → (ℕ → Bool) → Result ℕ Refusal → Type 0
+abbrev pub IsExtraFound : PowerModel → FlowGraph → LoopView → Wanted → Result ℕ Refusal → Type 0
 IsExtraFound power v t wanted (Ok x) = (extra : Numbers) × AreNumbers (graph v) (loops v t) (extra_weights power v (marked_where v t wanted)) extra × (x ≡ extra.worst 0)
 IsExtraFound power v t wanted (Err refusal) = ⊥
 
 -- ---- together
 
 -- what is stored of the program of an image besides its file
-pub record IsScaled (power : PowerModel) (image : Image) (notes : List LoopNote) (sites : List SwitchSite) (s : Scaling) : Type 0 where
+pub record IsScaled (power : PowerModel) (image : Image) (notes : List LoopNote) (sites : List SwitchSite) (tallied : List ℕ) (share : ℕ) (s : Scaling) : Type 0 where
   pub code : FlowGraph
   pub tree : LoopView
   pub stored : Numbers
   pub extra : Numbers
   pub least : Charged
-  pub weighed : IsWeighedWith power image notes code tree (marked_at code tree sites) stored
+  pub weighed : IsWeighedWith power image notes code tree (marked_at code tree sites tallied) stored
   pub short : stored.worst 0 ≤ 281474976710656
   pub slow : slowest_of power (stored.worst 0) ≡ Some s.summary.start
-  pub stubs : HasStubsWith power (paced_test power s.summary.start (stored.worst 0)) image code tree (marked_at code tree sites) stored extra least (map site_of s.stubs.items) s.base
+  pub stubs : HasStubsWith power (paced_test power s.summary.start (stored.worst 0) share) image code tree (marked_at code tree sites tallied) stored extra least (map site_of s.stubs.items) s.base
   pub near : out_of_reach s.base (map site_of s.stubs.items) ≡ None
   pub bytes : s.block.bytes.items ≡ block_bytes s.base (map site_of s.stubs.items)
   pub patches : s.block.patches.items ≡ patches_from s.base (map site_of s.stubs.items)
-  pub summary : s.summary ≡ rewritten_summary power code (marked_at code tree sites) s.summary.start (stored.worst 0) (extra.worst 0) (map site_of s.stubs.items)
+  pub summary : s.summary ≡ rewritten_summary power code (marked_at code tree sites tallied) s.summary.start (stored.worst 0) (extra.worst 0) (map site_of s.stubs.items)
 
-abbrev pub IsScalingFound : PowerModel → Image → List LoopNote → List SwitchSite → Result Scaling Refusal → Type 0
-IsScalingFound power image notes sites (Ok s) = IsScaled power image notes sites s
-IsScalingFound power image notes sites (Err refusal) = IsPacedProgram power image notes sites (Err refusal)
+abbrev pub IsScalingFound : PowerModel → Image → List LoopNote → List SwitchSite → (tallied : List ℕ) (share : ℕ) → Result Scaling Refusal → Type 0
+IsScalingFound power image notes sites tallied share (Ok s) = IsScaled power image notes sites tallied share s
+IsScalingFound power image notes sites tallied share (Err refusal) = IsPacedProgram power image notes sites tallied share (Err refusal)
 
 -- the graph and the loops of an image, whose counted loops can be counted, with its marking and its starting level
-pub record IsMarked (power : PowerModel) (image : Image) (notes : List LoopNote) (sites : List SwitchSite) (m : Marked) : Type 0 where
+pub record IsMarked (power : PowerModel) (image : Image) (notes : List LoopNote) (sites : List SwitchSite) (tallied : List ℕ) (share : ℕ) (m : Marked) : Type 0 where
   pub code_is : IsGraphOf (text_of image) m.graph
   pub tree_is : IsTreeOf m.graph notes m.tree
   pub counters : AreCounters m.graph m.tree (Ok (counted_loops m.tree))
-  pub found : IsMarkingFound power image m.graph m.tree (wanted_by m.graph sites) (Ok (m.marking, m.start))
+  pub found : IsMarkingFound power image m.graph m.tree (wanted_of m.graph m.tree sites tallied) share (Ok (m.marking, m.start))
 
-abbrev pub IsMarkedFound : PowerModel → Image → List LoopNote → List SwitchSite → Result Marked Refusal → Type 0
-IsMarkedFound power image notes sites (Ok m) = IsMarked power image notes sites m
-IsMarkedFound power image notes sites (Err refusal) = IsPacedProgram power image notes sites (Err refusal)
+abbrev pub IsMarkedFound : PowerModel → Image → List LoopNote → List SwitchSite → (tallied : List ℕ) (share : ℕ) → Result Marked Refusal → Type 0
+IsMarkedFound power image notes sites tallied share (Ok m) = IsMarked power image notes sites tallied share m
+IsMarkedFound power image notes sites tallied share (Err refusal) = IsPacedProgram power image notes sites tallied share (Err refusal)

@@ -1,9 +1,11 @@
--- Which sites are of use: those whose switch goes to a lower level from some level that a run may have there. A run begins at the starting level, and never raises it.
-use Rattle.std.specs.Prelude.{◌≡◌, ℕ, nat_le, nat_lt, ◌<◌, ◌&&◌, Bool, false, List, length, slice_get, Some, Result, Ok, Err}
+-- Which sites are of use: those whose switch goes to a lower level from some level that a run may have there. A run begins at the starting level, and never raises it. A switch
+-- to the lowest level does so only where its edge goes there from every level.
+use Rattle.std.specs.Prelude.{◌≡◌, ℕ, nat_le, nat_lt, ◌<◌, ◌&&◌, Bool, true, false, List, length, slice_get, Some, Result, Ok, Err}
 use Rattle.std.specs.List.{filter, list_any}
 use Rattle.scale_base.specs.declared.refusal.Refusal.{Refusal}
 use Rattle.scale_base.specs.declared.summary.Summary.{Summary}
 use Rattle.scale_base.specs.declared.fragments.Mark.{Mark}
+use Rattle.scale_base.specs.declared.fragments.Mark.TheVariants.{Switch, Exit, Reset, Count, Lowest, Tally}
 use Rattle.scale_base.specs.Image.{Image, image_of}
 use Rattle.power_model.specs.Numbers.{PowerModel}
 use Rattle.power_model.specs.Slowest.{slowest_of}
@@ -14,25 +16,34 @@ use Rattle.cost_theory.specs.Graph.{any_below}
 use Rattle.cost_theory.specs.Worst.{Numbers}
 use Rattle.cycle_laws.specs.Charged.{Charged, AreCharged}
 use Rattle.code_graph.specs.FlowGraph.{FlowGraph, graph}
-use Rattle.level_tables.specs.Tables.{EdgeNumbers, entry_by}
+use Rattle.level_tables.specs.Tables.{EdgeNumbers, entry_by, goes_lowest}
 use Rattle.loop_tree.specs.Tree.{LoopView, loops}
-use Rattle.rewritten_runs.specs.Stubs.{IsWeighedWith, stored_weights, told_at, is_switch}
-use Rattle.scaler.specs.RewrittenAs.{notes_with}
+use Rattle.rewritten_runs.specs.Stubs.{IsWeighedWith, stored_weights, told_at}
 use Rattle.paced_images.specs.declared.scaling.Marked.{Marked}
 use Rattle.paced_images.specs.declared.wanted.SwitchSite.{SwitchSite}
 use Rattle.paced_images.specs.Markings.{Whichever, test_of}
 use Rattle.paced_images.specs.Paced.{IsPaced, paced_test}
-use Rattle.paced_images.specs.Wanted.{names_some, marked_where, marked_at}
+use Rattle.paced_images.specs.Wanted.{notes_by, names_some, marked_where, marked_at}
 
 -- ---- what a switch lowers
+
+-- a mark that a site gave its edge, and that stores a level: a switch does, and one to the lowest level where its edge goes there from every level
+abbrev pub is_site_mark : PowerModel → (EdgeNumbers → ℕ → ℕ → Bool) → EdgeNumbers → Mark → Bool
+is_site_mark power test told Switch = true
+is_site_mark power test told (Exit counter) = false
+is_site_mark power test told (Reset counter) = false
+is_site_mark power test told (Count counter) = false
+is_site_mark power test told Lowest = goes_lowest power test told
+is_site_mark power test told (Tally counter) = false
 
 -- from some level up to the starting one, a switch on an edge with these numbers goes to a lower one
 abbrev pub lowers_some : PowerModel → (EdgeNumbers → ℕ → ℕ → Bool) → (start : ℕ) → EdgeNumbers → Bool
 lowers_some power test start told = any_below (length power.levels) (λ i. nat_le i start && nat_lt (entry_by test told i) i)
 
--- an edge has a switch, and that does
+-- an edge has such a mark, and that does
 abbrev pub is_lowered : PowerModel → (EdgeNumbers → ℕ → ℕ → Bool) → (start : ℕ) → Image → FlowGraph → LoopView → (ℕ → List Mark) → Numbers → Charged → ℕ → Bool
-is_lowered power test start image v t marked n least e = list_any is_switch (marked e) && lowers_some power test start (told_at power image v t marked n least e)
+is_lowered power test start image v t marked n least e =
+    list_any (is_site_mark power test (told_at power image v t marked n least e)) (marked e) && lowers_some power test start (told_at power image v t marked n least e)
 
 -- a site names such an edge
 abbrev pub names_lowered : PowerModel → (EdgeNumbers → ℕ → ℕ → Bool) → (start : ℕ) → Image → FlowGraph → LoopView → (ℕ → List Mark) → Numbers → Charged → SwitchSite → ℕ → Bool
@@ -67,7 +78,7 @@ AreKeptBy power m sites kept = Whichever power m.graph m.tree m.marking (λ imag
 -- ---- what the files give
 
 -- the sites that are of use, by the numbers of the program with switches on all of them
-pub record AreKept (image machine loop_file : List ℕ) (wanted : List SwitchSite) (counted : Bool) (kept : List SwitchSite) : Type 0 where
+pub record AreKept (image machine loop_file : List ℕ) (wanted : List SwitchSite) (counted : Bool) (tallied : List ℕ) (share : ℕ) (kept : List SwitchSite) : Type 0 where
   pub power : PowerModel
   pub original : Image
   pub notes : List LoopNote
@@ -79,12 +90,12 @@ pub record AreKept (image machine loop_file : List ℕ) (wanted : List SwitchSit
   pub stored : Numbers
   pub least : Charged
   pub start : ℕ
-  pub weighed : IsWeighedWith power original (notes_with counted notes) code tree (marked_at code tree wanted) stored
-  pub least_are : AreCharged (graph code) (loops code tree) (stored_weights power original code (marked_at code tree wanted)) least
+  pub weighed : IsWeighedWith power original (notes_by counted tallied notes) code tree (marked_at code tree wanted tallied) stored
+  pub least_are : AreCharged (graph code) (loops code tree) (stored_weights power original code (marked_at code tree wanted tallied)) least
   pub slow : slowest_of power (stored.worst 0) ≡ Some start
-  pub kept_are : kept ≡ filter (is_useful power (paced_test power start (stored.worst 0)) start original code tree (marked_at code tree wanted) stored least) wanted
+  pub kept_are : kept ≡ filter (is_useful power (paced_test power start (stored.worst 0) share) start original code tree (marked_at code tree wanted tallied) stored least) wanted
 
 -- where `pace` gives an image of all sites, those of use; or what it refuses
-abbrev pub AreUseful : (image machine loop_file : List ℕ) (wanted : List SwitchSite) (counted : Bool) → Result (List SwitchSite) Refusal → Type 0
-AreUseful image machine loop_file wanted counted (Ok kept) = (given : List ℕ × Summary) × IsPaced image machine loop_file wanted counted (Ok given) × AreKept image machine loop_file wanted counted kept
-AreUseful image machine loop_file wanted counted (Err refusal) = IsPaced image machine loop_file wanted counted (Err refusal)
+abbrev pub AreUseful : (image machine loop_file : List ℕ) (wanted : List SwitchSite) (counted : Bool) (tallied : List ℕ) (share : ℕ) → Result (List SwitchSite) Refusal → Type 0
+AreUseful image machine loop_file wanted counted tallied share (Ok kept) = (given : List ℕ × Summary) × IsPaced image machine loop_file wanted counted tallied share (Ok given) × AreKept image machine loop_file wanted counted tallied share kept
+AreUseful image machine loop_file wanted counted tallied share (Err refusal) = IsPaced image machine loop_file wanted counted tallied share (Err refusal)

@@ -1,13 +1,18 @@
--- Where switches are wanted: on the edges of branches and of jumps that a list of sites names. A site names an edge by the address of its instruction and by its kind.
-use Rattle.std.specs.Prelude.{ℕ, ◌==◌, ◌&&◌, Bool, true, false, List, slice_get, Option, Some, None}
+-- What is wanted of a program. Switches: on the edges of branches and of jumps that a list of sites names, each by the address of its instruction and by its kind. And tallied
+-- loops, by the addresses of their headers: a shadow counter counts their turns, and their back edges go to the lowest level from a count on.
+use Rattle.std.specs.Prelude.{ℕ, ◌-◌, ◌==◌, ◌&&◌, ◌||◌, Bool, true, false, List, map, slice_get, Option, Some, None}
 use Rattle.std.specs.List.{list_any}
 use Rattle.scale_base.specs.declared.edges.Edge.{Edge}
 use Rattle.scale_base.specs.declared.edges.EdgeKind.{EdgeKind}
 use Rattle.scale_base.specs.declared.edges.EdgeKind.TheVariants.{Taken, Untaken, Jump, Next, CallNext, End}
 use Rattle.scale_base.specs.declared.fragments.Mark.{Mark}
+use Rattle.cost_theory.specs.Lists.{is_among}
 use Rattle.code_graph.specs.FlowGraph.{FlowGraph}
-use Rattle.loop_tree.specs.Tree.{LoopView}
+use Rattle.loop_file.specs.declared.notes.LoopNote.{LoopNote}
+use Rattle.loop_tree.specs.Tree.{LoopView, loops}
 use Rattle.scale_sites.specs.Counters.{counted_loops}
+use Rattle.scale_sites.specs.Forms.{formed}
+use Rattle.scale_sites.specs.Marks.{first_counter}
 use Rattle.scale_sites.specs.Sites.{marks_where}
 use Rattle.paced_images.specs.declared.wanted.SwitchSite.{SwitchSite}
 
@@ -61,11 +66,46 @@ any_names sites (Some edge) = list_any (λ site. names site edge) sites
 abbrev pub wanted_by : FlowGraph → List SwitchSite → ℕ → Bool
 wanted_by v sites e = any_names sites (slice_get v.code.edges e)
 
+-- whether one of the sites that name an edge wants the lowest level there: where several name it, one is enough
+abbrev pub any_lowest : List SwitchSite → Option Edge → Bool
+any_lowest sites None = false
+any_lowest sites (Some edge) = list_any (λ site. names site edge && site.lowest) sites
+
+abbrev pub lowest_by : FlowGraph → List SwitchSite → ℕ → Bool
+lowest_by v sites e = any_lowest sites (slice_get v.code.edges e)
+
+-- ---- which loops are counted, and which are tallied
+
+-- The note of a loop with what is wanted of it: the loop at a tallied header is counted, whatever its note says; any other one is where `counted` and its note says so.
+abbrev pub note_by : (counted : Bool) → (tallied : List ℕ) → LoopNote → LoopNote
+note_by counted tallied note = record note { counted = is_among note.header tallied || (counted && note.counted) }
+
+abbrev pub notes_by : (counted : Bool) → (tallied : List ℕ) → List LoopNote → List LoopNote
+notes_by counted tallied notes = map (note_by counted tallied) notes
+
+-- whether the header of a loop, if there is one, is tallied
+abbrev pub header_tallied : FlowGraph → LoopView → (tallied : List ℕ) → Option ℕ → Bool
+header_tallied v t tallied None = false
+header_tallied v t tallied (Some k) = is_among ((loops v t).header k) tallied
+
+-- whether the loop that a shadow counter counts is tallied: counters are numbered from 2 on, by the places of their loops among those that are counted
+abbrev pub is_tallied : FlowGraph → LoopView → (tallied : List ℕ) → (counter : ℕ) → Bool
+is_tallied v t tallied counter = header_tallied v t tallied (slice_get (counted_loops t) (counter - first_counter))
+
 -- ---- the marks
 
--- by edge, its marks: a switch where it is wanted and leaves no counted loop, and the exits, resets and counts of counted loops
-abbrev pub marked_where : FlowGraph → LoopView → (ℕ → Bool) → ℕ → List Mark
-marked_where v t wanted e = marks_where v t (counted_loops t) wanted e
+-- what is wanted of a program's marks: which edges have a switch, which of those go to the lowest level, and which counters are tallied
+pub record Wanted : Type 0 where
+  pub switch : ℕ → Bool
+  pub lowest : ℕ → Bool
+  pub tallied : ℕ → Bool
 
-abbrev pub marked_at : FlowGraph → LoopView → List SwitchSite → ℕ → List Mark
-marked_at v t sites e = marked_where v t (wanted_by v sites) e
+abbrev pub wanted_of : FlowGraph → LoopView → List SwitchSite → (tallied : List ℕ) → Wanted
+wanted_of v t sites tallied = record { switch = wanted_by v sites; lowest = lowest_by v sites; tallied = is_tallied v t tallied }
+
+-- By edge, its marks: a switch where it is wanted and leaves no counted loop, and the exits, resets and counts of counted loops; all in the forms that are wanted.
+abbrev pub marked_where : FlowGraph → LoopView → Wanted → ℕ → List Mark
+marked_where v t wanted e = formed (wanted.lowest e) wanted.tallied (marks_where v t (counted_loops t) wanted.switch e)
+
+abbrev pub marked_at : FlowGraph → LoopView → List SwitchSite → (tallied : List ℕ) → ℕ → List Mark
+marked_at v t sites tallied e = marked_where v t (wanted_of v t sites tallied) e

@@ -1,7 +1,8 @@
-//! Images whose switches of level stand on chosen edges, and whose levels keep budgets.
+//! Images whose switches of level stand on chosen edges, whose chosen loops go to the lowest level from a count of turns on, and whose levels keep budgets.
 //! Tests: crates/answer_tests/src/pacing.rt.
 #![tactic(auto)]
 
+mod noted;
 mod pacing;
 mod programs;
 mod scaling;
@@ -10,5 +11,7 @@ mod useful;
 mod wanted;
 
 pub use pacing::pace;
+pub use programs::{Program, program_of};
+pub use scaling::{Marked, Scaling};
 pub use useful::useful_sites;
 pub use wanted::SwitchSite;

@@ -19,22 +19,33 @@ fn pace_files(
     loops: &[u8],
     sites: &[SwitchSite],
     counted: bool,
+    tallied: &[u32],
+    share: u8,
 ) -> Result<(Vec<u8>, Summary), Stop>
-    requires { length image.now ≤ 4194304 }
-    ensures { AnswersBy (λ given. (given.0.items, given.1)) result (IsPaced image.now machine.now loops.now sites.now counted) }
+    requires image { length image.now ≤ 4194304 }
+    requires share { share ≤ 4 }
+    ensures { AnswersBy (λ given. (given.0.items, given.1)) result (IsPaced image.now machine.now loops.now sites.now counted tallied.now share) }
 {
-    let program = program_of(alloc, image, machine, loops, sites, counted)?;
+    let program = program_of(alloc, image, machine, loops, sites, counted, tallied, share)?;
     let bytes = stored_file(alloc, &program.view, &program.scaling)?;
     Ok((bytes, program.scaling.summary))
 }
 
 /// The image with switches of level on the edges that the sites name, and with those of its counted loops, as `rewrite` makes it in all else.
-/// Without `counted` no loop is counted, whatever the loop file notes.
-/// The tables keep budgets: the starting level has the time of the worst cycles there, and each other level the deadline, so that a switch
-/// lowers the level also where its own edge has no slack. Or the first refusal, in the order of `rewrite`.
+/// Without `counted` no loop is counted, whatever the loop file notes, but for those that are tallied.
+/// The tables keep budgets: the starting level has the time of the worst cycles there, the lowest one the deadline, and each level between
+/// them the time of the starting one and `share` quarters of what that leaves before the deadline. So a switch lowers the level also where
+/// its own edge has no slack. Or the first refusal, in the order of `rewrite`.
+///
+/// A site with `lowest` stores level 0 by one instruction, where its edge may go there from every level; elsewhere that instruction stores
+/// nothing at the port.
+///
+/// `tallied` has the addresses of the headers of loops that are tallied: each is counted, whatever the loop file notes, and each of its back
+/// edges stores level 0 from the least count of turns on from which it may go there from every level. Its ways out reset its counter, and
+/// have no table. An address at which no loop has its header changes nothing.
 ///
 /// A site that names no edge of a branch or of a jump of the reached code changes nothing, and nor does one whose edge leaves a counted loop,
-/// which has an exit there. The summary counts the edges with a switch.
+/// which has an exit there, or is a back edge of a tallied one. The summary counts the edges that may store a level, and those that count.
 ///
 /// The files have at most the bytes that the program loads: 4,194,304 of an image, 1,048,576 of each other file. Times are in
 /// the machine file's time units.
@@ -45,14 +56,17 @@ pub fn pace(
     loops: &[u8],
     sites: &[SwitchSite],
     counted: bool,
+    tallied: &[u32],
+    share: u8,
 ) -> Result<(Vec<u8>, Summary), Stop>
     requires image { length image.now ≤ 4194304 }
     requires machine { length machine.now ≤ 1048576 }
     requires loops { length loops.now ≤ 1048576 }
-    ensures given { AnswersBy (λ given. (given.0.items, given.1)) result (IsPaced image.now machine.now loops.now sites.now counted) }
+    requires share { share ≤ 4 }
+    ensures given { AnswersBy (λ given. (given.0.items, given.1)) result (IsPaced image.now machine.now loops.now sites.now counted tallied.now share) }
 
     // On each input on which the original run exits and is kept, by the files' own notes, the stored run keeps the promise.
     ensures safe { IfOk result (λ given. IsStoredSafely image.now machine.now loops.now given.0.items given.1) }
 {
-    pace_files(alloc, image, machine, loops, sites, counted)
+    pace_files(alloc, image, machine, loops, sites, counted, tallied, share)
 }

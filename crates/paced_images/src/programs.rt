@@ -1,14 +1,14 @@
-//! The program of three files, with switches on the edges that sites name.
+//! The program of three files, with switches on the edges that sites name, and with tallied loops.
 
-ghost use Rattle.std.specs.Prelude.{◌≡◌};
+ghost use Rattle.std.specs.Prelude.{◌≤◌};
 ghost use Rattle.scale_base.specs.Answer.{AnswersBy};
-ghost use Rattle.scaler.specs.RewrittenAs as variant;
 ghost use Rattle.paced_images.specs.Programs.{IsProgramFound};
 
+use crate::noted::notes_by;
 use crate::scaling::{Marked, Scaling, marked_of, scaling_of};
 use crate::wanted::SwitchSite;
 use elf_view::{ImageView, read_image};
-use loop_file::{LoopNotes, read_loops};
+use loop_file::read_loops;
 use machine_file::read_machine;
 use power_model::Power;
 use scale_base::Stop;
@@ -24,13 +24,6 @@ pub struct Program<'a> {
     pub scaling: Scaling,
 }
 
-/// The notes as they are, or with no loop counted.
-fn notes_with(counted: bool, notes: LoopNotes) -> LoopNotes
-    ensures { result ≡ variant.notes_with counted notes }
-{
-    if counted { notes } else { notes.uncounted() }
-}
-
 /// The program of three files, or the first refusal.
 pub fn program_of<'a>(
     alloc: Global,
@@ -39,15 +32,18 @@ pub fn program_of<'a>(
     loops: &[u8],
     sites: &[SwitchSite],
     counted: bool,
+    tallied: &[u32],
+    share: u8,
 ) -> Result<Program<'a>, Stop>
-    ensures { AnswersBy (λ p. p) result (IsProgramFound image.now machine.now loops.now sites.now counted) }
+    requires { share ≤ 4 }
+    ensures { AnswersBy (λ p. p) result (IsProgramFound image.now machine.now loops.now sites.now counted tallied.now share) }
 {
     let power = read_machine(alloc, machine)?;
     let view = read_image(alloc, image)?;
     check_unscaled(view.keyed())?;
-    let notes = read_loops(alloc, loops, &view)?;
-    let notes = notes_with(counted, notes);
-    let marked = marked_of(alloc, &view, &power, &notes, sites)?;
+    let noted = read_loops(alloc, loops, &view)?;
+    let notes = notes_by(alloc, &noted, counted, tallied)?;
+    let marked = marked_of(alloc, &view, &power, &notes, sites, tallied, share)?;
     let scaling = scaling_of(alloc, &view, &power, &marked)?;
     Ok(Program {
         power,

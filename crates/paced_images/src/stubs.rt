@@ -13,7 +13,10 @@ ghost use Rattle.paced_images.specs.Markings.{HasMarking, IsToldAt, IsFragmentAt
 use code_graph::CodeGraph;
 use elf_view::ImageView;
 use least_cycles::LeastNumbers;
-use level_tables::{LevelBudgets, exit_rows_within, shift, word_within};
+use level_tables::{
+    LevelBudgets, exit_rows_within, lowest_within, shift, tally_from_within, tally_shift,
+    word_within,
+};
 use loop_tree::LoopTree;
 use power_model::Power;
 use rv_decode::decode;
@@ -42,7 +45,7 @@ pub struct Told {
     pub least: Option<u128>,
 }
 
-/// What edge `e`, which has a Switch or an Exit, tells its switch.
+/// What edge `e`, which has a mark that may store a level, tells its switch.
 pub fn told_at(
     power: &Power,
     graph: &CodeGraph,
@@ -113,6 +116,58 @@ fn exit_of(
     }
 }
 
+/// The code of a Lowest on edge `e`: it stores where every level goes to the lowest.
+fn lowest_of(
+    power: &Power,
+    graph: &CodeGraph,
+    tree: &LoopTree,
+    marking: &Marking,
+    e: usize,
+) -> Fragment
+    requires marking { HasMarking power.now graph.now tree.now marking.now }
+    requires edge { e < length graph.now.code.edges }
+    requires mark { (i : ℕ) × (slice_get (marks_at_edge marking.now.sites e) i ≡ Some marks.Lowest) }
+    ensures { IsFragmentAt power.now graph.now tree.now marking.now e marks.Lowest result }
+{
+    let told = told_at(power, graph, tree, marking, e);
+    Fragment::Lowest {
+        down: lowest_within(power, &marking.budgets, told.slack, told.left, told.least),
+    }
+}
+
+/// The code of a Tally on edge `e`: it stores from the least count on from which every level goes to the lowest.
+fn tally_of(
+    power: &Power,
+    graph: &CodeGraph,
+    tree: &LoopTree,
+    marking: &Marking,
+    e: usize,
+    counter: u16,
+) -> Fragment
+    requires marking { HasMarking power.now graph.now tree.now marking.now }
+    requires edge { e < length graph.now.code.edges }
+    requires mark { (i : ℕ) × (slice_get (marks_at_edge marking.now.sites e) i ≡ Some (marks.Tally counter)) }
+    ensures { IsFragmentAt power.now graph.now tree.now marking.now e (marks.Tally counter) result }
+{
+    let told = told_at(power, graph, tree, marking, e);
+    let l = *marking.counters.get(usize::from(counter - 2));
+    let bound = tree.bound(l);
+    let iteration = marking.worst.iteration(l);
+    Fragment::Tally {
+        counter,
+        shift: tally_shift(bound),
+        from: tally_from_within(
+            power,
+            &marking.budgets,
+            bound,
+            iteration,
+            told.slack,
+            told.left,
+            told.least,
+        ),
+    }
+}
+
 /// The code of a mark on edge `e`.
 fn fragment_of(
     power: &Power,
@@ -137,6 +192,8 @@ fn fragment_of(
         Mark::Exit(counter) => exit_of(power, graph, tree, marking, e, counter),
         Mark::Reset(counter) => Fragment::Reset { counter },
         Mark::Count(counter) => Fragment::Count { counter },
+        Mark::Lowest => lowest_of(power, graph, tree, marking, e),
+        Mark::Tally(counter) => tally_of(power, graph, tree, marking, e, counter),
     }
 }
 

@@ -5,7 +5,7 @@ ghost use Rattle.std.specs.List.{list_any};
 ghost use Rattle.scale_base.specs.Answer.{AnswersBy};
 ghost use Rattle.level_tables.specs.Budgets.{meets_in_budget, budget_at};
 ghost use Rattle.level_tables.specs.Tables.{entry_by};
-ghost use Rattle.rewritten_runs.specs.Stubs.{is_switch};
+ghost use Rattle.scale_sites.specs.Weights.{switches};
 ghost use Rattle.paced_images.specs.Markings.{HasMarking, told_view};
 ghost use Rattle.paced_images.specs.Useful as useful;
 
@@ -13,15 +13,52 @@ use crate::programs::program_of;
 use crate::scaling::Marked;
 use crate::stubs::{Told, told_at};
 use crate::wanted::{SwitchSite, edges_at, names};
-use level_tables::{LevelBudgets, entry_within};
+use level_tables::{LevelBudgets, entry_within, lowest_within};
 use power_model::Power;
 use scale_base::{Mark, NoMemory, Stop};
 use std::alloc::Global;
 
-fn has_switch(marks: &[Mark]) -> bool
-    ensures { result ≡ list_any is_switch marks.now }
+/// Whether there is a mark that a site gave its edge, and that stores a level.
+fn has_site_mark(power: &Power, budgets: &LevelBudgets, told: &Told, marks: &[Mark]) -> bool
+    requires { IfSome told.now.least (λ z. z < 2 ^ 90) }
+    ensures { result ≡ list_any (useful.is_site_mark power.now (meets_in_budget power.now (budget_at budgets.now)) (told_view told.now)) marks.now }
 {
-    marks.iter().any(|mark| matches!(mark, Mark::Switch))
+    let Some((first, rest)) = marks.split_first() else {
+        return false;
+    };
+    is_site_mark(power, budgets, told, *first) || has_site_mark(power, budgets, told, rest)
+}
+
+/// Whether a mark is one.
+fn is_site_mark(power: &Power, budgets: &LevelBudgets, told: &Told, mark: Mark) -> bool
+    requires { IfSome told.now.least (λ z. z < 2 ^ 90) }
+    ensures { result ≡ useful.is_site_mark power.now (meets_in_budget power.now (budget_at budgets.now)) (told_view told.now) mark }
+{
+    match mark {
+        Mark::Switch => true,
+        Mark::Lowest => lowest_within(power, budgets, told.slack, told.left, told.least),
+        Mark::Exit(_) => false,
+        Mark::Reset(_) => false,
+        Mark::Count(_) => false,
+        Mark::Tally(_) => false,
+    }
+}
+
+/// Whether the first mark may store a level: a switch, an exit, a switch to the lowest level, or a tally.
+fn stores_first(marks: &[Mark]) -> bool
+    ensures { result ≡ switches marks.now }
+{
+    match marks.first() {
+        Some(mark) => match *mark {
+            Mark::Switch => true,
+            Mark::Exit(_) => true,
+            Mark::Reset(_) => false,
+            Mark::Count(_) => false,
+            Mark::Lowest => true,
+            Mark::Tally(_) => true,
+        },
+        None => false,
+    }
 }
 
 /// Whether a switch goes to a lower level from level `i`, and that is at most the starting one.
@@ -46,18 +83,20 @@ fn lowers_some(power: &Power, budgets: &LevelBudgets, start: u8, told: &Told) ->
     false
 }
 
-/// Whether edge `e` has a switch that lowers a level.
+/// Whether a site gave edge `e` a mark that lowers a level.
 fn is_lowered(power: &Power, marked: &Marked, e: usize) -> bool
     requires marking { HasMarking power.now marked.now.graph marked.now.tree marked.now.marking }
     requires edge { e < length marked.now.graph.code.edges }
     ensures { useful.IsLoweredAt power.now marked.now e result }
 {
     let marking = &marked.marking;
-    if !has_switch(marking.sites.marks(e)) {
+    let marks = marking.sites.marks(e);
+    if !stores_first(marks) {
         return false;
     }
     let told = told_at(power, &marked.graph, &marked.tree, marking, e);
-    lowers_some(power, &marking.budgets, marked.start, &told)
+    has_site_mark(power, &marking.budgets, &told, marks)
+        && lowers_some(power, &marking.budgets, marked.start, &told)
 }
 
 /// Whether a site names edge `e`, and that has such a switch.
@@ -103,8 +142,8 @@ fn kept_sites(
 }
 
 /// The sites whose switch can lower a level in the image that `pace` makes of all of them, in their order: the table of their edge leads
-/// from some level, up to the starting one, to a lower one. A site that names no edge with a switch isn't among them. Or the refusal
-/// of `pace`.
+/// from some level, up to the starting one, to a lower one, and with `lowest` from each level to the lowest one. A site that names no
+/// edge with a switch isn't among them, and nor is one that names a back edge of a tallied loop. Or the refusal of `pace`.
 ///
 /// In the image that `pace` makes of these alone there is less to pay, so its tables may lead to other levels.
 ///
@@ -116,12 +155,15 @@ pub fn useful_sites(
     loops: &[u8],
     sites: &[SwitchSite],
     counted: bool,
+    tallied: &[u32],
+    share: u8,
 ) -> Result<Vec<SwitchSite>, Stop>
     requires image { length image.now ≤ 4194304 }
     requires machine { length machine.now ≤ 1048576 }
     requires loops { length loops.now ≤ 1048576 }
-    ensures { AnswersBy (λ kept. kept.items) result (useful.AreUseful image.now machine.now loops.now sites.now counted) }
+    requires share { share ≤ 4 }
+    ensures { AnswersBy (λ kept. kept.items) result (useful.AreUseful image.now machine.now loops.now sites.now counted tallied.now share) }
 {
-    let program = program_of(alloc, image, machine, loops, sites, counted)?;
+    let program = program_of(alloc, image, machine, loops, sites, counted, tallied, share)?;
     Ok(kept_sites(alloc, &program.power, &program.marked, sites)?)
 }

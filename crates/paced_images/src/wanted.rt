@@ -1,19 +1,27 @@
-//! The edges on which switches are wanted.
+//! The edges on which switches are wanted, and the counters of the loops that are tallied.
 
-ghost use Rattle.std.specs.Prelude.{◌≡◌, ◌≤◌, ◌<◌, ◌↔◌, ℕ, length, slice_get, IfOk};
+ghost use Rattle.std.specs.Prelude.{◌≡◌, ◌≤◌, ◌<◌, ◌↔◌, ℕ, Bool, length, slice_get, Some, IfOk};
 ghost use Rattle.cost_theory.specs.Reached.{edge_at};
-ghost use Rattle.paced_images.specs.Wanted.{same_kind, names};
-ghost use Rattle.paced_images.specs.Flags.{AreFlags, AreRaised};
+ghost use Rattle.loop_tree.specs.Tree.{IsLoopTree};
+ghost use Rattle.scale_sites.specs.Counters.{counted_loops};
+ghost use Rattle.paced_images.specs.Wanted.{same_kind, names, header_tallied};
+ghost use Rattle.paced_images.specs.Flags.{AreFlags, AreRaised, AreLowest, AreTallied};
 
+use crate::noted::is_among;
 use code_graph::CodeGraph;
+use loop_tree::LoopTree;
 use scale_base::{Edge, EdgeKind, NoMemory};
+use scale_sites::CounterList;
 use std::alloc::Global;
 
-/// An edge of a branch or of a jump: the address of its instruction, and which of its edges it is.
+/// An edge of a branch or of a jump: the address of its instruction, and which of its edges it is. Its switch goes to the level that
+/// its table tells, or with `lowest` to the lowest one, by one instruction, where that is what its table would tell at every level;
+/// else it stores nothing.
 #[derive(Clone, Copy)]
 pub struct SwitchSite {
     pub at: u32,
     pub kind: EdgeKind,
+    pub lowest: bool,
 }
 
 /// Whether two kinds are the same one of a branch's two, or both a jump's.
@@ -73,6 +81,51 @@ pub fn wanted_flags(
     let mut flags = vec![in alloc; false; graph.edge_count()]?;
     for site in sites {
         raise(&mut flags, graph, *site);
+    }
+    Ok(flags)
+}
+
+/// By edge, whether some of the sites that name it want the lowest level there.
+pub fn lowest_flags(
+    alloc: Global,
+    graph: &CodeGraph,
+    sites: &[SwitchSite],
+) -> Result<Vec<bool>, NoMemory>
+    ensures { IfOk result (λ flags. AreLowest graph.now sites.now (length graph.now.code.edges) flags.items) }
+{
+    let mut flags = vec![in alloc; false; graph.edge_count()]?;
+    for site in sites {
+        if site.lowest {
+            raise(&mut flags, graph, *site);
+        }
+    }
+    Ok(flags)
+}
+
+/// Whether the header of loop `l` is tallied.
+fn is_tallied(graph: &CodeGraph, tree: &LoopTree, tallied: &[u32], l: usize) -> bool
+    requires tree { (extent : ℕ → ℕ → Bool) × IsLoopTree graph.now extent tree.now }
+    requires within { l < length tree.now.headers }
+    ensures { result ≡ header_tallied graph.now tree.now tallied.now (Some l) }
+{
+    is_among(graph.node(tree.header(l)), tallied)
+}
+
+/// By the places of the counted loops, which are tallied.
+pub fn tallied_flags(
+    alloc: Global,
+    graph: &CodeGraph,
+    tree: &LoopTree,
+    counters: &CounterList,
+    tallied: &[u32],
+) -> Result<Vec<bool>, NoMemory>
+    requires tree { (extent : ℕ → ℕ → Bool) × IsLoopTree graph.now extent tree.now }
+    requires counters { counters.now ≡ counted_loops tree.now }
+    ensures { IfOk result (λ flags. AreTallied graph.now tree.now tallied.now flags.items) }
+{
+    let mut flags = Vec::new(alloc);
+    for k in 0..counters.count() {
+        flags.push(is_tallied(graph, tree, tallied, *counters.get(k)))?;
     }
     Ok(flags)
 }

@@ -1,29 +1,37 @@
-//! The edges on which one switch alone saves most.
+//! The edges on which one switch alone saves most, and the loops in which the runs are longest.
 
 use crate::marks::{Mark, StubCosts, change_energy, energy_at, entry, mark_of};
 use crate::numbers::Numbers;
 use crate::sums::{EdgeSum, Sums};
+use crate::turning::{LoopPlan, MOST_LOOPS, loop_plan};
+use code_graph::CodeGraph;
+use loop_tree::LoopTree;
 use power_model::Power;
 use scale_base::NoMemory;
 use std::alloc::Global;
 
-/// How many candidates there are at most.
+/// How many candidates there are at most, and how many of them are edges.
 pub const MOST: usize = 24;
 
-/// A switch, the level to which it leads from the starting level where it stands alone, what the runs do at its edge, and what it saves then at
-/// least, by the weights of the runs.
+const MOST_EDGES: usize = 16;
+
+/// How many loops are looked at.
+const MOST_LONG: usize = 16;
+
+/// What may have a mark: an edge, or each back edge of a loop, by its place among the loops that may be tallied.
 #[derive(Clone, Copy)]
-pub struct Candidate {
-    pub mark: Mark,
-    entry: u8,
-    sum: EdgeSum,
-    gain: u128,
+pub enum Candidate {
+    Edge(usize),
+    Loop(usize),
 }
 
-/// An edge and what a switch there saves.
+/// An edge with a switch, the level to which it leads from the starting level where it stands alone, what the runs do there, and what it saves
+/// then at least, by the weights of the runs.
 #[derive(Clone, Copy)]
-struct Ranked {
+struct EdgeGain {
     edge: usize,
+    entry: u8,
+    sum: EdgeSum,
     gain: u128,
 }
 
@@ -33,31 +41,29 @@ pub fn held_energy(power: &Power, numbers: &Numbers, sums: &Sums) -> u128 {
         .saturating_mul(energy_at(power, numbers.start))
 }
 
-/// What the stub of a switch takes in all, where the level before it is `high` and the one behind it `low`.
-fn stub_energy(mark: &Mark, own: &EdgeSum, other: &EdgeSum, high: u128, low: u128) -> u128 {
+/// What the stub of a switch takes in all, where the level behind it is one of so much energy.
+fn stub_energy(mark: &Mark, own: &EdgeSum, other: &EdgeSum, low: u128) -> u128 {
     let jumps = u128::from(mark.jumps);
     let each = u128::from(mark.code) + jumps;
-    let before = other.passes.saturating_sub(own.other_behind);
     let code = own.passes.saturating_mul(each).saturating_mul(low);
-    let early = before.saturating_mul(jumps).saturating_mul(high);
-    let late = own.other_behind.saturating_mul(jumps).saturating_mul(low);
-    code.saturating_add(early).saturating_add(late)
+    let late = other.passes.saturating_mul(jumps).saturating_mul(low);
+    code.saturating_add(late)
 }
 
-/// A switch on edge `e` alone, if it may have one that saves something.
-fn candidate_at(
+/// A switch on edge `e` alone, if it may have one and some run goes over it.
+fn gain_at(
     power: &Power,
     numbers: &Numbers,
     sums: &Sums,
     costs: &StubCosts,
     e: usize,
-) -> Option<Candidate> {
+) -> Option<EdgeGain> {
     let sum = sums.edge(e);
     if e >= numbers.edges.len() || sum.passes == 0 {
         return None;
     }
-    let mark = mark_of(&numbers.edges[e], e, costs)?;
-    let to = entry(power, numbers, &mark, 0, numbers.start);
+    let mark = mark_of(&numbers.edges[e], costs)?;
+    let to = entry(power, numbers, &mark);
     let other = match mark.other {
         Some(d) => sums.edge(d),
         None => EdgeSum::none(),
@@ -68,9 +74,9 @@ fn candidate_at(
     let changes = sum
         .runs
         .saturating_mul(change_energy(power, numbers.start, to));
-    let spent = stub_energy(&mark, &sum, &other, high, low).saturating_add(changes);
-    Some(Candidate {
-        mark,
+    let spent = stub_energy(&mark, &sum, &other, low).saturating_add(changes);
+    Some(EdgeGain {
+        edge: e,
         entry: to,
         sum,
         gain: saved.saturating_sub(spent),
@@ -84,23 +90,22 @@ fn ranking(
     numbers: &Numbers,
     sums: &Sums,
     costs: &StubCosts,
-) -> Result<Vec<Ranked>, NoMemory> {
+) -> Result<Vec<EdgeGain>, NoMemory> {
     let held = held_energy(power, numbers, sums);
     let mut found = Vec::new(alloc);
     for e in 0..numbers.edges.len() {
-        if let Some(candidate) = candidate_at(power, numbers, sums, costs, e) {
-            let gain = candidate.gain;
-            if gain > 0 && gain.saturating_mul(100) >= held {
-                found.push(Ranked { edge: e, gain })?;
+        if let Some(given) = gain_at(power, numbers, sums, costs, e) {
+            if given.gain > 0 && given.gain.saturating_mul(100) >= held {
+                found.push(given)?;
             }
         }
     }
-    found.sort_by_key(|r| u128::MAX - r.gain)?;
+    found.sort_by_key(|g| u128::MAX - g.gain)?;
     Ok(found)
 }
 
 /// Whether two switches do nearly the same: runs pass them equally often, and about as early.
-fn are_alike(one: &Candidate, other: &Candidate) -> bool {
+fn are_alike(one: &EdgeGain, other: &EdgeGain) -> bool {
     let later = one.sum.behind.min(other.sum.behind);
     let earlier = one.sum.behind.max(other.sum.behind);
     let near = (earlier - later).saturating_mul(32) <= earlier;
@@ -110,31 +115,128 @@ fn are_alike(one: &Candidate, other: &Candidate) -> bool {
         && near
 }
 
-/// Whether one of some candidates does nearly the same as another.
-fn has_alike(candidates: &[Candidate], other: &Candidate) -> bool {
-    for candidate in candidates {
-        if are_alike(candidate, other) {
+/// Whether one of some switches does nearly the same as another.
+fn has_alike(chosen: &[EdgeGain], other: &EdgeGain) -> bool {
+    for one in chosen {
+        if are_alike(one, other) {
             return true;
         }
     }
     false
 }
 
-/// The candidates, those that save most first, without those that do nearly the same as one before.
+/// The edges of switches, those that save most first, without those that do nearly the same as one before.
+fn edges_of(
+    alloc: Global,
+    power: &Power,
+    numbers: &Numbers,
+    sums: &Sums,
+) -> Result<Vec<EdgeGain>, NoMemory> {
+    let costs = StubCosts::new(&power.costs);
+    let mut chosen = Vec::new(alloc);
+    for given in &ranking(alloc, power, numbers, sums, &costs)? {
+        if chosen.len() < MOST_EDGES && !has_alike(&chosen, given) {
+            chosen.push(*given)?;
+        }
+    }
+    Ok(chosen)
+}
+
+/// A loop, and how long the runs are between its first turn and its last.
+#[derive(Clone, Copy)]
+struct LongLoop {
+    number: usize,
+    span: u128,
+}
+
+/// By loop, how long the runs are between the first and the last pass of a back edge of it.
+fn spans_of(
+    alloc: Global,
+    tree: &LoopTree,
+    numbers: &Numbers,
+    sums: &Sums,
+) -> Result<Vec<LongLoop>, NoMemory> {
+    let mut spans = Vec::new(alloc);
+    for number in 0..tree.loop_count() {
+        spans.push(LongLoop { number, span: 0 })?;
+    }
+    for e in 0..numbers.edges.len() {
+        if let Some(l) = numbers.edges[e].back {
+            if l < spans.len() {
+                spans[l].span = spans[l].span.max(sums.edge(e).span);
+            }
+        }
+    }
+    Ok(spans)
+}
+
+/// The loops in which the runs are longest, those first.
+fn longest(
+    alloc: Global,
+    tree: &LoopTree,
+    numbers: &Numbers,
+    sums: &Sums,
+) -> Result<Vec<LongLoop>, NoMemory> {
+    let mut spans = spans_of(alloc, tree, numbers, sums)?;
+    spans.sort_by_key(|s| u128::MAX - s.span)?;
+    spans.truncate(MOST_LONG);
+    Ok(spans)
+}
+
+/// What tallying a loop takes of the cycles of the runs.
+fn tally_cycles(plan: &LoopPlan, sums: &Sums) -> u128 {
+    let mut cycles: u128 = 0;
+    for charge in &plan.charges {
+        let passes = sums.edge(charge.edge).passes;
+        cycles = cycles.saturating_add(passes.saturating_mul(u128::from(charge.cycles)));
+    }
+    cycles
+}
+
+/// Whether tallying a loop may save anything: the runs are in it for a while, and it doesn't take much.
+fn is_worth_it(plan: &LoopPlan, long: &LongLoop, sums: &Sums) -> bool {
+    let cycles = sums.cycles();
+    long.span.saturating_mul(20) >= cycles
+        && tally_cycles(plan, sums).saturating_mul(5) <= cycles
+}
+
+/// The loops that may be tallied, those first in which the runs are longest.
+pub fn loops_of(
+    alloc: Global,
+    power: &Power,
+    graph: &CodeGraph,
+    tree: &LoopTree,
+    numbers: &Numbers,
+    sums: &Sums,
+) -> Result<Vec<LoopPlan>, NoMemory> {
+    let costs = StubCosts::new(&power.costs);
+    let mut plans = Vec::new(alloc);
+    for long in &longest(alloc, tree, numbers, sums)? {
+        if let Some(plan) = loop_plan(alloc, graph, tree, numbers, &costs, long.number)? {
+            if plans.len() < MOST_LOOPS && is_worth_it(&plan, long, sums) {
+                plans.push(plan)?;
+            }
+        }
+    }
+    Ok(plans)
+}
+
+/// The candidates: edges, and behind them loops.
 pub fn candidates_of(
     alloc: Global,
     power: &Power,
     numbers: &Numbers,
     sums: &Sums,
+    plans: &[LoopPlan],
 ) -> Result<Vec<Candidate>, NoMemory> {
-    let costs = StubCosts::new(&power.costs);
-    let mut chosen = Vec::new(alloc);
-    for r in &ranking(alloc, power, numbers, sums, &costs)? {
-        if let Some(candidate) = candidate_at(power, numbers, sums, &costs, r.edge) {
-            if chosen.len() < MOST && !has_alike(&chosen, &candidate) {
-                chosen.push(candidate)?;
-            }
+    let mut candidates = Vec::new(alloc);
+    for given in &edges_of(alloc, power, numbers, sums)? {
+        candidates.push(Candidate::Edge(given.edge))?;
+    }
+    for j in 0..plans.len() {
+        if candidates.len() < MOST {
+            candidates.push(Candidate::Loop(j))?;
         }
     }
-    Ok(chosen)
+    Ok(candidates)
 }

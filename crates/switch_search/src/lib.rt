@@ -2,6 +2,7 @@
 //! Tests: none of its own. The crate that builds and runs what is proposed tries it.
 #![tactic(auto)]
 
+mod building;
 mod candidates;
 mod counting;
 mod growing;
@@ -9,8 +10,12 @@ mod marks;
 mod numbers;
 mod pricing;
 mod proposing;
+mod runs;
+mod sets;
 mod sums;
 mod tracing;
+mod turning;
 mod walking;
 
+pub use building::Proposal;
 pub use proposing::propose;

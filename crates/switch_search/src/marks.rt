@@ -1,4 +1,4 @@
-//! Switches that may stand on edges, and what they cost.
+//! Switches to the lowest level that may stand on edges, and what they cost, as a first estimate.
 
 ghost use Rattle.std.specs.Prelude.{◌<◌, ◌^◌, IfSome};
 
@@ -8,12 +8,14 @@ use level_tables::{LevelBudgets, entry_within};
 use power_model::{Costs, Power};
 use scale_base::EdgeKind;
 
-/// What a switch costs, in cycles: its code, of which the tail stands behind the store at the speed port, and a jump.
+/// What marks cost, in cycles: the code of a switch by a word, of one to the lowest level, of a tally and of a reset, and a jump.
 #[derive(Clone, Copy)]
 pub struct StubCosts {
-    code: u64,
-    tail: u64,
-    jump: u64,
+    pub word: u64,
+    pub lowest: u64,
+    pub tally: u64,
+    pub reset: u64,
+    pub jump: u64,
 }
 
 impl StubCosts {
@@ -21,28 +23,37 @@ impl StubCosts {
         let store = u64::from(costs.store);
         let load = u64::from(costs.load);
         let alu = u64::from(costs.alu);
-        let jump = u64::from(costs.jump);
         StubCosts {
-            code: 3 * store + 3 * load + 5 * alu,
-            tail: 2 * load + jump,
-            jump,
+            word: 3 * store + 3 * load + 5 * alu,
+            lowest: store,
+            tally: 3 * store + 2 * load + 5 * alu,
+            reset: store,
+            jump: u64::from(costs.jump),
+        }
+    }
+
+    /// The jumps of a stub, by the kind of an edge of its instruction.
+    pub fn jumps(&self, kind: EdgeKind) -> u64 {
+        match kind {
+            EdgeKind::Taken | EdgeKind::Untaken => self.jump.saturating_mul(2),
+            EdgeKind::Jump => self.jump,
+            _ => 0,
         }
     }
 }
 
-/// A switch on edge `edge`, with the other edge of its branch. The numbers are in cycles: what a pass takes more, what a pass of either edge of
-/// the instruction takes more; the slack, and what is left at most and at least behind the store at the speed port, with the switch's own
-/// costs; and what it adds to the worst case at most.
+/// A switch to the lowest level on an edge. The numbers are in cycles: what a pass takes more, what a pass of either edge of the instruction takes
+/// more; the slack, and what is left at most and at least behind the store at the speed port, with the switch's own costs; and what it adds to
+/// the worst case at most.
 #[derive(Clone, Copy)]
 pub struct Mark {
-    pub edge: usize,
     pub other: Option<usize>,
     pub code: u64,
     pub jumps: u64,
-    pub slack: u64,
-    pub left: u64,
-    pub least: Option<u128>,
-    pub added: u64,
+    slack: u64,
+    left: u64,
+    least: Option<u128>,
+    added: u64,
 }
 
 /// The least cycles behind a switch, with its tail.
@@ -66,30 +77,25 @@ fn added_cycles(numbers: &EdgeNumbers, branch: bool, code: u64, jumps: u64) -> u
     }
 }
 
-/// A switch on edge `e`, if it may have one.
-pub fn mark_of(numbers: &EdgeNumbers, e: usize, costs: &StubCosts) -> Option<Mark> {
+/// A switch on an edge, if it may have one.
+pub fn mark_of(numbers: &EdgeNumbers, costs: &StubCosts) -> Option<Mark> {
     if !may_switch(numbers.edge.kind) {
         return None;
     }
     let branch = !matches!(numbers.edge.kind, EdgeKind::Jump);
-    let jumps = if branch {
-        costs.jump.saturating_mul(2)
-    } else {
-        costs.jump
-    };
-    let added = added_cycles(numbers, branch, costs.code, jumps);
+    let jumps = costs.jumps(numbers.edge.kind);
+    let added = added_cycles(numbers, branch, costs.lowest, jumps);
     let again = added.saturating_sub(added.checked_div(numbers.passes).unwrap_or(0));
     Some(Mark {
-        edge: e,
         other: numbers.other,
-        code: costs.code,
+        code: costs.lowest,
         jumps,
-        slack: numbers.slack.saturating_sub(costs.code),
+        slack: numbers.slack.saturating_sub(costs.lowest),
         left: numbers
             .rest
-            .saturating_add(costs.tail)
+            .saturating_add(costs.jump)
             .saturating_add(again),
-        least: least_behind(numbers.least, costs.tail),
+        least: least_behind(numbers.least, costs.jump),
         added,
     })
 }
@@ -139,34 +145,18 @@ fn small(least: Option<u128>) -> Option<u128>
     }
 }
 
-/// The level to which a switch leads from a level, where other switches add so many cycles to the worst case: the level itself where
-/// the starting level is another one by then.
-pub fn entry(power: &Power, numbers: &Numbers, mark: &Mark, more: u64, from: u8) -> u8 {
-    let worst = numbers
-        .worst
-        .saturating_add(mark.added)
-        .saturating_add(more);
-    match first_budget(power, numbers.start, worst) {
-        Some(first) => {
-            let deadline = power.deadline;
-            let budgets = LevelBudgets {
-                start: numbers.start,
-                first,
-                others: deadline,
-            };
-            entry_by(power, &budgets, mark, more, from)
+/// The level to which a switch alone leads from the starting level: that level itself where the start is another one by then.
+pub fn entry(power: &Power, numbers: &Numbers, mark: &Mark) -> u8 {
+    let start = numbers.start;
+    let worst = numbers.worst.saturating_add(mark.added);
+    match first_budget(power, start, worst) {
+        Some(first) if start < power.levels.count() => {
+            let mut budgets = LevelBudgets::alike(power.deadline);
+            budgets.start = start;
+            budgets.first = first;
+            let least = small(mark.least);
+            entry_within(power, &budgets, start, mark.slack, mark.left, least)
         }
-        None => from,
-    }
-}
-
-/// The same within budgets.
-fn entry_by(power: &Power, budgets: &LevelBudgets, mark: &Mark, more: u64, from: u8) -> u8 {
-    if from < power.levels.count() {
-        let left = mark.left.saturating_add(more);
-        let least = small(mark.least);
-        entry_within(power, budgets, from, mark.slack, left, least)
-    } else {
-        from
+        _ => start,
     }
 }

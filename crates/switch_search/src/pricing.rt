@@ -1,298 +1,223 @@
-//! What runs take with a set of switches, by what they do at its edges.
+//! What runs take with a set of marks, by what they do at its edges and in its loops.
 
-use crate::candidates::{Candidate, MOST};
-use crate::marks::{change_energy, energy_at, entry};
-use crate::numbers::Numbers;
-use crate::tracing::EdgeTrace;
+use crate::building::{Act, Acts, Places, Sources};
+use crate::marks::{StubCosts, change_energy, energy_at};
+use crate::runs::{CandidateRun, RunMarks, Span};
+use crate::sets::{MarkSet, Priced};
 use power_model::Power;
 use scale_base::NoMemory;
 use std::alloc::Global;
 
-/// Some of the candidates, by their numbers.
-#[derive(Clone, Copy, PartialEq, Eq)]
-pub struct MarkSet {
-    flags: [bool; 24],
-}
-
-impl MarkSet {
-    /// None of them.
-    pub fn empty() -> MarkSet {
-        MarkSet { flags: [false; 24] }
-    }
-
-    /// Whether candidate `c` is in the set.
-    pub fn contains(&self, c: usize) -> bool {
-        c < MOST && self.flags[c]
-    }
-
-    /// The set with candidate `c`.
-    pub fn with(&self, c: usize) -> MarkSet {
-        let mut flags = self.flags;
-        if c < MOST {
-            flags[c] = true;
-        }
-        MarkSet { flags }
-    }
-
-    /// The set without candidate `c`.
-    pub fn without(&self, c: usize) -> MarkSet {
-        let mut flags = self.flags;
-        if c < MOST {
-            flags[c] = false;
-        }
-        MarkSet { flags }
-    }
-
-    /// How many there are.
-    pub fn count(&self) -> usize {
-        self.flags.iter().filter(|flag| **flag).count()
-    }
-}
-
-/// What a run does at the edge of a candidate, and at the other edge of its branch, which may have a candidate, too. An edge that the run doesn't
-/// go over is passed first behind all others.
+/// A place of a run at which its level may change: the cycles so far, and the levels behind it.
 #[derive(Clone, Copy)]
-pub struct MarkPass {
-    mark: usize,
-    twin: Option<usize>,
-    first: u64,
-    passes: u64,
-    other_before: u64,
-    other: u64,
+struct Event {
+    at: u64,
+    entries: [u8; 8],
+    again: bool,
 }
 
-/// A run: its cycles, its weight, and what it does at the edges of the candidates, in the order of the first passes.
-#[derive(Drop)]
-pub struct RunPasses {
-    cycles: u64,
-    weight: u64,
-    passes: Vec<MarkPass>,
-}
-
-/// The candidate on an edge.
-fn candidate_on(candidates: &[Candidate], e: Option<usize>) -> Option<usize> {
-    let e = e?;
-    candidates.iter().position(|c| c.mark.edge == e)
-}
-
-impl RunPasses {
-    /// Of the run that was traced.
-    pub fn new(
-        alloc: Global,
-        candidates: &[Candidate],
-        trace: &EdgeTrace,
-        cycles: u64,
-        weight: u64,
-    ) -> Result<RunPasses, NoMemory> {
-        let mut passes = Vec::new(alloc);
-        for (c, candidate) in candidates.iter().enumerate() {
-            let passed = trace.passed(candidate.mark.edge);
-            let other = trace.other_passes(candidate.mark.edge);
-            if passed.passes > 0 || other > 0 {
-                passes.push(MarkPass {
-                    mark: c,
-                    twin: candidate_on(candidates, candidate.mark.other),
-                    first: passed.first,
-                    passes: passed.passes,
-                    other_before: passed.other_before,
-                    other,
-                })?;
-            }
-        }
-        passes.sort_by_key(|pass| pass.first)?;
-        Ok(RunPasses {
-            cycles,
-            weight,
-            passes,
-        })
-    }
-}
-
-/// By candidate and level, the level behind its switch.
-#[derive(Clone, Copy)]
-struct Entries {
-    rows: [[u8; 8]; 24],
-}
-
-impl Entries {
-    /// The level behind the switch of candidate `c`, from a level.
-    fn at(&self, c: usize, from: u8) -> u8 {
-        if c < MOST && from < 8 {
-            self.rows[c][usize::from(from)]
-        } else {
-            from
-        }
-    }
-}
-
-/// A run so far: its level, its cycles without stubs, and its energy.
-#[derive(Clone, Copy)]
-struct RunState {
-    level: u8,
-    cycles: u64,
-    energy: u128,
-}
-
-/// What the search knows: the machine, the program, the candidates, the runs, and the energy of the runs at the starting level.
+/// What the search knows: the files, the machine, the program, the candidates, the runs, and the energy of the runs at the starting level; and which sets
+/// it has priced, and how many more it may.
 #[derive(Drop)]
 pub struct Search<'a> {
+    pub alloc: Global,
+    pub files: Sources<'a>,
     pub power: &'a Power,
-    pub numbers: &'a Numbers,
-    pub candidates: &'a [Candidate],
-    pub runs: &'a [RunPasses],
+    pub costs: StubCosts,
+    pub places: Places<'a>,
+    pub runs: &'a [RunMarks],
     pub held: u128,
+    pub known: Vec<Priced>,
+    pub tries: usize,
 }
 
-/// A set and the energy of the runs with it, by their weights.
-#[derive(Clone, Copy)]
-pub struct Priced {
-    pub set: MarkSet,
-    pub energy: u128,
+/// The first time at which a back edge turned so often as to go to the lowest level.
+fn due_at(run: &CandidateRun, act: &Act) -> u64 {
+    let mut due = u64::MAX;
+    for (k, from) in act.from.iter().enumerate() {
+        if k < run.times.len() && *from < run.times[k].len() {
+            due = due.min(run.times[k][*from]);
+        }
+    }
+    due
 }
 
-impl Search<'_> {
-    /// The cycles that the switches of a set add to the worst case at most.
-    fn added(&self, set: &MarkSet) -> u64 {
-        let mut added: u64 = 0;
-        for (c, candidate) in self.candidates.iter().enumerate() {
-            if set.contains(c) {
-                added = added.saturating_add(candidate.mark.added);
-            }
+/// The event of a candidate in a run.
+fn event_of(run: &CandidateRun, act: &Act) -> Event {
+    if act.from.is_empty() {
+        Event {
+            at: run.passed.first,
+            entries: act.entries,
+            again: run.passed.passes > 1,
         }
-        added
-    }
-
-    /// The levels behind the switch of a candidate, where the switches of its set add so many cycles to the worst case.
-    fn row(&self, candidate: &Candidate, added: u64) -> [u8; 8] {
-        let more = added.saturating_sub(candidate.mark.added);
-        let mut row = [0, 1, 2, 3, 4, 5, 6, 7];
-        for from in 0..8u8 {
-            if from <= self.numbers.start {
-                row[usize::from(from)] = entry(
-                    self.power,
-                    self.numbers,
-                    &candidate.mark,
-                    more,
-                    from,
-                );
-            }
-        }
-        row
-    }
-
-    /// The levels behind the switches of a set.
-    fn entries(&self, set: &MarkSet, added: u64) -> Entries {
-        let mut rows = [[0, 1, 2, 3, 4, 5, 6, 7]; 24];
-        for (c, candidate) in self.candidates.iter().enumerate() {
-            if c < MOST && set.contains(c) {
-                rows[c] = self.row(candidate, added);
-            }
-        }
-        Entries { rows }
-    }
-
-    /// So many cycles at a level.
-    fn cycles_energy(&self, cycles: u64, level: u8) -> u128 {
-        u128::from(cycles).saturating_mul(energy_at(self.power, level))
-    }
-
-    /// The energy of a stub's jumps where the run goes over the other edge, before its switch and behind it.
-    fn jumps_energy(&self, set: &MarkSet, pass: &MarkPass, jumps: u64, from: u8, to: u8) -> u128 {
-        let twin = match pass.twin {
-            Some(d) => set.contains(d),
-            None => false,
-        };
-        if twin {
-            return 0;
-        }
-        let behind = pass.other.saturating_sub(pass.other_before);
-        let early = pass.other_before.saturating_mul(jumps);
-        let late = behind.saturating_mul(jumps);
-        self.cycles_energy(early, from)
-            .saturating_add(self.cycles_energy(late, to))
-    }
-
-    /// The run with what it does at the next edge that has a switch.
-    fn go_over(
-        &self,
-        set: &MarkSet,
-        entries: &Entries,
-        pass: &MarkPass,
-        state: RunState,
-    ) -> RunState {
-        if pass.mark >= self.candidates.len() {
-            return state;
-        }
-        let mark = self.candidates[pass.mark].mark;
-        if pass.passes == 0 {
-            let jumps = pass.other.saturating_mul(mark.jumps);
-            let more = self.cycles_energy(jumps, self.numbers.start);
-            return RunState {
-                level: state.level,
-                cycles: state.cycles,
-                energy: state.energy.saturating_add(more),
-            };
-        }
-        let to = self.level_behind(entries, pass, state.level);
-        let before = self.cycles_energy(pass.first.saturating_sub(state.cycles), state.level);
-        let stub = pass
-            .passes
-            .saturating_mul(mark.code.saturating_add(mark.jumps));
-        let energy = state
-            .energy
-            .saturating_add(before)
-            .saturating_add(self.cycles_energy(stub, to))
-            .saturating_add(self.jumps_energy(set, pass, mark.jumps, state.level, to))
-            .saturating_add(change_energy(self.power, state.level, to));
-        RunState {
-            level: to,
-            cycles: pass.first,
-            energy,
+    } else {
+        Event {
+            at: due_at(run, act),
+            entries: [0; 8],
+            again: false,
         }
     }
+}
 
-    /// The level behind the passes of a switch.
-    fn level_behind(&self, entries: &Entries, pass: &MarkPass, from: u8) -> u8 {
-        let once = entries.at(pass.mark, from);
-        if pass.passes > 1 {
-            entries.at(pass.mark, once)
+impl Event {
+    /// The level behind it, from a level.
+    fn from(&self, level: u8) -> u8 {
+        if level >= 8 {
+            return level;
+        }
+        let once = self.entries[usize::from(level)];
+        if self.again && once < 8 {
+            self.entries[usize::from(once)]
         } else {
             once
         }
     }
+}
 
-    /// The energy of a run with the switches of a set.
-    fn run_energy(&self, set: &MarkSet, entries: &Entries, run: &RunPasses) -> u128 {
-        let mut state = RunState {
-            level: self.numbers.start,
-            cycles: 0,
-            energy: 0,
-        };
-        for pass in &run.passes {
-            if set.contains(pass.mark) {
-                state = self.go_over(set, entries, pass, state);
+impl<'a> Search<'a> {
+    /// The cycles that the stubs of a set take from one time of a run to another.
+    fn stub_cycles(&self, set: &MarkSet, run: &RunMarks, begin: u64, end: u64) -> u64 {
+        let mut cycles: u64 = 0;
+        for (c, mark) in run.marks.iter().enumerate() {
+            if set.contains(c) {
+                cycles = cycles.saturating_add(self.mark_cycles(set, mark, begin, end));
             }
         }
-        let rest = self.cycles_energy(run.cycles.saturating_sub(state.cycles), state.level);
-        state.energy.saturating_add(rest)
+        cycles
     }
 
-    /// A set with the energy of the runs: more than any takes where the set adds more than three percent to the worst case.
-    pub fn priced(&self, set: MarkSet) -> Priced {
-        let added = self.added(&set);
-        if added.saturating_mul(100) > self.numbers.worst.saturating_mul(3) {
-            return Priced {
-                set,
-                energy: u128::MAX,
-            };
+    /// Those of the stub of one candidate.
+    fn mark_cycles(&self, set: &MarkSet, mark: &CandidateRun, begin: u64, end: u64) -> u64 {
+        let each = if set.form.lowest {
+            self.costs.lowest
+        } else {
+            self.costs.word
+        };
+        let code = Span {
+            from: mark.passed.first,
+            to: mark.passed.last,
+            cycles: mark.passed.passes.saturating_mul(each),
+        };
+        let twin = match mark.twin {
+            Some(d) => set.contains(d),
+            None => false,
+        };
+        let other = if twin { 0 } else { mark.other.within(begin, end) };
+        code.within(begin, end)
+            .saturating_add(mark.jumps.within(begin, end))
+            .saturating_add(other)
+    }
+
+    /// The energy of a run from one time to another at a level, with the stubs of a set.
+    fn part_energy(&self, set: &MarkSet, run: &RunMarks, begin: u64, end: u64, level: u8) -> u128 {
+        let stubs = self.stub_cycles(set, run, begin, end);
+        let cycles = u128::from(end.saturating_sub(begin)) + u128::from(stubs);
+        cycles.saturating_mul(energy_at(self.power, level))
+    }
+
+    /// The events of a run with the stubs of a set, the first one first.
+    fn events(&self, set: &MarkSet, acts: &Acts, run: &RunMarks) -> Result<Vec<Event>, NoMemory> {
+        let mut events = Vec::new(self.alloc);
+        for (c, mark) in run.marks.iter().enumerate() {
+            if set.contains(c) && c < acts.acts.len() {
+                events.push(event_of(mark, &acts.acts[c]))?;
+            }
         }
-        let entries = self.entries(&set, added);
+        events.sort_by_key(|event| event.at)?;
+        Ok(events)
+    }
+
+    /// The energy of a run with the stubs of a set.
+    fn run_energy(&self, set: &MarkSet, acts: &Acts, run: &RunMarks) -> Result<u128, NoMemory> {
+        let mut level = acts.start;
+        let mut begin: u64 = 0;
+        let mut energy: u128 = 0;
+        for event in &self.events(set, acts, run)? {
+            let to = event.from(level);
+            if event.at < run.run.cycles && to != level {
+                energy = energy
+                    .saturating_add(self.part_energy(set, run, begin, event.at, level))
+                    .saturating_add(change_energy(self.power, level, to));
+                begin = event.at;
+                level = to;
+            }
+        }
+        let rest = self.part_energy(set, run, begin, run.run.cycles.saturating_add(1), level);
+        Ok(energy.saturating_add(rest))
+    }
+
+    /// Whether a set is out by a run on an input: its stubs take more than so many thousandths of the run's cycles, and it doesn't save at least as much as
+    /// they take.
+    fn is_out(&self, set: &MarkSet, run: &RunMarks, energy: u128) -> bool {
+        let level = self.places.numbers.start;
+        let cycles = run.run.cycles;
+        let stubs = self.stub_cycles(set, run, 0, cycles.saturating_add(1));
+        let few = u128::from(stubs).saturating_mul(1000) <= u128::from(cycles).saturating_mul(FEW);
+        let unit = energy_at(self.power, level);
+        let held = u128::from(cycles).saturating_mul(unit);
+        let spent = energy.saturating_add(u128::from(stubs).saturating_mul(unit));
+        run.run.is_input && !few && spent > held
+    }
+
+    /// The energy of the runs with the stubs of a set, by their weights: more than any takes where that of one is out.
+    fn runs_energy(&self, set: &MarkSet, acts: &Acts) -> Result<u128, NoMemory> {
         let mut energy: u128 = 0;
         for run in self.runs {
-            let own = self.run_energy(&set, &entries, run);
-            energy = energy.saturating_add(own.saturating_mul(u128::from(run.weight)));
+            let own = self.run_energy(set, acts, run)?;
+            if self.is_out(set, run, own) {
+                return Ok(u128::MAX);
+            }
+            energy = energy.saturating_add(own.saturating_mul(u128::from(run.run.weight)));
         }
-        Priced { set, energy }
+        Ok(energy)
+    }
+
+    /// Whether the stubs of a set add too many cycles to the worst case: more than so many percent.
+    fn is_dear(&self, acts: &Acts) -> bool {
+        acts.added.saturating_mul(100) > self.places.numbers.worst.saturating_mul(MOST_ADDED)
+    }
+
+    /// The energy of the runs with a set: more than any takes where it is refused, or adds too much to the worst case.
+    fn energy_of(&self, set: &MarkSet) -> Result<u128, NoMemory> {
+        match self.places.acts(self.alloc, &self.files, set)? {
+            Some(acts) if !self.is_dear(&acts) => self.runs_energy(set, &acts),
+            _ => Ok(u128::MAX),
+        }
+    }
+
+    /// A set that was priced before.
+    fn found(&self, set: &MarkSet) -> Option<Priced> {
+        for priced in &self.known {
+            if priced.set == *set {
+                return Some(*priced);
+            }
+        }
+        None
+    }
+
+    /// Whether nothing is known of a set, or that it saves something.
+    pub fn is_hopeful(&self, set: &MarkSet) -> bool {
+        match self.found(set) {
+            Some(priced) => priced.energy < self.held,
+            None => true,
+        }
+    }
+
+    /// A set with the energy of the runs: more than any takes, too, where no more sets may be priced.
+    pub fn priced(&mut self, set: MarkSet) -> Result<Priced, NoMemory> {
+        if let Some(priced) = self.found(&set) {
+            return Ok(priced);
+        }
+        if self.known.len() >= self.tries {
+            return Ok(Priced {
+                set,
+                energy: u128::MAX,
+            });
+        }
+        let energy = self.energy_of(&set)?;
+        let priced = Priced { set, energy };
+        self.known.push(priced)?;
+        Ok(priced)
     }
 
     /// Whether one energy is less than another by so many thousandths of that at the starting level.
@@ -300,3 +225,9 @@ impl Search<'_> {
         less < than && (than - less).saturating_mul(1000) >= self.held.saturating_mul(thousandths)
     }
 }
+
+/// How many percent of the worst cycles the stubs may add.
+const MOST_ADDED: u64 = 10;
+
+/// How many thousandths of its cycles the stubs of a run may take where they save nothing.
+const FEW: u128 = 18;

@@ -2,27 +2,31 @@
 
 ghost use Rattle.std.specs.Prelude.{◌≡◌, ◌≤◌, length};
 
-use crate::candidates::{Candidate, candidates_of, held_energy};
+use crate::building::{Places, Proposal, Sources};
+use crate::candidates::{Candidate, candidates_of, held_energy, loops_of};
 use crate::growing::best_sets;
+use crate::marks::StubCosts;
 use crate::numbers::{Numbers, numbers_of};
-use crate::pricing::{MarkSet, Priced, RunPasses, Search};
-use crate::sums::{Sums, WHOLE};
+use crate::pricing::Search;
+use crate::runs::{RunMarks, RunWeight};
+use crate::sets::Priced;
+use crate::sums::{Sums, weight_of};
 use crate::tracing::EdgeTrace;
+use crate::turning::LoopPlan;
 use crate::walking::{WALKS, WalkPlan, walked};
-use code_graph::build_graph;
+use code_graph::{CodeGraph, build_graph};
 use elf_view::{ImageView, read_image};
 use loop_file::read_loops;
-use loop_tree::build_loops;
+use loop_tree::{LoopTree, build_loops};
 use machine_file::read_machine;
-use paced_images::SwitchSite;
 use power_model::Power;
 use scale_base::{NoMemory, Stop};
 use scaler::check_unscaled;
 use speed_sim::{End, start_of, watched_report};
 use std::alloc::Global;
 
-/// How many shares of the cycles of the runs on inputs make one walk's: three times as many as there are walks.
-const SHARES: u128 = 33;
+/// How many shares a run on an input has, where each walk has as many as there are such runs: three times as many as there are walks.
+const SHARES: u64 = 33;
 
 /// Inputs, with a flag for each that says whether it counts.
 #[derive(Drop)]
@@ -68,58 +72,34 @@ fn traced_input(
     }
 }
 
-/// The cycles of which each walk counts for a share: those of the runs on inputs, and where there are none, as many as make a share a worst run.
-fn walked_cycles(numbers: &Numbers, inputs: &Sums) -> u128 {
-    let cycles = inputs.cycles() / u128::from(WHOLE);
-    if cycles > 0 {
-        cycles
-    } else {
-        u128::from(numbers.worst).saturating_mul(SHARES)
-    }
-}
-
-/// The weight of a walk of so many cycles, where the runs on inputs take so many: all walks alike, and together a third of the runs on inputs.
-fn walk_weight(all: u128, cycles: u64) -> u64 {
-    if cycles == 0 {
-        return 0;
-    }
-    let weight = all.saturating_mul(u128::from(WHOLE)) / SHARES / u128::from(cycles);
-    if weight < u128::from(u64::MAX) {
-        weight as u64
-    } else {
-        u64::MAX
-    }
-}
-
 /// Adds what the walks do at the edges.
 fn add_walks(
     alloc: Global,
     plan: &WalkPlan<'_>,
-    all: u128,
+    inputs: u64,
     sums: &mut Sums,
     trace: &mut EdgeTrace,
 ) -> Result<(), NoMemory> {
     for number in 0..WALKS {
         if let Some(cycles) = walked(alloc, plan, number, trace)? {
-            sums.add(trace, cycles, walk_weight(all, cycles));
+            sums.add(trace, cycles, weight_of(inputs, cycles));
         }
     }
     Ok(())
 }
 
-/// Adds what the walks do at the edges of the candidates.
+/// Adds what the walks do at the candidates.
 fn add_walk_runs(
     alloc: Global,
     plan: &WalkPlan<'_>,
-    all: u128,
-    candidates: &[Candidate],
-    runs: &mut Vec<RunPasses>,
+    inputs: u64,
+    given: &Given<'_>,
+    runs: &mut Vec<RunMarks>,
     trace: &mut EdgeTrace,
 ) -> Result<(), NoMemory> {
     for number in 0..WALKS {
         if let Some(cycles) = walked(alloc, plan, number, trace)? {
-            let weight = walk_weight(all, cycles);
-            runs.push(RunPasses::new(alloc, candidates, trace, cycles, weight)?)?;
+            runs.push(given.run(alloc, trace, cycles, inputs, false)?)?;
         }
     }
     Ok(())
@@ -137,116 +117,165 @@ fn sums_of(
     let mut sums = Sums::new(alloc, edges)?;
     for k in 0..inputs.inputs.len() {
         if let Some(cycles) = traced_input(alloc, view, power, inputs, k, trace)? {
-            sums.add(trace, cycles, WHOLE);
+            sums.add(trace, cycles, weight_of(SHARES, cycles));
         }
     }
     Ok(sums)
 }
 
-/// What each run on an input does at the edges of the candidates.
+/// The candidates, for the runs that are traced.
+#[derive(Clone, Copy)]
+struct Given<'a> {
+    places: Places<'a>,
+    jump: u64,
+}
+
+impl Given<'_> {
+    /// What the run that was traced does at the candidates.
+    fn run(
+        &self,
+        alloc: Global,
+        trace: &EdgeTrace,
+        cycles: u64,
+        shares: u64,
+        is_input: bool,
+    ) -> Result<RunMarks, NoMemory> {
+        let places = &self.places;
+        RunMarks::new(
+            alloc,
+            places.numbers,
+            places.candidates,
+            places.plans,
+            self.jump,
+            trace,
+            RunWeight {
+                cycles,
+                weight: weight_of(shares, cycles),
+                is_input,
+            },
+        )
+    }
+}
+
+/// What each run on an input does at the candidates.
 fn runs_of(
     alloc: Global,
     view: &ImageView<'_>,
     power: &Power,
     inputs: &Inputs<'_>,
-    candidates: &[Candidate],
+    given: &Given<'_>,
     trace: &mut EdgeTrace,
-) -> Result<Vec<RunPasses>, Stop> {
+) -> Result<Vec<RunMarks>, Stop> {
     let mut runs = Vec::new(alloc);
     for k in 0..inputs.inputs.len() {
         if let Some(cycles) = traced_input(alloc, view, power, inputs, k, trace)? {
-            runs.push(RunPasses::new(alloc, candidates, trace, cycles, WHOLE)?)?;
+            runs.push(given.run(alloc, trace, cycles, SHARES, true)?)?;
         }
     }
     Ok(runs)
 }
 
-/// The edges of a set as sites.
-fn sites_of(
+/// The sets as proposals.
+fn proposals_of(
     alloc: Global,
-    numbers: &Numbers,
-    candidates: &[Candidate],
-    set: &MarkSet,
-) -> Result<Vec<SwitchSite>, NoMemory> {
-    let mut sites = Vec::new(alloc);
-    for (c, candidate) in candidates.iter().enumerate() {
-        if set.contains(c) && candidate.mark.edge < numbers.edges.len() {
-            let edge = numbers.edges[candidate.mark.edge].edge;
-            sites.push(SwitchSite {
-                at: edge.at,
-                kind: edge.kind,
-            })?;
-        }
+    places: &Places<'_>,
+    sets: &[Priced],
+) -> Result<Vec<Proposal>, NoMemory> {
+    let mut proposals = Vec::new(alloc);
+    for priced in sets {
+        proposals.push(places.proposal(alloc, &priced.set)?)?;
     }
-    Ok(sites)
+    Ok(proposals)
 }
 
-/// The sites of sets.
-fn lists_of(
-    alloc: Global,
-    numbers: &Numbers,
-    candidates: &[Candidate],
-    sets: &[Priced],
-) -> Result<Vec<Vec<SwitchSite>>, NoMemory> {
-    let mut lists = Vec::new(alloc);
-    for priced in sets {
-        lists.push(sites_of(alloc, numbers, candidates, &priced.set)?)?;
-    }
-    Ok(lists)
+/// How many sets are priced at most: fewer where the program is large, since the stubs of each are built.
+fn tries_of(numbers: &Numbers) -> usize {
+    let each = numbers.edges.len().saturating_add(1);
+    20_000_000usize.checked_div(each).unwrap_or(0).saturating_add(40)
+}
+
+/// What a program is, and how it is searched.
+#[derive(Clone, Copy)]
+struct Program<'a> {
+    files: Sources<'a>,
+    view: &'a ImageView<'a>,
+    power: &'a Power,
+    plan: &'a WalkPlan<'a>,
+    graph: &'a CodeGraph,
+    tree: &'a LoopTree,
+    numbers: &'a Numbers,
 }
 
 /// The proposals for a program whose numbers are known.
 fn search_program(
     alloc: Global,
-    view: &ImageView<'_>,
-    power: &Power,
-    plan: &WalkPlan<'_>,
-    numbers: &Numbers,
+    program: &Program<'_>,
     inputs: &Inputs<'_>,
     mut trace: EdgeTrace,
-) -> Result<Vec<Vec<SwitchSite>>, Stop> {
-    let edges = numbers.edges.len();
-    let mut sums = sums_of(alloc, view, power, inputs, edges, &mut trace)?;
-    let all = walked_cycles(numbers, &sums);
-    add_walks(alloc, plan, all, &mut sums, &mut trace)?;
-    let candidates = candidates_of(alloc, power, numbers, &sums)?;
+) -> Result<Vec<Proposal>, Stop> {
+    let Program { files, view, power, plan, graph, tree, numbers } = *program;
+    let mut sums = sums_of(alloc, view, power, inputs, numbers.edges.len(), &mut trace)?;
+    let count = sums.runs().max(1);
+    add_walks(alloc, plan, count, &mut sums, &mut trace)?;
+    let plans = loops_of(alloc, power, graph, tree, numbers, &sums)?;
+    let candidates = candidates_of(alloc, power, numbers, &sums, &plans)?;
     if candidates.is_empty() {
         return Ok(Vec::new(alloc));
     }
-    let mut runs = runs_of(alloc, view, power, inputs, &candidates, &mut trace)?;
-    add_walk_runs(alloc, plan, all, &candidates, &mut runs, &mut trace)?;
-    let search = Search {
-        power,
+    trace.count(alloc, &plans)?;
+    let costs = StubCosts::new(&power.costs);
+    let places = Places {
         numbers,
         candidates: &candidates,
+        plans: &plans,
+    };
+    let given = Given { places, jump: costs.jump };
+    let mut runs = runs_of(alloc, view, power, inputs, &given, &mut trace)?;
+    add_walk_runs(alloc, plan, count, &given, &mut runs, &mut trace)?;
+    let mut search = Search {
+        alloc,
+        files,
+        power,
+        costs,
+        places,
         runs: &runs,
         held: held_energy(power, numbers, &sums),
+        known: Vec::new(alloc),
+        tries: tries_of(numbers),
     };
-    let sets = best_sets(alloc, &search)?;
-    Ok(lists_of(alloc, numbers, &candidates, &sets)?)
+    let sets = best_sets(alloc, &mut search)?;
+    Ok(proposals_of(alloc, &places, &sets)?)
 }
 
 /// The proposals for files that nothing refuses.
 fn search_files(
     alloc: Global,
-    image: &[u8],
-    machine: &[u8],
-    loops: &[u8],
+    files: Sources<'_>,
     inputs: &Inputs<'_>,
-) -> Result<Vec<Vec<SwitchSite>>, Stop> {
-    let power = read_machine(alloc, machine)?;
-    let view = read_image(alloc, image)?;
+) -> Result<Vec<Proposal>, Stop> {
+    let power = read_machine(alloc, files.machine)?;
+    let view = read_image(alloc, files.image)?;
     check_unscaled(view.keyed())?;
-    let notes = read_loops(alloc, loops, &view)?;
+    let notes = read_loops(alloc, files.loops, &view)?;
     let graph = build_graph(alloc, &view)?;
     let tree = build_loops(alloc, &graph, &notes)?;
     let numbers = numbers_of(alloc, &graph, &tree, &power)?;
     let plan = WalkPlan::new(alloc, &graph, &tree, &numbers)?;
     let trace = EdgeTrace::new(alloc, &graph, &power.costs)?;
-    search_program(alloc, &view, &power, &plan, &numbers, inputs, trace)
+    let program = Program {
+        files,
+        view: &view,
+        power: &power,
+        plan: &plan,
+        graph: &graph,
+        tree: &tree,
+        numbers: &numbers,
+    };
+    search_program(alloc, &program, inputs, trace)
 }
 
-/// Up to 8 lists of up to 8 edges on which switches may save energy, as `pace` takes them with no loop counted; the most promising list first.
+/// Up to 8 proposals of up to 8 marks that may save energy: edges with a switch and loops that are tallied, as `pace` takes them with no other loop
+/// counted; the most promising one first.
 /// None are given where the files are refused, or where nothing promises to save at least one percent of what the runs take at one level.
 ///
 /// The choice is by the runs of the original on the inputs that count and exit, and by some random walks of its graph that keep the loop file:
@@ -260,7 +289,7 @@ pub fn propose(
     loops: &[u8],
     inputs: &[Vec<u8>],
     counts: &[bool],
-) -> Result<Vec<Vec<SwitchSite>>, NoMemory>
+) -> Result<Vec<Proposal>, NoMemory>
     requires image { length image.now ≤ 4194304 }
     requires machine { length machine.now ≤ 1048576 }
     requires loops { length loops.now ≤ 1048576 }
@@ -268,8 +297,13 @@ pub fn propose(
     requires counts { length counts.now ≡ length inputs.now }
 {
     let inputs = Inputs { inputs, counts };
-    match search_files(alloc, image, machine, loops, &inputs) {
-        Ok(lists) => Ok(lists),
+    let files = Sources {
+        image,
+        machine,
+        loops,
+    };
+    match search_files(alloc, files, &inputs) {
+        Ok(proposals) => Ok(proposals),
         Err(Stop::Memory) => Err(NoMemory),
         Err(Stop::Refused(_)) => Ok(Vec::new(alloc)),
     }

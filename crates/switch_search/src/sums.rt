@@ -4,17 +4,25 @@ use crate::tracing::{EdgeTrace, Passed};
 use scale_base::NoMemory;
 use std::alloc::Global;
 
-/// The weight of a run on an input. Other runs may have less.
-pub const WHOLE: u64 = 65536;
+/// The weight of a run of so many cycles, which has so many shares: runs with the same shares count the same in all, whatever their lengths are.
+pub fn weight_of(shares: u64, cycles: u64) -> u64 {
+    let whole = u128::from(shares) * 0x1_0000_0000_0000;
+    let weight = whole.checked_div(u128::from(cycles)).unwrap_or(0);
+    if weight < u128::from(u64::MAX) {
+        weight as u64
+    } else {
+        u64::MAX
+    }
+}
 
-/// Of the runs that go over an edge, in all and each by its weight: how many there are, their cycles behind the first pass, their passes, and
-/// their passes of the branch's other edge behind the first one.
+/// Of the runs that go over an edge, in all and each by its weight: how many there are, their cycles behind the first pass and from the first to the
+/// last one, and their passes.
 #[derive(Clone, Copy)]
 pub struct EdgeSum {
     pub runs: u128,
     pub behind: u128,
+    pub span: u128,
     pub passes: u128,
-    pub other_behind: u128,
 }
 
 impl EdgeSum {
@@ -23,8 +31,8 @@ impl EdgeSum {
         EdgeSum {
             runs: 0,
             behind: 0,
+            span: 0,
             passes: 0,
-            other_behind: 0,
         }
     }
 }
@@ -34,6 +42,7 @@ impl EdgeSum {
 pub struct Sums {
     edges: Vec<EdgeSum>,
     cycles: u128,
+    runs: u64,
 }
 
 /// A number by a weight.
@@ -42,15 +51,14 @@ fn weighed(number: u64, weight: u64) -> u128 {
 }
 
 /// The sums with a run of so many cycles that goes over the edge.
-fn added(sum: EdgeSum, passed: Passed, other_behind: u64, cycles: u64, weight: u64) -> EdgeSum {
+fn added(sum: EdgeSum, passed: Passed, cycles: u64, weight: u64) -> EdgeSum {
     let behind = weighed(cycles.saturating_sub(passed.first), weight);
+    let span = weighed(passed.last.saturating_sub(passed.first), weight);
     EdgeSum {
         runs: sum.runs.saturating_add(u128::from(weight)),
         behind: sum.behind.saturating_add(behind),
+        span: sum.span.saturating_add(span),
         passes: sum.passes.saturating_add(weighed(passed.passes, weight)),
-        other_behind: sum
-            .other_behind
-            .saturating_add(weighed(other_behind, weight)),
     }
 }
 
@@ -60,17 +68,18 @@ impl Sums {
         Ok(Sums {
             edges: vec![in alloc; EdgeSum::none(); edges]?,
             cycles: 0,
+            runs: 0,
         })
     }
 
     /// Adds a run of so many cycles that was traced.
     pub fn add(&mut self, trace: &EdgeTrace, cycles: u64, weight: u64) {
+        self.runs = self.runs.saturating_add(1);
         self.cycles = self.cycles.saturating_add(weighed(cycles, weight));
         for e in 0..self.edges.len() {
             let passed = trace.passed(e);
             if passed.passes > 0 {
-                let behind = trace.other_behind(e);
-                self.edges[e] = added(self.edges[e], passed, behind, cycles, weight);
+                self.edges[e] = added(self.edges[e], passed, cycles, weight);
             }
         }
     }
@@ -82,6 +91,11 @@ impl Sums {
         } else {
             EdgeSum::none()
         }
+    }
+
+    /// How many runs there are.
+    pub fn runs(&self) -> u64 {
+        self.runs
     }
 
     /// The cycles of all runs.

@@ -1,5 +1,6 @@
-//! What a run does at the edges of branches and jumps.
+//! What a run does at the edges of branches and jumps, and how often it has turned in some loops.
 
+use crate::turning::{LoopPlan, MOST_LOOPS, Turning};
 use code_graph::CodeGraph;
 use power_model::Costs;
 use scale_base::{Class, EdgeKind, NoMemory, Stepped};
@@ -7,13 +8,12 @@ use speed_sim::Watches;
 use std::alloc::Global;
 use std::marker::Model;
 
-/// What a run does at an edge: how often it goes over it, and at the first pass the cycles so far and how often it has gone over the other edge
-/// of the branch.
+/// How often a run goes over an edge, and the cycles so far at the first and at the last pass.
 #[derive(Clone, Copy)]
 pub struct Passed {
     pub passes: u64,
     pub first: u64,
-    pub other_before: u64,
+    pub last: u64,
 }
 
 impl Passed {
@@ -22,7 +22,7 @@ impl Passed {
         Passed {
             passes: 0,
             first: u64::MAX,
-            other_before: 0,
+            last: u64::MAX,
         }
     }
 }
@@ -108,24 +108,17 @@ pub fn other_of(graph: &CodeGraph, e: usize) -> Option<usize> {
     None
 }
 
-/// By edge, the other one of its branch.
-fn all_others(alloc: Global, graph: &CodeGraph) -> Result<Vec<Option<usize>>, NoMemory> {
-    let mut others = Vec::new(alloc);
-    for e in 0..graph.edge_count() {
-        others.push(other_of(graph, e))?;
-    }
-    Ok(others)
-}
-
 /// What the present run has done so far at each edge. Contracts see nothing of it.
 #[derive(Drop)]
 pub struct EdgeTrace {
     nodes: Vec<u32>,
     exits: Vec<Exits>,
     costs: Costs,
-    others: Vec<Option<usize>>,
     cycles: u64,
     passed: Vec<Passed>,
+    turning: Vec<Turning>,
+    counts: [u64; 8],
+    times: Vec<Vec<u64>>,
 }
 
 impl Model for EdgeTrace {
@@ -135,27 +128,48 @@ impl Model for EdgeTrace {
 }
 
 impl EdgeTrace {
-    /// A trace of no run.
+    /// A trace of no run, in which no loop's turns are counted.
     pub fn new(alloc: Global, graph: &CodeGraph, costs: &Costs) -> Result<EdgeTrace, NoMemory> {
         let nodes = Vec::from_slice(alloc, graph.nodes())?;
         let exits = all_exits(alloc, graph)?;
-        let others = all_others(alloc, graph)?;
         let passed = vec![in alloc; Passed::never(); graph.edge_count()]?;
+        let turning = vec![in alloc; Turning::none(); graph.edge_count()]?;
         Ok(EdgeTrace {
             nodes,
             exits,
             costs: *costs,
-            others,
             cycles: 0,
             passed,
+            turning,
+            counts: [0; 8],
+            times: Vec::new(alloc),
         })
+    }
+
+    /// Has the turns of some loops counted from now on.
+    pub fn count(&mut self, alloc: Global, loops: &[LoopPlan]) -> Result<(), NoMemory> {
+        let mut times = Vec::new(alloc);
+        for (j, plan) in loops.iter().enumerate() {
+            if j < MOST_LOOPS {
+                plan.put(&mut self.turning, j, times.len());
+                for _ in 0..plan.backs.len() {
+                    times.push(Vec::with_capacity(alloc, 2048)?)?;
+                }
+            }
+        }
+        self.times = times;
+        Ok(())
     }
 
     /// Begins with the next run.
     pub fn begin(&mut self) {
         self.cycles = 0;
+        self.counts = [0; 8];
         for passed in self.passed.iter_mut() {
             *passed = Passed::never();
+        }
+        for times in self.times.iter_mut() {
+            times.clear();
         }
     }
 
@@ -165,6 +179,14 @@ impl EdgeTrace {
             self.passed[e]
         } else {
             Passed::never()
+        }
+    }
+
+    /// By the shifted count of its loop's turns, the cycles so far when the run first went over back edge `e` at such a count or a greater one.
+    pub fn times(&self, e: usize) -> &[u64] {
+        match self.turning_of(e).table {
+            Some(t) if t < self.times.len() => &self.times[t],
+            _ => &[],
         }
     }
 
@@ -181,40 +203,43 @@ impl EdgeTrace {
     /// The run goes over edge `e`.
     pub fn pass(&mut self, e: usize) {
         let before = self.passed(e);
-        let after = if before.passes == 0 {
-            Passed {
-                passes: 1,
-                first: self.cycles,
-                other_before: self.other_passes(e),
-            }
-        } else {
-            Passed {
-                passes: before.passes.saturating_add(1),
-                first: before.first,
-                other_before: before.other_before,
-            }
-        };
+        let first = before.first.min(self.cycles);
         if e < self.passed.len() {
-            self.passed[e] = after;
+            self.passed[e] = Passed {
+                passes: before.passes.saturating_add(1),
+                first,
+                last: self.cycles,
+            };
+        }
+        let turning = self.turning_of(e);
+        if turning.counts {
+            self.turn(&turning);
         }
     }
 
-    /// How often the run has gone over the other edge of the branch of edge `e`.
-    pub fn other_passes(&self, e: usize) -> u64 {
-        if e < self.others.len() {
-            match self.others[e] {
-                Some(d) => self.passed(d).passes,
-                None => 0,
-            }
+    /// What loops have to do with edge `e`.
+    fn turning_of(&self, e: usize) -> Turning {
+        if e < self.turning.len() {
+            self.turning[e]
         } else {
-            0
+            Turning::none()
         }
     }
 
-    /// How often of it behind the first pass of edge `e`.
-    pub fn other_behind(&self, e: usize) -> u64 {
-        self.other_passes(e)
-            .saturating_sub(self.passed(e).other_before)
+    /// The run goes over an edge that turns or leaves some loops.
+    fn turn(&mut self, turning: &Turning) {
+        for j in 0..MOST_LOOPS {
+            if turning.leaves[j] {
+                self.counts[j] = 0;
+            }
+        }
+        if let (Some(j), Some(t)) = (turning.turns, turning.table) {
+            if j < MOST_LOOPS && t < self.times.len() {
+                self.counts[j] = self.counts[j].saturating_add(1);
+                let shifted = self.counts[j] >> turning.shift.min(63);
+                fill(&mut self.times[t], shifted, self.cycles);
+            }
+        }
     }
 
     /// The run leaves an instruction by its edge of a kind.
@@ -226,6 +251,17 @@ impl EdgeTrace {
                     self.pass(e);
                 }
             }
+        }
+    }
+}
+
+/// Notes a time for each count up to one that has none yet. There is memory for 2,048.
+fn fill(times: &mut Vec<u64>, count: u64, cycles: u64) {
+    for _ in 0..2048 {
+        if times.len() < 2048 && (times.len() as u64) <= count {
+            let _room = times.push(cycles);
+        } else {
+            return;
         }
     }
 }

@@ -1,31 +1,25 @@
-use Rattle.std.proofs.Common.{length, sym, subst}
 use Rattle.std.proofs.lemmas.Result.{err_from_is_err_and}
-use Rattle.paced_images.specs.Flags.{AreFlags}
 use Rattle.scaler.proofs.Laws.{counted_as}
 use Rattle.paced_images.proofs.ScalingFacts.{counters_stop, marking_stops}
-use Rattle.paced_images.proofs.WantedMarks.{has_marks}
 use Rattle.paced_images.proofs.scaling.marked_of.Goals as goal
 
 pub returns-in_err-counters : goal.returns-in_err-counters
 returns-in_err-counters c =
     let p = err_from_is_err_and c.from_residual-in_err-counters.result c.from_residual-in_err-counters.ensures.1 in
-    rw (p.1, p.2) (counters_stop c.args.power.now c.args.view.now c.args.notes.now c.args.sites.now c.in_ok-graph.graph c.in_ok-tree.tree c.in_err-counters.field-0.0 c.in_ok-graph.ensures c.in_ok-tree.ensures c.in_err-counters.ensures)
+    rw (p.1, p.2) (counters_stop c.args.power.now c.args.view.now c.args.notes.now c.args.sites.now c.args.tallied.now c.args.share c.in_ok-graph.graph c.in_ok-tree.tree c.in_err-counters.field-0.0 c.in_ok-graph.ensures c.in_ok-tree.ensures c.in_err-counters.ensures)
 
 pub marking_with-requires-clause-marks : goal.marking_with-requires-clause-marks
-marking_with-requires-clause-marks c = (_, has_marks c.in_ok-graph.graph c.in_ok-tree.tree c.args.sites.now c.in_ok-counters.counters c.deref.result.now c.in_ok-marks.marks (counted_as c.in_ok-graph.graph c.in_ok-tree.tree c.in_ok-counters.counters c.in_ok-counters.ensures) c.in_ok-counters.ensures (subst (AreFlags c.in_ok-graph.graph c.args.sites.now (length c.in_ok-graph.graph.code.edges)) (sym c.deref.ensures.value) c.in_ok-flags.ensures) c.in_ok-marks.ensures)
+marking_with-requires-clause-marks c = (_, c.in_ok-marks.ensures)
 
 pub returns-in_err-marking : goal.returns-in_err-marking
 returns-in_err-marking c =
     let p = err_from_is_err_and c.from_residual-in_err-marking.result c.from_residual-in_err-marking.ensures.1 in
-    let has = has_marks c.in_ok-graph.graph c.in_ok-tree.tree c.args.sites.now c.in_ok-counters.counters c.deref.result.now c.in_ok-marks.marks (counted_as c.in_ok-graph.graph c.in_ok-tree.tree c.in_ok-counters.counters c.in_ok-counters.ensures) c.in_ok-counters.ensures (subst (AreFlags c.in_ok-graph.graph c.args.sites.now (length c.in_ok-graph.graph.code.edges)) (sym c.deref.ensures.value) c.in_ok-flags.ensures) c.in_ok-marks.ensures in
-    rw (p.1, p.2) (marking_stops c.args.power.now c.args.view.now c.args.notes.now c.args.sites.now c.in_ok-graph.graph c.in_ok-tree.tree c.in_ok-graph.ensures c.in_ok-tree.ensures (counted_as c.in_ok-graph.graph c.in_ok-tree.tree c.in_ok-counters.counters c.in_ok-counters.ensures) c.in_err-marking.field-0.0 (c.in_err-marking.ensures c.args.view.now _ c.in_ok-graph.ensures has))
+    rw (p.1, p.2) (marking_stops c.args.power.now c.args.view.now c.args.notes.now c.args.sites.now c.args.tallied.now c.args.share c.in_ok-graph.graph c.in_ok-tree.tree c.in_ok-graph.ensures c.in_ok-tree.ensures (counted_as c.in_ok-graph.graph c.in_ok-tree.tree c.in_ok-counters.counters c.in_ok-counters.ensures) c.in_err-marking.field-0.0 (c.in_err-marking.ensures c.args.view.now _ c.in_ok-graph.ensures c.in_ok-marks.ensures))
 
 pub returns : goal.returns
-returns c =
-    let has = has_marks c.in_ok-graph.graph c.in_ok-tree.tree c.args.sites.now c.in_ok-counters.counters c.deref.result.now c.in_ok-marks.marks (counted_as c.in_ok-graph.graph c.in_ok-tree.tree c.in_ok-counters.counters c.in_ok-counters.ensures) c.in_ok-counters.ensures (subst (AreFlags c.in_ok-graph.graph c.args.sites.now (length c.in_ok-graph.graph.code.edges)) (sym c.deref.ensures.value) c.in_ok-flags.ensures) c.in_ok-marks.ensures in
-    record {
-      code_is = c.in_ok-graph.ensures;
-      tree_is = c.in_ok-tree.ensures;
-      counters = counted_as c.in_ok-graph.graph c.in_ok-tree.tree c.in_ok-counters.counters c.in_ok-counters.ensures;
-      found = c.in_ok-marking.ensures c.args.view.now _ c.in_ok-graph.ensures has;
-    }
+returns c = record {
+  code_is = c.in_ok-graph.ensures;
+  tree_is = c.in_ok-tree.ensures;
+  counters = counted_as c.in_ok-graph.graph c.in_ok-tree.tree c.in_ok-counters.counters c.in_ok-counters.ensures;
+  found = c.in_ok-marking.ensures c.args.view.now _ c.in_ok-graph.ensures c.in_ok-marks.ensures;
+}

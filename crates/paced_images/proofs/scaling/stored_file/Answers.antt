@@ -12,37 +12,37 @@ use Rattle.paced_images.proofs.scaling.stored_file.Goals as goal
 pub write_image-requires-clause-ascending : goal.write_image-requires-clause-ascending
 write_image-requires-clause-ascending c =
     let h = c.requires.scaled in
-    subst (λ (l : List Patch). IsStrictlyIncreasing (map (λ (p : Patch). p.at) l)) (sym (c.deref.ensures.value ∙ h.4.patches))
-    (ascending h.0 h.3 c.args.view.now h.1 h.2 (map site_of c.args.scaling.now.stubs.items) c.args.scaling.now.base c.args.scaling.now.summary.start c.requires.read c.requires.no_key c.requires.file (made_of h.0 c.args.view.now h.1 h.2 c.args.scaling.now h.4))
+    subst (λ (l : List Patch). IsStrictlyIncreasing (map (λ (p : Patch). p.at) l)) (sym (c.deref.ensures.value ∙ h.6.patches))
+    (ascending h.0 h.5 c.args.view.now h.1 h.2 h.3 h.4 (map site_of c.args.scaling.now.stubs.items) c.args.scaling.now.base c.args.scaling.now.summary.start c.requires.read c.requires.no_key c.requires.file (made_of h.0 c.args.view.now h.1 h.2 h.3 h.4 c.args.scaling.now h.6))
 
 pub write_image-requires-clause-words : goal.write_image-requires-clause-words
 write_image-requires-clause-words c =
     let h = c.requires.scaled in
-    let store = can_store h.0 h.3 c.args.view.now h.1 h.2 (map site_of c.args.scaling.now.stubs.items) c.args.scaling.now.base c.args.scaling.now.summary.start c.requires.read c.requires.no_key c.requires.file (made_of h.0 c.args.view.now h.1 h.2 c.args.scaling.now h.4) in
-    subst (λ (l : List Patch). All (λ p. IsTrue (is_word_address c.args.view.now p.at)) l) (sym (c.deref.ensures.value ∙ h.4.patches)) store.words
+    let store = can_store h.0 h.5 c.args.view.now h.1 h.2 h.3 h.4 (map site_of c.args.scaling.now.stubs.items) c.args.scaling.now.base c.args.scaling.now.summary.start c.requires.read c.requires.no_key c.requires.file (made_of h.0 c.args.view.now h.1 h.2 h.3 h.4 c.args.scaling.now h.6) in
+    subst (λ (l : List Patch). All (λ p. IsTrue (is_word_address c.args.view.now p.at)) l) (sym (c.deref.ensures.value ∙ h.6.patches)) store.words
 
 pub write_image-requires-clause-place : goal.write_image-requires-clause-place
 write_image-requires-clause-place c =
     let h = c.requires.scaled in
-    let store = can_store h.0 h.3 c.args.view.now h.1 h.2 (map site_of c.args.scaling.now.stubs.items) c.args.scaling.now.base c.args.scaling.now.summary.start c.requires.read c.requires.no_key c.requires.file (made_of h.0 c.args.view.now h.1 h.2 c.args.scaling.now h.4) in
-    subst (λ (l : List ℕ). IsStubBase c.args.view.now (length l) c.args.scaling.now.base) (sym (c.deref-2.ensures.value ∙ h.4.bytes)) store.place
+    let store = can_store h.0 h.5 c.args.view.now h.1 h.2 h.3 h.4 (map site_of c.args.scaling.now.stubs.items) c.args.scaling.now.base c.args.scaling.now.summary.start c.requires.read c.requires.no_key c.requires.file (made_of h.0 c.args.view.now h.1 h.2 h.3 h.4 c.args.scaling.now h.6) in
+    subst (λ (l : List ℕ). IsStubBase c.args.view.now (length l) c.args.scaling.now.base) (sym (c.deref-2.ensures.value ∙ h.6.bytes)) store.place
 
 pub write_image-requires-clause-whole : goal.write_image-requires-clause-whole
 write_image-requires-clause-whole c =
     let h = c.requires.scaled in
-    subst (λ (l : List ℕ). length l % 4 ≡ 0) (sym (c.deref-2.ensures.value ∙ h.4.bytes))
-    (whole_words h.0 h.3 c.args.view.now h.1 h.2 (map site_of c.args.scaling.now.stubs.items) c.args.scaling.now.base c.args.scaling.now.summary.start c.requires.read c.requires.no_key c.requires.file (made_of h.0 c.args.view.now h.1 h.2 c.args.scaling.now h.4))
+    subst (λ (l : List ℕ). length l % 4 ≡ 0) (sym (c.deref-2.ensures.value ∙ h.6.bytes))
+    (whole_words h.0 h.5 c.args.view.now h.1 h.2 h.3 h.4 (map site_of c.args.scaling.now.stubs.items) c.args.scaling.now.base c.args.scaling.now.summary.start c.requires.read c.requires.no_key c.requires.file (made_of h.0 c.args.view.now h.1 h.2 h.3 h.4 c.args.scaling.now h.6))
 
 pub write_image-requires-clause-block : goal.write_image-requires-clause-block
 write_image-requires-clause-block c =
     let h = c.requires.scaled in
-    let store = can_store h.0 h.3 c.args.view.now h.1 h.2 (map site_of c.args.scaling.now.stubs.items) c.args.scaling.now.base c.args.scaling.now.summary.start c.requires.read c.requires.no_key c.requires.file (made_of h.0 c.args.view.now h.1 h.2 c.args.scaling.now h.4) in
-    subst (λ (l : List ℕ). length l ≤ 4194304) (sym (c.deref-2.ensures.value ∙ h.4.bytes)) store.block_short
+    let store = can_store h.0 h.5 c.args.view.now h.1 h.2 h.3 h.4 (map site_of c.args.scaling.now.stubs.items) c.args.scaling.now.base c.args.scaling.now.summary.start c.requires.read c.requires.no_key c.requires.file (made_of h.0 c.args.view.now h.1 h.2 h.3 h.4 c.args.scaling.now h.6) in
+    subst (λ (l : List ℕ). length l ≤ 4194304) (sym (c.deref-2.ensures.value ∙ h.6.bytes)) store.block_short
 
 pub returns : goal.returns
 returns c =
     let h = c.requires.scaled in
     let file = c.args.view.now.file in
     let s = c.args.scaling.now in
-    subst (λ (ps : List Patch). IfOk c.write_image.result (λ out. out.items ≡ stored_image file ps s.base (block_bytes s.base (map site_of s.stubs.items)) s.summary.start)) (c.deref.ensures.value ∙ h.4.patches)
-    (subst (λ (l : List ℕ). IfOk c.write_image.result (λ out. out.items ≡ stored_image file c.deref.result.now s.base l s.summary.start)) (c.deref-2.ensures.value ∙ h.4.bytes) c.write_image.ensures)
+    subst (λ (ps : List Patch). IfOk c.write_image.result (λ out. out.items ≡ stored_image file ps s.base (block_bytes s.base (map site_of s.stubs.items)) s.summary.start)) (c.deref.ensures.value ∙ h.6.patches)
+    (subst (λ (l : List ℕ). IfOk c.write_image.result (λ out. out.items ≡ stored_image file c.deref.result.now s.base l s.summary.start)) (c.deref-2.ensures.value ∙ h.6.bytes) c.write_image.ensures)

@@ -10,3 +10,9 @@ told_at-told-requires-clause-switches c = let h = c.requires.marking in
 
 pub returns-in-Exit : goal.returns-in-Exit
 returns-in-Exit c = subst (λ m. IsFragmentAt c.args.power.now c.args.graph.now c.args.tree.now c.args.marking.now c.args.e m c.exit_of.result) (sym c.in-Exit.is) c.exit_of.ensures
+
+pub returns-in-Lowest : goal.returns-in-Lowest
+returns-in-Lowest c = subst (λ m. IsFragmentAt c.args.power.now c.args.graph.now c.args.tree.now c.args.marking.now c.args.e m c.lowest_of.result) (sym c.in-Lowest.is) c.lowest_of.ensures
+
+pub returns-in-Tally : goal.returns-in-Tally
+returns-in-Tally c = subst (λ m. IsFragmentAt c.args.power.now c.args.graph.now c.args.tree.now c.args.marking.now c.args.e m c.tally_of.result) (sym c.in-Tally.is) c.tally_of.ensures

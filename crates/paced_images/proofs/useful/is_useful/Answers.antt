@@ -9,15 +9,15 @@ use Rattle.paced_images.specs.declared.scaling.Marked.{Marked}
 use Rattle.paced_images.specs.declared.wanted.SwitchSite.{SwitchSite}
 use Rattle.paced_images.specs.Markings.{test_of}
 use Rattle.paced_images.specs.Useful.{is_lowered, names_lowered}
-use Rattle.paced_images.specs.Wanted.{marked_where}
+use Rattle.paced_images.specs.Wanted.{Wanted, marked_where}
 use Rattle.paced_images.proofs.FlagLists.{named_at}
 use Rattle.paced_images.proofs.UsefulFacts.{next_none, unnamed}
 use Rattle.paced_images.proofs.useful.is_useful.Goals as goal
 
-abbrev lowered : PowerModel → Marked → Image → (ℕ → Bool) → Numbers → Charged → ℕ → Bool
+abbrev lowered : PowerModel → Marked → Image → Wanted → Numbers → Charged → ℕ → Bool
 lowered power m image wanted stored least e = is_lowered power (test_of power m.marking) m.start image m.graph m.tree (marked_where m.graph m.tree wanted) stored least e
 
-abbrev named : PowerModel → Marked → Image → (ℕ → Bool) → Numbers → Charged → SwitchSite → ℕ → Bool
+abbrev named : PowerModel → Marked → Image → Wanted → Numbers → Charged → SwitchSite → ℕ → Bool
 named power m image wanted stored least site e = names_lowered power (test_of power m.marking) m.start image m.graph m.tree (marked_where m.graph m.tree wanted) stored least site e
 
 pub returns-then-names_lowered : goal.returns-then-names_lowered

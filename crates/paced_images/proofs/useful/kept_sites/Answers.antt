@@ -1,4 +1,4 @@
-use Rattle.std.proofs.Common.{ℕ, Bool, true, false, sym, ap, ◌∙◌}
+use Rattle.std.proofs.Common.{Bool, true, false, sym, ap, ◌∙◌}
 use Rattle.std.specs.List.{filter}
 use Rattle.std.proofs.lemmas.List.{append-nil, take_all}
 use Rattle.cost_theory.specs.Worst.{Numbers}
@@ -9,12 +9,12 @@ use Rattle.paced_images.specs.declared.scaling.Marked.{Marked}
 use Rattle.paced_images.specs.declared.wanted.SwitchSite.{SwitchSite}
 use Rattle.paced_images.specs.Markings.{test_of}
 use Rattle.paced_images.specs.Useful.{is_useful}
-use Rattle.paced_images.specs.Wanted.{marked_where}
+use Rattle.paced_images.specs.Wanted.{Wanted, marked_where}
 use Rattle.paced_images.proofs.UsefulFacts.{kept_more}
 use Rattle.paced_images.proofs.useful.kept_sites.Goals as goal
 use Rattle.paced_images.proofs.useful.kept_sites.Goals.{then-is_useful+in_ok-push, else-is_useful}
 
-abbrev useful : PowerModel → Marked → Image → (ℕ → Bool) → Numbers → Charged → SwitchSite → Bool
+abbrev useful : PowerModel → Marked → Image → Wanted → Numbers → Charged → SwitchSite → Bool
 useful power m image wanted stored least site = is_useful power (test_of power m.marking) m.start image m.graph m.tree (marked_where m.graph m.tree wanted) stored least site
 
 pub loop-site-preserved : goal.loop-site-preserved
