@@ -45,6 +45,12 @@ def check_words(pace, folder):
         (["fit", "m.toml", *FILES[1:], "out"], 1, b"refused 1 not an ELF file\n"),
         (["fit", FILES[0], FILES[2], FILES[2], "out"], 1, b"refused "),
         (fitted, 0, b"start level "),
+        (["show", "--help"], 0, b"LOOPS"),
+        (["show", *FILES[:2]], 2, b""),
+        (["show", *FILES, "out"], 2, b""),
+        (["show", "missing", *FILES[1:]], 3, b""),
+        (["show", "m.toml", *FILES[1:]], 1, b"refused 1 not an ELF file\n"),
+        (["show", *FILES], 0, b"start level "),
     ]
     for words, status, begin in cases:
         done = run(pace, folder, *words)

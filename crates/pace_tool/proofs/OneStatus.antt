@@ -12,12 +12,16 @@ use Rattle.pace_fit.specs.declared.fitting.Fitted.{Fitted}
 use Rattle.pace_fit.specs.Fitting.{IsFitted, IsFitting}
 use Rattle.host_files.specs.HostState.{HostState}
 use Rattle.host_runs.specs.declared.reply.Reply.{Reply}
-use Rattle.host_runs.specs.Answer.{Answer, stored_answer}
+use Rattle.host_runs.specs.Answer.{Answer, stored_answer, text_answer}
 use Rattle.host_runs.specs.Command.{IsAnswered, IsStatusOfAll}
 use Rattle.host_runs.specs.Views.{reply_view}
 use Rattle.host_runs.proofs.Laws as runs
 use Rattle.pace_tool.specs.Answer.{Fits, MakesFit, Makes}
-use Rattle.pace_tool.specs.Command.{Command, Fit, may_give, wants_of}
+use Rattle.level_reasons.specs.declared.shown.Shown.{Shown}
+use Rattle.level_reasons.specs.Program.{AreReasons}
+use Rattle.level_reasons.specs.ReasonTexts.{reasons_text}
+use Rattle.level_reasons.proofs.Laws.{shown_held}
+use Rattle.pace_tool.specs.Command.{Command, Fit, Show, may_give, wants_of}
 use Rattle.pace_tool.specs.Texts.{fitted_text}
 
 -- a choice has an image that runs at one level, and a refusal says that there is none
@@ -43,8 +47,20 @@ one_fit image machine loops out inputs one other x y =
     ∙ status_same image machine loops out inputs x.proposals y.proposals x.tells.given y.tells.given x.tells.is_given.fitting y.tells.is_given.fitting
     ∙ sym (ap (λ (a : Answer). a.status) y.tells.told)
 
+-- reasons are those of a program that `hold` stores, and a refusal says that there is none
+not_held : (image machine loops : List ℕ) (shown : Shown) (refusal : Refusal) → AreReasons image machine loops (Ok shown) → IsHeld image machine loops (Err refusal) → ⊥
+not_held image machine loops shown refusal h refused = let held = shown_held image machine loops shown h in held_answers image machine loops (Ok ((held.0, held.1))) (Err refusal) held.2 refused
+
+reasons_status : (image machine loops : List ℕ) (one other : Result Shown Refusal) → AreReasons image machine loops one → AreReasons image machine loops other →
+    (text_answer reasons_text one).status ≡ (text_answer reasons_text other).status
+reasons_status image machine loops (Ok one) (Ok other) x y = refl
+reasons_status image machine loops (Err one) (Err other) x y = refl
+reasons_status image machine loops (Ok one) (Err other) x y = absurd (not_held image machine loops one other x y)
+reasons_status image machine loops (Err one) (Ok other) x y = absurd (not_held image machine loops other one y x)
+
 one_made : (command : Command) (files : List (List ℕ)) (one other : Answer) → Makes command files one → Makes command files other → one.status ≡ other.status
 one_made (Fit image machine loops out inputs) (i ∷ m ∷ l ∷ given) one other x y = one_fit i m l out given one other x y
+one_made (Show image machine loops) (i ∷ m ∷ l ∷ []) one other x y = runs.one_told (AreReasons i m l) (text_answer reasons_text) (reasons_status i m l) one other x y
 one_made command files one other x y = absurd x
 
 -- a status that was answered is that of every answer
@@ -57,9 +73,14 @@ given_status : (text_of : Fitted → List ℕ) (out : List ℕ) (given : Result 
 given_status text_of out (Ok given) = refl
 given_status text_of out (Err refusal) = refl
 
+shown_status : (given : Result Shown Refusal) → nat_le (text_answer reasons_text given).status 1 ≡ true
+shown_status (Ok given) = refl
+shown_status (Err refusal) = refl
+
 status_small : (command : Command) (files : List (List ℕ)) (answer : Answer) → Makes command files answer → nat_le answer.status 1 ≡ true
 status_small (Fit image machine loops out inputs) (i ∷ m ∷ l ∷ given) answer x =
     ap (λ (a : Answer). nat_le a.status 1) x.tells.told ∙ given_status (fitted_text x.proposals) out x.tells.given
+status_small (Show image machine loops) (i ∷ m ∷ l ∷ []) answer x = ap (λ (a : Answer). nat_le a.status 1) x.told ∙ shown_status x.given
 status_small command files answer x = absurd x
 
 -- a reply has a status that may be given

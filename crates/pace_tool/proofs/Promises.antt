@@ -12,7 +12,7 @@ use Rattle.host_runs.specs.Promise.{Promised, StoredPromise}
 use Rattle.host_runs.proofs.Laws as runs
 use Rattle.host_runs.proofs.Laws.{EachWithin}
 use Rattle.pace_tool.specs.Answer.{Fits, IsFittedSafely, MakesFit, Makes}
-use Rattle.pace_tool.specs.Command.{Command, Fit, wants_of}
+use Rattle.pace_tool.specs.Command.{Command, Fit, Show, wants_of}
 use Rattle.pace_tool.specs.Promise.{FitsAny, Promise}
 use Rattle.pace_tool.specs.Texts.{fitted_text}
 
@@ -33,6 +33,7 @@ kept : (command : Command) (loaded : List (List ℕ)) (files : Files) (answer : 
     Promise command loaded (with_stores answer.stores files)
 kept (Fit image machine loops out inputs) (i ∷ m ∷ l ∷ given) files answer within made done = fit_kept i m l given out files answer made done
 kept (Fit image machine loops out inputs) loaded files answer within made done = absurd made
+kept (Show image machine loops) loaded files answer within made done = tt
 
 -- stores that stand keep their promise, whatever was answered
 pub stored_keep_promise : (command : Command) (old new : HostState) → StoresStand (wants_of command) (Makes command) old new → Promised (wants_of command) (Promise command) old new

@@ -5,8 +5,10 @@ use Rattle.scaler.specs.Promise.{IsStoredSafely}
 use Rattle.pace_fit.specs.declared.candidates.Proposal.{Proposal}
 use Rattle.pace_fit.specs.declared.fitting.Fitted.{Fitted}
 use Rattle.pace_fit.specs.Fitting.{IsFitting}
-use Rattle.host_runs.specs.Answer.{Answer, Tells, stored_answer}
-use Rattle.pace_tool.specs.Command.{Command, Fit}
+use Rattle.host_runs.specs.Answer.{Answer, Tells, stored_answer, text_answer}
+use Rattle.level_reasons.specs.Program.{AreReasons}
+use Rattle.level_reasons.specs.ReasonTexts.{reasons_text}
+use Rattle.pace_tool.specs.Command.{Command, Fit, Show}
 use Rattle.pace_tool.specs.Texts.{fitted_text}
 
 -- What the choice of a fitting keeps to: the stored image keeps the promise of a rewritten one with the printed numbers, and on the inputs that count its runs take no more
@@ -33,4 +35,5 @@ pub record MakesFit (image machine loops : List ℕ) (inputs : List (List ℕ)) 
 -- What the command may make of its files, as many as it loads. It is told of what it gives for their bytes.
 abbrev pub Makes : Command → List (List ℕ) → Answer → Type 0
 Makes (Fit image machine loops out inputs) (i ∷ m ∷ l ∷ given) answer = MakesFit i m l given out answer
+Makes (Show image machine loops) (i ∷ m ∷ l ∷ []) answer = Tells (AreReasons i m l) (text_answer reasons_text) answer
 Makes command files answer = ⊥

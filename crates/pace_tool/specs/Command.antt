@@ -4,6 +4,7 @@ use Rattle.host_runs.specs.Loading.{Wants}
 
 pub data Command : Type 0 where
   Fit : (image machine loops out : List ℕ) (inputs : List (List ℕ)) → Command
+  Show : (image machine loops : List ℕ) → Command
 
 -- inputs that are loaded, each with its limit in bytes
 abbrev pub input_wants : List (List ℕ) → Wants
@@ -12,6 +13,7 @@ input_wants inputs = map (λ input. (input, 1048576)) inputs
 -- the files that it loads, in order, each with its limit in bytes
 abbrev pub wants_of : Command → Wants
 wants_of (Fit image machine loops out inputs) = (image, 4194304) ∷ (machine, 1048576) ∷ (loops, 1048576) ∷ input_wants inputs
+wants_of (Show image machine loops) = (image, 4194304) ∷ (machine, 1048576) ∷ (loops, 1048576) ∷ []
 
 -- the statuses that a command gives, but for a fault and want of memory
 abbrev pub may_give : ℕ → Bool

@@ -16,7 +16,7 @@ FitsAny image machine loops inputs given = (proposals : List Proposal) × Fits i
 -- What a command promises beside its answer, by the files that it loaded and those that stand afterwards. Of `fit`: on every input on which the original run exits and keeps the
 -- loops' bounds and the return addresses, the stored image gives the same output and the same exit status, ends by the deadline, never raises its level, takes no more energy than
 -- its own cycles at its starting level would, and adds at most the printed number of cycles; and its runs on the inputs that count take no more energy than those of the image
--- that `hold` stores.
+-- that `hold` stores. `show` stores nothing, and promises nothing beside its answer.
 abbrev pub Promise : Command → List (List ℕ) → Files → Type 0
 Promise (Fit image machine loops out inputs) (i ∷ m ∷ l ∷ given) after = StoredPromise (FitsAny i m l given) (IsFittedSafely i m l) (get after out)
 Promise command files after = Unit {0}

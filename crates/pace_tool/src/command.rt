@@ -20,22 +20,40 @@ pub struct Fit<'a> {
     pub inputs: InputNames<'a>,
 }
 
+/// The command `show`, with the names of its files: it prints what keeps the level of a program from being lowered.
+#[derive(Clone, Copy)]
+pub struct Show<'a> {
+    pub image: &'a str,
+    pub machine: &'a str,
+    pub loops: &'a str,
+}
+
+/// A command.
+#[derive(Clone, Copy)]
+pub enum Job<'a> {
+    Fit(Fit<'a>),
+    Show(Show<'a>),
+}
+
 // How many bytes an image may have, and how many any other file.
 const IMAGE_LIMIT: u64 = 4194304;
 
 const TEXT_LIMIT: u64 = 1048576;
 
 /// The files that are loaded, in order.
-pub fn wants<'a>(alloc: Global, command: &Fit<'a>) -> Result<Vec<Want<'a>>, AllocError>
+pub fn wants<'a>(alloc: Global, command: &Job<'a>) -> Result<Vec<Want<'a>>, AllocError>
     ensures { IfOk result (λ wants. want_views wants.items ≡ wants_of (command_view command.now)) }
 {
-    fit_wants(
-        alloc,
-        command.image,
-        command.machine,
-        command.loops,
-        command.inputs.names,
-    )
+    match *command {
+        Job::Fit(fit) => fit_wants(
+            alloc,
+            fit.image,
+            fit.machine,
+            fit.loops,
+            fit.inputs.names,
+        ),
+        Job::Show(show) => fit_wants(alloc, show.image, show.machine, show.loops, &[]),
+    }
 }
 
 fn fit_wants<'a>(

@@ -1,13 +1,13 @@
 //! What `fit` gives for its files.
 
-ghost use Rattle.std.specs.Prelude.{◌≡◌, ◌≤◌, length, option_map, Some, IfOk, IsTrue};
+ghost use Rattle.std.specs.Prelude.{◌≡◌, ◌≤◌, length, option_map, Some, IfOk};
 ghost use Rattle.std.specs.List.{All, AllZip};
 ghost use Rattle.host_runs.specs.Answer.{Tells, stored_answer};
 ghost use Rattle.host_runs.specs.Views.{file_view, files_view, given_by, reply_view};
 ghost use Rattle.pace_tool.specs.Answer.{Fits, MakesFit, Makes};
-ghost use Rattle.pace_tool.specs.Command.{may_give, wants_of};
+ghost use Rattle.pace_tool.specs.Command.{wants_of};
 ghost use Rattle.pace_tool.specs.Texts as texts;
-ghost use Rattle.pace_tool.specs.Views.{command_view};
+ghost use Rattle.pace_tool.specs.Views.{fit_view};
 
 use crate::command::Fit;
 use crate::proposals::proposals_of;
@@ -83,12 +83,11 @@ pub fn fit_reply(
     chosen_of(alloc, out, files, inputs, &proposals)
 }
 
-/// What is made of the files that were loaded.
+/// What `fit` makes of the files that were loaded.
 #[tactic(auto, using(host_runs::proofs::Laws::limits_alone))]
-pub fn made(alloc: Global, command: &Fit<'_>, files: &[Vec<u8>]) -> Result<Reply, NoMemory>
-    requires { AllZip (λ want file. length file ≤ want.1) (wants_of (command_view command.now)) (files_view files.now) }
-    ensures answer { IfOk result (λ reply. Makes (command_view command.now) (files_view files.now) (reply_view reply)) }
-    ensures status { IfOk result (λ reply. IsTrue (may_give reply.status)) }
+pub fn fit_made(alloc: Global, command: &Fit<'_>, files: &[Vec<u8>]) -> Result<Reply, NoMemory>
+    requires { AllZip (λ want file. length file ≤ want.1) (wants_of (fit_view command.now)) (files_view files.now) }
+    ensures { IfOk result (λ reply. Makes (fit_view command.now) (files_view files.now) (reply_view reply)) }
 {
     let (first, given) = files.split_at(3);
     fit_reply(

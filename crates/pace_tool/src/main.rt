@@ -1,4 +1,5 @@
-//! The program `pace`: it fits the switches of speed of a program to inputs, so that it takes less energy and still meets its deadline.
+//! The program `pace`: it fits the switches of speed of a program to inputs, so that it takes less energy and still meets its deadline, and tells what keeps its
+//! speed from being lowered.
 //!
 //! What the words of its command line mean is `clap`'s to say, and is tested. What is proved begins at the command that they are.
 #![tactic(auto)]
@@ -6,8 +7,10 @@
 mod command;
 mod fit;
 mod input_names;
+mod making;
 mod pace;
 mod proposals;
+mod show;
 mod texts;
 mod words;
 

@@ -12,14 +12,14 @@ ghost use Rattle.pace_tool.specs.Command.{may_answer, may_give, wants_of};
 ghost use Rattle.pace_tool.specs.Promise.{Promise};
 ghost use Rattle.pace_tool.specs.Views.{command_view};
 
-use crate::command::{Fit, wants};
-use crate::fit::made;
+use crate::command::{Job, wants};
+use crate::making::made;
 use host_files::{Host, HostError};
 use host_runs::{AllLoaded, Reply, deliver, load_all};
 use std::alloc::Global;
 
 /// Loads the files, and makes what is made of them.
-fn reply_to<H: Host>(host: &mut H, alloc: Global, command: &Fit<'_>) -> Result<Reply, HostError>
+fn reply_to<H: Host>(host: &mut H, alloc: Global, command: &Job<'_>) -> Result<Reply, HostError>
     ensures told { IfOk result (λ reply. IfSome (H.state host.old).files (λ files. IsAnswerOf (wants_of (command_view command.now)) (Makes (command_view command.now)) files (reply_view reply))) }
     ensures status { IfOk result (λ reply. IsTrue (may_give reply.status)) }
     ensures untouched { IsUntouched (H.state host.old) (H.state host.new) }
@@ -35,7 +35,7 @@ fn reply_to<H: Host>(host: &mut H, alloc: Global, command: &Fit<'_>) -> Result<R
 }
 
 /// Loads the files, and stores and prints what is made of them.
-fn run<H: Host>(host: &mut H, alloc: Global, command: &Fit<'_>) -> Result<u8, HostError>
+fn run<H: Host>(host: &mut H, alloc: Global, command: &Job<'_>) -> Result<u8, HostError>
     ensures status { IfOk result (λ status. IsTrue (may_give status)) }
     ensures ends { Ends (wants_of (command_view command.now)) (Makes (command_view command.now)) result (H.state host.old) (H.state host.new) }
     ensures faults { (H.state host.new).faults ≡ count_if (is_failed result) (H.state host.old).faults }
@@ -55,7 +55,7 @@ fn run<H: Host>(host: &mut H, alloc: Global, command: &Fit<'_>) -> Result<u8, Ho
 /// How the clauses go together: with 0 the command was done, so `answered` says what was stored and printed, and `promise` what that means for whoever runs it. With 3,
 /// `fault_leaves` says how far the answer came, and `promise_behind_a_fault` what the stores promise, where all of them stand nevertheless.
 #[tactic(auto, using(crate::proofs::Promises::answered_keep_promise, crate::proofs::Promises::stored_keep_promise, crate::proofs::OneStatus::status_of_all))]
-pub fn run_pace<H: Host>(host: &mut H, alloc: Global, command: &Fit<'_>) -> u8
+pub fn run_pace<H: Host>(host: &mut H, alloc: Global, command: &Job<'_>) -> u8
     // 0, and 1 where the files are refused; 3 and 4 where there is no answer.
     ensures statuses { IsTrue (may_answer result) }
 

@@ -1,6 +1,6 @@
 //! The words of the command line, as `clap` reads them.
 
-use crate::command::Fit;
+use crate::command::{Fit, Job, Show};
 use crate::input_names::InputNames;
 use clap::{Arg, ArgAction, ArgMatches, Command as CommandLine, Error};
 use std::alloc::{AllocError, Global};
@@ -35,13 +35,28 @@ fn fit_line<'a>(alloc: Global) -> Result<CommandLine<'a>, AllocError> {
         .arg(inputs)
 }
 
+fn show_line<'a>(alloc: Global) -> Result<CommandLine<'a>, AllocError> {
+    CommandLine::new(alloc, "show")
+        .about(
+            "Tells what keeps the speed of a program from being lowered, by edge and by loop",
+        )
+        .arg(required(alloc, "IMAGE", "The program, an ELF file"))?
+        .arg(required(
+            alloc,
+            "MACHINE",
+            "The machine file: levels, switches, deadline",
+        ))?
+        .arg(required(alloc, "LOOPS", "The loop file: how often loops turn"))
+}
+
 fn command_line<'a>(alloc: Global) -> Result<CommandLine<'a>, AllocError> {
     CommandLine::new(alloc, "pace")
         .version("0.1.0")
         .about("Fits the switches of speed of a program to inputs")
         .no_binary_name(true)
         .subcommand_required(true)
-        .subcommand(fit_line(alloc)?)
+        .subcommand(fit_line(alloc)?)?
+        .subcommand(show_line(alloc)?)
 }
 
 /// What the words match, or why they don't.
@@ -50,12 +65,23 @@ pub fn matches_of<'a>(alloc: Global, words: &'a [String]) -> Result<ArgMatches<'
 }
 
 /// The command that was matched.
-pub fn command_of<'m>(matches: &'m ArgMatches<'_>) -> Option<Fit<'m>> {
+pub fn command_of<'m>(matches: &'m ArgMatches<'_>) -> Option<Job<'m>> {
+    if let Some(show) = matches.subcommand_matches("show") {
+        return Some(Job::Show(show_of(show)?));
+    }
     let fit = matches.subcommand_matches("fit")?;
     match fit.get_strs("INPUT") {
-        Some(names) => fit_of(fit, names),
-        None => fit_of(fit, &[]),
+        Some(names) => Some(Job::Fit(fit_of(fit, names)?)),
+        None => Some(Job::Fit(fit_of(fit, &[])?)),
     }
+}
+
+fn show_of<'m>(show: &'m ArgMatches<'_>) -> Option<Show<'m>> {
+    Some(Show {
+        image: show.get_str("IMAGE")?,
+        machine: show.get_str("MACHINE")?,
+        loops: show.get_str("LOOPS")?,
+    })
 }
 
 fn fit_of<'m>(fit: &'m ArgMatches<'_>, inputs: &'m [&'m str]) -> Option<Fit<'m>> {

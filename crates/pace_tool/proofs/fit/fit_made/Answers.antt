@@ -3,9 +3,9 @@ use Rattle.std.specs.Prelude.{Vec}
 use Rattle.std.specs.declared.alloc.Global.{Global}
 use Rattle.std.specs.List.{All}
 use Rattle.host_runs.specs.Views.{files_view}
-use Rattle.pace_tool.specs.Views.{command_view, texts}
+use Rattle.pace_tool.specs.Views.{texts}
 use Rattle.pace_tool.proofs.GivenInputs.{as_many, three_first}
-use Rattle.pace_tool.proofs.fit.made.Goals as goal
+use Rattle.pace_tool.proofs.fit.fit_made.Goals as goal
 
 pub invariant_of-fit_reply : goal.invariant_of-fit_reply
 invariant_of-fit_reply c =

@@ -1,0 +1,36 @@
+//! What the commands make of their files.
+
+ghost use Rattle.std.specs.Prelude.{◌≤◌, length, IfOk, IsTrue};
+ghost use Rattle.std.specs.List.{AllZip};
+ghost use Rattle.host_runs.specs.Views.{files_view, reply_view};
+ghost use Rattle.pace_tool.specs.Answer.{Makes};
+ghost use Rattle.pace_tool.specs.Command.{may_give, wants_of};
+ghost use Rattle.pace_tool.specs.Views.{command_view};
+
+use crate::command::Job;
+use crate::fit::fit_made;
+use crate::show::show_reply;
+use host_runs::{ProgramFiles, Reply};
+use scale_base::NoMemory;
+use std::alloc::Global;
+
+/// What is made of the files that were loaded.
+#[tactic(auto, using(host_runs::proofs::Laws::limits_alone))]
+fn made_of(alloc: Global, command: &Job<'_>, files: &[Vec<u8>]) -> Result<Reply, NoMemory>
+    requires { AllZip (λ want file. length file ≤ want.1) (wants_of (command_view command.now)) (files_view files.now) }
+    ensures { IfOk result (λ reply. Makes (command_view command.now) (files_view files.now) (reply_view reply)) }
+{
+    match command {
+        Job::Fit(fit) => fit_made(alloc, fit, files),
+        Job::Show(_) => show_reply(alloc, &ProgramFiles::of(files)),
+    }
+}
+
+/// The same, with a status that may be given.
+pub fn made(alloc: Global, command: &Job<'_>, files: &[Vec<u8>]) -> Result<Reply, NoMemory>
+    requires { AllZip (λ want file. length file ≤ want.1) (wants_of (command_view command.now)) (files_view files.now) }
+    ensures answer { IfOk result (λ reply. Makes (command_view command.now) (files_view files.now) (reply_view reply)) }
+    ensures status { IfOk result (λ reply. IsTrue (may_give reply.status)) }
+{
+    made_of(alloc, command, files)
+}
