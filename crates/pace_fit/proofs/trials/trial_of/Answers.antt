@@ -13,7 +13,7 @@ returns c =
     let files = c.args.files.now in
     let p = c.args.proposal.now in
     let tells = λ (sites : List SwitchSite) (tallied : List ℕ). AnswersBy {X = Vec ℕ Global × Summary} {Y = List ℕ × Summary} (λ given. (given.0.items, given.1)) c.pace-made.result
-        (IsPaced files.image.now files.machine.now files.loops.now sites p.counted tallied p.share) in
+    (IsPaced files.image.now files.machine.now files.loops.now sites p.counted tallied p.share) in
     proposal_tried files p c.args.candidate c.trial_from.result c.pace-made.result
     (subst (λ (tallied : List ℕ). tells p.sites.items tallied) c.deref-2.ensures.value
     (subst (λ (sites : List SwitchSite). tells sites c.deref-2.result.now) c.deref.ensures.value c.pace-made.ensures.given))
