@@ -45,13 +45,7 @@ pub fn wants<'a>(alloc: Global, command: &Job<'a>) -> Result<Vec<Want<'a>>, Allo
     ensures { IfOk result (λ wants. want_views wants.items ≡ wants_of (command_view command.now)) }
 {
     match *command {
-        Job::Fit(fit) => fit_wants(
-            alloc,
-            fit.image,
-            fit.machine,
-            fit.loops,
-            fit.inputs.names,
-        ),
+        Job::Fit(fit) => fit_wants(alloc, fit.image, fit.machine, fit.loops, fit.inputs.names),
         Job::Show(show) => fit_wants(alloc, show.image, show.machine, show.loops, &[]),
     }
 }

@@ -16,10 +16,7 @@ use switch_search::propose;
 const FOUND: usize = 62;
 
 // The switches of the first proposal.
-fn first_of(
-    alloc: Global,
-    found: &[switch_search::Proposal],
-) -> Result<Vec<SwitchSite>, NoMemory>
+fn first_of(alloc: Global, found: &[switch_search::Proposal]) -> Result<Vec<SwitchSite>, NoMemory>
     ensures { IfOk result (λ sites. length sites.items ≤ 8) }
 {
     match found.first() {

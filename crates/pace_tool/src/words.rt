@@ -37,9 +37,7 @@ fn fit_line<'a>(alloc: Global) -> Result<CommandLine<'a>, AllocError> {
 
 fn show_line<'a>(alloc: Global) -> Result<CommandLine<'a>, AllocError> {
     CommandLine::new(alloc, "show")
-        .about(
-            "Tells what keeps the speed of a program from being lowered, by edge and by loop",
-        )
+        .about("Tells what keeps the speed of a program from being lowered, by edge and by loop")
         .arg(required(alloc, "IMAGE", "The program, an ELF file"))?
         .arg(required(
             alloc,
