@@ -5,7 +5,6 @@ use Rattle.scale_base.specs.declared.refusal.NoMemory.{NoMemory}
 use Rattle.scale_base.specs.declared.refusal.Refusal.{Refusal}
 use Rattle.scale_base.specs.declared.summary.Summary.{Summary}
 use Rattle.scaler.specs.Held.{IsHeld}
-use Rattle.scaler.specs.Agree.{AreAlikeAnswers}
 use Rattle.scaler.proofs.Laws.{held_answers}
 use Rattle.pace_fit.specs.declared.candidates.Proposal.{Proposal}
 use Rattle.pace_fit.specs.declared.fitting.Fitted.{Fitted}
@@ -16,7 +15,7 @@ use Rattle.host_runs.specs.Answer.{Answer, stored_answer, text_answer}
 use Rattle.host_runs.specs.Command.{IsAnswered, IsStatusOfAll}
 use Rattle.host_runs.specs.Views.{reply_view}
 use Rattle.host_runs.proofs.Laws as runs
-use Rattle.pace_tool.specs.Answer.{Fits, MakesFit, Makes}
+use Rattle.pace_tool.specs.Answer.{MakesFit, Makes}
 use Rattle.level_reasons.specs.declared.shown.Shown.{Shown}
 use Rattle.level_reasons.specs.Program.{AreReasons}
 use Rattle.level_reasons.specs.ReasonTexts.{reasons_text}

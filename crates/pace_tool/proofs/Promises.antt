@@ -1,10 +1,7 @@
 -- Each command that was done keeps its promise.
-use Rattle.std.proofs.Common.{◌≡◌, ◌≢◌, ℕ, List, [], ◌∷◌}
-use Rattle.std.specs.Prelude.{Ok}
+use Rattle.std.proofs.Common.{◌≢◌, ℕ, List, ◌∷◌}
 use Rattle.std.specs.FinMap.{get}
 use Rattle.host_files.specs.HostState.{Files, HostState}
-use Rattle.pace_fit.specs.declared.fitting.Fitted.{Fitted}
-use Rattle.pace_fit.specs.declared.candidates.Proposal.{Proposal}
 use Rattle.host_runs.specs.Answer.{Answer}
 use Rattle.host_runs.specs.Command.{IsAnswered, StoresStand}
 use Rattle.host_runs.specs.Delivered.{with_stores}

@@ -1,5 +1,5 @@
 -- What the files that a command has stored promise to whoever runs them.
-use Rattle.std.specs.Prelude.{ℕ, List, [], ◌∷◌, Result}
+use Rattle.std.specs.Prelude.{ℕ, List, ◌∷◌, Result}
 use Rattle.std.specs.FinMap.{get}
 use Rattle.host_files.specs.HostState.{Files}
 use Rattle.scale_base.specs.declared.refusal.Refusal.{Refusal}

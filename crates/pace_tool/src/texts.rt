@@ -38,7 +38,7 @@ fn push_rewrite(text: &mut String, energy: Option<u128>) -> Result<(), AllocErro
 
 // The form of a switch.
 fn form_name(lowest: bool) -> &'static str
-    ensures { string_bytes result.now ≡ form_name lowest }
+    ensures { result.now ≡ form_name lowest }
 {
     if lowest { "lowest " } else { "switch " }
 }

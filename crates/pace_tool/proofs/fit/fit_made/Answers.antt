@@ -2,7 +2,6 @@ use Rattle.std.proofs.Common.{◌≡◌, ◌≤◌, length, ℕ, List, subst, sy
 use Rattle.std.specs.Prelude.{Vec}
 use Rattle.std.specs.declared.alloc.Global.{Global}
 use Rattle.std.specs.List.{All}
-use Rattle.host_runs.specs.Views.{files_view}
 use Rattle.pace_tool.specs.Views.{texts}
 use Rattle.pace_tool.proofs.GivenInputs.{as_many, three_first}
 use Rattle.pace_tool.proofs.fit.fit_made.Goals as goal

@@ -1,3 +1,4 @@
+use Rattle.std.proofs.Common.{subst, sym}
 use Rattle.std.specs.Prelude.{◌≤◌, IfOk, Result, Ok, Err, List, ℕ, length}
 use Rattle.scale_base.specs.declared.refusal.NoMemory.{NoMemory}
 use Rattle.pace_fit.specs.declared.candidates.Proposal.{Proposal}
@@ -17,4 +18,5 @@ of_some i m l out inputs proposals (Err no_memory) few tells = tt
 
 pub returns : goal.returns
 returns c =
-    of_some c.args.files.now.image.now c.args.files.now.machine.now c.args.files.now.loops.now c.args.out.now (files_view c.args.inputs.now.items.now) _ c.chosen_of.result c.in_ok-proposals.ensures c.chosen_of.ensures
+    of_some c.args.files.now.image.now c.args.files.now.machine.now c.args.files.now.loops.now c.args.out.now (files_view c.args.inputs.now.items.now) _ c.chosen_of.result
+    (subst (λ (proposals : List Proposal). length proposals ≤ 64) (sym c.deref.ensures.value) c.in_ok-proposals.ensures) c.chosen_of.ensures

@@ -1,4 +1,4 @@
-use Rattle.std.proofs.Common.{List, ℕ, ◌++◌, ap, take_all, sym, ◌∙◌, string_bytes}
+use Rattle.std.proofs.Common.{List, ◌++◌, ap, take_all, sym, ◌∙◌, string_bytes}
 use Rattle.std.proofs.lemmas.List.{append-nil}
 use Rattle.paced_images.specs.declared.wanted.SwitchSite.{SwitchSite}
 use Rattle.pace_tool.specs.Texts.{switch_lines}
