@@ -138,7 +138,10 @@ fn a_switch_is_proposed_on_the_way_over_the_divisions(rt: HostRuntime) -> Result
     let proposals = propose(alloc, &image, machine.as_bytes(), loops, &inputs, &[true])?;
     let first = proposals.first().ok_or("proposals")?;
     let site = first.sites.first().ok_or("switches")?;
-    assert_eq!(rt; (site.at, site.kind, site.lowest), (0x10000, EdgeKind::Taken, true));
+    assert_eq!(rt;
+        (site.at, site.kind, site.lowest),
+        (0x10000, EdgeKind::Taken, true)
+    );
     assert_eq!(rt; (first.sites.len(), first.tallied.len()), (1, 0));
     Ok(())
 }
