@@ -72,20 +72,33 @@ class Program:
         return number(run(self.tools.scale, "hold", *self.files(), self.path("held"))[1], "worst cycles")
 
 
-def broken(program, deadline, added, k):
+def breaches(summary, deadline, original, paced):
+    """What the run of an image breaks of which this summary was printed, by the original's on the same input: of each the status, the report and the output."""
+    (status, text, output), (paced_status, report, paced_output) = original, paced
+    told = {
+        "another ending": paced_status != status or re.findall(r"^end .*", report, re.M) != re.findall(r"^end .*", text, re.M),
+        "another output": paced_output != output,
+        "too late": number(report, "time") > deadline,
+        "a higher level": number(report, "level") > number(summary, "start level"),
+        "more than its held energy": number(report, "energy") > number(report, "held"),
+        "too many cycles": number(report, "cycles") > number(text, "cycles") + number(summary, "stub cycles at most"),
+    }
+    return [what for what, is_so in told.items() if is_so]
+
+
+def counts(original):
+    """Whether the run of the original exits and keeps the loop file."""
+    status, text, _ = original
+    return status == 0 and "kept yes" in text
+
+
+def broken(program, deadline, summary, k):
     """What the run of the fitted image on an input breaks, and the energies of that run and of the held one's, where the input counts."""
-    status, text, output = program.simulate("p.elf", k, program.path("p.loops"))
-    if status or "kept yes" not in text:
+    original = program.simulate("p.elf", k, program.path("p.loops"))
+    if not counts(original):
         return [], None
     paced, held = program.simulate("fitted", k), program.simulate("held", k)
-    told = {
-        "another ending": paced[0] != status or re.findall(r"^end .*", paced[1], re.M) != re.findall(r"^end .*", text, re.M),
-        "another output": paced[2] != output,
-        "too late": number(paced[1], "time") > deadline,
-        "more than its held energy": number(paced[1], "energy") > number(paced[1], "held"),
-        "too many cycles": number(paced[1], "cycles") > number(text, "cycles") + added,
-    }
-    return [what for what, is_so in told.items() if is_so], (number(paced[1], "energy"), number(held[1], "energy"))
+    return breaches(summary, deadline, original, paced), (number(paced[1], "energy"), number(held[1], "energy"))
 
 
 def fit(program, factor, worst, inputs=FITTED):
@@ -96,8 +109,7 @@ def fit(program, factor, worst, inputs=FITTED):
     status, text = run(program.tools.pace, "fit", *program.files(), program.path("fitted"), *(program.path(f"input{k}") for k in inputs))
     if status:
         return [f"status {status}"], None, [], 0
-    added = number(text, "stub cycles at most")
-    found = {k: broken(program, deadline, added, k) for k in FITTED + NEW}
+    found = {k: broken(program, deadline, text, k) for k in FITTED + NEW}
     faults = [f"input {k}: {what}" for k in found for what in found[k][0]]
     fitted = [found[k][1] for k in FITTED if found[k][1]]
     if inputs and fitted and sum(one for one, _ in fitted) > sum(other for _, other in fitted):

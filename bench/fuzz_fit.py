@@ -18,7 +18,7 @@ import sys
 import tempfile
 from concurrent.futures import ProcessPoolExecutor
 
-from fit import run, number
+from fit import breaches, counts, number, run
 from runs import TOP
 
 IMAGES_A_PROGRAM, INPUTS = 8, 4
@@ -37,23 +37,6 @@ def simulated(tools, folder, image, k, *loops):
     status, text = run(tools.scale, "simulate", f"{folder}/{image}", f"{folder}/m", f"{folder}/input{k}", f"{folder}/out", *loops)
     with open(f"{folder}/out", "rb") as file:
         return status, text, file.read()
-
-
-def broken(tools, folder, deadline, summary, k, original):
-    """What the run of the fitted image on an input breaks."""
-    status, text, output = original
-    if status or "kept yes" not in text:
-        return []
-    found = simulated(tools, folder, "fitted", k)
-    told = {
-        "another ending": found[0] != status or re.findall(r"^end .*", found[1], re.M) != re.findall(r"^end .*", text, re.M),
-        "another output": found[2] != output,
-        "too late": number(found[1], "time") > deadline,
-        "a higher level": number(found[1], "level") > number(summary, "start level"),
-        "more than its held energy": number(found[1], "energy") > number(found[1], "held"),
-        "too many cycles": number(found[1], "cycles") > number(text, "cycles") + number(summary, "stub cycles at most"),
-    }
-    return [what for what, is_so in told.items() if is_so]
 
 
 def program_faults(tools, which):
@@ -85,7 +68,8 @@ def program_faults(tools, which):
             images += 1
             switched += "no switches" not in summary
             for k, original in enumerate(originals):
-                faults += [f"program {which}, deadline {deadline}, input {k}: {what}" for what in broken(tools, folder, deadline, summary, k, original)]
+                told = breaches(summary, deadline, original, simulated(tools, folder, "fitted", k)) if counts(original) else []
+                faults += [f"program {which}, deadline {deadline}, input {k}: {what}" for what in told]
     return images, switched, faults
 
 
