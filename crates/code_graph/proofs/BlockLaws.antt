@@ -7,10 +7,10 @@ use Rattle.std.proofs.lemmas.Option.{slice_get_within, slice_get-get_or, get_or_
 use Rattle.scale_base.specs.declared.ranges.Range.{Range}
 use Rattle.cost_theory.specs.Accepted.{IsNode}
 use Rattle.cost_theory.proofs.Laws.{some_get}
-use Rattle.code_graph.specs.FlowGraph.{FlowGraph, graph}
-use Rattle.code_graph.specs.Blocks.{IsJoined, IsInBlock, IsBlock, AreBlocks}
+use Rattle.flow_graph.specs.FlowGraph.{FlowGraph, graph}
+use Rattle.flow_graph.specs.Blocks.{IsJoined, IsInBlock, IsBlock, AreBlocks}
 use Rattle.code_graph.specs.Assembling.{AreHeads, AreUp, AreStretches, AreBlocksBy, stretch}
-use Rattle.code_graph.proofs.Lists.{Once, ascending_once, less_same_more}
+use Rattle.flow_graph.proofs.Laws.{Once, ascending_once, less_same_more}
 use Rattle.code_graph.proofs.HeadLaws.{AreGraphLists, IsFollowed, followed, unjoined, is_head}
 
 -- ---- ascending numbers that stand at the flags that are up

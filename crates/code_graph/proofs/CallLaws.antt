@@ -7,7 +7,8 @@ use Rattle.cost_theory.proofs.Laws.{below_suc}
 use Rattle.graph_algorithms.specs.declared.orders.Arc.{Arc}
 use Rattle.graph_algorithms.specs.Arcs.{HasArc, arc_at, AreNumbered, IsCycle}
 use Rattle.code_graph.specs.Assembling.{HasCall, AreCallArcs, AreCallsWithin}
-use Rattle.code_graph.proofs.Lists.{get_left, get_end, get_pushed, some_is}
+use Rattle.code_graph.proofs.Lists.{get_left, get_end, get_pushed}
+use Rattle.flow_graph.proofs.Laws.{some_is}
 
 -- the arc at a place
 arc_of : (arcs : List Arc) (s : ℕ) (a : Arc) → slice_get arcs s ≡ Some a → arc_at arcs s ≡ a

@@ -16,10 +16,10 @@ use Rattle.graph_algorithms.specs.Cycles.{IsCycleBy}
 use Rattle.graph_algorithms.proofs.Laws.{IsRound, cycle_turned}
 use Rattle.code_text.specs.Text.{Text, kind_at}
 use Rattle.code_graph.specs.Reach.{Reach}
-use Rattle.code_graph.specs.FlowGraph.{AreCalleesFirst}
-use Rattle.code_graph.specs.Refused.{Calls}
+use Rattle.flow_graph.specs.FlowGraph.{AreCalleesFirst}
+use Rattle.flow_graph.specs.Refused.{Calls}
 use Rattle.code_graph.specs.Assembling.{AreEdgesOf, HasCall, AreCallArcs, AreCallsWithin, IsTurned}
-use Rattle.code_graph.proofs.Lists.{some_is, less_same_more}
+use Rattle.flow_graph.proofs.Laws.{some_is, less_same_more}
 use Rattle.code_graph.proofs.Parts.{AreParts, number_reached, node_kind, node_owner, callee_entry, entries_once, is_code}
 
 -- distinct numbers stand at one place each

@@ -8,14 +8,12 @@ use Rattle.scale_base.specs.declared.instruction.Instr.{Instr}
 use Rattle.scale_base.specs.declared.instruction.Instr.TheVariants as instr
 use Rattle.scale_base.specs.declared.refusal.Refusal.TheVariants.{MisalignedTarget, OutsideText}
 use Rattle.cost_theory.specs.declared.flow.Flow.TheVariants as flow
+use Rattle.cost_theory.proofs.Laws.{and_both}
 use Rattle.code_text.specs.Text.{Text, text_of, is_text_address, instr_at, kind_at, word_kind, jal_kind, ecall_kind, known}
 use Rattle.scale_base.specs.Image.{Image, image_of, is_in, is_word_address, text_word}
 use Rattle.scale_base.specs.Reading.{instr_of}
-use Rattle.code_text.proofs.Laws.{kind_facts, instruction_stored}
-use Rattle.code_graph.specs.Refused.{cause_at, instr_cause}
-
-both : (a b : Bool) → a ≡ true → b ≡ true → (a && b) ≡ true
-both a b p q = grind arith
+use Rattle.flow_graph.specs.Refused.{cause_at, instr_cause}
+use Rattle.flow_graph.proofs.Laws.{cause_of_word, kind_of_word, instr_stored}
 
 below_two : (n : ℕ) → n < 2 → (n ≡ 0) ⊎ (n ≡ 1)
 below_two n lt = grind arith
@@ -26,17 +24,6 @@ jal_taken rd to small = ⊎_elim
     (λ (e : rd ≡ 0). subst (λ r. jal_kind r to ≢ flow.Refused) (sym e) (λ bad. let no_way : ⊥ = cc in no_way))
     (λ (e : rd ≡ 1). subst (λ r. jal_kind r to ≢ flow.Refused) (sym e) (λ bad. let no_way : ⊥ = cc in no_way))
     (below_two rd (ltb-true rd 2 small))
-
-jal_refused : (rd to : ℕ) → nat_lt rd 2 ≡ false → jal_kind rd to ≡ flow.Refused
-jal_refused rd to big =
-    let high = ltb-false rd 2 big in
-    let other : (rd == 0) ≡ false = go (rd == 0) refl (λ e. let r : rd ≡ 0 = eqb-true rd 0 e in let bad : ⊥ = omega arith in bad) in
-    let more : (rd == 1) ≡ false = go (rd == 1) refl (λ e. let r : rd ≡ 1 = eqb-true rd 1 e in let bad : ⊥ = omega arith in bad) in
-    rw (other, more) refl
-  where
-    go : (b : Bool) → b ≡ b → (b ≡ true → ⊥) → b ≡ false
-    go true e none = absurd (none refl)
-    go false e none = refl
 
 -- where the word is refused its instruction has a cause, and else none
 pub bad_cause : (t : Text) (v : ℕ) (o : Option Instr) → word_kind t v o ≡ flow.Refused → instr_cause v o ≢ None
@@ -63,20 +50,6 @@ bad_cause t v (Some instr.Ecall) bad none = ecall (known t v) bad
         go false is = let on = sym (cond-false _ _ _ is) ∙ e in let no_way : ⊥ = cc in no_way
 bad_cause t v (Some i) bad none = let no_way : ⊥ = cc in no_way
 
-pub no_cause : (t : Text) (v : ℕ) (o : Option Instr) → word_kind t v o ≢ flow.Refused → instr_cause v o ≡ None
-no_cause t v None fine = absurd (fine refl)
-no_cause t v (Some (instr.Jal rd offset)) fine = go (nat_lt rd 2) refl
-  where
-    go : (b : Bool) → nat_lt rd 2 ≡ b → instr_cause v (Some (instr.Jal rd offset)) ≡ None
-    go true e = cond-true _ _ _ e
-    go false e = absurd (fine (jal_refused rd _ e))
-no_cause t v (Some (instr.Jalr rd rs1 offset)) fine = go ((rd == 0) && (rs1 == 1) && int_eq offset (pos 0)) refl
-  where
-    go : (b : Bool) → ((rd == 0) && (rs1 == 1) && int_eq offset (pos 0)) ≡ b → instr_cause v (Some (instr.Jalr rd rs1 offset)) ≡ None
-    go true e = cond-true _ _ _ e
-    go false e = absurd (fine (cond-false _ _ _ e))
-no_cause t v (Some i) fine = refl
-
 pub cause_misaligned : (t : Text) (v : ℕ) → v % 4 ≢ 0 → cause_at t v ≡ Some (MisalignedTarget v)
 unfolding cause_at
 cause_misaligned t v off = cond-true _ _ _ (ap not (ne_eqb (v % 4) 0 off))
@@ -84,20 +57,6 @@ cause_misaligned t v off = cond-true _ _ _ (ap not (ne_eqb (v % 4) 0 off))
 pub cause_outside : (t : Text) (v : ℕ) → v % 4 ≡ 0 → is_text_address t v ≡ false → cause_at t v ≡ Some (OutsideText v)
 unfolding cause_at
 cause_outside t v four out = cond-false _ _ _ (ap not (eq-eqb (v % 4) 0 four)) ∙ cond-true _ _ _ (ap not out)
-
-pub cause_of_word : (t : Text) (v : ℕ) → v % 4 ≡ 0 → is_text_address t v ≡ true → cause_at t v ≡ instr_cause v (instr_at t v)
-unfolding cause_at
-cause_of_word t v four here = cond-false _ _ _ (ap not (eq-eqb (v % 4) 0 four)) ∙ cond-false _ _ _ (ap not here)
-
-pub kind_of_word : (t : Text) (v : ℕ) → v % 4 ≡ 0 → is_text_address t v ≡ true → kind_at t v ≡ word_kind t v (instr_at t v)
-unfolding kind_at
-kind_of_word t v four here = cond-true _ _ _ (both (v % 4 == 0) (is_text_address t v) (eq-eqb (v % 4) 0 four) here)
-
--- what isn't refused has no cause
-pub fine_cause : (t : Text) (v : ℕ) → kind_at t v ≢ flow.Refused → cause_at t v ≡ None
-fine_cause t v fine =
-    let is = kind_facts t v fine in
-    cause_of_word t v is.0 is.1 ∙ no_cause t v (instr_at t v) (λ bad. fine (kind_of_word t v is.0 is.1 ∙ bad))
 
 -- ---- of an image
 
@@ -109,9 +68,6 @@ stored_in image at w stored = go (is_word_address image at) refl
     go : (b : Bool) → is_word_address image at ≡ b → (at % 4 ≡ 0) × (is_text_address (text_of image) at ≡ true)
     go true e = let p = and_parts (at % 4 == 0) (list_any (is_in at) image.text) e in (eqb-true (at % 4) 0 p.0, p.1)
     go false e = let none = sym (cond-false (is_word_address image at) _ _ e) ∙ stored in let bad : ⊥ = cc in absurd bad
-
-pub instr_stored : (image : Image) (at w : ℕ) (o : Option Instr) → image_of image.file ≡ Ok image → text_word image at ≡ Some w → o ≡ instr_of w → instr_at (text_of image) at ≡ o
-instr_stored image at w o whole stored read = instruction_stored image.file image at w whole stored ∙ sym read
 
 pub cause_stored : (image : Image) (at w : ℕ) (o : Option Instr) → image_of image.file ≡ Ok image → text_word image at ≡ Some w → o ≡ instr_of w → cause_at (text_of image) at ≡ instr_cause at o
 cause_stored image at w o whole stored read =
@@ -127,5 +83,5 @@ pub cause_none_stored : (image : Image) (at : ℕ) → at % 4 ≡ 0 → is_word_
 cause_none_stored image at four none = cause_outside (text_of image) at four (go (is_text_address (text_of image) at) refl)
   where
     go : (b : Bool) → is_text_address (text_of image) at ≡ b → b ≡ false
-    go true e = let word : is_word_address image at ≡ true = both (at % 4 == 0) (list_any (is_in at) image.text) (eq-eqb (at % 4) 0 four) e in let bad : ⊥ = cc in absurd bad
+    go true e = let word : is_word_address image at ≡ true = and_both (at % 4 == 0) (list_any (is_in at) image.text) (eq-eqb (at % 4) 0 four) e in let bad : ⊥ = cc in absurd bad
     go false e = refl

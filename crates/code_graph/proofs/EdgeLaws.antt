@@ -14,7 +14,7 @@ use Rattle.cost_theory.specs.declared.flow.Flow.TheVariants as flow
 use Rattle.cost_theory.specs.Reached.{edge_at, edges_of}
 use Rattle.cost_theory.proofs.Laws.{below_suc, some_get, Within, edges-at}
 use Rattle.code_graph.specs.Assembling.{flag_at, AreEdgesOf}
-use Rattle.code_graph.specs.Stored.{AreFirsts}
+use Rattle.flow_graph.specs.Stored.{AreFirsts}
 use Rattle.code_graph.proofs.Lists.{get_left, get_end, get_more, length_pushed}
 
 pub few_edges : (w : Flow) (v : ℕ) (b : Bool) → length (edges_of w v b) ≤ 2

@@ -1,4 +1,4 @@
--- How many words a text has at most, and numbers that come once below a bound.
+-- How many words a text has at most.
 use Rattle.std.proofs.Common.{◌≡◌, ℕ, zero, suc, ◌+◌, ◌-◌, ◌*◌, ◌/◌, ◌<◌, ◌≤◌, Bool, true, false, cond, ◌&&◌, List, [], ◌∷◌, map, length, length-append, nat_eq, Ok, Some, refl, sym, ap, ◌∙◌, subst, arith, eqb-true}
 use Rattle.std.specs.Prelude.{nat_lt, nat_le, slice_get}
 use Rattle.std.specs.List.{list_all, sum_by, fold, range_with_len, AllByRecursion, IsDistinct}
@@ -16,29 +16,7 @@ use Rattle.scale_base.specs.Image.{Image, image_of, contents, text_ranges, text_
 use Rattle.scale_base.proofs.Laws.{rule_kept, kept-split, rules_kept, contents-are, rules_of, whole_kept}
 use Rattle.cost_theory.proofs.Laws.{within_get}
 use Rattle.code_text.specs.Table.{word_addresses, all_addresses}
-use Rattle.code_graph.proofs.Places.{any_within}
-use Rattle.code_graph.proofs.Lists.{Once, once_tail, once_head}
-
--- ---- numbers that come once
-
-distinct : (xs : List ℕ) → Once xs → IsDistinct nat_eq xs
-unfolding IsDistinct
-distinct [] once = tt
-distinct (x ∷ xs) once = (others xs (λ k a at. once_head x xs once k a at), distinct xs (once_tail x xs once))
-  where
-    others : (ys : List ℕ) → ((k a : ℕ) → slice_get ys k ≡ Some a → nat_eq x a ≡ false) → AllByRecursion (λ y. nat_eq x y ≡ false) ys
-    others [] h = tt
-    others (y ∷ ys) h = (h 0 y refl, others ys (λ k a at. h (suc k) a at))
-
-pub few_once : (xs : List ℕ) (n : ℕ) → Once xs → ((k a : ℕ) → slice_get xs k ≡ Some a → a < n) → length xs ≤ n
-few_once xs n once low = length-le_from_distinct_below xs n (distinct xs once) (λ q h.
-    let w = any_within (nat_eq q) xs h in
-    let at = within_get xs w.0 w.1 in
-    let same : q ≡ w.0 = eqb-true q w.0 w.2 in
-    let lt = low at.0 w.0 at.1 in
-    omega arith)
-
--- ---- the words of a text
+use Rattle.flow_graph.proofs.Laws.{any_within, Once, once_tail, once_head}
 
 range_size : (m n : ℕ) → length (range_with_len m n) ≡ n
 range_size m zero = refl

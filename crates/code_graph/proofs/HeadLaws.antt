@@ -10,12 +10,11 @@ use Rattle.cost_theory.specs.Graph.{Graph, IsWalk, end_of}
 use Rattle.cost_theory.specs.Accepted.{IsNode}
 use Rattle.cost_theory.specs.Reached.{edge_at, edge_to, number_or_0, place_after}
 use Rattle.cost_theory.proofs.Laws.{some_get}
-use Rattle.code_graph.specs.FlowGraph.{FlowGraph, graph, IsFlowGraph}
-use Rattle.code_graph.specs.Stored.{AreFirsts}
-use Rattle.code_graph.specs.Blocks.{IsJoined}
-use Rattle.code_graph.specs.Ends.{AreEnds}
-use Rattle.code_graph.specs.Assembling.{AreHeads, IsOnlyNext, IsEntryNode, LeadsApart}
-use Rattle.code_graph.proofs.Lists.{Once, some_is, ascending_once, less_same_more, number_beside-get}
+use Rattle.flow_graph.specs.FlowGraph.{FlowGraph, graph, IsFlowGraph}
+use Rattle.flow_graph.specs.Stored.{AreFirsts}
+use Rattle.flow_graph.specs.Blocks.{IsJoined}
+use Rattle.code_graph.specs.Assembling.{AreEnds, AreHeads, IsOnlyNext, IsEntryNode, LeadsApart}
+use Rattle.flow_graph.proofs.Laws.{Once, some_is, ascending_once, less_same_more, number_beside-get}
 
 -- what is so of a graph's lists
 pub record AreGraphLists (v : FlowGraph) (firsts sources : List ℕ) (targets : List (Option ℕ)) : Type 0 where

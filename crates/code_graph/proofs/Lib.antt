@@ -10,7 +10,6 @@ pub mod ChainLaws
 pub mod LinkLaws
 pub mod MarkLaws
 pub mod Lists
-pub mod Graphs
 pub mod StepLaws
 pub mod HeadLaws
 pub mod BlockLaws
@@ -23,5 +22,3 @@ pub mod Parts
 pub mod Calls
 pub mod FewWords
 pub mod Whole
-pub mod WeightLists
-pub mod Laws

@@ -15,7 +15,8 @@ use Rattle.code_text.specs.Walk.{RiseStrictly}
 use Rattle.code_graph.specs.Reach.{Reach, WordStandsAt}
 use Rattle.code_graph.specs.Finding.{IsReachIn}
 use Rattle.code_graph.specs.Assembling.{AreReachedNodes, owner_number, number_by, entry_addresses}
-use Rattle.code_graph.proofs.Lists.{Once, some_is, ascending_once, later_more, get_left, get_end, get_pushed, length_pushed}
+use Rattle.flow_graph.proofs.Laws.{Once, some_is, ascending_once}
+use Rattle.code_graph.proofs.Lists.{later_more, get_left, get_end, get_pushed, length_pushed}
 
 -- ---- nodes, a word further
 

@@ -17,18 +17,11 @@ use Rattle.code_text.specs.Text.{Text, kind_at}
 use Rattle.code_graph.specs.Reach.{Reach, WordStandsAt}
 use Rattle.code_graph.specs.Finding.{IsReachIn}
 use Rattle.code_graph.specs.Assembling.{AreReachedNodes, IsNodeWord, AreEdgesOf, owner_number, number_by, entry_addresses, flag_of, flag_at}
-use Rattle.code_graph.proofs.Lists.{Once, some_is, ascending_once, number_beside-get, flag_beside-get, flag_beside-place}
-use Rattle.code_graph.proofs.Reaching.{entry_reached, mark_of, word_place, owned}
+use Rattle.flow_graph.proofs.Laws.{Once, some_is, ascending_once, number_beside-get, entry_reached}
+use Rattle.code_graph.proofs.Lists.{flag_beside-get, flag_beside-place}
+use Rattle.code_graph.proofs.Reaching.{mark_of, word_place, owned}
 use Rattle.code_graph.proofs.NodeLaws.{entry_is, entry_word, once_entries, number_found}
 use Rattle.code_graph.proofs.EdgeLaws.{edges_whole}
-
--- a list beside another, whose entries are its image
-pub map_is : {X Y : Type 0} (f : X → Y) (xs : List X) (ys : List Y) → length ys ≡ length xs → ((j : ℕ) (x : X) → slice_get xs j ≡ Some x → slice_get ys j ≡ Some (f x)) → ys ≡ map f xs
-map_is f [] [] size same = refl
-map_is f [] (y ∷ ys) size same = let bad : ⊥ = omega arith in absurd bad
-map_is f (x ∷ xs) [] size same = let bad : ⊥ = omega arith in absurd bad
-map_is f (x ∷ xs) (y ∷ ys) size same =
-    ap (λ z. z ∷ ys) (some_is y (f x) (same 0 x refl)) ∙ ap (λ zs. f x ∷ zs) (map_is f xs ys (let e : suc (length ys) ≡ suc (length xs) = size in omega arith) (λ j z at. same (suc j) z at))
 
 -- what the lists are made of
 pub record AreParts (t : Text) (r : Reach) (nodes : List ℕ) (kinds : List Flow) (owners entries : List ℕ) (returning : List Bool) (callees : List (Option ℕ)) : Type 0 where

@@ -14,13 +14,6 @@ pub all_within : {X : Type 0} (P : X → Type 0) (xs : List X) (x : X) → All P
 all_within P [] x all at = absurd at
 all_within P (y ∷ ys) x all at = ⊎_elim (λ e. subst P e (All-head P y ys all)) (λ w. all_within P ys x (All-tail P y ys all) w) at
 
--- one that passes a test
-pub any_within : {X : Type 0} (p : X → Bool) (xs : List X) → list_any p xs ≡ true → (x : X) × Within x xs × (p x ≡ true)
-any_within p [] h = let bad : ⊥ = cc in absurd bad
-any_within p (y ∷ ys) h = ⊎_elim
-    (λ here. (y, inl refl, here))
-    (λ there. let r : (x : _) × Within x ys × (p x ≡ true) = any_within p ys there in (r.0, inr r.1, r.2)) (or_cases (p y) (list_any p ys) h)
-
 pub map_within : {X Y : Type 0} (f : X → Y) (xs : List X) (x : X) → Within x xs → Within (f x) (map f xs)
 map_within f [] x at = absurd at
 map_within f (y ∷ ys) x at = ⊎_elim (λ e. inl (ap f e)) (λ w. inr (map_within f ys x w)) at

@@ -15,7 +15,8 @@ use Rattle.code_graph.specs.declared.reach.marks.Mark.TheVariants.{Unreached, Ow
 use Rattle.code_graph.specs.Flow.{step_at, flag, CanReturnAt}
 use Rattle.code_graph.specs.Marks.{jumped_word, called_word, goes_on_after, ReachedAt}
 use Rattle.code_graph.specs.Marks.ReachedAt.{enters, jumps, goes, calls as calls_at}
-use Rattle.code_graph.specs.Reach.{WordStandsAt, IsReached, IsShared, IsReachOf}
+use Rattle.code_graph.specs.Reach.{WordStandsAt, IsReachOf}
+use Rattle.flow_graph.specs.Refused.{IsReached, IsShared}
 use Rattle.code_graph.specs.Steps.{IsWordTableOf, IsWordNumber, AreSteps, ReachedFrom, AreReachMarks}
 use Rattle.code_graph.specs.Outside.{IsLowest, IsOutsideOf, has_mark, GoesOnTo, IsComeTo}
 use Rattle.code_graph.proofs.ReturnLaws.{returns_from, entry_from, returns_exactly}

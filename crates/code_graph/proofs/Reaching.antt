@@ -6,21 +6,15 @@ use Rattle.std.proofs.lemmas.Option.{slice_get_within}
 use Rattle.cost_theory.specs.declared.flow.Flow.{Flow}
 use Rattle.cost_theory.specs.declared.flow.Flow.TheVariants as flow
 use Rattle.cost_theory.specs.Reached.{Reached, HasNoBadWord, HasNoSharedCode}
-use Rattle.cost_theory.specs.Reached.Reached.{main, onward, back, called}
 use Rattle.code_graph.specs.declared.reach.marks.Mark.{Mark}
 use Rattle.code_graph.specs.declared.reach.marks.Mark.TheVariants.{Unreached, Owner, Shared}
 use Rattle.code_text.specs.Text.{Text, kind_at}
-use Rattle.code_graph.specs.Reach.{Reach, IsReached, IsShared, WordStandsAt, IsReachOf}
+use Rattle.code_graph.specs.Reach.{Reach, WordStandsAt, IsReachOf}
+use Rattle.flow_graph.specs.Refused.{IsReached, IsShared}
 use Rattle.code_graph.specs.Steps.{IsWordTableOf}
 use Rattle.code_graph.specs.Finding.{IsFirstBelow, IsRefusedWord, IsLesser, IsLeastBad}
-use Rattle.code_graph.proofs.Lists.{some_is, place_or_none, beside, not_earlier}
-
--- a function's first word is reached in it
-pub entry_reached : {word : ℕ → Flow} {first f v : ℕ} → Reached word first f v → Reached word first f f
-entry_reached main = main
-entry_reached (onward u r leads) = entry_reached r
-entry_reached (back h r reached calls returns is_back) = entry_reached reached
-entry_reached (called h r calls) = called h r calls
+use Rattle.flow_graph.proofs.Laws.{some_is, place_or_none}
+use Rattle.code_graph.proofs.Lists.{beside, not_earlier}
 
 module _ (t : Text) (r : Reach) (is : IsReachOf t r) (table : IsWordTableOf (kind_at t) r.words) where
   pub mark_of : (k v : ℕ) → WordStandsAt r.words k v → (m : Mark) × (slice_get r.marks k ≡ Some m)

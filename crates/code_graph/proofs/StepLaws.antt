@@ -5,8 +5,7 @@ use Rattle.std.proofs.lemmas.Option.{slice_get_within, slice_get-get_or, get_or_
 use Rattle.scale_base.specs.declared.edges.Edge.{Edge}
 use Rattle.cost_theory.specs.Reached.{edge_at, edge_to}
 use Rattle.cost_theory.proofs.Laws.{below_suc}
-use Rattle.code_graph.specs.Ends.{AreEnds}
-use Rattle.code_graph.specs.Assembling.{AreHeads, AreUp, IsEntryNode, LeadsApart}
+use Rattle.code_graph.specs.Assembling.{AreEnds, AreHeads, AreUp, IsEntryNode, LeadsApart}
 use Rattle.code_graph.proofs.Lists.{get_left, get_end, get_pushed, length_pushed}
 
 -- ---- flags that are up

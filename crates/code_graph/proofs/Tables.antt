@@ -14,7 +14,8 @@ use Rattle.code_text.specs.Text.{Text, text_of, kind_at, is_text_address}
 use Rattle.code_text.specs.Table.{WordTable, word_addresses, all_addresses, word_table}
 use Rattle.code_text.specs.Walk.{RiseStrictly}
 use Rattle.code_graph.specs.Steps.{IsWordTableOf, IsWordNumber}
-use Rattle.code_graph.proofs.Places.{all_within, any_within, map_within, within_map, range_within, within_range, few_below}
+use Rattle.code_graph.proofs.Places.{all_within, map_within, within_map, range_within, within_range, few_below}
+use Rattle.flow_graph.proofs.Laws.{any_within}
 
 -- a word of a range
 word_in : (r : Range) (v : ℕ) → IsTextRange r → Within v (word_addresses r) → (v % 4 ≡ 0) × (v < 0xFF000000)

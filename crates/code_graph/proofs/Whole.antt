@@ -26,16 +26,15 @@ use Rattle.code_text.specs.EdgeCosts.{edge_class}
 use Rattle.code_text.specs.TextGraph.{text_graph}
 use Rattle.code_text.proofs.Laws.{kind_facts}
 use Rattle.code_graph.specs.Reach.{Reach}
-use Rattle.code_graph.specs.FlowGraph.{FlowGraph, word_beside, IsFlowGraph, IsGraphOf, AreCalleesFirst}
-use Rattle.code_graph.specs.Stored.{AreFirsts, IsStoredGraph}
-use Rattle.code_graph.specs.Assembling.{AreEdgesOf, AreCallArcs, AreBlocksBy, IsOrdered, entry_addresses}
-use Rattle.code_graph.specs.Ends.{AreEdgeEnds, AreEnds}
-use Rattle.code_graph.specs.Refused.{IsRefusedBy}
-use Rattle.code_graph.proofs.Lists.{some_is, word_beside-get, ascending_once, ascending_rise}
+use Rattle.flow_graph.specs.FlowGraph.{FlowGraph, word_beside, IsFlowGraph, IsGraphOf, AreCalleesFirst}
+use Rattle.flow_graph.specs.Stored.{AreFirsts, IsStoredGraph}
+use Rattle.code_graph.specs.Assembling.{AreEdgesOf, AreCallArcs, AreBlocksBy, IsOrdered, entry_addresses, AreEnds}
+use Rattle.flow_graph.specs.Ends.{AreEdgeEnds}
+use Rattle.flow_graph.specs.Refused.{IsRefusedBy}
+use Rattle.flow_graph.proofs.Laws.{some_is, word_beside-get, ascending_once, ascending_rise, few_once}
 use Rattle.code_graph.proofs.Parts.{AreParts, node_reached, number_reached, kinds_are, is_code, callee_entry, returning_size}
 use Rattle.code_graph.proofs.Calls.{program, callees_first, calls_within, named_cycle}
 use Rattle.code_graph.proofs.CallLaws.{arcs_numbered, cycle_numbered}
-use Rattle.code_graph.proofs.FewWords.{few_once}
 use Rattle.code_graph.proofs.EdgeLaws.{next_leads}
 use Rattle.code_graph.proofs.BlockLaws.{blocks_by}
 use Rattle.code_text.specs.Walk.{RiseStrictly}

@@ -4,7 +4,7 @@ use Rattle.std.specs.List.{flat_map}
 use Rattle.scale_base.specs.declared.edges.Edge.{Edge}
 use Rattle.scale_base.specs.declared.edges.EdgeKind.TheVariants.{Next}
 use Rattle.cost_theory.specs.declared.flow.Flow.{Flow}
-use Rattle.cost_theory.specs.Reached.{edges_of}
+use Rattle.cost_theory.specs.Reached.{edges_of, edge_at, edge_to}
 use Rattle.code_graph.specs.declared.reach.marks.Mark.{Mark}
 use Rattle.code_graph.specs.declared.reach.marks.Mark.TheVariants.{Unreached, Owner, Shared}
 use Rattle.graph_algorithms.specs.declared.orders.Arc.{Arc}
@@ -75,6 +75,16 @@ flag_at returning (Some f) = slice_index_or returning f false
 pub record AreEdgesOf (n : ℕ) (nodes : List ℕ) (kinds : List Flow) (callees : List (Option ℕ)) (returning : List Bool) (edges : List Edge) : Type 0 where
   pub edges_are : (word : ℕ → Flow) → kinds ≡ map word nodes → (callee : Flow → Option ℕ) → callees ≡ map callee kinds →
       edges ≡ flat_map (λ v. edges_of (word v) v (flag_at returning (callee (word v)))) (take n nodes)
+
+-- ---- ends
+
+-- By edge, of the first n: the number of the node where it starts, and that of the node to which it leads, if it leads to one.
+pub record AreEnds (n : ℕ) (nodes : List ℕ) (edges : List Edge) (sources : List ℕ) (targets : List (Option ℕ)) : Type 0 where
+  pub sources_size : length sources ≡ n
+  pub targets_size : length targets ≡ n
+  pub source : (e k : ℕ) → slice_get sources e ≡ Some k → slice_get nodes k ≡ Some (edge_at (slice_get edges e))
+  pub target : (e k : ℕ) → slice_get targets e ≡ Some (Some k) → (edge_to (slice_get edges e) ≡ slice_get nodes k) × (k < length nodes)
+  pub end : (e : ℕ) → slice_get targets e ≡ Some None → edge_to (slice_get edges e) ≡ None
 
 -- ---- calls
 

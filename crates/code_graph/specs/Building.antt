@@ -2,8 +2,8 @@
 use Rattle.std.specs.Prelude.{Result, Ok, Err}
 use Rattle.scale_base.specs.declared.refusal.Refusal.{Refusal}
 use Rattle.code_text.specs.Text.{Text}
-use Rattle.code_graph.specs.FlowGraph.{FlowGraph, IsGraphOf}
-use Rattle.code_graph.specs.Refused.{IsRefusedBy}
+use Rattle.flow_graph.specs.FlowGraph.{FlowGraph, IsGraphOf}
+use Rattle.flow_graph.specs.Refused.{IsRefusedBy}
 
 -- its graph, or why its code is refused
 abbrev pub IsBuilt : Text → Result FlowGraph Refusal → Type 0

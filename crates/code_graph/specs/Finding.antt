@@ -5,7 +5,8 @@ use Rattle.cost_theory.specs.Reached.{HasNoBadWord}
 use Rattle.code_graph.specs.declared.reach.marks.Mark.TheVariants.{Unreached}
 use Rattle.code_text.specs.Text.{Text, kind_at}
 use Rattle.code_graph.specs.declared.reach.TextReach.{TextReach}
-use Rattle.code_graph.specs.Reach.{Reach, IsReached, IsReachOf}
+use Rattle.flow_graph.specs.Refused.{IsReached}
+use Rattle.code_graph.specs.Reach.{Reach, IsReachOf}
 use Rattle.code_graph.specs.Steps.{IsWordTableOf}
 
 -- what a TextReach holds

@@ -3,11 +3,6 @@ pub mod Steps
 pub mod Outside
 pub mod Flow
 pub mod Marks
-pub mod FlowGraph
-pub mod Refused
 pub mod Building
-pub mod Stored
 pub mod Finding
 pub mod Assembling
-pub mod Blocks
-pub mod Ends

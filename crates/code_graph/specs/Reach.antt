@@ -1,19 +1,12 @@
--- Which addresses of a text are reached, and in which functions.
+-- What a pass over the words of a text finds: which of them are reached, and in which functions.
 -- A function is named by its entry. Words of the text are numbered by their addresses.
-use Rattle.std.specs.Prelude.{◌≡◌, ◌≢◌, ℕ, ◌≤◌, ◌↔◌, Bool, true, List, length, slice_get, Option, Some}
+use Rattle.std.specs.Prelude.{◌≡◌, ℕ, ◌≤◌, ◌↔◌, Bool, true, List, length, slice_get, Option, Some}
 use Rattle.cost_theory.specs.Reached.{Reached, DoesReturn}
 use Rattle.code_text.specs.Text.{Text, kind_at}
 use Rattle.code_text.specs.Table.{WordTable, word_table}
+use Rattle.flow_graph.specs.Refused.{IsReached, IsShared}
 use Rattle.code_graph.specs.declared.reach.marks.Mark.{Mark}
 use Rattle.code_graph.specs.declared.reach.marks.Mark.TheVariants.{Unreached, Owner, Shared}
-
--- an address is reached, in some function
-abbrev pub IsReached : Text → ℕ → Type 0
-IsReached t v = (f : ℕ) × Reached (kind_at t) t.entry f v
-
--- it is reached in two functions
-abbrev pub IsShared : Text → ℕ → Type 0
-IsShared t v = (f : ℕ) × (h : ℕ) × (f ≢ h) × Reached (kind_at t) t.entry f v × Reached (kind_at t) t.entry h v
 
 -- word k stands at an address
 abbrev pub WordStandsAt : WordTable → ℕ → ℕ → Type 0

@@ -1,13 +1,12 @@
 //! The basic blocks of a graph.
 
 ghost use Rattle.std.specs.Prelude.{◌≡◌, ◌↔◌, ◌⊎◌, ◌+◌, ◌-◌, ◌<◌, ◌≤◌, ◌^◌, ℕ, true, Some, length, slice_get, slice_index, IfOk};
-ghost use Rattle.code_graph.specs.Ends.{AreEnds};
-ghost use Rattle.code_graph.specs.Stored.{AreFirsts};
-ghost use Rattle.code_graph.specs.Assembling.{IsEntryNode, IsOnlyNext, LeadsApart, AreHeads, AreUp, AreStretches, AreBlocksBy};
+ghost use Rattle.flow_graph.specs.Stored.{AreFirsts};
+ghost use Rattle.code_graph.specs.Assembling.{AreEnds, IsEntryNode, IsOnlyNext, LeadsApart, AreHeads, AreUp, AreStretches, AreBlocksBy};
 
 use crate::edges::EdgeLists;
-use crate::ends::EdgeEnds;
 use crate::nodes::Nodes;
+use flow_graph::EdgeEnds;
 use scale_base::{Edge, EdgeKind, NoMemory, Range};
 use std::alloc::Global;
 

@@ -11,12 +11,12 @@ ghost use Rattle.code_graph.specs.Finding.{IsReachIn, reach_of};
 use crate::blocks::blocks_of;
 use crate::edges::{classes_of, edges_of};
 use crate::ends::ends_of;
-use crate::graph::CodeGraph;
 use crate::nodes::{callees_of, entries_of, nodes_of, returning_of};
 use crate::reach::{TextReach, reach_text};
 use crate::recursion::call_order_of;
 use crate::refusals::{first_shared, least_refused, refusal_at};
 use elf_view::ImageView;
+use flow_graph::{CodeGraph, GraphLists};
 use scale_base::{NoMemory, Refusal, Stop};
 use std::alloc::Global;
 
@@ -49,7 +49,7 @@ fn graph_of(alloc: Global, view: &ImageView<'_>, reach: &TextReach) -> Result<Co
     let classes = classes_of(alloc, view, &lists.edges)?;
     let ends = ends_of(alloc, &nodes.addresses, &lists.edges)?;
     let blocks = blocks_of(alloc, &nodes, &functions, &lists, &ends)?;
-    Ok(CodeGraph {
+    Ok(CodeGraph::of(GraphLists {
         nodes: nodes.addresses,
         kinds: nodes.kinds,
         owners: nodes.owners,
@@ -62,7 +62,7 @@ fn graph_of(alloc: Global, view: &ImageView<'_>, reach: &TextReach) -> Result<Co
         returning,
         order,
         blocks,
-    })
+    }))
 }
 
 /// The graph of the reached code of an image; or why it is refused. The least reached address decides that is misaligned, outside

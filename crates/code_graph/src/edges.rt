@@ -7,7 +7,7 @@ ghost use Rattle.code_text.specs.Text.{text_of};
 ghost use Rattle.code_text.specs.EdgeCosts as costs;
 ghost use Rattle.scale_base.specs.declared.edges.Edge.{Edge};
 ghost use Rattle.code_graph.specs.Assembling.{flag_at, listed, AreEdgesOf};
-ghost use Rattle.code_graph.specs.Stored.{AreFirsts};
+ghost use Rattle.flow_graph.specs.Stored.{AreFirsts};
 
 use cost_theory::Flow;
 use elf_view::ImageView;

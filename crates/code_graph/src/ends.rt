@@ -4,17 +4,11 @@ ghost use Rattle.std.specs.Prelude.{◌≡◌, ◌↔◌, ◌<◌, ℕ, Some, No
 ghost use Rattle.cost_theory.specs.Reached as reached;
 ghost use Rattle.scale_base.specs.declared.edges.Edge.{Edge};
 ghost use Rattle.code_text.specs.Walk.{RiseStrictly};
-ghost use Rattle.code_graph.specs.Ends.{AreEnds};
+ghost use Rattle.code_graph.specs.Assembling.{AreEnds};
 
+use flow_graph::{EdgeEnds, number_of};
 use scale_base::{Edge, EdgeKind, NoMemory};
 use std::alloc::Global;
-
-/// By edge, the number of the node where it starts, and that of the node to which it leads, which an `End` edge doesn't have.
-#[derive(Drop)]
-pub struct EdgeEnds {
-    pub sources: Vec<usize>,
-    pub targets: Vec<Option<usize>>,
-}
 
 /// The address to which an edge leads.
 fn place_after(edge: Edge) -> Option<u32>
@@ -23,29 +17,6 @@ fn place_after(edge: Edge) -> Option<u32>
     match edge.kind {
         EdgeKind::End => None,
         _ => Some(edge.to),
-    }
-}
-
-/// The number of the node at an address, by halving.
-fn search(nodes: &[u32], at: u32) -> Option<usize>
-    requires { RiseStrictly nodes.now }
-    ensures { (k : ℕ) → (result ≡ Some k) ↔ (slice_get nodes.now k ≡ Some at) }
-{
-    nodes.binary_search(&at).ok()
-}
-
-/// The number of the node at an address. None exactly where no node is there.
-pub fn number_of(nodes: &[u32], at: u32) -> Option<usize>
-    requires { RiseStrictly nodes.now }
-    ensures { (k : ℕ) → (result ≡ Some k) ↔ (slice_get nodes.now k ≡ Some at) }
-{
-    // Where each word of the text is reached, the nodes stand without gaps.
-    let first = nodes.first().copied().unwrap_or(0);
-    let place = (at.wrapping_sub(first) / 4) as usize;
-    if place < nodes.len() && nodes[place] == at {
-        Some(place)
-    } else {
-        search(nodes, at)
     }
 }
 

@@ -1,4 +1,4 @@
-//! The control-flow graph of a program's reached code: nodes by address, edges, functions, calls, basic blocks and the weights of edges.
+//! Builds the control-flow graph of a program's reached code, a `CodeGraph`; or why the code is refused.
 //! Tests: crates/graph_tests/src/graphs.rt.
 #![tactic(auto)]
 
@@ -6,13 +6,10 @@ mod blocks;
 mod build;
 mod edges;
 mod ends;
-mod graph;
 mod nodes;
 mod reach;
 mod recursion;
 mod refusals;
-mod weights;
 
 pub use build::build_graph;
-pub use graph::CodeGraph;
-pub use weights::Weights;
+pub use flow_graph::{CodeGraph, Weights};

@@ -6,7 +6,7 @@ ghost use Rattle.code_graph.specs.declared.reach.marks.Mark.TheVariants.{Unreach
 ghost use Rattle.scale_base.specs.Image.{image_of};
 ghost use Rattle.code_text.specs.Text as texts;
 ghost use Rattle.code_text.specs.Text.{text_of};
-ghost use Rattle.code_graph.specs.Refused.{cause_at, instr_cause};
+ghost use Rattle.flow_graph.specs.Refused.{cause_at, instr_cause};
 ghost use Rattle.code_graph.specs.Finding.{reach_of, IsReachIn, IsFirstBelow, IsRefusedWord, IsLesser, IsLeastBad};
 
 use crate::reach::{Mark, TextReach};

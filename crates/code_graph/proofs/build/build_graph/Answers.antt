@@ -5,7 +5,7 @@ use Rattle.cost_theory.specs.Reached.{HasNoBadWord}
 use Rattle.code_text.specs.Text.{text_of, kind_at}
 use Rattle.code_graph.specs.Finding.{reach_of, IsFirstBelow, IsLeastBad}
 use Rattle.code_graph.proofs.Lists.{none_is}
-use Rattle.code_graph.proofs.Causes.{fine_cause}
+use Rattle.flow_graph.proofs.Laws.{fine_cause}
 use Rattle.code_graph.proofs.Reaching.{first_is_least, none_shared}
 use Rattle.code_graph.proofs.build.build_graph.Goals as goal
 

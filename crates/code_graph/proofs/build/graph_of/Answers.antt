@@ -6,10 +6,9 @@ use Rattle.code_text.specs.EdgeCosts.{edge_class}
 use Rattle.scale_base.specs.Answer.{AnswersBy}
 use Rattle.code_graph.specs.Building.{IsBuilt}
 use Rattle.code_graph.specs.Finding.{reach_of}
-use Rattle.code_graph.specs.Stored.{AreFirsts}
-use Rattle.code_graph.specs.Ends.{AreEnds}
+use Rattle.flow_graph.specs.Stored.{AreFirsts}
+use Rattle.code_graph.specs.Assembling.{AreEnds, AreBlocksBy, AreEdgesOf, AreCallsWithin, IsOrdered, entry_addresses}
 use Rattle.code_text.specs.Walk.{RiseStrictly}
-use Rattle.code_graph.specs.Assembling.{AreBlocksBy, AreEdgesOf, AreCallsWithin, IsOrdered, entry_addresses}
 use Rattle.code_graph.proofs.Parts.{AreParts}
 use Rattle.code_graph.proofs.Calls.{calls_within}
 use Rattle.code_graph.proofs.Whole.{rising, source_is, target_is, owner_function, few_entries, low_nodes, edge_word, word_test, callee_within, refused_part, round_refused, stored_is, graph_is}

@@ -1,6 +1,6 @@
 use Rattle.std.proofs.Common.{ap, sym, ◌∙◌}
 use Rattle.code_text.specs.EdgeCosts.{class_by}
-use Rattle.code_graph.proofs.Causes.{instr_stored}
+use Rattle.flow_graph.proofs.Laws.{instr_stored}
 use Rattle.code_graph.proofs.edges.edge_class.Goals as goal
 
 pub returns-in-Some : goal.returns-in-Some

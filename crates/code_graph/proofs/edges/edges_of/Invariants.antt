@@ -1,6 +1,6 @@
 use Rattle.std.proofs.Common.{◌*◌, ◌≤◌, length}
 use Rattle.code_graph.specs.Assembling.{AreEdgesOf}
-use Rattle.code_graph.specs.Stored.{AreFirsts}
+use Rattle.flow_graph.specs.Stored.{AreFirsts}
 use Rattle.code_graph.proofs.edges.edges_of.Given as goal
 
 abbrev pub invariant-loop-k : goal.invariant-loop-k

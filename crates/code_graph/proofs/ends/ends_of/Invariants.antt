@@ -1,4 +1,4 @@
-use Rattle.code_graph.specs.Ends.{AreEnds}
+use Rattle.code_graph.specs.Assembling.{AreEnds}
 use Rattle.code_graph.proofs.ends.ends_of.Given as goal
 
 abbrev pub invariant-loop-edge : goal.invariant-loop-edge

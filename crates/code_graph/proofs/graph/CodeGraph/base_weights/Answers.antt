@@ -1,7 +1,0 @@
-use Rattle.std.proofs.Common.{rules}
-use Rattle.power_model.specs.Price.{cycles_of}
-use Rattle.code_graph.proofs.WeightLists.{weights_hold}
-use Rattle.code_graph.proofs.graph.CodeGraph.base_weights.Goals as goal
-
-pub returns-clause-calls : goal.returns-clause-calls
-returns-clause-calls c = λ t is. let hold = weights_hold t c.args.self.now (cycles_of c.args.costs.now) is in search rules

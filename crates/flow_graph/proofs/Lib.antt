@@ -1,0 +1,7 @@
+pub mod Lists
+pub mod FewOnce
+pub mod Entries
+pub mod Causes
+pub mod Graphs
+pub mod WeightLists
+pub mod Laws

@@ -1,0 +1,5 @@
+pub mod FlowGraph
+pub mod Refused
+pub mod Blocks
+pub mod Ends
+pub mod Stored
