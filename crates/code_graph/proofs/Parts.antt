@@ -17,7 +17,7 @@ use Rattle.code_text.specs.Text.{Text, kind_at}
 use Rattle.code_graph.specs.Reach.{Reach, WordStandsAt}
 use Rattle.code_graph.specs.Finding.{IsReachIn}
 use Rattle.code_graph.specs.Assembling.{AreReachedNodes, IsNodeWord, AreEdgesOf, owner_number, number_by, entry_addresses, flag_of, flag_at}
-use Rattle.flow_graph.proofs.Laws.{Once, some_is, ascending_once, number_beside-get, entry_reached}
+use Rattle.flow_graph.proofs.Laws.{Once, some_is, ascending_once, number_beside-get, entry_reached, map_is}
 use Rattle.code_graph.proofs.Lists.{flag_beside-get, flag_beside-place}
 use Rattle.code_graph.proofs.Reaching.{mark_of, word_place, owned}
 use Rattle.code_graph.proofs.NodeLaws.{entry_is, entry_word, once_entries, number_found}

@@ -1,16 +1,14 @@
 -- A word that is not refused has no cause.
-use Rattle.std.proofs.Common.{◌≡◌, ◌≢◌, ℕ, ◌<◌, ◌%◌, Bool, true, false, not, ◌&&◌, Option, Some, None, refl, sym, ap, ◌∙◌, subst, arith, ◌⊎◌, ⊎_elim, eq-eqb, eqb-true}
-use Rattle.std.specs.Prelude.{pos, ◌==◌, ◌||◌, nat_lt, Ok}
-use Rattle.std.specs.List.{list_any}
+use Rattle.std.proofs.Common.{◌≡◌, ◌≢◌, ℕ, ◌%◌, Bool, true, false, not, ◌&&◌, Option, Some, None, refl, sym, ap, ◌∙◌, arith, eq-eqb, eqb-true}
+use Rattle.std.specs.Prelude.{pos, ◌==◌, nat_lt, Ok}
 use Rattle.std.specs.Ordering.{int_eq}
-use Rattle.std.proofs.lemmas.Bool.{ltb-true, ltb-false, cond-true, cond-false, ne_eqb, and_parts}
+use Rattle.std.proofs.lemmas.Bool.{ltb-false, cond-true, cond-false}
 use Rattle.scale_base.specs.declared.instruction.Instr.{Instr}
 use Rattle.scale_base.specs.declared.instruction.Instr.TheVariants as instr
-use Rattle.scale_base.specs.declared.refusal.Refusal.TheVariants.{MisalignedTarget, OutsideText}
 use Rattle.cost_theory.specs.declared.flow.Flow.TheVariants as flow
 use Rattle.cost_theory.proofs.Laws.{and_both}
-use Rattle.code_text.specs.Text.{Text, text_of, is_text_address, instr_at, kind_at, word_kind, jal_kind, ecall_kind, known}
-use Rattle.scale_base.specs.Image.{Image, image_of, is_in, is_word_address, text_word}
+use Rattle.code_text.specs.Text.{Text, text_of, is_text_address, instr_at, kind_at, word_kind, jal_kind}
+use Rattle.scale_base.specs.Image.{Image, image_of, text_word}
 use Rattle.scale_base.specs.Reading.{instr_of}
 use Rattle.code_text.proofs.Laws.{kind_facts, instruction_stored}
 use Rattle.flow_graph.specs.Refused.{cause_at, instr_cause}

@@ -1,11 +1,11 @@
 -- Numbers that come once below a bound.
-use Rattle.std.proofs.Common.{◌≡◌, ℕ, ◌<◌, ◌≤◌, Bool, true, false, List, [], ◌∷◌, length, nat_eq, Some, inl, inr, refl, arith, ⊎_elim, eqb-true}
+use Rattle.std.proofs.Common.{◌≡◌, ℕ, suc, ◌<◌, ◌≤◌, Bool, true, false, List, [], ◌∷◌, length, nat_eq, Some, inl, inr, refl, arith, ⊎_elim, eqb-true}
 use Rattle.std.specs.Prelude.{slice_get}
 use Rattle.std.specs.List.{list_any, AllByRecursion, IsDistinct}
 use Rattle.std.proofs.lemmas.Bool.{or_cases}
 use Rattle.std.proofs.lemmas.Map.Steps.{length-le_from_distinct_below}
 use Rattle.cost_theory.proofs.Laws.{Within, within_get}
-use Rattle.flow_graph.proofs.Lists.{Once, once_tail, once_head}
+use Rattle.flow_graph.proofs.Beside.{Once, once_tail, once_head}
 
 -- one that passes a test
 pub any_within : {X : Type 0} (p : X → Bool) (xs : List X) → list_any p xs ≡ true → (x : X) × Within x xs × (p x ≡ true)

@@ -9,7 +9,7 @@ use Rattle.cost_theory.specs.Reached.{edge_at, edge_callee, callee_of, owner_of}
 use Rattle.cost_theory.proofs.Laws.{callee_word}
 use Rattle.flow_graph.specs.FlowGraph.{FlowGraph, graph, word_beside, IsFlowGraph}
 use Rattle.flow_graph.specs.Stored.{IsStoredGraph}
-use Rattle.flow_graph.proofs.Lists.{Once, ascending_once, some_is, word_beside-get, number_beside-get}
+use Rattle.flow_graph.proofs.Beside.{Once, ascending_once, some_is, word_beside-get, number_beside-get}
 
 pub once_nodes : (v : FlowGraph) → IsFlowGraph v → Once v.code.nodes
 once_nodes v is = ascending_once v.code.nodes is.ascending

@@ -1,4 +1,4 @@
-pub mod Lists
+pub mod Beside
 pub mod FewOnce
 pub mod Entries
 pub mod Causes

@@ -1,7 +1,5 @@
 -- The ends of a graph's edges by the numbers of nodes.
 use Rattle.std.specs.Prelude.{◌≡◌, ℕ, ◌<◌, List, length, slice_get, Option, Some, None}
-use Rattle.scale_base.specs.declared.edges.Edge.{Edge}
-use Rattle.cost_theory.specs.Reached.{edge_at, edge_to}
 use Rattle.flow_graph.specs.FlowGraph.{FlowGraph, graph}
 
 -- by edge: the number of the node where it starts, and that of the node to which it leads, if it leads to one

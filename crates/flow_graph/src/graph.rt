@@ -30,6 +30,7 @@ pub struct CodeGraph {
 
 impl Model for CodeGraph {
     ghost use Rattle.flow_graph.specs.FlowGraph.{FlowGraph};
+    ghost use Rattle.flow_graph.specs.Stored.{flow_of, IsStoredGraph};
 
     ghost Value = { FlowGraph };
 

@@ -6,6 +6,7 @@ use Rattle.code_text.specs.EdgeCosts.{edge_class}
 use Rattle.scale_base.specs.Answer.{AnswersBy}
 use Rattle.code_graph.specs.Building.{IsBuilt}
 use Rattle.code_graph.specs.Finding.{reach_of}
+use Rattle.flow_graph.specs.FlowGraph.{IsGraphOf}
 use Rattle.flow_graph.specs.Stored.{AreFirsts}
 use Rattle.code_graph.specs.Assembling.{AreEnds, AreBlocksBy, AreEdgesOf, AreCallsWithin, IsOrdered, entry_addresses}
 use Rattle.code_text.specs.Walk.{RiseStrictly}
@@ -168,8 +169,8 @@ blocks_of-requires-clause-ends c =
     subst (λ xs. AreEnds (length xs) c.in_ok-nodes.nodes.addresses.items xs c.in_ok-ends.ends.sources.items c.in_ok-ends.ends.targets.items) c.deref-11.ensures.value
     (subst (λ ns. AreEnds (length c.deref-11.result.now) ns c.deref-11.result.now c.in_ok-ends.ends.sources.items c.in_ok-ends.ends.targets.items) c.deref-10.ensures.value c.in_ok-ends.ensures)
 
-pub invariant_of-result : goal.invariant_of-result
-invariant_of-result c =
+pub of-requires : goal.of-requires
+of-requires c =
     let parts : AreParts (text_of c.args.view.now) (reach_of c.args.reach.now) c.in_ok-nodes.nodes.addresses.items c.in_ok-nodes.nodes.kinds.items c.in_ok-nodes.nodes.owners.items c.in_ok-functions.functions.items c.in_ok-returning.returning.items c.in_ok-callees.callees.items = record {
       reach = c.requires.reach;
       fine = c.requires.words;
@@ -210,7 +211,7 @@ returns c =
     let ordered : IsOrdered c.in_ok-functions.functions.items c.in_ok-nodes.nodes.owners.items c.in_ok-callees.callees.items (Ok c.in_ok-order.order.items) =
     subst (λ xs. IsOrdered xs c.in_ok-nodes.nodes.owners.items c.in_ok-callees.callees.items (Ok c.in_ok-order.order.items)) c.deref-2.ensures.value (subst (λ xs. IsOrdered c.deref-2.result.now xs c.in_ok-callees.callees.items (Ok c.in_ok-order.order.items)) c.deref-3.ensures.value (subst (λ xs. IsOrdered c.deref-2.result.now c.deref-3.result.now xs (Ok c.in_ok-order.order.items)) c.deref-4.ensures.value c.in_ok-order.ensures)) in
     let classes : c.in_ok-classes.classes.items ≡ map (λ e. edge_class (text_of c.args.view.now) (Some e)) c.in_ok-lists.lists.edges.items = c.in_ok-classes.ensures ∙ ap (map (λ e. edge_class (text_of c.args.view.now) (Some e))) c.deref-9.ensures.value in
-    graph_is (text_of c.args.view.now) (reach_of c.args.reach.now) c.in_ok-nodes.nodes.addresses.items c.in_ok-nodes.nodes.kinds.items c.in_ok-nodes.nodes.owners.items c.in_ok-functions.functions.items c.in_ok-returning.returning.items c.in_ok-callees.callees.items parts c.in_ok-lists.lists.edges.items edges_are c.in_ok-classes.classes.items c.in_ok-order.order.items c.in_ok-lists.lists.firsts.items c.in_ok-blocks.blocks.items ordered.0 ordered.1 ordered.2 ordered.3 classes
+    subst (IsGraphOf (text_of c.args.view.now)) (sym c.of.ensures) (graph_is (text_of c.args.view.now) (reach_of c.args.reach.now) c.in_ok-nodes.nodes.addresses.items c.in_ok-nodes.nodes.kinds.items c.in_ok-nodes.nodes.owners.items c.in_ok-functions.functions.items c.in_ok-returning.returning.items c.in_ok-callees.callees.items parts c.in_ok-lists.lists.edges.items edges_are c.in_ok-classes.classes.items c.in_ok-order.order.items c.in_ok-lists.lists.firsts.items c.in_ok-blocks.blocks.items ordered.0 ordered.1 ordered.2 ordered.3 classes)
 
 pub returns-in_err-order : goal.returns-in_err-order
 returns-in_err-order c =
