@@ -3,13 +3,13 @@ use Rattle.std.proofs.Common.{◌≡◌, ◌≢◌, ℕ, ◌<◌, ◌%◌, Bool,
 use Rattle.std.specs.Prelude.{pos, ◌==◌, ◌||◌, nat_lt, Ok}
 use Rattle.std.specs.List.{list_any}
 use Rattle.std.specs.Ordering.{int_eq}
-use Rattle.std.proofs.lemmas.Bool.{ltb-true, ltb-false, cond-true, cond-false, ne_eqb, and_parts}
+use Rattle.std.proofs.lemmas.Bool.{ltb-true, cond-true, cond-false, ne_eqb, and_parts}
 use Rattle.scale_base.specs.declared.instruction.Instr.{Instr}
 use Rattle.scale_base.specs.declared.instruction.Instr.TheVariants as instr
 use Rattle.scale_base.specs.declared.refusal.Refusal.TheVariants.{MisalignedTarget, OutsideText}
 use Rattle.cost_theory.specs.declared.flow.Flow.TheVariants as flow
 use Rattle.cost_theory.proofs.Laws.{and_both}
-use Rattle.code_text.specs.Text.{Text, text_of, is_text_address, instr_at, kind_at, word_kind, jal_kind, ecall_kind, known}
+use Rattle.code_text.specs.Text.{Text, text_of, is_text_address, kind_at, word_kind, jal_kind, ecall_kind, known}
 use Rattle.scale_base.specs.Image.{Image, image_of, is_in, is_word_address, text_word}
 use Rattle.scale_base.specs.Reading.{instr_of}
 use Rattle.flow_graph.specs.Refused.{cause_at, instr_cause}

@@ -1,11 +1,10 @@
 -- How many words a text has at most.
-use Rattle.std.proofs.Common.{◌≡◌, ℕ, zero, suc, ◌+◌, ◌-◌, ◌*◌, ◌/◌, ◌<◌, ◌≤◌, Bool, true, false, cond, ◌&&◌, List, [], ◌∷◌, map, length, length-append, nat_eq, Ok, Some, refl, sym, ap, ◌∙◌, subst, arith, eqb-true}
+use Rattle.std.proofs.Common.{◌≡◌, ℕ, zero, suc, ◌+◌, ◌-◌, ◌*◌, ◌/◌, ◌≤◌, Bool, true, false, cond, ◌&&◌, List, [], ◌∷◌, map, length, length-append, Ok, refl, sym, ap, ◌∙◌, subst, arith}
 use Rattle.std.specs.Prelude.{nat_lt, nat_le, slice_get}
-use Rattle.std.specs.List.{list_all, sum_by, fold, range_with_len, AllByRecursion, IsDistinct}
+use Rattle.std.specs.List.{list_all, sum_by, fold, range_with_len}
 use Rattle.std.proofs.lemmas.Bool.{and_parts, leb-true}
 use Rattle.std.proofs.lemmas.List.{length-map}
 use Rattle.std.proofs.lemmas.List.Sums.{sum_by-cons}
-use Rattle.std.proofs.lemmas.Map.Steps.{length-le_from_distinct_below}
 use Rattle.scale_base.specs.declared.ranges.Range.{Range}
 use Rattle.scale_base.specs.declared.ranges.TextPart.{TextPart}
 use Rattle.scale_base.specs.declared.headers.ProgramHeader.{ProgramHeader}
@@ -14,9 +13,7 @@ use Rattle.scale_base.specs.Rules.{AllHold}
 use Rattle.scale_base.specs.Spans.{each_pair}
 use Rattle.scale_base.specs.Image.{Image, image_of, contents, text_ranges, text_parts, loaded_headers, range_of, is_text_place, are_apart, keeps_text_rules, part_rules, text_start, text_rules, write_rules, all_text_rules, ranges_of, insert_range, ascending}
 use Rattle.scale_base.proofs.Laws.{rule_kept, kept-split, rules_kept, contents-are, rules_of, whole_kept}
-use Rattle.cost_theory.proofs.Laws.{within_get}
 use Rattle.code_text.specs.Table.{word_addresses, all_addresses}
-use Rattle.flow_graph.proofs.Laws.{any_within, Once, once_tail, once_head}
 
 range_size : (m n : ℕ) → length (range_with_len m n) ≡ n
 range_size m zero = refl
