@@ -8,6 +8,5 @@ mod symbols;
 mod view;
 
 pub use fields::{half, word};
-pub use scale_base::Keyed;
 pub use symbols::SymbolTable;
 pub use view::{ImageView, Segment};
