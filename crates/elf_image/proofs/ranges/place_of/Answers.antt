@@ -4,14 +4,8 @@ use Rattle.std.proofs.lemmas.List.Sorted.{IsPartitionPoint-from_clause, IsPartit
 use Rattle.elf_image.proofs.Places.{rise}
 use Rattle.elf_image.proofs.ranges.place_of.Goals as goal
 
-pub returns-clause-below : goal.returns-clause-below
-returns-clause-below c =
+pub returns : goal.returns
+returns c =
     let parted = IsPartitionedBy-leb (λ r. r.from) _ c.args.at (rise 0 c.args.ranges.now c.requires) in
     let point = IsPartitionPoint-from_clause (λ r. leb r.from c.args.at) _ _ c.partition_point.ensures.partitioned parted (λ a r q k. search rules) in
-    λ k d lt. leb-true _ _ (point.0 k d (omega arith) lt)
-
-pub returns-clause-above : goal.returns-clause-above
-returns-clause-above c =
-    let parted = IsPartitionedBy-leb (λ r. r.from) _ c.args.at (rise 0 c.args.ranges.now c.requires) in
-    let point = IsPartitionPoint-from_clause (λ r. leb r.from c.args.at) _ _ c.partition_point.ensures.partitioned parted (λ a r q k. search rules) in
-    λ k d le lt. leb-false _ _ (point.1 k d le lt)
+    record { bound = c.partition_point.ensures.bound; below = λ k d lt. leb-true _ _ (point.0 k d (omega (arith, c.partition_point.ensures.bound)) lt); above = λ k d le lt. leb-false _ _ (point.1 k d le lt) }
