@@ -1,4 +1,3 @@
-pub mod Booleans
 pub mod Below
 pub mod First
 pub mod LoadedLemmas
@@ -8,5 +7,4 @@ pub mod Whole
 pub mod SymbolLemmas
 pub mod TextWords
 pub mod AscendingLemmas
-pub mod StemLaws
 pub mod Laws

@@ -13,7 +13,7 @@ use Rattle.scale_base.specs.Image.{is_load, has_key, memory_range, stack, is_pla
 use Rattle.elf_view.proofs.Below.{length-headers, header_at}
 use Rattle.std.specs.Prelude.{nat_le, ◌==◌, All}
 use Rattle.std.proofs.lemmas.List.Sums.{AllPass-from_list_all}
-use Rattle.elf_view.proofs.Booleans.{both_true, one_true, le_of}
+use Rattle.elf_image.proofs.Laws.{both_true, one_true, le_of}
 use Rattle.elf_view.proofs.First.{first_at, none_broken}
 
 pub each_pair-rest : {A : Type 0} (test : A → A → Bool) (x : A) (xs rest : List A) → rest ≡ x ∷ xs → list_all (test x) xs ≡ true → each_pair test xs ≡ each_pair test rest

@@ -21,8 +21,8 @@ use Rattle.scale_base.specs.Spans.{each_pair}
 use Rattle.scale_base.specs.Rules.{rule, first_broken, AllHold, IsStop}
 use Rattle.scale_base.specs.Image.{range_of, insert_range, ascending, ranges_of, is_text_place, is_off_table, is_code_segment, holds_part, are_apart, keeps_text_rules, part_rules, text_rules, text_start}
 use Rattle.scale_base.proofs.Laws.{rule_kept}
-use Rattle.elf_view.specs.Ascending.{are_separate, fits_beside, next_rules}
-use Rattle.elf_view.proofs.Booleans.{both_true, le_of}
+use Rattle.elf_view.specs.Beside.{are_separate, fits_beside, next_rules}
+use Rattle.elf_image.proofs.Laws.{both_true, le_of}
 use Rattle.elf_view.proofs.First.{first_at, none_broken}
 use Rattle.elf_view.proofs.AscendingLemmas.{all_apart, all-fold}
 use Rattle.elf_view.proofs.RangesLemmas.{ranges_of-push, length-ranges_of}

@@ -1,5 +1,5 @@
 -- Each word address of the text has its bytes in the file.
-use Rattle.std.proofs.Common.{◌≡◌, ℕ, ◌+◌, ◌-◌, ◌%◌, ◌<◌, Bool, true, false, cond, ◌&&◌, ◌||◌, List, [], ◌∷◌, map, fold, Option, Some, None, Ok, refl, sym, ap, subst, ◌∙◌, arith, inl, inr, ◌⊎◌}
+use Rattle.std.proofs.Common.{◌≡◌, ℕ, ◌+◌, ◌-◌, ◌%◌, ◌<◌, Bool, true, false, cond, ◌&&◌, ◌||◌, List, [], ◌∷◌, map, fold, Option, Some, None, refl, sym, ap, ◌∙◌, arith, inl, inr, ◌⊎◌}
 use Rattle.std.specs.Prelude.{nat_lt, nat_le, ◌==◌, find, is_some, option_map}
 use Rattle.std.specs.List.{list_any, list_all}
 use Rattle.std.proofs.lemmas.Bool.{le-leb}
@@ -7,11 +7,11 @@ use Rattle.std.proofs.lemmas.Bool.Decides.{nat_tests}
 use Rattle.scale_base.specs.declared.ranges.Range.{Range}
 use Rattle.scale_base.specs.declared.headers.ProgramHeader.{ProgramHeader}
 use Rattle.scale_base.specs.declared.ranges.TextPart.{TextPart}
-use Rattle.scale_base.specs.Image.{Image, image_of, contents, is_word_address, text_word, file_place, text_parts, ranges_of, text_ranges, ascending, text_rules, write_rules, all_text_rules, loaded_headers, insert_range, range_of, is_in, holds_part, is_code_segment, is_text_place, is_off_table, header_has_word}
+use Rattle.scale_base.specs.Image.{contents, is_word_address, text_word, file_place, text_parts, ranges_of, text_ranges, ascending, text_rules, write_rules, all_text_rules, loaded_headers, insert_range, range_of, is_in, holds_part, is_code_segment, is_text_place, is_off_table, header_has_word}
 use Rattle.scale_base.specs.Bytes.{list_word_at}
 use Rattle.scale_base.specs.Rules.{AllHold}
-use Rattle.scale_base.proofs.Laws.{kept-split, rules_kept, contents-are, parts_kept, rules_of}
-use Rattle.elf_view.proofs.Booleans.{both_true, le_of}
+use Rattle.scale_base.proofs.Laws.{kept-split, parts_kept}
+use Rattle.elf_image.proofs.Laws.{both_true, le_of}
 
 swap_or : (a b c : Bool) → (a || (b || c)) ≡ (b || (a || c))
 swap_or true true c = refl
@@ -109,16 +109,11 @@ has_place file at rules e =
     let a = both_true (at % 4 == 0) (list_any (is_in at) (fold insert_range [] (map range_of parts))) e in
     mapped (λ h. h.p_offset + (at - h.p_vaddr)) (find (header_has_word at) (loaded_headers file)) (ranges_word file (loaded_headers file) parts at (eq_of _ _ a.0) placed a.1)
 
-contents_word : (file : List ℕ) (at : ℕ) → AllHold (all_text_rules file (loaded_headers file)) → is_some (text_word (contents file) at) ≡ is_word_address (contents file) at
+-- the words of the image of such a file are those at the multiples of 4 in its text
+pub contents_word : (file : List ℕ) (at : ℕ) → AllHold (all_text_rules file (loaded_headers file)) → is_some (text_word (contents file) at) ≡ is_word_address (contents file) at
 unfolding text_word
 contents_word file at rules =
     elim (either_way (is_word_address (contents file) at)) [
       | inl on ↦ rw on (mapped (list_word_at (contents file).file) (file_place (contents file).file at) (has_place file at rules on))
       | inr off ↦ rw off refl
     ]
-
--- the words of an image are those at the multiples of 4 in its text
-pub word-present : (file : List ℕ) (image : Image) (at : ℕ) → image_of file ≡ Ok image → is_some (text_word image at) ≡ is_word_address image at
-word-present file image at e =
-    let P : Image → Type 0 = λ i. is_some (text_word i at) ≡ is_word_address i at in
-    subst P (contents-are file image e) (contents_word file at (rules_of file (rules_kept file image e)).text)

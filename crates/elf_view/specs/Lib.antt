@@ -1,5 +1,2 @@
-pub mod View
-pub mod Segment
-pub mod Ascending
-pub mod Stems
+pub mod Beside
 pub mod Refused

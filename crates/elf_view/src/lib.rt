@@ -1,22 +1,19 @@
-//! Reads ELF images, borrowed from their bytes.
+//! Reads the images of ELF files.
 //! Tests: crates/file_tests/src/elf_files.rt.
 #![tactic(auto)]
 
-mod fields;
 mod header;
 mod ranges;
+mod reading;
 mod refused;
 mod segments;
-mod sorted_symbols;
-mod stems;
 mod symbols;
 mod tables;
 mod text;
-mod view;
 
+pub use elf_image::{ImageView, Segment};
+pub use reading::read_image;
 pub use refused::refusal_number;
 pub use scale_base::Keyed;
 pub use segments::{end_of, overlaps};
-pub use sorted_symbols::SortedSymbols;
 pub use tables::{program_header_count, read_program_header};
-pub use view::{ImageView, Segment, read_image};

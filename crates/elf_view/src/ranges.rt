@@ -1,12 +1,12 @@
 //! Ranges in ascending order, and whether they may be written.
 
-ghost use Rattle.std.specs.Prelude.{◌≡◌, ◌≤◌, ◌<◌, ◌+◌, ◌^◌, ℕ, length, IfOk, IfErr, slice_index_or};
+ghost use Rattle.std.specs.Prelude.{◌≡◌, ◌<◌, ◌+◌, ◌^◌, IfOk, IfErr};
 ghost use Rattle.std.specs.List.{list_all, list_any};
 ghost use Rattle.std.specs.Bool.{OnTrue};
-ghost use Rattle.scale_base.specs.declared.ranges.Range.{Range};
 ghost use Rattle.scale_base.specs.Rules.{first_broken, refusal_in};
 ghost use Rattle.scale_base.specs.Image as image;
-ghost use Rattle.elf_view.specs.Ascending.{AscendFrom, are_separate, ranges_by};
+ghost use Rattle.elf_image.specs.Ascending.{AscendFrom};
+ghost use Rattle.elf_view.specs.Beside.{are_separate, ranges_by};
 
 use crate::segments::has_key;
 use scale_base::{PF_W, ProgramHeader, Range, Refusal, Stop, TextPart};
@@ -22,16 +22,6 @@ pub fn range_of(part: &TextPart) -> Range
         from: part.span.from,
         to: part.span.from + part.span.len,
     }
-}
-
-/// How many of the ranges begin at or below an address.
-fn place_of(ranges: &[Range], at: u32) -> usize
-    requires { AscendFrom 0 ranges.now }
-    ensures bound { result ≤ length ranges.now }
-    ensures below { (k : ℕ) (d : Range) → k < result → (slice_index_or ranges.now k d).from ≤ at }
-    ensures above { (k : ℕ) (d : Range) → result ≤ k → k < length ranges.now → at < (slice_index_or ranges.now k d).from }
-{
-    ranges.partition_point(|range| range.from <= at)
 }
 
 /// The range shares no address with these ranges, given as the end of each by its start. The last that begins below its end decides.
@@ -72,18 +62,6 @@ pub fn list_ranges(alloc: Global, ends: &BTreeMap<u32, u32>) -> Result<Vec<Range
             to: *to,
         })
         .collect(alloc)
-}
-
-/// The address lies in some range.
-pub fn is_in_some(ranges: &[Range], at: u32) -> bool
-    requires { AscendFrom 0 ranges.now }
-    ensures { result ≡ list_any (image.is_in at) ranges.now }
-{
-    let place = place_of(ranges, at);
-    if place == 0 {
-        return false;
-    }
-    at < ranges[place - 1].to
 }
 
 fn is_writable_at(range: &Range, header: &ProgramHeader) -> bool

@@ -5,14 +5,15 @@ ghost use Rattle.std.specs.Bool.{OnTrue};
 ghost use Rattle.std.specs.Option.{ForSome};
 ghost use Rattle.std.specs.List.{list_any, filter_map, cons_option};
 ghost use Rattle.scale_base.specs.Rules.{rule, first_broken, refusal_in, AllHold, IsStop};
-ghost use Rattle.elf_view.specs.Ascending.{AscendFrom, fits_beside, next_rules, ranges_by};
+ghost use Rattle.elf_image.specs.Ascending.{AscendFrom};
+ghost use Rattle.elf_view.specs.Beside.{fits_beside, next_rules, ranges_by};
 ghost use Rattle.scale_base.specs.Elf as elf;
 ghost use Rattle.scale_base.specs.Image as image;
 
-use crate::fields::word;
 use crate::ranges::{check_not_writable, insert_range, list_ranges, range_of};
 use crate::segments::{end_of, has_key};
 use crate::tables::{has_section_headers, read_section_header, section_header_count};
+use elf_image::word;
 use scale_base::{PF_X, ProgramHeader, Range, Refusal, SectionHeader, Span, Stop, TextPart};
 use std::alloc::Global;
 use std::collections::BTreeMap;

@@ -1,6 +1,6 @@
 use Rattle.std.proofs.Common.{◌≡◌, true, map, ap, arith, sym, ◌∙◌}
 use Rattle.std.specs.List.{list_all}
-use Rattle.elf_view.specs.Ascending.{are_separate, range_between, ranges_by}
+use Rattle.elf_view.specs.Beside.{are_separate, range_between, ranges_by}
 use Rattle.elf_view.proofs.AscendingLemmas.{insert-ranges, ascend-insert}
 use Rattle.elf_view.proofs.ranges.insert_range.Goals as goal
 

@@ -2,7 +2,8 @@ use Rattle.std.proofs.Common.{take}
 use Rattle.std.specs.List.{filter_map}
 use Rattle.scale_base.specs.Elf.{section_headers}
 use Rattle.scale_base.specs.Image.{text_of_section}
-use Rattle.elf_view.specs.Ascending.{AscendFrom, ranges_by}
+use Rattle.elf_image.specs.Ascending.{AscendFrom}
+use Rattle.elf_view.specs.Beside.{ranges_by}
 use Rattle.elf_view.proofs.TextLemmas.{IsTextOf}
 use Rattle.elf_view.proofs.text.section_ends.Given as goal
 

@@ -1,0 +1,6 @@
+use Rattle.scale_base.specs.Image.{contents}
+use Rattle.elf_image.proofs.view.ImageView.symbol_table.Goals as goal
+
+pub returns : goal.returns
+unfolding contents
+returns c = rw (← c.self.view_is) c.self.invariant.symbols_are

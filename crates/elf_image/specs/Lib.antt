@@ -1,0 +1,4 @@
+pub mod View
+pub mod Segment
+pub mod Ascending
+pub mod Table
