@@ -7,12 +7,13 @@ use Rattle.cost_theory.specs.Graph.{Loops, IsPlain, is_back, is_header}
 use Rattle.cost_theory.specs.Lists.{body_of, is_among}
 use Rattle.cost_theory.proofs.Laws.{and_left, and_right, and_both}
 use Rattle.code_graph.specs.FlowGraph.{FlowGraph, graph, IsFlowGraph}
-use Rattle.loop_tree.specs.Noted.{node_address, loops_by}
-use Rattle.loop_tree.proofs.NodeLaws.{one_number}
-use Rattle.loop_tree.specs.Tree.{IsPlainStep}
-use Rattle.loop_tree.specs.Arcs.{IsPlainBy}
+use Rattle.loop_forest.specs.Noted.{node_address, loops_by}
+use Rattle.loop_forest.proofs.Laws.{one_number}
+use Rattle.loop_forest.specs.Tree.{IsPlainStep}
+use Rattle.loop_forest.specs.Arcs.{IsPlainBy}
 use Rattle.loop_tree.specs.Backs.{AreDistinctHeaders, ArePlacedHeaders, AreLoopLists, IsBackBetween, AreBacks, IsStepBy, loop_at}
-use Rattle.loop_tree.proofs.Lists.{among_at, at_among, body_of-map, image_some}
+use Rattle.loop_forest.proofs.Laws.{among_at, at_among}
+use Rattle.loop_tree.proofs.Lists.{body_of-map, image_some}
 
 -- ---- headers by node
 

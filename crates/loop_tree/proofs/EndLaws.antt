@@ -1,5 +1,5 @@
 -- The ends of a graph's edges, and one element more behind a list.
-use Rattle.std.proofs.Common.{◌≡◌, ℕ, zero, suc, ◌+◌, List, [], ◌∷◌, ◌++◌, length, refl, arith, Option, Some, ◌⊎◌, inl, inr, ⊎_elim}
+use Rattle.std.proofs.Common.{◌≡◌, ℕ, zero, suc, List, [], ◌∷◌, ◌++◌, length, refl, arith, Option, Some, ◌⊎◌, inl, inr, ⊎_elim}
 use Rattle.std.specs.Prelude.{slice_get}
 use Rattle.code_graph.specs.Ends.{AreEdgeEnds}
 use Rattle.code_graph.specs.FlowGraph.{FlowGraph}

@@ -1,21 +1,18 @@
 -- How the bodies of loops are entered, and in how many of them a node is.
-use Rattle.std.proofs.Common.{◌≡◌, ◌≢◌, ℕ, zero, suc, ◌+◌, ◌<◌, ◌≤◌, ◌↔◌, Bool, true, false, nat_eq, if◌then◌else◌, List, [], ◌∷◌, length, get_or, replicate, refl, sym, ap, ◌∙◌, subst, arith, Option, Some, None, ◌⊎◌, inl, inr, ⊎_elim}
+use Rattle.std.proofs.Common.{◌≡◌, ◌≢◌, ℕ, zero, suc, ◌<◌, ◌≤◌, false, List, length, get_or, replicate, refl, sym, ap, ◌∙◌, subst, arith, Option, Some, None, ◌⊎◌, inl, inr, ⊎_elim}
 use Rattle.std.specs.Prelude.{slice_get, slice_index}
-use Rattle.std.proofs.lemmas.Bool.{cases_eq, cases_Bool, both_ways, eq-eqb, ne_eqb}
+use Rattle.std.proofs.lemmas.Bool.{cases_eq}
 use Rattle.std.proofs.lemmas.Option.{slice_get-get_or, slice_get_within, get_or_from_slice_get}
 use Rattle.std.proofs.lemmas.List.{length-replicate}
-use Rattle.cost_theory.specs.Graph.{sum_below, only}
 use Rattle.cost_theory.specs.Accepted.{IsNode}
-use Rattle.cost_theory.proofs.Laws.{sum-same, ones-le}
+use Rattle.cost_theory.proofs.Laws.{ones-le}
 use Rattle.code_graph.specs.FlowGraph.{FlowGraph, graph, IsFlowGraph}
 use Rattle.graph_algorithms.specs.Edges.{EdgeView}
 use Rattle.graph_algorithms.specs.Bodies.{IsIn, AreNodes, IsSideEdge, IsLeastPair, IsLesserPair}
 use Rattle.graph_algorithms.proofs.Laws.{least_same, least_more}
 use Rattle.loop_file.specs.declared.notes.LoopNote.{LoopNote}
-use Rattle.loop_file.specs.Kept.{note_at}
-use Rattle.loop_tree.specs.Noted.{IsBodyNode}
 use Rattle.loop_tree.specs.Passes.{AreGraphEdges, AreOwned, IsFunctionEntry, IsSidePair, IsNumberedBody, IsBodyNodeOf, AreDepths}
-use Rattle.loop_tree.proofs.NodeLaws.{one_number, source_number}
+use Rattle.loop_forest.proofs.Laws.{one_number}
 use Rattle.loop_tree.proofs.WalkLaws.{some_same, has_edge, edge_within, edge_from, edge_to}
 
 -- ---- side entries by numbers

@@ -20,11 +20,11 @@ use Rattle.graph_algorithms.specs.Bodies.{IsIn, IsLeastPair}
 use Rattle.loop_file.specs.declared.notes.LoopNote.{LoopNote}
 use Rattle.loop_file.specs.Kept.{note_at, noted_loops}
 use Rattle.code_graph.specs.Ends.{AreEdgeEnds}
-use Rattle.loop_tree.specs.Noted.{header_address, IsBodyNode, HasBackEdge, HaveOneHeader, IsNotedSideEntry, node_address}
-use Rattle.loop_tree.specs.Found.{loops_seen, AreNaturalLoops}
-use Rattle.loop_tree.specs.Refused.{AreHeaders, AreNoted, IsPairRefused, IsDepthRefused, AreHeadersReached}
+use Rattle.loop_forest.specs.Noted.{header_address, IsBodyNode, HasBackEdge, HaveOneHeader, IsNotedSideEntry, node_address}
+use Rattle.loop_forest.specs.Found.{loops_seen, AreNaturalLoops}
+use Rattle.loop_forest.specs.Refused.{AreHeaders, AreNoted, IsPairRefused, IsDepthRefused, AreHeadersReached}
 use Rattle.loop_tree.specs.Passes.{AreGraphEdges, IsReady, AreHeaderNumbers, HaveOneNumber, IsNumberedBody, AreDepths, AreEntriesFound, AreBodies, IsDeepest, depth_at}
-use Rattle.loop_tree.proofs.NodeLaws.{one_number, source_number}
+use Rattle.loop_forest.proofs.Laws.{one_number, source_number}
 
 -- ---- headers
 module _ (v : FlowGraph) (is : IsFlowGraph v) (notes : List LoopNote) (headers : List ℕ) (numbers : AreHeaderNumbers v notes headers) where

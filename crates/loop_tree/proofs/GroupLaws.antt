@@ -1,24 +1,24 @@
 -- Loops of a group: their bodies as bits, how they are entered, and in how many of them a node is.
-use Rattle.std.proofs.Common.{◌≡◌, ◌≢◌, ℕ, zero, suc, ◌+◌, ◌-◌, ◌/◌, ◌%◌, ◌^◌, ◌<◌, ◌≤◌, ◌↔◌, Bool, true, false, ◌&&◌, ◌||◌, nat_eq, nat_lt, if◌then◌else◌, List, [], ◌∷◌, ◌++◌, length, get_or, set, refl, sym, ap, ◌∙◌, subst, arith, Option, Some, ◌⊎◌, inl, inr, ⊎_elim, count_ones, length-append}
+use Rattle.std.proofs.Common.{◌≡◌, ◌≢◌, ℕ, zero, suc, ◌+◌, ◌-◌, ◌/◌, ◌%◌, ◌^◌, ◌<◌, ◌≤◌, ◌↔◌, Bool, true, false, ◌&&◌, ◌||◌, nat_eq, nat_lt, if◌then◌else◌, List, [], ◌∷◌, ◌++◌, length, get_or, refl, sym, ap, ◌∙◌, subst, arith, Some, ◌⊎◌, inl, inr, ⊎_elim, count_ones, length-append}
 use Rattle.std.specs.Prelude.{slice_get, slice_index}
 use Rattle.std.specs.Int.{bit_at}
-use Rattle.std.proofs.lemmas.Bool.{cases_eq, cases_lt, cases_Bool, both_ways, eq-eqb, ne_eqb, eqb-true, lt-ltb, le-ltb}
+use Rattle.std.proofs.lemmas.Bool.{cases_eq, cases_lt, cases_Bool, eq-eqb, eqb-true, lt-ltb, le-ltb}
 use Rattle.std.proofs.lemmas.Nat.Bits.{bit_at_lowest, bit_at-suc, bit_at-lt}
 use Rattle.std.proofs.lemmas.Nat.{ones_le_self}
-use Rattle.std.proofs.lemmas.Option.{slice_get-get_or, slice_get_within, get_or_from_slice_get}
+use Rattle.std.proofs.lemmas.Option.{slice_get_within, get_or_from_slice_get}
 use Rattle.cost_theory.specs.Graph.{sum_below, only}
 use Rattle.cost_theory.specs.Accepted.{IsNode}
 use Rattle.cost_theory.proofs.Laws.{sum-same}
 use Rattle.code_graph.specs.FlowGraph.{FlowGraph, graph, IsFlowGraph}
 use Rattle.graph_algorithms.specs.declared.bodies.extent.LoopExtent.{LoopExtent}
 use Rattle.graph_algorithms.specs.Edges.{EdgeView}
-use Rattle.graph_algorithms.specs.Groups.{HasBit, IsFlagged, IsLed, IsInside, IsEnteredAside, OfLoop, AreLoopExtents, AreGroup}
+use Rattle.graph_algorithms.specs.Groups.{HasBit, IsFlagged, IsLed, AreLoopExtents, AreGroup}
 use Rattle.graph_algorithms.proofs.Laws.{bit_cases}
 use Rattle.loop_file.specs.declared.notes.LoopNote.{LoopNote}
 use Rattle.loop_file.specs.Kept.{note_at}
-use Rattle.loop_tree.specs.Noted.{header_address, IsBodyNode, IsNotedSideEntry}
+use Rattle.loop_forest.specs.Noted.{header_address, IsBodyNode, IsNotedSideEntry}
 use Rattle.loop_tree.specs.Passes.{AreGraphEdges, AreHeaderNumbers, IsExtent, AreExtents, IsEnteredBit, AreDepths}
-use Rattle.loop_tree.proofs.NodeLaws.{one_number, source_number}
+use Rattle.loop_forest.proofs.Laws.{one_number, source_number}
 use Rattle.loop_tree.proofs.EndLaws.{push_cases}
 use Rattle.loop_tree.proofs.HeaderLaws.{note_is}
 use Rattle.loop_tree.proofs.WalkLaws.{some_same, has_edge, led_node, header_in}

@@ -12,8 +12,8 @@ use Rattle.loop_file.specs.declared.notes.LoopNote.{LoopNote}
 use Rattle.loop_file.specs.Kept.{note_at}
 use Rattle.scale_base.specs.declared.refusal.Refusal.{Refusal}
 use Rattle.scale_base.specs.declared.refusal.Refusal.TheVariants.{HeaderNotReached}
-use Rattle.loop_tree.specs.Noted.{header_address, IsHeaderReached}
-use Rattle.loop_tree.specs.Refused.{IsHeaderRefused}
+use Rattle.loop_forest.specs.Noted.{header_address, IsHeaderReached}
+use Rattle.loop_forest.specs.Refused.{IsHeaderRefused}
 
 -- the note of a number
 pub note_is : (notes : List LoopNote) (k : ℕ) (note : LoopNote) → slice_get notes k ≡ Some note → note_at notes k ≡ note

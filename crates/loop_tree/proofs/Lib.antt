@@ -6,8 +6,6 @@ pub mod OrderLaws
 mod NestLaws
 mod TreeLaws
 pub mod TripLaws
-pub mod NodeLaws
-pub mod BodyLaws
 pub mod EndLaws
 pub mod ExtentLaws
 pub mod WalkLaws
@@ -17,4 +15,3 @@ pub mod EntryLaws
 pub mod ReadyLaws
 pub mod FoundLaws
 pub mod GroupLaws
-pub mod Laws

@@ -8,11 +8,12 @@ use Rattle.cost_theory.specs.Accepted.{AreEntered, IsWithin}
 use Rattle.cost_theory.specs.Lists.{body_of, is_among}
 use Rattle.cost_theory.proofs.Laws.{header_held, one_within, held_within}
 use Rattle.code_graph.specs.FlowGraph.{FlowGraph, graph, IsFlowGraph}
-use Rattle.loop_tree.specs.Noted.{node_address, loops_by}
+use Rattle.loop_forest.specs.Noted.{node_address, loops_by}
 use Rattle.graph_algorithms.specs.Nesting.{HasNode, IsRound, AreLoops, AreHeadersOuter, IsShortestBody, IsNextAtHeader, body_at, IsInnermostBody as IsShortest}
-use Rattle.loop_tree.specs.Tree.{IsLeastLoop, IsInnermost, IsParent}
+use Rattle.loop_forest.specs.Tree.{IsLeastLoop, IsInnermost, IsParent}
 use Rattle.loop_tree.specs.Backs.{AreLoopLists}
-use Rattle.loop_tree.proofs.Lists.{among_at, at_among, held_shorter, body_same}
+use Rattle.loop_forest.proofs.Laws.{among_at, at_among}
+use Rattle.loop_tree.proofs.Lists.{held_shorter, body_same}
 use Rattle.loop_tree.proofs.BackLaws.{inside_at, inside_number, inside_here, header_at}
 
 -- a node of a body by its place

@@ -8,9 +8,9 @@ use Rattle.cost_theory.specs.Graph.{Loops, IsPlain, find_below}
 use Rattle.cost_theory.specs.Accepted.{IsNode, IsPlainOrder}
 use Rattle.cost_theory.proofs.Laws.{find-holds, find-some}
 use Rattle.code_graph.specs.FlowGraph.{FlowGraph, graph, IsFlowGraph}
-use Rattle.loop_tree.specs.Tree.{IsAtPlace, ArePlainOrdered}
-use Rattle.loop_tree.specs.Arcs.{IsPlainBy, ArePlainArcs}
-use Rattle.loop_tree.proofs.NodeLaws.{one_number}
+use Rattle.loop_forest.specs.Tree.{IsAtPlace, ArePlainOrdered}
+use Rattle.loop_forest.specs.Arcs.{IsPlainBy, ArePlainArcs}
+use Rattle.loop_forest.proofs.Laws.{one_number}
 
 -- a list from its end to its beginning
 pub record IsTurned (numbers turned : List ℕ) : Type 0 where

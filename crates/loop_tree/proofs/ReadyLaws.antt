@@ -1,6 +1,6 @@
 -- The headers of notes, and what was found of the loops up to one.
 use Rattle.std.proofs.Common.{◌≡◌, ◌≢◌, ℕ, zero, suc, ◌+◌, ◌<◌, ◌≤◌, List, [], ◌∷◌, ◌++◌, length, get_or, replicate, refl, sym, ap, ◌∙◌, subst, arith, Some, None, ⊎_elim, length-append}
-use Rattle.std.specs.Prelude.{slice_get, slice_index}
+use Rattle.std.specs.Prelude.{slice_get}
 use Rattle.std.proofs.lemmas.Bool.{cases_eq}
 use Rattle.std.proofs.lemmas.Option.{slice_get_within}
 use Rattle.scale_base.specs.declared.refusal.Refusal.{Refusal}
@@ -8,12 +8,12 @@ use Rattle.scale_base.specs.declared.refusal.Refusal.TheVariants.{NoBackEdge, Si
 use Rattle.cost_theory.specs.Lists.{body_of}
 use Rattle.code_graph.specs.FlowGraph.{FlowGraph}
 use Rattle.graph_algorithms.specs.Edges.{EdgeView}
-use Rattle.graph_algorithms.specs.Bodies.{IsIn, IsLeastPair}
+use Rattle.graph_algorithms.specs.Bodies.{IsLeastPair}
 use Rattle.loop_file.specs.declared.notes.LoopNote.{LoopNote}
 use Rattle.loop_file.specs.Kept.{note_at}
-use Rattle.loop_tree.specs.Noted.{header_address, HasBackEdge, IsNotedSideEntry}
-use Rattle.loop_tree.specs.Refused.{AreHeaders, IsBackEdgeRefused}
-use Rattle.loop_tree.specs.Found.{IsAscending}
+use Rattle.loop_forest.specs.Noted.{header_address, HasBackEdge, IsNotedSideEntry}
+use Rattle.loop_forest.specs.Refused.{AreHeaders, IsBackEdgeRefused}
+use Rattle.loop_forest.specs.Found.{IsAscending}
 use Rattle.loop_tree.specs.Passes.{IsReady, GoesBack, IsNumberedBody, IsSidePair, AreBodies, AreDepths, AreEntriesFound, AreEnteredBelow, IsEnteredBy, IsDeepest, depth_at}
 use Rattle.loop_tree.proofs.HeaderLaws.{note_is}
 use Rattle.loop_tree.proofs.EntryLaws.{IsAside, none_aside, least_aside, depths_start}

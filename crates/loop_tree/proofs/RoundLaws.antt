@@ -5,8 +5,8 @@ use Rattle.graph_algorithms.specs.Arcs.{number_in_place}
 use Rattle.graph_algorithms.specs.Cycles.{IsCycleBy}
 use Rattle.graph_algorithms.proofs.Laws.{IsRound}
 use Rattle.code_graph.specs.FlowGraph.{FlowGraph, IsFlowGraph}
-use Rattle.loop_tree.proofs.NodeLaws.{one_number}
-use Rattle.loop_tree.specs.Arcs.{HasPlainEdge, IsRoundOfNodes, AreAddressesOf}
+use Rattle.loop_forest.proofs.Laws.{one_number}
+use Rattle.loop_forest.specs.Arcs.{HasPlainEdge, IsRoundOfNodes, AreAddressesOf}
 use Rattle.loop_tree.specs.Backs.{IsStepBy}
 
 edge_step : (v : FlowGraph) (backs : List (Option ℕ)) (a b at to : ℕ) → HasPlainEdge v backs a b → slice_get v.code.nodes a ≡ Some at → slice_get v.code.nodes b ≡ Some to → IsStepBy v backs at to

@@ -12,7 +12,7 @@ use Rattle.cost_theory.specs.Graph.{only}
 use Rattle.code_graph.specs.FlowGraph.{FlowGraph}
 use Rattle.graph_algorithms.specs.Bodies.{IsIn, AreNodes}
 use Rattle.loop_file.specs.declared.notes.LoopNote.{LoopNote}
-use Rattle.loop_tree.specs.Found.{IsAscending}
+use Rattle.loop_forest.specs.Found.{IsAscending}
 use Rattle.loop_tree.specs.Passes.{IsNumberedBody}
 
 -- ---- the same numbers

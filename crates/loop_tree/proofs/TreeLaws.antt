@@ -11,20 +11,20 @@ use Rattle.code_graph.proofs.Laws.{map_is}
 use Rattle.loop_file.specs.declared.notes.LoopNote.{LoopNote}
 use Rattle.loop_file.specs.Kept.{noted_loops, note_at}
 use Rattle.loop_file.specs.Notes.{IsLoopNote, AreLoopNotes}
-use Rattle.loop_tree.specs.Noted.{node_address, header_address}
-use Rattle.loop_tree.specs.Found.{LoopsView, AreNaturalLoops, loops_seen}
-use Rattle.loop_tree.specs.Refused.{AreNoted}
+use Rattle.loop_forest.specs.Noted.{node_address, header_address}
+use Rattle.loop_forest.specs.Found.{LoopsView, AreNaturalLoops, loops_seen}
+use Rattle.loop_forest.specs.Refused.{AreNoted}
 use Rattle.graph_algorithms.specs.Nesting.{IsNesting, IsNextAtHeader, IsInnermostBody as IsShortest}
 use Rattle.loop_tree.proofs.Lists.{image_some}
-use Rattle.loop_tree.specs.Tree.{LoopView, ArePlainOrdered, HasWholeExtent, IsTreeOf, IsPlainStep, IsCycleRefused}
-use Rattle.loop_tree.specs.Stored.{IsStoredTree}
+use Rattle.loop_forest.specs.Tree.{LoopView, ArePlainOrdered, HasWholeExtent, IsTreeOf, IsPlainStep, IsCycleRefused}
+use Rattle.loop_forest.specs.Stored.{IsStoredTree}
 use Rattle.loop_tree.specs.Backs.{AreLoopLists, AreBacks, IsStepBy}
 use Rattle.loop_tree.specs.Trips.{IsWholeBody, AreTrips}
 use Rattle.graph_algorithms.specs.declared.orders.Arc.{Arc}
 use Rattle.graph_algorithms.specs.Arcs.{IsSorted}
 use Rattle.graph_algorithms.specs.Cycles.{IsCycleBy}
 use Rattle.scale_base.specs.declared.refusal.Refusal.TheVariants.{UnboundedCycle}
-use Rattle.loop_tree.specs.Arcs.{ArePlainArcs}
+use Rattle.loop_forest.specs.Arcs.{ArePlainArcs}
 use Rattle.loop_tree.proofs.BackLaws.{inside_at, inside_here, back_as, back_from, by_plain, step_as}
 use Rattle.loop_tree.proofs.RoundLaws.{cycle_as}
 use Rattle.loop_tree.proofs.TripLaws.{trips_le}

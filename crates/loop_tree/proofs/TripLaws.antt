@@ -1,13 +1,12 @@
 -- How often loops turn at least, by the numbers of nodes.
-use Rattle.std.proofs.Common.{◌≡◌, ◌↔◌, ℕ, zero, suc, ◌+◌, ◌<◌, ◌≤◌, Bool, true, false, ◌&&◌, ◌||◌, nat_le, nat_lt, List, [], ◌∷◌, ◌++◌, length, get_or, slice_get, Option, Some, None, ◌⊎◌, inl, inr, ⊎_elim, sym, ap, ◌∙◌, subst, arith}
-use Rattle.std.specs.List.{list_any}
+use Rattle.std.proofs.Common.{◌≡◌, ℕ, ◌+◌, ◌<◌, ◌≤◌, List, [], ◌∷◌, ◌++◌, get_or, ◌⊎◌, ⊎_elim, sym, ap, ◌∙◌, subst, arith}
 use Rattle.std.proofs.lemmas.List.{get_or_push, length-append}
 use Rattle.std.proofs.Math.ListN.{get_or-append}
-use Rattle.cost_theory.specs.Lists.{body_of, is_among}
+use Rattle.cost_theory.specs.Lists.{body_of}
 use Rattle.code_graph.specs.FlowGraph.{FlowGraph}
 use Rattle.loop_file.specs.declared.notes.LoopNote.{LoopNote}
 use Rattle.loop_file.specs.Kept.{note_at}
-use Rattle.loop_tree.specs.Trips.{IsWholeBody, AreTripsOf, AreTrips}
+use Rattle.loop_tree.specs.Trips.{AreTripsOf, AreTrips}
 
 pub trips_le : (v : FlowGraph) (note : LoopNote) (body : List ℕ) (trips : ℕ) → AreTripsOf v note body trips → trips ≤ note.at_least
 trips_le v note body trips are = ⊎_elim

@@ -16,7 +16,7 @@ use Rattle.graph_algorithms.specs.Edges.{EdgeView, AreEdges}
 use Rattle.loop_file.specs.declared.notes.LoopNote.{LoopNote}
 use Rattle.loop_file.specs.Kept as kept
 use Rattle.loop_tree.specs.Passes.{AreGraphEdges, IsExtent, IsBodyNodeOf, GoesBack, IsNumberedBody}
-use Rattle.loop_tree.proofs.NodeLaws.{one_number, source_number}
+use Rattle.loop_forest.proofs.Laws.{one_number, source_number}
 
 pub some_same : {A : Type 0} (a b : A) (o : Option A) → o ≡ Some a → o ≡ Some b → a ≡ b
 some_same a b o p q = cc

@@ -1,14 +1,10 @@
 -- Back edges by the numbers of nodes, and what is known of the lists of loops.
 use Rattle.std.specs.Prelude.{◌≡◌, ◌↔◌, ℕ, ◌<◌, true, List, length, slice_get, slice_index, slice_index_or, Option, Some, None}
-use Rattle.graph_algorithms.specs.declared.orders.Arc.{Arc}
 use Rattle.graph_algorithms.specs.Arcs.{AreDistinct}
 use Rattle.cost_theory.specs.Lists.{body_of, is_among}
 use Rattle.code_graph.specs.FlowGraph.{FlowGraph, graph}
-use Rattle.loop_tree.specs.Found.{IsAscending}
-use Rattle.loop_tree.specs.Arcs.{IsPlainBy, IsEdgeBetween}
-
-abbrev pub IsRising : List ℕ → Type 0
-IsRising numbers = (i j x y : ℕ) → i < j → slice_get numbers i ≡ Some x → slice_get numbers j ≡ Some y → x < y
+use Rattle.loop_forest.specs.Found.{IsAscending}
+use Rattle.loop_forest.specs.Arcs.{IsPlainBy}
 
 -- different numbers below the count
 pub record AreDistinctHeaders (headers : List ℕ) (count : ℕ) : Type 0 where
@@ -42,11 +38,6 @@ pub record IsBackBetween (v : FlowGraph) (headers : List ℕ) (bodies : List (Li
 pub record AreBacks (v : FlowGraph) (headers : List ℕ) (bodies : List (List ℕ)) (n : ℕ) (backs : List (Option ℕ)) : Type 0 where
   pub size : length backs ≡ n
   pub back : (e k : ℕ) → e < n → (slice_get backs e ≡ Some (Some k)) ↔ IsBackBetween v headers bodies e k
-
--- the arc of an edge, which is a back edge of a loop or of none: none where it is one or leads to no node
-abbrev pub IsArcOf : FlowGraph → Option ℕ → ℕ → Option Arc → Type 0
-IsArcOf v back e (Some arc) = (back ≡ None) × IsEdgeBetween v e arc.from arc.to
-IsArcOf v back e None = back ≡ None → (graph v).target e ≡ None
 
 -- an edge leads from one address to the other, which is no back edge by a list of the loops of which edges are back edges
 abbrev pub IsStepBy : FlowGraph → List (Option ℕ) → ℕ → ℕ → Type 0

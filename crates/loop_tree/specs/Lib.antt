@@ -1,9 +1,3 @@
-pub mod Tree
-pub mod Stored
-pub mod Arcs
 pub mod Backs
 pub mod Trips
-pub mod Noted
-pub mod Found
-pub mod Refused
 pub mod Passes

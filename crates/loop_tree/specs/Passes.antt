@@ -16,9 +16,9 @@ use Rattle.loop_file.specs.declared.notes.LoopNote.{LoopNote}
 use Rattle.loop_file.specs.Kept as kept
 use Rattle.loop_file.specs.Kept.{note_at}
 use Rattle.code_graph.specs.Ends.{AreEdgeEnds}
-use Rattle.loop_tree.specs.Noted.{header_address, IsBodyNode, HasBackEdge, IsNotedSideEntry}
-use Rattle.loop_tree.specs.Found.{IsAscending}
-use Rattle.loop_tree.specs.Refused.{IsHeaderRefused, AreHeaders, IsBackEdgeRefused, IsEntryRefused}
+use Rattle.loop_forest.specs.Noted.{header_address, IsBodyNode, HasBackEdge, IsNotedSideEntry}
+use Rattle.loop_forest.specs.Found.{IsAscending}
+use Rattle.loop_forest.specs.Refused.{IsHeaderRefused, AreHeaders, IsBackEdgeRefused, IsEntryRefused}
 
 -- so many numbers below a count have addresses below one
 pub record IsCountBelow (nodes : List ℕ) (at n : ℕ) : Type 0 where

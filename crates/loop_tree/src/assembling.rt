@@ -3,16 +3,16 @@
 ghost use Rattle.std.specs.Prelude.{◌≡◌, length, map, IfOk};
 ghost use Rattle.code_graph.specs.FlowGraph.{IsFlowGraph};
 ghost use Rattle.loop_file.specs.Notes.{AreLoopNotes};
-ghost use Rattle.loop_tree.specs.Found.{loops_seen, AreNaturalLoops};
-ghost use Rattle.loop_tree.specs.Tree.{ArePlainOrdered, IsTreeOf};
+ghost use Rattle.loop_forest.specs.Found.{loops_seen, AreNaturalLoops};
+ghost use Rattle.loop_forest.specs.Tree.{ArePlainOrdered, IsTreeOf};
 ghost use Rattle.loop_tree.specs.Backs.{AreBacks};
 
 use crate::natural::NaturalLoops;
-use crate::tree::LoopTree;
 use crate::trips::trips_of;
 use code_graph::CodeGraph;
 use graph_algorithms::nest_loops;
 use loop_file::LoopNotes;
+use loop_forest::{LoopParts, LoopTree};
 use scale_base::NoMemory;
 use std::alloc::Global;
 
@@ -59,7 +59,7 @@ pub fn assemble(
     let bounds = bounds_of(alloc, notes)?;
     let counted = counted_of(alloc, notes)?;
     let least_trips = trips_of(alloc, graph, notes, &found)?;
-    Ok(LoopTree {
+    Ok(LoopTree::of(LoopParts {
         headers: found.headers,
         bounds,
         counted,
@@ -69,5 +69,5 @@ pub fn assemble(
         innermost,
         parent,
         order,
-    })
+    }))
 }

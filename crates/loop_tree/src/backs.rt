@@ -1,22 +1,14 @@
 //! The back edges of loops.
 
 ghost use Rattle.std.specs.Prelude.{◌≡◌, ◌<◌, ◌↔◌, ℕ, Some, length, IfOk};
-ghost use Rattle.cost_theory.specs.Lists.{is_among};
 ghost use Rattle.code_graph.specs.FlowGraph.{IsFlowGraph};
 ghost use Rattle.graph_algorithms.specs.Nesting.{bodies_of};
-ghost use Rattle.loop_tree.specs.Backs.{IsRising, AreDistinctHeaders, ArePlacedHeaders, AreLoopLists, IsBackBetween, AreBacks};
+ghost use Rattle.loop_tree.specs.Backs.{AreDistinctHeaders, ArePlacedHeaders, AreLoopLists, IsBackBetween, AreBacks};
 
 use code_graph::CodeGraph;
+use loop_forest::has_number;
 use scale_base::NoMemory;
 use std::alloc::Global;
-
-/// Whether a number is among others, which ascend.
-pub(crate) fn has(numbers: &[usize], number: usize) -> bool
-    requires { IsRising numbers.now }
-    ensures { result ≡ is_among number numbers.now }
-{
-    numbers.binary_search(&number).is_ok()
-}
 
 /// By node, the loop whose header it is.
 fn loops_by_header(
@@ -51,7 +43,7 @@ fn back_loop(
     let to = graph.target(e)?;
     let number = heads[to]?;
     let from = graph.source(e);
-    if has(&bodies[number], from) {
+    if has_number(&bodies[number], from) {
         Some(number)
     } else {
         None

@@ -4,7 +4,7 @@ ghost use Rattle.std.specs.Prelude.{ℕ, ◌<◌, List, length, Option, IfOk};
 ghost use Rattle.code_graph.specs.FlowGraph.{IsFlowGraph};
 ghost use Rattle.graph_algorithms.specs.Arcs.{number_in_place};
 ghost use Rattle.graph_algorithms.specs.Cycles.{IsCycleBy};
-ghost use Rattle.loop_tree.specs.Arcs.{AreAddressesOf, IsRoundOfNodes};
+ghost use Rattle.loop_forest.specs.Arcs.{AreAddressesOf, IsRoundOfNodes};
 ghost use Rattle.loop_tree.specs.Backs.{IsStepBy};
 
 use code_graph::CodeGraph;

@@ -1,29 +1,26 @@
-//! The loops of a program's graph, and an order of its nodes along the edges that are no back edges.
+//! Finds the loops of a program's graph, and an order of its nodes along the edges that are no back edges.
 //! Tests: crates/graph_tests/src/loops.rt.
 #![tactic(auto)]
 
 ghost use Rattle.scale_base.specs.Answer.{AnswersBy};
-ghost use Rattle.loop_tree.specs.Tree.{IsTreeBuilt};
+ghost use Rattle.loop_forest.specs.Tree.{IsTreeBuilt};
 
-mod arcs;
 mod assembling;
 mod backs;
 mod cycles;
 mod natural;
-mod tree;
 mod trips;
 
 use crate::natural::find_loops;
-pub use arcs::plain_arcs;
 use assembling::assemble;
 use backs::back_loops;
 use code_graph::CodeGraph;
 use cycles::cycle_of;
 use graph_algorithms::{Order, sort};
 use loop_file::LoopNotes;
+pub use loop_forest::{LoopTree, plain_arcs};
 use scale_base::{Refusal, Stop};
 use std::alloc::Global;
-pub use tree::LoopTree;
 
 /// The loops of a graph by their notes, in the notes' order, with an order of the nodes along plain edges; or why they are
 /// refused: by what `find_loops` refuses, or else by a cycle of plain edges, from its least address.

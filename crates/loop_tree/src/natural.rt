@@ -1,7 +1,7 @@
 //! The natural loops of a program's graph by their notes: the nodes of each body, and which loops are refused.
 
 ghost use Rattle.scale_base.specs.Answer.{AnswersBy};
-ghost use Rattle.loop_tree.specs.Refused.{AreLoopsFound};
+ghost use Rattle.loop_forest.specs.Refused.{AreLoopsFound};
 
 mod back_edges;
 mod bodies;

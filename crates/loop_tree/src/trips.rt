@@ -4,15 +4,15 @@ ghost use Rattle.std.specs.Prelude.{◌≡◌, ◌↔◌, ℕ, ◌<◌, ◌≤�
 ghost use Rattle.cost_theory.specs.Lists.{is_among};
 ghost use Rattle.code_graph.specs.FlowGraph.{IsFlowGraph};
 ghost use Rattle.graph_algorithms.specs.Bodies as extents;
-ghost use Rattle.loop_tree.specs.Found.{AreNaturalLoops};
-ghost use Rattle.loop_tree.specs.Backs.{IsRising};
+ghost use Rattle.loop_forest.specs.Found.{AreNaturalLoops};
+ghost use Rattle.loop_forest.specs.Stored.{IsRising};
 ghost use Rattle.loop_tree.specs.Trips.{IsWholeBody, AreTripsOf, AreTrips};
 
-use crate::backs::has;
 use crate::natural::{NaturalLoops, extent_of};
 use code_graph::CodeGraph;
 use graph_algorithms::NodeRange;
 use loop_file::{LoopNote, LoopNotes};
+use loop_forest::has_number;
 use scale_base::NoMemory;
 use std::alloc::Global;
 
@@ -23,7 +23,7 @@ fn has_range(numbers: &[usize], range: &NodeRange, count: usize) -> bool
 {
     let end = if range.to < count { range.to } else { count };
     for k in range.from..end {
-        if !has(numbers, k) {
+        if !has_number(numbers, k) {
             return false;
         }
     }

@@ -2,8 +2,8 @@ use Rattle.std.proofs.Common.{◌≡◌, ◌<◌, ℕ, length, inr, sym, ap, ◌
 use Rattle.std.proofs.lemmas.List.{length-reverse, get_or-reverse}
 use Rattle.graph_algorithms.specs.Arcs.{number_in_place, AreNumbered, IsAnswer, IsSorted, IsCycle}
 use Rattle.graph_algorithms.specs.Nesting.{bodies_of}
-use Rattle.loop_tree.specs.Found.{LoopsView}
-use Rattle.loop_tree.specs.Arcs.{IsRoundOfNodes}
+use Rattle.loop_forest.specs.Found.{LoopsView}
+use Rattle.loop_forest.specs.Arcs.{IsRoundOfNodes}
 use Rattle.loop_tree.specs.Backs.{AreLoopLists, AreBacks}
 use Rattle.loop_tree.proofs.ArcLaws.{arcs_numbered, round_of_arcs}
 use Rattle.loop_tree.proofs.OrderLaws.{IsTurned}

@@ -1,7 +1,7 @@
 //! The bodies of loops that are accepted.
 
 ghost use Rattle.std.specs.Prelude.{◌≡◌, length, map, slice_get, Some, IfOk};
-ghost use Rattle.loop_tree.specs.Found.{IsAscending};
+ghost use Rattle.loop_forest.specs.Found.{IsAscending};
 ghost use Rattle.loop_tree.specs.Passes.{AreGraphEdges, IsReady, IsNumberedBody, AreBodies};
 
 use crate::natural::back_edges::loop_body;

@@ -5,7 +5,7 @@ ghost use Rattle.scale_base.specs.Answer.{AnswersBy};
 ghost use Rattle.code_graph.specs.FlowGraph as flow;
 ghost use Rattle.graph_algorithms.specs.Bodies.{IsIn, AreNodes, IsLeastPair};
 ghost use Rattle.loop_tree.specs.Passes.{IsSmallGraph, AreGraphEdges, IsReady, AreOwned, IsSidePair, IsEntryTested, AreEntriesTested, AreShallow};
-ghost use Rattle.loop_tree.specs.Noted.{HasBackEdge};
+ghost use Rattle.loop_forest.specs.Noted.{HasBackEdge};
 
 use crate::natural::back_edges::loop_body;
 use crate::natural::groups::check_group;

@@ -2,7 +2,7 @@
 
 ghost use Rattle.std.specs.Prelude.{◌≡◌, ◌+◌, ◌<◌, ◌≤◌, ◌↔◌, ℕ, true, length, slice_index, count_ones};
 ghost use Rattle.scale_base.specs.Answer.{AnswersBy};
-ghost use Rattle.loop_tree.specs.Noted.{HasBackEdge};
+ghost use Rattle.loop_forest.specs.Noted.{HasBackEdge};
 ghost use Rattle.loop_tree.specs.Passes.{IsSmallGraph, IsReady, IsEnteredBit, AreEnteredBelow, IsGroupEntered};
 
 use crate::natural::entries::{check_entry, entry_of};

@@ -13,7 +13,7 @@ pub struct NaturalLoops {
 
 impl Model for NaturalLoops {
     ghost use Rattle.std.specs.Prelude.{map};
-    ghost use Rattle.loop_tree.specs.Found.{LoopsView};
+    ghost use Rattle.loop_forest.specs.Found.{LoopsView};
 
     ghost Value = { LoopsView };
 

@@ -1,12 +1,10 @@
 use Rattle.std.proofs.Common.{◌≡◌, ◌<◌, ℕ, length, Some, Vec, Global, refl, sym, ap, ◌∙◌, subst, arith, rules, slice_get, true, false}
 use Rattle.std.proofs.lemmas.List.{length-map}
 use Rattle.std.proofs.lemmas.Option.{same_Some}
-use Rattle.cost_theory.specs.Reached.{edge_at}
 use Rattle.cost_theory.specs.Lists.{body_of, is_among}
 use Rattle.code_graph.specs.FlowGraph.{graph}
-use Rattle.loop_tree.proofs.NodeLaws.{source_number}
 use Rattle.graph_algorithms.specs.Nesting.{bodies_of}
-use Rattle.loop_tree.specs.Backs.{IsRising}
+use Rattle.loop_forest.specs.Stored.{IsRising}
 use Rattle.loop_tree.proofs.Lists.{body_read}
 use Rattle.loop_tree.proofs.BackLaws.{back_headed, back_is, back_is_none}
 use Rattle.loop_tree.proofs.backs.back_loop.Goals as goal
@@ -35,8 +33,8 @@ bounds-bodies-number c =
     let within : c.in_ok-number.number < length c.args.headers.now = (c.requires.heads.headed c.in_ok-to.to c.in_ok-number.number c.in_ok-number.was).0 in
     omega arith
 
-pub has-requires : goal.has-requires
-has-requires c =
+pub has_number-requires : goal.has_number-requires
+has_number-requires c =
     let size = c.requires.loops.size in
     let same : length (bodies_of c.args.bodies.now) ≡ length c.args.bodies.now = length-map c.args.bodies.now (λ (body : Vec ℕ Global). body.items) in
     let within : c.in_ok-number.number < length c.args.headers.now = (c.requires.heads.headed c.in_ok-to.to c.in_ok-number.number c.in_ok-number.was).0 in
@@ -44,27 +42,27 @@ has-requires c =
     subst IsRising (body_read c.args.bodies.now c.in_ok-number.number c.index-bodies-number.result lt c.index-bodies-number.is ∙ sym c.deref.ensures.value)
     ((c.requires.loops.body c.in_ok-number.number within).ascending)
 
-pub returns-then-has : goal.returns-then-has
-returns-then-has c =
+pub returns-then-has_number : goal.returns-then-has_number
+returns-then-has_number c =
     let size = c.requires.loops.size in
     let same : length (bodies_of c.args.bodies.now) ≡ length c.args.bodies.now = length-map c.args.bodies.now (λ (body : Vec ℕ Global). body.items) in
     let within : c.in_ok-number.number < length c.args.headers.now = (c.requires.heads.headed c.in_ok-to.to c.in_ok-number.number c.in_ok-number.was).0 in
     let lt : c.in_ok-number.number < length c.args.bodies.now = omega arith in
     let among : is_among c.source-from.result (body_of (bodies_of c.args.bodies.now) c.in_ok-number.number) ≡ true =
-    ap (is_among c.source-from.result) (body_read c.args.bodies.now c.in_ok-number.number c.index-bodies-number.result lt c.index-bodies-number.is ∙ sym c.deref.ensures.value) ∙ sym c.has.ensures ∙ c.if-has.true in
+    ap (is_among c.source-from.result) (body_read c.args.bodies.now c.in_ok-number.number c.index-bodies-number.result lt c.index-bodies-number.is ∙ sym c.deref.ensures.value) ∙ sym c.has_number.ensures ∙ c.if-has_number.true in
     let source : slice_get c.args.graph.now.code.nodes c.source-from.result ≡ Some ((graph c.args.graph.now).source c.args.e) = c.source-from.ensures.node in
     λ k. let is = back_is c.args.graph.now c.args.headers.now (bodies_of c.args.bodies.now) c.args.heads.now c.args.e c.in_ok-to.to c.in_ok-number.number c.source-from.result c.requires.flow c.requires.loops c.requires.heads
     (c.in_ok-to.ensures.some c.in_ok-to.to refl) (c.in_ok-to.ensures.within c.in_ok-to.to refl) c.in_ok-number.was source among k in
     ((λ e. is.0 (same_Some c.in_ok-number.number k e)), (λ b. ap Some (is.1 b)))
 
-pub returns-else-has : goal.returns-else-has
-returns-else-has c =
+pub returns-else-has_number : goal.returns-else-has_number
+returns-else-has_number c =
     let size = c.requires.loops.size in
     let same : length (bodies_of c.args.bodies.now) ≡ length c.args.bodies.now = length-map c.args.bodies.now (λ (body : Vec ℕ Global). body.items) in
     let within : c.in_ok-number.number < length c.args.headers.now = (c.requires.heads.headed c.in_ok-to.to c.in_ok-number.number c.in_ok-number.was).0 in
     let lt : c.in_ok-number.number < length c.args.bodies.now = omega arith in
     let none : is_among c.source-from.result (body_of (bodies_of c.args.bodies.now) c.in_ok-number.number) ≡ false =
-    ap (is_among c.source-from.result) (body_read c.args.bodies.now c.in_ok-number.number c.index-bodies-number.result lt c.index-bodies-number.is ∙ sym c.deref.ensures.value) ∙ sym c.has.ensures ∙ c.if-has.false in
+    ap (is_among c.source-from.result) (body_read c.args.bodies.now c.in_ok-number.number c.index-bodies-number.result lt c.index-bodies-number.is ∙ sym c.deref.ensures.value) ∙ sym c.has_number.ensures ∙ c.if-has_number.false in
     let source : slice_get c.args.graph.now.code.nodes c.source-from.result ≡ Some ((graph c.args.graph.now).source c.args.e) = c.source-from.ensures.node in
     λ k. (
       (λ e. let bad : ⊥ = cc in absurd bad),

@@ -1,7 +1,7 @@
 use Rattle.std.proofs.Common.{rules, ◌≡◌, ◌∙◌, ◌<◌, ◌≤◌, ◌+◌, ℕ, List, None, length, arith, refl, sym, ap, subst, inl, inr}
 use Rattle.scale_base.specs.declared.refusal.Refusal.TheVariants.{SameHeader}
 use Rattle.loop_tree.specs.Passes.{IsReady, AreShallow, AreEntriesFound, depth_at}
-use Rattle.loop_tree.specs.Refused.{AreLoopsFound}
+use Rattle.loop_forest.specs.Refused.{AreLoopsFound}
 use Rattle.loop_tree.proofs.EndLaws.{both_ends}
 use Rattle.loop_tree.proofs.WalkLaws.{ends_edges}
 use Rattle.loop_tree.proofs.ReadyLaws.{header_within}

@@ -4,9 +4,9 @@ use Rattle.std.proofs.lemmas.Option.{slice_get-map, slice_get-get_or, get_or_fro
 use Rattle.cost_theory.specs.Lists.{body_of}
 use Rattle.loop_file.specs.declared.notes.LoopNote.{LoopNote}
 use Rattle.loop_file.specs.Kept.{note_at}
-use Rattle.loop_tree.specs.Found.{LoopsView}
-use Rattle.loop_tree.proofs.BodyLaws.{body_at}
-use Rattle.loop_tree.specs.Backs.{IsRising}
+use Rattle.loop_forest.specs.Found.{LoopsView}
+use Rattle.loop_forest.proofs.Laws.{body_at}
+use Rattle.loop_forest.specs.Stored.{IsRising}
 use Rattle.loop_tree.specs.Trips.{AreTripsOf}
 use Rattle.loop_tree.proofs.TripLaws.{trips_more}
 use Rattle.loop_tree.proofs.trips.trips_of.Goals as goal

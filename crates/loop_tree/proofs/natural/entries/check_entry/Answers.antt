@@ -1,5 +1,4 @@
-use Rattle.std.proofs.Common.{rules, ◌≡◌, ◌∙◌, ap, sym, subst, Some, None, slice_index_or}
-use Rattle.std.proofs.lemmas.Option.{slice_get_within}
+use Rattle.std.proofs.Common.{rules, ◌≡◌, ap, sym, subst, Some, None, slice_index_or}
 use Rattle.scale_base.specs.declared.refusal.Refusal.TheVariants.{SideEntry}
 use Rattle.graph_algorithms.specs.Bodies.{IsLeastPair}
 use Rattle.loop_tree.specs.Passes.{IsNumberedBody, IsSidePair}

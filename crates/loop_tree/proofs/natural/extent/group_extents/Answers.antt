@@ -1,4 +1,4 @@
-use Rattle.std.proofs.Common.{rules, ◌≡◌, ◌∙◌, ap, refl, sym, subst, Some}
+use Rattle.std.proofs.Common.{rules, refl, sym, subst}
 use Rattle.loop_tree.specs.Passes.{IsExtent}
 use Rattle.loop_tree.proofs.HeaderLaws.{note_is}
 use Rattle.loop_tree.proofs.GroupLaws.{extents_none, extents_next, numbered_header}

@@ -1,12 +1,10 @@
-use Rattle.std.proofs.Common.{rules, arith, ℕ, ◌≡◌, ◌∙◌, ◌+◌, ◌-◌, ◌<◌, ◌≤◌, length, false, count_ones, ap, sym, subst}
+use Rattle.std.proofs.Common.{rules, arith, ℕ, ◌≡◌, ◌+◌, ◌<◌, ◌≤◌, length, count_ones, sym, subst}
 use Rattle.std.specs.Prelude.{slice_index}
 use Rattle.std.proofs.lemmas.Bool.{both_ways}
 use Rattle.graph_algorithms.specs.Groups.{AreGroup, AreLoopExtents}
-use Rattle.loop_tree.specs.Noted.{IsNotedSideEntry}
-use Rattle.loop_tree.specs.Passes.{IsEntryTested, IsGroupEntered}
+use Rattle.loop_forest.specs.Noted.{IsNotedSideEntry}
 use Rattle.loop_tree.proofs.EntryLaws.{depth_small}
 use Rattle.loop_tree.proofs.ReadyLaws.{header_within, none_next}
-use Rattle.loop_tree.proofs.FoundLaws.{passed_on}
 use Rattle.loop_tree.proofs.GroupLaws.{loops_are, clean_at, depths_group}
 use Rattle.loop_tree.proofs.natural.groups.check_group.Goals as goal
 use Rattle.loop_tree.proofs.natural.groups.check_group.Goals.{then-is_entered+in_ok-check_entry, else-is_entered}

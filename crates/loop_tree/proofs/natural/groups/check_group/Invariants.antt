@@ -1,5 +1,5 @@
 use Rattle.std.proofs.Common.{◌≡◌, ℕ, ◌<◌}
-use Rattle.loop_tree.specs.Noted.{IsNotedSideEntry}
+use Rattle.loop_forest.specs.Noted.{IsNotedSideEntry}
 use Rattle.loop_tree.proofs.natural.groups.check_group.Given as goal
 
 abbrev pub invariant-loop-k : goal.invariant-loop-k

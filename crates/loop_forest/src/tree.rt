@@ -2,49 +2,45 @@
 
 ghost use Rattle.std.specs.Prelude.{◌≡◌, ◌<◌, ◌≤◌, ◌↔◌, true, Some, length, slice_get, slice_index};
 ghost use Rattle.cost_theory.specs.Lists.{body_of, is_among};
-ghost use Rattle.loop_tree.specs.Tree.{LoopView};
+ghost use Rattle.loop_forest.specs.Stored.{IsStoredTree, parts_seen};
 
-use crate::backs::has;
+use crate::numbers::has_number;
+use crate::parts::LoopParts;
 use std::marker::Model;
 
 /// The loops of a graph by number, with their nesting, and the numbers of its nodes in an order along plain edges. A loop is
 /// round a node where the node is in its body. Contracts see the loops as lists over the numbers of nodes and edges.
 #[derive(Drop)]
 pub struct LoopTree {
-    pub(crate) headers: Vec<usize>,
-    pub(crate) bounds: Vec<u32>,
-    pub(crate) counted: Vec<bool>,
-    pub(crate) least_trips: Vec<u32>,
-    /// Each ascending.
-    pub(crate) bodies: Vec<Vec<usize>>,
-    /// By edge, the loop of which it is a back edge.
-    pub(crate) backs: Vec<Option<usize>>,
-    /// By node.
-    pub(crate) innermost: Vec<Option<usize>>,
-    /// By loop.
-    pub(crate) parent: Vec<Option<usize>>,
-    pub(crate) order: Vec<usize>,
+    parts: LoopParts,
 }
 
 impl Model for LoopTree {
-    ghost use Rattle.std.specs.Prelude.{map};
-    ghost use Rattle.loop_tree.specs.Tree.{LoopView};
-    ghost use Rattle.loop_tree.specs.Stored.{IsStoredTree};
+    ghost use Rattle.loop_forest.specs.Tree.{LoopView};
+    ghost use Rattle.loop_forest.specs.Stored.{IsStoredTree, parts_seen};
 
     ghost Value = { LoopView };
 
-    ghost view = { λ t. record { headers = t.headers.items; bounds = t.bounds.items; counted = t.counted.items; least_trips = t.least_trips.items; bodies = map (λ body. body.items) t.bodies.items; backs = t.backs.items; innermost = t.innermost.items; parent = t.parent.items; order = t.order.items } };
+    ghost view = { λ t. parts_seen t.parts };
 
-    ghost invariant = { λ t. IsStoredTree (record { headers = t.headers.items; bounds = t.bounds.items; counted = t.counted.items; least_trips = t.least_trips.items; bodies = map (λ body. body.items) t.bodies.items; backs = t.backs.items; innermost = t.innermost.items; parent = t.parent.items; order = t.order.items }) };
+    ghost invariant = { λ t. IsStoredTree (parts_seen t.parts) };
 }
 
 impl LoopTree {
+    /// The tree of these parts.
+    pub fn of(parts: LoopParts) -> LoopTree
+        requires { IsStoredTree (parts_seen parts) }
+        ensures { result ≡ parts_seen parts }
+    {
+        LoopTree { parts }
+    }
+
     /// How many loops there are: at most 4,096.
     pub fn loop_count(&self) -> usize
         ensures count { result ≡ length self.now.headers }
         ensures few { result ≤ 4096 }
     {
-        self.headers.len()
+        self.parts.headers.len()
     }
 
     /// The number of the node that is the header of loop `l`.
@@ -52,7 +48,7 @@ impl LoopTree {
         requires { l < length self.now.headers }
         ensures { slice_get self.now.headers l ≡ Some result }
     {
-        self.headers[l]
+        self.parts.headers[l]
     }
 
     /// How many back edges one entry of loop `l` may take, as its note says.
@@ -60,14 +56,14 @@ impl LoopTree {
         requires { l < length self.now.headers }
         ensures { slice_get self.now.bounds l ≡ Some result }
     {
-        self.bounds[l]
+        self.parts.bounds[l]
     }
 
     /// By loop, how many back edges one entry of it may take.
     pub fn bounds(&self) -> &[u32]
         ensures { result.now ≡ self.now.bounds }
     {
-        &self.bounds
+        &self.parts.bounds
     }
 
     /// Whether the back edges of loop `l` are counted, as its note says.
@@ -75,7 +71,7 @@ impl LoopTree {
         requires { l < length self.now.headers }
         ensures { slice_get self.now.counted l ≡ Some result }
     {
-        self.counted[l]
+        self.parts.counted[l]
     }
 
     /// How many back edges an entry of loop `l` takes at least before the loop is left: what its note says of that, where each
@@ -85,7 +81,7 @@ impl LoopTree {
         ensures trips { slice_get self.now.least_trips l ≡ Some result }
         ensures within { result ≤ slice_index self.now.bounds l }
     {
-        self.least_trips[l]
+        self.parts.least_trips[l]
     }
 
     /// The numbers of the nodes in the body of loop `l`, ascending.
@@ -93,7 +89,7 @@ impl LoopTree {
         requires { l < length self.now.headers }
         ensures { result.now ≡ body_of self.now.bodies l }
     {
-        &self.bodies[l]
+        &self.parts.bodies[l]
     }
 
     /// Whether node `k` is in the body of loop `l`.
@@ -101,7 +97,7 @@ impl LoopTree {
         requires { l < length self.now.headers }
         ensures { result ≡ is_among k (body_of self.now.bodies l) }
     {
-        has(&self.bodies[l], k)
+        has_number(&self.parts.bodies[l], k)
     }
 
     /// The loop of which edge `e` is a back edge. None exactly for a plain edge. An edge is a back edge of one loop at most,
@@ -110,14 +106,14 @@ impl LoopTree {
         requires { e < length self.now.backs }
         ensures { slice_get self.now.backs e ≡ Some result }
     {
-        self.backs[e]
+        self.parts.backs[e]
     }
 
     /// By edge, the loop of which it is a back edge.
     pub fn backs(&self) -> &[Option<usize>]
         ensures { result.now ≡ self.now.backs }
     {
-        &self.backs
+        &self.parts.backs
     }
 
     /// Whether edge `e` is a back edge of loop `l`.
@@ -125,7 +121,7 @@ impl LoopTree {
         requires { e < length self.now.backs }
         ensures { (result ≡ true) ↔ (slice_get self.now.backs e ≡ Some (Some l)) }
     {
-        self.backs[e] == Some(l)
+        self.parts.backs[e] == Some(l)
     }
 
     /// The loop with the least body of those round node `k`. None exactly where no loop is round it.
@@ -133,7 +129,7 @@ impl LoopTree {
         requires { k < length self.now.innermost }
         ensures { slice_get self.now.innermost k ≡ Some result }
     {
-        self.innermost[k]
+        self.parts.innermost[k]
     }
 
     /// The loop with the least body of those round the header of loop `l`, `l` left out. None exactly where there is none.
@@ -141,13 +137,13 @@ impl LoopTree {
         requires { l < length self.now.headers }
         ensures { slice_get self.now.parent l ≡ Some result }
     {
-        self.parent[l]
+        self.parts.parent[l]
     }
 
     /// The numbers of the nodes, each before those to which its plain edges lead.
     pub fn plain_order(&self) -> &[usize]
         ensures { result.now ≡ self.now.order }
     {
-        &self.order
+        &self.parts.order
     }
 }

@@ -10,9 +10,9 @@ use Rattle.graph_algorithms.specs.Cycles.{IsCycleBy}
 use Rattle.code_graph.specs.FlowGraph.{FlowGraph, graph}
 use Rattle.loop_file.specs.declared.notes.LoopNote.{LoopNote}
 use Rattle.loop_file.specs.Kept.{noted_loops, note_at}
-use Rattle.loop_tree.specs.Noted.{node_address, loops_by}
-use Rattle.loop_tree.specs.Found.{IsAscending}
-use Rattle.loop_tree.specs.Refused.{AreNoted, AreLoopsRefused}
+use Rattle.loop_forest.specs.Noted.{node_address, loops_by}
+use Rattle.loop_forest.specs.Found.{IsAscending}
+use Rattle.loop_forest.specs.Refused.{AreNoted, AreLoopsRefused}
 
 pub record LoopView : Type 0 where
   -- by loop: the number of its header's node, how many back edges one entry may take, whether it is counted, how many back edges an entry

@@ -8,8 +8,8 @@ use Rattle.cost_theory.specs.Accepted.{AreEntered, IsTooDeep}
 use Rattle.code_graph.specs.FlowGraph.{FlowGraph, graph}
 use Rattle.loop_file.specs.declared.notes.LoopNote.{LoopNote}
 use Rattle.loop_file.specs.Kept.{noted_loops}
-use Rattle.loop_tree.specs.Noted.{IsHeaderReached, HaveOneHeader, HasBackEdge, IsNotedSideEntry}
-use Rattle.loop_tree.specs.Found.{LoopsView, AreNaturalLoops}
+use Rattle.loop_forest.specs.Noted.{IsHeaderReached, HaveOneHeader, HasBackEdge, IsNotedSideEntry}
+use Rattle.loop_forest.specs.Found.{LoopsView, AreNaturalLoops}
 
 -- the header of loop k isn't reached, and those of the loops before it are
 pub record IsHeaderRefused (v : FlowGraph) (notes : List LoopNote) (refusal : Refusal) : Type 0 where

@@ -6,7 +6,7 @@ use Rattle.cost_theory.specs.Lists.{body_of}
 use Rattle.code_graph.specs.FlowGraph.{FlowGraph, graph}
 use Rattle.loop_file.specs.declared.notes.LoopNote.{LoopNote}
 use Rattle.loop_file.specs.Kept.{noted_loops}
-use Rattle.loop_tree.specs.Noted.{header_address, loops_by}
+use Rattle.loop_forest.specs.Noted.{header_address, loops_by}
 
 -- by number of the loop: the number of its header's node, and those of the nodes in its body
 pub record LoopsView : Type 0 where

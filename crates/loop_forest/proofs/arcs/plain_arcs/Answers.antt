@@ -1,8 +1,8 @@
 use Rattle.std.proofs.Common.{◌<◌, length, Some, None, ap, ◌∙◌, arith}
 use Rattle.std.proofs.lemmas.Option.{slice_get-get_or, get_or_from_slice_get}
-use Rattle.loop_tree.proofs.ArcLaws.{arc_skipped, arc_added}
-use Rattle.loop_tree.proofs.arcs.plain_arcs.Goals as goal
-use Rattle.loop_tree.proofs.arcs.plain_arcs.Goals.{in-Some+in_ok-push, in_default}
+use Rattle.loop_forest.proofs.ArcLaws.{arc_skipped, arc_added}
+use Rattle.loop_forest.proofs.arcs.plain_arcs.Goals as goal
+use Rattle.loop_forest.proofs.arcs.plain_arcs.Goals.{in-Some+in_ok-push, in_default}
 
 pub loop-e-preserved : goal.loop-e-preserved
 loop-e-preserved c =

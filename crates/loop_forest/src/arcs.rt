@@ -2,8 +2,8 @@
 
 ghost use Rattle.std.specs.Prelude.{◌≡◌, ◌<◌, ◌≤◌, length, IfOk};
 ghost use Rattle.code_graph.specs.FlowGraph.{IsFlowGraph};
-ghost use Rattle.loop_tree.specs.Arcs.{ArePlainArcs};
-ghost use Rattle.loop_tree.specs.Backs.{IsArcOf};
+ghost use Rattle.loop_forest.specs.Arcs.{ArePlainArcs};
+ghost use Rattle.loop_forest.specs.Arcs.{IsArcOf};
 
 use code_graph::CodeGraph;
 use graph_algorithms::Arc;

@@ -14,6 +14,11 @@ pub record IsEdgeBetween (v : FlowGraph) (e a b : ℕ) : Type 0 where
 abbrev pub IsPlainBy : List (Option ℕ) → ℕ → Type 0
 IsPlainBy backs e = slice_get backs e ≡ Some None
 
+-- the arc of an edge, which is a back edge of a loop or of none: none where it is one or leads to no node
+abbrev pub IsArcOf : FlowGraph → Option ℕ → ℕ → Option Arc → Type 0
+IsArcOf v back e (Some arc) = (back ≡ None) × IsEdgeBetween v e arc.from arc.to
+IsArcOf v back e None = back ≡ None → (graph v).target e ≡ None
+
 -- an arc for each of the first n edges that leads to a node and is no back edge, and no others
 pub record ArePlainArcs (v : FlowGraph) (backs : List (Option ℕ)) (n : ℕ) (arcs : List Arc) : Type 0 where
   pub few : length arcs ≤ n

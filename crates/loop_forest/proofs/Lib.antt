@@ -1,0 +1,5 @@
+pub mod AmongLaws
+mod ArcLaws
+pub mod NodeLaws
+pub mod BodyLaws
+pub mod Laws

@@ -1,0 +1,28 @@
+use Rattle.std.proofs.Common.{◌≡◌, ◌<◌, length, Vec, Global, ℕ, sym, ap, ◌∙◌, Some, map, slice_get, arith, subst, option_map}
+use Rattle.std.proofs.lemmas.List.{length-map}
+use Rattle.std.proofs.lemmas.Option.{slice_get-map, slice_get-get_or}
+use Rattle.loop_forest.proofs.BodyLaws.{body_at}
+use Rattle.cost_theory.specs.Lists.{is_among}
+use Rattle.loop_forest.specs.Tree.{LoopView}
+use Rattle.loop_forest.specs.Stored.{IsRising}
+use Rattle.loop_forest.proofs.tree.LoopTree.in_body.Goals as goal
+
+pub has_number-requires : goal.has_number-requires
+has_number-requires c =
+    let lt : c.args.l < length c.self.inside.parts.headers.items = subst (λ (v : LoopView). c.args.l < length v.headers) (sym c.self.view_is) c.requires in
+    let size : length (map (λ (body : Vec ℕ Global). body.items) c.self.inside.parts.bodies.items) ≡ length c.self.inside.parts.headers.items = c.self.invariant.bodies in
+    let same : length (map (λ (body : Vec ℕ Global). body.items) c.self.inside.parts.bodies.items) ≡ length c.self.inside.parts.bodies.items = length-map c.self.inside.parts.bodies.items (λ (body : Vec ℕ Global). body.items) in
+    let low : c.args.l < length c.self.inside.parts.bodies.items = omega arith in
+    let got : slice_get c.self.inside.parts.bodies.items c.args.l ≡ Some c.index.result.now = slice_get-get_or c.self.inside.parts.bodies.items c.args.l c.index.result.now low ∙ ap Some (sym c.index.ensures) in
+    let body : slice_get (map (λ (body : Vec ℕ Global). body.items) c.self.inside.parts.bodies.items) c.args.l ≡ Some c.index.result.now.items = slice_get-map (λ (body : Vec ℕ Global). body.items) c.self.inside.parts.bodies.items c.args.l ∙ ap (option_map (λ (body : Vec ℕ Global). body.items)) got in
+    subst IsRising (body_at (map (λ (body : Vec ℕ Global). body.items) c.self.inside.parts.bodies.items) c.args.l c.index.result.now.items body ∙ sym c.deref.ensures.value) (c.self.invariant.ascending c.args.l)
+
+pub returns : goal.returns
+returns c =
+    let lt : c.args.l < length c.self.inside.parts.headers.items = subst (λ (v : LoopView). c.args.l < length v.headers) (sym c.self.view_is) c.requires in
+    let size : length (map (λ (body : Vec ℕ Global). body.items) c.self.inside.parts.bodies.items) ≡ length c.self.inside.parts.headers.items = c.self.invariant.bodies in
+    let same : length (map (λ (body : Vec ℕ Global). body.items) c.self.inside.parts.bodies.items) ≡ length c.self.inside.parts.bodies.items = length-map c.self.inside.parts.bodies.items (λ (body : Vec ℕ Global). body.items) in
+    let low : c.args.l < length c.self.inside.parts.bodies.items = omega arith in
+    let got : slice_get c.self.inside.parts.bodies.items c.args.l ≡ Some c.index.result.now = slice_get-get_or c.self.inside.parts.bodies.items c.args.l c.index.result.now low ∙ ap Some (sym c.index.ensures) in
+    let body : slice_get (map (λ (body : Vec ℕ Global). body.items) c.self.inside.parts.bodies.items) c.args.l ≡ Some c.index.result.now.items = slice_get-map (λ (body : Vec ℕ Global). body.items) c.self.inside.parts.bodies.items c.args.l ∙ ap (option_map (λ (body : Vec ℕ Global). body.items)) got in
+    c.has_number.ensures ∙ ap (is_among c.args.k) (c.deref.ensures.value ∙ sym (body_at c.args.self.now.bodies c.args.l c.index.result.now.items (subst (λ (v : LoopView). slice_get v.bodies c.args.l ≡ Some c.index.result.now.items) c.self.view_is body)))
