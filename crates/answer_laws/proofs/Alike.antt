@@ -10,9 +10,9 @@ use Rattle.cost_theory.specs.Reached.{edge_to}
 use Rattle.cost_theory.proofs.Laws as theory
 use Rattle.cost_theory.proofs.Laws.{same_numbers}
 use Rattle.worst_cycles.specs.Worst.{slack_at, rest_at}
-use Rattle.code_graph.specs.FlowGraph.{FlowGraph, graph}
+use Rattle.flow_graph.specs.FlowGraph.{FlowGraph, graph}
 use Rattle.loop_file.specs.Kept.{noted_loops}
-use Rattle.loop_tree.specs.Tree.{loops}
+use Rattle.loop_forest.specs.Tree.{loops}
 use Rattle.answer_laws.specs.Renumbered.{IsRenumberedGraph}
 use Rattle.answer_laws.specs.Laws.{NumbersAreAlike}
 use Rattle.answer_laws.proofs.SameEdges.{with_edges, by_edges}

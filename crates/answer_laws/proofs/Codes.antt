@@ -12,8 +12,8 @@ use Rattle.cost_theory.proofs.Laws.{some_get, callee-call, callee-is}
 use Rattle.code_text.specs.Text.{kind_at}
 use Rattle.code_text.specs.EdgeCosts.{cost_of, edge_class}
 use Rattle.code_text.specs.TextGraph.{text_graph}
-use Rattle.code_graph.specs.FlowGraph.{graph}
-use Rattle.code_graph.proofs.Laws.{place_or_none, some_is}
+use Rattle.flow_graph.specs.FlowGraph.{graph}
+use Rattle.flow_graph.proofs.Laws.{place_or_none, some_is}
 use Rattle.answer_laws.specs.Renumbered.{AreNumberedBy, IsRenumberedGraph}
 use Rattle.answer_laws.specs.Laws.{GraphsAreRenumbered, WeightsAgree}
 use Rattle.answer_laws.proofs.Numbers.{both_ways, IsThere, ascending_same, few_numbered}

@@ -8,13 +8,13 @@ use Rattle.cost_theory.specs.Graph.{Loops, sum_below, only, is_header, is_back, 
 use Rattle.cost_theory.specs.Accepted.{IsNode, IsInBody, AreEntered, IsTooDeep, IsPlainOrder}
 use Rattle.cost_theory.proofs.Laws.{and_left, and_right, sum-same, accepted_entered}
 use Rattle.cost_theory.proofs.Laws as theory
-use Rattle.code_graph.specs.FlowGraph.{FlowGraph, graph, IsFlowGraph}
-use Rattle.code_graph.proofs.Laws.{less_same_more}
+use Rattle.flow_graph.specs.FlowGraph.{FlowGraph, graph, IsFlowGraph}
+use Rattle.flow_graph.proofs.Laws.{less_same_more}
 use Rattle.loop_file.specs.declared.notes.LoopNote.{LoopNote}
 use Rattle.loop_file.specs.Kept.{noted_loops, in_extent, note_at}
-use Rattle.loop_tree.specs.Noted.{header_address, IsBodyNode, IsNotedSideEntry}
-use Rattle.loop_tree.specs.Refused.{IsHeaderRefused, IsPairRefused, IsBackEdgeRefused, IsEntryRefused, AreNoted, IsDepthRefused}
-use Rattle.loop_tree.specs.Tree.{LoopView, loops, IsTreeOf, IsPlainStep, IsCycleRefused, IsTreeRefusal}
+use Rattle.loop_forest.specs.Noted.{header_address, IsBodyNode, IsNotedSideEntry}
+use Rattle.loop_forest.specs.Refused.{IsHeaderRefused, IsPairRefused, IsBackEdgeRefused, IsEntryRefused, AreNoted, IsDepthRefused}
+use Rattle.loop_forest.specs.Tree.{LoopView, loops, IsTreeOf, IsPlainStep, IsCycleRefused, IsTreeRefusal}
 use Rattle.answer_laws.specs.Alike.{AreAlikeRefusals}
 use Rattle.answer_laws.proofs.Numbers.{both_ways, no_cycle}
 

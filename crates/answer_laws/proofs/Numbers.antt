@@ -4,7 +4,7 @@ use Rattle.std.proofs.lemmas.Option.{slice_get-map}
 use Rattle.std.proofs.lemmas.List.{length-map}
 use Rattle.graph_algorithms.specs.Arcs.{number_in_place}
 use Rattle.graph_algorithms.specs.Cycles.{IsCycleBy}
-use Rattle.code_graph.proofs.Laws.{Ascend, some_is, few_once}
+use Rattle.flow_graph.proofs.Laws.{Ascend, some_is, few_once}
 
 -- tests that hold together are the same
 pub both_ways : (a b : Bool) → (a ≡ true → b ≡ true) → (b ≡ true → a ≡ true) → a ≡ b

@@ -10,9 +10,9 @@ use Rattle.cost_theory.proofs.Laws.{some_same, end_edge, callee_word, callee-is,
 use Rattle.cost_theory.proofs.Laws as theory
 use Rattle.code_text.specs.Text.{Text, kind_at}
 use Rattle.code_text.specs.TextGraph.{text_graph}
-use Rattle.code_graph.specs.FlowGraph.{FlowGraph, IsGraphOf}
-use Rattle.code_graph.specs.Refused.{cause_at, IsLeastRefused, IsLeastShared, Calls, IsRecursion, IsRefusedBy}
-use Rattle.code_graph.proofs.Laws.{fine_cause, less_same_more, some_is, entry_reached}
+use Rattle.flow_graph.specs.FlowGraph.{FlowGraph, IsGraphOf}
+use Rattle.flow_graph.specs.Refused.{cause_at, IsLeastRefused, IsLeastShared, Calls, IsRecursion, IsRefusedBy}
+use Rattle.flow_graph.proofs.Laws.{fine_cause, less_same_more, some_is, entry_reached}
 use Rattle.answer_laws.specs.Laws.{GraphIsNotRefused, CodeRefusalsAgree}
 use Rattle.answer_laws.specs.Alike.{AreAlikeRefusals}
 use Rattle.answer_laws.proofs.Numbers.{no_cycle}

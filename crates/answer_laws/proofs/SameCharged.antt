@@ -11,9 +11,9 @@ use Rattle.cycle_laws.specs.Charged.{Charged, calls_so, calls_exit, charged_trip
 use Rattle.cycle_laws.specs.LeastLaws.{IsCharged, AreAlike}
 use Rattle.cycle_laws.proofs.Laws.{charged_agree, plain_returns}
 use Rattle.code_text.specs.Text.{kind_at}
-use Rattle.code_graph.specs.FlowGraph.{graph}
+use Rattle.flow_graph.specs.FlowGraph.{graph}
 use Rattle.loop_file.specs.Kept.{noted_loops}
-use Rattle.loop_tree.specs.Tree.{loops}
+use Rattle.loop_forest.specs.Tree.{loops}
 use Rattle.answer_laws.specs.Renumbered.{IsRenumberedGraph}
 use Rattle.answer_laws.specs.Laws.{ChargedAreAlike}
 use Rattle.answer_laws.proofs.SameEdges.{with_edges, by_edges}

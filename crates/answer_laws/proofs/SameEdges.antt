@@ -5,7 +5,7 @@ use Rattle.scale_base.specs.declared.edges.Edge.{Edge}
 use Rattle.cost_theory.specs.declared.flow.Flow.{Flow}
 use Rattle.scale_base.specs.declared.stepping.Class.{Class}
 use Rattle.cost_theory.specs.Accepted.{IsInBody, IsSideEntry, AreEntered, AreAccepted}
-use Rattle.code_graph.specs.FlowGraph.{FlowGraph, graph}
+use Rattle.flow_graph.specs.FlowGraph.{FlowGraph, graph}
 use Rattle.answer_laws.specs.Renumbered.{IsRenumberedGraph, IsRenumbered}
 
 -- a graph with the edges of another

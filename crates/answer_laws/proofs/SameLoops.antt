@@ -1,12 +1,12 @@
 -- What is so of the loops of notes over a graph is so of them over the graph that is numbered anew.
 use Rattle.std.proofs.Common.{◌≡◌, ℕ, ◌<◌, List, Some, refl, ⊎_elim, inl, inr}
 use Rattle.scale_base.specs.declared.refusal.Refusal.{Refusal}
-use Rattle.code_graph.specs.FlowGraph.{FlowGraph, graph}
+use Rattle.flow_graph.specs.FlowGraph.{FlowGraph, graph}
 use Rattle.loop_file.specs.declared.notes.LoopNote.{LoopNote}
 use Rattle.loop_file.specs.Kept.{noted_loops, in_extent, note_at}
-use Rattle.loop_tree.specs.Noted.{header_address, IsBodyNode, HasBackEdge, IsNotedSideEntry}
-use Rattle.loop_tree.specs.Refused.{AreHeaders}
-use Rattle.loop_tree.specs.Tree.{LoopView, loops, IsTreeOf, IsTreeRefusal}
+use Rattle.loop_forest.specs.Noted.{header_address, IsBodyNode, HasBackEdge, IsNotedSideEntry}
+use Rattle.loop_forest.specs.Refused.{AreHeaders}
+use Rattle.loop_forest.specs.Tree.{LoopView, loops, IsTreeOf, IsTreeRefusal}
 use Rattle.answer_laws.specs.Renumbered.{IsRenumberedGraph, IsRenumbered}
 use Rattle.answer_laws.proofs.SameEdges.{with_lists, by_lists, body_from, body_to, entry_from, entry_to, entered_from, accepted_from}
 

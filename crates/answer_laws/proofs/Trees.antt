@@ -7,12 +7,12 @@ use Rattle.std.proofs.lemmas.List.{length-map, ext_get_or}
 use Rattle.std.proofs.lemmas.Option.{slice_get-get_or}
 use Rattle.cost_theory.specs.Graph.{Loops}
 use Rattle.cost_theory.specs.Lists.{body_of, is_among}
-use Rattle.code_graph.specs.FlowGraph.{FlowGraph, IsFlowGraph}
+use Rattle.flow_graph.specs.FlowGraph.{FlowGraph, IsFlowGraph}
 use Rattle.loop_file.specs.declared.notes.LoopNote.{LoopNote}
 use Rattle.loop_file.specs.Kept.{noted_loops}
-use Rattle.loop_tree.specs.Noted.{node_address}
-use Rattle.loop_tree.proofs.Laws.{one_number}
-use Rattle.loop_tree.specs.Tree.{LoopView, loops, HasWholeExtent, IsTreeOf}
+use Rattle.loop_forest.specs.Noted.{node_address}
+use Rattle.loop_forest.proofs.Laws.{one_number}
+use Rattle.loop_forest.specs.Tree.{LoopView, loops, HasWholeExtent, IsTreeOf}
 use Rattle.answer_laws.specs.Laws.{TreeIsNotRefused, LoopRefusalsAgree, TreesAgree}
 use Rattle.answer_laws.proofs.SameLoops.{tree_moved, refusal_moved, loops_moved}
 use Rattle.answer_laws.proofs.LoopRefusals.{tree_noted, tree_entered, inside_same, tree_not_refused, loop_refusals_alike}

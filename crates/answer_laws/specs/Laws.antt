@@ -7,10 +7,10 @@ use Rattle.cost_theory.specs.Accepted.{AreWeights}
 use Rattle.cycle_laws.specs.Charged.{Charged, AreCharged}
 use Rattle.code_text.specs.Text.{Text}
 use Rattle.code_text.specs.EdgeCosts.{weights}
-use Rattle.code_graph.specs.FlowGraph.{FlowGraph, graph, IsFlowGraph, IsGraphOf}
-use Rattle.code_graph.specs.Refused.{IsRefusedBy}
+use Rattle.flow_graph.specs.FlowGraph.{FlowGraph, graph, IsFlowGraph, IsGraphOf}
+use Rattle.flow_graph.specs.Refused.{IsRefusedBy}
 use Rattle.loop_file.specs.declared.notes.LoopNote.{LoopNote}
-use Rattle.loop_tree.specs.Tree.{LoopView, loops, IsTreeOf, IsTreeRefusal}
+use Rattle.loop_forest.specs.Tree.{LoopView, loops, IsTreeOf, IsTreeRefusal}
 use Rattle.answer_laws.specs.Renumbered.{IsRenumbered}
 use Rattle.answer_laws.specs.Alike.{AreAlikeRefusals, AreAlikeTrees, AreAlikeNumbers, AreAlikeCharged}
 

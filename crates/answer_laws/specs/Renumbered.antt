@@ -2,7 +2,7 @@
 use Rattle.std.specs.Prelude.{◌≡◌, ℕ, ◌<◌, length, slice_get, Some, option_map}
 use Rattle.cost_theory.specs.Graph.{Graph}
 use Rattle.cost_theory.specs.Reached.{returns_of}
-use Rattle.code_graph.specs.FlowGraph.{FlowGraph, graph}
+use Rattle.flow_graph.specs.FlowGraph.{FlowGraph, graph}
 
 -- The functions of one graph under the numbers that another gives them: the entries, and by edge and by node the function that is called and the owner.
 pub record AreNumberedBy (g g' : Graph) (number : ℕ → ℕ) : Type 0 where

@@ -15,7 +15,7 @@ use crate::nodes::{callees_of, entries_of, nodes_of, returning_of};
 use crate::reach::{TextReach, reach_text};
 use crate::recursion::call_order_of;
 use crate::refusals::{first_shared, least_refused, refusal_at};
-use elf_view::ImageView;
+use elf_image::ImageView;
 use flow_graph::{CodeGraph, GraphLists};
 use scale_base::{NoMemory, Refusal, Stop};
 use std::alloc::Global;

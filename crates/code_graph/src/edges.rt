@@ -10,7 +10,7 @@ ghost use Rattle.code_graph.specs.Assembling.{flag_at, listed, AreEdgesOf};
 ghost use Rattle.flow_graph.specs.Stored.{AreFirsts};
 
 use cost_theory::Flow;
-use elf_view::ImageView;
+use elf_image::ImageView;
 use rv_decode::{class_of, decode};
 use scale_base::{Class, Edge, EdgeKind, Instr, NoMemory};
 use std::alloc::Global;

@@ -19,7 +19,7 @@ use crate::reach::outside::lowest_outside;
 use crate::reach::returning::find_returning;
 use crate::reach::steps::steps_of;
 use code_text::{TextWords, read_words};
-use elf_view::ImageView;
+use elf_image::ImageView;
 pub use marks::Mark;
 use scale_base::NoMemory;
 use std::alloc::Global;

@@ -11,7 +11,7 @@ ghost use Rattle.code_graph.specs.Finding.{reach_of, IsReachIn, IsFirstBelow, Is
 
 use crate::reach::{Mark, TextReach};
 use cost_theory::Flow;
-use elf_view::ImageView;
+use elf_image::ImageView;
 use rv_decode::decode;
 use scale_base::{Instr, Refusal};
 

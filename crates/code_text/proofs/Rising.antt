@@ -3,7 +3,7 @@ use Rattle.std.proofs.Common.{◌≡◌, ℕ, zero, suc, ◌+◌, ◌-◌, ◌*�
 use Rattle.std.proofs.lemmas.List.{take_all}
 use Rattle.std.specs.List.{range_with_len}
 use Rattle.scale_base.specs.declared.ranges.Range.{Range}
-use Rattle.elf_view.specs.Ascending.{AscendFrom}
+use Rattle.elf_image.specs.Ascending.{AscendFrom}
 use Rattle.code_text.specs.Table.{word_addresses, all_addresses}
 use Rattle.code_text.specs.Walk.{RiseStrictly}
 

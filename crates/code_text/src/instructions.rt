@@ -7,7 +7,7 @@ ghost use Rattle.scale_base.specs.Image.{image_of, is_word_address, text_word};
 ghost use Rattle.code_text.specs.Text as texts;
 
 use cost_theory::Flow;
-use elf_view::ImageView;
+use elf_image::ImageView;
 use rv_decode::decode;
 use scale_base::{ImmOp, Instr};
 

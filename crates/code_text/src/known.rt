@@ -7,7 +7,7 @@ ghost use Rattle.code_text.specs.Text as texts;
 ghost use Rattle.code_text.specs.Walk.{IsWalked, AreTargetsOf, Rise};
 
 use crate::instructions::{instr_at, leaves_17, puts_17};
-use elf_view::ImageView;
+use elf_image::ImageView;
 use scale_base::{Instr, Range};
 
 /// Whether the address is among the targets, which ascend.

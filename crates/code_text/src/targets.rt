@@ -7,7 +7,7 @@ ghost use Rattle.code_text.specs.Text as texts;
 ghost use Rattle.code_text.specs.Walk.{IsWalked, AreTargetsOf, Rise};
 
 use crate::instructions::{instr_at, jump_of};
-use elf_view::ImageView;
+use elf_image::ImageView;
 use scale_base::{NoMemory, Range};
 use std::alloc::Global;
 

@@ -10,7 +10,7 @@ use crate::instructions::{instr_at, instr_kind};
 use crate::known::known_within;
 use crate::targets::targets_of;
 use cost_theory::Flow;
-use elf_view::ImageView;
+use elf_image::ImageView;
 use scale_base::{Instr, NoMemory, Range};
 use std::alloc::Global;
 use std::marker::Model;

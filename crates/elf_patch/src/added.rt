@@ -10,7 +10,8 @@ use crate::write::{
     changed, keyed_number, push_entries, push_zeros, put_half, put_patches, put_word,
 };
 use byteorder::{ByteOrder, LittleEndian};
-use elf_view::{ImageView, program_header_count};
+use elf_image::ImageView;
+use elf_view::program_header_count;
 use scale_base::{NoMemory, Patch};
 use std::alloc::Global;
 

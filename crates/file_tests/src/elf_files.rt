@@ -6,6 +6,7 @@ use scale_base::{Range, Span};
 use std::alloc::Global;
 use std::process::Abort;
 use std::test::Fail;
+use symbol_index::SortedSymbols;
 
 #[test]
 fn reads_segments_and_text(rt: HostRuntime) -> Result<(), Fail> {
@@ -87,7 +88,7 @@ fn expect_symbols(
     names: &[(&str, Option<u32>)],
 ) -> Result<(), Fail> {
     let view = view_of(alloc, file)?;
-    let sorted = view.sorted_symbols(alloc).ok().ok_or("memory")?;
+    let sorted = SortedSymbols::of(alloc, &view).ok().ok_or("memory")?;
     for (name, value) in names {
         let found = (view.symbol(name), sorted.value(name));
         assert_eq!(rt; found, (*value, *value), "{name}");

@@ -1,6 +1,7 @@
 //! Images and texts that tests of several crates use.
 
-use elf_view::{ImageView, read_image};
+use elf_image::ImageView;
+use elf_view::read_image;
 use jump_lists::read_jumps;
 use loop_file::{LoopNote, LoopNotes, read_loops};
 use machine_file::read_machine;

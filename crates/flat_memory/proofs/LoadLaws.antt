@@ -17,7 +17,7 @@ use Rattle.scale_base.specs.Layout as rules
 use Rattle.flat_memory.specs.Blocks.{span_of, holds, is_plain_block, block_part, parts_of, byte_in_blocks}
 use Rattle.flat_memory.specs.Lists.{memory_byte}
 use Rattle.flat_memory.specs.Ordered.{are_ordered, range_before, is_ordered_text}
-use Rattle.elf_view.specs.Ascending.{AscendFrom}
+use Rattle.elf_image.specs.Ascending.{AscendFrom}
 use Rattle.flat_memory.specs.Loaded.{offset_byte, IsBlockOf, AreBlocksOf}
 use Rattle.flat_memory.specs.declared.block.Block.{Block}
 use Rattle.flat_memory.proofs.BlockLaws.{read}

@@ -4,13 +4,13 @@ ghost use Rattle.std.specs.Prelude.{◌≡◌, ◌+◌, ◌≤◌, ◌<◌, IfOk
 ghost use Rattle.std.specs.List.{range_with_len};
 ghost use Rattle.scale_base.specs.Image as image;
 ghost use Rattle.scale_base.specs.Layout as rules;
-ghost use Rattle.elf_view.specs.Segment.{segment_value};
+ghost use Rattle.elf_image.specs.Segment.{segment_value};
 ghost use Rattle.flat_memory.specs.Lists.{list_bytes, list_layout};
 ghost use Rattle.flat_memory.specs.Loaded.{IsBlockOf, AreBlocksOf, offset_byte};
 
 use crate::block::Block;
 use crate::list_memory::ListMemory;
-use elf_view::{ImageView, Segment};
+use elf_image::{ImageView, Segment};
 use scale_base::{NoMemory, Range, STACK_LEN};
 use std::alloc::Global;
 

@@ -21,7 +21,7 @@ use crate::page::{Page, PageUse};
 use crate::page_memory::PageMemory;
 use crate::page_table::{PageGroup, PageTable};
 use crate::text_ranges::text_whole;
-use elf_view::ImageView;
+use elf_image::ImageView;
 use scale_base::{NoMemory, STACK_LEN, STACK_START};
 use std::alloc::Global;
 

@@ -3,13 +3,13 @@ use Rattle.std.proofs.Common.{◌≡◌, ℕ, ◌<◌, Bool, List, length, Optio
 use Rattle.std.specs.Prelude.{slice_get, slice_index}
 use Rattle.std.proofs.lemmas.Bool.{cases_order}
 use Rattle.std.proofs.lemmas.List.{length-map}
-use Rattle.code_graph.specs.Ends.{AreEdgeEnds}
-use Rattle.code_graph.specs.FlowGraph.{FlowGraph, graph, IsGraphOf}
+use Rattle.flow_graph.specs.Ends.{AreEdgeEnds}
+use Rattle.flow_graph.specs.FlowGraph.{FlowGraph, graph, IsGraphOf}
 use Rattle.code_text.specs.Text.{text_of}
 use Rattle.code_text.specs.TextGraph.{text_graph}
 use Rattle.cost_theory.specs.Graph.{is_back}
-use Rattle.loop_tree.specs.Noted.{node_address}
-use Rattle.loop_tree.specs.Tree.{LoopView, loops, IsLoopTree}
+use Rattle.loop_forest.specs.Noted.{node_address}
+use Rattle.loop_forest.specs.Tree.{LoopView, loops, IsLoopTree}
 use Rattle.scale_base.specs.Image.{Image}
 use Rattle.foreign_scan.specs.declared.lists.GraphLists.{GraphLists}
 use Rattle.foreign_scan.specs.Lists.{AreListsOf}

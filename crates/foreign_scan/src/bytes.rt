@@ -6,11 +6,11 @@ ghost use Rattle.scale_base.specs.Image.{LoadSegment};
 ghost use Rattle.scale_base.specs.Layout as rules;
 ghost use Rattle.scale_base.specs.Layout.{layout_of};
 ghost use Rattle.scale_base.specs.State.{word_at};
-ghost use Rattle.elf_view.specs.Segment.{segment_value};
+ghost use Rattle.elf_image.specs.Segment.{segment_value};
 ghost use Rattle.foreign_scan.specs.Least.{IsLeastBadOf, lesser_of, IsFromUpTo, IsInRanges, file_range, is_odd_byte};
 ghost use Rattle.foreign_scan.specs.Scanned.{IsOddByte, IsLeastAddress};
 
-use elf_view::{ImageView, Segment};
+use elf_image::{ImageView, Segment};
 use scale_base::{Keyed, NoMemory, Range};
 use std::alloc::Global;
 

@@ -2,15 +2,15 @@
 
 ghost use Rattle.std.specs.Prelude.{◌≡◌, ℕ, Bool, None, IfOk};
 ghost use Rattle.code_text.specs.Text.{text_of};
-ghost use Rattle.code_graph.specs.FlowGraph.{IsGraphOf};
-ghost use Rattle.loop_tree.specs.Tree.{loops, IsLoopTree};
+ghost use Rattle.flow_graph.specs.FlowGraph.{IsGraphOf};
+ghost use Rattle.loop_forest.specs.Tree.{loops, IsLoopTree};
 ghost use Rattle.foreign_scan.specs.Scans.{IsScanOf};
 
 use crate::list_scan::{Scanned, scan_lists};
 use crate::lists::GraphLists;
-use code_graph::CodeGraph;
-use elf_view::ImageView;
-use loop_tree::LoopTree;
+use elf_image::ImageView;
+use flow_graph::CodeGraph;
+use loop_forest::LoopTree;
 use scale_base::NoMemory;
 use std::alloc::Global;
 

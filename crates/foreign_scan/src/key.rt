@@ -7,7 +7,7 @@ ghost use Rattle.flat_memory.specs.Lists.{list_bytes};
 ghost use Rattle.foreign_scan.specs.Form.{HoldsAt};
 ghost use Rattle.foreign_scan.specs.KeyWords.{IsWordAt, first_word, end_word};
 
-use elf_view::ImageView;
+use elf_image::ImageView;
 use flat_memory::{ListMemory, Memory, load_list};
 use rv_decode::decode;
 use scale_base::{Instr, NoMemory};

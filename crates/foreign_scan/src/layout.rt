@@ -2,10 +2,10 @@
 
 ghost use Rattle.std.specs.Prelude.{◌≡◌, ◌↔◌, ◌++◌, ◌∷◌, [], IfOk, OnOk, IsTrue, map, filter};
 ghost use Rattle.scale_base.specs.Layout as rules;
-ghost use Rattle.elf_view.specs.Segment.{segment_value};
+ghost use Rattle.elf_image.specs.Segment.{segment_value};
 ghost use Rattle.foreign_scan.specs.Scanned.{segment_place, segment_places, IsLaidAlike};
 
-use elf_view::{ImageView, Segment};
+use elf_image::{ImageView, Segment};
 use scale_base::{KEY_FLAG, NoMemory};
 use std::alloc::Global;
 

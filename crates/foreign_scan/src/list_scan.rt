@@ -17,7 +17,7 @@ use crate::patches::bad_patch;
 use crate::rows::first_unsound;
 use crate::site::read_sites;
 use crate::sites::{ForeignSites, show};
-use elf_view::ImageView;
+use elf_image::ImageView;
 use scale_base::{NoMemory, Why};
 use std::alloc::Global;
 

@@ -13,7 +13,7 @@ ghost use Rattle.foreign_scan.specs.Scanned as scanned;
 use crate::bytes::{is_keyed, lesser, word};
 use crate::parts;
 use code_text::moved;
-use elf_view::ImageView;
+use elf_image::ImageView;
 use rv_decode::decode;
 use scale_base::{Instr, Range};
 

@@ -7,7 +7,7 @@ ghost use Rattle.foreign_scan.specs.Rows.{rows_in, has_rows, all_have_rows, stub
 use crate::fragment::ForeignFragment;
 use crate::site::Site;
 use crate::stub::StubFragments;
-use elf_view::ImageView;
+use elf_image::ImageView;
 
 /// Whether the rows of a table up to the last one lie in the keyed segment.
 fn rows_lie(view: &ImageView<'_>, table: u32, last: u32) -> bool

@@ -9,7 +9,7 @@ use crate::fragment::ForeignFragment;
 use crate::key::KeyCode;
 use crate::patches::{instr_at, is_changed, jump_target};
 use crate::stub::{StubFragments, read_stub};
-use elf_view::ImageView;
+use elf_image::ImageView;
 use scale_base::{EdgeKind, NoMemory};
 use std::alloc::Global;
 

@@ -5,7 +5,7 @@ use crate::programs::{
     JUMP_BACK_1, NO_OPERATION, RETURN, START, code_refusal_text, graph_of, graph_or_refusal,
     image_of,
 };
-use code_graph::CodeGraph;
+use flow_graph::CodeGraph;
 use power_model::Costs;
 use scale_base::Edge;
 use std::alloc::Global;

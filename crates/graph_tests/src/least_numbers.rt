@@ -3,15 +3,15 @@
 ghost use Rattle.std.specs.Prelude.{◌≡◌, ℕ, Bool, ◌<◌, Some, length, IfOk};
 ghost use Rattle.graph_algorithms.specs.Arcs.{number_in_place};
 ghost use Rattle.cost_theory.specs.Accepted.{AreWeights};
-ghost use Rattle.code_graph.specs.FlowGraph.{graph as graph_seen};
-ghost use Rattle.loop_tree.specs.Tree.{IsLoopTree};
+ghost use Rattle.flow_graph.specs.FlowGraph.{graph as graph_seen};
+ghost use Rattle.loop_forest.specs.Tree.{IsLoopTree};
 
 use crate::programs::{
     BACK_1, BACK_2, BACK_3, CALL_4, CALL_5, ECALL, EXIT, NO_OPERATION, RETURN, program_of,
 };
-use code_graph::{CodeGraph, Weights};
+use flow_graph::{CodeGraph, Weights};
 use least_cycles::least;
-use loop_tree::LoopTree;
+use loop_forest::LoopTree;
 use scale_base::{NoMemory, Stop};
 use std::alloc::Global;
 use std::process::Abort;

@@ -5,7 +5,8 @@ use crate::programs::{
     JUMP_BACK_2, JUMP_BACK_3, NO_OPERATION, RETURN, START, graph_of, loop_refusal_text,
 };
 use loop_file::{LoopNote, LoopNotes, RangeList};
-use loop_tree::{LoopTree, build_loops};
+use loop_forest::LoopTree;
+use loop_tree::build_loops;
 use scale_base::{Range, Refusal, Stop};
 use std::alloc::Global;
 use std::process::Abort;

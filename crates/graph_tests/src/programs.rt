@@ -1,13 +1,15 @@
 //! Programs of some words: the words that several tests use, the image and the graph of a program, and its loops.
 
 ghost use Rattle.std.specs.Prelude.{ℕ, Bool, IfOk};
-ghost use Rattle.loop_tree.specs.Tree.{IsLoopTree};
+ghost use Rattle.loop_forest.specs.Tree.{IsLoopTree};
 
-use code_graph::{CodeGraph, build_graph};
+use code_graph::build_graph;
 use elf_view::read_image;
+use flow_graph::CodeGraph;
 use image_maker::plain_image;
 use loop_file::read_loops;
-use loop_tree::{LoopTree, build_loops};
+use loop_forest::LoopTree;
+use loop_tree::build_loops;
 use scale_base::{Cycle, Refusal, Stop};
 use std::alloc::Global;
 use std::test::Fail;

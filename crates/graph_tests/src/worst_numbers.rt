@@ -1,14 +1,14 @@
 //! Worst cycles, and what is left of them.
 
 ghost use Rattle.std.specs.Prelude.{◌≡◌, ℕ, Bool, length};
-ghost use Rattle.loop_tree.specs.Tree.{IsLoopTree};
+ghost use Rattle.loop_forest.specs.Tree.{IsLoopTree};
 
 use crate::programs::{
     BACK_1, BACK_3, BRANCH_3, CALL_2, CALL_3, CALL_4, CALL_5, ECALL, EXIT, JUMP_2, JUMP_BACK_3,
     NO_OPERATION, RETURN, program_of,
 };
-use code_graph::{CodeGraph, Weights};
-use loop_tree::LoopTree;
+use flow_graph::{CodeGraph, Weights};
+use loop_forest::LoopTree;
 use scale_base::{NoMemory, Refusal, Stop};
 use std::alloc::Global;
 use std::test::Fail;

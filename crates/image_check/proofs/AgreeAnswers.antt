@@ -7,9 +7,9 @@ use Rattle.power_model.specs.Numbers.{PowerModel}
 use Rattle.machine_file.specs.Machine.{read_machine}
 use Rattle.loop_file.specs.declared.notes.LoopNote.{LoopNote}
 use Rattle.loop_file.specs.Loops.{read_loops}
-use Rattle.code_graph.specs.FlowGraph.{FlowGraph}
+use Rattle.flow_graph.specs.FlowGraph.{FlowGraph}
 use Rattle.code_text.specs.Text.{text_of}
-use Rattle.loop_tree.specs.Tree.{LoopView}
+use Rattle.loop_forest.specs.Tree.{LoopView}
 use Rattle.answer_laws.specs.Alike.{AreAlikeRefusals}
 use Rattle.answer_laws.proofs.Laws.{code_refusals_agree, graphs_renumbered, graph_is_not_refused, loop_refusals_agree, tree_is_not_refused}
 use Rattle.foreign_scan.specs.Agree.{ScanIsNotRefused, CausesAgree, FoundAgree}

@@ -13,10 +13,10 @@ use Rattle.cost_theory.specs.Worst.{Numbers, AreNumbers}
 use Rattle.cycle_laws.specs.Charged.{Charged, AreCharged}
 use Rattle.code_text.specs.EdgeCosts.{edge_class, weights}
 use Rattle.code_text.specs.Text.{Text, text_of}
-use Rattle.code_graph.specs.FlowGraph.{FlowGraph, graph, IsGraphOf}
+use Rattle.flow_graph.specs.FlowGraph.{FlowGraph, graph, IsGraphOf}
 use Rattle.loop_file.specs.declared.notes.LoopNote.{LoopNote}
 use Rattle.loop_file.specs.Kept.{noted_loops}
-use Rattle.loop_tree.specs.Tree.{LoopView, loops, IsTreeOf}
+use Rattle.loop_forest.specs.Tree.{LoopView, loops, IsTreeOf}
 use Rattle.answer_laws.specs.Alike.{AreAlikeTrees, AreAlikeNumbers, AreAlikeCharged}
 use Rattle.answer_laws.specs.Renumbered.{IsRenumbered}
 use Rattle.answer_laws.proofs.Laws.{graphs_renumbered, weights_same, trees_agree, numbers_alike, charged_alike}

@@ -8,9 +8,9 @@ use Rattle.scale_base.specs.declared.verdict.Why.TheVariants as why
 use Rattle.scale_base.specs.Image.{Image}
 use Rattle.power_model.specs.Numbers.{PowerModel}
 use Rattle.cost_theory.specs.Worst.{Numbers}
-use Rattle.code_graph.specs.FlowGraph.{FlowGraph}
+use Rattle.flow_graph.specs.FlowGraph.{FlowGraph}
 use Rattle.loop_file.specs.declared.notes.LoopNote.{LoopNote}
-use Rattle.loop_tree.specs.Tree.{LoopView, loops}
+use Rattle.loop_forest.specs.Tree.{LoopView, loops}
 use Rattle.foreign_scan.specs.Scanned.{Found, IsScanned, IsFirstWhy}
 use Rattle.image_check.specs.Safe.{Owner}
 use Rattle.image_check.specs.Checked.{IsCounted, HasLevel, CountsNoLoop, IsOverLong, StartsNowhere, IsOverdue, IsMisled, IsPassed, IsFirstCause, IsImageVerdict}

@@ -15,10 +15,10 @@ use Rattle.cost_theory.specs.Reached.{edge_to}
 use Rattle.cost_theory.specs.Worst.{Numbers, cost, slack, rest}
 use Rattle.cycle_laws.specs.Charged.{Charged, to_end_after}
 use Rattle.code_text.specs.Text.{Text, text_of}
-use Rattle.code_graph.specs.FlowGraph.{FlowGraph, graph}
+use Rattle.flow_graph.specs.FlowGraph.{FlowGraph, graph}
 use Rattle.loop_file.specs.declared.notes.LoopNote.{LoopNote}
 use Rattle.loop_file.specs.Kept.{noted_loops}
-use Rattle.loop_tree.specs.Tree.{LoopView, loops}
+use Rattle.loop_forest.specs.Tree.{LoopView, loops}
 use Rattle.answer_laws.specs.Alike.{AreAlikeNumbers, AreAlikeCharged}
 use Rattle.level_tables.specs.Tables.{EdgeNumbers, at_row}
 use Rattle.stored_runs.specs.Meaning.{four_bits}

@@ -17,10 +17,10 @@ use Rattle.cost_theory.specs.Worst.{Numbers, AreNumbers}
 use Rattle.cycle_laws.specs.Charged.{Charged, AreCharged}
 use Rattle.code_text.specs.Text.{Text, text_of}
 use Rattle.code_text.specs.TextGraph.{text_graph}
-use Rattle.code_graph.specs.FlowGraph.{FlowGraph, graph}
+use Rattle.flow_graph.specs.FlowGraph.{FlowGraph, graph}
 use Rattle.loop_file.specs.Kept.{noted_loops}
-use Rattle.loop_tree.specs.Noted.{node_address}
-use Rattle.loop_tree.specs.Tree.{loops}
+use Rattle.loop_forest.specs.Noted.{node_address}
+use Rattle.loop_forest.specs.Tree.{loops}
 use Rattle.worst_cycles.specs.Worst.{WorstView, by_edge, HasLeftSizes, IsLeftOf, IsWorstFound}
 use Rattle.least_cycles.specs.Found.{LeastView, HasWorstInRange, HoldsLeast, AreSmallLeast}
 use Rattle.rewritten_runs.proofs.Laws.{worst_grows}

@@ -21,8 +21,8 @@ use Rattle.cost_theory.proofs.Laws.{Within, edge_of_word}
 use Rattle.code_text.specs.Text.{Text, text_of, instr_at, instr_kind, kind_at}
 use Rattle.code_text.specs.EdgeCosts.{class_by, edge_class, is_taken_kind, cost_of, weights}
 use Rattle.code_text.proofs.Laws.{kind_facts}
-use Rattle.code_graph.specs.FlowGraph.{FlowGraph, graph}
-use Rattle.loop_tree.specs.Tree.{LoopView, loops}
+use Rattle.flow_graph.specs.FlowGraph.{FlowGraph, graph}
+use Rattle.loop_forest.specs.Tree.{LoopView, loops}
 use Rattle.worst_cycles.specs.Worst.{by_edge}
 use Rattle.stub_writer.specs.Stubs.{Site}
 use Rattle.stored_runs.specs.Cycles.{fragment_cost}

@@ -13,8 +13,8 @@ use Rattle.power_model.specs.Numbers.{PowerModel}
 use Rattle.machine_file.specs.Machine.{read_machine}
 use Rattle.loop_file.specs.declared.notes.LoopNote.{LoopNote}
 use Rattle.loop_file.specs.Loops.{read_loops}
-use Rattle.code_graph.specs.FlowGraph.{FlowGraph}
-use Rattle.loop_tree.specs.Tree.{LoopView, loops}
+use Rattle.flow_graph.specs.FlowGraph.{FlowGraph}
+use Rattle.loop_forest.specs.Tree.{LoopView, loops}
 use Rattle.foreign_scan.specs.Scanned.{IsFirstWhy}
 use Rattle.scaler.specs.Held.{Then, unscaled}
 use Rattle.image_check.specs.Checked.{IsFirstCause, IsProgramChecked, IsChecked}

@@ -15,9 +15,9 @@ use Rattle.cost_theory.specs.Worst.{Numbers}
 use Rattle.cost_theory.proofs.Laws.{some_get}
 use Rattle.cost_theory.specs.Reached.{edge_at}
 use Rattle.cycle_laws.specs.Charged.{Charged}
-use Rattle.code_graph.specs.FlowGraph.{graph, IsFlowGraph}
-use Rattle.loop_tree.specs.Tree.{loops}
-use Rattle.loop_tree.proofs.Laws.{source_number}
+use Rattle.flow_graph.specs.FlowGraph.{graph, IsFlowGraph}
+use Rattle.loop_forest.specs.Tree.{loops}
+use Rattle.loop_forest.proofs.Laws.{source_number}
 use Rattle.level_tables.specs.Tables.{EdgeNumbers, at_row}
 use Rattle.stored_runs.specs.Meaning.{four_bits}
 use Rattle.stored_runs.specs.Marks.{tail_cycles}

@@ -11,8 +11,8 @@ use Rattle.cost_theory.specs.Reached.{Reached, edges_of, call_returns}
 use Rattle.cost_theory.proofs.Laws.{Within, edge_of_word, some_get}
 use Rattle.code_text.specs.Text.{Text, text_of, instr_at, instr_kind, kind_at}
 use Rattle.code_text.proofs.Laws.{kind_facts}
-use Rattle.code_graph.specs.FlowGraph.{FlowGraph}
-use Rattle.loop_tree.specs.Tree.{LoopView, loops}
+use Rattle.flow_graph.specs.FlowGraph.{FlowGraph}
+use Rattle.loop_forest.specs.Tree.{LoopView, loops}
 use Rattle.foreign_scan.specs.declared.fragment.ForeignFragment.{ForeignFragment}
 use Rattle.foreign_scan.specs.Form.{IsForeign, FirstChooses, IsRunOut, IsStub}
 use Rattle.foreign_scan.specs.Scanned.{Found, is_changed, IsChanged, CanBePatched}

@@ -16,8 +16,8 @@ use Rattle.code_text.specs.Text.{text_of}
 use Rattle.graph_runs.specs.KeptSteps.{Carried}
 use Rattle.loop_file.specs.declared.notes.LoopNote.{LoopNote}
 use Rattle.loop_file.specs.Kept.{noted_loops}
-use Rattle.code_graph.specs.FlowGraph.{FlowGraph}
-use Rattle.loop_tree.specs.Tree.{LoopView, loops, IsTreeOf}
+use Rattle.flow_graph.specs.FlowGraph.{FlowGraph}
+use Rattle.loop_forest.specs.Tree.{LoopView, loops, IsTreeOf}
 use Rattle.stub_writer.specs.Stubs.{Site}
 use Rattle.paid_runs.specs.Patched.{IsTunedRun}
 use Rattle.rewritten_runs.specs.Prices.{price_of}

@@ -17,8 +17,8 @@ use Rattle.machine_file.proofs.Laws.{model-from_bytes}
 use Rattle.loop_file.specs.declared.notes.LoopNote.{LoopNote}
 use Rattle.loop_file.specs.Loops.{read_loops}
 use Rattle.code_text.specs.Text.{text_of}
-use Rattle.code_graph.specs.FlowGraph.{FlowGraph, IsGraphOf}
-use Rattle.loop_tree.specs.Tree.{LoopView, IsTreeOf}
+use Rattle.flow_graph.specs.FlowGraph.{FlowGraph, IsGraphOf}
+use Rattle.loop_forest.specs.Tree.{LoopView, IsTreeOf}
 use Rattle.rewritten_runs.specs.Promise.{KeepsThePromise}
 use Rattle.scaler.specs.Held.{Then, unscaled}
 use Rattle.scaler.specs.Promise.{FilesKeepThePromise}

@@ -24,10 +24,10 @@ use Rattle.code_text.specs.Text.{Text, text_of}
 use Rattle.code_text.specs.EdgeCosts.{edge_class}
 use Rattle.code_text.specs.TextGraph.{text_graph}
 use Rattle.graph_runs.specs.Laws.{IsProgramOf}
-use Rattle.code_graph.specs.FlowGraph.{FlowGraph, graph}
+use Rattle.flow_graph.specs.FlowGraph.{FlowGraph, graph}
 use Rattle.loop_file.specs.declared.notes.LoopNote.{LoopNote}
 use Rattle.loop_file.specs.Kept.{noted_loops}
-use Rattle.loop_tree.specs.Tree.{LoopView, loops}
+use Rattle.loop_forest.specs.Tree.{LoopView, loops}
 use Rattle.worst_cycles.specs.Worst.{slack_at, rest_at}
 use Rattle.level_tables.specs.Tables.{EdgeNumbers, at_row, entry_of, level_word, table_row, rows_of, shift_of}
 use Rattle.level_tables.proofs.Laws.{entry-is, word-at}

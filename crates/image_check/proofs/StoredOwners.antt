@@ -23,10 +23,10 @@ use Rattle.code_text.specs.Text.{Text, text_of}
 use Rattle.code_text.specs.EdgeCosts.{class_by, edge_class}
 use Rattle.code_text.specs.TextGraph.{text_graph}
 use Rattle.graph_runs.specs.Laws.{IsProgramOf}
-use Rattle.code_graph.specs.FlowGraph.{FlowGraph, graph}
+use Rattle.flow_graph.specs.FlowGraph.{FlowGraph, graph}
 use Rattle.loop_file.specs.declared.notes.LoopNote.{LoopNote}
 use Rattle.loop_file.specs.Kept.{noted_loops}
-use Rattle.loop_tree.specs.Tree.{LoopView, loops}
+use Rattle.loop_forest.specs.Tree.{LoopView, loops}
 use Rattle.worst_cycles.specs.Worst.{slack_at}
 use Rattle.level_tables.specs.Tables as tables
 use Rattle.scale_sites.specs.Counters.{counted_loops}

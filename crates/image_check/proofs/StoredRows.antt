@@ -24,10 +24,10 @@ use Rattle.cycle_laws.specs.Charged.{Charged}
 use Rattle.code_text.specs.Text.{Text, text_of, kind_at}
 use Rattle.code_text.specs.EdgeCosts.{edge_class, weights}
 use Rattle.graph_runs.specs.Laws.{IsProgramOf}
-use Rattle.code_graph.specs.FlowGraph.{FlowGraph}
+use Rattle.flow_graph.specs.FlowGraph.{FlowGraph}
 use Rattle.loop_file.specs.declared.notes.LoopNote.{LoopNote}
 use Rattle.loop_file.specs.Kept.{noted_loops}
-use Rattle.loop_tree.specs.Tree.{LoopView, loops}
+use Rattle.loop_forest.specs.Tree.{LoopView, loops}
 use Rattle.level_tables.specs.Tables as tables
 use Rattle.scale_sites.specs.Counters.{counted_loops}
 use Rattle.stub_writer.specs.Stubs.{Site, Place}

@@ -19,10 +19,10 @@ use Rattle.cycle_laws.specs.Charged.{Charged, AreCharged}
 use Rattle.code_text.specs.Text.{Text, text_of}
 use Rattle.code_text.specs.TextGraph.{text_graph}
 use Rattle.graph_runs.proofs.Laws.{text_of_layout, word_bound}
-use Rattle.code_graph.specs.FlowGraph.{FlowGraph}
+use Rattle.flow_graph.specs.FlowGraph.{FlowGraph}
 use Rattle.loop_file.specs.declared.notes.LoopNote.{LoopNote}
 use Rattle.loop_file.specs.Kept.{noted_loops}
-use Rattle.loop_tree.specs.Tree.{LoopView, loops}
+use Rattle.loop_forest.specs.Tree.{LoopView, loops}
 use Rattle.elf_patch.specs.Stored.{stored_image}
 use Rattle.stored_laws.specs.StoredView.{over_file, insert_segment, block_segment, stored_view}
 use Rattle.stub_writer.specs.Stubs.{Site, Place, out_of_reach, patches_from, block_words, block_bytes}

@@ -9,10 +9,10 @@ use Rattle.cost_theory.specs.Graph.{leaves, is_back, only, sum_below}
 use Rattle.cost_theory.specs.Reached.{edge_at}
 use Rattle.cost_theory.specs.Lists.{or_true, is_among, body_of}
 use Rattle.cost_theory.proofs.Laws.{sum-none, sum-same}
-use Rattle.code_graph.specs.FlowGraph.{FlowGraph, graph, IsFlowGraph}
-use Rattle.loop_tree.specs.Noted.{node_address}
-use Rattle.loop_tree.specs.Tree.{LoopView, loops, IsLoopTree}
-use Rattle.loop_tree.proofs.Laws.{one_number}
+use Rattle.flow_graph.specs.FlowGraph.{FlowGraph, graph, IsFlowGraph}
+use Rattle.loop_forest.specs.Noted.{node_address}
+use Rattle.loop_forest.specs.Tree.{LoopView, loops, IsLoopTree}
+use Rattle.loop_forest.proofs.Laws.{one_number}
 use Rattle.scale_sites.specs.Marks.{numbered}
 use Rattle.image_check.specs.Safe.{one_where}
 use Rattle.image_check.specs.Uses.{turn_of, exit_of, exit_from, exits_at, AreTurns, AreExits}

@@ -7,8 +7,8 @@ use Rattle.std.proofs.lemmas.List.{get_or-replicate, get_or_past, length-replica
 use Rattle.std.proofs.lemmas.List.Sums.{sum_by-cons}
 use Rattle.cost_theory.specs.Graph.{sum_below}
 use Rattle.cost_theory.proofs.Laws.{sum-le, and_left, and_right, and_both}
-use Rattle.code_graph.specs.FlowGraph.{FlowGraph, graph}
-use Rattle.loop_tree.specs.Tree.{LoopView, loops}
+use Rattle.flow_graph.specs.FlowGraph.{FlowGraph, graph}
+use Rattle.loop_forest.specs.Tree.{LoopView, loops}
 use Rattle.foreign_scan.specs.declared.fragment.ForeignFragment.{ForeignFragment}
 use Rattle.foreign_scan.specs.declared.fragment.ForeignFragment.TheVariants.{Switch, Exit, Reset, Count}
 use Rattle.foreign_scan.specs.Form.{IsForeign}

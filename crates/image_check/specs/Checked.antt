@@ -21,9 +21,9 @@ use Rattle.cost_theory.specs.Worst.{Numbers, AreNumbers}
 use Rattle.cycle_laws.specs.Charged.{Charged, AreCharged}
 use Rattle.code_text.specs.Text.{text_of}
 use Rattle.code_text.specs.TextGraph.{text_graph}
-use Rattle.code_graph.specs.FlowGraph.{FlowGraph, IsGraphOf}
-use Rattle.code_graph.specs.Refused.{IsRefusedBy}
-use Rattle.loop_tree.specs.Tree.{LoopView, loops, IsTreeOf, IsTreeRefusal}
+use Rattle.flow_graph.specs.FlowGraph.{FlowGraph, IsGraphOf}
+use Rattle.flow_graph.specs.Refused.{IsRefusedBy}
+use Rattle.loop_forest.specs.Tree.{LoopView, loops, IsTreeOf, IsTreeRefusal}
 use Rattle.paid_runs.specs.Timely.{weights_of}
 use Rattle.foreign_scan.specs.Scanned.{Found, IsScanned, IsFirstWhy}
 use Rattle.scaler.specs.Held.{Then, unscaled}

@@ -5,8 +5,8 @@ use Rattle.power_model.specs.Numbers.{IsPowerModel}
 use Rattle.power_model.specs.Price.{time_at}
 use Rattle.cost_theory.specs.Worst.{Numbers, AreNumbers}
 use Rattle.code_text.specs.Text.{text_of}
-use Rattle.code_graph.specs.FlowGraph.{graph, IsGraphOf}
-use Rattle.loop_tree.specs.Tree.{loops, IsTreeOf}
+use Rattle.flow_graph.specs.FlowGraph.{graph, IsGraphOf}
+use Rattle.loop_forest.specs.Tree.{loops, IsTreeOf}
 use Rattle.worst_cycles.specs.Worst.{by_edge, HasLeftSizes, IsLeftOf}
 use Rattle.paid_runs.specs.Marked.{extra_site_weights}
 use Rattle.power_model.specs.Switches.{costs_of}

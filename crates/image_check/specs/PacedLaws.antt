@@ -16,8 +16,8 @@ use Rattle.paid_runs.specs.Patched.{IsBudgeted, IsTunedRun}
 use Rattle.foreign_scan.specs.Scanned.{Found}
 use Rattle.loop_file.specs.declared.notes.LoopNote.{LoopNote}
 use Rattle.loop_file.specs.Kept.{noted_loops}
-use Rattle.code_graph.specs.FlowGraph.{FlowGraph, IsGraphOf}
-use Rattle.loop_tree.specs.Tree.{LoopView, loops, IsTreeOf}
+use Rattle.flow_graph.specs.FlowGraph.{FlowGraph, IsGraphOf}
+use Rattle.loop_forest.specs.Tree.{LoopView, loops, IsTreeOf}
 use Rattle.rewritten_runs.specs.Promise.{KeepsThePromise}
 use Rattle.image_check.specs.Laws.{is_owner}
 use Rattle.image_check.specs.Paced.{IsPacedImage}

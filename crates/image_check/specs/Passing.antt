@@ -13,8 +13,8 @@ use Rattle.cost_theory.specs.Worst.{Numbers}
 use Rattle.cycle_laws.specs.Charged.{Charged}
 use Rattle.loop_file.specs.declared.notes.LoopNote.{LoopNote}
 use Rattle.loop_file.specs.Kept.{noted_loops}
-use Rattle.code_graph.specs.FlowGraph.{FlowGraph}
-use Rattle.loop_tree.specs.Tree.{LoopView, loops}
+use Rattle.flow_graph.specs.FlowGraph.{FlowGraph}
+use Rattle.loop_forest.specs.Tree.{LoopView, loops}
 use Rattle.stub_writer.specs.Stubs.{Site, out_of_reach}
 use Rattle.foreign_scan.specs.Scanned.{Found}
 use Rattle.rewritten_runs.specs.Stubs.{IsWeighed, HasStubs, rewritten_file}

@@ -9,8 +9,8 @@ use Rattle.scale_base.specs.Image.{Image}
 use Rattle.power_model.specs.declared.power.Costs.{Costs}
 use Rattle.power_model.specs.Price.{cycles_of}
 use Rattle.code_text.specs.Text.{text_of}
-use Rattle.code_graph.specs.FlowGraph.{FlowGraph}
-use Rattle.loop_tree.specs.Tree.{LoopView, loops}
+use Rattle.flow_graph.specs.FlowGraph.{FlowGraph}
+use Rattle.loop_forest.specs.Tree.{LoopView, loops}
 use Rattle.worst_cycles.specs.Worst.{by_edge}
 use Rattle.stored_runs.specs.Cycles.{fragment_cost}
 use Rattle.paid_runs.specs.Marked.{extra_site_weights, stored_site_weights}

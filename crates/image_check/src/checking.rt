@@ -16,12 +16,15 @@ ghost use Rattle.image_check.specs.Checks.{IsOriginal, IsScannedBy, IsReceived, 
 use crate::levels::first_bad_level;
 use crate::owners::{OwnerList, owners_of};
 use crate::weights::{extra_weights, stored_weights};
-use code_graph::{CodeGraph, Weights, build_graph};
-use elf_view::{ImageView, read_image, refusal_number};
+use code_graph::build_graph;
+use elf_image::ImageView;
+use elf_view::{read_image, refusal_number};
+use flow_graph::{CodeGraph, Weights};
 use foreign_scan::{ForeignSites, Scanned, scan};
 use least_cycles::least;
 use loop_file::{LoopNotes, read_loops};
-use loop_tree::{LoopTree, build_loops};
+use loop_forest::LoopTree;
+use loop_tree::build_loops;
 use machine_file::read_machine;
 use power_model::Power;
 use scale_base::{Checked, Keyed, NoMemory, Stop, Verdict, Why};

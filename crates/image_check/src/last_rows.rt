@@ -6,7 +6,7 @@ ghost use Rattle.stored_runs.specs.Meaning.{four_bits};
 ghost use Rattle.flat_memory.specs.Lists.{list_bytes};
 ghost use Rattle.image_check.specs.LastRows.{first_of_key, count_of_key, words_from, last_of, AreLastBefore, IsOneMore, AreBlocks};
 
-use elf_view::ImageView;
+use elf_image::ImageView;
 use flat_memory::{ListMemory, Memory, load_list};
 use scale_base::NoMemory;
 use std::alloc::Global;

@@ -2,16 +2,16 @@
 
 ghost use Rattle.std.specs.Prelude.{◌≡◌, ◌<◌, ℕ, Some, length, IfOk};
 ghost use Rattle.scale_base.specs.Image.{Image};
-ghost use Rattle.code_graph.specs.FlowGraph.{graph as graph_seen};
-ghost use Rattle.loop_tree.specs.Tree.{loops};
+ghost use Rattle.flow_graph.specs.FlowGraph.{graph as graph_seen};
+ghost use Rattle.loop_forest.specs.Tree.{loops};
 ghost use Rattle.foreign_scan.specs.Scanned.{Found};
 ghost use Rattle.image_check.specs.Known.{owner_by, HasFound, IsFoundIn, IsOwnersAnswer};
 ghost use Rattle.image_check.specs.Uses.{IsFirstBad, AreSmallTallies};
 
 use crate::uses::{Tally, is_bad, loop_exits, loop_turns, named_loops, tallies_of};
-use code_graph::CodeGraph;
+use flow_graph::CodeGraph;
 use foreign_scan::ForeignSites;
-use loop_tree::LoopTree;
+use loop_forest::LoopTree;
 use scale_base::NoMemory;
 use std::alloc::Global;
 use std::marker::Model;

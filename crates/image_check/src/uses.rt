@@ -4,17 +4,17 @@ ghost use Rattle.std.specs.Prelude.{◌≡◌, ◌<◌, ◌≤◌, ◌+◌, ◌*
 ghost use Rattle.std.specs.List.{sum_by};
 ghost use Rattle.cost_theory.specs.Graph.{leaves};
 ghost use Rattle.cost_theory.specs.Lists.{body_of};
-ghost use Rattle.code_graph.specs.FlowGraph.{graph as graph_seen};
-ghost use Rattle.loop_tree.specs.Tree.{loops};
+ghost use Rattle.flow_graph.specs.FlowGraph.{graph as graph_seen};
+ghost use Rattle.loop_forest.specs.Tree.{loops};
 ghost use Rattle.scale_sites.specs.Marks.{numbered};
 ghost use Rattle.foreign_scan.specs.Form.{IsForeign};
 ghost use Rattle.image_check.specs.Known.{owner_by, HasFound};
 ghost use Rattle.image_check.specs.Safe as safe;
 ghost use Rattle.image_check.specs.Uses as uses;
 
-use code_graph::CodeGraph;
+use flow_graph::CodeGraph;
 use foreign_scan::{ForeignFragment, ForeignSites};
-use loop_tree::LoopTree;
+use loop_forest::LoopTree;
 use scale_base::NoMemory;
 use std::alloc::Global;
 

@@ -3,11 +3,11 @@
 ghost use Rattle.std.specs.Prelude.{◌≡◌, ◌*◌, ◌+◌, ◌<◌, ◌≤◌, ℕ, length, slice_index, IfOk, sum_by};
 ghost use Rattle.scale_base.specs.declared.stepping.Class.{Class};
 ghost use Rattle.power_model.specs.Price.{cycles_of};
-ghost use Rattle.loop_tree.specs.Tree.{LoopView};
+ghost use Rattle.loop_forest.specs.Tree.{LoopView};
 ghost use Rattle.image_check.specs.Known.{HasFound};
 ghost use Rattle.image_check.specs.Weights.{foreign_cost, stub_jumps, IsExtraAt, AreExtraWeights, AreStoredWeights};
 
-use code_graph::{CodeGraph, Weights};
+use flow_graph::{CodeGraph, Weights};
 use foreign_scan::{ForeignFragment, ForeignSites};
 use power_model::Costs;
 use scale_base::{Class, EdgeKind, NoMemory};

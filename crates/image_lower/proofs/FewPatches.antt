@@ -9,7 +9,7 @@ use Rattle.std.proofs.lemmas.List.FromFn.{length-map-range_with_len}
 use Rattle.scale_base.specs.declared.ranges.Patch.{Patch}
 use Rattle.scale_base.specs.declared.ranges.Range.{Range}
 use Rattle.scale_base.specs.Image.{Image, image_of}
-use Rattle.elf_view.specs.Ascending.{AscendFrom}
+use Rattle.elf_image.specs.Ascending.{AscendFrom}
 use Rattle.machine_laws.proofs.Laws.{IsTextRange, text_ranges_kept}
 use Rattle.code_text.specs.Table.{word_addresses, all_addresses}
 use Rattle.jump_lists.specs.declared.notes.JumpNote.{JumpNote}

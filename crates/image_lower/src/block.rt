@@ -10,7 +10,7 @@ ghost use Rattle.image_lower.specs.Entered.{AreWaysIn};
 ghost use Rattle.image_lower.specs.Block as block;
 
 use crate::far::far_jump;
-use elf_view::ImageView;
+use elf_image::ImageView;
 use jump_lists::JumpNote;
 use rv_decode::decode;
 use scale_base::{Instr, NoMemory, Range};

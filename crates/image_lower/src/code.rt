@@ -11,7 +11,7 @@ ghost use Rattle.image_lower.specs.Block as block;
 
 use crate::block::register_at;
 use crate::trees::{jump, tree_depth, whole_tree};
-use elf_view::ImageView;
+use elf_image::ImageView;
 use jump_lists::JumpNote;
 use rv_encode::encode;
 use scale_base::{Instr, NoMemory, Patch};

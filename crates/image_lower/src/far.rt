@@ -15,7 +15,8 @@ ghost use Rattle.image_lower.specs.Entered.{AreWaysIn};
 
 use byteorder::{ByteOrder, LittleEndian};
 use code_text::{instr_at, moved, targets_of};
-use elf_view::{ImageView, program_header_count};
+use elf_image::ImageView;
+use elf_view::program_header_count;
 use jump_lists::JumpNote;
 use rv_encode::{encode, jal_fits};
 use scale_base::{Instr, NoMemory, Patch, Range};

@@ -7,7 +7,7 @@ ghost use Rattle.power_model.specs.Price.{held_energy};
 ghost use Rattle.power_model.specs.Survey.{line_view};
 ghost use Rattle.input_survey.specs.Surveyed.{IsLine};
 
-use elf_view::ImageView;
+use elf_image::ImageView;
 use keep_monitor::LoopCounter;
 use power_model::{Meter, Power, RunReport, SurveyLine};
 use scale_base::NoMemory;

@@ -5,10 +5,10 @@ use Rattle.cost_theory.specs.Graph.{Graph, total}
 use Rattle.cost_theory.specs.Least.{Least, IsLeastIfAny, EndsWith, IsReturn, IsExit, least_call, least_cost}
 use Rattle.cost_theory.specs.LeastTurns.{IsRun}
 use Rattle.cost_theory.proofs.Laws.{and_left, and_right, and_both}
-use Rattle.code_graph.specs.FlowGraph.{FlowGraph, graph}
-use Rattle.loop_tree.specs.Noted.{node_address}
-use Rattle.loop_tree.proofs.Laws.{source_number}
-use Rattle.loop_tree.specs.Tree.{LoopView, loops}
+use Rattle.flow_graph.specs.FlowGraph.{FlowGraph, graph}
+use Rattle.loop_forest.specs.Noted.{node_address}
+use Rattle.loop_forest.proofs.Laws.{source_number}
+use Rattle.loop_forest.specs.Tree.{LoopView, loops}
 use Rattle.cycle_laws.specs.Charged.{Charged, calls_so, calls_exit, charged_cost, leads_on, ends_exit}
 use Rattle.cycle_laws.proofs.Laws.{least_same}
 use Rattle.least_cycles.specs.Hops.{number_in_table}

@@ -5,13 +5,13 @@ use Rattle.std.proofs.lemmas.Option.{slice_get_within, slice_get-get_or, get_or_
 use Rattle.cost_theory.specs.Graph.{Graph, total}
 use Rattle.cost_theory.specs.Worst.{at_some}
 use Rattle.cost_theory.specs.Least.{Least, IsLeastIfAny, EndsWith, AreLeast, IsReturn, IsExit, IsReturnTo, end_after, least_cost}
-use Rattle.code_graph.specs.FlowGraph.{FlowGraph, graph, IsFlowGraph}
-use Rattle.code_graph.proofs.Laws.{few_once}
-use Rattle.loop_tree.specs.Noted.{node_address}
+use Rattle.flow_graph.specs.FlowGraph.{FlowGraph, graph, IsFlowGraph}
+use Rattle.flow_graph.proofs.Laws.{few_once}
+use Rattle.loop_forest.specs.Noted.{node_address}
 use Rattle.graph_algorithms.specs.Keys.{option_at, HasKey, AreKeys, IsLastBelow}
 use Rattle.least_cycles.specs.Hops.{number_in_table}
 use Rattle.least_cycles.specs.Local.{lesser_cost, sum_of_both}
-use Rattle.loop_tree.proofs.Laws.{source_number}
+use Rattle.loop_forest.proofs.Laws.{source_number}
 use Rattle.std.proofs.lemmas.List.{get_or_past, length-replicate}
 use Rattle.least_cycles.specs.Tables.{AreBackKeys, back_from, value_beside, least_by, AreWalksOf, IsAnyFunction}
 use Rattle.least_cycles.proofs.TableLaws.{at_number, at_node, beside_none, least_moved}

@@ -7,9 +7,9 @@ use Rattle.graph_algorithms.specs.Arcs.{number_in_place}
 use Rattle.cost_theory.specs.Graph.{Graph, Loops}
 use Rattle.cost_theory.specs.Accepted.{AreWeights}
 use Rattle.cost_theory.specs.Least.{Least, IsLeastIfAny, IsWay, way_cost}
-use Rattle.code_graph.specs.FlowGraph.{FlowGraph, graph, IsFlowGraph}
-use Rattle.loop_tree.specs.Noted.{node_address}
-use Rattle.loop_tree.specs.Tree.{LoopView, loops, IsLoopTree}
+use Rattle.flow_graph.specs.FlowGraph.{FlowGraph, graph, IsFlowGraph}
+use Rattle.loop_forest.specs.Noted.{node_address}
+use Rattle.loop_forest.specs.Tree.{LoopView, loops, IsLoopTree}
 use Rattle.cycle_laws.specs.Charged.{Charged, AreCharged, charge_of, end_behind, to_end_after}
 use Rattle.cycle_laws.specs.LeastLaws.{HaveFewTrips}
 use Rattle.cycle_laws.proofs.Laws.{charged_exist}

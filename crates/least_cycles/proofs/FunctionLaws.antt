@@ -7,9 +7,9 @@ use Rattle.graph_algorithms.specs.Arcs.{number_in_place}
 use Rattle.cost_theory.specs.Graph.{Graph, total}
 use Rattle.cost_theory.specs.Least.{IsLeastIfAny, EndsWith}
 use Rattle.cost_theory.specs.LeastTurns.{IsRun}
-use Rattle.code_graph.specs.FlowGraph.{FlowGraph, graph, IsFlowGraph}
-use Rattle.loop_tree.specs.Noted.{node_address}
-use Rattle.loop_tree.proofs.Laws.{one_number}
+use Rattle.flow_graph.specs.FlowGraph.{FlowGraph, graph, IsFlowGraph}
+use Rattle.loop_forest.specs.Noted.{node_address}
+use Rattle.loop_forest.proofs.Laws.{one_number}
 use Rattle.least_cycles.specs.declared.Hop.{Hop}
 use Rattle.least_cycles.specs.declared.Way.{Way}
 use Rattle.least_cycles.specs.declared.Way.TheVariants.{Last, To, Stop}

@@ -8,10 +8,10 @@ use Rattle.cost_theory.specs.Worst.{at_some}
 use Rattle.cost_theory.specs.Least.{IsLeastIfAny, IsExit, least_cost}
 use Rattle.cost_theory.specs.LeastTurns.{IsRun, turn_step, turn_last}
 use Rattle.cost_theory.proofs.Laws.{search_below, and_left, and_right, any-none, none-any, accepted_entered, header_held, body_node, IsAtHeader, step_at_header, entry_at_header, plain_from_entry}
-use Rattle.code_graph.specs.FlowGraph.{FlowGraph, graph, IsFlowGraph}
-use Rattle.loop_tree.specs.Noted.{node_address}
-use Rattle.loop_tree.proofs.Laws.{one_number, source_number}
-use Rattle.loop_tree.specs.Tree.{LoopView, loops, IsAtPlace}
+use Rattle.flow_graph.specs.FlowGraph.{FlowGraph, graph, IsFlowGraph}
+use Rattle.loop_forest.specs.Noted.{node_address}
+use Rattle.loop_forest.proofs.Laws.{one_number, source_number}
+use Rattle.loop_forest.specs.Tree.{LoopView, loops, IsAtPlace}
 use Rattle.graph_algorithms.specs.Keys.{option_at, HasKey, IsLastBelow}
 use Rattle.cycle_laws.specs.Charged.{Charged, calls_exit, is_closed, charge_of, charged_cost}
 use Rattle.cycle_laws.proofs.Laws.{least_same}

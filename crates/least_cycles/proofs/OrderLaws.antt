@@ -12,11 +12,11 @@ use Rattle.std.proofs.lemmas.Map.Made.{AllPairs-from_IsDistinct, IsDistinct-from
 use Rattle.std.proofs.lemmas.Option.{slice_get-get_or}
 use Rattle.graph_algorithms.specs.Arcs.{number_in_place, AreDistinct}
 use Rattle.cost_theory.specs.Lists.{body_of}
-use Rattle.code_graph.specs.FlowGraph.{FlowGraph, graph, IsFlowGraph}
-use Rattle.code_graph.proofs.Laws.{few_once}
-use Rattle.loop_tree.specs.Noted.{node_address}
-use Rattle.loop_tree.specs.Found.{IsAscending}
-use Rattle.loop_tree.specs.Tree.{LoopView, loops, IsLoopTree}
+use Rattle.flow_graph.specs.FlowGraph.{FlowGraph, graph, IsFlowGraph}
+use Rattle.flow_graph.proofs.Laws.{few_once}
+use Rattle.loop_forest.specs.Noted.{node_address}
+use Rattle.loop_forest.specs.Found.{IsAscending}
+use Rattle.loop_forest.specs.Tree.{LoopView, loops, IsLoopTree}
 use Rattle.least_cycles.specs.Functions.{IsBucket}
 use Rattle.least_cycles.specs.Charging.{IsBodyOf}
 use Rattle.least_cycles.proofs.TurnLaws.{inside_at, number_inside, same_node}

@@ -5,8 +5,8 @@ use Rattle.std.proofs.lemmas.Option.{slice_get-get_or, same_Some}
 use Rattle.graph_algorithms.specs.Arcs.{number_in_place, AreDistinct}
 use Rattle.cost_theory.specs.Worst.{at_some}
 use Rattle.cost_theory.specs.Least.{IsExit, least_call, least_cost}
-use Rattle.code_graph.specs.FlowGraph.{FlowGraph, graph, IsFlowGraph}
-use Rattle.loop_tree.specs.Noted.{node_address}
+use Rattle.flow_graph.specs.FlowGraph.{FlowGraph, graph, IsFlowGraph}
+use Rattle.loop_forest.specs.Noted.{node_address}
 use Rattle.graph_algorithms.specs.Keys.{HasKey, AreKeys, IsLastBelow}
 use Rattle.least_cycles.specs.Functions.{IsNodeFlagged, IsBucket}
 use Rattle.least_cycles.specs.declared.prices.Tables.{Tables}

@@ -6,9 +6,9 @@ use Rattle.cost_theory.specs.Graph.{Graph, total}
 use Rattle.cost_theory.specs.Worst.{at_some}
 use Rattle.cost_theory.specs.Accepted.{IsProgram}
 use Rattle.cost_theory.specs.Least.{Least, IsLeastIfAny, EndsWith, least_call}
-use Rattle.code_graph.specs.FlowGraph.{FlowGraph, IsFlowGraph}
-use Rattle.loop_tree.specs.Noted.{node_address}
-use Rattle.loop_tree.proofs.Laws.{one_number}
+use Rattle.flow_graph.specs.FlowGraph.{FlowGraph, IsFlowGraph}
+use Rattle.loop_forest.specs.Noted.{node_address}
+use Rattle.loop_forest.proofs.Laws.{one_number}
 use Rattle.least_cycles.specs.Hops.{number_in_table}
 use Rattle.least_cycles.specs.Tables.{value_beside, AreFunctionLimits}
 

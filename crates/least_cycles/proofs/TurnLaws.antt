@@ -8,10 +8,10 @@ use Rattle.cost_theory.specs.Graph.{is_round, is_header, is_back}
 use Rattle.cost_theory.specs.LeastTurns.{turn_step, turn_last}
 use Rattle.cost_theory.specs.Lists.{or_true, is_among, body_of}
 use Rattle.cost_theory.proofs.Laws.{leads_to_header, headers-distinct, accepted_entered}
-use Rattle.code_graph.specs.FlowGraph.{FlowGraph, graph, IsFlowGraph}
-use Rattle.loop_tree.specs.Noted.{node_address}
-use Rattle.loop_tree.proofs.Laws.{one_number}
-use Rattle.loop_tree.specs.Tree.{LoopView, loops, IsLoopTree}
+use Rattle.flow_graph.specs.FlowGraph.{FlowGraph, graph, IsFlowGraph}
+use Rattle.loop_forest.specs.Noted.{node_address}
+use Rattle.loop_forest.proofs.Laws.{one_number}
+use Rattle.loop_forest.specs.Tree.{LoopView, loops, IsLoopTree}
 use Rattle.graph_algorithms.specs.Keys.{HasKey, AreKeys, option_at}
 use Rattle.least_cycles.specs.declared.turns.Body.{Body}
 use Rattle.least_cycles.specs.Functions.{is_in_flags, IsFromFirst}

@@ -5,9 +5,9 @@ use Rattle.cost_theory.specs.Graph.{is_back}
 use Rattle.cost_theory.specs.Worst.{at_some}
 use Rattle.cost_theory.specs.Least.{IsExit, least_cost}
 use Rattle.cost_theory.specs.LeastTurns.{turn_step, turn_last}
-use Rattle.code_graph.specs.FlowGraph.{FlowGraph, graph, IsFlowGraph}
-use Rattle.loop_tree.specs.Noted.{node_address}
-use Rattle.loop_tree.specs.Tree.{LoopView, loops, IsLoopTree}
+use Rattle.flow_graph.specs.FlowGraph.{FlowGraph, graph, IsFlowGraph}
+use Rattle.loop_forest.specs.Noted.{node_address}
+use Rattle.loop_forest.specs.Tree.{LoopView, loops, IsLoopTree}
 use Rattle.graph_algorithms.specs.Keys.{ChainView, option_at, AreChains}
 use Rattle.cycle_laws.specs.Charged.{Charged, AreCharged, charged_trips, charge_of}
 use Rattle.least_cycles.specs.declared.charges.Charges.{Charges}

@@ -4,7 +4,7 @@ use Rattle.graph_algorithms.specs.Arcs.{number_in_place}
 use Rattle.cost_theory.specs.Graph.{Loops}
 use Rattle.cost_theory.specs.Worst.{Numbers, AreNumbers}
 use Rattle.cost_theory.specs.Least.{Least}
-use Rattle.code_graph.specs.FlowGraph.{FlowGraph, graph}
+use Rattle.flow_graph.specs.FlowGraph.{FlowGraph, graph}
 use Rattle.cycle_laws.specs.Charged.{Charged, AreCharged, to_end_after}
 use Rattle.least_cycles.specs.Ends.{end_place}
 

@@ -1,8 +1,8 @@
 -- What the functions of the passes work on together.
 use Rattle.std.specs.Prelude.{◌≡◌, ℕ, ◌^◌, ◌<◌, ◌≤◌, Bool, List, length, Option}
 use Rattle.graph_algorithms.specs.Arcs.{number_in_place}
-use Rattle.code_graph.specs.FlowGraph.{graph, IsFlowGraph}
-use Rattle.loop_tree.specs.Tree.{IsLoopTree}
+use Rattle.flow_graph.specs.FlowGraph.{graph, IsFlowGraph}
+use Rattle.loop_forest.specs.Tree.{IsLoopTree}
 use Rattle.cycle_laws.specs.Charged.{Charged}
 use Rattle.least_cycles.specs.declared.Hop.{Hop}
 use Rattle.least_cycles.specs.declared.Way.{Way}

@@ -3,12 +3,12 @@
 ghost use Rattle.std.specs.Prelude.{◌≡◌, ℕ, ◌<◌, ◌≤◌, length, IfOk};
 ghost use Rattle.std.specs.List.Sorted.{IsNonDecreasingBy};
 ghost use Rattle.graph_algorithms.specs.Arcs.{number_in_place};
-ghost use Rattle.code_graph.specs.FlowGraph.{IsFlowGraph};
+ghost use Rattle.flow_graph.specs.FlowGraph.{IsFlowGraph};
 ghost use Rattle.least_cycles.specs.Functions.{IsBucket, ArePlacesIn};
 ghost use Rattle.least_cycles.specs.Tables.{AreOwnerKeys, AreNodeChains, AreBackKeys, AreBackChains};
 
 use crate::order::ranked;
-use code_graph::CodeGraph;
+use flow_graph::CodeGraph;
 use graph_algorithms::{Chains, find_chains};
 use scale_base::NoMemory;
 use std::alloc::Global;

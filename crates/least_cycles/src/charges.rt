@@ -3,12 +3,12 @@
 ghost use Rattle.std.specs.Prelude.{◌≡◌, ℕ, ◌<◌, Bool, Some, length, IfOk};
 ghost use Rattle.graph_algorithms.specs.Arcs.{number_in_place};
 ghost use Rattle.graph_algorithms.specs.Keys.{option_at};
-ghost use Rattle.code_graph.specs.FlowGraph.{IsFlowGraph};
-ghost use Rattle.loop_tree.specs.Tree.{IsLoopTree};
+ghost use Rattle.flow_graph.specs.FlowGraph.{IsFlowGraph};
+ghost use Rattle.loop_forest.specs.Tree.{IsLoopTree};
 ghost use Rattle.least_cycles.specs.Charging.{AreHeaderLoops, IsEntered, AreEnteredLoops, charge_by};
 
-use code_graph::CodeGraph;
-use loop_tree::LoopTree;
+use flow_graph::CodeGraph;
+use loop_forest::LoopTree;
 use scale_base::NoMemory;
 use std::alloc::Global;
 

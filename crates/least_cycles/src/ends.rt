@@ -2,15 +2,15 @@
 
 ghost use Rattle.std.specs.Prelude.{◌≡◌, ℕ, ◌+◌, ◌*◌, ◌^◌, ◌<◌, ◌≤◌, length, Some, None, IfOk};
 ghost use Rattle.cost_theory.specs.Least.{IsLeastIfAny, end_after};
-ghost use Rattle.code_graph.specs.FlowGraph.{graph as graph_seen, IsFlowGraph};
-ghost use Rattle.loop_tree.specs.Noted.{node_address};
+ghost use Rattle.flow_graph.specs.FlowGraph.{graph as graph_seen, IsFlowGraph};
+ghost use Rattle.loop_forest.specs.Noted.{node_address};
 ghost use Rattle.least_cycles.specs.Hops.{number_in_table};
 ghost use Rattle.least_cycles.specs.Local.{lesser_cost, sum_of_both};
 ghost use Rattle.least_cycles.specs.Tables.{AreBackKeys, AreBackChains, back_from, least_by};
 ghost use Rattle.least_cycles.specs.Ends.{IsBackTo, AreSmallWalks, AreBehindFrom, AreBehind, end_place};
 
 use crate::walks::Walks;
-use code_graph::CodeGraph;
+use flow_graph::CodeGraph;
 use graph_algorithms::{Chains, find_chains};
 use scale_base::NoMemory;
 use std::alloc::Global;

@@ -7,7 +7,7 @@ ghost use Rattle.least_cycles.specs.Passes.{AreRuns, IsWayIn, AreHopsIn, AreLeas
 
 use crate::charges::Charges;
 use crate::{Hop, Way, least_costs};
-use code_graph::CodeGraph;
+use flow_graph::CodeGraph;
 use scale_base::NoMemory;
 use std::alloc::Global;
 

@@ -5,8 +5,8 @@
 ghost use Rattle.std.specs.Prelude.{◌≡◌, ℕ, ◌*◌, ◌+◌, ◌<◌, ◌≤◌, ◌^◌, true, false, length, Some, None, slice_get, IfOk, OnOk, Bool};
 ghost use Rattle.graph_algorithms.specs.Arcs.{number_in_place};
 ghost use Rattle.cost_theory.specs.Accepted.{AreWeights};
-ghost use Rattle.code_graph.specs.FlowGraph.{graph as graph_seen};
-ghost use Rattle.loop_tree.specs.Tree.{loops, IsLoopTree};
+ghost use Rattle.flow_graph.specs.FlowGraph.{graph as graph_seen};
+ghost use Rattle.loop_forest.specs.Tree.{loops, IsLoopTree};
 ghost use Rattle.least_cycles.specs.Found.{HasWorstInRange, IsLeastOf, AreSmallLeast};
 ghost use Rattle.least_cycles.specs.Hops.{number_in_table, offered, improves, relaxed, IsHop, HeadBelow, AreHops, IsHopTable, AreLeastCosts, fall};
 
@@ -21,9 +21,9 @@ mod prices;
 mod turns;
 mod walks;
 
-use code_graph::{CodeGraph, Weights};
 use ends::behinds_of;
-use loop_tree::LoopTree;
+use flow_graph::{CodeGraph, Weights};
+use loop_forest::LoopTree;
 pub use numbers::LeastNumbers;
 use numbers::{after_of, ends_of};
 use plan::make_plan;

@@ -1,7 +1,7 @@
 //! The least costs from the nodes of a program, and behind its edges.
 
 ghost use Rattle.std.specs.Prelude.{◌≡◌, ℕ, ◌^◌, ◌<◌, ◌≤◌, length, slice_get, Some, IfOk};
-ghost use Rattle.code_graph.specs.FlowGraph.{IsFlowGraph};
+ghost use Rattle.flow_graph.specs.FlowGraph.{IsFlowGraph};
 ghost use Rattle.least_cycles.specs.Hops.{number_in_table};
 ghost use Rattle.least_cycles.specs.Tables.{least_by};
 ghost use Rattle.least_cycles.specs.Ends.{AreSmallWalks};
@@ -11,7 +11,7 @@ ghost use Rattle.least_cycles.specs.Charging.{AreSmallCharges, charge_by};
 use crate::charges::Charges;
 use crate::ends::{end_at, end_over};
 use crate::walks::Walks;
-use code_graph::CodeGraph;
+use flow_graph::CodeGraph;
 use scale_base::NoMemory;
 use std::alloc::Global;
 use std::marker::Model;

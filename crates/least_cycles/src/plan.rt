@@ -2,19 +2,19 @@
 
 ghost use Rattle.std.specs.Prelude.{◌≡◌, ℕ, Bool, ◌<◌, length, IfOk};
 ghost use Rattle.graph_algorithms.specs.Arcs.{number_in_place};
-ghost use Rattle.code_graph.specs.FlowGraph.{graph as graph_seen, IsFlowGraph};
-ghost use Rattle.loop_tree.specs.Noted.{node_address};
+ghost use Rattle.flow_graph.specs.FlowGraph.{graph as graph_seen, IsFlowGraph};
+ghost use Rattle.loop_forest.specs.Noted.{node_address};
 ghost use Rattle.graph_algorithms.specs.Keys.{option_at};
-ghost use Rattle.loop_tree.specs.Tree.{IsLoopTree};
+ghost use Rattle.loop_forest.specs.Tree.{IsLoopTree};
 ghost use Rattle.least_cycles.specs.Found.{AreOwn};
 ghost use Rattle.least_cycles.specs.Tables.{AreReturns, AreLeading};
 ghost use Rattle.least_cycles.specs.Charging.{AreHeaderLoops, header_key, AreHeaderKeys, AreHeaderChains, IsChargePlan};
 
 use crate::buckets::node_chains;
 use crate::order::ranks_of;
-use code_graph::{CodeGraph, Weights};
+use flow_graph::{CodeGraph, Weights};
 use graph_algorithms::{Chains, find_chains};
-use loop_tree::LoopTree;
+use loop_forest::LoopTree;
 use scale_base::NoMemory;
 use std::alloc::Global;
 

@@ -2,12 +2,12 @@
 
 ghost use Rattle.std.specs.Prelude.{◌≡◌, ◌⊎◌, ◌↔◌, ℕ, ◌+◌, ◌^◌, ◌<◌, ◌≤◌, true, [], length, Some, None, IsSome, unwrap_or};
 ghost use Rattle.cost_theory.specs.Least.{least_call};
-ghost use Rattle.code_graph.specs.FlowGraph.{graph as graph_seen, IsFlowGraph};
+ghost use Rattle.flow_graph.specs.FlowGraph.{graph as graph_seen, IsFlowGraph};
 ghost use Rattle.least_cycles.specs.Functions.{IsBucket, IsFromFirst};
 ghost use Rattle.least_cycles.specs.Tables.{value_beside, least_by};
 ghost use Rattle.least_cycles.specs.Passes.{ArePriceTables, IsPriceBy, ArePricedBy};
 
-use code_graph::CodeGraph;
+use flow_graph::CodeGraph;
 
 /// What is known of a graph where a function of it is priced.
 #[derive(Clone, Copy)]

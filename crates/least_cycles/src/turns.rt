@@ -4,9 +4,9 @@ ghost use Rattle.std.specs.Prelude.{◌≡◌, ℕ, Bool, List, ◌↔◌, ◌+�
 ghost use Rattle.std.specs.List.Sorted.{IsNonDecreasingBy};
 ghost use Rattle.graph_algorithms.specs.Arcs.{number_in_place};
 ghost use Rattle.cost_theory.specs.LeastTurns.{turn_step, turn_last};
-ghost use Rattle.code_graph.specs.FlowGraph.{graph as graph_seen, IsFlowGraph};
-ghost use Rattle.loop_tree.specs.Noted.{node_address};
-ghost use Rattle.loop_tree.specs.Tree.{loops, IsLoopTree};
+ghost use Rattle.flow_graph.specs.FlowGraph.{graph as graph_seen, IsFlowGraph};
+ghost use Rattle.loop_forest.specs.Noted.{node_address};
+ghost use Rattle.loop_forest.specs.Tree.{loops, IsLoopTree};
 ghost use Rattle.cycle_laws.specs.Charged.{Charged};
 ghost use Rattle.least_cycles.specs.Functions.{ArePlacesIn, AreNodeNumbers, IsNodeFlagged, IsFromFirst};
 ghost use Rattle.least_cycles.specs.Charging.{IsBodyOf, AreChargeMarks, AreCharges, IsChargeKnown, loop_charge};
@@ -16,8 +16,8 @@ use crate::charges::Charges;
 use crate::function::{Runs, least_in};
 use crate::order::ranked;
 use crate::prices::small;
-use code_graph::CodeGraph;
-use loop_tree::LoopTree;
+use flow_graph::CodeGraph;
+use loop_forest::LoopTree;
 use scale_base::NoMemory;
 use std::alloc::Global;
 

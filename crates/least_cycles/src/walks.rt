@@ -2,7 +2,7 @@
 
 ghost use Rattle.std.specs.Prelude.{◌≡◌, ◌≢◌, ℕ, Bool, ◌+◌, ◌^◌, ◌<◌, ◌≤◌, length, IfOk, OnOk};
 ghost use Rattle.graph_algorithms.specs.Arcs.{number_in_place, AreDistinct};
-ghost use Rattle.loop_tree.specs.Tree.{IsLoopTree};
+ghost use Rattle.loop_forest.specs.Tree.{IsLoopTree};
 ghost use Rattle.cycle_laws.specs.Charged.{Charged};
 ghost use Rattle.least_cycles.specs.Tables.{AreWritten, IsBefore, IsAnyFunction};
 ghost use Rattle.least_cycles.specs.Charging.{IsCharging, HasCharging, HasWalks, AreChargeMarks, AreCharges, AreChargedTo, loop_owner, IsChargePlan, IsScratch};
@@ -14,8 +14,8 @@ use crate::function::{Runs, least_in};
 use crate::plan::Plan;
 use crate::prices::{Tables, price_function};
 use crate::turns::{Marks, PricedFunction, charge_of_loop};
-use code_graph::CodeGraph;
-use loop_tree::LoopTree;
+use flow_graph::CodeGraph;
+use loop_forest::LoopTree;
 use scale_base::NoMemory;
 use std::alloc::Global;
 

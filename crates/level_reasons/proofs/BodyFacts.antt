@@ -7,10 +7,10 @@ use Rattle.graph_algorithms.specs.Arcs.{number_in_place}
 use Rattle.cost_theory.specs.Graph.{leaves}
 use Rattle.cost_theory.specs.Reached.{edge_at}
 use Rattle.cost_theory.specs.Lists.{or_true, is_among, body_of}
-use Rattle.code_graph.specs.FlowGraph.{FlowGraph, graph, IsFlowGraph}
-use Rattle.loop_tree.specs.Noted.{node_address}
-use Rattle.loop_tree.specs.Tree.{LoopView, loops, IsLoopTree}
-use Rattle.loop_tree.proofs.Laws.{one_number}
+use Rattle.flow_graph.specs.FlowGraph.{FlowGraph, graph, IsFlowGraph}
+use Rattle.loop_forest.specs.Noted.{node_address}
+use Rattle.loop_forest.specs.Tree.{LoopView, loops, IsLoopTree}
+use Rattle.loop_forest.proofs.Laws.{one_number}
 use Rattle.level_reasons.specs.Reasons.{IsWayOut}
 use Rattle.level_reasons.specs.Ways.{IsWayAmong, IsWaySoFar}
 

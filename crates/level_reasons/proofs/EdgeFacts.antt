@@ -7,7 +7,7 @@ use Rattle.power_model.specs.Price.{switch_time}
 use Rattle.level_tables.specs.Tables.{EdgeNumbers, pays, entry_of}
 use Rattle.level_tables.proofs.Laws.{entry-is}
 use Rattle.scale_base.specs.declared.edges.Edge.{Edge}
-use Rattle.code_graph.specs.FlowGraph.{FlowGraph}
+use Rattle.flow_graph.specs.FlowGraph.{FlowGraph}
 use Rattle.level_reasons.specs.declared.shown.EdgeReason.{EdgeReason}
 use Rattle.level_reasons.specs.Reasons.{ProgramNumbers, IsLack, goes_down, with_more, IsEdgeReason, IsEdgeLine, can_switch, edge_can_switch, has_line}
 

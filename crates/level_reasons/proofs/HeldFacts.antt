@@ -11,7 +11,7 @@ use Rattle.cost_theory.specs.Graph.{Graph}
 use Rattle.cost_theory.specs.Worst.{AreNumbers}
 use Rattle.loop_file.specs.declared.notes.LoopNote.{LoopNote}
 use Rattle.loop_file.specs.Loops.{read_loops}
-use Rattle.loop_tree.specs.Tree.{loops}
+use Rattle.loop_forest.specs.Tree.{loops}
 use Rattle.machine_file.specs.Machine.{read_machine}
 use Rattle.rewritten_runs.specs.Stubs.{plain_weights}
 use Rattle.scaler.specs.Held.{IsHeld, IsHeldProgram, Then, unscaled, held_at, held_from, held_file, held_summary}

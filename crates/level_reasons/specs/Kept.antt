@@ -1,8 +1,8 @@
 -- A program with its numbers, as the code keeps them.
 use Rattle.std.specs.Prelude.{◌≡◌, ℕ, ◌^◌, ◌<◌, Bool, length, slice_get, Some}
 use Rattle.power_model.specs.Numbers.{IsPowerModel}
-use Rattle.code_graph.specs.FlowGraph.{IsFlowGraph}
-use Rattle.loop_tree.specs.Tree.{IsLoopTree}
+use Rattle.flow_graph.specs.FlowGraph.{IsFlowGraph}
+use Rattle.loop_forest.specs.Tree.{IsLoopTree}
 use Rattle.level_tables.specs.Tables.{EdgeNumbers}
 use Rattle.level_reasons.specs.declared.numbered.Numbered.{Numbered}
 use Rattle.level_reasons.specs.declared.numbered.Told.{Told}

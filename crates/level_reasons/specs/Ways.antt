@@ -4,9 +4,9 @@ use Rattle.graph_algorithms.specs.Arcs.{number_in_place}
 use Rattle.power_model.specs.Numbers.{PowerModel}
 use Rattle.cost_theory.specs.Lists.{body_of}
 use Rattle.level_tables.specs.Tables.{EdgeNumbers}
-use Rattle.code_graph.specs.FlowGraph.{FlowGraph, graph}
-use Rattle.loop_tree.specs.Noted.{node_address}
-use Rattle.loop_tree.specs.Tree.{LoopView}
+use Rattle.flow_graph.specs.FlowGraph.{FlowGraph, graph}
+use Rattle.loop_forest.specs.Noted.{node_address}
+use Rattle.loop_forest.specs.Tree.{LoopView}
 use Rattle.level_reasons.specs.declared.ways.Way.{Way}
 use Rattle.level_reasons.specs.Reasons.{IsLack, IsNearest, IsWayOut}
 

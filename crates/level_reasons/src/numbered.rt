@@ -4,9 +4,9 @@ ghost use Rattle.std.specs.Prelude.{◌≡◌, ◌<◌, ◌^◌, length, IfSome}
 ghost use Rattle.level_reasons.specs.Kept.{IsNumbered, HoldsNumbers, told_view};
 ghost use Rattle.level_reasons.specs.Reasons.{ProgramNumbers};
 
-use code_graph::CodeGraph;
+use flow_graph::CodeGraph;
 use least_cycles::LeastNumbers;
-use loop_tree::LoopTree;
+use loop_forest::LoopTree;
 use power_model::Power;
 use worst_cycles::WorstNumbers;
 

@@ -2,8 +2,8 @@
 
 ghost use Rattle.std.specs.Prelude.{◌≡◌, ◌+◌, ◌<◌, ◌^◌, true, Some, None, length, IfSome};
 ghost use Rattle.cost_theory.specs.Lists.{body_of};
-ghost use Rattle.code_graph.specs.FlowGraph.{graph};
-ghost use Rattle.loop_tree.specs.Tree.{loops};
+ghost use Rattle.flow_graph.specs.FlowGraph.{graph};
+ghost use Rattle.loop_forest.specs.Tree.{loops};
 ghost use Rattle.level_reasons.specs.Kept.{IsNumbered, HoldsNumbers};
 ghost use Rattle.level_reasons.specs.Reasons.{ProgramNumbers, IsWayOut};
 ghost use Rattle.level_reasons.specs.Ways.{IsWayAmong, IsWayOf, IsNearestKept, IsNearerOf};

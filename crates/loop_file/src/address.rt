@@ -4,7 +4,7 @@ ghost use Rattle.std.specs.Prelude.{◌≡◌, ◌≤◌, IfSome, option_map, op
 ghost use Rattle.toml.specs.View.{view};
 ghost use Rattle.loop_file.specs.Addresses.{HasNoPlus, numeral, address_within, offset_of, split_last, name_and_offset, symbol_address, address_of};
 
-use elf_view::SortedSymbols;
+use symbol_index::SortedSymbols;
 use table_keys::number_of;
 use toml::Value;
 

@@ -10,7 +10,7 @@ mod notes;
 mod ranges;
 mod reads;
 
-use elf_view::ImageView;
+use elf_image::ImageView;
 pub use notes::{LoopNote, LoopNotes, RangeList};
 use reads::notes_of;
 use scale_base::{Refusal, Stop};

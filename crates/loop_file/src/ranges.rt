@@ -6,9 +6,9 @@ ghost use Rattle.loop_file.specs.Addresses.{worse, both, in_order, pair_of, read
 
 use crate::address::{Fault, address};
 use crate::notes::RangeList;
-use elf_view::SortedSymbols;
 use scale_base::Range;
 use std::alloc::{AllocError, Global};
+use symbol_index::SortedSymbols;
 use toml::Value;
 
 // Of two faults, an absent symbol decides only where nothing else is wrong.

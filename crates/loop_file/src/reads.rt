@@ -11,9 +11,10 @@ ghost use Rattle.loop_file.specs.Loops.{loop_version, loop_tables, fault_refusal
 use crate::address::{Fault, address};
 use crate::notes::{LoopNote, LoopNotes, RangeList};
 use crate::ranges::ranges_of;
-use elf_view::{ImageView, SortedSymbols};
+use elf_image::ImageView;
 use scale_base::{Name, Refusal, Stop};
 use std::alloc::Global;
+use symbol_index::SortedSymbols;
 use table_keys::{find, first_missing, least_unknown, number_at, number_of, tables};
 use toml::Table;
 
@@ -234,6 +235,6 @@ pub fn notes_of(alloc: Global, image: &ImageView<'_>, table: &Table) -> Result<L
     if tables.is_empty() {
         return Ok(LoopNotes::new(alloc));
     }
-    let symbols = image.sorted_symbols(alloc)?;
+    let symbols = SortedSymbols::of(alloc, image)?;
     notes(alloc, &symbols, version, &tables)
 }

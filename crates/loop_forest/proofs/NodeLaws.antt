@@ -1,7 +1,7 @@
 -- Nodes and their numbers.
 use Rattle.std.proofs.Common.{◌≡◌, ℕ, ◌<◌, ◌≤◌, slice_get, Some, arith, ⊎_elim, refl}
 use Rattle.std.proofs.lemmas.Bool.{cases_lt}
-use Rattle.code_graph.specs.FlowGraph.{FlowGraph, graph, IsFlowGraph}
+use Rattle.flow_graph.specs.FlowGraph.{FlowGraph, graph, IsFlowGraph}
 
 -- an address has one number
 pub one_number : (v : FlowGraph) → IsFlowGraph v → (i j at : ℕ) → slice_get v.code.nodes i ≡ Some at → slice_get v.code.nodes j ≡ Some at → i ≡ j

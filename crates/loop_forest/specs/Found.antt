@@ -3,7 +3,7 @@ use Rattle.std.specs.Prelude.{◌≡◌, ℕ, ◌<◌, List, map, length, slice_
 use Rattle.cost_theory.specs.Graph.{Loops}
 use Rattle.cost_theory.specs.Accepted.{AreEntered, IsTooDeep}
 use Rattle.cost_theory.specs.Lists.{body_of}
-use Rattle.code_graph.specs.FlowGraph.{FlowGraph, graph}
+use Rattle.flow_graph.specs.FlowGraph.{FlowGraph, graph}
 use Rattle.loop_file.specs.declared.notes.LoopNote.{LoopNote}
 use Rattle.loop_file.specs.Kept.{noted_loops}
 use Rattle.loop_forest.specs.Noted.{header_address, loops_by}

@@ -4,7 +4,7 @@ use Rattle.std.specs.Prelude.{◌≡◌, ◌≢◌, ℕ, ◌<◌, List, map, sli
 use Rattle.cost_theory.specs.Accepted.{IsNode, IsInBody}
 use Rattle.cost_theory.specs.Graph.{Loops}
 use Rattle.cost_theory.specs.Lists.{Tree, loops_of}
-use Rattle.code_graph.specs.FlowGraph.{FlowGraph, graph}
+use Rattle.flow_graph.specs.FlowGraph.{FlowGraph, graph}
 use Rattle.loop_file.specs.declared.notes.LoopNote.{LoopNote}
 use Rattle.loop_file.specs.Kept.{in_extent, note_at}
 

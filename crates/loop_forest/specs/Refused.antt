@@ -5,7 +5,7 @@ use Rattle.scale_base.specs.declared.refusal.Refusal.{Refusal}
 use Rattle.scale_base.specs.declared.refusal.Refusal.TheVariants.{HeaderNotReached, SameHeader, NoBackEdge, SideEntry, TooDeep}
 use Rattle.cost_theory.specs.Graph.{Loops}
 use Rattle.cost_theory.specs.Accepted.{AreEntered, IsTooDeep}
-use Rattle.code_graph.specs.FlowGraph.{FlowGraph, graph}
+use Rattle.flow_graph.specs.FlowGraph.{FlowGraph, graph}
 use Rattle.loop_file.specs.declared.notes.LoopNote.{LoopNote}
 use Rattle.loop_file.specs.Kept.{noted_loops}
 use Rattle.loop_forest.specs.Noted.{IsHeaderReached, HaveOneHeader, HasBackEdge, IsNotedSideEntry}

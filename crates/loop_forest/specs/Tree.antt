@@ -7,7 +7,7 @@ use Rattle.cost_theory.specs.Graph.{Loops, with_trips, IsPlain, is_back}
 use Rattle.cost_theory.specs.Accepted.{IsNode, AreEntered, AreAccepted, IsTooDeep, HaveWholeExtents}
 use Rattle.cost_theory.specs.Lists.{body_of}
 use Rattle.graph_algorithms.specs.Cycles.{IsCycleBy}
-use Rattle.code_graph.specs.FlowGraph.{FlowGraph, graph}
+use Rattle.flow_graph.specs.FlowGraph.{FlowGraph, graph}
 use Rattle.loop_file.specs.declared.notes.LoopNote.{LoopNote}
 use Rattle.loop_file.specs.Kept.{noted_loops, note_at}
 use Rattle.loop_forest.specs.Noted.{node_address, loops_by}

@@ -1,11 +1,11 @@
 //! The edges between nodes, as arcs between their numbers.
 
 ghost use Rattle.std.specs.Prelude.{◌≡◌, ◌<◌, ◌≤◌, length, IfOk};
-ghost use Rattle.code_graph.specs.FlowGraph.{IsFlowGraph};
+ghost use Rattle.flow_graph.specs.FlowGraph.{IsFlowGraph};
 ghost use Rattle.loop_forest.specs.Arcs.{ArePlainArcs};
 ghost use Rattle.loop_forest.specs.Arcs.{IsArcOf};
 
-use code_graph::CodeGraph;
+use flow_graph::CodeGraph;
 use graph_algorithms::Arc;
 use scale_base::NoMemory;
 use std::alloc::Global;

@@ -4,7 +4,7 @@ use Rattle.std.proofs.lemmas.Bool.{cases_lt}
 use Rattle.std.proofs.lemmas.Option.{slice_get_within}
 use Rattle.graph_algorithms.specs.declared.orders.Arc.{Arc}
 use Rattle.graph_algorithms.specs.Arcs.{arc_at, number_in_place, AreNumbered, HasArc, IsCycle}
-use Rattle.code_graph.specs.FlowGraph.{FlowGraph}
+use Rattle.flow_graph.specs.FlowGraph.{FlowGraph}
 use Rattle.loop_forest.specs.Arcs.{IsEdgeBetween, ArePlainArcs, HasPlainEdge, IsRoundOfNodes}
 
 pub arcs_numbered : (v : FlowGraph) (backs : List (Option ℕ)) (n : ℕ) (arcs : List Arc) → ArePlainArcs v backs n arcs → AreNumbered (length v.code.nodes) arcs

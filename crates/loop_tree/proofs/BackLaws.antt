@@ -6,7 +6,7 @@ use Rattle.std.proofs.lemmas.Option.{slice_get-get_or, get_or_from_slice_get, sl
 use Rattle.cost_theory.specs.Graph.{Loops, IsPlain, is_back, is_header}
 use Rattle.cost_theory.specs.Lists.{body_of, is_among}
 use Rattle.cost_theory.proofs.Laws.{and_left, and_right, and_both}
-use Rattle.code_graph.specs.FlowGraph.{FlowGraph, graph, IsFlowGraph}
+use Rattle.flow_graph.specs.FlowGraph.{FlowGraph, graph, IsFlowGraph}
 use Rattle.loop_forest.specs.Noted.{node_address, loops_by}
 use Rattle.loop_forest.proofs.Laws.{one_number}
 use Rattle.loop_forest.specs.Tree.{IsPlainStep}

@@ -1,8 +1,8 @@
 -- The ends of a graph's edges, and one element more behind a list.
 use Rattle.std.proofs.Common.{◌≡◌, ℕ, zero, suc, List, [], ◌∷◌, ◌++◌, length, refl, arith, Option, Some, ◌⊎◌, inl, inr, ⊎_elim}
 use Rattle.std.specs.Prelude.{slice_get}
-use Rattle.code_graph.specs.Ends.{AreEdgeEnds}
-use Rattle.code_graph.specs.FlowGraph.{FlowGraph}
+use Rattle.flow_graph.specs.Ends.{AreEdgeEnds}
+use Rattle.flow_graph.specs.FlowGraph.{FlowGraph}
 
 pub push_cases : {A : Type 0} (xs : List A) (x v : A) (p : ℕ) → slice_get (xs ++ x ∷ []) p ≡ Some v → (slice_get xs p ≡ Some v) ⊎ ((p ≡ length xs) × (x ≡ v))
 push_cases [] x v zero h = let same : x ≡ v = cc in inr (refl, same)

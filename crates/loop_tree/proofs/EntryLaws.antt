@@ -6,7 +6,7 @@ use Rattle.std.proofs.lemmas.Option.{slice_get-get_or, slice_get_within, get_or_
 use Rattle.std.proofs.lemmas.List.{length-replicate}
 use Rattle.cost_theory.specs.Accepted.{IsNode}
 use Rattle.cost_theory.proofs.Laws.{ones-le}
-use Rattle.code_graph.specs.FlowGraph.{FlowGraph, graph, IsFlowGraph}
+use Rattle.flow_graph.specs.FlowGraph.{FlowGraph, graph, IsFlowGraph}
 use Rattle.graph_algorithms.specs.Edges.{EdgeView}
 use Rattle.graph_algorithms.specs.Bodies.{IsIn, AreNodes, IsSideEdge, IsLeastPair, IsLesserPair}
 use Rattle.graph_algorithms.proofs.Laws.{least_same, least_more}

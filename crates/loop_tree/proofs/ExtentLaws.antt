@@ -7,7 +7,7 @@ use Rattle.std.proofs.lemmas.List.Folds.{list_any-append, list_any_more}
 use Rattle.std.proofs.lemmas.Option.{slice_get_within, get_or_from_slice_get}
 use Rattle.scale_base.specs.declared.ranges.Range.{Range}
 use Rattle.scale_base.specs.Image as image
-use Rattle.code_graph.specs.FlowGraph.{FlowGraph}
+use Rattle.flow_graph.specs.FlowGraph.{FlowGraph}
 use Rattle.graph_algorithms.specs.declared.bodies.extent.NodeRange.{NodeRange}
 use Rattle.graph_algorithms.specs.Bodies as bodies
 use Rattle.loop_file.specs.declared.notes.LoopNote.{LoopNote}

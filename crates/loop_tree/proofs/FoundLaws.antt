@@ -14,12 +14,12 @@ use Rattle.cost_theory.specs.Graph.{Loops, sum_below, only, is_back, is_header}
 use Rattle.cost_theory.specs.Accepted.{AreEntered, IsNode, IsInBody, IsSideEntry}
 use Rattle.cost_theory.specs.Lists.{is_among, or_true, body_of}
 use Rattle.cost_theory.proofs.Laws.{sum-same}
-use Rattle.code_graph.specs.FlowGraph.{FlowGraph, graph, IsFlowGraph}
+use Rattle.flow_graph.specs.FlowGraph.{FlowGraph, graph, IsFlowGraph}
 use Rattle.graph_algorithms.specs.Edges.{EdgeView}
 use Rattle.graph_algorithms.specs.Bodies.{IsIn, IsLeastPair}
 use Rattle.loop_file.specs.declared.notes.LoopNote.{LoopNote}
 use Rattle.loop_file.specs.Kept.{note_at, noted_loops}
-use Rattle.code_graph.specs.Ends.{AreEdgeEnds}
+use Rattle.flow_graph.specs.Ends.{AreEdgeEnds}
 use Rattle.loop_forest.specs.Noted.{header_address, IsBodyNode, HasBackEdge, HaveOneHeader, IsNotedSideEntry, node_address}
 use Rattle.loop_forest.specs.Found.{loops_seen, AreNaturalLoops}
 use Rattle.loop_forest.specs.Refused.{AreHeaders, AreNoted, IsPairRefused, IsDepthRefused, AreHeadersReached}

@@ -9,7 +9,7 @@ use Rattle.std.proofs.lemmas.Option.{slice_get_within, get_or_from_slice_get}
 use Rattle.cost_theory.specs.Graph.{sum_below, only}
 use Rattle.cost_theory.specs.Accepted.{IsNode}
 use Rattle.cost_theory.proofs.Laws.{sum-same}
-use Rattle.code_graph.specs.FlowGraph.{FlowGraph, graph, IsFlowGraph}
+use Rattle.flow_graph.specs.FlowGraph.{FlowGraph, graph, IsFlowGraph}
 use Rattle.graph_algorithms.specs.declared.bodies.extent.LoopExtent.{LoopExtent}
 use Rattle.graph_algorithms.specs.Edges.{EdgeView}
 use Rattle.graph_algorithms.specs.Groups.{HasBit, IsFlagged, IsLed, AreLoopExtents, AreGroup}

@@ -4,7 +4,7 @@ use Rattle.std.specs.Prelude.{slice_get}
 use Rattle.std.proofs.lemmas.Bool.{cases_eq, cases_lt}
 use Rattle.std.proofs.lemmas.List.{get_or_append_left, get_or_at}
 use Rattle.std.proofs.lemmas.Option.{get_or_from_slice_get, slice_get_within}
-use Rattle.code_graph.specs.FlowGraph.{FlowGraph, IsFlowGraph}
+use Rattle.flow_graph.specs.FlowGraph.{FlowGraph, IsFlowGraph}
 use Rattle.graph_algorithms.specs.Keys.{option_at}
 use Rattle.graph_algorithms.specs.Bodies.{IsLeastPair, IsLesserPair}
 use Rattle.graph_algorithms.proofs.Laws.{least_same, least_more}

@@ -7,7 +7,7 @@ use Rattle.cost_theory.specs.Graph.{Loops}
 use Rattle.cost_theory.specs.Accepted.{AreEntered, IsWithin}
 use Rattle.cost_theory.specs.Lists.{body_of, is_among}
 use Rattle.cost_theory.proofs.Laws.{header_held, one_within, held_within}
-use Rattle.code_graph.specs.FlowGraph.{FlowGraph, graph, IsFlowGraph}
+use Rattle.flow_graph.specs.FlowGraph.{FlowGraph, graph, IsFlowGraph}
 use Rattle.loop_forest.specs.Noted.{node_address, loops_by}
 use Rattle.graph_algorithms.specs.Nesting.{HasNode, IsRound, AreLoops, AreHeadersOuter, IsShortestBody, IsNextAtHeader, body_at, IsInnermostBody as IsShortest}
 use Rattle.loop_forest.specs.Tree.{IsLeastLoop, IsInnermost, IsParent}

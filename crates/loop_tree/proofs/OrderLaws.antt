@@ -7,7 +7,7 @@ use Rattle.graph_algorithms.specs.Arcs.{arc_at, number_in_place, AreDistinct, Is
 use Rattle.cost_theory.specs.Graph.{Loops, IsPlain, find_below}
 use Rattle.cost_theory.specs.Accepted.{IsNode, IsPlainOrder}
 use Rattle.cost_theory.proofs.Laws.{find-holds, find-some}
-use Rattle.code_graph.specs.FlowGraph.{FlowGraph, graph, IsFlowGraph}
+use Rattle.flow_graph.specs.FlowGraph.{FlowGraph, graph, IsFlowGraph}
 use Rattle.loop_forest.specs.Tree.{IsAtPlace, ArePlainOrdered}
 use Rattle.loop_forest.specs.Arcs.{IsPlainBy, ArePlainArcs}
 use Rattle.loop_forest.proofs.Laws.{one_number}

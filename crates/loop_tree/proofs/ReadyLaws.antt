@@ -6,7 +6,7 @@ use Rattle.std.proofs.lemmas.Option.{slice_get_within}
 use Rattle.scale_base.specs.declared.refusal.Refusal.{Refusal}
 use Rattle.scale_base.specs.declared.refusal.Refusal.TheVariants.{NoBackEdge, SideEntry, TooDeep}
 use Rattle.cost_theory.specs.Lists.{body_of}
-use Rattle.code_graph.specs.FlowGraph.{FlowGraph}
+use Rattle.flow_graph.specs.FlowGraph.{FlowGraph}
 use Rattle.graph_algorithms.specs.Edges.{EdgeView}
 use Rattle.graph_algorithms.specs.Bodies.{IsLeastPair}
 use Rattle.loop_file.specs.declared.notes.LoopNote.{LoopNote}

@@ -4,7 +4,7 @@ use Rattle.std.proofs.lemmas.Option.{same_Some}
 use Rattle.graph_algorithms.specs.Arcs.{number_in_place}
 use Rattle.graph_algorithms.specs.Cycles.{IsCycleBy}
 use Rattle.graph_algorithms.proofs.Laws.{IsRound}
-use Rattle.code_graph.specs.FlowGraph.{FlowGraph, IsFlowGraph}
+use Rattle.flow_graph.specs.FlowGraph.{FlowGraph, IsFlowGraph}
 use Rattle.loop_forest.proofs.Laws.{one_number}
 use Rattle.loop_forest.specs.Arcs.{HasPlainEdge, IsRoundOfNodes, AreAddressesOf}
 use Rattle.loop_tree.specs.Backs.{IsStepBy}

@@ -6,8 +6,8 @@ use Rattle.std.proofs.lemmas.List.{length-map, get_or-map}
 use Rattle.std.proofs.lemmas.Option.{slice_get_within, slice_get-get_or, get_or_from_slice_get, slice_get-map}
 use Rattle.cost_theory.specs.Lists.{body_of}
 use Rattle.cost_theory.proofs.Laws.{accepted_with, entered-accepted}
-use Rattle.code_graph.specs.FlowGraph.{FlowGraph, graph, IsFlowGraph}
-use Rattle.code_graph.proofs.Laws.{map_is}
+use Rattle.flow_graph.specs.FlowGraph.{FlowGraph, graph, IsFlowGraph}
+use Rattle.flow_graph.proofs.Laws.{map_is}
 use Rattle.loop_file.specs.declared.notes.LoopNote.{LoopNote}
 use Rattle.loop_file.specs.Kept.{noted_loops, note_at}
 use Rattle.loop_file.specs.Notes.{IsLoopNote, AreLoopNotes}

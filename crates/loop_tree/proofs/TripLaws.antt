@@ -3,7 +3,7 @@ use Rattle.std.proofs.Common.{◌≡◌, ℕ, ◌+◌, ◌<◌, ◌≤◌, List,
 use Rattle.std.proofs.lemmas.List.{get_or_push, length-append}
 use Rattle.std.proofs.Math.ListN.{get_or-append}
 use Rattle.cost_theory.specs.Lists.{body_of}
-use Rattle.code_graph.specs.FlowGraph.{FlowGraph}
+use Rattle.flow_graph.specs.FlowGraph.{FlowGraph}
 use Rattle.loop_file.specs.declared.notes.LoopNote.{LoopNote}
 use Rattle.loop_file.specs.Kept.{note_at}
 use Rattle.loop_tree.specs.Trips.{AreTripsOf, AreTrips}

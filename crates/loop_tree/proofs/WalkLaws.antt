@@ -7,7 +7,7 @@ use Rattle.std.proofs.lemmas.Option.{slice_get-get_or, slice_get_within}
 use Rattle.scale_base.specs.Image as image
 use Rattle.cost_theory.specs.Graph.{IsWalk, end_of}
 use Rattle.cost_theory.specs.Accepted.{StaysWithin}
-use Rattle.code_graph.specs.FlowGraph.{FlowGraph, graph, IsFlowGraph}
+use Rattle.flow_graph.specs.FlowGraph.{FlowGraph, graph, IsFlowGraph}
 use Rattle.graph_algorithms.specs.declared.bodies.extent.NodeRange.{NodeRange}
 use Rattle.graph_algorithms.specs.Bodies as bodies
 use Rattle.graph_algorithms.specs.Bodies.{HasEdge, LeadsWithin, HasEdgeBack, IsBody, IsIn}

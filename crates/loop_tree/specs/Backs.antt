@@ -2,7 +2,7 @@
 use Rattle.std.specs.Prelude.{◌≡◌, ◌↔◌, ℕ, ◌<◌, true, List, length, slice_get, slice_index, slice_index_or, Option, Some, None}
 use Rattle.graph_algorithms.specs.Arcs.{AreDistinct}
 use Rattle.cost_theory.specs.Lists.{body_of, is_among}
-use Rattle.code_graph.specs.FlowGraph.{FlowGraph, graph}
+use Rattle.flow_graph.specs.FlowGraph.{FlowGraph, graph}
 use Rattle.loop_forest.specs.Found.{IsAscending}
 use Rattle.loop_forest.specs.Arcs.{IsPlainBy}
 

@@ -5,7 +5,7 @@ use Rattle.scale_base.specs.declared.refusal.Refusal.TheVariants.{SideEntry, Too
 use Rattle.cost_theory.specs.Graph.{sum_below, only}
 use Rattle.cost_theory.specs.Accepted.{IsInBody}
 use Rattle.cost_theory.specs.Lists.{body_of}
-use Rattle.code_graph.specs.FlowGraph.{FlowGraph, graph, IsFlowGraph}
+use Rattle.flow_graph.specs.FlowGraph.{FlowGraph, graph, IsFlowGraph}
 use Rattle.graph_algorithms.specs.declared.bodies.extent.LoopExtent.{LoopExtent}
 use Rattle.graph_algorithms.specs.declared.bodies.extent.NodeRange.{NodeRange}
 use Rattle.graph_algorithms.specs.Bodies as bodies
@@ -15,7 +15,7 @@ use Rattle.graph_algorithms.specs.Groups.{HasBit, IsFlagged}
 use Rattle.loop_file.specs.declared.notes.LoopNote.{LoopNote}
 use Rattle.loop_file.specs.Kept as kept
 use Rattle.loop_file.specs.Kept.{note_at}
-use Rattle.code_graph.specs.Ends.{AreEdgeEnds}
+use Rattle.flow_graph.specs.Ends.{AreEdgeEnds}
 use Rattle.loop_forest.specs.Noted.{header_address, IsBodyNode, HasBackEdge, IsNotedSideEntry}
 use Rattle.loop_forest.specs.Found.{IsAscending}
 use Rattle.loop_forest.specs.Refused.{IsHeaderRefused, AreHeaders, IsBackEdgeRefused, IsEntryRefused}

@@ -1,7 +1,7 @@
 //! A tree of loops from its parts.
 
 ghost use Rattle.std.specs.Prelude.{◌≡◌, length, map, IfOk};
-ghost use Rattle.code_graph.specs.FlowGraph.{IsFlowGraph};
+ghost use Rattle.flow_graph.specs.FlowGraph.{IsFlowGraph};
 ghost use Rattle.loop_file.specs.Notes.{AreLoopNotes};
 ghost use Rattle.loop_forest.specs.Found.{loops_seen, AreNaturalLoops};
 ghost use Rattle.loop_forest.specs.Tree.{ArePlainOrdered, IsTreeOf};
@@ -9,7 +9,7 @@ ghost use Rattle.loop_tree.specs.Backs.{AreBacks};
 
 use crate::natural::NaturalLoops;
 use crate::trips::trips_of;
-use code_graph::CodeGraph;
+use flow_graph::CodeGraph;
 use graph_algorithms::nest_loops;
 use loop_file::LoopNotes;
 use loop_forest::{LoopParts, LoopTree};

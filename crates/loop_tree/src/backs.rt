@@ -1,11 +1,11 @@
 //! The back edges of loops.
 
 ghost use Rattle.std.specs.Prelude.{◌≡◌, ◌<◌, ◌↔◌, ℕ, Some, length, IfOk};
-ghost use Rattle.code_graph.specs.FlowGraph.{IsFlowGraph};
+ghost use Rattle.flow_graph.specs.FlowGraph.{IsFlowGraph};
 ghost use Rattle.graph_algorithms.specs.Nesting.{bodies_of};
 ghost use Rattle.loop_tree.specs.Backs.{AreDistinctHeaders, ArePlacedHeaders, AreLoopLists, IsBackBetween, AreBacks};
 
-use code_graph::CodeGraph;
+use flow_graph::CodeGraph;
 use loop_forest::has_number;
 use scale_base::NoMemory;
 use std::alloc::Global;

@@ -1,13 +1,13 @@
 //! Cycles of plain edges, as refusals name them.
 
 ghost use Rattle.std.specs.Prelude.{ℕ, ◌<◌, List, length, Option, IfOk};
-ghost use Rattle.code_graph.specs.FlowGraph.{IsFlowGraph};
+ghost use Rattle.flow_graph.specs.FlowGraph.{IsFlowGraph};
 ghost use Rattle.graph_algorithms.specs.Arcs.{number_in_place};
 ghost use Rattle.graph_algorithms.specs.Cycles.{IsCycleBy};
 ghost use Rattle.loop_forest.specs.Arcs.{AreAddressesOf, IsRoundOfNodes};
 ghost use Rattle.loop_tree.specs.Backs.{IsStepBy};
 
-use code_graph::CodeGraph;
+use flow_graph::CodeGraph;
 use graph_algorithms::least_first;
 use scale_base::{Cycle, NoMemory};
 use std::alloc::Global;

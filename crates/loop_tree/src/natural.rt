@@ -13,9 +13,9 @@ mod loops;
 
 use back_edges::check_back_edges;
 use bodies::keep_bodies;
-use code_graph::CodeGraph;
 use entries::{check_depths, check_entries};
 pub use extent::extent_of;
+use flow_graph::CodeGraph;
 use graph_algorithms::BodySearch;
 use headers::{find_headers, least_pair, number_of};
 use loop_file::LoopNotes;

@@ -2,14 +2,14 @@
 
 ghost use Rattle.std.specs.Prelude.{◌≡◌, ◌↔◌, ℕ, ◌<◌, ◌≤◌, true, Some, length, slice_get, IfOk};
 ghost use Rattle.cost_theory.specs.Lists.{is_among};
-ghost use Rattle.code_graph.specs.FlowGraph.{IsFlowGraph};
+ghost use Rattle.flow_graph.specs.FlowGraph.{IsFlowGraph};
 ghost use Rattle.graph_algorithms.specs.Bodies as extents;
 ghost use Rattle.loop_forest.specs.Found.{AreNaturalLoops};
 ghost use Rattle.loop_forest.specs.Stored.{IsRising};
 ghost use Rattle.loop_tree.specs.Trips.{IsWholeBody, AreTripsOf, AreTrips};
 
 use crate::natural::{NaturalLoops, extent_of};
-use code_graph::CodeGraph;
+use flow_graph::CodeGraph;
 use graph_algorithms::NodeRange;
 use loop_file::{LoopNote, LoopNotes};
 use loop_forest::has_number;

@@ -1,6 +1,7 @@
 //! Files and programs that tests of several crates use.
 
-use elf_view::{ImageView, read_image};
+use elf_image::ImageView;
+use elf_view::read_image;
 use std::alloc::Global;
 use std::test::Fail;
 

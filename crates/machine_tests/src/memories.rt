@@ -1,7 +1,7 @@
 //! Memories of a program: lists of segments, and pages.
 
 use crate::fixtures::{READS_A_BYTE, READS_ALL, WRITES_A_BYTE, file_of, plain, view_of};
-use elf_view::ImageView;
+use elf_image::ImageView;
 use flat_memory::{ListMemory, Memory, PageMemory, load_list, load_pages};
 use std::alloc::Global;
 use std::process::Abort;

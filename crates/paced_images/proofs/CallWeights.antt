@@ -14,9 +14,9 @@ use Rattle.scale_base.specs.declared.edges.EdgeKind.TheVariants as kind
 use Rattle.code_text.specs.TextGraph.{text_graph}
 use Rattle.code_text.specs.Text.{Text, text_of}
 use Rattle.code_text.proofs.Laws.{weights_are}
-use Rattle.code_graph.specs.FlowGraph.{FlowGraph, graph}
+use Rattle.flow_graph.specs.FlowGraph.{FlowGraph, graph}
 use Rattle.loop_file.specs.declared.notes.LoopNote.{LoopNote}
-use Rattle.loop_tree.specs.Tree.{LoopView, loops}
+use Rattle.loop_forest.specs.Tree.{LoopView, loops}
 use Rattle.scale_base.specs.declared.fragments.Mark.{Mark}
 use Rattle.scale_base.specs.declared.fragments.Mark.TheVariants as marks
 use Rattle.scale_sites.specs.Counters.{counted_loops, edge_goes_on, goes_on}

@@ -12,8 +12,8 @@ use Rattle.power_model.specs.Numbers.{PowerModel}
 use Rattle.cost_theory.specs.Accepted.{AreWeights}
 use Rattle.cost_theory.specs.Graph.{Graph, only}
 use Rattle.cost_theory.specs.Worst.{AreNumbers}
-use Rattle.code_graph.specs.FlowGraph.{FlowGraph, graph}
-use Rattle.loop_tree.specs.Tree.{LoopView, loops}
+use Rattle.flow_graph.specs.FlowGraph.{FlowGraph, graph}
+use Rattle.loop_forest.specs.Tree.{LoopView, loops}
 use Rattle.worst_cycles.specs.Worst.{WorstView, by_edge, IsWorstFound}
 use Rattle.scale_sites.specs.Sites.{SitesView, is_branch, marks_at_edge}
 use Rattle.scale_sites.specs.Weights.{extra_of, extra_weight}

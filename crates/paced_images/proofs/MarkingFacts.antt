@@ -26,11 +26,11 @@ use Rattle.least_cycles.specs.Found.{LeastView, HasWorstInRange, IsLeastOf, AreS
 use Rattle.cost_theory.specs.Worst.{Numbers, AreNumbers}
 use Rattle.code_text.specs.EdgeCosts.{cost_of}
 use Rattle.code_text.specs.Text.{text_of}
-use Rattle.code_graph.specs.FlowGraph.{FlowGraph, graph, IsGraphOf}
+use Rattle.flow_graph.specs.FlowGraph.{FlowGraph, graph, IsGraphOf}
 use Rattle.loop_file.specs.declared.notes.LoopNote.{LoopNote}
 use Rattle.loop_file.specs.Kept.{noted_loops}
-use Rattle.loop_tree.specs.Noted.{node_address}
-use Rattle.loop_tree.specs.Tree.{LoopView, loops, IsTreeOf}
+use Rattle.loop_forest.specs.Noted.{node_address}
+use Rattle.loop_forest.specs.Tree.{LoopView, loops, IsTreeOf}
 use Rattle.worst_cycles.specs.Worst.{WorstView, by_edge, HoldsLeft, HasLeftSizes, IsLeftOf, IsWorstFound}
 use Rattle.scale_sites.specs.Counters.{AreCounters, counted_loops}
 use Rattle.scale_sites.specs.Sites.{SitesView, is_branch, marks_at_edge}

@@ -12,10 +12,10 @@ use Rattle.cost_theory.specs.Reached.{Code}
 use Rattle.cost_theory.proofs.Laws.{accepted_entered, header_held}
 use Rattle.code_text.specs.TextGraph.{text_graph}
 use Rattle.code_text.specs.Text.{Text, text_of}
-use Rattle.code_graph.specs.FlowGraph.{FlowGraph, graph}
+use Rattle.flow_graph.specs.FlowGraph.{FlowGraph, graph}
 use Rattle.loop_file.specs.declared.notes.LoopNote.{LoopNote}
 use Rattle.loop_file.specs.Kept.{noted_loops}
-use Rattle.loop_tree.specs.Tree.{LoopView, loops}
+use Rattle.loop_forest.specs.Tree.{LoopView, loops}
 use Rattle.worst_cycles.specs.Worst.{rest_at}
 use Rattle.scale_base.specs.declared.fragments.Mark.{Mark}
 use Rattle.scale_base.specs.declared.fragments.Mark.TheVariants as marks

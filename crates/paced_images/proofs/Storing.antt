@@ -12,8 +12,8 @@ use Rattle.elf_patch.specs.Stored.{IsStubBase}
 use Rattle.loop_file.specs.declared.notes.LoopNote.{LoopNote}
 use Rattle.cost_theory.specs.Worst.{Numbers}
 use Rattle.cycle_laws.specs.Charged.{Charged}
-use Rattle.code_graph.specs.FlowGraph.{FlowGraph}
-use Rattle.loop_tree.specs.Tree.{LoopView, loops}
+use Rattle.flow_graph.specs.FlowGraph.{FlowGraph}
+use Rattle.loop_forest.specs.Tree.{LoopView, loops}
 use Rattle.scale_sites.specs.Counters.{counted_loops}
 use Rattle.stub_writer.specs.Sites.{site_of}
 use Rattle.stub_writer.specs.Stubs.{Site, block_size, block_bytes, patches_from, out_of_reach, stub_len, jump}

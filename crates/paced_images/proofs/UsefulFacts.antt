@@ -13,8 +13,8 @@ use Rattle.scale_sites.specs.Weights.{switches}
 use Rattle.level_tables.specs.Tables.{EdgeNumbers}
 use Rattle.scaler.proofs.Laws.{IsLoud}
 use Rattle.paced_images.specs.Useful.{is_site_mark, lowers_some}
-use Rattle.code_graph.specs.FlowGraph.{FlowGraph}
-use Rattle.loop_tree.specs.Tree.{LoopView}
+use Rattle.flow_graph.specs.FlowGraph.{FlowGraph}
+use Rattle.loop_forest.specs.Tree.{LoopView}
 use Rattle.paced_images.specs.declared.stubs.Marking.{Marking}
 use Rattle.paced_images.specs.declared.wanted.SwitchSite.{SwitchSite}
 use Rattle.paced_images.specs.Wanted.{names, names_some}

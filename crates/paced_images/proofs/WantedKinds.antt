@@ -6,7 +6,7 @@ use Rattle.std.proofs.lemmas.List.Elements.{All-map}
 use Rattle.std.proofs.lemmas.Option.{slice_get_within, get_or_from_slice_get}
 use Rattle.scale_base.specs.declared.fragments.Fragment.{Fragment}
 use Rattle.cycle_laws.specs.Charged.{Charged}
-use Rattle.loop_tree.specs.Noted.{node_address}
+use Rattle.loop_forest.specs.Noted.{node_address}
 use Rattle.stub_writer.specs.Fragments.{IsFragment, IsShadow}
 use Rattle.rewritten_runs.proofs.Laws.{IsCounter, IsMarkOf, counted_is, depth, edge_is, few_marks, graph_program, in_get, loop_count, marks_are, program_is, set_distinct, shadow_of, shift_fits, tally_fits}
 use Rattle.scaler.proofs.Laws.{IsMarkable, map_none, markable, numbers_of, weighed_by}
@@ -25,10 +25,10 @@ use Rattle.cost_theory.specs.Reached.{Code, place_after, edge_at, edge_to, edges
 use Rattle.cost_theory.proofs.Laws.{edge_word, source_reached, some_get, Within, accepted_entered, header_held}
 use Rattle.code_text.specs.Text.{Text, text_of, instr_at, kind_at}
 use Rattle.code_text.specs.TextGraph.{text_graph}
-use Rattle.code_graph.specs.FlowGraph.{FlowGraph}
+use Rattle.flow_graph.specs.FlowGraph.{FlowGraph}
 use Rattle.loop_file.specs.declared.notes.LoopNote.{LoopNote}
 use Rattle.loop_file.specs.Kept.{noted_loops}
-use Rattle.loop_tree.specs.Tree.{LoopView, loops, IsInnermost}
+use Rattle.loop_forest.specs.Tree.{LoopView, loops, IsInnermost}
 use Rattle.scale_base.specs.declared.fragments.Mark.{Mark}
 use Rattle.scale_base.specs.declared.fragments.Mark.TheVariants as marks
 use Rattle.scale_sites.specs.Counters.{counted_loops, goes_on, edge_goes_on, IsUncountable}

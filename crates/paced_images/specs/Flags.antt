@@ -1,7 +1,7 @@
 -- The wanted edges and the tallied counters, as lists of flags.
 use Rattle.std.specs.Prelude.{◌≡◌, ℕ, ◌<◌, nat_lt, ◌&&◌, ◌||◌, Bool, List, length, map, slice_get, Some}
-use Rattle.code_graph.specs.FlowGraph.{FlowGraph}
-use Rattle.loop_tree.specs.Tree.{LoopView}
+use Rattle.flow_graph.specs.FlowGraph.{FlowGraph}
+use Rattle.loop_forest.specs.Tree.{LoopView}
 use Rattle.scale_sites.specs.Counters.{counted_loops}
 use Rattle.scale_sites.specs.Sites.{flag_at}
 use Rattle.paced_images.specs.declared.wanted.SwitchSite.{SwitchSite}

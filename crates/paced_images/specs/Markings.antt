@@ -5,10 +5,10 @@ use Rattle.scale_base.specs.Image.{Image}
 use Rattle.power_model.specs.Numbers.{PowerModel}
 use Rattle.cycle_laws.specs.Charged.{Charged, to_end_after}
 use Rattle.cost_theory.specs.Worst.{Numbers}
-use Rattle.code_graph.specs.FlowGraph.{FlowGraph, graph, IsGraphOf}
+use Rattle.flow_graph.specs.FlowGraph.{FlowGraph, graph, IsGraphOf}
 use Rattle.code_text.specs.Text.{text_of}
 use Rattle.level_tables.specs.Tables as tables
-use Rattle.loop_tree.specs.Tree.{LoopView, loops, IsLoopTree}
+use Rattle.loop_forest.specs.Tree.{LoopView, loops, IsLoopTree}
 use Rattle.scale_base.specs.declared.fragments.Mark.{Mark}
 use Rattle.scale_sites.specs.Counters.{counted_loops}
 use Rattle.scale_sites.specs.Sites.{marks_at_edge}

@@ -16,8 +16,8 @@ use Rattle.loop_file.specs.declared.notes.LoopNote.{LoopNote}
 use Rattle.loop_file.specs.Loops.{read_loops}
 use Rattle.cost_theory.specs.Worst.{Numbers}
 use Rattle.cycle_laws.specs.Charged.{Charged}
-use Rattle.code_graph.specs.FlowGraph.{FlowGraph}
-use Rattle.loop_tree.specs.Tree.{LoopView}
+use Rattle.flow_graph.specs.FlowGraph.{FlowGraph}
+use Rattle.loop_forest.specs.Tree.{LoopView}
 use Rattle.level_tables.specs.Tables.{EdgeNumbers}
 use Rattle.level_tables.specs.Budgets.{meets_in_budget}
 use Rattle.stub_writer.specs.Stubs.{Site, out_of_reach}

@@ -7,9 +7,9 @@ use Rattle.scale_base.specs.declared.edges.EdgeKind.{EdgeKind}
 use Rattle.scale_base.specs.declared.edges.EdgeKind.TheVariants.{Taken, Untaken, Jump, Next, CallNext, End}
 use Rattle.scale_base.specs.declared.fragments.Mark.{Mark}
 use Rattle.cost_theory.specs.Lists.{is_among}
-use Rattle.code_graph.specs.FlowGraph.{FlowGraph}
+use Rattle.flow_graph.specs.FlowGraph.{FlowGraph}
 use Rattle.loop_file.specs.declared.notes.LoopNote.{LoopNote}
-use Rattle.loop_tree.specs.Tree.{LoopView, loops}
+use Rattle.loop_forest.specs.Tree.{LoopView, loops}
 use Rattle.scale_sites.specs.Counters.{counted_loops}
 use Rattle.scale_sites.specs.Forms.{formed}
 use Rattle.scale_sites.specs.Marks.{first_counter}

@@ -10,14 +10,14 @@ ghost use Rattle.scale_sites.specs.Weights.{switches};
 ghost use Rattle.paced_images.specs.Scalings.{IsMarkedProgram, AreStubsFound};
 ghost use Rattle.paced_images.specs.Markings.{HasMarking, IsToldAt, IsFragmentAt, AreFragmentsAt, AreEdgesAt};
 
-use code_graph::CodeGraph;
-use elf_view::ImageView;
+use elf_image::ImageView;
+use flow_graph::CodeGraph;
 use least_cycles::LeastNumbers;
 use level_tables::{
     LevelBudgets, exit_rows_within, lowest_within, shift, tally_from_within, tally_shift,
     word_within,
 };
-use loop_tree::LoopTree;
+use loop_forest::LoopTree;
 use power_model::Power;
 use rv_decode::decode;
 use scale_base::{Fragment, Instr, Mark, NoMemory};

@@ -2,14 +2,14 @@
 
 ghost use Rattle.std.specs.Prelude.{◌≡◌, ◌≤◌, ◌<◌, ◌↔◌, ℕ, Bool, length, slice_get, Some, IfOk};
 ghost use Rattle.cost_theory.specs.Reached.{edge_at};
-ghost use Rattle.loop_tree.specs.Tree.{IsLoopTree};
+ghost use Rattle.loop_forest.specs.Tree.{IsLoopTree};
 ghost use Rattle.scale_sites.specs.Counters.{counted_loops};
 ghost use Rattle.paced_images.specs.Wanted.{same_kind, names, header_tallied};
 ghost use Rattle.paced_images.specs.Flags.{AreFlags, AreRaised, AreLowest, AreTallied};
 
 use crate::noted::is_among;
-use code_graph::CodeGraph;
-use loop_tree::LoopTree;
+use flow_graph::CodeGraph;
+use loop_forest::LoopTree;
 use scale_base::{Edge, EdgeKind, NoMemory};
 use scale_sites::CounterList;
 use std::alloc::Global;

@@ -24,11 +24,11 @@ use Rattle.cost_theory.proofs.Laws.{source_reached, some_get}
 use Rattle.code_text.specs.EdgeCosts.{weights}
 use Rattle.code_text.specs.TextGraph.{text_graph}
 use Rattle.code_text.specs.Text.{text_of, kind_at}
-use Rattle.code_graph.specs.FlowGraph.{FlowGraph, graph}
+use Rattle.flow_graph.specs.FlowGraph.{FlowGraph, graph}
 use Rattle.loop_file.specs.declared.notes.LoopNote.{LoopNote}
 use Rattle.loop_file.specs.Kept.{noted_loops}
-use Rattle.loop_tree.specs.Noted.{node_address}
-use Rattle.loop_tree.specs.Tree.{LoopView, loops, IsInnermost}
+use Rattle.loop_forest.specs.Noted.{node_address}
+use Rattle.loop_forest.specs.Tree.{LoopView, loops, IsInnermost}
 use Rattle.scale_sites.specs.Counters.{counted_loops}
 use Rattle.scale_sites.specs.Marks.{AreLoopsOnce}
 use Rattle.scale_sites.specs.Sites.{is_branch}

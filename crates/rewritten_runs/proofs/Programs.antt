@@ -19,9 +19,9 @@ use Rattle.code_text.proofs.Laws.{weights_are}
 use Rattle.graph_runs.specs.Laws.{IsProgramOf}
 use Rattle.loop_file.specs.declared.notes.LoopNote.{LoopNote}
 use Rattle.loop_file.specs.Kept.{noted_loops, note_at}
-use Rattle.code_graph.specs.FlowGraph.{FlowGraph, graph, IsGraphOf}
-use Rattle.loop_tree.specs.Noted.{node_address}
-use Rattle.loop_tree.specs.Tree.{LoopView, loops, IsTreeOf}
+use Rattle.flow_graph.specs.FlowGraph.{FlowGraph, graph, IsGraphOf}
+use Rattle.loop_forest.specs.Noted.{node_address}
+use Rattle.loop_forest.specs.Tree.{LoopView, loops, IsTreeOf}
 use Rattle.worst_cycles.specs.Worst.{by_edge}
 
 -- ---- weights

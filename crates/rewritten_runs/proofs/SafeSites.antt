@@ -25,10 +25,10 @@ use Rattle.cost_theory.proofs.Laws.{source_reached, Within, word_edge}
 use Rattle.code_text.specs.EdgeCosts.{edge_class}
 use Rattle.code_text.specs.TextGraph.{text_graph}
 use Rattle.code_text.specs.Text.{Text, text_of, instr_at, instr_kind, kind_at}
-use Rattle.code_graph.specs.FlowGraph.{FlowGraph}
+use Rattle.flow_graph.specs.FlowGraph.{FlowGraph}
 use Rattle.loop_file.specs.declared.notes.LoopNote.{LoopNote}
 use Rattle.loop_file.specs.Kept.{noted_loops}
-use Rattle.loop_tree.specs.Tree.{LoopView, loops}
+use Rattle.loop_forest.specs.Tree.{LoopView, loops}
 use Rattle.scale_base.specs.declared.fragments.Mark.{Mark}
 use Rattle.scale_base.specs.declared.fragments.Mark.TheVariants as marks
 use Rattle.scale_sites.specs.Counters.{counted_loops}

@@ -11,10 +11,10 @@ use Rattle.graph_runs.specs.KeptRuns.{kept_of}
 use Rattle.graph_runs.specs.Laws.{IsProgramOf}
 use Rattle.code_text.specs.TextGraph.{text_graph}
 use Rattle.code_text.specs.Text.{text_of}
-use Rattle.code_graph.specs.FlowGraph.{FlowGraph, graph}
+use Rattle.flow_graph.specs.FlowGraph.{FlowGraph, graph}
 use Rattle.loop_file.specs.declared.notes.LoopNote.{LoopNote}
 use Rattle.loop_file.specs.Kept.{noted_loops}
-use Rattle.loop_tree.specs.Tree.{LoopView, loops}
+use Rattle.loop_forest.specs.Tree.{LoopView, loops}
 use Rattle.stub_writer.specs.Fragments.{IsShadow}
 use Rattle.stub_writer.specs.Stubs.{Site}
 use Rattle.stored_runs.specs.Stubbed.{IsStubbed}

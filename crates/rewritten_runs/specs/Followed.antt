@@ -13,8 +13,8 @@ use Rattle.graph_runs.specs.KeptRuns.{IsKeptUpTo, kept_of}
 use Rattle.cost_theory.specs.Worst.{Numbers}
 use Rattle.cost_theory.specs.Steps as steps
 use Rattle.graph_runs.specs.KeptSteps.{Carried}
-use Rattle.code_graph.specs.FlowGraph.{FlowGraph, graph}
-use Rattle.loop_tree.specs.Tree.{LoopView, loops}
+use Rattle.flow_graph.specs.FlowGraph.{FlowGraph, graph}
+use Rattle.loop_forest.specs.Tree.{LoopView, loops}
 use Rattle.stub_writer.specs.Fragments.{IsShadow}
 use Rattle.stored_runs.specs.Legs.{Meets}
 use Rattle.stored_runs.specs.Laws.{text_steps}

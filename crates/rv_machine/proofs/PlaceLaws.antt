@@ -9,7 +9,7 @@ use Rattle.std.proofs.lemmas.List.Folds.{list_any_at}
 use Rattle.scale_base.specs.declared.ranges.Range.{Range}
 use Rattle.scale_base.specs.Image.{is_in}
 use Rattle.scale_base.specs.Layout.{in_option}
-use Rattle.elf_view.specs.Ascending.{AscendFrom}
+use Rattle.elf_image.specs.Ascending.{AscendFrom}
 use Rattle.rv_machine.specs.Places.{is_text, has_address}
 use Rattle.rv_machine.specs.declared.decoding.Places.{Places}
 

@@ -4,7 +4,7 @@ use Rattle.std.specs.List.{list_any}
 use Rattle.scale_base.specs.declared.ranges.Range.{Range}
 use Rattle.scale_base.specs.Image.{is_in}
 use Rattle.scale_base.specs.Layout.{in_option}
-use Rattle.elf_view.specs.Ascending.{AscendFrom}
+use Rattle.elf_image.specs.Ascending.{AscendFrom}
 use Rattle.rv_machine.specs.declared.decoding.Places.{Places}
 
 -- whether a text range has the address

@@ -3,8 +3,8 @@ use Rattle.std.proofs.Common.{◌≡◌, ℕ, zero, suc, ◌+◌, ◌<◌, ◌�
 use Rattle.std.proofs.lemmas.List.{append_assoc}
 use Rattle.std.proofs.lemmas.Bool.{cases_lt}
 use Rattle.std.proofs.lemmas.Option.{same_Some, none-some}
-use Rattle.code_graph.specs.FlowGraph.{FlowGraph}
-use Rattle.loop_tree.specs.Tree.{LoopView, IsLoopTree}
+use Rattle.flow_graph.specs.FlowGraph.{FlowGraph}
+use Rattle.loop_forest.specs.Tree.{LoopView, IsLoopTree}
 use Rattle.scale_sites.specs.declared.counting.BackEdge.{BackEdge}
 use Rattle.scale_base.specs.declared.edges.Edge.{Edge}
 use Rattle.scale_sites.specs.Counters.{goes_on, edge_goes_on, set_from, IsUncountable, IsFirstUncountable, HasNone}

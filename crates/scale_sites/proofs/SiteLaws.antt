@@ -9,10 +9,10 @@ use Rattle.power_model.specs.Price.{cycles_of}
 use Rattle.code_text.specs.EdgeCosts.{cost_of}
 use Rattle.cost_theory.specs.Graph.{Graph, Loops, leaves, goes_back, any_below}
 use Rattle.cost_theory.specs.Lists.{or_true, is_among, body_of}
-use Rattle.code_graph.specs.FlowGraph.{FlowGraph, graph, IsFlowGraph}
-use Rattle.loop_tree.specs.Noted.{node_address}
-use Rattle.loop_tree.proofs.Laws.{one_number}
-use Rattle.loop_tree.specs.Tree.{LoopView, loops, IsLoopTree}
+use Rattle.flow_graph.specs.FlowGraph.{FlowGraph, graph, IsFlowGraph}
+use Rattle.loop_forest.specs.Noted.{node_address}
+use Rattle.loop_forest.proofs.Laws.{one_number}
+use Rattle.loop_forest.specs.Tree.{LoopView, loops, IsLoopTree}
 use Rattle.scale_base.specs.declared.fragments.Mark.{Mark}
 use Rattle.scale_base.specs.declared.fragments.Mark.TheVariants.{Switch, Exit, Reset, Count}
 use Rattle.scale_sites.specs.Marks.{numbered, AreBelow, first_counter, leaves_any, holds_left, is_outermost, mark_if, exits_from, resets_from, counts_from, switch_of, marks_at}

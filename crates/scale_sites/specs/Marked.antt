@@ -1,7 +1,7 @@
 -- What is known of a graph, its loops and those that are counted, wherever edges are marked.
 use Rattle.std.specs.Prelude.{ℕ, Bool, List, length, ◌≤◌}
-use Rattle.code_graph.specs.FlowGraph.{FlowGraph, IsFlowGraph}
-use Rattle.loop_tree.specs.Tree.{LoopView, IsLoopTree}
+use Rattle.flow_graph.specs.FlowGraph.{FlowGraph, IsFlowGraph}
+use Rattle.loop_forest.specs.Tree.{LoopView, IsLoopTree}
 use Rattle.scale_sites.specs.Marks.{AreBelow}
 use Rattle.scale_sites.specs.declared.marking.Marking.{Marking}
 

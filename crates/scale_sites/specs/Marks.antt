@@ -3,7 +3,7 @@ use Rattle.std.specs.Prelude.{◌≡◌, ℕ, ◌+◌, ◌<◌, ◌≤◌, Bool,
 use Rattle.cost_theory.specs.Graph.{Graph, Loops, leaves, goes_back}
 use Rattle.cost_theory.specs.Accepted.{IsProgram, AreAccepted}
 use Rattle.cost_theory.specs.Lists.{is_among, body_of}
-use Rattle.loop_tree.specs.Tree.{LoopView}
+use Rattle.loop_forest.specs.Tree.{LoopView}
 use Rattle.scale_base.specs.declared.fragments.Mark.{Mark}
 use Rattle.scale_base.specs.declared.fragments.Mark.TheVariants.{Switch, Exit, Reset, Count}
 

@@ -2,12 +2,12 @@
 
 ghost use Rattle.std.specs.Prelude.{◌≡◌, ◌+◌, ◌<◌, ◌≤◌, ◌↔◌, ℕ, true, length, Some, None, IfOk, OnOk, Bool, slice_index};
 ghost use Rattle.scale_base.specs.Answer.{AnswersBy};
-ghost use Rattle.code_graph.specs.FlowGraph.{IsFlowGraph};
-ghost use Rattle.loop_tree.specs.Tree.{IsLoopTree};
+ghost use Rattle.flow_graph.specs.FlowGraph.{IsFlowGraph};
+ghost use Rattle.loop_forest.specs.Tree.{IsLoopTree};
 ghost use Rattle.scale_sites.specs.Counters.{goes_on, counted_loops, IsUncountable, IsFirstUncountable, HasNone, AreCounters};
 
-use code_graph::CodeGraph;
-use loop_tree::LoopTree;
+use flow_graph::CodeGraph;
+use loop_forest::LoopTree;
 use scale_base::{EdgeKind, NoMemory, Refusal, Stop};
 use std::alloc::Global;
 use std::marker::Model;

@@ -6,7 +6,7 @@ ghost use Rattle.scale_sites.specs.Marks.{AreBelow, numbered, leaves_any, holds_
 ghost use Rattle.scale_sites.specs.Marked.{IsMarkableGraph};
 
 use crate::marking::Marking;
-use loop_tree::LoopTree;
+use loop_forest::LoopTree;
 use scale_base::{Mark, NoMemory};
 use std::alloc::Global;
 

@@ -1,7 +1,7 @@
 //! What the marks of a program's edges are chosen by.
 
-use code_graph::CodeGraph;
-use loop_tree::LoopTree;
+use flow_graph::CodeGraph;
+use loop_forest::LoopTree;
 
 /// A graph, its loops, those of them that are counted, and the cycles of slack from which on an edge has a switch.
 #[derive(Clone, Copy)]

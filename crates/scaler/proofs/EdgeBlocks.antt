@@ -10,7 +10,7 @@ use Rattle.cost_theory.specs.declared.flow.Flow.TheVariants as flow
 use Rattle.cost_theory.specs.Reached.{Code, edges_of, edge_at, call_returns}
 use Rattle.cost_theory.proofs.Laws.{Within, get_within, within_get, within_flat, edges-at, some_get}
 use Rattle.code_text.specs.Text.{Text, kind_at}
-use Rattle.code_graph.specs.FlowGraph.{FlowGraph, IsGraphOf}
+use Rattle.flow_graph.specs.FlowGraph.{FlowGraph, IsGraphOf}
 use Rattle.stub_writer.specs.declared.site.StubEdge.{StubEdge}
 use Rattle.stub_writer.specs.Sites.{kind_number, fragments_by}
 use Rattle.scaler.specs.Markings.{IsMarkedEdge, AreMarkedEdges}

@@ -16,7 +16,7 @@ use Rattle.machine_file.proofs.Laws.{model-from_bytes}
 use Rattle.elf_patch.specs.Stored.{stored_image, held_base}
 use Rattle.stored_laws.specs.Held.{IsHeldImage}
 use Rattle.stored_laws.proofs.Laws.{a_held_image}
-use Rattle.loop_tree.specs.Tree.{loops as tree_loops}
+use Rattle.loop_forest.specs.Tree.{loops as tree_loops}
 use Rattle.code_text.specs.Text.{text_of}
 use Rattle.graph_runs.proofs.Laws.{image_runs_are_below}
 use Rattle.loop_file.specs.Kept.{noted_loops}

@@ -21,9 +21,9 @@ use Rattle.scale_base.specs.declared.edges.EdgeKind.TheVariants.{End}
 use Rattle.cost_theory.specs.Graph.{Loops}
 use Rattle.cost_theory.specs.Worst.{Numbers}
 use Rattle.cycle_laws.specs.Charged.{Charged}
-use Rattle.code_graph.specs.FlowGraph.{FlowGraph, graph}
-use Rattle.loop_tree.specs.Noted.{node_address}
-use Rattle.loop_tree.specs.Tree.{LoopView, loops, IsTreeOf}
+use Rattle.flow_graph.specs.FlowGraph.{FlowGraph, graph}
+use Rattle.loop_forest.specs.Noted.{node_address}
+use Rattle.loop_forest.specs.Tree.{LoopView, loops, IsTreeOf}
 use Rattle.worst_cycles.specs.Worst.{slack_at}
 use Rattle.level_tables.specs.Tables as tables
 use Rattle.scale_sites.specs.Counters.{counted_loops}

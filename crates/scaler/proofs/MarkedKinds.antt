@@ -6,7 +6,7 @@ use Rattle.std.proofs.lemmas.List.Elements.{All-map}
 use Rattle.std.proofs.lemmas.Option.{slice_get_within, get_or_from_slice_get}
 use Rattle.scale_base.specs.declared.fragments.Fragment.{Fragment}
 use Rattle.cycle_laws.specs.Charged.{Charged}
-use Rattle.loop_tree.specs.Noted.{node_address}
+use Rattle.loop_forest.specs.Noted.{node_address}
 use Rattle.stub_writer.specs.Fragments.{IsFragment, IsShadow}
 use Rattle.rewritten_runs.proofs.Laws.{in_get, set_distinct, shift_fits, tally_fits, rows_count, depth, few_marks, edge_is, IsMarkOf, program_is, graph_program, marks_of_edge, marked_led, counted_is, loop_count, shadow_of}
 use Rattle.scaler.proofs.EdgeBlocks.{map_none}
@@ -28,10 +28,10 @@ use Rattle.cost_theory.specs.Reached.{Code, place_after, edge_at, edge_to, edges
 use Rattle.cost_theory.proofs.Laws.{edge_word, source_reached, some_get, Within, accepted_entered, header_held}
 use Rattle.code_text.specs.Text.{Text, text_of, instr_at, instr_kind, kind_at, known, ecall_kind}
 use Rattle.code_text.specs.TextGraph.{text_graph}
-use Rattle.code_graph.specs.FlowGraph.{FlowGraph}
+use Rattle.flow_graph.specs.FlowGraph.{FlowGraph}
 use Rattle.loop_file.specs.declared.notes.LoopNote.{LoopNote}
 use Rattle.loop_file.specs.Kept.{noted_loops}
-use Rattle.loop_tree.specs.Tree.{LoopView, loops, IsInnermost}
+use Rattle.loop_forest.specs.Tree.{LoopView, loops, IsInnermost}
 use Rattle.scale_base.specs.declared.fragments.Mark.{Mark}
 use Rattle.scale_base.specs.declared.fragments.Mark.TheVariants as marks
 use Rattle.scale_sites.specs.Counters.{counted_loops, goes_on, edge_goes_on, IsUncountable}

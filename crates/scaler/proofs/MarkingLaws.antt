@@ -9,9 +9,9 @@ use Rattle.power_model.specs.Numbers.{PowerModel}
 use Rattle.cost_theory.specs.Graph.{leaves, goes_back}
 use Rattle.cycle_laws.specs.Charged.{Charged}
 use Rattle.cost_theory.specs.Worst.{Numbers}
-use Rattle.code_graph.specs.FlowGraph.{FlowGraph, graph}
+use Rattle.flow_graph.specs.FlowGraph.{FlowGraph, graph}
 use Rattle.level_tables.specs.Tables as tables
-use Rattle.loop_tree.specs.Tree.{LoopView, loops, IsLoopTree}
+use Rattle.loop_forest.specs.Tree.{LoopView, loops, IsLoopTree}
 use Rattle.scale_base.specs.declared.fragments.Mark.{Mark}
 use Rattle.scale_base.specs.declared.fragments.Mark.TheVariants as marks
 use Rattle.scale_sites.specs.Counters.{counted_loops}
@@ -77,7 +77,7 @@ module _ (power : PowerModel) (image : Image) (v : FlowGraph) (t : LoopView) (pl
   loops_are k h =
       let at = in_get k (counted_loops t) h in
       let lt = counted_loop v t is.tree.0 at.0 k is.tree.1 at.1 in
-      let same = Rattle.std.proofs.lemmas.List.length-map t.headers (Rattle.loop_tree.specs.Noted.node_address v) in
+      let same = Rattle.std.proofs.lemmas.List.length-map t.headers (Rattle.loop_forest.specs.Noted.node_address v) in
       omega (arith, lt, same)
 
   pub marking_switches : (e i : ℕ) (mark : Mark) → e < length v.code.edges → slice_get (marks_at_edge m.sites e) i ≡ Some mark → IsLoud mark → switches (marks_at_edge m.sites e) ≡ true

@@ -21,7 +21,7 @@ use Rattle.machine_file.proofs.Laws.{model-from_bytes}
 use Rattle.elf_patch.specs.Stored.{stored_image, held_base}
 use Rattle.stored_laws.proofs.Laws.{a_held_image}
 use Rattle.machine_laws.proofs.Laws.{found_in}
-use Rattle.loop_tree.specs.Tree.{loops as tree_loops}
+use Rattle.loop_forest.specs.Tree.{loops as tree_loops}
 use Rattle.code_text.specs.Text.{text_of}
 use Rattle.graph_runs.specs.KeptSteps.{Carried}
 use Rattle.graph_runs.specs.KeptRuns.{kept_of, IsKeptUpTo}

@@ -11,7 +11,7 @@ use Rattle.scale_base.specs.declared.stepping.Class.{Class}
 use Rattle.scale_base.specs.declared.stepping.Class.TheVariants as classes
 use Rattle.scale_base.specs.Image.{Image, image_of, is_word_address, is_in, text_word}
 use Rattle.scale_base.specs.Reading.{instr_of}
-use Rattle.code_graph.proofs.Laws.{instr_stored}
+use Rattle.flow_graph.proofs.Laws.{instr_stored}
 use Rattle.std.specs.List.{list_any}
 use Rattle.scale_base.specs.Arith.{moved_by}
 use Rattle.scale_base.specs.Word.{FieldsInRange, Encodes}
@@ -23,7 +23,7 @@ use Rattle.cost_theory.specs.Reached.{edge_at, edges_of, call_returns}
 use Rattle.cost_theory.proofs.Laws.{some_get, Within}
 use Rattle.code_text.specs.EdgeCosts.{edge_class, class_by}
 use Rattle.code_text.specs.Text.{text_of, instr_at, instr_kind, kind_at, is_text_address}
-use Rattle.code_graph.specs.FlowGraph.{FlowGraph, IsGraphOf}
+use Rattle.flow_graph.specs.FlowGraph.{FlowGraph, IsGraphOf}
 use Rattle.scale_sites.specs.Sites.{is_branch_kind, edge_branches}
 use Rattle.stored_runs.specs.Marks as stored
 use Rattle.stored_runs.specs.Stubbed.{IsOfImage, AreAscending}

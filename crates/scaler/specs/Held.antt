@@ -17,9 +17,9 @@ use Rattle.cost_theory.specs.Worst.{Numbers, AreNumbers}
 use Rattle.code_text.specs.Text.{text_of}
 use Rattle.code_text.specs.EdgeCosts.{weights}
 use Rattle.code_text.specs.TextGraph.{text_graph}
-use Rattle.code_graph.specs.FlowGraph.{FlowGraph, IsGraphOf}
-use Rattle.code_graph.specs.Refused.{IsRefusedBy}
-use Rattle.loop_tree.specs.Tree.{LoopView, loops, IsTreeOf, IsTreeRefusal}
+use Rattle.flow_graph.specs.FlowGraph.{FlowGraph, IsGraphOf}
+use Rattle.flow_graph.specs.Refused.{IsRefusedBy}
+use Rattle.loop_forest.specs.Tree.{LoopView, loops, IsTreeOf, IsTreeRefusal}
 
 -- ---- what is stored at a number of worst cycles
 

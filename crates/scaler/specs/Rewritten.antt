@@ -15,8 +15,8 @@ use Rattle.loop_file.specs.Loops.{read_loops}
 use Rattle.cost_theory.specs.Worst.{Numbers}
 use Rattle.cycle_laws.specs.Charged.{Charged}
 use Rattle.code_text.specs.Text.{text_of}
-use Rattle.code_graph.specs.FlowGraph.{FlowGraph, IsGraphOf}
-use Rattle.loop_tree.specs.Tree.{LoopView, IsTreeOf}
+use Rattle.flow_graph.specs.FlowGraph.{FlowGraph, IsGraphOf}
+use Rattle.loop_forest.specs.Tree.{LoopView, IsTreeOf}
 use Rattle.scale_base.specs.declared.fragments.Mark.{Mark}
 use Rattle.scale_sites.specs.Counters.{AreCounters}
 use Rattle.stub_writer.specs.Stubs.{Site, block_size, out_of_reach}

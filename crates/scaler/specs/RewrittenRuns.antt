@@ -6,8 +6,8 @@ use Rattle.power_model.specs.Numbers.{PowerModel}
 use Rattle.loop_file.specs.declared.notes.LoopNote.{LoopNote}
 use Rattle.cost_theory.specs.Worst.{Numbers}
 use Rattle.cycle_laws.specs.Charged.{Charged}
-use Rattle.code_graph.specs.FlowGraph.{FlowGraph}
-use Rattle.loop_tree.specs.Tree.{LoopView}
+use Rattle.flow_graph.specs.FlowGraph.{FlowGraph}
+use Rattle.loop_forest.specs.Tree.{LoopView}
 use Rattle.stub_writer.specs.Stubs.{Site}
 use Rattle.rewritten_runs.specs.Stubs.{IsWeighed, HasStubs, rewritten_file, stored_weights, marks_by_slack}
 use Rattle.rewritten_runs.specs.Followed.{FollowsInTime}

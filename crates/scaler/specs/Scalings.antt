@@ -9,10 +9,10 @@ use Rattle.power_model.specs.Slowest.{slowest_of, fastest}
 use Rattle.elf_patch.specs.Stored.{IsStubBase}
 use Rattle.cost_theory.specs.Worst.{Numbers, AreNumbers}
 use Rattle.cycle_laws.specs.Charged.{Charged, AreCharged}
-use Rattle.code_graph.specs.FlowGraph.{FlowGraph, graph, IsGraphOf}
+use Rattle.flow_graph.specs.FlowGraph.{FlowGraph, graph, IsGraphOf}
 use Rattle.code_text.specs.Text.{text_of}
 use Rattle.loop_file.specs.Loops.{read_loops}
-use Rattle.loop_tree.specs.Tree.{LoopView, loops, IsTreeOf}
+use Rattle.loop_forest.specs.Tree.{LoopView, loops, IsTreeOf}
 use Rattle.machine_file.specs.Machine.{read_machine}
 use Rattle.scale_sites.specs.Counters.{AreCounters, counted_loops}
 use Rattle.scale_sites.specs.Sites.{SitesView, is_branch, marks_at_edge}

@@ -5,8 +5,8 @@ ghost use Rattle.scaler.specs.Planned.{loop_number};
 ghost use Rattle.scaler.specs.Markings.{HasMarking, IsOfLoop, ArePushedAt, AreLinesOf};
 
 use crate::stubs::{Marking, fragment_of};
-use code_graph::CodeGraph;
-use loop_tree::LoopTree;
+use flow_graph::CodeGraph;
+use loop_forest::LoopTree;
 use power_model::Power;
 use scale_base::{Fragment, NoMemory, SiteLine};
 use scale_sites::CounterList;

@@ -7,9 +7,11 @@ ghost use Rattle.code_text.specs.EdgeCosts.{cost_of};
 ghost use Rattle.scaler.specs.Held as held;
 ghost use Rattle.scaler.specs.Runs.{IsHeldSafely};
 
-use code_graph::{CodeGraph, Weights, build_graph};
+use code_graph::build_graph;
+use elf_image::ImageView;
 use elf_patch::{stub_base, write_image};
-use elf_view::{ImageView, read_image};
+use elf_view::read_image;
+use flow_graph::{CodeGraph, Weights};
 use loop_file::{LoopNotes, read_loops};
 use loop_tree::build_loops;
 use machine_file::read_machine;

@@ -10,11 +10,11 @@ ghost use Rattle.scale_sites.specs.Weights.{switches};
 ghost use Rattle.scaler.specs.Scalings.{IsMarkedProgram, AreStubsFound};
 ghost use Rattle.scaler.specs.Markings.{HasMarking, IsToldAt, IsFragmentAt, AreFragmentsAt, AreEdgesAt};
 
-use code_graph::CodeGraph;
-use elf_view::ImageView;
+use elf_image::ImageView;
+use flow_graph::CodeGraph;
 use least_cycles::LeastNumbers;
 use level_tables::{exit_rows, shift, word};
-use loop_tree::LoopTree;
+use loop_forest::LoopTree;
 use power_model::Power;
 use rv_decode::decode;
 use scale_base::{Fragment, Instr, Mark, NoMemory};

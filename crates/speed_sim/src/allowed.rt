@@ -5,7 +5,7 @@ ghost use Rattle.scale_base.specs.Answer.{Answers};
 ghost use Rattle.scale_base.specs.Run.{starting_level};
 ghost use Rattle.speed_sim.specs.Simulated.{loops_allowed, level_allowed, given_notes};
 
-use elf_view::ImageView;
+use elf_image::ImageView;
 use loop_file::{LoopNotes, read_loops};
 use scale_base::{Keyed, Refusal, Stop};
 use std::alloc::Global;

@@ -9,7 +9,7 @@ ghost use Rattle.speed_sim.specs.Simulated.{report_of};
 
 use crate::running::run_machine;
 use crate::watcher::{Watches, kept_of, watcher_of};
-use elf_view::ImageView;
+use elf_image::ImageView;
 use flat_memory::load_pages;
 use keep_monitor::LoopCounter;
 use loop_file::LoopNotes;

@@ -2,7 +2,7 @@
 use Rattle.std.proofs.Common.{◌≡◌, ℕ, arith, slice_get, Some}
 use Rattle.std.proofs.lemmas.Option.{get_or_from_slice_get}
 use Rattle.cost_theory.specs.Graph.{Loops}
-use Rattle.code_graph.specs.FlowGraph.{FlowGraph, graph, IsFlowGraph}
+use Rattle.flow_graph.specs.FlowGraph.{FlowGraph, graph, IsFlowGraph}
 use Rattle.worst_cycles.specs.Worst.{WorstView, IsWorstInRange}
 use Rattle.least_cycles.specs.Found.{HasWorstInRange}
 

@@ -1,7 +1,7 @@
 //! How often a run goes through each node at most, by the bounds of loops alone.
 
-use code_graph::CodeGraph;
-use loop_tree::LoopTree;
+use flow_graph::CodeGraph;
+use loop_forest::LoopTree;
 use scale_base::NoMemory;
 use std::alloc::Global;
 

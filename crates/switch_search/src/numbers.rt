@@ -3,17 +3,17 @@
 ghost use Rattle.std.specs.Prelude.{◌≡◌, ℕ, Bool, List, length};
 ghost use Rattle.scale_base.specs.Image.{Image};
 ghost use Rattle.code_text.specs.Text.{text_of};
-ghost use Rattle.code_graph.specs.FlowGraph.{IsGraphOf};
+ghost use Rattle.flow_graph.specs.FlowGraph.{IsGraphOf};
 ghost use Rattle.loop_file.specs.declared.notes.LoopNote.{LoopNote};
-ghost use Rattle.loop_tree.specs.Tree.{IsTreeOf};
+ghost use Rattle.loop_forest.specs.Tree.{IsTreeOf};
 ghost use Rattle.worst_cycles.specs.Worst.{HasLeftSizes};
 ghost use Rattle.least_cycles.specs.Found.{AreSmallLeast};
 
 use crate::counting::{most_passes, number_at};
 use crate::tracing::other_of;
-use code_graph::{CodeGraph, Weights};
+use flow_graph::{CodeGraph, Weights};
 use least_cycles::{LeastNumbers, least};
-use loop_tree::LoopTree;
+use loop_forest::LoopTree;
 use power_model::Power;
 use scale_base::{Edge, NoMemory, Stop};
 use scaler::starting_level;

@@ -1,7 +1,7 @@
 //! What a run does at the edges of branches and jumps, and how often it has turned in some loops.
 
 use crate::turning::{LoopPlan, MOST_LOOPS, Turning};
-use code_graph::CodeGraph;
+use flow_graph::CodeGraph;
 use power_model::Costs;
 use scale_base::{Class, EdgeKind, NoMemory, Stepped};
 use speed_sim::Watches;

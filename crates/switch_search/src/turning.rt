@@ -3,9 +3,9 @@
 use crate::marks::StubCosts;
 use crate::numbers::Numbers;
 use crate::tracing::may_switch;
-use code_graph::CodeGraph;
+use flow_graph::CodeGraph;
 use level_tables::tally_shift;
-use loop_tree::LoopTree;
+use loop_forest::LoopTree;
 use scale_base::NoMemory;
 use std::alloc::Global;
 

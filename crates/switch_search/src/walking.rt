@@ -2,8 +2,8 @@
 
 use crate::numbers::{EdgeNumbers, Numbers};
 use crate::tracing::{EdgeTrace, may_switch};
-use code_graph::CodeGraph;
-use loop_tree::LoopTree;
+use flow_graph::CodeGraph;
+use loop_forest::LoopTree;
 use scale_base::{EdgeKind, NoMemory};
 use std::alloc::Global;
 

@@ -6,11 +6,11 @@ use Rattle.std.proofs.lemmas.Option.{slice_get-get_or, slice_get_within, get_or_
 use Rattle.graph_algorithms.specs.Arcs.{number_in_place}
 use Rattle.cost_theory.specs.Graph.{IsPlain, is_back}
 use Rattle.cost_theory.specs.Lists.{or_true, is_among, body_of}
-use Rattle.code_graph.specs.FlowGraph.{FlowGraph, graph, IsFlowGraph}
-use Rattle.loop_tree.specs.Noted.{node_address}
-use Rattle.loop_tree.proofs.Laws.{one_number}
-use Rattle.loop_tree.specs.Arcs.{IsPlainBy}
-use Rattle.loop_tree.specs.Tree.{LoopView, loops, IsLoopTree}
+use Rattle.flow_graph.specs.FlowGraph.{FlowGraph, graph, IsFlowGraph}
+use Rattle.loop_forest.specs.Noted.{node_address}
+use Rattle.loop_forest.proofs.Laws.{one_number}
+use Rattle.loop_forest.specs.Arcs.{IsPlainBy}
+use Rattle.loop_forest.specs.Tree.{LoopView, loops, IsLoopTree}
 
 -- ---- elements
 

@@ -8,10 +8,10 @@ use Rattle.graph_algorithms.specs.Arcs.Leads.{along, onward}
 use Rattle.cost_theory.specs.Graph.{Graph, Loops, IsPlain, is_back}
 use Rattle.cost_theory.specs.Accepted.{IsProgram, IsCallOrder, IsPlainOrder}
 use Rattle.cost_theory.proofs.Laws as theory
-use Rattle.code_graph.specs.FlowGraph.{FlowGraph, graph, IsFlowGraph}
-use Rattle.loop_tree.specs.Noted.{node_address}
-use Rattle.loop_tree.specs.Arcs.{IsPlainBy}
-use Rattle.loop_tree.specs.Tree.{LoopView, loops, IsLoopTree}
+use Rattle.flow_graph.specs.FlowGraph.{FlowGraph, graph, IsFlowGraph}
+use Rattle.loop_forest.specs.Noted.{node_address}
+use Rattle.loop_forest.specs.Arcs.{IsPlainBy}
+use Rattle.loop_forest.specs.Tree.{LoopView, loops, IsLoopTree}
 use Rattle.worst_cycles.specs.Needs.{AreEntries, LeadsPlainly, CallsNode, IsNeeded, AreNeeds, HasTree}
 
 -- by the place of its function first, and by its own place then

@@ -7,9 +7,9 @@ use Rattle.std.proofs.lemmas.Option.{slice_get-get_or, slice_get_within, get_or_
 use Rattle.graph_algorithms.specs.Arcs.{number_in_place}
 use Rattle.cost_theory.specs.Worst.{Numbers}
 use Rattle.cost_theory.specs.Lists.{body_of}
-use Rattle.code_graph.specs.FlowGraph.{FlowGraph}
-use Rattle.loop_tree.specs.Noted.{node_address}
-use Rattle.loop_tree.specs.Tree.{LoopView, loops, IsLoopTree}
+use Rattle.flow_graph.specs.FlowGraph.{FlowGraph}
+use Rattle.loop_forest.specs.Noted.{node_address}
+use Rattle.loop_forest.specs.Tree.{LoopView, loops, IsLoopTree}
 use Rattle.worst_cycles.specs.declared.plan.Plan.{Plan}
 use Rattle.worst_cycles.specs.declared.rests.Rests.{Rests}
 use Rattle.worst_cycles.specs.Worst.{by_edge}

@@ -5,9 +5,9 @@ use Rattle.std.proofs.lemmas.List.{get_or_append_left, get_or-append_right}
 use Rattle.std.proofs.lemmas.Option.{slice_get_within, slice_get-get_or, same_Some, none-some}
 use Rattle.graph_algorithms.specs.declared.orders.Arc.{Arc}
 use Rattle.graph_algorithms.specs.Arcs.{arc_at, number_in_place, AreDistinct, AreNumbered, IsSorted}
-use Rattle.code_graph.specs.FlowGraph.{FlowGraph, graph, IsFlowGraph}
-use Rattle.loop_tree.specs.Arcs.{ArePlainArcs}
-use Rattle.loop_tree.proofs.Laws.{one_number}
+use Rattle.flow_graph.specs.FlowGraph.{FlowGraph, graph, IsFlowGraph}
+use Rattle.loop_forest.specs.Arcs.{ArePlainArcs}
+use Rattle.loop_forest.proofs.Laws.{one_number}
 use Rattle.worst_cycles.specs.Needs.{AreEntries, LeadsToNode, LeadsPlainly, CallsNode, IsNeeded, StartsAtNode, AreNeeds, IsNeededFirst}
 
 -- a number has one place

@@ -5,9 +5,9 @@ use Rattle.std.proofs.lemmas.Option.{same_Some, none-some}
 use Rattle.graph_algorithms.specs.Arcs.{number_in_place}
 use Rattle.cost_theory.specs.Graph.{IsPlain, is_back}
 use Rattle.cost_theory.specs.Worst.{Numbers, cost}
-use Rattle.code_graph.specs.FlowGraph.{FlowGraph, graph}
-use Rattle.loop_tree.specs.Noted.{node_address}
-use Rattle.loop_tree.specs.Tree.{LoopView, loops, IsLoopTree}
+use Rattle.flow_graph.specs.FlowGraph.{FlowGraph, graph}
+use Rattle.loop_forest.specs.Noted.{node_address}
+use Rattle.loop_forest.specs.Tree.{LoopView, loops, IsLoopTree}
 use Rattle.cycle_laws.specs.Passes.{IsRestOver, IsClosingOver}
 use Rattle.worst_cycles.specs.declared.plan.Plan.{Plan}
 use Rattle.worst_cycles.specs.declared.rests.Rests.{Rests}

@@ -5,9 +5,9 @@ use Rattle.graph_algorithms.specs.Arcs.{number_in_place}
 use Rattle.cost_theory.specs.Graph.{IsPlain, is_back, is_header, only}
 use Rattle.cost_theory.specs.Worst.{Numbers, cost, left_at, turn_back, turns_round, slack, rest}
 use Rattle.cost_theory.proofs.Laws.{sum-one, sum-none, only_true, only_false, and_right}
-use Rattle.code_graph.specs.FlowGraph.{FlowGraph, graph, IsFlowGraph}
-use Rattle.loop_tree.specs.Noted.{node_address}
-use Rattle.loop_tree.specs.Tree.{LoopView, loops, IsLoopTree}
+use Rattle.flow_graph.specs.FlowGraph.{FlowGraph, graph, IsFlowGraph}
+use Rattle.loop_forest.specs.Noted.{node_address}
+use Rattle.loop_forest.specs.Tree.{LoopView, loops, IsLoopTree}
 use Rattle.worst_cycles.specs.declared.visits.Visit.{Visit}
 use Rattle.worst_cycles.specs.declared.parts.LeftParts.{LeftParts}
 use Rattle.worst_cycles.specs.Worst.{slack_at, rest_at, HoldsLeft}

@@ -12,9 +12,9 @@ use Rattle.cost_theory.specs.Laws.{IsAnalyzed}
 use Rattle.cost_theory.proofs.Laws as theory
 use Rattle.cost_theory.proofs.Laws.{call_order, plain_order, turns-worst, left-worst, function-worst, closing-worst, accepted_entered, header_held, entered_at_headers, first_uncalled, slack-le}
 use Rattle.cycle_laws.proofs.Laws.{charged_on, charged_back, charged_into, headers_different, iteration_closing, closing_over, worst_plain, plain_within_worst, plain_over}
-use Rattle.code_graph.specs.FlowGraph.{FlowGraph, graph, IsFlowGraph}
-use Rattle.loop_tree.specs.Noted.{node_address}
-use Rattle.loop_tree.specs.Tree.{LoopView, loops}
+use Rattle.flow_graph.specs.FlowGraph.{FlowGraph, graph, IsFlowGraph}
+use Rattle.loop_forest.specs.Noted.{node_address}
+use Rattle.loop_forest.specs.Tree.{LoopView, loops}
 use Rattle.worst_cycles.specs.declared.visits.Visit.{Visit}
 use Rattle.worst_cycles.specs.declared.parts.LeftParts.{LeftParts}
 use Rattle.worst_cycles.specs.Worst.{WorstView, WorstView, IsWorstFound, IsWorstInRange, IsWorstTooLong, IsLeftOf}

@@ -2,9 +2,9 @@
 use Rattle.std.specs.Prelude.{◌≡◌, ℕ, ◌+◌, ◌<◌, ◌≤◌, ◌⊎◌, Bool, List, length, slice_get, Option, Some}
 use Rattle.graph_algorithms.specs.declared.orders.Arc.{Arc}
 use Rattle.graph_algorithms.specs.Arcs.{arc_at, number_in_place, AreDistinct}
-use Rattle.code_graph.specs.FlowGraph.{FlowGraph, graph}
-use Rattle.loop_tree.specs.Arcs.{IsPlainBy}
-use Rattle.loop_tree.specs.Tree.{LoopView, IsLoopTree}
+use Rattle.flow_graph.specs.FlowGraph.{FlowGraph, graph}
+use Rattle.loop_forest.specs.Arcs.{IsPlainBy}
+use Rattle.loop_forest.specs.Tree.{LoopView, IsLoopTree}
 
 -- by function, the number of the node at its entry
 pub record AreEntries (v : FlowGraph) (entries : List ℕ) : Type 0 where

@@ -1,7 +1,7 @@
 -- What is known of a graph whose nodes are in order, and of one whose nodes are all visited.
 use Rattle.std.specs.Prelude.{◌≡◌, List, ℕ, length}
-use Rattle.code_graph.specs.FlowGraph.{FlowGraph, IsFlowGraph}
-use Rattle.loop_tree.specs.Tree.{LoopView}
+use Rattle.flow_graph.specs.FlowGraph.{FlowGraph, IsFlowGraph}
+use Rattle.loop_forest.specs.Tree.{LoopView}
 use Rattle.worst_cycles.specs.declared.plan.Plan.{Plan}
 use Rattle.worst_cycles.specs.declared.visits.Visit.{Visit}
 use Rattle.worst_cycles.specs.declared.planned.PlannedGraph.{PlannedGraph}

@@ -6,9 +6,9 @@ use Rattle.graph_algorithms.specs.Arcs.{number_in_place}
 use Rattle.cost_theory.specs.Graph.{Loops, IsPlain}
 use Rattle.cost_theory.specs.Worst.{Numbers, cost}
 use Rattle.cost_theory.specs.Lists.{body_of}
-use Rattle.code_graph.specs.FlowGraph.{FlowGraph, graph}
-use Rattle.loop_tree.specs.Noted.{node_address}
-use Rattle.loop_tree.specs.Tree.{LoopView, loops}
+use Rattle.flow_graph.specs.FlowGraph.{FlowGraph, graph}
+use Rattle.loop_forest.specs.Noted.{node_address}
+use Rattle.loop_forest.specs.Tree.{LoopView, loops}
 use Rattle.cycle_laws.specs.Passes.{IsRestOver}
 use Rattle.worst_cycles.specs.declared.plan.Plan.{Plan}
 use Rattle.worst_cycles.specs.declared.rests.Rests.{Rests}

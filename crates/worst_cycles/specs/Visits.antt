@@ -5,8 +5,8 @@ use Rattle.scale_base.specs.declared.refusal.Refusal.TheVariants.{TooLong}
 use Rattle.graph_algorithms.specs.Arcs.{number_in_place}
 use Rattle.cost_theory.specs.Graph.{Loops, IsPlain}
 use Rattle.cost_theory.specs.Worst.{Numbers, all_of}
-use Rattle.code_graph.specs.FlowGraph.{FlowGraph, graph}
-use Rattle.loop_tree.specs.Tree.{LoopView, loops}
+use Rattle.flow_graph.specs.FlowGraph.{FlowGraph, graph}
+use Rattle.loop_forest.specs.Tree.{LoopView, loops}
 use Rattle.cycle_laws.specs.Passes.{plain_at}
 use Rattle.worst_cycles.specs.declared.plan.Plan.{Plan}
 use Rattle.worst_cycles.specs.declared.visits.Visit.{Visit}

@@ -4,7 +4,7 @@ use Rattle.scale_base.specs.declared.refusal.Refusal.{Refusal}
 use Rattle.scale_base.specs.declared.refusal.Refusal.TheVariants.{TooLong}
 use Rattle.cost_theory.specs.Graph.{Graph, Loops, only}
 use Rattle.cost_theory.specs.Worst.{Numbers, AreNumbers, cost, slack, rest}
-use Rattle.code_graph.specs.FlowGraph.{FlowGraph, graph}
+use Rattle.flow_graph.specs.FlowGraph.{FlowGraph, graph}
 
 pub record WorstView : Type 0 where
   -- by function, its worst cycles

@@ -3,9 +3,9 @@
 ghost use Rattle.std.specs.Prelude.{◌≡◌, ◌≢◌, ℕ, ◌+◌, ◌<◌, ◌≤◌, ◌⊎◌, length, Some, IfOk};
 ghost use Rattle.graph_algorithms.specs.Arcs.{number_in_place};
 ghost use Rattle.cost_theory.specs.Worst.{Numbers, IsReturningCall};
-ghost use Rattle.code_graph.specs.FlowGraph.{graph as graph_seen};
-ghost use Rattle.loop_tree.specs.Noted.{node_address};
-ghost use Rattle.loop_tree.specs.Tree.{loops};
+ghost use Rattle.flow_graph.specs.FlowGraph.{graph as graph_seen};
+ghost use Rattle.loop_forest.specs.Noted.{node_address};
+ghost use Rattle.loop_forest.specs.Tree.{loops};
 ghost use Rattle.worst_cycles.specs.Worst.{by_edge};
 ghost use Rattle.worst_cycles.specs.Visits.{AreSolvedBy};
 ghost use Rattle.worst_cycles.specs.Lefts.{AreLefts, AreTurnsRound, AreContexts, AreContextsRaised};
@@ -13,7 +13,7 @@ ghost use Rattle.worst_cycles.specs.Planned.{IsVisitedGraph};
 
 use crate::planned::VisitedGraph;
 use crate::visits::cost_of;
-use code_graph::CodeGraph;
+use flow_graph::CodeGraph;
 use scale_base::NoMemory;
 use std::alloc::Global;
 

@@ -1,10 +1,10 @@
 //! The nodes at which functions begin.
 
 ghost use Rattle.std.specs.Prelude.{◌≡◌, ℕ, ◌<◌, length, IfOk};
-ghost use Rattle.code_graph.specs.FlowGraph.{IsFlowGraph};
+ghost use Rattle.flow_graph.specs.FlowGraph.{IsFlowGraph};
 ghost use Rattle.worst_cycles.specs.Needs.{AreEntries};
 
-use code_graph::CodeGraph;
+use flow_graph::CodeGraph;
 use scale_base::NoMemory;
 use std::alloc::Global;
 

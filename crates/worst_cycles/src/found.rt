@@ -2,13 +2,13 @@
 
 ghost use Rattle.std.specs.Prelude.{◌≡◌, ℕ, ◌+◌, ◌<◌, length, IfOk};
 ghost use Rattle.graph_algorithms.specs.Arcs.{number_in_place};
-ghost use Rattle.code_graph.specs.FlowGraph.{IsFlowGraph};
+ghost use Rattle.flow_graph.specs.FlowGraph.{IsFlowGraph};
 ghost use Rattle.worst_cycles.specs.Needs.{AreEntries};
 ghost use Rattle.worst_cycles.specs.Visits.{visit_at, AreVisits};
 
 use crate::visits::Visit;
-use code_graph::CodeGraph;
-use loop_tree::LoopTree;
+use flow_graph::CodeGraph;
+use loop_forest::LoopTree;
 use scale_base::NoMemory;
 use std::alloc::Global;
 

@@ -5,8 +5,8 @@
 ghost use Rattle.std.specs.Prelude.{◌≡◌, ℕ, Bool, length, IfOk};
 ghost use Rattle.scale_base.specs.Answer.{AnswersBy};
 ghost use Rattle.cost_theory.specs.Accepted.{AreWeights};
-ghost use Rattle.code_graph.specs.FlowGraph.{graph as graph_seen};
-ghost use Rattle.loop_tree.specs.Tree.{loops, IsLoopTree};
+ghost use Rattle.flow_graph.specs.FlowGraph.{graph as graph_seen};
+ghost use Rattle.loop_forest.specs.Tree.{loops, IsLoopTree};
 ghost use Rattle.worst_cycles.specs.Worst.{by_edge, IsWorstFound, HasLeftSizes, IsLeftOf};
 
 mod around;
@@ -25,9 +25,9 @@ mod rests;
 mod slacks;
 mod visits;
 
-use code_graph::{CodeGraph, Weights};
+use flow_graph::{CodeGraph, Weights};
 use found::{iterations_of, worst_of};
-use loop_tree::LoopTree;
+use loop_forest::LoopTree;
 pub use numbers::WorstNumbers;
 use parts::parts_of;
 use pass::{LIMIT, visit_nodes};

@@ -1,13 +1,13 @@
 //! An order of nodes in which each stands behind those whose numbers its own is made of.
 
 ghost use Rattle.std.specs.Prelude.{◌≡◌, ◌≤◌, length, OnOk, IfOk};
-ghost use Rattle.code_graph.specs.FlowGraph.{IsFlowGraph};
-ghost use Rattle.loop_tree.specs.Arcs.{ArePlainArcs};
+ghost use Rattle.flow_graph.specs.FlowGraph.{IsFlowGraph};
+ghost use Rattle.loop_forest.specs.Arcs.{ArePlainArcs};
 ghost use Rattle.worst_cycles.specs.Needs.{AreEntries, AreNeeds, HasTree, IsNeededFirst};
 
-use code_graph::CodeGraph;
+use flow_graph::CodeGraph;
 use graph_algorithms::{Arc, Order, sort};
-use loop_tree::{LoopTree, plain_arcs};
+use loop_forest::{LoopTree, plain_arcs};
 use scale_base::NoMemory;
 use std::alloc::Global;
 

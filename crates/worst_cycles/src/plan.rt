@@ -2,15 +2,15 @@
 
 ghost use Rattle.std.specs.Prelude.{◌≡◌, ℕ, ◌<◌, length, IfOk};
 ghost use Rattle.graph_algorithms.specs.Arcs.{number_in_place, AreDistinct};
-ghost use Rattle.code_graph.specs.FlowGraph.{IsFlowGraph};
+ghost use Rattle.flow_graph.specs.FlowGraph.{IsFlowGraph};
 ghost use Rattle.worst_cycles.specs.Worst.{AreUpTo};
 ghost use Rattle.worst_cycles.specs.Needs.{ArePlaces, HasTree};
 ghost use Rattle.worst_cycles.specs.Visits.{AreHeaded, IsWorstPlan};
 
 use crate::entries::entry_nodes;
 use crate::order::needed_first;
-use code_graph::{CodeGraph, Weights};
-use loop_tree::LoopTree;
+use flow_graph::{CodeGraph, Weights};
+use loop_forest::LoopTree;
 use scale_base::NoMemory;
 use std::alloc::Global;
 

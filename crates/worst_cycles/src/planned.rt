@@ -2,8 +2,8 @@
 
 use crate::plan::Plan;
 use crate::visits::Visit;
-use code_graph::{CodeGraph, Weights};
-use loop_tree::LoopTree;
+use flow_graph::{CodeGraph, Weights};
+use loop_forest::LoopTree;
 
 /// A graph, its loops and the weights of its edges, with what is known of the nodes before the pass.
 #[derive(Clone, Copy)]

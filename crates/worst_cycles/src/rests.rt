@@ -2,7 +2,7 @@
 
 ghost use Rattle.std.specs.Prelude.{◌≡◌, ℕ, ◌+◌, ◌^◌, ◌<◌, ◌≤◌, true, length, slice_index, Some};
 ghost use Rattle.cost_theory.specs.Worst.{Numbers};
-ghost use Rattle.loop_tree.specs.Tree.{loops};
+ghost use Rattle.loop_forest.specs.Tree.{loops};
 ghost use Rattle.worst_cycles.specs.Worst.{by_edge};
 ghost use Rattle.worst_cycles.specs.Visits.{AreVisits, AreSolvedBy, IsEdgeKnown, AreKnownAt};
 ghost use Rattle.worst_cycles.specs.Rests.{AreRests, IsRestOf, IsRestKnown, AreRestsKnownAt, IsRestFor, IsRestPast, IsGreaterOf};

@@ -2,8 +2,8 @@
 
 ghost use Rattle.std.specs.Prelude.{◌≡◌, ◌+◌, ◌<◌, length, slice_get, Some, IfOk};
 ghost use Rattle.cost_theory.specs.Worst.{Numbers, cost, slack, rest};
-ghost use Rattle.code_graph.specs.FlowGraph.{graph as graph_seen};
-ghost use Rattle.loop_tree.specs.Tree.{loops};
+ghost use Rattle.flow_graph.specs.FlowGraph.{graph as graph_seen};
+ghost use Rattle.loop_forest.specs.Tree.{loops};
 ghost use Rattle.worst_cycles.specs.Worst.{by_edge, slack_at, rest_at};
 ghost use Rattle.worst_cycles.specs.Visits.{AreSolvedBy};
 ghost use Rattle.worst_cycles.specs.Lefts.{AreLefts, AreTurnsRound, AreContexts, AreSlacks, AreRestsBehind};

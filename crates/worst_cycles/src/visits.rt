@@ -3,13 +3,13 @@
 ghost use Rattle.std.specs.Prelude.{◌≡◌, ℕ, ◌+◌, ◌^◌, ◌<◌, ◌≤◌, length, slice_index, Some, None};
 ghost use Rattle.graph_algorithms.specs.Arcs.{number_in_place};
 ghost use Rattle.cost_theory.specs.Worst.{Numbers, cost};
-ghost use Rattle.code_graph.specs.FlowGraph.{graph as graph_seen};
+ghost use Rattle.flow_graph.specs.FlowGraph.{graph as graph_seen};
 ghost use Rattle.worst_cycles.specs.Worst.{by_edge};
 ghost use Rattle.worst_cycles.specs.Visits.{visit_at, AreVisits, AreSolvedBy, IsCallKnown, IsEdgeKnown, AreKnownAt, IsBehind, IsPlainCostOver};
 ghost use Rattle.worst_cycles.specs.Planned.{IsPlannedGraph};
 
 use crate::planned::PlannedGraph;
-use code_graph::CodeGraph;
+use flow_graph::CodeGraph;
 
 /// What the pass finds at a node, in cycles.
 #[derive(Clone, Copy, Drop)]

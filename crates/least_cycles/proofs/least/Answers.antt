@@ -1,6 +1,6 @@
 use Rattle.std.proofs.Common.{List, Option, ℕ, length, sym, ap, ◌∙◌, subst, arith}
 use Rattle.graph_algorithms.specs.Arcs.{number_in_place}
-use Rattle.loop_tree.specs.Tree.{loops}
+use Rattle.loop_forest.specs.Tree.{loops}
 use Rattle.least_cycles.specs.Hops.{number_in_table}
 use Rattle.least_cycles.specs.Tables.{least_by}
 use Rattle.least_cycles.specs.Charging.{charge_by}

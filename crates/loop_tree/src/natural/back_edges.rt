@@ -6,7 +6,7 @@ ghost use Rattle.loop_tree.specs.Passes.{AreGraphEdges, IsReady, GoesBack, IsNum
 
 use crate::natural::extent::extent_of;
 use crate::natural::headers::number_of;
-use code_graph::CodeGraph;
+use flow_graph::CodeGraph;
 use graph_algorithms::BodySearch;
 use loop_file::{LoopNote, LoopNotes};
 use scale_base::{NoMemory, Refusal, Stop};

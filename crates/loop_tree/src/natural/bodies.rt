@@ -5,7 +5,7 @@ ghost use Rattle.loop_forest.specs.Found.{IsAscending};
 ghost use Rattle.loop_tree.specs.Passes.{AreGraphEdges, IsReady, IsNumberedBody, AreBodies};
 
 use crate::natural::back_edges::loop_body;
-use code_graph::CodeGraph;
+use flow_graph::CodeGraph;
 use graph_algorithms::BodySearch;
 use loop_file::{LoopNote, LoopNotes};
 use scale_base::NoMemory;

@@ -2,7 +2,7 @@
 
 ghost use Rattle.std.specs.Prelude.{◌≡◌, ◌+◌, ◌<◌, ◌≤◌, ◌↔◌, ℕ, true, length, slice_get, slice_index, Some};
 ghost use Rattle.scale_base.specs.Answer.{AnswersBy};
-ghost use Rattle.code_graph.specs.FlowGraph as flow;
+ghost use Rattle.flow_graph.specs.FlowGraph as flow;
 ghost use Rattle.graph_algorithms.specs.Bodies.{IsIn, AreNodes, IsLeastPair};
 ghost use Rattle.loop_tree.specs.Passes.{IsSmallGraph, AreGraphEdges, IsReady, AreOwned, IsSidePair, IsEntryTested, AreEntriesTested, AreShallow};
 ghost use Rattle.loop_forest.specs.Noted.{HasBackEdge};
@@ -10,7 +10,7 @@ ghost use Rattle.loop_forest.specs.Noted.{HasBackEdge};
 use crate::natural::back_edges::loop_body;
 use crate::natural::groups::check_group;
 use crate::natural::headers::number_of;
-use code_graph::CodeGraph;
+use flow_graph::CodeGraph;
 use graph_algorithms::{BodySearch, lesser_pair};
 use loop_file::LoopNotes;
 use scale_base::{Refusal, Stop};

@@ -3,7 +3,7 @@
 ghost use Rattle.std.specs.Prelude.{◌≡◌, ◌≤◌, length, slice_get, Some, IfOk};
 ghost use Rattle.loop_tree.specs.Passes.{IsSmallGraph, IsCountBelow, IsExtent, AreHeaderNumbers, AreExtents};
 
-use code_graph::CodeGraph;
+use flow_graph::CodeGraph;
 use graph_algorithms::{LoopExtent, NodeRange};
 use loop_file::{LoopNote, LoopNotes};
 use scale_base::NoMemory;

@@ -7,7 +7,7 @@ ghost use Rattle.loop_tree.specs.Passes.{IsSmallGraph, IsReady, IsEnteredBit, Ar
 
 use crate::natural::entries::{check_entry, entry_of};
 use crate::natural::extent::group_extents;
-use code_graph::CodeGraph;
+use flow_graph::CodeGraph;
 use graph_algorithms::{BodySearch, GroupBodies, has_bit};
 use loop_file::LoopNotes;
 use scale_base::Stop;

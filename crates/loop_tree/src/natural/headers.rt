@@ -5,7 +5,7 @@ ghost use Rattle.scale_base.specs.Answer.{AnswersBy};
 ghost use Rattle.graph_algorithms.specs.Bodies.{IsLeastPair};
 ghost use Rattle.loop_tree.specs.Passes.{IsSmallGraph, AreHeadersFound, HaveOneNumber};
 
-use code_graph::CodeGraph;
+use flow_graph::CodeGraph;
 use graph_algorithms::lesser_pair;
 use loop_file::LoopNotes;
 use scale_base::{NoMemory, Refusal, Stop};

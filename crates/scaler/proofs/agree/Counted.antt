@@ -7,9 +7,9 @@ use Rattle.cost_theory.specs.Graph.{Loops, goes_back}
 use Rattle.cost_theory.specs.Reached.{edge_at, edge_to}
 use Rattle.scale_base.specs.declared.edges.Edge.{Edge}
 use Rattle.code_text.specs.Text.{text_of}
-use Rattle.code_graph.specs.FlowGraph.{FlowGraph, IsGraphOf}
+use Rattle.flow_graph.specs.FlowGraph.{FlowGraph, IsGraphOf}
 use Rattle.loop_file.specs.declared.notes.LoopNote.{LoopNote}
-use Rattle.loop_tree.specs.Tree.{LoopView, loops, IsTreeOf}
+use Rattle.loop_forest.specs.Tree.{LoopView, loops, IsTreeOf}
 use Rattle.scale_sites.specs.Counters.{counted_loops, set_from, edge_goes_on, IsUncountable, HasNone, AreRefused}
 use Rattle.answer_laws.proofs.Laws.{trees_agree}
 use Rattle.scaler.proofs.agree.Pairs.{renumbered}

@@ -10,8 +10,8 @@ use Rattle.cost_theory.specs.Graph.{Graph}
 use Rattle.cost_theory.specs.Worst.{AreNumbers}
 use Rattle.code_text.specs.Text.{text_of}
 use Rattle.code_text.specs.EdgeCosts.{weights}
-use Rattle.code_graph.specs.FlowGraph.{graph}
-use Rattle.loop_tree.specs.Tree.{loops}
+use Rattle.flow_graph.specs.FlowGraph.{graph}
+use Rattle.loop_forest.specs.Tree.{loops}
 use Rattle.answer_laws.proofs.Laws.{weights_same, numbers_alike}
 use Rattle.scaler.specs.Held.{IsLoopRefused, IsProgramHeld, IsHeldProgram, IsHeld, unscaled, held_within}
 use Rattle.scaler.specs.Agree.{AreAlikeAnswers, HeldAnswersAgree}

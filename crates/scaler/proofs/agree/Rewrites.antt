@@ -16,9 +16,9 @@ use Rattle.cost_theory.specs.Worst.{Numbers}
 use Rattle.scale_base.specs.declared.edges.Edge.{Edge}
 use Rattle.code_text.specs.EdgeCosts.{edge_class}
 use Rattle.code_text.specs.Text.{text_of}
-use Rattle.code_graph.specs.FlowGraph.{FlowGraph}
-use Rattle.code_graph.proofs.Laws.{some_is}
-use Rattle.loop_tree.specs.Tree.{LoopView, loops}
+use Rattle.flow_graph.specs.FlowGraph.{FlowGraph}
+use Rattle.flow_graph.proofs.Laws.{some_is}
+use Rattle.loop_forest.specs.Tree.{LoopView, loops}
 use Rattle.scale_sites.specs.Counters.{counted_loops}
 use Rattle.stub_writer.specs.Stubs.{Site, block_size, out_of_reach}
 use Rattle.rewritten_runs.specs.Stubs.{IsWeighed, rewritten_file, marks_by_slack, told_at, fragment_of, fragments_at}

@@ -12,9 +12,9 @@ use Rattle.cost_theory.specs.Graph.{Graph, Loops}
 use Rattle.cost_theory.specs.Worst.{Numbers, AreNumbers}
 use Rattle.cycle_laws.specs.Charged.{Charged, AreCharged, to_end_after}
 use Rattle.code_text.specs.Text.{text_of}
-use Rattle.code_graph.specs.FlowGraph.{FlowGraph, graph}
+use Rattle.flow_graph.specs.FlowGraph.{FlowGraph, graph}
 use Rattle.loop_file.specs.declared.notes.LoopNote.{LoopNote}
-use Rattle.loop_tree.specs.Tree.{LoopView, loops}
+use Rattle.loop_forest.specs.Tree.{LoopView, loops}
 use Rattle.worst_cycles.specs.Worst.{slack_at, rest_at}
 use Rattle.level_tables.specs.Tables as tables
 use Rattle.scale_sites.specs.Counters.{counted_loops}

@@ -1,6 +1,6 @@
 use Rattle.std.proofs.Common.{rules, ◌≡◌, ◌++◌, [], ◌∷◌, arith}
 use Rattle.std.proofs.lemmas.List.FromFn.{map-range_with_len_more}
-use Rattle.elf_view.specs.Segment.{segment_value}
+use Rattle.elf_image.specs.Segment.{segment_value}
 use Rattle.flat_memory.specs.Loaded.{offset_byte}
 use Rattle.flat_memory.proofs.loading.load_block.Goals as goal
 

@@ -1,6 +1,6 @@
 use Rattle.std.proofs.Common.{◌≡◌, map, vec_len}
 use Rattle.std.specs.List.{range_with_len}
-use Rattle.elf_view.specs.Segment.{segment_value}
+use Rattle.elf_image.specs.Segment.{segment_value}
 use Rattle.flat_memory.specs.Loaded.{offset_byte}
 use Rattle.flat_memory.proofs.loading.load_block.Given as goal
 

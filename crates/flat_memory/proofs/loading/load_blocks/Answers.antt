@@ -1,5 +1,5 @@
 use Rattle.std.proofs.Common.{rules, ◌≡◌, ◌++◌, [], ◌∷◌}
-use Rattle.elf_view.specs.Segment.{segment_value}
+use Rattle.elf_image.specs.Segment.{segment_value}
 use Rattle.flat_memory.proofs.LoadLaws.{are_none, are_more}
 use Rattle.flat_memory.proofs.loading.load_blocks.Goals as goal
 

@@ -1,5 +1,5 @@
 use Rattle.std.proofs.Common.{sym, ◌∙◌, arith}
-use Rattle.elf_view.specs.Segment.{segment_value}
+use Rattle.elf_image.specs.Segment.{segment_value}
 use Rattle.foreign_scan.proofs.LoadedLaws.{loaded_none, loaded_some, loaded_more}
 use Rattle.foreign_scan.proofs.bytes.loaded.Goals as goal
 

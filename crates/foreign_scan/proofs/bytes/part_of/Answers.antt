@@ -1,5 +1,5 @@
 use Rattle.std.proofs.Common.{◌+◌, ◌≤◌, length, arith}
-use Rattle.elf_view.specs.Segment.{segment_value}
+use Rattle.elf_image.specs.Segment.{segment_value}
 use Rattle.foreign_scan.proofs.LoadedLaws.{part_fits}
 use Rattle.foreign_scan.proofs.bytes.part_of.Goals as goal
 

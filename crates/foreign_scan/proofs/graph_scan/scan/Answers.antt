@@ -1,4 +1,4 @@
-use Rattle.loop_tree.specs.Tree.{loops}
+use Rattle.loop_forest.specs.Tree.{loops}
 use Rattle.foreign_scan.proofs.GlueLaws.{ok_then}
 use Rattle.foreign_scan.proofs.TreeLists.{lists_of}
 use Rattle.foreign_scan.proofs.graph_scan.scan.Goals as goal

@@ -1,4 +1,4 @@
-use Rattle.elf_view.specs.Segment.{segment_value}
+use Rattle.elf_image.specs.Segment.{segment_value}
 use Rattle.foreign_scan.proofs.LayoutLaws.{places_more}
 use Rattle.foreign_scan.proofs.layout.plain_places.Goals as goal
 

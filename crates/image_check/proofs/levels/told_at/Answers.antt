@@ -4,7 +4,7 @@ use Rattle.std.proofs.lemmas.Option.{get_or_from_slice_get}
 use Rattle.foreign_scan.specs.declared.fragment.ForeignFragment.{ForeignFragment}
 use Rattle.power_model.specs.Switches.{costs_of}
 use Rattle.stored_runs.specs.Marks.{tail_cycles}
-use Rattle.loop_tree.specs.Tree.{loops}
+use Rattle.loop_forest.specs.Tree.{loops}
 use Rattle.image_check.specs.Safe.{all_with_rows}
 use Rattle.image_check.specs.Known.{owner_by}
 use Rattle.image_check.specs.Uses.{on_edge}

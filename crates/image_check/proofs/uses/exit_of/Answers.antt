@@ -1,6 +1,6 @@
 use Rattle.std.proofs.Common.{ap, sym, ◌∙◌}
-use Rattle.code_graph.specs.FlowGraph.{graph}
-use Rattle.loop_tree.specs.Tree.{loops}
+use Rattle.flow_graph.specs.FlowGraph.{graph}
+use Rattle.loop_forest.specs.Tree.{loops}
 use Rattle.image_check.specs.Safe.{one_where}
 use Rattle.image_check.specs.Uses.{exit_of, of_loop}
 use Rattle.image_check.proofs.uses.exit_of.Goals as goal

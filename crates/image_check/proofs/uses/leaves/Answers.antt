@@ -1,5 +1,5 @@
 use Rattle.std.proofs.Common.{◌∙◌}
-use Rattle.code_graph.specs.FlowGraph.{graph}
+use Rattle.flow_graph.specs.FlowGraph.{graph}
 use Rattle.image_check.proofs.TreeFacts.{leaves_edge}
 use Rattle.image_check.proofs.uses.leaves.Goals as goal
 

@@ -2,7 +2,7 @@ use Rattle.std.proofs.Common.{rules, ◌≡◌, None, replicate, ◌+◌, ◌-�
 use Rattle.std.proofs.lemmas.Option.{slice_get-get_or}
 use Rattle.graph_algorithms.specs.Arcs.{number_in_place}
 use Rattle.cost_theory.specs.Least.{IsLeastIfAny, end_after}
-use Rattle.code_graph.specs.FlowGraph.{graph}
+use Rattle.flow_graph.specs.FlowGraph.{graph}
 use Rattle.least_cycles.specs.Hops.{number_in_table}
 use Rattle.least_cycles.specs.Tables.{least_by}
 use Rattle.least_cycles.specs.Ends.{AreBehind, IsBackTo}

@@ -1,5 +1,5 @@
 use Rattle.std.proofs.Common.{sym, ap, ◌∙◌}
-use Rattle.code_graph.specs.FlowGraph.{graph}
+use Rattle.flow_graph.specs.FlowGraph.{graph}
 use Rattle.least_cycles.specs.Tables.{back_from}
 use Rattle.least_cycles.proofs.PriceLaws.{led_to}
 use Rattle.least_cycles.proofs.ends.comes_back.Goals as goal

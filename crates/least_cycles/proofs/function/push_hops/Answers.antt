@@ -1,7 +1,7 @@
 use Rattle.std.proofs.Common.{◌≡◌, ◌⊎◌, ◌+◌, ◌<◌, ◌≤◌, length, arith, ap, subst}
 use Rattle.graph_algorithms.specs.Arcs.{number_in_place}
-use Rattle.code_graph.specs.FlowGraph.{graph}
-use Rattle.loop_tree.specs.Noted.{node_address}
+use Rattle.flow_graph.specs.FlowGraph.{graph}
+use Rattle.loop_forest.specs.Noted.{node_address}
 use Rattle.least_cycles.specs.declared.Hop.{Hop}
 use Rattle.least_cycles.specs.Functions.{IsFromFirst, IsFromNext}
 use Rattle.least_cycles.specs.Passes.{AreHopsIn}

@@ -1,5 +1,5 @@
 use Rattle.std.proofs.Common.{◌+◌, ◌^◌, List, Option, ℕ, sym, ap, ◌∙◌, subst, arith}
-use Rattle.code_graph.specs.FlowGraph.{graph}
+use Rattle.flow_graph.specs.FlowGraph.{graph}
 use Rattle.least_cycles.specs.Tables.{least_by}
 use Rattle.least_cycles.specs.Charging.{charge_by}
 use Rattle.least_cycles.specs.Found.{AreAfterTo, plus_charge}

@@ -1,5 +1,5 @@
 use Rattle.std.proofs.Common.{sym}
-use Rattle.code_graph.specs.FlowGraph.{graph}
+use Rattle.flow_graph.specs.FlowGraph.{graph}
 use Rattle.least_cycles.proofs.TableLaws.{at_number}
 use Rattle.least_cycles.proofs.prices.at_entry.Goals as goal
 

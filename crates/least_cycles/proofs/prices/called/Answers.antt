@@ -1,6 +1,6 @@
 use Rattle.std.proofs.Common.{◌≡◌, Some, [], sym, ◌∙◌}
-use Rattle.code_graph.specs.FlowGraph.{graph}
-use Rattle.loop_tree.specs.Noted.{node_address}
+use Rattle.flow_graph.specs.FlowGraph.{graph}
+use Rattle.loop_forest.specs.Noted.{node_address}
 use Rattle.least_cycles.specs.Tables.{least_by}
 use Rattle.least_cycles.proofs.TableLaws.{called_back}
 use Rattle.least_cycles.proofs.PriceLaws.{led_to, not_both}

@@ -1,6 +1,6 @@
 use Rattle.std.proofs.Common.{sym, ◌∙◌}
-use Rattle.code_graph.specs.FlowGraph.{graph}
-use Rattle.loop_tree.specs.Noted.{node_address}
+use Rattle.flow_graph.specs.FlowGraph.{graph}
+use Rattle.loop_forest.specs.Noted.{node_address}
 use Rattle.least_cycles.proofs.PriceLaws.{led_to, never_last}
 use Rattle.least_cycles.proofs.prices.is_last.Goals as goal
 

@@ -1,5 +1,5 @@
 use Rattle.std.proofs.Common.{◌≡◌, ◌⊎◌, ◌↔◌, true, None, subst}
-use Rattle.code_graph.specs.FlowGraph.{graph}
+use Rattle.flow_graph.specs.FlowGraph.{graph}
 use Rattle.least_cycles.proofs.PriceLaws.{price_is, more_small}
 use Rattle.least_cycles.proofs.prices.price.Goals as goal
 

@@ -1,5 +1,5 @@
 use Rattle.std.proofs.Common.{◌≡◌, ◌⊎◌, ◌+◌, ◌<◌, ◌≤◌, true, length, arith, subst, sym}
-use Rattle.loop_tree.specs.Tree.{loops}
+use Rattle.loop_forest.specs.Tree.{loops}
 use Rattle.least_cycles.specs.Functions.{IsFromFirst, IsFromNext}
 use Rattle.least_cycles.specs.Passes.{AreKindsIn}
 use Rattle.least_cycles.proofs.FunctionLaws.{next_start, next_step, next_end}

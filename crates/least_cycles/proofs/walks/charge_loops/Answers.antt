@@ -1,5 +1,5 @@
 use Rattle.std.proofs.Common.{◌≡◌, ◌<◌, ◌≤◌, ◌^◌, ℕ, Option, length, slice_set, sym, ap, ◌∙◌, subst, arith, get_or-set_other, length-set}
-use Rattle.code_graph.proofs.Laws.{few_once}
+use Rattle.flow_graph.proofs.Laws.{few_once}
 use Rattle.graph_algorithms.specs.Keys.{IsLastBelow}
 use Rattle.graph_algorithms.proofs.Laws.{place, place_less}
 use Rattle.cycle_laws.specs.Charged.{Charged}

@@ -1,7 +1,7 @@
 use Rattle.std.proofs.Common.{◌≡◌, ℕ, ◌+◌, ◌<◌, ◌≤◌, ◌^◌, true, length, Option, IfSome, ⊎_elim, inl, inr, sym, subst, arith}
 use Rattle.std.proofs.lemmas.Bool.{both_ways}
 use Rattle.std.proofs.lemmas.Option.{slice_get_within}
-use Rattle.loop_tree.specs.Tree.{loops}
+use Rattle.loop_forest.specs.Tree.{loops}
 use Rattle.level_reasons.specs.declared.ways.Way.{Way}
 use Rattle.level_reasons.specs.Reasons.{IsWayOut}
 use Rattle.level_reasons.specs.Ways.{IsWayAmong, IsWaySoFar, IsNearestKept}

@@ -2,7 +2,7 @@ use Rattle.std.proofs.Common.{◌≡◌, ◌<◌, ℕ, length, Some, Vec, Global
 use Rattle.std.proofs.lemmas.List.{length-map}
 use Rattle.std.proofs.lemmas.Option.{same_Some}
 use Rattle.cost_theory.specs.Lists.{body_of, is_among}
-use Rattle.code_graph.specs.FlowGraph.{graph}
+use Rattle.flow_graph.specs.FlowGraph.{graph}
 use Rattle.graph_algorithms.specs.Nesting.{bodies_of}
 use Rattle.loop_forest.specs.Stored.{IsRising}
 use Rattle.loop_tree.proofs.Lists.{body_read}

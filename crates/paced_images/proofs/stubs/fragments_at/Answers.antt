@@ -2,7 +2,7 @@ use Rattle.std.proofs.Common.{◌≤◌, ◌+◌, ◌++◌, ◌∷◌, [], map, 
 use Rattle.scale_sites.specs.Sites.{marks_at_edge}
 use Rattle.scale_sites.specs.Counters.{counted_loops}
 use Rattle.scale_base.specs.declared.fragments.Mark.TheVariants as marks
-use Rattle.loop_tree.specs.Tree.{loops}
+use Rattle.loop_forest.specs.Tree.{loops}
 use Rattle.rewritten_runs.specs.Stubs.{told_at, fragment_by}
 use Rattle.paced_images.specs.Wanted.{marked_where}
 use Rattle.paced_images.specs.Markings.{test_of}

@@ -1,7 +1,7 @@
 use Rattle.std.proofs.Common.{◌≡◌, ◌++◌, [], ◌∷◌, map, slice_index, Vec, Global, sym, ap, ◌∙◌}
 use Rattle.scale_base.specs.declared.fragments.Mark.{Mark}
-use Rattle.code_graph.specs.FlowGraph.{graph}
-use Rattle.loop_tree.specs.Tree.{loops}
+use Rattle.flow_graph.specs.FlowGraph.{graph}
+use Rattle.loop_forest.specs.Tree.{loops}
 use Rattle.scale_sites.specs.Marks.{marks_of}
 use Rattle.scale_sites.specs.Sites.{edge_branches, is_branch, marks_by}
 use Rattle.scale_sites.proofs.SiteLaws.{map_push, marks_push}

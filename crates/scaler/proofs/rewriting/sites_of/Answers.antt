@@ -4,7 +4,7 @@ use Rattle.cost_theory.specs.Accepted.{AreWeights}
 use Rattle.code_text.specs.Text.{text_of}
 use Rattle.power_model.specs.Numbers.{PowerModel}
 use Rattle.power_model.specs.Price.{cycles_of}
-use Rattle.code_graph.specs.FlowGraph.{graph}
+use Rattle.flow_graph.specs.FlowGraph.{graph}
 use Rattle.worst_cycles.specs.Worst.{by_edge}
 use Rattle.rewritten_runs.proofs.Laws.{weights_hold}
 use Rattle.scale_sites.specs.Sites.{AreSites}

@@ -3,7 +3,7 @@ use Rattle.std.proofs.lemmas.Result.{err_from_is_err_and}
 use Rattle.cost_theory.specs.Accepted.{AreWeights}
 use Rattle.code_text.specs.Text.{text_of}
 use Rattle.power_model.specs.Price.{cycles_of}
-use Rattle.code_graph.specs.FlowGraph.{graph}
+use Rattle.flow_graph.specs.FlowGraph.{graph}
 use Rattle.worst_cycles.specs.Worst.{by_edge}
 use Rattle.rewritten_runs.proofs.Laws.{weights_hold}
 use Rattle.scaler.proofs.Answering.{numbers_stop, too_long, held_by_worst}

@@ -2,7 +2,7 @@ use Rattle.std.proofs.Common.{◌≤◌, ◌+◌, ◌++◌, ◌∷◌, [], map, 
 use Rattle.scale_sites.specs.Sites.{marks_at_edge}
 use Rattle.scale_sites.specs.Counters.{counted_loops}
 use Rattle.scale_base.specs.declared.fragments.Mark.TheVariants as marks
-use Rattle.loop_tree.specs.Tree.{loops}
+use Rattle.loop_forest.specs.Tree.{loops}
 use Rattle.rewritten_runs.specs.Stubs.{marks_by_slack, told_at, fragment_of}
 use Rattle.scaler.proofs.MarkingLaws.{get_some, map_take_more, take_all, step_is}
 use Rattle.scaler.proofs.stubs.fragments_at.Goals as goal

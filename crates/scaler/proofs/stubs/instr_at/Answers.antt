@@ -1,6 +1,6 @@
 use Rattle.std.proofs.Common.{sym, ap, ◌∙◌}
 use Rattle.std.specs.Prelude.{is_some}
-use Rattle.code_graph.proofs.Laws.{instr_stored}
+use Rattle.flow_graph.proofs.Laws.{instr_stored}
 use Rattle.scaler.proofs.SiteLists.{decoded}
 use Rattle.scaler.proofs.stubs.instr_at.Goals as goal
 

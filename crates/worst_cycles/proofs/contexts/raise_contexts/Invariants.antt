@@ -1,8 +1,8 @@
 use Rattle.std.proofs.Common.{◌≡◌, length}
 use Rattle.cost_theory.specs.Worst.{Numbers}
-use Rattle.code_graph.specs.FlowGraph.{graph}
-use Rattle.loop_tree.specs.Noted.{node_address}
-use Rattle.loop_tree.specs.Tree.{loops}
+use Rattle.flow_graph.specs.FlowGraph.{graph}
+use Rattle.loop_forest.specs.Noted.{node_address}
+use Rattle.loop_forest.specs.Tree.{loops}
 use Rattle.worst_cycles.specs.Worst.{by_edge}
 use Rattle.worst_cycles.specs.Visits.{AreSolvedBy}
 use Rattle.worst_cycles.proofs.ContextLaws.{AreRaisedTo}

@@ -1,7 +1,7 @@
 use Rattle.std.proofs.Common.{◌<◌, length, sym, subst, arith}
 use Rattle.std.proofs.lemmas.Option.{slice_get_within}
 use Rattle.graph_algorithms.specs.Arcs.{number_in_place}
-use Rattle.code_graph.specs.FlowGraph.{graph}
+use Rattle.flow_graph.specs.FlowGraph.{graph}
 use Rattle.worst_cycles.proofs.found.worst_of.Goals as goal
 
 pub bounds-visits-k : goal.bounds-visits-k

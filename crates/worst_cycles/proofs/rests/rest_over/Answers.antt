@@ -1,5 +1,5 @@
 use Rattle.std.proofs.Common.{ℕ, ◌<◌, Some, arith, ap, ◌∙◌}
-use Rattle.loop_tree.specs.Tree.{loops}
+use Rattle.loop_forest.specs.Tree.{loops}
 use Rattle.worst_cycles.specs.Worst.{by_edge}
 use Rattle.worst_cycles.proofs.BodyLaws.{loop_count}
 use Rattle.worst_cycles.proofs.FallLaws.{plain_by}

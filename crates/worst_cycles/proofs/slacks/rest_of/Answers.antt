@@ -1,6 +1,6 @@
 use Rattle.std.proofs.Common.{arith, ap, ◌∙◌}
 use Rattle.std.proofs.lemmas.Option.{slice_get_within, get_or_from_slice_get}
-use Rattle.code_graph.specs.FlowGraph.{graph}
+use Rattle.flow_graph.specs.FlowGraph.{graph}
 use Rattle.worst_cycles.specs.Worst.{by_edge}
 use Rattle.worst_cycles.proofs.ContextLaws.{left_around_small}
 use Rattle.worst_cycles.proofs.SlackLaws.{rest_there, rest_value, context_small}

@@ -1,7 +1,7 @@
 use Rattle.std.proofs.Common.{◌≡◌, ℕ, ◌+◌, ◌<◌, [], ◌∷◌, ◌++◌, length, length-append, arith, sym, ap, subst}
 use Rattle.graph_algorithms.specs.Arcs.{number_in_place}
-use Rattle.code_graph.specs.FlowGraph.{graph}
-use Rattle.loop_tree.specs.Tree.{loops}
+use Rattle.flow_graph.specs.FlowGraph.{graph}
+use Rattle.loop_forest.specs.Tree.{loops}
 use Rattle.worst_cycles.specs.Worst.{by_edge, slack_at}
 use Rattle.worst_cycles.proofs.TableLaws.{placed_more}
 use Rattle.worst_cycles.proofs.slacks.slacks_of.Goals as goal

@@ -1,6 +1,6 @@
 use Rattle.std.proofs.Common.{◌≡◌, ◌+◌, ◌<◌, ◌≤◌, length, slice_index, arith, sym, subst}
 use Rattle.cost_theory.specs.Accepted.{IsNode}
-use Rattle.code_graph.specs.FlowGraph.{graph}
+use Rattle.flow_graph.specs.FlowGraph.{graph}
 use Rattle.worst_cycles.specs.Worst.{by_edge}
 use Rattle.worst_cycles.proofs.OverLaws.{IsPlainMost, plain_raised, plain_kept, plain_found}
 use Rattle.worst_cycles.proofs.visits.plain_at_node.Goals as goal
