@@ -1,18 +1,16 @@
 //! What a step does to the return addresses and the counts, and what it breaks.
 
 ghost use Rattle.std.specs.Prelude.{◌≡◌, ◌≢◌, ◌==◌, ℕ, ◌+◌, ◌<◌, ◌≤◌, ◌^◌, if◌then◌else◌, length, reverse, slice_index, IfSome, IfOk, None, Some, vec_len, vec_capacity};
-ghost use Rattle.scale_base.specs.Image as image;
 ghost use Rattle.graph_runs.specs.ReturnAddresses.{returns_after};
 ghost use Rattle.graph_runs.specs.KeptRuns.{most_returns};
 ghost use Rattle.graph_runs.specs.KeptSteps as rules;
 ghost use Rattle.loop_file.specs.Notes.{AreLoopNotes};
-ghost use Rattle.loop_file.specs.Kept as kept;
 ghost use Rattle.keep_monitor.specs.Headers.{AreRisingLoops, AreLoopsOf, sorted_header};
 ghost use Rattle.keep_monitor.specs.Steps.{first_of, broken_by, loop_over, leaves_note, is_left_early, loop_left, lesser_loop, broken_loop, count_then, count_after_at, AreTurning, AreCounts};
 
 use crate::headers::Header;
-use loop_file::{LoopNote, LoopNotes};
-use scale_base::{Kept, Move, NoMemory, Range, Stepped};
+use loop_file::{LoopNote, LoopNotes, in_extent};
+use scale_base::{Kept, Move, NoMemory, Stepped};
 use std::alloc::Global;
 
 /// How many return addresses a kept run has at most.
@@ -83,27 +81,6 @@ pub fn move_returns(returns: &mut Vec<u32>, step: &Stepped)
             let _ = returns.pop();
         }
     }
-}
-
-fn is_in(range: &Range, at: u32) -> bool
-    ensures { result ≡ image.is_in at range.now }
-{
-    range.from <= at && at < range.to
-}
-
-// Whether an address is a loop's header or lies in its ranges.
-fn in_extent(note: &LoopNote, at: u32) -> bool
-    ensures { result ≡ kept.in_extent note.now at }
-{
-    if at == note.header {
-        return true;
-    }
-    for k in 0..note.ranges.count() {
-        if is_in(note.ranges.get(k), at) {
-            return true;
-        }
-    }
-    false
 }
 
 /// The count of a loop after a step to its header.

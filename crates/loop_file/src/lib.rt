@@ -6,11 +6,13 @@ ghost use Rattle.scale_base.specs.Answer.{Answers};
 ghost use Rattle.loop_file.specs.Loops.{read_loops};
 
 mod address;
+mod extent;
 mod notes;
 mod ranges;
 mod reads;
 
 use elf_image::ImageView;
+pub use extent::in_extent;
 pub use notes::{LoopNote, LoopNotes, RangeList};
 use reads::notes_of;
 use scale_base::{Refusal, Stop};

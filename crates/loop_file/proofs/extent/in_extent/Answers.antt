@@ -3,7 +3,7 @@ use Rattle.std.proofs.lemmas.Bool.{or_right, or_from}
 use Rattle.std.proofs.lemmas.Option.{get_or_from_slice_get}
 use Rattle.std.proofs.lemmas.List.Folds.{list_any_more, list_any_at}
 use Rattle.scale_base.specs.Image.{is_in}
-use Rattle.keep_monitor.proofs.steps.in_extent.Goals as goal
+use Rattle.loop_file.proofs.extent.in_extent.Goals as goal
 
 pub returns-then-is_in : goal.returns-then-is_in
 returns-then-is_in c =
