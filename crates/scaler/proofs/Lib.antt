@@ -15,7 +15,6 @@ pub mod ExtraFacts
 pub mod EdgeBlocks
 pub mod MarkedKinds
 pub mod SiteLists
-pub mod Ranges
 pub mod MarkingFacts
 pub mod ScalingFacts
 pub mod ProgramFacts

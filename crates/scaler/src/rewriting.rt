@@ -18,8 +18,9 @@ ghost use Rattle.scaler.specs.Rewritten as rewritten;
 ghost use Rattle.scaler.specs.RewrittenRuns.{IsRewrittenSafely};
 ghost use Rattle.scaler.specs.Scalings as scalings;
 
-use crate::safe_level::{check_unscaled, time_at, weights_of};
+use crate::safe_level::weights_of;
 use crate::stubs::{Marking, stub_sites};
+use answer_parts::{check_unscaled, time_at};
 use code_graph::{CodeGraph, build_graph};
 use elf_patch::{stub_base, write_image};
 use elf_view::{ImageView, read_image};

@@ -14,6 +14,7 @@ use crate::sums::{Sums, weight_of};
 use crate::tracing::EdgeTrace;
 use crate::turning::LoopPlan;
 use crate::walking::{WALKS, WalkPlan, walked};
+use answer_parts::check_unscaled;
 use code_graph::{CodeGraph, build_graph};
 use elf_view::{ImageView, read_image};
 use loop_file::read_loops;
@@ -21,7 +22,6 @@ use loop_tree::{LoopTree, build_loops};
 use machine_file::read_machine;
 use power_model::Power;
 use scale_base::{NoMemory, Stop};
-use scaler::check_unscaled;
 use speed_sim::{End, start_of, watched_report};
 use std::alloc::Global;
 

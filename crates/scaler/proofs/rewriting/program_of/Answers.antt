@@ -12,7 +12,7 @@ use Rattle.loop_file.specs.Loops.{read_loops}
 use Rattle.scaler.specs.declared.rewriting.Marked.{Marked}
 use Rattle.scaler.specs.declared.rewriting.Program.{Program}
 use Rattle.scaler.specs.declared.rewriting.Scaling.{Scaling}
-use Rattle.scaler.specs.Held.{unscaled}
+use Rattle.answer_parts.specs.Parts.{unscaled}
 use Rattle.scaler.specs.Rewritten.{IsRewritten}
 use Rattle.scaler.specs.Scalings.{IsMarkedFound, IsScalingFound, IsProgramFound}
 use Rattle.scaler.proofs.Files.{HoldAnswers, then_stops, then_goes}
