@@ -1,5 +1,5 @@
 use Rattle.image_check.proofs.StoredSafe.{rewritten_safe}
 use Rattle.image_check.proofs.answers.rewritten_images_are_safe_to_check.Goals as goal
 
-pub returns-clause-images : goal.returns-clause-images
-returns-clause-images c = rewritten_safe
+pub returns : goal.returns
+returns c = record { images = rewritten_safe }
