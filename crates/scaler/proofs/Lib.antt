@@ -5,6 +5,7 @@ pub mod HeldRuns
 pub mod Safe
 pub mod SafeRewritten
 pub mod FilesAs
+pub mod FilesRewritten
 pub mod SafeAs
 pub mod HeldPromise
 pub mod MarkingLaws

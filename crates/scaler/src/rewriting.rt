@@ -344,9 +344,11 @@ fn rewrite_files(
     requires { length image.now ≤ 4194304 }
     ensures { AnswersBy (λ given. (given.0.items, given.1)) result (rewritten.IsRewritten image.now machine.now loops.now) }
 {
-    let program = program_of(alloc, image, machine, loops)?;
-    let bytes = rewritten_file(alloc, &program.view, &program.scaling)?;
-    Ok((bytes, program.scaling.summary))
+    let power = read_machine(alloc, machine)?;
+    let view = read_image(alloc, image)?;
+    check_unscaled(view.keyed())?;
+    let notes = read_loops(alloc, loops, &view)?;
+    rewrite_program(alloc, &view, &power, &notes)
 }
 
 /// The image with stubs that lower its level where what is left of the worst case allows it, started at the slowest level at which its
