@@ -283,6 +283,25 @@ fn rewritten_file(
     )
 }
 
+/// The image of a marked program with its stubs, or that one is out of reach.
+fn rewrite_marked(
+    alloc: Global,
+    view: &ImageView<'_>,
+    power: &Power,
+    marked: &Marked,
+) -> Result<(Vec<u8>, Summary), Stop>
+    requires read { image_of view.now.file ≡ Ok view.now }
+    requires file { length view.now.file ≤ 4194304 }
+    requires no_key { view.now.keyed_segment ≡ None }
+    requires power { IsPowerModel power.now }
+    requires marked { (notes : List LoopNote) × scalings.IsMarked power.now view.now notes marked.now }
+    ensures { (notes : List LoopNote) → scalings.IsMarked power.now view.now notes marked.now → AnswersBy (λ given. (given.0.items, given.1)) result (rewritten.IsRewrittenProgram power.now view.now notes) }
+{
+    let scaling = scaling_of(alloc, view, power, marked)?;
+    let bytes = rewritten_file(alloc, view, &scaling)?;
+    Ok((bytes, scaling.summary))
+}
+
 /// The image of a program with its stubs, or the first refusal of its code, of its loops, or of its numbers.
 pub fn rewrite_program(
     alloc: Global,
@@ -297,9 +316,7 @@ pub fn rewrite_program(
     ensures { AnswersBy (λ given. (given.0.items, given.1)) result (rewritten.IsRewrittenProgram power.now view.now notes.now) }
 {
     let marked = marked_of(alloc, view, power, notes)?;
-    let scaling = scaling_of(alloc, view, power, &marked)?;
-    let bytes = rewritten_file(alloc, view, &scaling)?;
-    Ok((bytes, scaling.summary))
+    rewrite_marked(alloc, view, power, &marked)
 }
 
 /// The program of three files: its machine, its image, its marks and its stubs.
