@@ -1,6 +1,6 @@
 //! The candidates with stubs.
 
-ghost use Rattle.std.specs.Prelude.{◌≤◌, ◌<◌, length, IfOk};
+ghost use Rattle.std.specs.Prelude.{◌≡◌, ◌≤◌, ◌<◌, ◌^◌, length, IfOk};
 ghost use Rattle.scale_base.specs.Answer.{AnswersBy};
 ghost use Rattle.scaler.specs.Promise.{IsStoredSafely};
 ghost use Rattle.gain_tuner.specs.Candidates.{IsCandidate};
@@ -8,6 +8,14 @@ ghost use Rattle.gain_tuner.specs.Candidates.{IsCandidate};
 use scale_base::{Stop, Summary};
 use scaler::rewrite_as;
 use std::alloc::Global;
+
+/// The least gain of the candidates 1 + 2 k and 2 + 2 k, in cycles of slack.
+fn gain_of(k: u32) -> u32
+    requires { k < 16 }
+    ensures { result ≡ 4 ^ k }
+{
+    4_u32.pow(k)
+}
 
 /// The candidate of a number from 1 on. Two candidates have the least gain 4^k, for each k below 16: the first of them counts the loops that
 /// are noted so, the second none.
@@ -26,8 +34,7 @@ pub fn candidate_of(
     ensures given { AnswersBy (λ given. (given.0.items, given.1)) result (IsCandidate image.now machine.now loops.now number) }
     ensures safe { IfOk result (λ given. IsStoredSafely image.now machine.now loops.now given.0.items given.1) }
 {
-    let k = (number - 1) / 2;
-    let min_gain = 4_u32.pow(k);
+    let min_gain = gain_of((number - 1) / 2);
     let counters = number % 2 == 1;
     rewrite_as(alloc, image, machine, loops, min_gain, counters)
 }

@@ -13,7 +13,7 @@ use Rattle.loop_forest.specs.Tree.{LoopView}
 use Rattle.answer_laws.specs.Alike.{AreAlikeRefusals}
 use Rattle.answer_laws.proofs.Laws.{code_refusals_agree, graphs_renumbered, graph_is_not_refused, loop_refusals_agree, tree_is_not_refused}
 use Rattle.foreign_scan.specs.Agree.{ScanIsNotRefused, CausesAgree, FoundAgree}
-use Rattle.scaler.specs.Held.{Then, unscaled}
+use Rattle.answer_parts.specs.Parts.{Then, unscaled}
 use Rattle.image_check.specs.Agreeing.{AreAlikeVerdicts, CheckedAnswersAgree}
 use Rattle.image_check.specs.Checked.{IsFileVerdict, IsProgramRefusal, IsProgramChecked, IsChecked}
 use Rattle.image_check.proofs.AgreeCounted.{IsListed}

@@ -37,7 +37,7 @@ use Rattle.image_check.specs.Weights.{AreExtraWeights, AreStoredWeights}
 use Rattle.image_check.specs.Checked.{graph_by, weights_with, key_level, IsCounted, HasLevel, CountsNoLoop, IsOverLong, IsMisled, IsPassed}
 use Rattle.image_check.specs.Checks.{IsOriginal, IsScannedBy, IsReceived, AreShortCosts, MeetsDeadline, AreExtraCycles}
 use Rattle.image_check.proofs.CallEdges.{extra_are_weights, stored_are_weights}
-use Rattle.scaler.proofs.Laws.{slack_in_range, rest_in_range, turns_in_range}
+use Rattle.rewritten_runs.proofs.Laws.{slack_in_range, rest_in_range, turns_in_range}
 
 some_number : {a b : ℕ} → Some a ≡ Some b → a ≡ b
 some_number e = cc

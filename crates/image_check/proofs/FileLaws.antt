@@ -16,7 +16,7 @@ use Rattle.loop_file.specs.Loops.{read_loops}
 use Rattle.flow_graph.specs.FlowGraph.{FlowGraph}
 use Rattle.loop_forest.specs.Tree.{LoopView, loops}
 use Rattle.foreign_scan.specs.Scanned.{IsFirstWhy}
-use Rattle.scaler.specs.Held.{Then, unscaled}
+use Rattle.answer_parts.specs.Parts.{Then, unscaled}
 use Rattle.image_check.specs.Checked.{IsFirstCause, IsProgramChecked, IsChecked}
 
 -- ---- causes

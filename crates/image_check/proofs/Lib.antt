@@ -32,12 +32,10 @@ pub mod StoredRows
 pub mod StoredLevels
 pub mod StoredSafe
 pub mod AgreeScan
-pub mod PassedFiles
 pub mod AgreeOwners
 pub mod AgreeCounted
 pub mod AgreeStages
 pub mod AgreeYes
-pub mod PassedOnly
 pub mod AgreeVerdicts
 pub mod AgreeEdges
 pub mod AgreeLevels

@@ -20,8 +20,8 @@ use Rattle.code_text.specs.Text.{text_of}
 use Rattle.flow_graph.specs.FlowGraph.{FlowGraph, IsGraphOf}
 use Rattle.loop_forest.specs.Tree.{LoopView, IsTreeOf}
 use Rattle.rewritten_runs.specs.Promise.{KeepsThePromise}
-use Rattle.scaler.specs.Held.{Then, unscaled}
-use Rattle.scaler.specs.Promise.{FilesKeepThePromise}
+use Rattle.answer_parts.specs.Parts.{Then, unscaled}
+use Rattle.rewritten_runs.specs.FilePromise.{FilesKeepThePromise}
 use Rattle.image_check.specs.Checked.{IsPassed, IsFileVerdict, IsChecked}
 use Rattle.image_check.specs.SafeRuns.{IsCheckedSafely, IsSafeVerdict}
 use Rattle.image_check.proofs.FileLaws.{no_key}

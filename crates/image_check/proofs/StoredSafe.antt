@@ -35,7 +35,7 @@ use Rattle.paid_runs.specs.Timely.{weights_of}
 use Rattle.foreign_scan.specs.Scanned.{Found, segment_place, segment_places}
 use Rattle.rewritten_runs.specs.Stubs.{IsWeighed, HasStubs, rewritten_file, by_slack, marks_by_slack, fragment_of, fragments_at, told_at}
 use Rattle.rewritten_runs.proofs.Laws.{IsPlainMark, IsSupplied, program_is, rule_marks, supplied}
-use Rattle.image_check.specs.Passing.{IsSafeAt, RewrittenImagesAreSafe}
+use Rattle.image_check.specs.RewrittenSafe.{IsSafeAt, RewrittenImagesAreSafe}
 use Rattle.image_check.specs.Safe.{Owner, sites_of, IsSafeImage}
 use Rattle.image_check.proofs.StoredTables.{IsPlain}
 use Rattle.image_check.proofs.StoredPlaces.{all_on}

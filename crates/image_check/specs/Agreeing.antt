@@ -1,18 +1,9 @@
--- What `rewrite` stores passes a check, and two answers of a check agree. As statements for the contracts of functions.
-use Rattle.std.specs.Prelude.{◌≡◌, ℕ, ◌≤◌, List, length, Result, Ok, Err}
+-- Two answers of a check agree. As a statement for the contract of a function.
+use Rattle.std.specs.Prelude.{◌≡◌, ℕ, List, Result, Ok, Err}
 use Rattle.scale_base.specs.declared.refusal.Refusal.{Refusal}
-use Rattle.scale_base.specs.declared.summary.Summary.{Summary}
 use Rattle.scale_base.specs.declared.verdict.Verdict.{Verdict}
-use Rattle.scale_base.specs.declared.verdict.Verdict.TheVariants.{Yes}
 use Rattle.answer_laws.specs.Alike.{AreAlikeRefusals}
-use Rattle.scaler.specs.Rewritten.{IsRewritten}
 use Rattle.image_check.specs.Checked.{IsChecked}
-use Rattle.image_check.specs.Passing.{checked_as}
-
--- The only answer of a check of what is stored, with the same three files, is yes with the printed numbers.
-abbrev pub RewrittenImagesPass : Type 0
-RewrittenImagesPass = (image machine loop_file stored : List ℕ) (summary : Summary) (answer : Result Verdict Refusal) → length image ≤ 4194304 → length machine ≤ 1048576 → length loop_file ≤ 1048576
-    → IsRewritten image machine loop_file (Ok ((stored, summary))) → IsChecked image stored machine loop_file answer → answer ≡ Ok (Yes (checked_as summary))
 
 -- Two answers give the same verdict, or both refuse, and alike: the same, but for the cycle that a refusal names.
 abbrev pub AreAlikeVerdicts : Result Verdict Refusal → Result Verdict Refusal → Type 0

@@ -26,7 +26,7 @@ use Rattle.flow_graph.specs.Refused.{IsRefusedBy}
 use Rattle.loop_forest.specs.Tree.{LoopView, loops, IsTreeOf, IsTreeRefusal}
 use Rattle.paid_runs.specs.Timely.{weights_of}
 use Rattle.foreign_scan.specs.Scanned.{Found, IsScanned, IsFirstWhy}
-use Rattle.scaler.specs.Held.{Then, unscaled}
+use Rattle.answer_parts.specs.Parts.{Then, unscaled}
 use Rattle.image_check.specs.Safe.{Owner, sites_of, AreOwners, IsSafeImage}
 use Rattle.image_check.specs.Causes.{IsFirstBadCounter, IsFirstBadLevel}
 

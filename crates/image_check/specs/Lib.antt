@@ -13,5 +13,5 @@ pub mod Entries
 pub mod Weights
 pub mod Levels
 pub mod Laws
-pub mod Passing
+pub mod RewrittenSafe
 pub mod Agreeing

@@ -3,7 +3,7 @@ use Rattle.std.specs.Prelude.{◌≡◌, ℕ, List}
 use Rattle.scale_base.specs.declared.verdict.Checked.{Checked}
 use Rattle.scale_base.specs.declared.verdict.Verdict.{Verdict}
 use Rattle.scale_base.specs.declared.verdict.Verdict.TheVariants.{Yes, No}
-use Rattle.scaler.specs.Promise.{FilesKeepThePromise}
+use Rattle.rewritten_runs.specs.FilePromise.{FilesKeepThePromise}
 
 -- The bytes of an image, of an image of other make, of a machine file and of a loop file: the other image has the original's text ranges, its key starts it at the
 -- printed level, where the printed worst cycles take the printed time, which is in time, and it keeps the promise with the printed number of cycles. The printed deadline

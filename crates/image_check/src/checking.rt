@@ -7,7 +7,7 @@ ghost use Rattle.scale_base.specs.Run.{starting_level as level_of_key};
 ghost use Rattle.power_model.specs.Numbers.{IsPowerModel};
 ghost use Rattle.cost_theory.specs.Worst.{Numbers};
 ghost use Rattle.foreign_scan.specs.Scanned.{Found};
-ghost use Rattle.scaler.specs.Held.{unscaled};
+ghost use Rattle.answer_parts.specs.Parts.{unscaled};
 ghost use Rattle.image_check.specs.Checked.{IsChecked, IsProgramChecked, IsFileVerdict, IsImageVerdict};
 ghost use Rattle.image_check.specs.SafeRuns.{IsSafeVerdict};
 ghost use Rattle.image_check.specs.declared.checking.CostsWithStubs.{CostsWithStubs};
@@ -16,6 +16,7 @@ ghost use Rattle.image_check.specs.Checks.{IsOriginal, IsScannedBy, IsReceived, 
 use crate::levels::first_bad_level;
 use crate::owners::{OwnerList, owners_of};
 use crate::weights::{extra_weights, stored_weights};
+use answer_parts::{check_unscaled, time_at};
 use code_graph::build_graph;
 use elf_image::ImageView;
 use elf_view::{read_image, refusal_number};
@@ -28,7 +29,6 @@ use loop_tree::build_loops;
 use machine_file::read_machine;
 use power_model::Power;
 use scale_base::{Checked, Keyed, NoMemory, Stop, Verdict, Why};
-use scaler::{check_unscaled, time_at};
 use std::alloc::Global;
 use worst_cycles::{WorstNumbers, worst};
 

@@ -6,20 +6,18 @@ ghost use Rattle.image_check.specs.Laws.{LoadedBytesAreSmall, SafeImagesAreTuned
 ghost use Rattle.image_check.specs.PacedChecks.{LeastBudgetsDecide};
 ghost use Rattle.image_check.specs.PacedLaws.{PacedImagesAreBudgeted, PacedImagesKeepRuns, PacedImagesKeepThePromise, SafeImagesArePaced};
 
+mod answers;
 mod checking;
 mod entries;
 mod last_rows;
 mod levels;
 mod owners;
-mod passing;
 mod told;
 mod uses;
 mod weights;
 
+pub use answers::{checked_answers_agree, rewritten_images_are_safe_to_check};
 pub use checking::check;
-pub use passing::{
-    checked_answers_agree, rewritten_images_are_safe_to_check, rewritten_images_pass,
-};
 
 /// Every kept run of a safe image ends as the original's does, with the same output, in time, at no higher level than before, with no more
 /// energy than its own cycles at the starting level, and with at most so many cycles and steps more.

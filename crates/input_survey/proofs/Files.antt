@@ -12,7 +12,7 @@ use Rattle.machine_file.specs.Machine.{read_machine}
 use Rattle.loop_file.specs.declared.notes.LoopNote.{LoopNote}
 use Rattle.loop_file.specs.Loops.{read_loops}
 use Rattle.speed_sim.specs.Simulated.{level_allowed}
-use Rattle.scaler.specs.Held.{Then, unscaled}
+use Rattle.answer_parts.specs.Parts.{Then, unscaled}
 use Rattle.input_survey.specs.Surveyed.{IsSurvey, IsSurveyed}
 
 -- what the survey answers, as it is seen

@@ -15,7 +15,7 @@ use Rattle.machine_file.specs.Machine.{read_machine}
 use Rattle.loop_file.specs.declared.notes.LoopNote.{LoopNote}
 use Rattle.loop_file.specs.Loops.{read_loops}
 use Rattle.speed_sim.specs.Simulated.{report_of, level_allowed}
-use Rattle.scaler.specs.Held.{Then, unscaled}
+use Rattle.answer_parts.specs.Parts.{Then, unscaled}
 use Rattle.input_survey.specs.Agreeing.{SurveysAgree}
 use Rattle.input_survey.specs.Most.{IsMost}
 use Rattle.input_survey.specs.Surveyed.{IsLineOf, AreLines, IsSurvey, IsSurveyAnswer, IsSurveyed, totals_of}

@@ -11,13 +11,13 @@ ghost use Rattle.input_survey.specs.Promised.{LinesArePromised};
 
 use crate::lines::{Images, line_of};
 use crate::totals::totals_of;
+use answer_parts::check_unscaled;
 use elf_view::read_image;
 use keep_monitor::LoopCounter;
 use loop_file::{LoopNotes, read_loops};
 use machine_file::read_machine;
 use power_model::SurveyReport;
 use scale_base::{NoMemory, Stop};
-use scaler::check_unscaled;
 use speed_sim::start_of;
 use std::alloc::Global;
 

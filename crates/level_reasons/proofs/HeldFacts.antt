@@ -14,7 +14,8 @@ use Rattle.loop_file.specs.Loops.{read_loops}
 use Rattle.loop_forest.specs.Tree.{loops}
 use Rattle.machine_file.specs.Machine.{read_machine}
 use Rattle.rewritten_runs.specs.Stubs.{plain_weights}
-use Rattle.scaler.specs.Held.{IsHeld, IsHeldProgram, Then, unscaled, held_at, held_from, held_file, held_summary}
+use Rattle.answer_parts.specs.Parts.{Then, unscaled}
+use Rattle.scaler.specs.Held.{IsHeld, IsHeldProgram, held_at, held_from, held_file, held_summary}
 use Rattle.level_reasons.specs.declared.shown.Shown.{Shown}
 use Rattle.level_reasons.specs.Program.{IsProgramShown, HasReasons, ShownProgramsAreHeld}
 

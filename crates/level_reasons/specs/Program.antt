@@ -15,7 +15,8 @@ use Rattle.flow_graph.specs.FlowGraph.{FlowGraph, graph, IsGraphOf}
 use Rattle.loop_forest.specs.Tree.{LoopView, loops, IsTreeOf}
 use Rattle.worst_cycles.specs.Worst.{slack_at, rest_at}
 use Rattle.rewritten_runs.specs.Stubs.{plain_weights}
-use Rattle.scaler.specs.Held.{unscaled, IsHeld, IsHeldProgram}
+use Rattle.answer_parts.specs.Parts.{unscaled}
+use Rattle.scaler.specs.Held.{IsHeld, IsHeldProgram}
 use Rattle.level_reasons.specs.declared.shown.Shown.{Shown}
 use Rattle.level_reasons.specs.Reasons.{ProgramNumbers, AreEdgeLines, AreLoopLines}
 

@@ -9,6 +9,7 @@ use crate::edges::edge_lines;
 use crate::loops::loop_lines;
 use crate::numbered::Numbered;
 use crate::shown::Shown;
+use answer_parts::check_unscaled;
 use code_graph::build_graph;
 use elf_image::ImageView;
 use elf_view::read_image;
@@ -18,7 +19,7 @@ use loop_tree::build_loops;
 use machine_file::read_machine;
 use power_model::Power;
 use scale_base::Stop;
-use scaler::{check_unscaled, starting_level, weights_of};
+use scaler::{starting_level, weights_of};
 use std::alloc::Global;
 use worst_cycles::worst;
 

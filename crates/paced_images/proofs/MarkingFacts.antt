@@ -13,10 +13,10 @@ use Rattle.scale_base.specs.Answer.{AnswersBy}
 use Rattle.scale_base.specs.Image.{Image}
 use Rattle.power_model.specs.declared.power.Costs.{Costs}
 use Rattle.power_model.specs.Numbers.{PowerModel}
-use Rattle.power_model.specs.Price.{cycles_of}
-use Rattle.power_model.specs.Price.{time_at}
+use Rattle.power_model.specs.Price.{cycles_of, time_at}
 use Rattle.power_model.specs.Slowest.{slowest_of, is_in_time}
-use Rattle.scaler.proofs.Laws.{found_below, found_in_time, numbers_of, past_end, rest_in_range, slack_in_range, turns_in_range}
+use Rattle.rewritten_runs.proofs.Laws.{rest_in_range, slack_in_range, turns_in_range}
+use Rattle.scaler.proofs.Laws.{found_below, found_in_time, numbers_of, past_end}
 use Rattle.cost_theory.specs.Accepted.{AreWeights}
 use Rattle.cost_theory.specs.Graph.{Graph, only}
 use Rattle.cost_theory.specs.Laws.{IsAnalyzed}

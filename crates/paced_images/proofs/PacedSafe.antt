@@ -17,9 +17,10 @@ use Rattle.loop_file.specs.Loops.{read_loops}
 use Rattle.stub_writer.specs.Stubs.{out_of_reach, block_bytes, patches_from}
 use Rattle.rewritten_runs.specs.Stubs.{rewritten_file}
 use Rattle.rewritten_runs.specs.Promise.{KeepsThePromise}
-use Rattle.scaler.specs.Held.{unscaled}
+use Rattle.answer_parts.specs.Parts.{unscaled}
 use Rattle.scaler.specs.Rewritten.{rewritten_summary}
-use Rattle.scaler.specs.Promise.{FilesKeepThePromise, IsStoredSafely}
+use Rattle.rewritten_runs.specs.FilePromise.{FilesKeepThePromise}
+use Rattle.scaler.specs.Promise.{IsStoredSafely}
 use Rattle.scaler.proofs.Laws.{file_is, found_in_time, is_unscaled, near_of, read_again, then_ok}
 use Rattle.paced_images.specs.declared.wanted.SwitchSite.{SwitchSite}
 use Rattle.paced_images.specs.Paced.{IsPaced, IsPacedProgram, IsProgramPaced}

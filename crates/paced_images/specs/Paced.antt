@@ -22,7 +22,8 @@ use Rattle.level_tables.specs.Tables.{EdgeNumbers}
 use Rattle.level_tables.specs.Budgets.{meets_in_budget}
 use Rattle.stub_writer.specs.Stubs.{Site, out_of_reach}
 use Rattle.rewritten_runs.specs.Stubs.{IsWeighedWith, HasStubsWith, rewritten_file}
-use Rattle.scaler.specs.Held.{IsCodeRefused, IsLoopRefused, Then, unscaled}
+use Rattle.answer_parts.specs.Parts.{Then, unscaled}
+use Rattle.scaler.specs.Held.{IsCodeRefused, IsLoopRefused}
 use Rattle.scaler.specs.Rewritten.{IsCounterRefused, rewritten_summary, unless_out_of_reach}
 use Rattle.paced_images.specs.declared.wanted.SwitchSite.{SwitchSite}
 use Rattle.paced_images.specs.Wanted.{notes_by, marked_at}

@@ -6,7 +6,7 @@ use Rattle.power_model.specs.Numbers.{IsPowerModel}
 use Rattle.machine_file.specs.Machine.{read_machine}
 use Rattle.loop_file.specs.declared.notes.LoopNote.{LoopNote}
 use Rattle.loop_file.specs.Loops.{read_loops}
-use Rattle.scaler.specs.Held.{unscaled}
+use Rattle.answer_parts.specs.Parts.{unscaled}
 use Rattle.paced_images.specs.declared.programs.Program.{Program}
 use Rattle.paced_images.specs.declared.wanted.SwitchSite.{SwitchSite}
 use Rattle.paced_images.specs.Paced.{IsPaced}

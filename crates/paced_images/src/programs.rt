@@ -7,13 +7,13 @@ ghost use Rattle.paced_images.specs.Programs.{IsProgramFound};
 use crate::noted::notes_by;
 use crate::scaling::{Marked, Scaling, marked_of, scaling_of};
 use crate::wanted::SwitchSite;
+use answer_parts::check_unscaled;
 use elf_image::ImageView;
 use elf_view::read_image;
 use loop_file::read_loops;
 use machine_file::read_machine;
 use power_model::Power;
 use scale_base::Stop;
-use scaler::check_unscaled;
 use std::alloc::Global;
 
 /// A machine, an image, its marks and its stubs.

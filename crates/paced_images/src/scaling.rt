@@ -20,6 +20,7 @@ ghost use Rattle.paced_images.specs.declared.wanted.SwitchSite.{SwitchSite};
 
 use crate::stubs::{Marking, stub_sites};
 use crate::wanted::{SwitchSite, lowest_flags, tallied_flags, wanted_flags};
+use answer_parts::time_at;
 use code_graph::build_graph;
 use elf_image::ImageView;
 use elf_patch::write_image;
@@ -32,7 +33,7 @@ use loop_tree::build_loops;
 use power_model::Power;
 use scale_base::{NoMemory, Stop, Summary};
 use scale_sites::{CounterList, Sites, choose_where, counters, form_sites};
-use scaler::{block_of, count_edges, starting_level, time_at};
+use scaler::{block_of, count_edges, starting_level};
 use std::alloc::Global;
 use stub_writer::{StubBlock, StubSite, block_len};
 use worst_cycles::worst;

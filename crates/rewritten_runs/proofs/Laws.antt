@@ -11,6 +11,7 @@ pub use Rattle.rewritten_runs.proofs.Marked.{countable, counted_at, counted_is, 
 pub use Rattle.rewritten_runs.proofs.Marked.{marks_of_edge, program_is, shadow_of}
 pub use Rattle.rewritten_runs.proofs.PlainMarks.{IsPlainMark, plain_marks, rule_marks}
 pub use Rattle.rewritten_runs.proofs.Programs.{kept_by_tree, listed_weights, numbers_listed, program_of, weights_count, weights_hold, weights_listed}
+pub use Rattle.rewritten_runs.proofs.Ranges.{rest_in_range, slack_in_range, turns_in_range}
 pub use Rattle.rewritten_runs.proofs.Short.{block_bytes_len, block_short}
 pub use Rattle.rewritten_runs.proofs.Supplied.{IsSupplied}
 pub use Rattle.rewritten_runs.proofs.TableLaws.{rows_count, shift_fits, tally_fits}

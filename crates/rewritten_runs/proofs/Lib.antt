@@ -16,5 +16,6 @@ pub mod Ended
 pub mod Follows
 pub mod Law
 pub mod Grows
+pub mod Ranges
 pub mod CallWeights
 pub mod Laws

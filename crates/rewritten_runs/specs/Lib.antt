@@ -1,5 +1,6 @@
 pub mod Prices
 pub mod Stubs
 pub mod Promise
+pub mod FilePromise
 pub mod Followed
 pub mod Laws

@@ -6,8 +6,7 @@ use Rattle.scale_base.specs.declared.summary.Summary.{Summary}
 use Rattle.scale_base.specs.declared.verdict.Verdict.{Verdict}
 use Rattle.scale_base.specs.declared.verdict.Verdict.TheVariants.{Yes}
 use Rattle.scale_report.specs.Texts.{verdict_text}
-use Rattle.image_check.specs.Agreeing.{RewrittenImagesPass}
-use Rattle.image_check.specs.Passing.{checked_as}
+use Rattle.check_laws.specs.Passing.{RewrittenImagesPass, checked_as}
 use Rattle.host_files.specs.HostState.{Files, HostState}
 use Rattle.host_runs.specs.Answer.{Answer}
 use Rattle.host_runs.specs.Command.{AnswersTo, HasAnswer}

@@ -4,7 +4,7 @@ use Rattle.scale_base.specs.declared.summary.Summary.{Summary}
 use Rattle.scale_base.specs.declared.verdict.Verdict.TheVariants.{Yes}
 use Rattle.scale_report.specs.Texts.{verdict_text}
 use Rattle.scaler.specs.Rewritten.{IsRewritten}
-use Rattle.image_check.specs.Passing.{checked_as}
+use Rattle.check_laws.specs.Passing.{checked_as}
 use Rattle.host_files.specs.HostState.{HostState}
 use Rattle.host_runs.specs.Delivered.{IsDelivered}
 use Rattle.host_runs.specs.Loading.{IfWhole, loading_of}

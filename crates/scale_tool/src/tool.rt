@@ -14,9 +14,9 @@ ghost use Rattle.scale_tool.specs.Views.{work_view};
 use crate::command::{Command, Work, parse, wants};
 use crate::reply::made;
 use crate::texts;
+use check_laws::rewritten_images_pass;
 use host_files::{Host, HostError};
 use host_runs::{AllLoaded, Reply, deliver, load_all};
-use image_check::rewritten_images_pass;
 use std::alloc::Global;
 
 /// Loads the files, and makes what is made of them.

@@ -12,7 +12,8 @@ use Rattle.power_model.specs.Numbers.{PowerModel}
 use Rattle.machine_file.specs.Machine.{read_machine}
 use Rattle.loop_file.specs.declared.notes.LoopNote.{LoopNote}
 use Rattle.loop_file.specs.Loops.{read_loops}
-use Rattle.scaler.specs.Held.{IsHeld, IsHeldProgram, Then, unscaled}
+use Rattle.answer_parts.specs.Parts.{Then, unscaled}
+use Rattle.scaler.specs.Held.{IsHeld, IsHeldProgram}
 
 -- ---- the parts in their order
 

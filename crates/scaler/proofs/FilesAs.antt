@@ -12,7 +12,7 @@ use Rattle.power_model.specs.Numbers.{PowerModel, IsPowerModel}
 use Rattle.machine_file.specs.Machine.{read_machine}
 use Rattle.loop_file.specs.declared.notes.LoopNote.{LoopNote}
 use Rattle.loop_file.specs.Loops.{read_loops}
-use Rattle.scaler.specs.Held.{unscaled}
+use Rattle.answer_parts.specs.Parts.{unscaled}
 use Rattle.scaler.specs.Rewritten.{IsRewrittenProgram}
 use Rattle.scaler.specs.RewrittenAs.{IsRewrittenAs, with_gain, notes_with}
 use Rattle.scaler.proofs.Files.{HoldAnswers, then_stops, then_goes}

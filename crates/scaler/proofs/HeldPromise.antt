@@ -24,7 +24,8 @@ use Rattle.rewritten_runs.specs.Prices.{price_of}
 use Rattle.rewritten_runs.specs.Promise.{EndsAsPromised, KeepsThePromise}
 use Rattle.rewritten_runs.proofs.Laws.{kept_by_tree, program_of}
 use Rattle.scaler.specs.Held.{IsHeld, held_summary}
-use Rattle.scaler.specs.Promise.{FilesKeepThePromise, IsStoredSafely}
+use Rattle.rewritten_runs.specs.FilePromise.{FilesKeepThePromise}
+use Rattle.scaler.specs.Promise.{IsStoredSafely}
 use Rattle.scaler.specs.Runs.{IsAsPrinted}
 use Rattle.scaler.proofs.Bases.{file_is}
 use Rattle.scaler.proofs.HeldRuns.{runs_alike, printed, no_ports, found_in_time}

@@ -5,6 +5,7 @@ pub mod HeldRuns
 pub mod Safe
 pub mod SafeRewritten
 pub mod FilesAs
+pub mod FilesRewritten
 pub mod SafeAs
 pub mod HeldPromise
 pub mod MarkingLaws
@@ -15,7 +16,6 @@ pub mod ExtraFacts
 pub mod EdgeBlocks
 pub mod MarkedKinds
 pub mod SiteLists
-pub mod Ranges
 pub mod MarkingFacts
 pub mod ScalingFacts
 pub mod ProgramFacts

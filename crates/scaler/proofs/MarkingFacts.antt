@@ -41,7 +41,7 @@ use Rattle.scaler.specs.declared.stubs.Marking.{Marking}
 use Rattle.scaler.specs.Markings.{IsMarking}
 use Rattle.scaler.specs.Scalings.{HasMarks, AreSitesFound, IsMarkedAt, IsMarkingFound, chosen_level, starting_of}
 use Rattle.scaler.proofs.ExtraFacts.{past_end}
-use Rattle.scaler.proofs.Ranges.{slack_in_range, rest_in_range, turns_in_range}
+use Rattle.rewritten_runs.proofs.Laws.{slack_in_range, rest_in_range, turns_in_range}
 
 -- ---- the program
 

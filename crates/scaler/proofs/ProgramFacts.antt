@@ -13,7 +13,7 @@ use Rattle.stub_writer.specs.Sites.{site_of}
 use Rattle.rewritten_runs.specs.Stubs.{rewritten_file as stored_bytes, marks_by_slack}
 use Rattle.scaler.specs.declared.rewriting.Scaling.{Scaling}
 use Rattle.scaler.specs.declared.rewriting.Program.{Program}
-use Rattle.scaler.specs.Held.{Then, unscaled}
+use Rattle.answer_parts.specs.Parts.{Then, unscaled}
 use Rattle.scaler.specs.Rewritten.{IsRewritten, IsRewrittenProgram, rewritten_summary, unless_out_of_reach}
 use Rattle.scaler.specs.Scalings.{IsScaled, IsProgramFrom}
 use Rattle.scaler.proofs.Bases.{file_is}

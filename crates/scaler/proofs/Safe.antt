@@ -29,7 +29,8 @@ use Rattle.graph_runs.proofs.Laws.{image_runs_are_below, image_runs_end}
 use Rattle.loop_file.specs.declared.notes.LoopNote.{LoopNote}
 use Rattle.loop_file.specs.Loops.{read_loops}
 use Rattle.loop_file.specs.Kept.{noted_loops}
-use Rattle.scaler.specs.Held.{IsHeld, IsProgramHeld, IsHeldProgram, Then, held_at, held_from, held_file, held_summary, unscaled}
+use Rattle.answer_parts.specs.Parts.{Then, unscaled}
+use Rattle.scaler.specs.Held.{IsHeld, IsProgramHeld, IsHeldProgram, held_at, held_from, held_file, held_summary}
 use Rattle.scaler.specs.Runs.{IsHeldSafely, KeptAsPrinted, KeptRunsEndAsPrinted}
 use Rattle.scaler.proofs.Bases.{file_is}
 use Rattle.scaler.proofs.HeldRuns.{runs_alike, printed}

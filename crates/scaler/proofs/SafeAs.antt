@@ -23,9 +23,10 @@ use Rattle.stub_writer.specs.Stubs.{out_of_reach}
 use Rattle.rewritten_runs.specs.Stubs.{rewritten_file, marks_by_slack}
 use Rattle.rewritten_runs.specs.Promise.{EndsAsPromised, KeepsThePromise}
 use Rattle.rewritten_runs.proofs.Laws.{rewritten_follow}
-use Rattle.scaler.specs.Held.{unscaled}
+use Rattle.answer_parts.specs.Parts.{unscaled}
 use Rattle.scaler.specs.Rewritten.{IsProgramRewritten, rewritten_summary}
-use Rattle.scaler.specs.Promise.{FilesKeepThePromise, IsStoredSafely}
+use Rattle.rewritten_runs.specs.FilePromise.{FilesKeepThePromise}
+use Rattle.scaler.specs.Promise.{IsStoredSafely}
 use Rattle.scaler.specs.RewrittenAs.{IsRewrittenAs, with_gain, notes_with}
 use Rattle.scaler.proofs.FilesAs.{model_with}
 use Rattle.scaler.proofs.HeldRuns.{found_in_time}

@@ -18,9 +18,10 @@ use Rattle.rewritten_runs.specs.Stubs.{rewritten_file, marks_by_slack, stored_we
 use Rattle.rewritten_runs.specs.Promise.{KeepsThePromise}
 use Rattle.rewritten_runs.specs.Followed.{FollowsInTime}
 use Rattle.rewritten_runs.proofs.Laws.{rewritten_follow}
-use Rattle.scaler.specs.Held.{unscaled}
+use Rattle.answer_parts.specs.Parts.{unscaled}
 use Rattle.scaler.specs.Rewritten.{IsRewritten, IsRewrittenProgram, IsProgramRewritten, rewritten_summary, unless_out_of_reach}
-use Rattle.scaler.specs.Promise.{FilesKeepThePromise, IsStoredSafely}
+use Rattle.rewritten_runs.specs.FilePromise.{FilesKeepThePromise}
+use Rattle.scaler.specs.Promise.{IsStoredSafely}
 use Rattle.scaler.specs.RewrittenRuns.{IsProgramStored, IsRewrittenSafely}
 use Rattle.scaler.proofs.HeldRuns.{found_in_time}
 use Rattle.scaler.proofs.Safe.{then_ok, is_unscaled}

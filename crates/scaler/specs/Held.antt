@@ -1,9 +1,8 @@
 -- What `hold` gives: the image with an empty keyed segment, which starts it at the slowest level at which its worst case is in time.
 -- It is a relation, since a refusal may name any of several cycles.
 use Rattle.std.specs.Prelude.{◌≡◌, ◌⊎◌, ℕ, nat_lt, if◌then◌else◌, List, [], Option, Some, None, Result, Ok, Err}
-use Rattle.scale_base.specs.declared.ranges.Keyed.{Keyed}
 use Rattle.scale_base.specs.declared.refusal.Refusal.{Refusal}
-use Rattle.scale_base.specs.declared.refusal.Refusal.TheVariants.{AlreadyScaled, DeadlineMissed, TooLong}
+use Rattle.scale_base.specs.declared.refusal.Refusal.TheVariants.{DeadlineMissed, TooLong}
 use Rattle.scale_base.specs.declared.summary.Summary.{Summary}
 use Rattle.scale_base.specs.Image.{Image, image_of}
 use Rattle.power_model.specs.Numbers.{PowerModel}
@@ -20,6 +19,7 @@ use Rattle.code_text.specs.TextGraph.{text_graph}
 use Rattle.flow_graph.specs.FlowGraph.{FlowGraph, IsGraphOf}
 use Rattle.flow_graph.specs.Refused.{IsRefusedBy}
 use Rattle.loop_forest.specs.Tree.{LoopView, loops, IsTreeOf, IsTreeRefusal}
+use Rattle.answer_parts.specs.Parts.{Then, unscaled}
 
 -- ---- what is stored at a number of worst cycles
 
@@ -82,16 +82,6 @@ abbrev pub IsHeldProgram : PowerModel → Image → List LoopNote → Result (Li
 IsHeldProgram power image notes answer = IsCodeRefused image answer ⊎ (IsLoopRefused image notes answer ⊎ IsProgramHeld power image notes answer)
 
 -- ---- what the files give
-
--- the image has no keyed segment yet
-abbrev pub unscaled : Option Keyed → Result (Unit {0}) Refusal
-unscaled None = Ok tt
-unscaled (Some keyed) = Err AlreadyScaled
-
--- a part that may refuse, and what follows it
-abbrev pub Then : {A B : Type 0} → Result A Refusal → (A → Result B Refusal → Type 0) → Result B Refusal → Type 0
-Then (Err refusal) next answer = answer ≡ Err refusal
-Then (Ok part) next answer = next part answer
 
 -- The stored bytes and the summary, or the first refusal: of the machine file, of the image, of a keyed segment, of the loop file, of the
 -- code, of its loops, of too many worst cycles, and of the deadline.

@@ -20,7 +20,8 @@ use Rattle.loop_forest.specs.Tree.{LoopView, IsTreeOf}
 use Rattle.scale_base.specs.declared.fragments.Mark.{Mark}
 use Rattle.scale_sites.specs.Counters.{AreCounters}
 use Rattle.stub_writer.specs.Stubs.{Site, block_size, out_of_reach}
-use Rattle.scaler.specs.Held.{IsCodeRefused, IsLoopRefused, Then, unscaled}
+use Rattle.answer_parts.specs.Parts.{Then, unscaled}
+use Rattle.scaler.specs.Held.{IsCodeRefused, IsLoopRefused}
 use Rattle.rewritten_runs.specs.Stubs.{IsWeighed, HasStubs, rewritten_file, marks_by_slack, is_switch, is_exit_mark, is_count, edges_with}
 
 -- ---- what is stored

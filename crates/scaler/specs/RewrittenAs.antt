@@ -8,7 +8,7 @@ use Rattle.machine_file.specs.Machine.{read_machine}
 use Rattle.loop_file.specs.declared.notes.LoopNote.{LoopNote}
 use Rattle.loop_file.specs.Loops.{read_loops}
 use Rattle.loop_file.specs.Notes.{uncounted_note}
-use Rattle.scaler.specs.Held.{Then, unscaled}
+use Rattle.answer_parts.specs.Parts.{Then, unscaled}
 use Rattle.scaler.specs.Rewritten.{IsRewrittenProgram}
 
 -- the machine with another number of cycles of slack from which on an edge gets a switch

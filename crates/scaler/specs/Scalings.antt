@@ -29,7 +29,7 @@ use Rattle.scaler.specs.Markings.{IsMarking}
 use Rattle.scaler.specs.declared.rewriting.Marked.{Marked}
 use Rattle.scaler.specs.declared.rewriting.Scaling.{Scaling}
 use Rattle.scaler.specs.declared.rewriting.Program.{Program}
-use Rattle.scaler.specs.Held.{unscaled}
+use Rattle.answer_parts.specs.Parts.{unscaled}
 use Rattle.scaler.specs.Rewritten.{IsRewritten, IsRewrittenProgram, rewritten_summary}
 
 -- ---- the marks

@@ -22,7 +22,7 @@ mod stubs;
 pub use planning::plan;
 pub use rewriting::{EdgeCounts, block_of, count_edges, rewrite, starting_level};
 pub use rewriting_as::rewrite_as;
-pub use safe_level::{check_unscaled, hold, time_at, weights_of};
+pub use safe_level::{hold, weights_of};
 
 /// What `hold` stores is safe: on every input and after every number of steps its run is that of the original image, and as long
 /// as that run keeps the loops' bounds and the return addresses it takes at most the printed cycles, at most the printed time,

@@ -18,8 +18,9 @@ ghost use Rattle.scaler.specs.Rewritten as rewritten;
 ghost use Rattle.scaler.specs.RewrittenRuns.{IsRewrittenSafely};
 ghost use Rattle.scaler.specs.Scalings as scalings;
 
-use crate::safe_level::{check_unscaled, time_at, weights_of};
+use crate::safe_level::weights_of;
 use crate::stubs::{Marking, stub_sites};
+use answer_parts::{check_unscaled, time_at};
 use code_graph::build_graph;
 use elf_image::ImageView;
 use elf_patch::{stub_base, write_image};
@@ -285,6 +286,25 @@ fn rewritten_file(
     )
 }
 
+/// The image of a marked program with its stubs, or that one is out of reach.
+fn rewrite_marked(
+    alloc: Global,
+    view: &ImageView<'_>,
+    power: &Power,
+    marked: &Marked,
+) -> Result<(Vec<u8>, Summary), Stop>
+    requires read { image_of view.now.file ≡ Ok view.now }
+    requires file { length view.now.file ≤ 4194304 }
+    requires no_key { view.now.keyed_segment ≡ None }
+    requires power { IsPowerModel power.now }
+    requires marked { (notes : List LoopNote) × scalings.IsMarked power.now view.now notes marked.now }
+    ensures { (notes : List LoopNote) → scalings.IsMarked power.now view.now notes marked.now → AnswersBy (λ given. (given.0.items, given.1)) result (rewritten.IsRewrittenProgram power.now view.now notes) }
+{
+    let scaling = scaling_of(alloc, view, power, marked)?;
+    let bytes = rewritten_file(alloc, view, &scaling)?;
+    Ok((bytes, scaling.summary))
+}
+
 /// The image of a program with its stubs, or the first refusal of its code, of its loops, or of its numbers.
 pub fn rewrite_program(
     alloc: Global,
@@ -299,9 +319,7 @@ pub fn rewrite_program(
     ensures { AnswersBy (λ given. (given.0.items, given.1)) result (rewritten.IsRewrittenProgram power.now view.now notes.now) }
 {
     let marked = marked_of(alloc, view, power, notes)?;
-    let scaling = scaling_of(alloc, view, power, &marked)?;
-    let bytes = rewritten_file(alloc, view, &scaling)?;
-    Ok((bytes, scaling.summary))
+    rewrite_marked(alloc, view, power, &marked)
 }
 
 /// The program of three files: its machine, its image, its marks and its stubs.
@@ -346,9 +364,11 @@ fn rewrite_files(
     requires { length image.now ≤ 4194304 }
     ensures { AnswersBy (λ given. (given.0.items, given.1)) result (rewritten.IsRewritten image.now machine.now loops.now) }
 {
-    let program = program_of(alloc, image, machine, loops)?;
-    let bytes = rewritten_file(alloc, &program.view, &program.scaling)?;
-    Ok((bytes, program.scaling.summary))
+    let power = read_machine(alloc, machine)?;
+    let view = read_image(alloc, image)?;
+    check_unscaled(view.keyed())?;
+    let notes = read_loops(alloc, loops, &view)?;
+    rewrite_program(alloc, &view, &power, &notes)
 }
 
 /// The image with stubs that lower its level where what is left of the worst case allows it, started at the slowest level at which its

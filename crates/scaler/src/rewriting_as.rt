@@ -6,7 +6,7 @@ ghost use Rattle.scaler.specs.Promise.{IsStoredSafely};
 ghost use Rattle.scaler.specs.RewrittenAs as variant;
 
 use crate::rewriting::rewrite_program;
-use crate::safe_level::check_unscaled;
+use answer_parts::check_unscaled;
 use elf_view::read_image;
 use loop_file::{LoopNotes, read_loops};
 use machine_file::read_machine;

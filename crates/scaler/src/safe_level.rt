@@ -1,12 +1,13 @@
 //! A program that runs at one level, the slowest that is safe.
 
-ghost use Rattle.std.specs.Prelude.{◌≡◌, ◌≤◌, ◌<◌, ◌*◌, [], map, length, None, Ok, IfOk};
+ghost use Rattle.std.specs.Prelude.{◌≡◌, ◌≤◌, map, length, None, IfOk};
 ghost use Rattle.scale_base.specs.Answer.{Answers, AnswersBy};
-ghost use Rattle.power_model.specs.Price.{cycles_of, time_at};
+ghost use Rattle.power_model.specs.Price.{cycles_of};
 ghost use Rattle.code_text.specs.EdgeCosts.{cost_of};
 ghost use Rattle.scaler.specs.Held as held;
 ghost use Rattle.scaler.specs.Runs.{IsHeldSafely};
 
+use answer_parts::{check_unscaled, time_at};
 use code_graph::build_graph;
 use elf_image::ImageView;
 use elf_patch::{stub_base, write_image};
@@ -16,27 +17,9 @@ use loop_file::{LoopNotes, read_loops};
 use loop_tree::build_loops;
 use machine_file::read_machine;
 use power_model::{Power, slowest};
-use scale_base::{Keyed, NoMemory, Refusal, Stop, Summary};
+use scale_base::{NoMemory, Refusal, Stop, Summary};
 use std::alloc::Global;
 use worst_cycles::worst;
-
-/// No keyed segment is there yet: `AlreadyScaled` exactly where there is one.
-pub fn check_unscaled(keyed: Option<Keyed>) -> Result<(), Refusal>
-    ensures { result ≡ held.unscaled keyed }
-{
-    match keyed {
-        Some(_) => Err(Refusal::AlreadyScaled),
-        None => Ok(()),
-    }
-}
-
-/// So many cycles in time units at a level.
-pub fn time_at(power: &Power, worst: u64, i: u8) -> u128
-    requires { i < length power.now.levels }
-    ensures { result ≡ time_at power.now i worst }
-{
-    u128::from(worst) * u128::from(power.levels.get(i).period)
-}
 
 /// The image with an empty keyed segment and a starting level.
 fn held_file(alloc: Global, view: &ImageView<'_>, start: u8) -> Result<Vec<u8>, NoMemory>

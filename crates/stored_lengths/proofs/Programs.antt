@@ -17,7 +17,8 @@ use Rattle.elf_patch.specs.Stored.{held_base, stored_image}
 use Rattle.stub_writer.specs.Stubs.{Site, block_bytes, block_size, jump, out_of_reach, patches_from, stub_len}
 use Rattle.rewritten_runs.specs.Stubs.{marks_by_slack, rewritten_file}
 use Rattle.rewritten_runs.proofs.Laws.{block_bytes_len, supplied}
-use Rattle.scaler.specs.Held.{held_at, held_file, held_from, held_summary, unscaled}
+use Rattle.answer_parts.specs.Parts.{unscaled}
+use Rattle.scaler.specs.Held.{held_at, held_file, held_from, held_summary}
 use Rattle.scaler.specs.Rewritten.{IsProgramRewritten, IsRewrittenProgram, rewritten_summary}
 use Rattle.scaler.specs.RewrittenAs.{IsRewrittenAs, notes_with, with_gain}
 use Rattle.scaler.proofs.Laws.{file_is, held_parts, is_unscaled, near_of, read_again, rewritten_parts, then_ok}

@@ -14,6 +14,7 @@ use crate::sums::{Sums, weight_of};
 use crate::tracing::EdgeTrace;
 use crate::turning::LoopPlan;
 use crate::walking::{WALKS, WalkPlan, walked};
+use answer_parts::check_unscaled;
 use code_graph::build_graph;
 use elf_image::ImageView;
 use elf_view::read_image;
@@ -24,7 +25,6 @@ use loop_tree::build_loops;
 use machine_file::read_machine;
 use power_model::Power;
 use scale_base::{NoMemory, Stop};
-use scaler::check_unscaled;
 use speed_sim::{End, start_of, watched_report};
 use std::alloc::Global;
 

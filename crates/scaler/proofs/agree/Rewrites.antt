@@ -23,7 +23,8 @@ use Rattle.scale_sites.specs.Counters.{counted_loops}
 use Rattle.stub_writer.specs.Stubs.{Site, block_size, out_of_reach}
 use Rattle.rewritten_runs.specs.Stubs.{IsWeighed, rewritten_file, marks_by_slack, told_at, fragment_of, fragments_at}
 use Rattle.rewritten_runs.proofs.Laws.{led_class, marked_led}
-use Rattle.scaler.specs.Held.{IsLoopRefused, unscaled}
+use Rattle.answer_parts.specs.Parts.{unscaled}
+use Rattle.scaler.specs.Held.{IsLoopRefused}
 use Rattle.scaler.specs.Rewritten.{IsCounterRefused, IsTooLong, IsTooLate, IsProgramRewritten, IsRewrittenProgram, IsRewritten, rewritten_summary, unless_out_of_reach}
 use Rattle.scaler.specs.RewrittenAs.{IsRewrittenAs, with_gain, notes_with}
 use Rattle.scaler.specs.Agree.{AreAlikeAnswers, RewrittenAnswersAgree, RewrittenAsAnswersAgree}

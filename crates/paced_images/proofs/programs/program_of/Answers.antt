@@ -8,7 +8,7 @@ use Rattle.power_model.specs.Numbers.{PowerModel}
 use Rattle.machine_file.specs.Machine.{read_machine}
 use Rattle.loop_file.specs.declared.notes.LoopNote.{LoopNote}
 use Rattle.loop_file.specs.Loops.{read_loops}
-use Rattle.scaler.specs.Held.{unscaled}
+use Rattle.answer_parts.specs.Parts.{unscaled}
 use Rattle.scaler.proofs.Laws.{HoldAnswers, read_again}
 use Rattle.paced_images.specs.declared.programs.Program.{Program}
 use Rattle.paced_images.specs.declared.scaling.Marked.{Marked}

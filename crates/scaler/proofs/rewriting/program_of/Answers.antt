@@ -12,34 +12,13 @@ use Rattle.loop_file.specs.Loops.{read_loops}
 use Rattle.scaler.specs.declared.rewriting.Marked.{Marked}
 use Rattle.scaler.specs.declared.rewriting.Program.{Program}
 use Rattle.scaler.specs.declared.rewriting.Scaling.{Scaling}
-use Rattle.scaler.specs.Held.{unscaled}
+use Rattle.answer_parts.specs.Parts.{unscaled}
 use Rattle.scaler.specs.Rewritten.{IsRewritten}
 use Rattle.scaler.specs.Scalings.{IsMarkedFound, IsScalingFound, IsProgramFound}
-use Rattle.scaler.proofs.Files.{HoldAnswers, then_stops, then_goes}
+use Rattle.scaler.proofs.Files.{HoldAnswers}
+use Rattle.scaler.proofs.FilesRewritten.{machine_stops, image_stops, key_stops, loops_stop}
 use Rattle.scaler.proofs.ProgramFacts.{files_answer, read_again}
 use Rattle.scaler.proofs.rewriting.program_of.Goals as goal
-
--- ---- the parts in their order
-
-machine_stops : (image machine loops : List ℕ) (stop : Stop) → Stops stop (read_machine machine) → HoldAnswers (Err stop) (IsRewritten image machine loops)
-unfolding IsRewritten
-machine_stops image machine loops stop h = then_stops (read_machine machine) _ stop h
-
-image_stops : (image machine loops : List ℕ) (power : PowerModel) (stop : Stop) → read_machine machine ≡ Ok power → Stops stop (image_of image) → HoldAnswers (Err stop) (IsRewritten image machine loops)
-unfolding IsRewritten
-image_stops image machine loops power stop a h = then_goes (read_machine machine) power _ (Err stop) a (then_stops (image_of image) _ stop h)
-
-key_stops : (image machine loops : List ℕ) (power : PowerModel) (original : Image) (refusal : Refusal) → read_machine machine ≡ Ok power → image_of image ≡ Ok original → unscaled original.keyed_segment ≡ Err refusal →
-    HoldAnswers (Err (Refused refusal)) (IsRewritten image machine loops)
-unfolding IsRewritten
-key_stops image machine loops power original refusal a b h =
-    then_goes (read_machine machine) power _ (Err (Refused refusal)) a (then_goes (image_of image) original _ (Err (Refused refusal)) b (then_stops (unscaled original.keyed_segment) _ (Refused refusal) h))
-
-loops_stop : (image machine loops : List ℕ) (power : PowerModel) (original : Image) (stop : Stop) → read_machine machine ≡ Ok power → image_of image ≡ Ok original → unscaled original.keyed_segment ≡ Ok tt →
-    Stops stop (read_loops original loops) → HoldAnswers (Err stop) (IsRewritten image machine loops)
-unfolding IsRewritten
-loops_stop image machine loops power original stop a b c h =
-    then_goes (read_machine machine) power _ (Err stop) a (then_goes (image_of image) original _ (Err stop) b (then_goes (unscaled original.keyed_segment) tt _ (Err stop) c (then_stops (read_loops original loops) _ stop h)))
 
 -- ---- the program
 

@@ -1,36 +1,43 @@
-use Rattle.std.proofs.Common.{ℕ, List, Err}
+use Rattle.std.proofs.Common.{rules}
 use Rattle.std.proofs.lemmas.Result.{err_from_is_err_and}
-use Rattle.scale_base.specs.declared.refusal.Stop.{Stop}
-use Rattle.scale_base.specs.declared.refusal.Stop.TheVariants.{Refused, Memory}
-use Rattle.scale_base.specs.Answer.{AnswersBy}
-use Rattle.scaler.specs.declared.rewriting.Program.{Program}
-use Rattle.scaler.specs.Rewritten.{IsRewritten}
-use Rattle.scaler.specs.Scalings.{IsProgramFound}
 use Rattle.scaler.proofs.Bases.{file_is}
-use Rattle.scaler.proofs.Files.{HoldAnswers}
-use Rattle.scaler.proofs.ProgramFacts.{no_key, read_again, files_given}
+use Rattle.scaler.proofs.FilesRewritten.{machine_stops, image_stops, key_stops, loops_stop, program_answers}
+use Rattle.scaler.proofs.ProgramFacts.{no_key, read_again}
 use Rattle.scaler.proofs.rewriting.rewrite_files.Goals as goal
 
-program_stops : (image machine loops : List ℕ) (stop : Stop) → AnswersBy {X = Program} {Y = Program} (λ p. p) (Err stop) (IsProgramFound image machine loops) → HoldAnswers (Err stop) (IsRewritten image machine loops)
-program_stops image machine loops (Refused refusal) h = h
-program_stops image machine loops Memory h = tt
+pub rewrite_program-requires-clause-read : goal.rewrite_program-requires-clause-read
+rewrite_program-requires-clause-read c = read_again c.args.image.now c.in_ok-view.view c.in_ok-view.ensures
 
-pub rewritten_file-requires-clause-read : goal.rewritten_file-requires-clause-read
-rewritten_file-requires-clause-read c = let p = c.in_ok-program.program in read_again c.args.image.now p.view c.in_ok-program.ensures.view_is
+pub rewrite_program-requires-clause-file : goal.rewrite_program-requires-clause-file
+rewrite_program-requires-clause-file c = rw (file_is c.args.image.now c.in_ok-view.view c.in_ok-view.ensures) c.requires
 
-pub rewritten_file-requires-clause-file : goal.rewritten_file-requires-clause-file
-rewritten_file-requires-clause-file c = let p = c.in_ok-program.program in rw (file_is c.args.image.now p.view c.in_ok-program.ensures.view_is) c.requires
+pub rewrite_program-requires-clause-no_key : goal.rewrite_program-requires-clause-no_key
+rewrite_program-requires-clause-no_key c = no_key c.in_ok-view.view.keyed_segment (search rules)
 
-pub rewritten_file-requires-clause-no_key : goal.rewritten_file-requires-clause-no_key
-rewritten_file-requires-clause-no_key c = let p = c.in_ok-program.program in no_key p.view.keyed_segment c.in_ok-program.ensures.unscaled
+pub rewrite_program-requires-clause-power : goal.rewrite_program-requires-clause-power
+rewrite_program-requires-clause-power c = c.in_ok-power.ensures.in_range
 
-pub rewritten_file-requires-clause-scaled : goal.rewritten_file-requires-clause-scaled
-rewritten_file-requires-clause-scaled c = let p = c.in_ok-program.program in let h = c.in_ok-program.ensures in (p.power, h.notes, h.in_range, h.scaled)
-
-pub returns-in_err-program : goal.returns-in_err-program
-returns-in_err-program c =
+pub returns-in_err-power : goal.returns-in_err-power
+returns-in_err-power c =
     let p = err_from_is_err_and c.from_residual.result c.from_residual.ensures.1 in
-    rw (p.1, p.2) (program_stops c.args.image.now c.args.machine.now c.args.loops.now c.in_err-program.field-0.0 c.in_err-program.ensures)
+    rw (p.1, p.2) (machine_stops c.args.image.now c.args.machine.now c.args.loops.now c.in_err-power.field-0.0 c.in_err-power.ensures.answers)
+
+pub returns-in_err-view : goal.returns-in_err-view
+returns-in_err-view c =
+    let p = err_from_is_err_and c.from_residual-in_err-view.result c.from_residual-in_err-view.ensures.1 in
+    rw (p.1, p.2) (image_stops c.args.image.now c.args.machine.now c.args.loops.now c.in_ok-power.power c.in_err-view.field-0.0 c.in_ok-power.ensures.answers c.in_err-view.ensures)
+
+pub returns-in_err-check_unscaled : goal.returns-in_err-check_unscaled
+returns-in_err-check_unscaled c =
+    let p = err_from_is_err_and c.from_residual-in_err-check_unscaled.result c.from_residual-in_err-check_unscaled.ensures.1 in
+    rw (p.1, p.2) (key_stops c.args.image.now c.args.machine.now c.args.loops.now c.in_ok-power.power c.in_ok-view.view c.in_err-check_unscaled.field-0.0 c.in_ok-power.ensures.answers c.in_ok-view.ensures
+    (search rules))
+
+pub returns-in_err-notes : goal.returns-in_err-notes
+returns-in_err-notes c =
+    let p = err_from_is_err_and c.from_residual-in_err-notes.result c.from_residual-in_err-notes.ensures.1 in
+    rw (p.1, p.2) (loops_stop c.args.image.now c.args.machine.now c.args.loops.now c.in_ok-power.power c.in_ok-view.view c.in_err-notes.field-0.0 c.in_ok-power.ensures.answers c.in_ok-view.ensures (search rules) c.in_err-notes.ensures)
 
 pub returns : goal.returns
-returns c = files_given c.args.image.now c.args.machine.now c.args.loops.now c.in_ok-program.program c.in_ok-bytes.bytes.items c.in_ok-program.ensures c.in_ok-bytes.ensures
+returns c =
+    program_answers c.args.image.now c.args.machine.now c.args.loops.now c.in_ok-power.power c.in_ok-view.view c.in_ok-notes.notes c.rewrite_program.result c.in_ok-power.ensures.answers c.in_ok-view.ensures (search rules) c.in_ok-notes.ensures c.rewrite_program.ensures

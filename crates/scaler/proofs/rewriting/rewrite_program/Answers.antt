@@ -7,36 +7,22 @@ use Rattle.scale_base.specs.Image.{Image}
 use Rattle.power_model.specs.Numbers.{PowerModel}
 use Rattle.loop_file.specs.declared.notes.LoopNote.{LoopNote}
 use Rattle.scaler.specs.declared.rewriting.Marked.{Marked}
-use Rattle.scaler.specs.declared.rewriting.Scaling.{Scaling}
 use Rattle.scaler.specs.Rewritten.{IsRewrittenProgram}
-use Rattle.scaler.specs.Scalings.{IsMarkedFound, IsScalingFound}
+use Rattle.scaler.specs.Scalings.{IsMarkedFound}
 use Rattle.scaler.proofs.Files.{HoldAnswers}
-use Rattle.scaler.proofs.ProgramFacts.{program_given}
 use Rattle.scaler.proofs.rewriting.rewrite_program.Goals as goal
 
 marked_stops : (power : PowerModel) (image : Image) (notes : List LoopNote) (stop : Stop) → AnswersBy {X = Marked} {Y = Marked} (λ m. m) (Err stop) (IsMarkedFound power image notes) → HoldAnswers (Err stop) (IsRewrittenProgram power image notes)
 marked_stops power image notes (Refused refusal) h = h
 marked_stops power image notes Memory h = tt
 
-scaling_stops : (power : PowerModel) (image : Image) (notes : List LoopNote) (stop : Stop) → AnswersBy {X = Scaling} {Y = Scaling} (λ s. s) (Err stop) (IsScalingFound power image notes) → HoldAnswers (Err stop) (IsRewrittenProgram power image notes)
-scaling_stops power image notes (Refused refusal) h = h
-scaling_stops power image notes Memory h = tt
-
-pub scaling_of-requires-clause-marked : goal.scaling_of-requires-clause-marked
-scaling_of-requires-clause-marked c = (c.args.notes.now, c.in_ok-marked.ensures)
-
-pub rewritten_file-requires-clause-scaled : goal.rewritten_file-requires-clause-scaled
-rewritten_file-requires-clause-scaled c = (c.args.power.now, c.args.notes.now, c.requires.power, c.in_ok-scaling.ensures c.args.notes.now c.in_ok-marked.ensures)
+pub rewrite_marked-requires-clause-marked : goal.rewrite_marked-requires-clause-marked
+rewrite_marked-requires-clause-marked c = (c.args.notes.now, c.in_ok-marked.ensures)
 
 pub returns-in_err-marked : goal.returns-in_err-marked
 returns-in_err-marked c =
     let p = err_from_is_err_and c.from_residual.result c.from_residual.ensures.1 in
     rw (p.1, p.2) (marked_stops c.args.power.now c.args.view.now c.args.notes.now c.in_err-marked.field-0.0 c.in_err-marked.ensures)
 
-pub returns-in_err-scaling : goal.returns-in_err-scaling
-returns-in_err-scaling c =
-    let p = err_from_is_err_and c.from_residual-in_err-scaling.result c.from_residual-in_err-scaling.ensures.1 in
-    rw (p.1, p.2) (scaling_stops c.args.power.now c.args.view.now c.args.notes.now c.in_err-scaling.field-0.0 (c.in_err-scaling.ensures c.args.notes.now c.in_ok-marked.ensures))
-
 pub returns : goal.returns
-returns c = program_given c.args.power.now c.args.view.now c.args.notes.now c.in_ok-scaling.scaling c.in_ok-bytes.bytes.items (c.in_ok-scaling.ensures c.args.notes.now c.in_ok-marked.ensures) c.in_ok-bytes.ensures
+returns c = c.rewrite_marked.ensures c.args.notes.now c.in_ok-marked.ensures

@@ -12,12 +12,12 @@ use Rattle.loop_file.specs.Loops.{read_loops}
 use Rattle.stub_writer.specs.Stubs.{out_of_reach}
 use Rattle.rewritten_runs.specs.Stubs.{rewritten_file, marks_by_slack}
 use Rattle.rewritten_runs.proofs.Laws.{rewritten_follow}
-use Rattle.scaler.specs.Held.{Then, unscaled}
+use Rattle.answer_parts.specs.Parts.{Then, unscaled}
 use Rattle.scaler.specs.Rewritten.{rewritten_summary}
 use Rattle.scaler.proofs.Laws.{near_of, rewritten_parts}
 use Rattle.image_check.specs.Checked.{IsPassed, IsFileVerdict, IsChecked}
-use Rattle.image_check.specs.Passing.{checked_as, RewrittenFilesAreChecked}
-use Rattle.image_check.proofs.StoredSafe.{rewritten_safe}
+use Rattle.check_laws.specs.Passing.{checked_as, RewrittenFilesAreChecked}
+use Rattle.image_check.proofs.Laws.{rewritten_safe}
 
 -- what follows a part that was answered
 then_from : {A B : Type 0} (part : Result A Refusal) (next : A → Result B Refusal → Type 0) (x : A) (y : Result B Refusal) → part ≡ Ok x → next x y → Then part next y

@@ -1,8 +1,5 @@
--- A rewritten image is a safe one: what `rewrite` stores passes a check. As statements for the contracts of functions.
+-- A rewritten image is a safe one. As a statement for the contract of a function.
 use Rattle.std.specs.Prelude.{◌≡◌, ℕ, ◌≤◌, Bool, List, length, Some, None, Ok}
-use Rattle.scale_base.specs.declared.summary.Summary.{Summary}
-use Rattle.scale_base.specs.declared.verdict.Checked.{Checked}
-use Rattle.scale_base.specs.declared.verdict.Verdict.TheVariants.{Yes}
 use Rattle.scale_base.specs.Image.{Image, image_of}
 use Rattle.scale_base.specs.Run.{starting_level}
 use Rattle.power_model.specs.Numbers.{PowerModel, IsPowerModel}
@@ -18,9 +15,7 @@ use Rattle.loop_forest.specs.Tree.{LoopView, loops}
 use Rattle.stub_writer.specs.Stubs.{Site, out_of_reach}
 use Rattle.foreign_scan.specs.Scanned.{Found}
 use Rattle.rewritten_runs.specs.Stubs.{IsWeighed, HasStubs, rewritten_file}
-use Rattle.scaler.specs.Rewritten.{IsRewritten}
 use Rattle.image_check.specs.Safe.{Owner, IsSafeImage}
-use Rattle.image_check.specs.Checked.{IsChecked}
 
 -- the image is safe with some fragments and loops of counters, under these numbers, and its key starts it at this level
 pub record IsSafeAt (power : PowerModel) (original foreign : Image) (code : Code) (l : Loops) (extent : ℕ → ℕ → Bool) (n : Numbers) (least : Charged) (more : Numbers) (start : ℕ) : Type 0 where
@@ -36,14 +31,3 @@ RewrittenImagesAreSafe = (power : PowerModel) → IsPowerModel power → (file :
     → image_of file ≡ Ok original → original.keyed_segment ≡ None → length file ≤ 4194304 → IsWeighed power original notes v tree plain stored → stored.worst 0 ≤ 281474976710656 → slowest_of power (stored.worst 0) ≡ Some start
     → HasStubs power original v tree plain stored extra least sites base → out_of_reach base sites ≡ None → image_of (rewritten_file original sites base start) ≡ Ok foreign
     → IsSafeAt power original foreign v.code (loops v tree) (noted_loops notes).inside stored least extra start
-
--- ---- over the bytes of files
-
--- what a check says of an image with these numbers
-abbrev pub checked_as : Summary → Checked
-checked_as summary = record { start = summary.start; worst = summary.worst; time = summary.time; deadline = summary.deadline; stub_cycles = summary.stub_cycles }
-
--- Yes is an answer that a check may give of what is stored, with the numbers that were printed.
-abbrev pub RewrittenFilesAreChecked : Type 0
-RewrittenFilesAreChecked = (image machine loop_file stored : List ℕ) (summary : Summary) → length image ≤ 4194304 → length machine ≤ 1048576 → length loop_file ≤ 1048576
-    → IsRewritten image machine loop_file (Ok ((stored, summary))) → IsChecked image stored machine loop_file (Ok (Yes (checked_as summary)))

@@ -1,0 +1,2 @@
+pub mod PassedFiles
+pub mod PassedOnly

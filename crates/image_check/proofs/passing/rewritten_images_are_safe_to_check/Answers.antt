@@ -1,9 +1,0 @@
-use Rattle.image_check.proofs.PassedFiles.{files_checked}
-use Rattle.image_check.proofs.StoredSafe.{rewritten_safe}
-use Rattle.image_check.proofs.passing.rewritten_images_are_safe_to_check.Goals as goal
-
-pub returns-clause-images : goal.returns-clause-images
-returns-clause-images c = rewritten_safe
-
-pub returns-clause-files : goal.returns-clause-files
-returns-clause-files c = files_checked

@@ -1,0 +1,45 @@
+-- From the files to the rewritten program: what stops, and what goes on.
+use Rattle.std.proofs.Common.{◌≡◌, ℕ, List, Result, Ok, Err}
+use Rattle.std.specs.Prelude.{Vec}
+use Rattle.std.specs.declared.alloc.Global.{Global}
+use Rattle.scale_base.specs.declared.refusal.Refusal.{Refusal}
+use Rattle.scale_base.specs.declared.refusal.Stop.{Stop}
+use Rattle.scale_base.specs.declared.refusal.Stop.TheVariants.{Refused}
+use Rattle.scale_base.specs.declared.summary.Summary.{Summary}
+use Rattle.scale_base.specs.Answer.{Stops}
+use Rattle.scale_base.specs.Image.{Image, image_of}
+use Rattle.power_model.specs.Numbers.{PowerModel}
+use Rattle.machine_file.specs.Machine.{read_machine}
+use Rattle.loop_file.specs.declared.notes.LoopNote.{LoopNote}
+use Rattle.loop_file.specs.Loops.{read_loops}
+use Rattle.answer_parts.specs.Parts.{unscaled}
+use Rattle.scaler.specs.Rewritten.{IsRewritten, IsRewrittenProgram}
+use Rattle.scaler.proofs.Files.{HoldAnswers, then_stops, then_goes}
+
+module _ (image machine loops : List ℕ) where
+  pub machine_stops : (stop : Stop) → Stops stop (read_machine machine) → HoldAnswers (Err stop) (IsRewritten image machine loops)
+  unfolding IsRewritten
+  machine_stops stop h = then_stops (read_machine machine) _ stop h
+
+  pub image_stops : (power : PowerModel) (stop : Stop) → read_machine machine ≡ Ok power → Stops stop (image_of image) → HoldAnswers (Err stop) (IsRewritten image machine loops)
+  unfolding IsRewritten
+  image_stops power stop a h = then_goes (read_machine machine) power _ (Err stop) a (then_stops (image_of image) _ stop h)
+
+  pub key_stops : (power : PowerModel) (original : Image) (refusal : Refusal) → read_machine machine ≡ Ok power → image_of image ≡ Ok original → unscaled original.keyed_segment ≡ Err refusal →
+      HoldAnswers (Err (Refused refusal)) (IsRewritten image machine loops)
+  unfolding IsRewritten
+  key_stops power original refusal a b h =
+      then_goes (read_machine machine) power _ (Err (Refused refusal)) a (then_goes (image_of image) original _ (Err (Refused refusal)) b (then_stops (unscaled original.keyed_segment) _ (Refused refusal) h))
+
+  pub loops_stop : (power : PowerModel) (original : Image) (stop : Stop) → read_machine machine ≡ Ok power → image_of image ≡ Ok original → unscaled original.keyed_segment ≡ Ok tt →
+      Stops stop (read_loops original loops) → HoldAnswers (Err stop) (IsRewritten image machine loops)
+  unfolding IsRewritten
+  loops_stop power original stop a b c h =
+      then_goes (read_machine machine) power _ (Err stop) a (then_goes (image_of image) original _ (Err stop) b (then_goes (unscaled original.keyed_segment) tt _ (Err stop) c (then_stops (read_loops original loops) _ stop h)))
+
+  pub program_answers : (power : PowerModel) (original : Image) (notes : List LoopNote) (result : Result (Vec ℕ Global × Summary) Stop) → read_machine machine ≡ Ok power → image_of image ≡ Ok original →
+      unscaled original.keyed_segment ≡ Ok tt → read_loops original loops ≡ Ok notes → HoldAnswers result (IsRewrittenProgram power original notes) →
+      HoldAnswers result (IsRewritten image machine loops)
+  unfolding IsRewritten
+  program_answers power original notes result a b c d h =
+      then_goes (read_machine machine) power _ result a (then_goes (image_of image) original _ result b (then_goes (unscaled original.keyed_segment) tt _ result c (then_goes (read_loops original loops) notes _ result d h)))
