@@ -2,6 +2,7 @@
 //! Tests: crates/graph_tests/src/values.rt.
 #![tactic(auto)]
 
+mod edges;
 mod rows;
 mod tables;
 
