@@ -1,1 +1,3 @@
 mod Besides
+mod Ways
+mod Whole

@@ -1,12 +1,15 @@
 -- What the code confirms of values, edge by edge.
-use Rattle.std.specs.Prelude.{◌≡◌, ℕ, ◌<◌, ◌⊎◌, Bool, true, List, Option, Some, None}
+use Rattle.std.specs.Prelude.{◌≡◌, ℕ, ◌<◌, ◌⊎◌, Bool, true, List, slice_get, Option, Some, None, Ok}
 use Rattle.scale_base.specs.declared.instruction.Instr.{Instr}
 use Rattle.cost_theory.specs.Graph.{Graph}
-use Rattle.code_text.specs.Text.{Text, instr_at}
+use Rattle.code_text.specs.Text.{Text, instr_at, text_of}
+use Rattle.code_graph.specs.FlowGraph.{FlowGraph, graph, IsGraphOf}
 use Rattle.bound_laws.specs.Registers.{keeps}
 use Rattle.bound_laws.specs.Values.{Values, Arc, Covers, passed, said, keeps_at, IsImpossible, IsRegister, IsBack}
 use Rattle.wrapped_intervals.specs.Small.{row}
-use Rattle.value_checks.specs.Tables.{flag}
+use Rattle.scale_base.specs.Image.{image_of}
+use Rattle.value_checks.specs.declared.edges.Claim.{Claim}
+use Rattle.value_checks.specs.Tables.{flag, AreSized}
 
 -- All registers hold what the instruction at a leaves in them on the way to b, by the intervals there and here, or no state comes this way.
 abbrev pub IsPassedBy : (from to : ℕ → Option Arc) → Bool → Instr → (a b : ℕ) → Type 0
@@ -36,6 +39,10 @@ AreCalmKept i from = (r : ℕ) → flag from r ≡ true → keeps r i ≡ true
 
 -- ---- what is to say of an edge
 
+-- of the way from the edge's source to a node
+abbrev pub IsPassedAt : Text → FlowGraph → Values → (e n : ℕ) → Type 0
+IsPassedAt t f v e n = (b : ℕ) (i : Instr) → slice_get f.code.nodes n ≡ Some b → v.live ((graph f).source e) ≡ true → instr_at t ((graph f).source e) ≡ Some i → IsPassedBy (v.at ((graph f).source e)) (v.at b) (v.live b) i ((graph f).source e) b
+
 -- of a step that is no call
 abbrev pub IsStepped : Text → Graph → Values → ℕ → Type 0
 IsStepped t g v e = (b : ℕ) (i : Instr) → g.target e ≡ Some b → g.callee e ≡ None → v.live (g.source e) ≡ true → instr_at t (g.source e) ≡ Some i → IsPassedBy (v.at (g.source e)) (v.at b) (v.live b) i (g.source e) b
@@ -47,6 +54,10 @@ IsCalled t g v e = (f : ℕ) (i : Instr) → g.callee e ≡ Some f → v.live (g
 -- of a return
 abbrev pub IsReturned : Text → Graph → Values → ℕ → Type 0
 IsReturned t g v e = g.returns e ≡ true → v.live (g.source e) ≡ true → (r : ℕ) → IsRegister r → (keeps_at t r (g.source e) ≡ true) × Covers (v.exit (v.function (g.source e)) r) (v.at (g.source e) r)
+
+-- of the way behind a call of function f to a node
+abbrev pub IsBackAt : Text → FlowGraph → Values → (e f n : ℕ) → Type 0
+IsBackAt t g v e f n = (b : ℕ) → slice_get g.code.nodes n ≡ Some b → v.live ((graph g).source e) ≡ true → (v.live b ≡ true) × ((r : ℕ) → IsRegister r → IsBack t v ((graph g).source e) ((graph g).entry f) b r)
 
 -- of the way on behind a call that comes back
 abbrev pub IsBroughtBack : Text → Graph → Values → ℕ → Type 0
@@ -70,3 +81,9 @@ pub record IsEdgeConfirmed (t : Text) (g : Graph) (v : Values) (e : ℕ) : Type 
   pub calm_along : IsCalmAlong g v e
   pub calm_calls : IsCalmCalled g v e
   pub calm_keeps : IsCalmKept t g v e
+
+-- a table with its numbers for a program
+pub record IsClaim (c : Claim) : Type 0 where
+  pub image : image_of c.view.now.file ≡ Ok c.view.now
+  pub graph_is : IsGraphOf (text_of c.view.now) c.graph.now
+  pub sized : AreSized c.graph.now.code c.table.now

@@ -29,6 +29,9 @@ no_form = record { register = 1; factor = 0; other = 1; other_factor = 0; shift 
 abbrev pub row_at : ValueTable → ℕ → List (Option Arc)
 row_at table k = or_other [] (slice_get table.rows.items k)
 
+abbrev pub exit_at : ValueTable → ℕ → List (Option Arc)
+exit_at table f = or_other [] (slice_get table.exits.items f)
+
 abbrev pub live_at : ValueTable → ℕ → Bool
 live_at table k = or_other false (slice_get table.live.items k)
 
@@ -48,7 +51,7 @@ abbrev pub values_of : Code → ValueTable → Values
 values_of code table = record {
   live = beside false code.nodes table.live.items;
   at = λ a. row (beside [] code.nodes table.rows.items a);
-  exit = λ f. row (or_other [] (slice_get table.exits.items f));
+  exit = λ f. row (exit_at table f);
   forms = λ j. no_form;
   lines = λ a j. None;
   function = owner_of code;

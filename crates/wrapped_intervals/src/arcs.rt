@@ -1,6 +1,6 @@
 //! Intervals of words that may wrap round.
 
-ghost use Rattle.std.specs.Prelude.{◌≡◌, ◌≤◌, ◌<◌, ◌^◌, ◌%◌, ◌+◌, ◌-◌, ◌==◌, Some};
+ghost use Rattle.std.specs.Prelude.{◌≡◌, ◌≤◌, ◌<◌, ◌^◌, ◌%◌, ◌+◌, ◌-◌, ◌==◌, Some, true};
 ghost use Rattle.bound_laws.specs.Values as values;
 ghost use Rattle.wrapped_intervals.specs.Small.{IsFound, IsFoundOr, IsKept, IsKeptOr};
 
@@ -118,4 +118,35 @@ pub fn top_of(i: Option<Arc>) -> u64
         Some(i) => i.top(),
         None => WORDS - 1,
     }
+}
+
+/// Whether an interval is one that is kept: it begins at a word, and has at most all of them.
+pub fn is_kept(i: Option<Arc>) -> bool
+    ensures { result ≡ true → IsKeptOr i }
+{
+    match i {
+        Some(i) => i.low < WORDS && i.more < WORDS && i.stride < WORDS,
+        None => true,
+    }
+}
+
+/// Whether a number is in an interval; where nothing is known, each one is.
+pub fn holds(i: Option<Arc>, value: u32) -> bool
+    requires { IsKeptOr i }
+    ensures { result ≡ true → values.IsHeld i value }
+{
+    match i {
+        Some(i) => {
+            let ahead = (u64::from(value) + (WORDS - i.low)) % WORDS;
+            ahead <= i.more && is_multiple(i.stride, ahead)
+        }
+        None => true,
+    }
+}
+
+/// Whether a number is a multiple of a stride.
+pub fn is_multiple(stride: u64, n: u64) -> bool
+    ensures { result ≡ true → values.IsMultiple stride n }
+{
+    if stride == 0 { n == 0 } else { n % stride == 0 }
 }

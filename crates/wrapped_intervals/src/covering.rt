@@ -4,14 +4,7 @@ ghost use Rattle.std.specs.Prelude.{◌≡◌, ◌≤◌, ◌<◌, ◌^◌, Some
 ghost use Rattle.bound_laws.specs.Values as values;
 ghost use Rattle.wrapped_intervals.specs.Small.{IsFound, IsFoundOr, IsKept, IsKeptOr};
 
-use crate::arcs::{Arc, WORDS};
-
-// Whether a number is a multiple of a stride.
-fn is_multiple(stride: u64, n: u64) -> bool
-    ensures { result ≡ true → values.IsMultiple stride n }
-{
-    if stride == 0 { n == 0 } else { n % stride == 0 }
-}
+use crate::arcs::{Arc, WORDS, is_multiple};
 
 // How far a word is behind another, modulo 2^32.
 fn ahead(low: u64, value: u64) -> u64

@@ -11,7 +11,7 @@ mod results;
 mod sums;
 mod views;
 
-pub use arcs::{Arc, exactly, top_of, word};
+pub use arcs::{Arc, exactly, holds, is_kept, top_of, word};
 pub use results::{held, written};
 pub use sums::{common_of, difference_of, negated, scaled, sum_of, sum_with, times};
 pub use views::{Interval, first_by, first_range, is_empty, second_by, second_range, view};
