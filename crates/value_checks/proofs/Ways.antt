@@ -5,14 +5,16 @@ use Rattle.std.specs.Prelude.{slice_get}
 use Rattle.scale_base.specs.declared.instruction.Instr.{Instr}
 use Rattle.cost_theory.specs.Accepted.{IsProgram}
 use Rattle.code_text.specs.Text.{Text, instr_at}
+use Rattle.scale_base.specs.State.{reg}
+use Rattle.bound_laws.specs.Laws.{starting_registers}
 use Rattle.bound_laws.specs.Registers.{keeps}
 use Rattle.code_graph.specs.FlowGraph.{FlowGraph, graph, IsFlowGraph}
 use Rattle.code_graph.proofs.Laws.{some_is}
-use Rattle.bound_laws.specs.Values.{Arc, Values, Covers, IsRegister, keeps_at, keeps_of, IsBack}
+use Rattle.bound_laws.specs.Values.{Arc, Values, Covers, IsRegister, keeps_at, keeps_of, AreIn, IsBack, IsHeld}
 use Rattle.wrapped_intervals.specs.Small.{row}
 use Rattle.value_checks.specs.declared.tables.ValueTable.{ValueTable}
 use Rattle.value_checks.specs.Tables.{exit_at, row_at, live_at, calm_at, flag, values_of, AreSized}
-use Rattle.value_checks.specs.Confirmed.{IsPassedBy, IsWayCovered, IsPassedAt, IsReturned, IsBackAt, IsBroughtBack, IsCalmAlong, IsCalmCalled, IsCalmKept, IsRowReturned, IsRowBack, AreCalmBehind, AreCalmKept}
+use Rattle.value_checks.specs.Confirmed.{IsPassedBy, IsWayCovered, IsPassedAt, IsReturned, IsBackAt, IsBroughtBack, IsCalmAlong, IsCalmCalled, IsCalmKept, IsRowReturned, IsRowBack, IsRowStarted, AreCalmBehind, AreCalmKept}
 use Rattle.value_checks.proofs.Besides.{at_is, live_is, calm_is}
 
 -- a number of a node is one of a row
@@ -139,3 +141,12 @@ pub calm_kept : (t : Text) (v : FlowGraph) (table : ValueTable) → IsFlowGraph 
 calm_kept t v table is sized e k a i kl at_k at_a there given r up =
     let source : a ≡ (graph v).source e = some_is a ((graph v).source e) (sym at_a ∙ at_k) in
     keeps_there t ((graph v).source e) i r (ap (instr_at t) (sym source) ∙ there) (given r (sym (calm_is v table is r k ((graph v).source e) (calm_within v table sized k kl) at_k) ∙ up))
+
+-- ---- the start
+
+pub started : (v : FlowGraph) (table : ValueTable) → IsFlowGraph v → AreSized v.code table → (k a : ℕ) → k < length v.code.nodes → slice_get v.code.nodes k ≡ Some a → live_at table k ≡ true → IsRowStarted (row_at table k) →
+    AreIn (values_of v.code table) a starting_registers
+started v table is sized k a kl at alive given = record {
+    live = live_is v table is k a (live_within v table sized k kl) at ∙ alive;
+    each = λ r register. subst (λ (arcs : ℕ → Option Arc). IsHeld (arcs r) (reg starting_registers r)) (sym (at_is v table is k a (row_within v table sized k kl) at)) (given r register);
+    lines = λ j. tt }

@@ -5,9 +5,11 @@ use Rattle.cost_theory.specs.Graph.{Graph}
 use Rattle.code_text.specs.Text.{Text, instr_at, text_of}
 use Rattle.code_graph.specs.FlowGraph.{FlowGraph, graph, IsGraphOf}
 use Rattle.bound_laws.specs.Registers.{keeps}
-use Rattle.bound_laws.specs.Values.{Values, Arc, Covers, passed, said, keeps_at, IsImpossible, IsRegister, IsBack}
+use Rattle.bound_laws.specs.Values.{Values, Arc, Covers, passed, said, keeps_at, IsHeld, IsImpossible, IsRegister, IsBack}
 use Rattle.wrapped_intervals.specs.Small.{row}
 use Rattle.scale_base.specs.Image.{image_of}
+use Rattle.scale_base.specs.State.{reg}
+use Rattle.bound_laws.specs.Laws.{starting_registers}
 use Rattle.value_checks.specs.declared.edges.Claim.{Claim}
 use Rattle.value_checks.specs.Tables.{flag, AreSized}
 
@@ -81,6 +83,10 @@ pub record IsEdgeConfirmed (t : Text) (g : Graph) (v : Values) (e : ℕ) : Type 
   pub calm_along : IsCalmAlong g v e
   pub calm_calls : IsCalmCalled g v e
   pub calm_keeps : IsCalmKept t g v e
+
+-- each register's interval has what is there at the start of a run
+abbrev pub IsRowStarted : List (Option Arc) → Type 0
+IsRowStarted arcs = (r : ℕ) → IsRegister r → IsHeld (row arcs r) (reg starting_registers r)
 
 -- a table with its numbers for a program
 pub record IsClaim (c : Claim) : Type 0 where

@@ -48,8 +48,8 @@ fn is_way_confirmed(table: &ValueTable, i: Instr, a: u32, k: usize, b: u32, n: u
     is_way_covered(i, a, b, &table.rows[k], &table.rows[n], table.live[n])
 }
 
-// Whether a run may come to node k.
-fn is_live(table: &ValueTable, k: usize) -> bool
+/// Whether a run may come to node k.
+pub fn is_live(table: &ValueTable, k: usize) -> bool
     requires { k < length table.now.live.items }
     ensures { result ≡ live_at table.now k }
 {

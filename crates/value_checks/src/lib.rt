@@ -6,9 +6,10 @@ mod confirming;
 mod edges;
 mod rows;
 mod sizes;
+mod starting;
 mod tables;
 
-pub use confirming::is_confirmed;
 pub use edges::Claim;
 pub use sizes::is_sized;
+pub use starting::is_analysed;
 pub use tables::ValueTable;
