@@ -26,7 +26,7 @@ pub struct Claim<'a> {
 }
 
 /// The instruction at an address of the text.
-fn text_instr(view: &ImageView<'_>, at: u32) -> Option<Instr>
+pub fn text_instr(view: &ImageView<'_>, at: u32) -> Option<Instr>
     requires { image_of view.now.file ≡ Ok view.now }
     ensures { IfSome result (λ i. instr_at (text_of view.now) at ≡ Some i) }
 {

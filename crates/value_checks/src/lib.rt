@@ -2,6 +2,7 @@
 //! Tests: crates/graph_tests/src/values.rt.
 #![tactic(auto)]
 
+mod certificates;
 mod confirming;
 mod edges;
 mod rows;
@@ -9,6 +10,7 @@ mod sizes;
 mod starting;
 mod tables;
 
+pub use certificates::{Case, Certificate};
 pub use edges::Claim;
 pub use sizes::is_sized;
 pub use starting::is_analysed;
