@@ -1,6 +1,7 @@
 -- What stands beside an address is what stands at its number.
-use Rattle.std.proofs.Common.{◌≡◌, ℕ, zero, suc, ◌<◌, Bool, true, false, cond, List, [], ◌∷◌, length, Option, Some, None, nat_eq, refl, sym, ap, ◌∙◌, arith, ◌⊎◌, ⊎_elim, eqb-true, eq-eqb}
+use Rattle.std.proofs.Common.{◌≡◌, ℕ, zero, suc, ◌<◌, Bool, true, false, cond, List, [], ◌∷◌, length, Option, Some, None, nat_eq, refl, sym, ap, ◌∙◌, arith, ◌⊎◌, ⊎_elim, eqb-true, eq-eqb, subst}
 use Rattle.std.specs.Prelude.{slice_get}
+use Rattle.std.proofs.lemmas.Option.{slice_get_within}
 use Rattle.code_graph.proofs.Laws.{less_same_more, some_is, Ascend}
 use Rattle.code_graph.specs.FlowGraph.{FlowGraph, IsFlowGraph}
 use Rattle.bound_laws.specs.Values.{Arc}
@@ -39,7 +40,7 @@ get_within other [] k lt = absurd (omega (arith, lt))
 get_within other (x ∷ xs) zero lt = refl
 get_within other (x ∷ xs) (suc k) lt = get_within other xs k (omega (arith, lt))
 
-once : (v : FlowGraph) → IsFlowGraph v → Once v.code.nodes
+pub once : (v : FlowGraph) → IsFlowGraph v → Once v.code.nodes
 once v is = ascending_once v.code.nodes is.ascending
 
 pub at_is : (v : FlowGraph) (table : ValueTable) → IsFlowGraph v → (k a : ℕ) → k < length table.rows.items → slice_get v.code.nodes k ≡ Some a → (values_of v.code table).at a ≡ row (row_at table k)
@@ -50,3 +51,6 @@ live_is v table is k a lt at = beside-get false v.code.nodes table.live.items k 
 
 pub calm_is : (v : FlowGraph) (table : ValueTable) → IsFlowGraph v → (r k a : ℕ) → k < length table.calm.items → slice_get v.code.nodes k ≡ Some a → (values_of v.code table).calm r a ≡ flag (calm_at table k) r
 calm_is v table is r k a lt at = ap (λ (flags : List Bool). flag flags r) (beside-get [] v.code.nodes table.calm.items k a (calm_at table k) (once v is) at (get_within [] table.calm.items k lt))
+
+pub beside_is : {A : Type 0} (other : A) (v : FlowGraph) → IsFlowGraph v → (xs : List A) → length xs ≡ length v.code.nodes → (k a : ℕ) → slice_get v.code.nodes k ≡ Some a → beside other v.code.nodes xs a ≡ or_other other (slice_get xs k)
+beside_is other v is xs size k a at = beside-get other v.code.nodes xs k a (or_other other (slice_get xs k)) (once v is) at (get_within other xs k (subst (λ (n : ℕ). k < n) (sym size) (slice_get_within v.code.nodes k a at)))

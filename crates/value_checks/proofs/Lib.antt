@@ -1,3 +1,4 @@
 mod Besides
 mod Ways
 mod Whole
+mod Cases

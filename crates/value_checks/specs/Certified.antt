@@ -1,7 +1,8 @@
 -- A certificate of a loop by lists, as what `bound_laws` calls a certificate, and what the code says of it, edge by edge.
-use Rattle.std.specs.Prelude.{◌≡◌, ◌≢◌, ℕ, ◌+◌, ◌%◌, ◌^◌, ◌<◌, ◌≤◌, Bool, true, false, List, length, slice_get, Some, Ok}
+use Rattle.std.specs.Prelude.{◌≡◌, ◌≢◌, ℕ, ◌+◌, ◌%◌, ◌^◌, ◌<◌, ◌≤◌, Bool, true, false, List, length, slice_get, Option, Some, Ok}
 use Rattle.scale_base.specs.Image.{image_of}
 use Rattle.loop_file.specs.Kept.{in_extent}
+use Rattle.cost_theory.specs.Graph.{Graph}
 use Rattle.cost_theory.specs.Reached.{Code}
 use Rattle.code_text.specs.Text.{text_of}
 use Rattle.code_graph.specs.FlowGraph.{graph, IsGraphOf}
@@ -71,3 +72,45 @@ pub record IsCalledAt (c : Case) (k at h : ℕ) : Type 0 where
   pub begins : body_at c.certificate.now h ≡ true → h ≡ c.header
   pub quiet : quiet_at c.certificate.now k ≡ true → quiet_at c.certificate.now h ≡ true
   pub calls : body_at c.certificate.now k ≡ true → (quiet_at c.certificate.now h ≡ true) × IsLeftAt c at
+
+-- ---- the same as `bound_laws` says it, of an edge
+
+abbrev pub code_certificate : Case → turning.Certificate
+code_certificate c = certificate_of c.graph.now.code c.certificate.now
+
+abbrev pub case_graph : Case → Graph
+case_graph c = graph c.graph.now
+
+abbrev pub effect_there : Case → ℕ → Option ℕ
+effect_there c at = effect_at (text_of c.view.now) (measure_view c.certificate.now.measure) at
+
+-- of an edge that leads to the header
+pub record IsTurnSo (c : Case) (a : ℕ) : Type 0 where
+  pub counted : in_extent c.note.now a ≡ true → (code_certificate c).body a ≡ true
+  pub raises : (code_certificate c).body a ≡ true → (e : ℕ) × (effect_there c a ≡ Some e) × (c.certificate.now.least ≤ turning.behind (code_certificate c) a e) × (turning.behind (code_certificate c) a e + c.certificate.now.width < 2 ^ 32)
+
+-- of an edge that leads to a node
+pub record IsLedTo (c : Case) (a b : ℕ) : Type 0 where
+  pub quiet : (code_certificate c).quiet a ≡ true → (code_certificate c).quiet b ≡ true
+  pub turn : b ≡ c.note.now.header → IsTurnSo c a
+  pub along : b ≢ c.note.now.header → (code_certificate c).body b ≡ true → ((code_certificate c).body a ≡ true) × ((e : ℕ) × (effect_there c a ≡ Some e) × ((code_certificate c).offset b ≡ turning.behind (code_certificate c) a e))
+
+abbrev pub IsLedSo : Case → ℕ → Type 0
+IsLedSo c e = (b : ℕ) → (case_graph c).target e ≡ Some b → IsLedTo c ((case_graph c).source e) b
+
+-- of a call
+pub record IsCalledTo (c : Case) (a b : ℕ) : Type 0 where
+  pub begins : (code_certificate c).body b ≡ true → b ≡ c.note.now.header
+  pub quiet : (code_certificate c).quiet a ≡ true → (code_certificate c).quiet b ≡ true
+  pub calls : (code_certificate c).body a ≡ true → ((code_certificate c).quiet b ≡ true) × (effect_there c a ≡ Some 0)
+
+abbrev pub IsCalledSo : Case → ℕ → Type 0
+IsCalledSo c e = (f : ℕ) → (case_graph c).callee e ≡ Some f → IsCalledTo c ((case_graph c).source e) ((case_graph c).entry f)
+
+abbrev pub IsLeftSo : Case → ℕ → Type 0
+IsLeftSo c e = (code_certificate c).quiet ((case_graph c).source e) ≡ true → effect_there c ((case_graph c).source e) ≡ Some 0
+
+pub record IsEdgeCertified (c : Case) (e : ℕ) : Type 0 where
+  pub leads : IsLedSo c e
+  pub calls : IsCalledSo c e
+  pub leaves : IsLeftSo c e

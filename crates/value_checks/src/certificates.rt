@@ -190,3 +190,57 @@ fn is_called_so(case: &Case<'_>, k: usize, at: u32, h: usize) -> bool
     }
     is_quiet(certificate, h) && is_left(case, at)
 }
+
+// Of an edge that leads to a node.
+fn leads_so(case: &Case<'_>, e: usize) -> bool
+    requires case { certified.IsCase case.now }
+    requires edge { e < length case.now.graph.now.code.edges }
+    ensures { result ≡ true → certified.IsLedSo case.now e }
+{
+    let k = case.graph.source(e);
+    match case.graph.target(e) {
+        Some(n) => is_led(case, k, case.graph.node(k), n),
+        None => true,
+    }
+}
+
+// Of a call.
+fn calls_so(case: &Case<'_>, e: usize) -> bool
+    requires case { certified.IsCase case.now }
+    requires edge { e < length case.now.graph.now.code.edges }
+    ensures { result ≡ true → certified.IsCalledSo case.now e }
+{
+    let k = case.graph.source(e);
+    match case.graph.callee(e) {
+        Some(f) => is_called_so(case, k, case.graph.node(k), case.graph.entry_node(f)),
+        None => true,
+    }
+}
+
+// Of an edge that starts in quiet code.
+fn leaves_so(case: &Case<'_>, e: usize) -> bool
+    requires case { certified.IsCase case.now }
+    requires edge { e < length case.now.graph.now.code.edges }
+    ensures { result ≡ true → certified.IsLeftSo case.now e }
+{
+    let k = case.graph.source(e);
+    if !is_quiet(case.certificate, k) {
+        return true;
+    }
+    is_left(case, case.graph.node(k))
+}
+
+// All of an edge.
+fn is_edge_certified(case: &Case<'_>, e: usize) -> bool
+    requires case { certified.IsCase case.now }
+    requires edge { e < length case.now.graph.now.code.edges }
+    ensures { result ≡ true → certified.IsEdgeCertified case.now e }
+{
+    if !leads_so(case, e) {
+        return false;
+    }
+    if !calls_so(case, e) {
+        return false;
+    }
+    leaves_so(case, e)
+}
