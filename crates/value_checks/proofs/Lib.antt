@@ -2,3 +2,5 @@ mod Besides
 mod Ways
 mod Whole
 mod Cases
+mod WholeCases
+mod Derived

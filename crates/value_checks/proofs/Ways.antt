@@ -18,7 +18,7 @@ use Rattle.value_checks.specs.Confirmed.{IsPassedBy, IsWayCovered, IsPassedAt, I
 use Rattle.value_checks.proofs.Besides.{at_is, live_is, calm_is}
 
 -- a number of a node is one of a row
-row_within : (v : FlowGraph) (table : ValueTable) → AreSized v.code table → (k : ℕ) → k < length v.code.nodes → k < length table.rows.items
+pub row_within : (v : FlowGraph) (table : ValueTable) → AreSized v.code table → (k : ℕ) → k < length v.code.nodes → k < length table.rows.items
 row_within v table sized k lt = subst (λ (n : ℕ). k < n) (sym sized.rows) lt
 
 live_within : (v : FlowGraph) (table : ValueTable) → AreSized v.code table → (k : ℕ) → k < length v.code.nodes → k < length table.live.items

@@ -5,10 +5,12 @@ use Rattle.loop_file.specs.Kept.{in_extent}
 use Rattle.cost_theory.specs.Graph.{Graph}
 use Rattle.cost_theory.specs.Reached.{Code}
 use Rattle.code_text.specs.Text.{text_of}
+use Rattle.code_text.specs.TextGraph.{text_graph}
 use Rattle.code_graph.specs.FlowGraph.{graph, IsGraphOf}
 use Rattle.bound_laws.specs.Registers.{effect_at}
 use Rattle.bound_laws.specs.Turning as turning
-use Rattle.wrapped_intervals.specs.Small.{measure_view}
+use Rattle.bound_laws.specs.Values.{Arc, Covers, arc, line_of}
+use Rattle.wrapped_intervals.specs.Small.{measure_view, row}
 use Rattle.value_checks.specs.declared.certificates.Case.{Case}
 use Rattle.value_checks.specs.declared.certificates.Certificate.{Certificate}
 use Rattle.value_checks.specs.Tables.{beside, or_other}
@@ -114,3 +116,23 @@ pub record IsEdgeCertified (c : Case) (e : ℕ) : Type 0 where
   pub leads : IsLedSo c e
   pub calls : IsCalledSo c e
   pub leaves : IsLeftSo c e
+
+abbrev pub AreEdgesCertified : Case → Type 0
+AreEdgesCertified c = (e : ℕ) → e < length c.graph.now.code.edges → IsEdgeCertified c e
+
+-- of the header, and of the start of a run
+pub record IsBegun (c : Case) : Type 0 where
+  pub register : c.certificate.now.measure.register < 32
+  pub other : c.certificate.now.measure.other < 32
+  pub first : body_at c.certificate.now c.header ≡ true
+  pub begins : offset_at c.certificate.now c.header ≡ 0
+  pub quiet : quiet_at c.certificate.now c.header ≡ false
+  pub started : (k : ℕ) → slice_get c.graph.now.code.nodes k ≡ Some c.view.now.entry → body_at c.certificate.now k ≡ true → k ≡ c.header
+  pub start : (k : ℕ) × (slice_get c.graph.now.code.nodes k ≡ Some c.view.now.entry)
+
+abbrev pub IsCertified : Case → Type 0
+IsCertified c = turning.IsCertificate (text_of c.view.now) (text_graph (text_of c.view.now) c.graph.now.code) c.note.now.header (λ v. in_extent c.note.now v) (code_certificate c)
+
+-- the measure is from 0 to the width, by the intervals of a row
+abbrev pub IsShownBy : List (Option Arc) → Certificate → Type 0
+IsShownBy arcs c = Covers (Some (arc 0 c.width)) (line_of (measure_view c.measure) (row arcs))

@@ -244,3 +244,48 @@ fn is_edge_certified(case: &Case<'_>, e: usize) -> bool
     }
     leaves_so(case, e)
 }
+
+// What the code says of the header, and of the start of a run.
+fn is_begun(case: &Case<'_>) -> bool
+    requires { certified.IsCase case.now }
+    ensures { result ≡ true → certified.IsBegun case.now }
+{
+    let certificate = case.certificate;
+    let Some(k) = case.graph.find(case.view.entry()) else {
+        return false;
+    };
+    if is_body(certificate, k) && k != case.header {
+        return false;
+    }
+    if certificate.measure.register >= 32 || certificate.measure.other >= 32 {
+        return false;
+    }
+    if is_quiet(certificate, case.header) {
+        return false;
+    }
+    is_body(certificate, case.header) && offset(certificate, case.header) == 0
+}
+
+// What it says of each edge.
+fn are_edges_certified(case: &Case<'_>) -> bool
+    requires { certified.IsCase case.now }
+    ensures { result ≡ true → certified.AreEdgesCertified case.now }
+{
+    for e in 0..case.graph.edge_count() {
+        if !is_edge_certified(case, e) {
+            return false;
+        }
+    }
+    true
+}
+
+/// Whether the code says all that a certificate needs.
+pub fn is_certified(case: &Case<'_>) -> bool
+    requires { certified.IsCase case.now }
+    ensures { result ≡ true → certified.IsCertified case.now }
+{
+    if !is_begun(case) {
+        return false;
+    }
+    are_edges_certified(case)
+}

@@ -4,13 +4,15 @@
 
 mod certificates;
 mod confirming;
+mod bounds;
 mod edges;
 mod rows;
 mod sizes;
 mod starting;
 mod tables;
 
-pub use certificates::{Case, Certificate};
+pub use certificates::Certificate;
+pub use bounds::is_derived;
 pub use edges::Claim;
 pub use sizes::is_sized;
 pub use starting::is_analysed;
