@@ -1,0 +1,6 @@
+mod Besides
+mod Ways
+mod Whole
+mod Cases
+mod WholeCases
+mod Derived

@@ -1,0 +1,20 @@
+//! Intervals of words that may wrap round, and what the machine's instructions and branches make of them: the operations of
+//! `bound_laws`, as code.
+//! Tests: crates/machine_tests/src/intervals.rt.
+#![tactic(auto)]
+
+mod arcs;
+mod branches;
+mod covering;
+mod lines;
+mod results;
+mod sums;
+mod views;
+
+pub use arcs::{Arc, exactly, holds, is_kept, top_of, word};
+pub use results::{held, written};
+pub use sums::{common_of, difference_of, negated, scaled, sum_of, sum_with, times};
+pub use views::{Interval, first_by, first_range, is_empty, second_by, second_range, view};
+pub use branches::{Said, is_impossible, keeps, kept_by, passed, said_by};
+pub use covering::covers;
+pub use lines::{Measure, effect, is_difference, line_of, solved};
