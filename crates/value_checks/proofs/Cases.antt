@@ -30,37 +30,44 @@ behind_is c is k a e at = ap (λ (o : ℕ). (o + e) % 2 ^ 32) (offset_is c is k 
 
 turn_so : (c : Case) → IsCase c → (k a : ℕ) → slice_get c.graph.now.code.nodes k ≡ Some a → IsTurnAt c k a → IsTurnSo c a
 turn_so c is k a at given = record {
-    counted = λ inside. body_is c is k a at ∙ given.counted inside;
-    raises = raises }
+  counted = λ inside. body_is c is k a at ∙ given.counted inside;
+  raises = raises;
+}
   where
     raises : (code_certificate c).body a ≡ true → (e : ℕ) × (effect_there c a ≡ Some e) × (c.certificate.now.least ≤ turning.behind (code_certificate c) a e) × (turning.behind (code_certificate c) a e + c.certificate.now.width < 2 ^ 32)
     raises body =
-        let found : (e : ℕ) × (effect_there c a ≡ Some e) × (c.certificate.now.least ≤ behind_at c.certificate.now k e) × (behind_at c.certificate.now k e + c.certificate.now.width < 2 ^ 32) = given.raises (sym (body_is c is k a at) ∙ body) in
-        (found.0 , found.1 ,
-        subst (λ (x : ℕ). c.certificate.now.least ≤ x) (sym (behind_is c is k a found.0 at)) found.2 ,
-        subst (λ (x : ℕ). x + c.certificate.now.width < 2 ^ 32) (sym (behind_is c is k a found.0 at)) found.3)
+        let found : (e : ℕ) × (effect_there c a ≡ Some e) × (c.certificate.now.least ≤ behind_at c.certificate.now k e) × (behind_at c.certificate.now k e + c.certificate.now.width < 2 ^ 32) = given.raises (sym (body_is c is k a at) ∙ body) in (
+          found.0,
+          found.1,
+          subst (λ (x : ℕ). c.certificate.now.least ≤ x) (sym (behind_is c is k a found.0 at)) found.2,
+          subst (λ (x : ℕ). x + c.certificate.now.width < 2 ^ 32) (sym (behind_is c is k a found.0 at)) found.3,
+        )
 
 pub led_so : (c : Case) → IsCase c → (e k n : ℕ) → slice_get c.graph.now.code.nodes k ≡ Some ((case_graph c).source e) → (case_graph c).target e ≡ slice_get c.graph.now.code.nodes n → IsLedAt c k ((case_graph c).source e) n → IsLedSo c e
 led_so c is e k n at target given b to = record {
-    quiet = λ quiet. quiet_is c is n b there ∙ given.quiet (sym (quiet_is c is k a at) ∙ quiet);
-    turn = λ same. turn_so c is k a at (given.turn (header_number c is n b there same));
-    along = along }
+  quiet = λ quiet. quiet_is c is n b there ∙ given.quiet (sym (quiet_is c is k a at) ∙ quiet);
+  turn = λ same. turn_so c is k a at (given.turn (header_number c is n b there same));
+  along = along;
+}
   where
     a : ℕ
     a = (case_graph c).source e
+
     there : slice_get c.graph.now.code.nodes n ≡ Some b
     there = sym target ∙ to
+
     along : b ≢ c.note.now.header → (code_certificate c).body b ≡ true → ((code_certificate c).body a ≡ true) × ((x : ℕ) × (effect_there c a ≡ Some x) × ((code_certificate c).offset b ≡ turning.behind (code_certificate c) a x))
     along other body =
         let found = given.along (λ same. other (header_address c is n b there same)) (sym (body_is c is n b there) ∙ body) in
-        (body_is c is k a at ∙ found.0 , (found.1.0 , found.1.1 , offset_is c is n b there ∙ (found.1.2 ∙ sym (behind_is c is k a found.1.0 at))))
+        (body_is c is k a at ∙ found.0, (found.1.0, found.1.1, offset_is c is n b there ∙ (found.1.2 ∙ sym (behind_is c is k a found.1.0 at))))
 
 pub called_so : (c : Case) → IsCase c → (e k h f : ℕ) → slice_get c.graph.now.code.nodes k ≡ Some ((case_graph c).source e) → (case_graph c).callee e ≡ Some f → slice_get c.graph.now.code.nodes h ≡ Some ((case_graph c).entry f) →
     IsCalledAt c k ((case_graph c).source e) h → IsCalledSo c e
 called_so c is e k h f at callee at_h given d to = subst (λ (x : ℕ). IsCalledTo c ((case_graph c).source e) ((case_graph c).entry x)) (some_is f d (sym callee ∙ to)) (record {
-    begins = λ body. header_address c is h ((case_graph c).entry f) at_h (given.begins (sym (body_is c is h ((case_graph c).entry f) at_h) ∙ body));
-    quiet = λ quiet. quiet_is c is h ((case_graph c).entry f) at_h ∙ given.quiet (sym (quiet_is c is k ((case_graph c).source e) at) ∙ quiet);
-    calls = λ body. let found = given.calls (sym (body_is c is k ((case_graph c).source e) at) ∙ body) in (quiet_is c is h ((case_graph c).entry f) at_h ∙ found.0 , found.1) })
+  begins = λ body. header_address c is h ((case_graph c).entry f) at_h (given.begins (sym (body_is c is h ((case_graph c).entry f) at_h) ∙ body));
+  quiet = λ quiet. quiet_is c is h ((case_graph c).entry f) at_h ∙ given.quiet (sym (quiet_is c is k ((case_graph c).source e) at) ∙ quiet);
+  calls = λ body. let found = given.calls (sym (body_is c is k ((case_graph c).source e) at) ∙ body) in (quiet_is c is h ((case_graph c).entry f) at_h ∙ found.0, found.1);
+})
 
 pub left_so : (c : Case) → IsCase c → (e k : ℕ) → slice_get c.graph.now.code.nodes k ≡ Some ((case_graph c).source e) → (quiet_at c.certificate.now k ≡ true → IsLeftAt c ((case_graph c).source e)) → IsLeftSo c e
 left_so c is e k at given quiet = given (sym (quiet_is c is k ((case_graph c).source e) at) ∙ quiet)

@@ -75,10 +75,11 @@ returned_held t v table is sized e k a f i kl at_k at_a there owner given return
     let values : Values = values_of v.code table in
     let source : a ≡ (graph v).source e = some_is a ((graph v).source e) (sym at_a ∙ at_k) in
     let owned : f ≡ values.function ((graph v).source e) = owner ∙ ap (graph v).owner (get_or_from_slice_get v.code.nodes k ((graph v).source e) 0 at_k) in
-    let found : (keeps r i ≡ true) × Covers (row (exit_at table f) r) (row (row_at table k) r) = given r register in
-    (keeps_there t ((graph v).source e) i r (ap (instr_at t) (sym source) ∙ there) found.0 ,
-    subst (λ (x : ℕ). Covers (values.exit x r) (values.at ((graph v).source e) r)) owned
-    (subst (λ (from : ℕ → Option Arc). Covers (values.exit f r) (from r)) (sym (at_is v table is k ((graph v).source e) (row_within v table sized k kl) at_k)) found.1))
+    let found : (keeps r i ≡ true) × Covers (row (exit_at table f) r) (row (row_at table k) r) = given r register in (
+      keeps_there t ((graph v).source e) i r (ap (instr_at t) (sym source) ∙ there) found.0,
+      subst (λ (x : ℕ). Covers (values.exit x r) (values.at ((graph v).source e) r)) owned
+          (subst (λ (from : ℕ → Option Arc). Covers (values.exit f r) (from r)) (sym (at_is v table is k ((graph v).source e) (row_within v table sized k kl) at_k)) found.1),
+    )
 
 -- ---- the way behind a call
 
@@ -91,25 +92,30 @@ back_never t v table is sized e f n k kl at_k dead b at_n live =
 pub back_held : (t : Text) (v : FlowGraph) (table : ValueTable) → IsFlowGraph v → AreSized v.code table → (e f n k h a : ℕ) (i : Instr) → k < length v.code.nodes → n < length v.code.nodes → h < length v.code.nodes →
     f < length v.code.functions → slice_get v.code.nodes k ≡ Some ((graph v).source e) → slice_get v.code.nodes k ≡ Some a → slice_get v.code.nodes h ≡ Some ((graph v).entry f) → instr_at t a ≡ Some i →
     live_at table n ≡ true → IsRowBack i (row_at table k) (exit_at table f) (row_at table n) (calm_at table h) → IsBackAt t v (values_of v.code table) e f n
-back_held t v table is sized e f n k h a i kl nl hl fl at_k at_a at_h there alive given b at_n live =
-    (live_is v table is n b (live_within v table sized n nl) at_n ∙ alive ,
-    (λ r register. ⊎_elim
-        (λ (before : (flag (calm_at table h) r ≡ true) × (keeps r i ≡ true) × Covers (row (row_at table n) r) (row (row_at table k) r)). inl (
-            (calm_is v table is r h ((graph v).entry f) (calm_within v table sized h hl) at_h ∙ before.0) ,
-            keeps_there t ((graph v).source e) i r (ap (instr_at t) (sym source) ∙ there) before.1 ,
-            subst (λ (to : ℕ → Option Arc). Covers (to r) (values.at ((graph v).source e) r)) (sym at_b)
-            (subst (λ (from : ℕ → Option Arc). Covers (row (row_at table n) r) (from r)) (sym at_a') before.2)))
-        (λ (after : Covers (row (row_at table n) r) (row (exit_at table f) r)). inr (
-            subst (λ (to : ℕ → Option Arc). Covers (to r) (values.exit (values.function ((graph v).entry f)) r)) (sym at_b)
-            (subst (λ (x : ℕ). Covers (row (row_at table n) r) (values.exit x r)) (sym (is.program.entry_owner f fl)) after)))
-        (given r register)))
+back_held t v table is sized e f n k h a i kl nl hl fl at_k at_a at_h there alive given b at_n live = (
+  live_is v table is n b (live_within v table sized n nl) at_n ∙ alive,
+  (λ r register. ⊎_elim
+      (λ (before : (flag (calm_at table h) r ≡ true) × (keeps r i ≡ true) × Covers (row (row_at table n) r) (row (row_at table k) r)). inl (
+        (calm_is v table is r h ((graph v).entry f) (calm_within v table sized h hl) at_h ∙ before.0),
+        keeps_there t ((graph v).source e) i r (ap (instr_at t) (sym source) ∙ there) before.1,
+        subst (λ (to : ℕ → Option Arc). Covers (to r) (values.at ((graph v).source e) r)) (sym at_b)
+            (subst (λ (from : ℕ → Option Arc). Covers (row (row_at table n) r) (from r)) (sym at_a') before.2),
+      ))
+      (λ (after : Covers (row (row_at table n) r) (row (exit_at table f) r)). inr (
+      subst (λ (to : ℕ → Option Arc). Covers (to r) (values.exit (values.function ((graph v).entry f)) r)) (sym at_b)
+      (subst (λ (x : ℕ). Covers (row (row_at table n) r) (values.exit x r)) (sym (is.program.entry_owner f fl)) after)))
+      (given r register)),
+)
   where
     values : Values
     values = values_of v.code table
+
     source : a ≡ (graph v).source e
     source = some_is a ((graph v).source e) (sym at_a ∙ at_k)
+
     at_a' : values.at ((graph v).source e) ≡ row (row_at table k)
     at_a' = at_is v table is k ((graph v).source e) (row_within v table sized k kl) at_k
+
     at_b : values.at b ≡ row (row_at table n)
     at_b = at_is v table is n b (row_within v table sized n nl) at_n
 
@@ -147,6 +153,7 @@ calm_kept t v table is sized e k a i kl at_k at_a there given r up =
 pub started : (v : FlowGraph) (table : ValueTable) → IsFlowGraph v → AreSized v.code table → (k a : ℕ) → k < length v.code.nodes → slice_get v.code.nodes k ≡ Some a → live_at table k ≡ true → IsRowStarted (row_at table k) →
     AreIn (values_of v.code table) a starting_registers
 started v table is sized k a kl at alive given = record {
-    live = live_is v table is k a (live_within v table sized k kl) at ∙ alive;
-    each = λ r register. subst (λ (arcs : ℕ → Option Arc). IsHeld (arcs r) (reg starting_registers r)) (sym (at_is v table is k a (row_within v table sized k kl) at)) (given r register);
-    lines = λ j. tt }
+  live = live_is v table is k a (live_within v table sized k kl) at ∙ alive;
+  each = λ r register. subst (λ (arcs : ℕ → Option Arc). IsHeld (arcs r) (reg starting_registers r)) (sym (at_is v table is k a (row_within v table sized k kl) at)) (given r register);
+  lines = λ j. tt;
+}

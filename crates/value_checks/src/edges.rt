@@ -182,9 +182,7 @@ fn is_back(claim: &Claim<'_>, e: usize, f: usize, n: usize) -> bool
     }
     let h = graph.entry_node(f);
     match text_instr(claim.view, graph.node(k)) {
-        Some(i) => {
-            is_live(table, n) && is_back_confirmed(table, i, k, f, h, n)
-        }
+        Some(i) => { is_live(table, n) && is_back_confirmed(table, i, k, f, h, n) }
         None => false,
     }
 }
@@ -221,9 +219,7 @@ fn is_calm_called(claim: &Claim<'_>, e: usize) -> bool
 {
     let table = claim.table;
     match claim.graph.callee(e) {
-        Some(f) => {
-            is_calm_confirmed(table, claim.graph.source(e), claim.graph.entry_node(f))
-        }
+        Some(f) => { is_calm_confirmed(table, claim.graph.source(e), claim.graph.entry_node(f)) }
         None => true,
     }
 }

@@ -2,17 +2,17 @@
 //! Tests: crates/graph_tests/src/values.rt.
 #![tactic(auto)]
 
+mod bounds;
 mod certificates;
 mod confirming;
-mod bounds;
 mod edges;
 mod rows;
 mod sizes;
 mod starting;
 mod tables;
 
-pub use certificates::Certificate;
 pub use bounds::is_derived;
+pub use certificates::Certificate;
 pub use edges::Claim;
 pub use sizes::is_sized;
 pub use starting::is_analysed;

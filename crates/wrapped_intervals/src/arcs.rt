@@ -23,6 +23,7 @@ impl Model for Arc {
     ghost Value = { values.Arc };
 
     ghost view = { λ a. record { low = a.low; more = a.more; stride = a.stride } };
+
     ghost inverse = { λ v. record { low = v.low; more = v.more; stride = v.stride } };
 }
 

@@ -111,11 +111,7 @@ pub fn times(i: Option<Arc>, factor: u64) -> Option<Arc>
     match i {
         Some(i) => {
             if (i.low() + i.more()) * factor < WORDS {
-                Some(Arc::strided(
-                    i.low() * factor,
-                    i.more() * factor,
-                    i.stride() * factor,
-                ))
+                Some(Arc::strided(i.low() * factor, i.more() * factor, i.stride() * factor))
             } else {
                 word()
             }

@@ -22,6 +22,7 @@ impl Model for Interval {
     ghost Value = { values.Interval };
 
     ghost view = { λ i. record { from = i.from; to = i.to } };
+
     ghost inverse = { λ v. record { from = v.from; to = v.to } };
 }
 

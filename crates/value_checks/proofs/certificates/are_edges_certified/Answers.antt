@@ -7,9 +7,9 @@ pub loop-e-preserved : goal.loop-e-preserved
 loop-e-preserved c e lt = ⊎_elim
     (λ (before : e < c.loop-e.e). c.loop-e.invariant e before)
     (λ (rest : (e ≡ c.loop-e.e) ⊎ (c.loop-e.e < e)). ⊎_elim
-        (λ (same : e ≡ c.loop-e.e). subst (λ (x : ℕ). IsEdgeCertified c.args.case.now x) (sym same) (c.if-not-is_edge_certified.ensures refl))
-        (λ (after : c.loop-e.e < e). let bad : ⊥ = omega (arith, lt, after) in absurd bad)
-        rest)
+    (λ (same : e ≡ c.loop-e.e). subst (λ (x : ℕ). IsEdgeCertified c.args.case.now x) (sym same) (c.if-not-is_edge_certified.ensures refl))
+    (λ (after : c.loop-e.e < e). let bad : ⊥ = omega (arith, lt, after) in absurd bad)
+    rest)
     (less_same_more e c.loop-e.e)
 
 pub returns : goal.returns

@@ -11,9 +11,9 @@ pub loop-e-preserved : goal.loop-e-preserved
 loop-e-preserved c e lt = ⊎_elim
     (λ (before : e < c.loop-e.e). c.loop-e.invariant e before)
     (λ (rest : (e ≡ c.loop-e.e) ⊎ (c.loop-e.e < e)). ⊎_elim
-        (λ (same : e ≡ c.loop-e.e). subst (λ (x : ℕ). IsEdgeConfirmed (text_of c.args.claim.now.view.now) (graph c.args.claim.now.graph.now) (values_of c.args.claim.now.graph.now.code c.args.claim.now.table.now) x) (sym same) (c.if-not-is_edge_confirmed.ensures refl))
-        (λ (after : c.loop-e.e < e). let bad : ⊥ = omega (arith, lt, after) in absurd bad)
-        rest)
+    (λ (same : e ≡ c.loop-e.e). subst (λ (x : ℕ). IsEdgeConfirmed (text_of c.args.claim.now.view.now) (graph c.args.claim.now.graph.now) (values_of c.args.claim.now.graph.now.code c.args.claim.now.table.now) x) (sym same) (c.if-not-is_edge_confirmed.ensures refl))
+    (λ (after : c.loop-e.e < e). let bad : ⊥ = omega (arith, lt, after) in absurd bad)
+    rest)
     (less_same_more e c.loop-e.e)
 
 pub returns : goal.returns

@@ -10,7 +10,7 @@ pub loop-r-preserved : goal.loop-r-preserved
 loop-r-preserved c r register lt = ⊎_elim
     (λ (before : r < c.loop-r.r). c.loop-r.invariant r register before)
     (λ (rest : (r ≡ c.loop-r.r) ⊎ (c.loop-r.r < r)). ⊎_elim
-        (λ (same : r ≡ c.loop-r.r). subst (λ (x : ℕ). ((flag c.args.calm.now x ≡ true) × (keeps x c.args.i ≡ true) × Covers (row c.args.to.now x) (row c.args.from.now x)) ⊎ Covers (row c.args.to.now x) (row c.args.exit.now x)) (sym same) (c.if-not-is_register_back.ensures refl))
-        (λ (after : c.loop-r.r < r). let bad : ⊥ = omega (arith, lt, after) in absurd bad)
-        rest)
+    (λ (same : r ≡ c.loop-r.r). subst (λ (x : ℕ). ((flag c.args.calm.now x ≡ true) × (keeps x c.args.i ≡ true) × Covers (row c.args.to.now x) (row c.args.from.now x)) ⊎ Covers (row c.args.to.now x) (row c.args.exit.now x)) (sym same) (c.if-not-is_register_back.ensures refl))
+    (λ (after : c.loop-r.r < r). let bad : ⊥ = omega (arith, lt, after) in absurd bad)
+    rest)
     (less_same_more r c.loop-r.r)
