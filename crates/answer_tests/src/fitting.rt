@@ -1,8 +1,8 @@
 //! Images that are chosen of proposals.
 
 use crate::fixtures::*;
-use pace_fit::{Fitted, Proposal, choose};
-use paced_images::SwitchSite;
+use pace_fit::{Fitted, choose};
+use paced_images::{Proposal, SwitchSite};
 use scale_base::{EdgeKind, Stop};
 use std::alloc::Global;
 use std::test::Fail;

@@ -9,7 +9,7 @@ use Rattle.gain_tuner.specs.declared.choosing.Trial.{Trial}
 use Rattle.gain_tuner.specs.Finding.{IsTrialOrOf, Made}
 use Rattle.gain_tuner.specs.Spending.{IsSpent}
 use Rattle.gain_tuner.proofs.Laws.{Answer, none_spent}
-use Rattle.pace_fit.specs.declared.candidates.Proposal.{Proposal}
+use Rattle.paced_images.specs.declared.proposal.Proposal.{Proposal}
 use Rattle.pace_fit.specs.Fitting.{AreRefused, IsCheapestFit, IsChosen, IsFirstBuilt, IsProposed}
 use Rattle.pace_fit.specs.Finding.{IsHeldTrial, IsProposalTried, counted_inputs, given_inputs}
 use Rattle.pace_fit.proofs.Fits.{same_item}

@@ -11,7 +11,7 @@ use Rattle.gain_tuner.specs.declared.choosing.Trial.{Trial}
 use Rattle.gain_tuner.specs.Choice.{IsTrialOf}
 use Rattle.gain_tuner.specs.Finding.{IsSafeChoiceOf, cheaper_of}
 use Rattle.gain_tuner.proofs.Laws.{Answer, IsOne, first_choice, next_choice, tried_or}
-use Rattle.pace_fit.specs.declared.candidates.Proposal.{Proposal}
+use Rattle.paced_images.specs.declared.proposal.Proposal.{Proposal}
 use Rattle.pace_fit.specs.Fitting.{IsCheapestFit, IsProposed}
 use Rattle.pace_fit.specs.Finding.{IsHeldTrial, IsProposalTried, counted_inputs, given_inputs}
 

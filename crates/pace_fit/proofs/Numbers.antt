@@ -15,7 +15,7 @@ use Rattle.gain_tuner.specs.declared.choosing.Files.{Files}
 use Rattle.gain_tuner.specs.declared.choosing.Trial.{Trial}
 use Rattle.gain_tuner.specs.Finding.{IsSafeTrialOf, IsTrialOrOf, IsTried, Made}
 use Rattle.gain_tuner.proofs.Laws.{Answer, AreCounted, counted_flags}
-use Rattle.pace_fit.specs.declared.candidates.Proposal.{Proposal}
+use Rattle.paced_images.specs.declared.proposal.Proposal.{Proposal}
 use Rattle.pace_fit.specs.declared.fitting.Fitted.{Fitted}
 use Rattle.pace_fit.specs.Fitting.{HasEnergy, HasEnergyIfAny, IsFitting, IsHoldEnergy, IsProposed, IsRewriteEnergy}
 use Rattle.pace_fit.specs.Finding.{AreLoaded, IsHeldTrial, IsProposalTried, counted_inputs, given_inputs}

@@ -8,7 +8,7 @@ use Rattle.gain_tuner.specs.declared.choosing.Files.{Files}
 use Rattle.gain_tuner.specs.declared.choosing.Trial.{Trial}
 use Rattle.gain_tuner.specs.Finding.{IsTrialOrOf, Made}
 use Rattle.gain_tuner.specs.Spending.{counts, counting, IsSpent}
-use Rattle.pace_fit.specs.declared.candidates.Proposal.{Proposal}
+use Rattle.paced_images.specs.declared.proposal.Proposal.{Proposal}
 use Rattle.pace_fit.specs.Fitting.{IsProposed}
 
 -- ---- the files

@@ -8,7 +8,7 @@ use Rattle.scaler.specs.Rewritten.{IsRewritten}
 use Rattle.paced_images.specs.Paced.{IsPaced}
 use Rattle.gain_tuner.specs.Choice.{IsCheapestOf}
 use Rattle.gain_tuner.specs.Spending.{counting, IsSpent}
-use Rattle.pace_fit.specs.declared.candidates.Proposal.{Proposal}
+use Rattle.paced_images.specs.declared.proposal.Proposal.{Proposal}
 use Rattle.pace_fit.specs.declared.fitting.Fitted.{Fitted}
 use Rattle.pace_fit.specs.Least.{IsLeastOver}
 

@@ -11,10 +11,10 @@ ghost use Rattle.pace_fit.specs.Fitting.{IsFitted, IsFitting, IsRewriteEnergy};
 ghost use Rattle.pace_fit.specs.Finding.{AreLoaded, counted_inputs, given_inputs};
 
 use crate::bounds::least_over;
-use crate::candidates::Proposal;
 use crate::choosing::chosen;
 use gain_tuner::{Files, count_of, counting_of, held_trial, trial_from};
 use machine_file::read_machine;
+use paced_images::Proposal;
 use power_model::Power;
 use scale_base::{NoMemory, Stop, Summary};
 use scaler::{hold, rewrite};

@@ -3,11 +3,9 @@
 #![tactic(auto)]
 
 mod bounds;
-mod candidates;
 mod choosing;
 mod fitting;
 mod trials;
 
 pub use bounds::least_energy;
-pub use candidates::Proposal;
 pub use fitting::{Fitted, choose};

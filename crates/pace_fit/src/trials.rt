@@ -3,9 +3,8 @@
 ghost use Rattle.std.specs.Prelude.{IfOk};
 ghost use Rattle.pace_fit.specs.Finding.{AreLoaded, IsProposalTried};
 
-use crate::candidates::Proposal;
 use gain_tuner::{Files, Trial, trial_from};
-use paced_images::pace;
+use paced_images::{Proposal, pace};
 use scale_base::NoMemory;
 use std::alloc::Global;
 

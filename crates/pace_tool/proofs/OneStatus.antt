@@ -6,7 +6,7 @@ use Rattle.scale_base.specs.declared.refusal.Refusal.{Refusal}
 use Rattle.scale_base.specs.declared.summary.Summary.{Summary}
 use Rattle.scaler.specs.Held.{IsHeld}
 use Rattle.scaler.proofs.Laws.{held_answers}
-use Rattle.pace_fit.specs.declared.candidates.Proposal.{Proposal}
+use Rattle.paced_images.specs.declared.proposal.Proposal.{Proposal}
 use Rattle.pace_fit.specs.declared.fitting.Fitted.{Fitted}
 use Rattle.pace_fit.specs.Fitting.{IsFitted, IsFitting}
 use Rattle.host_files.specs.HostState.{HostState}

@@ -2,7 +2,7 @@
 use Rattle.std.specs.Prelude.{ℕ, ◌≤◌, List, [], ◌∷◌, length, Result, Ok, Err}
 use Rattle.scale_base.specs.declared.refusal.Refusal.{Refusal}
 use Rattle.scaler.specs.Promise.{IsStoredSafely}
-use Rattle.pace_fit.specs.declared.candidates.Proposal.{Proposal}
+use Rattle.paced_images.specs.declared.proposal.Proposal.{Proposal}
 use Rattle.pace_fit.specs.declared.fitting.Fitted.{Fitted}
 use Rattle.pace_fit.specs.Fitting.{IsFitting}
 use Rattle.host_runs.specs.Answer.{Answer, Tells, stored_answer, text_answer}

@@ -2,7 +2,7 @@
 use Rattle.std.specs.Prelude.{codes, Bool, true, false, ℕ, ◌-◌, ◌==◌, List, [], ◌∷◌, ◌++◌, flat_map, slice_get, if◌then◌else◌, Option, Some, None}
 use Rattle.scale_report.specs.Texts.{address, kind_name, number_line, summary_text}
 use Rattle.paced_images.specs.declared.wanted.SwitchSite.{SwitchSite}
-use Rattle.pace_fit.specs.declared.candidates.Proposal.{Proposal}
+use Rattle.paced_images.specs.declared.proposal.Proposal.{Proposal}
 use Rattle.pace_fit.specs.declared.fitting.Fitted.{Fitted}
 
 -- the energy of what `rewrite` stores, or none where it refuses or a run is out of steps

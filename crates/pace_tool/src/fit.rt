@@ -13,7 +13,8 @@ use crate::command::Fit;
 use crate::proposals::proposals_of;
 use crate::texts::fitted_text;
 use host_runs::{ProgramFiles, Reply};
-use pace_fit::{Fitted, Proposal, choose};
+use pace_fit::{Fitted, choose};
+use paced_images::Proposal;
 use scale_base::{NoMemory, Stop};
 use std::alloc::Global;
 

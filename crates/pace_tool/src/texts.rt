@@ -4,8 +4,8 @@ ghost use Rattle.std.specs.Prelude.{◌≡◌, ◌++◌, IfOk, OnOk, Some, strin
 ghost use Rattle.scale_report.specs.Texts.{number_line};
 ghost use Rattle.pace_tool.specs.Texts.{fitted_text, form_name, proposal_lines, rewrite_line, switch_line, switch_lines, switches_text, tally_line, tally_lines};
 
-use pace_fit::{Fitted, Proposal};
-use paced_images::SwitchSite;
+use pace_fit::Fitted;
+use paced_images::{Proposal, SwitchSite};
 use scale_base::NoMemory;
 use scale_report::{Address, kind_name, summary_text};
 use std::alloc::{AllocError, Global};

@@ -5,6 +5,7 @@
 mod noted;
 mod pacing;
 mod programs;
+mod proposal;
 mod scaling;
 mod stubs;
 mod useful;
@@ -12,6 +13,7 @@ mod wanted;
 
 pub use pacing::pace;
 pub use programs::{Program, program_of};
+pub use proposal::Proposal;
 pub use scaling::{Marked, Scaling};
 pub use useful::useful_sites;
 pub use wanted::SwitchSite;

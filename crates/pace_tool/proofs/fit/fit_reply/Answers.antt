@@ -1,7 +1,7 @@
 use Rattle.std.proofs.Common.{subst, sym}
 use Rattle.std.specs.Prelude.{◌≤◌, IfOk, Result, Ok, Err, List, ℕ, length}
 use Rattle.scale_base.specs.declared.refusal.NoMemory.{NoMemory}
-use Rattle.pace_fit.specs.declared.candidates.Proposal.{Proposal}
+use Rattle.paced_images.specs.declared.proposal.Proposal.{Proposal}
 use Rattle.host_runs.specs.declared.reply.Reply.{Reply}
 use Rattle.host_runs.specs.Answer.{Tells, stored_answer}
 use Rattle.host_runs.specs.Views.{files_view, reply_view}
