@@ -4,8 +4,12 @@
 
 mod bounds;
 mod choosing;
+mod endings;
 mod fitting;
+mod preparing;
 mod trials;
 
 pub use bounds::least_energy;
+pub use endings::{Ending, is_counted};
 pub use fitting::{Fitted, choose};
+pub use preparing::{Prepared, prepare};
