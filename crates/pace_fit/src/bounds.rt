@@ -1,6 +1,6 @@
 //! The least energy of runs, whatever level each of their cycles is run at.
 
-ghost use Rattle.std.specs.Prelude.{◌≡◌, ◌≤◌, ◌<◌, ◌^◌, ℕ, List, length, sum_by};
+ghost use Rattle.std.specs.Prelude.{◌≡◌, ◌≤◌, ◌<◌, ◌^◌, ℕ, List, cond, length, sum_by};
 ghost use Rattle.std.specs.List.{All, filter};
 ghost use Rattle.power_model.specs.Numbers.{IsPowerModel};
 ghost use Rattle.pace_fit.specs.Endings.{is_counted};
@@ -79,7 +79,21 @@ pub fn least_energy(power: &Power, cycles: u64) -> u128
     most
 }
 
-/// The least energy of runs that end so, of those that count.
+/// The least energy of a run that ends so, if its input counts.
+fn least_of(power: &Power, ending: &Ending) -> u128
+    requires power { IsPowerModel power.now }
+    requires cycles { ending.now.cycles ≤ 2 ^ 56 }
+    ensures least { result ≡ cond (is_counted ending.now) (bounds.least_energy power.now ending.now.cycles) 0 }
+    ensures small { result ≤ 2 ^ 121 }
+{
+    if is_counted(ending) {
+        least_energy(power, ending.cycles)
+    } else {
+        0
+    }
+}
+
+/// The least energy of runs that end so, of those whose inputs count.
 pub fn least_over(power: &Power, endings: &[Ending]) -> u128
     requires power { IsPowerModel power.now }
     requires few { length endings.now ≤ 64 }
@@ -88,9 +102,7 @@ pub fn least_over(power: &Power, endings: &[Ending]) -> u128
 {
     let mut energy: u128 = 0;
     for ending in endings {
-        if is_counted(ending) {
-            energy += least_energy(power, ending.cycles);
-        }
+        energy += least_of(power, ending);
     }
     energy
 }
