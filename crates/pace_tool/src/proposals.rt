@@ -1,14 +1,11 @@
 //! What is proposed for a program.
 
-ghost use Rattle.std.specs.Prelude.{◌≤◌, length, IfOk};
+ghost use Rattle.std.specs.Prelude.{◌≡◌, ◌≤◌, length, IfOk};
 
 use crate::fit::Inputs;
-use gain_tuner::counting_of;
 use host_runs::ProgramFiles;
-use pace_fit::Proposal;
-use paced_images::SwitchSite;
-use scale_base::{NoMemory, Stop};
-use scaler::hold;
+use paced_images::{Proposal, SwitchSite};
+use scale_base::NoMemory;
 use std::alloc::Global;
 use switch_search::propose;
 
@@ -76,30 +73,25 @@ fn proposals_from(
     Ok(proposals)
 }
 
-/// What is proposed for a program and its inputs, of up to 64 candidates; nothing where the files are refused. Any proposals are right: what counts is the choice among their
-/// images.
+/// What is proposed for a program and its inputs, of which flags say whether they count: up to 64 candidates. Any proposals are right: what counts
+/// is the choice among their images.
 pub fn proposals_of(
     alloc: Global,
     files: &ProgramFiles<'_>,
     inputs: &Inputs<'_>,
+    flags: &[bool],
 ) -> Result<Vec<Proposal>, NoMemory>
+    requires { length flags.now ≡ length inputs.now.items.now }
     ensures { IfOk result (λ proposals. length proposals.items ≤ 64) }
 {
-    match hold(alloc, files.image, files.machine, files.loops) {
-        Ok(_held) => {
-            let counts = counting_of(alloc, files.image, files.machine, files.loops, inputs.items)?;
-            let found = propose(
-                alloc,
-                files.image,
-                files.machine,
-                files.loops,
-                inputs.items,
-                &counts,
-            )?;
-            let has_counting = counts.iter().any(|counts| *counts);
-            proposals_from(alloc, found, has_counting)
-        }
-        Err(Stop::Refused(_)) => Ok(Vec::new(alloc)),
-        Err(Stop::Memory) => Err(NoMemory),
-    }
+    let found = propose(
+        alloc,
+        files.image,
+        files.machine,
+        files.loops,
+        inputs.items,
+        flags,
+    )?;
+    let has_counting = flags.iter().any(|counts| *counts);
+    proposals_from(alloc, found, has_counting)
 }
