@@ -10,7 +10,7 @@ It makes files in a temporary folder, and fits an image of each shape, at a dead
 - branches: a loop over a text whose every second word is a branch over the next one;
 - calls: a loop that calls each of many functions, which have a branch.
 
-A run that takes more than 60 seconds or 512 megabytes is told, and the status is then 1.
+The seconds are those of the processor. A run that takes more than 60 seconds or 512 megabytes is told, and the status is then 1.
 """
 
 import argparse
@@ -20,7 +20,6 @@ import re
 import subprocess
 import sys
 import tempfile
-import time
 
 from graphs import ENTRY, EXIT, NOP, RETURN, image, jump
 from runs import TOP, machine_text
@@ -96,7 +95,7 @@ class Text:
 def around(text, words, steps, body, each):
     """A loop over a body that takes so many steps at each turn, up to the end of the text."""
     turns = max(steps // each, 1)
-    text.turned(COUNTS[0], turns, 2 * turns, body)
+    text.turned(COUNTS[0], turns, turns + turns // 20, body)
     text.words += [NOP] * (words - len(text.words) - len(EXIT)) + EXIT
 
 
@@ -109,7 +108,7 @@ def mixed(words, steps):
         while len(text.words) < words - 40:
             text.skip(k, 8)
             if k < loops:
-                text.turned(COUNTS[1], 1 + k % 4, 8, lambda: text.words.append(NOP))
+                text.turned(COUNTS[1], 1 + k % 4, max(k % 4, 1), lambda: text.words.append(NOP))
             k += 1
 
     around(text, words, steps, body, loops * 19 + (words - loops * 17) // 11 * 7)
@@ -130,7 +129,7 @@ def nest(words, steps):
         text.words += [NOP] * (each // 2 - 20)
 
     def inner(depth):
-        text.turned(COUNTS[depth], 1 + (depth >= len(COUNTS) - twice), 3, lambda: level(depth))
+        text.turned(COUNTS[depth], 1 + (depth >= len(COUNTS) - twice), 1, lambda: level(depth))
 
     inner(0)
     text.words += [NOP] * (words - len(text.words) - len(EXIT)) + EXIT
@@ -162,7 +161,7 @@ def calls(words, steps):
             text.words.append(jump(1, 4 * (leaf + size * k - (first + k))))
 
     turns = max(steps // (count * size), 1)
-    text.turned(COUNTS[0], turns, 2 * turns, body)
+    text.turned(COUNTS[0], turns, turns + turns // 20, body)
     text.words += EXIT + [NOP] * 3
     for k in range(count):
         text.skip(k, 4)
@@ -175,12 +174,11 @@ SHAPES = {make.__name__: make for make in (mixed, nest, straight, branches, call
 
 
 def measured(words):
-    """Runs a program: its seconds, its megabytes at most, its status and what it printed."""
-    begin = time.perf_counter()
+    """Runs a program: its seconds on the processor, its megabytes at most, its status and what it printed."""
     process = subprocess.Popen(words, stdout=subprocess.PIPE)
     printed = process.stdout.read().decode()
     _, status, usage = os.wait4(process.pid, 0)
-    return time.perf_counter() - begin, usage.ru_maxrss / 1024, os.waitstatus_to_exitcode(status), printed
+    return usage.ru_utime + usage.ru_stime, usage.ru_maxrss / 1024, os.waitstatus_to_exitcode(status), printed
 
 
 class Files:

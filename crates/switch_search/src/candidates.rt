@@ -10,10 +10,8 @@ use power_model::Power;
 use scale_base::NoMemory;
 use std::alloc::Global;
 
-/// How many candidates there are at most, and how many of them are edges.
+/// How many candidates there are at most. A third of them is for loops.
 pub const MOST: usize = 24;
-
-const MOST_EDGES: usize = 16;
 
 /// How many loops are looked at.
 const MOST_LONG: usize = 16;
@@ -131,11 +129,12 @@ fn edges_of(
     power: &Power,
     numbers: &Numbers,
     sums: &Sums,
+    most: usize,
 ) -> Result<Vec<EdgeGain>, NoMemory> {
     let costs = StubCosts::new(&power.costs);
     let mut chosen = Vec::new(alloc);
     for given in &ranking(alloc, power, numbers, sums, &costs)? {
-        if chosen.len() < MOST_EDGES && !has_alike(&chosen, given) {
+        if chosen.len() < most && !has_alike(&chosen, given) {
             chosen.push(*given)?;
         }
     }
@@ -199,7 +198,7 @@ fn is_worth_it(plan: &LoopPlan, long: &LongLoop, sums: &Sums) -> bool {
     long.span.saturating_mul(20) >= cycles && tally_cycles(plan, sums).saturating_mul(5) <= cycles
 }
 
-/// The loops that may be tallied, those first in which the runs are longest.
+/// The loops that may be tallied, so many at most, those first in which the runs are longest.
 pub fn loops_of(
     alloc: Global,
     power: &Power,
@@ -207,12 +206,13 @@ pub fn loops_of(
     tree: &LoopTree,
     numbers: &Numbers,
     sums: &Sums,
+    most: usize,
 ) -> Result<Vec<LoopPlan>, NoMemory> {
     let costs = StubCosts::new(&power.costs);
     let mut plans = Vec::new(alloc);
     for long in &longest(alloc, tree, numbers, sums)? {
         if let Some(plan) = loop_plan(alloc, graph, tree, numbers, &costs, long.number)? {
-            if plans.len() < MOST_LOOPS && is_worth_it(&plan, long, sums) {
+            if plans.len() < most.min(MOST_LOOPS) && is_worth_it(&plan, long, sums) {
                 plans.push(plan)?;
             }
         }
@@ -220,20 +220,21 @@ pub fn loops_of(
     Ok(plans)
 }
 
-/// The candidates: edges, and behind them loops.
+/// The candidates, so many at most: edges, two thirds at most, and behind them loops.
 pub fn candidates_of(
     alloc: Global,
     power: &Power,
     numbers: &Numbers,
     sums: &Sums,
     plans: &[LoopPlan],
+    most: usize,
 ) -> Result<Vec<Candidate>, NoMemory> {
     let mut candidates = Vec::new(alloc);
-    for given in &edges_of(alloc, power, numbers, sums)? {
+    for given in &edges_of(alloc, power, numbers, sums, most - most / 3)? {
         candidates.push(Candidate::Edge(given.edge))?;
     }
     for j in 0..plans.len() {
-        if candidates.len() < MOST {
+        if candidates.len() < most {
             candidates.push(Candidate::Loop(j))?;
         }
     }

@@ -4,6 +4,7 @@
 
 mod building;
 mod candidates;
+mod counted;
 mod counting;
 mod growing;
 mod marks;
@@ -17,5 +18,4 @@ mod tracing;
 mod turning;
 mod walking;
 
-pub use building::Proposal;
 pub use proposing::propose;

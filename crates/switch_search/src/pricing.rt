@@ -31,6 +31,16 @@ pub struct Search<'a> {
     pub tries: usize,
 }
 
+/// Whether each mark of a set can lower a level.
+fn are_useful(set: &MarkSet, acts: &Acts) -> bool {
+    for (c, act) in acts.acts.iter().enumerate() {
+        if set.contains(c) && !act.is_useful {
+            return false;
+        }
+    }
+    true
+}
+
 /// The first time at which a back edge turned so often as to go to the lowest level.
 fn due_at(run: &CandidateRun, act: &Act) -> u64 {
     let mut due = u64::MAX;
@@ -181,10 +191,13 @@ impl<'a> Search<'a> {
         acts.added.saturating_mul(100) > self.places.numbers.worst.saturating_mul(MOST_ADDED)
     }
 
-    /// The energy of the runs with a set: more than any takes where it is refused, or adds too much to the worst case.
+    /// The energy of the runs with a set: more than any takes where it is refused, adds too much to the worst case, or has a mark that can
+    /// lower nothing.
     fn energy_of(&self, set: &MarkSet) -> Result<u128, NoMemory> {
         match self.places.acts(self.alloc, &self.files, set)? {
-            Some(acts) if !self.is_dear(&acts) => self.runs_energy(set, &acts),
+            Some(acts) if !self.is_dear(&acts) && are_useful(set, &acts) => {
+                self.runs_energy(set, &acts)
+            }
             _ => Ok(u128::MAX),
         }
     }

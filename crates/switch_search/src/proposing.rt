@@ -1,9 +1,10 @@
 //! Proposals of switches for a program.
 
-ghost use Rattle.std.specs.Prelude.{◌≡◌, ◌≤◌, length};
+ghost use Rattle.std.specs.Prelude.{◌≡◌, ◌≤◌, length, IfOk};
 
-use crate::building::{Places, Proposal, Sources};
-use crate::candidates::{Candidate, candidates_of, held_energy, loops_of};
+use crate::building::{Places, Sources};
+use crate::candidates::{MOST, candidates_of, held_energy, loops_of};
+use crate::counted::add_counted;
 use crate::growing::best_sets;
 use crate::marks::StubCosts;
 use crate::numbers::{Numbers, numbers_of};
@@ -16,9 +17,10 @@ use crate::turning::LoopPlan;
 use crate::walking::{WALKS, WalkPlan, walked};
 use code_graph::{CodeGraph, build_graph};
 use elf_view::{ImageView, read_image};
-use loop_file::read_loops;
+use loop_file::{LoopNotes, read_loops};
 use loop_tree::{LoopTree, build_loops};
 use machine_file::read_machine;
+use paced_images::Proposal;
 use power_model::Power;
 use scale_base::{NoMemory, Stop};
 use scaler::check_unscaled;
@@ -28,11 +30,47 @@ use std::alloc::Global;
 /// How many shares a run on an input has, where each walk has as many as there are such runs: three times as many as there are walks.
 const SHARES: u64 = 33;
 
-/// Inputs, with a flag for each that says whether it counts.
+/// How many steps of runs on inputs are traced at most, but for those of one run.
+const TRACED: u64 = 40_000_000;
+
+/// How many steps the runs on inputs of all proposals take at most, where there are more than two proposals.
+const TRIED: u64 = 500_000_000;
+
+/// How large the programs are, in all, that are built of sets at most, but for some sets.
+const BUILT: usize = 4_000_000;
+
+/// The inputs whose runs are traced, by their places.
 #[derive(Drop)]
 struct Inputs<'a> {
     inputs: &'a [Vec<u8>],
-    counts: &'a [bool],
+    places: Vec<usize>,
+}
+
+/// How many steps runs of so many cycles take, about.
+fn steps_of(power: &Power, cycles: &[Option<u64>]) -> u64 {
+    let mut steps: u64 = 0;
+    for run in cycles {
+        if let Some(cycles) = run {
+            let own = cycles.checked_div(u64::from(power.costs.alu));
+            steps = steps.saturating_add(own.unwrap_or(*cycles));
+        }
+    }
+    steps
+}
+
+/// Of the inputs that count each n-th, so that their runs take about that part of the steps of all.
+fn each_of(alloc: Global, cycles: &[Option<u64>], n: u64) -> Result<Vec<usize>, NoMemory> {
+    let mut places = Vec::new(alloc);
+    let mut passed: u64 = 0;
+    for (k, run) in cycles.iter().enumerate() {
+        if run.is_some() {
+            if passed.checked_rem(n).unwrap_or(0) == 0 {
+                places.push(k)?;
+            }
+            passed = passed.saturating_add(1);
+        }
+    }
+    Ok(places)
 }
 
 /// Traces the run on an input. Its cycles, if it exits.
@@ -56,7 +94,7 @@ fn traced(
     }
 }
 
-/// The same for input `k`, where it counts.
+/// The same for the input at a place.
 fn traced_input(
     alloc: Global,
     view: &ImageView<'_>,
@@ -65,7 +103,7 @@ fn traced_input(
     k: usize,
     trace: &mut EdgeTrace,
 ) -> Result<Option<u64>, Stop> {
-    if k < inputs.inputs.len() && k < inputs.counts.len() && inputs.counts[k] {
+    if k < inputs.inputs.len() {
         traced(alloc, view, power, &inputs.inputs[k], trace)
     } else {
         Ok(None)
@@ -115,8 +153,8 @@ fn sums_of(
     trace: &mut EdgeTrace,
 ) -> Result<Sums, Stop> {
     let mut sums = Sums::new(alloc, edges)?;
-    for k in 0..inputs.inputs.len() {
-        if let Some(cycles) = traced_input(alloc, view, power, inputs, k, trace)? {
+    for k in &inputs.places {
+        if let Some(cycles) = traced_input(alloc, view, power, inputs, *k, trace)? {
             sums.add(trace, cycles, weight_of(SHARES, cycles));
         }
     }
@@ -167,8 +205,8 @@ fn runs_of(
     trace: &mut EdgeTrace,
 ) -> Result<Vec<RunMarks>, Stop> {
     let mut runs = Vec::new(alloc);
-    for k in 0..inputs.inputs.len() {
-        if let Some(cycles) = traced_input(alloc, view, power, inputs, k, trace)? {
+    for k in &inputs.places {
+        if let Some(cycles) = traced_input(alloc, view, power, inputs, *k, trace)? {
             runs.push(given.run(alloc, trace, cycles, SHARES, true)?)?;
         }
     }
@@ -188,13 +226,34 @@ fn proposals_of(
     Ok(proposals)
 }
 
+/// How many nodes the bodies of all loops have, and how many edges the program: how long it takes to build the stubs of a set, in some unit.
+fn size_of(tree: &LoopTree, numbers: &Numbers) -> usize {
+    let mut size = numbers.edges.len().saturating_add(1);
+    for l in 0..tree.loop_count() {
+        size = size.saturating_add(tree.body(l).len());
+    }
+    size
+}
+
 /// How many sets are priced at most: fewer where the program is large, since the stubs of each are built.
-fn tries_of(numbers: &Numbers) -> usize {
-    let each = numbers.edges.len().saturating_add(1);
-    20_000_000usize
-        .checked_div(each)
-        .unwrap_or(0)
-        .saturating_add(40)
+fn tries_of(size: usize) -> usize {
+    BUILT.checked_div(size).unwrap_or(0).saturating_add(16)
+}
+
+/// How many proposals there are at most, where each is run so many steps: fewer where these are many.
+fn most_proposals(steps: u64) -> usize {
+    let tried = TRIED.checked_div(steps).unwrap_or(u64::MAX);
+    tried.clamp(3, 10) as usize
+}
+
+/// Whether some loop is noted as counted.
+fn has_counted(notes: &LoopNotes) -> bool {
+    for k in 0..notes.count() {
+        if notes.note(k).counted {
+            return true;
+        }
+    }
+    false
 }
 
 /// What a program is, and how it is searched.
@@ -209,11 +268,12 @@ struct Program<'a> {
     numbers: &'a Numbers,
 }
 
-/// The proposals for a program whose numbers are known.
+/// Up to so many proposals for a program whose numbers are known, in which no loop is counted that isn't tallied.
 fn search_program(
     alloc: Global,
     program: &Program<'_>,
     inputs: &Inputs<'_>,
+    most: usize,
     mut trace: EdgeTrace,
 ) -> Result<Vec<Proposal>, Stop> {
     let Program {
@@ -228,8 +288,10 @@ fn search_program(
     let mut sums = sums_of(alloc, view, power, inputs, numbers.edges.len(), &mut trace)?;
     let count = sums.runs().max(1);
     add_walks(alloc, plan, count, &mut sums, &mut trace)?;
-    let plans = loops_of(alloc, power, graph, tree, numbers, &sums)?;
-    let candidates = candidates_of(alloc, power, numbers, &sums, &plans)?;
+    let tries = tries_of(size_of(tree, numbers));
+    let few = MOST.min(tries / 4);
+    let plans = loops_of(alloc, power, graph, tree, numbers, &sums, few / 3)?;
+    let candidates = candidates_of(alloc, power, numbers, &sums, &plans, few)?;
     if candidates.is_empty() {
         return Ok(Vec::new(alloc));
     }
@@ -255,9 +317,9 @@ fn search_program(
         runs: &runs,
         held: held_energy(power, numbers, &sums),
         known: Vec::new(alloc),
-        tries: tries_of(numbers),
+        tries,
     };
-    let sets = best_sets(alloc, &mut search)?;
+    let sets = best_sets(alloc, &mut search, most)?;
     Ok(proposals_of(alloc, &places, &sets)?)
 }
 
@@ -265,7 +327,8 @@ fn search_program(
 fn search_files(
     alloc: Global,
     files: Sources<'_>,
-    inputs: &Inputs<'_>,
+    inputs: &[Vec<u8>],
+    cycles: &[Option<u64>],
 ) -> Result<Vec<Proposal>, Stop> {
     let power = read_machine(alloc, files.machine)?;
     let view = read_image(alloc, files.image)?;
@@ -285,16 +348,35 @@ fn search_files(
         tree: &tree,
         numbers: &numbers,
     };
-    search_program(alloc, &program, inputs, trace)
+    let steps = steps_of(&power, cycles);
+    let places = each_of(alloc, cycles, (steps / TRACED).saturating_add(1))?;
+    // Only runs tell what counting takes.
+    let counts = has_counted(&notes) && !places.is_empty();
+    let most = most_proposals(steps);
+    let inputs = Inputs { inputs, places };
+    let mut proposals = search_program(
+        alloc,
+        &program,
+        &inputs,
+        if counts { most - 2 } else { most.min(8) },
+        trace,
+    )?;
+    if counts {
+        add_counted(alloc, &files, numbers.worst, most, &mut proposals)?;
+    }
+    Ok(proposals)
 }
 
-/// Up to 8 proposals of up to 8 marks that may save energy: edges with a switch and loops that are tallied, as `pace` takes them with no other loop
-/// counted; the most promising one first.
+/// Up to 10 proposals that may save energy, the most promising one first: at most 8 of edges with a switch and loops that are tallied, as `pace` takes
+/// them with no other loop counted; and where some input counts and some loop is noted as counted, two that count these loops, alone and with the
+/// switches of the first proposal, where that adds few cycles to the worst case. None of their marks is one that can lower nothing, and there are fewer where the
+/// runs are long, since each is run on all inputs.
 /// None are given where the files are refused, or where nothing promises to save at least one percent of what the runs take at one level.
 ///
-/// The choice is by the runs of the original on the inputs that count and exit, and by some random walks of its graph that keep the loop file:
-/// a third as much in all, and alone where no input counts. It is the same for the same files. Nothing is promised of it: what it proposes has
-/// to be made and run by others. The files have at most the bytes that the program loads: 4,194,304 of an image, 1,048,576 of each other
+/// With each input comes how many cycles the run of the original on it takes, where the input counts.
+/// The choice is by the runs of the original on the inputs that count, on some of them where these are long, and by some random walks of its graph that
+/// keep the loop file: a third as much in all, and alone where no input counts. It is the same for the same files. Nothing is promised of it: what it
+/// proposes has to be made and run by others. The files have at most the bytes that the program loads: 4,194,304 of an image, 1,048,576 of each other
 /// file. One error: memory ran out.
 pub fn propose(
     alloc: Global,
@@ -302,22 +384,25 @@ pub fn propose(
     machine: &[u8],
     loops: &[u8],
     inputs: &[Vec<u8>],
-    counts: &[bool],
+    cycles: &[Option<u64>],
 ) -> Result<Vec<Proposal>, NoMemory>
     requires image { length image.now ≤ 4194304 }
     requires machine { length machine.now ≤ 1048576 }
     requires loops { length loops.now ≤ 1048576 }
     requires few { length inputs.now ≤ 64 }
-    requires counts { length counts.now ≡ length inputs.now }
+    requires cycles { length cycles.now ≡ length inputs.now }
+    ensures { IfOk result (λ proposals. length proposals.items ≤ 10) }
 {
-    let inputs = Inputs { inputs, counts };
     let files = Sources {
         image,
         machine,
         loops,
     };
-    match search_files(alloc, files, &inputs) {
-        Ok(proposals) => Ok(proposals),
+    match search_files(alloc, files, inputs, cycles) {
+        Ok(mut proposals) => {
+            proposals.truncate(10);
+            Ok(proposals)
+        }
         Err(Stop::Memory) => Err(NoMemory),
         Err(Stop::Refused(_)) => Ok(Vec::new(alloc)),
     }
