@@ -2,11 +2,9 @@
 
 ghost use Rattle.std.specs.Prelude.{◌≤◌, length, IfOk};
 
-use crate::candidates::Candidate;
-use crate::numbers::Numbers;
 use crate::sets::MarkSet;
-use crate::turning::LoopPlan;
 use paced_images::{Proposal, Scaling, SwitchSite, program_of};
+use run_traces::{Candidate, LoopPlan, Numbers};
 use scale_base::{Edge, Fragment, NoMemory, Stop};
 use std::alloc::Global;
 use stub_writer::{StubEdge, StubSite};

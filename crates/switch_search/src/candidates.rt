@@ -1,12 +1,10 @@
 //! The edges on which one switch alone saves most, and the loops in which the runs are longest.
 
-use crate::marks::{Mark, StubCosts, change_energy, energy_at, entry, mark_of};
-use crate::numbers::Numbers;
-use crate::sums::{EdgeSum, Sums};
-use crate::turning::{LoopPlan, MOST_LOOPS, loop_plan};
+use crate::marks::{Mark, change_energy, energy_at, entry, mark_of};
 use code_graph::CodeGraph;
 use loop_tree::LoopTree;
 use power_model::Power;
+use run_traces::{Candidate, EdgeSum, LoopPlan, MOST_LOOPS, Numbers, StubCosts, Sums, loop_plan};
 use scale_base::NoMemory;
 use std::alloc::Global;
 
@@ -15,13 +13,6 @@ pub const MOST: usize = 24;
 
 /// How many loops are looked at.
 const MOST_LONG: usize = 16;
-
-/// What may have a mark: an edge, or each back edge of a loop, by its place among the loops that may be tallied.
-#[derive(Clone, Copy)]
-pub enum Candidate {
-    Edge(usize),
-    Loop(usize),
-}
 
 /// An edge with a switch, the level to which it leads from the starting level where it stands alone, what the runs do there, and what it saves
 /// then at least, by the weights of the runs.

@@ -1,8 +1,9 @@
 //! Sets of marks that grow as long as they save more.
 
-use crate::candidates::{Candidate, MOST};
+use crate::candidates::MOST;
 use crate::pricing::Search;
 use crate::sets::{Form, MarkSet, Priced};
+use run_traces::Candidate;
 use scale_base::NoMemory;
 use std::alloc::Global;
 

@@ -5,17 +5,10 @@
 mod building;
 mod candidates;
 mod counted;
-mod counting;
 mod growing;
 mod marks;
-mod numbers;
 mod pricing;
 mod proposing;
-mod runs;
 mod sets;
-mod sums;
-mod tracing;
-mod turning;
-mod walking;
 
 pub use proposing::propose;

@@ -1,10 +1,10 @@
 //! What runs take with a set of marks, by what they do at its edges and in its loops.
 
 use crate::building::{Act, Acts, Places, Sources};
-use crate::marks::{StubCosts, change_energy, energy_at};
-use crate::runs::{CandidateRun, RunMarks, Span};
+use crate::marks::{change_energy, energy_at};
 use crate::sets::{MarkSet, Priced};
 use power_model::Power;
+use run_traces::{CandidateRun, RunMarks, Span, StubCosts};
 use scale_base::NoMemory;
 use std::alloc::Global;
 

@@ -6,45 +6,28 @@ use crate::building::{Places, Sources};
 use crate::candidates::{MOST, candidates_of, held_energy, loops_of};
 use crate::counted::add_counted;
 use crate::growing::best_sets;
-use crate::marks::StubCosts;
-use crate::numbers::{Numbers, numbers_of};
 use crate::pricing::Search;
-use crate::runs::{RunMarks, RunWeight};
 use crate::sets::Priced;
-use crate::sums::{Sums, weight_of};
-use crate::tracing::EdgeTrace;
-use crate::turning::LoopPlan;
-use crate::walking::{WALKS, WalkPlan, walked};
 use code_graph::{CodeGraph, build_graph};
-use elf_view::{ImageView, read_image};
+use elf_view::read_image;
 use loop_file::{LoopNotes, read_loops};
 use loop_tree::{LoopTree, build_loops};
 use machine_file::read_machine;
 use paced_images::Proposal;
 use power_model::Power;
+use run_traces::{EdgeTrace, Numbers, Runs, StubCosts, WalkPlan, Watched, numbers_of};
 use scale_base::{NoMemory, Stop};
 use scaler::check_unscaled;
-use speed_sim::{End, start_of, watched_report};
 use std::alloc::Global;
-
-/// How many shares a run on an input has, where each walk has as many as there are such runs: three times as many as there are walks.
-const SHARES: u64 = 33;
 
 /// How many steps of runs on inputs are traced at most, but for those of one run.
 const TRACED: u64 = 40_000_000;
 
-/// How many steps the runs on inputs of all proposals take at most, where there are more than two proposals.
-const TRIED: u64 = 500_000_000;
+/// How many steps the runs of all proposals take at most, where there are more than three proposals.
+const TRIED: u64 = 800_000_000;
 
 /// How large the programs are, in all, that are built of sets at most, but for some sets.
 const BUILT: usize = 4_000_000;
-
-/// The inputs whose runs are traced, by their places.
-#[derive(Drop)]
-struct Inputs<'a> {
-    inputs: &'a [Vec<u8>],
-    places: Vec<usize>,
-}
 
 /// How many steps runs of so many cycles take, about.
 fn steps_of(power: &Power, cycles: &[Option<u64>]) -> u64 {
@@ -71,146 +54,6 @@ fn each_of(alloc: Global, cycles: &[Option<u64>], n: u64) -> Result<Vec<usize>, 
         }
     }
     Ok(places)
-}
-
-/// Traces the run on an input. Its cycles, if it exits.
-fn traced(
-    alloc: Global,
-    view: &ImageView<'_>,
-    power: &Power,
-    input: &[u8],
-    trace: &mut EdgeTrace,
-) -> Result<Option<u64>, Stop> {
-    let levels = power.levels.count();
-    if levels == 0 {
-        return Ok(None);
-    }
-    let start = start_of(levels, view.keyed())?;
-    trace.begin();
-    let report = watched_report(alloc, view, power, start, input, trace)?;
-    match report.end {
-        End::Exited(_) => Ok(Some(report.meter.cycles)),
-        _ => Ok(None),
-    }
-}
-
-/// The same for the input at a place.
-fn traced_input(
-    alloc: Global,
-    view: &ImageView<'_>,
-    power: &Power,
-    inputs: &Inputs<'_>,
-    k: usize,
-    trace: &mut EdgeTrace,
-) -> Result<Option<u64>, Stop> {
-    if k < inputs.inputs.len() {
-        traced(alloc, view, power, &inputs.inputs[k], trace)
-    } else {
-        Ok(None)
-    }
-}
-
-/// Adds what the walks do at the edges.
-fn add_walks(
-    alloc: Global,
-    plan: &WalkPlan<'_>,
-    inputs: u64,
-    sums: &mut Sums,
-    trace: &mut EdgeTrace,
-) -> Result<(), NoMemory> {
-    for number in 0..WALKS {
-        if let Some(cycles) = walked(alloc, plan, number, trace)? {
-            sums.add(trace, cycles, weight_of(inputs, cycles));
-        }
-    }
-    Ok(())
-}
-
-/// Adds what the walks do at the candidates.
-fn add_walk_runs(
-    alloc: Global,
-    plan: &WalkPlan<'_>,
-    inputs: u64,
-    given: &Given<'_>,
-    runs: &mut Vec<RunMarks>,
-    trace: &mut EdgeTrace,
-) -> Result<(), NoMemory> {
-    for number in 0..WALKS {
-        if let Some(cycles) = walked(alloc, plan, number, trace)? {
-            runs.push(given.run(alloc, trace, cycles, inputs, false)?)?;
-        }
-    }
-    Ok(())
-}
-
-/// What the runs on the inputs do at the edges, in all.
-fn sums_of(
-    alloc: Global,
-    view: &ImageView<'_>,
-    power: &Power,
-    inputs: &Inputs<'_>,
-    edges: usize,
-    trace: &mut EdgeTrace,
-) -> Result<Sums, Stop> {
-    let mut sums = Sums::new(alloc, edges)?;
-    for k in &inputs.places {
-        if let Some(cycles) = traced_input(alloc, view, power, inputs, *k, trace)? {
-            sums.add(trace, cycles, weight_of(SHARES, cycles));
-        }
-    }
-    Ok(sums)
-}
-
-/// The candidates, for the runs that are traced.
-#[derive(Clone, Copy)]
-struct Given<'a> {
-    places: Places<'a>,
-    jump: u64,
-}
-
-impl Given<'_> {
-    /// What the run that was traced does at the candidates.
-    fn run(
-        &self,
-        alloc: Global,
-        trace: &EdgeTrace,
-        cycles: u64,
-        shares: u64,
-        is_input: bool,
-    ) -> Result<RunMarks, NoMemory> {
-        let places = &self.places;
-        RunMarks::new(
-            alloc,
-            places.numbers,
-            places.candidates,
-            places.plans,
-            self.jump,
-            trace,
-            RunWeight {
-                cycles,
-                weight: weight_of(shares, cycles),
-                is_input,
-            },
-        )
-    }
-}
-
-/// What each run on an input does at the candidates.
-fn runs_of(
-    alloc: Global,
-    view: &ImageView<'_>,
-    power: &Power,
-    inputs: &Inputs<'_>,
-    given: &Given<'_>,
-    trace: &mut EdgeTrace,
-) -> Result<Vec<RunMarks>, Stop> {
-    let mut runs = Vec::new(alloc);
-    for k in &inputs.places {
-        if let Some(cycles) = traced_input(alloc, view, power, inputs, *k, trace)? {
-            runs.push(given.run(alloc, trace, cycles, SHARES, true)?)?;
-        }
-    }
-    Ok(runs)
 }
 
 /// The sets as proposals.
@@ -260,34 +103,28 @@ fn has_counted(notes: &LoopNotes) -> bool {
 #[derive(Clone, Copy)]
 struct Program<'a> {
     files: Sources<'a>,
-    view: &'a ImageView<'a>,
     power: &'a Power,
-    plan: &'a WalkPlan<'a>,
     graph: &'a CodeGraph,
     tree: &'a LoopTree,
     numbers: &'a Numbers,
 }
 
-/// Up to so many proposals for a program whose numbers are known, in which no loop is counted that isn't tallied.
+/// Up to so many proposals for a program whose numbers are known, by some runs, in which no loop is counted that isn't tallied.
 fn search_program(
     alloc: Global,
     program: &Program<'_>,
-    inputs: &Inputs<'_>,
+    runs: &Runs<'_>,
     most: usize,
-    mut trace: EdgeTrace,
 ) -> Result<Vec<Proposal>, Stop> {
     let Program {
         files,
-        view,
         power,
-        plan,
         graph,
         tree,
         numbers,
     } = *program;
-    let mut sums = sums_of(alloc, view, power, inputs, numbers.edges.len(), &mut trace)?;
-    let count = sums.runs().max(1);
-    add_walks(alloc, plan, count, &mut sums, &mut trace)?;
+    let mut trace = EdgeTrace::new(alloc, graph, &power.costs)?;
+    let sums = runs.sums(alloc, numbers.edges.len(), &mut trace)?;
     let tries = tries_of(size_of(tree, numbers));
     let few = MOST.min(tries / 4);
     let plans = loops_of(alloc, power, graph, tree, numbers, &sums, few / 3)?;
@@ -297,24 +134,25 @@ fn search_program(
     }
     trace.count(alloc, &plans)?;
     let costs = StubCosts::new(&power.costs);
+    let watched = Watched {
+        numbers,
+        candidates: &candidates,
+        plans: &plans,
+        jump: costs.jump,
+    };
+    let marks = runs.marks(alloc, &watched, &mut trace)?;
     let places = Places {
         numbers,
         candidates: &candidates,
         plans: &plans,
     };
-    let given = Given {
-        places,
-        jump: costs.jump,
-    };
-    let mut runs = runs_of(alloc, view, power, inputs, &given, &mut trace)?;
-    add_walk_runs(alloc, plan, count, &given, &mut runs, &mut trace)?;
     let mut search = Search {
         alloc,
         files,
         power,
         costs,
         places,
-        runs: &runs,
+        runs: &marks,
         held: held_energy(power, numbers, &sums),
         known: Vec::new(alloc),
         tries,
@@ -338,29 +176,27 @@ fn search_files(
     let tree = build_loops(alloc, &graph, &notes)?;
     let numbers = numbers_of(alloc, &graph, &tree, &power)?;
     let plan = WalkPlan::new(alloc, &graph, &tree, &numbers)?;
-    let trace = EdgeTrace::new(alloc, &graph, &power.costs)?;
-    let program = Program {
-        files,
-        view: &view,
-        power: &power,
-        plan: &plan,
-        graph: &graph,
-        tree: &tree,
-        numbers: &numbers,
-    };
     let steps = steps_of(&power, cycles);
     let places = each_of(alloc, cycles, (steps / TRACED).saturating_add(1))?;
     // Only runs tell what counting takes.
     let counts = has_counted(&notes) && !places.is_empty();
     let most = most_proposals(steps);
-    let inputs = Inputs { inputs, places };
-    let mut proposals = search_program(
-        alloc,
-        &program,
-        &inputs,
-        if counts { most - 2 } else { most.min(8) },
-        trace,
-    )?;
+    let program = Program {
+        files,
+        power: &power,
+        graph: &graph,
+        tree: &tree,
+        numbers: &numbers,
+    };
+    let runs = Runs {
+        view: &view,
+        power: &power,
+        plan: &plan,
+        inputs,
+        places: &places,
+    };
+    let found = if counts { most - 2 } else { most.min(8) };
+    let mut proposals = search_program(alloc, &program, &runs, found)?;
     if counts {
         add_counted(alloc, &files, numbers.worst, most, &mut proposals)?;
     }

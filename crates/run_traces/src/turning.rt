@@ -1,6 +1,6 @@
 //! Loops whose turns may be tallied: their back edges, the edges that leave them, and what a tally costs on each.
 
-use crate::marks::StubCosts;
+use crate::costs::StubCosts;
 use crate::numbers::Numbers;
 use crate::tracing::may_switch;
 use code_graph::CodeGraph;
