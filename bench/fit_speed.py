@@ -8,7 +8,9 @@ It makes files in a temporary folder, and fits an image of each shape, at a dead
 - nest: loops in loops, 16 deep, with as much code at each depth;
 - straight: a loop over a text without a branch;
 - branches: a loop over a text whose every second word is a branch over the next one;
-- calls: a loop that calls each of many functions, which have a branch.
+- calls: a loop that calls each of many functions, which have a branch;
+- exits: a loop with an edge out of it at every other word, of which none is taken;
+- backs: a loop with a way back to its header at every other word, of which none is taken.
 
 The seconds are those of the processor. A run that takes more than 60 seconds or 512 megabytes is told, and the status is then 1.
 """
@@ -170,7 +172,30 @@ def calls(words, steps):
     return text
 
 
-SHAPES = {make.__name__: make for make in (mixed, nest, straight, branches, calls)}
+def jumps(words, steps, target):
+    """A loop over a text whose every second word is a jump, to a place by the loop's header and its end, which the word before goes past."""
+    text = Text()
+
+    def body():
+        header = text.at()
+        end = header + 4 * (words - 40) + 12
+        for _ in range((words - 40) // 2):
+            text.words.append(branch(0, 0, 0, 8))
+            text.words.append(jump(0, target(header, end) - text.at()))
+
+    around(text, words, steps, body, (words - 40) // 2)
+    return text
+
+
+def exits(words, steps):
+    return jumps(words, steps, lambda header, end: end)
+
+
+def backs(words, steps):
+    return jumps(words, steps, lambda header, end: header)
+
+
+SHAPES = {make.__name__: make for make in (mixed, nest, straight, branches, calls, exits, backs)}
 
 
 def measured(words):

@@ -119,7 +119,11 @@ fn name_at<'a>(
 fn input_at<'a>(inputs: &[&'a str], number: usize) -> Option<&'a str>
     ensures { option_map (λ name. name.now) result ≡ option_map (λ want. want.0) (slice_get (input_wants (texts inputs.now)) number) }
 {
-    inputs.get(number).copied()
+    if number < inputs.len() {
+        Some(inputs[number])
+    } else {
+        None
+    }
 }
 
 /// The name of the file that is stored, if there is one.
