@@ -229,7 +229,7 @@ pub fn best_sets(
     let mut grown = Vec::new(alloc);
     let mut alone = Vec::new(alloc);
     sets_of(alloc, search, LOWEST, &mut grown, &mut alone)?;
-    if search.places.numbers.start > 1 {
+    if search.start > 1 {
         sets_of(alloc, search, WORDS, &mut grown, &mut alone)?;
         sets_of(alloc, search, BOTH, &mut grown, &mut alone)?;
     }

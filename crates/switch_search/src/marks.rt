@@ -4,7 +4,7 @@ ghost use Rattle.std.specs.Prelude.{◌<◌, ◌^◌, IfSome};
 
 use level_tables::{LevelBudgets, entry_within};
 use power_model::Power;
-use run_traces::{EdgeNumbers, Numbers, StubCosts, may_switch};
+use run_traces::{EdgeNumbers, StubCosts, may_switch};
 use scale_base::EdgeKind;
 
 /// A switch to the lowest level on an edge. The numbers are in cycles: what a pass takes more, what a pass of either edge of the instruction takes
@@ -110,11 +110,10 @@ fn small(least: Option<u128>) -> Option<u128>
     }
 }
 
-/// The level to which a switch alone leads from the starting level: that level itself where the start is another one by then.
-pub fn entry(power: &Power, numbers: &Numbers, mark: &Mark) -> u8 {
-    let start = numbers.start;
-    let worst = numbers.worst.saturating_add(mark.added);
-    match first_budget(power, start, worst) {
+/// The level to which a switch alone leads from the starting level, where the worst cycles are so many without it: that level itself where the
+/// start is another one by then.
+pub fn entry(power: &Power, start: u8, worst: u64, mark: &Mark) -> u8 {
+    match first_budget(power, start, worst.saturating_add(mark.added)) {
         Some(first) if start < power.levels.count() => {
             let mut budgets = LevelBudgets::alike(power.deadline);
             budgets.start = start;

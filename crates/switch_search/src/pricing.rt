@@ -16,7 +16,7 @@ struct Event {
     again: bool,
 }
 
-/// What the search knows: the files, the machine, the program, the candidates, the runs, and the energy of the runs at the starting level; and which sets
+/// What the search knows: the files, the machine, the program, the candidates, the runs, the starting level and the energy of the runs there; and which sets
 /// it has priced, and how many more it may.
 #[derive(Drop)]
 pub struct Search<'a> {
@@ -26,6 +26,7 @@ pub struct Search<'a> {
     pub costs: StubCosts,
     pub places: Places<'a>,
     pub runs: &'a [RunMarks],
+    pub start: u8,
     pub held: u128,
     pub known: Vec<Priced>,
     pub tries: usize,
@@ -163,7 +164,7 @@ impl<'a> Search<'a> {
     /// Whether a set is out by a run on an input: its stubs take more than so many thousandths of the run's cycles, and it doesn't save at least as much as
     /// they take.
     fn is_out(&self, set: &MarkSet, run: &RunMarks, energy: u128) -> bool {
-        let level = self.places.numbers.start;
+        let level = self.start;
         let cycles = run.run.cycles;
         let stubs = self.stub_cycles(set, run, 0, cycles.saturating_add(1));
         let few = u128::from(stubs).saturating_mul(1000) <= u128::from(cycles).saturating_mul(FEW);

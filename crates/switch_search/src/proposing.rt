@@ -3,7 +3,7 @@
 ghost use Rattle.std.specs.Prelude.{◌≡◌, ◌≤◌, length, IfOk};
 
 use crate::building::{Places, Sources};
-use crate::candidates::{MOST, candidates_of, held_energy, loops_of};
+use crate::candidates::{Known, MOST, loops_of};
 use crate::counted::add_counted;
 use crate::growing::best_sets;
 use crate::pricing::Search;
@@ -17,7 +17,7 @@ use paced_images::Proposal;
 use power_model::Power;
 use run_traces::{EdgeTrace, Numbers, Runs, StubCosts, WalkPlan, Watched, numbers_of};
 use scale_base::{NoMemory, Stop};
-use scaler::check_unscaled;
+use scaler::{check_unscaled, starting_level};
 use std::alloc::Global;
 
 /// How many steps of runs on inputs are traced at most, but for those of one run.
@@ -107,6 +107,7 @@ struct Program<'a> {
     graph: &'a CodeGraph,
     tree: &'a LoopTree,
     numbers: &'a Numbers,
+    start: u8,
 }
 
 /// Up to so many proposals for a program whose numbers are known, by some runs, in which no loop is counted that isn't tallied.
@@ -122,18 +123,26 @@ fn search_program(
         graph,
         tree,
         numbers,
+        start,
     } = *program;
     let mut trace = EdgeTrace::new(alloc, graph, &power.costs)?;
     let sums = runs.sums(alloc, numbers.edges.len(), &mut trace)?;
     let tries = tries_of(size_of(tree, numbers));
     let few = MOST.min(tries / 4);
-    let plans = loops_of(alloc, power, graph, tree, numbers, &sums, few / 3)?;
-    let candidates = candidates_of(alloc, power, numbers, &sums, &plans, few)?;
+    let known = Known {
+        power,
+        numbers,
+        sums: &sums,
+        costs: StubCosts::new(&power.costs),
+        start,
+    };
+    let plans = loops_of(alloc, graph, tree, &known, few / 3)?;
+    let candidates = known.candidates(alloc, &plans, few)?;
     if candidates.is_empty() {
         return Ok(Vec::new(alloc));
     }
     trace.count(alloc, &plans)?;
-    let costs = StubCosts::new(&power.costs);
+    let costs = known.costs;
     let watched = Watched {
         numbers,
         candidates: &candidates,
@@ -153,7 +162,8 @@ fn search_program(
         costs,
         places,
         runs: &marks,
-        held: held_energy(power, numbers, &sums),
+        start,
+        held: known.held_energy(),
         known: Vec::new(alloc),
         tries,
     };
@@ -175,6 +185,7 @@ fn search_files(
     let graph = build_graph(alloc, &view)?;
     let tree = build_loops(alloc, &graph, &notes)?;
     let numbers = numbers_of(alloc, &graph, &tree, &power)?;
+    let start = starting_level(&power, numbers.worst)?;
     let plan = WalkPlan::new(alloc, &graph, &tree, &numbers)?;
     let steps = steps_of(&power, cycles);
     let places = each_of(alloc, cycles, (steps / TRACED).saturating_add(1))?;
@@ -187,6 +198,7 @@ fn search_files(
         graph: &graph,
         tree: &tree,
         numbers: &numbers,
+        start,
     };
     let runs = Runs {
         view: &view,
