@@ -45,6 +45,14 @@ pub struct Acts {
     pub acts: Vec<Act>,
 }
 
+/// How many percent of the worst cycles stubs may add.
+const MOST_ADDED: u64 = 10;
+
+/// Whether stubs add too many cycles to so many worst ones.
+pub fn are_dear(added: u64, worst: u64) -> bool {
+    added.saturating_mul(100) > worst.saturating_mul(MOST_ADDED)
+}
+
 /// From each level to itself.
 const STAYS: [u8; 8] = [0, 1, 2, 3, 4, 5, 6, 7];
 

@@ -2,13 +2,10 @@
 
 ghost use Rattle.std.specs.Prelude.{◌≤◌, length, IfOk};
 
-use crate::building::{Sources, scaling_of};
+use crate::building::{Sources, are_dear, scaling_of};
 use paced_images::{KeptMarks, Proposal, SwitchSite, useful_marks};
 use scale_base::{NoMemory, Stop};
 use std::alloc::Global;
-
-/// How many percent of the worst cycles the stubs of such a proposal may add.
-const MOST_ADDED: u64 = 3;
 
 /// How often switches are taken out that can lower nothing: with others out, more may be able to.
 const ROUNDS: usize = 3;
@@ -83,8 +80,8 @@ fn is_worth_it(
 ) -> Result<bool, NoMemory> {
     match scaling_of(alloc, files, proposal)? {
         Some(scaling) => {
-            let added = scaling.summary.stub_cycles.saturating_mul(100);
-            Ok(scaling.summary.exit_edges > 0 && added <= worst.saturating_mul(MOST_ADDED))
+            let summary = &scaling.summary;
+            Ok(summary.exit_edges > 0 && !are_dear(summary.stub_cycles, worst))
         }
         None => Ok(false),
     }

@@ -1,6 +1,6 @@
 //! What runs take with a set of marks, by what they do at its edges and in its loops.
 
-use crate::building::{Act, Acts, Places, Sources};
+use crate::building::{Act, Acts, Places, Sources, are_dear};
 use crate::marks::{change_energy, energy_at};
 use crate::sets::{MarkSet, Priced};
 use power_model::Power;
@@ -187,16 +187,12 @@ impl<'a> Search<'a> {
         Ok(energy)
     }
 
-    /// Whether the stubs of a set add too many cycles to the worst case: more than so many percent.
-    fn is_dear(&self, acts: &Acts) -> bool {
-        acts.added.saturating_mul(100) > self.places.numbers.worst.saturating_mul(MOST_ADDED)
-    }
-
     /// The energy of the runs with a set: more than any takes where it is refused, adds too much to the worst case, or has a mark that can
     /// lower nothing.
     fn energy_of(&self, set: &MarkSet) -> Result<u128, NoMemory> {
         match self.places.acts(self.alloc, &self.files, set)? {
-            Some(acts) if !self.is_dear(&acts) && are_useful(set, &acts) => {
+            Some(acts)
+                if !are_dear(acts.added, self.places.numbers.worst) && are_useful(set, &acts) => {
                 self.runs_energy(set, &acts)
             }
             _ => Ok(u128::MAX),
@@ -243,9 +239,6 @@ impl<'a> Search<'a> {
         less < than && (than - less).saturating_mul(1000) >= self.held.saturating_mul(thousandths)
     }
 }
-
-/// How many percent of the worst cycles the stubs may add.
-const MOST_ADDED: u64 = 10;
 
 /// How many thousandths of its cycles the stubs of a run may take where they save nothing.
 const FEW: u128 = 18;
