@@ -207,7 +207,11 @@ fn search_files(
         inputs,
         places: &places,
     };
-    let found = if counts { most - 2 } else { most.min(8) };
+    let found = if counts {
+        most.saturating_sub(2)
+    } else {
+        most.min(8)
+    };
     let mut proposals = search_program(alloc, &program, &runs, found)?;
     if counts {
         add_counted(alloc, &files, numbers.worst, most, &mut proposals)?;
