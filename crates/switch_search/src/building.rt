@@ -4,7 +4,7 @@ ghost use Rattle.std.specs.Prelude.{◌≤◌, length, IfOk};
 
 use crate::sets::MarkSet;
 use paced_images::{Proposal, Scaling, SwitchSite, program_of};
-use run_traces::{Candidate, LoopPlan, Numbers};
+use run_traces::{Candidate, LoopPlan, Numbers, Watched};
 use scale_base::{Edge, Fragment, NoMemory, Stop};
 use std::alloc::Global;
 use stub_writer::{StubEdge, StubSite};
@@ -125,6 +125,16 @@ impl Act {
 }
 
 impl<'a> Places<'a> {
+    /// What runs are looked at for, where a jump takes so many cycles.
+    pub fn watched(&self, jump: u64) -> Watched<'a> {
+        Watched {
+            numbers: self.numbers,
+            candidates: self.candidates,
+            plans: self.plans,
+            jump,
+        }
+    }
+
     /// Edge `e`.
     fn edge(&self, e: usize) -> Option<Edge> {
         if e < self.numbers.edges.len() {

@@ -79,31 +79,39 @@ impl Known<'_> {
         }
     }
 
+    /// A switch on edge `e`, if it may have one.
+    fn mark_at(&self, e: usize) -> Option<Mark> {
+        if e < self.numbers.edges.len() {
+            mark_of(&self.numbers.edges[e], &self.costs)
+        } else {
+            None
+        }
+    }
+
+    /// What a switch to a level saves alone where the runs do so at its edge.
+    fn gain_of(&self, mark: &Mark, sum: &EdgeSum, to: u8) -> u128 {
+        let high = energy_at(self.power, self.start);
+        let low = energy_at(self.power, to);
+        let saved = sum.behind.saturating_mul(high.saturating_sub(low));
+        let change = change_energy(self.power, self.start, to);
+        let changes = sum.runs.saturating_mul(change);
+        let stubs = stub_energy(mark, sum, &self.other_sum(mark), low);
+        saved.saturating_sub(stubs.saturating_add(changes))
+    }
+
     /// A switch on edge `e` alone, if it may have one and some run goes over it.
     fn gain_at(&self, e: usize) -> Option<EdgeGain> {
-        let Known {
-            power,
-            numbers,
-            sums,
-            costs,
-            start,
-        } = *self;
-        let sum = sums.edge(e);
-        if e >= numbers.edges.len() || sum.passes == 0 {
+        let sum = self.sums.edge(e);
+        if sum.passes == 0 {
             return None;
         }
-        let mark = mark_of(&numbers.edges[e], &costs)?;
-        let to = entry(power, start, numbers.worst, &mark);
-        let high = energy_at(power, start);
-        let low = energy_at(power, to);
-        let saved = sum.behind.saturating_mul(high.saturating_sub(low));
-        let changes = sum.runs.saturating_mul(change_energy(power, start, to));
-        let spent = stub_energy(&mark, &sum, &self.other_sum(&mark), low).saturating_add(changes);
+        let mark = self.mark_at(e)?;
+        let entry = entry(self.power, self.start, self.numbers.worst, &mark);
         Some(EdgeGain {
             edge: e,
-            entry: to,
+            entry,
             sum,
-            gain: saved.saturating_sub(spent),
+            gain: self.gain_of(&mark, &sum, entry),
         })
     }
 

@@ -15,7 +15,7 @@ use loop_tree::{LoopTree, build_loops};
 use machine_file::read_machine;
 use paced_images::Proposal;
 use power_model::Power;
-use run_traces::{EdgeTrace, Numbers, Runs, StubCosts, WalkPlan, Watched, numbers_of};
+use run_traces::{EdgeTrace, Numbers, RunMarks, Runs, StubCosts, WalkPlan, numbers_of};
 use scale_base::{NoMemory, Stop};
 use scaler::{check_unscaled, starting_level};
 use std::alloc::Global;
@@ -110,6 +110,32 @@ struct Program<'a> {
     start: u8,
 }
 
+/// Up to so many proposals of candidates, by what the runs do there.
+fn searched(
+    alloc: Global,
+    files: Sources<'_>,
+    known: &Known<'_>,
+    places: Places<'_>,
+    runs: &[RunMarks],
+    tries: usize,
+    most: usize,
+) -> Result<Vec<Proposal>, NoMemory> {
+    let mut search = Search {
+        alloc,
+        files,
+        power: known.power,
+        costs: known.costs,
+        places,
+        runs,
+        start: known.start,
+        held: known.held_energy(),
+        known: Vec::new(alloc),
+        tries,
+    };
+    let sets = best_sets(alloc, &mut search, most)?;
+    proposals_of(alloc, &places, &sets)
+}
+
 /// Up to so many proposals for a program whose numbers are known, by some runs, in which no loop is counted that isn't tallied.
 fn search_program(
     alloc: Global,
@@ -117,58 +143,57 @@ fn search_program(
     runs: &Runs<'_>,
     most: usize,
 ) -> Result<Vec<Proposal>, Stop> {
-    let Program {
-        files,
-        power,
-        graph,
-        tree,
-        numbers,
-        start,
-    } = *program;
-    let mut trace = EdgeTrace::new(alloc, graph, &power.costs)?;
+    let power = program.power;
+    let numbers = program.numbers;
+    let mut trace = EdgeTrace::new(alloc, program.graph, &power.costs)?;
     let sums = runs.sums(alloc, numbers.edges.len(), &mut trace)?;
-    let tries = tries_of(size_of(tree, numbers));
-    let few = MOST.min(tries / 4);
     let known = Known {
         power,
         numbers,
         sums: &sums,
         costs: StubCosts::new(&power.costs),
-        start,
+        start: program.start,
     };
-    let plans = loops_of(alloc, graph, tree, &known, few / 3)?;
+    let tries = tries_of(size_of(program.tree, numbers));
+    let few = MOST.min(tries / 4);
+    let plans = loops_of(alloc, program.graph, program.tree, &known, few / 3)?;
     let candidates = known.candidates(alloc, &plans, few)?;
     if candidates.is_empty() {
         return Ok(Vec::new(alloc));
     }
     trace.count(alloc, &plans)?;
-    let costs = known.costs;
-    let watched = Watched {
-        numbers,
-        candidates: &candidates,
-        plans: &plans,
-        jump: costs.jump,
-    };
-    let marks = runs.marks(alloc, &watched, &mut trace)?;
     let places = Places {
         numbers,
         candidates: &candidates,
         plans: &plans,
     };
-    let mut search = Search {
-        alloc,
-        files,
-        power,
-        costs,
-        places,
-        runs: &marks,
-        start,
-        held: known.held_energy(),
-        known: Vec::new(alloc),
-        tries,
+    let marks = runs.marks(alloc, &places.watched(known.costs.jump), &mut trace)?;
+    let files = program.files;
+    Ok(searched(alloc, files, &known, places, &marks, tries, most)?)
+}
+
+/// The proposals for a program whose numbers are known, where some loop is noted as counted, or none. The runs take so many steps.
+fn propose_for(
+    alloc: Global,
+    program: &Program<'_>,
+    runs: &Runs<'_>,
+    noted: bool,
+    steps: u64,
+) -> Result<Vec<Proposal>, Stop> {
+    // Only runs tell what counting takes.
+    let counts = noted && !runs.places.is_empty();
+    let most = most_proposals(steps);
+    let few = if counts {
+        most.saturating_sub(2)
+    } else {
+        most.min(8)
     };
-    let sets = best_sets(alloc, &mut search, most)?;
-    Ok(proposals_of(alloc, &places, &sets)?)
+    let mut proposals = search_program(alloc, program, runs, few)?;
+    if counts {
+        let worst = program.numbers.worst;
+        add_counted(alloc, &program.files, worst, most, &mut proposals)?;
+    }
+    Ok(proposals)
 }
 
 /// The proposals for files that nothing refuses.
@@ -189,9 +214,6 @@ fn search_files(
     let plan = WalkPlan::new(alloc, &graph, &tree, &numbers)?;
     let steps = steps_of(&power, cycles);
     let places = each_of(alloc, cycles, (steps / TRACED).saturating_add(1))?;
-    // Only runs tell what counting takes.
-    let counts = has_counted(&notes) && !places.is_empty();
-    let most = most_proposals(steps);
     let program = Program {
         files,
         power: &power,
@@ -207,16 +229,7 @@ fn search_files(
         inputs,
         places: &places,
     };
-    let found = if counts {
-        most.saturating_sub(2)
-    } else {
-        most.min(8)
-    };
-    let mut proposals = search_program(alloc, &program, &runs, found)?;
-    if counts {
-        add_counted(alloc, &files, numbers.worst, most, &mut proposals)?;
-    }
-    Ok(proposals)
+    propose_for(alloc, &program, &runs, has_counted(&notes), steps)
 }
 
 /// Up to 10 proposals that may save energy, the most promising one first: at most 8 of edges with a switch and loops that are tallied, as `pace` takes
