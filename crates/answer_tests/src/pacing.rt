@@ -1,7 +1,7 @@
 //! Images whose switches stand on chosen edges.
 
 use crate::fixtures::*;
-use paced_images::{SwitchSite, pace, useful_sites};
+use paced_images::{Proposal, SwitchSite, pace, pace_useful, useful_marks};
 use scale_base::{EdgeKind, End, Summary};
 use speed_sim::simulate;
 use std::alloc::Global;
@@ -68,7 +68,7 @@ fn useful(alloc: Global, image: &[u8], deadline: u32, sites: &[SwitchSite]) -> R
     if image.len() > 4_194_304 || machine.len() > 1_048_576 {
         return Err(Fail::from("files that are too long"));
     }
-    let kept = useful_sites(
+    let kept = useful_marks(
         alloc,
         image,
         machine.as_bytes(),
@@ -78,7 +78,66 @@ fn useful(alloc: Global, image: &[u8], deadline: u32, sites: &[SwitchSite]) -> R
         &[],
         4,
     );
-    Ok(kept.ok().ok_or("useful")?.len())
+    Ok(kept.ok().ok_or("useful")?.sites.len())
+}
+
+/// How many of some tallied loops of `TURNS` are of use to a machine with this deadline.
+fn useful_loops(
+    alloc: Global,
+    image: &[u8],
+    deadline: u32,
+    headers: &[u32],
+) -> Result<usize, Fail> {
+    let machine = machine_for(deadline).text(alloc)?;
+    if image.len() > 4_194_304 || machine.len() > 1_048_576 {
+        return Err(Fail::from("files that are too long"));
+    }
+    let kept = useful_marks(
+        alloc,
+        image,
+        machine.as_bytes(),
+        TURNS_LOOP.as_bytes(),
+        &[],
+        false,
+        headers,
+        0,
+    );
+    Ok(kept.ok().ok_or("useful")?.tallied.len())
+}
+
+/// The bytes of the image of `STRAIGHT` with some jumps to the lowest level, if each of them is of use.
+fn paced_useful(alloc: Global, image: &[u8], ats: &[u32]) -> Result<Option<Vec<u8>>, Fail> {
+    let machine = machine_for(368).text(alloc)?;
+    let mut sites = Vec::new(alloc);
+    for at in ats {
+        sites.push(lowest_jump(*at))?;
+    }
+    if image.len() > 4_194_304 || machine.len() > 1_048_576 || sites.len() > 8 {
+        return Err(Fail::from("files that are too long"));
+    }
+    let proposal = Proposal {
+        sites,
+        tallied: Vec::new(alloc),
+        share: 4,
+        counted: true,
+    };
+    let made = pace_useful(
+        alloc,
+        image,
+        machine.as_bytes(),
+        NO_LOOPS.as_bytes(),
+        &proposal,
+    );
+    Ok(made.ok().ok_or("paced")?.map(|given| given.0))
+}
+
+/// A jump to the lowest level.
+fn lowest_jump(at: u32) -> SwitchSite {
+    SwitchSite {
+        at,
+        kind: EdgeKind::Jump,
+        lowest: true,
+    }
 }
 
 /// Whether a word stands at a multiple of four in a file.
@@ -168,6 +227,32 @@ fn keeps_the_sites_whose_switch_lowers_a_level(rt: HostRuntime) -> Result<(), Fa
     Ok(())
 }
 
+/// On the seventh back edge, which is the last, 57 cycles are left, which take 114 time units more at the lowest level, and the switch takes 10.
+/// The starting level takes 934 for all 467.
+#[test]
+fn keeps_the_loops_whose_tally_comes_due(rt: HostRuntime) -> Result<(), Fail> {
+    let alloc = rt.alloc();
+    let image = plain_image(alloc, &TURNS)?;
+    assert_eq!(rt; useful_loops(alloc, &image, 1200, &[0x10004, 0x10008])?, 1);
+    assert_eq!(rt; useful_loops(alloc, &image, 1058, &[0x10004])?, 1);
+    assert_eq!(rt; useful_loops(alloc, &image, 1057, &[0x10004])?, 0);
+    // Here jobs start at the lowest level.
+    assert_eq!(rt; useful_loops(alloc, &image, 1868, &[0x10004])?, 0);
+    Ok(())
+}
+
+#[test]
+fn makes_no_image_of_a_proposal_with_a_dead_mark(rt: HostRuntime) -> Result<(), Fail> {
+    let alloc = rt.alloc();
+    let image = plain_image(alloc, &STRAIGHT)?;
+    let machine = machine_for(368).text(alloc)?;
+    let (bytes, _) = paced(alloc, &image, &machine, &[lowest_jump(0x10020)])?;
+    let made = paced_useful(alloc, &image, &[0x10020])?.ok_or("an image")?;
+    assert!(rt; made.as_slice() == bytes.as_slice());
+    assert!(rt; paced_useful(alloc, &image, &[0x10020, 0x20000])?.is_none());
+    Ok(())
+}
+
 /// With the stub of its branch a turn takes 59 cycles. On a back edge 470 are left at most, less 59 for each turn taken; the starting level takes 934 time units of 1,200
 /// for all 467 cycles, and at the lowest level each cycle takes 2 more: so from 6 turns on, with 116 left, there is time for the switch.
 #[test]
@@ -213,11 +298,7 @@ fn lowers_the_level_from_a_turn_on(rt: HostRuntime) -> Result<(), Fail> {
 fn stores_the_lowest_level_by_one_instruction(rt: HostRuntime) -> Result<(), Fail> {
     let alloc = rt.alloc();
     let image = plain_image(alloc, &STRAIGHT)?;
-    let jump = SwitchSite {
-        at: 0x10020,
-        kind: EdgeKind::Jump,
-        lowest: true,
-    };
+    let jump = lowest_jump(0x10020);
     // sw x0,-4(x0) where there is time for it, and sw x0,-2044(x0) where there is none
     let rows = [
         (368, 0xFE002E23, 0x80002223, 1),

@@ -4,3 +4,4 @@ mod Rates
 mod Fits
 mod Built
 mod Numbers
+mod Runs

@@ -1,5 +1,5 @@
 -- The numbers of a fitting, and its refusal.
-use Rattle.std.proofs.Common.{◌≡◌, ℕ, ◌-◌, ◌+◌, ◌≤◌, List, length, Option, Some, None, Result, Ok, Err, sym, subst, arith}
+use Rattle.std.proofs.Common.{◌≡◌, ℕ, ◌-◌, ◌+◌, ◌≤◌, List, length, Option, Some, None, Result, Ok, Err, refl, sym, subst, arith}
 use Rattle.std.proofs.lemmas.List.{length-map}
 use Rattle.std.specs.Prelude.{count_by, option_map, IfOk, Vec}
 use Rattle.std.specs.declared.alloc.Global.{Global}
@@ -14,11 +14,13 @@ use Rattle.scaler.proofs.Laws.{then_stops}
 use Rattle.gain_tuner.specs.declared.choosing.Files.{Files}
 use Rattle.gain_tuner.specs.declared.choosing.Trial.{Trial}
 use Rattle.gain_tuner.specs.Finding.{IsSafeTrialOf, IsTrialOrOf, IsTried, Made}
-use Rattle.gain_tuner.proofs.Laws.{Answer, AreCounted, counted_flags}
-use Rattle.pace_fit.specs.declared.candidates.Proposal.{Proposal}
-use Rattle.pace_fit.specs.declared.fitting.Fitted.{Fitted}
-use Rattle.pace_fit.specs.Fitting.{HasEnergy, HasEnergyIfAny, IsFitting, IsHoldEnergy, IsProposed, IsRewriteEnergy}
-use Rattle.pace_fit.specs.Finding.{AreLoaded, IsHeldTrial, IsProposalTried, counted_inputs, given_inputs}
+use Rattle.gain_tuner.proofs.Laws.{Answer, AreCounted, counted_flags, tried_or}
+use Rattle.paced_images.specs.declared.proposal.Proposal.{Proposal}
+use Rattle.paced_images.specs.Proposed.{IsProposalPaced}
+use Rattle.pace_fit.specs.declared.preparing.Prepared.{Prepared}
+use Rattle.pace_fit.specs.Fitting.{Gives, HasEnergy, HasEnergyIfAny, IsHoldEnergy, IsProposed, IsRewriteEnergy}
+use Rattle.pace_fit.specs.Finding.{AreLoaded, IsHeldTrial, IsPreparing, IsProposalTried, counted_inputs, given_inputs}
+use Rattle.pace_fit.proofs.Fits.{GivenBy, Stored, given_one}
 
 -- ---- results
 
@@ -35,25 +37,34 @@ machine_stops : (image machine loops : List ℕ) (stop : Stop) → Stops stop (r
 unfolding IsHeld
 machine_stops image machine loops stop h = then_stops (read_machine machine) _ stop h
 
-pub fitting_stops : (image machine loops : List ℕ) (inputs : List (List ℕ)) (proposals : List Proposal) (stop : Stop) → Stops stop (read_machine machine) →
-    AnswersBy {X = Vec ℕ Global × Fitted} {Y = List ℕ × Fitted} (λ given. (given.0.items, given.1)) (Err stop) (IsFitting image machine loops inputs proposals)
-fitting_stops image machine loops inputs proposals (Refused refusal) h = machine_stops image machine loops (Refused refusal) h
-fitting_stops image machine loops inputs proposals Memory h = tt
+pub held_stops : (image machine loops : List ℕ) (inputs : List (List ℕ)) (stop : Stop) → AnswersBy {X = Vec ℕ Global × Summary} {Y = List ℕ × Summary} (λ given. (given.0.items, given.1)) (Err stop) (IsHeld image machine loops) →
+    AnswersBy {X = Prepared} {Y = Prepared} (λ p. p) (Err stop) (IsPreparing image machine loops inputs)
+held_stops image machine loops inputs (Refused refusal) h = h
+held_stops image machine loops inputs Memory h = tt
+
+pub preparing_stops : (image machine loops : List ℕ) (inputs : List (List ℕ)) (stop : Stop) → Stops stop (read_machine machine) → AnswersBy {X = Prepared} {Y = Prepared} (λ p. p) (Err stop) (IsPreparing image machine loops inputs)
+preparing_stops image machine loops inputs stop h = held_stops image machine loops inputs stop (machine_stops image machine loops stop h)
 
 module _ (files : Files) where
   -- ---- trials
 
-  proposed_by : (proposal : Proposal) (c : ℕ) (tried : Option Trial) (made : Result (Vec ℕ Global × Summary) Stop) →
-      AnswersBy (λ given. (given.0.items, given.1)) made (IsProposed files.image.now files.machine.now files.loops.now proposal) → IsTried files.image.now files.machine.now files.loops.now (given_inputs files) c made tried → IsProposalTried files proposal c tried
-  proposed_by proposal c tried (Ok made) h is = record { answer = Ok (made.0.items, made.1); proposed = h; tried_is = is }
-  proposed_by proposal c tried (Err (Refused refusal)) h is = record { answer = Err refusal; proposed = h; tried_is = is }
-  proposed_by proposal c tried (Err Memory) h is = absurd is
+  made_is : (made : Stored) (c : ℕ) (tried : Option Trial) → IsTrialOrOf (Made (Ok made)) files.image.now files.machine.now files.loops.now (given_inputs files) c tried
+      → IsTrialOrOf (λ k answer. Gives (Some made) answer) files.image.now files.machine.now files.loops.now (given_inputs files) c tried
+  made_is made c tried h = tried_or (GivenBy (λ _. Some made)) (given_one (λ _. Some made)) files.image.now files.machine.now files.loops.now (given_inputs files) (Ok made) c tried refl h
 
-  pub proposal_tried : {E : Type 0} (proposal : Proposal) (c : ℕ) (result : Result (Option Trial) E) (made : Result (Vec ℕ Global × Summary) Stop) →
-      AnswersBy (λ given. (given.0.items, given.1)) made (IsProposed files.image.now files.machine.now files.loops.now proposal) → IfOk result (IsTried files.image.now files.machine.now files.loops.now (given_inputs files) c made)
+  -- the trial of its image
+  pub proposal_tried : {E : Type 0} (proposal : Proposal) (c : ℕ) (result : Result (Option Trial) E) (made : Vec ℕ Global × Summary) →
+      IsProposalPaced files.image.now files.machine.now files.loops.now proposal (Ok (Some (made.0.items, made.1))) → IfOk result (IsTried files.image.now files.machine.now files.loops.now (given_inputs files) c (Ok made))
       → IfOk result (IsProposalTried files proposal c)
-  proposal_tried proposal c (Ok tried) made h is = proposed_by proposal c tried made h is
+  proposal_tried proposal c (Ok tried) made h is = record { given = Some (made.0.items, made.1); proposed = h; tried_is = made_is (made.0.items, made.1) c tried is }
   proposal_tried proposal c (Err stop) made h is = tt
+
+  -- none of a proposal of which nothing is given
+  pub proposal_out : (proposal : Proposal) (c : ℕ) → IsProposed files.image.now files.machine.now files.loops.now proposal None → IsProposalTried files proposal c None
+  proposal_out proposal c h = record { given = None; proposed = h; tried_is = λ stored summary energy t. (let never : ⊥ = no_trial stored summary t.answer_is in never) }
+    where
+      no_trial : (stored : List ℕ) (summary : Summary) → None ≡ Some (stored, summary) → ⊥
+      no_trial stored summary e = cc
 
   -- ---- energies
 

@@ -80,40 +80,19 @@ paid_small cycles rate h h' =
 pub bound_small : (paid deadline b : ℕ) → paid ≤ 2 ^ 121 → (paid - deadline) / b ≤ 2 ^ 121
 bound_small paid deadline b h = let le = div-le_self (paid - deadline) b in omega (arith, le, h)
 
--- ---- inputs
+-- ---- runs
 
-module _ (f : List ℕ → ℕ) (p : List ℕ → Bool) (xs : List (List ℕ)) (k : ℕ) (x : List ℕ) (lt : k < length xs) (at : get_or xs k [] ≡ x) where
-  sum_in : (energy one : ℕ) → p x ≡ true → one ≡ f x → energy ≡ sum_by f (filter p (take k xs)) → energy + one ≡ sum_by f (filter p (take (k + 1) xs))
-  sum_in energy one kept is e = ap (λ n. n + one) e ∙ (ap (λ n. sum_by f (filter p (take k xs)) + n) is ∙ (sym (sum_by_push f (filter p (take k xs)) x) ∙ ap (sum_by f) (sym (kept_more p xs k x lt at kept))))
+-- one more of those that count, or one that doesn't
+pub least_in : (f : Ending → ℕ) (p : Ending → Bool) (xs : List Ending) (k : ℕ) (d : Ending) (b : Bool) (energy : ℕ) → k < length xs → b ≡ p (get_or xs k d) → energy ≡ sum_by f (filter p (take k xs)) →
+    energy + cond b (f (get_or xs k d)) 0 ≡ sum_by f (filter p (take (k + 1) xs))
+least_in f p xs k d b energy lt is e = ap (λ n. n + cond b (f (get_or xs k d)) 0) e ∙ (sym (one b is) ∙ ap (sum_by f) (sym (filter_more p xs k d lt)))
+  where
+    x : Ending
+    x = get_or xs k d
 
-  sum_out : (energy : ℕ) → p x ≡ false → energy ≡ sum_by f (filter p (take k xs)) → energy ≡ sum_by f (filter p (take (k + 1) xs))
-  sum_out energy left e = e ∙ ap (sum_by f) (sym (left_more p xs k x lt at left))
-
-module _ (power : PowerModel) (image machine loops : List ℕ) (inputs : List (Vec ℕ Global)) (flags : List Bool) (are : flags ≡ map (λ v. counts image machine loops v.items) inputs)
-    (k : ℕ) (v : Vec ℕ Global) (lt : k < length inputs) (at : v ≡ get_or inputs k v) where
-  abbrev pub least_sum : ℕ → ℕ
-  least_sum n = sum_by (λ input. least_energy power (cycles_on image machine loops input)) (counting image machine loops (take n (items_of inputs)))
-
-  pub least_in : (d : Bool) → get_or flags k d ≡ true → (z : List ℕ) (cycles one energy : ℕ) → z ≡ v.items → cycles ≡ cycles_on image machine loops z → one ≡ least_energy power cycles → energy ≡ least_sum k → energy + one ≡ least_sum (k + 1)
-  least_in d flag z cycles one energy e is exact h = sum_in (λ input. least_energy power (cycles_on image machine loops input)) (counts image machine loops) (items_of inputs) k v.items
-      (input_below image machine loops [] inputs flags are k v lt at) (input_at image machine loops [] inputs flags are k v lt at) energy one
-      (sym (flag_at image machine loops [] inputs flags are k v lt at d) ∙ flag) (exact ∙ (ap (least_energy power) is ∙ ap (λ (y : List ℕ). least_energy power (cycles_on image machine loops y)) e)) h
-
-  pub least_out : (d : Bool) → get_or flags k d ≡ false → (energy : ℕ) → energy ≡ least_sum k → energy ≡ least_sum (k + 1)
-  least_out d flag energy h = sum_out (λ input. least_energy power (cycles_on image machine loops input)) (counts image machine loops) (items_of inputs) k v.items
-      (input_below image machine loops [] inputs flags are k v lt at) (input_at image machine loops [] inputs flags are k v lt at) energy
-      (sym (flag_at image machine loops [] inputs flags are k v lt at d) ∙ flag) h
-
-pub least_all : (power : PowerModel) (image machine loops : List ℕ) (inputs : List (Vec ℕ Global)) (n energy : ℕ) → read_machine machine ≡ Ok power → n ≡ length inputs →
-    energy ≡ sum_by (λ input. least_energy power (cycles_on image machine loops input)) (counting image machine loops (take n (items_of inputs))) → IsLeastOver image machine loops (counting image machine loops (items_of inputs)) energy
-least_all power image machine loops inputs n energy power_is last h =
-    let size : length (items_of inputs) ≡ length inputs = length-map inputs (λ (v : Vec ℕ Global). v.items) in
-    let all : take n (items_of inputs) ≡ items_of inputs = ap (λ m. take m (items_of inputs)) (last ∙ sym size) ∙ take-length (items_of inputs) in
-    record {
-      power = power;
-      power_is = power_is;
-      sum = h ∙ ap (λ (xs : List (List ℕ)). sum_by (λ input. least_energy power (cycles_on image machine loops input)) (counting image machine loops xs)) all;
-    }
+    one : (b : Bool) → b ≡ p x → sum_by f (filter p (take k xs) ++ cond (p x) (x ∷ []) []) ≡ sum_by f (filter p (take k xs)) + cond b (f x) 0
+    one true h = ap (λ q. sum_by f (filter p (take k xs) ++ cond q (x ∷ []) [])) (sym h) ∙ sum_by_push f (filter p (take k xs)) x
+    one false h = ap (λ q. sum_by f (filter p (take k xs) ++ cond q (x ∷ []) [])) (sym h) ∙ (ap (sum_by f) (append-nil (filter p (take k xs))) ∙ omega arith)
 
 pub small_more : (k energy one : ℕ) → energy ≤ k * 2 ^ 121 → one ≤ 2 ^ 121 → energy + one ≤ (k + 1) * 2 ^ 121
 small_more k energy one h h' = omega arith

@@ -1,15 +1,20 @@
 -- What the parts of a fitting find, on the way to what it gives.
-use Rattle.std.specs.Prelude.{◌≡◌, ℕ, ◌≤◌, List, map, length, Option, Result, Ok}
+use Rattle.std.specs.Prelude.{◌≡◌, ℕ, ◌^◌, ◌≤◌, List, map, length, Option, Result, Ok, Err}
+use Rattle.std.specs.List.{All}
 use Rattle.scale_base.specs.declared.refusal.Refusal.{Refusal}
 use Rattle.scale_base.specs.declared.summary.Summary.{Summary}
+use Rattle.power_model.specs.Numbers.{IsPowerModel}
+use Rattle.machine_file.specs.Machine.{read_machine}
 use Rattle.scaler.specs.Held.{IsHeld}
 use Rattle.scaler.specs.Promise.{IsStoredSafely}
 use Rattle.gain_tuner.specs.declared.choosing.Files.{Files}
 use Rattle.gain_tuner.specs.declared.choosing.Trial.{Trial}
-use Rattle.gain_tuner.specs.Finding.{IsTrialOrOf, Made}
+use Rattle.gain_tuner.specs.Finding.{IsTrialOrOf}
 use Rattle.gain_tuner.specs.Spending.{counts, counting, IsSpent}
-use Rattle.pace_fit.specs.declared.candidates.Proposal.{Proposal}
-use Rattle.pace_fit.specs.Fitting.{IsProposed}
+use Rattle.paced_images.specs.declared.proposal.Proposal.{Proposal}
+use Rattle.pace_fit.specs.declared.preparing.Prepared.{Prepared}
+use Rattle.pace_fit.specs.Endings.{endings_on}
+use Rattle.pace_fit.specs.Fitting.{Gives, IsProposed}
 
 -- ---- the files
 
@@ -43,8 +48,24 @@ pub record IsHeldTrial (files : Files) (t : Trial) : Type 0 where
   pub spent : IsSpent t.stored.items files.machine.now (counted_inputs files) t.energy
   pub safe : IsSafe files t
 
--- the trial of the image that `pace` makes of a proposal, or none where that is out
+-- the trial of the image of a proposal, or none where that is out
 pub record IsProposalTried (files : Files) (proposal : Proposal) (c : ℕ) (tried : Option Trial) : Type 0 where
-  pub answer : Result (List ℕ × Summary) Refusal
-  pub proposed : IsProposed files.image.now files.machine.now files.loops.now proposal answer
-  pub tried_is : IsTrialOrOf (Made answer) files.image.now files.machine.now files.loops.now (given_inputs files) c tried
+  pub given : Option (List ℕ × Summary)
+  pub proposed : IsProposed files.image.now files.machine.now files.loops.now proposal given
+  pub tried_is : IsTrialOrOf (λ k answer. Gives given answer) files.image.now files.machine.now files.loops.now (given_inputs files) c tried
+
+-- ---- what is known before the choice
+
+-- the numbers of the machine, the image that `hold` stores, how the run of the original on each input ends, and which of the inputs count
+pub record IsPrepared (image machine loop_file : List ℕ) (inputs : List (List ℕ)) (p : Prepared) : Type 0 where
+  pub power_is : read_machine machine ≡ Ok p.power
+  pub in_range : IsPowerModel p.power
+  pub held : IsHeld image machine loop_file (Ok ((p.stored.items, p.summary)))
+  pub endings : p.endings.items ≡ endings_on image machine loop_file inputs
+  pub small : All (λ ending. ending.cycles ≤ 2 ^ 56) p.endings.items
+  pub flags : p.flags.items ≡ map (counts image machine loop_file) inputs
+
+-- that, or the first refusal, which is that of `hold`
+abbrev pub IsPreparing : (image machine loop_file : List ℕ) → List (List ℕ) → Result Prepared Refusal → Type 0
+IsPreparing image machine loop_file inputs (Ok p) = IsPrepared image machine loop_file inputs p
+IsPreparing image machine loop_file inputs (Err refusal) = IsHeld image machine loop_file (Err refusal)

@@ -1,15 +1,13 @@
 //! The least energy of runs, whatever level each of their cycles is run at.
 
-ghost use Rattle.std.specs.Prelude.{◌≡◌, ◌≤◌, ◌<◌, ◌^◌, ℕ, List, length, IfOk, Ok};
+ghost use Rattle.std.specs.Prelude.{◌≡◌, ◌≤◌, ◌<◌, ◌^◌, ℕ, List, cond, length, sum_by};
+ghost use Rattle.std.specs.List.{All, filter};
 ghost use Rattle.power_model.specs.Numbers.{IsPowerModel};
-ghost use Rattle.machine_file.specs.Machine.{read_machine};
+ghost use Rattle.pace_fit.specs.Endings.{is_counted};
 ghost use Rattle.pace_fit.specs.Least as bounds;
-ghost use Rattle.pace_fit.specs.Finding.{AreLoaded, HasHeld, counted_inputs};
 
-use gain_tuner::{Files, report_of};
+use crate::endings::{Ending, is_counted};
 use power_model::{Level, Power};
-use scale_base::NoMemory;
-use std::alloc::Global;
 
 /// What a cycle at a level takes where a unit of time costs a / b units of energy, times b.
 fn rate(a: u32, b: u32, level: Level) -> u128
@@ -81,29 +79,30 @@ pub fn least_energy(power: &Power, cycles: u64) -> u128
     most
 }
 
-/// The cycles of the run of the original on an input.
-fn cycles_on(alloc: Global, files: &Files<'_>, input: &[u8]) -> Result<u64, NoMemory>
-    requires { HasHeld files.now.image.now files.now.machine.now files.now.loops.now }
-    ensures cycles { IfOk result (λ n. n ≡ bounds.cycles_on files.now.image.now files.now.machine.now files.now.loops.now input.now) }
-    ensures small { IfOk result (λ n. n ≤ 2 ^ 56) }
+/// The least energy of a run that ends so, if its input counts.
+fn least_of(power: &Power, ending: &Ending) -> u128
+    requires power { IsPowerModel power.now }
+    requires cycles { ending.now.cycles ≤ 2 ^ 56 }
+    ensures least { result ≡ cond (is_counted ending.now) (bounds.least_energy power.now ending.now.cycles) 0 }
+    ensures small { result ≤ 2 ^ 121 }
 {
-    let report = report_of(alloc, files.image, files.machine, input, Some(files.loops))?;
-    Ok(report.meter.cycles)
+    if is_counted(ending) {
+        least_energy(power, ending.cycles)
+    } else {
+        0
+    }
 }
 
-/// The least energy of the runs of the original on the inputs that count.
-pub fn least_over(alloc: Global, files: &Files<'_>, power: &Power) -> Result<u128, NoMemory>
-    requires files { AreLoaded files.now }
+/// The least energy of runs that end so, of those whose inputs count.
+pub fn least_over(power: &Power, endings: &[Ending]) -> u128
     requires power { IsPowerModel power.now }
-    requires machine { read_machine files.now.machine.now ≡ Ok power.now }
-    requires held { HasHeld files.now.image.now files.now.machine.now files.now.loops.now }
-    ensures { IfOk result (bounds.IsLeastOver files.now.image.now files.now.machine.now files.now.loops.now (counted_inputs files.now)) }
+    requires few { length endings.now ≤ 64 }
+    requires small { All (λ ending. ending.cycles ≤ 2 ^ 56) endings.now }
+    ensures { result ≡ sum_by (λ ending. bounds.least_energy power.now ending.cycles) (filter is_counted endings.now) }
 {
     let mut energy: u128 = 0;
-    for (k, input) in files.inputs.iter().enumerate() {
-        if files.flags[k] {
-            energy += least_energy(power, cycles_on(alloc, files, input)?);
-        }
+    for ending in endings {
+        energy += least_of(power, ending);
     }
-    Ok(energy)
+    energy
 }

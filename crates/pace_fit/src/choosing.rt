@@ -5,9 +5,9 @@ ghost use Rattle.scaler.specs.Promise.{IsStoredSafely};
 ghost use Rattle.pace_fit.specs.Fitting.{IsCheapestFit, IsChosen, IsFirstBuilt};
 ghost use Rattle.pace_fit.specs.Finding.{AreLoaded, IsHeldTrial, IsSafe, counted_inputs};
 
-use crate::candidates::Proposal;
 use crate::trials::trial_of;
 use gain_tuner::{Files, Trial, cheaper, count_of};
+use paced_images::Proposal;
 use scale_base::NoMemory;
 use std::alloc::Global;
 

@@ -2,22 +2,18 @@
 
 ghost use Rattle.std.specs.Prelude.{◌≡◌, ◌≤◌, ◌-◌, length, map, count_by, Ok, IfOk};
 ghost use Rattle.std.specs.List.{All};
-ghost use Rattle.scale_base.specs.Answer.{AnswersBy};
-ghost use Rattle.power_model.specs.Numbers.{IsPowerModel};
-ghost use Rattle.machine_file.specs.Machine as machines;
 ghost use Rattle.scaler.specs.Held.{IsHeld};
 ghost use Rattle.scaler.specs.Promise.{IsStoredSafely};
-ghost use Rattle.pace_fit.specs.Fitting.{IsFitted, IsFitting, IsRewriteEnergy};
-ghost use Rattle.pace_fit.specs.Finding.{AreLoaded, counted_inputs, given_inputs};
+ghost use Rattle.pace_fit.specs.Fitting.{IsChosenUseful, IsFitted, IsRewriteEnergy};
+ghost use Rattle.pace_fit.specs.Finding.{AreLoaded, IsPrepared, counted_inputs, given_inputs};
 
 use crate::bounds::least_over;
-use crate::candidates::Proposal;
 use crate::choosing::chosen;
-use gain_tuner::{Files, count_of, counting_of, held_trial, trial_from};
-use machine_file::read_machine;
-use power_model::Power;
-use scale_base::{NoMemory, Stop, Summary};
-use scaler::{hold, rewrite};
+use crate::preparing::Prepared;
+use gain_tuner::{Files, count_of, held_trial, trial_from};
+use paced_images::Proposal;
+use scale_base::{NoMemory, Summary};
+use scaler::rewrite;
 use std::alloc::Global;
 
 /// The choice of a fitting, in numbers.
@@ -69,22 +65,22 @@ fn rewritten_over(alloc: Global, files: &Files<'_>) -> Result<Option<u128>, NoMe
     }
 }
 
-/// The fitting of a program that can be held at one level.
+/// The choice among the candidates of a prepared program, with its numbers.
 fn fit(
     alloc: Global,
     files: &Files<'_>,
-    power: &Power,
-    proposals: &[Proposal],
     held: (Vec<u8>, Summary),
+    prepared: &Prepared,
+    proposals: &[Proposal],
 ) -> Result<(Vec<u8>, Fitted), NoMemory>
     requires files { AreLoaded files.now }
-    requires power { IsPowerModel power.now }
-    requires machine { machines.read_machine files.now.machine.now ≡ Ok power.now }
-    requires proposals { length proposals.now ≤ 64 }
     requires held { IsHeld files.now.image.now files.now.machine.now files.now.loops.now (Ok ((held.0.items, held.1))) }
+    requires prepared { IsPrepared files.now.image.now files.now.machine.now files.now.loops.now (given_inputs files.now) prepared.now }
+    requires proposals { length proposals.now ≤ 64 }
     ensures fitted { IfOk result (λ given. IsFitted files.now.image.now files.now.machine.now files.now.loops.now
         (given_inputs files.now) proposals.now given.0.items given.1) }
     ensures saves { IfOk result (λ given. given.1.energy ≤ given.1.hold_energy) }
+    ensures useful { IfOk result (λ given. IsChosenUseful files.now.image.now files.now.machine.now files.now.loops.now proposals.now given.1.candidate) }
     ensures safe { IfOk result (λ given. IsStoredSafely files.now.image.now files.now.machine.now files.now.loops.now
         given.0.items given.1.summary) }
 {
@@ -92,7 +88,7 @@ fn fit(
     let hold_energy = first.energy;
     let best = chosen(alloc, files, proposals, first)?;
     let rewrite_energy = rewritten_over(alloc, files)?;
-    let least_energy = least_over(alloc, files, power)?;
+    let least_energy = least_over(&prepared.power, &prepared.endings);
     let inputs = inputs_of(files.flags);
     let left_out = left_out_of(files.flags);
     let fitted = Fitted {
@@ -109,12 +105,12 @@ fn fit(
 }
 
 /// Of the image that `hold` stores and the images that `pace` makes of the proposals the one whose runs take the least energy on the inputs
-/// that count, of several the first, and the numbers of that choice; or the first refusal, which is that of `hold`.
+/// that count, of several the first, and the numbers of that choice.
 ///
 /// An input counts where the original run exits within the machine file's steps and is kept. Candidate 0 is what `hold` stores, candidate
-/// k + 1 what `pace` makes of proposal k. A candidate is out where it is refused, or where its run on an input that counts is out of steps.
-/// Where no input counts, all energies are 0, and the choice is the first proposal of which an image can be made, or else what `hold`
-/// stores. Energies are in the machine file's energy units.
+/// k + 1 what `pace` makes of proposal k. A candidate is out where it is refused, where some mark of it can lower nothing in its image, or
+/// where its run on an input that counts is out of steps. Where no input counts, all energies are 0, and the choice is the first proposal of
+/// which an image is made that has no such mark, or else what `hold` stores. Energies are in the machine file's energy units.
 ///
 /// There is one run at a time in memory, and one candidate beside the best so far. The files have at most the bytes that the program
 /// loads: 4,194,304 of an image, 1,048,576 of each other file and of an input.
@@ -124,32 +120,35 @@ pub fn choose(
     machine: &[u8],
     loops: &[u8],
     inputs: &[Vec<u8>],
+    prepared: &Prepared,
     proposals: &[Proposal],
-) -> Result<(Vec<u8>, Fitted), Stop>
+) -> Result<(Vec<u8>, Fitted), NoMemory>
     requires image { length image.now ≤ 4194304 }
     requires machine { length machine.now ≤ 1048576 }
     requires loops { length loops.now ≤ 1048576 }
     requires few { length inputs.now ≤ 64 }
     requires inputs { All (λ input. length input.items ≤ 1048576) inputs.now }
+    requires prepared { IsPrepared image.now machine.now loops.now (map (λ input. input.items) inputs.now) prepared.now }
     requires proposals { length proposals.now ≤ 64 }
-    ensures fitted { AnswersBy (λ given. (given.0.items, given.1)) result
-        (IsFitting image.now machine.now loops.now (map (λ input. input.items) inputs.now) proposals.now) }
+    ensures fitted { IfOk result (λ given. IsFitted image.now machine.now loops.now (map (λ input. input.items) inputs.now) proposals.now
+        given.0.items given.1) }
 
     // The choice never takes more than the image that runs at one level.
     ensures saves { IfOk result (λ given. given.1.energy ≤ given.1.hold_energy) }
 
+    // Each mark of the chosen proposal can lower a level in the stored image.
+    ensures useful { IfOk result (λ given. IsChosenUseful image.now machine.now loops.now proposals.now given.1.candidate) }
+
     // On each input on which the original run exits and is kept, the stored run keeps the promise.
     ensures safe { IfOk result (λ given. IsStoredSafely image.now machine.now loops.now given.0.items given.1.summary) }
 {
-    let power = read_machine(alloc, machine)?;
-    let held = hold(alloc, image, machine, loops)?;
-    let flags = counting_of(alloc, image, machine, loops, inputs)?;
     let files = Files {
         image,
         machine,
         loops,
         inputs,
-        flags: &flags,
+        flags: &prepared.flags,
     };
-    Ok(fit(alloc, &files, &power, proposals, held)?)
+    let held = (prepared.stored.clone()?, prepared.summary);
+    fit(alloc, &files, held, prepared, proposals)
 }

@@ -3,11 +3,13 @@
 #![tactic(auto)]
 
 mod bounds;
-mod candidates;
 mod choosing;
+mod endings;
 mod fitting;
+mod preparing;
 mod trials;
 
 pub use bounds::least_energy;
-pub use candidates::Proposal;
+pub use endings::{Ending, is_counted};
 pub use fitting::{Fitted, choose};
+pub use preparing::{Prepared, prepare};

@@ -3,10 +3,9 @@
 ghost use Rattle.std.specs.Prelude.{IfOk};
 ghost use Rattle.pace_fit.specs.Finding.{AreLoaded, IsProposalTried};
 
-use crate::candidates::Proposal;
 use gain_tuner::{Files, Trial, trial_from};
-use paced_images::pace;
-use scale_base::NoMemory;
+use paced_images::{Proposal, pace_useful};
+use scale_base::{NoMemory, Stop};
 use std::alloc::Global;
 
 /// The trial of the image of a proposal, unless it is out.
@@ -19,15 +18,10 @@ pub fn trial_of(
     requires { AreLoaded files.now }
     ensures { IfOk result (IsProposalTried files.now proposal.now candidate) }
 {
-    let made = pace(
-        alloc,
-        files.image,
-        files.machine,
-        files.loops,
-        &proposal.sites,
-        proposal.counted,
-        &proposal.tallied,
-        proposal.share,
-    );
-    trial_from(alloc, files, candidate, made)
+    match pace_useful(alloc, files.image, files.machine, files.loops, proposal) {
+        Ok(Some(made)) => trial_from(alloc, files, candidate, Ok(made)),
+        Ok(None) => Ok(None),
+        Err(Stop::Refused(_)) => Ok(None),
+        Err(Stop::Memory) => Err(NoMemory),
+    }
 }

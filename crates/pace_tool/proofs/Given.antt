@@ -1,20 +1,51 @@
--- What the choice of a fitting gives is safe.
-use Rattle.std.proofs.Common.{ℕ, ◌≤◌, List}
-use Rattle.std.specs.Prelude.{Vec, IfOk, Result, Ok, Err}
-use Rattle.std.specs.declared.alloc.Global.{Global}
-use Rattle.scale_base.specs.declared.refusal.Stop.{Stop}
-use Rattle.scale_base.specs.declared.refusal.Stop.TheVariants.{Refused, Memory}
-use Rattle.scale_base.specs.Answer.{AnswersBy}
+-- The answer to `fit` tells a choice that is safe, or the refusal of `hold`.
+use Rattle.std.proofs.Common.{◌≡◌, ℕ, ◌≤◌, List, [], ◌∷◌, length, refl, sym, ap, ◌∙◌, arith}
+use Rattle.std.specs.Prelude.{IfOk, Result, Ok, Err}
+use Rattle.scale_base.specs.declared.refusal.NoMemory.{NoMemory}
+use Rattle.scale_base.specs.declared.refusal.Refusal.{Refusal}
+use Rattle.scaler.specs.Held.{IsHeld}
 use Rattle.scaler.specs.Promise.{IsStoredSafely}
-use Rattle.pace_fit.specs.declared.candidates.Proposal.{Proposal}
+use Rattle.paced_images.specs.declared.proposal.Proposal.{Proposal}
+use Rattle.pace_fit.specs.declared.endings.Ending.{Ending}
 use Rattle.pace_fit.specs.declared.fitting.Fitted.{Fitted}
-use Rattle.pace_fit.specs.Fitting.{IsFitting}
-use Rattle.host_runs.specs.Views.{file_view}
-use Rattle.pace_tool.specs.Answer.{Fits}
+use Rattle.pace_fit.specs.Endings.{endings_on}
+use Rattle.pace_fit.specs.Fitting.{IsFitted}
+use Rattle.host_runs.specs.declared.reply.Reply.{Reply}
+use Rattle.host_runs.specs.Answer.{Answer, Tells, refused, stored_answer}
+use Rattle.host_runs.specs.Views.{reply_view}
+use Rattle.pace_tool.specs.Answer.{Fits, MakesFit}
+use Rattle.pace_tool.specs.Texts.{fitted_text}
 
-pub fits_given : (image machine loops : List ℕ) (inputs : List (List ℕ)) (proposals : List Proposal) (given : Result (Vec ℕ Global × Fitted) Stop) →
-    AnswersBy file_view given (IsFitting image machine loops inputs proposals) → IfOk given (λ g. g.1.energy ≤ g.1.hold_energy) →
-    IfOk given (λ g. IsStoredSafely image machine loops g.0.items g.1.summary) → AnswersBy file_view given (Fits image machine loops inputs proposals)
-fits_given image machine loops inputs proposals (Ok given) fitting saves safe = record { fitting = fitting; safe = record { safe = safe; saves = saves } }
-fits_given image machine loops inputs proposals (Err (Refused refusal)) fitting saves safe = record { fitting = fitting; safe = tt }
-fits_given image machine loops inputs proposals (Err Memory) fitting saves safe = tt
+module _ (image machine loops : List ℕ) (inputs : List (List ℕ)) (out : List ℕ) where
+  -- ---- a choice
+
+  pub fit_told : (proposals : List Proposal) (endings : List Ending) (bytes text : List ℕ) (fitted : Fitted) (result : Result Reply NoMemory) → IsFitted image machine loops inputs proposals bytes fitted → fitted.energy ≤ fitted.hold_energy →
+      IsStoredSafely image machine loops bytes fitted.summary → endings ≡ endings_on image machine loops inputs → text ≡ fitted_text endings proposals fitted →
+      IfOk result (λ reply. reply_view reply ≡ record { stores = (out, bytes) ∷ []; text = text; status = 0 }) →
+      IfOk result (λ reply. Tells (Fits image machine loops inputs proposals) (stored_answer (fitted_text (endings_on image machine loops inputs) proposals) out) (reply_view reply))
+  fit_told proposals endings bytes text fitted (Ok reply) fits saves safe are told is = record {
+    given = Ok (bytes, fitted);
+    is_given = record { fitting = fits; safe = record { safe = safe; saves = saves } };
+    told = is ∙ ap (λ (t : List ℕ). answer t) (told ∙ ap (λ (es : List Ending). fitted_text es proposals fitted) are);
+  }
+    where
+      answer : List ℕ → Answer
+      answer t = record { stores = (out, bytes) ∷ []; text = t; status = 0 }
+  fit_told proposals endings bytes text fitted (Err no_memory) fits saves safe are told is = tt
+
+  -- of some proposals
+  pub of_some : (proposals : List Proposal) (result : Result Reply NoMemory) → length proposals ≤ 64 →
+      IfOk result (λ reply. Tells (Fits image machine loops inputs proposals) (stored_answer (fitted_text (endings_on image machine loops inputs) proposals) out) (reply_view reply)) →
+      IfOk result (λ reply. MakesFit image machine loops inputs out (reply_view reply))
+  of_some proposals (Ok reply) few tells = record { proposals = proposals; few = few; tells = tells }
+  of_some proposals (Err no_memory) few tells = tt
+
+  -- ---- a refusal
+
+  pub refusal_told : (refusal : Refusal) (result : Result Reply NoMemory) → IsHeld image machine loops (Err refusal) → IfOk result (λ reply. reply_view reply ≡ refused refusal) → IfOk result (λ reply. MakesFit image machine loops inputs out (reply_view reply))
+  refusal_told refusal (Ok reply) held is = record {
+    proposals = [];
+    few = omega arith;
+    tells = record { given = Err refusal; is_given = record { fitting = held; safe = tt }; told = is };
+  }
+  refusal_told refusal (Err no_memory) held is = tt

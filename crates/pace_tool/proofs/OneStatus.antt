@@ -6,8 +6,9 @@ use Rattle.scale_base.specs.declared.refusal.Refusal.{Refusal}
 use Rattle.scale_base.specs.declared.summary.Summary.{Summary}
 use Rattle.scaler.specs.Held.{IsHeld}
 use Rattle.scaler.proofs.Laws.{held_answers}
-use Rattle.pace_fit.specs.declared.candidates.Proposal.{Proposal}
+use Rattle.paced_images.specs.declared.proposal.Proposal.{Proposal}
 use Rattle.pace_fit.specs.declared.fitting.Fitted.{Fitted}
+use Rattle.pace_fit.specs.Endings.{endings_on}
 use Rattle.pace_fit.specs.Fitting.{IsFitted, IsFitting}
 use Rattle.host_files.specs.HostState.{HostState}
 use Rattle.host_runs.specs.declared.reply.Reply.{Reply}
@@ -34,7 +35,7 @@ not_refused image machine loops inputs proposals stored fitted refusal h refused
 
 status_same : (image machine loops out : List ℕ) (inputs : List (List ℕ)) (p q : List Proposal) (one other : Result (List ℕ × Fitted) Refusal) →
     IsFitting image machine loops inputs p one → IsFitting image machine loops inputs q other →
-    (stored_answer (fitted_text p) out one).status ≡ (stored_answer (fitted_text q) out other).status
+    (stored_answer (fitted_text (endings_on image machine loops inputs) p) out one).status ≡ (stored_answer (fitted_text (endings_on image machine loops inputs) q) out other).status
 status_same image machine loops out inputs p q (Ok one) (Ok other) x y = refl
 status_same image machine loops out inputs p q (Err one) (Err other) x y = refl
 status_same image machine loops out inputs p q (Ok one) (Err other) x y = absurd (not_refused image machine loops inputs p one.0 one.1 other x y)
@@ -78,7 +79,7 @@ shown_status (Err refusal) = refl
 
 status_small : (command : Command) (files : List (List ℕ)) (answer : Answer) → Makes command files answer → nat_le answer.status 1 ≡ true
 status_small (Fit image machine loops out inputs) (i ∷ m ∷ l ∷ given) answer x =
-    ap (λ (a : Answer). nat_le a.status 1) x.tells.told ∙ given_status (fitted_text x.proposals) out x.tells.given
+    ap (λ (a : Answer). nat_le a.status 1) x.tells.told ∙ given_status (fitted_text (endings_on i m l given) x.proposals) out x.tells.given
 status_small (Show image machine loops) (i ∷ m ∷ l ∷ []) answer x = ap (λ (a : Answer). nat_le a.status 1) x.told ∙ shown_status x.given
 status_small command files answer x = absurd x
 

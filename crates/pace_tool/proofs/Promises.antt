@@ -8,6 +8,7 @@ use Rattle.host_runs.specs.Delivered.{with_stores}
 use Rattle.host_runs.specs.Promise.{Promised, StoredPromise}
 use Rattle.host_runs.proofs.Laws as runs
 use Rattle.host_runs.proofs.Laws.{EachWithin}
+use Rattle.pace_fit.specs.Endings.{endings_on}
 use Rattle.pace_tool.specs.Answer.{Fits, IsFittedSafely, MakesFit, Makes}
 use Rattle.pace_tool.specs.Command.{Command, Fit, Show, wants_of}
 use Rattle.pace_tool.specs.Promise.{FitsAny, Promise}
@@ -16,7 +17,7 @@ use Rattle.pace_tool.specs.Texts.{fitted_text}
 fit_kept : (image machine loops : List ℕ) (inputs : List (List ℕ)) (out : List ℕ) (files : Files) (answer : Answer) → MakesFit image machine loops inputs out answer → answer.status ≢ 1 →
     StoredPromise (FitsAny image machine loops inputs) (IsFittedSafely image machine loops) (get (with_stores answer.stores files) out)
 fit_kept image machine loops inputs out files answer made done =
-    let kept = runs.stored_kept (Fits image machine loops inputs made.proposals) (IsFittedSafely image machine loops) (fitted_text made.proposals) out files
+    let kept = runs.stored_kept (Fits image machine loops inputs made.proposals) (IsFittedSafely image machine loops) (fitted_text (endings_on image machine loops inputs) made.proposals) out files
     (λ stored told is. is.safe) answer made.tells done in
     record {
       stored = kept.stored;

@@ -21,14 +21,15 @@ tallies-more text now headers k d h so_far =
 
 -- ---- the parts of a text
 
--- a text to which seven parts are added, one after another
-pub glued : (s a b c d e f g t t1 t2 t3 t4 t5 t6 t7 : List ℕ) → t ≡ s → t1 ≡ t ++ a → t2 ≡ t1 ++ b → t3 ≡ t2 ++ c → t4 ≡ t3 ++ d → t5 ≡ t4 ++ e → t6 ≡ t5 ++ f → t7 ≡ t6 ++ g
-    → t7 ≡ ((((((s ++ a) ++ b) ++ c) ++ d) ++ e) ++ f) ++ g
-glued s a b c d e f g t t1 t2 t3 t4 t5 t6 t7 h h1 h2 h3 h4 h5 h6 h7 =
-    let i1 : t1 ≡ s ++ a = h1 ∙ ap (λ (x : List ℕ). x ++ a) h in
+-- a text to which eight parts are added, one after another
+pub glued : (s a b c d e f g h t t1 t2 t3 t4 t5 t6 t7 t8 : List ℕ) → t ≡ s → t1 ≡ t ++ a → t2 ≡ t1 ++ b → t3 ≡ t2 ++ c → t4 ≡ t3 ++ d → t5 ≡ t4 ++ e → t6 ≡ t5 ++ f → t7 ≡ t6 ++ g → t8 ≡ t7 ++ h
+    → t8 ≡ (((((((s ++ a) ++ b) ++ c) ++ d) ++ e) ++ f) ++ g) ++ h
+glued s a b c d e f g h t t1 t2 t3 t4 t5 t6 t7 t8 h0 h1 h2 h3 h4 h5 h6 h7 h8 =
+    let i1 : t1 ≡ s ++ a = h1 ∙ ap (λ (x : List ℕ). x ++ a) h0 in
     let i2 : t2 ≡ (s ++ a) ++ b = h2 ∙ ap (λ (x : List ℕ). x ++ b) i1 in
     let i3 : t3 ≡ ((s ++ a) ++ b) ++ c = h3 ∙ ap (λ (x : List ℕ). x ++ c) i2 in
     let i4 : t4 ≡ (((s ++ a) ++ b) ++ c) ++ d = h4 ∙ ap (λ (x : List ℕ). x ++ d) i3 in
     let i5 : t5 ≡ ((((s ++ a) ++ b) ++ c) ++ d) ++ e = h5 ∙ ap (λ (x : List ℕ). x ++ e) i4 in
     let i6 : t6 ≡ (((((s ++ a) ++ b) ++ c) ++ d) ++ e) ++ f = h6 ∙ ap (λ (x : List ℕ). x ++ f) i5 in
-    h7 ∙ ap (λ (x : List ℕ). x ++ g) i6
+    let i7 : t7 ≡ ((((((s ++ a) ++ b) ++ c) ++ d) ++ e) ++ f) ++ g = h7 ∙ ap (λ (x : List ℕ). x ++ g) i6 in
+    h8 ∙ ap (λ (x : List ℕ). x ++ h) i7

@@ -2,8 +2,9 @@
 use Rattle.std.specs.Prelude.{ℕ, ◌≤◌, List, [], ◌∷◌, length, Result, Ok, Err}
 use Rattle.scale_base.specs.declared.refusal.Refusal.{Refusal}
 use Rattle.scaler.specs.Promise.{IsStoredSafely}
-use Rattle.pace_fit.specs.declared.candidates.Proposal.{Proposal}
+use Rattle.paced_images.specs.declared.proposal.Proposal.{Proposal}
 use Rattle.pace_fit.specs.declared.fitting.Fitted.{Fitted}
+use Rattle.pace_fit.specs.Endings.{endings_on}
 use Rattle.pace_fit.specs.Fitting.{IsFitting}
 use Rattle.host_runs.specs.Answer.{Answer, Tells, stored_answer, text_answer}
 use Rattle.level_reasons.specs.Program.{AreReasons}
@@ -26,11 +27,12 @@ pub record Fits (image machine loops : List ℕ) (inputs : List (List ℕ)) (pro
   pub fitting : IsFitting image machine loops inputs proposals given
   pub safe : IsSafeIfAny image machine loops given
 
--- The answer to `fit` with this name of OUT: it tells what is given of some proposals, at most 64. Which ones is left open, since nothing that is promised rests on them.
+-- The answer to `fit` with this name of OUT: it tells what is given of some proposals, at most 64, and how the runs of the original on its inputs end. Which proposals is left open,
+-- since nothing that is promised rests on them.
 pub record MakesFit (image machine loops : List ℕ) (inputs : List (List ℕ)) (out : List ℕ) (answer : Answer) : Type 0 where
   pub proposals : List Proposal
   pub few : length proposals ≤ 64
-  pub tells : Tells (Fits image machine loops inputs proposals) (stored_answer (fitted_text proposals) out) answer
+  pub tells : Tells (Fits image machine loops inputs proposals) (stored_answer (fitted_text (endings_on image machine loops inputs) proposals) out) answer
 
 -- What the command may make of its files, as many as it loads. It is told of what it gives for their bytes.
 abbrev pub Makes : Command → List (List ℕ) → Answer → Type 0

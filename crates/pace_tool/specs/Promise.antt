@@ -3,7 +3,7 @@ use Rattle.std.specs.Prelude.{ℕ, List, ◌∷◌, Result}
 use Rattle.std.specs.FinMap.{get}
 use Rattle.host_files.specs.HostState.{Files}
 use Rattle.scale_base.specs.declared.refusal.Refusal.{Refusal}
-use Rattle.pace_fit.specs.declared.candidates.Proposal.{Proposal}
+use Rattle.paced_images.specs.declared.proposal.Proposal.{Proposal}
 use Rattle.pace_fit.specs.declared.fitting.Fitted.{Fitted}
 use Rattle.host_runs.specs.Promise.{StoredPromise}
 use Rattle.pace_tool.specs.Answer.{Fits, IsFittedSafely}

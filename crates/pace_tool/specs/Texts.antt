@@ -1,9 +1,29 @@
 -- The texts that the program prints, byte for byte, in the forms of those of `scale`.
 use Rattle.std.specs.Prelude.{codes, Bool, true, false, ℕ, ◌-◌, ◌==◌, List, [], ◌∷◌, ◌++◌, flat_map, slice_get, if◌then◌else◌, Option, Some, None}
-use Rattle.scale_report.specs.Texts.{address, kind_name, number_line, summary_text}
+use Rattle.std.specs.Fmt.{decimal}
+use Rattle.scale_base.specs.declared.endings.End.{End}
+use Rattle.scale_base.specs.declared.endings.End.TheVariants.{Exited, Trapped, OutOfSteps}
+use Rattle.scale_base.specs.declared.endings.Kept.{Kept}
+use Rattle.scale_report.specs.Texts.{address, end_words, kept_words, kind_name, number_line, numbered_lines, summary_text}
 use Rattle.paced_images.specs.declared.wanted.SwitchSite.{SwitchSite}
-use Rattle.pace_fit.specs.declared.candidates.Proposal.{Proposal}
+use Rattle.paced_images.specs.declared.proposal.Proposal.{Proposal}
+use Rattle.pace_fit.specs.declared.endings.Ending.{Ending}
 use Rattle.pace_fit.specs.declared.fitting.Fitted.{Fitted}
+use Rattle.pace_fit.specs.Endings.{is_counted}
+
+-- why an input doesn't count: how the run of the original ended, where that didn't exit, or what it broke
+abbrev pub left_words : End → Option Kept → List ℕ
+left_words (Exited status) kept = codes "kept " ++ kept_words kept
+left_words (Trapped trap) kept = end_words (Trapped trap)
+left_words OutOfSteps kept = codes "out of steps"
+
+-- the line of an input that doesn't count, by its number
+unfoldable pub left_line : ℕ → Ending → List ℕ
+left_line k ending = codes "input " ++ decimal k ++ codes " " ++ left_words ending.end ending.kept ++ 10 ∷ []
+
+-- that, and none of one that counts
+abbrev pub left_line_if : ℕ → Ending → List ℕ
+left_line_if k ending = if is_counted ending then [] else left_line k ending
 
 -- the energy of what `rewrite` stores, or none where it refuses or a run is out of steps
 unfoldable pub rewrite_line : Option ℕ → List ℕ
@@ -38,13 +58,14 @@ proposal_lines None = []
 unfoldable pub switches_text : List Proposal → ℕ → List ℕ
 switches_text proposals candidate = if candidate == 0 then codes "no switches: hold's image is stored\n" else proposal_lines (slice_get proposals (candidate - 1))
 
--- the chosen candidate: its summary, how many inputs count and how many don't, the energy of the choice, of the image that runs at one level and of the one that `rewrite`
--- stores, the least energy of those inputs, its switches and its tallied loops
-abbrev pub fitted_text : List Proposal → Fitted → List ℕ
-fitted_text proposals f =
+-- the chosen candidate: its summary, how many inputs count and how many don't, why each of those doesn't, the energy of the choice, of the image that runs at one level and of the
+-- one that `rewrite` stores, the least energy of the inputs that count, its switches and its tallied loops
+abbrev pub fitted_text : List Ending → List Proposal → Fitted → List ℕ
+fitted_text endings proposals f =
     summary_text f.summary
     ++ number_line (codes "inputs ") f.inputs
     ++ number_line (codes "left out ") f.left_out
+    ++ numbered_lines left_line_if 1 endings
     ++ number_line (codes "energy ") f.energy
     ++ number_line (codes "hold energy ") f.hold_energy
     ++ rewrite_line f.rewrite_energy

@@ -1,9 +1,11 @@
 //! What `fit` gives for its files.
 
-ghost use Rattle.std.specs.Prelude.{◌≡◌, ◌≤◌, length, option_map, Some, IfOk};
+ghost use Rattle.std.specs.Prelude.{◌≤◌, length, IfOk};
 ghost use Rattle.std.specs.List.{All, AllZip};
 ghost use Rattle.host_runs.specs.Answer.{Tells, stored_answer};
-ghost use Rattle.host_runs.specs.Views.{file_view, files_view, given_by, reply_view};
+ghost use Rattle.host_runs.specs.Views.{files_view, reply_view};
+ghost use Rattle.pace_fit.specs.Endings.{endings_on};
+ghost use Rattle.pace_fit.specs.Finding.{IsPrepared};
 ghost use Rattle.pace_tool.specs.Answer.{Fits, MakesFit, Makes};
 ghost use Rattle.pace_tool.specs.Command.{wants_of};
 ghost use Rattle.pace_tool.specs.Texts as texts;
@@ -13,7 +15,8 @@ use crate::command::Fit;
 use crate::proposals::proposals_of;
 use crate::texts::fitted_text;
 use host_runs::{ProgramFiles, Reply};
-use pace_fit::{Fitted, Proposal, choose};
+use pace_fit::{Prepared, choose, prepare};
+use paced_images::Proposal;
 use scale_base::{NoMemory, Stop};
 use std::alloc::Global;
 
@@ -25,49 +28,46 @@ pub struct Inputs<'a> {
     ghost short: { All (λ input. length input.items ≤ 1048576) items.now },
 }
 
-// The choice among the proposals, with its numbers and the name under which it is stored; or the refusal.
-fn told(
-    alloc: Global,
-    out: &str,
-    proposals: &[Proposal],
-    given: Result<(Vec<u8>, Fitted), Stop>,
-) -> Result<Reply, NoMemory>
-    ensures { IfOk result (λ reply. option_map (stored_answer (texts.fitted_text proposals.now) out.now) (given_by file_view given) ≡ Some (reply_view reply)) }
-{
-    match given {
-        Ok((bytes, fitted)) => {
-            let text = fitted_text(alloc, proposals, &fitted)?;
-            Reply::of_file(alloc, out, bytes, text, 0)
-        }
-        Err(Stop::Refused(refusal)) => Reply::refused(alloc, &refusal),
-        Err(Stop::Memory) => Err(NoMemory),
-    }
-}
-
-// The choice among proposals.
+// The choice among proposals, with its numbers and the name under which it is stored.
 fn chosen_of(
     alloc: Global,
     out: &str,
     files: &ProgramFiles<'_>,
     inputs: &Inputs<'_>,
+    prepared: &Prepared,
     proposals: &[Proposal],
 ) -> Result<Reply, NoMemory>
-    requires { length proposals.now ≤ 64 }
-    ensures { IfOk result (λ reply. Tells (Fits files.now.image.now files.now.machine.now files.now.loops.now (files_view inputs.now.items.now) proposals.now) (stored_answer (texts.fitted_text proposals.now) out.now) (reply_view reply)) }
+    requires prepared { IsPrepared files.now.image.now files.now.machine.now files.now.loops.now (files_view inputs.now.items.now) prepared.now }
+    requires proposals { length proposals.now ≤ 64 }
+    ensures { let endings = endings_on files.now.image.now files.now.machine.now files.now.loops.now (files_view inputs.now.items.now) in
+        IfOk result (λ reply. Tells (Fits files.now.image.now files.now.machine.now files.now.loops.now (files_view inputs.now.items.now) proposals.now) (stored_answer (texts.fitted_text endings proposals.now) out.now) (reply_view reply)) }
 {
-    told(
+    let (bytes, fitted) = choose(
         alloc,
-        out,
+        files.image,
+        files.machine,
+        files.loops,
+        inputs.items,
+        prepared,
         proposals,
-        choose(
-            alloc,
-            files.image,
-            files.machine,
-            files.loops,
-            inputs.items,
-            proposals,
-        ),
-    )
+    )?;
+    let text = fitted_text(alloc, &prepared.endings, proposals, &fitted)?;
+    Reply::of_file(alloc, out, bytes, text, 0)
+}
+
+// What `fit` gives for a prepared program.
+fn prepared_reply(
+    alloc: Global,
+    out: &str,
+    files: &ProgramFiles<'_>,
+    inputs: &Inputs<'_>,
+    prepared: &Prepared,
+) -> Result<Reply, NoMemory>
+    requires { IsPrepared files.now.image.now files.now.machine.now files.now.loops.now (files_view inputs.now.items.now) prepared.now }
+    ensures { IfOk result (λ reply. MakesFit files.now.image.now files.now.machine.now files.now.loops.now (files_view inputs.now.items.now) out.now (reply_view reply)) }
+{
+    let proposals = proposals_of(alloc, files, inputs, &prepared.endings)?;
+    chosen_of(alloc, out, files, inputs, prepared, &proposals)
 }
 
 /// What `fit` gives for its three files and its inputs.
@@ -79,8 +79,11 @@ pub fn fit_reply(
 ) -> Result<Reply, NoMemory>
     ensures { IfOk result (λ reply. MakesFit files.now.image.now files.now.machine.now files.now.loops.now (files_view inputs.now.items.now) out.now (reply_view reply)) }
 {
-    let proposals = proposals_of(alloc, files, inputs)?;
-    chosen_of(alloc, out, files, inputs, &proposals)
+    match prepare(alloc, files.image, files.machine, files.loops, inputs.items) {
+        Ok(prepared) => prepared_reply(alloc, out, files, inputs, &prepared),
+        Err(Stop::Refused(refusal)) => Reply::refused(alloc, &refusal),
+        Err(Stop::Memory) => Err(NoMemory),
+    }
 }
 
 /// What `fit` makes of the files that were loaded.

@@ -1,15 +1,70 @@
 //! The texts that the program prints.
 
-ghost use Rattle.std.specs.Prelude.{◌≡◌, ◌++◌, IfOk, OnOk, Some, string_bytes};
-ghost use Rattle.scale_report.specs.Texts.{number_line};
-ghost use Rattle.pace_tool.specs.Texts.{fitted_text, form_name, proposal_lines, rewrite_line, switch_line, switch_lines, switches_text, tally_line, tally_lines};
+ghost use Rattle.std.specs.Prelude.{◌≡◌, ◌++◌, ◌≤◌, length, IfOk, OnOk, Some, string_bytes};
+ghost use Rattle.scale_report.specs.Texts.{number_line, numbered_lines};
+ghost use Rattle.pace_tool.specs.Texts.{fitted_text, form_name, left_line, left_line_if, proposal_lines, rewrite_line, switch_line, switch_lines, switches_text, tally_line, tally_lines};
 
-use pace_fit::{Fitted, Proposal};
-use paced_images::SwitchSite;
-use scale_base::NoMemory;
-use scale_report::{Address, kind_name, summary_text};
+use pace_fit::{Ending, Fitted, is_counted};
+use paced_images::{Proposal, SwitchSite};
+use scale_base::{End, NoMemory};
+use scale_report::{Address, EndWords, KeptWords, kind_name, summary_text};
 use std::alloc::{AllocError, Global};
+use std::fmt;
 use std::fmt::Write;
+
+/// Why an input doesn't count: how its run ended, where that didn't exit, or what it broke.
+#[derive(Clone, Copy)]
+struct LeftWords(Ending);
+
+impl fmt::Display for LeftWords {
+    ghost use Rattle.std.specs.Prelude.{Some};
+    ghost use Rattle.pace_tool.specs.Texts.{left_words};
+
+    ghost output = { λ words. Some (left_words words.0.end words.0.kept) };
+
+    fn fmt<W: fmt::Write>(&self, f: &mut fmt::Formatter<W>) -> fmt::Result {
+        match self.0.end {
+            End::Exited(_) => write!(f, "kept {}", KeptWords(self.0.kept)),
+            End::Trapped(trap) => write!(f, "{}", EndWords(End::Trapped(trap))),
+            End::OutOfSteps => write!(f, "out of steps"),
+        }
+    }
+}
+
+// Adds the line of an input that doesn't count.
+#[tactic(auto, unfolding(crate::specs::Texts::left_line))]
+fn push_left(text: &mut String, number: u32, ending: Ending) -> Result<(), AllocError>
+    ensures { OnOk result (string_bytes text.new ≡ string_bytes text.old ++ left_line number ending) }
+{
+    let words = LeftWords(ending);
+    write!(text, "input {number} {words}\n")
+}
+
+// Adds that line, unless the input counts.
+fn push_left_if(text: &mut String, number: u32, ending: &Ending) -> Result<(), AllocError>
+    ensures { OnOk result (string_bytes text.new ≡ string_bytes text.old ++ left_line_if number ending.now) }
+{
+    if is_counted(ending) {
+        Ok(())
+    } else {
+        push_left(text, number, *ending)
+    }
+}
+
+// Adds those lines, of inputs that are numbered from a number on.
+#[tactic(auto, unfolding(scale_report::specs::Texts::numbered_lines))]
+fn push_left_out(text: &mut String, number: u32, endings: &[Ending]) -> Result<(), AllocError>
+    requires { number + length endings.now ≤ 1000 }
+    ensures { OnOk result (string_bytes text.new ≡ string_bytes text.old ++ numbered_lines left_line_if number endings.now) }
+{
+    match endings.split_first() {
+        Some((first, rest)) => {
+            push_left_if(text, number, first)?;
+            push_left_out(text, number + 1, rest)
+        }
+        None => Ok(()),
+    }
+}
 
 // Adds a line of some words and a number.
 #[tactic(auto, unfolding(scale_report::specs::Texts::number_line))]
@@ -109,19 +164,22 @@ fn push_switches(
     }
 }
 
-/// The choice of a fitting: its summary, how many inputs count and how many don't, the energy of the choice, of the image that runs at one level and
-/// of the one that `rewrite` stores, the least energy of those inputs, and a line for each switch and each loop that is
-/// tallied.
+/// The choice of a fitting: its summary, how many inputs count and how many don't, with a line for each of those that tells why, the energy of
+/// the choice, of the image that runs at one level and of the one that `rewrite` stores, the least energy of those inputs, and a line for each
+/// switch and each loop that is tallied.
 pub fn fitted_text(
     alloc: Global,
+    endings: &[Ending],
     proposals: &[Proposal],
     fitted: &Fitted,
 ) -> Result<String, NoMemory>
-    ensures { IfOk result (λ text. string_bytes text ≡ fitted_text proposals.now fitted.now) }
+    requires { length endings.now ≤ 64 }
+    ensures { IfOk result (λ text. string_bytes text ≡ fitted_text endings.now proposals.now fitted.now) }
 {
     let mut text = summary_text(alloc, &fitted.summary)?;
     push_count(&mut text, "inputs ", fitted.inputs)?;
     push_count(&mut text, "left out ", fitted.left_out)?;
+    push_left_out(&mut text, 1, endings)?;
     push_number(&mut text, "energy ", fitted.energy)?;
     push_number(&mut text, "hold energy ", fitted.hold_energy)?;
     push_rewrite(&mut text, fitted.rewrite_energy)?;

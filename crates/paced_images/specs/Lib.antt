@@ -5,3 +5,4 @@ pub mod Markings
 pub mod Scalings
 pub mod Programs
 pub mod Useful
+pub mod Proposed

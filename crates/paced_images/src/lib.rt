@@ -2,9 +2,12 @@
 //! Tests: crates/answer_tests/src/pacing.rt.
 #![tactic(auto)]
 
+mod due;
 mod noted;
 mod pacing;
 mod programs;
+mod proposal;
+mod proposed;
 mod scaling;
 mod stubs;
 mod useful;
@@ -12,6 +15,8 @@ mod wanted;
 
 pub use pacing::pace;
 pub use programs::{Program, program_of};
+pub use proposal::Proposal;
+pub use proposed::pace_useful;
 pub use scaling::{Marked, Scaling};
-pub use useful::useful_sites;
+pub use useful::{KeptMarks, useful_marks};
 pub use wanted::SwitchSite;

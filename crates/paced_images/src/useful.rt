@@ -1,4 +1,4 @@
-//! The sites whose switches are of use.
+//! The marks that are of use: the sites whose switches are, and the loops whose tallies are.
 
 ghost use Rattle.std.specs.Prelude.{◌≡◌, ◌≤◌, ◌<◌, ◌^◌, ◌&&◌, nat_le, nat_lt, length, IfOk, IfSome};
 ghost use Rattle.std.specs.List.{list_any};
@@ -9,7 +9,8 @@ ghost use Rattle.scale_sites.specs.Weights.{switches};
 ghost use Rattle.paced_images.specs.Markings.{HasMarking, told_view};
 ghost use Rattle.paced_images.specs.Useful as useful;
 
-use crate::programs::program_of;
+use crate::due::kept_loops;
+use crate::programs::{Program, program_of};
 use crate::scaling::Marked;
 use crate::stubs::{Told, told_at};
 use crate::wanted::{SwitchSite, edges_at, names};
@@ -141,14 +142,42 @@ fn kept_sites(
     Ok(kept)
 }
 
-/// The sites whose switch can lower a level in the image that `pace` makes of all of them, in their order: the table of their edge leads
-/// from some level, up to the starting one, to a lower one, and with `lowest` from each level to the lowest one. A site that names no
-/// edge with a switch isn't among them, and nor is one that names a back edge of a tallied loop. Or the refusal of `pace`.
+/// The marks of a program that are of use.
+#[derive(Drop)]
+pub struct KeptMarks {
+    pub sites: Vec<SwitchSite>,
+    pub tallied: Vec<u32>,
+}
+
+/// The sites and the tallied loops of a marked program that are of use, in their order.
+pub fn kept_marks(
+    alloc: Global,
+    program: &Program<'_>,
+    sites: &[SwitchSite],
+    tallied: &[u32],
+) -> Result<KeptMarks, NoMemory>
+    requires { HasMarking program.now.power program.now.marked.graph program.now.marked.tree program.now.marked.marking }
+    ensures sites { IfOk result (λ kept. useful.AreKeptBy program.now.power program.now.marked sites.now kept.sites.items) }
+    ensures tallied { IfOk result (λ kept. useful.AreLoopsKeptBy program.now.power program.now.marked tallied.now kept.tallied.items) }
+{
+    let power = &program.power;
+    let marked = &program.marked;
+    Ok(KeptMarks {
+        sites: kept_sites(alloc, power, marked, sites)?,
+        tallied: kept_loops(alloc, power, marked, tallied)?,
+    })
+}
+
+/// The sites and the tallied loops that can lower a level in the image that `pace` makes with all of them, in their order. A site can, where
+/// the table of its edge leads from some level, up to the starting one, to a lower one, and with `lowest` from each level to the lowest one.
+/// A site that names no edge with a switch isn't among them, and nor is one that names a back edge of a tallied loop. A tallied loop can, where
+/// some tally on its back edges comes due: from a count of turns that the loop's bound allows on, it leads from each level to the lowest
+/// one, which isn't the starting level. An address at which no loop has its header isn't among them. Or the refusal of `pace`.
 ///
-/// In the image that `pace` makes of these alone there is less to pay, so its tables may lead to other levels.
+/// In the image that `pace` makes with these alone there is less to pay, so its tables may lead to other levels.
 ///
 /// The files have at most the bytes that the program loads, as with `pace`.
-pub fn useful_sites(
+pub fn useful_marks(
     alloc: Global,
     image: &[u8],
     machine: &[u8],
@@ -157,13 +186,13 @@ pub fn useful_sites(
     counted: bool,
     tallied: &[u32],
     share: u8,
-) -> Result<Vec<SwitchSite>, Stop>
+) -> Result<KeptMarks, Stop>
     requires image { length image.now ≤ 4194304 }
     requires machine { length machine.now ≤ 1048576 }
     requires loops { length loops.now ≤ 1048576 }
     requires share { share ≤ 4 }
-    ensures { AnswersBy (λ kept. kept.items) result (useful.AreUseful image.now machine.now loops.now sites.now counted tallied.now share) }
+    ensures { AnswersBy (λ kept. (kept.sites.items, kept.tallied.items)) result (useful.AreUseful image.now machine.now loops.now sites.now counted tallied.now share) }
 {
     let program = program_of(alloc, image, machine, loops, sites, counted, tallied, share)?;
-    Ok(kept_sites(alloc, &program.power, &program.marked, sites)?)
+    Ok(kept_marks(alloc, &program, sites, tallied)?)
 }

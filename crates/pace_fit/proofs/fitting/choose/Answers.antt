@@ -1,11 +1,9 @@
-use Rattle.std.proofs.Common.{◌∙◌}
-use Rattle.std.proofs.lemmas.Result.{err_from_is_err_and}
-use Rattle.gain_tuner.proofs.Laws.{items_of, original_runs}
-use Rattle.pace_fit.proofs.Numbers.{fitting_stops}
+use Rattle.std.proofs.Common.{sym, ◌∙◌, subst}
+use Rattle.std.specs.Prelude.{List, ℕ, Ok}
+use Rattle.scaler.specs.Held.{IsHeld}
+use Rattle.gain_tuner.specs.Spending.{counts}
+use Rattle.pace_fit.proofs.Runs.{flags_over}
 use Rattle.pace_fit.proofs.fitting.choose.Goals as goal
-
-pub counting_of-requires : goal.counting_of-requires
-counting_of-requires c = original_runs c.args.image.now c.args.machine.now c.args.loops.now c.in_ok-held.held.0.items c.in_ok-held.held.1 c.in_ok-held.ensures.given
 
 pub fit-requires-clause-files : goal.fit-requires-clause-files
 fit-requires-clause-files c = record {
@@ -13,10 +11,9 @@ fit-requires-clause-files c = record {
   machine = c.requires.machine;
   loops = c.requires.loops;
   few = c.requires.few;
-  flags = c.deref.ensures.value ∙ c.in_ok-flags.ensures;
+  flags = c.deref.ensures.value ∙ (c.requires.prepared.flags ∙ flags_over (counts c.args.image.now c.args.machine.now c.args.loops.now) c.args.inputs.now);
 }
 
-pub returns-in_err-power-clause-fitted : goal.returns-in_err-power-clause-fitted
-returns-in_err-power-clause-fitted c =
-    let p = err_from_is_err_and c.from_residual.result c.from_residual.ensures.1 in
-    rw (p.1, p.2) (fitting_stops c.args.image.now c.args.machine.now c.args.loops.now (items_of c.args.inputs.now) c.args.proposals.now c.in_err-power.field-0.0 c.in_err-power.ensures.answers)
+pub fit-requires-clause-held : goal.fit-requires-clause-held
+fit-requires-clause-held c =
+    subst (λ (bytes : List ℕ). IsHeld c.args.image.now c.args.machine.now c.args.loops.now (Ok (bytes, c.args.prepared.now.summary))) (sym c.in_ok-clone.ensures.items) c.requires.prepared.held

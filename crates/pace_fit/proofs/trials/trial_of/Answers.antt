@@ -1,20 +1,12 @@
-use Rattle.std.proofs.Common.{ℕ, List, subst}
-use Rattle.std.specs.Prelude.{Vec}
-use Rattle.std.specs.declared.alloc.Global.{Global}
-use Rattle.scale_base.specs.declared.summary.Summary.{Summary}
-use Rattle.scale_base.specs.Answer.{AnswersBy}
-use Rattle.paced_images.specs.declared.wanted.SwitchSite.{SwitchSite}
-use Rattle.paced_images.specs.Paced.{IsPaced}
-use Rattle.pace_fit.proofs.Numbers.{proposal_tried}
+use Rattle.std.proofs.Common.{inl, inr}
+use Rattle.pace_fit.proofs.Numbers.{proposal_out, proposal_tried}
 use Rattle.pace_fit.proofs.trials.trial_of.Goals as goal
 
-pub returns : goal.returns
-returns c =
-    let files = c.args.files.now in
-    let p = c.args.proposal.now in
-    let tells = λ (sites : List SwitchSite) (tallied : List ℕ). AnswersBy {X = Vec ℕ Global × Summary} {Y = List ℕ × Summary} (λ given. (given.0.items, given.1)) c.pace-made.result
-    (IsPaced files.image.now files.machine.now files.loops.now sites p.counted tallied p.share) in
-    proposal_tried files p c.args.candidate c.trial_from.result c.pace-made.result
-    (subst (λ (tallied : List ℕ). tells p.sites.items tallied) c.deref-2.ensures.value
-    (subst (λ (sites : List SwitchSite). tells sites c.deref-2.result.now) c.deref.ensures.value c.pace-made.ensures.given))
-    c.trial_from.ensures
+pub returns-in-Ok-in-Some : goal.returns-in-Ok-in-Some
+returns-in-Ok-in-Some c = proposal_tried c.args.files.now c.args.proposal.now c.args.candidate c.trial_from.result c.in-Some.made c.in-Some.ensures.given c.trial_from.ensures
+
+pub returns-in-Ok-in-None : goal.returns-in-Ok-in-None
+returns-in-Ok-in-None c = proposal_out c.args.files.now c.args.proposal.now c.args.candidate (inl c.in-None.ensures.given)
+
+pub returns-in-Err-in-Refused : goal.returns-in-Err-in-Refused
+returns-in-Err-in-Refused c = proposal_out c.args.files.now c.args.proposal.now c.args.candidate (inr (c.in-Refused.field-0, c.in-Refused.ensures.given))

@@ -1,0 +1,75 @@
+//! How the runs of the original on the inputs end, and which of the inputs count.
+
+ghost use Rattle.std.specs.Prelude.{◌≡◌, ◌≤◌, ◌^◌, map, IfOk};
+ghost use Rattle.std.specs.List.{All};
+ghost use Rattle.pace_fit.specs.Endings as endings;
+ghost use Rattle.pace_fit.specs.Finding.{HasHeld};
+
+use gain_tuner::report_of;
+use scale_base::{End, Kept, NoMemory};
+use std::alloc::Global;
+
+/// How the run of the original on an input ends, whether it was kept, and its cycles.
+#[derive(Clone, Copy, Debug, PartialEq, Eq)]
+pub struct Ending {
+    pub end: End,
+    pub kept: Option<Kept>,
+    pub cycles: u64,
+}
+
+/// That of one input.
+fn ending_of(
+    alloc: Global,
+    image: &[u8],
+    machine: &[u8],
+    loops: &[u8],
+    input: &[u8],
+) -> Result<Ending, NoMemory>
+    requires { HasHeld image.now machine.now loops.now }
+    ensures ending { IfOk result (λ ending. ending ≡ endings.ending_on image.now machine.now loops.now input.now) }
+    ensures small { IfOk result (λ ending. ending.cycles ≤ 2 ^ 56) }
+{
+    let report = report_of(alloc, image, machine, input, Some(loops))?;
+    Ok(Ending {
+        end: report.end,
+        kept: report.kept,
+        cycles: report.meter.cycles,
+    })
+}
+
+/// Those of the inputs, in their order: the original runs once on each.
+pub fn endings_of(
+    alloc: Global,
+    image: &[u8],
+    machine: &[u8],
+    loops: &[u8],
+    inputs: &[Vec<u8>],
+) -> Result<Vec<Ending>, NoMemory>
+    requires { HasHeld image.now machine.now loops.now }
+    ensures endings { IfOk result (λ found. found.items ≡ endings.endings_on image.now machine.now loops.now (map (λ input. input.items) inputs.now)) }
+    ensures small { IfOk result (λ found. All (λ ending. ending.cycles ≤ 2 ^ 56) found.items) }
+{
+    let mut endings = Vec::new(alloc);
+    for input in inputs {
+        endings.push(ending_of(alloc, image, machine, loops, input)?)?;
+    }
+    Ok(endings)
+}
+
+/// Whether an input whose run ends so counts: it exits, and is kept.
+pub fn is_counted(ending: &Ending) -> bool
+    ensures { result ≡ endings.is_counted ending.now }
+{
+    matches!(ending.end, End::Exited(_)) && matches!(ending.kept, Some(Kept::Kept))
+}
+
+/// Which of the inputs count, in their order.
+pub fn flags_of(alloc: Global, endings: &[Ending]) -> Result<Vec<bool>, NoMemory>
+    ensures { IfOk result (λ flags. flags.items ≡ map endings.is_counted endings.now) }
+{
+    let mut flags = Vec::new(alloc);
+    for ending in endings {
+        flags.push(is_counted(ending))?;
+    }
+    Ok(flags)
+}

@@ -1,0 +1,52 @@
+//! What is known of a program and its inputs before the choice.
+
+ghost use Rattle.std.specs.Prelude.{◌≤◌, length, map};
+ghost use Rattle.scale_base.specs.Answer.{AnswersBy};
+ghost use Rattle.pace_fit.specs.Finding.{IsPreparing};
+
+use crate::endings::{Ending, endings_of, flags_of};
+use machine_file::read_machine;
+use power_model::Power;
+use scale_base::{Stop, Summary};
+use scaler::hold;
+use std::alloc::Global;
+
+/// A program that can be held at one level, with its inputs: the numbers of the machine, the image that `hold` stores, how the run of the
+/// original on each input ends, and which of the inputs count.
+#[derive(Drop)]
+pub struct Prepared {
+    pub power: Power,
+    pub stored: Vec<u8>,
+    pub summary: Summary,
+    pub endings: Vec<Ending>,
+    pub flags: Vec<bool>,
+}
+
+/// What is known of a program and its inputs before the choice; or the first refusal, which is that of `hold`. The original runs once on each
+/// input.
+///
+/// The files have at most the bytes that the program loads: 4,194,304 of an image, 1,048,576 of each other file and of an input.
+pub fn prepare(
+    alloc: Global,
+    image: &[u8],
+    machine: &[u8],
+    loops: &[u8],
+    inputs: &[Vec<u8>],
+) -> Result<Prepared, Stop>
+    requires image { length image.now ≤ 4194304 }
+    requires machine { length machine.now ≤ 1048576 }
+    requires loops { length loops.now ≤ 1048576 }
+    ensures { AnswersBy (λ p. p) result (IsPreparing image.now machine.now loops.now (map (λ input. input.items) inputs.now)) }
+{
+    let power = read_machine(alloc, machine)?;
+    let (stored, summary) = hold(alloc, image, machine, loops)?;
+    let endings = endings_of(alloc, image, machine, loops, inputs)?;
+    let flags = flags_of(alloc, &endings)?;
+    Ok(Prepared {
+        power,
+        stored,
+        summary,
+        endings,
+        flags,
+    })
+}
