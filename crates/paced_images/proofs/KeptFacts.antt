@@ -20,7 +20,10 @@ use Rattle.paced_images.specs.Programs.{IsProgramFrom, IsProgramFound}
 use Rattle.paced_images.specs.Proposed.{AreKeptOf, HasDeadMark, HasNoDeadMark, IsPacedOf, IsProposalPaced, marks_of}
 use Rattle.paced_images.specs.Useful.{AreKept, AreKeptBy, AreLoopsKeptBy, Marks, is_useful, is_useful_loop}
 use Rattle.paced_images.specs.Wanted.{wanted_of, marked_at}
+use Rattle.stub_writer.specs.Sites.{site_of}
+use Rattle.rewritten_runs.specs.Stubs.{rewritten_file}
 use Rattle.paced_images.proofs.PacedSafe.{safe_given}
+use Rattle.paced_images.proofs.ProgramFacts.{files_given}
 
 module _ (image machine loops : List ℕ) (sites : List SwitchSite) (counted : Bool) (tallied : List ℕ) (share : ℕ) (p : Program) (h : IsProgramFrom image machine loops sites counted tallied share p) where
   pub has_marking : HasMarking p.power p.marked.graph p.marked.tree p.marked.marking
@@ -93,3 +96,29 @@ pub proposal_stops : (image machine loops : List ℕ) (proposal : Proposal) (sto
     AnswersBy {X = Option (Vec ℕ Global × Summary)} {Y = Option (List ℕ × Summary)} (option_map shown) (Err stop) (IsProposalPaced image machine loops proposal)
 proposal_stops image machine loops proposal (Refused refusal) h = h
 proposal_stops image machine loops proposal Memory h = tt
+
+-- ---- the program of a proposal
+
+abbrev pub IsProgramOf : (image machine loops : List ℕ) → Proposal → Program → Type 0
+IsProgramOf image machine loops proposal p = IsProgramFrom image machine loops proposal.sites.items proposal.counted proposal.tallied.items proposal.share p
+
+module _ (image machine loops : List ℕ) (proposal : Proposal) (sites : List SwitchSite) (tallied : List ℕ) (same_sites : sites ≡ proposal.sites.items) (same_tallied : tallied ≡ proposal.tallied.items) where
+  pub program_is : (p : Program) → IsProgramFrom image machine loops sites proposal.counted tallied proposal.share p → IsProgramOf image machine loops proposal p
+  program_is p h = subst (λ (ts : List ℕ). IsProgramFrom image machine loops proposal.sites.items proposal.counted ts proposal.share p) same_tallied
+      (subst (λ (ss : List SwitchSite). IsProgramFrom image machine loops ss proposal.counted tallied proposal.share p) same_sites h)
+
+  pub program_stops : (stop : Stop) → AnswersBy {X = Program} {Y = Program} (λ p. p) (Err stop) (IsProgramFound image machine loops sites proposal.counted tallied proposal.share) →
+      AnswersBy {X = Option (Vec ℕ Global × Summary)} {Y = Option (List ℕ × Summary)} (option_map shown) (Err stop) (IsProposalPaced image machine loops proposal)
+  program_stops stop h = proposal_stops image machine loops proposal stop
+      (subst (λ (ts : List ℕ). AnswersBy {X = Program} {Y = Program} (λ p. p) (Err stop) (IsProgramFound image machine loops proposal.sites.items proposal.counted ts proposal.share)) same_tallied
+      (subst (λ (ss : List SwitchSite). AnswersBy {X = Program} {Y = Program} (λ p. p) (Err stop) (IsProgramFound image machine loops ss proposal.counted tallied proposal.share)) same_sites h))
+
+module _ (image machine loops : List ℕ) (proposal : Proposal) (p : Program) (h : IsProgramOf image machine loops proposal p) (kept : List SwitchSite) (kept_tallied : List ℕ) where
+  pub kept_of : (sites : List SwitchSite) (tallied : List ℕ) → sites ≡ proposal.sites.items → tallied ≡ proposal.tallied.items → AreKeptBy p.power p.marked sites kept → AreLoopsKeptBy p.power p.marked tallied kept_tallied → AreKeptOf image machine loops proposal (kept, kept_tallied)
+  kept_of sites tallied same_sites same_tallied are loops_are =
+      are_kept image machine loops proposal.sites.items proposal.counted proposal.tallied.items proposal.share p h kept kept_tallied
+      (subst (λ (ss : List SwitchSite). AreKeptBy p.power p.marked ss kept) same_sites are) (subst (λ (ts : List ℕ). AreLoopsKeptBy p.power p.marked ts kept_tallied) same_tallied loops_are)
+
+pub paced_of : (image machine loops : List ℕ) (proposal : Proposal) (p : Program) → IsProgramOf image machine loops proposal p → (bytes : List ℕ) → bytes ≡ rewritten_file p.view (map site_of p.scaling.stubs.items) p.scaling.base p.scaling.summary.start →
+    IsPacedOf image machine loops proposal (Ok (bytes, p.scaling.summary))
+paced_of image machine loops proposal p h bytes stored = files_given image machine loops proposal.sites.items proposal.counted proposal.tallied.items proposal.share p bytes h stored
