@@ -62,6 +62,14 @@ filter_few p xs = subst (λ n. n ≤ length xs) (sym (length-filter p xs)) (coun
 
 filter_whole : {X : Type 0} (p : X → Bool) (xs : List X) → length (filter p xs) ≡ length xs → filter p xs ≡ xs
 filter_whole p [] e = refl
+filter_whole p (x ∷ xs) e = by (p x) e (filter_whole p xs)
+  where
+    by : (b : Bool) → length (cond b (x ∷ filter p xs) (filter p xs)) ≡ suc (length xs) → (length (filter p xs) ≡ length xs → filter p xs ≡ xs) → cond b (x ∷ filter p xs) (filter p xs) ≡ x ∷ xs
+    by true same rest = ap (λ ys. x ∷ ys) (rest (omega (arith, same)))
+    by false same rest = absurd (let few = filter_few p xs in omega (arith, same, few))
+
+whole : {X : Type 0} (p : X → Bool) (xs : List X) → length (filter p xs) ≡ length xs → filter p xs ≡ xs
+filter_whole p [] e = refl
 filter_whole p (x ∷ xs) e = by (p x) e
   where
     by : (b : Bool) → length (cond b (x ∷ filter p xs) (filter p xs)) ≡ suc (length xs) → cond b (x ∷ filter p xs) (filter p xs) ≡ x ∷ xs

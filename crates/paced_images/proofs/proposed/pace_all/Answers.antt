@@ -4,11 +4,8 @@ use Rattle.scaler.proofs.Laws.{file_is, no_key, read_again}
 use Rattle.stub_writer.specs.Sites.{site_of}
 use Rattle.rewritten_runs.specs.Stubs.{rewritten_file}
 use Rattle.paced_images.specs.Wanted.{notes_by}
-use Rattle.paced_images.proofs.KeptFacts.{dead_mark, has_marking, kept_of, no_dead_mark, paced_of, program_is, program_stops}
+use Rattle.paced_images.proofs.KeptFacts.{dead_mark, kept_of, no_dead_mark, paced_of, program_is}
 use Rattle.paced_images.proofs.proposed.pace_all.Goals as goal
-
-pub kept_marks-requires : goal.kept_marks-requires
-kept_marks-requires c = has_marking c.args.image.now c.args.machine.now c.args.loops.now c.deref.result.now c.args.proposal.now.counted c.deref-2.result.now c.args.proposal.now.share c.in_ok-program.program c.in_ok-program.ensures
 
 pub stored_file-requires-clause-read : goal.stored_file-requires-clause-read
 stored_file-requires-clause-read c = let p = c.in_ok-program.program in read_again c.args.image.now p.view c.in_ok-program.ensures.view_is
@@ -25,10 +22,10 @@ stored_file-requires-clause-scaled c =
     let q = c.args.proposal.now in
     let h = c.in_ok-program.ensures in (p.power, notes_by q.counted c.deref-2.result.now h.notes, c.deref.result.now, c.deref-2.result.now, q.share, h.in_range, h.scaled)
 
-pub returns-in_err-program : goal.returns-in_err-program
-returns-in_err-program c =
-    let p = err_from_is_err_and c.from_residual.result c.from_residual.ensures.1 in
-    rw (p.1, p.2) (program_stops c.args.image.now c.args.machine.now c.args.loops.now c.args.proposal.now c.deref.result.now c.deref-2.result.now c.deref.ensures.value c.deref-2.ensures.value c.in_err-program.field-0.0 c.in_err-program.ensures)
+pub returns-in_err-bytes : goal.returns-in_err-bytes
+returns-in_err-bytes c =
+    let p = err_from_is_err_and c.from_residual-in_err-bytes.result c.from_residual-in_err-bytes.ensures.1 in
+    rw (p.1, p.2) tt
 
 pub returns-then-not-are_all : goal.returns-then-not-are_all
 returns-then-not-are_all c =
