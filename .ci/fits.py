@@ -4,7 +4,7 @@
     fits.py SCALE PACE ..   these builds of `pace`, with a build of `scale` beside them
 
 Words: help and the version with status 0, words that are none with 2 and nothing on standard output, a file that is missing with 3, files that are refused
-with 1, a disk that is full with 3. Inputs that don't count: each with its reason. Made programs: what `bench/fit.py` checks of each run, at three deadlines, with inputs and without. What is wrong is told,
+with 1, a disk that is full with 3. Files that can't be read or stored: named on standard error. Inputs that don't count: each with its reason. Made programs: what `bench/fit.py` checks of each run, at three deadlines, with inputs and without. What is wrong is told,
 and the status is then 1.
 """
 
@@ -58,8 +58,29 @@ def check_words(pace, folder):
             yield "pace %s: status %d, %r on standard output" % (" ".join(words[:8]), done.returncode, done.stdout[:80])
     with open("/dev/full", "wb") as full:
         done = run(pace, folder, *fitted, output=full)
-    if done.returncode != 3:
-        yield "pace fit .. > /dev/full: status %d" % done.returncode
+    if done.returncode != 3 or done.stderr != b"pace: standard output can't be written\n":
+        yield "pace fit .. > /dev/full: status %d, %r" % (done.returncode, done.stderr)
+
+
+# Words whose answer is a fault, and what standard error tells of it.
+FAULTS = [
+    (["fit", "missing", *FILES[1:], "out"], b"pace: missing can't be read\n"),
+    (["fit", FILES[0], "missing", FILES[2], "out"], b"pace: missing can't be read\n"),
+    (["fit", *FILES[:2], "missing", "out"], b"pace: missing can't be read\n"),
+    (["fit", *FILES, "out", FILES[1], "missing", "other"], b"pace: missing can't be read\n"),
+    (["fit", *FILES, "folder/out"], b"pace: folder/out can't be stored\n"),
+    (["show", *FILES[:2], "missing"], b"pace: missing can't be read\n"),
+]
+
+
+def check_faults(pace, folder):
+    """What is wrong of the names of files that can't be read or stored."""
+    for name in FILES:
+        shutil.copy(os.path.join(DATA, name), folder)
+    for words, told in FAULTS:
+        done = run(pace, folder, *words)
+        if (done.returncode, done.stdout, done.stderr) != (3, b"", told):
+            yield "pace %s: status %d, %r, %r" % (" ".join(words), done.returncode, done.stdout, done.stderr)
 
 
 # A file in which a line is changed, and what `fit` then tells of two inputs.
@@ -108,6 +129,7 @@ def main():
     for pace in programs:
         with tempfile.TemporaryDirectory(prefix="pace-fits-") as folder:
             wrong += check_words(pace, folder)
+            wrong += check_faults(pace, folder)
             wrong += check_left_out(pace, folder)
         wrong += check_programs(scale, pace)
     print("\n".join([*wrong, "%d builds of pace%s" % (len(programs), ", and not all as expected" if wrong else " as expected")]))

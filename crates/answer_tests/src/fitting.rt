@@ -210,7 +210,14 @@ fn a_switch_is_proposed_on_the_way_over_the_divisions(rt: HostRuntime) -> Result
     if inputs.len() != 1 {
         return Err(Fail::from("inputs"));
     }
-    let proposals = propose(alloc, &image, machine.as_bytes(), loops, &inputs, &[true])?;
+    let proposals = propose(
+        alloc,
+        &image,
+        machine.as_bytes(),
+        loops,
+        &inputs,
+        &[Some(100)],
+    )?;
     let first = proposals.first().ok_or("proposals")?;
     let site = first.sites.first().ok_or("switches")?;
     assert_eq!(rt;

@@ -1,5 +1,6 @@
 mod Given
 mod GivenInputs
+mod InputNamed
 mod OneStatus
 mod Promises
 mod SwitchLines

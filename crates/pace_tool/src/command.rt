@@ -1,6 +1,6 @@
 //! The command and its files.
 
-ghost use Rattle.std.specs.Prelude.{◌≡◌, ◌++◌, ◌∷◌, IfOk, OnOk};
+ghost use Rattle.std.specs.Prelude.{◌≡◌, ◌++◌, ◌∷◌, option_map, slice_get, IfOk, OnOk};
 ghost use Rattle.host_runs.specs.Views.{want_views};
 ghost use Rattle.pace_tool.specs.Command.{input_wants, wants_of};
 ghost use Rattle.pace_tool.specs.Views.{command_view, texts};
@@ -87,4 +87,49 @@ fn want(name: &str, limit: u64) -> Want<'_>
     ensures { (result.name.now ≡ name.now) × (result.limit ≡ limit) }
 {
     Want { name, limit }
+}
+
+/// The name of the file that is loaded as that number, from 0.
+pub fn loaded_name<'a>(command: &Job<'a>, number: usize) -> Option<&'a str>
+    ensures { option_map (λ name. name.now) result ≡ option_map (λ want. want.0) (slice_get (wants_of (command_view command.now)) number) }
+{
+    match *command {
+        Job::Fit(fit) => name_at(fit.image, fit.machine, fit.loops, fit.inputs.names, number),
+        Job::Show(show) => name_at(show.image, show.machine, show.loops, &[], number),
+    }
+}
+
+fn name_at<'a>(
+    image: &'a str,
+    machine: &'a str,
+    loops: &'a str,
+    inputs: &[&'a str],
+    number: usize,
+) -> Option<&'a str>
+    ensures { option_map (λ name. name.now) result ≡ option_map (λ want. want.0) (slice_get ((image.now, 4194304) ∷ (machine.now, 1048576) ∷ (loops.now, 1048576) ∷ input_wants (texts inputs.now)) number) }
+{
+    match number {
+        0 => Some(image),
+        1 => Some(machine),
+        2 => Some(loops),
+        _ => input_at(inputs, number - 3),
+    }
+}
+
+fn input_at<'a>(inputs: &[&'a str], number: usize) -> Option<&'a str>
+    ensures { option_map (λ name. name.now) result ≡ option_map (λ want. want.0) (slice_get (input_wants (texts inputs.now)) number) }
+{
+    if number < inputs.len() {
+        Some(inputs[number])
+    } else {
+        None
+    }
+}
+
+/// The name of the file that is stored, if there is one.
+pub fn stored_name<'a>(command: &Job<'a>) -> Option<&'a str> {
+    match *command {
+        Job::Fit(fit) => Some(fit.out),
+        Job::Show(_) => None,
+    }
 }

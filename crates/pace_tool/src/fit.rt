@@ -66,7 +66,7 @@ fn prepared_reply(
     requires { IsPrepared files.now.image.now files.now.machine.now files.now.loops.now (files_view inputs.now.items.now) prepared.now }
     ensures { IfOk result (λ reply. MakesFit files.now.image.now files.now.machine.now files.now.loops.now (files_view inputs.now.items.now) out.now (reply_view reply)) }
 {
-    let proposals = proposals_of(alloc, files, inputs, &prepared.flags)?;
+    let proposals = proposals_of(alloc, files, inputs, &prepared.endings)?;
     chosen_of(alloc, out, files, inputs, prepared, &proposals)
 }
 

@@ -8,6 +8,7 @@ mod command;
 mod fit;
 mod input_names;
 mod making;
+mod naming_host;
 mod pace;
 mod proposals;
 mod show;
@@ -16,12 +17,14 @@ mod words;
 
 use clap::error::ErrorKind;
 use clap::{ArgMatches, Error};
+use command::{Job, loaded_name, stored_name};
 use host_files::RealHost;
 use host_runs::{NoWords, words_of};
+use naming_host::{Fault, NamingHost};
 use pace::run_pace;
 use std::alloc::Global;
-use std::env;
 use std::process::ExitCode;
+use std::{env, io};
 use words::{command_of, matches_of};
 
 // Help and the version go to standard output, usage errors to standard error, and nothing where memory ran out.
@@ -35,17 +38,49 @@ fn print_error(rt: &HostRuntime, error: &Error) -> u8 {
     }
 }
 
-fn run_matched(rt: HostRuntime, alloc: Global, matches: &ArgMatches<'_>) -> u8 {
+// Tells on standard error which file can't be read or stored.
+fn print_name(rt: &HostRuntime, name: Option<&str>, what: &str) -> io::Result<()> {
+    match name {
+        Some(name) => eprintln!(rt; "pace: {name} can't be {what}"),
+        None => Ok(()),
+    }
+}
+
+fn print_fault(rt: &HostRuntime, command: &Job<'_>, fault: Fault) -> io::Result<()> {
+    match fault {
+        Fault::Load(number) => print_name(rt, loaded_name(command, number), "read"),
+        Fault::Store => print_name(rt, stored_name(command), "stored"),
+        Fault::Print => eprintln!(rt; "pace: standard output can't be written"),
+    }
+}
+
+// Tells on standard error why there is no answer. Where that can't be printed, either, the status alone tells it.
+fn print_why(rt: &HostRuntime, command: &Job<'_>, status: u8, fault: Option<Fault>) {
+    let _printed = match (status, fault) {
+        (3, Some(fault)) => print_fault(rt, command, fault),
+        (4, _) => eprintln!(rt; "pace: memory ran out"),
+        _ => Ok(()),
+    };
+}
+
+fn run_command(rt: &HostRuntime, alloc: Global, command: &Job<'_>) -> u8 {
+    let mut host = NamingHost::new(RealHost::new(rt));
+    let status = run_pace(&mut host, alloc, command);
+    print_why(rt, command, status, host.fault);
+    status
+}
+
+fn run_matched(rt: &HostRuntime, alloc: Global, matches: &ArgMatches<'_>) -> u8 {
     match command_of(matches) {
-        Some(command) => run_pace(&mut RealHost::new(rt), alloc, &command),
+        Some(command) => run_command(rt, alloc, &command),
         None => 2,
     }
 }
 
-fn run_words(rt: HostRuntime, alloc: Global, words: &[String]) -> u8 {
+fn run_words(rt: &HostRuntime, alloc: Global, words: &[String]) -> u8 {
     match matches_of(alloc, words) {
         Ok(matches) => run_matched(rt, alloc, &matches),
-        Err(error) => print_error(&rt, &error),
+        Err(error) => print_error(rt, &error),
     }
 }
 
@@ -53,7 +88,7 @@ fn run_words(rt: HostRuntime, alloc: Global, words: &[String]) -> u8 {
 fn main(rt: HostRuntime) -> ExitCode {
     let alloc = rt.alloc();
     let status = match words_of(alloc, env::args(&rt)) {
-        Ok(words) => run_words(rt, alloc, &words),
+        Ok(words) => run_words(&rt, alloc, &words),
         Err(NoWords::NotText) => 8,
         Err(NoWords::OutOfMemory) => 4,
     };

@@ -2,33 +2,22 @@
 
 ghost use Rattle.std.specs.Prelude.{◌≤◌, length, IfOk};
 
-use crate::candidates::Candidate;
-use crate::numbers::Numbers;
 use crate::sets::MarkSet;
-use crate::turning::LoopPlan;
-use paced_images::{Scaling, SwitchSite, program_of};
+use paced_images::{Proposal, Scaling, SwitchSite, program_of};
+use run_traces::{Candidate, LoopPlan, Numbers};
 use scale_base::{Edge, Fragment, NoMemory, Stop};
 use std::alloc::Global;
 use stub_writer::{StubEdge, StubSite};
 
-/// The files of a program.
+/// The files of a program, each with at most the bytes that are loaded.
 #[derive(Clone, Copy)]
 pub struct Sources<'a> {
     pub image: &'a [u8],
     pub machine: &'a [u8],
     pub loops: &'a [u8],
-}
-
-/// Up to 8 edges with a switch, the addresses of the headers of up to 8 loops that are tallied, and the share of the lent time that levels between
-/// the starting and the lowest one get, in quarters.
-#[derive(Drop)]
-pub struct Proposal {
-    pub sites: Vec<SwitchSite>,
-    pub tallied: Vec<u32>,
-    pub share: u8,
-    ghost few: { length sites.items ≤ 8 },
-    ghost short: { length tallied.items ≤ 8 },
-    ghost quarters: { share ≤ 4 },
+    ghost short_image: { length image.now ≤ 4194304 },
+    ghost short_machine: { length machine.now ≤ 1048576 },
+    ghost short_loops: { length loops.now ≤ 1048576 },
 }
 
 /// What the candidates and the loops are.
@@ -40,11 +29,12 @@ pub struct Places<'a> {
 }
 
 /// What the stubs of a candidate do: of an edge, by level, the level behind it; of a loop, by back edge, the shifted count of turns from which on
-/// it goes to the lowest level.
+/// it goes to the lowest level. And whether they can lower a level.
 #[derive(Drop)]
 pub struct Act {
     pub entries: [u8; 8],
     pub from: Vec<usize>,
+    pub is_useful: bool,
 }
 
 /// The stubs of a set: the starting level, the cycles that they add at most, and what they do, by candidate.
@@ -53,6 +43,14 @@ pub struct Acts {
     pub start: u8,
     pub added: u64,
     pub acts: Vec<Act>,
+}
+
+/// How many percent of the worst cycles stubs may add.
+const MOST_ADDED: u64 = 10;
+
+/// Whether stubs add too many cycles to so many worst ones.
+pub fn are_dear(added: u64, worst: u64) -> bool {
+    added.saturating_mul(100) > worst.saturating_mul(MOST_ADDED)
 }
 
 /// From each level to itself.
@@ -65,6 +63,16 @@ fn entries_of(word: u32) -> [u8; 8] {
         entries[i] = ((word >> (4 * i as u32)) & 7) as u8;
     }
     entries
+}
+
+/// Whether some level up to the starting one has a lower one behind it.
+fn lowers(entries: &[u8; 8], start: u8) -> bool {
+    for i in 0..8u8 {
+        if i <= start && entries[usize::from(i)] < i {
+            return true;
+        }
+    }
+    false
 }
 
 /// What the stub of an edge does, if it switches.
@@ -103,6 +111,17 @@ fn stub_of<'a>(stubs: &'a [StubSite], edge: Edge) -> Option<&'a StubEdge> {
         }
     }
     None
+}
+
+impl Act {
+    /// Nothing.
+    fn none(alloc: Global) -> Act {
+        Act {
+            entries: STAYS,
+            from: Vec::new(alloc),
+            is_useful: false,
+        }
+    }
 }
 
 impl<'a> Places<'a> {
@@ -191,35 +210,56 @@ impl<'a> Places<'a> {
             sites,
             tallied,
             share: set.form.share.min(4),
+            counted: false,
         })
     }
 
-    /// What the stubs of a candidate do.
+    /// What the stubs of a candidate do, where the runs begin at a level.
     fn act(
         &self,
         alloc: Global,
         stubs: &[StubSite],
+        start: u8,
         candidate: Candidate,
     ) -> Result<Act, NoMemory> {
-        let mut entries = STAYS;
-        let mut from = Vec::new(alloc);
         match candidate {
-            Candidate::Edge(e) => {
-                if let Some(edge) = self.edge(e) {
-                    if let Some(stub) = stub_of(stubs, edge) {
-                        entries = entries_at(stub);
-                    }
-                }
-            }
-            Candidate::Loop(j) => {
-                if let Some(plan) = self.plan(j) {
-                    for e in &plan.backs {
-                        from.push(self.tally(stubs, *e))?;
-                    }
-                }
+            Candidate::Edge(e) => Ok(self.edge_act(alloc, stubs, start, e)),
+            Candidate::Loop(j) => match self.plan(j) {
+                Some(plan) => self.loop_act(alloc, stubs, start, plan),
+                None => Ok(Act::none(alloc)),
+            },
+        }
+    }
+
+    /// What the stub of edge `e` does.
+    fn edge_act(&self, alloc: Global, stubs: &[StubSite], start: u8, e: usize) -> Act {
+        let mut act = Act::none(alloc);
+        if let Some(edge) = self.edge(e) {
+            if let Some(stub) = stub_of(stubs, edge) {
+                act.entries = entries_at(stub);
+                act.is_useful = lowers(&act.entries, start);
             }
         }
-        Ok(Act { entries, from })
+        act
+    }
+
+    /// What the stubs of a loop's back edges do.
+    fn loop_act(
+        &self,
+        alloc: Global,
+        stubs: &[StubSite],
+        start: u8,
+        plan: &LoopPlan,
+    ) -> Result<Act, NoMemory> {
+        let mut act = Act::none(alloc);
+        for e in &plan.backs {
+            let from = self.tally(stubs, *e);
+            act.from.push(from)?;
+            if start > 0 && from <= plan.most {
+                act.is_useful = true;
+            }
+        }
+        Ok(act)
     }
 
     /// The shifted count from which on back edge `e` goes to the lowest level.
@@ -235,12 +275,13 @@ impl<'a> Places<'a> {
 
     /// What the candidates' stubs do.
     fn acts_of(&self, alloc: Global, scaling: &Scaling) -> Result<Acts, NoMemory> {
+        let start = scaling.summary.start;
         let mut acts = Vec::new(alloc);
         for candidate in self.candidates {
-            acts.push(self.act(alloc, &scaling.stubs, *candidate)?)?;
+            acts.push(self.act(alloc, &scaling.stubs, start, *candidate)?)?;
         }
         Ok(Acts {
-            start: scaling.summary.start,
+            start,
             added: scaling.summary.stub_cycles,
             acts,
         })
@@ -262,7 +303,7 @@ impl<'a> Places<'a> {
 }
 
 /// The stubs of a proposal, unless it is refused.
-fn scaling_of(
+pub fn scaling_of(
     alloc: Global,
     files: &Sources<'_>,
     proposal: &Proposal,
@@ -273,7 +314,7 @@ fn scaling_of(
         files.machine,
         files.loops,
         &proposal.sites,
-        false,
+        proposal.counted,
         &proposal.tallied,
         proposal.share,
     ) {

@@ -1,29 +1,18 @@
 //! The edges on which one switch alone saves most, and the loops in which the runs are longest.
 
-use crate::marks::{Mark, StubCosts, change_energy, energy_at, entry, mark_of};
-use crate::numbers::Numbers;
-use crate::sums::{EdgeSum, Sums};
-use crate::turning::{LoopPlan, MOST_LOOPS, loop_plan};
+use crate::marks::{Mark, change_energy, energy_at, entry, mark_of};
 use code_graph::CodeGraph;
 use loop_tree::LoopTree;
 use power_model::Power;
+use run_traces::{Candidate, EdgeSum, LoopPlan, MOST_LOOPS, Numbers, StubCosts, Sums, loop_plan};
 use scale_base::NoMemory;
 use std::alloc::Global;
 
-/// How many candidates there are at most, and how many of them are edges.
+/// How many candidates there are at most. A third of them is for loops.
 pub const MOST: usize = 24;
-
-const MOST_EDGES: usize = 16;
 
 /// How many loops are looked at.
 const MOST_LONG: usize = 16;
-
-/// What may have a mark: an edge, or each back edge of a loop, by its place among the loops that may be tallied.
-#[derive(Clone, Copy)]
-pub enum Candidate {
-    Edge(usize),
-    Loop(usize),
-}
 
 /// An edge with a switch, the level to which it leads from the starting level where it stands alone, what the runs do there, and what it saves
 /// then at least, by the weights of the runs.
@@ -35,10 +24,14 @@ struct EdgeGain {
     gain: u128,
 }
 
-/// Energy that no switch saves: that of the runs at the starting level.
-pub fn held_energy(power: &Power, numbers: &Numbers, sums: &Sums) -> u128 {
-    sums.cycles()
-        .saturating_mul(energy_at(power, numbers.start))
+/// What is known of a program and of its runs: among it what marks cost, and the level at which the runs begin.
+#[derive(Clone, Copy)]
+pub struct Known<'a> {
+    pub power: &'a Power,
+    pub numbers: &'a Numbers,
+    pub sums: &'a Sums,
+    pub costs: StubCosts,
+    pub start: u8,
 }
 
 /// What the stub of a switch takes in all, where the level behind it is one of so much energy.
@@ -48,60 +41,6 @@ fn stub_energy(mark: &Mark, own: &EdgeSum, other: &EdgeSum, low: u128) -> u128 {
     let code = own.passes.saturating_mul(each).saturating_mul(low);
     let late = other.passes.saturating_mul(jumps).saturating_mul(low);
     code.saturating_add(late)
-}
-
-/// A switch on edge `e` alone, if it may have one and some run goes over it.
-fn gain_at(
-    power: &Power,
-    numbers: &Numbers,
-    sums: &Sums,
-    costs: &StubCosts,
-    e: usize,
-) -> Option<EdgeGain> {
-    let sum = sums.edge(e);
-    if e >= numbers.edges.len() || sum.passes == 0 {
-        return None;
-    }
-    let mark = mark_of(&numbers.edges[e], costs)?;
-    let to = entry(power, numbers, &mark);
-    let other = match mark.other {
-        Some(d) => sums.edge(d),
-        None => EdgeSum::none(),
-    };
-    let high = energy_at(power, numbers.start);
-    let low = energy_at(power, to);
-    let saved = sum.behind.saturating_mul(high.saturating_sub(low));
-    let changes = sum
-        .runs
-        .saturating_mul(change_energy(power, numbers.start, to));
-    let spent = stub_energy(&mark, &sum, &other, low).saturating_add(changes);
-    Some(EdgeGain {
-        edge: e,
-        entry: to,
-        sum,
-        gain: saved.saturating_sub(spent),
-    })
-}
-
-/// The edges on which a switch alone saves at least one percent of what the runs take at the starting level, those that save most first.
-fn ranking(
-    alloc: Global,
-    power: &Power,
-    numbers: &Numbers,
-    sums: &Sums,
-    costs: &StubCosts,
-) -> Result<Vec<EdgeGain>, NoMemory> {
-    let held = held_energy(power, numbers, sums);
-    let mut found = Vec::new(alloc);
-    for e in 0..numbers.edges.len() {
-        if let Some(given) = gain_at(power, numbers, sums, costs, e) {
-            if given.gain > 0 && given.gain.saturating_mul(100) >= held {
-                found.push(given)?;
-            }
-        }
-    }
-    found.sort_by_key(|g| u128::MAX - g.gain)?;
-    Ok(found)
 }
 
 /// Whether two switches do nearly the same: runs pass them equally often, and about as early.
@@ -125,21 +64,93 @@ fn has_alike(chosen: &[EdgeGain], other: &EdgeGain) -> bool {
     false
 }
 
-/// The edges of switches, those that save most first, without those that do nearly the same as one before.
-fn edges_of(
-    alloc: Global,
-    power: &Power,
-    numbers: &Numbers,
-    sums: &Sums,
-) -> Result<Vec<EdgeGain>, NoMemory> {
-    let costs = StubCosts::new(&power.costs);
-    let mut chosen = Vec::new(alloc);
-    for given in &ranking(alloc, power, numbers, sums, &costs)? {
-        if chosen.len() < MOST_EDGES && !has_alike(&chosen, given) {
-            chosen.push(*given)?;
+impl Known<'_> {
+    /// Energy that no switch saves: that of the runs at the starting level.
+    pub fn held_energy(&self) -> u128 {
+        let level = energy_at(self.power, self.start);
+        self.sums.cycles().saturating_mul(level)
+    }
+
+    /// What the runs do at the other edge of the branch of a mark.
+    fn other_sum(&self, mark: &Mark) -> EdgeSum {
+        match mark.other {
+            Some(d) => self.sums.edge(d),
+            None => EdgeSum::none(),
         }
     }
-    Ok(chosen)
+
+    /// A switch on edge `e` alone, if it may have one and some run goes over it.
+    fn gain_at(&self, e: usize) -> Option<EdgeGain> {
+        let Known {
+            power,
+            numbers,
+            sums,
+            costs,
+            start,
+        } = *self;
+        let sum = sums.edge(e);
+        if e >= numbers.edges.len() || sum.passes == 0 {
+            return None;
+        }
+        let mark = mark_of(&numbers.edges[e], &costs)?;
+        let to = entry(power, start, numbers.worst, &mark);
+        let high = energy_at(power, start);
+        let low = energy_at(power, to);
+        let saved = sum.behind.saturating_mul(high.saturating_sub(low));
+        let changes = sum.runs.saturating_mul(change_energy(power, start, to));
+        let spent = stub_energy(&mark, &sum, &self.other_sum(&mark), low).saturating_add(changes);
+        Some(EdgeGain {
+            edge: e,
+            entry: to,
+            sum,
+            gain: saved.saturating_sub(spent),
+        })
+    }
+
+    /// The edges on which a switch alone saves at least one percent of what the runs take at the starting level, those that save most first.
+    fn ranking(&self, alloc: Global) -> Result<Vec<EdgeGain>, NoMemory> {
+        let held = self.held_energy();
+        let mut found = Vec::new(alloc);
+        for e in 0..self.numbers.edges.len() {
+            if let Some(given) = self.gain_at(e) {
+                if given.gain > 0 && given.gain.saturating_mul(100) >= held {
+                    found.push(given)?;
+                }
+            }
+        }
+        found.sort_by_key(|g| u128::MAX - g.gain)?;
+        Ok(found)
+    }
+
+    /// The edges of switches, so many at most, those that save most first, without those that do nearly the same as one before.
+    fn edges(&self, alloc: Global, most: usize) -> Result<Vec<EdgeGain>, NoMemory> {
+        let mut chosen = Vec::new(alloc);
+        for given in &self.ranking(alloc)? {
+            if chosen.len() < most && !has_alike(&chosen, given) {
+                chosen.push(*given)?;
+            }
+        }
+        Ok(chosen)
+    }
+
+    /// The candidates, so many at most: edges, two thirds at most, and behind them loops.
+    pub fn candidates(
+        &self,
+        alloc: Global,
+        plans: &[LoopPlan],
+        most: usize,
+    ) -> Result<Vec<Candidate>, NoMemory> {
+        let mut candidates = Vec::new(alloc);
+        for given in &self.edges(alloc, most - most / 3)? {
+            candidates.push(Candidate::Edge(given.edge))?;
+        }
+        for j in 0..plans.len() {
+            if candidates.len() < most {
+                candidates.push(Candidate::Loop(j))?;
+            }
+        }
+        Ok(candidates)
+    }
 }
 
 /// A loop, and how long the runs are between its first turn and its last.
@@ -199,43 +210,23 @@ fn is_worth_it(plan: &LoopPlan, long: &LongLoop, sums: &Sums) -> bool {
     long.span.saturating_mul(20) >= cycles && tally_cycles(plan, sums).saturating_mul(5) <= cycles
 }
 
-/// The loops that may be tallied, those first in which the runs are longest.
+/// The loops that may be tallied, so many at most, those first in which the runs are longest.
 pub fn loops_of(
     alloc: Global,
-    power: &Power,
     graph: &CodeGraph,
     tree: &LoopTree,
-    numbers: &Numbers,
-    sums: &Sums,
+    known: &Known<'_>,
+    most: usize,
 ) -> Result<Vec<LoopPlan>, NoMemory> {
-    let costs = StubCosts::new(&power.costs);
+    let sums = known.sums;
+    let numbers = known.numbers;
     let mut plans = Vec::new(alloc);
     for long in &longest(alloc, tree, numbers, sums)? {
-        if let Some(plan) = loop_plan(alloc, graph, tree, numbers, &costs, long.number)? {
-            if plans.len() < MOST_LOOPS && is_worth_it(&plan, long, sums) {
+        if let Some(plan) = loop_plan(alloc, graph, tree, numbers, &known.costs, long.number)? {
+            if plans.len() < most.min(MOST_LOOPS) && is_worth_it(&plan, long, sums) {
                 plans.push(plan)?;
             }
         }
     }
     Ok(plans)
-}
-
-/// The candidates: edges, and behind them loops.
-pub fn candidates_of(
-    alloc: Global,
-    power: &Power,
-    numbers: &Numbers,
-    sums: &Sums,
-    plans: &[LoopPlan],
-) -> Result<Vec<Candidate>, NoMemory> {
-    let mut candidates = Vec::new(alloc);
-    for given in &edges_of(alloc, power, numbers, sums)? {
-        candidates.push(Candidate::Edge(given.edge))?;
-    }
-    for j in 0..plans.len() {
-        if candidates.len() < MOST {
-            candidates.push(Candidate::Loop(j))?;
-        }
-    }
-    Ok(candidates)
 }

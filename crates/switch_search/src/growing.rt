@@ -1,19 +1,14 @@
 //! Sets of marks that grow as long as they save more.
 
-use crate::candidates::{Candidate, MOST};
+use crate::candidates::MOST;
 use crate::pricing::Search;
 use crate::sets::{Form, MarkSet, Priced};
+use run_traces::Candidate;
 use scale_base::NoMemory;
 use std::alloc::Global;
 
 /// How many marks a set has at most.
 const MOST_MARKS: usize = 8;
-
-/// How many sets are proposed at most.
-const MOST_SETS: usize = 8;
-
-/// How many of them grow; behind them come single marks.
-const MOST_GROWN: usize = 6;
 
 /// How many sets grow from a single mark of each sort.
 const SEEDS: usize = 2;
@@ -224,20 +219,24 @@ const BOTH: Form = Form {
     share: 2,
 };
 
-/// The sets that are proposed, the most promising first, and behind them the best single marks. Where the runs begin at the lowest level but
+/// The sets that are proposed, so many at most, the most promising first; the last quarter of them are the best single marks. Where the runs begin at the lowest level but
 /// one, a switch by a word does nothing that one to the lowest level doesn't do.
-pub fn best_sets(alloc: Global, search: &mut Search<'_>) -> Result<Vec<Priced>, NoMemory> {
+pub fn best_sets(
+    alloc: Global,
+    search: &mut Search<'_>,
+    most: usize,
+) -> Result<Vec<Priced>, NoMemory> {
     let mut grown = Vec::new(alloc);
     let mut alone = Vec::new(alloc);
     sets_of(alloc, search, LOWEST, &mut grown, &mut alone)?;
-    if search.places.numbers.start > 1 {
+    if search.start > 1 {
         sets_of(alloc, search, WORDS, &mut grown, &mut alone)?;
         sets_of(alloc, search, BOTH, &mut grown, &mut alone)?;
     }
     grown.sort_by_key(|set| set.energy)?;
     alone.sort_by_key(|set| set.energy)?;
     let mut sets = Vec::new(alloc);
-    offer_first(search, &mut sets, &grown, MOST_GROWN)?;
-    offer_first(search, &mut sets, &alone, MOST_SETS)?;
+    offer_first(search, &mut sets, &grown, most - most / 4)?;
+    offer_first(search, &mut sets, &alone, most)?;
     Ok(sets)
 }

@@ -4,18 +4,11 @@
 
 mod building;
 mod candidates;
-mod counting;
+mod counted;
 mod growing;
 mod marks;
-mod numbers;
 mod pricing;
 mod proposing;
-mod runs;
 mod sets;
-mod sums;
-mod tracing;
-mod turning;
-mod walking;
 
-pub use building::Proposal;
 pub use proposing::propose;

@@ -2,45 +2,10 @@
 
 ghost use Rattle.std.specs.Prelude.{◌<◌, ◌^◌, IfSome};
 
-use crate::numbers::{EdgeNumbers, Numbers};
-use crate::tracing::may_switch;
 use level_tables::{LevelBudgets, entry_within};
-use power_model::{Costs, Power};
+use power_model::Power;
+use run_traces::{EdgeNumbers, StubCosts, may_switch};
 use scale_base::EdgeKind;
-
-/// What marks cost, in cycles: the code of a switch by a word, of one to the lowest level, of a tally and of a reset, and a jump.
-#[derive(Clone, Copy)]
-pub struct StubCosts {
-    pub word: u64,
-    pub lowest: u64,
-    pub tally: u64,
-    pub reset: u64,
-    pub jump: u64,
-}
-
-impl StubCosts {
-    pub fn new(costs: &Costs) -> StubCosts {
-        let store = u64::from(costs.store);
-        let load = u64::from(costs.load);
-        let alu = u64::from(costs.alu);
-        StubCosts {
-            word: 3 * store + 3 * load + 5 * alu,
-            lowest: store,
-            tally: 3 * store + 2 * load + 5 * alu,
-            reset: store,
-            jump: u64::from(costs.jump),
-        }
-    }
-
-    /// The jumps of a stub, by the kind of an edge of its instruction.
-    pub fn jumps(&self, kind: EdgeKind) -> u64 {
-        match kind {
-            EdgeKind::Taken | EdgeKind::Untaken => self.jump.saturating_mul(2),
-            EdgeKind::Jump => self.jump,
-            _ => 0,
-        }
-    }
-}
 
 /// A switch to the lowest level on an edge. The numbers are in cycles: what a pass takes more, what a pass of either edge of the instruction takes
 /// more; the slack, and what is left at most and at least behind the store at the speed port, with the switch's own costs; and what it adds to
@@ -145,11 +110,10 @@ fn small(least: Option<u128>) -> Option<u128>
     }
 }
 
-/// The level to which a switch alone leads from the starting level: that level itself where the start is another one by then.
-pub fn entry(power: &Power, numbers: &Numbers, mark: &Mark) -> u8 {
-    let start = numbers.start;
-    let worst = numbers.worst.saturating_add(mark.added);
-    match first_budget(power, start, worst) {
+/// The level to which a switch alone leads from the starting level, where the worst cycles are so many without it: that level itself where the
+/// start is another one by then.
+pub fn entry(power: &Power, start: u8, worst: u64, mark: &Mark) -> u8 {
+    match first_budget(power, start, worst.saturating_add(mark.added)) {
         Some(first) if start < power.levels.count() => {
             let mut budgets = LevelBudgets::alike(power.deadline);
             budgets.start = start;

@@ -1,10 +1,10 @@
 //! What runs take with a set of marks, by what they do at its edges and in its loops.
 
-use crate::building::{Act, Acts, Places, Sources};
-use crate::marks::{StubCosts, change_energy, energy_at};
-use crate::runs::{CandidateRun, RunMarks, Span};
+use crate::building::{Act, Acts, Places, Sources, are_dear};
+use crate::marks::{change_energy, energy_at};
 use crate::sets::{MarkSet, Priced};
 use power_model::Power;
+use run_traces::{CandidateRun, RunMarks, Span, StubCosts};
 use scale_base::NoMemory;
 use std::alloc::Global;
 
@@ -16,7 +16,7 @@ struct Event {
     again: bool,
 }
 
-/// What the search knows: the files, the machine, the program, the candidates, the runs, and the energy of the runs at the starting level; and which sets
+/// What the search knows: the files, the machine, the program, the candidates, the runs, the starting level and the energy of the runs there; and which sets
 /// it has priced, and how many more it may.
 #[derive(Drop)]
 pub struct Search<'a> {
@@ -26,9 +26,20 @@ pub struct Search<'a> {
     pub costs: StubCosts,
     pub places: Places<'a>,
     pub runs: &'a [RunMarks],
+    pub start: u8,
     pub held: u128,
     pub known: Vec<Priced>,
     pub tries: usize,
+}
+
+/// Whether each mark of a set can lower a level.
+fn are_useful(set: &MarkSet, acts: &Acts) -> bool {
+    for (c, act) in acts.acts.iter().enumerate() {
+        if set.contains(c) && !act.is_useful {
+            return false;
+        }
+    }
+    true
 }
 
 /// The first time at which a back edge turned so often as to go to the lowest level.
@@ -153,7 +164,7 @@ impl<'a> Search<'a> {
     /// Whether a set is out by a run on an input: its stubs take more than so many thousandths of the run's cycles, and it doesn't save at least as much as
     /// they take.
     fn is_out(&self, set: &MarkSet, run: &RunMarks, energy: u128) -> bool {
-        let level = self.places.numbers.start;
+        let level = self.start;
         let cycles = run.run.cycles;
         let stubs = self.stub_cycles(set, run, 0, cycles.saturating_add(1));
         let few = u128::from(stubs).saturating_mul(1000) <= u128::from(cycles).saturating_mul(FEW);
@@ -176,15 +187,14 @@ impl<'a> Search<'a> {
         Ok(energy)
     }
 
-    /// Whether the stubs of a set add too many cycles to the worst case: more than so many percent.
-    fn is_dear(&self, acts: &Acts) -> bool {
-        acts.added.saturating_mul(100) > self.places.numbers.worst.saturating_mul(MOST_ADDED)
-    }
-
-    /// The energy of the runs with a set: more than any takes where it is refused, or adds too much to the worst case.
+    /// The energy of the runs with a set: more than any takes where it is refused, adds too much to the worst case, or has a mark that can
+    /// lower nothing.
     fn energy_of(&self, set: &MarkSet) -> Result<u128, NoMemory> {
         match self.places.acts(self.alloc, &self.files, set)? {
-            Some(acts) if !self.is_dear(&acts) => self.runs_energy(set, &acts),
+            Some(acts)
+                if !are_dear(acts.added, self.places.numbers.worst) && are_useful(set, &acts) => {
+                self.runs_energy(set, &acts)
+            }
             _ => Ok(u128::MAX),
         }
     }
@@ -229,9 +239,6 @@ impl<'a> Search<'a> {
         less < than && (than - less).saturating_mul(1000) >= self.held.saturating_mul(thousandths)
     }
 }
-
-/// How many percent of the worst cycles the stubs may add.
-const MOST_ADDED: u64 = 10;
 
 /// How many thousandths of its cycles the stubs of a run may take where they save nothing.
 const FEW: u128 = 18;

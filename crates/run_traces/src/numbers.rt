@@ -16,7 +16,6 @@ use least_cycles::{LeastNumbers, least};
 use loop_tree::LoopTree;
 use power_model::Power;
 use scale_base::{Edge, NoMemory, Stop};
-use scaler::starting_level;
 use std::alloc::Global;
 use worst_cycles::{WorstNumbers, worst};
 
@@ -36,12 +35,11 @@ pub struct EdgeNumbers {
     pub passes: u64,
 }
 
-/// The numbers of a program's edges, its worst cycles, and the slowest level that is in time.
+/// The numbers of a program's edges, and its worst cycles.
 #[derive(Drop)]
 pub struct Numbers {
     pub edges: Vec<EdgeNumbers>,
     pub worst: u64,
-    pub start: u8,
 }
 
 /// By edge its cost and the loop of which it is a back edge, and by node how often a run goes through it at most.
@@ -112,7 +110,7 @@ fn edge_numbers(
     Ok(edges)
 }
 
-/// The numbers of a program; or the refusal where its worst cycles are too many, or not in time at the fastest level.
+/// The numbers of a program; or the refusal where its worst cycles are too many.
 pub fn numbers_of(
     alloc: Global,
     graph: &CodeGraph,
@@ -123,7 +121,6 @@ pub fn numbers_of(
 {
     let weights = graph.base_weights(alloc, &power.costs)?;
     let worst = worst(alloc, graph, tree, &weights)?;
-    let start = starting_level(power, worst.total())?;
     let least = least(alloc, graph, tree, &weights)?;
     let visits = most_passes(alloc, graph, tree)?;
     let plain = Plain {
@@ -135,6 +132,5 @@ pub fn numbers_of(
     Ok(Numbers {
         edges,
         worst: worst.total(),
-        start,
     })
 }

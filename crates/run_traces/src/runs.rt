@@ -1,11 +1,17 @@
 //! What each run does at the candidates.
 
-use crate::candidates::Candidate;
 use crate::numbers::Numbers;
 use crate::tracing::{EdgeTrace, Passed};
 use crate::turning::LoopPlan;
 use scale_base::NoMemory;
 use std::alloc::Global;
+
+/// What may have a mark: an edge, or each back edge of a loop, by its place among the loops that may be tallied.
+#[derive(Clone, Copy)]
+pub enum Candidate {
+    Edge(usize),
+    Loop(usize),
+}
 
 /// Cycles that stubs take of a run, spread from one time to another.
 #[derive(Clone, Copy)]
@@ -84,16 +90,9 @@ pub struct CandidateRun {
 
 impl CandidateRun {
     /// At edge `e`.
-    fn at_edge(
-        alloc: Global,
-        numbers: &Numbers,
-        candidates: &[Candidate],
-        trace: &EdgeTrace,
-        jump: u64,
-        e: usize,
-    ) -> CandidateRun {
+    fn at_edge(alloc: Global, watched: &Watched<'_>, trace: &EdgeTrace, e: usize) -> CandidateRun {
         let passed = trace.passed(e);
-        let (each, d) = jumps_at(numbers, jump, e);
+        let (each, d) = jumps_at(watched.numbers, watched.jump, e);
         let other = match d {
             Some(d) => Span::of(trace.passed(d), each),
             None => Span::none(),
@@ -102,7 +101,7 @@ impl CandidateRun {
             passed,
             jumps: Span::of(passed, each),
             other,
-            twin: candidate_on(candidates, d),
+            twin: candidate_on(watched.candidates, d),
             times: Vec::new(alloc),
         }
     }
@@ -166,31 +165,44 @@ pub struct RunMarks {
     pub marks: Vec<CandidateRun>,
 }
 
+/// The candidates whose marks are looked at: edges of a program, and loops that may be tallied. A jump takes so many cycles.
+#[derive(Clone, Copy)]
+pub struct Watched<'a> {
+    pub numbers: &'a Numbers,
+    pub candidates: &'a [Candidate],
+    pub plans: &'a [LoopPlan],
+    pub jump: u64,
+}
+
+impl Watched<'_> {
+    /// What the run that was traced does at a candidate.
+    fn run(
+        &self,
+        alloc: Global,
+        trace: &EdgeTrace,
+        candidate: Candidate,
+    ) -> Result<CandidateRun, NoMemory> {
+        match candidate {
+            Candidate::Loop(j) if j < self.plans.len() => {
+                CandidateRun::in_loop(alloc, &self.plans[j], trace)
+            }
+            Candidate::Loop(_) => Ok(CandidateRun::at_edge(alloc, self, trace, usize::MAX)),
+            Candidate::Edge(e) => Ok(CandidateRun::at_edge(alloc, self, trace, e)),
+        }
+    }
+}
+
 impl RunMarks {
     /// Of the run that was traced.
     pub fn new(
         alloc: Global,
-        numbers: &Numbers,
-        candidates: &[Candidate],
-        plans: &[LoopPlan],
-        jump: u64,
+        watched: &Watched<'_>,
         trace: &EdgeTrace,
         run: RunWeight,
     ) -> Result<RunMarks, NoMemory> {
         let mut marks = Vec::new(alloc);
-        for candidate in candidates {
-            let mark = match *candidate {
-                Candidate::Loop(j) if j < plans.len() => {
-                    CandidateRun::in_loop(alloc, &plans[j], trace)?
-                }
-                Candidate::Loop(_) => {
-                    CandidateRun::at_edge(alloc, numbers, candidates, trace, jump, usize::MAX)
-                }
-                Candidate::Edge(e) => {
-                    CandidateRun::at_edge(alloc, numbers, candidates, trace, jump, e)
-                }
-            };
-            marks.push(mark)?;
+        for candidate in watched.candidates {
+            marks.push(watched.run(alloc, trace, *candidate)?)?;
         }
         Ok(RunMarks { run, marks })
     }

@@ -29,7 +29,7 @@ impl Passed {
 
 /// The numbers of the edges of a node that can have a switch.
 #[derive(Clone, Copy)]
-pub struct Exits {
+struct Exits {
     taken: Option<usize>,
     untaken: Option<usize>,
     jump: Option<usize>,
@@ -58,7 +58,7 @@ impl Exits {
     }
 
     /// The edge of a kind.
-    pub fn edge(&self, kind: EdgeKind) -> Option<usize> {
+    fn edge(&self, kind: EdgeKind) -> Option<usize> {
         match kind {
             EdgeKind::Taken => self.taken,
             EdgeKind::Untaken => self.untaken,
@@ -79,14 +79,56 @@ fn exits_of(graph: &CodeGraph, first: usize, end: usize) -> Exits {
     exits
 }
 
-/// By node, the edges that can have a switch.
-pub fn all_exits(alloc: Global, graph: &CodeGraph) -> Result<Vec<Exits>, NoMemory> {
-    let mut exits = Vec::new(alloc);
-    for k in 0..graph.node_count() {
-        let (first, end) = graph.edges_of(k);
-        exits.push(exits_of(graph, first, end))?;
+/// By word of the text, the edges of its instruction that can have a switch: from the first node to the last one.
+#[derive(Drop)]
+struct ExitTable {
+    first: u32,
+    exits: Vec<Exits>,
+}
+
+impl ExitTable {
+    fn new(alloc: Global, graph: &CodeGraph) -> Result<ExitTable, NoMemory> {
+        let nodes = graph.nodes();
+        let (first, last) = match (nodes.first(), nodes.last()) {
+            (Some(first), Some(last)) => (*first, *last),
+            _ => (0, 0),
+        };
+        let words = (last.saturating_sub(first) / 4) as usize;
+        let mut table = ExitTable {
+            first,
+            exits: vec![in alloc; Exits::none(); words + 1]?,
+        };
+        for k in 0..graph.node_count() {
+            table.put(graph, k);
+        }
+        Ok(table)
     }
-    Ok(exits)
+
+    /// The place of an address.
+    fn place(&self, at: u32) -> usize {
+        (at.wrapping_sub(self.first) / 4) as usize
+    }
+
+    /// Puts the edges of node `k` at its place.
+    fn put(&mut self, graph: &CodeGraph, k: usize) {
+        if k < graph.node_count() {
+            let place = self.place(graph.node(k));
+            let (first, end) = graph.edges_of(k);
+            if place < self.exits.len() {
+                self.exits[place] = exits_of(graph, first, end);
+            }
+        }
+    }
+
+    /// The edge over which a run leaves an instruction, of a kind that can have a switch.
+    fn edge(&self, at: u32, kind: EdgeKind) -> Option<usize> {
+        let place = self.place(at);
+        if place < self.exits.len() {
+            self.exits[place].edge(kind)
+        } else {
+            None
+        }
+    }
 }
 
 /// Whether an edge is one of a branch or of a jump, which may have a switch.
@@ -111,8 +153,7 @@ pub fn other_of(graph: &CodeGraph, e: usize) -> Option<usize> {
 /// What the present run has done so far at each edge. Contracts see nothing of it.
 #[derive(Drop)]
 pub struct EdgeTrace {
-    nodes: Vec<u32>,
-    exits: Vec<Exits>,
+    exits: ExitTable,
     costs: Costs,
     cycles: u64,
     passed: Vec<Passed>,
@@ -130,17 +171,14 @@ impl Model for EdgeTrace {
 impl EdgeTrace {
     /// A trace of no run, in which no loop's turns are counted.
     pub fn new(alloc: Global, graph: &CodeGraph, costs: &Costs) -> Result<EdgeTrace, NoMemory> {
-        let nodes = Vec::from_slice(alloc, graph.nodes())?;
-        let exits = all_exits(alloc, graph)?;
+        let exits = ExitTable::new(alloc, graph)?;
         let passed = vec![in alloc; Passed::never(); graph.edge_count()]?;
-        let turning = vec![in alloc; Turning::none(); graph.edge_count()]?;
         Ok(EdgeTrace {
-            nodes,
             exits,
             costs: *costs,
             cycles: 0,
             passed,
-            turning,
+            turning: Vec::new(alloc),
             counts: [0; 8],
             times: Vec::new(alloc),
         })
@@ -148,15 +186,17 @@ impl EdgeTrace {
 
     /// Has the turns of some loops counted from now on.
     pub fn count(&mut self, alloc: Global, loops: &[LoopPlan]) -> Result<(), NoMemory> {
+        let mut turning = vec![in alloc; Turning::none(); self.passed.len()]?;
         let mut times = Vec::new(alloc);
         for (j, plan) in loops.iter().enumerate() {
             if j < MOST_LOOPS {
-                plan.put(&mut self.turning, j, times.len());
+                plan.put(&mut turning, j, times.len());
                 for _ in 0..plan.backs.len() {
                     times.push(Vec::with_capacity(alloc, 2048)?)?;
                 }
             }
         }
+        self.turning = turning;
         self.times = times;
         Ok(())
     }
@@ -211,8 +251,8 @@ impl EdgeTrace {
                 last: self.cycles,
             };
         }
-        let turning = self.turning_of(e);
-        if turning.counts {
+        if e < self.turning.len() && self.turning[e].counts {
+            let turning = self.turning[e];
             self.turn(&turning);
         }
     }
@@ -244,13 +284,8 @@ impl EdgeTrace {
 
     /// The run leaves an instruction by its edge of a kind.
     fn leave(&mut self, at: u32, kind: EdgeKind) {
-        if let Ok(k) = self.nodes.binary_search(&at) {
-            if k < self.exits.len() {
-                let exits = self.exits[k];
-                if let Some(e) = exits.edge(kind) {
-                    self.pass(e);
-                }
-            }
+        if let Some(e) = self.exits.edge(at, kind) {
+            self.pass(e);
         }
     }
 }

@@ -1,6 +1,6 @@
 use Rattle.code_text.specs.Text.{text_of}
-use Rattle.switch_search.proofs.WorstRanges.{worst_in_range}
-use Rattle.switch_search.proofs.numbers.numbers_of.Goals as goal
+use Rattle.run_traces.proofs.WorstRanges.{worst_in_range}
+use Rattle.run_traces.proofs.numbers.numbers_of.Goals as goal
 
 pub worst-requires-clause-calls : goal.worst-requires-clause-calls
 worst-requires-clause-calls c = c.in_ok-weights.ensures.calls (text_of c.requires.0) c.requires.2

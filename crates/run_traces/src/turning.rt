@@ -1,6 +1,6 @@
 //! Loops whose turns may be tallied: their back edges, the edges that leave them, and what a tally costs on each.
 
-use crate::marks::StubCosts;
+use crate::costs::StubCosts;
 use crate::numbers::Numbers;
 use crate::tracing::may_switch;
 use code_graph::CodeGraph;
@@ -11,6 +11,11 @@ use std::alloc::Global;
 
 /// How many loops are counted at most.
 pub const MOST_LOOPS: usize = 8;
+
+/// How many back edges a loop that is tallied has at most, and how many edges that leave it.
+const MOST_BACKS: usize = 8;
+
+const MOST_LEAVING: usize = 64;
 
 /// What the counted loops have to do with an edge: the one of which it is a back edge, with the number of its times and the shift of its
 /// count, and those that it leaves.
@@ -43,13 +48,14 @@ pub struct Charge {
     pub cycles: u64,
 }
 
-/// A loop that may be tallied: its number, the address of its header, the shift of its count, its back edges, the edges that leave it, and
-/// what each edge costs more then.
+/// A loop that may be tallied: its number, the address of its header, the shift of its count and the most that its bound lets this be, its
+/// back edges, the edges that leave it, and what each edge costs more then.
 #[derive(Drop)]
 pub struct LoopPlan {
     pub number: usize,
     pub header: u32,
     pub shift: u8,
+    pub most: usize,
     pub backs: Vec<usize>,
     pub leaving: Vec<usize>,
     pub charges: Vec<Charge>,
@@ -80,6 +86,7 @@ impl LoopPlan {
             number: l,
             header: header_of(graph, tree, l),
             shift: shift_of(tree, l),
+            most: most_of(tree, l),
             backs: Vec::new(alloc),
             leaving: Vec::new(alloc),
             charges: Vec::new(alloc),
@@ -97,7 +104,7 @@ impl LoopPlan {
         }
     }
 
-    /// Adds edge `e` of the loop's body. Whether it can have a stub where it is a back edge.
+    /// Adds edge `e` of the loop's body. Whether it can have a stub where it is a back edge, and there are few such edges.
     fn add_edge(
         &mut self,
         graph: &CodeGraph,
@@ -111,16 +118,16 @@ impl LoopPlan {
         let may = may_switch(graph.edge(e).kind);
         if numbers.edges[e].back == Some(self.number) {
             self.backs.push(e)?;
-            Ok(may)
+            Ok(may && self.backs.len() <= MOST_BACKS)
         } else {
             if may && leaves(graph, tree, self.number, e) {
                 self.leaving.push(e)?;
             }
-            Ok(true)
+            Ok(self.leaving.len() <= MOST_LEAVING)
         }
     }
 
-    /// Adds the edges of node `k`. Whether its back edges can have stubs.
+    /// Adds the edges of node `k`. Whether the loop's back edges can still have stubs.
     fn add_node(
         &mut self,
         graph: &CodeGraph,
@@ -211,7 +218,16 @@ fn shift_of(tree: &LoopTree, l: usize) -> u8 {
     }
 }
 
-/// Loop `l` as one that is tallied, if each of its back edges can have a stub.
+/// The most that the shifted count of loop `l` can be.
+fn most_of(tree: &LoopTree, l: usize) -> usize {
+    if l < tree.loop_count() {
+        (tree.bound(l) >> tally_shift(tree.bound(l))) as usize
+    } else {
+        0
+    }
+}
+
+/// Loop `l` as one that is tallied, if each of its back edges can have a stub, and it has few of them and of edges that leave it.
 pub fn loop_plan(
     alloc: Global,
     graph: &CodeGraph,

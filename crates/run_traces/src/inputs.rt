@@ -1,0 +1,136 @@
+//! The runs that are looked at: those of the original on some inputs, and random walks.
+
+use crate::runs::{RunMarks, RunWeight, Watched};
+use crate::sums::{Sums, weight_of};
+use crate::tracing::EdgeTrace;
+use crate::walking::{WALKS, WalkPlan, walked};
+use elf_view::ImageView;
+use power_model::Power;
+use scale_base::{NoMemory, Stop};
+use speed_sim::{End, start_of, watched_report};
+use std::alloc::Global;
+
+/// How many shares a run on an input has, where each walk has as many as there are such runs: three times as many as there are walks.
+const SHARES: u64 = 33;
+
+/// A program with the graph that walks go over, and the inputs on which it runs: those at some places.
+#[derive(Drop)]
+pub struct Runs<'a> {
+    pub view: &'a ImageView<'a>,
+    pub power: &'a Power,
+    pub plan: &'a WalkPlan<'a>,
+    pub inputs: &'a [Vec<u8>],
+    pub places: &'a [usize],
+}
+
+impl Runs<'_> {
+    /// Traces the run on an input. Its cycles, if it exits.
+    fn traced(
+        &self,
+        alloc: Global,
+        input: &[u8],
+        trace: &mut EdgeTrace,
+    ) -> Result<Option<u64>, Stop> {
+        let view = self.view;
+        let power = self.power;
+        let levels = power.levels.count();
+        if levels == 0 {
+            return Ok(None);
+        }
+        let start = start_of(levels, view.keyed())?;
+        trace.begin();
+        let report = watched_report(alloc, view, power, start, input, trace)?;
+        match report.end {
+            End::Exited(_) => Ok(Some(report.meter.cycles)),
+            _ => Ok(None),
+        }
+    }
+
+    /// The same for the input at a place.
+    fn traced_at(
+        &self,
+        alloc: Global,
+        k: usize,
+        trace: &mut EdgeTrace,
+    ) -> Result<Option<u64>, Stop> {
+        if k < self.inputs.len() {
+            self.traced(alloc, &self.inputs[k], trace)
+        } else {
+            Ok(None)
+        }
+    }
+
+    /// Adds what the walks do at the edges, where each has so many shares.
+    fn add_walks(
+        &self,
+        alloc: Global,
+        shares: u64,
+        sums: &mut Sums,
+        trace: &mut EdgeTrace,
+    ) -> Result<(), NoMemory> {
+        for number in 0..WALKS {
+            if let Some(cycles) = walked(alloc, self.plan, number, trace)? {
+                sums.add(trace, cycles, weight_of(shares, cycles));
+            }
+        }
+        Ok(())
+    }
+
+    /// What the runs do at so many edges, in all.
+    pub fn sums(&self, alloc: Global, edges: usize, trace: &mut EdgeTrace) -> Result<Sums, Stop> {
+        let mut sums = Sums::new(alloc, edges)?;
+        for k in self.places {
+            if let Some(cycles) = self.traced_at(alloc, *k, trace)? {
+                sums.add(trace, cycles, weight_of(SHARES, cycles));
+            }
+        }
+        let shares = sums.runs().max(1);
+        self.add_walks(alloc, shares, &mut sums, trace)?;
+        Ok(sums)
+    }
+
+    /// Adds what the walks do at the candidates.
+    fn add_walk_runs(
+        &self,
+        alloc: Global,
+        watched: &Watched<'_>,
+        shares: u64,
+        runs: &mut Vec<RunMarks>,
+        trace: &mut EdgeTrace,
+    ) -> Result<(), NoMemory> {
+        for number in 0..WALKS {
+            if let Some(cycles) = walked(alloc, self.plan, number, trace)? {
+                let run = RunWeight {
+                    cycles,
+                    weight: weight_of(shares, cycles),
+                    is_input: false,
+                };
+                runs.push(RunMarks::new(alloc, watched, trace, run)?)?;
+            }
+        }
+        Ok(())
+    }
+
+    /// What each run does at the candidates.
+    pub fn marks(
+        &self,
+        alloc: Global,
+        watched: &Watched<'_>,
+        trace: &mut EdgeTrace,
+    ) -> Result<Vec<RunMarks>, Stop> {
+        let mut runs = Vec::new(alloc);
+        for k in self.places {
+            if let Some(cycles) = self.traced_at(alloc, *k, trace)? {
+                let run = RunWeight {
+                    cycles,
+                    weight: weight_of(SHARES, cycles),
+                    is_input: true,
+                };
+                runs.push(RunMarks::new(alloc, watched, trace, run)?)?;
+            }
+        }
+        let shares = (runs.len() as u64).max(1);
+        self.add_walk_runs(alloc, watched, shares, &mut runs, trace)?;
+        Ok(runs)
+    }
+}
