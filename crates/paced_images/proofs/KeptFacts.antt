@@ -68,14 +68,6 @@ filter_whole p (x ∷ xs) e = by (p x) e (filter_whole p xs)
     by true same rest = ap (λ ys. x ∷ ys) (rest (omega (arith, same)))
     by false same rest = absurd (let few = filter_few p xs in omega (arith, same, few))
 
-whole : {X : Type 0} (p : X → Bool) (xs : List X) → length (filter p xs) ≡ length xs → filter p xs ≡ xs
-filter_whole p [] e = refl
-filter_whole p (x ∷ xs) e = by (p x) e
-  where
-    by : (b : Bool) → length (cond b (x ∷ filter p xs) (filter p xs)) ≡ suc (length xs) → cond b (x ∷ filter p xs) (filter p xs) ≡ x ∷ xs
-    by true same = ap (λ ys. x ∷ ys) (filter_whole p xs (omega (arith, same)))
-    by false same = absurd (let few = filter_few p xs in omega (arith, same, few))
-
 whole : {X : Type 0} (p : X → Bool) (xs kept : List X) → kept ≡ filter p xs → length kept ≡ length xs → kept ≡ xs
 whole p xs kept is same = is ∙ filter_whole p xs (ap length (sym is) ∙ same)
 
