@@ -12,8 +12,8 @@ use Rattle.scale_sites.specs.Forms.{IsQuietMark, IsFirstAlone}
 use Rattle.cost_theory.specs.Worst.{Numbers}
 use Rattle.cycle_laws.specs.Charged.{Charged}
 use Rattle.level_tables.specs.Tables.{EdgeNumbers, tally_from, tally_shift}
-use Rattle.code_graph.specs.FlowGraph.{FlowGraph}
-use Rattle.loop_tree.specs.Tree.{LoopView, loops}
+use Rattle.flow_graph.specs.FlowGraph.{FlowGraph}
+use Rattle.loop_forest.specs.Tree.{LoopView, loops}
 use Rattle.scale_sites.specs.Counters.{counted_loops}
 use Rattle.scale_sites.specs.Sites.{marks_at_edge}
 use Rattle.rewritten_runs.specs.Stubs.{loop_of, told_at}

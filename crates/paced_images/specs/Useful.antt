@@ -15,9 +15,9 @@ use Rattle.loop_file.specs.Loops.{read_loops}
 use Rattle.cost_theory.specs.Graph.{any_below}
 use Rattle.cost_theory.specs.Worst.{Numbers}
 use Rattle.cycle_laws.specs.Charged.{Charged, AreCharged}
-use Rattle.code_graph.specs.FlowGraph.{FlowGraph, graph}
+use Rattle.flow_graph.specs.FlowGraph.{FlowGraph, graph}
 use Rattle.level_tables.specs.Tables.{EdgeNumbers, entry_by, goes_lowest, tally_from, tally_shift}
-use Rattle.loop_tree.specs.Tree.{LoopView, loops}
+use Rattle.loop_forest.specs.Tree.{LoopView, loops}
 use Rattle.rewritten_runs.specs.Stubs.{IsWeighedWith, loop_of, stored_weights, told_at}
 use Rattle.scale_sites.specs.Counters.{counted_loops}
 use Rattle.paced_images.specs.declared.scaling.Marked.{Marked}

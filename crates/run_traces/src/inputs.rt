@@ -4,7 +4,7 @@ use crate::runs::{RunMarks, RunWeight, Watched};
 use crate::sums::{Sums, weight_of};
 use crate::tracing::EdgeTrace;
 use crate::walking::{WALKS, WalkPlan, walked};
-use elf_view::ImageView;
+use elf_image::ImageView;
 use power_model::Power;
 use scale_base::{NoMemory, Stop};
 use speed_sim::{End, start_of, watched_report};

@@ -1,8 +1,8 @@
 //! The edges on which one switch alone saves most, and the loops in which the runs are longest.
 
 use crate::marks::{Mark, change_energy, energy_at, entry, mark_of};
-use code_graph::CodeGraph;
-use loop_tree::LoopTree;
+use flow_graph::CodeGraph;
+use loop_forest::LoopTree;
 use power_model::Power;
 use run_traces::{Candidate, EdgeSum, LoopPlan, MOST_LOOPS, Numbers, StubCosts, Sums, loop_plan};
 use scale_base::NoMemory;

@@ -8,16 +8,19 @@ use crate::counted::add_counted;
 use crate::growing::best_sets;
 use crate::pricing::Search;
 use crate::sets::Priced;
-use code_graph::{CodeGraph, build_graph};
+use code_graph::build_graph;
 use elf_view::read_image;
+use flow_graph::CodeGraph;
 use loop_file::{LoopNotes, read_loops};
-use loop_tree::{LoopTree, build_loops};
+use loop_forest::LoopTree;
+use loop_tree::build_loops;
 use machine_file::read_machine;
 use paced_images::Proposal;
 use power_model::Power;
 use run_traces::{EdgeTrace, Numbers, RunMarks, Runs, StubCosts, WalkPlan, numbers_of};
 use scale_base::{NoMemory, Stop};
-use scaler::{check_unscaled, starting_level};
+use answer_parts::check_unscaled;
+use scaler::starting_level;
 use std::alloc::Global;
 
 /// How many steps of runs on inputs are traced at most, but for those of one run.
