@@ -1,0 +1,3 @@
+pub mod Pieces
+pub mod Drafted
+pub mod Shapes
