@@ -65,9 +65,7 @@ fn draft_graph(alloc: Global, view: &ImageView<'_>, graph: &CodeGraph) -> Result
     let found = find_loops(alloc, graph)?;
     let count = found.loops.len();
     if count > MOST_LOOPS {
-        return Err(Stop::Refused(Refusal::TooManyLoops(
-            count.min(0xFFFF_FFFF) as u32,
-        )));
+        return Err(Stop::Refused(Refusal::TooManyLoops(count.min(0xFFFF_FFFF) as u32)));
     }
     let known = unknown(alloc, count)?;
     let names = names_of(alloc, view)?;
