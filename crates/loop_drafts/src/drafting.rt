@@ -1,8 +1,8 @@
 //! The draft of an image's loop file, and whether its loops are taken.
 
-ghost use Rattle.std.specs.Prelude.{◌≡◌, ◌<◌};
+ghost use Rattle.std.specs.Prelude.{codes};
 ghost use Rattle.scale_base.specs.Answer.{AnswersBy, Refuses};
-ghost use Rattle.scale_base.specs.Image.{image_of};
+ghost use Rattle.scale_base.specs.declared.refusal.Refusal.TheVariants.{TooLarge};
 ghost use Rattle.code_text.specs.Text.{text_of};
 ghost use Rattle.code_graph.specs.FlowGraph.{IsGraphOf};
 ghost use Rattle.loop_drafts.specs.Drafted.{ArePiecesChecked, IsGraphDrafted, IsDraftedImage, IsDrafted};
@@ -28,7 +28,9 @@ const MOST_BYTES: usize = 1_048_576;
 const MOST_LOOPS: usize = 4096;
 
 // The refusal of a file that is too long to be loaded.
-fn too_long(alloc: Global) -> Stop {
+fn too_long(alloc: Global) -> Stop
+    ensures { Refuses result (TooLarge (codes "LOOPS")) }
+{
     match String::from_str(alloc, "LOOPS") {
         Ok(name) => Stop::Refused(Refusal::TooLarge(Name::new(name))),
         Err(_) => Stop::Memory,

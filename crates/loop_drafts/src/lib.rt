@@ -1,5 +1,5 @@
 //! Drafts of loop files: the loops of an image's reached code, their headers and their ranges, with bounds where they are known.
-//! Tests: crates/answer_tests/src/drafting.rt.
+//! Tests: crates/graph_tests/src/drafts.rt.
 #![tactic(auto)]
 
 ghost use Rattle.loop_drafts.specs.Shapes.{BoundsAreFree};

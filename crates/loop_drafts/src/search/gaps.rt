@@ -4,9 +4,9 @@ ghost use Rattle.std.specs.Prelude.{◌≡◌, ◌<◌, ◌≤◌, All, length, 
 ghost use Rattle.loop_drafts.specs.Numbered.{AreNumbers};
 ghost use Rattle.loop_drafts.specs.Spans.{IsSpan};
 
-use crate::search::spans::Span;
+use crate::search::spans::{Span, ranges_of};
 use code_graph::CodeGraph;
-use scale_base::NoMemory;
+use scale_base::{NoMemory, Range};
 use std::alloc::Global;
 
 /// A loop file has at most so many ranges of a loop.
@@ -76,42 +76,49 @@ fn free_gaps(
     Ok(gaps)
 }
 
-// The spans with some of the gaps behind them filled.
-fn joined(alloc: Global, spans: &[Span], filled: &[bool]) -> Result<Vec<Span>, NoMemory>
-    requires { length filled.now ≡ length spans.now }
+// The ranges with some of the gaps behind them filled.
+fn joined(alloc: Global, ranges: &[Range], filled: &[bool]) -> Result<Vec<Range>, NoMemory>
+    requires { length filled.now ≡ length ranges.now }
 {
-    let mut joined: Vec<Span> = Vec::new(alloc);
+    let mut joined: Vec<Range> = Vec::new(alloc);
     let mut is_filled = false;
-    for (number, span) in spans.iter().enumerate() {
+    for (number, range) in ranges.iter().enumerate() {
         match joined.last_mut() {
-            Some(last) if is_filled => last.last = span.last,
-            _ => joined.push(*span)?,
+            Some(before) if is_filled => before.to = range.to,
+            _ => joined.push(*range)?,
         }
         is_filled = filled[number];
     }
     Ok(joined)
 }
 
-/// Spans of a part, of which there are at most 16 if so many of the gaps between them may be filled that it can be: the smallest of those are.
-pub fn filled_spans(
+// Puts a flag up, if there is one of that number.
+fn mark(flags: &mut [bool], number: usize)
+    ensures { length flags.new ≡ length flags.old }
+{
+    if let Some(flag) = flags.get_mut(number) {
+        *flag = true;
+    }
+}
+
+/// The ranges of a part by its spans: at most 16, if so many of the gaps between them may be filled that it can be. The smallest of those are.
+pub fn filled_ranges(
     alloc: Global,
     graph: &CodeGraph,
     roots: &[usize],
-    spans: Vec<Span>,
-) -> Result<Vec<Span>, NoMemory>
+    spans: &[Span],
+) -> Result<Vec<Range>, NoMemory>
     requires roots { AreNumbers (length graph.now.code.nodes) (length graph.now.code.nodes) roots.now }
-    requires spans { All (IsSpan (length graph.now.code.nodes)) spans.items }
-    ensures { IfOk result (λ filled. All (IsSpan (length graph.now.code.nodes)) filled.items) }
+    requires spans { All (IsSpan (length graph.now.code.nodes)) spans.now }
 {
-    if spans.len() <= MOST_RANGES {
-        return Ok(spans);
+    let ranges = ranges_of(alloc, graph, spans)?;
+    if ranges.len() <= MOST_RANGES {
+        return Ok(ranges);
     }
-    let mut filled = vec![in alloc; false; spans.len()]?;
-    let gaps = free_gaps(alloc, graph, roots, &spans)?;
-    for gap in gaps.iter().take(spans.len() - MOST_RANGES) {
-        if let Some(flag) = filled.get_mut(gap.number) {
-            *flag = true;
-        }
+    let mut filled = vec![in alloc; false; ranges.len()]?;
+    let gaps = free_gaps(alloc, graph, roots, spans)?;
+    for gap in gaps.iter().take(ranges.len() - MOST_RANGES) {
+        mark(&mut filled, gap.number);
     }
-    joined(alloc, &spans, &filled)
+    joined(alloc, &ranges, &filled)
 }

@@ -6,9 +6,9 @@ ghost use Rattle.loop_drafts.specs.Numbered.{AreNumbers, some_numbers};
 
 use crate::found::{AsidePart, FoundLoop, FoundLoops};
 use crate::search::entries::{entered_nodes, turning_parts};
-use crate::search::gaps::filled_spans;
+use crate::search::gaps::filled_ranges;
 use crate::search::parts::parts_of;
-use crate::search::spans::{places_of, ranges_of, spans_of};
+use crate::search::spans::{places_of, spans_of};
 use code_graph::CodeGraph;
 use graph_algorithms::{Chains, find_chains};
 use scale_base::NoMemory;
@@ -42,15 +42,19 @@ pub struct Levels<'a> {
     ghost outer_size: { vec_len outer ≡ length graph.now.code.nodes },
 }
 
+// The node that stands for its part, as a key of each node.
+fn keys_of(alloc: Global, roots: &[usize]) -> Result<Vec<Option<usize>>, NoMemory>
+    ensures { IfOk result (λ keys. keys.items ≡ some_numbers roots.now) }
+{
+    Ok(roots.iter().map(|root| Some(*root)).collect(alloc)?)
+}
+
 // The nodes of each part, as chains.
 fn chains_of(alloc: Global, roots: &[usize], count: usize) -> Result<Chains, NoMemory>
     requires { AreNumbers count count roots.now }
     ensures { IfOk result (λ chains. AreChains (some_numbers roots.now) count chains) }
 {
-    let mut keys = Vec::new(alloc);
-    for root in roots {
-        keys.push(Some(*root))?;
-    }
+    let keys = keys_of(alloc, roots)?;
     find_chains(alloc, &keys, count)
 }
 
@@ -116,6 +120,16 @@ fn keep_within(kept: &mut [bool], graph: &CodeGraph, roots: &[usize], heads: &[O
     }
 }
 
+// Writes a header at each node of its loop's body.
+fn put_header(outer: &mut [Option<u32>], body: &[usize], at: u32)
+    requires { All (λ v. v < length outer.old) body.now }
+    ensures { length outer.new ≡ length outer.old }
+{
+    for node in body {
+        outer[*node] = Some(at);
+    }
+}
+
 impl<'a> Levels<'a> {
     /// Nothing is found yet.
     pub fn new(alloc: Global, graph: &'a CodeGraph) -> Result<Levels<'a>, NoMemory> {
@@ -143,8 +157,7 @@ impl<'a> Levels<'a> {
         ensures { self.new.graph.now ≡ self.old.graph.now }
     {
         let spans = spans_of(alloc, &self.places, body)?;
-        let filled = filled_spans(alloc, self.graph, level.roots, spans)?;
-        let ranges = ranges_of(alloc, self.graph, &filled)?;
+        let ranges = filled_ranges(alloc, self.graph, level.roots, &spans)?;
         let at = self.graph.node(header);
         self.loops.push(FoundLoop {
             header: at,
@@ -152,9 +165,7 @@ impl<'a> Levels<'a> {
             depth: level.depth,
             ranges,
         })?;
-        for node in body {
-            self.outer[*node] = Some(at);
-        }
+        put_header(&mut self.outer, body, at);
         Ok(())
     }
 
@@ -195,10 +206,11 @@ impl<'a> Levels<'a> {
 
     /// Adds the loops of the next level, which are nested so deep. Whether there are any.
     pub fn add_level(&mut self, alloc: Global, depth: usize) -> Result<bool, NoMemory> {
-        let count = self.graph.node_count();
-        let roots = parts_of(alloc, self.graph, &self.kept)?;
-        let turning = turning_parts(alloc, self.graph, &self.kept, &roots)?;
-        let entered = entered_nodes(alloc, self.graph, &roots)?;
+        let graph = self.graph;
+        let count = graph.node_count();
+        let roots = parts_of(alloc, graph, &self.kept)?;
+        let turning = turning_parts(alloc, graph, &self.kept, &roots)?;
+        let entered = entered_nodes(alloc, graph, &roots)?;
         let chains = chains_of(alloc, &roots, count)?;
         let level = Level {
             roots: &roots,
@@ -212,7 +224,7 @@ impl<'a> Levels<'a> {
                 heads[root] = self.add_part(alloc, &level, &body)?;
             }
         }
-        keep_within(&mut self.kept, self.graph, &roots, &heads);
+        keep_within(&mut self.kept, graph, &roots, &heads);
         Ok(heads.iter().any(|head| head.is_some()))
     }
 

@@ -1,6 +1,6 @@
 //! Where the body of a loop lies.
 
-ghost use Rattle.std.specs.Prelude.{◌≡◌, ◌<◌, ◌≤◌, All, length, vec_len, IfOk};
+ghost use Rattle.std.specs.Prelude.{◌≡◌, ◌<◌, All, length, vec_len, IfOk, IfSome, OnOk};
 ghost use Rattle.loop_drafts.specs.Spans.{IsSpan};
 
 use code_graph::CodeGraph;
@@ -29,21 +29,56 @@ pub fn places_of(alloc: Global, graph: &CodeGraph) -> Result<Vec<usize>, NoMemor
     Ok(places)
 }
 
+// The span with the next node of a body, where no other node of its function lies between.
+fn longer(places: &[usize], span: Span, node: usize) -> Option<Span>
+    requires span { IsSpan (length places.now) span }
+    requires node { node < length places.now }
+    ensures { IfSome result (IsSpan (length places.now)) }
+{
+    if places[span.last].saturating_add(1) != places[node] {
+        return None;
+    }
+    Some(Span {
+        first: span.first,
+        last: node,
+    })
+}
+
+// The span of a node.
+fn span_of(node: usize) -> Span
+    ensures { (result.first ≡ node) × (result.last ≡ node) }
+{
+    Span {
+        first: node,
+        last: node,
+    }
+}
+
+// Adds the next node of a body to its spans.
+fn add_node(spans: &mut Vec<Span>, places: &[usize], node: usize) -> Result<(), NoMemory>
+    requires spans { All (IsSpan (length places.now)) spans.old.items }
+    requires node { node < length places.now }
+    ensures { OnOk result (All (IsSpan (length places.now)) spans.new.items) }
+{
+    let mut next = span_of(node);
+    if let Some(span) = spans.pop() {
+        match longer(places, span, node) {
+            Some(longer) => next = longer,
+            None => spans.push(span)?,
+        }
+    }
+    spans.push(next)?;
+    Ok(())
+}
+
 /// The spans of a body, whose nodes ascend: joined wherever no other node of the function lies between.
 pub fn spans_of(alloc: Global, places: &[usize], body: &[usize]) -> Result<Vec<Span>, NoMemory>
     requires { All (λ v. v < length places.now) body.now }
     ensures { IfOk result (λ spans. All (IsSpan (length places.now)) spans.items) }
 {
-    let mut spans: Vec<Span> = Vec::new(alloc);
+    let mut spans = Vec::new(alloc);
     for node in body {
-        let node = *node;
-        match spans.last_mut() {
-            Some(span) if places[span.last].saturating_add(1) == places[node] => span.last = node,
-            _ => spans.push(Span {
-                first: node,
-                last: node,
-            })?,
-        }
+        add_node(&mut spans, places, *node)?;
     }
     Ok(spans)
 }
@@ -51,6 +86,7 @@ pub fn spans_of(alloc: Global, places: &[usize], body: &[usize]) -> Result<Vec<S
 /// The addresses of spans.
 pub fn ranges_of(alloc: Global, graph: &CodeGraph, spans: &[Span]) -> Result<Vec<Range>, NoMemory>
     requires { All (IsSpan (length graph.now.code.nodes)) spans.now }
+    ensures { IfOk result (λ ranges. vec_len ranges ≡ length spans.now) }
 {
     let mut ranges = Vec::new(alloc);
     for span in spans {

@@ -1,0 +1,4 @@
+pub mod SameShape
+pub mod Stopping
+pub mod Lines
+pub mod Keys
