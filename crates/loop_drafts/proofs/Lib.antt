@@ -2,3 +2,4 @@ pub mod SameShape
 pub mod Stopping
 pub mod Lines
 pub mod Keys
+pub mod Taken

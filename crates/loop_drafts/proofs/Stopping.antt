@@ -1,6 +1,5 @@
 -- What a call answers that stops where another one did.
-use Rattle.std.proofs.Common.{◌≡◌, true, false, Option, Some, None, is_some, Result, Ok, Err, refl, subst, sym}
-use Rattle.std.proofs.lemmas.Bool.{false≢true}
+use Rattle.std.proofs.Common.{◌≡◌, Result, Ok, Err, subst, sym}
 use Rattle.scale_base.specs.declared.refusal.Refusal.{Refusal}
 use Rattle.scale_base.specs.declared.refusal.Stop.{Stop}
 use Rattle.scale_base.specs.declared.refusal.Stop.TheVariants.{Refused, Memory}
@@ -26,13 +25,3 @@ pub answers_by : {X Y : Type 0} (view : X → Y) (result : Result X Stop) (P Q :
 answers_by view (Ok x) P Q h ok err = ok x h
 answers_by view (Err (Refused e)) P Q h ok err = err e h
 answers_by view (Err Memory) P Q h ok err = tt
-
--- ---- what a test of an option tells
-
-pub some_where : {X : Type 0} (o : Option X) → is_some o ≡ true → (x : X) × (o ≡ Some x)
-some_where None e = absurd (false≢true e)
-some_where (Some x) e = (x, refl)
-
-pub none_where : {X : Type 0} (o : Option X) → is_some o ≡ false → o ≡ None
-none_where None e = refl
-none_where (Some x) e = absurd (false≢true (sym e))

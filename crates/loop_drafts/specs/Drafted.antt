@@ -21,14 +21,22 @@ filled_most pieces = filled 1000000000 pieces
 
 -- ---- a draft
 
--- The pieces of a loop file of the image: with bounds filled in it is short enough to be loaded and is read, and where each part of the code that turns
--- is entered at one place alone, the loops of its notes are those of the graph.
+-- what building the loops of notes answers, where that is told apart: nothing where they are taken, else why they are refused
+abbrev pub AreTried : FlowGraph → List LoopNote → Option Refusal → Type 0
+AreTried v notes None = (tree : LoopView) × IsTreeOf v notes tree
+AreTried v notes (Some refusal) = IsTreeBuilt v notes (Err refusal)
+
+-- the loops of notes are taken; or they are refused, and there are parts of the code that turn and are no loops
+abbrev pub AreTaken : FlowGraph → List LoopNote → ℕ → Type 0
+AreTaken v notes aside = AreTried v notes None ⊎ ((0 < aside) × ((refusal : Refusal) × AreTried v notes (Some refusal)))
+
+-- The pieces of a loop file of the image: with bounds filled in it is short enough to be loaded and is read, and its loops are taken.
 pub record AreTakenPieces (original : Image) (v : FlowGraph) (pieces : List Piece) (loops aside : ℕ) : Type 0 where
   pub notes : List LoopNote
   pub short : length (filled_most pieces) ≤ 1048576
   pub read : read_loops original (filled_most pieces) ≡ Ok notes
   pub loops_are : loops ≡ length notes
-  pub taken : aside ≡ 0 → (tree : LoopView) × IsTreeOf v notes tree
+  pub taken : AreTaken v notes aside
 
 -- the draft of an image's loop file
 pub record IsDraftOf (original : Image) (draft : LoopDraft) : Type 0 where

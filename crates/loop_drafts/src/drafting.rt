@@ -1,11 +1,11 @@
 //! The draft of an image's loop file, and whether its loops are taken.
 
-ghost use Rattle.std.specs.Prelude.{codes};
+ghost use Rattle.std.specs.Prelude.{◌≡◌, codes, IfOk, None};
 ghost use Rattle.scale_base.specs.Answer.{AnswersBy, Refuses};
 ghost use Rattle.scale_base.specs.declared.refusal.Refusal.TheVariants.{TooLarge};
 ghost use Rattle.code_text.specs.Text.{text_of};
 ghost use Rattle.code_graph.specs.FlowGraph.{IsGraphOf};
-ghost use Rattle.loop_drafts.specs.Drafted.{ArePiecesChecked, IsGraphDrafted, IsDraftedImage, IsDrafted};
+ghost use Rattle.loop_drafts.specs.Drafted.{AreTried, ArePiecesChecked, IsGraphDrafted, IsDraftedImage, IsDrafted};
 
 use crate::draft::unknown;
 use crate::drafted::{LoopDraft, Piece, count_open, filled_text};
@@ -14,9 +14,9 @@ use crate::search::find_loops;
 use crate::texts::pieces_of;
 use code_graph::{CodeGraph, build_graph};
 use elf_view::{ImageView, read_image};
-use loop_file::read_loops;
+use loop_file::{LoopNotes, read_loops};
 use loop_tree::build_loops;
-use scale_base::{Name, Refusal, Stop};
+use scale_base::{Name, NoMemory, Refusal, Stop};
 use std::alloc::Global;
 
 /// The greatest bound that a loop file may have.
@@ -37,8 +37,23 @@ fn too_long(alloc: Global) -> Stop
     }
 }
 
-/// How many loops the file has that the pieces are of, with a bound for each: or why it isn't read, or why its loops aren't taken. They are looked at only
-/// where each part of the code that turns is a loop, since else there is a cycle that no loop bounds.
+// Why the loops of notes are refused. None where they are taken.
+fn refusal_of(
+    alloc: Global,
+    graph: &CodeGraph,
+    notes: &LoopNotes,
+) -> Result<Option<Refusal>, NoMemory>
+    ensures { IfOk result (AreTried graph.now notes.now) }
+{
+    match build_loops(alloc, graph, notes) {
+        Ok(_) => Ok(None),
+        Err(Stop::Refused(refusal)) => Ok(Some(refusal)),
+        Err(Stop::Memory) => Err(NoMemory),
+    }
+}
+
+/// How many loops the file has that the pieces are of, with a bound for each: or why it isn't read, or why its loops aren't taken. They need not be taken
+/// where there are parts of the code that turn and are no loops: for such code every loop file is refused.
 fn check_pieces(
     alloc: Global,
     view: &ImageView<'_>,
@@ -49,14 +64,18 @@ fn check_pieces(
     ensures { AnswersBy (λ loops. loops) result (ArePiecesChecked view.now graph.now pieces.now aside) }
 {
     let text = filled_text(alloc, pieces, GREATEST_BOUND)?;
-    if text.len() > MOST_BYTES {
+    let bytes = text.as_bytes();
+    if bytes.len() > MOST_BYTES {
         return Err(too_long(alloc));
     }
-    let notes = read_loops(alloc, text.as_bytes(), view)?;
-    if aside == 0 {
-        let _tree = build_loops(alloc, graph, &notes)?;
+    let notes = read_loops(alloc, bytes, view)?;
+    let Some(refusal) = refusal_of(alloc, graph, &notes)? else {
+        return Ok(notes.count());
+    };
+    if aside > 0 {
+        return Ok(notes.count());
     }
-    Ok(notes.count())
+    Err(Stop::Refused(refusal))
 }
 
 /// The draft of the loops of a graph, or why they have none.
@@ -83,15 +102,23 @@ fn draft_graph(alloc: Global, view: &ImageView<'_>, graph: &CodeGraph) -> Result
     })
 }
 
+/// The draft of an image without a keyed segment.
+fn draft_plain(alloc: Global, view: &ImageView<'_>) -> Result<LoopDraft, Stop>
+    requires { view.now.keyed_segment ≡ None }
+    ensures { AnswersBy (λ draft. draft) result (IsDraftedImage view.now) }
+{
+    let graph = build_graph(alloc, view)?;
+    draft_graph(alloc, view, &graph)
+}
+
 /// The draft of an image.
 fn draft_image(alloc: Global, view: &ImageView<'_>) -> Result<LoopDraft, Stop>
     ensures { AnswersBy (λ draft. draft) result (IsDraftedImage view.now) }
 {
-    if view.keyed().is_some() {
-        return Err(Stop::Refused(Refusal::AlreadyScaled));
+    match view.keyed() {
+        Some(_) => Err(Stop::Refused(Refusal::AlreadyScaled)),
+        None => draft_plain(alloc, view),
     }
-    let graph = build_graph(alloc, view)?;
-    draft_graph(alloc, view, &graph)
 }
 
 /// The draft of the loop file of an image, or the first refusal, as `hold` has it: of the image, of a keyed segment, and of the reached code; then of more
