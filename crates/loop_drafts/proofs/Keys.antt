@@ -1,5 +1,5 @@
 -- Nodes by the numbers of their parts, as keys of chains.
-use Rattle.std.proofs.Common.{◌≡◌, ℕ, suc, ◌<◌, ◌≤◌, List, Option, None, Some, map, length, get_or, ◌∙◌, sym, refl, arith, ⊎_elim}
+use Rattle.std.proofs.Common.{◌≡◌, ℕ, suc, ◌<◌, ◌≤◌, List, Option, None, Some, length, get_or, ◌∙◌, sym, refl, arith, ⊎_elim}
 use Rattle.std.proofs.lemmas.List.{get_or-map, get_or_past, length-map}
 use Rattle.std.proofs.lemmas.Bool.{cases_lt}
 use Rattle.graph_algorithms.specs.Keys.{ChainView, HasKey, AreKeys, AreChains, option_at}

@@ -1,5 +1,5 @@
 -- What is so of the loops of notes over a graph is so of notes with the same headers and ranges.
-use Rattle.std.proofs.Common.{◌≡◌, ℕ, ◌<◌, ◌||◌, ◌==◌, Bool, true, false, List, [], Some, get_or, map, length, refl, sym, ap, ◌∙◌, subst, ◌↔◌, ⊎_elim, inl, inr}
+use Rattle.std.proofs.Common.{◌≡◌, ℕ, ◌<◌, ◌||◌, ◌==◌, Bool, true, false, List, [], Some, get_or, length, refl, sym, ap, ◌∙◌, subst, ◌↔◌, ⊎_elim, inl, inr}
 use Rattle.std.specs.List.{list_any}
 use Rattle.std.proofs.Math.ListN.{get_or-map}
 use Rattle.std.proofs.lemmas.List.{length-map}

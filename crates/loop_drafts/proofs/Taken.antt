@@ -1,5 +1,5 @@
 -- Pieces that are taken, and why they are refused.
-use Rattle.std.proofs.Common.{◌≡◌, ℕ, ◌<◌, ◌≤◌, List, length, Some, Ok, Err, sym, ap, subst, refl, arith, inl, inr, ◌∙◌, codes, Result}
+use Rattle.std.proofs.Common.{◌≡◌, ℕ, ◌<◌, ◌≤◌, List, length, Some, Ok, Err, ap, subst, refl, arith, inl, inr, codes}
 use Rattle.scale_base.specs.declared.refusal.Refusal.{Refusal}
 use Rattle.scale_base.specs.declared.refusal.Refusal.TheVariants.{TooLarge}
 use Rattle.scale_base.specs.declared.refusal.Stop.{Stop}

@@ -1,4 +1,4 @@
-use Rattle.std.proofs.Common.{◌≡◌, ℕ, ◌<◌, List, Option, Some, length, map, sym, ap, subst, arith, All}
+use Rattle.std.proofs.Common.{ℕ, ◌<◌, List, Option, Some, length, sym, ap, subst, arith, All}
 use Rattle.std.proofs.lemmas.List.{length-map}
 use Rattle.std.proofs.lemmas.List.Elements.{All-push}
 use Rattle.loop_drafts.specs.Numbered.{height}
