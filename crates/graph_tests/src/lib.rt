@@ -6,6 +6,8 @@ mod bodies;
 #[cfg(test)]
 mod chains;
 #[cfg(test)]
+mod drafts;
+#[cfg(test)]
 mod graphs;
 #[cfg(test)]
 mod least_numbers;

@@ -21,10 +21,10 @@ const BACK_5: u32 = 0xFE00_06E3;
 type Places = (u8, u8, u8);
 
 /// Word 1 is the header of a loop with word 2.
-const SIMPLE: [u32; 5] = [NO_OPERATION, BRANCH_2, JUMP_BACK_1, EXIT, ECALL];
+pub const SIMPLE: [u32; 5] = [NO_OPERATION, BRANCH_2, JUMP_BACK_1, EXIT, ECALL];
 
 /// Words 1 to 4 turn back to word 1, and word 0 also leads to word 3.
-const TWO_ENTRIES: [u32; 7] = [
+pub const TWO_ENTRIES: [u32; 7] = [
     BRANCH_3,
     NO_OPERATION,
     BRANCH_3,
@@ -35,7 +35,7 @@ const TWO_ENTRIES: [u32; 7] = [
 ];
 
 /// Words 0 to 3 turn back to word 0.
-const FROM_START: [u32; 6] = [
+pub const FROM_START: [u32; 6] = [
     NO_OPERATION,
     BRANCH_3,
     NO_OPERATION,
@@ -45,10 +45,10 @@ const FROM_START: [u32; 6] = [
 ];
 
 /// The call at word 1 comes back to word 2, which word 3 leads to by way of word 1.
-const CALL_AT_END: [u32; 7] = [JUMP_2, CALL_5, BRANCH_2, JUMP_BACK_2, EXIT, ECALL, RETURN];
+pub const CALL_AT_END: [u32; 7] = [JUMP_2, CALL_5, BRANCH_2, JUMP_BACK_2, EXIT, ECALL, RETURN];
 
 /// Words 0 to 2 turn back to word 0; the function at word 3 turns back from word 4.
-const TWO_FUNCTIONS: [u32; 8] = [
+pub const TWO_FUNCTIONS: [u32; 8] = [
     BRANCH_6,
     CALL_2,
     JUMP_BACK_2,
@@ -60,7 +60,7 @@ const TWO_FUNCTIONS: [u32; 8] = [
 ];
 
 /// Words 2 and 3 are a loop within one of words 1 to 4.
-const NESTED: [u32; 8] = [
+pub const NESTED: [u32; 8] = [
     NO_OPERATION,
     NO_OPERATION,
     NO_OPERATION,
@@ -76,7 +76,7 @@ const INNER: Places = (2, 2, 4);
 const OUTER: Places = (1, 1, 5);
 
 /// Seventeen words, and seventeen branches, of which each leads back to the last word that none before it leads to.
-const DEEP: [u32; 36] = [
+pub const DEEP: [u32; 36] = [
     NO_OPERATION,
     NO_OPERATION,
     NO_OPERATION,

@@ -1,0 +1,5 @@
+pub mod SameShape
+pub mod Stopping
+pub mod Lines
+pub mod Keys
+pub mod Taken

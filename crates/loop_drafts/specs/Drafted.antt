@@ -1,0 +1,91 @@
+-- What drafting the loop file of an image answers. No bound is known to be too low: a loop whose bound isn't known stands without one, and the file
+-- is drafted only where the loops are taken as it notes them.
+use Rattle.std.specs.Prelude.{codes, ◌≡◌, ℕ, ◌<◌, ◌≤◌, ◌⊎◌, List, length, count_by, Option, Some, None, Result, Ok, Err}
+use Rattle.scale_base.specs.declared.ranges.Keyed.{Keyed}
+use Rattle.scale_base.specs.declared.refusal.Refusal.{Refusal}
+use Rattle.scale_base.specs.declared.refusal.Refusal.TheVariants.{AlreadyScaled, TooManyLoops, TooLarge}
+use Rattle.scale_base.specs.Image.{Image, image_of}
+use Rattle.code_text.specs.Text.{text_of}
+use Rattle.flow_graph.specs.FlowGraph.{FlowGraph, IsGraphOf}
+use Rattle.code_graph.specs.Building.{IsBuilt}
+use Rattle.loop_file.specs.declared.notes.LoopNote.{LoopNote}
+use Rattle.loop_file.specs.Loops.{read_loops}
+use Rattle.loop_forest.specs.Tree.{LoopView, IsTreeOf, IsTreeBuilt}
+use Rattle.loop_drafts.specs.declared.drafted.Piece.{Piece}
+use Rattle.loop_drafts.specs.declared.drafted.LoopDraft.{LoopDraft}
+use Rattle.loop_drafts.specs.Pieces.{filled}
+
+-- the file with the greatest bound for each loop that has none
+abbrev pub filled_most : List Piece → List ℕ
+filled_most pieces = filled 1000000000 pieces
+
+-- ---- a draft
+
+-- what building the loops of notes answers, where that is told apart: nothing where they are taken, else why they are refused
+abbrev pub AreTried : FlowGraph → List LoopNote → Option Refusal → Type 0
+AreTried v notes None = (tree : LoopView) × IsTreeOf v notes tree
+AreTried v notes (Some refusal) = IsTreeBuilt v notes (Err refusal)
+
+-- the loops of notes are taken; or they are refused, and there are parts of the code that turn and are no loops
+abbrev pub AreTaken : FlowGraph → List LoopNote → ℕ → Type 0
+AreTaken v notes aside = AreTried v notes None ⊎ ((0 < aside) × ((refusal : Refusal) × AreTried v notes (Some refusal)))
+
+-- The pieces of a loop file of the image: with bounds filled in it is short enough to be loaded and is read, and its loops are taken.
+pub record AreTakenPieces (original : Image) (v : FlowGraph) (pieces : List Piece) (loops aside : ℕ) : Type 0 where
+  pub notes : List LoopNote
+  pub short : length (filled_most pieces) ≤ 1048576
+  pub read : read_loops original (filled_most pieces) ≡ Ok notes
+  pub loops_are : loops ≡ length notes
+  pub taken : AreTaken v notes aside
+
+-- the draft of an image's loop file
+pub record IsDraftOf (original : Image) (draft : LoopDraft) : Type 0 where
+  pub graph : FlowGraph
+  pub graph_is : IsGraphOf (text_of original) graph
+  pub pieces : AreTakenPieces original graph draft.pieces.items draft.loops draft.aside
+  -- how many loops have no bound
+  pub unbounded : draft.unbounded ≡ count_by (λ piece. piece.is_open) draft.pieces.items
+
+-- ---- refusals
+
+-- Why pieces are refused: the file is too long, or what the call answers that reads it or builds its loops.
+abbrev pub ArePiecesRefused : Image → FlowGraph → List Piece → Refusal → Type 0
+ArePiecesRefused original v pieces refusal =
+    ((1048576 < length (filled_most pieces)) × (refusal ≡ TooLarge (codes "LOOPS")))
+    ⊎ ((read_loops original (filled_most pieces) ≡ Err refusal)
+    ⊎ ((notes : List LoopNote) × (read_loops original (filled_most pieces) ≡ Ok notes) × IsTreeBuilt v notes (Err refusal)))
+
+-- Why the loops of a graph have no draft: there are more than 4,096, or their pieces are refused.
+abbrev pub AreLoopsUndrafted : Image → FlowGraph → Refusal → Type 0
+AreLoopsUndrafted original v refusal =
+    ((count : ℕ) × (4096 < count) × (refusal ≡ TooManyLoops count))
+    ⊎ ((pieces : List Piece) × ArePiecesRefused original v pieces refusal)
+
+-- Why an image has none: its keyed segment, its code, or its loops.
+abbrev pub IsImageUndrafted : Image → Refusal → Type 0
+IsImageUndrafted original refusal =
+    ((keyed : Keyed) × (original.keyed_segment ≡ Some keyed) × (refusal ≡ AlreadyScaled))
+    ⊎ ((original.keyed_segment ≡ None) × (IsBuilt (text_of original) (Err refusal)
+    ⊎ ((v : FlowGraph) × IsGraphOf (text_of original) v × AreLoopsUndrafted original v refusal)))
+
+-- ---- answers
+
+-- for pieces: how many loops their file has
+abbrev pub ArePiecesChecked : Image → FlowGraph → List Piece → ℕ → Result ℕ Refusal → Type 0
+ArePiecesChecked original v pieces aside (Ok loops) = AreTakenPieces original v pieces loops aside
+ArePiecesChecked original v pieces aside (Err refusal) = ArePiecesRefused original v pieces refusal
+
+-- for the graph of an image's code
+abbrev pub IsGraphDrafted : Image → FlowGraph → Result LoopDraft Refusal → Type 0
+IsGraphDrafted original v (Ok draft) = IsDraftOf original draft
+IsGraphDrafted original v (Err refusal) = AreLoopsUndrafted original v refusal
+
+-- for the image of a file
+abbrev pub IsDraftedImage : Image → Result LoopDraft Refusal → Type 0
+IsDraftedImage original (Ok draft) = (original.keyed_segment ≡ None) × IsDraftOf original draft
+IsDraftedImage original (Err refusal) = IsImageUndrafted original refusal
+
+-- the draft, or the first refusal: of the file, or of its image
+abbrev pub IsDrafted : List ℕ → Result LoopDraft Refusal → Type 0
+IsDrafted image (Ok draft) = (original : Image) × (image_of image ≡ Ok original) × IsDraftedImage original (Ok draft)
+IsDrafted image (Err refusal) = (image_of image ≡ Err refusal) ⊎ ((original : Image) × (image_of image ≡ Ok original) × IsDraftedImage original (Err refusal))

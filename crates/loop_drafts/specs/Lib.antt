@@ -1,0 +1,5 @@
+pub mod Numbered
+pub mod Spans
+pub mod Pieces
+pub mod Drafted
+pub mod Shapes

@@ -1,0 +1,22 @@
+-- A drafted loop file in pieces, and the file with the bounds that are missing filled in.
+use Rattle.std.specs.Prelude.{codes, ℕ, List, [], ◌∷◌, ◌++◌, flat_map, string_bytes, if◌then◌else◌}
+use Rattle.std.specs.Fmt.{decimal}
+use Rattle.loop_drafts.specs.declared.drafted.Piece.{Piece}
+
+-- the line of a bound
+abbrev pub bound_line : ℕ → List ℕ
+bound_line bound = codes "bound = " ++ decimal bound ++ 10 ∷ []
+
+-- a piece as it is printed, and with a bound where its own is missing
+abbrev pub printed_piece : Piece → List ℕ
+printed_piece piece = string_bytes piece.text
+
+abbrev pub filled_piece : ℕ → Piece → List ℕ
+filled_piece bound piece = printed_piece piece ++ (if piece.is_open then bound_line bound else [])
+
+-- the file as it is printed, and with a bound for each loop that has none
+abbrev pub printed : List Piece → List ℕ
+printed pieces = flat_map printed_piece pieces
+
+abbrev pub filled : ℕ → List Piece → List ℕ
+filled bound pieces = flat_map (filled_piece bound) pieces

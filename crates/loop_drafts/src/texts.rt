@@ -1,0 +1,205 @@
+//! The pieces of a drafted loop file.
+
+use crate::draft::Draft;
+use crate::drafted::Piece;
+use crate::found::{AsidePart, FoundLoop, FoundLoops};
+use crate::names::{NamedPlace, Names};
+use scale_base::{NoMemory, Range};
+use scale_report::Address;
+use std::alloc::{AllocError, Global};
+use std::fmt;
+use std::fmt::Write;
+
+/// So many parts that are no loops are told, and so many of the places at which one is entered.
+const MOST_TOLD: usize = 64;
+
+// A symbol, and an offset where there is one.
+#[derive(Clone, Copy)]
+struct PlaceWords<'a>(NamedPlace<'a>);
+
+impl fmt::Display for PlaceWords<'_> {
+    fn fmt<W: fmt::Write>(&self, f: &mut fmt::Formatter<W>) -> fmt::Result {
+        let name = self.0.name;
+        let offset = self.0.offset;
+        if offset == 0 {
+            return write!(f, "{name}");
+        }
+        write!(f, "{name}+0x{offset:x}")
+    }
+}
+
+// Adds an address as a comment tells it: by a symbol, where there is one.
+fn push_place(text: &mut String, names: &Names<'_>, at: u32) -> Result<(), AllocError> {
+    let address = Address(at);
+    match names.place(at) {
+        Some(place) => {
+            let words = PlaceWords(place);
+            write!(text, "{words} ({address})")
+        }
+        None => write!(text, "{address}"),
+    }
+}
+
+// Adds an address as the loop file has it: by a symbol where that gives it, else as a number. The symbol is that of an instruction so many bytes before.
+fn push_address(
+    text: &mut String,
+    names: &Names<'_>,
+    at: u32,
+    behind: u32,
+) -> Result<(), AllocError> {
+    let address = Address(at.saturating_add(behind));
+    match names.place(at) {
+        Some(place) if place.is_first => {
+            let words = PlaceWords(NamedPlace {
+                offset: place.offset.saturating_add(behind),
+                ..place
+            });
+            write!(text, "\"{words}\"")
+        }
+        _ => write!(text, "{address}"),
+    }
+}
+
+fn push_range(text: &mut String, names: &Names<'_>, range: &Range) -> Result<(), AllocError> {
+    text.push_str("[")?;
+    push_address(text, names, range.from, 0)?;
+    text.push_str(", ")?;
+    push_address(text, names, range.to.saturating_sub(4), 4)?;
+    text.push_str("]")
+}
+
+fn push_ranges(text: &mut String, names: &Names<'_>, ranges: &[Range]) -> Result<(), AllocError> {
+    text.push_str("ranges = [")?;
+    for (k, range) in ranges.iter().enumerate() {
+        if k > 0 {
+            text.push_str(", ")?;
+        }
+        push_range(text, names, range)?;
+    }
+    text.push_str("]\n")
+}
+
+// The number of the loop with a header, from 1 on.
+fn number_of(loops: &[FoundLoop], header: u32) -> Option<usize> {
+    let place = loops.iter().position(|found| found.header == header)?;
+    Some(place.saturating_add(1))
+}
+
+// Adds the line over a loop: its number, its header, the loop round it and its depth.
+fn push_head(
+    text: &mut String,
+    names: &Names<'_>,
+    found: &FoundLoop,
+    number: usize,
+    outer: Option<usize>,
+) -> Result<(), AllocError> {
+    write!(text, "\n# loop {number}: ")?;
+    push_place(text, names, found.header)?;
+    if let Some(outer) = outer {
+        write!(text, ", within loop {outer}")?;
+    }
+    let depth = found.depth;
+    write!(text, ", depth {depth}\n")
+}
+
+// Adds what is known of the turns of a loop, and why no bound is.
+fn push_known(text: &mut String, known: &Draft) -> Result<(), AllocError> {
+    if let Some(bound) = known.bound {
+        write!(text, "bound = {bound}\n")?;
+    }
+    if let Some(least) = known.at_least {
+        write!(text, "at_least = {least}\n")?;
+    }
+    if known.counted {
+        text.push_str("counted = true\n")?;
+    }
+    if known.bound.is_none() {
+        let reason = known.reason;
+        write!(text, "# no bound: {reason}\n")?;
+    }
+    Ok(())
+}
+
+// The piece of a loop.
+fn loop_piece(
+    alloc: Global,
+    names: &Names<'_>,
+    found: &FoundLoop,
+    number: usize,
+    outer: Option<usize>,
+    known: &Draft,
+) -> Result<Piece, NoMemory> {
+    let mut text = String::new(alloc);
+    push_head(&mut text, names, found, number, outer)?;
+    text.push_str("[[loop]]\nheader = ")?;
+    push_address(&mut text, names, found.header, 0)?;
+    text.push_str("\n")?;
+    push_ranges(&mut text, names, &found.ranges)?;
+    push_known(&mut text, known)?;
+    Ok(Piece {
+        text,
+        is_open: known.bound.is_none(),
+    })
+}
+
+// Adds the line of a part that is no loop.
+fn push_aside(text: &mut String, names: &Names<'_>, part: &AsidePart) -> Result<(), AllocError> {
+    text.push_str("# irreducible, no loop: entered at ")?;
+    for (k, entry) in part.entries.iter().take(MOST_TOLD).enumerate() {
+        if k > 0 {
+            text.push_str(" and ")?;
+        }
+        push_place(text, names, *entry)?;
+    }
+    if part.entries.len() > MOST_TOLD {
+        text.push_str(" and more")?;
+    }
+    text.push_str("\n")
+}
+
+// The piece over the loops.
+fn first_piece(
+    alloc: Global,
+    names: &Names<'_>,
+    found: &FoundLoops,
+    known: &[Draft],
+) -> Result<Piece, NoMemory> {
+    let mut text = String::new(alloc);
+    let loops = found.loops.len();
+    let unbounded = known.iter().filter(|draft| draft.bound.is_none()).count();
+    write!(
+        &mut text,
+        "# draft of loops: {loops} loops, {unbounded} without a bound\n"
+    )?;
+    for part in found.aside.iter().take(MOST_TOLD) {
+        push_aside(&mut text, names, part)?;
+    }
+    if found.aside.len() > MOST_TOLD {
+        text.push_str("# irreducible, no loop: more parts\n")?;
+    }
+    text.push_str("version = 2\n")?;
+    Ok(Piece {
+        text,
+        is_open: false,
+    })
+}
+
+/// The pieces of the loops that are found, with what is known of each.
+pub fn pieces_of(
+    alloc: Global,
+    names: &Names<'_>,
+    found: &FoundLoops,
+    known: &[Draft],
+) -> Result<Vec<Piece>, NoMemory> {
+    let mut pieces = Vec::new(alloc);
+    pieces.push(first_piece(alloc, names, found, known)?)?;
+    for (k, (looped, draft)) in found.loops.iter().zip(known).enumerate() {
+        let outer = match looped.parent {
+            Some(header) => number_of(&found.loops, header),
+            None => None,
+        };
+        let number = k.saturating_add(1);
+        pieces.push(loop_piece(alloc, names, looped, number, outer, draft)?)?;
+    }
+    Ok(pieces)
+}
