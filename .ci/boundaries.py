@@ -19,7 +19,7 @@ CITED = re.compile(r"Rattle\.(\w+)\.proofs\.(\w+)|\b(\w+)::proofs::(\w+)")
 STRUCT = re.compile(r"struct (\w+)[^{;(]*\{([^}]*)\}")
 FIELD = re.compile(r"^\s*(pub(?:\([^)]*\))? )?(\w+):", re.M)
 RECORD_FIELD = re.compile(r"^\s+pub (\w+) :", re.M)
-FUNCTION = re.compile(r"^( *)pub fn (\w+)(.*?)\n\1\{", re.M | re.S)
+FUNCTION = re.compile(r"^( *)pub fn (\w+)((?:(?!\n *(?:pub )?fn ).)*?)\n\1\{", re.M | re.S)
 
 
 def sources(crate, suffix):
