@@ -1,13 +1,12 @@
 -- What stands beside an address is what stands at its number.
-use Rattle.std.proofs.Common.{◌≡◌, ℕ, zero, suc, ◌<◌, Bool, true, false, cond, List, [], ◌∷◌, length, Option, Some, None, nat_eq, refl, sym, ap, ◌∙◌, arith, ◌⊎◌, ⊎_elim, eqb-true, eq-eqb, subst}
+use Rattle.std.proofs.Common.{◌≡◌, ℕ, zero, suc, ◌<◌, Bool, true, false, cond, List, [], ◌∷◌, length, Some, nat_eq, refl, sym, ap, ◌∙◌, arith, ◌⊎◌, ⊎_elim, eqb-true, eq-eqb, subst}
 use Rattle.std.specs.Prelude.{slice_get}
 use Rattle.std.proofs.lemmas.Option.{slice_get_within}
 use Rattle.flow_graph.proofs.Laws.{less_same_more, some_is, Ascend}
 use Rattle.flow_graph.specs.FlowGraph.{FlowGraph, IsFlowGraph}
-use Rattle.bound_laws.specs.Values.{Arc}
 use Rattle.wrapped_intervals.specs.Small.{row}
 use Rattle.value_checks.specs.declared.tables.ValueTable.{ValueTable}
-use Rattle.value_checks.specs.Tables.{beside, or_other, row_at, live_at, calm_at, flag, values_of, AreSized}
+use Rattle.value_checks.specs.Tables.{beside, or_other, row_at, live_at, calm_at, flag, values_of}
 
 abbrev pub Once : List ℕ → Type 0
 Once xs = (i j a : ℕ) → slice_get xs i ≡ Some a → slice_get xs j ≡ Some a → i ≡ j

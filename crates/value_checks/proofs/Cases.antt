@@ -1,13 +1,11 @@
 -- What stands beside the addresses of a case's nodes stands at their numbers.
-use Rattle.std.proofs.Common.{◌≡◌, ◌≢◌, ℕ, ◌+◌, ◌%◌, ◌^◌, ◌<◌, ◌≤◌, Bool, true, false, length, Some, sym, ◌∙◌, ap, subst}
+use Rattle.std.proofs.Common.{◌≡◌, ◌≢◌, ℕ, ◌+◌, ◌%◌, ◌^◌, ◌<◌, ◌≤◌, true, false, Some, sym, ◌∙◌, ap, subst}
 use Rattle.std.specs.Prelude.{slice_get}
-use Rattle.loop_file.specs.Kept.{in_extent}
 use Rattle.flow_graph.proofs.Laws.{some_is}
 use Rattle.bound_laws.specs.Turning as turning
 use Rattle.value_checks.specs.declared.certificates.Case.{Case}
-use Rattle.value_checks.specs.Tables.{or_other}
-use Rattle.value_checks.specs.Certified.{body_at, quiet_at, offset_at, behind_at, code_certificate, case_graph, effect_there, IsCase, IsTurnAt, IsAlongAt, IsLedAt, IsCalledAt, IsLeftAt, IsTurnSo, IsLedTo, IsLedSo, IsCalledTo, IsCalledSo, IsLeftSo}
-use Rattle.value_checks.proofs.Besides.{Once, beside_is, once}
+use Rattle.value_checks.specs.Certified.{body_at, quiet_at, offset_at, behind_at, code_certificate, case_graph, effect_there, IsCase, IsTurnAt, IsLedAt, IsCalledAt, IsLeftAt, IsTurnSo, IsLedSo, IsCalledTo, IsCalledSo, IsLeftSo}
+use Rattle.value_checks.proofs.Besides.{beside_is, once}
 
 -- the header is at one number alone
 pub header_number : (c : Case) → IsCase c → (n b : ℕ) → slice_get c.graph.now.code.nodes n ≡ Some b → b ≡ c.note.now.header → n ≡ c.header

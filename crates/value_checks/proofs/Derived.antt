@@ -1,6 +1,6 @@
 -- A certified loop whose measure is shown at its header has a derived bound.
-use Rattle.std.proofs.Common.{◌≡◌, ℕ, ◌<◌, ◌≤◌, ◌⊎◌, inl, List, length, Option, Some, sym, ap, subst}
-use Rattle.std.specs.Prelude.{slice_get, ◌/◌}
+use Rattle.std.proofs.Common.{◌≡◌, ℕ, ◌<◌, ◌≤◌, inl, List, Option, Some, sym, subst}
+use Rattle.std.specs.Prelude.{◌/◌}
 use Rattle.loop_file.specs.declared.notes.LoopNote.{LoopNote}
 use Rattle.loop_file.specs.Kept.{note_at, noted_loops, in_extent}
 use Rattle.code_text.specs.Text.{text_of}

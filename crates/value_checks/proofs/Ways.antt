@@ -1,9 +1,8 @@
 -- The way from an edge's source to a node is covered where the rows at their numbers say so, or where no run comes to the source.
-use Rattle.std.proofs.Common.{◌≡◌, ℕ, ◌<◌, ◌⊎◌, inl, inr, ⊎_elim, Bool, true, false, List, [], length, get_or, Option, Some, sym, ◌∙◌, ap, subst}
+use Rattle.std.proofs.Common.{◌≡◌, ℕ, ◌<◌, inl, inr, ⊎_elim, Bool, true, false, length, get_or, Option, Some, sym, ◌∙◌, ap, subst}
 use Rattle.std.proofs.lemmas.Option.{get_or_from_slice_get}
 use Rattle.std.specs.Prelude.{slice_get}
 use Rattle.scale_base.specs.declared.instruction.Instr.{Instr}
-use Rattle.cost_theory.specs.Accepted.{IsProgram}
 use Rattle.code_text.specs.Text.{Text, instr_at}
 use Rattle.scale_base.specs.State.{reg}
 use Rattle.bound_laws.specs.Laws.{starting_registers}

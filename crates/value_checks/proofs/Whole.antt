@@ -1,5 +1,5 @@
 -- What is confirmed at each edge is an invariant.
-use Rattle.std.proofs.Common.{◌≡◌, ℕ, ◌<◌, ◌⊎◌, inl, inr, ⊎_elim, Bool, true, length, Some, sym, ◌∙◌, ap, subst, arith}
+use Rattle.std.proofs.Common.{◌≡◌, ℕ, ◌<◌, ◌⊎◌, inl, inr, ⊎_elim, true, length, Some, sym, ◌∙◌, ap, subst, arith}
 use Rattle.scale_base.specs.declared.instruction.Instr.{Instr}
 use Rattle.cost_theory.specs.Graph.{Graph}
 use Rattle.code_text.specs.Text.{Text, instr_at}

@@ -1,12 +1,12 @@
 -- What the code says of each edge is a certificate.
-use Rattle.std.proofs.Common.{◌≡◌, ◌≢◌, ℕ, ◌+◌, ◌^◌, ◌<◌, ◌≤◌, Bool, true, false, length, Some, refl, sym, ◌∙◌, ap, subst}
+use Rattle.std.proofs.Common.{ℕ, refl, sym, ◌∙◌, subst}
 use Rattle.loop_file.specs.Kept.{in_extent}
 use Rattle.cost_theory.specs.Graph.{Graph}
 use Rattle.code_text.specs.Text.{text_of}
 use Rattle.bound_laws.specs.Turning as turning
 use Rattle.bound_laws.specs.Turning.{Leads, Calls}
 use Rattle.value_checks.specs.declared.certificates.Case.{Case}
-use Rattle.value_checks.specs.Certified.{body_at, code_certificate, case_graph, effect_there, IsCase, IsBegun, AreEdgesCertified, IsLedTo, IsCalledTo, IsEdgeCertified, IsCertified}
+use Rattle.value_checks.specs.Certified.{code_certificate, case_graph, IsCase, IsBegun, AreEdgesCertified, IsLedTo, IsCalledTo, IsCertified}
 use Rattle.value_checks.proofs.Cases.{body_is, quiet_is, offset_is, header_address}
 
 certificate : (c : Case) → IsCase c → IsBegun c → AreEdgesCertified c → turning.IsCertificate (text_of c.view.now) (case_graph c) c.note.now.header (λ v. in_extent c.note.now v) (code_certificate c)

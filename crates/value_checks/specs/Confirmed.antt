@@ -1,5 +1,5 @@
 -- What the code confirms of values, edge by edge.
-use Rattle.std.specs.Prelude.{◌≡◌, ℕ, ◌<◌, ◌⊎◌, Bool, true, List, slice_get, Option, Some, None, Ok}
+use Rattle.std.specs.Prelude.{◌≡◌, ℕ, ◌⊎◌, Bool, true, List, slice_get, Option, Some, None, Ok}
 use Rattle.scale_base.specs.declared.instruction.Instr.{Instr}
 use Rattle.cost_theory.specs.Graph.{Graph}
 use Rattle.code_text.specs.Text.{Text, instr_at, text_of}

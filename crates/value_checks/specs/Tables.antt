@@ -1,5 +1,5 @@
 -- A table of values as what `bound_laws` calls values: by address what stands beside it in the list of nodes, and by register what stands in the row.
-use Rattle.std.specs.Prelude.{◌≡◌, ℕ, Bool, true, false, List, [], ◌∷◌, length, slice_get, nat_eq, if◌then◌else◌, Option, Some, None}
+use Rattle.std.specs.Prelude.{◌≡◌, ℕ, Bool, false, List, [], ◌∷◌, length, slice_get, nat_eq, if◌then◌else◌, Option, Some, None}
 use Rattle.std.specs.List.{All}
 use Rattle.cost_theory.specs.Reached.{Code, owner_of}
 use Rattle.bound_laws.specs.Registers.{Measure}

@@ -1,4 +1,4 @@
-use Rattle.std.proofs.Common.{ℕ, ◌<◌, ◌∙◌, refl, subst, sym, arith}
+use Rattle.std.proofs.Common.{ℕ, ◌<◌, refl, subst, sym, arith}
 use Rattle.std.proofs.lemmas.Option.{slice_get_within}
 use Rattle.value_checks.specs.declared.certificates.Case.{Case}
 use Rattle.value_checks.specs.Certified.{IsCase}

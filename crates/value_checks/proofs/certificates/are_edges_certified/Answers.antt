@@ -1,4 +1,4 @@
-use Rattle.std.proofs.Common.{ℕ, ◌<◌, ◌≡◌, ◌⊎◌, true, subst, sym, ⊎_elim, arith, refl}
+use Rattle.std.proofs.Common.{ℕ, ◌<◌, ◌≡◌, ◌⊎◌, subst, sym, ⊎_elim, arith, refl}
 use Rattle.flow_graph.proofs.Laws.{less_same_more}
 use Rattle.value_checks.specs.Certified.{IsEdgeCertified}
 use Rattle.value_checks.proofs.certificates.are_edges_certified.Goals as goal

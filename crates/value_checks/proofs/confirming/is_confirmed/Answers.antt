@@ -1,4 +1,4 @@
-use Rattle.std.proofs.Common.{ℕ, ◌<◌, ◌≡◌, ◌⊎◌, true, subst, sym, ⊎_elim, arith, refl}
+use Rattle.std.proofs.Common.{ℕ, ◌<◌, ◌≡◌, ◌⊎◌, subst, sym, ⊎_elim, arith, refl}
 use Rattle.code_text.specs.Text.{text_of}
 use Rattle.flow_graph.specs.FlowGraph.{graph}
 use Rattle.flow_graph.proofs.Laws.{less_same_more}

@@ -1,6 +1,6 @@
 use Rattle.std.proofs.Common.{◌≡◌, ◌<◌, ◌⊎◌, ℕ, true, subst, sym, ⊎_elim, arith, refl}
 use Rattle.bound_laws.specs.Registers.{keeps}
-use Rattle.bound_laws.specs.Values.{Covers, IsRegister}
+use Rattle.bound_laws.specs.Values.{Covers}
 use Rattle.wrapped_intervals.specs.Small.{row}
 use Rattle.flow_graph.proofs.Laws.{less_same_more}
 use Rattle.value_checks.proofs.rows.is_row_returned.Goals as goal

@@ -1,7 +1,7 @@
 use Rattle.std.proofs.Common.{◌≡◌, ◌<◌, ◌⊎◌, ℕ, subst, sym, ⊎_elim, arith, refl}
 use Rattle.scale_base.specs.State.{reg}
 use Rattle.bound_laws.specs.Laws.{starting_registers}
-use Rattle.bound_laws.specs.Values.{IsHeld, IsRegister}
+use Rattle.bound_laws.specs.Values.{IsHeld}
 use Rattle.wrapped_intervals.specs.Small.{row}
 use Rattle.flow_graph.proofs.Laws.{less_same_more}
 use Rattle.value_checks.proofs.starting.is_row_started.Goals as goal
