@@ -2,7 +2,7 @@
 
 ghost use Rattle.std.specs.Prelude.{◌≡◌, ◌≤◌, ◌^◌, map, IfOk};
 ghost use Rattle.std.specs.List.{All};
-ghost use Rattle.pace_fit.specs.Endings as endings;
+ghost use Rattle.pace_fit.specs.Endings.{ending_on, endings_on, is_counted};
 ghost use Rattle.pace_fit.specs.Finding.{HasHeld};
 
 use gain_tuner::report_of;
@@ -26,7 +26,7 @@ fn ending_of(
     input: &[u8],
 ) -> Result<Ending, NoMemory>
     requires { HasHeld image.now machine.now loops.now }
-    ensures ending { IfOk result (λ ending. ending ≡ endings.ending_on image.now machine.now loops.now input.now) }
+    ensures ending { IfOk result (λ ending. ending ≡ ending_on image.now machine.now loops.now input.now) }
     ensures small { IfOk result (λ ending. ending.cycles ≤ 2 ^ 56) }
 {
     let report = report_of(alloc, image, machine, input, Some(loops))?;
@@ -46,7 +46,7 @@ pub fn endings_of(
     inputs: &[Vec<u8>],
 ) -> Result<Vec<Ending>, NoMemory>
     requires { HasHeld image.now machine.now loops.now }
-    ensures endings { IfOk result (λ found. found.items ≡ endings.endings_on image.now machine.now loops.now (map (λ input. input.items) inputs.now)) }
+    ensures endings { IfOk result (λ found. found.items ≡ endings_on image.now machine.now loops.now (map (λ input. input.items) inputs.now)) }
     ensures small { IfOk result (λ found. All (λ ending. ending.cycles ≤ 2 ^ 56) found.items) }
 {
     let mut endings = Vec::new(alloc);
@@ -58,14 +58,14 @@ pub fn endings_of(
 
 /// Whether an input whose run ends so counts: it exits, and is kept.
 pub fn is_counted(ending: &Ending) -> bool
-    ensures { result ≡ endings.is_counted ending.now }
+    ensures { result ≡ is_counted ending.now }
 {
     matches!(ending.end, End::Exited(_)) && matches!(ending.kept, Some(Kept::Kept))
 }
 
 /// Which of the inputs count, in their order.
 pub fn flags_of(alloc: Global, endings: &[Ending]) -> Result<Vec<bool>, NoMemory>
-    ensures { IfOk result (λ flags. flags.items ≡ map endings.is_counted endings.now) }
+    ensures { IfOk result (λ flags. flags.items ≡ map is_counted endings.now) }
 {
     let mut flags = Vec::new(alloc);
     for ending in endings {

@@ -1,6 +1,8 @@
 -- The answer to `fit` tells a choice that is safe, or the refusal of `hold`.
 use Rattle.std.proofs.Common.{◌≡◌, ℕ, ◌≤◌, List, [], ◌∷◌, length, refl, sym, ap, ◌∙◌, arith}
-use Rattle.std.specs.Prelude.{IfOk, Result, Ok, Err}
+use Rattle.std.specs.Prelude.{IfOk, Result, Ok, Err, Vec}
+use Rattle.std.specs.declared.alloc.Global.{Global}
+use Rattle.std.proofs.lemmas.List.{length-map}
 use Rattle.scale_base.specs.declared.refusal.NoMemory.{NoMemory}
 use Rattle.scale_base.specs.declared.refusal.Refusal.{Refusal}
 use Rattle.scaler.specs.Held.{IsHeld}
@@ -8,13 +10,17 @@ use Rattle.scaler.specs.Promise.{IsStoredSafely}
 use Rattle.paced_images.specs.declared.proposal.Proposal.{Proposal}
 use Rattle.pace_fit.specs.declared.endings.Ending.{Ending}
 use Rattle.pace_fit.specs.declared.fitting.Fitted.{Fitted}
-use Rattle.pace_fit.specs.Endings.{endings_on}
+use Rattle.pace_fit.specs.Endings.{ending_on, endings_on}
 use Rattle.pace_fit.specs.Fitting.{IsFitted}
 use Rattle.host_runs.specs.declared.reply.Reply.{Reply}
 use Rattle.host_runs.specs.Answer.{Answer, Tells, refused, stored_answer}
-use Rattle.host_runs.specs.Views.{reply_view}
+use Rattle.host_runs.specs.Views.{files_view, reply_view}
 use Rattle.pace_tool.specs.Answer.{Fits, MakesFit}
 use Rattle.pace_tool.specs.Texts.{fitted_text}
+
+-- as many endings as inputs
+pub endings_count : (image machine loops : List ℕ) (inputs : List (Vec ℕ Global)) (endings : List Ending) → endings ≡ endings_on image machine loops (files_view inputs) → length endings ≡ length inputs
+endings_count image machine loops inputs endings are = ap length are ∙ (length-map (files_view inputs) (ending_on image machine loops) ∙ length-map inputs (λ (v : Vec ℕ Global). v.items))
 
 module _ (image machine loops : List ℕ) (inputs : List (List ℕ)) (out : List ℕ) where
   -- ---- a choice

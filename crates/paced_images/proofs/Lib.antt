@@ -9,6 +9,7 @@ mod ScalingFacts
 mod ProgramFacts
 mod PacedFiles
 mod UsefulFacts
+mod DueFacts
 mod FlagLists
 mod Taken
 mod Ordered
@@ -21,3 +22,4 @@ mod Ended
 mod Uncounted
 mod PacedRuns
 mod PacedSafe
+mod KeptFacts

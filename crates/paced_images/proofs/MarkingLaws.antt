@@ -63,11 +63,15 @@ module _ (power : PowerModel) (image : Image) (v : FlowGraph) (t : LoopView) (wa
       let same = Rattle.std.proofs.lemmas.List.length-map t.headers (Rattle.loop_tree.specs.Noted.node_address v) in
       omega (arith, lt, same)
 
-  pub marking_switches : (e i : ℕ) (mark : Mark) → e < length v.code.edges → slice_get (marks_at_edge m.sites e) i ≡ Some mark → IsLoud mark → switches (marks_at_edge m.sites e) ≡ true
-  marking_switches e i mark lt at loud =
+  -- at most the first mark stores at the port
+  pub marking_alone : (e : ℕ) → e < length v.code.edges → IsFirstAlone (marks_at_edge m.sites e)
+  marking_alone e lt =
       let alone = marks_store_first (graph v) (loops v t) is.tree.0 (counted_loops t) is.code.flow.program is.tree.1.accepted loops_are (set_distinct 0 t.counted) e (wanted.switch e) 0 0 lt in
       let formed_alone = formed_stores_first (wanted.lowest e) wanted.tallied (marks_where v t (counted_loops t) wanted.switch e) alone in
-      first_loud (marks_at_edge m.sites e) i mark (subst IsFirstAlone (sym (is.marks e lt)) formed_alone) at loud
+      subst IsFirstAlone (sym (is.marks e lt)) formed_alone
+
+  pub marking_switches : (e i : ℕ) (mark : Mark) → e < length v.code.edges → slice_get (marks_at_edge m.sites e) i ≡ Some mark → IsLoud mark → switches (marks_at_edge m.sites e) ≡ true
+  marking_switches e i mark lt at loud = first_loud (marks_at_edge m.sites e) i mark (marking_alone e lt) at loud
 
   -- ---- the loop of a counter
 

@@ -68,9 +68,9 @@ lowered_as power test start shown told ms marked a b same tells one other =
 pub named_as : (site : SwitchSite) (o : Option Edge) (edge : Edge) (n a b : Bool) → o ≡ Some edge → n ≡ names site edge → n ≡ true → a ≡ b → a ≡ (names_some site o && b)
 named_as site o edge n a b get is on e = e ∙ sym (ap (λ q. names_some site q && b) get ∙ ap (λ q. q && b) (sym is ∙ on))
 
--- ---- one site more
+-- ---- one site or one loop more
 
-pub kept_more : (p : SwitchSite → Bool) (xs : List SwitchSite) (i : ℕ) (d : SwitchSite) (kept new : List SwitchSite) (b : Bool) → i < length xs → kept ≡ filter p (take i xs) → b ≡ p (slice_index_or xs i d)
+pub kept_more : {X : Type 0} (p : X → Bool) (xs : List X) (i : ℕ) (d : X) (kept new : List X) (b : Bool) → i < length xs → kept ≡ filter p (take i xs) → b ≡ p (slice_index_or xs i d)
     → new ≡ kept ++ cond b (slice_index_or xs i d ∷ []) [] → new ≡ filter p (take (i + 1) xs)
 kept_more p xs i d kept new b lt same is made =
     made ∙ (ap (λ ys. ys ++ cond b (slice_index_or xs i d ∷ []) []) same ∙ (ap (λ q. filter p (take i xs) ++ cond q (slice_index_or xs i d ∷ []) []) is ∙ sym (filter_more p xs i d lt)))

@@ -1,43 +1,73 @@
 //! The loops whose tallies are of use.
 
-ghost use Rattle.std.specs.Prelude.{◌≡◌, ◌<◌, ℕ, length, slice_get, Some, IfOk};
+ghost use Rattle.std.specs.Prelude.{◌≡◌, ◌==◌, ◌<◌, ◌^◌, ℕ, Bool, length, slice_get, Some, IfOk, IfSome};
+ghost use Rattle.level_tables.specs.Budgets.{meets_in_budget, budget_at};
+ghost use Rattle.loop_tree.specs.Tree.{IsLoopTree, loops};
 ghost use Rattle.scale_base.specs.declared.fragments.Mark.TheVariants as marks;
 ghost use Rattle.scale_sites.specs.Sites.{marks_at_edge};
-ghost use Rattle.paced_images.specs.Markings.{HasMarking};
+ghost use Rattle.paced_images.specs.Markings.{HasMarking, told_view};
 ghost use Rattle.paced_images.specs.Useful as useful;
 
 use crate::scaling::Marked;
-use crate::stubs::told_at;
-use level_tables::{tally_from_within, tally_shift};
+use crate::stubs::{Told, told_at};
+use code_graph::CodeGraph;
+use level_tables::{LevelBudgets, tally_from_within, tally_shift};
+use loop_tree::LoopTree;
 use power_model::Power;
 use scale_base::{Mark, NoMemory};
 use std::alloc::Global;
 
-/// Whether a tally on edge `e` is that of the loop at an address, and comes due: from a count that the loop's bound allows on, every level goes
-/// to the lowest one, which the starting level isn't.
+/// Whether the header of loop `l` is at an address.
+fn is_header(graph: &CodeGraph, tree: &LoopTree, l: usize, header: u32) -> bool
+    requires tree { (extent : ℕ → ℕ → Bool) × IsLoopTree graph.now extent tree.now }
+    requires within { l < length tree.now.headers }
+    ensures { result ≡ ((loops graph.now tree.now).header l == header) }
+{
+    graph.node(tree.header(l)) == header
+}
+
+/// Whether a tally with these numbers comes due: from a count that the loop's bound allows on, every level goes to the lowest one, which the
+/// starting level isn't.
+fn comes_due(
+    power: &Power,
+    budgets: &LevelBudgets,
+    start: u8,
+    bound: u32,
+    iteration: u64,
+    told: &Told,
+) -> bool
+    requires { IfSome told.now.least (λ z. z < 2 ^ 90) }
+    ensures { result ≡ useful.comes_due power.now (meets_in_budget power.now (budget_at budgets.now)) start bound iteration (told_view told.now) }
+{
+    let from = tally_from_within(
+        power, budgets, bound, iteration, told.slack, told.left, told.least,
+    );
+    start > 0 && u32::from(from) <= bound >> tally_shift(bound)
+}
+
+/// Whether a tally on edge `e` is that of the loop at an address, and comes due.
 fn is_due(power: &Power, marked: &Marked, header: u32, e: usize, counter: u16) -> bool
     requires marking { HasMarking power.now marked.now.graph marked.now.tree marked.now.marking }
     requires edge { e < length marked.now.graph.code.edges }
     requires mark { (i : ℕ) × (slice_get (marks_at_edge marked.now.marking.sites e) i ≡ Some (marks.Tally counter)) }
     ensures { useful.IsDueBy power.now marked.now header e counter result }
 {
+    let graph = &marked.graph;
+    let tree = &marked.tree;
     let marking = &marked.marking;
     let l = *marking.counters.get(usize::from(counter - 2));
-    if marked.graph.node(marked.tree.header(l)) != header || marked.start == 0 {
-        return false;
-    }
-    let told = told_at(power, &marked.graph, &marked.tree, marking, e);
-    let bound = marked.tree.bound(l);
-    let from = tally_from_within(
+    let bound = tree.bound(l);
+    let iteration = marking.worst.iteration(l);
+    let told = told_at(power, graph, tree, marking, e);
+    let due = comes_due(
         power,
         &marking.budgets,
+        marked.start,
         bound,
-        marking.worst.iteration(l),
-        told.slack,
-        told.left,
-        told.least,
+        iteration,
+        &told,
     );
-    u32::from(from) <= bound >> tally_shift(bound)
+    is_header(graph, tree, l, header) && due
 }
 
 /// Whether edge `e` has the tally of the loop at an address, and that comes due. A tally is the first mark of its edge.

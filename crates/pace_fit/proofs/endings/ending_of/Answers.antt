@@ -1,16 +1,20 @@
-use Rattle.std.proofs.Common.{◌*◌, ◌^◌, ◌≤◌, sym, ap, subst, arith}
+use Rattle.std.proofs.Common.{◌*◌, ◌^◌, ◌≤◌, sym, ap, ◌∙◌, subst, arith}
 use Rattle.power_model.specs.declared.report.RunReport.{RunReport}
 use Rattle.power_model.specs.Report.{report_view}
 use Rattle.gain_tuner.proofs.Laws.{original_runs}
+use Rattle.pace_fit.specs.declared.endings.Ending.{Ending}
 use Rattle.pace_fit.specs.Endings.{ending_by}
 use Rattle.pace_fit.proofs.Cycles.{steps_most}
 use Rattle.pace_fit.proofs.endings.ending_of.Goals as goal
+
+abbrev shown : RunReport → Ending
+shown r = record { end = r.end; kept = r.kept; cycles = r.meter.cycles }
 
 pub report_of-requires : goal.report_of-requires
 report_of-requires c = original_runs c.args.image.now c.args.machine.now c.args.loops.now c.requires.0.0 c.requires.0.1 c.requires.1 c.args.input.now
 
 pub returns-clause-ending : goal.returns-clause-ending
-returns-clause-ending c = ap ending_by (sym c.in_ok-report.ensures)
+returns-clause-ending c = ap shown c.report.view_is ∙ ap ending_by (sym c.in_ok-report.ensures)
 
 pub returns-clause-small : goal.returns-clause-small
 returns-clause-small c =

@@ -1,6 +1,13 @@
+use Rattle.std.proofs.Common.{ap, ◌∙◌, length, arith}
 use Rattle.host_runs.specs.Views.{files_view}
-use Rattle.pace_tool.proofs.Given.{fit_told}
+use Rattle.pace_tool.proofs.Given.{endings_count, fit_told}
 use Rattle.pace_tool.proofs.fit.chosen_of.Goals as goal
+
+pub fitted_text-requires : goal.fitted_text-requires
+fitted_text-requires c =
+    let files = c.args.files.now in
+    let count = ap length c.deref.ensures.value ∙ endings_count files.image.now files.machine.now files.loops.now c.args.inputs.now.items.now c.args.prepared.now.endings.items c.requires.prepared.endings in
+    let few = c.args.inputs.now.few in omega (arith, count, few)
 
 pub returns : goal.returns
 returns c =

@@ -1,11 +1,16 @@
-use Rattle.std.proofs.Common.{◌≤◌, List, length, subst, sym}
+use Rattle.std.proofs.Common.{◌≤◌, List, length, subst, sym, ap, ◌∙◌}
 use Rattle.paced_images.specs.declared.proposal.Proposal.{Proposal}
 use Rattle.host_runs.specs.Views.{files_view}
-use Rattle.pace_tool.proofs.Given.{of_some}
+use Rattle.pace_tool.proofs.Given.{endings_count, of_some}
 use Rattle.pace_tool.proofs.fit.prepared_reply.Goals as goal
+
+pub proposals_of-requires : goal.proposals_of-requires
+proposals_of-requires c =
+    let files = c.args.files.now in
+    ap length c.deref.ensures.value ∙ endings_count files.image.now files.machine.now files.loops.now c.args.inputs.now.items.now c.args.prepared.now.endings.items c.requires.endings
 
 pub returns : goal.returns
 returns c =
     let files = c.args.files.now in
     of_some files.image.now files.machine.now files.loops.now (files_view c.args.inputs.now.items.now) c.args.out.now _ c.chosen_of.result
-    (subst (λ (proposals : List Proposal). length proposals ≤ 64) (sym c.deref.ensures.value) c.in_ok-proposals.ensures) c.chosen_of.ensures
+    (subst (λ (proposals : List Proposal). length proposals ≤ 64) (sym c.deref-2.ensures.value) c.in_ok-proposals.ensures) c.chosen_of.ensures
