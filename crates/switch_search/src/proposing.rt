@@ -8,6 +8,7 @@ use crate::counted::add_counted;
 use crate::growing::best_sets;
 use crate::pricing::Search;
 use crate::sets::Priced;
+use answer_parts::check_unscaled;
 use code_graph::build_graph;
 use elf_view::read_image;
 use flow_graph::CodeGraph;
@@ -19,7 +20,6 @@ use paced_images::Proposal;
 use power_model::Power;
 use run_traces::{EdgeTrace, Numbers, RunMarks, Runs, StubCosts, WalkPlan, numbers_of};
 use scale_base::{NoMemory, Stop};
-use answer_parts::check_unscaled;
 use scaler::starting_level;
 use std::alloc::Global;
 
