@@ -25,7 +25,7 @@ GivenBy given k answer = Gives (given k) answer
 same_made : (one other : Stored) (o : Option Stored) → o ≡ Some one → o ≡ Some other → one ≡ other
 same_made one other o e e' = let both : Some one ≡ Some other = sym e ∙ e' in cc
 
-not_made : {A : Type 0} (made : Stored) (o : Option Stored) → o ≡ None → o ≡ Some made → A
+pub not_made : {A : Type 0} (made : Stored) (o : Option Stored) → o ≡ None → o ≡ Some made → A
 not_made made o e e' = let both : Some made ≡ None = sym e' ∙ e in let never : ⊥ = cc in absurd never
 
 pub given_one : (given : ℕ → Option Stored) → IsOne (GivenBy given)

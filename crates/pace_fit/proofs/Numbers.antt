@@ -20,7 +20,7 @@ use Rattle.paced_images.specs.Proposed.{IsProposalPaced}
 use Rattle.pace_fit.specs.declared.preparing.Prepared.{Prepared}
 use Rattle.pace_fit.specs.Fitting.{Gives, HasEnergy, HasEnergyIfAny, IsHoldEnergy, IsProposed, IsRewriteEnergy}
 use Rattle.pace_fit.specs.Finding.{AreLoaded, IsHeldTrial, IsPreparing, IsProposalTried, counted_inputs, given_inputs}
-use Rattle.pace_fit.proofs.Fits.{GivenBy, Stored, given_one}
+use Rattle.pace_fit.proofs.Fits.{GivenBy, Stored, given_one, not_made}
 
 -- ---- results
 
@@ -52,6 +52,12 @@ module _ (files : Files) where
       → IsTrialOrOf (λ k answer. Gives (Some made) answer) files.image.now files.machine.now files.loops.now (given_inputs files) c tried
   made_is made c tried h = tried_or (GivenBy (λ _. Some made)) (given_one (λ _. Some made)) files.image.now files.machine.now files.loops.now (given_inputs files) (Ok made) c tried refl h
 
+  -- what a call made of a proposal
+  pub image_made : (proposal : Proposal) (result : Result (Option (Vec ℕ Global × Summary)) Stop) (made : Vec ℕ Global × Summary) → result ≡ Ok (Some made) →
+      AnswersBy (option_map (λ given. (given.0.items, given.1))) result (IsProposalPaced files.image.now files.machine.now files.loops.now proposal) → IsProposalPaced files.image.now files.machine.now files.loops.now proposal (Ok (Some (made.0.items, made.1)))
+  image_made proposal result made e h =
+      subst (λ (r : Result (Option (Vec ℕ Global × Summary)) Stop). AnswersBy {X = Option (Vec ℕ Global × Summary)} {Y = Option Stored} (option_map (λ given. (given.0.items, given.1))) r (IsProposalPaced files.image.now files.machine.now files.loops.now proposal)) e h
+
   -- the trial of its image
   pub proposal_tried : {E : Type 0} (proposal : Proposal) (c : ℕ) (result : Result (Option Trial) E) (made : Vec ℕ Global × Summary) →
       IsProposalPaced files.image.now files.machine.now files.loops.now proposal (Ok (Some (made.0.items, made.1))) → IfOk result (IsTried files.image.now files.machine.now files.loops.now (given_inputs files) c (Ok made))
@@ -61,10 +67,7 @@ module _ (files : Files) where
 
   -- none of a proposal of which nothing is given
   pub proposal_out : (proposal : Proposal) (c : ℕ) → IsProposed files.image.now files.machine.now files.loops.now proposal None → IsProposalTried files proposal c None
-  proposal_out proposal c h = record { given = None; proposed = h; tried_is = λ stored summary energy t. (let never : ⊥ = no_trial stored summary t.answer_is in never) }
-    where
-      no_trial : (stored : List ℕ) (summary : Summary) → None ≡ Some (stored, summary) → ⊥
-      no_trial stored summary e = cc
+  proposal_out proposal c h = record { given = None; proposed = h; tried_is = λ stored summary energy t. not_made (stored, summary) None refl t.answer_is }
 
   -- ---- energies
 

@@ -1,21 +1,18 @@
 -- One level, one pair of levels, or one input more of a bound.
-use Rattle.std.proofs.Common.{◌≡◌, ℕ, zero, suc, ◌+◌, ◌-◌, ◌*◌, ◌^◌, ◌/◌, ◌<◌, ◌≤◌, Bool, true, false, List, [], ◌∷◌, map, length, take, get_or, Ok, refl, sym, ap, ◌∙◌, subst, arith, inl, inr}
-use Rattle.std.specs.Prelude.{min, max, fold, sum_by, Vec}
+use Rattle.std.proofs.Common.{◌≡◌, ℕ, zero, suc, ◌+◌, ◌-◌, ◌*◌, ◌^◌, ◌/◌, ◌<◌, ◌≤◌, Bool, true, false, cond, List, [], ◌∷◌, ◌++◌, map, length, take, get_or, refl, sym, ap, ◌∙◌, subst, arith, inl, inr}
+use Rattle.std.specs.Prelude.{min, max, fold, sum_by}
 use Rattle.std.specs.List.{filter, range_with_len}
-use Rattle.std.specs.declared.alloc.Global.{Global}
 use Rattle.std.proofs.lemmas.Bool.Decides.{eqb_tells}
 use Rattle.std.proofs.lemmas.List.FromFn.{map-range_with_len_more}
 use Rattle.std.proofs.lemmas.List.Sums.{fold_more, fold-append, sum_by_push}
-use Rattle.std.proofs.lemmas.List.{length-map}
-use Rattle.std.proofs.Math.Seq.{take-length}
+use Rattle.std.proofs.lemmas.List.{append-nil, take_all}
+use Rattle.std.proofs.lemmas.List.Elements.{filter_more}
 use Rattle.std.proofs.Math.Nat.{div-le_self, max-le, min-le_left, mul-le-mul}
 use Rattle.power_model.specs.declared.power.Level.{Level}
 use Rattle.power_model.specs.Levels.{AreRanked, IsSlower, level, no_level}
 use Rattle.power_model.specs.Numbers.{PowerModel}
-use Rattle.machine_file.specs.Machine.{read_machine}
-use Rattle.gain_tuner.specs.Spending.{counts, counting}
-use Rattle.gain_tuner.proofs.Laws.{flag_at, input_at, input_below, items_of, kept_more, left_more}
-use Rattle.pace_fit.specs.Least.{IsLeastOver, bound_at, bound_with, cycles_on, greatest, least_energy, pair_bound}
+use Rattle.pace_fit.specs.declared.endings.Ending.{Ending}
+use Rattle.pace_fit.specs.Least.{bound_at, bound_with, greatest, least_energy, pair_bound}
 
 -- ---- levels
 
@@ -82,17 +79,19 @@ bound_small paid deadline b h = let le = div-le_self (paid - deadline) b in omeg
 
 -- ---- runs
 
--- one more of those that count, or one that doesn't
-pub least_in : (f : Ending → ℕ) (p : Ending → Bool) (xs : List Ending) (k : ℕ) (d : Ending) (b : Bool) (energy : ℕ) → k < length xs → b ≡ p (get_or xs k d) → energy ≡ sum_by f (filter p (take k xs)) →
-    energy + cond b (f (get_or xs k d)) 0 ≡ sum_by f (filter p (take (k + 1) xs))
-least_in f p xs k d b energy lt is e = ap (λ n. n + cond b (f (get_or xs k d)) 0) e ∙ (sym (one b is) ∙ ap (sum_by f) (sym (filter_more p xs k d lt)))
-  where
-    x : Ending
-    x = get_or xs k d
+-- one run more, which counts or doesn't
+one_run : (f : Ending → ℕ) (x : Ending) (before : List Ending) (b : Bool) → sum_by f (before ++ cond b (x ∷ []) []) ≡ sum_by f before + cond b (f x) 0
+one_run f x before true = sum_by_push f before x
+one_run f x before false = ap (sum_by f) (append-nil before) ∙ omega arith
 
-    one : (b : Bool) → b ≡ p x → sum_by f (filter p (take k xs) ++ cond (p x) (x ∷ []) []) ≡ sum_by f (filter p (take k xs)) + cond b (f x) 0
-    one true h = ap (λ q. sum_by f (filter p (take k xs) ++ cond q (x ∷ []) [])) (sym h) ∙ sum_by_push f (filter p (take k xs)) x
-    one false h = ap (λ q. sum_by f (filter p (take k xs) ++ cond q (x ∷ []) [])) (sym h) ∙ (ap (sum_by f) (append-nil (filter p (take k xs))) ∙ omega arith)
+pub least_in : (f : Ending → ℕ) (p : Ending → Bool) (xs : List Ending) (k : ℕ) (d : Ending) (energy one : ℕ) → k < length xs → one ≡ cond (p (get_or xs k d)) (f (get_or xs k d)) 0 → energy ≡ sum_by f (filter p (take k xs)) →
+    energy + one ≡ sum_by f (filter p (take (k + 1) xs))
+least_in f p xs k d energy one lt is e =
+    ap (λ n. n + one) e ∙ (ap (λ n. sum_by f (filter p (take k xs)) + n) is
+    ∙ (sym (one_run f (get_or xs k d) (filter p (take k xs)) (p (get_or xs k d))) ∙ ap (sum_by f) (sym (filter_more p xs k d lt))))
+
+pub least_all : (f : Ending → ℕ) (p : Ending → Bool) (xs : List Ending) (k energy : ℕ) → length xs ≤ k → energy ≡ sum_by f (filter p (take k xs)) → energy ≡ sum_by f (filter p xs)
+least_all f p xs k energy long e = e ∙ ap (λ (ys : List Ending). sum_by f (filter p ys)) (take_all k xs long)
 
 pub small_more : (k energy one : ℕ) → energy ≤ k * 2 ^ 121 → one ≤ 2 ^ 121 → energy + one ≤ (k + 1) * 2 ^ 121
 small_more k energy one h h' = omega arith

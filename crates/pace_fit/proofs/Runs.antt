@@ -22,7 +22,7 @@ cycles_as : (r : Result Report Refusal) → (ending_by r).cycles ≡ cycles_by r
 cycles_as (Ok report) = refl
 cycles_as (Err refusal) = refl
 
-pub flags_over : (p : List ℕ → Bool) (inputs : List (Vec ℕ Global)) → map p (map (λ v. v.items) inputs) ≡ map (λ v. p v.items) inputs
+pub flags_over : {A : Type 0} (p : List ℕ → A) (inputs : List (Vec ℕ Global)) → map p (map (λ v. v.items) inputs) ≡ map (λ v. p v.items) inputs
 flags_over p [] = refl
 flags_over p (v ∷ inputs) = ap (λ bs. p v.items ∷ bs) (flags_over p inputs)
 
@@ -44,20 +44,17 @@ module _ (image machine loops : List ℕ) where
     abbrev by_input : List ℕ → ℕ
     by_input input = least_energy power (cycles_on image machine loops input)
 
+    one_input : (x : List ℕ) (runs : List Ending) (inputs : List (List ℕ)) (b : Bool) → sum_by by_run runs ≡ sum_by by_input inputs →
+        sum_by by_run (cond b (ending_on image machine loops x ∷ runs) runs) ≡ sum_by by_input (cond b (x ∷ inputs) inputs)
+    one_input x runs inputs true rest = sum_by-cons by_run (ending_on image machine loops x) runs ∙ (ap (λ n. least_energy power n + sum_by by_run runs) (cycles_of x)
+        ∙ (ap (λ n. by_input x + n) rest ∙ sym (sum_by-cons by_input x inputs)))
+    one_input x runs inputs false rest = rest
+
     least_are : (inputs : List (List ℕ)) → sum_by by_run (filter is_counted (endings_on image machine loops inputs)) ≡ sum_by by_input (counting image machine loops inputs)
     least_are [] = refl
-    least_are (x ∷ inputs) = ap (λ b. sum_by by_run (cond b (ending ∷ runs) runs)) (counted_on x) ∙ one (counts image machine loops x)
-      where
-        ending : Ending
-        ending = ending_on image machine loops x
-
-        runs : List Ending
-        runs = filter is_counted (endings_on image machine loops inputs)
-
-        one : (b : Bool) → sum_by by_run (cond b (ending ∷ runs) runs) ≡ sum_by by_input (cond b (x ∷ counting image machine loops inputs) (counting image machine loops inputs))
-        one true = sum_by-cons by_run ending runs ∙ (ap (λ n. least_energy power n + sum_by by_run runs) (cycles_of x)
-            ∙ (ap (λ n. by_input x + n) (least_are inputs) ∙ sym (sum_by-cons by_input x (counting image machine loops inputs))))
-        one false = least_are inputs
+    least_are (x ∷ inputs) =
+        ap (λ b. sum_by by_run (cond b (ending_on image machine loops x ∷ filter is_counted (endings_on image machine loops inputs)) (filter is_counted (endings_on image machine loops inputs)))) (counted_on x)
+        ∙ one_input x (filter is_counted (endings_on image machine loops inputs)) (counting image machine loops inputs) (counts image machine loops x) (least_are inputs)
 
     pub least_found : (inputs : List (List ℕ)) (endings : List Ending) (energy : ℕ) → read_machine machine ≡ Ok power → endings ≡ endings_on image machine loops inputs → energy ≡ sum_by by_run (filter is_counted endings) →
         IsLeastOver image machine loops (counting image machine loops inputs) energy

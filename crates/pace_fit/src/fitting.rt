@@ -149,6 +149,12 @@ pub fn choose(
         inputs,
         flags: &prepared.flags,
     };
-    let held = (prepared.stored.clone()?, prepared.summary);
-    fit(alloc, &files, held, prepared, proposals)
+    let stored = Vec::from_slice(alloc, &prepared.stored)?;
+    fit(
+        alloc,
+        &files,
+        (stored, prepared.summary),
+        prepared,
+        proposals,
+    )
 }

@@ -39,13 +39,13 @@ pub fn prepare(
     ensures { AnswersBy (λ p. p) result (IsPreparing image.now machine.now loops.now (map (λ input. input.items) inputs.now)) }
 {
     let power = read_machine(alloc, machine)?;
-    let (stored, summary) = hold(alloc, image, machine, loops)?;
+    let held = hold(alloc, image, machine, loops)?;
     let endings = endings_of(alloc, image, machine, loops, inputs)?;
     let flags = flags_of(alloc, &endings)?;
     Ok(Prepared {
         power,
-        stored,
-        summary,
+        stored: held.0,
+        summary: held.1,
         endings,
         flags,
     })

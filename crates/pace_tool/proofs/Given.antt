@@ -13,7 +13,7 @@ use Rattle.pace_fit.specs.declared.fitting.Fitted.{Fitted}
 use Rattle.pace_fit.specs.Endings.{ending_on, endings_on}
 use Rattle.pace_fit.specs.Fitting.{IsFitted}
 use Rattle.host_runs.specs.declared.reply.Reply.{Reply}
-use Rattle.host_runs.specs.Answer.{Answer, Tells, refused, stored_answer}
+use Rattle.host_runs.specs.Answer.{Tells, refused, stored_answer}
 use Rattle.host_runs.specs.Views.{files_view, reply_view}
 use Rattle.pace_tool.specs.Answer.{Fits, MakesFit}
 use Rattle.pace_tool.specs.Texts.{fitted_text}
@@ -32,11 +32,8 @@ module _ (image machine loops : List ℕ) (inputs : List (List ℕ)) (out : List
   fit_told proposals endings bytes text fitted (Ok reply) fits saves safe are told is = record {
     given = Ok (bytes, fitted);
     is_given = record { fitting = fits; safe = record { safe = safe; saves = saves } };
-    told = is ∙ ap (λ (t : List ℕ). answer t) (told ∙ ap (λ (es : List Ending). fitted_text es proposals fitted) are);
+    told = is ∙ ap (λ (t : List ℕ). record { stores = (out, bytes) ∷ []; text = t; status = 0 }) (told ∙ ap (λ (es : List Ending). fitted_text es proposals fitted) are);
   }
-    where
-      answer : List ℕ → Answer
-      answer t = record { stores = (out, bytes) ∷ []; text = t; status = 0 }
   fit_told proposals endings bytes text fitted (Err no_memory) fits saves safe are told is = tt
 
   -- of some proposals

@@ -42,7 +42,7 @@ fn chosen_of(
     ensures { let endings = endings_on files.now.image.now files.now.machine.now files.now.loops.now (files_view inputs.now.items.now) in
         IfOk result (λ reply. Tells (Fits files.now.image.now files.now.machine.now files.now.loops.now (files_view inputs.now.items.now) proposals.now) (stored_answer (texts.fitted_text endings proposals.now) out.now) (reply_view reply)) }
 {
-    let (bytes, fitted) = choose(
+    let given = choose(
         alloc,
         files.image,
         files.machine,
@@ -51,8 +51,8 @@ fn chosen_of(
         prepared,
         proposals,
     )?;
-    let text = fitted_text(alloc, &prepared.endings, proposals, &fitted)?;
-    Reply::of_file(alloc, out, bytes, text, 0)
+    let text = fitted_text(alloc, &prepared.endings, proposals, &given.1)?;
+    Reply::of_file(alloc, out, given.0, text, 0)
 }
 
 // What `fit` gives for a prepared program.

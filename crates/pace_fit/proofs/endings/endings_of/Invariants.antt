@@ -1,11 +1,11 @@
 use Rattle.std.proofs.Common.{◌≡◌, ◌≤◌, ◌^◌, map, take}
 use Rattle.std.specs.List.{All}
-use Rattle.pace_fit.specs.Endings.{endings_on}
+use Rattle.pace_fit.specs.Endings.{ending_on}
 use Rattle.pace_fit.proofs.endings.endings_of.Given as goal
 
 -- the endings so far
 abbrev pub invariant-loop-input : goal.invariant-loop-input
 invariant-loop-input l = record {
-  are : l.endings.items ≡ endings_on l.image l.machine l.loops (map (λ input. input.items) (take l.input-index l.inputs));
+  are : l.endings.items ≡ map (λ input. ending_on l.image l.machine l.loops input.items) (take l.input-index l.inputs);
   small : All (λ ending. ending.cycles ≤ 2 ^ 56) l.endings.items;
 }

@@ -16,4 +16,4 @@ fit-requires-clause-files c = record {
 
 pub fit-requires-clause-held : goal.fit-requires-clause-held
 fit-requires-clause-held c =
-    subst (λ (bytes : List ℕ). IsHeld c.args.image.now c.args.machine.now c.args.loops.now (Ok (bytes, c.args.prepared.now.summary))) (sym c.in_ok-clone.ensures.items) c.requires.prepared.held
+    subst (λ (bytes : List ℕ). IsHeld c.args.image.now c.args.machine.now c.args.loops.now (Ok (bytes, c.args.prepared.now.summary))) (sym (c.in_ok-stored.ensures.items ∙ c.deref-2.ensures.value)) c.requires.prepared.held

@@ -1,4 +1,9 @@
-use Rattle.std.proofs.Common.{◌∙◌}
+use Rattle.std.proofs.Common.{List, ap, ◌∙◌}
+use Rattle.std.specs.Prelude.{sum_by}
+use Rattle.std.specs.List.{filter}
+use Rattle.pace_fit.specs.declared.endings.Ending.{Ending}
+use Rattle.pace_fit.specs.Endings.{is_counted}
+use Rattle.pace_fit.specs.Least.{least_energy}
 use Rattle.pace_fit.proofs.Built.{chosen_useful}
 use Rattle.pace_fit.proofs.Numbers.{counted, flags_few, held_trial_is, hold_found, if_ok, left_of}
 use Rattle.pace_fit.proofs.Runs.{least_found}
@@ -21,7 +26,8 @@ returns-clause-fitted c =
       chosen = c.in_ok-best.ensures.chosen;
       hold = hold_found files (c.args.held.0.items, c.args.held.1) c.in_ok-first.first c.requires.held c.in_ok-first.ensures;
       rewrite = c.in_ok-rewrite_energy.ensures;
-      least = least_found files.image.now files.machine.now files.loops.now p.power (given_inputs files) p.endings.items c.least_over-least_energy.result c.requires.prepared.power_is c.requires.prepared.endings c.least_over-least_energy.ensures;
+      least = least_found files.image.now files.machine.now files.loops.now p.power (given_inputs files) p.endings.items c.least_over-least_energy.result c.requires.prepared.power_is c.requires.prepared.endings
+          (c.least_over-least_energy.ensures ∙ ap (λ (es : List Ending). sum_by (λ ending. least_energy p.power ending.cycles) (filter is_counted es)) c.deref.ensures.value);
       inputs = c.inputs_of-inputs.ensures ∙ (counted files c.requires.files).count;
       left_out = left_of files c.requires.files c.inputs_of-inputs.result c.left_out_of-left_out.result c.inputs_of-inputs.ensures c.left_out_of-left_out.ensures;
     }

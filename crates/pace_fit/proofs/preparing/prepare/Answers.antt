@@ -8,7 +8,7 @@ use Rattle.pace_fit.proofs.Runs.{flags_are}
 use Rattle.pace_fit.proofs.preparing.prepare.Goals as goal
 
 pub endings_of-requires : goal.endings_of-requires
-endings_of-requires c = ((c.in_ok-hold.stored.items, c.in_ok-hold.summary), c.in_ok-hold.ensures.given)
+endings_of-requires c = ((c.in_ok-held.held.0.items, c.in_ok-held.held.1), c.in_ok-held.ensures.given)
 
 pub returns-in_err-power : goal.returns-in_err-power
 returns-in_err-power c =
@@ -19,7 +19,7 @@ pub returns : goal.returns
 returns c = record {
   power_is = c.in_ok-power.ensures.answers;
   in_range = c.in_ok-power.ensures.in_range;
-  held = c.in_ok-hold.ensures.given;
+  held = c.in_ok-held.ensures.given;
   endings = c.in_ok-endings.ensures.endings;
   small = c.in_ok-endings.ensures.small;
   flags = c.in_ok-flags.ensures ∙ (ap (map is_counted) (c.deref.ensures.value ∙ c.in_ok-endings.ensures.endings) ∙ flags_are c.args.image.now c.args.machine.now c.args.loops.now (items_of c.args.inputs.now));

@@ -12,5 +12,5 @@ fitted_text-requires c =
 pub returns : goal.returns
 returns c =
     let files = c.args.files.now in
-    fit_told files.image.now files.machine.now files.loops.now (files_view c.args.inputs.now.items.now) c.args.out.now c.args.proposals.now c.args.prepared.now.endings.items c.in_ok-choose.bytes.items _ c.in_ok-choose.fitted c.of_file.result
-    c.in_ok-choose.ensures.fitted c.in_ok-choose.ensures.saves c.in_ok-choose.ensures.safe c.requires.prepared.endings c.in_ok-text.ensures c.of_file.ensures
+    fit_told files.image.now files.machine.now files.loops.now (files_view c.args.inputs.now.items.now) c.args.out.now c.args.proposals.now c.args.prepared.now.endings.items c.in_ok-given.given.0.items _ c.in_ok-given.given.1 c.of_file.result
+    c.in_ok-given.ensures.fitted c.in_ok-given.ensures.saves c.in_ok-given.ensures.safe c.requires.prepared.endings c.in_ok-text.ensures c.of_file.ensures
