@@ -1,6 +1,6 @@
 //! The texts that the program prints.
 
-ghost use Rattle.std.specs.Prelude.{◌≡◌, ◌+◌, ◌++◌, ◌≤◌, length, IfOk, OnOk, Some, string_bytes};
+ghost use Rattle.std.specs.Prelude.{◌≡◌, ◌++◌, ◌≤◌, length, IfOk, OnOk, Some, string_bytes};
 ghost use Rattle.scale_report.specs.Texts.{number_line, numbered_lines};
 ghost use Rattle.pace_tool.specs.Texts.{fitted_text, form_name, left_line, left_line_if, proposal_lines, rewrite_line, switch_line, switch_lines, switches_text, tally_line, tally_lines};
 
