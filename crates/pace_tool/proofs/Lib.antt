@@ -1,6 +1,7 @@
 mod Given
 mod GivenInputs
 mod InputNamed
+mod LeftLines
 mod OneStatus
 mod Promises
 mod SwitchLines

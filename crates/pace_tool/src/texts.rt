@@ -1,6 +1,6 @@
 //! The texts that the program prints.
 
-ghost use Rattle.std.specs.Prelude.{◌≡◌, ◌++◌, ◌≤◌, length, IfOk, OnOk, Some, string_bytes};
+ghost use Rattle.std.specs.Prelude.{◌≡◌, ◌+◌, ◌++◌, ◌≤◌, length, IfOk, OnOk, Some, string_bytes};
 ghost use Rattle.scale_report.specs.Texts.{number_line, numbered_lines};
 ghost use Rattle.pace_tool.specs.Texts.{fitted_text, form_name, left_line, left_line_if, proposal_lines, rewrite_line, switch_line, switch_lines, switches_text, tally_line, tally_lines};
 
@@ -52,7 +52,7 @@ fn push_left_if(text: &mut String, number: u32, ending: &Ending) -> Result<(), A
 }
 
 // Adds those lines, of inputs that are numbered from a number on.
-#[tactic(auto, unfolding(scale_report::specs::Texts::numbered_lines))]
+#[tactic(auto, using(crate::proofs::LeftLines::left_more, crate::proofs::LeftLines::left_none))]
 fn push_left_out(text: &mut String, number: u32, endings: &[Ending]) -> Result<(), AllocError>
     requires { number + length endings.now ≤ 1000 }
     ensures { OnOk result (string_bytes text.new ≡ string_bytes text.old ++ numbered_lines left_line_if number endings.now) }
