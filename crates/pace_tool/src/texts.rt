@@ -52,7 +52,7 @@ fn push_left_if(text: &mut String, number: u32, ending: &Ending) -> Result<(), A
 }
 
 // Adds those lines, of inputs that are numbered from a number on.
-#[tactic(auto, using(crate::proofs::LeftLines::left_more, crate::proofs::LeftLines::left_none))]
+#[tactic(auto, using(crate::proofs::LeftLines::left_more))]
 fn push_left_out(text: &mut String, number: u32, endings: &[Ending]) -> Result<(), AllocError>
     requires { number + length endings.now ≤ 1000 }
     ensures { OnOk result (string_bytes text.new ≡ string_bytes text.old ++ numbered_lines left_line_if number endings.now) }
