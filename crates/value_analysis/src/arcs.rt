@@ -1,0 +1,224 @@
+//! What two intervals have together, and what they may grow to.
+
+ghost use Rattle.std.specs.Prelude.{◌≡◌, ◌≤◌, ◌<◌, ◌^◌, true};
+ghost use Rattle.wrapped_intervals.specs.Small.{IsKept, IsKeptOr};
+
+use crate::thresholds::{Threshold, Whose};
+use wrapped_intervals::{Arc, covers, word};
+
+/// How many words there are.
+pub const WORDS: u64 = 4_294_967_296;
+
+/// How far a threshold may be from the end of an interval that grows to it.
+const FAR: u64 = 2_147_483_648;
+
+/// How far past a threshold a step may go.
+const NEAR: u64 = 2048;
+
+// Whether an interval is short enough to be kept.
+fn is_short(a: Arc) -> bool
+    ensures { result ≡ true → IsKept a }
+{
+    a.low() < WORDS && a.more() < WORDS && a.stride() < WORDS
+}
+
+// An interval of all that is in one whose stride is too great.
+fn without_stride(a: Arc) -> Option<Arc>
+    ensures { IsKeptOr result }
+{
+    if a.low() < WORDS && a.more() < WORDS {
+        Some(Arc::of(a.low(), a.more()))
+    } else {
+        None
+    }
+}
+
+/// An interval that is short enough to be kept, and has what this one has.
+pub fn kept(arc: Option<Arc>) -> Option<Arc>
+    ensures { IsKeptOr result }
+{
+    match arc {
+        Some(a) => {
+            if is_short(a) {
+                Some(a)
+            } else {
+                without_stride(a)
+            }
+        }
+        None => None,
+    }
+}
+
+/// Whether an interval holds another.
+pub fn holds(a: Option<Arc>, b: Option<Arc>) -> bool {
+    covers(kept(a), kept(b))
+}
+
+/// The numbers of one interval, or those of the other, whichever is shorter.
+pub fn shorter(a: Option<Arc>, b: Option<Arc>) -> Option<Arc> {
+    match (a, b) {
+        (Some(i), Some(j)) => { if i.more() < j.more() { a } else { b } }
+        (None, _) => b,
+        (_, None) => a,
+    }
+}
+
+// How far a word is behind another, modulo 2^32.
+fn ahead(low: u64, value: u64) -> u64
+    ensures { result < 2 ^ 32 }
+{
+    (value % WORDS + (WORDS - low % WORDS)) % WORDS
+}
+
+// The greatest common divisor, where 0 is a multiple of all.
+fn common_divisor(mut a: u64, mut b: u64) -> u64 {
+    while b != 0 {
+        let rest = a % b;
+        a = b;
+        b = rest;
+    }
+    a
+}
+
+// The least interval from a word on that holds both.
+fn both_from(low: u64, a: Arc, b: Arc) -> Option<Arc> {
+    let to_a = ahead(low, a.low());
+    let to_b = ahead(low, b.low());
+    let more = to_a
+        .saturating_add(a.more())
+        .max(to_b.saturating_add(b.more()));
+    if more >= WORDS - 1 {
+        return word();
+    }
+    let stride = common_divisor(
+        common_divisor(a.stride(), b.stride()),
+        common_divisor(to_a, to_b),
+    );
+    Some(Arc::strided(low, more, stride))
+}
+
+/// An interval that holds both. Nothing is known where nothing is of one.
+pub fn joined(a: Option<Arc>, b: Option<Arc>) -> Option<Arc> {
+    match (a, b) {
+        (Some(i), Some(j)) => shorter(both_from(i.low(), i, j), both_from(j.low(), i, j)),
+        _ => None,
+    }
+}
+
+// How far below the first number of an interval the nearest threshold is, rounded to the interval's stride.
+fn nearest_below(arc: Arc, whose: Whose, thresholds: &[Threshold]) -> Option<u64> {
+    let mut nearest = None;
+    let stride = arc.stride().max(1);
+    for threshold in thresholds {
+        let far = ahead(u64::from(threshold.word), arc.low());
+        if threshold.is_for(whose) && far < FAR {
+            nearest = lesser(nearest, far - far % stride);
+        }
+    }
+    nearest
+}
+
+// How far behind the first number of an interval the nearest threshold is that isn't before its last, rounded so.
+fn nearest_above(arc: Arc, whose: Whose, thresholds: &[Threshold]) -> Option<u64> {
+    let mut nearest = None;
+    let stride = arc.stride().max(1);
+    for threshold in thresholds {
+        let far = ahead(arc.low(), u64::from(threshold.word));
+        let whole = far - far % stride;
+        if threshold.is_for(whose) && whole >= arc.more() && whole - arc.more() < FAR {
+            nearest = lesser(nearest, whole);
+        }
+    }
+    nearest
+}
+
+// Whether a threshold of a register is a little behind the first number of an interval, or a little before the last: what a loop's step goes past it.
+fn is_near(number: u64, register: u8, thresholds: &[Threshold]) -> bool {
+    for threshold in thresholds {
+        let far = ahead(number, u64::from(threshold.word));
+        if threshold.is_for(Whose::Of(register)) && far.min(WORDS - far) < NEAR {
+            return true;
+        }
+    }
+    false
+}
+
+fn lesser(least: Option<u64>, n: u64) -> Option<u64> {
+    match least {
+        Some(m) if m <= n => Some(m),
+        _ => Some(n),
+    }
+}
+
+// An interval that begins so much before this one, and ends so far behind its first number.
+fn stretched(arc: Arc, before: u64, more: u64) -> Option<Arc> {
+    let more = before.saturating_add(more);
+    if more >= WORDS - 1 {
+        return word();
+    }
+    Some(Arc::strided(ahead(before, arc.low()), more, arc.stride()))
+}
+
+// How far below its first number an interval that has grown begins.
+fn before_of(old: Arc, new: Arc, whose: Whose, thresholds: &[Threshold]) -> Option<u64> {
+    if new.low() == old.low() {
+        Some(0)
+    } else {
+        nearest_below(new, whose, thresholds)
+    }
+}
+
+// How far behind its first number it ends.
+fn more_of(old: Arc, new: Arc, whose: Whose, thresholds: &[Threshold]) -> Option<u64> {
+    if ahead(new.low(), old.low()).saturating_add(old.more()) >= new.more() {
+        Some(new.more())
+    } else {
+        nearest_above(new, whose, thresholds)
+    }
+}
+
+// How far below its first number an interval that is to grow begins: at a threshold of the register, where it does if one is near, or at another's.
+fn any_before(old: Arc, new: Arc, register: u8, thresholds: &[Threshold]) -> Option<u64> {
+    let own = before_of(old, new, Whose::Of(register), thresholds);
+    if own.is_none() && is_near(new.low(), register, thresholds) {
+        return Some(0);
+    }
+    own.or(before_of(old, new, Whose::OfAny, thresholds))
+}
+
+// And how far behind it ends.
+fn any_more(old: Arc, new: Arc, register: u8, thresholds: &[Threshold]) -> Option<u64> {
+    let own = more_of(old, new, Whose::Of(register), thresholds);
+    let last = new.low().saturating_add(new.more());
+    if own.is_none() && is_near(last, register, thresholds) {
+        return Some(new.more());
+    }
+    own.or(more_of(old, new, Whose::OfAny, thresholds))
+}
+
+/// An interval that has grown is stretched to the next threshold on each side on which it has: to one of the register, else by nothing where one is near or
+/// to one of another register if those are asked for, or to all words where there is none.
+pub fn widened(
+    old: Arc,
+    new: Arc,
+    register: u8,
+    others: bool,
+    thresholds: &[Threshold],
+) -> Option<Arc> {
+    let own = Whose::Of(register);
+    let (before, more) = if others {
+        (
+            any_before(old, new, register, thresholds),
+            any_more(old, new, register, thresholds),
+        )
+    } else {
+        (
+            before_of(old, new, own, thresholds),
+            more_of(old, new, own, thresholds),
+        )
+    };
+    match (before, more) {
+        (Some(before), Some(more)) => stretched(new, before, more),
+        _ => word(),
+    }
+}

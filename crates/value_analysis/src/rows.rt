@@ -1,0 +1,119 @@
+//! Rows of intervals, by register.
+
+ghost use Rattle.std.specs.Prelude.{◌≡◌, ◌<◌, length, true};
+ghost use Rattle.std.specs.List.{All};
+ghost use Rattle.wrapped_intervals.specs.Small.{IsKeptOr};
+
+use crate::arcs::{holds, joined, kept, shorter};
+use crate::tables::Row;
+use scale_base::Instr;
+use wrapped_intervals::{Arc, exactly, is_impossible, is_kept, keeps, passed, said_by};
+
+/// The stack pointer at the start of a run.
+const STACK_POINTER: u64 = 0x7FFF_FFF0;
+
+/// The row of 0 in each register.
+pub fn zeros() -> Row {
+    [exactly(0); 32]
+}
+
+/// The row of which nothing is known.
+pub fn unknown() -> Row {
+    [None; 32]
+}
+
+/// Puts a row in the place of another.
+pub fn put_row(row: &mut Row, other: &Row) {
+    for r in 0..32 {
+        row[r] = other[r];
+    }
+}
+
+/// The same row again.
+pub fn copy_of(row: &Row) -> Row {
+    let mut copy = unknown();
+    put_row(&mut copy, row);
+    copy
+}
+
+/// The row of the start of a run.
+pub fn starting_row() -> Row {
+    let mut row = zeros();
+    row[2] = exactly(STACK_POINTER);
+    row
+}
+
+/// Whether all intervals of a row are short enough to be kept.
+fn are_kept(row: &[Option<Arc>]) -> bool
+    ensures { result ≡ true → All IsKeptOr row.now }
+{
+    for arc in row {
+        if !is_kept(*arc) {
+            return false;
+        }
+    }
+    true
+}
+
+// What an instruction leaves in a register on the way to an address. Where it leaves the register, what was there is known too.
+fn passed_arc(i: Instr, pc: u32, next: u32, from: &[Option<Arc>], r: u8) -> Option<Arc>
+    requires size { length from.now ≡ 32 }
+    requires kept { All IsKeptOr from.now }
+    requires register { r < 32 }
+{
+    let arc = kept(passed(i, pc, next, from, r));
+    if keeps(r, i) {
+        shorter(arc, from[usize::from(r)])
+    } else {
+        arc
+    }
+}
+
+/// What an instruction leaves in the registers on the way to an address. None where no state goes there.
+pub fn passed_row(i: Instr, pc: u32, next: u32, from: &Row) -> Option<Row> {
+    if !are_kept(from) {
+        return Some(unknown());
+    }
+    if is_impossible(said_by(i, pc, next), from) {
+        return None;
+    }
+    let mut to = unknown();
+    for r in 0..32 {
+        to[usize::from(r)] = passed_arc(i, pc, next, from, r);
+    }
+    Some(to)
+}
+
+/// What the registers hold behind a call: what they held before, where the function that is called doesn't write them, or what they hold at its
+/// returns.
+pub fn row_behind(call: Instr, from: &Row, exit: &Row, calm: &[bool; 32]) -> Row {
+    let mut to = copy_of(exit);
+    for r in 1..32 {
+        let k = usize::from(r);
+        if calm[k] && keeps(r, call) {
+            to[k] = from[k];
+        }
+    }
+    to
+}
+
+/// Joins a row to another.
+pub fn join_row(row: &mut Row, other: &Row) {
+    for r in 1..32 {
+        if !holds(row[r], other[r]) {
+            row[r] = joined(row[r], other[r]);
+        }
+    }
+}
+
+/// Takes each interval of another row that this one's holds.
+pub fn narrow_row(row: &mut Row, other: &Row) -> bool {
+    let mut narrower = false;
+    for r in 1..32 {
+        if holds(row[r], other[r]) && !holds(other[r], row[r]) {
+            row[r] = other[r];
+            narrower = true;
+        }
+    }
+    narrower
+}

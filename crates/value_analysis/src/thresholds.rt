@@ -1,0 +1,87 @@
+//! Numbers at which an interval may stop to grow: those with which branches compare a register, and those beside them.
+
+use crate::arcs::WORDS;
+use scale_base::NoMemory;
+use wrapped_intervals::Arc;
+
+/// How many thresholds a function has at most.
+const MOST_THRESHOLDS: usize = 4096;
+
+/// The longest interval whose ends are taken.
+const LONGEST: u64 = 65_536;
+
+/// A number with which a register is compared, and whether it was the one number of the other register then.
+#[derive(Clone, Copy, Debug, PartialEq, Eq, PartialOrd, Ord, Drop)]
+pub struct Threshold {
+    register: u8,
+    pub word: u32,
+    exact: bool,
+}
+
+/// Whose thresholds are looked at: those of a register, or the one numbers that any is compared with.
+#[derive(Clone, Copy, Debug)]
+pub enum Whose {
+    Of(u8),
+    OfAny,
+}
+
+impl Threshold {
+    /// Whether it is one of those.
+    pub fn is_for(&self, whose: Whose) -> bool {
+        match whose {
+            Whose::Of(register) => self.register == register,
+            Whose::OfAny => self.exact,
+        }
+    }
+}
+
+fn add_threshold(thresholds: &mut Vec<Threshold>, threshold: Threshold) -> Result<(), NoMemory> {
+    if thresholds.len() < MOST_THRESHOLDS {
+        if let Err(place) = thresholds.binary_search(&threshold) {
+            thresholds.insert(place, threshold)?;
+        }
+    }
+    Ok(())
+}
+
+// A number, and those beside it.
+fn add_about(
+    thresholds: &mut Vec<Threshold>,
+    register: u8,
+    number: u32,
+    exact: bool,
+) -> Result<(), NoMemory> {
+    for word in [number.wrapping_sub(1), number, number.wrapping_add(1)] {
+        add_threshold(
+            thresholds,
+            Threshold {
+                register,
+                word,
+                exact,
+            },
+        )?;
+    }
+    Ok(())
+}
+
+// A number as a word.
+fn word_of(n: u64) -> u32 {
+    (n % WORDS) as u32
+}
+
+/// Adds the ends of an interval with which a register is compared. One that is long says nothing.
+pub fn add_ends(
+    thresholds: &mut Vec<Threshold>,
+    register: u8,
+    arc: Option<Arc>,
+) -> Result<(), NoMemory> {
+    if let Some(arc) = arc {
+        if arc.more() <= LONGEST {
+            let exact = arc.more() == 0;
+            let last = arc.low().saturating_add(arc.more());
+            add_about(thresholds, register, word_of(arc.low()), exact)?;
+            add_about(thresholds, register, word_of(last), exact)?;
+        }
+    }
+    Ok(())
+}
