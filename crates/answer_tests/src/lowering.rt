@@ -101,7 +101,7 @@ fn what_stands_for_far_calls_and_for_jumps_through_tables(rt: HostRuntime) -> Re
     ];
     for (image, jumps, counts, at, bytes) in rows {
         let (file, found) = lowered(alloc, image, jumps)?.ok().ok_or("lowered")?;
-        assert_eq!(rt; found, counts);
+        assert!(rt; found == counts);
         assert_eq!(rt; part_of(&file, at, bytes.len()), Some(bytes), "at {at}");
         if found.jumps == 0 {
             assert_eq!(rt; file.len(), image.len());

@@ -108,7 +108,7 @@ fn a_branch_that_saves_divisions_a_counted_loop_and_a_branch_of_little_slack(
         let (bytes, summary) = rewritten(alloc, &image, machine.as_str(), row.loops)?
             .ok()
             .ok_or("rewritten")?;
-        assert_eq!(rt; summary, row.summary);
+        assert!(rt; summary == row.summary);
         for (at, words) in row.stored {
             check_words(&rt, &bytes, at, words);
         }

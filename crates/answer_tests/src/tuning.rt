@@ -100,7 +100,7 @@ fn the_first_of_equal_candidates_or_one_level_where_it_is_the_cheapest(
         let (bytes, choice) = tuned(alloc, words, machine_for(deadline), NO_LOOPS, &[0])?
             .ok()
             .ok_or("tuned")?;
-        assert_eq!(rt; choice, expected);
+        assert!(rt; choice == expected);
         if choice.candidate == 1 {
             assert_eq!(rt; bytes.len(), 4216);
         }

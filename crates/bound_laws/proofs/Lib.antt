@@ -13,3 +13,4 @@ pub mod Frames
 pub mod ValueRuns
 pub mod LoadedBytes
 pub mod Deriving
+pub mod Laws

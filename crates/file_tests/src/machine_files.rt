@@ -264,12 +264,12 @@ fn reads_costs_and_levels(rt: HostRuntime) -> Result<(), Fail> {
         (28, 1_000_000, 20, 10)
     );
     assert_eq!(rt; power.levels.count(), 3);
-    assert_eq!(rt;
-        power.levels.get(1),
-        Level {
-            period: 2,
-            energy: 3
-        }
+    assert!(rt;
+        power.levels.get(1)
+            == Level {
+                period: 2,
+                energy: 3
+            }
     );
     Ok(())
 }

@@ -5,7 +5,7 @@ ghost use Rattle.std.specs.Prelude.{◌≡◌, vec_len};
 use crate::page_bytes::put_bytes;
 
 /// What a page says of all its bytes.
-#[derive(Clone, Copy, Debug, PartialEq, Eq)]
+#[derive(Clone, Copy, PartialEq, Eq)]
 pub enum PageUse {
     /// Each byte may be read, and none written or fetched.
     Readable,

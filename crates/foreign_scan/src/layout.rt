@@ -10,7 +10,7 @@ use scale_base::{KEY_FLAG, NoMemory};
 use std::alloc::Global;
 
 /// The place, the length and the flags of a segment.
-#[derive(Clone, Copy, Debug, PartialEq, Eq)]
+#[derive(Clone, Copy, PartialEq, Eq)]
 pub struct SegmentPlace {
     pub from: u32,
     pub len: u32,

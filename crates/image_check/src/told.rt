@@ -3,7 +3,7 @@
 ghost use Rattle.std.specs.Prelude.{◌<◌, ◌≤◌, ◌*◌, ◌^◌};
 
 /// What an edge tells its table, in cycles: its slack, what is left at most behind the store at the port, and at least, where an end is ahead.
-#[derive(Clone, Copy, Debug, Drop)]
+#[derive(Clone, Copy, Drop)]
 pub struct Told {
     pub slack: u64,
     pub left: u64,

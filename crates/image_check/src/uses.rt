@@ -23,7 +23,7 @@ pub const COUNTERS: usize = 511;
 
 /// What stands of a counter on some edges: how many counts, how many exits and resets, and whether each of these edges has at most one of each, only where it turns
 /// back or leaves the counter's loop.
-#[derive(Clone, Copy, Debug, Drop)]
+#[derive(Clone, Copy, Drop)]
 pub struct Tally {
     pub counts: usize,
     pub clears: usize,

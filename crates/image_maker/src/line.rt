@@ -4,7 +4,7 @@ use scale_base::{BranchOp, Instr};
 use std::alloc::{AllocError, AllocFailed};
 
 /// A line of assembly.
-#[derive(Clone, Copy, Debug, PartialEq, Eq)]
+#[derive(Clone, Copy, PartialEq, Eq)]
 pub enum Line {
     /// A label: it stands at the word that follows.
     Label(u32),

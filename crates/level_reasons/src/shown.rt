@@ -3,7 +3,7 @@
 use scale_base::Edge;
 
 /// Why a job at the starting level stays there on an edge, or to which level it goes.
-#[derive(Clone, Copy, Debug, PartialEq, Eq)]
+#[derive(Clone, Copy, PartialEq, Eq)]
 pub enum EdgeReason {
     /// It starts at the slowest level.
     AlreadySlowest,
@@ -17,7 +17,7 @@ pub enum EdgeReason {
 }
 
 /// An edge of a branch or of a jump, its slack in cycles, and its reason.
-#[derive(Clone, Copy, Debug, PartialEq, Eq)]
+#[derive(Clone, Copy, PartialEq, Eq)]
 pub struct EdgeLine {
     pub edge: Edge,
     pub slack: u64,
@@ -25,7 +25,7 @@ pub struct EdgeLine {
 }
 
 /// What a job at the starting level needs to go to the next lower level on a way out of a loop.
-#[derive(Clone, Copy, Debug, PartialEq, Eq)]
+#[derive(Clone, Copy, PartialEq, Eq)]
 pub enum LoopReason {
     /// It starts at the slowest level.
     AlreadySlowest,
@@ -39,7 +39,7 @@ pub enum LoopReason {
 }
 
 /// A loop by its number in the loop file, the address of its header, the most cycles of one turn, and its reason.
-#[derive(Clone, Copy, Debug, PartialEq, Eq)]
+#[derive(Clone, Copy, PartialEq, Eq)]
 pub struct LoopLine {
     pub number: u32,
     pub header: u32,

@@ -221,7 +221,7 @@ static WORDS: [(u32, Option<Instr>); 34] = [
 #[test]
 fn words_of_the_manual(rt: HostRuntime) {
     for (word, instr) in &WORDS {
-        assert_eq!(rt; decode(*word), *instr, "at {word}");
+        assert!(rt; decode(*word) == *instr, "at {word}");
         if let Some(instr) = instr {
             assert_eq!(rt; encode(instr), Some(*word), "at {word}");
         }

@@ -67,17 +67,14 @@ fn seen(monitor: &mut Monitor, steps: &[(u32, Move, u32)]) -> Kept {
 fn a_count_above_the_bound_breaks(rt: HostRuntime) -> Result<(), Fail> {
     let mut watch = monitor(&rt, &LOOPS[..2])?;
     let back = (20, Move::Local, 8);
-    assert_eq!(rt;
-        seen(&mut watch, &[(4, Move::Local, 8), back, back]),
-        Kept::Kept
-    );
+    assert!(rt; seen(&mut watch, &[(4, Move::Local, 8), back, back]) == Kept::Kept);
     let broken = Kept::BrokeBound {
         loop_no: 1,
         count: 3,
     };
-    assert_eq!(rt; seen(&mut watch, &[back]), broken);
-    assert_eq!(rt; seen(&mut watch, &[(4, Move::Local, 8)]), broken);
-    assert_eq!(rt; seen(&mut watch, &[(4, Move::Return, 8)]), broken);
+    assert!(rt; seen(&mut watch, &[back]) == broken);
+    assert!(rt; seen(&mut watch, &[(4, Move::Local, 8)]) == broken);
+    assert!(rt; seen(&mut watch, &[(4, Move::Return, 8)]) == broken);
     Ok(())
 }
 
@@ -85,20 +82,14 @@ fn a_count_above_the_bound_breaks(rt: HostRuntime) -> Result<(), Fail> {
 fn a_step_from_outside_the_extent_sets_the_count_to_0(rt: HostRuntime) -> Result<(), Fail> {
     let mut watch = monitor(&rt, &LOOPS[1..2])?;
     let back = (12, Move::Local, 16);
-    assert_eq!(rt;
-        seen(&mut watch, &[back, (20, Move::Local, 16), back]),
-        Kept::Kept
-    );
-    assert_eq!(rt;
-        seen(&mut watch, &[(20, Move::Local, 16), (16, Move::Local, 16)]),
-        Kept::Kept
-    );
-    assert_eq!(rt;
-        seen(&mut watch, &[(16, Move::Local, 16)]),
-        Kept::BrokeBound {
-            loop_no: 1,
-            count: 2
-        }
+    assert!(rt; seen(&mut watch, &[back, (20, Move::Local, 16), back]) == Kept::Kept);
+    assert!(rt; seen(&mut watch, &[(20, Move::Local, 16), (16, Move::Local, 16)]) == Kept::Kept);
+    assert!(rt;
+        seen(&mut watch, &[(16, Move::Local, 16)])
+            == Kept::BrokeBound {
+                loop_no: 1,
+                count: 2
+            }
     );
     Ok(())
 }
@@ -108,16 +99,13 @@ fn a_call_of_a_header_sets_its_count_to_0(rt: HostRuntime) -> Result<(), Fail> {
     let mut watch = monitor(&rt, &LOOPS[..1])?;
     let back = (20, Move::Local, 8);
     let call = (12, Move::Call, 8);
-    assert_eq!(rt;
-        seen(&mut watch, &[back, back, call, back, back, call, back]),
-        Kept::Kept
-    );
-    assert_eq!(rt;
-        seen(&mut watch, &[back, back]),
-        Kept::BrokeBound {
-            loop_no: 1,
-            count: 3
-        }
+    assert!(rt; seen(&mut watch, &[back, back, call, back, back, call, back]) == Kept::Kept);
+    assert!(rt;
+        seen(&mut watch, &[back, back])
+            == Kept::BrokeBound {
+                loop_no: 1,
+                count: 3
+            }
     );
     Ok(())
 }
@@ -129,16 +117,13 @@ fn a_step_to_a_slot_of_a_header_counts_nothing(rt: HostRuntime) -> Result<(), Fa
     let back = (20, Move::Local, 8);
     let inside = (8, Move::Local, 12);
     let beside = (20, Move::Local, 8 + 0x4_0000);
-    assert_eq!(rt;
-        seen(&mut watch, &[back, inside, beside, beside, inside, back]),
-        Kept::Kept
-    );
-    assert_eq!(rt;
-        seen(&mut watch, &[inside, back]),
-        Kept::BrokeBound {
-            loop_no: 1,
-            count: 3
-        }
+    assert!(rt; seen(&mut watch, &[back, inside, beside, beside, inside, back]) == Kept::Kept);
+    assert!(rt;
+        seen(&mut watch, &[inside, back])
+            == Kept::BrokeBound {
+                loop_no: 1,
+                count: 3
+            }
     );
     Ok(())
 }
@@ -148,20 +133,19 @@ fn a_return_comes_from_its_call(rt: HostRuntime) -> Result<(), Fail> {
     let mut watch = monitor(&rt, &[(24, 16, 28, 1), (28, 200, 204, 0)])?;
     let call = (20, Move::Call, 200);
     let back = (200, Move::Return, 24);
-    assert_eq!(rt; seen(&mut watch, &[call, back]), Kept::Kept);
-    assert_eq!(rt;
+    assert!(rt; seen(&mut watch, &[call, back]) == Kept::Kept);
+    assert!(rt;
         seen(
             &mut watch,
             &[(24, Move::Call, 200), (200, Move::Return, 28)]
-        ),
-        Kept::Kept
+        ) == Kept::Kept
     );
-    assert_eq!(rt;
-        seen(&mut watch, &[call, back]),
-        Kept::BrokeBound {
-            loop_no: 1,
-            count: 2
-        }
+    assert!(rt;
+        seen(&mut watch, &[call, back])
+            == Kept::BrokeBound {
+                loop_no: 1,
+                count: 2
+            }
     );
     Ok(())
 }
@@ -174,44 +158,35 @@ fn a_return_goes_to_the_last_address(rt: HostRuntime) -> Result<(), Fail> {
         (40, Move::Call, 80),
         (80, Move::Return, 44),
     ];
-    assert_eq!(rt; seen(&mut watch, &calls), Kept::Kept);
-    assert_eq!(rt; seen(&mut watch, &[(44, Move::Return, 4)]), Kept::Kept);
-    assert_eq!(rt;
-        seen(&mut watch, &[(48, Move::Return, 4)]),
-        Kept::BrokeReturn { at: 48, to: 4 }
-    );
+    assert!(rt; seen(&mut watch, &calls) == Kept::Kept);
+    assert!(rt; seen(&mut watch, &[(44, Move::Return, 4)]) == Kept::Kept);
+    assert!(rt; seen(&mut watch, &[(48, Move::Return, 4)]) == Kept::BrokeReturn { at: 48, to: 4 });
     let mut other = monitor(&rt, &[])?;
     let wrong = [
         (0, Move::Call, 40),
         (40, Move::Call, 80),
         (80, Move::Return, 4),
     ];
-    assert_eq!(rt;
-        seen(&mut other, &wrong),
-        Kept::BrokeReturn { at: 80, to: 4 }
-    );
+    assert!(rt; seen(&mut other, &wrong) == Kept::BrokeReturn { at: 80, to: 4 });
     Ok(())
 }
 
 #[test]
 fn the_rules_on_returns_come_first(rt: HostRuntime) -> Result<(), Fail> {
     let mut watch = monitor(&rt, &[(8, 0, 16, 0)])?;
-    assert_eq!(rt;
-        seen(&mut watch, &[(4, Move::Call, 12), (12, Move::Return, 8)]),
-        Kept::BrokeBound {
-            loop_no: 1,
-            count: 1
-        }
+    assert!(rt;
+        seen(&mut watch, &[(4, Move::Call, 12), (12, Move::Return, 8)])
+            == Kept::BrokeBound {
+                loop_no: 1,
+                count: 1
+            }
     );
     let mut other = monitor(&rt, &[(8, 0, 16, 0)])?;
-    assert_eq!(rt;
-        seen(&mut other, &[(0, Move::Call, 12), (12, Move::Return, 8)]),
-        Kept::BrokeReturn { at: 12, to: 8 }
+    assert!(rt;
+        seen(&mut other, &[(0, Move::Call, 12), (12, Move::Return, 8)])
+            == Kept::BrokeReturn { at: 12, to: 8 }
     );
-    assert_eq!(rt;
-        seen(&mut other, &[(8, Move::Local, 8)]),
-        Kept::BrokeReturn { at: 12, to: 8 }
-    );
+    assert!(rt; seen(&mut other, &[(8, Move::Local, 8)]) == Kept::BrokeReturn { at: 12, to: 8 });
     Ok(())
 }
 
@@ -225,26 +200,23 @@ fn the_least_of_two_loops_is_named(rt: HostRuntime) -> Result<(), Fail> {
         (8, 8, 12, 0),
     ];
     let mut watch = monitor(&rt, &loops)?;
-    assert_eq!(rt;
-        seen(&mut watch, &[(8, Move::Local, 8)]),
-        Kept::BrokeBound {
-            loop_no: 4,
-            count: 1
-        }
+    assert!(rt;
+        seen(&mut watch, &[(8, Move::Local, 8)])
+            == Kept::BrokeBound {
+                loop_no: 4,
+                count: 1
+            }
     );
     let mut twice = monitor(&rt, &LOOPS)?;
     let back = (20, Move::Local, 8);
-    assert_eq!(rt;
-        seen(&mut twice, &[back, (100, Move::Local, 8), back]),
-        Kept::Kept
-    );
-    assert_eq!(rt; seen(&mut twice, &[(8, Move::Local, 8)]), Kept::Kept);
-    assert_eq!(rt;
-        seen(&mut twice, &[(8, Move::Local, 8)]),
-        Kept::BrokeBound {
-            loop_no: 1,
-            count: 3
-        }
+    assert!(rt; seen(&mut twice, &[back, (100, Move::Local, 8), back]) == Kept::Kept);
+    assert!(rt; seen(&mut twice, &[(8, Move::Local, 8)]) == Kept::Kept);
+    assert!(rt;
+        seen(&mut twice, &[(8, Move::Local, 8)])
+            == Kept::BrokeBound {
+                loop_no: 1,
+                count: 3
+            }
     );
     Ok(())
 }
@@ -257,13 +229,10 @@ fn a_list_of_131073_addresses_breaks(rt: HostRuntime) -> Result<(), Fail> {
     for _ in 0..131_072 {
         kept = watch.see(&call);
     }
-    assert_eq!(rt; kept, Kept::Kept);
-    assert_eq!(rt; watch.see(&step(40, Move::Return, 44)), Kept::Kept);
-    assert_eq!(rt; watch.see(&call), Kept::Kept);
-    assert_eq!(rt;
-        watch.see(&step(44, Move::Call, 40)),
-        Kept::BrokeDepth { at: 44 }
-    );
+    assert!(rt; kept == Kept::Kept);
+    assert!(rt; watch.see(&step(40, Move::Return, 44)) == Kept::Kept);
+    assert!(rt; watch.see(&call) == Kept::Kept);
+    assert!(rt; watch.see(&step(44, Move::Call, 40)) == Kept::BrokeDepth { at: 44 });
     Ok(())
 }
 
@@ -273,23 +242,23 @@ fn a_loop_that_is_left_early_breaks(rt: HostRuntime) -> Result<(), Fail> {
     let back = (20, Move::Local, 8);
     let leave = (20, Move::Local, 24);
     let mut watch = turning_monitor(&rt, &LOOPS[..1], 2)?;
-    assert_eq!(rt; seen(&mut watch, &[enter, back]), Kept::Kept);
-    assert_eq!(rt;
-        seen(&mut watch, &[leave]),
-        Kept::BrokeBound {
-            loop_no: 1,
-            count: 1
-        }
+    assert!(rt; seen(&mut watch, &[enter, back]) == Kept::Kept);
+    assert!(rt;
+        seen(&mut watch, &[leave])
+            == Kept::BrokeBound {
+                loop_no: 1,
+                count: 1
+            }
     );
     let mut other = turning_monitor(&rt, &LOOPS[..1], 2)?;
     let turns = [enter, back, back, leave, (24, Move::Local, 28)];
-    assert_eq!(rt; seen(&mut other, &turns), Kept::Kept);
-    assert_eq!(rt;
-        seen(&mut other, &[enter, leave]),
-        Kept::BrokeBound {
-            loop_no: 1,
-            count: 0
-        }
+    assert!(rt; seen(&mut other, &turns) == Kept::Kept);
+    assert!(rt;
+        seen(&mut other, &[enter, leave])
+            == Kept::BrokeBound {
+                loop_no: 1,
+                count: 0
+            }
     );
     Ok(())
 }
@@ -297,19 +266,16 @@ fn a_loop_that_is_left_early_breaks(rt: HostRuntime) -> Result<(), Fail> {
 #[test]
 fn nine_of_ten_turns_are_too_few(rt: HostRuntime) -> Result<(), Fail> {
     let mut watch = turning_monitor(&rt, &[(4, 4, 12, 10)], 10)?;
-    assert_eq!(rt; seen(&mut watch, &[(0, Move::Local, 4)]), Kept::Kept);
+    assert!(rt; seen(&mut watch, &[(0, Move::Local, 4)]) == Kept::Kept);
     for _ in 0..9 {
-        assert_eq!(rt;
-            seen(&mut watch, &[(4, Move::Local, 8), (8, Move::Local, 4)]),
-            Kept::Kept
-        );
+        assert!(rt; seen(&mut watch, &[(4, Move::Local, 8), (8, Move::Local, 4)]) == Kept::Kept);
     }
-    assert_eq!(rt;
-        seen(&mut watch, &[(4, Move::Local, 8), (8, Move::Local, 12)]),
-        Kept::BrokeBound {
-            loop_no: 1,
-            count: 9
-        }
+    assert!(rt;
+        seen(&mut watch, &[(4, Move::Local, 8), (8, Move::Local, 12)])
+            == Kept::BrokeBound {
+                loop_no: 1,
+                count: 9
+            }
     );
     Ok(())
 }
@@ -324,14 +290,14 @@ fn calls_and_returns_leave_no_loop(rt: HostRuntime) -> Result<(), Fail> {
         (204, Move::Return, 24),
         (24, Move::Local, 28),
     ];
-    assert_eq!(rt; seen(&mut watch, &steps), Kept::Kept);
+    assert!(rt; seen(&mut watch, &steps) == Kept::Kept);
     let mut other = turning_monitor(&rt, &[(8, 8, 208, 2)], 2)?;
     let steps = [
         (300, Move::Call, 200),
         (200, Move::Local, 204),
         (204, Move::Return, 304),
     ];
-    assert_eq!(rt; seen(&mut other, &steps), Kept::Kept);
+    assert!(rt; seen(&mut other, &steps) == Kept::Kept);
     Ok(())
 }
 
@@ -341,28 +307,28 @@ fn the_least_of_both_kinds_is_named(rt: HostRuntime) -> Result<(), Fail> {
     let over = (40, 20, 24, 0);
     let step = [(20, Move::Local, 40)];
     let mut watch = turning_monitor(&rt, &[left, over], 1)?;
-    assert_eq!(rt;
-        seen(&mut watch, &step),
-        Kept::BrokeBound {
-            loop_no: 1,
-            count: 0
-        }
+    assert!(rt;
+        seen(&mut watch, &step)
+            == Kept::BrokeBound {
+                loop_no: 1,
+                count: 0
+            }
     );
     let mut other = turning_monitor(&rt, &[over, left], 1)?;
-    assert_eq!(rt;
-        seen(&mut other, &step),
-        Kept::BrokeBound {
-            loop_no: 1,
-            count: 1
-        }
+    assert!(rt;
+        seen(&mut other, &step)
+            == Kept::BrokeBound {
+                loop_no: 1,
+                count: 1
+            }
     );
     let mut twice = turning_monitor(&rt, &[(100, 0, 4, 9), left, left], 1)?;
-    assert_eq!(rt;
-        seen(&mut twice, &step),
-        Kept::BrokeBound {
-            loop_no: 2,
-            count: 0
-        }
+    assert!(rt;
+        seen(&mut twice, &step)
+            == Kept::BrokeBound {
+                loop_no: 2,
+                count: 0
+            }
     );
     Ok(())
 }
@@ -371,12 +337,12 @@ fn the_least_of_both_kinds_is_named(rt: HostRuntime) -> Result<(), Fail> {
 fn a_return_to_0_comes_from_the_last_word(rt: HostRuntime) -> Result<(), Fail> {
     let mut watch = monitor(&rt, &[(0, 0xFFFF_FFF0, 0xFFFF_FFFF, 0)])?;
     let call = (0xFFFF_FFFC, Move::Call, 200);
-    assert_eq!(rt;
-        seen(&mut watch, &[call, (200, Move::Return, 0)]),
-        Kept::BrokeBound {
-            loop_no: 1,
-            count: 1
-        }
+    assert!(rt;
+        seen(&mut watch, &[call, (200, Move::Return, 0)])
+            == Kept::BrokeBound {
+                loop_no: 1,
+                count: 1
+            }
     );
     Ok(())
 }
@@ -394,26 +360,24 @@ fn loops_of_one_slot_or_one_header_are_counted_apart(rt: HostRuntime) -> Result<
     let near = (20, Move::Local, 8);
     let far = (0x4_0014, Move::Local, 0x4_0008);
     let inner = (44, Move::Local, 40);
-    assert_eq!(rt;
+    assert!(rt;
         seen(
             &mut watch,
             &[near, far, far, inner, (4, Move::Local, 8), near]
-        ),
-        Kept::Kept
+        ) == Kept::Kept
     );
     let broken = Kept::BrokeBound {
         loop_no: 4,
         count: 2,
     };
-    assert_eq!(rt; seen(&mut watch, &[inner]), broken);
-    assert_eq!(rt; seen(&mut watch, &[near, far, inner]), broken);
+    assert!(rt; seen(&mut watch, &[inner]) == broken);
+    assert!(rt; seen(&mut watch, &[near, far, inner]) == broken);
     let mut other = monitor(&rt, &loops)?;
-    assert_eq!(rt;
+    assert!(rt;
         seen(
             &mut other,
             &[near, inner, far, (48, Move::Local, 40), inner]
-        ),
-        Kept::BrokeBound {
+        ) == Kept::BrokeBound {
             loop_no: 4,
             count: 2
         }

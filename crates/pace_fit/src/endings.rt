@@ -10,7 +10,7 @@ use scale_base::{End, Kept, NoMemory};
 use std::alloc::Global;
 
 /// How the run of the original on an input ends, whether it was kept, and its cycles.
-#[derive(Clone, Copy, Debug, PartialEq, Eq)]
+#[derive(Clone, Copy, PartialEq, Eq)]
 pub struct Ending {
     pub end: End,
     pub kept: Option<Kept>,

@@ -17,7 +17,7 @@ use scaler::rewrite;
 use std::alloc::Global;
 
 /// The choice of a fitting, in numbers.
-#[derive(Clone, Copy, Debug, PartialEq, Eq)]
+#[derive(Clone, Copy, PartialEq, Eq)]
 pub struct Fitted {
     /// The number of the chosen candidate: 0 is the image that runs at one level, k + 1 that of proposal k.
     pub candidate: u32,

@@ -10,7 +10,7 @@ use scale_base::Class;
 use std::marker::Model;
 
 /// One speed of the processor.
-#[derive(Clone, Copy, Debug, PartialEq, Eq)]
+#[derive(Clone, Copy, PartialEq, Eq)]
 pub struct Level {
     /// Time units per cycle.
     pub period: u32,
@@ -77,7 +77,7 @@ impl Levels {
 }
 
 /// The cycles of each class of instruction.
-#[derive(Clone, Copy, Debug, PartialEq, Eq)]
+#[derive(Clone, Copy, PartialEq, Eq)]
 pub struct Costs {
     pub alu: u16,
     pub load: u16,
@@ -112,7 +112,7 @@ impl Costs {
 }
 
 /// A number for each pair of levels: row i has that of a change from level i, its column l that of one to level l.
-#[derive(Clone, Copy, Debug, PartialEq, Eq)]
+#[derive(Clone, Copy, PartialEq, Eq)]
 pub struct PairTable {
     pub rows: [[u32; 8]; 8],
 }

@@ -20,7 +20,7 @@ pub struct SurveyLine {
 }
 
 /// What the lines of a survey come to. Energy, held energy and switches are those of the scaled runs.
-#[derive(Clone, Copy, Debug, PartialEq, Eq)]
+#[derive(Clone, Copy, PartialEq, Eq)]
 pub struct Totals {
     pub inputs: u32,
     /// The lines whose original run was kept.

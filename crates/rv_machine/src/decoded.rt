@@ -21,7 +21,7 @@ pub struct Decoded {
 }
 
 /// What an instruction did, besides what the machine shows.
-#[derive(Clone, Copy, Debug, PartialEq, Eq)]
+#[derive(Clone, Copy, PartialEq, Eq)]
 pub enum Effect {
     /// It went on to the machine's `pc`.
     Went,

@@ -14,7 +14,7 @@ pub enum EdgeKind {
 }
 
 /// An edge of a control-flow graph. `at` and `to` are addresses of instructions; of an `End` edge `to` is `at`.
-#[derive(Clone, Copy, Debug, PartialEq, Eq)]
+#[derive(Clone, Copy, PartialEq, Eq)]
 pub struct Edge {
     pub at: u32,
     pub kind: EdgeKind,

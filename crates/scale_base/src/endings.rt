@@ -3,7 +3,7 @@
 use crate::stepping::Trap;
 
 /// How a simulated run ended.
-#[derive(Clone, Copy, Debug, PartialEq, Eq)]
+#[derive(Clone, Copy, PartialEq, Eq)]
 pub enum End {
     /// The program exited with this status.
     Exited(u8),
@@ -14,7 +14,7 @@ pub enum End {
 }
 
 /// Whether a run kept the bounds of its loops and its return addresses; or what it broke first.
-#[derive(Clone, Copy, Debug, PartialEq, Eq)]
+#[derive(Clone, Copy, PartialEq, Eq)]
 pub enum Kept {
     Kept,
     /// A loop took more back edges than its bound since it was last entered, or it was left before it had taken as many as its

@@ -1,7 +1,7 @@
 //! Entries of the two tables of an ELF file.
 
 /// An entry of the program header table (System V ABI, chapter 5, `Elf32_Phdr`), without its alignment.
-#[derive(Clone, Copy, Debug, PartialEq, Eq)]
+#[derive(Clone, Copy, PartialEq, Eq)]
 pub struct ProgramHeader {
     pub p_type: u32,
     pub p_offset: u32,
@@ -13,7 +13,7 @@ pub struct ProgramHeader {
 }
 
 /// What is read of an entry of the section header table (System V ABI, chapter 4, `Elf32_Shdr`).
-#[derive(Clone, Copy, Debug, PartialEq, Eq)]
+#[derive(Clone, Copy, PartialEq, Eq)]
 pub struct SectionHeader {
     pub sh_type: u32,
     pub sh_flags: u32,

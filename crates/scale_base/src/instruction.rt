@@ -1,7 +1,7 @@
 //! Instructions (RISC-V unprivileged manual, RV32I and M).
 
 /// The comparison of a branch.
-#[derive(Clone, Copy, Debug, PartialEq, Eq)]
+#[derive(Clone, Copy, PartialEq, Eq)]
 pub enum BranchOp {
     Beq,
     Bne,
@@ -12,7 +12,7 @@ pub enum BranchOp {
 }
 
 /// The width of a load, and how it is extended.
-#[derive(Clone, Copy, Debug, PartialEq, Eq)]
+#[derive(Clone, Copy, PartialEq, Eq)]
 pub enum LoadOp {
     Lb,
     Lh,
@@ -22,7 +22,7 @@ pub enum LoadOp {
 }
 
 /// The width of a store.
-#[derive(Clone, Copy, Debug, PartialEq, Eq)]
+#[derive(Clone, Copy, PartialEq, Eq)]
 pub enum StoreOp {
     Sb,
     Sh,
@@ -30,7 +30,7 @@ pub enum StoreOp {
 }
 
 /// An operation on a register and a number of the instruction.
-#[derive(Clone, Copy, Debug, PartialEq, Eq)]
+#[derive(Clone, Copy, PartialEq, Eq)]
 pub enum ImmOp {
     Addi,
     Slti,
@@ -44,7 +44,7 @@ pub enum ImmOp {
 }
 
 /// An operation on two registers.
-#[derive(Clone, Copy, Debug, PartialEq, Eq)]
+#[derive(Clone, Copy, PartialEq, Eq)]
 pub enum RegOp {
     Add,
     Sub,
@@ -68,7 +68,7 @@ pub enum RegOp {
 
 /// An instruction of RV32IM. Registers are numbers from 0 to 31. The number of `Lui` and `Auipc` has its low 12 bits 0;
 /// offsets are in bytes.
-#[derive(Clone, Copy, Debug, PartialEq, Eq)]
+#[derive(Clone, Copy, PartialEq, Eq)]
 pub enum Instr {
     Lui {
         rd: u8,

@@ -8,14 +8,14 @@ pub struct Range {
 }
 
 /// So many addresses, or places in a file, from one on. It may end past 2^32.
-#[derive(Clone, Copy, Debug, PartialEq, Eq)]
+#[derive(Clone, Copy, PartialEq, Eq)]
 pub struct Span {
     pub from: u32,
     pub len: u32,
 }
 
 /// Addresses of text, and the place in the file where their bytes begin.
-#[derive(Clone, Copy, Debug, PartialEq, Eq)]
+#[derive(Clone, Copy, PartialEq, Eq)]
 pub struct TextPart {
     pub span: Span,
     pub place: u64,
@@ -29,7 +29,7 @@ pub struct Keyed {
 }
 
 /// The address of a word of text, and the word that takes its place.
-#[derive(Clone, Copy, Debug, PartialEq, Eq)]
+#[derive(Clone, Copy, PartialEq, Eq)]
 pub struct Patch {
     pub at: u32,
     pub word: u32,

@@ -7,7 +7,7 @@ use crate::names::{Cycle, Name};
 use std::alloc::{AllocError, AllocFailed};
 
 /// The fields of an ELF header that are tested, in the order of the tests (System V ABI, chapter 4, `Elf32_Ehdr`).
-#[derive(Clone, Copy, Debug, PartialEq, Eq)]
+#[derive(Clone, Copy, PartialEq, Eq)]
 pub enum Field {
     Class,
     Encoding,

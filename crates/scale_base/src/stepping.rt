@@ -16,7 +16,7 @@ pub enum Class {
 }
 
 /// Whether a step calls, returns, or does neither.
-#[derive(Clone, Copy, Debug, PartialEq, Eq)]
+#[derive(Clone, Copy, PartialEq, Eq)]
 pub enum Move {
     Local,
     Call,
@@ -24,7 +24,7 @@ pub enum Move {
 }
 
 /// A completed step.
-#[derive(Clone, Copy, Debug, PartialEq, Eq)]
+#[derive(Clone, Copy, PartialEq, Eq)]
 pub struct Stepped {
     /// The address of the instruction.
     pub pc: u32,
@@ -39,7 +39,7 @@ pub struct Stepped {
 }
 
 /// Why an instruction did not complete.
-#[derive(Clone, Copy, Debug, PartialEq, Eq)]
+#[derive(Clone, Copy, PartialEq, Eq)]
 pub enum TrapKind {
     Breakpoint,
     IllegalWord,
@@ -52,14 +52,14 @@ pub enum TrapKind {
 }
 
 /// An instruction that did not complete, and the address that it is about.
-#[derive(Clone, Copy, Debug, PartialEq, Eq)]
+#[derive(Clone, Copy, PartialEq, Eq)]
 pub struct Trap {
     pub kind: TrapKind,
     pub at: u32,
 }
 
 /// How a step ended: it went on, or the program exited with a status, or the instruction trapped.
-#[derive(Clone, Copy, Debug, PartialEq, Eq)]
+#[derive(Clone, Copy, PartialEq, Eq)]
 pub enum StepEnd {
     Went(Stepped),
     Exited(Stepped, u8),

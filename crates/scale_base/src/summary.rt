@@ -1,7 +1,7 @@
 //! The numbers that a command prints.
 
 /// What a rewriting found, in numbers.
-#[derive(Clone, Copy, Debug, PartialEq, Eq)]
+#[derive(Clone, Copy, PartialEq, Eq)]
 pub struct Summary {
     /// The starting level.
     pub start: u8,
@@ -24,7 +24,7 @@ pub struct Summary {
 }
 
 /// What was lowered: how many far jumps and how many noted jumps, the bytes of the block, and the greatest depth of a tree.
-#[derive(Clone, Copy, Debug, PartialEq, Eq)]
+#[derive(Clone, Copy, PartialEq, Eq)]
 pub struct Lowered {
     pub pairs: u32,
     pub jumps: u32,
@@ -33,7 +33,7 @@ pub struct Lowered {
 }
 
 /// The choice of a tuning, in numbers.
-#[derive(Clone, Copy, Debug, PartialEq, Eq)]
+#[derive(Clone, Copy, PartialEq, Eq)]
 pub struct Tuned {
     /// The number of the chosen candidate: 0 is the image that runs at one level.
     pub candidate: u32,

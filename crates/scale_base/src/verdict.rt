@@ -1,7 +1,7 @@
 //! What a check of an image of other make answers.
 
 /// Why an image is not known to be safe.
-#[derive(Clone, Copy, Debug, PartialEq, Eq)]
+#[derive(Clone, Copy, PartialEq, Eq)]
 pub enum Why {
     /// It is no image, by the number of the refusal.
     Image(u8),
@@ -31,7 +31,7 @@ pub enum Why {
 }
 
 /// What is found of an image that is safe, in numbers.
-#[derive(Clone, Copy, Debug, PartialEq, Eq)]
+#[derive(Clone, Copy, PartialEq, Eq)]
 pub struct Checked {
     /// The level of the keyed segment.
     pub start: u8,
@@ -46,7 +46,7 @@ pub struct Checked {
 }
 
 /// Whether an image is safe, or the first cause why it is not known to be.
-#[derive(Clone, Copy, Debug, PartialEq, Eq)]
+#[derive(Clone, Copy, PartialEq, Eq)]
 pub enum Verdict {
     Yes(Checked),
     No(Why),

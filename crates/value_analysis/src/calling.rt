@@ -40,7 +40,7 @@ fn leave_both(calm: &mut [Flags], caller: usize, called: usize) {
 }
 
 /// A call, by the numbers of the functions.
-#[derive(Clone, Copy, Debug, PartialEq, Eq, PartialOrd, Ord, Drop)]
+#[derive(Clone, Copy, PartialEq, Eq, PartialOrd, Ord, Drop)]
 struct CallPair {
     place: usize,
     caller: usize,

@@ -25,7 +25,7 @@ const ALL_FROM: u8 = 60;
 const MOST_JOINS: u8 = 100;
 
 /// How a row grows.
-#[derive(Clone, Copy, Debug, PartialEq, Eq)]
+#[derive(Clone, Copy, PartialEq, Eq)]
 pub enum Pace {
     /// By what flows to it alone.
     Joined,

@@ -11,7 +11,7 @@ use scale_base::{Instr, NoMemory};
 use std::alloc::Global;
 
 /// A node: its address, its instruction, the number of its function, and its ways.
-#[derive(Clone, Copy, Debug)]
+#[derive(Clone, Copy)]
 pub struct Node {
     pub at: u32,
     pub instr: Instr,

@@ -11,7 +11,7 @@ const MOST_THRESHOLDS: usize = 4096;
 const LONGEST: u64 = 65_536;
 
 /// A number with which a register is compared, and whether it was the one number of the other register then.
-#[derive(Clone, Copy, Debug, PartialEq, Eq, PartialOrd, Ord, Drop)]
+#[derive(Clone, Copy, PartialEq, Eq, PartialOrd, Ord, Drop)]
 pub struct Threshold {
     register: u8,
     pub word: u32,
@@ -19,7 +19,7 @@ pub struct Threshold {
 }
 
 /// Whose thresholds are looked at: those of a register, or the one numbers that any is compared with.
-#[derive(Clone, Copy, Debug)]
+#[derive(Clone, Copy)]
 pub enum Whose {
     Of(u8),
     OfAny,

@@ -5,7 +5,7 @@ ghost use Rattle.std.specs.Prelude.{◌<◌, length};
 use flow_graph::CodeGraph;
 
 /// What goes over an edge.
-#[derive(Clone, Copy, Debug)]
+#[derive(Clone, Copy)]
 pub enum WayKind {
     /// An instruction that is no call.
     Step,
@@ -20,7 +20,7 @@ pub enum WayKind {
 }
 
 /// A way from a node to another.
-#[derive(Clone, Copy, Debug)]
+#[derive(Clone, Copy)]
 pub struct Way {
     pub from: usize,
     pub to: usize,

@@ -1,5 +1,5 @@
 //! Whether the code of a program confirms a table of values: intervals of the registers at each node.
-//! Tests: crates/graph_tests/src/values.rt.
+//! Tests: crates/graph_tests/src/bounds.rt.
 #![tactic(auto)]
 
 mod bounds;

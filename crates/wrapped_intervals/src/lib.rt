@@ -1,6 +1,6 @@
 //! Intervals of words that may wrap round, and what the machine's instructions and branches make of them: the operations of
 //! `bound_laws`, as code.
-//! Tests: crates/machine_tests/src/intervals.rt.
+//! Tests: crates/graph_tests/src/bounds.rt.
 #![tactic(auto)]
 
 mod arcs;
