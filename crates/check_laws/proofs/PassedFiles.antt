@@ -13,8 +13,9 @@ use Rattle.stub_writer.specs.Stubs.{out_of_reach}
 use Rattle.rewritten_runs.specs.Stubs.{rewritten_file, marks_by_slack}
 use Rattle.rewritten_runs.proofs.Laws.{rewritten_follow}
 use Rattle.answer_parts.specs.Parts.{Then, unscaled}
-use Rattle.scaler.specs.Rewritten.{rewritten_summary}
-use Rattle.scaler.proofs.Laws.{near_of, rewritten_parts}
+use Rattle.marked_images.specs.Stored.{rewritten_summary}
+use Rattle.marked_images.proofs.Laws.{near_of}
+use Rattle.scaler.proofs.Laws.{rewritten_parts}
 use Rattle.image_check.specs.Checked.{IsPassed, IsFileVerdict, IsChecked}
 use Rattle.check_laws.specs.Passing.{checked_as, RewrittenFilesAreChecked}
 use Rattle.image_check.proofs.Laws.{rewritten_safe}

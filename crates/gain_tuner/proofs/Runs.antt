@@ -22,8 +22,9 @@ use Rattle.loop_file.specs.declared.notes.LoopNote.{LoopNote}
 use Rattle.loop_file.specs.Loops.{read_loops}
 use Rattle.speed_sim.specs.Simulated.{simulated, report_of, run_end, loops_allowed, level_allowed, given_notes}
 use Rattle.scaler.specs.Held.{IsHeld}
-use Rattle.scaler.specs.Promise.{IsStoredSafely}
-use Rattle.scaler.proofs.Laws.{held_parts, held_safe, found_below}
+use Rattle.marked_images.specs.Promise.{IsStoredSafely}
+use Rattle.scaler.proofs.Laws.{held_parts, held_safe}
+use Rattle.marked_images.proofs.Laws.{found_below}
 use Rattle.gain_tuner.specs.Finding.{RunsAlways}
 use Rattle.gain_tuner.specs.Spending.{ends_by_exit, was_kept, exits_kept, counts, unless_out_of_steps, spent_by, spent_on}
 

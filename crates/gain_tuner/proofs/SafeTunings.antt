@@ -1,7 +1,7 @@
 -- What is stored of a tuning is safe, whichever candidate it is.
 use Rattle.std.proofs.Common.{ℕ, ◌<◌, ◌≤◌, List, length, Ok, arith, inl, inr}
 use Rattle.scale_base.specs.declared.summary.Summary.{Summary}
-use Rattle.scaler.specs.Promise.{IsStoredSafely}
+use Rattle.marked_images.specs.Promise.{IsStoredSafely}
 use Rattle.scaler.proofs.Laws.{held_promise, rewritten_as_safe}
 use Rattle.gain_tuner.specs.Candidates.{IsCandidate}
 use Rattle.gain_tuner.specs.Safe.{TunedImagesAreSafe}

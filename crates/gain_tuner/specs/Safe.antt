@@ -2,7 +2,7 @@
 -- the image that runs at one level.
 use Rattle.std.specs.Prelude.{ℕ, ◌≤◌, List, length, Ok}
 use Rattle.scale_base.specs.declared.summary.Tuned.{Tuned}
-use Rattle.scaler.specs.Promise.{IsStoredSafely}
+use Rattle.marked_images.specs.Promise.{IsStoredSafely}
 use Rattle.gain_tuner.specs.Choice.{IsTuning}
 
 pub record IsTunedSafely (image machine loops stored : List ℕ) (tuned : Tuned) : Type 0 where

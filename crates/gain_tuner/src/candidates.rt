@@ -2,7 +2,7 @@
 
 ghost use Rattle.std.specs.Prelude.{◌≡◌, ◌≤◌, ◌<◌, ◌^◌, length, IfOk};
 ghost use Rattle.scale_base.specs.Answer.{AnswersBy};
-ghost use Rattle.scaler.specs.Promise.{IsStoredSafely};
+ghost use Rattle.marked_images.specs.Promise.{IsStoredSafely};
 ghost use Rattle.gain_tuner.specs.Candidates.{IsCandidate};
 
 use scale_base::{Stop, Summary};

@@ -2,7 +2,7 @@
 
 ghost use Rattle.std.specs.Prelude.{◌≡◌, ◌≤◌, ◌<◌, length, map, Ok, IfOk};
 ghost use Rattle.scaler.specs.Held.{IsHeld};
-ghost use Rattle.scaler.specs.Promise.{IsStoredSafely};
+ghost use Rattle.marked_images.specs.Promise.{IsStoredSafely};
 ghost use Rattle.gain_tuner.specs.Finding.{IsSafeTrial, IsSafeTrialOf, IsTrialOr, IsTried, IsSafeChoice, Made, cheaper_of};
 ghost use Rattle.gain_tuner.specs.Spending.{counts};
 

@@ -2,8 +2,8 @@
 
 use crate::loops::{CALL_AT_END, DEEP, FROM_START, NESTED, SIMPLE, TWO_ENTRIES, TWO_FUNCTIONS};
 use crate::programs::{
-    BACK_1, BACK_2, BACK_3, BRANCH_0, BRANCH_2, BREAKPOINT, ECALL, EXIT, JUMP_2, NO_OPERATION,
-    START, graph_of, image_of, loop_refusal_text,
+    BACK_1, BACK_2, BACK_3, BRANCH_0, BRANCH_2, BRANCH_3, BREAKPOINT, ECALL, EXIT, JUMP_2,
+    JUMP_BACK_3, NO_OPERATION, START, graph_of, image_of, loop_refusal_text,
 };
 use loop_drafts::{FoundLoop, draft_loops, filled_text, find_loops, printed_text};
 use scale_base::{Refusal, Stop};
@@ -127,33 +127,89 @@ fn draft_text(alloc: Global, words: &[u32]) -> Result<String, Fail> {
 }
 
 const NESTED_TEXT: &str = "# draft of loops: 2 loops, 2 without a bound
+# where no bound is known, count the back edges that one entry takes at most, and write them there as bound = N
 version = 2
 
 # loop 1: 0x00010004, depth 1
 [[loop]]
 header = 0x00010004
 ranges = [[0x00010004, 0x00010014]]
-# no bound: count the back edges that one entry takes at most, and write them here as bound = N
+# no bound: no register goes on by a constant each turn, between limits that are known
 
 # loop 2: 0x00010008, within loop 1, depth 2
 [[loop]]
 header = 0x00010008
 ranges = [[0x00010008, 0x00010010]]
-# no bound: count the back edges that one entry takes at most, and write them here as bound = N
+# no bound: no register goes on by a constant each turn, between limits that are known
 ";
 
-const ASIDE_TEXT: &str = "# draft of loops: 0 loops, 0 without a bound
+const ASIDE_TEXT: &str = "# draft of loops: 1 loops, 1 without a bound
+# where no bound is known, count the back edges that one entry takes at most, and write them there as bound = N
 # irreducible, no loop: entered at 0x00010004 and 0x0001000c
 version = 2
+
+# loop 1: 0x00010014, depth 1
+[[loop]]
+header = 0x00010014
+ranges = [[0x00010014, 0x00010018]]
+# no bound: none is looked for where code that turns is entered at several places
 ";
+
+/// Words 1 to 4 turn back to word 1, and word 0 also leads to word 3; word 5 turns back to itself.
+const ASIDE_AND_ITSELF: [u32; 8] = [
+    BRANCH_3,
+    NO_OPERATION,
+    BRANCH_3,
+    NO_OPERATION,
+    JUMP_BACK_3,
+    BRANCH_0,
+    EXIT,
+    ECALL,
+];
 
 #[test]
 fn drafts_are_printed_with_the_numbers_of_their_loops(rt: HostRuntime) -> Result<(), Fail> {
     let alloc = rt.alloc();
     let nested = draft_text(alloc, &NESTED)?;
     assert_eq!(rt; nested.as_str(), NESTED_TEXT);
-    let aside = draft_text(alloc, &TWO_ENTRIES)?;
+    let aside = draft_text(alloc, &ASIDE_AND_ITSELF)?;
     assert_eq!(rt; aside.as_str(), ASIDE_TEXT);
+    Ok(())
+}
+
+/// Register 5 goes from 10 down to 0.
+const COUNTS_DOWN: [u32; 5] = [TEN_TO_5, ONE_LESS_IN_5, BACK_IF_5, EXIT, ECALL];
+
+const TEN_TO_5: u32 = 0x00A0_0293;
+
+const ONE_LESS_IN_5: u32 = 0xFFF2_8293;
+
+/// Back by a word while register 5 isn't 0.
+const BACK_IF_5: u32 = 0xFE02_9EE3;
+
+const COUNTS_DOWN_TEXT: &str = "# draft of loops: 1 loops, 0 without a bound
+version = 2
+
+# loop 1: 0x00010004, depth 1
+[[loop]]
+header = 0x00010004
+ranges = [[0x00010004, 0x0001000c]]
+# x5 goes down by 1 or more each turn, and its values at the header span 9
+bound = 9
+";
+
+#[test]
+fn bounds_that_the_code_shows_are_printed(rt: HostRuntime) -> Result<(), Fail> {
+    let alloc = rt.alloc();
+    let image = image_of(alloc, &COUNTS_DOWN)?;
+    let Ok(draft) = draft_loops(alloc, &image) else {
+        return Err("a draft".into());
+    };
+    assert_eq!(rt; (draft.loops, draft.proved, draft.unbounded), (1, 1, 0));
+    let text = printed_text(alloc, &draft.pieces)
+        .ok()
+        .ok_or("there is memory")?;
+    assert_eq!(rt; text.as_str(), COUNTS_DOWN_TEXT);
     Ok(())
 }
 
@@ -164,11 +220,12 @@ fn bounds_are_filled_in_where_none_is_known(rt: HostRuntime) -> Result<(), Fail>
     let Ok(draft) = draft_loops(alloc, &image) else {
         return Err("a draft".into());
     };
-    assert_eq!(rt; (draft.loops, draft.unbounded, draft.aside), (1, 1, 0));
+    let counts = (draft.loops, draft.proved, draft.unbounded, draft.aside);
+    assert_eq!(rt; counts, (1, 0, 1, 0));
     let text = filled_text(alloc, &draft.pieces, 12)
         .ok()
         .ok_or("there is memory")?;
-    assert!(rt; text.as_str().ends_with("= N\nbound = 12\n"));
+    assert!(rt; text.as_str().ends_with("are known\nbound = 12\n"));
     Ok(())
 }
 

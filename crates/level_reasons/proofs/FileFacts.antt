@@ -11,7 +11,7 @@ use Rattle.loop_file.specs.declared.notes.LoopNote.{LoopNote}
 use Rattle.loop_file.specs.Loops.{read_loops}
 use Rattle.answer_parts.specs.Parts.{unscaled}
 use Rattle.scaler.specs.Held.{IsHeld, IsHeldProgram}
-use Rattle.scaler.proofs.Laws.{HoldAnswers, then_goes, then_stops}
+use Rattle.marked_images.proofs.Laws.{HoldAnswers, then_goes, then_stops}
 use Rattle.level_reasons.specs.declared.shown.Shown.{Shown}
 use Rattle.level_reasons.specs.Program.{IsShownProgram, AreReasons}
 

@@ -27,8 +27,8 @@ use Rattle.least_cycles.specs.Found.{HasWorstInRange}
 use Rattle.rewritten_runs.specs.Stubs.{plain_weights}
 use Rattle.rewritten_runs.proofs.Laws.{listed_weights, weights_listed, weights_hold, numbers_listed}
 use Rattle.scaler.specs.Held.{IsHeldProgram, held_at, held_from, held_within}
-use Rattle.scaler.specs.Scalings.{chosen_level, starting_of}
-use Rattle.scaler.proofs.Laws.{found_below}
+use Rattle.marked_images.specs.Scalings.{chosen_level, starting_of}
+use Rattle.marked_images.proofs.Laws.{found_below}
 use Rattle.level_reasons.specs.declared.shown.Shown.{Shown}
 use Rattle.level_reasons.specs.Program.{IsShownProgram}
 

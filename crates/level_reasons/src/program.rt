@@ -17,9 +17,10 @@ use least_cycles::least;
 use loop_file::{LoopNotes, read_loops};
 use loop_tree::build_loops;
 use machine_file::read_machine;
+use marked_images::starting_level;
 use power_model::Power;
 use scale_base::Stop;
-use scaler::{starting_level, weights_of};
+use scaler::weights_of;
 use std::alloc::Global;
 use worst_cycles::worst;
 

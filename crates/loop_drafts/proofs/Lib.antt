@@ -2,4 +2,8 @@ pub mod SameShape
 pub mod Stopping
 pub mod Lines
 pub mod Keys
-pub mod Taken
+pub mod Lists
+pub mod Counts
+pub mod Keeping
+pub mod Promises
+pub mod Laws

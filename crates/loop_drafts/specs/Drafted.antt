@@ -1,6 +1,7 @@
--- What drafting the loop file of an image answers. No bound is known to be too low: a loop whose bound isn't known stands without one, and the file
+-- What drafting the loop file of an image answers. Each bound is derived from the code: a loop whose bound isn't known stands without one, and the file
 -- is drafted only where the loops are taken as it notes them.
-use Rattle.std.specs.Prelude.{codes, ◌≡◌, ℕ, ◌<◌, ◌≤◌, ◌⊎◌, List, length, count_by, Option, Some, None, Result, Ok, Err}
+use Rattle.std.specs.Prelude.{codes, ◌≡◌, ℕ, ◌^◌, ◌<◌, ◌≤◌, ◌⊎◌, Bool, true, false, List, length, count_by, Option, Some, None, Result, Ok, Err}
+use Rattle.std.specs.List.{All}
 use Rattle.scale_base.specs.declared.ranges.Keyed.{Keyed}
 use Rattle.scale_base.specs.declared.refusal.Refusal.{Refusal}
 use Rattle.scale_base.specs.declared.refusal.Refusal.TheVariants.{AlreadyScaled, TooManyLoops, TooLarge}
@@ -13,11 +14,16 @@ use Rattle.loop_file.specs.Loops.{read_loops}
 use Rattle.loop_forest.specs.Tree.{LoopView, IsTreeOf, IsTreeBuilt}
 use Rattle.loop_drafts.specs.declared.drafted.Piece.{Piece}
 use Rattle.loop_drafts.specs.declared.drafted.LoopDraft.{LoopDraft}
+use Rattle.loop_drafts.specs.Bounds.{most_turns, is_bounded, NeedNotTurn, AreBoundsFound}
 use Rattle.loop_drafts.specs.Pieces.{filled}
 
 -- the file with the greatest bound for each loop that has none
 abbrev pub filled_most : List Piece → List ℕ
-filled_most pieces = filled 1000000000 pieces
+filled_most pieces = filled most_turns pieces
+
+-- with bounds filled in, the file of pieces is short enough to be loaded
+abbrev pub IsShort : List Piece → Type 0
+IsShort pieces = length (filled_most pieces) ≤ 1048576
 
 -- ---- a draft
 
@@ -30,35 +36,47 @@ AreTried v notes (Some refusal) = IsTreeBuilt v notes (Err refusal)
 abbrev pub AreTaken : FlowGraph → List LoopNote → ℕ → Type 0
 AreTaken v notes aside = AreTried v notes None ⊎ ((0 < aside) × ((refusal : Refusal) × AreTried v notes (Some refusal)))
 
--- The pieces of a loop file of the image: with bounds filled in it is short enough to be loaded and is read, and its loops are taken.
-pub record AreTakenPieces (original : Image) (v : FlowGraph) (pieces : List Piece) (loops aside : ℕ) : Type 0 where
-  pub notes : List LoopNote
-  pub short : length (filled_most pieces) ≤ 1048576
+-- the file of pieces is read as these notes, whose loops are taken
+pub record AreReadAs (original : Image) (v : FlowGraph) (pieces : List Piece) (notes : List LoopNote) (aside : ℕ) : Type 0 where
+  pub short : IsShort pieces
   pub read : read_loops original (filled_most pieces) ≡ Ok notes
-  pub loops_are : loops ≡ length notes
   pub taken : AreTaken v notes aside
+
+-- The pieces of a loop file of the image: how many loops it has, and how many of them with a bound that is derived from the code.
+pub record AreTakenPieces (original : Image) (v : FlowGraph) (pieces : List Piece) (loops proved aside : ℕ) : Type 0 where
+  pub notes : List LoopNote
+  pub file : AreReadAs original v pieces notes aside
+  pub bounds : AreBoundsFound original notes
+  pub least : All NeedNotTurn notes
+  pub loops_are : loops ≡ length notes
+  pub proved_are : proved ≡ count_by is_bounded notes
 
 -- the draft of an image's loop file
 pub record IsDraftOf (original : Image) (draft : LoopDraft) : Type 0 where
   pub graph : FlowGraph
   pub graph_is : IsGraphOf (text_of original) graph
-  pub pieces : AreTakenPieces original graph draft.pieces.items draft.loops draft.aside
+  pub pieces : AreTakenPieces original graph draft.pieces.items draft.loops draft.proved draft.aside
   -- how many loops have no bound
   pub unbounded : draft.unbounded ≡ count_by (λ piece. piece.is_open) draft.pieces.items
+  pub aside_fits : draft.aside < 2 ^ 64
 
 -- ---- refusals
 
--- Why pieces are refused: the file is too long, or what the call answers that reads it or builds its loops.
+-- Why the file of pieces isn't read: it is too long, or what the call answers that reads it.
+abbrev pub ArePiecesUnread : Image → List Piece → Refusal → Type 0
+ArePiecesUnread original pieces refusal =
+    ((1048576 < length (filled_most pieces)) × (refusal ≡ TooLarge (codes "LOOPS"))) ⊎ (IsShort pieces × (read_loops original (filled_most pieces) ≡ Err refusal))
+
+-- Why pieces are refused: their file isn't read, or what the call answers that builds its loops.
 abbrev pub ArePiecesRefused : Image → FlowGraph → List Piece → Refusal → Type 0
 ArePiecesRefused original v pieces refusal =
-    ((1048576 < length (filled_most pieces)) × (refusal ≡ TooLarge (codes "LOOPS")))
-    ⊎ ((read_loops original (filled_most pieces) ≡ Err refusal)
-    ⊎ ((notes : List LoopNote) × (read_loops original (filled_most pieces) ≡ Ok notes) × IsTreeBuilt v notes (Err refusal)))
+    ArePiecesUnread original pieces refusal
+    ⊎ ((notes : List LoopNote) × IsShort pieces × (read_loops original (filled_most pieces) ≡ Ok notes) × IsTreeBuilt v notes (Err refusal))
 
 -- Why the loops of a graph have no draft: there are more than 4,096, or their pieces are refused.
 abbrev pub AreLoopsUndrafted : Image → FlowGraph → Refusal → Type 0
 AreLoopsUndrafted original v refusal =
-    ((count : ℕ) × (4096 < count) × (refusal ≡ TooManyLoops count))
+    ((count : ℕ) × (4096 < count) × (count < 2 ^ 32) × (refusal ≡ TooManyLoops count))
     ⊎ ((pieces : List Piece) × ArePiecesRefused original v pieces refusal)
 
 -- Why an image has none: its keyed segment, its code, or its loops.
@@ -70,10 +88,27 @@ IsImageUndrafted original refusal =
 
 -- ---- answers
 
--- for pieces: how many loops their file has
-abbrev pub ArePiecesChecked : Image → FlowGraph → List Piece → ℕ → Result ℕ Refusal → Type 0
-ArePiecesChecked original v pieces aside (Ok loops) = AreTakenPieces original v pieces loops aside
-ArePiecesChecked original v pieces aside (Err refusal) = ArePiecesRefused original v pieces refusal
+-- for the file of pieces: its notes
+abbrev pub ArePiecesRead : Image → List Piece → Result (List LoopNote) Refusal → Type 0
+ArePiecesRead original pieces (Ok notes) = IsShort pieces × (read_loops original (filled_most pieces) ≡ Ok notes)
+ArePiecesRead original pieces (Err refusal) = ArePiecesUnread original pieces refusal
+
+-- for the loops of notes: that they are taken, or why they aren't
+abbrev pub AreNotesTaken : FlowGraph → List LoopNote → ℕ → Result (Unit {0}) Refusal → Type 0
+AreNotesTaken v notes aside (Ok _) = AreTaken v notes aside
+AreNotesTaken v notes aside (Err refusal) = IsTreeBuilt v notes (Err refusal)
+
+-- for pieces whose file is to have these notes: whether it has
+abbrev pub ArePiecesChecked : Image → FlowGraph → List Piece → List LoopNote → ℕ → Result Bool Refusal → Type 0
+ArePiecesChecked original v pieces notes aside (Ok true) = AreReadAs original v pieces notes aside
+ArePiecesChecked original v pieces notes aside (Ok false) = Unit {0}
+ArePiecesChecked original v pieces notes aside (Err refusal) = ArePiecesRefused original v pieces refusal
+
+-- for bounds, where the file that is made with them has them
+abbrev pub IsDraftTried : Image → FlowGraph → Result (Option LoopDraft) Refusal → Type 0
+IsDraftTried original v (Ok (Some draft)) = IsDraftOf original draft
+IsDraftTried original v (Ok None) = Unit {0}
+IsDraftTried original v (Err refusal) = AreLoopsUndrafted original v refusal
 
 -- for the graph of an image's code
 abbrev pub IsGraphDrafted : Image → FlowGraph → Result LoopDraft Refusal → Type 0

@@ -6,29 +6,77 @@ use scale_base::NoMemory;
 use std::alloc::Global;
 use std::fmt;
 
-/// What is known of the back edges that one entry of a loop takes: at most and at least so many, and whether they are to be counted; and why no bound is known.
-#[derive(Clone, Copy, Drop)]
-pub struct Draft {
-    pub bound: Option<u32>,
-    pub at_least: Option<u32>,
-    pub counted: bool,
-    pub reason: Reason,
+/// A register that each turn of a loop moves on by `step` at least, up or down, and that is within a span of `width` numbers at the header.
+#[derive(Clone, Copy)]
+pub struct Counter {
+    pub register: u8,
+    pub falls: bool,
+    pub step: u32,
+    pub width: u32,
+}
+
+impl Counter {
+    /// How many turns the span allows.
+    pub fn bound(&self) -> u32 {
+        self.width.checked_div(self.step).unwrap_or(u32::MAX)
+    }
+}
+
+/// What is known of the back edges that one entry of a loop takes at most: the counter that bounds them, or why there is none.
+#[derive(Clone, Copy)]
+pub enum Draft {
+    Bounded(Counter),
+    Open(Reason),
+}
+
+impl Draft {
+    /// Whether no bound is known.
+    pub fn is_open(&self) -> bool {
+        matches!(self, Draft::Open(_))
+    }
 }
 
 /// Why no bound of a loop is known.
-#[derive(Clone, Copy, Debug, PartialEq, Eq, Drop)]
+#[derive(Clone, Copy)]
 pub enum Reason {
-    /// None was looked for.
+    /// None was looked for yet.
     NotSought,
+    /// No register is found that each turn moves on by constants, within a span that is known at the header.
+    NoCounter,
+    /// The span of its counter is too wide for a bound.
+    TooWide,
+    /// The code doesn't confirm the counter that is found.
+    NotConfirmed,
+    /// Some code that turns is entered at several places, so that no loops are taken.
+    EnteredAside,
+    /// The code doesn't confirm the numbers that are found for its registers.
+    NotAnalysed,
+    /// The graph is too large for a look at each of its loops.
+    TooLarge,
 }
 
 impl fmt::Display for Reason {
     fn fmt<W: fmt::Write>(&self, f: &mut fmt::Formatter<W>) -> fmt::Result {
         match self {
-            Reason::NotSought => write!(
-                f,
-                "count the back edges that one entry takes at most, and write them here as bound = N"
-            ),
+            Reason::NotSought => write!(f, "none was looked for"),
+            Reason::NoCounter => {
+                write!(
+                    f,
+                    "no register goes on by a constant each turn, between limits that are known"
+                )
+            }
+            Reason::TooWide => write!(f, "the limits of its counter are too far apart"),
+            Reason::NotConfirmed => write!(f, "the code doesn't confirm its counter"),
+            Reason::EnteredAside => {
+                write!(
+                    f,
+                    "none is looked for where code that turns is entered at several places"
+                )
+            }
+            Reason::NotAnalysed => {
+                write!(f, "the values of the registers could not be worked out")
+            }
+            Reason::TooLarge => write!(f, "the program is too large for a look at each loop"),
         }
     }
 }
@@ -37,11 +85,5 @@ impl fmt::Display for Reason {
 pub fn unknown(alloc: Global, count: usize) -> Result<Vec<Draft>, NoMemory>
     ensures { IfOk result (λ known. vec_len known ≡ count) }
 {
-    let draft = Draft {
-        bound: None,
-        at_least: None,
-        counted: false,
-        reason: Reason::NotSought,
-    };
-    Ok(vec![in alloc; draft; count]?)
+    Ok(vec![in alloc; Draft::Open(Reason::NotSought); count]?)
 }

@@ -15,12 +15,13 @@ pub struct Piece {
     pub is_open: bool,
 }
 
-/// A drafted loop file: its pieces, how many loops it has and how many of them without a bound, and how many parts of the code turn that are no loops,
-/// since they are entered at several places.
+/// A drafted loop file: its pieces, how many loops it has, how many of them with a bound that is derived from the code and how many without one, and how many
+/// parts of the code turn that are no loops, since they are entered at several places.
 #[derive(Drop)]
 pub struct LoopDraft {
     pub pieces: Vec<Piece>,
     pub loops: usize,
+    pub proved: usize,
     pub unbounded: usize,
     pub aside: usize,
 }

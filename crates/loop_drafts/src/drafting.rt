@@ -1,28 +1,30 @@
 //! The draft of an image's loop file, and whether its loops are taken.
 
-ghost use Rattle.std.specs.Prelude.{◌≡◌, codes, IfOk, None};
+ghost use Rattle.std.specs.Prelude.{◌≡◌, codes, length, IfOk, None};
+ghost use Rattle.std.specs.List.{All};
 ghost use Rattle.scale_base.specs.Answer.{AnswersBy, Refuses};
 ghost use Rattle.scale_base.specs.declared.refusal.Refusal.TheVariants.{TooLarge};
 ghost use Rattle.code_text.specs.Text.{text_of};
 ghost use Rattle.flow_graph.specs.FlowGraph.{IsGraphOf};
-ghost use Rattle.loop_drafts.specs.Drafted.{AreTried, ArePiecesChecked, IsGraphDrafted, IsDraftedImage, IsDrafted};
+ghost use Rattle.loop_drafts.specs.Bounds.{AreBoundsFound, NeedNotTurn};
+ghost use Rattle.loop_drafts.specs.Drafted.{AreTried, AreNotesTaken, ArePiecesRead, ArePiecesChecked, IsDraftTried, IsGraphDrafted, IsDraftedImage, IsDrafted};
 
-use crate::draft::unknown;
+use crate::bounds::{Bounds, find_bounds, open_all};
+use crate::draft::{Reason, unknown};
 use crate::drafted::{LoopDraft, Piece, count_open, filled_text};
-use crate::names::names_of;
+use crate::found::FoundLoops;
+use crate::names::{Names, names_of};
+use crate::noted::{GREATEST_BOUND, are_wanted, count_bounded};
 use crate::search::find_loops;
 use crate::texts::pieces_of;
 use code_graph::build_graph;
 use elf_image::ImageView;
 use elf_view::read_image;
 use flow_graph::CodeGraph;
-use loop_file::{LoopNotes, read_loops};
+use loop_file::{LoopNote, LoopNotes, read_loops};
 use loop_tree::build_loops;
 use scale_base::{Name, NoMemory, Refusal, Stop};
 use std::alloc::Global;
-
-/// The greatest bound that a loop file may have.
-const GREATEST_BOUND: u32 = 1_000_000_000;
 
 /// So many bytes of a loop file are loaded.
 const MOST_BYTES: usize = 1_048_576;
@@ -54,34 +56,121 @@ fn refusal_of(
     }
 }
 
-/// How many loops the file has that the pieces are of, with a bound for each: or why it isn't read, or why its loops aren't taken. They need not be taken
-/// where there are parts of the code that turn and are no loops: for such code every loop file is refused.
-fn check_pieces(
+// Whether the loops of notes are taken. They need not be where there are parts of the code that turn and are no loops: for such code every loop file
+// is refused.
+fn check_loops(
     alloc: Global,
-    view: &ImageView<'_>,
     graph: &CodeGraph,
-    pieces: &[Piece],
+    notes: &LoopNotes,
     aside: usize,
-) -> Result<usize, Stop>
-    ensures { AnswersBy (λ loops. loops) result (ArePiecesChecked view.now graph.now pieces.now aside) }
+) -> Result<(), Stop>
+    ensures { AnswersBy (λ taken. taken) result (AreNotesTaken graph.now notes.now aside) }
+{
+    let Some(refusal) = refusal_of(alloc, graph, notes)? else {
+        return Ok(());
+    };
+    if aside > 0 {
+        return Ok(());
+    }
+    Err(Stop::Refused(refusal))
+}
+
+// The notes of the file that the pieces are of, with a bound for each loop.
+fn read_pieces(alloc: Global, view: &ImageView<'_>, pieces: &[Piece]) -> Result<LoopNotes, Stop>
+    ensures { AnswersBy (λ notes. notes) result (ArePiecesRead view.now pieces.now) }
 {
     let text = filled_text(alloc, pieces, GREATEST_BOUND)?;
     let bytes = text.as_bytes();
     if bytes.len() > MOST_BYTES {
         return Err(too_long(alloc));
     }
-    let notes = read_loops(alloc, bytes, view)?;
-    let Some(refusal) = refusal_of(alloc, graph, &notes)? else {
-        return Ok(notes.count());
-    };
-    if aside > 0 {
-        return Ok(notes.count());
+    read_loops(alloc, bytes, view)
+}
+
+/// An image with its graph, the loops that are found in it, and the names of its places.
+#[derive(Drop)]
+struct Sketch<'a> {
+    view: &'a ImageView<'a>,
+    graph: &'a CodeGraph,
+    found: FoundLoops,
+    names: Names<'a>,
+}
+
+// Whether the file that the pieces are of has the notes that are wanted. Then its loops are taken.
+fn check_pieces(
+    alloc: Global,
+    sketch: &Sketch<'_>,
+    pieces: &[Piece],
+    wanted: &[LoopNote],
+) -> Result<bool, Stop>
+    ensures { AnswersBy (λ same. same) result (ArePiecesChecked sketch.now.view.now sketch.now.graph.now pieces.now wanted.now (length sketch.now.found.aside.items)) }
+{
+    let notes = read_pieces(alloc, sketch.view, pieces)?;
+    if !are_wanted(&notes, wanted) {
+        return Ok(false);
     }
-    Err(Stop::Refused(refusal))
+    check_loops(alloc, sketch.graph, &notes, sketch.found.aside.len())?;
+    Ok(true)
+}
+
+// The draft with the bounds that are found, where its file has them.
+fn draft_bounds(
+    alloc: Global,
+    sketch: &Sketch<'_>,
+    bounds: &Bounds,
+) -> Result<Option<LoopDraft>, Stop>
+    requires graph { IsGraphOf (text_of sketch.now.view.now) sketch.now.graph.now }
+    requires found { AreBoundsFound sketch.now.view.now bounds.now.notes.items }
+    requires least { All NeedNotTurn bounds.now.notes.items }
+    ensures { AnswersBy (λ draft. draft) result (IsDraftTried sketch.now.view.now sketch.now.graph.now) }
+{
+    let pieces = pieces_of(alloc, &sketch.names, &sketch.found, &bounds.known)?;
+    if !check_pieces(alloc, sketch, &pieces, &bounds.notes)? {
+        return Ok(None);
+    }
+    let unbounded = count_open(&pieces);
+    Ok(Some(LoopDraft {
+        pieces,
+        loops: bounds.notes.len(),
+        proved: count_bounded(&bounds.notes),
+        unbounded,
+        aside: sketch.found.aside.len(),
+    }))
+}
+
+// The draft without bounds. Nothing is proved of the texts, so that here too it is looked at whether the file has the notes that are wanted. It always has.
+fn draft_open(alloc: Global, sketch: &Sketch<'_>, notes: &LoopNotes) -> Result<LoopDraft, Stop>
+    requires { IsGraphOf (text_of sketch.now.view.now) sketch.now.graph.now }
+    ensures { AnswersBy (λ draft. draft) result (IsGraphDrafted sketch.now.view.now sketch.now.graph.now) }
+{
+    let bounds = open_all(alloc, notes, Reason::NotConfirmed)?;
+    match draft_bounds(alloc, sketch, &bounds)? {
+        Some(draft) => Ok(draft),
+        None => Err(Stop::Memory),
+    }
+}
+
+// The draft of a sketch: with the bounds that are found for the notes of a file without bounds.
+fn draft_sketch(alloc: Global, sketch: &Sketch<'_>) -> Result<LoopDraft, Stop>
+    requires { IsGraphOf (text_of sketch.now.view.now) sketch.now.graph.now }
+    ensures { AnswersBy (λ draft. draft) result (IsGraphDrafted sketch.now.view.now sketch.now.graph.now) }
+{
+    let known = unknown(alloc, sketch.found.loops.len())?;
+    let pieces = pieces_of(alloc, &sketch.names, &sketch.found, &known)?;
+    let notes = read_pieces(alloc, sketch.view, &pieces)?;
+    let bounds = find_bounds(alloc, sketch.view, sketch.graph, &notes)?;
+    match draft_bounds(alloc, sketch, &bounds)? {
+        Some(draft) => Ok(draft),
+        None => draft_open(alloc, sketch, &notes),
+    }
 }
 
 /// The draft of the loops of a graph, or why they have none.
-fn draft_graph(alloc: Global, view: &ImageView<'_>, graph: &CodeGraph) -> Result<LoopDraft, Stop>
+fn draft_graph<'a>(
+    alloc: Global,
+    view: &'a ImageView<'a>,
+    graph: &'a CodeGraph,
+) -> Result<LoopDraft, Stop>
     requires { IsGraphOf (text_of view.now) graph.now }
     ensures { AnswersBy (λ draft. draft) result (IsGraphDrafted view.now graph.now) }
 {
@@ -90,18 +179,14 @@ fn draft_graph(alloc: Global, view: &ImageView<'_>, graph: &CodeGraph) -> Result
     if count > MOST_LOOPS {
         return Err(Stop::Refused(Refusal::TooManyLoops(count.min(0xFFFF_FFFF) as u32)));
     }
-    let known = unknown(alloc, count)?;
     let names = names_of(alloc, view)?;
-    let pieces = pieces_of(alloc, &names, &found, &known)?;
-    let aside = found.aside.len();
-    let loops = check_pieces(alloc, view, graph, &pieces, aside)?;
-    let unbounded = count_open(&pieces);
-    Ok(LoopDraft {
-        pieces,
-        loops,
-        unbounded,
-        aside,
-    })
+    let sketch = Sketch {
+        view,
+        graph,
+        found,
+        names,
+    };
+    draft_sketch(alloc, &sketch)
 }
 
 /// The draft of an image without a keyed segment.
@@ -126,8 +211,8 @@ fn draft_image(alloc: Global, view: &ImageView<'_>) -> Result<LoopDraft, Stop>
 /// The draft of the loop file of an image, or the first refusal, as `hold` has it: of the image, of a keyed segment, and of the reached code; then of more
 /// than 4,096 loops, of a file of more than 1,048,576 bytes, and of loops nested more than 16 deep.
 ///
-/// A loop whose bound isn't known stands without one. With any bounds filled in, the loops are taken where no part of the code that turns is entered
-/// at several places.
+/// A loop has a bound where the code shows one by itself, by a register that each turn moves on. Any other stands without one. With any bounds filled in,
+/// the loops are taken where no part of the code that turns is entered at several places.
 pub fn draft_loops(alloc: Global, image: &[u8]) -> Result<LoopDraft, Stop>
     ensures { AnswersBy (λ draft. draft) result (IsDrafted image.now) }
 {

@@ -1,18 +1,20 @@
-//! Drafts of loop files: the loops of an image's reached code, their headers and their ranges, with bounds where they are known.
+//! Drafts of loop files: the loops of an image's reached code, their headers and their ranges, with the bounds that the code shows.
 //! Tests: crates/graph_tests/src/drafts.rt.
 #![tactic(auto)]
 
 ghost use Rattle.loop_drafts.specs.Shapes.{BoundsAreFree};
+ghost use Rattle.loop_drafts.specs.Kept.{DraftedBoundsAreKept, DraftedFilesNeedReturns};
 
+mod bounds;
 mod draft;
 mod drafted;
 mod drafting;
 mod found;
 mod names;
+mod noted;
 mod search;
 mod texts;
 
-pub use draft::{Draft, Reason};
 pub use drafted::{LoopDraft, Piece, filled_text, printed_text};
 pub use drafting::draft_loops;
 pub use found::{AsidePart, FoundLoop, FoundLoops};
@@ -21,4 +23,11 @@ pub use search::find_loops;
 /// Where the loops of a draft are taken, they are with any bounds: loops are refused by their headers and ranges alone.
 pub fn bounds_are_free()
     ensures { BoundsAreFree }
+{}
+
+/// No run of the image breaks a drafted bound before it breaks a return address or a bound that the user filled in; and where each loop has a drafted
+/// bound, the file as it is printed is kept by each run whose returns go back to their calls.
+pub fn drafted_bounds_are_kept()
+    ensures filled { DraftedBoundsAreKept }
+    ensures printed { DraftedFilesNeedReturns }
 {}

@@ -1,6 +1,6 @@
 //! The pieces of a drafted loop file.
 
-use crate::draft::Draft;
+use crate::draft::{Counter, Draft};
 use crate::drafted::Piece;
 use crate::found::{AsidePart, FoundLoop, FoundLoops};
 use crate::names::{NamedPlace, Names};
@@ -12,6 +12,10 @@ use std::fmt::Write;
 
 /// So many parts that are no loops are told, and so many of the places at which one is entered.
 const MOST_TOLD: usize = 64;
+
+/// What the user does where no bound is known.
+const HOW_TO_FINISH: &str =
+    "# where no bound is known, count the back edges that one entry takes at most, and write them there as bound = N\n";
 
 // A symbol, and an offset where there is one.
 #[derive(Clone, Copy)]
@@ -102,22 +106,28 @@ fn push_head(
     write!(text, ", depth {depth}\n")
 }
 
-// Adds what is known of the turns of a loop, and why no bound is.
-fn push_known(text: &mut String, known: &Draft) -> Result<(), AllocError> {
-    if let Some(bound) = known.bound {
-        write!(text, "bound = {bound}\n")?;
+// Adds the bound of a counter, and why it is one.
+fn push_bound(text: &mut String, counter: Counter) -> Result<(), AllocError> {
+    let Counter {
+        register,
+        step,
+        width,
+        ..
+    } = counter;
+    let way = if counter.falls { "down" } else { "up" };
+    let bound = counter.bound();
+    write!(
+        text,
+        "# x{register} goes {way} by {step} or more each turn, and its values at the header span {width}\nbound = {bound}\n"
+    )
+}
+
+// Adds what is known of the turns of a loop.
+fn push_known(text: &mut String, known: Draft) -> Result<(), AllocError> {
+    match known {
+        Draft::Bounded(counter) => push_bound(text, counter),
+        Draft::Open(reason) => write!(text, "# no bound: {reason}\n"),
     }
-    if let Some(least) = known.at_least {
-        write!(text, "at_least = {least}\n")?;
-    }
-    if known.counted {
-        text.push_str("counted = true\n")?;
-    }
-    if known.bound.is_none() {
-        let reason = known.reason;
-        write!(text, "# no bound: {reason}\n")?;
-    }
-    Ok(())
 }
 
 // The piece of a loop.
@@ -127,7 +137,7 @@ fn loop_piece(
     found: &FoundLoop,
     number: usize,
     outer: Option<usize>,
-    known: &Draft,
+    known: Draft,
 ) -> Result<Piece, NoMemory> {
     let mut text = String::new(alloc);
     push_head(&mut text, names, found, number, outer)?;
@@ -138,7 +148,7 @@ fn loop_piece(
     push_known(&mut text, known)?;
     Ok(Piece {
         text,
-        is_open: known.bound.is_none(),
+        is_open: known.is_open(),
     })
 }
 
@@ -166,11 +176,14 @@ fn first_piece(
 ) -> Result<Piece, NoMemory> {
     let mut text = String::new(alloc);
     let loops = found.loops.len();
-    let unbounded = known.iter().filter(|draft| draft.bound.is_none()).count();
+    let unbounded = known.iter().filter(|draft| draft.is_open()).count();
     write!(
         &mut text,
         "# draft of loops: {loops} loops, {unbounded} without a bound\n"
     )?;
+    if unbounded > 0 {
+        text.push_str(HOW_TO_FINISH)?;
+    }
     for part in found.aside.iter().take(MOST_TOLD) {
         push_aside(&mut text, names, part)?;
     }
@@ -199,7 +212,7 @@ pub fn pieces_of(
             None => None,
         };
         let number = k.saturating_add(1);
-        pieces.push(loop_piece(alloc, names, looped, number, outer, draft)?)?;
+        pieces.push(loop_piece(alloc, names, looped, number, outer, *draft)?)?;
     }
     Ok(pieces)
 }

@@ -10,7 +10,7 @@ use Rattle.scale_base.specs.Answer.{AnswersBy, Stops}
 use Rattle.machine_file.specs.Machine.{read_machine}
 use Rattle.scaler.specs.Held.{IsHeld}
 use Rattle.scaler.specs.Rewritten.{IsRewritten}
-use Rattle.scaler.proofs.Laws.{then_stops}
+use Rattle.marked_images.proofs.Laws.{then_stops}
 use Rattle.gain_tuner.specs.declared.choosing.Files.{Files}
 use Rattle.gain_tuner.specs.declared.choosing.Trial.{Trial}
 use Rattle.gain_tuner.specs.Finding.{IsSafeTrialOf, IsTrialOrOf, IsTried, Made}

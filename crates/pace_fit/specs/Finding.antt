@@ -6,7 +6,7 @@ use Rattle.scale_base.specs.declared.summary.Summary.{Summary}
 use Rattle.power_model.specs.Numbers.{IsPowerModel}
 use Rattle.machine_file.specs.Machine.{read_machine}
 use Rattle.scaler.specs.Held.{IsHeld}
-use Rattle.scaler.specs.Promise.{IsStoredSafely}
+use Rattle.marked_images.specs.Promise.{IsStoredSafely}
 use Rattle.gain_tuner.specs.declared.choosing.Files.{Files}
 use Rattle.gain_tuner.specs.declared.choosing.Trial.{Trial}
 use Rattle.gain_tuner.specs.Finding.{IsTrialOrOf}

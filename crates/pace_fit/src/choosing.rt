@@ -1,7 +1,7 @@
 //! The choice among the candidates.
 
 ghost use Rattle.std.specs.Prelude.{◌≡◌, ◌≤◌, ◌<◌, [], length, IfOk};
-ghost use Rattle.scaler.specs.Promise.{IsStoredSafely};
+ghost use Rattle.marked_images.specs.Promise.{IsStoredSafely};
 ghost use Rattle.pace_fit.specs.Fitting.{IsCheapestFit, IsChosen, IsFirstBuilt};
 ghost use Rattle.pace_fit.specs.Finding.{AreLoaded, IsHeldTrial, IsSafe, counted_inputs};
 

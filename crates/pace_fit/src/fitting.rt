@@ -3,7 +3,7 @@
 ghost use Rattle.std.specs.Prelude.{◌≡◌, ◌≤◌, ◌-◌, length, map, count_by, Ok, IfOk};
 ghost use Rattle.std.specs.List.{All};
 ghost use Rattle.scaler.specs.Held.{IsHeld};
-ghost use Rattle.scaler.specs.Promise.{IsStoredSafely};
+ghost use Rattle.marked_images.specs.Promise.{IsStoredSafely};
 ghost use Rattle.pace_fit.specs.Fitting.{IsChosenUseful, IsFitted, IsRewriteEnergy};
 ghost use Rattle.pace_fit.specs.Finding.{AreLoaded, IsPrepared, counted_inputs, given_inputs};
 

@@ -1,3 +1,4 @@
+mod Drafted
 mod Given
 mod GivenInputs
 mod InputNamed

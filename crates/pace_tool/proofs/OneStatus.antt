@@ -1,4 +1,4 @@
--- All answers that may be given have one status.
+-- All answers that may be given have one status, but for those to `loops`.
 use Rattle.std.proofs.Common.{◌≡◌, ℕ, List, [], ◌∷◌, refl, sym, ap, ◌∙◌, true, nat_le}
 use Rattle.std.specs.Prelude.{IsTrue, IfOk, Result, Ok, Err}
 use Rattle.scale_base.specs.declared.refusal.NoMemory.{NoMemory}
@@ -21,8 +21,9 @@ use Rattle.level_reasons.specs.declared.shown.Shown.{Shown}
 use Rattle.level_reasons.specs.Program.{AreReasons}
 use Rattle.level_reasons.specs.ReasonTexts.{reasons_text}
 use Rattle.level_reasons.proofs.Laws.{shown_held}
-use Rattle.pace_tool.specs.Command.{Command, Fit, Show, may_give, wants_of}
-use Rattle.pace_tool.specs.Texts.{fitted_text}
+use Rattle.loop_drafts.specs.declared.drafted.LoopDraft.{LoopDraft}
+use Rattle.pace_tool.specs.Command.{Command, Fit, Show, Loops, has_one_status, may_give, wants_of}
+use Rattle.pace_tool.specs.Texts.{drafted_text, fitted_text}
 
 -- a choice has an image that runs at one level, and a refusal says that there is none
 not_refused : (image machine loops : List ℕ) (inputs : List (List ℕ)) (proposals : List Proposal) (stored : List ℕ) (fitted : Fitted) (refusal : Refusal) →
@@ -58,18 +59,20 @@ reasons_status image machine loops (Err one) (Err other) x y = refl
 reasons_status image machine loops (Ok one) (Err other) x y = absurd (not_held image machine loops one other x y)
 reasons_status image machine loops (Err one) (Ok other) x y = absurd (not_held image machine loops other one y x)
 
-one_made : (command : Command) (files : List (List ℕ)) (one other : Answer) → Makes command files one → Makes command files other → one.status ≡ other.status
-one_made (Fit image machine loops out inputs) (i ∷ m ∷ l ∷ given) one other x y = one_fit i m l out given one other x y
-one_made (Show image machine loops) (i ∷ m ∷ l ∷ []) one other x y = runs.one_told (AreReasons i m l) (text_answer reasons_text) (reasons_status i m l) one other x y
-one_made command files one other x y = absurd x
+one_made : (command : Command) → has_one_status command ≡ true → (files : List (List ℕ)) (one other : Answer) → Makes command files one → Makes command files other → one.status ≡ other.status
+one_made (Fit image machine loops out inputs) pinned (i ∷ m ∷ l ∷ given) one other x y = one_fit i m l out given one other x y
+one_made (Show image machine loops) pinned (i ∷ m ∷ l ∷ []) one other x y = runs.one_told (AreReasons i m l) (text_answer reasons_text) (reasons_status i m l) one other x y
+one_made (Loops image out) pinned files one other x y = absurd (cc)
+one_made command pinned files one other x y = absurd x
 
--- a status that was answered is that of every answer
-pub status_of_all : (command : Command) (status : ℕ) (old new : HostState) → IsAnswered (wants_of command) (Makes command) status old new → IsStatusOfAll (wants_of command) (Makes command) status old
-status_of_all command = runs.status_of_all (wants_of command) (Makes command) (one_made command)
+-- a status that was answered is that of every answer, where there is one
+pub status_of_all : (command : Command) (status : ℕ) (old new : HostState) → IsTrue (has_one_status command) → IsAnswered (wants_of command) (Makes command) status old new →
+    IsStatusOfAll (wants_of command) (Makes command) status old
+status_of_all command status old new pinned = runs.status_of_all (wants_of command) (Makes command) (one_made command pinned) status old new
 
 -- ---- the status of an answer
 
-given_status : (text_of : Fitted → List ℕ) (out : List ℕ) (given : Result (List ℕ × Fitted) Refusal) → nat_le (stored_answer text_of out given).status 1 ≡ true
+given_status : {A : Type 0} (text_of : A → List ℕ) (out : List ℕ) (given : Result (List ℕ × A) Refusal) → nat_le (stored_answer text_of out given).status 1 ≡ true
 given_status text_of out (Ok given) = refl
 given_status text_of out (Err refusal) = refl
 
@@ -81,6 +84,7 @@ status_small : (command : Command) (files : List (List ℕ)) (answer : Answer) �
 status_small (Fit image machine loops out inputs) (i ∷ m ∷ l ∷ given) answer x =
     ap (λ (a : Answer). nat_le a.status 1) x.tells.told ∙ given_status (fitted_text (endings_on i m l given) x.proposals) out x.tells.given
 status_small (Show image machine loops) (i ∷ m ∷ l ∷ []) answer x = ap (λ (a : Answer). nat_le a.status 1) x.told ∙ shown_status x.given
+status_small (Loops image out) (i ∷ []) answer x = ap (λ (a : Answer). nat_le a.status 1) x.1.told ∙ given_status drafted_text out x.1.given
 status_small command files answer x = absurd x
 
 -- a reply has a status that may be given

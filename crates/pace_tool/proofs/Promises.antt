@@ -1,5 +1,5 @@
 -- Each command that was done keeps its promise.
-use Rattle.std.proofs.Common.{◌≢◌, ℕ, List, ◌∷◌}
+use Rattle.std.proofs.Common.{◌≢◌, ℕ, List, [], ◌∷◌}
 use Rattle.std.specs.FinMap.{get}
 use Rattle.host_files.specs.HostState.{Files, HostState}
 use Rattle.host_runs.specs.Answer.{Answer}
@@ -10,9 +10,11 @@ use Rattle.host_runs.proofs.Laws as runs
 use Rattle.host_runs.proofs.Laws.{EachWithin}
 use Rattle.pace_fit.specs.Endings.{endings_on}
 use Rattle.pace_tool.specs.Answer.{Fits, IsFittedSafely, MakesFit, Makes}
-use Rattle.pace_tool.specs.Command.{Command, Fit, Show, wants_of}
+use Rattle.pace_tool.specs.Command.{Command, Fit, Show, Loops, wants_of}
+use Rattle.pace_tool.specs.Drafts.{Drafts, IsDraftedSafely}
 use Rattle.pace_tool.specs.Promise.{FitsAny, Promise}
-use Rattle.pace_tool.specs.Texts.{fitted_text}
+use Rattle.pace_tool.specs.Texts.{drafted_text, fitted_text}
+use Rattle.pace_tool.proofs.Drafted.{drafted_safely}
 
 fit_kept : (image machine loops : List ℕ) (inputs : List (List ℕ)) (out : List ℕ) (files : Files) (answer : Answer) → MakesFit image machine loops inputs out answer → answer.status ≢ 1 →
     StoredPromise (FitsAny image machine loops inputs) (IsFittedSafely image machine loops) (get (with_stores answer.stores files) out)
@@ -32,6 +34,8 @@ kept : (command : Command) (loaded : List (List ℕ)) (files : Files) (answer : 
 kept (Fit image machine loops out inputs) (i ∷ m ∷ l ∷ given) files answer within made done = fit_kept i m l given out files answer made done
 kept (Fit image machine loops out inputs) loaded files answer within made done = absurd made
 kept (Show image machine loops) loaded files answer within made done = tt
+kept (Loops image out) (i ∷ []) files answer within made done = runs.stored_kept (Drafts i) (IsDraftedSafely i) drafted_text out files (λ stored draft is. drafted_safely i stored made.0 draft is) answer made.1 done
+kept (Loops image out) loaded files answer within made done = absurd made
 
 -- stores that stand keep their promise, whatever was answered
 pub stored_keep_promise : (command : Command) (old new : HostState) → StoresStand (wants_of command) (Makes command) old new → Promised (wants_of command) (Promise command) old new

@@ -1,16 +1,18 @@
 -- What a command may answer: its stores in order, the text that it prints, and its status.
 use Rattle.std.specs.Prelude.{ℕ, ◌≤◌, List, [], ◌∷◌, length, Result, Ok, Err}
 use Rattle.scale_base.specs.declared.refusal.Refusal.{Refusal}
-use Rattle.scaler.specs.Promise.{IsStoredSafely}
+use Rattle.marked_images.specs.Promise.{IsStoredSafely}
 use Rattle.paced_images.specs.declared.proposal.Proposal.{Proposal}
 use Rattle.pace_fit.specs.declared.fitting.Fitted.{Fitted}
 use Rattle.pace_fit.specs.Endings.{endings_on}
 use Rattle.pace_fit.specs.Fitting.{IsFitting}
 use Rattle.host_runs.specs.Answer.{Answer, Tells, stored_answer, text_answer}
+use Rattle.loop_drafts.specs.Kept.{AreBytes}
 use Rattle.level_reasons.specs.Program.{AreReasons}
 use Rattle.level_reasons.specs.ReasonTexts.{reasons_text}
-use Rattle.pace_tool.specs.Command.{Command, Fit, Show}
-use Rattle.pace_tool.specs.Texts.{fitted_text}
+use Rattle.pace_tool.specs.Command.{Command, Fit, Show, Loops}
+use Rattle.pace_tool.specs.Drafts.{Drafts}
+use Rattle.pace_tool.specs.Texts.{drafted_text, fitted_text}
 
 -- What the choice of a fitting keeps to: the stored image keeps the promise of a rewritten one with the printed numbers, and on the inputs that count its runs take no more
 -- energy than those of the image that runs at one level.
@@ -34,8 +36,10 @@ pub record MakesFit (image machine loops : List ℕ) (inputs : List (List ℕ)) 
   pub few : length proposals ≤ 64
   pub tells : Tells (Fits image machine loops inputs proposals) (stored_answer (fitted_text (endings_on image machine loops inputs) proposals) out) answer
 
--- What the command may make of its files, as many as it loads. It is told of what it gives for their bytes.
+-- What the command may make of its files, as many as it loads. It is told of what it gives for their bytes. `loops` takes an image of bytes, since what it promises is said
+-- of bytes.
 abbrev pub Makes : Command → List (List ℕ) → Answer → Type 0
 Makes (Fit image machine loops out inputs) (i ∷ m ∷ l ∷ given) answer = MakesFit i m l given out answer
 Makes (Show image machine loops) (i ∷ m ∷ l ∷ []) answer = Tells (AreReasons i m l) (text_answer reasons_text) answer
+Makes (Loops image out) (i ∷ []) answer = AreBytes i × Tells (Drafts i) (stored_answer drafted_text out) answer
 Makes command files answer = ⊥

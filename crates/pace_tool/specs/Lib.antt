@@ -1,5 +1,6 @@
 pub mod Answer
 pub mod Command
+pub mod Drafts
 pub mod Naming
 pub mod Promise
 pub mod Texts

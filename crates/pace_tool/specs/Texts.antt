@@ -5,6 +5,7 @@ use Rattle.scale_base.specs.declared.endings.End.{End}
 use Rattle.scale_base.specs.declared.endings.End.TheVariants.{Exited, Trapped, OutOfSteps}
 use Rattle.scale_base.specs.declared.endings.Kept.{Kept}
 use Rattle.scale_report.specs.Texts.{address, end_words, kept_words, kind_name, number_line, numbered_lines, summary_text}
+use Rattle.loop_drafts.specs.declared.drafted.LoopDraft.{LoopDraft}
 use Rattle.paced_images.specs.declared.wanted.SwitchSite.{SwitchSite}
 use Rattle.paced_images.specs.declared.proposal.Proposal.{Proposal}
 use Rattle.pace_fit.specs.declared.endings.Ending.{Ending}
@@ -71,3 +72,11 @@ fitted_text endings proposals f =
     ++ rewrite_line f.rewrite_energy
     ++ number_line (codes "least energy ") f.least_energy
     ++ switches_text proposals f.candidate
+
+-- a drafted loop file: how many loops it has, of how many of them the bound is proved, how many have none, and how many parts of the code turn that are no loops
+abbrev pub drafted_text : LoopDraft → List ℕ
+drafted_text d =
+    number_line (codes "loops ") d.loops
+    ++ number_line (codes "proved ") d.proved
+    ++ number_line (codes "open ") d.unbounded
+    ++ number_line (codes "irreducible ") d.aside

@@ -1,6 +1,6 @@
 //! The command and its files.
 
-ghost use Rattle.std.specs.Prelude.{◌≡◌, ◌++◌, ◌∷◌, option_map, slice_get, IfOk, OnOk};
+ghost use Rattle.std.specs.Prelude.{◌≡◌, ℕ, List, [], ◌++◌, ◌∷◌, option_map, slice_get, IfOk, OnOk};
 ghost use Rattle.host_runs.specs.Views.{want_views};
 ghost use Rattle.pace_tool.specs.Command.{input_wants, wants_of};
 ghost use Rattle.pace_tool.specs.Views.{command_view, texts};
@@ -28,11 +28,19 @@ pub struct Show<'a> {
     pub loops: &'a str,
 }
 
+/// The command `loops`, with the names of its files: it stores a draft of the loop file of a program.
+#[derive(Clone, Copy)]
+pub struct Loops<'a> {
+    pub image: &'a str,
+    pub out: &'a str,
+}
+
 /// A command.
 #[derive(Clone, Copy)]
 pub enum Job<'a> {
     Fit(Fit<'a>),
     Show(Show<'a>),
+    Loops(Loops<'a>),
 }
 
 // How many bytes an image may have, and how many any other file.
@@ -47,6 +55,7 @@ pub fn wants<'a>(alloc: Global, command: &Job<'a>) -> Result<Vec<Want<'a>>, Allo
     match *command {
         Job::Fit(fit) => fit_wants(alloc, fit.image, fit.machine, fit.loops, fit.inputs.names),
         Job::Show(show) => fit_wants(alloc, show.image, show.machine, show.loops, &[]),
+        Job::Loops(loops) => Ok(vec![in alloc; want(loops.image, IMAGE_LIMIT)]?),
     }
 }
 
@@ -96,6 +105,7 @@ pub fn loaded_name<'a>(command: &Job<'a>, number: usize) -> Option<&'a str>
     match *command {
         Job::Fit(fit) => name_at(fit.image, fit.machine, fit.loops, fit.inputs.names, number),
         Job::Show(show) => name_at(show.image, show.machine, show.loops, &[], number),
+        Job::Loops(loops) => name_first(loops.image, number),
     }
 }
 
@@ -116,6 +126,12 @@ fn name_at<'a>(
     }
 }
 
+fn name_first(image: &str, number: usize) -> Option<&str>
+    ensures { option_map (λ name. name.now) result ≡ option_map {T = List ℕ × ℕ} (λ want. want.0) (slice_get ((image.now, 4194304) ∷ []) number) }
+{
+    if number == 0 { Some(image) } else { None }
+}
+
 fn input_at<'a>(inputs: &[&'a str], number: usize) -> Option<&'a str>
     ensures { option_map (λ name. name.now) result ≡ option_map (λ want. want.0) (slice_get (input_wants (texts inputs.now)) number) }
 {
@@ -131,5 +147,6 @@ pub fn stored_name<'a>(command: &Job<'a>) -> Option<&'a str> {
     match *command {
         Job::Fit(fit) => Some(fit.out),
         Job::Show(_) => None,
+        Job::Loops(loops) => Some(loops.out),
     }
 }

@@ -1,5 +1,5 @@
 //! The program `pace`: it fits the switches of speed of a program to inputs, so that it takes less energy and still meets its deadline, and tells what keeps its
-//! speed from being lowered.
+//! speed from being lowered. It drafts loop files, too.
 //!
 //! What the words of its command line mean is `clap`'s to say, and is tested. What is proved begins at the command that they are.
 #![tactic(auto)]
@@ -7,6 +7,7 @@
 mod command;
 mod fit;
 mod input_names;
+mod loops;
 mod making;
 mod naming_host;
 mod pace;

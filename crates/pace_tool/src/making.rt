@@ -9,6 +9,7 @@ ghost use Rattle.pace_tool.specs.Views.{command_view};
 
 use crate::command::Job;
 use crate::fit::fit_made;
+use crate::loops::loops_made;
 use crate::show::show_reply;
 use host_runs::{ProgramFiles, Reply};
 use scale_base::NoMemory;
@@ -23,6 +24,7 @@ fn made_of(alloc: Global, command: &Job<'_>, files: &[Vec<u8>]) -> Result<Reply,
     match command {
         Job::Fit(fit) => fit_made(alloc, fit, files),
         Job::Show(_) => show_reply(alloc, &ProgramFiles::of(files)),
+        Job::Loops(loops) => loops_made(alloc, loops, files),
     }
 }
 

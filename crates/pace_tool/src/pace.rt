@@ -8,7 +8,7 @@ ghost use Rattle.host_runs.specs.Loading.{Missing, loading_of};
 ghost use Rattle.host_runs.specs.Promise.{Promised};
 ghost use Rattle.host_runs.specs.Views.{reply_view};
 ghost use Rattle.pace_tool.specs.Answer.{Makes};
-ghost use Rattle.pace_tool.specs.Command.{may_answer, may_give, wants_of};
+ghost use Rattle.pace_tool.specs.Command.{has_one_status, may_answer, may_give, wants_of};
 ghost use Rattle.pace_tool.specs.Promise.{Promise};
 ghost use Rattle.pace_tool.specs.Views.{command_view};
 
@@ -62,8 +62,9 @@ pub fn run_pace<H: Host>(host: &mut H, alloc: Global, command: &Job<'_>) -> u8
     // Any status but 3 and 4: the command's whole answer over the files that are told.
     ensures answered { result ≢ 3 → result ≢ 4 → IsAnswered (wants_of (command_view command.now)) (Makes (command_view command.now)) result (H.state host.old) (H.state host.new) }
 
-    // All answers that are right for the files have one status, the one that was given: 1 where the files are refused, and else 0.
-    ensures complete { result ≢ 3 → result ≢ 4 → IsStatusOfAll (wants_of (command_view command.now)) (Makes (command_view command.now)) result (H.state host.old) }
+    // All answers that are right for the files have one status, the one that was given: 1 where the files are refused, and else 0. This isn't said of `loops`, since
+    // which loops a draft has, and what it writes of them, is left open.
+    ensures complete { IsTrue (has_one_status (command_view command.now)) → result ≢ 3 → result ≢ 4 → IsStatusOfAll (wants_of (command_view command.now)) (Makes (command_view command.now)) result (H.state host.old) }
 
     // What was done keeps the command's promise.
     ensures promise { result ≡ 0 → Promised (wants_of (command_view command.now)) (Promise (command_view command.now)) (H.state host.old) (H.state host.new) }

@@ -2,8 +2,9 @@
 
 ghost use Rattle.std.specs.Prelude.{◌≡◌, ◌+◌, ◌++◌, ◌≤◌, length, IfOk, OnOk, Some, string_bytes};
 ghost use Rattle.scale_report.specs.Texts.{number_line, numbered_lines};
-ghost use Rattle.pace_tool.specs.Texts.{fitted_text, form_name, left_line, left_line_if, proposal_lines, rewrite_line, switch_line, switch_lines, switches_text, tally_line, tally_lines};
+ghost use Rattle.pace_tool.specs.Texts.{drafted_text, fitted_text, form_name, left_line, left_line_if, proposal_lines, rewrite_line, switch_line, switch_lines, switches_text, tally_line, tally_lines};
 
+use loop_drafts::LoopDraft;
 use pace_fit::{Ending, Fitted, is_counted};
 use paced_images::{Proposal, SwitchSite};
 use scale_base::{End, NoMemory};
@@ -78,6 +79,12 @@ fn push_count(text: &mut String, words: &str, count: u32) -> Result<(), AllocErr
     ensures { OnOk result (string_bytes text.new ≡ string_bytes text.old ++ number_line words.now count) }
 {
     push_number(text, words, u128::from(count))
+}
+
+fn push_size(text: &mut String, words: &str, size: usize) -> Result<(), AllocError>
+    ensures { OnOk result (string_bytes text.new ≡ string_bytes text.old ++ number_line words.now size) }
+{
+    push_number(text, words, size as u128)
 }
 
 // Adds the line of the energy of what `rewrite` stores, if it has one.
@@ -185,5 +192,18 @@ pub fn fitted_text(
     push_rewrite(&mut text, fitted.rewrite_energy)?;
     push_number(&mut text, "least energy ", fitted.least_energy)?;
     push_switches(&mut text, proposals, fitted.candidate)?;
+    Ok(text)
+}
+
+/// The numbers of a draft: how many loops it has, of how many of them the bound is proved, how many have no bound, and how many parts of the code turn that
+/// are no loops.
+pub fn drafted_text(alloc: Global, draft: &LoopDraft) -> Result<String, NoMemory>
+    ensures { IfOk result (λ text. string_bytes text ≡ drafted_text draft.now) }
+{
+    let mut text = String::new(alloc);
+    push_size(&mut text, "loops ", draft.loops)?;
+    push_size(&mut text, "proved ", draft.proved)?;
+    push_size(&mut text, "open ", draft.unbounded)?;
+    push_size(&mut text, "irreducible ", draft.aside)?;
     Ok(text)
 }

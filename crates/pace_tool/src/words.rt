@@ -1,6 +1,6 @@
 //! The words of the command line, as `clap` reads them.
 
-use crate::command::{Fit, Job, Show};
+use crate::command::{Fit, Job, Loops, Show};
 use crate::input_names::InputNames;
 use clap::{Arg, ArgAction, ArgMatches, Command as CommandLine, Error};
 use std::alloc::{AllocError, Global};
@@ -47,14 +47,22 @@ fn show_line<'a>(alloc: Global) -> Result<CommandLine<'a>, AllocError> {
         .arg(required(alloc, "LOOPS", "The loop file: how often loops turn"))
 }
 
+fn loops_line<'a>(alloc: Global) -> Result<CommandLine<'a>, AllocError> {
+    CommandLine::new(alloc, "loops")
+        .about("Stores a draft of the loop file of a program, with the bounds that are proved")
+        .arg(required(alloc, "IMAGE", "The program, an ELF file"))?
+        .arg(required(alloc, "OUT", "The name of the loop file that is stored"))
+}
+
 fn command_line<'a>(alloc: Global) -> Result<CommandLine<'a>, AllocError> {
     CommandLine::new(alloc, "pace")
         .version("0.1.0")
-        .about("Fits the switches of speed of a program to inputs")
+        .about("Fits the switches of speed of a program to inputs, and drafts its loop file")
         .no_binary_name(true)
         .subcommand_required(true)
         .subcommand(fit_line(alloc)?)?
-        .subcommand(show_line(alloc)?)
+        .subcommand(show_line(alloc)?)?
+        .subcommand(loops_line(alloc)?)
 }
 
 /// What the words match, or why they don't.
@@ -66,6 +74,9 @@ pub fn matches_of<'a>(alloc: Global, words: &'a [String]) -> Result<ArgMatches<'
 pub fn command_of<'m>(matches: &'m ArgMatches<'_>) -> Option<Job<'m>> {
     if let Some(show) = matches.subcommand_matches("show") {
         return Some(Job::Show(show_of(show)?));
+    }
+    if let Some(loops) = matches.subcommand_matches("loops") {
+        return Some(Job::Loops(loops_of(loops)?));
     }
     let fit = matches.subcommand_matches("fit")?;
     match fit.get_strs("INPUT") {
@@ -79,6 +90,13 @@ fn show_of<'m>(show: &'m ArgMatches<'_>) -> Option<Show<'m>> {
         image: show.get_str("IMAGE")?,
         machine: show.get_str("MACHINE")?,
         loops: show.get_str("LOOPS")?,
+    })
+}
+
+fn loops_of<'m>(loops: &'m ArgMatches<'_>) -> Option<Loops<'m>> {
+    Some(Loops {
+        image: loops.get_str("IMAGE")?,
+        out: loops.get_str("OUT")?,
     })
 }
 

@@ -1,5 +1,5 @@
 -- The tallies that come due, mark by mark.
-use Rattle.std.proofs.Common.{◌≡◌, ℕ, suc, ◌^◌, ◌/◌, ◌<◌, ◌≤◌, Bool, true, false, ◌&&◌, List, [], ◌∷◌, length, slice_get, Option, Some, None, refl, sym, ap, ◌∙◌, subst, arith}
+use Rattle.std.proofs.Common.{◌≡◌, ℕ, suc, ◌^◌, ◌/◌, ◌<◌, ◌≤◌, Bool, true, false, ◌&&◌, List, [], ◌∷◌, length, slice_get, Some, None, refl, sym, ap, ◌∙◌, subst, arith}
 use Rattle.std.specs.Prelude.{All, ◌||◌, ◌==◌, nat_le, nat_lt}
 use Rattle.std.specs.List.{list_any}
 use Rattle.std.proofs.lemmas.Bool.{false_from_ne_true, lt-ltb, ltb-true}
@@ -17,11 +17,11 @@ use Rattle.loop_forest.specs.Tree.{LoopView, loops}
 use Rattle.scale_sites.specs.Counters.{counted_loops}
 use Rattle.scale_sites.specs.Sites.{marks_at_edge}
 use Rattle.rewritten_runs.specs.Stubs.{loop_of, told_at}
-use Rattle.paced_images.specs.declared.stubs.Marking.{Marking}
-use Rattle.paced_images.specs.Markings.{IsMarking, test_of}
+use Rattle.marked_images.specs.declared.stubs.Marking.{Marking}
+use Rattle.marked_images.specs.Markings.{IsMarking, test_of}
 use Rattle.paced_images.specs.Useful.{comes_due, is_due, is_due_at}
-use Rattle.paced_images.specs.Wanted.{Wanted, marked_where}
-use Rattle.paced_images.proofs.MarkingLaws.{marking_alone}
+use Rattle.marked_images.specs.Wanted.{Wanted, marked_where}
+use Rattle.marked_images.proofs.Laws.{marking_alone}
 
 module _ (power : PowerModel) (test : EdgeNumbers → ℕ → ℕ → Bool) (start : ℕ) (v : FlowGraph) (t : LoopView) (n : Numbers) (header : ℕ) (told : EdgeNumbers) where
   quiet : (m : Mark) → IsQuietMark m → is_due power test start v t n header told m ≡ false

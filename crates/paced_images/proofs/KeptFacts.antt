@@ -1,5 +1,5 @@
 -- The marks that are of use, by what the files give; and all of them, where as many are.
-use Rattle.std.proofs.Common.{◌≡◌, ◌≢◌, ℕ, suc, ◌≤◌, Bool, true, false, cond, List, [], ◌∷◌, length, map, Option, Some, None, Result, Ok, Err, refl, sym, ap, ◌∙◌, subst, arith}
+use Rattle.std.proofs.Common.{◌≡◌, ℕ, suc, ◌≤◌, Bool, true, false, cond, List, [], ◌∷◌, length, map, Option, Some, None, Result, Ok, Err, refl, sym, ap, ◌∙◌, subst, arith}
 use Rattle.std.specs.Prelude.{Vec, IfOk, IfSome, option_map}
 use Rattle.std.specs.List.{filter}
 use Rattle.std.specs.declared.alloc.Global.{Global}
@@ -10,14 +10,13 @@ use Rattle.scale_base.specs.declared.refusal.Stop.TheVariants.{Refused, Memory}
 use Rattle.scale_base.specs.declared.summary.Summary.{Summary}
 use Rattle.scale_base.specs.Answer.{AnswersBy}
 use Rattle.level_tables.specs.Budgets.{meets_in_budget}
-use Rattle.scaler.specs.Promise.{IsStoredSafely}
-use Rattle.paced_images.specs.declared.programs.Program.{Program}
+use Rattle.marked_images.specs.Promise.{IsStoredSafely}
+use Rattle.marked_images.specs.declared.scaling.Program.{Program}
 use Rattle.paced_images.specs.declared.proposal.Proposal.{Proposal}
 use Rattle.paced_images.specs.declared.wanted.SwitchSite.{SwitchSite}
-use Rattle.paced_images.specs.Markings.{HasMarking}
-use Rattle.paced_images.specs.Paced.{IsPaced}
+use Rattle.marked_images.specs.Markings.{HasMarking}
 use Rattle.paced_images.specs.Programs.{IsProgramFrom, IsProgramFound}
-use Rattle.paced_images.specs.Proposed.{AreKeptOf, HasDeadMark, HasNoDeadMark, IsPacedOf, IsProposalPaced, marks_of}
+use Rattle.paced_images.specs.Proposed.{AreKeptOf, HasDeadMark, HasNoDeadMark, IsPacedOf, IsProposalPaced}
 use Rattle.paced_images.specs.Useful.{AreKept, AreKeptBy, AreLoopsKeptBy, Marks, is_useful, is_useful_loop}
 use Rattle.paced_images.specs.Wanted.{wanted_of, marked_at}
 use Rattle.stub_writer.specs.Sites.{site_of}

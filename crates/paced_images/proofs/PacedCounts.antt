@@ -1,5 +1,5 @@
 -- The marks of a program's edges: what they are, and what their fragments do to the counters.
-use Rattle.std.proofs.Common.{◌≡◌, ◌≢◌, ℕ, zero, suc, ◌+◌, ◌-◌, ◌<◌, ◌≤◌, ◌⊎◌, inl, inr, Bool, true, false, cond, not, ◌&&◌, nat_le, List, [], ◌∷◌, ◌++◌, map, length, slice_get, Option, Some, None, refl, sym, ap, ◌∙◌, subst, arith, ⊎_elim}
+use Rattle.std.proofs.Common.{◌≡◌, ℕ, ◌+◌, ◌-◌, ◌<◌, ◌≤◌, ◌⊎◌, inl, inr, Bool, true, false, cond, not, ◌&&◌, List, [], ◌∷◌, map, length, slice_get, Option, Some, None, refl, sym, ap, ◌∙◌, arith, ⊎_elim}
 use Rattle.std.proofs.lemmas.Bool.{cases_lt, and_parts}
 use Rattle.scale_base.specs.declared.stepping.Class.{Class}
 use Rattle.scale_base.specs.Image.{Image}
@@ -29,9 +29,8 @@ use Rattle.stored_runs.specs.Marks.{place_at, fragments_of_class, counters_after
 use Rattle.paid_runs.specs.Marked as marked_specs
 use Rattle.rewritten_runs.specs.Stubs.{IsWeighed, IsWeighedWith, AreSitesOf, told_at, fragment_by, fragments_with, is_counted, counter_of, set_before}
 use Rattle.rewritten_runs.proofs.Laws.{IsMarkOf, counted_at, counted_is, counter_through, effect, graph_program, marks_are, others_through, program_is, through}
-use Rattle.paced_images.specs.Markings.{ChoosesSites}
-use Rattle.paced_images.specs.Wanted.{Wanted, marked_where}
-use Rattle.paced_images.proofs.WantedKinds as Kinds
+use Rattle.marked_images.specs.Wanted.{ChoosesSites, Wanted, marked_where}
+use Rattle.marked_images.proofs.Laws.{slack_plain, slack_stored, slack_weighed}
 
 -- ---- fragments act as their marks do
 
@@ -63,13 +62,13 @@ all_alike w (m ∷ ms) x = all_alike w ms (effect m w x) ∙ ap (counter_behind 
 module _ (power : PowerModel) (image : Image) (notes : List LoopNote) (v : FlowGraph) (tree : LoopView) (wanted : Wanted) (stored : Numbers) (by_marks : IsWeighedWith power image notes v tree (marked_where v tree wanted) stored) (kinds_are : ChoosesSites v wanted.switch)
     (test : tables.EdgeNumbers → ℕ → ℕ → Bool) (least : Charged) (sites : List Site) (are : AreSitesOf image v.code (fragments_with power test image v tree (marked_where v tree wanted) stored least) sites) where
   abbrev plain : Numbers
-  plain = Kinds.plain power image notes v tree wanted stored by_marks kinds_are
+  plain = slack_plain power image notes v tree wanted stored by_marks kinds_are
 
   abbrev other : Numbers
-  other = Kinds.other power image notes v tree wanted stored by_marks kinds_are
+  other = slack_stored power image notes v tree wanted stored by_marks kinds_are
 
   abbrev weighed : IsWeighed power image notes v tree plain other
-  weighed = Kinds.weighed power image notes v tree wanted stored by_marks kinds_are
+  weighed = slack_weighed power image notes v tree wanted stored by_marks kinds_are
 
   abbrev t : Text
   t = text_of image

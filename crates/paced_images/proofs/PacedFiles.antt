@@ -14,7 +14,7 @@ use Rattle.answer_parts.specs.Parts.{Then, unscaled}
 use Rattle.paced_images.specs.declared.wanted.SwitchSite.{SwitchSite}
 use Rattle.paced_images.specs.Paced.{IsPaced, IsPacedProgram}
 use Rattle.paced_images.specs.Wanted.{notes_by}
-use Rattle.scaler.proofs.Laws.{HoldAnswers, then_goes, then_stops}
+use Rattle.marked_images.proofs.Laws.{HoldAnswers, then_goes, then_stops}
 
 then_is : {X Y : Type 0} (part : Result X Refusal) (x : X) (next : X → Result Y Refusal → Type 0) (answer : Result Y Refusal) → part ≡ Ok x → next x answer → Then part next answer
 then_is part x next answer e h = subst (λ q. Then q next answer) (sym e) h

@@ -15,11 +15,11 @@ use Rattle.cost_theory.specs.Worst.{Numbers, AreNumbers}
 use Rattle.cycle_laws.specs.Charged.{AreCharged}
 use Rattle.code_text.specs.Text.{text_of}
 use Rattle.code_text.specs.TextGraph.{text_graph}
-use Rattle.flow_graph.specs.FlowGraph.{graph}
+use Rattle.flow_graph.specs.FlowGraph.{FlowGraph, graph}
 use Rattle.graph_runs.specs.Laws.{IsProgramOf}
 use Rattle.loop_file.specs.declared.notes.LoopNote.{LoopNote}
 use Rattle.loop_file.specs.Kept.{noted_loops}
-use Rattle.loop_forest.specs.Tree.{loops}
+use Rattle.loop_forest.specs.Tree.{LoopView, loops}
 use Rattle.scale_sites.specs.Counters.{counted_loops}
 use Rattle.stub_writer.specs.Stubs.{Site, block_bytes, patches_from}
 use Rattle.stored_runs.specs.Stubbed.{IsStubbed}
@@ -31,17 +31,15 @@ use Rattle.paid_runs.proofs.Laws.{budgeted_safe, counted_of, counters_of, tables
 use Rattle.rewritten_runs.specs.Promise.{KeepsThePromise}
 use Rattle.rewritten_runs.specs.Stubs.{IsWeighed, is_counted, counter_of}
 use Rattle.rewritten_runs.proofs.Laws.{countable, graph_program, kept_by_tree, limited, program_is}
-use Rattle.scaler.proofs.Laws.{found_in_time}
 use Rattle.paced_images.specs.declared.wanted.SwitchSite.{SwitchSite}
-use Rattle.paced_images.specs.Paced.{paced_budget, paced_test}
-use Rattle.paced_images.specs.Wanted.{Wanted, wanted_of}
+use Rattle.marked_images.specs.Wanted.{ChoosesSites, Wanted, marked_where}
+use Rattle.paced_images.specs.Paced.{paced_budget, paced_rule, paced_test}
+use Rattle.paced_images.specs.Wanted.{wanted_of}
 use Rattle.paced_images.proofs.Ended.{promised}
 use Rattle.paced_images.proofs.PacedCounts.{are_marked}
 use Rattle.paced_images.proofs.PacedTables.{tabled}
 use Rattle.paced_images.proofs.PacedWeights.{stored_same, extra_same}
-use Rattle.paced_images.proofs.SafeStubs.{bound_small}
-use Rattle.paced_images.proofs.Storing.{IsMade, can_store, safe as safe_stubs, start_low}
-use Rattle.paced_images.proofs.WantedKinds as Kinds
+use Rattle.marked_images.proofs.Laws.{IsMade, bound_small, can_store, found_in_time, safe as safe_stubs, start_low, slack_plain, slack_stored, slack_weighed}
 use Rattle.paced_images.proofs.WantedMarks.{chooses}
 
 -- what a stored image is read as has the original's text, and the block as its keyed segment
@@ -75,9 +73,9 @@ budget_first : (power : PowerModel) (start worst share : ℕ) → paced_budget p
 budget_first power start worst share =
     ap (λ b. cond b (time_at power start worst) (cond (start == 0) power.deadline (cond (nat_lt start start) (time_at power start worst + share * (power.deadline - time_at power start worst) / 4) 0))) (eq-eqb start start refl)
 
-module _ (power : PowerModel) (ok : IsPowerModel power) (image : Image) (notes : List LoopNote) (wanted : List SwitchSite) (tallied : List ℕ) (share : ℕ) (sites : List Site) (base start : ℕ) (read : image_of image.file ≡ Ok image) (no_key : image.keyed_segment ≡ None) (short : length image.file ≤ 4194304) (few_quarters : share ≤ 4) (is : IsMade power image notes wanted tallied share sites base start) where
+module _ (power : PowerModel) (ok : IsPowerModel power) (image : Image) (notes : List LoopNote) (v : FlowGraph) (t : LoopView) (wanted : List SwitchSite) (tallied : List ℕ) (share : ℕ) (sites : List Site) (base start : ℕ) (read : image_of image.file ≡ Ok image) (no_key : image.keyed_segment ≡ None) (short : length image.file ≤ 4194304) (few_quarters : share ≤ 4) (is : IsMade power image notes v t (wanted_of v t wanted tallied) (paced_rule power share) sites base start) where
   abbrev chosen : Wanted
-  chosen = wanted_of is.code is.tree wanted tallied
+  chosen = wanted_of v t wanted tallied
 
   abbrev test : Rattle.level_tables.specs.Tables.EdgeNumbers → ℕ → ℕ → Bool
   test = paced_test power start (is.stored.worst 0) share
@@ -86,7 +84,7 @@ module _ (power : PowerModel) (ok : IsPowerModel power) (image : Image) (notes :
   budget = paced_budget power start (is.stored.worst 0) share
 
   abbrev l : Loops
-  l = loops is.code is.tree
+  l = loops v t
 
   abbrev extent : ℕ → ℕ → Bool
   extent = (noted_loops notes).inside
@@ -95,22 +93,22 @@ module _ (power : PowerModel) (ok : IsPowerModel power) (image : Image) (notes :
   levels = length power.levels
 
   abbrev limits : ℕ → ℕ
-  limits w = l.bound (Rattle.rewritten_runs.specs.Stubs.loop_of (counted_loops is.tree) w)
+  limits w = l.bound (Rattle.rewritten_runs.specs.Stubs.loop_of (counted_loops t) w)
 
-  kinds : Rattle.paced_images.specs.Markings.ChoosesSites is.code chosen.switch
-  kinds = chooses is.code wanted
+  kinds : ChoosesSites v chosen.switch
+  kinds = chooses v wanted
 
   abbrev plain : Numbers
-  plain = Kinds.plain power image notes is.code is.tree chosen is.stored is.weighed kinds
+  plain = slack_plain power image notes v t chosen is.stored is.weighed kinds
 
   abbrev other : Numbers
-  other = Kinds.other power image notes is.code is.tree chosen is.stored is.weighed kinds
+  other = slack_stored power image notes v t chosen is.stored is.weighed kinds
 
-  weighed : IsWeighed power image notes is.code is.tree plain other
-  weighed = Kinds.weighed power image notes is.code is.tree chosen is.stored is.weighed kinds
+  weighed : IsWeighed power image notes v t plain other
+  weighed = slack_weighed power image notes v t chosen is.stored is.weighed kinds
 
-  prog : IsProgramOf (text_of image) is.code.code l extent
-  prog = program_is power image notes is.code is.tree plain other weighed
+  prog : IsProgramOf (text_of image) v.code l extent
+  prog = program_is power image notes v t plain other weighed
 
   abbrev pub stored : Image
   stored = stored_view image (stored_image image.file (patches_from base sites) base (block_bytes base sites) start) base (block_bytes base sites) start
@@ -118,49 +116,49 @@ module _ (power : PowerModel) (ok : IsPowerModel power) (image : Image) (notes :
   stubbed : IsStubbed image.file image levels limits sites base start stored
   stubbed = record {
     read = read;
-    storable = can_store power ok image notes wanted tallied share sites base start read no_key short is;
-    stored_is = law image.file image (patches_from base sites) base (block_bytes base sites) start read (can_store power ok image notes wanted tallied share sites base start read no_key short is);
+    storable = can_store power ok image notes v t chosen (paced_rule power share) sites base start read no_key short is;
+    stored_is = law image.file image (patches_from base sites) base (block_bytes base sites) start read (can_store power ok image notes v t chosen (paced_rule power share) sites base start read no_key short is);
     near = is.near;
     ascending = is.stubs.sites_are.ascending;
-    safe = safe_stubs power ok image notes wanted tallied share sites base start read no_key short is;
-    start_is_level = start_low power ok image notes wanted tallied share sites base start read no_key short is;
+    safe = safe_stubs power ok image notes v t chosen (paced_rule power share) sites base start read no_key short is;
+    start_is_level = start_low power ok image notes v t chosen (paced_rule power share) sites base start read no_key short is;
     few_levels = ok.few;
-    small_limits = λ k. let b = bound_small power ok image notes is.code is.tree chosen is.stored is.weighed kinds test is.least sites is.stubs.sites_are (Rattle.rewritten_runs.specs.Stubs.loop_of (counted_loops is.tree) k) in omega (arith, b);
+    small_limits = λ k. let b = bound_small power ok image notes v t chosen is.stored is.weighed kinds test is.least sites is.stubs.sites_are (Rattle.rewritten_runs.specs.Stubs.loop_of (counted_loops t) k) in omega (arith, b);
   }
 
-  same_stored : weights_of power (text_of image) is.code.code sites ≡ Rattle.rewritten_runs.specs.Stubs.stored_weights power image is.code (Rattle.paced_images.specs.Wanted.marked_where is.code is.tree chosen)
-  same_stored = stored_same power image notes is.code is.tree chosen is.stored is.weighed kinds test is.least sites is.stubs.sites_are
+  same_stored : weights_of power (text_of image) v.code sites ≡ Rattle.rewritten_runs.specs.Stubs.stored_weights power image v (marked_where v t chosen)
+  same_stored = stored_same power image notes v t chosen is.stored is.weighed kinds test is.least sites is.stubs.sites_are
 
-  same_extra : marked_specs.extra_site_weights (text_of image) is.code.code (costs_of power) sites ≡ Rattle.rewritten_runs.specs.Stubs.extra_weights power is.code (Rattle.paced_images.specs.Wanted.marked_where is.code is.tree chosen)
-  same_extra = extra_same power image notes is.code is.tree chosen is.stored is.weighed kinds test is.least sites is.stubs.sites_are
+  same_extra : marked_specs.extra_site_weights (text_of image) v.code (costs_of power) sites ≡ Rattle.rewritten_runs.specs.Stubs.extra_weights power v (marked_where v t chosen)
+  same_extra = extra_same power image notes v t chosen is.stored is.weighed kinds test is.least sites is.stubs.sites_are
 
   in_time : time_at power start (is.stored.worst 0) ≤ power.deadline
   in_time = found_in_time power (is.stored.worst 0) start is.slow
 
   abbrev is_of : ℕ → ℕ → Bool
-  is_of = Rattle.paid_runs.specs.Counters.by_words l (is_counted is.tree) (counter_of is.tree)
+  is_of = Rattle.paid_runs.specs.Counters.by_words l (is_counted t) (counter_of t)
 
-  pub budgeted : IsBudgeted power budget image stored limits sites start is.code.code l extent is_of is.stored is.least is.extra
+  pub budgeted : IsBudgeted power budget image stored limits sites start v.code l extent is_of is.stored is.least is.extra
   budgeted = record {
     power_is = ok;
     patched_is = stubbed_patched image.file image levels limits sites base start stored stubbed;
     program = prog;
-    counters = counters_of l (is_counted is.tree) (counter_of is.tree) (text_graph (text_of image) is.code.code) limits (countable power image notes is.code is.tree plain other weighed) (limited power image notes is.code is.tree plain other weighed);
-    counted = counted_of l (is_counted is.tree) (counter_of is.tree) (text_of image) is.code.code sites (are_marked power image notes is.code is.tree chosen is.stored is.weighed kinds test is.least sites is.stubs.sites_are);
+    counters = counters_of l (is_counted t) (counter_of t) (text_graph (text_of image) v.code) limits (countable power image notes v t plain other weighed) (limited power image notes v t plain other weighed);
+    counted = counted_of l (is_counted t) (counter_of t) (text_of image) v.code sites (are_marked power image notes v t chosen is.stored is.weighed kinds test is.least sites is.stubs.sites_are);
     analyzed = record {
-      program = graph_program power image notes is.code is.tree plain other weighed;
+      program = graph_program power image notes v t plain other weighed;
       accepted = prog.loops;
-      weights = (weights_of_calls image levels limits sites is.code.code (costs_of power) (safe_stubs power ok image notes wanted tallied share sites base start read no_key short is)).0;
-      numbers = subst (λ (q : Graph). AreNumbers q l (weights_of power (text_of image) is.code.code sites) is.stored) (sym is.weighed.code_is.graph_is) (subst (λ (w : ℕ → ℕ). AreNumbers (graph is.code) l w is.stored) (sym same_stored) is.weighed.stored_are);
+      weights = (weights_of_calls image levels limits sites v.code (costs_of power) (safe_stubs power ok image notes v t chosen (paced_rule power share) sites base start read no_key short is)).0;
+      numbers = subst (λ (q : Graph). AreNumbers q l (weights_of power (text_of image) v.code sites) is.stored) (sym is.weighed.code_is.graph_is) (subst (λ (w : ℕ → ℕ). AreNumbers (graph v) l w is.stored) (sym same_stored) is.weighed.stored_are);
     };
     added = record {
-      program = graph_program power image notes is.code is.tree plain other weighed;
+      program = graph_program power image notes v t plain other weighed;
       accepted = prog.loops;
-      weights = (weights_of_calls image levels limits sites is.code.code (costs_of power) (safe_stubs power ok image notes wanted tallied share sites base start read no_key short is)).1;
-      numbers = subst (λ (q : Graph). AreNumbers q l (marked_specs.extra_site_weights (text_of image) is.code.code (costs_of power) sites) is.extra) (sym is.weighed.code_is.graph_is) (subst (λ (w : ℕ → ℕ). AreNumbers (graph is.code) l w is.extra) (sym same_extra) is.stubs.extra_are);
+      weights = (weights_of_calls image levels limits sites v.code (costs_of power) (safe_stubs power ok image notes v t chosen (paced_rule power share) sites base start read no_key short is)).1;
+      numbers = subst (λ (q : Graph). AreNumbers q l (marked_specs.extra_site_weights (text_of image) v.code (costs_of power) sites) is.extra) (sym is.weighed.code_is.graph_is) (subst (λ (w : ℕ → ℕ). AreNumbers (graph v) l w is.extra) (sym same_extra) is.stubs.extra_are);
     };
-    least_is = subst (λ (q : Graph). AreCharged q l (weights_of power (text_of image) is.code.code sites) is.least) (sym is.weighed.code_is.graph_is) (subst (λ (w : ℕ → ℕ). AreCharged (graph is.code) l w is.least) (sym same_stored) is.stubs.least_are);
-    tables = tables_keep_budgets power budget (text_of image) is.code.code l sites is_of is.stored is.least (tabled power ok image notes is.code is.tree chosen is.stored is.weighed kinds budget is.least sites is.stubs.sites_are);
+    least_is = subst (λ (q : Graph). AreCharged q l (weights_of power (text_of image) v.code sites) is.least) (sym is.weighed.code_is.graph_is) (subst (λ (w : ℕ → ℕ). AreCharged (graph v) l w is.least) (sym same_stored) is.stubs.least_are);
+    tables = tables_keep_budgets power budget (text_of image) v.code l sites is_of is.stored is.least (tabled power ok image notes v t chosen is.stored is.weighed kinds budget is.least sites is.stubs.sites_are);
     budgets = record {
       first = (let e = budget_first power start (is.stored.worst 0) share in omega (arith, e));
       within = λ i low. budget_within power start (is.stored.worst 0) share i few_quarters in_time;
@@ -175,7 +173,7 @@ module _ (power : PowerModel) (ok : IsPowerModel power) (image : Image) (notes :
 
   pub keeps : KeepsThePromise power image notes stored (is.extra.worst 0)
   keeps input steps status kept exited =
-      let k = kept_by_tree is.code notes is.tree is.weighed.tree_is image levels input steps kept.carried kept.kept in
-      let r = budgeted_safe power budget image stored limits sites start is.code.code l extent is_of is.stored is.least is.extra budgeted input steps kept.carried k in
-      let is_level : starting_level levels stored.keyed_segment < levels = (let lt = start_low power ok image notes wanted tallied share sites base start read no_key short is in omega (arith, lt, starts)) in
-      promised power image stored sites is.code.code l is_of is.stored is.extra input steps status kept.carried is_level (subst (λ i. Rattle.paid_runs.specs.Patched.IsTunedRun power image stored sites i is.code.code l is_of is.stored is.extra input steps kept.carried) (sym starts) r.0) exited
+      let k = kept_by_tree v notes t is.weighed.tree_is image levels input steps kept.carried kept.kept in
+      let r = budgeted_safe power budget image stored limits sites start v.code l extent is_of is.stored is.least is.extra budgeted input steps kept.carried k in
+      let is_level : starting_level levels stored.keyed_segment < levels = (let lt = start_low power ok image notes v t chosen (paced_rule power share) sites base start read no_key short is in omega (arith, lt, starts)) in
+      promised power image stored sites v.code l is_of is.stored is.extra input steps status kept.carried is_level (subst (λ i. Rattle.paid_runs.specs.Patched.IsTunedRun power image stored sites i v.code l is_of is.stored is.extra input steps kept.carried) (sym starts) r.0) exited

@@ -18,15 +18,15 @@ use Rattle.stub_writer.specs.Stubs.{out_of_reach, block_bytes, patches_from}
 use Rattle.rewritten_runs.specs.Stubs.{rewritten_file}
 use Rattle.rewritten_runs.specs.Promise.{KeepsThePromise}
 use Rattle.answer_parts.specs.Parts.{unscaled}
-use Rattle.scaler.specs.Rewritten.{rewritten_summary}
+use Rattle.marked_images.specs.Stored.{rewritten_summary}
 use Rattle.rewritten_runs.specs.FilePromise.{FilesKeepThePromise}
-use Rattle.scaler.specs.Promise.{IsStoredSafely}
-use Rattle.scaler.proofs.Laws.{file_is, found_in_time, is_unscaled, near_of, read_again, then_ok}
+use Rattle.marked_images.specs.Promise.{IsStoredSafely}
+use Rattle.marked_images.proofs.Laws.{file_is, found_in_time, is_unscaled, near_of, read_again, then_ok, IsMade}
 use Rattle.paced_images.specs.declared.wanted.SwitchSite.{SwitchSite}
-use Rattle.paced_images.specs.Paced.{IsPaced, IsPacedProgram, IsProgramPaced}
-use Rattle.paced_images.specs.Wanted.{notes_by, marked_at}
-use Rattle.paced_images.proofs.Storing.{IsMade}
+use Rattle.paced_images.specs.Paced.{IsPaced, IsPacedProgram, IsProgramPaced, paced_rule}
+use Rattle.paced_images.specs.Wanted.{notes_by, marked_at, wanted_of}
 use Rattle.paced_images.proofs.Uncounted.{promise_of}
+use Rattle.paced_images.proofs.WantedMarks.{chooses}
 use Rattle.paced_images.proofs.PacedRuns.{stored as stored_image_of, stored_is, keeps, view_text, view_key, key_of}
 
 paced_program : (power : PowerModel) (original : Image) (notes : List LoopNote) (wanted : List SwitchSite) (tallied : List ℕ) (share : ℕ) (given : List ℕ × Summary) → IsPacedProgram power original notes wanted tallied share (Ok given) → IsProgramPaced power original notes wanted tallied share (Ok given)
@@ -82,11 +82,11 @@ safe image machine loops wanted counted tallied share stored summary short _ _ q
     let numbers = ap (λ (g : List ℕ × Summary). g.1) near.same in
     let model = model-from_bytes machine power went.power_is in
     let of = file_is image original went.original_is in
-    let is : IsMade power original notes wanted tallied share p.sites p.base p.start = record { code = p.code; tree = p.tree; stored = p.stored; extra = p.extra; least = p.least; weighed = p.weighed; slow = p.slow; stubs = p.stubs; near = near.near } in
+    let is : IsMade power original notes p.code p.tree (wanted_of p.code p.tree wanted tallied) (paced_rule power share) p.sites p.base p.start = record { kinds = chooses p.code wanted; stored = p.stored; extra = p.extra; least = p.least; weighed = p.weighed; slow = p.slow; stubs = p.stubs; near = near.near } in
     let read = read_again image original went.original_is in
     let fits : length original.file ≤ 4194304 = rw of short in
-    let made = stored_is power model original notes wanted tallied share p.sites p.base p.start read went.no_key fits quarters is in
-    let kept = keeps power model original notes wanted tallied share p.sites p.base p.start read went.no_key fits quarters is in
+    let made = stored_is power model original notes p.code p.tree wanted tallied share p.sites p.base p.start read went.no_key fits quarters is in
+    let kept = keeps power model original notes p.code p.tree wanted tallied share p.sites p.base p.start read went.no_key fits quarters is in
     let stub_cycles : summary.stub_cycles ≡ p.extra.worst 0 = ap (λ (s : Summary). s.stub_cycles) numbers in
     let worst : summary.worst ≡ p.stored.worst 0 = ap (λ (s : Summary). s.worst) numbers in
     let start : summary.start ≡ p.start = ap (λ (s : Summary). s.start) numbers in
@@ -95,7 +95,7 @@ safe image machine loops wanted counted tallied share stored summary short _ _ q
       power = went.power;
       original = went.original;
       notes = went.notes;
-      rewritten = stored_image_of power model original notes wanted tallied share p.sites p.base p.start read went.no_key fits quarters is;
+      rewritten = stored_image_of power model original notes p.code p.tree wanted tallied share p.sites p.base p.start read went.no_key fits quarters is;
       power_is = went.power_is;
       original_is = went.original_is;
       notes_are = went.notes_are;
@@ -106,8 +106,8 @@ safe image machine loops wanted counted tallied share stored summary short _ _ q
       starts = sym start;
       time = time ∙ (ap (λ i. time_at went.power i (p.stored.worst 0)) (sym start) ∙ ap (time_at went.power summary.start) (sym worst));
       in_time = subst (λ t. t ≤ went.power.deadline) (sym time) (found_in_time went.power (p.stored.worst 0) p.start p.slow);
-      promise = subst (λ b. KeepsThePromise power original went.notes (stored_image_of power model original notes wanted tallied share p.sites p.base p.start read went.no_key fits quarters is) b) (sym stub_cycles)
-          (promise_of power counted tallied original went.notes (stored_image_of power model original notes wanted tallied share p.sites p.base p.start read went.no_key fits quarters is) (p.extra.worst 0) kept);
+      promise = subst (λ b. KeepsThePromise power original went.notes (stored_image_of power model original notes p.code p.tree wanted tallied share p.sites p.base p.start read went.no_key fits quarters is) b) (sym stub_cycles)
+          (promise_of power counted tallied original went.notes (stored_image_of power model original notes p.code p.tree wanted tallied share p.sites p.base p.start read went.no_key fits quarters is) (p.extra.worst 0) kept);
     } in
     record { files = files; slow = subst (λ (s : Summary). slowest_of went.power s.worst ≡ Some s.start) (sym numbers) p.slow }
 

@@ -34,13 +34,9 @@ use Rattle.paid_runs.specs.Counters.{by_words}
 use Rattle.paid_runs.proofs.Laws.{is_word}
 use Rattle.rewritten_runs.specs.Stubs.{IsWeighed, IsWeighedWith, AreSitesOf, told_at, tail_at, fragment_by, fragments_with, loop_of, is_counted, counter_of, stored_weights}
 use Rattle.rewritten_runs.proofs.Laws.{IsMarkOf, counted_is, graph_program, loop_is, program_is}
-use Rattle.paced_images.specs.Markings.{ChoosesSites}
-use Rattle.paced_images.specs.Wanted.{Wanted, marked_where}
-use Rattle.paced_images.proofs.CallWeights.{calls_unmarked}
+use Rattle.marked_images.specs.Wanted.{ChoosesSites, Wanted, marked_where}
+use Rattle.marked_images.proofs.Laws.{calls_unmarked, bound_small, marks_of_edge, marked_led, rows_by_count, slack_plain, slack_stored, slack_weighed}
 use Rattle.paced_images.proofs.PacedWeights.{tail_is, stored_same}
-use Rattle.paced_images.proofs.SafeStubs.{bound_small}
-use Rattle.paced_images.proofs.WantedKinds.{marks_of_edge, marked_led, rows_by_count}
-use Rattle.paced_images.proofs.WantedKinds as Kinds
 
 -- ---- entries
 
@@ -61,13 +57,13 @@ module _ (power : PowerModel) (ok : IsPowerModel power) (image : Image) (notes :
   test = meets_in_budget power budget
 
   abbrev plain : Numbers
-  plain = Kinds.plain power image notes v tree wanted stored by_marks kinds_are
+  plain = slack_plain power image notes v tree wanted stored by_marks kinds_are
 
   abbrev other : Numbers
-  other = Kinds.other power image notes v tree wanted stored by_marks kinds_are
+  other = slack_stored power image notes v tree wanted stored by_marks kinds_are
 
   abbrev weighed : IsWeighed power image notes v tree plain other
-  weighed = Kinds.weighed power image notes v tree wanted stored by_marks kinds_are
+  weighed = slack_weighed power image notes v tree wanted stored by_marks kinds_are
 
   abbrev t : Text
   t = text_of image

@@ -38,10 +38,8 @@ use Rattle.power_model.specs.Switches.{costs_of}
 use Rattle.paid_runs.specs.Timely.{weights_of}
 use Rattle.rewritten_runs.specs.Stubs.{IsWeighed, IsWeighedWith, AreSitesOf, told_at, fragment_by, fragments_with, extra_weights, stored_weights}
 use Rattle.rewritten_runs.proofs.Laws.{branch_kind, edge_is, jump_kind, led_class, placed, program_is}
-use Rattle.paced_images.specs.Markings.{ChoosesSites}
-use Rattle.paced_images.specs.Wanted.{Wanted, marked_where}
-use Rattle.paced_images.proofs.WantedKinds.{marked_led}
-use Rattle.paced_images.proofs.WantedKinds as Kinds
+use Rattle.marked_images.specs.Wanted.{ChoosesSites, Wanted, marked_where}
+use Rattle.marked_images.proofs.Laws.{marked_led, slack_plain, slack_stored, slack_weighed}
 
 -- ---- fragments cost what their marks do
 
@@ -90,13 +88,13 @@ any_from (suc n) q k lt2 h = ⊎_elim
 module _ (power : PowerModel) (image : Image) (notes : List LoopNote) (v : FlowGraph) (tree : LoopView) (wanted : Wanted) (stored : Numbers) (by_marks : IsWeighedWith power image notes v tree (marked_where v tree wanted) stored) (kinds_are : ChoosesSites v wanted.switch)
     (test : tables.EdgeNumbers → ℕ → ℕ → Bool) (least : Charged) (sites : List Site) (are : AreSitesOf image v.code (fragments_with power test image v tree (marked_where v tree wanted) stored least) sites) where
   abbrev plain : Numbers
-  plain = Kinds.plain power image notes v tree wanted stored by_marks kinds_are
+  plain = slack_plain power image notes v tree wanted stored by_marks kinds_are
 
   abbrev other : Numbers
-  other = Kinds.other power image notes v tree wanted stored by_marks kinds_are
+  other = slack_stored power image notes v tree wanted stored by_marks kinds_are
 
   abbrev weighed : IsWeighed power image notes v tree plain other
-  weighed = Kinds.weighed power image notes v tree wanted stored by_marks kinds_are
+  weighed = slack_weighed power image notes v tree wanted stored by_marks kinds_are
 
   abbrev t : Text
   t = text_of image

@@ -11,15 +11,14 @@ use Rattle.scale_base.specs.declared.fragments.Mark.TheVariants as marks
 use Rattle.scale_sites.specs.Sites.{marks_at_edge}
 use Rattle.scale_sites.specs.Weights.{switches}
 use Rattle.level_tables.specs.Tables.{EdgeNumbers}
-use Rattle.scaler.proofs.Laws.{IsLoud}
+use Rattle.marked_images.proofs.Laws.{IsLoud, marking_switches}
 use Rattle.paced_images.specs.Useful.{is_site_mark, lowers_some}
 use Rattle.flow_graph.specs.FlowGraph.{FlowGraph}
 use Rattle.loop_forest.specs.Tree.{LoopView}
-use Rattle.paced_images.specs.declared.stubs.Marking.{Marking}
+use Rattle.marked_images.specs.declared.stubs.Marking.{Marking}
 use Rattle.paced_images.specs.declared.wanted.SwitchSite.{SwitchSite}
 use Rattle.paced_images.specs.Wanted.{names, names_some}
-use Rattle.paced_images.specs.Markings.{HasMarking}
-use Rattle.paced_images.proofs.MarkingLaws.{marking_switches}
+use Rattle.marked_images.specs.Markings.{HasMarking}
 
 -- ---- the mark of a site among those of an edge
 

@@ -16,35 +16,35 @@ use Rattle.scale_sites.specs.Forms.{formed, formed_where, tallied_by}
 use Rattle.scale_sites.specs.Marks.{marks_of}
 use Rattle.scale_sites.specs.Sites.{SitesView, AreSitesBy, AreWantedSites, is_branch, flag_at, marks_where, marks_at_edge}
 use Rattle.scale_sites.specs.Weights.{jumps_of}
-use Rattle.scaler.proofs.Laws.{jumps_same}
+use Rattle.marked_images.proofs.Laws.{jumps_same}
 use Rattle.paced_images.specs.declared.wanted.SwitchSite.{SwitchSite}
 use Rattle.paced_images.specs.Flags.{AreFlags, AreLowest, AreTallied}
-use Rattle.paced_images.specs.Markings.{ChoosesSites}
-use Rattle.paced_images.specs.Scalings.{HasMarks}
-use Rattle.paced_images.specs.Wanted.{same_kind, names, any_names, wanted_by, lowest_by, header_tallied, is_tallied, wanted_of, marked_where}
+use Rattle.marked_images.specs.Wanted.{ChoosesSites, IsSitesKind, marked_where}
+use Rattle.marked_images.specs.Scalings.{HasMarks}
+use Rattle.paced_images.specs.Wanted.{same_kind, names, any_names, wanted_by, lowest_by, header_tallied, is_tallied, wanted_of}
 
 -- ---- wanted edges are of branches and of jumps
 
-same_of : (k other : EdgeKind) → same_kind k other ≡ true → same_kind k k ≡ true
-same_of Taken other h = refl
-same_of Untaken other h = refl
-same_of Jump other h = refl
-same_of Next other h = cc
-same_of CallNext other h = cc
-same_of End other h = cc
+kind_of : (k other : EdgeKind) → same_kind k other ≡ true → IsSitesKind k
+kind_of Taken other h = tt
+kind_of Untaken other h = tt
+kind_of Jump other h = tt
+kind_of Next other h = cc
+kind_of CallNext other h = cc
+kind_of End other h = cc
 
-any_kind : (sites : List SwitchSite) (edge : Edge) → list_any (λ site. names site edge) sites ≡ true → same_kind edge.kind edge.kind ≡ true
+any_kind : (sites : List SwitchSite) (edge : Edge) → list_any (λ site. names site edge) sites ≡ true → IsSitesKind edge.kind
 any_kind [] edge h = let never : ⊥ = cc in absurd never
 any_kind (s ∷ sites) edge h = by (names s edge) refl (any_kind sites edge)
   where
-    by : (b : Bool) → names s edge ≡ b → (list_any (λ site. names site edge) sites ≡ true → same_kind edge.kind edge.kind ≡ true) → same_kind edge.kind edge.kind ≡ true
-    by true on rest = same_of edge.kind s.kind (and_parts (s.at == edge.at) (same_kind edge.kind s.kind) on).1
+    by : (b : Bool) → names s edge ≡ b → (list_any (λ site. names site edge) sites ≡ true → IsSitesKind edge.kind) → IsSitesKind edge.kind
+    by true on rest = kind_of edge.kind s.kind (and_parts (s.at == edge.at) (same_kind edge.kind s.kind) on).1
     by false off rest = rest (sym (ap (λ b. b || list_any (λ site. names site edge) sites) off) ∙ h)
 
 pub chooses : (v : FlowGraph) (sites : List SwitchSite) → ChoosesSites v (wanted_by v sites)
 chooses v sites e on = by (slice_get v.code.edges e) refl on
   where
-    by : (o : Option Edge) → slice_get v.code.edges e ≡ o → any_names sites o ≡ true → (edge : Edge) × (slice_get v.code.edges e ≡ Some edge) × (same_kind edge.kind edge.kind ≡ true)
+    by : (o : Option Edge) → slice_get v.code.edges e ≡ o → any_names sites o ≡ true → (edge : Edge) × (slice_get v.code.edges e ≡ Some edge) × IsSitesKind edge.kind
     by None get on = let never : ⊥ = cc in absurd never
     by (Some edge) get on = (edge, get, any_kind sites edge on)
 

@@ -23,8 +23,8 @@ use Rattle.level_tables.specs.Budgets.{meets_in_budget}
 use Rattle.stub_writer.specs.Stubs.{Site, out_of_reach}
 use Rattle.rewritten_runs.specs.Stubs.{IsWeighedWith, HasStubsWith, rewritten_file}
 use Rattle.answer_parts.specs.Parts.{Then, unscaled}
-use Rattle.scaler.specs.Held.{IsCodeRefused, IsLoopRefused}
-use Rattle.scaler.specs.Rewritten.{IsCounterRefused, rewritten_summary, unless_out_of_reach}
+use Rattle.marked_images.specs.Refused.{IsCodeRefused, IsLoopRefused, IsCounterRefused}
+use Rattle.marked_images.specs.Stored.{BudgetRule, rewritten_summary, unless_out_of_reach}
 use Rattle.paced_images.specs.declared.wanted.SwitchSite.{SwitchSite}
 use Rattle.paced_images.specs.Wanted.{notes_by, marked_at}
 
@@ -41,6 +41,10 @@ paced_budget power start worst share i =
 
 abbrev pub paced_test : PowerModel → (start worst share : ℕ) → EdgeNumbers → ℕ → ℕ → Bool
 paced_test power start worst share = meets_in_budget power (paced_budget power start worst share)
+
+-- by the starting level and the worst cycles
+abbrev pub paced_rule : PowerModel → (share : ℕ) → BudgetRule
+paced_rule power share start worst = paced_budget power start worst share
 
 -- ---- what the program of an image and its loops give
 

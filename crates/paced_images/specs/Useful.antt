@@ -20,11 +20,12 @@ use Rattle.level_tables.specs.Tables.{EdgeNumbers, entry_by, goes_lowest, tally_
 use Rattle.loop_forest.specs.Tree.{LoopView, loops}
 use Rattle.rewritten_runs.specs.Stubs.{IsWeighedWith, loop_of, stored_weights, told_at}
 use Rattle.scale_sites.specs.Counters.{counted_loops}
-use Rattle.paced_images.specs.declared.scaling.Marked.{Marked}
+use Rattle.marked_images.specs.declared.scaling.Marked.{Marked}
 use Rattle.paced_images.specs.declared.wanted.SwitchSite.{SwitchSite}
-use Rattle.paced_images.specs.Markings.{Whichever, test_of}
+use Rattle.marked_images.specs.Markings.{Whichever, test_of}
 use Rattle.paced_images.specs.Paced.{IsPaced, paced_test}
-use Rattle.paced_images.specs.Wanted.{notes_by, names_some, marked_where, marked_at}
+use Rattle.paced_images.specs.Wanted.{notes_by, names_some, marked_at}
+use Rattle.marked_images.specs.Wanted.{marked_where}
 
 -- ---- what a switch lowers
 

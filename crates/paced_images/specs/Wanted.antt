@@ -11,9 +11,8 @@ use Rattle.flow_graph.specs.FlowGraph.{FlowGraph}
 use Rattle.loop_file.specs.declared.notes.LoopNote.{LoopNote}
 use Rattle.loop_forest.specs.Tree.{LoopView, loops}
 use Rattle.scale_sites.specs.Counters.{counted_loops}
-use Rattle.scale_sites.specs.Forms.{formed}
 use Rattle.scale_sites.specs.Marks.{first_counter}
-use Rattle.scale_sites.specs.Sites.{marks_where}
+use Rattle.marked_images.specs.Wanted.{Wanted, marked_where}
 use Rattle.paced_images.specs.declared.wanted.SwitchSite.{SwitchSite}
 
 -- ---- what a site names
@@ -94,18 +93,9 @@ is_tallied v t tallied counter = header_tallied v t tallied (slice_get (counted_
 
 -- ---- the marks
 
--- what is wanted of a program's marks: which edges have a switch, which of those go to the lowest level, and which counters are tallied
-pub record Wanted : Type 0 where
-  pub switch : ℕ → Bool
-  pub lowest : ℕ → Bool
-  pub tallied : ℕ → Bool
-
+-- what is wanted of them
 abbrev pub wanted_of : FlowGraph → LoopView → List SwitchSite → (tallied : List ℕ) → Wanted
 wanted_of v t sites tallied = record { switch = wanted_by v sites; lowest = lowest_by v sites; tallied = is_tallied v t tallied }
-
--- By edge, its marks: a switch where it is wanted and leaves no counted loop, and the exits, resets and counts of counted loops; all in the forms that are wanted.
-abbrev pub marked_where : FlowGraph → LoopView → Wanted → ℕ → List Mark
-marked_where v t wanted e = formed (wanted.lowest e) wanted.tallied (marks_where v t (counted_loops t) wanted.switch e)
 
 abbrev pub marked_at : FlowGraph → LoopView → List SwitchSite → (tallied : List ℕ) → ℕ → List Mark
 marked_at v t sites tallied e = marked_where v t (wanted_of v t sites tallied) e

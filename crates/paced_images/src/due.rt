@@ -5,14 +5,13 @@ ghost use Rattle.level_tables.specs.Budgets.{meets_in_budget, budget_at};
 ghost use Rattle.loop_forest.specs.Tree.{IsLoopTree, loops};
 ghost use Rattle.scale_base.specs.declared.fragments.Mark.TheVariants as marks;
 ghost use Rattle.scale_sites.specs.Sites.{marks_at_edge};
-ghost use Rattle.paced_images.specs.Markings.{HasMarking, told_view};
+ghost use Rattle.marked_images.specs.Markings.{HasMarking, told_view};
 ghost use Rattle.paced_images.specs.Useful as useful;
 
-use crate::scaling::Marked;
-use crate::stubs::{Told, told_at};
 use flow_graph::CodeGraph;
 use level_tables::{LevelBudgets, tally_from_within, tally_shift};
 use loop_forest::LoopTree;
+use marked_images::{Marked, Told, told_at};
 use power_model::Power;
 use scale_base::{Mark, NoMemory};
 use std::alloc::Global;

@@ -2,21 +2,20 @@
 //! Tests: crates/answer_tests/src/pacing.rt.
 #![tactic(auto)]
 
+mod budgeted;
 mod due;
+mod marks;
 mod noted;
 mod pacing;
 mod programs;
 mod proposal;
 mod proposed;
-mod scaling;
-mod stubs;
 mod useful;
 mod wanted;
 
 pub use pacing::pace;
-pub use programs::{Program, program_of};
+pub use programs::program_of;
 pub use proposal::Proposal;
 pub use proposed::pace_useful;
-pub use scaling::{Marked, Scaling};
 pub use useful::{KeptMarks, useful_marks};
 pub use wanted::SwitchSite;

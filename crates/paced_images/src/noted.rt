@@ -1,6 +1,6 @@
 //! The notes of loops, with those counted that are to be.
 
-ghost use Rattle.std.specs.Prelude.{◌≡◌, map, IfOk};
+ghost use Rattle.std.specs.Prelude.{◌≡◌, IfOk};
 ghost use Rattle.loop_file.specs.Notes.{IsLoopNote};
 ghost use Rattle.cost_theory.specs.Lists.{is_among};
 ghost use Rattle.paced_images.specs.Wanted.{note_by, notes_by};

@@ -2,12 +2,12 @@
 
 ghost use Rattle.std.specs.Prelude.{◌≤◌, length, IfOk};
 ghost use Rattle.scale_base.specs.Answer.{AnswersBy};
-ghost use Rattle.scaler.specs.Promise.{IsStoredSafely};
+ghost use Rattle.marked_images.specs.Promise.{IsStoredSafely};
 ghost use Rattle.paced_images.specs.Paced.{IsPaced};
 
 use crate::programs::program_of;
-use crate::scaling::stored_file;
 use crate::wanted::SwitchSite;
+use marked_images::stored_file;
 use scale_base::{Stop, Summary};
 use std::alloc::Global;
 

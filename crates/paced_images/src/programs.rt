@@ -4,26 +4,16 @@ ghost use Rattle.std.specs.Prelude.{◌≤◌};
 ghost use Rattle.scale_base.specs.Answer.{AnswersBy};
 ghost use Rattle.paced_images.specs.Programs.{IsProgramFound};
 
+use crate::marks::marked_of;
 use crate::noted::notes_by;
-use crate::scaling::{Marked, Scaling, marked_of, scaling_of};
 use crate::wanted::SwitchSite;
 use answer_parts::check_unscaled;
-use elf_image::ImageView;
 use elf_view::read_image;
 use loop_file::read_loops;
 use machine_file::read_machine;
-use power_model::Power;
+use marked_images::{Program, scaling_of};
 use scale_base::Stop;
 use std::alloc::Global;
-
-/// A machine, an image, its marks and its stubs.
-#[derive(Drop)]
-pub struct Program<'a> {
-    pub power: Power,
-    pub view: ImageView<'a>,
-    pub marked: Marked,
-    pub scaling: Scaling,
-}
 
 /// The program of three files, or the first refusal.
 pub fn program_of<'a>(

@@ -2,13 +2,13 @@
 
 ghost use Rattle.std.specs.Prelude.{◌≡◌, ◌≤◌, ◌↔◌, true, length, option_map, IfOk, IfSome};
 ghost use Rattle.scale_base.specs.Answer.{AnswersBy};
-ghost use Rattle.scaler.specs.Promise.{IsStoredSafely};
+ghost use Rattle.marked_images.specs.Promise.{IsStoredSafely};
 ghost use Rattle.paced_images.specs.Proposed.{IsProposalPaced};
 
 use crate::programs::program_of;
 use crate::proposal::Proposal;
-use crate::scaling::stored_file;
 use crate::useful::{KeptMarks, kept_marks};
+use marked_images::stored_file;
 use scale_base::{Stop, Summary};
 use std::alloc::Global;
 

@@ -6,15 +6,14 @@ ghost use Rattle.scale_base.specs.Answer.{AnswersBy};
 ghost use Rattle.level_tables.specs.Budgets.{meets_in_budget, budget_at};
 ghost use Rattle.level_tables.specs.Tables.{entry_by};
 ghost use Rattle.scale_sites.specs.Weights.{switches};
-ghost use Rattle.paced_images.specs.Markings.{HasMarking, told_view};
+ghost use Rattle.marked_images.specs.Markings.{HasMarking, told_view};
 ghost use Rattle.paced_images.specs.Useful as useful;
 
 use crate::due::kept_loops;
-use crate::programs::{Program, program_of};
-use crate::scaling::Marked;
-use crate::stubs::{Told, told_at};
+use crate::programs::program_of;
 use crate::wanted::{SwitchSite, edges_at, names};
 use level_tables::{LevelBudgets, entry_within, lowest_within};
+use marked_images::{Marked, Program, Told, told_at};
 use power_model::Power;
 use scale_base::{Mark, NoMemory, Stop};
 use std::alloc::Global;

@@ -20,7 +20,7 @@ use Rattle.loop_file.specs.declared.notes.LoopNote.{LoopNote}
 use Rattle.loop_forest.specs.Tree.{LoopView, loops, IsTreeOf}
 use Rattle.worst_cycles.specs.Worst.{WorstView, by_edge, IsWorstFound}
 use Rattle.scaler.specs.Held.{IsHeldProgram, held_at, held_within}
-use Rattle.scaler.proofs.Files.{HoldAnswers}
+use Rattle.marked_images.proofs.Laws.{HoldAnswers}
 use Rattle.rewritten_runs.proofs.Laws.{listed_weights, numbers_listed}
 
 -- ---- stops

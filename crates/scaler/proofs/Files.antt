@@ -1,34 +1,22 @@
 -- From the files to the program: what stops, and what goes on.
-use Rattle.std.proofs.Common.{◌≡◌, ℕ, List, Result, Ok, Err, refl, sym, subst}
+use Rattle.std.proofs.Common.{◌≡◌, ℕ, List, Result, Ok, Err}
 use Rattle.std.specs.Prelude.{Vec}
 use Rattle.std.specs.declared.alloc.Global.{Global}
 use Rattle.scale_base.specs.declared.refusal.Refusal.{Refusal}
 use Rattle.scale_base.specs.declared.refusal.Stop.{Stop}
-use Rattle.scale_base.specs.declared.refusal.Stop.TheVariants.{Refused, Memory}
+use Rattle.scale_base.specs.declared.refusal.Stop.TheVariants.{Refused}
 use Rattle.scale_base.specs.declared.summary.Summary.{Summary}
-use Rattle.scale_base.specs.Answer.{AnswersBy, Stops}
+use Rattle.scale_base.specs.Answer.{Stops}
 use Rattle.scale_base.specs.Image.{Image, image_of}
 use Rattle.power_model.specs.Numbers.{PowerModel}
 use Rattle.machine_file.specs.Machine.{read_machine}
 use Rattle.loop_file.specs.declared.notes.LoopNote.{LoopNote}
 use Rattle.loop_file.specs.Loops.{read_loops}
-use Rattle.answer_parts.specs.Parts.{Then, unscaled}
+use Rattle.answer_parts.specs.Parts.{unscaled}
 use Rattle.scaler.specs.Held.{IsHeld, IsHeldProgram}
+use Rattle.marked_images.proofs.Laws.{HoldAnswers, then_goes, then_stops}
 
 -- ---- the parts in their order
-
--- what `hold` answers, as it is seen
-abbrev pub HoldAnswers : Result (Vec ℕ Global × Summary) Stop → (Result (List ℕ × Summary) Refusal → Type 0) → Type 0
-HoldAnswers result meant = AnswersBy (λ given. (given.0.items, given.1)) result meant
-
-pub then_stops : {Y : Type 0} (part : Result Y Refusal) (next : Y → Result (List ℕ × Summary) Refusal → Type 0) → (stop : Stop) → Stops stop part → HoldAnswers (Err stop) (Then part next)
-then_stops part next (Refused refusal) h = subst (λ p. Then p next (Err refusal)) (sym h) refl
-then_stops part next Memory h = tt
-
-pub then_goes : {Y : Type 0} (part : Result Y Refusal) (x : Y) (next : Y → Result (List ℕ × Summary) Refusal → Type 0) → (result : Result (Vec ℕ Global × Summary) Stop) → part ≡ Ok x → HoldAnswers result (next x) → HoldAnswers result (Then part next)
-then_goes part x next (Ok given) e h = subst (λ p. Then p next (Ok (given.0.items, given.1))) (sym e) h
-then_goes part x next (Err (Refused refusal)) e h = subst (λ p. Then p next (Err refusal)) (sym e) h
-then_goes part x next (Err Memory) e h = tt
 
 pub machine_stops : (image machine loops : List ℕ) (stop : Stop) → Stops stop (read_machine machine) → HoldAnswers (Err stop) (IsHeld image machine loops)
 unfolding IsHeld

@@ -15,7 +15,7 @@ use Rattle.loop_file.specs.Loops.{read_loops}
 use Rattle.answer_parts.specs.Parts.{unscaled}
 use Rattle.scaler.specs.Rewritten.{IsRewrittenProgram}
 use Rattle.scaler.specs.RewrittenAs.{IsRewrittenAs, with_gain, notes_with}
-use Rattle.scaler.proofs.Files.{HoldAnswers, then_stops, then_goes}
+use Rattle.marked_images.proofs.Laws.{HoldAnswers, then_stops, then_goes}
 
 -- the ranges of a machine say nothing of its least gain
 pub model_with : (power : PowerModel) (min_gain : ℕ) → IsPowerModel power → IsPowerModel (with_gain power min_gain)

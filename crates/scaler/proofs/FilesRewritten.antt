@@ -14,7 +14,7 @@ use Rattle.loop_file.specs.declared.notes.LoopNote.{LoopNote}
 use Rattle.loop_file.specs.Loops.{read_loops}
 use Rattle.answer_parts.specs.Parts.{unscaled}
 use Rattle.scaler.specs.Rewritten.{IsRewritten, IsRewrittenProgram}
-use Rattle.scaler.proofs.Files.{HoldAnswers, then_stops, then_goes}
+use Rattle.marked_images.proofs.Laws.{HoldAnswers, then_stops, then_goes}
 
 module _ (image machine loops : List ℕ) where
   pub machine_stops : (stop : Stop) → Stops stop (read_machine machine) → HoldAnswers (Err stop) (IsRewritten image machine loops)

@@ -25,11 +25,11 @@ use Rattle.rewritten_runs.specs.Promise.{EndsAsPromised, KeepsThePromise}
 use Rattle.rewritten_runs.proofs.Laws.{kept_by_tree, program_of}
 use Rattle.scaler.specs.Held.{IsHeld, held_summary}
 use Rattle.rewritten_runs.specs.FilePromise.{FilesKeepThePromise}
-use Rattle.scaler.specs.Promise.{IsStoredSafely}
+use Rattle.marked_images.specs.Promise.{IsStoredSafely}
 use Rattle.scaler.specs.Runs.{IsAsPrinted}
-use Rattle.scaler.proofs.Bases.{file_is}
-use Rattle.scaler.proofs.HeldRuns.{runs_alike, printed, no_ports, found_in_time}
-use Rattle.scaler.proofs.Safe.{went_through, starts_within, found_below}
+use Rattle.marked_images.proofs.Laws.{file_is, found_below, found_in_time}
+use Rattle.scaler.proofs.HeldRuns.{runs_alike, printed, no_ports}
+use Rattle.scaler.proofs.Safe.{went_through, starts_within}
 
 -- ---- no step changes the level
 

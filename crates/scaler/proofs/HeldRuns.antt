@@ -1,19 +1,18 @@
 -- The runs of a held image are those of the original one, and what they cost at one level.
-use Rattle.std.proofs.Common.{◌≡◌, ℕ, ◌*◌, ◌≤◌, true, List, length, Some, None, sym, ap, subst, ◌∙◌, arith}
-use Rattle.std.specs.Prelude.{All, replicate, slice_set, sum_by, option_map, nat_le}
-use Rattle.std.specs.List.{range_with_len}
+use Rattle.std.proofs.Common.{◌≡◌, ℕ, ◌*◌, ◌≤◌, List, length, Some, None, sym, ap, subst, ◌∙◌, arith}
+use Rattle.std.specs.Prelude.{All, replicate, slice_set, sum_by, option_map}
 use Rattle.std.proofs.Math.Nat.{mul-le-mul_right}
-use Rattle.std.proofs.lemmas.Bool.Decides.{nat_tests}
 use Rattle.scale_base.specs.Image.{Image, loaded_byte}
 use Rattle.scale_base.specs.Layout.{layout_of}
 use Rattle.scale_base.specs.Run.{Run, run, run_of, setting_of, start_of, start, starting_level}
-use Rattle.machine_laws.proofs.Laws.{found_passes, run_same, run_without_port}
+use Rattle.machine_laws.proofs.Laws.{run_same, run_without_port}
 use Rattle.machine_laws.specs.Keys.{setting, with_empty_key, with_window, run_with_window}
 use Rattle.power_model.specs.Numbers.{PowerModel, RunPrice}
 use Rattle.power_model.specs.Price.{price, step_cycles, time_at}
-use Rattle.power_model.specs.Slowest.{slowest_of, is_in_time}
+use Rattle.power_model.specs.Slowest.{slowest_of}
 use Rattle.power_model.proofs.Laws.{cycles-price, held-price}
 use Rattle.stored_laws.specs.Held.{IsHeldImage}
+use Rattle.marked_images.proofs.Laws.{found_in_time}
 use Rattle.scaler.specs.Held.{held_summary}
 use Rattle.rewritten_runs.specs.Prices.{price_of}
 use Rattle.scaler.specs.Runs.{RunAlike, IsAsPrinted}
@@ -57,13 +56,6 @@ runs_alike file image held base level levels none h input n =
 pub no_ports : (image : Image) (levels : ℕ) (input : List ℕ) (m : ℕ) → image.keyed_segment ≡ None → All (λ x. x.port ≡ None) (run_of image levels input m).steps
 unfolding run_of
 no_ports image levels input m none = run_without_port (setting_of image levels input) (start_of image levels) m (no_key image none)
-
-le_of : (x y : ℕ) → nat_le x y ≡ true → x ≤ y
-le_of x y e = grind (arith, nat_tests)
-
--- at the slowest level that is found they are in time
-pub found_in_time : (power : PowerModel) (worst level : ℕ) → slowest_of power worst ≡ Some level → time_at power level worst ≤ power.deadline
-found_in_time power worst level slow = le_of (time_at power level worst) power.deadline (found_passes (is_in_time power worst) (range_with_len 0 (length power.levels)) level slow)
 
 -- a run of at most so many cycles costs at most the printed time
 pub printed : (power : PowerModel) (file : List ℕ) (image held : Image) (base level worst : ℕ) (input : List ℕ) (m : ℕ) → image.keyed_segment ≡ None → IsHeldImage file image base level held

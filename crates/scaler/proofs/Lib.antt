@@ -8,14 +8,10 @@ pub mod FilesAs
 pub mod FilesRewritten
 pub mod SafeAs
 pub mod HeldPromise
-pub mod MarkingLaws
+pub mod SlackMarks
 pub mod LineFacts
 pub mod LineKinds
 pub mod SiteFacts
-pub mod ExtraFacts
-pub mod EdgeBlocks
-pub mod MarkedKinds
-pub mod SiteLists
 pub mod MarkingFacts
 pub mod ScalingFacts
 pub mod ProgramFacts

@@ -24,17 +24,18 @@ use Rattle.cycle_laws.specs.Charged.{Charged}
 use Rattle.flow_graph.specs.FlowGraph.{FlowGraph, graph}
 use Rattle.loop_forest.specs.Noted.{node_address}
 use Rattle.loop_forest.specs.Tree.{LoopView, loops, IsTreeOf}
-use Rattle.worst_cycles.specs.Worst.{slack_at}
 use Rattle.level_tables.specs.Tables as tables
 use Rattle.scale_sites.specs.Counters.{counted_loops}
 use Rattle.scale_sites.specs.Marks.{first_counter}
-use Rattle.scale_sites.specs.Sites.{is_branch, marks_at_edge}
-use Rattle.rewritten_runs.specs.Stubs.{marks_by_slack, plain_weights, fragment_of, loop_of}
-use Rattle.rewritten_runs.proofs.Laws.{IsCounter, IsMarkOf, marks_are}
-use Rattle.scaler.specs.declared.stubs.Marking.{Marking}
-use Rattle.scaler.specs.Markings.{IsMarking, IsLoopCounter, IsOfLoop}
+use Rattle.scale_sites.specs.Sites.{marks_at_edge}
+use Rattle.rewritten_runs.specs.Stubs.{fragment_by, loop_of}
+use Rattle.rewritten_runs.proofs.Laws.{IsCounter, IsMarkOf}
+use Rattle.marked_images.specs.declared.stubs.Marking.{Marking}
+use Rattle.marked_images.specs.Markings.{IsMarking}
+use Rattle.marked_images.specs.Wanted.{Wanted}
+use Rattle.marked_images.proofs.Laws.{counted_loop, get_some, map_take_more, mark_is, step_is}
+use Rattle.scaler.specs.Lines.{IsLoopCounter, IsOfLoop}
 use Rattle.scaler.specs.Planned.{loop_number, line_of, lines_from}
-use Rattle.scaler.proofs.MarkingLaws.{counted_loop, get_some, map_take_more, step_is}
 
 -- ---- one fragment more, and one edge more
 
@@ -92,25 +93,21 @@ counter_holds counted c P h small =
     let loop : loop_of counted c ≡ h.loop = ap (slice_index counted) back ∙ get_or_from_slice_get counted h.place h.loop 0 h.get in
     (omega (arith, is), subst (λ n. n < length counted) (sym back) within, subst (λ n. n < 4096) (sym loop) (small h.place h.loop h.get))
 
-mark_holds : (power : PowerModel) (l other : Loops) (counted : List ℕ) (n : Numbers) (told : tables.EdgeNumbers) (branch : Bool) (u : ℕ) (p : Option ℕ) (mark : Mark) → IsMarkOf l counted branch u p mark
-    → ((place loop : ℕ) → slice_get counted place ≡ Some loop → loop < 4096) → IsOfLoop counted (fragment_of power other counted n told mark)
-mark_holds power l other counted n told branch u p marks.Switch h small = tt
-mark_holds power l other counted n told branch u p (marks.Exit c) h small = counter_holds counted c _ h small
-mark_holds power l other counted n told branch u p (marks.Reset c) h small = counter_holds counted c _ h small
-mark_holds power l other counted n told branch u p (marks.Count c) h small = counter_holds counted c _ h small
-mark_holds power l other counted n told branch u p marks.Lowest h small = tt
-mark_holds power l other counted n told branch u p (marks.Tally c) h small = counter_holds counted c _ h small
+mark_holds : (power : PowerModel) (test : tables.EdgeNumbers → ℕ → ℕ → Bool) (l other : Loops) (counted : List ℕ) (n : Numbers) (told : tables.EdgeNumbers) (branch : Bool) (u : ℕ) (p : Option ℕ) (mark : Mark) → IsMarkOf l counted branch u p mark
+    → ((place loop : ℕ) → slice_get counted place ≡ Some loop → loop < 4096) → IsOfLoop counted (fragment_by power test other counted n told mark)
+mark_holds power test l other counted n told branch u p marks.Switch h small = tt
+mark_holds power test l other counted n told branch u p (marks.Exit c) h small = counter_holds counted c _ h small
+mark_holds power test l other counted n told branch u p (marks.Reset c) h small = counter_holds counted c _ h small
+mark_holds power test l other counted n told branch u p (marks.Count c) h small = counter_holds counted c _ h small
+mark_holds power test l other counted n told branch u p marks.Lowest h small = tt
+mark_holds power test l other counted n told branch u p (marks.Tally c) h small = counter_holds counted c _ h small
 
 -- the fragments of a marking are of loops that have numbers
-pub of_loop : (power : PowerModel) (image : Image) (v : FlowGraph) (t : LoopView) (plain stored : Numbers) (least : Charged) (m : Marking) → IsMarking power image v t plain stored least m → length t.headers ≤ 4096
-    → (e i : ℕ) (mark : Mark) (told : tables.EdgeNumbers) → e < length v.code.edges → slice_get (marks_at_edge m.sites e) i ≡ Some mark → IsOfLoop m.counters (fragment_of power (loops v t) (counted_loops t) stored told mark)
-of_loop power image v t plain stored least m is few e i mark told lt at =
-    let all = marks_are (loops v t) (counted_loops t) (is_branch v e) (slack_at (graph v) (loops v t) (plain_weights power image v) plain e) power.min_gain ((graph v).source e) ((graph v).target e) in
-    let here : slice_get (marks_by_slack power image v t plain e) i ≡ Some mark = sym (ap (λ ms. slice_get ms i) (is.marks e lt)) ∙ at in
-    let P = IsMarkOf (loops v t) (counted_loops t) (is_branch v e) ((graph v).source e) ((graph v).target e) in
-    let one : P mark = subst P (get_or_from_slice_get (marks_by_slack power image v t plain e) i mark mark here) (all i mark (slice_get_within (marks_by_slack power image v t plain e) i mark here)) in
-    subst (λ cs. IsOfLoop cs (fragment_of power (loops v t) (counted_loops t) stored told mark)) (sym is.counters)
-    (mark_holds power (loops v t) (loops v t) (counted_loops t) stored told (is_branch v e) ((graph v).source e) ((graph v).target e) mark one
+pub of_loop : (power : PowerModel) (image : Image) (v : FlowGraph) (t : LoopView) (wanted : Wanted) (stored : Numbers) (least : Charged) (m : Marking) → IsMarking power image v t wanted stored least m → length t.headers ≤ 4096
+    → (test : tables.EdgeNumbers → ℕ → ℕ → Bool) (e i : ℕ) (mark : Mark) (told : tables.EdgeNumbers) → e < length v.code.edges → slice_get (marks_at_edge m.sites e) i ≡ Some mark → IsOfLoop m.counters (fragment_by power test (loops v t) (counted_loops t) stored told mark)
+of_loop power image v t wanted stored least m is few test e i mark told lt at =
+    subst (λ cs. IsOfLoop cs (fragment_by power test (loops v t) (counted_loops t) stored told mark)) (sym is.counters)
+    (mark_holds power test (loops v t) (loops v t) (counted_loops t) stored told (wanted.switch e) ((graph v).source e) ((graph v).target e) mark (mark_is power image v t wanted stored least m is e i mark lt at)
     (λ place loop get. let k = counted_loop v t is.tree.0 place loop is.tree.1 get in omega (arith, k, few)))
 
 -- ---- a loop file has at most 4,096 loops

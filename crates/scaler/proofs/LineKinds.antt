@@ -6,10 +6,13 @@ use Rattle.scale_base.specs.declared.fragments.Fragment.{Fragment}
 use Rattle.scale_base.specs.declared.plan.SiteLine.{SiteLine}
 use Rattle.scale_base.specs.declared.edges.Edge.{Edge}
 use Rattle.scale_sites.specs.Counters.{counted_loops}
-use Rattle.rewritten_runs.specs.Stubs.{marks_by_slack, fragments_at}
-use Rattle.scaler.specs.Planned.{HasLines, IsSitesKind, line_of, lines_from}
-use Rattle.scaler.proofs.EdgeBlocks.{map_none}
-use Rattle.scaler.proofs.MarkedKinds.{marked_kind}
+use Rattle.rewritten_runs.specs.Stubs.{marks_by_slack, fragments_at, IsWeighedWith}
+use Rattle.scale_base.specs.declared.fragments.Mark.{Mark}
+use Rattle.marked_images.specs.Wanted.{IsSitesKind, marked_where}
+use Rattle.marked_images.proofs.Laws.{map_none, marked_kind}
+use Rattle.scaler.specs.Planned.{HasLines, line_of, lines_from}
+use Rattle.scaler.specs.Scalings.{wanted_by_slack}
+use Rattle.scaler.proofs.SlackMarks.{chooses, marks_are}
 
 abbrev IsOfSite : SiteLine → Type 0
 IsOfSite line = IsSitesKind line.edge.kind
@@ -36,4 +39,9 @@ lines_of_sites image machine loop_file lines h =
     (of_edges (counted_loops h.tree) fragments 0 h.code.code.edges (λ i x at some.
     let here : 0 + i ≡ i = omega arith in
     let own : fragments i ≢ [] = subst (λ n. fragments n ≢ []) here some in
-    marked_kind h.power h.original h.notes h.code h.tree h.plain h.stored h.weighed i x at (λ none. own (map_none _ _ none))))
+    let wanted = wanted_by_slack h.power h.original h.code h.tree h.plain in
+    let same : marks_by_slack h.power h.original h.code h.tree h.plain ≡ marked_where h.code h.tree wanted = sym (marks_are h.power h.original h.code h.tree h.plain) in
+    let weighed : IsWeighedWith h.power h.original h.notes h.code h.tree (marks_by_slack h.power h.original h.code h.tree h.plain) h.stored =
+    record { code_is = h.weighed.code_is; tree_is = h.weighed.tree_is; counters = h.weighed.counters; stored_are = h.weighed.stored_are } in
+    let some_wanted : marked_where h.code h.tree wanted i ≢ [] = subst (λ (m : ℕ → List Mark). m i ≢ []) same (λ none. own (map_none _ _ none)) in
+    marked_kind h.power h.original h.notes h.code h.tree wanted h.stored (subst (λ (m : ℕ → List Mark). IsWeighedWith h.power h.original h.notes h.code h.tree m h.stored) same weighed) (chooses h.power h.original h.code h.tree h.plain) i x at some_wanted))

@@ -1,10 +1,7 @@
 -- A held image is safe: its runs are those of the original image, and those that are kept end in time.
-use Rattle.std.proofs.Common.{◌≡◌, ℕ, ◌+◌, ◌<◌, ◌≤◌, Bool, true, false, cond, List, [], length, Option, Some, None, Result, Ok, Err, refl, sym, ap, subst, ◌∙◌, arith, zero, suc, inl, inr}
-use Rattle.std.specs.Prelude.{find, nat_lt, IfOk, Vec}
+use Rattle.std.proofs.Common.{◌≡◌, ℕ, ◌≤◌, Bool, true, false, cond, List, [], length, Option, Some, None, Result, Ok, Err, refl, sym, ap, subst, ◌∙◌, arith, inl, inr}
+use Rattle.std.specs.Prelude.{nat_lt, IfOk, Vec}
 use Rattle.std.specs.declared.alloc.Global.{Global}
-use Rattle.std.specs.List.{range_with_len}
-use Rattle.scale_base.specs.declared.ranges.Keyed.{Keyed}
-use Rattle.scale_base.specs.declared.refusal.Refusal.{Refusal}
 use Rattle.scale_base.specs.declared.refusal.Refusal.TheVariants.{TooLong}
 use Rattle.scale_base.specs.declared.refusal.Stop.{Stop}
 use Rattle.scale_base.specs.declared.summary.Summary.{Summary}
@@ -20,7 +17,6 @@ use Rattle.machine_file.specs.Machine.{read_machine}
 use Rattle.machine_file.proofs.Laws.{model-from_bytes}
 use Rattle.elf_patch.specs.Stored.{stored_image, held_base}
 use Rattle.stored_laws.proofs.Laws.{a_held_image}
-use Rattle.machine_laws.proofs.Laws.{found_in}
 use Rattle.loop_forest.specs.Tree.{loops as tree_loops}
 use Rattle.code_text.specs.Text.{text_of}
 use Rattle.graph_runs.specs.KeptSteps.{Carried}
@@ -29,22 +25,14 @@ use Rattle.graph_runs.proofs.Laws.{image_runs_are_below, image_runs_end}
 use Rattle.loop_file.specs.declared.notes.LoopNote.{LoopNote}
 use Rattle.loop_file.specs.Loops.{read_loops}
 use Rattle.loop_file.specs.Kept.{noted_loops}
-use Rattle.answer_parts.specs.Parts.{Then, unscaled}
+use Rattle.answer_parts.specs.Parts.{unscaled}
 use Rattle.scaler.specs.Held.{IsHeld, IsProgramHeld, IsHeldProgram, held_at, held_from, held_file, held_summary}
 use Rattle.scaler.specs.Runs.{IsHeldSafely, KeptAsPrinted, KeptRunsEndAsPrinted}
-use Rattle.scaler.proofs.Bases.{file_is}
+use Rattle.marked_images.proofs.Laws.{file_is, found_below, is_unscaled, then_ok}
 use Rattle.scaler.proofs.HeldRuns.{runs_alike, printed}
 use Rattle.rewritten_runs.proofs.Laws.{kept_by_tree, program_of}
 
 -- ---- what `hold` went through
-
-pub then_ok : {A B : Type 0} (part : Result A Refusal) (next : A → Result B Refusal → Type 0) (y : B) → Then part next (Ok y) → (x : A) × (part ≡ Ok x) × next x (Ok y)
-then_ok (Ok x) next y h = (x, refl, h)
-then_ok (Err refusal) next y h = let bad : ⊥ = cc in absurd bad
-
-pub is_unscaled : (keyed : Option Keyed) → unscaled keyed ≡ Ok tt → keyed ≡ None
-is_unscaled None e = refl
-is_unscaled (Some keyed) e = absurd cc
 
 pub record WentThrough (image machine loops : List ℕ) (given : List ℕ × Summary) : Type 0 where
   pub power : PowerModel
@@ -94,14 +82,6 @@ pub starts_within : (power : PowerModel) (image : Image) (worst : ℕ) (given : 
 unfolding held_at
 starts_within power image worst given true e = absurd cc
 starts_within power image worst given false e = starts_from power image worst (slowest_of power worst) given refl e
-
-pub found_below : (p : ℕ → Bool) (a n x : ℕ) → find p (range_with_len a n) ≡ Some x → x < a + n
-found_below p a zero x e = absurd cc
-found_below p a (suc n) x e =
-    elim (found_in (p a) x a (find p (range_with_len (a + 1) n)) e) [
-      | inl h ↦ omega (arith, h.1)
-      | inr h ↦ omega (arith, found_below p (a + 1) n x h.1)
-    ]
 
 -- ---- costs
 

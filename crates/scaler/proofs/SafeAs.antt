@@ -24,14 +24,14 @@ use Rattle.rewritten_runs.specs.Stubs.{rewritten_file, marks_by_slack}
 use Rattle.rewritten_runs.specs.Promise.{EndsAsPromised, KeepsThePromise}
 use Rattle.rewritten_runs.proofs.Laws.{rewritten_follow}
 use Rattle.answer_parts.specs.Parts.{unscaled}
-use Rattle.scaler.specs.Rewritten.{IsProgramRewritten, rewritten_summary}
+use Rattle.scaler.specs.Rewritten.{IsProgramRewritten}
+use Rattle.marked_images.specs.Stored.{rewritten_summary}
 use Rattle.rewritten_runs.specs.FilePromise.{FilesKeepThePromise}
-use Rattle.scaler.specs.Promise.{IsStoredSafely}
+use Rattle.marked_images.specs.Promise.{IsStoredSafely}
 use Rattle.scaler.specs.RewrittenAs.{IsRewrittenAs, with_gain, notes_with}
 use Rattle.scaler.proofs.FilesAs.{model_with}
-use Rattle.scaler.proofs.HeldRuns.{found_in_time}
-use Rattle.scaler.proofs.Safe.{then_ok, is_unscaled}
-use Rattle.scaler.proofs.SafeRewritten.{rewritten_program, near_of}
+use Rattle.marked_images.proofs.Laws.{found_in_time, is_unscaled, near_of, then_ok}
+use Rattle.scaler.proofs.SafeRewritten.{rewritten_program}
 
 -- ---- what it went through
 

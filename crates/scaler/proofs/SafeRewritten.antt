@@ -1,5 +1,5 @@
 -- What `rewrite` gives is safe.
-use Rattle.std.proofs.Common.{◌≡◌, ℕ, ◌≤◌, List, length, Option, Some, None, Result, Ok, Err, refl, sym, ap, ◌∙◌, subst, inl, inr}
+use Rattle.std.proofs.Common.{◌≡◌, ℕ, ◌≤◌, List, length, Some, None, Result, Ok, Err, sym, ap, ◌∙◌, subst, inl, inr}
 use Rattle.std.specs.Prelude.{IfOk, Vec}
 use Rattle.std.specs.declared.alloc.Global.{Global}
 use Rattle.scale_base.specs.declared.refusal.Stop.{Stop}
@@ -19,12 +19,12 @@ use Rattle.rewritten_runs.specs.Promise.{KeepsThePromise}
 use Rattle.rewritten_runs.specs.Followed.{FollowsInTime}
 use Rattle.rewritten_runs.proofs.Laws.{rewritten_follow}
 use Rattle.answer_parts.specs.Parts.{unscaled}
-use Rattle.scaler.specs.Rewritten.{IsRewritten, IsRewrittenProgram, IsProgramRewritten, rewritten_summary, unless_out_of_reach}
+use Rattle.scaler.specs.Rewritten.{IsRewritten, IsRewrittenProgram, IsProgramRewritten}
+use Rattle.marked_images.specs.Stored.{rewritten_summary}
 use Rattle.rewritten_runs.specs.FilePromise.{FilesKeepThePromise}
-use Rattle.scaler.specs.Promise.{IsStoredSafely}
+use Rattle.marked_images.specs.Promise.{IsStoredSafely}
 use Rattle.scaler.specs.RewrittenRuns.{IsProgramStored, IsRewrittenSafely}
-use Rattle.scaler.proofs.HeldRuns.{found_in_time}
-use Rattle.scaler.proofs.Safe.{then_ok, is_unscaled}
+use Rattle.marked_images.proofs.Laws.{found_in_time, is_unscaled, near_of, then_ok}
 
 -- ---- what `rewrite` went through
 
@@ -65,14 +65,6 @@ went_through image machine loops given h =
     }
 
 -- ---- the law
-
-pub record IsNear (o : Option ℕ) (given made : List ℕ × Summary) : Type 0 where
-  pub near : o ≡ None
-  pub same : given ≡ made
-
-pub near_of : (o : Option ℕ) (given made : List ℕ × Summary) → Ok given ≡ unless_out_of_reach o made → IsNear o given made
-near_of None given made e = record { near = refl; same = cc }
-near_of (Some at) given made e = absurd cc
 
 pub safe : (image machine loops stored : List ℕ) (summary : Summary) → length image ≤ 4194304 → length machine ≤ 1048576 → length loops ≤ 1048576 → IsRewritten image machine loops (Ok ((stored, summary))) → IsRewrittenSafely image machine loops stored summary
 safe image machine loops stored summary short _ _ h =

@@ -17,9 +17,9 @@ use Rattle.code_text.specs.Text.{text_of}
 use Rattle.code_text.specs.EdgeCosts.{weights}
 use Rattle.code_text.specs.TextGraph.{text_graph}
 use Rattle.flow_graph.specs.FlowGraph.{FlowGraph, IsGraphOf}
-use Rattle.flow_graph.specs.Refused.{IsRefusedBy}
-use Rattle.loop_forest.specs.Tree.{LoopView, loops, IsTreeOf, IsTreeRefusal}
+use Rattle.loop_forest.specs.Tree.{LoopView, loops, IsTreeOf}
 use Rattle.answer_parts.specs.Parts.{Then, unscaled}
+use Rattle.marked_images.specs.Refused.{IsCodeRefused, IsLoopRefused}
 
 -- ---- what is stored at a number of worst cycles
 
@@ -53,20 +53,6 @@ abbrev pub held_within : PowerModel → Image → ℕ → Result (List ℕ × Su
 held_within power image worst = if nat_lt 281474976710656 worst then Err TooLong else held_at power image worst
 
 -- ---- what the program of an image and its loops give
-
--- the reached code is refused
-pub record IsCodeRefused (image : Image) (answer : Result (List ℕ × Summary) Refusal) : Type 0 where
-  pub refusal : Refusal
-  pub why : IsRefusedBy (text_of image) refusal
-  pub answer_is : answer ≡ Err refusal
-
--- the loops of its graph are refused
-pub record IsLoopRefused (image : Image) (notes : List LoopNote) (answer : Result (List ℕ × Summary) Refusal) : Type 0 where
-  pub code : FlowGraph
-  pub refusal : Refusal
-  pub code_is : IsGraphOf (text_of image) code
-  pub why : IsTreeRefusal code notes refusal
-  pub answer_is : answer ≡ Err refusal
 
 -- it is a program with loops, under the costs of its instructions, and its worst cycles decide
 pub record IsProgramHeld (power : PowerModel) (image : Image) (notes : List LoopNote) (answer : Result (List ℕ × Summary) Refusal) : Type 0 where

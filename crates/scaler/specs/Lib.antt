@@ -2,9 +2,8 @@ pub mod Held
 pub mod Runs
 pub mod Rewritten
 pub mod RewrittenAs
-pub mod Promise
 pub mod RewrittenRuns
 pub mod Planned
-pub mod Markings
+pub mod Lines
 pub mod Scalings
 pub mod Agree

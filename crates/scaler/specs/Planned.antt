@@ -11,8 +11,6 @@ use Rattle.machine_file.specs.Machine.{read_machine}
 use Rattle.loop_file.specs.declared.notes.LoopNote.{LoopNote}
 use Rattle.loop_file.specs.Loops.{read_loops}
 use Rattle.scale_base.specs.declared.edges.Edge.{Edge}
-use Rattle.scale_base.specs.declared.edges.EdgeKind.{EdgeKind}
-use Rattle.scale_base.specs.declared.edges.EdgeKind.TheVariants as kinds
 use Rattle.cost_theory.specs.Worst.{Numbers}
 use Rattle.cycle_laws.specs.Charged.{Charged, AreCharged}
 use Rattle.flow_graph.specs.FlowGraph.{FlowGraph, graph}
@@ -44,15 +42,6 @@ lines_from counted fragments e (edge ∷ edges) = map (line_of counted edge) (fr
 abbrev pub plan_lines : PowerModel → Image → FlowGraph → LoopView → (plain stored : Numbers) → Charged → List SiteLine
 plan_lines power image v t plain stored least =
     lines_from (counted_loops t) (fragments_at power image v t (marks_by_slack power image v t plain) stored least) 0 v.code.edges
-
--- an edge of a branch or of a jump: the others have no marks
-abbrev pub IsSitesKind : EdgeKind → Type 0
-IsSitesKind kinds.Taken = Unit {0}
-IsSitesKind kinds.Untaken = Unit {0}
-IsSitesKind kinds.Jump = Unit {0}
-IsSitesKind kinds.Next = ⊥
-IsSitesKind kinds.CallNext = ⊥
-IsSitesKind kinds.End = ⊥
 
 -- ---- what the files give
 

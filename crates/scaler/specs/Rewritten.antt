@@ -1,9 +1,9 @@
 -- What `rewrite` gives: the image with stubs, which lower its level where what is left of the worst case allows it, and which starts at the slowest level at
 -- which its worst case, stubs and all, is in time.
 -- It is a relation, as what `hold` gives.
-use Rattle.std.specs.Prelude.{◌≡◌, ◌⊎◌, ℕ, ◌<◌, ◌≤◌, List, Option, Some, None, Result, Ok, Err}
+use Rattle.std.specs.Prelude.{◌≡◌, ◌⊎◌, ℕ, ◌<◌, ◌≤◌, List, Some, None, Result, Err}
 use Rattle.scale_base.specs.declared.refusal.Refusal.{Refusal}
-use Rattle.scale_base.specs.declared.refusal.Refusal.TheVariants.{DeadlineMissed, StubOutOfReach, TooLong}
+use Rattle.scale_base.specs.declared.refusal.Refusal.TheVariants.{DeadlineMissed, TooLong}
 use Rattle.scale_base.specs.declared.summary.Summary.{Summary}
 use Rattle.scale_base.specs.Image.{Image, image_of}
 use Rattle.power_model.specs.Numbers.{PowerModel}
@@ -14,47 +14,15 @@ use Rattle.loop_file.specs.declared.notes.LoopNote.{LoopNote}
 use Rattle.loop_file.specs.Loops.{read_loops}
 use Rattle.cost_theory.specs.Worst.{Numbers}
 use Rattle.cycle_laws.specs.Charged.{Charged}
-use Rattle.code_text.specs.Text.{text_of}
-use Rattle.flow_graph.specs.FlowGraph.{FlowGraph, IsGraphOf}
-use Rattle.loop_forest.specs.Tree.{LoopView, IsTreeOf}
-use Rattle.scale_base.specs.declared.fragments.Mark.{Mark}
-use Rattle.scale_sites.specs.Counters.{AreCounters}
-use Rattle.stub_writer.specs.Stubs.{Site, block_size, out_of_reach}
+use Rattle.flow_graph.specs.FlowGraph.{FlowGraph}
+use Rattle.loop_forest.specs.Tree.{LoopView}
+use Rattle.stub_writer.specs.Stubs.{Site, out_of_reach}
 use Rattle.answer_parts.specs.Parts.{Then, unscaled}
-use Rattle.scaler.specs.Held.{IsCodeRefused, IsLoopRefused}
-use Rattle.rewritten_runs.specs.Stubs.{IsWeighed, HasStubs, rewritten_file, marks_by_slack, is_switch, is_exit_mark, is_count, edges_with}
-
--- ---- what is stored
-
-abbrev pub rewritten_summary : PowerModel → FlowGraph → (ℕ → List Mark) → (start worst stubs : ℕ) → List Site → Summary
-rewritten_summary power v marked start worst stubs sites = record {
-  start = start;
-  worst = worst;
-  time = time_at power start worst;
-  deadline = power.deadline;
-  stub_cycles = stubs;
-  switch_edges = edges_with is_switch v marked;
-  exit_edges = edges_with is_exit_mark v marked;
-  count_edges = edges_with is_count v marked;
-  stub_bytes = block_size sites;
-}
-
--- unless a jump to or from the stub of an instruction is too far
-abbrev pub unless_out_of_reach : Option ℕ → List ℕ × Summary → Result (List ℕ × Summary) Refusal
-unless_out_of_reach None given = Ok given
-unless_out_of_reach (Some at) given = Err (StubOutOfReach at)
+use Rattle.marked_images.specs.Refused.{IsCodeRefused, IsLoopRefused, IsCounterRefused}
+use Rattle.marked_images.specs.Stored.{rewritten_summary, unless_out_of_reach}
+use Rattle.rewritten_runs.specs.Stubs.{IsWeighed, HasStubs, rewritten_file, marks_by_slack}
 
 -- ---- what the program of an image and its loops give
-
--- a counted loop can't be counted, or there are too many
-pub record IsCounterRefused (image : Image) (notes : List LoopNote) (answer : Result (List ℕ × Summary) Refusal) : Type 0 where
-  pub code : FlowGraph
-  pub tree : LoopView
-  pub refusal : Refusal
-  pub code_is : IsGraphOf (text_of image) code
-  pub tree_is : IsTreeOf code notes tree
-  pub why : AreCounters code tree (Err refusal)
-  pub answer_is : answer ≡ Err refusal
 
 -- the worst cycles under the stored weights are more than 2^48
 pub record IsTooLong (power : PowerModel) (image : Image) (notes : List LoopNote) (answer : Result (List ℕ × Summary) Refusal) : Type 0 where

@@ -11,7 +11,7 @@ use Rattle.loop_forest.specs.Tree.{LoopView}
 use Rattle.stub_writer.specs.Stubs.{Site}
 use Rattle.rewritten_runs.specs.Stubs.{IsWeighed, HasStubs, rewritten_file, stored_weights, marks_by_slack}
 use Rattle.rewritten_runs.specs.Followed.{FollowsInTime}
-use Rattle.scaler.specs.Promise.{IsStoredSafely}
+use Rattle.marked_images.specs.Promise.{IsStoredSafely}
 
 -- The program of an original with its numbers and its stubs, of which the stored bytes are made: the printed numbers are its own, and the stored image follows the
 -- original in time.

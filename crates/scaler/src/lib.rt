@@ -6,7 +6,7 @@ ghost use Rattle.std.specs.Prelude.{◌≤◌, ℕ, Bool, List, length, Ok};
 ghost use Rattle.scale_base.specs.declared.summary.Summary.{Summary};
 ghost use Rattle.scaler.specs.Agree.{HeldAnswersAgree, RewrittenAnswersAgree, RewrittenAsAnswersAgree};
 ghost use Rattle.scaler.specs.Held.{IsHeld};
-ghost use Rattle.scaler.specs.Promise.{IsStoredSafely};
+ghost use Rattle.marked_images.specs.Promise.{IsStoredSafely};
 ghost use Rattle.scaler.specs.Rewritten.{IsRewritten};
 ghost use Rattle.scaler.specs.RewrittenAs.{IsRewrittenAs};
 ghost use Rattle.scaler.specs.RewrittenRuns.{IsRewrittenSafely};
@@ -17,10 +17,9 @@ mod planning;
 mod rewriting;
 mod rewriting_as;
 mod safe_level;
-mod stubs;
 
 pub use planning::plan;
-pub use rewriting::{EdgeCounts, block_of, count_edges, rewrite, starting_level};
+pub use rewriting::rewrite;
 pub use rewriting_as::rewrite_as;
 pub use safe_level::{hold, weights_of};
 

@@ -2,11 +2,12 @@
 
 ghost use Rattle.std.specs.Prelude.{◌≡◌, ◌<◌, ◌≤◌, length, IfOk, OnOk};
 ghost use Rattle.scaler.specs.Planned.{loop_number};
-ghost use Rattle.scaler.specs.Markings.{HasMarking, IsOfLoop, ArePushedAt, AreLinesOf};
+ghost use Rattle.marked_images.specs.Markings.{HasMarking};
+ghost use Rattle.scaler.specs.Lines.{IsOfLoop, ArePushedAt, AreLinesOf};
 
-use crate::stubs::{Marking, fragment_of};
 use flow_graph::CodeGraph;
 use loop_forest::LoopTree;
+use marked_images::{Marking, fragment_of};
 use power_model::Power;
 use scale_base::{Fragment, NoMemory, SiteLine};
 use scale_sites::CounterList;

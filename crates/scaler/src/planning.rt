@@ -2,7 +2,8 @@
 
 ghost use Rattle.std.specs.Prelude.{◌≤◌, length, All, IfOk};
 ghost use Rattle.scale_base.specs.Answer.{AnswersBy};
-ghost use Rattle.scaler.specs.Planned.{IsPlanned, IsSitesKind};
+ghost use Rattle.marked_images.specs.Wanted.{IsSitesKind};
+ghost use Rattle.scaler.specs.Planned.{IsPlanned};
 
 use crate::lines::site_lines;
 use crate::rewriting::program_of;

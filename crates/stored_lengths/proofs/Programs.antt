@@ -19,9 +19,11 @@ use Rattle.rewritten_runs.specs.Stubs.{marks_by_slack, rewritten_file}
 use Rattle.rewritten_runs.proofs.Laws.{block_bytes_len, supplied}
 use Rattle.answer_parts.specs.Parts.{unscaled}
 use Rattle.scaler.specs.Held.{held_at, held_file, held_from, held_summary}
-use Rattle.scaler.specs.Rewritten.{IsProgramRewritten, IsRewrittenProgram, rewritten_summary}
+use Rattle.scaler.specs.Rewritten.{IsProgramRewritten, IsRewrittenProgram}
+use Rattle.marked_images.specs.Stored.{rewritten_summary}
 use Rattle.scaler.specs.RewrittenAs.{IsRewrittenAs, notes_with, with_gain}
-use Rattle.scaler.proofs.Laws.{file_is, held_parts, is_unscaled, near_of, read_again, rewritten_parts, then_ok}
+use Rattle.marked_images.proofs.Laws.{file_is, is_unscaled, near_of, read_again, then_ok}
+use Rattle.scaler.proofs.Laws.{held_parts, rewritten_parts}
 use Rattle.gain_tuner.specs.Candidates.{IsCandidate}
 use Rattle.stored_lengths.specs.Laws.{HeldImagesAreShort, ImagesRewrittenAsAreShort, RewrittenImagesAreShort, StubbedFilesAreShort, TunedImagesAreShort}
 use Rattle.stored_lengths.proofs.Blocks.{block_small}

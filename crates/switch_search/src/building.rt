@@ -3,7 +3,8 @@
 ghost use Rattle.std.specs.Prelude.{◌≤◌, length, IfOk};
 
 use crate::sets::MarkSet;
-use paced_images::{Proposal, Scaling, SwitchSite, program_of};
+use marked_images::Scaling;
+use paced_images::{Proposal, SwitchSite, program_of};
 use run_traces::{Candidate, LoopPlan, Numbers, Watched};
 use scale_base::{Edge, Fragment, NoMemory, Stop};
 use std::alloc::Global;

@@ -16,11 +16,11 @@ use loop_file::{LoopNotes, read_loops};
 use loop_forest::LoopTree;
 use loop_tree::build_loops;
 use machine_file::read_machine;
+use marked_images::starting_level;
 use paced_images::Proposal;
 use power_model::Power;
 use run_traces::{EdgeTrace, Numbers, RunMarks, Runs, StubCosts, WalkPlan, numbers_of};
 use scale_base::{NoMemory, Stop};
-use scaler::starting_level;
 use std::alloc::Global;
 
 /// How many steps of runs on inputs are traced at most, but for those of one run.

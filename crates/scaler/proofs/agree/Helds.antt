@@ -14,7 +14,8 @@ use Rattle.flow_graph.specs.FlowGraph.{graph}
 use Rattle.loop_forest.specs.Tree.{loops}
 use Rattle.answer_laws.proofs.Laws.{weights_same, numbers_alike}
 use Rattle.answer_parts.specs.Parts.{unscaled}
-use Rattle.scaler.specs.Held.{IsLoopRefused, IsProgramHeld, IsHeldProgram, IsHeld, held_within}
+use Rattle.marked_images.specs.Refused.{IsLoopRefused}
+use Rattle.scaler.specs.Held.{IsProgramHeld, IsHeldProgram, IsHeld, held_within}
 use Rattle.scaler.specs.Agree.{AreAlikeAnswers, HeldAnswersAgree}
 use Rattle.scaler.proofs.agree.Pairs.{Answer, HasGraph, HasTree, alike_same, then_alike, codes_alike, code_not_refused, renumbered, loops_alike, loops_not_refused}
 

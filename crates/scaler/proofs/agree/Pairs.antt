@@ -11,7 +11,7 @@ use Rattle.answer_laws.specs.Renumbered.{IsRenumbered}
 use Rattle.answer_laws.specs.Alike.{AreAlikeRefusals}
 use Rattle.answer_laws.proofs.Laws.{graphs_renumbered, graph_is_not_refused, code_refusals_agree, tree_is_not_refused, loop_refusals_agree}
 use Rattle.answer_parts.specs.Parts.{Then}
-use Rattle.scaler.specs.Held.{IsCodeRefused, IsLoopRefused}
+use Rattle.marked_images.specs.Refused.{IsCodeRefused, IsLoopRefused}
 use Rattle.scaler.specs.Agree.{AreAlikeAnswers}
 
 abbrev pub Answer : Type 0

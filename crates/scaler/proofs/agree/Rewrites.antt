@@ -24,8 +24,9 @@ use Rattle.stub_writer.specs.Stubs.{Site, block_size, out_of_reach}
 use Rattle.rewritten_runs.specs.Stubs.{IsWeighed, rewritten_file, marks_by_slack, told_at, fragment_of, fragments_at}
 use Rattle.rewritten_runs.proofs.Laws.{led_class, marked_led}
 use Rattle.answer_parts.specs.Parts.{unscaled}
-use Rattle.scaler.specs.Held.{IsLoopRefused}
-use Rattle.scaler.specs.Rewritten.{IsCounterRefused, IsTooLong, IsTooLate, IsProgramRewritten, IsRewrittenProgram, IsRewritten, rewritten_summary, unless_out_of_reach}
+use Rattle.marked_images.specs.Refused.{IsLoopRefused, IsCounterRefused}
+use Rattle.scaler.specs.Rewritten.{IsTooLong, IsTooLate, IsProgramRewritten, IsRewrittenProgram, IsRewritten}
+use Rattle.marked_images.specs.Stored.{rewritten_summary, unless_out_of_reach}
 use Rattle.scaler.specs.RewrittenAs.{IsRewrittenAs, with_gain, notes_with}
 use Rattle.scaler.specs.Agree.{AreAlikeAnswers, RewrittenAnswersAgree, RewrittenAsAnswersAgree}
 use Rattle.scaler.proofs.agree.Counted.{counters_not_refused, counter_refusals_same}

@@ -3,7 +3,7 @@ use Rattle.std.specs.Prelude.{IfOk, Vec}
 use Rattle.std.specs.declared.alloc.Global.{Global}
 use Rattle.scale_base.specs.declared.refusal.Stop.{Stop}
 use Rattle.scale_base.specs.declared.summary.Summary.{Summary}
-use Rattle.scaler.specs.Promise.{IsStoredSafely}
+use Rattle.marked_images.specs.Promise.{IsStoredSafely}
 use Rattle.gain_tuner.specs.Finding.{RunsAlways}
 use Rattle.gain_tuner.proofs.Runs.{stored_runs}
 use Rattle.gain_tuner.proofs.choosing.trial_from.Goals as goal

@@ -1,6 +1,6 @@
 use Rattle.std.proofs.Common.{arith, ◌∙◌}
 use Rattle.level_tables.specs.Budgets.{meets_in_budget, budget_at}
-use Rattle.paced_images.specs.Markings.{told_view}
+use Rattle.marked_images.specs.Markings.{told_view}
 use Rattle.paced_images.proofs.DueFacts.{due_off, due_on}
 use Rattle.paced_images.proofs.due.comes_due.Goals as goal
 

@@ -1,9 +1,9 @@
 use Rattle.std.proofs.Common.{◌≡◌, ◌&&◌, arith, sym, ap, ◌∙◌}
 use Rattle.std.specs.Prelude.{slice_index}
 use Rattle.scale_base.specs.declared.fragments.Mark.TheVariants as marks
-use Rattle.paced_images.specs.Markings.{told_view}
+use Rattle.marked_images.specs.Markings.{told_view}
 use Rattle.paced_images.proofs.DueFacts.{due_here}
-use Rattle.paced_images.proofs.MarkingLaws.{marking_switches, tally_is}
+use Rattle.marked_images.proofs.Laws.{marking_switches, tally_is}
 use Rattle.paced_images.proofs.due.is_due.Goals as goal
 
 pub told_at-told-requires-clause-switches : goal.told_at-told-requires-clause-switches

@@ -1,6 +1,5 @@
-use Rattle.std.proofs.Common.{rules, ◌≡◌, Some, slice_get, refl, sym, ap, ◌∙◌}
+use Rattle.std.proofs.Common.{rules, ◌≡◌, Some, slice_get, refl}
 use Rattle.scale_base.specs.declared.fragments.Mark.TheVariants as marks
-use Rattle.paced_images.specs.Markings.{test_of}
 use Rattle.paced_images.proofs.DueFacts.{due_at}
 use Rattle.paced_images.proofs.due.is_due_at.Goals as goal
 

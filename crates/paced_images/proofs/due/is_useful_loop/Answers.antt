@@ -1,13 +1,13 @@
-use Rattle.std.proofs.Common.{◌≡◌, ℕ, ◌<◌, Bool, length, sym, ◌∙◌, arith}
+use Rattle.std.proofs.Common.{ℕ, ◌<◌, Bool, length, sym, ◌∙◌, arith}
 use Rattle.cost_theory.proofs.Laws.{any-some, none-any}
 use Rattle.cost_theory.specs.Worst.{Numbers}
 use Rattle.cycle_laws.specs.Charged.{Charged}
 use Rattle.power_model.specs.Numbers.{PowerModel}
 use Rattle.scale_base.specs.Image.{Image}
-use Rattle.paced_images.specs.declared.scaling.Marked.{Marked}
-use Rattle.paced_images.specs.Markings.{test_of}
+use Rattle.marked_images.specs.declared.scaling.Marked.{Marked}
+use Rattle.marked_images.specs.Markings.{test_of}
 use Rattle.paced_images.specs.Useful.{is_due_at}
-use Rattle.paced_images.specs.Wanted.{Wanted, marked_where}
+use Rattle.marked_images.specs.Wanted.{Wanted, marked_where}
 use Rattle.paced_images.proofs.UsefulFacts.{next_none}
 use Rattle.paced_images.proofs.due.is_useful_loop.Goals as goal
 

@@ -3,8 +3,8 @@ use Rattle.std.proofs.lemmas.Result.{err_from_is_err_and}
 use Rattle.scale_base.specs.declared.refusal.Stop.{Stop}
 use Rattle.scale_base.specs.declared.refusal.Stop.TheVariants.{Refused, Memory}
 use Rattle.scale_base.specs.Answer.{AnswersBy}
-use Rattle.scaler.proofs.Laws.{HoldAnswers, file_is, no_key, read_again}
-use Rattle.paced_images.specs.declared.programs.Program.{Program}
+use Rattle.marked_images.proofs.Laws.{HoldAnswers, file_is, no_key, read_again}
+use Rattle.marked_images.specs.declared.scaling.Program.{Program}
 use Rattle.paced_images.specs.declared.wanted.SwitchSite.{SwitchSite}
 use Rattle.paced_images.specs.Paced.{IsPaced}
 use Rattle.paced_images.specs.Programs.{IsProgramFound}
@@ -26,7 +26,7 @@ pub stored_file-requires-clause-no_key : goal.stored_file-requires-clause-no_key
 stored_file-requires-clause-no_key c = let p = c.in_ok-program.program in no_key p.view.keyed_segment c.in_ok-program.ensures.unscaled
 
 pub stored_file-requires-clause-scaled : goal.stored_file-requires-clause-scaled
-stored_file-requires-clause-scaled c = let p = c.in_ok-program.program in let h = c.in_ok-program.ensures in (p.power, notes_by c.args.counted c.args.tallied.now h.notes, c.args.sites.now, c.args.tallied.now, c.args.share, h.in_range, h.scaled)
+stored_file-requires-clause-scaled c = let p = c.in_ok-program.program in let h = c.in_ok-program.ensures in (p.power, notes_by c.args.counted c.args.tallied.now h.notes, _, _, _, _, h.in_range, h.scaled)
 
 pub returns-in_err-program : goal.returns-in_err-program
 returns-in_err-program c =

@@ -1,6 +1,6 @@
-use Rattle.std.proofs.Common.{◌≡◌, refl, sym, ap, ◌∙◌, map}
+use Rattle.std.proofs.Common.{refl, map}
 use Rattle.std.proofs.lemmas.Result.{err_from_is_err_and}
-use Rattle.scaler.proofs.Laws.{file_is, no_key, read_again}
+use Rattle.marked_images.proofs.Laws.{file_is, no_key, read_again}
 use Rattle.stub_writer.specs.Sites.{site_of}
 use Rattle.rewritten_runs.specs.Stubs.{rewritten_file}
 use Rattle.paced_images.specs.Wanted.{notes_by}
@@ -20,7 +20,7 @@ pub stored_file-requires-clause-scaled : goal.stored_file-requires-clause-scaled
 stored_file-requires-clause-scaled c =
     let p = c.in_ok-program.program in
     let q = c.args.proposal.now in
-    let h = c.in_ok-program.ensures in (p.power, notes_by q.counted c.deref-2.result.now h.notes, c.deref.result.now, c.deref-2.result.now, q.share, h.in_range, h.scaled)
+    let h = c.in_ok-program.ensures in (p.power, notes_by q.counted c.deref-2.result.now h.notes, _, _, _, _, h.in_range, h.scaled)
 
 pub returns-in_err-bytes : goal.returns-in_err-bytes
 returns-in_err-bytes c =

@@ -2,8 +2,8 @@ use Rattle.std.proofs.Common.{◌&&◌, refl, sym, ap, ◌∙◌}
 use Rattle.scale_sites.specs.Weights.{switches}
 use Rattle.rewritten_runs.specs.Stubs.{told_at}
 use Rattle.paced_images.specs.Useful.{lowers_some}
-use Rattle.paced_images.specs.Markings.{test_of, told_view}
-use Rattle.paced_images.specs.Wanted.{marked_where}
+use Rattle.marked_images.specs.Markings.{test_of, told_view}
+use Rattle.marked_images.specs.Wanted.{marked_where}
 use Rattle.paced_images.proofs.UsefulFacts.{lowered_as, not_lowered}
 use Rattle.paced_images.proofs.useful.is_lowered.Goals as goal
 

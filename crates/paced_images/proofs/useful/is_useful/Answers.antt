@@ -5,11 +5,11 @@ use Rattle.cost_theory.specs.Worst.{Numbers}
 use Rattle.cycle_laws.specs.Charged.{Charged}
 use Rattle.power_model.specs.Numbers.{PowerModel}
 use Rattle.scale_base.specs.Image.{Image}
-use Rattle.paced_images.specs.declared.scaling.Marked.{Marked}
+use Rattle.marked_images.specs.declared.scaling.Marked.{Marked}
 use Rattle.paced_images.specs.declared.wanted.SwitchSite.{SwitchSite}
-use Rattle.paced_images.specs.Markings.{test_of}
+use Rattle.marked_images.specs.Markings.{test_of}
 use Rattle.paced_images.specs.Useful.{is_lowered, names_lowered}
-use Rattle.paced_images.specs.Wanted.{Wanted, marked_where}
+use Rattle.marked_images.specs.Wanted.{Wanted, marked_where}
 use Rattle.paced_images.proofs.FlagLists.{named_at}
 use Rattle.paced_images.proofs.UsefulFacts.{next_none, unnamed}
 use Rattle.paced_images.proofs.useful.is_useful.Goals as goal

@@ -5,11 +5,11 @@ use Rattle.cost_theory.specs.Worst.{Numbers}
 use Rattle.cycle_laws.specs.Charged.{Charged}
 use Rattle.power_model.specs.Numbers.{PowerModel}
 use Rattle.scale_base.specs.Image.{Image}
-use Rattle.paced_images.specs.declared.scaling.Marked.{Marked}
+use Rattle.marked_images.specs.declared.scaling.Marked.{Marked}
 use Rattle.paced_images.specs.declared.wanted.SwitchSite.{SwitchSite}
-use Rattle.paced_images.specs.Markings.{test_of}
+use Rattle.marked_images.specs.Markings.{test_of}
 use Rattle.paced_images.specs.Useful.{is_useful}
-use Rattle.paced_images.specs.Wanted.{Wanted, marked_where}
+use Rattle.marked_images.specs.Wanted.{Wanted, marked_where}
 use Rattle.paced_images.proofs.UsefulFacts.{kept_more}
 use Rattle.paced_images.proofs.useful.kept_sites.Goals as goal
 use Rattle.paced_images.proofs.useful.kept_sites.Goals.{then-is_useful+in_ok-push, else-is_useful}

@@ -4,7 +4,7 @@ use Rattle.cost_theory.proofs.Laws.{any-some, none-any}
 use Rattle.power_model.specs.Numbers.{PowerModel}
 use Rattle.level_tables.specs.Budgets.{meets_in_budget, budget_at}
 use Rattle.level_tables.specs.Tables.{entry_by}
-use Rattle.paced_images.specs.Markings.{told_view}
+use Rattle.marked_images.specs.Markings.{told_view}
 use Rattle.paced_images.proofs.useful.lowers_some.Goals as goal
 
 pub returns-then-lowers_from : goal.returns-then-lowers_from

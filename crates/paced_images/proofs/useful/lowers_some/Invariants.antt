@@ -2,7 +2,7 @@ use Rattle.std.proofs.Common.{◌≡◌, ℕ, ◌<◌, false, ◌&&◌}
 use Rattle.std.specs.Prelude.{nat_le, nat_lt}
 use Rattle.level_tables.specs.Budgets.{meets_in_budget, budget_at}
 use Rattle.level_tables.specs.Tables.{entry_by}
-use Rattle.paced_images.specs.Markings.{told_view}
+use Rattle.marked_images.specs.Markings.{told_view}
 use Rattle.paced_images.proofs.useful.lowers_some.Given as goal
 
 abbrev pub invariant-loop-i : goal.invariant-loop-i

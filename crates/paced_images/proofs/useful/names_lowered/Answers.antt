@@ -1,7 +1,7 @@
 use Rattle.std.specs.Prelude.{slice_get}
-use Rattle.paced_images.specs.Markings.{test_of}
+use Rattle.marked_images.specs.Markings.{test_of}
 use Rattle.paced_images.specs.Useful.{is_lowered}
-use Rattle.paced_images.specs.Wanted.{marked_where}
+use Rattle.marked_images.specs.Wanted.{marked_where}
 use Rattle.paced_images.proofs.UsefulFacts.{named_as}
 use Rattle.paced_images.proofs.useful.names_lowered.Goals as goal
 

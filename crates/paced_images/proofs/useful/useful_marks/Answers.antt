@@ -5,7 +5,7 @@ use Rattle.scale_base.specs.declared.refusal.Stop.TheVariants.{Refused, Memory}
 use Rattle.scale_base.specs.Answer.{AnswersBy}
 use Rattle.stub_writer.specs.Sites.{site_of}
 use Rattle.rewritten_runs.specs.Stubs.{rewritten_file}
-use Rattle.paced_images.specs.declared.programs.Program.{Program}
+use Rattle.marked_images.specs.declared.scaling.Program.{Program}
 use Rattle.paced_images.specs.declared.useful.KeptMarks.{KeptMarks}
 use Rattle.paced_images.specs.declared.wanted.SwitchSite.{SwitchSite}
 use Rattle.paced_images.specs.Programs.{IsProgramFound}

@@ -1,7 +1,7 @@
 use Rattle.std.proofs.Common.{◌<◌, length, slice_get, sym, ap, ◌∙◌, arith}
 use Rattle.std.proofs.lemmas.Option.{get_or_from_slice_get}
 use Rattle.cost_theory.proofs.Laws.{some_get}
-use Rattle.scaler.proofs.Laws.{counted_loop}
+use Rattle.marked_images.proofs.Laws.{counted_loop}
 use Rattle.paced_images.proofs.wanted.tallied_flags.Goals as goal
 
 pub is_tallied-requires-clause-within : goal.is_tallied-requires-clause-within

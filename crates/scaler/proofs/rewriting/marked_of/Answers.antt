@@ -1,5 +1,6 @@
 use Rattle.std.proofs.lemmas.Result.{err_from_is_err_and}
-use Rattle.scaler.proofs.ScalingFacts.{counters_stop, counted_as, marking_stops}
+use Rattle.marked_images.proofs.Laws.{counted_as}
+use Rattle.scaler.proofs.ScalingFacts.{counters_stop, marking_stops}
 use Rattle.scaler.proofs.rewriting.marked_of.Goals as goal
 
 pub returns-in_err-counters : goal.returns-in_err-counters
@@ -13,9 +14,14 @@ returns-in_err-marking c =
     rw (p.1, p.2) (marking_stops c.args.power.now c.args.view.now c.args.notes.now c.in_ok-graph.graph c.in_ok-tree.tree c.in_ok-graph.ensures c.in_ok-tree.ensures (counted_as c.in_ok-graph.graph c.in_ok-tree.tree c.in_ok-counters.counters c.in_ok-counters.ensures) c.in_err-marking.field-0.0 (c.in_err-marking.ensures c.args.view.now c.in_ok-graph.ensures))
 
 pub returns : goal.returns
-returns c = record {
-  code_is = c.in_ok-graph.ensures;
-  tree_is = c.in_ok-tree.ensures;
-  counters = counted_as c.in_ok-graph.graph c.in_ok-tree.tree c.in_ok-counters.counters c.in_ok-counters.ensures;
-  found = c.in_ok-marking.ensures c.args.view.now c.in_ok-graph.ensures;
-}
+returns c =
+    let found = c.in_ok-marking.ensures c.args.view.now c.in_ok-graph.ensures in (
+      found.0,
+      found.1,
+      record {
+        code_is = c.in_ok-graph.ensures;
+        tree_is = c.in_ok-tree.ensures;
+        counters = counted_as c.in_ok-graph.graph c.in_ok-tree.tree c.in_ok-counters.counters c.in_ok-counters.ensures;
+        found = found.2;
+      },
+    )

@@ -1,23 +1,28 @@
 use Rattle.std.proofs.Common.{rules, ◌≡◌, ℕ, List, Ok, Err}
 use Rattle.std.proofs.lemmas.Result.{err_from_is_err_and}
-use Rattle.scale_base.specs.declared.refusal.Refusal.{Refusal}
 use Rattle.scale_base.specs.declared.refusal.Stop.{Stop}
 use Rattle.scale_base.specs.declared.refusal.Stop.TheVariants.{Refused, Memory}
-use Rattle.scale_base.specs.Answer.{AnswersBy, Stops}
+use Rattle.scale_base.specs.Answer.{AnswersBy}
 use Rattle.scale_base.specs.Image.{Image, image_of}
 use Rattle.power_model.specs.Numbers.{PowerModel}
 use Rattle.machine_file.specs.Machine.{read_machine}
 use Rattle.loop_file.specs.declared.notes.LoopNote.{LoopNote}
 use Rattle.loop_file.specs.Loops.{read_loops}
-use Rattle.scaler.specs.declared.rewriting.Marked.{Marked}
-use Rattle.scaler.specs.declared.rewriting.Program.{Program}
-use Rattle.scaler.specs.declared.rewriting.Scaling.{Scaling}
+use Rattle.cost_theory.specs.Worst.{Numbers}
+use Rattle.flow_graph.specs.FlowGraph.{FlowGraph}
+use Rattle.loop_forest.specs.Tree.{LoopView}
+use Rattle.marked_images.specs.declared.scaling.Marked.{Marked}
+use Rattle.marked_images.specs.declared.scaling.Program.{Program}
+use Rattle.marked_images.specs.declared.scaling.Scaling.{Scaling}
+use Rattle.marked_images.specs.Scalings.{IsScalingFound}
+use Rattle.marked_images.specs.Stored.{by_deadline}
 use Rattle.answer_parts.specs.Parts.{unscaled}
 use Rattle.scaler.specs.Rewritten.{IsRewritten}
-use Rattle.scaler.specs.Scalings.{IsMarkedFound, IsScalingFound, IsProgramFound}
-use Rattle.scaler.proofs.Files.{HoldAnswers}
+use Rattle.scaler.specs.Scalings.{ArePlain, IsMarkedFound, IsProgramFound, wanted_by_slack}
+use Rattle.marked_images.proofs.Laws.{HoldAnswers, read_again}
 use Rattle.scaler.proofs.FilesRewritten.{machine_stops, image_stops, key_stops, loops_stop}
-use Rattle.scaler.proofs.ProgramFacts.{files_answer, read_again}
+use Rattle.scaler.proofs.ProgramFacts.{files_answer}
+use Rattle.scaler.proofs.ScalingFacts.{rewritten_of}
 use Rattle.scaler.proofs.rewriting.program_of.Goals as goal
 
 -- ---- the program
@@ -32,10 +37,10 @@ marked_stops : (image machine loops : List ℕ) (power : PowerModel) (original :
 marked_stops image machine loops power original notes (Refused refusal) a b c d h = files_answer image machine loops power original notes (Err refusal) a b c d h
 marked_stops image machine loops power original notes Memory a b c d h = tt
 
-scaling_stops : (image machine loops : List ℕ) (power : PowerModel) (original : Image) (notes : List LoopNote) (stop : Stop) → read_machine machine ≡ Ok power → image_of image ≡ Ok original → unscaled original.keyed_segment ≡ Ok tt →
-    read_loops original loops ≡ Ok notes → AnswersBy {X = Scaling} {Y = Scaling} (λ s. s) (Err stop) (IsScalingFound power original notes) → AnswersBy {X = Program} {Y = Program} (λ p. p) (Err stop) (IsProgramFound image machine loops)
-scaling_stops image machine loops power original notes (Refused refusal) a b c d h = files_answer image machine loops power original notes (Err refusal) a b c d h
-scaling_stops image machine loops power original notes Memory a b c d h = tt
+scaling_stops : (image machine loops : List ℕ) (power : PowerModel) (original : Image) (notes : List LoopNote) (v : FlowGraph) (t : LoopView) (plain : Numbers) → ArePlain power original v t plain → (stop : Stop) → read_machine machine ≡ Ok power → image_of image ≡ Ok original → unscaled original.keyed_segment ≡ Ok tt →
+    read_loops original loops ≡ Ok notes → AnswersBy {X = Scaling} {Y = Scaling} (λ s. s) (Err stop) (IsScalingFound power original notes v t (wanted_by_slack power original v t plain) (by_deadline power)) → AnswersBy {X = Program} {Y = Program} (λ p. p) (Err stop) (IsProgramFound image machine loops)
+scaling_stops image machine loops power original notes v t plain are (Refused refusal) a b c d h = files_answer image machine loops power original notes (Err refusal) a b c d (rewritten_of power original notes v t plain (Err refusal) are h)
+scaling_stops image machine loops power original notes v t plain are Memory a b c d h = tt
 
 -- ---- the calls
 
@@ -46,7 +51,7 @@ pub marked_of-requires-clause-image : goal.marked_of-requires-clause-image
 marked_of-requires-clause-image c = read_again c.args.image.now c.in_ok-view.view c.in_ok-view.ensures
 
 pub scaling_of-requires-clause-marked : goal.scaling_of-requires-clause-marked
-scaling_of-requires-clause-marked c = (c.in_ok-notes.notes, c.in_ok-marked.ensures)
+scaling_of-requires-clause-marked c = (c.in_ok-notes.notes, _, _, c.in_ok-marked.ensures.2)
 
 pub returns-in_err-power : goal.returns-in_err-power
 returns-in_err-power c =
@@ -77,7 +82,7 @@ returns-in_err-marked c =
 pub returns-in_err-scaling : goal.returns-in_err-scaling
 returns-in_err-scaling c =
     let p = err_from_is_err_and c.from_residual-in_err-scaling.result c.from_residual-in_err-scaling.ensures.1 in
-    rw (p.1, p.2) (scaling_stops c.args.image.now c.args.machine.now c.args.loops.now c.in_ok-power.power c.in_ok-view.view c.in_ok-notes.notes c.in_err-scaling.field-0.0 c.in_ok-power.ensures.answers c.in_ok-view.ensures (search rules) c.in_ok-notes.ensures (c.in_err-scaling.ensures c.in_ok-notes.notes c.in_ok-marked.ensures))
+    rw (p.1, p.2) (scaling_stops c.args.image.now c.args.machine.now c.args.loops.now c.in_ok-power.power c.in_ok-view.view c.in_ok-notes.notes c.in_ok-marked.marked.graph c.in_ok-marked.marked.tree c.in_ok-marked.ensures.0 c.in_ok-marked.ensures.1 c.in_err-scaling.field-0.0 c.in_ok-power.ensures.answers c.in_ok-view.ensures (search rules) c.in_ok-notes.ensures (c.in_err-scaling.ensures c.in_ok-notes.notes _ _ c.in_ok-marked.ensures.2))
 
 pub returns : goal.returns
 returns c = record {
@@ -87,6 +92,8 @@ returns c = record {
   unscaled = search rules;
   notes = c.in_ok-notes.notes;
   notes_are = c.in_ok-notes.ensures;
-  marked = c.in_ok-marked.ensures;
-  scaled = c.in_ok-scaling.ensures c.in_ok-notes.notes c.in_ok-marked.ensures;
+  plain = c.in_ok-marked.ensures.0;
+  plain_are = c.in_ok-marked.ensures.1;
+  marked = c.in_ok-marked.ensures.2;
+  scaled = c.in_ok-scaling.ensures c.in_ok-notes.notes _ _ c.in_ok-marked.ensures.2;
 }

@@ -1,8 +1,7 @@
 use Rattle.std.proofs.Common.{rules}
 use Rattle.std.proofs.lemmas.Result.{err_from_is_err_and}
-use Rattle.scaler.proofs.Bases.{file_is}
+use Rattle.marked_images.proofs.Laws.{file_is, no_key, read_again}
 use Rattle.scaler.proofs.FilesRewritten.{machine_stops, image_stops, key_stops, loops_stop, program_answers}
-use Rattle.scaler.proofs.ProgramFacts.{no_key, read_again}
 use Rattle.scaler.proofs.rewriting.rewrite_files.Goals as goal
 
 pub rewrite_program-requires-clause-read : goal.rewrite_program-requires-clause-read

@@ -6,10 +6,10 @@ use Rattle.scale_base.specs.Answer.{AnswersBy}
 use Rattle.scale_base.specs.Image.{Image}
 use Rattle.power_model.specs.Numbers.{PowerModel}
 use Rattle.loop_file.specs.declared.notes.LoopNote.{LoopNote}
-use Rattle.scaler.specs.declared.rewriting.Marked.{Marked}
+use Rattle.marked_images.specs.declared.scaling.Marked.{Marked}
 use Rattle.scaler.specs.Rewritten.{IsRewrittenProgram}
 use Rattle.scaler.specs.Scalings.{IsMarkedFound}
-use Rattle.scaler.proofs.Files.{HoldAnswers}
+use Rattle.marked_images.proofs.Laws.{HoldAnswers}
 use Rattle.scaler.proofs.rewriting.rewrite_program.Goals as goal
 
 marked_stops : (power : PowerModel) (image : Image) (notes : List LoopNote) (stop : Stop) → AnswersBy {X = Marked} {Y = Marked} (λ m. m) (Err stop) (IsMarkedFound power image notes) → HoldAnswers (Err stop) (IsRewrittenProgram power image notes)

@@ -4,10 +4,8 @@ use Rattle.power_model.specs.Numbers.{PowerModel, IsPowerModel}
 use Rattle.loop_file.specs.declared.notes.LoopNote.{LoopNote}
 use Rattle.scaler.specs.Rewritten.{IsRewrittenProgram}
 use Rattle.scaler.specs.RewrittenAs.{notes_with}
-use Rattle.scaler.proofs.Bases.{file_is}
-use Rattle.scaler.proofs.Files.{HoldAnswers}
+use Rattle.marked_images.proofs.Laws.{file_is, HoldAnswers, no_key, read_again}
 use Rattle.scaler.proofs.FilesAs.{model_with, machine_stops, image_stops, key_stops, loops_stop, program_answers}
-use Rattle.scaler.proofs.ProgramFacts.{no_key, read_again}
 use Rattle.scaler.proofs.rewriting_as.rewrite_files_as.Goals as goal
 
 pub rewrite_program-requires-clause-read : goal.rewrite_program-requires-clause-read

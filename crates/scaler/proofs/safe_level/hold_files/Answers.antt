@@ -1,6 +1,6 @@
 use Rattle.std.proofs.Common.{rules}
 use Rattle.std.proofs.lemmas.Result.{err_from_is_err_and}
-use Rattle.scaler.proofs.Bases.{file_is}
+use Rattle.marked_images.proofs.Laws.{file_is}
 use Rattle.scaler.proofs.Files.{machine_stops, image_stops, key_stops, loops_stop, program_answers}
 use Rattle.scaler.proofs.safe_level.hold_files.Goals as goal
 

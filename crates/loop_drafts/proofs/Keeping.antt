@@ -1,0 +1,69 @@
+-- What a run of an image keeps of drafted bounds.
+use Rattle.std.proofs.Common.{◌≡◌, ℕ, ◌<◌, ◌≤◌, inr, List, length, Some, Ok, sym, ◌∙◌, subst, arith}
+use Rattle.scale_base.specs.Image.{Image, image_of}
+use Rattle.scale_base.specs.State.{Setting, State}
+use Rattle.scale_base.specs.Run.{run_of, setting_of, start_of}
+use Rattle.cost_theory.specs.Graph.{Loops}
+use Rattle.cost_theory.specs.Reached.{Code}
+use Rattle.code_text.specs.Text.{text_of}
+use Rattle.code_text.specs.TextGraph.{text_graph, IsReachedCode}
+use Rattle.graph_runs.specs.KeptSteps.{Carried}
+use Rattle.graph_runs.specs.KeptRuns.{kept_at, most_returns, IsKeptUpTo}
+use Rattle.graph_runs.specs.RunTransitions.{returns_so}
+use Rattle.graph_runs.specs.Laws.{IsStartOver}
+use Rattle.graph_runs.proofs.Laws.{image_starts}
+use Rattle.bound_laws.specs.Turning.{unasked, with_bounds, HasBound}
+use Rattle.bound_laws.proofs.Laws.{all_returns, found_kept, kept_before, kept_by_returns}
+
+some_same : (x y : Carried) → Some x ≡ Some y → x ≡ y
+some_same x y e = let r : x ≡ y = cc in r
+
+module _ (file : List ℕ) (image : Image) (levels : ℕ) (input : List ℕ) (code : Code) (l : Loops) (read : image_of file ≡ Ok image) (reached : IsReachedCode (text_of image) code) where
+  abbrev env : Setting
+  env = setting_of image levels input
+
+  abbrev s : State
+  s = start_of image levels
+
+  start : IsStartOver (text_of image) env s
+  start = image_starts file image levels input read
+
+  -- a run that is kept by some bounds is kept by greater ones
+  pub greater_kept : (bounds : ℕ → ℕ) (n : ℕ) → ((k : ℕ) → k < l.loops → bounds k ≤ l.bound k) → IsKeptUpTo image levels input (with_bounds l bounds) n → IsKeptUpTo image levels input l n
+  greater_kept bounds n greater kept =
+      record {
+        carried = kept.carried;
+        kept = by n kept.carried kept.kept;
+        shallow = λ m c le h.
+            let b = kept_before env s (with_bounds l bounds) n m kept.carried le kept.kept in
+            let same : b.0 ≡ c = some_same b.0 c (sym (by m b.0 b.1) ∙ h) in
+            subst (λ d. length d.returns ≤ most_returns) same (kept.shallow m b.0 le b.1);
+      }
+    where
+      by : (m : ℕ) (d : Carried) → kept_at env s (with_bounds l bounds) m ≡ Some d → kept_at env s l m ≡ Some d
+      by m d h = found_kept (text_of image) env s code l bounds start reached (λ k kl. inr (greater k kl)) m d h
+
+  abbrev AreReturns : ℕ → Type 0
+  AreReturns m = (rs : List ℕ) × (returns_so (run_of image levels input m).steps ≡ Some rs) × (length rs ≤ most_returns)
+
+  -- a run whose returns go back to their calls is kept by loops that all have bounds
+  pub returns_kept : (n : ℕ) → ((k : ℕ) → k < l.loops → HasBound (text_of image) env s (text_graph (text_of image) code) l k × (l.least_trips k ≡ 0)) → ((m : ℕ) → m ≤ n → AreReturns m) → IsKeptUpTo image levels input l n
+  unfolding run_of
+  returns_kept n has returns =
+      record {
+        carried = (here n (omega arith)).0;
+        kept = (here n (omega arith)).1;
+        shallow = λ m c le h.
+            let b = here m le in
+            let same : b.0 ≡ c = some_same b.0 c (sym b.1 ∙ h) in
+            subst (λ d. length d.returns ≤ most_returns) same b.2;
+      }
+    where
+      by : (m : ℕ) (d : Carried) → kept_at env s (unasked l) m ≡ Some d → kept_at env s l m ≡ Some d
+      by m d h = kept_by_returns (text_of image) env s code l start reached has m d h
+
+      here : (m : ℕ) → m ≤ n → (d : Carried) × (kept_at env s l m ≡ Some d) × (length d.returns ≤ most_returns)
+      here m le =
+          let q = returns m le in
+          let k = all_returns env s l m q.0 q.1 in
+          (k.0, by m k.0 k.1, subst (λ rs. length rs ≤ most_returns) (sym k.2) q.2)

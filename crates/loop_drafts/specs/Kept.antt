@@ -1,0 +1,38 @@
+-- The laws of drafted bounds: what a run of the image keeps.
+use Rattle.std.specs.Prelude.{◌≡◌, ℕ, ◌<◌, ◌≤◌, ◌⊎◌, All, List, length, Some, Ok}
+use Rattle.scale_base.specs.Image.{Image, image_of}
+use Rattle.scale_base.specs.Run.{run_of}
+use Rattle.graph_runs.specs.KeptRuns.{most_returns, IsKeptUpTo}
+use Rattle.graph_runs.specs.RunTransitions.{returns_so}
+use Rattle.bound_laws.specs.Turning.{with_bounds}
+use Rattle.loop_file.specs.declared.notes.LoopNote.{LoopNote}
+use Rattle.loop_file.specs.Kept.{note_at, noted_loops}
+use Rattle.loop_file.specs.Loops.{read_loops}
+use Rattle.loop_drafts.specs.declared.drafted.LoopDraft.{LoopDraft}
+use Rattle.loop_drafts.specs.Pieces.{printed}
+use Rattle.loop_drafts.specs.Bounds.{IsOpen}
+use Rattle.loop_drafts.specs.Drafted.{filled_most, IsDrafted}
+
+-- What a user makes of drafted notes: the loops that have no bound are given one, and the others stay as they are.
+pub record AreFinished (drafted notes : List LoopNote) : Type 0 where
+  pub size : length notes ≡ length drafted
+  pub same : (k : ℕ) → k < length drafted → IsOpen (note_at drafted k) ⊎ (note_at notes k ≡ note_at drafted k)
+
+abbrev pub AreBytes : List ℕ → Type 0
+AreBytes bytes = All (λ x. x < 256) bytes
+
+-- A run of the image that is kept by some bounds is kept by those of a finished draft, where the bounds of the loops that the user gave one are no
+-- less than these: no run breaks a drafted bound before it breaks a return address or a bound of the user's.
+abbrev pub DraftedBoundsAreKept : Type 0
+DraftedBoundsAreKept = (file : List ℕ) (draft : LoopDraft) (original : Image) (drafted notes : List LoopNote) (levels : ℕ) (input : List ℕ) (bounds : ℕ → ℕ) (n : ℕ) →
+    AreBytes file → IsDrafted file (Ok draft) → image_of file ≡ Ok original → read_loops original (filled_most draft.pieces.items) ≡ Ok drafted → AreFinished drafted notes → AreBytes input →
+    ((k : ℕ) → k < length notes → IsOpen (note_at drafted k) → bounds k ≤ (note_at notes k).bound) →
+    IsKeptUpTo original levels input (with_bounds (noted_loops notes) bounds) n → IsKeptUpTo original levels input (noted_loops notes) n
+
+-- Where each loop has a drafted bound, the file as it is printed is a loop file that a run keeps if its returns go back to their calls and its
+-- calls are not too deep.
+abbrev pub DraftedFilesNeedReturns : Type 0
+DraftedFilesNeedReturns = (file : List ℕ) (draft : LoopDraft) (original : Image) (levels : ℕ) (input : List ℕ) (n : ℕ) →
+    AreBytes file → AreBytes input → IsDrafted file (Ok draft) → image_of file ≡ Ok original → draft.unbounded ≡ 0 → draft.proved ≡ draft.loops →
+    ((m : ℕ) → m ≤ n → (rs : List ℕ) × (returns_so (run_of original levels input m).steps ≡ Some rs) × (length rs ≤ most_returns)) →
+    (notes : List LoopNote) × (read_loops original (printed draft.pieces.items) ≡ Ok notes) × IsKeptUpTo original levels input (noted_loops notes) n

@@ -1,0 +1,19 @@
+mod Lists
+mod Parts
+mod Numbered
+mod SameMarks
+mod Markable
+mod FormedMarks
+mod EdgeBlocks
+mod SiteLists
+mod WantedKinds
+mod CallWeights
+mod Ordered
+mod SafeStubs
+mod MarkingLaws
+mod ExtraFacts
+mod MarkingFacts
+mod ScalingFacts
+mod Storing
+mod Given
+pub mod Laws

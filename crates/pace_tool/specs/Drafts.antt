@@ -1,0 +1,93 @@
+-- What `loops` gives for an image, and what the stored file keeps to.
+use Rattle.std.specs.Prelude.{◌≡◌, ℕ, ◌<◌, ◌≤◌, List, length, Some, Result, Ok, Err}
+use Rattle.scale_base.specs.declared.refusal.Refusal.{Refusal}
+use Rattle.scale_base.specs.Image.{Image, image_of}
+use Rattle.scale_base.specs.Run.{run_of}
+use Rattle.code_text.specs.Text.{text_of}
+use Rattle.flow_graph.specs.FlowGraph.{FlowGraph, IsGraphOf}
+use Rattle.graph_runs.specs.KeptRuns.{most_returns, IsKeptUpTo}
+use Rattle.graph_runs.specs.RunTransitions.{returns_so}
+use Rattle.bound_laws.specs.Turning.{with_bounds}
+use Rattle.loop_file.specs.declared.notes.LoopNote.{LoopNote}
+use Rattle.loop_file.specs.Kept.{note_at, noted_loops}
+use Rattle.loop_file.specs.Loops.{read_loops}
+use Rattle.loop_forest.specs.Tree.{LoopView, IsTreeOf, IsTreeBuilt}
+use Rattle.loop_drafts.specs.declared.drafted.LoopDraft.{LoopDraft}
+use Rattle.loop_drafts.specs.Bounds.{IsOpen}
+use Rattle.loop_drafts.specs.Drafted.{IsDrafted, filled_most}
+use Rattle.loop_drafts.specs.Kept.{AreBytes, AreFinished}
+use Rattle.loop_drafts.specs.Pieces.{printed}
+use Rattle.loop_drafts.specs.Shapes.{HaveOneShape}
+
+-- a draft of the image's loop file, and the file as it is printed
+pub record IsDraftFile (image stored : List ℕ) (draft : LoopDraft) : Type 0 where
+  pub drafted : IsDrafted image (Ok draft)
+  pub is_printed : stored ≡ printed draft.pieces.items
+
+-- what `loops` gives: such a file with its draft, or the refusal
+abbrev pub Drafts : (image : List ℕ) → Result (List ℕ × LoopDraft) Refusal → Type 0
+Drafts image (Ok given) = IsDraftFile image given.0 given.1
+Drafts image (Err refusal) = IsDrafted image (Err refusal)
+
+-- ---- a loop file, as it is stored or finished by hand
+
+-- The loops of notes are taken in the code of an image.
+pub record AreTakenIn (original : Image) (notes : List LoopNote) : Type 0 where
+  pub graph : FlowGraph
+  pub graph_is : IsGraphOf (text_of original) graph
+  pub tree : LoopView
+  pub tree_is : IsTreeOf graph notes tree
+
+-- no graph of the image's code refuses the loops of notes
+abbrev pub AreNeverRefused : Image → List LoopNote → Type 0
+AreNeverRefused original notes = (v : FlowGraph) (refusal : Refusal) → IsGraphOf (text_of original) v → IsTreeBuilt v notes (Err refusal) → ⊥
+
+-- A loop file of an image with as many loops as its draft has. Its loops are taken where no part of the code turns that is no loop.
+pub record IsLoopFile (original : Image) (draft : LoopDraft) (file : List ℕ) : Type 0 where
+  pub notes : List LoopNote
+  pub read : read_loops original file ≡ Ok notes
+  pub loops_are : draft.loops ≡ length notes
+  pub taken : draft.aside ≡ 0 → AreTakenIn original notes
+
+-- What a user makes of a draft: a loop file whose loops have its headers and ranges, with bounds where it has none, and else as it has them.
+pub record IsFinishedFile (original : Image) (draft : LoopDraft) (file : List ℕ) (notes : List LoopNote) : Type 0 where
+  pub drafted : List LoopNote
+  pub drafted_are : read_loops original (filled_most draft.pieces.items) ≡ Ok drafted
+  pub read : read_loops original file ≡ Ok notes
+  pub shape : HaveOneShape drafted notes
+  pub finished : AreFinished drafted notes
+
+-- ---- runs
+
+-- in the first n steps of a run each return goes back to its call, and never are more calls open than a kept run may have
+abbrev pub ReturnsGoBack : Image → (levels : ℕ) (input : List ℕ) (n : ℕ) → Type 0
+ReturnsGoBack original levels input n = (m : ℕ) → m ≤ n → (rs : List ℕ) × (returns_so (run_of original levels input m).steps ≡ Some rs) × (length rs ≤ most_returns)
+
+-- on every input a run keeps the loop file as long as its returns go back
+abbrev pub IsKeptByReturns : Image → (file : List ℕ) → Type 0
+IsKeptByReturns original file =
+    (notes : List LoopNote) → read_loops original file ≡ Ok notes →
+    (levels : ℕ) (input : List ℕ) (n : ℕ) → AreBytes input → ReturnsGoBack original levels input n → IsKeptUpTo original levels input (noted_loops notes) n
+
+-- On every input a run that is kept by some bounds is kept by those of notes, where the ones that were written by hand are no less: so no run breaks a bound of the draft before
+-- it breaks one of those, or a return address.
+abbrev pub IsKeptByWritten : Image → (drafted notes : List LoopNote) → Type 0
+IsKeptByWritten original drafted notes =
+    (levels : ℕ) (input : List ℕ) (bounds : ℕ → ℕ) (n : ℕ) → AreBytes input → ((k : ℕ) → k < length notes → IsOpen (note_at drafted k) → bounds k ≤ (note_at notes k).bound) →
+    IsKeptUpTo original levels input (with_bounds (noted_loops notes) bounds) n → IsKeptUpTo original levels input (noted_loops notes) n
+
+-- ---- what the stored file keeps to
+
+pub record IsDraftedSafely (image stored : List ℕ) (draft : LoopDraft) : Type 0 where
+  pub original : Image
+  pub is_image : image_of image ≡ Ok original
+  -- it isn't too long to be loaded
+  pub short : length stored ≤ 1048576
+  -- where no loop is open, it is a loop file of the image
+  pub whole : draft.unbounded ≡ 0 → IsLoopFile original draft stored
+  -- where all bounds are proved as well, it is kept on every input
+  pub kept : draft.unbounded ≡ 0 → draft.proved ≡ draft.loops → IsKeptByReturns original stored
+  -- with bounds that are written by hand, its loops are taken where no part of the code turns that is no loop,
+  pub taken : draft.aside ≡ 0 → (file : List ℕ) (notes : List LoopNote) → IsFinishedFile original draft file notes → AreNeverRefused original notes
+  -- and these are all that a run has to keep
+  pub finished : (file : List ℕ) (notes : List LoopNote) (is : IsFinishedFile original draft file notes) → IsKeptByWritten original is.drafted notes
