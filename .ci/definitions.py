@@ -6,6 +6,7 @@ With the word `write` it writes that list anew, behind its heading.
 
 import re
 import sys
+import textwrap
 from pathlib import Path
 
 from clauses import clauses
@@ -107,14 +108,19 @@ def reached():
     return seen
 
 
+def wrapped(text):
+    """A text in lines of the page's width."""
+    return textwrap.fill(text, 110, break_long_words=False, break_on_hyphens=False)
+
+
 def listed(found):
     """The list as it stands in the page."""
-    lines = [HEADING, "Made by `.ci/definitions.py write`, which `.ci/run` checks: all that a clause of `run_tool` cites, directly or through others.\n"]
+    lines = [HEADING, "Made by `.ci/definitions.py write`, which `.ci/run` checks: all that a clause of `run_tool` cites, directly or\nthrough others.\n"]
     for module in sorted({module for module, _ in found}):
         place = module.removeprefix("Rattle.").replace(".", "/") + ".antt"
         about = re.match(r"-- (.*)", file_of(module).text)
         names = [name for name in file_of(module).parts if (module, name) in found]
-        lines.append(f"**`{place}`** {about[1] if about else ''}\n{', '.join(f'`{name}`' for name in names)}\n")
+        lines.append(wrapped(f"**`{place}`** {about[1] if about else ''}") + "\n" + wrapped(", ".join(f"`{name}`" for name in names)) + "\n")
     return "\n".join(lines)
 
 

@@ -211,6 +211,153 @@ class Edits(Tree):
         told = ["crates/low: 5 edits stand in must-fail/, and at most 4 may", "edits: 5 tried by rt ci, 0 beside it, all apply"]
         self.assertEqual(self.run_script("edits.py"), (told, 1))
 
+PAGE = """# A page
+
+Text with [a link](docs/OTHER.md#a-part-of-it).
+
+    x=out/
+    ./scale store ${x}name /tmp/stored
+
+prints
+
+    stored name
+
+Another one:
+
+    cat /tmp/stored
+    ./pace tell
+
+prints, among others,
+
+    one
+    three
+
+What is refused:
+
+    ./scale fail
+
+prints `refused 3 it`, with status 1.
+
+    ./scale simulate 1
+    ./scale simulate 2
+
+print
+
+| | first | second |
+|---|---|---|
+| `time`, of 9 | 1 | 2 |
+| `energy`, `level` | 10, 1 | 20, 2 |
+"""
+
+OTHER = """# Another page
+
+## A part of it
+
+[Back](../README.md), to [the decisions](ARCHITECTURE.md), [the proofs](PROVED.md).
+
+    ./scale IMAGE is a form, and isn't run
+"""
+
+LISTED = "# Each line names a crate\n\n# Low ones\nlow:\nscale_tool: low\n"
+CRATES = "# Architecture\n\n     1  low\n     2  scale_tool\n\n## The crates\n\n### Low ones\n\n- **`low`**: a.\n- **`scale_tool`**: b.\n"
+PROVED = "# Proved\n\n## By layer\n\n### Low ones\n\n#### low\n\n#### scale_tool\n\nscale: 1 of 2 crates proved\n"
+
+SCALE = """#!/bin/sh
+case $1 in
+    store) echo "$2" | sed "s,^out/,stored ," | tee "$3" ;;
+    fail) echo refused 3 it; exit 1 ;;
+    simulate) printf "time %s\\nenergy %s\\nlevel %s\\n" "$2" "${2}0" "$2" ;;
+esac
+"""
+PACE = "#!/bin/sh\nprintf 'one\\ntwo\\nthree\\n'\n"
+
+
+class Pages(Tree):
+    def setUp(self):
+        super().setUp()
+        for path, text in {
+            "README.md": PAGE + "\n[All](docs/OTHER.md) [crates](docs/ARCHITECTURE.md) [proofs](docs/PROVED.md)\n[tour](docs/TOUR.md) [results](docs/RESULTS.md)\n",
+            "docs/OTHER.md": OTHER,
+            "docs/ARCHITECTURE.md": CRATES,
+            "docs/PROVED.md": PROVED,
+            "docs/TOUR.md": "# Tour\n",
+            "docs/RESULTS.md": "# Results\n",
+            "crates.txt": LISTED,
+            "crates/low/src/lib.rt": "fn one()\n{\n    a\n}\n",
+            "crates/scale_tool/src/lib.rt": "fn one()\n{\n    a\n}\n",
+            "built/scale": SCALE,
+            "built/pace": PACE,
+        }.items():
+            self.write(path, text)
+        for name in ("scale", "pace"):
+            (self.root / "built" / name).chmod(0o755)
+        self.built = [self.root / "built" / "scale", "--", self.root / "built" / "pace"]
+
+    def change(self, path, old, new):
+        text = (self.root / path).read_text()
+        self.assertIn(old, text)
+        self.write(path, text.replace(old, new))
+
+    def told(self, *words):
+        lines, status = self.run_script("pages.py", *words)
+        self.assertEqual(status, 1 if lines[-1].endswith("not all as it should be") else 0)
+        return "\n".join(lines)
+
+    def ran(self):
+        return self.told(*self.built)
+
+    def test_right(self):
+        self.assertEqual(self.told(), "pages: 6, all as it should be")
+        self.assertEqual(self.ran(), "pages: 6, 4 blocks of commands, all as it should be")
+
+    def test_links(self):
+        self.change("docs/OTHER.md", "(../README.md)", "(README.md)")
+        self.change("README.md", "#a-part-of-it", "#a-part")
+        self.change("README.md", "[proofs](docs/PROVED.md)", "")
+        self.write("docs/LONE.md", "# Lone\n")
+        told = self.told()
+        for line in (
+            "docs/OTHER.md: README.md leads to no file",
+            "README.md: docs/OTHER.md#a-part leads to no heading",
+            "docs/LONE.md: no link leads to it from README.md",
+            "docs/PROVED.md: README.md doesn't link it",
+        ):
+            self.assertIn(line + "\n", told)
+
+    def test_lines_and_crates(self):
+        self.change("docs/OTHER.md", "# Another", "# An" + 110 * "o" + "ther")
+        self.change("docs/ARCHITECTURE.md", "- **`low`**: a.\n", "")
+        self.change("docs/ARCHITECTURE.md", "2  scale_tool", "2  low")
+        self.change("docs/PROVED.md", "of 2 crates", "of 3 crates")
+        told = self.told()
+        for line in (
+            "docs/OTHER.md:1: 123 characters",
+            "docs/ARCHITECTURE.md: scale_tool stands where low should, as in crates.txt",
+            "docs/PROVED.md: scale is built of 2 crates, not of 3",
+            "docs/ARCHITECTURE.md: the layers are drawn otherwise than crates.txt has them; `python3 .ci/pages.py write` draws them",
+        ):
+            self.assertIn(line + "\n", told)
+
+    def test_what_is_printed(self):
+        for old, new, line in (
+            ("    stored name\n", "    stored it\n", "and not\n    stored it"),
+            ("    one\n    three\n", "    three\n    one\n", "and not, among others,\n    three"),
+            ("`refused 3 it`", "`refused 4 it`", "doesn't print the line refused 4 it"),
+            ("20, 2 |", "20, 3 |", "`energy`, `level`: 20, 2 is printed, and not 20, 3"),
+            ("./scale fail", "./scale fail; exit 9", "ends with the status 9"),
+            ("# A page", "# A page of 54321", "README.md: no command prints 54321"),
+        ):
+            kept = (self.root / "README.md").read_text()
+            self.change("README.md", old, new)
+            self.assertIn(line, self.ran())
+            self.write("README.md", kept)
+
+    def test_writing(self):
+        kept = (self.root / "README.md").read_text()
+        self.change("README.md", "    stored name\n", "    stored it\n    twice\n")
+        self.told("write", *self.built)
+        self.assertEqual((self.root / "README.md").read_text(), kept)
+
 
 if __name__ == "__main__":
     unittest.main()

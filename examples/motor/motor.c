@@ -3,7 +3,7 @@
    the lower five by how much.
    Freestanding: the machine's services stand in services.h. */
 
-#include "services.h"
+#include "../services.h"
 
 #define COMMANDS 64
 

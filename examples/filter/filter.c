@@ -2,7 +2,7 @@
    itself and the seven before it, weighted, zeros behind them, and a check sum over the 64 (CRC-16/CCITT).
    Freestanding: the machine's services stand in services.h. */
 
-#include "services.h"
+#include "../services.h"
 
 #define SAMPLES 64
 #define TAPS 8
