@@ -1,16 +1,8 @@
-//! Bounds that the code of a program shows: what is found, what is accepted of it, and what isn't.
+//! Bounds that the code of a program shows, as its draft has them: which counters are found, and what is open.
 
-use crate::programs::{CALL_5, ECALL, EXIT, JUMP_0, NO_OPERATION, RETURN, START, image_of};
-use code_graph::build_graph;
-use elf_view::read_image;
-use loop_file::read_loops;
-use loop_tree::build_loops;
-use std::alloc::Global;
-use std::fmt::Write;
+use crate::drafts::draft_text;
+use crate::programs::{CALL_5, ECALL, EXIT, JUMP_0, NO_OPERATION, RETURN};
 use std::test::Fail;
-use value_analysis::{analyse, find_certificate};
-use value_checks::{Claim, is_analysed, is_derived, is_sized};
-use wrapped_intervals::{Arc, exactly};
 
 /// `a0` is raised by one as long as it is below 10.
 const UP: [u32; 6] = [
@@ -76,194 +68,125 @@ const LOADED: [u32; 6] = [
 /// A jump to itself.
 const NEVER: [u32; 2] = [NO_OPERATION, JUMP_0];
 
-/// A loop by the number of the header's word, that of the first word of its range and that of the one behind it, with a bound.
-type Bounded = (u32, u32, u32, u32);
+/// The counter is from 0 to 9 at the header.
+const UP_TEXT: &str = "# draft of loops: 1 loops, 0 without a bound
+version = 2
 
-fn address(word: u32) -> u32 {
-    START.saturating_add(word.saturating_mul(4))
-}
+# loop 1: 0x00010008, depth 1
+[[loop]]
+header = 0x00010008
+ranges = [[0x00010008, 0x00010010]]
+# x10 goes up by 1 or more each turn, and its values at the header span 9
+bound = 9
+";
 
-fn loops_text(alloc: Global, loops: &[Bounded]) -> Result<String, Fail> {
-    let mut text = String::from_str(alloc, "version = 2\n")?;
-    for (header, from, to, bound) in loops {
-        let header = address(*header);
-        let from = address(*from);
-        let to = address(*to);
-        write!(
-            &mut text,
-            "[[loop]]\nheader = {header}\nranges = [[{from}, {to}]]\nbound = {bound}\n"
-        )?;
-    }
-    Ok(text)
-}
+/// From 10 down to 1.
+const DOWN_TEXT: &str = "# draft of loops: 1 loops, 0 without a bound
+version = 2
 
-/// Of each loop, whether a certificate is found, and whether it shows the bound of the loop's note.
-fn bounds_text(alloc: Global, words: &[u32], loops: &[Bounded]) -> Result<String, Fail> {
-    let file = image_of(alloc, words)?;
-    let Ok(view) = read_image(alloc, &file) else {
-        return Err("the file is an image".into());
-    };
-    let Ok(graph) = build_graph(alloc, &view) else {
-        return Err("the code is accepted".into());
-    };
-    let text = loops_text(alloc, loops)?;
-    let notes = read_loops(alloc, text.as_bytes(), &view)
-        .ok()
-        .ok_or("the loop file is read")?;
-    let tree = build_loops(alloc, &graph, &notes)
-        .ok()
-        .ok_or("the loops are accepted")?;
-    let table = analyse(alloc, &view, &graph).ok().ok_or("there is memory")?;
-    if !is_sized(&graph, &table) {
-        return Err("the table has a row for each node".into());
-    }
-    let _file = view.file();
-    let claim = Claim {
-        view: &view,
-        graph: &graph,
-        table: &table,
-    };
-    if !is_analysed(&claim) {
-        return Err("the code confirms the table".into());
-    }
-    let mut text = String::new(alloc);
-    for k in 0..notes.count() {
-        let found = find_certificate(alloc, &view, &graph, &tree, &table, k)
-            .ok()
-            .ok_or("there is memory")?;
-        let next = match found {
-            None => "none; ",
-            Some(found) => {
-                if is_derived(&claim, notes.note(k), &found) {
-                    "shown; "
-                } else {
-                    "too low; "
-                }
-            }
-        };
-        text.push_str(next)?;
-    }
-    Ok(text)
-}
+# loop 1: 0x00010004, depth 1
+[[loop]]
+header = 0x00010004
+ranges = [[0x00010004, 0x0001000c]]
+# x10 goes down by 1 or more each turn, and its values at the header span 9
+bound = 9
+";
 
-/// Each bound is shown from the least on that a run keeps.
+/// 0, 3, 6, 9 or 12.
+const BY_THREE_TEXT: &str = "# draft of loops: 1 loops, 0 without a bound
+version = 2
+
+# loop 1: 0x00010008, depth 1
+[[loop]]
+header = 0x00010008
+ranges = [[0x00010008, 0x00010010]]
+# x10 goes up by 3 or more each turn, and its values at the header span 12
+bound = 4
+";
+
+/// From -4 to -1.
+const BELOW_ZERO_TEXT: &str = "# draft of loops: 1 loops, 0 without a bound
+version = 2
+
+# loop 1: 0x00010004, depth 1
+[[loop]]
+header = 0x00010004
+ranges = [[0x00010004, 0x0001000c]]
+# x10 goes up by 1 or more each turn, and its values at the header span 3
+bound = 3
+";
+
+/// Both from 0 to 4.
+const TRIANGLE_TEXT: &str = "# draft of loops: 2 loops, 0 without a bound
+version = 2
+
+# loop 1: 0x00010008, depth 1
+[[loop]]
+header = 0x00010008
+ranges = [[0x00010008, 0x0001001c]]
+# x10 goes up by 1 or more each turn, and its values at the header span 4
+bound = 4
+
+# loop 2: 0x0001000c, within loop 1, depth 2
+[[loop]]
+header = 0x0001000c
+ranges = [[0x0001000c, 0x00010014]]
+# x11 goes up by 1 or more each turn, and its values at the header span 4
+bound = 4
+";
+
+/// From 5 down to 1.
+const CALLED_TEXT: &str = "# draft of loops: 1 loops, 0 without a bound
+version = 2
+
+# loop 1: 0x00010004, depth 1
+[[loop]]
+header = 0x00010004
+ranges = [[0x00010004, 0x00010010]]
+# x8 goes down by 1 or more each turn, and its values at the header span 4
+bound = 4
+";
+
+/// No limit is known.
+const LOADED_TEXT: &str = "# draft of loops: 1 loops, 1 without a bound
+# where no bound is known, count the back edges that one entry takes at most, and write them there as bound = N
+version = 2
+
+# loop 1: 0x00010008, depth 1
+[[loop]]
+header = 0x00010008
+ranges = [[0x00010008, 0x00010010]]
+# no bound: no register goes on by a constant each turn, between limits that are known
+";
+
+/// Nothing counts.
+const NEVER_TEXT: &str = "# draft of loops: 1 loops, 1 without a bound
+# where no bound is known, count the back edges that one entry takes at most, and write them there as bound = N
+version = 2
+
+# loop 1: 0x00010004, depth 1
+[[loop]]
+header = 0x00010004
+ranges = [[0x00010004, 0x00010008]]
+# no bound: no register goes on by a constant each turn, between limits that are known
+";
+
 #[test]
 fn bounds_are_shown_where_a_register_counts(rt: HostRuntime) -> Result<(), Fail> {
     let alloc = rt.alloc();
-    let cases: [(&str, &[u32], &[Bounded], &str); 18] = [
-        ("up", &UP, &[(2, 2, 4, 9)], "shown; "),
-        ("up, one less", &UP, &[(2, 2, 4, 8)], "too low; "),
-        ("up, more", &UP, &[(2, 2, 4, 1000)], "shown; "),
-        ("down", &DOWN, &[(1, 1, 3, 9)], "shown; "),
-        ("down, one less", &DOWN, &[(1, 1, 3, 8)], "too low; "),
-        ("by three", &BY_THREE, &[(2, 2, 4, 4)], "shown; "),
-        (
-            "by three, one less",
-            &BY_THREE,
-            &[(2, 2, 4, 3)],
-            "too low; ",
-        ),
-        ("below zero", &BELOW_ZERO, &[(1, 1, 3, 3)], "shown; "),
-        (
-            "below zero, one less",
-            &BELOW_ZERO,
-            &[(1, 1, 3, 2)],
-            "too low; ",
-        ),
-        (
-            "nested",
-            &TRIANGLE,
-            &[(2, 2, 7, 4), (3, 3, 5, 4)],
-            "shown; shown; ",
-        ),
-        (
-            "nested, outer less",
-            &TRIANGLE,
-            &[(2, 2, 7, 3), (3, 3, 5, 4)],
-            "too low; shown; ",
-        ),
-        (
-            "nested, inner less",
-            &TRIANGLE,
-            &[(2, 2, 7, 4), (3, 3, 5, 3)],
-            "shown; too low; ",
-        ),
-        ("with a call", &CALLED, &[(1, 1, 4, 4)], "shown; "),
-        (
-            "with a call, one less",
-            &CALLED,
-            &[(1, 1, 4, 3)],
-            "too low; ",
-        ),
-        (
-            "a limit in memory",
-            &LOADED,
-            &[(2, 2, 4, 1_000_000_000)],
-            "none; ",
-        ),
-        ("for ever", &NEVER, &[(1, 1, 2, 1_000_000_000)], "none; "),
-        // The counter is moved on outside the range too, where nothing is counted.
-        ("a range that is too wide", &UP, &[(2, 2, 5, 9)], "shown; "),
-        ("no loop", &[EXIT, ECALL], &[], ""),
+    let cases: [(&str, &[u32], &str); 8] = [
+        ("up", &UP, UP_TEXT),
+        ("down", &DOWN, DOWN_TEXT),
+        ("by three", &BY_THREE, BY_THREE_TEXT),
+        ("below zero", &BELOW_ZERO, BELOW_ZERO_TEXT),
+        ("nested", &TRIANGLE, TRIANGLE_TEXT),
+        ("with a call", &CALLED, CALLED_TEXT),
+        ("a limit in memory", &LOADED, LOADED_TEXT),
+        ("for ever", &NEVER, NEVER_TEXT),
     ];
-    for (name, words, loops, want) in cases {
-        let got = bounds_text(alloc, words, loops)?;
+    for (name, words, want) in cases {
+        let got = draft_text(alloc, words)?;
         assert_eq!(rt; got.as_str(), want, "{name}");
-    }
-    Ok(())
-}
-
-/// A register's interval before a word, in place of what is found.
-type Put = (usize, usize, Option<Arc>);
-
-/// Whether the code confirms the table that is found, with one interval put into it.
-fn is_confirmed_with(alloc: Global, words: &[u32], put: Put) -> Result<bool, Fail> {
-    let file = image_of(alloc, words)?;
-    let Ok(view) = read_image(alloc, &file) else {
-        return Err("the file is an image".into());
-    };
-    let Ok(graph) = build_graph(alloc, &view) else {
-        return Err("the code is accepted".into());
-    };
-    let mut table = analyse(alloc, &view, &graph).ok().ok_or("there is memory")?;
-    let (word, register, arc) = put;
-    let row = table.rows.get_mut(word).ok_or("the word is a node")?;
-    row[register] = arc;
-    if !is_sized(&graph, &table) {
-        return Ok(false);
-    }
-    let _file = view.file();
-    let claim = Claim {
-        view: &view,
-        graph: &graph,
-        table: &table,
-    };
-    Ok(is_analysed(&claim))
-}
-
-/// The counter of the first program is from 0 to 9 at the header, and from 1 to 10 behind it.
-#[test]
-fn a_table_is_taken_only_where_it_holds(rt: HostRuntime) -> Result<(), Fail> {
-    let alloc = rt.alloc();
-    let cases: [(&str, Put, bool); 10] = [
-        ("the counter as it is", (2, 10, Some(Arc::of(0, 9))), true),
-        ("one too few", (2, 10, Some(Arc::of(0, 8))), false),
-        ("without the first", (2, 10, Some(Arc::of(1, 8))), false),
-        ("more than there are", (2, 10, Some(Arc::of(0, 10))), false),
-        ("behind the header", (3, 10, Some(Arc::of(1, 9))), true),
-        (
-            "behind it, one too few",
-            (3, 10, Some(Arc::of(1, 8))),
-            false,
-        ),
-        ("at the end nothing is known", (5, 10, None), true),
-        ("nothing, but behind it", (4, 10, None), false),
-        ("at the start 0", (0, 5, exactly(0)), true),
-        ("at the start 1", (0, 5, exactly(1)), false),
-    ];
-    for (name, put, want) in cases {
-        let got = is_confirmed_with(alloc, &UP, put)?;
-        assert_eq!(rt; got, want, "{name}");
     }
     Ok(())
 }

@@ -113,7 +113,7 @@ fn gaps_that_lead_nowhere_are_filled(rt: HostRuntime) -> Result<(), Fail> {
 }
 
 /// The draft of a program as it is printed, or why there is none.
-fn draft_text(alloc: Global, words: &[u32]) -> Result<String, Fail> {
+pub fn draft_text(alloc: Global, words: &[u32]) -> Result<String, Fail> {
     let image = image_of(alloc, words)?;
     match draft_loops(alloc, &image) {
         Ok(draft) => Ok(
