@@ -200,7 +200,7 @@ def check_drafts(scale, pace, folder):
         yield "crates/pace_tool/data/gcd.elf isn't made of its lines"
     for name, numbers in (("count", (1, 1, 0, 0)), ("gcd", (2, 1, 1, 0))):
         done = run(pace, folder, "loops", os.path.join(OWN, name + ".elf"), "drafted")
-        text = b"loops %d\nproved %d\nopen %d\nirreducible %d\n" % numbers
+        text = b"loops %d\nproved %d\nopen %d\nirreducible %d\nreturns proved\n" % numbers
         if (done.returncode, done.stdout, done.stderr) != (0, text, b""):
             yield "pace loops %s.elf: status %d, %r, %r" % (name, done.returncode, done.stdout, done.stderr)
         elif read(folder, "drafted") != read(OWN, name + "-draft.toml"):
@@ -209,7 +209,7 @@ def check_drafts(scale, pace, folder):
     if held.returncode != 0 or b"\nworst cycles 36\nworst time 144 of 156\n" not in held.stdout:
         yield "scale hold count.elf with its draft: status %d, %r" % (held.returncode, held.stdout)
     for lines, status, text in (
-        (ASIDE, 0, b"loops 0\nproved 0\nopen 0\nirreducible 1\n"),
+        (ASIDE, 0, b"loops 0\nproved 0\nopen 0\nirreducible 1\nreturns open\n"),
         (CALLS, 1, b"refused 26 recursion: 0x0001000c\n"),
     ):
         with open(os.path.join(folder, "drawn.elf"), "wb") as file:

@@ -1,11 +1,11 @@
 -- Wrapped intervals hold what is computed from numbers in them.
-use Rattle.std.proofs.Common.{◌≡◌, ◌≢◌, ℕ, ◌+◌, ◌-◌, ◌*◌, ◌/◌, ◌<◌, ◌≤◌, ◌%◌, ◌^◌, ⊎_elim, Bool, true, false, sym, ap, ◌∙◌, subst, arith, Option, Some, None}
-use Rattle.std.specs.Prelude.{◌==◌, ◌&&◌, nat_lt, min, bit_and}
-use Rattle.std.proofs.lemmas.Bool.{cond_both, and_parts, ltb-true, eqb-true}
-use Rattle.std.proofs.Math.Nat.{add-mul, mul-add, mul-sub, mul_assoc, zero-mul, div-add-mod, lt_of_mul-lt-mul_left, mul-le-mul_left, mul-le-mul_right, le-mul_of_pos_right, mul_comm, mul_right_comm}
+use Rattle.std.proofs.Common.{◌≡◌, ◌≢◌, ℕ, ◌+◌, ◌-◌, ◌*◌, ◌/◌, ◌<◌, ◌≤◌, ◌%◌, ◌^◌, ⊎_elim, inl, inr, Bool, true, false, sym, ap, ◌∙◌, subst, arith, Option, Some, None}
+use Rattle.std.specs.Prelude.{◌⊎◌, ◌==◌, ◌&&◌, nat_lt, min, bit_and}
+use Rattle.std.proofs.lemmas.Bool.{cases_lt, cond_both, and_parts, ltb-true, eqb-true}
+use Rattle.std.proofs.Math.Nat.{add-mul, mul-add, mul-sub, mul_assoc, zero-mul, div-add-mod, lt_of_mul-lt-mul_left, mul-le-mul_left, mul-le-mul_right, mul_comm, mul_right_comm}
 use Rattle.std.proofs.lemmas.Nat.{and_le_l, and_le_r}
 use Rattle.scale_base.specs.Arith.{plus, one_if}
-use Rattle.bound_laws.specs.Values.{Arc, IsMultiple, ahead, IsIn, IsHeld, IsPart, IsAll, Covers, arc, strided, is_whole, common_stride, word, exactly, top, sum_of, sum_with, negated, negated_of, times, difference_of, common_of, truth, word_from, multiple, scaled, without, Interval, plain, biased, below, above, at_most, at_least, both, without_one}
+use Rattle.bound_laws.specs.Values.{Arc, IsMultiple, ahead, IsIn, IsHeld, IsPart, IsAll, Covers, arc, strided, is_whole, common_stride, word, exactly, top, sum_of, sum_with, negated, negated_of, times, difference_of, common_of, truth, multiple, scaled, without, Interval, plain, biased, below, above, at_most, at_least, both, without_one}
 
 -- ---- multiples
 
@@ -190,44 +190,46 @@ pub truth_in : (b : Bool) → IsHeld truth (one_if b)
 truth_in true = in_low 1 1 (omega arith) (omega arith)
 truth_in false = in_low 0 1 (omega arith) (omega arith)
 
-pub from_in : (i : Option Arc) (a v : ℕ) → IsHeld i a → v ≤ a → IsHeld (word_from i) v
-from_in None a v x h = tt
-from_in (Some i) a v x h = let w = x.word in in_word v (omega arith)
-
-over : (l m a : ℕ) → l < 2 ^ 32 → a < 2 ^ 32 → (a + (2 ^ 32 - l)) % 2 ^ 32 ≤ m → l + m < 2 ^ 32 → l ≤ a
+pub over : (l m a : ℕ) → l < 2 ^ 32 → a < 2 ^ 32 → (a + (2 ^ 32 - l)) % 2 ^ 32 ≤ m → l + m < 2 ^ 32 → l ≤ a
 over l m a h k n s = omega arith
 
--- ---- shifts
+-- ---- multiples
 
-ahead_of : (l v : ℕ) → l ≤ v → v < 2 ^ 32 → (v + (2 ^ 32 - l)) % 2 ^ 32 ≡ v - l
-ahead_of l v a b = omega arith
-
-small_one : (v : ℕ) → v < 2 ^ 32 → v % 2 ^ 32 ≡ v
+pub small_one : (v : ℕ) → v < 2 ^ 32 → v % 2 ^ 32 ≡ v
 small_one v h = omega arith
 
-pub times_in : (i : Option Arc) (f v : ℕ) → 0 < f → IsHeld i v → IsHeld (times i f) (v * f % 2 ^ 32)
-times_in None f v pos x = in_word (v * f % 2 ^ 32) (omega arith)
-times_in (Some i) f v pos x = cond_both (nat_lt ((i.low + i.more) * f) (2 ^ 32)) _ _ (λ k. IsHeld k (v * f % 2 ^ 32))
+-- a word is so far behind another, or comes round to it
+behind : (l v : ℕ) → l < 2 ^ 32 → v < 2 ^ 32 → (v ≡ l + (v + (2 ^ 32 - l)) % 2 ^ 32) ⊎ (v + 2 ^ 32 ≡ l + (v + (2 ^ 32 - l)) % 2 ^ 32)
+behind l v a b = ⊎_elim (λ (h : v < l). inr (round l v a b h)) (λ (h : l ≤ v). inl (on l v a b h)) (cases_lt v l)
+  where
+    round : (l v : ℕ) → l < 2 ^ 32 → v < 2 ^ 32 → v < l → v + 2 ^ 32 ≡ l + (v + (2 ^ 32 - l)) % 2 ^ 32
+    round l v a b h = omega arith
+
+    on : (l v : ℕ) → l < 2 ^ 32 → v < 2 ^ 32 → l ≤ v → v ≡ l + (v + (2 ^ 32 - l)) % 2 ^ 32
+    on l v a b h = omega arith
+
+multiples_behind : (l v d f : ℕ) → (v ≡ l + d) ⊎ (v + 2 ^ 32 ≡ l + d) → v * f % 2 ^ 32 ≡ (l * f + d * f) % 2 ^ 32
+multiples_behind l v d f = ⊎_elim
+    (λ (e : v ≡ l + d). ap (λ n. n % 2 ^ 32) (ap (λ n. n * f) e ∙ add-mul l d f))
+    (λ (e : v + 2 ^ 32 ≡ l + d). (let w : v * f + 2 ^ 32 * f ≡ l * f + d * f = sym (add-mul v (2 ^ 32) f) ∙ (ap (λ n. n * f) e ∙ add-mul l d f) in omega arith))
+
+so_far : (p q e : ℕ) → q % 2 ^ 32 ≡ (p + e) % 2 ^ 32 → e < 2 ^ 32 → (q % 2 ^ 32 + (2 ^ 32 - p % 2 ^ 32)) % 2 ^ 32 ≡ e
+so_far p q e h k = omega arith
+
+pub times_in : (i : Option Arc) (f v : ℕ) → IsHeld i v → IsHeld (times i f) (v * f % 2 ^ 32)
+times_in None f v x = in_word (v * f % 2 ^ 32) (omega arith)
+times_in (Some i) f v x = cond_both (nat_lt (i.more * f) (2 ^ 32)) _ _ (λ k. IsHeld k (v * f % 2 ^ 32))
     (λ h.
-    let fits : (i.low + i.more) * f < 2 ^ 32 = ltb-true ((i.low + i.more) * f) (2 ^ 32) h in
-    let grown : i.low + i.more ≤ (i.low + i.more) * f = le-mul_of_pos_right (i.low + i.more) pos in
-    let small : i.low + i.more < 2 ^ 32 = omega arith in
-    let from : i.low ≤ v = over i.low i.more v x.start x.word x.near small in
-    let to : v ≤ i.low + i.more = under i.low i.more v x.start x.word x.near small in
-    let d : ahead i.low v ≡ v - i.low = ahead_of i.low v from x.word in
-    let low_to : i.low * f ≤ v * f = mul-le-mul_right f from in
-    let top_to : v * f ≤ (i.low + i.more) * f = mul-le-mul_right f to in
-    let word_is : v * f < 2 ^ 32 = omega arith in
-    let same : v * f % 2 ^ 32 ≡ v * f = small_one (v * f) word_is in
-    let apart : v * f - i.low * f ≡ (v - i.low) * f = ap (λ n. n - i.low * f) (mul_comm v f) ∙ (ap (λ n. f * v - n) (mul_comm i.low f) ∙ (sym (mul-sub f v i.low) ∙ mul_comm f (v - i.low))) in
-    let d2 : ahead (i.low * f) (v * f) ≡ ahead i.low v * f = ahead_of (i.low * f) (v * f) low_to word_is ∙ (apart ∙ ap (λ n. n * f) (sym d)) in
-    let near2 : ahead i.low v * f ≤ i.more * f = mul-le-mul_right f x.near in
-    subst (λ n. IsIn (strided (i.low * f) (i.more * f) (i.stride * f)) n) (sym same) (record {
-      word = word_is;
+    let fits : i.more * f < 2 ^ 32 = ltb-true (i.more * f) (2 ^ 32) h in
+    let d : ℕ = ahead i.low v in
+    let near : d * f ≤ i.more * f = mul-le-mul_right f x.near in
+    let e : ahead (i.low * f % 2 ^ 32) (v * f % 2 ^ 32) ≡ d * f = so_far (i.low * f) (v * f) (d * f) (multiples_behind i.low v d f (behind i.low v x.start x.word)) (omega arith) in
+    record {
+      word = omega arith;
       start = omega arith;
-      near = subst (λ n. n ≤ i.more * f) (sym d2) near2;
-      step = (x.step.0, d2 ∙ (ap (λ n. n * f) x.step.1 ∙ mul_right_comm i.stride x.step.0 f));
-    }))
+      near = subst (λ n. n ≤ i.more * f) (sym e) near;
+      step = (x.step.0, e ∙ (ap (λ n. n * f) x.step.1 ∙ mul_right_comm i.stride x.step.0 f));
+    })
     (λ _. in_word (v * f % 2 ^ 32) (omega arith))
 
 -- ---- multiples of registers
@@ -259,13 +261,13 @@ multiple_in factor (Some i) v x =
     (λ h. let e : factor ≡ 2 ^ 32 - 1 = eqb-true factor (2 ^ 32 - 1) h in subst (λ n. IsIn (negated i) n) (sym (ap (λ f. f * v % 2 ^ 32) e ∙ minus_times v x.word)) (negated_in i v x))
     (λ _. cond_both (nat_lt 0 factor && nat_lt factor (2 ^ 31)) _ _ P
     (λ h. let p = and_parts (nat_lt 0 factor) (nat_lt factor (2 ^ 31)) h in
-    subst (λ n. IsHeld (times (Some i) factor) n) (ap (λ n. n % 2 ^ 32) (mul_comm v factor)) (times_in (Some i) factor v (ltb-true 0 factor p.0) x))
+    subst (λ n. IsHeld (times (Some i) factor) n) (ap (λ n. n % 2 ^ 32) (mul_comm v factor)) (times_in (Some i) factor v x))
     (λ _. cond_both (nat_lt factor (2 ^ 32) && nat_lt 0 factor) _ _ P
     (λ h. let p = and_parts (nat_lt factor (2 ^ 32)) (nat_lt 0 factor) h in
     let low : factor < 2 ^ 32 = ltb-true factor (2 ^ 32) p.0 in
     let f : ℕ = 2 ^ 32 - factor in
     let whole : factor + f ≡ 2 ^ 32 = omega arith in
-    let k = times_in (Some i) f v (omega arith) x in
+    let k = times_in (Some i) f v x in
     let e : (2 ^ 32 - v * f % 2 ^ 32) % 2 ^ 32 ≡ factor * v % 2 ^ 32 = opposite_times factor f v whole in
     subst (λ n. IsHeld (negated_of (times (Some i) f)) n) e (negated_of_in (times (Some i) f) (v * f % 2 ^ 32) (omega arith) k))
     (λ _. in_word (factor * v % 2 ^ 32) (omega arith)))))

@@ -6,6 +6,8 @@ pub mod Inductions
 pub mod TurningRuns
 pub mod Keeping
 pub mod Arcs
+pub mod Signed
+pub mod Quotients
 pub mod Transfers
 pub mod Lines
 pub mod Memory

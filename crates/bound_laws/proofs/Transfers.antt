@@ -1,12 +1,11 @@
 -- The intervals behind an instruction hold what its step leaves in the registers.
-use Rattle.std.proofs.Common.{◌≡◌, ◌≢◌, ℕ, zero, suc, ◌+◌, ◌-◌, ◌*◌, ◌/◌, ◌<◌, ◌≤◌, ◌%◌, ◌^◌, ⊎_elim, Bool, true, false, length, cond, refl, sym, ap, ◌∙◌, subst, arith, Option, Some, None, get_or-set_same}
-use Rattle.std.specs.Prelude.{ℤ, pos, negsuc, min, ◌==◌, ◌&&◌, ◌||◌, not, nat_lt, nat_le, int_lt}
-use Rattle.std.specs.Int.{w32}
+use Rattle.std.proofs.Common.{◌≡◌, ◌≢◌, ℕ, zero, suc, ◌+◌, ◌-◌, ◌*◌, ◌<◌, ◌≤◌, ◌%◌, ◌^◌, ⊎_elim, Bool, true, false, length, cond, refl, sym, ap, ◌∙◌, subst, arith, Option, Some, None, get_or-set_same}
+use Rattle.std.specs.Prelude.{ℤ, pos, negsuc, ◌*ℤ◌, min, ◌==◌, ◌&&◌, ◌||◌, not, nat_lt, nat_le, int_lt}
+use Rattle.std.specs.Int.{w8, w16, cast_signed}
 use Rattle.std.proofs.Math.ListN.{get_or-eq_default}
 use Rattle.std.proofs.lemmas.Int.{to_z_pos}
-use Rattle.std.proofs.Math.Facts.{to_z-neg}
+use mir.Val.{sel}
 use Rattle.std.proofs.Math.Pow.{pow_pos}
-use Rattle.std.proofs.Math.Nat.{div-le_self, mod-le}
 use Rattle.std.proofs.lemmas.Bool.{cond_both, cond-true, cond-false, eqb-true, eqb-false, not-true, not-false, and_parts, or_parts, ltb-true, ltb-false, lt-ltb, both_ways}
 use Rattle.scale_base.specs.declared.instruction.BranchOp.{BranchOp}
 use Rattle.scale_base.specs.declared.instruction.BranchOp.TheVariants.{Beq, Bne, Blt, Bge, Bltu, Bgeu}
@@ -24,51 +23,55 @@ use Rattle.scale_base.specs.Reading.{instr_of}
 use Rattle.scale_base.specs.Image.{WINDOW_START}
 use Rattle.scale_base.specs.Layout.{can_read, uses_window, is_keyed, in_option, may_write, reads_byte}
 use Rattle.scale_base.specs.Service.{served, serves, read_count, write_count, no_service, bad_descriptor, bad_address}
-use Rattle.scale_base.specs.Arith.{plus, moved_by, unsigned, signed, reg_result, imm_result, is_taken, load_width, loaded}
+use Rattle.scale_base.specs.Arith.{plus, moved_by, unsigned, signed, upper_half, reg_result, imm_result, is_taken, load_width, loaded}
 use Rattle.scale_base.specs.State.{Setting, State, reg, with_reg, word_at, half_at}
 use Rattle.scale_base.specs.Step.{Outcome, stops, goes, stepped, jumps, branches, loads, performs, step}
 use Rattle.scale_base.specs.declared.stepping.TrapKind.TheVariants as traps
 use Rattle.bound_laws.specs.Registers.{keeps}
-use Rattle.bound_laws.specs.Values.{Arc, IsIn, IsHeld, strided, exactly, word_from, top_of, reg_arc, imm_arc, load_arc, answer_arc, held, written, Said, said, opposite, Interval, plain, biased, is_signed, view, of_view, first_range, second_range, first_by, second_by, kept_by, HasNone, IsEmpty, IsImpossible, passed, differs, IsRegister, AreBytes}
+use Rattle.bound_laws.specs.Values.{Arc, IsIn, IsHeld, arc, strided, exactly, power_of, top_of, reg_arc, imm_arc, load_arc, answer_arc, held, written, Said, said, opposite, Interval, plain, biased, is_signed, view, of_view, first_range, second_range, first_by, second_by, kept_by, HasNone, IsEmpty, IsImpossible, passed, differs, IsRegister, AreBytes}
 use Rattle.bound_laws.proofs.Effects.{performs_leave, step_of}
-use Rattle.bound_laws.proofs.Arcs.{in_arc, only_one, times_in, in_word, in_low, in_exactly, sum_in, sum_with_in, difference_in, common_in, truth_in, from_in, below_top, without_in, IsBetween, plain_in, of_plain, biased_in, of_biased, below_in, above_in, at_most_in, at_least_in, both_in, without_one_in}
+use Rattle.bound_laws.proofs.Signed.{low_one, high_one, upper_word, upper_word_by}
+use Rattle.bound_laws.proofs.Quotients.{product_in, upper_product_in, quotient_in, divided_in, remainder_in, signed_quotient_in, signed_remainder_in, power_in, lowered_by_in, lowered_in, united_in, parted_in}
+use Rattle.bound_laws.proofs.Arcs.{in_arc, only_one, times_in, in_word, in_low, in_exactly, sum_in, sum_with_in, difference_in, common_in, truth_in, below_top, without_in, IsBetween, plain_in, of_plain, biased_in, of_biased, below_in, above_in, at_most_in, at_least_in, both_in, without_one_in}
 
 -- ---- operations
 
 reg_in : (op : RegOp) (i j : Option Arc) (a b : ℕ) → IsHeld i a → IsHeld j b → IsHeld (reg_arc op i j) (reg_result op a b)
 reg_in Add i j a b x y = sum_in i j a b x y
 reg_in Sub i j a b x y = difference_in i j a b x y
-reg_in Sll i j a b x y = in_word _ (omega arith)
+reg_in Sll i j a b x y = product_in i (power_of j) a (2 ^ (b % 32)) x (power_in j b y)
 reg_in Slt i j a b x y = truth_in (int_lt (signed a) (signed b))
 reg_in Sltu i j a b x y = truth_in (nat_lt a b)
-reg_in Xor i j a b x y = tt
-reg_in Srl i j a b x y = from_in i a (a / 2 ^ (b % 32)) x (div-le_self a (2 ^ (b % 32)))
-reg_in Sra i j a b x y = tt
-reg_in Or i j a b x y = tt
+reg_in Xor i j a b x y = parted_in i j a b x y
+reg_in Srl i j a b x y = quotient_in i (power_of j) a (2 ^ (b % 32)) (pow_pos (b % 32)) x (power_in j b y)
+reg_in Sra i j a b x y = lowered_in i j a b x y
+reg_in Or i j a b x y = united_in i j a b x y
 reg_in And i j a b x y = common_in i j a b x y
-reg_in Mul i j a b x y = in_word _ (omega arith)
-reg_in Mulh i j a b x y = tt
-reg_in Mulhsu i j a b x y = tt
-reg_in Mulhu i j a b x y = tt
-reg_in Div i j a b x y = tt
-reg_in Divu i j a b x y = cond_both (b == 0) (2 ^ 32 - 1) (a / b) (λ v. IsHeld (word_from i) v) (λ _. none i) (λ _. from_in i a (a / b) x (div-le_self a b))
-  where
-    none : (i : Option Arc) → IsHeld (word_from i) (2 ^ 32 - 1)
-    none None = tt
-    none (Some k) = in_word (2 ^ 32 - 1) (omega arith)
-reg_in Rem i j a b x y = tt
-reg_in Remu i j a b x y = cond_both (b == 0) a (a % b) (λ v. IsHeld (word_from i) v) (λ _. from_in i a a x (omega arith)) (λ _. from_in i a (a % b) x (mod-le a b))
+reg_in Mul i j a b x y = product_in i j a b x y
+reg_in Mulh i j a b x y = in_word (upper_half (signed a *ℤ signed b)) (upper_word a b)
+reg_in Mulhsu i None a b x y = tt
+reg_in Mulhsu i (Some j) a b x y = in_word (upper_half (signed a *ℤ pos b)) (upper_word_by a b y.word)
+reg_in Mulhu i j a b x y = upper_product_in i j a b x y
+reg_in Div i j a b x y = signed_quotient_in i j a b x y
+reg_in Divu i j a b x y = divided_in i j a b x y
+reg_in Rem i j a b x y = signed_remainder_in i j a b x y
+reg_in Remu i j a b x y = remainder_in i j a b x y
+
+few_bits : (n : ℕ) → n % 32 < 32
+few_bits n = omega arith
 
 imm_in : (op : ImmOp) (i : Option Arc) (a : ℕ) (z : ℤ) → IsHeld i a → IsHeld (imm_arc op i (unsigned z)) (imm_result op a z)
 imm_in Addi i a z x = sum_with_in i (unsigned z) a x
 imm_in Slti i a z x = truth_in (int_lt (signed a) (signed (unsigned z)))
 imm_in Sltiu i a z x = truth_in (nat_lt a (unsigned z))
-imm_in Xori i a z x = tt
-imm_in Ori i a z x = tt
+imm_in Xori i a z x = parted_in i (exactly (unsigned z)) a (unsigned z) x (in_exactly (unsigned z))
+imm_in Ori i a z x = united_in i (exactly (unsigned z)) a (unsigned z) x (in_exactly (unsigned z))
 imm_in Andi i a z x = common_in i (exactly (unsigned z)) a (unsigned z) x (in_exactly (unsigned z))
-imm_in Slli i a z x = times_in i (2 ^ (unsigned z % 32)) a (pow_pos (unsigned z % 32)) x
-imm_in Srli i a z x = from_in i a (a / 2 ^ (unsigned z % 32)) x (div-le_self a (2 ^ (unsigned z % 32)))
-imm_in Srai i a z x = tt
+imm_in Slli i a z x = times_in i (2 ^ (unsigned z % 32)) a x
+imm_in Srli i a z x = quotient_in i (exactly (2 ^ (unsigned z % 32))) a (2 ^ (unsigned z % 32)) (pow_pos (unsigned z % 32)) x (in_exactly (2 ^ (unsigned z % 32)))
+imm_in Srai i a z x = lowered_by_in i a (unsigned z % 32) (few_bits (unsigned z)) x
+
+-- ---- loads
 
 half_small : (x y : ℕ) → x < 256 → y < 256 → x + y * 2 ^ 8 ≤ 65535
 half_small x y a b = omega arith
@@ -76,20 +79,39 @@ half_small x y a b = omega arith
 word_small : (x y z u : ℕ) → x < 256 → y < 256 → z < 256 → u < 256 → x + y * 2 ^ 8 + z * 2 ^ 16 + u * 2 ^ 24 < 2 ^ 32
 word_small x y z u a b c d = omega arith
 
+-- signed ones, from the low half and the high one
+byte_in : (n : ℕ) → n < 256 → IsIn (arc (2 ^ 32 - 128) 255) (unsigned (cast_signed w8 n))
+byte_in n h = by (nat_lt n 128) refl
+  where
+    by : (p : Bool) → nat_lt n 128 ≡ p → IsIn (arc (2 ^ 32 - 128) 255) (unsigned (cast_signed w8 n))
+    by true e =
+        let l : n < 128 = ltb-true n 128 e in
+        subst (λ z. IsIn (arc (2 ^ 32 - 128) 255) (unsigned z)) (sym (to_z_pos w8 n l)) (in_arc (2 ^ 32 - 128) 255 n (omega arith) (omega arith) (omega arith))
+    by false e =
+        let l : 128 ≤ n = ltb-false n 128 e in
+        let o : cast_signed w8 n ≡ negsuc (256 - suc n) = ap (λ b. sel b (pos n) (negsuc (256 - suc n))) e in
+        subst (λ z. IsIn (arc (2 ^ 32 - 128) 255) (unsigned z)) (sym o) (in_arc (2 ^ 32 - 128) 255 (2 ^ 32 - suc (256 - suc n)) (omega arith) (omega arith) (omega arith))
+
+half_in : (n : ℕ) → n < 65536 → IsIn (arc (2 ^ 32 - 32768) 65535) (unsigned (cast_signed w16 n))
+half_in n h = by (nat_lt n 32768) refl
+  where
+    by : (p : Bool) → nat_lt n 32768 ≡ p → IsIn (arc (2 ^ 32 - 32768) 65535) (unsigned (cast_signed w16 n))
+    by true e =
+        let l : n < 32768 = ltb-true n 32768 e in
+        subst (λ z. IsIn (arc (2 ^ 32 - 32768) 65535) (unsigned z)) (sym (to_z_pos w16 n l)) (in_arc (2 ^ 32 - 32768) 65535 n (omega arith) (omega arith) (omega arith))
+    by false e =
+        let l : 32768 ≤ n = ltb-false n 32768 e in
+        let o : cast_signed w16 n ≡ negsuc (65536 - suc n) = ap (λ b. sel b (pos n) (negsuc (65536 - suc n))) e in
+        subst (λ z. IsIn (arc (2 ^ 32 - 32768) 65535) (unsigned z)) (sym o) (in_arc (2 ^ 32 - 32768) 65535 (2 ^ 32 - suc (65536 - suc n)) (omega arith) (omega arith) (omega arith))
+
 load_in : (op : LoadOp) (bytes : ℕ → ℕ) (at : ℕ) → AreBytes bytes → IsHeld (load_arc op) (loaded op bytes at)
-load_in Lb bytes at b = tt
-load_in Lh bytes at b = tt
+load_in Lb bytes at b = byte_in (bytes at) (b at)
+load_in Lh bytes at b = let p = half_small (bytes at) (bytes (at + 1)) (b at) (b (at + 1)) in half_in (half_at bytes at) (omega arith)
 load_in Lw bytes at b = in_word (word_at bytes at) (word_small (bytes at) (bytes (at + 1)) (bytes (at + 2)) (bytes (at + 3)) (b at) (b (at + 1)) (b (at + 2)) (b (at + 3)))
 load_in Lbu bytes at b = let p = b at in in_low (bytes at) 255 (omega arith) (omega arith)
 load_in Lhu bytes at b = let p = half_small (bytes at) (bytes (at + 1)) (b at) (b (at + 1)) in in_low (half_at bytes at) 65535 (omega arith) p
 
 -- ---- signed numbers
-
-high_one : (a : ℕ) → a < 2 ^ 32 → 2 ^ 31 ≤ a → signed a ≡ negsuc (2 ^ 32 - suc a)
-high_one a h k = ap signed (let e : a ≡ 2 ^ 32 - suc (2 ^ 32 - suc a) = omega arith in e) ∙ to_z-neg w32 (2 ^ 32 - suc a) (omega arith)
-
-low_one : (a : ℕ) → a < 2 ^ 31 → signed a ≡ pos a
-low_one a h = to_z_pos w32 a h
 
 signed_order : (a b : ℕ) → a < 2 ^ 32 → b < 2 ^ 32 → ((int_lt (signed a) (signed b) ≡ true) → biased a < biased b) × ((int_lt (signed a) (signed b) ≡ false) → biased b ≤ biased a)
 signed_order a b x y = by (nat_lt a (2 ^ 31)) refl (nat_lt b (2 ^ 31)) refl
@@ -104,15 +126,15 @@ signed_order a b x y = by (nat_lt a (2 ^ 31)) refl (nat_lt b (2 ^ 31)) refl
         (λ h. (let lt : a < b = ltb-true a b (sym s ∙ h) in omega arith), λ h. (let le : b ≤ a = ltb-false a b (sym s ∙ h) in omega arith))
     by true e false f =
         let la : a < 2 ^ 31 = ltb-true a (2 ^ 31) e in let lb : 2 ^ 31 ≤ b = ltb-false b (2 ^ 31) f in
-        let s : int_lt (signed a) (signed b) ≡ false = both_as (pos a) (negsuc (2 ^ 32 - suc b)) (low_one a la) (high_one b y lb) in
+        let s : int_lt (signed a) (signed b) ≡ false = both_as (pos a) (negsuc (2 ^ 32 - suc b)) (low_one a la) (high_one b lb) in
         (λ h. absurd (both_ways (int_lt (signed a) (signed b)) s h), λ h. omega arith)
     by false e true f =
         let la : 2 ^ 31 ≤ a = ltb-false a (2 ^ 31) e in let lb : b < 2 ^ 31 = ltb-true b (2 ^ 31) f in
-        let s : int_lt (signed a) (signed b) ≡ true = both_as (negsuc (2 ^ 32 - suc a)) (pos b) (high_one a x la) (low_one b lb) in
+        let s : int_lt (signed a) (signed b) ≡ true = both_as (negsuc (2 ^ 32 - suc a)) (pos b) (high_one a la) (low_one b lb) in
         (λ h. omega arith, λ h. absurd (both_ways (int_lt (signed a) (signed b)) h s))
     by false e false f =
         let la : 2 ^ 31 ≤ a = ltb-false a (2 ^ 31) e in let lb : 2 ^ 31 ≤ b = ltb-false b (2 ^ 31) f in
-        let s : int_lt (signed a) (signed b) ≡ nat_lt (2 ^ 32 - suc b) (2 ^ 32 - suc a) = both_as (negsuc (2 ^ 32 - suc a)) (negsuc (2 ^ 32 - suc b)) (high_one a x la) (high_one b y lb) in (
+        let s : int_lt (signed a) (signed b) ≡ nat_lt (2 ^ 32 - suc b) (2 ^ 32 - suc a) = both_as (negsuc (2 ^ 32 - suc a)) (negsuc (2 ^ 32 - suc b)) (high_one a la) (high_one b lb) in (
           λ h. (let lt : 2 ^ 32 - suc b < 2 ^ 32 - suc a = ltb-true (2 ^ 32 - suc b) (2 ^ 32 - suc a) (sym s ∙ h) in omega arith),
           λ h. (let le : 2 ^ 32 - suc a ≤ 2 ^ 32 - suc b = ltb-false (2 ^ 32 - suc b) (2 ^ 32 - suc a) (sym s ∙ h) in omega arith),
         )

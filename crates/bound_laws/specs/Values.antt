@@ -1,15 +1,15 @@
 -- Intervals of the registers at each address, and of sums and differences of two, which no step leads out of: an interval analysis (Cousot
 -- and Cousot, Static determination of dynamic properties of programs, 1976) with intervals that may wrap round (Navas, Schachte,
 -- Søndergaard and Stuckey, Signedness-agnostic program analysis, 2012). The code has to confirm them edge by edge.
-use Rattle.std.specs.Prelude.{◌≡◌, ℕ, ◌+◌, ◌-◌, ◌*◌, ◌%◌, ◌^◌, ◌<◌, ◌≤◌, ◌⊎◌, ◌==◌, ◌&&◌, ◌||◌, not, nat_lt, min, max, Bool, true, false, List, Option, Some, None, is_some, if◌then◌else◌}
+use Rattle.std.specs.Prelude.{◌≡◌, ℕ, ◌+◌, ◌-◌, ◌*◌, ◌/◌, ◌%◌, ◌^◌, ◌<◌, ◌≤◌, ◌⊎◌, ◌==◌, ◌&&◌, ◌||◌, not, nat_lt, min, max, Bool, true, false, List, Option, Some, None, is_some, if◌then◌else◌}
 use Rattle.scale_base.specs.declared.instruction.BranchOp.{BranchOp}
 use Rattle.scale_base.specs.declared.instruction.BranchOp.TheVariants.{Beq, Bne, Blt, Bge, Bltu, Bgeu}
 use Rattle.scale_base.specs.declared.instruction.LoadOp.{LoadOp}
-use Rattle.scale_base.specs.declared.instruction.LoadOp.TheVariants.{Lw, Lbu, Lhu}
+use Rattle.scale_base.specs.declared.instruction.LoadOp.TheVariants.{Lb, Lh, Lw, Lbu, Lhu}
 use Rattle.scale_base.specs.declared.instruction.ImmOp.{ImmOp}
-use Rattle.scale_base.specs.declared.instruction.ImmOp.TheVariants.{Addi, Slti, Sltiu, Andi, Slli, Srli}
+use Rattle.scale_base.specs.declared.instruction.ImmOp.TheVariants.{Addi, Slti, Sltiu, Xori, Ori, Andi, Slli, Srli, Srai}
 use Rattle.scale_base.specs.declared.instruction.RegOp.{RegOp}
-use Rattle.scale_base.specs.declared.instruction.RegOp.TheVariants.{Add, Sub, Sll, Slt, Sltu, Srl, And, Mul, Divu, Remu}
+use Rattle.scale_base.specs.declared.instruction.RegOp.TheVariants.{Add, Sub, Sll, Slt, Sltu, Xor, Srl, Sra, Or, And, Mul, Mulh, Mulhsu, Mulhu, Div, Divu, Rem, Remu}
 use Rattle.scale_base.specs.declared.instruction.Instr.{Instr}
 use Rattle.scale_base.specs.declared.instruction.Instr.TheVariants.{Lui, Auipc, Jal, Jalr, Branch, Load, Imm, Reg, Ecall}
 use Rattle.scale_base.specs.Arith.{plus, moved_by, unsigned}
@@ -71,6 +71,14 @@ word = Some (arc 0 (2 ^ 32 - 1))
 abbrev pub exactly : ℕ → Option Arc
 exactly n = if nat_lt n (2 ^ 32) then Some (strided n 0 0) else None
 
+-- the least number of an interval
+abbrev pub least : Arc → ℕ
+least a = if nat_lt (a.low + a.more) (2 ^ 32) then a.low else 0
+
+abbrev pub least_of : Option Arc → ℕ
+least_of None = 0
+least_of (Some a) = least a
+
 -- the greatest number of an interval
 abbrev pub top : Arc → ℕ
 top a = if nat_lt (a.low + a.more) (2 ^ 32) then a.low + a.more else 2 ^ 32 - 1
@@ -79,7 +87,11 @@ abbrev pub top_of : Option Arc → ℕ
 top_of None = 2 ^ 32 - 1
 top_of (Some a) = top a
 
--- ---- what instructions give
+-- the numbers from one to another; one number has the stride 0
+abbrev pub from_to : ℕ → ℕ → Option Arc
+from_to from to = Some (strided from (to - from) (if from == to then 0 else 1))
+
+-- ---- sums and multiples
 
 -- a stride of sums: 0 is that of one number
 abbrev pub common_stride : ℕ → ℕ → ℕ
@@ -107,10 +119,88 @@ abbrev pub difference_of : Option Arc → Option Arc → Option Arc
 difference_of i None = word
 difference_of i (Some j) = sum_of i (Some (negated j))
 
--- the multiples by a number, where all of them are words
+-- the multiples by a number, modulo 2^32
 abbrev pub times : Option Arc → ℕ → Option Arc
 times None factor = word
-times (Some i) factor = if nat_lt ((i.low + i.more) * factor) (2 ^ 32) then Some (strided (i.low * factor) (i.more * factor) (i.stride * factor)) else word
+times (Some i) factor = if nat_lt (i.more * factor) (2 ^ 32) then Some (strided (i.low * factor % 2 ^ 32) (i.more * factor) (i.stride * factor)) else word
+
+abbrev pub negated_of : Option Arc → Option Arc
+negated_of None = word
+negated_of (Some i) = Some (negated i)
+
+-- the multiples by a factor, where 2^32 - 1 stands for -1
+abbrev pub multiple : ℕ → Option Arc → Option Arc
+multiple factor None = word
+multiple factor (Some i) =
+    if factor == 1 then Some i
+    else if factor == 2 ^ 32 - 1 then Some (negated i)
+    else if nat_lt 0 factor && nat_lt factor (2 ^ 31) then times (Some i) factor
+    else if nat_lt factor (2 ^ 32) && nat_lt 0 factor then negated_of (times (Some i) (2 ^ 32 - factor))
+    else word
+
+abbrev pub scaled : ℕ → Option Arc → Option Arc
+scaled factor i = if factor == 0 then Some (strided 0 0 0) else multiple factor i
+
+-- ---- products, quotients and shifts
+
+-- the product: by the one number of an interval that has no other, or of numbers whose products are words
+abbrev pub product_of : Option Arc → Option Arc → Option Arc
+product_of None j = word
+product_of (Some i) None = word
+product_of (Some i) (Some j) =
+    if j.more == 0 then scaled j.low (Some i)
+    else if i.more == 0 then scaled i.low (Some j)
+    else if nat_lt (top i * top j) (2 ^ 32) then from_to (least i * least j) (top i * top j)
+    else word
+
+-- the upper half of the product
+abbrev pub upper_product_of : Option Arc → Option Arc → Option Arc
+upper_product_of None j = None
+upper_product_of (Some i) None = None
+upper_product_of (Some i) (Some j) = from_to (least i * least j / 2 ^ 32) (top i * top j / 2 ^ 32)
+
+-- the quotient; any word, where the divisor may be 0
+abbrev pub quotient_of : Option Arc → Option Arc → Option Arc
+quotient_of None j = None
+quotient_of (Some i) j = if nat_lt 0 (least_of j) then from_to (least i / top_of j) (top i / least_of j) else word
+
+-- the remainder, which is the dividend where the divisor is greater, or 0
+abbrev pub remainder_of : Option Arc → Option Arc → Option Arc
+remainder_of None j = None
+remainder_of (Some i) j =
+    if nat_lt (top i) (least_of j) then Some i
+    else if nat_lt 0 (least_of j) then Some (arc 0 (min (top i) (top_of j - 1)))
+    else Some (arc 0 (top i))
+
+-- Neither number is negative, so a signed division is an unsigned one.
+abbrev pub are_low : Arc → Arc → Bool
+are_low i j = nat_lt (top i) (2 ^ 31) && nat_lt (top j) (2 ^ 31)
+
+abbrev pub signed_quotient_of : Option Arc → Option Arc → Option Arc
+signed_quotient_of None j = word
+signed_quotient_of (Some i) None = word
+signed_quotient_of (Some i) (Some j) = if are_low i j then quotient_of (Some i) (Some j) else word
+
+abbrev pub signed_remainder_of : Option Arc → Option Arc → Option Arc
+signed_remainder_of None j = None
+signed_remainder_of (Some i) None = word
+signed_remainder_of (Some i) (Some j) = if are_low i j then remainder_of (Some i) (Some j) else word
+
+-- what a shift by a register multiplies or divides by
+abbrev pub power_of : Option Arc → Option Arc
+power_of None = Some (arc 1 (2 ^ 31 - 1))
+power_of (Some j) = if j.more == 0 then exactly (2 ^ (j.low % 32)) else Some (arc 1 (2 ^ 31 - 1))
+
+-- A signed number divided by a power of 2, and rounded down: with 2^31 more it is an unsigned one.
+abbrev pub lowered_by : Option Arc → ℕ → Option Arc
+lowered_by None n = word
+lowered_by (Some i) n = sum_with (quotient_of (sum_with (Some i) (2 ^ 31)) (exactly n)) (2 ^ 32 - 2 ^ 31 / n)
+
+abbrev pub lowered_of : Option Arc → Option Arc → Option Arc
+lowered_of i None = word
+lowered_of i (Some j) = if j.more == 0 then lowered_by i (2 ^ (j.low % 32)) else word
+
+-- ---- bits
 
 -- what the bits of both numbers have in common
 abbrev pub common_of : Option Arc → Option Arc → Option Arc
@@ -118,42 +208,65 @@ common_of None None = None
 common_of None (Some j) = Some (arc 0 (top j))
 common_of (Some i) j = Some (arc 0 (min (top i) (top_of j)))
 
+-- the greatest word that is at most a sum of both numbers
+abbrev pub top_sum : Arc → Arc → ℕ
+top_sum i j = min (top i + top j) (2 ^ 32 - 1)
+
+-- the bits of either number
+abbrev pub united_of : Option Arc → Option Arc → Option Arc
+united_of None j = None
+united_of (Some i) None = None
+united_of (Some i) (Some j) = from_to (max (least i) (least j)) (top_sum i j)
+
+-- the bits of one number that the other doesn't have
+abbrev pub parted_of : Option Arc → Option Arc → Option Arc
+parted_of None j = None
+parted_of (Some i) None = None
+parted_of (Some i) (Some j) = Some (arc 0 (top_sum i j))
+
+-- ---- what instructions give
+
 abbrev pub truth : Option Arc
 truth = Some (arc 0 1)
-
--- a word, where the number from which it comes is one
-abbrev pub word_from : Option Arc → Option Arc
-word_from None = None
-word_from (Some i) = word
 
 abbrev pub reg_arc : RegOp → Option Arc → Option Arc → Option Arc
 reg_arc Add i j = sum_of i j
 reg_arc Sub i j = difference_of i j
-reg_arc And i j = common_of i j
+reg_arc Sll i j = product_of i (power_of j)
 reg_arc Slt i j = truth
 reg_arc Sltu i j = truth
-reg_arc Sll i j = word
-reg_arc Mul i j = word
-reg_arc Srl i j = word_from i
-reg_arc Divu i j = word_from i
-reg_arc Remu i j = word_from i
-reg_arc op i j = None
+reg_arc Xor i j = parted_of i j
+reg_arc Srl i j = quotient_of i (power_of j)
+reg_arc Sra i j = lowered_of i j
+reg_arc Or i j = united_of i j
+reg_arc And i j = common_of i j
+reg_arc Mul i j = product_of i j
+reg_arc Mulh i j = word
+reg_arc Mulhsu i j = if is_some j then word else None
+reg_arc Mulhu i j = upper_product_of i j
+reg_arc Div i j = signed_quotient_of i j
+reg_arc Divu i j = quotient_of i j
+reg_arc Rem i j = signed_remainder_of i j
+reg_arc Remu i j = remainder_of i j
 
 abbrev pub imm_arc : ImmOp → Option Arc → ℕ → Option Arc
 imm_arc Addi i n = sum_with i n
-imm_arc Andi i n = common_of i (exactly n)
 imm_arc Slti i n = truth
 imm_arc Sltiu i n = truth
+imm_arc Xori i n = parted_of i (exactly n)
+imm_arc Ori i n = united_of i (exactly n)
+imm_arc Andi i n = common_of i (exactly n)
 imm_arc Slli i n = times i (2 ^ (n % 32))
-imm_arc Srli i n = word_from i
-imm_arc op i n = None
+imm_arc Srli i n = quotient_of i (exactly (2 ^ (n % 32)))
+imm_arc Srai i n = lowered_by i (2 ^ (n % 32))
 
 -- Memory holds bytes, and no instruction of the text sees the window.
 abbrev pub load_arc : LoadOp → Option Arc
+load_arc Lb = Some (arc (2 ^ 32 - 128) 255)
+load_arc Lh = Some (arc (2 ^ 32 - 32768) 65535)
+load_arc Lw = word
 load_arc Lbu = Some (arc 0 255)
 load_arc Lhu = Some (arc 0 65535)
-load_arc Lw = word
-load_arc op = None
 
 -- The answer of a service: a number of bytes, at most 256 and at most what x12 asks for, or one of the three negative numbers of a refusal.
 abbrev pub answer_arc : Option Arc → Option Arc
@@ -309,22 +422,6 @@ abbrev pub passed : Instr → ℕ → ℕ → (ℕ → Option Arc) → ℕ → O
 passed i pc next at r = if keeps r i then kept_by (said i pc next) at r else written i pc at
 
 -- ---- sums and differences of two registers
-
-abbrev pub negated_of : Option Arc → Option Arc
-negated_of None = word
-negated_of (Some i) = Some (negated i)
-
-abbrev pub multiple : ℕ → Option Arc → Option Arc
-multiple factor None = word
-multiple factor (Some i) =
-    if factor == 1 then Some i
-    else if factor == 2 ^ 32 - 1 then Some (negated i)
-    else if nat_lt 0 factor && nat_lt factor (2 ^ 31) then times (Some i) factor
-    else if nat_lt factor (2 ^ 32) && nat_lt 0 factor then negated_of (times (Some i) (2 ^ 32 - factor))
-    else word
-
-abbrev pub scaled : ℕ → Option Arc → Option Arc
-scaled factor i = if factor == 0 then Some (strided 0 0 0) else multiple factor i
 
 -- the interval of a measure, by those of the registers
 abbrev pub line_of : Measure → (ℕ → Option Arc) → Option Arc

@@ -1,6 +1,7 @@
 //! What is read of ELF files, and why they are refused.
 
-use crate::fixtures::{PLAIN, SECTIONS, SYMBOLS, told, view_of};
+use crate::fixtures::{PLAIN, SECTIONS, SYMBOLS, expect_words, stop_text, view_of};
+use elf_image::ImageView;
 use elf_view::{end_of, overlaps, read_image};
 use scale_base::{Range, Span};
 use std::alloc::Global;
@@ -8,34 +9,65 @@ use std::process::Abort;
 use std::test::Fail;
 use symbol_index::SortedSymbols;
 
+/// An image with its entry, how many segments it has, and the ends of its text.
+fn expect_image(
+    rt: &impl Abort,
+    view: &ImageView<'_>,
+    entry: u32,
+    len: usize,
+    segments: usize,
+    text: Range,
+) {
+    let found = (view.entry(), view.file().len(), view.segment_count());
+    assert_eq!(rt; found, (entry, len, segments));
+    let found = (view.text(), view.keyed());
+    assert_eq!(rt; found, ([text].as_slice(), None));
+}
+
+#[test]
+fn reads_a_segment_and_text(rt: HostRuntime) -> Result<(), Fail> {
+    let view = view_of(rt.alloc(), &PLAIN)?;
+    let text = Range {
+        from: 0x10000,
+        to: 0x1000C,
+    };
+    expect_image(&rt, &view, 0x10000, 96, 1, text);
+    Ok(())
+}
+
 #[test]
 fn reads_segments_and_text(rt: HostRuntime) -> Result<(), Fail> {
-    for (file, entry, segments, from, to) in [
-        (PLAIN.as_slice(), 0x10000, 1, 0x10000, 0x1000C),
-        (SECTIONS.as_slice(), 0x100B4, 2, 0x100B4, 0x100C4),
-    ] {
-        let view = view_of(rt.alloc(), file)?;
-        let found = (view.entry(), view.file().len(), view.segment_count());
-        assert_eq!(rt; found, (entry, file.len(), segments));
-        let found = (view.text(), view.keyed());
-        assert_eq!(rt; found, ([Range { from, to }].as_slice(), None));
+    let view = view_of(rt.alloc(), &SECTIONS)?;
+    let text = Range {
+        from: 0x100B4,
+        to: 0x100C4,
+    };
+    expect_image(&rt, &view, 0x100B4, 501, 2, text);
+    Ok(())
+}
+
+/// Addresses, and the words and the places in the file there.
+static WORDS: [(u32, Option<u32>, Option<usize>); 5] = [
+    (0x10000, Some(0x0070_0513), Some(84)),
+    (0x10004, Some(0x05D0_0893), Some(88)),
+    (0x10008, Some(0x0000_0073), Some(92)),
+    (0x10002, None, Some(86)),
+    (0x1000C, None, None),
+];
+
+#[test]
+fn finds_words_in_their_segment(rt: HostRuntime) -> Result<(), Fail> {
+    let view = view_of(rt.alloc(), &PLAIN)?;
+    for (at, word, place) in &WORDS {
+        let found = (view.word_at(*at), view.file_place(*at));
+        assert_eq!(rt; found, (*word, *place), "at {at}");
     }
     Ok(())
 }
 
 #[test]
-fn finds_words_in_their_segment(rt: HostRuntime) -> Result<(), Fail> {
+fn gives_a_segment(rt: HostRuntime) -> Result<(), Fail> {
     let view = view_of(rt.alloc(), &PLAIN)?;
-    for (at, word, place) in [
-        (0x10000, Some(0x0070_0513), Some(84)),
-        (0x10004, Some(0x05D0_0893), Some(88)),
-        (0x10008, Some(0x0000_0073), Some(92)),
-        (0x10002, None, Some(86)),
-        (0x1000C, None, None),
-    ] {
-        let found = (view.word_at(at), view.file_place(at));
-        assert_eq!(rt; found, (word, place), "at {at}");
-    }
     assert_eq!(rt; view.segment_count(), 1);
     let segment = view.segment(0);
     let numbers = [segment.from, segment.len, segment.flags, segment.file_at];
@@ -88,7 +120,16 @@ fn expect_symbols(
     names: &[(&str, Option<u32>)],
 ) -> Result<(), Fail> {
     let view = view_of(alloc, file)?;
-    let sorted = SortedSymbols::of(alloc, &view).ok().ok_or("memory")?;
+    expect_values(rt, alloc, &view, names)
+}
+
+fn expect_values(
+    rt: &impl Abort,
+    alloc: Global,
+    view: &ImageView<'_>,
+    names: &[(&str, Option<u32>)],
+) -> Result<(), Fail> {
+    let sorted = SortedSymbols::of(alloc, view)?;
     for (name, value) in names {
         let found = (view.symbol(name), sorted.value(name));
         assert_eq!(rt; found, (*value, *value), "{name}");
@@ -110,7 +151,7 @@ fn finds_symbols(rt: HostRuntime) -> Result<(), Fail> {
 fn refusal_of(alloc: Global, file: &[u8]) -> Result<String, Fail> {
     match read_image(alloc, file) {
         Ok(_) => Err("the file is an image".into()),
-        Err(stop) => told(alloc, &stop),
+        Err(stop) => stop_text(alloc, &stop),
     }
 }
 
@@ -125,30 +166,46 @@ fn with_word(alloc: Global, at: u8, word: u32) -> Result<Vec<u8>, Fail> {
     Ok(file)
 }
 
-/// Of a word in the place of another, and of a file that is cut off.
+/// A word in the place of another, and the first rule that is broken.
+static BROKEN: [(u8, u32, &str); 5] = [
+    (36, 1, "2 unsupported ELF: flags"),
+    (56, 0xFFFF_FFFF, "3 truncated ELF"),
+    (72, 0xFFFF_FFFF, "5 bad segment: header 0"),
+    (76, 4, "6 bad text at 0x00000000"),
+    (76, 7, "7 writable text at 0x00010000"),
+];
+
+fn refusal_with(alloc: Global, at: u8, word: u32) -> Result<String, Fail> {
+    let file = with_word(alloc, at, word)?;
+    refusal_of(alloc, &file)
+}
+
 #[test]
 fn names_the_first_broken_rule(rt: HostRuntime) -> Result<(), Fail> {
-    let alloc = rt.alloc();
-    for (at, word, expected) in [
-        (36, 1, "2 unsupported ELF: flags"),
-        (56, 0xFFFF_FFFF, "3 truncated ELF"),
-        (72, 0xFFFF_FFFF, "5 bad segment: header 0"),
-        (76, 4, "6 bad text at 0x00000000"),
-        (76, 7, "7 writable text at 0x00010000"),
-    ] {
-        let file = with_word(alloc, at, word)?;
-        let got = refusal_of(alloc, &file)?;
-        assert_eq!(rt; got.as_str(), expected, "{word} at {at}");
-    }
-    for (cut, expected) in [
-        (&SECTIONS[..399], "3 truncated ELF"),
-        (&PLAIN[..80], "3 truncated ELF"),
-        (&PLAIN[..3], "1 not an ELF file"),
-    ] {
-        let got = refusal_of(alloc, cut)?;
-        assert_eq!(rt; got.as_str(), expected);
+    for (at, word, expected) in &BROKEN {
+        expect_words(
+            &rt,
+            expected,
+            refusal_with(rt.alloc(), *at, *word),
+            expected,
+        )?;
     }
     Ok(())
+}
+
+/// Of a file that is cut off.
+#[test]
+fn names_the_first_broken_rule_of_a_part(rt: HostRuntime) -> Result<(), Fail> {
+    let alloc = rt.alloc();
+    let cut = "3 truncated ELF";
+    expect_words(&rt, "399", refusal_of(alloc, &SECTIONS[..399]), cut)?;
+    expect_words(&rt, "80", refusal_of(alloc, &PLAIN[..80]), cut)?;
+    expect_words(
+        &rt,
+        "3",
+        refusal_of(alloc, &PLAIN[..3]),
+        "1 not an ELF file",
+    )
 }
 
 #[test]

@@ -80,20 +80,42 @@ pub static THREE_ENTRIES: [u8; 160] = [
 
 /// The image of a file.
 pub fn view_of(alloc: Global, file: &[u8]) -> Result<ImageView<'_>, Fail> {
-    Ok(read_image(alloc, file).ok().ok_or("the file is an image")?)
+    match read_image(alloc, file) {
+        Ok(view) => Ok(view),
+        Err(_) => Err("the file is an image".into()),
+    }
 }
 
-/// The words of a refusal, as they are printed behind `refused`.
-pub fn told(alloc: Global, stop: &Stop) -> Result<String, Fail> {
-    let Stop::Refused(refusal) = stop else {
-        return Err("memory".into());
-    };
-    let text = refusal_text(alloc, refusal).ok().ok_or("memory")?;
-    let words = text
-        .as_str()
-        .strip_prefix("refused ")
-        .ok_or("a refusal")?
-        .trim_end();
+/// The line of a refusal.
+pub fn stop_text(alloc: Global, stop: &Stop) -> Result<String, Fail> {
+    match stop {
+        Stop::Refused(refusal) => Ok(refusal_text(alloc, refusal)?),
+        Stop::Memory => Err("memory".into()),
+    }
+}
+
+/// The words of a refusal, as they are printed behind `refused`; another text as it is.
+fn words_of(text: &str) -> &str {
+    match text.strip_prefix("refused ") {
+        Some(words) => words.trim_end(),
+        None => text,
+    }
+}
+
+/// Expects these words of the text that is found for a row.
+pub fn expect_words(
+    rt: &impl Abort,
+    row: &str,
+    found: Result<String, Fail>,
+    want: &str,
+) -> Result<(), Fail> {
+    let text = found?;
+    assert_eq!(rt; words_of(text.as_str()), want, "{row}");
+    Ok(())
+}
+
+/// A text of some words.
+pub fn words_text(alloc: Global, words: &str) -> Result<String, Fail> {
     Ok(String::from_str(alloc, words)?)
 }
 
@@ -109,25 +131,41 @@ pub enum Reader<'a> {
 /// why it is refused.
 pub fn answer(alloc: Global, reader: Reader<'_>, bytes: &[u8]) -> Result<String, Fail> {
     match reader {
-        Reader::Machines => match read_machine(alloc, bytes) {
-            Ok(_) => Ok(String::from_str(alloc, "read")?),
-            Err(stop) => told(alloc, &stop),
-        },
-        Reader::Loops(view) => match read_loops(alloc, bytes, view) {
-            Ok(notes) => read_notes(alloc, &notes),
-            Err(stop) => told(alloc, &stop),
-        },
-        Reader::Jumps => match read_jumps(alloc, bytes) {
-            Ok(notes) => Ok(format!(in alloc; "read {}", notes.count())?),
-            Err(stop) => told(alloc, &stop),
-        },
+        Reader::Machines => machine_answer(alloc, bytes),
+        Reader::Loops(view) => loops_answer(alloc, bytes, view),
+        Reader::Jumps => jumps_answer(alloc, bytes),
     }
+}
+
+fn machine_answer(alloc: Global, bytes: &[u8]) -> Result<String, Fail> {
+    match read_machine(alloc, bytes) {
+        Ok(_) => words_text(alloc, "read"),
+        Err(stop) => stop_text(alloc, &stop),
+    }
+}
+
+fn loops_answer(alloc: Global, bytes: &[u8], view: &ImageView<'_>) -> Result<String, Fail> {
+    match read_loops(alloc, bytes, view) {
+        Ok(notes) => read_notes(alloc, &notes),
+        Err(stop) => stop_text(alloc, &stop),
+    }
+}
+
+fn jumps_answer(alloc: Global, bytes: &[u8]) -> Result<String, Fail> {
+    match read_jumps(alloc, bytes) {
+        Ok(notes) => count_text(alloc, notes.count()),
+        Err(stop) => stop_text(alloc, &stop),
+    }
+}
+
+fn count_text(alloc: Global, count: usize) -> Result<String, Fail> {
+    Ok(format!(in alloc; "read {count}")?)
 }
 
 fn read_notes(alloc: Global, notes: &LoopNotes) -> Result<String, Fail> {
     let count = notes.count();
     if count == 0 {
-        return Ok(String::from_str(alloc, "read 0")?);
+        return words_text(alloc, "read 0");
     }
     let LoopNote {
         header,
@@ -135,6 +173,18 @@ fn read_notes(alloc: Global, notes: &LoopNotes) -> Result<String, Fail> {
         ..
     } = notes.note(0);
     Ok(format!(in alloc; "read {count} at {header} least {at_least}")?)
+}
+
+/// The answer for a text with others before and behind it.
+fn answer_between(
+    alloc: Global,
+    reader: Reader<'_>,
+    before: &str,
+    row: &str,
+    behind: &str,
+) -> Result<String, Fail> {
+    let text = format!(in alloc; "{before}{row}{behind}")?;
+    answer(alloc, reader, text.as_bytes())
 }
 
 /// Expects for each row that the text with others before and behind it has its answer.
@@ -147,9 +197,8 @@ pub fn expect_answers(
     behind: &str,
 ) -> Result<(), Fail> {
     for (row, expected) in rows {
-        let text = format!(in alloc; "{before}{row}{behind}")?;
-        let got = answer(alloc, reader, text.as_bytes())?;
-        assert_eq!(rt; got.as_str(), *expected, "{row}");
+        let found = answer_between(alloc, reader, before, row, behind);
+        expect_words(rt, row, found, expected)?;
     }
     Ok(())
 }

@@ -1,33 +1,51 @@
 //! Hosts: real files, and files in memory.
 
 use host_files::{Host, HostError, Loaded, MemHost, NeverFails, RealHost};
+use std::alloc::Global;
 use std::test::Fail;
 
+/// What a host tells of a file of these bytes.
+fn load_told(
+    host: &mut impl Host,
+    alloc: Global,
+    name: &str,
+    limit: u64,
+    bytes: &[u8],
+) -> &'static str {
+    match host.load(alloc, name, limit) {
+        Ok(Loaded::Whole(found)) => {
+            if found.as_slice() == bytes {
+                "the bytes"
+            } else {
+                "other bytes"
+            }
+        }
+        Ok(Loaded::TooLong) => "too long",
+        Err(HostError::Failed) => "failed",
+        Err(HostError::OutOfMemory) => "memory",
+    }
+}
+
 #[test]
-fn a_real_file_is_stored_and_loaded(rt: HostRuntime) -> Result<(), Fail> {
-    let alloc = rt.alloc();
+fn a_real_file_is_stored_and_loaded(rt: HostRuntime) {
     let mut host = RealHost::new(&rt);
     assert_eq!(rt; host.store("file", b"bytes").is_ok(), true);
-    match host.load(alloc, "file", 5)? {
-        Loaded::Whole(bytes) => assert_eq!(rt; bytes.as_slice(), b"bytes".as_slice()),
-        Loaded::TooLong => assert!(rt; false),
-    }
-    assert!(rt; matches!(host.load(alloc, "file", 4)?, Loaded::TooLong));
-    assert!(rt; matches!(host.load(alloc, "none", 4), Err(HostError::Failed)));
+    let found = load_told(&mut host, rt.alloc(), "file", 5, b"bytes");
+    assert_eq!(rt; found, "the bytes");
+    let found = load_told(&mut host, rt.alloc(), "file", 4, b"bytes");
+    assert_eq!(rt; found, "too long");
+    let found = load_told(&mut host, rt.alloc(), "none", 4, b"");
+    assert_eq!(rt; found, "failed");
     assert_eq!(rt; host.print(b"printed\n").is_ok(), true);
-    Ok(())
 }
 
 // Its texts are the only thing of an error that no clause says.
 #[test]
 fn errors_are_told(rt: HostRuntime) -> Result<(), Fail> {
-    let alloc = rt.alloc();
     let failed = HostError::Failed;
     let memory = HostError::OutOfMemory;
-    assert_eq!(rt;
-        format!(in alloc; "{failed}, {memory}")?.as_str(),
-        "host call failed, out of memory"
-    );
+    let text = format!(in rt.alloc(); "{failed}, {memory}")?;
+    assert_eq!(rt; text.as_str(), "host call failed, out of memory");
     Ok(())
 }
 
@@ -55,27 +73,37 @@ static CALLS: [(Call, bool); 6] = [
     (Call::Print(b"5678"), true),
 ];
 
-#[test]
-fn a_listed_call_fails(rt: HostRuntime) -> Result<(), Fail> {
-    let alloc = rt.alloc();
+/// A host whose second call fails, with room for 10 bytes in two files.
+fn second_fails(alloc: Global) -> Result<MemHost, Fail> {
     let mut host = MemHost::new(alloc, [2].to_vec(alloc)?);
     host.reserve(2, 10)?;
+    Ok(host)
+}
+
+#[test]
+fn a_listed_call_fails(rt: HostRuntime) -> Result<(), Fail> {
+    let mut host = second_fails(rt.alloc())?;
     for (call, expected) in &CALLS {
         assert_eq!(rt; fails(&mut host, call), *expected);
     }
-    assert_eq!(rt; host.file("a").ok_or("no file")?, b"3".as_slice());
+    assert_eq!(rt; host.file("a"), Some(b"3".as_slice()));
     assert_eq!(rt; host.printed(), b"56".as_slice());
     assert_eq!(rt; (host.room(), host.fault_count()), ((0, 3), 3));
     Ok(())
 }
 
-#[test]
-fn never_fails_with_room(rt: HostRuntime) -> Result<(), Fail> {
-    let alloc = rt.alloc();
+/// A host of one file.
+fn one_file(alloc: Global) -> Result<NeverFails, Fail> {
     let mut inner = MemHost::new(alloc, Vec::new(alloc));
     inner.add_file("a", b"12")?;
-    let mut host = NeverFails::new(inner);
-    assert!(rt; matches!(host.load(alloc, "a", 2)?, Loaded::Whole(_)));
+    Ok(NeverFails::new(inner))
+}
+
+#[test]
+fn never_fails_with_room(rt: HostRuntime) -> Result<(), Fail> {
+    let mut host = one_file(rt.alloc())?;
+    let found = load_told(&mut host, rt.alloc(), "a", 2, b"12");
+    assert_eq!(rt; found, "the bytes");
     assert_eq!(rt; host.inner().fault_count(), 0);
     Ok(())
 }

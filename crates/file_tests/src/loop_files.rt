@@ -1,9 +1,11 @@
 //! What is read of loop files, and why they are refused.
 
-use crate::fixtures::{Reader, SECTIONS, answer, expect_answers, view_of};
+use crate::fixtures::{Reader, SECTIONS, answer, expect_answers, expect_words, view_of};
 use loop_file::{LoopNote, LoopNotes, RangeList, read_loops};
 use scale_base::Range;
-use std::alloc::Global;
+use std::alloc::{AllocError, Global};
+use std::fmt::Write;
+use std::process::Abort;
 use std::test::Fail;
 
 /// Loop files, and what is answered.
@@ -222,72 +224,134 @@ static RANGES: [(&str, &str); 22] = [
 /// A loop of version 2 whose header is not known.
 static UNREAD: [(&str, &str); 1] = [("at_least = 2\n", "17 loop 1 symbol")];
 
-/// The rows, and the texts before and behind them.
-#[test]
-fn answers_in_order(rt: HostRuntime) -> Result<(), Fail> {
-    let view = view_of(rt.alloc(), &SECTIONS)?;
+/// Rows, and the texts before and behind them.
+#[derive(Clone, Copy)]
+struct Group {
+    rows: &'static [(&'static str, &'static str)],
+    before: &'static str,
+    behind: &'static str,
+}
+
+fn expect_group(rt: &impl Abort, alloc: Global, group: &Group) -> Result<(), Fail> {
+    let view = view_of(alloc, &SECTIONS)?;
     let reader = Reader::Loops(&view);
-    for (rows, before, behind) in [
-        (FILES.as_slice(), "", ""),
-        (&LOOPS, "version = 1\n[[loop]]\n", ""),
-        (
-            &ADDRESSES,
-            "version = 1\n[[loop]]\nbound = 1\nranges = [[1, 2]]\nheader = ",
-            "\n",
-        ),
-        (
-            &RANGES,
-            "version = 1\n[[loop]]\nheader = 1\nbound = 1\nranges = ",
-            "\n",
-        ),
-        (
-            &LEAST,
-            "version = 2\n[[loop]]\nheader = 1\nranges = [[1, 2]]\n",
-            "",
-        ),
-        (
-            &UNKNOWN,
-            "version = 1\n[[loop]]\nheader = 1\nranges = [[1, 2]]\n",
-            "",
-        ),
-        (
-            &UNREAD,
-            "version = 2\n[[loop]]\nheader = \"none\"\nranges = [[1, 2]]\nbound = 1\n",
-            "",
-        ),
-    ] {
-        expect_answers(&rt, rt.alloc(), reader, before, rows, behind)?;
-    }
-    let got = answer(rt.alloc(), reader, b"version = 1 # \xff")?;
-    assert_eq!(rt; got.as_str(), "14 loop file text");
-    Ok(())
+    expect_answers(rt, alloc, reader, group.before, group.rows, group.behind)
 }
 
 #[test]
-fn takes_4096_loops(rt: HostRuntime) -> Result<(), Fail> {
-    let view = view_of(rt.alloc(), &SECTIONS)?;
-    let mut text = String::from_str(rt.alloc(), "version = 1\n")?;
+fn answers_for_files_in_order(rt: HostRuntime) -> Result<(), Fail> {
+    let group = Group {
+        rows: &FILES,
+        before: "",
+        behind: "",
+    };
+    expect_group(&rt, rt.alloc(), &group)
+}
+
+#[test]
+fn answers_for_loops_in_order(rt: HostRuntime) -> Result<(), Fail> {
+    let group = Group {
+        rows: &LOOPS,
+        before: "version = 1\n[[loop]]\n",
+        behind: "",
+    };
+    expect_group(&rt, rt.alloc(), &group)
+}
+
+#[test]
+fn answers_for_addresses(rt: HostRuntime) -> Result<(), Fail> {
+    let group = Group {
+        rows: &ADDRESSES,
+        before: "version = 1\n[[loop]]\nbound = 1\nranges = [[1, 2]]\nheader = ",
+        behind: "\n",
+    };
+    expect_group(&rt, rt.alloc(), &group)
+}
+
+#[test]
+fn answers_for_ranges(rt: HostRuntime) -> Result<(), Fail> {
+    let group = Group {
+        rows: &RANGES,
+        before: "version = 1\n[[loop]]\nheader = 1\nbound = 1\nranges = ",
+        behind: "\n",
+    };
+    expect_group(&rt, rt.alloc(), &group)
+}
+
+#[test]
+fn answers_for_least_turns(rt: HostRuntime) -> Result<(), Fail> {
+    let group = Group {
+        rows: &LEAST,
+        before: "version = 2\n[[loop]]\nheader = 1\nranges = [[1, 2]]\n",
+        behind: "",
+    };
+    expect_group(&rt, rt.alloc(), &group)
+}
+
+#[test]
+fn version_1_knows_no_least_turns(rt: HostRuntime) -> Result<(), Fail> {
+    let group = Group {
+        rows: &UNKNOWN,
+        before: "version = 1\n[[loop]]\nheader = 1\nranges = [[1, 2]]\n",
+        behind: "",
+    };
+    expect_group(&rt, rt.alloc(), &group)
+}
+
+#[test]
+fn a_symbol_comes_before_least_turns(rt: HostRuntime) -> Result<(), Fail> {
+    let group = Group {
+        rows: &UNREAD,
+        before: "version = 2\n[[loop]]\nheader = \"none\"\nranges = [[1, 2]]\nbound = 1\n",
+        behind: "",
+    };
+    expect_group(&rt, rt.alloc(), &group)
+}
+
+fn answer_of(alloc: Global, text: &[u8]) -> Result<String, Fail> {
+    let view = view_of(alloc, &SECTIONS)?;
+    answer(alloc, Reader::Loops(&view), text)
+}
+
+#[test]
+fn refuses_what_is_no_text(rt: HostRuntime) -> Result<(), Fail> {
+    let found = answer_of(rt.alloc(), b"version = 1 # \xff");
+    expect_words(&rt, "no text", found, "14 loop file text")
+}
+
+/// The answer for 4,096 loops, and more text behind them.
+fn answer_of_many(alloc: Global, behind: &str) -> Result<String, Fail> {
+    let mut text = String::from_str(alloc, "version = 1\n")?;
     for _ in 0..4096 {
         text.push_str("[[loop]]\nheader = 1\nranges = [[1, 2]]\nbound = 1\n")?;
     }
-    for expected in ["read 4096 at 1 least 0", "18 too many loops: 4097"] {
-        let got = answer(rt.alloc(), Reader::Loops(&view), text.as_bytes())?;
-        assert_eq!(rt; got.as_str(), expected);
-        text.push_str("[[loop]]\n")?;
+    text.push_str(behind)?;
+    answer_of(alloc, text.as_bytes())
+}
+
+/// More text, and the answer.
+static MANY: [(&str, &str); 2] = [
+    ("", "read 4096 at 1 least 0"),
+    ("[[loop]]\n", "18 too many loops: 4097"),
+];
+
+#[test]
+fn takes_4096_loops(rt: HostRuntime) -> Result<(), Fail> {
+    for (behind, expected) in &MANY {
+        expect_words(&rt, expected, answer_of_many(rt.alloc(), behind), expected)?;
     }
     Ok(())
 }
 
-/// Of each loop its header, its bound, whether it is counted, its least number of turns and its ranges.
-fn notes_text(alloc: Global, notes: &LoopNotes) -> Result<String, Fail> {
-    let mut text = String::new(alloc);
-    for k in 0..notes.count() {
-        push_note(&mut text, alloc, notes.note(k))?;
+fn push_ranges(text: &mut String, ranges: &RangeList) -> Result<(), AllocError> {
+    for k in 0..ranges.count() {
+        let range = ranges.get(k);
+        write!(text, " {:#x} to {:#x}", range.from, range.to)?;
     }
-    Ok(text)
+    text.push_str("; ")
 }
 
-fn push_note(text: &mut String, alloc: Global, note: &LoopNote) -> Result<(), Fail> {
+fn push_note(text: &mut String, note: &LoopNote) -> Result<(), AllocError> {
     let LoopNote {
         header,
         bound,
@@ -295,31 +359,40 @@ fn push_note(text: &mut String, alloc: Global, note: &LoopNote) -> Result<(), Fa
         at_least,
         ..
     } = note;
-    let numbers = format!(in alloc; "{header:#x} {bound} {counted} {at_least}")?;
-    text.push_str(&numbers)?;
-    for k in 0..note.ranges.count() {
-        let range = note.ranges.get(k);
-        let ends = format!(in alloc; " {:#x} to {:#x}", range.from, range.to)?;
-        text.push_str(&ends)?;
-    }
-    text.push_str("; ")?;
-    Ok(())
+    write!(text, "{header:#x} {bound} {counted} {at_least}")?;
+    push_ranges(text, &note.ranges)
 }
+
+/// Of each loop its header, its bound, whether it is counted, its least number of turns and its ranges.
+fn notes_text(alloc: Global, notes: &LoopNotes) -> Result<String, Fail> {
+    let mut text = String::new(alloc);
+    for k in 0..notes.count() {
+        push_note(&mut text, notes.note(k))?;
+    }
+    Ok(text)
+}
+
+fn notes_of(alloc: Global, text: &str) -> Result<LoopNotes, Fail> {
+    let view = view_of(alloc, &SECTIONS)?;
+    match read_loops(alloc, text.as_bytes(), &view) {
+        Ok(notes) => Ok(notes),
+        Err(_) => Err("refused".into()),
+    }
+}
+
+const NOTED: &str =
+    "version = 1\n[[loop]]\nheader = \"_start\"\nranges = [[0, 4], [\"_start\", \"_start+0x10\"]]\nbound = 7\ncounted = true\n[[loop]]\nheader = 1\nranges = [[1, 2]]\nbound = 0\n";
 
 #[test]
 fn gives_what_is_noted(rt: HostRuntime) -> Result<(), Fail> {
-    let view = view_of(rt.alloc(), &SECTIONS)?;
-    let text =
-        "version = 1\n[[loop]]\nheader = \"_start\"\nranges = [[0, 4], [\"_start\", \"_start+0x10\"]]\nbound = 7\ncounted = true\n[[loop]]\nheader = 1\nranges = [[1, 2]]\nbound = 0\n";
-    let notes = read_loops(rt.alloc(), text.as_bytes(), &view)
-        .ok()
-        .ok_or("refused")?;
-    let found = notes_text(rt.alloc(), &notes)?;
-    assert_eq!(rt;
-        found.as_str(),
-        "0x100b4 7 true 0 0x0 to 0x4 0x100b4 to 0x100c4; 0x1 0 false 0 0x1 to 0x2; "
-    );
-    Ok(())
+    let notes = notes_of(rt.alloc(), NOTED)?;
+    let found = notes_text(rt.alloc(), &notes);
+    expect_words(
+        &rt,
+        NOTED,
+        found,
+        "0x100b4 7 true 0 0x0 to 0x4 0x100b4 to 0x100c4; 0x1 0 false 0 0x1 to 0x2; ",
+    )
 }
 
 #[test]
@@ -337,26 +410,38 @@ fn keeps_notes_in_their_order(rt: HostRuntime) -> Result<(), Fail> {
             notes.push(note)?;
         }
     }
-    let found = notes_text(rt.alloc(), &notes)?;
-    assert_eq!(rt;
-        found.as_str(),
-        "0x8 1000000000 true 1000000000 0x0 to 0x4; 0x0 1000000000 true 1000000000 0x0 to 0x4; "
-    );
-    Ok(())
+    let found = notes_text(rt.alloc(), &notes);
+    expect_words(
+        &rt,
+        "two notes",
+        found,
+        "0x8 1000000000 true 1000000000 0x0 to 0x4; 0x0 1000000000 true 1000000000 0x0 to 0x4; ",
+    )
+}
+
+const LEAST_THREE: &str =
+    "version = 2\n[[loop]]\nheader = 1\nranges = [[1, 2]]\nbound = 7\ncounted = true\nat_least = 3\n";
+
+fn relaxed_text(alloc: Global, notes: &LoopNotes) -> Result<String, Fail> {
+    let relaxed = notes.relaxed(alloc)?;
+    notes_text(alloc, &relaxed)
 }
 
 #[test]
-fn relaxes_bounds_and_drops_counters(rt: HostRuntime) -> Result<(), Fail> {
-    let view = view_of(rt.alloc(), &SECTIONS)?;
-    let text =
-        "version = 2\n[[loop]]\nheader = 1\nranges = [[1, 2]]\nbound = 7\ncounted = true\nat_least = 3\n";
-    let notes = read_loops(rt.alloc(), text.as_bytes(), &view)
-        .ok()
-        .ok_or("refused")?;
-    let relaxed = notes.relaxed(rt.alloc()).ok().ok_or("memory")?;
-    let found = notes_text(rt.alloc(), &relaxed)?;
-    assert_eq!(rt; found.as_str(), "0x1 1000000000 true 0 0x1 to 0x2; ");
-    let found = notes_text(rt.alloc(), &notes.uncounted())?;
-    assert_eq!(rt; found.as_str(), "0x1 7 false 3 0x1 to 0x2; ");
-    Ok(())
+fn relaxes_bounds(rt: HostRuntime) -> Result<(), Fail> {
+    let notes = notes_of(rt.alloc(), LEAST_THREE)?;
+    let found = relaxed_text(rt.alloc(), &notes);
+    expect_words(
+        &rt,
+        LEAST_THREE,
+        found,
+        "0x1 1000000000 true 0 0x1 to 0x2; ",
+    )
+}
+
+#[test]
+fn drops_counters(rt: HostRuntime) -> Result<(), Fail> {
+    let notes = notes_of(rt.alloc(), LEAST_THREE)?.uncounted();
+    let found = notes_text(rt.alloc(), &notes);
+    expect_words(&rt, LEAST_THREE, found, "0x1 7 false 3 0x1 to 0x2; ")
 }

@@ -1,8 +1,8 @@
 //! What is read of machine files, and why they are refused.
 
-use crate::fixtures::{Reader, answer};
+use crate::fixtures::{Reader, answer, expect_words};
 use machine_file::read_machine;
-use power_model::Level;
+use power_model::{Level, Power};
 use std::alloc::Global;
 use std::process::Abort;
 use std::test::Fail;
@@ -253,12 +253,18 @@ static PAIR_CASES: [(&str, &str, &str); 23] = [
     ),
 ];
 
+/// The machine of a file with this top.
+fn power_of(alloc: Global, top: &str) -> Result<Power, Fail> {
+    let text = format!(in alloc; "{top}{COST}{LEVELS}")?;
+    match read_machine(alloc, text.as_bytes()) {
+        Ok(power) => Ok(power),
+        Err(_) => Err("refused".into()),
+    }
+}
+
 #[test]
 fn reads_costs_and_levels(rt: HostRuntime) -> Result<(), Fail> {
-    let text = format!(in rt.alloc(); "{TOP}{COST}{LEVELS}")?;
-    let power = read_machine(rt.alloc(), text.as_bytes())
-        .ok()
-        .ok_or("refused")?;
+    let power = power_of(rt.alloc(), TOP)?;
     assert_eq!(rt;
         (power.deadline, power.steps, power.min_gain, power.costs.div),
         (28, 1_000_000, 20, 10)
@@ -274,91 +280,121 @@ fn reads_costs_and_levels(rt: HostRuntime) -> Result<(), Fail> {
     Ok(())
 }
 
-/// By version the top of a machine file, and the costs of its switches from a level to another.
-#[test]
-fn reads_costs_of_switches(rt: HostRuntime) -> Result<(), Fail> {
-    let tops: [(&str, &[(u8, u8, u32, u32)]); 2] = [
-        (TOP, &[(0, 7, 10, 20), (2, 1, 10, 20), (1, 1, 0, 0)]),
-        (
-            PAIRS_TOP,
-            &[
-                (0, 1, 4, 20),
-                (0, 2, 14, 20),
-                (1, 2, 10, 20),
-                (2, 1, 10, 20),
-                (1, 1, 0, 0),
-                (1, 3, 0, 0),
-                (3, 1, 0, 0),
-                (7, 7, 0, 0),
-            ],
-        ),
-    ];
-    for (top, costs) in tops {
-        let text = format!(in rt.alloc(); "{top}{COST}{LEVELS}")?;
-        let power = read_machine(rt.alloc(), text.as_bytes())
-            .ok()
-            .ok_or("refused")?;
-        for (from, to, time, energy) in costs {
-            if *from < 8 && *to < 8 {
-                let found = (
-                    power.switch_time.at(*from, *to),
-                    power.switch_energy.at(*from, *to),
-                );
-                assert_eq!(rt; found, (*time, *energy), "from {from} to {to}");
-            }
+/// Two levels, and the time and the energy of the switch from the one to the other.
+type Switch = (u8, u8, u32, u32);
+
+static SWITCHES: [Switch; 3] = [(0, 7, 10, 20), (2, 1, 10, 20), (1, 1, 0, 0)];
+
+static PAIR_SWITCHES: [Switch; 8] = [
+    (0, 1, 4, 20),
+    (0, 2, 14, 20),
+    (1, 2, 10, 20),
+    (2, 1, 10, 20),
+    (1, 1, 0, 0),
+    (1, 3, 0, 0),
+    (3, 1, 0, 0),
+    (7, 7, 0, 0),
+];
+
+fn expect_switches(rt: &impl Abort, power: &Power, switches: &[Switch]) {
+    for (from, to, time, energy) in switches {
+        if *from < 8 && *to < 8 {
+            let found = (
+                power.switch_time.at(*from, *to),
+                power.switch_energy.at(*from, *to),
+            );
+            assert_eq!(rt; found, (*time, *energy), "from {from} to {to}");
         }
     }
+}
+
+#[test]
+fn reads_costs_of_switches(rt: HostRuntime) -> Result<(), Fail> {
+    let power = power_of(rt.alloc(), TOP)?;
+    expect_switches(&rt, &power, &SWITCHES);
     Ok(())
 }
 
-/// Whether each change of a text has its answer.
+#[test]
+fn reads_costs_of_switches_by_their_pairs(rt: HostRuntime) -> Result<(), Fail> {
+    let power = power_of(rt.alloc(), PAIRS_TOP)?;
+    expect_switches(&rt, &power, &PAIR_SWITCHES);
+    Ok(())
+}
+
+/// The answer for a text with another one in the place of a part.
+fn answer_with(alloc: Global, text: &str, old: &str, new: &str) -> Result<String, Fail> {
+    let changed = text.replace(alloc, old, new)?;
+    answer(alloc, Reader::Machines, changed.as_bytes())
+}
+
+/// Expects of each change of a file with this top its answer.
 fn expect_rows(
+    rt: &impl Abort,
+    alloc: Global,
+    top: &str,
+    rows: &[(&str, &str, &str)],
+) -> Result<(), Fail> {
+    let text = format!(in alloc; "{top}{COST}{LEVELS}")?;
+    expect_changes(rt, alloc, &text, rows)
+}
+
+fn expect_changes(
     rt: &impl Abort,
     alloc: Global,
     text: &str,
     rows: &[(&str, &str, &str)],
 ) -> Result<(), Fail> {
     for (old, new, expected) in rows {
-        let changed = text.replace(alloc, *old, *new)?;
-        let got = answer(alloc, Reader::Machines, changed.as_bytes())?;
-        assert_eq!(rt; got.as_str(), *expected, "{new} in place of {old}");
+        expect_words(rt, new, answer_with(alloc, text, old, new), expected)?;
     }
     Ok(())
 }
 
 #[test]
 fn refuses_in_order(rt: HostRuntime) -> Result<(), Fail> {
-    for (top, rows) in [(TOP, CASES.as_slice()), (PAIRS_TOP, &PAIR_CASES)] {
-        let text = format!(in rt.alloc(); "{top}{COST}{LEVELS}")?;
-        expect_rows(&rt, rt.alloc(), &text, rows)?;
+    expect_rows(&rt, rt.alloc(), TOP, &CASES)
+}
+
+#[test]
+fn refuses_pairs_in_order(rt: HostRuntime) -> Result<(), Fail> {
+    expect_rows(&rt, rt.alloc(), PAIRS_TOP, &PAIR_CASES)
+}
+
+#[test]
+fn refuses_what_is_no_text(rt: HostRuntime) -> Result<(), Fail> {
+    let found = answer(rt.alloc(), Reader::Machines, b"version = 1 # \xff");
+    expect_words(&rt, "no text", found, "10 machine file text")
+}
+
+/// The levels of a machine file, how many tables of levels stand behind its costs, and the answer.
+static TABLES: [(&str, u8, &str); 7] = [
+    ("level = []\n", 0, "12 machine file value level"),
+    ("level = 1\n", 0, "12 machine file value level"),
+    (
+        "level = [{ period = 1, energy = 1, voltage = 1 }, 2]\n",
+        0,
+        "12 machine file value level",
+    ),
+    ("level = [{ period = 1, energy = 1 }]\n", 0, "read"),
+    ("", 0, "11 machine file key level"),
+    ("", 8, "13 level order 1"),
+    ("", 9, "12 machine file value level"),
+];
+
+fn answer_of_tables(alloc: Global, levels: &str, tables: u8) -> Result<String, Fail> {
+    let mut text = format!(in alloc; "{TOP}{levels}{COST}")?;
+    for _ in 0..tables {
+        text.push_str("[[level]]\nperiod = 1\nenergy = 1\n")?;
     }
-    let got = answer(rt.alloc(), Reader::Machines, b"version = 1 # \xff")?;
-    assert_eq!(rt; got.as_str(), "10 machine file text");
-    Ok(())
+    answer(alloc, Reader::Machines, text.as_bytes())
 }
 
 #[test]
 fn refuses_levels_that_are_no_tables(rt: HostRuntime) -> Result<(), Fail> {
-    let level = "[[level]]\nperiod = 1\nenergy = 1\n";
-    for (levels, tables, expected) in [
-        ("level = []\n", 0, "12 machine file value level"),
-        ("level = 1\n", 0, "12 machine file value level"),
-        (
-            "level = [{ period = 1, energy = 1, voltage = 1 }, 2]\n",
-            0,
-            "12 machine file value level",
-        ),
-        ("level = [{ period = 1, energy = 1 }]\n", 0, "read"),
-        ("", 0, "11 machine file key level"),
-        ("", 8, "13 level order 1"),
-        ("", 9, "12 machine file value level"),
-    ] {
-        let mut text = format!(in rt.alloc(); "{TOP}{levels}{COST}")?;
-        for _ in 0..tables {
-            text.push_str(level)?;
-        }
-        let got = answer(rt.alloc(), Reader::Machines, text.as_bytes())?;
-        assert_eq!(rt; got.as_str(), expected, "{tables} levels after {levels}");
+    for (levels, tables, expected) in &TABLES {
+        let found = answer_of_tables(rt.alloc(), levels, *tables);
+        expect_words(&rt, levels, found, expected)?;
     }
     Ok(())
 }

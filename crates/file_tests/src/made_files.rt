@@ -1,161 +1,254 @@
 //! The words of lines of assembly, images of words, and made programs with their files.
 
-use crate::fixtures::PLAIN;
-use image_maker::{AsmError, Line, assemble, make, plain_image};
+use crate::fixtures::{PLAIN, expect_words, words_text};
+use image_maker::{AsmError, Line, Made, assemble, make, plain_image};
 use scale_base::{BranchOp, ImmOp, Instr};
-use std::alloc::Global;
+use std::alloc::{AllocError, Global};
+use std::fmt::Write;
+use std::process::Abort;
 use std::test::Fail;
 
-fn jal(label: u32) -> Line {
-    Line::JalTo { rd: 0, label }
-}
-
-fn branch(op: BranchOp, rs1: u8, rs2: u8, label: u32) -> Line {
-    Line::BranchTo {
-        op,
-        rs1,
-        rs2,
-        label,
+/// Words in hexadecimal digits.
+fn push_words(text: &mut String, words: &[u32]) -> Result<(), AllocError> {
+    for word in words {
+        write!(text, "{word:08x} ")?;
     }
+    Ok(())
 }
 
-fn addi(rd: u8, imm: i32) -> Line {
-    Line::Op(Instr::Imm {
-        op: ImmOp::Addi,
-        rd,
-        rs1: 0,
-        imm,
-    })
+fn words_line(alloc: Global, words: &[u32]) -> Result<String, Fail> {
+    let mut text = String::new(alloc);
+    push_words(&mut text, words)?;
+    Ok(text)
 }
 
-fn assembled(alloc: Global, lines: &[Line]) -> Result<Result<Vec<u32>, AsmError>, Fail> {
+fn error_text(alloc: Global, error: AsmError) -> Result<String, Fail> {
+    Ok(format!(in alloc; "{error:?}")?)
+}
+
+/// The words of lines, or what is wrong with them.
+fn assembled(alloc: Global, lines: &[Line]) -> Result<String, Fail> {
     if lines.len() > 131_072 {
-        return Err("too many lines".into());
+        return words_text(alloc, "too many lines");
     }
-    Ok(assemble(alloc, lines))
+    match assemble(alloc, lines) {
+        Ok(words) => words_line(alloc, &words),
+        Err(error) => error_text(alloc, error),
+    }
 }
 
-/// Lines, and the words that an assembler of another hand gave.
+/// Lines, and the words that an assembler of another hand gave. Then lines that are wrong: the least label or line is named, and a label that stands twice before one
+/// that isn't there, and that before a line without a word.
+static LINES: [(&[Line], &str); 7] = [
+    (
+        &[
+            Line::JalTo { rd: 1, label: 2 },
+            Line::BranchTo {
+                op: BranchOp::Bne,
+                rs1: 5,
+                rs2: 0,
+                label: 1,
+            },
+            Line::Label(1),
+            Line::Op(Instr::Ecall),
+            Line::Label(2),
+            Line::BranchTo {
+                op: BranchOp::Beq,
+                rs1: 5,
+                rs2: 6,
+                label: 2,
+            },
+            Line::Op(Instr::Imm {
+                op: ImmOp::Addi,
+                rd: 10,
+                rs1: 0,
+                imm: 7,
+            }),
+            Line::BranchTo {
+                op: BranchOp::Blt,
+                rs1: 0,
+                rs2: 5,
+                label: 1,
+            },
+        ],
+        "00c000ef 00029263 00000073 00628063 00700513 fe504ae3 ",
+    ),
+    (
+        &[Line::Label(5), Line::JalTo { rd: 0, label: 5 }],
+        "0000006f ",
+    ),
+    (&[Line::JalTo { rd: 0, label: 5 }], "NoLabel(5)"),
+    (
+        &[
+            Line::Label(5),
+            Line::Label(5),
+            Line::JalTo { rd: 0, label: 6 },
+        ],
+        "TwoLabels(5)",
+    ),
+    (
+        &[
+            Line::Op(Instr::Imm {
+                op: ImmOp::Addi,
+                rd: 32,
+                rs1: 0,
+                imm: 0,
+            }),
+            Line::Label(9),
+            Line::Label(9),
+            Line::Label(7),
+            Line::JalTo { rd: 0, label: 1 },
+            Line::Label(7),
+            Line::Label(8),
+            Line::Label(8),
+        ],
+        "TwoLabels(7)",
+    ),
+    (
+        &[
+            Line::Op(Instr::Imm {
+                op: ImmOp::Addi,
+                rd: 32,
+                rs1: 0,
+                imm: 0,
+            }),
+            Line::JalTo { rd: 0, label: 9 },
+            Line::JalTo { rd: 0, label: 3 },
+            Line::BranchTo {
+                op: BranchOp::Beq,
+                rs1: 0,
+                rs2: 0,
+                label: 4,
+            },
+        ],
+        "NoLabel(3)",
+    ),
+    (
+        &[
+            Line::Label(0),
+            Line::Op(Instr::Imm {
+                op: ImmOp::Addi,
+                rd: 1,
+                rs1: 0,
+                imm: 2047,
+            }),
+            Line::Op(Instr::Imm {
+                op: ImmOp::Addi,
+                rd: 1,
+                rs1: 0,
+                imm: 2048,
+            }),
+            Line::BranchTo {
+                op: BranchOp::Beq,
+                rs1: 32,
+                rs2: 0,
+                label: 0,
+            },
+        ],
+        "Unfit(2)",
+    ),
+];
+
 #[test]
-fn goes_to_labels_both_ways(rt: HostRuntime) -> Result<(), Fail> {
-    let cases: [(&[Line], &[u32]); 2] = [
-        (
-            &[
-                Line::JalTo { rd: 1, label: 2 },
-                branch(BranchOp::Bne, 5, 0, 1),
-                Line::Label(1),
-                Line::Op(Instr::Ecall),
-                Line::Label(2),
-                branch(BranchOp::Beq, 5, 6, 2),
-                addi(10, 7),
-                branch(BranchOp::Blt, 0, 5, 1),
-            ],
-            &[
-                0x00C0_00EF,
-                0x0002_9263,
-                0x0000_0073,
-                0x0062_8063,
-                0x0070_0513,
-                0xFE50_4AE3,
-            ],
-        ),
-        (&[Line::Label(5), jal(5)], &[0x0000_006F]),
-    ];
-    for (lines, expected) in cases {
-        let words = assembled(rt.alloc(), lines)??;
-        assert_eq!(rt; words.as_slice(), expected);
+fn goes_to_labels_both_ways_and_tells_what_is_wrong(rt: HostRuntime) -> Result<(), Fail> {
+    for (lines, expected) in &LINES {
+        expect_words(&rt, expected, assembled(rt.alloc(), lines), expected)?;
     }
     Ok(())
 }
 
-/// The least label or line, and a label that stands twice before one that isn't there, and that before a line without a word.
-#[test]
-fn tells_what_is_wrong(rt: HostRuntime) -> Result<(), Fail> {
-    let cases: [(&[Line], AsmError); 5] = [
-        (&[jal(5)], AsmError::NoLabel(5)),
-        (
-            &[Line::Label(5), Line::Label(5), jal(6)],
-            AsmError::TwoLabels(5),
-        ),
-        (
-            &[
-                addi(32, 0),
-                Line::Label(9),
-                Line::Label(9),
-                Line::Label(7),
-                jal(1),
-                Line::Label(7),
-                Line::Label(8),
-                Line::Label(8),
-            ],
-            AsmError::TwoLabels(7),
-        ),
-        (
-            &[addi(32, 0), jal(9), jal(3), branch(BranchOp::Beq, 0, 0, 4)],
-            AsmError::NoLabel(3),
-        ),
-        (
-            &[
-                Line::Label(0),
-                addi(1, 2047),
-                addi(1, 2048),
-                branch(BranchOp::Beq, 32, 0, 0),
-            ],
-            AsmError::Unfit(2),
-        ),
-    ];
-    for (lines, expected) in cases {
-        let found = assembled(rt.alloc(), lines)?;
-        assert!(rt; found.err() == Some(expected));
-    }
-    Ok(())
-}
+const NO_OPERATION: Line = Line::Op(Instr::Imm {
+    op: ImmOp::Addi,
+    rd: 0,
+    rs1: 0,
+    imm: 0,
+});
 
-/// The word of a branch to a label behind so many words, with their count, or why it has none.
-fn branch_over(alloc: Global, count: u32) -> Result<Result<(usize, u32), AsmError>, Fail> {
-    let mut lines = vec![in alloc; branch(BranchOp::Beq, 0, 0, 1)]?;
+const BRANCH: Line = Line::BranchTo {
+    op: BranchOp::Beq,
+    rs1: 0,
+    rs2: 0,
+    label: 1,
+};
+
+/// A branch to a label behind so many words.
+fn lines_over(alloc: Global, count: u32) -> Result<Vec<Line>, Fail> {
+    let mut lines = Vec::from_slice(alloc, &[BRANCH])?;
     for _ in 0..count {
-        lines.push(addi(0, 0))?;
+        lines.push(NO_OPERATION)?;
     }
     lines.push(Line::Label(1))?;
-    match assembled(alloc, &lines)? {
-        Ok(words) => Ok(Ok((words.len(), *words.first().ok_or("no word")?))),
-        Err(error) => Ok(Err(error)),
+    Ok(lines)
+}
+
+/// How many words there are, with the first and the last one.
+fn ends_text(alloc: Global, words: &[u32]) -> Result<String, Fail> {
+    let first = words.first().copied().unwrap_or(0);
+    let last = words.last().copied().unwrap_or(0);
+    Ok(format!(in alloc; "{} {first:08x} {last:08x}", words.len())?)
+}
+
+fn assembled_ends(alloc: Global, lines: &[Line]) -> Result<String, Fail> {
+    if lines.len() > 131_072 {
+        return words_text(alloc, "too many lines");
     }
+    match assemble(alloc, lines) {
+        Ok(words) => ends_text(alloc, &words),
+        Err(error) => error_text(alloc, error),
+    }
+}
+
+fn branch_over(alloc: Global, count: u32) -> Result<String, Fail> {
+    let lines = lines_over(alloc, count)?;
+    assembled_ends(alloc, &lines)
 }
 
 /// A branch reaches 4,092 bytes forwards, the last multiple of 4 in its field, and no further.
+static REACH: [(u32, &str); 2] = [(1022, "1023 7e000ee3 00000013"), (1023, "Unfit(0)")];
+
 #[test]
 fn branches_end_where_their_field_does(rt: HostRuntime) -> Result<(), Fail> {
-    for (count, expected) in [
-        (1022, Ok((1023, 0x7E00_0EE3))),
-        (1023, Err(AsmError::Unfit(0))),
-    ] {
-        assert!(rt; branch_over(rt.alloc(), count)? == expected);
+    for (count, expected) in &REACH {
+        expect_words(&rt, expected, branch_over(rt.alloc(), *count), expected)?;
     }
     Ok(())
 }
 
-/// As many lines as there may be, half of them labels: this takes no time that is seen.
+/// As many lines as there may be, half of them labels that the others go to.
+fn many_lines(alloc: Global) -> Result<Vec<Line>, Fail> {
+    let mut lines = Vec::new(alloc);
+    for k in 0..65_536 {
+        let label = 65_535 - k;
+        lines.push(Line::Label(label))?;
+        lines.push(Line::JalTo { rd: 0, label })?;
+    }
+    Ok(lines)
+}
+
+fn are_jumps(words: &[u32]) -> bool {
+    words.iter().all(|word| *word == 0x6F)
+}
+
+fn expect_jumps(rt: &impl Abort, words: &[u32]) {
+    assert_eq!(rt; words.len(), 65_536);
+    assert!(rt; are_jumps(words));
+}
+
+/// This takes no time that is seen.
 #[test]
 fn assembles_many_lines(rt: HostRuntime) -> Result<(), Fail> {
-    let mut lines = Vec::new(rt.alloc());
-    for k in 0..65_536 {
-        lines.push(Line::Label(65_535 - k))?;
-        lines.push(jal(65_535 - k))?;
+    let lines = many_lines(rt.alloc())?;
+    if lines.len() > 131_072 {
+        return Err("too many lines".into());
     }
-    let words = assembled(rt.alloc(), &lines)??;
-    assert_eq!(rt; words.len(), 65_536);
-    assert!(rt; words.iter().all(|word| *word == 0x6F));
+    expect_jumps(&rt, &assemble(rt.alloc(), &lines)?);
     Ok(())
 }
 
 /// A program of three words that ends with status 7.
 #[test]
 fn writes_a_plain_image(rt: HostRuntime) -> Result<(), Fail> {
-    let file = plain_image(rt.alloc(), &[0x0070_0513, 0x05D0_0893, 0x0000_0073])
-        .ok()
-        .ok_or("memory")?;
+    let file = plain_image(rt.alloc(), &[0x0070_0513, 0x05D0_0893, 0x0000_0073])?;
     assert_eq!(rt; file.as_slice(), PLAIN.as_slice());
     Ok(())
 }
@@ -169,47 +262,66 @@ fn sums(bytes: &[u8]) -> (usize, u32) {
     (bytes.len(), sum)
 }
 
+fn made(alloc: Global, number: u64, size: u32) -> Result<Made, Fail> {
+    if size > 2000 {
+        return Err("too many blocks".into());
+    }
+    Ok(make(alloc, number, size)?)
+}
+
+/// A number and a size; and the sums of an image, its machine file, its loop file and its input.
+type MadeRow = (u64, u32, &'static [(usize, u32)]);
+
 /// Files that a program of another hand made: one block that calls, 200 blocks, and 2,000 blocks with one loop more than are
 /// counted. The loop file of the first is `version = 1` and a newline.
-#[test]
-fn makes_files(rt: HostRuntime) -> Result<(), Fail> {
-    for (number, size, image, machine, loops, input) in [
-        (
-            0,
-            1,
+static MADE: [MadeRow; 3] = [
+    (
+        0,
+        1,
+        &[
             (212, 3_994_385_255),
             (294, 2_133_017_885),
             (12, 4_132_590_340),
             (256, 1_130_662_098),
-        ),
-        (
-            7,
-            200,
+        ],
+    ),
+    (
+        7,
+        200,
+        &[
             (4164, 1_369_463_080),
             (297, 3_073_624_181),
             (4192, 1_682_774_961),
             (256, 2_865_374_227),
-        ),
-        (
-            2,
-            2000,
+        ],
+    ),
+    (
+        2,
+        2000,
+        &[
             (42712, 1_177_978_811),
             (298, 4_133_171_993),
             (39112, 631_083_726),
             (256, 1_963_900_192),
-        ),
-    ] {
-        if size > 2000 {
-            return Err("too many blocks".into());
-        }
-        let made = make(rt.alloc(), number, size).ok().ok_or("memory")?;
-        let found = [
-            sums(&made.image),
-            sums(&made.machine),
-            sums(&made.loops),
-            sums(&made.input),
-        ];
-        assert_eq!(rt; found, [image, machine, loops, input], "{number}");
+        ],
+    ),
+];
+
+fn expect_sums(rt: &impl Abort, made: &Made, want: &[(usize, u32)]) {
+    let found = [
+        sums(&made.image),
+        sums(&made.machine),
+        sums(&made.loops),
+        sums(&made.input),
+    ];
+    assert_eq!(rt; found.as_slice(), want);
+}
+
+#[test]
+fn makes_files(rt: HostRuntime) -> Result<(), Fail> {
+    for (number, size, want) in &MADE {
+        let made = made(rt.alloc(), *number, *size)?;
+        expect_sums(&rt, &made, want);
     }
     Ok(())
 }
@@ -217,12 +329,9 @@ fn makes_files(rt: HostRuntime) -> Result<(), Fail> {
 /// The deadline is 500 time units for each block, and 200 more.
 #[test]
 fn writes_the_deadline(rt: HostRuntime) -> Result<(), Fail> {
-    let made = make(rt.alloc(), 1, 30).ok().ok_or("memory")?;
+    let made = made(rt.alloc(), 1, 30)?;
     assert_eq!(rt; made.machine.len(), 296);
-    assert!(rt;
-        made.machine.starts_with(
-            b"version = 1\ndeadline = 15200\nsteps = 10000000\nmin_gain = 20\n"
-        )
-    );
+    let top = b"version = 1\ndeadline = 15200\nsteps = 10000000\nmin_gain = 20\n";
+    assert!(rt; made.machine.starts_with(top));
     Ok(())
 }

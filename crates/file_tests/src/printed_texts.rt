@@ -30,35 +30,56 @@ const SUMMARY: Summary = Summary {
 const SUMMARY_LINES: &str =
     "start level 1\nworst cycles 241\nworst time 482 of 500\nstub cycles at most 135\nswitch edges 2\nexit edges 3\ncount edges 4\nstub bytes 140\n";
 
+fn summary_of(alloc: Global, summary: &Summary) -> Result<String, Fail> {
+    Ok(summary_text(alloc, summary)?)
+}
+
 #[test]
-fn prints_summaries_and_choices(rt: HostRuntime) -> Result<(), Fail> {
-    let alloc = rt.alloc();
-    let text = summary_text(alloc, &SUMMARY).ok().ok_or("memory")?;
-    assert_eq!(rt; text.as_str(), SUMMARY_LINES);
-    let lowered = Lowered {
-        pairs: 3,
-        jumps: 1,
-        block: 32,
-        depth: 2,
-    };
-    let text = lowered_text(alloc, &lowered).ok().ok_or("memory")?;
-    assert_eq!(rt;
-        text.as_str(),
-        "pairs 3\njumps 1\nblock bytes 32\ndepth 2\n"
-    );
-    let tuned = Tuned {
-        candidate: 32,
-        summary: SUMMARY,
-        inputs: 1,
-        left_out: 2,
-        energy: 174,
-        hold_energy: 324,
-    };
-    let text = tuned_text(alloc, &tuned).ok().ok_or("memory")?;
-    let wanted = format!(in alloc;
-        "candidate 32\n{SUMMARY_LINES}inputs 1\nleft out 2\nenergy 174\nhold energy 324\n"
-    )?;
-    assert_eq!(rt; text.as_str(), wanted.as_str());
+fn prints_summaries(rt: HostRuntime) -> Result<(), Fail> {
+    expect_text(&rt, summary_of(rt.alloc(), &SUMMARY), SUMMARY_LINES)
+}
+
+const LOWERED: Lowered = Lowered {
+    pairs: 3,
+    jumps: 1,
+    block: 32,
+    depth: 2,
+};
+
+fn lowered_of(alloc: Global, lowered: &Lowered) -> Result<String, Fail> {
+    Ok(lowered_text(alloc, lowered)?)
+}
+
+#[test]
+fn prints_what_is_lowered(rt: HostRuntime) -> Result<(), Fail> {
+    let want = "pairs 3\njumps 1\nblock bytes 32\ndepth 2\n";
+    expect_text(&rt, lowered_of(rt.alloc(), &LOWERED), want)
+}
+
+const TUNED: Tuned = Tuned {
+    candidate: 32,
+    summary: SUMMARY,
+    inputs: 1,
+    left_out: 2,
+    energy: 174,
+    hold_energy: 324,
+};
+
+fn tuned_of(alloc: Global, tuned: &Tuned) -> Result<String, Fail> {
+    Ok(tuned_text(alloc, tuned)?)
+}
+
+#[test]
+fn prints_choices(rt: HostRuntime) -> Result<(), Fail> {
+    let want =
+        "candidate 32\nstart level 1\nworst cycles 241\nworst time 482 of 500\nstub cycles at most 135\nswitch edges 2\nexit edges 3\ncount edges 4\nstub bytes 140\ninputs 1\nleft out 2\nenergy 174\nhold energy 324\n";
+    expect_text(&rt, tuned_of(rt.alloc(), &TUNED), want)
+}
+
+/// Expects this text.
+fn expect_text(rt: &impl Abort, found: Result<String, Fail>, want: &str) -> Result<(), Fail> {
+    let text = found?;
+    assert_eq!(rt; text.as_str(), want);
     Ok(())
 }
 
@@ -66,71 +87,143 @@ fn name(alloc: Global, text: &str) -> Result<Name, Fail> {
     Ok(Name::new(String::from_str(alloc, text)?))
 }
 
-/// Expects of each refusal its line.
-fn expect_lines(rt: &impl Abort, alloc: Global, refusals: &[(Refusal, &str)]) -> Result<(), Fail> {
-    for (refusal, words) in refusals {
-        let text = refusal_text(alloc, refusal).ok().ok_or("memory")?;
-        let wanted = format!(in alloc; "refused {words}\n")?;
-        assert_eq!(rt; text.as_str(), wanted.as_str());
-    }
-    Ok(())
+/// The line of a refusal.
+fn line_of(alloc: Global, refusal: Refusal) -> Result<String, Fail> {
+    Ok(refusal_text(alloc, &refusal)?)
+}
+
+/// Expects of a refusal its line.
+fn expect_line(rt: &impl Abort, alloc: Global, refusal: Refusal, want: &str) -> Result<(), Fail> {
+    expect_text(rt, line_of(alloc, refusal), want)
 }
 
 #[test]
 fn prints_refusals_of_files(rt: HostRuntime) -> Result<(), Fail> {
-    let key = Refusal::MachineKey(name(rt.alloc(), "cost.div")?);
-    let value = Refusal::LoopValue(0, name(rt.alloc(), "version")?);
-    let refusals = [
-        (
-            Refusal::UnsupportedElf(Field::Encoding),
-            "2 unsupported ELF: data",
-        ),
-        (
-            Refusal::WritableText(0xfedc_ba98),
-            "7 writable text at 0xfedcba98",
-        ),
-        (Refusal::AlreadyScaled, "8 already scaled"),
-        (Refusal::StartLevel(4, 3), "9 start level 4 of 3"),
-        (key, "11 machine file key cost.div"),
-        (value, "16 loop 0 value version"),
-        (Refusal::UnknownSymbol(4096), "17 loop 4096 symbol"),
-        (Refusal::TooManyLoops(4097), "18 too many loops: 4097"),
-    ];
-    expect_lines(&rt, rt.alloc(), &refusals)
+    let alloc = rt.alloc();
+    expect_line(
+        &rt,
+        alloc,
+        Refusal::UnsupportedElf(Field::Encoding),
+        "refused 2 unsupported ELF: data\n",
+    )?;
+    expect_line(
+        &rt,
+        alloc,
+        Refusal::WritableText(0xfedc_ba98),
+        "refused 7 writable text at 0xfedcba98\n",
+    )?;
+    expect_line(
+        &rt,
+        alloc,
+        Refusal::AlreadyScaled,
+        "refused 8 already scaled\n",
+    )?;
+    expect_line(
+        &rt,
+        alloc,
+        Refusal::StartLevel(4, 3),
+        "refused 9 start level 4 of 3\n",
+    )?;
+    expect_line(
+        &rt,
+        alloc,
+        Refusal::UnknownSymbol(4096),
+        "refused 17 loop 4096 symbol\n",
+    )?;
+    expect_line(
+        &rt,
+        alloc,
+        Refusal::TooManyLoops(4097),
+        "refused 18 too many loops: 4097\n",
+    )?;
+    Ok(())
+}
+
+#[test]
+fn prints_refusals_with_names(rt: HostRuntime) -> Result<(), Fail> {
+    let alloc = rt.alloc();
+    let key = Refusal::MachineKey(name(alloc, "cost.div")?);
+    expect_line(&rt, alloc, key, "refused 11 machine file key cost.div\n")?;
+    let value = Refusal::LoopValue(0, name(alloc, "version")?);
+    expect_line(&rt, alloc, value, "refused 16 loop 0 value version\n")
 }
 
 #[test]
 fn prints_refusals_of_programs(rt: HostRuntime) -> Result<(), Fail> {
+    let alloc = rt.alloc();
+    expect_line(
+        &rt,
+        alloc,
+        Refusal::HeaderNotReached(1),
+        "refused 30 loop 1 header not reached\n",
+    )?;
+    expect_line(
+        &rt,
+        alloc,
+        Refusal::SameHeader(1, 2),
+        "refused 31 loops 1 2 same header\n",
+    )?;
+    expect_line(
+        &rt,
+        alloc,
+        Refusal::NoBackEdge(3),
+        "refused 32 loop 3 no back edge\n",
+    )?;
+    expect_line(
+        &rt,
+        alloc,
+        Refusal::SideEntry(2, 0x1_0004, 0x1_00a0),
+        "refused 33 loop 2 side entry 0x00010004 to 0x000100a0\n",
+    )?;
+    expect_line(
+        &rt,
+        alloc,
+        Refusal::CrossingLoops(5, 7),
+        "refused 34 loops 5 7 cross\n",
+    )?;
+    expect_line(
+        &rt,
+        alloc,
+        Refusal::TooDeep(33),
+        "refused 35 loop 33 too deep\n",
+    )?;
+    expect_line(
+        &rt,
+        alloc,
+        Refusal::DeadlineMissed(7, 6),
+        "refused 41 deadline missed: need 7 have 6\n",
+    )?;
+    expect_line(
+        &rt,
+        alloc,
+        Refusal::Uncountable(6, 0x1_0010),
+        "refused 42 loop 6 uncountable at 0x00010010\n",
+    )?;
+    expect_line(
+        &rt,
+        alloc,
+        Refusal::TooManyCounters(65),
+        "refused 43 too many counters: 65\n",
+    )?;
+    expect_line(
+        &rt,
+        alloc,
+        Refusal::StubOutOfReach(0x1_0000),
+        "refused 44 stub out of reach at 0x00010000\n",
+    )?;
+    Ok(())
+}
+
+#[test]
+fn prints_cycles(rt: HostRuntime) -> Result<(), Fail> {
     let cycle = Cycle::from_vec(vec![in rt.alloc(); 0x10008, 0x1000c]?);
-    let refusals = [
-        (Refusal::HeaderNotReached(1), "30 loop 1 header not reached"),
-        (Refusal::SameHeader(1, 2), "31 loops 1 2 same header"),
-        (Refusal::NoBackEdge(3), "32 loop 3 no back edge"),
-        (
-            Refusal::SideEntry(2, 0x1_0004, 0x1_00a0),
-            "33 loop 2 side entry 0x00010004 to 0x000100a0",
-        ),
-        (Refusal::CrossingLoops(5, 7), "34 loops 5 7 cross"),
-        (Refusal::TooDeep(33), "35 loop 33 too deep"),
-        (
-            Refusal::UnboundedCycle(cycle),
-            "36 unbounded cycle: 0x00010008 0x0001000c",
-        ),
-        (
-            Refusal::DeadlineMissed(7, 6),
-            "41 deadline missed: need 7 have 6",
-        ),
-        (
-            Refusal::Uncountable(6, 0x1_0010),
-            "42 loop 6 uncountable at 0x00010010",
-        ),
-        (Refusal::TooManyCounters(65), "43 too many counters: 65"),
-        (
-            Refusal::StubOutOfReach(0x1_0000),
-            "44 stub out of reach at 0x00010000",
-        ),
-    ];
-    expect_lines(&rt, rt.alloc(), &refusals)
+    let refusal = Refusal::UnboundedCycle(cycle);
+    expect_line(
+        &rt,
+        rt.alloc(),
+        refusal,
+        "refused 36 unbounded cycle: 0x00010008 0x0001000c\n",
+    )
 }
 
 /// The report of a run of two steps that changed to level 2, and wrote three bytes.
@@ -157,99 +250,131 @@ fn report_of(alloc: Global, end: End, kept: Option<Kept>) -> Result<RunReport, F
 const NUMBERS: &str =
     "steps 2\ncycles 7\ntime 600000000000\nenergy 19\nheld 21\nswitches 1\nlevel 2\nkeyed 5\noutput 3\n";
 
-fn trapped(kind: TrapKind) -> End {
-    End::Trapped(Trap {
-        kind,
-        at: 0xffff_fffe,
-    })
+/// How runs end, whether they were kept, and the words of both.
+static ENDS: [(End, Option<Kept>, &str, &str); 15] = [
+    (End::Exited(0), None, "exit 0", "unchecked"),
+    (End::Exited(255), None, "exit 255", "unchecked"),
+    (End::OutOfSteps, None, "steps", "unchecked"),
+    (
+        End::Trapped(Trap {
+            kind: TrapKind::Breakpoint,
+            at: 0xffff_fffe,
+        }),
+        None,
+        "trap breakpoint 0xfffffffe",
+        "unchecked",
+    ),
+    (
+        End::Trapped(Trap {
+            kind: TrapKind::IllegalWord,
+            at: 0xffff_fffe,
+        }),
+        None,
+        "trap illegal-word 0xfffffffe",
+        "unchecked",
+    ),
+    (
+        End::Trapped(Trap {
+            kind: TrapKind::FetchFault,
+            at: 0xffff_fffe,
+        }),
+        None,
+        "trap fetch-fault 0xfffffffe",
+        "unchecked",
+    ),
+    (
+        End::Trapped(Trap {
+            kind: TrapKind::MisalignedTarget,
+            at: 0xffff_fffe,
+        }),
+        None,
+        "trap misaligned-target 0xfffffffe",
+        "unchecked",
+    ),
+    (
+        End::Trapped(Trap {
+            kind: TrapKind::LoadMisaligned,
+            at: 0xffff_fffe,
+        }),
+        None,
+        "trap load-misaligned 0xfffffffe",
+        "unchecked",
+    ),
+    (
+        End::Trapped(Trap {
+            kind: TrapKind::StoreMisaligned,
+            at: 0xffff_fffe,
+        }),
+        None,
+        "trap store-misaligned 0xfffffffe",
+        "unchecked",
+    ),
+    (
+        End::Trapped(Trap {
+            kind: TrapKind::LoadFault,
+            at: 0xffff_fffe,
+        }),
+        None,
+        "trap load-fault 0xfffffffe",
+        "unchecked",
+    ),
+    (
+        End::Trapped(Trap {
+            kind: TrapKind::StoreFault,
+            at: 0xffff_fffe,
+        }),
+        None,
+        "trap store-fault 0xfffffffe",
+        "unchecked",
+    ),
+    (End::Exited(7), Some(Kept::Kept), "exit 7", "yes"),
+    (
+        End::Exited(7),
+        Some(Kept::BrokeBound {
+            loop_no: 3,
+            count: 4_294_967_295,
+        }),
+        "exit 7",
+        "no bound 3 4294967295",
+    ),
+    (
+        End::Exited(7),
+        Some(Kept::BrokeReturn {
+            at: 0x1_0004,
+            to: 0x1_0abc,
+        }),
+        "exit 7",
+        "no return 0x00010004 0x00010abc",
+    ),
+    (
+        End::Exited(7),
+        Some(Kept::BrokeDepth { at: 0x1_0008 }),
+        "exit 7",
+        "no depth 0x00010008",
+    ),
+];
+
+fn run_of(alloc: Global, end: End, kept: Option<Kept>) -> Result<String, Fail> {
+    let report = report_of(alloc, end, kept)?;
+    Ok(run_text(alloc, &report)?)
 }
 
-/// How runs end, and whether they were kept.
+/// Expects the text of a run by its first words and its last ones.
+fn expect_run(
+    rt: &impl Abort,
+    alloc: Global,
+    (end, kept): (End, Option<Kept>),
+    first: &str,
+    last: &str,
+) -> Result<(), Fail> {
+    let want = format!(in alloc; "end {first}\n{NUMBERS}kept {last}\n")?;
+    expect_text(rt, run_of(alloc, end, kept), want.as_str())
+}
+
 #[test]
 fn prints_runs(rt: HostRuntime) -> Result<(), Fail> {
-    let alloc = rt.alloc();
-    for (end, kept, first, last) in [
-        (End::Exited(0), None, "exit 0", "unchecked"),
-        (End::Exited(255), None, "exit 255", "unchecked"),
-        (End::OutOfSteps, None, "steps", "unchecked"),
-        (
-            trapped(TrapKind::Breakpoint),
-            None,
-            "trap breakpoint 0xfffffffe",
-            "unchecked",
-        ),
-        (
-            trapped(TrapKind::IllegalWord),
-            None,
-            "trap illegal-word 0xfffffffe",
-            "unchecked",
-        ),
-        (
-            trapped(TrapKind::FetchFault),
-            None,
-            "trap fetch-fault 0xfffffffe",
-            "unchecked",
-        ),
-        (
-            trapped(TrapKind::MisalignedTarget),
-            None,
-            "trap misaligned-target 0xfffffffe",
-            "unchecked",
-        ),
-        (
-            trapped(TrapKind::LoadMisaligned),
-            None,
-            "trap load-misaligned 0xfffffffe",
-            "unchecked",
-        ),
-        (
-            trapped(TrapKind::StoreMisaligned),
-            None,
-            "trap store-misaligned 0xfffffffe",
-            "unchecked",
-        ),
-        (
-            trapped(TrapKind::LoadFault),
-            None,
-            "trap load-fault 0xfffffffe",
-            "unchecked",
-        ),
-        (
-            trapped(TrapKind::StoreFault),
-            None,
-            "trap store-fault 0xfffffffe",
-            "unchecked",
-        ),
-        (End::Exited(7), Some(Kept::Kept), "exit 7", "yes"),
-        (
-            End::Exited(7),
-            Some(Kept::BrokeBound {
-                loop_no: 3,
-                count: 4_294_967_295,
-            }),
-            "exit 7",
-            "no bound 3 4294967295",
-        ),
-        (
-            End::Exited(7),
-            Some(Kept::BrokeReturn {
-                at: 0x1_0004,
-                to: 0x1_0abc,
-            }),
-            "exit 7",
-            "no return 0x00010004 0x00010abc",
-        ),
-        (
-            End::Exited(7),
-            Some(Kept::BrokeDepth { at: 0x1_0008 }),
-            "exit 7",
-            "no depth 0x00010008",
-        ),
-    ] {
-        let report = report_of(alloc, end, kept)?;
-        let text = run_text(alloc, &report).ok().ok_or("memory")?;
-        let wanted = format!(in alloc; "end {first}\n{NUMBERS}kept {last}\n")?;
-        assert_eq!(rt; text.as_str(), wanted.as_str());
+    for (end, kept, first, last) in &ENDS {
+        expect_run(&rt, rt.alloc(), (*end, *kept), first, last)?;
     }
     Ok(())
 }
@@ -263,6 +388,9 @@ fn site(at: u32, kind: EdgeKind, loop_no: u32, fragment: Fragment) -> SiteLine
         fragment,
     }
 }
+
+const PLAN_LINES: &str =
+    "start level 1\nworst cycles 241\nworst time 482 of 500\nstub cycles at most 135\nswitch edges 2\nexit edges 3\ncount edges 4\nstub bytes 140\nsite 0x00010000 untaken switch 00000210\nsite 0x00010014 taken count 1\nsite 0x00010014 untaken exit 1 3 00000100 fedcba98\nsite 0xfffffffc jump reset 4096\n";
 
 /// A branch over nothing with two levels to choose from, and a loop of 31 instructions with all its rows.
 #[test]
@@ -295,11 +423,8 @@ fn prints_plans(rt: HostRuntime) -> Result<(), Fail> {
         summary: SUMMARY,
         lines,
     };
-    let text = plan_text(rt.alloc(), &plan).ok().ok_or("memory")?;
-    let wanted = format!(in rt.alloc();
-        "{SUMMARY_LINES}site 0x00010000 untaken switch 00000210\nsite 0x00010014 taken count 1\nsite 0x00010014 untaken exit 1 3 00000100 fedcba98\nsite 0xfffffffc jump reset 4096\n"
-    )?;
-    assert_eq!(rt; text.as_str(), wanted.as_str());
+    let text = plan_text(rt.alloc(), &plan)?;
+    assert_eq!(rt; text.as_str(), PLAN_LINES);
     Ok(())
 }
 
@@ -311,37 +436,50 @@ const CHECKED: Checked = Checked {
     stub_cycles: 18,
 };
 
+static VERDICTS: [(Verdict, &str); 12] = [
+    (
+        Verdict::Yes(CHECKED),
+        "check yes\nstart level 1\nworst cycles 79\nworst time 158 of 160\nstub cycles at most 18\n",
+    ),
+    (Verdict::No(Why::Image(7)), "check no image 7\n"),
+    (Verdict::No(Why::NoKey), "check no key missing\n"),
+    (Verdict::No(Why::Layout), "check no layout\n"),
+    (
+        Verdict::No(Why::Byte(0xfedc_ba98)),
+        "check no byte 0xfedcba98\n",
+    ),
+    (
+        Verdict::No(Why::Patch(0x1_0010)),
+        "check no patch 0x00010010\n",
+    ),
+    (
+        Verdict::No(Why::Stub(0x1_0014)),
+        "check no stub 0x00010014\n",
+    ),
+    (Verdict::No(Why::Counter(510)), "check no counter 510\n"),
+    (Verdict::No(Why::TooLong), "check no worst cycles\n"),
+    (
+        Verdict::No(Why::Start(4_294_967_295, 3)),
+        "check no start level 4294967295 of 3\n",
+    ),
+    (
+        Verdict::No(Why::TooSlow(600_000_000_000_000_000_000, 160)),
+        "check no deadline need 600000000000000000000 have 160\n",
+    ),
+    (
+        Verdict::No(Why::Level(0x1_0010, 2)),
+        "check no level 0x00010010 from 2\n",
+    ),
+];
+
+fn verdict_of(alloc: Global, verdict: &Verdict) -> Result<String, Fail> {
+    Ok(verdict_text(alloc, verdict)?)
+}
+
 #[test]
 fn prints_verdicts(rt: HostRuntime) -> Result<(), Fail> {
-    for (verdict, words) in [
-        (
-            Verdict::Yes(CHECKED),
-            "yes\nstart level 1\nworst cycles 79\nworst time 158 of 160\nstub cycles at most 18",
-        ),
-        (Verdict::No(Why::Image(7)), "no image 7"),
-        (Verdict::No(Why::NoKey), "no key missing"),
-        (Verdict::No(Why::Layout), "no layout"),
-        (Verdict::No(Why::Byte(0xfedc_ba98)), "no byte 0xfedcba98"),
-        (Verdict::No(Why::Patch(0x1_0010)), "no patch 0x00010010"),
-        (Verdict::No(Why::Stub(0x1_0014)), "no stub 0x00010014"),
-        (Verdict::No(Why::Counter(510)), "no counter 510"),
-        (Verdict::No(Why::TooLong), "no worst cycles"),
-        (
-            Verdict::No(Why::Start(4_294_967_295, 3)),
-            "no start level 4294967295 of 3",
-        ),
-        (
-            Verdict::No(Why::TooSlow(600_000_000_000_000_000_000, 160)),
-            "no deadline need 600000000000000000000 have 160",
-        ),
-        (
-            Verdict::No(Why::Level(0x1_0010, 2)),
-            "no level 0x00010010 from 2",
-        ),
-    ] {
-        let text = verdict_text(rt.alloc(), &verdict).ok().ok_or("memory")?;
-        let wanted = format!(in rt.alloc(); "check {words}\n")?;
-        assert_eq!(rt; text.as_str(), wanted.as_str());
+    for (verdict, want) in &VERDICTS {
+        expect_text(&rt, verdict_of(rt.alloc(), verdict), want)?;
     }
     Ok(())
 }
@@ -385,17 +523,25 @@ const TOTALS: Totals = Totals {
     switches: 5,
 };
 
+/// Two runs, two loops, and totals.
+fn survey(alloc: Global) -> Result<SurveyReport, Fail> {
+    let lines = vec![in alloc; runs_of(43, 101, 236, 299), runs_of(115, 240, 480, 720)]?;
+    let most = vec![in alloc; 11, 0]?;
+    Ok(SurveyReport {
+        lines,
+        most,
+        totals: TOTALS,
+    })
+}
+
+fn survey_lines(alloc: Global) -> Result<String, Fail> {
+    let report = survey(alloc)?;
+    Ok(survey_text(alloc, &report)?)
+}
+
 #[test]
 fn prints_a_survey(rt: HostRuntime) -> Result<(), Fail> {
-    let report = SurveyReport {
-        lines: vec![in rt.alloc(); runs_of(43, 101, 236, 299), runs_of(115, 240, 480, 720)]?,
-        most: vec![in rt.alloc(); 11, 0]?,
-        totals: TOTALS,
-    };
-    let text = survey_text(rt.alloc(), &report).ok().ok_or("memory")?;
-    assert_eq!(rt;
-        text.as_str(),
-        "input 1 cycles 43 scaled cycles 101 time 236 energy 299\ninput 2 cycles 115 scaled cycles 240 time 480 energy 720\nloop 1 most 11\nloop 2 most 0\ninputs 2\nkept 1\nlate 3\ndiffer 4\noriginal cycles 158\nscaled cycles 341\nenergy 1019\nheld 1023\nswitches 5\n"
-    );
-    Ok(())
+    let want =
+        "input 1 cycles 43 scaled cycles 101 time 236 energy 299\ninput 2 cycles 115 scaled cycles 240 time 480 energy 720\nloop 1 most 11\nloop 2 most 0\ninputs 2\nkept 1\nlate 3\ndiffer 4\noriginal cycles 158\nscaled cycles 341\nenergy 1019\nheld 1023\nswitches 5\n";
+    expect_text(&rt, survey_lines(rt.alloc()), want)
 }

@@ -69,7 +69,8 @@ const LOADED: [u32; 6] = [
 const NEVER: [u32; 2] = [NO_OPERATION, JUMP_0];
 
 /// The counter is from 0 to 9 at the header.
-const UP_TEXT: &str = "# draft of loops: 1 loops, 0 without a bound
+const UP_TEXT: &str = "# returns: proved
+# draft of loops: 1 loops, 0 without a bound
 version = 2
 
 # loop 1: 0x00010008, depth 1
@@ -81,7 +82,8 @@ bound = 9
 ";
 
 /// From 10 down to 1.
-const DOWN_TEXT: &str = "# draft of loops: 1 loops, 0 without a bound
+const DOWN_TEXT: &str = "# returns: proved
+# draft of loops: 1 loops, 0 without a bound
 version = 2
 
 # loop 1: 0x00010004, depth 1
@@ -93,7 +95,8 @@ bound = 9
 ";
 
 /// 0, 3, 6, 9 or 12.
-const BY_THREE_TEXT: &str = "# draft of loops: 1 loops, 0 without a bound
+const BY_THREE_TEXT: &str = "# returns: proved
+# draft of loops: 1 loops, 0 without a bound
 version = 2
 
 # loop 1: 0x00010008, depth 1
@@ -105,7 +108,8 @@ bound = 4
 ";
 
 /// From -4 to -1.
-const BELOW_ZERO_TEXT: &str = "# draft of loops: 1 loops, 0 without a bound
+const BELOW_ZERO_TEXT: &str = "# returns: proved
+# draft of loops: 1 loops, 0 without a bound
 version = 2
 
 # loop 1: 0x00010004, depth 1
@@ -117,7 +121,8 @@ bound = 3
 ";
 
 /// Both from 0 to 4.
-const TRIANGLE_TEXT: &str = "# draft of loops: 2 loops, 0 without a bound
+const TRIANGLE_TEXT: &str = "# returns: proved
+# draft of loops: 2 loops, 0 without a bound
 version = 2
 
 # loop 1: 0x00010008, depth 1
@@ -136,7 +141,8 @@ bound = 4
 ";
 
 /// From 5 down to 1.
-const CALLED_TEXT: &str = "# draft of loops: 1 loops, 0 without a bound
+const CALLED_TEXT: &str = "# returns: proved
+# draft of loops: 1 loops, 0 without a bound
 version = 2
 
 # loop 1: 0x00010004, depth 1
@@ -148,7 +154,8 @@ bound = 4
 ";
 
 /// No limit is known.
-const LOADED_TEXT: &str = "# draft of loops: 1 loops, 1 without a bound
+const LOADED_TEXT: &str = "# returns: proved
+# draft of loops: 1 loops, 1 without a bound
 # where no bound is known, count the back edges that one entry takes at most, and write them there as bound = N
 version = 2
 
@@ -156,11 +163,12 @@ version = 2
 [[loop]]
 header = 0x00010008
 ranges = [[0x00010008, 0x00010010]]
-# no bound: no register goes on by a constant each turn, between limits that are known
+# no bound: no register or stack word goes on by a constant each turn, between limits that are known
 ";
 
 /// Nothing counts.
-const NEVER_TEXT: &str = "# draft of loops: 1 loops, 1 without a bound
+const NEVER_TEXT: &str = "# returns: proved
+# draft of loops: 1 loops, 1 without a bound
 # where no bound is known, count the back edges that one entry takes at most, and write them there as bound = N
 version = 2
 
@@ -168,7 +176,7 @@ version = 2
 [[loop]]
 header = 0x00010004
 ranges = [[0x00010004, 0x00010008]]
-# no bound: no register goes on by a constant each turn, between limits that are known
+# no bound: no register or stack word goes on by a constant each turn, between limits that are known
 ";
 
 #[test]

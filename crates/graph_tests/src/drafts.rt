@@ -126,7 +126,8 @@ pub fn draft_text(alloc: Global, words: &[u32]) -> Result<String, Fail> {
     }
 }
 
-const NESTED_TEXT: &str = "# draft of loops: 2 loops, 2 without a bound
+const NESTED_TEXT: &str = "# returns: proved
+# draft of loops: 2 loops, 2 without a bound
 # where no bound is known, count the back edges that one entry takes at most, and write them there as bound = N
 version = 2
 
@@ -134,16 +135,17 @@ version = 2
 [[loop]]
 header = 0x00010004
 ranges = [[0x00010004, 0x00010014]]
-# no bound: no register goes on by a constant each turn, between limits that are known
+# no bound: no register or stack word goes on by a constant each turn, between limits that are known
 
 # loop 2: 0x00010008, within loop 1, depth 2
 [[loop]]
 header = 0x00010008
 ranges = [[0x00010008, 0x00010010]]
-# no bound: no register goes on by a constant each turn, between limits that are known
+# no bound: no register or stack word goes on by a constant each turn, between limits that are known
 ";
 
-const ASIDE_TEXT: &str = "# draft of loops: 1 loops, 1 without a bound
+const ASIDE_TEXT: &str = "# returns: open
+# draft of loops: 1 loops, 1 without a bound
 # where no bound is known, count the back edges that one entry takes at most, and write them there as bound = N
 # irreducible, no loop: entered at 0x00010004 and 0x0001000c
 version = 2
@@ -187,7 +189,8 @@ const ONE_LESS_IN_5: u32 = 0xFFF2_8293;
 /// Back by a word while register 5 isn't 0.
 const BACK_IF_5: u32 = 0xFE02_9EE3;
 
-const COUNTS_DOWN_TEXT: &str = "# draft of loops: 1 loops, 0 without a bound
+const COUNTS_DOWN_TEXT: &str = "# returns: proved
+# draft of loops: 1 loops, 0 without a bound
 version = 2
 
 # loop 1: 0x00010004, depth 1

@@ -24,8 +24,12 @@ mod orders;
 #[cfg(test)]
 mod programs;
 #[cfg(test)]
+mod stack_bounds;
+#[cfg(test)]
 mod stubs;
 #[cfg(test)]
 mod text_words;
+#[cfg(test)]
+mod walks;
 #[cfg(test)]
 mod worst_numbers;

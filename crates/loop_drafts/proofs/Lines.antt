@@ -1,9 +1,11 @@
 -- One more piece of a text, and one more number of a list.
-use Rattle.std.proofs.Common.{◌≡◌, ℕ, ◌+◌, ◌<◌, List, [], ◌∷◌, ◌++◌, length, get_or, take, sym, ap, ◌∙◌, arith, length-append}
-use Rattle.std.specs.List.{flat_map}
+use Rattle.std.proofs.Common.{◌≡◌, ℕ, ◌+◌, ◌<◌, Bool, List, [], ◌∷◌, ◌++◌, length, get_or, take, sym, ap, ◌∙◌, arith, length-append}
+use Rattle.std.specs.List.{flat_map, insert}
 use Rattle.std.proofs.lemmas.List.{take_more, flat_map_more}
 use Rattle.std.proofs.lemmas.Grind.{common_steps}
+use Rattle.loop_drafts.specs.declared.drafted.Piece.{Piece}
 use Rattle.loop_drafts.specs.Numbered.{AreNumbers}
+use Rattle.loop_drafts.specs.Pieces.{BeginsWithReturns, printed, printed_piece, returns_line}
 
 pub pieces_more : {A : Type 0} (line : A → List ℕ) (text more : List ℕ) (items : List A) (k : ℕ) (x : A) → k < length items → x ≡ get_or items k x → more ≡ text ++ line x
     → text ≡ flat_map line (take k items) → more ≡ flat_map line (take (k + 1) items)
@@ -18,3 +20,7 @@ numbers_more k n x xs are low = record {
   size = let s = are.size in omega (arith, length-append {A = ℕ});
   within = λ j jl. grind (arith, common_steps, are.size, are.within j);
 }
+
+-- a piece before all others begins the file
+pub first_begins : (returns : Bool) (first : Piece) (pieces : List Piece) → printed_piece first ≡ returns_line returns → BeginsWithReturns returns (printed (insert pieces 0 first))
+first_begins returns first pieces e = (printed pieces, ap (λ (text : List ℕ). text ++ printed pieces) e)

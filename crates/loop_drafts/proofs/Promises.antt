@@ -6,14 +6,16 @@ use Rattle.loop_file.specs.Kept.{note_at, noted_loops}
 use Rattle.loop_file.specs.Loops.{read_loops}
 use Rattle.code_text.specs.Text.{text_of}
 use Rattle.code_text.specs.TextGraph.{text_graph}
-use Rattle.bound_laws.specs.Derived.{IsDerived}
-use Rattle.bound_laws.proofs.Laws.{derived_kept, derived_by_returns}
+use Rattle.graph_runs.specs.KeptRuns.{IsKeptUpTo}
+use Rattle.stack_laws.specs.Counting.{IsShown}
+use Rattle.stack_laws.proofs.Laws.{shown_kept, shown_by_returns}
 use Rattle.loop_drafts.specs.declared.drafted.LoopDraft.{LoopDraft}
-use Rattle.loop_drafts.specs.Bounds.{most_turns, is_bounded, IsOpen, IsBoundDerived, AreBoundsDerived, AreBoundsFound}
+use Rattle.loop_drafts.specs.Bounds.{most_turns, is_bounded, IsOpen, IsBoundShown, AreNoneFound, AreBoundsShown, AreBoundsFound}
+use Rattle.loop_drafts.specs.Pieces.{printed}
 use Rattle.loop_drafts.specs.Drafted.{filled_most, IsDraftOf, IsDrafted}
-use Rattle.loop_drafts.specs.Kept.{DraftedBoundsAreKept, DraftedFilesNeedReturns}
+use Rattle.loop_drafts.specs.Kept.{DraftedBoundsAreKept, DraftedFilesNeedReturns, DraftedReturnsGoBack, DraftedFilesAreKept}
 use Rattle.loop_drafts.proofs.Counts.{all_counted, none_open}
-use Rattle.loop_drafts.proofs.Keeping.{greater_kept, returns_kept}
+use Rattle.loop_drafts.proofs.Keeping.{greater_kept, returns_kept, returns_back}
 
 ok_same : {A B : Type 0} (o : Result A B) (x y : A) → o ≡ Ok x → o ≡ Ok y → x ≡ y
 ok_same o x y p q = let r : x ≡ y = cc in r
@@ -31,10 +33,10 @@ not_open note bounded most = let e : not (most_turns == most_turns) ≡ true = s
 
 pub bounds_kept : DraftedBoundsAreKept
 bounds_kept file draft original drafted notes levels input bounds n small_file is read noted finished small_input greater kept = ⊎_elim
-    (λ (most : All IsOpen drafted). greater_kept file original levels input d.graph.code (noted_loops notes) read d.graph_is.reached bounds n (λ k kl. greater k kl (most k no_note (there k kl))) kept)
-    (λ (derived : AreBoundsDerived original drafted). derived_kept file original levels input derived.code derived.values (noted_loops notes) bounds read small_file small_input derived.analysed
-    (λ k kl. which derived k kl) n kept)
-    (subst (AreBoundsFound original) (ok_same (read_loops original (filled_most draft.pieces.items)) d.pieces.notes drafted d.pieces.file.read noted) d.pieces.bounds)
+    (λ (none : AreNoneFound drafted draft.returns). greater_kept file original levels input d.graph.code (noted_loops notes) read d.graph_is.reached bounds n (λ k kl. greater k kl (none.open_loops k no_note (there k kl))) kept)
+    (λ (found : AreBoundsShown original drafted draft.returns). shown_kept file original levels input found.code found.values found.stacks (noted_loops notes) bounds read small_file small_input found.analysed
+    (λ k kl. which found k kl) n kept)
+    (subst (λ (ns : List LoopNote). AreBoundsFound original ns draft.returns) (ok_same (read_loops original (filled_most draft.pieces.items)) d.pieces.notes drafted d.pieces.file.read noted) d.pieces.bounds)
   where
     d : IsDraftOf original draft
     d = draft_of file draft original is read
@@ -42,14 +44,14 @@ bounds_kept file draft original drafted notes levels input bounds n small_file i
     there : (k : ℕ) → k < length notes → k < length drafted
     there k kl = subst (λ (size : ℕ). k < size) finished.size kl
 
-    which : (derived : AreBoundsDerived original drafted) (k : ℕ) → k < length notes →
-        IsDerived (text_of original) (text_graph (text_of original) derived.code) derived.values (noted_loops notes) k ⊎ (bounds k ≤ (note_at notes k).bound)
-    which derived k kl = ⊎_elim
+    which : (found : AreBoundsShown original drafted draft.returns) (k : ℕ) → k < length notes →
+        IsShown (text_of original) (text_graph (text_of original) found.code) found.values found.stacks (noted_loops notes) k ⊎ (bounds k ≤ (note_at notes k).bound)
+    which found k kl = ⊎_elim
         (λ (most : IsOpen (note_at drafted k)). inr (greater k kl most))
         (λ (same : note_at notes k ≡ note_at drafted k). ⊎_elim
         (λ (most : IsOpen (note_at drafted k)). inr (greater k kl most))
-        (λ (shown : IsBoundDerived original derived.code derived.values (note_at drafted k)). inl (shown notes k same))
-        (derived.derived k no_note (there k kl)))
+        (λ (shown : IsBoundShown original found.code found.values found.stacks (note_at drafted k)). inl (shown notes k same))
+        (found.shown k no_note (there k kl)))
         (finished.same k (there k kl))
 
 pub files_need_returns : DraftedFilesNeedReturns
@@ -57,9 +59,10 @@ files_need_returns file draft original levels input n small_file small_input is 
   notes,
   subst (λ (text : List ℕ). read_loops original text ≡ Ok notes) (sym (none_open most_turns draft.pieces.items (sym d.unbounded ∙ unbounded))) d.pieces.file.read,
   ⊎_elim
-      (λ (most : All IsOpen notes). returns_kept file original levels input d.graph.code (noted_loops notes) read d.graph_is.reached n (λ k kl. absurd (not_open (note_at notes k) (bounded k no_note kl) (most k no_note kl))) returns)
-      (λ (derived : AreBoundsDerived original notes). derived_by_returns file original levels input derived.code derived.values (noted_loops notes) read small_file small_input derived.analysed
-      (λ k kl. (shown derived k kl, d.pieces.least k no_note kl)) n returns) d.pieces.bounds,
+      (λ (none : AreNoneFound notes draft.returns). returns_kept file original levels input d.graph.code (noted_loops notes) read d.graph_is.reached n
+      (λ k kl. absurd (not_open (note_at notes k) (bounded k no_note kl) (none.open_loops k no_note kl))) returns)
+      (λ (found : AreBoundsShown original notes draft.returns). shown_by_returns file original levels input found.code found.values found.stacks (noted_loops notes) read small_file small_input found.analysed
+      (λ k kl. (shown found k kl, d.pieces.least k no_note kl)) n returns) d.pieces.bounds,
 )
   where
     d : IsDraftOf original draft
@@ -71,7 +74,34 @@ files_need_returns file draft original levels input n small_file small_input is 
     bounded : All (λ note. is_bounded note ≡ true) notes
     bounded = all_counted is_bounded notes (sym d.pieces.proved_are ∙ all ∙ d.pieces.loops_are)
 
-    shown : (derived : AreBoundsDerived original notes) (k : ℕ) → k < length notes → IsDerived (text_of original) (text_graph (text_of original) derived.code) derived.values (noted_loops notes) k
-    shown derived k kl = ⊎_elim
+    shown : (found : AreBoundsShown original notes draft.returns) (k : ℕ) → k < length notes → IsShown (text_of original) (text_graph (text_of original) found.code) found.values found.stacks (noted_loops notes) k
+    shown found k kl = ⊎_elim
         (λ (most : IsOpen (note_at notes k)). absurd (not_open (note_at notes k) (bounded k no_note kl) most))
-        (λ (s : IsBoundDerived original derived.code derived.values (note_at notes k)). s notes k refl) (derived.derived k no_note kl)
+        (λ (s : IsBoundShown original found.code found.values found.stacks (note_at notes k)). s notes k refl) (found.shown k no_note kl)
+
+pub returns_go_back : DraftedReturnsGoBack
+returns_go_back file draft original levels input n small_file small_input is read proved = ⊎_elim
+    (λ (none : AreNoneFound d.pieces.notes draft.returns). let unproved : draft.returns ≡ false = none.unproved in absurd (let bad : ⊥ = cc in bad))
+    (λ (found : AreBoundsShown original d.pieces.notes draft.returns). returns_back file original levels input found.code found.values found.stacks read small_file small_input found.analysed (found.comes_back proved) n)
+    d.pieces.bounds
+  where
+    d : IsDraftOf original draft
+    d = draft_of file draft original is read
+
+pub files_kept : DraftedFilesAreKept
+files_kept file draft original small_file is read unbounded all proved = (
+  notes,
+  printed_read,
+  λ levels input n small_input.
+      let law = files_need_returns file draft original levels input n small_file small_input is read unbounded all (λ m le. returns_go_back file draft original levels input m small_file small_input is read proved) in
+      subst (λ (ns : List LoopNote). IsKeptUpTo original levels input (noted_loops ns) n) (ok_same (read_loops original (printed draft.pieces.items)) law.0 notes law.1 printed_read) law.2,
+)
+  where
+    d : IsDraftOf original draft
+    d = draft_of file draft original is read
+
+    notes : List LoopNote
+    notes = d.pieces.notes
+
+    printed_read : read_loops original (printed draft.pieces.items) ≡ Ok notes
+    printed_read = subst (λ (text : List ℕ). read_loops original text ≡ Ok notes) (sym (none_open most_turns draft.pieces.items (sym d.unbounded ∙ unbounded))) d.pieces.file.read

@@ -1,5 +1,5 @@
 -- Which bounds of drafted loops are found: those that the code shows by itself. A loop without a bound is noted with the greatest one.
-use Rattle.std.specs.Prelude.{◌≡◌, ◌==◌, ℕ, ◌⊎◌, not, Bool, List}
+use Rattle.std.specs.Prelude.{◌≡◌, ◌==◌, ℕ, ◌⊎◌, not, Bool, true, false, List}
 use Rattle.std.specs.List.{All}
 use Rattle.scale_base.specs.Image.{Image}
 use Rattle.cost_theory.specs.Reached.{Code}
@@ -8,8 +8,10 @@ use Rattle.code_text.specs.TextGraph.{text_graph}
 use Rattle.loop_file.specs.declared.notes.LoopNote.{LoopNote}
 use Rattle.loop_file.specs.Kept.{note_at, noted_loops}
 use Rattle.bound_laws.specs.Values.{Values}
-use Rattle.bound_laws.specs.Derived.{IsDerived}
-use Rattle.bound_laws.specs.Laws.{IsAnalysed}
+use Rattle.stack_laws.specs.Stacks.{Stacks}
+use Rattle.stack_laws.specs.Counting.{IsShown}
+use Rattle.stack_laws.specs.Returning.{ComesBack}
+use Rattle.stack_laws.specs.Laws.{IsStackAnalysed}
 
 -- the greatest bound that a loop file may have
 abbrev pub most_turns : ℕ
@@ -30,21 +32,35 @@ NeedNotTurn note = note.at_least ≡ 0
 abbrev pub bounded_by : ℕ → LoopNote → LoopNote
 bounded_by bound note = record note { bound = bound; at_least = 0 }
 
--- the bound of a note is derived from the code, among whatever notes it stands
-abbrev pub IsBoundDerived : Image → Code → Values → LoopNote → Type 0
-IsBoundDerived image code v note = (notes : List LoopNote) (k : ℕ) → note_at notes k ≡ note → IsDerived (text_of image) (text_graph (text_of image) code) v (noted_loops notes) k
+-- ---- by tables of the registers and of the stack
 
--- the note has no bound, or one that is derived
-abbrev pub IsBoundFound : Image → Code → Values → LoopNote → Type 0
-IsBoundFound image code v note = IsOpen note ⊎ IsBoundDerived image code v note
+-- the bound of a note is shown by the code, among whatever notes it stands
+abbrev pub IsBoundShown : Image → Code → Values → Stacks → LoopNote → Type 0
+IsBoundShown image code v w note = (notes : List LoopNote) (k : ℕ) → note_at notes k ≡ note → IsShown (text_of image) (text_graph (text_of image) code) v w (noted_loops notes) k
 
--- the same of each note, by one table of values that the code confirms
-pub record AreBoundsDerived (image : Image) (notes : List LoopNote) : Type 0 where
+-- the note has no bound, or one that is shown
+abbrev pub IsBoundFound : Image → Code → Values → Stacks → LoopNote → Type 0
+IsBoundFound image code v w note = IsOpen note ⊎ IsBoundShown image code v w note
+
+-- where returns are said to be proved, the code shows that each goes back behind its call
+abbrev pub AreReturnsFound : Image → Code → Values → Stacks → Bool → Type 0
+AreReturnsFound image code v w returns = returns ≡ true → ComesBack (text_of image) (text_graph (text_of image) code) v w
+
+-- ---- what is found
+
+-- of each note and of returns, by one pair of tables that the code confirms
+pub record AreBoundsShown (image : Image) (notes : List LoopNote) (returns : Bool) : Type 0 where
   pub code : Code
   pub values : Values
-  pub analysed : IsAnalysed image code values
-  pub derived : All (IsBoundFound image code values) notes
+  pub stacks : Stacks
+  pub analysed : IsStackAnalysed image code values stacks
+  pub shown : All (IsBoundFound image code values stacks) notes
+  pub comes_back : AreReturnsFound image code values stacks returns
 
--- no note has a bound, or each has none or one that is derived
-abbrev pub AreBoundsFound : Image → List LoopNote → Type 0
-AreBoundsFound image notes = All IsOpen notes ⊎ AreBoundsDerived image notes
+-- no note has a bound, and nothing is said of returns
+pub record AreNoneFound (notes : List LoopNote) (returns : Bool) : Type 0 where
+  pub open_loops : All IsOpen notes
+  pub unproved : returns ≡ false
+
+abbrev pub AreBoundsFound : Image → List LoopNote → Bool → Type 0
+AreBoundsFound image notes returns = AreNoneFound notes returns ⊎ AreBoundsShown image notes returns

@@ -1,4 +1,4 @@
--- What drafting the loop file of an image answers. Each bound is derived from the code: a loop whose bound isn't known stands without one, and the file
+-- What drafting the loop file of an image answers. Each bound is shown by the code: a loop whose bound isn't known stands without one, and the file
 -- is drafted only where the loops are taken as it notes them.
 use Rattle.std.specs.Prelude.{codes, ◌≡◌, ℕ, ◌^◌, ◌<◌, ◌≤◌, ◌⊎◌, Bool, true, false, List, length, count_by, Option, Some, None, Result, Ok, Err}
 use Rattle.std.specs.List.{All}
@@ -15,7 +15,7 @@ use Rattle.loop_forest.specs.Tree.{LoopView, IsTreeOf, IsTreeBuilt}
 use Rattle.loop_drafts.specs.declared.drafted.Piece.{Piece}
 use Rattle.loop_drafts.specs.declared.drafted.LoopDraft.{LoopDraft}
 use Rattle.loop_drafts.specs.Bounds.{most_turns, is_bounded, NeedNotTurn, AreBoundsFound}
-use Rattle.loop_drafts.specs.Pieces.{filled}
+use Rattle.loop_drafts.specs.Pieces.{BeginsWithReturns, filled, printed}
 
 -- the file with the greatest bound for each loop that has none
 abbrev pub filled_most : List Piece → List ℕ
@@ -42,11 +42,12 @@ pub record AreReadAs (original : Image) (v : FlowGraph) (pieces : List Piece) (n
   pub read : read_loops original (filled_most pieces) ≡ Ok notes
   pub taken : AreTaken v notes aside
 
--- The pieces of a loop file of the image: how many loops it has, and how many of them with a bound that is derived from the code.
-pub record AreTakenPieces (original : Image) (v : FlowGraph) (pieces : List Piece) (loops proved aside : ℕ) : Type 0 where
+-- The pieces of a loop file of the image: how many loops it has, how many of them with a bound that is shown by the code, and whether the code shows
+-- that returns go back.
+pub record AreTakenPieces (original : Image) (v : FlowGraph) (pieces : List Piece) (loops proved : ℕ) (returns : Bool) (aside : ℕ) : Type 0 where
   pub notes : List LoopNote
   pub file : AreReadAs original v pieces notes aside
-  pub bounds : AreBoundsFound original notes
+  pub bounds : AreBoundsFound original notes returns
   pub least : All NeedNotTurn notes
   pub loops_are : loops ≡ length notes
   pub proved_are : proved ≡ count_by is_bounded notes
@@ -55,7 +56,9 @@ pub record AreTakenPieces (original : Image) (v : FlowGraph) (pieces : List Piec
 pub record IsDraftOf (original : Image) (draft : LoopDraft) : Type 0 where
   pub graph : FlowGraph
   pub graph_is : IsGraphOf (text_of original) graph
-  pub pieces : AreTakenPieces original graph draft.pieces.items draft.loops draft.proved draft.aside
+  pub pieces : AreTakenPieces original graph draft.pieces.items draft.loops draft.proved draft.returns draft.aside
+  -- the file says whether returns are proved
+  pub begins : BeginsWithReturns draft.returns (printed draft.pieces.items)
   -- how many loops have no bound
   pub unbounded : draft.unbounded ≡ count_by (λ piece. piece.is_open) draft.pieces.items
   pub aside_fits : draft.aside < 2 ^ 64

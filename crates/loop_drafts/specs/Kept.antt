@@ -1,5 +1,5 @@
 -- The laws of drafted bounds: what a run of the image keeps.
-use Rattle.std.specs.Prelude.{◌≡◌, ℕ, ◌<◌, ◌≤◌, ◌⊎◌, All, List, length, Some, Ok}
+use Rattle.std.specs.Prelude.{◌≡◌, ℕ, ◌<◌, ◌≤◌, ◌⊎◌, true, All, List, length, Some, Ok}
 use Rattle.scale_base.specs.Image.{Image, image_of}
 use Rattle.scale_base.specs.Run.{run_of}
 use Rattle.graph_runs.specs.KeptRuns.{most_returns, IsKeptUpTo}
@@ -36,3 +36,16 @@ DraftedFilesNeedReturns = (file : List ℕ) (draft : LoopDraft) (original : Imag
     AreBytes file → AreBytes input → IsDrafted file (Ok draft) → image_of file ≡ Ok original → draft.unbounded ≡ 0 → draft.proved ≡ draft.loops →
     ((m : ℕ) → m ≤ n → (rs : List ℕ) × (returns_so (run_of original levels input m).steps ≡ Some rs) × (length rs ≤ most_returns)) →
     (notes : List LoopNote) × (read_loops original (printed draft.pieces.items) ≡ Ok notes) × IsKeptUpTo original levels input (noted_loops notes) n
+
+-- Where the draft says so of returns, each return of a run goes back to its call, on each input, and calls are never too deep.
+abbrev pub DraftedReturnsGoBack : Type 0
+DraftedReturnsGoBack = (file : List ℕ) (draft : LoopDraft) (original : Image) (levels : ℕ) (input : List ℕ) (n : ℕ) →
+    AreBytes file → AreBytes input → IsDrafted file (Ok draft) → image_of file ≡ Ok original → draft.returns ≡ true →
+    (rs : List ℕ) × (returns_so (run_of original levels input n).steps ≡ Some rs) × (length rs ≤ most_returns)
+
+-- Where it does, and each loop has a drafted bound, the file as it is printed is a loop file that every run keeps, on each input.
+abbrev pub DraftedFilesAreKept : Type 0
+DraftedFilesAreKept = (file : List ℕ) (draft : LoopDraft) (original : Image) → AreBytes file → IsDrafted file (Ok draft) → image_of file ≡ Ok original →
+    draft.unbounded ≡ 0 → draft.proved ≡ draft.loops → draft.returns ≡ true →
+    (notes : List LoopNote) × (read_loops original (printed draft.pieces.items) ≡ Ok notes) ×
+    ((levels : ℕ) (input : List ℕ) (n : ℕ) → AreBytes input → IsKeptUpTo original levels input (noted_loops notes) n)

@@ -1,5 +1,5 @@
 -- A drafted loop file in pieces, and the file with the bounds that are missing filled in.
-use Rattle.std.specs.Prelude.{codes, ℕ, List, [], ◌∷◌, ◌++◌, flat_map, string_bytes, if◌then◌else◌}
+use Rattle.std.specs.Prelude.{codes, ◌≡◌, ℕ, Bool, true, false, List, [], ◌∷◌, ◌++◌, flat_map, string_bytes, if◌then◌else◌}
 use Rattle.std.specs.Fmt.{decimal}
 use Rattle.loop_drafts.specs.declared.drafted.Piece.{Piece}
 
@@ -20,3 +20,12 @@ printed pieces = flat_map printed_piece pieces
 
 abbrev pub filled : ℕ → List Piece → List ℕ
 filled bound pieces = flat_map (filled_piece bound) pieces
+
+-- ---- the first line: whether returns are proved to go back
+
+abbrev pub returns_line : Bool → List ℕ
+returns_line true = codes "# returns: proved\n"
+returns_line false = codes "# returns: open\n"
+
+abbrev pub BeginsWithReturns : Bool → List ℕ → Type 0
+BeginsWithReturns returns file = (rest : List ℕ) × (file ≡ returns_line returns ++ rest)

@@ -1,13 +1,18 @@
--- What looking for bounds finds of a program, by a table of its values.
-use Rattle.std.specs.Prelude.{List}
+-- What looking for bounds finds of a program, by tables of its registers and of its stack.
+use Rattle.std.specs.Prelude.{Bool, List}
 use Rattle.std.specs.List.{All}
 use Rattle.loop_file.specs.declared.notes.LoopNote.{LoopNote}
-use Rattle.value_checks.specs.declared.edges.Claim.{Claim}
 use Rattle.value_checks.specs.Tables.{values_of}
-use Rattle.loop_drafts.specs.Bounds.{IsBoundFound}
+use Rattle.stack_checks.specs.declared.claims.StackClaim.{StackClaim}
+use Rattle.stack_checks.specs.Tables.{stacks_of}
+use Rattle.loop_drafts.specs.Bounds.{AreReturnsFound, IsBoundFound}
 
-abbrev pub IsFoundBy : Claim → LoopNote → Type 0
-IsFoundBy claim note = IsBoundFound claim.view.now claim.graph.now.code (values_of claim.graph.now.code claim.table.now) note
+abbrev pub IsFoundBy : StackClaim → LoopNote → Type 0
+IsFoundBy claim note = IsBoundFound claim.view.now claim.graph.now.code (values_of claim.graph.now.code claim.table.now) (stacks_of claim.graph.now.code claim.stack.now) note
 
-abbrev pub AreFoundBy : Claim → List LoopNote → Type 0
+abbrev pub AreFoundBy : StackClaim → List LoopNote → Type 0
 AreFoundBy claim notes = All (IsFoundBy claim) notes
+
+-- whether returns go back, as the same tables show
+abbrev pub AreReturnsFoundBy : StackClaim → Bool → Type 0
+AreReturnsFoundBy claim returns = AreReturnsFound claim.view.now claim.graph.now.code (values_of claim.graph.now.code claim.table.now) (stacks_of claim.graph.now.code claim.stack.now) returns

@@ -1,47 +1,55 @@
-//! The bounds of loops that the code shows by itself: a table of the numbers in the registers is proposed and checked, then for each loop a counter.
+//! The bounds of loops that the code shows by itself: tables of the registers and of the stack are proposed and checked, then for each loop a counter,
+//! and that returns go back.
 
-ghost use Rattle.std.specs.Prelude.{◌≡◌, ◌++◌, ◌∷◌, [], IfOk, OnOk};
+ghost use Rattle.std.specs.Prelude.{◌≡◌, ◌++◌, ◌∷◌, [], false, IfOk, OnOk};
 ghost use Rattle.std.specs.List.{All};
 ghost use Rattle.code_text.specs.Text.{text_of};
 ghost use Rattle.flow_graph.specs.FlowGraph.{IsGraphOf};
-ghost use Rattle.value_checks.specs.Confirmed.{IsClaim};
-ghost use Rattle.loop_drafts.specs.Bounds.{AreBoundsFound, IsOpen, NeedNotTurn};
-ghost use Rattle.loop_drafts.specs.Sought.{AreFoundBy, IsFoundBy};
+ghost use Rattle.stack_checks.specs.Tables.{IsStackClaim};
+ghost use Rattle.loop_drafts.specs.Bounds.{AreBoundsFound, AreNoneFound, IsOpen, NeedNotTurn};
+ghost use Rattle.loop_drafts.specs.Sought.{AreFoundBy, AreReturnsFoundBy, IsFoundBy};
 
-use crate::draft::{Counter, Draft, Reason};
+use crate::draft::{Counter, Draft, Place, Reason};
 use crate::noted::{GREATEST_BOUND, bounded_by};
 use elf_image::ImageView;
 use flow_graph::CodeGraph;
+use loop_counters::{find_certificate, heights_of};
 use loop_file::{LoopNote, LoopNotes};
 use loop_forest::LoopTree;
 use loop_tree::build_loops;
 use scale_base::{NoMemory, Stop};
+use shown_bounds::{StackCertificate, StackCounter, comes_back, is_shown};
+use stack_checks::{StackClaim, is_stack_analysed, is_stack_sized};
 use std::alloc::Global;
-use value_analysis::{analyse, find_certificate};
-use value_checks::{Certificate, Claim, is_analysed, is_derived, is_sized};
+use value_analysis::{Tables, analyse};
+use value_checks::is_sized;
 
 /// So many loops times nodes and edges are looked at.
 const MOST_WORK: u64 = 400_000_000;
 
-/// What is known of each loop, and the note that it is to have in the file.
+/// What is known of each loop, the note that it is to have in the file, and whether returns go back.
 #[derive(Drop)]
 pub struct Bounds {
     pub known: Vec<Draft>,
     pub notes: Vec<LoopNote>,
+    pub returns: bool,
 }
 
 impl Bounds {
-    fn new(alloc: Global) -> Bounds
-        ensures { result.notes.items ≡ [] }
+    fn new(alloc: Global, returns: bool) -> Bounds
+        ensures notes { result.notes.items ≡ [] }
+        ensures returns { result.returns ≡ returns }
     {
         Bounds {
             known: Vec::new(alloc),
             notes: Vec::new(alloc),
+            returns,
         }
     }
 
     fn push(&mut self, sought: Sought) -> Result<(), NoMemory>
-        ensures { OnOk result (self.new.notes.items ≡ self.old.notes.items ++ sought.note ∷ []) }
+        ensures notes { OnOk result (self.new.notes.items ≡ self.old.notes.items ++ sought.note ∷ []) }
+        ensures returns { OnOk result (self.new.returns ≡ self.old.returns) }
     {
         let Sought { known, note } = sought;
         self.known.push(known)?;
@@ -68,11 +76,20 @@ fn left_open(alloc: Global, note: &LoopNote, reason: Reason) -> Result<Sought, N
     })
 }
 
+// How far a word of the stack is below what x2 had when its function began, in bytes, by its number.
+fn below(number: u32) -> u32 {
+    number.saturating_add(1).saturating_mul(4)
+}
+
 // The counter of a certificate.
-fn counter_of(certificate: &Certificate) -> Counter {
+fn counter_of(certificate: &StackCertificate) -> Counter {
+    let (place, factor) = match certificate.counter {
+        StackCounter::InRegisters(measure) => (Place::Register(measure.register), measure.factor),
+        StackCounter::InWord { number, factor, .. } => (Place::StackWord(below(number)), factor),
+    };
     Counter {
-        register: certificate.measure.register,
-        falls: certificate.measure.factor != 1,
+        place,
+        falls: factor != 1,
         step: certificate.least,
         width: certificate.width,
     }
@@ -81,11 +98,11 @@ fn counter_of(certificate: &Certificate) -> Counter {
 // A loop with a certificate that is found for it: with its bound, where the code confirms it.
 fn confirmed(
     alloc: Global,
-    claim: &Claim<'_>,
+    claim: &StackClaim<'_>,
     note: &LoopNote,
-    certificate: &Certificate,
+    certificate: &StackCertificate,
 ) -> Result<Sought, NoMemory>
-    requires { IsClaim claim.now }
+    requires { IsStackClaim claim.now }
     ensures found { IfOk result (λ s. IsFoundBy claim.now s.note) }
     ensures least { IfOk result (λ s. NeedNotTurn s.note) }
 {
@@ -95,7 +112,7 @@ fn confirmed(
         return left_open(alloc, note, Reason::TooWide);
     }
     let bounded = bounded_by(alloc, note, bound)?;
-    if !is_derived(claim, &bounded, certificate) {
+    if !is_shown(claim, &bounded, certificate) {
         return left_open(alloc, note, Reason::NotConfirmed);
     }
     Ok(Sought {
@@ -104,20 +121,38 @@ fn confirmed(
     })
 }
 
+/// What counters are looked for in.
+#[derive(Clone, Copy)]
+struct Sources<'a> {
+    tree: &'a LoopTree,
+    tables: &'a Tables,
+}
+
+impl Sources<'_> {
+    // What is found for loop k of a program.
+    fn certificate(
+        &self,
+        alloc: Global,
+        claim: &StackClaim<'_>,
+        k: usize,
+    ) -> Result<Option<StackCertificate>, NoMemory> {
+        find_certificate(alloc, claim.view, claim.graph, self.tree, self.tables, k)
+    }
+}
+
 // Loop k, by its note, with a bound where one is found.
 fn seek(
     alloc: Global,
-    claim: &Claim<'_>,
-    tree: &LoopTree,
+    claim: &StackClaim<'_>,
+    sources: &Sources<'_>,
     note: &LoopNote,
     k: usize,
 ) -> Result<Sought, NoMemory>
-    requires { IsClaim claim.now }
+    requires { IsStackClaim claim.now }
     ensures found { IfOk result (λ s. IsFoundBy claim.now s.note) }
     ensures least { IfOk result (λ s. NeedNotTurn s.note) }
 {
-    let found = find_certificate(alloc, claim.view, claim.graph, tree, claim.table, k)?;
-    match found {
+    match sources.certificate(alloc, claim, k)? {
         Some(certificate) => confirmed(alloc, claim, note, &certificate),
         None => left_open(alloc, note, Reason::NoCounter),
     }
@@ -132,80 +167,109 @@ fn most_loops(graph: &CodeGraph) -> usize {
 // The same, as long as it isn't too much work.
 fn seek_or_stop(
     alloc: Global,
-    claim: &Claim<'_>,
-    tree: &LoopTree,
+    claim: &StackClaim<'_>,
+    sources: &Sources<'_>,
     note: &LoopNote,
     k: usize,
 ) -> Result<Sought, NoMemory>
-    requires { IsClaim claim.now }
+    requires { IsStackClaim claim.now }
     ensures found { IfOk result (λ s. IsFoundBy claim.now s.note) }
     ensures least { IfOk result (λ s. NeedNotTurn s.note) }
 {
     if k >= most_loops(claim.graph) {
         return left_open(alloc, note, Reason::TooLarge);
     }
-    seek(alloc, claim, tree, note, k)
+    seek(alloc, claim, sources, note, k)
+}
+
+// Whether the code shows that returns go back.
+fn are_returns_proved(alloc: Global, claim: &StackClaim<'_>) -> Result<bool, NoMemory>
+    requires { IsStackClaim claim.now }
+    ensures { IfOk result (λ returns. AreReturnsFoundBy claim.now returns) }
+{
+    let heights = heights_of(alloc, claim.graph)?;
+    Ok(comes_back(claim, &heights))
 }
 
 // Each loop, with a bound where one is found.
 fn seek_all(
     alloc: Global,
-    claim: &Claim<'_>,
-    tree: &LoopTree,
+    claim: &StackClaim<'_>,
+    sources: &Sources<'_>,
     notes: &LoopNotes,
 ) -> Result<Bounds, NoMemory>
-    requires { IsClaim claim.now }
+    requires { IsStackClaim claim.now }
     ensures found { IfOk result (λ b. AreFoundBy claim.now b.notes.items) }
+    ensures returns { IfOk result (λ b. AreReturnsFoundBy claim.now b.returns) }
     ensures least { IfOk result (λ b. All NeedNotTurn b.notes.items) }
 {
-    let mut bounds = Bounds::new(alloc);
+    let mut bounds = Bounds::new(alloc, are_returns_proved(alloc, claim)?);
     for k in 0..notes.count() {
-        bounds.push(seek_or_stop(alloc, claim, tree, notes.note(k), k)?)?;
+        bounds.push(seek_or_stop(alloc, claim, sources, notes.note(k), k)?)?;
     }
     Ok(bounds)
 }
 
 /// Each loop without a bound.
 pub fn open_all(alloc: Global, notes: &LoopNotes, reason: Reason) -> Result<Bounds, NoMemory>
-    ensures bounds { IfOk result (λ b. All IsOpen b.notes.items) }
+    ensures none { IfOk result (λ b. AreNoneFound b.notes.items b.returns) }
     ensures least { IfOk result (λ b. All NeedNotTurn b.notes.items) }
 {
-    let mut bounds = Bounds::new(alloc);
+    let mut bounds = Bounds::new(alloc, false);
     for k in 0..notes.count() {
         bounds.push(left_open(alloc, notes.note(k), reason)?)?;
     }
     Ok(bounds)
 }
 
-// The bounds of loops that are taken.
-fn bounds_of<'a>(
+// The bounds of loops that are taken, by tables that have a row for each node and each function.
+fn bounds_by(
     alloc: Global,
-    view: &'a ImageView<'a>,
-    graph: &'a CodeGraph,
+    claim: &StackClaim<'_>,
+    sources: &Sources<'_>,
+    notes: &LoopNotes,
+) -> Result<Bounds, NoMemory>
+    requires { IsStackClaim claim.now }
+    ensures found { IfOk result (λ b. AreBoundsFound claim.now.view.now b.notes.items b.returns) }
+    ensures least { IfOk result (λ b. All NeedNotTurn b.notes.items) }
+{
+    if !is_stack_analysed(claim) {
+        return open_all(alloc, notes, Reason::NotAnalysed);
+    }
+    seek_all(alloc, claim, sources, notes)
+}
+
+// The bounds of loops that are taken.
+fn bounds_of(
+    alloc: Global,
+    view: &ImageView<'_>,
+    graph: &CodeGraph,
     tree: &LoopTree,
     notes: &LoopNotes,
 ) -> Result<Bounds, NoMemory>
     requires { IsGraphOf (text_of view.now) graph.now }
-    ensures found { IfOk result (λ b. AreBoundsFound view.now b.notes.items) }
+    ensures found { IfOk result (λ b. AreBoundsFound view.now b.notes.items b.returns) }
     ensures least { IfOk result (λ b. All NeedNotTurn b.notes.items) }
 {
-    let table = analyse(alloc, view, graph)?;
-    if !is_sized(graph, &table) {
+    let tables = analyse(alloc, view, graph)?;
+    if !is_sized(graph, &tables.values) || !is_stack_sized(graph, &tables.stack) {
         return open_all(alloc, notes, Reason::NotAnalysed);
     }
     let _file = view.file();
-    let claim = Claim {
+    let claim = StackClaim {
         view,
         graph,
-        table: &table,
+        table: &tables.values,
+        stack: &tables.stack,
     };
-    if !is_analysed(&claim) {
-        return open_all(alloc, notes, Reason::NotAnalysed);
-    }
-    seek_all(alloc, &claim, tree, notes)
+    let sources = Sources {
+        tree,
+        tables: &tables,
+    };
+    bounds_by(alloc, &claim, &sources, notes)
 }
 
-/// The bounds of noted loops that the code shows. Where the loops aren't taken, none is looked for.
+/// The bounds of noted loops that the code shows, and whether returns go back. Where the loops aren't taken, nothing is looked for.
 pub fn find_bounds(
     alloc: Global,
     view: &ImageView<'_>,
@@ -213,7 +277,7 @@ pub fn find_bounds(
     notes: &LoopNotes,
 ) -> Result<Bounds, NoMemory>
     requires { IsGraphOf (text_of view.now) graph.now }
-    ensures found { IfOk result (λ b. AreBoundsFound view.now b.notes.items) }
+    ensures found { IfOk result (λ b. AreBoundsFound view.now b.notes.items b.returns) }
     ensures least { IfOk result (λ b. All NeedNotTurn b.notes.items) }
 {
     match build_loops(alloc, graph, notes) {

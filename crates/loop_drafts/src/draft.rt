@@ -6,10 +6,17 @@ use scale_base::NoMemory;
 use std::alloc::Global;
 use std::fmt;
 
-/// A register that each turn of a loop moves on by `step` at least, up or down, and that is within a span of `width` numbers at the header.
+/// What is counted in: a register, or a word of the stack, so many bytes below what x2 had when the function began.
+#[derive(Clone, Copy)]
+pub enum Place {
+    Register(u8),
+    StackWord(u32),
+}
+
+/// A place that each turn of a loop moves on by `step` at least, up or down, and that is within a span of `width` numbers at the header.
 #[derive(Clone, Copy)]
 pub struct Counter {
-    pub register: u8,
+    pub place: Place,
     pub falls: bool,
     pub step: u32,
     pub width: u32,
@@ -41,7 +48,7 @@ impl Draft {
 pub enum Reason {
     /// None was looked for yet.
     NotSought,
-    /// No register is found that each turn moves on by constants, within a span that is known at the header.
+    /// No register and no word of the stack is found that each turn moves on by constants, within a span that is known at the header.
     NoCounter,
     /// The span of its counter is too wide for a bound.
     TooWide,
@@ -49,7 +56,7 @@ pub enum Reason {
     NotConfirmed,
     /// Some code that turns is entered at several places, so that no loops are taken.
     EnteredAside,
-    /// The code doesn't confirm the numbers that are found for its registers.
+    /// The code doesn't confirm the numbers that are found for its registers and its stack.
     NotAnalysed,
     /// The graph is too large for a look at each of its loops.
     TooLarge,
@@ -62,7 +69,7 @@ impl fmt::Display for Reason {
             Reason::NoCounter => {
                 write!(
                     f,
-                    "no register goes on by a constant each turn, between limits that are known"
+                    "no register or stack word goes on by a constant each turn, between limits that are known"
                 )
             }
             Reason::TooWide => write!(f, "the limits of its counter are too far apart"),
@@ -74,7 +81,10 @@ impl fmt::Display for Reason {
                 )
             }
             Reason::NotAnalysed => {
-                write!(f, "the values of the registers could not be worked out")
+                write!(
+                    f,
+                    "the values of the registers and of the stack could not be worked out"
+                )
             }
             Reason::TooLarge => write!(f, "the program is too large for a look at each loop"),
         }

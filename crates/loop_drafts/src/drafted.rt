@@ -15,8 +15,8 @@ pub struct Piece {
     pub is_open: bool,
 }
 
-/// A drafted loop file: its pieces, how many loops it has, how many of them with a bound that is derived from the code and how many without one, and how many
-/// parts of the code turn that are no loops, since they are entered at several places.
+/// A drafted loop file: its pieces, how many loops it has, how many of them with a bound that the code shows and how many without one, how many parts of the
+/// code turn that are no loops, since they are entered at several places, and whether the code shows that each return goes back to its call.
 #[derive(Drop)]
 pub struct LoopDraft {
     pub pieces: Vec<Piece>,
@@ -24,6 +24,7 @@ pub struct LoopDraft {
     pub proved: usize,
     pub unbounded: usize,
     pub aside: usize,
+    pub returns: bool,
 }
 
 /// How many pieces are open.

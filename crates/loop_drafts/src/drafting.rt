@@ -120,11 +120,17 @@ fn draft_bounds(
     bounds: &Bounds,
 ) -> Result<Option<LoopDraft>, Stop>
     requires graph { IsGraphOf (text_of sketch.now.view.now) sketch.now.graph.now }
-    requires found { AreBoundsFound sketch.now.view.now bounds.now.notes.items }
+    requires found { AreBoundsFound sketch.now.view.now bounds.now.notes.items bounds.now.returns }
     requires least { All NeedNotTurn bounds.now.notes.items }
     ensures { AnswersBy (λ draft. draft) result (IsDraftTried sketch.now.view.now sketch.now.graph.now) }
 {
-    let pieces = pieces_of(alloc, &sketch.names, &sketch.found, &bounds.known)?;
+    let pieces = pieces_of(
+        alloc,
+        &sketch.names,
+        &sketch.found,
+        &bounds.known,
+        bounds.returns,
+    )?;
     if !check_pieces(alloc, sketch, &pieces, &bounds.notes)? {
         return Ok(None);
     }
@@ -135,6 +141,7 @@ fn draft_bounds(
         proved: count_bounded(&bounds.notes),
         unbounded,
         aside: sketch.found.aside.len(),
+        returns: bounds.returns,
     }))
 }
 
@@ -156,7 +163,7 @@ fn draft_sketch(alloc: Global, sketch: &Sketch<'_>) -> Result<LoopDraft, Stop>
     ensures { AnswersBy (λ draft. draft) result (IsGraphDrafted sketch.now.view.now sketch.now.graph.now) }
 {
     let known = unknown(alloc, sketch.found.loops.len())?;
-    let pieces = pieces_of(alloc, &sketch.names, &sketch.found, &known)?;
+    let pieces = pieces_of(alloc, &sketch.names, &sketch.found, &known, false)?;
     let notes = read_pieces(alloc, sketch.view, &pieces)?;
     let bounds = find_bounds(alloc, sketch.view, sketch.graph, &notes)?;
     match draft_bounds(alloc, sketch, &bounds)? {
@@ -211,8 +218,8 @@ fn draft_image(alloc: Global, view: &ImageView<'_>) -> Result<LoopDraft, Stop>
 /// The draft of the loop file of an image, or the first refusal, as `hold` has it: of the image, of a keyed segment, and of the reached code; then of more
 /// than 4,096 loops, of a file of more than 1,048,576 bytes, and of loops nested more than 16 deep.
 ///
-/// A loop has a bound where the code shows one by itself, by a register that each turn moves on. Any other stands without one. With any bounds filled in,
-/// the loops are taken where no part of the code that turns is entered at several places.
+/// A loop has a bound where the code shows one by itself, by a register or a word of the stack that each turn moves on. Any other stands without one. With
+/// any bounds filled in, the loops are taken where no part of the code that turns is entered at several places.
 pub fn draft_loops(alloc: Global, image: &[u8]) -> Result<LoopDraft, Stop>
     ensures { AnswersBy (λ draft. draft) result (IsDrafted image.now) }
 {

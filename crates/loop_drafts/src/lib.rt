@@ -3,7 +3,7 @@
 #![tactic(auto)]
 
 ghost use Rattle.loop_drafts.specs.Shapes.{BoundsAreFree};
-ghost use Rattle.loop_drafts.specs.Kept.{DraftedBoundsAreKept, DraftedFilesNeedReturns};
+ghost use Rattle.loop_drafts.specs.Kept.{DraftedBoundsAreKept, DraftedFilesNeedReturns, DraftedReturnsGoBack, DraftedFilesAreKept};
 
 mod bounds;
 mod draft;
@@ -30,4 +30,11 @@ pub fn bounds_are_free()
 pub fn drafted_bounds_are_kept()
     ensures filled { DraftedBoundsAreKept }
     ensures printed { DraftedFilesNeedReturns }
+{}
+
+/// Where a draft says so of returns, every run goes back to its calls, on each input; and where each loop has a drafted bound as well, every run keeps
+/// the file as it is printed.
+pub fn drafted_files_are_kept()
+    ensures returns { DraftedReturnsGoBack }
+    ensures kept { DraftedFilesAreKept }
 {}

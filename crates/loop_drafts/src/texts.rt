@@ -1,6 +1,9 @@
 //! The pieces of a drafted loop file.
 
-use crate::draft::{Counter, Draft};
+ghost use Rattle.std.specs.Prelude.{◌≡◌, IfOk};
+ghost use Rattle.loop_drafts.specs.Pieces.{BeginsWithReturns, printed, printed_piece, returns_line};
+
+use crate::draft::{Counter, Draft, Place};
 use crate::drafted::Piece;
 use crate::found::{AsidePart, FoundLoop, FoundLoops};
 use crate::names::{NamedPlace, Names};
@@ -106,19 +109,28 @@ fn push_head(
     write!(text, ", depth {depth}\n")
 }
 
+// Adds what a loop counts in, as a disassembly shows it. A frame pointer has what x2 had when the function began.
+fn push_counted(text: &mut String, place: Place) -> Result<(), AllocError> {
+    match place {
+        Place::Register(register) => write!(text, "# x{register}"),
+        Place::StackWord(below) => {
+            write!(
+                text,
+                "# the stack word {below} bytes below the caller's sp (-{below}(s0) with a frame pointer)"
+            )
+        }
+    }
+}
+
 // Adds the bound of a counter, and why it is one.
 fn push_bound(text: &mut String, counter: Counter) -> Result<(), AllocError> {
-    let Counter {
-        register,
-        step,
-        width,
-        ..
-    } = counter;
+    let Counter { step, width, .. } = counter;
     let way = if counter.falls { "down" } else { "up" };
     let bound = counter.bound();
+    push_counted(text, counter.place)?;
     write!(
         text,
-        "# x{register} goes {way} by {step} or more each turn, and its values at the header span {width}\nbound = {bound}\n"
+        " goes {way} by {step} or more each turn, and its values at the header span {width}\nbound = {bound}\n"
     )
 }
 
@@ -167,8 +179,29 @@ fn push_aside(text: &mut String, names: &Names<'_>, part: &AsidePart) -> Result<
     text.push_str("\n")
 }
 
+// The line that tells whether returns are proved to go back.
+fn returns_line(returns: bool) -> &'static str
+    ensures { result.now ≡ returns_line returns }
+{
+    if returns {
+        "# returns: proved\n"
+    } else {
+        "# returns: open\n"
+    }
+}
+
+// The piece that begins the file.
+fn returns_piece(alloc: Global, returns: bool) -> Result<Piece, NoMemory>
+    ensures { IfOk result (λ piece. printed_piece piece ≡ returns_line returns) }
+{
+    Ok(Piece {
+        text: String::from_str(alloc, returns_line(returns))?,
+        is_open: false,
+    })
+}
+
 // The piece over the loops.
-fn first_piece(
+fn head_piece(
     alloc: Global,
     names: &Names<'_>,
     found: &FoundLoops,
@@ -197,15 +230,15 @@ fn first_piece(
     })
 }
 
-/// The pieces of the loops that are found, with what is known of each.
-pub fn pieces_of(
+// The pieces of the loops that are found, with what is known of each, and the one over them.
+fn loop_pieces(
     alloc: Global,
     names: &Names<'_>,
     found: &FoundLoops,
     known: &[Draft],
 ) -> Result<Vec<Piece>, NoMemory> {
     let mut pieces = Vec::new(alloc);
-    pieces.push(first_piece(alloc, names, found, known)?)?;
+    pieces.push(head_piece(alloc, names, found, known)?)?;
     for (k, (looped, draft)) in found.loops.iter().zip(known).enumerate() {
         let outer = match looped.parent {
             Some(header) => number_of(&found.loops, header),
@@ -214,5 +247,21 @@ pub fn pieces_of(
         let number = k.saturating_add(1);
         pieces.push(loop_piece(alloc, names, looped, number, outer, *draft)?)?;
     }
+    Ok(pieces)
+}
+
+/// The pieces of the loops that are found, with what is known of each and of returns.
+pub fn pieces_of(
+    alloc: Global,
+    names: &Names<'_>,
+    found: &FoundLoops,
+    known: &[Draft],
+    returns: bool,
+) -> Result<Vec<Piece>, NoMemory>
+    ensures { IfOk result (λ pieces. BeginsWithReturns returns (printed pieces.items)) }
+{
+    let first = returns_piece(alloc, returns)?;
+    let mut pieces = loop_pieces(alloc, names, found, known)?;
+    pieces.insert(0, first)?;
     Ok(pieces)
 }

@@ -3,6 +3,8 @@
 use elf_image::ImageView;
 use elf_view::read_image;
 use std::alloc::Global;
+use std::fmt::Debug;
+use std::process::Abort;
 use std::test::Fail;
 
 /// Reads a byte, and skips six divisions where there is none.
@@ -98,5 +100,18 @@ pub fn plain(alloc: Global, words: &[u32]) -> Result<Vec<u8>, Fail> {
 
 /// The image of a file.
 pub fn view_of(alloc: Global, file: &[u8]) -> Result<ImageView<'_>, Fail> {
-    Ok(read_image(alloc, file).ok().ok_or("the file is an image")?)
+    match read_image(alloc, file) {
+        Ok(view) => Ok(view),
+        Err(_) => Err("the file is an image".into()),
+    }
+}
+
+/// Expects that two values of a row are the same.
+pub fn expect_same<T: Copy + PartialEq + Debug>(rt: &impl Abort, row: u32, found: T, want: T) {
+    assert_eq!(rt; found, want, "row {row:#x}");
+}
+
+/// The same of values that can't be printed.
+pub fn expect_equal<T: Copy + PartialEq>(rt: &impl Abort, row: u32, found: T, want: T) {
+    assert!(rt; found == want, "row {row:#x}");
 }

@@ -1,5 +1,6 @@
 //! Words and instructions, both ways.
 
+use crate::fixtures::{expect_equal, expect_same};
 use rv_decode::{class_of, decode};
 use rv_encode::{encode, jal_fits};
 use scale_base::{BranchOp, Class, ImmOp, Instr, LoadOp, RegOp, StoreOp};
@@ -221,55 +222,67 @@ static WORDS: [(u32, Option<Instr>); 34] = [
 #[test]
 fn words_of_the_manual(rt: HostRuntime) {
     for (word, instr) in &WORDS {
-        assert!(rt; decode(*word) == *instr, "at {word}");
+        expect_equal(&rt, *word, decode(*word), *instr);
         if let Some(instr) = instr {
-            assert_eq!(rt; encode(instr), Some(*word), "at {word}");
+            expect_same(&rt, *word, encode(instr), Some(*word));
         }
     }
 }
 
+const BRANCH: Instr = Instr::Branch {
+    op: BranchOp::Beq,
+    rs1: 0,
+    rs2: 0,
+    offset: 8,
+};
+
 /// The classes of the manual's kinds of instruction.
+static CLASSES: [(Instr, bool, Class); 3] = [
+    (BRANCH, true, Class::Taken),
+    (BRANCH, false, Class::Untaken),
+    (Instr::Ebreak, false, Class::Ecall),
+];
+
 #[test]
 fn classes(rt: HostRuntime) {
-    let branch = Instr::Branch {
-        op: BranchOp::Beq,
-        rs1: 0,
-        rs2: 0,
-        offset: 8,
-    };
-    for (instr, taken, class) in [
-        (branch, true, Class::Taken),
-        (branch, false, Class::Untaken),
-        (Instr::Ebreak, false, Class::Ecall),
-    ] {
-        assert_eq!(rt; class_of(&instr, taken), class);
+    for (instr, taken, class) in &CLASSES {
+        expect_same(&rt, 0, class_of(instr, *taken), *class);
     }
 }
 
-/// Fields out of range have no word, and jumps end where their field does.
+/// Fields out of range have no word.
+static UNFIT: [Instr; 3] = [
+    Instr::Jal {
+        rd: 0,
+        offset: 1_048_576,
+    },
+    Instr::Imm {
+        op: ImmOp::Slli,
+        rd: 1,
+        rs1: 1,
+        imm: 32,
+    },
+    Instr::Lui { rd: 1, imm: 1 },
+];
+
 #[test]
 fn out_of_range(rt: HostRuntime) {
-    for instr in [
-        Instr::Jal {
-            rd: 0,
-            offset: 1_048_576,
-        },
-        Instr::Imm {
-            op: ImmOp::Slli,
-            rd: 1,
-            rs1: 1,
-            imm: 32,
-        },
-        Instr::Lui { rd: 1, imm: 1 },
-    ] {
-        assert_eq!(rt; encode(&instr), None);
+    for instr in &UNFIT {
+        expect_same(&rt, 0, encode(instr), None);
     }
-    for (from, to, fits) in [
-        (0x0001_0000, 0xFFF1_0000, true),
-        (0, 1_048_576, false),
-        (0, 1_048_574, true),
-        (0, 1_048_573, false),
-    ] {
-        assert_eq!(rt; jal_fits(from, to), fits, "from {from} to {to}");
+}
+
+/// Jumps end where their field does.
+static JUMPS: [(u32, u32, bool); 4] = [
+    (0x0001_0000, 0xFFF1_0000, true),
+    (0, 1_048_576, false),
+    (0, 1_048_574, true),
+    (0, 1_048_573, false),
+];
+
+#[test]
+fn jumps_out_of_range(rt: HostRuntime) {
+    for (from, to, fits) in &JUMPS {
+        expect_same(&rt, *to, jal_fits(*from, *to), *fits);
     }
 }

@@ -14,10 +14,10 @@ use Rattle.loop_drafts.specs.declared.drafted.LoopDraft.{LoopDraft}
 use Rattle.loop_drafts.specs.Bounds.{most_turns}
 use Rattle.loop_drafts.specs.Drafted.{AreTaken, IsDraftOf, filled_most}
 use Rattle.loop_drafts.specs.Kept.{AreBytes}
-use Rattle.loop_drafts.specs.Pieces.{bound_line, filled, filled_piece, printed, printed_piece}
+use Rattle.loop_drafts.specs.Pieces.{BeginsWithReturns, bound_line, filled, filled_piece, printed, printed_piece}
 use Rattle.loop_drafts.specs.Shapes.{HaveOneShape}
-use Rattle.loop_drafts.proofs.Laws.{bounds_free, bounds_kept, files_need_returns}
-use Rattle.pace_tool.specs.Drafts.{AreNeverRefused, AreTakenIn, IsDraftFile, IsDraftedSafely, IsFinishedFile, IsKeptByReturns, IsKeptByWritten, IsLoopFile}
+use Rattle.loop_drafts.proofs.Laws.{bounds_free, bounds_kept, files_kept, files_need_returns, returns_go_back}
+use Rattle.pace_tool.specs.Drafts.{AlwaysGoesBack, AreNeverRefused, AreTakenIn, IsDraftFile, IsDraftedSafely, IsFinishedFile, IsKeptAlways, IsKeptByReturns, IsKeptByWritten, IsLoopFile}
 
 -- ---- the file as it is printed, and with bounds filled in
 
@@ -84,6 +84,16 @@ module _ (image stored : List ℕ) (bytes : AreBytes image) (draft : LoopDraft) 
       let one : law.0 ≡ notes = cc in
       subst (λ (ns : List LoopNote). IsKeptUpTo original levels input (noted_loops ns) n) one law.2
 
+  goes_back : draft.returns ≡ true → AlwaysGoesBack original
+  goes_back proved levels input n are m le = returns_go_back image draft original levels input m bytes are file.drafted file.drafted.1 proved
+
+  kept_always : draft.unbounded ≡ 0 → draft.proved ≡ draft.loops → draft.returns ≡ true → IsKeptAlways original stored
+  kept_always none all proved notes read levels input n are =
+      let law = files_kept image draft original bytes file.drafted file.drafted.1 none all proved in
+      let its : read_loops original stored ≡ Ok law.0 = ap (read_loops original) file.is_printed ∙ law.1 in
+      let one : law.0 ≡ notes = cc in
+      subst (λ (ns : List LoopNote). IsKeptUpTo original levels input (noted_loops ns) n) one (law.2 levels input n are)
+
   kept_by_written : (finished : List ℕ) (notes : List LoopNote) (is : IsFinishedFile original draft finished notes) → IsKeptByWritten original is.drafted notes
   kept_by_written finished notes is levels input bounds n are low kept =
       bounds_kept image draft original is.drafted notes levels input bounds n bytes file.drafted file.drafted.1 is.drafted_are is.finished are low kept
@@ -97,6 +107,9 @@ module _ (image stored : List ℕ) (bytes : AreBytes image) (draft : LoopDraft) 
         short = let shorter = printed_shorter most_turns draft.pieces.items in let low : length (filled_most draft.pieces.items) ≤ 1048576 = of.pieces.file.short in let size = ap length file.is_printed in omega arith;
         whole = whole_file original draft of stored file.is_printed;
         kept = kept_by_returns;
+        begins = subst (BeginsWithReturns draft.returns) (sym file.is_printed) of.begins;
+        goes_back = goes_back;
+        premise_free = kept_always;
         taken = finished_taken original draft of;
         finished = kept_by_written;
       }

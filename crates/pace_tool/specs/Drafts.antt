@@ -1,5 +1,5 @@
 -- What `loops` gives for an image, and what the stored file keeps to.
-use Rattle.std.specs.Prelude.{◌≡◌, ℕ, ◌<◌, ◌≤◌, List, length, Some, Result, Ok, Err}
+use Rattle.std.specs.Prelude.{◌≡◌, ℕ, ◌<◌, ◌≤◌, true, List, length, Some, Result, Ok, Err}
 use Rattle.scale_base.specs.declared.refusal.Refusal.{Refusal}
 use Rattle.scale_base.specs.Image.{Image, image_of}
 use Rattle.scale_base.specs.Run.{run_of}
@@ -16,7 +16,7 @@ use Rattle.loop_drafts.specs.declared.drafted.LoopDraft.{LoopDraft}
 use Rattle.loop_drafts.specs.Bounds.{IsOpen}
 use Rattle.loop_drafts.specs.Drafted.{IsDrafted, filled_most}
 use Rattle.loop_drafts.specs.Kept.{AreBytes, AreFinished}
-use Rattle.loop_drafts.specs.Pieces.{printed}
+use Rattle.loop_drafts.specs.Pieces.{BeginsWithReturns, printed}
 use Rattle.loop_drafts.specs.Shapes.{HaveOneShape}
 
 -- a draft of the image's loop file, and the file as it is printed
@@ -63,6 +63,16 @@ pub record IsFinishedFile (original : Image) (draft : LoopDraft) (file : List �
 abbrev pub ReturnsGoBack : Image → (levels : ℕ) (input : List ℕ) (n : ℕ) → Type 0
 ReturnsGoBack original levels input n = (m : ℕ) → m ≤ n → (rs : List ℕ) × (returns_so (run_of original levels input m).steps ≡ Some rs) × (length rs ≤ most_returns)
 
+-- on every input, for as long as it runs
+abbrev pub AlwaysGoesBack : Image → Type 0
+AlwaysGoesBack original = (levels : ℕ) (input : List ℕ) (n : ℕ) → AreBytes input → ReturnsGoBack original levels input n
+
+-- every run keeps the loop file, on every input: what a stored image promises of runs that keep the file, it promises of all
+abbrev pub IsKeptAlways : Image → (file : List ℕ) → Type 0
+IsKeptAlways original file =
+    (notes : List LoopNote) → read_loops original file ≡ Ok notes →
+    (levels : ℕ) (input : List ℕ) (n : ℕ) → AreBytes input → IsKeptUpTo original levels input (noted_loops notes) n
+
 -- on every input a run keeps the loop file as long as its returns go back
 abbrev pub IsKeptByReturns : Image → (file : List ℕ) → Type 0
 IsKeptByReturns original file =
@@ -85,8 +95,13 @@ pub record IsDraftedSafely (image stored : List ℕ) (draft : LoopDraft) : Type 
   pub short : length stored ≤ 1048576
   -- where no loop is open, it is a loop file of the image
   pub whole : draft.unbounded ≡ 0 → IsLoopFile original draft stored
-  -- where all bounds are proved as well, it is kept on every input
+  -- where all bounds are proved as well, every run keeps it whose returns go back, on every input
   pub kept : draft.unbounded ≡ 0 → draft.proved ≡ draft.loops → IsKeptByReturns original stored
+  -- its first line is `# returns: proved` or `# returns: open`; where it is the first, the returns of every run go back, on every input,
+  pub begins : BeginsWithReturns draft.returns stored
+  pub goes_back : draft.returns ≡ true → AlwaysGoesBack original
+  -- and where all bounds are proved as well, every run keeps it, with no premise
+  pub premise_free : draft.unbounded ≡ 0 → draft.proved ≡ draft.loops → draft.returns ≡ true → IsKeptAlways original stored
   -- with bounds that are written by hand, its loops are taken where no part of the code turns that is no loop,
   pub taken : draft.aside ≡ 0 → (file : List ℕ) (notes : List LoopNote) → IsFinishedFile original draft file notes → AreNeverRefused original notes
   -- and these are all that a run has to keep

@@ -18,9 +18,10 @@ FitsAny image machine loops inputs given = (proposals : List Proposal) × Fits i
 -- loops' bounds and the return addresses, the stored image gives the same output and the same exit status, ends by the deadline, never raises its level, takes no more energy than
 -- its own cycles at its starting level would, and adds at most the printed number of cycles; and its runs on the inputs that count take no more energy than those of the image
 -- that `hold` stores. Of `loops`: the stored file isn't too long to be loaded; where it prints that no loop is open, that is a loop file of the image, with as many loops as it
--- prints; where it prints that all loops are proved as well, every run on every input keeps that file as long as its returns go back to their calls; else no run breaks a bound of
--- it before it breaks one that was written in by hand, or a return address; and where it prints that nothing is irreducible, the loops are taken. `show` stores nothing, and
--- promises nothing beside its answer.
+-- prints; where it prints that all loops are proved as well, every run on every input keeps that file as long as its returns go back to their calls; where it prints that returns
+-- are proved, those of every run on every input do, so that then every run keeps that file, and whatever is promised of runs that keep it; else no run breaks a bound of it before
+-- it breaks one that was written in by hand, or a return address; and where it prints that nothing is irreducible, the loops are taken. `show` stores nothing, and promises nothing
+-- beside its answer.
 abbrev pub Promise : Command → List (List ℕ) → Files → Type 0
 Promise (Fit image machine loops out inputs) (i ∷ m ∷ l ∷ given) after = StoredPromise (FitsAny i m l given) (IsFittedSafely i m l) (get after out)
 Promise (Loops image out) (i ∷ []) after = StoredPromise (Drafts i) (IsDraftedSafely i) (get after out)

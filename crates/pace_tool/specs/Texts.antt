@@ -73,10 +73,17 @@ fitted_text endings proposals f =
     ++ number_line (codes "least energy ") f.least_energy
     ++ switches_text proposals f.candidate
 
--- a drafted loop file: how many loops it has, of how many of them the bound is proved, how many have none, and how many parts of the code turn that are no loops
+-- whether returns are proved to go back
+abbrev pub returns_line : Bool → List ℕ
+returns_line true = codes "returns proved\n"
+returns_line false = codes "returns open\n"
+
+-- a drafted loop file: how many loops it has, of how many of them the bound is proved, how many have none, how many parts of the code turn that are no loops, and whether returns
+-- are proved
 abbrev pub drafted_text : LoopDraft → List ℕ
 drafted_text d =
     number_line (codes "loops ") d.loops
     ++ number_line (codes "proved ") d.proved
     ++ number_line (codes "open ") d.unbounded
     ++ number_line (codes "irreducible ") d.aside
+    ++ returns_line d.returns

@@ -2,7 +2,7 @@
 
 ghost use Rattle.std.specs.Prelude.{◌≡◌, ◌+◌, ◌++◌, ◌≤◌, length, IfOk, OnOk, Some, string_bytes};
 ghost use Rattle.scale_report.specs.Texts.{number_line, numbered_lines};
-ghost use Rattle.pace_tool.specs.Texts.{drafted_text, fitted_text, form_name, left_line, left_line_if, proposal_lines, rewrite_line, switch_line, switch_lines, switches_text, tally_line, tally_lines};
+ghost use Rattle.pace_tool.specs.Texts.{drafted_text, fitted_text, form_name, left_line, left_line_if, proposal_lines, returns_line, rewrite_line, switch_line, switch_lines, switches_text, tally_line, tally_lines};
 
 use loop_drafts::LoopDraft;
 use pace_fit::{Ending, Fitted, is_counted};
@@ -195,8 +195,19 @@ pub fn fitted_text(
     Ok(text)
 }
 
-/// The numbers of a draft: how many loops it has, of how many of them the bound is proved, how many have no bound, and how many parts of the code turn that
-/// are no loops.
+// Adds the line that tells whether returns are proved to go back.
+fn push_returns(text: &mut String, returns: bool) -> Result<(), AllocError>
+    ensures { OnOk result (string_bytes text.new ≡ string_bytes text.old ++ returns_line returns) }
+{
+    if returns {
+        text.push_str("returns proved\n")
+    } else {
+        text.push_str("returns open\n")
+    }
+}
+
+/// What is told of a draft: how many loops it has, of how many of them the bound is proved, how many have no bound, how many parts of the code turn that are no
+/// loops, and whether returns are proved to go back.
 pub fn drafted_text(alloc: Global, draft: &LoopDraft) -> Result<String, NoMemory>
     ensures { IfOk result (λ text. string_bytes text ≡ drafted_text draft.now) }
 {
@@ -205,5 +216,6 @@ pub fn drafted_text(alloc: Global, draft: &LoopDraft) -> Result<String, NoMemory
     push_size(&mut text, "proved ", draft.proved)?;
     push_size(&mut text, "open ", draft.unbounded)?;
     push_size(&mut text, "irreducible ", draft.aside)?;
+    push_returns(&mut text, draft.returns)?;
     Ok(text)
 }

@@ -63,8 +63,8 @@ pub fn shorter(a: Option<Arc>, b: Option<Arc>) -> Option<Arc> {
     }
 }
 
-// How far a word is behind another, modulo 2^32.
-fn ahead(low: u64, value: u64) -> u64
+/// How far a word is behind another, modulo 2^32.
+pub fn ahead(low: u64, value: u64) -> u64
     ensures { result < 2 ^ 32 }
 {
     (value % WORDS + (WORDS - low % WORDS)) % WORDS

@@ -1,39 +1,109 @@
-//! A table of values of a program.
+//! Tables of a program.
 
 use crate::calling::{calm_functions, calm_nodes};
-use crate::growing::Growth;
+use crate::growing::{Growth, no_thresholds};
 use crate::narrowing::narrow;
 use crate::orders::{leaving_order, places_of};
 use crate::program::{Program, read_program};
-use crate::rows::unknown;
+use crate::rows::{copy_of, unknown};
+use crate::sparing::{kept_place, spare};
+use crate::states::{State, no_words};
+use crate::tables::{Row, Tables};
+use crate::thresholds::Threshold;
 use elf_image::ImageView;
 use flow_graph::CodeGraph;
 use scale_base::NoMemory;
+use stack_checks::StackTable;
 use std::alloc::Global;
 use value_checks::ValueTable;
 
-/// How often rows are narrowed.
+/// How often intervals are narrowed.
 const NARROWED: usize = 2;
 
-// A table that says nothing.
-fn blank_table(
+// Tables that say nothing.
+fn blank_tables(
     alloc: Global,
     nodes: usize,
     functions: usize,
     calm: Vec<[bool; 32]>,
-) -> Result<ValueTable, NoMemory> {
-    Ok(ValueTable {
-        live: vec![in alloc; true; nodes]?,
-        rows: vec![in alloc; unknown(); nodes]?,
-        exits: vec![in alloc; unknown(); functions]?,
-        calm,
+) -> Result<Tables, NoMemory> {
+    Ok(Tables {
+        values: ValueTable {
+            live: vec![in alloc; true; nodes]?,
+            rows: vec![in alloc; unknown(); nodes]?,
+            exits: vec![in alloc; unknown(); functions]?,
+            calm,
+        },
+        stack: StackTable {
+            names: vec![in alloc; [None; 32]; nodes]?,
+            spans: vec![in alloc; unknown(); nodes]?,
+            words: no_words(alloc, nodes)?,
+            begins: vec![in alloc; None; functions]?,
+            restored: vec![in alloc; [false; 32]; functions]?,
+            place: None,
+            spared: vec![in alloc; false; nodes]?,
+        },
+    })
+}
+
+// By function, what is known at its returns.
+fn exits_of(alloc: Global, growth: &Growth<'_>) -> Result<Vec<Row>, NoMemory> {
+    let mut exits = Vec::new(alloc);
+    for known in &growth.known {
+        exits.push(copy_of(&known.exit))?;
+    }
+    Ok(exits)
+}
+
+// By node, whether its function spares the words of those that wait.
+fn spared_nodes(alloc: Global, growth: &Growth<'_>) -> Result<Vec<bool>, NoMemory> {
+    let mut spared = Vec::new(alloc);
+    for node in &growth.program.nodes {
+        let known = growth.known.get(node.function);
+        spared.push(known.is_some_and(|known| known.sparing))?;
+    }
+    Ok(spared)
+}
+
+// The tables that have grown.
+fn tables_of(alloc: Global, growth: Growth<'_>, calm: Vec<[bool; 32]>) -> Result<Tables, NoMemory> {
+    let place = kept_place(&growth);
+    let exits = exits_of(alloc, &growth)?;
+    let mut begins = Vec::new(alloc);
+    let mut restored = Vec::new(alloc);
+    for known in &growth.known {
+        begins.push(known.begins)?;
+        restored.push(known.restored)?;
+    }
+    let spared = if place.is_some() {
+        spared_nodes(alloc, &growth)?
+    } else {
+        vec![in alloc; false; growth.live.len()]?
+    };
+    let states = growth.states;
+    Ok(Tables {
+        values: ValueTable {
+            live: growth.live,
+            rows: states.rows,
+            exits,
+            calm,
+        },
+        stack: StackTable {
+            names: states.names,
+            spans: states.spans,
+            words: states.words,
+            begins,
+            restored,
+            place,
+            spared,
+        },
     })
 }
 
 // Has each function come back: behind the call of one of which no state comes back, any row will do.
 fn return_all(growth: &mut Growth<'_>) {
-    for returned in growth.returned.iter_mut() {
-        *returned = true;
+    for known in growth.known.iter_mut() {
+        known.returned = true;
     }
 }
 
@@ -47,32 +117,46 @@ fn wait_for_all(growth: &mut Growth<'_>) -> Result<(), NoMemory> {
     Ok(())
 }
 
-// Grows, narrows and grows again until all rows hold what flows to them. Whether it came so far.
-fn find_rows(alloc: Global, growth: &mut Growth<'_>) -> Result<bool, NoMemory> {
-    growth.begin()?;
-    if !growth.settle()? {
+// Grows, narrows and grows again until all that is known holds what flows there. Whether it came so far.
+fn find_states(
+    alloc: Global,
+    growth: &mut Growth<'_>,
+    state: &mut State,
+) -> Result<bool, NoMemory> {
+    growth.begin(state)?;
+    if !growth.settle(state)? {
         return Ok(false);
     }
-    narrow(alloc, growth, NARROWED)?;
+    narrow(alloc, growth, state, NARROWED)?;
     return_all(growth);
     wait_for_all(growth)?;
-    growth.settle()
+    if !growth.settle(state)? {
+        return Ok(false);
+    }
+    spare(growth, state)
 }
 
-/// Intervals of the registers at each node of a program.
-pub fn analyse(
+// A growth in which nothing is known.
+fn new_growth<'a>(
     alloc: Global,
-    view: &ImageView<'_>,
-    graph: &CodeGraph,
-) -> Result<ValueTable, NoMemory> {
+    program: &'a Program,
+    thresholds: Vec<Vec<Threshold>>,
+) -> Result<Growth<'a>, NoMemory> {
+    let order = leaving_order(alloc, program)?;
+    let places = places_of(alloc, &order, program.nodes.len())?;
+    Growth::new(alloc, program, thresholds, order, places)
+}
+
+/// Tables of a program. Where it is too large, they say nothing.
+pub fn analyse(alloc: Global, view: &ImageView<'_>, graph: &CodeGraph) -> Result<Tables, NoMemory> {
     let program: Program = read_program(alloc, view, graph)?;
     let calm = calm_functions(alloc, graph, &program)?;
     let flags = calm_nodes(alloc, &program, &calm)?;
-    let order = leaving_order(alloc, &program)?;
-    let places = places_of(alloc, &order, program.nodes.len())?;
-    let mut growth = Growth::new(alloc, &program, calm, order, places)?;
-    if !find_rows(alloc, &mut growth)? {
-        return blank_table(alloc, program.nodes.len(), program.entries.len(), flags);
+    let thresholds = no_thresholds(alloc, program.entries.len())?;
+    let mut growth = new_growth(alloc, &program, thresholds)?;
+    let mut state = State::blank();
+    if !find_states(alloc, &mut growth, &mut state)? {
+        return blank_tables(alloc, program.nodes.len(), program.entries.len(), flags);
     }
-    Ok(growth.into_table(flags))
+    tables_of(alloc, growth, flags)
 }

@@ -1,68 +1,96 @@
-//! The growing part of the analysis: rows grow until each holds what flows to it.
+//! The growing part of the analysis: what is known at nodes weakens until it holds all that flows to them.
 
 ghost use Rattle.std.specs.Prelude.{◌<◌};
 
-use crate::arcs::{holds, joined, widened};
+use crate::apart::raised;
+use crate::arcs::holds;
+use crate::calls::{CallSite, Callee, come_back, enter};
+use crate::joining::{Change, Counts, Pace, grow_arc, grow_plain_row, word_key};
+use crate::names::{begun_name, begun_names, name_of};
+use crate::passing::{Step, pass};
 use crate::program::{Node, Program};
-use crate::rows::{copy_of, passed_row, put_row, row_behind, starting_row, unknown, zeros};
+use crate::rows::{put_row, starting_row, unknown, zeros};
+use crate::states::{Seen, State, States, WORD_COUNT};
+use crate::stores::arc_of;
 use crate::tables::Row;
 use crate::thresholds::{Threshold, add_ends};
 use crate::ways::{Way, WayKind};
 use scale_base::{Instr, NoMemory};
+use stack_checks::Name;
 use std::alloc::Global;
 use std::collections::BinaryHeap;
-use value_checks::ValueTable;
-use wrapped_intervals::{Arc, word};
+use wrapped_intervals::Arc;
 
-/// How often an interval grows before it is widened, before it is widened to thresholds of its register alone, and before it is widened to all words.
-const WIDENED_FROM: u8 = 3;
-
-const OWN_FROM: u8 = 20;
-
-const ALL_FROM: u8 = 60;
-
-/// And how often it grows where no way back ends, before it is all words.
-const MOST_JOINS: u8 = 100;
-
-/// How a row grows.
-#[derive(Clone, Copy, PartialEq, Eq)]
-pub enum Pace {
-    /// By what flows to it alone.
-    Joined,
-    /// To thresholds, at the end of a way back.
-    Widened,
-    /// Nothing is kept of what grows: there is no time for more.
-    Hasty,
+/// What is known of a function: the row at its returns, whether a state is there, the registers that it gives back, whether it stores nothing to the
+/// words of functions that wait, what x2 has when it begins, how often that has grown, and the number of the first of its words that calls may store to.
+#[derive(Clone, Copy)]
+pub struct Known {
+    pub exit: Row,
+    pub returned: bool,
+    pub restored: [bool; 32],
+    pub sparing: bool,
+    pub begun: bool,
+    pub begins: Option<Arc>,
+    begin_count: u8,
+    pub limit: usize,
 }
 
-/// A table that grows.
+impl Known {
+    // The best that can be said, where nothing has come to the function.
+    fn best() -> Known {
+        Known {
+            exit: zeros(),
+            returned: false,
+            restored: [true; 32],
+            sparing: true,
+            begun: false,
+            begins: None,
+            begin_count: 0,
+            limit: WORD_COUNT,
+        }
+    }
+
+    fn begins(&self) -> Option<Arc> {
+        self.begins
+    }
+
+    // Lets what x2 has when the function begins grow. Whether it did.
+    fn grow_begins(&mut self, arc: &Option<Arc>, pace: Pace) -> bool {
+        if holds(self.begins(), *arc) {
+            return false;
+        }
+        let count = self.begin_count;
+        self.begin_count = count.saturating_add(1);
+        self.begins = grow_arc(self.begins(), *arc, pace, count);
+        true
+    }
+}
+
+/// Tables that grow.
 #[derive(Drop)]
 pub struct Growth<'a> {
     pub program: &'a Program,
-    /// By node and by function, as in a table of values.
+    /// By node.
     pub live: Vec<bool>,
-    pub rows: Vec<Row>,
-    pub exits: Vec<Row>,
-    /// By function, whether a state is at its returns.
-    pub returned: Vec<bool>,
-    /// By function and register, whether the register is left.
-    pub calm: Vec<[bool; 32]>,
+    pub states: States,
+    /// By function.
+    pub known: Vec<Known>,
     /// By node, its place in the order in which nodes are left, and by place the node.
     pub places: Vec<usize>,
     pub order: Vec<usize>,
     /// By node.
     counts: Vec<Counts>,
-    thresholds: Vec<Vec<Threshold>>,
+    pub thresholds: Vec<Vec<Threshold>>,
     /// The places of the nodes that wait, and by node whether it does.
     queue: BinaryHeap<usize>,
     waits: Vec<bool>,
-    /// How many rows have flowed, and from how many on there is haste.
+    /// How many states have flowed, and from how many on there is haste.
     flowed: usize,
     haste: usize,
 }
 
-// No thresholds yet, by function.
-fn no_thresholds(alloc: Global, count: usize) -> Result<Vec<Vec<Threshold>>, NoMemory> {
+/// No thresholds yet, by function.
+pub fn no_thresholds(alloc: Global, count: usize) -> Result<Vec<Vec<Threshold>>, NoMemory> {
     let mut thresholds = Vec::new(alloc);
     for _ in 0..count {
         thresholds.push(Vec::new(alloc))?;
@@ -70,131 +98,35 @@ fn no_thresholds(alloc: Global, count: usize) -> Result<Vec<Vec<Threshold>>, NoM
     Ok(thresholds)
 }
 
-/// How often the intervals of a row have grown, by register: at the ends of ways back, and at those of others.
-#[derive(Clone, Copy)]
-struct Counts {
-    back: [u8; 32],
-    ahead: [u8; 32],
-}
-
-impl Counts {
-    // None has grown yet.
-    fn none() -> Counts {
-        Counts {
-            back: [0; 32],
-            ahead: [0; 32],
-        }
-    }
-
-    // How often an interval has grown at such a pace, and that it does once more.
-    fn count(&mut self, pace: Pace, r: u8) -> u8
-        requires { r < 32 }
-    {
-        let counts = match pace {
-            Pace::Widened => &mut self.back,
-            Pace::Joined | Pace::Hasty => &mut self.ahead,
-        };
-        let k = usize::from(r);
-        let count = counts[k];
-        counts[k] = count.saturating_add(1);
-        count
-    }
-}
-
-// An interval that has grown so often, at the end of a way back.
-fn widened_by(old: Arc, both: Arc, count: u8, r: u8, thresholds: &[Threshold]) -> Option<Arc> {
-    if count < WIDENED_FROM {
-        Some(both)
-    } else if count < ALL_FROM {
-        widened(old, both, r, count < OWN_FROM, thresholds)
-    } else {
-        word()
-    }
-}
-
-// What an interval grows to that has grown so often.
-fn grown(
-    old: Option<Arc>,
-    new: Option<Arc>,
-    pace: Pace,
-    count: u8,
-    r: u8,
-    thresholds: &[Threshold],
-) -> Option<Arc> {
-    let (before, both) = (old?, joined(old, new)?);
-    match pace {
-        Pace::Joined => {
-            if count < MOST_JOINS {
-                Some(both)
-            } else {
-                word()
-            }
-        }
-        Pace::Widened => widened_by(before, both, count, r, thresholds),
-        Pace::Hasty => None,
-    }
-}
-
-// Lets a row grow by another. Whether it did.
-fn grow_row(
-    row: &mut Row,
-    other: &Row,
-    pace: Pace,
-    counts: &mut Counts,
-    thresholds: &[Threshold],
-) -> bool {
-    let mut has_grown = false;
-    for r in 1..32 {
-        let k = usize::from(r);
-        if !holds(row[k], other[k]) {
-            let count = counts.count(pace, r);
-            row[k] = grown(row[k], other[k], pace, count, r, thresholds);
-            has_grown = true;
-        }
-    }
-    has_grown
-}
-
 impl<'a> Growth<'a> {
-    /// A table in which no state is anywhere.
+    /// Tables in which no state is anywhere.
     pub fn new(
         alloc: Global,
         program: &'a Program,
-        calm: Vec<[bool; 32]>,
+        thresholds: Vec<Vec<Threshold>>,
         order: Vec<usize>,
         places: Vec<usize>,
     ) -> Result<Growth<'a>, NoMemory> {
         let nodes = program.nodes.len();
-        let functions = program.entries.len();
         Ok(Growth {
             program,
             live: vec![in alloc; false; nodes]?,
-            rows: vec![in alloc; zeros(); nodes]?,
-            exits: vec![in alloc; zeros(); functions]?,
-            returned: vec![in alloc; false; functions]?,
-            calm,
+            states: States::new(alloc, nodes)?,
+            known: vec![in alloc; Known::best(); program.entries.len()]?,
             places,
             order,
             counts: vec![in alloc; Counts::none(); nodes]?,
-            thresholds: no_thresholds(alloc, functions)?,
+            thresholds,
             queue: BinaryHeap::new(alloc),
             waits: vec![in alloc; false; nodes]?,
             flowed: 0,
-            haste: nodes.saturating_mul(40).saturating_add(100_000),
+            haste: nodes.saturating_mul(60).saturating_add(100_000),
         })
     }
 
     /// Whether a state may be at a node.
     pub fn is_live(&self, k: usize) -> bool {
         self.live.get(k).copied().unwrap_or(false)
-    }
-
-    /// The row of a node.
-    pub fn row(&self, k: usize) -> Row {
-        match self.rows.get(k) {
-            Some(row) => copy_of(row),
-            None => unknown(),
-        }
     }
 
     /// The place of a node in the order.
@@ -212,38 +144,79 @@ impl<'a> Growth<'a> {
         Ok(())
     }
 
-    // What an instruction leaves on a way, if a state goes there.
-    fn pass(&self, from: Node, way: &Way) -> Option<Row> {
-        let next = self.program.node(way.to)?;
-        passed_row(from.instr, from.at, next.at, self.rows.get(way.from)?)
+    /// What x2 has when a function begins.
+    pub fn begins(&self, f: usize) -> Option<Arc> {
+        self.known.get(f).and_then(|known| known.begins)
     }
 
-    /// What flows over a way, if a state goes there.
-    pub fn flow(&self, way: &Way) -> Option<Row> {
-        if !self.is_live(way.from) {
+    /// A call at a node.
+    pub fn site(&self, node: &Node, k: usize) -> Option<CallSite<'_>> {
+        let known = self.known.get(node.function)?;
+        Some(CallSite {
+            instr: node.instr,
+            from: self.states.seen(k)?,
+            begins: known.begins,
+            limit: known.limit,
+        })
+    }
+
+    /// What is known of a function that is called, if it comes back.
+    pub fn callee(&self, f: usize) -> Option<Callee<'_>> {
+        let known = self.known.get(f)?;
+        if !known.returned {
             return None;
         }
-        let from = self.program.node(way.from)?;
+        Some(Callee {
+            exit: &known.exit,
+            restored: &known.restored,
+            sparing: known.sparing,
+        })
+    }
+
+    // The step of a way.
+    fn step(&self, node: &Node, way: &Way) -> Option<Step> {
+        Some(Step {
+            instr: node.instr,
+            at: node.at,
+            next: self.program.node(way.to)?.at,
+        })
+    }
+
+    fn flow_by_step(&self, node: &Node, way: &Way, to: &mut State) -> bool {
+        let (Some(step), Some(seen)) = (self.step(node, way), self.states.seen(way.from)) else {
+            return false;
+        };
+        pass(step, seen, self.begins(node.function), to)
+    }
+
+    fn flow_by_call(&self, node: &Node, way: &Way, to: &mut State) -> bool {
+        let (Some(step), Some(seen)) = (self.step(node, way), self.states.seen(way.from)) else {
+            return false;
+        };
+        enter(step, seen, to)
+    }
+
+    fn flow_back(&self, node: &Node, way: &Way, f: usize, to: &mut State) -> bool {
+        let (Some(site), Some(callee)) = (self.site(node, way.from), self.callee(f)) else {
+            return false;
+        };
+        come_back(&site, &callee, to);
+        true
+    }
+
+    /// What flows over a way. Whether a state goes there.
+    pub fn flow(&self, way: &Way, to: &mut State) -> bool {
+        if !self.is_live(way.from) {
+            return false;
+        }
+        let Some(node) = self.program.node(way.from) else {
+            return false;
+        };
         match way.kind {
-            WayKind::Step => self.pass(from, way),
-            WayKind::Call(_) => {
-                // From where a function is called is of no account.
-                let mut row = self.pass(from, way)?;
-                row[1] = word();
-                Some(row)
-            }
-            WayKind::Back(f) => {
-                if !self.returned.get(f).copied()? {
-                    return None;
-                }
-                Some(row_behind(
-                    from.instr,
-                    self.rows.get(way.from)?,
-                    self.exits.get(f)?,
-                    self.calm.get(f)?,
-                ))
-            }
-            WayKind::Return(_) | WayKind::End => None,
+            WayKind::Step => self.flow_by_step(&node, way, to),
+            WayKind::Call(_) => self.flow_by_call(&node, way, to),
+            WayKind::Back(f) => self.flow_back(&node, way, f, to),
+            WayKind::Return(_) | WayKind::End => false,
         }
     }
 
@@ -255,7 +228,7 @@ impl<'a> Growth<'a> {
         }
     }
 
-    // How the row at the end of a way grows.
+    // How what is known at the end of a way grows.
     fn pace(&self, way: &Way) -> Pace {
         if self.flowed >= self.haste {
             Pace::Hasty
@@ -266,69 +239,49 @@ impl<'a> Growth<'a> {
         }
     }
 
-    // Lets the row of a node grow. Whether it did.
-    fn grow_node(&mut self, k: usize, row: &Row, pace: Pace) -> bool {
-        let Some(node) = self.program.node(k) else {
-            return false;
+    // Lets what is known at a node grow.
+    fn grow_node(&mut self, k: usize, state: &State, pace: Pace) -> Result<Change, NoMemory> {
+        let none = Change {
+            grown: false,
+            dropped: false,
         };
-        if k >= self.rows.len() || k >= self.counts.len() || k >= self.live.len() {
-            return false;
+        let Some(node) = self.program.node(k) else {
+            return Ok(none);
+        };
+        if k >= self.counts.len() || k >= self.live.len() {
+            return Ok(none);
         }
         if !self.live[k] {
             self.live[k] = true;
-            put_row(&mut self.rows[k], row);
-            return true;
+            let begins = self.begins(node.function);
+            self.states.put(k, state, &begins)?;
+            return Ok(Change {
+                grown: true,
+                dropped: false,
+            });
         }
-        if node.function >= self.thresholds.len() {
-            return false;
+        let f = node.function;
+        if f >= self.thresholds.len() {
+            return Ok(none);
         }
-        grow_row(
-            &mut self.rows[k],
-            row,
-            pace,
-            &mut self.counts[k],
-            &self.thresholds[node.function],
+        let begins = self.begins(f);
+        let counts = &mut self.counts[k];
+        Ok(
+            self.states
+                .grow(k, state, &begins, pace, counts, &self.thresholds[f]),
         )
     }
 
-    // Brings a row to the end of a way.
-    fn bring(&mut self, way: &Way, row: &Row) -> Result<(), NoMemory> {
-        self.flowed = self.flowed.saturating_add(1);
-        let pace = self.pace(way);
-        if self.grow_node(way.to, row, pace) {
-            self.wait_for(way.to)?;
-        }
-        Ok(())
-    }
-
-    // Lets the row at a function's returns grow. Whether it did.
-    fn grow_exit(&mut self, f: usize, row: &Row) -> bool {
-        if f >= self.exits.len() || f >= self.returned.len() {
-            return false;
-        }
-        if !self.returned[f] {
-            self.returned[f] = true;
-            put_row(&mut self.exits[f], row);
-            return true;
-        }
-        let pace = if self.flowed >= self.haste {
-            Pace::Hasty
-        } else {
-            Pace::Joined
-        };
-        grow_row(&mut self.exits[f], row, pace, &mut Counts::none(), &[])
-    }
-
-    // Has the calls of a function looked at again.
-    fn wait_for_calls(&mut self, f: usize) -> Result<(), NoMemory> {
+    // Has all from which a state comes to a node looked at again.
+    fn wait_for_sources(&mut self, k: usize) -> Result<(), NoMemory> {
         let program = self.program;
-        let mut next = program.entry(f).and_then(|k| program.last_way_to(k));
+        let mut next = program.last_way_to(k);
         for _ in 0..program.ways.len() {
             let Some(way) = next.and_then(|w| program.way(w)) else {
                 break;
             };
             self.flowed = self.flowed.saturating_add(1);
-            if matches!(way.kind, WayKind::Call(_)) && self.is_live(way.from) {
+            if self.is_live(way.from) {
                 self.wait_for(way.from)?;
             }
             next = way.beside;
@@ -336,22 +289,160 @@ impl<'a> Growth<'a> {
         Ok(())
     }
 
-    // Looks at a way.
-    fn look_at_way(&mut self, way: &Way) -> Result<(), NoMemory> {
-        if let WayKind::Return(f) = way.kind {
-            let row = self.row(way.from);
-            if self.grow_exit(f, &row) {
-                self.wait_for_calls(f)?;
+    // Brings a state to the end of a way.
+    fn bring(&mut self, way: &Way, state: &State) -> Result<(), NoMemory> {
+        self.flowed = self.flowed.saturating_add(1);
+        let pace = self.pace(way);
+        let change = self.grow_node(way.to, state, pace)?;
+        if change.grown {
+            self.wait_for(way.to)?;
+        }
+        if change.dropped {
+            self.wait_for_sources(way.to)?;
+        }
+        Ok(())
+    }
+
+    /// Has the nodes of a function looked at again.
+    pub fn wait_for_members(&mut self, f: usize) -> Result<(), NoMemory> {
+        let program = self.program;
+        let mut next = program.last_member_of(f);
+        for _ in 0..program.nodes.len() {
+            let Some(k) = next else {
+                break;
+            };
+            if self.is_live(k) {
+                self.wait_for(k)?;
             }
-        } else if let Some(row) = self.flow(way) {
-            self.bring(way, &row)?;
+            next = program.member_beside(k);
+        }
+        Ok(())
+    }
+
+    /// Has the calls of a function looked at again.
+    pub fn wait_for_calls(&mut self, f: usize) -> Result<(), NoMemory> {
+        if let Some(k) = self.program.entry(f) {
+            self.wait_for_sources(k)?;
+        }
+        Ok(())
+    }
+
+    // Lets what x2 has when a function begins grow. Whether it did.
+    fn grow_begins(&mut self, f: usize, arc: &Option<Arc>, pace: Pace) -> bool {
+        if f >= self.known.len() {
+            return false;
+        }
+        let known = &mut self.known[f];
+        if !known.begun {
+            known.begun = true;
+            known.begins = *arc;
+            return true;
+        }
+        known.grow_begins(arc, pace)
+    }
+
+    // Lets the row at a function's returns grow. Whether it did.
+    fn grow_exit(&mut self, f: usize, row: &Row) -> bool {
+        let pace = if self.flowed >= self.haste {
+            Pace::Hasty
+        } else {
+            Pace::Joined
+        };
+        if f >= self.known.len() {
+            return false;
+        }
+        let known = &mut self.known[f];
+        if !known.returned {
+            known.returned = true;
+            put_row(&mut known.exit, row);
+            return true;
+        }
+        grow_plain_row(&mut known.exit, row, pace)
+    }
+
+    // Takes back what a function doesn't restore. Whether there was any.
+    fn take_back(&mut self, f: usize, names: &[Option<Name>; 32]) -> bool {
+        if f >= self.known.len() {
+            return false;
+        }
+        let known = &mut self.known[f];
+        let mut taken = false;
+        for r in 1..32u8 {
+            let k = usize::from(r);
+            if known.restored[k] && names[k] != begun_name(r) {
+                known.restored[k] = false;
+                taken = true;
+            }
+        }
+        taken
+    }
+
+    // Looks at a return.
+    fn look_at_return(&mut self, k: usize, f: usize) -> Result<(), NoMemory> {
+        let mut row = zeros();
+        let mut names = [None; 32];
+        let Some(seen) = self.states.seen(k) else {
+            return Ok(());
+        };
+        put_row(&mut row, seen.row);
+        for r in 0..32 {
+            names[r] = seen.names[r];
+        }
+        if self.grow_exit(f, &row) | self.take_back(f, &names) {
+            self.wait_for_calls(f)?;
+        }
+        Ok(())
+    }
+
+    // Looks at a call.
+    fn look_at_call(&mut self, way: &Way, f: usize) -> Result<(), NoMemory> {
+        let Some(seen) = self.states.seen(way.from) else {
+            return Ok(());
+        };
+        let arc = arc_of(seen.row, 2);
+        let pace = self.pace(way);
+        if self.grow_begins(f, &arc, pace) {
+            self.wait_for_members(f)?;
+        }
+        Ok(())
+    }
+
+    // Looks at a way.
+    fn look_at_way(&mut self, way: &Way, state: &mut State) -> Result<(), NoMemory> {
+        match way.kind {
+            WayKind::Return(f) => return self.look_at_return(way.from, f),
+            WayKind::Call(f) => self.look_at_call(way, f)?,
+            _ => {}
+        }
+        if self.flow(way, state) {
+            self.bring(way, state)?;
+        }
+        Ok(())
+    }
+
+    // Takes the ends of an interval with which a register is compared as thresholds, of the register and of the word from which its value comes.
+    fn note_ends(
+        &mut self,
+        f: usize,
+        register: u8,
+        name: Option<Name>,
+        other: &Option<Arc>,
+    ) -> Result<(), NoMemory> {
+        if f >= self.thresholds.len() {
+            return Ok(());
+        }
+        let thresholds = &mut self.thresholds[f];
+        add_ends(thresholds, register, *other)?;
+        if let Some(Name::OfWord(k, more)) = name {
+            let key = word_key(k as usize);
+            add_ends(thresholds, key, raised(*other, more.wrapping_neg()))?;
         }
         Ok(())
     }
 
     // Takes the numbers with which a branch compares registers as thresholds.
     fn note_comparison(&mut self, k: usize) -> Result<(), NoMemory> {
-        let Some(node) = self.program.node(k) else {
+        let (Some(node), Some(seen)) = (self.program.node(k), self.states.seen(k)) else {
             return Ok(());
         };
         if let Instr::Branch {
@@ -361,18 +452,16 @@ impl<'a> Growth<'a> {
             offset: _,
         } = node.instr
         {
-            let row = self.row(k);
-            if node.function < self.thresholds.len() {
-                let thresholds = &mut self.thresholds[node.function];
-                add_ends(thresholds, rs1, row_arc(&row, rs2))?;
-                add_ends(thresholds, rs2, row_arc(&row, rs1))?;
-            }
+            let (first, second) = (arc_of(seen.row, rs1), arc_of(seen.row, rs2));
+            let (one, other) = (name_of(seen.names, rs1), name_of(seen.names, rs2));
+            self.note_ends(node.function, rs1, one, &second)?;
+            self.note_ends(node.function, rs2, other, &first)?;
         }
         Ok(())
     }
 
     // Looks at the ways of a node.
-    fn look_at(&mut self, k: usize) -> Result<(), NoMemory> {
+    fn look_at(&mut self, k: usize, state: &mut State) -> Result<(), NoMemory> {
         if k < self.waits.len() {
             self.waits[k] = false;
         }
@@ -381,7 +470,7 @@ impl<'a> Growth<'a> {
         if let Some(node) = program.node(k) {
             for w in node.first..node.end {
                 if let Some(way) = program.way(w) {
-                    self.look_at_way(&way)?;
+                    self.look_at_way(&way, state)?;
                 }
             }
         }
@@ -389,46 +478,41 @@ impl<'a> Growth<'a> {
     }
 
     /// Lets a state begin at the start of the program.
-    pub fn begin(&mut self) -> Result<(), NoMemory> {
+    pub fn begin(&mut self, state: &mut State) -> Result<(), NoMemory> {
         let start = self.program.start();
-        let row = starting_row();
-        if self.grow_node(start, &row, Pace::Joined) {
+        starting_state(state);
+        let Some(node) = self.program.node(start) else {
+            return Ok(());
+        };
+        if self.grow_begins(node.function, &state.row[2], Pace::Joined) {
+            self.wait_for_members(node.function)?;
+        }
+        let change = self.grow_node(start, state, Pace::Joined)?;
+        if change.grown {
             self.wait_for(start)?;
         }
         Ok(())
     }
 
     /// Looks at the nodes that wait until none does. Whether it came so far: what takes too long ends.
-    pub fn settle(&mut self) -> Result<bool, NoMemory> {
+    pub fn settle(&mut self, state: &mut State) -> Result<bool, NoMemory> {
         let most = self.haste.saturating_mul(4);
         for _ in 0..most {
             let Some(place) = self.queue.pop() else {
                 return Ok(true);
             };
             if let Some(k) = self.order.get(place).copied() {
-                self.look_at(k)?;
+                self.look_at(k, state)?;
             }
         }
         Ok(self.queue.is_empty())
     }
 }
 
-// The interval of a register. x0 is 0, and has no thresholds.
-fn row_arc(row: &Row, r: u8) -> Option<Arc> {
-    if r == 0 {
-        return Some(Arc::strided(0, 0, 0));
-    }
-    row.get(usize::from(r)).copied().flatten()
-}
-
-impl Growth<'_> {
-    /// The table of values that has grown.
-    pub fn into_table(self, calm: Vec<[bool; 32]>) -> ValueTable {
-        ValueTable {
-            live: self.live,
-            rows: self.rows,
-            exits: self.exits,
-            calm,
-        }
-    }
+/// The state at the start of a run.
+pub fn starting_state(state: &mut State) {
+    state.row = starting_row();
+    state.names = begun_names();
+    state.spans = unknown();
+    state.forget_words();
 }

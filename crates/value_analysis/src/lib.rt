@@ -1,22 +1,28 @@
-//! Intervals of the registers at each node of a program, and certificates of its loops: proposals, which `value_checks` accepts or refuses.
-//! Nothing is promised of them. The fixpoint is that of an interval analysis with widening and narrowing (Cousot and Cousot, Static
-//! determination of dynamic properties of programs, 1976).
+//! Intervals of the registers and of words of the stack at each node of a program, where their values come from, and which registers
+//! functions give back: proposals, which `stack_checks` accepts or refuses. Nothing is promised of them. The fixpoint is that of an interval
+//! analysis with widening and narrowing (Cousot and Cousot, Static determination of dynamic properties of programs, 1976).
 //! Tests: crates/graph_tests/src/bounds.rt.
 #![tactic(auto)]
 
+mod apart;
 mod arcs;
 mod calling;
-mod certificates;
-mod counters;
+mod calls;
 mod finding;
 mod growing;
+mod joining;
+mod names;
 mod narrowing;
 mod orders;
+mod passing;
 mod program;
 mod rows;
+mod sparing;
+mod states;
+mod stores;
 mod tables;
 mod thresholds;
 mod ways;
 
-pub use certificates::find_certificate;
 pub use finding::analyse;
+pub use tables::Tables;

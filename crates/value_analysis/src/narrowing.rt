@@ -1,58 +1,132 @@
-//! The narrowing part of the analysis: rows shrink to what flows to them.
+//! The narrowing part of the analysis: intervals shrink to what flows to them.
 
-use crate::growing::Growth;
+ghost use Rattle.std.specs.Prelude.{◌<◌};
+
+use crate::arcs::{holds, joined, shorter};
+use crate::growing::{Growth, starting_state};
+use crate::joining::arc_at;
+use crate::names::Names;
 use crate::program::Program;
-use crate::rows::{copy_of, join_row, narrow_row, starting_row, zeros};
+use crate::rows::{join_row, narrow_row, put_row, unknown};
+use crate::states::{State, WORD_COUNT, flowing_arc};
 use crate::tables::Row;
 use crate::ways::WayKind;
 use scale_base::NoMemory;
+use stack_checks::Word;
 use std::alloc::Global;
+use wrapped_intervals::Arc;
 
-// Joins a row to those before it, if there were any.
-fn add_row(sum: Option<Row>, row: &Row) -> Row {
-    match sum {
-        Some(mut sum) => {
-            join_row(&mut sum, row);
-            sum
+// The intervals of all that flows to a node, if anything does.
+#[derive(Drop)]
+struct Gathered {
+    found: bool,
+    row: Row,
+    arcs: [Option<Arc>; 64],
+}
+
+// The intervals of what flows, by the names that are known where it flows to.
+fn named_row(state: &State, names: &Names, begins: &Option<Arc>) -> Row {
+    let mut row = unknown();
+    for r in 0..32 {
+        row[r] = shorter(state.row[r], flowing_arc(names[r], state, begins));
+    }
+    row
+}
+
+impl Gathered {
+    fn nothing() -> Gathered {
+        Gathered {
+            found: false,
+            row: unknown(),
+            arcs: [None; 64],
         }
-        None => copy_of(row),
+    }
+
+    fn arc(&self, k: usize) -> Option<Arc> {
+        self.arcs.get(k).copied().flatten()
+    }
+
+    // Takes the first of what flows.
+    fn put(&mut self, state: &State, row: &Row) {
+        self.found = true;
+        put_row(&mut self.row, row);
+        for k in 0..WORD_COUNT {
+            self.arcs[k] = state.word(k).arc;
+        }
+    }
+
+    // Takes one more.
+    fn add(&mut self, state: &State, names: &Names, begins: &Option<Arc>) {
+        let row = named_row(state, names, begins);
+        if !self.found {
+            self.put(state, &row);
+            return;
+        }
+        join_row(&mut self.row, &row);
+        for k in 0..WORD_COUNT {
+            if !holds(self.arc(k), state.word(k).arc) {
+                self.arcs[k] = joined(self.arc(k), state.word(k).arc);
+            }
+        }
     }
 }
 
 // All that flows to a node.
-fn gathered(growth: &Growth<'_>, k: usize) -> Option<Row> {
+fn gather(growth: &Growth<'_>, k: usize, state: &mut State) -> Gathered {
     let program: &Program = growth.program;
-    let mut sum = if k == program.start() {
-        Some(starting_row())
-    } else {
-        None
+    let mut sum = Gathered::nothing();
+    let begins = program
+        .node(k)
+        .and_then(|node| growth.begins(node.function));
+    let Some(seen) = growth.states.seen(k) else {
+        return sum;
     };
+    if k == program.start() {
+        starting_state(state);
+        sum.add(state, seen.names, &begins);
+    }
     let mut next = program.last_way_to(k);
     for _ in 0..program.ways.len() {
         let Some(way) = next.and_then(|w| program.way(w)) else {
             break;
         };
-        if let Some(row) = growth.flow(&way) {
-            sum = Some(add_row(sum, &row));
+        if growth.flow(&way, state) {
+            sum.add(state, seen.names, &begins);
         }
         next = way.beside;
     }
     sum
 }
 
-// Narrows the row of a node to what flows there.
-fn narrow_node(growth: &mut Growth<'_>, k: usize) {
-    let found = gathered(growth, k);
-    if k < growth.rows.len() && k < growth.live.len() && growth.live[k] {
-        match found {
-            Some(row) => {
-                let _narrower = narrow_row(&mut growth.rows[k], &row);
-            }
-            None => {
-                growth.live[k] = false;
-                growth.rows[k] = zeros();
+// Takes each interval that a word's holds.
+fn narrow_words(words: &mut [Word], sum: &Gathered) {
+    for k in 0..words.len() {
+        if k < WORD_COUNT {
+            if holds(arc_at(words, k), sum.arc(k)) && !holds(sum.arc(k), arc_at(words, k)) {
+                words[k].arc = sum.arc(k);
             }
         }
+    }
+}
+
+// Narrows what is known at a node to what flows there.
+fn narrow_node(growth: &mut Growth<'_>, k: usize, state: &mut State) {
+    if !growth.is_live(k) {
+        return;
+    }
+    let sum = gather(growth, k, state);
+    if !sum.found {
+        if k < growth.live.len() {
+            growth.live[k] = false;
+        }
+        growth.states.forget(k);
+        return;
+    }
+    if let Some(row) = growth.states.rows.get_mut(k) {
+        let _narrower = narrow_row(row, &sum.row);
+    }
+    if let Some(words) = growth.states.words.get_mut(k) {
+        narrow_words(words, &sum);
     }
 }
 
@@ -68,32 +142,38 @@ fn returns_to(growth: &Growth<'_>, k: usize) -> Option<usize> {
 // Joins a row to those at a function's returns.
 fn add_exit(exits: &mut [Option<Row>], f: usize, row: &Row) {
     if f < exits.len() {
-        let sum = exits[f].take();
-        exits[f] = Some(add_row(sum, row));
+        let mut sum = unknown();
+        put_row(&mut sum, row);
+        if let Some(before) = &exits[f] {
+            join_row(&mut sum, before);
+        }
+        exits[f] = Some(sum);
     }
 }
 
-// Narrows the row of a node, and joins it to those at the function's returns if it is at one.
-fn narrow_at(growth: &mut Growth<'_>, exits: &mut [Option<Row>], k: usize) {
-    narrow_node(growth, k);
+// Narrows what is known at a node, and joins it to those at the function's returns if it is at one.
+fn narrow_at(growth: &mut Growth<'_>, exits: &mut [Option<Row>], k: usize, state: &mut State) {
+    narrow_node(growth, k, state);
     if let (Some(f), true) = (returns_to(growth, k), growth.is_live(k)) {
-        add_exit(exits, f, &growth.row(k));
+        if let Some(row) = growth.states.rows.get(k) {
+            add_exit(exits, f, row);
+        }
     }
 }
 
 // Narrows the row at a function's returns.
 fn narrow_exit(growth: &mut Growth<'_>, f: usize, row: &Row) {
-    if f < growth.exits.len() {
-        let _narrower = narrow_row(&mut growth.exits[f], row);
+    if f < growth.known.len() {
+        let _narrower = narrow_row(&mut growth.known[f].exit, row);
     }
 }
 
-// Narrows all rows once, in the order in which states flow, and then those at returns.
-fn narrow_once(alloc: Global, growth: &mut Growth<'_>) -> Result<(), NoMemory> {
-    let mut exits: Vec<Option<Row>> = vec![in alloc; None; growth.exits.len()]?;
+// Narrows all intervals once, in the order in which states flow, and then those at returns.
+fn narrow_once(alloc: Global, growth: &mut Growth<'_>, state: &mut State) -> Result<(), NoMemory> {
+    let mut exits: Vec<Option<Row>> = vec![in alloc; None; growth.known.len()]?;
     for place in (0..growth.order.len()).rev() {
         if let Some(k) = growth.order.get(place).copied() {
-            narrow_at(growth, &mut exits, k);
+            narrow_at(growth, &mut exits, k, state);
         }
     }
     for (f, exit) in exits.iter().enumerate() {
@@ -104,10 +184,15 @@ fn narrow_once(alloc: Global, growth: &mut Growth<'_>) -> Result<(), NoMemory> {
     Ok(())
 }
 
-/// Narrows all rows, some times.
-pub fn narrow(alloc: Global, growth: &mut Growth<'_>, times: usize) -> Result<(), NoMemory> {
+/// Narrows all intervals, some times.
+pub fn narrow(
+    alloc: Global,
+    growth: &mut Growth<'_>,
+    state: &mut State,
+    times: usize,
+) -> Result<(), NoMemory> {
     for _ in 0..times {
-        narrow_once(alloc, growth)?;
+        narrow_once(alloc, growth, state)?;
     }
     Ok(())
 }

@@ -28,6 +28,9 @@ pub struct Program {
     pub ways: Vec<Way>,
     pub entered: Vec<Option<usize>>,
     pub entries: Vec<usize>,
+    /// By function, its last node, and by node the number of another one of its function.
+    pub members: Vec<Option<usize>>,
+    pub besides: Vec<Option<usize>>,
 }
 
 /// The instruction at an address. Where there is none, nothing goes on.
@@ -88,6 +91,24 @@ fn chain_ways(
     Ok(entered)
 }
 
+// By function its last node, and by node the one before of the same function.
+fn chain_members(
+    alloc: Global,
+    nodes: &[Node],
+    functions: usize,
+) -> Result<(Vec<Option<usize>>, Vec<Option<usize>>), NoMemory> {
+    let mut members = vec![in alloc; None; functions]?;
+    let mut besides = Vec::new(alloc);
+    for (k, node) in nodes.iter().enumerate() {
+        let f = node.function;
+        besides.push(members.get(f).copied().flatten())?;
+        if f < members.len() {
+            members[f] = Some(k);
+        }
+    }
+    Ok((members, besides))
+}
+
 /// The nodes and ways of a graph.
 pub fn read_program(
     alloc: Global,
@@ -98,11 +119,14 @@ pub fn read_program(
     let mut ways = ways_of(alloc, graph)?;
     let entered = chain_ways(alloc, &mut ways, nodes.len())?;
     let entries = entries_of(alloc, graph)?;
+    let (members, besides) = chain_members(alloc, &nodes, entries.len())?;
     Ok(Program {
         nodes,
         ways,
         entered,
         entries,
+        members,
+        besides,
     })
 }
 
@@ -120,6 +144,16 @@ impl Program {
     /// The number of the last way to a node.
     pub fn last_way_to(&self, k: usize) -> Option<usize> {
         self.entered.get(k).copied().flatten()
+    }
+
+    /// The last node of a function.
+    pub fn last_member_of(&self, f: usize) -> Option<usize> {
+        self.members.get(f).copied().flatten()
+    }
+
+    /// The node before of the same function.
+    pub fn member_beside(&self, k: usize) -> Option<usize> {
+        self.besides.get(k).copied().flatten()
     }
 
     /// The node at which a function begins.

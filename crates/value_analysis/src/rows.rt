@@ -84,17 +84,13 @@ pub fn passed_row(i: Instr, pc: u32, next: u32, from: &Row) -> Option<Row> {
     Some(to)
 }
 
-/// What the registers hold behind a call: what they held before, where the function that is called doesn't write them, or what they hold at its
-/// returns.
-pub fn row_behind(call: Instr, from: &Row, exit: &Row, calm: &[bool; 32]) -> Row {
-    let mut to = copy_of(exit);
-    for r in 1..32 {
-        let k = usize::from(r);
-        if calm[k] && keeps(r, call) {
-            to[k] = from[k];
-        }
+/// The interval of a register that an instruction leaves, on the way to an address.
+pub fn passed_word(i: Instr, pc: u32, next: u32, from: &Row, r: u8) -> Option<Arc> {
+    if r < 32 && are_kept(from) {
+        kept(passed(i, pc, next, from, r))
+    } else {
+        None
     }
-    to
 }
 
 /// Joins a row to another.

@@ -63,6 +63,20 @@ impl Arc {
         self.stride
     }
 
+    /// The least number.
+    pub fn least(&self) -> u64
+        requires { IsFound self.now }
+        ensures least { result ≡ values.least self.now }
+        ensures order { result ≤ values.top self.now }
+        ensures small { result < 2 ^ 32 }
+    {
+        if self.low + self.more < WORDS {
+            self.low
+        } else {
+            0
+        }
+    }
+
     /// The greatest number.
     pub fn top(&self) -> u64
         requires { IsFound self.now }
@@ -107,6 +121,17 @@ pub fn exactly(n: u64) -> Option<Arc>
     } else {
         None
     }
+}
+
+/// The numbers from one to another; one number has the stride 0.
+pub fn from_to(from: u64, to: u64) -> Option<Arc>
+    requires from { from ≤ 2 ^ 32 }
+    requires to { to ≤ 2 ^ 32 }
+    ensures numbers { result ≡ values.from_to from to }
+    ensures found { IsFoundOr result }
+{
+    let stride = if from == to { 0 } else { 1 };
+    Some(Arc::strided(from, to.saturating_sub(from), stride))
 }
 
 /// The greatest number that may be there.

@@ -1,13 +1,18 @@
 //! What instructions write.
 
-ghost use Rattle.std.specs.Prelude.{◌≡◌, ◌≤◌, ◌<◌, ◌^◌, length};
+ghost use Rattle.std.specs.Prelude.{◌≡◌, ◌≤◌, ◌<◌, ◌^◌, length, is_some, None, if◌then◌else◌};
 ghost use Rattle.std.specs.List.{All};
 ghost use Rattle.bound_laws.specs.Values as values;
 ghost use Rattle.scale_base.specs.Arith.{unsigned};
 ghost use Rattle.wrapped_intervals.specs.Small.{IsFoundOr, IsKeptOr, row};
 
 use crate::arcs::{Arc, WORDS, exactly, top_of, word};
-use crate::sums::{common_of, difference_of, plus, sum_of, sum_with, times};
+use crate::bits::{common_of, parted_of, united_of};
+use crate::quotients::{
+    lowered_by, lowered_of, power_of, product_of, quotient_of, remainder_of, signed_quotient_of,
+    signed_remainder_of, upper_product_of,
+};
+use crate::sums::{difference_of, plus, sum_of, sum_with, times};
 use scale_base::{ImmOp, Instr, LoadOp, RegOp};
 
 // 0 or 1.
@@ -18,12 +23,12 @@ fn truth() -> Option<Arc>
     Some(Arc::of(0, 1))
 }
 
-// Any word, where something is known of the operand.
-fn word_from(i: Option<Arc>) -> Option<Arc>
-    ensures any { result ≡ values.word_from i }
+// Any word, where the second operand is one.
+fn word_by(j: Option<Arc>) -> Option<Arc>
+    ensures any { result ≡ (if is_some j then values.word else None) }
     ensures found { IsFoundOr result }
 {
-    match i {
+    match j {
         Some(_) => word(),
         None => None,
     }
@@ -39,18 +44,21 @@ pub fn reg_arc(op: RegOp, i: Option<Arc>, j: Option<Arc>) -> Option<Arc>
     match op {
         RegOp::Add => sum_of(i, j),
         RegOp::Sub => difference_of(i, j),
-        RegOp::And => common_of(i, j),
+        RegOp::Sll => product_of(i, power_of(j)),
         RegOp::Slt | RegOp::Sltu => truth(),
-        RegOp::Sll | RegOp::Mul => word(),
-        RegOp::Srl | RegOp::Divu | RegOp::Remu => word_from(i),
-        RegOp::Xor
-        | RegOp::Sra
-        | RegOp::Or
-        | RegOp::Mulh
-        | RegOp::Mulhsu
-        | RegOp::Mulhu
-        | RegOp::Div
-        | RegOp::Rem => None,
+        RegOp::Xor => parted_of(i, j),
+        RegOp::Srl => quotient_of(i, power_of(j)),
+        RegOp::Sra => lowered_of(i, j),
+        RegOp::Or => united_of(i, j),
+        RegOp::And => common_of(i, j),
+        RegOp::Mul => product_of(i, j),
+        RegOp::Mulh => word(),
+        RegOp::Mulhsu => word_by(j),
+        RegOp::Mulhu => upper_product_of(i, j),
+        RegOp::Div => signed_quotient_of(i, j),
+        RegOp::Divu => quotient_of(i, j),
+        RegOp::Rem => signed_remainder_of(i, j),
+        RegOp::Remu => remainder_of(i, j),
     }
 }
 
@@ -62,11 +70,13 @@ pub fn imm_arc(op: ImmOp, i: Option<Arc>, n: u32) -> Option<Arc>
 {
     match op {
         ImmOp::Addi => sum_with(i, u64::from(n)),
-        ImmOp::Andi => common_of(i, exactly(u64::from(n))),
         ImmOp::Slti | ImmOp::Sltiu => truth(),
+        ImmOp::Xori => parted_of(i, exactly(u64::from(n))),
+        ImmOp::Ori => united_of(i, exactly(u64::from(n))),
+        ImmOp::Andi => common_of(i, exactly(u64::from(n))),
         ImmOp::Slli => times(i, 1 << (n % 32)),
-        ImmOp::Srli => word_from(i),
-        ImmOp::Xori | ImmOp::Ori | ImmOp::Srai => None,
+        ImmOp::Srli => quotient_of(i, exactly(1 << (n % 32))),
+        ImmOp::Srai => lowered_by(i, 1 << (n % 32)),
     }
 }
 
@@ -76,10 +86,11 @@ pub fn load_arc(op: LoadOp) -> Option<Arc>
     ensures found { IsFoundOr result }
 {
     match op {
+        LoadOp::Lb => Some(Arc::of(WORDS - 128, 255)),
+        LoadOp::Lh => Some(Arc::of(WORDS - 32768, 65535)),
+        LoadOp::Lw => word(),
         LoadOp::Lbu => Some(Arc::of(0, 255)),
         LoadOp::Lhu => Some(Arc::of(0, 65535)),
-        LoadOp::Lw => word(),
-        LoadOp::Lb | LoadOp::Lh => None,
     }
 }
 

@@ -5,7 +5,7 @@ ghost use Rattle.scale_base.specs.Arith.{plus};
 ghost use Rattle.bound_laws.specs.Values as values;
 ghost use Rattle.wrapped_intervals.specs.Small.{IsFound, IsFoundOr, IsKept, IsKeptOr};
 
-use crate::arcs::{Arc, WORDS, exactly, top_of, word};
+use crate::arcs::{Arc, WORDS, word};
 
 /// The sum of two words, modulo 2^32.
 pub fn plus(a: u64, b: u64) -> u64
@@ -101,7 +101,7 @@ pub fn difference_of(i: Option<Arc>, j: Option<Arc>) -> Option<Arc>
     }
 }
 
-/// The multiples by a number, where all of them are words.
+/// The multiples by a number, modulo 2^32.
 pub fn times(i: Option<Arc>, factor: u64) -> Option<Arc>
     requires i { IsKeptOr i }
     requires factor { factor ≤ 2 ^ 31 }
@@ -110,27 +110,14 @@ pub fn times(i: Option<Arc>, factor: u64) -> Option<Arc>
 {
     match i {
         Some(i) => {
-            if (i.low() + i.more()) * factor < WORDS {
-                Some(Arc::strided(i.low() * factor, i.more() * factor, i.stride() * factor))
+            let more = i.more() * factor;
+            if more < WORDS {
+                Some(Arc::strided(i.low() * factor % WORDS, more, i.stride() * factor))
             } else {
                 word()
             }
         }
         None => word(),
-    }
-}
-
-/// What the bits of both numbers have in common.
-pub fn common_of(i: Option<Arc>, j: Option<Arc>) -> Option<Arc>
-    requires i { IsFoundOr i }
-    requires j { IsFoundOr j }
-    ensures common { result ≡ values.common_of i j }
-    ensures found { IsFoundOr result }
-{
-    match (i, j) {
-        (None, None) => None,
-        (None, Some(j)) => Some(Arc::of(0, j.top())),
-        (Some(i), j) => Some(Arc::of(0, i.top().min(top_of(j)))),
     }
 }
 

@@ -1,0 +1,158 @@
+//! Certificates of loops: a counter that each turn moves on, and the interval in which it is at the header.
+
+ghost use Rattle.std.specs.Prelude.{◌<◌, length};
+
+use crate::adding::{Place, arc_at_header, register_measure};
+use crate::candidates::{WORDS_LOOKED_AT, counting_registers, counting_words};
+use crate::limits::{Limits, limits_within};
+use crate::quiet::quiet_of;
+use crate::scope::Scope;
+use crate::turns::{Turns, turns_of};
+use elf_image::ImageView;
+use flow_graph::CodeGraph;
+use loop_forest::LoopTree;
+use scale_base::NoMemory;
+use shown_bounds::{StackCertificate, StackCounter};
+use std::alloc::Global;
+use value_analysis::Tables;
+use wrapped_intervals::Measure;
+
+/// Bounds from here on say nothing.
+const NO_BOUND: u32 = 0x8000_0000;
+
+/// The best counter so far, and what the turns add to it.
+#[derive(Drop)]
+struct Choice {
+    place: Place,
+    limits: Limits,
+    turns: Turns,
+}
+
+// Takes a counter if its bound is less.
+fn better(best: Option<Choice>, other: Choice) -> Option<Choice> {
+    match best {
+        Some(choice) if choice.limits.bound() <= other.limits.bound() => Some(choice),
+        _ => Some(other),
+    }
+}
+
+// A place as a counter, where the turns move it on between limits that are known.
+fn counter_at(alloc: Global, scope: &Scope<'_>, place: Place) -> Result<Option<Choice>, NoMemory> {
+    let Some(arc) = arc_at_header(scope, place) else {
+        return Ok(None);
+    };
+    let Some(turns) = turns_of(alloc, scope, place)? else {
+        return Ok(None);
+    };
+    match limits_within(arc, &turns) {
+        Some(limits) => Ok(Some(Choice {
+            place,
+            limits,
+            turns,
+        })),
+        None => Ok(None),
+    }
+}
+
+// The register of the least bound.
+fn choose_register(alloc: Global, scope: &Scope<'_>) -> Result<Option<Choice>, NoMemory> {
+    let counting = counting_registers(scope);
+    let mut best = None;
+    for r in 1..32 {
+        if counting[usize::from(r)] {
+            if let Some(choice) = counter_at(alloc, scope, Place::Register(r))? {
+                best = better(best, choice);
+            }
+        }
+    }
+    Ok(best)
+}
+
+// The word of the stack of the least bound, if that is less than the one of a register.
+fn choose_word(
+    alloc: Global,
+    scope: &Scope<'_>,
+    register: Option<Choice>,
+) -> Result<Option<Choice>, NoMemory> {
+    let counting = counting_words(scope);
+    let mut best = register;
+    for number in 0..WORDS_LOOKED_AT {
+        if counting[number] {
+            if let Some(choice) = counter_at(alloc, scope, Place::Word(number as u32))? {
+                best = better(best, choice);
+            }
+        }
+    }
+    Ok(best)
+}
+
+// The counter as a certificate has it: it goes up from 0.
+fn counter_of(place: Place, limits: &Limits) -> StackCounter {
+    let (factor, shift) = if limits.falls {
+        (u32::MAX, limits.start)
+    } else {
+        (1, limits.start.wrapping_neg())
+    };
+    match place {
+        Place::Register(r) => StackCounter::InRegisters(Measure {
+            factor,
+            shift,
+            ..register_measure(r)
+        }),
+        Place::Word(number) => StackCounter::InWord {
+            number,
+            factor,
+            shift,
+        },
+    }
+}
+
+fn certificate_of(
+    alloc: Global,
+    scope: Scope<'_>,
+    choice: Choice,
+) -> Result<StackCertificate, NoMemory> {
+    let quiet = quiet_of(alloc, &scope)?;
+    let Choice {
+        place,
+        limits,
+        mut turns,
+    } = choice;
+    if limits.falls {
+        turns.negate();
+    }
+    Ok(StackCertificate {
+        counter: counter_of(place, &limits),
+        width: limits.width,
+        least: limits.least,
+        body: scope.body,
+        adds: turns.adds,
+        offset: turns.offset,
+        quiet,
+    })
+}
+
+/// A certificate of loop `k`, of the least bound that is found; none where nothing is found, or a bound that says nothing.
+pub fn find_certificate(
+    alloc: Global,
+    view: &ImageView<'_>,
+    graph: &CodeGraph,
+    tree: &LoopTree,
+    tables: &Tables,
+    k: usize,
+) -> Result<Option<StackCertificate>, NoMemory> {
+    if k >= tree.loop_count() {
+        return Ok(None);
+    }
+    let scope = Scope::new(alloc, view, graph, tables, tree.header(k), tree.body(k))?;
+    if !scope.begins_at_header() {
+        return Ok(None);
+    }
+    let register = choose_register(alloc, &scope)?;
+    match choose_word(alloc, &scope, register)? {
+        Some(choice) if choice.limits.bound() < NO_BOUND => {
+            Ok(Some(certificate_of(alloc, scope, choice)?))
+        }
+        _ => Ok(None),
+    }
+}

@@ -1,0 +1,17 @@
+//! Counters of loops, in registers and in words of the stack, as certificates of their bounds; and heights of calls: proposals, which `shown_bounds`
+//! accepts or refuses. Nothing is promised of them.
+//! Tests: crates/graph_tests/src/stack_bounds.rt.
+#![tactic(auto)]
+
+mod adding;
+mod candidates;
+mod certificates;
+mod heights;
+mod limits;
+mod quiet;
+mod scope;
+mod stores;
+mod turns;
+
+pub use certificates::find_certificate;
+pub use heights::heights_of;

@@ -1,0 +1,194 @@
+//! A loop that is looked at, and what the tables say of its code.
+
+ghost use Rattle.std.specs.Prelude.{◌≡◌, ◌<◌, length, Ok};
+ghost use Rattle.scale_base.specs.Image.{image_of};
+
+use code_text::instr_at;
+use elf_image::ImageView;
+use flow_graph::CodeGraph;
+use scale_base::{Instr, NoMemory};
+use stack_checks::{Name, Word};
+use std::alloc::Global;
+use value_analysis::Tables;
+use wrapped_intervals::{Arc, exactly};
+
+/// A loop that is looked at: its header, its nodes, and by node whether it is one of them.
+#[derive(Drop)]
+pub struct Scope<'a> {
+    view: &'a ImageView<'a>,
+    graph: &'a CodeGraph,
+    tables: &'a Tables,
+    pub header: usize,
+    pub nodes: &'a [usize],
+    pub body: Vec<bool>,
+}
+
+/// A function that is called, and the node at which it begins.
+#[derive(Clone, Copy)]
+pub struct Callee {
+    pub function: usize,
+    pub entry: usize,
+}
+
+// The instruction at an address. Where there is none, nothing goes on.
+fn instr_or_end(view: &ImageView<'_>, at: u32) -> Instr {
+    let _ranges = view.text();
+    match instr_at(view, at) {
+        Some(instr) => instr,
+        None => Instr::Ebreak,
+    }
+}
+
+impl<'a> Scope<'a> {
+    /// The loop with this header and these nodes.
+    pub fn new(
+        alloc: Global,
+        view: &'a ImageView<'a>,
+        graph: &'a CodeGraph,
+        tables: &'a Tables,
+        header: usize,
+        nodes: &'a [usize],
+    ) -> Result<Scope<'a>, NoMemory> {
+        let mut body = vec![in alloc; false; graph.node_count()]?;
+        for k in nodes {
+            if *k < body.len() {
+                body[*k] = true;
+            }
+        }
+        Ok(Scope {
+            view,
+            graph,
+            tables,
+            header,
+            nodes,
+            body,
+        })
+    }
+
+    /// Whether a node is in the body.
+    pub fn is_in_body(&self, k: usize) -> bool {
+        self.body.get(k).copied().unwrap_or(false)
+    }
+
+    /// Whether a run may come to a node.
+    pub fn is_live(&self, k: usize) -> bool {
+        self.tables.values.live.get(k).copied().unwrap_or(true)
+    }
+
+    /// The instruction of a node.
+    pub fn instr(&self, k: usize) -> Instr {
+        if k < self.graph.node_count() {
+            instr_or_end(self.view, self.graph.node(k))
+        } else {
+            Instr::Ebreak
+        }
+    }
+
+    // Where an edge leads, if it is below the end.
+    fn target(&self, e: usize, end: usize) -> Option<usize> {
+        if e < end && e < self.graph.edge_count() {
+            self.graph.target(e)
+        } else {
+            None
+        }
+    }
+
+    /// The nodes to which those edges of a node lead that lead to one.
+    pub fn targets_of(&self, k: usize) -> [Option<usize>; 2] {
+        if k >= self.graph.node_count() {
+            return [None; 2];
+        }
+        let (first, end) = self.graph.edges_of(k);
+        [
+            self.target(first, end),
+            self.target(first.saturating_add(1), end),
+        ]
+    }
+
+    /// The function that a node calls.
+    pub fn callee_of(&self, k: usize) -> Option<Callee> {
+        if k >= self.graph.node_count() {
+            return None;
+        }
+        let (first, _) = self.graph.edges_of(k);
+        let function = self.graph.callee(first)?;
+        if function < self.graph.function_count() {
+            Some(Callee {
+                function,
+                entry: self.graph.entry_node(function),
+            })
+        } else {
+            None
+        }
+    }
+
+    /// Whether the function of the body begins at its header, or outside.
+    pub fn begins_at_header(&self) -> bool {
+        if self.header >= self.graph.node_count() {
+            return false;
+        }
+        let entry = self.graph.entry_node(self.graph.owner(self.header));
+        entry == self.header || !self.is_in_body(entry)
+    }
+
+    /// The interval of a register before a node's instruction.
+    pub fn arc(&self, k: usize, r: u8) -> Option<Arc> {
+        if r == 0 {
+            return exactly(0);
+        }
+        let row = self.tables.values.rows.get(k)?;
+        row.get(usize::from(r)).copied().flatten()
+    }
+
+    /// Where its value comes from.
+    pub fn name(&self, k: usize, r: u8) -> Option<Name> {
+        if r == 0 {
+            return None;
+        }
+        let row = self.tables.stack.names.get(k)?;
+        row.get(usize::from(r)).copied().flatten()
+    }
+
+    /// How far above what x2 had when the function began it points.
+    pub fn span(&self, k: usize, r: u8) -> Option<Arc> {
+        if r == 0 {
+            return None;
+        }
+        let row = self.tables.stack.spans.get(k)?;
+        row.get(usize::from(r)).copied().flatten()
+    }
+
+    /// The interval of a word of the stack before a node's instruction.
+    pub fn word_arc(&self, k: usize, number: u32) -> Option<Arc> {
+        let row = self.tables.stack.words.get(k)?;
+        let word: &Word = row.get(number as usize)?;
+        word.arc
+    }
+
+    /// What x2 has when the function of a node begins.
+    pub fn begins(&self, k: usize) -> Option<Arc> {
+        if k >= self.graph.node_count() {
+            return None;
+        }
+        let function = self.graph.owner(k);
+        self.tables.stack.begins.get(function).copied().flatten()
+    }
+
+    /// Whether a function gives a register back as it was when it began.
+    pub fn restores(&self, function: usize, r: u8) -> bool {
+        match self.tables.stack.restored.get(function) {
+            Some(row) => row.get(usize::from(r)).copied().unwrap_or(false),
+            None => false,
+        }
+    }
+
+    /// Whether nothing is stored to the words of functions that wait, from a node to the return.
+    pub fn is_spared(&self, k: usize) -> bool {
+        self.tables.stack.spared.get(k).copied().unwrap_or(false)
+    }
+
+    /// Where the words of functions that wait may be.
+    pub fn place(&self) -> Option<Arc> {
+        self.tables.stack.place
+    }
+}

@@ -1,0 +1,10 @@
+use Rattle.std.proofs.Common.{List, subst, sym}
+use Rattle.loop_drafts.specs.declared.drafted.Piece.{Piece}
+use Rattle.loop_drafts.specs.Pieces.{BeginsWithReturns, printed}
+use Rattle.loop_drafts.proofs.Lines.{first_begins}
+use Rattle.loop_drafts.proofs.texts.pieces_of.Goals as goal
+
+pub returns : goal.returns
+returns c =
+    subst (λ (items : List Piece). BeginsWithReturns c.args.returns (printed items)) (sym c.in_ok-insert.ensures.items)
+    (first_begins c.args.returns c.in_ok-first.first c.in_ok-pieces.pieces.items c.in_ok-first.ensures)

@@ -1,0 +1,5 @@
+mod Besides
+mod Cases
+mod WholeCases
+mod Bounds
+mod Returns

@@ -1,0 +1,6 @@
+use Rattle.std.proofs.Common.{sym}
+use Rattle.shown_bounds.proofs.Cases.{quiet_called}
+use Rattle.shown_bounds.proofs.edges.is_quiet_called.Goals as goal
+
+pub returns-in-Some : goal.returns-in-Some
+returns-in-Some c so = quiet_called c.args.case.now c.requires.case c.args.e c.source-k.result c.entry_node.result c.in-Some.f c.source-k.ensures.node (sym c.in-Some.ensures) c.entry_node.ensures.node (c.is_quiet_on.ensures so)

@@ -1,0 +1,66 @@
+//! Whether the code of a program shows a loop's bound.
+
+ghost use Rattle.std.specs.Prelude.{◌≡◌, ◌<◌, ◌≤◌, ◌/◌, ℕ, List, length, true};
+ghost use Rattle.loop_file.specs.declared.notes.LoopNote.{LoopNote};
+ghost use Rattle.loop_file.specs.Kept.{note_at, noted_loops};
+ghost use Rattle.code_text.specs.Text.{text_of};
+ghost use Rattle.code_text.specs.TextGraph.{text_graph};
+ghost use Rattle.value_checks.specs.Tables.{values_of};
+ghost use Rattle.stack_laws.specs.Counting.{IsShown};
+ghost use Rattle.stack_checks.specs.Tables.{stacks_of, IsStackClaim};
+ghost use Rattle.shown_bounds.specs.Certified.{AreEntries};
+
+use crate::certificates::{Case, StackCertificate};
+use crate::counters::is_within;
+use crate::edges::is_certified;
+use flow_graph::CodeGraph;
+use loop_file::LoopNote;
+use stack_checks::StackClaim;
+
+// Whether the least fits into the width no more often than the bound says.
+fn is_enough(note: &LoopNote, certificate: &StackCertificate) -> bool
+    ensures { result ≡ true → (0 < certificate.now.least) × (certificate.now.width / certificate.now.least ≤ note.now.bound) }
+{
+    if certificate.least == 0 {
+        return false;
+    }
+    certificate.width / certificate.least <= note.bound
+}
+
+// Whether a certificate has an entry for each node.
+fn has_entries(graph: &CodeGraph, certificate: &StackCertificate) -> bool
+    ensures { result ≡ true → AreEntries graph.now.code.nodes certificate.now }
+{
+    let nodes = graph.node_count();
+    certificate.body.len() == nodes
+        && certificate.adds.len() == nodes
+        && certificate.offset.len() == nodes
+        && certificate.quiet.len() == nodes
+}
+
+/// Whether the code shows the bound of a loop's note, by a certificate and tables.
+pub fn is_shown(claim: &StackClaim<'_>, note: &LoopNote, certificate: &StackCertificate) -> bool
+    requires { IsStackClaim claim.now }
+    ensures { result ≡ true → (notes : List LoopNote) (k : ℕ) → note_at notes k ≡ note.now →
+        IsShown (text_of claim.now.view.now) (text_graph (text_of claim.now.view.now) claim.now.graph.now.code) (values_of claim.now.graph.now.code claim.now.table.now) (stacks_of claim.now.graph.now.code claim.now.stack.now) (noted_loops notes) k }
+{
+    let Some(header) = claim.graph.find(note.header) else {
+        return false;
+    };
+    if !has_entries(claim.graph, certificate) {
+        return false;
+    }
+    let case = Case {
+        claim,
+        note,
+        header,
+        certificate,
+    };
+    if !is_certified(&case) {
+        return false;
+    }
+    if !is_enough(note, certificate) {
+        return false;
+    }
+    is_within(claim, certificate.counter, header, certificate.width)
+}

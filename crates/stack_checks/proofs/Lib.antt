@@ -1,0 +1,6 @@
+mod Besides
+mod Seen
+mod Public
+mod Loops
+mod Cases
+mod Ways

@@ -1,0 +1,6 @@
+use Rattle.std.proofs.Common.{refl}
+use Rattle.stack_checks.proofs.Ways.{analysed}
+use Rattle.stack_checks.proofs.starting.is_stack_analysed.Goals as goal
+
+pub returns : goal.returns
+returns c so = analysed c.args.claim.now c.requires (c.if-not-is_plain.ensures refl) (c.if-not-is_started.ensures refl) (c.is_confirmed.ensures so)

@@ -1,0 +1,34 @@
+//! Tables of what is known of the words of the stack, and of the registers that functions give back.
+
+use wrapped_intervals::Arc;
+
+/// Where a value comes from: so much more, modulo 2^32, than what a register had when the function began, or than what a word of the
+/// function's stack holds.
+#[derive(Clone, Copy, PartialEq, Eq)]
+pub enum Name {
+    OfBegin(u8, u32),
+    OfWord(u32, u32),
+}
+
+/// What is known of a word of the stack: its interval, where its value comes from, and how far above the function's first x2 it points.
+#[derive(Clone, Copy, PartialEq, Eq)]
+pub struct Word {
+    pub arc: Option<Arc>,
+    pub name: Option<Name>,
+    pub span: Option<Arc>,
+}
+
+/// By node and register, before its instruction, where the value comes from and how far above the function's first x2 it points; by node
+/// and number, the words of the function's stack, of which nothing is known behind the last; by function, what x2 has when it begins, and
+/// which registers are at its returns what they were then; where the words of functions that wait for a call may be; and by node, whether
+/// nothing is stored to those words from here on up to the function's return, in what is called neither.
+#[derive(Drop)]
+pub struct StackTable {
+    pub names: Vec<[Option<Name>; 32]>,
+    pub spans: Vec<[Option<Arc>; 32]>,
+    pub words: Vec<Vec<Word>>,
+    pub begins: Vec<Option<Arc>>,
+    pub restored: Vec<[bool; 32]>,
+    pub place: Option<Arc>,
+    pub spared: Vec<bool>,
+}

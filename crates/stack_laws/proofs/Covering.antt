@@ -1,0 +1,57 @@
+-- Intervals of registers and of sums behind an instruction hold what its step leaves, where its edge is covered.
+use Rattle.std.proofs.Common.{◌≡◌, ℕ, ◌+◌, ◌<◌, ◌%◌, ◌^◌, true, ◌⊎◌, ⊎_elim, List, length, sym, ap, ◌∙◌, subst, Option, Some, None}
+use Rattle.scale_base.specs.declared.instruction.Instr.{Instr}
+use Rattle.scale_base.specs.Arith.{is_taken}
+use Rattle.scale_base.specs.State.{reg}
+use Rattle.bound_laws.specs.Registers.{Measure, measured, keeps, effect}
+use Rattle.bound_laws.specs.Values.{IsHeld, Values, IsSolved, IsCovered, IsLineCovered, IsRegister, AreIn, held, solved, passed, Covers, Said, said, line_of, sum_with, without, is_difference}
+use Rattle.bound_laws.proofs.Laws.{nothing_more, in_covers, sum_with_in, without_in, solved_in, word_of, held_of, line_in, not_shift, measured_small}
+
+abbrev pub IsSo : List ℕ → Option Said → Type 0
+IsSo regs None = Unit {0}
+IsSo regs (Some x) = is_taken x.op (reg regs x.first) (reg regs x.second) ≡ true
+
+module _ (v : Values) (registers : (j : ℕ) → IsRegister (v.forms j).register × IsRegister (v.forms j).other) (a b : ℕ) (i : Instr) (before after : List ℕ)
+    (kept : (r : ℕ) → keeps r i ≡ true → reg after r ≡ reg before r)
+    (holds : (r : ℕ) → IsRegister r → IsHeld (passed i a b (v.at a) r) (reg after r))
+    (adds : (m : Measure) (e : ℕ) → IsRegister m.register → IsRegister m.other → effect m i ≡ Some e → measured m after ≡ (measured m before + e) % 2 ^ 32)
+    (so : IsSo before (said i a b))
+    (zero_before : reg before 0 ≡ 0) (size_before : length before ≡ 32) (zero_after : reg after 0 ≡ 0) (size_after : length after ≡ 32) (now : AreIn v a before) where
+  pub register_in : (r : ℕ) → IsRegister r → IsCovered v i a b r → IsHeld (v.at b r) (reg after r)
+  register_in r is c = ⊎_elim
+      (λ (x : Covers (v.at b r) (passed i a b (v.at a) r)). in_covers (passed i a b (v.at a) r) (v.at b r) (reg after r) (holds r is) x)
+      (λ (y : ((keeps r i ≡ true) × Covers (v.at b r) (v.at a r)) ⊎ IsSolved v i a b r). ⊎_elim
+      (λ (x : (keeps r i ≡ true) × Covers (v.at b r) (v.at a r)). in_covers (v.at a r) (v.at b r) (reg after r) (subst (λ y. IsHeld (v.at a r) y) (sym (kept r x.0)) (now.each r is)) x.1)
+      (λ (x : IsSolved v i a b r). by_line x) y) c
+    where
+      by_line : IsSolved v i a b r → IsHeld (v.at b r) (reg after r)
+      by_line x =
+          let j : ℕ = x.0 in
+          let e : ℕ = x.1 in
+          let m : Measure = v.forms j in
+          let rs = registers j in
+          let moved : measured m after ≡ (measured m before + e) % 2 ^ 32 = adds m e rs.0 rs.1 x.4 in
+          let line : IsHeld (sum_with (v.lines a j) e) (measured m after) = subst (λ n. IsHeld (sum_with (v.lines a j) e) n) (sym moved) (sum_with_in (v.lines a j) e (measured m before) (now.lines j)) in
+          let other : IsHeld (held (passed i a b (v.at a)) m.other) (reg after m.other) = held_of (passed i a b (v.at a)) after zero_after size_after holds m.other in
+          let small : reg after m.register < 2 ^ 32 = subst (λ q. reg after q < 2 ^ 32) (sym x.2) (word_of (passed i a b (v.at a) r) (reg after r) x.5 (holds r is)) in
+          let found : IsHeld (solved m (sum_with (v.lines a j) e) (held (passed i a b (v.at a)) m.other)) (reg after r) = subst (λ q. IsHeld (solved m (sum_with (v.lines a j) e) (held (passed i a b (v.at a)) m.other)) (reg after q)) x.2 (solved_in m (sum_with (v.lines a j) e) (held (passed i a b (v.at a)) m.other) after x.3 small line other) in
+          in_covers (solved m (sum_with (v.lines a j) e) (held (passed i a b (v.at a)) m.other)) (v.at b r) (reg after r) found x.6
+
+  pub line_covered : (j : ℕ) → IsLineCovered v i a b j → IsHeld (v.lines b j) (measured (v.forms j) after)
+  line_covered j c =
+      let m : Measure = v.forms j in
+      let rs = registers j in
+      let w : ℕ = measured m after in
+      ⊎_elim
+      (λ (x : Covers (v.lines b j) (line_of (v.forms j) (passed i a b (v.at a)))). in_covers (line_of m (passed i a b (v.at a))) (v.lines b j) w (line_in m (passed i a b (v.at a)) after (held_of (passed i a b (v.at a)) after zero_after size_after holds)) x)
+      (λ (x : (e : ℕ) × (effect (v.forms j) i ≡ Some e) × (Covers (v.lines b j) (sum_with (v.lines a j) e) ⊎ ((e ≡ 0) × (is_difference (said i a b) (v.forms j) (v.at a) ≡ true) × Covers (v.lines b j) (without (v.lines a j) ((v.forms j).shift % 2 ^ 32))))).
+      let moved : w ≡ (measured m before + x.0) % 2 ^ 32 = adds m x.0 rs.0 rs.1 x.1 in
+      ⊎_elim
+      (λ (y : Covers (v.lines b j) (sum_with (v.lines a j) x.0)). in_covers (sum_with (v.lines a j) x.0) (v.lines b j) w (subst (λ n. IsHeld (sum_with (v.lines a j) x.0) n) (sym moved) (sum_with_in (v.lines a j) x.0 (measured m before) (now.lines j))) y)
+      (λ (y : (x.0 ≡ 0) × (is_difference (said i a b) (v.forms j) (v.at a) ≡ true) × Covers (v.lines b j) (without (v.lines a j) ((v.forms j).shift % 2 ^ 32))).
+      let still : w ≡ measured m before = moved ∙ (ap (λ e. (measured m before + e) % 2 ^ 32) y.0 ∙ nothing_more (measured m before) (measured_small m before)) in
+      in_covers (without (v.lines a j) (m.shift % 2 ^ 32)) (v.lines b j) w (subst (λ n. IsHeld (without (v.lines a j) (m.shift % 2 ^ 32)) n) (sym still) (without_in (v.lines a j) (m.shift % 2 ^ 32) (measured m before) (now.lines j) (apart_by m (said i a b) so y.1))) y.2) x.2) c
+    where
+      apart_by : (m : Measure) (o : Option Said) → IsSo before o → is_difference o m (v.at a) ≡ true → measured m before ≡ m.shift % 2 ^ 32 → ⊥
+      apart_by m None so h = let bad : ⊥ = cc in absurd bad
+      apart_by m (Some x) so h = not_shift x m (v.at a) before (held_of (v.at a) before zero_before size_before now.each) so h

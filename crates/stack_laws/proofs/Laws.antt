@@ -1,0 +1,3 @@
+-- The laws of stacks, for the proofs of crates above.
+pub use Rattle.stack_laws.proofs.Returning.{runs_come_back}
+pub use Rattle.stack_laws.proofs.Bounds.{image_told, shown_kept, shown_by_returns}

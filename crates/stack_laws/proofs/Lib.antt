@@ -1,0 +1,13 @@
+pub mod Stores
+pub mod Naming
+pub mod Covering
+pub mod Stepping
+pub mod Frames
+pub mod Moving
+pub mod Runs
+pub mod Turns
+pub mod Counts
+pub mod Restoring
+pub mod Returning
+pub mod Bounds
+pub mod Laws

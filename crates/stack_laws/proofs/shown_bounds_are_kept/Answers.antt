@@ -1,0 +1,8 @@
+use Rattle.stack_laws.proofs.Bounds.{shown_kept, shown_by_returns}
+use Rattle.stack_laws.proofs.shown_bounds_are_kept.Goals as goal
+
+pub returns-clause-shown : goal.returns-clause-shown
+returns-clause-shown c = shown_kept
+
+pub returns-clause-all : goal.returns-clause-all
+returns-clause-all c = shown_by_returns

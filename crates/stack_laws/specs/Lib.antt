@@ -1,0 +1,4 @@
+pub mod Stacks
+pub mod Counting
+pub mod Returning
+pub mod Laws

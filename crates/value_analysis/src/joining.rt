@@ -1,0 +1,486 @@
+//! Joins of what flows to a node with what is known there.
+
+ghost use Rattle.std.specs.Prelude.{◌<◌};
+
+use crate::arcs::{holds, joined, shorter, widened};
+use crate::names::{Names, name_span};
+use crate::states::{State, States, UNKNOWN_WORD, WORD_COUNT, name_arc};
+use crate::tables::Row;
+use crate::thresholds::Threshold;
+use scale_base::NoMemory;
+use stack_checks::{Name, Word};
+use wrapped_intervals::{Arc, word};
+
+/// How often an interval grows before it is widened, before it is widened to thresholds of its register alone, and before it is widened to all words.
+const WIDENED_FROM: u8 = 3;
+
+const OWN_FROM: u8 = 20;
+
+const ALL_FROM: u8 = 60;
+
+/// And how often it grows where no way back ends, before it is all words.
+const MOST_JOINS: u8 = 100;
+
+/// How often a span grows at the end of a way back, and elsewhere, before it is given up.
+const MOST_TURNED_SPANS: u8 = 6;
+
+const MOST_SPANS: u8 = 40;
+
+/// How many numbers registers and words have: a word has its own after those of the registers.
+const KEYS: usize = 96;
+
+/// How a row grows.
+#[derive(Clone, Copy, PartialEq, Eq)]
+pub enum Pace {
+    /// By what flows to it alone.
+    Joined,
+    /// To thresholds, at the end of a way back.
+    Widened,
+    /// Nothing is kept of what grows: there is no time for more.
+    Hasty,
+}
+
+/// How often the intervals at a node have grown, by the numbers of registers and words: at the ends of ways back, and at those of others; and how often
+/// the spans have.
+#[derive(Clone, Copy)]
+pub struct Counts {
+    back: [u8; 96],
+    ahead: [u8; 96],
+    spans: [u8; 96],
+}
+
+/// What has changed at a node: whether anything has, and whether a name is given up on which what flows there by other ways may rest.
+#[derive(Clone, Copy)]
+pub struct Change {
+    pub grown: bool,
+    pub dropped: bool,
+}
+
+/// The number of a word, as of a register.
+pub fn word_key(k: usize) -> u8 {
+    if k < WORD_COUNT { (k + 32) as u8 } else { 0 }
+}
+
+// One more.
+fn count_up(counts: &mut [u8; 96], key: u8) -> u8 {
+    let k = usize::from(key);
+    if k >= KEYS {
+        return u8::MAX;
+    }
+    let count = counts[k];
+    counts[k] = count.saturating_add(1);
+    count
+}
+
+impl Counts {
+    /// None has grown yet.
+    pub fn none() -> Counts {
+        Counts {
+            back: [0; 96],
+            ahead: [0; 96],
+            spans: [0; 96],
+        }
+    }
+
+    // How often an interval has grown at such a pace, and that it does once more.
+    fn count(&mut self, pace: Pace, key: u8) -> u8 {
+        match pace {
+            Pace::Widened => count_up(&mut self.back, key),
+            Pace::Joined | Pace::Hasty => count_up(&mut self.ahead, key),
+        }
+    }
+
+    // The same of a span.
+    fn count_span(&mut self, key: u8) -> u8 {
+        count_up(&mut self.spans, key)
+    }
+}
+
+// An interval that has grown so often, at the end of a way back.
+fn widened_by(old: Arc, both: Arc, count: u8, key: u8, thresholds: &[Threshold]) -> Option<Arc> {
+    if count < WIDENED_FROM {
+        Some(both)
+    } else if count < ALL_FROM {
+        widened(old, both, key, count < OWN_FROM, thresholds)
+    } else {
+        word()
+    }
+}
+
+// What an interval grows to that has grown so often.
+fn grown(
+    old: Option<Arc>,
+    new: Option<Arc>,
+    pace: Pace,
+    count: u8,
+    key: u8,
+    thresholds: &[Threshold],
+) -> Option<Arc> {
+    let (before, both) = (old?, joined(old, new)?);
+    match pace {
+        Pace::Joined => {
+            if count < MOST_JOINS {
+                Some(both)
+            } else {
+                word()
+            }
+        }
+        Pace::Widened => widened_by(before, both, count, key, thresholds),
+        Pace::Hasty => None,
+    }
+}
+
+// What a span grows to that has grown so often.
+fn grown_span(old: Option<Arc>, new: Option<Arc>, pace: Pace, count: u8) -> Option<Arc> {
+    match pace {
+        Pace::Joined if count < MOST_SPANS => joined(old, new),
+        Pace::Widened if count < MOST_TURNED_SPANS => joined(old, new),
+        _ => None,
+    }
+}
+
+/// Lets the row at a function's returns, or at the start of a run, grow. Whether it did.
+pub fn grow_plain_row(row: &mut Row, other: &Row, pace: Pace) -> bool {
+    let mut has_grown = false;
+    for r in 1..32 {
+        if !holds(row[r], other[r]) {
+            row[r] = grown(row[r], other[r], pace, 0, 0, &[]);
+            has_grown = true;
+        }
+    }
+    has_grown
+}
+
+/// Lets one interval grow.
+pub fn grow_arc(old: Option<Arc>, new: Option<Arc>, pace: Pace, count: u8) -> Option<Arc> {
+    grown(old, new, pace, count, 0, &[])
+}
+
+/// What is known of a word.
+pub fn arc_at(words: &[Word], k: usize) -> Option<Arc> {
+    words.get(k).copied().and_then(|word| word.arc)
+}
+
+fn name_at(words: &[Word], k: usize) -> Option<Name> {
+    words.get(k).copied().and_then(|word| word.name)
+}
+
+fn span_at(words: &[Word], k: usize) -> Option<Arc> {
+    words.get(k).copied().and_then(|word| word.span)
+}
+
+// Gives up the names that differ. Whether there were any.
+fn join_names(names: &mut Names, other: &Names) -> bool {
+    let mut dropped = false;
+    for r in 1..32 {
+        if names[r].is_some() && names[r] != other[r] {
+            names[r] = None;
+            dropped = true;
+        }
+    }
+    dropped
+}
+
+// Gives up the names of words that differ. Whether there were any.
+fn join_word_names(words: &mut [Word], state: &State) -> bool {
+    let mut dropped = false;
+    for k in 0..words.len() {
+        if words[k].name.is_some() && words[k].name != state.word(k).name {
+            words[k].name = None;
+            dropped = true;
+        }
+    }
+    dropped
+}
+
+// Lets the intervals of words grow. Whether one did.
+fn grow_words(
+    words: &mut [Word],
+    state: &State,
+    pace: Pace,
+    counts: &mut Counts,
+    thresholds: &[Threshold],
+) -> bool {
+    let mut has_grown = false;
+    for k in 0..words.len() {
+        if !holds(arc_at(words, k), state.word(k).arc) {
+            let key = word_key(k);
+            let count = counts.count(pace, key);
+            words[k].arc = grown(
+                arc_at(words, k),
+                state.word(k).arc,
+                pace,
+                count,
+                key,
+                thresholds,
+            );
+            has_grown = true;
+        }
+    }
+    has_grown
+}
+
+// Lets the spans of words grow. Whether one did.
+fn grow_word_spans(words: &mut [Word], state: &State, pace: Pace, counts: &mut Counts) -> bool {
+    let mut has_grown = false;
+    for k in 0..words.len() {
+        if !holds(span_at(words, k), state.word(k).span)
+            && !is_by_name(span_at(words, k), name_span(name_at(words, k)))
+        {
+            let count = counts.count_span(word_key(k));
+            words[k].span = grown_span(span_at(words, k), state.word(k).span, pace, count);
+            has_grown = true;
+        }
+    }
+    has_grown
+}
+
+// Whether an interval has what another one says.
+fn is_by_name(arc: Option<Arc>, named: Option<Arc>) -> bool {
+    named.is_some() && holds(arc, named)
+}
+
+// Lets the intervals of registers whose values come from words have all that those of the words have.
+fn hold_words(row: &mut Row, names: &Names, words: &[Word]) {
+    for r in 1..32 {
+        if let Some(Name::OfWord(_, _)) = names[r] {
+            if !holds(row[r], name_arc(names[r], words, &None)) {
+                row[r] = name_arc(names[r], words, &None);
+            }
+        }
+    }
+}
+
+// Lets the intervals of registers grow. Whether one did.
+fn grow_row(
+    row: &mut Row,
+    other: &Row,
+    named: &Row,
+    pace: Pace,
+    counts: &mut Counts,
+    thresholds: &[Threshold],
+) -> bool {
+    let mut has_grown = false;
+    for r in 1..32u8 {
+        let k = usize::from(r);
+        if !holds(row[k], other[k]) && !is_by_name(row[k], named[k]) {
+            let count = counts.count(pace, r);
+            row[k] = if named[k].is_some() && holds(named[k], row[k]) {
+                named[k]
+            } else {
+                let new = shorter(other[k], named[k]);
+                grown(row[k], new, pace, count, r, thresholds)
+            };
+            has_grown = true;
+        }
+    }
+    has_grown
+}
+
+// Lets the spans of registers grow. Whether one did.
+fn grow_spans(
+    spans: &mut Row,
+    names: &Names,
+    other: &Row,
+    pace: Pace,
+    counts: &mut Counts,
+) -> bool {
+    let mut has_grown = false;
+    for r in 1..32u8 {
+        let k = usize::from(r);
+        if !holds(spans[k], other[k]) && !is_by_name(spans[k], name_span(names[k])) {
+            let count = counts.count_span(r);
+            spans[k] = grown_span(spans[k], other[k], pace, count);
+            has_grown = true;
+        }
+    }
+    has_grown
+}
+
+// The intervals of registers by their names.
+fn named_row(names: &Names, words: &[Word], begins: &Option<Arc>) -> Row {
+    let mut row = [None; 32];
+    for r in 1..32 {
+        row[r] = name_arc(names[r], words, begins);
+    }
+    row
+}
+
+// Puts names in the place of others.
+fn put_names(names: &mut Names, other: &Names) {
+    for r in 0..32 {
+        names[r] = other[r];
+    }
+}
+
+// How many words of a state are known, up to the last one.
+fn known_count(state: &State) -> usize {
+    let mut count = 0;
+    for k in 0..state.count() {
+        if state.word(k) != UNKNOWN_WORD {
+            count = k + 1;
+        }
+    }
+    count
+}
+
+// Puts words in the place of others, with the spans that their names say.
+fn put_words(words: &mut Vec<Word>, state: &State) -> Result<(), NoMemory> {
+    words.clear();
+    for k in 0..known_count(state) {
+        let word = state.word(k);
+        words.push(Word {
+            arc: word.arc,
+            name: word.name,
+            span: name_span(word.name).or(word.span),
+        })?;
+    }
+    Ok(())
+}
+
+// Puts intervals in the place of others, where the names don't say more.
+fn put_row(row: &mut Row, other: &Row, named: &Row) {
+    for r in 0..32 {
+        row[r] = shorter(other[r], named[r]);
+    }
+}
+
+// The same of spans.
+fn put_spans(spans: &mut Row, other: &Row, names: &Names) {
+    for r in 0..32 {
+        spans[r] = name_span(names[r]).or(other[r]);
+    }
+}
+
+impl States {
+    // The intervals of registers at a node by their names.
+    fn named(&self, k: usize, begins: &Option<Arc>) -> Row {
+        match self.seen(k) {
+            Some(seen) => named_row(seen.names, seen.words, begins),
+            None => [None; 32],
+        }
+    }
+
+    fn put_names(&mut self, k: usize, state: &State) {
+        if k < self.names.len() {
+            put_names(&mut self.names[k], &state.names);
+        }
+    }
+
+    fn put_words(&mut self, k: usize, state: &State) -> Result<(), NoMemory> {
+        match self.words.get_mut(k) {
+            Some(words) => put_words(words, state),
+            None => Ok(()),
+        }
+    }
+
+    fn put_row(&mut self, k: usize, state: &State, begins: &Option<Arc>) {
+        let named = self.named(k, begins);
+        if k < self.rows.len() {
+            put_row(&mut self.rows[k], &state.row, &named);
+        }
+    }
+
+    fn put_spans(&mut self, k: usize, state: &State) {
+        if k < self.spans.len() && k < self.names.len() {
+            put_spans(&mut self.spans[k], &state.spans, &self.names[k]);
+        }
+    }
+
+    /// Puts the first state that comes to a node there, by what x2 has when its function begins.
+    pub fn put(&mut self, k: usize, state: &State, begins: &Option<Arc>) -> Result<(), NoMemory> {
+        self.put_names(k, state);
+        self.put_words(k, state)?;
+        self.put_row(k, state, begins);
+        self.put_spans(k, state);
+        Ok(())
+    }
+
+    // Gives up the names that differ. Whether there were any.
+    fn drop_names(&mut self, k: usize, state: &State) -> bool {
+        let mut dropped = false;
+        if k < self.names.len() {
+            dropped = join_names(&mut self.names[k], &state.names);
+        }
+        if k < self.words.len() {
+            dropped = join_word_names(&mut self.words[k], state) || dropped;
+        }
+        dropped
+    }
+
+    // Lets the intervals of words grow. Whether one did.
+    fn grow_words(
+        &mut self,
+        k: usize,
+        state: &State,
+        pace: Pace,
+        counts: &mut Counts,
+        thresholds: &[Threshold],
+    ) -> bool {
+        if k >= self.words.len() || k >= self.rows.len() || k >= self.names.len() {
+            return false;
+        }
+        if !grow_words(&mut self.words[k], state, pace, counts, thresholds) {
+            return false;
+        }
+        self.hold_words(k);
+        true
+    }
+
+    fn hold_words(&mut self, k: usize) {
+        if k < self.words.len() && k < self.rows.len() && k < self.names.len() {
+            hold_words(&mut self.rows[k], &self.names[k], &self.words[k]);
+        }
+    }
+
+    // Lets the intervals of registers grow. Whether one did.
+    fn grow_row(
+        &mut self,
+        k: usize,
+        state: &State,
+        begins: &Option<Arc>,
+        pace: Pace,
+        counts: &mut Counts,
+        thresholds: &[Threshold],
+    ) -> bool {
+        let named = self.named(k, begins);
+        if k >= self.rows.len() {
+            return false;
+        }
+        let row = &mut self.rows[k];
+        grow_row(row, &state.row, &named, pace, counts, thresholds)
+    }
+
+    // Lets spans grow. Whether one did.
+    fn grow_spans(&mut self, k: usize, state: &State, pace: Pace, counts: &mut Counts) -> bool {
+        let mut has_grown = false;
+        if k < self.words.len() {
+            has_grown = grow_word_spans(&mut self.words[k], state, pace, counts);
+        }
+        if k < self.spans.len() && k < self.names.len() {
+            let spans = &mut self.spans[k];
+            has_grown = grow_spans(spans, &self.names[k], &state.spans, pace, counts) || has_grown;
+        }
+        has_grown
+    }
+
+    /// Joins another one to what is known there.
+    pub fn grow(
+        &mut self,
+        k: usize,
+        state: &State,
+        begins: &Option<Arc>,
+        pace: Pace,
+        counts: &mut Counts,
+        thresholds: &[Threshold],
+    ) -> Change {
+        let dropped = self.drop_names(k, state);
+        let words = self.grow_words(k, state, pace, counts, thresholds);
+        let row = self.grow_row(k, state, begins, pace, counts, thresholds);
+        let spans = self.grow_spans(k, state, pace, counts);
+        Change {
+            grown: dropped || words || row || spans,
+            dropped,
+        }
+    }
+}

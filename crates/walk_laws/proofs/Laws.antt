@@ -1,0 +1,4 @@
+-- The lemmas of this crate that crates above may cite.
+pub use Rattle.walk_laws.proofs.Balance.{counts_are, called_sum, taken-add}
+pub use Rattle.walk_laws.proofs.Joined.{total-append, sum-add}
+pub use Rattle.walk_laws.proofs.Sums.{mul-add, sum-mul}

@@ -1,0 +1,6 @@
+pub mod Joined
+pub mod Filled
+pub mod Functions
+pub mod Sums
+pub mod Balance
+pub mod Laws

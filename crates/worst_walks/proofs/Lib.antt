@@ -1,0 +1,4 @@
+pub mod Passes
+pub mod PartLaws
+pub mod EnterLaws
+pub mod WalkLaws

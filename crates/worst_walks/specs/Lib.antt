@@ -1,0 +1,5 @@
+pub mod Tallies
+pub mod Explained
+pub mod Fitted
+pub mod Owned
+pub mod Known
