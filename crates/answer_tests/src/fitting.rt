@@ -1,22 +1,17 @@
 //! Images that are chosen of proposals.
 
 use crate::fixtures::*;
-use pace_fit::{Fitted, Prepared, choose, prepare};
+use pace_fit::{Ending, Fitted, Prepared, choose, prepare};
 use paced_images::{Proposal, SwitchSite};
-use scale_base::{EdgeKind, End, Kept, Stop, Trap, TrapKind};
-use std::alloc::Global;
+use scale_base::{EdgeKind, Stop};
+use scale_report::{EndWords, KeptWords};
+use std::alloc::{AllocError, Global};
+use std::fmt::Write;
+use std::process::Abort;
 use std::test::Fail;
 use switch_search::propose;
 
-/// Passes over fourteen of twenty-four divisions, by the branch at 0x10000.
-const SKIP_FOURTEEN: [u32; 27] = [
-    0x02050E63, 0x0262C2B3, 0x0262C2B3, 0x0262C2B3, 0x0262C2B3, 0x0262C2B3, 0x0262C2B3, 0x0262C2B3,
-    0x0262C2B3, 0x0262C2B3, 0x0262C2B3, 0x0262C2B3, 0x0262C2B3, 0x0262C2B3, 0x0262C2B3, 0x0262C2B3,
-    0x0262C2B3, 0x0262C2B3, 0x0262C2B3, 0x0262C2B3, 0x0262C2B3, 0x0262C2B3, 0x0262C2B3, 0x0262C2B3,
-    0x0262C2B3, 0x05D00893, 0x00000073,
-];
-
-/// The way over the divisions.
+/// The way over the divisions of `SKIP_FOURTEEN`.
 const SKIPPED: SwitchSite = SwitchSite {
     at: 0x10000,
     kind: EdgeKind::Taken,
@@ -30,200 +25,286 @@ const NOWHERE: SwitchSite = SwitchSite {
     lowest: false,
 };
 
+/// A proposal of a site.
+fn proposal_of(alloc: Global, site: SwitchSite) -> Result<Proposal, Fail> {
+    let mut sites = Vec::new(alloc);
+    sites.push(site)?;
+    Ok(Proposal {
+        sites,
+        tallied: Vec::new(alloc),
+        share: 4,
+        counted: true,
+    })
+}
+
 /// Proposals of a site each.
 fn proposals_of(alloc: Global, sites: &[SwitchSite]) -> Result<Vec<Proposal>, Fail> {
     let mut proposals = Vec::new(alloc);
     for site in sites {
-        let mut one = Vec::new(alloc);
-        one.push(*site)?;
-        proposals.push(Proposal {
-            sites: one,
-            tallied: Vec::new(alloc),
-            share: 4,
-            counted: true,
-        })?;
+        proposals.push(proposal_of(alloc, *site)?)?;
     }
     Ok(proposals)
 }
 
 /// What is known before the choice, of files that the program would load.
-fn prepared(
-    alloc: Global,
-    words: &[u32],
-    machine: Machine<'_>,
-    loops: &str,
-    sizes: &[usize],
-) -> Result<Result<Prepared, Stop>, Fail> {
-    let image = plain_image(alloc, words)?;
-    let machine = machine.text(alloc)?;
-    let inputs = inputs_of(alloc, sizes)?;
+fn prepared(alloc: Global, files: &Files<'_>, inputs: &[Vec<u8>]) -> Result<Prepared, Stop> {
+    let image = files.image.as_slice();
+    let machine = files.machine.as_bytes();
+    let loops = files.loops.as_bytes();
     if image.len() > 4_194_304 || machine.len() > 1_048_576 || loops.len() > 1_048_576 {
-        return Err(Fail::from("files that are too long"));
+        return Err(Stop::Memory);
     }
-    Ok(prepare(alloc, &image, machine.as_bytes(), loops.as_bytes(), &inputs))
+    prepare(alloc, image, machine, loops, inputs)
 }
 
 /// What is chosen of files that the program would load.
-fn fitted(
+fn chosen(
     alloc: Global,
-    deadline: u32,
-    sizes: &[usize],
-    sites: &[SwitchSite],
+    files: &Files<'_>,
+    inputs: &[Vec<u8>],
+    proposals: &[Proposal],
 ) -> Result<Fitted, Fail> {
-    let image = plain_image(alloc, &SKIP_FOURTEEN)?;
-    let machine = machine_for(deadline).text(alloc)?;
-    let inputs = inputs_of(alloc, sizes)?;
-    let proposals = proposals_of(alloc, sites)?;
-    if image.len() > 4_194_304 || machine.len() > 1_048_576 {
+    let image = files.image.as_slice();
+    let machine = files.machine.as_bytes();
+    let loops = files.loops.as_bytes();
+    if image.len() > 4_194_304 || machine.len() > 1_048_576 || loops.len() > 1_048_576 {
         return Err(Fail::from("files that are too long"));
     }
-    if inputs.len() > 64 || !are_short(&inputs) || proposals.len() > 64 {
+    if inputs.len() > 64 || !are_short(inputs) || proposals.len() > 64 {
         return Err(Fail::from("inputs or proposals"));
     }
-    let loops = NO_LOOPS.as_bytes();
-    if loops.len() > 1_048_576 {
-        return Err(Fail::from("loops"));
+    match prepare(alloc, image, machine, loops, inputs) {
+        Ok(prepared) => {
+            Ok(choose(alloc, image, machine, loops, inputs, &prepared, proposals)?.1)
+        }
+        Err(_) => Err(Fail::from("files that are refused")),
     }
-    let machine = machine.as_bytes();
-    let prepared = prepare(alloc, &image, machine, loops, &inputs)
-        .ok()
-        .ok_or("prepared")?;
-    let (_, choice) = choose(
-        alloc, &image, machine, loops, &inputs, &prepared, &proposals,
-    )
-    .ok()
-    .ok_or("memory")?;
-    Ok(choice)
+}
+
+const SKIPPING: Program = Program {
+    words: &SKIP_FOURTEEN,
+    machine: Machine {
+        deadline: 502,
+        ..MACHINE
+    },
+    loops: NO_LOOPS,
+};
+
+/// Of `SKIP_FOURTEEN`, with proposals of a site each.
+fn fitted_of(
+    alloc: Global,
+    files: &Files<'_>,
+    inputs: &[Vec<u8>],
+    sites: &[SwitchSite],
+) -> Result<Fitted, Fail> {
+    let proposals = proposals_of(alloc, sites)?;
+    chosen(alloc, files, inputs, &proposals)
+}
+
+fn fitted(alloc: Global, sizes: &[usize], sites: &[SwitchSite]) -> Result<Fitted, Fail> {
+    let files = files_of(alloc, &SKIPPING)?;
+    let inputs = inputs_of(alloc, sizes)?;
+    fitted_of(alloc, &files, &inputs, sites)
 }
 
 /// The inputs, the sites of the proposals, the candidate that is chosen, and the energies: its own, that of the image at one level, that of
 /// the rewritten one, and the least of the 108 cycles of a run, which are all in time at the slowest level.
+static CHOICES: [(&[usize], &[SwitchSite], u32, [u128; 4]); 7] = [
+    (&[0], &[], 0, [324, 324, 174, 108]),
+    (&[0], &[SKIPPED], 1, [174, 324, 174, 108]),
+    (&[0], &[NOWHERE], 0, [324, 324, 174, 108]),
+    (
+        &[0, 0],
+        &[NOWHERE, SKIPPED, SKIPPED],
+        2,
+        [348, 648, 348, 216],
+    ),
+    (&[], &[], 0, [0, 0, 0, 0]),
+    (&[], &[SKIPPED], 1, [0, 0, 0, 0]),
+    (&[], &[NOWHERE, SKIPPED], 2, [0, 0, 0, 0]),
+];
+
+fn check_choice(
+    rt: &impl Abort,
+    choice: &Fitted,
+    candidate: u32,
+    inputs: usize,
+    energies: &[u128; 4],
+) {
+    let found = [
+        choice.energy,
+        choice.hold_energy,
+        choice.rewrite_energy.unwrap_or(u128::MAX),
+        choice.least_energy,
+    ];
+    assert_eq!(rt; choice.candidate, candidate);
+    assert_eq!(rt;
+        found,
+        *energies,
+        "candidate {candidate} of {inputs} inputs"
+    );
+    assert_eq!(rt; (choice.inputs as usize, choice.left_out), (inputs, 0));
+}
+
 #[test]
 fn the_first_of_the_cheapest_and_without_inputs_the_first_that_is_built(
     rt: HostRuntime,
 ) -> Result<(), Fail> {
-    let alloc = rt.alloc();
-    let rows: [(&[usize], &[SwitchSite], u32, [u128; 4]); 7] = [
-        (&[0], &[], 0, [324, 324, 174, 108]),
-        (&[0], &[SKIPPED], 1, [174, 324, 174, 108]),
-        (&[0], &[NOWHERE], 0, [324, 324, 174, 108]),
-        (
-            &[0, 0],
-            &[NOWHERE, SKIPPED, SKIPPED],
-            2,
-            [348, 648, 348, 216],
-        ),
-        (&[], &[], 0, [0, 0, 0, 0]),
-        (&[], &[SKIPPED], 1, [0, 0, 0, 0]),
-        (&[], &[NOWHERE, SKIPPED], 2, [0, 0, 0, 0]),
-    ];
-    for (sizes, sites, candidate, energies) in rows {
-        let choice = fitted(alloc, 502, sizes, sites)?;
-        let rewritten = choice.rewrite_energy.ok_or("rewritten")?;
-        let found = [
-            choice.energy,
-            choice.hold_energy,
-            rewritten,
-            choice.least_energy,
-        ];
-        assert_eq!(rt; choice.candidate, candidate);
-        assert_eq!(rt; found, energies);
-        assert_eq!(rt; (choice.inputs as usize, choice.left_out), (sizes.len(), 0));
+    for (sizes, sites, candidate, energies) in &CHOICES {
+        let choice = fitted(rt.alloc(), sizes, sites)?;
+        check_choice(&rt, &choice, *candidate, sizes.len(), energies);
     }
-    let refused = prepared(alloc, &SKIP_FOURTEEN, machine_for(232), NO_LOOPS, &[0])?;
-    assert!(rt;
-        matches!(
-            refused.err().map(cause_of),
-            Some(Cause::DeadlineMissed(_, 232))
-        )
-    );
     Ok(())
 }
 
-/// Inputs that count, and inputs that don't: their runs trap, are out of steps, or break the bound of the loop.
+/// How a run ended, whether it was kept, and whether it counts.
+fn push_ending(text: &mut String, ending: &Ending, counts: Option<bool>) -> Result<(), AllocError> {
+    let end = EndWords(ending.end);
+    let kept = KeptWords(ending.kept);
+    let not = if counts == Some(true) { "" } else { "not " };
+    write!(text, "{end}, {kept}, {not}counted\n")
+}
+
+fn prepared_text(alloc: Global, prepared: &Prepared) -> Result<String, Fail> {
+    let mut text = String::new(alloc);
+    for (k, ending) in prepared.endings.iter().enumerate() {
+        push_ending(&mut text, ending, prepared.flags.get(k).copied())?;
+    }
+    Ok(text)
+}
+
+/// A line for each input, or why the program is refused.
+fn endings_or_refusal(
+    alloc: Global,
+    files: &Files<'_>,
+    inputs: &[Vec<u8>],
+) -> Result<String, Fail> {
+    match prepared(alloc, files, inputs) {
+        Ok(prepared) => prepared_text(alloc, &prepared),
+        Err(stop) => stop_text(alloc, &stop),
+    }
+}
+
+fn endings_of(alloc: Global, program: &Program, sizes: &[usize]) -> Result<String, Fail> {
+    let files = files_of(alloc, program)?;
+    let inputs = inputs_of(alloc, sizes)?;
+    endings_or_refusal(alloc, &files, &inputs)
+}
+
+/// Inputs that count, and inputs that don't: their runs trap, are out of steps, or break the bound of the loop. And a program without the time for its worst case.
+static ENDINGS: [(Program, &[usize], &str); 5] = [
+    (
+        Program {
+            words: &READ_ONE,
+            machine: Machine {
+                steps: 1000,
+                ..MACHINE
+            },
+            loops: NO_LOOPS,
+        },
+        &[0],
+        "exit 0, yes, counted\n",
+    ),
+    (
+        Program {
+            words: &READ_ONE,
+            machine: Machine {
+                steps: 4,
+                ..MACHINE
+            },
+            loops: NO_LOOPS,
+        },
+        &[0, 1],
+        "steps, yes, not counted\nsteps, yes, not counted\n",
+    ),
+    (
+        Program {
+            words: &BREAK,
+            machine: Machine {
+                steps: 1000,
+                ..MACHINE
+            },
+            loops: NO_LOOPS,
+        },
+        &[0],
+        "trap breakpoint 0x00010004, yes, not counted\n",
+    ),
+    (
+        Program {
+            words: &READ_ALL,
+            machine: Machine {
+                steps: 1000,
+                ..MACHINE
+            },
+            loops: READ_LOOP,
+        },
+        &[3, 11],
+        "exit 0, yes, counted\nexit 0, no bound 1 11, not counted\n",
+    ),
+    (
+        Program {
+            words: &SKIP_FOURTEEN,
+            machine: Machine {
+                deadline: 232,
+                ..MACHINE
+            },
+            loops: NO_LOOPS,
+        },
+        &[0],
+        "refused 41 deadline missed: need 247 have 232\n",
+    ),
+];
+
 #[test]
 fn the_original_runs_once_on_each_input(rt: HostRuntime) -> Result<(), Fail> {
-    let alloc = rt.alloc();
-    let trap = Trap {
-        kind: TrapKind::Breakpoint,
-        at: 0x10004,
-    };
-    let broke = Kept::BrokeBound {
-        loop_no: 1,
-        count: 11,
-    };
-    let exited = End::Exited(0);
-    let rows: [(&[u32], u32, &str, &[usize], &[(End, Kept)]); 4] = [
-        (&READ_ONE, 1_000, NO_LOOPS, &[0], &[(exited, Kept::Kept)]),
-        (
-            &READ_ONE,
-            4,
-            NO_LOOPS,
-            &[0, 1],
-            &[(End::OutOfSteps, Kept::Kept), (End::OutOfSteps, Kept::Kept)],
-        ),
-        (
-            &BREAK,
-            1_000,
-            NO_LOOPS,
-            &[0],
-            &[(End::Trapped(trap), Kept::Kept)],
-        ),
-        (
-            &READ_ALL,
-            1_000,
-            READ_LOOP,
-            &[3, 11],
-            &[(exited, Kept::Kept), (exited, broke)],
-        ),
-    ];
-    for (words, steps, loops, sizes, expected) in rows {
-        let machine = Machine {
-            steps,
-            ..machine_for(500)
-        };
-        let found = prepared(alloc, words, machine, loops, sizes)?
-            .ok()
-            .ok_or("prepared")?;
-        assert_eq!(rt; found.endings.len(), expected.len());
-        for (k, ending) in found.endings.iter().enumerate() {
-            let (end, kept) = *expected.get(k).ok_or("an ending")?;
-            assert!(rt; (ending.end, ending.kept) == (end, Some(kept)));
-            let counts = matches!(end, End::Exited(_)) && kept == Kept::Kept;
-            assert_eq!(rt; found.flags.get(k).copied(), Some(counts));
-        }
+    for (k, (program, sizes, expected)) in ENDINGS.iter().enumerate() {
+        expect_text(&rt, k, endings_of(rt.alloc(), program, sizes), expected)?;
     }
     Ok(())
 }
 
-/// A run that passes over the divisions can do the rest at the lowest level.
-#[test]
-fn a_switch_is_proposed_on_the_way_over_the_divisions(rt: HostRuntime) -> Result<(), Fail> {
-    let alloc = rt.alloc();
-    let image = plain_image(alloc, &SKIP_FOURTEEN)?;
-    let machine = machine_for(502).text(alloc)?;
-    let inputs = inputs_of(alloc, &[0])?;
-    let loops = NO_LOOPS.as_bytes();
+/// What is proposed for one input, on which the original takes 100 cycles.
+fn proposed(alloc: Global, files: &Files<'_>, inputs: &[Vec<u8>]) -> Result<Vec<Proposal>, Fail> {
+    let image = files.image.as_slice();
+    let machine = files.machine.as_bytes();
+    let loops = files.loops.as_bytes();
     if image.len() > 4_194_304 || machine.len() > 1_048_576 || loops.len() > 1_048_576 {
         return Err(Fail::from("files that are too long"));
     }
     if inputs.len() != 1 {
         return Err(Fail::from("inputs"));
     }
-    let proposals = propose(
-        alloc,
-        &image,
-        machine.as_bytes(),
-        loops,
-        &inputs,
-        &[Some(100)],
-    )?;
-    let first = proposals.first().ok_or("proposals")?;
-    let site = first.sites.first().ok_or("switches")?;
-    assert_eq!(rt;
-        (site.at, site.kind, site.lowest),
-        (0x10000, EdgeKind::Taken, true)
-    );
-    assert_eq!(rt; (first.sites.len(), first.tallied.len()), (1, 0));
+    Ok(propose(alloc, image, machine, loops, inputs, &[Some(100)])?)
+}
+
+/// The first site of the first proposal, and how many sites and tallied loops this has.
+fn first_of(proposals: &[Proposal]) -> Option<(u32, EdgeKind, bool, usize, usize)> {
+    let first = proposals.first()?;
+    let site = first.sites.first()?;
+    Some((
+        site.at,
+        site.kind,
+        site.lowest,
+        first.sites.len(),
+        first.tallied.len(),
+    ))
+}
+
+/// Of the files of `SKIP_FOURTEEN`.
+fn first_proposed(
+    alloc: Global,
+    files: &Files<'_>,
+) -> Result<Option<(u32, EdgeKind, bool, usize, usize)>, Fail> {
+    let inputs = inputs_of(alloc, &[0])?;
+    let proposals = proposed(alloc, files, &inputs)?;
+    Ok(first_of(&proposals))
+}
+
+/// A run that passes over the divisions can do the rest at the lowest level.
+#[test]
+fn a_switch_is_proposed_on_the_way_over_the_divisions(rt: HostRuntime) -> Result<(), Fail> {
+    let files = files_of(rt.alloc(), &SKIPPING)?;
+    let found = first_proposed(rt.alloc(), &files)?;
+    assert_eq!(rt; found, Some((0x10000, EdgeKind::Taken, true, 1, 0)));
     Ok(())
 }

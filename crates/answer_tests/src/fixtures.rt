@@ -1,11 +1,13 @@
-//! Programs, their files and what is refused of them, for tests of several crates.
+//! Programs, their files and the texts of what is refused of them, for tests of several crates.
 
 ghost use Rattle.std.specs.Prelude.{◌≡◌, ◌≤◌, true, length};
 ghost use Rattle.std.specs.List.{All};
 
-use scale_base::{Refusal, Stop, Summary};
+use scale_base::{Stop, Summary};
+use scale_report::refusal_text;
 use scaler::rewrite;
 use std::alloc::Global;
+use std::process::Abort;
 use std::test::Fail;
 
 /// Reads a byte. Without one it exits, by the branch at 0x10010; with one it divides six times first.
@@ -21,6 +23,14 @@ pub const READ_ALL: [u32; 8] = [
 
 /// A branch to the word behind it, and an exit.
 pub const BRANCH_NOWHERE: [u32; 3] = [0x00000263, 0x05D00893, 0x00000073];
+
+/// Passes over fourteen of twenty-four divisions, by the branch at 0x10000.
+pub const SKIP_FOURTEEN: [u32; 27] = [
+    0x02050E63, 0x0262C2B3, 0x0262C2B3, 0x0262C2B3, 0x0262C2B3, 0x0262C2B3, 0x0262C2B3, 0x0262C2B3,
+    0x0262C2B3, 0x0262C2B3, 0x0262C2B3, 0x0262C2B3, 0x0262C2B3, 0x0262C2B3, 0x0262C2B3, 0x0262C2B3,
+    0x0262C2B3, 0x0262C2B3, 0x0262C2B3, 0x0262C2B3, 0x0262C2B3, 0x0262C2B3, 0x0262C2B3, 0x0262C2B3,
+    0x0262C2B3, 0x05D00893, 0x00000073,
+];
 
 /// addi x10,x0,-1; ebreak.
 pub const BREAK: [u32; 2] = [0xFFF00513, 0x00100073];
@@ -39,13 +49,13 @@ pub const READ_LOOP: &str =
 
 /// The lines of a machine file of which tests have several. A change of level takes 10 time units.
 #[derive(Clone, Copy)]
-pub struct Machine<'a> {
+pub struct Machine {
     pub deadline: u32,
     pub steps: u32,
     pub min_gain: u32,
     pub switch_energy: u32,
-    pub costs: &'a str,
-    pub levels: &'a str,
+    pub costs: &'static str,
+    pub levels: &'static str,
 }
 
 const COSTS: &str =
@@ -56,19 +66,17 @@ pub const ONE_LEVEL: &str = "[[level]]\nperiod = 4\nenergy = 1\n";
 const THREE_LEVELS: &str =
     "[[level]]\nperiod = 4\nenergy = 1\n[[level]]\nperiod = 2\nenergy = 3\n[[level]]\nperiod = 1\nenergy = 8\n";
 
-/// A machine of three levels, with this deadline.
-pub fn machine_for(deadline: u32) -> Machine<'static> {
-    Machine {
-        deadline,
-        steps: 1_000_000,
-        min_gain: 20,
-        switch_energy: 20,
-        costs: COSTS,
-        levels: THREE_LEVELS,
-    }
-}
+/// A machine of three levels.
+pub const MACHINE: Machine = Machine {
+    deadline: 500,
+    steps: 1_000_000,
+    min_gain: 20,
+    switch_energy: 20,
+    costs: COSTS,
+    levels: THREE_LEVELS,
+};
 
-impl Machine<'_> {
+impl Machine {
     /// The machine file.
     pub fn text(&self, alloc: Global) -> Result<String, Fail> {
         let Machine {
@@ -85,12 +93,48 @@ impl Machine<'_> {
     }
 }
 
+/// A program, its machine and its loops.
+#[derive(Clone, Copy)]
+pub struct Program {
+    pub words: &'static [u32],
+    pub machine: Machine,
+    pub loops: &'static str,
+}
+
+/// The files of a program.
+#[derive(Drop)]
+pub struct Files<'a> {
+    pub image: Vec<u8>,
+    pub machine: String,
+    pub loops: &'a str,
+}
+
+/// The files of an image that is made already.
+pub fn files_around<'a>(
+    alloc: Global,
+    image: Vec<u8>,
+    machine: &Machine,
+    loops: &'a str,
+) -> Result<Files<'a>, Fail> {
+    let machine = machine.text(alloc)?;
+    Ok(Files {
+        image,
+        machine,
+        loops,
+    })
+}
+
+pub fn files_of(alloc: Global, program: &Program) -> Result<Files<'static>, Fail> {
+    let image = plain_image(alloc, program.words)?;
+    files_around(alloc, image, &program.machine, program.loops)
+}
+
 /// A file of one segment of words at 0x10000.
 pub fn plain_image(alloc: Global, words: &[u32]) -> Result<Vec<u8>, Fail> {
     if words.len() > 131_072 {
         return Err(Fail::from("words of an image"));
     }
-    Ok(image_maker::plain_image(alloc, words).ok().ok_or("memory")?)
+    Ok(image_maker::plain_image(alloc, words)?)
 }
 
 pub fn push_words(file: &mut Vec<u8>, words: &[u32]) -> Result<(), Fail> {
@@ -133,67 +177,71 @@ pub fn are_short(inputs: &[Vec<u8>]) -> bool
 }
 
 /// What `rewrite` makes of files that the program would load.
-pub fn rewritten(
-    alloc: Global,
-    image: &[u8],
-    machine: &str,
-    loops: &str,
-) -> Result<Result<(Vec<u8>, Summary), Stop>, Fail> {
+pub fn rewritten(alloc: Global, files: &Files<'_>) -> Result<(Vec<u8>, Summary), Stop> {
+    let image = files.image.as_slice();
+    let machine = files.machine.as_bytes();
+    let loops = files.loops.as_bytes();
     if image.len() > 4_194_304 || machine.len() > 1_048_576 || loops.len() > 1_048_576 {
-        return Err(Fail::from("files that are too long"));
+        return Err(Stop::Memory);
     }
-    Ok(rewrite(alloc, image, machine.as_bytes(), loops.as_bytes()))
+    rewrite(alloc, image, machine, loops)
 }
 
 /// What it stores.
-pub fn stored(alloc: Global, image: &[u8], machine: &str, loops: &str) -> Result<Vec<u8>, Fail> {
-    let (bytes, _) = rewritten(alloc, image, machine, loops)?
-        .ok()
-        .ok_or("rewritten")?;
-    Ok(bytes)
-}
-
-/// What a call is refused for, without names and cycles.
-#[derive(Clone, Copy, Debug, PartialEq, Eq)]
-pub enum Cause {
-    NotElf,
-    AlreadyScaled,
-    StartLevel(u32, u32),
-    MachineText,
-    MachineValue,
-    LoopText,
-    LoopKey(u32),
-    UnboundedCycle,
-    DeadlineMissed(u128, u64),
-    Uncountable(u32, u32),
-    TooManyCounters(u32),
-    StubOutOfReach(u32),
-    BadJump(u32),
-    NoRoom(u32),
-    LowerOutOfReach(u32),
-    Other,
-}
-
-pub fn cause_of(stop: Stop) -> Cause {
-    let Stop::Refused(refusal) = stop else {
-        return Cause::Other;
-    };
-    match refusal {
-        Refusal::NotElf => Cause::NotElf,
-        Refusal::AlreadyScaled => Cause::AlreadyScaled,
-        Refusal::StartLevel(level, count) => Cause::StartLevel(level, count),
-        Refusal::MachineText => Cause::MachineText,
-        Refusal::MachineValue(_) => Cause::MachineValue,
-        Refusal::LoopText => Cause::LoopText,
-        Refusal::LoopKey(loop_no, _) => Cause::LoopKey(loop_no),
-        Refusal::UnboundedCycle(_) => Cause::UnboundedCycle,
-        Refusal::DeadlineMissed(needed, deadline) => Cause::DeadlineMissed(needed, deadline),
-        Refusal::Uncountable(loop_no, at) => Cause::Uncountable(loop_no, at),
-        Refusal::TooManyCounters(count) => Cause::TooManyCounters(count),
-        Refusal::StubOutOfReach(at) => Cause::StubOutOfReach(at),
-        Refusal::BadJump(at) => Cause::BadJump(at),
-        Refusal::NoRoom(number) => Cause::NoRoom(number),
-        Refusal::LowerOutOfReach(at) => Cause::LowerOutOfReach(at),
-        _ => Cause::Other,
+pub fn stored(alloc: Global, files: &Files<'_>) -> Result<Vec<u8>, Fail> {
+    match rewritten(alloc, files) {
+        Ok((bytes, _)) => Ok(bytes),
+        Err(_) => Err(Fail::from("files that are refused")),
     }
+}
+
+/// The same of a program.
+pub fn stored_of(alloc: Global, program: &Program) -> Result<Vec<u8>, Fail> {
+    let files = files_of(alloc, program)?;
+    stored(alloc, &files)
+}
+
+/// The files of a machine and of what is stored of a program.
+pub fn files_again(alloc: Global, program: &Program) -> Result<Files<'static>, Fail> {
+    let image = stored_of(alloc, program)?;
+    files_around(alloc, image, &program.machine, program.loops)
+}
+
+/// The line that the program prints of a refusal.
+pub fn stop_text(alloc: Global, stop: &Stop) -> Result<String, Fail> {
+    match stop {
+        Stop::Refused(refusal) => Ok(refusal_text(alloc, refusal)?),
+        Stop::Memory => Err(Fail::from("memory")),
+    }
+}
+
+/// A text of some words.
+pub fn words_text(alloc: Global, words: &str) -> Result<String, Fail> {
+    Ok(String::from_str(alloc, words)?)
+}
+
+/// Expects that this text is found for a row.
+pub fn expect_text(
+    rt: &impl Abort,
+    row: usize,
+    found: Result<String, Fail>,
+    want: &str,
+) -> Result<(), Fail> {
+    let text = found?;
+    assert_eq!(rt; text.as_str(), want, "row {row}");
+    Ok(())
+}
+
+/// Expects that each part stands in the text that is found for a row.
+pub fn expect_parts(
+    rt: &impl Abort,
+    row: usize,
+    found: Result<String, Fail>,
+    parts: &[&str],
+) -> Result<(), Fail> {
+    let text = found?;
+    for part in parts {
+        assert!(rt; text.contains(*part), "row {row}: {part} in {text}");
+    }
+    Ok(())
 }

@@ -20,6 +20,8 @@ mod scanning;
 #[cfg(test)]
 mod simulating;
 #[cfg(test)]
+mod stub_keys;
+#[cfg(test)]
 mod surveying;
 #[cfg(test)]
 mod tuning;

@@ -3,7 +3,9 @@
 use crate::fixtures::*;
 use image_lower::lower;
 use scale_base::{Lowered, Stop};
+use scale_report::lowered_text;
 use std::alloc::Global;
+use std::process::Abort;
 use std::test::Fail;
 
 /// A far call to a return, and an exit.
@@ -49,65 +51,98 @@ const JUMP_BEHIND_TABLE: &str =
 const OTHER_JUMP: &str = "version = 1\n[[jump]]\nat = 0x10004\ntargets = [0x1000C, 0x10014]\n";
 
 /// What `lower` makes of files that the program would load.
-fn lowered(
-    alloc: Global,
-    image: &[u8],
-    jumps: &str,
-) -> Result<Result<(Vec<u8>, Lowered), Stop>, Fail> {
+fn lowered(alloc: Global, image: &[u8], jumps: &str) -> Result<(Vec<u8>, Lowered), Stop> {
     if image.len() > 4_194_304 {
-        return Err(Fail::from("too long"));
+        return Err(Stop::Memory);
     }
-    Ok(lower(alloc, image, jumps.as_bytes()))
-}
-
-fn counted(pairs: u32, jumps: u32, block: u32, depth: u32) -> Lowered {
-    Lowered {
-        pairs,
-        jumps,
-        block,
-        depth,
-    }
+    lower(alloc, image, jumps.as_bytes())
 }
 
 fn part_of(file: &[u8], at: usize, len: usize) -> Option<&[u8]> {
     file.get(at..at.checked_add(len)?)
 }
 
+/// An image and its jumps; the text of its counts; the length of what is stored, a place in it, and the bytes there.
+#[derive(Clone, Copy)]
+struct Row {
+    image: &'static [u8],
+    jumps: &'static str,
+    text: &'static str,
+    len: usize,
+    at: usize,
+    bytes: &'static [u8],
+}
+
+const ONE_CALL: &str = "pairs 1\njumps 0\nblock bytes 0\ndepth 0\n";
+
+const ONE_JUMP: &str = "pairs 0\njumps 1\nblock bytes 32\ndepth 1\n";
+
 /// Near calls stand for far ones, and trees for jumps through tables. A call in the program header table stays, beside a tree too.
+static ROWS: [Row; 5] = [
+    Row {
+        image: &FAR_CALL,
+        jumps: NO_JUMPS,
+        text: ONE_CALL,
+        len: 104,
+        at: 88,
+        bytes: &[0xEF, 0x00, 0xC0, 0x00],
+    },
+    Row {
+        image: &TABLE_JUMP,
+        jumps: JUMP,
+        text: ONE_JUMP,
+        len: 4192,
+        at: 92,
+        bytes: &[0x6F, 0x00, 0x90, 0x7F],
+    },
+    Row {
+        image: &TABLE_JUMP,
+        jumps: JUMP,
+        text: ONE_JUMP,
+        len: 4192,
+        at: 4096,
+        bytes: &TREE,
+    },
+    Row {
+        image: &CALL_IN_TABLE,
+        jumps: NO_JUMPS,
+        text: "pairs 0\njumps 0\nblock bytes 0\ndepth 0\n",
+        len: 148,
+        at: 0,
+        bytes: &CALL_IN_TABLE,
+    },
+    Row {
+        image: &CALL_IN_TABLE,
+        jumps: JUMP_BEHIND_TABLE,
+        text: ONE_JUMP,
+        len: 4224,
+        at: 92,
+        bytes: &[0xE7, 0x80, 0xC0, 0x01],
+    },
+];
+
+/// What is expected of a row stands in the stored file.
+fn check_file(rt: &impl Abort, row: &Row, file: &[u8]) {
+    assert_eq!(rt; file.len(), row.len);
+    let found = part_of(file, row.at, row.bytes.len());
+    assert_eq!(rt; found, Some(row.bytes), "at {}", row.at);
+}
+
+/// The counts of a row whose file is as expected.
+fn checked_counts(rt: &impl Abort, alloc: Global, row: &Row) -> Result<String, Fail> {
+    match lowered(alloc, row.image, row.jumps) {
+        Ok((file, counts)) => {
+            check_file(rt, row, &file);
+            Ok(lowered_text(alloc, &counts)?)
+        }
+        Err(stop) => stop_text(alloc, &stop),
+    }
+}
+
 #[test]
 fn what_stands_for_far_calls_and_for_jumps_through_tables(rt: HostRuntime) -> Result<(), Fail> {
-    let alloc = rt.alloc();
-    let call = counted(1, 0, 0, 0);
-    let jump = counted(0, 1, 32, 1);
-    // The image and its jumps; the counts; a place in the stored file, and the bytes there.
-    let rows: [(&[u8], &str, Lowered, usize, &[u8]); 5] = [
-        (&FAR_CALL, NO_JUMPS, call, 88, &[0xEF, 0x00, 0xC0, 0x00]),
-        (&TABLE_JUMP, JUMP, jump, 92, &[0x6F, 0x00, 0x90, 0x7F]),
-        (&TABLE_JUMP, JUMP, jump, 4096, &TREE),
-        (
-            &CALL_IN_TABLE,
-            NO_JUMPS,
-            counted(0, 0, 0, 0),
-            0,
-            &CALL_IN_TABLE,
-        ),
-        (
-            &CALL_IN_TABLE,
-            JUMP_BEHIND_TABLE,
-            jump,
-            92,
-            &[0xE7, 0x80, 0xC0, 0x01],
-        ),
-    ];
-    for (image, jumps, counts, at, bytes) in rows {
-        let (file, found) = lowered(alloc, image, jumps)?.ok().ok_or("lowered")?;
-        assert!(rt; found == counts);
-        assert_eq!(rt; part_of(&file, at, bytes.len()), Some(bytes), "at {at}");
-        if found.jumps == 0 {
-            assert_eq!(rt; file.len(), image.len());
-        } else if image.len() == 116 {
-            assert_eq!(rt; file.len(), 4192);
-        }
+    for (k, row) in ROWS.iter().enumerate() {
+        expect_text(&rt, k, checked_counts(&rt, rt.alloc(), row), row.text)?;
     }
     Ok(())
 }
@@ -119,34 +154,45 @@ fn far_jump() -> [u8; 116] {
     file
 }
 
-/// The jump through a table, behind as many program headers as an image without a key may have.
+/// The jump through a table, with as many program headers as an image without a key may have.
 fn crowded(alloc: Global) -> Result<Vec<u8>, Fail> {
-    let mut front = TABLE_JUMP;
-    front[44] = 63;
-    front[56] = 0x14;
-    front[57] = 0x08;
-    let mut file = Vec::from_slice(alloc, &front[..84])?;
-    for _ in 0..1984 {
-        file.push(0)?;
-    }
+    let mut file = Vec::from_slice(alloc, &TABLE_JUMP[..44])?;
+    file.push(63)?;
+    file.extend_from_slice(&TABLE_JUMP[45..56])?;
+    file.extend_from_slice(&[0x14, 0x08])?;
+    file.extend_from_slice(&TABLE_JUMP[58..84])?;
+    file.extend_from_slice(&[0; 1984])?;
     file.extend_from_slice(&TABLE_JUMP[84..])?;
     Ok(file)
 }
 
-/// Another word is no jump, a tree is in reach of its jump, and there is no room for a 64th segment.
-#[test]
-fn which_jumps_are_not_lowered(rt: HostRuntime) -> Result<(), Fail> {
-    let alloc = rt.alloc();
-    let far = far_jump();
-    let crowded = crowded(alloc)?;
-    let rows: [(&[u8], &str, Cause); 3] = [
-        (&TABLE_JUMP, OTHER_JUMP, Cause::BadJump(0x10004)),
-        (&far, JUMP, Cause::LowerOutOfReach(0x10008)),
-        (&crowded, JUMP, Cause::NoRoom(5)),
-    ];
-    for (image, jumps, cause) in rows {
-        let refused = lowered(alloc, image, jumps)?;
-        assert_eq!(rt; refused.err().map(cause_of), Some(cause));
+fn refused(alloc: Global, image: &[u8], jumps: &str) -> Result<String, Fail> {
+    match lowered(alloc, image, jumps) {
+        Ok(_) => Err(Fail::from("a refusal")),
+        Err(stop) => stop_text(alloc, &stop),
     }
-    Ok(())
+}
+
+#[test]
+fn another_word_is_no_jump(rt: HostRuntime) -> Result<(), Fail> {
+    let found = refused(rt.alloc(), &TABLE_JUMP, OTHER_JUMP);
+    expect_text(&rt, 0, found, "refused 64 bad jump at 0x00010004\n")
+}
+
+#[test]
+fn a_tree_is_in_reach_of_its_jump(rt: HostRuntime) -> Result<(), Fail> {
+    let found = refused(rt.alloc(), &far_jump(), JUMP);
+    expect_text(
+        &rt,
+        0,
+        found,
+        "refused 66 lowered jump out of reach at 0x00010008\n",
+    )
+}
+
+#[test]
+fn there_is_no_room_for_a_64th_segment(rt: HostRuntime) -> Result<(), Fail> {
+    let image = crowded(rt.alloc())?;
+    let found = refused(rt.alloc(), &image, JUMP);
+    expect_text(&rt, 0, found, "refused 65 no room: refusal 5\n")
 }

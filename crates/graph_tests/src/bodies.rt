@@ -3,7 +3,9 @@
 ghost use Rattle.std.specs.Prelude.{◌≡◌, ◌<◌, IfOk};
 ghost use Rattle.graph_algorithms.specs.Groups.{AreLoopExtents};
 
+use crate::programs::{expect_list, expect_same};
 use graph_algorithms::{BodySearch, GroupBodies, LoopExtent, NodeRange, has_bit};
+use scale_base::NoMemory;
 use std::alloc::Global;
 use std::process::Abort;
 use std::test::Fail;
@@ -23,63 +25,69 @@ const TARGETS: [Option<usize>; 9] = [
     Some(5),
 ];
 
-/// The loop with a header and an extent has this body.
-fn expect_body(
-    rt: &impl Abort,
-    alloc: Global,
-    search: &mut BodySearch<'_>,
-    header: usize,
-    extent: &[NodeRange],
-    want: &[usize],
-) -> Result<(), Fail>
-    requires { header < search.old.count }
-    ensures { search.new ≡ search.old }
+/// The search in the small graph.
+fn small_search(alloc: Global) -> Result<BodySearch<'static>, NoMemory>
+    ensures { IfOk result (λ search. search.count ≡ 6) }
 {
-    let mut body = search.body(alloc, header, extent).ok().ok_or("memory")?;
+    BodySearch::new(alloc, &SOURCES, &TARGETS, 6)
+}
+
+/// The sorted body of the loop with a header and an extent.
+fn body_of(alloc: Global, header: usize, extent: &[NodeRange]) -> Result<Vec<usize>, Fail> {
+    if header >= 6 {
+        return Err("no such node".into());
+    }
+    let mut search = small_search(alloc)?;
+    let mut body = search.body(alloc, header, extent)?;
     body.sort_unstable();
-    assert_eq!(rt; body.as_slice(), want, "{header} in {extent:?}");
+    Ok(body)
+}
+
+const ALL: NodeRange = NodeRange { from: 0, to: 6 };
+
+/// The loops with a header and an extent, and their bodies.
+static BODIES: [(usize, &[NodeRange], &[usize]); 6] = [
+    (1, &[ALL], &[0, 1, 2, 3, 4, 5]),
+    (1, &[NodeRange { from: 1, to: 4 }], &[1, 2, 3]),
+    (
+        1,
+        &[NodeRange { from: 1, to: 2 }, NodeRange { from: 2, to: 5 }],
+        &[1, 2, 3],
+    ),
+    // A node may lead to itself.
+    (5, &[NodeRange { from: 5, to: 6 }], &[5]),
+    // A header outside the extent has no body, and none that no edge leads back to.
+    (1, &[NodeRange { from: 2, to: 6 }], &[]),
+    (0, &[ALL], &[]),
+];
+
+#[test]
+fn bodies_are_the_nodes_that_lead_back_within_the_extent(rt: HostRuntime) -> Result<(), Fail> {
+    for (header, extent, want) in &BODIES {
+        let body = body_of(rt.alloc(), *header, extent)?;
+        expect_list(&rt, *header as u64, &body, want);
+    }
     Ok(())
 }
 
 #[test]
-fn bodies_are_the_nodes_that_lead_back_within_the_extent(rt: HostRuntime) -> Result<(), Fail> {
-    let mut search = BodySearch::new(rt.alloc(), &SOURCES, &TARGETS, 6)
-        .ok()
-        .ok_or("memory")?;
-    let all = [NodeRange { from: 0, to: 6 }];
-    expect_body(&rt, rt.alloc(), &mut search, 1, &all, &[0, 1, 2, 3, 4, 5])?;
-    let inner = [NodeRange { from: 1, to: 4 }];
-    expect_body(&rt, rt.alloc(), &mut search, 1, &inner, &[1, 2, 3])?;
-    let apart = [NodeRange { from: 1, to: 2 }, NodeRange { from: 2, to: 5 }];
-    expect_body(&rt, rt.alloc(), &mut search, 1, &apart, &[1, 2, 3])?;
-    // A node may lead to itself.
-    let last = [NodeRange { from: 5, to: 6 }];
-    expect_body(&rt, rt.alloc(), &mut search, 5, &last, &[5])?;
-    // A header outside the extent has no body, and none that no edge leads back to.
-    let outside = [NodeRange { from: 2, to: 6 }];
-    expect_body(&rt, rt.alloc(), &mut search, 1, &outside, &[])?;
-    expect_body(&rt, rt.alloc(), &mut search, 0, &all, &[])
-}
-
-#[test]
 fn an_edge_turns_back_from_the_extent(rt: HostRuntime) -> Result<(), Fail> {
-    let search = BodySearch::new(rt.alloc(), &SOURCES, &TARGETS, 6)
-        .ok()
-        .ok_or("memory")?;
-    assert!(rt; search.has_back_edge(1, &[NodeRange { from: 3, to: 4 }]));
-    assert!(rt; !search.has_back_edge(1, &[NodeRange { from: 1, to: 3 }]));
-    assert!(rt; !search.has_back_edge(0, &[NodeRange { from: 0, to: 6 }]));
+    let search = small_search(rt.alloc())?;
+    let found = [
+        search.has_back_edge(1, &[NodeRange { from: 3, to: 4 }]),
+        search.has_back_edge(1, &[NodeRange { from: 1, to: 3 }]),
+        search.has_back_edge(0, &[ALL]),
+    ];
+    expect_same(&rt, 0, found, [true, false, false]);
     Ok(())
 }
 
 #[test]
 fn the_least_edge_past_the_header_is_found(rt: HostRuntime) -> Result<(), Fail> {
-    let mut search = BodySearch::new(rt.alloc(), &SOURCES, &TARGETS, 6)
-        .ok()
-        .ok_or("memory")?;
-    assert_eq!(rt; search.side_entry(1, &[3, 2, 1]), Some((5, 2)));
-    assert_eq!(rt; search.side_entry(3, &[3, 2]), Some((1, 2)));
-    assert_eq!(rt; search.side_entry(5, &[5]), None);
+    let mut search = small_search(rt.alloc())?;
+    expect_same(&rt, 1, search.side_entry(1, &[3, 2, 1]), Some((5, 2)));
+    expect_same(&rt, 3, search.side_entry(3, &[3, 2]), Some((1, 2)));
+    expect_same(&rt, 5, search.side_entry(5, &[5]), None);
     Ok(())
 }
 
@@ -206,12 +214,38 @@ fn plain_aside(sources: &[usize], targets: &[Option<usize>], header: usize, body
     false
 }
 
+/// What a group is expected to be of: the edges of a graph.
+#[derive(Clone, Copy)]
+struct Edges<'a> {
+    sources: &'a [usize],
+    targets: &'a [Option<usize>],
+    count: usize,
+}
+
+/// One loop of a group has its plain body.
+fn expect_body(
+    rt: &impl Abort,
+    alloc: Global,
+    edges: &Edges<'_>,
+    bit: usize,
+    one: &LoopExtent,
+    group: &GroupBodies,
+) -> Result<(), Fail>
+    requires { bit < 64 }
+{
+    let body = plain_body(alloc, edges.sources, edges.targets, edges.count, one)?;
+    for (word, is) in group.bodies.iter().zip(&body) {
+        expect_same(rt, bit as u64, has_bit(*word, bit), *is);
+    }
+    let aside = plain_aside(edges.sources, edges.targets, one.header, &body);
+    expect_same(rt, bit as u64, has_bit(group.aside, bit), aside);
+    Ok(())
+}
+
 fn expect_plain(
     rt: &impl Abort,
     alloc: Global,
-    sources: &[usize],
-    targets: &[Option<usize>],
-    count: usize,
+    edges: &Edges<'_>,
     loops: &[LoopExtent],
     group: &GroupBodies,
 ) -> Result<(), Fail> {
@@ -219,59 +253,64 @@ fn expect_plain(
         if bit >= 64 {
             return Err("there are at most 64 loops".into());
         }
-        let body = plain_body(alloc, sources, targets, count, one)?;
-        for (word, is) in group.bodies.iter().zip(&body) {
-            assert_eq!(rt; has_bit(*word, bit), *is);
-        }
-        assert_eq!(rt;
-            has_bit(group.aside, bit),
-            plain_aside(sources, targets, one.header, &body)
-        );
+        expect_body(rt, alloc, edges, bit, one, group)?;
     }
     Ok(())
 }
 
+static ENDS: [(usize, usize, usize); 9] = [
+    (1, 0, 6),
+    (1, 1, 4),
+    (5, 5, 6),
+    (3, 2, 6),
+    (0, 0, 6),
+    (2, 1, 6),
+    (4, 0, 5),
+    (5, 2, 6),
+    (2, 2, 3),
+];
+
 #[test]
 fn a_group_has_the_bodies_of_its_loops(rt: HostRuntime) -> Result<(), Fail> {
-    let mut search = BodySearch::new(rt.alloc(), &SOURCES, &TARGETS, 6)
-        .ok()
-        .ok_or("memory")?;
-    let ends = [
-        (1, 0, 6),
-        (1, 1, 4),
-        (5, 5, 6),
-        (3, 2, 6),
-        (0, 0, 6),
-        (2, 1, 6),
-        (4, 0, 5),
-        (5, 2, 6),
-        (2, 2, 3),
-    ];
-    let loops = loops_of(rt.alloc(), 6, &ends)?;
-    let group = search.group(rt.alloc(), &loops).ok().ok_or("memory")?;
-    expect_plain(&rt, rt.alloc(), &SOURCES, &TARGETS, 6, &loops, &group)?;
-    assert_eq!(rt; group.bodies.as_slice(), &[65, 99, 107, 99, 169, 173][..]);
-    assert_eq!(rt; group.aside, 234);
+    let loops = loops_of(rt.alloc(), 6, &ENDS)?;
+    let mut search = small_search(rt.alloc())?;
+    let group = search.group(rt.alloc(), &loops)?;
+    let edges = Edges {
+        sources: &SOURCES,
+        targets: &TARGETS,
+        count: 6,
+    };
+    expect_plain(&rt, rt.alloc(), &edges, &loops, &group)?;
+    expect_list(&rt, 0, &group.bodies, &[65, 99, 107, 99, 169, 173]);
+    expect_same(&rt, 0, group.aside, 234);
     Ok(())
 }
 
+/// The search in the graph whose code is laid out against its run.
+fn backward_search(alloc: Global) -> Result<BodySearch<'static>, NoMemory>
+    ensures { IfOk result (λ search. search.count ≡ 44) }
+{
+    BodySearch::new(alloc, &BACKWARD_SOURCES, &BACKWARD_TARGETS, 44)
+}
+
+static BACKWARD_ENDS: [(usize, usize, usize); 4] = [
+    (43, 0, 44),
+    (20, 0, 21),
+    (0, 0, 30),
+    (30, 2, 44),
+];
+
 #[test]
 fn a_group_is_found_where_code_is_laid_out_backwards(rt: HostRuntime) -> Result<(), Fail> {
-    let mut search = BodySearch::new(rt.alloc(), &BACKWARD_SOURCES, &BACKWARD_TARGETS, 44)
-        .ok()
-        .ok_or("memory")?;
-    let ends = [(43, 0, 44), (20, 0, 21), (0, 0, 30), (30, 2, 44)];
-    let loops = loops_of(rt.alloc(), 44, &ends)?;
-    let group = search.group(rt.alloc(), &loops).ok().ok_or("memory")?;
-    expect_plain(
-        &rt,
-        rt.alloc(),
-        &BACKWARD_SOURCES,
-        &BACKWARD_TARGETS,
-        44,
-        &loops,
-        &group,
-    )?;
-    assert_eq!(rt; group.bodies.len(), 44);
+    let loops = loops_of(rt.alloc(), 44, &BACKWARD_ENDS)?;
+    let mut search = backward_search(rt.alloc())?;
+    let group = search.group(rt.alloc(), &loops)?;
+    let edges = Edges {
+        sources: &BACKWARD_SOURCES,
+        targets: &BACKWARD_TARGETS,
+        count: 44,
+    };
+    expect_plain(&rt, rt.alloc(), &edges, &loops, &group)?;
+    expect_same(&rt, 0, group.bodies.len(), 44);
     Ok(())
 }

@@ -1,7 +1,7 @@
 //! Bounds that the code of a program shows, as its draft has them: which counters are found, and what is open.
 
 use crate::drafts::draft_text;
-use crate::programs::{CALL_5, ECALL, EXIT, JUMP_0, NO_OPERATION, RETURN};
+use crate::programs::{CALL_5, ECALL, EXIT, JUMP_0, NO_OPERATION, RETURN, expect_text};
 use std::test::Fail;
 
 /// `a0` is raised by one as long as it is below 10.
@@ -179,22 +179,22 @@ ranges = [[0x00010004, 0x00010008]]
 # no bound: no register or stack word goes on by a constant each turn, between limits that are known
 ";
 
+/// Programs, and their drafts.
+static CASES: [(&str, &[u32], &str); 8] = [
+    ("up", &UP, UP_TEXT),
+    ("down", &DOWN, DOWN_TEXT),
+    ("by three", &BY_THREE, BY_THREE_TEXT),
+    ("below zero", &BELOW_ZERO, BELOW_ZERO_TEXT),
+    ("nested", &TRIANGLE, TRIANGLE_TEXT),
+    ("with a call", &CALLED, CALLED_TEXT),
+    ("a limit in memory", &LOADED, LOADED_TEXT),
+    ("for ever", &NEVER, NEVER_TEXT),
+];
+
 #[test]
 fn bounds_are_shown_where_a_register_counts(rt: HostRuntime) -> Result<(), Fail> {
-    let alloc = rt.alloc();
-    let cases: [(&str, &[u32], &str); 8] = [
-        ("up", &UP, UP_TEXT),
-        ("down", &DOWN, DOWN_TEXT),
-        ("by three", &BY_THREE, BY_THREE_TEXT),
-        ("below zero", &BELOW_ZERO, BELOW_ZERO_TEXT),
-        ("nested", &TRIANGLE, TRIANGLE_TEXT),
-        ("with a call", &CALLED, CALLED_TEXT),
-        ("a limit in memory", &LOADED, LOADED_TEXT),
-        ("for ever", &NEVER, NEVER_TEXT),
-    ];
-    for (name, words, want) in cases {
-        let got = draft_text(alloc, words)?;
-        assert_eq!(rt; got.as_str(), want, "{name}");
+    for (name, words, want) in &CASES {
+        expect_text(&rt, name, draft_text(rt.alloc(), words), want)?;
     }
     Ok(())
 }

@@ -3,11 +3,15 @@
 use crate::loops::{CALL_AT_END, DEEP, FROM_START, NESTED, SIMPLE, TWO_ENTRIES, TWO_FUNCTIONS};
 use crate::programs::{
     BACK_1, BACK_2, BACK_3, BRANCH_0, BRANCH_2, BRANCH_3, BREAKPOINT, ECALL, EXIT, JUMP_2,
-    JUMP_BACK_3, NO_OPERATION, START, graph_of, image_of, loop_refusal_text,
+    JUMP_BACK_3, NO_OPERATION, START, expect_parts, expect_text, graph_of, image_of,
+    loop_stop_text,
 };
-use loop_drafts::{FoundLoop, draft_loops, filled_text, find_loops, printed_text};
+use loop_drafts::{
+    AsidePart, FoundLoop, FoundLoops, LoopDraft, draft_loops, filled_text, find_loops, printed_text,
+};
 use scale_base::{Refusal, Stop};
-use std::alloc::Global;
+use std::alloc::{AllocError, Global};
+use std::fmt::Write;
 use std::test::Fail;
 
 /// Words 1 and 2 both turn back to word 0.
@@ -26,66 +30,79 @@ fn word_of(at: u32) -> u32 {
     at.saturating_sub(START) / 4
 }
 
+fn push_round(text: &mut String, parent: Option<u32>) -> Result<(), AllocError> {
+    match parent {
+        Some(parent) => write!(text, " in {}", word_of(parent)),
+        None => Ok(()),
+    }
+}
+
 /// A loop by the numbers of words: its header, its depth, the header of the loop round it, and its ranges.
-fn loop_text(alloc: Global, found: &FoundLoop) -> Result<String, Fail> {
+fn push_loop(text: &mut String, found: &FoundLoop) -> Result<(), AllocError> {
     let header = word_of(found.header);
     let depth = found.depth;
-    let mut text = format!(in alloc; "{header} depth {depth}")?;
-    if let Some(parent) = found.parent {
-        let round = format!(in alloc; " in {}", word_of(parent))?;
-        text.push_str(&round)?;
-    }
+    write!(text, "{header} depth {depth}")?;
+    push_round(text, found.parent)?;
     for range in &found.ranges {
-        let next = format!(in alloc; " {}-{}", word_of(range.from), word_of(range.to))?;
-        text.push_str(&next)?;
+        write!(text, " {}-{}", word_of(range.from), word_of(range.to))?;
     }
-    text.push_str("; ")?;
+    text.push_str("; ")
+}
+
+fn push_aside(text: &mut String, part: &AsidePart) -> Result<(), AllocError> {
+    text.push_str("aside")?;
+    for entry in &part.entries {
+        write!(text, " {}", word_of(*entry))?;
+    }
+    text.push_str("; ")
+}
+
+fn push_found(text: &mut String, found: &FoundLoops) -> Result<(), AllocError> {
+    for one in &found.loops {
+        push_loop(text, one)?;
+    }
+    for part in &found.aside {
+        push_aside(text, part)?;
+    }
+    Ok(())
+}
+
+fn loops_text(alloc: Global, found: &FoundLoops) -> Result<String, Fail> {
+    let mut text = String::new(alloc);
+    push_found(&mut text, found)?;
     Ok(text)
 }
 
 /// What turns in a program: its loops, and the entries of the parts that are none.
 fn found_text(alloc: Global, words: &[u32]) -> Result<String, Fail> {
     let graph = graph_of(alloc, words)?;
-    let found = find_loops(alloc, &graph).ok().ok_or("there is memory")?;
-    let mut text = String::new(alloc);
-    for found in &found.loops {
-        let next = loop_text(alloc, found)?;
-        text.push_str(&next)?;
-    }
-    for part in &found.aside {
-        text.push_str("aside")?;
-        for entry in &part.entries {
-            let next = format!(in alloc; " {}", word_of(*entry))?;
-            text.push_str(&next)?;
-        }
-        text.push_str("; ")?;
-    }
-    Ok(text)
+    let found = find_loops(alloc, &graph)?;
+    loops_text(alloc, &found)
 }
+
+/// Programs, and what turns in them.
+static FOUND: [(&str, &[u32], &str); 10] = [
+    ("none", &[NO_OPERATION, EXIT, ECALL], ""),
+    ("simple", &SIMPLE, "1 depth 1 1-3; "),
+    ("from the start", &FROM_START, "0 depth 1 0-4; "),
+    ("nested", &NESTED, "1 depth 1 1-5; 2 depth 2 in 1 2-4; "),
+    ("two back edges", &TWO_BACK, "0 depth 1 0-3; "),
+    ("itself", &ITSELF, "0 depth 1 0-3; 1 depth 2 in 0 1-2; "),
+    ("a gap", &GAP, "0 depth 1 0-1 2-4; "),
+    ("a call within", &CALL_AT_END, "2 depth 1 1-4; "),
+    // The second function lies behind the first loop, and its own loop within it.
+    (
+        "two functions",
+        &TWO_FUNCTIONS,
+        "0 depth 1 0-3; 3 depth 1 3-5; ",
+    ),
+    ("two entries", &TWO_ENTRIES, "aside 1 3; "),
+];
 
 #[test]
 fn a_loop_is_found_for_each_part_that_turns(rt: HostRuntime) -> Result<(), Fail> {
-    let alloc = rt.alloc();
-    let cases: [(&str, &[u32], &str); 10] = [
-        ("none", &[NO_OPERATION, EXIT, ECALL], ""),
-        ("simple", &SIMPLE, "1 depth 1 1-3; "),
-        ("from the start", &FROM_START, "0 depth 1 0-4; "),
-        ("nested", &NESTED, "1 depth 1 1-5; 2 depth 2 in 1 2-4; "),
-        ("two back edges", &TWO_BACK, "0 depth 1 0-3; "),
-        ("itself", &ITSELF, "0 depth 1 0-3; 1 depth 2 in 0 1-2; "),
-        ("a gap", &GAP, "0 depth 1 0-1 2-4; "),
-        ("a call within", &CALL_AT_END, "2 depth 1 1-4; "),
-        // The second function lies behind the first loop, and its own loop within it.
-        (
-            "two functions",
-            &TWO_FUNCTIONS,
-            "0 depth 1 0-3; 3 depth 1 3-5; ",
-        ),
-        ("two entries", &TWO_ENTRIES, "aside 1 3; "),
-    ];
-    for (name, words, want) in cases {
-        let got = found_text(alloc, words)?;
-        assert_eq!(rt; got.as_str(), want, "{name}");
+    for (name, words, want) in &FOUND {
+        expect_text(&rt, name, found_text(rt.alloc(), words), want)?;
     }
     Ok(())
 }
@@ -100,29 +117,25 @@ fn many_gaps(alloc: Global) -> Result<Vec<u32>, Fail> {
     Ok(words)
 }
 
+fn gaps_text(alloc: Global) -> Result<String, Fail> {
+    let words = many_gaps(alloc)?;
+    found_text(alloc, &words)
+}
+
 /// Of 21 ranges 16 are left, since the five first of the gaps are filled, which are all of one size.
 #[test]
 fn gaps_that_lead_nowhere_are_filled(rt: HostRuntime) -> Result<(), Fail> {
-    let alloc = rt.alloc();
-    let words = many_gaps(alloc)?;
-    let got = found_text(alloc, &words)?;
     let want =
         "0 depth 1 0-17 18-20 21-23 24-26 27-29 30-32 33-35 36-38 39-41 42-44 45-47 48-50 51-53 54-56 57-59 60-61; ";
-    assert_eq!(rt; got.as_str(), want);
-    Ok(())
+    expect_text(&rt, "gaps", gaps_text(rt.alloc()), want)
 }
 
 /// The draft of a program as it is printed, or why there is none.
 pub fn draft_text(alloc: Global, words: &[u32]) -> Result<String, Fail> {
     let image = image_of(alloc, words)?;
     match draft_loops(alloc, &image) {
-        Ok(draft) => Ok(
-            printed_text(alloc, &draft.pieces)
-                .ok()
-                .ok_or("there is memory")?,
-        ),
-        Err(Stop::Refused(refusal)) => loop_refusal_text(alloc, &refusal),
-        Err(Stop::Memory) => Err("there is memory".into()),
+        Ok(draft) => Ok(printed_text(alloc, &draft.pieces)?),
+        Err(stop) => loop_stop_text(alloc, &stop),
     }
 }
 
@@ -169,13 +182,18 @@ const ASIDE_AND_ITSELF: [u32; 8] = [
     ECALL,
 ];
 
+/// Programs, and their drafts; and loops nested 17 deep.
+static DRAFTS: [(&str, &[u32], &str); 3] = [
+    ("nested", &NESTED, NESTED_TEXT),
+    ("aside and itself", &ASIDE_AND_ITSELF, ASIDE_TEXT),
+    ("deep", &DEEP, "too deep 17"),
+];
+
 #[test]
 fn drafts_are_printed_with_the_numbers_of_their_loops(rt: HostRuntime) -> Result<(), Fail> {
-    let alloc = rt.alloc();
-    let nested = draft_text(alloc, &NESTED)?;
-    assert_eq!(rt; nested.as_str(), NESTED_TEXT);
-    let aside = draft_text(alloc, &ASIDE_AND_ITSELF)?;
-    assert_eq!(rt; aside.as_str(), ASIDE_TEXT);
+    for (name, words, want) in &DRAFTS {
+        expect_text(&rt, name, draft_text(rt.alloc(), words), want)?;
+    }
     Ok(())
 }
 
@@ -189,7 +207,8 @@ const ONE_LESS_IN_5: u32 = 0xFFF2_8293;
 /// Back by a word while register 5 isn't 0.
 const BACK_IF_5: u32 = 0xFE02_9EE3;
 
-const COUNTS_DOWN_TEXT: &str = "# returns: proved
+const COUNTS_DOWN_TEXT: &str = "1 1 0 0
+# returns: proved
 # draft of loops: 1 loops, 0 without a bound
 version = 2
 
@@ -201,50 +220,59 @@ ranges = [[0x00010004, 0x0001000c]]
 bound = 9
 ";
 
+/// How many loops a draft has, how many bounds are shown and how many aren't, how many parts are no loops, and its text, with a bound filled in if there is one.
+fn counted_text(alloc: Global, draft: &LoopDraft, bound: Option<u32>) -> Result<String, Fail> {
+    let LoopDraft {
+        loops,
+        proved,
+        unbounded,
+        aside,
+        ..
+    } = draft;
+    let mut text = format!(in alloc; "{loops} {proved} {unbounded} {aside}\n")?;
+    let more = match bound {
+        Some(bound) => filled_text(alloc, &draft.pieces, bound)?,
+        None => printed_text(alloc, &draft.pieces)?,
+    };
+    text.push_str(&more)?;
+    Ok(text)
+}
+
+fn draft_of(alloc: Global, words: &[u32], bound: Option<u32>) -> Result<String, Fail> {
+    let image = image_of(alloc, words)?;
+    match draft_loops(alloc, &image) {
+        Ok(draft) => counted_text(alloc, &draft, bound),
+        Err(stop) => loop_stop_text(alloc, &stop),
+    }
+}
+
 #[test]
 fn bounds_that_the_code_shows_are_printed(rt: HostRuntime) -> Result<(), Fail> {
-    let alloc = rt.alloc();
-    let image = image_of(alloc, &COUNTS_DOWN)?;
-    let Ok(draft) = draft_loops(alloc, &image) else {
-        return Err("a draft".into());
-    };
-    assert_eq!(rt; (draft.loops, draft.proved, draft.unbounded), (1, 1, 0));
-    let text = printed_text(alloc, &draft.pieces)
-        .ok()
-        .ok_or("there is memory")?;
-    assert_eq!(rt; text.as_str(), COUNTS_DOWN_TEXT);
-    Ok(())
+    let found = draft_of(rt.alloc(), &COUNTS_DOWN, None);
+    expect_text(&rt, "counts down", found, COUNTS_DOWN_TEXT)
 }
 
 #[test]
 fn bounds_are_filled_in_where_none_is_known(rt: HostRuntime) -> Result<(), Fail> {
-    let alloc = rt.alloc();
-    let image = image_of(alloc, &SIMPLE)?;
-    let Ok(draft) = draft_loops(alloc, &image) else {
-        return Err("a draft".into());
-    };
-    let counts = (draft.loops, draft.proved, draft.unbounded, draft.aside);
-    assert_eq!(rt; counts, (1, 0, 1, 0));
-    let text = filled_text(alloc, &draft.pieces, 12)
-        .ok()
-        .ok_or("there is memory")?;
-    assert!(rt; text.as_str().ends_with("are known\nbound = 12\n"));
-    Ok(())
+    let found = draft_of(rt.alloc(), &SIMPLE, Some(12));
+    let parts = ["1 0 1 0\n", "are known\nbound = 12\n"];
+    expect_parts(&rt, "simple", found, &parts)
 }
 
-/// Loops nested 17 deep, and more loops than a file may have.
-#[test]
-fn loops_that_no_file_may_have_are_refused(rt: HostRuntime) -> Result<(), Fail> {
-    let alloc = rt.alloc();
-    let deep = draft_text(alloc, &DEEP)?;
-    assert_eq!(rt; deep.as_str(), "too deep 17");
-    let mut many = vec![in alloc; BRANCH_0; 4097]?;
-    many.extend_from_slice(&[EXIT, ECALL])?;
-    let image = image_of(alloc, &many)?;
-    let count = match draft_loops(alloc, &image) {
+/// How many loops an image has, if they are too many for a file.
+fn too_many(alloc: Global, image: &[u8]) -> u32 {
+    match draft_loops(alloc, image) {
         Err(Stop::Refused(Refusal::TooManyLoops(count))) => count,
         _ => 0,
-    };
-    assert_eq!(rt; count, 4097);
+    }
+}
+
+/// More loops than a file may have.
+#[test]
+fn loops_that_no_file_may_have_are_refused(rt: HostRuntime) -> Result<(), Fail> {
+    let mut many = vec![in rt.alloc(); BRANCH_0; 4097]?;
+    many.extend_from_slice(&[EXIT, ECALL])?;
+    let image = image_of(rt.alloc(), &many)?;
+    assert_eq!(rt; too_many(rt.alloc(), &image), 4097);
     Ok(())
 }

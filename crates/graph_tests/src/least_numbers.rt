@@ -5,15 +5,18 @@ ghost use Rattle.graph_algorithms.specs.Arcs.{number_in_place};
 ghost use Rattle.cost_theory.specs.Accepted.{AreWeights};
 ghost use Rattle.flow_graph.specs.FlowGraph.{graph as graph_seen};
 ghost use Rattle.loop_forest.specs.Tree.{IsLoopTree};
+ghost use Rattle.least_cycles.specs.Found.{AreSmallLeast};
 
 use crate::programs::{
-    BACK_1, BACK_2, BACK_3, CALL_4, CALL_5, ECALL, EXIT, NO_OPERATION, RETURN, program_of,
+    BACK_1, BACK_2, BACK_3, CALL_4, CALL_5, ECALL, EXIT, NO_OPERATION, RETURN, expect_parts,
+    program_of,
 };
 use flow_graph::{CodeGraph, Weights};
-use least_cycles::least;
+use least_cycles::{LeastNumbers, least};
 use loop_forest::LoopTree;
 use scale_base::{NoMemory, Stop};
-use std::alloc::Global;
+use std::alloc::{AllocError, Global};
+use std::fmt::Write;
 use std::process::Abort;
 use std::test::Fail;
 use worst_cycles::worst;
@@ -45,175 +48,211 @@ fn weight_of(graph: &CodeGraph, list: &[u32], e: usize) -> u32
     }
 }
 
-/// The least numbers under weights of the edges: by node to a return and to an end, and by edge.
+/// The least numbers under weights of the edges.
 fn all_least(
     alloc: Global,
     graph: &CodeGraph,
     tree: &LoopTree,
     list: &[u32],
-) -> Result<[Vec<Option<u128>>; 3], Stop>
+) -> Result<LeastNumbers, Stop>
     requires tree { (extent : ℕ → ℕ → Bool) × IsLoopTree graph.now extent tree.now }
+    ensures small { IfOk result (λ x. AreSmallLeast graph.now x) }
 {
     let _functions = graph.function_count();
     let weights = weights_of(alloc, graph, list)?;
     let _worst = worst(alloc, graph, tree, &weights)?;
-    let found = least(alloc, graph, tree, &weights)?;
-    let mut returns = Vec::new(alloc);
-    let mut ends = Vec::new(alloc);
+    Ok(least(alloc, graph, tree, &weights)?)
+}
+
+/// A number; nothing where there is none.
+fn push_number(text: &mut String, number: Option<u128>) -> Result<(), AllocError> {
+    match number {
+        Some(number) => write!(text, " {number}"),
+        None => text.push_str(" -"),
+    }
+}
+
+/// The least cycles by node to a return, and to an end.
+fn push_nodes(text: &mut String, graph: &CodeGraph, found: &LeastNumbers) -> Result<(), AllocError>
+    requires small { AreSmallLeast graph.now found.now }
+{
+    text.push_str("returns")?;
     for k in 0..graph.node_count() {
-        returns.push(found.to_return(k))?;
-        ends.push(found.to_end(k))?;
+        push_number(text, found.to_return(k))?;
     }
-    let mut after = Vec::new(alloc);
+    text.push_str("; ends")?;
+    for k in 0..graph.node_count() {
+        push_number(text, found.to_end(k))?;
+    }
+    Ok(())
+}
+
+/// Those to an end behind each edge.
+fn push_edges(text: &mut String, graph: &CodeGraph, found: &LeastNumbers) -> Result<(), AllocError>
+    requires small { AreSmallLeast graph.now found.now }
+{
+    text.push_str("; behind")?;
     for e in 0..graph.edge_count() {
-        after.push(found.to_end_after(e))?;
+        push_number(text, found.to_end_after(e))?;
     }
-    Ok([returns, ends, after])
+    text.push_str(";")
 }
 
-fn least_of(
+fn numbers_text(alloc: Global, graph: &CodeGraph, found: &LeastNumbers) -> Result<String, Fail>
+    requires small { AreSmallLeast graph.now found.now }
+{
+    let mut text = String::new(alloc);
+    push_nodes(&mut text, graph, found)?;
+    push_edges(&mut text, graph, found)?;
+    Ok(text)
+}
+
+fn least_text(
     alloc: Global,
-    words: &[u32],
-    loops: &str,
+    graph: &CodeGraph,
+    tree: &LoopTree,
     list: &[u32],
-) -> Result<[Vec<Option<u128>>; 3], Fail> {
-    let program = program_of(alloc, words, loops)?;
-    let found = all_least(alloc, &program.graph, &program.tree, list);
-    Ok(found.ok().ok_or("there are numbers")?)
-}
-
-/// The numbers that are there are these; 0 stands for none.
-fn expect_numbers(rt: &impl Abort, name: &str, found: &[Option<u128>], want: &[u128]) {
-    assert_eq!(rt; found.len(), want.len(), "{name}");
-    for (one, number) in found.iter().zip(want) {
-        let want = if *number == 0 { None } else { Some(*number) };
-        assert_eq!(rt; *one, want, "{name}");
+) -> Result<String, Fail>
+    requires tree { (extent : ℕ → ℕ → Bool) × IsLoopTree graph.now extent tree.now }
+{
+    match all_least(alloc, graph, tree, list) {
+        Ok(found) => numbers_text(alloc, graph, &found),
+        Err(_) => Err("there are numbers".into()),
     }
 }
 
-/// A program, the weights of its edges where they aren't 1, and its least cycles by node to an end of the run.
+fn least_of(alloc: Global, words: &[u32], loops: &str, list: &[u32]) -> Result<String, Fail> {
+    let program = program_of(alloc, words, loops)?;
+    least_text(alloc, &program.graph, &program.tree, list)
+}
+
+/// A program with its loops, and the weights of its edges where they aren't 1; and parts of what is found.
+#[derive(Clone, Copy)]
+struct Case {
+    name: &'static str,
+    words: &'static [u32],
+    loops: &'static str,
+    weights: &'static [u32],
+    parts: [&'static str; 2],
+}
+
+fn expect_cases(rt: &impl Abort, alloc: Global, cases: &[Case]) -> Result<(), Fail> {
+    for case in cases {
+        let found = least_of(alloc, case.words, case.loops, case.weights);
+        expect_parts(rt, case.name, found, &case.parts)?;
+    }
+    Ok(())
+}
+
+/// Least cycles to an end of the run.
+static ENDS: [Case; 5] = [
+    // A division follows the calls, and the function multiplies and returns.
+    Case {
+        name: "a call adds what its function takes",
+        words: &[
+            CALL_5,
+            CALL_4,
+            0x0262_C2B3,
+            EXIT,
+            ECALL,
+            0x0262_82B3,
+            RETURN,
+        ],
+        loops: NO_LOOPS,
+        weights: &[1, 1, 1, 1, 10, 1, 5, 3, 2],
+        parts: ["; ends 28 22 16 6 5 21 18;", "returns"],
+    },
+    // One turn of the outer loop takes 4 cycles and 2 turns of the inner one, which take 2 cycles each.
+    Case {
+        name: "a loop within a loop that is entered is charged in each turn",
+        words: &[
+            NO_OPERATION,
+            NO_OPERATION,
+            NO_OPERATION,
+            BACK_1,
+            BACK_3,
+            EXIT,
+            ECALL,
+        ],
+        loops: "version = 2\nloop = [{header = 0x10004, ranges = [[0x10004, 0x10014]], bound = 5, at_least = 3}, {header = 0x10008, ranges = [[0x10008, 0x10010]], bound = 5, at_least = 2}]\n",
+        weights: &[],
+        parts: ["; ends 35 10 5 4 3 2 1;", "returns"],
+    },
+    // The ECALL in the loop may exit.
+    Case {
+        name: "a loop in which a run may exit is not charged",
+        words: &[NO_OPERATION, NO_OPERATION, ECALL, BACK_2, EXIT, ECALL],
+        loops: "version = 2\nloop = [{header = 0x10004, ranges = [[0x10004, 0x10010]], bound = 10, at_least = 9}]\n",
+        weights: &[],
+        parts: ["; ends 3 2 1 3 2 1;", "returns"],
+    },
+    // The loop calls a function in which the run may exit.
+    Case {
+        name: "a loop with a call that may exit is not charged",
+        words: &[
+            NO_OPERATION,
+            CALL_4,
+            BACK_1,
+            EXIT,
+            ECALL,
+            NO_OPERATION,
+            ECALL,
+            RETURN,
+        ],
+        loops: "version = 2\nloop = [{header = 0x10004, ranges = [[0x10004, 0x1000c]], bound = 10, at_least = 9}]\n",
+        weights: &[],
+        parts: ["; ends 4 3 3 2 1 2 1 4;", "returns"],
+    },
+    // The sixth and the seventh word are called by the first and the second.
+    Case {
+        name: "ends of a function are behind the call that is next to the exit",
+        words: &[
+            CALL_5,
+            CALL_4,
+            NO_OPERATION,
+            EXIT,
+            ECALL,
+            NO_OPERATION,
+            RETURN,
+        ],
+        loops: NO_LOOPS,
+        weights: &[],
+        parts: ["returns - - - - - 2 1;", "; ends 9 6 3 2 1 5 4;"],
+    },
+];
+
 #[test]
 fn finds_the_least_cycles_to_an_end(rt: HostRuntime) -> Result<(), Fail> {
-    let cases: [(&str, &[u32], &str, &[u32], &[u128]); 4] = [
-        // A division follows the calls, and the function multiplies and returns.
-        (
-            "a call adds what its function takes",
-            &[
-                CALL_5,
-                CALL_4,
-                0x0262_C2B3,
-                EXIT,
-                ECALL,
-                0x0262_82B3,
-                RETURN,
-            ],
-            NO_LOOPS,
-            &[1, 1, 1, 1, 10, 1, 5, 3, 2],
-            &[28, 22, 16, 6, 5, 21, 18],
-        ),
-        // One turn of the outer loop takes 4 cycles and 2 turns of the inner one, which take 2 cycles each.
-        (
-            "a loop within a loop that is entered is charged in each turn",
-            &[
-                NO_OPERATION,
-                NO_OPERATION,
-                NO_OPERATION,
-                BACK_1,
-                BACK_3,
-                EXIT,
-                ECALL,
-            ],
-            "version = 2\nloop = [{header = 0x10004, ranges = [[0x10004, 0x10014]], bound = 5, at_least = 3}, {header = 0x10008, ranges = [[0x10008, 0x10010]], bound = 5, at_least = 2}]\n",
-            &[],
-            &[35, 10, 5, 4, 3, 2, 1],
-        ),
-        // The ECALL in the loop may exit.
-        (
-            "a loop in which a run may exit is not charged",
-            &[NO_OPERATION, NO_OPERATION, ECALL, BACK_2, EXIT, ECALL],
-            "version = 2\nloop = [{header = 0x10004, ranges = [[0x10004, 0x10010]], bound = 10, at_least = 9}]\n",
-            &[],
-            &[3, 2, 1, 3, 2, 1],
-        ),
-        // The loop calls a function in which the run may exit.
-        (
-            "a loop with a call that may exit is not charged",
-            &[
-                NO_OPERATION,
-                CALL_4,
-                BACK_1,
-                EXIT,
-                ECALL,
-                NO_OPERATION,
-                ECALL,
-                RETURN,
-            ],
-            "version = 2\nloop = [{header = 0x10004, ranges = [[0x10004, 0x1000c]], bound = 10, at_least = 9}]\n",
-            &[],
-            &[4, 3, 3, 2, 1, 2, 1, 4],
-        ),
-    ];
-    for (name, words, loops, weights, want) in cases {
-        let [_, ends, _] = least_of(rt.alloc(), words, loops, weights)?;
-        expect_numbers(&rt, name, &ends, want);
-    }
-    Ok(())
+    expect_cases(&rt, rt.alloc(), &ENDS)
 }
 
-#[test]
-fn ends_of_a_function_are_behind_the_call_that_is_next_to_the_exit(
-    rt: HostRuntime,
-) -> Result<(), Fail> {
-    // The sixth and the seventh word are called by the first and the second.
-    let words = [
-        CALL_5,
-        CALL_4,
-        NO_OPERATION,
-        EXIT,
-        ECALL,
-        NO_OPERATION,
-        RETURN,
-    ];
-    let [returns, ends, _] = least_of(rt.alloc(), &words, NO_LOOPS, &[])?;
-    expect_numbers(&rt, "ends", &ends, &[9, 6, 3, 2, 1, 5, 4]);
-    expect_numbers(&rt, "returns", &returns, &[0, 0, 0, 0, 0, 2, 1]);
-    Ok(())
-}
+/// Least cycles to an end of the run, by node and behind each edge.
+static ENTERED: [Case; 3] = [
+    Case {
+        name: "a loop may be left at once",
+        words: &[NO_OPERATION, NO_OPERATION, BACK_1, EXIT, ECALL],
+        loops: "version = 2\nloop = [{header = 0x10004, ranges = [[0x10004, 0x1000c]], bound = 10}]\n",
+        weights: &[],
+        parts: ["; ends 5 4 3 2 1;", "; behind 4 3 4 2 1 -;"],
+    },
+    Case {
+        name: "an edge into a loop is charged its turns",
+        words: &[0x00A0_0293, NO_OPERATION, BACK_1, EXIT, ECALL],
+        loops: "version = 2\nloop = [{header = 0x10004, ranges = [[0x10004, 0x1000c]], bound = 10, at_least = 9}]\n",
+        weights: &[1, 1, 2, 1, 1, 5],
+        parts: ["; ends 36 8 7 6 5;", "; behind 35 7 8 6 5 -;"],
+    },
+    // The branches lead to the second and to the first word.
+    Case {
+        name: "a turn is charged the loop within",
+        words: &[NO_OPERATION, NO_OPERATION, BACK_1, BACK_3, EXIT, ECALL],
+        loops: "version = 2\nloop = [{header = 0x10000, ranges = [[0x10000, 0x10010]], bound = 5, at_least = 3}, {header = 0x10004, ranges = [[0x10004, 0x1000c]], bound = 5, at_least = 2}]\n",
+        weights: &[],
+        parts: ["; ends 10 5 4 3 2 1;", "; behind 9 4 5 3 10 2 1 -;"],
+    },
+];
 
-/// A program, the weights of its edges, and its least cycles to an end of the run, by node and behind each edge.
 #[test]
 fn charges_loops_to_the_edges_that_enter_them(rt: HostRuntime) -> Result<(), Fail> {
-    let cases: [(&str, &[u32], &str, &[u32], &[u128], &[u128]); 3] = [
-        (
-            "a loop may be left at once",
-            &[NO_OPERATION, NO_OPERATION, BACK_1, EXIT, ECALL],
-            "version = 2\nloop = [{header = 0x10004, ranges = [[0x10004, 0x1000c]], bound = 10}]\n",
-            &[],
-            &[5, 4, 3, 2, 1],
-            &[4, 3, 4, 2, 1, 0],
-        ),
-        (
-            "an edge into a loop is charged its turns",
-            &[0x00A0_0293, NO_OPERATION, BACK_1, EXIT, ECALL],
-            "version = 2\nloop = [{header = 0x10004, ranges = [[0x10004, 0x1000c]], bound = 10, at_least = 9}]\n",
-            &[1, 1, 2, 1, 1, 5],
-            &[36, 8, 7, 6, 5],
-            &[35, 7, 8, 6, 5, 0],
-        ),
-        // The branches lead to the second and to the first word.
-        (
-            "a turn is charged the loop within",
-            &[NO_OPERATION, NO_OPERATION, BACK_1, BACK_3, EXIT, ECALL],
-            "version = 2\nloop = [{header = 0x10000, ranges = [[0x10000, 0x10010]], bound = 5, at_least = 3}, {header = 0x10004, ranges = [[0x10004, 0x1000c]], bound = 5, at_least = 2}]\n",
-            &[],
-            &[10, 5, 4, 3, 2, 1],
-            &[9, 4, 5, 3, 10, 2, 1, 0],
-        ),
-    ];
-    for (name, words, loops, weights, nodes, edges) in cases {
-        let [_, ends, after] = least_of(rt.alloc(), words, loops, weights)?;
-        expect_numbers(&rt, name, &ends, nodes);
-        expect_numbers(&rt, name, &after, edges);
-    }
-    Ok(())
+    expect_cases(&rt, rt.alloc(), &ENTERED)
 }

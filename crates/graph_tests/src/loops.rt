@@ -1,14 +1,20 @@
 //! The loops of programs: their bodies and nesting, their back edges and trips, and what is refused.
 
+ghost use Rattle.std.specs.Prelude.{ℕ, Bool};
+ghost use Rattle.loop_forest.specs.Tree.{IsLoopTree};
+
 use crate::programs::{
     BACK_1, BACK_3, BRANCH_0, BRANCH_2, BRANCH_3, CALL_2, CALL_5, ECALL, EXIT, JUMP_2, JUMP_BACK_1,
-    JUMP_BACK_2, JUMP_BACK_3, NO_OPERATION, RETURN, START, graph_of, loop_refusal_text,
+    JUMP_BACK_2, JUMP_BACK_3, NO_OPERATION, RETURN, START, expect_list, expect_same, expect_text,
+    graph_of, loop_stop_text,
 };
+use flow_graph::CodeGraph;
 use loop_file::{LoopNote, LoopNotes, RangeList};
 use loop_forest::LoopTree;
 use loop_tree::build_loops;
-use scale_base::{Range, Refusal, Stop};
-use std::alloc::Global;
+use scale_base::{Range, Stop};
+use std::alloc::{AllocError, Global};
+use std::fmt::Write;
 use std::process::Abort;
 use std::test::Fail;
 
@@ -115,17 +121,22 @@ pub const DEEP: [u32; 36] = [
     ECALL,
 ];
 
+/// The address of a word.
+fn address_of(word: u8) -> u32 {
+    START + 4 * u32::from(word)
+}
+
 /// Notes of loops of the bound 5, which turn at least 3 times. The second is counted.
 fn notes_of(alloc: Global, loops: &[Places]) -> Result<LoopNotes, Fail> {
     let mut notes = LoopNotes::new(alloc);
     for (header, from, to) in loops {
         let mut items = Vec::new(alloc);
         items.push(Range {
-            from: START + 4 * u32::from(*from),
-            to: START + 4 * u32::from(*to),
+            from: address_of(*from),
+            to: address_of(*to),
         })?;
         let note = LoopNote {
-            header: START + 4 * u32::from(*header),
+            header: address_of(*header),
             ranges: RangeList::from_vec(items),
             bound: 5,
             counted: notes.count() == 1,
@@ -139,42 +150,50 @@ fn notes_of(alloc: Global, loops: &[Places]) -> Result<LoopNotes, Fail> {
     Ok(notes)
 }
 
-/// The loops of a program, or why they are refused.
-fn tree_of(
-    alloc: Global,
-    words: &[u32],
-    loops: &[Places],
-) -> Result<Result<LoopTree, Refusal>, Fail> {
+fn built_tree(alloc: Global, graph: &CodeGraph, notes: &LoopNotes) -> Result<LoopTree, Fail> {
+    match build_loops(alloc, graph, notes) {
+        Ok(tree) => Ok(tree),
+        Err(_) => Err("the loops are accepted".into()),
+    }
+}
+
+/// The loops of a program.
+fn tree_of(alloc: Global, words: &[u32], loops: &[Places]) -> Result<LoopTree, Fail> {
     let graph = graph_of(alloc, words)?;
     let notes = notes_of(alloc, loops)?;
-    match build_loops(alloc, &graph, &notes) {
-        Ok(tree) => Ok(Ok(tree)),
-        Err(Stop::Refused(refusal)) => Ok(Err(refusal)),
-        Err(Stop::Memory) => Err("there is memory".into()),
+    built_tree(alloc, &graph, &notes)
+}
+
+/// The header of a loop with its body.
+fn push_body(text: &mut String, header: usize, body: &[usize]) -> Result<(), AllocError> {
+    write!(text, "{header}:")?;
+    for node in body {
+        write!(text, " {node}")?;
     }
+    text.push_str("; ")
 }
 
 /// Each header with the body of its loop.
 fn loops_text(alloc: Global, tree: &LoopTree) -> Result<String, Fail> {
     let mut text = String::new(alloc);
     for l in 0..tree.loop_count() {
-        let head = format!(in alloc; "{}:", tree.header(l))?;
-        text.push_str(&head)?;
-        for node in tree.body(l) {
-            let next = format!(in alloc; " {node}")?;
-            text.push_str(&next)?;
-        }
-        text.push_str("; ")?;
+        push_body(&mut text, tree.header(l), tree.body(l))?;
     }
     Ok(text)
 }
 
+fn loops_or_refusal(alloc: Global, graph: &CodeGraph, notes: &LoopNotes) -> Result<String, Fail> {
+    match build_loops(alloc, graph, notes) {
+        Ok(tree) => loops_text(alloc, &tree),
+        Err(stop) => loop_stop_text(alloc, &stop),
+    }
+}
+
 /// What is found of a program's loops.
 fn answer(alloc: Global, words: &[u32], loops: &[Places]) -> Result<String, Fail> {
-    match tree_of(alloc, words, loops)? {
-        Ok(tree) => loops_text(alloc, &tree),
-        Err(refusal) => loop_refusal_text(alloc, &refusal),
-    }
+    let graph = graph_of(alloc, words)?;
+    let notes = notes_of(alloc, loops)?;
+    loops_or_refusal(alloc, &graph, &notes)
 }
 
 fn expect(
@@ -185,163 +204,183 @@ fn expect(
     loops: &[Places],
     expected: &str,
 ) -> Result<(), Fail> {
-    let got = answer(alloc, words, loops)?;
-    assert_eq!(rt; got.as_str(), expected, "{name}");
-    Ok(())
+    expect_text(rt, name, answer(alloc, words, loops), expected)
 }
 
+/// Of the deep loops two alone.
+const TWO_DEEP: [u32; 22] = [
+    NO_OPERATION,
+    NO_OPERATION,
+    NO_OPERATION,
+    NO_OPERATION,
+    NO_OPERATION,
+    NO_OPERATION,
+    NO_OPERATION,
+    NO_OPERATION,
+    NO_OPERATION,
+    NO_OPERATION,
+    NO_OPERATION,
+    NO_OPERATION,
+    NO_OPERATION,
+    NO_OPERATION,
+    NO_OPERATION,
+    NO_OPERATION,
+    NO_OPERATION,
+    BACK_1,
+    NO_OPERATION,
+    BACK_5,
+    EXIT,
+    ECALL,
+];
+
 /// The loops of a program, and the nodes of each by its header.
+static BODIES: [(&str, &[u32], &[Places], &str); 8] = [
+    ("no loop", &[NO_OPERATION, EXIT, ECALL], &[], ""),
+    ("simple", &SIMPLE, &[(1, 1, 3)], "1: 1 2; "),
+    (
+        "the header is in its extent in any case",
+        &SIMPLE,
+        &[(1, 2, 3)],
+        "1: 1 2; ",
+    ),
+    ("a wider extent", &SIMPLE, &[(1, 1, 5)], "1: 1 2; "),
+    ("from the start", &FROM_START, &[(0, 0, 4)], "0: 0 1 2 3; "),
+    (
+        "a call at the end",
+        &CALL_AT_END,
+        &[(2, 1, 7)],
+        "2: 1 2 3; ",
+    ),
+    // Each loop lies in the range of the other, and none of its nodes in the other's body.
+    (
+        "two functions",
+        &TWO_FUNCTIONS,
+        &[(0, 0, 6), (3, 0, 6)],
+        "0: 0 1 2; 3: 3 4; ",
+    ),
+    (
+        "nested",
+        &TWO_DEEP,
+        &[(16, 16, 18), (14, 14, 20)],
+        "16: 16 17; 14: 14 15 16 17 18 19; ",
+    ),
+];
+
 #[test]
 fn finds_the_bodies_of_loops(rt: HostRuntime) -> Result<(), Fail> {
-    // Of the deep loops two alone.
-    let mut two_deep = [NO_OPERATION; 22];
-    two_deep[17] = BACK_1;
-    two_deep[19] = BACK_5;
-    two_deep[20] = EXIT;
-    two_deep[21] = ECALL;
-    let cases: [(&str, &[u32], &[Places], &str); 8] = [
-        ("no loop", &[NO_OPERATION, EXIT, ECALL], &[], ""),
-        ("simple", &SIMPLE, &[(1, 1, 3)], "1: 1 2; "),
-        (
-            "the header is in its extent in any case",
-            &SIMPLE,
-            &[(1, 2, 3)],
-            "1: 1 2; ",
-        ),
-        ("a wider extent", &SIMPLE, &[(1, 1, 5)], "1: 1 2; "),
-        ("from the start", &FROM_START, &[(0, 0, 4)], "0: 0 1 2 3; "),
-        (
-            "a call at the end",
-            &CALL_AT_END,
-            &[(2, 1, 7)],
-            "2: 1 2 3; ",
-        ),
-        // Each loop lies in the range of the other, and none of its nodes in the other's body.
-        (
-            "two functions",
-            &TWO_FUNCTIONS,
-            &[(0, 0, 6), (3, 0, 6)],
-            "0: 0 1 2; 3: 3 4; ",
-        ),
-        (
-            "nested",
-            &two_deep,
-            &[(16, 16, 18), (14, 14, 20)],
-            "16: 16 17; 14: 14 15 16 17 18 19; ",
-        ),
-    ];
-    for (name, words, loops, want) in cases {
+    for (name, words, loops, want) in &BODIES {
         expect(&rt, rt.alloc(), name, words, loops, want)?;
     }
     Ok(())
 }
 
 /// The loops of a program, and why they are refused.
+static REFUSED: [(&str, &[u32], &[Places], &str); 15] = [
+    (
+        "the second header",
+        &SIMPLE,
+        &[(1, 1, 3), (9, 1, 3), (8, 1, 3)],
+        "not reached 2",
+    ),
+    (
+        "before the same header",
+        &SIMPLE,
+        &[(1, 1, 3), (1, 1, 3), (8, 1, 3)],
+        "not reached 3",
+    ),
+    (
+        "a header beyond",
+        &NESTED,
+        &[OUTER, (8, 8, 9)],
+        "not reached 2",
+    ),
+    (
+        "the least loops with one header",
+        &SIMPLE,
+        &[
+            (1, 1, 3),
+            (0, 0, 1),
+            (0, 0, 3),
+            (1, 1, 3),
+            (0, 0, 1),
+            (1, 0, 1),
+        ],
+        "same header 1 4",
+    ),
+    (
+        "two loops with one header",
+        &SIMPLE,
+        &[(0, 0, 3), (3, 0, 1), (2, 0, 1), (3, 0, 1)],
+        "same header 2 4",
+    ),
+    (
+        "no edge turns back",
+        &SIMPLE,
+        &[(1, 1, 3), (0, 0, 5), (3, 0, 5)],
+        "no back edge 2",
+    ),
+    (
+        "an edge from outside the extent",
+        &SIMPLE,
+        &[(1, 3, 5)],
+        "no back edge 1",
+    ),
+    // A side entry of a loop before it is told later.
+    (
+        "before a side entry",
+        &TWO_ENTRIES,
+        &[(1, 1, 5), (0, 0, 7)],
+        "no back edge 2",
+    ),
+    // Word 0 leads back to word 1 too, and lies in the range.
+    (
+        "the start in the body",
+        &SIMPLE,
+        &[(1, 0, 5)],
+        "side entry 1 0x10000 0x10000",
+    ),
+    (
+        "an edge past the header",
+        &TWO_ENTRIES,
+        &[(1, 1, 5)],
+        "side entry 1 0x10000 0x1000c",
+    ),
+    (
+        "another header",
+        &FROM_START,
+        &[(2, 0, 4)],
+        "side entry 1 0x10000 0x10000",
+    ),
+    (
+        "the second loop",
+        &FROM_START,
+        &[(0, 0, 4), (3, 0, 4)],
+        "side entry 2 0x10000 0x10000",
+    ),
+    (
+        "no loop is noted",
+        &SIMPLE,
+        &[],
+        "unbounded cycle 0x10004 0x10008",
+    ),
+    (
+        "names a cycle from its least address",
+        &[JUMP_2, NO_OPERATION, JUMP_BACK_1],
+        &[],
+        "unbounded cycle 0x10004 0x10008",
+    ),
+    // The outer loop is noted, and the inner one isn't.
+    (
+        "names a cycle beside a loop",
+        &NESTED,
+        &[OUTER],
+        "unbounded cycle 0x10008 0x1000c",
+    ),
+];
+
 #[test]
 fn refuses_loops(rt: HostRuntime) -> Result<(), Fail> {
-    let cases: [(&str, &[u32], &[Places], &str); 15] = [
-        (
-            "the second header",
-            &SIMPLE,
-            &[(1, 1, 3), (9, 1, 3), (8, 1, 3)],
-            "not reached 2",
-        ),
-        (
-            "before the same header",
-            &SIMPLE,
-            &[(1, 1, 3), (1, 1, 3), (8, 1, 3)],
-            "not reached 3",
-        ),
-        (
-            "a header beyond",
-            &NESTED,
-            &[OUTER, (8, 8, 9)],
-            "not reached 2",
-        ),
-        (
-            "the least loops with one header",
-            &SIMPLE,
-            &[
-                (1, 1, 3),
-                (0, 0, 1),
-                (0, 0, 3),
-                (1, 1, 3),
-                (0, 0, 1),
-                (1, 0, 1),
-            ],
-            "same header 1 4",
-        ),
-        (
-            "two loops with one header",
-            &SIMPLE,
-            &[(0, 0, 3), (3, 0, 1), (2, 0, 1), (3, 0, 1)],
-            "same header 2 4",
-        ),
-        (
-            "no edge turns back",
-            &SIMPLE,
-            &[(1, 1, 3), (0, 0, 5), (3, 0, 5)],
-            "no back edge 2",
-        ),
-        (
-            "an edge from outside the extent",
-            &SIMPLE,
-            &[(1, 3, 5)],
-            "no back edge 1",
-        ),
-        // A side entry of a loop before it is told later.
-        (
-            "before a side entry",
-            &TWO_ENTRIES,
-            &[(1, 1, 5), (0, 0, 7)],
-            "no back edge 2",
-        ),
-        // Word 0 leads back to word 1 too, and lies in the range.
-        (
-            "the start in the body",
-            &SIMPLE,
-            &[(1, 0, 5)],
-            "side entry 1 0x10000 0x10000",
-        ),
-        (
-            "an edge past the header",
-            &TWO_ENTRIES,
-            &[(1, 1, 5)],
-            "side entry 1 0x10000 0x1000c",
-        ),
-        (
-            "another header",
-            &FROM_START,
-            &[(2, 0, 4)],
-            "side entry 1 0x10000 0x10000",
-        ),
-        (
-            "the second loop",
-            &FROM_START,
-            &[(0, 0, 4), (3, 0, 4)],
-            "side entry 2 0x10000 0x10000",
-        ),
-        (
-            "no loop is noted",
-            &SIMPLE,
-            &[],
-            "unbounded cycle 0x10004 0x10008",
-        ),
-        (
-            "names a cycle from its least address",
-            &[JUMP_2, NO_OPERATION, JUMP_BACK_1],
-            &[],
-            "unbounded cycle 0x10004 0x10008",
-        ),
-        // The outer loop is noted, and the inner one isn't.
-        (
-            "names a cycle beside a loop",
-            &NESTED,
-            &[OUTER],
-            "unbounded cycle 0x10008 0x1000c",
-        ),
-    ];
-    for (name, words, loops, want) in cases {
+    for (name, words, loops, want) in &REFUSED {
         expect(&rt, rt.alloc(), name, words, loops, want)?;
     }
     Ok(())
@@ -363,19 +402,31 @@ fn turning_loops(alloc: Global, turning: u8) -> Result<Vec<Places>, Fail> {
     Ok(loops)
 }
 
+/// The loops of 66 words that branch to themselves, and one more loop or two.
+fn loops_behind(alloc: Global, more: &[Places]) -> Result<Vec<Places>, Fail> {
+    let mut loops = turning_loops(alloc, 66)?;
+    loops.extend_from_slice(more)?;
+    Ok(loops)
+}
+
+/// Words 67 to 70 turn back to word 67, and word 66 also leads to word 69.
+/// The same words, with word 69 for the header, which word 67 leads to past word 68.
+static ASIDE: [(&str, &[Places]); 2] = [
+    ("one", &[(67, 67, 71)]),
+    ("two", &[(67, 67, 71), (69, 66, 71)]),
+];
+
 #[test]
 fn names_the_first_loop_that_is_entered_aside_among_more_than_64(
     rt: HostRuntime,
 ) -> Result<(), Fail> {
     let text = behind_turning(rt.alloc(), 66, &TWO_ENTRIES)?;
-    let mut loops = turning_loops(rt.alloc(), 66)?;
-    let want = "side entry 67 0x10108 0x10114";
-    // Words 67 to 70 turn back to word 67, and word 66 also leads to word 69.
-    loops.push((67, 67, 71))?;
-    expect(&rt, rt.alloc(), "one", &text, &loops, want)?;
-    // The same words, with word 69 for the header, which word 67 leads to past word 68.
-    loops.push((69, 66, 71))?;
-    expect(&rt, rt.alloc(), "two", &text, &loops, want)
+    for (name, more) in &ASIDE {
+        let loops = loops_behind(rt.alloc(), more)?;
+        let want = "side entry 67 0x10108 0x10114";
+        expect(&rt, rt.alloc(), name, &text, &loops, want)?;
+    }
+    Ok(())
 }
 
 /// The deep loops from one on, the outermost first, behind so many words that branch to themselves, with their loops.
@@ -390,100 +441,114 @@ fn deep_loops(alloc: Global, turning: u8, first: u8) -> Result<Vec<Places>, Fail
     Ok(loops)
 }
 
-/// Seventeen loops within one another are too deep, and sixteen are not, behind so many loops of one word.
-fn expect_sixteen(rt: &impl Abort, alloc: Global, turning: u8, refused: &str) -> Result<(), Fail> {
+/// Seventeen loops within one another are too deep, behind so many loops of one word.
+fn expect_too_deep(rt: &impl Abort, alloc: Global, turning: u8, refused: &str) -> Result<(), Fail> {
     let text = behind_turning(alloc, usize::from(turning), &DEEP)?;
     let loops = deep_loops(alloc, turning, 0)?;
-    expect(rt, alloc, "seventeen", &text, &loops, refused)?;
+    expect(rt, alloc, "seventeen", &text, &loops, refused)
+}
+
+/// Sixteen are not.
+fn expect_sixteen(rt: &impl Abort, alloc: Global, turning: u8) -> Result<(), Fail> {
     // The last branch, that of the outermost loop, is left out.
     let mut fewer = DEEP;
     fewer[33] = NO_OPERATION;
     let text = behind_turning(alloc, usize::from(turning), &fewer)?;
     let loops = deep_loops(alloc, turning, 1)?;
-    let Ok(tree) = tree_of(alloc, &text, &loops)? else {
-        return Err("sixteen loops within one another are accepted".into());
-    };
-    assert_eq!(rt; tree.loop_count(), usize::from(turning) + 16);
+    let tree = tree_of(alloc, &text, &loops)?;
+    expect_same(
+        rt,
+        u64::from(turning),
+        tree.loop_count(),
+        usize::from(turning) + 16,
+    );
     Ok(())
 }
 
+/// How many loops of one word stand before the deep ones, and what is refused of seventeen; the second time there are more than 64 loops.
+static TURNING: [(u8, &str); 2] = [(0, "too deep 17"), (60, "too deep 77")];
+
 #[test]
 fn refuses_loops_that_are_too_deep(rt: HostRuntime) -> Result<(), Fail> {
-    expect_sixteen(&rt, rt.alloc(), 0, "too deep 17")?;
-    // More than 64 loops.
-    expect_sixteen(&rt, rt.alloc(), 60, "too deep 77")
+    for (turning, refused) in &TURNING {
+        expect_too_deep(&rt, rt.alloc(), *turning, refused)?;
+        expect_sixteen(&rt, rt.alloc(), *turning)?;
+    }
+    Ok(())
 }
 
 #[test]
 fn orders_nodes_along_branches(rt: HostRuntime) -> Result<(), Fail> {
     // A branch to the third word, which jumps back to the second.
     let words = [BRANCH_2, JUMP_2, JUMP_BACK_1, EXIT, ECALL];
-    let Ok(tree) = tree_of(rt.alloc(), &words, &[])? else {
-        return Err("no order".into());
-    };
-    assert_eq!(rt; tree.loop_count(), 0);
-    assert_eq!(rt; tree.plain_order(), [0, 2, 1, 3, 4].as_slice());
+    let tree = tree_of(rt.alloc(), &words, &[])?;
+    expect_same(&rt, 0, tree.loop_count(), 0);
+    expect_list(&rt, 0, tree.plain_order(), &[0, 2, 1, 3, 4]);
     Ok(())
 }
 
-/// By node the innermost loop round it, and by loop the next one round it.
-fn nesting_of(
-    alloc: Global,
-    words: &[u32],
-    loops: &[Places],
-) -> Result<(Vec<Option<usize>>, Vec<Option<usize>>), Fail> {
-    let graph = graph_of(alloc, words)?;
-    let notes = notes_of(alloc, loops)?;
-    let Ok(tree) = build_loops(alloc, &graph, &notes) else {
-        return Err("the loops are accepted".into());
-    };
-    let mut innermost = Vec::new(alloc);
-    for k in 0..graph.node_count() {
-        innermost.push(tree.innermost(k))?;
+/// A loop; nothing where there is none.
+fn push_loop(text: &mut String, number: Option<usize>) -> Result<(), AllocError> {
+    match number {
+        Some(number) => write!(text, " {number}"),
+        None => text.push_str(" -"),
     }
-    let mut parent = Vec::new(alloc);
-    for l in 0..tree.loop_count() {
-        parent.push(tree.parent(l))?;
-    }
-    Ok((innermost, parent))
 }
 
-/// A program, its loops, by node the innermost loop round it, and by loop the next one round it.
+fn nesting_of(alloc: Global, graph: &CodeGraph, tree: &LoopTree) -> Result<String, Fail>
+    requires tree { (extent : ℕ → ℕ → Bool) × IsLoopTree graph.now extent tree.now }
+{
+    let mut text = String::new(alloc);
+    for k in 0..graph.node_count() {
+        push_loop(&mut text, tree.innermost(k))?;
+    }
+    text.push_str(";")?;
+    for l in 0..tree.loop_count() {
+        push_loop(&mut text, tree.parent(l))?;
+    }
+    Ok(text)
+}
+
+/// By node the innermost loop round it, and by loop the next one round it.
+fn nesting_text(alloc: Global, words: &[u32], loops: &[Places]) -> Result<String, Fail> {
+    let graph = graph_of(alloc, words)?;
+    let notes = notes_of(alloc, loops)?;
+    nesting_or_refusal(alloc, &graph, &notes)
+}
+
+fn nesting_or_refusal(alloc: Global, graph: &CodeGraph, notes: &LoopNotes) -> Result<String, Fail> {
+    match build_loops(alloc, graph, notes) {
+        Ok(tree) => nesting_of(alloc, graph, &tree),
+        Err(stop) => loop_stop_text(alloc, &stop),
+    }
+}
+
+/// `NESTED`, but word 5 branches to itself.
+const NESTED_AND_ITSELF: [u32; 8] = [
+    NO_OPERATION,
+    NO_OPERATION,
+    NO_OPERATION,
+    BACK_1,
+    BACK_3,
+    BRANCH_0,
+    EXIT,
+    ECALL,
+];
+
+/// A program, its loops, by node the innermost loop round it, and by loop the next one round it. The inner loop is noted first.
+static NESTINGS: [(&[u32], &[Places], &str); 2] = [
+    (&NESTED, &[INNER, OUTER], " - 1 0 0 1 - - -; 1 -"),
+    (
+        &NESTED_AND_ITSELF,
+        &[INNER, OUTER, (5, 5, 6)],
+        " - 1 0 0 1 2 - -; 1 - -",
+    ),
+];
+
 #[test]
 fn nests_loops(rt: HostRuntime) -> Result<(), Fail> {
-    // Word 5 branches to itself.
-    let mut words = NESTED;
-    words[5] = BRANCH_0;
-    let cases: [(&[u32], &[Places], [Option<usize>; 8], &[Option<usize>]); 2] = [
-        // The inner loop is noted first.
-        (
-            &NESTED,
-            &[INNER, OUTER],
-            [None, Some(1), Some(0), Some(0), Some(1), None, None, None],
-            &[Some(1), None],
-        ),
-        (
-            &words,
-            &[INNER, OUTER, (5, 5, 6)],
-            [
-                None,
-                Some(1),
-                Some(0),
-                Some(0),
-                Some(1),
-                Some(2),
-                None,
-                None,
-            ],
-            &[Some(1), None, None],
-        ),
-    ];
-    for (words, loops, innermost, parents) in cases {
-        let found = nesting_of(rt.alloc(), words, loops)?;
-        assert_eq!(rt;
-            (found.0.as_slice(), found.1.as_slice()),
-            (innermost.as_slice(), parents)
-        );
+    for (words, loops, want) in &NESTINGS {
+        expect_text(&rt, want, nesting_text(rt.alloc(), words, loops), want)?;
     }
     Ok(())
 }
@@ -492,61 +557,61 @@ fn nests_loops(rt: HostRuntime) -> Result<(), Fail> {
 fn notes_text(alloc: Global, tree: &LoopTree) -> Result<String, Fail> {
     let mut text = String::new(alloc);
     for l in 0..tree.loop_count() {
-        let next = format!(in alloc;
+        write!(
+            &mut text,
             "{} {} {} {}; ",
             tree.header(l),
             tree.bound(l),
             tree.counted(l),
             tree.least_trips(l)
         )?;
-        text.push_str(&next)?;
     }
     Ok(text)
 }
 
 /// Trips are those of whole extents: where the word behind a loop is in its range, and not in its body, the loop need not turn.
+static NOTES: [(Places, &str); 2] = [
+    (OUTER, "2 5 false 3; 1 5 true 3; 2: 2 3; 1: 1 2 3 4; "),
+    ((1, 1, 6), "2 5 false 3; 1 5 true 0; 2: 2 3; 1: 1 2 3 4; "),
+];
+
+/// The notes of two nested loops, and their bodies.
+fn nested_text(alloc: Global, outer: Places) -> Result<String, Fail> {
+    let tree = tree_of(alloc, &NESTED, &[INNER, outer])?;
+    let mut text = notes_text(alloc, &tree)?;
+    let bodies = loops_text(alloc, &tree)?;
+    text.push_str(&bodies)?;
+    Ok(text)
+}
+
 #[test]
 fn keeps_notes_of_loops(rt: HostRuntime) -> Result<(), Fail> {
-    for (outer, want) in [
-        (OUTER, "2 5 false 3; 1 5 true 3; "),
-        ((1, 1, 6), "2 5 false 3; 1 5 true 0; "),
-    ] {
-        let Ok(tree) = tree_of(rt.alloc(), &NESTED, &[INNER, outer])? else {
-            return Err("no tree".into());
-        };
-        let notes = notes_text(rt.alloc(), &tree)?;
-        let bodies = loops_text(rt.alloc(), &tree)?;
-        assert_eq!(rt;
-            (notes.as_str(), bodies.as_str()),
-            (want, "2: 2 3; 1: 1 2 3 4; ")
-        );
+    for (outer, want) in &NOTES {
+        expect_text(&rt, want, nested_text(rt.alloc(), *outer), want)?;
     }
     Ok(())
 }
 
+/// Of a branch the edge by which it is taken comes first.
+static BACKS: [Option<usize>; 10] = [
+    None,
+    None,
+    None,
+    Some(0),
+    None,
+    Some(1),
+    None,
+    None,
+    None,
+    None,
+];
+
 #[test]
 fn finds_back_edges(rt: HostRuntime) -> Result<(), Fail> {
-    let Ok(tree) = tree_of(rt.alloc(), &NESTED, &[INNER, OUTER])? else {
-        return Err("no tree".into());
-    };
+    let tree = tree_of(rt.alloc(), &NESTED, &[INNER, OUTER])?;
     assert_eq!(rt; tree.loop_count(), 2);
     assert_eq!(rt; (tree.in_body(1, 4), tree.in_body(0, 4)), (true, false));
-    // Of a branch the edge by which it is taken comes first.
-    let backs = [
-        None,
-        None,
-        None,
-        Some(0),
-        None,
-        Some(1),
-        None,
-        None,
-        None,
-        None,
-    ];
-    assert_eq!(rt;
-        (tree.plain_order(), tree.backs()),
-        ([0, 1, 2, 3, 4, 5, 6, 7].as_slice(), backs.as_slice())
-    );
+    expect_list(&rt, 0, tree.plain_order(), &[0, 1, 2, 3, 4, 5, 6, 7]);
+    expect_list(&rt, 1, tree.backs(), &BACKS);
     Ok(())
 }

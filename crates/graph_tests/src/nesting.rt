@@ -1,5 +1,6 @@
 //! The nesting of loops by their bodies; that of loops of programs is in `loops`.
 
+use crate::programs::expect_same;
 use graph_algorithms::nest_loops;
 use std::test::Fail;
 
@@ -7,8 +8,8 @@ use std::test::Fail;
 fn takes_no_loops(rt: HostRuntime) -> Result<(), Fail> {
     let nesting = nest_loops(rt.alloc(), &[], &[], 2)?;
     let found = (nesting.innermost(0), nesting.innermost(1));
-    assert_eq!(rt; found, (None, None));
+    expect_same(&rt, 0, found, (None, None));
     let (innermost, parent) = nesting.into_parts();
-    assert_eq!(rt; (innermost.len(), parent.len()), (2, 0));
+    expect_same(&rt, 1, (innermost.len(), parent.len()), (2, 0));
     Ok(())
 }

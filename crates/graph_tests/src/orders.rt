@@ -1,5 +1,6 @@
 //! Orders of numbers along arcs, and cycles.
 
+use crate::programs::{expect_list, expect_same};
 use graph_algorithms::{Arc, Order, are_numbered, least_first, sort};
 use scale_base::NoMemory;
 use std::alloc::Global;
@@ -47,65 +48,120 @@ fn expect_cycle(rt: &impl Abort, name: &str, arcs: &[Arc], cycle: &[usize]) {
 }
 
 /// How many numbers there are, the arcs, and how many numbers are in a cycle.
-#[test]
-fn puts_callees_first_or_finds_a_cycle(rt: HostRuntime) -> Result<(), Fail> {
-    let called = [
-        arc(0, 1),
-        arc(0, 2),
-        arc(1, 3),
-        arc(2, 3),
-        arc(0, 3),
-        arc(0, 3),
-        arc(2, 1),
-    ];
-    let to_itself = [arc(0, 1), arc(1, 2), arc(2, 2)];
-    let behind = [arc(0, 1), arc(1, 2), arc(2, 3), arc(3, 1), arc(3, 4)];
-    let cases: [(&str, usize, &[Arc], usize); 5] = [
-        ("puts callees first", 5, &called, 0),
-        ("orders no numbers", 0, &[], 0),
-        ("orders numbers without arcs", 3, &[], 0),
-        ("finds a number with an arc to itself", 4, &to_itself, 1),
-        ("leaves out what only leads to a cycle", 5, &behind, 3),
-    ];
-    for (name, count, arcs, in_cycle) in cases {
-        match order_of(rt.alloc(), count, arcs)?.ok_or("the arcs are numbered")? {
-            Order::Sorted(order) => {
-                assert_eq!(rt; in_cycle, 0, "{name}");
-                expect_sorted(&rt, name, count, arcs, &order);
-            }
-            Order::Cycle(cycle) => {
-                assert_eq!(rt; cycle.len(), in_cycle, "{name}");
-                expect_cycle(&rt, name, arcs, &cycle);
-            }
+static CASES: [(&str, usize, &[(usize, usize)], usize); 5] = [
+    (
+        "puts callees first",
+        5,
+        &[(0, 1), (0, 2), (1, 3), (2, 3), (0, 3), (0, 3), (2, 1)],
+        0,
+    ),
+    ("orders no numbers", 0, &[], 0),
+    ("orders numbers without arcs", 3, &[], 0),
+    (
+        "finds a number with an arc to itself",
+        4,
+        &[(0, 1), (1, 2), (2, 2)],
+        1,
+    ),
+    (
+        "leaves out what only leads to a cycle",
+        5,
+        &[(0, 1), (1, 2), (2, 3), (3, 1), (3, 4)],
+        3,
+    ),
+];
+
+fn arcs_of(alloc: Global, ends: &[(usize, usize)]) -> Result<Vec<Arc>, Fail> {
+    let mut arcs = Vec::new(alloc);
+    for (from, to) in ends {
+        arcs.push(arc(*from, *to))?;
+    }
+    Ok(arcs)
+}
+
+fn expect_order(
+    rt: &impl Abort,
+    name: &str,
+    count: usize,
+    arcs: &[Arc],
+    order: &Order,
+    in_cycle: usize,
+) {
+    match order {
+        Order::Sorted(order) => {
+            assert_eq!(rt; in_cycle, 0, "{name}");
+            expect_sorted(rt, name, count, arcs, order);
+        }
+        Order::Cycle(cycle) => {
+            assert_eq!(rt; cycle.len(), in_cycle, "{name}");
+            expect_cycle(rt, name, arcs, cycle);
         }
     }
+}
+
+fn expect_case(
+    rt: &impl Abort,
+    alloc: Global,
+    name: &str,
+    count: usize,
+    ends: &[(usize, usize)],
+    in_cycle: usize,
+) -> Result<(), Fail> {
+    let arcs = arcs_of(alloc, ends)?;
+    let order = order_of(alloc, count, &arcs)?.ok_or("the arcs are numbered")?;
+    expect_order(rt, name, count, &arcs, &order, in_cycle);
     Ok(())
 }
 
 #[test]
-fn orders_a_long_chain(rt: HostRuntime) -> Result<(), Fail> {
-    let mut arcs = Vec::new(rt.alloc());
-    for k in 1..2000 {
+fn puts_callees_first_or_finds_a_cycle(rt: HostRuntime) -> Result<(), Fail> {
+    for (name, count, ends, in_cycle) in &CASES {
+        expect_case(&rt, rt.alloc(), name, *count, ends, *in_cycle)?;
+    }
+    Ok(())
+}
+
+/// Arcs from each number to the next one.
+fn chain(alloc: Global, count: usize) -> Result<Vec<Arc>, Fail> {
+    let mut arcs = Vec::new(alloc);
+    for k in 1..count {
         arcs.push(arc(k - 1, k))?;
     }
+    Ok(arcs)
+}
+
+#[test]
+fn orders_a_long_chain(rt: HostRuntime) -> Result<(), Fail> {
+    let arcs = chain(rt.alloc(), 2000)?;
     let Some(Order::Sorted(order)) = order_of(rt.alloc(), 2000, &arcs)? else {
         return Err("a cycle".into());
     };
-    assert_eq!(rt; place(&order, 1999), Some(0));
-    assert_eq!(rt; place(&order, 0), Some(1999));
+    let found = (place(&order, 1999), place(&order, 0));
+    expect_same(&rt, 0, found, (Some(0), Some(1999)));
+    Ok(())
+}
+
+#[test]
+fn finds_a_long_cycle(rt: HostRuntime) -> Result<(), Fail> {
+    let mut arcs = chain(rt.alloc(), 2000)?;
     arcs.push(arc(1999, 0))?;
     let Some(Order::Cycle(cycle)) = order_of(rt.alloc(), 2000, &arcs)? else {
         return Err("an order".into());
     };
-    assert_eq!(rt; cycle.len(), 2000);
+    expect_same(&rt, 0, cycle.len(), 2000);
     Ok(())
 }
 
 #[test]
 fn turns_a_cycle_to_its_least_number(rt: HostRuntime) -> Result<(), Fail> {
     let turned = least_first(vec![in rt.alloc(); 20, 12, 16]?);
-    assert_eq!(rt; turned.as_slice(), [12, 16, 20].as_slice());
+    expect_list(&rt, 0, &turned, &[12, 16, 20]);
+    Ok(())
+}
+
+#[test]
+fn turns_a_cycle_of_one_number(rt: HostRuntime) -> Result<(), Fail> {
     let one = least_first(vec![in rt.alloc(); 8]?);
-    assert_eq!(rt; one.as_slice(), [8].as_slice());
+    expect_list(&rt, 0, &one, &[8]);
     Ok(())
 }

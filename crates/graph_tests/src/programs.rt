@@ -4,14 +4,17 @@ ghost use Rattle.std.specs.Prelude.{ℕ, Bool, IfOk};
 ghost use Rattle.loop_forest.specs.Tree.{IsLoopTree};
 
 use code_graph::build_graph;
+use elf_image::ImageView;
 use elf_view::read_image;
 use flow_graph::CodeGraph;
 use image_maker::plain_image;
-use loop_file::read_loops;
+use loop_file::{LoopNotes, read_loops};
 use loop_forest::LoopTree;
 use loop_tree::build_loops;
 use scale_base::{Cycle, Refusal, Stop};
 use std::alloc::Global;
+use std::fmt::{Debug, Write};
+use std::process::Abort;
 use std::test::Fail;
 
 /// The address of the first word.
@@ -67,24 +70,46 @@ pub fn image_of(alloc: Global, words: &[u32]) -> Result<Vec<u8>, Fail> {
     if words.len() > 131_072 {
         return Err("there are fewer words".into());
     }
-    Ok(plain_image(alloc, words).ok().ok_or("there is memory")?)
+    Ok(plain_image(alloc, words)?)
 }
 
-/// The graph of an image's code, or why it is refused.
-pub fn graph_or_refusal(alloc: Global, file: &[u8]) -> Result<Result<CodeGraph, Refusal>, Fail> {
-    let view = read_image(alloc, file).ok().ok_or("the file is an image")?;
+/// The view of an image.
+pub fn view_of(alloc: Global, file: &[u8]) -> Result<ImageView<'_>, Fail> {
+    match read_image(alloc, file) {
+        Ok(view) => Ok(view),
+        Err(_) => Err("the file is an image".into()),
+    }
+}
+
+/// The graph of an image's code.
+fn graph_of_file(alloc: Global, file: &[u8]) -> Result<CodeGraph, Fail> {
+    let view = view_of(alloc, file)?;
     match build_graph(alloc, &view) {
-        Ok(graph) => Ok(Ok(graph)),
-        Err(Stop::Refused(refusal)) => Ok(Err(refusal)),
-        Err(Stop::Memory) => Err("there is memory".into()),
+        Ok(graph) => Ok(graph),
+        Err(_) => Err("the code is accepted".into()),
     }
 }
 
 /// The graph of a program.
 pub fn graph_of(alloc: Global, words: &[u32]) -> Result<CodeGraph, Fail> {
     let file = image_of(alloc, words)?;
-    let found = graph_or_refusal(alloc, &file)?;
-    Ok(found.ok().ok_or("the code is accepted")?)
+    graph_of_file(alloc, &file)
+}
+
+/// Why the code of an image is refused.
+pub fn refused_text(alloc: Global, file: &[u8]) -> Result<String, Fail> {
+    let view = view_of(alloc, file)?;
+    match build_graph(alloc, &view) {
+        Ok(_) => Err("the code is refused".into()),
+        Err(stop) => stop_text(alloc, &stop),
+    }
+}
+
+fn stop_text(alloc: Global, stop: &Stop) -> Result<String, Fail> {
+    match stop {
+        Stop::Refused(refusal) => code_refusal_text(alloc, refusal),
+        Stop::Memory => Err("there is memory".into()),
+    }
 }
 
 /// A program's graph and the loops of a loop file.
@@ -98,30 +123,89 @@ pub fn program_of(alloc: Global, words: &[u32], loops: &str) -> Result<Program, 
     ensures { IfOk result (λ p. (extent : ℕ → ℕ → Bool) × IsLoopTree p.graph extent p.tree) }
 {
     let file = image_of(alloc, words)?;
-    let view = read_image(alloc, &file).ok().ok_or("the file is an image")?;
-    let notes = read_loops(alloc, loops.as_bytes(), &view)
-        .ok()
-        .ok_or("the loop file is read")?;
-    let graph = build_graph(alloc, &view)
-        .ok()
-        .ok_or("the code is accepted")?;
-    let Ok(tree) = build_loops(alloc, &graph, &notes) else {
-        return Err("the loops are accepted".into());
-    };
-    Ok(Program { graph, tree })
+    let view = view_of(alloc, &file)?;
+    program_in(alloc, &view, loops)
+}
+
+/// The same of an image's view.
+fn program_in(alloc: Global, view: &ImageView<'_>, loops: &str) -> Result<Program, Fail>
+    ensures { IfOk result (λ p. (extent : ℕ → ℕ → Bool) × IsLoopTree p.graph extent p.tree) }
+{
+    match read_loops(alloc, loops.as_bytes(), view) {
+        Ok(notes) => noted_program(alloc, view, &notes),
+        Err(_) => Err("the loop file is read".into()),
+    }
+}
+
+fn noted_program(alloc: Global, view: &ImageView<'_>, notes: &LoopNotes) -> Result<Program, Fail>
+    ensures { IfOk result (λ p. (extent : ℕ → ℕ → Bool) × IsLoopTree p.graph extent p.tree) }
+{
+    match build_graph(alloc, view) {
+        Ok(graph) => looped_program(alloc, graph, notes),
+        Err(_) => Err("the code is accepted".into()),
+    }
+}
+
+fn looped_program(alloc: Global, graph: CodeGraph, notes: &LoopNotes) -> Result<Program, Fail>
+    ensures { IfOk result (λ p. (extent : ℕ → ℕ → Bool) × IsLoopTree p.graph extent p.tree) }
+{
+    match build_loops(alloc, &graph, notes) {
+        Ok(tree) => Ok(Program { graph, tree }),
+        Err(_) => Err("the loops are accepted".into()),
+    }
+}
+
+/// Expects that two values of a row are the same.
+pub fn expect_same<T: Copy + PartialEq + Debug>(rt: &impl Abort, row: u64, found: T, want: T) {
+    assert_eq!(rt; found, want, "row {row}");
+}
+
+/// Expects that two lists of a row are the same.
+pub fn expect_list<T: PartialEq + Debug>(rt: &impl Abort, row: u64, found: &[T], want: &[T]) {
+    assert_eq!(rt; found, want, "row {row}");
+}
+
+/// Expects that this text is found for a row.
+pub fn expect_text(
+    rt: &impl Abort,
+    name: &str,
+    found: Result<String, Fail>,
+    want: &str,
+) -> Result<(), Fail> {
+    let text = found?;
+    assert_eq!(rt; text.as_str(), want, "{name}");
+    Ok(())
+}
+
+/// Expects that each part stands in the text that is found for a row.
+pub fn expect_parts(
+    rt: &impl Abort,
+    name: &str,
+    found: Result<String, Fail>,
+    parts: &[&str],
+) -> Result<(), Fail> {
+    let text = found?;
+    for part in parts {
+        assert!(rt; text.contains(*part), "{name}: {part} in {text}");
+    }
+    Ok(())
+}
+
+/// A text of some words.
+pub fn words_text(alloc: Global, words: &str) -> Result<String, Fail> {
+    Ok(String::from_str(alloc, words)?)
 }
 
 fn cycle_text(alloc: Global, name: &str, cycle: &Cycle) -> Result<String, Fail> {
     let mut text = String::from_str(alloc, name)?;
     for k in 0..cycle.count() {
-        let next = format!(in alloc; " {:#x}", *cycle.get(k))?;
-        text.push_str(&next)?;
+        write!(&mut text, " {:#x}", *cycle.get(k))?;
     }
     Ok(text)
 }
 
 /// Why code is refused, and where.
-pub fn code_refusal_text(alloc: Global, refusal: &Refusal) -> Result<String, Fail> {
+fn code_refusal_text(alloc: Global, refusal: &Refusal) -> Result<String, Fail> {
     let (name, at) = match refusal {
         Refusal::IllegalWord(at) => ("illegal word", *at),
         Refusal::OutsideText(at) => ("outside text", *at),
@@ -135,8 +219,16 @@ pub fn code_refusal_text(alloc: Global, refusal: &Refusal) -> Result<String, Fai
     Ok(format!(in alloc; "{name} {at:#x}")?)
 }
 
+/// Why loops are refused, or that memory is out.
+pub fn loop_stop_text(alloc: Global, stop: &Stop) -> Result<String, Fail> {
+    match stop {
+        Stop::Refused(refusal) => loop_refusal_text(alloc, refusal),
+        Stop::Memory => Err("there is memory".into()),
+    }
+}
+
 /// Why loops are refused, by their numbers from 1 on.
-pub fn loop_refusal_text(alloc: Global, refusal: &Refusal) -> Result<String, Fail> {
+fn loop_refusal_text(alloc: Global, refusal: &Refusal) -> Result<String, Fail> {
     match refusal {
         Refusal::HeaderNotReached(k) => Ok(format!(in alloc; "not reached {k}")?),
         Refusal::SameHeader(one, two) => Ok(format!(in alloc; "same header {one} {two}")?),
@@ -146,6 +238,6 @@ pub fn loop_refusal_text(alloc: Global, refusal: &Refusal) -> Result<String, Fai
         }
         Refusal::TooDeep(k) => Ok(format!(in alloc; "too deep {k}")?),
         Refusal::UnboundedCycle(cycle) => cycle_text(alloc, "unbounded cycle", cycle),
-        _ => Ok(String::from_str(alloc, "other")?),
+        _ => words_text(alloc, "other"),
     }
 }

@@ -1,7 +1,9 @@
 //! Bounds that the code of a program shows where loops count in words of the stack and call functions, as its draft has them.
 
 use crate::drafts::draft_text;
-use crate::programs::{CALL_2, CALL_4, CALL_5, ECALL, EXIT, RETURN, graph_of};
+use crate::programs::{
+    CALL_2, CALL_4, CALL_5, ECALL, EXIT, RETURN, expect_list, expect_text, graph_of,
+};
 use loop_counters::heights_of;
 use std::test::Fail;
 
@@ -324,10 +326,8 @@ static IN_WORDS: [(&str, &[u32], &str); 4] = [
 
 #[test]
 fn bounds_are_shown_where_a_stack_word_counts(rt: HostRuntime) -> Result<(), Fail> {
-    let alloc = rt.alloc();
     for (name, words, want) in &IN_WORDS {
-        let got = draft_text(alloc, words)?;
-        assert_eq!(rt; got.as_str(), *want, "{name}");
+        expect_text(&rt, name, draft_text(rt.alloc(), words), want)?;
     }
     Ok(())
 }
@@ -340,10 +340,8 @@ static ACROSS_CALLS: [(&str, &[u32], &str); 2] = [
 
 #[test]
 fn bounds_are_shown_where_calls_give_back_what_counts(rt: HostRuntime) -> Result<(), Fail> {
-    let alloc = rt.alloc();
     for (name, words, want) in &ACROSS_CALLS {
-        let got = draft_text(alloc, words)?;
-        assert_eq!(rt; got.as_str(), *want, "{name}");
+        expect_text(&rt, name, draft_text(rt.alloc(), words), want)?;
     }
     Ok(())
 }
@@ -358,10 +356,8 @@ static WRITTEN_ASIDE: [(&str, &[u32], &str); 4] = [
 
 #[test]
 fn nothing_is_shown_where_something_else_may_write(rt: HostRuntime) -> Result<(), Fail> {
-    let alloc = rt.alloc();
     for (name, words, want) in &WRITTEN_ASIDE {
-        let got = draft_text(alloc, words)?;
-        assert_eq!(rt; got.as_str(), *want, "{name}");
+        expect_text(&rt, name, draft_text(rt.alloc(), words), want)?;
     }
     Ok(())
 }
@@ -371,9 +367,8 @@ const CHAIN: [u32; 7] = [CALL_4, CALL_5, EXIT, ECALL, CALL_2, RETURN, RETURN];
 
 #[test]
 fn heights_are_the_longest_chains_of_calls(rt: HostRuntime) -> Result<(), Fail> {
-    let alloc = rt.alloc();
-    let graph = graph_of(alloc, &CHAIN)?;
-    let heights = heights_of(alloc, &graph).ok().ok_or("there is memory")?;
-    assert_eq!(rt; heights.as_slice(), [2, 1, 0].as_slice());
+    let graph = graph_of(rt.alloc(), &CHAIN)?;
+    let heights = heights_of(rt.alloc(), &graph)?;
+    expect_list(&rt, 0, &heights, &[2, 1, 0]);
     Ok(())
 }

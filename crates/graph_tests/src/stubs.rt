@@ -7,34 +7,27 @@ ghost use Rattle.scale_base.specs.Word.{FieldsInRange};
 ghost use Rattle.stub_writer.specs.Fragments.{IsFragment};
 ghost use Rattle.stub_writer.specs.Sites.{IsEdge, IsSite};
 
-use scale_base::{BranchOp, Edge, EdgeKind, Fragment, Instr, Refusal, Rows, Stop};
-use std::alloc::Global;
+use crate::programs::{expect_parts, expect_text};
+use scale_base::{BranchOp, Edge, EdgeKind, Fragment, Instr, Patch, Refusal, Rows, Stop};
+use std::alloc::{AllocError, Global};
+use std::fmt::Write;
 use std::test::Fail;
-use stub_writer::{EdgeList, FragmentList, StubEdge, StubSite, block_len, emit};
+use stub_writer::{EdgeList, FragmentList, StubBlock, StubEdge, StubSite, block_len, emit};
 
-/// The words of a branch's stub with a Switch where it is taken.
-const SWITCHED: [u32; 14] = [
-    0x00050463, 0x810FF06F, 0x80502023, 0x80602223, 0xFFC02283, 0x00229293, 0x00000337, 0x10030313,
-    0x00535333, 0x00F37313, 0xFE602E23, 0x80402303, 0x80002283, 0xFF9FE06F,
-];
+/// A branch's stub with a Switch where it is taken: its bytes, its words and its patch.
+const SWITCHED: &str =
+    "56 bytes: 00050463 810ff06f 80502023 80602223 ffc02283 00229293 00000337 10030313 00535333 00f37313 fe602e23 80402303 80002283 ff9fe06f; 10010 7f10006f;";
 
-/// The words of a branch's stub that leaves a counted loop or counts a turn, and eleven rows.
-const COUNTED: [u32; 35] = [
-    0x04051463, 0x80502023, 0x80602223, 0x80802283, 0x0002D293, 0x00229293, 0x00011337, 0x006282B3,
-    0x0602A303, 0xFFC02283, 0x00229293, 0x00535333, 0x00F37313, 0x80002423, 0xFE602E23, 0x80402303,
-    0x80002283, 0xFD5FE06F, 0x80502023, 0x80802283, 0x00128293, 0x80502423, 0x80002283, 0xFADFE06F,
-    0x00000000, 0x00000000, 0x00000000, 0x00000000, 0x00000000, 0x00000000, 0x00000000, 0x00000000,
-    0x00000100, 0x00000200, 0x00000210,
-];
+/// A branch's stub that leaves a counted loop or counts a turn, and eleven rows.
+const COUNTED: &str =
+    "140 bytes: 04051463 80502023 80602223 80802283 0002d293 00229293 00011337 006282b3 0602a303 ffc02283 00229293 00535333 00f37313 80002423 fe602e23 80402303 80002283 fd5fe06f 80502023 80802283 00128293 80502423 80002283 fadfe06f 00000000 00000000 00000000 00000000 00000000 00000000 00000000 00000000 00000100 00000200 00000210; 10014 7ed0006f;";
 
-/// The words of a branch's stub with a Lowest that may go down where it isn't taken, and one that may not where it is.
-const LOWERED: [u32; 5] = [0x00051663, 0xFE002E23, 0x810FF06F, 0x80002223, 0xFF9FE06F];
+/// A branch's stub with a Lowest that may go down where it isn't taken, and one that may not where it is.
+const LOWERED: &str = "20 bytes: 00051663 fe002e23 810ff06f 80002223 ff9fe06f;";
 
-/// The words of a branch's stub with a Tally where it is taken.
-const TALLIED: [u32; 13] = [
-    0x00051463, 0x814FF06F, 0x80502023, 0x80C02283, 0x00128293, 0x80502623, 0x0042D293, 0xC1828293,
-    0x41F2D293, 0x8082F293, 0xFE02AE23, 0x80002283, 0xFD9FE06F,
-];
+/// A branch's stub with a Tally where it is taken.
+const TALLIED: &str =
+    "52 bytes: 00051463 814ff06f 80502023 80c02283 00128293 80502623 0042d293 c1828293 41f2d293 8082f293 fe02ae23 80002283 fd9fe06f;";
 
 /// A marked edge with one fragment.
 #[tactic(auto, using(crate::proofs::Sites::one_fragment))]
@@ -116,39 +109,95 @@ fn rows() -> Rows
     rows
 }
 
-fn words_of(alloc: Global, bytes: &[u8]) -> Result<Vec<u32>, Fail> {
-    let mut words = Vec::new(alloc);
+/// One marked edge.
+fn one_edge(alloc: Global, edge: StubEdge) -> Result<Vec<StubEdge>, Fail>
+    requires edge { IsEdge edge }
+    ensures few { IfOk result (λ edges. length edges.items ≤ 2) }
+    ensures each { IfOk result (λ edges. All IsEdge edges.items) }
+{
+    let mut edges = Vec::new(alloc);
+    push_edge(&mut edges, edge)?;
+    Ok(edges)
+}
+
+/// Two marked edges.
+fn two_edges(alloc: Global, first: StubEdge, second: StubEdge) -> Result<Vec<StubEdge>, Fail>
+    requires first { IsEdge first }
+    requires second { IsEdge second }
+    ensures few { IfOk result (λ edges. length edges.items ≤ 2) }
+    ensures each { IfOk result (λ edges. All IsEdge edges.items) }
+{
+    let mut edges = Vec::new(alloc);
+    push_edge(&mut edges, first)?;
+    push_edge(&mut edges, second)?;
+    Ok(edges)
+}
+
+fn push_words(text: &mut String, bytes: &[u8]) -> Result<(), AllocError> {
     for word in bytes.chunks_exact(4) {
-        words.push(u32::from_le_bytes([word[0], word[1], word[2], word[3]]))?;
+        let word = u32::from_le_bytes([word[0], word[1], word[2], word[3]]);
+        write!(text, " {word:08x}")?;
     }
-    Ok(words)
+    text.push_str(";")
+}
+
+fn push_patches(text: &mut String, patches: &[Patch]) -> Result<(), AllocError> {
+    for patch in patches {
+        write!(text, " {:x} {:08x};", patch.at, patch.word)?;
+    }
+    Ok(())
+}
+
+/// The size of a block, its words, and its patches.
+fn block_text(alloc: Global, len: u32, block: &StubBlock) -> Result<String, Fail> {
+    let mut text = format!(in alloc; "{len} bytes:")?;
+    push_words(&mut text, &block.bytes)?;
+    push_patches(&mut text, &block.patches)?;
+    Ok(text)
+}
+
+/// The block of one site from an address on, or that it is out of reach.
+fn sites_text(alloc: Global, sites: &[StubSite], base: u32) -> Result<String, Fail>
+    requires each { All IsSite sites.now }
+    requires one { length sites.now ≡ 1 }
+{
+    let len = block_len(sites);
+    match emit(alloc, sites, base) {
+        Ok(block) => block_text(alloc, len, &block),
+        Err(Stop::Refused(Refusal::StubOutOfReach(at))) => far_text(alloc, at),
+        Err(_) => Err("there is memory".into()),
+    }
+}
+
+fn far_text(alloc: Global, at: u32) -> Result<String, Fail> {
+    Ok(format!(in alloc; "too far from {at:#x}")?)
+}
+
+/// The block of a branch of x10 and x0 with its marked edges.
+fn branch_text(
+    alloc: Global,
+    at: u32,
+    op: BranchOp,
+    offset: i32,
+    edges: Vec<StubEdge>,
+    base: u32,
+) -> Result<String, Fail>
+    requires fields { FieldsInRange (Branch op 10 0 offset) }
+    requires few { length edges.items ≤ 2 }
+    requires each { All IsEdge edges.items }
+{
+    let sites = branch(alloc, at, op, offset, edges)?;
+    sites_text(alloc, &sites, base)
 }
 
 #[test]
 fn a_switch_where_a_branch_is_taken(rt: HostRuntime) -> Result<(), Fail> {
     let alloc = rt.alloc();
-    let mut edges = Vec::new(alloc);
-    let taken = edge(
-        alloc,
-        0x10010,
-        EdgeKind::Taken,
-        0x1002C,
-        Fragment::Switch { word: 0x100 },
-    )?;
-    push_edge(&mut edges, taken)?;
-    let sites = branch(alloc, 0x10010, BranchOp::Beq, 28, edges)?;
-    assert_eq!(rt; block_len(&sites), 56);
-    let block = emit(alloc, &sites, 0x11000)
-        .ok()
-        .ok_or("the stub is in reach")?;
-    assert_eq!(rt;
-        words_of(alloc, &block.bytes)?.as_slice(),
-        SWITCHED.as_slice()
-    );
-    let patch = block.patches.first().ok_or("there is a patch")?;
-    assert_eq!(rt; patch.at, 0x10010);
-    assert_eq!(rt; patch.word, 0x7F10006F);
-    Ok(())
+    let switch = Fragment::Switch { word: 0x100 };
+    let taken = edge(alloc, 0x10010, EdgeKind::Taken, 0x1002C, switch)?;
+    let edges = one_edge(alloc, taken)?;
+    let found = branch_text(alloc, 0x10010, BranchOp::Beq, 28, edges, 0x11000);
+    expect_text(&rt, "switched", found, SWITCHED)
 }
 
 #[test]
@@ -159,46 +208,24 @@ fn a_counted_loop_with_its_rows(rt: HostRuntime) -> Result<(), Fail> {
         shift: 0,
         rows: rows(),
     };
-    let turned = Fragment::Count { counter: 2 };
-    let mut edges = Vec::new(alloc);
     let untaken = edge(alloc, 0x10014, EdgeKind::Untaken, 0x10018, left)?;
-    push_edge(&mut edges, untaken)?;
+    let turned = Fragment::Count { counter: 2 };
     let taken = edge(alloc, 0x10014, EdgeKind::Taken, 0x10008, turned)?;
-    push_edge(&mut edges, taken)?;
-    let sites = branch(alloc, 0x10014, BranchOp::Bne, -12, edges)?;
-    assert_eq!(rt; block_len(&sites), 140);
-    let block = emit(alloc, &sites, 0x11000)
-        .ok()
-        .ok_or("the stub is in reach")?;
-    assert_eq!(rt;
-        words_of(alloc, &block.bytes)?.as_slice(),
-        COUNTED.as_slice()
-    );
-    let patch = block.patches.first().ok_or("there is a patch")?;
-    assert_eq!(rt; patch.word, 0x7ED0006F);
-    Ok(())
+    let edges = two_edges(alloc, untaken, taken)?;
+    let found = branch_text(alloc, 0x10014, BranchOp::Bne, -12, edges, 0x11000);
+    expect_text(&rt, "counted", found, COUNTED)
 }
 
 #[test]
 fn the_lowest_level_on_both_ways(rt: HostRuntime) -> Result<(), Fail> {
     let alloc = rt.alloc();
-    let mut edges = Vec::new(alloc);
     let down = Fragment::Lowest { down: true };
     let untaken = edge(alloc, 0x10014, EdgeKind::Untaken, 0x10018, down)?;
-    push_edge(&mut edges, untaken)?;
     let as_it_is = Fragment::Lowest { down: false };
     let taken = edge(alloc, 0x10014, EdgeKind::Taken, 0x10008, as_it_is)?;
-    push_edge(&mut edges, taken)?;
-    let sites = branch(alloc, 0x10014, BranchOp::Bne, -12, edges)?;
-    assert_eq!(rt; block_len(&sites), 20);
-    let block = emit(alloc, &sites, 0x11000)
-        .ok()
-        .ok_or("the stub is in reach")?;
-    assert_eq!(rt;
-        words_of(alloc, &block.bytes)?.as_slice(),
-        LOWERED.as_slice()
-    );
-    Ok(())
+    let edges = two_edges(alloc, untaken, taken)?;
+    let found = branch_text(alloc, 0x10014, BranchOp::Bne, -12, edges, 0x11000);
+    expect_parts(&rt, "lowered", found, &[LOWERED])
 }
 
 #[test]
@@ -209,27 +236,22 @@ fn a_loop_that_goes_down_from_a_count_on(rt: HostRuntime) -> Result<(), Fail> {
         shift: 4,
         from: 1000,
     };
-    let mut edges = Vec::new(alloc);
     let taken = edge(alloc, 0x10014, EdgeKind::Taken, 0x10008, turned)?;
-    push_edge(&mut edges, taken)?;
-    let sites = branch(alloc, 0x10014, BranchOp::Bne, -12, edges)?;
-    assert_eq!(rt; block_len(&sites), 52);
-    let block = emit(alloc, &sites, 0x11000)
-        .ok()
-        .ok_or("the stub is in reach")?;
-    assert_eq!(rt;
-        words_of(alloc, &block.bytes)?.as_slice(),
-        TALLIED.as_slice()
-    );
-    Ok(())
+    let edges = one_edge(alloc, taken)?;
+    let found = branch_text(alloc, 0x10014, BranchOp::Bne, -12, edges, 0x11000);
+    expect_parts(&rt, "tallied", found, &[TALLIED])
+}
+
+#[test]
+fn a_stub_in_reach(rt: HostRuntime) -> Result<(), Fail> {
+    let edges = Vec::new(rt.alloc());
+    let found = branch_text(rt.alloc(), 0x10000, BranchOp::Beq, 8, edges, 0x10F000);
+    expect_parts(&rt, "near", found, &["bytes:"])
 }
 
 #[test]
 fn a_stub_that_is_too_far(rt: HostRuntime) -> Result<(), Fail> {
-    let alloc = rt.alloc();
-    let near = branch(alloc, 0x10000, BranchOp::Beq, 8, Vec::new(alloc))?;
-    assert!(rt; emit(alloc, &near, 0x10F000).is_ok());
-    let far = emit(alloc, &near, 0x120000);
-    assert!(rt; matches!(&far, Err(Stop::Refused(Refusal::StubOutOfReach(0x10000)))));
-    Ok(())
+    let edges = Vec::new(rt.alloc());
+    let found = branch_text(rt.alloc(), 0x10000, BranchOp::Beq, 8, edges, 0x120000);
+    expect_text(&rt, "far", found, "too far from 0x10000")
 }

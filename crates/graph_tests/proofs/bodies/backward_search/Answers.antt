@@ -2,7 +2,7 @@ use Rattle.std.proofs.Common.{◌≡◌, ℕ, zero, suc, ◌<◌, Bool, true, fa
 use Rattle.std.specs.Prelude.{slice_get}
 use Rattle.std.proofs.lemmas.Bool.{ltb-true}
 use Rattle.graph_algorithms.specs.Edges.{AreEdges}
-use Rattle.graph_tests.proofs.bodies.a_group_is_found_where_code_is_laid_out_backwards.Goals as goal
+use Rattle.graph_tests.proofs.bodies.backward_search.Goals as goal
 
 abbrev are_low : List ℕ → ℕ → Bool
 are_low [] n = true
@@ -33,4 +33,4 @@ edges_low : (sources : List ℕ) (targets : List (Option ℕ)) (count : ℕ) →
 edges_low sources targets count paired from to = record { paired = paired; from = λ e u h. low sources count e u h from; to = λ e u h. leads targets count e u h to }
 
 pub new-requires : goal.new-requires
-new-requires g c = edges_low _ _ _ refl refl refl
+new-requires g = edges_low _ _ _ refl refl refl
