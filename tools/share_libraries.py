@@ -11,6 +11,7 @@ import filecmp
 import os
 import shutil
 import sys
+import tempfile
 from pathlib import Path
 
 TOP = Path(__file__).resolve().parent.parent
@@ -35,7 +36,10 @@ def share(source, target):
     if not (built / "stamp").is_file() or not target.is_dir() or place.exists() or not all(are_equal(source / part, target / part) for part in PARTS):
         return False
     place.parent.mkdir(exist_ok=True)
-    shutil.copytree(built, place, copy_function=os.link)
+    # It appears whole: what an interrupt leaves is in a folder of its own.
+    with tempfile.TemporaryDirectory(dir=place.parent) as room:
+        shutil.copytree(built, Path(room) / "rlib", copy_function=os.link)
+        os.rename(Path(room) / "rlib", place)
     return True
 
 
