@@ -5,8 +5,8 @@
 
 Words: help and the version with status 0, words that are none with 2 and nothing on standard output, a file that is missing with 3, files that are refused
 with 1, a disk that is full with 3. Files that can't be read or stored: named on standard error. Inputs that don't count: each with its reason. Drafts of loop files: as
-they are committed, and those that are whole are taken by `scale hold`. Made programs: what `bench/fit.py` checks of each run, at three deadlines, with inputs and without; and
-their drafts, filled in, keep what their own loop files say. What is wrong is told, and the status is then 1.
+they are committed, and those that are whole are taken by `scale hold`. `all`: as `fit` with the draft. Made programs: what `bench/fit.py` checks of each run, at three
+deadlines, with inputs and without; and their drafts, filled in, keep what their own loop files say. What is wrong is told, and the status is then 1.
 """
 
 import os
@@ -59,16 +59,60 @@ def check_words(pace, folder):
         (["--help"], 0, b"loops"),
         (["loops", "--help"], 0, b"OUT"),
         (["loops", FILES[0]], 2, b""),
-        (["loops", FILES[0], "out", "more"], 2, b""),
+        (["loops", FILES[0], "out", *["m.toml"] * 65], 2, b""),
+        (["loops", FILES[0], "out", "missing"], 3, b""),
+        (["loops", FILES[0], "out", "m.toml"], 0, b"loops "),
         (["loops", "missing", "out"], 3, b""),
         (["loops", "m.toml", "out"], 1, b"refused 1 not an ELF file\n"),
         (["loops", FILES[0], "out"], 0, b"loops "),
+        (["--help"], 0, b"explain"),
+        (["explain", "--help"], 0, b"LOOPS"),
+        (["explain", *FILES[:2]], 2, b""),
+        (["explain", *FILES, "out"], 2, b""),
+        (["explain", "missing", *FILES[1:]], 3, b""),
+        (["explain", "m.toml", *FILES[1:]], 1, b"refused 1 not an ELF file\n"),
+        (["explain", FILES[0], FILES[2], FILES[2]], 1, b"refused "),
+        (["explain", *FILES], 0, b"worst cycles "),
+        (["--help"], 0, b"draw"),
+        (["draw", "--help"], 0, b"plan"),
+        (["draw"], 2, b""),
+        (["draw", "more"], 2, b""),
+        (["draw", "plan", "--help"], 0, b"OUT"),
+        (["draw", "plan", *FILES], 2, b""),
+        (["draw", "plan", *FILES, "out", "more"], 2, b""),
+        (["draw", "plan", "missing", *FILES[1:], "out"], 3, b""),
+        (["draw", "plan", "m.toml", *FILES[1:], "out"], 1, b"refused 1 not an ELF file\n"),
+        (["draw", "plan", *FILES, "out"], 0, b"functions "),
+        (["draw", "run", "--help"], 0, b"IMAGE"),
+        (["draw", "run", "m.toml", "out"], 2, b""),
+        (["draw", "run", "m.toml", "out", FILES[0]], 2, b""),
+        (["draw", "run", "m.toml", "out", *[FILES[0], "m.toml"] * 9], 2, b""),
+        (["draw", "run", "m.toml", "out", FILES[0], "m.toml", FILES[0]], 2, b""),
+        (["draw", "run", "missing", "out", FILES[0], "m.toml"], 3, b""),
+        (["draw", "run", FILES[2], "out", FILES[0], "m.toml"], 1, b"refused "),
+        (["draw", "run", "m.toml", "out", "m.toml", "m.toml"], 1, b"refused 1 not an ELF file\n"),
+        (["draw", "run", "m.toml", "out", *[FILES[0], "m.toml"] * 8], 0, b"run 1 "),
+        (["jumps", "--help"], 0, b"OUT"),
+        (["jumps", FILES[0]], 2, b""),
+        (["jumps", FILES[0], "out", "more"], 2, b""),
+        (["jumps", "missing", "out"], 3, b""),
+        (["jumps", "m.toml", "out"], 1, b"refused 1 not an ELF file\n"),
+        (["jumps", FILES[0], "out"], 0, b"jumps "),
+        (["--help"], 0, b"all"),
+        (["all", "--help"], 0, b"INPUT"),
+        (["all", *FILES[:2]], 2, b""),
+        (["all", *FILES[:2], "out", *["m.toml"] * 65], 2, b""),
+        (["all", "missing", "m.toml", "out"], 3, b""),
+        (["all", *FILES[:2], "out", "missing"], 3, b""),
+        (["all", "m.toml", "m.toml", "out"], 1, b"refused 1 not an ELF file\n"),
+        (["all", *FILES[:2], "out"], 0, b"jumps 0\nlisted 0\nopen 0\nloops "),
     ]
     for words, status, begin in cases:
         done = run(pace, folder, *words)
         if done.returncode != status or (begin not in done.stdout if begin else done.stdout):
             yield "pace %s: status %d, %r on standard output" % (" ".join(words[:8]), done.returncode, done.stdout[:80])
-    for words in (fitted, ["loops", FILES[0], "out"]):
+    drawn = ["draw", "run", "m.toml", "out", FILES[0], "m.toml"]
+    for words in (fitted, ["loops", FILES[0], "out"], ["explain", *FILES], ["draw", "plan", *FILES, "out"], drawn, ["jumps", FILES[0], "out"], ["all", *FILES[:2], "out"]):
         with open("/dev/full", "wb") as full:
             done = run(pace, folder, *words, output=full)
         if done.returncode != 3 or done.stderr != b"pace: standard output can't be written\n":
@@ -84,7 +128,20 @@ FAULTS = [
     (["fit", *FILES, "folder/out"], b"pace: folder/out can't be stored\n"),
     (["show", *FILES[:2], "missing"], b"pace: missing can't be read\n"),
     (["loops", "missing", "out"], b"pace: missing can't be read\n"),
+    (["loops", FILES[0], "out", FILES[1], "missing"], b"pace: missing can't be read\n"),
     (["loops", FILES[0], "folder/out"], b"pace: folder/out can't be stored\n"),
+    (["explain", *FILES[:2], "missing"], b"pace: missing can't be read\n"),
+    (["draw", "plan", FILES[0], "missing", FILES[2], "out"], b"pace: missing can't be read\n"),
+    (["draw", "plan", *FILES, "folder/out"], b"pace: folder/out can't be stored\n"),
+    (["draw", "run", "missing", "out", FILES[0], "m.toml"], b"pace: missing can't be read\n"),
+    (["draw", "run", "m.toml", "out", FILES[0], "m.toml", "missing", "other"], b"pace: missing can't be read\n"),
+    (["draw", "run", "m.toml", "out", FILES[0], "m.toml", FILES[0], "missing"], b"pace: missing can't be read\n"),
+    (["draw", "run", "m.toml", "folder/out", FILES[0], "m.toml"], b"pace: folder/out can't be stored\n"),
+    (["jumps", "missing", "out"], b"pace: missing can't be read\n"),
+    (["jumps", FILES[0], "folder/out"], b"pace: folder/out can't be stored\n"),
+    (["all", FILES[0], "missing", "out"], b"pace: missing can't be read\n"),
+    (["all", *FILES[:2], "out", FILES[1], "missing"], b"pace: missing can't be read\n"),
+    (["all", *FILES[:2], "folder/out"], b"pace: folder/out can't be stored\n"),
 ]
 
 
@@ -219,6 +276,21 @@ def check_drafts(scale, pace, folder):
             yield "pace loops of %r ..: status %d, %r, %r" % (lines[:2], done.returncode, done.stdout, done.stderr)
 
 
+def check_in_one(pace, folder):
+    """What is wrong of `all`: it stores and prints what `fit` does with the draft, and stores nothing where a loop is open."""
+    image, machine = os.path.join(OWN, "count.elf"), os.path.join(OWN, "count-machine.toml")
+    steps = b"jumps 0\nlisted 0\nopen 0\nloops %d\nproved %d\nopen %d\nirreducible 0\nreturns proved\n"
+    fitted = run(pace, folder, "fit", image, machine, os.path.join(OWN, "count-draft.toml"), "by-hand")
+    done = run(pace, folder, "all", image, machine, "in-one")
+    if (done.returncode, done.stdout) != (0, steps % (1, 1, 0) + fitted.stdout) or read(folder, "in-one") != read(folder, "by-hand"):
+        yield "pace all count.elf: status %d, %r" % (done.returncode, done.stdout)
+    done = run(pace, folder, "all", os.path.join(OWN, "gcd.elf"), machine, "in-none")
+    told, draft = done.stdout[len(steps % (2, 1, 1)) :], read(OWN, "gcd-draft.toml")
+    as_told = done.stdout.startswith(steps % (2, 1, 1)) and b'"gcd"' in told and draft.endswith(told)
+    if done.returncode != 1 or not as_told or os.path.exists(os.path.join(folder, "in-none")):
+        yield "pace all gcd.elf: status %d, %r" % (done.returncode, done.stdout)
+
+
 class Tools:
     def __init__(self, scale, pace):
         self.scale, self.pace = scale, pace
@@ -267,6 +339,7 @@ def main():
             wrong += check_faults(pace, folder)
             wrong += check_left_out(pace, folder)
             wrong += check_drafts(scale, pace, folder)
+            wrong += check_in_one(pace, folder)
         wrong += check_programs(scale, pace)
     print("\n".join([*wrong, "%d builds of pace%s" % (len(programs), ", and not all as expected" if wrong else " as expected")]))
     return 1 if wrong else 0

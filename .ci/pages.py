@@ -19,8 +19,8 @@ an empty folder in place of /tmp; names that one sets hold for the rest of the p
 The status is 0, 1 where a refusal is printed, 7 where `check no` is, or what the text says. A block that needs a compiler or another program of NEEDS is left
 out where that isn't there, and this is told.
 
-Numbers: on the pages of FIGURES each number of four digits or more is one that some command of the pages prints, or one of LIMITS; and in
-a picture of runs, whose lines end with an energy, there is a digit for each 500 time units of the run that has this energy.
+Numbers: on the pages of FIGURES each number of four digits or more is one that some command of the pages prints, or one of LIMITS; and where a page
+has an `(energy E)`, each `(F, -P %)` is an energy F that is P percent less.
 """
 
 import os
@@ -37,11 +37,17 @@ FIRST, DRAWN = "README.md", "docs/ARCHITECTURE.md"
 WIDTH = 110
 SECONDS = 120
 
-WORDS = ("cat", "cmp", "cp", "echo", "for", "head", "ls", "mkdir", "printf", "sed")
+WORDS = ("cat", "cmp", "cp", "dot", "echo", "for", "head", "ls", "mkdir", "printf", "rsvg-convert", "sed")
 OWN = re.compile(r"(?:^| )(?:\./scale|\./pace|tools/\S+)(?: |$)")
 SETS = re.compile(r"[a-z]\w*=(\"[^\"]*\"|\$\([^)]*\)|\S*)$")
 # Programs that a block may need, each with the version that the pages speak of and with how a block shows that it needs it.
-NEEDS = {"riscv64-unknown-elf-gcc": ("12.2.0", "riscv64-unknown-elf-gcc "), "clang": ("14.", "clang "), "parallel": ("", "PARALLEL_HOSTS")}
+NEEDS = {
+    "riscv64-unknown-elf-gcc": ("12.2.0", "riscv64-unknown-elf-gcc "),
+    "clang": ("14.", "clang "),
+    "parallel": ("", "PARALLEL_HOSTS"),
+    "dot": ("", "dot -T"),
+    "rsvg-convert": ("", "rsvg-convert "),
+}
 # A command line that shows words in capitals shows a form, and isn't run.
 FORM = re.compile(r"\b(?:IMAGE|MACHINE|NUMBER|INPUTS|SCALE)\b")
 
@@ -50,7 +56,6 @@ LIMITS = {
     "131072", "8388608", "1048576", "4194304",  # of calls that are open, and of files
     "1000000000",  # of the bound of a loop
     "2001", "2026",  # years
-    "5000", "10000", "15000", "20000", "25000",  # the scale of the picture
 }  # fmt: skip
 
 
@@ -308,6 +313,8 @@ def has(name, version):
     """Whether a program is there, in that version."""
     if not shutil.which(name):
         return False
+    if not version:
+        return True
     told = subprocess.run([name, "--version"], stdout=subprocess.PIPE, stderr=subprocess.STDOUT, text=True).stdout
     return re.search(rf"(?<![\d.]){re.escape(version)}", told) is not None
 
@@ -387,22 +394,18 @@ def run_page(page, scale, pace, said, anew):
 
 
 def wrong_figures(page, said):
-    """The numbers of a page that nothing prints, and what is wrong of its picture."""
+    """The numbers of a page that nothing prints, and what is wrong of its percents."""
     shown = "\n".join(said)
     numbers = set(re.findall(r"\d+", shown)) | LIMITS
     text = "\n".join(line for line in re.sub(r"\]\([^)]*\)", "]", read(page)).split("\n") if not (line.startswith("    ") and is_command(("block", [line.strip()]))))
-    plain = re.sub(r"  \d{4,}(?= +energy )", "", text)
-    for number in sorted(set(re.findall(r"(?<![\w.,^-])\d[\d,]{3,}(?![\w^])", plain))):
+    for number in sorted(set(re.findall(r"(?<![\w.,^-])\d[\d,]{3,}(?![\w^])", text))):
         if number.rstrip(",").replace(",", "") not in numbers:
             yield f"{page}: no command prints {number.rstrip(',')}"
-    times = {energy: int(time) for time, energy in re.findall(r"^time (\d+)\nenergy (\d+)$", shown, re.M)}
-    first = None
-    for digits, energy, less in re.findall(r"^    .*  (\d{4,}) +energy (\d+)(?: +-(\d+) %)?$", text, re.M):
-        first = first or int(energy)
-        if energy not in times or len(digits) != round(times[energy] / 500):
-            yield f"{page}: the picture of the run with energy {energy} has {len(digits)} digits"
-        if less and int(less) != round(100 - 100 * int(energy) / first):
-            yield f"{page}: energy {energy} isn't {less} percent less than {first}"
+    flowing = " ".join(text.split())
+    first = re.search(r"\(energy (\d+)\)", flowing)
+    for energy, less in re.findall(r"\((\d+), -(\d+) %\)", flowing) if first else ():
+        if int(less) != round(100 - 100 * int(energy) / int(first[1])):
+            yield f"{page}: energy {energy} isn't {less} percent less than {first[1]}"
 
 
 def main():

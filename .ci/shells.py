@@ -8,6 +8,7 @@ the commands, and for each word of each command the files that may stand there.
 What a shell or `man` isn't there for is left out, and this is told.
 """
 
+import itertools
 import os
 import re
 import shutil
@@ -89,15 +90,28 @@ def forms():
     """Each command line with its words in capitals."""
     cases = (ROOT / "crates" / "scale_tool" / "cases" / "words.txt").read_text()
     found = re.search(r"^\$ scale help\n((?:scale .*\n)+)=> 0$", cases, re.M)[1].splitlines()
-    return found + re.findall(r"^    (pace \w+ [A-Z].*)$", (ROOT / "docs" / "COMMANDS.md").read_text(), re.M)
+    return found + re.findall(r"^    (pace(?: [a-z]+)+ [A-Z].*)$", (ROOT / "docs" / "COMMANDS.md").read_text(), re.M)
+
+
+def parts(form):
+    """The names that a form begins with, of the program, its command and a part of it, and the words behind them.
+
+    >>> parts("pace draw run MACHINE OUT IMAGE INPUT [IMAGE INPUT] ..")
+    (['pace', 'draw', 'run'], ['MACHINE', 'OUT', 'IMAGE', 'INPUT', 'IMAGE', 'INPUT', '..'])
+    >>> parts("scale help")
+    (['scale', 'help'], [])
+    """
+    words = form.replace("[", "").replace("]", "").split()
+    names = [*itertools.takewhile(str.islower, words)]
+    return names, words[len(names) :]
 
 
 def lines_of(form):
     """The lines to complete for a command, each with what must come of it: the words before, and the one that is asked for."""
-    program, command, *words = form.replace("[", "").replace("]", "").split()
+    names, words = parts(form)
     if words[-1:] == [".."]:
         words = words[:-1] + [words[-2]]
-    done = f"{program} {command} "
+    done = " ".join(names) + " "
     for word in words + ["nothing"]:
         if word == "nothing" and form.rstrip("]").endswith(".."):
             return
@@ -109,12 +123,13 @@ def wanted():
     """All lines to complete, each with what must come of it."""
     commands = {}
     for form in forms():
-        program, command = form.split()[:2]
-        commands.setdefault(program, set()).add(command)
-    for program, names in commands.items():
-        yield program + " ", names
+        names, _ = parts(form)
+        for number in range(1, len(names)):
+            commands.setdefault(" ".join(names[:number]), set()).add(names[number])
+    for before, names in commands.items():
+        yield before + " ", names
         for name in sorted(names):
-            yield f"{program} {name[:-1]}", {other for other in names if other.startswith(name[:-1])}
+            yield f"{before} {name[:-1]}", {other for other in names if other.startswith(name[:-1])}
     for form in forms():
         yield from lines_of(form)
 
@@ -156,10 +171,11 @@ def wrong_page(text):
     for form in forms():
         if form not in shown:
             yield f"docs/scale.1: the line {form} isn't there"
-        if " ".join(form.split()[:2]) not in shown:
-            yield f"docs/scale.1: nothing is said of {' '.join(form.split()[:2])}"
+        name = " ".join(parts(form)[0])
+        if name not in shown:
+            yield f"docs/scale.1: nothing is said of {name}"
     for line in shown:
-        if re.match(r"(scale|pace) \w+ [A-Z]", line) and line not in forms():
+        if re.match(r"(scale|pace)( [a-z]+)+ [A-Z]", line) and line not in forms():
             yield f"docs/scale.1: no command is {line}"
 
 

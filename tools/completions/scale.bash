@@ -1,6 +1,6 @@
 # Completion of `scale` and `pace` for bash: `source tools/completions/scale.bash`.
 
-# The words of a command, as `scale help` has them. Those of `scale` or `pace` themselves are their commands.
+# The words of a command, as `scale help` has them. Those of `scale`, of `pace` and of `pace draw` themselves are their commands.
 _scale_words() {
     case $1 in
     scale) echo "hold rewrite report simulate make help check lower survey tune" ;;
@@ -13,23 +13,32 @@ _scale_words() {
     "scale lower") echo "IMAGE JUMPS OUT" ;;
     "scale survey") echo "IMAGE SCALED MACHINE LOOPS INPUT .." ;;
     "scale tune") echo "IMAGE MACHINE LOOPS OUT INPUT .." ;;
-    pace) echo "fit show loops" ;;
+    pace) echo "fit show loops explain draw jumps all" ;;
     "pace fit") echo "IMAGE MACHINE LOOPS OUT INPUT .." ;;
     "pace show") echo "IMAGE MACHINE LOOPS" ;;
-    "pace loops") echo "IMAGE OUT" ;;
+    "pace loops") echo "IMAGE OUT INPUT .." ;;
+    "pace explain") echo "IMAGE MACHINE LOOPS" ;;
+    "pace draw") echo "run plan" ;;
+    "pace draw run") echo "MACHINE OUT IMAGE INPUT .." ;;
+    "pace draw plan") echo "IMAGE MACHINE LOOPS OUT" ;;
+    "pace jumps") echo "IMAGE OUT" ;;
+    "pace all") echo "IMAGE MACHINE OUT INPUT .." ;;
     esac
 }
 
 _scale() {
-    local program=${COMP_WORDS[0]##*/} current=${COMP_WORDS[COMP_CWORD]} words word
+    local command=${COMP_WORDS[0]##*/} current=${COMP_WORDS[COMP_CWORD]} at=1 words word
     COMPREPLY=()
-    if [ "$COMP_CWORD" -eq 1 ]; then
-        COMPREPLY=($(compgen -W "$(_scale_words "$program")" -- "$current"))
+    if [ "$COMP_CWORD" -gt 1 ] && [ "$command ${COMP_WORDS[1]}" = "pace draw" ]; then
+        command="pace draw" at=2
+    fi
+    if [ "$COMP_CWORD" -eq "$at" ]; then
+        COMPREPLY=($(compgen -W "$(_scale_words "$command")" -- "$current"))
         return
     fi
-    read -r -a words <<< "$(_scale_words "$program ${COMP_WORDS[1]}")"
-    word=${words[COMP_CWORD - 2]:-}
-    if [ "${words[-1]:-}" = .. ] && [ "$COMP_CWORD" -ge "${#words[@]}" ]; then
+    read -r -a words <<< "$(_scale_words "$command ${COMP_WORDS[at]}")"
+    word=${words[COMP_CWORD - at - 1]:-}
+    if [ "${words[-1]:-}" = .. ] && [ "$((COMP_CWORD - at + 1))" -ge "${#words[@]}" ]; then
         word=INPUT
     fi
     case $word in

@@ -3,11 +3,18 @@
 # The word of a command that comes next: the name that `scale help` has for it.
 function __scale_next
     set -l given (commandline -opc)
+    set -l program (path basename -- $given[1])
+    set -l command "$program $given[2]"
+    set -l at 2
+    if test "$command" = "pace draw"
+        set command "pace draw $given[3]"
+        set at 3
+    end
     set -l words
-    switch (path basename -- $given[1])" $given[2]"
-        case "scale hold" "scale rewrite"
+    switch $command
+        case "scale hold" "scale rewrite" "pace draw plan"
             set words IMAGE MACHINE LOOPS OUT
-        case "scale report" "pace show"
+        case "scale report" "pace show" "pace explain"
             set words IMAGE MACHINE LOOPS
         case "scale simulate"
             set words IMAGE MACHINE INPUT OUT LOOPS
@@ -19,17 +26,29 @@ function __scale_next
             set words IMAGE JUMPS OUT
         case "scale survey"
             set words IMAGE SCALED MACHINE LOOPS INPUT ..
-        case "pace loops"
+        case "pace jumps"
             set words IMAGE OUT
+        case "pace all"
+            set words IMAGE MACHINE OUT INPUT ..
+        case "pace loops"
+            set words IMAGE OUT INPUT ..
+        case "pace draw run"
+            set words MACHINE OUT IMAGE INPUT ..
         case "scale tune" "pace fit"
             set words IMAGE MACHINE LOOPS OUT INPUT ..
     end
-    set -l number (math (count $given) - 1)
+    set -l number (math (count $given) - $at + 1)
     if test (count $words) -gt 0 -a "$words[-1]" = .. -a $number -ge (count $words)
         echo INPUT
     else if test $number -ge 1 -a $number -le (count $words)
         echo $words[$number]
     end
+end
+
+# Whether the next word is a part of `pace draw`.
+function __scale_draws
+    set -l given (commandline -opc)
+    test (count $given) -eq 2 -a "$given[2]" = draw
 end
 
 # Whether that word is one of these kinds.
@@ -58,3 +77,9 @@ complete -c scale -n __fish_use_subcommand -a tune -d "Store the image that is c
 complete -c pace -n __fish_use_subcommand -a fit -d "Store an image whose few switches are chosen by runs on given inputs"
 complete -c pace -n __fish_use_subcommand -a show -d "Print what keeps the level of a program from being lowered"
 complete -c pace -n __fish_use_subcommand -a loops -d "Store a draft of the loop file of a program"
+complete -c pace -n __fish_use_subcommand -a explain -d "Print where the worst case goes, by function and by loop"
+complete -c pace -n __fish_use_subcommand -a draw -d "Store a picture of runs, or the graph of a program's code"
+complete -c pace -n __scale_draws -a run -d "Store a picture of runs on one axis of time"
+complete -c pace -n __scale_draws -a plan -d "Store the graph of a program's code for Graphviz"
+complete -c pace -n __fish_use_subcommand -a jumps -d "Store a draft of the jump file of a program"
+complete -c pace -n __fish_use_subcommand -a all -d "Draft and lower jumps, draft loops, and store the image that is fitted to inputs"

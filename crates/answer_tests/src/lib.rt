@@ -4,6 +4,10 @@
 #[cfg(test)]
 mod checking;
 #[cfg(test)]
+mod drawing;
+#[cfg(test)]
+mod explaining;
+#[cfg(test)]
 mod fitting;
 #[cfg(test)]
 mod fixtures;
@@ -15,6 +19,8 @@ mod pacing;
 mod reasons;
 #[cfg(test)]
 mod rewriting;
+#[cfg(test)]
+mod run_pictures_rows;
 #[cfg(test)]
 mod scanning;
 #[cfg(test)]

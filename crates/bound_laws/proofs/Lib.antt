@@ -11,8 +11,6 @@ pub mod Quotients
 pub mod Transfers
 pub mod Lines
 pub mod Memory
-pub mod Frames
-pub mod ValueRuns
 pub mod LoadedBytes
-pub mod Deriving
+pub mod Before
 pub mod Laws

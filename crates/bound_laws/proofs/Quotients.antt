@@ -1,16 +1,16 @@
 -- Intervals of products, quotients, remainders and shifts hold them, and so do those of unions of bits.
 use Rattle.std.proofs.Common.{◌≡◌, ℕ, ◌+◌, ◌-◌, ◌*◌, ◌/◌, ◌<◌, ◌≤◌, ◌%◌, ◌^◌, true, sym, ap, ◌∙◌, subst, arith, Option, Some, None}
-use Rattle.std.specs.Prelude.{pos, ◌==◌, nat_lt, min, max, int_div, int_rem, bit_or, bit_xor, if◌then◌else◌}
+use Rattle.std.specs.Prelude.{pos, ◌*ℤ◌, ◌==◌, nat_lt, min, max, int_div, int_rem, bit_or, bit_xor, if◌then◌else◌}
 use Rattle.std.specs.Int.{int_shr}
 use Rattle.std.proofs.lemmas.Bool.{cond_both, and_parts, ltb-true, eqb-true, eqb-false}
 use Rattle.std.proofs.lemmas.Nat.{le-div, pow_pos, mul-le, le_or_l, le_or_r, or_of_32, xor_of_32}
 use Rattle.std.proofs.Math.Nat.{zero-mul, div-le_self, div-mul-le_self, mul-le-mul_left, mul_comm, mod-le, mod-lt, mod-eq_of_lt}
 use Rattle.std.proofs.Math.Pow.{pow_mono}
 use lib.Bits.{or_add_and, xor_add_and}
-use Rattle.scale_base.specs.Arith.{signed, unsigned}
-use Rattle.bound_laws.specs.Values.{Arc, IsMultiple, IsIn, IsHeld, ahead, arc, word, exactly, least, least_of, top, top_of, top_sum, from_to, sum_with, scaled, product_of, upper_product_of, quotient_of, remainder_of, are_low, signed_quotient_of, signed_remainder_of, power_of, biased, lowered_by, lowered_of, united_of, parted_of}
+use Rattle.scale_base.specs.Arith.{upper_half, signed, unsigned}
+use Rattle.bound_laws.specs.Values.{Arc, IsMultiple, IsIn, IsHeld, ahead, arc, word, exactly, least, least_of, top, top_of, top_sum, from_to, sum_with, scaled, product_of, upper_product_of, quotient_of, remainder_of, are_low, signed_quotient_of, signed_remainder_of, signed_upper_product_of, power_of, biased, lowered_by, lowered_of, united_of, parted_of}
 use Rattle.bound_laws.proofs.Arcs.{in_arc, in_word, in_low, in_exactly, sum_with_in, below_top, over, only_one, scaled_in, small_one, all_multiples}
-use Rattle.bound_laws.proofs.Signed.{low_one, divided_word, remainder_word, lowered_word, lowered_is}
+use Rattle.bound_laws.proofs.Signed.{upper_word, low_one, divided_word, remainder_word, lowered_word, lowered_is}
 
 -- ---- the ends of intervals
 
@@ -161,6 +161,17 @@ signed_division a b x y = ap (λ z. unsigned (int_div z (signed b))) (low_one a 
 
 signed_rest : (a b : ℕ) → a < 2 ^ 31 → b < 2 ^ 31 → unsigned (int_rem (signed a) (signed b)) ≡ a % b
 signed_rest a b x y = ap (λ z. unsigned (int_rem z (signed b))) (low_one a x) ∙ ap (λ z. unsigned (int_rem (pos a) z)) (low_one b y)
+
+signed_upper : (a b : ℕ) → a < 2 ^ 31 → b < 2 ^ 31 → upper_half (signed a *ℤ signed b) ≡ a * b / 2 ^ 32
+signed_upper a b x y = ap (λ z. upper_half (z *ℤ signed b)) (low_one a x) ∙ ap (λ z. upper_half (pos a *ℤ z)) (low_one b y)
+
+pub signed_upper_product_in : (i j : Option Arc) (a b : ℕ) → IsHeld i a → IsHeld j b → IsHeld (signed_upper_product_of i j) (upper_half (signed a *ℤ signed b))
+signed_upper_product_in None j a b x y = in_word (upper_half (signed a *ℤ signed b)) (upper_word a b)
+signed_upper_product_in (Some i) None a b x y = in_word (upper_half (signed a *ℤ signed b)) (upper_word a b)
+signed_upper_product_in (Some i) (Some j) a b x y = cond_both (are_low i j) _ _ (λ k. IsHeld k (upper_half (signed a *ℤ signed b)))
+    (λ h. let l = both_low i j a b h x y in
+    subst (λ n. IsHeld (upper_product_of (Some i) (Some j)) n) (sym (signed_upper a b l.0 l.1)) (upper_product_in (Some i) (Some j) a b x y))
+    (λ _. in_word (upper_half (signed a *ℤ signed b)) (upper_word a b))
 
 quotient_any : (a b : ℕ) → IsHeld word (if b == 0 then 2 ^ 32 - 1 else unsigned (int_div (signed a) (signed b)))
 quotient_any a b = cond_both (b == 0) (2 ^ 32 - 1) (unsigned (int_div (signed a) (signed b))) (λ v. IsHeld word v)

@@ -30,8 +30,8 @@ use Rattle.scale_base.specs.declared.stepping.TrapKind.TheVariants as traps
 use Rattle.bound_laws.specs.Registers.{keeps}
 use Rattle.bound_laws.specs.Values.{Arc, IsIn, IsHeld, arc, strided, exactly, power_of, top_of, reg_arc, imm_arc, load_arc, answer_arc, held, written, Said, said, opposite, Interval, plain, biased, is_signed, view, of_view, first_range, second_range, first_by, second_by, kept_by, HasNone, IsEmpty, IsImpossible, passed, differs, IsRegister, AreBytes}
 use Rattle.bound_laws.proofs.Effects.{performs_leave, step_of}
-use Rattle.bound_laws.proofs.Signed.{low_one, high_one, upper_word, upper_word_by}
-use Rattle.bound_laws.proofs.Quotients.{product_in, upper_product_in, quotient_in, divided_in, remainder_in, signed_quotient_in, signed_remainder_in, power_in, lowered_by_in, lowered_in, united_in, parted_in}
+use Rattle.bound_laws.proofs.Signed.{low_one, high_one, upper_word_by}
+use Rattle.bound_laws.proofs.Quotients.{product_in, upper_product_in, quotient_in, divided_in, remainder_in, signed_upper_product_in, signed_quotient_in, signed_remainder_in, power_in, lowered_by_in, lowered_in, united_in, parted_in}
 use Rattle.bound_laws.proofs.Arcs.{in_arc, only_one, times_in, in_word, in_low, in_exactly, sum_in, sum_with_in, difference_in, common_in, truth_in, below_top, without_in, IsBetween, plain_in, of_plain, biased_in, of_biased, below_in, above_in, at_most_in, at_least_in, both_in, without_one_in}
 
 -- ---- operations
@@ -48,7 +48,7 @@ reg_in Sra i j a b x y = lowered_in i j a b x y
 reg_in Or i j a b x y = united_in i j a b x y
 reg_in And i j a b x y = common_in i j a b x y
 reg_in Mul i j a b x y = product_in i j a b x y
-reg_in Mulh i j a b x y = in_word (upper_half (signed a *ℤ signed b)) (upper_word a b)
+reg_in Mulh i j a b x y = signed_upper_product_in i j a b x y
 reg_in Mulhsu i None a b x y = tt
 reg_in Mulhsu i (Some j) a b x y = in_word (upper_half (signed a *ℤ pos b)) (upper_word_by a b y.word)
 reg_in Mulhu i j a b x y = upper_product_in i j a b x y

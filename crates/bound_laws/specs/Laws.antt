@@ -17,8 +17,6 @@ use Rattle.graph_runs.specs.KeptRuns.{kept_at, most_returns, IsKeptUpTo}
 use Rattle.graph_runs.specs.RunTransitions.{returns_so}
 use Rattle.graph_runs.specs.Laws.{IsStartOver}
 use Rattle.bound_laws.specs.Registers.{Measure, measured, keeps, effect}
-use Rattle.bound_laws.specs.Values.{Values, IsInvariant, AreIn, AreBytes}
-use Rattle.bound_laws.specs.Derived.{IsDerived}
 use Rattle.bound_laws.specs.Turning.{unasked, with_bounds, Certificate, IsCertificate, StaysWithin, HasBound}
 
 -- An instruction that leaves a register leaves it, however its step ends.
@@ -50,33 +48,6 @@ FoundBoundsAreKept = (t : Text) (env : Setting) (s : State) (code : Code) (l : L
 abbrev pub ReturnsAreKept : Type 0
 ReturnsAreKept = (env : Setting) (s : State) (l : Loops) (n : ℕ) (rs : List ℕ) → returns_so (run env s n).steps ≡ Some rs → (d : Carried) × (kept_at env s (unasked l) n ≡ Some d) × (d.returns ≡ rs)
 
--- As long as the returns of a run go back to their calls, the registers are within the intervals of an invariant, at each address.
-abbrev pub ValuesHold : Type 0
-ValuesHold = (t : Text) (env : Setting) (s : State) (code : Code) (v : Values) → IsStartOver t env s → IsReachedCode t code → IsInvariant t (text_graph t code) v →
-    env.layout.keyed ≡ None → AreIn v s.pc s.regs → AreBytes s.bytes → All (λ x. x < 256) env.input →
-    (n : ℕ) (rs : List ℕ) → returns_so (run env s n).steps ≡ Some rs → (run env s n).standing ≡ GoesOn → AreIn v (run env s n).state.pc (run env s n).state.regs
-
 -- The registers at the start of an image's run.
 abbrev pub starting_registers : List ℕ
 starting_registers = slice_set (replicate 32 0) 2 STACK_POINTER
-
--- What the code of an image without a keyed segment says by itself: its reached code, and intervals that it confirms.
-pub record IsAnalysed (image : Image) (code : Code) (v : Values) : Type 0 where
-  pub reached : IsReachedCode (text_of image) code
-  pub invariant : IsInvariant (text_of image) (text_graph (text_of image) code) v
-  pub starts : AreIn v image.entry starting_registers
-  pub plain : image.keyed_segment ≡ None
-
--- A run of an image that is kept by some bounds is kept by these, where each loop's bound is derived from the code or is no less than the other.
-abbrev pub DerivedBoundsAreKept : Type 0
-DerivedBoundsAreKept = (file : List ℕ) (image : Image) (levels : ℕ) (input : List ℕ) (code : Code) (v : Values) (l : Loops) (bounds : ℕ → ℕ) → image_of file ≡ Ok image →
-    All (λ x. x < 256) file → All (λ x. x < 256) input → IsAnalysed image code v →
-    ((k : ℕ) → k < l.loops → IsDerived (text_of image) (text_graph (text_of image) code) v l k ⊎ (bounds k ≤ l.bound k)) →
-    (n : ℕ) → IsKeptUpTo image levels input (with_bounds l bounds) n → IsKeptUpTo image levels input l n
-
--- Where all bounds are derived, and no loop has to turn, a run is kept if its returns go back to their calls and its calls are not too deep.
-abbrev pub DerivedBoundsAreKeptByReturns : Type 0
-DerivedBoundsAreKeptByReturns = (file : List ℕ) (image : Image) (levels : ℕ) (input : List ℕ) (code : Code) (v : Values) (l : Loops) → image_of file ≡ Ok image →
-    All (λ x. x < 256) file → All (λ x. x < 256) input → IsAnalysed image code v →
-    ((k : ℕ) → k < l.loops → IsDerived (text_of image) (text_graph (text_of image) code) v l k × (l.least_trips k ≡ 0)) →
-    (n : ℕ) → ((m : ℕ) → m ≤ n → (rs : List ℕ) × (returns_so (run_of image levels input m).steps ≡ Some rs) × (length rs ≤ most_returns)) → IsKeptUpTo image levels input l n

@@ -17,7 +17,6 @@ use Rattle.scale_base.specs.State.{reg}
 use Rattle.cost_theory.specs.Graph.{Graph}
 use Rattle.code_text.specs.Text.{Text, instr_at}
 use Rattle.bound_laws.specs.Registers.{Measure, measured, keeps, effect}
-use Rattle.bound_laws.specs.Turning.{Leads, Calls}
 
 -- ---- wrapped intervals
 
@@ -172,7 +171,7 @@ remainder_of (Some i) j =
     else if nat_lt 0 (least_of j) then Some (arc 0 (min (top i) (top_of j - 1)))
     else Some (arc 0 (top i))
 
--- Neither number is negative, so a signed division is an unsigned one.
+-- Neither number is negative, so that signed products and divisions are unsigned ones.
 abbrev pub are_low : Arc → Arc → Bool
 are_low i j = nat_lt (top i) (2 ^ 31) && nat_lt (top j) (2 ^ 31)
 
@@ -185,6 +184,11 @@ abbrev pub signed_remainder_of : Option Arc → Option Arc → Option Arc
 signed_remainder_of None j = None
 signed_remainder_of (Some i) None = word
 signed_remainder_of (Some i) (Some j) = if are_low i j then remainder_of (Some i) (Some j) else word
+
+abbrev pub signed_upper_product_of : Option Arc → Option Arc → Option Arc
+signed_upper_product_of None j = word
+signed_upper_product_of (Some i) None = word
+signed_upper_product_of (Some i) (Some j) = if are_low i j then upper_product_of (Some i) (Some j) else word
 
 -- what a shift by a register multiplies or divides by
 abbrev pub power_of : Option Arc → Option Arc
@@ -229,6 +233,7 @@ parted_of (Some i) (Some j) = Some (arc 0 (top_sum i j))
 abbrev pub truth : Option Arc
 truth = Some (arc 0 1)
 
+-- Nothing is known of a result that is a word only where an operand is one, if nothing is known of that.
 abbrev pub reg_arc : RegOp → Option Arc → Option Arc → Option Arc
 reg_arc Add i j = sum_of i j
 reg_arc Sub i j = difference_of i j
@@ -241,7 +246,7 @@ reg_arc Sra i j = lowered_of i j
 reg_arc Or i j = united_of i j
 reg_arc And i j = common_of i j
 reg_arc Mul i j = product_of i j
-reg_arc Mulh i j = word
+reg_arc Mulh i j = signed_upper_product_of i j
 reg_arc Mulhsu i j = if is_some j then word else None
 reg_arc Mulhu i j = upper_product_of i j
 reg_arc Div i j = signed_quotient_of i j
@@ -467,8 +472,6 @@ pub record Values : Type 0 where
   pub lines : ℕ → ℕ → Option Arc
   -- the function of an address, by any number
   pub function : ℕ → ℕ
-  -- by register and address: from here on up to the function's return the register is not written, in what is called neither
-  pub calm : ℕ → ℕ → Bool
 
 -- an edge of an instruction that is no call
 abbrev pub Steps : Graph → ℕ → ℕ → Type 0
@@ -498,33 +501,6 @@ IsLineCovered v i a b j =
     ((e : ℕ) × (effect (v.forms j) i ≡ Some e) ×
     (Covers (v.lines b j) (sum_with (v.lines a j) e) ⊎
     ((e ≡ 0) × (is_difference (said i a b) (v.forms j) (v.at a) ≡ true) × Covers (v.lines b j) (without (v.lines a j) ((v.forms j).shift % 2 ^ 32)))))
-
--- all are covered, or no state comes this way
-abbrev pub AreCovered : Values → Instr → ℕ → ℕ → Type 0
-AreCovered v i a b = IsImpossible (said i a b) (v.at a) ⊎ ((v.live b ≡ true) × ((r : ℕ) → IsRegister r → IsCovered v i a b r) × ((j : ℕ) → IsLineCovered v i a b j))
-
--- behind a call a register has what it had before, where the called function doesn't write it, or what it has at the function's returns
-abbrev pub IsBack : Text → Values → ℕ → ℕ → ℕ → ℕ → Type 0
-IsBack t v u to b r = ((v.calm r to ≡ true) × (keeps_at t r u ≡ true) × Covers (v.at b r) (v.at u r)) ⊎ Covers (v.at b r) (v.exit (v.function to) r)
-
-abbrev pub IsCalm : Text → Values → ℕ → ℕ → ℕ → Type 0
-IsCalm t v u to r = (v.calm r to ≡ true) × (keeps_at t r u ≡ true)
-
-abbrev pub IsLineBack : Text → Values → ℕ → ℕ → ℕ → ℕ → Type 0
-IsLineBack t v u to b j =
-    (IsCalm t v u to (v.forms j).register × IsCalm t v u to (v.forms j).other × Covers (v.lines b j) (v.lines u j)) ⊎ Covers (v.lines b j) (line_of (v.forms j) (v.at b))
-
--- What the code has to say of intervals. Each clause is about one edge of the graph, or about two of one call.
-pub record IsInvariant (t : Text) (g : Graph) (v : Values) : Type 0 where
-  pub registers : (j : ℕ) → IsRegister (v.forms j).register × IsRegister (v.forms j).other
-  pub steps : (a b : ℕ) (i : Instr) → Steps g a b → v.live a ≡ true → instr_at t a ≡ Some i → AreCovered v i a b
-  pub calls : (a b : ℕ) (i : Instr) → Calls g a b → v.live a ≡ true → instr_at t a ≡ Some i → AreCovered v i a b
-  pub returns : (e r : ℕ) → e < g.edges → g.returns e ≡ true → v.live (g.source e) ≡ true → IsRegister r → (keeps_at t r (g.source e) ≡ true) × Covers (v.exit (v.function (g.source e)) r) (v.at (g.source e) r)
-  pub back : (u to b : ℕ) → Calls g u to → Leads g u b → v.live u ≡ true → (v.live b ≡ true) × ((r : ℕ) → IsRegister r → IsBack t v u to b r) × ((j : ℕ) → IsLineBack t v u to b j)
-  pub functions : (a b : ℕ) → Leads g a b → v.function b ≡ v.function a
-  pub calm_along : (r a b : ℕ) → Leads g a b → v.calm r a ≡ true → v.calm r b ≡ true
-  pub calm_calls : (r a b : ℕ) → Calls g a b → v.calm r a ≡ true → v.calm r b ≡ true
-  pub calm_keeps : (r e : ℕ) → e < g.edges → v.calm r (g.source e) ≡ true → keeps_at t r (g.source e) ≡ true
 
 -- a run may come to the address, where the registers are in the intervals, and so are the lines
 pub record AreIn (v : Values) (a : ℕ) (regs : List ℕ) : Type 0 where

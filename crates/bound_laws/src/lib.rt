@@ -2,7 +2,7 @@
 //! of the machine's runs, over the definitions alone. RISC-V Unprivileged ISA, RV32I.
 #![tactic(auto)]
 
-ghost use Rattle.bound_laws.specs.Laws.{StepsLeaveRegisters, StepsAddEffects, CertificatesBoundTurns, BoundsAreKeptByReturns, FoundBoundsAreKept, ReturnsAreKept, ValuesHold, DerivedBoundsAreKept, DerivedBoundsAreKeptByReturns};
+ghost use Rattle.bound_laws.specs.Laws.{StepsLeaveRegisters, StepsAddEffects, CertificatesBoundTurns, BoundsAreKeptByReturns, FoundBoundsAreKept, ReturnsAreKept};
 
 /// A step changes no register but the one that its instruction writes, and adds to a measure of that one what the instruction adds.
 pub fn steps_change_registers()
@@ -21,15 +21,4 @@ pub fn found_bounds_are_kept()
     ensures returns { ReturnsAreKept }
     ensures all { BoundsAreKeptByReturns }
     ensures found { FoundBoundsAreKept }
-{}
-
-/// The registers of a run whose returns go back to their calls are within the intervals that the code confirms.
-pub fn values_hold()
-    ensures { ValuesHold }
-{}
-
-/// A run of an image breaks no bound that is derived from its code alone, before it breaks a return address or another bound.
-pub fn derived_bounds_are_kept()
-    ensures derived { DerivedBoundsAreKept }
-    ensures all { DerivedBoundsAreKeptByReturns }
 {}

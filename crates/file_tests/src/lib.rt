@@ -2,6 +2,8 @@
 #![tactic(auto)]
 
 #[cfg(test)]
+mod debug_files;
+#[cfg(test)]
 mod elf_files;
 #[cfg(test)]
 mod fixtures;

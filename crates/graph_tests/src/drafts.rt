@@ -133,7 +133,7 @@ fn gaps_that_lead_nowhere_are_filled(rt: HostRuntime) -> Result<(), Fail> {
 /// The draft of a program as it is printed, or why there is none.
 pub fn draft_text(alloc: Global, words: &[u32]) -> Result<String, Fail> {
     let image = image_of(alloc, words)?;
-    match draft_loops(alloc, &image) {
+    match draft_loops(alloc, &image, &[]) {
         Ok(draft) => Ok(printed_text(alloc, &draft.pieces)?),
         Err(stop) => loop_stop_text(alloc, &stop),
     }
@@ -240,7 +240,7 @@ fn counted_text(alloc: Global, draft: &LoopDraft, bound: Option<u32>) -> Result<
 
 fn draft_of(alloc: Global, words: &[u32], bound: Option<u32>) -> Result<String, Fail> {
     let image = image_of(alloc, words)?;
-    match draft_loops(alloc, &image) {
+    match draft_loops(alloc, &image, &[]) {
         Ok(draft) => counted_text(alloc, &draft, bound),
         Err(stop) => loop_stop_text(alloc, &stop),
     }
@@ -261,7 +261,7 @@ fn bounds_are_filled_in_where_none_is_known(rt: HostRuntime) -> Result<(), Fail>
 
 /// How many loops an image has, if they are too many for a file.
 fn too_many(alloc: Global, image: &[u8]) -> u32 {
-    match draft_loops(alloc, image) {
+    match draft_loops(alloc, image, &[]) {
         Err(Stop::Refused(Refusal::TooManyLoops(count))) => count,
         _ => 0,
     }

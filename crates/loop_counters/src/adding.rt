@@ -3,15 +3,16 @@
 use crate::scope::Scope;
 use crate::stores::{is_missed, is_safe, stored_word};
 use scale_base::NoMemory;
-use stack_checks::Name;
+use stack_tables::Name;
 use std::alloc::Global;
 use wrapped_intervals::{Arc, Measure, effect};
 
-/// What is counted in: a register, or a word of the stack, by its number.
+/// What is counted in: a register, a word of the stack, by its number, or a sum of two registers whose interval the table has.
 #[derive(Clone, Copy)]
 pub enum Place {
     Register(u8),
     Word(u32),
+    Sum(Measure),
 }
 
 /// A register as a measure.
@@ -25,11 +26,17 @@ pub fn register_measure(r: u8) -> Measure {
     }
 }
 
-// What a node adds to a register. A call adds nothing, where the function gives the register back.
-fn added_to_register(scope: &Scope<'_>, k: usize, r: u8) -> Option<u32> {
-    let added = effect(register_measure(r), scope.instr(k))?;
+// Whether a function gives the registers of a measure back.
+fn restores(scope: &Scope<'_>, function: usize, m: Measure) -> bool {
+    (m.register == 0 || scope.restores(function, m.register))
+        && (m.other == 0 || scope.restores(function, m.other))
+}
+
+// What a node adds to a sum of registers. A call adds nothing, where the function gives them back.
+fn added_to_registers(scope: &Scope<'_>, k: usize, m: Measure) -> Option<u32> {
+    let added = effect(m, scope.instr(k))?;
     match scope.callee_of(k) {
-        Some(callee) if !scope.restores(callee.function, r) => None,
+        Some(callee) if !restores(scope, callee.function, m) => None,
         _ => Some(added),
     }
 }
@@ -74,8 +81,9 @@ fn added_to_word(scope: &Scope<'_>, k: usize, number: u32) -> Option<u32> {
 
 fn added(scope: &Scope<'_>, place: Place, k: usize) -> Option<u32> {
     match place {
-        Place::Register(r) => added_to_register(scope, k, r),
+        Place::Register(r) => added_to_registers(scope, k, register_measure(r)),
         Place::Word(number) => added_to_word(scope, k, number),
+        Place::Sum(m) => added_to_registers(scope, k, m),
     }
 }
 
@@ -104,5 +112,6 @@ pub fn arc_at_header(scope: &Scope<'_>, place: Place) -> Option<Arc> {
     match place {
         Place::Register(r) => scope.arc(scope.header, r),
         Place::Word(number) => scope.word_arc(scope.header, number),
+        Place::Sum(m) => scope.line_arc(scope.header, m),
     }
 }

@@ -86,6 +86,32 @@ fn choose_word(
     Ok(best)
 }
 
+// A sum of two registers as a counter, where it goes up from 0.
+fn counter_in_sum(alloc: Global, scope: &Scope<'_>, j: usize) -> Result<Option<Choice>, NoMemory> {
+    let Some(m) = scope.form(j) else {
+        return Ok(None);
+    };
+    match counter_at(alloc, scope, Place::Sum(m))? {
+        Some(choice) if !choice.limits.falls && choice.limits.start == 0 => Ok(Some(choice)),
+        _ => Ok(None),
+    }
+}
+
+// The sum of two registers of the least bound, if that is less than the one of a place.
+fn choose_sum(
+    alloc: Global,
+    scope: &Scope<'_>,
+    place: Option<Choice>,
+) -> Result<Option<Choice>, NoMemory> {
+    let mut best = place;
+    for line in scope.lines(scope.header) {
+        if let Some(choice) = counter_in_sum(alloc, scope, line.form)? {
+            best = better(best, choice);
+        }
+    }
+    Ok(best)
+}
+
 // The counter as a certificate has it: it goes up from 0.
 fn counter_of(place: Place, limits: &Limits) -> StackCounter {
     let (factor, shift) = if limits.falls {
@@ -99,6 +125,7 @@ fn counter_of(place: Place, limits: &Limits) -> StackCounter {
             shift,
             ..register_measure(r)
         }),
+        Place::Sum(m) => StackCounter::InRegisters(m),
         Place::Word(number) => StackCounter::InWord {
             number,
             factor,
@@ -149,7 +176,8 @@ pub fn find_certificate(
         return Ok(None);
     }
     let register = choose_register(alloc, &scope)?;
-    match choose_word(alloc, &scope, register)? {
+    let place = choose_word(alloc, &scope, register)?;
+    match choose_sum(alloc, &scope, place)? {
         Some(choice) if choice.limits.bound() < NO_BOUND => {
             Ok(Some(certificate_of(alloc, scope, choice)?))
         }

@@ -7,10 +7,11 @@ use code_text::instr_at;
 use elf_image::ImageView;
 use flow_graph::CodeGraph;
 use scale_base::{Instr, NoMemory};
-use stack_checks::{Name, Word};
+use stack_tables::{Name, Word};
 use std::alloc::Global;
 use value_analysis::Tables;
-use wrapped_intervals::{Arc, exactly};
+use value_checks::Line;
+use wrapped_intervals::{Arc, Measure, exactly};
 
 /// A loop that is looked at: its header, its nodes, and by node whether it is one of them.
 #[derive(Drop)]
@@ -163,6 +164,30 @@ impl<'a> Scope<'a> {
         let row = self.tables.stack.words.get(k)?;
         let word: &Word = row.get(number as usize)?;
         word.arc
+    }
+
+    /// The lines that the table has before a node's instruction.
+    pub fn lines(&self, k: usize) -> &'a [Line] {
+        let tables = self.tables;
+        match tables.values.lines.get(k) {
+            Some(row) => row,
+            None => &[],
+        }
+    }
+
+    /// The form of a number.
+    pub fn form(&self, j: usize) -> Option<Measure> {
+        self.tables.values.forms.get(j).copied()
+    }
+
+    /// The interval of a sum before a node's instruction.
+    pub fn line_arc(&self, k: usize, m: Measure) -> Option<Arc> {
+        for line in self.lines(k) {
+            if self.form(line.form) == Some(m) {
+                return Some(line.arc);
+            }
+        }
+        None
     }
 
     /// What x2 has when the function of a node begins.

@@ -5,7 +5,7 @@ ghost use Rattle.wrapped_intervals.specs.Small.{IsKept, IsKeptOr};
 
 use crate::scope::{Callee, Scope};
 use scale_base::{Instr, StoreOp};
-use stack_checks::{Name, word_number};
+use stack_tables::{Name, word_number};
 use wrapped_intervals::{Arc, covers, sum_with};
 
 /// How many words there are.

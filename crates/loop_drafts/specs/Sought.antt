@@ -3,8 +3,8 @@ use Rattle.std.specs.Prelude.{Bool, List}
 use Rattle.std.specs.List.{All}
 use Rattle.loop_file.specs.declared.notes.LoopNote.{LoopNote}
 use Rattle.value_checks.specs.Tables.{values_of}
-use Rattle.stack_checks.specs.declared.claims.StackClaim.{StackClaim}
-use Rattle.stack_checks.specs.Tables.{stacks_of}
+use Rattle.stack_tables.specs.declared.claims.StackClaim.{StackClaim}
+use Rattle.stack_tables.specs.Tables.{stacks_of}
 use Rattle.loop_drafts.specs.Bounds.{AreReturnsFound, IsBoundFound}
 
 abbrev pub IsFoundBy : StackClaim → LoopNote → Type 0

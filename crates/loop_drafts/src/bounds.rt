@@ -5,7 +5,7 @@ ghost use Rattle.std.specs.Prelude.{◌≡◌, ◌++◌, ◌∷◌, [], false, I
 ghost use Rattle.std.specs.List.{All};
 ghost use Rattle.code_text.specs.Text.{text_of};
 ghost use Rattle.flow_graph.specs.FlowGraph.{IsGraphOf};
-ghost use Rattle.stack_checks.specs.Tables.{IsStackClaim};
+ghost use Rattle.stack_tables.specs.Tables.{IsStackClaim};
 ghost use Rattle.loop_drafts.specs.Bounds.{AreBoundsFound, AreNoneFound, IsOpen, NeedNotTurn};
 ghost use Rattle.loop_drafts.specs.Sought.{AreFoundBy, AreReturnsFoundBy, IsFoundBy};
 
@@ -19,10 +19,12 @@ use loop_forest::LoopTree;
 use loop_tree::build_loops;
 use scale_base::{NoMemory, Stop};
 use shown_bounds::{StackCertificate, StackCounter, comes_back, is_shown};
-use stack_checks::{StackClaim, is_stack_analysed, is_stack_sized};
+use stack_checks::is_stack_analysed;
+use stack_tables::{StackClaim, is_stack_sized};
 use std::alloc::Global;
-use value_analysis::{Tables, analyse};
+use value_analysis::{Tables, analyse_loops};
 use value_checks::is_sized;
+use wrapped_intervals::Measure;
 
 /// So many loops times nodes and edges are looked at.
 const MOST_WORK: u64 = 400_000_000;
@@ -81,10 +83,21 @@ fn below(number: u32) -> u32 {
     number.saturating_add(1).saturating_mul(4)
 }
 
+// What a sum of registers counts in.
+fn place_of(measure: Measure) -> Place {
+    if measure.other_factor == 0 {
+        Place::Register(measure.register)
+    } else if measure.other_factor == measure.factor {
+        Place::Sum(measure.register, measure.other)
+    } else {
+        Place::Difference(measure.register, measure.other)
+    }
+}
+
 // The counter of a certificate.
 fn counter_of(certificate: &StackCertificate) -> Counter {
     let (place, factor) = match certificate.counter {
-        StackCounter::InRegisters(measure) => (Place::Register(measure.register), measure.factor),
+        StackCounter::InRegisters(measure) => (place_of(measure), measure.factor),
         StackCounter::InWord { number, factor, .. } => (Place::StackWord(below(number)), factor),
     };
     Counter {
@@ -251,7 +264,7 @@ fn bounds_of(
     ensures found { IfOk result (λ b. AreBoundsFound view.now b.notes.items b.returns) }
     ensures least { IfOk result (λ b. All NeedNotTurn b.notes.items) }
 {
-    let tables = analyse(alloc, view, graph)?;
+    let tables = analyse_loops(alloc, view, graph, tree)?;
     if !is_sized(graph, &tables.values) || !is_stack_sized(graph, &tables.stack) {
         return open_all(alloc, notes, Reason::NotAnalysed);
     }

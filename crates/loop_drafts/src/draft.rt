@@ -6,10 +6,13 @@ use scale_base::NoMemory;
 use std::alloc::Global;
 use std::fmt;
 
-/// What is counted in: a register, or a word of the stack, so many bytes below what x2 had when the function began.
+/// What is counted in: a register, how far a register is above another one, the sum of two, or a word of the stack, so many bytes below what x2 had when the
+/// function began.
 #[derive(Clone, Copy)]
 pub enum Place {
     Register(u8),
+    Difference(u8, u8),
+    Sum(u8, u8),
     StackWord(u32),
 }
 

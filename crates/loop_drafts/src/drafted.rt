@@ -34,6 +34,15 @@ pub fn count_open(pieces: &[Piece]) -> usize
     pieces.iter().filter(|piece| piece.is_open).count()
 }
 
+/// How many bytes the pieces have.
+pub fn byte_count(pieces: &[Piece]) -> usize {
+    let mut count: usize = 0;
+    for piece in pieces {
+        count = count.saturating_add(piece.text.len());
+    }
+    count
+}
+
 /// The file as it is printed, in which the loops of open pieces have no bound.
 pub fn printed_text(alloc: Global, pieces: &[Piece]) -> Result<String, NoMemory>
     ensures { IfOk result (λ text. string_bytes text ≡ printed pieces.now) }

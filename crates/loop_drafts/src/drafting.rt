@@ -7,17 +7,20 @@ ghost use Rattle.scale_base.specs.declared.refusal.Refusal.TheVariants.{TooLarge
 ghost use Rattle.code_text.specs.Text.{text_of};
 ghost use Rattle.flow_graph.specs.FlowGraph.{IsGraphOf};
 ghost use Rattle.loop_drafts.specs.Bounds.{AreBoundsFound, NeedNotTurn};
+ghost use Rattle.loop_drafts.specs.Pieces.{BeginsWithReturns, printed};
 ghost use Rattle.loop_drafts.specs.Drafted.{AreTried, AreNotesTaken, ArePiecesRead, ArePiecesChecked, IsDraftTried, IsGraphDrafted, IsDraftedImage, IsDrafted};
 
 use crate::bounds::{Bounds, find_bounds, open_all};
 use crate::draft::{Reason, unknown};
-use crate::drafted::{LoopDraft, Piece, count_open, filled_text};
+use crate::drafted::{LoopDraft, Piece, byte_count, count_open, filled_text};
 use crate::found::FoundLoops;
-use crate::names::{Names, names_of};
 use crate::noted::{GREATEST_BOUND, are_wanted, count_bounded};
+use crate::remarks::{Remarks, turns_of};
 use crate::search::find_loops;
 use crate::texts::pieces_of;
 use code_graph::build_graph;
+use code_names::{Names, names_of};
+use debug_lines::{Lines, lines_of};
 use elf_image::ImageView;
 use elf_view::read_image;
 use flow_graph::CodeGraph;
@@ -25,11 +28,15 @@ use loop_file::{LoopNote, LoopNotes, read_loops};
 use loop_tree::build_loops;
 use scale_base::{Name, NoMemory, Refusal, Stop};
 use std::alloc::Global;
+use turn_counts::Turns;
 
 /// So many bytes of a loop file are loaded.
 const MOST_BYTES: usize = 1_048_576;
 
 const MOST_LOOPS: usize = 4096;
+
+/// A file with more bytes has brief comments.
+const MOST_REMARKED: usize = 900_000;
 
 // The refusal of a file that is too long to be loaded.
 fn too_long(alloc: Global) -> Stop
@@ -87,13 +94,24 @@ fn read_pieces(alloc: Global, view: &ImageView<'_>, pieces: &[Piece]) -> Result<
     read_loops(alloc, bytes, view)
 }
 
-/// An image with its graph, the loops that are found in it, and the names of its places.
+/// An image with its graph, the loops that are found in it, the names and the source lines of its places, and how the loops turned in runs.
 #[derive(Drop)]
 struct Sketch<'a> {
     view: &'a ImageView<'a>,
     graph: &'a CodeGraph,
     found: FoundLoops,
     names: Names<'a>,
+    lines: Lines<'a>,
+    turns: Turns,
+}
+
+// What the comments tell.
+fn remarks_of<'a>(sketch: &'a Sketch<'a>) -> Remarks<'a> {
+    Remarks {
+        names: &sketch.names,
+        lines: Some(&sketch.lines),
+        turns: Some(&sketch.turns),
+    }
 }
 
 // Whether the file that the pieces are of has the notes that are wanted. Then its loops are taken.
@@ -113,6 +131,25 @@ fn check_pieces(
     Ok(true)
 }
 
+// The pieces with the bounds that are found. Where the file would be long, its comments tell neither source lines nor turns.
+fn pieces_with(alloc: Global, sketch: &Sketch<'_>, bounds: &Bounds) -> Result<Vec<Piece>, NoMemory>
+    ensures { IfOk result (λ pieces. BeginsWithReturns bounds.now.returns (printed pieces.items)) }
+{
+    let remarks = remarks_of(sketch);
+    let found = &sketch.found;
+    let pieces = pieces_of(alloc, &remarks, found, &bounds.known, bounds.returns)?;
+    if byte_count(&pieces) <= MOST_REMARKED {
+        return Ok(pieces);
+    }
+    pieces_of(
+        alloc,
+        &remarks.brief(),
+        found,
+        &bounds.known,
+        bounds.returns,
+    )
+}
+
 // The draft with the bounds that are found, where its file has them.
 fn draft_bounds(
     alloc: Global,
@@ -124,13 +161,7 @@ fn draft_bounds(
     requires least { All NeedNotTurn bounds.now.notes.items }
     ensures { AnswersBy (λ draft. draft) result (IsDraftTried sketch.now.view.now sketch.now.graph.now) }
 {
-    let pieces = pieces_of(
-        alloc,
-        &sketch.names,
-        &sketch.found,
-        &bounds.known,
-        bounds.returns,
-    )?;
+    let pieces = pieces_with(alloc, sketch, bounds)?;
     if !check_pieces(alloc, sketch, &pieces, &bounds.notes)? {
         return Ok(None);
     }
@@ -163,7 +194,8 @@ fn draft_sketch(alloc: Global, sketch: &Sketch<'_>) -> Result<LoopDraft, Stop>
     ensures { AnswersBy (λ draft. draft) result (IsGraphDrafted sketch.now.view.now sketch.now.graph.now) }
 {
     let known = unknown(alloc, sketch.found.loops.len())?;
-    let pieces = pieces_of(alloc, &sketch.names, &sketch.found, &known, false)?;
+    let remarks = remarks_of(sketch).brief();
+    let pieces = pieces_of(alloc, &remarks, &sketch.found, &known, false)?;
     let notes = read_pieces(alloc, sketch.view, &pieces)?;
     let bounds = find_bounds(alloc, sketch.view, sketch.graph, &notes)?;
     match draft_bounds(alloc, sketch, &bounds)? {
@@ -177,8 +209,10 @@ fn draft_graph<'a>(
     alloc: Global,
     view: &'a ImageView<'a>,
     graph: &'a CodeGraph,
+    inputs: &[Vec<u8>],
 ) -> Result<LoopDraft, Stop>
-    requires { IsGraphOf (text_of view.now) graph.now }
+    requires plain { view.now.keyed_segment ≡ None }
+    requires graph { IsGraphOf (text_of view.now) graph.now }
     ensures { AnswersBy (λ draft. draft) result (IsGraphDrafted view.now graph.now) }
 {
     let found = find_loops(alloc, graph)?;
@@ -187,31 +221,35 @@ fn draft_graph<'a>(
         return Err(Stop::Refused(Refusal::TooManyLoops(count.min(0xFFFF_FFFF) as u32)));
     }
     let names = names_of(alloc, view)?;
+    let lines = lines_of(alloc, view)?;
+    let turns = turns_of(alloc, view, &found.loops, inputs)?;
     let sketch = Sketch {
         view,
         graph,
         found,
         names,
+        lines,
+        turns,
     };
     draft_sketch(alloc, &sketch)
 }
 
 /// The draft of an image without a keyed segment.
-fn draft_plain(alloc: Global, view: &ImageView<'_>) -> Result<LoopDraft, Stop>
+fn draft_plain(alloc: Global, view: &ImageView<'_>, inputs: &[Vec<u8>]) -> Result<LoopDraft, Stop>
     requires { view.now.keyed_segment ≡ None }
     ensures { AnswersBy (λ draft. draft) result (IsDraftedImage view.now) }
 {
     let graph = build_graph(alloc, view)?;
-    draft_graph(alloc, view, &graph)
+    draft_graph(alloc, view, &graph, inputs)
 }
 
 /// The draft of an image.
-fn draft_image(alloc: Global, view: &ImageView<'_>) -> Result<LoopDraft, Stop>
+fn draft_image(alloc: Global, view: &ImageView<'_>, inputs: &[Vec<u8>]) -> Result<LoopDraft, Stop>
     ensures { AnswersBy (λ draft. draft) result (IsDraftedImage view.now) }
 {
     match view.keyed() {
         Some(_) => Err(Stop::Refused(Refusal::AlreadyScaled)),
-        None => draft_plain(alloc, view),
+        None => draft_plain(alloc, view, inputs),
     }
 }
 
@@ -220,9 +258,13 @@ fn draft_image(alloc: Global, view: &ImageView<'_>) -> Result<LoopDraft, Stop>
 ///
 /// A loop has a bound where the code shows one by itself, by a register or a word of the stack that each turn moves on. Any other stands without one. With
 /// any bounds filled in, the loops are taken where no part of the code that turns is entered at several places.
-pub fn draft_loops(alloc: Global, image: &[u8]) -> Result<LoopDraft, Stop>
+///
+/// Comments tell of each loop its source line, where the image has debug lines, and how it turned in the image's runs on the inputs, each of at most 10,000,000
+/// steps, where there are inputs. Where the file would have more than 900,000 bytes with these, they are left out. They change nothing of what is promised, and nothing
+/// is promised of them.
+pub fn draft_loops(alloc: Global, image: &[u8], inputs: &[Vec<u8>]) -> Result<LoopDraft, Stop>
     ensures { AnswersBy (λ draft. draft) result (IsDrafted image.now) }
 {
     let view = read_image(alloc, image)?;
-    draft_image(alloc, &view)
+    draft_image(alloc, &view, inputs)
 }

@@ -10,8 +10,8 @@ mod draft;
 mod drafted;
 mod drafting;
 mod found;
-mod names;
 mod noted;
+mod remarks;
 mod search;
 mod texts;
 

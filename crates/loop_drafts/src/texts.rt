@@ -6,11 +6,11 @@ ghost use Rattle.loop_drafts.specs.Pieces.{BeginsWithReturns, printed, printed_p
 use crate::draft::{Counter, Draft, Place};
 use crate::drafted::Piece;
 use crate::found::{AsidePart, FoundLoop, FoundLoops};
-use crate::names::{NamedPlace, Names};
+use crate::remarks::Remarks;
+use code_names::{Names, PlaceWords};
 use scale_base::{NoMemory, Range};
 use scale_report::Address;
 use std::alloc::{AllocError, Global};
-use std::fmt;
 use std::fmt::Write;
 
 /// So many parts that are no loops are told, and so many of the places at which one is entered.
@@ -19,33 +19,6 @@ const MOST_TOLD: usize = 64;
 /// What the user does where no bound is known.
 const HOW_TO_FINISH: &str =
     "# where no bound is known, count the back edges that one entry takes at most, and write them there as bound = N\n";
-
-// A symbol, and an offset where there is one.
-#[derive(Clone, Copy)]
-struct PlaceWords<'a>(NamedPlace<'a>);
-
-impl fmt::Display for PlaceWords<'_> {
-    fn fmt<W: fmt::Write>(&self, f: &mut fmt::Formatter<W>) -> fmt::Result {
-        let name = self.0.name;
-        let offset = self.0.offset;
-        if offset == 0 {
-            return write!(f, "{name}");
-        }
-        write!(f, "{name}+0x{offset:x}")
-    }
-}
-
-// Adds an address as a comment tells it: by a symbol, where there is one.
-fn push_place(text: &mut String, names: &Names<'_>, at: u32) -> Result<(), AllocError> {
-    let address = Address(at);
-    match names.place(at) {
-        Some(place) => {
-            let words = PlaceWords(place);
-            write!(text, "{words} ({address})")
-        }
-        None => write!(text, "{address}"),
-    }
-}
 
 // Adds an address as the loop file has it: by a symbol where that gives it, else as a number. The symbol is that of an instruction so many bytes before.
 fn push_address(
@@ -57,10 +30,10 @@ fn push_address(
     let address = Address(at.saturating_add(behind));
     match names.place(at) {
         Some(place) if place.is_first => {
-            let words = PlaceWords(NamedPlace {
+            let words = PlaceWords {
+                name: place.name,
                 offset: place.offset.saturating_add(behind),
-                ..place
-            });
+            };
             write!(text, "\"{words}\"")
         }
         _ => write!(text, "{address}"),
@@ -95,13 +68,13 @@ fn number_of(loops: &[FoundLoop], header: u32) -> Option<usize> {
 // Adds the line over a loop: its number, its header, the loop round it and its depth.
 fn push_head(
     text: &mut String,
-    names: &Names<'_>,
+    remarks: &Remarks<'_>,
     found: &FoundLoop,
     number: usize,
     outer: Option<usize>,
 ) -> Result<(), AllocError> {
     write!(text, "\n# loop {number}: ")?;
-    push_place(text, names, found.header)?;
+    remarks.push_place(text, found.header)?;
     if let Some(outer) = outer {
         write!(text, ", within loop {outer}")?;
     }
@@ -113,6 +86,8 @@ fn push_head(
 fn push_counted(text: &mut String, place: Place) -> Result<(), AllocError> {
     match place {
         Place::Register(register) => write!(text, "# x{register}"),
+        Place::Difference(one, other) => write!(text, "# x{one} - x{other}"),
+        Place::Sum(one, other) => write!(text, "# x{one} + x{other}"),
         Place::StackWord(below) => {
             write!(
                 text,
@@ -145,14 +120,16 @@ fn push_known(text: &mut String, known: Draft) -> Result<(), AllocError> {
 // The piece of a loop.
 fn loop_piece(
     alloc: Global,
-    names: &Names<'_>,
+    remarks: &Remarks<'_>,
     found: &FoundLoop,
     number: usize,
     outer: Option<usize>,
     known: Draft,
 ) -> Result<Piece, NoMemory> {
+    let names = remarks.names;
     let mut text = String::new(alloc);
-    push_head(&mut text, names, found, number, outer)?;
+    push_head(&mut text, remarks, found, number, outer)?;
+    remarks.push_turns(&mut text, number.saturating_sub(1))?;
     text.push_str("[[loop]]\nheader = ")?;
     push_address(&mut text, names, found.header, 0)?;
     text.push_str("\n")?;
@@ -165,13 +142,17 @@ fn loop_piece(
 }
 
 // Adds the line of a part that is no loop.
-fn push_aside(text: &mut String, names: &Names<'_>, part: &AsidePart) -> Result<(), AllocError> {
+fn push_aside(
+    text: &mut String,
+    remarks: &Remarks<'_>,
+    part: &AsidePart,
+) -> Result<(), AllocError> {
     text.push_str("# irreducible, no loop: entered at ")?;
     for (k, entry) in part.entries.iter().take(MOST_TOLD).enumerate() {
         if k > 0 {
             text.push_str(" and ")?;
         }
-        push_place(text, names, *entry)?;
+        remarks.push_place(text, *entry)?;
     }
     if part.entries.len() > MOST_TOLD {
         text.push_str(" and more")?;
@@ -203,7 +184,7 @@ fn returns_piece(alloc: Global, returns: bool) -> Result<Piece, NoMemory>
 // The piece over the loops.
 fn head_piece(
     alloc: Global,
-    names: &Names<'_>,
+    remarks: &Remarks<'_>,
     found: &FoundLoops,
     known: &[Draft],
 ) -> Result<Piece, NoMemory> {
@@ -218,11 +199,12 @@ fn head_piece(
         text.push_str(HOW_TO_FINISH)?;
     }
     for part in found.aside.iter().take(MOST_TOLD) {
-        push_aside(&mut text, names, part)?;
+        push_aside(&mut text, remarks, part)?;
     }
     if found.aside.len() > MOST_TOLD {
         text.push_str("# irreducible, no loop: more parts\n")?;
     }
+    remarks.push_endings(&mut text)?;
     text.push_str("version = 2\n")?;
     Ok(Piece {
         text,
@@ -233,19 +215,19 @@ fn head_piece(
 // The pieces of the loops that are found, with what is known of each, and the one over them.
 fn loop_pieces(
     alloc: Global,
-    names: &Names<'_>,
+    remarks: &Remarks<'_>,
     found: &FoundLoops,
     known: &[Draft],
 ) -> Result<Vec<Piece>, NoMemory> {
     let mut pieces = Vec::new(alloc);
-    pieces.push(head_piece(alloc, names, found, known)?)?;
+    pieces.push(head_piece(alloc, remarks, found, known)?)?;
     for (k, (looped, draft)) in found.loops.iter().zip(known).enumerate() {
         let outer = match looped.parent {
             Some(header) => number_of(&found.loops, header),
             None => None,
         };
         let number = k.saturating_add(1);
-        pieces.push(loop_piece(alloc, names, looped, number, outer, *draft)?)?;
+        pieces.push(loop_piece(alloc, remarks, looped, number, outer, *draft)?)?;
     }
     Ok(pieces)
 }
@@ -253,7 +235,7 @@ fn loop_pieces(
 /// The pieces of the loops that are found, with what is known of each and of returns.
 pub fn pieces_of(
     alloc: Global,
-    names: &Names<'_>,
+    remarks: &Remarks<'_>,
     found: &FoundLoops,
     known: &[Draft],
     returns: bool,
@@ -261,7 +243,7 @@ pub fn pieces_of(
     ensures { IfOk result (λ pieces. BeginsWithReturns returns (printed pieces.items)) }
 {
     let first = returns_piece(alloc, returns)?;
-    let mut pieces = loop_pieces(alloc, names, found, known)?;
+    let mut pieces = loop_pieces(alloc, remarks, found, known)?;
     pieces.insert(0, first)?;
     Ok(pieces)
 }

@@ -12,7 +12,7 @@ use Rattle.loop_file.specs.Loops.{read_loops}
 use Rattle.loop_drafts.specs.declared.drafted.Piece.{Piece}
 use Rattle.loop_drafts.specs.declared.drafted.LoopDraft.{LoopDraft}
 use Rattle.loop_drafts.specs.Bounds.{most_turns}
-use Rattle.loop_drafts.specs.Drafted.{AreTaken, IsDraftOf, filled_most}
+use Rattle.loop_drafts.specs.Drafted.{AreTaken, IsDraftOf, IsDrafted, filled_most}
 use Rattle.loop_drafts.specs.Kept.{AreBytes}
 use Rattle.loop_drafts.specs.Pieces.{BeginsWithReturns, bound_line, filled, filled_piece, printed, printed_piece}
 use Rattle.loop_drafts.specs.Shapes.{HaveOneShape}
@@ -29,6 +29,14 @@ printed_shorter bound (piece ∷ pieces) =
     let one : length (printed_piece piece ++ printed pieces) ≡ length (printed_piece piece) + length (printed pieces) = length-append (printed_piece piece) (printed pieces) in
     let all : length (filled_piece bound piece ++ filled bound pieces) ≡ length (filled_piece bound piece) + length (filled bound pieces) = length-append (filled_piece bound piece) (filled bound pieces) in
     let its : length (filled_piece bound piece) ≡ length (printed_piece piece) + length line = length-append (printed_piece piece) line in
+    omega arith
+
+-- a drafted file isn't too long to be loaded
+pub printed_short : (image : List ℕ) (draft : LoopDraft) → IsDrafted image (Ok draft) → length (printed draft.pieces.items) ≤ 1048576
+printed_short image draft drafted =
+    let of : IsDraftOf drafted.0 draft = drafted.2.1 in
+    let shorter = printed_shorter most_turns draft.pieces.items in
+    let low : length (filled_most draft.pieces.items) ≤ 1048576 = of.pieces.file.short in
     omega arith
 
 -- where no piece is open, no line is added to one

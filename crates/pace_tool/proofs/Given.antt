@@ -15,7 +15,7 @@ use Rattle.pace_fit.specs.Fitting.{IsFitted}
 use Rattle.host_runs.specs.declared.reply.Reply.{Reply}
 use Rattle.host_runs.specs.Answer.{Tells, refused, stored_answer}
 use Rattle.host_runs.specs.Views.{files_view, reply_view}
-use Rattle.pace_tool.specs.Answer.{Fits, MakesFit}
+use Rattle.pace_tool.specs.Fits.{Fits, MakesFit}
 use Rattle.pace_tool.specs.Texts.{fitted_text}
 
 -- as many endings as inputs

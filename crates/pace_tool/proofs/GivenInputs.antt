@@ -1,5 +1,5 @@
 -- The files of a fitting: those before the inputs, and the inputs.
-use Rattle.std.proofs.Common.{◌≡◌, ◌∙◌, ℕ, suc, ◌≤◌, List, [], ◌∷◌, length, take, drop, refl, ap, arith}
+use Rattle.std.proofs.Common.{◌≡◌, ◌∙◌, ℕ, suc, ◌≤◌, List, [], ◌∷◌, length, get_or, take, drop, refl, sym, ap, subst, arith}
 use Rattle.std.specs.Prelude.{Vec}
 use Rattle.std.specs.Borrow.{Bor}
 use Rattle.std.specs.declared.alloc.Global.{Global}
@@ -45,6 +45,45 @@ module _ (names : List (List ℕ)) where
   three_first image machine loops (i ∷ []) are = absurd are.1
   three_first image machine loops (i ∷ m ∷ []) are = absurd are.1.1
 
+  pub two_first : (image machine : List ℕ × ℕ) (files : List (Vec ℕ Global)) → AreWanted (image ∷ machine ∷ input_wants names) files → AreSplit 2 (image.1 ∷ machine.1 ∷ []) names files
+  two_first image machine (i ∷ m ∷ inputs) are = record {
+    enough = omega arith;
+    first = (are.0, (are.1.0, tt));
+    count = inputs_count names inputs are.1.1;
+    short = inputs_short names inputs are.1.1;
+  }
+  two_first image machine [] are = absurd are
+  two_first image machine (i ∷ []) are = absurd are.1
+
 -- there are as many inputs as words that name them
 pub as_many : (n : ℕ) (limits : List ℕ) (words : List (Bor (List ℕ))) (files inputs : List (Vec ℕ Global)) → AreSplit n limits (texts words) files → inputs ≡ drop n files → length inputs ≡ length words
 as_many n limits words files inputs split is = ap length is ∙ (split.count ∙ length-map words (λ word. word.now))
+
+-- ---- the first of some files, and the others
+
+pub one_and_others : (files others : List (Vec ℕ Global)) (first : Vec ℕ Global) → 1 ≤ length files → others ≡ drop 1 files → first ≡ get_or files 0 first → files_view files ≡ first.items ∷ files_view others
+one_and_others [] others first enough others_are first_is = absurd (omega arith)
+one_and_others (x ∷ rest) others first enough others_are first_is =
+    let one : x ≡ first = sym first_is in
+    ap (λ (v : Vec ℕ Global). v.items ∷ files_view rest) one ∙ ap (λ (vs : List (Vec ℕ Global)). first.items ∷ files_view vs) (sym others_are)
+
+pub two_and_others : (files pair others : List (Vec ℕ Global)) (first second : Vec ℕ Global) → 2 ≤ length files → pair ≡ take 2 files → others ≡ drop 2 files → first ≡ get_or pair 0 first → second ≡ get_or pair 1 second →
+    files_view files ≡ first.items ∷ second.items ∷ files_view others
+two_and_others [] pair others first second enough pair_is others_are first_is second_is = absurd (omega arith)
+two_and_others (x ∷ []) pair others first second enough pair_is others_are first_is second_is = absurd (omega arith)
+two_and_others (x ∷ y ∷ rest) pair others first second enough pair_is others_are first_is second_is =
+    let one : x ≡ first = sym (first_is ∙ ap (λ (vs : List (Vec ℕ Global)). get_or vs 0 first) pair_is) in
+    let other : y ≡ second = sym (second_is ∙ ap (λ (vs : List (Vec ℕ Global)). get_or vs 1 second) pair_is) in
+    ap (λ (v : Vec ℕ Global). v.items ∷ y.items ∷ files_view rest) one
+    ∙ ap (λ (v : Vec ℕ Global). first.items ∷ v.items ∷ files_view rest) other
+    ∙ ap (λ (vs : List (Vec ℕ Global)). first.items ∷ second.items ∷ files_view vs) (sym others_are)
+
+-- each within its limit
+pub two_limits : (image machine : List ℕ × ℕ) (wants : List (List ℕ × ℕ)) (files pair : List (Vec ℕ Global)) (first second : Vec ℕ Global) → AreWanted (image ∷ machine ∷ wants) files → pair ≡ take 2 files →
+    first ≡ get_or pair 0 first → second ≡ get_or pair 1 second → (length first.items ≤ image.1) × (length second.items ≤ machine.1)
+two_limits image machine wants [] pair first second are pair_is first_is second_is = absurd are
+two_limits image machine wants (x ∷ []) pair first second are pair_is first_is second_is = absurd are.1
+two_limits image machine wants (x ∷ y ∷ rest) pair first second are pair_is first_is second_is =
+    let one : x ≡ first = sym (first_is ∙ ap (λ (vs : List (Vec ℕ Global)). get_or vs 0 first) pair_is) in
+    let other : y ≡ second = sym (second_is ∙ ap (λ (vs : List (Vec ℕ Global)). get_or vs 1 second) pair_is) in
+    (subst (λ (v : Vec ℕ Global). length v.items ≤ image.1) one are.0, subst (λ (v : Vec ℕ Global). length v.items ≤ machine.1) other are.1.0)

@@ -1,8 +1,15 @@
 mod Drafted
+mod DrawnFiles
+mod DrawnPlan
+mod FitKept
 mod Given
 mod GivenInputs
-mod InputNamed
+mod InOne
 mod LeftLines
 mod OneStatus
 mod Promises
+mod SmallStatus
 mod SwitchLines
+mod Told
+mod ToldInOne
+mod Wants

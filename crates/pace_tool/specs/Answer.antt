@@ -1,45 +1,38 @@
 -- What a command may answer: its stores in order, the text that it prints, and its status.
-use Rattle.std.specs.Prelude.{ℕ, ◌≤◌, List, [], ◌∷◌, length, Result, Ok, Err}
+use Rattle.std.specs.Prelude.{◌≡◌, ℕ, List, [], ◌∷◌, Result, Ok, Err, string_bytes}
 use Rattle.scale_base.specs.declared.refusal.Refusal.{Refusal}
-use Rattle.marked_images.specs.Promise.{IsStoredSafely}
-use Rattle.paced_images.specs.declared.proposal.Proposal.{Proposal}
-use Rattle.pace_fit.specs.declared.fitting.Fitted.{Fitted}
-use Rattle.pace_fit.specs.Endings.{endings_on}
-use Rattle.pace_fit.specs.Fitting.{IsFitting}
 use Rattle.host_runs.specs.Answer.{Answer, Tells, stored_answer, text_answer}
 use Rattle.loop_drafts.specs.Kept.{AreBytes}
+use Rattle.jump_drafts.specs.declared.draft.JumpDraft.{JumpDraft}
+use Rattle.jump_drafts.specs.Drafted.{AreJumpsDrafted}
+use Rattle.jump_drafts.specs.Texts.{jumps_text}
 use Rattle.level_reasons.specs.Program.{AreReasons}
 use Rattle.level_reasons.specs.ReasonTexts.{reasons_text}
-use Rattle.pace_tool.specs.Command.{Command, Fit, Show, Loops}
+use Rattle.plan_texts.specs.Counts.{plan_text}
+use Rattle.run_pictures.specs.PictureTexts.{picture_text}
+use Rattle.worst_reports.specs.Explained.{AreExplained}
+use Rattle.worst_reports.specs.ExplainedTexts.{explained_text}
+use Rattle.pace_tool.specs.Command.{Command, Fit, Show, Loops, Explain, DrawRun, DrawPlan, Jumps, InOne}
+use Rattle.pace_tool.specs.Fits.{MakesFit}
+use Rattle.pace_tool.specs.InOne.{MakesInOne}
+use Rattle.pace_tool.specs.Drawn.{DrawsPlan, DrawsRuns}
 use Rattle.pace_tool.specs.Drafts.{Drafts}
-use Rattle.pace_tool.specs.Texts.{drafted_text, fitted_text}
+use Rattle.pace_tool.specs.Texts.{drafted_text}
 
--- What the choice of a fitting keeps to: the stored image keeps the promise of a rewritten one with the printed numbers, and on the inputs that count its runs take no more
--- energy than those of the image that runs at one level.
-pub record IsFittedSafely (image machine loops stored : List ℕ) (fitted : Fitted) : Type 0 where
-  pub safe : IsStoredSafely image machine loops stored fitted.summary
-  pub saves : fitted.energy ≤ fitted.hold_energy
+-- what `jumps` gives: a draft of the image's jump file, with the bytes that it is printed as, or the refusal
+abbrev pub DraftsJumps : (image : List ℕ) → Result (List ℕ × JumpDraft) Refusal → Type 0
+DraftsJumps image (Ok given) = AreJumpsDrafted image (Ok given.1) × (given.0 ≡ string_bytes given.1.file)
+DraftsJumps image (Err refusal) = AreJumpsDrafted image (Err refusal)
 
-abbrev pub IsSafeIfAny : (image machine loops : List ℕ) → Result (List ℕ × Fitted) Refusal → Type 0
-IsSafeIfAny image machine loops (Ok given) = IsFittedSafely image machine loops given.0 given.1
-IsSafeIfAny image machine loops (Err refusal) = Unit {0}
-
--- what `fit` gives of proposals: the choice among their images and that of `hold`, which is safe, or the refusal of `hold`
-pub record Fits (image machine loops : List ℕ) (inputs : List (List ℕ)) (proposals : List Proposal) (given : Result (List ℕ × Fitted) Refusal) : Type 0 where
-  pub fitting : IsFitting image machine loops inputs proposals given
-  pub safe : IsSafeIfAny image machine loops given
-
--- The answer to `fit` with this name of OUT: it tells what is given of some proposals, at most 64, and how the runs of the original on its inputs end. Which proposals is left open,
--- since nothing that is promised rests on them.
-pub record MakesFit (image machine loops : List ℕ) (inputs : List (List ℕ)) (out : List ℕ) (answer : Answer) : Type 0 where
-  pub proposals : List Proposal
-  pub few : length proposals ≤ 64
-  pub tells : Tells (Fits image machine loops inputs proposals) (stored_answer (fitted_text (endings_on image machine loops inputs) proposals) out) answer
-
--- What the command may make of its files, as many as it loads. It is told of what it gives for their bytes. `loops` takes an image of bytes, since what it promises is said
--- of bytes.
+-- What the command may make of its files, as many as it loads. It is told of what it gives for their bytes. `loops` and `all` take an image of bytes, since what they promise is
+-- said of bytes; of the inputs of `loops` comments of the file tell alone.
 abbrev pub Makes : Command → List (List ℕ) → Answer → Type 0
 Makes (Fit image machine loops out inputs) (i ∷ m ∷ l ∷ given) answer = MakesFit i m l given out answer
 Makes (Show image machine loops) (i ∷ m ∷ l ∷ []) answer = Tells (AreReasons i m l) (text_answer reasons_text) answer
-Makes (Loops image out) (i ∷ []) answer = AreBytes i × Tells (Drafts i) (stored_answer drafted_text out) answer
+Makes (Loops image out inputs) (i ∷ given) answer = AreBytes i × Tells (Drafts i) (stored_answer drafted_text out) answer
+Makes (Explain image machine loops) (i ∷ m ∷ l ∷ []) answer = Tells (AreExplained i m l) (text_answer explained_text) answer
+Makes (DrawRun machine out names) (m ∷ given) answer = Tells (DrawsRuns m names given) (stored_answer picture_text out) answer
+Makes (DrawPlan image machine loops out) (i ∷ m ∷ l ∷ []) answer = Tells (DrawsPlan i m l) (stored_answer plan_text out) answer
+Makes (Jumps image out) (i ∷ []) answer = Tells (DraftsJumps i) (stored_answer jumps_text out) answer
+Makes (InOne image machine out inputs) (i ∷ m ∷ given) answer = AreBytes i × MakesInOne i m given out answer
 Makes command files answer = ⊥

@@ -5,17 +5,48 @@ use Rattle.host_runs.specs.Loading.{Wants}
 pub data Command : Type 0 where
   Fit : (image machine loops out : List ℕ) (inputs : List (List ℕ)) → Command
   Show : (image machine loops : List ℕ) → Command
-  Loops : (image out : List ℕ) → Command
+  Loops : (image out : List ℕ) (inputs : List (List ℕ)) → Command
+  Explain : (image machine loops : List ℕ) → Command
+  DrawRun : (machine out : List ℕ) (names : List (List ℕ)) → Command
+  DrawPlan : (image machine loops out : List ℕ) → Command
+  Jumps : (image out : List ℕ) → Command
+  InOne : (image machine out : List ℕ) (inputs : List (List ℕ)) → Command
 
 -- inputs that are loaded, each with its limit in bytes
 abbrev pub input_wants : List (List ℕ) → Wants
 input_wants inputs = map (λ input. (input, 1048576)) inputs
 
+-- an image, and what else is loaded
+abbrev pub image_wants : List ℕ → Wants → Wants
+image_wants image others = (image, 4194304) ∷ others
+
+-- an image and a machine, and what else is loaded
+abbrev pub machine_wants : (image machine : List ℕ) → Wants → Wants
+machine_wants image machine others = image_wants image ((machine, 1048576) ∷ others)
+
+-- the files of a program, and what else is loaded
+abbrev pub program_wants : (image machine loops : List ℕ) → Wants → Wants
+program_wants image machine loops others = machine_wants image machine ((loops, 1048576) ∷ others)
+
+-- images that are run, which may be scaled ones, and their inputs, by turns
+abbrev pub run_wants : List (List ℕ) → Wants
+run_wants (image ∷ input ∷ others) = (image, 8388608) ∷ (input, 1048576) ∷ run_wants others
+run_wants names = []
+
+-- a machine, and runs on it
+abbrev pub drawn_wants : List ℕ → List (List ℕ) → Wants
+drawn_wants machine names = (machine, 1048576) ∷ run_wants names
+
 -- the files that it loads, in order, each with its limit in bytes
 abbrev pub wants_of : Command → Wants
-wants_of (Fit image machine loops out inputs) = (image, 4194304) ∷ (machine, 1048576) ∷ (loops, 1048576) ∷ input_wants inputs
-wants_of (Show image machine loops) = (image, 4194304) ∷ (machine, 1048576) ∷ (loops, 1048576) ∷ []
-wants_of (Loops image out) = (image, 4194304) ∷ []
+wants_of (Fit image machine loops out inputs) = program_wants image machine loops (input_wants inputs)
+wants_of (Show image machine loops) = program_wants image machine loops []
+wants_of (Loops image out inputs) = image_wants image (input_wants inputs)
+wants_of (Explain image machine loops) = program_wants image machine loops []
+wants_of (DrawRun machine out names) = drawn_wants machine names
+wants_of (DrawPlan image machine loops out) = program_wants image machine loops []
+wants_of (Jumps image out) = image_wants image []
+wants_of (InOne image machine out inputs) = machine_wants image machine (input_wants inputs)
 
 -- the statuses that a command gives, but for a fault and want of memory
 abbrev pub may_give : ℕ → Bool
@@ -25,8 +56,13 @@ may_give status = nat_le status 1
 abbrev pub may_answer : ℕ → Bool
 may_answer status = may_give status || (status == 3 || status == 4)
 
--- whether all answers that are right for its files have one status: not of `loops`, since the draft of an image isn't the only one that may be stored
+-- whether all answers that are right for its files have one status: not of `loops` and `all`, since the draft of an image isn't the only one that may be stored
 abbrev pub has_one_status : Command → Bool
 has_one_status (Fit image machine loops out inputs) = true
 has_one_status (Show image machine loops) = true
-has_one_status (Loops image out) = false
+has_one_status (Loops image out inputs) = false
+has_one_status (Explain image machine loops) = true
+has_one_status (DrawRun machine out names) = true
+has_one_status (DrawPlan image machine loops out) = true
+has_one_status (Jumps image out) = true
+has_one_status (InOne image machine out inputs) = false

@@ -1,7 +1,11 @@
 pub mod Answer
 pub mod Command
 pub mod Drafts
+pub mod Drawn
+pub mod Fits
+pub mod InOne
 pub mod Naming
 pub mod Promise
 pub mod Texts
+pub mod Told
 pub mod Views

@@ -1,18 +1,37 @@
 -- What the files that a command has stored promise to whoever runs them.
-use Rattle.std.specs.Prelude.{ℕ, List, [], ◌∷◌, Result}
+use Rattle.std.specs.Prelude.{◌≡◌, ℕ, List, ◌∷◌, Option, Result, Ok}
 use Rattle.std.specs.FinMap.{get}
 use Rattle.host_files.specs.HostState.{Files}
 use Rattle.scale_base.specs.declared.refusal.Refusal.{Refusal}
 use Rattle.paced_images.specs.declared.proposal.Proposal.{Proposal}
 use Rattle.pace_fit.specs.declared.fitting.Fitted.{Fitted}
 use Rattle.host_runs.specs.Promise.{StoredPromise}
-use Rattle.pace_tool.specs.Answer.{Fits, IsFittedSafely}
-use Rattle.pace_tool.specs.Command.{Command, Fit, Loops}
+use Rattle.pace_tool.specs.Fits.{Fits, IsFittedSafely}
+use Rattle.scale_base.specs.declared.summary.Lowered.{Lowered}
+use Rattle.image_lower.specs.Lowered.{IsLowered}
+use Rattle.image_lower.specs.Promise.{IsLoweredSafely}
+use Rattle.loop_drafts.specs.declared.drafted.LoopDraft.{LoopDraft}
+use Rattle.pace_tool.specs.Command.{Command, Fit, Loops, InOne}
+use Rattle.pace_tool.specs.InOne.{MakesPlain}
 use Rattle.pace_tool.specs.Drafts.{Drafts, IsDraftedSafely}
 
 -- what `fit` may give, of whatever proposals
 abbrev pub FitsAny : (image machine loops : List ℕ) → List (List ℕ) → Result (List ℕ × Fitted) Refusal → Type 0
 FitsAny image machine loops inputs given = (proposals : List Proposal) × Fits image machine loops inputs proposals given
+
+-- What `all` promises: OUT has a choice that is fitted to the image that goes on, with the draft of its loops as its loop file. No loop of the draft is open, and it keeps what
+-- `loops` promises of it; the choice keeps what `fit` promises of it; and where jumps were lowered, that image follows the one that was loaded, as `lower` promises.
+pub record IsFittedInOne (image machine : List ℕ) (inputs : List (List ℕ)) (out : Option (List ℕ)) : Type 0 where
+  pub plain : List ℕ
+  pub text : List ℕ
+  pub is_plain : MakesPlain image (Ok ((plain, text)))
+  pub file : List ℕ
+  pub draft : LoopDraft
+  pub is_drafted : Drafts plain (Ok ((file, draft)))
+  pub closed : draft.unbounded ≡ 0
+  pub drafted : IsDraftedSafely plain file draft
+  pub lowered : (jumps : List ℕ) (counts : Lowered) → IsLowered image jumps (Ok ((plain, counts))) → IsLoweredSafely image jumps plain counts
+  pub fitted : StoredPromise (FitsAny plain machine file inputs) (IsFittedSafely plain machine file) out
 
 -- What a command promises beside its answer, by the files that it loaded and those that stand afterwards. Of `fit`: on every input on which the original run exits and keeps the
 -- loops' bounds and the return addresses, the stored image gives the same output and the same exit status, ends by the deadline, never raises its level, takes no more energy than
@@ -20,9 +39,11 @@ FitsAny image machine loops inputs given = (proposals : List Proposal) × Fits i
 -- that `hold` stores. Of `loops`: the stored file isn't too long to be loaded; where it prints that no loop is open, that is a loop file of the image, with as many loops as it
 -- prints; where it prints that all loops are proved as well, every run on every input keeps that file as long as its returns go back to their calls; where it prints that returns
 -- are proved, those of every run on every input do, so that then every run keeps that file, and whatever is promised of runs that keep it; else no run breaks a bound of it before
--- it breaks one that was written in by hand, or a return address; and where it prints that nothing is irreducible, the loops are taken. `show` stores nothing, and promises nothing
--- beside its answer.
+-- it breaks one that was written in by hand, or a return address; and where it prints that nothing is irreducible, the loops are taken. Of `all`: `IsFittedInOne`. `show` and
+-- `explain` store nothing, and promise nothing beside their answers. `draw run`,
+-- `draw plan` and `jumps` store files of which their answers say all (`DrawsRuns`, `DrawsPlan`, `DraftsJumps`).
 abbrev pub Promise : Command → List (List ℕ) → Files → Type 0
 Promise (Fit image machine loops out inputs) (i ∷ m ∷ l ∷ given) after = StoredPromise (FitsAny i m l given) (IsFittedSafely i m l) (get after out)
-Promise (Loops image out) (i ∷ []) after = StoredPromise (Drafts i) (IsDraftedSafely i) (get after out)
+Promise (Loops image out inputs) (i ∷ given) after = StoredPromise (Drafts i) (IsDraftedSafely i) (get after out)
+Promise (InOne image machine out inputs) (i ∷ m ∷ given) after = IsFittedInOne i m given (get after out)
 Promise command files after = Unit {0}

@@ -1,31 +1,29 @@
 //! The command and its files.
 
-ghost use Rattle.std.specs.Prelude.{◌≡◌, ℕ, List, [], ◌++◌, ◌∷◌, option_map, slice_get, IfOk, OnOk};
+ghost use Rattle.std.specs.Prelude.{◌≡◌, ◌∷◌, option_map, slice_get, IfOk};
 ghost use Rattle.host_runs.specs.Views.{want_views};
-ghost use Rattle.pace_tool.specs.Command.{input_wants, wants_of};
-ghost use Rattle.pace_tool.specs.Views.{command_view, texts};
+ghost use Rattle.pace_tool.specs.Command.{drawn_wants, image_wants, input_wants, machine_wants, program_wants, run_wants, wants_of};
+ghost use Rattle.pace_tool.specs.Views.{command_view, texts, want_view};
 
 use crate::input_names::InputNames;
 use host_runs::Want;
 use std::alloc::{AllocError, Global};
 
+/// The names of a program's files.
+#[derive(Clone, Copy)]
+pub struct Program<'a> {
+    pub image: &'a str,
+    pub machine: &'a str,
+    pub loops: &'a str,
+}
+
 /// The command `fit`, with the names of its files: it stores the image whose runs over inputs take the least energy, of those that are proposed and the one
 /// that runs at one level.
 #[derive(Clone, Copy)]
 pub struct Fit<'a> {
-    pub image: &'a str,
-    pub machine: &'a str,
-    pub loops: &'a str,
+    pub program: Program<'a>,
     pub out: &'a str,
     pub inputs: InputNames<'a>,
-}
-
-/// The command `show`, with the names of its files: it prints what keeps the level of a program from being lowered.
-#[derive(Clone, Copy)]
-pub struct Show<'a> {
-    pub image: &'a str,
-    pub machine: &'a str,
-    pub loops: &'a str,
 }
 
 /// The command `loops`, with the names of its files: it stores a draft of the loop file of a program.
@@ -33,18 +31,59 @@ pub struct Show<'a> {
 pub struct Loops<'a> {
     pub image: &'a str,
     pub out: &'a str,
+    pub inputs: InputNames<'a>,
+}
+
+/// The command `jumps`, with the names of its files: it stores a draft of the jump file of a program.
+#[derive(Clone, Copy)]
+pub struct Jumps<'a> {
+    pub image: &'a str,
+    pub out: &'a str,
+}
+
+/// The command `draw run`, with the names of its files, of images and of inputs by turns: it stores a picture of their runs.
+#[derive(Clone, Copy)]
+pub struct DrawRun<'a> {
+    pub machine: &'a str,
+    pub out: &'a str,
+    pub names: &'a [&'a str],
+}
+
+/// The command `draw plan`, with the names of its files: it stores the graph of a program's code.
+#[derive(Clone, Copy)]
+pub struct DrawPlan<'a> {
+    pub program: Program<'a>,
+    pub out: &'a str,
+}
+
+/// The command `all`, with the names of its files: it drafts and lowers the jumps of a program, drafts its loops, and stores the image that is fitted to inputs.
+#[derive(Clone, Copy)]
+pub struct InOne<'a> {
+    pub image: &'a str,
+    pub machine: &'a str,
+    pub out: &'a str,
+    pub inputs: InputNames<'a>,
 }
 
 /// A command.
 #[derive(Clone, Copy)]
 pub enum Job<'a> {
     Fit(Fit<'a>),
-    Show(Show<'a>),
+    /// It prints what keeps the level of a program from being lowered.
+    Show(Program<'a>),
     Loops(Loops<'a>),
+    /// It prints where the worst cycles of a program go.
+    Explain(Program<'a>),
+    DrawRun(DrawRun<'a>),
+    DrawPlan(DrawPlan<'a>),
+    Jumps(Jumps<'a>),
+    InOne(InOne<'a>),
 }
 
-// How many bytes an image may have, and how many any other file.
+// How many bytes an image may have, how many one that may have been scaled, and how many any other file.
 const IMAGE_LIMIT: u64 = 4194304;
+
+const SCALED_LIMIT: u64 = 8388608;
 
 const TEXT_LIMIT: u64 = 1048576;
 
@@ -52,44 +91,133 @@ const TEXT_LIMIT: u64 = 1048576;
 pub fn wants<'a>(alloc: Global, command: &Job<'a>) -> Result<Vec<Want<'a>>, AllocError>
     ensures { IfOk result (λ wants. want_views wants.items ≡ wants_of (command_view command.now)) }
 {
-    match *command {
-        Job::Fit(fit) => fit_wants(alloc, fit.image, fit.machine, fit.loops, fit.inputs.names),
-        Job::Show(show) => fit_wants(alloc, show.image, show.machine, show.loops, &[]),
-        Job::Loops(loops) => Ok(vec![in alloc; want(loops.image, IMAGE_LIMIT)]?),
+    let mut wants = Vec::new(alloc);
+    while let Some(want) = want_at(command, wants.len()) {
+        wants.push(want)?;
     }
-}
-
-fn fit_wants<'a>(
-    alloc: Global,
-    image: &'a str,
-    machine: &'a str,
-    loops: &'a str,
-    inputs: &'a [&'a str],
-) -> Result<Vec<Want<'a>>, AllocError>
-    ensures { IfOk result (λ wants. want_views wants.items ≡ (image.now, 4194304) ∷ (machine.now, 1048576) ∷ (loops.now, 1048576) ∷ input_wants (texts inputs.now)) }
-{
-    let mut wants = vec![in alloc;
-        want(image, IMAGE_LIMIT),
-        want(machine, TEXT_LIMIT),
-        want(loops, TEXT_LIMIT),
-    ]?;
-    push_inputs(&mut wants, inputs)?;
     Ok(wants)
 }
 
-fn push_inputs<'a>(wants: &mut Vec<Want<'a>>, inputs: &'a [&'a str]) -> Result<(), AllocError>
-    ensures { OnOk result (want_views wants.new.items ≡ want_views wants.old.items ++ input_wants (texts inputs.now)) }
+// The file that is loaded as that number, from 0.
+fn want_at<'a>(command: &Job<'a>, number: usize) -> Option<Want<'a>>
+    ensures { option_map want_view result ≡ slice_get (wants_of (command_view command.now)) number }
 {
-    for name in inputs {
-        wants.push(input_want(name))?;
+    match *command {
+        Job::Fit(fit) => program_want(fit.program, fit.inputs.names, number),
+        Job::Show(program) => program_want(program, &[], number),
+        Job::Loops(loops) => image_want(loops.image, loops.inputs.names, number),
+        Job::Explain(program) => program_want(program, &[], number),
+        Job::DrawRun(draw) => drawn_want(draw.machine, draw.names, number),
+        Job::DrawPlan(draw) => program_want(draw.program, &[], number),
+        Job::Jumps(jumps) => image_want(jumps.image, &[], number),
+        Job::InOne(command) => machine_want(
+            command.image,
+            command.machine,
+            command.inputs.names,
+            number,
+        ),
     }
-    Ok(())
 }
 
-fn input_want<'a>(name: &&'a str) -> Want<'a>
-    ensures { (result.name.now ≡ name.now.now) × (result.limit ≡ 1048576) }
+// Of a program's files and inputs.
+fn program_want<'a>(program: Program<'a>, inputs: &[&'a str], number: usize) -> Option<Want<'a>>
+    ensures { option_map want_view result ≡ slice_get (program_wants program.entry.image.now program.entry.machine.now program.entry.loops.now (input_wants (texts inputs.now))) number }
 {
-    want(name, TEXT_LIMIT)
+    if number == 0 {
+        Some(want(program.image, IMAGE_LIMIT))
+    } else {
+        tables_want(program.machine, program.loops, inputs, number - 1)
+    }
+}
+
+// Of a machine file, a loop file and inputs.
+fn tables_want<'a>(
+    machine: &'a str,
+    loops: &'a str,
+    inputs: &[&'a str],
+    number: usize,
+) -> Option<Want<'a>>
+    ensures { option_map want_view result ≡ slice_get ((machine.now, 1048576) ∷ (loops.now, 1048576) ∷ input_wants (texts inputs.now)) number }
+{
+    if number == 0 {
+        Some(want(machine, TEXT_LIMIT))
+    } else {
+        loops_want(loops, inputs, number - 1)
+    }
+}
+
+// Of a loop file and inputs.
+fn loops_want<'a>(loops: &'a str, inputs: &[&'a str], number: usize) -> Option<Want<'a>>
+    ensures { option_map want_view result ≡ slice_get ((loops.now, 1048576) ∷ input_wants (texts inputs.now)) number }
+{
+    if number == 0 {
+        Some(want(loops, TEXT_LIMIT))
+    } else {
+        input_want(inputs, number - 1)
+    }
+}
+
+// Of an image and inputs.
+fn image_want<'a>(image: &'a str, inputs: &[&'a str], number: usize) -> Option<Want<'a>>
+    ensures { option_map want_view result ≡ slice_get (image_wants image.now (input_wants (texts inputs.now))) number }
+{
+    if number == 0 {
+        Some(want(image, IMAGE_LIMIT))
+    } else {
+        input_want(inputs, number - 1)
+    }
+}
+
+// Of an image, a machine and inputs.
+fn machine_want<'a>(
+    image: &'a str,
+    machine: &'a str,
+    inputs: &[&'a str],
+    number: usize,
+) -> Option<Want<'a>>
+    ensures { option_map want_view result ≡ slice_get (machine_wants image.now machine.now (input_wants (texts inputs.now))) number }
+{
+    match number {
+        0 => Some(want(image, IMAGE_LIMIT)),
+        1 => Some(want(machine, TEXT_LIMIT)),
+        _ => input_want(inputs, number - 2),
+    }
+}
+
+// Of a machine, and of runs on it.
+fn drawn_want<'a>(machine: &'a str, names: &[&'a str], number: usize) -> Option<Want<'a>>
+    ensures { option_map want_view result ≡ slice_get (drawn_wants machine.now (texts names.now)) number }
+{
+    if number == 0 {
+        Some(want(machine, TEXT_LIMIT))
+    } else {
+        run_want(names, number - 1)
+    }
+}
+
+// Of runs: their images and inputs by turns.
+fn run_want<'a>(names: &[&'a str], number: usize) -> Option<Want<'a>>
+    ensures { option_map want_view result ≡ slice_get (run_wants (texts names.now)) number }
+{
+    match names {
+        [image, input, others @ ..] => match number {
+            0 => Some(want(image, SCALED_LIMIT)),
+            1 => Some(want(input, TEXT_LIMIT)),
+            _ => run_want(others, number - 2),
+        },
+        _ => None,
+    }
+}
+
+// Of inputs.
+fn input_want<'a>(inputs: &[&'a str], number: usize) -> Option<Want<'a>>
+    ensures { option_map want_view result ≡ slice_get (input_wants (texts inputs.now)) number }
+{
+    if number < inputs.len() {
+        Some(want(inputs[number], TEXT_LIMIT))
+    } else {
+        None
+    }
 }
 
 fn want(name: &str, limit: u64) -> Want<'_>
@@ -102,43 +230,9 @@ fn want(name: &str, limit: u64) -> Want<'_>
 pub fn loaded_name<'a>(command: &Job<'a>, number: usize) -> Option<&'a str>
     ensures { option_map (λ name. name.now) result ≡ option_map (λ want. want.0) (slice_get (wants_of (command_view command.now)) number) }
 {
-    match *command {
-        Job::Fit(fit) => name_at(fit.image, fit.machine, fit.loops, fit.inputs.names, number),
-        Job::Show(show) => name_at(show.image, show.machine, show.loops, &[], number),
-        Job::Loops(loops) => name_first(loops.image, number),
-    }
-}
-
-fn name_at<'a>(
-    image: &'a str,
-    machine: &'a str,
-    loops: &'a str,
-    inputs: &[&'a str],
-    number: usize,
-) -> Option<&'a str>
-    ensures { option_map (λ name. name.now) result ≡ option_map (λ want. want.0) (slice_get ((image.now, 4194304) ∷ (machine.now, 1048576) ∷ (loops.now, 1048576) ∷ input_wants (texts inputs.now)) number) }
-{
-    match number {
-        0 => Some(image),
-        1 => Some(machine),
-        2 => Some(loops),
-        _ => input_at(inputs, number - 3),
-    }
-}
-
-fn name_first(image: &str, number: usize) -> Option<&str>
-    ensures { option_map (λ name. name.now) result ≡ option_map {T = List ℕ × ℕ} (λ want. want.0) (slice_get ((image.now, 4194304) ∷ []) number) }
-{
-    if number == 0 { Some(image) } else { None }
-}
-
-fn input_at<'a>(inputs: &[&'a str], number: usize) -> Option<&'a str>
-    ensures { option_map (λ name. name.now) result ≡ option_map (λ want. want.0) (slice_get (input_wants (texts inputs.now)) number) }
-{
-    if number < inputs.len() {
-        Some(inputs[number])
-    } else {
-        None
+    match want_at(command, number) {
+        Some(want) => Some(want.name),
+        None => None,
     }
 }
 
@@ -148,5 +242,10 @@ pub fn stored_name<'a>(command: &Job<'a>) -> Option<&'a str> {
         Job::Fit(fit) => Some(fit.out),
         Job::Show(_) => None,
         Job::Loops(loops) => Some(loops.out),
+        Job::Explain(_) => None,
+        Job::DrawRun(draw) => Some(draw.out),
+        Job::DrawPlan(draw) => Some(draw.out),
+        Job::Jumps(jumps) => Some(jumps.out),
+        Job::InOne(command) => Some(command.out),
     }
 }

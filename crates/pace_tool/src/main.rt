@@ -1,17 +1,24 @@
 //! The program `pace`: it fits the switches of speed of a program to inputs, so that it takes less energy and still meets its deadline, and tells what keeps its
-//! speed from being lowered. It drafts loop files, too.
+//! speed from being lowered and where its worst case goes. It drafts loop files and jump files, too.
 //!
 //! What the words of its command line mean is `clap`'s to say, and is tested. What is proved begins at the command that they are.
 #![tactic(auto)]
 
 mod command;
+mod draw_plan;
+mod draw_run;
+mod explain;
 mod fit;
+mod in_one;
 mod input_names;
+mod jumps;
 mod loops;
 mod making;
 mod naming_host;
 mod pace;
+mod plain;
 mod proposals;
+mod replies;
 mod show;
 mod texts;
 mod words;
@@ -71,10 +78,18 @@ fn run_command(rt: &HostRuntime, alloc: Global, command: &Job<'_>) -> u8 {
     status
 }
 
+// Tells on standard error what clap has no word for. Where that can't be printed, the status alone tells it.
+fn print_pairs(rt: &HostRuntime) {
+    let _printed = eprintln!(rt; "pace: each image that is drawn has an input behind it");
+}
+
 fn run_matched(rt: &HostRuntime, alloc: Global, matches: &ArgMatches<'_>) -> u8 {
     match command_of(matches) {
         Some(command) => run_command(rt, alloc, &command),
-        None => 2,
+        None => {
+            print_pairs(rt);
+            2
+        }
     }
 }
 

@@ -8,8 +8,13 @@ ghost use Rattle.pace_tool.specs.Command.{may_give, wants_of};
 ghost use Rattle.pace_tool.specs.Views.{command_view};
 
 use crate::command::Job;
+use crate::draw_plan::draw_plan_reply;
+use crate::draw_run::draw_run_reply;
+use crate::explain::explain_reply;
 use crate::fit::fit_made;
-use crate::loops::loops_made;
+use crate::in_one::in_one_made;
+use crate::jumps::jumps_reply;
+use crate::loops::loops_reply;
 use crate::show::show_reply;
 use host_runs::{ProgramFiles, Reply};
 use scale_base::NoMemory;
@@ -24,7 +29,12 @@ fn made_of(alloc: Global, command: &Job<'_>, files: &[Vec<u8>]) -> Result<Reply,
     match command {
         Job::Fit(fit) => fit_made(alloc, fit, files),
         Job::Show(_) => show_reply(alloc, &ProgramFiles::of(files)),
-        Job::Loops(loops) => loops_made(alloc, loops, files),
+        Job::Loops(loops) => loops_reply(alloc, loops.out, &files[0], &files[1..]),
+        Job::Explain(_) => explain_reply(alloc, &ProgramFiles::of(files)),
+        Job::DrawRun(draw) => draw_run_reply(alloc, draw.out, &files[0], draw.names, &files[1..]),
+        Job::DrawPlan(draw) => draw_plan_reply(alloc, draw.out, &ProgramFiles::of(files)),
+        Job::Jumps(jumps) => jumps_reply(alloc, jumps.out, &files[0]),
+        Job::InOne(command) => in_one_made(alloc, command, files),
     }
 }
 

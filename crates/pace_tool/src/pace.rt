@@ -56,14 +56,14 @@ fn run<H: Host>(host: &mut H, alloc: Global, command: &Job<'_>) -> Result<u8, Ho
 /// `fault_leaves` says how far the answer came, and `promise_behind_a_fault` what the stores promise, where all of them stand nevertheless.
 #[tactic(auto, using(crate::proofs::Promises::answered_keep_promise, crate::proofs::Promises::stored_keep_promise, crate::proofs::OneStatus::status_of_all))]
 pub fn run_pace<H: Host>(host: &mut H, alloc: Global, command: &Job<'_>) -> u8
-    // 0, and 1 where the files are refused; 3 and 4 where there is no answer.
+    // 0, and 1 where the files are refused, or `all` finds a loop without a bound; 3 and 4 where there is no answer.
     ensures statuses { IsTrue (may_answer result) }
 
     // Any status but 3 and 4: the command's whole answer over the files that are told.
     ensures answered { result ≢ 3 → result ≢ 4 → IsAnswered (wants_of (command_view command.now)) (Makes (command_view command.now)) result (H.state host.old) (H.state host.new) }
 
-    // All answers that are right for the files have one status, the one that was given: 1 where the files are refused, and else 0. This isn't said of `loops`, since
-    // which loops a draft has, and what it writes of them, is left open.
+    // All answers that are right for the files have one status, the one that was given: 1 where the files are refused, and else 0. This isn't said of `loops` and `all`,
+    // since which loops a draft has, and what it writes of them, is left open.
     ensures complete { IsTrue (has_one_status (command_view command.now)) → result ≢ 3 → result ≢ 4 → IsStatusOfAll (wants_of (command_view command.now)) (Makes (command_view command.now)) result (H.state host.old) }
 
     // What was done keeps the command's promise.

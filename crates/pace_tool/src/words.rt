@@ -1,12 +1,15 @@
 //! The words of the command line, as `clap` reads them.
 
-use crate::command::{Fit, Job, Loops, Show};
+use crate::command::{DrawPlan, DrawRun, Fit, InOne, Job, Jumps, Loops, Program};
 use crate::input_names::InputNames;
 use clap::{Arg, ArgAction, ArgMatches, Command as CommandLine, Error};
 use std::alloc::{AllocError, Global};
 
-/// How many inputs `fit` takes at most.
+/// How many inputs a command takes at most.
 const INPUTS: usize = 64;
+
+/// How many names of images and inputs a picture has at most: two for each run.
+const RUN_NAMES: usize = 16;
 
 fn required<'a>(alloc: Global, name: &'a str, help: &'a str) -> Arg<'a> {
     Arg::new(alloc, name)
@@ -15,54 +18,150 @@ fn required<'a>(alloc: Global, name: &'a str, help: &'a str) -> Arg<'a> {
         .help(help)
 }
 
-fn fit_line<'a>(alloc: Global) -> Result<CommandLine<'a>, AllocError> {
-    let inputs = Arg::new(alloc, "INPUT")
+// A command over an image.
+fn over_image<'a>(
+    alloc: Global,
+    name: &'a str,
+    about: &'a str,
+) -> Result<CommandLine<'a>, AllocError> {
+    CommandLine::new(alloc, name)
+        .about(about)
+        .arg(required(alloc, "IMAGE", "The program, an ELF file"))
+}
+
+fn machine<'a>(alloc: Global) -> Arg<'a> {
+    required(
+        alloc,
+        "MACHINE",
+        "The machine file: levels, switches, deadline",
+    )
+}
+
+// A command over an image, a machine file and a loop file.
+fn over_program<'a>(
+    alloc: Global,
+    name: &'a str,
+    about: &'a str,
+) -> Result<CommandLine<'a>, AllocError> {
+    over_image(alloc, name, about)?.arg(machine(alloc))?.arg(required(
+        alloc,
+        "LOOPS",
+        "The loop file: how often loops turn",
+    ))
+}
+
+fn inputs<'a>(alloc: Global, help: &'a str) -> Arg<'a> {
+    Arg::new(alloc, "INPUT")
         .num_args(0..=INPUTS)
         .action(ArgAction::Append)
-        .help("Up to 64 inputs that the program is fitted to");
-    CommandLine::new(alloc, "fit")
-        .about(
-            "Stores the image of a program whose switches of speed save the most energy on its inputs",
-        )
-        .arg(required(alloc, "IMAGE", "The program, an ELF file"))?
-        .arg(required(
-            alloc,
-            "MACHINE",
-            "The machine file: levels, switches, deadline",
-        ))?
-        .arg(required(alloc, "LOOPS", "The loop file: how often loops turn"))?
-        .arg(required(alloc, "OUT", "The name of the image that is stored"))?
-        .arg(inputs)
+        .help(help)
+}
+
+fn fit_line<'a>(alloc: Global) -> Result<CommandLine<'a>, AllocError> {
+    over_program(
+        alloc,
+        "fit",
+        "Stores the image of a program whose switches of speed save the most energy on its inputs",
+    )?
+    .arg(required(alloc, "OUT", "The name of the image that is stored"))?
+    .arg(inputs(alloc, "Up to 64 inputs that the program is fitted to"))
 }
 
 fn show_line<'a>(alloc: Global) -> Result<CommandLine<'a>, AllocError> {
-    CommandLine::new(alloc, "show")
-        .about("Tells what keeps the speed of a program from being lowered, by edge and by loop")
-        .arg(required(alloc, "IMAGE", "The program, an ELF file"))?
-        .arg(required(
-            alloc,
-            "MACHINE",
-            "The machine file: levels, switches, deadline",
-        ))?
-        .arg(required(alloc, "LOOPS", "The loop file: how often loops turn"))
+    over_program(
+        alloc,
+        "show",
+        "Tells what keeps the speed of a program from being lowered, by edge and by loop",
+    )
 }
 
 fn loops_line<'a>(alloc: Global) -> Result<CommandLine<'a>, AllocError> {
-    CommandLine::new(alloc, "loops")
-        .about("Stores a draft of the loop file of a program, with the bounds that are proved")
-        .arg(required(alloc, "IMAGE", "The program, an ELF file"))?
-        .arg(required(alloc, "OUT", "The name of the loop file that is stored"))
+    over_image(
+        alloc,
+        "loops",
+        "Stores a draft of the loop file of a program, with the bounds that are proved",
+    )?
+    .arg(required(alloc, "OUT", "The name of the loop file that is stored"))?
+    .arg(inputs(
+        alloc,
+        "Up to 64 inputs: comments in the file tell how often loops turn on them",
+    ))
+}
+
+fn explain_line<'a>(alloc: Global) -> Result<CommandLine<'a>, AllocError> {
+    over_program(
+        alloc,
+        "explain",
+        "Tells where the worst case of a program goes, by function and by loop",
+    )
+}
+
+fn draw_run_line<'a>(alloc: Global) -> Result<CommandLine<'a>, AllocError> {
+    let runs = Arg::new(alloc, "RUN")
+        .required(true)
+        .num_args(2..=RUN_NAMES)
+        .action(ArgAction::Append)
+        .value_names(&["IMAGE", "INPUT"])
+        .help("The images that are run, up to 8, each with its input behind it");
+    CommandLine::new(alloc, "run")
+        .about("Stores a picture of runs on one axis of time, with their levels of speed")
+        .arg(machine(alloc))?
+        .arg(required(alloc, "OUT", "The name of the picture (SVG) that is stored"))?
+        .arg(runs)
+}
+
+fn draw_plan_line<'a>(alloc: Global) -> Result<CommandLine<'a>, AllocError> {
+    over_program(
+        alloc,
+        "plan",
+        "Stores the graph of a program's code for Graphviz, with its worst walk",
+    )?
+    .arg(required(alloc, "OUT", "The name of the graph (DOT) that is stored"))
+}
+
+fn draw_line<'a>(alloc: Global) -> Result<CommandLine<'a>, AllocError> {
+    CommandLine::new(alloc, "draw")
+        .about("Stores a picture of runs, or the graph of a program's code")
+        .subcommand_required(true)
+        .subcommand(draw_run_line(alloc)?)?
+        .subcommand(draw_plan_line(alloc)?)
+}
+
+fn jumps_line<'a>(alloc: Global) -> Result<CommandLine<'a>, AllocError> {
+    over_image(
+        alloc,
+        "jumps",
+        "Stores a draft of the jump file of a program: the tables of its switches",
+    )?
+    .arg(required(alloc, "OUT", "The name of the jump file that is stored"))
+}
+
+fn all_line<'a>(alloc: Global) -> Result<CommandLine<'a>, AllocError> {
+    over_image(
+        alloc,
+        "all",
+        "Stores the image of a program fitted to inputs, with its jumps and its loops drafted",
+    )?
+    .arg(machine(alloc))?
+    .arg(required(alloc, "OUT", "The name of the image that is stored"))?
+    .arg(inputs(alloc, "Up to 64 inputs that the program is fitted to"))
 }
 
 fn command_line<'a>(alloc: Global) -> Result<CommandLine<'a>, AllocError> {
     CommandLine::new(alloc, "pace")
         .version("0.1.0")
-        .about("Fits the switches of speed of a program to inputs, and drafts its loop file")
+        .about(
+            "Fits the switches of speed of a program to inputs, drafts its files, and shows its worst case",
+        )
         .no_binary_name(true)
         .subcommand_required(true)
         .subcommand(fit_line(alloc)?)?
         .subcommand(show_line(alloc)?)?
-        .subcommand(loops_line(alloc)?)
+        .subcommand(loops_line(alloc)?)?
+        .subcommand(explain_line(alloc)?)?
+        .subcommand(draw_line(alloc)?)?
+        .subcommand(jumps_line(alloc)?)?
+        .subcommand(all_line(alloc)?)
 }
 
 /// What the words match, or why they don't.
@@ -72,40 +171,91 @@ pub fn matches_of<'a>(alloc: Global, words: &'a [String]) -> Result<ArgMatches<'
 
 /// The command that was matched.
 pub fn command_of<'m>(matches: &'m ArgMatches<'_>) -> Option<Job<'m>> {
-    if let Some(show) = matches.subcommand_matches("show") {
-        return Some(Job::Show(show_of(show)?));
-    }
-    if let Some(loops) = matches.subcommand_matches("loops") {
-        return Some(Job::Loops(loops_of(loops)?));
-    }
-    let fit = matches.subcommand_matches("fit")?;
-    match fit.get_strs("INPUT") {
-        Some(names) => Some(Job::Fit(fit_of(fit, names)?)),
-        None => Some(Job::Fit(fit_of(fit, &[])?)),
+    let (name, given) = matches.subcommand()?;
+    match name {
+        "fit" => Some(Job::Fit(fit_of(given)?)),
+        "show" => Some(Job::Show(program_of(given)?)),
+        "loops" => Some(Job::Loops(loops_of(given)?)),
+        "explain" => Some(Job::Explain(program_of(given)?)),
+        "draw" => drawing_of(given),
+        "jumps" => Some(Job::Jumps(jumps_of(given)?)),
+        "all" => Some(Job::InOne(in_one_of(given)?)),
+        _ => None,
     }
 }
 
-fn show_of<'m>(show: &'m ArgMatches<'_>) -> Option<Show<'m>> {
-    Some(Show {
-        image: show.get_str("IMAGE")?,
-        machine: show.get_str("MACHINE")?,
-        loops: show.get_str("LOOPS")?,
+fn drawing_of<'m>(given: &'m ArgMatches<'_>) -> Option<Job<'m>> {
+    let (name, given) = given.subcommand()?;
+    match name {
+        "run" => Some(Job::DrawRun(draw_run_of(given)?)),
+        "plan" => Some(Job::DrawPlan(draw_plan_of(given)?)),
+        _ => None,
+    }
+}
+
+fn program_of<'m>(given: &'m ArgMatches<'_>) -> Option<Program<'m>> {
+    Some(Program {
+        image: given.get_str("IMAGE")?,
+        machine: given.get_str("MACHINE")?,
+        loops: given.get_str("LOOPS")?,
     })
 }
 
-fn loops_of<'m>(loops: &'m ArgMatches<'_>) -> Option<Loops<'m>> {
-    Some(Loops {
-        image: loops.get_str("IMAGE")?,
-        out: loops.get_str("OUT")?,
-    })
+fn inputs_of<'m>(given: &'m ArgMatches<'_>) -> Option<InputNames<'m>> {
+    match given.get_strs("INPUT") {
+        Some(names) => InputNames::of(names),
+        None => InputNames::of(&[]),
+    }
 }
 
-fn fit_of<'m>(fit: &'m ArgMatches<'_>, inputs: &'m [&'m str]) -> Option<Fit<'m>> {
+fn fit_of<'m>(given: &'m ArgMatches<'_>) -> Option<Fit<'m>> {
     Some(Fit {
-        image: fit.get_str("IMAGE")?,
-        machine: fit.get_str("MACHINE")?,
-        loops: fit.get_str("LOOPS")?,
-        out: fit.get_str("OUT")?,
-        inputs: InputNames::of(inputs)?,
+        program: program_of(given)?,
+        out: given.get_str("OUT")?,
+        inputs: inputs_of(given)?,
+    })
+}
+
+// Where an image has no input, nothing.
+fn draw_run_of<'m>(given: &'m ArgMatches<'_>) -> Option<DrawRun<'m>> {
+    let names = given.get_strs("RUN")?;
+    if names.len() % 2 != 0 {
+        return None;
+    }
+    Some(DrawRun {
+        machine: given.get_str("MACHINE")?,
+        out: given.get_str("OUT")?,
+        names,
+    })
+}
+
+fn in_one_of<'m>(given: &'m ArgMatches<'_>) -> Option<InOne<'m>> {
+    Some(InOne {
+        image: given.get_str("IMAGE")?,
+        machine: given.get_str("MACHINE")?,
+        out: given.get_str("OUT")?,
+        inputs: inputs_of(given)?,
+    })
+}
+
+fn loops_of<'m>(given: &'m ArgMatches<'_>) -> Option<Loops<'m>> {
+    Some(Loops {
+        image: given.get_str("IMAGE")?,
+        out: given.get_str("OUT")?,
+        inputs: inputs_of(given)?,
+    })
+}
+
+fn draw_plan_of<'m>(given: &'m ArgMatches<'_>) -> Option<DrawPlan<'m>> {
+    Some(DrawPlan {
+        program: program_of(given)?,
+        out: given.get_str("OUT")?,
+    })
+}
+
+fn jumps_of<'m>(given: &'m ArgMatches<'_>) -> Option<Jumps<'m>> {
+    Some(Jumps {
+        image: given.get_str("IMAGE")?,
+        out: given.get_str("OUT")?,
     })
 }

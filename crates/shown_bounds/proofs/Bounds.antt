@@ -5,7 +5,7 @@ use Rattle.loop_file.specs.declared.notes.LoopNote.{LoopNote}
 use Rattle.loop_file.specs.Kept.{note_at, noted_loops, in_extent}
 use Rattle.code_text.specs.TextGraph.{text_graph}
 use Rattle.stack_laws.specs.Counting.{IsShown, IsStackCertificate, IsWithin}
-use Rattle.stack_checks.specs.Tables.{claim_stacks, claim_text, claim_values}
+use Rattle.stack_tables.specs.Tables.{claim_stacks, claim_text, claim_values}
 use Rattle.shown_bounds.specs.declared.certificates.Case.{Case}
 use Rattle.shown_bounds.specs.Certified.{code_certificate, counter_view, IsCertified}
 

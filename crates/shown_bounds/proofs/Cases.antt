@@ -3,10 +3,10 @@ use Rattle.std.proofs.Common.{◌≡◌, ◌≢◌, ℕ, ◌+◌, ◌%◌, ◌^�
 use Rattle.std.specs.Prelude.{slice_get}
 use Rattle.flow_graph.proofs.Laws.{some_is}
 use Rattle.stack_laws.specs.Counting.{added_behind, IsAdded}
-use Rattle.stack_checks.specs.Tables.{claim_stacks, claim_values}
+use Rattle.stack_tables.specs.Tables.{claim_stacks, claim_values}
 use Rattle.shown_bounds.specs.declared.certificates.Case.{Case}
 use Rattle.shown_bounds.specs.Certified.{adds_at, behind_at, body_at, case_graph, code_certificate, offset_at, quiet_at, IsCalledAt, IsCalledSo, IsCalledTo, IsCase, IsCountedAt, IsLedAt, IsLedSo, IsNode, IsQuietAlong, IsQuietAt, IsQuietCalled, IsStepSo, IsTurnAt, IsTurnSo}
-use Rattle.shown_bounds.proofs.Besides.{beside_is, once}
+use Rattle.value_checks.proofs.Laws.{beside_is, once}
 
 -- the header is at one number alone
 pub header_number : (c : Case) → IsCase c → (n b : ℕ) → IsNode c n b → b ≡ c.note.now.header → n ≡ c.header

@@ -1,4 +1,3 @@
-mod Besides
 mod Cases
 mod WholeCases
 mod Bounds

@@ -15,10 +15,10 @@ use Rattle.bound_laws.specs.Turning.{Calls}
 use Rattle.stack_laws.specs.Returning.{ComesBack}
 use Rattle.stack_laws.specs.Stacks.Name.{of_begin}
 use Rattle.value_checks.specs.Tables.{live_at}
-use Rattle.stack_checks.specs.declared.claims.StackClaim.{StackClaim}
-use Rattle.stack_checks.specs.Tables.{claim_stacks, claim_text, claim_values, IsStackClaim}
+use Rattle.stack_tables.specs.declared.claims.StackClaim.{StackClaim}
+use Rattle.stack_tables.specs.Tables.{claim_stacks, claim_text, claim_values, IsStackClaim}
 use Rattle.shown_bounds.specs.Returned.{height_at, AreLinked, AreLower, IsLink, IsLinkedAt, IsLowerSo}
-use Rattle.shown_bounds.proofs.Besides.{beside_node, live_is}
+use Rattle.value_checks.proofs.Laws.{beside_node, live_is}
 
 -- the function of a node
 pub owner_is : (c : StackClaim) (k a f : ℕ) → slice_get c.graph.now.code.nodes k ≡ Some a → f ≡ (graph c.graph.now).owner (get_or c.graph.now.code.nodes k 0) → f ≡ (claim_values c).function a

@@ -7,7 +7,7 @@ use Rattle.code_text.specs.Text.{instr_at}
 use Rattle.bound_laws.specs.Turning.{Leads, Calls}
 use Rattle.bound_laws.specs.Values.{Steps}
 use Rattle.stack_laws.specs.Counting.{IsAdded, IsStackCertificate}
-use Rattle.stack_checks.specs.Tables.{claim_stacks, claim_text, claim_values}
+use Rattle.stack_tables.specs.Tables.{claim_stacks, claim_text, claim_values}
 use Rattle.shown_bounds.specs.declared.certificates.Case.{Case}
 use Rattle.shown_bounds.specs.Certified.{case_graph, code_certificate, is_live_there, AreEdgesCertified, IsBegun, IsCalledTo, IsCase, IsCertified, IsLedTo}
 use Rattle.shown_bounds.proofs.Cases.{body_is, header_address, offset_is, quiet_is}

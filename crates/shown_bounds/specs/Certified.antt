@@ -16,7 +16,7 @@ use Rattle.stack_laws.specs.Stacks.Name.{of_word}
 use Rattle.stack_laws.specs.Counting as counting
 use Rattle.stack_laws.specs.Counting.{Counter, added_behind, IsAdded, IsKeptBy, IsStackCertificate}
 use Rattle.stack_laws.specs.Counting.Counter.{in_registers, in_word}
-use Rattle.stack_checks.specs.Tables.{claim_stacks, claim_text, claim_values, IsStackClaim}
+use Rattle.stack_tables.specs.Tables.{claim_stacks, claim_text, claim_values, IsStackClaim}
 use Rattle.shown_bounds.specs.declared.counters.StackCounter.{StackCounter}
 use Rattle.shown_bounds.specs.declared.counters.StackCounter.TheVariants.{InRegisters, InWord}
 use Rattle.shown_bounds.specs.declared.certificates.StackCertificate.{StackCertificate}

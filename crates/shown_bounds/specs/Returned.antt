@@ -7,8 +7,8 @@ use Rattle.code_text.specs.Text.{instr_at}
 use Rattle.flow_graph.specs.FlowGraph.{graph}
 use Rattle.stack_laws.specs.Stacks.Name.{of_begin}
 use Rattle.value_checks.specs.Tables.{or_other}
-use Rattle.stack_checks.specs.declared.claims.StackClaim.{StackClaim}
-use Rattle.stack_checks.specs.Tables.{claim_stacks, claim_text, claim_values}
+use Rattle.stack_tables.specs.declared.claims.StackClaim.{StackClaim}
+use Rattle.stack_tables.specs.Tables.{claim_stacks, claim_text, claim_values}
 
 -- by number of a function, so many calls may be open in what it calls
 abbrev pub height_at : List ℕ → ℕ → ℕ

@@ -5,7 +5,7 @@ ghost use Rattle.shown_bounds.specs.Certified as certified;
 
 use crate::counters::StackCounter;
 use loop_file::LoopNote;
-use stack_checks::StackClaim;
+use stack_tables::StackClaim;
 
 /// Why a loop can't turn often: at its header the counter is at most `width`, and each turn raises it by `least` at least. By node: whether it
 /// is code of the loop, what its instruction adds and what those from the header up to it have added, modulo 2^32, and whether it may run

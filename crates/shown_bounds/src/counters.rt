@@ -8,14 +8,15 @@ ghost use Rattle.bound_laws.specs.Values as values;
 ghost use Rattle.wrapped_intervals.specs.Small.{IsKeptOr, measure_view};
 ghost use Rattle.value_checks.specs.Tables.{row_at};
 ghost use Rattle.stack_laws.specs.Counting.{HasRegisters, IsAdded, IsKeptBy, IsLeftBy, IsWithin};
-ghost use Rattle.stack_laws.specs.Counting.Counter.{in_word};
+ghost use Rattle.stack_laws.specs.Counting.Counter.{in_registers, in_word};
 ghost use Rattle.stack_laws.specs.Stacks.{name_of};
-ghost use Rattle.stack_checks.specs.Tables.{claim_stacks, claim_text, claim_values, name_view, IsStackClaim};
+ghost use Rattle.stack_tables.specs.Tables.{claim_stacks, claim_text, claim_values, name_view, IsStackClaim};
 ghost use Rattle.shown_bounds.specs.Certified.{counter_view, AreRegistersWithin, IsCountedFrom, IsMore};
 
 use scale_base::Instr;
-use stack_checks::{
-    Name, StackClaim, is_missed_by, is_restored_by, is_safe_at, name_at, stored_word, word_at,
+use stack_tables::{
+    Name, StackClaim, is_missed_by, is_restored_by, is_safe_at, line_at, name_at, stored_word,
+    word_at,
 };
 use value_checks::ValueTable;
 use wrapped_intervals::{Arc, Measure, covers, effect, line_of, scaled, sum_with};
@@ -199,6 +200,38 @@ fn are_registers_within(table: &ValueTable, k: usize, m: Measure, width: u32) ->
     is_row_within(&table.rows[k], m, width)
 }
 
+// Whether an interval's words are from 0 to the width.
+fn is_known_within(arc: Arc, width: u32) -> bool
+    requires { IsKeptOr (Some arc) }
+    ensures { result ≡ true → values.Covers (Some (values.arc 0 width)) (Some arc) }
+{
+    covers(Some(Arc::of(0, u64::from(width))), Some(arc))
+}
+
+// Whether it is by a line at node k.
+fn is_line_within(claim: &StackClaim<'_>, k: usize, m: Measure, width: u32) -> bool
+    requires claim { IsStackClaim claim.now }
+    requires node { k < length claim.now.graph.now.code.nodes }
+    ensures { result ≡ true → (a : ℕ) → slice_get claim.now.graph.now.code.nodes k ≡ Some a → IsWithin (claim_values claim.now) (claim_stacks claim.now) width (in_registers (measure_view m)) a }
+{
+    match line_at(claim, k, m) {
+        Some(arc) => is_known_within(arc, width),
+        None => false,
+    }
+}
+
+// By one of both.
+fn is_sum_within(claim: &StackClaim<'_>, k: usize, m: Measure, width: u32) -> bool
+    requires claim { IsStackClaim claim.now }
+    requires node { k < length claim.now.graph.now.code.nodes }
+    ensures { result ≡ true → (a : ℕ) → slice_get claim.now.graph.now.code.nodes k ≡ Some a → IsWithin (claim_values claim.now) (claim_stacks claim.now) width (in_registers (measure_view m)) a }
+{
+    if are_registers_within(claim.table, k, m, width) {
+        return true;
+    }
+    is_line_within(claim, k, m, width)
+}
+
 // Whether a multiple of a word and a shift is, by the word's interval.
 fn is_arc_within(arc: Arc, factor: u32, shift: u32, width: u32) -> bool
     requires { IsKeptOr (Some arc) }
@@ -237,7 +270,7 @@ pub fn is_within(claim: &StackClaim<'_>, counter: StackCounter, k: usize, width:
     ensures { result ≡ true → (a : ℕ) → slice_get claim.now.graph.now.code.nodes k ≡ Some a → IsWithin (claim_values claim.now) (claim_stacks claim.now) width (counter_view counter) a }
 {
     match counter {
-        StackCounter::InRegisters(m) => are_registers_within(claim.table, k, m, width),
+        StackCounter::InRegisters(m) => is_sum_within(claim, k, m, width),
         StackCounter::InWord {
             number,
             factor,

@@ -5,12 +5,12 @@ ghost use Rattle.scale_base.specs.Image.{image_of};
 ghost use Rattle.code_text.specs.Text.{text_of};
 ghost use Rattle.code_text.specs.Text as texts;
 ghost use Rattle.value_checks.specs.Tables.{live_at};
-ghost use Rattle.stack_checks.specs.Tables.{IsStackClaim};
+ghost use Rattle.stack_tables.specs.Tables.{IsStackClaim};
 
 use code_text::instr_at;
 use elf_image::ImageView;
 use scale_base::Instr;
-use stack_checks::StackClaim;
+use stack_tables::StackClaim;
 use value_checks::ValueTable;
 
 // The instruction at an address of the text.

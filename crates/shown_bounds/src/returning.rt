@@ -9,12 +9,12 @@ ghost use Rattle.graph_runs.specs.KeptRuns.{most_returns};
 ghost use Rattle.stack_laws.specs.Returning.{ComesBack};
 ghost use Rattle.stack_laws.specs.Stacks.Name.{of_begin};
 ghost use Rattle.value_checks.specs.Tables.{values_of};
-ghost use Rattle.stack_checks.specs.Tables.{claim_values, name_view, stacks_of, IsStackClaim};
+ghost use Rattle.stack_tables.specs.Tables.{claim_values, name_view, stacks_of, IsStackClaim};
 ghost use Rattle.shown_bounds.specs.Returned.{height_at, AreLinked, AreLower, IsLink, IsLinkedAt, IsLowerSo};
 
 use crate::reading::{is_live, node_instr};
 use scale_base::Instr;
-use stack_checks::{Name, StackClaim, name_at};
+use stack_tables::{Name, StackClaim, name_at};
 
 // The number of return addresses that a kept run carries at most.
 const MOST_RETURNS: u32 = 131_072;

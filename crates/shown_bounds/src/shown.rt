@@ -7,7 +7,7 @@ ghost use Rattle.code_text.specs.Text.{text_of};
 ghost use Rattle.code_text.specs.TextGraph.{text_graph};
 ghost use Rattle.value_checks.specs.Tables.{values_of};
 ghost use Rattle.stack_laws.specs.Counting.{IsShown};
-ghost use Rattle.stack_checks.specs.Tables.{stacks_of, IsStackClaim};
+ghost use Rattle.stack_tables.specs.Tables.{stacks_of, IsStackClaim};
 ghost use Rattle.shown_bounds.specs.Certified.{AreEntries};
 
 use crate::certificates::{Case, StackCertificate};
@@ -15,7 +15,7 @@ use crate::counters::is_within;
 use crate::edges::is_certified;
 use flow_graph::CodeGraph;
 use loop_file::LoopNote;
-use stack_checks::StackClaim;
+use stack_tables::StackClaim;
 
 // Whether the least fits into the width no more often than the bound says.
 fn is_enough(note: &LoopNote, certificate: &StackCertificate) -> bool

@@ -1,6 +1,4 @@
-mod Besides
-mod Seen
-mod Public
 mod Loops
+mod RowLines
 mod Cases
-mod Ways
+mod Confirmed

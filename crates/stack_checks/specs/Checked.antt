@@ -1,61 +1,168 @@
--- What the code confirms of stacks, register by register, word by word and edge by edge.
-use Rattle.std.specs.Prelude.{◌≡◌, ℕ, ◌⊎◌, ◌==◌, true, Option, Some, None, if◌then◌else◌}
+-- What the code confirms of stacks: register by register, word by word, line by line and edge by edge.
+use Rattle.std.specs.Prelude.{◌≡◌, ℕ, ℤ, ◌<◌, ◌⊎◌, true, length, Option, Some, None}
 use Rattle.scale_base.specs.declared.instruction.ImmOp.TheVariants.{Addi}
 use Rattle.scale_base.specs.declared.instruction.RegOp.TheVariants.{Add}
 use Rattle.scale_base.specs.declared.instruction.Instr.TheVariants.{Imm, Reg}
-use Rattle.scale_base.specs.Arith.{unsigned}
 use Rattle.scale_base.specs.declared.instruction.Instr.{Instr}
+use Rattle.scale_base.specs.Arith.{unsigned}
+use Rattle.scale_base.specs.Run.{STACK_POINTER}
 use Rattle.cost_theory.specs.Graph.{Graph}
 use Rattle.code_text.specs.Text.{Text, instr_at}
-use Rattle.scale_base.specs.Run.{STACK_POINTER}
+use Rattle.bound_laws.specs.Registers.{Measure, keeps, measured}
 use Rattle.bound_laws.specs.Laws.{starting_registers}
-use Rattle.bound_laws.specs.Values.{Values, AreIn, Covers, IsHeld, IsRegister}
+use Rattle.bound_laws.specs.Values.{Arc, Values, AreIn, Covers, IsCovered, IsHeld, IsLineCovered, IsRegister, IsSolved, line_of, passed, sum_with}
+use Rattle.stack_laws.specs.Making.{moved, IsLineMade, IsSide}
 use Rattle.stack_laws.specs.Stacks.Name.{of_begin}
-use Rattle.stack_laws.specs.Stacks.{Stacks, name_span, IsBeginning, IsCoveredOver, IsNamedOver, IsSpannedOver, IsWordCovered, IsWordNamed, IsWordSpanned, IsPassed, IsDescending, IsSparing, IsRegisterBack, IsNameBack, IsSpanBack, IsWordBack, IsWordNameBack, IsWordSpanBack, AreEntered, AreBack, IsReturned}
+use Rattle.stack_laws.specs.Stacks.{Stacks, name_span, IsBeginning, IsCoveredOver, IsLoadedTo, IsMissed, IsNamedOver, IsSpannedOver, IsStoredFrom, IsWordCovered, IsWordNamed, IsWordSpanned, ArePassed, IsPassed, IsDescending, IsRestored, IsSafe, IsSparing, IsRegisterBack, IsNameBack, IsSpanBack, IsSumBack, IsWordBack, IsWordNameBack, IsWordSpanBack, AreEntered, AreBack, IsReturned}
+use Rattle.stack_tables.specs.Tables.{IsStackClaim, address, stacks_in, text_in, values_in}
+use Rattle.stack_checks.specs.declared.ways.Way.{Way}
+use Rattle.stack_checks.specs.declared.origins.Origin.{Origin}
+use Rattle.stack_checks.specs.declared.origins.Origin.TheVariants.{Left, Plus, Sum, Loaded, Other}
+use Rattle.stack_checks.specs.declared.origins.Source.{Source}
+use Rattle.stack_checks.specs.declared.origins.Source.TheVariants.{Missed, Stored, Unknown}
 
--- what an instruction adds, where it writes a sum to a register: a number to another register, or one register to another
-abbrev pub plus_register : ℕ → Instr → Option ℕ
-plus_register r (Imm Addi rd rs1 imm) = if rd == r then Some rs1 else None
-plus_register r i = None
+-- ---- ways
 
-abbrev pub plus_number : Instr → ℕ
-plus_number (Imm Addi rd rs1 imm) = unsigned imm
-plus_number i = 0
+-- an instruction of a program with its tables, and the node to which it leads
+pub record IsWay (x : Way) : Type 0 where
+  pub claim : IsStackClaim x.claim.now
+  pub from : x.from < length x.claim.now.graph.now.code.nodes
+  pub to : x.to < length x.claim.now.graph.now.code.nodes
+  pub instr : instr_at (text_in x.claim.now) (address x.claim.now x.from) ≡ Some x.instr
 
-abbrev pub sum_first : ℕ → Instr → Option ℕ
-sum_first r (Reg Add rd rs1 rs2) = if rd == r then Some rs1 else None
-sum_first r i = None
+abbrev pub text_along : Way → Text
+text_along x = text_in x.claim.now
 
-abbrev pub sum_second : Instr → ℕ
-sum_second (Reg Add rd rs1 rs2) = rs2
-sum_second i = 0
+abbrev pub values_along : Way → Values
+values_along x = values_in x.claim.now
 
--- over an edge that is no call
-pub record IsRegisterPassed (v : Values) (w : Stacks) (i : Instr) (a b r : ℕ) : Type 0 where
-  pub covered : IsCoveredOver v w i a b r
-  pub named : IsNamedOver v w i a b r
-  pub spanned : IsSpannedOver v w i a b r
+abbrev pub stacks_along : Way → Stacks
+stacks_along x = stacks_in x.claim.now
 
-pub record IsWordPassed (v : Values) (w : Stacks) (i : Instr) (a b k : ℕ) : Type 0 where
-  pub covered : IsWordCovered v w i a b k
-  pub named : IsWordNamed v w i a b k
-  pub spanned : IsWordSpanned v w i a b k
+-- the addresses of both ends
+abbrev pub from : Way → ℕ
+from x = address x.claim.now x.from
 
--- where a function begins
+abbrev pub to : Way → ℕ
+to x = address x.claim.now x.to
+
+-- ---- over an edge that is no call
+
+-- where what an instruction leaves in a register comes from: it is left, a number more than a register, the sum of two, or a word of the stack
+abbrev pub IsOrigin : Stacks → ℕ → Instr → ℕ → Origin → Type 0
+IsOrigin w a i r Left = keeps r i ≡ true
+IsOrigin w a i r (Plus rs more) = (imm : ℤ) × (i ≡ Imm Addi r rs imm) × (unsigned imm ≡ more)
+IsOrigin w a i r (Sum rs1 rs2) = i ≡ Reg Add r rs1 rs2
+IsOrigin w a i r (Loaded k) = IsLoadedTo w a i k r
+IsOrigin w a i r Other = Unit {0}
+
+-- and what it leaves in a word: it is missed, or a register is stored there
+abbrev pub IsSource : Values → Stacks → ℕ → Instr → ℕ → Source → Type 0
+IsSource v w a i j Missed = IsMissed v w a i j
+IsSource v w a i j (Stored r) = IsStoredFrom w a i j r
+IsSource v w a i j Unknown = Unit {0}
+
+-- the same of a way
+abbrev pub IsOriginOf : Way → ℕ → Origin → Type 0
+IsOriginOf x r o = IsOrigin (stacks_along x) (from x) x.instr r o
+
+abbrev pub IsSourceOf : Way → ℕ → Source → Type 0
+IsSourceOf x j s = IsSource (values_along x) (stacks_along x) (from x) x.instr j s
+
+abbrev pub passed_along : Way → ℕ → Option Arc
+passed_along x r = passed x.instr (from x) (to x) ((values_along x).at (from x)) r
+
+abbrev pub IsCoveredAlong : Way → ℕ → Type 0
+IsCoveredAlong x r = IsCovered (values_along x) x.instr (from x) (to x) r
+
+abbrev pub IsSolvedAlong : Way → ℕ → Type 0
+IsSolvedAlong x r = IsSolved (values_along x) x.instr (from x) (to x) r
+
+-- a line by what the instruction makes it of: one of the two forms of line k, and a sum before the instruction by a line but for a number
+abbrev pub IsSideOf : Way → Measure → ℕ → Type 0
+IsSideOf x m k = IsSide m ((values_along x).forms k)
+
+abbrev pub IsLineBy : Way → ℕ → Measure → Type 0
+IsLineBy x j n =
+    (k : ℕ) × (form : Measure) × (more : ℕ) × IsSideOf x form k × (n ≡ moved form more) ×
+    Covers ((values_along x).lines (to x) j) (sum_with ((values_along x).lines (from x) k) more)
+
+abbrev pub IsLineFrom : Way → ℕ → Measure → Type 0
+IsLineFrom x j n = Covers ((values_along x).lines (to x) j) (line_of n ((values_along x).at (from x))) ⊎ IsLineBy x j n
+
+abbrev pub IsLineMadeAlong : Way → ℕ → Type 0
+IsLineMadeAlong x j = IsLineMade (values_along x) x.instr (from x) (to x) j
+
+pub record IsLineAlong (x : Way) (j : ℕ) : Type 0 where
+  pub covered : IsLineCovered (values_along x) x.instr (from x) (to x) j ⊎ IsLineMadeAlong x j
+
+abbrev pub IsNamedAlong : Way → ℕ → Type 0
+IsNamedAlong x r = IsNamedOver (values_along x) (stacks_along x) x.instr (from x) (to x) r
+
+abbrev pub IsSpannedAlong : Way → ℕ → Type 0
+IsSpannedAlong x r = IsSpannedOver (values_along x) (stacks_along x) x.instr (from x) (to x) r
+
+abbrev pub IsWordAlong : Way → ℕ → Type 0
+IsWordAlong x j = IsWordCovered (values_along x) (stacks_along x) x.instr (from x) (to x) j
+
+abbrev pub IsWordNamedAlong : Way → ℕ → Type 0
+IsWordNamedAlong x j = IsWordNamed (values_along x) (stacks_along x) x.instr (from x) (to x) j
+
+abbrev pub IsWordSpannedAlong : Way → ℕ → Type 0
+IsWordSpannedAlong x j = IsWordSpanned (values_along x) (stacks_along x) x.instr (from x) (to x) j
+
+pub record IsRegisterPassed (x : Way) (r : ℕ) : Type 0 where
+  pub covered : IsCoveredOver (values_along x) (stacks_along x) x.instr (from x) (to x) r
+  pub named : IsNamedAlong x r
+  pub spanned : IsSpannedAlong x r
+
+pub record IsWordPassed (x : Way) (j : ℕ) : Type 0 where
+  pub covered : IsWordAlong x j
+  pub named : IsWordNamedAlong x j
+  pub spanned : IsWordSpannedAlong x j
+
+-- ---- where a function begins
+
 pub record IsRegisterBegun (w : Stacks) (a r : ℕ) : Type 0 where
   pub name : (w.name a r ≡ None) ⊎ (w.name a r ≡ Some (of_begin r 0))
   pub span : Covers (w.span a r) (name_span (w.name a r))
 
--- behind a call
-pub record IsRegisterBehind (t : Text) (v : Values) (w : Stacks) (u to b r : ℕ) : Type 0 where
-  pub back : IsRegisterBack t v w u to b r
-  pub name : IsNameBack t v w u to b r
-  pub span : IsSpanBack t v w u to b r
+-- ---- behind a call of the function that begins at a node, by its number
 
-pub record IsWordBehind (v : Values) (w : Stacks) (u to b k : ℕ) : Type 0 where
-  pub back : IsWordBack v w u to b k
-  pub name : IsWordNameBack v w u to b k
-  pub span : IsWordSpanBack v w u to b k
+abbrev pub IsGivenBack : Way → ℕ → ℕ → Type 0
+IsGivenBack x h r = IsRestored (text_along x) (values_along x) (stacks_along x) (from x) (address x.claim.now h) r
+
+abbrev pub IsKeptSafe : Way → ℕ → ℕ → Type 0
+IsKeptSafe x h j = IsSafe (values_along x) (stacks_along x) (from x) (address x.claim.now h) j
+
+pub record IsRegisterBehind (x : Way) (h r : ℕ) : Type 0 where
+  pub back : IsRegisterBack (text_along x) (values_along x) (stacks_along x) (from x) (address x.claim.now h) (to x) r
+  pub name : IsNameBack (text_along x) (values_along x) (stacks_along x) (from x) (address x.claim.now h) (to x) r
+  pub span : IsSpanBack (text_along x) (values_along x) (stacks_along x) (from x) (address x.claim.now h) (to x) r
+
+pub record IsWordBehind (x : Way) (h j : ℕ) : Type 0 where
+  pub back : IsWordBack (values_along x) (stacks_along x) (from x) (address x.claim.now h) (to x) j
+  pub name : IsWordNameBack (values_along x) (stacks_along x) (from x) (address x.claim.now h) (to x) j
+  pub span : IsWordSpanBack (values_along x) (stacks_along x) (from x) (address x.claim.now h) (to x) j
+
+pub record IsLineBehind (x : Way) (h j : ℕ) : Type 0 where
+  pub back : IsSumBack (text_along x) (values_along x) (stacks_along x) (from x) (address x.claim.now h) (to x) j
+
+-- ---- at the start of a run
+
+abbrev pub IsLineStarted : Values → ℕ → ℕ → Type 0
+IsLineStarted v a j = IsHeld (v.lines a j) (measured (v.forms j) starting_registers)
+
+-- ---- edges
+
+abbrev pub ArePassedAlong : Way → Type 0
+ArePassedAlong x = ArePassed (values_along x) (stacks_along x) x.instr (from x) (to x)
+
+abbrev pub AreEnteredAlong : Way → Type 0
+AreEnteredAlong x = AreEntered (values_along x) (stacks_along x) x.instr (from x) (to x)
+
+abbrev pub AreBackAlong : Way → ℕ → Type 0
+AreBackAlong x h = AreBack (text_along x) (values_along x) (stacks_along x) (from x) (address x.claim.now h) (to x)
 
 -- what is to say of an edge from an address to which a run may come, and of the instruction there
 pub record IsEdgeSound (t : Text) (g : Graph) (v : Values) (w : Stacks) (i : Instr) (a e : ℕ) : Type 0 where

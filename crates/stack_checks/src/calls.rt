@@ -6,17 +6,15 @@ ghost use Rattle.bound_laws.specs.Values as values;
 ghost use Rattle.bound_laws.specs.Values.{IsRegister};
 ghost use Rattle.stack_laws.specs.Stacks as stacks;
 ghost use Rattle.stack_laws.specs.Stacks.Name.{of_begin};
-ghost use Rattle.stack_checks.specs.Checked.{IsRegisterBegun, IsRegisterBehind};
-ghost use Rattle.stack_checks.specs.Tables.{IsStackClaim, address, stacks_in, text_in, values_in};
+ghost use Rattle.stack_tables.specs.Tables.{IsStackClaim, address, named, stacks_in, text_in, values_in};
+ghost use Rattle.stack_checks.specs.Checked.{IsGivenBack, IsRegisterBegun, IsRegisterBehind, IsWay, from, stacks_along, text_along, to, values_along};
 
-use crate::claims::StackClaim;
-use crate::names::is_same_name;
-use crate::reading::{exits, is_restored, name};
-use crate::registers::{is_covered_by_name, is_span_kept, is_spanned_by_name};
-use crate::safe::{is_given_back, is_name_safe};
-use crate::stores::arc_at;
-use crate::tables::Name;
+use crate::registers::{is_covered_by_name, is_span_left, is_spanned_by_name};
+use crate::ways::{Way, arc_before, arc_behind};
 use scale_base::Instr;
+use stack_tables::{
+    Name, StackClaim, arc_at, exits, is_given_back, is_name_safe, is_restored, is_same_name, name,
+};
 use wrapped_intervals::{covers, keeps};
 
 // Whether a register is unnamed at node n, or named as it was when the function began.
@@ -54,99 +52,90 @@ pub fn are_registers_begun(claim: &StackClaim<'_>, n: usize) -> bool
     true
 }
 
-// Whether a register's interval at node n holds what it has at the returns of the function of node h.
-fn is_exit_covered(claim: &StackClaim<'_>, h: usize, n: usize, r: u8) -> bool
-    requires claim { IsStackClaim claim.now }
-    requires entry { h < length claim.now.graph.now.code.nodes }
-    requires to { n < length claim.now.graph.now.code.nodes }
+// Whether a register is behind the call what it was before, as the function that begins at node h restores it.
+fn is_back(way: &Way<'_>, h: usize, r: u8) -> bool
+    requires way { IsWay way.now }
+    requires entry { h < length way.now.claim.now.graph.now.code.nodes }
     requires register { r < 32 }
-    ensures { result ≡ true → values.Covers ((values_in claim.now).at (address claim.now n) r) ((values_in claim.now).exit ((values_in claim.now).function (address claim.now h)) r) }
+    ensures { result ≡ true → IsGivenBack way.now h r }
 {
-    covers(arc_at(claim, n, r), exits(claim, h)[usize::from(r)])
+    is_given_back(way.claim, way.instr, way.from, h, r)
 }
 
-// Whether a register's interval at node n holds what it had at node k.
-fn is_arc_kept(claim: &StackClaim<'_>, k: usize, n: usize, r: u8) -> bool
-    requires claim { IsStackClaim claim.now }
-    requires from { k < length claim.now.graph.now.code.nodes }
-    requires to { n < length claim.now.graph.now.code.nodes }
+// Whether a register's interval holds what it has at the returns of the function.
+fn is_exit_covered(way: &Way<'_>, h: usize, r: u8) -> bool
+    requires way { IsWay way.now }
+    requires entry { h < length way.now.claim.now.graph.now.code.nodes }
     requires register { r < 32 }
-    ensures { result ≡ true → values.Covers ((values_in claim.now).at (address claim.now n) r) ((values_in claim.now).at (address claim.now k) r) }
+    ensures { result ≡ true → values.Covers ((values_along way.now).at (to way.now) r) ((values_along way.now).exit ((values_along way.now).function (address way.now.claim.now h)) r) }
 {
-    covers(arc_at(claim, n, r), arc_at(claim, k, r))
+    covers(arc_behind(way, r), exits(way.claim, h)[usize::from(r)])
 }
 
-// Whether a register's interval at node n holds what it has behind the call at node u of the function that begins at node h.
-fn is_arc_back(claim: &StackClaim<'_>, i: Instr, u: usize, h: usize, n: usize, r: u8) -> bool
-    requires claim { IsStackClaim claim.now }
-    requires from { u < length claim.now.graph.now.code.nodes }
-    requires entry { h < length claim.now.graph.now.code.nodes }
-    requires to { n < length claim.now.graph.now.code.nodes }
+// Whether a register's interval holds what it had.
+fn is_arc_left(way: &Way<'_>, r: u8) -> bool
+    requires way { IsWay way.now }
     requires register { r < 32 }
-    requires instruction { text.instr_at (text_in claim.now) (address claim.now u) ≡ Some i }
-    ensures { result ≡ true → stacks.IsRegisterBack (text_in claim.now) (values_in claim.now) (stacks_in claim.now) (address claim.now u) (address claim.now h) (address claim.now n) r }
+    ensures { result ≡ true → values.Covers ((values_along way.now).at (to way.now) r) ((values_along way.now).at (from way.now) r) }
 {
-    is_exit_covered(claim, h, n, r)
-        || (is_given_back(claim, i, u, h, r) && is_arc_kept(claim, u, n, r))
-        || is_covered_by_name(claim, n, r)
+    covers(arc_behind(way, r), arc_before(way, r))
+}
+
+// Whether a register's interval holds what it has behind the call.
+fn is_arc_back(way: &Way<'_>, h: usize, r: u8) -> bool
+    requires way { IsWay way.now }
+    requires entry { h < length way.now.claim.now.graph.now.code.nodes }
+    requires register { r < 32 }
+    ensures { result ≡ true → stacks.IsRegisterBack (text_along way.now) (values_along way.now) (stacks_along way.now) (from way.now) (address way.now.claim.now h) (to way.now) r }
+{
+    is_exit_covered(way, h, r)
+        || (is_back(way, h, r) && is_arc_left(way, r))
+        || is_covered_by_name(way.claim, way.to, r)
 }
 
 // Whether its name is the one that it had.
-fn is_name_back(claim: &StackClaim<'_>, i: Instr, u: usize, h: usize, n: usize, r: u8) -> bool
-    requires claim { IsStackClaim claim.now }
-    requires from { u < length claim.now.graph.now.code.nodes }
-    requires entry { h < length claim.now.graph.now.code.nodes }
-    requires to { n < length claim.now.graph.now.code.nodes }
+fn is_name_back(way: &Way<'_>, h: usize, r: u8) -> bool
+    requires way { IsWay way.now }
+    requires entry { h < length way.now.claim.now.graph.now.code.nodes }
     requires register { r < 32 }
-    requires instruction { text.instr_at (text_in claim.now) (address claim.now u) ≡ Some i }
-    ensures { result ≡ true → stacks.IsNameBack (text_in claim.now) (values_in claim.now) (stacks_in claim.now) (address claim.now u) (address claim.now h) (address claim.now n) r }
+    ensures { result ≡ true → stacks.IsNameBack (text_along way.now) (values_along way.now) (stacks_along way.now) (from way.now) (address way.now.claim.now h) (to way.now) r }
 {
-    is_same_name(name(claim, n, r), None)
-        || (is_given_back(claim, i, u, h, r)
-            && is_same_name(name(claim, n, r), name(claim, u, r))
-            && is_name_safe(claim, u, h, name(claim, u, r)))
+    let before = name(way.claim, way.from, r);
+    let behind = name(way.claim, way.to, r);
+    is_same_name(behind, None)
+        || (is_back(way, h, r)
+            && is_same_name(behind, before)
+            && is_name_safe(way.claim, way.from, h, before))
 }
 
 // Whether its span is.
-fn is_span_back(claim: &StackClaim<'_>, i: Instr, u: usize, h: usize, n: usize, r: u8) -> bool
-    requires claim { IsStackClaim claim.now }
-    requires from { u < length claim.now.graph.now.code.nodes }
-    requires entry { h < length claim.now.graph.now.code.nodes }
-    requires to { n < length claim.now.graph.now.code.nodes }
+fn is_span_back(way: &Way<'_>, h: usize, r: u8) -> bool
+    requires way { IsWay way.now }
+    requires entry { h < length way.now.claim.now.graph.now.code.nodes }
     requires register { r < 32 }
-    requires instruction { text.instr_at (text_in claim.now) (address claim.now u) ≡ Some i }
-    ensures { result ≡ true → stacks.IsSpanBack (text_in claim.now) (values_in claim.now) (stacks_in claim.now) (address claim.now u) (address claim.now h) (address claim.now n) r }
+    ensures { result ≡ true → stacks.IsSpanBack (text_along way.now) (values_along way.now) (stacks_along way.now) (from way.now) (address way.now.claim.now h) (to way.now) r }
 {
-    is_spanned_by_name(claim, n, r)
-        || (is_given_back(claim, i, u, h, r) && is_span_kept(claim, u, n, r))
+    is_spanned_by_name(way.claim, way.to, r) || (is_back(way, h, r) && is_span_left(way, r))
 }
 
-// Whether all that a table says of a register at node n is so behind the call at node u of the function that begins at node h.
-fn is_register_behind(claim: &StackClaim<'_>, i: Instr, u: usize, h: usize, n: usize, r: u8) -> bool
-    requires claim { IsStackClaim claim.now }
-    requires from { u < length claim.now.graph.now.code.nodes }
-    requires entry { h < length claim.now.graph.now.code.nodes }
-    requires to { n < length claim.now.graph.now.code.nodes }
+// Whether all that a table says of a register is so behind the call of the function that begins at node h.
+fn is_register_behind(way: &Way<'_>, h: usize, r: u8) -> bool
+    requires way { IsWay way.now }
+    requires entry { h < length way.now.claim.now.graph.now.code.nodes }
     requires register { r < 32 }
-    requires instruction { text.instr_at (text_in claim.now) (address claim.now u) ≡ Some i }
-    ensures { result ≡ true → IsRegisterBehind (text_in claim.now) (values_in claim.now) (stacks_in claim.now) (address claim.now u) (address claim.now h) (address claim.now n) r }
+    ensures { result ≡ true → IsRegisterBehind way.now h r }
 {
-    is_arc_back(claim, i, u, h, n, r)
-        && is_name_back(claim, i, u, h, n, r)
-        && is_span_back(claim, i, u, h, n, r)
+    is_arc_back(way, h, r) && is_name_back(way, h, r) && is_span_back(way, h, r)
 }
 
 /// The same of each one.
-pub fn are_registers_behind(claim: &StackClaim<'_>, i: Instr, u: usize, h: usize, n: usize) -> bool
-    requires claim { IsStackClaim claim.now }
-    requires from { u < length claim.now.graph.now.code.nodes }
-    requires entry { h < length claim.now.graph.now.code.nodes }
-    requires to { n < length claim.now.graph.now.code.nodes }
-    requires instruction { text.instr_at (text_in claim.now) (address claim.now u) ≡ Some i }
-    ensures { result ≡ true → (r : ℕ) → IsRegister r → IsRegisterBehind (text_in claim.now) (values_in claim.now) (stacks_in claim.now) (address claim.now u) (address claim.now h) (address claim.now n) r }
+pub fn are_registers_behind(way: &Way<'_>, h: usize) -> bool
+    requires way { IsWay way.now }
+    requires entry { h < length way.now.claim.now.graph.now.code.nodes }
+    ensures { result ≡ true → (r : ℕ) → IsRegister r → IsRegisterBehind way.now h r }
 {
     for r in 1..32u8 {
-        if !is_register_behind(claim, i, u, h, n, r) {
+        if !is_register_behind(way, h, r) {
             return false;
         }
     }

@@ -3,10 +3,10 @@
 ghost use Rattle.std.specs.Prelude.{◌≡◌, true};
 ghost use Rattle.code_text.specs.TextGraph.{text_graph};
 ghost use Rattle.stack_laws.specs.Stacks as stacks;
-ghost use Rattle.stack_checks.specs.Tables.{IsStackClaim, stacks_in, text_in, values_in};
+ghost use Rattle.stack_tables.specs.Tables.{IsStackClaim, stacks_in, text_in, values_in};
 
-use crate::claims::StackClaim;
 use crate::edges::is_edge_checked;
+use stack_tables::StackClaim;
 
 /// Whether the code confirms what two tables say, edge by edge.
 pub fn is_confirmed(claim: &StackClaim<'_>) -> bool

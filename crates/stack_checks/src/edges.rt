@@ -8,29 +8,30 @@ ghost use Rattle.bound_laws.specs.Registers.{keeps};
 ghost use Rattle.bound_laws.specs.Values as values;
 ghost use Rattle.bound_laws.specs.Values.{IsRegister};
 ghost use Rattle.stack_laws.specs.Stacks as stacks;
-ghost use Rattle.stack_checks.specs.Checked.{IsEdgeChecked, IsEdgeSound};
-ghost use Rattle.stack_checks.specs.Tables.{IsStackClaim, address, stacks_in, text_in, values_in};
+ghost use Rattle.stack_checks.specs.Checked.{AreBackAlong, AreEnteredAlong, ArePassedAlong, IsEdgeChecked, IsEdgeSound, IsWay, from, stacks_along, to, values_along};
+ghost use Rattle.stack_tables.specs.Tables.{IsStackClaim, address, stacks_in, text_in, values_in};
 
 use crate::calls::{are_registers_begun, are_registers_behind, are_registers_returned};
-use crate::claims::StackClaim;
-use crate::reading::{address, arcs, begins, instruction, is_live, is_spared};
+use crate::lines::{are_lines_behind, are_lines_covered};
 use crate::registers::{are_registers_covered, are_registers_passed};
-use crate::safe::descending;
-use crate::stores::{arc_at, is_far, is_sparing};
+use crate::ways::Way;
 use crate::words::{are_unknown, are_words_behind, are_words_passed};
 use scale_base::Instr;
+use stack_tables::{
+    StackClaim, address, arc_at, arcs, begins, descending, instruction, is_far, is_live, is_spared,
+    is_sparing,
+};
 use wrapped_intervals::{covers, is_impossible, keeps, said_by};
 
-// Whether no state goes from node k to node n.
-fn is_never(claim: &StackClaim<'_>, i: Instr, k: usize, n: usize) -> bool
-    requires claim { IsStackClaim claim.now }
-    requires from { k < length claim.now.graph.now.code.nodes }
-    requires to { n < length claim.now.graph.now.code.nodes }
-    ensures { result ≡ true → values.IsImpossible (values.said i (address claim.now k) (address claim.now n)) ((values_in claim.now).at (address claim.now k)) }
+// Whether no state goes this way.
+fn is_never(way: &Way<'_>) -> bool
+    requires { IsWay way.now }
+    ensures { result ≡ true → values.IsImpossible (values.said way.now.instr (from way.now) (to way.now)) ((values_along way.now).at (from way.now)) }
 {
+    let claim = way.claim;
     is_impossible(
-        said_by(i, address(claim, k), address(claim, n)),
-        arcs(claim, k),
+        said_by(way.instr, address(claim, way.from), address(claim, way.to)),
+        arcs(claim, way.from),
     )
 }
 
@@ -43,30 +44,29 @@ pub fn is_alive(claim: &StackClaim<'_>, n: usize) -> bool
     is_live(claim, n)
 }
 
-// Whether all that the tables say at node n is so behind the instruction of node k.
-fn are_passed(claim: &StackClaim<'_>, i: Instr, k: usize, n: usize) -> bool
-    requires claim { IsStackClaim claim.now }
-    requires from { k < length claim.now.graph.now.code.nodes }
-    requires to { n < length claim.now.graph.now.code.nodes }
-    ensures { result ≡ true → stacks.ArePassed (values_in claim.now) (stacks_in claim.now) i (address claim.now k) (address claim.now n) }
+// Whether all that the tables say where the way leads is so behind the instruction.
+fn are_passed(way: &Way<'_>) -> bool
+    requires { IsWay way.now }
+    ensures { result ≡ true → ArePassedAlong way.now }
 {
-    if !is_alive(claim, n) {
+    if !is_alive(way.claim, way.to) {
         return false;
     }
-    if !are_registers_passed(claim, i, k, n) {
+    if !are_registers_passed(way) {
         return false;
     }
-    are_words_passed(claim, i, k, n)
+    if !are_lines_covered(way) {
+        return false;
+    }
+    are_words_passed(way)
 }
 
 // Whether it is, or no state goes there.
-fn is_passed(claim: &StackClaim<'_>, i: Instr, k: usize, n: usize) -> bool
-    requires claim { IsStackClaim claim.now }
-    requires from { k < length claim.now.graph.now.code.nodes }
-    requires to { n < length claim.now.graph.now.code.nodes }
-    ensures { result ≡ true → stacks.IsPassed (values_in claim.now) (stacks_in claim.now) i (address claim.now k) (address claim.now n) }
+fn is_passed(way: &Way<'_>) -> bool
+    requires { IsWay way.now }
+    ensures { result ≡ true → stacks.IsPassed (values_along way.now) (stacks_along way.now) way.now.instr (from way.now) (to way.now) }
 {
-    is_never(claim, i, k, n) || are_passed(claim, i, k, n)
+    is_never(way) || are_passed(way)
 }
 
 /// Whether the tables say at node n what is so where a function begins.
@@ -100,44 +100,95 @@ fn is_quiet(claim: &StackClaim<'_>, i: Instr, k: usize) -> bool
     keeps(2, i) && is_far(claim, i, k, None)
 }
 
-// Whether all that the tables say at node n, where a function begins, is so behind the call at node k.
-fn are_entered(claim: &StackClaim<'_>, i: Instr, k: usize, n: usize) -> bool
+// Whether all that the tables say where the way leads, and a function begins, is so behind the call.
+fn are_entered(way: &Way<'_>) -> bool
+    requires { IsWay way.now }
+    ensures { result ≡ true → AreEnteredAlong way.now }
+{
+    if !is_alive(way.claim, way.to) {
+        return false;
+    }
+    if !are_registers_covered(way) {
+        return false;
+    }
+    if !are_lines_covered(way) {
+        return false;
+    }
+    if !is_beginning(way.claim, way.to) {
+        return false;
+    }
+    if !is_quiet(way.claim, way.instr, way.from) {
+        return false;
+    }
+    is_begun(way.claim, way.from, way.to)
+}
+
+// Whether all that the tables say where the way leads is so behind the call of the function that begins at node h.
+fn are_back(way: &Way<'_>, h: usize) -> bool
+    requires way { IsWay way.now }
+    requires entry { h < length way.now.claim.now.graph.now.code.nodes }
+    ensures { result ≡ true → AreBackAlong way.now h }
+{
+    if !is_alive(way.claim, way.to) {
+        return false;
+    }
+    if !are_registers_behind(way, h) {
+        return false;
+    }
+    if !are_lines_behind(way, h) {
+        return false;
+    }
+    are_words_behind(way, h)
+}
+
+// The same of a way, by its ends.
+fn is_way_passed(claim: &StackClaim<'_>, i: Instr, k: usize, n: usize) -> bool
     requires claim { IsStackClaim claim.now }
     requires from { k < length claim.now.graph.now.code.nodes }
     requires to { n < length claim.now.graph.now.code.nodes }
-    ensures { result ≡ true → stacks.AreEntered (values_in claim.now) (stacks_in claim.now) i (address claim.now k) (address claim.now n) }
+    requires instruction { text.instr_at (text_in claim.now) (address claim.now k) ≡ Some i }
+    ensures { result ≡ true → stacks.IsPassed (values_in claim.now) (stacks_in claim.now) i (address claim.now k) (address claim.now n) }
 {
-    if !is_alive(claim, n) {
-        return false;
-    }
-    if !are_registers_covered(claim, i, k, n) {
-        return false;
-    }
-    if !is_beginning(claim, n) {
-        return false;
-    }
-    if !is_quiet(claim, i, k) {
-        return false;
-    }
-    is_begun(claim, k, n)
+    is_passed(&Way {
+        claim,
+        instr: i,
+        from: k,
+        to: n,
+    })
 }
 
-// Whether all that the tables say at node n is so behind the call at node u of the function that begins at node h.
-fn are_back(claim: &StackClaim<'_>, i: Instr, u: usize, h: usize, n: usize) -> bool
+fn is_way_entered(claim: &StackClaim<'_>, i: Instr, k: usize, n: usize) -> bool
     requires claim { IsStackClaim claim.now }
-    requires from { u < length claim.now.graph.now.code.nodes }
+    requires from { k < length claim.now.graph.now.code.nodes }
+    requires to { n < length claim.now.graph.now.code.nodes }
+    requires instruction { text.instr_at (text_in claim.now) (address claim.now k) ≡ Some i }
+    ensures { result ≡ true → stacks.AreEntered (values_in claim.now) (stacks_in claim.now) i (address claim.now k) (address claim.now n) }
+{
+    are_entered(&Way {
+        claim,
+        instr: i,
+        from: k,
+        to: n,
+    })
+}
+
+fn is_way_back(claim: &StackClaim<'_>, i: Instr, k: usize, h: usize, n: usize) -> bool
+    requires claim { IsStackClaim claim.now }
+    requires from { k < length claim.now.graph.now.code.nodes }
     requires entry { h < length claim.now.graph.now.code.nodes }
     requires to { n < length claim.now.graph.now.code.nodes }
-    requires instruction { text.instr_at (text_in claim.now) (address claim.now u) ≡ Some i }
-    ensures { result ≡ true → stacks.AreBack (text_in claim.now) (values_in claim.now) (stacks_in claim.now) (address claim.now u) (address claim.now h) (address claim.now n) }
+    requires instruction { text.instr_at (text_in claim.now) (address claim.now k) ≡ Some i }
+    ensures { result ≡ true → stacks.AreBack (text_in claim.now) (values_in claim.now) (stacks_in claim.now) (address claim.now k) (address claim.now h) (address claim.now n) }
 {
-    if !is_alive(claim, n) {
-        return false;
-    }
-    if !are_registers_behind(claim, i, u, h, n) {
-        return false;
-    }
-    are_words_behind(claim, u, h, n)
+    are_back(
+        &Way {
+            claim,
+            instr: i,
+            from: k,
+            to: n,
+        },
+        h,
+    )
 }
 
 // Of a step that is no call.
@@ -145,10 +196,11 @@ fn is_step_checked(claim: &StackClaim<'_>, i: Instr, k: usize, e: usize) -> bool
     requires claim { IsStackClaim claim.now }
     requires edge { e < length claim.now.graph.now.code.edges }
     requires node { k < length claim.now.graph.now.code.nodes }
+    requires instruction { text.instr_at (text_in claim.now) (address claim.now k) ≡ Some i }
     ensures { result ≡ true → (b : ℕ) → (graph claim.now.graph.now).target e ≡ Some b → (graph claim.now.graph.now).callee e ≡ None → stacks.IsPassed (values_in claim.now) (stacks_in claim.now) i (address claim.now k) b }
 {
     match (claim.graph.callee(e), claim.graph.target(e)) {
-        (None, Some(n)) => is_passed(claim, i, k, n),
+        (None, Some(n)) => is_way_passed(claim, i, k, n),
         _ => true,
     }
 }
@@ -158,10 +210,11 @@ fn is_call_checked(claim: &StackClaim<'_>, i: Instr, k: usize, e: usize) -> bool
     requires claim { IsStackClaim claim.now }
     requires edge { e < length claim.now.graph.now.code.edges }
     requires node { k < length claim.now.graph.now.code.nodes }
+    requires instruction { text.instr_at (text_in claim.now) (address claim.now k) ≡ Some i }
     ensures { result ≡ true → (f : ℕ) → (graph claim.now.graph.now).callee e ≡ Some f → stacks.AreEntered (values_in claim.now) (stacks_in claim.now) i (address claim.now k) ((graph claim.now.graph.now).entry f) }
 {
     match claim.graph.callee(e) {
-        Some(f) => are_entered(claim, i, k, claim.graph.entry_node(f)),
+        Some(f) => is_way_entered(claim, i, k, claim.graph.entry_node(f)),
         None => true,
     }
 }
@@ -186,7 +239,7 @@ fn is_back_checked(claim: &StackClaim<'_>, i: Instr, k: usize, e: usize) -> bool
     ensures { result ≡ true → (f b : ℕ) → (graph claim.now.graph.now).callee e ≡ Some f → (graph claim.now.graph.now).target e ≡ Some b → stacks.AreBack (text_in claim.now) (values_in claim.now) (stacks_in claim.now) (address claim.now k) ((graph claim.now.graph.now).entry f) b }
 {
     match (claim.graph.callee(e), claim.graph.target(e)) {
-        (Some(f), Some(n)) => are_back(claim, i, k, claim.graph.entry_node(f), n),
+        (Some(f), Some(n)) => is_way_back(claim, i, k, claim.graph.entry_node(f), n),
         _ => true,
     }
 }

@@ -8,18 +8,17 @@ ghost use Rattle.bound_laws.specs.Values.{AreIn, IsHeld, IsRegister};
 ghost use Rattle.stack_laws.specs.Laws.{IsStackAnalysed};
 ghost use Rattle.stack_laws.specs.Stacks as stacks;
 ghost use Rattle.stack_checks.specs.Checked.{IsStart};
-ghost use Rattle.stack_checks.specs.Tables.{IsStackClaim, address, stacks_in, stacks_of, values_in};
+ghost use Rattle.stack_tables.specs.Tables.{IsStackClaim, address, stacks_in, stacks_of, values_in};
 ghost use Rattle.value_checks.specs.Tables.{values_of};
 
-use crate::claims::StackClaim;
 use crate::confirming::is_confirmed;
 use crate::edges::{is_alive, is_beginning};
-use crate::reading::begins;
-use crate::stores::arc_at;
+use crate::lines::are_lines_started;
+use stack_tables::{StackClaim, arc_at, begins};
 use wrapped_intervals::holds;
 
-// What register `r` is at the start of a run.
-fn starting_register(r: u8) -> u32
+/// What register `r` is at the start of a run.
+pub fn starting_register(r: u8) -> u32
     requires { r < 32 }
     ensures { result ≡ reg starting_registers r }
 {
@@ -69,6 +68,9 @@ fn is_started_at(claim: &StackClaim<'_>, k: usize) -> bool
         return false;
     }
     if !are_registers_started(claim, k) {
+        return false;
+    }
+    if !are_lines_started(claim, k) {
         return false;
     }
     if !is_beginning(claim, k) {

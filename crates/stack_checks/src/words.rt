@@ -4,177 +4,110 @@ ghost use Rattle.std.specs.Prelude.{◌≡◌, ◌<◌, ℕ, length, IfSome, Som
 ghost use Rattle.bound_laws.specs.Values as values;
 ghost use Rattle.stack_laws.specs.Stacks as stacks;
 ghost use Rattle.stack_laws.specs.Stacks.Name.{of_word};
-ghost use Rattle.stack_checks.specs.Checked.{IsWordBehind, IsWordPassed};
-ghost use Rattle.stack_checks.specs.Tables.{IsStackClaim, IsUnknown, address, stacks_in, values_in};
+ghost use Rattle.stack_tables.specs.Tables.{IsStackClaim, IsUnknown, address, named, stacks_in};
+ghost use Rattle.stack_checks.specs.declared.origins.Source.TheVariants.{Missed};
+ghost use Rattle.stack_checks.specs.Checked.{IsSourceOf, IsWay, IsWordAlong, IsWordBehind, IsWordNamedAlong, IsWordPassed, IsWordSpannedAlong, from, passed_along, stacks_along, to, values_along};
 
-use crate::apart::opposite_of;
-use crate::claims::StackClaim;
-use crate::names::{is_same_name, name_span};
-use crate::reading::{name, name_of, span_of, word, word_count};
-use crate::registers::{is_left, passed_at};
-use crate::safe::{is_name_safe, is_safe};
-use crate::stores::{held_at, is_missed, is_steady, stored_from};
-use crate::tables::Name;
+use crate::origins::{Source, source_of};
+use crate::ways::{Way, is_left, passed_on};
 use scale_base::Instr;
-use wrapped_intervals::{covers, sum_with, word as any_word};
+use stack_tables::{
+    Name, StackClaim, held_at, is_name_safe, is_safe, is_same_name, is_steady, name, name_of,
+    name_span, span_of, word, word_count,
+};
+use wrapped_intervals::{covers, opposite_of, sum_with, word as any_word};
 
-// Whether a word's interval at node n holds each word.
-fn is_any(claim: &StackClaim<'_>, n: usize, j: u32) -> bool
-    requires claim { IsStackClaim claim.now }
-    requires node { n < length claim.now.graph.now.code.nodes }
-    ensures { result ≡ true → values.Covers ((stacks_in claim.now).word (address claim.now n) j) values.word }
+// Whether a word's interval holds each word.
+fn is_any(way: &Way<'_>, j: u32) -> bool
+    requires { IsWay way.now }
+    ensures { result ≡ true → values.Covers ((stacks_along way.now).word (to way.now) j) values.word }
 {
-    covers(word(claim, n, j).arc, any_word())
+    covers(word(way.claim, way.to, j).arc, any_word())
 }
 
-// Whether it holds the one that it had at node k.
-fn is_word_kept(claim: &StackClaim<'_>, k: usize, n: usize, j: u32) -> bool
-    requires claim { IsStackClaim claim.now }
-    requires from { k < length claim.now.graph.now.code.nodes }
-    requires to { n < length claim.now.graph.now.code.nodes }
-    ensures { result ≡ true → values.Covers ((stacks_in claim.now).word (address claim.now n) j) ((stacks_in claim.now).word (address claim.now k) j) }
-{
-    covers(word(claim, n, j).arc, word(claim, k, j).arc)
-}
-
-// Whether both numbers are the same.
-fn is_number(a: u32, b: u32) -> bool
-    ensures { result ≡ true → a ≡ b }
-{
-    a == b
-}
-
-// Whether it holds the interval that a register has at node k.
-fn is_word_of(claim: &StackClaim<'_>, k: usize, n: usize, j: u32, r: u8) -> bool
-    requires claim { IsStackClaim claim.now }
-    requires from { k < length claim.now.graph.now.code.nodes }
-    requires to { n < length claim.now.graph.now.code.nodes }
-    ensures { result ≡ true → values.Covers ((stacks_in claim.now).word (address claim.now n) j) (values.held ((values_in claim.now).at (address claim.now k)) r) }
-{
-    covers(word(claim, n, j).arc, held_at(claim, k, r))
-}
-
-// The same, where the register is stored to word `number`.
-fn is_word_stored_from(
-    claim: &StackClaim<'_>,
-    i: Instr,
-    k: usize,
-    n: usize,
-    j: u32,
-    number: u32,
-    r: u8,
-) -> bool
-    requires claim { IsStackClaim claim.now }
-    requires from { k < length claim.now.graph.now.code.nodes }
-    requires to { n < length claim.now.graph.now.code.nodes }
-    requires stored { stacks.IsStoredFrom (stacks_in claim.now) (address claim.now k) i number r }
-    ensures { result ≡ true → stacks.IsWordCovered (values_in claim.now) (stacks_in claim.now) i (address claim.now k) (address claim.now n) j }
-{
-    if !is_number(number, j) {
-        return false;
-    }
-    is_word_of(claim, k, n, j, r)
-}
-
-// The same, where a word is stored.
-fn is_word_stored(claim: &StackClaim<'_>, i: Instr, k: usize, n: usize, j: u32) -> bool
-    requires claim { IsStackClaim claim.now }
-    requires from { k < length claim.now.graph.now.code.nodes }
-    requires to { n < length claim.now.graph.now.code.nodes }
-    ensures { result ≡ true → stacks.IsWordCovered (values_in claim.now) (stacks_in claim.now) i (address claim.now k) (address claim.now n) j }
-{
-    match stored_from(claim, i, k) {
-        Some(p) => is_word_stored_from(claim, i, k, n, j, p.0, p.1),
-        None => false,
-    }
-}
-
-// Whether it holds what a branch says of a register that is so much more, where the word is missed.
-fn is_more_covered(
-    claim: &StackClaim<'_>,
-    i: Instr,
-    k: usize,
-    n: usize,
-    j: u32,
-    r: u8,
-    more: u32,
-) -> bool
-    requires claim { IsStackClaim claim.now }
-    requires from { k < length claim.now.graph.now.code.nodes }
-    requires to { n < length claim.now.graph.now.code.nodes }
-    requires register { r < 32 }
-    ensures { result ≡ true → values.Covers ((stacks_in claim.now).word (address claim.now n) j) (values.sum_with (values.passed i (address claim.now k) (address claim.now n) ((values_in claim.now).at (address claim.now k)) r) (values.opposite_of more)) }
+// Whether it holds the one that it had.
+fn is_word_left(way: &Way<'_>, j: u32) -> bool
+    requires { IsWay way.now }
+    ensures { result ≡ true → values.Covers ((stacks_along way.now).word (to way.now) j) ((stacks_along way.now).word (from way.now) j) }
 {
     covers(
-        word(claim, n, j).arc,
-        sum_with(passed_at(claim, i, k, n, r), opposite_of(u64::from(more))),
+        word(way.claim, way.to, j).arc,
+        word(way.claim, way.from, j).arc,
     )
 }
 
-// By how much a register is more than a word at node k, where its name says it.
-fn more_than(claim: &StackClaim<'_>, k: usize, j: u32, r: u8) -> Option<u32>
-    requires claim { IsStackClaim claim.now }
-    requires node { k < length claim.now.graph.now.code.nodes }
-    requires register { r < 32 }
-    ensures { IfSome result (λ more. (stacks_in claim.now).name (address claim.now k) r ≡ Some (of_word j more)) }
+// Whether it holds the interval that a register had.
+fn is_word_of(way: &Way<'_>, j: u32, r: u8) -> bool
+    requires { IsWay way.now }
+    ensures { result ≡ true → values.Covers ((stacks_along way.now).word (to way.now) j) (values.held ((values_along way.now).at (from way.now)) r) }
 {
-    match name(claim, k, r) {
+    covers(
+        word(way.claim, way.to, j).arc,
+        held_at(way.claim, way.from, r),
+    )
+}
+
+// By how much a register is more than a word before the instruction, where its name says it.
+fn more_than(way: &Way<'_>, j: u32, r: u8) -> Option<u32>
+    requires way { IsWay way.now }
+    requires register { r < 32 }
+    ensures { IfSome result (λ more. (stacks_along way.now).name (from way.now) r ≡ Some (of_word j more)) }
+{
+    match name(way.claim, way.from, r) {
         Some(Name::OfWord(number, more)) => { if number == j { Some(more) } else { None } }
         _ => None,
     }
 }
 
-// Whether what a branch says of a register that is so much more is so of the word.
-fn is_tied_by(
-    claim: &StackClaim<'_>,
-    i: Instr,
-    k: usize,
-    n: usize,
-    j: u32,
-    r: u8,
-    more: u32,
-) -> bool
-    requires claim { IsStackClaim claim.now }
-    requires from { k < length claim.now.graph.now.code.nodes }
-    requires to { n < length claim.now.graph.now.code.nodes }
+// Whether it holds what a branch says of a register that is so much more than the word.
+fn is_more_covered(way: &Way<'_>, j: u32, r: u8, more: u32) -> bool
+    requires way { IsWay way.now }
     requires register { r < 32 }
-    requires some { 0 < r }
-    requires named { (stacks_in claim.now).name (address claim.now k) r ≡ Some (of_word j more) }
-    requires missed { stacks.IsMissed (values_in claim.now) (stacks_in claim.now) (address claim.now k) i j }
-    ensures { result ≡ true → stacks.IsWordCovered (values_in claim.now) (stacks_in claim.now) i (address claim.now k) (address claim.now n) j }
+    ensures { result ≡ true → values.Covers ((stacks_along way.now).word (to way.now) j) (values.sum_with (passed_along way.now r) (values.opposite_of more)) }
 {
-    if !is_left(i, r) {
-        return false;
-    }
-    is_more_covered(claim, i, k, n, j, r, more)
+    covers(
+        word(way.claim, way.to, j).arc,
+        sum_with(passed_on(way, r), opposite_of(u64::from(more))),
+    )
 }
 
-// The same, where a register has the word's name.
-fn is_tied_to(claim: &StackClaim<'_>, i: Instr, k: usize, n: usize, j: u32, r: u8) -> bool
-    requires claim { IsStackClaim claim.now }
-    requires from { k < length claim.now.graph.now.code.nodes }
-    requires to { n < length claim.now.graph.now.code.nodes }
+// The same of a register that is left.
+fn is_tied_by(way: &Way<'_>, j: u32, r: u8, more: u32) -> bool
+    requires way { IsWay way.now }
     requires register { r < 32 }
     requires some { 0 < r }
-    requires missed { stacks.IsMissed (values_in claim.now) (stacks_in claim.now) (address claim.now k) i j }
-    ensures { result ≡ true → stacks.IsWordCovered (values_in claim.now) (stacks_in claim.now) i (address claim.now k) (address claim.now n) j }
+    requires named { (stacks_along way.now).name (from way.now) r ≡ Some (of_word j more) }
+    requires missed { IsSourceOf way.now j Missed }
+    ensures { result ≡ true → IsWordAlong way.now j }
 {
-    match more_than(claim, k, j, r) {
-        Some(more) => is_tied_by(claim, i, k, n, j, r, more),
+    if !is_left(way, r) {
+        return false;
+    }
+    is_more_covered(way, j, r, more)
+}
+
+// The same, where it has the word's name.
+fn is_tied_to(way: &Way<'_>, j: u32, r: u8) -> bool
+    requires way { IsWay way.now }
+    requires register { r < 32 }
+    requires some { 0 < r }
+    requires missed { IsSourceOf way.now j Missed }
+    ensures { result ≡ true → IsWordAlong way.now j }
+{
+    match more_than(way, j, r) {
+        Some(more) => is_tied_by(way, j, r, more),
         None => false,
     }
 }
 
 // The same of any number of a register.
-fn is_tied(claim: &StackClaim<'_>, i: Instr, k: usize, n: usize, j: u32, r: u8) -> bool
-    requires claim { IsStackClaim claim.now }
-    requires from { k < length claim.now.graph.now.code.nodes }
-    requires to { n < length claim.now.graph.now.code.nodes }
-    requires missed { stacks.IsMissed (values_in claim.now) (stacks_in claim.now) (address claim.now k) i j }
-    ensures { result ≡ true → stacks.IsWordCovered (values_in claim.now) (stacks_in claim.now) i (address claim.now k) (address claim.now n) j }
+fn is_tied(way: &Way<'_>, j: u32, r: u8) -> bool
+    requires way { IsWay way.now }
+    requires missed { IsSourceOf way.now j Missed }
+    ensures { result ≡ true → IsWordAlong way.now j }
 {
     if 0 < r && r < 32 {
-        is_tied_to(claim, i, k, n, j, r)
+        is_tied_to(way, j, r)
     } else {
         false
     }
@@ -193,51 +126,61 @@ fn compared(i: Instr) -> (u8, u8) {
     }
 }
 
-// Whether one of them does.
-fn is_compared(claim: &StackClaim<'_>, i: Instr, k: usize, n: usize, j: u32) -> bool
-    requires claim { IsStackClaim claim.now }
-    requires from { k < length claim.now.graph.now.code.nodes }
-    requires to { n < length claim.now.graph.now.code.nodes }
-    requires missed { stacks.IsMissed (values_in claim.now) (stacks_in claim.now) (address claim.now k) i j }
-    ensures { result ≡ true → stacks.IsWordCovered (values_in claim.now) (stacks_in claim.now) i (address claim.now k) (address claim.now n) j }
-{
-    let registers = compared(i);
-    if is_tied(claim, i, k, n, j, registers.0) {
-        return true;
-    }
-    is_tied(claim, i, k, n, j, registers.1)
-}
-
 // Whether a word that is missed keeps its interval, or has what a branch says.
-fn is_missed_covered(claim: &StackClaim<'_>, i: Instr, k: usize, n: usize, j: u32) -> bool
-    requires claim { IsStackClaim claim.now }
-    requires from { k < length claim.now.graph.now.code.nodes }
-    requires to { n < length claim.now.graph.now.code.nodes }
-    ensures { result ≡ true → stacks.IsWordCovered (values_in claim.now) (stacks_in claim.now) i (address claim.now k) (address claim.now n) j }
+fn is_missed_covered(way: &Way<'_>, j: u32) -> bool
+    requires way { IsWay way.now }
+    requires missed { IsSourceOf way.now j Missed }
+    ensures { result ≡ true → IsWordAlong way.now j }
 {
-    if !is_missed(claim, i, k, j) {
-        return false;
-    }
-    if is_word_kept(claim, k, n, j) {
+    if is_word_left(way, j) {
         return true;
     }
-    is_compared(claim, i, k, n, j)
+    let registers = compared(way.instr);
+    is_tied(way, j, registers.0) || is_tied(way, j, registers.1)
 }
 
-// Whether a word's interval at node n holds what it has there behind the instruction of node k.
-fn is_word_covered(claim: &StackClaim<'_>, i: Instr, k: usize, n: usize, j: u32) -> bool
-    requires claim { IsStackClaim claim.now }
-    requires from { k < length claim.now.graph.now.code.nodes }
-    requires to { n < length claim.now.graph.now.code.nodes }
-    ensures { result ≡ true → stacks.IsWordCovered (values_in claim.now) (stacks_in claim.now) i (address claim.now k) (address claim.now n) j }
+// Whether a word's interval holds what the instruction leaves there, by where that comes from.
+fn is_word_covered(way: &Way<'_>, j: u32, source: Source) -> bool
+    requires way { IsWay way.now }
+    requires source { IsSourceOf way.now j source }
+    ensures { result ≡ true → IsWordAlong way.now j }
 {
-    if is_any(claim, n, j) {
+    if is_any(way, j) {
         return true;
     }
-    if is_missed_covered(claim, i, k, n, j) {
-        return true;
+    match source {
+        Source::Missed => is_missed_covered(way, j),
+        Source::Stored(r) => is_word_of(way, j, r),
+        Source::Unknown => false,
     }
-    is_word_stored(claim, i, k, n, j)
+}
+
+// Whether a word has this name, of what is not stored to.
+fn has_steady_name(way: &Way<'_>, j: u32, wanted: Option<Name>) -> bool
+    requires { IsWay way.now }
+    ensures name { result ≡ true → (stacks_along way.now).word_name (to way.now) j ≡ named wanted }
+    ensures steady { result ≡ true → stacks.IsSteady (values_along way.now) (stacks_along way.now) (from way.now) way.now.instr (named wanted) }
+{
+    is_same_name(word(way.claim, way.to, j).name, wanted)
+        && is_steady(way.claim, way.instr, way.from, wanted)
+}
+
+// Whether it has the name that it had.
+fn is_name_left(way: &Way<'_>, j: u32) -> bool
+    requires { IsWay way.now }
+    ensures name { result ≡ true → (stacks_along way.now).word_name (to way.now) j ≡ (stacks_along way.now).word_name (from way.now) j }
+    ensures steady { result ≡ true → stacks.IsSteady (values_along way.now) (stacks_along way.now) (from way.now) way.now.instr ((stacks_along way.now).word_name (from way.now) j) }
+{
+    has_steady_name(way, j, word(way.claim, way.from, j).name)
+}
+
+// Whether it has the name that a register had.
+fn is_name_of(way: &Way<'_>, j: u32, r: u8) -> bool
+    requires { IsWay way.now }
+    ensures name { result ≡ true → (stacks_along way.now).word_name (to way.now) j ≡ stacks.name_of (stacks_along way.now) (from way.now) r }
+    ensures steady { result ≡ true → stacks.IsSteady (values_along way.now) (stacks_along way.now) (from way.now) way.now.instr (stacks.name_of (stacks_along way.now) (from way.now) r) }
+{
+    has_steady_name(way, j, name_of(way.claim, way.from, r))
 }
 
 // Whether a word has no name at node n.
@@ -249,116 +192,24 @@ fn is_unnamed(claim: &StackClaim<'_>, n: usize, j: u32) -> bool
     is_same_name(word(claim, n, j).name, None)
 }
 
-// Whether it has the name that it had at node k.
-fn is_name_same(claim: &StackClaim<'_>, k: usize, n: usize, j: u32) -> bool
-    requires claim { IsStackClaim claim.now }
-    requires from { k < length claim.now.graph.now.code.nodes }
-    requires to { n < length claim.now.graph.now.code.nodes }
-    ensures { result ≡ true → (stacks_in claim.now).word_name (address claim.now n) j ≡ (stacks_in claim.now).word_name (address claim.now k) j }
+// Whether a word's name is that of what the instruction leaves there.
+fn is_word_named(way: &Way<'_>, j: u32, source: Source) -> bool
+    requires way { IsWay way.now }
+    requires source { IsSourceOf way.now j source }
+    ensures { result ≡ true → IsWordNamedAlong way.now j }
 {
-    is_same_name(word(claim, n, j).name, word(claim, k, j).name)
-}
-
-// Whether what the name of a word names is not stored to.
-fn is_word_steady(claim: &StackClaim<'_>, i: Instr, k: usize, j: u32) -> bool
-    requires claim { IsStackClaim claim.now }
-    requires node { k < length claim.now.graph.now.code.nodes }
-    ensures { result ≡ true → stacks.IsSteady (values_in claim.now) (stacks_in claim.now) (address claim.now k) i ((stacks_in claim.now).word_name (address claim.now k) j) }
-{
-    is_steady(claim, i, k, word(claim, k, j).name)
-}
-
-// Whether a word that is missed keeps its name.
-fn is_word_name_kept(claim: &StackClaim<'_>, i: Instr, k: usize, n: usize, j: u32) -> bool
-    requires claim { IsStackClaim claim.now }
-    requires from { k < length claim.now.graph.now.code.nodes }
-    requires to { n < length claim.now.graph.now.code.nodes }
-    ensures { result ≡ true → stacks.IsWordNamed (values_in claim.now) (stacks_in claim.now) i (address claim.now k) (address claim.now n) j }
-{
-    if !is_name_same(claim, k, n, j) {
-        return false;
-    }
-    if !is_missed(claim, i, k, j) {
-        return false;
-    }
-    is_word_steady(claim, i, k, j)
-}
-
-// Whether a word has at node n the name that a register has at node k.
-fn is_name_of(claim: &StackClaim<'_>, k: usize, n: usize, j: u32, r: u8) -> bool
-    requires claim { IsStackClaim claim.now }
-    requires from { k < length claim.now.graph.now.code.nodes }
-    requires to { n < length claim.now.graph.now.code.nodes }
-    ensures { result ≡ true → (stacks_in claim.now).word_name (address claim.now n) j ≡ stacks.name_of (stacks_in claim.now) (address claim.now k) r }
-{
-    is_same_name(word(claim, n, j).name, name_of(claim, k, r))
-}
-
-// Whether what the name of a register names is not stored to.
-fn is_register_steady(claim: &StackClaim<'_>, i: Instr, k: usize, r: u8) -> bool
-    requires claim { IsStackClaim claim.now }
-    requires node { k < length claim.now.graph.now.code.nodes }
-    ensures { result ≡ true → stacks.IsSteady (values_in claim.now) (stacks_in claim.now) (address claim.now k) i (stacks.name_of (stacks_in claim.now) (address claim.now k) r) }
-{
-    is_steady(claim, i, k, name_of(claim, k, r))
-}
-
-// Whether a word has the name of the register that is stored to word `number`.
-fn is_word_name_stored_from(
-    claim: &StackClaim<'_>,
-    i: Instr,
-    k: usize,
-    n: usize,
-    j: u32,
-    number: u32,
-    r: u8,
-) -> bool
-    requires claim { IsStackClaim claim.now }
-    requires from { k < length claim.now.graph.now.code.nodes }
-    requires to { n < length claim.now.graph.now.code.nodes }
-    requires stored { stacks.IsStoredFrom (stacks_in claim.now) (address claim.now k) i number r }
-    ensures { result ≡ true → stacks.IsWordNamed (values_in claim.now) (stacks_in claim.now) i (address claim.now k) (address claim.now n) j }
-{
-    if !is_number(number, j) {
-        return false;
-    }
-    if !is_name_of(claim, k, n, j, r) {
-        return false;
-    }
-    is_register_steady(claim, i, k, r)
-}
-
-// The same, where a word is stored.
-fn is_word_name_stored(claim: &StackClaim<'_>, i: Instr, k: usize, n: usize, j: u32) -> bool
-    requires claim { IsStackClaim claim.now }
-    requires from { k < length claim.now.graph.now.code.nodes }
-    requires to { n < length claim.now.graph.now.code.nodes }
-    ensures { result ≡ true → stacks.IsWordNamed (values_in claim.now) (stacks_in claim.now) i (address claim.now k) (address claim.now n) j }
-{
-    match stored_from(claim, i, k) {
-        Some(p) => is_word_name_stored_from(claim, i, k, n, j, p.0, p.1),
-        None => false,
-    }
-}
-
-// Whether a word's name at node n is the one that it has behind the instruction of node k.
-fn is_word_named(claim: &StackClaim<'_>, i: Instr, k: usize, n: usize, j: u32) -> bool
-    requires claim { IsStackClaim claim.now }
-    requires from { k < length claim.now.graph.now.code.nodes }
-    requires to { n < length claim.now.graph.now.code.nodes }
-    ensures { result ≡ true → stacks.IsWordNamed (values_in claim.now) (stacks_in claim.now) i (address claim.now k) (address claim.now n) j }
-{
-    if is_unnamed(claim, n, j) {
+    if is_unnamed(way.claim, way.to, j) {
         return true;
     }
-    if is_word_name_kept(claim, i, k, n, j) {
-        return true;
+    match source {
+        Source::Missed => is_name_left(way, j),
+        Source::Stored(r) => is_name_of(way, j, r),
+        Source::Unknown => false,
     }
-    is_word_name_stored(claim, i, k, n, j)
 }
 
 // Whether a word points at node n as its name there says.
-fn is_word_span_named(claim: &StackClaim<'_>, n: usize, j: u32) -> bool
+fn is_span_named(claim: &StackClaim<'_>, n: usize, j: u32) -> bool
     requires claim { IsStackClaim claim.now }
     requires node { n < length claim.now.graph.now.code.nodes }
     ensures { result ≡ true → values.Covers ((stacks_in claim.now).word_span (address claim.now n) j) (stacks.name_span ((stacks_in claim.now).word_name (address claim.now n) j)) }
@@ -366,115 +217,66 @@ fn is_word_span_named(claim: &StackClaim<'_>, n: usize, j: u32) -> bool
     covers(word(claim, n, j).span, name_span(word(claim, n, j).name))
 }
 
-// Whether its span at node n holds the one that it had at node k.
-fn is_word_span_kept(claim: &StackClaim<'_>, k: usize, n: usize, j: u32) -> bool
-    requires claim { IsStackClaim claim.now }
-    requires from { k < length claim.now.graph.now.code.nodes }
-    requires to { n < length claim.now.graph.now.code.nodes }
-    ensures { result ≡ true → values.Covers ((stacks_in claim.now).word_span (address claim.now n) j) ((stacks_in claim.now).word_span (address claim.now k) j) }
+// Whether its span holds the one that it had.
+fn is_span_left(way: &Way<'_>, j: u32) -> bool
+    requires { IsWay way.now }
+    ensures { result ≡ true → values.Covers ((stacks_along way.now).word_span (to way.now) j) ((stacks_along way.now).word_span (from way.now) j) }
 {
-    covers(word(claim, n, j).span, word(claim, k, j).span)
+    covers(
+        word(way.claim, way.to, j).span,
+        word(way.claim, way.from, j).span,
+    )
 }
 
-// Whether it holds the span that a register has at node k.
-fn is_word_span_of(claim: &StackClaim<'_>, k: usize, n: usize, j: u32, r: u8) -> bool
-    requires claim { IsStackClaim claim.now }
-    requires from { k < length claim.now.graph.now.code.nodes }
-    requires to { n < length claim.now.graph.now.code.nodes }
-    ensures { result ≡ true → values.Covers ((stacks_in claim.now).word_span (address claim.now n) j) (stacks.span_of (stacks_in claim.now) (address claim.now k) r) }
+// Whether it holds the span that a register had.
+fn is_span_of(way: &Way<'_>, j: u32, r: u8) -> bool
+    requires { IsWay way.now }
+    ensures { result ≡ true → values.Covers ((stacks_along way.now).word_span (to way.now) j) (stacks.span_of (stacks_along way.now) (from way.now) r) }
 {
-    covers(word(claim, n, j).span, span_of(claim, k, r))
+    covers(
+        word(way.claim, way.to, j).span,
+        span_of(way.claim, way.from, r),
+    )
 }
 
-// The same, where the register is stored to word `number`.
-fn is_word_span_stored_from(
-    claim: &StackClaim<'_>,
-    i: Instr,
-    k: usize,
-    n: usize,
-    j: u32,
-    number: u32,
-    r: u8,
-) -> bool
-    requires claim { IsStackClaim claim.now }
-    requires from { k < length claim.now.graph.now.code.nodes }
-    requires to { n < length claim.now.graph.now.code.nodes }
-    requires stored { stacks.IsStoredFrom (stacks_in claim.now) (address claim.now k) i number r }
-    ensures { result ≡ true → stacks.IsWordSpanned (values_in claim.now) (stacks_in claim.now) i (address claim.now k) (address claim.now n) j }
+// Whether a word points as what the instruction leaves there.
+fn is_word_spanned(way: &Way<'_>, j: u32, source: Source) -> bool
+    requires way { IsWay way.now }
+    requires source { IsSourceOf way.now j source }
+    ensures { result ≡ true → IsWordSpannedAlong way.now j }
 {
-    if !is_number(number, j) {
-        return false;
-    }
-    is_word_span_of(claim, k, n, j, r)
-}
-
-// The same, where a word is stored.
-fn is_word_span_stored(claim: &StackClaim<'_>, i: Instr, k: usize, n: usize, j: u32) -> bool
-    requires claim { IsStackClaim claim.now }
-    requires from { k < length claim.now.graph.now.code.nodes }
-    requires to { n < length claim.now.graph.now.code.nodes }
-    ensures { result ≡ true → stacks.IsWordSpanned (values_in claim.now) (stacks_in claim.now) i (address claim.now k) (address claim.now n) j }
-{
-    match stored_from(claim, i, k) {
-        Some(p) => is_word_span_stored_from(claim, i, k, n, j, p.0, p.1),
-        None => false,
-    }
-}
-
-// Whether a word that is missed keeps its span.
-fn is_word_span_left(claim: &StackClaim<'_>, i: Instr, k: usize, n: usize, j: u32) -> bool
-    requires claim { IsStackClaim claim.now }
-    requires from { k < length claim.now.graph.now.code.nodes }
-    requires to { n < length claim.now.graph.now.code.nodes }
-    ensures { result ≡ true → stacks.IsWordSpanned (values_in claim.now) (stacks_in claim.now) i (address claim.now k) (address claim.now n) j }
-{
-    if !is_missed(claim, i, k, j) {
-        return false;
-    }
-    is_word_span_kept(claim, k, n, j)
-}
-
-// Whether a word points at node n as it does behind the instruction of node k.
-fn is_word_spanned(claim: &StackClaim<'_>, i: Instr, k: usize, n: usize, j: u32) -> bool
-    requires claim { IsStackClaim claim.now }
-    requires from { k < length claim.now.graph.now.code.nodes }
-    requires to { n < length claim.now.graph.now.code.nodes }
-    ensures { result ≡ true → stacks.IsWordSpanned (values_in claim.now) (stacks_in claim.now) i (address claim.now k) (address claim.now n) j }
-{
-    if is_word_span_named(claim, n, j) {
+    if is_span_named(way.claim, way.to, j) {
         return true;
     }
-    if is_word_span_left(claim, i, k, n, j) {
-        return true;
+    match source {
+        Source::Missed => is_span_left(way, j),
+        Source::Stored(r) => is_span_of(way, j, r),
+        Source::Unknown => false,
     }
-    is_word_span_stored(claim, i, k, n, j)
 }
 
-// Whether all that a table says of a word is so over an edge that is no call, from node k to node n.
-fn is_word_passed(claim: &StackClaim<'_>, i: Instr, k: usize, n: usize, j: u32) -> bool
-    requires claim { IsStackClaim claim.now }
-    requires from { k < length claim.now.graph.now.code.nodes }
-    requires to { n < length claim.now.graph.now.code.nodes }
-    ensures { result ≡ true → IsWordPassed (values_in claim.now) (stacks_in claim.now) i (address claim.now k) (address claim.now n) j }
+// Whether all that a table says of a word is so over an edge that is no call.
+fn is_word_passed(way: &Way<'_>, j: u32) -> bool
+    requires { IsWay way.now }
+    ensures { result ≡ true → IsWordPassed way.now j }
 {
-    if !is_word_covered(claim, i, k, n, j) {
+    let source = source_of(way, j);
+    if !is_word_covered(way, j, source) {
         return false;
     }
-    if !is_word_named(claim, i, k, n, j) {
+    if !is_word_named(way, j, source) {
         return false;
     }
-    is_word_spanned(claim, i, k, n, j)
+    is_word_spanned(way, j, source)
 }
 
 /// The same of each word.
-pub fn are_words_passed(claim: &StackClaim<'_>, i: Instr, k: usize, n: usize) -> bool
-    requires claim { IsStackClaim claim.now }
-    requires from { k < length claim.now.graph.now.code.nodes }
-    requires to { n < length claim.now.graph.now.code.nodes }
-    ensures { result ≡ true → (j : ℕ) → IsWordPassed (values_in claim.now) (stacks_in claim.now) i (address claim.now k) (address claim.now n) j }
+pub fn are_words_passed(way: &Way<'_>) -> bool
+    requires { IsWay way.now }
+    ensures { result ≡ true → (j : ℕ) → IsWordPassed way.now j }
 {
-    for j in 0..word_count(claim, n) {
-        if !is_word_passed(claim, i, k, n, j) {
+    for j in 0..word_count(way.claim, way.to) {
+        if !is_word_passed(way, j) {
             return false;
         }
     }
@@ -504,66 +306,55 @@ pub fn are_unknown(claim: &StackClaim<'_>, n: usize) -> bool
     true
 }
 
-// Whether a word's interval at node n holds what it has behind the call at node u of the function that begins at node h.
-fn is_word_back(claim: &StackClaim<'_>, u: usize, h: usize, n: usize, j: u32) -> bool
-    requires claim { IsStackClaim claim.now }
-    requires from { u < length claim.now.graph.now.code.nodes }
-    requires entry { h < length claim.now.graph.now.code.nodes }
-    requires to { n < length claim.now.graph.now.code.nodes }
-    ensures { result ≡ true → stacks.IsWordBack (values_in claim.now) (stacks_in claim.now) (address claim.now u) (address claim.now h) (address claim.now n) j }
+// Whether a word's interval holds what it has behind the call of the function that begins at node h.
+fn is_word_back(way: &Way<'_>, h: usize, j: u32) -> bool
+    requires way { IsWay way.now }
+    requires entry { h < length way.now.claim.now.graph.now.code.nodes }
+    ensures { result ≡ true → stacks.IsWordBack (values_along way.now) (stacks_along way.now) (from way.now) (address way.now.claim.now h) (to way.now) j }
 {
-    is_any(claim, n, j) || (is_safe(claim, u, h, j) && is_word_kept(claim, u, n, j))
+    is_any(way, j) || (is_safe(way.claim, way.from, h, j) && is_word_left(way, j))
 }
 
 // Whether its name is the one that it had.
-fn is_word_name_back(claim: &StackClaim<'_>, u: usize, h: usize, n: usize, j: u32) -> bool
-    requires claim { IsStackClaim claim.now }
-    requires from { u < length claim.now.graph.now.code.nodes }
-    requires entry { h < length claim.now.graph.now.code.nodes }
-    requires to { n < length claim.now.graph.now.code.nodes }
-    ensures { result ≡ true → stacks.IsWordNameBack (values_in claim.now) (stacks_in claim.now) (address claim.now u) (address claim.now h) (address claim.now n) j }
+fn is_name_back(way: &Way<'_>, h: usize, j: u32) -> bool
+    requires way { IsWay way.now }
+    requires entry { h < length way.now.claim.now.graph.now.code.nodes }
+    ensures { result ≡ true → stacks.IsWordNameBack (values_along way.now) (stacks_along way.now) (from way.now) (address way.now.claim.now h) (to way.now) j }
 {
-    is_unnamed(claim, n, j)
-        || (is_safe(claim, u, h, j)
-            && is_name_same(claim, u, n, j)
-            && is_name_safe(claim, u, h, word(claim, u, j).name))
+    let before = word(way.claim, way.from, j).name;
+    is_unnamed(way.claim, way.to, j)
+        || (is_safe(way.claim, way.from, h, j)
+            && is_same_name(word(way.claim, way.to, j).name, before)
+            && is_name_safe(way.claim, way.from, h, before))
 }
 
 // Whether its span is.
-fn is_word_span_back(claim: &StackClaim<'_>, u: usize, h: usize, n: usize, j: u32) -> bool
-    requires claim { IsStackClaim claim.now }
-    requires from { u < length claim.now.graph.now.code.nodes }
-    requires entry { h < length claim.now.graph.now.code.nodes }
-    requires to { n < length claim.now.graph.now.code.nodes }
-    ensures { result ≡ true → stacks.IsWordSpanBack (values_in claim.now) (stacks_in claim.now) (address claim.now u) (address claim.now h) (address claim.now n) j }
+fn is_span_back(way: &Way<'_>, h: usize, j: u32) -> bool
+    requires way { IsWay way.now }
+    requires entry { h < length way.now.claim.now.graph.now.code.nodes }
+    ensures { result ≡ true → stacks.IsWordSpanBack (values_along way.now) (stacks_along way.now) (from way.now) (address way.now.claim.now h) (to way.now) j }
 {
-    is_word_span_named(claim, n, j)
-        || (is_safe(claim, u, h, j) && is_word_span_kept(claim, u, n, j))
+    is_span_named(way.claim, way.to, j)
+        || (is_safe(way.claim, way.from, h, j) && is_span_left(way, j))
 }
 
-// Whether all that a table says of a word at node n is so behind the call at node u of the function that begins at node h.
-fn is_word_behind(claim: &StackClaim<'_>, u: usize, h: usize, n: usize, j: u32) -> bool
-    requires claim { IsStackClaim claim.now }
-    requires from { u < length claim.now.graph.now.code.nodes }
-    requires entry { h < length claim.now.graph.now.code.nodes }
-    requires to { n < length claim.now.graph.now.code.nodes }
-    ensures { result ≡ true → IsWordBehind (values_in claim.now) (stacks_in claim.now) (address claim.now u) (address claim.now h) (address claim.now n) j }
+// Whether all that a table says of a word is so behind the call.
+fn is_word_behind(way: &Way<'_>, h: usize, j: u32) -> bool
+    requires way { IsWay way.now }
+    requires entry { h < length way.now.claim.now.graph.now.code.nodes }
+    ensures { result ≡ true → IsWordBehind way.now h j }
 {
-    is_word_back(claim, u, h, n, j)
-        && is_word_name_back(claim, u, h, n, j)
-        && is_word_span_back(claim, u, h, n, j)
+    is_word_back(way, h, j) && is_name_back(way, h, j) && is_span_back(way, h, j)
 }
 
 /// The same of each word.
-pub fn are_words_behind(claim: &StackClaim<'_>, u: usize, h: usize, n: usize) -> bool
-    requires claim { IsStackClaim claim.now }
-    requires from { u < length claim.now.graph.now.code.nodes }
-    requires entry { h < length claim.now.graph.now.code.nodes }
-    requires to { n < length claim.now.graph.now.code.nodes }
-    ensures { result ≡ true → (j : ℕ) → IsWordBehind (values_in claim.now) (stacks_in claim.now) (address claim.now u) (address claim.now h) (address claim.now n) j }
+pub fn are_words_behind(way: &Way<'_>, h: usize) -> bool
+    requires way { IsWay way.now }
+    requires entry { h < length way.now.claim.now.graph.now.code.nodes }
+    ensures { result ≡ true → (j : ℕ) → IsWordBehind way.now h j }
 {
-    for j in 0..word_count(claim, n) {
-        if !is_word_behind(claim, u, h, n, j) {
+    for j in 0..word_count(way.claim, way.to) {
+        if !is_word_behind(way, h, j) {
             return false;
         }
     }

@@ -1,5 +1,5 @@
 -- What is known of the registers and of the stack in the calls that a run is in, and that each transition keeps it so.
-use Rattle.std.proofs.Common.{◌≡◌, ℕ, ◌+◌, ◌*◌, ◌<◌, ◌≤◌, ◌%◌, ◌^◌, true, inl, ⊎_elim, List, [], ◌∷◌, length, refl, sym, ap, ◌∙◌, subst, arith, Option, Some, None}
+use Rattle.std.proofs.Common.{◌≡◌, ℕ, ◌+◌, ◌*◌, ◌<◌, ◌≤◌, ◌%◌, ◌^◌, true, ◌⊎◌, inl, ⊎_elim, List, [], ◌∷◌, length, refl, sym, ap, ◌∙◌, subst, arith, Option, Some, None}
 use Rattle.std.specs.Prelude.{ℤ}
 use Rattle.scale_base.specs.declared.instruction.ImmOp.TheVariants.{Addi}
 use Rattle.scale_base.specs.declared.instruction.RegOp.TheVariants.{Add}
@@ -11,7 +11,7 @@ use Rattle.cost_theory.specs.Graph.{Graph}
 use Rattle.code_text.specs.Text.{Text, instr_at}
 use Rattle.bound_laws.specs.Registers.{Measure, measured, keeps, effect}
 use Rattle.bound_laws.specs.Turning.{Leads, Calls}
-use Rattle.bound_laws.specs.Values.{Arc, word, IsHeld, Covers, sum_with, opposite_of, held, said, passed, line_of, IsImpossible, keeps_of, keeps_at, IsRegister, Values, Steps, AreBytes}
+use Rattle.bound_laws.specs.Values.{Arc, word, IsHeld, Covers, sum_with, opposite_of, held, said, passed, line_of, IsImpossible, keeps_of, keeps_at, IsRegister, Values, Steps, IsLineCovered, AreBytes}
 use Rattle.bound_laws.proofs.Laws.{only_one, in_covers, in_word, sum_with_in, held_of, line_in}
 use Rattle.stack_laws.specs.Stacks.{IsExactly, known_sum, known_sums, name_span, span_of, IsSpanned, IsSpannedOver, IsWordSpanned, IsSpanBack, IsWordSpanBack, Name, Stacks, View, view_of, word_address, IsNamed, name_of, more_of, name_arc, word_loaded, IsStoredFrom, IsLoadedTo, IsFar, IsMissed, IsDescending, IsSteady, IsNamedOver, IsWordCovered, IsWordNamed, ArePassed, AreEntered, IsRestored, IsSafe, IsNameSafe, IsRegisterBack, IsSumBack, IsNameBack, IsWordBack, IsWordNameBack, AreBack, IsReturned, IsStackInvariant, AreTold}
 use Rattle.stack_laws.specs.Stacks.Name.{of_begin, of_word}
@@ -29,6 +29,8 @@ use Rattle.stack_laws.specs.Stacks.IsWordBack.{any as any_back, kept as kept_bac
 use Rattle.stack_laws.specs.Stacks.IsWordNameBack.{unnamed as none_word_back, kept as kept_name_back}
 use Rattle.stack_laws.proofs.Naming.{twice, spanned_covers, spanned_alike, span_sum, span_sums, span_named, plus_small, mod_same, held_small, held_mod, held_same, is_below, above_below, IsSame, named_in, named_alike, named_mod, more_named, begun_named, word_named, tied_in, name_arc_in, measured_alike}
 use Rattle.stack_laws.proofs.Covering.{IsSo, register_in, line_covered}
+use Rattle.stack_laws.proofs.Making.{line_made}
+use Rattle.stack_laws.specs.Making.{IsLineMade}
 use Rattle.stack_laws.proofs.Stepping.{load_far, store_keeps}
 
 words_small : (x y z u : ℕ) → x < 256 → y < 256 → z < 256 → u < 256 → x + y * 2 ^ 8 + z * 2 ^ 16 + u * 2 ^ 24 < 2 ^ 32
@@ -241,9 +243,14 @@ module _ (t : Text) (g : Graph) (v : Values) (w : Stacks) (inv : IsStackInvarian
     word_spans_then k named (stored_word_span r s c) = spanned_covers (w.word_span b k) (span_of w a r) then (then.words k)
         (spanned_alike (span_of w a r) now then (reg before r) (then.words k) refl (ap (λ n. n % 2 ^ 32) (puts k r s) ∙ twice (reg before r)) (span_held r)) c
 
+    line_passed : (j : ℕ) → IsLineCovered v i a b j ⊎ IsLineMade v i a b j → IsHeld (v.lines b j) (measured (v.forms j) after)
+    line_passed j c = ⊎_elim
+        (λ (x : IsLineCovered v i a b j). line_covered v inv.registers a b i before after kept holds adds so zero_before size_before zero_after size_after told.registers j x)
+        (λ (x : IsLineMade v i a b j). line_made v inv.registers a b i before after kept sums totals zero_before size_before told.registers j x) c
+
     passed_then : Leads g a b → ArePassed v w i a b → AreTold v w b then
     passed_then leads p = record {
-      registers = record { live = p.live; each = each; lines = λ j. line_covered v inv.registers a b i before after kept holds adds so zero_before size_before zero_after size_after told.registers j (p.lines j) };
+      registers = record { live = p.live; each = each; lines = λ j. line_passed j (p.lines j) };
       names = names;
       words = words;
       word_names = λ k. word_names_then k (p.word_names k);
@@ -279,7 +286,7 @@ module _ (t : Text) (g : Graph) (v : Values) (w : Stacks) (inv : IsStackInvarian
         registers = record {
           live = e.live;
           each = λ r is. register_in v inv.registers a b i before after kept holds adds so zero_before size_before zero_after size_after told.registers r is (e.registers r is);
-          lines = λ j. line_covered v inv.registers a b i before after kept holds adds so zero_before size_before zero_after size_after told.registers j (e.lines j);
+          lines = λ j. line_passed j (e.lines j);
         };
         names = fresh_names;
         words = λ k. subst (λ o. IsHeld o (fresh.words k)) (sym (e.beginning.words k)) tt;

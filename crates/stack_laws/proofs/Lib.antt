@@ -1,6 +1,7 @@
 pub mod Stores
 pub mod Naming
 pub mod Covering
+pub mod Making
 pub mod Stepping
 pub mod Frames
 pub mod Moving

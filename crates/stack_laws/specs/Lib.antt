@@ -1,3 +1,4 @@
+pub mod Making
 pub mod Stacks
 pub mod Counting
 pub mod Returning

@@ -15,6 +15,7 @@ use Rattle.code_text.specs.Text.{Text, instr_at}
 use Rattle.bound_laws.specs.Registers.{keeps}
 use Rattle.bound_laws.specs.Turning.{Leads, Calls}
 use Rattle.bound_laws.specs.Values.{Arc, IsIn, ahead, strided, word, exactly, top_of, sum_of, sum_with, opposite_of, held, IsHeld, Covers, said, passed, line_of, IsImpossible, keeps_at, IsRegister, Values, Steps, IsCovered, IsLineCovered, AreIn}
+use Rattle.stack_laws.specs.Making.{IsLineMade}
 
 -- ---- where values come from
 
@@ -266,7 +267,7 @@ pub data IsWordSpanned (v : Values) (w : Stacks) (i : Instr) (a b k : ℕ) : Typ
 pub record ArePassed (v : Values) (w : Stacks) (i : Instr) (a b : ℕ) : Type 0 where
   pub live : v.live b ≡ true
   pub registers : (r : ℕ) → IsRegister r → IsCoveredOver v w i a b r
-  pub lines : (j : ℕ) → IsLineCovered v i a b j
+  pub lines : (j : ℕ) → IsLineCovered v i a b j ⊎ IsLineMade v i a b j
   pub names : (r : ℕ) → IsRegister r → IsNamedOver v w i a b r
   pub words : (k : ℕ) → IsWordCovered v w i a b k
   pub word_names : (k : ℕ) → IsWordNamed v w i a b k
@@ -290,7 +291,7 @@ pub record IsBeginning (w : Stacks) (a : ℕ) : Type 0 where
 pub record AreEntered (v : Values) (w : Stacks) (i : Instr) (a b : ℕ) : Type 0 where
   pub live : v.live b ≡ true
   pub registers : (r : ℕ) → IsRegister r → IsCovered v i a b r
-  pub lines : (j : ℕ) → IsLineCovered v i a b j
+  pub lines : (j : ℕ) → IsLineCovered v i a b j ⊎ IsLineMade v i a b j
   pub beginning : IsBeginning w b
   pub stack : keeps 2 i ≡ true
   -- the call stores nothing

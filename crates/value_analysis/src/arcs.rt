@@ -12,6 +12,9 @@ pub const WORDS: u64 = 4_294_967_296;
 /// How far a threshold may be from the end of an interval that grows to it.
 const FAR: u64 = 2_147_483_648;
 
+/// By how many numbers less an interval without a stride is taken for one with a stride.
+const FEW: u64 = 2;
+
 /// How far past a threshold a step may go.
 const NEAR: u64 = 2048;
 
@@ -58,6 +61,29 @@ pub fn holds(a: Option<Arc>, b: Option<Arc>) -> bool {
 pub fn shorter(a: Option<Arc>, b: Option<Arc>) -> Option<Arc> {
     match (a, b) {
         (Some(i), Some(j)) => { if i.more() < j.more() { a } else { b } }
+        (None, _) => b,
+        (_, None) => a,
+    }
+}
+
+// How many numbers an interval has behind its first one.
+fn members(a: Arc) -> u64 {
+    a.more() / a.stride().max(1)
+}
+
+// Whether an interval has fewer numbers than another, which has a stride: far fewer, if it has none.
+fn is_fewer(a: Arc, b: Arc) -> bool {
+    if b.stride() > 1 && a.stride() <= 1 {
+        members(a).saturating_add(FEW) < members(b)
+    } else {
+        members(a) < members(b)
+    }
+}
+
+/// The one of both intervals that has fewer numbers, or the second one.
+pub fn fewer(a: Option<Arc>, b: Option<Arc>) -> Option<Arc> {
+    match (a, b) {
+        (Some(i), Some(j)) => { if is_fewer(i, j) { a } else { b } }
         (None, _) => b,
         (_, None) => a,
     }
@@ -157,6 +183,47 @@ fn stretched(arc: Arc, before: u64, more: u64) -> Option<Arc> {
         return word();
     }
     Some(Arc::strided(ahead(before, arc.low()), more, arc.stride()))
+}
+
+// How far behind its first number an interval that is to end before 0, at it or behind it ends.
+fn end_near_nothing(arc: Arc) -> Option<u64> {
+    let stride = arc.stride().max(1);
+    for end in [WORDS - 1, 0, 1] {
+        let far = ahead(arc.low(), end);
+        let whole = far - far % stride;
+        if whole >= arc.more() && whole - arc.more() < FAR {
+            return Some(whole);
+        }
+    }
+    None
+}
+
+// And how far below that it begins, if it is to begin behind 0, at it or before it.
+fn begin_near_nothing(arc: Arc) -> Option<u64> {
+    let stride = arc.stride().max(1);
+    for begin in [1, 0, WORDS - 1] {
+        let far = ahead(begin, arc.low());
+        if far < FAR {
+            return Some(far - far % stride);
+        }
+    }
+    None
+}
+
+/// An interval of a difference that has grown is stretched to 0, or to the number before or behind it.
+pub fn stretched_to(old: Arc, new: Arc) -> Option<Arc> {
+    let before = if new.low() == old.low() {
+        Some(0)
+    } else {
+        begin_near_nothing(new)
+    };
+    let has_end = ahead(new.low(), old.low()).saturating_add(old.more()) >= new.more();
+    let more = if has_end {
+        Some(new.more())
+    } else {
+        end_near_nothing(new)
+    };
+    stretched(new, before?, more?)
 }
 
 // How far below its first number an interval that has grown begins.

@@ -10,7 +10,7 @@ use crate::states::{Seen, State};
 use crate::stores::{arc_of, span_of};
 use crate::tables::Row;
 use scale_base::Instr;
-use stack_checks::Name;
+use stack_tables::Name;
 use wrapped_intervals::{Arc, keeps, word};
 
 /// What flows into a function by a call. Whether a state goes there.
@@ -24,6 +24,7 @@ pub fn enter(step: Step, from: Seen<'_>, to: &mut State) -> bool {
     to.names = begun_names();
     to.spans = unknown();
     to.forget_words();
+    to.forget_lines();
     true
 }
 
@@ -72,8 +73,8 @@ impl CallSite<'_> {
 }
 
 impl CallSite<'_> {
-    // Whether the function gives a register back.
-    fn is_restored(&self, callee: &Callee<'_>, r: u8) -> bool {
+    /// Whether the function gives a register back.
+    pub fn is_restored(&self, callee: &Callee<'_>, r: u8) -> bool {
         let restored = callee.restored;
         restored.get(usize::from(r)).copied().unwrap_or(false) && keeps(r, self.instr)
     }

@@ -1,19 +1,23 @@
 //! Tables of a program.
 
-use crate::calling::{calm_functions, calm_nodes};
+use crate::copies::add_copies;
+use crate::forms::Forms;
 use crate::growing::{Growth, no_thresholds};
+use crate::moves::add_loops;
 use crate::narrowing::narrow;
 use crate::orders::{leaving_order, places_of};
 use crate::program::{Program, read_program};
 use crate::rows::{copy_of, unknown};
+use crate::shifting::{measures_of, shift_lines, shifts_of};
 use crate::sparing::{kept_place, spare};
-use crate::states::{State, no_words};
+use crate::states::{State, no_lines, no_words};
 use crate::tables::{Row, Tables};
 use crate::thresholds::Threshold;
 use elf_image::ImageView;
 use flow_graph::CodeGraph;
+use loop_forest::LoopTree;
 use scale_base::NoMemory;
-use stack_checks::StackTable;
+use stack_tables::StackTable;
 use std::alloc::Global;
 use value_checks::ValueTable;
 
@@ -21,18 +25,14 @@ use value_checks::ValueTable;
 const NARROWED: usize = 2;
 
 // Tables that say nothing.
-fn blank_tables(
-    alloc: Global,
-    nodes: usize,
-    functions: usize,
-    calm: Vec<[bool; 32]>,
-) -> Result<Tables, NoMemory> {
+fn blank_tables(alloc: Global, nodes: usize, functions: usize) -> Result<Tables, NoMemory> {
     Ok(Tables {
         values: ValueTable {
             live: vec![in alloc; true; nodes]?,
             rows: vec![in alloc; unknown(); nodes]?,
             exits: vec![in alloc; unknown(); functions]?,
-            calm,
+            forms: Vec::new(alloc),
+            lines: no_lines(alloc, nodes)?,
         },
         stack: StackTable {
             names: vec![in alloc; [None; 32]; nodes]?,
@@ -66,7 +66,7 @@ fn spared_nodes(alloc: Global, growth: &Growth<'_>) -> Result<Vec<bool>, NoMemor
 }
 
 // The tables that have grown.
-fn tables_of(alloc: Global, growth: Growth<'_>, calm: Vec<[bool; 32]>) -> Result<Tables, NoMemory> {
+fn tables_of(alloc: Global, growth: Growth<'_>) -> Result<Tables, NoMemory> {
     let place = kept_place(&growth);
     let exits = exits_of(alloc, &growth)?;
     let mut begins = Vec::new(alloc);
@@ -80,13 +80,18 @@ fn tables_of(alloc: Global, growth: Growth<'_>, calm: Vec<[bool; 32]>) -> Result
     } else {
         vec![in alloc; false; growth.live.len()]?
     };
-    let states = growth.states;
+    let forms = growth.forms;
+    let mut states = growth.states;
+    let shifts = shifts_of(alloc, forms, &states.lines)?;
+    let measures = measures_of(alloc, forms, &shifts)?;
+    shift_lines(forms, &shifts, &mut states.lines);
     Ok(Tables {
         values: ValueTable {
             live: growth.live,
             rows: states.rows,
             exits,
-            calm,
+            forms: measures,
+            lines: states.lines,
         },
         stack: StackTable {
             names: states.names,
@@ -140,23 +145,48 @@ fn find_states(
 fn new_growth<'a>(
     alloc: Global,
     program: &'a Program,
+    forms: &'a Forms,
     thresholds: Vec<Vec<Threshold>>,
 ) -> Result<Growth<'a>, NoMemory> {
     let order = leaving_order(alloc, program)?;
     let places = places_of(alloc, &order, program.nodes.len())?;
-    Growth::new(alloc, program, thresholds, order, places)
+    Growth::new(alloc, program, forms, thresholds, order, places)
 }
 
-/// Tables of a program. Where it is too large, they say nothing.
-pub fn analyse(alloc: Global, view: &ImageView<'_>, graph: &CodeGraph) -> Result<Tables, NoMemory> {
-    let program: Program = read_program(alloc, view, graph)?;
-    let calm = calm_functions(alloc, graph, &program)?;
-    let flags = calm_nodes(alloc, &program, &calm)?;
+// The forms of a program with loops.
+fn forms_of(alloc: Global, program: &Program, tree: &LoopTree) -> Result<Forms, NoMemory> {
+    let mut forms = Forms::new(alloc, program.nodes.len())?;
+    add_loops(alloc, &mut forms, program, tree)?;
+    add_copies(alloc, &mut forms, program)?;
+    Ok(forms)
+}
+
+// Tables of a program, with the intervals of forms. Where it is too large, they say nothing.
+fn analyse_program(alloc: Global, program: &Program, forms: &Forms) -> Result<Tables, NoMemory> {
     let thresholds = no_thresholds(alloc, program.entries.len())?;
-    let mut growth = new_growth(alloc, &program, thresholds)?;
+    let mut growth = new_growth(alloc, program, forms, thresholds)?;
     let mut state = State::blank();
     if !find_states(alloc, &mut growth, &mut state)? {
-        return blank_tables(alloc, program.nodes.len(), program.entries.len(), flags);
+        return blank_tables(alloc, program.nodes.len(), program.entries.len());
     }
-    tables_of(alloc, growth, flags)
+    tables_of(alloc, growth)
+}
+
+/// Tables of a program, without sums of registers.
+pub fn analyse(alloc: Global, view: &ImageView<'_>, graph: &CodeGraph) -> Result<Tables, NoMemory> {
+    let program = read_program(alloc, view, graph)?;
+    let forms = Forms::new(alloc, program.nodes.len())?;
+    analyse_program(alloc, &program, &forms)
+}
+
+/// Tables of a program, with sums of two registers by which its loops may end.
+pub fn analyse_loops(
+    alloc: Global,
+    view: &ImageView<'_>,
+    graph: &CodeGraph,
+    tree: &LoopTree,
+) -> Result<Tables, NoMemory> {
+    let program = read_program(alloc, view, graph)?;
+    let forms = forms_of(alloc, &program, tree)?;
+    analyse_program(alloc, &program, &forms)
 }

@@ -5,7 +5,9 @@ ghost use Rattle.std.specs.Prelude.{◌<◌};
 use crate::apart::raised;
 use crate::arcs::holds;
 use crate::calls::{CallSite, Callee, come_back, enter};
+use crate::forms::Forms;
 use crate::joining::{Change, Counts, Pace, grow_arc, grow_plain_row, word_key};
+use crate::lines::{Tracing, line_in};
 use crate::names::{begun_name, begun_names, name_of};
 use crate::passing::{Step, pass};
 use crate::program::{Node, Program};
@@ -16,7 +18,7 @@ use crate::tables::Row;
 use crate::thresholds::{Threshold, add_ends};
 use crate::ways::{Way, WayKind};
 use scale_base::{Instr, NoMemory};
-use stack_checks::Name;
+use stack_tables::Name;
 use std::alloc::Global;
 use std::collections::BinaryHeap;
 use wrapped_intervals::Arc;
@@ -70,6 +72,7 @@ impl Known {
 #[derive(Drop)]
 pub struct Growth<'a> {
     pub program: &'a Program,
+    pub forms: &'a Forms,
     /// By node.
     pub live: Vec<bool>,
     pub states: States,
@@ -103,6 +106,7 @@ impl<'a> Growth<'a> {
     pub fn new(
         alloc: Global,
         program: &'a Program,
+        forms: &'a Forms,
         thresholds: Vec<Vec<Threshold>>,
         order: Vec<usize>,
         places: Vec<usize>,
@@ -110,6 +114,7 @@ impl<'a> Growth<'a> {
         let nodes = program.nodes.len();
         Ok(Growth {
             program,
+            forms,
             live: vec![in alloc; false; nodes]?,
             states: States::new(alloc, nodes)?,
             known: vec![in alloc; Known::best(); program.entries.len()]?,
@@ -186,14 +191,34 @@ impl<'a> Growth<'a> {
         let (Some(step), Some(seen)) = (self.step(node, way), self.states.seen(way.from)) else {
             return false;
         };
-        pass(step, seen, self.begins(node.function), to)
+        if !pass(step, seen, self.begins(node.function), to) {
+            return false;
+        }
+        self.trace(step, seen, way, to);
+        true
+    }
+
+    // Puts what flows over a step of sums of two registers.
+    fn trace(&self, step: Step, from: Seen<'_>, way: &Way, to: &mut State) {
+        let tracing = Tracing {
+            forms: self.forms,
+            step,
+            from,
+        };
+        tracing.put_lines(way.to, to);
+        tracing.put_solved(to);
     }
 
     fn flow_by_call(&self, node: &Node, way: &Way, to: &mut State) -> bool {
         let (Some(step), Some(seen)) = (self.step(node, way), self.states.seen(way.from)) else {
             return false;
         };
-        enter(step, seen, to)
+        if !enter(step, seen, to) {
+            return false;
+        }
+        self.trace(step, seen, way, to);
+        to.solved = unknown();
+        true
     }
 
     fn flow_back(&self, node: &Node, way: &Way, f: usize, to: &mut State) -> bool {
@@ -201,7 +226,27 @@ impl<'a> Growth<'a> {
             return false;
         };
         come_back(&site, &callee, to);
+        self.bring_lines_back(&site, &callee, way.to, to);
         true
+    }
+
+    // Puts the sums of registers that a function gives back.
+    fn bring_lines_back(
+        &self,
+        site: &CallSite<'_>,
+        callee: &Callee<'_>,
+        behind: usize,
+        to: &mut State,
+    ) {
+        to.forget_lines();
+        for j in self.forms.wanted_at(behind) {
+            if let Some(form) = self.forms.form(*j) {
+                let m = form.measure;
+                if site.is_restored(callee, m.register) && site.is_restored(callee, m.other) {
+                    to.lines.keep(*j, line_in(site.from.lines, *j));
+                }
+            }
+        }
     }
 
     /// What flows over a way. Whether a state goes there.
@@ -515,4 +560,5 @@ pub fn starting_state(state: &mut State) {
     state.names = begun_names();
     state.spans = unknown();
     state.forget_words();
+    state.forget_lines();
 }

@@ -2,13 +2,15 @@
 
 ghost use Rattle.std.specs.Prelude.{◌<◌};
 
-use crate::arcs::{holds, joined, shorter, widened};
+use crate::arcs::{holds, joined, shorter, stretched_to, widened};
+use crate::lines::{Flowing, Lines};
 use crate::names::{Names, name_span};
 use crate::states::{State, States, UNKNOWN_WORD, WORD_COUNT, name_arc};
 use crate::tables::Row;
 use crate::thresholds::Threshold;
 use scale_base::NoMemory;
-use stack_checks::{Name, Word};
+use stack_tables::{Name, Word};
+use value_checks::Line;
 use wrapped_intervals::{Arc, word};
 
 /// How often an interval grows before it is widened, before it is widened to thresholds of its register alone, and before it is widened to all words.
@@ -26,8 +28,23 @@ const MOST_TURNED_SPANS: u8 = 6;
 
 const MOST_SPANS: u8 = 40;
 
-/// How many numbers registers and words have: a word has its own after those of the registers.
-const KEYS: usize = 96;
+/// How often lines at a node grow before they are widened, before they are given up where they are widened, and elsewhere.
+const LINES_WIDENED_FROM: u8 = 6;
+
+const MOST_LINES: u8 = 120;
+
+/// The number of a form that is none.
+const GONE: usize = usize::MAX;
+
+/// How often an interval grows before it is no more taken from a sum, and from which length on it says nothing.
+const MOST_SOLVED: u8 = 120;
+
+const LONGEST: u64 = 0x4000_0000;
+
+/// How many counts there are: registers have their own, and words have those behind them in turn.
+const KEYS: usize = 48;
+
+const WORD_KEYS: usize = 16;
 
 /// How a row grows.
 #[derive(Clone, Copy, PartialEq, Eq)]
@@ -44,9 +61,10 @@ pub enum Pace {
 /// the spans have.
 #[derive(Clone, Copy)]
 pub struct Counts {
-    back: [u8; 96],
-    ahead: [u8; 96],
-    spans: [u8; 96],
+    back: [u8; 48],
+    ahead: [u8; 48],
+    spans: [u8; 48],
+    lines: u8,
 }
 
 /// What has changed at a node: whether anything has, and whether a name is given up on which what flows there by other ways may rest.
@@ -62,8 +80,13 @@ pub fn word_key(k: usize) -> u8 {
 }
 
 // One more.
-fn count_up(counts: &mut [u8; 96], key: u8) -> u8 {
-    let k = usize::from(key);
+fn count_up(counts: &mut [u8; 48], key: u8) -> u8 {
+    let number = usize::from(key);
+    let k = if number < 32 {
+        number
+    } else {
+        32 + number % WORD_KEYS
+    };
     if k >= KEYS {
         return u8::MAX;
     }
@@ -76,9 +99,10 @@ impl Counts {
     /// None has grown yet.
     pub fn none() -> Counts {
         Counts {
-            back: [0; 96],
-            ahead: [0; 96],
-            spans: [0; 96],
+            back: [0; 48],
+            ahead: [0; 48],
+            spans: [0; 48],
+            lines: 0,
         }
     }
 
@@ -251,11 +275,98 @@ fn hold_words(row: &mut Row, names: &Names, words: &[Word]) {
     }
 }
 
+/// How an interval grows, and how often it has.
+#[derive(Clone, Copy)]
+struct Turns {
+    pace: Pace,
+    count: u8,
+}
+
+/// What is known of the registers that flow to a node: their intervals, and those by their names and by sums of them with others.
+#[derive(Clone, Copy)]
+struct Known<'a> {
+    row: &'a Row,
+    named: &'a Row,
+    solved: &'a Row,
+}
+
+// Whether an interval is so long that it says nothing.
+fn is_long(arc: &Option<Arc>) -> bool {
+    match arc {
+        Some(arc) => arc.more() >= LONGEST,
+        None => false,
+    }
+}
+
+impl Known<'_> {
+    // Whether an interval of a register holds what is known of it.
+    fn is_held(&self, arc: &Option<Arc>, k: usize) -> bool {
+        let (row, named, solved) = (self.row, self.named, self.solved);
+        k < 32 && (holds(*arc, row[k]) || is_by_name(*arc, named[k]) || is_by_name(*arc, solved[k]))
+    }
+
+    // What the interval of a register grows to, by its name.
+    fn renamed(&self, arc: &Option<Arc>, k: usize) -> Option<Arc> {
+        let named = self.named;
+        if k < 32 && holds(named[k], *arc) {
+            named[k]
+        } else {
+            None
+        }
+    }
+
+    // What an interval that has grown so far that it says nothing is by a sum with another register.
+    fn resolved(&self, old: &Option<Arc>, new: &Option<Arc>, k: usize) -> Option<Arc> {
+        let solved = self.solved;
+        if k < 32 && is_long(new) && solved[k].is_some() {
+            joined(*old, solved[k])
+        } else {
+            *new
+        }
+    }
+
+    fn shortest(&self, k: usize) -> Option<Arc> {
+        let (row, named, solved) = (self.row, self.named, self.solved);
+        if k < 32 {
+            shorter(solved[k], shorter(row[k], named[k]))
+        } else {
+            None
+        }
+    }
+}
+
+// What the interval of a register grows to.
+fn next_arc(
+    known: Known<'_>,
+    old: &Option<Arc>,
+    r: u8,
+    turns: Turns,
+    thresholds: &[Threshold],
+) -> Option<Arc> {
+    let k = usize::from(r);
+    let renamed = known.renamed(old, k);
+    if renamed.is_some() {
+        return renamed;
+    }
+    let new = grown(
+        *old,
+        known.shortest(k),
+        turns.pace,
+        turns.count,
+        r,
+        thresholds,
+    );
+    if turns.count < MOST_SOLVED {
+        known.resolved(old, &new, k)
+    } else {
+        new
+    }
+}
+
 // Lets the intervals of registers grow. Whether one did.
 fn grow_row(
     row: &mut Row,
-    other: &Row,
-    named: &Row,
+    known: Known<'_>,
     pace: Pace,
     counts: &mut Counts,
     thresholds: &[Threshold],
@@ -263,18 +374,97 @@ fn grow_row(
     let mut has_grown = false;
     for r in 1..32u8 {
         let k = usize::from(r);
-        if !holds(row[k], other[k]) && !is_by_name(row[k], named[k]) {
+        if !known.is_held(&row[k], k) {
             let count = counts.count(pace, r);
-            row[k] = if named[k].is_some() && holds(named[k], row[k]) {
-                named[k]
-            } else {
-                let new = shorter(other[k], named[k]);
-                grown(row[k], new, pace, count, r, thresholds)
-            };
+            let turns = Turns { pace, count };
+            row[k] = next_arc(known, &row[k], r, turns, thresholds);
             has_grown = true;
         }
     }
     has_grown
+}
+
+// Whether an interval of a line holds what flows.
+fn is_line_held(line: &Line, flowing: &Flowing) -> bool {
+    is_by_name(Some(line.arc), flowing.by_line)
+        || is_by_name(Some(line.arc), flowing.by_row)
+        || is_by_name(Some(line.arc), flowing.by_source)
+}
+
+// What the interval of a line grows to that has grown so often.
+fn grown_line(old: Arc, new: Option<Arc>, pace: Pace, count: u8) -> Option<Arc> {
+    let both = joined(Some(old), new)?;
+    match pace {
+        Pace::Joined if count < MOST_LINES => Some(both),
+        Pace::Widened if count < LINES_WIDENED_FROM => Some(both),
+        Pace::Widened if count < MOST_LINES => stretched_to(old, both),
+        _ => None,
+    }
+}
+
+// The interval of a line, where it says anything.
+fn telling_line(form: usize, arc: Option<Arc>) -> Option<Line> {
+    match arc {
+        Some(arc) if arc.more() < 0xFFFF_FFFF => Some(Line { form, arc }),
+        _ => None,
+    }
+}
+
+// Lets a line grow to what flows. It is given up where nothing does.
+fn grow_line(line: &mut Line, flowing: &Option<Flowing>, turns: Turns) {
+    let grown = match flowing {
+        Some(flow) => grown_line(line.arc, flow.shortest(), turns.pace, turns.count),
+        None => None,
+    };
+    match telling_line(line.form, grown) {
+        Some(next) => line.arc = next.arc,
+        None => line.form = GONE,
+    }
+}
+
+// Whether a line holds what flows.
+fn is_flow_held(line: &Line, flowing: &Option<Flowing>) -> bool {
+    match flowing {
+        Some(flow) => is_line_held(line, flow),
+        None => false,
+    }
+}
+
+// Lets each line grow. Whether one did, or is to be given up.
+fn grow_each_line(lines: &mut [Line], flowing: &Lines, pace: Pace, counts: &mut Counts) -> bool {
+    let mut has_grown = false;
+    for place in 0..lines.len() {
+        let flow = flowing.of(lines[place].form);
+        if !is_flow_held(&lines[place], &flow) {
+            counts.lines = counts.lines.saturating_add(1);
+            let count = counts.lines;
+            grow_line(&mut lines[place], &flow, Turns { pace, count });
+            has_grown = true;
+        }
+    }
+    has_grown
+}
+
+// Lets the lines of a node grow, and gives up those that are left without a form. Whether one did, or is given up.
+fn grow_lines(lines: &mut Vec<Line>, flowing: &Lines, pace: Pace, counts: &mut Counts) -> bool {
+    let has_grown = grow_each_line(lines, flowing, pace, counts);
+    if has_grown {
+        lines.retain(|line| line.form != GONE);
+    }
+    has_grown
+}
+
+// Puts lines in the place of others.
+fn put_lines(lines: &mut Vec<Line>, flowing: &Lines) -> Result<(), NoMemory> {
+    lines.clear();
+    for place in 0..flowing.count() {
+        if let Some(flow) = flowing.at(place) {
+            if let Some(line) = telling_line(flow.form, flow.shortest()) {
+                lines.push(line)?;
+            }
+        }
+    }
+    Ok(())
 }
 
 // Lets the spans of registers grow. Whether one did.
@@ -326,8 +516,10 @@ fn known_count(state: &State) -> usize {
 
 // Puts words in the place of others, with the spans that their names say.
 fn put_words(words: &mut Vec<Word>, state: &State) -> Result<(), NoMemory> {
+    let count = known_count(state);
     words.clear();
-    for k in 0..known_count(state) {
+    words.reserve_exact(count)?;
+    for k in 0..count {
         let word = state.word(k);
         words.push(Word {
             arc: word.arc,
@@ -339,9 +531,9 @@ fn put_words(words: &mut Vec<Word>, state: &State) -> Result<(), NoMemory> {
 }
 
 // Puts intervals in the place of others, where the names don't say more.
-fn put_row(row: &mut Row, other: &Row, named: &Row) {
+fn put_row(row: &mut Row, known: Known<'_>) {
     for r in 0..32 {
-        row[r] = shorter(other[r], named[r]);
+        row[r] = known.shortest(r);
     }
 }
 
@@ -377,7 +569,12 @@ impl States {
     fn put_row(&mut self, k: usize, state: &State, begins: &Option<Arc>) {
         let named = self.named(k, begins);
         if k < self.rows.len() {
-            put_row(&mut self.rows[k], &state.row, &named);
+            let known = Known {
+                row: &state.row,
+                named: &named,
+                solved: &state.solved,
+            };
+            put_row(&mut self.rows[k], known);
         }
     }
 
@@ -393,7 +590,10 @@ impl States {
         self.put_words(k, state)?;
         self.put_row(k, state, begins);
         self.put_spans(k, state);
-        Ok(())
+        match self.lines.get_mut(k) {
+            Some(lines) => put_lines(lines, &state.lines),
+            None => Ok(()),
+        }
     }
 
     // Gives up the names that differ. Whether there were any.
@@ -447,8 +647,12 @@ impl States {
         if k >= self.rows.len() {
             return false;
         }
-        let row = &mut self.rows[k];
-        grow_row(row, &state.row, &named, pace, counts, thresholds)
+        let known = Known {
+            row: &state.row,
+            named: &named,
+            solved: &state.solved,
+        };
+        grow_row(&mut self.rows[k], known, pace, counts, thresholds)
     }
 
     // Lets spans grow. Whether one did.
@@ -478,8 +682,12 @@ impl States {
         let words = self.grow_words(k, state, pace, counts, thresholds);
         let row = self.grow_row(k, state, begins, pace, counts, thresholds);
         let spans = self.grow_spans(k, state, pace, counts);
+        let lines = match self.lines.get_mut(k) {
+            Some(lines) => grow_lines(lines, &state.lines, pace, counts),
+            None => false,
+        };
         Change {
-            grown: dropped || words || row || spans,
+            grown: dropped || words || row || spans || lines,
             dropped,
         }
     }

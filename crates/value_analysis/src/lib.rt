@@ -6,17 +6,22 @@
 
 mod apart;
 mod arcs;
-mod calling;
+mod befores;
 mod calls;
+mod copies;
 mod finding;
+mod forms;
 mod growing;
 mod joining;
+mod lines;
+mod moves;
 mod names;
 mod narrowing;
 mod orders;
 mod passing;
 mod program;
 mod rows;
+mod shifting;
 mod sparing;
 mod states;
 mod stores;
@@ -24,5 +29,5 @@ mod tables;
 mod thresholds;
 mod ways;
 
-pub use finding::analyse;
+pub use finding::{analyse, analyse_loops};
 pub use tables::Tables;

@@ -2,7 +2,7 @@
 
 ghost use Rattle.std.specs.Prelude.{◌≡◌};
 
-use stack_checks::Name;
+use stack_tables::Name;
 use wrapped_intervals::{Arc, exactly};
 
 /// Where the values of the registers come from, by register.

@@ -3,17 +3,19 @@
 ghost use Rattle.std.specs.Prelude.{◌<◌};
 
 use crate::arcs::{holds, joined, shorter};
+use crate::forms::MOST_WANTED;
 use crate::growing::{Growth, starting_state};
 use crate::joining::arc_at;
 use crate::names::Names;
 use crate::program::Program;
 use crate::rows::{join_row, narrow_row, put_row, unknown};
-use crate::states::{State, WORD_COUNT, flowing_arc};
+use crate::states::{Seen, State, WORD_COUNT, flowing_arc};
 use crate::tables::Row;
 use crate::ways::WayKind;
 use scale_base::NoMemory;
-use stack_checks::Word;
+use stack_tables::Word;
 use std::alloc::Global;
+use value_checks::Line;
 use wrapped_intervals::Arc;
 
 // The intervals of all that flows to a node, if anything does.
@@ -22,13 +24,16 @@ struct Gathered {
     found: bool,
     row: Row,
     arcs: [Option<Arc>; 64],
+    /// The lines that are known where they flow to.
+    lines: [Option<Arc>; 16],
 }
 
 // The intervals of what flows, by the names that are known where it flows to.
 fn named_row(state: &State, names: &Names, begins: &Option<Arc>) -> Row {
     let mut row = unknown();
     for r in 0..32 {
-        row[r] = shorter(state.row[r], flowing_arc(names[r], state, begins));
+        let named = flowing_arc(names[r], state, begins);
+        row[r] = shorter(state.solved[r], shorter(state.row[r], named));
     }
     row
 }
@@ -39,6 +44,7 @@ impl Gathered {
             found: false,
             row: unknown(),
             arcs: [None; 64],
+            lines: [None; 16],
         }
     }
 
@@ -55,9 +61,24 @@ impl Gathered {
         }
     }
 
+    // Takes the lines of what flows.
+    fn add_lines(&mut self, state: &State, lines: &[Line]) {
+        for (place, line) in lines.iter().enumerate() {
+            if place < MOST_WANTED {
+                let arc = state.lines.of(line.form).and_then(|flow| flow.shortest());
+                self.lines[place] = if self.found {
+                    joined(self.lines[place], arc)
+                } else {
+                    arc
+                };
+            }
+        }
+    }
+
     // Takes one more.
-    fn add(&mut self, state: &State, names: &Names, begins: &Option<Arc>) {
-        let row = named_row(state, names, begins);
+    fn add(&mut self, state: &State, seen: Seen<'_>, begins: &Option<Arc>) {
+        let row = named_row(state, seen.names, begins);
+        self.add_lines(state, seen.lines);
         if !self.found {
             self.put(state, &row);
             return;
@@ -83,7 +104,7 @@ fn gather(growth: &Growth<'_>, k: usize, state: &mut State) -> Gathered {
     };
     if k == program.start() {
         starting_state(state);
-        sum.add(state, seen.names, &begins);
+        sum.add(state, seen, &begins);
     }
     let mut next = program.last_way_to(k);
     for _ in 0..program.ways.len() {
@@ -91,7 +112,7 @@ fn gather(growth: &Growth<'_>, k: usize, state: &mut State) -> Gathered {
             break;
         };
         if growth.flow(&way, state) {
-            sum.add(state, seen.names, &begins);
+            sum.add(state, seen, &begins);
         }
         next = way.beside;
     }
@@ -104,6 +125,22 @@ fn narrow_words(words: &mut [Word], sum: &Gathered) {
         if k < WORD_COUNT {
             if holds(arc_at(words, k), sum.arc(k)) && !holds(sum.arc(k), arc_at(words, k)) {
                 words[k].arc = sum.arc(k);
+            }
+        }
+    }
+}
+
+// And each that a line's holds.
+fn narrow_lines(lines: &mut [Line], sum: &Gathered) {
+    for place in 0..lines.len() {
+        if place < MOST_WANTED {
+            let narrower = sum.lines[place];
+            if holds(Some(lines[place].arc), narrower)
+                && !holds(sum.lines[place], Some(lines[place].arc))
+            {
+                if let Some(arc) = sum.lines[place] {
+                    lines[place].arc = arc;
+                }
             }
         }
     }
@@ -127,6 +164,9 @@ fn narrow_node(growth: &mut Growth<'_>, k: usize, state: &mut State) {
     }
     if let Some(words) = growth.states.words.get_mut(k) {
         narrow_words(words, &sum);
+    }
+    if let Some(lines) = growth.states.lines.get_mut(k) {
+        narrow_lines(lines, &sum);
     }
 }
 

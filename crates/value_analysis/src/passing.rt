@@ -9,7 +9,7 @@ use crate::rows::{passed_row, passed_word};
 use crate::states::{Seen, State, UNKNOWN_WORD};
 use crate::stores::{Target, arc_of, loaded_word, span_of, stored_word, target_of};
 use scale_base::{ImmOp, Instr, RegOp};
-use stack_checks::{Name, Word};
+use stack_tables::{Name, Word};
 use wrapped_intervals::{Arc, keeps};
 
 /// An instruction at an address, on the way to another one.
@@ -30,9 +30,9 @@ struct Passing<'a> {
     stored: Option<(usize, u8)>,
 }
 
-// Whether functions may have to give a register back as they found it: x1 to x4, x8, x9 and x18 to x27 (RISC-V ABIs Specification, Integer Register
-// Convention). Others are loaded for what the word holds.
-fn is_restorable(r: u8) -> bool {
+/// Whether functions may have to give a register back as they found it: x1 to x4, x8, x9 and x18 to x27 (RISC-V ABIs Specification, Integer Register
+/// Convention). Others are loaded for what the word holds.
+pub fn is_restorable(r: u8) -> bool {
     r < 5 || r == 8 || r == 9 || (18..28).contains(&r)
 }
 
@@ -240,6 +240,7 @@ pub fn pass(step: Step, from: Seen<'_>, begins: Option<Arc>, to: &mut State) -> 
         stored: stored_word(step.instr, from.names),
     };
     to.row = row;
+    to.forget_lines();
     for r in 1..32u8 {
         let k = usize::from(r);
         to.names[k] = passing.name(r);

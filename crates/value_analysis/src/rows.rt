@@ -4,10 +4,13 @@ ghost use Rattle.std.specs.Prelude.{◌≡◌, ◌<◌, length, true};
 ghost use Rattle.std.specs.List.{All};
 ghost use Rattle.wrapped_intervals.specs.Small.{IsKeptOr};
 
-use crate::arcs::{holds, joined, kept, shorter};
+use crate::arcs::{fewer, holds, joined, kept};
 use crate::tables::Row;
 use scale_base::Instr;
-use wrapped_intervals::{Arc, exactly, is_impossible, is_kept, keeps, passed, said_by};
+use wrapped_intervals::{
+    Arc, Measure, Said, exactly, is_difference, is_impossible, is_kept, keeps, line_of, passed,
+    said_by, solved,
+};
 
 /// The stack pointer at the start of a run.
 const STACK_POINTER: u64 = 0x7FFF_FFF0;
@@ -63,7 +66,7 @@ fn passed_arc(i: Instr, pc: u32, next: u32, from: &[Option<Arc>], r: u8) -> Opti
 {
     let arc = kept(passed(i, pc, next, from, r));
     if keeps(r, i) {
-        shorter(arc, from[usize::from(r)])
+        fewer(arc, from[usize::from(r)])
     } else {
         arc
     }
@@ -91,6 +94,29 @@ pub fn passed_word(i: Instr, pc: u32, next: u32, from: &Row, r: u8) -> Option<Ar
     } else {
         None
     }
+}
+
+/// The interval of a form, by those of the registers.
+pub fn line_of_row(m: Measure, row: &Row) -> Option<Arc> {
+    if are_kept(row) {
+        kept(line_of(m, row))
+    } else {
+        None
+    }
+}
+
+/// The interval of a register by a line of it, and by the line's other register.
+pub fn solved_arc(m: Measure, line: &Option<Arc>, other: &Option<Arc>) -> Option<Arc> {
+    if is_kept(*line) && is_kept(*other) {
+        kept(solved(m, *line, *other))
+    } else {
+        None
+    }
+}
+
+/// Whether a comparison says that the registers of a difference differ.
+pub fn is_different(said: Option<Said>, m: Measure, row: &Row) -> bool {
+    are_kept(row) && is_difference(said, m, row)
 }
 
 /// Joins a row to another.

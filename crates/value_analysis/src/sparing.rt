@@ -10,7 +10,7 @@ use crate::states::{State, UNKNOWN_WORD};
 use crate::stores::{Target, target_of, word_offset};
 use crate::ways::{Way, WayKind};
 use scale_base::NoMemory;
-use stack_checks::{Name, Word};
+use stack_tables::{Name, Word};
 use wrapped_intervals::Arc;
 
 /// How often functions are looked at before nothing is said of any.

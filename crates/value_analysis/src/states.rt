@@ -3,12 +3,14 @@
 ghost use Rattle.std.specs.Prelude.{◌≡◌, ◌<◌};
 
 use crate::apart::raised;
+use crate::lines::Lines;
 use crate::names::Names;
 use crate::rows::{unknown, zeros};
 use crate::tables::Row;
 use scale_base::NoMemory;
-use stack_checks::{Name, Word};
+use stack_tables::{Name, Word};
 use std::alloc::Global;
+use value_checks::Line;
 use wrapped_intervals::{Arc, word};
 
 /// How many words of a function's stack are looked at.
@@ -28,6 +30,9 @@ pub struct State {
     pub row: Row,
     pub names: Names,
     pub spans: Row,
+    /// Intervals of sums of two registers, and what those say of registers.
+    pub lines: Lines,
+    pub solved: Row,
     words: [Word; 64],
     count: usize,
 }
@@ -39,6 +44,8 @@ impl State {
             row: unknown(),
             names: [None; 32],
             spans: unknown(),
+            lines: Lines::none(),
+            solved: unknown(),
             words: [UNKNOWN_WORD; 64],
             count: 0,
         }
@@ -47,6 +54,12 @@ impl State {
     /// Forgets all words.
     pub fn forget_words(&mut self) {
         self.count = 0;
+    }
+
+    /// Forgets all sums, and what they say.
+    pub fn forget_lines(&mut self) {
+        self.lines.clear();
+        self.solved = unknown();
     }
 
     /// How many words are known at most.
@@ -85,6 +98,7 @@ pub struct Seen<'a> {
     pub names: &'a Names,
     pub spans: &'a Row,
     pub words: &'a [Word],
+    pub lines: &'a [Line],
 }
 
 impl Seen<'_> {
@@ -101,6 +115,7 @@ pub struct States {
     pub names: Vec<Names>,
     pub spans: Vec<Row>,
     pub words: Vec<Vec<Word>>,
+    pub lines: Vec<Vec<Line>>,
 }
 
 /// No words, by node.
@@ -110,6 +125,15 @@ pub fn no_words(alloc: Global, count: usize) -> Result<Vec<Vec<Word>>, NoMemory>
         words.push(Vec::new(alloc))?;
     }
     Ok(words)
+}
+
+/// No sums, by node.
+pub fn no_lines(alloc: Global, count: usize) -> Result<Vec<Vec<Line>>, NoMemory> {
+    let mut lines = Vec::new(alloc);
+    for _ in 0..count {
+        lines.push(Vec::new(alloc))?;
+    }
+    Ok(lines)
 }
 
 /// The interval of a value by its name, where that is of a word or of what x2 had when the function began.
@@ -141,6 +165,7 @@ impl States {
             names: vec![in alloc; [None; 32]; nodes]?,
             spans: vec![in alloc; unknown(); nodes]?,
             words: no_words(alloc, nodes)?,
+            lines: no_lines(alloc, nodes)?,
         })
     }
 
@@ -151,6 +176,7 @@ impl States {
             names: self.names.get(k)?,
             spans: self.spans.get(k)?,
             words: self.words.get(k)?,
+            lines: self.lines.get(k)?,
         })
     }
 
@@ -167,6 +193,9 @@ impl States {
         }
         if let Some(words) = self.words.get_mut(k) {
             words.clear();
+        }
+        if let Some(lines) = self.lines.get_mut(k) {
+            lines.clear();
         }
     }
 }

@@ -5,7 +5,7 @@ use crate::arcs::{WORDS, ahead, kept};
 use crate::names::{Names, name_of, offset_of};
 use crate::tables::Row;
 use scale_base::{Instr, LoadOp, StoreOp};
-use stack_checks::word_number;
+use stack_tables::word_number;
 use wrapped_intervals::{Arc, exactly, held, top_of};
 
 /// The number of the read service.

@@ -1,6 +1,6 @@
 //! Tables of values and of stack words.
 
-use stack_checks::StackTable;
+use stack_tables::StackTable;
 use value_checks::ValueTable;
 use wrapped_intervals::Arc;
 

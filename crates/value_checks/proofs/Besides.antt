@@ -1,31 +1,12 @@
 -- What stands beside an address is what stands at its number.
-use Rattle.std.proofs.Common.{◌≡◌, ℕ, zero, suc, ◌<◌, Bool, true, false, cond, List, [], ◌∷◌, length, Some, nat_eq, refl, sym, ap, ◌∙◌, arith, ◌⊎◌, ⊎_elim, eqb-true, eq-eqb, subst}
+use Rattle.std.proofs.Common.{◌≡◌, ℕ, zero, suc, ◌<◌, Bool, true, false, cond, List, [], ◌∷◌, length, Some, nat_eq, refl, sym, ap, ◌∙◌, arith, eqb-true, eq-eqb, subst}
 use Rattle.std.specs.Prelude.{slice_get}
 use Rattle.std.proofs.lemmas.Option.{slice_get_within}
-use Rattle.flow_graph.proofs.Laws.{less_same_more, some_is, Ascend}
+use Rattle.flow_graph.proofs.Laws.{some_is, Once, ascending_once, once_head, once_tail}
 use Rattle.flow_graph.specs.FlowGraph.{FlowGraph, IsFlowGraph}
 use Rattle.wrapped_intervals.specs.Small.{row}
 use Rattle.value_checks.specs.declared.tables.ValueTable.{ValueTable}
-use Rattle.value_checks.specs.Tables.{beside, or_other, row_at, live_at, calm_at, flag, values_of}
-
-abbrev pub Once : List ℕ → Type 0
-Once xs = (i j a : ℕ) → slice_get xs i ≡ Some a → slice_get xs j ≡ Some a → i ≡ j
-
-ascending_once : (xs : List ℕ) → Ascend xs → Once xs
-ascending_once xs up i j a at_i at_j = ⊎_elim
-    (λ (lt : i < j). let bad : a < a = up i j a a lt at_i at_j in absurd (omega arith))
-    (λ (r : (i ≡ j) ⊎ (j < i)). ⊎_elim (λ (e : i ≡ j). e) (λ (gt : j < i). let bad : a < a = up j i a a gt at_j at_i in absurd (omega arith)) r)
-    (less_same_more i j)
-
-once_tail : (x : ℕ) (xs : List ℕ) → Once (x ∷ xs) → Once xs
-once_tail x xs once i j a at_i at_j = let e : suc i ≡ suc j = once (suc i) (suc j) a at_i at_j in omega arith
-
-once_head : (x : ℕ) (xs : List ℕ) → Once (x ∷ xs) → (k a : ℕ) → slice_get xs k ≡ Some a → nat_eq x a ≡ false
-once_head x xs once k a at = go (nat_eq x a) refl
-  where
-    go : (b : Bool) → nat_eq x a ≡ b → b ≡ false
-    go true e = let same : x ≡ a = eqb-true x a e in let bad : 0 ≡ suc k = once 0 (suc k) a (ap Some same) at in absurd (omega arith)
-    go false e = refl
+use Rattle.value_checks.specs.Tables.{beside, or_other, row_at, live_at, values_of, AreSized}
 
 beside-get : {A : Type 0} (other : A) (us : List ℕ) (xs : List A) (k v : ℕ) (x : A) → Once us → slice_get us k ≡ Some v → slice_get xs k ≡ Some x → beside other us xs v ≡ x
 beside-get other [] xs k v x once at there = let bad : ⊥ = cc in absurd bad
@@ -42,14 +23,21 @@ get_within other (x ∷ xs) (suc k) lt = get_within other xs k (omega (arith, lt
 pub once : (v : FlowGraph) → IsFlowGraph v → Once v.code.nodes
 once v is = ascending_once v.code.nodes is.ascending
 
-pub at_is : (v : FlowGraph) (table : ValueTable) → IsFlowGraph v → (k a : ℕ) → k < length table.rows.items → slice_get v.code.nodes k ≡ Some a → (values_of v.code table).at a ≡ row (row_at table k)
-at_is v table is k a lt at = ap row (beside-get [] v.code.nodes table.rows.items k a (row_at table k) (once v is) at (get_within [] table.rows.items k lt))
-
-pub live_is : (v : FlowGraph) (table : ValueTable) → IsFlowGraph v → (k a : ℕ) → k < length table.live.items → slice_get v.code.nodes k ≡ Some a → (values_of v.code table).live a ≡ live_at table k
-live_is v table is k a lt at = beside-get false v.code.nodes table.live.items k a (live_at table k) (once v is) at (get_within false table.live.items k lt)
-
-pub calm_is : (v : FlowGraph) (table : ValueTable) → IsFlowGraph v → (r k a : ℕ) → k < length table.calm.items → slice_get v.code.nodes k ≡ Some a → (values_of v.code table).calm r a ≡ flag (calm_at table k) r
-calm_is v table is r k a lt at = ap (λ (flags : List Bool). flag flags r) (beside-get [] v.code.nodes table.calm.items k a (calm_at table k) (once v is) at (get_within [] table.calm.items k lt))
-
 pub beside_is : {A : Type 0} (other : A) (v : FlowGraph) → IsFlowGraph v → (xs : List A) → length xs ≡ length v.code.nodes → (k a : ℕ) → slice_get v.code.nodes k ≡ Some a → beside other v.code.nodes xs a ≡ or_other other (slice_get xs k)
 beside_is other v is xs size k a at = beside-get other v.code.nodes xs k a (or_other other (slice_get xs k)) (once v is) at (get_within other xs k (subst (λ (n : ℕ). k < n) (sym size) (slice_get_within v.code.nodes k a at)))
+
+pub at_is : (v : FlowGraph) (table : ValueTable) → IsFlowGraph v → AreSized v.code table → (k a : ℕ) → slice_get v.code.nodes k ≡ Some a → (values_of v.code table).at a ≡ row (row_at table k)
+at_is v table is sized k a at = ap row (beside_is [] v is table.rows.items sized.rows k a at)
+
+pub live_is : (v : FlowGraph) (table : ValueTable) → IsFlowGraph v → AreSized v.code table → (k a : ℕ) → slice_get v.code.nodes k ≡ Some a → (values_of v.code table).live a ≡ live_at table k
+live_is v table is sized k a at = beside_is false v is table.live.items sized.live k a at
+
+node_here : (u : ℕ) (us : List ℕ) (x : Bool) (xs : List Bool) (a : ℕ) (b : Bool) → nat_eq u a ≡ b → cond b x (beside false us xs a) ≡ true → (beside false us xs a ≡ true → (k : ℕ) × (slice_get us k ≡ Some a)) → (k : ℕ) × (slice_get (u ∷ us) k ≡ Some a)
+node_here u us x xs a true e there rest = (0, ap Some (eqb-true u a e))
+node_here u us x xs a false e there rest = let found : (k : ℕ) × (slice_get us k ≡ Some a) = rest there in (suc found.0, found.1)
+
+-- a flag beside an address is that of a number
+pub beside_node : (us : List ℕ) (xs : List Bool) (a : ℕ) → beside false us xs a ≡ true → (k : ℕ) × (slice_get us k ≡ Some a)
+beside_node [] xs a up = let bad : ⊥ = cc in absurd bad
+beside_node (u ∷ us) [] a up = let bad : ⊥ = cc in absurd bad
+beside_node (u ∷ us) (x ∷ xs) a up = node_here u us x xs a (nat_eq u a) refl up (λ there. beside_node us xs a there)

@@ -1,6 +1,2 @@
-mod Besides
-mod Ways
-mod Whole
-mod Cases
-mod WholeCases
-mod Derived
+pub mod Besides
+pub mod Laws

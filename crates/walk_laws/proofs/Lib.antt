@@ -3,4 +3,5 @@ pub mod Filled
 pub mod Functions
 pub mod Sums
 pub mod Balance
+pub mod Exact
 pub mod Laws

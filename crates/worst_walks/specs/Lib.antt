@@ -3,3 +3,4 @@ pub mod Explained
 pub mod Fitted
 pub mod Owned
 pub mod Known
+pub mod Whole

@@ -13,6 +13,7 @@ mod taken;
 mod tallies;
 mod times;
 mod walk;
+mod whole;
 mod worst;
 
 pub use counts::WalkCounts;
@@ -20,4 +21,5 @@ pub use own::OwnCycles;
 pub use parts::Parts;
 pub use search::Known;
 pub use walk::{Proposal, count_walk};
+pub use whole::{WholeCycles, whole_cycles};
 pub use worst::worst_walk;

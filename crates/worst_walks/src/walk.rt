@@ -5,6 +5,7 @@ ghost use Rattle.flow_graph.specs.FlowGraph.{graph as graph_seen};
 ghost use Rattle.loop_forest.specs.Tree.{loops, IsLoopTree};
 ghost use Rattle.worst_cycles.specs.Worst.{by_edge};
 ghost use Rattle.worst_walks.specs.Explained.{IsWorstWalk};
+ghost use Rattle.worst_walks.specs.Known.{HasCountSizes};
 ghost use Rattle.worst_walks.specs.Owned.{AreTurns, AreWhole};
 
 use crate::counts::WalkCounts;
@@ -82,7 +83,8 @@ pub fn count_walk(
     requires turns { length proposal.parts.turns.items ≡ length tree.now.headers }
     requires calls { length proposal.calls.items ≡ length graph.now.code.functions }
     requires entries { length proposal.entries.items ≡ length tree.now.headers }
-    ensures { IfOk result (λ o. IfSome o (λ x. IsWorstWalk (graph_seen graph.now) (loops graph.now tree.now) (by_edge weights.now) proposal.worst x)) }
+    ensures walk { IfOk result (λ o. IfSome o (λ x. IsWorstWalk (graph_seen graph.now) (loops graph.now tree.now) (by_edge weights.now) proposal.worst x)) }
+    ensures sizes { IfOk result (λ o. IfSome o (λ x. HasCountSizes graph.now tree.now x)) }
 {
     let _nodes = graph.node_count();
     let worst = proposal.worst;

@@ -40,3 +40,7 @@ said_view s = record { op = s.op; first = s.first; second = s.second }
 
 abbrev pub measure_view : Measure → registers.Measure
 measure_view m = record { register = m.register; factor = m.factor; other = m.other; other_factor = m.other_factor; shift = m.shift }
+
+-- the interval of a measure, by those of its two registers
+abbrev pub line_by : registers.Measure → Option Arc → Option Arc → Option Arc
+line_by m first other = values.sum_with (values.sum_of (values.scaled m.factor first) (values.scaled m.other_factor other)) m.shift

@@ -6,10 +6,10 @@ ghost use Rattle.wrapped_intervals.specs.Small.{IsFound, IsFoundOr, IsKept, IsKe
 
 use crate::arcs::{Arc, WORDS, is_multiple};
 
-// How far a word is behind another, modulo 2^32.
-fn ahead(low: u64, value: u64) -> u64
-    requires low { low < 2 ^ 32 }
-    requires value { value ≤ 2 ^ 32 }
+/// How far a word is behind another, modulo 2^32.
+pub fn ahead(low: u64, value: u64) -> u64
+    requires low { low ≤ 2 ^ 32 }
+    requires value { value ≤ 2 ^ 33 }
     ensures ahead { result ≡ values.ahead low value }
     ensures word { result < 2 ^ 32 }
 {

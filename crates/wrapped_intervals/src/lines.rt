@@ -4,7 +4,7 @@ ghost use Rattle.std.specs.Prelude.{◌≡◌, ◌<◌, ◌^◌, ◌%◌, ◌==�
 ghost use Rattle.std.specs.List.{All};
 ghost use Rattle.bound_laws.specs.Values as values;
 ghost use Rattle.bound_laws.specs.Registers as registers;
-ghost use Rattle.wrapped_intervals.specs.Small.{IsFoundOr, IsKeptOr, measure_view, row, said_view};
+ghost use Rattle.wrapped_intervals.specs.Small.{IsFoundOr, IsKeptOr, line_by, measure_view, row, said_view};
 
 use crate::arcs::{Arc, WORDS};
 use crate::branches::{Said, keeps};
@@ -60,16 +60,26 @@ pub fn effect(m: Measure, i: Instr) -> Option<u32>
     }
 }
 
-/// The interval of a measure, by those of the registers.
+/// The interval of a measure, by those of its two registers.
+pub fn line_by(m: Measure, first: Option<Arc>, other: Option<Arc>) -> Option<Arc>
+    requires first { IsKeptOr first }
+    requires other { IsKeptOr other }
+    ensures line { result ≡ line_by (measure_view m) first other }
+    ensures found { IsFoundOr result }
+{
+    let first = scaled(u64::from(m.factor), first);
+    let second = scaled(u64::from(m.other_factor), other);
+    sum_with(sum_of(first, second), u64::from(m.shift))
+}
+
+/// The same, by the intervals of all registers.
 pub fn line_of(m: Measure, at: &[Option<Arc>]) -> Option<Arc>
     requires size { length at.now ≡ 32 }
     requires kept { All IsKeptOr at.now }
     ensures line { result ≡ values.line_of (measure_view m) (row at.now) }
     ensures found { IsFoundOr result }
 {
-    let first = scaled(u64::from(m.factor), held(at, m.register));
-    let second = scaled(u64::from(m.other_factor), held(at, m.other));
-    sum_with(sum_of(first, second), u64::from(m.shift))
+    line_by(m, held(at, m.register), held(at, m.other))
 }
 
 /// The interval of a register by that of a line of it with the factor 1, and of the line's other register.

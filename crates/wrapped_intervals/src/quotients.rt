@@ -50,6 +50,19 @@ pub fn product_of(i: Option<Arc>, j: Option<Arc>) -> Option<Arc>
     }
 }
 
+// The upper halves of the products of numbers of two intervals.
+fn upper_products(i: Arc, j: Arc) -> Option<Arc>
+    requires i { IsFound i }
+    requires j { IsFound j }
+    ensures product { result ≡ values.upper_product_of (Some i) (Some j) }
+    ensures found { IsFoundOr result }
+{
+    from_to(
+        upper_half(i.least(), j.least()),
+        upper_half(i.top(), j.top()),
+    )
+}
+
 /// The upper half of the product.
 pub fn upper_product_of(i: Option<Arc>, j: Option<Arc>) -> Option<Arc>
     requires i { IsFoundOr i }
@@ -58,12 +71,7 @@ pub fn upper_product_of(i: Option<Arc>, j: Option<Arc>) -> Option<Arc>
     ensures found { IsFoundOr result }
 {
     match (i, j) {
-        (Some(i), Some(j)) => {
-            from_to(
-                upper_half(i.least(), j.least()),
-                upper_half(i.top(), j.top()),
-            )
-        }
+        (Some(i), Some(j)) => upper_products(i, j),
         _ => None,
     }
 }
@@ -144,6 +152,33 @@ fn are_low(i: Arc, j: Arc) -> bool
     ensures low { result ≡ values.are_low i j }
 {
     i.top() < HALF && j.top() < HALF
+}
+
+// The upper halves of the products of signed numbers of two intervals.
+fn signed_upper_products(i: Arc, j: Arc) -> Option<Arc>
+    requires i { IsFound i }
+    requires j { IsFound j }
+    ensures product { result ≡ values.signed_upper_product_of (Some i) (Some j) }
+    ensures found { IsFoundOr result }
+{
+    if are_low(i, j) {
+        upper_products(i, j)
+    } else {
+        word()
+    }
+}
+
+/// The upper half of the product of signed numbers.
+pub fn signed_upper_product_of(i: Option<Arc>, j: Option<Arc>) -> Option<Arc>
+    requires i { IsFoundOr i }
+    requires j { IsFoundOr j }
+    ensures product { result ≡ values.signed_upper_product_of i j }
+    ensures found { IsFoundOr result }
+{
+    match (i, j) {
+        (Some(i), Some(j)) => signed_upper_products(i, j),
+        _ => word(),
+    }
 }
 
 // The quotients of signed numbers of two intervals.

@@ -10,7 +10,7 @@ use crate::arcs::{Arc, WORDS, exactly, top_of, word};
 use crate::bits::{common_of, parted_of, united_of};
 use crate::quotients::{
     lowered_by, lowered_of, power_of, product_of, quotient_of, remainder_of, signed_quotient_of,
-    signed_remainder_of, upper_product_of,
+    signed_remainder_of, signed_upper_product_of, upper_product_of,
 };
 use crate::sums::{difference_of, plus, sum_of, sum_with, times};
 use scale_base::{ImmOp, Instr, LoadOp, RegOp};
@@ -52,7 +52,7 @@ pub fn reg_arc(op: RegOp, i: Option<Arc>, j: Option<Arc>) -> Option<Arc>
         RegOp::Or => united_of(i, j),
         RegOp::And => common_of(i, j),
         RegOp::Mul => product_of(i, j),
-        RegOp::Mulh => word(),
+        RegOp::Mulh => signed_upper_product_of(i, j),
         RegOp::Mulhsu => word_by(j),
         RegOp::Mulhu => upper_product_of(i, j),
         RegOp::Div => signed_quotient_of(i, j),

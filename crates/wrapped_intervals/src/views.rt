@@ -204,6 +204,18 @@ fn without_word(i: Arc, n: u64) -> Arc
     }
 }
 
+/// An interval without the number at an end.
+pub fn without(i: Option<Arc>, n: u64) -> Option<Arc>
+    requires { IsKeptOr i }
+    ensures without { result ≡ values.without i n }
+    ensures found { IsFoundOr result }
+{
+    match i {
+        Some(i) => Some(without_word(i, n)),
+        None => None,
+    }
+}
+
 // The numbers of the first register where it is another word than the second one.
 fn other_than(i: Arc, j: Arc) -> Arc
     requires i { IsKept i }

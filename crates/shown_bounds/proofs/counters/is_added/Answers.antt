@@ -1,6 +1,6 @@
 use Rattle.std.proofs.Common.{subst, sym}
 use Rattle.stack_laws.specs.Counting.{IsAdded}
-use Rattle.stack_checks.specs.Tables.{claim_stacks, claim_values}
+use Rattle.stack_tables.specs.Tables.{claim_stacks, claim_values}
 use Rattle.shown_bounds.specs.declared.counters.StackCounter.{StackCounter}
 use Rattle.shown_bounds.specs.Certified.{counter_view}
 use Rattle.shown_bounds.proofs.counters.is_added.Goals as goal

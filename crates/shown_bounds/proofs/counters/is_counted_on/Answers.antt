@@ -1,6 +1,6 @@
 use Rattle.std.proofs.Common.{ℕ, subst}
 use Rattle.stack_laws.specs.Stacks.{IsStoredFrom}
-use Rattle.stack_checks.specs.Tables.{claim_stacks}
+use Rattle.stack_tables.specs.Tables.{claim_stacks}
 use Rattle.shown_bounds.proofs.counters.is_counted_on.Goals as goal
 
 pub returns-then-number-word : goal.returns-then-number-word

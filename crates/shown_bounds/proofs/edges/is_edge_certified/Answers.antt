@@ -1,6 +1,6 @@
 use Rattle.std.proofs.Common.{◌≡◌, ◌∙◌, true, false, refl, sym}
 use Rattle.shown_bounds.specs.Certified.{case_graph, is_live_there}
-use Rattle.shown_bounds.proofs.Besides.{live_is}
+use Rattle.value_checks.proofs.Laws.{live_is}
 use Rattle.shown_bounds.proofs.edges.is_edge_certified.Goals as goal
 
 pub returns-then-not-is_live : goal.returns-then-not-is_live

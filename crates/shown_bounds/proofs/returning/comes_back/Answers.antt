@@ -2,7 +2,7 @@ use Rattle.std.proofs.Common.{◌≡◌, ◌≤◌, ◌∙◌, ℕ, Some, ap, re
 use Rattle.std.specs.Prelude.{slice_get}
 use Rattle.std.proofs.lemmas.Option.{slice_get_within}
 use Rattle.graph_runs.specs.KeptRuns.{most_returns}
-use Rattle.stack_checks.specs.Tables.{claim_values}
+use Rattle.stack_tables.specs.Tables.{claim_values}
 use Rattle.shown_bounds.specs.Returned.{height_at}
 use Rattle.shown_bounds.proofs.Returns.{comes_back, owner_is}
 use Rattle.shown_bounds.proofs.returning.comes_back.Goals as goal

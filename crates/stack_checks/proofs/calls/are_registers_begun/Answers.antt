@@ -1,7 +1,7 @@
 use Rattle.std.proofs.Common.{ℕ, refl, arith}
-use Rattle.stack_checks.specs.Tables.{address, stacks_in}
+use Rattle.stack_tables.specs.Tables.{address, stacks_in}
 use Rattle.stack_checks.specs.Checked.{IsRegisterBegun}
-use Rattle.stack_checks.proofs.Loops.{register_more, each_register}
+use Rattle.stack_checks.proofs.Loops.{each_register, register_more}
 use Rattle.stack_checks.proofs.calls.are_registers_begun.Goals as goal
 
 pub loop-r-preserved : goal.loop-r-preserved

@@ -1,6 +1,6 @@
 use Rattle.std.proofs.Common.{ℕ, ◌<◌}
 use Rattle.bound_laws.specs.Values.{IsRegister}
-use Rattle.stack_checks.specs.Tables.{address, stacks_in}
+use Rattle.stack_tables.specs.Tables.{address, stacks_in}
 use Rattle.stack_checks.specs.Checked.{IsRegisterBegun}
 use Rattle.stack_checks.proofs.calls.are_registers_begun.Given as goal
 

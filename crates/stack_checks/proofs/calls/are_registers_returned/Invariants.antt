@@ -1,7 +1,7 @@
 use Rattle.std.proofs.Common.{ℕ, ◌<◌}
 use Rattle.bound_laws.specs.Values.{IsRegister}
-use Rattle.stack_checks.specs.Tables.{address, stacks_in, text_in, values_in}
 use Rattle.stack_laws.specs.Stacks.{IsReturned}
+use Rattle.stack_tables.specs.Tables.{address, stacks_in, text_in, values_in}
 use Rattle.stack_checks.proofs.calls.are_registers_returned.Given as goal
 
 abbrev pub invariant-loop-r : goal.invariant-loop-r

@@ -1,8 +1,8 @@
 use Rattle.std.proofs.Common.{ℕ, refl, arith, below_more}
 use Rattle.flow_graph.specs.FlowGraph.{graph}
-use Rattle.stack_checks.specs.Tables.{stacks_in, text_in, values_in}
+use Rattle.stack_tables.specs.Tables.{stacks_in, text_in, values_in}
 use Rattle.stack_checks.specs.Checked.{IsEdgeChecked}
-use Rattle.stack_checks.proofs.Ways.{invariant_of}
+use Rattle.stack_checks.proofs.Confirmed.{invariant_of}
 use Rattle.stack_checks.proofs.confirming.is_confirmed.Goals as goal
 
 pub loop-e-preserved : goal.loop-e-preserved

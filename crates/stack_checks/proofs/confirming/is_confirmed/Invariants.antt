@@ -1,6 +1,6 @@
 use Rattle.std.proofs.Common.{ℕ, ◌<◌}
 use Rattle.flow_graph.specs.FlowGraph.{graph}
-use Rattle.stack_checks.specs.Tables.{stacks_in, text_in, values_in}
+use Rattle.stack_tables.specs.Tables.{stacks_in, text_in, values_in}
 use Rattle.stack_checks.specs.Checked.{IsEdgeChecked}
 use Rattle.stack_checks.proofs.confirming.is_confirmed.Given as goal
 

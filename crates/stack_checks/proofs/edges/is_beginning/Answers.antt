@@ -1,5 +1,5 @@
 use Rattle.std.proofs.Common.{refl}
-use Rattle.stack_checks.specs.Tables.{address, stacks_in}
+use Rattle.stack_tables.specs.Tables.{address, stacks_in}
 use Rattle.stack_checks.proofs.Cases.{begun_so}
 use Rattle.stack_checks.proofs.edges.is_beginning.Goals as goal
 

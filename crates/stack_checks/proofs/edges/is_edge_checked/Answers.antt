@@ -1,5 +1,5 @@
 use Rattle.std.proofs.Common.{refl}
-use Rattle.stack_checks.proofs.Ways.{edge_so}
+use Rattle.stack_checks.proofs.Confirmed.{edge_so}
 use Rattle.stack_checks.proofs.edges.is_edge_checked.Goals as goal
 
 pub returns : goal.returns

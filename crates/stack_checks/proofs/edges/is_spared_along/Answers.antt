@@ -1,6 +1,6 @@
 use Rattle.std.proofs.Common.{◌≡◌, ℕ, true, refl}
-use Rattle.stack_checks.specs.Tables.{stacks_in}
-use Rattle.stack_checks.proofs.Ways.{led_so}
+use Rattle.stack_tables.specs.Tables.{stacks_in}
+use Rattle.stack_checks.proofs.Confirmed.{led_so}
 use Rattle.stack_checks.proofs.edges.is_spared_along.Goals as goal
 
 pub returns-in-Some : goal.returns-in-Some

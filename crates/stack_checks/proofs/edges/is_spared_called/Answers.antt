@@ -1,7 +1,7 @@
 use Rattle.std.proofs.Common.{◌≡◌, ℕ, true, sym}
 use Rattle.stack_laws.specs.Stacks.{IsDescending}
-use Rattle.stack_checks.specs.Tables.{address, stacks_in, values_in}
-use Rattle.stack_checks.proofs.Ways.{called_so}
+use Rattle.stack_tables.specs.Tables.{address, stacks_in, values_in}
+use Rattle.stack_checks.proofs.Confirmed.{called_so}
 use Rattle.stack_checks.proofs.edges.is_spared_called.Goals as goal
 
 pub returns-in-Some : goal.returns-in-Some

@@ -1,6 +1,6 @@
 use Rattle.std.proofs.Common.{refl}
-use Rattle.stack_laws.specs.Stacks.IsSpannedOver.{by_name as named_span}
+use Rattle.stack_laws.specs.Stacks.IsSpannedOver.{by_name as named_over}
 use Rattle.stack_checks.proofs.registers.is_spanned_over.Goals as goal
 
 pub returns-then-is_spanned_by_name : goal.returns-then-is_spanned_by_name
-returns-then-is_spanned_by_name c so = named_span (c.if-is_spanned_by_name.ensures refl)
+returns-then-is_spanned_by_name c so = named_over (c.if-is_spanned_by_name.ensures refl)

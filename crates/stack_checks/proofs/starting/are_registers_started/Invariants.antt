@@ -1,6 +1,6 @@
 use Rattle.std.proofs.Common.{ℕ, ◌<◌}
 use Rattle.bound_laws.specs.Values.{IsRegister}
-use Rattle.stack_checks.specs.Tables.{address, values_in}
+use Rattle.stack_tables.specs.Tables.{address, values_in}
 use Rattle.scale_base.specs.State.{reg}
 use Rattle.bound_laws.specs.Laws.{starting_registers}
 use Rattle.bound_laws.specs.Values.{IsHeld}

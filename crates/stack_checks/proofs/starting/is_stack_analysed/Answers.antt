@@ -1,5 +1,5 @@
 use Rattle.std.proofs.Common.{refl}
-use Rattle.stack_checks.proofs.Ways.{analysed}
+use Rattle.stack_checks.proofs.Confirmed.{analysed}
 use Rattle.stack_checks.proofs.starting.is_stack_analysed.Goals as goal
 
 pub returns : goal.returns

@@ -1,8 +1,8 @@
 use Rattle.std.proofs.Common.{ℕ, ◌∙◌, refl, subst, sym}
 use Rattle.std.proofs.lemmas.Option.{slice_get_within}
-use Rattle.stack_checks.specs.Tables.{stacks_in, values_in}
+use Rattle.stack_tables.specs.Tables.{stacks_in, values_in}
 use Rattle.stack_checks.specs.Checked.{IsStart}
-use Rattle.stack_checks.proofs.Seen.{address_is}
+use Rattle.stack_tables.proofs.Laws.{address_is}
 use Rattle.stack_checks.proofs.starting.is_started.Goals as goal
 
 pub is_started_at-requires-clause-node : goal.is_started_at-requires-clause-node

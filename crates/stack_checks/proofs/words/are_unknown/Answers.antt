@@ -1,5 +1,5 @@
 use Rattle.std.proofs.Common.{ℕ, refl, arith, below_more}
-use Rattle.stack_checks.specs.Tables.{IsUnknown, address, stacks_in}
+use Rattle.stack_tables.specs.Tables.{IsUnknown, address, stacks_in}
 use Rattle.stack_checks.proofs.Loops.{each_word}
 use Rattle.stack_checks.proofs.words.are_unknown.Goals as goal
 

@@ -1,5 +1,5 @@
 use Rattle.std.proofs.Common.{ℕ, ◌<◌}
-use Rattle.stack_checks.specs.Tables.{IsUnknown, address, stacks_in}
+use Rattle.stack_tables.specs.Tables.{IsUnknown, address, stacks_in}
 use Rattle.stack_checks.proofs.words.are_unknown.Given as goal
 
 abbrev pub invariant-loop-j : goal.invariant-loop-j

@@ -4,8 +4,8 @@ use Rattle.worst_walks.specs.Owned.{AreTurns, AreWhole}
 use Rattle.worst_walks.proofs.WalkLaws.{worst_walk_of}
 use Rattle.worst_walks.proofs.walk.count_walk.Goals as goal
 
-pub returns : goal.returns
-returns c =
+pub returns-clause-walk : goal.returns-clause-walk
+returns-clause-walk c =
     let walk = rw c.in-Some.is at c.in_ok-taken.ensures in
     let turned = rw c.in-Some-2.is at c.in_ok-turns.ensures in
     let whole = rw c.in-Some-3.is at c.in_ok-own.ensures in
@@ -17,3 +17,17 @@ returns c =
     (subst (λ (taken : List ℕ). AreTurns c.args.graph.now c.args.tree.now taken c.in-Some-2.turns.items) c.deref-3.ensures.value turned)
     (subst (λ (taken : List ℕ). AreWhole c.args.graph.now c.args.tree.now c.args.weights.now taken c.args.proposal.worst c.in-Some-3.own) c.deref-4.ensures.value whole)
     refl refl
+
+pub returns-clause-sizes : goal.returns-clause-sizes
+returns-clause-sizes c =
+    let walk = rw c.in-Some.is at c.in_ok-taken.ensures in
+    let turned = rw c.in-Some-2.is at c.in_ok-turns.ensures in
+    let whole = rw c.in-Some-3.is at c.in_ok-own.ensures in
+    record {
+      taken = walk.size;
+      calls = c.requires.calls;
+      entries = c.requires.entries;
+      turns = turned.tally.size;
+      function_own = whole.own_is.functions_are.size;
+      loop_own = whole.own_is.loops_are.size;
+    }

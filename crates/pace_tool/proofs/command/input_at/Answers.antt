@@ -1,9 +1,0 @@
-use Rattle.std.proofs.Common.{[]}
-use Rattle.pace_tool.proofs.InputNamed.{input_missed, input_read}
-use Rattle.pace_tool.proofs.command.input_at.Goals as goal
-
-pub returns-then-number-inputs : goal.returns-then-number-inputs
-returns-then-number-inputs c = input_read c.args.inputs.now c.args.number (record { ref_ptr = (0, 0); now = [] }) c.if-number-inputs.true
-
-pub returns-else-number-inputs : goal.returns-else-number-inputs
-returns-else-number-inputs c = input_missed c.args.inputs.now c.args.number c.if-number-inputs.false

@@ -1,7 +1,0 @@
-use Rattle.std.proofs.Common.{◌≡◌, ◌++◌, map, take}
-use Rattle.host_runs.specs.Views.{want_views}
-use Rattle.pace_tool.proofs.command.push_inputs.Given as goal
-
--- the names so far have been added
-abbrev pub invariant-loop-name : goal.invariant-loop-name
-invariant-loop-name l = want_views l.wants.items ≡ want_views l.fn.wants.items ++ map (λ name. (name.now, 1048576)) (take l.name-index l.inputs)

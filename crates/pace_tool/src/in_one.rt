@@ -1,0 +1,175 @@
+//! What `all` gives for its files.
+
+ghost use Rattle.std.specs.Prelude.{◌≡◌, ◌<◌, ◌≤◌, ◌++◌, length, string_bytes, IfOk, OnOk};
+ghost use Rattle.std.specs.List.{AllZip};
+ghost use Rattle.loop_drafts.specs.Kept.{AreBytes};
+ghost use Rattle.host_runs.specs.Views.{files_view, reply_view};
+ghost use Rattle.pace_tool.specs.Answer.{Makes};
+ghost use Rattle.pace_tool.specs.Command.{wants_of};
+ghost use Rattle.pace_tool.specs.Drafts.{Drafts};
+ghost use Rattle.pace_tool.specs.InOne.{MakesDrafted, MakesFitted, MakesInOne, MakesOfPlain, behind, open_answer, open_pieces};
+ghost use Rattle.pace_tool.specs.Views.{draft_view, in_one_view};
+
+use crate::command::InOne;
+use crate::fit::{Inputs, fit_reply};
+use crate::plain::plain_image;
+use crate::texts::drafted_text;
+use host_runs::{ProgramFiles, Reply};
+use loop_drafts::{LoopDraft, Piece, draft_loops, printed_text};
+use scale_base::{NoMemory, Stop};
+use std::alloc::{AllocError, Global};
+
+/// So many bytes of an image are loaded.
+const IMAGE_LIMIT: usize = 4_194_304;
+
+/// What an image is fitted to: a machine, inputs, and the name under which the choice is stored.
+#[derive(Clone, Copy)]
+struct Goal<'f, 'n> {
+    machine: &'f [u8],
+    inputs: Inputs<'f>,
+    out: &'n str,
+    ghost short: { length machine.now ≤ 1048576 },
+}
+
+// Adds the pieces of loops that have no bound.
+fn push_open(text: &mut String, pieces: &[Piece]) -> Result<(), AllocError>
+    ensures { OnOk result (string_bytes text.new ≡ string_bytes text.old ++ open_pieces pieces.now) }
+{
+    match pieces {
+        [] => Ok(()),
+        [first, others @ ..] => {
+            if first.is_open {
+                text.push_str(first.text.as_str())?;
+            }
+            push_open(text, others)
+        }
+    }
+}
+
+// What is told where a loop is open.
+fn open_reply(alloc: Global, mut text: String, draft: &LoopDraft) -> Result<Reply, NoMemory>
+    ensures { IfOk result (λ reply. reply_view reply ≡ open_answer (string_bytes text) draft.now) }
+{
+    push_open(&mut text, &draft.pieces)?;
+    Ok(Reply {
+        stores: Vec::new(alloc),
+        text,
+        status: 1,
+    })
+}
+
+// The reply with a text before its own, unless it is a refusal.
+fn told_behind(mut text: String, reply: Reply) -> Result<Reply, NoMemory>
+    ensures { IfOk result (λ told. reply_view told ≡ behind (string_bytes text) (reply_view reply)) }
+{
+    if reply.status != 0 {
+        return Ok(reply);
+    }
+    text.push_str(reply.text.as_str())?;
+    Ok(Reply {
+        stores: reply.stores,
+        text,
+        status: 0,
+    })
+}
+
+// The image fitted, with its draft as its loop file.
+fn fitted_reply(
+    alloc: Global,
+    goal: &Goal<'_, '_>,
+    image: &[u8],
+    file: &[u8],
+    text: String,
+) -> Result<Reply, NoMemory>
+    requires { length file.now ≤ 1048576 }
+    ensures { IfOk result (λ reply. MakesFitted goal.now.machine.now goal.now.out.now (files_view goal.now.inputs.items.now) image.now file.now (string_bytes text) (reply_view reply)) }
+{
+    if image.len() > IMAGE_LIMIT {
+        return Reply::too_large(alloc, goal.out);
+    }
+    let files = ProgramFiles {
+        image,
+        machine: goal.machine,
+        loops: file,
+    };
+    let reply = fit_reply(alloc, goal.out, &files, &goal.inputs)?;
+    told_behind(text, reply)
+}
+
+// What is made of a draft of the image's loops.
+fn drafted_reply(
+    alloc: Global,
+    goal: &Goal<'_, '_>,
+    image: &[u8],
+    mut text: String,
+    draft: &LoopDraft,
+) -> Result<Reply, NoMemory>
+    requires { Drafts image.now (Ok (draft_view draft.now)) }
+    ensures { IfOk result (λ reply. MakesDrafted goal.now.machine.now goal.now.out.now (files_view goal.now.inputs.items.now) image.now (string_bytes text) (Ok (draft_view draft.now)) (reply_view reply)) }
+{
+    text.push_str(drafted_text(alloc, draft)?.as_str())?;
+    if draft.unbounded > 0 {
+        return open_reply(alloc, text, draft);
+    }
+    let file = printed_text(alloc, &draft.pieces)?;
+    fitted_reply(alloc, goal, image, file.as_bytes(), text)
+}
+
+// What is made of the image that goes on.
+fn plain_reply(
+    alloc: Global,
+    goal: &Goal<'_, '_>,
+    image: &[u8],
+    text: String,
+) -> Result<Reply, NoMemory>
+    ensures { IfOk result (λ reply. MakesOfPlain goal.now.machine.now goal.now.out.now (files_view goal.now.inputs.items.now) (Ok (image.now, string_bytes text)) (reply_view reply)) }
+{
+    match draft_loops(alloc, image, goal.inputs.items) {
+        Ok(draft) => drafted_reply(alloc, goal, image, text, &draft),
+        Err(Stop::Refused(refusal)) => Reply::refused(alloc, &refusal),
+        Err(Stop::Memory) => Err(NoMemory),
+    }
+}
+
+// What is made of an image.
+fn image_reply(alloc: Global, goal: &Goal<'_, '_>, image: &[u8]) -> Result<Reply, NoMemory>
+    requires { length image.now ≤ 4194304 }
+    ensures { IfOk result (λ reply. MakesInOne image.now goal.now.machine.now (files_view goal.now.inputs.items.now) goal.now.out.now (reply_view reply)) }
+{
+    match plain_image(alloc, image) {
+        Ok((plain, text)) => plain_reply(alloc, goal, &plain, text),
+        Err(Stop::Refused(refusal)) => Reply::refused(alloc, &refusal),
+        Err(Stop::Memory) => Err(NoMemory),
+    }
+}
+
+// What is made of an image of bytes, for a machine and inputs.
+fn goal_reply(
+    alloc: Global,
+    out: &str,
+    image: &[u8],
+    machine: &[u8],
+    inputs: &Inputs<'_>,
+) -> Result<Reply, NoMemory>
+    requires image { length image.now ≤ 4194304 }
+    requires machine { length machine.now ≤ 1048576 }
+    ensures bytes { AreBytes image.now }
+    ensures told { IfOk result (λ reply. MakesInOne image.now machine.now (files_view inputs.now.items.now) out.now (reply_view reply)) }
+{
+    let goal = Goal {
+        machine,
+        inputs: *inputs,
+        out,
+    };
+    image_reply(alloc, &goal, image)
+}
+
+/// What `all` makes of the files that were loaded.
+pub fn in_one_made(alloc: Global, command: &InOne<'_>, files: &[Vec<u8>]) -> Result<Reply, NoMemory>
+    requires { AllZip (λ want file. length file ≤ want.1) (wants_of (in_one_view command.now)) (files_view files.now) }
+    ensures { IfOk result (λ reply. Makes (in_one_view command.now) (files_view files.now) (reply_view reply)) }
+{
+    let (first, given) = files.split_at(2);
+    let inputs = Inputs { items: given };
+    goal_reply(alloc, command.out, &first[0], &first[1], &inputs)
+}

@@ -1,0 +1,7 @@
+use Rattle.std.proofs.Common.{◌≡◌, ◌++◌, take, string_bytes}
+use Rattle.std.specs.List.{flat_map}
+use Rattle.plan_texts.specs.Words.{opened_loop}
+use Rattle.plan_texts.proofs.clusters.push_opened_loops.Given as goal
+
+abbrev pub invariant-loop-l : goal.invariant-loop-l
+invariant-loop-l l = string_bytes l.text ≡ string_bytes l.initial.text ++ flat_map opened_loop (take l.l-index l.around)

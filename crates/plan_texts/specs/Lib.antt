@@ -1,0 +1,3 @@
+pub mod Words
+pub mod Dot
+pub mod Counts

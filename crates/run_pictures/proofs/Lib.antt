@@ -1,0 +1,4 @@
+mod TextLoops
+mod BarLoops
+mod PlaceFacts
+mod RunFacts

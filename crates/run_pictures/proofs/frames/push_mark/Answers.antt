@@ -1,0 +1,8 @@
+use Rattle.std.proofs.Common.{◌∙◌, append_assoc}
+use Rattle.std.proofs.lemmas.Result.{on_ok_weaker}
+use Rattle.run_pictures.specs.PictureTexts.{tick_mark}
+use Rattle.run_pictures.proofs.frames.push_mark.Goals as goal
+
+pub returns : goal.returns
+unfolding tick_mark
+returns c = on_ok_weaker c.write.result (λ e. e ∙ simp append_assoc) c.write.ensures.bytes

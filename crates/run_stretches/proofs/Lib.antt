@@ -1,0 +1,10 @@
+mod StepBelow
+mod Stretched
+mod Joined
+mod BarLaws
+mod RoomLaws
+mod TrackLaws
+mod RunLaws
+mod TakeLaws
+mod PayLaws
+mod SqueezeLaws

@@ -1,6 +1,0 @@
-use Rattle.std.proofs.Common.{◌∙◌}
-use Rattle.stack_checks.proofs.Seen.{begins_seen}
-use Rattle.stack_checks.proofs.reading.begins.Goals as goal
-
-pub returns-clause-begins : goal.returns-clause-begins
-returns-clause-begins c = c.begins_row.ensures.begins ∙ begins_seen c.args.claim.now c.args.k c.owner.result c.owner.ensures.owner

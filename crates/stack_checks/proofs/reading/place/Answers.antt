@@ -1,5 +1,0 @@
-use Rattle.stack_checks.proofs.Seen.{place_seen}
-use Rattle.stack_checks.proofs.reading.place.Goals as goal
-
-pub returns-clause-place : goal.returns-clause-place
-returns-clause-place c j = place_seen c.args.claim.now j

@@ -1,7 +1,0 @@
-use Rattle.std.proofs.Common.{refl}
-use Rattle.stack_checks.specs.Tables.{address, stacks_in, values_in}
-use Rattle.stack_checks.proofs.Cases.{stored_name}
-use Rattle.stack_checks.proofs.registers.is_name_stored_from.Goals as goal
-
-pub returns : goal.returns
-returns c so = stored_name (values_in c.args.claim.now) (stacks_in c.args.claim.now) c.args.i (address c.args.claim.now c.args.k) (address c.args.claim.now c.args.n) c.args.r c.args.rs c.args.number c.requires.stored (c.if-not-is_equal.ensures refl) (c.if-not-is_known.ensures refl) (c.is_name_of_word.ensures so)

@@ -1,0 +1,2 @@
+-- The lemmas of this crate that crates above may cite.
+pub use Rattle.stack_tables.proofs.Seen.{address_is}

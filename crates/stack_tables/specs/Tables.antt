@@ -1,0 +1,131 @@
+-- A table of stacks as what `stack_laws` calls stacks: by address what stands beside it in the list of nodes, by register what stands in the
+-- row, and by number of a word what stands in the row of words.
+use Rattle.std.specs.Prelude.{◌≡◌, ℕ, ◌+◌, ◌*◌, ◌≤◌, false, List, [], length, slice_get, slice_index, map, option_map, option_and_then, Option, Some, None, Ok, Vec}
+use Rattle.std.specs.List.{All}
+use Rattle.std.specs.declared.alloc.Global.{Global}
+use Rattle.scale_base.specs.Image.{image_of}
+use Rattle.cost_theory.specs.Reached.{Code}
+use Rattle.code_text.specs.Text.{Text, text_of}
+use Rattle.flow_graph.specs.FlowGraph.{IsGraphOf}
+use Rattle.bound_laws.specs.Registers.{Measure}
+use Rattle.bound_laws.specs.Values.{Values, Arc, opposite_of}
+use Rattle.stack_laws.specs.Stacks as stacks
+use Rattle.stack_laws.specs.Stacks.{Stacks}
+use Rattle.stack_laws.specs.Stacks.Name.{of_begin, of_word}
+use Rattle.wrapped_intervals.specs.Small.{row, IsKeptOr}
+use Rattle.value_checks.specs.Tables.{beside, or_other, flag, values_of, AreSized}
+use Rattle.stack_tables.specs.declared.tables.Name.{Name}
+use Rattle.stack_tables.specs.declared.tables.Name.TheVariants.{OfBegin, OfWord}
+use Rattle.stack_tables.specs.declared.tables.Word.{Word}
+use Rattle.stack_tables.specs.declared.tables.StackTable.{StackTable}
+use Rattle.stack_tables.specs.declared.claims.StackClaim.{StackClaim}
+
+abbrev pub name_view : Name → stacks.Name
+name_view (OfBegin r more) = of_begin r more
+name_view (OfWord k more) = of_word k more
+
+abbrev pub named : Option Name → Option stacks.Name
+named name = option_map name_view name
+
+-- what stands in a row of names, by register
+abbrev pub name_in : List (Option Name) → ℕ → Option Name
+name_in names r = option_and_then (λ n. n) (slice_get names r)
+
+-- what is known of a word, and nothing behind the last one
+abbrev pub arc_of : Option Word → Option Arc
+arc_of None = None
+arc_of (Some x) = x.arc
+
+abbrev pub name_of_word : Option Word → Option stacks.Name
+name_of_word None = None
+name_of_word (Some x) = named x.name
+
+abbrev pub span_of_word : Option Word → Option Arc
+span_of_word None = None
+span_of_word (Some x) = x.span
+
+abbrev pub rows_view : List (Vec Word Global) → List (List Word)
+rows_view rows = map (λ (words : Vec Word Global). words.items) rows
+
+abbrev pub words_at : Code → StackTable → ℕ → List Word
+words_at code stack a = beside [] code.nodes (rows_view stack.words.items) a
+
+abbrev pub stacks_of : Code → StackTable → Stacks
+stacks_of code stack = record {
+  name = λ a r. named (name_in (beside [] code.nodes stack.names.items a) r);
+  offset = λ k. opposite_of (4 * (k + 1));
+  word = λ a k. arc_of (slice_get (words_at code stack a) k);
+  word_name = λ a k. name_of_word (slice_get (words_at code stack a) k);
+  span = λ a r. row (beside [] code.nodes stack.spans.items a) r;
+  word_span = λ a k. span_of_word (slice_get (words_at code stack a) k);
+  begins = λ f. row stack.begins.items f;
+  restored = λ f r. flag (or_other [] (slice_get stack.restored.items f)) r;
+  place = λ k. stack.place;
+  spared = λ k a. beside false code.nodes stack.spared.items a;
+}
+
+-- the intervals of a word are short enough to be kept
+pub record IsWordKept (x : Word) : Type 0 where
+  pub arc : IsKeptOr x.arc
+  pub span : IsKeptOr x.span
+
+-- and a row of words has at most 64
+pub record IsRowOfWords (words : List Word) : Type 0 where
+  pub few : length words ≤ 64
+  pub kept : All IsWordKept words
+
+abbrev pub IsRowOf : Vec Word Global → Type 0
+IsRowOf words = IsRowOfWords words.items
+
+-- a table with a row for each node and each function, all of them short enough to be kept
+pub record AreStacksSized (code : Code) (stack : StackTable) : Type 0 where
+  pub names : length stack.names.items ≡ length code.nodes
+  pub spans : length stack.spans.items ≡ length code.nodes
+  pub words : length stack.words.items ≡ length code.nodes
+  pub spared : length stack.spared.items ≡ length code.nodes
+  pub begins : length stack.begins.items ≡ length code.functions
+  pub restored : length stack.restored.items ≡ length code.functions
+  pub spans_kept : All (All IsKeptOr) stack.spans.items
+  pub words_kept : All IsRowOf stack.words.items
+  pub begins_kept : All IsKeptOr stack.begins.items
+  pub place_kept : IsKeptOr stack.place
+
+-- two tables with their numbers for a program
+pub record IsStackClaim (c : StackClaim) : Type 0 where
+  pub image : image_of c.view.now.file ≡ Ok c.view.now
+  pub graph_is : IsGraphOf (text_of c.view.now) c.graph.now
+  pub sized : AreSized c.graph.now.code c.table.now
+  pub stacks : AreStacksSized c.graph.now.code c.stack.now
+
+abbrev pub claim_text : StackClaim → Text
+claim_text c = text_of c.view.now
+
+abbrev pub claim_values : StackClaim → Values
+claim_values c = values_of c.graph.now.code c.table.now
+
+abbrev pub claim_stacks : StackClaim → Stacks
+claim_stacks c = stacks_of c.graph.now.code c.stack.now
+
+-- the same, which don't unfold by themselves
+unfoldable pub text_in : StackClaim → Text
+text_in c = claim_text c
+
+unfoldable pub values_in : StackClaim → Values
+values_in c = claim_values c
+
+unfoldable pub stacks_in : StackClaim → Stacks
+stacks_in c = claim_stacks c
+
+-- the address of a node, by its number
+unfoldable pub address : StackClaim → ℕ → ℕ
+address c k = slice_index c.graph.now.code.nodes k
+
+-- nothing is known of a word
+pub record IsUnknown (w : Stacks) (a k : ℕ) : Type 0 where
+  pub arc : w.word a k ≡ None
+  pub name : w.word_name a k ≡ None
+  pub span : w.word_span a k ≡ None
+
+-- a line at an address is of this form, and has this interval
+abbrev pub IsLineOf : Values → ℕ → Measure → Arc → Type 0
+IsLineOf v a m arc = (j : ℕ) × (v.forms j ≡ m) × (v.lines a j ≡ Some arc)

@@ -1,0 +1,33 @@
+//! Tables of what is known of registers and of words of the stack at each node of a program, as `stack_laws` says stacks, and what they say
+//! of an instruction: to which words it stores, which it misses, and what a call keeps.
+//! Tests: crates/graph_tests/src/stack_bounds.rt.
+#![tactic(auto)]
+
+mod apart;
+mod claims;
+mod names;
+mod predicates;
+mod reading;
+mod rows;
+mod safe;
+mod sizes;
+mod stores;
+mod tables;
+
+pub use apart::{known_sum, known_sums};
+pub use claims::StackClaim;
+pub use names::{is_same_name, more_of, name_span};
+pub use predicates::{
+    is_live_at, is_missed_by, is_restored_by, is_safe_at, line_at, name_at, stored_word, word_at,
+};
+pub use reading::{
+    address, arcs, begins, exits, form, instruction, is_live, is_restored, is_spared, line, lines,
+    name, name_of, span, span_of, word, word_count,
+};
+pub use safe::{descending, is_given_back, is_name_safe, is_safe};
+pub use sizes::is_stack_sized;
+pub use stores::{
+    MOST_WORDS, arc_at, held_at, is_far, is_missed, is_sparing, is_steady, loaded_to, name_arc,
+    stored_from, word_number,
+};
+pub use tables::{Name, StackTable, Word};

@@ -1,0 +1,78 @@
+//! Whether a table has a row for each node and each function.
+
+ghost use Rattle.std.specs.Prelude.{◌≡◌, true};
+ghost use Rattle.std.specs.List.{All};
+ghost use Rattle.wrapped_intervals.specs.Small.{IsKeptOr};
+ghost use Rattle.stack_tables.specs.Tables.{AreStacksSized, IsRowOf, IsRowOfWords, IsWordKept};
+
+use crate::stores::MOST_WORDS;
+use crate::tables::{StackTable, Word};
+use flow_graph::CodeGraph;
+use value_checks::{are_arcs_kept, are_rows_kept};
+use wrapped_intervals::is_kept;
+
+// Whether the intervals of a word are.
+fn is_word_kept(word: Word) -> bool
+    ensures { result ≡ true → IsWordKept word }
+{
+    is_kept(word.arc) && is_kept(word.span)
+}
+
+// Whether those of a row of words are.
+fn are_words_kept(words: &[Word]) -> bool
+    ensures { result ≡ true → All IsWordKept words.now }
+{
+    for word in words {
+        if !is_word_kept(*word) {
+            return false;
+        }
+    }
+    true
+}
+
+// The same, of no more words than a row may have.
+fn is_row_of_words(words: &[Word]) -> bool
+    ensures { result ≡ true → IsRowOfWords words.now }
+{
+    words.len() <= MOST_WORDS as usize && are_words_kept(words)
+}
+
+// The same of each row.
+fn are_rows_of_words(rows: &[Vec<Word>]) -> bool
+    ensures { result ≡ true → All IsRowOf rows.now }
+{
+    for words in rows {
+        if !is_row_of_words(words) {
+            return false;
+        }
+    }
+    true
+}
+
+// Whether all intervals of a table are kept.
+fn are_all_kept(stack: &StackTable) -> bool
+    ensures spans { result ≡ true → All (All IsKeptOr) stack.now.spans.items }
+    ensures words { result ≡ true → All IsRowOf stack.now.words.items }
+    ensures begins { result ≡ true → All IsKeptOr stack.now.begins.items }
+    ensures place { result ≡ true → IsKeptOr stack.now.place }
+{
+    are_rows_kept(&stack.spans)
+        && are_rows_of_words(&stack.words)
+        && are_arcs_kept(&stack.begins)
+        && is_kept(stack.place)
+}
+
+/// Whether a table has a row for each node and each function of a graph, with intervals that are kept, and rows of at most so many words.
+pub fn is_stack_sized(graph: &CodeGraph, stack: &StackTable) -> bool
+    ensures { result ≡ true → AreStacksSized graph.now.code stack.now }
+{
+    let nodes = graph.node_count();
+    let functions = graph.function_count();
+    stack.names.len() == nodes
+        && stack.spans.len() == nodes
+        && stack.words.len() == nodes
+        && stack.spared.len() == nodes
+        && stack.begins.len() == functions
+        && stack.restored.len() == functions
+        && are_all_kept(stack)
+}

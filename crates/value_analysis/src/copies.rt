@@ -1,0 +1,148 @@
+//! The forms by which a test of a register says something of another one that is a copy of it, or so much more.
+
+ghost use Rattle.std.specs.Prelude.{◌<◌};
+
+use crate::forms::{Forms, difference};
+use crate::program::Program;
+use crate::ways::WayKind;
+use scale_base::{ImmOp, Instr, NoMemory};
+use std::alloc::Global;
+use wrapped_intervals::keeps;
+
+/// How many nodes behind a copy are looked at.
+const MOST_NODES: usize = 48;
+
+/// How many copies are looked at.
+const MOST_COPIES: usize = 65_536;
+
+/// Two registers of which one is so much more than the other.
+#[derive(Clone, Copy)]
+struct Copied {
+    to: u8,
+    from: u8,
+}
+
+// The copy that an instruction makes.
+fn copy_of(i: Instr) -> Option<Copied> {
+    match i {
+        Instr::Imm {
+            op: ImmOp::Addi,
+            rd,
+            rs1,
+            imm: _,
+        } if rd > 2 && rs1 > 2 && rd != rs1 => Some(Copied { to: rd, from: rs1 }),
+        _ => None,
+    }
+}
+
+/// The nodes behind a copy, as they are found, up to how many of them there is a test of the register that is copied, and of the copy.
+#[derive(Drop)]
+struct Behind {
+    nodes: Vec<usize>,
+    tested_from: usize,
+    tested_to: usize,
+}
+
+impl Behind {
+    fn add(&mut self, seen: &mut [usize], k: usize, number: usize) -> Result<(), NoMemory> {
+        if k < seen.len() && seen[k] != number && self.nodes.len() < MOST_NODES {
+            seen[k] = number;
+            self.nodes.push(k)?;
+        }
+        Ok(())
+    }
+
+    // Notes a test at the node of a place.
+    fn note_test(&mut self, i: Instr, copy: Copied, place: usize) {
+        if let Instr::Branch { rs1, rs2, .. } = i {
+            if rs1 == copy.from || rs2 == copy.from {
+                self.tested_from = place.saturating_add(1);
+            }
+            if rs1 == copy.to || rs2 == copy.to {
+                self.tested_to = place.saturating_add(1);
+            }
+        }
+    }
+
+    // Looks at the node of a place.
+    fn look_at(
+        &mut self,
+        program: &Program,
+        seen: &mut [usize],
+        copy: Copied,
+        place: usize,
+        number: usize,
+    ) -> Result<(), NoMemory> {
+        let Some(node) = self.nodes.get(place).and_then(|k| program.node(*k)) else {
+            return Ok(());
+        };
+        self.note_test(node.instr, copy, place);
+        if !keeps(copy.from, node.instr) || !keeps(copy.to, node.instr) {
+            return Ok(());
+        }
+        for w in node.first..node.end {
+            if let Some(way) = program.way(w) {
+                if let WayKind::Step = way.kind {
+                    self.add(seen, way.to, number)?;
+                }
+            }
+        }
+        Ok(())
+    }
+
+    // Looks for a form before the first nodes.
+    fn want(
+        &self,
+        forms: &mut Forms,
+        register: u8,
+        other: u8,
+        count: usize,
+    ) -> Result<(), NoMemory> {
+        if count == 0 {
+            return Ok(());
+        }
+        let j = forms.begin_family(difference(register, other), None)?;
+        for place in 0..count {
+            if let Some(k) = self.nodes.get(place).copied() {
+                let _new = forms.add(j, k)?;
+            }
+        }
+        Ok(())
+    }
+}
+
+// Looks for the forms of a copy at a node.
+fn add_copy(
+    alloc: Global,
+    forms: &mut Forms,
+    program: &Program,
+    seen: &mut [usize],
+    k: usize,
+) -> Result<(), NoMemory> {
+    let Some(copy) = program.node(k).and_then(|node| copy_of(node.instr)) else {
+        return Ok(());
+    };
+    let number = k.saturating_add(1);
+    let mut behind = Behind {
+        nodes: Vec::new(alloc),
+        tested_from: 0,
+        tested_to: 0,
+    };
+    behind.add(seen, k.saturating_add(1), number)?;
+    for place in 0..MOST_NODES {
+        behind.look_at(program, seen, copy, place, number)?;
+    }
+    behind.want(forms, copy.to, copy.from, behind.tested_from)?;
+    behind.want(forms, copy.from, copy.to, behind.tested_to)
+}
+
+/// Looks for the forms of copies.
+pub fn add_copies(alloc: Global, forms: &mut Forms, program: &Program) -> Result<(), NoMemory> {
+    let mut seen = vec![in alloc; 0usize; program.nodes.len()]?;
+    for k in 0..program.nodes.len() {
+        if forms.forms.len() < MOST_COPIES {
+            add_copy(alloc, forms, program, &mut seen, k)?;
+        }
+    }
+    Ok(())
+}

@@ -1,6 +1,0 @@
-use Rattle.std.proofs.Common.{ℕ, ◌<◌}
-use Rattle.value_checks.specs.Certified.{IsEdgeCertified}
-use Rattle.value_checks.proofs.certificates.are_edges_certified.Given as goal
-
-abbrev pub invariant-loop-e : goal.invariant-loop-e
-invariant-loop-e l = (e : ℕ) → e < l.e → IsEdgeCertified l.case e

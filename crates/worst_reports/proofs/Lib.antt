@@ -1,0 +1,5 @@
+pub mod FoundLaws
+pub mod FileFacts
+pub mod ProgramFacts
+pub mod HeldFacts
+pub mod Laws
