@@ -3,9 +3,10 @@
 
     drafts.py [--pace PROGRAM] [--scale PROGRAM] [FOLDER ..]
 
-Each FOLDER has one program in C, FOLDER/NAME.c, with inputs in FOLDER/inputs, FOLDER/samples or FOLDER/commands; without any, the examples are taken. gcc and clang
-build each at -O0, -O1, -O2 and -Os, with branches for switches. A row by compiler and level has how many loops there are, how many of them have a proved
-bound, how many images there are, how many drafts have nothing open, and in how many returns are proved. What isn't built or refused is told.
+Each FOLDER has one program in C, FOLDER/NAME.c, with inputs in FOLDER/inputs, FOLDER/samples or FOLDER/commands; without any, the examples are taken. What a folder
+doesn't have, inputs or a machine, stands beside it, as in bench/programs: ten programs after which nothing was chosen. A folder without a program
+is left out. gcc and clang build each at -O0, -O1, -O2 and -Os, with branches for switches. A row by compiler and level has how many loops there are, how many of
+them have a proved bound, how many images there are, how many drafts have nothing open, and in how many returns are proved. What isn't built or refused is told.
 
 Each draft is filled in where loops are open (1000000000), and each input is run with it by `scale simulate`. Where a run breaks a drafted bound, or a return address
 though returns are proved, that is told, and the status is 1.
@@ -42,8 +43,13 @@ def build(compiler, level, source, out):
     return made.returncode == 0 and run(GCC, *ABI, *LINK, "-o", out, out + ".s").returncode == 0
 
 
+def source_of(folder):
+    return next(iter(glob.glob(folder + "/*.c")), None)
+
+
 def inputs_of(folder):
-    return sorted(glob.glob(folder + "/inputs/*")) + [it for it in (folder + "/samples", folder + "/commands") if os.path.exists(it)]
+    found = glob.glob(folder + "/inputs/*") or glob.glob(folder + "/../inputs/*")
+    return sorted(found) + [it for it in (folder + "/samples", folder + "/commands") if os.path.exists(it)]
 
 
 class Rows:
@@ -68,7 +74,7 @@ class Rows:
             text = re.sub(r"(?m)^# no bound.*$", "bound = 1000000000", file.read())
         with open(draft, "w") as file:
             file.write(text)
-        machine = glob.glob(folder + "/machine.toml")[0]
+        machine = (glob.glob(folder + "/machine.toml") + glob.glob(folder + "/../machine.toml"))[0]
         for given in inputs_of(folder):
             done = run(scale, "simulate", image, machine, given, image + ".out", draft)
             kept = re.search(r"^kept (.*)$", done.stdout, re.M)
@@ -94,8 +100,8 @@ def main():
     with tempfile.TemporaryDirectory(prefix="scale-drafts-") as room:
         for compiler in ("gcc", "clang"):
             for level in LEVELS:
-                for folder in given.folders:
-                    source = glob.glob(folder + "/*.c")[0]
+                for folder in filter(source_of, given.folders):
+                    source = source_of(folder)
                     name, image = f"{os.path.basename(source)} by {compiler} {level}", os.path.join(room, "image")
                     if not build(compiler, level, source, image):
                         rows.tell(f"{name}: not built")

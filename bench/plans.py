@@ -1,13 +1,13 @@
 #!/usr/bin/env python3
 """Draws the plans of all examples and of made programs by `pace draw plan`, and has Graphviz take each: `dot -Tsvg` has to end with status 0.
 
-    plans.py [COUNT]   so many made programs, 200 if none is given
+    plans.py [--programs N] [--pace PROGRAM] [--scale PROGRAM]   N made programs, 200 if none is given
 
 It prints, for each example, how many blocks are drawn and how long `pace` and `dot` take, and at last the greatest times. A program that `hold`
-refuses is named, and isn't drawn. Where Graphviz isn't installed it says so. Run it from anywhere; it builds the programs first where they aren't
-built yet.
+refuses is named, and isn't drawn. Where Graphviz isn't installed it says so.
 """
 
+import argparse
 import os
 import shutil
 import subprocess
@@ -15,11 +15,9 @@ import sys
 import tempfile
 import time
 
-from runs import SCALE, TOP, build
+from runs import TOP
 
-PACE = os.path.join(TOP, "pace")
 EXAMPLES = os.path.join(TOP, "examples")
-COUNT = 200
 # Seconds that `dot` may take.
 LONGEST = 60
 
@@ -34,10 +32,10 @@ def examples():
                 yield files
 
 
-def made(folder, number):
+def made(scale, folder, number):
     """The same of a made program."""
     prefix = os.path.join(folder, "made")
-    subprocess.run([SCALE, "make", str(number), str(5 + number), prefix], check=True, capture_output=True)
+    subprocess.run([scale, "make", str(number), str(5 + number), prefix], check=True, capture_output=True)
     return [prefix + ".elf", prefix + ".machine", prefix + ".loops"]
 
 
@@ -47,10 +45,10 @@ def timed(words):
     return time.perf_counter() - begin, done
 
 
-def draw(folder, name, files):
+def draw(pace, folder, name, files):
     """The times of `pace` and of `dot` on a program; none where it is refused."""
     picture = os.path.join(folder, "plan.dot")
-    took, done = timed([PACE, "draw", "plan", *files, picture])
+    took, done = timed([pace, "draw", "plan", *files, picture])
     if done.returncode != 0:
         print("%-24s %s" % (name, done.stdout.decode().strip()))
         return None
@@ -65,20 +63,23 @@ def main():
     if shutil.which("dot") is None:
         print("plans.py: Graphviz isn't installed")
         return
-    build()
-    count = int(sys.argv[1]) if len(sys.argv) > 1 else COUNT
+    words = argparse.ArgumentParser(description=__doc__, formatter_class=argparse.RawDescriptionHelpFormatter)
+    words.add_argument("--programs", type=int, default=200)
+    words.add_argument("--pace", default=os.path.join(TOP, "pace"))
+    words.add_argument("--scale", default=os.path.join(TOP, "scale"))
+    given = words.parse_args()
     most = [0.0, 0.0]
     with tempfile.TemporaryDirectory() as folder:
         for files in examples():
             name = os.path.basename(files[0])
-            times = draw(folder, name, files)
+            times = draw(given.pace, folder, name, files)
             if times:
                 print("%-24s %s   pace %.2f s   dot %.2f s" % (name, times[2], times[0], times[1]))
-        for number in range(count):
-            times = draw(folder, "made %d" % number, made(folder, number))
+        for number in range(given.programs):
+            times = draw(given.pace, folder, "made %d" % number, made(given.scale, folder, number))
             if times:
                 most = [max(most[0], times[0]), max(most[1], times[1])]
-    print("%d made programs: pace at most %.2f s, dot at most %.2f s" % (count, most[0], most[1]))
+    print("%d made programs: pace at most %.2f s, dot at most %.2f s" % (given.programs, most[0], most[1]))
 
 
 if __name__ == "__main__":
