@@ -17,30 +17,13 @@ import collections
 import glob
 import os
 import re
-import subprocess
 import sys
 import tempfile
 
+from compilers import LEVELS, build, run
 from runs import TOP
 
-ABI = ("-march=rv32im", "-mabi=ilp32")
-CODE = ("-ffreestanding", "-fno-optimize-sibling-calls", "-fno-jump-tables")
-LINK = ("-nostdlib", "-static", "-Wl,-Ttext=0x10000", "-Wl,-Tdata=0x20000", "-Wl,--build-id=none")
-GCC = "riscv64-unknown-elf-gcc"
-LEVELS = ("-O0", "-O1", "-O2", "-Os")
 EXAMPLES = ("filter", "motor", "pid", "modbus", "codec", "median", "sparse", "fsm")
-
-
-def run(*words):
-    return subprocess.run(words, stdout=subprocess.PIPE, stderr=subprocess.PIPE, text=True)
-
-
-def build(compiler, level, source, out):
-    """Whether a program is built."""
-    if compiler == "gcc":
-        return run(GCC, *ABI, level, *CODE, *LINK, "-o", out, source).returncode == 0
-    made = run("clang", "--target=riscv32-unknown-elf", "-fno-addrsig", *ABI, level, *CODE, "-S", "-o", out + ".s", source)
-    return made.returncode == 0 and run(GCC, *ABI, *LINK, "-o", out, out + ".s").returncode == 0
 
 
 def source_of(folder):
@@ -103,7 +86,7 @@ def main():
                 for folder in filter(source_of, given.folders):
                     source = source_of(folder)
                     name, image = f"{os.path.basename(source)} by {compiler} {level}", os.path.join(room, "image")
-                    if not build(compiler, level, source, image):
+                    if not build(compiler, level, source, image, "-fno-jump-tables"):
                         rows.tell(f"{name}: not built")
                         continue
                     drafted = run(given.pace, "loops", image, image + ".toml")

@@ -15,30 +15,13 @@ import glob
 import os
 import random
 import re
-import subprocess
 import sys
 import tempfile
 
+from compilers import LEVELS, build, run
 from runs import TOP
 
-ABI = ("-march=rv32im", "-mabi=ilp32")
-CODE = ("-ffreestanding", "-fno-optimize-sibling-calls")
-LINK = ("-nostdlib", "-static", "-Wl,-Ttext=0x10000", "-Wl,-Tdata=0x20000", "-Wl,--build-id=none")
-GCC = "riscv64-unknown-elf-gcc"
-LEVELS = ("-O0", "-O1", "-O2", "-Os")
 MACHINE = f"{TOP}/examples/fsm/machine.toml"
-
-
-def run(*words):
-    return subprocess.run(words, stdout=subprocess.PIPE, stderr=subprocess.PIPE, text=True)
-
-
-def build(compiler, level, source, out):
-    """Whether a program is built."""
-    if compiler == "gcc":
-        return run(GCC, *ABI, level, *CODE, *LINK, "-o", out, source).returncode == 0
-    made = run("clang", "--target=riscv32-unknown-elf", "-fno-addrsig", *ABI, level, *CODE, "-S", "-o", out + ".s", source)
-    return made.returncode == 0 and run(GCC, *ABI, *LINK, "-o", out, out + ".s").returncode == 0
 
 
 def inputs():
