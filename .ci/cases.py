@@ -1,4 +1,4 @@
-"""Command lines of `scale` and the files that they are run over, from texts whose form `crates/scale_tool/cases/README.md` has."""
+"""Command lines of `scale` or of `pace`, and the files that they are run over, from texts whose form `crates/scale_tool/cases/README.md` has."""
 
 import json
 import os
@@ -8,7 +8,6 @@ import shlex
 import images
 
 TOP = os.path.dirname(os.path.dirname(os.path.abspath(__file__)))
-DATA = os.path.join(TOP, "crates", "scale_tool", "data")
 SHARED = "shared.txt"
 READ_ME = "README.md"
 
@@ -101,10 +100,13 @@ def told(lines):
 
 
 class Shelf:
-    """Files and macros by their names; files are made when they are first asked for. Those of a shelf behind it are seen too."""
+    """Files and macros by their names; files are made when they are first asked for. Those of a shelf behind it are seen too.
 
-    def __init__(self, behind=None):
-        self.behind, self.places, self.lines, self.made, self.used = behind, {}, {}, {}, set()
+    Its folder has the files of cases: beside it stands the crate's `data`.
+    """
+
+    def __init__(self, folder, behind=None):
+        self.folder, self.behind, self.places, self.lines, self.made, self.used = folder, behind, {}, {}, {}, set()
 
     def add(self, name, place, kind, rest):
         """An `image` with its base and lines, a `text`, a `phrase` for a file, or a `macro` with its words and lines."""
@@ -150,7 +152,7 @@ class Shelf:
         holder.used.add(name)
         if name not in holder.made:
             try:
-                holder.made[name] = self.image(name).bytes() if kind == "image" else self.bytes(rest) if kind == "phrase" else rest.encode()
+                holder.made[name] = holder.image(name).bytes() if kind == "image" else holder.bytes(rest) if kind == "phrase" else rest.encode()
             except (Wrong, images.Wrong) as error:
                 raise Wrong("%s: %s" % (holder.places[name], error)) from None
         return holder.made[name]
@@ -160,7 +162,8 @@ class Shelf:
         if phrase == "nothing":
             return b""
         if phrase.startswith('"'):
-            return json.loads(phrase).encode()
+            text, _, more = phrase.partition(" then ")
+            return json.loads(text).encode() + bytes.fromhex(more)
         for form, give in PHRASES:
             found = re.fullmatch(form, phrase)
             if found:
@@ -170,20 +173,21 @@ class Shelf:
     def given(self, word):
         """The bytes of the file that a word of a command line names, if so."""
         name, _, count = word.partition(":")
-        return self.bytes(word) if self.holder(name) and (not count or count.isdigit()) else None
+        if self.holder(word):
+            return self.file(word)
+        return self.file(name)[: int(count)] if self.holder(name) and count.isdigit() else None
 
-
-def data_file(name):
-    """A file of the crate's `data`."""
-    with open(os.path.join(DATA, name), "rb") as file:
-        return file.read()
+    def data(self, name):
+        """A file of the crate's `data`."""
+        with open(os.path.join(os.path.dirname(self.folder), "data", name), "rb") as file:
+            return file.read()
 
 
 # How a file is told by others.
 PHRASES = [
     (r"(\d+) zero bytes", lambda shelf, count: bytes(int(count))),
     (r"(\d+) drawn bytes of (\d+) behind (\d+)", lambda shelf, count, number, before: drawn(int(number), int(before), int(count))),
-    (r"data/(%s)" % NAME, lambda shelf, name: data_file(name)),
+    (r"data/(%s)" % NAME, Shelf.data),
     (r"(%s)" % NAME, Shelf.file),
     (r"(%s):(\d+)" % NAME, lambda shelf, name, count: shelf.file(name)[: int(count)]),
     (r"(%s) with (.+)" % NAME, lambda shelf, name, edits: edited(shelf.file(name).decode(), edits).encode()),
@@ -191,19 +195,51 @@ PHRASES = [
 ]  # fmt: skip
 
 
+class Held:
+    """What a file must hold at the end: the bytes of a phrase, a text of its own lines, certain lines, or a part so often."""
+
+    def __init__(self, kind, rest, lines=(), at=None):
+        """`is` a phrase or `lines`, `has` lines, or `has` a number of times a part; and the place of its own lines."""
+        self.kind, self.rest, self.lines, self.at = kind, rest, lines, at
+
+    def is_free(self):
+        """Whether it may hold anything."""
+        return self.kind == "is" and self.rest == "anything"
+
+    def is_text(self):
+        """Whether its own lines say all that it holds."""
+        return self.kind == "is" and not self.rest
+
+    def bytes(self, shelf):
+        """All that it holds; None where only parts of it are told."""
+        if self.kind == "has" or self.is_free():
+            return None
+        return "".join(line + "\n" for line in self.lines).encode() if self.is_text() else shelf.bytes(self.rest)
+
+    def parts(self):
+        """The parts that it has, each with how often; None for a part that stands there, however often."""
+        found = re.fullmatch(r"(\d+) times (\".*\")", self.rest)
+        return [(json.loads(found[2]).encode(), int(found[1]))] if found else [(line.encode(), None) for line in self.lines]
+
+    def filled(self, letter, number):
+        """The same for a number in place of a letter."""
+        return Held(self.kind, filled(self.rest, letter, number), self.lines)
+
+
 class Case:
     """A command line: its words, the folders and the limit under which it is run, and what must come of it."""
 
-    def __init__(self, place, shelf):
-        self.place, self.shelf, self.folders, self.limit, self.range = place, shelf, [], None, None
-        self.line, self.words, self.output, self.lines, self.status, self.stored = "", [], None, [], None, {}
+    def __init__(self, place, shelf, tool="scale"):
+        self.place, self.shelf, self.tool, self.folders, self.limit, self.range = place, shelf, tool, [], None, None
+        self.line, self.words, self.output, self.lines, self.status, self.stored = "", [], None, [], None, []
+        self.errors, self.at_lines = [], None
 
     def read_words(self, line):
         """The words of `$ scale ..`: `x*3` is three words, `\\xff` one byte, `> NAME` where the text goes."""
         self.line = line.removeprefix("$ ")
         words = shlex.split(self.line.replace("\\", "\\\\"))
-        if words[:1] != ["scale"]:
-            raise Wrong("the words don't begin by `scale`")
+        if words[:1] != [self.tool]:
+            raise Wrong("the words don't begin by `%s`" % self.tool)
         if words[-2:-1] == [">"]:
             self.output, words = words[-1], words[:-2]
         for word in words[1:]:
@@ -219,15 +255,16 @@ class Case:
 
     def at(self, letter, number):
         """The case of a number."""
-        made = Case(self.place, self.shelf)
+        made = Case(self.place, self.shelf, self.tool)
         made.folders, made.limit, made.output, made.lines, made.status = self.folders, self.limit, self.output, self.lines, self.status
-        made.line, made.words = filled(self.line, letter, number), [filled(word, letter, number) for word in self.words]
-        made.stored = {name: filled(phrase, letter, number) for name, phrase in self.stored.items()}
+        made.line, made.words, made.errors = filled(self.line, letter, number), [filled(word, letter, number) for word in self.words], self.errors
+        made.stored = [(name, held.filled(letter, number)) for name, held in self.stored]
         return made
 
     def given(self):
         """The files that its words name."""
-        found = {word: self.shelf.given(word) for word in set(self.words)}
+        names = {os.fsdecode(word) for word in self.arguments()}
+        found = {name: self.shelf.given(name) for name in names}
         return {name: content for name, content in found.items() if content is not None}
 
     def arguments(self):
@@ -238,16 +275,21 @@ class Case:
         """What must be printed."""
         return told(self.lines)
 
+    def error_text(self):
+        """What must be told on standard error; None where it may be anything but nothing."""
+        return None if self.errors == [".."] else told(self.errors)
+
     def kept(self):
-        """What each file must hold at the end that is stored or changed; None where it may hold anything."""
-        return {name: None if phrase == "anything" else self.shelf.bytes(phrase) for name, phrase in self.stored.items()}
+        """What each file must hold at the end that is stored or changed; None where only parts of it are told, or nothing."""
+        return {name: held.bytes(self.shelf) for name, held in self.stored}
 
 
 class Reader:
     """Reads one file of cases."""
 
-    def __init__(self, path, shelf):
-        self.name, self.shelf, self.cases, self.at, self.claims = os.path.relpath(path, TOP), shelf, [], 0, []
+    def __init__(self, path, shelf, tool):
+        self.path, self.name, self.shelf, self.tool = path, os.path.relpath(path, TOP), shelf, tool
+        self.cases, self.at, self.claims = [], 0, []
         with open(path) as file:
             self.lines = file.read().split("\n")
 
@@ -288,8 +330,9 @@ class Reader:
         """One line with what belongs to it; gives the case to which the next line belongs."""
         image = re.fullmatch(r"image (%s)(?: of (%s))?" % (NAME, NAME), line)
         macro = re.fullmatch(r"macro (%s)((?: \w+)*)" % NAME, line)
-        file = re.fullmatch(r"file (%s)(?: = (.+))?" % NAME, line)
+        file = re.fullmatch(r'file (%s|"[^"]+")(?: = (.+))?' % NAME, line)
         claim = re.fullmatch(r"(data/%s) is (.+)" % NAME, line)
+        see = re.fullmatch(r"see (\w+)", line)
         if image:
             lines = self.code()
             unfolded = {line: self.shelf.unfolded(line) for line in set(lines)}
@@ -297,13 +340,15 @@ class Reader:
         elif macro:
             self.shelf.add(macro[1], place, "macro", (macro[2].split(), self.code()))
         elif file and file[2]:
-            self.shelf.add(file[1], place, "phrase", file[2])
+            self.shelf.add(file_name(file[1]), place, "phrase", file[2])
         elif file:
-            self.shelf.add(file[1], place, "text", "".join(part + "\n" for part in repeated(self.body())))
+            self.shelf.add(file_name(file[1]), place, "text", "".join(part + "\n" for part in repeated(self.body())))
         elif claim:
             self.claims.append((place, claim[1], claim[2]))
+        elif see:
+            self.shelf.behind = shared_of(see[1])
         else:
-            return self.read_case(line, case or Case(place, self.shelf))
+            return self.read_case(line, case or Case(place, self.shelf, self.tool))
         return case
 
     def read_case(self, line, case):
@@ -327,36 +372,74 @@ class Reader:
 
     def read_end(self, case):
         """The printed lines, the status, and what is stored."""
+        first = self.at
         while not self.lines[self.at].startswith("=> "):
-            case.lines.append(self.lines[self.at])
+            line = self.lines[self.at]
+            told_in, told_line = (case.errors, line[2:]) if line.startswith("! ") else (case.lines, line)
+            told_in.append(told_line)
             self.at += 1
             if self.at == len(self.lines):
                 raise Wrong("no status follows")
         case.status = int(self.lines[self.at][3:])
         self.at += 1
-        for line in self.body():
-            name, _, phrase = line.partition(" is ")
-            case.stored[name] = phrase
+        case.at_lines = (first, self.at)
+        while self.at < len(self.lines) and self.lines[self.at].startswith("    "):
+            self.read_stored(case)
+
+    def read_stored(self, case):
+        """A line of what a file must hold, with the lines of its text, if so: these are indented twice, or empty."""
+        line = self.lines[self.at]
+        found = re.fullmatch(r"    (\S+) (is|has)(?: (.+))?", line)
+        if not found:
+            raise Wrong("what does it hold? " + line.strip())
+        self.at += 1
+        first = self.at
+        if not found[3]:
+            self.at = self.text_end()
+        lines = [line.removeprefix(8 * " ") for line in self.lines[first : self.at]]
+        if not found[3] and not lines:
+            raise Wrong("no lines follow: " + line.strip())
+        case.stored.append((found[1], Held(found[2], found[3] or "", lines, (first, self.at))))
+
+    def text_end(self):
+        """Where the lines end that are indented twice, with empty ones between them."""
+        end = here = self.at
+        while here < len(self.lines) and (not self.lines[here] or self.lines[here].startswith(8 * " ")):
+            here += 1
+            end = here if self.lines[here - 1] else end
+        return end
 
 
-def read_all(folder):
-    """The cases and claims of a folder's files. What stands there and nothing uses is told when all have been run: see `unused`."""
+def file_name(text):
+    """The name of a file, which may stand in quotes."""
+    return json.loads(text) if text.startswith('"') else text
+
+
+def shared_of(crate):
+    """What the pages of another crate's cases share."""
+    folder = os.path.join(TOP, "crates", crate, "cases")
+    shelf = Shelf(folder)
+    Reader(os.path.join(folder, SHARED), shelf, None).read()
+    return shelf
+
+
+def read_all(folder, tool="scale"):
+    """The cases and claims of a folder's files, and the readers of these. What stands there and nothing uses is told when all have been run: see `unused`."""
     names = sorted(os.listdir(folder))
     others = [name for name in names if not name.endswith(".txt") and name != READ_ME]
     if others:
         raise Wrong("%s: no file of cases" % os.path.join(os.path.relpath(folder, TOP), others[0]))
-    shared, shelves = Shelf(), []
+    shared, readers = Shelf(folder), []
     names = [SHARED] * (SHARED in names) + [name for name in names if name.endswith(".txt") and name != SHARED]
-    cases, claims = [], []
     for name in names:
-        shelf = shared if name == SHARED else Shelf(shared)
-        shelves.append(shelf)
-        found = Reader(os.path.join(folder, name), shelf).read()
-        cases += [each for case in found.cases for each in case.each()]
-        claims += [(place, shelf, data, phrase) for place, data, phrase in found.claims]
-    return cases, claims, shelves
+        shelf = shared if name == SHARED else Shelf(folder, shared)
+        readers.append(Reader(os.path.join(folder, name), shelf, tool).read())
+    cases = [each for reader in readers for case in reader.cases for each in case.each()]
+    claims = [(place, reader.shelf, data, phrase) for reader in readers for place, data, phrase in reader.claims]
+    return cases, claims, readers
 
 
-def unused(shelves):
+def unused(readers):
     """The places of the files that no case asked for."""
+    shelves = [reader.shelf for reader in readers]
     return ["%s: nothing uses %s" % (shelf.places[name], name) for shelf in shelves for name in shelf.lines if name not in shelf.used]

@@ -1,7 +1,8 @@
 #!/usr/bin/env python3
-"""Runs the program `scale` itself on the command lines of `crates/scale_tool/cases`, and compares all that comes of them.
+"""Runs the programs `scale` and `pace` themselves on the command lines of `crates/scale_tool/cases` and `crates/pace_tool/cases`, and compares all that comes of them.
 
-    commands.py PROGRAM ..   these programs; with none, the one that `./scale` builds
+    commands.py TOOL [PROGRAM ..]        these builds of the tool, which is `scale` or `pace`; with none, the one that `./TOOL` builds
+    commands.py write TOOL [PROGRAM]     writes what it prints, and the texts that it stores, into the cases, whose changes a person then reads
 
 Each command line is run in a temporary folder that has the files which it names and no others. What differs is told with its case, and
 the status is then 1; so it is where a case can't be read, or where there is a file that no case uses. `commands_test.py` tests this.
@@ -17,8 +18,7 @@ import tempfile
 import cases
 import images
 
-CASES = os.path.join(cases.TOP, "crates", "scale_tool", "cases")
-BUILT = os.path.join(cases.TOP, "crates", "scale_tool", "out", "scale_tool")
+TOOLS = ["scale", "pace"]
 SECONDS = 60
 # Most differences that are told of one program.
 MOST = 20
@@ -50,6 +50,28 @@ def difference(what, wanted, got):
 def text_difference(what, wanted, got):
     """What is to be told of a text."""
     return "" if wanted == got else "  %s: wanted\n%s  got\n%s" % (what, shown(wanted), shown(got))
+
+
+def lines_difference(name, wanted, got):
+    """What is to be told of a file of lines: those from the first on that differs, up to where both are the same again."""
+    if wanted == got:
+        return ""
+    pair = [content.split(b"\n") for content in (wanted, got)]
+    first = next(k for k in range(max(map(len, pair))) if pair[0][k : k + 1] != pair[1][k : k + 1])
+    while all(len(lines) > first + 1 for lines in pair) and pair[0][-1] == pair[1][-1]:
+        pair = [lines[:-1] for lines in pair]
+    return "".join(["  %s: from line %d on wanted\n" % (name, first + 1), shown(b"\n".join(pair[0][first:])), "  got\n", shown(b"\n".join(pair[1][first:]))])
+
+
+def parts_difference(name, held, got):
+    """What is to be told of a file of which parts are told: those that aren't there, or not so often."""
+    told = ""
+    for part, times in held.parts():
+        if times is not None:
+            told += difference("%s, how often %s" % (name, part.decode()), times, got.count(part))
+        elif part not in got:
+            told += "  %s: this isn't there\n%s" % (name, shown(part))
+    return told
 
 
 def file_difference(name, wanted, got):
@@ -84,30 +106,87 @@ def run(program, folder, words, output=subprocess.PIPE, limit=None):
         raise TooLong("  it ran for more than %d seconds\n" % SECONDS) from None
 
 
+class Run:
+    """What comes of a case: the status, both texts, and the files that are there then."""
+
+    def __init__(self, program, case):
+        with tempfile.TemporaryDirectory(prefix="scale-commands-") as folder:
+            for name in case.folders:
+                os.mkdir(os.path.join(folder, name))
+            for name, content in given(case).items():
+                with open(os.path.join(folder, name), "wb") as file:
+                    file.write(content)
+            if case.output is None:
+                done = run(program, folder, case.arguments(), limit=case.limit)
+            else:
+                with open(os.path.join(folder, case.output), "wb") as output:
+                    done = run(program, folder, case.arguments(), output, case.limit)
+            self.found = files_in(folder)
+        self.status, self.text, self.errors = done.returncode, done.stdout or b"", done.stderr
+
+
+def given(case):
+    """The files that are there before a case is run."""
+    return {name: content for name, content in case.given().items() if name not in case.folders}
+
+
+def stored_difference(shelf, name, held, got):
+    """What is to be told of a file that was stored or changed."""
+    if held.kind == "has":
+        return parts_difference(name, held, got)
+    if held.is_free():
+        return ""
+    return (lines_difference if held.is_text() else file_difference)(name, held.bytes(shelf), got)
+
+
 def check(program, case):
     """Runs a case; gives what differs."""
-    given = {name: content for name, content in case.given().items() if name not in case.folders}
-    wanted = {**dict.fromkeys(case.folders), **given, **case.kept()}
-    free = {name for name, phrase in case.stored.items() if phrase == "anything"}
-    with tempfile.TemporaryDirectory(prefix="scale-commands-") as folder:
-        for name in case.folders:
-            os.mkdir(os.path.join(folder, name))
-        for name, content in given.items():
-            with open(os.path.join(folder, name), "wb") as file:
-                file.write(content)
-        if case.output is None:
-            done = run(program, folder, case.arguments(), limit=case.limit)
-        else:
-            with open(os.path.join(folder, case.output), "wb") as output:
-                done = run(program, folder, case.arguments(), output, case.limit)
-        found = files_in(folder)
-    told = difference("status", case.status, done.returncode)
-    told += text_difference("standard output", case.text(), done.stdout or b"")
-    told += text_difference("standard error", b"", done.stderr)
-    told += difference("files", sorted(set(wanted) - free), sorted(set(found) - free))
-    for name in sorted((set(wanted) & set(found)) - free - set(case.folders)):
-        told += file_difference(name, wanted[name], found[name])
+    done, kept = Run(program, case), case.kept()
+    wanted = {**dict.fromkeys(case.folders), **given(case), **kept}
+    free = {name for name, held in case.stored if held.is_free()}
+    told = difference("status", case.status, done.status)
+    told += text_difference("standard output", case.text(), done.text)
+    if case.error_text() is None:
+        told += "" if done.errors else "  standard error: nothing\n"
+    else:
+        told += text_difference("standard error", case.error_text(), done.errors)
+    told += difference("files", sorted(set(wanted) - free), sorted(set(done.found) - free))
+    for name in sorted((set(wanted) & set(done.found)) - set(kept) - set(case.folders)):
+        told += file_difference(name, wanted[name], done.found[name])
+    for name, held in case.stored:
+        if name in done.found:
+            told += stored_difference(case.shelf, name, held, done.found[name])
     return told
+
+
+def rewritten(program, case, lines):
+    """What stands in the place of lines of a case's file, by where these begin and end: what is printed, the status, and the texts that are stored."""
+    done, changes = Run(program, case), []
+    if (case.status, case.text()) != (done.status, done.text) or case.error_text() not in (None, done.errors):
+        errors = case.errors if case.error_text() is None else done.errors.decode().splitlines()
+        printed = ["! " + line for line in errors] + done.text.decode().splitlines()
+        changes.append((*case.at_lines, [*printed, "=> %d" % done.status]))
+    for name, held in case.stored:
+        if held.is_text() and done.found.get(name, held.bytes(case.shelf)) != held.bytes(case.shelf):
+            stored = done.found[name].decode().removesuffix("\n").split("\n")
+            changes.append((*held.at, [8 * " " + line if line else "" for line in stored]))
+    return changes
+
+
+def write(program, tool, folder=None):
+    """Writes what a program prints and stores into the files of cases, but for cases that stand for several. The number of cases that are changed."""
+    _, _, readers = cases.read_all(folder or cases_of(tool), tool)
+    count = 0
+    for reader in readers:
+        wholes = [case for case in reader.cases if not case.range and not any(".." in line for line in case.lines)]
+        changed = [changes for changes in (rewritten(program, case, reader.lines) for case in wholes) if changes]
+        for start, end, lines in sorted((change for changes in changed for change in changes), reverse=True):
+            reader.lines[start:end] = lines
+        if changed:
+            with open(reader.path, "w") as file:
+                file.write("\n".join(reader.lines))
+        count += len(changed)
+    return count
 
 
 def made(program, line):
@@ -154,14 +233,19 @@ def differences(program, found, alike):
             yield "%s\n%s" % (name, told)
 
 
-def check_all(programs, folder=CASES, alike=ALIKE):
+def cases_of(tool):
+    """The folder of a tool's cases."""
+    return os.path.join(cases.TOP, "crates", tool + "_tool", "cases")
+
+
+def check_all(programs, tool="scale", folder=None, alike=()):
     """The number of command lines that were run, of the cases of a folder and of `make`, and what was wrong."""
-    found, claims, shelves = cases.read_all(folder)
+    found, claims, readers = cases.read_all(folder or cases_of(tool), tool)
     wrong, count = list(claimed(claims)), 0
     with tempfile.TemporaryDirectory(prefix="scale-program-") as copies:
         for number, built in enumerate(programs):
             # A copy of its own, so that it can be run whatever its mode.
-            program = os.path.join(copies, "scale-%d" % number)
+            program = os.path.join(copies, "%s-%d" % (tool, number))
             shutil.copyfile(built, program)
             os.chmod(program, 0o755)
             told = list(differences(program, found, alike))
@@ -170,21 +254,32 @@ def check_all(programs, folder=CASES, alike=ALIKE):
             if len(told) > MOST:
                 wrong.append("%d more differ\n" % (len(told) - MOST))
             count += len(found) + 2 * len(alike)
-    wrong += ["%s\n" % line for line in cases.unused(shelves)]
+    wrong += ["%s\n" % line for line in cases.unused(readers)]
     return count, wrong
 
 
+def build(tool):
+    """The program that the repository's own command builds."""
+    subprocess.run([os.path.join(cases.TOP, tool), "help" if tool == "scale" else "--help"], stdout=subprocess.DEVNULL, check=True)
+    return os.path.join(cases.TOP, "crates", tool + "_tool", "out", tool + "_tool")
+
+
 def main():
-    programs = sys.argv[1:]
-    if not programs:
-        subprocess.run([os.path.join(cases.TOP, "scale"), "help"], stdout=subprocess.DEVNULL, check=True)
-        programs = [BUILT]
+    words = sys.argv[1:]
+    is_write = words[:1] == ["write"]
+    tool, *programs = words[is_write:] or [""]
+    if tool not in TOOLS or (is_write and len(programs) > 1):
+        sys.exit(__doc__.split("\n\n")[1])
+    programs = [os.path.abspath(program) for program in programs] or [build(tool)]
     try:
-        count, wrong = check_all(programs)
-    except (cases.Wrong, images.Wrong) as error:
+        if is_write:
+            print("%d cases changed" % write(programs[0], tool))
+            return 0
+        count, wrong = check_all(programs, tool, alike=ALIKE if tool == "scale" else ())
+    except (cases.Wrong, images.Wrong, TooLong) as error:
         sys.exit("%s" % error)
     sys.stdout.write("".join(wrong))
-    print("%d command lines%s" % (count, ", and not all as expected" if wrong else " as expected"))
+    print("%d command lines of %s%s" % (count, tool, ", and not all as expected" if wrong else " as expected"))
     return 1 if wrong else 0
 
 

@@ -1,12 +1,10 @@
-//! Images that are chosen of proposals.
+//! Images that are chosen of proposals. Rows of whole fittings are data, `fit.txt` of the second program's `cases`.
 
 use crate::fixtures::*;
-use pace_fit::{Ending, Fitted, Prepared, choose, prepare};
+use pace_fit::{Fitted, choose, prepare};
 use paced_images::{Proposal, SwitchSite};
-use scale_base::{EdgeKind, Stop};
-use scale_report::{EndWords, KeptWords};
-use std::alloc::{AllocError, Global};
-use std::fmt::Write;
+use scale_base::EdgeKind;
+use std::alloc::Global;
 use std::process::Abort;
 use std::test::Fail;
 use switch_search::propose;
@@ -46,17 +44,6 @@ fn proposals_of(alloc: Global, sites: &[SwitchSite]) -> Result<Vec<Proposal>, Fa
     Ok(proposals)
 }
 
-/// What is known before the choice, of files that the program would load.
-fn prepared(alloc: Global, files: &Files<'_>, inputs: &[Vec<u8>]) -> Result<Prepared, Stop> {
-    let image = files.image.as_slice();
-    let machine = files.machine.as_bytes();
-    let loops = files.loops.as_bytes();
-    if image.len() > 4_194_304 || machine.len() > 1_048_576 || loops.len() > 1_048_576 {
-        return Err(Stop::Memory);
-    }
-    prepare(alloc, image, machine, loops, inputs)
-}
-
 /// What is chosen of files that the program would load.
 fn chosen(
     alloc: Global,
@@ -80,15 +67,6 @@ fn chosen(
         Err(_) => Err(Fail::from("files that are refused")),
     }
 }
-
-const SKIPPING: Program = Program {
-    words: &SKIP_FOURTEEN,
-    machine: Machine {
-        deadline: 502,
-        ..MACHINE
-    },
-    loops: NO_LOOPS,
-};
 
 /// Of `SKIP_FOURTEEN`, with proposals of a site each.
 fn fitted_of(
@@ -153,112 +131,6 @@ fn the_first_of_the_cheapest_and_without_inputs_the_first_that_is_built(
     for (sizes, sites, candidate, energies) in &CHOICES {
         let choice = fitted(rt.alloc(), sizes, sites)?;
         check_choice(&rt, &choice, *candidate, sizes.len(), energies);
-    }
-    Ok(())
-}
-
-/// How a run ended, whether it was kept, and whether it counts.
-fn push_ending(text: &mut String, ending: &Ending, counts: Option<bool>) -> Result<(), AllocError> {
-    let end = EndWords(ending.end);
-    let kept = KeptWords(ending.kept);
-    let not = if counts == Some(true) { "" } else { "not " };
-    write!(text, "{end}, {kept}, {not}counted\n")
-}
-
-fn prepared_text(alloc: Global, prepared: &Prepared) -> Result<String, Fail> {
-    let mut text = String::new(alloc);
-    for (k, ending) in prepared.endings.iter().enumerate() {
-        push_ending(&mut text, ending, prepared.flags.get(k).copied())?;
-    }
-    Ok(text)
-}
-
-/// A line for each input, or why the program is refused.
-fn endings_or_refusal(
-    alloc: Global,
-    files: &Files<'_>,
-    inputs: &[Vec<u8>],
-) -> Result<String, Fail> {
-    match prepared(alloc, files, inputs) {
-        Ok(prepared) => prepared_text(alloc, &prepared),
-        Err(stop) => stop_text(alloc, &stop),
-    }
-}
-
-fn endings_of(alloc: Global, program: &Program, sizes: &[usize]) -> Result<String, Fail> {
-    let files = files_of(alloc, program)?;
-    let inputs = inputs_of(alloc, sizes)?;
-    endings_or_refusal(alloc, &files, &inputs)
-}
-
-/// Inputs that count, and inputs that don't: their runs trap, are out of steps, or break the bound of the loop. And a program without the time for its worst case.
-static ENDINGS: [(Program, &[usize], &str); 5] = [
-    (
-        Program {
-            words: &READ_ONE,
-            machine: Machine {
-                steps: 1000,
-                ..MACHINE
-            },
-            loops: NO_LOOPS,
-        },
-        &[0],
-        "exit 0, yes, counted\n",
-    ),
-    (
-        Program {
-            words: &READ_ONE,
-            machine: Machine {
-                steps: 4,
-                ..MACHINE
-            },
-            loops: NO_LOOPS,
-        },
-        &[0, 1],
-        "steps, yes, not counted\nsteps, yes, not counted\n",
-    ),
-    (
-        Program {
-            words: &BREAK,
-            machine: Machine {
-                steps: 1000,
-                ..MACHINE
-            },
-            loops: NO_LOOPS,
-        },
-        &[0],
-        "trap breakpoint 0x00010004, yes, not counted\n",
-    ),
-    (
-        Program {
-            words: &READ_ALL,
-            machine: Machine {
-                steps: 1000,
-                ..MACHINE
-            },
-            loops: READ_LOOP,
-        },
-        &[3, 11],
-        "exit 0, yes, counted\nexit 0, no bound 1 11, not counted\n",
-    ),
-    (
-        Program {
-            words: &SKIP_FOURTEEN,
-            machine: Machine {
-                deadline: 232,
-                ..MACHINE
-            },
-            loops: NO_LOOPS,
-        },
-        &[0],
-        "refused 41 deadline missed: need 247 have 232\n",
-    ),
-];
-
-#[test]
-fn the_original_runs_once_on_each_input(rt: HostRuntime) -> Result<(), Fail> {
-    for (k, (program, sizes, expected)) in ENDINGS.iter().enumerate() {
-        expect_text(&rt, k, endings_of(rt.alloc(), program, sizes), expected)?;
     }
     Ok(())
 }

@@ -1,10 +1,9 @@
-//! Programs, their files and the texts of what is refused of them, for tests of several crates.
+//! Programs and their files, for tests of several crates.
 
 ghost use Rattle.std.specs.Prelude.{◌≡◌, ◌≤◌, true, length};
 ghost use Rattle.std.specs.List.{All};
 
 use scale_base::{Stop, Summary};
-use scale_report::refusal_text;
 use scaler::rewrite;
 use std::alloc::Global;
 use std::process::Abort;
@@ -21,9 +20,6 @@ pub const READ_ALL: [u32; 8] = [
     0x00010593, 0x00100613, 0x03F00893, 0x00000513, 0x00000073, 0xFE051AE3, 0x05D00893, 0x00000073,
 ];
 
-/// A branch to the word behind it, and an exit.
-pub const BRANCH_NOWHERE: [u32; 3] = [0x00000263, 0x05D00893, 0x00000073];
-
 /// Passes over fourteen of twenty-four divisions, by the branch at 0x10000.
 pub const SKIP_FOURTEEN: [u32; 27] = [
     0x02050E63, 0x0262C2B3, 0x0262C2B3, 0x0262C2B3, 0x0262C2B3, 0x0262C2B3, 0x0262C2B3, 0x0262C2B3,
@@ -31,9 +27,6 @@ pub const SKIP_FOURTEEN: [u32; 27] = [
     0x0262C2B3, 0x0262C2B3, 0x0262C2B3, 0x0262C2B3, 0x0262C2B3, 0x0262C2B3, 0x0262C2B3, 0x0262C2B3,
     0x0262C2B3, 0x05D00893, 0x00000073,
 ];
-
-/// addi x10,x0,-1; ebreak.
-pub const BREAK: [u32; 2] = [0xFFF00513, 0x00100073];
 
 /// The stub of the branch of `READ_ONE`, at 0x11000: a Switch where it is taken.
 pub const SWITCHED: [u32; 14] = [
@@ -47,59 +40,41 @@ pub const NO_LOOPS: &str = "version = 1\n";
 pub const READ_LOOP: &str =
     "version = 1\n[[loop]]\nheader = 0x10008\nranges = [[0x10008, 0x10018]]\nbound = 10\ncounted = true\n";
 
-/// The lines of a machine file of which tests have several. A change of level takes 10 time units.
-#[derive(Clone, Copy)]
-pub struct Machine {
-    pub deadline: u32,
-    pub steps: u32,
-    pub min_gain: u32,
-    pub switch_energy: u32,
-    pub costs: &'static str,
-    pub levels: &'static str,
+/// What stands in a machine file behind its deadline: a machine of three levels, on which a change of level takes 10 time units.
+const COSTS_AND_LEVELS: &str =
+    "steps = 1000000\nmin_gain = 20\nswitch_time = 10\nswitch_energy = 20\n[cost]\nalu = 1\nload = 2\nstore = 1\ntaken = 2\nuntaken = 1\njump = 2\nmul = 3\ndiv = 10\necall = 5\nfence = 1\n[[level]]\nperiod = 4\nenergy = 1\n[[level]]\nperiod = 2\nenergy = 3\n[[level]]\nperiod = 1\nenergy = 8\n";
+
+/// The machine file of a deadline.
+fn machine_text(alloc: Global, deadline: u32) -> Result<String, Fail> {
+    Ok(format!(in alloc; "version = 1\ndeadline = {deadline}\n{COSTS_AND_LEVELS}")?)
 }
 
-const COSTS: &str =
-    "alu = 1\nload = 2\nstore = 1\ntaken = 2\nuntaken = 1\njump = 2\nmul = 3\ndiv = 10\necall = 5\nfence = 1\n";
-
-pub const ONE_LEVEL: &str = "[[level]]\nperiod = 4\nenergy = 1\n";
-
-const THREE_LEVELS: &str =
-    "[[level]]\nperiod = 4\nenergy = 1\n[[level]]\nperiod = 2\nenergy = 3\n[[level]]\nperiod = 1\nenergy = 8\n";
-
-/// A machine of three levels.
-pub const MACHINE: Machine = Machine {
-    deadline: 500,
-    steps: 1_000_000,
-    min_gain: 20,
-    switch_energy: 20,
-    costs: COSTS,
-    levels: THREE_LEVELS,
-};
-
-impl Machine {
-    /// The machine file.
-    pub fn text(&self, alloc: Global) -> Result<String, Fail> {
-        let Machine {
-            deadline,
-            steps,
-            min_gain,
-            switch_energy,
-            costs,
-            levels,
-        } = *self;
-        Ok(format!(in alloc;
-            "version = 1\ndeadline = {deadline}\nsteps = {steps}\nmin_gain = {min_gain}\nswitch_time = 10\nswitch_energy = {switch_energy}\n\n[cost]\n{costs}\n{levels}"
-        )?)
-    }
-}
-
-/// A program, its machine and its loops.
+/// A program, the deadline of its machine, and its loops.
 #[derive(Clone, Copy)]
 pub struct Program {
     pub words: &'static [u32],
-    pub machine: Machine,
+    pub deadline: u32,
     pub loops: &'static str,
 }
+
+/// `READ_ONE`, with time for one level and for a switch.
+pub const ONE: Program = Program {
+    words: &READ_ONE,
+    deadline: 160,
+    loops: NO_LOOPS,
+};
+
+pub const ALL: Program = Program {
+    words: &READ_ALL,
+    deadline: 500,
+    loops: READ_LOOP,
+};
+
+pub const SKIPPING: Program = Program {
+    words: &SKIP_FOURTEEN,
+    deadline: 502,
+    loops: NO_LOOPS,
+};
 
 /// The files of a program.
 #[derive(Drop)]
@@ -109,24 +84,14 @@ pub struct Files<'a> {
     pub loops: &'a str,
 }
 
-/// The files of an image that is made already.
-pub fn files_around<'a>(
-    alloc: Global,
-    image: Vec<u8>,
-    machine: &Machine,
-    loops: &'a str,
-) -> Result<Files<'a>, Fail> {
-    let machine = machine.text(alloc)?;
+pub fn files_of(alloc: Global, program: &Program) -> Result<Files<'static>, Fail> {
+    let image = plain_image(alloc, program.words)?;
+    let machine = machine_text(alloc, program.deadline)?;
     Ok(Files {
         image,
         machine,
-        loops,
+        loops: program.loops,
     })
-}
-
-pub fn files_of(alloc: Global, program: &Program) -> Result<Files<'static>, Fail> {
-    let image = plain_image(alloc, program.words)?;
-    files_around(alloc, image, &program.machine, program.loops)
 }
 
 /// A file of one segment of words at 0x10000.
@@ -192,26 +157,6 @@ pub fn stored(alloc: Global, files: &Files<'_>) -> Result<Vec<u8>, Fail> {
     match rewritten(alloc, files) {
         Ok((bytes, _)) => Ok(bytes),
         Err(_) => Err(Fail::from("files that are refused")),
-    }
-}
-
-/// The same of a program.
-pub fn stored_of(alloc: Global, program: &Program) -> Result<Vec<u8>, Fail> {
-    let files = files_of(alloc, program)?;
-    stored(alloc, &files)
-}
-
-/// The files of a machine and of what is stored of a program.
-pub fn files_again(alloc: Global, program: &Program) -> Result<Files<'static>, Fail> {
-    let image = stored_of(alloc, program)?;
-    files_around(alloc, image, &program.machine, program.loops)
-}
-
-/// The line that the program prints of a refusal.
-pub fn stop_text(alloc: Global, stop: &Stop) -> Result<String, Fail> {
-    match stop {
-        Stop::Refused(refusal) => Ok(refusal_text(alloc, refusal)?),
-        Stop::Memory => Err(Fail::from("memory")),
     }
 }
 

@@ -131,34 +131,25 @@ const NEXT: SwitchSite = SwitchSite {
 
 const STRAIGHT_IN_500: Program = Program {
     words: &STRAIGHT,
-    machine: MACHINE,
+    deadline: 500,
     loops: NO_LOOPS,
 };
 
 const STRAIGHT_IN_368: Program = Program {
     words: &STRAIGHT,
-    machine: Machine {
-        deadline: 368,
-        ..MACHINE
-    },
+    deadline: 368,
     loops: NO_LOOPS,
 };
 
 const STRAIGHT_IN_367: Program = Program {
     words: &STRAIGHT,
-    machine: Machine {
-        deadline: 367,
-        ..MACHINE
-    },
+    deadline: 367,
     loops: NO_LOOPS,
 };
 
 const TURNS_IN_1200: Program = Program {
     words: &TURNS,
-    machine: Machine {
-        deadline: 1200,
-        ..MACHINE
-    },
+    deadline: 1200,
     loops: TURNS_LOOP,
 };
 
@@ -291,7 +282,7 @@ fn checked_summary(
             check_words(rt, row, &bytes);
             Ok(summary_text(alloc, &summary)?)
         }
-        Err(stop) => stop_text(alloc, &stop),
+        Err(_) => Err("a refusal".into()),
     }
 }
 
@@ -312,7 +303,7 @@ fn lowers_the_level_behind_a_jump_and_from_a_turn_on(rt: HostRuntime) -> Result<
 fn rewritten_summary(alloc: Global, files: &Files<'_>) -> Result<String, Fail> {
     match rewritten(alloc, files) {
         Ok((_, summary)) => Ok(summary_text(alloc, &summary)?),
-        Err(stop) => stop_text(alloc, &stop),
+        Err(_) => Err("a refusal".into()),
     }
 }
 
@@ -326,10 +317,7 @@ fn a_straight_program_has_no_edge_to_rewrite(rt: HostRuntime) -> Result<(), Fail
 /// Here jobs start at the fastest level, so that no level is above the start.
 const ONE_IN_79: Program = Program {
     words: &READ_ONE,
-    machine: Machine {
-        deadline: 79,
-        ..MACHINE
-    },
+    deadline: 79,
     loops: NO_LOOPS,
 };
 
@@ -345,7 +333,7 @@ fn summary_beside(
             assert!(rt; bytes.as_slice() == stored);
             Ok(summary_text(alloc, &summary)?)
         }
-        Err(stop) => stop_text(alloc, &stop),
+        Err(_) => Err("a refusal".into()),
     }
 }
 
@@ -373,10 +361,7 @@ static USEFUL: [(Program, Marks, usize, usize); 8] = [
     (
         Program {
             words: &STRAIGHT,
-            machine: Machine {
-                deadline: 330,
-                ..MACHINE
-            },
+            deadline: 330,
             loops: NO_LOOPS,
         },
         AT_JUMPS,
@@ -391,10 +376,7 @@ static USEFUL: [(Program, Marks, usize, usize); 8] = [
     (
         Program {
             words: &TURNS,
-            machine: Machine {
-                deadline: 1058,
-                ..MACHINE
-            },
+            deadline: 1058,
             loops: TURNS_LOOP,
         },
         TALLIED,
@@ -404,10 +386,7 @@ static USEFUL: [(Program, Marks, usize, usize); 8] = [
     (
         Program {
             words: &TURNS,
-            machine: Machine {
-                deadline: 1057,
-                ..MACHINE
-            },
+            deadline: 1057,
             loops: TURNS_LOOP,
         },
         TALLIED,
@@ -418,10 +397,7 @@ static USEFUL: [(Program, Marks, usize, usize); 8] = [
     (
         Program {
             words: &TURNS,
-            machine: Machine {
-                deadline: 1868,
-                ..MACHINE
-            },
+            deadline: 1868,
             loops: TURNS_LOOP,
         },
         TALLIED,
@@ -517,7 +493,7 @@ fn run_of(alloc: Global, files: &Files<'_>) -> Result<String, Fail> {
     let image = paced_bytes(alloc, files, &TALLIED)?;
     match simulate(alloc, &image, files.machine.as_bytes(), &[], None) {
         Ok(report) => Ok(run_text(alloc, &report)?),
-        Err(stop) => stop_text(alloc, &stop),
+        Err(_) => Err("a refusal".into()),
     }
 }
 

@@ -1,4 +1,4 @@
-//! What is found in the stubs of images of other make.
+//! What is found in the stubs of images of other make. What isn't in its form is data, `check-scanned.txt` of the first program's `cases`.
 
 ghost use Rattle.std.specs.Prelude.{◌≤◌, ℕ, Bool};
 ghost use Rattle.code_text.specs.Text.{text_of};
@@ -15,8 +15,6 @@ use foreign_scan::{ForeignFragment, ForeignSites, Scanned, scan};
 use loop_file::{LoopNotes, read_loops};
 use loop_forest::LoopTree;
 use loop_tree::build_loops;
-use scale_base::Verdict;
-use scale_report::verdict_text;
 use std::alloc::{AllocError, Global};
 use std::fmt::Write;
 use std::process::Abort;
@@ -24,61 +22,44 @@ use std::test::Fail;
 
 const DATA: u32 = 0x12345678;
 
-/// A file in parts: its entry, the words of its text at 0x10000, and one word of data at 0x20000.
-#[derive(Clone, Copy)]
-struct Parts<'a> {
-    entry: u32,
-    text: &'a [u32],
-    data: u32,
-    flags: u32,
-}
-
-fn with_text(text: &[u32]) -> Parts<'_> {
-    Parts {
-        entry: 0x10000,
-        text,
-        data: DATA,
-        flags: 4,
-    }
-}
-
 fn length_of(words: &[u32]) -> u32
     ensures { result ≤ 252 }
 {
     (4 * (words.len() % 64)) as u32
 }
 
-fn original(alloc: Global, parts: &Parts<'_>) -> Result<Vec<u8>, Fail> {
-    let text = length_of(parts.text);
+/// A file of the words of a text at 0x10000, and one word of data at 0x20000.
+fn original(alloc: Global, text: &[u32]) -> Result<Vec<u8>, Fail> {
+    let bytes = length_of(text);
     let mut file = file_head(
         alloc,
-        parts.entry,
+        0x10000,
         &[
-            [1, 116, 0x10000, 0, text, text, 5, 4],
-            [1, 116 + text, 0x20000, 0, 4, 8, parts.flags, 4],
+            [1, 116, 0x10000, 0, bytes, bytes, 5, 4],
+            [1, 116 + bytes, 0x20000, 0, 4, 8, 4, 4],
         ],
     )?;
-    push_words(&mut file, parts.text)?;
-    push_words(&mut file, &[parts.data])?;
+    push_words(&mut file, text)?;
+    push_words(&mut file, &[DATA])?;
     Ok(file)
 }
 
 /// The same with so many bytes of the words in the keyed segment, at 0x11000, which starts at level 1.
-fn foreign(alloc: Global, parts: &Parts<'_>, key: &[u32], len: u32) -> Result<Vec<u8>, Fail> {
-    let text = length_of(parts.text);
-    let behind = 148 + text + length_of(key);
+fn foreign(alloc: Global, text: &[u32], key: &[u32], len: u32) -> Result<Vec<u8>, Fail> {
+    let bytes = length_of(text);
+    let behind = 148 + bytes + length_of(key);
     let mut file = file_head(
         alloc,
-        parts.entry,
+        0x10000,
         &[
-            [1, 148, 0x10000, 0, text, text, 5, 4],
-            [1, 148 + text, 0x11000, 1, len, len, 0x00100005, 4],
-            [1, behind, 0x20000, 0, 4, 8, parts.flags, 4],
+            [1, 148, 0x10000, 0, bytes, bytes, 5, 4],
+            [1, 148 + bytes, 0x11000, 1, len, len, 0x00100005, 4],
+            [1, behind, 0x20000, 0, 4, 8, 4, 4],
         ],
     )?;
-    push_words(&mut file, parts.text)?;
+    push_words(&mut file, text)?;
     push_words(&mut file, key)?;
-    push_words(&mut file, &[parts.data])?;
+    push_words(&mut file, &[DATA])?;
     Ok(file)
 }
 
@@ -124,7 +105,7 @@ fn sites_text(alloc: Global, sites: &ForeignSites) -> Result<String, Fail> {
 fn scanned_text(alloc: Global, scanned: &Scanned) -> Result<String, Fail> {
     match scanned {
         Scanned::Found(sites) => sites_text(alloc, sites),
-        Scanned::Fails(why) => Ok(verdict_text(alloc, &Verdict::No(*why))?),
+        Scanned::Fails(_) => Err("a cause".into()),
     }
 }
 
@@ -156,7 +137,7 @@ fn graph_scan(
 {
     match build_loops(alloc, graph, notes) {
         Ok(tree) => tree_scan(alloc, view, foreign, graph, &tree),
-        Err(stop) => stop_text(alloc, &stop),
+        Err(_) => Err("a refusal".into()),
     }
 }
 
@@ -168,7 +149,7 @@ fn notes_scan(
 ) -> Result<String, Fail> {
     match build_graph(alloc, view) {
         Ok(graph) => graph_scan(alloc, view, foreign, &graph, notes),
-        Err(stop) => stop_text(alloc, &stop),
+        Err(_) => Err("a refusal".into()),
     }
 }
 
@@ -181,7 +162,7 @@ fn scan_text(
 ) -> Result<String, Fail> {
     match read_loops(alloc, loops.as_bytes(), view) {
         Ok(notes) => notes_scan(alloc, view, foreign, &notes),
-        Err(stop) => stop_text(alloc, &stop),
+        Err(_) => Err("a refusal".into()),
     }
 }
 
@@ -194,20 +175,20 @@ fn view_scan(
 ) -> Result<String, Fail> {
     match read_image(alloc, other) {
         Ok(foreign) => scan_text(alloc, view, &foreign, loops),
-        Err(stop) => stop_text(alloc, &stop),
+        Err(_) => Err("a refusal".into()),
     }
 }
 
 fn file_scan(alloc: Global, file: &[u8], loops: &str, other: &[u8]) -> Result<String, Fail> {
     match read_image(alloc, file) {
         Ok(view) => view_scan(alloc, &view, loops, other),
-        Err(stop) => stop_text(alloc, &stop),
+        Err(_) => Err("a refusal".into()),
     }
 }
 
 /// The same of the words of a program.
 fn scanned(alloc: Global, program: &[u32], loops: &str, other: &[u8]) -> Result<String, Fail> {
-    let file = original(alloc, &with_text(program))?;
+    let file = original(alloc, program)?;
     file_scan(alloc, &file, loops, other)
 }
 
@@ -223,7 +204,7 @@ struct Scan {
 }
 
 fn scan_of(alloc: Global, row: &Scan) -> Result<String, Fail> {
-    let file = foreign(alloc, &with_text(row.text), row.key, row.len)?;
+    let file = foreign(alloc, row.text, row.key, row.len)?;
     scanned(alloc, row.program, row.loops, &file)
 }
 
@@ -307,150 +288,6 @@ fn finds_the_fragments_of_a_branch(rt: HostRuntime) -> Result<(), Fail> {
     check_scans(&rt, rt.alloc(), &FOUND)
 }
 
-#[test]
-fn an_image_without_a_key(rt: HostRuntime) -> Result<(), Fail> {
-    let file = original(rt.alloc(), &with_text(&READ_ONE))?;
-    let found = scanned(rt.alloc(), &READ_ONE, NO_LOOPS, &file);
-    expect_text(&rt, 0, found, "check no key missing\n")
-}
-
-/// One word more.
-const LONGER: [u32; 14] = [
-    0x03F00893, 0x00010593, 0x00100613, 0x00000073, 0x7F10006F, 0x0262C2B3, 0x0262C2B3, 0x0262C2B3,
-    0x0262C2B3, 0x0262C2B3, 0x0262C2B3, 0x05D00893, 0x00000073, 0x00000073,
-];
-
-/// Another layout, and the least other byte.
-static ODD_PARTS: [(Parts<'_>, &str); 6] = [
-    (
-        Parts {
-            entry: 0x10004,
-            text: &SKIPS,
-            data: DATA,
-            flags: 4,
-        },
-        "check no layout\n",
-    ),
-    (
-        Parts {
-            entry: 0x10000,
-            text: &SKIPS,
-            data: DATA,
-            flags: 6,
-        },
-        "check no layout\n",
-    ),
-    (
-        Parts {
-            entry: 0x10000,
-            text: &LONGER,
-            data: DATA,
-            flags: 4,
-        },
-        "check no layout\n",
-    ),
-    (
-        Parts {
-            entry: 0x10000,
-            text: &SKIPS,
-            data: DATA ^ 1,
-            flags: 4,
-        },
-        "check no byte 0x00020000\n",
-    ),
-    (
-        Parts {
-            entry: 0x10000,
-            text: &SKIPS,
-            data: DATA ^ 0x01000000,
-            flags: 4,
-        },
-        "check no byte 0x00020003\n",
-    ),
-    (
-        Parts {
-            entry: 0x10000,
-            text: &SKIPS,
-            data: DATA ^ 0x00010100,
-            flags: 4,
-        },
-        "check no byte 0x00020001\n",
-    ),
-];
-
-/// What a scan finds in `READ_ONE` with other parts.
-fn scan_of_parts(alloc: Global, parts: &Parts<'_>) -> Result<String, Fail> {
-    let file = foreign(alloc, parts, &SWITCHED, 56)?;
-    scanned(alloc, &READ_ONE, NO_LOOPS, &file)
-}
-
-#[test]
-fn another_layout_and_the_least_other_byte(rt: HostRuntime) -> Result<(), Fail> {
-    for (k, (parts, expected)) in ODD_PARTS.iter().enumerate() {
-        expect_text(&rt, k, scan_of_parts(rt.alloc(), parts), expected)?;
-    }
-    Ok(())
-}
-
-/// Two words of the text that are written, and the least that is no patch.
-static PATCHES: [(usize, u32, usize, u32, &str); 9] = [
-    (0, 0x13, 0, 0x13, "check no patch 0x00010000\n"),
-    (12, 0x13, 12, 0x13, "check no patch 0x00010030\n"),
-    (4, 0x00050C63, 4, 0x00050C63, "check no patch 0x00010010\n"),
-    (4, 0x7F1000EF, 4, 0x7F1000EF, "check no patch 0x00010010\n"),
-    (4, 0x7F30006F, 4, 0x7F30006F, "check no patch 0x00010010\n"),
-    (4, 0x0000006F, 4, 0x0000006F, "check no patch 0x00010010\n"),
-    (4, 0x0280106F, 4, 0x0280106F, "check no patch 0x00010010\n"),
-    (
-        11,
-        0x7F10006F,
-        11,
-        0x7F10006F,
-        "check no patch 0x0001002c\n",
-    ),
-    (2, 0x13, 5, 0x13, "check no patch 0x00010008\n"),
-];
-
-/// The patched text with two words that are written.
-fn written(k: usize, first: u32, l: usize, second: u32) -> [u32; 13] {
-    let mut text = SKIPS;
-    if k < 13 && l < 13 {
-        text[k] = first;
-        text[l] = second;
-    }
-    text
-}
-
-fn scan_of_written(
-    alloc: Global,
-    (k, first): (usize, u32),
-    (l, second): (usize, u32),
-) -> Result<String, Fail> {
-    let text = written(k, first, l, second);
-    scan_of_parts(alloc, &with_text(&text))
-}
-
-#[test]
-fn the_least_word_that_is_no_patch(rt: HostRuntime) -> Result<(), Fail> {
-    for (row, (k, first, l, second, expected)) in PATCHES.iter().enumerate() {
-        let found = scan_of_written(rt.alloc(), (*k, *first), (*l, *second));
-        expect_text(&rt, row, found, expected)?;
-    }
-    Ok(())
-}
-
-/// The stub of the branch of `READ_ONE` with an odd word.
-const ODD: [u32; 14] = [
-    0x00050463, 0x810FF06F, 0x80502023, 0x80602223, 0xFFC02283, 0x00229293, 0x00000337, 0x10030313,
-    0x00535333, 0x00F37313, 0xFE602E23, 0x80402303, 0x00000013, 0xFF9FE06F,
-];
-
-/// `READ_ONE` with a patch to the key's last word, of which the key's end cuts two bytes.
-const CUT: [u32; 13] = [
-    0x03F00893, 0x00010593, 0x00100613, 0x00000073, 0x0240106F, 0x0262C2B3, 0x0262C2B3, 0x0262C2B3,
-    0x0262C2B3, 0x0262C2B3, 0x0262C2B3, 0x05D00893, 0x00000073,
-];
-
 /// The stub of the loop's branch, shifted by one: there are rows 0 to 5.
 const SHIFTED: [u32; 35] = [
     0x04051463, 0x80502023, 0x80602223, 0x80802283, 0x0012D293, 0x00229293, 0x00011337, 0x006282B3,
@@ -469,32 +306,8 @@ const OTHER: [u32; 35] = [
     0x00000000, 0x00000000, 0x00000000,
 ];
 
-/// A stub that is not in its form, and tables whose rows aren't all in the key: up to the bound of the loop that is counted first, one row where nothing counts.
-static ROWS: [Scan; 12] = [
-    Scan {
-        program: &READ_ONE,
-        loops: NO_LOOPS,
-        text: &SKIPS,
-        key: &ODD,
-        len: 56,
-        found: "check no stub 0x00010010\n",
-    },
-    Scan {
-        program: &READ_ONE,
-        loops: NO_LOOPS,
-        text: &CUT,
-        key: &SWITCHED,
-        len: 54,
-        found: "check no stub 0x00010010\n",
-    },
-    Scan {
-        program: &READ_ALL,
-        loops: READ_LOOP,
-        text: &LOOPS,
-        key: &SWITCHED,
-        len: 56,
-        found: "check no stub 0x00010014\n",
-    },
+/// Tables whose rows are all in the key: up to the bound of the loop, as many as the shift leaves, and one where nothing counts.
+static ROWS: [Scan; 3] = [
     Scan {
         program: &READ_ALL,
         loops: READ_LOOP,
@@ -502,38 +315,6 @@ static ROWS: [Scan; 12] = [
         key: &COUNTED_KEY,
         len: 140,
         found: "8 nodes 9 edges; ",
-    },
-    Scan {
-        program: &READ_ALL,
-        loops: READ_LOOP,
-        text: &LOOPS,
-        key: &COUNTED_KEY,
-        len: 139,
-        found: "check no stub 0x00010014\n",
-    },
-    Scan {
-        program: &READ_ALL,
-        loops: READ_LOOP,
-        text: &LOOPS,
-        key: &COUNTED_KEY,
-        len: 136,
-        found: "check no stub 0x00010014\n",
-    },
-    Scan {
-        program: &READ_ALL,
-        loops: READ_LOOP,
-        text: &LOOPS,
-        key: &COUNTED_KEY,
-        len: 100,
-        found: "check no stub 0x00010014\n",
-    },
-    Scan {
-        program: &READ_ALL,
-        loops: READ_LOOP,
-        text: &LOOPS,
-        key: &COUNTED_KEY,
-        len: 96,
-        found: "check no stub 0x00010014\n",
     },
     Scan {
         program: &READ_ALL,
@@ -547,29 +328,13 @@ static ROWS: [Scan; 12] = [
         program: &READ_ALL,
         loops: READ_LOOP,
         text: &LOOPS,
-        key: &SHIFTED,
-        len: 119,
-        found: "check no stub 0x00010014\n",
-    },
-    Scan {
-        program: &READ_ALL,
-        loops: READ_LOOP,
-        text: &LOOPS,
         key: &OTHER,
         len: 100,
         found: "8 nodes 9 edges; ",
     },
-    Scan {
-        program: &READ_ALL,
-        loops: READ_LOOP,
-        text: &LOOPS,
-        key: &OTHER,
-        len: 99,
-        found: "check no stub 0x00010014\n",
-    },
 ];
 
 #[test]
-fn stubs_and_their_rows(rt: HostRuntime) -> Result<(), Fail> {
+fn rows_of_tables(rt: HostRuntime) -> Result<(), Fail> {
     check_scans(&rt, rt.alloc(), &ROWS)
 }

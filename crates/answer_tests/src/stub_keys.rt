@@ -147,7 +147,7 @@ fn key_answer(alloc: Global, view: &ImageView<'_>, asked: &Asked) -> Result<Stri
 fn image_answer(alloc: Global, file: &[u8], asked: &Asked) -> Result<String, Fail> {
     match read_image(alloc, file) {
         Ok(view) => key_answer(alloc, &view, asked),
-        Err(stop) => stop_text(alloc, &stop),
+        Err(_) => Err("a refusal".into()),
     }
 }
 

@@ -1,43 +1,8 @@
-//! Hosts: real files, and files in memory.
+//! Hosts of files in memory. Real files are loaded and stored by each of the command lines in the programs' `cases`.
 
-use host_files::{Host, HostError, Loaded, MemHost, NeverFails, RealHost};
+use host_files::{Host, HostError, MemHost, NeverFails};
 use std::alloc::Global;
 use std::test::Fail;
-
-/// What a host tells of a file of these bytes.
-fn load_told(
-    host: &mut impl Host,
-    alloc: Global,
-    name: &str,
-    limit: u64,
-    bytes: &[u8],
-) -> &'static str {
-    match host.load(alloc, name, limit) {
-        Ok(Loaded::Whole(found)) => {
-            if found.as_slice() == bytes {
-                "the bytes"
-            } else {
-                "other bytes"
-            }
-        }
-        Ok(Loaded::TooLong) => "too long",
-        Err(HostError::Failed) => "failed",
-        Err(HostError::OutOfMemory) => "memory",
-    }
-}
-
-#[test]
-fn a_real_file_is_stored_and_loaded(rt: HostRuntime) {
-    let mut host = RealHost::new(&rt);
-    assert_eq!(rt; host.store("file", b"bytes").is_ok(), true);
-    let found = load_told(&mut host, rt.alloc(), "file", 5, b"bytes");
-    assert_eq!(rt; found, "the bytes");
-    let found = load_told(&mut host, rt.alloc(), "file", 4, b"bytes");
-    assert_eq!(rt; found, "too long");
-    let found = load_told(&mut host, rt.alloc(), "none", 4, b"");
-    assert_eq!(rt; found, "failed");
-    assert_eq!(rt; host.print(b"printed\n").is_ok(), true);
-}
 
 // Its texts are the only thing of an error that no clause says.
 #[test]
@@ -102,8 +67,8 @@ fn one_file(alloc: Global) -> Result<NeverFails, Fail> {
 #[test]
 fn never_fails_with_room(rt: HostRuntime) -> Result<(), Fail> {
     let mut host = one_file(rt.alloc())?;
-    let found = load_told(&mut host, rt.alloc(), "a", 2, b"12");
-    assert_eq!(rt; found, "the bytes");
+    let found = host.load(rt.alloc(), "a", 2);
+    assert!(rt; found.is_ok());
     assert_eq!(rt; host.inner().fault_count(), 0);
     Ok(())
 }

@@ -325,13 +325,3 @@ fn makes_files(rt: HostRuntime) -> Result<(), Fail> {
     }
     Ok(())
 }
-
-/// The deadline is 500 time units for each block, and 200 more.
-#[test]
-fn writes_the_deadline(rt: HostRuntime) -> Result<(), Fail> {
-    let made = made(rt.alloc(), 1, 30)?;
-    assert_eq!(rt; made.machine.len(), 296);
-    let top = b"version = 1\ndeadline = 15200\nsteps = 10000000\nmin_gain = 20\n";
-    assert!(rt; made.machine.starts_with(top));
-    Ok(())
-}

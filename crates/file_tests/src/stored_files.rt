@@ -47,7 +47,7 @@ fn stored_plain(rt: &impl Abort, alloc: Global, view: &ImageView<'_>) -> Result<
 
 #[test]
 fn stores_an_image_with_an_empty_block(rt: HostRuntime) -> Result<(), Fail> {
-    let view = view_of(rt.alloc(), &PLAIN)?;
+    let view = view_of(rt.alloc(), PLAIN)?;
     let stored = stored_plain(&rt, rt.alloc(), &view)?;
     assert_eq!(rt; stored.len(), 4160);
     expect_parts(&rt, &stored, &PLAIN_PARTS);
@@ -101,7 +101,7 @@ fn stored_patched(rt: &impl Abort, alloc: Global, view: &ImageView<'_>) -> Resul
 
 #[test]
 fn stores_a_patch_and_a_block(rt: HostRuntime) -> Result<(), Fail> {
-    let view = view_of(rt.alloc(), &THREE_ENTRIES)?;
+    let view = view_of(rt.alloc(), THREE_ENTRIES)?;
     let stored = stored_patched(&rt, rt.alloc(), &view)?;
     assert_eq!(rt; stored.len(), 4228);
     expect_parts(&rt, &stored, &PATCHED_PARTS);

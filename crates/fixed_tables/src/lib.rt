@@ -1,4 +1,4 @@
-//! Tables of addresses in bytes of a file that no store can change.
+//! Tables of addresses in bytes of a file that no store can change. That no run changes them is a law of `jump_laws`.
 //! Tests: crates/graph_tests/src/table_jumps.rt.
 #![tactic(auto)]
 

@@ -8,11 +8,21 @@ ghost use Rattle.gain_tuner.specs.Spending.{counts};
 
 use crate::candidates::candidate_of;
 use crate::spending::spent_over;
+use run_progress::{Part, Progress};
 use scale_base::{NoMemory, Stop, Summary};
 use std::alloc::Global;
 
 /// How many candidates there are.
-const CANDIDATES: u32 = 33;
+pub const CANDIDATES: u32 = 33;
+
+/// The files of a program, and the inputs that its runs are compared on.
+#[derive(Clone, Copy)]
+pub struct GivenFiles<'a> {
+    pub image: &'a [u8],
+    pub machine: &'a [u8],
+    pub loops: &'a [u8],
+    pub inputs: &'a [Vec<u8>],
+}
 
 /// The files of a program, and the inputs with a flag for each that says whether it counts.
 #[derive(Drop)]
@@ -33,11 +43,12 @@ pub struct Trial {
     pub energy: u128,
 }
 
-/// The trial of the image that runs at one level, which is never out.
-pub fn held_trial(
+/// The trial of the image that runs at one level, which is never out. How far it is is told.
+pub fn held_trial<P: Progress>(
     alloc: Global,
     files: &Files<'_>,
     held: (Vec<u8>, Summary),
+    progress: &mut P,
 ) -> Result<Trial, NoMemory>
     requires image { length files.now.image.now ≤ 4194304 }
     requires machine { length files.now.machine.now ≤ 1048576 }
@@ -48,7 +59,8 @@ pub fn held_trial(
     ensures { IfOk result (IsSafeTrialOf (Made (Ok ((held.0.items, held.1)))) files.now.image.now files.now.machine.now files.now.loops.now (map (λ input. input.items) files.now.inputs.now) 0) }
 {
     let (stored, summary) = held;
-    let energy = spent_over(alloc, files, &stored)?.unwrap();
+    progress.next(Part::Candidate);
+    let energy = spent_over(alloc, files, &stored, progress)?.unwrap();
     Ok(Trial {
         candidate: 0,
         stored,
@@ -57,12 +69,13 @@ pub fn held_trial(
     })
 }
 
-/// The trial of what was made of a candidate, unless it is out.
-pub fn trial_from(
+/// The trial of what was made of a candidate, unless it is out. How far it is is told.
+pub fn trial_from<P: Progress>(
     alloc: Global,
     files: &Files<'_>,
     candidate: u32,
     made: Result<(Vec<u8>, Summary), Stop>,
+    progress: &mut P,
 ) -> Result<Option<Trial>, NoMemory>
     requires few { length files.now.inputs.now ≤ 64 }
     requires flags { files.now.flags.now ≡ map (λ input. counts files.now.image.now files.now.machine.now files.now.loops.now input.items) files.now.inputs.now }
@@ -70,7 +83,7 @@ pub fn trial_from(
     ensures { IfOk result (IsTried files.now.image.now files.now.machine.now files.now.loops.now (map (λ input. input.items) files.now.inputs.now) candidate made) }
 {
     match made {
-        Ok((stored, summary)) => match spent_over(alloc, files, &stored)? {
+        Ok((stored, summary)) => match spent_over(alloc, files, &stored, progress)? {
             Some(energy) => Ok(Some(Trial {
                 candidate,
                 stored,
@@ -85,7 +98,12 @@ pub fn trial_from(
 }
 
 /// The candidate of a number from 1 on, unless it is out.
-fn trial_of(alloc: Global, files: &Files<'_>, candidate: u32) -> Result<Option<Trial>, NoMemory>
+fn trial_of<P: Progress>(
+    alloc: Global,
+    files: &Files<'_>,
+    candidate: u32,
+    progress: &mut P,
+) -> Result<Option<Trial>, NoMemory>
     requires image { length files.now.image.now ≤ 4194304 }
     requires machine { length files.now.machine.now ≤ 1048576 }
     requires loops { length files.now.loops.now ≤ 1048576 }
@@ -95,8 +113,9 @@ fn trial_of(alloc: Global, files: &Files<'_>, candidate: u32) -> Result<Option<T
     requires to { candidate < 33 }
     ensures { IfOk result (IsTrialOr files.now.image.now files.now.machine.now files.now.loops.now (map (λ input. input.items) files.now.inputs.now) candidate) }
 {
+    progress.next(Part::Candidate);
     let made = candidate_of(alloc, files.image, files.machine, files.loops, candidate);
-    trial_from(alloc, files, candidate, made)
+    trial_from(alloc, files, candidate, made, progress)
 }
 
 /// Of two candidates the one of less energy, and the first where they take the same.
@@ -115,8 +134,13 @@ pub fn cheaper(best: Trial, other: Option<Trial>) -> Trial
     }
 }
 
-/// The candidate of the least energy, of several the least, from the one at one level on.
-pub fn cheapest(alloc: Global, files: &Files<'_>, held: Trial) -> Result<Trial, NoMemory>
+/// The candidate of the least energy, of several the least, from the one at one level on. How far the trials are is told.
+pub fn cheapest<P: Progress>(
+    alloc: Global,
+    files: &Files<'_>,
+    held: Trial,
+    progress: &mut P,
+) -> Result<Trial, NoMemory>
     requires image { length files.now.image.now ≤ 4194304 }
     requires machine { length files.now.machine.now ≤ 1048576 }
     requires loops { length files.now.loops.now ≤ 1048576 }
@@ -127,7 +151,7 @@ pub fn cheapest(alloc: Global, files: &Files<'_>, held: Trial) -> Result<Trial, 
 {
     let mut best = held;
     for candidate in 1..CANDIDATES {
-        best = cheaper(best, trial_of(alloc, files, candidate)?);
+        best = cheaper(best, trial_of(alloc, files, candidate, progress)?);
     }
     Ok(best)
 }

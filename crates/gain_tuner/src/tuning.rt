@@ -7,8 +7,9 @@ ghost use Rattle.scaler.specs.Held.{IsHeld};
 ghost use Rattle.marked_images.specs.Promise.{IsStoredSafely};
 ghost use Rattle.gain_tuner.specs.Choice.{IsChoice, IsTuning};
 
-use crate::choosing::{Files, Trial, cheapest, held_trial};
+use crate::choosing::{CANDIDATES, Files, GivenFiles, Trial, cheapest, held_trial};
 use crate::spending::counting_of;
+use run_progress::{Part, Progress, Silent};
 use scale_base::{NoMemory, Stop, Summary, Tuned};
 use scaler::hold;
 use std::alloc::Global;
@@ -39,34 +40,53 @@ fn choice_of(best: Trial, hold_energy: u128, flags: &[bool]) -> (Vec<u8>, Tuned)
 }
 
 /// The choice for a program that can be held at one level.
-fn tune_held(
+fn tune_held<P: Progress>(
     alloc: Global,
-    image: &[u8],
-    machine: &[u8],
-    loops: &[u8],
-    inputs: &[Vec<u8>],
+    program: &GivenFiles<'_>,
     held: (Vec<u8>, Summary),
+    progress: &mut P,
 ) -> Result<(Vec<u8>, Tuned), NoMemory>
-    requires image { length image.now ≤ 4194304 }
-    requires machine { length machine.now ≤ 1048576 }
-    requires loops { length loops.now ≤ 1048576 }
-    requires few { length inputs.now ≤ 64 }
-    requires held { IsHeld image.now machine.now loops.now (Ok ((held.0.items, held.1))) }
-    ensures choice { IfOk result (λ given. IsChoice image.now machine.now loops.now (map (λ input. input.items) inputs.now) given.0.items given.1) }
-    ensures safe { IfOk result (λ given. IsStoredSafely image.now machine.now loops.now given.0.items given.1.summary) }
+    requires image { length program.now.image.now ≤ 4194304 }
+    requires machine { length program.now.machine.now ≤ 1048576 }
+    requires loops { length program.now.loops.now ≤ 1048576 }
+    requires few { length program.now.inputs.now ≤ 64 }
+    requires held { IsHeld program.now.image.now program.now.machine.now program.now.loops.now (Ok ((held.0.items, held.1))) }
+    ensures choice { IfOk result (λ chosen. IsChoice program.now.image.now program.now.machine.now program.now.loops.now (map (λ input. input.items) program.now.inputs.now) chosen.0.items chosen.1) }
+    ensures safe { IfOk result (λ chosen. IsStoredSafely program.now.image.now program.now.machine.now program.now.loops.now chosen.0.items chosen.1.summary) }
 {
-    let flags = counting_of(alloc, image, machine, loops, inputs)?;
+    let flags = counting_of(alloc, program, progress)?;
     let files = Files {
-        image,
-        machine,
-        loops,
-        inputs,
+        image: program.image,
+        machine: program.machine,
+        loops: program.loops,
+        inputs: program.inputs,
         flags: &flags,
     };
-    let first = held_trial(alloc, &files, held)?;
+    progress.begin(Part::Candidate, CANDIDATES as usize);
+    let first = held_trial(alloc, &files, held, progress)?;
     let energy = first.energy;
-    let best = cheapest(alloc, &files, first)?;
+    let best = cheapest(alloc, &files, first, progress)?;
     Ok(choice_of(best, energy, &flags))
+}
+
+/// `tune`, which tells how far it is.
+pub fn tune_with_progress<P: Progress>(
+    alloc: Global,
+    files: &GivenFiles<'_>,
+    progress: &mut P,
+) -> Result<(Vec<u8>, Tuned), Stop>
+    requires image { length files.now.image.now ≤ 4194304 }
+    requires machine { length files.now.machine.now ≤ 1048576 }
+    requires loops { length files.now.loops.now ≤ 1048576 }
+    requires some { 1 ≤ length files.now.inputs.now }
+    requires few { length files.now.inputs.now ≤ 64 }
+    requires inputs { All (λ input. length input.items ≤ 1048576) files.now.inputs.now }
+    ensures tuned { AnswersBy (λ given. (given.0.items, given.1)) result (IsTuning files.now.image.now files.now.machine.now files.now.loops.now (map (λ input. input.items) files.now.inputs.now)) }
+    ensures saves { IfOk result (λ given. given.1.energy ≤ given.1.hold_energy) }
+    ensures safe { IfOk result (λ given. IsStoredSafely files.now.image.now files.now.machine.now files.now.loops.now given.0.items given.1.summary) }
+{
+    let held = hold(alloc, files.image, files.machine, files.loops)?;
+    Ok(tune_held(alloc, files, held, progress)?)
 }
 
 /// The image of the candidate whose runs take the least energy on the inputs that count, of several the least, and the numbers of that choice; or
@@ -99,6 +119,11 @@ pub fn tune(
     // On each input on which the original run exits and is kept, the stored run keeps the promise.
     ensures safe { IfOk result (λ given. IsStoredSafely image.now machine.now loops.now given.0.items given.1.summary) }
 {
-    let held = hold(alloc, image, machine, loops)?;
-    Ok(tune_held(alloc, image, machine, loops, inputs, held)?)
+    let files = GivenFiles {
+        image,
+        machine,
+        loops,
+        inputs,
+    };
+    tune_with_progress(alloc, &files, &mut Silent)
 }

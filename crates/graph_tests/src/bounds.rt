@@ -1,200 +1,183 @@
-//! Bounds that the code of a program shows, as its draft has them: which counters are found, and what is open.
+//! Bounds that the code of a program shows: tables that are handed to the check, with sums of two registers as the code has them, and with others.
+//! What drafts have of them is data, `bounds.txt` of the second program's `cases`.
 
-use crate::drafts::draft_text;
-use crate::programs::{CALL_5, ECALL, EXIT, JUMP_0, NO_OPERATION, RETURN, expect_text};
+ghost use Rattle.code_text.specs.Text.{text_of};
+ghost use Rattle.flow_graph.specs.FlowGraph.{IsGraphOf};
+
+use crate::programs::{CALL_5, ECALL, EXIT, RETURN, image_of, view_of};
+use code_graph::build_graph;
+use elf_view::ImageView;
+use flow_graph::CodeGraph;
+use scale_base::NoMemory;
+use stack_checks::is_stack_analysed;
+use stack_tables::{StackClaim, is_stack_sized};
+use std::alloc::Global;
 use std::test::Fail;
+use value_analysis::analyse;
+use value_checks::{Line, is_sized};
+use wrapped_intervals::{Arc, Measure};
 
-/// `a0` is raised by one as long as it is below 10.
-const UP: [u32; 6] = [
+/// `a0` goes up by four until it is `a1`, which is 16.
+const POINTER: [u32; 6] = [
     0x0000_0513,
-    0x00A0_0593,
-    0x0015_0513,
-    0xFEB5_4EE3,
-    EXIT,
-    ECALL,
-];
-
-/// `a0` is lowered from 10 as long as it isn't 0.
-const DOWN: [u32; 5] = [0x00A0_0513, 0xFFF5_0513, 0xFE05_1EE3, EXIT, ECALL];
-
-/// `a0` is raised by three until it is 15.
-const BY_THREE: [u32; 6] = [
-    0x0000_0513,
-    0x00F0_0593,
-    0x0035_0513,
+    0x0105_0593,
+    0x0045_0513,
     0xFEB5_1EE3,
     EXIT,
     ECALL,
 ];
 
-/// `a0` is raised from -4 as long as it is below 0.
-const BELOW_ZERO: [u32; 5] = [0xFFC0_0513, 0x0015_0513, 0xFE05_4EE3, EXIT, ECALL];
-
-/// `a0` is raised by one as long as it is below 5, and each time `a1` from there on.
-const TRIANGLE: [u32; 9] = [
+/// The same as long as it isn't above `a1`.
+const UP_TO: [u32; 6] = [
     0x0000_0513,
-    0x0050_0613,
-    0x0005_0593,
-    0x0015_8593,
-    0xFEC5_CEE3,
-    0x0015_0513,
-    0xFEC5_48E3,
+    0x0105_0593,
+    0x0045_0513,
+    0xFEA5_FEE3,
     EXIT,
     ECALL,
 ];
 
-/// `s0` is lowered from 5 as long as it isn't 0, behind a call of a function that raises `a1`.
+/// `s0` goes up by four until it is `s1`, which is 16, behind a call of a function that leaves both.
 const CALLED: [u32; 8] = [
-    0x0050_0413,
+    0x0000_0413,
+    0x0104_0493,
     CALL_5,
-    0xFFF4_0413,
-    0xFE04_1CE3,
+    0x0044_0413,
+    0xFE94_1CE3,
     EXIT,
     ECALL,
-    0x0015_8593,
     RETURN,
 ];
 
-/// `a0` is raised by one until it is what memory has.
-const LOADED: [u32; 6] = [
-    0x0000_0513,
-    0xFFC1_2583,
-    0x0015_0513,
-    0xFEB5_1EE3,
+/// The same, but the function writes `s0`.
+const WRITTEN: [u32; 9] = [
+    0x0000_0413,
+    0x0104_0493,
+    CALL_5,
+    0x0044_0413,
+    0xFE94_1CE3,
     EXIT,
     ECALL,
+    0x0070_0413,
+    RETURN,
 ];
 
-/// A jump to itself.
-const NEVER: [u32; 2] = [NO_OPERATION, JUMP_0];
+/// `a1 - a0`, and `s1 - s0`.
+const FORMS: [Measure; 2] = [
+    Measure {
+        register: 10,
+        factor: 4_294_967_295,
+        other: 11,
+        other_factor: 1,
+        shift: 0,
+    },
+    Measure {
+        register: 8,
+        factor: 4_294_967_295,
+        other: 9,
+        other_factor: 1,
+        shift: 0,
+    },
+];
 
-/// The counter is from 0 to 9 at the header.
-const UP_TEXT: &str = "# returns: proved
-# draft of loops: 1 loops, 0 without a bound
-version = 2
+/// What a table says of a form before a word: from the first number on, by fours, up to so many more.
+type Told = (usize, usize, u64, u64);
 
-# loop 1: 0x00010008, depth 1
-[[loop]]
-header = 0x00010008
-ranges = [[0x00010008, 0x00010010]]
-# x10 goes up by 1 or more each turn, and its values at the header span 9
-bound = 9
-";
+/// The rows of a table for so many nodes.
+fn lines_of(alloc: Global, nodes: usize, told: &[Told]) -> Result<Vec<Vec<Line>>, NoMemory> {
+    let mut lines = Vec::new(alloc);
+    for _ in 0..nodes {
+        lines.push(Vec::new(alloc))?;
+    }
+    for (node, form, low, more) in told {
+        if *node < lines.len() {
+            lines[*node].push(Line {
+                form: *form,
+                arc: Arc::strided(*low, *more, 4),
+            })?;
+        }
+    }
+    Ok(lines)
+}
 
-/// From 10 down to 1.
-const DOWN_TEXT: &str = "# returns: proved
-# draft of loops: 1 loops, 0 without a bound
-version = 2
+/// Whether the check takes the tables of a program with these lines.
+fn is_taken_of(
+    alloc: Global,
+    view: &ImageView<'_>,
+    graph: &CodeGraph,
+    told: &[Told],
+) -> Result<bool, Fail>
+    requires { IsGraphOf (text_of view.now) graph.now }
+{
+    let mut tables = analyse(alloc, view, graph)?;
+    tables.values.forms = Vec::from_array(alloc, FORMS)?;
+    tables.values.lines = lines_of(alloc, graph.node_count(), told)?;
+    if !is_sized(graph, &tables.values) || !is_stack_sized(graph, &tables.stack) {
+        return Err("there is a row for each node".into());
+    }
+    let _file = view.file();
+    let claim = StackClaim {
+        view,
+        graph,
+        table: &tables.values,
+        stack: &tables.stack,
+    };
+    Ok(is_stack_analysed(&claim))
+}
 
-# loop 1: 0x00010004, depth 1
-[[loop]]
-header = 0x00010004
-ranges = [[0x00010004, 0x0001000c]]
-# x10 goes down by 1 or more each turn, and its values at the header span 9
-bound = 9
-";
+fn is_taken(alloc: Global, words: &[u32], told: &[Told]) -> Result<bool, Fail> {
+    let file = image_of(alloc, words)?;
+    let view = view_of(alloc, &file)?;
+    match build_graph(alloc, &view) {
+        Ok(graph) => is_taken_of(alloc, &view, &graph, told),
+        Err(_) => Err("the code is accepted".into()),
+    }
+}
 
-/// 0, 3, 6, 9 or 12.
-const BY_THREE_TEXT: &str = "# returns: proved
-# draft of loops: 1 loops, 0 without a bound
-version = 2
-
-# loop 1: 0x00010008, depth 1
-[[loop]]
-header = 0x00010008
-ranges = [[0x00010008, 0x00010010]]
-# x10 goes up by 3 or more each turn, and its values at the header span 12
-bound = 4
-";
-
-/// From -4 to -1.
-const BELOW_ZERO_TEXT: &str = "# returns: proved
-# draft of loops: 1 loops, 0 without a bound
-version = 2
-
-# loop 1: 0x00010004, depth 1
-[[loop]]
-header = 0x00010004
-ranges = [[0x00010004, 0x0001000c]]
-# x10 goes up by 1 or more each turn, and its values at the header span 3
-bound = 3
-";
-
-/// Both from 0 to 4.
-const TRIANGLE_TEXT: &str = "# returns: proved
-# draft of loops: 2 loops, 0 without a bound
-version = 2
-
-# loop 1: 0x00010008, depth 1
-[[loop]]
-header = 0x00010008
-ranges = [[0x00010008, 0x0001001c]]
-# x10 goes up by 1 or more each turn, and its values at the header span 4
-bound = 4
-
-# loop 2: 0x0001000c, within loop 1, depth 2
-[[loop]]
-header = 0x0001000c
-ranges = [[0x0001000c, 0x00010014]]
-# x11 goes up by 1 or more each turn, and its values at the header span 4
-bound = 4
-";
-
-/// From 5 down to 1.
-const CALLED_TEXT: &str = "# returns: proved
-# draft of loops: 1 loops, 0 without a bound
-version = 2
-
-# loop 1: 0x00010004, depth 1
-[[loop]]
-header = 0x00010004
-ranges = [[0x00010004, 0x00010010]]
-# x8 goes down by 1 or more each turn, and its values at the header span 4
-bound = 4
-";
-
-/// No limit is known.
-const LOADED_TEXT: &str = "# returns: proved
-# draft of loops: 1 loops, 1 without a bound
-# where no bound is known, count the back edges that one entry takes at most, and write them there as bound = N
-version = 2
-
-# loop 1: 0x00010008, depth 1
-[[loop]]
-header = 0x00010008
-ranges = [[0x00010008, 0x00010010]]
-# no bound: no register or stack word goes on by a constant each turn, between limits that are known
-";
-
-/// Nothing counts.
-const NEVER_TEXT: &str = "# returns: proved
-# draft of loops: 1 loops, 1 without a bound
-# where no bound is known, count the back edges that one entry takes at most, and write them there as bound = N
-version = 2
-
-# loop 1: 0x00010004, depth 1
-[[loop]]
-header = 0x00010004
-ranges = [[0x00010004, 0x00010008]]
-# no bound: no register or stack word goes on by a constant each turn, between limits that are known
-";
-
-/// Programs, and their drafts.
-static CASES: [(&str, &[u32], &str); 8] = [
-    ("up", &UP, UP_TEXT),
-    ("down", &DOWN, DOWN_TEXT),
-    ("by three", &BY_THREE, BY_THREE_TEXT),
-    ("below zero", &BELOW_ZERO, BELOW_ZERO_TEXT),
-    ("nested", &TRIANGLE, TRIANGLE_TEXT),
-    ("with a call", &CALLED, CALLED_TEXT),
-    ("a limit in memory", &LOADED, LOADED_TEXT),
-    ("for ever", &NEVER, NEVER_TEXT),
+/// Programs with lines of a table, and whether they are taken.
+static TABLES: [(&str, &[u32], &[Told], bool); 10] = [
+    ("as it is", &POINTER, &[(2, 0, 4, 12), (3, 0, 0, 12)], true),
+    (
+        "nothing added",
+        &POINTER,
+        &[(2, 0, 4, 12), (3, 0, 4, 12)],
+        false,
+    ),
+    (
+        "16 left out",
+        &POINTER,
+        &[(2, 0, 4, 8), (3, 0, 0, 8)],
+        false,
+    ),
+    (
+        "12 left out",
+        &POINTER,
+        &[(2, 0, 4, 12), (3, 0, 0, 8)],
+        false,
+    ),
+    ("0 left out", &UP_TO, &[(2, 0, 4, 12), (3, 0, 0, 12)], false),
+    ("at the start", &POINTER, &[(0, 0, 0, 0)], true),
+    ("not at the start", &POINTER, &[(0, 0, 4, 0)], false),
+    (
+        "behind a call",
+        &CALLED,
+        &[(2, 1, 4, 12), (3, 1, 4, 12), (4, 1, 0, 12)],
+        true,
+    ),
+    (
+        "behind one that writes",
+        &WRITTEN,
+        &[(2, 1, 4, 12), (3, 1, 4, 12), (4, 1, 0, 12)],
+        false,
+    ),
+    ("of no form", &POINTER, &[(2, 2, 4, 12)], false),
 ];
 
 #[test]
-fn bounds_are_shown_where_a_register_counts(rt: HostRuntime) -> Result<(), Fail> {
-    for (name, words, want) in &CASES {
-        expect_text(&rt, name, draft_text(rt.alloc(), words), want)?;
+fn lines_are_taken_where_the_code_confirms_them(rt: HostRuntime) -> Result<(), Fail> {
+    for (name, words, told, want) in &TABLES {
+        let taken = is_taken(rt.alloc(), words, told)?;
+        assert_eq!(rt; taken, *want, "{name}");
     }
     Ok(())
 }

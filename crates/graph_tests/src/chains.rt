@@ -38,12 +38,7 @@ fn chains_lead_down_from_the_last_place(rt: HostRuntime) -> Result<(), Fail> {
 fn no_place_has_a_key(rt: HostRuntime) -> Result<(), Fail> {
     let chains = find_chains(rt.alloc(), &[None, None], 1)?;
     expect_same(&rt, 0, (chains.last(0), chains.before(1)), (None, None));
-    Ok(())
-}
-
-#[test]
-fn there_is_no_place(rt: HostRuntime) -> Result<(), Fail> {
     let empty = find_chains(rt.alloc(), &[], 1)?;
-    expect_same(&rt, 0, empty.last(0), None);
+    expect_same(&rt, 1, empty.last(0), None);
     Ok(())
 }

@@ -1,9 +1,9 @@
-//! The graphs of programs: what is reached and in which functions, what is refused, edges, basic blocks and weights.
+//! The graphs of programs: what is reached and in which functions, edges and weights. What is refused is data, `code.txt` of the first
+//! program's `cases`; functions and basic blocks are, `draw-plan.txt` of the second one's.
 
 use crate::programs::{
     BRANCH_2, BRANCH_3, BREAKPOINT, CALL_2, CALL_3, CALL_4, CALL_5, ECALL, EXIT, JUMP_0, JUMP_2,
-    JUMP_BACK_1, NO_OPERATION, RETURN, START, expect_list, expect_same, expect_text, graph_of,
-    image_of, refused_text,
+    JUMP_BACK_1, NO_OPERATION, RETURN, START, expect_same, expect_text, graph_of,
 };
 use flow_graph::CodeGraph;
 use power_model::Costs;
@@ -23,8 +23,6 @@ const CALL_8: u32 = 0x0200_00EF;
 /// Calls of its own address, and of those before it.
 const CALL_0: u32 = 0xEF;
 
-const CALL_BACK_1: u32 = 0xFFDF_F0EF;
-
 const CALL_BACK_2: u32 = 0xFF9F_F0EF;
 
 /// A jump by seven words.
@@ -32,153 +30,6 @@ const JUMP_7: u32 = 0x01C0_006F;
 
 /// By the number of words: a call of the word two and more words on.
 const CALLS: [u32; 7] = [CALL_2, CALL_3, CALL_4, CALL_5, CALL_6, CALL_7, CALL_8];
-
-fn expect_refused(
-    rt: &impl Abort,
-    alloc: Global,
-    name: &str,
-    file: &[u8],
-    want: &str,
-) -> Result<(), Fail> {
-    expect_text(rt, name, refused_text(alloc, file), want)
-}
-
-/// The words of a program, and why it is refused.
-static REFUSED: [(&str, &[u32], &str); 12] = [
-    ("no instruction", &[0], "illegal word 0x10000"),
-    (
-        "goes on behind the text",
-        &[0x0070_0513],
-        "outside text 0x10004",
-    ),
-    (
-        "a target between words",
-        &[0x0000_0163],
-        "misaligned target 0x10002",
-    ),
-    ("a link in register 5", &[0x0000_02EF], "odd link 0x10000"),
-    (
-        "a jump through a register",
-        &[0x0002_8067],
-        "indirect jump 0x10000",
-    ),
-    (
-        "a jump far behind the text",
-        &[CALL_2, BREAKPOINT, JUMP_7, RETURN],
-        "outside text 0x10024",
-    ),
-    (
-        "a call at the end, whose function returns",
-        &[CALL_3, BREAKPOINT, RETURN, CALL_BACK_1],
-        "outside text 0x10010",
-    ),
-    (
-        "a called function that is jumped to",
-        &[CALL_2, 0x0040_006F, RETURN],
-        "shared code 0x10008",
-    ),
-    (
-        "two functions, of which one jumps and one goes on",
-        &[
-            CALL_4,
-            CALL_4,
-            BREAKPOINT,
-            NO_OPERATION,
-            JUMP_2,
-            NO_OPERATION,
-            RETURN,
-        ],
-        "shared code 0x10018",
-    ),
-    (
-        "two functions, of which one jumps back",
-        &[
-            CALL_3,
-            CALL_4,
-            BREAKPOINT,
-            NO_OPERATION,
-            RETURN,
-            JUMP_BACK_1,
-            BREAKPOINT,
-        ],
-        "shared code 0x10010",
-    ),
-    (
-        "two functions that call each other",
-        &[CALL_3, EXIT, ECALL, CALL_2, RETURN, CALL_BACK_2, RETURN],
-        "recursion 0x1000c 0x10014",
-    ),
-    (
-        "a function that calls itself",
-        &[CALL_2, BREAKPOINT, CALL_0, RETURN],
-        "recursion 0x10008",
-    ),
-];
-
-fn expect_words_refused(
-    rt: &impl Abort,
-    alloc: Global,
-    name: &str,
-    words: &[u32],
-    want: &str,
-) -> Result<(), Fail> {
-    let file = image_of(alloc, words)?;
-    expect_refused(rt, alloc, name, &file, want)
-}
-
-#[test]
-fn refuses_code_by_its_least_bad_address(rt: HostRuntime) -> Result<(), Fail> {
-    for (name, words, want) in &REFUSED {
-        expect_words_refused(&rt, rt.alloc(), name, words, want)?;
-    }
-    Ok(())
-}
-
-/// Two segments, each of which may be executed: eight words at 0x10000, and two at 0x10024.
-const TWO_SEGMENTS: [u8; 116] = [
-    127, 69, 76, 70, 1, 1, 1, 0, 0, 0, 0, 0, 0, 0, 0, 0, 2, 0, 243, 0, 1, 0, 0, 0, 0, 0, 1, 0, 52,
-    0, 0, 0, 0, 0, 0, 0, 0, 0, 0, 0, 52, 0, 32, 0, 2, 0, 0, 0, 0, 0, 0, 0, 1, 0, 0, 0, 116, 0, 0,
-    0, 0, 0, 1, 0, 0, 0, 1, 0, 32, 0, 0, 0, 32, 0, 0, 0, 5, 0, 0, 0, 4, 0, 0, 0, 1, 0, 0, 0, 148,
-    0, 0, 0, 36, 0, 1, 0, 36, 0, 1, 0, 8, 0, 0, 0, 8, 0, 0, 0, 5, 0, 0, 0, 4, 0, 0, 0,
-];
-
-fn two_segments(alloc: Global, words: &[u32]) -> Result<Vec<u8>, Fail> {
-    let mut file = TWO_SEGMENTS.to_vec(alloc)?;
-    for word in words {
-        file.extend_from_slice(&word.to_le_bytes())?;
-    }
-    Ok(file)
-}
-
-/// 0: branch to 7; 1: jump to 8, behind the gap; 7: on into the gap; 8: on; 9: jump far behind the text
-const INTO_THE_GAP: [u32; 10] = [
-    0xE63,
-    0x0200_006F,
-    NO_OPERATION,
-    NO_OPERATION,
-    NO_OPERATION,
-    NO_OPERATION,
-    NO_OPERATION,
-    NO_OPERATION,
-    NO_OPERATION,
-    0x0400_006F,
-];
-
-#[test]
-fn finds_the_lowest_address_outside(rt: HostRuntime) -> Result<(), Fail> {
-    let file = two_segments(rt.alloc(), &INTO_THE_GAP)?;
-    expect_refused(&rt, rt.alloc(), "a gap", &file, "outside text 0x10020")
-}
-
-/// The program begins at 0x20000.
-#[test]
-fn finds_an_entry_outside(rt: HostRuntime) -> Result<(), Fail> {
-    let mut file = two_segments(rt.alloc(), &[NO_OPERATION; 10])?;
-    if let Some(byte) = file.get_mut(26) {
-        *byte = 2;
-    }
-    expect_refused(&rt, rt.alloc(), "no entry", &file, "outside text 0x20000")
-}
 
 /// Whether the word behind a call of word `callee` of some words is reached.
 fn is_reached_behind(alloc: Global, words: &[u32], callee: usize) -> Result<bool, Fail> {
@@ -266,68 +117,6 @@ fn expect_reached(
     for (callee, want) in entries {
         let reached = is_reached_behind(alloc, words, *callee)?;
         expect_same(rt, *callee as u64, reached, *want);
-    }
-    Ok(())
-}
-
-/// Each node with the number of its function, and the entries of the functions.
-fn functions_text(alloc: Global, graph: &CodeGraph) -> Result<String, Fail> {
-    let mut text = String::new(alloc);
-    for k in 0..graph.node_count() {
-        write!(&mut text, "{:#x} of {}; ", graph.node(k), graph.owner(k))?;
-    }
-    for f in 0..graph.function_count() {
-        write!(&mut text, " {:#x}", graph.function(f))?;
-    }
-    Ok(text)
-}
-
-/// The words of a program, and its nodes and functions.
-static FUNCTIONS: [(&str, &[u32], &str); 3] = [
-    // 0: call of 4; 1: stop; 4: jump to itself
-    (
-        "does not go on behind a call that never returns",
-        &[
-            CALL_4,
-            BREAKPOINT,
-            NO_OPERATION,
-            NO_OPERATION,
-            JUMP_0,
-            RETURN,
-        ],
-        "0x10000 of 0; 0x10010 of 1;  0x10000 0x10010",
-    ),
-    // 0: call of 4; 1: call of 5; 2: stop; 4: jump to 6; 5: return; 6: return
-    (
-        "goes on behind calls that return",
-        &[
-            CALL_4,
-            CALL_4,
-            BREAKPOINT,
-            NO_OPERATION,
-            JUMP_2,
-            RETURN,
-            RETURN,
-        ],
-        "0x10000 of 0; 0x10004 of 0; 0x10008 of 0; 0x10010 of 1; 0x10014 of 2; 0x10018 of 1;  0x10000 0x10010 0x10014",
-    ),
-    // 0: call of 2, which exits; no way leads back to 1
-    (
-        "leaves out what is not reached",
-        &[CALL_2, 0, EXIT, ECALL],
-        "0x10000 of 0; 0x10008 of 1; 0x1000c of 1;  0x10000 0x10008",
-    ),
-];
-
-fn functions_of(alloc: Global, words: &[u32]) -> Result<String, Fail> {
-    let graph = graph_of(alloc, words)?;
-    functions_text(alloc, &graph)
-}
-
-#[test]
-fn reaches_code_in_functions(rt: HostRuntime) -> Result<(), Fail> {
-    for (name, words, want) in &FUNCTIONS {
-        expect_text(&rt, name, functions_of(rt.alloc(), words), want)?;
     }
     Ok(())
 }
@@ -458,104 +247,5 @@ fn weighs_edges_by_their_steps(rt: HostRuntime) -> Result<(), Fail> {
         sum = 10 * (sum % 10_000_000) + *weights.get(e) % 10;
     }
     expect_same(&rt, 0, sum, 4_566_196);
-    Ok(())
-}
-
-/// The blocks of the program of some words, told one after another.
-fn blocks_of_words(alloc: Global, words: &[u32]) -> Result<Vec<(u32, u32)>, Fail> {
-    let graph = graph_of(alloc, words)?;
-    let mut told = Vec::new(alloc);
-    for b in 0..graph.block_count() {
-        let block = graph.block(b);
-        told.push((block.from, block.to))?;
-    }
-    Ok(told)
-}
-
-/// The words of a program, and where its blocks begin and end.
-static BLOCKS: [(&str, &[u32], &[(u32, u32)]); 7] = [
-    (
-        "a straight text is one block",
-        &[0x0000_0513, EXIT, ECALL],
-        &[(0x10000, 0x1000C)],
-    ),
-    // A branch over two words.
-    (
-        "a branch ends a block",
-        &[BRANCH_3, 0x0000_0513, 0x0000_0513, EXIT, ECALL],
-        &[(0x10000, 0x10004), (0x10004, 0x1000C), (0x1000C, 0x10014)],
-    ),
-    // It reads bytes until there are none.
-    (
-        "a loop begins a block",
-        &[
-            0x0001_0593,
-            0x0010_0613,
-            0x03F0_0893,
-            0x0000_0513,
-            ECALL,
-            0xFE05_1AE3,
-            EXIT,
-            ECALL,
-        ],
-        &[(0x10000, 0x10008), (0x10008, 0x10018), (0x10018, 0x10020)],
-    ),
-    // A call of the last word, which returns.
-    (
-        "a call ends a block",
-        &[0x0000_0513, CALL_3, EXIT, ECALL, 0x0000_0513, RETURN],
-        &[(0x10000, 0x10008), (0x10008, 0x10010), (0x10010, 0x10018)],
-    ),
-    // Register 17 is loaded with 93 or with 63, so that the service may exit or not.
-    (
-        "a service that may exit ends a block",
-        &[BRANCH_2, 0x03F0_0893, ECALL, 0x0000_0513, EXIT, ECALL],
-        &[
-            (0x10000, 0x10004),
-            (0x10004, 0x10008),
-            (0x10008, 0x1000C),
-            (0x1000C, 0x10018),
-        ],
-    ),
-    // A function at 0x10010 that goes back to the word before its entry.
-    (
-        "an entry begins a block",
-        &[CALL_4, EXIT, ECALL, 0x0000_0513, 0xFE05_0EE3, RETURN],
-        &[
-            (0x10000, 0x10004),
-            (0x10004, 0x1000C),
-            (0x1000C, 0x10010),
-            (0x10010, 0x10014),
-            (0x10014, 0x10018),
-        ],
-    ),
-    // The second function stands right behind the first, and each is one block.
-    (
-        "functions have blocks of their own",
-        &[
-            CALL_3,
-            CALL_4,
-            JUMP_0,
-            0x0000_0513,
-            RETURN,
-            0x0000_0513,
-            RETURN,
-        ],
-        &[
-            (0x10000, 0x10004),
-            (0x10004, 0x10008),
-            (0x10008, 0x1000C),
-            (0x1000C, 0x10014),
-            (0x10014, 0x1001C),
-        ],
-    ),
-];
-
-#[test]
-fn divides_code_into_blocks(rt: HostRuntime) -> Result<(), Fail> {
-    for (name, words, want) in &BLOCKS {
-        let blocks = blocks_of_words(rt.alloc(), words)?;
-        expect_list(&rt, words.len() as u64, &blocks, want);
-    }
     Ok(())
 }

@@ -22,11 +22,7 @@ mod nesting;
 #[cfg(test)]
 mod orders;
 #[cfg(test)]
-mod pointer_bounds;
-#[cfg(test)]
 mod programs;
-#[cfg(test)]
-mod remarks;
 #[cfg(test)]
 mod stack_bounds;
 #[cfg(test)]
@@ -35,8 +31,6 @@ mod stubs;
 mod table_jumps;
 #[cfg(test)]
 mod text_words;
-#[cfg(test)]
-mod told_lines;
 #[cfg(test)]
 mod walks;
 #[cfg(test)]

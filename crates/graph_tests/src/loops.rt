@@ -1,4 +1,4 @@
-//! The loops of programs: their bodies and nesting, their back edges and trips, and what is refused.
+//! The loops of programs: their bodies and nesting, their back edges and trips. What is refused is data, `refused-loops.txt` of the first program's `cases`.
 
 ghost use Rattle.std.specs.Prelude.{ℕ, Bool};
 ghost use Rattle.loop_forest.specs.Tree.{IsLoopTree};
@@ -6,16 +6,15 @@ ghost use Rattle.loop_forest.specs.Tree.{IsLoopTree};
 use crate::programs::{
     BACK_1, BACK_3, BRANCH_0, BRANCH_2, BRANCH_3, CALL_2, CALL_5, ECALL, EXIT, JUMP_2, JUMP_BACK_1,
     JUMP_BACK_2, JUMP_BACK_3, NO_OPERATION, RETURN, START, expect_list, expect_same, expect_text,
-    graph_of, loop_stop_text,
+    graph_of,
 };
 use flow_graph::CodeGraph;
 use loop_file::{LoopNote, LoopNotes, RangeList};
 use loop_forest::LoopTree;
 use loop_tree::build_loops;
-use scale_base::{Range, Stop};
+use scale_base::Range;
 use std::alloc::{AllocError, Global};
 use std::fmt::Write;
-use std::process::Abort;
 use std::test::Fail;
 
 /// A branch by six words, and one back by five.
@@ -29,19 +28,8 @@ type Places = (u8, u8, u8);
 /// Word 1 is the header of a loop with word 2.
 pub const SIMPLE: [u32; 5] = [NO_OPERATION, BRANCH_2, JUMP_BACK_1, EXIT, ECALL];
 
-/// Words 1 to 4 turn back to word 1, and word 0 also leads to word 3.
-pub const TWO_ENTRIES: [u32; 7] = [
-    BRANCH_3,
-    NO_OPERATION,
-    BRANCH_3,
-    NO_OPERATION,
-    JUMP_BACK_3,
-    EXIT,
-    ECALL,
-];
-
 /// Words 0 to 3 turn back to word 0.
-pub const FROM_START: [u32; 6] = [
+const FROM_START: [u32; 6] = [
     NO_OPERATION,
     BRANCH_3,
     NO_OPERATION,
@@ -51,10 +39,10 @@ pub const FROM_START: [u32; 6] = [
 ];
 
 /// The call at word 1 comes back to word 2, which word 3 leads to by way of word 1.
-pub const CALL_AT_END: [u32; 7] = [JUMP_2, CALL_5, BRANCH_2, JUMP_BACK_2, EXIT, ECALL, RETURN];
+const CALL_AT_END: [u32; 7] = [JUMP_2, CALL_5, BRANCH_2, JUMP_BACK_2, EXIT, ECALL, RETURN];
 
 /// Words 0 to 2 turn back to word 0; the function at word 3 turns back from word 4.
-pub const TWO_FUNCTIONS: [u32; 8] = [
+const TWO_FUNCTIONS: [u32; 8] = [
     BRANCH_6,
     CALL_2,
     JUMP_BACK_2,
@@ -66,7 +54,7 @@ pub const TWO_FUNCTIONS: [u32; 8] = [
 ];
 
 /// Words 2 and 3 are a loop within one of words 1 to 4.
-pub const NESTED: [u32; 8] = [
+const NESTED: [u32; 8] = [
     NO_OPERATION,
     NO_OPERATION,
     NO_OPERATION,
@@ -80,46 +68,6 @@ pub const NESTED: [u32; 8] = [
 const INNER: Places = (2, 2, 4);
 
 const OUTER: Places = (1, 1, 5);
-
-/// Seventeen words, and seventeen branches, of which each leads back to the last word that none before it leads to.
-pub const DEEP: [u32; 36] = [
-    NO_OPERATION,
-    NO_OPERATION,
-    NO_OPERATION,
-    NO_OPERATION,
-    NO_OPERATION,
-    NO_OPERATION,
-    NO_OPERATION,
-    NO_OPERATION,
-    NO_OPERATION,
-    NO_OPERATION,
-    NO_OPERATION,
-    NO_OPERATION,
-    NO_OPERATION,
-    NO_OPERATION,
-    NO_OPERATION,
-    NO_OPERATION,
-    NO_OPERATION,
-    0xFE00_0EE3,
-    0xFE00_0AE3,
-    0xFE00_06E3,
-    0xFE00_02E3,
-    0xFC00_0EE3,
-    0xFC00_0AE3,
-    0xFC00_06E3,
-    0xFC00_02E3,
-    0xFA00_0EE3,
-    0xFA00_0AE3,
-    0xFA00_06E3,
-    0xFA00_02E3,
-    0xF800_0EE3,
-    0xF800_0AE3,
-    0xF800_06E3,
-    0xF800_02E3,
-    0xF600_0EE3,
-    EXIT,
-    ECALL,
-];
 
 /// The address of a word.
 fn address_of(word: u8) -> u32 {
@@ -182,29 +130,10 @@ fn loops_text(alloc: Global, tree: &LoopTree) -> Result<String, Fail> {
     Ok(text)
 }
 
-fn loops_or_refusal(alloc: Global, graph: &CodeGraph, notes: &LoopNotes) -> Result<String, Fail> {
-    match build_loops(alloc, graph, notes) {
-        Ok(tree) => loops_text(alloc, &tree),
-        Err(stop) => loop_stop_text(alloc, &stop),
-    }
-}
-
-/// What is found of a program's loops.
-fn answer(alloc: Global, words: &[u32], loops: &[Places]) -> Result<String, Fail> {
-    let graph = graph_of(alloc, words)?;
-    let notes = notes_of(alloc, loops)?;
-    loops_or_refusal(alloc, &graph, &notes)
-}
-
-fn expect(
-    rt: &impl Abort,
-    alloc: Global,
-    name: &str,
-    words: &[u32],
-    loops: &[Places],
-    expected: &str,
-) -> Result<(), Fail> {
-    expect_text(rt, name, answer(alloc, words, loops), expected)
+/// Each header of a program's loops with the body.
+fn bodies_text(alloc: Global, words: &[u32], loops: &[Places]) -> Result<String, Fail> {
+    let tree = tree_of(alloc, words, loops)?;
+    loops_text(alloc, &tree)
 }
 
 /// Of the deep loops two alone.
@@ -269,210 +198,7 @@ static BODIES: [(&str, &[u32], &[Places], &str); 8] = [
 #[test]
 fn finds_the_bodies_of_loops(rt: HostRuntime) -> Result<(), Fail> {
     for (name, words, loops, want) in &BODIES {
-        expect(&rt, rt.alloc(), name, words, loops, want)?;
-    }
-    Ok(())
-}
-
-/// The loops of a program, and why they are refused.
-static REFUSED: [(&str, &[u32], &[Places], &str); 15] = [
-    (
-        "the second header",
-        &SIMPLE,
-        &[(1, 1, 3), (9, 1, 3), (8, 1, 3)],
-        "not reached 2",
-    ),
-    (
-        "before the same header",
-        &SIMPLE,
-        &[(1, 1, 3), (1, 1, 3), (8, 1, 3)],
-        "not reached 3",
-    ),
-    (
-        "a header beyond",
-        &NESTED,
-        &[OUTER, (8, 8, 9)],
-        "not reached 2",
-    ),
-    (
-        "the least loops with one header",
-        &SIMPLE,
-        &[
-            (1, 1, 3),
-            (0, 0, 1),
-            (0, 0, 3),
-            (1, 1, 3),
-            (0, 0, 1),
-            (1, 0, 1),
-        ],
-        "same header 1 4",
-    ),
-    (
-        "two loops with one header",
-        &SIMPLE,
-        &[(0, 0, 3), (3, 0, 1), (2, 0, 1), (3, 0, 1)],
-        "same header 2 4",
-    ),
-    (
-        "no edge turns back",
-        &SIMPLE,
-        &[(1, 1, 3), (0, 0, 5), (3, 0, 5)],
-        "no back edge 2",
-    ),
-    (
-        "an edge from outside the extent",
-        &SIMPLE,
-        &[(1, 3, 5)],
-        "no back edge 1",
-    ),
-    // A side entry of a loop before it is told later.
-    (
-        "before a side entry",
-        &TWO_ENTRIES,
-        &[(1, 1, 5), (0, 0, 7)],
-        "no back edge 2",
-    ),
-    // Word 0 leads back to word 1 too, and lies in the range.
-    (
-        "the start in the body",
-        &SIMPLE,
-        &[(1, 0, 5)],
-        "side entry 1 0x10000 0x10000",
-    ),
-    (
-        "an edge past the header",
-        &TWO_ENTRIES,
-        &[(1, 1, 5)],
-        "side entry 1 0x10000 0x1000c",
-    ),
-    (
-        "another header",
-        &FROM_START,
-        &[(2, 0, 4)],
-        "side entry 1 0x10000 0x10000",
-    ),
-    (
-        "the second loop",
-        &FROM_START,
-        &[(0, 0, 4), (3, 0, 4)],
-        "side entry 2 0x10000 0x10000",
-    ),
-    (
-        "no loop is noted",
-        &SIMPLE,
-        &[],
-        "unbounded cycle 0x10004 0x10008",
-    ),
-    (
-        "names a cycle from its least address",
-        &[JUMP_2, NO_OPERATION, JUMP_BACK_1],
-        &[],
-        "unbounded cycle 0x10004 0x10008",
-    ),
-    // The outer loop is noted, and the inner one isn't.
-    (
-        "names a cycle beside a loop",
-        &NESTED,
-        &[OUTER],
-        "unbounded cycle 0x10008 0x1000c",
-    ),
-];
-
-#[test]
-fn refuses_loops(rt: HostRuntime) -> Result<(), Fail> {
-    for (name, words, loops, want) in &REFUSED {
-        expect(&rt, rt.alloc(), name, words, loops, want)?;
-    }
-    Ok(())
-}
-
-/// Words that each branch to themselves, and others behind them.
-fn behind_turning(alloc: Global, turning: usize, words: &[u32]) -> Result<Vec<u32>, Fail> {
-    let mut text = vec![in alloc; BRANCH_0; turning]?;
-    text.extend_from_slice(words)?;
-    Ok(text)
-}
-
-/// The loops of so many words that branch to themselves.
-fn turning_loops(alloc: Global, turning: u8) -> Result<Vec<Places>, Fail> {
-    let mut loops = Vec::new(alloc);
-    for k in 0..turning {
-        loops.push((k, k, k + 1))?;
-    }
-    Ok(loops)
-}
-
-/// The loops of 66 words that branch to themselves, and one more loop or two.
-fn loops_behind(alloc: Global, more: &[Places]) -> Result<Vec<Places>, Fail> {
-    let mut loops = turning_loops(alloc, 66)?;
-    loops.extend_from_slice(more)?;
-    Ok(loops)
-}
-
-/// Words 67 to 70 turn back to word 67, and word 66 also leads to word 69.
-/// The same words, with word 69 for the header, which word 67 leads to past word 68.
-static ASIDE: [(&str, &[Places]); 2] = [
-    ("one", &[(67, 67, 71)]),
-    ("two", &[(67, 67, 71), (69, 66, 71)]),
-];
-
-#[test]
-fn names_the_first_loop_that_is_entered_aside_among_more_than_64(
-    rt: HostRuntime,
-) -> Result<(), Fail> {
-    let text = behind_turning(rt.alloc(), 66, &TWO_ENTRIES)?;
-    for (name, more) in &ASIDE {
-        let loops = loops_behind(rt.alloc(), more)?;
-        let want = "side entry 67 0x10108 0x10114";
-        expect(&rt, rt.alloc(), name, &text, &loops, want)?;
-    }
-    Ok(())
-}
-
-/// The deep loops from one on, the outermost first, behind so many words that branch to themselves, with their loops.
-fn deep_loops(alloc: Global, turning: u8, first: u8) -> Result<Vec<Places>, Fail> {
-    if turning > 60 {
-        return Err("there are at most 60".into());
-    }
-    let mut loops = turning_loops(alloc, turning)?;
-    for k in first..17 {
-        loops.push((turning + k, turning + k, turning + 34 - k))?;
-    }
-    Ok(loops)
-}
-
-/// Seventeen loops within one another are too deep, behind so many loops of one word.
-fn expect_too_deep(rt: &impl Abort, alloc: Global, turning: u8, refused: &str) -> Result<(), Fail> {
-    let text = behind_turning(alloc, usize::from(turning), &DEEP)?;
-    let loops = deep_loops(alloc, turning, 0)?;
-    expect(rt, alloc, "seventeen", &text, &loops, refused)
-}
-
-/// Sixteen are not.
-fn expect_sixteen(rt: &impl Abort, alloc: Global, turning: u8) -> Result<(), Fail> {
-    // The last branch, that of the outermost loop, is left out.
-    let mut fewer = DEEP;
-    fewer[33] = NO_OPERATION;
-    let text = behind_turning(alloc, usize::from(turning), &fewer)?;
-    let loops = deep_loops(alloc, turning, 1)?;
-    let tree = tree_of(alloc, &text, &loops)?;
-    expect_same(
-        rt,
-        u64::from(turning),
-        tree.loop_count(),
-        usize::from(turning) + 16,
-    );
-    Ok(())
-}
-
-/// How many loops of one word stand before the deep ones, and what is refused of seventeen; the second time there are more than 64 loops.
-static TURNING: [(u8, &str); 2] = [(0, "too deep 17"), (60, "too deep 77")];
-
-#[test]
-fn refuses_loops_that_are_too_deep(rt: HostRuntime) -> Result<(), Fail> {
-    for (turning, refused) in &TURNING {
-        expect_too_deep(&rt, rt.alloc(), *turning, refused)?;
-        expect_sixteen(&rt, rt.alloc(), *turning)?;
+        expect_text(&rt, name, bodies_text(rt.alloc(), words, loops), want)?;
     }
     Ok(())
 }
@@ -513,13 +239,9 @@ fn nesting_of(alloc: Global, graph: &CodeGraph, tree: &LoopTree) -> Result<Strin
 fn nesting_text(alloc: Global, words: &[u32], loops: &[Places]) -> Result<String, Fail> {
     let graph = graph_of(alloc, words)?;
     let notes = notes_of(alloc, loops)?;
-    nesting_or_refusal(alloc, &graph, &notes)
-}
-
-fn nesting_or_refusal(alloc: Global, graph: &CodeGraph, notes: &LoopNotes) -> Result<String, Fail> {
-    match build_loops(alloc, graph, notes) {
-        Ok(tree) => nesting_of(alloc, graph, &tree),
-        Err(stop) => loop_stop_text(alloc, &stop),
+    match build_loops(alloc, &graph, &notes) {
+        Ok(tree) => nesting_of(alloc, &graph, &tree),
+        Err(_) => Err("the loops are accepted".into()),
     }
 }
 

@@ -156,12 +156,7 @@ fn finds_a_long_cycle(rt: HostRuntime) -> Result<(), Fail> {
 fn turns_a_cycle_to_its_least_number(rt: HostRuntime) -> Result<(), Fail> {
     let turned = least_first(vec![in rt.alloc(); 20, 12, 16]?);
     expect_list(&rt, 0, &turned, &[12, 16, 20]);
-    Ok(())
-}
-
-#[test]
-fn turns_a_cycle_of_one_number(rt: HostRuntime) -> Result<(), Fail> {
     let one = least_first(vec![in rt.alloc(); 8]?);
-    expect_list(&rt, 0, &one, &[8]);
+    expect_list(&rt, 1, &one, &[8]);
     Ok(())
 }

@@ -11,9 +11,8 @@ use image_maker::plain_image;
 use loop_file::{LoopNotes, read_loops};
 use loop_forest::LoopTree;
 use loop_tree::build_loops;
-use scale_base::{Cycle, Refusal, Stop};
 use std::alloc::Global;
-use std::fmt::{Debug, Write};
+use std::fmt::Debug;
 use std::process::Abort;
 use std::test::Fail;
 
@@ -94,22 +93,6 @@ fn graph_of_file(alloc: Global, file: &[u8]) -> Result<CodeGraph, Fail> {
 pub fn graph_of(alloc: Global, words: &[u32]) -> Result<CodeGraph, Fail> {
     let file = image_of(alloc, words)?;
     graph_of_file(alloc, &file)
-}
-
-/// Why the code of an image is refused.
-pub fn refused_text(alloc: Global, file: &[u8]) -> Result<String, Fail> {
-    let view = view_of(alloc, file)?;
-    match build_graph(alloc, &view) {
-        Ok(_) => Err("the code is refused".into()),
-        Err(stop) => stop_text(alloc, &stop),
-    }
-}
-
-fn stop_text(alloc: Global, stop: &Stop) -> Result<String, Fail> {
-    match stop {
-        Stop::Refused(refusal) => code_refusal_text(alloc, refusal),
-        Stop::Memory => Err("there is memory".into()),
-    }
 }
 
 /// A program's graph and the loops of a loop file.
@@ -194,50 +177,4 @@ pub fn expect_parts(
 /// A text of some words.
 pub fn words_text(alloc: Global, words: &str) -> Result<String, Fail> {
     Ok(String::from_str(alloc, words)?)
-}
-
-fn cycle_text(alloc: Global, name: &str, cycle: &Cycle) -> Result<String, Fail> {
-    let mut text = String::from_str(alloc, name)?;
-    for k in 0..cycle.count() {
-        write!(&mut text, " {:#x}", *cycle.get(k))?;
-    }
-    Ok(text)
-}
-
-/// Why code is refused, and where.
-fn code_refusal_text(alloc: Global, refusal: &Refusal) -> Result<String, Fail> {
-    let (name, at) = match refusal {
-        Refusal::IllegalWord(at) => ("illegal word", *at),
-        Refusal::OutsideText(at) => ("outside text", *at),
-        Refusal::MisalignedTarget(at) => ("misaligned target", *at),
-        Refusal::OddLink(at) => ("odd link", *at),
-        Refusal::IndirectJump(at) => ("indirect jump", *at),
-        Refusal::SharedCode(at) => ("shared code", *at),
-        Refusal::Recursion(cycle) => return cycle_text(alloc, "recursion", cycle),
-        _ => ("other", 0),
-    };
-    Ok(format!(in alloc; "{name} {at:#x}")?)
-}
-
-/// Why loops are refused, or that memory is out.
-pub fn loop_stop_text(alloc: Global, stop: &Stop) -> Result<String, Fail> {
-    match stop {
-        Stop::Refused(refusal) => loop_refusal_text(alloc, refusal),
-        Stop::Memory => Err("there is memory".into()),
-    }
-}
-
-/// Why loops are refused, by their numbers from 1 on.
-fn loop_refusal_text(alloc: Global, refusal: &Refusal) -> Result<String, Fail> {
-    match refusal {
-        Refusal::HeaderNotReached(k) => Ok(format!(in alloc; "not reached {k}")?),
-        Refusal::SameHeader(one, two) => Ok(format!(in alloc; "same header {one} {two}")?),
-        Refusal::NoBackEdge(k) => Ok(format!(in alloc; "no back edge {k}")?),
-        Refusal::SideEntry(k, from, to) => {
-            Ok(format!(in alloc; "side entry {k} {from:#x} {to:#x}")?)
-        }
-        Refusal::TooDeep(k) => Ok(format!(in alloc; "too deep {k}")?),
-        Refusal::UnboundedCycle(cycle) => cycle_text(alloc, "unbounded cycle", cycle),
-        _ => words_text(alloc, "other"),
-    }
 }

@@ -1,4 +1,4 @@
-//! The code of stubs.
+//! The code of stubs with fragments of paced images. Those of rewritten ones are data, `rewrite.txt` of the first program's `cases`.
 
 ghost use Rattle.std.specs.Prelude.{◌≡◌, ◌≤◌, ◌++◌, ◌+◌, ◌∷◌, [], length, IfOk, OnOk};
 ghost use Rattle.std.specs.List.{All};
@@ -7,20 +7,12 @@ ghost use Rattle.scale_base.specs.Word.{FieldsInRange};
 ghost use Rattle.stub_writer.specs.Fragments.{IsFragment};
 ghost use Rattle.stub_writer.specs.Sites.{IsEdge, IsSite};
 
-use crate::programs::{expect_parts, expect_text};
-use scale_base::{BranchOp, Edge, EdgeKind, Fragment, Instr, Patch, Refusal, Rows, Stop};
+use crate::programs::expect_parts;
+use scale_base::{BranchOp, Edge, EdgeKind, Fragment, Instr, Patch};
 use std::alloc::{AllocError, Global};
 use std::fmt::Write;
 use std::test::Fail;
 use stub_writer::{EdgeList, FragmentList, StubBlock, StubEdge, StubSite, block_len, emit};
-
-/// A branch's stub with a Switch where it is taken: its bytes, its words and its patch.
-const SWITCHED: &str =
-    "56 bytes: 00050463 810ff06f 80502023 80602223 ffc02283 00229293 00000337 10030313 00535333 00f37313 fe602e23 80402303 80002283 ff9fe06f; 10010 7f10006f;";
-
-/// A branch's stub that leaves a counted loop or counts a turn, and eleven rows.
-const COUNTED: &str =
-    "140 bytes: 04051463 80502023 80602223 80802283 0002d293 00229293 00011337 006282b3 0602a303 ffc02283 00229293 00535333 00f37313 80002423 fe602e23 80402303 80002283 fd5fe06f 80502023 80802283 00128293 80502423 80002283 fadfe06f 00000000 00000000 00000000 00000000 00000000 00000000 00000000 00000000 00000100 00000200 00000210; 10014 7ed0006f;";
 
 /// A branch's stub with a Lowest that may go down where it isn't taken, and one that may not where it is.
 const LOWERED: &str = "20 bytes: 00051663 fe002e23 810ff06f 80002223 ff9fe06f;";
@@ -90,25 +82,6 @@ fn branch(
     Ok(sites)
 }
 
-/// Eleven rows, the last three of which aren't 0.
-fn rows() -> Rows
-    ensures { length result ≤ 16 }
-{
-    let mut rows = Rows::new();
-    for _ in 0..8 {
-        if rows.count() < 16 {
-            rows.push(0);
-        }
-    }
-    for word in [0x100, 0x200, 0x210] {
-        if rows.count() < 16 {
-            rows.push(word);
-        }
-    }
-    let _few = rows.count();
-    rows
-}
-
 /// One marked edge.
 fn one_edge(alloc: Global, edge: StubEdge) -> Result<Vec<StubEdge>, Fail>
     requires edge { IsEdge edge }
@@ -156,64 +129,25 @@ fn block_text(alloc: Global, len: u32, block: &StubBlock) -> Result<String, Fail
     Ok(text)
 }
 
-/// The block of one site from an address on, or that it is out of reach.
-fn sites_text(alloc: Global, sites: &[StubSite], base: u32) -> Result<String, Fail>
+/// The block of one site, from 0x11000 on.
+fn sites_text(alloc: Global, sites: &[StubSite]) -> Result<String, Fail>
     requires each { All IsSite sites.now }
     requires one { length sites.now ≡ 1 }
 {
     let len = block_len(sites);
-    match emit(alloc, sites, base) {
+    match emit(alloc, sites, 0x11000) {
         Ok(block) => block_text(alloc, len, &block),
-        Err(Stop::Refused(Refusal::StubOutOfReach(at))) => far_text(alloc, at),
-        Err(_) => Err("there is memory".into()),
+        Err(_) => Err("the block is in reach".into()),
     }
 }
 
-fn far_text(alloc: Global, at: u32) -> Result<String, Fail> {
-    Ok(format!(in alloc; "too far from {at:#x}")?)
-}
-
-/// The block of a branch of x10 and x0 with its marked edges.
-fn branch_text(
-    alloc: Global,
-    at: u32,
-    op: BranchOp,
-    offset: i32,
-    edges: Vec<StubEdge>,
-    base: u32,
-) -> Result<String, Fail>
-    requires fields { FieldsInRange (Branch op 10 0 offset) }
+/// The block of the branch at 0x10014, of x10 and x0, with its marked edges.
+fn branch_text(alloc: Global, edges: Vec<StubEdge>) -> Result<String, Fail>
     requires few { length edges.items ≤ 2 }
     requires each { All IsEdge edges.items }
 {
-    let sites = branch(alloc, at, op, offset, edges)?;
-    sites_text(alloc, &sites, base)
-}
-
-#[test]
-fn a_switch_where_a_branch_is_taken(rt: HostRuntime) -> Result<(), Fail> {
-    let alloc = rt.alloc();
-    let switch = Fragment::Switch { word: 0x100 };
-    let taken = edge(alloc, 0x10010, EdgeKind::Taken, 0x1002C, switch)?;
-    let edges = one_edge(alloc, taken)?;
-    let found = branch_text(alloc, 0x10010, BranchOp::Beq, 28, edges, 0x11000);
-    expect_text(&rt, "switched", found, SWITCHED)
-}
-
-#[test]
-fn a_counted_loop_with_its_rows(rt: HostRuntime) -> Result<(), Fail> {
-    let alloc = rt.alloc();
-    let left = Fragment::Exit {
-        counter: 2,
-        shift: 0,
-        rows: rows(),
-    };
-    let untaken = edge(alloc, 0x10014, EdgeKind::Untaken, 0x10018, left)?;
-    let turned = Fragment::Count { counter: 2 };
-    let taken = edge(alloc, 0x10014, EdgeKind::Taken, 0x10008, turned)?;
-    let edges = two_edges(alloc, untaken, taken)?;
-    let found = branch_text(alloc, 0x10014, BranchOp::Bne, -12, edges, 0x11000);
-    expect_text(&rt, "counted", found, COUNTED)
+    let sites = branch(alloc, 0x10014, BranchOp::Bne, -12, edges)?;
+    sites_text(alloc, &sites)
 }
 
 #[test]
@@ -224,7 +158,7 @@ fn the_lowest_level_on_both_ways(rt: HostRuntime) -> Result<(), Fail> {
     let as_it_is = Fragment::Lowest { down: false };
     let taken = edge(alloc, 0x10014, EdgeKind::Taken, 0x10008, as_it_is)?;
     let edges = two_edges(alloc, untaken, taken)?;
-    let found = branch_text(alloc, 0x10014, BranchOp::Bne, -12, edges, 0x11000);
+    let found = branch_text(alloc, edges);
     expect_parts(&rt, "lowered", found, &[LOWERED])
 }
 
@@ -238,20 +172,6 @@ fn a_loop_that_goes_down_from_a_count_on(rt: HostRuntime) -> Result<(), Fail> {
     };
     let taken = edge(alloc, 0x10014, EdgeKind::Taken, 0x10008, turned)?;
     let edges = one_edge(alloc, taken)?;
-    let found = branch_text(alloc, 0x10014, BranchOp::Bne, -12, edges, 0x11000);
+    let found = branch_text(alloc, edges);
     expect_parts(&rt, "tallied", found, &[TALLIED])
-}
-
-#[test]
-fn a_stub_in_reach(rt: HostRuntime) -> Result<(), Fail> {
-    let edges = Vec::new(rt.alloc());
-    let found = branch_text(rt.alloc(), 0x10000, BranchOp::Beq, 8, edges, 0x10F000);
-    expect_parts(&rt, "near", found, &["bytes:"])
-}
-
-#[test]
-fn a_stub_that_is_too_far(rt: HostRuntime) -> Result<(), Fail> {
-    let edges = Vec::new(rt.alloc());
-    let found = branch_text(rt.alloc(), 0x10000, BranchOp::Beq, 8, edges, 0x120000);
-    expect_text(&rt, "far", found, "too far from 0x10000")
 }

@@ -1,11 +1,9 @@
-//! Walks that take the worst cycles, and what is counted along them.
+//! What is counted along a walk that takes the worst cycles. Other rows are data, `explain.txt` of the second program's `cases`.
 
 ghost use Rattle.std.specs.Prelude.{◌≡◌, ℕ, Bool};
 ghost use Rattle.loop_forest.specs.Tree.{IsLoopTree};
 
-use crate::programs::{
-    BACK_1, BACK_3, BRANCH_3, CALL_3, CALL_5, ECALL, EXIT, JUMP_2, NO_OPERATION, RETURN, program_of,
-};
+use crate::programs::{BACK_1, BACK_3, ECALL, EXIT, NO_OPERATION, expect_list, program_of};
 use flow_graph::{CodeGraph, Weights};
 use loop_forest::LoopTree;
 use scale_base::Stop;
@@ -29,62 +27,33 @@ fn counts_of(alloc: Global, graph: &CodeGraph, tree: &LoopTree) -> Result<Option
     Ok(worst_walk(alloc, &known)?)
 }
 
+/// Four inner turns in each of the outer, and in the last passage.
+const NESTED: [u32; 8] = [
+    NO_OPERATION,
+    NO_OPERATION,
+    NO_OPERATION,
+    BACK_1,
+    BACK_3,
+    NO_OPERATION,
+    EXIT,
+    ECALL,
+];
+
+const NESTED_LOOPS: &str =
+    "version = 1\nloop = [{header = 0x10004, ranges = [[0x10004, 0x10014]], bound = 3}, {header = 0x10008, ranges = [[0x10008, 0x10010]], bound = 4}]\n";
+
 /// Calls by function, entries and turns by loop, own cycles by function and by loop.
 #[test]
 fn counts_what_the_worst_walk_takes(rt: HostRuntime) -> Result<(), Fail> {
-    let cases: [(&str, &[u32], &str, [&[u64]; 5]); 5] = [
-        (
-            "goes the greater branch",
-            &[BRANCH_3, NO_OPERATION, NO_OPERATION, EXIT, ECALL],
-            "version = 1\nloop = []\n",
-            [&[1], &[], &[], &[5], &[]],
-        ),
-        (
-            "counts a called function's cycles once",
-            &[CALL_3, EXIT, ECALL, NO_OPERATION, RETURN],
-            "version = 1\nloop = []\n",
-            [&[1, 1], &[], &[], &[3, 2], &[]],
-        ),
-        (
-            "counts entries of a loop at the entry of what is called",
-            &[CALL_3, EXIT, ECALL, NO_OPERATION, BACK_1, RETURN],
-            "version = 1\nloop = [{header = 0x1000c, ranges = [[0x1000c, 0x10014]], bound = 3}]\n",
-            [&[1, 1], &[1], &[3], &[3, 1], &[8]],
-        ),
-        (
-            "counts what a back edge calls",
-            &[JUMP_2, CALL_5, BACK_1, NO_OPERATION, EXIT, ECALL, RETURN],
-            "version = 1\nloop = [{header = 0x10008, ranges = [[0x10004, 0x1000c]], bound = 5}]\n",
-            [&[1, 5], &[1], &[5], &[4, 5], &[11]],
-        ),
-        // Four inner turns in each of the outer, and in the last passage.
-        (
-            "multiplies turns of an inner loop by those of the outer",
-            &[
-                NO_OPERATION,
-                NO_OPERATION,
-                NO_OPERATION,
-                BACK_1,
-                BACK_3,
-                NO_OPERATION,
-                EXIT,
-                ECALL,
-            ],
-            "version = 1\nloop = [{header = 0x10004, ranges = [[0x10004, 0x10014]], bound = 3}, {header = 0x10008, ranges = [[0x10008, 0x10010]], bound = 4}]\n",
-            [&[1], &[1, 4], &[3, 16], &[4], &[8, 40]],
-        ),
-    ];
-    for (name, words, loops, want) in cases {
-        let program = program_of(rt.alloc(), words, loops)?;
-        let found = counts_of(rt.alloc(), &program.graph, &program.tree);
-        let Some(counts) = found.ok().ok_or("there is memory")? else {
-            return Err("no walk is found".into());
-        };
-        assert_eq!(rt; counts.calls.as_slice(), want[0], "{name}");
-        assert_eq!(rt; counts.entries.as_slice(), want[1], "{name}");
-        assert_eq!(rt; counts.turns.as_slice(), want[2], "{name}");
-        assert_eq!(rt; counts.function_own.as_slice(), want[3], "{name}");
-        assert_eq!(rt; counts.loop_own.as_slice(), want[4], "{name}");
-    }
+    let program = program_of(rt.alloc(), &NESTED, NESTED_LOOPS)?;
+    let found = counts_of(rt.alloc(), &program.graph, &program.tree);
+    let Some(counts) = found.ok().ok_or("there is memory")? else {
+        return Err("no walk is found".into());
+    };
+    expect_list(&rt, 0, &counts.calls, &[1]);
+    expect_list(&rt, 1, &counts.entries, &[1, 4]);
+    expect_list(&rt, 2, &counts.turns, &[3, 16]);
+    expect_list(&rt, 3, &counts.function_own, &[4]);
+    expect_list(&rt, 4, &counts.loop_own, &[8, 40]);
     Ok(())
 }

@@ -9,4 +9,4 @@ mod totals;
 
 pub use agreeing::{surveys_agree, surveys_say_of_runs};
 pub use power_model::{SurveyLine, SurveyReport, Totals};
-pub use surveying::survey;
+pub use surveying::{SurveyFiles, survey, survey_with_progress};

@@ -10,8 +10,9 @@ ghost use Rattle.input_survey.specs.Surveyed.{IsLine};
 use elf_image::ImageView;
 use keep_monitor::LoopCounter;
 use power_model::{Meter, Power, RunReport, SurveyLine};
+use run_progress::Progress;
 use scale_base::NoMemory;
-use speed_sim::{counted_report, report};
+use speed_sim::{ImageRun, counted_report, report};
 use std::alloc::Global;
 
 /// Whether two runs have the same ending and the same output.
@@ -41,11 +42,12 @@ pub struct Images<'a> {
 }
 
 /// The runs of both images on an input, one after the other. The counter counts the loops of the original's.
-pub fn line_of(
+pub fn line_of<P: Progress>(
     alloc: Global,
     images: &Images<'_>,
     input: &[u8],
     counter: &mut LoopCounter,
+    progress: &mut P,
 ) -> Result<SurveyLine, NoMemory>
     requires unscaled { images.now.original.now.keyed_segment ≡ None }
     requires start { images.now.start ≡ starting_level (length images.now.power.now.levels) images.now.scaled.now.keyed_segment }
@@ -55,9 +57,18 @@ pub fn line_of(
     ensures counted { let power = images.now.power.now in OnOk result (counter.new ≡ counted_run images.now.original.now (length power.levels) input.now counter.old.notes counter.old.most power.steps) }
 {
     let power = images.power;
-    let fastest = power.levels.count() - 1;
-    let run = counted_report(alloc, images.original, power, fastest, input, counter)?;
-    let scaled = report(alloc, images.scaled, power, images.start, input, None)?;
+    let fastest = ImageRun {
+        view: images.original,
+        power,
+        start: power.levels.count() - 1,
+    };
+    let run = counted_report(alloc, &fastest, input, counter, progress)?;
+    let slower = ImageRun {
+        view: images.scaled,
+        power,
+        start: images.start,
+    };
+    let scaled = report(alloc, &slower, input, None, progress)?;
     let same = are_same(&run, &scaled);
     let held = held_of(power, &scaled.meter);
     Ok(SurveyLine {

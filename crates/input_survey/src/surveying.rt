@@ -17,16 +17,18 @@ use keep_monitor::LoopCounter;
 use loop_file::{LoopNotes, read_loops};
 use machine_file::read_machine;
 use power_model::SurveyReport;
+use run_progress::{Part, Progress, Silent};
 use scale_base::{NoMemory, Stop};
 use speed_sim::start_of;
 use std::alloc::Global;
 
 /// The survey of the images, one run after the other.
-fn survey_of(
+fn survey_of<P: Progress>(
     alloc: Global,
     images: &Images<'_>,
     notes: LoopNotes,
     inputs: &[Vec<u8>],
+    progress: &mut P,
 ) -> Result<SurveyReport, NoMemory>
     requires unscaled { images.now.original.now.keyed_segment ≡ None }
     requires start { images.now.start ≡ starting_level (length images.now.power.now.levels) images.now.scaled.now.keyed_segment }
@@ -36,8 +38,10 @@ fn survey_of(
 {
     let mut counter = LoopCounter::new(alloc, notes)?;
     let mut lines = Vec::new(alloc);
+    progress.begin(Part::Input, inputs.len());
     for input in inputs {
-        lines.push(line_of(alloc, images, input, &mut counter)?)?;
+        progress.next(Part::Input);
+        lines.push(line_of(alloc, images, input, &mut counter, progress)?)?;
     }
     let totals = totals_of(images.power, &lines);
     Ok(SurveyReport {
@@ -47,31 +51,60 @@ fn survey_of(
     })
 }
 
+/// The files of a survey: an image, the image that was scaled, a machine file and a loop file.
+#[derive(Clone, Copy)]
+pub struct SurveyFiles<'a> {
+    pub image: &'a [u8],
+    pub scaled: &'a [u8],
+    pub machine: &'a [u8],
+    pub loops: &'a [u8],
+}
+
 /// The survey, or the first refusal.
-fn survey_files(
+fn survey_files<P: Progress>(
     alloc: Global,
-    image: &[u8],
-    scaled: &[u8],
-    machine: &[u8],
-    loops: &[u8],
+    files: &SurveyFiles<'_>,
     inputs: &[Vec<u8>],
+    progress: &mut P,
 ) -> Result<SurveyReport, Stop>
     requires { length inputs.now ≤ 64 }
-    ensures { AnswersBy survey_view result (IsSurveyed image.now scaled.now machine.now loops.now (map (λ input. input.items) inputs.now)) }
+    ensures { AnswersBy survey_view result (IsSurveyed files.now.image.now files.now.scaled.now files.now.machine.now files.now.loops.now (map (λ input. input.items) inputs.now)) }
 {
-    let power = read_machine(alloc, machine)?;
-    let original = read_image(alloc, image)?;
+    let power = read_machine(alloc, files.machine)?;
+    let original = read_image(alloc, files.image)?;
     check_unscaled(original.keyed())?;
-    let other = read_image(alloc, scaled)?;
+    let other = read_image(alloc, files.scaled)?;
     let start = start_of(power.levels.count(), other.keyed())?;
-    let notes = read_loops(alloc, loops, &original)?;
+    let notes = read_loops(alloc, files.loops, &original)?;
     let images = Images {
         power: &power,
         original: &original,
         scaled: &other,
         start,
     };
-    Ok(survey_of(alloc, &images, notes, inputs)?)
+    Ok(survey_of(alloc, &images, notes, inputs, progress)?)
+}
+
+/// `survey`, which tells how far it is.
+pub fn survey_with_progress<P: Progress>(
+    alloc: Global,
+    files: &SurveyFiles<'_>,
+    inputs: &[Vec<u8>],
+    progress: &mut P,
+) -> Result<SurveyReport, Stop>
+    requires image { length files.now.image.now ≤ 4194304 }
+    requires scaled { length files.now.scaled.now ≤ 8388608 }
+    requires machine { length files.now.machine.now ≤ 1048576 }
+    requires loops { length files.now.loops.now ≤ 1048576 }
+    requires some { 1 ≤ length inputs.now }
+    requires few { length inputs.now ≤ 64 }
+    requires inputs { All (λ input. length input.items ≤ 1048576) inputs.now }
+    ensures survey { AnswersBy survey_view result (IsSurveyed files.now.image.now files.now.scaled.now files.now.machine.now files.now.loops.now (map (λ input. input.items) inputs.now)) }
+    ensures enough { IfOk result (λ survey. MostIsEnough files.now.image.now files.now.machine.now files.now.loops.now (map (λ input. input.items) inputs.now) survey.most.items) }
+    ensures needed { IfOk result (λ survey. MostIsNeeded files.now.image.now files.now.machine.now files.now.loops.now (map (λ input. input.items) inputs.now) survey.most.items) }
+    ensures promised { IfOk result (λ survey. LinesArePromised files.now.image.now files.now.scaled.now files.now.machine.now files.now.loops.now (map line_view survey.lines.items)) }
+{
+    survey_files(alloc, files, inputs, progress)
 }
 
 /// The runs of an image, and of an image that was scaled, over a list of inputs: a line for each input, the most back edges that an entry of each
@@ -100,5 +133,11 @@ pub fn survey(
     ensures needed { IfOk result (λ survey. MostIsNeeded image.now machine.now loops.now (map (λ input. input.items) inputs.now) survey.most.items) }
     ensures promised { IfOk result (λ survey. LinesArePromised image.now scaled.now machine.now loops.now (map line_view survey.lines.items)) }
 {
-    survey_files(alloc, image, scaled, machine, loops, inputs)
+    let files = SurveyFiles {
+        image,
+        scaled,
+        machine,
+        loops,
+    };
+    survey_with_progress(alloc, &files, inputs, &mut Silent)
 }

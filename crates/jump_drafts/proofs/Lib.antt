@@ -1,3 +1,4 @@
 pub mod Stopping
 pub mod Left
 pub mod Listed
+pub mod Proved

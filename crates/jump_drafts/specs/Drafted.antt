@@ -8,6 +8,8 @@ use Rattle.scale_base.specs.Image.{Image, image_of}
 use Rattle.jump_lists.specs.declared.notes.JumpNote.{JumpNote}
 use Rattle.jump_lists.specs.Jumps.{read_jumps}
 use Rattle.image_lower.specs.Lowered.{IsLowered}
+use Rattle.jump_proofs.specs.declared.proof.JumpProof.{JumpProof}
+use Rattle.jump_proofs.specs.Proved.{IsProofOf}
 use Rattle.jump_drafts.specs.declared.draft.JumpDraft.{JumpDraft}
 use Rattle.jump_drafts.specs.Jumps.{AreListed, left_of}
 
@@ -26,13 +28,23 @@ pub record IsReadAs (file : List ℕ) (notes : List JumpNote) : Type 0 where
   pub short : length file ≤ 1048576
   pub read : read_jumps file ≡ Ok notes
 
+-- what is proved of notes, where the bytes are those of the image that is lowered by them
+abbrev pub IsImageProved : Image → List ℕ → List JumpNote → JumpProof → Type 0
+IsImageProved original bytes notes proof = (lowered : Image) → image_of bytes ≡ Ok lowered → IsProofOf original lowered notes proof
+
+-- the same of the bytes that `lower` stores by a file
+abbrev pub IsFileProved : Image → List ℕ → List JumpNote → JumpProof → Type 0
+IsFileProved original file notes proof = (stored : List ℕ) (counts : Lowered) → IsLowered original.file file (Ok ((stored, counts))) → IsImageProved original stored notes proof
+
 -- The draft of an image's jump file: its bytes are read as its notes; each of these is of a jump through a register of the text that is no return, whose
--- targets are those of a table in bytes that no store can change; all others are there, too; and `lower` takes the file.
+-- targets are those of a table in bytes that no store can change; all others are there, too; `lower` takes the file; and what is said to be proved of the
+-- notes is so of the image that it stores.
 pub record IsDraftOf (original : Image) (draft : JumpDraft) : Type 0 where
   pub read : IsReadAs (string_bytes draft.file) draft.notes
   pub listed : AreListed original draft.notes draft.tables.items
   pub others : map (λ other. other.at) draft.others.items ≡ left_of original draft.notes
   pub lowerable : length original.file ≤ 4194304 → IsLowerable original.file (string_bytes draft.file)
+  pub proved : IsFileProved original (string_bytes draft.file) draft.notes draft.proof
 
 -- for the image of a file: the draft, or the refusal of its keyed segment
 abbrev pub IsImageDrafted : Image → Result JumpDraft Refusal → Type 0

@@ -1,17 +1,20 @@
 //! The draft of an image's jump file.
 
-ghost use Rattle.std.specs.Prelude.{◌≡◌, ◌≤◌, IfOk, IfSome, None, length, true};
+ghost use Rattle.std.specs.Prelude.{◌≡◌, ◌≤◌, IfOk, IfSome, None, Ok, length, true};
 ghost use Rattle.scale_base.specs.Answer.{AnswersBy};
-ghost use Rattle.jump_drafts.specs.Drafted.{AreJumpsDrafted, IsDraftOf, IsImageDrafted, IsLowerable, IsReadAs};
+ghost use Rattle.jump_drafts.specs.Drafted.{AreJumpsDrafted, IsDraftOf, IsFileProved, IsImageDrafted, IsImageProved, IsLowerable, IsReadAs};
+ghost use Rattle.scale_base.specs.Image.{image_of};
 
 use crate::draft::JumpDraft;
 use crate::listing::{are_listed, is_lowerable, left_jumps};
 use crate::texts::told_text;
-use code_names::names_of;
+use code_names::{Names, names_of};
 use elf_image::ImageView;
 use elf_view::read_image;
 use fixed_tables::Table;
+use image_lower::lower;
 use jump_lists::{JumpNotes, read_jumps};
+use jump_proofs::{JumpProof, prove_jumps};
 use jump_search::{FoundJumps, find_jumps};
 use scale_base::{NoMemory, Refusal, Stop};
 use std::alloc::Global;
@@ -57,6 +60,81 @@ fn is_taken(alloc: Global, view: &ImageView<'_>, file: &str) -> Result<bool, NoM
     is_lowerable(alloc, image, file.as_bytes())
 }
 
+// Nothing is proved of notes, whatever image the bytes are of, and whatever is stored by a file.
+fn unproved_image(alloc: Global, view: &ImageView<'_>, bytes: &[u8], notes: &JumpNotes) -> JumpProof
+    ensures { IsImageProved view.now bytes.now notes.now result }
+{
+    JumpProof::none(alloc)
+}
+
+fn unproved_file(alloc: Global, view: &ImageView<'_>, file: &str, notes: &JumpNotes) -> JumpProof
+    ensures { IsFileProved view.now file.now notes.now result }
+{
+    JumpProof::none(alloc)
+}
+
+// What is proved of notes, by the bytes of the image that is lowered by them.
+fn proof_of(
+    alloc: Global,
+    view: &ImageView<'_>,
+    bytes: &[u8],
+    notes: &JumpNotes,
+    tables: &[Table],
+) -> Result<JumpProof, NoMemory>
+    requires { image_of view.now.file ≡ Ok view.now }
+    ensures { IfOk result (λ proof. IsImageProved view.now bytes.now notes.now proof) }
+{
+    match read_image(alloc, bytes) {
+        Ok(lowered) => {
+            let _file = lowered.file();
+            prove_jumps(alloc, view, &lowered, notes, tables)
+        }
+        Err(Stop::Refused(_)) => Ok(unproved_image(alloc, view, bytes, notes)),
+        Err(Stop::Memory) => Err(NoMemory),
+    }
+}
+
+// What is proved of the notes of a file, where `lower` takes it.
+fn proof_by(
+    alloc: Global,
+    view: &ImageView<'_>,
+    file: &str,
+    notes: &JumpNotes,
+    tables: &[Table],
+) -> Result<JumpProof, NoMemory>
+    requires { image_of view.now.file ≡ Ok view.now }
+    ensures { IfOk result (λ proof. IsFileProved view.now file.now notes.now proof) }
+{
+    let image = view.file();
+    if notes.count() == 0 {
+        return Ok(unproved_file(alloc, view, file, notes));
+    }
+    if image.len() > MOST_IMAGE {
+        return Ok(unproved_file(alloc, view, file, notes));
+    }
+    match lower(alloc, image, file.as_bytes()) {
+        Ok((bytes, _)) => proof_of(alloc, view, &bytes, notes, tables),
+        Err(Stop::Refused(_)) => Ok(unproved_file(alloc, view, file, notes)),
+        Err(Stop::Memory) => Err(NoMemory),
+    }
+}
+
+// What can be proved of the jumps that are found, so that the file says it. The file's own notes are looked at again.
+fn tried_proof(
+    alloc: Global,
+    view: &ImageView<'_>,
+    names: &Names<'_>,
+    found: &FoundJumps,
+    tables: &[Table],
+) -> Result<JumpProof, NoMemory> {
+    let file = told_text(alloc, names, found, &JumpProof::none(alloc))?;
+    let _image = view.file();
+    match notes_of(alloc, file.as_str())? {
+        Some(notes) => proof_by(alloc, view, file.as_str(), &notes, tables),
+        None => Ok(JumpProof::none(alloc)),
+    }
+}
+
 // The draft with the tables that are found, where it keeps what is promised of drafts.
 fn checked_draft(
     alloc: Global,
@@ -66,15 +144,20 @@ fn checked_draft(
     ensures { IfOk result (λ draft. IfSome draft (IsDraftOf view.now)) }
 {
     let names = names_of(alloc, view)?;
-    let file = told_text(alloc, &names, found)?;
+    let tables = tables_of(alloc, found)?;
+    let tried = tried_proof(alloc, view, &names, found, &tables)?;
+    let file = told_text(alloc, &names, found, &tried)?;
     let Some(notes) = notes_of(alloc, file.as_str())? else {
         return Ok(None);
     };
-    let tables = tables_of(alloc, found)?;
     let _image = view.file();
     let listed = are_listed(alloc, view, &notes, &tables)?;
     let taken = is_taken(alloc, view, file.as_str())?;
     if !listed || !taken {
+        return Ok(None);
+    }
+    let proof = proof_by(alloc, view, file.as_str(), &notes, &tables)?;
+    if !proof.is_same(&tried) {
         return Ok(None);
     }
     let others = left_jumps(alloc, view, notes.as_slice(), found)?;
@@ -83,6 +166,7 @@ fn checked_draft(
         notes,
         tables,
         others,
+        proof,
     }))
 }
 

@@ -8,6 +8,7 @@ ghost use Rattle.jump_drafts.specs.Texts.{jumps_text};
 use crate::draft::JumpDraft;
 use code_names::{Names, PlaceWords};
 use fixed_tables::Table;
+use jump_proofs::JumpProof;
 use jump_search::{FoundJump, FoundJumps, OpenJump, push_jump};
 use scale_base::NoMemory;
 use scale_report::Address;
@@ -17,7 +18,11 @@ use std::fmt::Write;
 /// So many open jumps are told.
 const MOST_TOLD: usize = 256;
 
-/// What a draft doesn't say.
+/// What a draft says of the jumps that are proved.
+const PROVED: &str =
+    "# proved: that no run leaves such a jump by another way, as long as it goes back from calls\n";
+
+/// What a draft doesn't say of the others.
 const PREMISE: &str =
     "# recognised in the code, not proved: that no run leaves a listed jump by another way\n";
 
@@ -53,8 +58,14 @@ fn push_table(text: &mut String, table: Table) -> Result<(), AllocError> {
 }
 
 // Adds a jump with the comment over it.
-fn push_told(text: &mut String, names: &Names<'_>, jump: &FoundJump) -> Result<(), AllocError> {
-    text.push_str("\n# recognised: ")?;
+fn push_told(
+    text: &mut String,
+    names: &Names<'_>,
+    jump: &FoundJump,
+    is_proved: bool,
+) -> Result<(), AllocError> {
+    let word = if is_proved { "proved" } else { "recognised" };
+    write!(text, "\n# {word}: ")?;
     push_place(text, names, jump.at)?;
     text.push_str(" reads ")?;
     push_table(text, jump.table)?;
@@ -91,20 +102,41 @@ fn push_others(
     Ok(())
 }
 
-/// The file, with a comment for each jump that is listed or open.
-pub fn told_text(alloc: Global, names: &Names<'_>, found: &FoundJumps) -> Result<String, NoMemory> {
-    let mut text = String::new(alloc);
+// Adds the lines on top.
+fn push_top(text: &mut String, found: &FoundJumps, proof: &JumpProof) -> Result<(), AllocError> {
     let listed = found.jumps.len();
     let open = count_open(&found.others);
+    let proved = proof.count();
+    if listed > 0 {
+        let returns = if proof.returns { "proved" } else { "open" };
+        write!(text, "# returns: {returns}\n")?;
+    }
     write!(
-        &mut text,
+        text,
         "# draft of jumps through registers: {listed} listed, {open} open\n"
     )?;
-    text.push_str(PREMISE)?;
+    if proved > 0 {
+        text.push_str(PROVED)?;
+    }
+    if proved < listed || listed == 0 {
+        text.push_str(PREMISE)?;
+    }
+    Ok(())
+}
+
+/// The file, with a comment for each jump that is listed or open.
+pub fn told_text(
+    alloc: Global,
+    names: &Names<'_>,
+    found: &FoundJumps,
+    proof: &JumpProof,
+) -> Result<String, NoMemory> {
+    let mut text = String::new(alloc);
+    push_top(&mut text, found, proof)?;
     push_others(&mut text, names, &found.others)?;
     text.push_str("version = 1\n")?;
-    for jump in &found.jumps {
-        push_told(&mut text, names, jump)?;
+    for (k, jump) in found.jumps.iter().enumerate() {
+        push_told(&mut text, names, jump, proof.has(k))?;
     }
     Ok(text)
 }
@@ -131,7 +163,8 @@ fn push_number(text: &mut String, words: &str, number: usize) -> Result<(), Allo
     write!(text, "{words}{number}\n")
 }
 
-/// What is told of a draft: how many jumps through registers, of those that the code leads to, are listed, and how many are open.
+/// What is told of a draft: how many jumps through registers, of those that the code leads to, are listed or open, how many are listed, how many
+/// of these are proved, and how many are open.
 pub fn jumps_text(alloc: Global, draft: &JumpDraft) -> Result<String, NoMemory>
     ensures { IfOk result (λ text. string_bytes text ≡ jumps_text draft.now) }
 {
@@ -140,6 +173,7 @@ pub fn jumps_text(alloc: Global, draft: &JumpDraft) -> Result<String, NoMemory>
     let mut text = String::new(alloc);
     push_number(&mut text, "jumps ", listed + open)?;
     push_number(&mut text, "listed ", listed)?;
+    push_number(&mut text, "proved ", draft.proof.count())?;
     push_number(&mut text, "open ", open)?;
     Ok(text)
 }

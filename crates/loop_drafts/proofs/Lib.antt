@@ -1,4 +1,5 @@
 pub mod SameShape
+pub mod SameCounts
 pub mod Stopping
 pub mod Lines
 pub mod Keys

@@ -1,5 +1,5 @@
 -- What is promised of a draft.
-use Rattle.std.proofs.Common.{◌≡◌, ℕ, ◌<◌, ◌≤◌, ◌⊎◌, inl, inr, ⊎_elim, true, false, not, ◌==◌, List, [], length, All, Result, Ok, refl, sym, ◌∙◌, subst}
+use Rattle.std.proofs.Common.{◌≡◌, ℕ, ◌<◌, ◌≤◌, ◌⊎◌, inl, inr, ⊎_elim, arith, true, false, not, ◌==◌, List, [], length, All, Result, Ok, refl, sym, ◌∙◌, subst}
 use Rattle.scale_base.specs.Image.{Image, image_of}
 use Rattle.loop_file.specs.declared.notes.LoopNote.{LoopNote}
 use Rattle.loop_file.specs.Kept.{note_at, noted_loops}
@@ -13,9 +13,11 @@ use Rattle.loop_drafts.specs.declared.drafted.LoopDraft.{LoopDraft}
 use Rattle.loop_drafts.specs.Bounds.{most_turns, is_bounded, IsOpen, IsBoundShown, AreNoneFound, AreBoundsShown, AreBoundsFound}
 use Rattle.loop_drafts.specs.Pieces.{printed}
 use Rattle.loop_drafts.specs.Drafted.{filled_most, IsDraftOf, IsDrafted}
-use Rattle.loop_drafts.specs.Kept.{DraftedBoundsAreKept, DraftedFilesNeedReturns, DraftedReturnsGoBack, DraftedFilesAreKept}
+use Rattle.loop_drafts.specs.Kept.{DraftedBoundsAreKept, DraftedFilesNeedReturns, DraftedReturnsGoBack, DraftedFilesAreKept, DraftedCountsAreTaken}
+use Rattle.loop_drafts.specs.Countable.{AreCounted, AreCountable}
 use Rattle.loop_drafts.proofs.Counts.{all_counted, none_open}
 use Rattle.loop_drafts.proofs.Keeping.{greater_kept, returns_kept, returns_back}
+use Rattle.loop_drafts.proofs.SameCounts.{counts_free}
 
 ok_same : {A B : Type 0} (o : Result A B) (x y : A) → o ≡ Ok x → o ≡ Ok y → x ≡ y
 ok_same o x y p q = let r : x ≡ y = cc in r
@@ -105,3 +107,12 @@ files_kept file draft original small_file is read unbounded all proved = (
 
     printed_read : read_loops original (printed draft.pieces.items) ≡ Ok notes
     printed_read = subst (λ (text : List ℕ). read_loops original text ≡ Ok notes) (sym (none_open most_turns draft.pieces.items (sym d.unbounded ∙ unbounded))) d.pieces.file.read
+
+pub counts_taken : DraftedCountsAreTaken
+counts_taken file draft original drafted notes v tree refusal is read noted none shapes counts is_graph is_tree refused = ⊎_elim
+    (λ (c : AreCounted d.graph drafted). counts_free (text_of original) d.graph v drafted notes tree refusal d.graph_is is_graph shapes counts c is_tree refused)
+    (λ (some : 0 < draft.aside). let bad : ⊥ = omega (arith, some, none) in bad)
+    (subst (λ (ns : List LoopNote). AreCountable d.graph ns draft.aside) (ok_same (read_loops original (filled_most draft.pieces.items)) d.pieces.notes drafted d.pieces.file.read noted) d.pieces.file.countable)
+  where
+    d : IsDraftOf original draft
+    d = draft_of file draft original is read

@@ -17,7 +17,7 @@ use Rattle.loop_forest.specs.Tree.{IsTreeRefusal}
 use Rattle.answer_laws.proofs.Laws.{graphs_renumbered, tree_is_not_refused}
 use Rattle.loop_drafts.specs.Shapes.{shape, HaveOneShape, BoundsAreFree}
 
-same_at : (notes notes' : List LoopNote) → HaveOneShape notes notes' → (k : ℕ) → shape (note_at notes k) ≡ shape (note_at notes' k)
+pub same_at : (notes notes' : List LoopNote) → HaveOneShape notes notes' → (k : ℕ) → shape (note_at notes k) ≡ shape (note_at notes' k)
 same_at notes notes' same k =
     let none : LoopNote = record { header = 0; ranges = []; bound = 0; counted = false; at_least = 0 } in
     sym (get_or-map shape notes k none) ∙ ap (λ (shapes : List (ℕ × List Range)). get_or shapes k (shape none)) same ∙ get_or-map shape notes' k none
@@ -27,13 +27,13 @@ extent_by : ℕ × List Range → ℕ → Bool
 extent_by p v = (v == p.0) || list_any (is_in v) p.1
 
 module _ (v : FlowGraph) (notes notes' : List LoopNote) (same : HaveOneShape notes notes') where
-  one_size : length notes' ≡ length notes
+  pub one_size : length notes' ≡ length notes
   one_size = sym (length-map notes' shape) ∙ sym (ap length same) ∙ length-map notes shape
 
-  one_header : (k : ℕ) → header_address notes' k ≡ header_address notes k
+  pub one_header : (k : ℕ) → header_address notes' k ≡ header_address notes k
   one_header k = sym (ap (λ (p : ℕ × List Range). p.0) (same_at notes notes' same k))
 
-  one_extent : (k : ℕ) → in_extent (note_at notes' k) ≡ in_extent (note_at notes k)
+  pub one_extent : (k : ℕ) → in_extent (note_at notes' k) ≡ in_extent (note_at notes k)
   unfolding extent_by
   one_extent k = sym (ap extent_by (same_at notes notes' same k))
 

@@ -28,9 +28,9 @@ is_bounded note = not (note.bound == most_turns)
 abbrev pub NeedNotTurn : LoopNote → Type 0
 NeedNotTurn note = note.at_least ≡ 0
 
--- the note with another bound, of a loop that need not turn
-abbrev pub bounded_by : ℕ → LoopNote → LoopNote
-bounded_by bound note = record note { bound = bound; at_least = 0 }
+-- the note with another bound, of a loop that need not turn, and is counted or isn't
+abbrev pub bounded_by : ℕ → Bool → LoopNote → LoopNote
+bounded_by bound counted note = record note { bound = bound; counted = counted; at_least = 0 }
 
 -- ---- by tables of the registers and of the stack
 

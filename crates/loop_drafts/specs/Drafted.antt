@@ -14,6 +14,7 @@ use Rattle.loop_file.specs.Loops.{read_loops}
 use Rattle.loop_forest.specs.Tree.{LoopView, IsTreeOf, IsTreeBuilt}
 use Rattle.loop_drafts.specs.declared.drafted.Piece.{Piece}
 use Rattle.loop_drafts.specs.declared.drafted.LoopDraft.{LoopDraft}
+use Rattle.loop_drafts.specs.Countable.{AreCountable}
 use Rattle.loop_drafts.specs.Bounds.{most_turns, is_bounded, NeedNotTurn, AreBoundsFound}
 use Rattle.loop_drafts.specs.Pieces.{BeginsWithReturns, filled, printed}
 
@@ -41,6 +42,8 @@ pub record AreReadAs (original : Image) (v : FlowGraph) (pieces : List Piece) (n
   pub short : IsShort pieces
   pub read : read_loops original (filled_most pieces) ≡ Ok notes
   pub taken : AreTaken v notes aside
+  -- what is counted is what a rewritten image takes
+  pub countable : AreCountable v notes aside
 
 -- The pieces of a loop file of the image: how many loops it has, how many of them with a bound that is shown by the code, and whether the code shows
 -- that returns go back.
@@ -101,7 +104,7 @@ abbrev pub AreNotesTaken : FlowGraph → List LoopNote → ℕ → Result (Unit 
 AreNotesTaken v notes aside (Ok _) = AreTaken v notes aside
 AreNotesTaken v notes aside (Err refusal) = IsTreeBuilt v notes (Err refusal)
 
--- for pieces whose file is to have these notes: whether it has
+-- for pieces whose file is to have these notes: whether it has, and they count what can be counted
 abbrev pub ArePiecesChecked : Image → FlowGraph → List Piece → List LoopNote → ℕ → Result Bool Refusal → Type 0
 ArePiecesChecked original v pieces notes aside (Ok true) = AreReadAs original v pieces notes aside
 ArePiecesChecked original v pieces notes aside (Ok false) = Unit {0}

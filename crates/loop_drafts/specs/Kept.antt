@@ -1,16 +1,23 @@
 -- The laws of drafted bounds: what a run of the image keeps.
 use Rattle.std.specs.Prelude.{◌≡◌, ℕ, ◌<◌, ◌≤◌, ◌⊎◌, true, All, List, length, Some, Ok}
+use Rattle.scale_base.specs.declared.refusal.Refusal.{Refusal}
 use Rattle.scale_base.specs.Image.{Image, image_of}
 use Rattle.scale_base.specs.Run.{run_of}
+use Rattle.code_text.specs.Text.{text_of}
+use Rattle.flow_graph.specs.FlowGraph.{FlowGraph, IsGraphOf}
 use Rattle.graph_runs.specs.KeptRuns.{most_returns, IsKeptUpTo}
 use Rattle.graph_runs.specs.RunTransitions.{returns_so}
 use Rattle.bound_laws.specs.Turning.{with_bounds}
 use Rattle.loop_file.specs.declared.notes.LoopNote.{LoopNote}
 use Rattle.loop_file.specs.Kept.{note_at, noted_loops}
 use Rattle.loop_file.specs.Loops.{read_loops}
+use Rattle.loop_forest.specs.Tree.{LoopView, IsTreeOf}
+use Rattle.scale_sites.specs.Counters.{AreRefused}
 use Rattle.loop_drafts.specs.declared.drafted.LoopDraft.{LoopDraft}
 use Rattle.loop_drafts.specs.Pieces.{printed}
 use Rattle.loop_drafts.specs.Bounds.{IsOpen}
+use Rattle.loop_drafts.specs.Shapes.{HaveOneShape}
+use Rattle.loop_drafts.specs.Countable.{HaveOneCount}
 use Rattle.loop_drafts.specs.Drafted.{filled_most, IsDrafted}
 
 -- What a user makes of drafted notes: the loops that have no bound are given one, and the others stay as they are.
@@ -49,3 +56,10 @@ DraftedFilesAreKept = (file : List ℕ) (draft : LoopDraft) (original : Image) �
     draft.unbounded ≡ 0 → draft.proved ≡ draft.loops → draft.returns ≡ true →
     (notes : List LoopNote) × (read_loops original (printed draft.pieces.items) ≡ Ok notes) ×
     ((levels : ℕ) (input : List ℕ) (n : ℕ) → AreBytes input → IsKeptUpTo original levels input (noted_loops notes) n)
+
+-- What a draft counts can be counted, whatever bounds are written: where each part of the code that turns is a loop, notes with the headers and ranges of the
+-- draft that count the same loops are refused over no graph of the program for what they count.
+abbrev pub DraftedCountsAreTaken : Type 0
+DraftedCountsAreTaken = (file : List ℕ) (draft : LoopDraft) (original : Image) (drafted notes : List LoopNote) (v : FlowGraph) (tree : LoopView) (refusal : Refusal) →
+    IsDrafted file (Ok draft) → image_of file ≡ Ok original → read_loops original (filled_most draft.pieces.items) ≡ Ok drafted → draft.aside ≡ 0 → HaveOneShape drafted notes → HaveOneCount drafted notes →
+    IsGraphOf (text_of original) v → IsTreeOf v notes tree → AreRefused v tree refusal → ⊥

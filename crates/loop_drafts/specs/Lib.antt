@@ -3,6 +3,7 @@ pub mod Spans
 pub mod Pieces
 pub mod Bounds
 pub mod Sought
-pub mod Drafted
 pub mod Shapes
+pub mod Countable
+pub mod Drafted
 pub mod Kept

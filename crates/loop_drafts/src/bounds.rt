@@ -9,7 +9,9 @@ ghost use Rattle.stack_tables.specs.Tables.{IsStackClaim};
 ghost use Rattle.loop_drafts.specs.Bounds.{AreBoundsFound, AreNoneFound, IsOpen, NeedNotTurn};
 ghost use Rattle.loop_drafts.specs.Sought.{AreFoundBy, AreReturnsFoundBy, IsFoundBy};
 
-use crate::draft::{Counter, Draft, Place, Reason};
+use crate::counting::dear_loops;
+use crate::draft::{Counter, Draft, Known, Place, Reason};
+use crate::exact::is_exact;
 use crate::noted::{GREATEST_BOUND, bounded_by};
 use elf_image::ImageView;
 use flow_graph::CodeGraph;
@@ -32,7 +34,7 @@ const MOST_WORK: u64 = 400_000_000;
 /// What is known of each loop, the note that it is to have in the file, and whether returns go back.
 #[derive(Drop)]
 pub struct Bounds {
-    pub known: Vec<Draft>,
+    pub known: Vec<Known>,
     pub notes: Vec<LoopNote>,
     pub returns: bool,
 }
@@ -63,18 +65,26 @@ impl Bounds {
 /// The same of one loop.
 #[derive(Drop)]
 struct Sought {
-    known: Draft,
+    known: Known,
     note: LoopNote,
 }
 
-// A loop without a bound.
-fn left_open(alloc: Global, note: &LoopNote, reason: Reason) -> Result<Sought, NoMemory>
+// A loop without a bound, which is counted or isn't.
+fn left_open(
+    alloc: Global,
+    note: &LoopNote,
+    reason: Reason,
+    counted: bool,
+) -> Result<Sought, NoMemory>
     ensures bounds { IfOk result (λ s. IsOpen s.note) }
     ensures least { IfOk result (λ s. NeedNotTurn s.note) }
 {
     Ok(Sought {
-        known: Draft::Open(reason),
-        note: bounded_by(alloc, note, GREATEST_BOUND)?,
+        known: Known {
+            draft: Draft::Open(reason),
+            counted,
+        },
+        note: bounded_by(alloc, note, GREATEST_BOUND, counted)?,
     })
 }
 
@@ -114,6 +124,7 @@ fn confirmed(
     claim: &StackClaim<'_>,
     note: &LoopNote,
     certificate: &StackCertificate,
+    counted: bool,
 ) -> Result<Sought, NoMemory>
     requires { IsStackClaim claim.now }
     ensures found { IfOk result (λ s. IsFoundBy claim.now s.note) }
@@ -122,23 +133,28 @@ fn confirmed(
     let counter = counter_of(certificate);
     let bound = counter.bound();
     if bound >= GREATEST_BOUND {
-        return left_open(alloc, note, Reason::TooWide);
+        return left_open(alloc, note, Reason::TooWide, counted);
     }
-    let bounded = bounded_by(alloc, note, bound)?;
+    let counted = counted && bound > 1;
+    let bounded = bounded_by(alloc, note, bound, counted)?;
     if !is_shown(claim, &bounded, certificate) {
-        return left_open(alloc, note, Reason::NotConfirmed);
+        return left_open(alloc, note, Reason::NotConfirmed, counted);
     }
     Ok(Sought {
-        known: Draft::Bounded(counter),
+        known: Known {
+            draft: Draft::Bounded(counter),
+            counted,
+        },
         note: bounded,
     })
 }
 
-/// What counters are looked for in.
+/// What counters are looked for in, and by loop whether counting it costs little of what its turns take.
 #[derive(Clone, Copy)]
 struct Sources<'a> {
     tree: &'a LoopTree,
     tables: &'a Tables,
+    dear: &'a [bool],
 }
 
 impl Sources<'_> {
@@ -150,6 +166,20 @@ impl Sources<'_> {
         k: usize,
     ) -> Result<Option<StackCertificate>, NoMemory> {
         find_certificate(alloc, claim.view, claim.graph, self.tree, self.tables, k)
+    }
+
+    // Whether counting the turns of loop k of a program costs little of what they take.
+    fn is_dear(&self, k: usize) -> bool {
+        self.dear.get(k).copied().unwrap_or(false)
+    }
+
+    // Whether it is worth counting as well, where it counts so: it may be left after fewer turns than another time.
+    fn is_counted(&self, claim: &StackClaim<'_>, k: usize, certificate: &StackCertificate) -> bool
+        requires { IsStackClaim claim.now }
+    {
+        k < self.tree.loop_count()
+            && self.is_dear(k)
+            && !is_exact(claim, self.tree.header(k), certificate)
     }
 }
 
@@ -166,8 +196,11 @@ fn seek(
     ensures least { IfOk result (λ s. NeedNotTurn s.note) }
 {
     match sources.certificate(alloc, claim, k)? {
-        Some(certificate) => confirmed(alloc, claim, note, &certificate),
-        None => left_open(alloc, note, Reason::NoCounter),
+        Some(certificate) => {
+            let counted = sources.is_counted(claim, k, &certificate);
+            confirmed(alloc, claim, note, &certificate, counted)
+        }
+        None => left_open(alloc, note, Reason::NoCounter, sources.is_dear(k)),
     }
 }
 
@@ -190,7 +223,7 @@ fn seek_or_stop(
     ensures least { IfOk result (λ s. NeedNotTurn s.note) }
 {
     if k >= most_loops(claim.graph) {
-        return left_open(alloc, note, Reason::TooLarge);
+        return left_open(alloc, note, Reason::TooLarge, false);
     }
     seek(alloc, claim, sources, note, k)
 }
@@ -230,7 +263,7 @@ pub fn open_all(alloc: Global, notes: &LoopNotes, reason: Reason) -> Result<Boun
 {
     let mut bounds = Bounds::new(alloc, false);
     for k in 0..notes.count() {
-        bounds.push(left_open(alloc, notes.note(k), reason)?)?;
+        bounds.push(left_open(alloc, notes.note(k), reason, false)?)?;
     }
     Ok(bounds)
 }
@@ -275,9 +308,11 @@ fn bounds_of(
         table: &tables.values,
         stack: &tables.stack,
     };
+    let dear = dear_loops(alloc, graph, tree)?;
     let sources = Sources {
         tree,
         tables: &tables,
+        dear: &dear,
     };
     bounds_by(alloc, &claim, &sources, notes)
 }

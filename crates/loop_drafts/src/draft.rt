@@ -46,6 +46,23 @@ impl Draft {
     }
 }
 
+/// What a draft says of a loop: what is known of its turns, and whether it is to be counted.
+#[derive(Clone, Copy)]
+pub struct Known {
+    pub draft: Draft,
+    pub counted: bool,
+}
+
+impl Known {
+    /// Why no bound is known, of a loop that isn't counted.
+    pub fn open(reason: Reason) -> Known {
+        Known {
+            draft: Draft::Open(reason),
+            counted: false,
+        }
+    }
+}
+
 /// Why no bound of a loop is known.
 #[derive(Clone, Copy)]
 pub enum Reason {
@@ -95,8 +112,8 @@ impl fmt::Display for Reason {
 }
 
 /// Of so many loops nothing is known.
-pub fn unknown(alloc: Global, count: usize) -> Result<Vec<Draft>, NoMemory>
+pub fn unknown(alloc: Global, count: usize) -> Result<Vec<Known>, NoMemory>
     ensures { IfOk result (λ known. vec_len known ≡ count) }
 {
-    Ok(vec![in alloc; Draft::Open(Reason::NotSought); count]?)
+    Ok(vec![in alloc; Known::open(Reason::NotSought); count]?)
 }

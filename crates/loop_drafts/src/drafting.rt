@@ -1,13 +1,15 @@
 //! The draft of an image's loop file, and whether its loops are taken.
 
-ghost use Rattle.std.specs.Prelude.{◌≡◌, codes, length, IfOk, None};
+ghost use Rattle.std.specs.Prelude.{◌≡◌, ℕ, codes, vec_len, Bool, IfOk, None};
 ghost use Rattle.std.specs.List.{All};
 ghost use Rattle.scale_base.specs.Answer.{AnswersBy, Refuses};
 ghost use Rattle.scale_base.specs.declared.refusal.Refusal.TheVariants.{TooLarge};
 ghost use Rattle.code_text.specs.Text.{text_of};
 ghost use Rattle.flow_graph.specs.FlowGraph.{IsGraphOf};
+ghost use Rattle.loop_forest.specs.Tree.{IsLoopTree};
 ghost use Rattle.loop_drafts.specs.Bounds.{AreBoundsFound, NeedNotTurn};
 ghost use Rattle.loop_drafts.specs.Pieces.{BeginsWithReturns, printed};
+ghost use Rattle.loop_drafts.specs.Countable.{AreCountable, IsCountable};
 ghost use Rattle.loop_drafts.specs.Drafted.{AreTried, AreNotesTaken, ArePiecesRead, ArePiecesChecked, IsDraftTried, IsGraphDrafted, IsDraftedImage, IsDrafted};
 
 use crate::bounds::{Bounds, find_bounds, open_all};
@@ -25,8 +27,10 @@ use elf_image::ImageView;
 use elf_view::read_image;
 use flow_graph::CodeGraph;
 use loop_file::{LoopNote, LoopNotes, read_loops};
+use loop_forest::LoopTree;
 use loop_tree::build_loops;
 use scale_base::{Name, NoMemory, Refusal, Stop};
+use scale_sites::counters;
 use std::alloc::Global;
 use turn_counts::Turns;
 
@@ -82,6 +86,33 @@ fn check_loops(
     Err(Stop::Refused(refusal))
 }
 
+// That a rewritten image takes what is noted as counted. It always does, since no other loops are proposed; nothing is proved of what is proposed.
+fn check_counters(alloc: Global, graph: &CodeGraph, tree: &LoopTree) -> Result<(), NoMemory>
+    requires { (extent : ℕ → ℕ → Bool) × IsLoopTree graph.now extent tree.now }
+    ensures { IfOk result (λ _. IsCountable graph.now tree.now) }
+{
+    match counters(alloc, graph, tree) {
+        Ok(_) => Ok(()),
+        Err(_) => Err(NoMemory),
+    }
+}
+
+// That it takes what notes count, where their loops are taken.
+fn check_counts(
+    alloc: Global,
+    graph: &CodeGraph,
+    notes: &LoopNotes,
+    aside: usize,
+) -> Result<(), NoMemory>
+    ensures { IfOk result (λ _. AreCountable graph.now notes.now aside) }
+{
+    match build_loops(alloc, graph, notes) {
+        Ok(tree) => check_counters(alloc, graph, &tree),
+        Err(Stop::Refused(_)) if aside > 0 => Ok(()),
+        Err(_) => Err(NoMemory),
+    }
+}
+
 // The notes of the file that the pieces are of, with a bound for each loop.
 fn read_pieces(alloc: Global, view: &ImageView<'_>, pieces: &[Piece]) -> Result<LoopNotes, Stop>
     ensures { AnswersBy (λ notes. notes) result (ArePiecesRead view.now pieces.now) }
@@ -114,20 +145,22 @@ fn remarks_of<'a>(sketch: &'a Sketch<'a>) -> Remarks<'a> {
     }
 }
 
-// Whether the file that the pieces are of has the notes that are wanted. Then its loops are taken.
+// Whether the file that the pieces are of has the notes that are wanted, and counts what can be counted. Then its loops are taken.
 fn check_pieces(
     alloc: Global,
     sketch: &Sketch<'_>,
     pieces: &[Piece],
     wanted: &[LoopNote],
 ) -> Result<bool, Stop>
-    ensures { AnswersBy (λ same. same) result (ArePiecesChecked sketch.now.view.now sketch.now.graph.now pieces.now wanted.now (length sketch.now.found.aside.items)) }
+    ensures { AnswersBy (λ same. same) result (ArePiecesChecked sketch.now.view.now sketch.now.graph.now pieces.now wanted.now (vec_len sketch.now.found.aside)) }
 {
     let notes = read_pieces(alloc, sketch.view, pieces)?;
     if !are_wanted(&notes, wanted) {
         return Ok(false);
     }
-    check_loops(alloc, sketch.graph, &notes, sketch.found.aside.len())?;
+    let aside = sketch.found.aside.len();
+    check_loops(alloc, sketch.graph, &notes, aside)?;
+    check_counts(alloc, sketch.graph, &notes, aside)?;
     Ok(true)
 }
 

@@ -3,12 +3,15 @@
 #![tactic(auto)]
 
 ghost use Rattle.loop_drafts.specs.Shapes.{BoundsAreFree};
-ghost use Rattle.loop_drafts.specs.Kept.{DraftedBoundsAreKept, DraftedFilesNeedReturns, DraftedReturnsGoBack, DraftedFilesAreKept};
+ghost use Rattle.loop_drafts.specs.Countable.{CountsAreFree};
+ghost use Rattle.loop_drafts.specs.Kept.{DraftedBoundsAreKept, DraftedCountsAreTaken, DraftedFilesNeedReturns, DraftedReturnsGoBack, DraftedFilesAreKept};
 
 mod bounds;
+mod counting;
 mod draft;
 mod drafted;
 mod drafting;
+mod exact;
 mod found;
 mod noted;
 mod remarks;
@@ -23,6 +26,12 @@ pub use search::find_loops;
 /// Where the loops of a draft are taken, they are with any bounds: loops are refused by their headers and ranges alone.
 pub fn bounds_are_free()
     ensures { BoundsAreFree }
+{}
+
+/// Where loops can be counted, they can be with any bounds: so what a draft counts can be.
+pub fn counts_are_free()
+    ensures free { CountsAreFree }
+    ensures drafted { DraftedCountsAreTaken }
 {}
 
 /// No run of the image breaks a drafted bound before it breaks a return address or a bound that the user filled in; and where each loop has a drafted

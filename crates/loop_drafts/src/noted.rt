@@ -21,15 +21,20 @@ fn copied(alloc: Global, ranges: &RangeList) -> Result<RangeList, NoMemory>
     Ok(RangeList::from_vec(items))
 }
 
-/// The note of a loop with a bound, where the loop need not turn.
-pub fn bounded_by(alloc: Global, note: &LoopNote, bound: u32) -> Result<LoopNote, NoMemory>
-    ensures { IfOk result (λ n. n ≡ bounded_by bound note.now) }
+/// The note of a loop with a bound, where the loop need not turn, and is counted or isn't.
+pub fn bounded_by(
+    alloc: Global,
+    note: &LoopNote,
+    bound: u32,
+    counted: bool,
+) -> Result<LoopNote, NoMemory>
+    ensures { IfOk result (λ n. n ≡ bounded_by bound counted note.now) }
 {
     Ok(LoopNote {
         header: note.header,
         ranges: copied(alloc, &note.ranges)?,
         bound,
-        counted: note.counted,
+        counted,
         at_least: 0,
     })
 }

@@ -3,7 +3,7 @@
 ghost use Rattle.std.specs.Prelude.{◌≡◌, IfOk};
 ghost use Rattle.loop_drafts.specs.Pieces.{BeginsWithReturns, printed, printed_piece, returns_line};
 
-use crate::draft::{Counter, Draft, Place};
+use crate::draft::{Counter, Draft, Known, Place};
 use crate::drafted::Piece;
 use crate::found::{AsidePart, FoundLoop, FoundLoops};
 use crate::remarks::Remarks;
@@ -109,11 +109,25 @@ fn push_bound(text: &mut String, counter: Counter) -> Result<(), AllocError> {
     )
 }
 
-// Adds what is known of the turns of a loop.
-fn push_known(text: &mut String, known: Draft) -> Result<(), AllocError> {
-    match known {
-        Draft::Bounded(counter) => push_bound(text, counter),
-        Draft::Open(reason) => write!(text, "# no bound: {reason}\n"),
+// Adds that a loop is to be counted, where it is.
+fn push_flag(text: &mut String, counted: bool) -> Result<(), AllocError> {
+    if counted {
+        text.push_str("counted = true\n")?;
+    }
+    Ok(())
+}
+
+// Adds what is known of the turns of a loop, and whether they are to be counted. The line of a bound that is missing may follow.
+fn push_known(text: &mut String, known: Known) -> Result<(), AllocError> {
+    match known.draft {
+        Draft::Bounded(counter) => {
+            push_bound(text, counter)?;
+            push_flag(text, known.counted)
+        }
+        Draft::Open(reason) => {
+            push_flag(text, known.counted)?;
+            write!(text, "# no bound: {reason}\n")
+        }
     }
 }
 
@@ -124,7 +138,7 @@ fn loop_piece(
     found: &FoundLoop,
     number: usize,
     outer: Option<usize>,
-    known: Draft,
+    known: Known,
 ) -> Result<Piece, NoMemory> {
     let names = remarks.names;
     let mut text = String::new(alloc);
@@ -137,7 +151,7 @@ fn loop_piece(
     push_known(&mut text, known)?;
     Ok(Piece {
         text,
-        is_open: known.is_open(),
+        is_open: known.draft.is_open(),
     })
 }
 
@@ -186,11 +200,11 @@ fn head_piece(
     alloc: Global,
     remarks: &Remarks<'_>,
     found: &FoundLoops,
-    known: &[Draft],
+    known: &[Known],
 ) -> Result<Piece, NoMemory> {
     let mut text = String::new(alloc);
     let loops = found.loops.len();
-    let unbounded = known.iter().filter(|draft| draft.is_open()).count();
+    let unbounded = known.iter().filter(|one| one.draft.is_open()).count();
     write!(
         &mut text,
         "# draft of loops: {loops} loops, {unbounded} without a bound\n"
@@ -217,17 +231,17 @@ fn loop_pieces(
     alloc: Global,
     remarks: &Remarks<'_>,
     found: &FoundLoops,
-    known: &[Draft],
+    known: &[Known],
 ) -> Result<Vec<Piece>, NoMemory> {
     let mut pieces = Vec::new(alloc);
     pieces.push(head_piece(alloc, remarks, found, known)?)?;
-    for (k, (looped, draft)) in found.loops.iter().zip(known).enumerate() {
+    for (k, (looped, one)) in found.loops.iter().zip(known).enumerate() {
         let outer = match looped.parent {
             Some(header) => number_of(&found.loops, header),
             None => None,
         };
         let number = k.saturating_add(1);
-        pieces.push(loop_piece(alloc, remarks, looped, number, outer, *draft)?)?;
+        pieces.push(loop_piece(alloc, remarks, looped, number, outer, *one)?)?;
     }
     Ok(pieces)
 }
@@ -237,7 +251,7 @@ pub fn pieces_of(
     alloc: Global,
     remarks: &Remarks<'_>,
     found: &FoundLoops,
-    known: &[Draft],
+    known: &[Known],
     returns: bool,
 ) -> Result<Vec<Piece>, NoMemory>
     ensures { IfOk result (λ pieces. BeginsWithReturns returns (printed pieces.items)) }

@@ -8,15 +8,17 @@ ghost use Rattle.pace_fit.specs.Finding.{AreLoaded, IsHeldTrial, IsSafe, counted
 use crate::trials::trial_of;
 use gain_tuner::{Files, Trial, cheaper, count_of};
 use paced_images::Proposal;
+use run_progress::Progress;
 use scale_base::NoMemory;
 use std::alloc::Global;
 
 /// The candidate of the least energy, of several the first, from the image that runs at one level on.
-fn cheapest(
+fn cheapest<P: Progress>(
     alloc: Global,
     files: &Files<'_>,
     proposals: &[Proposal],
     held: Trial,
+    progress: &mut P,
 ) -> Result<Trial, NoMemory>
     requires files { AreLoaded files.now }
     requires proposals { length proposals.now ≤ 64 }
@@ -28,17 +30,21 @@ fn cheapest(
 {
     let mut best = held;
     for (k, proposal) in proposals.iter().enumerate() {
-        best = cheaper(best, trial_of(alloc, files, proposal, k as u32 + 1)?);
+        best = cheaper(
+            best,
+            trial_of(alloc, files, proposal, k as u32 + 1, progress)?,
+        );
     }
     Ok(best)
 }
 
 /// The image of the first proposal of which one can be built, or else the one that runs at one level.
-fn first_built(
+fn first_built<P: Progress>(
     alloc: Global,
     files: &Files<'_>,
     proposals: &[Proposal],
     held: Trial,
+    progress: &mut P,
 ) -> Result<Trial, NoMemory>
     requires files { AreLoaded files.now }
     requires proposals { length proposals.now ≤ 64 }
@@ -50,7 +56,7 @@ fn first_built(
     ensures safe { IfOk result (IsSafe files.now) }
 {
     for (k, proposal) in proposals.iter().enumerate() {
-        if let Some(trial) = trial_of(alloc, files, proposal, k as u32 + 1)? {
+        if let Some(trial) = trial_of(alloc, files, proposal, k as u32 + 1, progress)? {
             return Ok(trial);
         }
     }
@@ -58,11 +64,12 @@ fn first_built(
 }
 
 /// The choice: by the energies where some input counts, by the order of the proposals where none does.
-pub fn chosen(
+pub fn chosen<P: Progress>(
     alloc: Global,
     files: &Files<'_>,
     proposals: &[Proposal],
     held: Trial,
+    progress: &mut P,
 ) -> Result<Trial, NoMemory>
     requires files { AreLoaded files.now }
     requires proposals { length proposals.now ≤ 64 }
@@ -73,8 +80,8 @@ pub fn chosen(
     ensures safe { IfOk result (IsSafe files.now) }
 {
     if count_of(files.flags) == 0 {
-        first_built(alloc, files, proposals, held)
+        first_built(alloc, files, proposals, held, progress)
     } else {
-        cheapest(alloc, files, proposals, held)
+        cheapest(alloc, files, proposals, held, progress)
     }
 }

@@ -5,8 +5,10 @@ ghost use Rattle.std.specs.List.{All};
 ghost use Rattle.pace_fit.specs.Endings.{ending_on, endings_on, is_counted};
 ghost use Rattle.pace_fit.specs.Finding.{HasHeld};
 
-use gain_tuner::report_of;
+use gain_tuner::{GivenFiles, report_of};
+use run_progress::{Part, Progress};
 use scale_base::{End, Kept, NoMemory};
+use speed_sim::RunFiles;
 use std::alloc::Global;
 
 /// How the run of the original on an input ends, whether it was kept, and its cycles.
@@ -18,18 +20,23 @@ pub struct Ending {
 }
 
 /// That of one input.
-fn ending_of(
+fn ending_of<P: Progress>(
     alloc: Global,
-    image: &[u8],
-    machine: &[u8],
-    loops: &[u8],
+    given: &GivenFiles<'_>,
     input: &[u8],
+    progress: &mut P,
 ) -> Result<Ending, NoMemory>
-    requires { HasHeld image.now machine.now loops.now }
-    ensures ending { IfOk result (λ ending. ending ≡ ending_on image.now machine.now loops.now input.now) }
+    requires { HasHeld given.now.image.now given.now.machine.now given.now.loops.now }
+    ensures ending { IfOk result (λ ending. ending ≡ ending_on given.now.image.now given.now.machine.now given.now.loops.now input.now) }
     ensures small { IfOk result (λ ending. ending.cycles ≤ 2 ^ 56) }
 {
-    let report = report_of(alloc, image, machine, input, Some(loops))?;
+    let files = RunFiles {
+        image: given.image,
+        machine: given.machine,
+        input,
+        loops: Some(given.loops),
+    };
+    let report = report_of(alloc, &files, progress)?;
     Ok(Ending {
         end: report.end,
         kept: report.kept,
@@ -37,21 +44,21 @@ fn ending_of(
     })
 }
 
-/// Those of the inputs, in their order: the original runs once on each.
-pub fn endings_of(
+/// Those of the inputs, in their order: the original runs once on each. How far the runs are is told.
+pub fn endings_of<P: Progress>(
     alloc: Global,
-    image: &[u8],
-    machine: &[u8],
-    loops: &[u8],
-    inputs: &[Vec<u8>],
+    given: &GivenFiles<'_>,
+    progress: &mut P,
 ) -> Result<Vec<Ending>, NoMemory>
-    requires { HasHeld image.now machine.now loops.now }
-    ensures endings { IfOk result (λ found. found.items ≡ endings_on image.now machine.now loops.now (map (λ input. input.items) inputs.now)) }
+    requires { HasHeld given.now.image.now given.now.machine.now given.now.loops.now }
+    ensures endings { IfOk result (λ found. found.items ≡ endings_on given.now.image.now given.now.machine.now given.now.loops.now (map (λ input. input.items) given.now.inputs.now)) }
     ensures small { IfOk result (λ found. All (λ ending. ending.cycles ≤ 2 ^ 56) found.items) }
 {
     let mut endings = Vec::new(alloc);
-    for input in inputs {
-        endings.push(ending_of(alloc, image, machine, loops, input)?)?;
+    progress.begin(Part::Input, given.inputs.len());
+    for input in given.inputs {
+        progress.next(Part::Input);
+        endings.push(ending_of(alloc, given, input, progress)?)?;
     }
     Ok(endings)
 }

@@ -1,8 +1,7 @@
 //! The fitting of a program to inputs.
 
-ghost use Rattle.std.specs.Prelude.{◌≡◌, ◌≤◌, ◌-◌, length, map, count_by, Ok, IfOk};
+ghost use Rattle.std.specs.Prelude.{◌≡◌, ◌≤◌, ◌-◌, length, map, count_by, IfOk};
 ghost use Rattle.std.specs.List.{All};
-ghost use Rattle.scaler.specs.Held.{IsHeld};
 ghost use Rattle.marked_images.specs.Promise.{IsStoredSafely};
 ghost use Rattle.pace_fit.specs.Fitting.{IsChosenUseful, IsFitted, IsRewriteEnergy};
 ghost use Rattle.pace_fit.specs.Finding.{AreLoaded, IsPrepared, counted_inputs, given_inputs};
@@ -10,8 +9,9 @@ ghost use Rattle.pace_fit.specs.Finding.{AreLoaded, IsPrepared, counted_inputs, 
 use crate::bounds::least_over;
 use crate::choosing::chosen;
 use crate::preparing::Prepared;
-use gain_tuner::{Files, count_of, held_trial, trial_from};
+use gain_tuner::{Files, GivenFiles, count_of, held_trial, trial_from};
 use paced_images::Proposal;
+use run_progress::{Part, Progress, Silent};
 use scale_base::{NoMemory, Summary};
 use scaler::rewrite;
 use std::alloc::Global;
@@ -54,27 +54,31 @@ fn left_out_of(flags: &[bool]) -> u32
 }
 
 /// The energy of the image that `rewrite` stores on the inputs that count, unless it is out.
-fn rewritten_over(alloc: Global, files: &Files<'_>) -> Result<Option<u128>, NoMemory>
+fn rewritten_over<P: Progress>(
+    alloc: Global,
+    files: &Files<'_>,
+    progress: &mut P,
+) -> Result<Option<u128>, NoMemory>
     requires { AreLoaded files.now }
     ensures { IfOk result (IsRewriteEnergy files.now.image.now files.now.machine.now files.now.loops.now (counted_inputs files.now)) }
 {
+    progress.next(Part::Candidate);
     let made = rewrite(alloc, files.image, files.machine, files.loops);
-    match trial_from(alloc, files, 0, made)? {
+    match trial_from(alloc, files, 0, made, progress)? {
         Some(trial) => Ok(Some(trial.energy)),
         None => Ok(None),
     }
 }
 
 /// The choice among the candidates of a prepared program, with its numbers.
-fn fit(
+fn fit<P: Progress>(
     alloc: Global,
     files: &Files<'_>,
-    held: (Vec<u8>, Summary),
     prepared: &Prepared,
     proposals: &[Proposal],
+    progress: &mut P,
 ) -> Result<(Vec<u8>, Fitted), NoMemory>
     requires files { AreLoaded files.now }
-    requires held { IsHeld files.now.image.now files.now.machine.now files.now.loops.now (Ok ((held.0.items, held.1))) }
     requires prepared { IsPrepared files.now.image.now files.now.machine.now files.now.loops.now (given_inputs files.now) prepared.now }
     requires proposals { length proposals.now ≤ 64 }
     ensures fitted { IfOk result (λ given. IsFitted files.now.image.now files.now.machine.now files.now.loops.now
@@ -84,10 +88,13 @@ fn fit(
     ensures safe { IfOk result (λ given. IsStoredSafely files.now.image.now files.now.machine.now files.now.loops.now
         given.0.items given.1.summary) }
 {
-    let first = held_trial(alloc, files, held)?;
+    // The one that runs at one level, those of the proposals, and what `rewrite` stores.
+    progress.begin(Part::Candidate, proposals.len() + 2);
+    let stored = Vec::from_slice(alloc, &prepared.stored)?;
+    let first = held_trial(alloc, files, (stored, prepared.summary), progress)?;
     let hold_energy = first.energy;
-    let best = chosen(alloc, files, proposals, first)?;
-    let rewrite_energy = rewritten_over(alloc, files)?;
+    let best = chosen(alloc, files, proposals, first, progress)?;
+    let rewrite_energy = rewritten_over(alloc, files, progress)?;
     let least_energy = least_over(&prepared.power, &prepared.endings);
     let inputs = inputs_of(files.flags);
     let left_out = left_out_of(files.flags);
@@ -102,6 +109,37 @@ fn fit(
         least_energy,
     };
     Ok((best.stored, fitted))
+}
+
+/// `choose`, which tells how far it is.
+pub fn choose_with_progress<P: Progress>(
+    alloc: Global,
+    given: &GivenFiles<'_>,
+    prepared: &Prepared,
+    proposals: &[Proposal],
+    progress: &mut P,
+) -> Result<(Vec<u8>, Fitted), NoMemory>
+    requires image { length given.now.image.now ≤ 4194304 }
+    requires machine { length given.now.machine.now ≤ 1048576 }
+    requires loops { length given.now.loops.now ≤ 1048576 }
+    requires few { length given.now.inputs.now ≤ 64 }
+    requires inputs { All (λ input. length input.items ≤ 1048576) given.now.inputs.now }
+    requires prepared { IsPrepared given.now.image.now given.now.machine.now given.now.loops.now (map (λ input. input.items) given.now.inputs.now) prepared.now }
+    requires proposals { length proposals.now ≤ 64 }
+    ensures fitted { IfOk result (λ fitted. IsFitted given.now.image.now given.now.machine.now given.now.loops.now (map (λ input. input.items) given.now.inputs.now)
+        proposals.now fitted.0.items fitted.1) }
+    ensures saves { IfOk result (λ fitted. fitted.1.energy ≤ fitted.1.hold_energy) }
+    ensures useful { IfOk result (λ fitted. IsChosenUseful given.now.image.now given.now.machine.now given.now.loops.now proposals.now fitted.1.candidate) }
+    ensures safe { IfOk result (λ fitted. IsStoredSafely given.now.image.now given.now.machine.now given.now.loops.now fitted.0.items fitted.1.summary) }
+{
+    let files = Files {
+        image: given.image,
+        machine: given.machine,
+        loops: given.loops,
+        inputs: given.inputs,
+        flags: &prepared.flags,
+    };
+    fit(alloc, &files, prepared, proposals, progress)
 }
 
 /// Of the image that `hold` stores and the images that `pace` makes of the proposals the one whose runs take the least energy on the inputs
@@ -142,19 +180,11 @@ pub fn choose(
     // On each input on which the original run exits and is kept, the stored run keeps the promise.
     ensures safe { IfOk result (λ given. IsStoredSafely image.now machine.now loops.now given.0.items given.1.summary) }
 {
-    let files = Files {
+    let given = GivenFiles {
         image,
         machine,
         loops,
         inputs,
-        flags: &prepared.flags,
     };
-    let stored = Vec::from_slice(alloc, &prepared.stored)?;
-    fit(
-        alloc,
-        &files,
-        (stored, prepared.summary),
-        prepared,
-        proposals,
-    )
+    choose_with_progress(alloc, &given, prepared, proposals, &mut Silent)
 }

@@ -5,8 +5,10 @@ ghost use Rattle.scale_base.specs.Answer.{AnswersBy};
 ghost use Rattle.pace_fit.specs.Finding.{IsPreparing};
 
 use crate::endings::{Ending, endings_of, flags_of};
+use gain_tuner::GivenFiles;
 use machine_file::read_machine;
 use power_model::Power;
+use run_progress::{Progress, Silent};
 use scale_base::{Stop, Summary};
 use scaler::hold;
 use std::alloc::Global;
@@ -20,6 +22,30 @@ pub struct Prepared {
     pub summary: Summary,
     pub endings: Vec<Ending>,
     pub flags: Vec<bool>,
+}
+
+/// `prepare`, which tells how far it is.
+pub fn prepare_with_progress<P: Progress>(
+    alloc: Global,
+    files: &GivenFiles<'_>,
+    progress: &mut P,
+) -> Result<Prepared, Stop>
+    requires image { length files.now.image.now ≤ 4194304 }
+    requires machine { length files.now.machine.now ≤ 1048576 }
+    requires loops { length files.now.loops.now ≤ 1048576 }
+    ensures { AnswersBy (λ p. p) result (IsPreparing files.now.image.now files.now.machine.now files.now.loops.now (map (λ input. input.items) files.now.inputs.now)) }
+{
+    let power = read_machine(alloc, files.machine)?;
+    let held = hold(alloc, files.image, files.machine, files.loops)?;
+    let endings = endings_of(alloc, files, progress)?;
+    let flags = flags_of(alloc, &endings)?;
+    Ok(Prepared {
+        power,
+        stored: held.0,
+        summary: held.1,
+        endings,
+        flags,
+    })
 }
 
 /// What is known of a program and its inputs before the choice; or the first refusal, which is that of `hold`. The original runs once on each
@@ -38,15 +64,11 @@ pub fn prepare(
     requires loops { length loops.now ≤ 1048576 }
     ensures { AnswersBy (λ p. p) result (IsPreparing image.now machine.now loops.now (map (λ input. input.items) inputs.now)) }
 {
-    let power = read_machine(alloc, machine)?;
-    let held = hold(alloc, image, machine, loops)?;
-    let endings = endings_of(alloc, image, machine, loops, inputs)?;
-    let flags = flags_of(alloc, &endings)?;
-    Ok(Prepared {
-        power,
-        stored: held.0,
-        summary: held.1,
-        endings,
-        flags,
-    })
+    let files = GivenFiles {
+        image,
+        machine,
+        loops,
+        inputs,
+    };
+    prepare_with_progress(alloc, &files, &mut Silent)
 }

@@ -3,7 +3,6 @@ use Rattle.std.specs.Prelude.{codes, ℕ, Bool, true, false, not, nat_eq, List, 
 use Rattle.scale_report.specs.Texts.{number_line}
 use Rattle.plan_graphs.specs.declared.plan.Leads.{Leads}
 use Rattle.plan_graphs.specs.declared.plan.Leads.TheVariants as leads
-use Rattle.plan_graphs.specs.declared.plan.DrawnEdge.{DrawnEdge}
 use Rattle.plan_graphs.specs.declared.plan.DrawnBlock.{DrawnBlock}
 use Rattle.plan_graphs.specs.declared.plan.PlanGraph.{PlanGraph}
 

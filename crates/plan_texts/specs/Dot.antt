@@ -1,9 +1,8 @@
 -- The picture of a drawn graph for Graphviz, byte for byte.
-use Rattle.std.specs.Prelude.{codes, cond, ℕ, ◌+◌, nat_lt, Bool, List, [], ◌++◌, length, flat_map, sum_by, Option, Some, None}
+use Rattle.std.specs.Prelude.{codes, cond, ℕ, ◌+◌, nat_lt, Bool, List, [], ◌++◌, length, flat_map, slice_get, sum_by, Option, Some, None}
 use Rattle.std.specs.List.{list_any}
 use Rattle.std.specs.Fmt.{decimal}
 use Rattle.scale_report.specs.Texts.{address}
-use Rattle.plan_graphs.specs.declared.plan.Leads.{Leads}
 use Rattle.plan_graphs.specs.declared.plan.Leads.TheVariants as leads
 use Rattle.plan_graphs.specs.declared.plan.DrawnEdge.{DrawnEdge}
 use Rattle.plan_graphs.specs.declared.plan.DrawnCall.{DrawnCall}
@@ -35,14 +34,14 @@ loop_line l = opened l.function l.around.items ++ loop_words l ++ closed l.aroun
 
 -- ---- blocks
 
--- a block by the address where it begins
+-- A block by the address where it begins, with further words.
 unfoldable pub block_words : DrawnBlock → List ℕ
 block_words b =
     codes "b" ++ address b.range.from ++ codes " [label=\"" ++ name_line b.name ++ address b.range.from ++ codes " to " ++ address b.range.to
-    ++ codes "\\lleft " ++ decimal b.left ++ codes "\\l" ++ flat_map (λ e. end_line e.leads) b.edges.items ++ codes "\"] "
+    ++ codes "\\lleft " ++ decimal b.left ++ codes "\\l" ++ flat_map (λ e. end_line e.leads) b.edges.items
 
-unfoldable pub block_line : DrawnBlock → List ℕ
-block_line b = opened b.function b.around.items ++ block_words b ++ closed b.around.items
+unfoldable pub block_line : (more : List ℕ) → DrawnBlock → List ℕ
+block_line more b = opened b.function b.around.items ++ block_words b ++ more ++ codes "\"] " ++ closed b.around.items
 
 -- an arrow from a block to another
 unfoldable pub arrow : (from to : ℕ) → List ℕ
@@ -66,7 +65,8 @@ edge_to from to e = arrow from to ++ edge_style e ++ flat_map mark_line e.marks.
 abbrev pub edge_line : (from : ℕ) → DrawnEdge → List ℕ
 edge_line from e = elim e.leads [ leads.Block to ↦ edge_to from to e | leads.Return ↦ [] | leads.Exit ↦ [] | leads.Nowhere ↦ [] ]
 
--- the call at a block's end
+-- ---- calls, as arrows or as words of the block that calls
+
 unfoldable pub call_to : (from to : ℕ) → Bool → List ℕ
 call_to from to taken = arrow from to ++ codes " [style=\"dashed\" arrowhead=\"open\" color=\"#8250df\" penwidth=\"" ++ line_width taken ++ codes "\"]\n"
 
@@ -74,8 +74,25 @@ abbrev pub call_line : (from : ℕ) → Bool → Option DrawnCall → List ℕ
 call_line from taken None = []
 call_line from taken (Some call) = call_to from call.entry taken
 
+-- the name of a function, if there is one
+abbrev pub function_name : Option DrawnFunction → List ℕ
+function_name None = []
+function_name (Some f) = name_line f.name
+
+-- the name and the entry of the function that is called, one of these
+unfoldable pub callee_words : List DrawnFunction → DrawnCall → List ℕ
+callee_words functions call = codes "calls " ++ function_name (slice_get functions call.function) ++ address call.entry ++ codes "\\l"
+
+abbrev pub call_words : List DrawnFunction → Option DrawnCall → List ℕ
+call_words functions None = []
+call_words functions (Some call) = callee_words functions call
+
+-- a block and its edges, with its call as an arrow, and with its call as words
 unfoldable pub block_lines : DrawnBlock → List ℕ
-block_lines b = block_line b ++ flat_map (edge_line b.range.from) b.edges.items ++ call_line b.range.from (list_any is_taken b.edges.items) b.call
+block_lines b = block_line [] b ++ flat_map (edge_line b.range.from) b.edges.items ++ call_line b.range.from (list_any is_taken b.edges.items) b.call
+
+unfoldable pub calling_lines : List DrawnFunction → DrawnBlock → List ℕ
+calling_lines functions b = block_line (call_words functions b.call) b ++ flat_map (edge_line b.range.from) b.edges.items
 
 -- ---- functions alone
 
@@ -110,16 +127,33 @@ legend =
 unfoldable pub title : ℕ → List ℕ
 title worst = codes "label=\"worst case " ++ decimal worst ++ codes " cycles\\l" ++ legend
 
+-- so many blocks have arrows for calls, and so many are drawn at all
+abbrev pub most_with_arrows : ℕ
+most_with_arrows = 100
+
 abbrev pub most_blocks : ℕ
 most_blocks = 2000
 
-abbrev pub whole_picture : PlanGraph → List ℕ
-whole_picture p = flat_map function_line p.functions.items ++ flat_map loop_line p.loops.items ++ flat_map block_lines p.blocks.items
+abbrev pub clusters : PlanGraph → List ℕ
+clusters p = flat_map function_line p.functions.items ++ flat_map loop_line p.loops.items
+
+abbrev pub small_picture : PlanGraph → List ℕ
+small_picture p = clusters p ++ flat_map block_lines p.blocks.items
+
+-- Graphviz is to place the blocks in few steps: `nslimit`, https://graphviz.org/docs/attrs/nslimit/.
+abbrev pub few_steps : List ℕ
+few_steps = codes "nslimit=\"0.05\"\n"
+
+abbrev pub large_picture : PlanGraph → List ℕ
+large_picture p = few_steps ++ clusters p ++ flat_map (calling_lines p.functions.items) p.blocks.items
 
 abbrev pub overview : PlanGraph → List ℕ
 overview p = flat_map function_node p.functions.items ++ flat_map function_calls p.blocks.items
 
--- of more blocks the functions alone
+-- of many blocks calls in words, and of more the functions alone
+abbrev pub whole_picture : PlanGraph → List ℕ
+whole_picture p = cond (nat_lt most_with_arrows (length p.blocks.items)) (large_picture p) (small_picture p)
+
 abbrev pub picture : PlanGraph → List ℕ
 picture p = cond (nat_lt most_blocks (length p.blocks.items)) (overview p) (whole_picture p)
 

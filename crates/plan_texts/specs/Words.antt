@@ -1,6 +1,6 @@
 -- Words of a picture for Graphviz. Lines of a label end with `\l`, which sets them to the left.
 -- DOT language: https://graphviz.org/doc/info/lang.html. A subgraph whose name stands twice in one graph is one subgraph.
-use Rattle.std.specs.Prelude.{codes, cond, ℕ, ◌+◌, ◌&&◌, ◌||◌, ◌==◌, nat_le, nat_lt, Bool, List, [], ◌∷◌, ◌++◌, length, flat_map, string_bytes, Option, Some, None}
+use Rattle.std.specs.Prelude.{codes, cond, ℕ, ◌+◌, ◌&&◌, ◌||◌, ◌==◌, nat_le, Bool, List, [], ◌++◌, flat_map, string_bytes, Option, Some, None}
 use Rattle.std.specs.List.{list_all}
 use Rattle.std.specs.Fmt.{decimal}
 use Rattle.scale_base.specs.declared.edges.EdgeKind.{EdgeKind}

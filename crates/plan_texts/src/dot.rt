@@ -3,7 +3,7 @@
 ghost use Rattle.std.specs.Prelude.{◌≡◌, ◌++◌, flat_map, IfOk, OnOk, string_bytes};
 ghost use Rattle.plan_texts.specs.Dot as dot;
 
-use crate::blocks::push_block;
+use crate::blocks::{push_block, push_calling_block};
 use crate::clusters::{push_function, push_loop};
 use crate::edges::{push_call, push_edges};
 use crate::overview::{push_function_call, push_function_node};
@@ -12,8 +12,14 @@ use scale_base::NoMemory;
 use std::alloc::{AllocError, Global};
 use std::fmt::Write;
 
+/// A picture of more blocks has no arrows for calls.
+const MOST_WITH_ARROWS: usize = 100;
+
 /// A picture has no more blocks.
 const MOST_BLOCKS: usize = 2000;
+
+/// So few steps Graphviz is to take to place many blocks.
+const FEW_STEPS: &str = "nslimit=\"0.05\"\n";
 
 const GRAPH: &str =
     "digraph plan {\ngraph [bgcolor=\"#ffffff\" fontname=\"Helvetica\" fontsize=\"11\" fontcolor=\"#24292f\" labeljust=\"l\" labelloc=\"t\" nodesep=\"0.25\" ranksep=\"0.35\"]\n";
@@ -84,6 +90,32 @@ fn push_blocks(text: &mut String, blocks: &[DrawnBlock]) -> Result<(), AllocErro
     Ok(())
 }
 
+/// Adds a block with its call in words, and its edges.
+#[tactic(auto, unfolding(crate::specs::Dot::calling_lines))]
+fn push_calling_lines(
+    text: &mut String,
+    functions: &[DrawnFunction],
+    block: &DrawnBlock,
+) -> Result<(), AllocError>
+    ensures { OnOk result (string_bytes text.new ≡ string_bytes text.old ++ dot.calling_lines functions.now block.now) }
+{
+    push_calling_block(text, functions, block)?;
+    push_edges(text, block.range.from, &block.edges)
+}
+
+fn push_calling_blocks(
+    text: &mut String,
+    functions: &[DrawnFunction],
+    blocks: &[DrawnBlock],
+) -> Result<(), AllocError>
+    ensures { OnOk result (string_bytes text.new ≡ string_bytes text.old ++ flat_map (dot.calling_lines functions.now) blocks.now) }
+{
+    for block in blocks {
+        push_calling_lines(text, functions, block)?;
+    }
+    Ok(())
+}
+
 fn push_nodes(text: &mut String, functions: &[DrawnFunction]) -> Result<(), AllocError>
     ensures { OnOk result (string_bytes text.new ≡ string_bytes text.old ++ flat_map dot.function_node functions.now) }
 {
@@ -102,12 +134,36 @@ fn push_calls(text: &mut String, blocks: &[DrawnBlock]) -> Result<(), AllocError
     Ok(())
 }
 
+fn push_clusters(text: &mut String, plan: &PlanGraph) -> Result<(), AllocError>
+    ensures { OnOk result (string_bytes text.new ≡ string_bytes text.old ++ dot.clusters plan.now) }
+{
+    push_functions(text, &plan.functions)?;
+    push_loops(text, &plan.loops)
+}
+
+fn push_small(text: &mut String, plan: &PlanGraph) -> Result<(), AllocError>
+    ensures { OnOk result (string_bytes text.new ≡ string_bytes text.old ++ dot.small_picture plan.now) }
+{
+    push_clusters(text, plan)?;
+    push_blocks(text, &plan.blocks)
+}
+
+fn push_large(text: &mut String, plan: &PlanGraph) -> Result<(), AllocError>
+    ensures { OnOk result (string_bytes text.new ≡ string_bytes text.old ++ dot.large_picture plan.now) }
+{
+    text.push_str(FEW_STEPS)?;
+    push_clusters(text, plan)?;
+    push_calling_blocks(text, &plan.functions, &plan.blocks)
+}
+
 fn push_whole(text: &mut String, plan: &PlanGraph) -> Result<(), AllocError>
     ensures { OnOk result (string_bytes text.new ≡ string_bytes text.old ++ dot.whole_picture plan.now) }
 {
-    push_functions(text, &plan.functions)?;
-    push_loops(text, &plan.loops)?;
-    push_blocks(text, &plan.blocks)
+    if plan.blocks.len() > MOST_WITH_ARROWS {
+        push_large(text, plan)
+    } else {
+        push_small(text, plan)
+    }
 }
 
 fn push_overview(text: &mut String, plan: &PlanGraph) -> Result<(), AllocError>
@@ -128,8 +184,8 @@ fn push_picture(text: &mut String, plan: &PlanGraph) -> Result<(), AllocError>
 }
 
 /// The picture of a drawn graph in the DOT language of Graphviz: a cluster a function, in it nested clusters of its loops, in them the basic blocks with what is left of the
-/// worst case behind them, and the edges by kind, with their marks and with how often the worst walk takes them. Of a program of more than 2,000 blocks the functions
-/// alone, with an edge for each place of a call.
+/// worst case behind them, and the edges by kind, with their marks and with how often the worst walk takes them. A call is an edge; of more than 100 blocks, where such edges would keep Graphviz for minutes, it
+/// is a line of the block. Of a program of more than 2,000 blocks the functions alone, with an edge for each place of a call.
 pub fn plan_dot(alloc: Global, plan: &PlanGraph) -> Result<String, NoMemory>
     ensures { IfOk result (λ text. string_bytes text ≡ dot.plan_dot plan.now) }
 {

@@ -23,12 +23,16 @@ use crate::command::Work;
 use crate::making::made_reply;
 use crate::numbers::Size;
 use crate::program_files::{Inputs, PairFiles};
+use gain_tuner::{GivenFiles, tune_with_progress};
 use host_runs::{ProgramFiles, Reply};
+use input_survey::{SurveyFiles, survey_with_progress};
 use power_model::{RunReport, SurveyReport};
+use run_progress::Progress;
 use scale_base::{End, Lowered, NoMemory, ScalePlan, Stop, Summary, Tuned, Verdict};
 use scale_report::{
     lowered_text, plan_text, run_text, summary_text, survey_text, tuned_text, verdict_text,
 };
+use speed_sim::{RunFiles, simulate_with_progress};
 use std::alloc::Global;
 
 /// The status of a run.
@@ -187,19 +191,23 @@ fn seen(alloc: Global, given: Result<SurveyReport, Stop>) -> Result<Reply, NoMem
 }
 
 // What `survey` gives for its four files and its inputs.
-fn surveyed(alloc: Global, files: &PairFiles<'_>, inputs: &Inputs<'_>) -> Result<Reply, NoMemory>
+fn surveyed<P: Progress>(
+    alloc: Global,
+    files: &PairFiles<'_>,
+    inputs: &Inputs<'_>,
+    progress: &mut P,
+) -> Result<Reply, NoMemory>
     ensures { IfOk result (λ reply. Tells (IsSurveyed files.now.image.now files.now.other.now files.now.machine.now files.now.loops.now (files_view inputs.now.items.now)) (text_answer survey_text) (reply_view reply)) }
 {
+    let given = SurveyFiles {
+        image: files.image,
+        scaled: files.other,
+        machine: files.machine,
+        loops: files.loops,
+    };
     seen(
         alloc,
-        input_survey::survey(
-            alloc,
-            files.image,
-            files.other,
-            files.machine,
-            files.loops,
-            inputs.items,
-        ),
+        survey_with_progress(alloc, &given, inputs.items, progress),
     )
 }
 
@@ -222,19 +230,22 @@ fn chosen(
 }
 
 // What `tune` gives for its three files and its inputs.
-fn tuned(
+fn tuned<'f, P: Progress>(
     alloc: Global,
     out: &str,
-    files: &ProgramFiles<'_>,
-    inputs: &Inputs<'_>,
+    files: &ProgramFiles<'f>,
+    inputs: &Inputs<'f>,
+    progress: &mut P,
 ) -> Result<Reply, NoMemory>
     ensures { IfOk result (λ reply. Tells (IsTuning files.now.image.now files.now.machine.now files.now.loops.now (files_view inputs.now.items.now)) (stored_answer tuned_text out.now) (reply_view reply)) }
 {
-    chosen(
-        alloc,
-        out,
-        gain_tuner::tune(alloc, files.image, files.machine, files.loops, inputs.items),
-    )
+    let given = GivenFiles {
+        image: files.image,
+        machine: files.machine,
+        loops: files.loops,
+        inputs: inputs.items,
+    };
+    chosen(alloc, out, tune_with_progress(alloc, &given, progress))
 }
 
 // What a run gives, with the name under which its output is stored.
@@ -248,17 +259,15 @@ fn told(alloc: Global, out: &str, report: RunReport) -> Result<Reply, NoMemory>
 }
 
 // What `simulate` gives for its files.
-fn run(
+fn run<P: Progress>(
     alloc: Global,
     out: &str,
-    image: &[u8],
-    machine: &[u8],
-    input: &[u8],
-    loops: Option<&[u8]>,
+    files: &RunFiles<'_>,
+    progress: &mut P,
 ) -> Result<Reply, NoMemory>
-    ensures { IfOk result (λ reply. MakesRun image.now machine.now input.now (option_map (λ l. l.now) loops.entry) out.now (reply_view reply)) }
+    ensures { IfOk result (λ reply. MakesRun files.now.image.now files.now.machine.now files.now.input.now (option_map (λ l. l.now) files.now.loops) out.now (reply_view reply)) }
 {
-    match speed_sim::simulate(alloc, image, machine, input, loops) {
+    match simulate_with_progress(alloc, files, progress) {
         Ok(report) => told(alloc, out, report),
         Err(Stop::Refused(refusal)) => Reply::refused(alloc, &refusal),
         Err(Stop::Memory) => Err(NoMemory),
@@ -266,20 +275,31 @@ fn run(
 }
 
 // What `make` gives for a number and a size, with the names of its files beginning alike.
-fn of_number(alloc: Global, number: u64, size: Size, prefix: &str) -> Result<Reply, NoMemory>
+fn of_number<P: Progress>(
+    alloc: Global,
+    number: u64,
+    size: Size,
+    prefix: &str,
+    progress: &mut P,
+) -> Result<Reply, NoMemory>
     ensures { IfOk result (λ reply. MakesMade number size.blocks prefix.now (reply_view reply)) }
 {
     let made = image_maker::make(alloc, number, size.blocks)?;
-    match made_reply(alloc, prefix, made) {
+    match made_reply(alloc, prefix, made, progress) {
         Ok(reply) => Ok(reply),
         Err(Stop::Refused(refusal)) => Reply::refused(alloc, &refusal),
         Err(Stop::Memory) => Err(NoMemory),
     }
 }
 
-/// What is made of the files that were loaded.
+/// What is made of the files that were loaded. How far it is is told.
 #[tactic(auto, using(host_runs::proofs::Laws::limits_alone))]
-pub fn made(alloc: Global, work: &Work<'_>, files: &[Vec<u8>]) -> Result<Reply, NoMemory>
+pub fn made<P: Progress>(
+    alloc: Global,
+    work: &Work<'_>,
+    files: &[Vec<u8>],
+    progress: &mut P,
+) -> Result<Reply, NoMemory>
     requires { AllZip (λ want file. length file ≤ want.1) (wants_of (work_view work.now)) (files_view files.now) }
     ensures answer { IfOk result (λ reply. Makes (work_view work.now) (files_view files.now) (reply_view reply)) }
     ensures status { IfOk result (λ reply. IsTrue (may_give (Some (work_view work.now)) reply.status)) }
@@ -289,19 +309,36 @@ pub fn made(alloc: Global, work: &Work<'_>, files: &[Vec<u8>]) -> Result<Reply, 
         Work::Rewrite { out, .. } => rewritten(alloc, out, &ProgramFiles::of(files)),
         Work::Report { .. } => reported(alloc, &ProgramFiles::of(files)),
         Work::Simulate { out, loops, .. } => match loops {
-            None => run(alloc, out, &files[0], &files[1], &files[2], None),
-            Some(_) => run(alloc, out, &files[0], &files[1], &files[2], Some(&files[3])),
+            None => {
+                let given = RunFiles {
+                    image: &files[0],
+                    machine: &files[1],
+                    input: &files[2],
+                    loops: None,
+                };
+                run(alloc, out, &given, progress)
+            }
+            Some(_) => {
+                let given = RunFiles {
+                    image: &files[0],
+                    machine: &files[1],
+                    input: &files[2],
+                    loops: Some(&files[3]),
+                };
+                run(alloc, out, &given, progress)
+            }
         },
         Work::Make {
             number,
             size,
             prefix,
-        } => of_number(alloc, number, size, prefix),
+        } => of_number(alloc, number, size, prefix, progress),
         Work::Lower { out, .. } => lowered(alloc, out, &files[0], &files[1]),
         Work::Check { .. } => checked(alloc, &PairFiles::of(files)),
         Work::Survey { .. } => {
             let (first, inputs) = files.split_at(4);
-            surveyed(alloc, &PairFiles::of(first), &Inputs { items: inputs })
+            let pair = PairFiles::of(first);
+            surveyed(alloc, &pair, &Inputs { items: inputs }, progress)
         }
         Work::Tune { out, .. } => {
             let (first, inputs) = files.split_at(3);
@@ -310,6 +347,7 @@ pub fn made(alloc: Global, work: &Work<'_>, files: &[Vec<u8>]) -> Result<Reply, 
                 out,
                 &ProgramFiles::of(first),
                 &Inputs { items: inputs },
+                progress,
             )
         }
     }

@@ -14,6 +14,7 @@ use flat_memory::load_pages;
 use keep_monitor::LoopCounter;
 use loop_file::LoopNotes;
 use power_model::{Power, RunReport};
+use run_progress::{Progress, Silent};
 use rv_machine::{Machine, Places, decode_code};
 use scale_base::{NoMemory, Range};
 use std::alloc::Global;
@@ -28,8 +29,52 @@ fn keyed_range(view: &ImageView<'_>) -> Option<Range>
     }
 }
 
-/// The report of the run of an image from a level, with an input, whose completed steps after which it goes on a watcher sees, one after
-/// another. It says nothing of loops. All the memory that the run needs is taken before its first step.
+/// An image on a machine, with the level that its run starts at.
+#[derive(Clone, Copy)]
+pub struct ImageRun<'a> {
+    pub view: &'a ImageView<'a>,
+    pub power: &'a Power,
+    pub start: u8,
+}
+
+/// The report of the run of an image with an input, whose completed steps after which it goes on a watcher sees, one after another. It says nothing of
+/// loops. All the memory that the run needs is taken before its first step. How far it is is told.
+pub fn watched_with_progress<W: Watches, P: Progress>(
+    alloc: Global,
+    given: &ImageRun<'_>,
+    input: &[u8],
+    watcher: &mut W,
+    progress: &mut P,
+) -> Result<RunReport, NoMemory>
+    requires start { given.now.start ≡ starting_level (length given.now.power.now.levels) given.now.view.now.keyed_segment }
+    requires is_level { given.now.start < length given.now.power.now.levels }
+    ensures report { IfOk result (λ r. report_view r ≡ report_of given.now.power.now given.now.view.now input.now None) }
+    ensures watched { let levels = length given.now.power.now.levels in OnOk result (watcher.new ≡ seen_from (setting_of given.now.view.now levels input.now) (start_of given.now.view.now levels) W.watched watcher.old given.now.power.now.steps) }
+{
+    let view = given.view;
+    let power = given.power;
+    let memory = load_pages(alloc, view)?;
+    let keyed = keyed_range(view);
+    let places = Places {
+        text: view.text(),
+        keyed,
+    };
+    let code = decode_code(alloc, &memory, &places)?;
+    let input = Vec::from_slice(alloc, input)?;
+    let levels = power.levels.count();
+    let mut machine = Machine::start(alloc, memory, view.entry(), levels, given.start, input)?;
+    let (end, meter) = run_machine(&mut machine, &code, given, watcher, progress);
+    let world = machine.world;
+    Ok(RunReport {
+        end,
+        held: meter.held(power),
+        meter,
+        output: world.output,
+        kept: None,
+    })
+}
+
+/// The same of a run from a level, with nothing told.
 pub fn watched_report<W: Watches>(
     alloc: Global,
     view: &ImageView<'_>,
@@ -43,64 +88,45 @@ pub fn watched_report<W: Watches>(
     ensures report { IfOk result (λ r. report_view r ≡ report_of power.now view.now input.now None) }
     ensures watched { let levels = length power.now.levels in OnOk result (watcher.new ≡ seen_from (setting_of view.now levels input.now) (start_of view.now levels) W.watched watcher.old power.now.steps) }
 {
-    let memory = load_pages(alloc, view)?;
-    let keyed = keyed_range(view);
-    let places = Places {
-        text: view.text(),
-        keyed,
-    };
-    let code = decode_code(alloc, &memory, &places)?;
-    let input = Vec::from_slice(alloc, input)?;
-    let levels = power.levels.count();
-    let mut machine = Machine::start(alloc, memory, view.entry(), levels, start, input)?;
-    let (end, meter) = run_machine(&mut machine, &code, power, start, watcher);
-    let world = machine.world;
-    Ok(RunReport {
-        end,
-        held: meter.held(power),
-        meter,
-        output: world.output,
-        kept: None,
-    })
+    let given = ImageRun { view, power, start };
+    watched_with_progress(alloc, &given, input, watcher, &mut Silent)
 }
 
-/// The report of the run of an image from a level, with an input. Where there are notes of loops, it says whether they are kept.
-pub fn report(
+/// The report of the run of an image with an input. Where there are notes of loops, it says whether they are kept. How far the run is is told.
+pub fn report<P: Progress>(
     alloc: Global,
-    view: &ImageView<'_>,
-    power: &Power,
-    start: u8,
+    given: &ImageRun<'_>,
     input: &[u8],
     notes: Option<LoopNotes>,
+    progress: &mut P,
 ) -> Result<RunReport, NoMemory>
-    requires start { start ≡ starting_level (length power.now.levels) view.now.keyed_segment }
-    requires is_level { start < length power.now.levels }
-    ensures { IfOk result (λ r. report_view r ≡ report_of power.now view.now input.now notes) }
+    requires start { given.now.start ≡ starting_level (length given.now.power.now.levels) given.now.view.now.keyed_segment }
+    requires is_level { given.now.start < length given.now.power.now.levels }
+    ensures { IfOk result (λ r. report_view r ≡ report_of given.now.power.now given.now.view.now input.now notes) }
 {
     let mut watcher = watcher_of(alloc, notes)?;
-    let mut report = watched_report(alloc, view, power, start, input, &mut watcher)?;
+    let mut report = watched_with_progress(alloc, given, input, &mut watcher, progress)?;
     report.kept = kept_of(&watcher);
     Ok(report)
 }
 
-/// The report of the run of an image from a level, with an input, whose loops a counter counts. It says whether the counter's notes are
-/// kept.
-pub fn counted_report(
+/// The report of the run of an image with an input, whose loops a counter counts. It says whether the counter's notes are kept. How far the run is is
+/// told.
+pub fn counted_report<P: Progress>(
     alloc: Global,
-    view: &ImageView<'_>,
-    power: &Power,
-    start: u8,
+    given: &ImageRun<'_>,
     input: &[u8],
     counter: &mut LoopCounter,
+    progress: &mut P,
 ) -> Result<RunReport, NoMemory>
-    requires start { start ≡ starting_level (length power.now.levels) view.now.keyed_segment }
-    requires is_level { start < length power.now.levels }
-    ensures report { IfOk result (λ r. report_view r ≡ report_of power.now view.now input.now (Some counter.old.notes)) }
+    requires start { given.now.start ≡ starting_level (length given.now.power.now.levels) given.now.view.now.keyed_segment }
+    requires is_level { given.now.start < length given.now.power.now.levels }
+    ensures report { IfOk result (λ r. report_view r ≡ report_of given.now.power.now given.now.view.now input.now (Some counter.old.notes)) }
     ensures kept { IfOk result (λ r. r.kept ≡ Some counter.new.kept) }
-    ensures counted { OnOk result (counter.new ≡ counted_run view.now (length power.now.levels) input.now counter.old.notes counter.old.most power.now.steps) }
+    ensures counted { OnOk result (counter.new ≡ counted_run given.now.view.now (length given.now.power.now.levels) input.now counter.old.notes counter.old.most given.now.power.now.steps) }
 {
     counter.begin();
-    let mut report = watched_report(alloc, view, power, start, input, counter)?;
+    let mut report = watched_with_progress(alloc, given, input, counter, progress)?;
     report.kept = Some(counter.kept());
     Ok(report)
 }

@@ -12,12 +12,17 @@ ghost use Rattle.speed_sim.specs.Seen.{seen_after, seen_from};
 ghost use Rattle.speed_sim.specs.Tallied.{tallied, AreCosts, IsPaid, IsAdvance, ended_by};
 
 use crate::costs::CostTable;
+use crate::reporting::ImageRun;
 use crate::tally::Tally;
 use crate::watcher::Watches;
 use flat_memory::Memory;
 use power_model::{Meter, Power};
+use run_progress::Progress;
 use rv_machine::{Code, Decoded, Machine, step, step_decoded};
 use scale_base::{End, StepEnd};
+
+/// So many steps are completed from one telling of them to the next: a power of two.
+const TOLD_STEPS: u64 = 1_048_576;
 
 /// One step of the machine, whose instruction is known, and its price.
 #[inline(always)]
@@ -102,26 +107,36 @@ fn advance<M: Memory, W: Watches>(
     }
 }
 
-/// Runs the machine, with its code, from a level for at most as many steps as its power model says. A meter has the price of each completed
-/// step, and the watcher sees each step after which the run goes on.
-pub fn run_machine<M: Memory, W: Watches>(
+/// Tells now and then how many steps are completed.
+#[inline(always)]
+fn tell<P: Progress>(progress: &mut P, steps: u64) {
+    if steps % TOLD_STEPS == 0 {
+        progress.ran(steps);
+    }
+}
+
+/// Runs the machine of an image, with its code, for at most as many steps as its power model says. A meter has the price of each completed step,
+/// and the watcher sees each step after which the run goes on.
+pub fn run_machine<M: Memory, W: Watches, P: Progress>(
     machine: &mut Machine<M>,
     code: &Code,
-    power: &Power,
-    start: u8,
+    given: &ImageRun<'_>,
     watcher: &mut W,
+    progress: &mut P,
 ) -> (End, Meter)
     requires code { IsDecodedCode (M.layout machine.old.memory) (M.bytes machine.old.memory) code.now }
-    requires levels { machine.old.levels ≡ length power.now.levels }
-    requires start { start < length power.now.levels }
-    ensures end { let r = run (machine_setting M.layout machine.old) (state_of M.bytes machine.old) power.now.steps in result.0 ≡ run_end r.standing }
-    ensures paid { let r = run (machine_setting M.layout machine.old) (state_of M.bytes machine.old) power.now.steps in result.1 ≡ price power.now start r.steps }
-    ensures state { let r = run (machine_setting M.layout machine.old) (state_of M.bytes machine.old) power.now.steps in state_of M.bytes machine.new ≡ r.state }
-    ensures watched { let env = machine_setting M.layout machine.old in let first = state_of M.bytes machine.old in watcher.new ≡ seen_from env first W.watched watcher.old power.now.steps }
+    requires levels { machine.old.levels ≡ length given.now.power.now.levels }
+    requires start { given.now.start < length given.now.power.now.levels }
+    ensures end { let r = run (machine_setting M.layout machine.old) (state_of M.bytes machine.old) given.now.power.now.steps in result.0 ≡ run_end r.standing }
+    ensures paid { let r = run (machine_setting M.layout machine.old) (state_of M.bytes machine.old) given.now.power.now.steps in result.1 ≡ price given.now.power.now given.now.start r.steps }
+    ensures state { let r = run (machine_setting M.layout machine.old) (state_of M.bytes machine.old) given.now.power.now.steps in state_of M.bytes machine.new ≡ r.state }
+    ensures watched { let env = machine_setting M.layout machine.old in let first = state_of M.bytes machine.old in watcher.new ≡ seen_from env first W.watched watcher.old given.now.power.now.steps }
 {
+    let power = given.power;
     let costs = CostTable::new(&power.costs);
-    let mut tally = Tally::new(start);
-    for _step in 0..power.steps {
+    let mut tally = Tally::new(given.start);
+    for step in 0..power.steps {
+        tell(progress, step);
         if let Some(end) = advance(machine, code, power, &costs, &mut tally, watcher) {
             return (end, tally.meter(power));
         }

@@ -8,18 +8,18 @@ use Rattle.gain_tuner.proofs.Trials.{candidates_one}
 use Rattle.gain_tuner.proofs.choosing.cheapest.Goals as goal
 
 pub loop-candidate-init : goal.loop-candidate-init
-loop-candidate-init c =
+loop-candidate-init g c =
     let files = c.args.files.now in
     first_choice (IsCandidate files.image.now files.machine.now files.loops.now) (candidates_one files.image.now files.machine.now files.loops.now) files.image.now files.machine.now files.loops.now (items_of files.inputs.now) c.args.held c.requires.held
 
 pub loop-candidate-preserved : goal.loop-candidate-preserved
-loop-candidate-preserved c =
+loop-candidate-preserved g c =
     let files = c.args.files.now in
     subst (λ (t : Trial). IsSafeChoice files.image.now files.machine.now files.loops.now (items_of files.inputs.now) (c.loop-candidate.candidate + 1) t) (sym c.cheaper-best.ensures)
     (next_choice (IsCandidate files.image.now files.machine.now files.loops.now) (candidates_one files.image.now files.machine.now files.loops.now) files.image.now files.machine.now files.loops.now (items_of files.inputs.now)
     c.loop-candidate.candidate c.loop-candidate.best c.in_ok-trial_of.field-0 c.loop-candidate.invariant c.in_ok-trial_of.ensures)
 
 pub returns : goal.returns
-returns c =
+returns g c =
     let last : c.loop-candidate.candidate ≡ 33 = omega arith in
     subst (λ n. IsSafeChoice c.args.files.now.image.now c.args.files.now.machine.now c.args.files.now.loops.now (items_of c.args.files.now.inputs.now) n c.loop-candidate.best) last c.loop-candidate.invariant

@@ -4,4 +4,4 @@ use Rattle.gain_tuner.proofs.choosing.cheapest.Given as goal
 
 -- the choice so far
 abbrev pub invariant-loop-candidate : goal.invariant-loop-candidate
-invariant-loop-candidate l = IsSafeChoice l.files.image.now l.files.machine.now l.files.loops.now (map (λ input. input.items) l.files.inputs.now) l.candidate l.best
+invariant-loop-candidate g l = IsSafeChoice l.files.image.now l.files.machine.now l.files.loops.now (map (λ input. input.items) l.files.inputs.now) l.candidate l.best

@@ -7,14 +7,14 @@ use Rattle.scaler.proofs.Laws.{held_promise}
 use Rattle.gain_tuner.proofs.choosing.held_trial.Goals as goal
 
 pub spent_over-requires-clause-runs : goal.spent_over-requires-clause-runs
-spent_over-requires-clause-runs c =
+spent_over-requires-clause-runs g c =
     let files = c.args.files.now in
     subst (λ (s : List ℕ). RunsAlways s files.machine.now None) (sym c.deref.ensures.value)
     (stored_runs files.image.now files.machine.now files.loops.now c.args.held.0.items c.args.held.1
     (held_promise files.image.now files.machine.now files.loops.now c.args.held.0.items c.args.held.1 c.requires.image c.requires.held))
 
 pub unwrap-energy-requires : goal.unwrap-energy-requires
-unwrap-energy-requires c =
+unwrap-energy-requires g c =
     let files = c.args.files.now in
     let safe = held_promise files.image.now files.machine.now files.loops.now c.args.held.0.items c.args.held.1 c.requires.image c.requires.held in
     let inputs = counting files.image.now files.machine.now files.loops.now (items_of files.inputs.now) in
@@ -24,7 +24,7 @@ unwrap-energy-requires c =
     (held_ends files.image.now files.machine.now files.loops.now c.args.held.0.items c.args.held.1 c.requires.held safe c.requires.image c.requires.machine c.requires.loops))
 
 pub returns : goal.returns
-returns c =
+returns g c =
     let files = c.args.files.now in
     let inputs = counting files.image.now files.machine.now files.loops.now (items_of files.inputs.now) in
     record {

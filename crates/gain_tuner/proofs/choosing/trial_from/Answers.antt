@@ -9,7 +9,7 @@ use Rattle.gain_tuner.proofs.Runs.{stored_runs}
 use Rattle.gain_tuner.proofs.choosing.trial_from.Goals as goal
 
 pub spent_over-requires-clause-runs : goal.spent_over-requires-clause-runs
-spent_over-requires-clause-runs c =
+spent_over-requires-clause-runs g c =
     let files = c.args.files.now in
     let safe = subst (λ (made : Result (Vec ℕ Global × Summary) Stop). IfOk made (λ given. IsStoredSafely files.image.now files.machine.now files.loops.now given.0.items given.1)) c.in-Ok.is c.requires.safe in
     subst (λ (s : List ℕ). RunsAlways s files.machine.now None) (sym c.deref.ensures.value)

@@ -4,4 +4,4 @@ use Rattle.gain_tuner.proofs.spending.counting_of.Given as goal
 
 -- the flags so far
 abbrev pub invariant-loop-input : goal.invariant-loop-input
-invariant-loop-input l = l.flags.items ≡ map (λ input. counts l.image l.machine l.loops input.items) (take l.input-index l.inputs)
+invariant-loop-input g l = l.flags.items ≡ map (λ input. counts l.given.image.now l.given.machine.now l.given.loops.now input.items) (take l.input-index l.given.inputs.now)

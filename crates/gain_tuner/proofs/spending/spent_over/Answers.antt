@@ -5,11 +5,11 @@ use Rattle.gain_tuner.proofs.spending.spent_over.Goals as goal
 use Rattle.gain_tuner.proofs.spending.spent_over.Goals.{then-files-k+in_ok-more+in-Some, else-files-k}
 
 pub returns-in-None : goal.returns-in-None
-returns-in-None c = step_none c.args.files.now.image.now c.args.files.now.machine.now c.args.files.now.loops.now c.args.stored.now c.args.files.now.inputs.now c.args.files.now.flags.now c.requires.flags c.loop-k.k c.input-item.result c.loop-k-test.true c.input-item.is
+returns-in-None g c = step_none c.args.files.now.image.now c.args.files.now.machine.now c.args.files.now.loops.now c.args.stored.now c.args.files.now.inputs.now c.args.files.now.flags.now c.requires.flags c.loop-k.k c.input-item.result c.loop-k-test.true c.input-item.is
     _ c.if-files-k.true c.deref.result.now c.in_ok-more.field-0 c.deref.ensures.value c.in_ok-more.ensures.spent c.in-None.is
 
 pub loop-k-preserved : goal.loop-k-preserved
-loop-k-preserved c =
+loop-k-preserved g c =
     elim c.if-files-k.branch [
       | then-files-k+in_ok-more+in-Some w ↦ record {
         spent = subst (λ e. IsSpent c.args.stored.now c.args.files.now.machine.now (counting c.args.files.now.image.now c.args.files.now.machine.now c.args.files.now.loops.now (take (c.loop-k.k + 1) (items_of c.args.files.now.inputs.now))) e) (sym w.energy-is)

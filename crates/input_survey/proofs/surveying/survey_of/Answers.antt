@@ -10,7 +10,7 @@ use Rattle.input_survey.proofs.SurveyLaws.{IsCountedOn, counted_on, map_one, all
 use Rattle.input_survey.proofs.surveying.survey_of.Goals as goal
 
 pub loop-input-preserved : goal.loop-input-preserved
-loop-input-preserved c =
+loop-input-preserved g c =
     let power = c.args.images.now.power.now in
     let original = c.args.images.now.original.now in
     let scaled = c.args.images.now.scaled.now in
@@ -39,7 +39,7 @@ loop-input-preserved c =
     }
 
 pub returns : goal.returns
-returns c =
+returns g c =
     let power = c.args.images.now.power.now in
     let original = c.args.images.now.original.now in
     let scaled = c.args.images.now.scaled.now in

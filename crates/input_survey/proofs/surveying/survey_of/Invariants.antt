@@ -7,7 +7,7 @@ use Rattle.input_survey.specs.Surveyed.{AreLines}
 use Rattle.input_survey.proofs.surveying.survey_of.Given as goal
 
 abbrev pub invariant-loop-input : goal.invariant-loop-input
-invariant-loop-input l = record {
+invariant-loop-input g l = record {
   notes : l.counter.notes ≡ l.fn.notes;
   fit : AreLoopNotes l.fn.notes;
   size : length l.counter.most ≡ length l.fn.notes;

@@ -7,12 +7,12 @@ use Rattle.pace_fit.proofs.Numbers.{counted, if_ok, if_ok_both}
 use Rattle.pace_fit.proofs.choosing.chosen.Goals as goal
 
 pub first_built-requires-clause-none : goal.first_built-requires-clause-none
-first_built-requires-clause-none c =
+first_built-requires-clause-none g c =
     let count : length (counted_inputs c.args.files.now) ≡ 0 = sym (counted c.args.files.now c.requires.files).count ∙ (sym c.count_of.ensures ∙ c.if-count_of-eq0.true) in
     none_of (counted_inputs c.args.files.now) count
 
 pub returns-then-count_of-eq0-clause-chosen : goal.returns-then-count_of-eq0-clause-chosen
-returns-then-count_of-eq0-clause-chosen c =
+returns-then-count_of-eq0-clause-chosen g c =
     let files = c.args.files.now in
     let count : length (counted_inputs files) ≡ 0 = sym (counted files c.requires.files).count ∙ (sym c.count_of.ensures ∙ c.if-count_of-eq0.true) in
     if_ok_both c.first_built.result
@@ -21,7 +21,7 @@ returns-then-count_of-eq0-clause-chosen c =
     c.first_built.ensures.first c.first_built.ensures.energy
 
 pub returns-else-count_of-eq0-clause-chosen : goal.returns-else-count_of-eq0-clause-chosen
-returns-else-count_of-eq0-clause-chosen c =
+returns-else-count_of-eq0-clause-chosen g c =
     let files = c.args.files.now in
     let count = (counted files c.requires.files).count in
     let some : 1 ≤ length (counted_inputs files) = omega (arith, count, c.count_of.ensures, c.if-count_of-eq0.false) in

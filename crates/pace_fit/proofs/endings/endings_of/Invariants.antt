@@ -5,7 +5,7 @@ use Rattle.pace_fit.proofs.endings.endings_of.Given as goal
 
 -- the endings so far
 abbrev pub invariant-loop-input : goal.invariant-loop-input
-invariant-loop-input l = record {
-  are : l.endings.items ≡ map (λ input. ending_on l.image l.machine l.loops input.items) (take l.input-index l.inputs);
+invariant-loop-input g l = record {
+  are : l.endings.items ≡ map (λ input. ending_on l.given.image.now l.given.machine.now l.given.loops.now input.items) (take l.input-index l.given.inputs.now);
   small : All (λ ending. ending.cycles ≤ 2 ^ 56) l.endings.items;
 }

@@ -1,5 +1,4 @@
-use Rattle.std.proofs.Common.{◌≡◌, ◌≤◌, length, take, nat_eq}
-use Rattle.std.specs.Prelude.{not}
+use Rattle.std.proofs.Common.{◌≡◌, ◌≤◌, take}
 use Rattle.std.specs.List.{count_by}
 use Rattle.plan_graphs.specs.declared.plan.DrawnEdge.{DrawnEdge}
 use Rattle.plan_texts.specs.Counts as counts

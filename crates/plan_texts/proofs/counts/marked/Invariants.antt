@@ -2,7 +2,6 @@ use Rattle.std.proofs.Common.{◌≡◌, ◌≤◌, length, take, nat_eq}
 use Rattle.std.specs.Prelude.{not}
 use Rattle.std.specs.List.{count_by}
 use Rattle.plan_graphs.specs.declared.plan.DrawnEdge.{DrawnEdge}
-use Rattle.plan_texts.specs.Counts as counts
 use Rattle.plan_texts.proofs.counts.marked.Given as goal
 
 abbrev pub invariant-loop-edge : goal.invariant-loop-edge

@@ -72,21 +72,21 @@ module _ (parsed : Work) (image machine input out : Bor (List ℕ)) (loops given
   made_here files result made = subst (λ (p : Work). Made (work_view p) files result) (sym same) made
 
 pub returns-in-None-clause-answer : goal.returns-in-None-clause-answer
-returns-in-None-clause-answer c =
+returns-in-None-clause-answer g c =
     let are = are_files _ _ _ _ _ _ None c.in-Simulate.is c.in-None.is c.args.files.now c.requires in
     made_here _ _ _ _ _ _ None c.in-Simulate.is c.in-None.is c.args.files.now c.run.result
     (made_of_three c.in-Simulate.image.now c.in-Simulate.machine.now c.in-Simulate.input.now c.in-Simulate.out.now c.args.files.now _ _ _ _ _ _ c.run.result are c.index-files-0.is c.index-files-1.is c.index-files-2.is
     c.deref.ensures.value c.deref-in-None.ensures.value c.deref-in-None-2.ensures.value c.run.ensures)
 
 pub returns-in-Some-clause-answer : goal.returns-in-Some-clause-answer
-returns-in-Some-clause-answer c =
+returns-in-Some-clause-answer g c =
     let are = are_files _ _ _ _ _ _ (Some c.in-Some.field-0) c.in-Simulate.is c.in-Some.is c.args.files.now c.requires in
     made_here _ _ _ _ _ _ (Some c.in-Some.field-0) c.in-Simulate.is c.in-Some.is c.args.files.now c.run-in-Some.result
     (made_of_four c.in-Simulate.image.now c.in-Simulate.machine.now c.in-Simulate.input.now c.in-Simulate.out.now c.in-Some.field-0.now c.args.files.now _ _ _ _ _ _ _ _ c.run-in-Some.result are c.index-files-0-in-Some.is c.index-files-1-in-Some.is c.index-files-2-in-Some.is c.index-files-3.is
     c.deref-in-Some.ensures.value c.deref-in-Some-2.ensures.value c.deref-in-Some-3.ensures.value c.deref-in-Some-4.ensures.value c.run-in-Some.ensures)
 
 pub invariant_of-surveyed : goal.invariant_of-surveyed
-invariant_of-surveyed c =
+invariant_of-surveyed g c =
     let files : List (Vec ℕ Global) = c.args.files.now in
     let inputs = c.in-Survey.inputs in
     let are = subst (λ (p : Work). AreFiles (work_view p) files) c.in-Survey.is c.requires in
@@ -101,7 +101,7 @@ invariant_of-surveyed c =
     }
 
 pub invariant_of-tuned : goal.invariant_of-tuned
-invariant_of-tuned c =
+invariant_of-tuned g c =
     let files : List (Vec ℕ Global) = c.args.files.now in
     let inputs = c.in-Tune.inputs in
     let are = subst (λ (p : Work). AreFiles (work_view p) files) c.in-Tune.is c.requires in

@@ -7,5 +7,5 @@ use Rattle.host_runs.proofs.Laws.{made_of_given}
 use Rattle.scale_tool.proofs.reply.surveyed.Goals as goal
 
 pub returns : goal.returns
-returns c =
-    made_of_given survey_view (IsSurveyed c.args.files.now.image.now c.args.files.now.other.now c.args.files.now.machine.now c.args.files.now.loops.now (files_view c.args.inputs.now.items.now)) (text_answer survey_text) c.survey.result c.seen.result c.survey.ensures.survey c.seen.ensures
+returns g c =
+    made_of_given survey_view (IsSurveyed c.args.files.now.image.now c.args.files.now.other.now c.args.files.now.machine.now c.args.files.now.loops.now (files_view c.args.inputs.now.items.now)) (text_answer survey_text) c.survey_with_progress.result c.seen.result c.survey_with_progress.ensures.survey c.seen.ensures

@@ -6,5 +6,5 @@ use Rattle.host_runs.proofs.Laws.{made_of_given}
 use Rattle.scale_tool.proofs.reply.tuned.Goals as goal
 
 pub returns : goal.returns
-returns c =
-    made_of_given file_view (IsTuning c.args.files.now.image.now c.args.files.now.machine.now c.args.files.now.loops.now (files_view c.args.inputs.now.items.now)) (stored_answer tuned_text c.args.out.now) c.tune.result c.chosen.result c.tune.ensures.tuned c.chosen.ensures
+returns g c =
+    made_of_given file_view (IsTuning c.args.files.now.image.now c.args.files.now.machine.now c.args.files.now.loops.now (files_view c.args.inputs.now.items.now)) (stored_answer tuned_text c.args.out.now) c.tune_with_progress.result c.chosen.result c.tune_with_progress.ensures.tuned c.chosen.ensures

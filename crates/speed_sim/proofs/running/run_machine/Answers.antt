@@ -11,7 +11,7 @@ use Rattle.speed_sim.proofs.running.run_machine.Goals as goal
 
 pub loop-step-init : goal.loop-step-init
 loop-step-init g c = record {
-  progress = progress_first _ _ _ c.requires.start (c.new-tally.ensures c.args.power.now) refl;
+  progress = progress_first _ _ _ c.requires.start (c.new-tally.ensures c.args.given.now.power.now) refl;
   code = c.requires.code;
   costs = subst (λ (costs : Costs). AreCosts costs c.new-costs.result.by_class) (ap (λ (p : PowerModel). p.costs) c.power.view_is) c.new-costs.ensures;
 }
@@ -20,7 +20,7 @@ pub loop-step-preserved : goal.loop-step-preserved
 loop-step-preserved g c =
     let env = machine_setting g.M.Memory.layout c.loop-step.machine in
     let now = state_of g.M.Memory.bytes c.loop-step.machine in
-    let levels : c.loop-step.machine.levels ≡ length c.args.power.now.levels = ap (λ (v : Setting). v.levels) c.loop-step.invariant.progress.env_is ∙ c.requires.levels in
+    let levels : c.loop-step.machine.levels ≡ length c.args.given.now.power.now.levels = ap (λ (v : Setting). v.levels) c.loop-step.invariant.progress.env_is ∙ c.requires.levels in
     let advance = rw c.in_default.is at c.advance.ensures.advance in
     record {
       progress = progress_on _ _ env now _ _ _ _ _ _ c.loop-step.invariant.progress advance c.advance.ensures.setting (subst (λ n. PortBelow (step env now).end n) levels c.advance.ensures.port);
@@ -30,6 +30,6 @@ loop-step-preserved g c =
 
 pub returns-in-Some : goal.returns-in-Some
 returns-in-Some g c =
-    let limit : c.power.inside.steps ≡ c.args.power.now.steps = ap (λ (p : PowerModel). p.steps) c.power.view_is in
-    let over = progress_over _ _ c.args.power.now.steps _ _ _ _ _ _ _ c.in-Some.end c.loop-step.invariant.progress (omega arith) (rw c.in-Some.is at c.advance.ensures.advance) in
+    let limit : c.power.inside.steps ≡ c.args.given.now.power.now.steps = ap (λ (p : PowerModel). p.steps) c.power.view_is in
+    let over = progress_over _ _ c.args.given.now.power.now.steps _ _ _ _ _ _ _ c.in-Some.end c.loop-step.invariant.progress (omega arith) (rw c.in-Some.is at c.advance.ensures.advance) in
     record { end = over.end_is; paid = c.meter.ensures ∙ over.paid_is; state = over.state_is; watched = over.seen_is }

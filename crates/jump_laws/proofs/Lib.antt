@@ -1,0 +1,5 @@
+pub mod Words
+pub mod Steps
+pub mod Runs
+pub mod Fixed
+pub mod Laws
